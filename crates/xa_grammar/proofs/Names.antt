@@ -3,7 +3,7 @@ use Rattle.std.specs.Prelude.{◌≡◌, ◌==◌, ℕ, pos, ◌+◌, ◌≤◌,
 use Rattle.std.specs.List.{list_any}
 use Rattle.std.proofs.Common.{◌||◌, refl, sym, ap, ◌∙◌, subst, arith, append_assoc, append-nil}
 use Rattle.std.proofs.Math.ListN.{get_or-append}
-use Rattle.std.proofs.Math.Seq.{drop-append_seam, take-append_seam, take-length, get_or-append_seam}
+use Rattle.std.proofs.Math.Seq.{drop-append_seam, take-length, get_or-append_seam}
 use Rattle.std.proofs.lemmas.List.{length-append, length-drop, drop-append-le, take-append-le}
 use Rattle.std.proofs.lemmas.List.Elements.{All-nil, All-cons, All-head, All-tail}
 use Rattle.xa_words.specs.Xid.{XidName}
@@ -19,23 +19,14 @@ use Rattle.xa_grammar.specs.declared.steps.KeyPlace.{KeyPlace}
 use Rattle.xa_grammar.specs.Steps.{ScriptCalling, ScriptAction, ScriptStep, CallHas, ActionHas, call_with, action_with, step_with}
 use Rattle.xa_grammar.specs.Content.{is_reopen}
 use Rattle.xa_grammar.specs.OwnTasks.{is_own}
-use Rattle.xa_grammar.specs.KeptSteps.{KeptStep, bytes_at, name_at, gtrid_at, key_at, IsName, IsGtrid, IsKey, IsNamed, step_at, steps_of, bytes_called}
-use Rattle.xa_grammar.specs.KeptSteps.{bytes_given, bytes_in}
-use Rattle.xa_grammar.specs.KeptSteps.{keys_called, keys_given, keys_in, IsShortName, IsShortGtrid, IsShort, place_from, gtrid_place_from, key_place_from}
+use Rattle.xa_grammar.specs.Spelling.{SpellsName, Spells, IsShortName, IsShortGtrid, IsShort}
+use Rattle.xa_grammar.specs.KeptSteps.{KeptStep, bytes_at, name_at, gtrid_at, key_at, IsName, IsGtrid, IsKey, IsNamed, step_at, steps_of}
+use Rattle.xa_grammar.specs.KeptSteps.{keys_called, keys_given, keys_in, place_from, gtrid_place_from, key_place_from}
 
--- ---- the parts that were appended last
+-- ---- the bytes that were appended last
 
-front_at : (xs g b : List ℕ) → bytes_at ((xs ++ g) ++ b) (length xs) (length g) ≡ g
-front_at xs g b =
-    ap (λ l. take (length g) (drop (length xs) l)) (append_assoc xs g b)
-    ∙ ap (take (length g)) (drop-append_seam xs (g ++ b))
-    ∙ take-append_seam g b
-
-back_at : (xs g b : List ℕ) → bytes_at ((xs ++ g) ++ b) (length xs + length g) (length b) ≡ b
-back_at xs g b =
-    ap (λ n. take (length b) (drop n ((xs ++ g) ++ b))) (sym (length-append xs g))
-    ∙ ap (take (length b)) (drop-append_seam (xs ++ g) b)
-    ∙ take-length b
+last_at : (xs w : List ℕ) → bytes_at (xs ++ w) (length xs) (length w) ≡ w
+last_at xs w = ap (take (length w)) (drop-append_seam xs w) ∙ take-length w
 
 -- ---- what stood there before
 
@@ -46,11 +37,9 @@ bytes_grown xs more at n within =
     ∙ take-append-le n (drop at xs) more (omega (arith, long, within))
 
 name_grown : (xs more : List ℕ) (p : Place) → IsName xs p → name_at (xs ++ more) p ≡ name_at xs p
-name_grown xs more p is = λ i. record {
-  format = pos 1;
-  gtrid = bytes_grown xs more p.at p.gtrid (let within = is.within in omega (arith, within)) i;
-  bqual = bytes_grown xs more (p.at + p.gtrid) p.bqual is.within i;
-}
+name_grown xs more p is =
+    let same = bytes_grown xs more p.at (p.gtrid + 1 + p.bqual) is.within in
+    λ i. record { format = pos 1; gtrid = take p.gtrid (same i); bqual = drop (p.gtrid + 1) (same i) }
 
 is_name_grown : (xs more : List ℕ) (p : Place) → IsName xs p → IsName (xs ++ more) p
 is_name_grown xs more p is =
@@ -101,56 +90,60 @@ step_grown xs more ks others p is = (refl, tt)
 -- ---- a step whose name is appended
 
 -- its name stands there
-name_put : (xs : List ℕ) (x : XidName) → IsShortName x
-    → (name_at ((xs ++ x.gtrid) ++ x.bqual) (place_from (length xs) x) ≡ x) × IsName ((xs ++ x.gtrid) ++ x.bqual) (place_from (length xs) x)
-name_put xs x (format, gtrid, bqual) =
-    let size = length-append (xs ++ x.gtrid) x.bqual in
-    let front = length-append xs x.gtrid in
-    (λ i. record { format = sym format i; gtrid = front_at xs x.gtrid x.bqual i; bqual = back_at xs x.gtrid x.bqual i }, record { within = omega (arith, size, front); gtrid = gtrid; bqual = bqual })
+name_put : (xs w : List ℕ) (x : XidName) → IsShortName x → SpellsName w x
+    → (name_at (xs ++ w) (place_from (length xs) x) ≡ x) × IsName (xs ++ w) (place_from (length xs) x)
+name_put xs w x (format, gtrid, bqual) (front, back) =
+    let behind : length (drop (length x.gtrid + 1) w) ≡ length x.bqual = ap length back in
+    let cut = length-drop (length x.gtrid + 1) w in
+    let long : length x.gtrid + 1 + length x.bqual ≡ length w = omega (arith, behind, cut, bqual) in
+    let size = length-append xs w in
+    let whole : bytes_at (xs ++ w) (length xs) (length x.gtrid + 1 + length x.bqual) ≡ w = ap (bytes_at (xs ++ w) (length xs)) long ∙ last_at xs w in
+    let before : take (length x.gtrid) (bytes_at (xs ++ w) (length xs) (length x.gtrid + 1 + length x.bqual)) ≡ x.gtrid = ap (take (length x.gtrid)) whole ∙ front in
+    let after : drop (length x.gtrid + 1) (bytes_at (xs ++ w) (length xs) (length x.gtrid + 1 + length x.bqual)) ≡ x.bqual =
+    ap (drop (length x.gtrid + 1)) whole ∙ back in
+    (λ i. record { format = sym format i; gtrid = before i; bqual = after i }, record { within = omega (arith, size, long); gtrid = gtrid; bqual = bqual })
 
-gtrid_put : (xs : List ℕ) (t : TranName) → IsShortGtrid t
-    → (gtrid_at ((xs ++ t.gtrid) ++ []) (gtrid_place_from (length xs) t) ≡ t) × IsGtrid ((xs ++ t.gtrid) ++ []) (gtrid_place_from (length xs) t)
-gtrid_put xs t (format, long) =
-    let size = length-append (xs ++ t.gtrid) [] in
-    let front = length-append xs t.gtrid in
-    (λ i. record { format = sym format i; gtrid = front_at xs t.gtrid [] i }, record { within = omega (arith, size, front); long = long })
-
--- the bytes with two parts more
-abbrev pub with_bytes : List ℕ → List ℕ × List ℕ → List ℕ
-with_bytes xs parts = (xs ++ parts.0) ++ parts.1
+gtrid_put : (xs w : List ℕ) (t : TranName) → IsShortGtrid t → w ≡ t.gtrid
+    → (gtrid_at (xs ++ w) (gtrid_place_from (length xs) t) ≡ t) × IsGtrid (xs ++ w) (gtrid_place_from (length xs) t)
+gtrid_put xs w t (format, short) is =
+    let long : length t.gtrid ≡ length w = ap length (sym is) in
+    let size = length-append xs w in
+    let whole : bytes_at (xs ++ w) (length xs) (length t.gtrid) ≡ t.gtrid = ap (bytes_at (xs ++ w) (length xs)) long ∙ last_at xs w ∙ is in
+    (λ i. record { format = sym format i; gtrid = whole i }, record { within = omega (arith, size, long); long = short })
 
 -- and so does its key
 key_put : (ks : List (List ℕ)) (k : List ℕ) → (key_at (ks ++ k ∷ []) (key_place_from (length ks) k) ≡ k) × IsKey (ks ++ k ∷ []) (key_place_from (length ks) k)
 key_put ks k = (get_or-append_seam ks k [] [], let longer = length-append ks (k ∷ []) in omega (arith, longer))
 
-call_put : (xs : List ℕ) (ks : List (List ℕ)) (c : ScriptCalling) → CallHas IsShortName (λ k. Unit {0}) c
-    → let all = with_bytes xs (bytes_called c) in let keys = ks ++ keys_called c in let kept = call_with (place_from (length xs)) (key_place_from (length ks)) c in
+call_put : (xs w : List ℕ) (ks : List (List ℕ)) (c : ScriptCalling) → CallHas IsShortName (λ k. Unit {0}) c → CallHas (SpellsName w) (λ k. Unit {0}) c
+    → let all = xs ++ w in let keys = ks ++ keys_called c in let kept = call_with (place_from (length xs)) (key_place_from (length ks)) c in
     (call_with (name_at all) (key_at keys) kept ≡ c) × CallHas (IsName all) (IsKey keys) kept
-call_put xs ks (calling.Xa c (Some x)) short = let put = name_put xs x short in (ap (λ (y : XidName). calling.Xa c (Some y)) put.0, put.1)
-call_put xs ks (calling.Heur x commits) short = let put = name_put xs x short in (ap (λ (y : XidName). calling.Heur y commits) put.0, put.1)
-call_put xs ks (calling.Add k d) short = let put = key_put ks k in (ap (λ (q : List ℕ). calling.Add q d) put.0, put.1)
-call_put xs ks c short = (refl, tt)
+call_put xs w ks (calling.Xa c (Some x)) short spells = let put = name_put xs w x short spells in (ap (λ (y : XidName). calling.Xa c (Some y)) put.0, put.1)
+call_put xs w ks (calling.Heur x commits) short spells = let put = name_put xs w x short spells in (ap (λ (y : XidName). calling.Heur y commits) put.0, put.1)
+call_put xs w ks (calling.Add k d) short spells = let put = key_put ks k in (ap (λ (q : List ℕ). calling.Add q d) put.0, put.1)
+call_put xs w ks c short spells = (refl, tt)
 
 -- so do the step's
-pub step_put : (xs : List ℕ) (ks : List (List ℕ)) (p : ScriptStep) → IsShort p
-    → let all = with_bytes xs (bytes_in p) in let keys = ks ++ keys_in p in
+pub step_put : (xs w : List ℕ) (ks : List (List ℕ)) (p : ScriptStep) → IsShort p → Spells w p
+    → let all = xs ++ w in let keys = ks ++ keys_in p in
     let kept = step_with (place_from (length xs)) (gtrid_place_from (length xs)) (key_place_from (length ks)) p in
     (step_at all keys kept ≡ p) × IsNamed all keys kept
-step_put xs ks (step.Task p) short =
-    let put = given_put p.action short in (ap (λ (a : ScriptAction). step.Task (record { line = p.line; thread = p.thread; action = a })) put.0, put.1)
+step_put xs w ks (step.Task p) short spells =
+    let put = given_put p.action short spells in (ap (λ (a : ScriptAction). step.Task (record { line = p.line; thread = p.thread; action = a })) put.0, put.1)
   where
     given_put : (a : ScriptAction) → ActionHas IsShortName IsShortGtrid (λ k. Unit {0}) a
-        → let all = with_bytes xs (bytes_given a) in let keys = ks ++ keys_given a in
+        → ActionHas (SpellsName w) (λ (t : TranName). w ≡ t.gtrid) (λ k. Unit {0}) a
+        → let all = xs ++ w in let keys = ks ++ keys_given a in
         let kept = action_with (place_from (length xs)) (gtrid_place_from (length xs)) (key_place_from (length ks)) a in
         (action_with (name_at all) (gtrid_at all) (key_at keys) kept ≡ a) × ActionHas (IsName all) (IsGtrid all) (IsKey keys) kept
-    given_put (action.Call c) short =
-        let put = call_put xs ks c.call short in
+    given_put (action.Call c) short spells =
+        let put = call_put xs w ks c.call short spells in
         (ap (λ (q : ScriptCalling). action.Call (record { manager = c.manager; flags = c.flags; call = q })) put.0, put.1)
-    given_put (action.CommitAll c) short =
-        let put = gtrid_put xs c.tran short in
+    given_put (action.CommitAll c) short spells =
+        let put = gtrid_put xs w c.tran short spells in
         (ap (λ (t : TranName). action.CommitAll (record { tran = t; managers = c.managers; death = c.death })) put.0, put.1)
-    given_put action.Resolve short = (refl, tt)
-step_put xs ks p short = (refl, tt)
+    given_put action.Resolve short spells = (refl, tt)
+step_put xs w ks p short spells = (refl, tt)
 
 -- ---- so steps stay as they are
 pub steps_grown : (xs more : List ℕ) (ks others : List (List ℕ)) (kept : List KeptStep) → All (IsNamed xs ks) kept

@@ -5,8 +5,8 @@ use Rattle.std.proofs.lemmas.List.Folds.{list_any-append}
 use Rattle.xa_grammar.specs.declared.step.Step.TheVariants as step
 use Rattle.xa_grammar.specs.declared.line.Head.{Head}
 use Rattle.xa_grammar.specs.declared.line.Head.TheVariants as head
-use Rattle.xa_grammar.specs.declared.line.Item.{Item}
-use Rattle.xa_grammar.specs.declared.line.Item.TheVariants as item
+use Rattle.xa_grammar.specs.Items.{Item}
+use Rattle.xa_grammar.specs.Items as item
 use Rattle.xa_grammar.specs.Text.{words_of, without_return}
 use Rattle.xa_grammar.specs.Fields.{Word}
 use Rattle.xa_grammar.specs.Steps.{ScriptStep}

@@ -28,8 +28,8 @@ use Rattle.xa_grammar.specs.declared.action.Verb.{Verb}
 use Rattle.xa_grammar.specs.declared.action.Verb.TheVariants as verb
 use Rattle.xa_grammar.specs.declared.line.Head.{Head}
 use Rattle.xa_grammar.specs.declared.line.Head.TheVariants as head
-use Rattle.xa_grammar.specs.declared.line.Item.{Item}
-use Rattle.xa_grammar.specs.declared.line.Item.TheVariants as item
+use Rattle.xa_grammar.specs.Items.{Item}
+use Rattle.xa_grammar.specs.Items as item
 use Rattle.xa_grammar.specs.Text.{is_script_byte, words_of}
 use Rattle.xa_grammar.specs.Fields.{◌>>=◌, Word, word_at, end_of, number_of, number_in, number_at, key_at, xid_at, delta_at, flags_onto}
 use Rattle.xa_base.specs.Lists.{IsUpTo}
@@ -129,12 +129,12 @@ key_kept s d of new few small is =
     ] refl in
     assumption
 
-step_kept : (s : Content) (p : ScriptStep) → IsOfScript s p → IsScript s → IsScript (with_step p s)
+pub step_kept : (s : Content) (p : ScriptStep) → IsOfScript s p → IsScript s → IsScript (with_step p s)
 step_kept s p of is =
     let of_steps : All (IsOfScript s) (s.steps ++ p ∷ []) = All-append (IsOfScript s) s.steps (p ∷ []) is.of_steps (just (IsOfScript s) p of) in
     assumption
 
-sync_kept : (s : Content) (m : ℕ) → IsScript s → IsScript (with_sync m s)
+pub sync_kept : (s : Content) (m : ℕ) → IsScript s → IsScript (with_sync m s)
 sync_kept s m is = assumption
 
 -- one place is written, the others are as they were
@@ -223,7 +223,7 @@ number_is low high ws x e =
     let same : n.0 ≡ x.0 = ap (λ (y : Result (ℕ × List Word) Reason). elim y [ Ok z ↦ z.0 | Err why ↦ 0 ]) n.1.1 in
     subst (λ z. (low ≤ z) × (z ≤ high)) same (in_range low high w.0.0 n.0 n.1.0)
 
-setting_kept : (s : Content) (c : Count) (ws : List Word) (n : ℕ) → setting_of s c ws ≡ Ok n → IsScript s → IsScript (with_count c n s)
+pub setting_kept : (s : Content) (c : Count) (ws : List Word) (n : ℕ) → setting_of s c ws ≡ Ok n → IsScript s → IsScript (with_count c n s)
 unfolding setting_of
 setting_kept s c ws n e =
     let first = and_then (before_actions s.steps) _ n e in
@@ -235,7 +235,7 @@ setting_kept s c ws n e =
     subst (λ (z : ℕ). IsScript s → IsScript (with_count c z s)) same
     (count_kept s c number.0.0 (no_steps s.steps first.0 first.1.0) (unset_yet (count_of c s.settings) new.0 new.1.0) within.0 within.1)
 
-logfail_kept : (s : Content) (ws : List Word) (x : ℕ × ℕ) → logfail_of s ws ≡ Ok x → IsScript s → IsScript (with_failing x.0 x.1 s)
+pub logfail_kept : (s : Content) (ws : List Word) (x : ℕ × ℕ) → logfail_of s ws ≡ Ok x → IsScript s → IsScript (with_failing x.0 x.1 s)
 unfolding logfail_of
 logfail_kept s ws x e =
     let first = and_then (before_actions s.steps) _ x e in
@@ -246,7 +246,7 @@ logfail_kept s ws x e =
     subst (λ (z : ℕ × ℕ). IsScript s → IsScript (with_failing z.0 z.1 s)) same
     (failing_kept s t.0.0 k.0.0 (number_is 1 (threads_of s) ws t.0 t.1.0) (number_is 1 1000000 t.0.1 k.0 k.1.0))
 
-logunknown_kept : (s : Content) (ws : List Word) (x : ℕ × UnknownAppend) → logunknown_of s ws ≡ Ok x → IsScript s → IsScript (with_unknown x.0 x.1 s)
+pub logunknown_kept : (s : Content) (ws : List Word) (x : ℕ × UnknownAppend) → logunknown_of s ws ≡ Ok x → IsScript s → IsScript (with_unknown x.0 x.1 s)
 unfolding logunknown_of
 logunknown_kept s ws x e =
     let first = and_then (before_actions s.steps) _ x e in
@@ -260,7 +260,7 @@ logunknown_kept s ws x e =
     subst (λ (z : ℕ × UnknownAppend). IsScript s → IsScript (with_unknown z.0 z.1 s)) same
     (unknown_kept s t.0.0 made (number_is 1 (threads_of s) ws t.0 t.1.0) (number_is 1 1000000 t.0.1 k.0 k.1.0))
 
-declared_kept : (s : Content) (ws : List Word) (d : Declared) → declared_of s ws ≡ Ok d → IsScript s → IsScript (with_key d s)
+pub declared_kept : (s : Content) (ws : List Word) (d : Declared) → declared_of s ws ≡ Ok d → IsScript s → IsScript (with_key d s)
 unfolding declared_of
 declared_kept s ws d e =
     let first = and_then (before_actions s.steps) _ d e in
@@ -275,54 +275,7 @@ declared_kept s ws d e =
     subst (λ (z : Declared). IsScript s → IsScript (with_key z s)) same
     (key_kept s made (number_is 1 (managers_of s) ws m.0 m.1.0) new.0 (grind (arith, few.0)) (number_is 0 1000000000000 k.0.1 v.0 v.1.0).1)
 
-asked : (a : ScriptCalling) (rest : List Word) (x : ScriptCalling × List Word)
-    → ◌≡◌ {A = Result (ScriptCalling × List Word) Reason} (Ok (a, rest)) (Ok x)
-    → AsksForFew a → AsksForFew x.0
-asked a rest x e few = subst (λ (y : ScriptCalling × List Word). AsksForFew y.0) (ok_is (a, rest) x e) few
-
-few_asked : (v : Verb) (ws : List Word) (x : ScriptCalling × List Word) → calling_at v ws ≡ Ok x → AsksForFew x.0
-unfolding calling_at
-few_asked (verb.Plain c) ws x e = asked (calling.Xa c None) ws x e tt
-few_asked (verb.OnBranch c) ws x e = let b = and_then (xid_at ws) _ x e in asked (calling.Xa c (Some b.0.0)) b.0.1 x b.1.1 tt
-few_asked (verb.Heur commits) ws x e = let b = and_then (xid_at ws) _ x e in asked (calling.Heur b.0.0 commits) b.0.1 x b.1.1 tt
-few_asked verb.Add ws x e =
-    let k = and_then (key_at ws) _ x e in
-    let d = and_then (delta_at k.0.1) _ x k.1.1 in
-    asked (calling.Add k.0.0 d.0.0) d.0.1 x d.1.1 tt
-few_asked verb.Shut ws x e = asked calling.Shut ws x e tt
-few_asked verb.Complete ws x e = let h = and_then (number_at 0 2147483647 ws) _ x e in asked (calling.Complete (pos h.0.0)) h.0.1 x h.1.1 tt
-few_asked verb.Recover ws x e = let c = and_then (number_at 0 64 ws) _ x e in asked (calling.Recover c.0.0) c.0.1 x c.1.1 (number_is 0 64 ws c.0 c.1.0).1
-
-call_is : (w : Word) (ws : List Word) (q : ScriptCalled) → call_of w ws ≡ Ok q → AsksForFew q.call
-unfolding call_of
-call_is w ws q e =
-    let v = and_then (ok_or (verb_of w) UnknownWord) _ q e in
-    let m = and_then (number_at 0 4294967295 ws) _ q v.1.1 in
-    let c = and_then (calling_at v.0 m.0.1) _ q m.1.1 in
-    let f = and_then (flags_onto 0 c.0.1) _ q c.1.1 in
-    subst (λ (x : ScriptCalled). AsksForFew x.call) (ok_is (record { manager = m.0.0; flags = f.0; call = c.0.0 }) q f.1.1) (few_asked v.0 m.0.1 c.0 c.1.0)
-
-action_is : (s : Content) (w : Word) (ws : List Word) (a : ScriptAction) → action_of s w ws ≡ Ok a → HasFewXids a
-action_is s w ws a =
-    elim (bytes_eq w (codes "commitall")) as (λ b. (if b then (commit_of s ws >>= λ c. Ok (action.CommitAll c)) else (if bytes_eq w (codes "resolve") then (end_of ws >>= λ last. Ok action.Resolve) else (call_of w ws >>= λ c. Ok (action.Call c)))) ≡ Ok a → HasFewXids a) [
-      | true ↦ λ e. let c = and_then (commit_of s ws) _ a e in subst (λ (x : ScriptAction). HasFewXids x) (ok_is (action.CommitAll c.0) a c.1.1) tt
-      | false ↦ elim (bytes_eq w (codes "resolve")) as (λ b. (if b then (end_of ws >>= λ last. Ok action.Resolve) else (call_of w ws >>= λ c. Ok (action.Call c))) ≡ Ok a → HasFewXids a) [
-        | true ↦ λ e. let last = and_then (end_of ws) _ a e in subst (λ (x : ScriptAction). HasFewXids x) (ok_is action.Resolve a last.1.1) tt
-        | false ↦ λ e. let c = and_then (call_of w ws) _ a e in subst (λ (x : ScriptAction). HasFewXids x) (ok_is (action.Call c.0) a c.1.1) (call_is w ws c.0 c.1.0)
-      ]
-    ]
-
--- a line of a thread is a task of one of the threads
-thread_is : (s : Content) (line : ℕ) (w : Word) (ws : List Word) (p : ScriptTask) → task_on s line w ws ≡ Ok p → IsOfScript s (step.Task p)
-unfolding task_on
-thread_is s line w ws p e =
-    let t = and_then (number_in 1 (threads_of s) w) _ p e in
-    let v = and_then (word_at ws) _ p t.1.1 in
-    let a = and_then (action_of s v.0.0 v.0.1) _ p v.1.1 in
-    subst (λ (q : ScriptTask). IsOfScript s (step.Task q)) (ok_is (record { line = line; thread = t.0; action = a.0 }) p a.1.1)
-    (in_range 1 (threads_of s) w t.0 t.1.0, action_is s v.0.0 v.0.1 a.0 a.1.0)
-
-turn_is : (mode : Bool) (s : Content) (line : ℕ) (ws : List Word) (m : ℕ) → turn_of mode s ws ≡ Ok m → IsOfScript s (step.Turn line m)
+pub turn_is : (mode : Bool) (s : Content) (line : ℕ) (ws : List Word) (m : ℕ) → turn_of mode s ws ≡ Ok m → IsOfScript s (step.Turn line m)
 unfolding turn_of
 turn_is true s line ws m e = let never : ⊥ = cc in absurd never
 turn_is false s line ws m e =
@@ -338,33 +291,6 @@ item_made P r f i e holds =
     let x = and_then r (λ x. Ok (f x)) i e in
     subst P (ok_is (f x.0) i x.1.1) (holds x.0 x.1.0)
 
--- with what the line adds it is a script
-abbrev Keeps : Content → Item → Type 0
-Keeps s i = IsScript (with_item i s)
-
-item_by_kept : (h : Option Head) (mode : Bool) (s : Content) (n : ℕ) (w : Word) (ws : List Word) (i : Item) → item_by h mode s n w ws ≡ Ok i → IsScript s
-    → Keeps s i
-unfolding item_by
-item_by_kept None mode s n w ws i e is = let never : ⊥ = cc in absurd never
-item_by_kept (Some head.Comment) mode s n w ws i e is = item_made {A = Unit {0}} (Keeps s) (Ok tt) (λ u. item.Nothing) i e (λ u t. is)
-item_by_kept (Some (head.Count count)) mode s n w ws i e is = item_made (Keeps s) (setting_of s count ws) (item.Count count) i e
-    (λ c t. setting_kept s count ws c t is)
-item_by_kept (Some head.Sync) mode s n w ws i e is = item_made (Keeps s) (sync_of s ws) item.Sync i e (λ m t. sync_kept s m is)
-item_by_kept (Some head.LogFail) mode s n w ws i e is = item_made (Keeps s) (logfail_of s ws) (λ x. item.LogFail x.0 x.1) i e (λ x t. logfail_kept s ws x t is)
-item_by_kept (Some head.LogUnknown) mode s n w ws i e is = item_made (Keeps s) (logunknown_of s ws) (λ x. item.LogUnknown x.0 x.1) i e
-    (λ x t. logunknown_kept s ws x t is)
-item_by_kept (Some head.Key) mode s n w ws i e is = item_made (Keeps s) (declared_of s ws) item.Key i e (λ d t. declared_kept s ws d t is)
-item_by_kept (Some head.Turn) mode s n w ws i e is = item_made (Keeps s) (turn_of mode s ws) (λ m. item.Step (step.Turn n m)) i e
-    (λ m t. step_kept s (step.Turn n m) (turn_is mode s n ws m t) is)
-item_by_kept (Some head.Reopen) mode s n w ws i e is = item_made (Keeps s) (reopen_of mode ws) (λ u. item.Step (step.Reopen n)) i e
-    (λ u t. step_kept s (step.Reopen n) tt is)
-item_by_kept (Some head.Thread) mode s n w ws i e is = item_made (Keeps s) (task_on s n w ws) (λ p. item.Step (step.Task p)) i e
-    (λ p t. step_kept s (step.Task p) (thread_is s n w ws p t) is)
-
-item_kept : (mode : Bool) (s : Content) (n : ℕ) (ws : List Word) (i : Item) → item_of mode s n ws ≡ Ok i → IsScript s → Keeps s i
-item_kept mode s n [] i e is = item_made {A = Unit {0}} (Keeps s) (Ok tt) (λ u. item.Nothing) i e (λ u t. is)
-item_kept mode s n (w ∷ ws) i e is = item_by_kept (head_of w) mode s n w ws i e is
-
 -- a line without a fault in its bytes is what its words say
 pub line_words : (mode : Bool) (s : Content) (n : ℕ) (line : List ℕ) (i : Item) → line_of mode s n line ≡ Ok i → item_of mode s n (words_of line) ≡ Ok i
 unfolding line_of
@@ -372,6 +298,3 @@ line_words mode s n line i e =
     let few = not_then (nat_lt 100000 n) TooManyLines _ i e in
     let short = not_then (nat_lt 512 (length line)) LineTooLong _ i few.1 in
     (not_then (not (list_all is_script_byte line)) BadByte _ i short.1).1
-
-pub line_kept : (mode : Bool) (s : Content) (n : ℕ) (line : List ℕ) (i : Item) → line_of mode s n line ≡ Ok i → IsScript s → Keeps s i
-line_kept mode s n line i e is = item_kept mode s n (words_of line) i (line_words mode s n line i e) is

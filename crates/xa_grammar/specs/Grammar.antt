@@ -4,7 +4,6 @@ use Rattle.std.specs.Prelude.{Some, None, Result, Ok, Err, codes}
 use Rattle.std.specs.List.{list_all}
 use Rattle.std.specs.Map.{lookup}
 use Rattle.std.specs.Str.{bytes_eq}
-use Rattle.xa_base.specs.declared.limits.TheConstants.{MOST_THREADS}
 use Rattle.xa_grammar.specs.declared.line.TheConstants.{LONGEST_LINE, MOST_LINES}
 use Rattle.xa_grammar.specs.declared.fault.Reason.{Reason}
 use Rattle.xa_grammar.specs.declared.fault.Reason.TheVariants.{LineTooLong, BadByte, TooManyLines, UnknownWord}
@@ -14,11 +13,10 @@ use Rattle.xa_grammar.specs.declared.script.Count.TheVariants.{Threads, Managers
 use Rattle.xa_grammar.specs.declared.step.Step.TheVariants as steps
 use Rattle.xa_grammar.specs.declared.line.Head.{Head}
 use Rattle.xa_grammar.specs.declared.line.Head.TheVariants as head
-use Rattle.xa_grammar.specs.declared.line.Item.{Item}
-use Rattle.xa_grammar.specs.declared.line.Item.TheVariants as item
+use Rattle.xa_grammar.specs.Items.{Item}
+use Rattle.xa_grammar.specs.Items as item
 use Rattle.xa_grammar.specs.Text.{hash, lines_of, words_of, without_return, is_script_byte}
 use Rattle.xa_grammar.specs.Fields.{◌>>=◌, Word, all_digits}
-use Rattle.xa_base.specs.Lists.{IsUpTo}
 use Rattle.xa_grammar.specs.Content.{Content, nothing, with_count, with_key, with_sync, with_failing, with_unknown}
 use Rattle.xa_grammar.specs.Content.{with_step}
 use Rattle.xa_grammar.specs.Settings.{setting_of, sync_of, logfail_of, logunknown_of, declared_of}
@@ -110,16 +108,6 @@ with_item (item.LogFail t k) s = with_failing t k s
 with_item (item.LogUnknown t u) s = with_unknown t u s
 with_item (item.Key d) s = with_key d s
 with_item (item.Step p) s = with_step p s
-
--- A log that fails, or has an append with an unknown end, is that of one of eight threads.
-abbrev pub HasPlace : Item → Type 0
-HasPlace item.Nothing = Unit {0}
-HasPlace (item.Count count n) = Unit {0}
-HasPlace (item.Sync m) = Unit {0}
-HasPlace (item.LogFail t k) = IsUpTo MOST_THREADS t
-HasPlace (item.LogUnknown t u) = IsUpTo MOST_THREADS t
-HasPlace (item.Key d) = Unit {0}
-HasPlace (item.Step p) = Unit {0}
 
 -- The script with line n, whose carriage return is dropped.
 unfoldable pub after_line : Bool → Content → ℕ → List ℕ → Result Content Reason

@@ -20,12 +20,16 @@ KeptStep = Step Place GtridPlace KeyPlace
 abbrev pub bytes_at : List ℕ → ℕ → ℕ → List ℕ
 bytes_at bytes at n = take n (drop at bytes)
 
--- the name of a branch whose gtrid stands at a place, and after it its bqual
+-- the name of a branch as a line has it: its gtrid, a dot and its bqual
+abbrev pub word_at : List ℕ → Place → List ℕ
+word_at bytes p = bytes_at bytes p.at (p.gtrid + 1 + p.bqual)
+
+-- the name of a branch that stands at a place
 abbrev pub name_at : List ℕ → Place → XidName
 name_at bytes p = record {
   format = pos 1;
-  gtrid = bytes_at bytes p.at p.gtrid;
-  bqual = bytes_at bytes (p.at + p.gtrid) p.bqual;
+  gtrid = take p.gtrid (word_at bytes p);
+  bqual = drop (p.gtrid + 1) (word_at bytes p);
 }
 
 -- the name of a global transaction whose gtrid stands at a place
@@ -38,7 +42,7 @@ key_at keys p = get_or keys p.at []
 
 -- a branch's name stands there: both parts have 1 to 64 bytes
 pub record IsName (bytes : List ℕ) (p : Place) : Type 0 where
-  pub within : p.at + p.gtrid + p.bqual ≤ length bytes
+  pub within : p.at + (p.gtrid + 1 + p.bqual) ≤ length bytes
   pub gtrid : IsUpTo 64 p.gtrid
   pub bqual : IsUpTo 64 p.bqual
 
@@ -61,23 +65,6 @@ step_at bytes keys p = step_with (name_at bytes) (gtrid_at bytes) (key_at keys) 
 
 -- ---- a step that comes
 
--- the bytes of the branch's name that a call has: its gtrid and its bqual
-abbrev pub bytes_called : ScriptCalling → List ℕ × List ℕ
-bytes_called (calling.Xa c (Some x)) = (x.gtrid, x.bqual)
-bytes_called (calling.Heur x commits) = (x.gtrid, x.bqual)
-bytes_called other = ([], [])
-
--- the bytes of the name that a thread gives: a global transaction has no bqual
-abbrev pub bytes_given : ScriptAction → List ℕ × List ℕ
-bytes_given (action.Call c) = bytes_called c.call
-bytes_given (action.CommitAll c) = (c.tran.gtrid, [])
-bytes_given action.Resolve = ([], [])
-
--- the bytes of the name in a step
-abbrev pub bytes_in : ScriptStep → List ℕ × List ℕ
-bytes_in (step.Task p) = bytes_given p.action
-bytes_in other = ([], [])
-
 -- the keys of the call: one where it is an addition
 abbrev pub keys_called : ScriptCalling → List (List ℕ)
 keys_called (calling.Add k d) = k ∷ []
@@ -91,17 +78,6 @@ keys_given other = []
 abbrev pub keys_in : ScriptStep → List (List ℕ)
 keys_in (step.Task p) = keys_given p.action
 keys_in other = []
-
--- a name of a script: of format 1, with parts of 1 to 64 bytes
-abbrev pub IsShortName : XidName → Type 0
-IsShortName x = (x.format ≡ pos 1) × IsUpTo 64 (length x.gtrid) × IsUpTo 64 (length x.bqual)
-
-abbrev pub IsShortGtrid : TranName → Type 0
-IsShortGtrid t = (t.format ≡ pos 1) × IsUpTo 64 (length t.gtrid)
-
--- so are those of the step
-abbrev pub IsShort : ScriptStep → Type 0
-IsShort p = StepHas IsShortName IsShortGtrid (λ k. Unit {0}) p
 
 -- where a name stands whose bytes come from a place on
 abbrev pub place_from : ℕ → XidName → Place

@@ -2,12 +2,15 @@ pub mod Text
 pub mod Faults
 pub mod Fields
 pub mod Steps
+pub mod Spelling
 pub mod Content
 pub mod Settings
 pub mod Found
 pub mod Commits
 pub mod Actions
+pub mod Items
 pub mod Grammar
+pub mod Taking
 pub mod Reading
 pub mod KeptSteps
 pub mod OwnTasks

@@ -1,14 +1,17 @@
 //! What a thread is told to do.
-ghost use Rattle.std.specs.Prelude.{◌≡◌};
+ghost use Rattle.std.specs.Prelude.{◌≡◌, IfOk};
+ghost use Rattle.xa_base.specs.Lists.{IsUpTo};
+ghost use Rattle.xa_grammar.specs.Content.{AsksForFew, threads_of};
 ghost use Rattle.xa_grammar.specs.Fields.{Takes};
 ghost use Rattle.xa_grammar.specs.Actions.{verb_of, calling_at, call_of, action_of, task_on, turn_of, reopen_of};
+ghost use Rattle.xa_grammar.specs.Taking.{Gives, with_item_in, task_item, as_task};
 
 use crate::commit::{MOST_MANAGER, commit_of};
-use crate::fault::Reason;
+use crate::fault::{LineFault, Reason};
 use crate::field::{meaning_in, number_in};
-use crate::name::{Gtrid, Name};
+use crate::name::Name;
 use crate::script::Script;
-use crate::step::{Action, Called, Calling, Task};
+use crate::step::{Action, Called, Calling};
 use crate::words::Words;
 use xa_words::Call;
 
@@ -64,7 +67,8 @@ fn verb_of(word: &[u8]) -> Option<Verb>
 // The words between the manager and the flags.
 #[tactic(auto, unfolding(crate::specs::Actions::calling_at))]
 fn calling_at<'a>(verb: Verb, words: &mut Words<'a>) -> Result<Calling<Name<'a>>, Reason>
-    ensures { Takes result words.new (calling_at verb words.old) }
+    ensures takes { Takes result words.new (calling_at verb words.old) }
+    ensures few { IfOk result AsksForFew }
 {
     match verb {
         Verb::Plain(call) => Ok(Calling::Xa(call, None)),
@@ -84,7 +88,8 @@ fn calling_at<'a>(verb: Verb, words: &mut Words<'a>) -> Result<Calling<Name<'a>>
 // The words after the verb of a call.
 #[tactic(auto, unfolding(crate::specs::Actions::call_of))]
 fn call_of<'a>(verb: &[u8], words: &mut Words<'a>) -> Result<Called<Name<'a>>, Reason>
-    ensures { result ≡ call_of verb.now words.old }
+    ensures call { result ≡ call_of verb.now words.old }
+    ensures few { IfOk result (λ c. AsksForFew c.call) }
 {
     let verb = verb_of(verb).ok_or(Reason::UnknownWord)?;
     let manager = words.number(0, MOST_MANAGER)? as u32;
@@ -97,42 +102,46 @@ fn call_of<'a>(verb: &[u8], words: &mut Words<'a>) -> Result<Called<Name<'a>>, R
     })
 }
 
-// The verb and the words after it.
-fn action_of<'a>(
-    script: &Script,
+// Takes the words after the verb of a thread's task.
+fn take_action(
+    script: &mut Script,
+    line: u32,
+    thread: u32,
     verb: &[u8],
-    words: &mut Words<'a>,
-) -> Result<Action<Name<'a>, Gtrid<'a>>, Reason>
-    ensures { result ≡ action_of script.now verb.now words.old }
+    words: &mut Words,
+) -> Result<(), LineFault>
+    requires { IsUpTo (threads_of script.old) thread }
+    ensures { Gives result
+        (with_item_in script.old (task_item (as_task line thread (action_of script.old verb.now words.old))))
+        script.new }
 {
     if verb == b"commitall".as_slice() {
-        Ok(Action::CommitAll(commit_of(script, words)?))
+        let commit = commit_of(script, words)?;
+        Ok(script.add_task(line, thread, Action::CommitAll(commit))?)
     } else if verb == b"resolve".as_slice() {
         words.end()?;
-        Ok(Action::Resolve)
+        Ok(script.add_task(line, thread, Action::Resolve)?)
     } else {
-        Ok(Action::Call(call_of(verb, words)?))
+        let called = call_of(verb, words)?;
+        Ok(script.add_task(line, thread, Action::Call(called))?)
     }
 }
 
-// The words after `first`, the word that names the thread.
+// Takes the words after `first`, the word that names the thread.
 #[tactic(auto, unfolding(crate::specs::Actions::task_on))]
-pub(crate) fn task_on<'a>(
-    script: &Script,
+pub(crate) fn take_task(
+    script: &mut Script,
     line: u32,
     first: &[u8],
-    words: &mut Words<'a>,
-) -> Result<Task<Name<'a>, Gtrid<'a>>, Reason>
-    ensures { result ≡ task_on script.now line first.now words.old }
+    words: &mut Words,
+) -> Result<(), LineFault>
+    ensures { Gives result
+        (with_item_in script.old (task_item (task_on script.old line first.now words.old)))
+        script.new }
 {
     let thread = number_in(1, u64::from(script.threads()), first)? as u32;
     let verb = words.word()?;
-    let action = action_of(script, verb, words)?;
-    Ok(Task {
-        line,
-        thread,
-        action,
-    })
+    take_action(script, line, thread, verb, words)
 }
 
 // The words after `turn`: the manager.

@@ -1,5 +1,6 @@
 //! What can be wrong with a script.
 ghost use Rattle.std.specs.Prelude.{◌≡◌};
+ghost use Rattle.xa_grammar.specs.declared.fault.LineFault.TheVariants as line;
 ghost use Rattle.xa_grammar.specs.declared.fault.ScriptFault.TheVariants.{NoMemory};
 
 use std::alloc::AllocError;
@@ -69,6 +70,30 @@ impl fmt::Display for Reason {
 }
 
 impl std::error::Error for Reason {}
+
+/// Why a line isn't taken.
+#[derive(Clone, Copy)]
+pub(crate) enum LineFault {
+    /// What is wrong with it.
+    Wrong(Reason),
+    NoMemory,
+}
+
+impl From<Reason> for LineFault {
+    ghost from_gives = { λ why fault. fault ≡ line.Wrong why };
+
+    fn from(why: Reason) -> LineFault {
+        LineFault::Wrong(why)
+    }
+}
+
+impl From<AllocError> for LineFault {
+    ghost from_gives = { λ _ fault. fault ≡ line.NoMemory };
+
+    fn from(_error: AllocError) -> LineFault {
+        LineFault::NoMemory
+    }
+}
 
 /// Why there is no script.
 #[derive(Clone, Copy, Debug, PartialEq, Eq, Error)]

@@ -104,11 +104,10 @@ pub(crate) fn xid_of(word: &[u8]) -> Option<Name<'_>>
     if dot == word.len() {
         return None;
     }
-    let (gtrid, bqual) = (&word[..dot], &word[dot + 1..]);
-    if !is_name(gtrid) || !is_name(bqual) {
+    if !is_name(&word[..dot]) || !is_name(&word[dot + 1..]) {
         return None;
     }
-    Some(Name::new(gtrid, bqual))
+    Some(Name::new(word, dot))
 }
 
 // The global transaction of format 1 that a name stands for.

@@ -1,20 +1,17 @@
 //! What one line says.
-ghost use Rattle.std.specs.Prelude.{◌≡◌, ◌≤◌, OnOk, IfOk, IfErr, Ok};
+ghost use Rattle.std.specs.Prelude.{◌≡◌, ◌≤◌, OnOk, IfErr, Ok};
 ghost use Rattle.std.specs.List.{list_all};
-ghost use Rattle.xa_grammar.specs.Text.{words_of, is_script_byte, without_return};
-ghost use Rattle.xa_grammar.specs.Content.{IsScript};
-ghost use Rattle.xa_grammar.specs.Grammar.{head_of, item_by, item_of, line_of, with_item, HasPlace, after_line};
-ghost use Rattle.xa_grammar.specs.Grammar.{FailsAt};
+ghost use Rattle.xa_grammar.specs.Text.{is_script_byte, without_return};
+ghost use Rattle.xa_grammar.specs.Grammar.{head_of, item_by, item_of, line_of, after_line, FailsAt};
+ghost use Rattle.xa_grammar.specs.Taking.{Gives, with_item_in};
 
-use crate::action::{reopen_of, task_on, turn_of};
-use crate::fault::{Reason, ScriptFault};
+use crate::action::{reopen_of, take_task, turn_of};
+use crate::fault::{LineFault, Reason, ScriptFault};
 use crate::field::{all_digits, meaning_in};
-use crate::name::{Gtrid, Name};
-use crate::script::{Count, Declared, Script, UnknownAppend};
+use crate::script::{Count, Script};
 use crate::setting::{declared_of, logfail_of, logunknown_of, setting_of, sync_of};
 use crate::step::Step;
 use crate::words::Words;
-use std::alloc::AllocError;
 
 // How many lines a script may have.
 pub(crate) const MOST_LINES: u32 = 100_000;
@@ -51,20 +48,6 @@ const HEADS: [(&[u8], Head); 11] = [
     (b"reopen", Head::Reopen),
 ];
 
-/// What a line adds to a script.
-#[derive(Drop)]
-pub(crate) enum Item<'a> {
-    Nothing,
-    Count(Count, u32),
-    Sync(u32),
-    /// An append of a thread's log fails.
-    LogFail { thread: u32, append: u32 },
-    /// An append of a thread's log has an unknown end.
-    LogUnknown { thread: u32, unknown: UnknownAppend },
-    Key(Declared),
-    Step(Step<Name<'a>, Gtrid<'a>>),
-}
-
 fn head_of(word: &[u8]) -> Option<Head>
     ensures { result ≡ head_of word.now }
 {
@@ -78,45 +61,58 @@ fn head_of(word: &[u8]) -> Option<Head>
     meaning_in(&HEADS, word)
 }
 
+// Takes the words of the line of this number.
 #[tactic(auto, unfolding(crate::specs::Grammar::item_by))]
-fn item_of<'a>(
-    script: &Script,
+fn take_words(
+    script: &mut Script,
     threads_mode: bool,
     number: u32,
-    line: &'a [u8],
-) -> Result<Item<'a>, Reason>
-    ensures item { result ≡ item_of threads_mode script.now number (words_of line.now) }
-    ensures place { IfOk result HasPlace }
+    words: &mut Words,
+) -> Result<(), LineFault>
+    ensures { Gives result
+        (with_item_in script.old (item_of threads_mode script.old number words.old))
+        script.new }
 {
-    let mut words = Words::new(line);
     if words.are_comment() {
-        return Ok(Item::Nothing);
+        return Ok(());
     }
     let Some(first) = words.next() else {
-        return Ok(Item::Nothing);
+        return Ok(());
     };
     match head_of(first).ok_or(Reason::UnknownWord)? {
-        Head::Comment => Ok(Item::Nothing),
-        Head::Count(count) => Ok(Item::Count(count, setting_of(script, count, &mut words)?)),
-        Head::Sync => Ok(Item::Sync(sync_of(script, &mut words)?)),
+        Head::Comment => Ok(()),
+        Head::Thread => take_task(script, number, first, words),
+        Head::Count(count) => {
+            let setting = setting_of(script, count, words)?;
+            script.set(count, setting);
+            Ok(())
+        }
+        Head::Sync => {
+            let manager = sync_of(script, words)?;
+            Ok(script.add_sync(manager)?)
+        }
         Head::LogFail => {
-            let (thread, append) = logfail_of(script, &mut words)?;
-            Ok(Item::LogFail { thread, append })
+            let (thread, append) = logfail_of(script, words)?;
+            script.set_failing(thread, append);
+            Ok(())
         }
         Head::LogUnknown => {
-            let (thread, unknown) = logunknown_of(script, &mut words)?;
-            Ok(Item::LogUnknown { thread, unknown })
+            let (thread, unknown) = logunknown_of(script, words)?;
+            script.set_unknown(thread, unknown);
+            Ok(())
         }
-        Head::Key => Ok(Item::Key(declared_of(script, &mut words)?)),
-        Head::Turn => Ok(Item::Step(Step::Turn {
-            line: number,
-            manager: turn_of(script, threads_mode, &mut words)?,
-        })),
+        Head::Key => {
+            let declared = declared_of(script, words)?;
+            Ok(script.add_key(declared)?)
+        }
+        Head::Turn => {
+            let manager = turn_of(script, threads_mode, words)?;
+            Ok(script.add_step(&Step::Turn { line: number, manager })?)
+        }
         Head::Reopen => {
-            reopen_of(threads_mode, &mut words)?;
-            Ok(Item::Step(Step::Reopen { line: number }))
+            reopen_of(threads_mode, words)?;
+            Ok(script.add_step(&Step::Reopen { line: number })?)
         }
-        Head::Thread => Ok(Item::Step(Step::Task(task_on(script, number, first, &mut words)?))),
     }
 }
 
@@ -146,52 +142,29 @@ fn without_return(line: &[u8]) -> &[u8]
     }
 }
 
+// Takes the line of this number, whose carriage return is dropped.
 #[tactic(auto, unfolding(crate::specs::Grammar::line_of))]
-fn line_of<'a>(
-    script: &Script,
+fn take_line(
+    script: &mut Script,
     threads_mode: bool,
     number: u32,
-    line: &'a [u8],
-) -> Result<Item<'a>, Reason>
-    ensures item { result ≡ line_of threads_mode script.now number line.now }
+    line: &[u8],
+) -> Result<(), LineFault>
+    ensures line { Gives result
+        (with_item_in script.old (line_of threads_mode script.old number line.now))
+        script.new }
     ensures few { OnOk result (number ≤ MOST_LINES) }
-    ensures place { IfOk result HasPlace }
 {
     if number > MOST_LINES {
-        return Err(Reason::TooManyLines);
+        return Err(LineFault::Wrong(Reason::TooManyLines));
     }
     if line.len() > LONGEST_LINE {
-        return Err(Reason::LineTooLong);
+        return Err(LineFault::Wrong(Reason::LineTooLong));
     }
     if !all_script_bytes(line) {
-        return Err(Reason::BadByte);
+        return Err(LineFault::Wrong(Reason::BadByte));
     }
-    item_of(script, threads_mode, number, line)
-}
-
-fn put(script: &mut Script, item: Item) -> Result<(), AllocError>
-    requires script { IsScript script.old → IsScript (with_item item script.old) }
-    requires place { HasPlace item }
-    ensures { OnOk result (script.new ≡ with_item item.entry script.old) }
-{
-    match item {
-        Item::Nothing => Ok(()),
-        Item::Count(count, number) => {
-            script.set(count, number);
-            Ok(())
-        }
-        Item::Sync(manager) => script.add_sync(manager),
-        Item::LogFail { thread, append } => {
-            script.set_failing(thread, append);
-            Ok(())
-        }
-        Item::LogUnknown { thread, unknown } => {
-            script.set_unknown(thread, unknown);
-            Ok(())
-        }
-        Item::Key(declared) => script.add_key(declared),
-        Item::Step(step) => script.add_step(&step),
-    }
+    take_words(script, threads_mode, number, &mut Words::new(line))
 }
 
 // Takes the line of this number, which may end with a carriage return.
@@ -207,8 +180,9 @@ pub(crate) fn read_line(
     ensures err { IfErr result (λ fault.
         FailsAt number fault (after_line threads_mode script.old number line.now)) }
 {
-    match line_of(script, threads_mode, number, without_return(line)) {
-        Ok(item) => Ok(put(script, item)?),
-        Err(why) => Err(ScriptFault::Line { line: number, why }),
+    match take_line(script, threads_mode, number, without_return(line)) {
+        Ok(()) => Ok(()),
+        Err(LineFault::Wrong(why)) => Err(ScriptFault::Line { line: number, why }),
+        Err(LineFault::NoMemory) => Err(ScriptFault::NoMemory),
     }
 }

@@ -1,6 +1,7 @@
 //! Names of branches and of global transactions, whose bytes stand elsewhere: in a line, or in a script.
-ghost use Rattle.std.specs.Prelude.{◌≡◌, IsTrue, pos};
+ghost use Rattle.std.specs.Prelude.{◌≡◌, ◌+◌, ◌<◌, IsTrue, pos, take, drop, length};
 ghost use Rattle.xa_words.specs.NewXid.{is_part};
+ghost use Rattle.xa_grammar.specs.Spelling.{SpellsName, IsShortName};
 
 use std::marker::Model;
 use xa_words::{Tran, Xid};
@@ -11,30 +12,38 @@ const FORMAT: i32 = 1;
 /// The name of a branch, whose bytes are lent. Contracts see it as they see an `Xid`.
 #[derive(Drop)]
 pub struct Name<'a> {
-    gtrid: &'a [u8],
-    bqual: &'a [u8],
+    // The gtrid, a dot and the bqual, as a line has them.
+    word: &'a [u8],
+    // How many bytes stand before the dot.
+    dot: usize,
 }
 
 impl<'a> Model for Name<'a> {
-    ghost use Rattle.std.specs.Prelude.{IsTrue, pos};
+    ghost use Rattle.std.specs.Prelude.{IsTrue, pos, take, drop, length, ◌+◌, ◌<◌};
     ghost use Rattle.xa_words.specs.NewXid.{is_part};
     ghost use Rattle.xa_words.specs.Xid.{XidName};
 
     ghost Value = { XidName };
 
-    ghost view = { λ n. record { format = pos 1; gtrid = n.gtrid.now; bqual = n.bqual.now } };
+    ghost view = { λ n. record {
+      format = pos 1;
+      gtrid = take n.dot n.word.now;
+      bqual = drop (n.dot + 1) n.word.now;
+    } };
 
-    ghost invariant = { λ n. IsTrue (is_part n.gtrid.now) × IsTrue (is_part n.bqual.now) };
+    ghost invariant = { λ n. (n.dot + 1 < length n.word.now)
+        × IsTrue (is_part (take n.dot n.word.now)) × IsTrue (is_part (drop (n.dot + 1) n.word.now)) };
 }
 
 impl<'a> Name<'a> {
-    /// The branch with these parts, of 1 to 64 bytes each.
-    pub(crate) fn new(gtrid: &'a [u8], bqual: &'a [u8]) -> Name<'a>
-        requires gtrid { IsTrue (is_part gtrid.now) }
-        requires bqual { IsTrue (is_part bqual.now) }
-        ensures { result ≡ record { format = pos 1; gtrid = gtrid.now; bqual = bqual.now } }
+    /// The branch whose gtrid stands before the dot, and whose bqual after it. Each has 1 to 64 bytes.
+    pub(crate) fn new(word: &'a [u8], dot: usize) -> Name<'a>
+        requires within { dot + 1 < length word.now }
+        requires gtrid { IsTrue (is_part (take dot word.now)) }
+        requires bqual { IsTrue (is_part (drop (dot + 1) word.now)) }
+        ensures { result ≡ record { format = pos 1; gtrid = take dot word.now; bqual = drop (dot + 1) word.now } }
     {
-        Name { gtrid, bqual }
+        Name { word, dot }
     }
 
     /// The name with bytes of its own.
@@ -42,7 +51,7 @@ impl<'a> Name<'a> {
     pub fn xid(&self) -> Xid
         ensures { result ≡ self.now }
     {
-        match Xid::new(FORMAT, self.gtrid, self.bqual) {
+        match Xid::new(FORMAT, self.gtrid(), self.bqual()) {
             Ok(xid) => xid,
             // Both parts have 1 to 64 bytes.
             Err(_) => unreachable!(),
@@ -55,7 +64,7 @@ impl<'a> Name<'a> {
         ensures format { self.now.format ≡ pos 1 }
         ensures valid { IsTrue (is_part result.now) }
     {
-        self.gtrid
+        &self.word[..self.dot]
     }
 
     /// The bqual, 1 to 64 bytes, which tells the branches of a global transaction apart.
@@ -63,7 +72,15 @@ impl<'a> Name<'a> {
         ensures bqual { result.now ≡ self.now.bqual }
         ensures valid { IsTrue (is_part result.now) }
     {
-        self.bqual
+        &self.word[self.dot + 1..]
+    }
+
+    /// The gtrid, a dot and the bqual.
+    pub(crate) fn word(&self) -> &'a [u8]
+        ensures spells { SpellsName result.now self.now }
+        ensures short { IsShortName self.now }
+    {
+        self.word
     }
 }
 

@@ -8,7 +8,7 @@ ghost use Rattle.xa_grammar.specs.declared.setting.TheConstants.{MOST_APPENDS};
 
 use crate::keys::DeclaredKeys;
 use crate::name::{Gtrid, Name};
-use crate::step::Step;
+use crate::step::{Action, Step, Task};
 use crate::steps::Steps;
 use crate::tasks::Tasks;
 use std::alloc::{AllocError, Global};
@@ -104,6 +104,8 @@ impl Script {
     ghost use Rattle.xa_grammar.specs.Content.{threads_of, managers_of, handles_of, queue_of, requests_of};
     ghost use Rattle.xa_grammar.specs.Content.{carries_async, failing_append, nothing, with_count, with_key, with_sync};
     ghost use Rattle.xa_grammar.specs.Content.{unknown_append, with_failing, with_unknown, with_step};
+    ghost use Rattle.xa_grammar.specs.Content.{HasFewXids};
+    ghost use Rattle.xa_grammar.specs.Taking.{task_step};
 
     pub(crate) fn new(alloc: Global) -> Result<Script, AllocError>
         ensures { IfOk result (λ s. s ≡ nothing) }
@@ -306,6 +308,20 @@ impl Script {
         ensures { self.new ≡ with_unknown thread unknown self.old }
     {
         self.unknown[thread as usize - 1] = Some(unknown);
+    }
+
+    /// Adds what a thread does on the line of this number.
+    pub(crate) fn add_task(
+        &mut self,
+        line: u32,
+        thread: u32,
+        action: Action<Name, Gtrid>,
+    ) -> Result<(), AllocError>
+        requires thread { IsUpTo (threads_of self.old) thread }
+        requires few { HasFewXids action }
+        ensures { OnOk result (self.new ≡ with_step (task_step line thread action.entry) self.old) }
+    {
+        self.add_step(&Step::Task(Task { line, thread, action }))
     }
 
     pub(crate) fn add_step(&mut self, step: &Step<Name, Gtrid>) -> Result<(), AllocError>

@@ -6,7 +6,8 @@ ghost use Rattle.std.specs.List.{list_any};
 ghost use Rattle.xa_grammar.specs.Content.{is_reopen};
 ghost use Rattle.xa_grammar.specs.OwnTasks.{own_steps, steps_at};
 ghost use Rattle.xa_grammar.specs.Steps.{step_with};
-ghost use Rattle.xa_grammar.specs.KeptSteps.{bytes_in, keys_in, IsShort, place_from, gtrid_place_from, key_place_from};
+ghost use Rattle.xa_grammar.specs.Spelling.{Spells, IsShort};
+ghost use Rattle.xa_grammar.specs.KeptSteps.{keys_in, place_from, gtrid_place_from, key_place_from};
 ghost use Rattle.xa_grammar.specs.KeptSteps.{name_at, gtrid_at, key_at, IsName, IsGtrid, IsKey, IsNamed, step_at};
 
 use crate::name::{Gtrid, Name};
@@ -14,10 +15,9 @@ use crate::step::{Action, Calling, Step};
 use std::alloc::{AllocError, Global};
 use std::clone::Clone;
 use std::marker::Model;
-use std::slice::from_ref;
 use xa_words::Key;
 
-// Where the bytes of a branch's name stand: those of the gtrid, and then those of the bqual.
+// Where the bytes of a branch's name stand: those of the gtrid, a dot, and those of the bqual.
 #[derive(Clone, Copy)]
 pub(crate) struct Place {
     at: u32,
@@ -61,37 +61,42 @@ impl Model for Steps {
     ghost invariant = { λ s. All (IsNamed s.names.items s.keys.items) s.kept.items };
 }
 
-// The bytes of the name in a step: those of a gtrid, and those of a bqual where it is a branch's.
-fn name_in<'a>(step: &Step<Name<'a>, Gtrid<'a>>) -> (&'a [u8], &'a [u8])
-    ensures bytes { (result.0.now, result.1.now) ≡ bytes_in step.now }
+// The name in a step, as a line has it.
+fn name_in<'a>(step: &Step<Name<'a>, Gtrid<'a>>) -> &'a [u8]
+    ensures spells { Spells result.now step.now }
     ensures short { IsShort step.now }
 {
     let Step::Task(task) = step else {
-        return (b"".as_slice(), b"".as_slice());
+        return b"".as_slice();
     };
     match &task.action {
         Action::Call(called) => match &called.call {
-            Calling::Xa(_, Some(name)) | Calling::Heur(name, _) => (name.gtrid(), name.bqual()),
-            _ => (b"".as_slice(), b"".as_slice()),
+            Calling::Xa(_, Some(name)) | Calling::Heur(name, _) => name.word(),
+            _ => b"".as_slice(),
         },
-        Action::CommitAll(commit) => (commit.tran.bytes(), b"".as_slice()),
-        Action::Resolve => (b"".as_slice(), b"".as_slice()),
+        Action::CommitAll(commit) => commit.tran.bytes(),
+        Action::Resolve => b"".as_slice(),
     }
 }
 
-// The key in a step that is an addition, and else none.
-fn keys_in<'a>(step: &'a Step<Name, Gtrid>) -> &'a [Key]
-    ensures { result.now ≡ keys_in step.now }
+// Adds the key of a step that is an addition.
+#[inline(always)]
+fn add_key(keys: &mut Vec<Key>, step: &Step<Name, Gtrid>) -> Result<(), AllocError>
+    ensures added { OnOk result (keys.new.items ≡ keys.old.items ++ keys_in step.now) }
+    ensures same { OnErr result (keys.new.items ≡ keys.old.items) }
 {
     let Step::Task(task) = step else {
-        return &[];
+        return Ok(());
     };
     match &task.action {
         Action::Call(called) => match &called.call {
-            Calling::Add(key, _) => from_ref(key),
-            _ => &[],
+            Calling::Add(key, _) => {
+                keys.push(*key)?;
+                Ok(())
+            }
+            _ => Ok(()),
         },
-        _ => &[],
+        _ => Ok(()),
     }
 }
 
@@ -120,9 +125,9 @@ fn name_at<'a>(names: &'a [u8], place: Place) -> Name<'a>
     ensures { result ≡ name_at names.now place }
 {
     let at = place.at as usize;
-    let gtrid_end = at + place.gtrid as usize;
-    let bqual_end = gtrid_end + place.bqual as usize;
-    Name::new(&names[at..gtrid_end], &names[gtrid_end..bqual_end])
+    let dot = place.gtrid as usize;
+    let len = dot + 1 + place.bqual as usize;
+    Name::new(&names[at..at + len], dot)
 }
 
 // The global transaction whose gtrid stands at a place.
@@ -158,6 +163,7 @@ fn step_at<'a>(names: &'a [u8], keys: &[Key], step: &KeptStep) -> Step<Name<'a>,
 }
 
 // The place after so many, where a place may be as large.
+#[inline(always)]
 fn place_of(len: usize) -> Result<u32, AllocError>
     ensures { IfOk result (λ at. at ≡ len) }
 {
@@ -201,12 +207,10 @@ impl Steps {
         ensures pushed { OnOk result (self.new ≡ self.old ++ step.now ∷ []) }
         ensures same { OnErr result (self.new ≡ self.old) }
     {
-        let (gtrid, bqual) = name_in(step);
         let at = place_of(self.names.len())?;
         let key = place_of(self.keys.len())?;
-        self.names.extend_from_slice(gtrid)?;
-        self.names.extend_from_slice(bqual)?;
-        self.keys.extend_from_slice(keys_in(step))?;
+        self.names.extend_from_slice(name_in(step))?;
+        add_key(&mut self.keys, step)?;
         let kept = place_names(step, at, key);
         self.kept.push(kept)?;
         Ok(())
