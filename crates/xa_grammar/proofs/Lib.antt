@@ -2,6 +2,8 @@ pub mod Splits
 pub mod Numbers
 pub mod Lines
 pub mod Bytes
+pub mod Blocks
+pub mod Plain
 pub mod CommitLemmas
 pub mod FoundLemmas
 pub mod ScriptLemmas

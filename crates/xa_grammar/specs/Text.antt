@@ -43,6 +43,10 @@ without_return line = strip_last carriage_return line
 abbrev pub is_script_byte : ℕ → Bool
 is_script_byte b = (nat_le 32 b && nat_le b 126) || (b == tab)
 
+-- They are such bytes.
+abbrev pub IsPlain : List ℕ → Type 0
+IsPlain bytes = list_all is_script_byte bytes ≡ true
+
 -- A tab counts as a space.
 abbrev pub is_space : ℕ → Bool
 is_space b = (b == space) || (b == tab)

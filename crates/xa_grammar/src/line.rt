@@ -19,6 +19,9 @@ pub(crate) const MOST_LINES: u32 = 100_000;
 // How many bytes a line may have, its carriage return and line feed not counted.
 pub(crate) const LONGEST_LINE: usize = 512;
 
+// How many bytes of a line are judged at once.
+const BLOCK: usize = 16;
+
 /// What the first word of a line says that the line is.
 #[derive(Clone, Copy)]
 pub(crate) enum Head {
@@ -122,15 +125,34 @@ fn is_script_byte(b: u8) -> bool
     matches!(b, b' '..=b'~' | b'\t')
 }
 
-fn all_script_bytes(line: &[u8]) -> bool
-    ensures { result ≡ list_all is_script_byte line.now }
+// Whether a block is of such bytes. Without a return at the first bad byte all of them are judged at once.
+#[inline(always)]
+fn are_script_bytes(block: &[u8]) -> bool
+    ensures { result ≡ list_all is_script_byte block.now }
 {
-    // Without a return at the first bad byte many bytes are judged at once.
     let mut good = true;
-    for b in line {
+    for b in block {
         good &= is_script_byte(*b);
     }
     good
+}
+
+fn all_script_bytes(line: &[u8]) -> bool
+    ensures { result ≡ list_all is_script_byte line.now }
+{
+    if line.len() < BLOCK {
+        return line.iter().all(|b| is_script_byte(*b));
+    }
+    let last = line.len() - BLOCK;
+    let mut start = 0;
+    while start < last {
+        if !are_script_bytes(&line[start..start + BLOCK]) {
+            return false;
+        }
+        start += BLOCK;
+    }
+    // The last block may begin in the one before it, so that no byte is left to be judged alone.
+    are_script_bytes(&line[last..])
 }
 
 fn without_return(line: &[u8]) -> &[u8]

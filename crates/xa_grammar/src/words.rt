@@ -1,7 +1,7 @@
 //! The words of a line, taken from left to right.
 ghost use Rattle.std.specs.Prelude.{◌≡◌, ◌<◌, ◌≤◌, ◌∷◌, [], length, take, drop, true, false, Ok, Err, IfOk};
 ghost use Rattle.std.specs.Prelude.{MatchOption, MatchResult};
-ghost use Rattle.xa_grammar.specs.Text.{is_space, starts_blank, words_of, IsWord};
+ghost use Rattle.xa_grammar.specs.Text.{is_space, starts_blank, words_of, IsPlain, IsWord};
 ghost use Rattle.xa_grammar.specs.Fields.{Takes, word_at, end_of, number_at, key_at, xid_at, tran_at, delta_at};
 ghost use Rattle.xa_grammar.specs.Fields.{flags_onto};
 ghost use Rattle.xa_grammar.specs.Grammar.{are_comment};
@@ -12,7 +12,7 @@ use crate::name::{Gtrid, Name};
 use std::marker::Model;
 use xa_words::{Delta, Key};
 
-// What is left of a line. A clause sees its words.
+// What is left of a line, whose bytes a script may have. A clause sees its words.
 #[derive(Drop)]
 pub(crate) struct Words<'a> {
     rest: &'a [u8],
@@ -20,15 +20,18 @@ pub(crate) struct Words<'a> {
 
 impl<'a> Model for Words<'a> {
     ghost use Rattle.std.specs.Prelude.{ℕ, List};
-    ghost use Rattle.xa_grammar.specs.Text.{words_of};
+    ghost use Rattle.xa_grammar.specs.Text.{words_of, IsPlain};
 
     ghost Value = { List (List ℕ) };
 
     ghost view = { λ w. words_of w.rest.now };
+
+    ghost invariant = { λ w. IsPlain w.rest.now };
 }
 
 impl<'a> Words<'a> {
     pub(crate) fn new(line: &'a [u8]) -> Words<'a>
+        requires { IsPlain line.now }
         ensures { result ≡ words_of line.now }
     {
         Words { rest: line }
@@ -129,10 +132,11 @@ fn is_space(b: u8) -> bool
 }
 
 // The line after the spaces at its front.
-#[tactic(auto, using(crate::proofs::Splits::words_of_space))]
+#[tactic(auto, using(crate::proofs::Splits::words_of_space, crate::proofs::Plain::plain_rest))]
 fn without_spaces(line: &[u8]) -> &[u8]
     ensures words { words_of result.now ≡ words_of line.now }
     ensures word { starts_blank result.now ≡ true → result.now ≡ [] }
+    ensures plain { IsPlain line.now → IsPlain result.now }
 {
     let mut start = 0;
     while start < line.len() && is_space(line[start]) {
@@ -141,15 +145,17 @@ fn without_spaces(line: &[u8]) -> &[u8]
     &line[start..]
 }
 
-// How many bytes stand in front of the first space.
+// How many bytes stand in front of the first space. Of the bytes that a script may have, spaces are the least.
+#[tactic(auto, using(crate::proofs::Plain::no_space, crate::proofs::Plain::plain_blank))]
 fn word_len(line: &[u8]) -> usize
+    requires { IsPlain line.now }
     ensures fits { result ≤ length line.now }
     ensures word { IsWord (take result line.now) }
     ensures stops { starts_blank (drop result line.now) ≡ true }
     ensures some { starts_blank line.now ≡ false → 0 < result }
 {
     let mut end = 0;
-    while end < line.len() && !is_space(line[end]) {
+    while end < line.len() && line[end] > b' ' {
         end += 1;
     }
     end

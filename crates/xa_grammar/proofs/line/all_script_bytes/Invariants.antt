@@ -1,7 +1,10 @@
-use Rattle.std.proofs.Common.{◌≡◌, take}
+use Rattle.std.proofs.Common.{◌≡◌, ◌≤◌, ◌+◌, ◌-◌, true, length, take}
 use Rattle.std.specs.List.{list_all}
 use Rattle.xa_grammar.specs.Text.{is_script_byte}
 use Rattle.xa_grammar.proofs.line.all_script_bytes.Given as goal
 
-abbrev pub invariant-loop-b : goal.invariant-loop-b
-invariant-loop-b l = l.good ≡ list_all is_script_byte (take l.b-index l.line)
+abbrev pub invariant-loop-start : goal.invariant-loop-start
+invariant-loop-start l = record { judged : list_all is_script_byte (take l.start l.line) ≡ true; in_range : l.start ≤ l.last + 16 }
+
+abbrev pub decreases-loop-start : goal.decreases-loop-start
+decreases-loop-start l = l.last - l.start

@@ -1,0 +1,6 @@
+use Rattle.std.proofs.lemmas.List.{take_rest}
+use Rattle.xa_grammar.proofs.Plain.{plain_rest}
+use Rattle.xa_grammar.proofs.words.without_spaces.Goals as goal
+
+pub returns-clause-plain : goal.returns-clause-plain
+returns-clause-plain c = λ plain. rw take_rest (plain_rest c.loop-start.start c.args.line.now plain)
