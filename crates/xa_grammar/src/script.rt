@@ -324,7 +324,6 @@ impl Script {
         self.add_step(&Step::Task(Task { line, thread, action }))
     }
 
-    #[inline(always)]
     pub(crate) fn add_step(&mut self, step: &Step<Name, Gtrid>) -> Result<(), AllocError>
         requires { IsScript self.old → IsScript (with_step step.now self.old) }
         ensures { OnOk result (self.new ≡ with_step step.now self.old) }
