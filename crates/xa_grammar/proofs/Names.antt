@@ -10,18 +10,17 @@ use Rattle.xa_words.specs.Xid.{XidName}
 use Rattle.xa_words.specs.Tran.{TranName}
 use Rattle.xa_grammar.specs.declared.step.Calling.{Calling}
 use Rattle.xa_grammar.specs.declared.step.Calling.TheVariants as calling
-use Rattle.xa_grammar.specs.declared.step.Action.{Action}
 use Rattle.xa_grammar.specs.declared.step.Action.TheVariants as action
 use Rattle.xa_grammar.specs.declared.step.Step.TheVariants as step
 use Rattle.xa_grammar.specs.declared.steps.Place.{Place}
-use Rattle.xa_grammar.specs.declared.steps.GtridPlace.{GtridPlace}
 use Rattle.xa_grammar.specs.declared.steps.KeyPlace.{KeyPlace}
-use Rattle.xa_grammar.specs.Steps.{ScriptCalling, ScriptAction, ScriptStep, CallHas, ActionHas, call_with, action_with, step_with}
+use Rattle.xa_grammar.specs.declared.steps.Kept.TheVariants as kept
+use Rattle.xa_grammar.specs.Steps.{ScriptCalling, ScriptAction, ScriptStep, CallHas, ActionHas, call_with}
 use Rattle.xa_grammar.specs.Content.{is_reopen}
 use Rattle.xa_grammar.specs.OwnTasks.{is_own}
 use Rattle.xa_grammar.specs.Spelling.{SpellsName, Spells, IsShortName, IsShortGtrid, IsShort}
-use Rattle.xa_grammar.specs.KeptSteps.{KeptStep, bytes_at, name_at, gtrid_at, key_at, IsName, IsGtrid, IsKey, IsNamed, step_at, steps_of}
-use Rattle.xa_grammar.specs.KeptSteps.{keys_called, keys_given, keys_in, place_from, gtrid_place_from, key_place_from}
+use Rattle.xa_grammar.specs.KeptSteps.{KeptStep, bytes_at, name_at, gtrid_at, key_at, IsName, IsGtrid, IsKey, IsNamed, task_step, step_at, steps_of}
+use Rattle.xa_grammar.specs.KeptSteps.{is_kept_of, is_kept_reopen, keys_called, keys_given, keys_in, place_from, key_place_from, action_from, kept_from}
 
 -- ---- the bytes that were appended last
 
@@ -47,11 +46,11 @@ is_name_grown xs more p is =
     let within = is.within in
     record { within = omega (arith, long, within); gtrid = is.gtrid; bqual = is.bqual }
 
-gtrid_grown : (xs more : List ℕ) (p : GtridPlace) → IsGtrid xs p → gtrid_at (xs ++ more) p ≡ gtrid_at xs p
-gtrid_grown xs more p is = λ i. record { format = pos 1; gtrid = bytes_grown xs more p.at p.len is.within i }
+gtrid_grown : (xs more : List ℕ) (at len : ℕ) → IsGtrid xs at len → gtrid_at (xs ++ more) at len ≡ gtrid_at xs at len
+gtrid_grown xs more at len is = λ i. record { format = pos 1; gtrid = bytes_grown xs more at len is.within i }
 
-is_gtrid_grown : (xs more : List ℕ) (p : GtridPlace) → IsGtrid xs p → IsGtrid (xs ++ more) p
-is_gtrid_grown xs more p is =
+is_gtrid_grown : (xs more : List ℕ) (at len : ℕ) → IsGtrid xs at len → IsGtrid (xs ++ more) at len
+is_gtrid_grown xs more at len is =
     let longer = length-append xs more in
     let within = is.within in
     record { within = omega (arith, longer, within); long = is.long }
@@ -70,22 +69,16 @@ call_grown xs more ks others (calling.Heur p commits) has =
 call_grown xs more ks others (calling.Add k d) has = (ap (λ (q : List ℕ). calling.Add q d) (key_grown ks others k has), is_key_grown ks others k has)
 call_grown xs more ks others c has = (refl, tt)
 
-action_grown : (xs more : List ℕ) (ks others : List (List ℕ)) (a : Action Place GtridPlace KeyPlace) → ActionHas (IsName xs) (IsGtrid xs) (IsKey ks) a
-    → (action_with (name_at (xs ++ more)) (gtrid_at (xs ++ more)) (key_at (ks ++ others)) a ≡ action_with (name_at xs) (gtrid_at xs) (key_at ks) a)
-    × ActionHas (IsName (xs ++ more)) (IsGtrid (xs ++ more)) (IsKey (ks ++ others)) a
-action_grown xs more ks others (action.Call c) has =
-    let (same, still) = call_grown xs more ks others c.call has in
-    (ap (λ (q : ScriptCalling). action.Call (record { manager = c.manager; flags = c.flags; call = q })) same, still)
-action_grown xs more ks others (action.CommitAll c) has =
-    (ap (λ (g : TranName). action.CommitAll (record { tran = g; managers = c.managers; death = c.death })) (gtrid_grown xs more c.tran has), is_gtrid_grown xs more c.tran has)
-action_grown xs more ks others action.Resolve has = (refl, tt)
-
 step_grown : (xs more : List ℕ) (ks others : List (List ℕ)) (p : KeptStep) → IsNamed xs ks p
     → (step_at (xs ++ more) (ks ++ others) p ≡ step_at xs ks p) × IsNamed (xs ++ more) (ks ++ others) p
-step_grown xs more ks others (step.Task p) is =
-    let (same, still) = action_grown xs more ks others p.action is in
-    (ap (λ (a : ScriptAction). step.Task (record { line = p.line; thread = p.thread; action = a })) same, still)
-step_grown xs more ks others p is = (refl, tt)
+step_grown xs more ks others (kept.Call t line m flags c) is =
+    let (same, still) = call_grown xs more ks others c is in
+    (ap (λ (q : ScriptCalling). task_step line t (action.Call (record { manager = m; flags = flags; call = q }))) same, still)
+step_grown xs more ks others (kept.CommitAll t len at line managers death) is =
+    (ap (λ (g : TranName). task_step line t (action.CommitAll (record { tran = g; managers = managers; death = death }))) (gtrid_grown xs more at len is), is_gtrid_grown xs more at len is)
+step_grown xs more ks others (kept.Resolve t line) is = (refl, tt)
+step_grown xs more ks others (kept.Turn line m) is = (refl, tt)
+step_grown xs more ks others (kept.Reopen line) is = (refl, tt)
 
 -- ---- a step whose name is appended
 
@@ -98,13 +91,14 @@ name_put xs w x (format, gtrid, bqual) (front, back) =
     let long : length x.gtrid + 1 + length x.bqual ≡ length w = omega (arith, behind, cut, bqual) in
     let size = length-append xs w in
     let whole : bytes_at (xs ++ w) (length xs) (length x.gtrid + 1 + length x.bqual) ≡ w = ap (bytes_at (xs ++ w) (length xs)) long ∙ last_at xs w in
-    let before : take (length x.gtrid) (bytes_at (xs ++ w) (length xs) (length x.gtrid + 1 + length x.bqual)) ≡ x.gtrid = ap (take (length x.gtrid)) whole ∙ front in
+    let before : take (length x.gtrid) (bytes_at (xs ++ w) (length xs) (length x.gtrid + 1 + length x.bqual)) ≡ x.gtrid =
+    ap (take (length x.gtrid)) whole ∙ front in
     let after : drop (length x.gtrid + 1) (bytes_at (xs ++ w) (length xs) (length x.gtrid + 1 + length x.bqual)) ≡ x.bqual =
     ap (drop (length x.gtrid + 1)) whole ∙ back in
     (λ i. record { format = sym format i; gtrid = before i; bqual = after i }, record { within = omega (arith, size, long); gtrid = gtrid; bqual = bqual })
 
 gtrid_put : (xs w : List ℕ) (t : TranName) → IsShortGtrid t → w ≡ t.gtrid
-    → (gtrid_at (xs ++ w) (gtrid_place_from (length xs) t) ≡ t) × IsGtrid (xs ++ w) (gtrid_place_from (length xs) t)
+    → (gtrid_at (xs ++ w) (length xs) (length t.gtrid) ≡ t) × IsGtrid (xs ++ w) (length xs) (length t.gtrid)
 gtrid_put xs w t (format, short) is =
     let long : length t.gtrid ≡ length w = ap length (sym is) in
     let size = length-append xs w in
@@ -116,63 +110,69 @@ key_put : (ks : List (List ℕ)) (k : List ℕ) → (key_at (ks ++ k ∷ []) (ke
 key_put ks k = (get_or-append_seam ks k [] [], let longer = length-append ks (k ∷ []) in omega (arith, longer))
 
 call_put : (xs w : List ℕ) (ks : List (List ℕ)) (c : ScriptCalling) → CallHas IsShortName (λ k. Unit {0}) c → CallHas (SpellsName w) (λ k. Unit {0}) c
-    → let all = xs ++ w in let keys = ks ++ keys_called c in let kept = call_with (place_from (length xs)) (key_place_from (length ks)) c in
-    (call_with (name_at all) (key_at keys) kept ≡ c) × CallHas (IsName all) (IsKey keys) kept
+    → let all = xs ++ w in let keys = ks ++ keys_called c in let k = call_with (place_from (length xs)) (key_place_from (length ks)) c in
+    (call_with (name_at all) (key_at keys) k ≡ c) × CallHas (IsName all) (IsKey keys) k
 call_put xs w ks (calling.Xa c (Some x)) short spells = let put = name_put xs w x short spells in (ap (λ (y : XidName). calling.Xa c (Some y)) put.0, put.1)
 call_put xs w ks (calling.Heur x commits) short spells = let put = name_put xs w x short spells in (ap (λ (y : XidName). calling.Heur y commits) put.0, put.1)
 call_put xs w ks (calling.Add k d) short spells = let put = key_put ks k in (ap (λ (q : List ℕ). calling.Add q d) put.0, put.1)
 call_put xs w ks c short spells = (refl, tt)
 
--- so do the step's
+-- so do those of the action
+action_put : (xs w : List ℕ) (ks : List (List ℕ)) (line t : ℕ) (a : ScriptAction) → ActionHas IsShortName IsShortGtrid (λ k. Unit {0}) a
+    → ActionHas (SpellsName w) (λ (t : TranName). w ≡ t.gtrid) (λ k. Unit {0}) a
+    → let all = xs ++ w in let keys = ks ++ keys_given a in let k = action_from (length xs) (length ks) line t a in
+    (step_at all keys k ≡ task_step line t a) × IsNamed all keys k
+action_put xs w ks line t (action.Call c) short spells =
+    let put = call_put xs w ks c.call short spells in
+    (ap (λ (q : ScriptCalling). task_step line t (action.Call (record { manager = c.manager; flags = c.flags; call = q }))) put.0, put.1)
+action_put xs w ks line t (action.CommitAll c) short spells =
+    let put = gtrid_put xs w c.tran short spells in
+    (ap (λ (g : TranName). task_step line t (action.CommitAll (record { tran = g; managers = c.managers; death = c.death }))) put.0, put.1)
+action_put xs w ks line t action.Resolve short spells = (refl, tt)
+
+-- and of the step
 pub step_put : (xs w : List ℕ) (ks : List (List ℕ)) (p : ScriptStep) → IsShort p → Spells w p
-    → let all = xs ++ w in let keys = ks ++ keys_in p in
-    let kept = step_with (place_from (length xs)) (gtrid_place_from (length xs)) (key_place_from (length ks)) p in
-    (step_at all keys kept ≡ p) × IsNamed all keys kept
-step_put xs w ks (step.Task p) short spells =
-    let put = given_put p.action short spells in (ap (λ (a : ScriptAction). step.Task (record { line = p.line; thread = p.thread; action = a })) put.0, put.1)
-  where
-    given_put : (a : ScriptAction) → ActionHas IsShortName IsShortGtrid (λ k. Unit {0}) a
-        → ActionHas (SpellsName w) (λ (t : TranName). w ≡ t.gtrid) (λ k. Unit {0}) a
-        → let all = xs ++ w in let keys = ks ++ keys_given a in
-        let kept = action_with (place_from (length xs)) (gtrid_place_from (length xs)) (key_place_from (length ks)) a in
-        (action_with (name_at all) (gtrid_at all) (key_at keys) kept ≡ a) × ActionHas (IsName all) (IsGtrid all) (IsKey keys) kept
-    given_put (action.Call c) short spells =
-        let put = call_put xs w ks c.call short spells in
-        (ap (λ (q : ScriptCalling). action.Call (record { manager = c.manager; flags = c.flags; call = q })) put.0, put.1)
-    given_put (action.CommitAll c) short spells =
-        let put = gtrid_put xs w c.tran short spells in
-        (ap (λ (t : TranName). action.CommitAll (record { tran = t; managers = c.managers; death = c.death })) put.0, put.1)
-    given_put action.Resolve short spells = (refl, tt)
-step_put xs w ks p short spells = (refl, tt)
+    → let all = xs ++ w in let keys = ks ++ keys_in p in let k = kept_from (length xs) (length ks) p in
+    (step_at all keys k ≡ p) × IsNamed all keys k
+step_put xs w ks (step.Task p) short spells = action_put xs w ks p.line p.thread p.action short spells
+step_put xs w ks (step.Turn line m) short spells = (refl, tt)
+step_put xs w ks (step.Reopen line) short spells = (refl, tt)
 
 -- ---- so steps stay as they are
-pub steps_grown : (xs more : List ℕ) (ks others : List (List ℕ)) (kept : List KeptStep) → All (IsNamed xs ks) kept
-    → (steps_of (xs ++ more) (ks ++ others) kept ≡ steps_of xs ks kept) × All (IsNamed (xs ++ more) (ks ++ others)) kept
+pub steps_grown : (xs more : List ℕ) (ks others : List (List ℕ)) (steps : List KeptStep) → All (IsNamed xs ks) steps
+    → (steps_of (xs ++ more) (ks ++ others) steps ≡ steps_of xs ks steps) × All (IsNamed (xs ++ more) (ks ++ others)) steps
 steps_grown xs more ks others [] all = (refl, All-nil (IsNamed (xs ++ more) (ks ++ others)))
-steps_grown xs more ks others (p ∷ kept) all =
-    let (first, named) = step_grown xs more ks others p (All-head (IsNamed xs ks) p kept all) in
-    let (rest, later) = steps_grown xs more ks others kept (All-tail (IsNamed xs ks) p kept all) in
-    (λ i. first i ∷ rest i, All-cons (IsNamed (xs ++ more) (ks ++ others)) p kept named later)
+steps_grown xs more ks others (p ∷ steps) all =
+    let (first, named) = step_grown xs more ks others p (All-head (IsNamed xs ks) p steps all) in
+    let (rest, later) = steps_grown xs more ks others steps (All-tail (IsNamed xs ks) p steps all) in
+    (λ i. first i ∷ rest i, All-cons (IsNamed (xs ++ more) (ks ++ others)) p steps named later)
 
 -- where no key was appended
-pub names_grown : (xs more : List ℕ) (ks : List (List ℕ)) (kept : List KeptStep) → All (IsNamed xs ks) kept
-    → (steps_of (xs ++ more) ks kept ≡ steps_of xs ks kept) × All (IsNamed (xs ++ more) ks) kept
-names_grown xs more ks kept all =
-    subst (λ (l : List (List ℕ)). (steps_of (xs ++ more) l kept ≡ steps_of xs ks kept) × All (IsNamed (xs ++ more) l) kept) (append-nil ks) (steps_grown xs more ks [] kept all)
+pub names_grown : (xs more : List ℕ) (ks : List (List ℕ)) (steps : List KeptStep) → All (IsNamed xs ks) steps
+    → (steps_of (xs ++ more) ks steps ≡ steps_of xs ks steps) × All (IsNamed (xs ++ more) ks) steps
+names_grown xs more ks steps all =
+    subst (λ (l : List (List ℕ)). (steps_of (xs ++ more) l steps ≡ steps_of xs ks steps) × All (IsNamed (xs ++ more) l) steps) (append-nil ks) (steps_grown xs more ks [] steps all)
 
-reopens_same : (bytes : List ℕ) (keys : List (List ℕ)) (p : KeptStep) → is_reopen p ≡ is_reopen (step_at bytes keys p)
-reopens_same bytes keys (step.Task p) = refl
-reopens_same bytes keys p = refl
+reopens_same : (bytes : List ℕ) (keys : List (List ℕ)) (p : KeptStep) → is_kept_reopen p ≡ is_reopen (step_at bytes keys p)
+reopens_same bytes keys (kept.Call t line m flags c) = refl
+reopens_same bytes keys (kept.CommitAll t len at line managers death) = refl
+reopens_same bytes keys (kept.Resolve t line) = refl
+reopens_same bytes keys (kept.Turn line m) = refl
+reopens_same bytes keys (kept.Reopen line) = refl
 
-pub any_reopens : (bytes : List ℕ) (keys : List (List ℕ)) (kept : List KeptStep) → list_any is_reopen kept ≡ list_any is_reopen (steps_of bytes keys kept)
+pub any_reopens : (bytes : List ℕ) (keys : List (List ℕ)) (steps : List KeptStep)
+    → list_any is_kept_reopen steps ≡ list_any is_reopen (steps_of bytes keys steps)
 any_reopens bytes keys [] = refl
-any_reopens bytes keys (p ∷ kept) = λ i. reopens_same bytes keys p i || any_reopens bytes keys kept i
+any_reopens bytes keys (p ∷ steps) = λ i. reopens_same bytes keys p i || any_reopens bytes keys steps i
 
-own_cases : {A B : Type 0} (b : Bool) (p : A) (q : B) → is_some (if b then Some p else None) ≡ is_some (if b then Some q else None)
-own_cases true p q = refl
-own_cases false p q = refl
+own_cases : {A : Type 0} (b : Bool) (p : A) → b ≡ is_some (if b then Some p else None)
+own_cases true p = refl
+own_cases false p = refl
 
 -- names don't tell whose a step is
-pub own_same : (t : ℕ) (bytes : List ℕ) (keys : List (List ℕ)) (p : KeptStep) → is_own t p ≡ is_own t (step_at bytes keys p)
-own_same t bytes keys (step.Task p) = own_cases (p.thread == t) p _
-own_same t bytes keys p = refl
+pub own_same : (t : ℕ) (bytes : List ℕ) (keys : List (List ℕ)) (p : KeptStep) → is_kept_of t p ≡ is_own t (step_at bytes keys p)
+own_same t bytes keys (kept.Call u line m flags c) = own_cases (u == t) _
+own_same t bytes keys (kept.CommitAll u len at line managers death) = own_cases (u == t) _
+own_same t bytes keys (kept.Resolve u line) = own_cases (u == t) _
+own_same t bytes keys (kept.Turn line m) = refl
+own_same t bytes keys (kept.Reopen line) = refl

@@ -134,9 +134,6 @@ step_kept s p of is =
     let of_steps : All (IsOfScript s) (s.steps ++ p ∷ []) = All-append (IsOfScript s) s.steps (p ∷ []) is.of_steps (just (IsOfScript s) p of) in
     assumption
 
-pub sync_kept : (s : Content) (m : ℕ) → IsScript s → IsScript (with_sync m s)
-sync_kept s m is = assumption
-
 -- one place is written, the others are as they were
 after_set : {A : Type 0} (P : Option A → Type 0) (xs : List (Option A)) (i j : ℕ) (x : Option A) → P (get_or xs j None) → (i ≡ j → P x)
     → P (get_or (slice_set xs i x) j None)

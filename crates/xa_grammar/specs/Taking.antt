@@ -1,11 +1,12 @@
--- What comes of a line that is taken: the script has what its words say, or the line has the fault that the grammar finds.
+-- What comes of a line that is taken: the script has what its words say, or the line has the fault that the grammar
+-- finds.
 use Rattle.std.specs.Prelude.{◌≡◌, ℕ, Result, Ok, Err}
 use Rattle.xa_grammar.specs.declared.fault.Reason.{Reason}
 use Rattle.xa_grammar.specs.declared.fault.LineFault.{LineFault}
 use Rattle.xa_grammar.specs.declared.fault.LineFault.TheVariants as fault
 use Rattle.xa_grammar.specs.declared.step.Step.TheVariants as step
 use Rattle.xa_grammar.specs.Fields.{◌>>=◌}
-use Rattle.xa_grammar.specs.Steps.{ScriptAction, ScriptTask, ScriptStep}
+use Rattle.xa_grammar.specs.Steps.{ScriptAction, ScriptTask}
 use Rattle.xa_grammar.specs.Content.{Content}
 use Rattle.xa_grammar.specs.Items.{Item}
 use Rattle.xa_grammar.specs.Items as item
@@ -28,6 +29,3 @@ task_item task = task >>= λ p. Ok (item.Step (step.Task p))
 -- The task that an action is, on a line of a thread.
 abbrev pub as_task : ℕ → ℕ → Result ScriptAction Reason → Result ScriptTask Reason
 as_task line t does = does >>= λ a. Ok (record { line = line; thread = t; action = a })
-
-abbrev pub task_step : ℕ → ℕ → ScriptAction → ScriptStep
-task_step line t a = step.Task (record { line = line; thread = t; action = a })

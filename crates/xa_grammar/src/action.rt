@@ -1,5 +1,5 @@
 //! What a thread is told to do.
-ghost use Rattle.std.specs.Prelude.{◌≡◌, IfOk};
+ghost use Rattle.std.specs.Prelude.{◌≡◌, ◌≤◌, IfOk};
 ghost use Rattle.xa_base.specs.Lists.{IsUpTo};
 ghost use Rattle.xa_grammar.specs.Content.{AsksForFew, threads_of};
 ghost use Rattle.xa_grammar.specs.Fields.{Takes};
@@ -110,7 +110,8 @@ fn take_action(
     verb: &[u8],
     words: &mut Words,
 ) -> Result<(), LineFault>
-    requires { IsUpTo (threads_of script.old) thread }
+    requires thread { IsUpTo (threads_of script.old) thread }
+    requires small { thread ≤ 255 }
     ensures { Gives result
         (with_item_in script.old (task_item (as_task line thread (action_of script.old verb.now words.old))))
         script.new }

@@ -20,7 +20,7 @@ pub(crate) const MOST_LINES: u32 = 100_000;
 pub(crate) const LONGEST_LINE: usize = 512;
 
 // How many bytes of a line are judged at once.
-const BLOCK: usize = 16;
+const BLOCK: usize = 8;
 
 /// What the first word of a line says that the line is.
 #[derive(Clone, Copy)]

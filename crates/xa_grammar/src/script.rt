@@ -105,7 +105,7 @@ impl Script {
     ghost use Rattle.xa_grammar.specs.Content.{carries_async, failing_append, nothing, with_count, with_key, with_sync};
     ghost use Rattle.xa_grammar.specs.Content.{unknown_append, with_failing, with_unknown, with_step};
     ghost use Rattle.xa_grammar.specs.Content.{HasFewXids};
-    ghost use Rattle.xa_grammar.specs.Taking.{task_step};
+    ghost use Rattle.xa_grammar.specs.KeptSteps.{task_step, HasSmallThread};
 
     pub(crate) fn new(alloc: Global) -> Result<Script, AllocError>
         ensures { IfOk result (λ s. s ≡ nothing) }
@@ -318,6 +318,7 @@ impl Script {
         action: Action<Name, Gtrid>,
     ) -> Result<(), AllocError>
         requires thread { IsUpTo (threads_of self.old) thread }
+        requires small { thread ≤ 255 }
         requires few { HasFewXids action }
         ensures { OnOk result (self.new ≡ with_step (task_step line thread action.entry) self.old) }
     {
@@ -325,7 +326,8 @@ impl Script {
     }
 
     pub(crate) fn add_step(&mut self, step: &Step<Name, Gtrid>) -> Result<(), AllocError>
-        requires { IsScript self.old → IsScript (with_step step.now self.old) }
+        requires script { IsScript self.old → IsScript (with_step step.now self.old) }
+        requires thread { HasSmallThread step.now }
         ensures { OnOk result (self.new ≡ with_step step.now self.old) }
     {
         Arc::make_mut(&mut self.steps)?.push(step)

@@ -5,17 +5,16 @@ ghost use Rattle.std.specs.Prelude.{OnErr};
 ghost use Rattle.std.specs.List.{list_any};
 ghost use Rattle.xa_grammar.specs.Content.{is_reopen};
 ghost use Rattle.xa_grammar.specs.OwnTasks.{own_steps, steps_at};
-ghost use Rattle.xa_grammar.specs.Steps.{step_with};
 ghost use Rattle.xa_grammar.specs.Spelling.{Spells, IsShort};
-ghost use Rattle.xa_grammar.specs.KeptSteps.{keys_in, place_from, gtrid_place_from, key_place_from};
 ghost use Rattle.xa_grammar.specs.KeptSteps.{name_at, gtrid_at, key_at, IsName, IsGtrid, IsKey, IsNamed, step_at};
+ghost use Rattle.xa_grammar.specs.KeptSteps.{keys_in, kept_from, HasSmallThread, is_kept_of, is_kept_reopen};
 
 use crate::name::{Gtrid, Name};
-use crate::step::{Action, Calling, Step};
+use crate::step::{Action, Called, Calling, CommitAll, Step, Task};
 use std::alloc::{AllocError, Global};
 use std::clone::Clone;
 use std::marker::Model;
-use xa_words::Key;
+use xa_words::{Death, Key, ManagerSet};
 
 // Where the bytes of a branch's name stand: those of the gtrid, a dot, and those of the bqual.
 #[derive(Clone, Copy)]
@@ -25,21 +24,187 @@ pub(crate) struct Place {
     bqual: u8,
 }
 
-// Where the bytes of a global transaction's gtrid stand.
-#[derive(Clone, Copy)]
-pub(crate) struct GtridPlace {
-    at: u32,
-    len: u8,
-}
-
 // Where the key of an addition stands.
 #[derive(Clone, Copy)]
 pub(crate) struct KeyPlace {
     at: u32,
 }
 
+// A step with places for its name and its key. The fields of each kind stand in an order that leaves few gaps, since
+// there is a step for each line.
+#[derive(Clone, Copy)]
+pub(crate) enum Kept<X, K> {
+    Call {
+        thread: u8,
+        line: u32,
+        manager: u32,
+        flags: u32,
+        call: Calling<X, K>,
+    },
+    CommitAll {
+        thread: u8,
+        // How many bytes the gtrid has, and where they stand.
+        len: u8,
+        at: u32,
+        line: u32,
+        managers: ManagerSet,
+        death: Option<Death>,
+    },
+    Resolve { thread: u8, line: u32 },
+    Turn { line: u32, manager: u32 },
+    Reopen { line: u32 },
+}
+
 // A step as it is kept.
-type KeptStep = Step<Place, GtridPlace, KeyPlace>;
+type KeptStep = Kept<Place, KeyPlace>;
+
+// The branch's name that stands at a place.
+#[inline(always)]
+fn name_at<'a>(names: &'a [u8], place: Place) -> Name<'a>
+    requires { IsName names.now place }
+    ensures { result ≡ name_at names.now place }
+{
+    let at = place.at as usize;
+    let dot = place.gtrid as usize;
+    let len = dot + 1 + place.bqual as usize;
+    Name::new(&names[at..at + len], dot)
+}
+
+// The global transaction whose gtrid stands at a place, and has so many bytes.
+#[inline(always)]
+fn gtrid_at<'a>(names: &'a [u8], at: u32, len: u8) -> Gtrid<'a>
+    requires { IsGtrid names.now at len }
+    ensures { result ≡ gtrid_at names.now at len }
+{
+    let at = at as usize;
+    Gtrid::new(&names[at..at + len as usize])
+}
+
+// The key that stands at a place.
+#[inline(always)]
+fn key_at(keys: &[Key], place: KeyPlace) -> Key
+    requires { IsKey keys.now place }
+    ensures { result ≡ key_at keys.now place }
+{
+    keys[place.at as usize]
+}
+
+// The step, the bytes of whose name are kept from a place on, and whose key is kept at a place.
+fn kept_from(step: &Step<Name, Gtrid>, at: u32, key: u32) -> KeptStep
+    requires { HasSmallThread step.now }
+    ensures { result ≡ kept_from at key step.now }
+{
+    match step {
+        Step::Task(task) => match &task.action {
+            Action::Call(called) => Kept::Call {
+                thread: task.thread as u8,
+                line: task.line,
+                manager: called.manager,
+                flags: called.flags,
+                call: called.call.map(
+                    |name| Place {
+                        at,
+                        gtrid: name.gtrid().len() as u8,
+                        bqual: name.bqual().len() as u8,
+                    },
+                    |_| KeyPlace { at: key },
+                ),
+            },
+            Action::CommitAll(commit) => Kept::CommitAll {
+                thread: task.thread as u8,
+                len: commit.tran.bytes().len() as u8,
+                at,
+                line: task.line,
+                managers: commit.managers,
+                death: commit.death,
+            },
+            Action::Resolve => Kept::Resolve {
+                thread: task.thread as u8,
+                line: task.line,
+            },
+        },
+        Step::Turn { line, manager } => Kept::Turn {
+            line: *line,
+            manager: *manager,
+        },
+        Step::Reopen { line } => Kept::Reopen { line: *line },
+    }
+}
+
+// The step that is kept, with its name or its key.
+#[inline(always)]
+fn step_at<'a>(names: &'a [u8], keys: &[Key], kept: &KeptStep) -> Step<Name<'a>, Gtrid<'a>>
+    requires { IsNamed names.now keys.now kept.now }
+    ensures { result ≡ step_at names.now keys.now kept.now }
+{
+    match kept {
+        Kept::Call {
+            thread,
+            line,
+            manager,
+            flags,
+            call,
+        } => Step::Task(Task {
+            line: *line,
+            thread: u32::from(*thread),
+            action: Action::Call(Called {
+                manager: *manager,
+                flags: *flags,
+                call: call.map(
+                    |place| name_at(names, *place),
+                    |place| key_at(keys, *place),
+                ),
+            }),
+        }),
+        Kept::CommitAll {
+            thread,
+            len,
+            at,
+            line,
+            managers,
+            death,
+        } => Step::Task(Task {
+            line: *line,
+            thread: u32::from(*thread),
+            action: Action::CommitAll(CommitAll {
+                tran: gtrid_at(names, *at, *len),
+                managers: *managers,
+                death: *death,
+            }),
+        }),
+        Kept::Resolve { thread, line } => Step::Task(Task {
+            line: *line,
+            thread: u32::from(*thread),
+            action: Action::Resolve,
+        }),
+        Kept::Turn { line, manager } => Step::Turn {
+            line: *line,
+            manager: *manager,
+        },
+        Kept::Reopen { line } => Step::Reopen { line: *line },
+    }
+}
+
+impl<X, K> Kept<X, K> {
+    // Whether it is a task of the thread.
+    pub(crate) fn is_of(&self, thread: u32) -> bool
+        ensures { result ≡ is_kept_of thread self.now }
+    {
+        match self {
+            Kept::Call { thread: own, .. }
+            | Kept::CommitAll { thread: own, .. }
+            | Kept::Resolve { thread: own, .. } => u32::from(*own) == thread,
+            Kept::Turn { .. } | Kept::Reopen { .. } => false,
+        }
+    }
+
+    // Whether it opens the managers again.
+    pub(crate) fn is_reopen(&self) -> bool
+        ensures { result ≡ is_kept_reopen self.now }
+    {
+        matches!(self, Kept::Reopen { .. })
+    }
+}
 
 /// Steps in their order. Contracts see the list of them.
 #[derive(Drop)]
@@ -100,68 +265,6 @@ fn add_key(keys: &mut Vec<Key>, step: &Step<Name, Gtrid>) -> Result<(), AllocErr
     }
 }
 
-// The step with where its name stands, the bytes of which are kept from a place on, and with the place of its key.
-fn place_names(step: &Step<Name, Gtrid>, at: u32, key: u32) -> KeptStep
-    ensures { result ≡ step_with (place_from at) (gtrid_place_from at) (key_place_from key) step.now }
-{
-    step.map(
-        |name| Place {
-            at,
-            gtrid: name.gtrid().len() as u8,
-            bqual: name.bqual().len() as u8,
-        },
-        |gtrid| GtridPlace {
-            at,
-            len: gtrid.bytes().len() as u8,
-        },
-        |_| KeyPlace { at: key },
-    )
-}
-
-// The branch's name that stands at a place.
-#[inline(always)]
-fn name_at<'a>(names: &'a [u8], place: Place) -> Name<'a>
-    requires { IsName names.now place }
-    ensures { result ≡ name_at names.now place }
-{
-    let at = place.at as usize;
-    let dot = place.gtrid as usize;
-    let len = dot + 1 + place.bqual as usize;
-    Name::new(&names[at..at + len], dot)
-}
-
-// The global transaction whose gtrid stands at a place.
-#[inline(always)]
-fn gtrid_at<'a>(names: &'a [u8], place: GtridPlace) -> Gtrid<'a>
-    requires { IsGtrid names.now place }
-    ensures { result ≡ gtrid_at names.now place }
-{
-    let at = place.at as usize;
-    Gtrid::new(&names[at..at + place.len as usize])
-}
-
-// The key that stands at a place.
-#[inline(always)]
-fn key_at(keys: &[Key], place: KeyPlace) -> Key
-    requires { IsKey keys.now place }
-    ensures { result ≡ key_at keys.now place }
-{
-    keys[place.at as usize]
-}
-
-// The step that is kept, with its name or its key.
-#[inline(always)]
-fn step_at<'a>(names: &'a [u8], keys: &[Key], step: &KeptStep) -> Step<Name<'a>, Gtrid<'a>>
-    requires { IsNamed names.now keys.now step.now }
-    ensures { result ≡ step_at names.now keys.now step.now }
-{
-    step.map(
-        |place| name_at(names, *place),
-        |place| gtrid_at(names, *place),
-        |place| key_at(keys, *place),
-    )
-}
-
 // The place after so many, where a place may be as large.
 #[inline(always)]
 fn place_of(len: usize) -> Result<u32, AllocError>
@@ -171,7 +274,7 @@ fn place_of(len: usize) -> Result<u32, AllocError>
 }
 
 fn any_reopens(kept: &[KeptStep]) -> bool
-    ensures { result ≡ list_any is_reopen kept.now }
+    ensures { result ≡ list_any is_kept_reopen kept.now }
 {
     kept.iter().any(|step| step.is_reopen())
 }
@@ -204,6 +307,7 @@ impl Steps {
 
     /// Adds a step. It fails for want of memory, and where names or keys stand at all places that there are for them.
     pub(crate) fn push(&mut self, step: &Step<Name, Gtrid>) -> Result<(), AllocError>
+        requires { HasSmallThread step.now }
         ensures pushed { OnOk result (self.new ≡ self.old ++ step.now ∷ []) }
         ensures same { OnErr result (self.new ≡ self.old) }
     {
@@ -211,7 +315,7 @@ impl Steps {
         let key = place_of(self.keys.len())?;
         self.names.extend_from_slice(name_in(step))?;
         add_key(&mut self.keys, step)?;
-        let kept = place_names(step, at, key);
+        let kept = kept_from(step, at, key);
         self.kept.push(kept)?;
         Ok(())
     }

@@ -1,4 +1,4 @@
-use Rattle.std.proofs.Common.{◌≡◌, ◌≤◌, ◌+◌, ◌-◌, true, length, take}
+use Rattle.std.proofs.Common.{◌≡◌, ◌≤◌, ◌+◌, ◌-◌, true, take}
 use Rattle.std.specs.List.{list_all}
 use Rattle.xa_grammar.specs.Text.{is_script_byte}
 use Rattle.xa_grammar.proofs.line.all_script_bytes.Given as goal

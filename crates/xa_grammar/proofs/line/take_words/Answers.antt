@@ -18,10 +18,10 @@ set_unknown-requires-clause-script c =
 pub add_key-requires : goal.add_key-requires
 add_key-requires c = declared_kept c.args.script.now _ c.in_ok-declared-in-Key.declared (sym c.declared_of.ensures ∙ c.in_ok-declared-in-Key.was)
 
-pub add_step-requires : goal.add_step-requires
-add_step-requires c =
+pub add_step-requires-clause-script : goal.add_step-requires-clause-script
+add_step-requires-clause-script c =
     step_kept c.args.script.now (step.Turn c.args.number c.in_ok-manager-in-Turn.manager)
     (turn_is c.args.threads_mode c.args.script.now c.args.number _ c.in_ok-manager-in-Turn.manager (sym c.turn_of.ensures ∙ c.in_ok-manager-in-Turn.was))
 
-pub add_step-requires-in-Reopen : goal.add_step-requires-in-Reopen
-add_step-requires-in-Reopen c = step_kept c.args.script.now (step.Reopen c.args.number) tt
+pub add_step-requires-in-Reopen-clause-script : goal.add_step-requires-in-Reopen-clause-script
+add_step-requires-in-Reopen-clause-script c = step_kept c.args.script.now (step.Reopen c.args.number) tt

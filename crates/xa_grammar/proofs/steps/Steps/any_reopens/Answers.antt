@@ -1,12 +1,13 @@
 use Rattle.std.proofs.Common.{ap, ◌∙◌}
 use Rattle.std.specs.List.{list_any}
 use Rattle.xa_grammar.specs.Content.{is_reopen}
+use Rattle.xa_grammar.specs.KeptSteps.{is_kept_reopen}
 use Rattle.xa_grammar.proofs.Names.{any_reopens}
 use Rattle.xa_grammar.proofs.steps.Steps.any_reopens.Goals as goal
 
 pub returns : goal.returns
 returns c =
     c.any_reopens.ensures
-    ∙ ap (list_any is_reopen) c.deref.ensures.value
+    ∙ ap (list_any is_kept_reopen) c.deref.ensures.value
     ∙ any_reopens c.self.inside.names.items c.self.inside.keys.items c.self.inside.kept.items
     ∙ ap (list_any is_reopen) c.self.view_is

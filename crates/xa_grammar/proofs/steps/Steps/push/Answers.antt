@@ -2,19 +2,19 @@ use Rattle.std.proofs.Common.{◌≡◌, ◌++◌, ◌∷◌, [], List, ℕ, len
 use Rattle.std.specs.Prelude.{All, Result, Ok, Err, OnErr}
 use Rattle.std.proofs.lemmas.List.{map-append}
 use Rattle.std.proofs.lemmas.List.Elements.{All-push}
-use Rattle.xa_grammar.specs.Steps.{ScriptStep, step_with}
+use Rattle.xa_grammar.specs.Steps.{ScriptStep}
 use Rattle.xa_grammar.specs.Spelling.{Spells, IsShort}
-use Rattle.xa_grammar.specs.KeptSteps.{KeptStep, IsNamed, step_at, steps_of, keys_in, place_from, gtrid_place_from, key_place_from}
+use Rattle.xa_grammar.specs.KeptSteps.{KeptStep, IsNamed, step_at, steps_of, keys_in, kept_from}
 use Rattle.xa_grammar.proofs.Names.{step_put, steps_grown, names_grown}
 use Rattle.xa_grammar.proofs.steps.Steps.push.Goals as goal
 
 -- the step that is kept last has its name among the bytes and its key among the keys, which go on from those of before
 put : (p : ScriptStep) (kept : List KeptStep) (k : KeptStep) (old new w : List ℕ) (at : ℕ) (ks ks' : List (List ℕ)) (key : ℕ)
-    → IsShort p → Spells w p → at ≡ length old → key ≡ length ks → k ≡ step_with (place_from at) (gtrid_place_from at) (key_place_from key) p
+    → IsShort p → Spells w p → at ≡ length old → key ≡ length ks → k ≡ kept_from at key p
     → new ≡ old ++ w → ks' ≡ ks ++ keys_in p → All (IsNamed old ks) kept
     → (steps_of new ks' (kept ++ k ∷ []) ≡ steps_of old ks kept ++ p ∷ []) × All (IsNamed new ks') (kept ++ k ∷ [])
 put p kept k old new w at ks ks' key short spells here place placed added keys named =
-    let is : k ≡ step_with (place_from (length old)) (gtrid_place_from (length old)) (key_place_from (length ks)) p = placed ∙ rw here (rw place) in
+    let is : k ≡ kept_from (length old) (length ks) p = placed ∙ rw here (rw place) in
     let (same, last) = subst (λ (l : List ℕ). (step_at l ks' k ≡ p) × IsNamed l ks' k) (sym added) (rw (is, keys) (step_put old w ks p short spells)) in
     let grown = steps_grown old w ks (keys_in p) kept named in
     let (before, still) = rw (← added, ← keys) at grown in
@@ -31,8 +31,8 @@ invariant_of-self-2 c =
     let keys = c.self.inside.keys.items in
     let here : c.in_ok-at.at ≡ length names = search rules in
     let place : c.in_ok-key.key ≡ length keys = search rules in
-    let is = put c.args.step.now c.self.inside.kept.items c.place_names-kept.result names _ c.name_in.result.now c.in_ok-at.at keys _ c.in_ok-key.key
-    c.name_in.ensures.short c.name_in.ensures.spells here place c.place_names-kept.ensures c.in_ok-extend_from_slice.ensures.items
+    let is = put c.args.step.now c.self.inside.kept.items c.kept_from-kept.result names _ c.name_in.result.now c.in_ok-at.at keys _ c.in_ok-key.key
+    c.name_in.ensures.short c.name_in.ensures.spells here place c.kept_from-kept.ensures c.in_ok-extend_from_slice.ensures.items
     c.in_ok-add_key.ensures.added c.self.invariant in
     rw c.in_ok-push.ensures.items is.1
 
@@ -42,8 +42,8 @@ returns-clause-pushed c =
     let keys = c.self.inside.keys.items in
     let here : c.in_ok-at.at ≡ length names = search rules in
     let place : c.in_ok-key.key ≡ length keys = search rules in
-    let is = put c.args.step.now c.self.inside.kept.items c.place_names-kept.result names _ c.name_in.result.now c.in_ok-at.at keys _ c.in_ok-key.key
-    c.name_in.ensures.short c.name_in.ensures.spells here place c.place_names-kept.ensures c.in_ok-extend_from_slice.ensures.items
+    let is = put c.args.step.now c.self.inside.kept.items c.kept_from-kept.result names _ c.name_in.result.now c.in_ok-at.at keys _ c.in_ok-key.key
+    c.name_in.ensures.short c.name_in.ensures.spells here place c.kept_from-kept.ensures c.in_ok-extend_from_slice.ensures.items
     c.in_ok-add_key.ensures.added c.self.invariant in
     ap (steps_of _ _) c.in_ok-push.ensures.items ∙ is.0 ∙ ap (λ l. l ++ c.args.step.now ∷ []) c.self.view_is
 
