@@ -1,10 +1,9 @@
 -- A line that the grammar reads leaves a script: each manager can be opened with its keys, each step is of a thread or a manager that there is, and no task asks for more than 64 xids.
-use Rattle.std.specs.Prelude.{◌≡◌, ℕ, pos, zero, suc, ◌-◌, ◌<◌, ◌≤◌, Bool, true, false, not, cond, ◌&&◌, ◌||◌, ◌==◌, nat_le, nat_lt, if◌then◌else◌, List, []}
-use Rattle.std.specs.Prelude.{◌∷◌, ◌++◌, length, map, filter, Option, None, Some, unwrap_or, get_or, slice_set, IfSome, All, Result, Ok, Err, codes, refl}
+use Rattle.std.specs.Prelude.{◌≡◌, ℕ, zero, suc, ◌-◌, ◌<◌, ◌≤◌, Bool, true, false, not, cond, ◌&&◌, ◌||◌, ◌==◌, nat_le, nat_lt, if◌then◌else◌, List, []}
+use Rattle.std.specs.Prelude.{◌∷◌, ◌++◌, length, map, filter, Option, None, Some, unwrap_or, get_or, slice_set, IfSome, All, Result, Ok, Err, refl}
 use Rattle.std.proofs.Common.{sym, ap, ◌∙◌, subst, arith}
 use Rattle.std.specs.List.{list_all, list_any, slice_index_or}
 use Rattle.std.specs.Option.{ok_or}
-use Rattle.std.specs.Str.{bytes_eq}
 use Rattle.std.specs.Cmp.Derive.{both_true}
 use Rattle.std.proofs.Math.Bool.{or-false}
 use Rattle.std.proofs.lemmas.Bool.{le-leb, leb-true, eqb-true, and_parts}
@@ -19,29 +18,21 @@ use Rattle.xa_grammar.specs.declared.fault.Reason.{Reason}
 use Rattle.xa_grammar.specs.declared.fault.Reason.TheVariants.{KeyTwice, TooManyKeys, OutOfRange, BadNumber, UnknownWord, TooManyLines, LineTooLong, BadByte}
 use Rattle.xa_grammar.specs.declared.script.Declared.{Declared}
 use Rattle.xa_grammar.specs.declared.script.UnknownAppend.{UnknownAppend}
-use Rattle.xa_grammar.specs.declared.step.Calling.TheVariants as calling
-use Rattle.xa_grammar.specs.declared.step.Action.TheVariants as action
 use Rattle.xa_grammar.specs.declared.step.Step.TheVariants as step
 use Rattle.xa_grammar.specs.declared.script.Count.{Count}
 use Rattle.xa_grammar.specs.declared.script.Count.TheVariants.{Threads, Managers}
-use Rattle.xa_grammar.specs.declared.action.Verb.{Verb}
-use Rattle.xa_grammar.specs.declared.action.Verb.TheVariants as verb
-use Rattle.xa_grammar.specs.declared.line.Head.{Head}
-use Rattle.xa_grammar.specs.declared.line.Head.TheVariants as head
 use Rattle.xa_grammar.specs.Items.{Item}
-use Rattle.xa_grammar.specs.Items as item
 use Rattle.xa_grammar.specs.Text.{is_script_byte, words_of}
-use Rattle.xa_grammar.specs.Fields.{◌>>=◌, Word, word_at, end_of, number_of, number_in, number_at, key_at, xid_at, delta_at, flags_onto}
+use Rattle.xa_grammar.specs.Fields.{◌>>=◌, Word, word_at, end_of, number_of, number_in, number_at, key_at}
 use Rattle.xa_base.specs.Lists.{IsUpTo}
-use Rattle.xa_grammar.specs.Steps.{ScriptCalling, ScriptCalled, ScriptAction, ScriptTask, ScriptStep}
-use Rattle.xa_grammar.specs.Content.{Content, IsScript, IsOfManager, IsOfLog, IsOfUnknown, IsOfScript, AsksForFew, HasFewXids, threads_of, managers_of}
+use Rattle.xa_grammar.specs.Steps.{ScriptStep}
+use Rattle.xa_grammar.specs.Content.{Content, IsScript, IsOfManager, IsOfLog, IsOfUnknown, IsOfScript, threads_of, managers_of}
 use Rattle.xa_grammar.specs.Content.{accounts_of}
-use Rattle.xa_grammar.specs.Content.{failing_append, unknown_append, with_count, with_key, with_sync, with_failing, with_unknown, with_step}
-use Rattle.xa_grammar.specs.Settings.{before_actions, count_of, not_set, limit_of, setting_of, sync_of, logfail_of, is_kept, logunknown_of, has_key, key_count}
+use Rattle.xa_grammar.specs.Content.{failing_append, unknown_append, with_count, with_key, with_failing, with_unknown, with_step}
+use Rattle.xa_grammar.specs.Settings.{before_actions, count_of, not_set, limit_of, setting_of, logfail_of, is_kept, logunknown_of, has_key, key_count}
 use Rattle.xa_grammar.specs.Settings.{declared_of}
-use Rattle.xa_grammar.specs.Commits.{commit_of}
-use Rattle.xa_grammar.specs.Actions.{verb_of, calling_at, call_of, action_of, task_on, turn_of, reopen_of}
-use Rattle.xa_grammar.specs.Grammar.{head_of, item_by, item_of, line_of, with_item}
+use Rattle.xa_grammar.specs.Actions.{turn_of}
+use Rattle.xa_grammar.specs.Grammar.{item_of, line_of}
 
 -- ---- reading without a fault
 

@@ -1,6 +1,6 @@
 -- Steps as a script keeps them: the bytes of their names stand one after the other, and so do the keys of additions.
-use Rattle.std.specs.Prelude.{◌≡◌, ◌==◌, ℕ, ◌+◌, ◌≤◌, ◌<◌, pos, Bool, true, false, List, [], ◌∷◌, length, map, take}
-use Rattle.std.specs.Prelude.{drop, get_or, Some}
+use Rattle.std.specs.Prelude.{◌==◌, ℕ, ◌+◌, ◌≤◌, ◌<◌, pos, Bool, true, false, List, [], ◌∷◌, length, map, take}
+use Rattle.std.specs.Prelude.{drop, get_or}
 use Rattle.xa_base.specs.Lists.{IsUpTo}
 use Rattle.xa_words.specs.Xid.{XidName}
 use Rattle.xa_words.specs.Tran.{TranName}

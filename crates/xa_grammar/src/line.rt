@@ -110,7 +110,10 @@ fn take_words(
         }
         Head::Turn => {
             let manager = turn_of(script, threads_mode, words)?;
-            Ok(script.add_step(&Step::Turn { line: number, manager })?)
+            Ok(script.add_step(&Step::Turn {
+                line: number,
+                manager,
+            })?)
         }
         Head::Reopen => {
             reopen_of(threads_mode, words)?;

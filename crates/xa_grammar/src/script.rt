@@ -322,7 +322,11 @@ impl Script {
         requires few { HasFewXids action }
         ensures { OnOk result (self.new ≡ with_step (task_step line thread action.entry) self.old) }
     {
-        self.add_step(&Step::Task(Task { line, thread, action }))
+        self.add_step(&Step::Task(Task {
+            line,
+            thread,
+            action,
+        }))
     }
 
     pub(crate) fn add_step(&mut self, step: &Step<Name, Gtrid>) -> Result<(), AllocError>

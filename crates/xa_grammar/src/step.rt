@@ -91,7 +91,11 @@ pub enum Step<X, G, K = Key> {
 impl<X, K> Calling<X, K> {
     // With its branch and its key named otherwise.
     #[inline(always)]
-    pub(crate) fn map<Y, J, N: FnOnce(&X) -> Y, L: FnOnce(&K) -> J>(&self, name: N, key: L) -> Calling<Y, J>
+    pub(crate) fn map<Y, J, N: FnOnce(&X) -> Y, L: FnOnce(&K) -> J>(
+        &self,
+        name: N,
+        key: L,
+    ) -> Calling<Y, J>
         requires { CallHas (FnOnceTakesAt N.FnOnce name) (FnOnceTakesAt L.FnOnce key) self.now }
         ensures { (f : X → Y) (k : K → J) → Computes (FnOnceReturnsAt N.FnOnce name) f
             → Computes (FnOnceReturnsAt L.FnOnce key) k → result ≡ call_with f k self.now }

@@ -50,9 +50,17 @@ pub(crate) enum Kept<X, K> {
         managers: ManagerSet,
         death: Option<Death>,
     },
-    Resolve { thread: u8, line: u32 },
-    Turn { line: u32, manager: u32 },
-    Reopen { line: u32 },
+    Resolve {
+        thread: u8,
+        line: u32,
+    },
+    Turn {
+        line: u32,
+        manager: u32,
+    },
+    Reopen {
+        line: u32,
+    },
 }
 
 // A step as it is kept.
@@ -150,10 +158,7 @@ fn step_at<'a>(names: &'a [u8], keys: &[Key], kept: &KeptStep) -> Step<Name<'a>,
             action: Action::Call(Called {
                 manager: *manager,
                 flags: *flags,
-                call: call.map(
-                    |place| name_at(names, *place),
-                    |place| key_at(keys, *place),
-                ),
+                call: call.map(|place| name_at(names, *place), |place| key_at(keys, *place)),
             }),
         }),
         Kept::CommitAll {
