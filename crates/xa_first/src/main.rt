@@ -1,9 +1,6 @@
 //! The least client of the switch. Two threads of control each make ten transfers from resource manager 1 to resource
-//! manager 2, each transfer in a global transaction of its own: one moves 3 of account a each time, the other 30 of
-//! account b. As manager 1 has 100 of b, it votes against all but the first three of these, and both managers roll them
-//! back.
-//!
-//! `"$(./build xa_first)"`, at the root of the repository, proves, builds and runs it:
+//! manager 2, each in a global transaction of its own: one moves 3 of account a each time, the other 30 of account b.
+//! As manager 1 has 100 of b, it votes against all but the first three of these, and both managers roll them back:
 //!
 //!     a: 10 transfers committed
 //!     b: 3 transfers committed
@@ -29,12 +26,10 @@ use xa_worker::Free;
 #[derive(Drop)]
 struct Payer {
     alloc: Global,
-    // The name of its account, which no other thread uses.
     account: u8,
     amount: u32,
     // Has a decision to commit before a manager hears of it. One on a disk (xa_file_log) outlives the program.
     log: MemoryLog,
-    // Which of its transfers were committed.
     committed: [bool; 10],
 }
 
