@@ -13,7 +13,7 @@ use Rattle.xa_desk.specs.LedgerView.{LedgerView}
 use Rattle.xa_desk.specs.DeskView.{ledger}
 use Rattle.xa_work.specs.declared.unit.Change.{Change}
 use Rattle.xa_work.specs.Works.{HasWorked, HaveWorked, changes_at, ops_of}
-use Rattle.xa_bank.specs.declared.teller.Leg.{Leg}
+use Rattle.xa_bank.specs.Transfers.{Leg}
 use Rattle.xa_bank.specs.Transfers.{branches_of, change_of, changes_of}
 
 -- a leg, for laws of other crates

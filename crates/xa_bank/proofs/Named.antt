@@ -24,7 +24,7 @@ use Rattle.xa_work.proofs.Comes.{comes_named}
 use Rattle.xa_work.proofs.Named.{worked_for}
 use Rattle.xa_work.proofs.Sent.{call_sent, have_as, have_none, have_on}
 use Rattle.xa_bank.specs.declared.habits.Habits.{Habits}
-use Rattle.xa_bank.specs.declared.teller.Leg.{Leg}
+use Rattle.xa_bank.specs.Transfers.{Leg}
 use Rattle.xa_bank.specs.declared.teller.Transfer.{Transfer}
 use Rattle.xa_bank.specs.Numbered.{death_in, shut_before}
 use Rattle.xa_bank.specs.Transfers.{AreLegs, Makes, MakesEach, MakesNext, MayShut, branches_of, changes_of, gtrid_of, paid_first, pays_first, tran_named}

@@ -47,7 +47,7 @@ use Rattle.xa_work.specs.Works.{HaveWorked}
 use Rattle.xa_work.proofs.Named.{worked_for}
 use Rattle.xa_work.proofs.Sent.{have_as, have_on}
 use Rattle.xa_work.proofs.Voted.{untold_sent, voted_sent}
-use Rattle.xa_bank.specs.declared.teller.Leg.{Leg}
+use Rattle.xa_bank.specs.Transfers.{Leg}
 use Rattle.xa_bank.specs.declared.teller.Transfer.{Transfer}
 use Rattle.xa_bank.specs.declared.habits.Habits.{Habits}
 use Rattle.xa_bank.specs.Numbered.{death_in, shut_before}

@@ -6,11 +6,6 @@ pub ok_both : {A E : Type 0} (P : A → Type 0) (Q : Type 0) (r : Result A E) �
 ok_both P Q (Ok a) h q = (h, q)
 ok_both P Q (Err e) h q = h
 
--- two facts of the value
-pub ok_each : {A E : Type 0} (P Q S : A → Type 0) (r : Result A E) → ((a : A) → P a → Q a → S a) → IfOk r P → IfOk r Q → IfOk r S
-ok_each P Q S (Ok a) so h k = so a h k
-ok_each P Q S (Err e) so h k = h
-
 pub err_same : {A E : Type 0} (P : Type 0) (r : Result A E) → P → OnErr r P
 err_same P (Ok a) h = tt
 err_same P (Err e) h = h

@@ -21,7 +21,6 @@ use Rattle.xa_work.specs.Sent.{HaveSent, IsOpenRm}
 use Rattle.xa_work.specs.Units.{IfLost, IsGivenUp, Transacts}
 use Rattle.xa_bank.specs.Numbered.{death_in, shut_before}
 use Rattle.xa_bank.specs.declared.habits.Habits.{Habits}
-use Rattle.xa_bank.specs.declared.teller.Leg.{Leg}
 use Rattle.xa_bank.specs.declared.teller.Transfer.{Transfer}
 
 -- ---- the legs of a transfer
@@ -37,6 +36,11 @@ FORMAT = pos 1
 -- the name of that transaction
 abbrev pub tran_named : ℕ → ℕ → TranName
 tran_named t n = record { format = FORMAT; gtrid = gtrid_of t n }
+
+-- a store's branch of a transfer, and what is added to its account there
+pub record Leg : Type 0 where
+  pub branch : Branch
+  pub delta : ℤ
 
 -- the leg adds d at store m, by a branch of this global transaction
 pub record IsLeg (gtrid : List ℕ) (m : ℕ) (d : ℤ) (leg : Leg) : Type 0 where
@@ -66,6 +70,16 @@ branches_of one two = one.branch ∷ two.branch ∷ []
 
 abbrev pub changes_of : Leg → Leg → List ℕ → List Change
 changes_of one two k = change_of one k ∷ change_of two k ∷ []
+
+-- the leg of a branch at whose store this is changed
+abbrev pub leg_by : Branch → Change → Leg
+leg_by b c = record { branch = b; delta = c.delta }
+
+-- these are the branches of thread t's transfer of number n, by rising store, and this is changed at the store of each
+pub record HasLegs (t n : ℕ) (tr : Transfer) (b : Branch) (c : Change) (b' : Branch) (c' : Change) : Type 0 where
+  pub legs : AreLegs t n tr (leg_by b c) (leg_by b' c')
+  pub first : c ≡ change_of (leg_by b c) tr.account
+  pub second : c' ≡ change_of (leg_by b' c') tr.account
 
 -- ---- what becomes of a transfer
 

@@ -1,16 +1,16 @@
 //! What a teller does: transfers, one after the other, each as one unit of work.
 ghost use Rattle.std.specs.Prelude.{◌≡◌, ◌+◌, ℤ, ◌≤ℤ◌, neg_ℤ, pos, [], length, false, IfOk, MatchOption, None, OnErr};
-ghost use Rattle.std.specs.Prelude.{◌<◌, OnOk, Some};
+ghost use Rattle.std.specs.Prelude.{◌<◌, ◌^◌, OnOk};
 ghost use Rattle.xa_desk.specs.GoesOn.{GoesOn};
 ghost use Rattle.xa_desk.specs.Kept.{AllKept};
 ghost use Rattle.xa_log.specs.Log.{IsReadAs};
-ghost use Rattle.xa_work.specs.Units.{IfLost, IsGivenUp, LeavesKnown};
+ghost use Rattle.xa_work.specs.Units.{IfLost, LeavesKnown};
 ghost use Rattle.xa_bank.specs.Tellers.{HasMade, ReadsBack, has_record_of, has_undecided, last_number, plain};
-ghost use Rattle.xa_bank.specs.Transfers.{AreLegs, HasNoLegs, IsLeg, Transfers, WantsMemory, branches_of};
-ghost use Rattle.xa_bank.specs.Transfers.{IsReadEither, MakesNext, MayShut, change_of, changes_of, forgotten, gtrid_of};
-ghost use Rattle.xa_bank.specs.Transfers.{tran_named};
+ghost use Rattle.xa_bank.specs.Numbered.{store_if_at};
+ghost use Rattle.xa_bank.specs.Transfers.{HasLegs, HasNoLegs, IsLeg, MakesNext, MayShut, WantsMemory};
+ghost use Rattle.xa_bank.specs.Transfers.{change_of, forgotten, gtrid_of, leg_by, tran_named};
 
-use crate::habits::{DiesAt, Habits};
+use crate::habits::Habits;
 use std::alloc::{AllocError, Global};
 use std::sync::Wait;
 use xa_calls::native;
@@ -19,9 +19,9 @@ use xa_crew::{Client, ClientAgain};
 use xa_desk::laws::desks_go_on;
 use xa_desk::{Desk, Idle};
 use xa_driver::{Branch, forget_acknowledged};
-use xa_log::{DecisionLog, MemoryLog, ReopenLog};
+use xa_log::{DecisionLog, DecisionRecords, ReopenLog};
 use xa_scan::Scan;
-use xa_words::{Death, Delta, Key, RmOp, TMNOFLAGS, Tran, Xid};
+use xa_words::{Delta, Key, ManagerSet, RmOp, TMNOFLAGS, Tran, Xid};
 use xa_work::{Change, Refusal, WorkOutcome, open_all, transact_until};
 
 /// An amount that goes from an account at one store to the account of that name at another.
@@ -41,7 +41,8 @@ pub struct Teller<L> {
     alloc: Global,
     log: L,
     transfers: Vec<Transfer>,
-    habits: Habits,
+    /// How it goes about them.
+    pub habits: Habits,
     /// One for each transfer that was made, in their order: what became of its unit of work. One whose stores are one,
     /// or whose number is too great, isn't begun. None was made after one with which the teller died, or that its log
     /// has lost, and none at all where the log wasn't known at first.
@@ -52,26 +53,6 @@ pub struct Teller<L> {
 
 // The format of a transfer's name.
 const FORMAT: i32 = 1;
-
-// A store's branch of the transfer, and what is added to its account there.
-#[derive(Clone, Copy)]
-pub(crate) struct Leg {
-    pub(crate) branch: Branch,
-    pub(crate) delta: Delta,
-}
-
-impl Leg {
-    // What it changes: the account at its store.
-    fn change(&self, account: Key) -> Change
-        ensures { result ≡ change_of self.now account }
-    {
-        Change {
-            m: self.branch.m,
-            key: account,
-            delta: self.delta,
-        }
-    }
-}
 
 // The gtrid of the thread's transfer of this number.
 fn gtrid_of(thread: u32, number: u32) -> [u8; 8]
@@ -90,37 +71,34 @@ fn tran_named(thread: u32, number: u32) -> Tran
     tran
 }
 
-// The store's leg of this global transaction.
-fn leg_of(gtrid: &[u8], bqual: &[u8], m: u32, amount: i64) -> Leg
+// A store's branch of a transfer, and what is changed there.
+type Leg = (Branch, Change);
+
+// The store's leg of this global transaction, which adds the amount to the account.
+fn leg_of(gtrid: &[u8], bqual: &[u8], m: u32, key: Key, amount: i64) -> Leg
     requires gtrid { length gtrid.now ≡ 8 }
     requires bqual { length bqual.now ≡ 4 }
     requires low { neg_ℤ (pos u32.MAX) ≤ℤ amount }
     requires high { amount ≤ℤ pos u32.MAX }
-    ensures { IsLeg gtrid.now m amount result }
+    ensures leg { IsLeg gtrid.now m amount (leg_by result.0 result.1) }
+    ensures change { result.1 ≡ change_of (leg_by result.0 result.1) key }
 {
     let (Ok(xid), Some(delta)) = (Xid::new(FORMAT, gtrid, bqual), Delta::new(amount)) else {
         unreachable!()
     };
-    let branch = Branch { m, xid };
-    Leg { branch, delta }
+    (Branch { m, xid }, Change { m, key, delta })
 }
 
 // The two legs of the thread's transfer of this number, by rising store. There are none where the stores are one, or
 // the number is too great.
 fn legs_of(thread: u32, number: usize, transfer: &Transfer) -> Option<(Leg, Leg)>
     ensures { MatchOption result (HasNoLegs number transfer.now)
-        (λ legs. AreLegs thread number transfer.now legs.0 legs.1) }
+        (λ legs. HasLegs thread number transfer.now legs.0.0 legs.0.1 legs.1.0 legs.1.1) }
 {
-    let number = u32::try_from(number).ok()?;
-    let gtrid = gtrid_of(thread, number);
-    let Transfer {
-        from,
-        to,
-        amount,
-        ..
-    } = *transfer;
-    let pays = leg_of(&gtrid, b"pays", from, -i64::from(amount));
-    let is_paid = leg_of(&gtrid, b"paid", to, i64::from(amount));
+    let gtrid = gtrid_of(thread, u32::try_from(number).ok()?);
+    let (from, to, amount) = (transfer.from, transfer.to, i64::from(transfer.amount));
+    let pays = leg_of(&gtrid, b"pays", from, transfer.account, -amount);
+    let is_paid = leg_of(&gtrid, b"paid", to, transfer.account, amount);
     if from < to {
         Some((pays, is_paid))
     } else if to < from {
@@ -128,37 +106,6 @@ fn legs_of(thread: u32, number: usize, transfer: &Transfer) -> Option<(Leg, Leg)
     } else {
         None
     }
-}
-
-// Makes a transfer of these legs, as one unit of work; or dies at this point of its commit. It fails only for want of
-// memory, and then both branches are given up.
-fn carry_out<R: Wait, L: DecisionLog, I: Idle>(
-    rt: &R,
-    alloc: Global,
-    desk: &mut Desk,
-    log: &mut L,
-    one: &Leg,
-    two: &Leg,
-    account: Key,
-    death: Option<Death>,
-    idle: &mut I,
-) -> Result<WorkOutcome, AllocError>
-    requires { L.knows log.old }
-    ensures goes_on { GoesOn desk.old desk.new }
-    ensures kept { AllKept desk.old → AllKept desk.new }
-    ensures idled { I.leads idle.old idle.new }
-    ensures carried { IfOk result (λ o. Transfers one.now two.now account death o desk.old desk.new (L.state log.old)
-        (L.state log.new)) }
-    ensures known { IfOk result (LeavesKnown (L.knows log.new)) }
-    ensures read { IfOk result (IsReadEither (IsReadAs L.state L.knows L.loses log.new) (branches_of one.now two.now)
-        (L.state log.old)) }
-    ensures wants { OnErr result (IsGivenUp (branches_of one.now two.now) (changes_of one.now two.now account) desk.old
-        desk.new (L.state log.old)) }
-    ensures unlogged { OnErr result (log.new ≡ log.old) }
-{
-    let branches = [one.branch, two.branch];
-    let changes = [one.change(account), two.change(account)];
-    transact_until(rt, alloc, desk, log, &branches, &changes, death, idle)
 }
 
 // Forgets the record of a transfer that came to this, where every store has acknowledged it.
@@ -173,113 +120,104 @@ fn forget_made<L: DecisionLog>(log: &mut L, tran: &Tran, outcome: &WorkOutcome)
     }
 }
 
-// Shuts this store, if any.
-fn shut<R: Wait, I: Idle>(rt: &R, desk: &mut Desk, store: Option<u32>, idle: &mut I)
+// Shuts the store that these habits have a teller shut before its transfer at this place, if any.
+fn shut<R: Wait, I: Idle>(rt: &R, desk: &mut Desk, habits: &Habits, place: usize, idle: &mut I)
     ensures goes_on { GoesOn desk.old desk.new }
     ensures kept { AllKept desk.old → AllKept desk.new }
     ensures idled { I.leads idle.old idle.new }
-    ensures shuts { MayShut store desk.old desk.new }
+    ensures shuts { MayShut (store_if_at habits.now.shuts place) desk.old desk.new }
 {
     desks_go_on();
     idles_go_on::<I>();
-    if let Some(m) = store {
-        native(rt, desk, RmOp::Shut, m, TMNOFLAGS, idle);
-    }
-}
-
-// Shuts the store that the teller's habits have it shut before its transfer of this number, if any. Then it makes the
-// transfer, or dies with it, as they have it. It fails only for want of memory.
-fn make<R: Wait, L: DecisionLog, I: Idle>(
-    rt: &R,
-    alloc: Global,
-    desk: &mut Desk,
-    log: &mut L,
-    number: usize,
-    transfer: &Transfer,
-    habits: &Habits,
-    idle: &mut I,
-) -> Result<WorkOutcome, AllocError>
-    requires { L.knows log.old }
-    ensures goes_on { GoesOn desk.old desk.new }
-    ensures kept { AllKept desk.old → AllKept desk.new }
-    ensures idled { I.leads idle.old idle.new }
-    ensures makes { IfOk result (λ o. MakesNext desk.old.thread number transfer.now habits.now o desk.old desk.new
-        (L.state log.old) (L.state log.new) (IsReadAs L.state L.knows L.loses log.new)) }
-    ensures known { IfOk result (LeavesKnown (L.knows log.new)) }
-    ensures wants { OnErr result (WantsMemory desk.old.thread number transfer.now habits.now desk.old desk.new
-        (L.state log.old)) }
-    ensures unlogged { OnErr result (log.new ≡ log.old) }
-{
-    desks_go_on();
-    idles_go_on::<I>();
-    shut(rt, desk, habits.shut_before(number), idle);
-    let Some((one, two)) = legs_of(desk.thread(), number, transfer) else {
-        return Ok(WorkOutcome::Refused(Refusal::NotBegun));
-    };
-    let account = transfer.account;
-    let death = habits.death_in(number);
-    let outcome = carry_out(rt, alloc, desk, log, &one, &two, account, death, idle)?;
-    if !habits.forgets {
-        return Ok(outcome);
-    }
-    forget_made(log, &one.branch.xid.tran(), &outcome);
-    Ok(outcome)
-}
-
-// Makes the transfers, until memory is refused, the teller dies or its log has lost a record. It makes none where the
-// log isn't known.
-fn make_all<R: Wait, L: DecisionLog, I: Idle>(
-    rt: &R,
-    alloc: Global,
-    desk: &mut Desk,
-    log: &mut L,
-    transfers: &[Transfer],
-    habits: &Habits,
-    outcomes: &mut Vec<WorkOutcome>,
-    idle: &mut I,
-) -> Result<(), AllocError>
-    ensures goes_on { GoesOn desk.old desk.new }
-    ensures kept { AllKept desk.old → AllKept desk.new }
-    ensures idled { I.leads idle.old idle.new }
-    ensures each { OnOk result (habits.now.death ≡ None → L.knows log.old → L.knows log.new
-        → length outcomes.new.items ≡ length outcomes.old.items + length transfers.now) }
-    ensures made { OnOk result (HasMade transfers.now habits.now outcomes.old.items desk.old (L.state log.old)
-        (L.knows log.old) outcomes.new.items desk.new (L.state log.new) (L.knows log.new)
-        (IsReadAs L.state L.knows L.loses log.new)) }
-{
-    desks_go_on();
-    idles_go_on::<I>();
-    if !log.is_known() {
-        return Ok(());
-    }
-    open_all(rt, desk, idle);
-    for (place, transfer) in transfers.iter().enumerate() {
-        let number = habits.first as usize + place;
-        let outcome = make(rt, alloc, desk, log, number, transfer, habits, idle)?;
-        let last = outcome.is_last();
-        outcomes.push(outcome)?;
-        if last {
-            return Ok(());
-        }
-    }
-    Ok(())
-}
-
-impl Teller<MemoryLog> {
-    /// A teller with a log in memory that has made none of its transfers, with room for what becomes of them.
-    pub fn new(alloc: Global, transfers: Vec<Transfer>) -> Result<Teller<MemoryLog>, AllocError>
-        ensures none { IfOk result (λ t. t.outcomes.items ≡ []) }
-        ensures transfers { IfOk result (λ t. t.transfers.items ≡ transfers.items) }
-        ensures habits { IfOk result (λ t. t.habits ≡ plain) }
+    if let Some(shuts) = habits.shuts
+        && shuts.place == place
     {
-        Teller::over(alloc, MemoryLog::new(alloc), transfers)
+        native(rt, desk, RmOp::Shut, shuts.store, TMNOFLAGS, idle);
     }
 }
 
 impl<L: DecisionLog + Drop> Teller<L> {
-    /// A teller with this log that has made none of its transfers, with room for what becomes of them. It makes none
-    /// where the log isn't known.
-    pub fn over(alloc: Global, log: L, transfers: Vec<Transfer>) -> Result<Teller<L>, AllocError>
+    // Shuts the store that its habits have it shut before the transfer at this place, if any. Then it makes the
+    // transfer, or dies with it, as they have it. It fails only for want of memory, and then both branches are given
+    // up.
+    fn make<R: Wait, I: Idle>(
+        &mut self,
+        rt: &R,
+        desk: &mut Desk,
+        place: usize,
+        transfer: &Transfer,
+        idle: &mut I,
+    ) -> Result<WorkOutcome, AllocError>
+        requires place { place < 2 ^ 63 }
+        requires known { L.knows self.old.log }
+        ensures goes_on { GoesOn desk.old desk.new }
+        ensures kept { AllKept desk.old → AllKept desk.new }
+        ensures idled { I.leads idle.old idle.new }
+        ensures same { self.new ≡ record self.old { log = self.new.log } }
+        ensures makes { IfOk result (λ o. MakesNext desk.old.thread (self.old.habits.first + place) transfer.now
+            self.old.habits o desk.old desk.new (L.state self.old.log) (L.state self.new.log)
+            (IsReadAs L.state L.knows L.loses self.new.log)) }
+        ensures known { IfOk result (LeavesKnown (L.knows self.new.log)) }
+        ensures wants { OnErr result (WantsMemory desk.old.thread (self.old.habits.first + place) transfer.now
+            self.old.habits desk.old desk.new (L.state self.old.log)) }
+        ensures unlogged { OnErr result (self.new.log ≡ self.old.log) }
+    {
+        desks_go_on();
+        idles_go_on::<I>();
+        shut(rt, desk, &self.habits, place, idle);
+        let number = self.habits.first as usize + place;
+        let Some(legs) = legs_of(desk.thread(), number, transfer) else {
+            return Ok(WorkOutcome::Refused(Refusal::NotBegun));
+        };
+        let ((one, here), (two, there)) = legs;
+        let (alloc, at, log) = (self.alloc, self.habits.death_at(place), &mut self.log);
+        let outcome = transact_until(rt, alloc, desk, log, &[one, two], &[here, there], at, idle)?;
+        if self.habits.forgets {
+            forget_made(&mut self.log, &one.xid.tran(), &outcome);
+        }
+        Ok(outcome)
+    }
+
+    // Makes its transfers, until memory is refused, it dies or its log has lost a record. It makes none where the log
+    // isn't known.
+    fn make_all<R: Wait, I: Idle>(
+        &mut self,
+        rt: &R,
+        desk: &mut Desk,
+        idle: &mut I,
+    ) -> Result<(), AllocError>
+        ensures goes_on { GoesOn desk.old desk.new }
+        ensures kept { AllKept desk.old → AllKept desk.new }
+        ensures idled { I.leads idle.old idle.new }
+        ensures transfers { self.new.transfers ≡ self.old.transfers }
+        ensures habits { self.new.habits ≡ self.old.habits }
+        ensures each { OnOk result (self.old.habits.death ≡ None → L.knows self.old.log → L.knows self.new.log
+            → length self.new.outcomes.items ≡ length self.old.outcomes.items + length self.old.transfers.items) }
+        ensures made { OnOk result (HasMade self.old.transfers.items self.old.habits self.old.outcomes.items desk.old
+            (L.state self.old.log) (L.knows self.old.log) self.new.outcomes.items desk.new (L.state self.new.log)
+            (L.knows self.new.log) (IsReadAs L.state L.knows L.loses self.new.log)) }
+    {
+        desks_go_on();
+        idles_go_on::<I>();
+        if !self.log.is_known() {
+            return Ok(());
+        }
+        open_all(rt, desk, idle);
+        for place in 0..self.transfers.len() {
+            let transfer = self.transfers[place];
+            let outcome = self.make(rt, desk, place, &transfer, idle)?;
+            let last = outcome.is_last();
+            self.outcomes.push(outcome)?;
+            if last {
+                return Ok(());
+            }
+        }
+        Ok(())
+    }
+
+    /// A teller with this log that has made none of its transfers, with room for what becomes of them. It counts them
+    /// from 0, lives, shuts no store, and keeps its records; and makes none where the log isn't known.
+    pub fn new(alloc: Global, log: L, transfers: Vec<Transfer>) -> Result<Teller<L>, AllocError>
         ensures log { IfOk result (λ t. t.log ≡ log) }
         ensures none { IfOk result (λ t. t.outcomes.items ≡ []) }
         ensures transfers { IfOk result (λ t. t.transfers.items ≡ transfers.items) }
@@ -290,25 +228,14 @@ impl<L: DecisionLog + Drop> Teller<L> {
             log,
             outcomes: Vec::with_capacity(alloc, transfers.len())?,
             transfers,
-            habits: Habits::plain(),
+            habits: Habits {
+                first: 0,
+                death: None,
+                shuts: None,
+                forgets: false,
+            },
             wants_memory: false,
         })
-    }
-
-    /// The same teller, with these habits.
-    pub fn with_habits(mut self, habits: Habits) -> Teller<L>
-        ensures { result ≡ record self { habits = habits } }
-    {
-        self.habits = habits;
-        self
-    }
-
-    /// The same teller, to die this death.
-    pub fn dying(mut self, death: DiesAt) -> Teller<L>
-        ensures { result ≡ record self { habits = record self.habits { death = Some death } } }
-    {
-        self.habits.death = Some(death);
-        self
     }
 
     /// Sets the teller to other transfers, of which it has made none, with these habits. It keeps its log.
@@ -323,13 +250,6 @@ impl<L: DecisionLog + Drop> Teller<L> {
         self.habits = habits;
         self.outcomes.clear();
         self.wants_memory = false;
-    }
-
-    /// Its decision log, by which what it left is resolved.
-    pub fn log(&self) -> &L
-        ensures { result.now ≡ self.now.log }
-    {
-        &self.log
     }
 
     /// Whether nobody knows of one of its transfers whether the log has its record. No other was made after that.
@@ -359,42 +279,20 @@ impl<L: DecisionLog + Drop> Teller<L> {
     pub fn into_log(self) -> L
         ensures { result ≡ self.log }
     {
-        let Teller {
-            alloc: _,
-            log,
-            transfers: _,
-            habits: _,
-            outcomes: _,
-            wants_memory: _,
-        } = self;
-        log
+        self.log
     }
 }
 
 impl<L: ReopenLog + Drop> Teller<L> {
     /// The same teller, with its log opened again.
-    pub fn with_log_reopened(self) -> Teller<L>
+    pub fn with_log_reopened(mut self) -> Teller<L>
         ensures same { result ≡ record self { log = result.log } }
         ensures reopened { L.reopens self.log result.log }
         ensures kept { L.knows self.log → result.log ≡ self.log }
         ensures read { L.knows result.log → IsReadAs L.state L.knows L.loses self.log (L.state result.log) }
     {
-        let Teller {
-            alloc,
-            log,
-            transfers,
-            habits,
-            outcomes,
-            wants_memory,
-        } = self;
-        Teller {
-            alloc,
-            log: log.reopen(),
-            transfers,
-            habits,
-            outcomes,
-            wants_memory,
-        }
+        self.log = self.log.reopen();
+        self
     }
 
     /// The same teller, with its log opened again where nobody knows of a transfer whether its record was made; and
@@ -407,8 +305,23 @@ impl<L: ReopenLog + Drop> Teller<L> {
             return (self, false);
         }
         let teller = self.with_log_reopened();
-        let found = teller.log().is_known() && teller.has_last_record(thread);
+        let found = teller.is_known() && teller.has_last_record(thread);
         (teller, found)
+    }
+}
+
+/// What its log has recorded, by which what it left is resolved.
+impl<L: DecisionLog + Drop> DecisionRecords for Teller<L> {
+    ghost records = { λ teller. (L.state teller.log).records };
+
+    ghost knows = { λ teller. L.knows teller.log };
+
+    fn has(&self, tran: &Tran) -> Option<ManagerSet> {
+        self.log.has(tran)
+    }
+
+    fn is_known(&self) -> bool {
+        self.log.is_known()
     }
 }
 
@@ -418,17 +331,7 @@ impl<L: DecisionLog + Drop> Client for Teller<L> {
     ghost works = { Works L.state L.knows L.loses };
 
     fn work<R: Wait, I: Idle>(&mut self, rt: &R, desk: &mut Desk, idle: &mut I) {
-        let made = make_all(
-            rt,
-            self.alloc,
-            desk,
-            &mut self.log,
-            &self.transfers,
-            &self.habits,
-            &mut self.outcomes,
-            idle,
-        );
-        self.wants_memory = made.is_err();
+        self.wants_memory = self.make_all(rt, desk, idle).is_err();
     }
 }
 

@@ -1,6 +1,7 @@
 -- What tellers come to over stores that are opened again.
 use Rattle.std.specs.Prelude.{option_map}
-use Rattle.std.proofs.Common.{◌≡◌, ℕ, ◌+◌, ◌%◌, ◌^◌, ◌<◌, ◌≤◌, ⊎_elim, Bool, true, false, ◌||◌, List, [], ◌∷◌, length, map, slice_get, Some, inl, inr, sym}
+use Rattle.std.proofs.Common.{◌≡◌, ℕ, ◌+◌, ◌%◌, ◌^◌, ◌<◌, ◌≤◌, ⊎_elim, Bool, true, false, if◌then◌else◌, ◌||◌, List, [], ◌∷◌, length, map, slice_get, Some, inl}
+use Rattle.std.proofs.Common.{inr, sym}
 use Rattle.std.proofs.Common.{refl, ap}
 use Rattle.std.proofs.Common.{◌∙◌, subst}
 use Rattle.std.proofs.Common.{arith}
@@ -35,7 +36,7 @@ use Rattle.xa_bank_days.specs.Days.{BeginsWith, IsDayOf, WorkedIn}
 use Rattle.xa_bank_days.specs.declared.day.Closed.{Closed}
 use Rattle.xa_bank_days.specs.declared.errands.Errands.{Errands}
 use Rattle.xa_bank_days.specs.declared.day.Worked.{Worked}
-use Rattle.xa_bank_days.specs.Banks.{AreTurned, HasWorked, IsDay, IsWorkedDay, next_numbers}
+use Rattle.xa_bank_days.specs.Banks.{AreTurned, HasWorked, IsDay, IsWorkedDay, day_numbers, next_numbers, night_numbers}
 
 -- lists that are mapped to one list are as long
 pub same_length : {A B C : Type 0} (f : A → C) (g : B → C) (xs : List A) (ys : List B) → map f xs ≡ map g ys → length xs ≡ length ys
@@ -142,7 +143,7 @@ night_opens s again whole limits opening_ = record {
 
 module _ {L : Type 0} (state : L → LogState) (knows : L → Type 0) (loses : TranName → List Bool → L → L → Type 0) (reopens : L → L → Type 0) (b : Bank L)
     (given errands : List Errands) (c : Closed) (turned : List (Teller L)) (day : Worked L) (same : given ≡ errands) (are_turned : AreTurned b.next b.tellers.items errands turned)
-    (many : length given < 2 ^ 32) (works : HasWorked state knows loses reopens b.settled turned day) (told : c.outcomes ≡ day.outcomes) (found : c.found ≡ day.found) where
+    (many : length given < 2 ^ 32) (works : HasWorked state knows loses reopens b.settled turned day) (told : c.outcomes ≡ day.evening.outcomes) (found : c.found ≡ day.evening.found) where
   abbrev pub is_day_of : IsDay state knows loses reopens b errands c
   is_day_of = record {
     turned = turned;
@@ -154,11 +155,13 @@ module _ {L : Type 0} (state : L → LogState) (knows : L → Type 0) (loses : T
     found_ = found;
   }
 
-  abbrev pub worked_day : (b' : Bank L) → (day.wanting ≡ true → b'.settled ≡ day.settled) → b'.tellers ≡ day.tellers → b.next ≤ b'.next
+  abbrev pub worked_day : (b' : Bank L) → (day.wanting ≡ true → b'.settled ≡ day.settled)
+      → b'.again ≡ (if day.wanting then day_numbers b errands else night_numbers b errands) → b'.tellers ≡ day.evening.tellers → b.next ≤ b'.next
       → All (λ e. b.next + length e.transfers.items ≤ b'.next) given → IsWorkedDay state knows loses reopens b errands c b'
-  worked_day b' stays tellers later next = record {
+  worked_day b' stays numbers tellers later next = record {
     is_day = is_day_of;
     stays = stays;
+    numbers = numbers;
     tellers = tellers;
     later = later;
     next = subst (All (λ (e : Errands). b.next + length e.transfers.items ≤ b'.next)) same next;

@@ -15,7 +15,6 @@ pub mod DawnLaw
 pub mod Reached
 pub mod Rooms
 pub mod Nightly
-pub mod AllLogs
 pub mod Turned
 pub mod DayWorked
 pub mod ManyDays

@@ -116,13 +116,13 @@ module _ {L : Type 0} (state : L → LogState) (knows : L → Type 0) (loses : T
 
     -- their logs in the night, which were known
     abbrev logs : List L
-    logs = map (λ (t : Teller L). t.log) z.day.tellers.items
+    logs = map (λ (t : Teller L). t.log) z.day.evening.tellers.items
 
-    back : AreReadBack state knows loses 1 w.worked logs z.day.found.items
-    back = are_read_back state knows loses reopens 1 w.worked logs z.day.found.items w.logs
+    back : AreReadBack state knows loses 1 w.worked logs z.day.evening.found.items
+    back = are_read_back state knows loses reopens 1 w.worked logs z.day.evening.found.items w.logs
 
     known : All knows logs
-    known = All-map knows (λ (t : Teller L). t.log) z.day.tellers.items z.night.known
+    known = All-map knows (λ (t : Teller L). t.log) z.day.evening.tellers.items z.night.known
 
     -- its habits are those of its errands
     turned_at : (k : ℕ) (t : Teller L) → slice_get z.turned k ≡ Some t → (t.habits.first ≡ n) × (t.habits.forgets ≡ false)
@@ -150,9 +150,9 @@ module _ {L : Type 0} (state : L → LogState) (knows : L → Type 0) (loses : T
         same_map (λ (t : Teller L). t.transfers) z.turned w.worked w.is_day.many (λ k old new old_at new_at. (w.is_day.each k old new old_at new_at).worked.transfers)
         ∙ z.are_turned.transfers
 
-    told_so : all_told z.day.found.items w.worked ≡ told_on errands c.outcomes.items c.found.items
+    told_so : all_told z.day.evening.found.items w.worked ≡ told_on errands c.outcomes.items c.found.items
     told_so =
-        told_is z.day.found.items w.worked errands transfers_are
+        told_is z.day.evening.found.items w.worked errands transfers_are
         ∙ (λ i. told_on errands (sym (ap (λ v. v.items) z.told_ ∙ w.told_) i) (sym (ap (λ v. v.items) z.found_) i))
 
     ends_at : All (λ (t : Teller L). t.habits.first + length t.transfers.items ≤ b'.next) z.turned
@@ -170,7 +170,7 @@ module _ {L : Type 0} (state : L → LogState) (knows : L → Type 0) (loses : T
 
       next_dawn : IsDawn state (managers_in b.settled) b'.next (reopened_at b'.settled.managers) logs
       next_dawn =
-          dawns z.day.settled b'.again z.night.call b'.settled z.turned w.worked logs z.day.found.items (managers_in b.settled) n b'.next (reopened_at b.settled.managers) w.is_day w.begins
+          dawns z.day.settled b'.again z.night.call b'.settled z.turned w.worked logs z.day.evening.found.items (managers_in b.settled) n b'.next (reopened_at b.settled.managers) w.is_day w.begins
           told_all back known dawn resolved (subst (All (λ (o : Outcome). is_done o.code ≡ true)) (sym z.night.listed) ended) z.later ends_at
 
       stores : managers_in b'.settled ≡ managers_in b.settled
@@ -187,7 +187,7 @@ module _ {L : Type 0} (state : L → LogState) (knows : L → Type 0) (loses : T
         stores = stores;
         accounts = account;
         balances = λ m k up there.
-            applies z.day.settled b'.again z.night.call b'.settled z.turned w.worked logs z.day.found.items (managers_in b.settled) n (reopened_at b.settled.managers) m k w.is_day w.begins few
+            applies z.day.settled b'.again z.night.call b'.settled z.turned w.worked logs z.day.evening.found.items (managers_in b.settled) n (reopened_at b.settled.managers) m k w.is_day w.begins few
             told_all back known dawn resolved up there
             ∙ ap (λ (es : List (Transfer × Bool)). all_applied es (balances_at b.settled) m k) told_so;
         ready =

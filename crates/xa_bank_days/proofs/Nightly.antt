@@ -46,7 +46,8 @@ use Rattle.xa_bank.proofs.Members.{MemberAt, Never, member_at, nobody_else}
 use Rattle.xa_bank_days.specs.declared.night.Resolver.{Resolver}
 use Rattle.xa_bank_days.specs.Days.{IsResolvedBy, records_of}
 use Rattle.xa_bank_days.specs.declared.night.Unresolved.{Unresolved}
-use Rattle.xa_bank_days.specs.Nights.{Excuses, HasRoomToResolve, IsNight, ResolvesBy}
+use Rattle.xa_bank_days.specs.Nights.{Excuses, HasRoomToResolve, IsNight, IsUntouched, ResolvesBy, unused}
+use Rattle.xa_bank_days.proofs.ManyDays.{if_err}
 use Rattle.xa_bank_days.proofs.Rooms.{left_on, room_to_resolve}
 use Rattle.xa_bank_days.proofs.Reached.{InNight, IsReached, all_reached, answered_open, ends_in_night, none_shut}
 
@@ -237,3 +238,18 @@ module _ {L : Type 0} (state : L → LogState) (knows : L → Type 0) (s : Settl
           left_on (All (λ (t : Teller L). knows t.log) r.tellers.items) (MayReopen s again) (at.left ≡ at.member.desk) (room_to_resolve s again at.member.desk scan at.fresh scanned) a.client.client.resolved
           (subst (λ (p : Attended (WithScan (Resolver L)) × Resolver L). IfErr p.0.client.client.resolved (λ why. (at.left ≡ at.member.desk)
           × Excuses ⊥ (All (λ (t : Teller L). knows t.log) p.1.tellers.items) (MayResolve at.member.desk scan) (Unit {0}) why)) (λ i. (it i, client i)) at.worked.left)
+
+      -- no thread sent anything where nothing was resolved
+      nothing : at.left ≡ at.member.desk → (t m : ℕ) → 1 ≤ m → sent next t m ≡ []
+      nothing same t m positive =
+          elim (cases_eq t 1) [
+            | inl own ↦ ap (λ v. sent next v m) own ∙ sent_own m positive ∙ ap (λ (d : DeskView). (ledger d.ledgers m).sent) same ∙ at.nothing m positive
+            | inr other ↦ nobody t other m
+          ]
+
+      pub untouched_law : IfErr a.client.client.resolved (λ why. IsUntouched s again next)
+      untouched_law =
+          if_err a.client.client.resolved
+          (λ why h. unused settled (λ m T first. goes_on s next again m T whole z.run.of_setup first) z.run.of_setup (nothing h.0))
+          (subst (λ (p : Attended (WithScan (Resolver L))). IfErr p.client.client.resolved (λ why. (at.left ≡ at.member.desk)
+          × Excuses ⊥ (All (λ (t : Teller L). knows t.log) mine.tellers.items) (MayResolve at.member.desk scan) (Unit {0}) why)) it at.worked.left)

@@ -1,6 +1,6 @@
 -- The bank from day to day: what a day and its night do to it, and what many do.
-use Rattle.std.specs.Prelude.{◌≡◌, ◌+◌, ◌<◌, ◌≤◌, ◌^◌, ◌-◌, ◌%◌, ℕ, Bool, true}
-use Rattle.std.specs.Prelude.{false, min, Option, None, Some, MatchResult, Vec, List, [], ◌∷◌}
+use Rattle.std.specs.Prelude.{◌≡◌, ◌+◌, ◌<◌, ◌≤◌, ◌^◌, ◌%◌, ℕ, Bool, true}
+use Rattle.std.specs.Prelude.{false, if◌then◌else◌, MatchResult, Vec, List, [], ◌∷◌}
 use Rattle.std.specs.Prelude.{◌++◌, length, map, vec_capacity}
 use Rattle.std.specs.List.{All, list_any}
 use Rattle.std.specs.Global.{Global}
@@ -23,43 +23,27 @@ use Rattle.xa_crew.specs.Again.{AreGiven, HasRunAgain, IfUnopened, IfUnsettled, 
 use Rattle.xa_crew.specs.Opened.{IsOpened, clients_of}
 use Rattle.xa_work.specs.declared.unit.WorkOutcome.{WorkOutcome}
 use Rattle.xa_atomicity.specs.Cut.{is_recorded}
-use Rattle.xa_bank.specs.declared.habits.DiesAt.{DiesAt}
 use Rattle.xa_bank.specs.declared.habits.Habits.{Habits}
-use Rattle.xa_bank.specs.declared.habits.ShutsAt.{ShutsAt}
 use Rattle.xa_bank.specs.declared.teller.Teller.{Teller}
 use Rattle.xa_bank.specs.declared.teller.Transfer.{Transfer}
 use Rattle.xa_bank.specs.Tellers.{ReadsBack, WorksOn}
 use Rattle.xa_bank_days.specs.declared.bank.Bank.{Bank}
 use Rattle.xa_bank_days.specs.declared.day.Closed.{Closed}
 use Rattle.xa_bank_days.specs.declared.errands.Errands.{Errands}
-use Rattle.xa_bank_days.specs.declared.day.Space.{Space}
+use Rattle.xa_bank_days.specs.declared.day.Evening.{Evening}
 use Rattle.xa_bank_days.specs.declared.day.Stop.{Stop}
 use Rattle.xa_bank_days.specs.declared.day.Stop.TheVariants.{BadDay, Day, Night, NoMemory}
 use Rattle.xa_bank_days.specs.declared.day.Worked.{Worked}
 use Rattle.xa_bank_days.specs.declared.night.Unresolved.{Unresolved}
 use Rattle.xa_bank_days.specs.Days.{BeginsWith, ForEach, IsDawn, IsDayOf, balances_at, told}
 use Rattle.xa_bank_days.specs.Ledger.{all_applied}
-use Rattle.xa_bank_days.specs.Nights.{Excuses, HasRoomToResolve, IsNight, IsUnsettledNight}
+use Rattle.xa_bank_days.specs.Nights.{Excuses, HasRoomToResolve, IsNight, IsUnsettledNight, IsUntouched}
 
 -- ---- a day
 
--- the number of the transfer at a place of a day, whose first has number n; none has one past the greatest
-abbrev pub number_at : ℕ → ℕ → ℕ
-number_at place n = min (place + n) (2 ^ 64 - 1)
-
--- the death, and the store that is shut, at such a place
-abbrev pub death_on : ℕ → Option DiesAt → Option DiesAt
-death_on n None = None
-death_on n (Some dies) = Some (record dies { number = number_at dies.number n })
-
-abbrev pub shuts_on : ℕ → Option ShutsAt → Option ShutsAt
-shuts_on n None = None
-shuts_on n (Some shuts) = Some (record shuts { number = number_at shuts.number n })
-
 -- the habits of a teller on its errands, whose first transfer has number n: it keeps its records
 abbrev pub habits_on : ℕ → Errands → Habits
-habits_on n e =
-    record { first = n; death = death_on n e.death; shuts = shuts_on n e.shuts; forgets = false }
+habits_on n e = record { first = n; death = e.death; shuts = e.shuts; forgets = false }
 
 -- these are the tellers with their logs, turned to the errands, of which they have made none
 pub record AreTurned {L : Type 0} (n : ℕ) (tellers : List (Teller L)) (errands : List Errands)
@@ -73,15 +57,14 @@ pub record AreTurned {L : Type 0} (n : ℕ) (tellers : List (Teller L)) (errands
 abbrev pub next_numbers : Again → ℕ → Again
 next_numbers n threads = record n { opening = (n.opening + 1) % 2 ^ 64; threads = threads }
 
--- there is room for what so many tellers come to at so many stores
-pub record HasRoom {L : Type 0} (tellers stores : ℕ) (s : Space L) : Type 0 where
-  pub nothing : s.found.items ≡ []
-  pub found : tellers ≤ vec_capacity s.found
-  pub paces : stores ≤ length s.paces.items
-  pub none : s.off_work.items ≡ []
-  pub off_work : tellers ≤ vec_capacity s.off_work
-  pub no_outcomes : s.outcomes.items ≡ []
-  pub outcomes : tellers ≤ vec_capacity s.outcomes
+-- there is room for what so many tellers come to, and nothing yet
+pub record HasRoom {L : Type 0} (tellers : ℕ) (e : Evening L) : Type 0 where
+  pub none : e.tellers.items ≡ []
+  pub off_work : tellers ≤ vec_capacity e.tellers
+  pub no_outcomes : e.outcomes.items ≡ []
+  pub outcomes : tellers ≤ vec_capacity e.outcomes
+  pub nothing : e.found.items ≡ []
+  pub found : tellers ≤ vec_capacity e.found
 
 -- These tellers worked over stores that had been left so, and whether one wants memory was told, and what became of
 -- their transfers. Then the log of each was read back.
@@ -93,8 +76,9 @@ pub record HasWorked {L : Type 0} (state : L → LogState) (knows : L → Type 0
   pub begins : BeginsWith w.settled (managers_in before) (reopened_at before.managers)
   pub stores : managers_in w.settled ≡ managers_in before
   pub wants : w.wanting ≡ list_any (λ t. t.wants_memory) worked
-  pub logs : ForEach (ReadsBack state knows loses reopens) 1 worked (map (λ t. t.log) w.tellers.items) w.found.items
-  pub told_ : w.outcomes.items ≡ map (λ t. t.outcomes) worked
+  pub logs : ForEach (ReadsBack state knows loses reopens) 1 worked (map (λ t. t.log) w.evening.tellers.items)
+      w.evening.found.items
+  pub told_ : w.evening.outcomes.items ≡ map (λ t. t.outcomes) worked
 
 -- The day of these turned tellers came to no settled opening. Where the stores weren't opened again, both come back as
 -- they were; where they were, and nothing was run, as they were opened; what was run may be settled by `settle_run`.
@@ -114,8 +98,8 @@ pub record IsDay {L : Type 0} (state : L → LogState) (knows : L → Type 0)
   pub many : length errands < 2 ^ 32
   pub day : Worked L
   pub works : HasWorked state knows loses reopens b.settled turned day
-  pub told_ : c.outcomes ≡ day.outcomes
-  pub found_ : c.found ≡ day.found
+  pub told_ : c.outcomes ≡ day.evening.outcomes
+  pub found_ : c.found ≡ day.evening.found
 
 -- the numbers of such a day's opening, and of its night's
 abbrev pub day_numbers : {L : Type 0} → Bank L → List Errands → Again
@@ -141,7 +125,7 @@ LeavesBank {L} state knows loses reopens b errands (Day fault) =
     × LeavesDay state knows loses b.settled (day_numbers b errands) turned fault
 LeavesBank state knows loses reopens b errands (Night c ran) =
     (z : IsDay state knows loses reopens b errands c)
-    × IsUnsettledNight state knows z.day.tellers z.day.settled (night_numbers b errands) ran
+    × IsUnsettledNight state knows z.day.evening.tellers z.day.settled (night_numbers b errands) ran
 
 -- So a day, and the bank after it.
 pub record IsWorkedDay {L : Type 0} (state : L → LogState) (knows : L → Type 0)
@@ -150,7 +134,8 @@ pub record IsWorkedDay {L : Type 0} (state : L → LogState) (knows : L → Type
   pub is_day : IsDay state knows loses reopens b errands c
   pub open is_day use *
   pub stays : day.wanting ≡ true → b'.settled ≡ day.settled
-  pub tellers : b'.tellers ≡ day.tellers
+  pub numbers : b'.again ≡ (if day.wanting then day_numbers b errands else night_numbers b errands)
+  pub tellers : b'.tellers ≡ day.evening.tellers
   pub later : b.next ≤ b'.next
   pub next : All (λ e. b.next + length e.transfers.items ≤ b'.next) errands
 
@@ -161,12 +146,11 @@ pub record IsClosed {L : Type 0} (state : L → LogState) (knows : L → Type 0)
   pub is_worked : IsWorkedDay state knows loses reopens b errands c b'
   pub open is_worked use *
   pub wants : day.wanting ≡ false
-  pub numbers : b'.again ≡ night_numbers b errands
-  pub night : IsNight state knows day.tellers.items day.settled b'.again outcomes b'.settled
+  pub night : IsNight state knows day.evening.tellers.items day.settled b'.again outcomes b'.settled
   pub stores : managers_in b'.settled ≡ managers_in day.settled
 
 -- Nothing was resolved of what such a day left, and why: a teller wants memory, a log isn't known, there is no room for
--- it, or memory was refused. The numbers of a night are always good.
+-- it, or memory was refused. The numbers of a night are always good. The stores are untouched.
 pub record IsUnresolved {L : Type 0} (state : L → LogState) (knows : L → Type 0)
     (loses : TranName → List Bool → L → L → Type 0) (reopens : L → L → Type 0) (b : Bank L) (errands : List Errands)
     (c : Closed) (why : Unresolved) (b' : Bank L) : Type 0 where
@@ -174,6 +158,7 @@ pub record IsUnresolved {L : Type 0} (state : L → LogState) (knows : L → Typ
   pub open is_worked use *
   pub excuse : Excuses (day.wanting ≡ true) (All (λ t. knows t.log) b'.tellers.items)
       (HasRoomToResolve day.settled (night_numbers b errands)) (Unit {0}) why
+  pub untouched : IsUntouched day.settled (night_numbers b errands) b'.settled
 
 -- all is over: what was left is resolved, and each branch of it ended as it was to
 abbrev pub IsOver : Closed → Type 0

@@ -1,23 +1,25 @@
 -- What a night comes to: what a day left in doubt is resolved by the records of all logs.
-use Rattle.std.specs.Prelude.{◌≡◌, ℕ, ◌≤◌, IfErr, IfOk, List, [], ◌∷◌, Vec, map}
+use Rattle.std.specs.Prelude.{◌≡◌, ℕ, ◌≤◌, Bool, true, false, if◌then◌else◌, IfErr, IfOk, List, [], ◌∷◌, Vec, map}
 use Rattle.std.specs.Global.{Global}
 use Rattle.std.specs.List.{All}
 use Rattle.xa_base.specs.Lists.{IsUpTo}
 use Rattle.xa_desk.specs.DeskView.{DeskView}
 use Rattle.xa_switch.specs.declared.plan.Again.{Again}
-use Rattle.xa_switch.specs.Again.{managers_in}
+use Rattle.xa_switch.specs.Again.{managers_in, reopening}
+use Rattle.xa_switch.specs.OfPlans.{IsOf}
 use Rattle.xa_switch.specs.Recovery.{IsScanOf}
-use Rattle.xa_switch.specs.Settling.{Settling}
+use Rattle.xa_switch.specs.Settling.{Settling, IsSettled, sent}
 use Rattle.xa_scan.specs.Left.{ScanView, left_at}
 use Rattle.xa_log.specs.Log.{LogState}
 use Rattle.xa_driver.specs.declared.resolved.Outcome.{Outcome}
 use Rattle.xa_driver.specs.Resolving.{IsTraceOfResolve, MayResolve, requests_for}
-use Rattle.xa_atomicity.specs.Resolution.{ResolveCall}
+use Rattle.xa_atomicity.specs.Resolution.{Continues, ResolveCall}
 use Rattle.xa_crew.specs.declared.again.WithScan.{WithScan}
 use Rattle.xa_crew.specs.declared.run.Ran.{Ran}
 use Rattle.xa_crew.specs.Again.{HasRunAgain}
 use Rattle.xa_bank.specs.declared.teller.Teller.{Teller}
 use Rattle.xa_bank_days.specs.Days.{IsResolvedBy, records_of}
+use Rattle.xa_bank_days.specs.declared.night.Night.{Night}
 use Rattle.xa_bank_days.specs.declared.night.Resolver.{Resolver}
 use Rattle.xa_bank_days.specs.declared.night.Unresolved.{Unresolved}
 use Rattle.xa_bank_days.specs.declared.night.Unresolved.TheVariants.{BadNumbers, NoMemory, NoRoom}
@@ -57,6 +59,27 @@ pub record IsNight {L : Type 0} (state : L → LogState) (knows : L → Type 0) 
   pub call : ResolveCall
   pub listed : call.outcomes ≡ outcomes
   pub resolves : IsResolvedBy (records_of state (map (λ t. t.log) tellers)) s again call next
+
+-- What came to the stores of an opening that was settled so, in a night that resolved nothing: they are as they were;
+-- or they were opened again and settled in turn, and no thread sent anything.
+pub data IsUntouched (s : Settling) (again : Again) (next : Settling) : Type 0 where
+  unopened : next ≡ s → IsUntouched s again next
+  unused : IsSettled next → Continues s next → IsOf (reopening s again) next
+      → ((t m : ℕ) → 1 ≤ m → sent next t m ≡ []) → IsUntouched s again next
+
+-- What came after a day with these numbers, on which a teller wants memory or none does: no night, or one with its
+-- numbers. What was left is resolved by the tellers' records, or the stores are untouched, for a reason; and the
+-- numbers are those that the stores have then.
+pub record HasPassed {L : Type 0} (state : L → LogState) (knows : L → Type 0) (s : Settling) (day night : Again)
+    (tellers : Vec (Teller L) Global) (wanting : Bool) (again : Again) (n : Night L) : Type 0 where
+  pub tellers_ : n.tellers ≡ tellers
+  pub numbers : again ≡ (if wanting then day else night)
+  pub stays : wanting ≡ true → n.settled ≡ s
+  pub closed : IfOk n.resolved (λ z. (wanting ≡ false) × (again ≡ night)
+      × IsNight state knows tellers.items s night z.outcomes.items n.settled
+      × (managers_in n.settled ≡ managers_in s))
+  pub left : IfErr n.resolved (λ why. Excuses (wanting ≡ true) (All (λ t. knows t.log) tellers.items)
+      (HasRoomToResolve s night) (Unit {0}) why × IsUntouched s night n.settled)
 
 -- what a night of these tellers came to that isn't settled yet: they resolved, and `settle_run` may settle it
 abbrev pub IsUnsettledNight : {L : Type 0} → (L → LogState) → (L → Type 0) → Vec (Teller L) Global → Settling → Again

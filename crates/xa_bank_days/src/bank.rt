@@ -9,7 +9,7 @@ use std::alloc::Global;
 use std::sync::Wait;
 use xa_bank::Teller;
 use xa_crew::laws::idles_go_on;
-use xa_crew::{Client, CrewFault, Run, run_clients_in_turns};
+use xa_crew::{Client, CrewFault, run_clients_in_turns};
 use xa_desk::laws::desks_go_on;
 use xa_desk::{Desk, Idle};
 use xa_log::DecisionLog;
@@ -72,13 +72,8 @@ impl<L: DecisionLog + Drop> Bank<L> {
             return Err((OpenFault::NoMemory, tellers));
         };
         match run_clients_in_turns(rt, alloc, plan, idlers) {
-            Ok(
-                Run {
-                    clients: _,
-                    settled,
-                },
-            ) => {
-                settled_openings_are_whole(&settled);
+            Ok(run) => {
+                settled_openings_are_whole(&run.settled);
                 let again = Again {
                     opening: plan.opening,
                     threads: plan.threads,
@@ -88,16 +83,13 @@ impl<L: DecisionLog + Drop> Bank<L> {
                 };
                 Ok(Bank {
                     tellers,
-                    settled,
+                    settled: run.settled,
                     again,
                     next: 0,
                 })
             }
             Err(CrewFault::BadPlan) => Err((OpenFault::BadPlan, tellers)),
-            Err(CrewFault::NoMemory | CrewFault::Unsettled(_)) => Err((
-                OpenFault::NoMemory,
-                tellers,
-            )),
+            Err(_) => Err((OpenFault::NoMemory, tellers)),
         }
     }
 

@@ -6,6 +6,7 @@ ghost use Rattle.xa_bank.specs.Tellers.{ReadsBack};
 ghost use Rattle.xa_bank_days.specs.Days.{ForEach};
 ghost use Rattle.xa_bank_days.specs.Banks.{HasRoom, HasWorked, IsClosed, IsOver, IsUnresolved, IsWorkedDay, LeavesBank};
 ghost use Rattle.xa_bank_days.specs.Banks.{LeavesDay, next_numbers};
+ghost use Rattle.xa_bank_days.specs.Nights.{HasPassed, IsUnsettledNight};
 
 use crate::bank::{Bank, next_numbers};
 use crate::errands::{Errands, turn_all};
@@ -17,7 +18,7 @@ use std::thread::Threads;
 use xa_bank::Teller;
 use xa_crew::{AgainFault, Attended, Ran, Run, WithScan, run_clients_again};
 use xa_driver::Resolved;
-use xa_log::ReopenLog;
+use xa_log::{DecisionLog, ReopenLog};
 use xa_switch::laws::{reopened_openings_go_on_from_what_was_left, settled_openings_are_whole};
 use xa_switch::{Again, Settled};
 use xa_words::Code;
@@ -65,90 +66,71 @@ pub enum Stop<L> {
     Night(Closed, Ran<WithScan<Resolver<L>>>),
 }
 
-impl<L> From<AgainFault<Teller<L>>> for Stop<L> {
-    ghost use Rattle.xa_bank_days.specs.declared.day.Stop.TheVariants.{Day};
-
-    ghost from_gives = { λ fault stop. stop ≡ Day fault };
-
-    fn from(fault: AgainFault<Teller<L>>) -> Stop<L> {
-        Stop::Day(fault)
-    }
-}
-
-// Room for what tellers come to on a day.
+// What tellers come to on a day, in the evening: they are off work.
 #[derive(Drop)]
-struct Space<L> {
-    paces: Vec<Free>,
-    off_work: Vec<Teller<L>>,
+struct Evening<L> {
+    tellers: Vec<Teller<L>>,
+    // What became of their transfers.
     outcomes: Vec<Vec<WorkOutcome>>,
+    // Whether their logs were found to have a record of which they didn't know.
     found: Vec<bool>,
 }
 
-// Room for so many tellers that are turned, and for what they come to at so many stores.
+// Room for a day: for so many tellers that are turned, for the paces of so many stores, and for the evening.
 fn reserve<L: Drop>(
     alloc: Global,
     tellers: usize,
     stores: usize,
-) -> Result<(Vec<Teller<L>>, Space<L>), AllocError>
+) -> Result<(Vec<Teller<L>>, Vec<Free>, Evening<L>), AllocError>
     ensures none { IfOk result (λ r. r.0.items ≡ []) }
     ensures turned { IfOk result (λ r. tellers ≤ vec_capacity r.0) }
-    ensures room { IfOk result (λ r. HasRoom tellers stores r.1) }
+    ensures paces { IfOk result (λ r. stores ≤ length r.1.items) }
+    ensures room { IfOk result (λ r. HasRoom tellers r.2) }
 {
-    let turned = Vec::with_capacity(alloc, tellers)?;
-    let space = Space {
-        paces: vec![in alloc; Free; stores]?,
-        off_work: Vec::with_capacity(alloc, tellers)?,
+    let evening = Evening {
+        tellers: Vec::with_capacity(alloc, tellers)?,
         outcomes: Vec::with_capacity(alloc, tellers)?,
         found: Vec::with_capacity(alloc, tellers)?,
     };
-    Ok((turned, space))
+    let paces = vec![in alloc; Free; stores]?;
+    Ok((Vec::with_capacity(alloc, tellers)?, paces, evening))
 }
 
 // Whether one of the tellers was refused memory.
 fn want_memory<L>(clients: &[Attended<WithScan<Teller<L>>>]) -> bool
     ensures { result ≡ list_any (λ a. a.client.client.wants_memory) clients.now }
 {
-    clients
-        .iter()
-        .any(|attended| attended.client.client.wants_memory)
+    clients.iter().any(|it| it.client.client.wants_memory)
 }
 
 // The tellers, off work, with their logs read back, what these were found to have, and their outcomes.
 fn all_off_work<L: ReopenLog + Drop>(
     alloc: Global,
     clients: Vec<Attended<WithScan<Teller<L>>>>,
-    mut tellers: Vec<Teller<L>>,
-    mut outcomes: Vec<Vec<WorkOutcome>>,
-    mut found: Vec<bool>,
-) -> (Vec<Teller<L>>, Vec<Vec<WorkOutcome>>, Vec<bool>)
+    mut evening: Evening<L>,
+) -> Evening<L>
     requires few { length clients.items < 2 ^ 32 }
-    requires none { tellers.items ≡ [] }
-    requires room { length clients.items ≤ vec_capacity tellers }
-    requires no_outcomes { outcomes.items ≡ [] }
-    requires room_too { length clients.items ≤ vec_capacity outcomes }
-    requires nothing { found.items ≡ [] }
-    requires room_left { length clients.items ≤ vec_capacity found }
+    requires room { HasRoom (length clients.items) evening }
     ensures logs { ForEach (ReadsBack L.state L.knows L.loses L.reopens) 1 (map (λ a. a.client.client) clients.items)
-        (map (λ t. t.log) result.0.items) result.2.items }
-    ensures outcomes { result.1.items ≡ map (λ a. a.client.client.outcomes) clients.items }
+        (map (λ t. t.log) result.tellers.items) result.found.items }
+    ensures outcomes { result.outcomes.items ≡ map (λ a. a.client.client.outcomes) clients.items }
 {
     let mut thread = 0;
     for attended in clients {
         thread += 1;
         let (mut teller, has) = attended.client.client.read_back(thread);
-        outcomes.push_reserved(mem::replace(&mut teller.outcomes, Vec::new(alloc)));
-        found.push_reserved(has);
-        tellers.push_reserved(teller);
+        let outcomes = mem::replace(&mut teller.outcomes, Vec::new(alloc));
+        evening.outcomes.push_reserved(outcomes);
+        evening.found.push_reserved(has);
+        evening.tellers.push_reserved(teller);
     }
-    (tellers, outcomes, found)
+    evening
 }
 
 // What a day came to before its night.
 #[derive(Drop)]
 struct Worked<L> {
-    tellers: Vec<Teller<L>>,
-    outcomes: Vec<Vec<WorkOutcome>>,
-    found: Vec<bool>,
+    evening: Evening<L>,
     settled: Settled,
     // Whether a teller was refused memory.
     wanting: bool,
@@ -161,34 +143,59 @@ fn work_day<R: Threads + Wait + Copy + Send + 'static, L: ReopenLog + Drop + Sen
     settled: Settled,
     again: &Again,
     tellers: Vec<Teller<L>>,
-    space: Space<L>,
+    paces: Vec<Free>,
+    evening: Evening<L>,
 ) -> Result<Worked<L>, AgainFault<Teller<L>>>
     requires tellers { length tellers.items ≡ again.now.threads }
     requires few { length tellers.items < 2 ^ 32 }
-    requires room { HasRoom (length tellers.items) (managers_in settled) space }
+    requires paces { managers_in settled ≤ length paces.items }
+    requires room { HasRoom (length tellers.items) evening }
     ensures worked { IfOk result (HasWorked L.state L.knows L.loses L.reopens settled tellers.items) }
     ensures night { IfOk result (λ w. MayReopen w.settled (next_numbers again.now 1)) }
     ensures stopped { IfErr result (LeavesDay L.state L.knows L.loses settled again.now tellers.items) }
 {
     settled_openings_are_whole(&settled);
     reopened_openings_go_on_from_what_was_left();
-    let Space {
-        paces,
-        off_work,
-        outcomes,
-        found,
-    } = space;
     let Run { clients, settled } = run_clients_again(rt, alloc, settled, again, tellers, paces)?;
     settled_openings_are_whole(&settled);
     let wanting = want_memory(&clients);
-    let (tellers, outcomes, found) = all_off_work(alloc, clients, off_work, outcomes, found);
+    let evening = all_off_work(alloc, clients, evening);
     Ok(Worked {
-        tellers,
-        outcomes,
-        found,
+        evening,
         settled,
         wanting,
     })
+}
+
+// Passes the night after a day with these numbers, or none where a teller wants memory. It comes to the numbers that
+// the stores have then, too.
+fn pass_night<R: Wait, L: DecisionLog + Drop>(
+    rt: &R,
+    alloc: Global,
+    settled: Settled,
+    day: &Again,
+    tellers: Vec<Teller<L>>,
+    wanting: bool,
+) -> Result<(Again, Night<L>), Ran<WithScan<Resolver<L>>>>
+    requires { MayReopen settled (next_numbers day.now 1) }
+    ensures passed { IfOk result (λ r. HasPassed L.state L.knows settled day.now (next_numbers day.now 1) tellers
+        wanting r.0 r.1) }
+    ensures unsettled { IfErr result (IsUnsettledNight L.state L.knows tellers settled (next_numbers day.now 1)) }
+{
+    if wanting {
+        let night = Night {
+            resolved: Err(Unresolved::TellerWantsMemory),
+            tellers,
+            settled,
+        };
+        return Ok((*day, night));
+    }
+    settled_openings_are_whole(&settled);
+    reopened_openings_go_on_from_what_was_left();
+    let again = next_numbers(day, 1);
+    let night = run_night(rt, alloc, settled, &again, tellers)?;
+    settled_openings_are_whole(&night.settled);
+    Ok((again, night))
 }
 
 impl<L: ReopenLog + Drop + Send + 'static> Bank<L> {
@@ -211,54 +218,33 @@ impl<L: ReopenLog + Drop + Send + 'static> Bank<L> {
         let Some((next, threads)) = self.after(&errands) else {
             return Err(Stop::BadDay(self));
         };
-        let Ok((turned, space)) = reserve(alloc, threads as usize, self.settled.managers()) else {
+        let stores = self.settled.managers();
+        let Ok((turned, paces, evening)) = reserve(alloc, threads as usize, stores) else {
             return Err(Stop::NoMemory(self));
         };
         let tellers = turn_all(self.tellers, self.next, errands, turned);
-        let day = next_numbers(&self.again, threads);
-        let night = next_numbers(&day, 1);
-        let Worked {
+        let again = next_numbers(&self.again, threads);
+        let day = match work_day(rt, alloc, self.settled, &again, tellers, paces, evening) {
+            Ok(day) => day,
+            Err(fault) => return Err(Stop::Day(fault)),
+        };
+        let Evening {
             tellers,
             outcomes,
             found,
-            settled,
-            wanting,
-        } = work_day(rt, alloc, self.settled, &day, tellers, space)?;
-        if wanting {
-            let closed = Closed {
-                outcomes,
-                found,
-                resolved: Err(Unresolved::TellerWantsMemory),
-            };
-            let bank = Bank {
-                tellers,
-                settled,
-                again: day,
-                next,
-            };
-            return Ok((closed, bank));
-        }
-        settled_openings_are_whole(&settled);
-        reopened_openings_go_on_from_what_was_left();
-        match run_night(rt, alloc, settled, &night, tellers) {
-            Ok(
-                Night {
-                    resolved,
-                    tellers,
-                    settled,
-                },
-            ) => {
-                settled_openings_are_whole(&settled);
-                let bank = Bank {
-                    tellers,
-                    settled,
-                    again: night,
-                    next,
-                };
+        } = day.evening;
+        match pass_night(rt, alloc, day.settled, &again, tellers, day.wanting) {
+            Ok((again, night)) => {
                 let closed = Closed {
                     outcomes,
                     found,
-                    resolved,
+                    resolved: night.resolved,
+                };
+                let bank = Bank {
+                    tellers: night.tellers,
+                    settled: night.settled,
+                    again,
+                    next,
                 };
                 Ok((closed, bank))
             }

@@ -30,11 +30,8 @@ fn close_days<R: Threads + Wait + Copy + Send + 'static, L: ReopenLog + Drop + S
         result.closed.items) }
 {
     let Ok(mut closed) = Vec::with_capacity(alloc, days.len()) else {
-        let end = Err(Stop::NoMemory(bank));
-        return Days {
-            closed: Vec::new(alloc),
-            end,
-        };
+        let (closed, end) = (Vec::new(alloc), Err(Stop::NoMemory(bank)));
+        return Days { closed, end };
     };
     for errands in days {
         match bank.close_day(rt, alloc, errands) {
@@ -42,25 +39,19 @@ fn close_days<R: Threads + Wait + Copy + Send + 'static, L: ReopenLog + Drop + S
                 let over = day.is_over();
                 closed.push_reserved(day);
                 if !over {
-                    return Days {
-                        closed,
-                        end: Ok(after),
-                    };
+                    let end = Ok(after);
+                    return Days { closed, end };
                 }
                 bank = after;
             }
             Err(stop) => {
-                return Days {
-                    closed,
-                    end: Err(stop),
-                };
+                let end = Err(stop);
+                return Days { closed, end };
             }
         }
     }
-    Days {
-        closed,
-        end: Ok(bank),
-    }
+    let end = Ok(bank);
+    Days { closed, end }
 }
 
 /// Day after day: each teller has its errands of each. It ends early where a day stops, or isn't over, which is the

@@ -1,7 +1,7 @@
 //! What the tellers of a bank are to do on a day.
 ghost use Rattle.std.specs.Prelude.{◌≡◌, ℕ, ◌≤◌, [], length, vec_capacity};
 ghost use Rattle.std.specs.List.{All};
-ghost use Rattle.xa_bank_days.specs.Banks.{AreTurned, habits_on, number_at};
+ghost use Rattle.xa_bank_days.specs.Banks.{AreTurned, habits_on};
 
 use xa_bank::{DiesAt, Habits, ShutsAt, Teller, Transfer};
 use xa_log::DecisionLog;
@@ -10,17 +10,10 @@ use xa_log::DecisionLog;
 #[derive(Drop)]
 pub struct Errands {
     pub transfers: Vec<Transfer>,
-    /// The death that it dies, if any. The number is the place of a transfer among those of the day, from 0.
+    /// The death that it dies, if any, at a place among the transfers of the day.
     pub death: Option<DiesAt>,
     /// The store that it shuts, if any, before the transfer at a place.
     pub shuts: Option<ShutsAt>,
-}
-
-// The number of the transfer at a place of a day, whose first has that number. None has one past usize::MAX.
-fn number_at(place: usize, first: u32) -> usize
-    ensures { result ≡ number_at place first }
-{
-    place.saturating_add(first as usize)
 }
 
 impl Errands {
@@ -28,24 +21,10 @@ impl Errands {
     pub(crate) fn habits(&self, first: u32) -> Habits
         ensures { result ≡ habits_on first self.now }
     {
-        let death = match self.death {
-            Some(dies) => Some(DiesAt {
-                number: number_at(dies.number, first),
-                death: dies.death,
-            }),
-            None => None,
-        };
-        let shuts = match self.shuts {
-            Some(shuts) => Some(ShutsAt {
-                number: number_at(shuts.number, first),
-                store: shuts.store,
-            }),
-            None => None,
-        };
         Habits {
             first,
-            death,
-            shuts,
+            death: self.death,
+            shuts: self.shuts,
             forgets: false,
         }
     }
@@ -58,10 +37,7 @@ pub(crate) fn most(errands: &[Errands]) -> usize
 {
     let mut most = 0;
     for errand in errands {
-        let many = errand.transfers.len();
-        if most < many {
-            most = many;
-        }
+        most = most.max(errand.transfers.len());
     }
     most
 }

@@ -7,14 +7,13 @@ ghost use Rattle.xa_driver.specs.Resolving.{IsTraceOfResolve, MayResolve};
 ghost use Rattle.xa_switch.specs.Again.{MayReopen};
 ghost use Rattle.xa_bank_days.specs.Days.{records_of};
 ghost use Rattle.xa_bank_days.specs.Nights.{Excuses, HasRoomToResolve, IsNight, IsUnsettledNight};
+ghost use Rattle.xa_bank_days.specs.Nights.{IsUntouched};
 
 use std::alloc::Global;
 use std::sync::Wait;
 use xa_bank::Teller;
 use xa_crew::laws::idles_go_on;
-use xa_crew::{
-    AgainFault, ClientAgain, Ran, Run, UnopenedClients, WithScan, run_clients_again_in_turns,
-};
+use xa_crew::{AgainFault, ClientAgain, Ran, WithScan, run_clients_again_in_turns};
 use xa_desk::laws::desks_go_on;
 use xa_desk::{Desk, Idle};
 use xa_driver::{ResolveFault, Resolved, may_resolve, resolve};
@@ -22,7 +21,6 @@ use xa_log::{DecisionLog, DecisionRecords};
 use xa_scan::Scan;
 use xa_switch::laws::{reopened_openings_go_on_from_what_was_left, settled_openings_are_whole};
 use xa_switch::{Again, OpenFault, Settled};
-use xa_words::{ManagerSet, Tran};
 
 /// Why nothing was resolved of what a day left.
 #[derive(Clone, Copy, Debug, PartialEq, Eq)]
@@ -49,50 +47,6 @@ pub struct Resolver<L> {
     resolved: Result<Resolved, Unresolved>,
 }
 
-impl<L> Resolver<L> {
-    // The tellers, and what the branches came to.
-    fn into_parts(self) -> (Vec<Teller<L>>, Result<Resolved, Unresolved>)
-        ensures { result ≡ (self.tellers, self.resolved) }
-    {
-        let Resolver {
-            alloc: _,
-            tellers,
-            resolved,
-        } = self;
-        (tellers, resolved)
-    }
-}
-
-/// What all logs have recorded, read as one.
-impl<L: DecisionLog + Drop> DecisionRecords for Resolver<L> {
-    ghost use Rattle.std.specs.List.{All};
-    ghost use Rattle.std.specs.Prelude.{map};
-    ghost use Rattle.xa_bank_days.specs.Days.{records_of};
-
-    ghost records = { λ r. records_of L.state (map (λ t. t.log) r.tellers.items) };
-
-    ghost knows = { λ r. All (λ t. L.knows t.log) r.tellers.items };
-
-    fn has(&self, tran: &Tran) -> Option<ManagerSet> {
-        for teller in &self.tellers {
-            let found = teller.log().has(tran);
-            if found.is_some() {
-                return found;
-            }
-        }
-        None
-    }
-
-    fn is_known(&self) -> bool {
-        for teller in &self.tellers {
-            if !teller.log().is_known() {
-                return false;
-            }
-        }
-        true
-    }
-}
-
 impl<L: DecisionLog + Drop> Resolver<L> {
     // Resolves what the scan has, by the tellers' logs; or tells why nothing was sent.
     fn resolve_left<R: Wait, I: Idle>(
@@ -114,13 +68,14 @@ impl<L: DecisionLog + Drop> Resolver<L> {
     {
         desks_go_on();
         idles_go_on::<I>();
-        if !self.is_known() {
+        let logs = self.tellers.as_slice();
+        if !logs.is_known() {
             return Err(Unresolved::UnknownLog);
         }
-        if !may_resolve(desk, scan, self) {
+        if !may_resolve(desk, scan, &logs) {
             return Err(Unresolved::NoRoom);
         }
-        match resolve(rt, self.alloc, desk, scan, self, idle) {
+        match resolve(rt, self.alloc, desk, scan, &logs, idle) {
             Ok(resolved) => Ok(resolved),
             Err(ResolveFault::NoMemory) => Err(Unresolved::NoMemory),
         }
@@ -169,6 +124,7 @@ pub fn run_night<R: Wait, L: DecisionLog + Drop>(
         z.outcomes.items n.settled)) }
     ensures unresolved { IfOk result (λ n. IfErr n.resolved (Excuses ⊥ (All (λ t. L.knows t.log) tellers.items)
         (HasRoomToResolve settled again.now) (MayReopen settled again.now))) }
+    ensures untouched { IfOk result (λ n. IfErr n.resolved (λ why. IsUntouched settled again.now n.settled)) }
     ensures tellers { IfOk result (λ n. n.tellers ≡ tellers) }
     ensures unsettled { IfErr result (IsUnsettledNight L.state L.knows tellers settled again.now) }
 {
@@ -187,40 +143,30 @@ pub fn run_night<R: Wait, L: DecisionLog + Drop>(
         resolved: Err(Unresolved::NoMemory),
     });
     match run_clients_again_in_turns(rt, alloc, settled, again, resolvers) {
-        Ok(
-            Run {
-                mut clients,
-                settled,
-            },
-        ) => {
+        Ok(run) => {
+            let mut clients = run.clients;
             let Some(attended) = clients.pop() else {
                 unreachable!()
             };
-            let (tellers, resolved) = attended.client.client.into_parts();
+            let resolver = attended.client.client;
             Ok(Night {
-                resolved,
-                tellers,
-                settled,
+                resolved: resolver.resolved,
+                tellers: resolver.tellers,
+                settled: run.settled,
             })
         }
-        Err(AgainFault::Unopened(unopened)) => {
-            let UnopenedClients {
-                why,
-                settled,
-                mut clients,
-            } = unopened;
-            let Some(resolver) = clients.pop() else {
+        Err(AgainFault::Unopened(mut unopened)) => {
+            let Some(resolver) = unopened.clients.pop() else {
                 unreachable!()
             };
-            let (tellers, _) = resolver.into_parts();
-            let resolved = match why {
-                OpenFault::BadPlan => Err(Unresolved::BadNumbers),
-                OpenFault::NoMemory => Err(Unresolved::NoMemory),
+            let why = match unopened.why {
+                OpenFault::BadPlan => Unresolved::BadNumbers,
+                OpenFault::NoMemory => Unresolved::NoMemory,
             };
             Ok(Night {
-                resolved,
-                tellers,
-                settled,
+                resolved: Err(why),
+                tellers: resolver.tellers,
+                settled: unopened.settled,
             })
         }
         Err(AgainFault::Unstarted(_)) => unreachable!(),

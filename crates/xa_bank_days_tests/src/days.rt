@@ -59,7 +59,7 @@ fn tellers_of(rt: &impl Abort, alloc: Global) -> Vec<Teller<MemoryLog>> {
     for place in 0..TELLERS {
         let failing = if place + 1 == TELLERS { 5 } else { 0 };
         let log = MemoryLog::failing_at(alloc, failing);
-        let teller = Teller::over(alloc, log, Vec::new(alloc)).expect(rt, "memory");
+        let teller = Teller::new(alloc, log, Vec::new(alloc)).expect(rt, "memory");
         tellers.push(teller).expect(rt, "memory");
     }
     tellers
@@ -89,7 +89,7 @@ fn failing_tellers_of(
             Failure::Kept => LosingLog::losing_at(MemoryLog::new(alloc), k, true),
             Failure::Gone => LosingLog::losing_at(MemoryLog::new(alloc), k, false),
         };
-        let teller = Teller::over(alloc, log, Vec::new(alloc)).expect(rt, "memory");
+        let teller = Teller::new(alloc, log, Vec::new(alloc)).expect(rt, "memory");
         tellers.push(teller).expect(rt, "memory");
         k = k.wrapping_add(more);
     }
@@ -126,11 +126,11 @@ fn errands_of(rt: &impl Abort, alloc: Global, day: u32, place: u32) -> Errands {
     Errands {
         transfers,
         death: dying.then_some(DiesAt {
-            number: 7,
+            place: 7,
             death: DEATHS[day as usize % 7],
         }),
         shuts: shutting.then_some(ShutsAt {
-            number: 9,
+            place: 9,
             store: day % STORES + 1,
         }),
     }

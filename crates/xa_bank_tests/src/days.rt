@@ -97,7 +97,7 @@ fn teller_of(rt: &impl Abort, alloc: Global, place: u32) -> Teller<MemoryLog> {
         };
         all.push(transfer).expect(rt, "memory");
     }
-    Teller::new(alloc, all).expect(rt, "memory")
+    Teller::new(alloc, MemoryLog::new(alloc), all).expect(rt, "memory")
 }
 
 // The tellers of so many threads.

@@ -74,7 +74,7 @@ impl<L: DecisionLog + Drop, W: Write + Drop> Clerk<L, W> {
             alloc,
             out,
             first,
-            teller: Teller::over(alloc, log, Vec::new(alloc))?,
+            teller: Teller::new(alloc, log, Vec::new(alloc))?,
             account,
             recorded: Vec::with_capacity(alloc, TRANSFERS as usize)?,
             fault: None,

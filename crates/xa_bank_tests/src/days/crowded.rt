@@ -73,7 +73,7 @@ fn clerk_of(rt: &impl Abort, alloc: Global, place: u32) -> Clerk {
             .expect(rt, "memory");
     }
     Clerk {
-        teller: Teller::new(alloc, transfers).expect(rt, "memory"),
+        teller: Teller::new(alloc, MemoryLog::new(alloc), transfers).expect(rt, "memory"),
         shuts: if place == 0 { Some(SHUT) } else { None },
     }
 }

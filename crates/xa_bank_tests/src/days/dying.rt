@@ -27,8 +27,9 @@ const DEATHS: [Death; 7] = [
     Death::Told,
 ];
 
-// The transfers with which the first two tellers die: each is between tills of its own, so that it comes to its commit.
-const NUMBERS: [usize; 2] = [3, 11];
+// The places of the transfers with which the first two tellers die: each is between tills of its own, so that it comes
+// to its commit.
+const PLACES: [usize; 2] = [3, 11];
 
 // A day of three tellers, of which the first two die these deaths.
 fn day_of<R: Threads + Wait + Abort + Copy + Send + 'static>(
@@ -39,10 +40,11 @@ fn day_of<R: Threads + Wait + Abort + Copy + Send + 'static>(
     let mut tellers = Vec::new(alloc);
     for before in 0..2usize {
         let dies = DiesAt {
-            number: NUMBERS[before],
+            place: PLACES[before],
             death: deaths[before],
         };
-        let teller = teller_of(rt, alloc, before as u32).dying(dies);
+        let mut teller = teller_of(rt, alloc, before as u32);
+        teller.habits.death = Some(dies);
         tellers.push(teller).expect(rt, "memory");
     }
     tellers.push(teller_of(rt, alloc, 2)).expect(rt, "memory");
@@ -77,7 +79,7 @@ fn was_made(
     match outcome {
         WorkOutcome::Decided(done) => done.commit,
         WorkOutcome::Died { at: _, known: _ } => {
-            teller.log().has(&tran_of(rt, thread, place)).is_some()
+            teller.has(&tran_of(rt, thread, place)).is_some()
         }
         WorkOutcome::Refused(_) | WorkOutcome::Undecided(_) => false,
     }
@@ -137,7 +139,7 @@ fn died_there(rt: &impl Abort, clients: &[Attended<Teller<MemoryLog>>], deaths: 
         let outcomes = &attended.client.outcomes;
         let last = outcomes.last();
         if before < 2 {
-            assert_eq!(rt; outcomes.len(), NUMBERS[before].saturating_add(1));
+            assert_eq!(rt; outcomes.len(), PLACES[before].saturating_add(1));
             assert!(rt;
                 matches!(last, Some(WorkOutcome::Died { at, known: _ }) if *at == deaths[before])
             );
@@ -156,8 +158,8 @@ fn resolves<R: Threads + Wait + Abort + Copy + Send + 'static>(
     let Run { clients, settled } = day_of(rt, alloc, deaths);
     assert_eq!(rt; clients.len(), 3);
     died_there(rt, &clients, deaths);
-    let logs = [clients[0].client.log(), clients[1].client.log()];
-    let run = resolve_by(rt, alloc, settled, logs.as_slice());
+    let dead = [&clients[0].client, &clients[1].client];
+    let run = resolve_by(rt, alloc, settled, dead.as_slice());
     assert_eq!(rt; run.clients.len(), 1);
     let Some(resolved) = &run.clients[0].client.client.resolved else {
         panic!(rt; "nothing was resolved");

@@ -1,13 +1,13 @@
-use Rattle.std.proofs.Common.{◌≡◌, ℕ, None, Option, Some, refl, subst, sym}
+use Rattle.std.proofs.Common.{◌≡◌, ℕ, ◌==◌, Bool, true, if◌then◌else◌, None, Option, Some, ap, ◌∙◌, eq-eqb, subst, sym}
+use Rattle.xa_bank.specs.declared.habits.ShutsAt.{ShutsAt}
+use Rattle.xa_bank.specs.Numbered.{store_if_at}
 use Rattle.xa_bank.specs.Transfers.{MayShut}
 use Rattle.xa_bank.proofs.teller.shut.Goals as goal
 
-pub returns-in-Some-clause-shuts : goal.returns-in-Some-clause-shuts
-returns-in-Some-clause-shuts g c =
-    let is : c.args.store ≡ Some c.in-Some.m = cc in
-    subst (λ (o : Option ℕ). MayShut o c.args.desk.now c.native.new.desk) (sym is) (c.native.result, c.native.ensures.calls)
-
-pub returns-in_default-clause-shuts : goal.returns-in_default-clause-shuts
-returns-in_default-clause-shuts g c =
-    let is : c.args.store ≡ None = cc in
-    subst (λ (o : Option ℕ). MayShut o c.args.desk.now c.args.desk.now) (sym is) refl
+pub returns-then-shuts-place-clause-shuts : goal.returns-then-shuts-place-clause-shuts
+returns-then-shuts-place-clause-shuts g c =
+    let is : c.args.habits.now.shuts ≡ Some c.in-Some.shuts = cc in
+    let here : (c.in-Some.shuts.place == c.args.place) ≡ true = eq-eqb c.in-Some.shuts.place c.args.place c.if-shuts-place.true in
+    let store : store_if_at c.args.habits.now.shuts c.args.place ≡ Some c.in-Some.shuts.store =
+    ap (λ (o : Option ShutsAt). store_if_at o c.args.place) is ∙ ap (λ (b : Bool). if b then Some c.in-Some.shuts.store else None) here in
+    subst (λ (o : Option ℕ). MayShut o c.args.desk.now c.native.new.desk) (sym store) (c.native.result, c.native.ensures.calls)

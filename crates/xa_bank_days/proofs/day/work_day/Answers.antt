@@ -1,6 +1,7 @@
 use Rattle.std.proofs.Common.{map, sym, ap, ◌∙◌, subst, arith, ℕ}
 use Rattle.std.specs.List.{list_any}
 use Rattle.xa_switch.specs.Plans.{IsWithinLimits}
+use Rattle.xa_bank_days.specs.Banks.{HasRoom}
 use Rattle.xa_bank_days.proofs.DayWorked.{any_mapped, begins_with, is_day, many_attended, mapped_twice, night_opens, same_stores}
 use Rattle.xa_bank_days.proofs.day.work_day.Goals as goal
 
@@ -18,8 +19,8 @@ returns-clause-worked g c =
       wants =
           c.want_memory-wanting.ensures ∙ ap (list_any (λ a. a.client.client.wants_memory)) c.deref.ensures.value
           ∙ any_mapped (λ t. t.wants_memory) (λ a. a.client.client) run.clients.items;
-      logs = c.all_off_work-tellers.ensures.logs;
-      told_ = c.all_off_work-tellers.ensures.outcomes ∙ mapped_twice (λ t. t.outcomes) (λ a. a.client.client) run.clients.items;
+      logs = c.all_off_work-evening.ensures.logs;
+      told_ = c.all_off_work-evening.ensures.outcomes ∙ mapped_twice (λ t. t.outcomes) (λ a. a.client.client) run.clients.items;
     }
 
 pub returns-clause-night : goal.returns-clause-night
@@ -32,10 +33,16 @@ returns-clause-night g c =
     night_opens run.settled c.args.again.now c.settled_openings_are_whole-2.ensures
     (subst (λ (n : ℕ). IsWithinLimits c.args.again.now n) (sym stores) ran.run.limits) ran.run.of_setup.opening
 
-pub all_off_work-tellers-requires-clause-few : goal.all_off_work-tellers-requires-clause-few
-all_off_work-tellers-requires-clause-few g c =
+pub all_off_work-evening-requires-clause-few : goal.all_off_work-evening-requires-clause-few
+all_off_work-evening-requires-clause-few g c =
     let many =
     many_attended _ c.args.settled c.args.again.now c.args.tellers.items c.in_ok-clients.field-0.clients.items c.in_ok-clients.field-0.settled c.in_ok-clients.ensures.ran in
     let threads = c.requires.tellers in
     let few = c.requires.few in
     omega (arith, many, threads, few)
+
+pub all_off_work-evening-requires-clause-room : goal.all_off_work-evening-requires-clause-room
+all_off_work-evening-requires-clause-room g c =
+    let many =
+    many_attended _ c.args.settled c.args.again.now c.args.tellers.items c.in_ok-clients.field-0.clients.items c.in_ok-clients.field-0.settled c.in_ok-clients.ensures.ran in
+    subst (λ n. HasRoom n c.args.evening) (c.requires.tellers ∙ sym many) c.requires.room

@@ -57,4 +57,4 @@ returns-clause-ended g c =
     whole (subst (λ (l : List (Vec Errands Global)). AreClosed g.L.DecisionLog.state g.L.DecisionRecords.knows g.L.DecisionLog.loses g.L.ReopenLog.reopens c.args.bank l c.loop-errands.closed.items c.loop-errands.bank) all i.closed)
 
 pub returns-in_default-clause-stopped : goal.returns-in_default-clause-stopped
-returns-in_default-clause-stopped g c = at_once c.new.ensures.items refl
+returns-in_default-clause-stopped g c = at_once c.new-closed.ensures.items refl

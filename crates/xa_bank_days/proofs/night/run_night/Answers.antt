@@ -10,7 +10,7 @@ use Rattle.xa_switch.specs.Again.{MayReopen}
 use Rattle.xa_bank_days.specs.declared.night.Resolver.{Resolver}
 use Rattle.xa_bank_days.specs.declared.night.Unresolved.TheVariants.{NoMemory}
 use Rattle.xa_bank_days.specs.Nights.{Excuses, HasRoomToResolve, IsNight, ResolvesBy}
-use Rattle.xa_bank_days.proofs.Nightly.{left_law, night_law, tellers_law}
+use Rattle.xa_bank_days.proofs.Nightly.{left_law, night_law, tellers_law, untouched_law}
 use Rattle.xa_bank_days.proofs.night.run_night.Goals as goal
 
 pub returns-in-Some : goal.returns-in-Some
@@ -20,7 +20,7 @@ returns-in-Some g c =
     let s = c.args.settled in
     let again = c.args.again.now in
     let r : Resolver g.row.L.Denot = record { alloc = c.args.alloc; tellers = c.args.tellers; resolved = Err NoMemory } in
-    let run = c.in-Ok-run_clients_again_in_turns.field-0 in
+    let run = c.in-Ok-run_clients_again_in_turns.run' in
     let given : c.push_reserved.new.self.items ≡ r ∷ [] =
     c.push_reserved.ensures.items ∙ ap (λ (l : List (Resolver g.row.L.Denot)). l ++ r ∷ []) c.in-Ok.ensures.items in
     let ran =
@@ -28,16 +28,11 @@ returns-in-Some g c =
     let is : run.clients.items ≡ c.pop.new.self.items ++ c.in-Some.attended ∷ [] = c.in-Some.ensures.items in
     let whole = c.settled_openings_are_whole.ensures in
     let goes_on = c.reopened_openings_go_on_from_what_was_left.ensures in
-    let parts = c.into_parts-tellers.ensures in
     record {
-      night =
-          subst (λ o. IfOk o (λ z. IsNight state knows c.args.tellers.items s again z.outcomes.items run.settled)) (ap (λ p. p.1) (sym parts))
-          (night_law state knows s again r run.clients.items run.settled ran c.requires whole goes_on c.in-Some.attended c.pop.new.self.items is);
-      unresolved =
-          subst (λ o. IfErr o (Excuses ⊥ (All (λ t. knows t.log) c.args.tellers.items) (HasRoomToResolve s again) (MayReopen s again))) (ap (λ p. p.1) (sym parts))
-          (left_law state knows s again r run.clients.items run.settled ran c.requires whole goes_on c.in-Some.attended c.pop.new.self.items is);
-      tellers = ap (λ p. p.0) parts
-          ∙ tellers_law state knows s again r run.clients.items run.settled ran c.requires whole goes_on c.in-Some.attended c.pop.new.self.items is;
+      night = night_law state knows s again r run.clients.items run.settled ran c.requires whole goes_on c.in-Some.attended c.pop.new.self.items is;
+      unresolved = left_law state knows s again r run.clients.items run.settled ran c.requires whole goes_on c.in-Some.attended c.pop.new.self.items is;
+      untouched = untouched_law state knows s again r run.clients.items run.settled ran c.requires whole goes_on c.in-Some.attended c.pop.new.self.items is;
+      tellers = tellers_law state knows s again r run.clients.items run.settled ran c.requires whole goes_on c.in-Some.attended c.pop.new.self.items is;
       unsettled = tt;
     }
 

@@ -4,7 +4,7 @@ use Rattle.xa_bank_days.proofs.bank.Bank.open.Goals as goal
 
 pub returns-in-Ok-run_clients_in_turns-clause-opened : goal.returns-in-Ok-run_clients_in_turns-clause-opened
 returns-in-Ok-run_clients_in_turns-clause-opened g c =
-    let run = c.in-Ok-run_clients_in_turns.field-0 in
+    let run = c.in-Ok-run_clients_in_turns.run' in
     let ran = c.in-Ok-run_clients_in_turns.ensures.ran in
     let whole = c.settled_openings_are_whole.ensures in
     record {

@@ -1,6 +1,8 @@
-use Rattle.std.proofs.Common.{rules, ◌≡◌, ℕ, ◌+◌, ◌<◌, true, false, ◌||◌, List, [], ◌∷◌, ◌++◌, length, length-append, append-nil, None, take, drop, length-take}
+use Rattle.std.proofs.Common.{rules, ◌≡◌, ℕ, ◌+◌, ◌-◌, ◌<◌, ◌≤◌, Vec, true, false, ◌||◌, List, [], ◌∷◌, ◌++◌, length, length-append, append-nil, None, take}
+use Rattle.std.proofs.Common.{drop, length-take}
 use Rattle.std.proofs.Common.{append_assoc, sym, refl, ap, ◌∙◌, subst, arith}
-use Rattle.std.specs.List.{list_any}
+use Rattle.std.specs.Global.{Global}
+use Rattle.std.specs.List.{list_any, slice_index_or}
 use Rattle.std.proofs.lemmas.List.{take_all, take-append-drop}
 use Rattle.std.proofs.lemmas.List.Folds.{list_any-append}
 use Rattle.xa_base.proofs.Lists.{one_more}
@@ -16,13 +18,14 @@ use Rattle.xa_work.specs.Units.IsRefused.{barred, unbegun, undone}
 use Rattle.xa_work.specs.Units.Transacts.{commits, refused}
 use Rattle.xa_work.proofs.Sent.{have_none}
 use Rattle.xa_bank.specs.declared.habits.Habits.{Habits}
+use Rattle.xa_bank.specs.declared.teller.Teller.{Teller}
 use Rattle.xa_bank.specs.declared.teller.Transfer.{Transfer}
 use Rattle.xa_bank.specs.Numbered.{death_in, death_if_at}
 use Rattle.xa_bank.specs.Tellers.{ended, lived, unknown}
 use Rattle.xa_bank.specs.Transfers.{Makes, MakesEach, MakesNext, with_legs, without_legs}
 use Rattle.xa_bank.proofs.Named.{makes_more, makes_none}
 use Rattle.xa_bank.proofs.LostRecords.{each_any}
-use Rattle.xa_bank.proofs.teller.make_all.Goals as goal
+use Rattle.xa_bank.proofs.teller.Teller.make_all.Goals as goal
 
 -- a transfer more, where others may follow that aren't made
 one_made : (R : LogState → Type 0) (t place : ℕ) (habits : Habits) (trs : List Transfer) (tr : Transfer) (unmade : List Transfer) (more : List WorkOutcome) (o : WorkOutcome) (u : ℕ) (old mid new : DeskView) (log now later : LogState)
@@ -54,11 +57,11 @@ still_known Knows (Undecided votes) lives known = cc
 pub returns-then-not-is_known-clause-made : goal.returns-then-not-is_known-clause-made
 returns-then-not-is_known-clause-made g c = record {
   more = [];
-  told = sym (append-nil c.args.outcomes.now.items);
+  told = sym (append-nil c.args.self.now.outcomes.items);
   makes = record {
     opened = c.args.desk.now;
     opens = have_none IsOpenRm c.args.desk.now.ledgers c.args.desk.now.ledgers refl;
-    makes = makes_none (IsReadAs g.L.DecisionLog.state g.L.DecisionRecords.knows g.L.DecisionLog.loses c.args.log.now) c.args.desk.now.thread c.args.habits.now c.args.habits.now.first c.args.transfers.now c.args.desk.now (g.L.DecisionLog.state c.args.log.now);
+    makes = makes_none (IsReadAs g.L.DecisionLog.state g.L.DecisionRecords.knows g.L.DecisionLog.loses c.args.self.now.log) c.args.desk.now.thread c.args.self.now.habits c.args.self.now.habits.first c.args.self.now.transfers.items c.args.desk.now (g.L.DecisionLog.state c.args.self.now.log);
   };
   comes = unknown (λ known. let yes_ : c.is_known.result ≡ true = c.is_known.ensures.1 known in let no : c.is_known.result ≡ false = c.if-not-is_known.true in cc) refl;
 }
@@ -68,47 +71,55 @@ loop-place-init g c = record {
   goes_on = c.open_all.ensures.goes_on;
   kept = c.open_all.ensures.kept;
   idled = c.open_all.ensures.idled;
+  transfers = refl;
+  habits = refl;
   knows = c.is_known.ensures.0 (let yes_ : c.is_known.result ≡ true = c.if-not-is_known.false in yes_);
   each = search rules;
   made = (
     [],
-    sym (append-nil c.args.outcomes.now.items),
+    sym (append-nil c.args.self.now.outcomes.items),
     refl,
     refl,
-    makes_none (IsReadAs g.L.DecisionLog.state g.L.DecisionRecords.knows g.L.DecisionLog.loses c.args.log.now) c.args.desk.now.thread c.args.habits.now c.args.habits.now.first (take 0 c.args.transfers.now) c.open_all.new.desk (g.L.DecisionLog.state c.args.log.now),
+    makes_none (IsReadAs g.L.DecisionLog.state g.L.DecisionRecords.knows g.L.DecisionLog.loses c.args.self.now.log) c.args.desk.now.thread c.args.self.now.habits c.args.self.now.habits.first (take 0 c.args.self.now.transfers.items) c.open_all.new.desk (g.L.DecisionLog.state c.args.self.now.log),
   );
 }
 
 pub loop-place-preserved : goal.loop-place-preserved
 loop-place-preserved g c =
     let (more, told, many, none, makes) = c.loop-place.invariant.made in
-    let trs : List Transfer = c.args.transfers.now in
+    let trs : List Transfer = c.args.self.now.transfers.items in
     let place : ℕ = c.loop-place.place in
-    let tr : Transfer = c.index-transfers-place.result in
-    let below : place < length trs = c.loop-place-test.true in
+    let tr : Transfer = c.index.result.now in
+    let below : place < length trs = (let size = c.len-place-end.ensures in let test = c.loop-place-test.true in omega (arith, size, test)) in
     let o : WorkOutcome = c.in_ok-outcome.outcome in
     let first : DeskView = c.open_all.new.desk in
     let t : ℕ = c.args.desk.now.thread in
-    let habits : Habits = c.args.habits.now in
-    let log : LogState = g.L.DecisionLog.state c.args.log.now in
-    let later : LogState = g.L.DecisionLog.state c.make.new.log in
-    let reads : LogState → Type 0 = IsReadAs g.L.DecisionLog.state g.L.DecisionRecords.knows g.L.DecisionLog.loses c.make.new.log in
+    let habits : Habits = c.args.self.now.habits in
+    let log : LogState = g.L.DecisionLog.state c.args.self.now.log in
+    let later : LogState = g.L.DecisionLog.state c.make.new.self.log in
+    let reads : LogState → Type 0 = IsReadAs g.L.DecisionLog.state g.L.DecisionRecords.knows g.L.DecisionLog.loses c.make.new.self.log in
     let same : c.loop-place.desk.thread ≡ t = ap (λ (s : DeskSeat). s.thread) c.loop-place.invariant.goes_on.seat in
+    let same_outcomes = ap (λ (u : Teller g.row.L.Denot). u.outcomes.items) c.make.ensures.same in
+    let makes_next : MakesNext c.loop-place.desk.thread (habits.first + place) tr habits o c.loop-place.desk c.make.new.desk (g.L.DecisionLog.state c.loop-place.self.log) later reads =
+    subst (λ (h : Habits). MakesNext c.loop-place.desk.thread (h.first + place) tr h o c.loop-place.desk c.make.new.desk (g.L.DecisionLog.state c.loop-place.self.log) later reads)
+    c.loop-place.invariant.habits c.in_ok-outcome.ensures.makes in
     let all =
-    one_made reads t place habits trs tr [] more o c.loop-place.desk.thread first c.loop-place.desk c.make.new.desk log (g.L.DecisionLog.state c.loop-place.log) later below many same (each_any (IsReadAs g.L.DecisionLog.state g.L.DecisionRecords.knows g.L.DecisionLog.loses c.loop-place.log) reads t habits habits.first (take place trs) more first c.loop-place.desk log (g.L.DecisionLog.state c.loop-place.log) none makes)
-    c.in_ok-outcome.ensures.makes in
-    let taken : take (place + 1) trs ≡ take place trs ++ tr ∷ [] = one_more trs place tr below c.index-transfers-place.is in
+    one_made reads t place habits trs tr [] more o c.loop-place.desk.thread first c.loop-place.desk c.make.new.desk log (g.L.DecisionLog.state c.loop-place.self.log) later below many same (each_any (IsReadAs g.L.DecisionLog.state g.L.DecisionRecords.knows g.L.DecisionLog.loses c.loop-place.self.log) reads t habits habits.first (take place trs) more first c.loop-place.desk log (g.L.DecisionLog.state c.loop-place.self.log) none makes) makes_next in
+    let taken : take (place + 1) trs ≡ take place trs ++ tr ∷ [] =
+    one_more trs place tr below (subst (λ (v : Vec Transfer Global). tr ≡ slice_index_or v.items place tr) c.loop-place.invariant.transfers c.index.ensures) in
     let size : length (more ++ o ∷ []) ≡ length more + 1 = length-append more (o ∷ []) in
     let lives : is_last o ≡ false = sym c.is_last-last.ensures ∙ c.if-last.false in
     record {
       goes_on = search rules;
       kept = search rules;
+      transfers = ap (λ (u : Teller g.row.L.Denot). u.transfers) c.make.ensures.same ∙ c.loop-place.invariant.transfers;
+      habits = ap (λ (u : Teller g.row.L.Denot). u.habits) c.make.ensures.same ∙ c.loop-place.invariant.habits;
       idled = c.idles_go_on.ensures.further _ _ _ c.loop-place.invariant.idled c.make.ensures.idled;
-      knows = still_known (g.L.DecisionRecords.knows c.make.new.log) o lives c.in_ok-outcome.ensures.known;
+      knows = still_known (g.L.DecisionRecords.knows c.make.new.self.log) o lives c.in_ok-outcome.ensures.known;
       each = search rules;
       made = (
         more ++ o ∷ [],
-        grown c.args.outcomes.now.items more o c.push.new.self.items c.loop-place.outcomes.items c.in_ok-push.ensures.items told,
+        grown c.args.self.now.outcomes.items more o c.push.new.self.items c.make.new.self.outcomes.items c.in_ok-push.ensures.items (same_outcomes ∙ told),
         omega (arith, size, many),
         still_none more o none lives,
         subst (λ (l : List Transfer). MakesEach t habits habits.first l (more ++ o ∷ []) first c.make.new.desk log later reads) (sym taken) all,
@@ -118,29 +129,33 @@ loop-place-preserved g c =
 pub returns-then-last-clause-made : goal.returns-then-last-clause-made
 returns-then-last-clause-made g c =
     let (more, told, many, none, makes) = c.loop-place.invariant.made in
-    let trs : List Transfer = c.args.transfers.now in
+    let trs : List Transfer = c.args.self.now.transfers.items in
     let place : ℕ = c.loop-place.place in
-    let tr : Transfer = c.index-transfers-place.result in
-    let below : place < length trs = c.loop-place-test.true in
+    let tr : Transfer = c.index.result.now in
+    let below : place < length trs = (let size = c.len-place-end.ensures in let test = c.loop-place-test.true in omega (arith, size, test)) in
     let o : WorkOutcome = c.in_ok-outcome.outcome in
     let first : DeskView = c.open_all.new.desk in
     let t : ℕ = c.args.desk.now.thread in
-    let habits : Habits = c.args.habits.now in
-    let log : LogState = g.L.DecisionLog.state c.args.log.now in
-    let later : LogState = g.L.DecisionLog.state c.make.new.log in
-    let reads : LogState → Type 0 = IsReadAs g.L.DecisionLog.state g.L.DecisionRecords.knows g.L.DecisionLog.loses c.make.new.log in
+    let habits : Habits = c.args.self.now.habits in
+    let log : LogState = g.L.DecisionLog.state c.args.self.now.log in
+    let later : LogState = g.L.DecisionLog.state c.make.new.self.log in
+    let reads : LogState → Type 0 = IsReadAs g.L.DecisionLog.state g.L.DecisionRecords.knows g.L.DecisionLog.loses c.make.new.self.log in
     let rest : List Transfer = drop (place + 1) trs in
     let same : c.loop-place.desk.thread ≡ t = ap (λ (s : DeskSeat). s.thread) c.loop-place.invariant.goes_on.seat in
+    let same_outcomes = ap (λ (u : Teller g.row.L.Denot). u.outcomes.items) c.make.ensures.same in
+    let makes_next : MakesNext c.loop-place.desk.thread (habits.first + place) tr habits o c.loop-place.desk c.make.new.desk (g.L.DecisionLog.state c.loop-place.self.log) later reads =
+    subst (λ (h : Habits). MakesNext c.loop-place.desk.thread (h.first + place) tr h o c.loop-place.desk c.make.new.desk (g.L.DecisionLog.state c.loop-place.self.log) later reads)
+    c.loop-place.invariant.habits c.in_ok-outcome.ensures.makes in
     let all =
-    one_made reads t place habits trs tr rest more o c.loop-place.desk.thread first c.loop-place.desk c.make.new.desk log (g.L.DecisionLog.state c.loop-place.log) later below many same (each_any (IsReadAs g.L.DecisionLog.state g.L.DecisionRecords.knows g.L.DecisionLog.loses c.loop-place.log) reads t habits habits.first (take place trs) more first c.loop-place.desk log (g.L.DecisionLog.state c.loop-place.log) none makes)
-    c.in_ok-outcome.ensures.makes in
-    let taken : take (place + 1) trs ≡ take place trs ++ tr ∷ [] = one_more trs place tr below c.index-transfers-place.is in
+    one_made reads t place habits trs tr rest more o c.loop-place.desk.thread first c.loop-place.desk c.make.new.desk log (g.L.DecisionLog.state c.loop-place.self.log) later below many same (each_any (IsReadAs g.L.DecisionLog.state g.L.DecisionRecords.knows g.L.DecisionLog.loses c.loop-place.self.log) reads t habits habits.first (take place trs) more first c.loop-place.desk log (g.L.DecisionLog.state c.loop-place.self.log) none makes) makes_next in
+    let taken : take (place + 1) trs ≡ take place trs ++ tr ∷ [] =
+    one_more trs place tr below (subst (λ (v : Vec Transfer Global). tr ≡ slice_index_or v.items place tr) c.loop-place.invariant.transfers c.index.ensures) in
     let parts : take place trs ++ tr ∷ rest ≡ trs =
     sym (append_assoc (take place trs) (tr ∷ []) rest) ∙ ap (λ l. l ++ rest) (sym taken) ∙ take-append-drop (place + 1) trs in
     let whole : more ++ o ∷ [] ≡ more ++ o ∷ [] = refl in
     record {
       more = more ++ o ∷ [];
-      told = grown c.args.outcomes.now.items more o c.push.new.self.items c.loop-place.outcomes.items c.in_ok-push.ensures.items told;
+      told = grown c.args.self.now.outcomes.items more o c.push.new.self.items c.make.new.self.outcomes.items c.in_ok-push.ensures.items (same_outcomes ∙ told);
       makes = record {
         opened = first;
         opens = c.open_all.ensures.sent;
@@ -155,7 +170,7 @@ lives_on : {R : LogState → Type 0} (t n : ℕ) (tr : Transfer) (habits : Habit
 lives_on t n tr habits o old new log later (with_legs one two left legs (commits worked begins known_ work (in_full done none is made)) kept read) never =
     ap has_died is
 lives_on t n tr habits o old new log later (with_legs one two left legs (commits worked begins known_ work (cut_short at known some is dies)) kept read) never =
-    let nowhere : death_in habits n ≡ None = ap (λ d. death_if_at d n) never in cc
+    let nowhere : death_in habits n ≡ None = ap (λ d. death_if_at d (n - habits.first)) never in cc
 lives_on t n tr habits o old new log later (with_legs one two left legs (commits worked begins known_ work (undecided votes decides is may voted wanted)) kept read) never =
     ap has_died is
 lives_on t n tr habits o old new log later (with_legs one two left legs (refused same (unbegun is may none) sent) kept read) never = ap has_died is
@@ -175,21 +190,21 @@ last_is_lost Knows (Undecided votes) last lives known = known
 pub returns-then-last-clause-each : goal.returns-then-last-clause-each
 returns-then-last-clause-each g c never known knows =
     let o : WorkOutcome = c.in_ok-outcome.outcome in
-    let lives = lives_on _ _ _ _ o _ _ _ _ c.in_ok-outcome.ensures.makes.makes never in
-    absurd (last_is_lost (g.L.DecisionRecords.knows c.make.new.log) o (sym c.is_last-last.ensures ∙ c.if-last.true) lives c.in_ok-outcome.ensures.known knows)
+    let lives = lives_on _ _ _ _ o _ _ _ _ c.in_ok-outcome.ensures.makes.makes (ap (λ (h : Habits). h.death) c.loop-place.invariant.habits ∙ never) in
+    absurd (last_is_lost (g.L.DecisionRecords.knows c.make.new.self.log) o (sym c.is_last-last.ensures ∙ c.if-last.true) lives c.in_ok-outcome.ensures.known knows)
 
 pub returns-clause-made : goal.returns-clause-made
 returns-clause-made g c =
     let (more, told, many, none, makes) = c.loop-place.invariant.made in
-    let trs : List Transfer = c.args.transfers.now in
-    let past = c.loop-place-test.false in
+    let trs : List Transfer = c.args.self.now.transfers.items in
+    let past : length trs ≤ c.loop-place.place = (let size = c.len-place-end.ensures in let test = c.loop-place-test.false in omega (arith, size, test)) in
     record {
       more = more;
       told = told;
       makes = record {
         opened = c.open_all.new.desk;
         opens = c.open_all.ensures.sent;
-        makes = subst (λ (l : List Transfer). MakesEach c.args.desk.now.thread c.args.habits.now c.args.habits.now.first l more c.open_all.new.desk c.loop-place.desk (g.L.DecisionLog.state c.args.log.now) (g.L.DecisionLog.state c.loop-place.log) (IsReadAs g.L.DecisionLog.state g.L.DecisionRecords.knows g.L.DecisionLog.loses c.loop-place.log)) (take_all c.loop-place.place trs (omega (arith, past))) makes;
+        makes = subst (λ (l : List Transfer). MakesEach c.args.desk.now.thread c.args.self.now.habits c.args.self.now.habits.first l more c.open_all.new.desk c.loop-place.desk (g.L.DecisionLog.state c.args.self.now.log) (g.L.DecisionLog.state c.loop-place.self.log) (IsReadAs g.L.DecisionLog.state g.L.DecisionRecords.knows g.L.DecisionLog.loses c.loop-place.self.log)) (take_all c.loop-place.place trs (omega (arith, past))) makes;
       };
       comes = lived none (let low = c.loop-place.invariant.each in omega (arith, past, many)) c.loop-place.invariant.knows;
     }

@@ -1,0 +1,70 @@
+use Rattle.std.specs.Prelude.{Err, IfErr, IfOk, Ok, Result}
+use Rattle.std.proofs.Common.{◌≡◌, Bool, true, false, if◌then◌else◌, sym, ap, ◌∙◌, refl, subst}
+use Rattle.std.specs.List.{All}
+use Rattle.xa_switch.specs.declared.plan.Again.{Again}
+use Rattle.xa_switch.specs.Again.{MayReopen}
+use Rattle.xa_driver.specs.declared.resolved.Resolved.{Resolved}
+use Rattle.xa_bank_days.specs.declared.night.Unresolved.{Unresolved}
+use Rattle.xa_bank_days.specs.declared.night.Unresolved.TheVariants.{BadNumbers, NoMemory, NoRoom, TellerWantsMemory, UnknownLog}
+use Rattle.xa_bank_days.specs.Banks.{next_numbers}
+use Rattle.xa_bank_days.specs.Nights.{Excuses, HasRoomToResolve, IsNight, IsUnsettledNight, IsUntouched, unopened}
+use Rattle.xa_bank_days.proofs.DayWorked.{same_stores}
+use Rattle.xa_bank_days.proofs.ManyDays.{if_ok}
+use Rattle.xa_bank_days.proofs.day.pass_night.Goals as goal
+
+pub returns-then-wanting : goal.returns-then-wanting
+returns-then-wanting g c = record {
+  passed = record {
+    tellers_ = refl;
+    numbers = sym (ap (λ (b : Bool). if b then c.args.day.now else next_numbers c.args.day.now 1) c.if-wanting.true);
+    stays = λ _. refl;
+    closed = tt;
+    left = (c.if-wanting.true, unopened refl);
+  };
+  unsettled = tt;
+}
+
+-- a night doesn't follow where memory was wanted
+not_wanting : {A : Type 0} {b : Bool} → b ≡ true → b ≡ false → A
+not_wanting wants doesnt = let z : true ≡ false = sym wants ∙ doesnt in cc
+
+-- why a night resolved nothing is why nothing was resolved of its day
+day_excuse : {Good : Type 0} (Wants Known Room : Type 0) → Good → (why : Unresolved) → Excuses ⊥ Known Room Good why → Excuses Wants Known Room (Unit {0}) why
+day_excuse Wants Known Room good TellerWantsMemory e = absurd e
+day_excuse Wants Known Room good UnknownLog e = e
+day_excuse Wants Known Room good NoRoom e = e
+day_excuse Wants Known Room good BadNumbers e = absurd (e good)
+day_excuse Wants Known Room good NoMemory e = tt
+
+-- two facts of an error
+err_each : {P Q S : Unresolved → Type 0} (r : Result Resolved Unresolved) → ((e : Unresolved) → P e → Q e → S e) → IfErr r P → IfErr r Q → IfErr r S
+err_each (Ok z) so p q = tt
+err_each (Err e) so p q = so e p q
+
+pub returns-clause-passed : goal.returns-clause-passed
+returns-clause-passed g c =
+    let n = c.in_ok-night.night in
+    let s = c.args.settled in
+    let ts = c.args.tellers in
+    let night : Again = next_numbers c.args.day.now 1 in
+    let numbers = c.next_numbers-again.ensures.numbers in
+    let Known = All (λ t. g.L.DecisionRecords.knows t.log) ts.items in
+    record {
+      tellers_ = c.in_ok-night.ensures.tellers;
+      numbers = numbers ∙ sym (ap (λ (b : Bool). if b then c.args.day.now else night) c.if-wanting.false);
+      stays = λ wants. not_wanting wants c.if-wanting.false;
+      closed =
+          if_ok n.resolved
+          (λ z is_night. (
+            c.if-wanting.false,
+            numbers,
+            subst (λ (q : Again). IsNight g.L.DecisionLog.state g.L.DecisionRecords.knows ts.items s q z.outcomes.items n.settled) numbers is_night,
+            same_stores c.reopened_openings_go_on_from_what_was_left.ensures s n.settled c.next_numbers-again.result c.settled_openings_are_whole.ensures is_night.resolves.of_setup c.settled_openings_are_whole-2.ensures,
+          )) c.in_ok-night.ensures.night;
+      left =
+          subst (λ (q : Again). IfErr n.resolved (λ why. Excuses (c.args.wanting ≡ true) Known (HasRoomToResolve s q) (Unit {0}) why × IsUntouched s q n.settled)) numbers
+          (err_each n.resolved (λ why excuse untouched. (
+            day_excuse (c.args.wanting ≡ true) Known (HasRoomToResolve s c.next_numbers-again.result) (subst (MayReopen s) (sym numbers) c.requires) why excuse,
+            untouched,
+          )) c.in_ok-night.ensures.unresolved c.in_ok-night.ensures.untouched);
+    }
