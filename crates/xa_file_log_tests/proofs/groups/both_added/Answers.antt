@@ -7,10 +7,10 @@ use Rattle.std.specs.FinMap.{get-insert}
 use Rattle.xa_log.specs.Transactions.{tran_cmp}
 use Rattle.xa_log.proofs.Transactions.{tran_cmp_total, tran_eq-by_cmp}
 use Rattle.xa_file_log.specs.Memory.{records_in}
-use Rattle.xa_file_log_tests.proofs.both_added.Goals as goal
+use Rattle.xa_file_log_tests.proofs.groups.both_added.Goals as goal
 
 pub append_all-requires-clause-new : goal.append_all-requires-clause-new
-append_all-requires-clause-new g c =
+append_all-requires-clause-new c =
     let first = sym c.has.ensures ∙ is_missing c.has.result (sym c.is_some.ensures ∙ c.if-is_some.false) in
     let second = sym c.has-2.ensures ∙ is_missing c.has-2.result (sym c.is_some-2.ensures ∙ c.if-is_some-2.false) in
     let apart : eq_by_cmp tran_cmp c.args.two.now.tran c.args.one.now.tran ≡ false =
