@@ -36,11 +36,11 @@ fn submit<R: Wait + Abort>(rt: &R, desk: &mut Desk, standing: &mut Standing, tur
     match desk.submit(rt, 1, Op::OpenRm) {
         Ok(ticket) => {
             desk.keep(ticket);
-            assert_eq!(rt; standing.refusal(), None, "sent in turn {turn}");
+            assert!(rt; standing.refusal().is_none(), "sent in turn {turn}");
             standing.requests = standing.requests.saturating_add(1);
             standing.kept = standing.kept.saturating_add(1);
         }
-        Err(why) => assert_eq!(rt; standing.refusal(), Some(why), "in turn {turn}"),
+        Err(why) => assert!(rt; standing.refusal() == Some(why), "in turn {turn}"),
     }
 }
 
@@ -53,7 +53,7 @@ fn serve<R: Wait + Abort>(rt: &R, managers: &mut Managers, standing: &mut Standi
             standing.requests = standing.requests.saturating_sub(1);
             standing.completions = standing.completions.saturating_add(1);
         }
-        None => assert_eq!(rt; standing.requests, 0, "empty in turn {turn}"),
+        None => assert!(rt; standing.requests == 0, "empty in turn {turn}"),
     }
 }
 
@@ -61,17 +61,17 @@ fn serve<R: Wait + Abort>(rt: &R, managers: &mut Managers, standing: &mut Standi
 fn collect<R: Wait + Abort>(rt: &R, desk: &mut Desk, standing: &mut Standing, turn: u32) {
     match desk.try_complete_any(rt, 1) {
         Ok((_, code)) => {
-            assert_eq!(rt; code, Code::Done, "in turn {turn}");
+            assert!(rt; code == Code::Done, "in turn {turn}");
             assert!(rt; standing.completions > 0, "collected in turn {turn}");
             standing.completions = standing.completions.saturating_sub(1);
             standing.kept = standing.kept.saturating_sub(1);
         }
         Err(AnyFault::Retry) => {
-            assert_eq!(rt; standing.completions, 0, "retry in turn {turn}");
+            assert!(rt; standing.completions == 0, "retry in turn {turn}");
             assert!(rt; standing.kept > 0, "retry in turn {turn}");
         }
         Err(AnyFault::NothingOutstanding) => {
-            assert_eq!(rt; standing.kept, 0, "nothing outstanding in turn {turn}")
+            assert!(rt; standing.kept == 0, "nothing outstanding in turn {turn}")
         }
     }
 }

@@ -158,7 +158,7 @@ fn is_whole(taken: &[(usize, u32)], sender: usize, count: u32) -> bool {
 fn what_each_sender_sends_arrives_whole_and_in_order(rt: HostRuntime) {
     for senders in [1, 2, 8] {
         let (taken, left) = relay(rt, rt.alloc(), senders, 1000).expect(&rt, "memory");
-        assert_eq!(rt; taken.len(), 1000 * senders);
+        assert!(rt; taken.len() == 1000 * senders);
         assert!(rt; left.is_empty());
         for sender in 0..senders {
             assert!(rt;
