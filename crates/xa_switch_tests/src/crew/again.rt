@@ -1,18 +1,17 @@
 //! Runs of a client over an opening that is opened again: it is lent the scan of what it left prepared.
-ghost use Rattle.std.specs.Prelude.{◌≡◌};
+ghost use Rattle.std.specs.Prelude.{◌≡◌, length};
 ghost use Rattle.xa_desk.specs.GoesOn.{GoesOn};
 ghost use Rattle.xa_desk.specs.Kept.{AllKept};
 
 use std::alloc::Global;
 use std::process::Abort;
 use std::sync::Wait;
-use std::test::Fail;
 use std::thread::Threads;
 use xa_calls::{RmOp, native, xa_call, xa_recover};
 use xa_crew::laws::idles_go_on;
 use xa_crew::{
-    AgainFault, Client, ClientAgain, Run, WithScan, run_clients, run_clients_again,
-    run_clients_again_in_turns,
+    AgainFault, Client, ClientAgain, Run, UnopenedClients, WithScan, run_clients,
+    run_clients_again, run_clients_again_in_turns,
 };
 use xa_desk::laws::desks_go_on;
 use xa_desk::{Desk, Idle};
@@ -122,86 +121,114 @@ fn again(opening: u64) -> Again
     }
 }
 
-// A settled opening with a branch prepared at manager 1.
-fn settled_with_one_left<R: Threads + Wait + Abort + Copy + Send + 'static>(
-    rt: &R,
-    alloc: Global,
-) -> Result<Settled, Fail> {
+fn one_leaver(rt: &impl Abort, alloc: Global) -> Vec<Leaver>
+    ensures { length result.items ≡ 1 }
+{
+    Vec::from_array(alloc, [Leaver::new()]).expect(rt, "memory")
+}
+
+// A plan of one thread and two managers, each with the key `a` of value 5.
+fn first_plan(rt: &impl Abort, alloc: Global) -> Plan {
     let accounts = [(Key::new(b"a").expect(rt, "a key"), 5)];
-    let plan = Plan {
+    Plan {
         opening: 7,
-        threads: 1,
         handles: 2,
         queue: 2,
         requests: 8,
         ..xa_testing::plan_of(alloc, 2, &accounts).expect(rt, "memory")
-    };
-    let clients = Vec::from_array(alloc, [Leaver::new()])?;
-    let paces = Vec::from_array(alloc, [Free, Free])?;
-    assert_eq!(rt; (plan.threads, plan.managers.len()), (1, 2));
+    }
+}
+
+// A settled opening with a branch prepared at manager 1.
+fn settled_with_one_left<R: Threads + Wait + Abort + Copy + Send + 'static>(
+    rt: &R,
+    alloc: Global,
+) -> Settled {
+    let plan = first_plan(rt, alloc);
+    let clients = one_leaver(rt, alloc);
+    let paces = Vec::from_array(alloc, [Free, Free]).expect(rt, "memory");
+    assert!(rt; plan.threads == 1 && plan.managers.len() == 2);
     let run = run_clients(rt, alloc, &plan, clients, paces).expect(rt, "a run");
-    assert_eq!(rt; run.clients[0].client.prepared, 0);
-    Ok(run.settled)
+    assert!(rt; only(rt, &run).prepared == 0);
+    run.settled
+}
+
+// The one client of the run.
+fn only<'a>(rt: &impl Abort, run: &'a Run<Leaver>) -> &'a Leaver {
+    match run.clients.as_slice() {
+        [attended] => &attended.client,
+        _ => panic!(rt; "one client"),
+    }
+}
+
+// The one client of a run over an opening that was opened again, and its scan.
+fn only_again<'a>(rt: &impl Abort, run: &'a Run<WithScan<Leaver>>) -> &'a WithScan<Leaver> {
+    match run.clients.as_slice() {
+        [attended] => &attended.client,
+        _ => panic!(rt; "one client"),
+    }
 }
 
 // The client listed the one that was left, and rolled it back.
 fn rolled_one_back(rt: &impl Abort, run: &Run<WithScan<Leaver>>) {
-    let [attended] = run.clients.as_slice() else {
-        panic!(rt; "one client");
-    };
-    let WithScan { client, scan } = &attended.client;
-    assert_eq!(rt; (client.found, client.rolled_back), (1, 0));
-    assert_eq!(rt; (scan.left(1).len(), scan.left(2).len()), (1, 0));
+    let WithScan { client, scan } = only_again(rt, run);
+    assert!(rt; client.found == 1 && client.rolled_back == 0);
+    assert!(rt; scan.left(1).len() == 1 && scan.left(2).is_empty());
     let key = Key::new(b"a").expect(rt, "a key");
-    assert_eq!(rt; run.settled.value(1, &key), Some(5));
+    assert!(rt; run.settled.value(1, &key) == Some(5));
+}
+
+// A run of one client in its turn, over an opening that is opened again.
+fn run_again<R: Wait + Abort>(
+    rt: &R,
+    alloc: Global,
+    settled: Settled,
+    opening: u64,
+) -> Run<WithScan<Leaver>> {
+    let clients = one_leaver(rt, alloc);
+    match run_clients_again_in_turns(rt, alloc, settled, &again(opening), clients) {
+        Ok(run) => run,
+        Err(_) => panic!(rt; "no run"),
+    }
 }
 
 #[test]
-fn what_was_left_is_lent_to_a_client_in_a_thread(rt: HostRuntime) -> Result<(), Fail> {
+fn what_was_left_is_lent_to_a_client_in_a_thread(rt: HostRuntime) {
     let alloc = rt.alloc();
-    let settled = settled_with_one_left(&rt, alloc)?;
-    let clients = Vec::from_array(alloc, [Leaver::new()])?;
-    let paces = vec![in alloc; Free; settled.managers()]?;
-    let run = run_clients_again(&rt, alloc, settled, &again(8), clients, paces).expect(
-        &rt, "a run",
-    );
+    let settled = settled_with_one_left(&rt, alloc);
+    let clients = one_leaver(&rt, alloc);
+    let paces = vec![in alloc; Free; settled.managers()].expect(&rt, "memory");
+    let Ok(run) = run_clients_again(&rt, alloc, settled, &again(8), clients, paces) else {
+        panic!(rt; "no run");
+    };
     rolled_one_back(&rt, &run);
-    Ok(())
 }
 
 #[test]
-fn what_was_left_is_lent_to_a_client_in_its_turn(rt: HostRuntime) -> Result<(), Fail> {
+fn what_was_left_is_lent_to_a_client_in_its_turn(rt: HostRuntime) {
     let alloc = rt.alloc();
-    let settled = settled_with_one_left(&rt, alloc)?;
-    let clients = Vec::from_array(alloc, [Leaver::new()])?;
-    let run = run_clients_again_in_turns(&rt, alloc, settled, &again(8), clients).expect(
-        &rt, "a run",
-    );
+    let run = run_again(&rt, alloc, settled_with_one_left(&rt, alloc), 8);
     rolled_one_back(&rt, &run);
     // Nothing is left for the opening after that.
-    let clients = Vec::from_array(alloc, [Leaver::new()])?;
-    let run = run_clients_again_in_turns(&rt, alloc, run.settled, &again(9), clients).expect(
-        &rt, "a run",
-    );
-    assert_eq!(rt; run.clients[0].client.client.found, 0);
-    Ok(())
+    let run = run_again(&rt, alloc, run.settled, 9);
+    assert!(rt; only_again(&rt, &run).client.found == 0);
+}
+
+// What comes back where the number is that of the opening that was settled.
+fn comes_back<R: Wait + Abort>(rt: &R, alloc: Global, settled: Settled) -> UnopenedClients<Leaver> {
+    let clients = one_leaver(rt, alloc);
+    match run_clients_again_in_turns(rt, alloc, settled, &again(7), clients) {
+        Err(AgainFault::Unopened(back)) => back,
+        _ => panic!(rt; "it was opened again"),
+    }
 }
 
 #[test]
-fn what_may_not_be_opened_again_comes_back_with_its_clients(rt: HostRuntime) -> Result<(), Fail> {
+fn what_may_not_be_opened_again_comes_back_with_its_clients(rt: HostRuntime) {
     let alloc = rt.alloc();
-    let settled = settled_with_one_left(&rt, alloc)?;
-    let clients = Vec::from_array(alloc, [Leaver::new()])?;
-    // The number is that of the opening that was settled.
-    let refused = run_clients_again_in_turns(&rt, alloc, settled, &again(7), clients);
-    let Err(AgainFault::Unopened(back)) = refused else {
-        panic!(rt; "it was opened again");
-    };
+    let back = comes_back(&rt, alloc, settled_with_one_left(&rt, alloc));
     assert!(rt; matches!(back.why, OpenFault::BadPlan));
-    assert_eq!(rt; back.clients.len(), 1);
-    let run = run_clients_again_in_turns(&rt, alloc, back.settled, &again(8), back.clients).expect(
-        &rt, "a run",
-    );
-    rolled_one_back(&rt, &run);
-    Ok(())
+    assert!(rt; back.clients.len() == 1);
+    let run = run_clients_again_in_turns(&rt, alloc, back.settled, &again(8), back.clients);
+    rolled_one_back(&rt, &run.expect(&rt, "a run"));
 }

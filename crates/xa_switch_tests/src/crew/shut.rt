@@ -4,10 +4,13 @@ ghost use Rattle.xa_desk.specs.GoesOn.{GoesOn};
 ghost use Rattle.xa_desk.specs.Kept.{AllKept};
 
 use super::plan_of;
+use std::alloc::Global;
+use std::process::Abort;
 use std::sync::Wait;
+use std::thread::Threads;
 use xa_calls::{RmOp, native, xa_call, xa_complete};
 use xa_crew::laws::idles_go_on;
-use xa_crew::{Client, run_clients};
+use xa_crew::{Client, Run, run_clients};
 use xa_desk::laws::desks_go_on;
 use xa_desk::{Desk, Idle};
 use xa_switch::Plan;
@@ -46,7 +49,7 @@ fn collects<R: Wait, I: Idle>(rt: &R, desk: &mut Desk, open: &mut Open, idle: &m
 }
 
 // What came of a request.
-#[derive(Clone, Copy, PartialEq, Eq)]
+#[derive(Clone, Copy)]
 enum Put {
     Sent,
     // No handle was free, or the queue was full.
@@ -89,6 +92,49 @@ fn puts<R: Wait, I: Idle>(
 
 // Sends up to 100 requests, until one is refused because the manager is shut. It collects where it may
 // not send. How many were sent, and whether each handle was collected once.
+fn send_all<R: Wait, I: Idle>(
+    rt: &R,
+    desk: &mut Desk,
+    open: &mut Open,
+    idle: &mut I,
+) -> (usize, bool)
+    ensures goes_on { GoesOn desk.old desk.new }
+    ensures kept { AllKept desk.old → AllKept desk.new }
+    ensures idled { I.leads idle.old idle.new }
+{
+    desks_go_on();
+    idles_go_on::<I>();
+    let (mut sent, mut is_well) = (0usize, true);
+    // Each request is sent once and collected once, and one is refused at last.
+    'asks: for _turn in 0..2 * MOST + 1 {
+        if sent == MOST {
+            break;
+        }
+        match puts(rt, desk, sent, open, idle) {
+            Put::Sent => sent = sent.saturating_add(1),
+            Put::Busy => is_well &= collects(rt, desk, open, idle),
+            Put::Shut => break,
+            Put::Wrong => is_well = false,
+        }
+    }
+    (sent, is_well)
+}
+
+// Collects what is left. Whether nothing is then.
+fn collect_rest<R: Wait, I: Idle>(rt: &R, desk: &mut Desk, open: &mut Open, idle: &mut I) -> bool
+    ensures goes_on { GoesOn desk.old desk.new }
+    ensures kept { AllKept desk.old → AllKept desk.new }
+    ensures idled { I.leads idle.old idle.new }
+{
+    desks_go_on();
+    idles_go_on::<I>();
+    'rest: for _handle in 0..HANDLES {
+        collects(rt, desk, open, idle);
+    }
+    !collects(rt, desk, open, idle) && !open.contains(&true)
+}
+
+// Sends all requests, and collects all. How many were sent, and whether all was answered as it has to be.
 fn ask<R: Wait, I: Idle>(rt: &R, desk: &mut Desk, idle: &mut I) -> (usize, bool)
     ensures goes_on { GoesOn desk.old desk.new }
     ensures kept { AllKept desk.old → AllKept desk.new }
@@ -97,27 +143,10 @@ fn ask<R: Wait, I: Idle>(rt: &R, desk: &mut Desk, idle: &mut I) -> (usize, bool)
     desks_go_on();
     idles_go_on::<I>();
     let mut open = [false; HANDLES + 1];
-    let (mut sent, mut is_well) = (0usize, true);
-    // Each request is sent once and collected once, and one is refused at last.
-    'asks: for _turn in 0..2 * MOST + 1 {
-        if sent == MOST {
-            break;
-        }
-        match puts(rt, desk, sent, &mut open, idle) {
-            Put::Sent => sent = sent.saturating_add(1),
-            Put::Busy => is_well &= collects(rt, desk, &mut open, idle),
-            Put::Shut => break,
-            Put::Wrong => is_well = false,
-        }
-    }
-    'rest: for _handle in 0..HANDLES {
-        collects(rt, desk, &mut open, idle);
-    }
-    let is_empty = !collects(rt, desk, &mut open, idle) && !open.contains(&true);
-    (
-        sent,
-        is_well && is_empty && (sent == MOST || desk.learnt_shut(1)),
-    )
+    let (sent, is_well) = send_all(rt, desk, &mut open, idle);
+    let is_empty = collect_rest(rt, desk, &mut open, idle);
+    let is_over = sent == MOST || desk.learnt_shut(1);
+    (sent, is_well & is_empty & is_over)
 }
 
 fn opens<R: Wait, I: Idle>(rt: &R, desk: &mut Desk, idle: &mut I) -> i32
@@ -200,38 +229,46 @@ fn is_shut_once(journal: &[(Request, Code)]) -> bool {
     is_shut
 }
 
+// What a thread that asks and one that shuts the manager after so many calls come to.
+fn race<R: Threads + Wait + Abort + Copy + Send + 'static>(
+    rt: &R,
+    alloc: Global,
+    calls: u32,
+) -> Run<Racer> {
+    let plan = Plan {
+        handles: HANDLES as u32,
+        requests: 128,
+        ..plan_of(rt, alloc, 2)
+    };
+    let racers = [Racer::new(None), Racer::new(Some(calls))];
+    let clients = Vec::from_array(alloc, racers).expect(rt, "memory");
+    let paces = Vec::from_array(alloc, [Free, Free]).expect(rt, "memory");
+    assert!(rt; plan.threads == 2 && plan.managers.len() == 2);
+    match run_clients(rt, alloc, &plan, clients, paces) {
+        Ok(run) => run,
+        Err(_) => panic!(rt; "no run"),
+    }
+}
+
 #[test]
 fn requests_race_with_a_shut(rt: HostRuntime) {
-    let alloc = rt.alloc();
     for calls in [0, 1, 5, 20, 60] {
-        let plan = Plan {
-            handles: HANDLES as u32,
-            requests: 128,
-            ..plan_of(&rt, alloc, 2)
-        };
-        let racers = [Racer::new(None), Racer::new(Some(calls))];
-        let (Ok(clients), Ok(paces)) = (
-            Vec::from_array(alloc, racers),
-            Vec::from_array(alloc, [Free, Free]),
-        ) else {
-            panic!(rt; "memory");
-        };
-        assert_eq!(rt; (plan.threads, plan.managers.len()), (2, 2));
-        let run = run_clients(&rt, alloc, &plan, clients, paces).expect(&rt, "a run");
-        let [asker, shutter] = run.clients.as_slice() else {
-            panic!(rt; "two clients");
-        };
-        assert!(rt;
-            asker.client.is_well && shutter.client.is_well,
-            "after {calls} calls"
-        );
-        assert!(rt; asker.outstanding.is_empty() && shutter.outstanding.is_empty());
-        let journal = run.settled.journal(1);
-        assert!(rt; is_shut_once(journal), "after {calls} calls");
-        // The Shut, the late one, and the calls before them.
-        assert_eq!(rt;
-            journal.len(),
-            asker.client.sent.saturating_add(calls as usize + 2)
-        );
+        is_right(&rt, &race(&rt, rt.alloc(), calls), calls);
     }
+}
+
+// All was answered as it has to be, and nothing is outstanding.
+fn is_right(rt: &impl Abort, run: &Run<Racer>, calls: u32) {
+    let [asker, shutter] = run.clients.as_slice() else {
+        panic!(rt; "two clients");
+    };
+    assert!(rt;
+        asker.client.is_well && shutter.client.is_well,
+        "after {calls} calls"
+    );
+    assert!(rt; asker.outstanding.is_empty() && shutter.outstanding.is_empty());
+    let journal = run.settled.journal(1);
+    assert!(rt; is_shut_once(journal), "after {calls} calls");
+    // The Shut, the late one, and the calls before them.
+    assert!(rt; journal.len() == asker.client.sent.saturating_add(calls as usize + 2));
 }

@@ -1,9 +1,10 @@
 //! Calls that ask for nothing: they answer XAER_INVAL, and nothing is sent.
-use super::plan_of;
+use super::{one_desk, plan_of};
 use std::process::Abort;
+use std::sync::Wait;
 use xa_calls::xa_call;
-use xa_desk::Spin;
-use xa_switch::open_switch;
+use xa_desk::{Desk, Spin};
+use xa_testing::end;
 use xa_words::{
     Call, Code, TMASYNC, TMENDRSCAN, TMMULTIPLE, TMNOFLAGS, TMNOWAIT, TMSTARTRSCAN, TMSUCCESS, Xid,
 };
@@ -32,26 +33,31 @@ const NAMELESS: [(Call, u32); 8] = [
     (Call::Forget, TMNOFLAGS),
 ];
 
+// The call asks for nothing.
+fn asks_for_nothing<R: Wait + Abort>(
+    rt: &R,
+    desk: &mut Desk,
+    call: Call,
+    xid: Option<Xid>,
+    flags: u32,
+) {
+    let answer = xa_call(rt, desk, call, xid, 1, flags, &mut Spin::new());
+    assert!(rt; answer == Code::Inval.value(), "{call:?}, {flags}");
+}
+
 // No worker runs, so a synchronous request that was sent would be waited for to the end of days.
 #[test]
 fn what_asks_for_nothing_sends_nothing(rt: HostRuntime) {
     let plan = plan_of(&rt, rt.alloc(), 1, 1);
-    let (mut desks, _workers) = open_switch(&rt, rt.alloc(), &plan).expect(&rt, "an opening");
-    let mut desk = desks.pop().expect(&rt, "a desk");
-    let mut spin = Spin::new();
+    let (mut desk, _workers) = one_desk(&rt, rt.alloc(), &plan);
     let xid = Xid::new(1, b"g", b"1").expect(&rt, "an xid");
     for (call, xid, flags) in others(xid) {
-        let answer = xa_call(&rt, &mut desk, call, xid, 1, flags, &mut spin);
-        assert_eq!(rt; answer, Code::Inval.value(), "{call:?}, {flags}");
+        asks_for_nothing(&rt, &mut desk, call, xid, flags);
     }
     for (call, flags) in NAMELESS {
-        let answer = xa_call(&rt, &mut desk, call, None, 1, flags, &mut spin);
-        assert_eq!(rt; answer, Code::Inval.value(), "{call:?}, {flags}");
+        asks_for_nothing(&rt, &mut desk, call, None, flags);
     }
-    assert_eq!(rt; (desk.room(1), desk.free()), (8, 2));
-    let ended = desk.finish(&rt, &mut spin);
-    let Ok(ended) = ended else {
-        panic!(rt; "something is outstanding");
-    };
+    assert!(rt; (desk.room(1), desk.free()) == (8, 2));
+    let ended = end(&rt, desk, &mut Spin::new()).expect(&rt, "nothing outstanding");
     assert!(rt; ended.sent(1).is_empty() && ended.collected(1).is_empty());
 }

@@ -24,7 +24,7 @@ use xa_worker::DoneWorker;
 // ---- what a thread does
 
 // What a thread asks for.
-#[derive(Clone, Copy, Debug)]
+#[derive(Clone, Copy)]
 enum Asks {
     Xa(Call, Option<Xid>, u32),
     Native(RmOp),
@@ -33,7 +33,7 @@ enum Asks {
 }
 
 // A call at a manager, and what it is to answer.
-#[derive(Clone, Copy, Debug)]
+#[derive(Clone, Copy)]
 struct Act {
     manager: u32,
     asks: Asks,
@@ -89,7 +89,11 @@ fn play<R: Wait + Abort, I: Idle>(rt: &R, desk: &mut Desk, acts: &[Act], idle: &
 {
     for act in acts {
         let answer = ask(rt, desk, act.manager, act.asks, idle);
-        assert_eq!(rt; answer, act.answer, "{act:?}");
+        assert!(rt;
+            answer == act.answer,
+            "manager {} answers {answer}",
+            act.manager
+        );
     }
 }
 
@@ -122,7 +126,7 @@ fn settle_all<R: Wait + Abort>(
         Ok(settled) => return settled,
         Err(refused) => refused,
     };
-    assert_eq!(rt; refused.why, Why::NoMemory);
+    assert!(rt; refused.why == Why::NoMemory);
     match settle(rt, alloc, refused.desks, refused.workers) {
         Ok(settled) => settled,
         Err(_) => panic!(rt; "it is not settled"),
@@ -169,21 +173,26 @@ fn entry(thread: u32, number: u32, op: Op, code: Code) -> (Request, Code) {
     (request, code)
 }
 
+// Nothing was sent to the manager, and it has these values of its keys, if it is there.
+fn is_idle(rt: &impl Abort, settled: &Settled, manager: u32, a: Option<u64>, b: Option<u64>) {
+    for thread in 0..5 {
+        assert!(rt; settled.sent(thread, manager).is_empty());
+        assert!(rt; settled.collected(thread, manager).is_empty());
+    }
+    assert!(rt; settled.journal(manager).is_empty());
+    assert!(rt; settled.value(manager, &key(rt, b"a")) == a);
+    assert!(rt; settled.value(manager, &key(rt, b"b")) == b);
+    assert!(rt; settled.value(manager, &key(rt, b"c")).is_none());
+}
+
 #[test]
 fn an_idle_opening_has_what_it_was_opened_with(rt: HostRuntime) {
     let plan = plan_of(&rt, rt.alloc(), 7, 3, 2);
     let settled = open_and_settle(&rt, rt.alloc(), &plan);
-    for manager in 0..4 {
-        let there = manager == 1 || manager == 2;
-        for thread in 0..5 {
-            assert_eq!(rt; settled.sent(thread, manager).len(), 0);
-            assert_eq!(rt; settled.collected(thread, manager).len(), 0);
-        }
-        assert_eq!(rt; settled.journal(manager).len(), 0);
-        let value = settled.value(manager, &key(&rt, b"a"));
-        assert_eq!(rt; value, if there { Some(100) } else { None });
-        let value = settled.value(manager, &key(&rt, b"b"));
-        assert_eq!(rt; value, if there { Some(7) } else { None });
-        assert_eq!(rt; settled.value(manager, &key(&rt, b"c")), None);
+    for manager in [0, 3] {
+        is_idle(&rt, &settled, manager, None, None);
+    }
+    for manager in [1, 2] {
+        is_idle(&rt, &settled, manager, Some(100), Some(7));
     }
 }

@@ -1,15 +1,18 @@
 //! A desk and its workers, in threads of their own, with one worker held.
-use super::plan_of;
+ghost use Rattle.std.specs.Prelude.{◌≢◌};
+ghost use Rattle.xa_desk.specs.DeskView.{TicketView, Owns};
+ghost use Rattle.xa_desk.specs.Tickets.{LeavesTickets};
+
+use super::{one_desk, plan_of};
 use std::process::Abort;
 use std::sync::Wait;
 use std::sync::atomic::{AtomicBool, Ordering};
-use std::thread::join;
+use std::thread::{Threads, join};
 use xa_calls::{xa_call, xa_complete};
-use xa_desk::{Desk, EndedDesk, Spin};
-use xa_switch::open_switch;
-use xa_testing::{comes, end};
+use xa_desk::{Desk, EndedDesk, Spin, Ticket};
+use xa_testing::{comes, end, one, two};
 use xa_words::{Call, Code, Op, Request, TMASYNC, TMNOFLAGS, TMNOWAIT};
-use xa_worker::{Free, Pace};
+use xa_worker::{DoneWorker, Free, Pace, Worker};
 
 // What a worker is held at.
 #[derive(Drop)]
@@ -47,85 +50,104 @@ impl Pace for Held<'_> {
     }
 }
 
+// The request's answer, where it was sent.
+fn submitted<R: Wait + Abort>(rt: &R, desk: &mut Desk, manager: u32) -> Ticket
+    ensures owned { Owns desk.new result }
+    ensures tickets { LeavesTickets desk.old desk.new }
+    ensures fresh { (older : TicketView) → Owns desk.old older → older.operation ≢ result.operation }
+{
+    match desk.submit(rt, manager, Op::OpenRm) {
+        Ok(ticket) => ticket,
+        Err(_) => panic!(rt; "manager {manager} is asked"),
+    }
+}
+
 // Has an operation of manager 2 completed while the worker of manager 1 is held.
 fn pass_by<R: Wait + Abort>(rt: &R, mut desk: Desk, gate: &Gate) -> EndedDesk {
     let mut spin = Spin::new();
-    let Ok(first) = desk.submit(rt, 1, Op::OpenRm) else {
-        panic!(rt; "manager 1 is asked");
-    };
-    let Ok(second) = desk.submit(rt, 2, Op::OpenRm) else {
-        panic!(rt; "manager 2 is asked");
-    };
+    let first = submitted(rt, &mut desk, 1);
+    let second = submitted(rt, &mut desk, 2);
     assert!(rt; comes(&gate.reached), "the worker of manager 1 is not held");
     let passed = desk.complete(rt, second, &mut spin);
-    assert_eq!(rt; passed, Code::Done);
+    assert!(rt; passed == Code::Done);
     gate.opened.store(true, Ordering::SeqCst);
     let held = desk.complete(rt, first, &mut spin);
-    assert_eq!(rt; held, Code::Done);
+    assert!(rt; held == Code::Done);
     end(rt, desk, &mut spin).expect(rt, "nothing outstanding")
+}
+
+// Both workers run, each in a thread, the first of them held at the gate.
+fn run_both<R: Threads + Wait + Sync>(
+    rt: &R,
+    gate: &Gate,
+    first: Worker,
+    second: Worker,
+) -> (DoneWorker, DoneWorker) {
+    join(
+        rt,
+        || first.run(rt, &mut Held { gate }),
+        || second.run(rt, &mut Free),
+    )
+}
+
+// The manager carried out one request, which was collected.
+fn did_one(rt: &impl Abort, manager: u32, ended: &EndedDesk, done: &DoneWorker) {
+    assert!(rt; ended.collected(manager) == [(0, Code::Done)].as_slice());
+    assert!(rt; done.journal().len() == 1);
 }
 
 #[test]
 fn a_held_manager_holds_up_no_other(rt: HostRuntime) {
     let plan = plan_of(&rt, rt.alloc(), 1, 2);
-    let (mut desks, mut workers) = open_switch(&rt, rt.alloc(), &plan).expect(&rt, "an opening");
-    let desk = desks.pop().expect(&rt, "a desk");
-    let second = workers.pop().expect(&rt, "a worker");
-    let first = workers.pop().expect(&rt, "another worker");
+    let (desk, workers) = one_desk(&rt, rt.alloc(), &plan);
+    let (first, second) = two(workers).expect(&rt, "two workers");
     let gate = Gate::new();
-    let (ended, (second, first)) = join(
+    let (ended, (first, second)) = join(
         &rt,
         || pass_by(&rt, desk, &gate),
-        || {
-            join(
-                &rt,
-                || second.run(&rt, &mut Free),
-                || first.run(&rt, &mut Held { gate: &gate }),
-            )
-        },
+        || run_both(&rt, &gate, first, second),
     );
     assert!(rt;
         !gate.was_left.load(Ordering::SeqCst),
         "manager 1 was let go"
     );
-    for (manager, done) in [(1, &first), (2, &second)] {
-        assert_eq!(rt; ended.collected(manager), [(0, Code::Done)].as_slice());
-        assert_eq!(rt; done.journal().len(), 1);
-    }
+    did_one(&rt, 1, &ended, &first);
+    did_one(&rt, 2, &ended, &second);
+}
+
+// What a thread is answered that completes the operation, the handle, and the code.
+fn complete<R: Wait>(rt: &R, desk: &mut Desk, number: i32, flags: u32) -> (i32, i32, i32) {
+    let (mut handle, mut retval) = (number, 55);
+    let spin = &mut Spin::new();
+    let answer = xa_complete(rt, desk, &mut handle, &mut retval, 1, flags, spin);
+    (answer, handle, retval)
 }
 
 // Gets two handles of a manager whose worker is held, and completes both once it is let go.
 fn complete_both<R: Wait + Abort>(rt: &R, mut desk: Desk, gate: &Gate) -> EndedDesk {
-    let mut spin = Spin::new();
+    let spin = &mut Spin::new();
     for expected in [1, 2] {
-        let handle = xa_call(rt, &mut desk, Call::OpenRm, None, 1, TMASYNC, &mut spin);
-        assert_eq!(rt; handle, expected);
+        let handle = xa_call(rt, &mut desk, Call::OpenRm, None, 1, TMASYNC, spin);
+        assert!(rt; handle == expected);
     }
     assert!(rt; comes(&gate.reached), "the worker is not held");
-    let mut complete = |number: i32, flags: u32| {
-        let (mut handle, mut retval) = (number, 55);
-        let answer = xa_complete(rt, &mut desk, &mut handle, &mut retval, 1, flags, &mut spin);
-        (answer, handle, retval)
-    };
     for handle in [1, 2] {
-        assert_eq!(rt;
-            complete(handle, TMNOWAIT),
-            (Code::Retry.value(), handle, 55)
-        );
+        let answered = complete(rt, &mut desk, handle, TMNOWAIT);
+        assert!(rt; answered == (Code::Retry.value(), handle, 55));
     }
     gate.opened.store(true, Ordering::SeqCst);
     for handle in [1, 2] {
-        assert_eq!(rt; complete(handle, TMNOFLAGS), (0, handle, 0));
+        let answered = complete(rt, &mut desk, handle, TMNOFLAGS);
+        assert!(rt; answered == (0, handle, 0));
     }
-    end(rt, desk, &mut spin).expect(rt, "nothing outstanding")
+    end(rt, desk, spin).expect(rt, "nothing outstanding")
 }
 
 #[test]
 fn handles_of_a_held_manager_are_not_ready(rt: HostRuntime) {
     let plan = plan_of(&rt, rt.alloc(), 1, 1);
-    let (mut desks, mut workers) = open_switch(&rt, rt.alloc(), &plan).expect(&rt, "an opening");
-    let desk = desks.pop().expect(&rt, "a desk");
-    let worker = workers.pop().expect(&rt, "a worker");
+    let (desk, workers) = one_desk(&rt, rt.alloc(), &plan);
+    let worker = one(workers).expect(&rt, "a worker");
     let gate = Gate::new();
     let (ended, done) = join(
         &rt,
@@ -136,9 +158,6 @@ fn handles_of_a_held_manager_are_not_ready(rt: HostRuntime) {
         !gate.was_left.load(Ordering::SeqCst),
         "the worker was let go"
     );
-    assert_eq!(rt;
-        ended.collected(1),
-        [(0, Code::Done), (1, Code::Done)].as_slice()
-    );
-    assert_eq!(rt; done.journal().len(), 2);
+    assert!(rt; ended.collected(1) == [(0, Code::Done), (1, Code::Done)].as_slice());
+    assert!(rt; done.journal().len() == 2);
 }

@@ -8,7 +8,7 @@ use super::*;
 use xa_calls::xa_recover;
 use xa_scan::Scan;
 use xa_switch::{Again, OpenFault, reopen};
-use xa_testing::open_again;
+use xa_testing::{open_again, two};
 use xa_words::{Delta, TMASYNC, TMENDRSCAN, TMSTARTRSCAN, TMSUCCESS};
 
 // The plan of two threads and two managers, with room for more requests.
@@ -92,6 +92,26 @@ impl Opened {
             &mut self.workers,
         )
     }
+
+    // Thread `before + 1` recovers at manager 1, and is told so many, with these names in the page.
+    fn lists<R: Wait + Abort>(
+        &mut self,
+        rt: &R,
+        before: usize,
+        scan: &mut Scan,
+        page: &mut [Xid],
+        flags: u32,
+        answer: i32,
+        listed: &[Xid],
+    )
+        ensures desks { map seat_of_desk self.new.desks.items ≡ map seat_of_desk self.old.desks.items }
+        ensures workers { map seat_of_worker self.new.workers
+            ≡ map seat_of_worker self.old.workers }
+    {
+        let answered = self.recover(rt, before, scan, page, flags);
+        assert!(rt; answered == answer);
+        assert!(rt; *page == *listed);
+    }
 }
 
 fn recovers<R: Wait, I: Idle>(
@@ -114,17 +134,24 @@ fn refused<R: Wait + Abort>(rt: &R, opened: &mut Opened, scan: &mut Scan)
     ensures workers { map seat_of_worker opened.new.workers
         ≡ map seat_of_worker opened.old.workers }
 {
-    let mut page = [xid(rt, b"none")];
-    let unopened = opened.recover(rt, 0, scan, &mut page, TMSTARTRSCAN);
-    assert_eq!(rt; unopened, Code::Proto.value());
+    let none = [xid(rt, b"none")];
+    let (mut page, proto) = (none, Code::Proto.value());
+    opened.lists(rt, 0, scan, &mut page, TMSTARTRSCAN, proto, &none);
     opened.play(rt, 0, &[calls(1, Call::OpenRm, None, TMNOFLAGS, 0)]);
-    let closed = opened.recover(rt, 0, scan, &mut page, TMNOFLAGS);
-    assert_eq!(rt; closed, Code::Inval.value());
-    let ended = opened.recover(rt, 0, scan, &mut page, TMENDRSCAN);
-    assert_eq!(rt; ended, Code::Inval.value());
-    let asynchronous = opened.recover(rt, 0, scan, &mut page, TMASYNC | TMSTARTRSCAN);
-    assert_eq!(rt; asynchronous, Code::Inval.value());
-    assert_eq!(rt; page, [xid(rt, b"none")]);
+    is_invalid(rt, opened, scan);
+}
+
+// No scan is open, and none is asynchronous.
+fn is_invalid<R: Wait + Abort>(rt: &R, opened: &mut Opened, scan: &mut Scan)
+    ensures desks { map seat_of_desk opened.new.desks.items ≡ map seat_of_desk opened.old.desks.items }
+    ensures workers { map seat_of_worker opened.new.workers
+        ≡ map seat_of_worker opened.old.workers }
+{
+    let none = [xid(rt, b"none")];
+    let (mut page, inval) = (none, Code::Inval.value());
+    opened.lists(rt, 0, scan, &mut page, TMNOFLAGS, inval, &none);
+    opened.lists(rt, 0, scan, &mut page, TMENDRSCAN, inval, &none);
+    opened.lists(rt, 0, scan, &mut page, TMASYNC | TMSTARTRSCAN, inval, &none);
 }
 
 fn one_by_one<R: Wait + Abort>(rt: &R, opened: &mut Opened, scan: &mut Scan)
@@ -134,14 +161,10 @@ fn one_by_one<R: Wait + Abort>(rt: &R, opened: &mut Opened, scan: &mut Scan)
 {
     let (g, h) = (xid(rt, b"g"), xid(rt, b"hh"));
     let mut page = [xid(rt, b"none")];
-    let first = opened.recover(rt, 0, scan, &mut page, TMSTARTRSCAN);
-    assert_eq!(rt; (first, page), (1, [g]));
-    let second = opened.recover(rt, 0, scan, &mut page, TMNOFLAGS);
-    assert_eq!(rt; (second, page), (1, [h]));
-    let last = opened.recover(rt, 0, scan, &mut page, TMENDRSCAN);
-    assert_eq!(rt; (last, page), (0, [h]));
-    let closed = opened.recover(rt, 0, scan, &mut page, TMNOFLAGS);
-    assert_eq!(rt; closed, Code::Inval.value());
+    opened.lists(rt, 0, scan, &mut page, TMSTARTRSCAN, 1, &[g]);
+    opened.lists(rt, 0, scan, &mut page, TMNOFLAGS, 1, &[h]);
+    opened.lists(rt, 0, scan, &mut page, TMENDRSCAN, 0, &[h]);
+    opened.lists(rt, 0, scan, &mut page, TMNOFLAGS, Code::Inval.value(), &[h]);
 }
 
 // With room for none, which begins a scan, then for more than there are, and then for as many.
@@ -152,15 +175,11 @@ fn all_at_once<R: Wait + Abort>(rt: &R, opened: &mut Opened, scan: &mut Scan)
 {
     let (g, h) = (xid(rt, b"g"), xid(rt, b"hh"));
     let none = xid(rt, b"none");
-    let mut nothing: [Xid; 0] = [];
-    let begun = opened.recover(rt, 0, scan, &mut nothing, TMSTARTRSCAN);
-    assert_eq!(rt; begun, 0);
-    let mut wide = [none, none, none];
-    let both = opened.recover(rt, 0, scan, &mut wide, TMNOFLAGS);
-    assert_eq!(rt; (both, wide), (2, [g, h, none]));
-    let mut page = [none, none];
-    let whole = opened.recover(rt, 0, scan, &mut page, TMSTARTRSCAN | TMENDRSCAN);
-    assert_eq!(rt; (whole, page), (2, [g, h]));
+    let (mut wide, mut page) = ([none, none, none], [none, none]);
+    opened.lists(rt, 0, scan, &mut [], TMSTARTRSCAN, 0, &[]);
+    opened.lists(rt, 0, scan, &mut wide, TMNOFLAGS, 2, &[g, h, none]);
+    let whole = TMSTARTRSCAN | TMENDRSCAN;
+    opened.lists(rt, 0, scan, &mut page, whole, 2, &[g, h]);
 }
 
 // Another thread has a scan of its own; a branch that ends between two of its pages isn't listed.
@@ -172,25 +191,26 @@ fn while_branches_end<R: Wait + Abort>(rt: &R, opened: &mut Opened, scan: &mut S
     let (g, h) = (xid(rt, b"g"), xid(rt, b"hh"));
     let mut page = [xid(rt, b"none")];
     opened.play(rt, 1, &[calls(1, Call::OpenRm, None, TMNOFLAGS, 0)]);
-    let first = opened.recover(rt, 1, scan, &mut page, TMSTARTRSCAN);
-    assert_eq!(rt; (first, page), (1, [g]));
+    opened.lists(rt, 1, scan, &mut page, TMSTARTRSCAN, 1, &[g]);
     opened.play(rt, 0, &[calls(1, Call::Rollback, Some(h), TMNOFLAGS, 0)]);
-    let second = opened.recover(rt, 1, scan, &mut page, TMNOFLAGS);
-    assert_eq!(rt; (second, page), (0, [g]));
+    opened.lists(rt, 1, scan, &mut page, TMNOFLAGS, 0, &[g]);
     opened.play(rt, 1, &[calls(1, Call::Commit, Some(g), TMNOFLAGS, 0)]);
+}
+
+// Manager 1 has two branches left, and nothing else is.
+fn are_left(rt: &impl Abort, first: &Scan, second: &Scan) {
+    let left = [xid(rt, b"g"), xid(rt, b"hh")];
+    assert!(rt; first.left(1) == left.as_slice());
+    assert!(rt; first.left(2).is_empty() && second.left(0).is_empty());
 }
 
 // What is left by a crash is listed, and then one branch is rolled back and the other committed.
 fn recovered<R: Wait + Abort>(rt: &R, alloc: Global) -> Settled
     ensures { IsSettled result }
 {
-    let (mut opened, mut scans) = reopened(rt, alloc, crash(rt, alloc));
-    let (Some(mut second), Some(mut first)) = (scans.pop(), scans.pop()) else {
-        panic!(rt; "there are no two scans");
-    };
-    let left = [xid(rt, b"g"), xid(rt, b"hh")];
-    assert_eq!(rt; first.left(1), left.as_slice());
-    assert!(rt; first.left(2).is_empty() && second.left(0).is_empty());
+    let (mut opened, scans) = reopened(rt, alloc, crash(rt, alloc));
+    let (mut first, mut second) = two(scans).expect(rt, "two scans");
+    are_left(rt, &first, &second);
     refused(rt, &mut opened, &mut first);
     one_by_one(rt, &mut opened, &mut first);
     all_at_once(rt, &mut opened, &mut first);
@@ -201,29 +221,28 @@ fn recovered<R: Wait + Abort>(rt: &R, alloc: Global) -> Settled
 #[test]
 fn what_is_left_is_listed_page_by_page(rt: HostRuntime) {
     let settled = recovered(&rt, rt.alloc());
-    let values = (
-        settled.value(1, &key(&rt, b"a")),
-        settled.value(1, &key(&rt, b"b")),
-    );
-    assert_eq!(rt; values, (Some(99), Some(7)));
+    assert!(rt; settled.value(1, &key(&rt, b"a")) == Some(99));
+    assert!(rt; settled.value(1, &key(&rt, b"b")) == Some(7));
+}
+
+// It isn't opened again so, and comes back.
+fn comes_back<R: Wait + Abort>(rt: &R, alloc: Global, settled: Settled, again: &Again) -> Settled {
+    let Err(refused) = reopen(rt, alloc, settled, again) else {
+        panic!(rt; "it is opened");
+    };
+    assert!(rt; refused.why == OpenFault::BadPlan);
+    refused.settled
 }
 
 #[test]
 fn an_opening_is_not_opened_again_with_its_own_number(rt: HostRuntime) {
-    let settled = crash(&rt, rt.alloc());
-    let Err(refused) = reopen(&rt, rt.alloc(), settled, &again(1)) else {
-        panic!(rt; "it is opened");
-    };
-    assert_eq!(rt; refused.why, OpenFault::BadPlan);
-    // It came back, and may be opened with another, but not with a number outside its limits.
+    let settled = comes_back(&rt, rt.alloc(), crash(&rt, rt.alloc()), &again(1));
+    // It may be opened with another, but not with a number outside its limits.
     let none = Again {
         threads: 0,
         ..again(2)
     };
-    let Err(refused) = reopen(&rt, rt.alloc(), refused.settled, &none) else {
-        panic!(rt; "it is opened");
-    };
-    assert_eq!(rt; refused.why, OpenFault::BadPlan);
-    let opened = reopen(&rt, rt.alloc(), refused.settled, &again(2));
+    let settled = comes_back(&rt, rt.alloc(), settled, &none);
+    let opened = reopen(&rt, rt.alloc(), settled, &again(2));
     assert!(rt; opened.is_ok());
 }

@@ -55,32 +55,36 @@ fn crossing<R: Wait + Abort>(rt: &R, alloc: Global) -> Settled
     ensures { IsSettled result }
 {
     let mut opened = Opened::new(rt, alloc, &plan_of(rt, alloc, 1, 2, 2));
-    let first = [
+    opened.play(rt, 0, &first_acts(rt));
+    opened.play(rt, 1, &second_acts());
+    opened.settle(rt, alloc)
+}
+
+fn first_acts(rt: &impl Abort) -> [Act; 6] {
+    [
         calls(1, Call::OpenRm, None, TMASYNC, 1),
         calls(2, Call::OpenRm, None, TMASYNC, 2),
         calls(1, Call::Prepare, Some(xid(rt, b"g")), TMASYNC, 3),
         completes(1, 3, Code::Nota),
         completes(2, 2, Code::Done),
         completes(1, 1, Code::Done),
-    ];
-    let second = [
+    ]
+}
+
+fn second_acts() -> [Act; 6] {
+    [
         calls(2, Call::OpenRm, None, TMASYNC, 1),
         calls(2, Call::CloseRm, None, TMASYNC, 2),
         calls(1, Call::OpenRm, None, TMASYNC, 3),
         completes(2, 2, Code::Done),
         completes(1, 3, Code::Done),
         completes(2, 1, Code::Done),
-    ];
-    opened.play(rt, 0, &first);
-    opened.play(rt, 1, &second);
-    opened.settle(rt, alloc)
+    ]
 }
 
-#[test]
-fn what_is_collected_in_another_order_is_settled(rt: HostRuntime) {
-    let settled = crossing(&rt, rt.alloc());
-    let g = xid(&rt, b"g");
-    let done = Code::Done;
+// The journals of both managers.
+fn has_journals(rt: &impl Abort, settled: &Settled) {
+    let (g, done) = (xid(rt, b"g"), Code::Done);
     let first = [
         entry(1, 0, Op::OpenRm, done),
         entry(1, 1, Op::Prepare(g), Code::Nota),
@@ -91,17 +95,31 @@ fn what_is_collected_in_another_order_is_settled(rt: HostRuntime) {
         entry(2, 0, Op::OpenRm, done),
         entry(2, 1, Op::CloseRm, done),
     ];
-    assert_eq!(rt; settled.journal(1), first.as_slice());
-    assert_eq!(rt; settled.journal(2), second.as_slice());
-    assert_eq!(rt; settled.sent(1, 1), [Op::OpenRm, Op::Prepare(g)].as_slice());
-    assert_eq!(rt; settled.sent(1, 2), [Op::OpenRm].as_slice());
-    assert_eq!(rt; settled.sent(2, 1), [Op::OpenRm].as_slice());
-    assert_eq!(rt; settled.sent(2, 2), [Op::OpenRm, Op::CloseRm].as_slice());
-    assert_eq!(rt;
-        settled.collected(1, 1),
-        [(1, Code::Nota), (0, done)].as_slice()
-    );
-    assert_eq!(rt; settled.collected(1, 2), [(0, done)].as_slice());
-    assert_eq!(rt; settled.collected(2, 1), [(0, done)].as_slice());
-    assert_eq!(rt; settled.collected(2, 2), [(1, done), (0, done)].as_slice());
+    assert!(rt; settled.journal(1) == first.as_slice());
+    assert!(rt; settled.journal(2) == second.as_slice());
+}
+
+// What the thread sent to the manager, and what it collected.
+fn has_part(
+    rt: &impl Abort,
+    settled: &Settled,
+    (thread, manager): (u32, u32),
+    sent: &[Op],
+    collected: &[(u32, Code)],
+) {
+    assert!(rt; settled.sent(thread, manager) == sent);
+    assert!(rt; settled.collected(thread, manager) == collected);
+}
+
+#[test]
+fn what_is_collected_in_another_order_is_settled(rt: HostRuntime) {
+    let settled = crossing(&rt, rt.alloc());
+    has_journals(&rt, &settled);
+    let (g, done) = (xid(&rt, b"g"), Code::Done);
+    let sent = [Op::OpenRm, Op::Prepare(g)];
+    has_part(&rt, &settled, (1, 1), &sent, &[(1, Code::Nota), (0, done)]);
+    has_part(&rt, &settled, (1, 2), &[Op::OpenRm], &[(0, done)]);
+    has_part(&rt, &settled, (2, 1), &[Op::OpenRm], &[(0, done)]);
+    let sent = [Op::OpenRm, Op::CloseRm];
+    has_part(&rt, &settled, (2, 2), &sent, &[(1, done), (0, done)]);
 }
