@@ -65,7 +65,7 @@ fn plan_of(rt: &impl Abort, alloc: Global, managers: u32) -> Plan {
 
 fn open_by<R: Wait + Abort>(rt: &R, desk: &mut Desk, manager: u32, idle: &mut Turns) {
     let answer = xa_call(rt, desk, Call::OpenRm, None, manager, TMNOFLAGS, idle);
-    assert_eq!(rt; answer, 0);
+    assert!(rt; answer == 0);
 }
 
 impl Opened {
@@ -100,16 +100,22 @@ impl Opened {
     fn call<R: Wait + Abort>(&mut self, rt: &R, call: Call, branch: &Branch, flags: u32) {
         let (desk, idle) = (&mut self.first, &mut self.workers);
         let answer = xa_call(rt, desk, call, Some(branch.xid), branch.m, flags, idle);
-        assert_eq!(rt; answer, 0);
+        assert!(rt; answer == 0);
+    }
+
+    // The first thread changes the manager's key.
+    fn change<R: Wait + Abort>(&mut self, rt: &R, m: u32, change: i64) {
+        let add = RmOp::Add(key(rt), delta(rt, change));
+        let (desk, idle) = (&mut self.first, &mut self.workers);
+        let answer = native(rt, desk, add, m, TMNOFLAGS, idle);
+        assert!(rt; answer == 0);
     }
 
     // Work of the first thread on a branch: changes of the manager's key, one after another.
     fn work<R: Wait + Abort>(&mut self, rt: &R, branch: &Branch, changes: &[i64]) {
         self.call(rt, Call::Start, branch, TMNOFLAGS);
         for change in changes {
-            let add = RmOp::Add(key(rt), delta(rt, *change));
-            let (desk, idle) = (&mut self.first, &mut self.workers);
-            assert_eq!(rt; native(rt, desk, add, branch.m, TMNOFLAGS, idle), 0);
+            self.change(rt, branch.m, *change);
         }
         self.call(rt, Call::End, branch, TMSUCCESS);
     }
@@ -124,28 +130,38 @@ fn tells(
     votes: &[Code],
     endings: &[Ending],
 ) {
-    assert_eq!(rt; (done.commit, done.logged), (commit, logged));
-    assert_eq!(rt; done.votes.as_slice(), votes);
-    assert_eq!(rt; done.endings.as_slice(), endings);
+    assert!(rt; (done.commit, done.logged) == (commit, logged));
+    assert!(rt; done.votes.as_slice() == votes);
+    assert!(rt; done.endings.as_slice() == endings);
+}
+
+// Whether the first thread may commit these, with a log that has no record.
+fn may(opened: &Opened, alloc: Global, branches: &[Branch]) -> bool {
+    may_commit(&opened.first, &MemoryLog::new(alloc), branches)
+}
+
+// Branches at managers that rise, of one transaction.
+fn are_taken(rt: &impl Abort, alloc: Global, opened: &Opened) {
+    assert!(rt; may(opened, alloc, &[branch(rt, 1)]));
+    assert!(rt; may(opened, alloc, &[branch(rt, 1), branch(rt, 2)]));
+}
+
+// None, one twice, falling ones, and one at a manager that there isn't.
+fn are_refused(rt: &impl Abort, alloc: Global, opened: &Opened) {
+    assert!(rt; !may(opened, alloc, &[]));
+    assert!(rt; !may(opened, alloc, &[branch(rt, 1), branch(rt, 1)]));
+    assert!(rt; !may(opened, alloc, &[branch(rt, 2), branch(rt, 1)]));
+    assert!(rt; !may(opened, alloc, &[branch(rt, 3)]));
 }
 
 #[test]
 fn only_sound_lists_of_branches_may_be_committed(rt: HostRuntime) {
     let alloc = rt.alloc();
     let opened = Opened::new(&rt, alloc, 2);
-    let log = MemoryLog::new(alloc);
-    let other = Xid::new(1, b"u", b"2").expect(&rt, "an xid");
-    let one = [branch(&rt, 1)];
-    let both = [branch(&rt, 1), branch(&rt, 2)];
-    let twice = [branch(&rt, 1), branch(&rt, 1)];
-    let falling = [branch(&rt, 2), branch(&rt, 1)];
-    let unknown = [branch(&rt, 3)];
-    let strangers = [branch(&rt, 1), Branch { m: 2, xid: other }];
-    assert!(rt; may_commit(&opened.first, &log, &one));
-    assert!(rt; may_commit(&opened.first, &log, &both));
-    assert!(rt; !may_commit(&opened.first, &log, &[]));
-    assert!(rt; !may_commit(&opened.first, &log, &twice));
-    assert!(rt; !may_commit(&opened.first, &log, &falling));
-    assert!(rt; !may_commit(&opened.first, &log, &unknown));
-    assert!(rt; !may_commit(&opened.first, &log, &strangers));
+    are_taken(&rt, alloc, &opened);
+    are_refused(&rt, alloc, &opened);
+    // Two of different transactions.
+    let xid = Xid::new(1, b"u", b"2").expect(&rt, "an xid");
+    let strangers = [branch(&rt, 1), Branch { m: 2, xid }];
+    assert!(rt; !may(&opened, alloc, &strangers));
 }

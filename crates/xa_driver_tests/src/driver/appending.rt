@@ -2,8 +2,7 @@
 ghost use Rattle.std.specs.Prelude.{refl};
 ghost use Rattle.xa_log.specs.Log.{AppendsTo, ForgetsFrom};
 
-use super::plan_of;
-use super::threads::commit_two;
+use super::threads::{commit_two, open_two};
 use std::alloc::Global;
 use std::process::Abort;
 use std::sync::Wait;
@@ -13,7 +12,6 @@ use std::thread::{Threads, join};
 use xa_desk::Desk;
 use xa_driver::Done;
 use xa_log::{CommitRecord, DecisionLog, DecisionRecords, LogFault, MemoryLog};
-use xa_switch::open_switch;
 use xa_words::{ManagerSet, Op, Request, Tran};
 use xa_worker::{Pace, Worker};
 
@@ -122,17 +120,6 @@ fn commit_watched<R: Wait + Abort>(
     (done, log.saw)
 }
 
-// A desk, and a worker for each of its two managers.
-fn open_two<R: Wait + Abort>(rt: &R, alloc: Global) -> (Desk, Worker, Worker) {
-    let mut plan = plan_of(rt, alloc, 2);
-    plan.threads = 1;
-    let (mut desks, mut workers) = open_switch(rt, alloc, &plan).expect(rt, "an opening");
-    let desk = desks.pop().expect(rt, "a desk");
-    let second = workers.pop().expect(rt, "a worker");
-    let first = workers.pop().expect(rt, "another worker");
-    (desk, first, second)
-}
-
 // Runs both workers, each in a thread.
 fn run_both<R: Threads + Wait + Sync>(rt: &R, asked: &Asked, first: Worker, second: Worker) {
     join(
@@ -156,6 +143,6 @@ fn the_record_stands_before_the_first_commit_is_sent(rt: HostRuntime) {
         || run_both(&rt, &asked, first, second),
     );
     assert!(rt; done.commit && done.logged);
-    assert_eq!(rt; saw, Some((2, 0)));
-    assert_eq!(rt; asked.seconds.load(Ordering::SeqCst), 2);
+    assert!(rt; saw == Some((2, 0)));
+    assert!(rt; asked.seconds.load(Ordering::SeqCst) == 2);
 }

@@ -1,22 +1,19 @@
 //! A caller's own functions: what they owe of the desk on every exit follows from what the calls promise, also where
 //! want of memory is passed on, and with no proof file. And two threads that resolve by the logs of all coordinators.
-ghost use Rattle.std.specs.Prelude.{◌≡◌};
+ghost use Rattle.std.specs.Prelude.{◌≡◌, length};
 ghost use Rattle.xa_desk.specs.GoesOn.{GoesOn};
 ghost use Rattle.xa_desk.specs.Kept.{AllKept};
 
 use std::alloc::Global;
 use std::process::Abort;
 use std::sync::Wait;
-use std::test::Fail;
 use std::thread::Threads;
 use xa_calls::{RmOp, native, xa_call};
 use xa_crew::laws::idles_go_on;
 use xa_crew::{Client, ClientAgain, Run, run_clients, run_clients_again_in_turns};
 use xa_desk::laws::desks_go_on;
 use xa_desk::{Desk, Idle};
-use xa_driver::{
-    Branch, Outcome, Resolved, commit_all, commit_until, may_commit, may_resolve, resolve,
-};
+use xa_driver::{Branch, Resolved, commit_all, commit_until, may_commit, may_resolve, resolve};
 use xa_log::{DecisionRecords, MemoryLog};
 use xa_scan::Scan;
 use xa_switch::{Again, Plan, Settled};
@@ -162,43 +159,57 @@ impl<'a> ClientAgain for Clerk<'a> {
     }
 }
 
+// A plan of two threads and two managers, each with both accounts of value 10.
+fn plan_of_both(rt: &impl Abort, alloc: Global) -> Plan {
+    let (Some(a), Some(b)) = (account_of(1), account_of(2)) else {
+        panic!(rt; "they are names");
+    };
+    let accounts = [(a, 10), (b, 10)];
+    Plan {
+        threads: 2,
+        handles: 2,
+        requests: 16,
+        ..xa_testing::plan_of(alloc, 2, &accounts).expect(rt, "memory")
+    }
+}
+
+fn payer_of(alloc: Global, dies: bool) -> Payer {
+    Payer {
+        alloc,
+        log: MemoryLog::new(alloc),
+        dies,
+        committed: None,
+    }
+}
+
 // A run of two payers in threads, which die, or don't.
 fn run_of<R: Threads + Wait + Abort + Copy + Send + 'static>(
     rt: &R,
     alloc: Global,
     dies: bool,
-) -> Result<Run<Payer>, Fail> {
-    let (Some(a), Some(b)) = (account_of(1), account_of(2)) else {
-        panic!(rt; "they are names");
-    };
-    let accounts = [(a, 10), (b, 10)];
-    let plan = Plan {
-        threads: 2,
-        handles: 2,
-        requests: 16,
-        ..xa_testing::plan_of(alloc, 2, &accounts).expect(rt, "memory")
-    };
-    let payers = [0u8; 2].map(|_payer: u8| Payer {
-        alloc,
-        log: MemoryLog::new(alloc),
-        dies,
-        committed: None,
-    });
-    let payers = Vec::from_array(alloc, payers)?;
-    let paces = vec![in alloc; Free; plan.managers.len()]?;
-    assert_eq!(rt; plan.threads, 2);
-    Ok(run_clients(rt, alloc, &plan, payers, paces).expect(rt, "a run"))
+) -> Run<Payer> {
+    let plan = plan_of_both(rt, alloc);
+    let payers = [payer_of(alloc, dies), payer_of(alloc, dies)];
+    let payers = Vec::from_array(alloc, payers).expect(rt, "memory");
+    let paces = vec![in alloc; Free; plan.managers.len()].expect(rt, "memory");
+    assert!(rt; plan.threads == 2);
+    match run_clients(rt, alloc, &plan, payers, paces) {
+        Ok(run) => run,
+        Err(_) => panic!(rt; "no run"),
+    }
+}
+
+// The thread's account has this much at the two managers.
+fn has(rt: &impl Abort, settled: &Settled, thread: u32, values: [Option<u64>; 2]) {
+    let account = account_of(thread).expect(rt, "an account");
+    assert!(rt; settled.value(1, &account) == values[0]);
+    assert!(rt; settled.value(2, &account) == values[1]);
 }
 
 // Each account has this much at the two managers.
 fn have(rt: &impl Abort, settled: &Settled, values: [Option<u64>; 2]) {
-    for thread in 1..3u32 {
-        let account = account_of(thread).expect(rt, "an account");
-        assert_eq!(rt;
-            [settled.value(1, &account), settled.value(2, &account)],
-            values
-        );
-    }
+    has(rt, settled, 1, values);
+    has(rt, settled, 2, values);
 }
 
 // Of each branch that was left, that it was to be committed, and what its manager answered.
@@ -206,30 +217,40 @@ fn told(rt: &impl Abort, resolved: &Option<Resolved>, code: Code) {
     let Some(Resolved { outcomes }) = resolved else {
         panic!(rt; "it may resolve");
     };
-    assert_eq!(rt; outcomes.len(), 4);
-    let is_so = |outcome: &Outcome| outcome.commit && outcome.code == code;
-    assert!(rt; outcomes.iter().all(is_so));
+    assert!(rt; outcomes.len() == 4);
+    for outcome in outcomes {
+        assert!(rt; outcome.commit && outcome.code == code);
+    }
 }
 
 #[test]
-fn a_caller_passes_want_of_memory_on(rt: HostRuntime) -> Result<(), Fail> {
-    let run = run_of(&rt, rt.alloc(), false)?;
+fn a_caller_passes_want_of_memory_on(rt: HostRuntime) {
+    let run = run_of(&rt, rt.alloc(), false);
     for payer in &run.clients {
-        assert_eq!(rt; payer.client.committed, Some(true));
+        assert!(rt; payer.client.committed == Some(true));
     }
     have(&rt, &run.settled, [Some(9), Some(11)]);
-    Ok(())
 }
 
-// Each of the two finds all four branches left. The first ends them as their own logs have it, and the second is told
-// that they are gone.
-#[test]
-fn two_threads_resolve_by_the_logs_of_all(rt: HostRuntime) -> Result<(), Fail> {
-    let alloc = rt.alloc();
-    let Run { clients, settled } = run_of(&rt, alloc, true)?;
-    assert_eq!(rt; clients.len(), 2);
-    have(&rt, &settled, [Some(10), Some(10)]);
-    let logs = [&clients[0].client.log, &clients[1].client.log];
+// Two clerks, who have the logs of both payers.
+fn clerks<'a>(rt: &impl Abort, alloc: Global, logs: &'a [&'a MemoryLog]) -> Vec<Clerk<'a>>
+    ensures { length result.items ≡ 2 }
+{
+    let clerk = || Clerk {
+        alloc,
+        logs,
+        resolved: None,
+    };
+    Vec::from_array(alloc, [clerk(), clerk()]).expect(rt, "memory")
+}
+
+// Both clerks resolve what is left, one after the other.
+fn resolve_both<R: Wait + Abort>(
+    rt: &R,
+    alloc: Global,
+    settled: Settled,
+    logs: &[&MemoryLog],
+) -> Settled {
     let again = Again {
         opening: 2,
         threads: 2,
@@ -237,18 +258,29 @@ fn two_threads_resolve_by_the_logs_of_all(rt: HostRuntime) -> Result<(), Fail> {
         queue: 2,
         requests: 16,
     };
-    let clerks = [0u8; 2].map(|_clerk: u8| Clerk {
-        alloc,
-        logs: &logs,
-        resolved: None,
-    });
-    let clerks = Vec::from_array(alloc, clerks)?;
-    let run = run_clients_again_in_turns(&rt, alloc, settled, &again, clerks).expect(&rt, "a run");
+    let clerks = clerks(rt, alloc, logs);
+    let Ok(run) = run_clients_again_in_turns(rt, alloc, settled, &again, clerks) else {
+        panic!(rt; "no run");
+    };
     let [first, second] = run.clients.as_slice() else {
         panic!(rt; "two clerks");
     };
-    told(&rt, &first.client.client.resolved, Code::Done);
-    told(&rt, &second.client.client.resolved, Code::Nota);
-    have(&rt, &run.settled, [Some(9), Some(11)]);
-    Ok(())
+    told(rt, &first.client.client.resolved, Code::Done);
+    told(rt, &second.client.client.resolved, Code::Nota);
+    run.settled
+}
+
+// Each of the two finds all four branches left. The first ends them as their own logs have it, and the second is told
+// that they are gone.
+#[test]
+fn two_threads_resolve_by_the_logs_of_all(rt: HostRuntime) {
+    let alloc = rt.alloc();
+    let Run { clients, settled } = run_of(&rt, alloc, true);
+    have(&rt, &settled, [Some(10), Some(10)]);
+    let [first, second] = clients.as_slice() else {
+        panic!(rt; "two payers");
+    };
+    let logs = [&first.client.log, &second.client.log];
+    let settled = resolve_both(&rt, alloc, settled, &logs);
+    have(&rt, &settled, [Some(9), Some(11)]);
 }

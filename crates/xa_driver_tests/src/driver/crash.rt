@@ -5,12 +5,14 @@ ghost use Rattle.xa_desk.specs.GoesOn.{GoesOn};
 ghost use Rattle.xa_desk.specs.Kept.{AllKept};
 ghost use Rattle.xa_log.specs.Log.{AppendsTo, ForgetsFrom};
 
-use super::resolved::recover;
+use super::openings::again;
+use super::resolved::{Recovered, recover};
 use super::{branch, key, plan_of};
 use std::alloc::Global;
 use std::process::Abort;
 use std::sync::atomic::{AtomicBool, Ordering};
 use std::sync::{Arc, Wait};
+use std::thread::Threads;
 use xa_calls::{RmOp, native, xa_call};
 use xa_crew::laws::idles_go_on;
 use xa_crew::{Attended, Client, Run, run_clients};
@@ -161,10 +163,10 @@ fn commit<R: Wait, I: Idle>(
     idles_go_on::<I>();
     let (first, less) = leg(1, b"1", -2)?;
     let (second, more) = leg(2, b"2", 1)?;
-    let (third, again) = leg(3, b"3", 1)?;
+    let (third, as_much) = leg(3, b"3", 1)?;
     let at_first = work(rt, desk, &first, less, idle);
     let at_second = work(rt, desk, &second, more, idle);
-    let at_third = work(rt, desk, &third, again, idle);
+    let at_third = work(rt, desk, &third, as_much, idle);
     let branches = [first, second, third];
     if !(at_first && at_second && at_third && may_commit(desk, log, branches.as_slice())) {
         return None;
@@ -252,63 +254,66 @@ fn committed(rt: &impl Abort, mut clients: Vec<Attended<Part>>) -> Committer {
     }
 }
 
-// What the three accounts have.
-fn values(rt: &impl Abort, settled: &Settled) -> [Option<u64>; 3] {
+// The three accounts have this much.
+fn have(rt: &impl Abort, settled: &Settled, values: [u64; 3]) {
     let key = key(rt);
-    [
-        settled.value(1, &key),
-        settled.value(2, &key),
-        settled.value(3, &key),
-    ]
+    assert!(rt; settled.value(1, &key) == Some(values[0]));
+    assert!(rt; settled.value(2, &key) == Some(values[1]));
+    assert!(rt; settled.value(3, &key) == Some(values[2]));
+}
+
+// A run of a thread that shuts managers 2 and 3, and of the committer.
+fn run_both<R: Threads + Wait + Abort + Copy + Send + 'static>(rt: &R, alloc: Global) -> Run<Part> {
+    let plan = Plan {
+        queue: 4,
+        ..plan_of(rt, alloc, 3)
+    };
+    let signals = Signals::new(rt, alloc);
+    let commits = Part::Commits(committing(alloc, signals.share(rt)));
+    let parts = [Part::Shuts(signals), commits];
+    let parts = Vec::from_array(alloc, parts).expect(rt, "memory");
+    let paces = Vec::from_array(alloc, [Free; 3]).expect(rt, "memory");
+    assert!(rt; plan.threads == 2 && plan.managers.len() == 3);
+    match run_clients(rt, alloc, &plan, parts, paces) {
+        Ok(run) => run,
+        Err(_) => panic!(rt; "an opening"),
+    }
+}
+
+// The commit is decided, and two of its branches are in doubt.
+fn leaves_two_in_doubt(rt: &impl Abort, done: &Option<Done>) {
+    let Some(done) = done else {
+        panic!(rt; "a commit");
+    };
+    let endings = [Ending::Committed, Ending::InDoubt, Ending::InDoubt];
+    assert!(rt; done.commit && done.logged);
+    assert!(rt; done.endings.as_slice() == endings.as_slice());
+}
+
+// Both were resolved, to be committed.
+fn are_committed(rt: &impl Abort, recovered: &Recovered) {
+    let outcome = |m| Outcome {
+        m,
+        xid: branch(rt, m).xid,
+        commit: true,
+        code: Code::Done,
+    };
+    let outcomes = [outcome(2), outcome(3)];
+    assert!(rt; recovered.ended.told.outcomes.as_slice() == outcomes.as_slice());
 }
 
 #[test]
 fn what_a_crash_left_in_doubt_is_committed_by_its_record(rt: HostRuntime) {
     let alloc = rt.alloc();
-    let plan = Plan {
-        queue: 4,
-        ..plan_of(&rt, alloc, 3)
-    };
-    let signals = Signals::new(&rt, alloc);
-    let commits = Part::Commits(committing(alloc, signals.share(&rt)));
-    let (Ok(parts), Ok(paces)) = (
-        Vec::from_array(alloc, [Part::Shuts(signals), commits]),
-        Vec::from_array(alloc, [Free; 3]),
-    ) else {
-        panic!(rt; "memory");
-    };
-    assert_eq!(rt; (plan.threads, plan.managers.len()), (2, 3));
-    let Run { clients, settled } = run_clients(&rt, alloc, &plan, parts, paces).expect(
-        &rt,
-        "an opening",
-    );
-    assert_eq!(rt; values(&rt, &settled), [Some(3), Some(5), Some(5)]);
+    let Run { clients, settled } = run_both(&rt, alloc);
+    have(&rt, &settled, [3, 5, 5]);
     let Committer { log, done, .. } = committed(&rt, clients);
-    let done = done.expect(&rt, "a commit");
-    let endings = [Ending::Committed, Ending::InDoubt, Ending::InDoubt];
-    assert!(rt; done.commit && done.logged);
-    assert_eq!(rt; done.endings.as_slice(), endings.as_slice());
+    leaves_two_in_doubt(&rt, &done);
     let again = Again {
-        opening: 8,
-        threads: 1,
         handles: 4,
-        queue: 4,
-        requests: 16,
+        ..again(8)
     };
     let recovered = recover(&rt, alloc, settled, &again, &log.inner);
-    let outcome = |m| Outcome {
-        m,
-        xid: branch(&rt, m).xid,
-        commit: true,
-        code: Code::Done,
-    };
-    let outcomes = [outcome(2), outcome(3)];
-    assert_eq!(rt;
-        recovered.ended.told.outcomes.as_slice(),
-        outcomes.as_slice()
-    );
-    assert_eq!(rt;
-        values(&rt, &recovered.settled),
-        [Some(3), Some(6), Some(6)]
-    );
+    are_committed(&rt, &recovered);
+    have(&rt, &recovered.settled, [3, 6, 6]);
 }

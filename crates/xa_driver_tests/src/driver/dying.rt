@@ -32,7 +32,7 @@ use xa_atomicity::{
 use xa_crew::Turns;
 use xa_desk::laws::desks_go_on;
 use xa_desk::{Desk, Idle};
-use xa_driver::{Branch, CommitFault, Done, begin_prepare, commit_until, may_commit};
+use xa_driver::{Branch, CommitFault, Done, Resolved, begin_prepare, commit_until, may_commit};
 use xa_log::MemoryLog;
 use xa_switch::{Again, Plan, Settled};
 use xa_words::{Code, Death, Op, Xid};
@@ -363,17 +363,19 @@ fn resolves<R: Wait + Abort>(
     let opened = open(rt, alloc, &plan);
     let again = again(8);
     let story = die_and_resolve(rt, alloc, opened, &again, log, &branches, dies, decision);
-    let told = &story.last.ended.told.outcomes;
-    assert_eq!(rt; told.len(), outcomes.len());
-    for place in 0..outcomes.len() {
-        assert_eq!(rt;
-            (told[place].m, told[place].commit, told[place].code),
-            outcomes[place]
-        );
-    }
+    tells(rt, &story.last.ended.told, outcomes);
     let settled = &story.last.settled;
-    let left = (settled.value(1, &key(rt)), settled.value(2, &key(rt)));
-    assert_eq!(rt; left, (Some(values[0]), Some(values[1])));
+    assert!(rt; settled.value(1, &key(rt)) == Some(values[0]));
+    assert!(rt; settled.value(2, &key(rt)) == Some(values[1]));
+}
+
+// The resolve tells these outcomes.
+fn tells(rt: &impl Abort, told: &Resolved, outcomes: &[(u32, bool, Code)]) {
+    assert!(rt; told.outcomes.len() == outcomes.len());
+    for place in 0..outcomes.len() {
+        let told = told.outcomes[place];
+        assert!(rt; (told.m, told.commit, told.code) == outcomes[place]);
+    }
 }
 
 const ROLLED_BACK: [(u32, bool, Code); 2] = [(1, false, Code::Done), (2, false, Code::Done)];

@@ -75,7 +75,10 @@ fn commit_meddled<R: Wait + Abort>(
     if !may_commit(&first, &log, branches) {
         panic!(rt; "these branches are refused");
     }
-    commit_all(rt, alloc, &mut first, &mut log, branches, &mut idle).expect(rt, "memory")
+    match commit_all(rt, alloc, &mut first, &mut log, branches, &mut idle) {
+        Ok(done) => done,
+        Err(_) => panic!(rt; "memory"),
+    }
 }
 
 // The second thread joins a branch.
@@ -83,7 +86,7 @@ fn join_branch<R: Wait + Abort>(rt: &R, opened: &mut Opened, branch: &Branch) {
     let (desk, idle) = (&mut opened.second, &mut opened.workers);
     let xid = Some(branch.xid);
     let joined = xa_call(rt, desk, Call::Start, xid, branch.m, TMJOIN, idle);
-    assert_eq!(rt; joined, 0);
+    assert!(rt; joined == 0);
 }
 
 // Work on branches at managers 1 and 2; the first one votes against where its change overdraws.
@@ -94,18 +97,20 @@ fn two_branches<R: Wait + Abort>(rt: &R, opened: &mut Opened, change: i64) -> [B
     branches
 }
 
+// Commits two branches, whose second manager is shut between the phases.
+fn commit_shut<R: Wait + Abort>(rt: &R, alloc: Global, change: i64) -> Done {
+    let mut opened = Opened::new(rt, alloc, 2);
+    let branches = two_branches(rt, &mut opened, change);
+    commit_meddled(rt, alloc, opened, &branches, Op::Shut)
+}
+
 #[test]
 fn a_yes_vote_of_a_manager_that_is_then_shut_is_in_doubt(rt: HostRuntime) {
-    let alloc = rt.alloc();
-    let mut opened = Opened::new(&rt, alloc, 2);
-    let branches = two_branches(&rt, &mut opened, 1);
-    let done = commit_meddled(&rt, alloc, opened, &branches, Op::Shut);
+    let done = commit_shut(&rt, rt.alloc(), 1);
     let endings = [Ending::Committed, Ending::InDoubt];
     tells(&rt, &done, true, true, &[Code::Done, Code::Done], &endings);
     // The same where the decision is to abort.
-    let mut opened = Opened::new(&rt, alloc, 2);
-    let branches = two_branches(&rt, &mut opened, -6);
-    let done = commit_meddled(&rt, alloc, opened, &branches, Op::Shut);
+    let done = commit_shut(&rt, rt.alloc(), -6);
     let votes = [Code::RbIntegrity, Code::Done];
     let endings = [Ending::RolledBack, Ending::InDoubt];
     tells(&rt, &done, false, false, &votes, &endings);

@@ -64,8 +64,8 @@ fn a_record_stays_while_a_branch_is_in_doubt(rt: HostRuntime) {
     forget_acknowledged(&mut log, &tran, &made.done);
     assert!(&rt; log.has(&tran).is_some());
     let recovered = recover(&rt, alloc, settled, &again(8), &log);
-    assert_eq!(&rt; recovered.ended.told.outcomes.len(), 1);
-    forget_resolved(alloc, &mut log, &recovered.ended.told).expect(&rt, "memory");
+    assert!(&rt; recovered.ended.told.outcomes.len() == 1);
+    assert!(&rt; forget_resolved(alloc, &mut log, &recovered.ended.told).is_ok());
     assert!(&rt; log.has(&tran).is_none());
 }
 
@@ -84,30 +84,45 @@ fn outcome<A: Abort>(rt: &A, gtrid: &[u8], code: Code) -> Outcome {
     }
 }
 
+// The log takes a record of the transaction.
+fn record<A: Abort>(rt: &A, log: &mut MemoryLog, gtrid: &[u8]) {
+    let record = CommitRecord {
+        tran: tran(rt, gtrid),
+        yes: ManagerSet::of([true; 8]),
+    };
+    let None = log.has(&record.tran) else {
+        panic!(rt; "it has a record");
+    };
+    assert!(rt; log.append(&record).is_ok());
+}
+
+// Whether the log has a record of the transaction.
+fn has<A: Abort>(rt: &A, log: &MemoryLog, gtrid: &[u8]) -> bool {
+    log.has(&tran(rt, gtrid)).is_some()
+}
+
+// A resolve that ended the first transaction's branch, and found the manager of the second one's shut.
+fn found_one_shut<A: Abort>(rt: &A, alloc: Global) -> Resolved {
+    let told = [
+        outcome(rt, b"a", Code::Done),
+        outcome(rt, b"b", Code::RmFail),
+    ];
+    Resolved {
+        outcomes: Vec::from_array(alloc, told).expect(rt, "memory"),
+    }
+}
+
 #[test]
 fn a_resolve_that_found_a_manager_shut_keeps_what_it_has_to_be_told(rt: HostRuntime) {
     let alloc = rt.alloc();
     let mut log = MemoryLog::new(alloc);
-    for gtrid in [b"a", b"b", b"c"] {
-        let record = CommitRecord {
-            tran: tran(&rt, gtrid),
-            yes: ManagerSet::of([true; 8]),
-        };
-        let None = log.has(&record.tran) else {
-            panic!(&rt; "it has a record");
-        };
-        log.append(&record).expect(&rt, "room");
-    }
-    let told = [
-        outcome(&rt, b"a", Code::Done),
-        outcome(&rt, b"b", Code::RmFail),
-    ];
-    let resolved = Resolved {
-        outcomes: Vec::from_array(alloc, told).expect(&rt, "memory"),
-    };
-    forget_resolved(alloc, &mut log, &resolved).expect(&rt, "memory");
-    assert!(&rt; log.has(&tran(&rt, b"a")).is_none());
-    assert!(&rt; log.has(&tran(&rt, b"b")).is_some());
+    record(&rt, &mut log, b"a");
+    record(&rt, &mut log, b"b");
+    record(&rt, &mut log, b"c");
+    let resolved = found_one_shut(&rt, alloc);
+    assert!(&rt; forget_resolved(alloc, &mut log, &resolved).is_ok());
+    assert!(&rt; !has(&rt, &log, b"a"));
+    assert!(&rt; has(&rt, &log, b"b"));
     // A crash had brought it back, and nothing of it was left.
-    assert!(&rt; log.has(&tran(&rt, b"c")).is_none());
+    assert!(&rt; !has(&rt, &log, b"c"));
 }

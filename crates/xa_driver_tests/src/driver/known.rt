@@ -34,21 +34,20 @@ fn die<R: Wait + Abort>(
         panic!(rt; "these branches are refused");
     }
     let (one, two, free) = (first.room(1), first.room(2), first.free());
-    let known = commit_until(
-        rt,
-        alloc,
-        &mut first,
-        &mut log,
-        branches,
-        death,
-        &mut workers,
-    );
-    let less = |before: u32, after: u32| before.checked_sub(after).expect(rt, "it only sends");
+    let idle = &mut workers;
+    let Ok(known) = commit_until(rt, alloc, &mut first, &mut log, branches, death, idle) else {
+        panic!(rt; "memory");
+    };
     Left {
-        known: known.expect(rt, "memory"),
-        sent: (less(one, first.room(1)), less(two, first.room(2))),
-        in_flight: less(free, first.free()),
+        known,
+        sent: (less(rt, one, first.room(1)), less(rt, two, first.room(2))),
+        in_flight: less(rt, free, first.free()),
     }
+}
+
+// How much less it is than before.
+fn less(rt: &impl Abort, before: u32, after: u32) -> u32 {
+    before.checked_sub(after).expect(rt, "it only sends")
 }
 
 // The same, once the thread has worked for both branches: with these changes for the first, and with one for the other.
@@ -68,8 +67,8 @@ fn die_after<R: Wait + Abort>(
 
 // What was asked of both managers, and what of it is in flight.
 fn asked(rt: &impl Abort, left: &Left, sent: (u32, u32), in_flight: u32) {
-    assert_eq!(rt; left.sent, sent);
-    assert_eq!(rt; left.in_flight, in_flight);
+    assert!(rt; left.sent == sent);
+    assert!(rt; left.in_flight == in_flight);
 }
 
 const YES: [Code; 2] = [Code::Done, Code::Done];

@@ -5,7 +5,7 @@ use std::process::Abort;
 use std::sync::Wait;
 use xa_crew::Turns;
 use xa_desk::{Desk, Idle};
-use xa_driver::{Done, Ending, commit_all, may_commit};
+use xa_driver::{Branch, Done, Ending, commit_all, may_commit};
 use xa_log::MemoryLog;
 use xa_switch::Plan;
 use xa_words::{Code, Op};
@@ -53,6 +53,18 @@ fn commit_while<R: Wait + Abort>(rt: &R, alloc: Global, at: u32, op: Op) -> Done
     let branches = [branch(rt, 1), branch(rt, 2)];
     opened.work(rt, &branches[0], &[1]);
     opened.work(rt, &branches[1], &[1]);
+    commit_meddled(rt, alloc, opened, &branches, at, op)
+}
+
+// Commits the branches while this is asked for so.
+fn commit_meddled<R: Wait + Abort>(
+    rt: &R,
+    alloc: Global,
+    opened: Opened,
+    branches: &[Branch; 2],
+    at: u32,
+    op: Op,
+) -> Done {
     let Opened {
         mut first,
         second,
@@ -66,10 +78,13 @@ fn commit_while<R: Wait + Abort>(rt: &R, alloc: Global, at: u32, op: Op) -> Done
         at,
     };
     let mut log = MemoryLog::new(alloc);
-    if !may_commit(&first, &log, &branches) {
+    if !may_commit(&first, &log, branches) {
         panic!(rt; "these branches are refused");
     }
-    commit_all(rt, alloc, &mut first, &mut log, &branches, &mut idle).expect(rt, "memory")
+    match commit_all(rt, alloc, &mut first, &mut log, branches, &mut idle) {
+        Ok(done) => done,
+        Err(_) => panic!(rt; "memory"),
+    }
 }
 
 /// The first idle waits for the first vote, and the third for the first Commit, when both are in flight.

@@ -14,7 +14,7 @@ use std::sync::Wait;
 use xa_calls::xa_call;
 use xa_crew::Turns;
 use xa_desk::{Desk, Idle};
-use xa_driver::{Branch, Outcome, may_resolve, resolve};
+use xa_driver::{Branch, Outcome, Resolved, may_resolve, resolve};
 use xa_log::MemoryLog;
 use xa_switch::{Plan, Settled};
 use xa_words::{Call, Code, Death, TMNOFLAGS, Xid};
@@ -51,7 +51,7 @@ fn prepare<R: Wait + Abort>(rt: &R, desk: &mut Desk, branch: &Branch, idle: &mut
     work(rt, desk, branch, idle);
     let xid = Some(branch.xid);
     let answer = xa_call(rt, desk, Call::Prepare, xid, branch.m, TMNOFLAGS, idle);
-    assert_eq!(rt; answer, 0);
+    assert!(rt; answer == 0);
 }
 
 // Ends both threads of an opening, which is settled.
@@ -101,11 +101,23 @@ fn managers_are_resolved_one_after_the_other(rt: HostRuntime) {
     let branches = [branch(&rt, 1), branch(&rt, 2)];
     let opened = open(&rt, alloc, &plan);
     let settled = leave(&rt, alloc, opened, &branches);
+    let reopened = open_again(&rt, alloc, settled, &again(8));
+    let (told, waited) = resolve_noting(&rt, alloc, reopened);
+    assert!(rt; told.outcomes.len() == 2);
+    assert!(rt; waited.as_slice() == [1, 1, 2, 2].as_slice());
+}
+
+// What a resolve by a log without a record tells, and whom it waited for.
+fn resolve_noting<R: Wait + Abort>(
+    rt: &R,
+    alloc: Global,
+    reopened: Reopened,
+) -> (Resolved, Vec<u32>) {
     let Reopened {
         mut desk,
         workers,
         scan,
-    } = open_again(&rt, alloc, settled, &again(8));
+    } = reopened;
     let mut idle = Noting {
         workers,
         waited: Vec::new(alloc),
@@ -114,9 +126,10 @@ fn managers_are_resolved_one_after_the_other(rt: HostRuntime) {
     if !may_resolve(&desk, &scan, &log) {
         panic!(rt; "there is no room to resolve what is left");
     }
-    let told = resolve(&rt, alloc, &mut desk, &scan, &log, &mut idle);
-    assert_eq!(rt; told.expect(&rt, "memory").outcomes.len(), 2);
-    assert_eq!(rt; idle.waited.as_slice(), [1, 1, 2, 2].as_slice());
+    match resolve(rt, alloc, &mut desk, &scan, &log, &mut idle) {
+        Ok(told) => (told, idle.waited),
+        Err(_) => panic!(rt; "memory"),
+    }
 }
 
 // A branch of the first thread's transaction at manager 1, and one of the second thread's at manager 2.
@@ -167,25 +180,18 @@ fn die_both<R: Wait + Abort>(
     end_both(rt, alloc, first, second, workers)
 }
 
-// What two threads left in doubt is resolved by the logs of both, which have these records; and then the values are
-// these.
-fn resolves_by_both<R: Wait + Abort>(rt: &R, alloc: Global, recorded: [bool; 2], values: [u64; 2]) {
-    let plan = Plan {
-        queue: 4,
-        ..plan_of(rt, alloc, 2)
-    };
-    let death = |recorded: bool| Dies::At(if recorded {
+// Where a coordinator dies, so that its log has the record, or doesn't.
+fn death(recorded: bool) -> Dies {
+    Dies::At(if recorded {
         Death::Decided
     } else {
         Death::Prepared
-    });
-    let deaths = [death(recorded[0]), death(recorded[1])];
+    })
+}
+
+// Both branches were ended, each as its coordinator's log has it.
+fn are_ended(rt: &impl Abort, told: &Resolved, recorded: [bool; 2]) {
     let branches = branch_of_each(rt);
-    let (mut first, mut second) = (MemoryLog::new(alloc), MemoryLog::new(alloc));
-    let logs = (&mut first, &mut second);
-    let settled = die_both(rt, alloc, open(rt, alloc, &plan), &branches, logs, deaths);
-    let logs = [&first, &second];
-    let recovered = recover(rt, alloc, settled, &again(8), &logs.as_slice());
     let outcome = |branch: Branch, commit: bool| Outcome {
         m: branch.m,
         xid: branch.xid,
@@ -196,15 +202,26 @@ fn resolves_by_both<R: Wait + Abort>(rt: &R, alloc: Global, recorded: [bool; 2],
         outcome(branches[0], recorded[0]),
         outcome(branches[1], recorded[1]),
     ];
-    assert_eq!(rt;
-        recovered.ended.told.outcomes.as_slice(),
-        outcomes.as_slice()
-    );
-    let left = [
-        recovered.settled.value(1, &key(rt)),
-        recovered.settled.value(2, &key(rt)),
-    ];
-    assert_eq!(rt; left, [Some(values[0]), Some(values[1])]);
+    assert!(rt; told.outcomes.as_slice() == outcomes.as_slice());
+}
+
+// What two threads left in doubt is resolved by the logs of both, which have these records; and then the values are
+// these.
+fn resolves_by_both<R: Wait + Abort>(rt: &R, alloc: Global, recorded: [bool; 2], values: [u64; 2]) {
+    let plan = Plan {
+        queue: 4,
+        ..plan_of(rt, alloc, 2)
+    };
+    let deaths = [death(recorded[0]), death(recorded[1])];
+    let branches = branch_of_each(rt);
+    let (mut first, mut second) = (MemoryLog::new(alloc), MemoryLog::new(alloc));
+    let logs = (&mut first, &mut second);
+    let settled = die_both(rt, alloc, open(rt, alloc, &plan), &branches, logs, deaths);
+    let logs = [&first, &second];
+    let recovered = recover(rt, alloc, settled, &again(8), &logs.as_slice());
+    are_ended(rt, &recovered.ended.told, recorded);
+    assert!(rt; recovered.settled.value(1, &key(rt)) == Some(values[0]));
+    assert!(rt; recovered.settled.value(2, &key(rt)) == Some(values[1]));
 }
 
 #[test]

@@ -4,15 +4,15 @@ use std::alloc::Global;
 use std::process::Abort;
 use std::sync::Wait;
 use std::sync::atomic::{AtomicBool, Ordering};
-use std::thread::join;
+use std::thread::{Threads, join};
 use xa_calls::{RmOp, native, xa_call};
 use xa_desk::{Desk, EndedDesk, Spin};
 use xa_driver::{Branch, Done, Ending, commit_all, may_commit};
 use xa_log::{DecisionLog, MemoryLog};
-use xa_switch::open_switch;
-use xa_testing::comes;
+use xa_switch::{Plan, open_switch};
+use xa_testing::{comes, end, one, two};
 use xa_words::{Call, Op, Request, TMNOFLAGS, TMSUCCESS};
-use xa_worker::Pace;
+use xa_worker::{DoneWorker, Pace, Worker};
 
 // Tells that a worker came to its Prepare, and holds it until the other one came to its own.
 #[derive(Drop)]
@@ -40,28 +40,29 @@ impl Pace for Meeting<'_> {
 fn work<R: Wait + Abort>(rt: &R, desk: &mut Desk, branch: &Branch) {
     let mut spin = Spin::new();
     let add = RmOp::Add(super::key(rt), super::delta(rt, 1));
-    let m = branch.m;
+    let (m, xid) = (branch.m, Some(branch.xid));
     let opened = xa_call(rt, desk, Call::OpenRm, None, m, TMNOFLAGS, &mut spin);
-    let started = xa_call(
-        rt,
-        desk,
-        Call::Start,
-        Some(branch.xid),
-        m,
-        TMNOFLAGS,
-        &mut spin,
-    );
+    let started = xa_call(rt, desk, Call::Start, xid, m, TMNOFLAGS, &mut spin);
     let added = native(rt, desk, add, m, TMNOFLAGS, &mut spin);
-    let ended = xa_call(
-        rt,
-        desk,
-        Call::End,
-        Some(branch.xid),
-        m,
-        TMSUCCESS,
-        &mut spin,
-    );
-    assert_eq!(rt; [opened, started, added, ended], [0; 4]);
+    let ended = xa_call(rt, desk, Call::End, xid, m, TMSUCCESS, &mut spin);
+    assert!(rt; opened == 0 && started == 0 && added == 0 && ended == 0);
+}
+
+// Commits branches at managers 1 and 2, for which the thread has worked.
+fn commit_worked<R: Wait + Abort, L: DecisionLog>(
+    rt: &R,
+    alloc: Global,
+    desk: &mut Desk,
+    log: &mut L,
+    branches: &[Branch; 2],
+) -> Done {
+    if !may_commit(desk, log, branches) {
+        panic!(rt; "these branches are refused");
+    }
+    match commit_all(rt, alloc, desk, log, branches, &mut Spin::new()) {
+        Ok(done) => done,
+        Err(_) => panic!(rt; "memory"),
+    }
 }
 
 // Commits branches at managers 1 and 2, and ends the desk.
@@ -72,63 +73,87 @@ pub(super) fn commit_two<R: Wait + Abort, L: DecisionLog>(
     log: &mut L,
 ) -> (Done, EndedDesk) {
     let branches = [branch(rt, 1), branch(rt, 2)];
-    let mut spin = Spin::new();
-    for branch in &branches {
-        work(rt, &mut desk, branch);
-    }
-    if !may_commit(&desk, log, &branches) {
-        panic!(rt; "these branches are refused");
-    }
-    let done = commit_all(rt, alloc, &mut desk, log, &branches, &mut spin);
-    let done = done.expect(rt, "memory");
-    match desk.finish(rt, &mut spin) {
-        Ok(ended) => (done, ended),
-        Err(_) => panic!(rt; "something is outstanding"),
-    }
+    work(rt, &mut desk, &branches[0]);
+    work(rt, &mut desk, &branches[1]);
+    let done = commit_worked(rt, alloc, &mut desk, log, &branches);
+    let ended = end(rt, desk, &mut Spin::new());
+    (done, ended.expect(rt, "nothing outstanding"))
+}
+
+// A desk, and a worker for each of its two managers.
+pub(super) fn open_two<R: Wait + Abort>(rt: &R, alloc: Global) -> (Desk, Worker, Worker) {
+    let plan = Plan {
+        threads: 1,
+        ..plan_of(rt, alloc, 2)
+    };
+    let Ok((desks, workers)) = open_switch(rt, alloc, &plan) else {
+        panic!(rt; "no opening");
+    };
+    let desk = one(desks).expect(rt, "one desk");
+    let (first, second) = two(workers).expect(rt, "two workers");
+    (desk, first, second)
+}
+
+// The flags of the meeting.
+#[derive(Drop)]
+struct Met {
+    first: AtomicBool,
+    second: AtomicBool,
+    missed: AtomicBool,
+}
+
+// Runs both workers, each in a thread, which meet before their Prepares.
+fn run_both<R: Threads + Wait + Sync>(
+    rt: &R,
+    met: &Met,
+    first: Worker,
+    second: Worker,
+) -> (DoneWorker, DoneWorker) {
+    let mut pace = Meeting {
+        here: &met.first,
+        there: &met.second,
+        missed: &met.missed,
+    };
+    let mut other = Meeting {
+        here: &met.second,
+        there: &met.first,
+        missed: &met.missed,
+    };
+    join(
+        rt,
+        || first.run(rt, &mut pace),
+        || second.run(rt, &mut other),
+    )
+}
+
+// The manager carried out six requests, which were collected.
+fn did_six(rt: &impl Abort, manager: u32, ended: &EndedDesk, worker: &DoneWorker) {
+    assert!(rt; ended.collected(manager).len() == 6);
+    assert!(rt; worker.journal().len() == 6);
 }
 
 #[test]
 fn both_prepares_are_in_flight_at_once(rt: HostRuntime) {
     let alloc = rt.alloc();
-    let mut plan = plan_of(&rt, alloc, 2);
-    plan.threads = 1;
-    let (mut desks, mut workers) = open_switch(&rt, alloc, &plan).expect(&rt, "an opening");
-    let desk = desks.pop().expect(&rt, "a desk");
-    let second = workers.pop().expect(&rt, "a worker");
-    let first = workers.pop().expect(&rt, "another worker");
-    let flags = [AtomicBool::new(false), AtomicBool::new(false)];
-    let missed = AtomicBool::new(false);
-    let mut pace = Meeting {
-        here: &flags[0],
-        there: &flags[1],
-        missed: &missed,
-    };
-    let mut other = Meeting {
-        here: &flags[1],
-        there: &flags[0],
-        missed: &missed,
+    let (desk, first, second) = open_two(&rt, alloc);
+    let met = Met {
+        first: AtomicBool::new(false),
+        second: AtomicBool::new(false),
+        missed: AtomicBool::new(false),
     };
     let mut log = MemoryLog::new(alloc);
     let ((done, ended), (first, second)) = join(
         &rt,
         || commit_two(&rt, alloc, desk, &mut log),
-        || {
-            join(
-                &rt,
-                || first.run(&rt, &mut pace),
-                || second.run(&rt, &mut other),
-            )
-        },
+        || run_both(&rt, &met, first, second),
     );
     assert!(rt;
-        !missed.load(Ordering::SeqCst),
+        !met.missed.load(Ordering::SeqCst),
         "one Prepare waited for the other"
     );
     assert!(rt; done.commit && done.logged);
     let endings = [Ending::Committed, Ending::Committed];
-    assert_eq!(rt; done.endings.as_slice(), endings.as_slice());
-    for (manager, worker) in [(1, &first), (2, &second)] {
-        assert_eq!(rt; ended.collected(manager).len(), 6);
-        assert_eq!(rt; worker.journal().len(), 6);
-    }
+    assert!(rt; done.endings.as_slice() == endings.as_slice());
+    did_six(&rt, 1, &ended, &first);
+    did_six(&rt, 2, &ended, &second);
 }

@@ -56,7 +56,7 @@ fn close<R: Wait + Abort>(rt: &R, desk: &mut Desk, idle: &mut Turns)
     desks_go_on();
     let first = xa_call(rt, desk, Call::CloseRm, None, 1, TMNOFLAGS, idle);
     let second = xa_call(rt, desk, Call::CloseRm, None, 2, TMNOFLAGS, idle);
-    assert_eq!(rt; (first, second), (0, 0));
+    assert!(rt; first == 0 && second == 0);
 }
 
 // Settles all desks and workers of an opening.
@@ -146,8 +146,8 @@ fn a_commit_tells_what_became_of_its_branches(rt: HostRuntime) {
     let branches = [branch(&rt, 1), branch(&rt, 2)];
     let told = commit_and_settle(&rt, alloc, opened, &branches);
     let endings = [Ending::Committed, Ending::Committed];
-    assert_eq!(rt; told.thread, 1);
-    assert_eq!(rt; told.made.done.endings.as_slice(), endings.as_slice());
-    assert_eq!(rt; told.settled.value(1, &key(&rt)), Some(6));
-    assert_eq!(rt; told.settled.value(2, &key(&rt)), Some(6));
+    assert!(rt; told.thread == 1);
+    assert!(rt; told.made.done.endings.as_slice() == endings.as_slice());
+    assert!(rt; told.settled.value(1, &key(&rt)) == Some(6));
+    assert!(rt; told.settled.value(2, &key(&rt)) == Some(6));
 }

@@ -13,7 +13,7 @@ use std::process::Abort;
 use std::sync::Wait;
 use xa_crew::Turns;
 use xa_desk::Desk;
-use xa_driver::{Branch, CommitFault, commit_all, may_commit};
+use xa_driver::{Branch, CommitFault, Resolved, commit_all, may_commit};
 use xa_log::{LosingLog, MemoryLog};
 use xa_switch::Plan;
 use xa_words::Code;
@@ -39,6 +39,34 @@ fn commit<R: Wait + Abort>(
     }
 }
 
+// Both branches were ended, by what the log has.
+fn are_ended(rt: &impl Abort, told: &Resolved, keeps: bool) {
+    for outcome in &told.outcomes {
+        assert!(rt; outcome.commit == keeps && outcome.code == Code::Done);
+    }
+    assert!(rt; told.outcomes.len() == 2);
+}
+
+// Commits both branches, for which the thread has worked: each is asked to prepare, and no more; and the log can't be
+// asked any more.
+fn is_undecided<R: Wait + Abort>(
+    rt: &R,
+    alloc: Global,
+    desk: &mut Desk,
+    log: &mut LosingLog,
+    branches: &[Branch; 2],
+    idle: &mut Turns,
+)
+    ensures seat { seat_of_desk desk.new ≡ seat_of_desk desk.old }
+    ensures idled { map seat_of_worker idle.new ≡ map seat_of_worker idle.old }
+{
+    let room = desk.room(1).checked_sub(1).expect(rt, "room");
+    let votes = commit(rt, alloc, desk, log, branches, idle);
+    assert!(rt; votes.as_slice() == [Code::Done; 2].as_slice());
+    assert!(rt; (desk.room(1), desk.room(2)) == (room, room));
+    assert!(rt; !may_commit(desk, log, &[branch(rt, 1)]));
+}
+
 // Commits two branches that each add 1 to 5, with a log that keeps the record or doesn't, and resolves them by what it
 // has. Then the managers' values are this.
 fn comes_to<R: Wait + Abort>(rt: &R, alloc: Global, keeps: bool, value: u64) {
@@ -55,23 +83,12 @@ fn comes_to<R: Wait + Abort>(rt: &R, alloc: Global, keeps: bool, value: u64) {
     work(rt, &mut first, &branches[0], &mut workers);
     work(rt, &mut first, &branches[1], &mut workers);
     let mut log = LosingLog::losing_at(MemoryLog::new(alloc), 1, keeps);
-    let room = first.room(1).checked_sub(1).expect(rt, "room");
-    let votes = commit(rt, alloc, &mut first, &mut log, &branches, &mut workers);
-    assert_eq!(rt; votes.as_slice(), [Code::Done; 2].as_slice());
-    // Each was asked to prepare, and no more; and the log can't be asked any more.
-    assert_eq!(rt; (first.room(1), first.room(2)), (room, room));
-    assert!(rt; !may_commit(&first, &log, &[branch(rt, 1)]));
+    is_undecided(rt, alloc, &mut first, &mut log, &branches, &mut workers);
     let settled = end_both(rt, alloc, first, second, workers);
     let recovered = recover(rt, alloc, settled, &again(8), &log.reopened());
-    for outcome in &recovered.ended.told.outcomes {
-        assert_eq!(rt; (outcome.commit, outcome.code), (keeps, Code::Done));
-    }
-    assert_eq!(rt; recovered.ended.told.outcomes.len(), 2);
-    let (one, two) = (
-        recovered.settled.value(1, &key(rt)),
-        recovered.settled.value(2, &key(rt)),
-    );
-    assert_eq!(rt; (one, two), (Some(value), Some(value)));
+    are_ended(rt, &recovered.ended.told, keeps);
+    assert!(rt; recovered.settled.value(1, &key(rt)) == Some(value));
+    assert!(rt; recovered.settled.value(2, &key(rt)) == Some(value));
 }
 
 #[test]
