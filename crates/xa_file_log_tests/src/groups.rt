@@ -2,8 +2,8 @@
 
 use crate::images::FEW;
 use crate::memory::{
-    Log, created, durable_of, empty, file_of, found, has, keep_only, lacks, numbered, opened, takes,
-    yes,
+    Log, created, durable_of, empty, file_of, found, has, keep_only, lacks, numbered, opened,
+    takes, yes,
 };
 use crate::tape::Tape;
 use std::alloc::Global;

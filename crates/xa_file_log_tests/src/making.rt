@@ -23,8 +23,7 @@ fn made(rt: &impl Abort, alloc: Global, k: u32) -> Tape {
 
 // Whether the bytes are no log, or an empty one.
 fn is_none_or_empty(rt: &impl Abort, alloc: Global, image: &[u8]) -> bool {
-    fault_of(rt, alloc, image) == Some(OpenFault::NotALog)
-        || image == empty(rt, alloc).as_slice()
+    fault_of(rt, alloc, image) == Some(OpenFault::NotALog) || image == empty(rt, alloc).as_slice()
 }
 
 #[test]

@@ -135,7 +135,10 @@ pub(crate) fn lacks<D: Device>(log: &FileLog<D>, record: &CommitRecord) -> bool 
 }
 
 /// An append to a log that is known and has no record of the transaction.
-pub(crate) fn added<D: Device>(log: &mut FileLog<D>, record: &CommitRecord) -> Result<(), LogFault> {
+pub(crate) fn added<D: Device>(
+    log: &mut FileLog<D>,
+    record: &CommitRecord,
+) -> Result<(), LogFault> {
     if !log.is_known() || log.has(&record.tran).is_some() {
         return Err(LogFault::Unknown);
     }
