@@ -19,8 +19,10 @@ pub(crate) const MOST_LINES: u32 = 100_000;
 // How many bytes a line may have, its carriage return and line feed not counted.
 pub(crate) const LONGEST_LINE: usize = 512;
 
-// How many bytes of a line are judged at once.
+// How many bytes of a short line are judged at once, and how many a long one has at least.
 const BLOCK: usize = 8;
+
+const LONG: usize = 64;
 
 /// What the first word of a line says that the line is.
 #[derive(Clone, Copy)]
@@ -140,7 +142,8 @@ fn are_script_bytes(block: &[u8]) -> bool
     good
 }
 
-fn all_script_bytes(line: &[u8]) -> bool
+// Whether a line is of such bytes, judged block by block.
+fn are_script_blocks(line: &[u8]) -> bool
     ensures { result ≡ list_all is_script_byte line.now }
 {
     if line.len() < BLOCK {
@@ -156,6 +159,17 @@ fn all_script_bytes(line: &[u8]) -> bool
     }
     // The last block may begin in the one before it, so that no byte is left to be judged alone.
     are_script_bytes(&line[last..])
+}
+
+fn all_script_bytes(line: &[u8]) -> bool
+    ensures { result ≡ list_all is_script_byte line.now }
+{
+    if line.len() < LONG {
+        are_script_blocks(line)
+    } else {
+        // As one block it takes less for each byte, and a little more for the line.
+        are_script_bytes(line)
+    }
 }
 
 fn without_return(line: &[u8]) -> &[u8]

@@ -1,7 +1,7 @@
 use Rattle.std.proofs.Common.{◌≡◌, ◌≤◌, ◌+◌, ◌-◌, true, take}
 use Rattle.std.specs.List.{list_all}
 use Rattle.xa_grammar.specs.Text.{is_script_byte}
-use Rattle.xa_grammar.proofs.line.all_script_bytes.Given as goal
+use Rattle.xa_grammar.proofs.line.are_script_blocks.Given as goal
 
 abbrev pub invariant-loop-start : goal.invariant-loop-start
 invariant-loop-start l = record { judged : list_all is_script_byte (take l.start l.line) ≡ true; in_range : l.start ≤ l.last + 16 }

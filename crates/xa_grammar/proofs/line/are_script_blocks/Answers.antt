@@ -4,7 +4,7 @@ use Rattle.std.proofs.Common.{rules, arith, sym, ap, ◌∙◌}
 use Rattle.std.proofs.lemmas.List.{take_rest}
 use Rattle.xa_grammar.specs.Text.{is_script_byte}
 use Rattle.xa_grammar.proofs.Blocks.{block_more, block_bad, block_last}
-use Rattle.xa_grammar.proofs.line.all_script_bytes.Goals as goal
+use Rattle.xa_grammar.proofs.line.are_script_blocks.Goals as goal
 
 pub returns-then-not-are_script_bytes : goal.returns-then-not-are_script_bytes
 returns-then-not-are_script_bytes c =
