@@ -1,22 +1,20 @@
--- The fields of a branch name, read off the name.
-use Rattle.std.proofs.Common.{◌≡◌, ℕ, List, length, take, drop, refl, sym, subst}
+-- The lengths and the bytes of a branch name, read off the name.
+use Rattle.std.proofs.Common.{◌≡◌, ℕ, List, length, take, drop, sym, subst}
 use Rattle.std.specs.Prelude.{ℤ}
 use Rattle.xa_words.specs.Xid.{XidName, bytes_of}
 use Rattle.xa_words.specs.XidInverse.{IsPaddedXid, length_first, length_second, bytes_again}
 
 -- the fields are what the name gives
-pub record FieldsAre (f : ℤ) (g b : ℕ) (bs : List ℕ) (v : XidName) : Type 0 where
-  pub format : f ≡ v.format
+pub record FieldsAre (g b : ℕ) (bs : List ℕ) (v : XidName) : Type 0 where
   pub gtrid_len : g ≡ length v.gtrid
   pub bqual_len : b ≡ length v.bqual
   pub bytes : bs ≡ bytes_of v
 
 -- fields whose view is a name are what it gives
 pub fields_are : (f : ℤ) (g b : ℕ) (bs : List ℕ) (v : XidName) → IsPaddedXid g b bs
-    → ◌≡◌ {A = XidName} (record { format = f; gtrid = take g bs; bqual = take b (drop g bs) }) v → FieldsAre f g b bs v
+    → ◌≡◌ {A = XidName} (record { format = f; gtrid = take g bs; bqual = take b (drop g bs) }) v → FieldsAre g b bs v
 fields_are f g b bs v p e =
-    subst (FieldsAre f g b bs) e (record {
-      format = refl;
+    subst (FieldsAre g b bs) e (record {
       gtrid_len = sym (length_first g b bs p);
       bqual_len = sym (length_second g b bs p);
       bytes = sym (bytes_again g b bs p);

@@ -6,6 +6,7 @@ pub mod TranInverse
 pub mod Key
 pub mod NewXid
 pub mod NewKey
+pub mod NumberBytes
 pub mod Delta
 pub mod Flags
 pub mod Orders

@@ -1,10 +1,13 @@
 //! Names of transaction branches.
 ghost use Rattle.std.specs.Prelude.{◌≡◌, ◌+◌, ◌-◌, ◌≤◌, ◌++◌, IsTrue, length, replicate};
+ghost use Rattle.std.specs.Int.{w32};
 ghost use Rattle.xa_words.specs.NewXid.{is_part, xid_of};
+ghost use Rattle.xa_words.specs.NumberBytes.{number_of, IsOfItsNumber};
 ghost use Rattle.xa_words.specs.Tran.{tran_of};
 
 use crate::tran::Tran;
 use std::cmp::Ordering;
+use std::fmt;
 use std::hash::{Hash, Hasher};
 use std::marker::Model;
 
@@ -13,15 +16,16 @@ use std::marker::Model;
 ///
 /// Names are ordered by the format, then the length of the gtrid, then that of the bqual, then
 /// the bytes of both; so the branch `b.1` stands before `aa.1`.
-#[derive(Clone, Copy, Debug)]
+#[derive(Clone, Copy)]
 pub struct Xid {
+    // The format's bytes, lowest first: so no list of requests has gaps that align it.
+    format: [u8; 4],
     parts: Parts,
 }
 
-// The order of the fields is the order in which names are compared.
-#[derive(Clone, Copy, Debug, PartialEq, Eq, PartialOrd, Ord)]
+// The order of the fields is the order in which names of one format are compared.
+#[derive(Clone, Copy, PartialEq, Eq, PartialOrd, Ord)]
 struct Parts {
-    format: i32,
     gtrid_len: u8,
     bqual_len: u8,
     // The gtrid, the bqual, then zeros.
@@ -30,6 +34,8 @@ struct Parts {
 
 impl Model for Xid {
     ghost use Rattle.std.specs.Prelude.{length, take, drop};
+    ghost use Rattle.std.specs.Int.{w32};
+    ghost use Rattle.xa_words.specs.NumberBytes.{number_of, bytes_of_number, IsOfItsNumber};
     ghost use Rattle.xa_words.specs.Xid.{XidName, xid_code, bytes_of};
     ghost use Rattle.xa_words.specs.XidInverse.{IsPaddedXid, bytes_again, length_first, length_second};
 
@@ -38,28 +44,29 @@ impl Model for Xid {
     ghost coded = { xid_code };
 
     ghost view = { λ x. record {
-      format = x.parts.format;
+      format = number_of w32 x.format;
       gtrid = take x.parts.gtrid_len x.parts.bytes;
       bqual = take x.parts.bqual_len (drop x.parts.gtrid_len x.parts.bytes);
     } };
 
-    ghost invariant = { λ x. IsPaddedXid x.parts.gtrid_len x.parts.bqual_len x.parts.bytes };
+    ghost invariant = { λ x.
+        IsPaddedXid x.parts.gtrid_len x.parts.bqual_len x.parts.bytes × IsOfItsNumber w32 x.format };
 
     ghost inverse = { λ name. record {
+      format = bytes_of_number w32 name.format;
       parts = record {
-        format = name.format;
         gtrid_len = length name.gtrid;
         bqual_len = length name.bqual;
         bytes = bytes_of name;
       };
     } };
 
-    ghost inverse_ok = { λ x padded i. record {
+    ghost inverse_ok = { λ x ok i. record {
+      format = ok.1.again i;
       parts = record {
-        format = x.parts.format;
-        gtrid_len = length_first x.parts.gtrid_len x.parts.bqual_len x.parts.bytes padded i;
-        bqual_len = length_second x.parts.gtrid_len x.parts.bqual_len x.parts.bytes padded i;
-        bytes = bytes_again x.parts.gtrid_len x.parts.bqual_len x.parts.bytes padded i;
+        gtrid_len = length_first x.parts.gtrid_len x.parts.bqual_len x.parts.bytes ok.0 i;
+        bqual_len = length_second x.parts.gtrid_len x.parts.bqual_len x.parts.bytes ok.0 i;
+        bytes = bytes_again x.parts.gtrid_len x.parts.bqual_len x.parts.bytes ok.0 i;
       };
     } };
 }
@@ -92,8 +99,8 @@ impl Xid {
             return Err(XidFault::BqualLength);
         }
         Ok(Xid {
+            format: format_bytes(format),
             parts: Parts {
-                format,
                 gtrid_len: gtrid.len() as u8,
                 bqual_len: bqual.len() as u8,
                 bytes: joined(gtrid, bqual),
@@ -102,10 +109,11 @@ impl Xid {
     }
 
     /// The format, which tells how the bytes are to be read.
+    #[tactic(auto, unfolding(crate::specs::NumberBytes::number_of))]
     pub fn format(&self) -> i32
         ensures { result ≡ self.now.format }
     {
-        self.parts.format
+        i32::from_le_bytes(self.format)
     }
 
     /// The gtrid, 1 to 64 bytes, which all branches of a global transaction share.
@@ -150,7 +158,7 @@ impl PartialEq for Xid {
     ghost laws = { partial_equiv_from_equiv (decided xid_eq Decides-xid_eq) };
 
     fn eq(&self, other: &Xid) -> bool {
-        self.parts.format == other.parts.format
+        self.format() == other.format()
             && self.parts.gtrid_len == other.parts.gtrid_len
             && self.used() == other.used()
     }
@@ -192,7 +200,9 @@ impl Ord for Xid {
     ghost matches_eq = { xid_eq-by_cmp };
 
     fn cmp(&self, other: &Xid) -> Ordering {
-        self.parts.cmp(&other.parts)
+        self.format()
+            .cmp(&other.format())
+            .then(self.parts.cmp(&other.parts))
     }
 }
 
@@ -212,10 +222,29 @@ impl PartialOrd for Xid {
     }
 }
 
+impl fmt::Debug for Xid {
+    fn fmt<W: fmt::Write>(&self, f: &mut fmt::Formatter<W>) -> fmt::Result {
+        f.debug_struct("Xid")
+            .field("format", &self.format())
+            .field("gtrid", &self.gtrid())
+            .field("bqual", &self.bqual())
+            .finish()
+    }
+}
+
 pub(crate) fn is_part(bytes: &[u8]) -> bool
     ensures { result ≡ is_part bytes.now }
 {
     (1..=Xid::MAX_PART_LEN).contains(&bytes.len())
+}
+
+// The bytes of a format, lowest first.
+#[tactic(auto, unfolding(crate::specs::NumberBytes::number_of, crate::specs::NumberBytes::bytes_of_number))]
+fn format_bytes(format: i32) -> [u8; 4]
+    ensures format { number_of w32 result ≡ format }
+    ensures only { IsOfItsNumber w32 result }
+{
+    format.to_le_bytes()
 }
 
 // The two parts, one after the other, and zeros up to the end.
