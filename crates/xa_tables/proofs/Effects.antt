@@ -348,7 +348,7 @@ module _ (t : ℕ) (T : Tables) where
       by_if Q (is_left T y) _ _ (λ _. Stays (Listed (Some y)) Done (record { fates = λ x. refl; shares = λ k l later. refl; moved = λ accounts T. refl }))
       (λ _. refuses (Listed (Some y)) Nota refl)
 
-  at_rules : (op : Op) → Effect t T op (by_rules t op T)
+  pub at_rules : (op : Op) → Effect t T op (by_rules t op T)
   at_rules Shut = Shuts
   at_rules OpenRm = Opens
   at_rules CloseRm = at_close

@@ -86,7 +86,7 @@ fate_there Live = refl
 fate_there f = refl
 
 -- a branch that exists and is in neither S3 nor S5
-works : (o : Option State) → is_some o ≡ true → (is_S3 o || is_S5 o) ≡ false → standing o ≡ AtWork
+pub works : (o : Option State) → is_some o ≡ true → (is_S3 o || is_S5 o) ≡ false → standing o ≡ AtWork
 works (Some Active) some e = refl
 works (Some Idle) some e = refl
 works (Some (RollbackOnly reason)) some e = refl

@@ -7,6 +7,8 @@ pub mod PlaceLemmas
 pub mod HeldLemmas
 pub mod Effects
 pub mod Law
+pub mod Kept
+pub mod FreeThreads
 pub mod Moves
 pub mod ValueLaw
 pub mod AddedLaw

@@ -1,10 +1,12 @@
 -- What a step keeps of the facts on branches in S3.
-use Rattle.std.specs.Prelude.{◌≡◌, ◌≢◌, ℕ, ℤ, Bool, true, false, cond, Option, None, Some, refl}
+use Rattle.std.specs.Prelude.{◌≡◌, ◌≢◌, ℕ, ℤ, Bool, true, false, cond, Option, None, Some, is_some, refl}
 use Rattle.std.proofs.Common.{sym, ap, ◌∙◌, subst}
 use Rattle.std.specs.Ordering.{nat_cmp, eq_by_cmp, is_eq}
 use Rattle.std.specs.Cmp.{nat_cmp_total, tied_itself}
+use Rattle.std.specs.Borrow.{MutBor}
+use Rattle.std.specs.Option.{OnSome}
 use Rattle.std.specs.FinMap as map
-use Rattle.std.specs.FinMap.{FinMap, get-insert, get-remove, nat_cmp-IsAntisymmetric}
+use Rattle.std.specs.FinMap.{FinMap, same_map, get-insert, get-remove, nat_cmp-IsAntisymmetric}
 use Rattle.xa_base.proofs.Truth.{is_equal}
 use Rattle.xa_words.specs.Xid.{XidName, xid_cmp, xid_eq}
 use Rattle.xa_words.specs.Orders.{key_cmp, xid_cmp_total, xid_cmp-IsAntisymmetric, Decides-xid_eq}
@@ -12,8 +14,10 @@ use Rattle.xa_tables.specs.declared.state.State.{State}
 use Rattle.xa_tables.specs.declared.state.State.TheVariants.{Prepared}
 use Rattle.xa_tables.specs.declared.state.Association.{Association}
 use Rattle.xa_tables.specs.Tables.{touch_cmp, is_broken, is_somebody_associated}
-use Rattle.xa_tables.specs.Tables.{is_S3}
-use Rattle.xa_tables.specs.Managers.{AreAssociationsLive, ArePreparedSound}
+use Rattle.xa_tables.specs.Tables.{is_S3, is_left_in}
+use Rattle.xa_tables.specs.Views.{BranchTable}
+use Rattle.xa_tables.specs.Lending.{HasState}
+use Rattle.xa_tables.specs.Managers.{ArePreparedSound}
 use Rattle.xa_base.proofs.FinMaps.{none_passes}
 
 abbrev Associations : Type 0
@@ -49,6 +53,22 @@ pub others_removed : (states : States) (x y : XidName) → y ≢ x → map.get (
 others_removed states x y apart =
     get-remove xid_cmp_total states x y
     ∙ by_xid y x (λ b. cond b None (map.get states y) ≡ map.get states y) (λ e. absurd (apart e)) (λ _. refl)
+
+-- a branch that is put into the state that it has
+pub put_same : (states : States) (x : XidName) (s : State) → map.get states x ≡ Some s → map.insert states x s ≡ states
+put_same states x s is =
+    same_map xid_cmp_total xid_cmp-IsAntisymmetric _ _ (λ y.
+    get-insert xid_cmp_total states x s y
+    ∙ by_xid y x (λ b. cond b (Some s) (map.get states y) ≡ map.get states y) (λ same. sym (ap (map.get states) same ∙ is)) (λ _. refl))
+
+-- the branches b end as n, where s was written through the reference r to the state of x
+module _ {r : Option (MutBor State)} {m : MutBor State} (b n : BranchTable) (x : XidName) (s : State) (lent : r ≡ Some m)
+    (holds : OnSome r (HasState b x s n)) where
+  pub written : n ≡ record b { states = map.insert b.states x s }
+  written = (rw lent at holds).0
+
+  pub unwritten : Some s ≡ map.get b.states x → n ≡ b
+  unwritten was = (rw lent at holds).1 (sym was)
 
 -- what is so of the branch of each association: what f reads of its state is v
 module _ {A : Type 0} (f : Option State → A) (v : A) where
@@ -103,43 +123,20 @@ module _ {A : Type 0} (f : Option State → A) (v : A) where
   associated_held associations states t l x held found same =
       subst (λ (y : XidName). f (map.get states y) ≡ v) ((Decides-xid_eq l.xid x).0 (sym same)) (held t l (sym found))
 
--- the same of being in another state than S3
-pub live_put : (associations : Associations) (states states' : States) (x : XidName) (s : State) → states' ≡ map.insert states x s → is_S3 (Some s) ≡ false
-    → AreAssociationsLive associations states → AreAssociationsLive associations states'
-live_put = held_put is_S3 false
+-- a branch that is neither prepared nor completed isn't prepared
+pub unvoted : (o : Option State) → is_left_in o ≡ false → is_S3 o ≡ false
+unvoted (Some Prepared) e = cc
+unvoted o e = refl
 
-pub live_associated : (associations associations' : Associations) (states : States) (t : ℕ) (l : Association) → associations' ≡ map.insert associations t l
-    → is_S3 (map.get states l.xid) ≡ false → AreAssociationsLive associations states → AreAssociationsLive associations' states
-live_associated = held_associated is_S3 false
-
-pub live_dissociated : (associations associations' : Associations) (states : States) (t : ℕ) → associations' ≡ map.remove associations t
-    → AreAssociationsLive associations states → AreAssociationsLive associations' states
-live_dissociated = held_dissociated is_S3 false
-
-pub live_prepared : (associations : Associations) (states states' : States) (x : XidName) → states' ≡ map.insert states x Prepared
-    → is_somebody_associated associations x ≡ false → AreAssociationsLive associations states → AreAssociationsLive associations states'
-live_prepared associations states states' x e =
-    held_apart is_S3 false associations states states' x (λ y apart. ap (λ m. map.get m y) e ∙ others_put states x Prepared y apart)
-
-pub now_at : (states states' : States) (x : XidName) (s : State) → states' ≡ map.insert states x s → is_S3 (Some s) ≡ false → is_S3 (map.get states' x) ≡ false
-now_at = held_now is_S3 false
-
-pub associated_live : (associations : Associations) (states : States) (t : ℕ) (l : Association) (x : XidName) → AreAssociationsLive associations states
-    → Some l ≡ map.get associations t → true ≡ xid_eq l.xid x → is_S3 (map.get states x) ≡ false
-associated_live = associated_held is_S3 false
+-- a branch exists under each name that is equal to its own
+pub there_as : (states : States) (x y : XidName) → is_some (map.get states x) ≡ true → true ≡ xid_eq x y → is_some (map.get states y) ≡ true
+there_as states x y there same = subst (λ z. is_some (map.get states z) ≡ true) ((Decides-xid_eq x y).0 (sym same)) there
 
 pub sound_put : (states states' : States) (sums : Sums) (values : Values) (x : XidName) (s : State) → states' ≡ map.insert states x s → is_S3 (Some s) ≡ false
     → ArePreparedSound states sums values → ArePreparedSound states' sums values
 sound_put states states' sums values x s e not_prepared sound y =
     subst (λ (o : Option State). is_S3 o ≡ true → is_broken values sums y ≡ false) (sym (ap (λ m. map.get m y) e ∙ get-insert xid_cmp_total states x s y))
     (by_xid y x (λ b. is_S3 (cond b (Some s) (map.get states y)) ≡ true → is_broken values sums y ≡ false) (λ _ h. cc) (λ _. sound y))
-
--- a branch is gone
-pub live_removed : (associations : Associations) (states states' : States) (x : XidName) → states' ≡ map.remove states x
-    → AreAssociationsLive associations states → AreAssociationsLive associations states'
-live_removed associations states states' x e live t l found =
-    ap (λ m. is_S3 (map.get m l.xid)) e ∙ ap is_S3 (get-remove xid_cmp_total states x l.xid)
-    ∙ by_xid l.xid x (λ b. is_S3 (cond b None (map.get states l.xid)) ≡ false) (λ _. refl) (λ _. live t l found)
 
 -- x is gone, and the other branches stand as they stood
 pub sound_removed : (states states' : States) (sums sums' : Sums) (values values' : Values) (x : XidName) → states' ≡ map.remove states x

@@ -8,12 +8,17 @@ use Rattle.std.specs.Ordering.{nat_cmp, eq_by_cmp, is_eq}
 use Rattle.std.specs.Cmp.{nat_cmp_total, tied_itself, eq_by_cmp_equiv}
 use Rattle.std.specs.FinMap as map
 use Rattle.std.specs.FinSet as finset
-use Rattle.std.specs.FinMap.{find, from_entries, get-from_entries, nat_cmp-IsAntisymmetric}
+use Rattle.std.specs.FinMap.{FinMap, find, from_entries, get-from_entries, nat_cmp-IsAntisymmetric}
 use Rattle.xa_base.proofs.Truth.{is_equal}
 use Rattle.xa_base.specs.Maps.{any_entry}
-use Rattle.xa_tables.specs.Views.{with_entry, entries_from, put_or_removed}
+use Rattle.xa_tables.specs.Views.{with_entry, entries_from}
 use Rattle.xa_tables.proofs.SetLemmas.{marked, contains-marked, mark_put, mark_removed, mark_same}
 use Rattle.xa_base.proofs.FinMaps.{put_one, remove_one, same_finds, Distinct, any_entries}
+
+-- the map with this value at the key, or with none there
+abbrev put_or_removed : {V : Type 0} → FinMap nat_cmp V → ℕ → Option V → FinMap nat_cmp V
+put_or_removed m k None = map.remove m k
+put_or_removed m k (Some v) = map.insert m k v
 
 abbrev same_nat : ℕ → ℕ → Bool
 same_nat = eq_by_cmp nat_cmp

@@ -1,6 +1,7 @@
 pub mod Reasons
 pub mod Tables
 pub mod Views
+pub mod Lending
 pub mod Next
 pub mod Accounts
 pub mod Held

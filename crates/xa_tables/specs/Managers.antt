@@ -1,5 +1,6 @@
 -- What contracts see of a manager.
-use Rattle.std.specs.Prelude.{◌≡◌, ℕ, ◌+◌, ◌≤◌, ℤ, Bool, true, false, Option, Some, List, refl}
+use Rattle.std.specs.Prelude.{◌≡◌, ℕ, zero, suc, ◌+◌, ◌≤◌, ℤ, Bool, true, false, not, ◌&&◌}
+use Rattle.std.specs.Prelude.{Option, Some, List, refl}
 use Rattle.std.specs.Coded.{Coded, code_by, coded×, coded_ℕ, coded_bool, coded_option}
 use Rattle.std.specs.FinMap as map
 use Rattle.std.specs.FinMap.{FinMap}
@@ -10,7 +11,9 @@ use Rattle.xa_words.specs.Xid.{XidName, xid_cmp}
 use Rattle.xa_words.specs.Orders.{key_cmp}
 use Rattle.xa_tables.specs.declared.state.State.{State}
 use Rattle.xa_tables.specs.declared.state.Association.{Association}
-use Rattle.xa_tables.specs.Tables.{Tables, touch_cmp, is_S3, is_broken, set_code, associations_code, states_code}
+use Rattle.xa_tables.specs.Tables.{Tables, touch_cmp, is_S3, is_broken, exists, is_left}
+use Rattle.xa_tables.specs.Tables.{has_opened, association_of, has_association}
+use Rattle.xa_tables.specs.Tables.{set_code, associations_code, states_code}
 use Rattle.xa_tables.specs.Tables.{sums_code, values_code}
 use Rattle.xa_tables.specs.Views.{ThreadTable, BranchTable}
 use Rattle.xa_tables.specs.Accounts.{Holdings, declared_values}
@@ -89,16 +92,34 @@ tables_with_room_code =
     (λ b. (b.tables, (b.threads, (b.seats, (b.spare, b.adds)))))
     (λ p. record { tables = p.0; threads = p.1.0; seats = p.1.1.0; spare = p.1.1.1.0; adds = p.1.1.1.1 }) (λ _. refl)
 
--- one request uses up at most one place and one addition
-pub record Keeps (old new : TablesWithRoom) : Type 0 where
+-- one request uses up at most so many places, and one addition
+pub record Keeps (places : ℕ) (old new : TablesWithRoom) : Type 0 where
   pub threads : new.threads ≡ old.threads
-  pub spare : old.spare ≤ new.spare + 1
+  pub spare : old.spare ≤ new.spare + places
   pub adds : new.adds ≤ old.adds + 1
 
--- no thread is associated with a branch in S3
-abbrev pub AreAssociationsLive : FinMap nat_cmp Association → FinMap xid_cmp State → Type 0
-AreAssociationsLive associations states = (t : ℕ) (l : Association) → map.get associations t ≡ Some l
-    → is_S3 (map.get states l.xid) ≡ false
+-- t has it open and isn't associated: it may begin a branch
+abbrev pub is_free : Tables → ℕ → Bool
+is_free T t = has_opened T t && not (has_association T t)
+
+-- 1 where it is so
+abbrev pub counted : Bool → ℕ
+counted true = 1
+counted false = 0
+
+-- how many of the threads 1 to n are free
+abbrev pub free_threads : ℕ → Tables → ℕ
+free_threads zero T = 0
+free_threads (suc n) T = counted (is_free T (suc n)) + free_threads n T
+
+-- the places that a request of t takes, which makes U of T: one at most, and only where t becomes associated
+abbrev pub places_taken : ℕ → Tables → Tables → ℕ
+places_taken t T U = counted (not (has_association T t) && has_association U t)
+
+-- the branch of each association exists, and is neither prepared nor completed
+abbrev pub AreAssociationsLive : Tables → Type 0
+AreAssociationsLive T = (t : ℕ) (l : Association) → association_of T t ≡ Some l
+    → (exists T l.xid ≡ true) × (is_left T l.xid ≡ false)
 
 -- a branch in S3 keeps each value within the limits
 abbrev pub ArePreparedSound : FinMap xid_cmp State → FinMap touch_cmp ℤ → FinMap key_cmp ℤ → Type 0

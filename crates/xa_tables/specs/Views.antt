@@ -54,11 +54,6 @@ abbrev pub with_entry : {K X : Type 0} → K → Option X → List (K × X) → 
 with_entry k None es = es
 with_entry k (Some v) es = (k, v) ∷ es
 
--- the map with this value at the key, or with none there
-abbrev pub put_or_removed : {V : Type 0} → FinMap nat_cmp V → ℕ → Option V → FinMap nat_cmp V
-put_or_removed m k None = finmap.remove m k
-put_or_removed m k (Some v) = finmap.insert m k v
-
 -- what f reads of each place, the places numbered from n
 abbrev pub entries_from : {S X : Type 0} → (S → Option X) → ℕ → List S → List (ℕ × X)
 entries_from f n [] = []

@@ -137,15 +137,15 @@ impl Accounts {
 
     /// Adds to the branch's sum at the key at a place.
     #[inline(always)]
-    pub(crate) fn add(&mut self, xid: Xid, place: usize, delta: Delta)
+    pub(crate) fn add(&mut self, xid: &Xid, place: usize, delta: Delta)
         requires within { place < length self.old.keys }
-        requires alone { has_other_touched self.old.sums xid (key_at self.old place) ≡ false }
+        requires alone { has_other_touched self.old.sums xid.now (key_at self.old place) ≡ false }
         requires few { self.old.adds < 2 ^ 20 }
-        ensures sums { self.new.sums ≡ finmap.insert self.old.sums (xid, key_at self.old place)
-            (sum_of self.old.sums xid (key_at self.old place) +ℤ delta) }
+        ensures sums { self.new.sums ≡ finmap.insert self.old.sums (xid.now, key_at self.old place)
+            (sum_of self.old.sums xid.now (key_at self.old place) +ℤ delta) }
         ensures values { self.new.values ≡ self.old.values }
         ensures adds { self.new.adds ≡ self.old.adds + 1 }
-        ensures others { (y : XidName) → y ≢ xid → is_broken self.new.values self.new.sums y
+        ensures others { (y : XidName) → y ≢ xid.now → is_broken self.new.values self.new.sums y
             ≡ is_broken self.old.values self.old.sums y }
     {
         let account = &self.accounts[place];
@@ -330,10 +330,11 @@ fn is_within_with(value: i64, amount: i64) -> bool
 }
 
 // The account once the branch, which alone has touched it, has added this.
-fn with_added(account: &Account, adds: u64, xid: Xid, delta: Delta) -> Account
+#[inline(always)]
+fn with_added(account: &Account, adds: u64, xid: &Xid, delta: Delta) -> Account
     requires good { IsGood adds account.now }
     requires few { adds < 2 ^ 20 }
-    ensures added { result ≡ added_to account.now xid delta }
+    ensures added { result ≡ added_to account.now xid.now delta }
     ensures valid { IsDelta delta }
 {
     let before = match account.hold {
@@ -344,7 +345,7 @@ fn with_added(account: &Account, adds: u64, xid: Xid, delta: Delta) -> Account
         key: account.key,
         value: account.value,
         hold: Some(Hold {
-            xid,
+            xid: *xid,
             amount: before + delta.amount(),
         }),
     }

@@ -1,18 +1,17 @@
 //! The tables of a manager, a group of rules at a time.
 ghost use Rattle.std.specs.Prelude.{◌≡◌, ◌≤◌, ◌<◌, ◌^◌, IfOk, OnOk, IfSome, true, option_map, pos};
 ghost use Rattle.std.specs.FinMap as finmap;
-ghost use Rattle.xa_tables.specs.declared.state.AssociationState.TheVariants.{Associated, Suspended};
-ghost use Rattle.xa_tables.specs.Next.{association, shut_down, open_rm, close_rm, start_fresh, start_join};
+ghost use Rattle.xa_tables.specs.Next.{shut_down, open_rm, close_rm, start_fresh, start_join};
 ghost use Rattle.xa_tables.specs.Next.{start_resume, add, end, prepare, commit_one, commit_two, rollback, heur, forget};
 ghost use Rattle.xa_tables.specs.Next.{listed, gone};
 ghost use Rattle.xa_tables.specs.Tables.{has_opened};
 ghost use Rattle.xa_tables.specs.Accounts.{are_accounts};
-ghost use Rattle.xa_tables.specs.Managers.{Keeps, opening};
+ghost use Rattle.xa_tables.specs.Managers.{AreAssociationsLive, Keeps, opening, places_taken};
 ghost use Rattle.xa_tables.specs.Openings.{AreLeft, reopened};
 
 use crate::accounts::Accounts;
 use crate::branches::Branches;
-use crate::state::{Association, AssociationState, HeuristicDecision, RollbackReason, State};
+use crate::state::{AssociationState, HeuristicDecision, RollbackReason, State};
 use crate::threads::Threads;
 use std::alloc::{AllocError, Global};
 use std::marker::Model;
@@ -31,8 +30,7 @@ pub(crate) struct BranchTables {
 }
 
 impl Model for BranchTables {
-    ghost use Rattle.xa_tables.specs.Managers.{TablesWithRoom, tables_with_room_code, tables_of, AreAssociationsLive};
-    ghost use Rattle.xa_tables.specs.Managers.{ArePreparedSound};
+    ghost use Rattle.xa_tables.specs.Managers.{TablesWithRoom, tables_with_room_code, tables_of, ArePreparedSound};
 
     ghost Value = { TablesWithRoom };
 
@@ -46,32 +44,11 @@ impl Model for BranchTables {
       adds = b.accounts.adds;
     } };
 
-    ghost invariant = { λ b. AreAssociationsLive b.threads.associations b.branches.states
-        × ArePreparedSound b.branches.states b.accounts.sums b.accounts.values };
-}
-
-// T1 with the branch.
-fn associated(xid: Xid) -> Association
-    ensures { result ≡ association xid Associated }
-{
-    Association {
-        xid,
-        state: AssociationState::Associated,
-    }
-}
-
-// T2 with the branch.
-fn suspended(xid: Xid) -> Association
-    ensures { result ≡ association xid Suspended }
-{
-    Association {
-        xid,
-        state: AssociationState::Suspended,
-    }
+    ghost invariant = { λ b. ArePreparedSound b.branches.states b.accounts.sums b.accounts.values };
 }
 
 impl BranchTables {
-    /// The tables at the opening, with room for this many requests.
+    /// The tables at the opening, with room for this many branches.
     pub(crate) fn new(
         alloc: Global,
         accounts: &[(Key, u64)],
@@ -110,7 +87,7 @@ impl BranchTables {
     /// Shut: nothing is carried out any more.
     pub(crate) fn shut(&mut self)
         ensures shut { self.new.tables ≡ shut_down self.old.tables }
-        ensures kept { Keeps self.old self.new }
+        ensures kept { Keeps 0 self.old self.new }
     {
         self.is_shut = true;
     }
@@ -129,7 +106,7 @@ impl BranchTables {
         requires first { 0 < t }
         requires last { t ≤ self.old.threads }
         ensures step { (self.new.tables, result) ≡ open_rm t self.old.tables }
-        ensures kept { Keeps self.old self.new }
+        ensures kept { Keeps 0 self.old self.new }
     {
         self.threads.set_open(t, true);
         Code::Done
@@ -140,7 +117,7 @@ impl BranchTables {
         requires first { 0 < t }
         requires last { t ≤ self.old.threads }
         ensures step { (self.new.tables, result) ≡ close_rm t self.old.tables }
-        ensures kept { Keeps self.old self.new }
+        ensures kept { Keeps 0 self.old self.new }
     {
         if !self.threads.has_opened(t) {
             return Code::Done;
@@ -158,7 +135,7 @@ impl BranchTables {
         requires last { t ≤ self.old.threads }
         requires room { 0 < self.old.spare }
         ensures step { (self.new.tables, result) ≡ start_fresh t xid.now self.old.tables }
-        ensures kept { Keeps self.old self.new }
+        ensures kept { Keeps (places_taken t self.old.tables self.new.tables) self.old self.new }
     {
         if self.threads.association(t).is_some() {
             return Code::Proto;
@@ -166,8 +143,8 @@ impl BranchTables {
         if self.branches.get(xid).is_some() {
             return Code::DupId;
         }
-        self.branches.put(*xid, State::Active);
-        self.threads.associate(t, Some(associated(*xid)));
+        self.branches.insert(xid, State::Active);
+        self.threads.associate(t, xid, AssociationState::Associated);
         Code::Done
     }
 
@@ -175,20 +152,21 @@ impl BranchTables {
     pub(crate) fn start_join(&mut self, t: usize, xid: &Xid) -> Code
         requires first { 0 < t }
         requires last { t ≤ self.old.threads }
-        requires room { 0 < self.old.spare }
         ensures step { (self.new.tables, result) ≡ start_join t xid.now self.old.tables }
-        ensures kept { Keeps self.old self.new }
+        ensures kept { Keeps 0 self.old self.new }
     {
         if self.threads.association(t).is_some() {
             return Code::Proto;
         }
-        match self.branches.get(xid) {
-            None => Code::Nota,
-            Some(State::Prepared | State::HeuristicallyCompleted(_)) => Code::Proto,
-            Some(State::RollbackOnly(reason)) => reason.code(),
-            Some(State::Active | State::Idle) => {
-                self.branches.put(*xid, State::Active);
-                self.threads.associate(t, Some(associated(*xid)));
+        let Some(state) = self.branches.state_mut(xid) else {
+            return Code::Nota;
+        };
+        match *state {
+            State::Prepared | State::HeuristicallyCompleted(_) => Code::Proto,
+            State::RollbackOnly(reason) => reason.code(),
+            State::Active | State::Idle => {
+                *state = State::Active;
+                self.threads.associate(t, xid, AssociationState::Associated);
                 Code::Done
             }
         }
@@ -199,11 +177,11 @@ impl BranchTables {
         requires first { 0 < t }
         requires last { t ≤ self.old.threads }
         ensures step { (self.new.tables, result) ≡ start_resume t xid.now self.old.tables }
-        ensures kept { Keeps self.old self.new }
+        ensures kept { Keeps 0 self.old self.new }
     {
         if let Some(association) = self.threads.association(t) {
             if association.xid == *xid && association.state.is_suspended() {
-                self.threads.associate(t, Some(associated(*xid)));
+                self.threads.associate(t, xid, AssociationState::Associated);
                 return Code::Done;
             }
         }
@@ -217,10 +195,10 @@ impl BranchTables {
     pub(crate) fn add(&mut self, t: usize, key: Key, delta: Delta) -> Code
         requires first { 0 < t }
         requires last { t ≤ self.old.threads }
-        requires room { 0 < self.old.spare }
+        requires live { AreAssociationsLive self.old.tables }
         requires few { self.old.adds < 2 ^ 20 }
         ensures step { (self.new.tables, result) ≡ add t key delta self.old.tables }
-        ensures kept { Keeps self.old self.new }
+        ensures kept { Keeps 0 self.old self.new }
     {
         let Some(association) = self.threads.association(t) else {
             return Code::Proto;
@@ -231,17 +209,17 @@ impl BranchTables {
         let Some(place) = self.accounts.place_of(&key) else {
             return Code::Inval;
         };
-        if let Some(State::RollbackOnly(reason)) = self.branches.get(&association.xid) {
+        let Some(state) = self.branches.state_mut(&association.xid) else {
+            unreachable!()
+        };
+        if let State::RollbackOnly(reason) = *state {
             return reason.code();
         }
         if self.accounts.has_other_touched(&association.xid, place) {
-            self.branches.put(
-                association.xid,
-                State::RollbackOnly(RollbackReason::Transient),
-            );
+            *state = State::RollbackOnly(RollbackReason::Transient);
             return Code::RbTransient;
         }
-        self.accounts.add(association.xid, place, delta);
+        self.accounts.add(&association.xid, place, delta);
         Code::Done
     }
 
@@ -249,12 +227,12 @@ impl BranchTables {
     pub(crate) fn end(&mut self, t: usize, xid: &Xid, how: EndHow) -> Code
         requires first { 0 < t }
         requires last { t ≤ self.old.threads }
-        requires room { 0 < self.old.spare }
+        requires live { AreAssociationsLive self.old.tables }
         ensures step { (self.new.tables, result) ≡ end how t xid.now self.old.tables }
-        ensures kept { Keeps self.old self.new }
+        ensures kept { Keeps 0 self.old self.new }
     {
-        let association = match self.threads.association(t) {
-            Some(association) if association.xid == *xid => association,
+        let is_suspended = match self.threads.association(t) {
+            Some(association) if association.xid == *xid => association.state.is_suspended(),
             _ => {
                 return match self.branches.get(xid) {
                     Some(_) => Code::Proto,
@@ -262,29 +240,32 @@ impl BranchTables {
                 };
             }
         };
-        if how == EndHow::Suspend && association.state.is_suspended() {
+        if how == EndHow::Suspend && is_suspended {
             return Code::Proto;
         }
-        if let Some(State::RollbackOnly(reason)) = self.branches.get(xid) {
-            self.threads.associate(t, None);
+        let Some(state) = self.branches.state_mut(xid) else {
+            unreachable!()
+        };
+        if let State::RollbackOnly(reason) = *state {
+            self.threads.dissociate(t);
             return reason.code();
         }
         match how {
             EndHow::Suspend => {
-                self.threads.associate(t, Some(suspended(*xid)));
+                self.threads.associate(t, xid, AssociationState::Suspended);
                 Code::Done
             }
             EndHow::Fail => {
-                self.threads.associate(t, None);
-                self.branches
-                    .put(*xid, State::RollbackOnly(RollbackReason::Failed));
+                self.threads.dissociate(t);
+                *state = State::RollbackOnly(RollbackReason::Failed);
                 Code::RbRollback
             }
             EndHow::Success => {
-                self.threads.associate(t, None);
-                if !self.threads.is_somebody_associated(xid) {
-                    self.branches.put(*xid, State::Idle);
+                self.threads.dissociate(t);
+                if self.threads.is_somebody_associated(xid) {
+                    return Code::Done;
                 }
+                *state = State::Idle;
                 Code::Done
             }
         }
@@ -292,17 +273,19 @@ impl BranchTables {
 
     /// `xa_prepare`.
     pub(crate) fn prepare(&mut self, xid: &Xid) -> Code
-        requires room { 0 < self.old.spare }
         ensures step { (self.new.tables, result) ≡ prepare xid.now self.old.tables }
-        ensures kept { Keeps self.old self.new }
+        ensures kept { Keeps 0 self.old self.new }
     {
-        let Some(state) = self.branches.get(xid) else {
+        let Some(state) = self.branches.state_mut(xid) else {
             return Code::Nota;
         };
         if self.threads.is_somebody_associated(xid) {
             return Code::Proto;
         }
-        if let State::Prepared | State::RollbackOnly(_) | State::HeuristicallyCompleted(_) = state {
+        if let State::Prepared
+        | State::RollbackOnly(_)
+        | State::HeuristicallyCompleted(_) = *state
+        {
             return Code::Proto;
         }
         if !self.accounts.has_touched(xid) {
@@ -313,14 +296,14 @@ impl BranchTables {
             self.remove(xid);
             return Code::RbIntegrity;
         }
-        self.branches.put(*xid, State::Prepared);
+        *state = State::Prepared;
         Code::Done
     }
 
     /// `xa_commit` with no flag: two phases.
     pub(crate) fn commit_two(&mut self, xid: &Xid) -> Code
         ensures step { (self.new.tables, result) ≡ commit_two xid.now self.old.tables }
-        ensures kept { Keeps self.old self.new }
+        ensures kept { Keeps 0 self.old self.new }
     {
         let Some(state) = self.branches.get(xid) else {
             return Code::Nota;
@@ -339,7 +322,7 @@ impl BranchTables {
     /// `xa_commit` with TMONEPHASE.
     pub(crate) fn commit_one(&mut self, xid: &Xid) -> Code
         ensures step { (self.new.tables, result) ≡ commit_one xid.now self.old.tables }
-        ensures kept { Keeps self.old self.new }
+        ensures kept { Keeps 0 self.old self.new }
     {
         let Some(state) = self.branches.get(xid) else {
             return Code::Nota;
@@ -359,7 +342,7 @@ impl BranchTables {
     /// `xa_rollback`.
     pub(crate) fn rollback(&mut self, xid: &Xid) -> Code
         ensures step { (self.new.tables, result) ≡ rollback xid.now self.old.tables }
-        ensures kept { Keeps self.old self.new }
+        ensures kept { Keeps 0 self.old self.new }
     {
         let Some(state) = self.branches.get(xid) else {
             return Code::Nota;
@@ -379,36 +362,29 @@ impl BranchTables {
 
     /// A heuristic decision on a prepared branch.
     pub(crate) fn heur(&mut self, xid: &Xid, commits: bool) -> Code
-        requires room { 0 < self.old.spare }
         ensures step { (self.new.tables, result) ≡ heur xid.now commits self.old.tables }
-        ensures kept { Keeps self.old self.new }
+        ensures kept { Keeps 0 self.old self.new }
     {
-        let Some(state) = self.branches.get(xid) else {
+        let Some(state) = self.branches.state_mut(xid) else {
             return Code::Nota;
         };
-        if state != State::Prepared {
+        if *state != State::Prepared {
             return Code::Proto;
         }
         if commits {
             self.accounts.post(xid);
-            self.branches.put(
-                *xid,
-                State::HeuristicallyCompleted(HeuristicDecision::Commit),
-            );
+            *state = State::HeuristicallyCompleted(HeuristicDecision::Commit);
             return Code::Done;
         }
         self.accounts.forget(xid);
-        self.branches.put(
-            *xid,
-            State::HeuristicallyCompleted(HeuristicDecision::Rollback),
-        );
+        *state = State::HeuristicallyCompleted(HeuristicDecision::Rollback);
         Code::Done
     }
 
     /// `xa_forget`.
     pub(crate) fn forget(&mut self, xid: &Xid) -> Code
         ensures step { (self.new.tables, result) ≡ forget xid.now self.old.tables }
-        ensures kept { Keeps self.old self.new }
+        ensures kept { Keeps 0 self.old self.new }
     {
         let Some(state) = self.branches.get(xid) else {
             return Code::Nota;
@@ -440,7 +416,7 @@ impl BranchTables {
         self.branches.left(alloc)
     }
 
-    /// Makes room for a reopening, for so many threads and requests.
+    /// Makes room for a reopening, for so many threads and branches.
     pub(crate) fn reserve_reopen(&mut self, threads: usize, room: usize) -> Result<(), AllocError>
         ensures tables { self.new.tables ≡ self.old.tables }
         ensures threads { self.new.threads ≡ self.old.threads }
@@ -470,7 +446,7 @@ impl BranchTables {
     // The branch is gone, with its sums.
     fn remove(&mut self, xid: &Xid)
         ensures gone { self.new.tables ≡ gone xid.now self.old.tables }
-        ensures kept { Keeps self.old self.new }
+        ensures kept { Keeps 0 self.old self.new }
     {
         self.accounts.forget(xid);
         self.branches.remove(xid);

@@ -1,9 +1,12 @@
 //! The branches that exist, by their names.
 ghost use Rattle.std.specs.Prelude.{◌≡◌, ◌≤◌, ◌<◌, ◌+◌, IfOk, OnOk};
+ghost use Rattle.std.specs.Borrow.{sem};
 ghost use Rattle.std.specs.FinMap as map;
 ghost use Rattle.std.specs.List.{IsDistinct, list_any};
 ghost use Rattle.std.specs.List.Sorted.{IsSorted};
+ghost use Rattle.std.specs.Option.{option_copied_mut};
 ghost use Rattle.xa_words.specs.Xid.{XidName, xid_cmp, xid_eq};
+ghost use Rattle.xa_tables.specs.Lending.{LendsState};
 ghost use Rattle.xa_tables.specs.Tables.{is_left_in};
 
 use crate::state::State;
@@ -49,14 +52,23 @@ impl Branches {
         self.states.get(xid).copied()
     }
 
-    /// Puts a branch into a state, in memory that `new` reserved.
+    /// The state of a branch, to be changed in place, and `None` where it doesn't exist.
     #[inline(always)]
-    pub(crate) fn put(&mut self, xid: Xid, state: State)
+    pub(crate) fn state_mut(&mut self, xid: &Xid) -> Option<&mut State>
+        ensures* writes_back { sem 𝓛 (LendsState self.entry xid.now result) }
+        ensures value { option_copied_mut result ≡ map.get self.old.states xid.now }
+    {
+        self.states.get_mut(xid)
+    }
+
+    /// A new branch, in memory that `new` reserved.
+    #[inline(always)]
+    pub(crate) fn insert(&mut self, xid: &Xid, state: State)
         requires { 0 < self.old.spare }
-        ensures state { self.new.states ≡ map.insert self.old.states xid state }
+        ensures state { self.new.states ≡ map.insert self.old.states xid.now state }
         ensures room { self.old.spare ≤ self.new.spare + 1 }
     {
-        let inserted: Result<_, _> = self.states.insert(xid, state);
+        let inserted: Result<_, _> = self.states.insert(*xid, state);
         let _ = inserted.unwrap();
     }
 

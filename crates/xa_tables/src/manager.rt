@@ -1,9 +1,9 @@
 //! One manager.
-ghost use Rattle.std.specs.Prelude.{◌≡◌, ◌↔◌, ◌≤◌, ◌<◌, ◌+◌, ◌^◌, IfOk, IfSome, OnOk, OnErr, IsErrOf, None, Some, true};
-ghost use Rattle.std.specs.Prelude.{false, option_map, pos};
+ghost use Rattle.std.specs.Prelude.{◌≡◌, ◌↔◌, ◌≤◌, ◌<◌, ◌+◌, ◌*◌, ◌^◌, IfOk, IfSome, OnOk, OnErr, IsErrOf, None};
+ghost use Rattle.std.specs.Prelude.{Some, true, false, option_map, pos};
 ghost use Rattle.std.specs.FinMap as finmap;
 ghost use Rattle.xa_tables.specs.Accounts.{are_accounts};
-ghost use Rattle.xa_tables.specs.Managers.{Keeps, opening};
+ghost use Rattle.xa_tables.specs.Managers.{AreAssociationsLive, Keeps, opening, places_taken};
 ghost use Rattle.xa_tables.specs.Openings.{AreLeft, reopened};
 ghost use Rattle.xa_tables.specs.Next.{next, needs_opening, by_rules, start};
 
@@ -45,8 +45,8 @@ pub struct Manager {
 }
 
 impl Model for Manager {
-    ghost use Rattle.std.specs.Prelude.{◌≡◌, ◌≤◌, ◌+◌, ◌^◌, IfSome};
-    ghost use Rattle.xa_tables.specs.Managers.{Managed, managed_code};
+    ghost use Rattle.std.specs.Prelude.{◌≡◌, ◌≤◌, ◌+◌, ◌*◌, ◌^◌, IfSome};
+    ghost use Rattle.xa_tables.specs.Managers.{AreAssociationsLive, Managed, managed_code, free_threads};
 
     ghost Value = { Managed };
 
@@ -59,9 +59,11 @@ impl Model for Manager {
       reserved = m.reserved;
     } };
 
-    ghost invariant = { λ m. (m.inner.threads ≡ m.threads) × (m.spare ≤ m.inner.spare)
+    ghost invariant = { λ m. (m.inner.threads ≡ m.threads)
+        × (m.spare + free_threads m.threads m.inner.tables ≤ 2 * m.inner.spare)
+        × AreAssociationsLive m.inner.tables
         × (m.inner.adds + m.spare ≤ 2 ^ 16)
-        × IfSome m.reserved (λ r. (r.0 ≤ m.inner.seats) × (r.1 ≤ m.inner.spare) × (r.1 ≤ 2 ^ 15)) };
+        × IfSome m.reserved (λ r. (r.0 ≤ m.inner.seats) × (r.1 ≤ 2 * m.inner.spare) × (r.1 ≤ 2 ^ 15)) };
 }
 
 impl Manager {
@@ -86,7 +88,7 @@ impl Manager {
         if !are_accounts(accounts) {
             return Err(TableFault::BadAccounts);
         }
-        let inner = BranchTables::new(alloc, accounts, threads as usize, room as usize)?;
+        let inner = BranchTables::new(alloc, accounts, threads as usize, branches_within(room))?;
         Ok(Manager {
             inner,
             threads,
@@ -127,7 +129,8 @@ impl Manager {
         ensures reserved { OnOk result (self.new ≡ record self.old { reserved = Some (threads, room) }) }
         ensures refused { OnErr result (self.new ≡ self.old) }
     {
-        self.inner.reserve_reopen(threads as usize, room as usize)?;
+        self.inner
+            .reserve_reopen(threads as usize, branches_within(room))?;
         self.reserved = Some((threads, room));
         Ok(())
     }
@@ -176,16 +179,24 @@ impl Manager {
     }
 }
 
+// The most branches that so many requests can begin: before each xa_start, an xa_open or xa_end makes its thread free.
+fn branches_within(requests: u32) -> usize
+    ensures { requests ≤ 2 * result }
+{
+    requests.div_ceil(2) as usize
+}
+
 // Carries out one request, unless the manager is shut.
 #[tactic(auto, unfolding(crate::specs::Next::next))]
 #[inline(always)]
 fn step(tables: &mut BranchTables, t: usize, op: &Op) -> Code
     requires first { 0 < t }
     requires last { t ≤ tables.old.threads }
+    requires live { AreAssociationsLive tables.old.tables }
     requires room { 0 < tables.old.spare }
     requires few { tables.old.adds < 2 ^ 20 }
     ensures step { (tables.new.tables, result) ≡ next t op.now tables.old.tables }
-    ensures kept { Keeps tables.old tables.new }
+    ensures kept { Keeps (places_taken t tables.old.tables tables.new.tables) tables.old tables.new }
 {
     if tables.is_shut() {
         return Code::RmFail;
@@ -215,14 +226,16 @@ fn needs_opening(op: &Op) -> bool
 }
 
 // A request that may be asked, by the rules of its group.
+#[tactic(auto, using(crate::proofs::FreeThreads::keeps_more))]
 #[inline(always)]
 fn step_by_rules(tables: &mut BranchTables, t: usize, op: &Op) -> Code
     requires first { 0 < t }
     requires last { t ≤ tables.old.threads }
+    requires live { AreAssociationsLive tables.old.tables }
     requires room { 0 < tables.old.spare }
     requires few { tables.old.adds < 2 ^ 20 }
     ensures step { (tables.new.tables, result) ≡ by_rules t op.now tables.old.tables }
-    ensures kept { Keeps tables.old tables.new }
+    ensures kept { Keeps (places_taken t tables.old.tables tables.new.tables) tables.old tables.new }
 {
     match op {
         Op::Shut => {
@@ -245,13 +258,14 @@ fn step_by_rules(tables: &mut BranchTables, t: usize, op: &Op) -> Code
 }
 
 // A request to start work on a branch.
+#[tactic(auto, using(crate::proofs::FreeThreads::keeps_more))]
 #[inline(always)]
 fn start(tables: &mut BranchTables, t: usize, xid: &Xid, how: StartHow) -> Code
     requires first { 0 < t }
     requires last { t ≤ tables.old.threads }
     requires room { 0 < tables.old.spare }
     ensures step { (tables.new.tables, result) ≡ start how t xid.now tables.old.tables }
-    ensures kept { Keeps tables.old tables.new }
+    ensures kept { Keeps (places_taken t tables.old.tables tables.new.tables) tables.old tables.new }
 {
     match how {
         StartHow::Fresh => tables.start_fresh(t, xid),

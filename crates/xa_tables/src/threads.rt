@@ -1,12 +1,13 @@
 //! The threads: which of them have the manager open, and their associations.
-ghost use Rattle.std.specs.Prelude.{◌≡◌, ◌≤◌, ◌<◌, if◌then◌else◌, IfOk, OnOk};
+ghost use Rattle.std.specs.Prelude.{◌≡◌, ◌≤◌, ◌<◌, if◌then◌else◌, IfOk, OnOk, option_copied};
 ghost use Rattle.std.specs.FinMap as map;
 ghost use Rattle.std.specs.FinSet as set;
 ghost use Rattle.std.specs.List.{list_any};
+ghost use Rattle.xa_tables.specs.Next.{association};
 ghost use Rattle.xa_tables.specs.Tables.{is_somebody_associated};
-ghost use Rattle.xa_tables.specs.Views.{is_thread_with, put_or_removed};
+ghost use Rattle.xa_tables.specs.Views.{is_thread_with};
 
-use crate::state::Association;
+use crate::state::{Association, AssociationState};
 use std::alloc::{AllocError, Global};
 use std::marker::Model;
 use xa_words::Xid;
@@ -100,24 +101,37 @@ impl Threads {
 
     /// The thread's association, if it has one.
     #[inline(always)]
-    pub(crate) fn association(&self, thread: usize) -> Option<Association>
+    pub(crate) fn association(&self, thread: usize) -> Option<&Association>
         requires first { 0 < thread }
         requires last { thread ≤ self.now.threads }
-        ensures { result ≡ map.get self.now.associations thread }
+        ensures { option_copied result ≡ map.get self.now.associations thread }
     {
-        self.threads[thread - 1].association
+        self.threads[thread - 1].association.as_ref()
     }
 
-    /// Gives the thread this association, or none, in place of any that it has.
+    /// From now on the thread is associated with this branch, and with no other.
     #[inline(always)]
-    pub(crate) fn associate(&mut self, thread: usize, association: Option<Association>)
+    pub(crate) fn associate(&mut self, thread: usize, xid: &Xid, state: AssociationState)
         requires first { 0 < thread }
         requires last { thread ≤ self.old.threads }
-        ensures associations { self.new.associations ≡ put_or_removed self.old.associations thread association }
+        ensures associations { self.new.associations
+            ≡ map.insert self.old.associations thread (association xid.now state) }
         ensures opened { self.new.opened ≡ self.old.opened }
         ensures threads { self.new.threads ≡ self.old.threads }
     {
-        self.threads[thread - 1].association = association;
+        self.threads[thread - 1].association = Some(Association { xid: *xid, state });
+    }
+
+    /// From now on the thread has no association.
+    #[inline(always)]
+    pub(crate) fn dissociate(&mut self, thread: usize)
+        requires first { 0 < thread }
+        requires last { thread ≤ self.old.threads }
+        ensures associations { self.new.associations ≡ map.remove self.old.associations thread }
+        ensures opened { self.new.opened ≡ self.old.opened }
+        ensures threads { self.new.threads ≡ self.old.threads }
+    {
+        self.threads[thread - 1].association = None;
     }
 
     /// Whether a thread is associated with the branch, be it suspended or not.

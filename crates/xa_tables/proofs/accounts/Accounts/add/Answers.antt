@@ -33,17 +33,17 @@ within c =
 keyed : (c : After-index-account) → c.index-account.result.now.key ≡ slice_index_or (keys_of c.self.inside.accounts.items) c.args.place []
 keyed c = sym (key_there c.self.inside.accounts.items c.args.place c.index-account.result.now (within c) c.index-account.ensures)
 
-mine : (c : After-index-account) → IsFor c.args.xid c.index-account.result.now.hold
+mine : (c : After-index-account) → IsFor c.args.xid.now c.index-account.result.now.hold
 mine c =
-    for_place c.self.inside.accounts.items c.args.place c.index-account.result.now c.args.xid _ c.self.invariant.0 (within c)
-    c.index-account.ensures (keyed c) (ap (λ h. has_other_touched h.sums c.args.xid (key_at h c.args.place)) c.self.view_is ∙ c.requires.alone)
+    for_place c.self.inside.accounts.items c.args.place c.index-account.result.now c.args.xid.now _ c.self.invariant.0 (within c)
+    c.index-account.ensures (keyed c) (ap (λ h. has_other_touched h.sums c.args.xid.now (key_at h c.args.place)) c.self.view_is ∙ c.requires.alone)
 
 pub index_mut-requires : goal.index_mut-requires
 index_mut-requires c = omega (arith, within ((goal.at.index_mut-requires c).After-index-account), c.self.inside.accounts.ok.0)
 
 pub note-requires : goal.note-requires
 note-requires c none =
-    let fewer = note_room c.self.inside.held.items c.self.inside.accounts.items c.args.place c.index-account.result.now c.args.xid c.args.delta
+    let fewer = note_room c.self.inside.held.items c.self.inside.accounts.items c.args.place c.index-account.result.now c.args.xid.now c.args.delta
     c.self.invariant.3 (within ((goal.at.note-requires c).After-index-account)) c.index-account.ensures none in
     omega (arith, c.self.invariant.4, c.self.inside.held.ok.0)
 
@@ -58,7 +58,7 @@ invariant_of-self c =
     let inside = within ((goal.at.invariant_of-self c).After-index-account) in
     let i = c.args.place in
     let a = c.index-account.result.now in
-    let x = c.args.xid in
+    let x = c.args.xid.now in
     let b : Account = added_to a x c.args.delta in
     subst (λ (as1 : List Account). AreDistinct as1 × All (IsGood (c.self.inside.adds + 1)) as1 × AreIndexed c.self.inside.places.places as1
     × AreHeld c.note.new.held.items as1 × (length as1 ≤ vec_capacity c.note.new.held))
@@ -76,7 +76,7 @@ returns-clause-sums c =
     let items = c.self.inside.accounts.items in
     let at = (goal.at.returns-clause-sums c).After-index-account in
     let i = c.args.place in
-    let x = c.args.xid in
+    let x = c.args.xid.now in
     ap (λ b. from_entries {R = touch_cmp} (hold_entries (set items i b))) c.with_added.ensures.added
     ∙ sums_added items i c.index-account.result.now x c.args.delta c.self.invariant.0 (within at) c.index-account.ensures (mine at)
     ∙ ap (λ k. finmap.insert (from_entries {R = touch_cmp} (hold_entries items)) (x, k) (sum_of (from_entries (hold_entries items)) x k +ℤ c.args.delta))
@@ -90,7 +90,7 @@ returns-clause-values c =
     let i = c.args.place in
     let a = c.index-account.result.now in
     ap (λ b. from_entries {R = key_cmp} (value_entries (set items i b))) c.with_added.ensures.added
-    ∙ ap (from_entries {R = key_cmp}) (values_set items i a (added_to a c.args.xid c.args.delta) (within at) c.index-account.ensures refl refl)
+    ∙ ap (from_entries {R = key_cmp}) (values_set items i a (added_to a c.args.xid.now c.args.delta) (within at) c.index-account.ensures refl refl)
     ∙ ap (λ h. h.values) c.self.view_is
 
 pub returns-clause-others : goal.returns-clause-others
@@ -99,5 +99,5 @@ returns-clause-others c y apart =
     let at = (goal.at.returns-clause-others c).After-index-account in
     let i = c.args.place in
     ap (λ b. is_broken (from_entries (value_entries (set items i b))) (from_entries (hold_entries (set items i b))) y) c.with_added.ensures.added
-    ∙ others_added items i c.index-account.result.now c.args.xid c.args.delta c.self.invariant.0 (within at) c.index-account.ensures (mine at) y apart
+    ∙ others_added items i c.index-account.result.now c.args.xid.now c.args.delta c.self.invariant.0 (within at) c.index-account.ensures (mine at) y apart
     ∙ ap (λ h. is_broken h.values h.sums y) c.self.view_is

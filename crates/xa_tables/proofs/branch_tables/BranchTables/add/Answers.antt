@@ -1,10 +1,43 @@
-use Rattle.std.proofs.Common.{refl, sym}
-use Rattle.xa_tables.proofs.SoundLemmas.{live_put, sound_put, sound_others}
+use Rattle.std.proofs.Common.{rules, refl, sym, ap, subst, is_some}
+use Rattle.xa_tables.specs.Managers.{AreAssociationsLive}
+use Rattle.xa_tables.specs.declared.state.State.TheVariants.{RollbackOnly}
+use Rattle.xa_tables.specs.declared.state.RollbackReason.TheVariants.{Transient}
+use Rattle.xa_tables.proofs.SoundLemmas.{sound_put, sound_others, unvoted, written, unwritten}
 use Rattle.xa_tables.proofs.branch_tables.BranchTables.add.Goals as goal
 
+pub unreachable-requires : goal.unreachable-requires
+unreachable-requires c =
+    let live = subst (λ b. AreAssociationsLive b.tables) (sym c.self.view_is) c.requires.live in
+    let there = (live c.args.t c.in-Some.association.now (sym c.in-Some.ensures)).0 in
+    let missing = ap is_some (rw c.in_default-state_mut.is at c.state_mut.ensures.value) in
+    cc
+
 pub invariant_of-self : goal.invariant_of-self
-invariant_of-self c = (live_put _ _ _ _ _ c.put.ensures.state refl c.self.invariant.0, sound_put _ _ _ _ _ _ c.put.ensures.state refl c.self.invariant.1)
+invariant_of-self c =
+    rw (unwritten _ _ _ _ c.in-Some-state_mut.is (c.state_mut.follows.holds c.in-Some-state_mut.state.now) c.in-Some-state_mut.ensures.value) c.self.invariant
+
+pub returns-in-RollbackOnly : goal.returns-in-RollbackOnly
+returns-in-RollbackOnly c =
+    let same = unwritten _ _ _ _ c.in-Some-state_mut.is (c.state_mut.follows.holds c.in-Some-state_mut.state.now) c.in-Some-state_mut.ensures.value in
+    rw same (record { step = search rules; kept = search rules })
+
+pub invariant_of-self-then-has_other_touched : goal.invariant_of-self-then-has_other_touched
+invariant_of-self-then-has_other_touched c =
+    let now = written _ _ _ _ c.in-Some-state_mut.is (c.state_mut.follows.holds (RollbackOnly Transient)) in
+    sound_put _ _ _ _ _ _ (ap (λ b. b.states) now) refl c.self.invariant
+
+pub returns-then-has_other_touched : goal.returns-then-has_other_touched
+returns-then-has_other_touched c =
+    let now = written _ _ _ _ c.in-Some-state_mut.is (c.state_mut.follows.holds (RollbackOnly Transient)) in
+    rw now (record { step = search rules; kept = search rules })
 
 pub invariant_of-self-2 : goal.invariant_of-self-2
 invariant_of-self-2 c =
-    (c.self.invariant.0, sound_others _ _ _ _ _ _ (c.self.invariant.0 _ _ (sym c.in-Some.ensures)) c.add.ensures.others c.self.invariant.1)
+    let live = subst (λ b. AreAssociationsLive b.tables) (sym c.self.view_is) c.requires.live in
+    let same = unwritten _ _ _ _ c.in-Some-state_mut.is (c.state_mut.follows.holds c.in-Some-state_mut.state.now) c.in-Some-state_mut.ensures.value in
+    rw same (sound_others _ _ _ _ _ _ (unvoted _ (live c.args.t c.in-Some.association.now (sym c.in-Some.ensures)).1) c.add.ensures.others c.self.invariant)
+
+pub returns : goal.returns
+returns c =
+    let same = unwritten _ _ _ _ c.in-Some-state_mut.is (c.state_mut.follows.holds c.in-Some-state_mut.state.now) c.in-Some-state_mut.ensures.value in
+    rw same (record { step = search rules; kept = search rules })

@@ -1,6 +1,5 @@
-use Rattle.xa_tables.proofs.SoundLemmas.{live_removed, sound_removed}
+use Rattle.xa_tables.proofs.SoundLemmas.{sound_removed}
 use Rattle.xa_tables.proofs.branch_tables.BranchTables.commit_two.Goals as goal
 
 pub invariant_of-self : goal.invariant_of-self
-invariant_of-self c =
-    (live_removed _ _ _ _ c.remove.ensures.state c.self.invariant.0, sound_removed _ _ _ _ _ _ _ c.remove.ensures.state c.post.ensures.others c.self.invariant.1)
+invariant_of-self c = sound_removed _ _ _ _ _ _ _ c.remove.ensures.state c.post.ensures.others c.self.invariant

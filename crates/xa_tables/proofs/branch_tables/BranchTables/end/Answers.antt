@@ -1,31 +1,60 @@
-use Rattle.std.proofs.Common.{refl, ap, ◌∙◌}
-use Rattle.std.specs.FinMap as map
-use Rattle.xa_tables.proofs.SoundLemmas.{live_put, live_associated, live_dissociated, associated_live, sound_put}
+use Rattle.std.proofs.Common.{rules, refl, sym, ap, subst, is_some}
+use Rattle.xa_tables.specs.Managers.{AreAssociationsLive}
+use Rattle.xa_tables.specs.declared.state.State.TheVariants.{Idle, RollbackOnly}
+use Rattle.xa_tables.specs.declared.state.RollbackReason.TheVariants.{Failed}
+use Rattle.xa_tables.proofs.SoundLemmas.{sound_put, there_as, written, unwritten}
 use Rattle.xa_tables.proofs.branch_tables.BranchTables.end.Goals as goal
 
+pub unreachable-requires : goal.unreachable-requires
+unreachable-requires c =
+    let live = subst (λ b. AreAssociationsLive b.tables) (sym c.self.view_is) c.requires.live in
+    let there = there_as _ _ _ (live c.args.t c.in-Some.association.now (sym c.in-Some.ensures)).0 c.if-eq.ensures in
+    let missing = ap is_some (rw c.in_default-state_mut.is at c.state_mut.ensures.value) in
+    cc
+
 pub invariant_of-self : goal.invariant_of-self
-invariant_of-self c = (live_dissociated _ _ _ _ c.associate.ensures.associations c.self.invariant.0, c.self.invariant.1)
+invariant_of-self c =
+    rw (unwritten _ _ _ _ c.in-Some-state_mut.is (c.state_mut.follows.holds c.in-Some-state_mut.state.now) c.in-Some-state_mut.ensures.value) c.self.invariant
+
+pub returns-in-RollbackOnly : goal.returns-in-RollbackOnly
+returns-in-RollbackOnly c =
+    let same = unwritten _ _ _ _ c.in-Some-state_mut.is (c.state_mut.follows.holds c.in-Some-state_mut.state.now) c.in-Some-state_mut.ensures.value in
+    rw same (record { step = search rules; kept = search rules })
 
 pub invariant_of-self-in-Suspend : goal.invariant_of-self-in-Suspend
-invariant_of-self-in-Suspend c = (
-  live_associated _ _ _ _ _ (c.associate-in-Suspend.ensures.associations ∙ ap (map.insert _ _) c.suspended.ensures)
-      (associated_live _ _ _ _ _ c.self.invariant.0 c.in-Some.ensures c.if-eq.ensures) c.self.invariant.0,
-  c.self.invariant.1,
-)
+invariant_of-self-in-Suspend c =
+    rw (unwritten _ _ _ _ c.in-Some-state_mut.is (c.state_mut.follows.holds c.in-Some-state_mut.state.now) c.in-Some-state_mut.ensures.value) c.self.invariant
+
+pub returns-in-Suspend : goal.returns-in-Suspend
+returns-in-Suspend c =
+    let same = unwritten _ _ _ _ c.in-Some-state_mut.is (c.state_mut.follows.holds c.in-Some-state_mut.state.now) c.in-Some-state_mut.ensures.value in
+    rw same (record { step = search rules; kept = search rules })
+
+pub invariant_of-self-then-is_somebody_associated : goal.invariant_of-self-then-is_somebody_associated
+invariant_of-self-then-is_somebody_associated c =
+    rw (unwritten _ _ _ _ c.in-Some-state_mut.is (c.state_mut.follows.holds c.in-Some-state_mut.state.now) c.in-Some-state_mut.ensures.value) c.self.invariant
+
+pub returns-then-is_somebody_associated : goal.returns-then-is_somebody_associated
+returns-then-is_somebody_associated c =
+    let same = unwritten _ _ _ _ c.in-Some-state_mut.is (c.state_mut.follows.holds c.in-Some-state_mut.state.now) c.in-Some-state_mut.ensures.value in
+    rw same (record { step = search rules; kept = search rules })
 
 pub invariant_of-self-in-Fail : goal.invariant_of-self-in-Fail
-invariant_of-self-in-Fail c = (
-  live_put _ _ _ _ _ c.put.ensures.state refl (live_dissociated _ _ _ _ c.associate-in-Fail.ensures.associations c.self.invariant.0),
-  sound_put _ _ _ _ _ _ c.put.ensures.state refl c.self.invariant.1,
-)
+invariant_of-self-in-Fail c =
+    let now = written _ _ _ _ c.in-Some-state_mut.is (c.state_mut.follows.holds (RollbackOnly Failed)) in
+    sound_put _ _ _ _ _ _ (ap (λ b. b.states) now) refl c.self.invariant
 
-pub invariant_of-self-then-not-is_somebody_associated : goal.invariant_of-self-then-not-is_somebody_associated
-invariant_of-self-then-not-is_somebody_associated c =
-    let put = c.put-then-not-is_somebody_associated.ensures.state in (
-      live_put _ _ _ _ _ put refl (live_dissociated _ _ _ _ c.associate-in-Success.ensures.associations c.self.invariant.0),
-      sound_put _ _ _ _ _ _ put refl c.self.invariant.1,
-    )
+pub returns-in-Fail : goal.returns-in-Fail
+returns-in-Fail c =
+    let now = written _ _ _ _ c.in-Some-state_mut.is (c.state_mut.follows.holds (RollbackOnly Failed)) in
+    rw now (record { step = search rules; kept = search rules })
 
-pub invariant_of-self-else-not-is_somebody_associated : goal.invariant_of-self-else-not-is_somebody_associated
-invariant_of-self-else-not-is_somebody_associated c =
-    (live_dissociated _ _ _ _ c.associate-in-Success.ensures.associations c.self.invariant.0, c.self.invariant.1)
+pub invariant_of-self-in-Success : goal.invariant_of-self-in-Success
+invariant_of-self-in-Success c =
+    let now = written _ _ _ _ c.in-Some-state_mut.is (c.state_mut.follows.holds Idle) in
+    sound_put _ _ _ _ _ _ (ap (λ b. b.states) now) refl c.self.invariant
+
+pub returns-else-is_somebody_associated : goal.returns-else-is_somebody_associated
+returns-else-is_somebody_associated c =
+    let now = written _ _ _ _ c.in-Some-state_mut.is (c.state_mut.follows.holds Idle) in
+    rw now (record { step = search rules; kept = search rules })

@@ -1,11 +1,34 @@
-use Rattle.std.proofs.Common.{refl}
-use Rattle.xa_tables.proofs.SoundLemmas.{live_put, sound_decided}
+use Rattle.std.proofs.Common.{rules, refl, ap}
+use Rattle.xa_tables.specs.declared.state.State.TheVariants.{HeuristicallyCompleted}
+use Rattle.xa_tables.specs.declared.state.HeuristicDecision.TheVariants.{Commit, Rollback}
+use Rattle.xa_tables.proofs.SoundLemmas.{sound_decided, written, unwritten}
 use Rattle.xa_tables.proofs.branch_tables.BranchTables.heur.Goals as goal
 
-pub invariant_of-self : goal.invariant_of-self
-invariant_of-self c =
-    (live_put _ _ _ _ _ c.put.ensures.state refl c.self.invariant.0, sound_decided _ _ _ _ _ _ _ _ c.put.ensures.state refl c.post.ensures.others c.self.invariant.1)
+pub invariant_of-self-then-ne : goal.invariant_of-self-then-ne
+invariant_of-self-then-ne c =
+    rw (unwritten _ _ _ _ c.in-Some.is (c.state_mut.follows.holds c.in-Some.state.now) c.in-Some.ensures.value) c.self.invariant
+
+pub returns-then-ne : goal.returns-then-ne
+returns-then-ne c =
+    let same = unwritten _ _ _ _ c.in-Some.is (c.state_mut.follows.holds c.in-Some.state.now) c.in-Some.ensures.value in
+    rw same (record { step = search rules; kept = search rules })
+
+pub invariant_of-self-then-commits : goal.invariant_of-self-then-commits
+invariant_of-self-then-commits c =
+    let now = written _ _ _ _ c.in-Some.is (c.state_mut.follows.holds (HeuristicallyCompleted Commit)) in
+    sound_decided _ _ _ _ _ _ _ _ (ap (λ b. b.states) now) refl c.post.ensures.others c.self.invariant
+
+pub returns-then-commits : goal.returns-then-commits
+returns-then-commits c =
+    let now = written _ _ _ _ c.in-Some.is (c.state_mut.follows.holds (HeuristicallyCompleted Commit)) in
+    rw now (record { step = search rules; kept = search rules })
 
 pub invariant_of-self-2 : goal.invariant_of-self-2
 invariant_of-self-2 c =
-    (live_put _ _ _ _ _ c.put-2.ensures.state refl c.self.invariant.0, sound_decided _ _ _ _ _ _ _ _ c.put-2.ensures.state refl c.forget.ensures.others c.self.invariant.1)
+    let now = written _ _ _ _ c.in-Some.is (c.state_mut.follows.holds (HeuristicallyCompleted Rollback)) in
+    sound_decided _ _ _ _ _ _ _ _ (ap (λ b. b.states) now) refl c.forget.ensures.others c.self.invariant
+
+pub returns : goal.returns
+returns c =
+    let now = written _ _ _ _ c.in-Some.is (c.state_mut.follows.holds (HeuristicallyCompleted Rollback)) in
+    rw now (record { step = search rules; kept = search rules })

@@ -1,5 +1,4 @@
 use Rattle.std.proofs.Common.{ap, ◌∙◌}
-use Rattle.std.specs.Ordering.{nat_cmp}
 use Rattle.std.specs.FinMap as finmap
 use Rattle.std.specs.FinMap.{get-empty}
 use Rattle.xa_words.specs.Xid.{xid_cmp}
@@ -7,7 +6,4 @@ use Rattle.xa_tables.specs.Tables.{is_S3}
 use Rattle.xa_tables.proofs.branch_tables.BranchTables.new.Goals as goal
 
 pub invariant_of-result : goal.invariant_of-result
-invariant_of-result c = (
-  λ t a found. let none = ap (λ m. finmap.get m t) c.in_ok-new.ensures.free ∙ get-empty nat_cmp t in cc,
-  λ x prepared. let none = ap (λ m. is_S3 (finmap.get m x)) c.in_ok-new-2.ensures.empty ∙ ap is_S3 (get-empty xid_cmp x) in cc,
-)
+invariant_of-result c x prepared = let none = ap (λ m. is_S3 (finmap.get m x)) c.in_ok-new-2.ensures.empty ∙ ap is_S3 (get-empty xid_cmp x) in cc

@@ -1,8 +1,25 @@
-use Rattle.std.proofs.Common.{refl, ap, ◌∙◌}
+use Rattle.std.proofs.Common.{rules, ◌≡◌, false, refl, ap, ◌∙◌, arith}
 use Rattle.std.specs.FinMap as map
-use Rattle.xa_tables.proofs.SoundLemmas.{live_put, live_associated, sound_put, now_at}
+use Rattle.xa_tables.specs.declared.state.AssociationState.TheVariants.{Associated}
+use Rattle.xa_tables.specs.Tables.{has_association}
+use Rattle.xa_tables.specs.Managers.{tables_of}
+use Rattle.xa_tables.specs.Next.{association}
+use Rattle.xa_tables.proofs.SoundLemmas.{sound_put}
+use Rattle.xa_tables.proofs.FreeThreads.{takes_one}
 use Rattle.xa_tables.proofs.branch_tables.BranchTables.start_fresh.Goals as goal
 
 pub invariant_of-self : goal.invariant_of-self
-invariant_of-self c =
-    (live_associated _ _ _ _ _ (c.associate.ensures.associations ∙ ap (map.insert _ _) c.associated.ensures) (now_at _ _ _ _ c.put.ensures.state refl) (live_put _ _ _ _ _ c.put.ensures.state refl c.self.invariant.0), sound_put _ _ _ _ _ _ c.put.ensures.state refl c.self.invariant.1)
+invariant_of-self c = sound_put _ _ _ _ _ _ c.insert.ensures.state refl c.self.invariant
+
+pub returns-clause-kept : goal.returns-clause-kept
+returns-clause-kept c =
+    let t = c.args.t in
+    let free : has_association c.args.self.now.tables t ≡ false = search rules in
+    let made = tables_of c.associate.new.self c.insert.new.self c.self.inside.accounts c.self.inside.is_shut in
+    let taken = takes_one t c.args.self.now.tables made (association c.args.xid.now Associated) free
+    (c.associate.ensures.associations ∙ ap (λ b. map.insert b.tables.associations t (association c.args.xid.now Associated)) c.self.view_is) in
+    record {
+      threads = c.associate.ensures.threads ∙ ap (λ b. b.threads) c.self.view_is;
+      spare = omega (arith, taken, c.insert.ensures.room, ap (λ b. b.spare) c.self.view_is);
+      adds = omega (arith, ap (λ b. b.adds) c.self.view_is);
+    }

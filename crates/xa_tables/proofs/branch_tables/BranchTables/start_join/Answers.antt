@@ -1,8 +1,32 @@
-use Rattle.std.proofs.Common.{refl, ap, ◌∙◌}
-use Rattle.std.specs.FinMap as map
-use Rattle.xa_tables.proofs.SoundLemmas.{live_put, live_associated, sound_put, now_at}
+use Rattle.std.proofs.Common.{rules, refl, ap}
+use Rattle.xa_tables.specs.declared.state.State.TheVariants.{Active}
+use Rattle.xa_tables.proofs.SoundLemmas.{sound_put, written, unwritten}
 use Rattle.xa_tables.proofs.branch_tables.BranchTables.start_join.Goals as goal
 
-pub invariant_of-self : goal.invariant_of-self
-invariant_of-self c =
-    (live_associated _ _ _ _ _ (c.associate.ensures.associations ∙ ap (map.insert _ _) c.associated.ensures) (now_at _ _ _ _ c.put.ensures.state refl) (live_put _ _ _ _ _ c.put.ensures.state refl c.self.invariant.0), sound_put _ _ _ _ _ _ c.put.ensures.state refl c.self.invariant.1)
+pub invariant_of-self-in-Prepared : goal.invariant_of-self-in-Prepared
+invariant_of-self-in-Prepared c =
+    rw (unwritten _ _ _ _ c.in-Some.is (c.state_mut.follows.holds c.in-Some.state.now) c.in-Some.ensures.value) c.self.invariant
+
+pub returns-in-Prepared : goal.returns-in-Prepared
+returns-in-Prepared c =
+    let same = unwritten _ _ _ _ c.in-Some.is (c.state_mut.follows.holds c.in-Some.state.now) c.in-Some.ensures.value in
+    rw same (record { step = search rules; kept = search rules })
+
+pub invariant_of-self-in-RollbackOnly : goal.invariant_of-self-in-RollbackOnly
+invariant_of-self-in-RollbackOnly c =
+    rw (unwritten _ _ _ _ c.in-Some.is (c.state_mut.follows.holds c.in-Some.state.now) c.in-Some.ensures.value) c.self.invariant
+
+pub returns-in-RollbackOnly : goal.returns-in-RollbackOnly
+returns-in-RollbackOnly c =
+    let same = unwritten _ _ _ _ c.in-Some.is (c.state_mut.follows.holds c.in-Some.state.now) c.in-Some.ensures.value in
+    rw same (record { step = search rules; kept = search rules })
+
+pub invariant_of-self-in-Active : goal.invariant_of-self-in-Active
+invariant_of-self-in-Active c =
+    let now = written _ _ _ _ c.in-Some.is (c.state_mut.follows.holds Active) in
+    sound_put _ _ _ _ _ _ (ap (λ b. b.states) now) refl c.self.invariant
+
+pub returns-in-Active : goal.returns-in-Active
+returns-in-Active c =
+    let now = written _ _ _ _ c.in-Some.is (c.state_mut.follows.holds Active) in
+    rw now (record { step = search rules; kept = search rules })

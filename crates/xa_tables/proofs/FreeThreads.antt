@@ -1,0 +1,172 @@
+-- A thread that begins a branch was free, and each request frees at most one thread.
+use Rattle.std.specs.Prelude.{◌≡◌, ◌≢◌, ℕ, zero, suc, ◌+◌, ◌*◌, ◌<◌, ◌≤◌, Bool, true, false, cond, not, ◌&&◌, ◌||◌, Option, None, Some, is_some, refl}
+use Rattle.std.proofs.Common.{sym, ap, ◌∙◌, arith}
+use Rattle.std.proofs.lemmas.Bool.{not-false}
+use Rattle.std.proofs.Math.Bool.{and-false}
+use Rattle.std.specs.Ordering.{nat_cmp, eq_by_cmp}
+use Rattle.std.specs.Cmp.{nat_cmp_total}
+use Rattle.std.specs.FinSet as set
+use Rattle.std.specs.FinMap as map
+use Rattle.std.specs.FinSet.{contains-insert, contains-remove}
+use Rattle.std.specs.FinMap.{get-insert, get-remove, nat_cmp-IsAntisymmetric}
+use Rattle.xa_base.proofs.Truth.{by_if, by_bool, is_equal, tied_true, tied_false}
+use Rattle.xa_words.specs.Xid.{XidName}
+use Rattle.xa_words.specs.declared.code.Code.{Code}
+use Rattle.xa_words.specs.declared.code.Code.TheVariants.{Done, RbRollback}
+use Rattle.xa_words.specs.declared.request.Op.{Op}
+use Rattle.xa_tables.specs.declared.state.Association.{Association}
+use Rattle.xa_tables.specs.Tables.{Tables, has_opened, association_of, has_association, is_association_with, is_associated}
+use Rattle.xa_tables.specs.declared.state.AssociationState.TheVariants.{Associated, Suspended}
+use Rattle.xa_tables.specs.Next.{Answer, next, needs_opening, association, with_association, dissociated}
+use Rattle.xa_tables.specs.Managers.{TablesWithRoom, Keeps, is_free, counted, free_threads, places_taken}
+use Rattle.xa_tables.proofs.Effects.{Effect, Opens, Closes, Starts, Joins, Resumes, Suspends, Leaves, Fails, Idles, at_rules}
+
+-- what keeps all places keeps all but some
+pub keeps_more : (places : ℕ) (old new : TablesWithRoom) → Keeps 0 old new → Keeps places old new
+keeps_more places old new k = record { threads = k.threads; spare = omega (arith, k.spare); adds = k.adds }
+
+-- nobody is free where nobody has it open
+pub none_free : (n : ℕ) (T : Tables) → ((u : ℕ) → has_opened T u ≡ false) → free_threads n T ≡ 0
+none_free zero T closed = refl
+none_free (suc n) T closed =
+    let here : counted (is_free T (suc n)) ≡ 0 = ap (λ b. counted (b && not (has_association T (suc n)))) (closed (suc n)) in
+    let rest = none_free n T closed in
+    omega arith
+
+at_most_one : (b : Bool) → counted b ≤ 1
+at_most_one true = omega arith
+at_most_one false = omega arith
+
+-- by whether two numbers are one
+by_nat : {P : Type 0} (a b : ℕ) → (a ≡ b → P) → (a ≢ b → P) → P
+by_nat {P} a b one two =
+    by_bool (λ _. P) (eq_by_cmp nat_cmp a b) (λ e. one (nat_cmp-IsAntisymmetric a b (is_equal _ e)))
+    (λ e. two (λ same. let tied = tied_true a b same in cc))
+
+-- T becomes U, and only thread t may be free in one of them alone
+module _ (t : ℕ) (T U : Tables) (others : (u : ℕ) → u ≢ t → is_free U u ≡ is_free T u) where
+  same_below : (n : ℕ) → n < t → free_threads n U ≡ free_threads n T
+  same_below zero h = refl
+  same_below (suc n) h =
+      let here : is_free U (suc n) ≡ is_free T (suc n) = others (suc n) (λ e. omega arith) in
+      let rest : free_threads n U ≡ free_threads n T = same_below n (omega arith) in
+      λ i. counted (here i) + rest i
+
+  one_changes : (n : ℕ) → 0 < t → t ≤ n → free_threads n U + counted (is_free T t) ≡ free_threads n T + counted (is_free U t)
+  one_changes zero p h = absurd (omega arith)
+  one_changes (suc n) p h =
+      by_nat t (suc n) (λ same.
+      let before : counted (is_free T t) ≡ counted (is_free T (suc n)) = ap (λ u. counted (is_free T u)) same in
+      let after : counted (is_free U t) ≡ counted (is_free U (suc n)) = ap (λ u. counted (is_free U u)) same in
+      let rest : free_threads n U ≡ free_threads n T = same_below n (omega arith) in
+      omega arith) (λ apart.
+      let here : counted (is_free U (suc n)) ≡ counted (is_free T (suc n)) = ap counted (others (suc n) (λ e. apart (sym e))) in
+      let rest : free_threads n U + counted (is_free T t) ≡ free_threads n T + counted (is_free U t) = one_changes n p (omega arith) in
+      omega arith)
+
+-- what a step of t takes of the places is paid by a thread that was free
+module _ (n t : ℕ) (T U : Tables) (first : 0 < t) (last : t ≤ n) (others : (u : ℕ) → u ≢ t → is_free U u ≡ is_free T u) where
+  -- t doesn't become associated
+  pays_none : (not (has_association T t) && has_association U t) ≡ false → free_threads n U + 2 * places_taken t T U ≤ free_threads n T + 1
+  pays_none e =
+      let none : places_taken t T U ≡ 0 = ap counted e in
+      let counts = one_changes t T U others n first last in
+      omega (arith, at_most_one (is_free U t))
+
+  -- t, which was free, isn't any more
+  pays_one : is_free T t ≡ true → is_free U t ≡ false → free_threads n U + 2 * places_taken t T U ≤ free_threads n T + 1
+  pays_one before after =
+      let counts = one_changes t T U others n first last in
+      let was : counted (is_free T t) ≡ 1 = ap counted before in
+      let is : counted (is_free U t) ≡ 0 = ap counted after in
+      omega (arith, at_most_one (not (has_association T t) && has_association U t))
+
+free_or_not : (b : Bool) → (not b && b) ≡ false
+free_or_not true = refl
+free_or_not false = refl
+
+never_both : (b : Bool) → (not b && false) ≡ false
+never_both true = refl
+never_both false = refl
+
+has_own : (o : Option Association) (x : XidName) → is_association_with o x ≡ true → is_some o ≡ true
+has_own None x e = cc
+has_own (Some l) x e = refl
+
+-- t has the association that is put, and none where it goes
+put_there : (t : ℕ) (T U : Tables) (l : Association) → U.associations ≡ map.insert T.associations t l → association_of U t ≡ Some l
+put_there t T U l e =
+    ap (λ m. map.get m t) e ∙ get-insert nat_cmp_total T.associations t l t ∙ ap (λ b. cond b (Some l) (association_of T t)) (tied_true t t refl)
+
+gone_there : (t : ℕ) (T U : Tables) → U.associations ≡ map.remove T.associations t → association_of U t ≡ None
+gone_there t T U e =
+    ap (λ m. map.get m t) e ∙ get-remove nat_cmp_total T.associations t t ∙ ap (λ b. cond b None (association_of T t)) (tied_true t t refl)
+
+-- t, which wasn't associated, takes a place
+pub takes_one : (t : ℕ) (T U : Tables) (l : Association) → has_association T t ≡ false → U.associations ≡ map.insert T.associations t l → places_taken t T U ≡ 1
+takes_one t T U l free e = λ i. counted (not (free i) && is_some (put_there t T U l e i))
+
+module _ (n t : ℕ) (T : Tables) (first : 0 < t) (last : t ≤ n) where
+  abbrev Pays : Answer → Type 0
+  Pays a = free_threads n a.0 + 2 * places_taken t T a.0 ≤ free_threads n T + 1
+
+  -- what stands at another thread, where t's association is put or goes, and where t opens or closes
+  put : (l : Association) (u : ℕ) → u ≢ t → is_free (with_association t l T) u ≡ is_free T u
+  put l u apart =
+      ap (λ o. has_opened T u && not (is_some o)) (get-insert nat_cmp_total T.associations t l u ∙ ap (λ b. cond b (Some l) (association_of T u)) (tied_false u t apart))
+
+  gone : (u : ℕ) → u ≢ t → is_free (dissociated t T) u ≡ is_free T u
+  gone u apart =
+      ap (λ o. has_opened T u && not (is_some o)) (get-remove nat_cmp_total T.associations t u ∙ ap (λ b. cond b None (association_of T u)) (tied_false u t apart))
+
+  opens : (u : ℕ) → u ≢ t → (set.contains (set.insert T.opened t) u && not (has_association T u)) ≡ is_free T u
+  opens u apart =
+      ap (λ b. b && not (has_association T u)) (contains-insert nat_cmp_total T.opened t u ∙ ap (λ b. b || has_opened T u) (tied_false u t apart))
+
+  closes : (u : ℕ) → u ≢ t → (set.contains (set.remove T.opened t) u && not (has_association T u)) ≡ is_free T u
+  closes u apart =
+      ap (λ b. b && not (has_association T u)) (contains-remove nat_cmp_total T.opened t u ∙ ap (λ b. not b && has_opened T u) (tied_false u t apart))
+
+  -- t, which has it open and is free, becomes associated
+  begins : (l : Association) (c : Code) (U : Tables) → U.opened ≡ T.opened → U.associations ≡ map.insert T.associations t l → has_opened T t ≡ true
+      → has_association T t ≡ false → Pays (U, c)
+  begins l c U opened associations has free =
+      pays_one n t T U first last
+      (λ u apart. ap (λ m. is_free (record U { associations = m }) u) associations ∙ ap (λ s. is_free (record (with_association t l T) { opened = s }) u) opened ∙ put l u apart)
+      (ap (λ b. b && not (has_association T t)) has ∙ ap not free) (ap (λ o. has_opened U t && not (is_some o)) (put_there t T U l associations) ∙ and-false _)
+
+  -- t, which has an association, gets another
+  goes_on : (y : XidName) (l : Association) (c : Code) → is_associated T t y ≡ true → Pays (with_association t l T, c)
+  goes_on y l c own =
+      pays_none n t T (with_association t l T) first last (put l)
+      (ap (λ b. not b && has_association (with_association t l T) t) (has_own (association_of T t) y own))
+
+  -- t's association goes
+  ends : (c : Code) (U : Tables) → U.opened ≡ T.opened → U.associations ≡ map.remove T.associations t → Pays (U, c)
+  ends c U opened associations =
+      pays_none n t T U first last
+      (λ u apart. ap (λ m. is_free (record U { associations = m }) u) associations ∙ ap (λ s. is_free (record (dissociated t T) { opened = s }) u) opened ∙ gone u apart)
+      (ap (λ o. not (has_association T t) && is_some o) (gone_there t T U associations) ∙ never_both (has_association T t))
+
+  by_effect : {op : Op} {a : Answer} → (needs_opening op && not (has_opened T t)) ≡ false → Effect t T op a → Pays a
+  by_effect may (Opens) = pays_none n t T _ first last opens (free_or_not (has_association T t))
+  by_effect may (Closes) = pays_none n t T _ first last closes (free_or_not (has_association T t))
+  by_effect may (Starts y free) = begins (association y Associated) Done _ refl refl (not-false _ may) free
+  by_effect may (Joins y free there unprepared) = begins (association y Associated) Done _ refl refl (not-false _ may) free
+  by_effect may (Resumes y own) = goes_on y (association y Associated) Done own
+  by_effect may (Suspends y own) = goes_on y (association y Suspended) Done own
+  by_effect may (Leaves y how c own why) = ends c _ refl refl
+  by_effect may (Fails y own) = ends RbRollback _ refl refl
+  by_effect may (Idles y own alone) = ends Done _ refl refl
+  -- the others change no association, and open and close nothing
+  by_effect may effect = pays_none n t T _ first last (λ u apart. refl) (free_or_not (has_association T t))
+
+-- a request frees at most one thread, and one that takes a place makes a free thread busy
+pub places_paid : (n t : ℕ) (op : Op) (T : Tables) → 0 < t → t ≤ n
+    → free_threads n (next t op T).0 + 2 * places_taken t T (next t op T).0 ≤ free_threads n T + 1
+unfolding next
+places_paid n t op T first last =
+    let same : free_threads n T + 2 * places_taken t T T ≤ free_threads n T + 1 =
+    pays_none n t T T first last (λ u apart. refl) (free_or_not (has_association T t)) in
+    by_if (Pays n t T first last) T.shut _ _ (λ _. same) (λ _.
+    by_if (Pays n t T first last) (needs_opening op && not (has_opened T t)) _ _ (λ _. same) (λ may. by_effect n t T first last may (at_rules t T op)))

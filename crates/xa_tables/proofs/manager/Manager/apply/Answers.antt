@@ -1,0 +1,23 @@
+use Rattle.std.proofs.Common.{◌+◌, ◌*◌, ◌≤◌, rules, sym, ap, subst, arith}
+use Rattle.xa_tables.specs.Tables.{Tables}
+use Rattle.xa_tables.specs.Managers.{AreAssociationsLive, free_threads, places_taken}
+use Rattle.xa_tables.specs.Next.{Answer}
+use Rattle.xa_tables.proofs.Kept.{live_after}
+use Rattle.xa_tables.proofs.FreeThreads.{places_paid}
+use Rattle.xa_tables.proofs.manager.Manager.apply.Goals as goal
+
+pub invariant_of-self : goal.invariant_of-self
+invariant_of-self c =
+    let n = c.self.inside.threads in
+    let t = c.args.thread in
+    let op = c.args.op.now in
+    let T = c.self.inside.inner.tables in
+    let stepped = sym (ap (λ (a : Answer). a.0) c.step-code.ensures.step) in
+    let last : t ≤ n = omega (arith, ap (λ m. m.threads) c.self.view_is) in
+    let paid = subst (λ (U : Tables). free_threads n U + 2 * places_taken t T U ≤ free_threads n T + 1) stepped (places_paid n t op T (omega arith) last) in (
+      search rules,
+      omega (arith, paid, c.step-code.ensures.kept.spare, c.self.invariant.1, ap (λ m. m.room) c.self.view_is),
+      subst AreAssociationsLive stepped (live_after t op T c.self.invariant.2),
+      search rules,
+      tt,
+    )

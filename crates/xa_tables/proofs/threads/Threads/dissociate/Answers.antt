@@ -1,0 +1,17 @@
+use Rattle.std.proofs.Common.{ap, refl, ◌∙◌, length, ◌≤◌, arith}
+use Rattle.std.specs.FinMap as map
+use Rattle.xa_tables.specs.Views.{open_mark, association_in}
+use Rattle.xa_tables.proofs.ThreadLemmas.{thread_given, open_same}
+use Rattle.xa_tables.proofs.threads.Threads.dissociate.Goals as goal
+
+pub returns-clause-associations : goal.returns-clause-associations
+returns-clause-associations c =
+    let last : c.args.thread ≤ length c.self.inside.threads.items = omega (arith, ap (λ s. s.threads) c.self.view_is) in
+    thread_given association_in c.self.inside.threads.items c.args.thread _ _ c.requires.first last refl
+    ∙ ap (λ s. map.remove s.associations c.args.thread) c.self.view_is
+
+pub returns-clause-opened : goal.returns-clause-opened
+returns-clause-opened c =
+    let last : c.args.thread ≤ length c.self.inside.threads.items = omega (arith, ap (λ s. s.threads) c.self.view_is) in
+    open_same open_mark c.self.inside.threads.items c.args.thread _ c.index_mut.result.now c.requires.first last (ap open_mark c.index_mut.ensures.value)
+    ∙ ap (λ s. s.opened) c.self.view_is
