@@ -30,13 +30,13 @@ pub(crate) fn code_of(why: Refused) -> Code
 
 // Puts an asynchronous request to a manager, and answers the handle that it is kept under, or why it wasn't put.
 #[inline(always)]
-fn put_later<R: Wait>(rt: &R, desk: &mut Desk, manager: u32, op: Op) -> Result<u32, Code>
+fn put_later<R: Wait>(rt: &R, desk: &mut Desk, manager: u32, op: &Op) -> Result<u32, Code>
     ensures refused { (c : _) → put_refusal desk.old manager true ≡ Some c → (result ≡ Err c) × (desk.new ≡ desk.old) }
     ensures full { put_refusal desk.old manager true ≡ None → IfErr result (λ c. (c ≡ Code.Async)
         × (desk.new ≡ after_full desk.old manager)) }
     ensures put { IfOk result (λ k. put_refusal desk.old manager true ≡ None) }
     ensures kept { IfOk result (λ k. IsLeastFree desk.old.kept k
-        × (desk.new ≡ record (submitted desk.old manager op) {
+        × (desk.new ≡ record (submitted desk.old manager op.now) {
           kept =
               map.insert desk.old.kept k (next_operation desk.old.ledgers manager);
         })) }
@@ -67,12 +67,12 @@ fn put<R: Wait, I: Idle>(rt: &R, desk: &mut Desk, manager: u32, asked: Asked, id
 {
     desks_go_on();
     if asked.asynchronous {
-        return match put_later(rt, desk, manager, asked.op) {
+        return match put_later(rt, desk, manager, &asked.op) {
             Ok(handle) => handle as i32,
             Err(code) => code.value(),
         };
     }
-    match desk.call(rt, manager, asked.op, idle) {
+    match desk.call(rt, manager, &asked.op, idle) {
         Ok(code) => code.value(),
         Err(why) => code_of(why).value(),
     }

@@ -36,7 +36,7 @@ fn ask<R: Wait, I: Idle>(
     ensures asks { AsksAndWaits I.leads_by manager (desk.old, idle.old) (Listed xid) (desk.new, idle.new) result }
 {
     desks_go_on();
-    match desk.call(rt, manager, Op::Listed(xid), idle) {
+    match desk.call(rt, manager, &Op::Listed(xid), idle) {
         Ok(code) => code,
         Err(why) => code_of(why),
     }

@@ -5,6 +5,7 @@ use Rattle.slab.specs.Slab.{slab_len}
 use Rattle.xa_desk.specs.DeskView.{DeskView}
 use Rattle.xa_desk.specs.Slots.{IsBooks, AreKeys, kept_of, logged, planned_total}
 use Rattle.xa_desk.specs.Marks.{AreKept, AreReady}
+use Rattle.xa_desk.specs.declared.keys.TheConstants.{MOST_SLOTS}
 use Rattle.xa_desk.specs.declared.book.Book.TheInside.{Inside}
 
 -- what contracts see
@@ -27,14 +28,14 @@ pub record IsWithinLimits (t h m : ℕ) : Type 0 where
   pub handles : (1 ≤ h) × (h ≤ MOST_HANDLES)
   pub managers : (1 ≤ m) × (m ≤ MOST_MANAGERS)
 
--- the books are in order, and each slot is found; there is a slot for each handle and one more, a place for each
--- handle, and room for each end of a lane; the drained completions are counted, and what is planned is within limits;
--- and the places of what is kept are marked, and of it those of what is ready
+-- the books are in order, and each slot is found; there is a slot for each handle and one more, and no more than keys
+-- tell apart, a place for each handle, and room for each end of a lane; the drained completions are counted, and what
+-- is planned is within limits; and the places of what is kept are marked, and of it those of what is ready
 pub record IsBook (b : Inside) : Type 0 where
   pub books : IsBooks b.ledgers.items b.slots b.kept.items (logged b.drained.items)
   pub keys : AreKeys b.ledgers.items b.rows.items b.slots
   pub slots_used : slab_len b.slots ≤ b.handles + 1
-  pub slots_room : b.handles + 1 ≤ b.slots.capacity
+  pub slots_room : (b.handles + 1 ≤ b.slots.capacity) × (b.slots.capacity ≤ MOST_SLOTS)
   pub places : length b.kept.items ≡ b.handles
   pub drained : b.drained_now ≡ length (logged b.drained.items)
   pub planned : planned_total b.ledgers.items ≤ MOST_REQUESTS * MOST_MANAGERS

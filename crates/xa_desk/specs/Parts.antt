@@ -5,6 +5,7 @@ use Rattle.xa_desk.specs.LedgerView.{LedgerView}
 use Rattle.xa_desk.specs.Lanes.{PartsView, new_ledgers}
 use Rattle.xa_desk.specs.Slots.{no_keys}
 use Rattle.xa_desk.specs.Book.{IsWithinLimits}
+use Rattle.xa_desk.specs.declared.keys.TheConstants.{MOST_SLOTS}
 use Rattle.xa_desk.specs.declared.parts.DeskParts.TheInside.{Inside}
 
 -- of each manager whether it takes asynchronous calls
@@ -19,7 +20,7 @@ parts_of p = record { thread = p.thread; handles = p.handles; plan = p.plan; use
 pub record AreParts (p : Inside) : Type 0 where
   pub ledgers : p.ledgers.items ≡ new_ledgers p.plan (carried p.ledgers.items)
   pub slots : p.slots.slots ≡ []
-  pub slots_room : p.handles + 1 ≤ p.slots.capacity
+  pub slots_room : (p.handles + 1 ≤ p.slots.capacity) × (p.slots.capacity ≤ MOST_SLOTS)
   pub rows : p.rows.items ≡ replicate (length p.ledgers.items) (no_keys p.plan)
   pub kept : p.kept.items ≡ replicate p.handles None
   pub planned : p.plan ≤ MOST_REQUESTS

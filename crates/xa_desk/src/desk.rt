@@ -165,7 +165,7 @@ impl Desk {
     /// where a push of this call found the queue of the lane to the manager full, which the lane's end
     /// counts. No completion is looked at.
     #[inline(always)]
-    pub fn submit<R: Wait>(&mut self, rt: &R, manager: u32, op: Op) -> Result<Ticket, Refused>
+    pub fn submit<R: Wait>(&mut self, rt: &R, manager: u32, op: &Op) -> Result<Ticket, Refused>
         ensures refused { (why : _) → submit_refusal self.old manager ≡ Some why
             → (result ≡ Err why) × (self.new ≡ self.old) }
         ensures full { submit_refusal self.old manager ≡ None → IfErr result (λ why. (why ≡ Refused.Full)
@@ -174,7 +174,7 @@ impl Desk {
         // A sent request has the next number, and the desk owns its ticket.
         ensures ticket { IfOk result (λ t. t ≡ ticket_of self.old (next_operation self.old.ledgers manager)) }
         ensures owned { IfOk result (λ t. Owns self.new t) }
-        ensures sent { OnOk result (self.new ≡ submitted self.old manager op) }
+        ensures sent { OnOk result (self.new ≡ submitted self.old manager op.now) }
         ensures tied { IsDesk self.new }
         ensures goes_on { GoesOn self.old self.new }
 
@@ -196,7 +196,7 @@ impl Desk {
         &mut self,
         rt: &R,
         manager: u32,
-        op: Op,
+        op: &Op,
     ) -> Result<Ticket, Refused>
         requires reached { reach_refusal self.old manager ≡ None }
         ensures refused { (why : _) → submit_refusal self.old manager ≡ Some why
@@ -205,7 +205,7 @@ impl Desk {
             × (self.new ≡ after_full self.old manager)) }
         ensures ticket { IfOk result (λ t. t ≡ ticket_of self.old (next_operation self.old.ledgers manager)) }
         ensures owned { IfOk result (λ t. Owns self.new t) }
-        ensures sent { OnOk result (self.new ≡ submitted self.old manager op) }
+        ensures sent { OnOk result (self.new ≡ submitted self.old manager op.now) }
         ensures tied { IsDesk self.new }
         ensures goes_on { GoesOn self.old self.new }
         ensures tickets { LeavesTickets self.old self.new }
@@ -214,7 +214,7 @@ impl Desk {
         if let Some(why) = self.room_refusal(manager) {
             return Err(why);
         }
-        let Some(operation) = self.book.offer(rt, manager, &op) else {
+        let Some(operation) = self.book.offer(rt, manager, op) else {
             return Err(Refused::Full);
         };
         Ok(Ticket::new(&self.book, operation))
@@ -230,7 +230,7 @@ impl Desk {
         &mut self,
         rt: &R,
         manager: u32,
-        op: Op,
+        op: &Op,
         idle: &mut I,
     ) -> Result<Code, Refused>
         ensures refused { (why : _) → call_refusal self.old manager ≡ Some why → result ≡ Err why }
@@ -239,20 +239,20 @@ impl Desk {
 
         // Once the lane was found full so many times, the request was sent.
         ensures collected { IfOk result (λ code. (n : ℕ) × Collects
-            (submitted (after_fulls n self.old manager) manager op) self.new
+            (submitted (after_fulls n self.old manager) manager op.now) self.new
             (next_operation self.old.ledgers manager) code) }
         ensures tied { IsDesk self.new }
         ensures goes_on { GoesOn self.old self.new }
         ensures tickets { LeavesTickets self.old self.new }
         ensures waited { IfOk result (SendsAndWaits (I.leads_by manager) self.old self.new idle.old idle.new manager
-            op) }
+            op.now) }
         ensures idled { I.leads idle.old idle.new }
         ensures idle_stays { OnErr result (idle.new ≡ idle.old) }
     {
         if let Some(why) = self.call_refusal(manager) {
             return Err(why);
         }
-        let operation = send_waiting(rt, &mut self.book, manager, &op, idle);
+        let operation = send_waiting(rt, &mut self.book, manager, op, idle);
         Ok(wait_until(rt, &mut self.book, operation, idle))
     }
 

@@ -6,11 +6,14 @@ use crate::operation::Operation;
 use std::alloc::{AllocError, Global};
 use std::marker::Model;
 
+/// The most slots that a desk has room for: the key of each is kept in one byte.
+pub(crate) const MOST_SLOTS: usize = 256;
+
 /// The keys of the slots of one manager's operations. A request's number is the count of those sent before
 /// it, so its key stands at that place.
 #[derive(Drop)]
 pub(crate) struct Keys {
-    keys: Vec<usize>,
+    keys: Vec<u8>,
 }
 
 impl Model for Keys {
@@ -35,16 +38,18 @@ impl Keys {
     fn key(&self, number: u32) -> Option<usize>
         ensures { result ≡ slice_get self.now.keys number }
     {
-        self.keys.get(number as usize).copied()
+        let key = *self.keys.get(number as usize)?;
+        Some(usize::from(key))
     }
 
     /// The slot of the next request has this key.
     #[inline(always)]
     pub(crate) fn enter(&mut self, key: usize)
-        requires { length self.old.keys < self.old.capacity }
+        requires room { length self.old.keys < self.old.capacity }
+        requires key { key < MOST_SLOTS }
         ensures { self.new ≡ with_key self.old key }
     {
-        self.keys.push_reserved(key);
+        self.keys.push_reserved(key as u8);
     }
 }
 

@@ -1,7 +1,7 @@
 //! What a desk is made of.
-ghost use Rattle.std.specs.Prelude.{◌≡◌, ◌≤◌, length, IfOk};
+ghost use Rattle.std.specs.Prelude.{◌≡◌, ◌+◌, ◌≤◌, [], length, IfOk};
 
-use crate::keys::{Keys, reserve_keys};
+use crate::keys::{Keys, MOST_SLOTS, reserve_keys};
 use crate::ledger::{Ledger, open_ledgers};
 use crate::operation::Operation;
 use crate::places::empty_places;
@@ -62,8 +62,7 @@ impl DeskParts {
         }) }
     {
         let ledgers = open_ledgers(alloc, requests, use_async)?;
-        // One slot beyond the handles is for a synchronous call.
-        let slots = Slab::with_capacity(alloc, handles as usize + 1)?;
+        let slots = reserve_slots(alloc, handles)?;
         let rows = reserve_keys(alloc, use_async.len(), requests)?;
         let kept = empty_places(alloc, handles as usize)?;
         let ends = Vec::with_capacity(alloc, MOST_MANAGERS)?;
@@ -78,4 +77,17 @@ impl DeskParts {
             ends,
         })
     }
+}
+
+// A slot for each handle, and one more for a synchronous call. A slab may come with more room than was asked for. Room
+// for more slots than there are keys counts as want of memory.
+fn reserve_slots(alloc: Global, handles: u32) -> Result<Slab<Slot>, AllocError>
+    ensures empty { IfOk result (λ s. s.slots ≡ []) }
+    ensures room { IfOk result (λ s. (handles + 1 ≤ s.capacity) × (s.capacity ≤ MOST_SLOTS)) }
+{
+    let slots = Slab::with_capacity(alloc, handles as usize + 1)?;
+    if slots.capacity() > MOST_SLOTS {
+        return Err(AllocError);
+    }
+    Ok(slots)
 }

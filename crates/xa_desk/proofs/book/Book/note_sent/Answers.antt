@@ -28,7 +28,10 @@ enter-requires c =
     let most = is_known.within in
     let below : m - 1 < length c.self.inside.rows.items = omega arith in
     let read = get_or_read c.self.inside.rows.items (m - 1) c.index_mut-row.result.now below c.index_mut-row.ensures.value (no_keys 0) in
-    rw read (omega arith)
+    let in_range = c.insert_reserved-key.ensures.key_in_range in
+    let same = c.insert_reserved-key.ensures.capacity in
+    let few = c.self.invariant.slots_room.1 in
+    record { room = rw read (omega arith); key = omega arith }
 
 known : (c : After-enter) → IsKnown c.self.inside.ledgers.items c.args.manager
 known c = rw (← c.self.view_is) at c.requires.known

@@ -11,7 +11,7 @@ pub invariant_of-self : goal.invariant_of-self
 invariant_of-self g c =
     let sent = c.send_waiting-operation.ensures.sent in
     let called =
-    called_desk _ _ sent.0 c.args.manager c.args.op (subst (λ d. None ≡ call_refusal d c.args.manager) (sym c.self.view_is) c.in_default.ensures) sent.1 c.self.invariant.1 in
+    called_desk _ _ sent.0 c.args.manager c.args.op.now (subst (λ d. None ≡ call_refusal d c.args.manager) (sym c.self.view_is) c.in_default.ensures) sent.1 c.self.invariant.1 in
     let stays = collects_stays _ _ _ _ c.wait_until.ensures.collected in
     let fewer = c.wait_until.ensures.collected.fewer in
     let more = c.send_waiting-operation.ensures.more in
@@ -24,15 +24,15 @@ pub returns-clause-tied : goal.returns-clause-tied
 returns-clause-tied g c =
     let sent = c.send_waiting-operation.ensures.sent in
     let called =
-    called_desk _ _ sent.0 c.args.manager c.args.op (subst (λ d. None ≡ call_refusal d c.args.manager) (sym c.self.view_is) c.in_default.ensures) sent.1 c.self.invariant.1 in
+    called_desk _ _ sent.0 c.args.manager c.args.op.now (subst (λ d. None ≡ call_refusal d c.args.manager) (sym c.self.view_is) c.in_default.ensures) sent.1 c.self.invariant.1 in
     (collects_stays _ _ _ _ c.wait_until.ensures.collected).tied called.0
 
 pub returns-clause-goes_on : goal.returns-clause-goes_on
 returns-clause-goes_on g c =
     let sent = c.send_waiting-operation.ensures.sent in
-    rw (← c.self.view_is) (goes_called sent.0 _ _ _ c.args.manager c.args.op _ _ sent.1 c.wait_until.ensures.collected)
+    rw (← c.self.view_is) (goes_called sent.0 _ _ _ c.args.manager c.args.op.now _ _ sent.1 c.wait_until.ensures.collected)
 
 pub returns-clause-tickets : goal.returns-clause-tickets
 returns-clause-tickets g c =
     let sent = c.send_waiting-operation.ensures.sent in
-    leaves_seen _ _ _ c.self.view_is (called_leaves sent.0 _ _ _ c.args.manager c.args.op _ _ (call_known c.self.inside.book c.args.manager (subst (λ d. None ≡ call_refusal d c.args.manager) (sym c.self.view_is) c.in_default.ensures)) sent.1 c.send_waiting-operation.ensures.named c.wait_until.ensures.collected)
+    leaves_seen _ _ _ c.self.view_is (called_leaves sent.0 _ _ _ c.args.manager c.args.op.now _ _ (call_known c.self.inside.book c.args.manager (subst (λ d. None ≡ call_refusal d c.args.manager) (sym c.self.view_is) c.in_default.ensures)) sent.1 c.send_waiting-operation.ensures.named c.wait_until.ensures.collected)

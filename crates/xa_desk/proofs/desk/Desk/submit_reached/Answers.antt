@@ -12,13 +12,13 @@ returns-in_default-offer-clause-tied g c = (full_desk _ _ c.args.manager c.in_de
 
 pub invariant_of-self-2 : goal.invariant_of-self-2
 invariant_of-self-2 g c =
-    submitted_desk _ _ c.args.manager c.args.op (subst (λ d. reach_refusal d c.args.manager ≡ None) (sym c.self.view_is) c.requires.reached)
+    submitted_desk _ _ c.args.manager c.args.op.now (subst (λ d. reach_refusal d c.args.manager ≡ None) (sym c.self.view_is) c.requires.reached)
     (subst (λ d. None ≡ room_refusal d c.args.manager) (sym c.self.view_is) c.in_default.ensures) c.in-Some-offer.ensures.more
     c.in-Some-offer.ensures.sent c.self.invariant
 
 pub returns-clause-tied : goal.returns-clause-tied
 returns-clause-tied g c =
-    (submitted_desk _ _ c.args.manager c.args.op (subst (λ d. reach_refusal d c.args.manager ≡ None) (sym c.self.view_is) c.requires.reached)
+    (submitted_desk _ _ c.args.manager c.args.op.now (subst (λ d. reach_refusal d c.args.manager ≡ None) (sym c.self.view_is) c.requires.reached)
     (subst (λ d. None ≡ room_refusal d c.args.manager) (sym c.self.view_is) c.in_default.ensures) c.in-Some-offer.ensures.more
     c.in-Some-offer.ensures.sent c.self.invariant).1
 
@@ -26,4 +26,4 @@ pub returns-in_default-offer-clause-goes_on : goal.returns-in_default-offer-clau
 returns-in_default-offer-clause-goes_on g c = rw (← c.self.view_is) (goes_fuller _ _ c.args.manager c.in_default-offer.ensures.full)
 
 pub returns-clause-goes_on : goal.returns-clause-goes_on
-returns-clause-goes_on g c = rw (← c.self.view_is) (goes_submitted _ _ c.args.manager c.args.op c.in-Some-offer.ensures.sent)
+returns-clause-goes_on g c = rw (← c.self.view_is) (goes_submitted _ _ c.args.manager c.args.op.now c.in-Some-offer.ensures.sent)

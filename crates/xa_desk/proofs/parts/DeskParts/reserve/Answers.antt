@@ -20,7 +20,7 @@ invariant_of-result c =
     record {
       ledgers = c.in_ok-ledgers.ensures ∙ ap (new_ledgers c.args.requests) (sym (flags d));
       slots = c.in_ok-slots.ensures.empty;
-      slots_room = c.in_ok-slots.ensures.capacity;
+      slots_room = c.in_ok-slots.ensures.room;
       rows = c.in_ok-rows.ensures ∙ ap (λ n. replicate n (no_keys c.args.requests)) (sym (number d));
       kept = c.in_ok-kept.ensures;
       planned = c.requires.requests.1;
