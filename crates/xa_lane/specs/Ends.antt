@@ -85,6 +85,16 @@ module _ {T : Type 0} where
   abbrev pub SameReceiver : Receiving T → Receiving T → Type 0
   SameReceiver r r' = (r'.lane ≡ r.lane) × (r'.line ≡ r.line) × (r'.capacity ≡ r.capacity) × (r'.senders ≡ r.senders)
 
+  -- what is taken of sender s: an item, or its end mark
+  abbrev pub taken_of : ℕ → Option T → Taken T
+  taken_of s (Some x) = Item s x
+  taken_of s None = EndOf s
+
+  -- what a take answers where this parcel, if any, was at the front
+  abbrev pub answer_of : Option (Parcel T) → Taken T
+  answer_of (Some p) = taken_of p.from p.item
+  answer_of None = Empty
+
   -- what each answer says of the receiver: a parcel of one of its senders was taken, or a quiet moment was counted
   abbrev pub Took : Receiving T → Taken T → Receiving T → Type 0
   Took r (Item s x) r' = (s < r.senders) × (r' ≡ record r { taken = r.taken ++ parcel s (Some x) ∷ [] })

@@ -17,6 +17,6 @@ mod sender;
 pub use ended::Ended;
 pub use lane::{CloseFault, CloseWhy, LaneFault, close_lane, open_lane};
 pub use name::LaneName;
-pub use parcel::{Full, Taken};
+pub use parcel::{Full, Parcel, Taken};
 pub use receiver::Receiver;
 pub use sender::Sender;

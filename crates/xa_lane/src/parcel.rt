@@ -1,9 +1,11 @@
 //! What goes through a lane.
 
-// An item of a sender, or its end mark.
+/// An item of a sender, or its end mark.
 #[derive(Drop)]
 pub struct Parcel<T> {
+    /// The sender's number, from 0.
     pub from: usize,
+    /// None for the end mark.
     pub item: Option<T>,
 }
 

@@ -1,6 +1,6 @@
 //! The end of a lane that receives.
 ghost use Rattle.std.specs.Prelude.{◌≡◌};
-ghost use Rattle.xa_lane.specs.Ends.{Took, SameReceiver};
+ghost use Rattle.xa_lane.specs.Ends.{Took, SameReceiver, answer_of};
 
 use crate::name::LaneName;
 use crate::order::{Gets, Line, View};
@@ -71,15 +71,29 @@ impl<T: Copy> Receiver<T> {
         ensures same { SameReceiver self.old self.new }
         ensures took { Took self.old result self.new }
     {
-        let Some(parcel) = self.line.pop_as::<Gets, R>(rt, &mut self.pass) else {
-            self.quiet = self.quiet.saturating_add(1);
-            self.taken_then = self.taken;
+        let Some(parcel) = self.take_parcel(rt) else {
             return Taken::Empty;
         };
-        self.taken = self.taken.saturating_add(1);
         match parcel.item {
             Some(item) => Taken::Item(parcel.from, item),
             None => Taken::EndOf(parcel.from),
         }
+    }
+
+    /// `take`, which answers the parcel as it was put: a large item isn't moved once more. None is `Empty`.
+    #[inline(always)]
+    pub fn take_parcel<R: Wait>(&mut self, rt: &R) -> Option<Parcel<T>>
+        ensures same { SameReceiver self.old self.new }
+        ensures took { Took self.old (answer_of result) self.new }
+    {
+        let parcel = self.line.pop_as::<Gets, R>(rt, &mut self.pass);
+        match &parcel {
+            Some(_) => self.taken = self.taken.saturating_add(1),
+            None => {
+                self.quiet = self.quiet.saturating_add(1);
+                self.taken_then = self.taken;
+            }
+        }
+        parcel
     }
 }

@@ -8,12 +8,16 @@ use Rattle.std.proofs.lemmas.List.{append-nil, map-append, get_or-set_same, get_
 use Rattle.xa_words.specs.declared.request.Request.{Request}
 use Rattle.xa_lane.specs.declared.parcel.Parcel.{Parcel}
 use Rattle.xa_lane.specs.Order.{of_sender}
-use Rattle.xa_lane.specs.Ends.{parcel, has_mark, has_ended}
+use Rattle.xa_lane.specs.Ends.{Receiving, Took, taken_of, parcel, has_mark, has_ended}
 use Rattle.xa_lane.specs.Closing.{items_in}
 use Rattle.xa_lane.proofs.Parcels.{of_sender-append, items_in-append}
 use Rattle.xa_worker.specs.Workers.{asked, of_sender_thread}
 
 module _ {T : Type 0} where
+  -- what was taken of sender s, by what its parcel had
+  pub took_as : (r r' : Receiving T) (s : ℕ) (item known : Option T) → item ≡ known → Took r (taken_of s item) r' → Took r (taken_of s known) r'
+  took_as r r' s item known is took = subst (λ i. Took r (taken_of s i) r') is took
+
   has_mark-append : (xs ys : List (Option T)) → has_mark (xs ++ ys) ≡ (has_mark xs || has_mark ys)
   has_mark-append [] ys = refl
   has_mark-append (Some y ∷ xs) ys = has_mark-append xs ys

@@ -17,7 +17,7 @@ use std::marker::Model;
 use std::sync::Wait;
 use std::thread;
 use xa_base::MOST_THREADS;
-use xa_lane::{Ended, Receiver, Sender, Taken};
+use xa_lane::{Ended, Receiver, Sender};
 use xa_tables::Manager;
 use xa_words::{Code, Completion, Request};
 
@@ -137,28 +137,30 @@ impl Worker {
         if self.held.is_some() {
             return Step::Blocked;
         }
-        match self.receiver.take(rt) {
-            Taken::Empty => Step::Empty,
-            Taken::EndOf(from) => {
-                self.ended[from] = true;
-                Step::EndSeen
-            }
-            Taken::Item(from, request) => {
-                if request.thread as usize != from + 1 || self.manager.room() == 0 {
-                    self.held = Some((from, request));
-                    return Step::Blocked;
+        match self.receiver.take_parcel(rt) {
+            None => Step::Empty,
+            Some(parcel) => match &parcel.item {
+                None => {
+                    self.ended[parcel.from] = true;
+                    Step::EndSeen
                 }
-                pace.before(rt, &request);
-                let number = self.number;
-                carry_out(
-                    rt,
-                    number,
-                    &mut self.manager,
-                    &mut self.journal,
-                    &mut self.out,
-                    &request,
-                )
-            }
+                Some(request) => {
+                    if request.thread as usize != parcel.from + 1 || self.manager.room() == 0 {
+                        self.held = Some((parcel.from, *request));
+                        return Step::Blocked;
+                    }
+                    pace.before(rt, request);
+                    let number = self.number;
+                    carry_out(
+                        rt,
+                        number,
+                        &mut self.manager,
+                        &mut self.journal,
+                        &mut self.out,
+                        *request,
+                    )
+                }
+            },
         }
     }
 

@@ -8,11 +8,11 @@ use Rattle.xa_worker.specs.Workers.{Asking, IsUnfit}
 use Rattle.xa_worker.specs.Inner.{working_of}
 use Rattle.xa_worker.proofs.Kept.{unentered}
 use Rattle.xa_worker.proofs.Lanes.{lanes_flush, lanes-puts, lanes-chain, length-lanes}
-use Rattle.xa_worker.proofs.Parcels.{marked_end, ended_item}
+use Rattle.xa_worker.proofs.Parcels.{marked_end, ended_item, took_as}
 use Rattle.xa_worker.proofs.Seated.{stepped_keeps}
 use Rattle.xa_worker.proofs.Ties.{tied_out, tied_nothing, tied_end, tied_hold, tied_carried, stepped}
 use Rattle.xa_worker.proofs.worker.Worker.step.Goals as goal
-use Rattle.xa_worker.proofs.worker.Worker.step.Goals.{then-request-from-via-then-request-from, then-request-from-via-else-request-from+then-room-eq0}
+use Rattle.xa_worker.proofs.worker.Worker.step.Goals.{then-request-parcel-via-then-request-parcel, then-request-parcel-via-else-request-parcel+then-room-eq0}
 
 -- an earlier completion still waits
 
@@ -59,79 +59,85 @@ returns-then-is_some-clause-tied g c =
 
 -- nothing was there
 
-pub invariant_of-self-in-Empty : goal.invariant_of-self-in-Empty
-invariant_of-self-in-Empty g c =
+pub invariant_of-self-in-None : goal.invariant_of-self-in-None
+invariant_of-self-in-None g c =
     let e = c.flush.ensures in
     let i = c.self.invariant in
-    let took = c.in-Empty.ensures.took in
-    unentered _ _ i refl refl refl refl (λ s. ap (λ (r : Asking). has_ended s r.taken) took) (tied_nothing (working_of c.self.inside) c.flush.new.self (lanes_flush c.flush.result c.self.inside.out c.flush.new.self e.flushed) e.put i.tied c.take.new.self took)
+    let took = c.in-None.ensures.took in
+    unentered _ _ i refl refl refl refl (λ s. ap (λ (r : Asking). has_ended s r.taken) took) (tied_nothing (working_of c.self.inside) c.flush.new.self (lanes_flush c.flush.result c.self.inside.out c.flush.new.self e.flushed) e.put i.tied c.take_parcel.new.self took)
 
-pub returns-in-Empty-clause-same : goal.returns-in-Empty-clause-same
-returns-in-Empty-clause-same g c =
-    rw (← c.self.view_is) (record { number = refl; first = refl; threads = refl; receiver = c.take.ensures.same; lanes = lanes_flush c.flush.result c.self.inside.out c.flush.new.self c.flush.ensures.flushed })
+pub returns-in-None-clause-same : goal.returns-in-None-clause-same
+returns-in-None-clause-same g c =
+    rw (← c.self.view_is) (record { number = refl; first = refl; threads = refl; receiver = c.take_parcel.ensures.same; lanes = lanes_flush c.flush.result c.self.inside.out c.flush.new.self c.flush.ensures.flushed })
 
-pub returns-in-Empty-clause-seat : goal.returns-in-Empty-clause-seat
-returns-in-Empty-clause-seat g c = stepped_keeps _ _ (returns-in-Empty-clause-same g c)
+pub returns-in-None-clause-seat : goal.returns-in-None-clause-seat
+returns-in-None-clause-seat g c = stepped_keeps _ _ (returns-in-None-clause-same g c)
 
-pub returns-in-Empty-clause-tied : goal.returns-in-Empty-clause-tied
-returns-in-Empty-clause-tied g c =
-    tied_nothing (working_of c.self.inside) c.flush.new.self (lanes_flush c.flush.result c.self.inside.out c.flush.new.self c.flush.ensures.flushed) c.flush.ensures.put c.self.invariant.tied c.take.new.self c.in-Empty.ensures.took
+pub returns-in-None-clause-tied : goal.returns-in-None-clause-tied
+returns-in-None-clause-tied g c =
+    tied_nothing (working_of c.self.inside) c.flush.new.self (lanes_flush c.flush.result c.self.inside.out c.flush.new.self c.flush.ensures.flushed) c.flush.ensures.put c.self.invariant.tied c.take_parcel.new.self c.in-None.ensures.took
 
 -- an end mark was taken
 
-pub invariant_of-self-in-EndOf : goal.invariant_of-self-in-EndOf
-invariant_of-self-in-EndOf g c =
+pub invariant_of-self-in-None-item : goal.invariant_of-self-in-None-item
+invariant_of-self-in-None-item g c =
     let e = c.flush.ensures in
     let i = c.self.invariant in
-    let took = c.in-EndOf.ensures.took in
-    let below : c.in-EndOf.from < 8 = omega (arith, took.0, i.tied.senders, i.few) in
+    let took = (took_as _ _ _ _ _ c.in-None-item.is c.in-Some.ensures.took) in
+    let below : c.in-Some.parcel.from < 8 = omega (arith, took.0, i.tied.senders, i.few) in
     record {
-      tied = tied_end (working_of c.self.inside) c.flush.new.self (lanes_flush c.flush.result c.self.inside.out c.flush.new.self e.flushed) e.put i.tied c.take.new.self c.in-EndOf.from took;
+      tied = tied_end (working_of c.self.inside) c.flush.new.self (lanes_flush c.flush.result c.self.inside.out c.flush.new.self e.flushed) e.put i.tied c.take_parcel.new.self c.in-Some.parcel.from took;
       room = i.room;
       marks = simp length-set i.marks;
-      ended = λ k h. marked_end c.self.inside.ended c.self.inside.receiver.taken c.in-EndOf.from i.marks below i.ended k h
+      ended = λ k h. marked_end c.self.inside.ended c.self.inside.receiver.taken c.in-Some.parcel.from i.marks below i.ended k h
           ∙ sym (ap (λ (r : Asking). has_ended k r.taken) took.1);
       few = i.few;
       none = i.none;
       enough = i.enough;
     }
 
-pub returns-in-EndOf-clause-same : goal.returns-in-EndOf-clause-same
-returns-in-EndOf-clause-same g c =
-    rw (← c.self.view_is) (record { number = refl; first = refl; threads = refl; receiver = c.take.ensures.same; lanes = lanes_flush c.flush.result c.self.inside.out c.flush.new.self c.flush.ensures.flushed })
+pub returns-in-None-item-clause-step : goal.returns-in-None-item-clause-step
+returns-in-None-item-clause-step g c =
+    let none = is_missing c.self.inside.held (sym c.is_some.ensures ∙ c.if-is_some.false) in
+    let out = c.if-not-flush.ensures.flushed in
+    rw (← c.self.view_is) (c.in-Some.parcel.from, none, took_as _ _ _ _ _ c.in-None-item.is c.in-Some.ensures.took, ap (λ (o : Outgoing). record (working_of c.self.inside) { receiver = c.take_parcel.new.self; out = o }) out)
 
-pub returns-in-EndOf-clause-seat : goal.returns-in-EndOf-clause-seat
-returns-in-EndOf-clause-seat g c = stepped_keeps _ _ (returns-in-EndOf-clause-same g c)
+pub returns-in-None-item-clause-same : goal.returns-in-None-item-clause-same
+returns-in-None-item-clause-same g c =
+    rw (← c.self.view_is) (record { number = refl; first = refl; threads = refl; receiver = c.take_parcel.ensures.same; lanes = lanes_flush c.flush.result c.self.inside.out c.flush.new.self c.flush.ensures.flushed })
 
-pub returns-in-EndOf-clause-tied : goal.returns-in-EndOf-clause-tied
-returns-in-EndOf-clause-tied g c =
-    tied_end (working_of c.self.inside) c.flush.new.self (lanes_flush c.flush.result c.self.inside.out c.flush.new.self c.flush.ensures.flushed) c.flush.ensures.put c.self.invariant.tied c.take.new.self c.in-EndOf.from c.in-EndOf.ensures.took
+pub returns-in-None-item-clause-seat : goal.returns-in-None-item-clause-seat
+returns-in-None-item-clause-seat g c = stepped_keeps _ _ (returns-in-None-item-clause-same g c)
+
+pub returns-in-None-item-clause-tied : goal.returns-in-None-item-clause-tied
+returns-in-None-item-clause-tied g c =
+    tied_end (working_of c.self.inside) c.flush.new.self (lanes_flush c.flush.result c.self.inside.out c.flush.new.self c.flush.ensures.flushed) c.flush.ensures.put c.self.invariant.tied c.take_parcel.new.self c.in-Some.parcel.from (took_as _ _ _ _ _ c.in-None-item.is c.in-Some.ensures.took)
 
 -- a request was taken that can't be carried out
 
-pub invariant_of-self-then-request-from : goal.invariant_of-self-then-request-from
-invariant_of-self-then-request-from g c =
+pub invariant_of-self-then-request-parcel : goal.invariant_of-self-then-request-parcel
+invariant_of-self-then-request-parcel g c =
     let e = c.flush.ensures in
     let i = c.self.invariant in
-    let took = c.in-Item.ensures.took in
+    let took = (took_as _ _ _ _ _ c.in-Some-item.is c.in-Some.ensures.took) in
     let none = is_missing c.self.inside.held (sym c.is_some.ensures ∙ c.if-is_some.false) in
-    let unfit : IsUnfit c.in-Item.from c.in-Item.request c.self.inside.manager.room =
-    elim c.then-request-from.branch [ then-request-from-via-then-request-from w ↦ inl w.if-request-from.true | then-request-from-via-else-request-from+then-room-eq0 w ↦ inr (sym w.room.ensures ∙ w.if-room-eq0.true) ] in
-    unentered _ _ i refl refl refl refl (λ s. ap (λ (r : Asking). has_ended s r.taken) took.1 ∙ ended_item s c.in-Item.from c.self.inside.receiver.taken c.in-Item.request) (tied_hold (working_of c.self.inside) c.flush.new.self (lanes_flush c.flush.result c.self.inside.out c.flush.new.self e.flushed) e.put i.tied c.take.new.self c.in-Item.from c.in-Item.request none took unfit)
+    let unfit : IsUnfit c.in-Some.parcel.from c.in-Some-item.request c.self.inside.manager.room =
+    elim c.then-request-parcel.branch [ then-request-parcel-via-then-request-parcel w ↦ inl w.if-request-parcel.true | then-request-parcel-via-else-request-parcel+then-room-eq0 w ↦ inr (sym w.room.ensures ∙ w.if-room-eq0.true) ] in
+    unentered _ _ i refl refl refl refl (λ s. ap (λ (r : Asking). has_ended s r.taken) took.1 ∙ ended_item s c.in-Some.parcel.from c.self.inside.receiver.taken c.in-Some-item.request) (tied_hold (working_of c.self.inside) c.flush.new.self (lanes_flush c.flush.result c.self.inside.out c.flush.new.self e.flushed) e.put i.tied c.take_parcel.new.self c.in-Some.parcel.from c.in-Some-item.request none took unfit)
 
-pub returns-then-request-from-clause-same : goal.returns-then-request-from-clause-same
-returns-then-request-from-clause-same g c =
-    rw (← c.self.view_is) (record { number = refl; first = refl; threads = refl; receiver = c.take.ensures.same; lanes = lanes_flush c.flush.result c.self.inside.out c.flush.new.self c.flush.ensures.flushed })
+pub returns-then-request-parcel-clause-same : goal.returns-then-request-parcel-clause-same
+returns-then-request-parcel-clause-same g c =
+    rw (← c.self.view_is) (record { number = refl; first = refl; threads = refl; receiver = c.take_parcel.ensures.same; lanes = lanes_flush c.flush.result c.self.inside.out c.flush.new.self c.flush.ensures.flushed })
 
-pub returns-then-request-from-clause-seat : goal.returns-then-request-from-clause-seat
-returns-then-request-from-clause-seat g c = stepped_keeps _ _ (returns-then-request-from-clause-same g c)
+pub returns-then-request-parcel-clause-seat : goal.returns-then-request-parcel-clause-seat
+returns-then-request-parcel-clause-seat g c = stepped_keeps _ _ (returns-then-request-parcel-clause-same g c)
 
-pub returns-then-request-from-clause-tied : goal.returns-then-request-from-clause-tied
-returns-then-request-from-clause-tied g c =
+pub returns-then-request-parcel-clause-tied : goal.returns-then-request-parcel-clause-tied
+returns-then-request-parcel-clause-tied g c =
     let none = is_missing c.self.inside.held (sym c.is_some.ensures ∙ c.if-is_some.false) in
-    let unfit : IsUnfit c.in-Item.from c.in-Item.request c.self.inside.manager.room =
-    elim c.then-request-from.branch [ then-request-from-via-then-request-from w ↦ inl w.if-request-from.true | then-request-from-via-else-request-from+then-room-eq0 w ↦ inr (sym w.room.ensures ∙ w.if-room-eq0.true) ] in
-    tied_hold (working_of c.self.inside) c.flush.new.self (lanes_flush c.flush.result c.self.inside.out c.flush.new.self c.flush.ensures.flushed) c.flush.ensures.put c.self.invariant.tied c.take.new.self c.in-Item.from c.in-Item.request none c.in-Item.ensures.took unfit
+    let unfit : IsUnfit c.in-Some.parcel.from c.in-Some-item.request c.self.inside.manager.room =
+    elim c.then-request-parcel.branch [ then-request-parcel-via-then-request-parcel w ↦ inl w.if-request-parcel.true | then-request-parcel-via-else-request-parcel+then-room-eq0 w ↦ inr (sym w.room.ensures ∙ w.if-room-eq0.true) ] in
+    tied_hold (working_of c.self.inside) c.flush.new.self (lanes_flush c.flush.result c.self.inside.out c.flush.new.self c.flush.ensures.flushed) c.flush.ensures.put c.self.invariant.tied c.take_parcel.new.self c.in-Some.parcel.from c.in-Some-item.request none (took_as _ _ _ _ _ c.in-Some-item.is c.in-Some.ensures.took) unfit
 
 -- a request is carried out
 
@@ -143,8 +149,8 @@ carry_out-requires-clause-lanes g c =
     let count : length c.flush.new.self.senders ≡ length c.self.inside.out.senders = length-lanes c.self.inside.out.senders c.flush.new.self.senders lanes in
     omega (arith, count, i.tied.lanes)
 
-pub invariant_of-self-in-Item : goal.invariant_of-self-in-Item
-invariant_of-self-in-Item g c =
+pub invariant_of-self-in-Some-item : goal.invariant_of-self-in-Some-item
+invariant_of-self-in-Some-item g c =
     let i = c.self.invariant in
     let d = c.carry_out.ensures in
     let none = is_missing c.self.inside.held (sym c.is_some.ensures ∙ c.if-is_some.false) in
@@ -152,11 +158,11 @@ invariant_of-self-in-Item g c =
     let room = ap (λ (x : Managed). x.room) d.manager in
     let threads = ap (λ (x : Managed). x.threads) d.manager in
     record {
-      tied = tied_carried (working_of c.self.inside) c.flush.new.self c.take.new.self c.in-Item.from c.in-Item.request c.carry_out.new.manager c.carry_out.new.out c.carry_out.new.journal.items c.self.invariant.tied c.if-not-flush.ensures.flushed c.flush.ensures.put none c.in-Item.ensures.took c.if-request-from.false d.manager d.journal d.out;
+      tied = tied_carried (working_of c.self.inside) c.flush.new.self c.take_parcel.new.self c.in-Some.parcel.from c.in-Some-item.request c.carry_out.new.manager c.carry_out.new.out c.carry_out.new.journal.items c.self.invariant.tied c.if-not-flush.ensures.flushed c.flush.ensures.put none (took_as _ _ _ _ _ c.in-Some-item.is c.in-Some.ensures.took) c.if-request-parcel.false d.manager d.journal d.out;
       room = omega (arith, more, room, d.space, i.room);
       marks = i.marks;
       ended = λ k h. i.ended k h
-          ∙ sym (ap (λ (r : Asking). has_ended k r.taken) c.in-Item.ensures.took.1 ∙ ended_item k c.in-Item.from c.self.inside.receiver.taken c.in-Item.request);
+          ∙ sym (ap (λ (r : Asking). has_ended k r.taken) (took_as _ _ _ _ _ c.in-Some-item.is c.in-Some.ensures.took).1 ∙ ended_item k c.in-Some.parcel.from c.self.inside.receiver.taken c.in-Some-item.request);
       few = omega (arith, threads, i.few);
       none = i.none;
       enough = i.enough;
@@ -165,7 +171,7 @@ invariant_of-self-in-Item g c =
 pub returns-else-room-eq0-clause-same : goal.returns-else-room-eq0-clause-same
 returns-else-room-eq0-clause-same g c =
     let threads = ap (λ (x : Managed). x.threads) c.carry_out.ensures.manager in
-    rw (← c.self.view_is) (record { number = refl; first = refl; threads = threads; receiver = c.take.ensures.same; lanes = lanes-chain _ _ _ (lanes_flush c.flush.result c.self.inside.out c.flush.new.self c.flush.ensures.flushed) (lanes-puts _ _ _ _ c.carry_out.ensures.out) })
+    rw (← c.self.view_is) (record { number = refl; first = refl; threads = threads; receiver = c.take_parcel.ensures.same; lanes = lanes-chain _ _ _ (lanes_flush c.flush.result c.self.inside.out c.flush.new.self c.flush.ensures.flushed) (lanes-puts _ _ _ _ c.carry_out.ensures.out) })
 
 pub returns-else-room-eq0-clause-seat : goal.returns-else-room-eq0-clause-seat
 returns-else-room-eq0-clause-seat g c = stepped_keeps _ _ (returns-else-room-eq0-clause-same g c)
@@ -174,7 +180,7 @@ pub returns-else-room-eq0-clause-tied : goal.returns-else-room-eq0-clause-tied
 returns-else-room-eq0-clause-tied g c =
     let d = c.carry_out.ensures in
     let none = is_missing c.self.inside.held (sym c.is_some.ensures ∙ c.if-is_some.false) in
-    tied_carried (working_of c.self.inside) c.flush.new.self c.take.new.self c.in-Item.from c.in-Item.request c.carry_out.new.manager c.carry_out.new.out c.carry_out.new.journal.items c.self.invariant.tied c.if-not-flush.ensures.flushed c.flush.ensures.put none c.in-Item.ensures.took c.if-request-from.false d.manager d.journal d.out
+    tied_carried (working_of c.self.inside) c.flush.new.self c.take_parcel.new.self c.in-Some.parcel.from c.in-Some-item.request c.carry_out.new.manager c.carry_out.new.out c.carry_out.new.journal.items c.self.invariant.tied c.if-not-flush.ensures.flushed c.flush.ensures.put none (took_as _ _ _ _ _ c.in-Some-item.is c.in-Some.ensures.took) c.if-request-parcel.false d.manager d.journal d.out
 
 pub returns-else-room-eq0-clause-step : goal.returns-else-room-eq0-clause-step
 returns-else-room-eq0-clause-step g c =
@@ -182,5 +188,5 @@ returns-else-room-eq0-clause-step g c =
     let none = is_missing c.self.inside.held (sym c.is_some.ensures ∙ c.if-is_some.false) in
     let room : 0 < c.self.inside.manager.room = omega (arith, c.room.ensures, c.if-room-eq0.false) in
     let out =
-    subst (λ (o : Outgoing). Puts o (c.in-Item.request.thread - 1) (completion_of c.self.inside.number (entry_next c.in-Item.request c.self.inside.manager.tables)) c.carry_out.new.out) c.if-not-flush.ensures.flushed d.out in
-    rw (← c.self.view_is, d.late) (stepped (working_of c.self.inside) _ c.self.inside.manager.tables.shut refl (c.in-Item.from, c.in-Item.request, record { free = none; took = c.in-Item.ensures.took; thread = c.if-request-from.false; room = room; manager = d.manager; journal = d.journal; out = out; rest = refl }))
+    subst (λ (o : Outgoing). Puts o (c.in-Some-item.request.thread - 1) (completion_of c.self.inside.number (entry_next c.in-Some-item.request c.self.inside.manager.tables)) c.carry_out.new.out) c.if-not-flush.ensures.flushed d.out in
+    rw (← c.self.view_is, d.late) (stepped (working_of c.self.inside) _ c.self.inside.manager.tables.shut refl (c.in-Some.parcel.from, c.in-Some-item.request, record { free = none; took = (took_as _ _ _ _ _ c.in-Some-item.is c.in-Some.ensures.took); thread = c.if-request-parcel.false; room = room; manager = d.manager; journal = d.journal; out = out; rest = refl }))

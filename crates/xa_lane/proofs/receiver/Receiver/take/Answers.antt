@@ -1,5 +1,0 @@
-use Rattle.xa_lane.proofs.Keeps.{gets, receiver_learning}
-use Rattle.xa_lane.proofs.receiver.Receiver.take.Goals as goal
-
-pub pop_as-requires-clause-rule : goal.pop_as-requires-clause-rule
-pop_as-requires-clause-rule g c = (gets _ _ _ _ _ c.self.invariant.1, receiver_learning _ _)

@@ -1,0 +1,20 @@
+use Rattle.std.proofs.Common.{◌≡◌, arith, [], ◌∷◌, ◌++◌, ap, ◌∙◌, get_or, length, set}
+use Rattle.std.proofs.Math.Seq.{get_or-append_seam, set-append_seam}
+use Rattle.xa_words.specs.declared.code.Code.TheVariants.{Done}
+use Rattle.xa_worker.specs.Journal.{Entry, entry_next}
+use Rattle.xa_worker.proofs.carry.carry_out.Goals as goal
+
+pub returns-clause-journal : goal.returns-clause-journal
+returns-clause-journal g c =
+    let items = c.args.journal.now.items in
+    let r = c.args.request in
+    let T = c.args.manager.now.tables in
+    let e : Entry = c.index_mut-entry.result.now in
+    let at : c.len-place.result ≡ length items = let len = c.len-place.ensures in let ok = c.args.journal.now.ok.0 in omega (arith, len, ok) in
+    let same : e ≡ (r, Done) =
+    c.index_mut-entry.ensures.value ∙ (λ i. get_or (c.enter.ensures.entry i) (at i) e) ∙ get_or-append_seam items (r, Done) [] e in
+    let next : (e.0, c.apply-code.result) ≡ entry_next r T =
+    ap (λ a. (e.0, a.1)) c.apply-code.ensures.step ∙ ap (λ (x : Entry). entry_next x.0 T) same in
+    let placed : set c.enter.new.journal.items c.len-place.result (e.0, c.apply-code.result) ≡ set (items ++ (r, Done) ∷ []) (length items) (entry_next r T) =
+    λ i. set (c.enter.ensures.entry i) (at i) (next i) in
+    placed ∙ set-append_seam items (r, Done) [] (entry_next r T)
