@@ -1,5 +1,5 @@
 -- What an opening is made with, and which plans can be opened.
-use Rattle.std.specs.Prelude.{◌≡◌, ℕ, ◌+◌, ◌*◌, Bool, true, None, List, length, map}
+use Rattle.std.specs.Prelude.{◌≡◌, ℕ, ◌+◌, ◌*◌, Bool, true, None, List, length, map, replicate}
 use Rattle.std.specs.List.{All}
 use Rattle.xa_base.specs.declared.limits.TheConstants.{MOST_HANDLES, MOST_MANAGERS, MOST_QUEUED, MOST_REQUESTS}
 use Rattle.xa_base.specs.declared.limits.TheConstants.{MOST_THREADS}
@@ -57,6 +57,16 @@ numbers_of p =
 -- of each manager whether it takes asynchronous calls
 abbrev pub use_async : List ManagerPlan → List Bool
 use_async managers = map (λ m. m.use_async) managers
+
+-- the numbers that most programs do with, for so many threads
+abbrev pub usual_numbers : ℕ → Again
+usual_numbers threads = record { opening = 1; threads = threads; handles = 8; queue = 8; requests = 64 }
+
+-- the plan has the usual numbers and so many managers, each of which takes asynchronous calls and has these accounts
+pub record IsUniform (threads : ℕ) (many : ℕ) (accounts : List (List ℕ × ℕ)) (p : Plan) : Type 0 where
+  pub numbers : numbers_of p ≡ usual_numbers threads
+  pub flags : use_async p.managers.items ≡ replicate many true
+  pub alike : map (λ m. m.accounts.items) p.managers.items ≡ replicate many accounts
 
 -- what is made by a plan: each manager begins with its accounts
 abbrev pub planned : Plan → Setup

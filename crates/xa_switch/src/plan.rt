@@ -1,9 +1,9 @@
 //! What is to be opened.
-ghost use Rattle.std.specs.Prelude.{◌≡◌, ◌↔◌, IsTrue};
+ghost use Rattle.std.specs.Prelude.{◌≡◌, ◌↔◌, IfOk, IsTrue};
 ghost use Rattle.xa_base.specs.Lists.{IsUpTo};
-ghost use Rattle.xa_switch.specs.Plans.{IsWithinLimits, manager_room, numbers_of};
+ghost use Rattle.xa_switch.specs.Plans.{IsUniform, IsWithinLimits, manager_room, numbers_of};
 
-use std::alloc::AllocError;
+use std::alloc::{AllocError, Global};
 use xa_base::{
     MOST_HANDLES, MOST_JOURNALED, MOST_MANAGERS, MOST_QUEUED, MOST_REQUESTS, MOST_THREADS,
 };
@@ -55,6 +55,36 @@ impl From<AllocError> for OpenFault {
 }
 
 impl Plan {
+    /// A plan of so many threads and managers, with the numbers that most programs do with: opening 1, 8 handles,
+    /// queues of 8 places, and 64 requests of a thread to a manager. The managers are alike: each takes asynchronous
+    /// calls, and has these accounts. For other numbers name them: `Plan { handles: 32, ..Plan::uniform(..)? }`.
+    ///
+    /// It fails only for want of memory. Whether the plan can be opened is told where it is opened.
+    pub fn uniform(
+        alloc: Global,
+        threads: u32,
+        managers: u32,
+        accounts: &[(Key, u64)],
+    ) -> Result<Plan, AllocError>
+        ensures { IfOk result (λ p. IsUniform threads managers accounts.now p) }
+    {
+        let mut plans = Vec::with_capacity(alloc, managers as usize)?;
+        for _place in 0..managers {
+            plans.push(ManagerPlan {
+                use_async: true,
+                accounts: accounts.to_vec(alloc)?,
+            })?;
+        }
+        Ok(Plan {
+            opening: 1,
+            threads,
+            handles: 8,
+            queue: 8,
+            requests: 64,
+            managers: plans,
+        })
+    }
+
     /// Its numbers.
     pub(crate) fn numbers(&self) -> Again
         ensures { result ≡ numbers_of self.now }
