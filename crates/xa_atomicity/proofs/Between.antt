@@ -16,7 +16,6 @@ use Rattle.xa_tables.specs.Prepared.{names}
 use Rattle.xa_desk.specs.LedgerView.{LedgerView}
 use Rattle.xa_desk.specs.DeskView.{DeskView, ledger}
 use Rattle.xa_desk.specs.Growth.{HaveGrown}
-use Rattle.xa_driver.specs.declared.ask.Ask.{Ask}
 use Rattle.xa_driver.specs.declared.branch.Branch.{Branch}
 use Rattle.xa_driver.specs.declared.done.Done.{Done}
 use Rattle.xa_driver.specs.declared.done.Ending.{Ending}
@@ -28,7 +27,7 @@ use Rattle.xa_driver.specs.declared.stages.Decided.{Decided}
 use Rattle.xa_driver.specs.declared.stages.Telling.{Telling}
 use Rattle.xa_driver.specs.declared.stages.Told.{Told}
 use Rattle.xa_driver.specs.declared.stages.Forgetting.{Forgetting}
-use Rattle.xa_driver.specs.Asks.{HaveComeSoFar, SameAsks}
+use Rattle.xa_driver.specs.Asks.{Ask, HaveComeSoFar, SameAsks}
 use Rattle.xa_atomicity.specs.Cut.{AreOthers, DidOther, LeavesBranches}
 use Rattle.xa_driver.specs.Decision.{is_read, is_yes}
 use Rattle.xa_driver.specs.Endings.{is_decided, is_out_of_reach, second_op, third_op}

@@ -18,13 +18,12 @@ use Rattle.xa_tables.specs.History.{is_rolled_back}
 use Rattle.xa_tables.specs.Prepared.{names}
 use Rattle.xa_desk.specs.LedgerView.{LedgerView}
 use Rattle.xa_desk.specs.DeskView.{DeskView, ledger}
-use Rattle.xa_driver.specs.declared.ask.Ask.{Ask}
 use Rattle.xa_driver.specs.declared.branch.Branch.{Branch}
 use Rattle.xa_driver.specs.declared.done.Ending.{Ending}
 use Rattle.xa_driver.specs.declared.round.Round.{Round}
 use Rattle.xa_driver.specs.declared.stages.Prepared.{Prepared}
 use Rattle.xa_driver.specs.declared.stages.Decided.{Decided}
-use Rattle.xa_driver.specs.Asks.{HaveComeSoFar, IsBegun, SameAsks, among_asks}
+use Rattle.xa_driver.specs.Asks.{Ask, HaveComeSoFar, IsBegun, SameAsks, among_asks}
 use Rattle.xa_driver.specs.Commits.{is_commit}
 use Rattle.xa_atomicity.specs.Cut.{CameSoFar, EachVote, GoesByTheRecord, HasSentNone, IsAsked, IsCut, IsEnded, IsTold, NoneWasToldToCommit}
 use Rattle.xa_atomicity.specs.Cut.{NoneWasToldToRollBack, asking, forgetting, is_recorded, is_rollback, telling}

@@ -9,7 +9,6 @@ use Rattle.xa_words.specs.declared.request.Op.{Op}
 use Rattle.xa_words.specs.declared.request.Op.TheVariants.{Prepare}
 use Rattle.xa_desk.specs.LedgerView.{LedgerView}
 use Rattle.xa_desk.specs.DeskView.{DeskView, ledger}
-use Rattle.xa_driver.specs.declared.ask.Ask.{Ask}
 use Rattle.xa_driver.specs.declared.branch.Branch.{Branch}
 use Rattle.xa_driver.specs.declared.done.Ending.{Ending}
 use Rattle.xa_driver.specs.declared.round.Round.{Round}
@@ -19,7 +18,7 @@ use Rattle.xa_driver.specs.declared.stages.Decided.{Decided}
 use Rattle.xa_driver.specs.declared.stages.Telling.{Telling}
 use Rattle.xa_driver.specs.declared.stages.Told.{Told}
 use Rattle.xa_driver.specs.declared.stages.Forgetting.{Forgetting}
-use Rattle.xa_driver.specs.Asks.{Asks, EachAsk, HaveComeSoFar, IsBegun, SameAsks, collected, unasked}
+use Rattle.xa_driver.specs.Asks.{Ask, Asks, EachAsk, HaveComeSoFar, IsBegun, SameAsks, collected, unasked}
 use Rattle.xa_atomicity.specs.Cut.{DidOther, EachVote, IsAsked, IsCut, IsTold, LeavesBranches, asking, forgetting, telling}
 use Rattle.xa_driver.specs.Decision.{decides_commit, has_yes, yes_of}
 use Rattle.xa_driver.specs.Endings.{second_op, third_op, ending_of}

@@ -26,7 +26,7 @@ use Rattle.xa_driver.specs.Endings.{is_decided, is_out_of_reach, second_op, thir
 use Rattle.xa_driver.specs.Resolving.{AsksLedger}
 use Rattle.xa_driver.specs.Stages.{HasVoted}
 use Rattle.xa_driver.specs.Rounds.{code_of}
-use Rattle.xa_driver.specs.declared.ask.Ask.{Ask}
+use Rattle.xa_driver.specs.Asks.{Ask}
 use Rattle.xa_driver.proofs.AtDeath.{asked_all}
 use Rattle.xa_driver.proofs.Calls.{among_first}
 use Rattle.xa_driver.specs.Trace.{EachBranch, IsCommit}

@@ -8,10 +8,9 @@ use Rattle.xa_desk.specs.declared.operation.Operation.{Operation}
 use Rattle.xa_desk.specs.LedgerView.{LedgerView, learnt_shut, with_sent, with_collected}
 use Rattle.xa_desk.specs.DeskView.{DeskView, TicketView, IsKnown, ledger, put_ledger, after_collected, outstanding}
 use Rattle.xa_desk.specs.Looks.{Collects}
-use Rattle.xa_driver.specs.declared.ask.Ask.{Ask}
 use Rattle.xa_desk.proofs.GoesOn.{goes_same, goes_further, goes_collecting}
 use Rattle.xa_desk.proofs.Ledgers.{ledger-put_same, ledger-put_other}
-use Rattle.xa_driver.specs.Asks.{KeepsDesk, IsUnsent, IsSending, BeginsAsk, Ends}
+use Rattle.xa_driver.specs.Asks.{Ask, KeepsDesk, IsUnsent, IsSending, BeginsAsk, Ends}
 use Rattle.xa_driver.proofs.Ledgers.{open_count, put_length, put_open}
 
 -- what one request does to a desk

@@ -21,7 +21,6 @@ use Rattle.xa_desk.specs.Kept.{AllKept}
 use Rattle.xa_desk.specs.LedgerView.{LedgerView, with_sent}
 use Rattle.xa_desk.specs.DeskView.{DeskView, TicketView, ledger}
 use Rattle.xa_desk.proofs.GoesOn.{goes_same, goes_further}
-use Rattle.xa_driver.specs.declared.ask.Ask.{Ask}
 use Rattle.xa_driver.specs.declared.branch.Branch.{Branch}
 use Rattle.xa_driver.specs.declared.done.Done.{Done}
 use Rattle.xa_driver.specs.declared.done.Ending.{Ending}
@@ -29,7 +28,7 @@ use Rattle.xa_driver.specs.declared.round.Round.{Round}
 use Rattle.xa_driver.specs.declared.stages.Prepared.{Prepared}
 use Rattle.xa_driver.specs.declared.stages.Decided.{Decided}
 use Rattle.xa_driver.specs.declared.stages.Told.{Told}
-use Rattle.xa_driver.specs.Asks.{AskTrace, EachAsk, EachBegan, HasBegun, IsUnsent, KeepsTheRest, SameAsks, among_asks}
+use Rattle.xa_driver.specs.Asks.{Ask, AskTrace, EachAsk, EachBegan, HasBegun, IsUnsent, KeepsTheRest, SameAsks, among_asks}
 use Rattle.xa_driver.specs.Deaths.{AppendsUntil, CameToVotes, Dies, HaveAsked, HaveTold, IsDecidedBy, IsOfRound}
 use Rattle.xa_driver.specs.Deaths.{LeavesDesk}
 use Rattle.xa_driver.specs.Deaths.{LeavesHandles, PutsLedger, Tells, VotesAndObeys, is_decided_by, sent, to_come, withheld}

@@ -12,13 +12,12 @@ use Rattle.xa_words.specs.declared.request.Op.TheVariants.{Prepare}
 use Rattle.xa_desk.specs.LedgerView.{LedgerView, learnt_shut}
 use Rattle.xa_desk.specs.DeskView.{ledger}
 use Rattle.xa_driver.specs.declared.branch.Branch.{Branch}
-use Rattle.xa_driver.specs.declared.ask.Ask.{Ask}
 use Rattle.xa_driver.specs.declared.done.Done.{Done}
 use Rattle.xa_driver.specs.declared.done.Ending.{Ending}
 use Rattle.xa_driver.specs.Decision.{is_yes, voted_yes, yes_of}
 use Rattle.xa_driver.specs.Endings.{second_op, third_op, ending_of}
 use Rattle.xa_log.specs.Log.{LogState}
-use Rattle.xa_driver.specs.Asks.{asked, IsAnswered, AskTrace, EachAsk, among_asks, Asks, SameAsks, IsSameAsk, AreRising, AllCanAsk}
+use Rattle.xa_driver.specs.Asks.{Ask, asked, IsAnswered, AskTrace, EachAsk, among_asks, Asks, SameAsks, IsSameAsk, AreRising, AllCanAsk}
 use Rattle.xa_driver.specs.Rounds.{first_ask, code_of, second_ask, third_ask, ending_of_ask, asked_yes, yes_asked}
 use Rattle.xa_driver.specs.Course.{AtBranch}
 use Rattle.xa_driver.specs.Resolving.{AsksLedger}

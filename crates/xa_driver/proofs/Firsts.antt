@@ -5,7 +5,7 @@ use Rattle.std.proofs.Common.{add-one, ap, arith, refl, set, sym, take, ◌∙�
 use Rattle.std.specs.List.{slice_get}
 use Rattle.xa_words.specs.declared.code.Code.{Code}
 use Rattle.xa_desk.specs.DeskView.{DeskView}
-use Rattle.xa_driver.specs.declared.ask.Ask.{Ask}
+use Rattle.xa_driver.specs.Asks.{Ask}
 use Rattle.xa_driver.specs.declared.round.Round.{Round}
 use Rattle.xa_driver.specs.Steps.{asked_first, asked_in, is_passed, next_collected}
 use Rattle.xa_driver.specs.UnderWay.{Collects, IsSent, Stays, coded, next_ticket}

@@ -9,8 +9,7 @@ use Rattle.xa_desk.specs.LedgerView.{LedgerView, learnt_shut, is_collected, with
 use Rattle.xa_desk.specs.DeskView.{DeskView, TicketView, IsKnown, Owns, ledger, outstanding}
 use Rattle.xa_desk.proofs.Ledgers.{known_by}
 use Rattle.xa_desk.specs.Seats.{DeskSeat}
-use Rattle.xa_driver.specs.declared.ask.Ask.{Ask}
-use Rattle.xa_driver.specs.Asks.{AskTrace, EachAsk, among_asks, AreRising, CanAsk, AllCanAsk, KeepsDesk, IsUnsent, unsent_code, BeginsAsk, Ends, HasBegun}
+use Rattle.xa_driver.specs.Asks.{Ask, AskTrace, EachAsk, among_asks, AreRising, CanAsk, AllCanAsk, KeepsDesk, IsUnsent, unsent_code, BeginsAsk, Ends, HasBegun}
 use Rattle.xa_driver.specs.Asks.{EachBegan}
 use Rattle.xa_driver.proofs.Ledgers.{open_count}
 use Rattle.xa_base.proofs.Truth.{at_false, at_true}

@@ -8,8 +8,7 @@ use Rattle.xa_words.specs.declared.code.Code.{Code}
 use Rattle.xa_words.specs.declared.request.Op.{Op}
 use Rattle.xa_desk.specs.LedgerView.{LedgerView, learnt_shut}
 use Rattle.xa_desk.specs.DeskView.{ledger, no_ledger, outstanding}
-use Rattle.xa_driver.specs.declared.ask.Ask.{Ask}
-use Rattle.xa_driver.specs.Asks.{asked, EachAsk, among_asks, Asks, SameAsks, IsSameAsk, AreRising}
+use Rattle.xa_driver.specs.Asks.{Ask, asked, EachAsk, among_asks, Asks, SameAsks, IsSameAsk, AreRising}
 use Rattle.xa_driver.proofs.Ledgers.{open_count}
 use Rattle.xa_base.proofs.Truth.{by_if}
 

@@ -12,9 +12,8 @@ use Rattle.xa_desk.specs.LedgerView.{LedgerView}
 use Rattle.xa_desk.specs.DeskView.{DeskView, TicketView}
 use Rattle.xa_desk.specs.Lanes.{submitted, after_fulls}
 use Rattle.xa_desk.specs.Waits.{Idles, Waits, WaitsFor, begins, idles, IsMissing}
-use Rattle.xa_driver.specs.declared.ask.Ask.{Ask}
 use Rattle.xa_driver.specs.declared.round.Round.{Round}
-use Rattle.xa_driver.specs.Asks.{HasBegun, SameAsks, among_asks}
+use Rattle.xa_driver.specs.Asks.{Ask, HasBegun, SameAsks, among_asks}
 use Rattle.xa_driver.specs.Idling.{IdlesAt, IdlesToCollect, IdlesToSend, again, never, sent, unsent}
 use Rattle.xa_driver.specs.UnderWay.{Collects, IsSent, IsUnderWay, Sends, Stays, coded, next_ask, next_ticket, sent_count}
 use Rattle.xa_log.specs.Log.{LogState}

@@ -4,10 +4,9 @@ use Rattle.std.specs.Prelude.{map}
 use Rattle.std.specs.VecDeque.{deque_capacity}
 use Rattle.xa_desk.specs.LedgerView.{LedgerView}
 use Rattle.xa_desk.specs.DeskView.{DeskView}
-use Rattle.xa_driver.specs.declared.ask.Ask.{Ask}
 use Rattle.xa_driver.specs.declared.done.Done.{Done}
 use Rattle.xa_driver.specs.declared.round.Round.{Round}
-use Rattle.xa_driver.specs.Asks.{AllCanAsk, AreRising, CanAsk}
+use Rattle.xa_driver.specs.Asks.{Ask, AllCanAsk, AreRising, CanAsk}
 use Rattle.xa_driver.specs.Stages.{HasRoomForEndings}
 use Rattle.xa_driver.specs.UnderWay.{IsAtRest, MayAsk}
 use Rattle.xa_driver.proofs.Calls.{seam}

@@ -11,8 +11,7 @@ use Rattle.xa_desk.specs.LedgerView.{LedgerView, is_collected, learnt_shut, with
 use Rattle.xa_desk.specs.DeskView.{DeskView, IsOut, ledger}
 use Rattle.xa_desk.specs.Kept.{AllKept}
 use Rattle.xa_desk.proofs.Ledgers.{is_collected-push}
-use Rattle.xa_driver.specs.declared.ask.Ask.{Ask}
-use Rattle.xa_driver.specs.Asks.{Asks, EachAsk, KeepsDesk, among_asks, asked}
+use Rattle.xa_driver.specs.Asks.{Ask, Asks, EachAsk, KeepsDesk, among_asks, asked}
 
 -- what is outstanding in the later ledger was so in the earlier one
 pub record Leaves (a a' : LedgerView) : Type 0 where

@@ -13,9 +13,8 @@ use Rattle.xa_desk.specs.LedgerView.{LedgerView, with_sent}
 use Rattle.xa_desk.specs.DeskView.{DeskView, TicketView, IsOut, Owns, ledger}
 use Rattle.xa_desk.specs.Tickets.{LeavesOthers}
 use Rattle.xa_desk.proofs.Ledgers.{known_by}
-use Rattle.xa_driver.specs.declared.ask.Ask.{Ask}
 use Rattle.xa_driver.specs.declared.round.Round.{Round}
-use Rattle.xa_driver.specs.Asks.{AreRising, EachAsk, EachBegan, HasBegun, Keeps, LeavesOwned, Owning, among_asks}
+use Rattle.xa_driver.specs.Asks.{Ask, AreRising, EachAsk, EachBegan, HasBegun, Keeps, LeavesOwned, Owning, among_asks}
 use Rattle.xa_driver.specs.UnderWay.{AllKeptBut, AreApart, IsAmong, IsUnderWay, LeavesInFlight, LeavesKept, LeavesOtherTickets, OwnsAll}
 use Rattle.xa_driver.proofs.Kept.{asked_leaves}
 use Rattle.xa_driver.proofs.Staying.{IsOpen}

@@ -5,14 +5,13 @@ use Rattle.xa_words.specs.Tran.{TranName}
 use Rattle.xa_words.specs.declared.code.Code.{Code}
 use Rattle.xa_desk.specs.LedgerView.{LedgerView}
 use Rattle.xa_desk.specs.DeskView.{DeskView}
-use Rattle.xa_driver.specs.declared.ask.Ask.{Ask}
 use Rattle.xa_driver.specs.declared.branch.Branch.{Branch}
 use Rattle.xa_driver.specs.declared.done.Done.{Done}
 use Rattle.xa_driver.specs.declared.round.Round.{Round}
 use Rattle.xa_driver.specs.declared.stages.Prepared.{Prepared}
 use Rattle.xa_driver.specs.declared.stages.Decided.{Decided}
 use Rattle.xa_driver.specs.declared.stages.Told.{Told}
-use Rattle.xa_driver.specs.Asks.{KeepsTheRest, SameAsks}
+use Rattle.xa_driver.specs.Asks.{Ask, KeepsTheRest, SameAsks}
 use Rattle.xa_driver.specs.Decision.{yes_of}
 use Rattle.xa_log.specs.Log.{LogState, record_of}
 use Rattle.xa_driver.specs.Rounds.{code_of, ending_of_ask, second_ask, yes_asked}

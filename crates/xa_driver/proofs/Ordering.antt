@@ -11,9 +11,8 @@ use Rattle.xa_desk.specs.declared.operation.Operation.{Operation}
 use Rattle.xa_desk.specs.LedgerView.{LedgerView}
 use Rattle.xa_desk.specs.DeskView.{DeskView, TicketView, ledger, next_operation}
 use Rattle.xa_desk.specs.Looks.{Collects as CollectsOne}
-use Rattle.xa_driver.specs.declared.ask.Ask.{Ask}
 use Rattle.xa_driver.specs.declared.round.Round.{Round}
-use Rattle.xa_driver.specs.Asks.{BeginsAsk, EachBegan, Ends, IsUnsent, SameAsks}
+use Rattle.xa_driver.specs.Asks.{Ask, BeginsAsk, EachBegan, Ends, IsUnsent, SameAsks}
 use Rattle.xa_driver.specs.UnderWay.{Collects, IsSent, IsUnderWay, Sends, Stays, sent_count}
 use Rattle.xa_driver.specs.Order.{sendings, collections, round_of, goes_out, sent_of, operations_of, SendsMore, CollectsFirst, SendsThenCollects, GoesAsFar}
 use Rattle.xa_driver.specs.Order.{GoesAsRound}

@@ -1,15 +1,14 @@
 -- Branches of a round that are asked nothing.
 use Rattle.std.proofs.Common.{◌≡◌, ◌≢◌, ℕ, ◌+◌, ◌<◌, get_or, true, false, Option, None, Some, List, [], ◌∷◌, length, length-append, refl, sym, ap, ◌∙◌, subst}
 use Rattle.std.proofs.Common.{arith}
-use Rattle.std.specs.Prelude.{Bool, MatchOption, is_none, is_some, not}
+use Rattle.std.specs.Prelude.{Bool, MatchOption, is_none}
 use Rattle.std.specs.List.{slice_get}
 use Rattle.std.proofs.lemmas.Option.{slice_get-get_or, slice_get_within}
 use Rattle.xa_words.specs.declared.request.Op.{Op}
 use Rattle.xa_desk.specs.LedgerView.{LedgerView}
 use Rattle.xa_desk.specs.DeskView.{DeskView, TicketView}
-use Rattle.xa_driver.specs.declared.ask.Ask.{Ask}
 use Rattle.xa_driver.specs.declared.round.Round.{Round}
-use Rattle.xa_driver.specs.Asks.{BeginsAsk, HasBegun, SameAsks}
+use Rattle.xa_driver.specs.Asks.{Ask, BeginsAsk, HasBegun, SameAsks}
 use Rattle.xa_driver.specs.Idling.{IdlesToCollect, IdlesToSend, sent, unsent}
 use Rattle.xa_driver.specs.Steps.{CollectsNothing, Passes, asked_first, SendsNothing, is_passed, next_collected, passes, starts}
 use Rattle.xa_driver.specs.UnderWay.{Collects, IsUnderWay, Sends, Stays, next_ask, next_ticket, sent_count}
@@ -123,9 +122,3 @@ unasked_is r d b k u some at is =
           slice_get-get_or r.asks.items r.collected k (place_within r d u t ts e) ∙ ap Some (sym at) in
           is ∙ sym (ap is_passed there)
     ] refl some
-
-pub none_by : (o : Option Op) (b : Bool) → is_some o ≡ not b → b ≡ is_none o
-none_by None true e = refl
-none_by None false e = cc
-none_by (Some op) true e = cc
-none_by (Some op) false e = refl

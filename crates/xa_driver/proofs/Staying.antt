@@ -10,8 +10,7 @@ use Rattle.xa_desk.specs.DeskView.{DeskView, ledger}
 use Rattle.xa_desk.specs.Seats.{DeskSeat}
 use Rattle.xa_desk.specs.Tickets.{LeavesTickets}
 use Rattle.xa_desk.proofs.Ledgers.{is_collected-push, known_by}
-use Rattle.xa_driver.specs.declared.ask.Ask.{Ask}
-use Rattle.xa_driver.specs.Asks.{asked, among_asks, Asks, EachAsk, KeepsDesk, KeepsTheRest, LeavesOutstanding}
+use Rattle.xa_driver.specs.Asks.{Ask, asked, among_asks, Asks, EachAsk, KeepsDesk, KeepsTheRest, LeavesOutstanding}
 use Rattle.xa_driver.proofs.Gathering.{as_many_open}
 use Rattle.xa_driver.proofs.Kept.{asks_keep}
 use Rattle.xa_base.proofs.Truth.{by_if}

@@ -14,7 +14,7 @@ use Rattle.xa_desk.specs.LedgerView.{LedgerView, learnt_shut}
 use Rattle.xa_desk.specs.Tickets.{LeavesTickets}
 use Rattle.xa_desk.specs.DeskView.{DeskView, TicketView, IsKnown, ledger, outstanding}
 use Rattle.xa_desk.proofs.Ledgers.{known_by}
-use Rattle.xa_driver.specs.declared.ask.Ask.{Ask}
+use Rattle.xa_driver.specs.Asks.{Ask}
 use Rattle.xa_driver.specs.declared.round.Round.{Round}
 use Rattle.xa_driver.specs.Asks.{AllCanAsk, AreRising, AskTrace, Asks, BeginsAsk, CanAsk, EachAsk, EachBegan, Ends, HasBegun, HaveComeSoFar, IsBegun, KeepsDesk}
 use Rattle.xa_driver.specs.Asks.{Owning, among_asks, collected, in_flight, unasked}

@@ -16,7 +16,26 @@ use Rattle.xa_desk.specs.GoesOn.{GoesOn}
 use Rattle.xa_desk.specs.Looks.{Collects}
 use Rattle.xa_desk.specs.Kept.{AllKept}
 use Rattle.xa_desk.specs.Tickets.{LeavesOthers, LeavesTickets}
-use Rattle.xa_driver.specs.declared.ask.Ask.{Ask}
+use Rattle.xa_words.specs.Xid.{XidName}
+use Rattle.xa_words.specs.declared.request.Op.TheVariants.{Prepare, Commit, Rollback, Forget}
+use Rattle.xa_driver.specs.declared.ask.Wanted.{Wanted}
+use Rattle.xa_driver.specs.declared.ask.Wanted.TheVariants as wanted
+
+-- a manager and the branch that it is asked for, the branch's vote, what the manager is asked, if anything, and its
+-- code
+pub record Ask : Type 0 where
+  pub manager : ℕ
+  pub xid : XidName
+  pub vote : Code
+  pub op : Option Op
+  pub code : Option Code
+
+-- what is wanted of a branch as a request; it is committed in the second of two phases
+abbrev pub op_of : XidName → Wanted → Op
+op_of x wanted.Prepare = Prepare x
+op_of x wanted.Commit = Commit x false
+op_of x wanted.Rollback = Rollback x
+op_of x wanted.Forget = Forget x
 
 -- and then collected, under the number that it was sent with
 abbrev pub asked : LedgerView → Option Op → Option Code → LedgerView

@@ -5,7 +5,7 @@ use Rattle.xa_words.specs.declared.request.Op.{Op}
 use Rattle.xa_desk.specs.DeskView.{DeskView, TicketView}
 use Rattle.xa_desk.specs.Lanes.{submitted, after_fulls}
 use Rattle.xa_desk.specs.Waits.{Idles, WaitsFor}
-use Rattle.xa_driver.specs.declared.ask.Ask.{Ask}
+use Rattle.xa_driver.specs.Asks.{Ask}
 
 -- Idles one after another, each in a wait for one of these managers.
 pub data IdlesAt {I : Type 0} (by : ℕ → I → I → Type 0) (these : ℕ → Bool) (before : I) : I → Type 0 where

@@ -6,10 +6,9 @@ use Rattle.xa_desk.specs.declared.event.Event.TheVariants.{Sent, Collected}
 use Rattle.xa_desk.specs.declared.operation.Operation.{Operation}
 use Rattle.xa_desk.specs.LedgerView.{LedgerView, learnt_shut}
 use Rattle.xa_desk.specs.DeskView.{DeskView, TicketView, ledger, next_operation}
-use Rattle.xa_driver.specs.declared.ask.Ask.{Ask}
 use Rattle.xa_driver.specs.declared.branch.Branch.{Branch}
 use Rattle.xa_driver.specs.declared.round.Round.{Round}
-use Rattle.xa_driver.specs.Asks.{Asks, SameAsks}
+use Rattle.xa_driver.specs.Asks.{Ask, Asks, SameAsks}
 use Rattle.xa_driver.specs.Rounds.{first_ask, second_ask, third_ask}
 
 -- each was sent; each was collected

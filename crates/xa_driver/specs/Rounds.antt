@@ -6,7 +6,7 @@ use Rattle.xa_words.specs.declared.code.Code.{Code}
 use Rattle.xa_words.specs.declared.code.Code.TheVariants.{RmFail}
 use Rattle.xa_words.specs.declared.request.Op.TheVariants.{Prepare}
 use Rattle.xa_driver.specs.declared.branch.Branch.{Branch}
-use Rattle.xa_driver.specs.declared.ask.Ask.{Ask}
+use Rattle.xa_driver.specs.Asks.{Ask}
 use Rattle.xa_driver.specs.declared.done.Ending.{Ending}
 use Rattle.xa_driver.specs.Decision.{is_yes}
 use Rattle.xa_driver.specs.Endings.{second_op, third_op, ending_of}

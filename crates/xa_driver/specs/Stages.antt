@@ -2,7 +2,6 @@
 use Rattle.std.specs.Prelude.{◌≡◌, ◌≤◌, false, List, [], length, map, take, vec_capacity}
 use Rattle.xa_desk.specs.LedgerView.{LedgerView}
 use Rattle.xa_desk.specs.DeskView.{DeskView}
-use Rattle.xa_driver.specs.declared.ask.Ask.{Ask}
 use Rattle.xa_driver.specs.declared.branch.Branch.{Branch}
 use Rattle.xa_driver.specs.declared.done.CommitFault.{CommitFault}
 use Rattle.xa_driver.specs.declared.done.CommitFault.TheVariants.{NoMemory, Undecided}
@@ -14,7 +13,7 @@ use Rattle.xa_driver.specs.declared.stages.Decided.{Decided}
 use Rattle.xa_driver.specs.declared.stages.Telling.{Telling}
 use Rattle.xa_driver.specs.declared.stages.Told.{Told}
 use Rattle.xa_driver.specs.declared.stages.Forgetting.{Forgetting}
-use Rattle.xa_driver.specs.Asks.{Asks, SameAsks}
+use Rattle.xa_driver.specs.Asks.{Ask, Asks, SameAsks}
 use Rattle.xa_log.specs.Log.{LogState}
 use Rattle.xa_words.specs.declared.code.Code.{Code}
 use Rattle.xa_driver.specs.Rounds.{code_of, ending_of_ask, first_ask, second_ask, third_ask, yes_asked}

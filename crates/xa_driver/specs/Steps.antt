@@ -3,7 +3,7 @@ use Rattle.std.specs.Prelude.{◌≡◌, ℕ, suc, Bool, true, false, if◌then�
 use Rattle.std.specs.Prelude.{◌∷◌, is_none, MatchOption}
 use Rattle.std.specs.List.{slice_get}
 use Rattle.xa_desk.specs.DeskView.{DeskView, TicketView}
-use Rattle.xa_driver.specs.declared.ask.Ask.{Ask}
+use Rattle.xa_driver.specs.Asks.{Ask}
 use Rattle.xa_driver.specs.declared.round.Round.{Round}
 use Rattle.xa_driver.specs.Idling.{IdlesToCollect, IdlesToSend}
 use Rattle.xa_driver.specs.UnderWay.{Collects, Sends, Stays, next_ask, next_ticket}

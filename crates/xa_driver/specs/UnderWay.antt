@@ -8,9 +8,8 @@ use Rattle.xa_words.specs.declared.code.Code.{Code}
 use Rattle.xa_desk.specs.declared.operation.Operation.{Operation}
 use Rattle.xa_desk.specs.DeskView.{DeskView, TicketView, IsOut, Owns, ledger, outstanding}
 use Rattle.xa_desk.specs.Tickets.{LeavesTickets}
-use Rattle.xa_driver.specs.declared.ask.Ask.{Ask}
 use Rattle.xa_driver.specs.declared.round.Round.{Round}
-use Rattle.xa_driver.specs.Asks.{AllCanAsk, AreRising, BeginsAsk, EachAsk, EachBegan, Ends, KeepsDesk, LeavesOwned}
+use Rattle.xa_driver.specs.Asks.{Ask, AllCanAsk, AreRising, BeginsAsk, EachAsk, EachBegan, Ends, KeepsDesk, LeavesOwned}
 use Rattle.xa_driver.specs.Asks.{among_asks}
 
 -- ---- where it stands

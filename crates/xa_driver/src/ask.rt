@@ -1,5 +1,6 @@
 //! Requests to several managers at once.
 ghost use Rattle.std.specs.Prelude.{◌≡◌, ◌<◌, ◌++◌, ◌∷◌, [], ℕ, true, false, IfSome, IfNone, OnSome, IsNone, IsSome};
+ghost use Rattle.std.specs.Prelude.{is_none};
 ghost use Rattle.xa_desk.specs.declared.event.Event.TheVariants.{Sent};
 ghost use Rattle.xa_desk.specs.LedgerView.{learnt_shut};
 ghost use Rattle.xa_desk.specs.DeskView.{Owns, ledger, after_sent, next_operation, outstanding, ticket_of};
@@ -8,20 +9,77 @@ ghost use Rattle.xa_desk.specs.Lanes.{submitted, after_fulls};
 ghost use Rattle.xa_desk.specs.Waits.{Idles};
 ghost use Rattle.xa_driver.specs.Asks.{BeginsAsk, CanAsk, Ends, KeepsDesk, Keeps, LeavesOwned, Owning};
 ghost use Rattle.xa_driver.specs.Idling.{IdlesToCollect, IdlesToSend};
+ghost use Rattle.xa_driver.specs.UnderWay.{coded};
 
+use std::marker::Model;
 use std::sync::Wait;
 use xa_desk::laws::desks_go_on;
 use xa_desk::{Desk, Idle, Refused, Ticket};
 use xa_words::{Code, Op, Xid};
 
-/// What a manager is asked for a branch, if anything, the code that it answered, and the branch's vote.
+/// What a branch's manager may be asked.
 #[derive(Clone, Copy)]
+pub(crate) enum Wanted {
+    Prepare,
+    Commit,
+    Rollback,
+    Forget,
+}
+
+/// What a manager is asked for a branch, if anything, the code that it answered, and the branch's vote.
+#[derive(Drop)]
 pub(crate) struct Ask {
     pub(crate) manager: u32,
     pub(crate) xid: Xid,
     pub(crate) vote: Code,
-    pub(crate) op: Option<Op>,
+    // What the request is. It has the branch's name, which isn't kept twice.
+    pub(crate) wanted: Option<Wanted>,
     pub(crate) code: Option<Code>,
+}
+
+impl Model for Ask {
+    ghost use Rattle.std.specs.Prelude.{option_map};
+    ghost use Rattle.xa_driver.specs.Asks.{Ask, op_of};
+
+    ghost Value = { Ask };
+
+    ghost view = { λ k. record {
+      manager = k.manager;
+      xid = k.xid;
+      vote = k.vote;
+      op = option_map (op_of k.xid) k.wanted;
+      code = k.code;
+    } };
+}
+
+impl Ask {
+    /// The request, if there is one.
+    #[inline(always)]
+    fn op(&self) -> Option<Op>
+        ensures { result ≡ self.now.op }
+    {
+        match self.wanted? {
+            Wanted::Prepare => Some(Op::Prepare(self.xid)),
+            Wanted::Commit => Some(Op::Commit(self.xid, false)),
+            Wanted::Rollback => Some(Op::Rollback(self.xid)),
+            Wanted::Forget => Some(Op::Forget(self.xid)),
+        }
+    }
+
+    /// It was answered so.
+    #[inline(always)]
+    pub(crate) fn enter(&mut self, code: Option<Code>)
+        ensures { self.new ≡ coded self.old code }
+    {
+        self.code = code;
+    }
+
+    /// Whether nothing is asked.
+    pub(crate) fn is_passed(&self) -> bool
+        ensures { result ≡ is_none self.now.op }
+    {
+        self.wanted.is_none()
+    }
 }
 
 // Sends a request, and idles while the queue is full. None where the manager is learnt to be shut.
@@ -53,7 +111,7 @@ fn submit_waiting<R: Wait, I: Idle>(
     }
     desks_go_on();
     for _ in rt.forever() {
-        match desk.submit(rt, manager, *op) {
+        match desk.submit(rt, manager, op) {
             Ok(ticket) => return Some(ticket),
             Err(why) => match why {
                 Refused::Full => idle.idle(rt, manager),
@@ -80,10 +138,10 @@ pub(crate) fn begin<R: Wait, I: Idle>(
     ensures waited { IdlesToSend I.leads_by ask.now desk.old desk.new idle.old idle.new }
     ensures idled { I.leads idle.old idle.new }
 {
-    let Some(op) = &ask.op else {
+    let Some(op) = ask.op() else {
         return None;
     };
-    submit_waiting(rt, desk, ask.manager, op, idle)
+    submit_waiting(rt, desk, ask.manager, &op, idle)
 }
 
 /// Collects what was sent, and tells its code.
@@ -101,7 +159,7 @@ pub(crate) fn end<R: Wait, I: Idle>(
     ensures idled { I.leads idle.old idle.new }
 {
     let Some(ticket) = ticket else {
-        if ask.op.is_none() {
+        if ask.is_passed() {
             return None;
         }
         return Some(Code::RmFail);

@@ -33,7 +33,7 @@ fn ask<R: Wait, I: Idle>(rt: &R, desk: &mut Desk, manager: u32, op: Op, idle: &m
     ensures room { room_at desk.old.ledgers manager ≤ room_at desk.new.ledgers manager + 1 }
     ensures idled { I.leads idle.old idle.new }
 {
-    match desk.call(rt, manager, op, idle) {
+    match desk.call(rt, manager, &op, idle) {
         Ok(code) => code,
         Err(Refused::Shut) => Code::RmFail,
         // The manager is known, and the plan has room for the request.

@@ -4,8 +4,7 @@ ghost use Rattle.std.specs.Prelude.{min, take};
 ghost use Rattle.xa_desk.specs.DeskView.{DeskView, outstanding};
 ghost use Rattle.xa_desk.specs.GoesOn.{GoesOn};
 ghost use Rattle.xa_desk.specs.Kept.{AllKept};
-ghost use Rattle.xa_driver.specs.declared.ask.Ask.{Ask};
-ghost use Rattle.xa_driver.specs.Asks.{AllCanAsk, AreRising, Asks, KeepsTheRest, SameAsks, among_asks};
+ghost use Rattle.xa_driver.specs.Asks.{Ask, AllCanAsk, AreRising, Asks, KeepsTheRest, SameAsks, among_asks};
 ghost use Rattle.xa_driver.specs.Idling.{IdlesAt, IdlesToCollect, IdlesToSend};
 ghost use Rattle.xa_driver.specs.Steps.{CollectsNext, SendsNext, asked_in, is_passed, next_collected};
 ghost use Rattle.xa_driver.specs.Order.{CollectsFirst, GoesAsFar, SendsMore, SendsThenCollects};
@@ -101,7 +100,7 @@ impl Round {
         ensures { result ≡ is_passed (next_ask self.now) }
     {
         let place = self.collected + self.tickets.len();
-        place < self.asks.len() && self.asks[place].op.is_none()
+        place < self.asks.len() && self.asks[place].is_passed()
     }
 
     // Whether nothing was asked at the place that is collected next.
@@ -109,7 +108,7 @@ impl Round {
         requires { (d : DeskView) × IsUnderWay self.now d }
         ensures { result ≡ is_passed (next_collected self.now) }
     {
-        !self.tickets.is_empty() && self.asks[self.collected].op.is_none()
+        !self.tickets.is_empty() && self.asks[self.collected].is_passed()
     }
 
     // Comes to the next place, and sends what is asked there, if anything is. It tells whether there was one.
@@ -170,7 +169,7 @@ impl Round {
         };
         let place = self.collected;
         let code = end(rt, desk, &self.asks[place], ticket, idle);
-        self.asks[place].code = code;
+        self.asks[place].enter(code);
         self.collected = place + 1;
         true
     }

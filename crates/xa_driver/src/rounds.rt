@@ -1,17 +1,20 @@
 //! The three rounds of requests, and what is read off them.
 ghost use Rattle.std.specs.Prelude.{◌≡◌, ℕ, ◌≤◌, map, IfOk, length, vec_capacity, Some, [], ◌∷◌};
+ghost use Rattle.std.specs.Prelude.{option_map};
 ghost use Rattle.std.specs.List.{list_any};
+ghost use Rattle.xa_words.specs.Xid.{XidName};
+ghost use Rattle.xa_driver.specs.Asks.{op_of};
 ghost use Rattle.xa_driver.specs.Decision.{is_yes, is_read, is_no};
 ghost use Rattle.xa_driver.specs.Endings.{second_op, third_op, ending_of, is_out_of_reach, is_heuristic, is_decided};
 ghost use Rattle.xa_driver.specs.Rounds.{first_ask, code_of, second_ask, third_ask, ending_of_ask, asked_yes};
 ghost use Rattle.xa_driver.specs.Rounds.{yes_asked};
 ghost use Rattle.xa_tables.specs.History.{is_rolled_back};
 
-use crate::ask::Ask;
+use crate::ask::{Ask, Wanted};
 use crate::branch::Branch;
 use crate::done::Ending;
 use std::alloc::{AllocError, Global};
-use xa_words::{Code, ManagerSet, Op, Xid};
+use xa_words::{Code, ManagerSet};
 
 fn is_yes(code: Code) -> bool
     ensures { result ≡ is_yes code }
@@ -63,28 +66,28 @@ pub(crate) fn is_decided(code: Code) -> bool
     matches!(code, Code::HeurRb | Code::HeurCom)
 }
 
-// The second request of a branch with this vote.
-fn second_op(commit: bool, xid: &Xid, vote: Code) -> Option<Op>
-    ensures { result ≡ second_op commit xid.now vote }
+// What is wanted second of a branch with this vote.
+fn wanted_second(commit: bool, vote: Code) -> Option<Wanted>
+    ensures { (x : XidName) → option_map (op_of x) result ≡ second_op commit x vote }
 {
     if commit {
         if is_yes(vote) {
-            return Some(Op::Commit(*xid, false));
+            return Some(Wanted::Commit);
         }
         return None;
     }
     if is_read(vote) || is_rolled_back(vote) || is_out_of_reach(vote) {
         return None;
     }
-    Some(Op::Rollback(*xid))
+    Some(Wanted::Rollback)
 }
 
-// The third request of a branch with this second code.
-fn third_op(xid: &Xid, second: Option<Code>) -> Option<Op>
-    ensures { result ≡ third_op xid.now second }
+// What is wanted third of a branch with this second code.
+fn wanted_third(second: Option<Code>) -> Option<Wanted>
+    ensures { (x : XidName) → option_map (op_of x) result ≡ third_op x second }
 {
     match second {
-        Some(code) if is_decided(code) => Some(Op::Forget(*xid)),
+        Some(code) if is_decided(code) => Some(Wanted::Forget),
         _ => None,
     }
 }
@@ -169,7 +172,7 @@ pub(crate) fn first_round(alloc: Global, branches: &[Branch]) -> Result<Vec<Ask>
             manager: branch.m,
             xid: branch.xid,
             vote: Code::RmFail,
-            op: Some(Op::Prepare(branch.xid)),
+            wanted: Some(Wanted::Prepare),
             code: None,
         });
     }
@@ -193,7 +196,7 @@ fn ask_second(ask: &mut Ask, commit: bool)
 {
     let vote = code_of(ask);
     ask.vote = vote;
-    ask.op = second_op(commit, &ask.xid, vote);
+    ask.wanted = wanted_second(commit, vote);
     ask.code = None;
 }
 
@@ -201,7 +204,7 @@ fn ask_second(ask: &mut Ask, commit: bool)
 fn ask_third(ask: &mut Ask)
     ensures { ask.new ≡ third_ask ask.old }
 {
-    ask.op = third_op(&ask.xid, ask.code);
+    ask.wanted = wanted_third(ask.code);
     ask.code = None;
 }
 

@@ -2,11 +2,10 @@
 use Rattle.std.proofs.Common.{◌≡◌, List, map, sym, ap, ◌∙◌, subst}
 use Rattle.xa_desk.specs.LedgerView.{LedgerView}
 use Rattle.xa_desk.specs.DeskView.{DeskView}
-use Rattle.xa_driver.specs.declared.ask.Ask.{Ask}
 use Rattle.xa_driver.specs.declared.round.Round.{Round}
 use Rattle.xa_driver.specs.declared.stages.Told.{Told}
 use Rattle.xa_driver.specs.declared.stages.Forgetting.{Forgetting}
-use Rattle.xa_driver.specs.Asks.{HaveComeSoFar, SameAsks}
+use Rattle.xa_driver.specs.Asks.{Ask, HaveComeSoFar, SameAsks}
 use Rattle.xa_driver.specs.Rounds.{third_ask}
 use Rattle.xa_driver.specs.Stages.{IsForgetting}
 use Rattle.xa_driver.specs.UnderWay.{IsUnderWay}

@@ -56,10 +56,9 @@ fn plan_of(rt: &impl Abort, alloc: Global, managers: u32) -> Plan {
     let accounts = [(key(rt), 5)];
     Plan {
         opening: 7,
-        threads: 2,
         queue: 1,
         requests: 16,
-        ..xa_testing::plan_of(alloc, managers, &accounts).expect(rt, "memory")
+        ..Plan::uniform(alloc, 2, managers, &accounts).expect(rt, "memory")
     }
 }
 

@@ -78,7 +78,7 @@ fn a_full_lane_refuses_a_submit_and_delays_a_call(rt: HostRuntime) {
     let number = kept(&rt, &mut desk, 1, Op::CloseRm);
     assert!(rt; refusal(&rt, &mut desk, 1, Op::OpenRm) == Refused::Full);
     assert!(rt; desk.free() == 1 && desk.room(1) == 3);
-    let answer = desk.call(&rt, 1, Op::OpenRm, &mut managers);
+    let answer = desk.call(&rt, 1, &Op::OpenRm, &mut managers);
     assert!(rt; answer == Ok(Code::Done));
     // One idle for room in the queue, and one for the completion.
     assert!(rt; managers.idled == 2);

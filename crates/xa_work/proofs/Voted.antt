@@ -12,11 +12,10 @@ use Rattle.xa_words.specs.declared.request.Op.{Op}
 use Rattle.xa_words.specs.declared.request.Op.TheVariants.{Prepare}
 use Rattle.xa_desk.specs.LedgerView.{LedgerView}
 use Rattle.xa_desk.specs.DeskView.{DeskView, ledger}
-use Rattle.xa_driver.specs.declared.ask.Ask.{Ask}
 use Rattle.xa_driver.specs.declared.branch.Branch.{Branch}
 use Rattle.xa_driver.specs.declared.done.Done.{Done}
 use Rattle.xa_driver.specs.declared.done.Ending.{Ending}
-use Rattle.xa_driver.specs.Asks.{EachAsk, SameAsks}
+use Rattle.xa_driver.specs.Asks.{Ask, EachAsk, SameAsks}
 use Rattle.xa_driver.specs.Course.{AsksFor, AtBranch}
 use Rattle.xa_driver.specs.Deaths.{CameTo, HaveAsked, HaveTold, PutsLedger, Tells, VotesAndObeys, sent, to_come, withheld}
 use Rattle.xa_driver.specs.Endings.{second_op, third_op}

@@ -166,10 +166,9 @@ fn plan_of_both(rt: &impl Abort, alloc: Global) -> Plan {
     };
     let accounts = [(a, 10), (b, 10)];
     Plan {
-        threads: 2,
         handles: 2,
         requests: 16,
-        ..xa_testing::plan_of(alloc, 2, &accounts).expect(rt, "memory")
+        ..Plan::uniform(alloc, 2, 2, &accounts).expect(rt, "memory")
     }
 }
 

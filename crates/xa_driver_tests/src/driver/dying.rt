@@ -183,7 +183,7 @@ fn decide<R: Wait>(rt: &R, desk: &mut Desk, xid: Xid, commits: bool, idle: &mut 
         → All (λ op. is_heur op ≡ true) (ledger desk.new.ledgers m).sent }
     ensures idled { map seat_of_worker idle.new ≡ map seat_of_worker idle.old }
 {
-    let _ = desk.call(rt, 2, Op::Heur(xid, commits), idle);
+    let _ = desk.call(rt, 2, &Op::Heur(xid, commits), idle);
 }
 
 // As it idles for the first time the branches have been asked to prepare. Manager 2 answers that, and then the second

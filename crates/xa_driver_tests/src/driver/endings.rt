@@ -28,7 +28,7 @@ impl Meddler {
         for _turn in 0..TURNS {
             self.workers.idle(rt, 2);
         }
-        let _answer = self.second.call(rt, 2, self.op, &mut self.workers);
+        let _answer = self.second.call(rt, 2, &self.op, &mut self.workers);
     }
 }
 

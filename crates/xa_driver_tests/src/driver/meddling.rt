@@ -35,7 +35,7 @@ impl Idle for Meddler {
     fn idle<R: Wait>(&mut self, rt: &R, manager: u32) {
         self.idled = self.idled.saturating_add(1);
         if self.idled == self.at {
-            if let Ok(ticket) = self.second.submit(rt, 2, self.op) {
+            if let Ok(ticket) = self.second.submit(rt, 2, &self.op) {
                 self.second.keep(ticket);
             }
         }

@@ -60,7 +60,7 @@ fn shut<R: Wait>(rt: &R, desk: &mut Desk, idle: &mut Turns)
         → All (λ op. op ≡ Shut) (ledger desk.new.ledgers m).sent }
     ensures idled { map seat_of_worker idle.new ≡ map seat_of_worker idle.old }
 {
-    let _ = desk.call(rt, 2, Op::Shut, idle);
+    let _ = desk.call(rt, 2, &Op::Shut, idle);
 }
 
 // As it idles for the first time the second thread shuts manager 2. Then, as each time, the worker that is waited for

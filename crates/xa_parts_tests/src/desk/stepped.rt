@@ -213,7 +213,7 @@ pub(crate) fn sent<R: Wait + Abort>(rt: &R, desk: &mut Desk, manager: u32, op: O
     ensures fresh { (older : TicketView) → Owns desk.old older → older.operation ≢ result.operation }
     ensures goes_on { GoesOn desk.old desk.new }
 {
-    match desk.submit(rt, manager, op) {
+    match desk.submit(rt, manager, &op) {
         Ok(ticket) => ticket,
         Err(why) => panic!(rt; "refused: {why:?}"),
     }
@@ -227,7 +227,7 @@ pub(crate) fn kept<R: Wait + Abort>(rt: &R, desk: &mut Desk, manager: u32, op: O
 
 /// Why a request is refused.
 pub(crate) fn refusal<R: Wait + Abort>(rt: &R, desk: &mut Desk, manager: u32, op: Op) -> Refused {
-    match desk.submit(rt, manager, op) {
+    match desk.submit(rt, manager, &op) {
         Ok(ticket) => {
             desk.keep(ticket);
             panic!(rt; "sent");

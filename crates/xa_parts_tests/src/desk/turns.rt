@@ -33,7 +33,7 @@ impl Standing {
 
 // Sends a request and keeps it, or is refused for the reason that holds.
 fn submit<R: Wait + Abort>(rt: &R, desk: &mut Desk, standing: &mut Standing, turn: u32) {
-    match desk.submit(rt, 1, Op::OpenRm) {
+    match desk.submit(rt, 1, &Op::OpenRm) {
         Ok(ticket) => {
             desk.keep(ticket);
             assert!(rt; standing.refusal().is_none(), "sent in turn {turn}");

@@ -56,7 +56,7 @@ fn submitted<R: Wait + Abort>(rt: &R, desk: &mut Desk, manager: u32) -> Ticket
     ensures tickets { LeavesTickets desk.old desk.new }
     ensures fresh { (older : TicketView) → Owns desk.old older → older.operation ≢ result.operation }
 {
-    match desk.submit(rt, manager, Op::OpenRm) {
+    match desk.submit(rt, manager, &Op::OpenRm) {
         Ok(ticket) => ticket,
         Err(_) => panic!(rt; "manager {manager} is asked"),
     }

@@ -6,8 +6,7 @@ use Rattle.xa_driver.specs.Trace.{AppendsOnce, IsTraceOfCommit}
 use Rattle.xa_driver.proofs.Idling.{all_idle}
 use Rattle.xa_driver.proofs.Calls.{one_tran}
 use Rattle.xa_driver.proofs.OneCall.{asks_log, lost_log, may_forget, may_tell, stages_call}
-use Rattle.xa_driver.specs.declared.ask.Ask.{Ask}
-use Rattle.xa_driver.specs.Asks.{SameAsks}
+use Rattle.xa_driver.specs.Asks.{Ask, SameAsks}
 use Rattle.xa_driver.specs.Rounds.{first_ask, second_ask, third_ask}
 use Rattle.xa_driver.proofs.Ordering.{same_in_order}
 use Rattle.xa_driver.proofs.Staying.{rest_chain, rest_same}

@@ -1,9 +1,8 @@
 use Rattle.std.proofs.Common.{◌≡◌, List, length, map, refl, sym, ap, ◌∙◌, subst, arith}
 use Rattle.std.proofs.lemmas.List.{length-map}
 use Rattle.xa_words.specs.Tran.{tran_of}
-use Rattle.xa_driver.specs.declared.ask.Ask.{Ask}
 use Rattle.xa_driver.specs.declared.branch.Branch.{Branch}
-use Rattle.xa_driver.specs.Asks.{AllCanAsk, AreRising, SameAsks}
+use Rattle.xa_driver.specs.Asks.{Ask, AllCanAsk, AreRising, SameAsks}
 use Rattle.xa_driver.specs.Rounds.{first_ask}
 use Rattle.xa_driver.specs.Trace.{IsTranOf}
 use Rattle.xa_driver.proofs.Calls.{first_can, first_rising, tran_first}

@@ -1,6 +1,5 @@
 use Rattle.std.proofs.Common.{◌≡◌, ◌+◌, length, take, List}
-use Rattle.xa_driver.specs.declared.ask.Ask.{Ask}
-use Rattle.xa_driver.specs.Asks.{SameAsks, among_asks}
+use Rattle.xa_driver.specs.Asks.{Ask, SameAsks, among_asks}
 use Rattle.xa_driver.specs.Idling.{IdlesAt}
 use Rattle.xa_driver.specs.Order.{CollectsFirst}
 use Rattle.xa_driver.specs.Steps.{asked_in}

@@ -1,8 +1,7 @@
 use Rattle.std.proofs.Common.{◌≡◌, refl, sym, ap, ◌∙◌, subst, Some, set}
 use Rattle.std.specs.List.{slice_get}
 use Rattle.std.proofs.lemmas.Option.{slice_get-get_or}
-use Rattle.xa_driver.specs.declared.ask.Ask.{Ask}
-use Rattle.xa_driver.specs.Asks.{Ends}
+use Rattle.xa_driver.specs.Asks.{Ask, Ends, IsSameAsk}
 use Rattle.xa_driver.specs.UnderWay.{coded, next_ticket}
 use Rattle.xa_driver.proofs.Gathering.{same_set}
 use Rattle.xa_driver.proofs.Stepping.{first_one, flight_owned, matched_some, one_more_collected, place_is, place_within}
@@ -23,7 +22,7 @@ returns-clause-under_way g c =
     let is_mut : c.index_mut.result.now ≡ one.0 =
     c.index_mut.ensures.value ∙ place_is r desk c.requires c.in-Some.ticket ts c.in-Some.ensures.items c.index_mut.result.now in
     one_more_collected r desk c.requires c.in-Some.ticket ts c.in-Some.ensures.items c.end-code.result c.end-code.new.desk (subst (λ (k : Ask). Ends k desk c.end-code.new.desk c.in-Some.ticket c.end-code.result) is c.end-code.ensures.ended) _
-    refl (ap (λ (k : Ask). set r.asks.items r.collected (coded k c.end-code.result)) is_mut) refl refl c.in-Some.ensures.capacity
+    refl (ap (set r.asks.items r.collected) c.enter.ensures ∙ ap (λ (k : Ask). set r.asks.items r.collected (coded k c.end-code.result)) is_mut) refl refl c.in-Some.ensures.capacity
 
 pub returns-clause-collects : goal.returns-clause-collects
 returns-clause-collects g c =
@@ -41,7 +40,7 @@ returns-clause-collects g c =
         place = slice_get-get_or r.asks.items r.collected c.index.result.now within ∙ ap (λ k. Some k) (sym c.index.ensures);
         code = c.end-code.result;
         ended = c.end-code.ensures.ended;
-        asks = ap (λ (k : Ask). set r.asks.items r.collected (coded k c.end-code.result)) same;
+        asks = ap (set r.asks.items r.collected) c.enter.ensures ∙ ap (λ (k : Ask). set r.asks.items r.collected (coded k c.end-code.result)) same;
         tickets = c.in-Some.ensures.items;
         left = c.end-code.ensures.others;
         collected = refl;
@@ -50,7 +49,7 @@ returns-clause-collects g c =
 
 pub returns-clause-same : goal.returns-clause-same
 returns-clause-same g c js s =
-    same_set js c.args.self.now.asks.items c.args.self.now.collected c.index_mut.result.now _ c.index_mut.ensures.value (record { manager = refl; xid = refl; vote = refl; op = refl }) s
+    same_set js c.args.self.now.asks.items c.args.self.now.collected c.index_mut.result.now _ c.index_mut.ensures.value (subst (IsSameAsk c.index_mut.result.now) (sym c.enter.ensures) (record { manager = refl; xid = refl; vote = refl; op = refl })) s
 
 pub returns-clause-waited : goal.returns-clause-waited
 returns-clause-waited g c =

@@ -1,6 +1,6 @@
 use Rattle.std.proofs.Common.{◌≢◌, ◌∙◌, arith, length, sym}
 use Rattle.std.proofs.lemmas.Bool.{eqb-false}
-use Rattle.xa_driver.proofs.Passing.{none_by, unasked_is}
+use Rattle.xa_driver.proofs.Passing.{unasked_is}
 use Rattle.xa_driver.proofs.round.Round.is_unasked.Goals as goal
 
 pub returns-then-not-is_empty : goal.returns-then-not-is_empty
@@ -8,4 +8,4 @@ returns-then-not-is_empty c =
     let r = c.args.self.now in
     let some : length r.tickets.items ≢ 0 =
     λ e. eqb-false _ 0 (sym c.is_empty.ensures ∙ c.if-not-is_empty.true) (let b = r.tickets.ok.0 in omega (arith, b, e)) in
-    unasked_is r c.requires.0 c.is_none.result c.index.result.now c.requires.1 some c.index.ensures (none_by c.index.result.now.op c.is_none.result c.is_none.ensures)
+    unasked_is r c.requires.0 c.is_passed.result c.index.result.now c.requires.1 some c.index.ensures c.is_passed.ensures
