@@ -52,6 +52,8 @@ class File:
     def __init__(self, path):
         self.path = path
         self.module = ".".join(("Rattle", *path.relative_to(CRATES).with_suffix("").parts))
+        # The root file above it, which may pass its lemmas on.
+        self.root = self.module.rpartition(".")[0]
         self.lines = path.read_text().splitlines()
         self.lemmas = list(self._lemmas())
         self.imports, self.named = [], defaultdict(set)
@@ -97,7 +99,7 @@ class File:
         if lemma.file is self:
             return not self.named[lemma.name] <= set(lemma.lines)
         for module, names, alias in self.imports:
-            if module != lemma.file.module:
+            if module != lemma.file.module and (names is None or module != lemma.file.root):
                 continue
             if names is None:
                 within = f"{alias or module.rpartition('.')[2]}.{lemma.name}"
@@ -132,7 +134,7 @@ def unused(known):
         if file.path.name != "Invariants.antt"
         for lemma in file.lemmas
         if not lemma.answers_a_goal
-        if not any(other.names(lemma) for other in (file, *importing[file.module]))
+        if not any(other.names(lemma) for other in (file, *importing[file.module], *importing[file.root]))
         if f"::proofs::{file.path.stem}::{lemma.name}" not in clauses
     ]
 

@@ -1,33 +1,18 @@
 -- A leg that worked has added its delta by the place of its branch's Prepare.
-use Rattle.std.specs.Prelude.{ℤ, pos, if◌then◌else◌}
-use Rattle.std.proofs.Common.{◌≡◌, ◌≢◌, ℕ, suc, ◌+◌, true, false, ◌&&◌, ◌==◌, cond, List, [], ◌∷◌, ◌++◌, length, length-append, append_assoc, get_or, slice_get}
-use Rattle.std.proofs.Common.{sym, refl, ap, ◌∙◌, subst, arith, Some, eq-eqb}
-use Rattle.std.specs.List.{All}
-use Rattle.std.proofs.lemmas.Bool.{ne_eqb, eq-eqb}
-use Rattle.std.proofs.lemmas.List.Elements.{All-tail, filter-append}
-use Rattle.xa_base.proofs.Lists.{some_same, all_left, all_right}
-use Rattle.xa_words.specs.Xid.{XidName}
+use Rattle.xa_base.proofs.{ℤ, pos, if◌then◌else◌, ◌≡◌, ◌≢◌, ℕ, suc, ◌+◌, true, false, ◌&&◌, ◌==◌, cond, List, [], ◌∷◌, ◌++◌, length, length-append}
+use Rattle.xa_base.proofs.{append_assoc, get_or, slice_get, sym, refl, ap, ◌∙◌, subst, arith, Some, eq-eqb, All, ne_eqb, All-tail, filter-append, some_same}
+use Rattle.xa_base.proofs.{all_left, all_right}
+use Rattle.xa_words.specs.{XidName, Done, Op, Start, Add, End, Fresh, Success, Request}
 use Rattle.xa_words.specs.declared.code.Code.{Code}
-use Rattle.xa_words.specs.declared.code.Code.TheVariants.{Done}
-use Rattle.xa_words.specs.declared.request.Op.{Op}
-use Rattle.xa_words.specs.declared.request.Op.TheVariants.{Start, Add, End}
-use Rattle.xa_words.specs.declared.request.StartHow.TheVariants.{Fresh}
-use Rattle.xa_words.specs.declared.request.EndHow.TheVariants.{Success}
-use Rattle.xa_words.specs.declared.request.Request.{Request}
 use Rattle.xa_tables.specs.Tables.{Tables}
-use Rattle.xa_tables.specs.Next.{next}
-use Rattle.xa_tables.specs.History.{History, of_thread, tables_after, coded}
-use Rattle.xa_tables.specs.Openings.{IsOpening}
-use Rattle.xa_tables.specs.Prepared.{names, NamesNowhere}
-use Rattle.xa_tables.specs.Work.{request, LeavesAtWork, DoesWork, AddsAsItWorks}
-use Rattle.xa_tables.specs.Worth.{added_by_now}
+use Rattle.xa_tables.specs.{next, of_thread, tables_after, coded, IsOpening, names, NamesNowhere, request, LeavesAtWork, DoesWork, AddsAsItWorks, added_by_now}
+use Rattle.xa_tables.specs.History.{History}
 use Rattle.xa_tables.proofs.Unnamed.{tables_after-append}
-use Rattle.xa_desk.specs.Lanes.{numbered}
-use Rattle.xa_worker.specs.Journal.{Entry}
-use Rattle.xa_switch.specs.Settling.{Settling, IsSettled, sent, journal, answers}
-use Rattle.xa_switch.specs.Fates.{IsOpenedWith, history}
-use Rattle.xa_atomicity.specs.Conservation.{taken_before}
-use Rattle.xa_atomicity.specs.Outcomes.{IsBetween}
+use Rattle.xa_desk.specs.{numbered}
+use Rattle.xa_worker.specs.{Entry}
+use Rattle.xa_switch.specs.Settling.{Settling}
+use Rattle.xa_switch.specs.{IsSettled, sent, journal, answers, IsOpenedWith, history}
+use Rattle.xa_atomicity.specs.{taken_before, IsBetween}
 use Rattle.xa_atomicity.proofs.Requests.{all_earlier}
 use Rattle.xa_atomicity.proofs.Placing.{request_of, Parted, part, all_others, answer_at, numbered_both}
 use Rattle.xa_driver.proofs.Ledgers.{numbered_length}

@@ -1,35 +1,20 @@
 -- A day whose transfers end whole conserves what all accounts are worth together.
-use Rattle.std.specs.Prelude.{ℤ, pos, ◌+ℤ◌, All}
-use Rattle.std.proofs.Common.{◌≡◌, ℕ, ◌+◌, ◌-◌, ◌^◌, ◌<◌, ◌≤◌, ◌⊎◌, ⊎_elim, Bool, List, length, subst, inl, inr, arith, false}
-use Rattle.std.specs.List.{list_any}
-use Rattle.std.proofs.lemmas.Int.{ints}
-use Rattle.std.proofs.lemmas.Bool.{cases_lt}
-use Rattle.xa_base.specs.Sums.{total}
-use Rattle.xa_base.proofs.Lists.{all_at, all_right}
-use Rattle.xa_base.proofs.Sums.{total_nothing}
-use Rattle.xa_words.specs.Tran.{TranName}
-use Rattle.xa_words.specs.Xid.{XidName}
+use Rattle.xa_base.proofs.{ℤ, pos, ◌+ℤ◌, All, ◌≡◌, ℕ, ◌+◌, ◌-◌, ◌^◌, ◌<◌, ◌≤◌, ◌⊎◌, ⊎_elim, Bool, List, length, subst, inl, inr, arith, false, list_any, ints}
+use Rattle.xa_base.proofs.{cases_lt, all_at, all_right, total_nothing}
+use Rattle.xa_base.specs.{total}
+use Rattle.xa_words.specs.{TranName, XidName}
 use Rattle.xa_tables.specs.Tables.{Tables}
-use Rattle.xa_tables.specs.Managers.{opening}
+use Rattle.xa_tables.specs.{opening, IsOpening, AddsAsItWorks}
 use Rattle.xa_tables.specs.History.{History}
-use Rattle.xa_tables.specs.Openings.{IsOpening}
-use Rattle.xa_tables.specs.Work.{AddsAsItWorks}
 use Rattle.xa_desk.specs.LedgerView.{LedgerView}
-use Rattle.xa_switch.specs.declared.plan.Plan.{Plan}
-use Rattle.xa_switch.specs.Fates.{IsOpenedWith, ledgers_of}
-use Rattle.xa_switch.specs.OfPlans.{IsOfPlan}
-use Rattle.xa_switch.specs.Plans.{IsSound, IsSoundManager, planned}
-use Rattle.xa_switch.specs.Settling.{Settling, IsSettled}
-use Rattle.xa_switch.specs.Worth.{accounts_of, plan_worth, settled_worth, threads_of}
-use Rattle.xa_driver.specs.declared.branch.Branch.{Branch}
-use Rattle.xa_driver.specs.declared.done.Done.{Done}
-use Rattle.xa_atomicity.specs.Conservation.{OnlyTransfers, held_in_doubt}
-use Rattle.xa_atomicity.specs.Outcomes.{is_in_doubt}
-use Rattle.xa_log.specs.Log.{IsReadAs, LogState}
-use Rattle.xa_crew.specs.declared.client_job.Attended.{Attended}
-use Rattle.xa_crew.specs.Run.{IsRun}
-use Rattle.xa_bank.specs.declared.teller.Teller.{Teller}
-use Rattle.xa_bank.specs.Tellers.{EndsWhole, HasMade, IsUndoubted, Works}
+use Rattle.xa_switch.specs.{Plan, IsOpenedWith, ledgers_of, IsOfPlan, IsSound, IsSoundManager, planned, IsSettled, accounts_of, plan_worth, settled_worth}
+use Rattle.xa_switch.specs.{threads_of}
+use Rattle.xa_switch.specs.Settling.{Settling}
+use Rattle.xa_driver.specs.{Branch, Done}
+use Rattle.xa_atomicity.specs.{OnlyTransfers, held_in_doubt, is_in_doubt}
+use Rattle.xa_log.specs.{IsReadAs, LogState}
+use Rattle.xa_crew.specs.{Attended, IsRun}
+use Rattle.xa_bank.specs.{Teller, EndsWhole, HasMade, IsUndoubted, Works}
 use Rattle.xa_bank.proofs.Members.{MemberAt, member_at, nobody_else}
 use Rattle.xa_bank.proofs.Only.{all_told, only_transfers}
 use Rattle.xa_bank.proofs.Told.{IsTold}

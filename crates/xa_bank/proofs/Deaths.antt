@@ -1,30 +1,18 @@
 -- A commit whose coordinator died once all branches were told was made, where no ending tells a decision of a store's own.
-use Rattle.std.proofs.Common.{◌≡◌, Bool, true, false, ◌||◌, Option, Some, None, List, [], ◌∷◌, refl, sym, ap, ◌∙◌, subst}
-use Rattle.std.specs.List.{list_any}
-use Rattle.std.proofs.lemmas.Bool.{or_parts}
-use Rattle.xa_base.proofs.Truth.{by_if, at_true, at_false}
-use Rattle.xa_words.specs.Xid.{XidName}
+use Rattle.xa_base.proofs.{◌≡◌, Bool, true, false, ◌||◌, Option, Some, None, List, [], ◌∷◌, refl, sym, ap, ◌∙◌, subst, list_any, or_parts, by_if, at_true}
+use Rattle.xa_base.proofs.{at_false}
+use Rattle.xa_words.specs.{XidName, HeurRb, HeurCom, Op, Forget}
 use Rattle.xa_words.specs.declared.code.Code.{Code}
-use Rattle.xa_words.specs.declared.code.Code.TheVariants.{HeurRb, HeurCom}
 use Rattle.xa_words.specs.declared.death.Death.TheVariants as death
-use Rattle.xa_words.specs.declared.request.Op.{Op}
-use Rattle.xa_words.specs.declared.request.Op.TheVariants.{Forget}
-use Rattle.xa_tables.specs.History.{is_rolled_back}
+use Rattle.xa_tables.specs.{is_rolled_back}
 use Rattle.xa_desk.specs.LedgerView.{LedgerView}
-use Rattle.xa_desk.specs.DeskView.{DeskView, ledger}
-use Rattle.xa_driver.specs.declared.branch.Branch.{Branch}
-use Rattle.xa_driver.specs.declared.done.Done.{Done}
-use Rattle.xa_driver.specs.declared.done.Ending.{Ending}
-use Rattle.xa_driver.specs.declared.done.Ending.TheVariants.{Heuristic}
-use Rattle.xa_driver.specs.Course.{AsksFor, AtBranch}
-use Rattle.xa_driver.specs.Deaths.{VotesAndObeys}
-use Rattle.xa_driver.specs.Decision.{is_read, is_yes}
-use Rattle.xa_driver.specs.Endings.{second_op, third_op, ending_of, yes_ending, no_ending, is_decided, is_out_of_reach}
-use Rattle.xa_driver.specs.Resolving.{AsksLedger}
-use Rattle.xa_driver.specs.Trace.{EachBranch, IsCommit}
-use Rattle.xa_log.specs.Log.{LogState}
-use Rattle.xa_atomicity.specs.Outcomes.{is_heuristic}
-use Rattle.xa_work.specs.Units.{IsDeath}
+use Rattle.xa_desk.specs.DeskView.{DeskView}
+use Rattle.xa_desk.specs.{ledger}
+use Rattle.xa_driver.specs.{Branch, Done, Ending, Heuristic, AsksFor, AtBranch, VotesAndObeys, is_read, is_yes, second_op, third_op, ending_of, yes_ending}
+use Rattle.xa_driver.specs.{no_ending, is_decided, is_out_of_reach, AsksLedger, EachBranch, IsCommit}
+use Rattle.xa_log.specs.{LogState}
+use Rattle.xa_atomicity.specs.{is_heuristic}
+use Rattle.xa_work.specs.{IsDeath}
 
 -- a decision that a store keeps is told by the ending
 yes_heuristic : (commit : Bool) (c : Code) → is_decided c ≡ true → yes_ending commit (Some c) ≡ Heuristic c

@@ -1,20 +1,12 @@
 -- The work of a transfer's two legs: each has one addition.
-use Rattle.std.proofs.Common.{◌≡◌, ◌≢◌, ℕ, ◌+◌, true, false, ◌==◌, cond, List, [], ◌∷◌, ◌++◌, length, map, sym, refl, ap, ◌∙◌, arith, eq-eqb}
-use Rattle.std.specs.List.{range_with_len}
-use Rattle.std.proofs.lemmas.Bool.{ne_eqb}
-use Rattle.xa_words.specs.declared.code.Code.TheVariants.{Done as Ok_}
-use Rattle.xa_words.specs.declared.request.Op.{Op}
-use Rattle.xa_words.specs.declared.request.Op.TheVariants.{Start, Add, End}
-use Rattle.xa_words.specs.declared.request.StartHow.TheVariants.{Fresh}
-use Rattle.xa_words.specs.declared.request.EndHow.TheVariants.{Success}
-use Rattle.xa_base.proofs.Lists.{all_at}
-use Rattle.xa_driver.specs.declared.branch.Branch.{Branch}
+use Rattle.xa_base.proofs.{◌≡◌, ◌≢◌, ℕ, ◌+◌, true, false, ◌==◌, cond, List, [], ◌∷◌, ◌++◌, length, map, sym, refl, ap, ◌∙◌, arith, eq-eqb, range_with_len}
+use Rattle.xa_base.proofs.{ne_eqb, all_at}
+use Rattle.xa_words.specs.{Done as Ok_, Op, Start, Add, End, Fresh, Success}
+use Rattle.xa_driver.specs.{Branch}
 use Rattle.xa_desk.specs.LedgerView.{LedgerView}
-use Rattle.xa_desk.specs.DeskView.{ledger}
-use Rattle.xa_work.specs.declared.unit.Change.{Change}
-use Rattle.xa_work.specs.Works.{HasWorked, HaveWorked, changes_at, ops_of}
-use Rattle.xa_bank.specs.Transfers.{Leg}
-use Rattle.xa_bank.specs.Transfers.{branches_of, change_of, changes_of}
+use Rattle.xa_desk.specs.{ledger}
+use Rattle.xa_work.specs.{Change, HasWorked, HaveWorked, changes_at, ops_of}
+use Rattle.xa_bank.specs.{Leg, branches_of, change_of, changes_of}
 
 -- a leg, for laws of other crates
 abbrev pub AnyLeg : Type 0

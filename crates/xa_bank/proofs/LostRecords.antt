@@ -1,19 +1,12 @@
 -- What a log may be read as matters only to a transfer of which nobody knows whether its record was made.
-use Rattle.std.proofs.Common.{◌≡◌, ℕ, ◌+◌, Bool, false, List, [], ◌∷◌}
-use Rattle.std.specs.List.{list_any}
-use Rattle.std.proofs.lemmas.Bool.{or_parts}
-use Rattle.xa_words.specs.Tran.{TranName}
+use Rattle.xa_base.proofs.{◌≡◌, ℕ, ◌+◌, Bool, false, List, [], ◌∷◌, list_any, or_parts}
+use Rattle.xa_words.specs.{TranName}
 use Rattle.xa_words.specs.declared.code.Code.{Code}
 use Rattle.xa_desk.specs.DeskView.{DeskView}
-use Rattle.xa_driver.specs.Decision.{yes_of}
-use Rattle.xa_driver.specs.declared.branch.Branch.{Branch}
-use Rattle.xa_log.specs.Log.{IsReadAs, LogState}
-use Rattle.xa_work.specs.declared.unit.WorkOutcome.{WorkOutcome}
-use Rattle.xa_work.specs.declared.unit.WorkOutcome.TheVariants.{Decided, Died, Refused, Undecided}
-use Rattle.xa_work.specs.Units.{IfLost, LeavesKnown, Loses, is_last}
-use Rattle.xa_bank.specs.declared.habits.Habits.{Habits}
-use Rattle.xa_bank.specs.declared.teller.Transfer.{Transfer}
-use Rattle.xa_bank.specs.Transfers.{IsReadEither, Makes, MakesEach, MakesNext, with_legs, without_legs}
+use Rattle.xa_driver.specs.{yes_of, Branch}
+use Rattle.xa_log.specs.{IsReadAs, LogState}
+use Rattle.xa_work.specs.{WorkOutcome, Decided, Died, Refused, Undecided, IfLost, LeavesKnown, Loses, is_last}
+use Rattle.xa_bank.specs.{Habits, Transfer, IsReadEither, Makes, MakesEach, MakesNext, with_legs, without_legs}
 
 -- what holds where the record is lost
 pub if_so : (P : List Code → Type 0) (o : WorkOutcome) → ((votes : List Code) → P votes) → IfLost P o

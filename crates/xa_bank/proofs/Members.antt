@@ -1,32 +1,23 @@
 -- The members of a run: each worked from a desk that had sent nothing, the end of its desk sent nothing more, and no
 -- other thread sent anything.
-use Rattle.std.proofs.Common.{◌≡◌, ◌≢◌, ℕ, ◌+◌, ◌-◌, ◌<◌, ◌⊎◌, ⊎_elim, List, [], length, map, slice_get, sym, ap, ◌∙◌, subst, arith, Option}
-use Rattle.std.proofs.Common.{Some, None}
-use Rattle.std.proofs.lemmas.List.{length-map}
-use Rattle.std.proofs.lemmas.Option.{slice_get_within}
-use Rattle.xa_base.specs.Lists.{Chain}
+use Rattle.xa_base.proofs.{◌≡◌, ◌≢◌, ℕ, ◌+◌, ◌-◌, ◌<◌, ◌⊎◌, ⊎_elim, List, [], length, map, slice_get, sym, ap, ◌∙◌, subst, arith, Option, Some, None}
+use Rattle.xa_base.proofs.{length-map, slice_get_within, got_map, got, all_at, was_mapped, find_numbered, find_none}
+use Rattle.xa_base.specs.{Chain}
 use Rattle.xa_base.specs.Lists.Chain.{none, more}
-use Rattle.xa_base.proofs.Lists.{got_map, got, all_at, was_mapped, find_numbered, find_none}
-use Rattle.xa_words.specs.declared.request.Op.{Op}
+use Rattle.xa_words.specs.{Op}
 use Rattle.xa_desk.specs.LedgerView.{LedgerView}
-use Rattle.xa_desk.specs.DeskView.{DeskView, ledger, after_collected, sent_to}
-use Rattle.xa_desk.specs.Ended.{EndedView}
+use Rattle.xa_desk.specs.DeskView.{DeskView}
+use Rattle.xa_desk.specs.{ledger, after_collected, sent_to, EndedView, DeskSeat}
 use Rattle.xa_desk.specs.GoesOn.{GoesOn}
-use Rattle.xa_desk.specs.Seats.{DeskSeat}
 use Rattle.xa_desk.proofs.Fresh.{fresh_sent}
 use Rattle.xa_desk.proofs.Ledgers.{nobody_sent}
-use Rattle.xa_switch.specs.Closing.{thread_part}
-use Rattle.xa_switch.specs.Fates.{ledgers_of}
-use Rattle.xa_switch.specs.OpenedPieces.{IsNewDesk}
-use Rattle.xa_switch.specs.Plans.{Setup}
-use Rattle.xa_switch.specs.Settling.{Settling, ThreadPart, find_thread, ledgers_in, sent}
+use Rattle.xa_switch.specs.{thread_part, ledgers_of, IsNewDesk, Setup, ThreadPart, find_thread, ledgers_in, sent}
+use Rattle.xa_switch.specs.Settling.{Settling}
 use Rattle.xa_driver.proofs.AtDeath.{as_many_managers}
-use Rattle.xa_atomicity.specs.Conservation.{NothingWasSent}
-use Rattle.xa_crew.specs.declared.client_job.Attended.{Attended}
-use Rattle.xa_crew.specs.Ending.{Telling, EndsNumber}
+use Rattle.xa_atomicity.specs.{NothingWasSent}
+use Rattle.xa_crew.specs.{Attended, Telling, EndsNumber, Member, HasRun, IsRun}
 use Rattle.xa_crew.specs.Ending.EndsNumber.{kept as kept_there, free}
-use Rattle.xa_crew.specs.Run.{Member, HasRun, IsRun}
-use Rattle.xa_work.specs.Sent.{HaveSent}
+use Rattle.xa_work.specs.{HaveSent}
 use Rattle.xa_work.proofs.Sent.{have_none, have_on, one_collected}
 
 -- ---- the end of a desk sends nothing

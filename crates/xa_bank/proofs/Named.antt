@@ -1,34 +1,21 @@
 -- Which branches a teller's requests name: those of its own transfers, each in its own time.
-use Rattle.std.proofs.Common.{◌≡◌, ◌≢◌, ℕ, suc, ◌+◌, ◌*◌, ◌^◌, ◌<◌, ◌≤◌, true, false, ◌||◌, List, [], ◌∷◌, ◌++◌, length, sym, refl, ap, ◌∙◌}
-use Rattle.std.proofs.Common.{subst, arith, Option, Some, None}
-use Rattle.std.specs.Prelude.{ℤ, pos, neg_ℤ, ◌+ℤ◌}
-use Rattle.std.specs.Int.{w64, from_be_bytes}
-use Rattle.std.proofs.lemmas.Int.{ints}
+use Rattle.xa_base.proofs.{◌≡◌, ◌≢◌, ℕ, suc, ◌+◌, ◌*◌, ◌^◌, ◌<◌, ◌≤◌, true, false, ◌||◌, List, [], ◌∷◌, ◌++◌, length, sym, refl, ap, ◌∙◌, subst, arith, Option}
+use Rattle.xa_base.proofs.{Some, None, ℤ, pos, ◌+ℤ◌, w64, ints}
+use Rattle.std.specs.Prelude.{neg_ℤ}
+use Rattle.std.specs.Int.{from_be_bytes}
 use Rattle.std.proofs.lemmas.Nat.{from_be_bytes-to_be_bytes_8}
-use Rattle.xa_words.specs.Xid.{XidName, xid_eq}
-use Rattle.xa_words.specs.Orders.{Decides-xid_eq}
-use Rattle.xa_words.specs.Tran.{tran_of}
-use Rattle.xa_words.specs.declared.death.Death.{Death}
-use Rattle.xa_words.specs.declared.request.Op.{Op}
-use Rattle.xa_words.specs.declared.request.Op.TheVariants.{Shut}
-use Rattle.xa_tables.specs.Prepared.{names}
+use Rattle.xa_words.specs.{XidName, xid_eq, Decides-xid_eq, tran_of, Death, Op, Shut}
+use Rattle.xa_tables.specs.{names}
 use Rattle.xa_desk.specs.LedgerView.{LedgerView}
 use Rattle.xa_desk.specs.DeskView.{DeskView}
-use Rattle.xa_log.specs.Log.{LogState}
-use Rattle.xa_work.specs.declared.unit.WorkOutcome.{WorkOutcome}
-use Rattle.xa_work.specs.Sent.{HaveSent, IsFor, NamesOnly}
-use Rattle.xa_work.specs.Units.{ComesOfCommit}
+use Rattle.xa_log.specs.{LogState}
+use Rattle.xa_work.specs.{WorkOutcome, HaveSent, IsFor, NamesOnly, ComesOfCommit, HaveWorked}
 use Rattle.xa_work.specs.Units.Transacts.{commits, refused}
-use Rattle.xa_work.specs.Works.{HaveWorked}
 use Rattle.xa_work.proofs.Comes.{comes_named}
 use Rattle.xa_work.proofs.Named.{worked_for}
 use Rattle.xa_work.proofs.Sent.{call_sent, have_as, have_none, have_on}
-use Rattle.xa_bank.specs.declared.habits.Habits.{Habits}
-use Rattle.xa_bank.specs.Transfers.{Leg}
-use Rattle.xa_bank.specs.declared.teller.Transfer.{Transfer}
-use Rattle.xa_bank.specs.Numbered.{death_in, shut_before}
-use Rattle.xa_bank.specs.Transfers.{AreLegs, Makes, MakesEach, MakesNext, MayShut, branches_of, changes_of, gtrid_of, paid_first, pays_first, tran_named}
-use Rattle.xa_bank.specs.Transfers.{with_legs, without_legs}
+use Rattle.xa_bank.specs.{Habits, Leg, Transfer, death_in, shut_before, AreLegs, Makes, MakesEach, MakesNext, MayShut, branches_of, changes_of, gtrid_of}
+use Rattle.xa_bank.specs.{paid_first, pays_first, tran_named, with_legs, without_legs}
 
 -- ---- names of transfers
 

@@ -1,58 +1,32 @@
 -- A teller's thread makes only transfers.
-use Rattle.std.specs.Prelude.{ℤ, pos, ◌+ℤ◌}
-use Rattle.std.proofs.Common.{◌≡◌, ℕ, suc, ◌+◌, ◌-◌, ◌^◌, ◌<◌, ◌≤◌, ⊎_elim, true, false, ◌||◌, List, [], ◌∷◌, ◌++◌, length, length-append, append_assoc}
-use Rattle.std.proofs.Common.{slice_get, sym, refl, ap, ◌∙◌, subst, arith, None, Option, Some}
-use Rattle.std.specs.List.{All, list_any}
-use Rattle.std.proofs.lemmas.Int.{ints}
-use Rattle.std.proofs.lemmas.Bool.{cases_lt}
-use Rattle.std.proofs.lemmas.List.Elements.{All-nil, All-cons, All-head, All-tail, All-append, All-weaker}
-use Rattle.xa_base.proofs.Lists.{all_right}
-use Rattle.xa_words.specs.Xid.{XidName}
+use Rattle.xa_base.proofs.{ℤ, pos, ◌+ℤ◌, ◌≡◌, ℕ, suc, ◌+◌, ◌-◌, ◌^◌, ◌<◌, ◌≤◌, ⊎_elim, true, false, ◌||◌, List, [], ◌∷◌, ◌++◌, length, length-append}
+use Rattle.xa_base.proofs.{append_assoc, slice_get, sym, refl, ap, ◌∙◌, subst, arith, None, Option, Some, All, list_any, ints, cases_lt, All-nil, All-cons}
+use Rattle.xa_base.proofs.{All-head, All-tail, All-append, All-weaker, all_right}
+use Rattle.xa_words.specs.{XidName, Done as Ok_, Death, Op}
 use Rattle.xa_words.specs.declared.code.Code.{Code}
-use Rattle.xa_words.specs.declared.code.Code.TheVariants.{Done as Ok_}
-use Rattle.xa_words.specs.declared.death.Death.{Death}
 use Rattle.xa_words.specs.declared.death.Death.TheVariants as death
-use Rattle.xa_words.specs.declared.request.Op.{Op}
 use Rattle.xa_tables.specs.Tables.{Tables}
-use Rattle.xa_tables.specs.Managers.{opening}
+use Rattle.xa_tables.specs.{opening, IsOpening, names, AddsAsItWorks}
 use Rattle.xa_tables.specs.History.{History}
-use Rattle.xa_tables.specs.Openings.{IsOpening}
-use Rattle.xa_tables.specs.Prepared.{names}
-use Rattle.xa_tables.specs.Work.{AddsAsItWorks}
 use Rattle.xa_desk.specs.LedgerView.{LedgerView}
-use Rattle.xa_desk.specs.DeskView.{DeskView, ledger}
-use Rattle.xa_desk.specs.Growth.{HaveGrown}
+use Rattle.xa_desk.specs.DeskView.{DeskView}
+use Rattle.xa_desk.specs.{ledger, HaveGrown}
 use Rattle.xa_desk.proofs.Ledgers.{past_end}
-use Rattle.xa_switch.specs.declared.plan.Plan.{Plan}
-use Rattle.xa_switch.specs.Settling.{Settling, IsSettled, sent, journal, answers}
-use Rattle.xa_switch.specs.Fates.{IsOpenedWith, history, ledgers_of}
-use Rattle.xa_switch.specs.Worth.{accounts_of}
-use Rattle.xa_driver.specs.declared.branch.Branch.{Branch}
-use Rattle.xa_driver.specs.declared.done.Done.{Done}
-use Rattle.xa_driver.specs.Commits.{is_commit, NoCommitWasSent}
-use Rattle.xa_log.specs.Log.{LogState}
-use Rattle.xa_atomicity.specs.Outcomes.{AreLeftAlone, OnlyTheseName, is_in_doubt, sent_so_far}
-use Rattle.xa_driver.specs.Deaths.{HaveAsked, PutsLedger}
-use Rattle.xa_driver.specs.Resolving.{AsksLedger}
-use Rattle.xa_driver.specs.Trace.{IsCommit}
-use Rattle.xa_atomicity.specs.Conservation.{added_before, added_by_all, held_in_doubt, NothingWasSent, OnlyTransfers, opened, worked, committed}
+use Rattle.xa_switch.specs.{Plan, IsSettled, sent, journal, answers, IsOpenedWith, history, ledgers_of, accounts_of}
+use Rattle.xa_switch.specs.Settling.{Settling}
+use Rattle.xa_driver.specs.{Branch, Done, is_commit, NoCommitWasSent, HaveAsked, PutsLedger, AsksLedger, IsCommit}
+use Rattle.xa_log.specs.{LogState}
+use Rattle.xa_atomicity.specs.{AreLeftAlone, OnlyTheseName, is_in_doubt, sent_so_far, added_before, added_by_all, held_in_doubt, NothingWasSent, OnlyTransfers}
+use Rattle.xa_atomicity.specs.{opened, worked, committed}
 use Rattle.xa_atomicity.proofs.Settled.{by_ledger}
-use Rattle.xa_work.specs.declared.unit.WorkOutcome.{WorkOutcome}
-use Rattle.xa_work.specs.declared.unit.WorkOutcome.TheVariants.{Decided}
-use Rattle.xa_work.specs.Sent.{HasSent, HaveSent, IsFor, IsOpenRm}
-use Rattle.xa_work.specs.Units.{ComesOfCommit, IsDeath}
+use Rattle.xa_work.specs.{WorkOutcome, Decided, HasSent, HaveSent, IsFor, IsOpenRm, ComesOfCommit, IsDeath, HaveWorked}
 use Rattle.xa_work.specs.Units.ComesOfCommit.{cut_short, in_full, undecided}
 use Rattle.xa_work.specs.Units.Transacts.{commits, refused}
-use Rattle.xa_work.specs.Works.{HaveWorked}
 use Rattle.xa_work.proofs.Named.{worked_for}
 use Rattle.xa_work.proofs.Sent.{have_as, have_on}
 use Rattle.xa_work.proofs.Voted.{untold_sent, voted_sent}
-use Rattle.xa_bank.specs.Transfers.{Leg}
-use Rattle.xa_bank.specs.declared.teller.Transfer.{Transfer}
-use Rattle.xa_bank.specs.declared.habits.Habits.{Habits}
-use Rattle.xa_bank.specs.Numbered.{death_in, shut_before}
-use Rattle.xa_bank.specs.Tellers.{IsClearAt, IsUndoubted}
-use Rattle.xa_bank.specs.Transfers.{Makes, MakesAll, MakesEach, MakesNext, branches_of, changes_of, with_legs, without_legs}
+use Rattle.xa_bank.specs.{Leg, Transfer, Habits, death_in, shut_before, IsClearAt, IsUndoubted, Makes, MakesAll, MakesEach, MakesNext, branches_of, changes_of}
+use Rattle.xa_bank.specs.{with_legs, without_legs}
 use Rattle.xa_bank.proofs.Deaths.{told_made}
 use Rattle.xa_bank.proofs.Legs.{LegWorked, leg_work, legs_worked}
 use Rattle.xa_bank.proofs.Named.{Is, IsFrom, IsOf, IsShut, LegsOf, Names, comes_names, legs_are, names_as, next_names, shut_names, shut_sent, transfers_name}

@@ -1,5 +1,6 @@
 -- What holds of a result's value, or of an error.
-use Rattle.std.specs.Prelude.{Result, Ok, Err, IfOk, OnErr, OnOk}
+use Rattle.xa_base.proofs.{Result, Ok, Err, IfOk}
+use Rattle.std.specs.Prelude.{OnErr, OnOk}
 
 -- what holds of the value, and what holds wherever there is one
 pub ok_both : {A E : Type 0} (P : A → Type 0) (Q : Type 0) (r : Result A E) → IfOk r P → OnOk r Q → IfOk r (λ a. P a × Q)

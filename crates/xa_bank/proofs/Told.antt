@@ -1,20 +1,14 @@
 -- Which requests of a settled journal name a branch: those of its own transfer, where each thread's requests name only the
 -- branches of its own transfers.
-use Rattle.std.proofs.Common.{◌≡◌, ◌≢◌, ℕ, suc, ◌+◌, ◌^◌, ◌<◌, ◌≤◌, ◌⊎◌, ⊎_elim, true, false, ◌==◌, cond, List, [], ◌∷◌, ◌++◌, length, get_or, sym, refl, ap}
-use Rattle.std.proofs.Common.{◌∙◌, subst, arith, eq-eqb}
-use Rattle.std.specs.List.{All}
-use Rattle.std.proofs.lemmas.Bool.{cases_eq, eqb-false}
-use Rattle.std.proofs.lemmas.List.Elements.{All-nil, All-cons, All-head, All-tail}
-use Rattle.xa_base.proofs.Lists.{all_right}
-use Rattle.xa_words.specs.Xid.{XidName}
-use Rattle.xa_words.specs.declared.request.Op.{Op}
-use Rattle.xa_words.specs.declared.request.Request.{Request}
-use Rattle.xa_tables.specs.History.{History, of_thread}
-use Rattle.xa_tables.specs.Prepared.{names}
-use Rattle.xa_desk.specs.Lanes.{numbered}
-use Rattle.xa_switch.specs.Settling.{Settling, IsSettled, sent}
-use Rattle.xa_switch.specs.Fates.{history}
-use Rattle.xa_atomicity.specs.Outcomes.{IsBetween, OnlyTheseName}
+use Rattle.xa_base.proofs.{◌≡◌, ◌≢◌, ℕ, suc, ◌+◌, ◌^◌, ◌<◌, ◌≤◌, ◌⊎◌, ⊎_elim, true, false, ◌==◌, cond, List, [], ◌∷◌, ◌++◌, length, get_or, sym, refl, ap, ◌∙◌}
+use Rattle.xa_base.proofs.{subst, arith, eq-eqb, All, cases_eq, eqb-false, All-nil, All-cons, All-head, All-tail, all_right}
+use Rattle.xa_words.specs.{XidName, Op, Request}
+use Rattle.xa_tables.specs.History.{History}
+use Rattle.xa_tables.specs.{of_thread, names}
+use Rattle.xa_desk.specs.{numbered}
+use Rattle.xa_switch.specs.Settling.{Settling}
+use Rattle.xa_switch.specs.{IsSettled, sent, history}
+use Rattle.xa_atomicity.specs.{IsBetween, OnlyTheseName}
 use Rattle.xa_atomicity.proofs.Placing.{request_of}
 use Rattle.xa_atomicity.proofs.Requests.{all_later}
 use Rattle.xa_bank.proofs.Named.{IsOf, Names, one_transfer, IsFrom}

@@ -2,3 +2,21 @@ pub mod Ledger
 pub mod Days
 pub mod Nights
 pub mod Banks
+
+-- The words of this crate, by its name.
+pub use Ledger.{Balances, all_applied, applied, share}
+pub use Days.{AreReadBack, AreToldAll, BeginsWith, ForEach, IsDawn, IsDayOf, IsNamed, IsReadBack, IsResolvedBy}
+pub use Days.{IsToldAll, WorkedIn, all_told, balances_at, balances_of, is_applied, records_of, told}
+pub use Nights.{Excuses, HasPassed, HasRoomToResolve, IsNight, IsUnsettledNight, IsUntouched, ResolvesBy, unopened}
+pub use Nights.{unused}
+pub use Banks.{AreClosed, AreOver, AreTurned, HasEnded, HasRoom, HasStopped, HasWorked, HaveNoRecord, IsClosed}
+pub use Banks.{IsClosedDay, IsDay, IsGoodDay, IsMovedBy, IsOpenedBank, IsOver, IsReady, IsUnresolved, IsWithin}
+pub use Banks.{IsWorkedDay, LeavesBank, LeavesDay, at_day, at_once, day_numbers, early, habits_on, has_account}
+pub use Banks.{next_numbers, night_numbers, told_on, told_over, whole}
+pub use declared.bank.Bank.{Bank}
+pub use declared.day.Closed.{Closed}
+pub use declared.day.Worked.{Worked}
+pub use declared.errands.Errands.{Errands}
+pub use declared.night.Resolver.{Resolver}
+pub use declared.night.Unresolved.{Unresolved}
+pub use declared.night.Unresolved.TheVariants.{BadNumbers, NoMemory, NoRoom, TellerWantsMemory, UnknownLog}

@@ -12,7 +12,7 @@ use Rattle.std.specs.FinMap.{same_map, get-insert, get-remove, get-retain_keys, 
 use Rattle.std.specs.FinMap.Entries.{below_all}
 use Rattle.std.proofs.lemmas.Bool.Decides.{same_from_decides}
 use Rattle.xa_base.proofs.Truth.{is_equal}
-use Rattle.xa_base.specs.Maps.{any_entry, map_values}
+use Rattle.xa_base.specs.{any_entry, map_values}
 
 first_of_both : (a b : Bool) → T (a && b) → T a
 first_of_both true b p = tt

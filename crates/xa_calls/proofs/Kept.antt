@@ -1,27 +1,18 @@
 -- What is outstanding stays kept under a number, as a desk calls and collects.
-use Rattle.std.proofs.Common.{◌≡◌, ◌≢◌, ℕ, ℤ, ◌-◌, ⊎_elim, zero, suc, Bool, true, false, List, [], length, arith, Option, Some, None, Result, Ok, Err, sym}
-use Rattle.std.proofs.Common.{refl, ap, ◌∙◌, subst, inl, inr}
-use Rattle.std.proofs.lemmas.Bool.{cases_eq, cases_Bool}
-use Rattle.std.specs.Ordering.{nat_cmp}
+use Rattle.xa_base.proofs.{◌≡◌, ◌≢◌, ℕ, ℤ, ◌-◌, ⊎_elim, zero, suc, Bool, true, false, List, [], length, arith, Option, Some, None, Result, Ok, Err, sym, refl}
+use Rattle.xa_base.proofs.{ap, ◌∙◌, subst, inl, inr, cases_eq, cases_Bool, nat_cmp, inserted_there, inserted_other, removed_other, not_both}
 use Rattle.std.specs.FinMap as finmap
 use Rattle.xa_words.specs.declared.code.Code.{Code}
-use Rattle.xa_words.specs.declared.code.Code.TheVariants.{Inval}
-use Rattle.xa_words.specs.declared.flags.Mode.{Mode}
-use Rattle.xa_words.specs.declared.request.Op.{Op}
-use Rattle.xa_desk.specs.declared.operation.Operation.{Operation}
+use Rattle.xa_words.specs.{Inval, Mode, Op}
+use Rattle.xa_desk.specs.{Operation, IsKnown, IsOut, is_known, ledger, next_operation, outstanding, AllKept, HoldsNone, submitted, after_fulls, EndsQuiet}
+use Rattle.xa_desk.specs.{Collects, TakesKept}
 use Rattle.xa_desk.specs.LedgerView.{LedgerView}
-use Rattle.xa_desk.specs.DeskView.{DeskView, IsKnown, IsOut, is_known, ledger, next_operation, outstanding}
-use Rattle.xa_desk.specs.Kept.{AllKept, HoldsNone}
-use Rattle.xa_desk.specs.Lanes.{submitted, after_fulls}
-use Rattle.xa_desk.specs.Looks.{EndsQuiet, Collects, TakesKept}
+use Rattle.xa_desk.specs.DeskView.{DeskView}
 use Rattle.xa_desk.proofs.Ledgers.{known_is}
-use Rattle.xa_calls.specs.Putting.{put_refusal, Puts, Calls}
+use Rattle.xa_calls.specs.{put_refusal, Puts, Calls, CompletesOne, CompletesAny, CompletesAt, CompletesBy, CollectsRedeemed, may_complete}
 use Rattle.xa_calls.specs.Putting.Puts.{refused, full, kept, answered}
-use Rattle.xa_calls.specs.Completing.{CompletesOne, CompletesAny, CompletesAt, CompletesBy, CollectsRedeemed, may_complete}
 use Rattle.xa_calls.specs.Completing.CompletesOne.{unknown, retry as retry_one, ready, waited}
 use Rattle.xa_calls.specs.Completing.CompletesAny.{nothing, retry as retry_any, least}
-use Rattle.xa_base.proofs.Maps.{inserted_there, inserted_other, removed_other}
-use Rattle.xa_base.proofs.Options.{not_both}
 use Rattle.xa_calls.proofs.Outstanding.{out_sent, out_collected, none_outstanding}
 
 -- ---- what is kept under which number

@@ -1,15 +1,14 @@
 -- What is outstanding as operations are sent and collected.
-use Rattle.std.proofs.Common.{◌≡◌, ◌≢◌, ℕ, ◌+◌, ◌-◌, ◌<◌, ◌≤◌, ◌⊎◌, suc, false, true, ◌||◌, nat_eq, List, [], ◌∷◌, length, sum_by, sym, refl, ap, ◌∙◌, subst}
-use Rattle.std.proofs.Common.{inl, inr, arith, length-append, slice_index_or}
-use Rattle.std.proofs.lemmas.List.{length-map}
+use Rattle.xa_base.proofs.{◌≡◌, ◌≢◌, ℕ, ◌+◌, ◌-◌, ◌<◌, ◌≤◌, ◌⊎◌, suc, false, true, ◌||◌, nat_eq, List, [], ◌∷◌, length, sym, refl, ap, ◌∙◌, subst, inl, inr}
+use Rattle.xa_base.proofs.{arith, length-append, slice_index_or, length-map, cases_eq, cases_Bool, eqb-false, or_parts}
+use Rattle.std.proofs.Common.{sum_by}
 use Rattle.std.proofs.lemmas.List.Sums.{sum_by-cons}
 use Rattle.std.proofs.lemmas.Map.Steps.{le-length_from_below}
-use Rattle.std.proofs.lemmas.Bool.{cases_eq, cases_Bool, eqb-false, or_parts}
-use Rattle.xa_words.specs.declared.request.Op.{Op}
+use Rattle.xa_words.specs.{Op}
 use Rattle.xa_words.specs.declared.code.Code.{Code}
-use Rattle.xa_desk.specs.declared.operation.Operation.{Operation}
-use Rattle.xa_desk.specs.LedgerView.{LedgerView, numbers, is_collected, with_sent, with_collected}
-use Rattle.xa_desk.specs.DeskView.{IsKnown, IsOut, ledger, no_ledger, put_ledger, after_sent, after_collected, next_operation, outstanding}
+use Rattle.xa_desk.specs.{Operation, numbers, is_collected, with_sent, with_collected, IsKnown, IsOut, ledger, no_ledger, put_ledger, after_sent}
+use Rattle.xa_desk.specs.{after_collected, next_operation, outstanding}
+use Rattle.xa_desk.specs.LedgerView.{LedgerView}
 use Rattle.xa_desk.proofs.Ledgers.{same_operation, is_collected-push, ledger-put_same, ledger-put_other, known_before}
 
 -- what is outstanding after a sending is what was sent, or was outstanding before

@@ -1,26 +1,15 @@
 -- What a scan does to a desk, and what it writes.
-use Rattle.std.proofs.Common.{◌≡◌, ℕ, ℤ, zero, suc, Bool, true, false, Option, None, ◌+◌, ◌-◌, ◌<◌, Some, Result, Ok, Err, List, [], ◌∷◌, ◌++◌, length, take}
-use Rattle.std.proofs.Common.{drop, set, refl, sym, ap, ◌∙◌, subst, arith, length-append, append_assoc}
-use Rattle.std.specs.Prelude.{is_some, option_map, slice_get}
-use Rattle.std.proofs.lemmas.List.{length-drop, take_all}
-use Rattle.xa_words.specs.Xid.{XidName}
+use Rattle.xa_base.proofs.{◌≡◌, ℕ, ℤ, zero, suc, Bool, true, false, Option, None, ◌+◌, ◌-◌, ◌<◌, Some, Result, Ok, Err, List, [], ◌∷◌, ◌++◌, length, take, drop}
+use Rattle.xa_base.proofs.{set, refl, sym, ap, ◌∙◌, subst, arith, length-append, append_assoc, is_some, option_map, slice_get, length-drop, take_all}
+use Rattle.xa_words.specs.{XidName, Done, Nota, check_flags, Mode, Op, Listed}
 use Rattle.xa_words.specs.declared.code.Code.{Code}
-use Rattle.xa_words.specs.declared.code.Code.TheVariants.{Done, Nota}
-use Rattle.xa_words.specs.Flags.{check_flags}
 use Rattle.xa_words.specs.declared.flags.Call.TheVariants as call
-use Rattle.xa_words.specs.declared.flags.Mode.{Mode}
-use Rattle.xa_words.specs.declared.request.Op.{Op}
-use Rattle.xa_words.specs.declared.request.Op.TheVariants.{Listed}
-use Rattle.xa_desk.specs.declared.refused.Refused.{Refused}
-use Rattle.xa_desk.specs.declared.refused.Refused.TheVariants.{NoSuchManager, Shut, TooMany, Spent, Full}
-use Rattle.xa_desk.specs.DeskView.{DeskView, call_refusal, is_known}
-use Rattle.xa_desk.specs.Kept.{AllKept}
-use Rattle.xa_desk.specs.Lanes.{after_fulls}
-use Rattle.xa_calls.specs.Putting.{code_of, put_refusal}
-use Rattle.xa_calls.specs.Scans.{Asking, Answers, refused, answered, Looks, begun, finds, passes, Scans, filled, ended, stopped, written}
-use Rattle.xa_scan.specs.Left.{ScanView, place_at}
-use Rattle.xa_calls.specs.Scans.{start_of}
-use Rattle.xa_calls.specs.Scans.{Recovers, unreached, told, IsInVain, RecoversFrom, RecoversBy, HasRecovered, AsksAndWaits, RecoversAndWaits}
+use Rattle.xa_desk.specs.{Refused, NoSuchManager, Shut, TooMany, Spent, Full, call_refusal, is_known, AllKept, after_fulls}
+use Rattle.xa_desk.specs.DeskView.{DeskView}
+use Rattle.xa_calls.specs.{code_of, put_refusal, Answers, Looks, begun, finds, passes, filled, ended, stopped, written, start_of, Recovers, unreached, told}
+use Rattle.xa_calls.specs.{IsInVain, RecoversFrom, RecoversBy, HasRecovered, AsksAndWaits, RecoversAndWaits}
+use Rattle.xa_calls.specs.Scans.{Asking, refused, answered, Scans}
+use Rattle.xa_scan.specs.{ScanView, place_at}
 use Rattle.xa_calls.proofs.Kept.{answered_keep, fulls_kept, fulls_ledgers, known_here}
 
 -- what was outstanding stays kept, as a manager is asked

@@ -1,8 +1,8 @@
 -- What a desk's call answers, by its refusal.
-use Rattle.std.proofs.Common.{◌≡◌, Option, Some, None, Result, Ok, Err, IsOk, refl, subst}
-use Rattle.std.specs.Prelude.{Bool, true, false, not, ◌&&◌, is_some}
+use Rattle.xa_base.proofs.{◌≡◌, Option, Some, None, Result, Ok, Err, refl, subst, Bool, true, false, not, ◌&&◌, is_some}
+use Rattle.std.proofs.Common.{IsOk}
 use Rattle.xa_words.specs.declared.code.Code.{Code}
-use Rattle.xa_desk.specs.declared.refused.Refused.{Refused}
+use Rattle.xa_desk.specs.{Refused}
 
 -- the refusal of a synchronous request that was answered, and of one that wasn't
 pub no_refusal : (answer : Result Code Refused) (code : Code) (r : Option Refused) → answer ≡ Ok code → ((why : Refused) → r ≡ Some why → answer ≡ Err why)

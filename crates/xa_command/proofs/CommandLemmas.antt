@@ -17,9 +17,8 @@ use Rattle.clap.specs.declared.builder.command.Command.{Command}
 use Rattle.clap.specs.declared.builder.command.Command.TheViews.{out-Command}
 use Rattle.clap.proofs.OnLiterals.{clap_on_literals}
 use Rattle.std.proofs.Math.Bool.{or-false}
-use Rattle.xa_command.specs.declared.mode.Mode.{Mode}
+use Rattle.xa_command.specs.{Mode, word_of}
 use Rattle.xa_command.specs.declared.mode.Mode.TheVariants as modes
-use Rattle.xa_command.specs.Words.{word_of}
 
 -- the program's argument, with this parser
 abbrev pub mode : ValueParser → Rule

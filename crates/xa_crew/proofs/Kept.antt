@@ -1,16 +1,13 @@
 -- What is kept under the numbers of a desk as it ends.
-use Rattle.std.proofs.Common.{◌≡◌, ℕ, List, None, sym, ap, ◌∙◌, subst}
+use Rattle.xa_base.proofs.{◌≡◌, ℕ, List, None, sym, ap, ◌∙◌, subst, nat_cmp, removed_there, removed_none}
 use Rattle.std.specs.FinMap as finmap
-use Rattle.std.specs.Ordering.{nat_cmp}
 use Rattle.xa_words.specs.declared.code.Code.{Code}
-use Rattle.xa_desk.specs.declared.operation.Operation.{Operation}
+use Rattle.xa_desk.specs.{Operation, AllKept}
 use Rattle.xa_desk.specs.DeskView.{DeskView}
-use Rattle.xa_desk.specs.Kept.{AllKept}
-use Rattle.xa_calls.specs.Completing.{CollectsRedeemed}
-use Rattle.xa_base.specs.Lists.{Chain}
+use Rattle.xa_calls.specs.{CollectsRedeemed}
+use Rattle.xa_base.specs.{Chain}
 use Rattle.xa_base.specs.Lists.Chain.{none, more}
-use Rattle.xa_base.proofs.Maps.{removed_there, removed_none}
-use Rattle.xa_crew.specs.Ending.{Telling, EndsNumber}
+use Rattle.xa_crew.specs.{Telling, EndsNumber}
 use Rattle.xa_crew.specs.Ending.EndsNumber.{kept as kept_there, free}
 
 abbrev Handles : Type 0

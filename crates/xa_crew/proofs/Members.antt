@@ -1,23 +1,14 @@
 -- The members of a crew, by what each was given and what it came to.
-use Rattle.std.proofs.Common.{◌≡◌, zero, suc, List, [], ◌∷◌, length, map, refl, sym, ◌∙◌, subst, arith}
-use Rattle.std.specs.Prelude.{All}
+use Rattle.xa_base.proofs.{◌≡◌, zero, suc, List, [], ◌∷◌, length, map, refl, sym, ◌∙◌, subst, arith, All, some_same, all_at, tail_side, side_of, side_to}
 use Rattle.xa_desk.specs.DeskView.{DeskView}
 use Rattle.xa_desk.specs.GoesOn.{GoesOn}
-use Rattle.xa_desk.specs.Ended.{EndedView}
-use Rattle.xa_switch.specs.Plans.{IsWithinLimits, Setup}
-use Rattle.xa_switch.specs.OpenedPieces.{AreOfOneOpening}
-use Rattle.xa_worker.specs.Workers.{WorkerView}
-use Rattle.xa_worker.specs.Done.{Served}
-use Rattle.xa_crew.specs.declared.client_job.ClientJob.{ClientJob}
-use Rattle.xa_crew.specs.declared.client_job.Attended.{Attended}
-use Rattle.xa_crew.specs.declared.client_job.Worked.{Worked}
-use Rattle.xa_crew.specs.declared.run.Ran.{Ran}
-use Rattle.xa_base.specs.Lists.{Pairwise}
-use Rattle.xa_crew.specs.Pieces.{HasGone, HasServed, ArePiecesOf}
+use Rattle.xa_desk.specs.{EndedView}
+use Rattle.xa_switch.specs.{IsWithinLimits, Setup, AreOfOneOpening}
+use Rattle.xa_worker.specs.{WorkerView, Served}
+use Rattle.xa_crew.specs.{ClientJob, Attended, Worked, Ran, HasGone, HasServed, ArePiecesOf, HasRoomFor, IsOpened, clients_of, IsReady, Member, member_of}
+use Rattle.xa_crew.specs.{HasRun, HaveRun, HasRunAll, HasWorked}
+use Rattle.xa_base.specs.{Pairwise}
 use Rattle.xa_crew.specs.declared.opened.Opened.{Opened}
-use Rattle.xa_crew.specs.Opened.{HasRoomFor, IsOpened, clients_of}
-use Rattle.xa_crew.specs.Run.{IsReady, Member, member_of, HasRun, HaveRun, HasRunAll, HasWorked}
-use Rattle.xa_base.proofs.Lists.{some_same, all_at, tail_side, side_of, side_to}
 
 abbrev pub members : {C : Type 0} → List (ClientJob C) → List (Worked C) → List (Member C)
 members [] ws = []

@@ -1,24 +1,15 @@
 -- The pieces of an opening are all there, and come from it.
-use Rattle.std.proofs.Common.{◌≡◌, ℕ, ◌+◌, ◌-◌, ◌<◌, ◌≤◌, true, ◌==◌, List, [], ◌∷◌, length, map, Some, sym, refl, ap, ◌∙◌, subst, arith}
-use Rattle.std.specs.Prelude.{slice_get}
+use Rattle.xa_base.proofs.{◌≡◌, ℕ, ◌+◌, ◌-◌, ◌<◌, ◌≤◌, true, ◌==◌, List, [], ◌∷◌, length, map, Some, sym, refl, ap, ◌∙◌, subst, arith, slice_get, eq-eqb}
+use Rattle.xa_base.proofs.{length-map, slice_get_within, got, all_from, any_at, map_alike}
 use Rattle.std.specs.List.Sorted.{IsPermutation}
-use Rattle.std.proofs.lemmas.Bool.{eq-eqb}
-use Rattle.std.proofs.lemmas.List.{length-map}
 use Rattle.std.proofs.lemmas.List.Sorted.{IsPermutation-refl}
-use Rattle.std.proofs.lemmas.Option.{slice_get_within}
 use Rattle.xa_desk.specs.LedgerView.{LedgerView}
 use Rattle.xa_desk.specs.DeskView.{DeskView}
-use Rattle.xa_desk.specs.Ended.{EndedView, Ends}
-use Rattle.xa_desk.specs.GoesOn.{GoesOut}
-use Rattle.xa_desk.specs.Lanes.{new_ledgers}
-use Rattle.xa_worker.specs.Workers.{WorkerView}
-use Rattle.xa_worker.specs.Done.{Served}
-use Rattle.xa_switch.specs.Plans.{Setup}
-use Rattle.xa_switch.specs.OpenedPieces.{IsNewDesk, IsNewWorker}
-use Rattle.xa_switch.specs.Belonging.{DeskSeat, WorkerSeat, ComeFromOpenings, seat_of_desk, seat_of_ended, seat_of_worker, seat_of_done, desk_seats}
-use Rattle.xa_switch.specs.Belonging.{worker_seats, desk_opening, worker_opening, first_opening, AreOfOne, AreAll, HasDesks, HasWorkers, has_desk, has_worker}
-use Rattle.xa_crew.specs.Pieces.{HasGone, HasServed, ArePiecesOf}
-use Rattle.xa_base.proofs.Lists.{got, all_from, any_at, map_alike}
+use Rattle.xa_desk.specs.{EndedView, Ends, GoesOut, new_ledgers}
+use Rattle.xa_worker.specs.{WorkerView, Served}
+use Rattle.xa_switch.specs.{Setup, IsNewDesk, IsNewWorker, DeskSeat, WorkerSeat, ComeFromOpenings, seat_of_desk, seat_of_ended, seat_of_worker, seat_of_done}
+use Rattle.xa_switch.specs.{desk_seats, worker_seats, desk_opening, worker_opening, first_opening, AreOfOne, AreAll, HasDesks, HasWorkers, has_desk, has_worker}
+use Rattle.xa_crew.specs.{HasGone, HasServed, ArePiecesOf}
 
 -- desks that end have their seats and their ledgers
 abbrev pub GoOut : Type 0

@@ -1,15 +1,11 @@
 -- Jobs, the threads at the first of them, and what became of all.
-use Rattle.std.proofs.Common.{◌≡◌, ℕ, zero, suc, List, [], ◌∷◌, ◌++◌, ◌≤◌, length, refl, sym, ap, ◌∙◌, subst, arith, append-nil, append_assoc, Some}
-use Rattle.std.specs.Prelude.{Result, Ok, Err, slice_get, All, Vec, vec_capacity}
-use Rattle.std.specs.Global.{Global}
-use Rattle.std.proofs.lemmas.Option.{slice_get_within}
+use Rattle.xa_base.proofs.{◌≡◌, ℕ, zero, suc, List, [], ◌∷◌, ◌++◌, ◌≤◌, length, refl, sym, ap, ◌∙◌, subst, arith, append-nil, append_assoc, Some, Result, Ok}
+use Rattle.xa_base.proofs.{Err, slice_get, All, Vec, vec_capacity, Global, slice_get_within, all_at, got, none_of, none_side, push_side, some_same, tail_side}
+use Rattle.xa_base.proofs.{through}
 use Rattle.std.specs.declared.thread.PromisedHandle.{PromisedHandle}
-use Rattle.xa_base.specs.Lists.{Pairwise}
-use Rattle.xa_base.proofs.Lists.{all_at, got, none_of, none_side, push_side, some_same, tail_side, through}
-use Rattle.xa_crew.specs.declared.hands.DoneOf.{DoneOf}
-use Rattle.xa_crew.specs.declared.hands.Came.{Came}
+use Rattle.xa_base.specs.{Pairwise}
+use Rattle.xa_crew.specs.{DoneOf, Came, AreAtFirst, Comes, HasRoom, HasRoomForAll, IsAt}
 use Rattle.xa_crew.specs.declared.hands.Hands.{Hands}
-use Rattle.xa_crew.specs.Hands.{AreAtFirst, Comes, HasRoom, HasRoomForAll, IsAt}
 
 -- what was gone through is all, where nothing is left
 pub gone_through : {A : Type 0} (first rest all : List A) (n : ℕ) → n ≡ length rest → n ≡ 0 → first ++ rest ≡ all → first ≡ all

@@ -1,20 +1,10 @@
 -- How workers go on as they take turns, and then run.
-use Rattle.std.proofs.Common.{◌≡◌, ℕ, ◌+◌, ◌-◌, ◌<◌, ◌≤◌, ⊎_elim, List, length, Some, sym, refl, ap, ◌∙◌, subst, arith}
-use Rattle.std.specs.Prelude.{slice_get, slice_set}
-use Rattle.std.proofs.lemmas.Bool.{cases_eq}
-use Rattle.std.proofs.lemmas.List.{length-set}
-use Rattle.std.proofs.lemmas.Option.{slice_get_within}
-use Rattle.xa_worker.specs.declared.step.Step.{Step}
-use Rattle.xa_worker.specs.Seats.{seat_of_worker}
-use Rattle.xa_worker.specs.Workers.{WorkerView, SameWorker, IsTied}
-use Rattle.xa_worker.specs.Done.{Served}
-use Rattle.xa_worker.specs.Steps.{Stepped}
+use Rattle.xa_base.proofs.{◌≡◌, ℕ, ◌+◌, ◌-◌, ◌<◌, ◌≤◌, ⊎_elim, List, length, Some, sym, refl, ap, ◌∙◌, subst, arith, slice_get, slice_set, cases_eq, length-set}
+use Rattle.xa_base.proofs.{slice_get_within, some_same, got_set, set_there, map_alike, through}
+use Rattle.xa_worker.specs.{Step, seat_of_worker, WorkerView, SameWorker, IsTied, Served, Stepped}
 use Rattle.xa_worker.proofs.Ties.{extends-chain, stepped-extends}
-use Rattle.xa_base.specs.Lists.{Pairwise}
-use Rattle.xa_base.proofs.Lists.{some_same, got_set, set_there, map_alike, through}
-use Rattle.xa_crew.specs.Pieces.{HasServed}
-use Rattle.xa_crew.specs.Turns.{WorkerGoesOn, AllGoOn, HadTurn, HadSomeTurn, TakesTurn}
-use Rattle.xa_crew.specs.Turning.{goes_nowhere}
+use Rattle.xa_base.specs.{Pairwise}
+use Rattle.xa_crew.specs.{HasServed, WorkerGoesOn, AllGoOn, HadTurn, HadSomeTurn, TakesTurn, goes_nowhere}
 
 -- ---- one step
 

@@ -1,18 +1,11 @@
 -- A book made of parts with which nothing was done.
-use Rattle.std.proofs.Common.{◌≡◌, ◌*◌, ℕ, Bool, List, [], ◌∷◌, length, Option, None, replicate, refl, ap, ◌∙◌}
-use Rattle.std.proofs.lemmas.List.{length-map}
+use Rattle.xa_base.proofs.{◌≡◌, ◌*◌, ℕ, Bool, List, [], ◌∷◌, length, Option, None, replicate, refl, ap, ◌∙◌, length-map}
 use Rattle.slab.specs.Slab.{Slab}
-use Rattle.xa_words.specs.declared.request.Request.{Request}
-use Rattle.xa_words.specs.declared.request.Completion.{Completion}
-use Rattle.xa_lane.specs.Ends.{Sending, Receiving}
-use Rattle.xa_desk.specs.declared.operation.Operation.{Operation}
-use Rattle.xa_desk.specs.declared.event.Event.{Event}
-use Rattle.xa_desk.specs.declared.slot.Slot.{Slot}
+use Rattle.xa_words.specs.{Request, Completion}
+use Rattle.xa_lane.specs.{Sending, Receiving}
+use Rattle.xa_desk.specs.{Operation, Event, Slot, PartsView, new_ledgers, new_desk, carried, IsBooks, KeysView, no_keys, AreKeys, kept_of, planned_total}
 use Rattle.xa_desk.specs.LedgerView.{LedgerView}
 use Rattle.xa_desk.specs.DeskView.{DeskView}
-use Rattle.xa_desk.specs.Lanes.{PartsView, new_ledgers, new_desk}
-use Rattle.xa_desk.specs.Parts.{carried}
-use Rattle.xa_desk.specs.Slots.{IsBooks, KeysView, no_keys, AreKeys, kept_of, planned_total}
 use Rattle.xa_desk.proofs.Fresh.{books_new, planned-new, kept_of-replicate}
 use Rattle.xa_desk.proofs.KeyRows.{keys_new}
 

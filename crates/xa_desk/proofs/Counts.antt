@@ -1,17 +1,16 @@
 -- How many slots, numbers and drained completions there can be.
-use Rattle.std.proofs.Common.{◌≡◌, ℕ, zero, suc, ◌+◌, ◌-◌, ◌<◌, ◌≤◌, Bool, true, false, cond, leb, eqb, is_some, List, [], ◌∷◌, length, Option, Some, None}
-use Rattle.std.proofs.Common.{IsSome, get_or, set, sum_by, refl, ap, ◌∙◌, inl, inr, arith}
+use Rattle.xa_base.proofs.{◌≡◌, ℕ, zero, suc, ◌+◌, ◌-◌, ◌<◌, ◌≤◌, Bool, true, false, cond, is_some, List, [], ◌∷◌, length, Option, Some, None, get_or, set}
+use Rattle.xa_base.proofs.{refl, ap, ◌∙◌, inl, inr, arith, le-leb, eq-eqb, ne_eqb, false≢true, cases_Bool}
+use Rattle.std.proofs.Common.{leb, eqb, IsSome, sum_by}
 use Rattle.std.proofs.lemmas.List.Sums.{sum_by-set, sum_by-cons, sum_by-le-sum_by, get_or-le-sum_by}
-use Rattle.std.proofs.lemmas.Bool.{cases_order, le-leb, lt-leb, eq-eqb, ne_eqb, false≢true, cases_Bool}
+use Rattle.std.proofs.lemmas.Bool.{cases_order, lt-leb}
 use Rattle.slab.specs.Slab.{Slab, get, slab_len}
 use Rattle.slab.proofs.SlabLemmas.{ContainsKey-within}
 use Rattle.xa_words.specs.declared.code.Code.{Code}
-use Rattle.xa_words.specs.declared.request.Completion.{Completion}
-use Rattle.xa_desk.specs.declared.operation.Operation.{Operation}
-use Rattle.xa_desk.specs.declared.slot.Slot.{Slot}
-use Rattle.xa_desk.specs.LedgerView.{LedgerView, IsBalanced, is_collected}
-use Rattle.xa_desk.specs.DeskView.{IsKnown, no_ledger, outstanding, ledger}
-use Rattle.xa_desk.specs.Slots.{IsOrderly, IsBooks, HasKept, ready_weight, ready_count, collected_total, planned_total}
+use Rattle.xa_words.specs.{Completion}
+use Rattle.xa_desk.specs.{Operation, Slot, IsBalanced, is_collected, IsKnown, no_ledger, outstanding, ledger, IsOrderly, IsBooks, HasKept, ready_weight}
+use Rattle.xa_desk.specs.{ready_count, collected_total, planned_total}
+use Rattle.xa_desk.specs.LedgerView.{LedgerView}
 use Rattle.xa_desk.proofs.Ledgers.{collected-le-sent}
 
 sum_by-within : {A : Type 0} (f g h : A → ℕ) (d : A) (xs : List A) → ((i : ℕ) → i < length xs → f (get_or xs i d) + g (get_or xs i d) ≤ h (get_or xs i d))

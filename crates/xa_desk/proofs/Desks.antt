@@ -1,12 +1,13 @@
 -- Which calls a desk doesn't refuse, and that a desk stays one.
-use Rattle.std.proofs.Common.{◌≡◌, ◌≤◌, ◌<◌, ◌+◌, ℕ, Bool, true, false, not, cond, leb, List, length, Option, Some, None, sym, ◌∙◌, refl, ap, subst, arith}
-use Rattle.std.specs.Option.{option_or}
-use Rattle.std.proofs.lemmas.Bool.{not-false, and_parts, leb-true, leb-false}
-use Rattle.xa_words.specs.declared.request.Op.{Op}
-use Rattle.xa_desk.specs.LedgerView.{LedgerView, learnt_shut}
-use Rattle.xa_desk.specs.DeskView.{DeskView, IsKnown, is_known, ledger, outstanding, reach_refusal, handle_refusal, spent_refusal, room_refusal, call_refusal}
-use Rattle.xa_desk.specs.Lanes.{IsDesk, submitted, after_full, after_fulls}
-use Rattle.xa_desk.specs.declared.refused.Refused.TheVariants.{NoSuchManager, Shut, TooMany}
+use Rattle.xa_base.proofs.{◌≡◌, ◌≤◌, ◌<◌, ◌+◌, ℕ, Bool, true, false, not, cond, List, length, Option, Some, None, sym, ◌∙◌, refl, ap, subst, arith, option_or}
+use Rattle.xa_base.proofs.{not-false, and_parts}
+use Rattle.std.proofs.Common.{leb}
+use Rattle.std.proofs.lemmas.Bool.{leb-true, leb-false}
+use Rattle.xa_words.specs.{Op}
+use Rattle.xa_desk.specs.LedgerView.{LedgerView}
+use Rattle.xa_desk.specs.{learnt_shut, IsKnown, is_known, ledger, outstanding, reach_refusal, handle_refusal, spent_refusal, room_refusal, call_refusal, IsDesk}
+use Rattle.xa_desk.specs.{submitted, after_full, after_fulls, NoSuchManager, Shut, TooMany}
+use Rattle.xa_desk.specs.DeskView.{DeskView}
 use Rattle.xa_desk.proofs.Ties.{tied_full, tied_fulls, tied_submitted, fulls_alike}
 
 unless : {A : Type 0} (b : Bool) (x : A) (r : Option A) → None ≡ cond b (Some x) r → (b ≡ false) × (None ≡ r)

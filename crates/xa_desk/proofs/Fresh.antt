@@ -1,19 +1,13 @@
 -- A desk that has done nothing keeps its books.
-use Rattle.std.proofs.Common.{◌≡◌, ◌<◌, ◌-◌, ◌*◌, ℕ, zero, suc, Bool, nat_eq, List, [], ◌∷◌, length, Option, Some, None, get_or, replicate, sym, ◌∙◌, refl, ap}
-use Rattle.std.proofs.Common.{arith}
-use Rattle.std.specs.Ordering.{nat_cmp}
+use Rattle.xa_base.proofs.{◌≡◌, ◌<◌, ◌-◌, ◌*◌, ℕ, zero, suc, Bool, nat_eq, List, [], ◌∷◌, length, Option, Some, None, get_or, replicate, sym, ◌∙◌, refl, ap}
+use Rattle.xa_base.proofs.{arith, nat_cmp, nat_cmp_total, false≢true}
 use Rattle.std.specs.List.{IsDistinct}
-use Rattle.std.specs.Cmp.{nat_cmp_total}
 use Rattle.std.specs.FinMap as finmap
 use Rattle.std.proofs.lemmas.List.Sums.{sum_by-cons}
-use Rattle.std.proofs.lemmas.Bool.{false≢true}
 use Rattle.slab.specs.Slab.{Slab, get}
-use Rattle.xa_desk.specs.declared.operation.Operation.{Operation}
-use Rattle.xa_desk.specs.declared.slot.Slot.{Slot}
-use Rattle.xa_desk.specs.LedgerView.{LedgerView, new_ledger}
-use Rattle.xa_desk.specs.Lanes.{new_ledgers}
-use Rattle.xa_desk.specs.DeskView.{no_ledger, ledger, outstanding}
-use Rattle.xa_desk.specs.Slots.{IsOrderly, IsBooks, kept_of, planned_total, collected_total, ready_count}
+use Rattle.xa_desk.specs.{Operation, Slot, new_ledger, new_ledgers, no_ledger, ledger, outstanding, IsOrderly, IsBooks, kept_of, planned_total, collected_total}
+use Rattle.xa_desk.specs.{ready_count}
+use Rattle.xa_desk.specs.LedgerView.{LedgerView}
 use Rattle.xa_desk.proofs.KeptPlaces.{get-kept_of, get-kept_of_zero}
 
 -- of nothing was anything sent or collected

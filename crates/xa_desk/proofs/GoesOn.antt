@@ -1,31 +1,22 @@
 -- A desk goes on by its calls.
-use Rattle.std.proofs.Common.{◌≡◌, ℕ, zero, suc, ◌-◌, ◌^◌, ◌≤◌, List, [], ◌∷◌, ◌++◌, length, map, Option, Some, None, IfSome, IsNone, sym, refl, ◌∙◌, subst}
-use Rattle.std.proofs.Common.{arith}
+use Rattle.xa_base.proofs.{◌≡◌, ℕ, zero, suc, ◌-◌, ◌^◌, ◌≤◌, List, [], ◌∷◌, ◌++◌, length, map, Option, Some, None, IfSome, sym, refl, ◌∙◌, subst, arith}
+use Rattle.xa_base.proofs.{nat_cmp, same_begins, begins_on}
+use Rattle.std.proofs.Common.{IsNone}
 use Rattle.std.proofs.Math.Nat.{min-le_left, min-le_right, le-min}
 use Rattle.std.proofs.Math.Seq.{map-set_same}
-use Rattle.std.specs.Ordering.{nat_cmp}
 use Rattle.std.specs.FinMap as finmap
 use Rattle.xa_words.specs.declared.code.Code.{Code}
-use Rattle.xa_words.specs.declared.request.Op.{Op}
-use Rattle.xa_words.specs.declared.request.Request.{Request}
-use Rattle.xa_words.specs.declared.request.Completion.{Completion}
-use Rattle.xa_lane.specs.declared.parcel.Taken.{Taken}
-use Rattle.xa_lane.specs.declared.parcel.Taken.TheVariants.{Item, EndOf, Empty}
-use Rattle.xa_lane.specs.Ends.{Sending, Receiving, parcel, at_most_counted, counted}
-use Rattle.xa_lane.specs.Senders.{with_item, with_full, but_full}
-use Rattle.xa_lane.specs.Seats.{EndSeat, end_seat}
+use Rattle.xa_words.specs.{Op, Request, Completion}
+use Rattle.xa_lane.specs.{Taken, Item, EndOf, Empty, Sending, Receiving, parcel, at_most_counted, counted, with_item, with_full, but_full, EndSeat, end_seat}
 use Rattle.xa_lane.proofs.Senders.{map-at_place, map-alike}
-use Rattle.xa_desk.specs.declared.operation.Operation.{Operation}
-use Rattle.xa_desk.specs.LedgerView.{LedgerView, with_sent, with_collected}
-use Rattle.xa_desk.specs.DeskView.{DeskView, ledger, no_ledger, put_ledger, completed}
-use Rattle.xa_desk.specs.declared.event.Event.{Event}
-use Rattle.xa_desk.specs.Ended.{EndedView, Ends}
-use Rattle.xa_desk.specs.Lanes.{next_request, submitted, after_full, after_fulls}
-use Rattle.xa_desk.specs.Looks.{Drains, first, other, Draws, Pops, start, drawn, Looks, EndsQuiet, Collects, CollectsKept, CollectsLeast, TakesKept}
-use Rattle.xa_base.specs.Lists.{Begins}
-use Rattle.xa_desk.specs.GoesOn.{GoesOn, GoesOut, plan_of, plans}
-use Rattle.xa_desk.specs.Growth.{HaveGrown}
-use Rattle.xa_base.proofs.Lists.{same_begins, begins_on}
+use Rattle.xa_desk.specs.{Operation, with_sent, with_collected, ledger, no_ledger, put_ledger, completed, Event, EndedView, Ends, next_request, submitted}
+use Rattle.xa_desk.specs.{after_full, after_fulls, Drains, first, other, Draws, Pops, start, drawn, EndsQuiet, Collects, CollectsKept, CollectsLeast, TakesKept}
+use Rattle.xa_desk.specs.{GoesOut, plan_of, plans, HaveGrown}
+use Rattle.xa_desk.specs.LedgerView.{LedgerView}
+use Rattle.xa_desk.specs.DeskView.{DeskView}
+use Rattle.xa_desk.specs.Looks.{Looks}
+use Rattle.xa_base.specs.{Begins}
+use Rattle.xa_desk.specs.GoesOn.{GoesOn}
 use Rattle.xa_desk.proofs.Growth.{same_lists, growing_on, sending_grows, collecting_grows}
 
 -- ---- counts of quiet moments

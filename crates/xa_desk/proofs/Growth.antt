@@ -1,12 +1,9 @@
 -- The lists of a desk only grow.
-use Rattle.std.proofs.Common.{◌≡◌, ℕ, List, [], ◌∷◌, sym, refl, subst}
-use Rattle.xa_base.proofs.Lists.{same_begins, begins_on}
+use Rattle.xa_base.proofs.{◌≡◌, ℕ, List, [], ◌∷◌, sym, refl, subst, same_begins, begins_on}
 use Rattle.xa_words.specs.declared.code.Code.{Code}
-use Rattle.xa_words.specs.declared.request.Op.{Op}
-use Rattle.xa_desk.specs.declared.operation.Operation.{Operation}
-use Rattle.xa_desk.specs.LedgerView.{LedgerView, with_sent, with_collected}
-use Rattle.xa_desk.specs.DeskView.{ledger, put_ledger, after_sent, after_collected}
-use Rattle.xa_desk.specs.Growth.{HasGrown, HaveGrown}
+use Rattle.xa_words.specs.{Op}
+use Rattle.xa_desk.specs.{Operation, with_sent, with_collected, ledger, put_ledger, after_sent, after_collected, HasGrown, HaveGrown}
+use Rattle.xa_desk.specs.LedgerView.{LedgerView}
 use Rattle.xa_desk.proofs.Ledgers.{put_each}
 
 -- a ledger has grown from itself, and growth goes on

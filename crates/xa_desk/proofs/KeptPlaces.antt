@@ -1,19 +1,13 @@
 -- The map that a table of kept operations is.
-use Rattle.std.proofs.Common.{◌≡◌, ◌≢◌, ℕ, zero, suc, ◌+◌, ◌-◌, ◌<◌, cond, List, [], ◌∷◌, length, Option, Some, None, IsSome, IfSome, get_or, set, sym, refl}
-use Rattle.std.proofs.Common.{ap, ◌∙◌, inl, inr, arith}
-use Rattle.std.specs.Ordering.{nat_cmp}
-use Rattle.std.specs.Cmp.{nat_cmp_total}
+use Rattle.xa_base.proofs.{◌≡◌, ◌≢◌, ℕ, zero, suc, ◌+◌, ◌-◌, ◌<◌, cond, List, [], ◌∷◌, length, Option, Some, None, IfSome, get_or, set, sym, refl, ap, ◌∙◌, inl}
+use Rattle.xa_base.proofs.{inr, arith, nat_cmp, nat_cmp_total, get_or-set_same, get_or-set_other, cases_eq, cases_lt, tied_true, tied_false}
+use Rattle.std.proofs.Common.{IsSome}
 use Rattle.std.specs.FinMap as map
-use Rattle.std.proofs.lemmas.List.{get_or-set_same, get_or-set_other, get_or_past}
-use Rattle.std.proofs.lemmas.Bool.{cases_eq, cases_lt}
+use Rattle.std.proofs.lemmas.List.{get_or_past}
 use Rattle.slab.specs.Slab.{Slab, get, entries_from}
-use Rattle.xa_base.proofs.Truth.{tied_true, tied_false}
-use Rattle.xa_words.specs.declared.request.Completion.{Completion}
+use Rattle.xa_words.specs.{Completion}
 use Rattle.xa_desk.specs.LedgerView.{LedgerView}
-use Rattle.xa_desk.specs.declared.slot.Slot.{Slot}
-use Rattle.xa_desk.specs.declared.operation.Operation.{Operation}
-use Rattle.xa_desk.specs.DeskView.{IsLeastFree}
-use Rattle.xa_desk.specs.Slots.{kept_of, IsBooks}
+use Rattle.xa_desk.specs.{Slot, Operation, IsLeastFree, kept_of, IsBooks}
 use Rattle.xa_desk.proofs.Books.{Rehandles}
 
 find_below : (k q : ℕ) (table : List (Option Operation)) → q < k → map.find nat_cmp q (entries_from k table) ≡ None

@@ -1,18 +1,13 @@
 -- The rows tell the key of each slot, as slots come and go.
-use Rattle.std.proofs.Common.{◌≡◌, ◌≢◌, ℕ, zero, suc, ◌-◌, ◌<◌, ◌≤◌, Bool, List, [], ◌∷◌, ◌++◌, length, length-append, Some, None, get_or, set, replicate, sym}
-use Rattle.std.proofs.Common.{refl, ap, ◌∙◌, inl, inr, arith}
-use Rattle.std.specs.List.{slice_get}
-use Rattle.std.proofs.lemmas.List.{get_or-set_same, get_or-set_other, get_or-replicate, length-set, length-replicate, length-map}
-use Rattle.std.proofs.lemmas.Bool.{cases_eq}
+use Rattle.xa_base.proofs.{◌≡◌, ◌≢◌, ℕ, zero, suc, ◌-◌, ◌<◌, ◌≤◌, Bool, List, [], ◌∷◌, ◌++◌, length, length-append, Some, None, get_or, set, replicate, sym}
+use Rattle.xa_base.proofs.{refl, ap, ◌∙◌, inl, inr, arith, slice_get, get_or-set_same, get_or-set_other, length-set, length-replicate, length-map, cases_eq}
+use Rattle.std.proofs.lemmas.List.{get_or-replicate}
 use Rattle.slab.specs.Slab.{Slab, get, Updates}
-use Rattle.xa_words.specs.declared.request.Op.{Op}
+use Rattle.xa_words.specs.{Op}
 use Rattle.xa_words.specs.declared.code.Code.{Code}
-use Rattle.xa_desk.specs.declared.operation.Operation.{Operation}
-use Rattle.xa_desk.specs.declared.slot.Slot.{Slot}
-use Rattle.xa_desk.specs.LedgerView.{LedgerView, new_ledger, with_sent, with_collected}
-use Rattle.xa_desk.specs.DeskView.{IsKnown, no_ledger, ledger, after_sent, after_collected}
-use Rattle.xa_desk.specs.Lanes.{new_ledgers}
-use Rattle.xa_desk.specs.Slots.{KeysView, no_keys, with_key, row_of, key_at, AreTold, AreKeys}
+use Rattle.xa_desk.specs.{Operation, Slot, new_ledger, with_sent, with_collected, IsKnown, no_ledger, ledger, after_sent, after_collected, new_ledgers}
+use Rattle.xa_desk.specs.{KeysView, no_keys, with_key, row_of, key_at, AreTold, AreKeys}
+use Rattle.xa_desk.specs.LedgerView.{LedgerView}
 use Rattle.xa_desk.proofs.Ledgers.{same_operation, ledger-sent_same, ledger-sent_other, ledger-collected_same, ledger-collected_other, known_before}
 use Rattle.xa_desk.proofs.Ledgers.{collected_known, length-put_ledger}
 use Rattle.xa_desk.proofs.Books.{found_cases, found_before}

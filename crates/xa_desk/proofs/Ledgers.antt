@@ -1,21 +1,20 @@
 -- What a sending and a collection do to the ledgers.
-use Rattle.std.proofs.Common.{◌≡◌, ◌≢◌, ℕ, zero, suc, ◌+◌, ◌-◌, ◌<◌, ◌≤◌, ◌⊎◌, false, ◌||◌, nat_eq, List, [], ◌∷◌, ◌++◌, length, Option, Some, None, get_or}
-use Rattle.std.proofs.Common.{sum_by, sym, refl, ap, ◌∙◌, subst, inl, inr, arith, length-append, true, ◌&&◌, nat_le, if◌then◌else◌}
+use Rattle.xa_base.proofs.{◌≡◌, ◌≢◌, ℕ, zero, suc, ◌+◌, ◌-◌, ◌<◌, ◌≤◌, ◌⊎◌, false, ◌||◌, nat_eq, List, [], ◌∷◌, ◌++◌, length, Option, Some, None, get_or, sym}
+use Rattle.xa_base.proofs.{refl, ap, ◌∙◌, subst, inl, inr, arith, length-append, true, ◌&&◌, nat_le, if◌then◌else◌, map-append, length-set, get_or-set_same}
+use Rattle.xa_base.proofs.{get_or-set_other, length-map, list_any-append, cases_eq, false_from_ne_true, eqb-true, or_parts, or_from, false≢true, ne_eqb}
+use Rattle.xa_base.proofs.{eqb-false, and_parts, le-leb, cases_lt, by_bool}
+use Rattle.std.proofs.Common.{sum_by}
 use Rattle.std.specs.Cmp.{nat_eq_equiv}
-use Rattle.std.proofs.lemmas.List.{map-append, length-set, get_or-set_same, get_or-set_other, get_or_read, length-map, set_past}
+use Rattle.std.proofs.lemmas.List.{get_or_read, set_past}
 use Rattle.std.proofs.lemmas.List.Sums.{sum_by-set, sum_by-cons}
-use Rattle.std.proofs.lemmas.List.Folds.{list_any-append}
 use Rattle.std.proofs.lemmas.Map.Keys.{IsDistinct-push}
 use Rattle.std.proofs.lemmas.Map.Steps.{length-le_from_distinct_below}
-use Rattle.std.proofs.lemmas.Bool.{cases_eq, false_from_ne_true, eqb-true, or_cases, or_parts, or_from, false≢true, ne_eqb, eqb-false, and_parts, le-leb}
-use Rattle.std.proofs.lemmas.Bool.{leb-true, cases_lt}
-use Rattle.xa_base.proofs.Truth.{by_bool}
-use Rattle.xa_words.specs.declared.request.Op.{Op}
+use Rattle.std.proofs.lemmas.Bool.{or_cases, leb-true}
+use Rattle.xa_words.specs.{Op}
 use Rattle.xa_words.specs.declared.code.Code.{Code}
-use Rattle.xa_desk.specs.declared.operation.Operation.{Operation}
-use Rattle.xa_desk.specs.LedgerView.{LedgerView, numbers, is_collected, with_sent, with_collected}
-use Rattle.xa_desk.specs.DeskView.{IsKnown, IsSent, IsOut, ledger, put_ledger, no_ledger, after_sent, after_collected, is_known, sent_to}
-use Rattle.xa_desk.specs.Slots.{IsOrderly, planned_total}
+use Rattle.xa_desk.specs.{Operation, numbers, is_collected, with_sent, with_collected, IsKnown, IsSent, IsOut, ledger, put_ledger, no_ledger, after_sent}
+use Rattle.xa_desk.specs.{after_collected, is_known, sent_to, IsOrderly, planned_total}
+use Rattle.xa_desk.specs.LedgerView.{LedgerView}
 
 -- an operation is its manager and its number
 pub same_operation : (a b : Operation) → a.manager ≡ b.manager → a.number ≡ b.number → a ≡ b

@@ -1,18 +1,15 @@
 -- What takes of the lane of completions leave as it was.
-use Rattle.std.proofs.Common.{◌≡◌, ◌≢◌, ◌≤◌, ℕ, List, length, Option, Some, None, IfSome, OnSome, IsNone, IsSome, is_some, true, false, ◌+◌, sym, ◌∙◌, refl, ap}
-use Rattle.std.proofs.Common.{subst, arith}
+use Rattle.xa_base.proofs.{◌≡◌, ◌≢◌, ◌≤◌, ℕ, List, length, Option, Some, None, IfSome, is_some, true, false, ◌+◌, sym, ◌∙◌, refl, ap, subst, arith}
+use Rattle.std.proofs.Common.{OnSome, IsNone, IsSome}
 use Rattle.std.specs.FinMap as finmap
 use Rattle.xa_words.specs.declared.code.Code.{Code}
-use Rattle.xa_words.specs.declared.request.Completion.{Completion}
-use Rattle.xa_lane.specs.declared.parcel.Taken.{Taken}
-use Rattle.xa_lane.specs.declared.parcel.Taken.TheVariants.{Item, EndOf, Empty}
-use Rattle.xa_lane.specs.Ends.{Receiving, Took}
-use Rattle.xa_desk.specs.declared.found.Found.TheVariants.{Its}
-use Rattle.xa_desk.specs.declared.operation.Operation.{Operation}
-use Rattle.xa_desk.specs.DeskView.{DeskView, TicketView, IsOut, IsLoose, Owns, opening_of, ready_at, ready_with, completed, outstanding, drained_code}
-use Rattle.xa_desk.specs.DeskView.{operation_of}
-use Rattle.xa_desk.specs.Lanes.{IsDesk}
-use Rattle.xa_desk.specs.Looks.{Drains, first, other, Draws, Pops, start, drawn, Looks, EndsQuiet, Collects, CollectsKept, CollectsLeast, TakesKept, DrawsFor}
+use Rattle.xa_words.specs.{Completion}
+use Rattle.xa_lane.specs.{Taken, Item, EndOf, Empty, Receiving, Took}
+use Rattle.xa_desk.specs.{Its, Operation, TicketView, IsOut, IsLoose, Owns, opening_of, ready_at, ready_with, completed, outstanding, drained_code}
+use Rattle.xa_desk.specs.{operation_of, IsDesk, Drains, first, other, Draws, Pops, start, drawn, EndsQuiet, Collects, CollectsKept, CollectsLeast, TakesKept}
+use Rattle.xa_desk.specs.{DrawsFor}
+use Rattle.xa_desk.specs.DeskView.{DeskView}
+use Rattle.xa_desk.specs.Looks.{Looks}
 use Rattle.xa_desk.proofs.Books.{drained_code-push_other}
 use Rattle.xa_desk.proofs.Ties.{tied_looks, tied_collected}
 

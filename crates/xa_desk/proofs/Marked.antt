@@ -1,19 +1,14 @@
 -- The marks of what is kept and of what is ready, as these change.
-use Rattle.std.proofs.Common.{◌≡◌, ◌≢◌, ℕ, zero, suc, ◌+◌, ◌<◌, ◌≤◌, Bool, true, false, List, [], ◌∷◌, ◌++◌, length, Option, Some, None, IsSome, IfSome, IfNone}
-use Rattle.std.proofs.Common.{is_some, get_or, set, replicate}
-use Rattle.std.proofs.Common.{sym, refl, ap, ◌∙◌, inl, inr, arith}
+use Rattle.xa_base.proofs.{◌≡◌, ◌≢◌, ℕ, zero, suc, ◌+◌, ◌<◌, ◌≤◌, Bool, true, false, List, [], ◌∷◌, ◌++◌, length, Option, Some, None, IfSome, is_some, get_or}
+use Rattle.xa_base.proofs.{set, replicate, sym, refl, ap, ◌∙◌, inl, inr, arith, get_or-set_same, get_or-set_other, cases_eq, cases_lt}
+use Rattle.std.proofs.Common.{IsSome, IfNone}
 use Rattle.std.specs.FinMap as map
-use Rattle.std.proofs.lemmas.List.{get_or-set_same, get_or-set_other, get_or_past}
-use Rattle.std.proofs.lemmas.Bool.{cases_eq, cases_lt}
+use Rattle.std.proofs.lemmas.List.{get_or_past}
 use Rattle.slab.specs.Slab.{Slab}
-use Rattle.xa_words.specs.declared.request.Completion.{Completion}
+use Rattle.xa_words.specs.{Completion}
 use Rattle.xa_desk.specs.declared.marks.Marks.{Marks}
-use Rattle.xa_desk.specs.declared.operation.Operation.{Operation}
-use Rattle.xa_desk.specs.declared.slot.Slot.{Slot}
+use Rattle.xa_desk.specs.{Operation, Slot, IsLeast, asked_at, ready_with, operation_of, drained_code, IsBooks, HasKept, kept_of, is_marked, AreKept, AreReady}
 use Rattle.xa_desk.specs.LedgerView.{LedgerView}
-use Rattle.xa_desk.specs.DeskView.{IsLeast, asked_at, ready_with, operation_of, drained_code}
-use Rattle.xa_desk.specs.Slots.{IsBooks, HasKept, kept_of}
-use Rattle.xa_desk.specs.Marks.{is_marked, AreKept, AreReady}
 use Rattle.xa_desk.proofs.Books.{same_slot, drained_code-push_first, drained_code-push_other}
 use Rattle.xa_desk.proofs.KeptPlaces.{get-kept_of, get-kept_of_zero}
 

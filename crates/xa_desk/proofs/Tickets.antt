@@ -1,17 +1,15 @@
 -- Which tickets are still owned as a desk goes on.
-use Rattle.std.proofs.Common.{◌≡◌, ◌≢◌, ℕ, zero, suc, cond, Option, Some, None, IfSome, IsNone, sym, refl, ap, ◌∙◌, subst, inl, inr}
-use Rattle.std.proofs.lemmas.Bool.{cases_eq}
-use Rattle.std.specs.Cmp.{nat_cmp_total}
+use Rattle.xa_base.proofs.{◌≡◌, ◌≢◌, ℕ, zero, suc, cond, Option, Some, None, IfSome, sym, refl, ap, ◌∙◌, subst, inl, inr, cases_eq, nat_cmp_total, tied_true}
+use Rattle.xa_base.proofs.{tied_false}
+use Rattle.std.proofs.Common.{IsNone}
 use Rattle.std.specs.FinMap as map
 use Rattle.xa_words.specs.declared.code.Code.{Code}
-use Rattle.xa_words.specs.declared.request.Op.{Op}
-use Rattle.xa_desk.specs.declared.operation.Operation.{Operation}
-use Rattle.xa_desk.specs.DeskView.{DeskView, TicketView, IsKnown, Owns, next_operation}
-use Rattle.xa_desk.specs.Lanes.{submitted, after_full, after_fulls}
-use Rattle.xa_desk.specs.Looks.{Looks, EndsQuiet, Collects, TakesKept, CollectsKept, CollectsLeast}
-use Rattle.xa_desk.specs.Tickets.{LeavesTickets, LeavesOthers}
+use Rattle.xa_words.specs.{Op}
+use Rattle.xa_desk.specs.{Operation, TicketView, IsKnown, Owns, next_operation, submitted, after_full, after_fulls, EndsQuiet, Collects, TakesKept}
+use Rattle.xa_desk.specs.{CollectsKept, CollectsLeast, LeavesTickets, LeavesOthers}
+use Rattle.xa_desk.specs.DeskView.{DeskView}
+use Rattle.xa_desk.specs.Looks.{Looks}
 use Rattle.xa_desk.proofs.Ledgers.{sent_keeps_out, unsent, collected_keeps_out}
-use Rattle.xa_base.proofs.Truth.{tied_true, tied_false}
 use Rattle.xa_desk.proofs.Looks.{looks_owned, quiet_looks}
 use Rattle.xa_desk.proofs.Ties.{fulls_alike}
 

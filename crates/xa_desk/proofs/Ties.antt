@@ -1,25 +1,15 @@
 -- A desk's ledgers go on saying what its ends of lanes do.
-use Rattle.std.proofs.Common.{◌≡◌, ◌≢◌, ℕ, zero, suc, ◌+◌, ◌-◌, ◌<◌, List, [], ◌∷◌, ◌++◌, length, map, Option, Some, None, get_or, sym, refl, ap, ◌∙◌, subst}
-use Rattle.std.proofs.Common.{inl, inr, arith, append-nil}
-use Rattle.std.specs.List.{All, slice_get}
-use Rattle.std.proofs.lemmas.List.{map-append, length-map}
-use Rattle.std.proofs.lemmas.List.Elements.{All-append, All-cons, All-nil}
-use Rattle.std.proofs.lemmas.Bool.{cases_eq}
-use Rattle.xa_words.specs.declared.request.Op.{Op}
+use Rattle.xa_base.proofs.{◌≡◌, ◌≢◌, ℕ, zero, suc, ◌+◌, ◌-◌, ◌<◌, List, [], ◌∷◌, ◌++◌, length, map, Option, Some, None, get_or, sym, refl, ap, ◌∙◌, subst, inl}
+use Rattle.xa_base.proofs.{inr, arith, append-nil, All, slice_get, map-append, length-map, All-append, All-cons, All-nil, cases_eq}
+use Rattle.xa_words.specs.{Op, Request, Completion}
 use Rattle.xa_words.specs.declared.code.Code.{Code}
-use Rattle.xa_words.specs.declared.request.Request.{Request}
-use Rattle.xa_words.specs.declared.request.Completion.{Completion}
-use Rattle.xa_lane.specs.declared.parcel.Parcel.{Parcel}
-use Rattle.xa_lane.specs.declared.parcel.Taken.{Taken}
-use Rattle.xa_lane.specs.declared.parcel.Taken.TheVariants.{Item, EndOf, Empty}
-use Rattle.xa_lane.specs.Ends.{Sending, Receiving, somes, parcel}
-use Rattle.xa_lane.specs.Senders.{at_place, with_item, with_full, but_full, sent_at}
-use Rattle.xa_desk.specs.declared.operation.Operation.{Operation}
-use Rattle.xa_desk.specs.LedgerView.{LedgerView, new_ledger, with_sent, with_collected}
-use Rattle.xa_desk.specs.DeskView.{DeskView, IsKnown, ledger, after_collected, drained_code}
-use Rattle.xa_desk.specs.Lanes.{next_request, submitted, after_full, after_fulls, numbered, arrived, IsPartOf, nothing, with_last, without_last, IsEndTo}
-use Rattle.xa_desk.specs.Lanes.{AreEnds, WasDrained, IsTied, IsDesk, PartsView, AreNew, new_desk}
-use Rattle.xa_desk.specs.Looks.{Drains, first, other, Draws, Pops, start, drawn, Looks}
+use Rattle.xa_lane.specs.{Parcel, Taken, Item, EndOf, Empty, Sending, Receiving, somes, parcel, at_place, with_item, with_full, but_full, sent_at}
+use Rattle.xa_desk.specs.{Operation, new_ledger, with_sent, with_collected, IsKnown, ledger, after_collected, drained_code, next_request, submitted, after_full}
+use Rattle.xa_desk.specs.{after_fulls, numbered, arrived, IsPartOf, nothing, with_last, without_last, IsEndTo, AreEnds, WasDrained, IsTied, IsDesk, PartsView}
+use Rattle.xa_desk.specs.{AreNew, new_desk, Drains, first, other, Draws, Pops, start, drawn}
+use Rattle.xa_desk.specs.LedgerView.{LedgerView}
+use Rattle.xa_desk.specs.DeskView.{DeskView}
+use Rattle.xa_desk.specs.Looks.{Looks}
 use Rattle.xa_desk.proofs.Ledgers.{same_operation, ledger-sent_same, ledger-sent_other, ledger-collected_same, ledger-collected_other, known_before}
 use Rattle.xa_desk.proofs.Ledgers.{collected_known, length-put_ledger}
 use Rattle.xa_lane.proofs.Senders.{length-at_place, at_place_cases, sent_at-full, sent_at-item, sent_at-other, sent_at-but_full, nothing_sent}

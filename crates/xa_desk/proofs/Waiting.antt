@@ -1,9 +1,8 @@
 -- How waiting calls idle.
-use Rattle.std.proofs.Common.{◌≡◌, ℕ, zero, suc, ◌+◌, List, [], ◌∷◌, ◌++◌, length, refl, subst, arith}
-use Rattle.xa_words.specs.declared.request.Request.{Request}
-use Rattle.xa_lane.specs.Ends.{Sending}
-use Rattle.xa_lane.specs.Senders.{but_full}
-use Rattle.xa_desk.specs.Waits.{MarksEnd, MarkEnds, found_full}
+use Rattle.xa_base.proofs.{◌≡◌, ℕ, zero, suc, ◌+◌, List, [], ◌∷◌, ◌++◌, length, refl, subst, arith}
+use Rattle.xa_words.specs.{Request}
+use Rattle.xa_lane.specs.{Sending, but_full}
+use Rattle.xa_desk.specs.{MarksEnd, MarkEnds, found_full}
 
 module _ {I : Type 0} (by : ℕ → I → I → Type 0) where
   -- one more end mark was put

@@ -15,3 +15,39 @@ pub mod Seats
 pub mod Growth
 pub mod GoesOn
 pub mod Waits
+
+-- The words of this crate, by its name.
+pub use LedgerView.{IsBalanced, is_collected, is_rm_fail, learnt_shut, new_ledger, numbers, with_collected, with_sent}
+pub use DeskView.{IsHandle, IsKnown, IsLeast, IsLeastFree, IsLoose, IsOut, IsSent, Owns, TicketView, after_collected}
+pub use DeskView.{after_sent, asked_at, call_refusal, collected_from, completed, drained_code, handle_refusal, is_asked}
+pub use DeskView.{is_known, keeps_at, kept_code, ledger, names, next_operation, no_ledger, opening_of, operation_code}
+pub use DeskView.{operation_of, outstanding, put_ledger, reach_refusal, ready_at, ready_with, room_at, room_refusal}
+pub use DeskView.{sent_to, spent_refusal, submit_refusal, ticket_code, ticket_of}
+pub use Kept.{AllKept, HoldsNone}
+pub use Looks.{Collects, CollectsKept, CollectsLeast, CollectsTaken, Drains, Draws, DrawsFor, EndsQuiet, LooksOnce}
+pub use Looks.{Pops, TakesKept, after_quiet, drawn, first, other, start}
+pub use Ledger.{IsLedger, ledger_of}
+pub use Slots.{AreKeys, AreTold, EntersCode, EntersHandle, HasKept, HasSlot, IsBooks, IsOrderly, KeysView}
+pub use Slots.{collected_total, kept_of, key_at, logged, no_keys, planned_total, ready_count, ready_weight, row_of}
+pub use Slots.{with_key}
+pub use Marks.{AreKept, AreReady, is_marked}
+pub use Book.{IsBook, IsWithinLimits, desk_of}
+pub use Tickets.{LeavesOthers, LeavesTickets}
+pub use Lanes.{AreEnds, AreEndsTo, AreNew, IsDesk, IsEndTo, IsPartOf, IsTied, PartsView, WasDrained, after_full}
+pub use Lanes.{after_fulls, arrived, new_desk, new_ledgers, next_request, nothing, numbered, submitted, with_last}
+pub use Lanes.{without_last}
+pub use Ended.{AreBalanced, EndedView, Ends, IsEnded}
+pub use Parts.{AreParts, carried, parts_of}
+pub use EndedParts.{AreEndedParts, ended_of}
+pub use Seats.{DeskSeat, desk_seat, seat_of_desk, seat_of_ended}
+pub use Growth.{HasGrown, HaveGrown}
+pub use GoesOn.{GoesOut, plan_of, plans}
+pub use Waits.{Idles, IsMissing, MarkEnds, MarksEnd, NothingIsReady, SendsAndWaits, WaitsFor, WaitsForAny, begins}
+pub use Waits.{found_full, idles}
+pub use declared.event.Event.{Event}
+pub use declared.event.Event.TheVariants.{Collected, Sent}
+pub use declared.found.Found.TheVariants.{Its}
+pub use declared.operation.Operation.{Operation}
+pub use declared.refused.Refused.{Refused}
+pub use declared.refused.Refused.TheVariants.{Full, NoSuchManager, Shut, Spent, TooMany}
+pub use declared.slot.Slot.{Slot}

@@ -1,24 +1,18 @@
 -- What one request to a manager does to a desk, which is put and waited for before anything else is done.
-use Rattle.std.proofs.Common.{◌≡◌, ℕ, ◌+◌, ◌-◌, ◌≤◌, ◌==◌, ◌||◌, true, false, if◌then◌else◌, Option, Some, None, List, not, length, refl, sym, ap, ◌∙◌, subst}
-use Rattle.std.proofs.Common.{arith, inl, inr, length-append, [], ◌∷◌}
-use Rattle.std.specs.Prelude.{nat_lt}
-use Rattle.std.specs.Option.{option_or}
-use Rattle.std.proofs.lemmas.Bool.{cases_Bool, eqb-true, eqb-false, ltb-false, le-ltb, ne_eqb, or_parts, or_from}
-use Rattle.xa_base.proofs.Truth.{by_if, at_false}
+use Rattle.xa_base.proofs.{◌≡◌, ℕ, ◌+◌, ◌-◌, ◌≤◌, ◌==◌, ◌||◌, true, false, if◌then◌else◌, Option, Some, None, List, not, length, refl, sym, ap, ◌∙◌, subst}
+use Rattle.xa_base.proofs.{arith, inl, inr, length-append, [], ◌∷◌, nat_lt, option_or, cases_Bool, eqb-true, eqb-false, ne_eqb, or_parts, or_from, by_if}
+use Rattle.xa_base.proofs.{at_false}
+use Rattle.std.proofs.lemmas.Bool.{ltb-false, le-ltb}
 use Rattle.xa_words.specs.declared.code.Code.{Code}
-use Rattle.xa_words.specs.declared.request.Op.{Op}
-use Rattle.xa_desk.specs.declared.refused.Refused.{Refused}
-use Rattle.xa_desk.specs.declared.refused.Refused.TheVariants.{NoSuchManager, Shut}
-use Rattle.xa_desk.specs.LedgerView.{LedgerView, learnt_shut, with_sent, with_collected}
-use Rattle.xa_desk.specs.DeskView.{DeskView, IsKnown, is_known, ledger, put_ledger, next_operation, outstanding, room_at, call_refusal, spent_refusal}
+use Rattle.xa_words.specs.{Op}
+use Rattle.xa_desk.specs.{Refused, NoSuchManager, Shut, learnt_shut, with_sent, with_collected, IsKnown, is_known, ledger, put_ledger, next_operation}
+use Rattle.xa_desk.specs.{outstanding, room_at, call_refusal, spent_refusal, AllKept, submitted, after_fulls, Collects}
+use Rattle.xa_desk.specs.LedgerView.{LedgerView}
+use Rattle.xa_desk.specs.DeskView.{DeskView}
 use Rattle.xa_desk.specs.GoesOn.{GoesOn}
-use Rattle.xa_desk.specs.Kept.{AllKept}
-use Rattle.xa_desk.specs.Lanes.{submitted, after_fulls}
-use Rattle.xa_desk.specs.Looks.{Collects}
 use Rattle.xa_desk.proofs.Ledgers.{known_by, ledger-put_same, ledger-put_other}
 use Rattle.xa_calls.proofs.Kept.{answered_keep, fulls_kept, fulls_ledgers}
-use Rattle.xa_driver.specs.Asks.{asked}
-use Rattle.xa_driver.specs.Resolving.{AsksLedger, AsksAlone}
+use Rattle.xa_driver.specs.{asked, AsksLedger, AsksAlone}
 use Rattle.xa_driver.proofs.Asking.{Moved, keeps_start, keeps_chain}
 use Rattle.xa_driver.proofs.Gathering.{open_asked}
 use Rattle.xa_driver.proofs.Ledgers.{open_count, put_length, put_open}

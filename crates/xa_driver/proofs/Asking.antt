@@ -1,16 +1,13 @@
 -- What a request to one manager does to a desk.
-use Rattle.std.specs.Prelude.{◌≡◌, ◌≢◌, ℕ, ◌+◌, ◌≤◌, if◌then◌else◌, Option, None, Some, length, refl}
-use Rattle.std.proofs.Common.{sym, ap, ◌∙◌, subst}
-use Rattle.xa_base.proofs.Truth.{at_false, at_true}
+use Rattle.xa_base.proofs.{◌≡◌, ◌≢◌, ℕ, ◌+◌, ◌≤◌, if◌then◌else◌, Option, None, Some, length, refl, sym, ap, ◌∙◌, subst, at_false, at_true}
 use Rattle.xa_words.specs.declared.code.Code.{Code}
-use Rattle.xa_words.specs.declared.request.Op.{Op}
-use Rattle.xa_desk.specs.declared.operation.Operation.{Operation}
-use Rattle.xa_desk.specs.LedgerView.{LedgerView, learnt_shut, with_sent, with_collected}
-use Rattle.xa_desk.specs.DeskView.{DeskView, TicketView, IsKnown, ledger, put_ledger, after_collected, outstanding}
-use Rattle.xa_desk.specs.Looks.{Collects}
+use Rattle.xa_words.specs.{Op}
+use Rattle.xa_desk.specs.{Operation, learnt_shut, with_sent, with_collected, TicketView, IsKnown, ledger, put_ledger, after_collected, outstanding, Collects}
+use Rattle.xa_desk.specs.LedgerView.{LedgerView}
+use Rattle.xa_desk.specs.DeskView.{DeskView}
 use Rattle.xa_desk.proofs.GoesOn.{goes_same, goes_further, goes_collecting}
 use Rattle.xa_desk.proofs.Ledgers.{ledger-put_same, ledger-put_other}
-use Rattle.xa_driver.specs.Asks.{Ask, KeepsDesk, IsUnsent, IsSending, BeginsAsk, Ends}
+use Rattle.xa_driver.specs.{Ask, KeepsDesk, IsUnsent, IsSending, BeginsAsk, Ends}
 use Rattle.xa_driver.proofs.Ledgers.{open_count, put_length, put_open}
 
 -- what one request does to a desk

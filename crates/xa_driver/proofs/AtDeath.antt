@@ -1,52 +1,30 @@
 -- A commit whose coordinator dies: what was asked of each branch, how far that came, and what is kept of it.
-use Rattle.std.specs.Prelude.{if◌then◌else◌, is_none, min}
-use Rattle.std.proofs.Common.{◌≡◌, ℕ, zero, suc, ◌==◌, ◌||◌, ◌<◌, ◌≤◌, Bool, true, false, inl, inr, ⊎_elim, Option, Some, None, List, [], ◌∷◌, ◌++◌}
-use Rattle.std.proofs.Common.{length, map}
-use Rattle.std.proofs.Common.{take, refl, sym, ap, ◌∙◌, subst, arith, append-nil, length-append}
+use Rattle.xa_base.proofs.{if◌then◌else◌, ◌≡◌, ℕ, zero, suc, ◌==◌, ◌||◌, ◌<◌, ◌≤◌, Bool, true, false, inl, inr, ⊎_elim, Option, Some, None, List, [], ◌∷◌, ◌++◌}
+use Rattle.xa_base.proofs.{length, map, take, refl, sym, ap, ◌∙◌, subst, arith, append-nil, length-append, eq-eqb, length-map, or-true, some_same}
+use Rattle.std.specs.Prelude.{is_none, min}
 use Rattle.std.specs.FinMap as finmap
-use Rattle.std.proofs.lemmas.Bool.{eq-eqb}
-use Rattle.std.proofs.lemmas.List.{length-map}
-use Rattle.std.proofs.Math.Bool.{or-true}
 use Rattle.std.proofs.Math.Seq.{take-append_seam}
-use Rattle.xa_base.proofs.Lists.{some_same}
-use Rattle.xa_words.specs.Tran.{TranName}
+use Rattle.xa_words.specs.{TranName, Death, Op, Prepare}
 use Rattle.xa_words.specs.declared.code.Code.{Code}
-use Rattle.xa_words.specs.declared.death.Death.{Death}
 use Rattle.xa_words.specs.declared.death.Death.TheVariants as death
-use Rattle.xa_words.specs.declared.request.Op.{Op}
-use Rattle.xa_words.specs.declared.request.Op.TheVariants.{Prepare}
-use Rattle.xa_desk.specs.declared.operation.Operation.{Operation}
-use Rattle.xa_desk.specs.GoesOn.{GoesOn, plan_of}
-use Rattle.xa_desk.specs.Kept.{AllKept}
-use Rattle.xa_desk.specs.LedgerView.{LedgerView, with_sent}
-use Rattle.xa_desk.specs.DeskView.{DeskView, TicketView, ledger}
+use Rattle.xa_desk.specs.{Operation, plan_of, AllKept, with_sent, TicketView, ledger}
+use Rattle.xa_desk.specs.GoesOn.{GoesOn}
+use Rattle.xa_desk.specs.LedgerView.{LedgerView}
+use Rattle.xa_desk.specs.DeskView.{DeskView}
 use Rattle.xa_desk.proofs.GoesOn.{goes_same, goes_further}
-use Rattle.xa_driver.specs.declared.branch.Branch.{Branch}
-use Rattle.xa_driver.specs.declared.done.Done.{Done}
-use Rattle.xa_driver.specs.declared.done.Ending.{Ending}
-use Rattle.xa_driver.specs.declared.round.Round.{Round}
-use Rattle.xa_driver.specs.declared.stages.Prepared.{Prepared}
-use Rattle.xa_driver.specs.declared.stages.Decided.{Decided}
-use Rattle.xa_driver.specs.declared.stages.Told.{Told}
-use Rattle.xa_driver.specs.Asks.{Ask, AskTrace, EachAsk, EachBegan, HasBegun, IsUnsent, KeepsTheRest, SameAsks, among_asks}
-use Rattle.xa_driver.specs.Deaths.{AppendsUntil, CameToVotes, Dies, HaveAsked, HaveTold, IsDecidedBy, IsOfRound}
-use Rattle.xa_driver.specs.Deaths.{LeavesDesk}
-use Rattle.xa_driver.specs.Deaths.{LeavesHandles, PutsLedger, Tells, VotesAndObeys, is_decided_by, sent, to_come, withheld}
-use Rattle.xa_driver.specs.Decision.{yes_of}
-use Rattle.xa_driver.specs.Endings.{ending_of, second_op}
-use Rattle.xa_driver.specs.Resolving.{AsksLedger}
-use Rattle.xa_driver.specs.Rounds.{code_of, ending_of_ask, first_ask, second_ask, yes_asked}
-use Rattle.xa_driver.specs.Stages.{HasDecided, HasPrepared, HasTold, IsUndecided}
-use Rattle.xa_driver.specs.Steps.{asked_in}
-use Rattle.xa_driver.specs.Trace.{AppendsOnce, EachBranch, Logs, decision_of, has_branch_at}
-use Rattle.xa_driver.specs.UnderWay.{IsAmong, IsSent, IsUnderWay, LeavesInFlight}
+use Rattle.xa_driver.specs.{Branch, Done, Ending, Round, Prepared, Decided, Told, Ask, AskTrace, EachAsk, EachBegan, HasBegun, IsUnsent, KeepsTheRest, SameAsks}
+use Rattle.xa_driver.specs.{among_asks, AppendsUntil, CameToVotes, Dies, HaveAsked, HaveTold, IsDecidedBy, IsOfRound, LeavesDesk, LeavesHandles, PutsLedger}
+use Rattle.xa_driver.specs.{Tells, VotesAndObeys, is_decided_by, to_come, withheld, yes_of, ending_of, second_op, AsksLedger, code_of, ending_of_ask, first_ask}
+use Rattle.xa_driver.specs.{second_ask, yes_asked, HasDecided, HasPrepared, HasTold, IsUndecided, asked_in, AppendsOnce, EachBranch, Logs, decision_of}
+use Rattle.xa_driver.specs.{has_branch_at, IsAmong, IsSent, IsUnderWay, LeavesInFlight}
+use Rattle.xa_driver.specs.Deaths.{sent}
 use Rattle.xa_driver.proofs.Calls.{among_first, among_second, asks_long, first_trace, second_code, second_is, second_trace, yes_is}
 use Rattle.xa_driver.proofs.Flights.{among_first_part, among_last_part}
 use Rattle.xa_driver.proofs.OneCall.{seconds_are}
 use Rattle.xa_driver.proofs.Ordering.{no_elements}
 use Rattle.xa_driver.proofs.Stepping.{as_many, so_far}
 use Rattle.xa_driver.proofs.Traces.{for_trace}
-use Rattle.xa_log.specs.Log.{LogState}
+use Rattle.xa_log.specs.{LogState}
 
 -- ---- a request that is put
 

@@ -1,30 +1,19 @@
 -- The three rounds make a call.
-use Rattle.std.specs.Prelude.{◌≡◌, ℕ, ◌+◌, ◌≤◌, Bool, ◌||◌, ◌&&◌, ◌==◌, Option, None, Some, unwrap_or, List, [], ◌∷◌, ◌++◌, length, map, refl}
-use Rattle.std.proofs.Common.{sym, ap, ◌∙◌, subst, arith, get_or, length-append}
-use Rattle.std.proofs.Common.{take}
-use Rattle.std.proofs.lemmas.List.{length-map}
+use Rattle.xa_base.proofs.{◌≡◌, ℕ, ◌+◌, ◌≤◌, Bool, ◌||◌, ◌&&◌, ◌==◌, Option, None, Some, unwrap_or, List, [], ◌∷◌, ◌++◌, length, map, refl, sym, ap, ◌∙◌, subst}
+use Rattle.xa_base.proofs.{arith, get_or, length-append, take, length-map, by_if}
 use Rattle.std.proofs.Math.Seq.{take-append_seam}
-use Rattle.xa_words.specs.Tran.{TranName, tran_of}
+use Rattle.xa_words.specs.{TranName, tran_of, RmFail, Op, Prepare}
 use Rattle.xa_words.specs.declared.code.Code.{Code}
-use Rattle.xa_words.specs.declared.code.Code.TheVariants.{RmFail}
-use Rattle.xa_words.specs.declared.request.Op.{Op}
-use Rattle.xa_words.specs.declared.request.Op.TheVariants.{Prepare}
-use Rattle.xa_desk.specs.LedgerView.{LedgerView, learnt_shut}
-use Rattle.xa_desk.specs.DeskView.{ledger}
-use Rattle.xa_driver.specs.declared.branch.Branch.{Branch}
-use Rattle.xa_driver.specs.declared.done.Done.{Done}
-use Rattle.xa_driver.specs.declared.done.Ending.{Ending}
-use Rattle.xa_driver.specs.Decision.{is_yes, voted_yes, yes_of}
-use Rattle.xa_driver.specs.Endings.{second_op, third_op, ending_of}
-use Rattle.xa_log.specs.Log.{LogState}
-use Rattle.xa_driver.specs.Asks.{Ask, asked, IsAnswered, AskTrace, EachAsk, among_asks, Asks, SameAsks, IsSameAsk, AreRising, AllCanAsk}
-use Rattle.xa_driver.specs.Rounds.{first_ask, code_of, second_ask, third_ask, ending_of_ask, asked_yes, yes_asked}
-use Rattle.xa_driver.specs.Course.{AtBranch}
-use Rattle.xa_driver.specs.Resolving.{AsksLedger}
+use Rattle.xa_desk.specs.LedgerView.{LedgerView}
+use Rattle.xa_desk.specs.{learnt_shut, ledger}
+use Rattle.xa_driver.specs.{Branch, Done, Ending, is_yes, voted_yes, yes_of, second_op, third_op, ending_of, Ask, asked, IsAnswered, AskTrace, EachAsk}
+use Rattle.xa_driver.specs.{among_asks, SameAsks, IsSameAsk, AreRising, AllCanAsk, first_ask, code_of, second_ask, third_ask, ending_of_ask, asked_yes}
+use Rattle.xa_driver.specs.{yes_asked, AtBranch, AsksLedger, EachBranch, has_branch_at, IsTranOf, AreBranchesRising, HasRoom, HaveRoom, Logs, decision_of}
+use Rattle.xa_driver.specs.{IsTraceOfCommit}
+use Rattle.xa_log.specs.{LogState}
+use Rattle.xa_driver.specs.Asks.{Asks}
 use Rattle.xa_driver.proofs.Gathering.{among_mapped, same_among}
 use Rattle.xa_driver.proofs.Traces.{for_trace}
-use Rattle.xa_driver.specs.Trace.{EachBranch, has_branch_at, IsTranOf, AreBranchesRising, HasRoom, HaveRoom, Logs, decision_of, IsTraceOfCommit}
-use Rattle.xa_base.proofs.Truth.{by_if}
 
 pub first_rising : (lo : ℕ) (bs : List Branch) → AreBranchesRising lo bs → AreRising lo (map first_ask bs)
 first_rising lo [] r = tt

@@ -1,21 +1,17 @@
 -- Branches that are resolved one after another, and managers one after another.
-use Rattle.std.proofs.Common.{◌≡◌, ◌≢◌, ℕ, zero, suc, ◌+◌, ◌-◌, ◌*◌, ◌≤◌, ◌==◌, ◌||◌, if◌then◌else◌, List, [], ◌∷◌, ◌++◌, length, append-nil, sym, refl, ap}
-use Rattle.std.proofs.Common.{◌∙◌, subst, arith, inl, inr}
-use Rattle.std.specs.Prelude.{nat_lt}
-use Rattle.std.specs.List.{flat_map, range_with_len, sum_by}
-use Rattle.std.proofs.lemmas.Bool.{cases_Bool, eqb-true, eqb-false, eq-eqb, ne_eqb}
+use Rattle.xa_base.proofs.{◌≡◌, ◌≢◌, ℕ, zero, suc, ◌+◌, ◌-◌, ◌*◌, ◌≤◌, ◌==◌, ◌||◌, if◌then◌else◌, List, [], ◌∷◌, ◌++◌, length, append-nil, sym, refl, ap, ◌∙◌}
+use Rattle.xa_base.proofs.{subst, arith, inl, inr, nat_lt, flat_map, range_with_len, cases_Bool, eqb-true, eqb-false, eq-eqb, ne_eqb, range_more, at_true}
+use Rattle.xa_base.proofs.{at_false}
+use Rattle.std.specs.List.{sum_by}
 use Rattle.std.proofs.lemmas.Grind.{flat_map-append}
 use Rattle.std.proofs.lemmas.List.Sums.{sum_by_push}
-use Rattle.xa_base.proofs.Lists.{range_more}
-use Rattle.xa_base.proofs.Truth.{at_true, at_false}
-use Rattle.xa_words.specs.Xid.{XidName}
+use Rattle.xa_words.specs.{XidName}
 use Rattle.xa_desk.specs.LedgerView.{LedgerView}
-use Rattle.xa_desk.specs.DeskView.{ledger, room_at}
+use Rattle.xa_desk.specs.{ledger, room_at}
 use Rattle.xa_calls.specs.Scans.{Asking}
-use Rattle.xa_scan.specs.Left.{ScanView, left_at}
-use Rattle.xa_driver.specs.declared.resolved.Outcome.{Outcome}
-use Rattle.xa_log.specs.Log.{Records}
-use Rattle.xa_driver.specs.Resolving.{AsksLedger, Resolves, ResolvesAt, ResolvesThese, left_in, requests_for}
+use Rattle.xa_scan.specs.{ScanView, left_at}
+use Rattle.xa_driver.specs.{Outcome, AsksLedger, Resolves, ResolvesAt, ResolvesThese, left_in, requests_for}
+use Rattle.xa_log.specs.{Records}
 
 -- ---- a manager at which some are left
 

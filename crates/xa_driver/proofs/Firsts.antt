@@ -1,14 +1,11 @@
 -- A round of which the first requests are collected: how many of those were asked anything.
-use Rattle.std.specs.Prelude.{◌⊎◌, if◌then◌else◌, is_none, min, MatchOption}
-use Rattle.std.proofs.Common.{◌≡◌, ◌≢◌, ℕ, zero, suc, ◌+◌, ◌≤◌, Bool, true, false, inl, inr, Option, Some, List, [], ◌∷◌, length, length-set}
-use Rattle.std.proofs.Common.{add-one, ap, arith, refl, set, sym, take, ◌∙◌}
-use Rattle.std.specs.List.{slice_get}
+use Rattle.xa_base.proofs.{◌⊎◌, if◌then◌else◌, MatchOption, ◌≡◌, ◌≢◌, ℕ, zero, suc, ◌+◌, ◌≤◌, Bool, true, false, inl, inr, Option, Some, List, [], ◌∷◌, length}
+use Rattle.xa_base.proofs.{length-set, ap, arith, refl, set, sym, take, ◌∙◌, slice_get}
+use Rattle.std.specs.Prelude.{is_none, min}
+use Rattle.std.proofs.Common.{add-one}
 use Rattle.xa_words.specs.declared.code.Code.{Code}
 use Rattle.xa_desk.specs.DeskView.{DeskView}
-use Rattle.xa_driver.specs.Asks.{Ask}
-use Rattle.xa_driver.specs.declared.round.Round.{Round}
-use Rattle.xa_driver.specs.Steps.{asked_first, asked_in, is_passed, next_collected}
-use Rattle.xa_driver.specs.UnderWay.{Collects, IsSent, Stays, coded, next_ticket}
+use Rattle.xa_driver.specs.{Ask, Round, asked_first, asked_in, is_passed, next_collected, Collects, IsSent, Stays, coded, next_ticket}
 
 -- ---- the first of some requests
 

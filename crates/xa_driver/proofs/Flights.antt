@@ -1,18 +1,16 @@
 -- Requests in flight: what sending and collecting one leaves of the others.
-use Rattle.std.specs.Prelude.{◌≡◌, ◌≢◌, ℕ, ◌+◌, ◌<◌, ◌≤◌, false, ◌||◌, ◌==◌, Option, None, Some, List, [], ◌∷◌, ◌++◌, length, refl}
-use Rattle.std.proofs.Common.{sym, ap, ◌∙◌, subst, arith, length-append}
+use Rattle.xa_base.proofs.{◌≡◌, ◌≢◌, ℕ, ◌+◌, ◌<◌, ◌≤◌, false, ◌||◌, ◌==◌, Option, None, Some, List, [], ◌∷◌, ◌++◌, length, refl, sym, ap, ◌∙◌, subst, arith}
+use Rattle.xa_base.proofs.{length-append, eqb-false, ne_eqb, or_parts, at_false, at_true}
 use Rattle.std.specs.FinMap as finmap
-use Rattle.std.proofs.lemmas.Bool.{eqb-false, ne_eqb, or_parts}
 use Rattle.xa_words.specs.declared.code.Code.{Code}
-use Rattle.xa_words.specs.declared.request.Op.{Op}
-use Rattle.xa_desk.specs.LedgerView.{LedgerView, learnt_shut, is_collected, with_sent, with_collected}
-use Rattle.xa_desk.specs.DeskView.{DeskView, TicketView, IsKnown, Owns, ledger, outstanding}
+use Rattle.xa_words.specs.{Op}
+use Rattle.xa_desk.specs.LedgerView.{LedgerView}
+use Rattle.xa_desk.specs.{learnt_shut, is_collected, with_sent, with_collected, TicketView, IsKnown, Owns, ledger, outstanding, DeskSeat}
+use Rattle.xa_desk.specs.DeskView.{DeskView}
 use Rattle.xa_desk.proofs.Ledgers.{known_by}
-use Rattle.xa_desk.specs.Seats.{DeskSeat}
-use Rattle.xa_driver.specs.Asks.{Ask, AskTrace, EachAsk, among_asks, AreRising, CanAsk, AllCanAsk, KeepsDesk, IsUnsent, unsent_code, BeginsAsk, Ends, HasBegun}
-use Rattle.xa_driver.specs.Asks.{EachBegan}
+use Rattle.xa_driver.specs.{Ask, AskTrace, EachAsk, among_asks, AreRising, CanAsk, AllCanAsk, KeepsDesk, IsUnsent, unsent_code, BeginsAsk, Ends, HasBegun}
+use Rattle.xa_driver.specs.{EachBegan}
 use Rattle.xa_driver.proofs.Ledgers.{open_count}
-use Rattle.xa_base.proofs.Truth.{at_false, at_true}
 use Rattle.xa_driver.proofs.Asking.{sent_by, Moved, began_moved, ended_moved, collected_of, sent_is}
 
 -- ---- which managers are among requests

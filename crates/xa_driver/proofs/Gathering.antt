@@ -1,16 +1,14 @@
 -- A round of requests: as they are collected one after another, and when all are.
-use Rattle.std.specs.Prelude.{◌≡◌, ℕ, ◌+◌, ◌-◌, ◌<◌, ◌≤◌, true, false, ◌||◌, ◌==◌, Option, None, Some, List, [], ◌∷◌, length, fold, map, refl}
-use Rattle.std.proofs.Common.{ap, ◌∙◌, subst, arith, get_or, set, suc, zero, length-append}
-use Rattle.std.specs.List.{All, list_any}
-use Rattle.std.proofs.lemmas.List.Elements.{All-nil, All-cons, All-head, All-tail}
-use Rattle.std.proofs.lemmas.Bool.{eqb-true, ne_eqb}
+use Rattle.xa_base.proofs.{◌≡◌, ℕ, ◌+◌, ◌-◌, ◌<◌, ◌≤◌, true, false, ◌||◌, ◌==◌, Option, None, Some, List, [], ◌∷◌, length, map, refl, ap, ◌∙◌, subst, arith}
+use Rattle.xa_base.proofs.{get_or, set, suc, zero, length-append, All, list_any, All-nil, All-cons, All-head, All-tail, eqb-true, ne_eqb, by_if}
+use Rattle.std.specs.Prelude.{fold}
 use Rattle.xa_words.specs.declared.code.Code.{Code}
-use Rattle.xa_words.specs.declared.request.Op.{Op}
-use Rattle.xa_desk.specs.LedgerView.{LedgerView, learnt_shut}
-use Rattle.xa_desk.specs.DeskView.{ledger, no_ledger, outstanding}
-use Rattle.xa_driver.specs.Asks.{Ask, asked, EachAsk, among_asks, Asks, SameAsks, IsSameAsk, AreRising}
+use Rattle.xa_words.specs.{Op}
+use Rattle.xa_desk.specs.LedgerView.{LedgerView}
+use Rattle.xa_desk.specs.{learnt_shut, ledger, no_ledger, outstanding}
+use Rattle.xa_driver.specs.{Ask, asked, EachAsk, among_asks, SameAsks, IsSameAsk, AreRising}
+use Rattle.xa_driver.specs.Asks.{Asks}
 use Rattle.xa_driver.proofs.Ledgers.{open_count}
-use Rattle.xa_base.proofs.Truth.{by_if}
 
 -- ---- the same requests
 

@@ -1,29 +1,18 @@
 -- For which managers a commit idles, one round after the other.
-use Rattle.std.proofs.Common.{◌≡◌, ℕ, zero, suc, ◌+◌, ◌≤◌, ◌<◌, length, length-append, length-set, arith, ◌==◌, ◌||◌, true, false, Option, None, Some, List, []}
-use Rattle.std.proofs.Common.{◌∷◌, ◌++◌, refl, sym, ap, ◌∙◌, subst}
-use Rattle.std.specs.Prelude.{Bool, IfNone, MatchOption, OnSome, map}
-use Rattle.std.specs.List.{slice_get}
-use Rattle.std.proofs.lemmas.Bool.{eq-eqb}
-use Rattle.std.proofs.Math.Bool.{or-true}
+use Rattle.xa_base.proofs.{◌≡◌, ℕ, zero, suc, ◌+◌, ◌≤◌, ◌<◌, length, length-append, length-set, arith, ◌==◌, ◌||◌, true, false, Option, None, Some, List, []}
+use Rattle.xa_base.proofs.{◌∷◌, ◌++◌, refl, sym, ap, ◌∙◌, subst, Bool, MatchOption, map, slice_get, eq-eqb, or-true}
+use Rattle.std.specs.Prelude.{IfNone, OnSome}
 use Rattle.xa_words.specs.declared.code.Code.{Code}
-use Rattle.xa_words.specs.declared.request.Op.{Op}
-use Rattle.xa_desk.specs.declared.operation.Operation.{Operation}
+use Rattle.xa_words.specs.{Op}
+use Rattle.xa_desk.specs.{Operation, TicketView, submitted, after_fulls, Idles, WaitsFor, begins, idles, IsMissing}
 use Rattle.xa_desk.specs.LedgerView.{LedgerView}
-use Rattle.xa_desk.specs.DeskView.{DeskView, TicketView}
-use Rattle.xa_desk.specs.Lanes.{submitted, after_fulls}
-use Rattle.xa_desk.specs.Waits.{Idles, Waits, WaitsFor, begins, idles, IsMissing}
-use Rattle.xa_driver.specs.declared.round.Round.{Round}
-use Rattle.xa_driver.specs.Asks.{Ask, HasBegun, SameAsks, among_asks}
-use Rattle.xa_driver.specs.Idling.{IdlesAt, IdlesToCollect, IdlesToSend, again, never, sent, unsent}
-use Rattle.xa_driver.specs.UnderWay.{Collects, IsSent, IsUnderWay, Sends, Stays, coded, next_ask, next_ticket, sent_count}
-use Rattle.xa_log.specs.Log.{LogState}
-use Rattle.xa_driver.specs.Rounds.{first_ask}
-use Rattle.xa_driver.specs.Stages.{HasDecided, HasPrepared, HasTold}
-use Rattle.xa_driver.specs.Trace.{has_branch_at}
-use Rattle.xa_driver.specs.declared.branch.Branch.{Branch}
-use Rattle.xa_driver.specs.declared.stages.Prepared.{Prepared}
-use Rattle.xa_driver.specs.declared.stages.Decided.{Decided}
-use Rattle.xa_driver.specs.declared.stages.Told.{Told}
+use Rattle.xa_desk.specs.DeskView.{DeskView}
+use Rattle.xa_desk.specs.Waits.{Waits}
+use Rattle.xa_driver.specs.{Round, Ask, HasBegun, SameAsks, among_asks, IdlesAt, IdlesToCollect, IdlesToSend, again, never, unsent, Collects, IsSent}
+use Rattle.xa_driver.specs.{IsUnderWay, Sends, Stays, coded, next_ask, next_ticket, sent_count, first_ask, HasDecided, HasPrepared, HasTold, has_branch_at}
+use Rattle.xa_driver.specs.{Branch, Prepared, Decided, Told}
+use Rattle.xa_driver.specs.Idling.{sent}
+use Rattle.xa_log.specs.{LogState}
 use Rattle.xa_driver.proofs.Calls.{among_first, among_second}
 use Rattle.xa_driver.proofs.OneCall.{seconds_are}
 use Rattle.xa_driver.proofs.Gathering.{same_among}

@@ -1,14 +1,9 @@
 -- A round whose requests are remade in place, one after another.
-use Rattle.std.proofs.Common.{◌≡◌, ℕ, zero, suc, ◌+◌, ◌<◌, ◌≤◌, List, [], ◌∷◌, ◌++◌, length, take, refl, sym, ap, ◌∙◌, subst, get_or, set, arith}
-use Rattle.std.specs.Prelude.{map}
+use Rattle.xa_base.proofs.{◌≡◌, ℕ, zero, suc, ◌+◌, ◌<◌, ◌≤◌, List, [], ◌∷◌, ◌++◌, length, take, refl, sym, ap, ◌∙◌, subst, get_or, set, arith, map}
 use Rattle.std.specs.VecDeque.{deque_capacity}
 use Rattle.xa_desk.specs.LedgerView.{LedgerView}
 use Rattle.xa_desk.specs.DeskView.{DeskView}
-use Rattle.xa_driver.specs.declared.done.Done.{Done}
-use Rattle.xa_driver.specs.declared.round.Round.{Round}
-use Rattle.xa_driver.specs.Asks.{Ask, AllCanAsk, AreRising, CanAsk}
-use Rattle.xa_driver.specs.Stages.{HasRoomForEndings}
-use Rattle.xa_driver.specs.UnderWay.{IsAtRest, MayAsk}
+use Rattle.xa_driver.specs.{Done, Round, Ask, AllCanAsk, AreRising, CanAsk, HasRoomForEndings, IsAtRest, MayAsk}
 use Rattle.xa_driver.proofs.Calls.{seam}
 
 -- the first n were remade

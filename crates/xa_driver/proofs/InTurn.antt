@@ -1,15 +1,12 @@
 -- What was resolved in turn was, whatever of each request is looked at.
-use Rattle.std.proofs.Common.{ℕ, true, false, List, [], ◌∷◌, ap}
-use Rattle.std.specs.Prelude.{Bool}
-use Rattle.xa_base.specs.Lists.{Chain, none, more}
-use Rattle.xa_words.specs.Xid.{XidName}
+use Rattle.xa_base.proofs.{ℕ, true, false, List, [], ◌∷◌, ap, Bool}
+use Rattle.xa_base.specs.{Chain, none, more}
+use Rattle.xa_words.specs.{XidName, Op}
 use Rattle.xa_words.specs.declared.code.Code.{Code}
-use Rattle.xa_words.specs.declared.request.Op.{Op}
 use Rattle.xa_calls.specs.Scans.{Asking}
-use Rattle.xa_scan.specs.Left.{ScanView, left_at}
-use Rattle.xa_driver.specs.declared.resolved.Outcome.{Outcome}
-use Rattle.xa_log.specs.Log.{Records}
-use Rattle.xa_driver.specs.Resolving.{AsksIf, ResolvesAt, ResolvesBranch, ResolvesInTurn, begun, next}
+use Rattle.xa_scan.specs.{ScanView, left_at}
+use Rattle.xa_driver.specs.{Outcome, AsksIf, ResolvesAt, ResolvesBranch, ResolvesInTurn, begun, next}
+use Rattle.xa_log.specs.{Records}
 
 module _ {D E : Type 0} (f : D → E) where
   module _ (asking : Asking D) (other : Asking E) (is : (d : D) (op : Op) (e : D) (code : Code) → asking d op e code → other (f d) op (f e) code) where

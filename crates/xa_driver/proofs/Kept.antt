@@ -1,17 +1,15 @@
 -- What is outstanding after requests that were collected was outstanding before them.
-use Rattle.std.proofs.Common.{◌≡◌, ℕ, ◌<◌, ◌≤◌, Bool, false, true, ◌||◌, ◌==◌, nat_eq, Option, Some, None, List, [], ◌∷◌, length, sym, ap, ◌∙◌, subst, inl, inr}
-use Rattle.std.proofs.Common.{arith, length-append}
-use Rattle.std.proofs.lemmas.Bool.{cases_Bool, eqb-true, eqb-false, or_parts}
-use Rattle.std.specs.Prelude.{if◌then◌else◌}
+use Rattle.xa_base.proofs.{◌≡◌, ℕ, ◌<◌, ◌≤◌, Bool, false, true, ◌||◌, ◌==◌, nat_eq, Option, Some, None, List, [], ◌∷◌, length, sym, ap, ◌∙◌, subst, inl, inr}
+use Rattle.xa_base.proofs.{arith, length-append, cases_Bool, eqb-true, eqb-false, or_parts, if◌then◌else◌}
 use Rattle.std.specs.FinMap as finmap
-use Rattle.xa_words.specs.declared.request.Op.{Op}
+use Rattle.xa_words.specs.{Op}
 use Rattle.xa_words.specs.declared.code.Code.{Code}
-use Rattle.xa_desk.specs.declared.operation.Operation.{Operation}
-use Rattle.xa_desk.specs.LedgerView.{LedgerView, is_collected, learnt_shut, with_sent, with_collected}
-use Rattle.xa_desk.specs.DeskView.{DeskView, IsOut, ledger}
-use Rattle.xa_desk.specs.Kept.{AllKept}
+use Rattle.xa_desk.specs.{Operation, is_collected, learnt_shut, with_sent, with_collected, IsOut, ledger, AllKept}
+use Rattle.xa_desk.specs.LedgerView.{LedgerView}
+use Rattle.xa_desk.specs.DeskView.{DeskView}
 use Rattle.xa_desk.proofs.Ledgers.{is_collected-push}
-use Rattle.xa_driver.specs.Asks.{Ask, Asks, EachAsk, KeepsDesk, among_asks, asked}
+use Rattle.xa_driver.specs.{Ask, EachAsk, KeepsDesk, among_asks, asked}
+use Rattle.xa_driver.specs.Asks.{Asks}
 
 -- what is outstanding in the later ledger was so in the earlier one
 pub record Leaves (a a' : LedgerView) : Type 0 where

@@ -1,21 +1,14 @@
 -- A round that is left in the middle: what is in flight is kept under handles, and so is all that is outstanding.
-use Rattle.std.specs.Prelude.{◌⊎◌}
-use Rattle.std.proofs.Common.{◌≡◌, ℕ, ◌==◌, ◌||◌, ◌≤◌, inl, inr, ⊎_elim, false, true, Option, Some, None, List, [], ◌∷◌, ◌++◌, length, refl, sym, ap, ◌∙◌}
-use Rattle.std.proofs.Common.{subst, arith, length-append}
+use Rattle.xa_base.proofs.{◌⊎◌, ◌≡◌, ℕ, ◌==◌, ◌||◌, ◌≤◌, inl, inr, ⊎_elim, false, true, Option, Some, None, List, [], ◌∷◌, ◌++◌, length, refl, sym, ap, ◌∙◌}
+use Rattle.xa_base.proofs.{subst, arith, length-append, eqb-false, eqb-true, some_same, inserted_other, inserted_there}
 use Rattle.std.specs.FinMap as map
-use Rattle.std.proofs.lemmas.Bool.{eqb-false, eqb-true}
-use Rattle.xa_base.proofs.Lists.{some_same}
-use Rattle.xa_base.proofs.Maps.{inserted_other, inserted_there}
-use Rattle.xa_words.specs.declared.request.Op.{Op}
-use Rattle.xa_desk.specs.declared.operation.Operation.{Operation}
-use Rattle.xa_desk.specs.Kept.{AllKept}
-use Rattle.xa_desk.specs.LedgerView.{LedgerView, with_sent}
-use Rattle.xa_desk.specs.DeskView.{DeskView, TicketView, IsOut, Owns, ledger}
-use Rattle.xa_desk.specs.Tickets.{LeavesOthers}
+use Rattle.xa_words.specs.{Op}
+use Rattle.xa_desk.specs.{Operation, AllKept, with_sent, TicketView, IsOut, Owns, ledger, LeavesOthers}
+use Rattle.xa_desk.specs.LedgerView.{LedgerView}
+use Rattle.xa_desk.specs.DeskView.{DeskView}
 use Rattle.xa_desk.proofs.Ledgers.{known_by}
-use Rattle.xa_driver.specs.declared.round.Round.{Round}
-use Rattle.xa_driver.specs.Asks.{Ask, AreRising, EachAsk, EachBegan, HasBegun, Keeps, LeavesOwned, Owning, among_asks}
-use Rattle.xa_driver.specs.UnderWay.{AllKeptBut, AreApart, IsAmong, IsUnderWay, LeavesInFlight, LeavesKept, LeavesOtherTickets, OwnsAll}
+use Rattle.xa_driver.specs.{Round, Ask, AreRising, EachAsk, EachBegan, HasBegun, Keeps, LeavesOwned, Owning, among_asks, AllKeptBut, AreApart, IsAmong}
+use Rattle.xa_driver.specs.{IsUnderWay, LeavesInFlight, LeavesKept, LeavesOtherTickets, OwnsAll}
 use Rattle.xa_driver.proofs.Kept.{asked_leaves}
 use Rattle.xa_driver.proofs.Staying.{IsOpen}
 use Rattle.xa_driver.proofs.Stepping.{rising_rest}

@@ -1,11 +1,9 @@
 -- What a change of one ledger does to a desk's ledgers.
-use Rattle.std.proofs.Common.{◌≡◌, ℕ, ◌+◌, ◌-◌, List, length, arith, suc, [], ◌∷◌, refl}
-use Rattle.std.proofs.lemmas.List.{length-set}
+use Rattle.xa_base.proofs.{◌≡◌, ℕ, ◌+◌, ◌-◌, List, length, arith, suc, [], ◌∷◌, refl, length-set}
 use Rattle.std.proofs.lemmas.List.Sums.{sum_by-set}
 use Rattle.xa_desk.specs.LedgerView.{LedgerView}
-use Rattle.xa_desk.specs.DeskView.{IsKnown, ledger, no_ledger, put_ledger, outstanding}
-use Rattle.xa_words.specs.declared.request.Op.{Op}
-use Rattle.xa_desk.specs.Lanes.{numbered}
+use Rattle.xa_desk.specs.{IsKnown, ledger, no_ledger, put_ledger, outstanding, numbered}
+use Rattle.xa_words.specs.{Op}
 
 -- how many requests of a ledger are outstanding
 abbrev pub open_count : LedgerView → ℕ

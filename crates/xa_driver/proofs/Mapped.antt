@@ -1,22 +1,15 @@
 -- What a commit and a resolve keep of the states that they ask over, and what they ask over one kind of states they ask
 -- over another, where each of their requests does.
-use Rattle.std.proofs.Common.{◌≡◌, ℕ, Bool, true, false, List, [], ◌∷◌, Option, Some, None, refl, sym, ap, subst}
-use Rattle.std.specs.List.{Contains}
-use Rattle.std.proofs.lemmas.List.Elements.{Contains-append_left, Contains-push}
-use Rattle.xa_base.specs.Lists.{Chain}
+use Rattle.xa_base.proofs.{◌≡◌, ℕ, Bool, true, false, List, [], ◌∷◌, Option, Some, None, refl, sym, ap, subst, Contains, Contains-append_left}
+use Rattle.std.proofs.lemmas.List.Elements.{Contains-push}
+use Rattle.xa_base.specs.{Chain}
 use Rattle.xa_base.specs.Lists.Chain.{none, more}
-use Rattle.xa_words.specs.Xid.{XidName}
+use Rattle.xa_words.specs.{XidName, Op, OpenRm, Prepare, Forget}
 use Rattle.xa_words.specs.declared.code.Code.{Code}
-use Rattle.xa_words.specs.declared.request.Op.{Op}
-use Rattle.xa_words.specs.declared.request.Op.TheVariants.{OpenRm, Prepare, Forget}
 use Rattle.xa_calls.specs.Scans.{Asking}
-use Rattle.xa_driver.specs.declared.branch.Branch.{Branch}
-use Rattle.xa_driver.specs.declared.done.Ending.{Ending}
-use Rattle.xa_driver.specs.declared.resolved.Outcome.{Outcome}
-use Rattle.xa_driver.specs.Course.{AsksFor, AtBranch}
-use Rattle.xa_driver.specs.Endings.{second_op, third_op, is_decided}
-use Rattle.xa_log.specs.Log.{Records}
-use Rattle.xa_driver.specs.Resolving.{AsksIf, ResolvesBranch, ResolvesAt, is_to_commit, outcome_op}
+use Rattle.xa_driver.specs.{Branch, Ending, Outcome, AsksFor, AtBranch, second_op, third_op, is_decided, AsksIf, ResolvesBranch, ResolvesAt, is_to_commit}
+use Rattle.xa_driver.specs.{outcome_op}
+use Rattle.xa_log.specs.{Records}
 
 -- ---- what is asked
 

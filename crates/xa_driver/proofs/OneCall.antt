@@ -1,23 +1,13 @@
 -- The stages of a commit make a call.
-use Rattle.std.specs.Prelude.{◌≡◌, Bool, None, List, length, map, vec_capacity}
-use Rattle.std.proofs.Common.{sym, ap, ◌∙◌, subst, arith}
-use Rattle.xa_words.specs.Tran.{TranName}
+use Rattle.xa_base.proofs.{◌≡◌, Bool, None, List, length, map, vec_capacity, sym, ap, ◌∙◌, subst, arith}
+use Rattle.xa_words.specs.{TranName}
 use Rattle.xa_words.specs.declared.code.Code.{Code}
 use Rattle.xa_desk.specs.LedgerView.{LedgerView}
 use Rattle.xa_desk.specs.DeskView.{DeskView}
-use Rattle.xa_driver.specs.declared.branch.Branch.{Branch}
-use Rattle.xa_driver.specs.declared.done.Done.{Done}
-use Rattle.xa_driver.specs.declared.round.Round.{Round}
-use Rattle.xa_driver.specs.declared.stages.Prepared.{Prepared}
-use Rattle.xa_driver.specs.declared.stages.Decided.{Decided}
-use Rattle.xa_driver.specs.declared.stages.Told.{Told}
-use Rattle.xa_driver.specs.Asks.{Ask, KeepsTheRest, SameAsks}
-use Rattle.xa_driver.specs.Decision.{yes_of}
-use Rattle.xa_log.specs.Log.{LogState, record_of}
-use Rattle.xa_driver.specs.Rounds.{code_of, ending_of_ask, second_ask, yes_asked}
-use Rattle.xa_driver.specs.Stages.{HasDecided, HasForgotten, HasPrepared, HasTold, MayForget, MayTell}
-use Rattle.xa_driver.specs.Trace.{AppendsOnce, IsTraceOfCommit, IsTranOf, IsUnknown, Logs, MayCommit, decision_of}
-use Rattle.xa_driver.specs.UnderWay.{IsAtRest, MayAsk}
+use Rattle.xa_driver.specs.{Branch, Done, Round, Prepared, Decided, Told, Ask, KeepsTheRest, SameAsks, yes_of, code_of, ending_of_ask, second_ask, yes_asked}
+use Rattle.xa_driver.specs.{HasDecided, HasForgotten, HasPrepared, HasTold, MayForget, MayTell, AppendsOnce, IsTraceOfCommit, IsTranOf, IsUnknown, Logs}
+use Rattle.xa_driver.specs.{MayCommit, decision_of, IsAtRest, MayAsk}
+use Rattle.xa_log.specs.{LogState, record_of}
 use Rattle.xa_driver.proofs.Calls.{asks_long, call_by, last_can, next_can, same_long, seconds_long, yes_is, one_tran}
 
 -- ---- all stages make a call

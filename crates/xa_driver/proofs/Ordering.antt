@@ -1,21 +1,15 @@
 -- The order of what a round sends and collects.
-use Rattle.std.proofs.Common.{◌≡◌, ◌≤◌, ℕ, Bool, true, false, List, [], ◌∷◌, ◌++◌, length, drop, Option, None, Some, refl, sym, ap, ap₂, ◌∙◌, subst}
-use Rattle.std.proofs.Common.{append_assoc, append-nil, arith}
-use Rattle.std.specs.Prelude.{not, if◌then◌else◌, MatchOption}
-use Rattle.std.proofs.lemmas.List.{map-append, length-append}
+use Rattle.xa_base.proofs.{◌≡◌, ◌≤◌, ℕ, Bool, true, false, List, [], ◌∷◌, ◌++◌, length, drop, Option, None, Some, refl, sym, ap, ◌∙◌, subst, append_assoc}
+use Rattle.xa_base.proofs.{append-nil, arith, not, if◌then◌else◌, MatchOption, map-append, length-append}
+use Rattle.std.proofs.Common.{ap₂}
 use Rattle.std.proofs.Math.Seq.{drop-append_seam}
-use Rattle.xa_words.specs.declared.request.Op.{Op}
+use Rattle.xa_words.specs.{Op}
 use Rattle.xa_words.specs.declared.code.Code.{Code}
-use Rattle.xa_desk.specs.declared.event.Event.TheVariants.{Sent, Collected}
-use Rattle.xa_desk.specs.declared.operation.Operation.{Operation}
+use Rattle.xa_desk.specs.{Sent, Collected, Operation, TicketView, ledger, next_operation, Collects as CollectsOne}
 use Rattle.xa_desk.specs.LedgerView.{LedgerView}
-use Rattle.xa_desk.specs.DeskView.{DeskView, TicketView, ledger, next_operation}
-use Rattle.xa_desk.specs.Looks.{Collects as CollectsOne}
-use Rattle.xa_driver.specs.declared.round.Round.{Round}
-use Rattle.xa_driver.specs.Asks.{Ask, BeginsAsk, EachBegan, Ends, IsUnsent, SameAsks}
-use Rattle.xa_driver.specs.UnderWay.{Collects, IsSent, IsUnderWay, Sends, Stays, sent_count}
-use Rattle.xa_driver.specs.Order.{sendings, collections, round_of, goes_out, sent_of, operations_of, SendsMore, CollectsFirst, SendsThenCollects, GoesAsFar}
-use Rattle.xa_driver.specs.Order.{GoesAsRound}
+use Rattle.xa_desk.specs.DeskView.{DeskView}
+use Rattle.xa_driver.specs.{Round, Ask, BeginsAsk, EachBegan, Ends, IsUnsent, SameAsks, Collects, IsSent, IsUnderWay, Sends, Stays, sent_count, sendings}
+use Rattle.xa_driver.specs.{collections, round_of, goes_out, sent_of, operations_of, SendsMore, CollectsFirst, SendsThenCollects, GoesAsFar, GoesAsRound}
 use Rattle.xa_driver.proofs.Stepping.{as_many}
 
 -- ---- what has a ticket

@@ -1,17 +1,14 @@
 -- Branches of a round that are asked nothing.
-use Rattle.std.proofs.Common.{◌≡◌, ◌≢◌, ℕ, ◌+◌, ◌<◌, get_or, true, false, Option, None, Some, List, [], ◌∷◌, length, length-append, refl, sym, ap, ◌∙◌, subst}
-use Rattle.std.proofs.Common.{arith}
-use Rattle.std.specs.Prelude.{Bool, MatchOption, is_none}
-use Rattle.std.specs.List.{slice_get}
-use Rattle.std.proofs.lemmas.Option.{slice_get-get_or, slice_get_within}
-use Rattle.xa_words.specs.declared.request.Op.{Op}
+use Rattle.xa_base.proofs.{◌≡◌, ◌≢◌, ℕ, ◌+◌, ◌<◌, get_or, true, false, Option, None, Some, List, [], ◌∷◌, length, length-append, refl, sym, ap, ◌∙◌, subst}
+use Rattle.xa_base.proofs.{arith, Bool, MatchOption, slice_get, slice_get-get_or, slice_get_within}
+use Rattle.std.specs.Prelude.{is_none}
+use Rattle.xa_words.specs.{Op}
 use Rattle.xa_desk.specs.LedgerView.{LedgerView}
-use Rattle.xa_desk.specs.DeskView.{DeskView, TicketView}
-use Rattle.xa_driver.specs.declared.round.Round.{Round}
-use Rattle.xa_driver.specs.Asks.{Ask, BeginsAsk, HasBegun, SameAsks}
-use Rattle.xa_driver.specs.Idling.{IdlesToCollect, IdlesToSend, sent, unsent}
-use Rattle.xa_driver.specs.Steps.{CollectsNothing, Passes, asked_first, SendsNothing, is_passed, next_collected, passes, starts}
-use Rattle.xa_driver.specs.UnderWay.{Collects, IsUnderWay, Sends, Stays, next_ask, next_ticket, sent_count}
+use Rattle.xa_desk.specs.DeskView.{DeskView}
+use Rattle.xa_desk.specs.{TicketView}
+use Rattle.xa_driver.specs.{Round, Ask, BeginsAsk, HasBegun, SameAsks, IdlesToCollect, IdlesToSend, unsent, CollectsNothing, Passes, asked_first, SendsNothing}
+use Rattle.xa_driver.specs.{is_passed, next_collected, passes, starts, Collects, IsUnderWay, Sends, Stays, next_ask, next_ticket, sent_count}
+use Rattle.xa_driver.specs.Idling.{sent}
 use Rattle.xa_driver.proofs.Stepping.{first_one, place_is, place_within}
 
 none_asked : (o : Option Op) → is_none o ≡ true → o ≡ None

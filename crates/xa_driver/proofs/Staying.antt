@@ -1,19 +1,17 @@
 -- What requests to managers leave of the operations that were outstanding before.
-use Rattle.std.proofs.Common.{◌≡◌, ℕ, ◌<◌, ◌≤◌, true, false, ◌==◌, ◌||◌, Option, None, Some, List, [], ◌∷◌, length, refl, sym, ap, ◌∙◌, subst, arith}
-use Rattle.std.proofs.Common.{length-append}
+use Rattle.xa_base.proofs.{◌≡◌, ℕ, ◌<◌, ◌≤◌, true, false, ◌==◌, ◌||◌, Option, None, Some, List, [], ◌∷◌, length, refl, sym, ap, ◌∙◌, subst, arith}
+use Rattle.xa_base.proofs.{length-append, eqb-true, ne_eqb, or_from, by_if}
 use Rattle.std.specs.FinMap as finmap
-use Rattle.std.proofs.lemmas.Bool.{eqb-true, ne_eqb, or_from}
 use Rattle.xa_words.specs.declared.code.Code.{Code}
-use Rattle.xa_words.specs.declared.request.Op.{Op}
-use Rattle.xa_desk.specs.LedgerView.{LedgerView, learnt_shut, is_collected, with_sent}
-use Rattle.xa_desk.specs.DeskView.{DeskView, ledger}
-use Rattle.xa_desk.specs.Seats.{DeskSeat}
-use Rattle.xa_desk.specs.Tickets.{LeavesTickets}
+use Rattle.xa_words.specs.{Op}
+use Rattle.xa_desk.specs.LedgerView.{LedgerView}
+use Rattle.xa_desk.specs.{learnt_shut, is_collected, with_sent, ledger, DeskSeat, LeavesTickets}
+use Rattle.xa_desk.specs.DeskView.{DeskView}
 use Rattle.xa_desk.proofs.Ledgers.{is_collected-push, known_by}
-use Rattle.xa_driver.specs.Asks.{Ask, asked, among_asks, Asks, EachAsk, KeepsDesk, KeepsTheRest, LeavesOutstanding}
+use Rattle.xa_driver.specs.{Ask, asked, among_asks, EachAsk, KeepsDesk, KeepsTheRest, LeavesOutstanding}
+use Rattle.xa_driver.specs.Asks.{Asks}
 use Rattle.xa_driver.proofs.Gathering.{as_many_open}
 use Rattle.xa_driver.proofs.Kept.{asks_keep}
-use Rattle.xa_base.proofs.Truth.{by_if}
 use Rattle.xa_driver.proofs.Asking.{keeps_chain, keeps_start}
 
 -- the request of this number was sent and not collected

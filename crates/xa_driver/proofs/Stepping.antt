@@ -1,25 +1,19 @@
 -- One step of a round: a request is sent, or collected; and the end, once all are.
-use Rattle.std.specs.Prelude.{MatchOption}
-use Rattle.std.proofs.Common.{◌≡◌, ◌≢◌, ℕ, suc, ◌+◌, ◌==◌, ◌||◌, ◌<◌, ◌≤◌, Option, None, Some, false, true, List, [], ◌∷◌, ◌++◌, length, refl, sym, ap, ◌∙◌}
-use Rattle.std.proofs.Common.{subst, arith, get_or, set, append_assoc, append-nil, length-append}
+use Rattle.xa_base.proofs.{MatchOption, ◌≡◌, ◌≢◌, ℕ, suc, ◌+◌, ◌==◌, ◌||◌, ◌<◌, ◌≤◌, Option, None, Some, false, true, List, [], ◌∷◌, ◌++◌, length, refl, sym}
+use Rattle.xa_base.proofs.{ap, ◌∙◌, subst, arith, get_or, set, append_assoc, append-nil, length-append, slice_get-get_or, slice_get_within, All, slice_get}
+use Rattle.xa_base.proofs.{All-nil, All-cons, by_if, eqb-false, eqb-true}
 use Rattle.std.proofs.Math.Seq.{get_or-append_seam, set-append_seam}
-use Rattle.std.proofs.lemmas.Option.{get_or_from_slice_get, slice_get-get_or, slice_get_within}
-use Rattle.std.specs.List.{All, slice_get}
+use Rattle.std.proofs.lemmas.Option.{get_or_from_slice_get}
 use Rattle.std.specs.VecDeque.{deque_capacity}
-use Rattle.std.proofs.lemmas.List.Elements.{All-nil, All-cons}
 use Rattle.xa_words.specs.declared.code.Code.{Code}
-use Rattle.xa_words.specs.declared.request.Op.{Op}
-use Rattle.xa_base.proofs.Truth.{by_if}
-use Rattle.xa_desk.specs.LedgerView.{LedgerView, learnt_shut}
-use Rattle.xa_desk.specs.Tickets.{LeavesTickets}
-use Rattle.xa_desk.specs.DeskView.{DeskView, TicketView, IsKnown, ledger, outstanding}
+use Rattle.xa_words.specs.{Op}
+use Rattle.xa_desk.specs.LedgerView.{LedgerView}
+use Rattle.xa_desk.specs.{learnt_shut, LeavesTickets, TicketView, IsKnown, ledger, outstanding}
+use Rattle.xa_desk.specs.DeskView.{DeskView}
 use Rattle.xa_desk.proofs.Ledgers.{known_by}
-use Rattle.xa_driver.specs.Asks.{Ask}
-use Rattle.xa_driver.specs.declared.round.Round.{Round}
-use Rattle.xa_driver.specs.Asks.{AllCanAsk, AreRising, AskTrace, Asks, BeginsAsk, CanAsk, EachAsk, EachBegan, Ends, HasBegun, HaveComeSoFar, IsBegun, KeepsDesk}
-use Rattle.xa_driver.specs.Asks.{Owning, among_asks, collected, in_flight, unasked}
-use Rattle.xa_driver.specs.UnderWay.{Begins, IsUnderWay, coded, sent_count}
-use Rattle.std.proofs.lemmas.Bool.{eqb-false, eqb-true}
+use Rattle.xa_driver.specs.{Ask, Round, AllCanAsk, AreRising, AskTrace, BeginsAsk, CanAsk, EachAsk, EachBegan, Ends, HasBegun, HaveComeSoFar, IsBegun}
+use Rattle.xa_driver.specs.{KeepsDesk, Owning, among_asks, collected, in_flight, unasked, Begins, IsUnderWay, coded, sent_count}
+use Rattle.xa_driver.specs.Asks.{Asks}
 use Rattle.xa_driver.proofs.Staying.{IsOpen, tickets_stay}
 use Rattle.xa_driver.proofs.Asking.{Moved, sent_by, collected_of, keeps_chain, keeps_start, began_moved}
 use Rattle.xa_driver.proofs.Gathering.{behind}

@@ -1,19 +1,11 @@
 -- What was asked of a manager, by a desk's ledger with it.
-use Rattle.std.proofs.Common.{◌≡◌, Bool, [], ◌∷◌, length, refl, ap, ◌∙◌, subst, Option, Some, None}
+use Rattle.xa_base.proofs.{◌≡◌, Bool, [], ◌∷◌, length, refl, ap, ◌∙◌, subst, Option, Some, None, by_if}
 use Rattle.xa_desk.proofs.Growth.{as_it_was}
-use Rattle.xa_base.proofs.Truth.{by_if}
 use Rattle.xa_words.specs.declared.code.Code.{Code}
-use Rattle.xa_words.specs.declared.request.Op.{Op}
-use Rattle.xa_words.specs.declared.request.Op.TheVariants.{Prepare}
-use Rattle.xa_desk.specs.Growth.{HasGrown}
-use Rattle.xa_desk.specs.LedgerView.{LedgerView, learnt_shut}
-use Rattle.xa_driver.specs.declared.branch.Branch.{Branch}
-use Rattle.xa_driver.specs.declared.done.Ending.{Ending}
-use Rattle.xa_driver.specs.Asks.{asked, IsAnswered, AskTrace}
-use Rattle.xa_driver.specs.Course.{AsksFor, AtBranch}
-use Rattle.xa_driver.specs.Endings.{second_op, third_op}
-use Rattle.xa_driver.specs.Resolving.{AsksLedger}
-use Rattle.xa_driver.specs.Trace.{voted}
+use Rattle.xa_words.specs.{Op, Prepare}
+use Rattle.xa_desk.specs.{HasGrown, learnt_shut}
+use Rattle.xa_desk.specs.LedgerView.{LedgerView}
+use Rattle.xa_driver.specs.{Branch, Ending, asked, IsAnswered, AskTrace, AsksFor, AtBranch, second_op, third_op, AsksLedger, voted}
 
 -- ---- one request, if it is wanted
 

@@ -1,21 +1,15 @@
 -- A commit in an opening and a resolve in the one after the next, with nothing else in any.
-use Rattle.std.proofs.Common.{◌≡◌, ◌≢◌, ℕ, ◌≤◌, List, [], ◌∷◌, length, refl, sym, ap, subst}
-use Rattle.std.specs.List.{All}
-use Rattle.std.proofs.lemmas.List.Elements.{All-nil, All-cons}
-use Rattle.xa_words.specs.Tran.{TranName}
-use Rattle.xa_words.specs.declared.code.Code.TheVariants.{RmFail}
+use Rattle.xa_base.proofs.{◌≡◌, ◌≢◌, ℕ, ◌≤◌, List, [], ◌∷◌, length, refl, sym, ap, subst, All, All-nil, All-cons}
+use Rattle.xa_words.specs.{TranName, RmFail}
 use Rattle.xa_desk.specs.LedgerView.{LedgerView}
-use Rattle.xa_switch.specs.Again.{reopening}
-use Rattle.xa_switch.specs.OfPlans.{IsOf}
-use Rattle.xa_switch.specs.Recovery.{IsScanOf}
-use Rattle.xa_scan.specs.Left.{ScanView}
-use Rattle.xa_switch.specs.Settling.{Settling, IsSettled}
+use Rattle.xa_switch.specs.{reopening, IsOf, IsScanOf, IsSettled}
+use Rattle.xa_scan.specs.{ScanView}
+use Rattle.xa_switch.specs.Settling.{Settling}
 use Rattle.xa_switch.specs.declared.plan.Again.{Again}
-use Rattle.xa_driver.specs.declared.resolved.Outcome.{Outcome}
-use Rattle.xa_log.specs.Log.{Records, record_in}
-use Rattle.xa_atomicity.specs.Outcomes.{AreLeftOrDecided, sent_so_far}
-use Rattle.xa_atomicity.specs.Resolution.{CommitCall, ResolveCall, Opening, commits, resolve_call, resolves, with_use, Continues, IsByItsThread, IsKept}
-use Rattle.xa_atomicity.specs.Resolution.{IsResolved, IsUseIn, OnlyResolves}
+use Rattle.xa_driver.specs.{Outcome}
+use Rattle.xa_log.specs.{Records, record_in}
+use Rattle.xa_atomicity.specs.{AreLeftOrDecided, sent_so_far, CommitCall, ResolveCall, Opening, commits, resolve_call, resolves, with_use, Continues}
+use Rattle.xa_atomicity.specs.{IsByItsThread, IsKept, IsResolved, IsUseIn, OnlyResolves}
 use Rattle.xa_atomicity.proofs.NextOpening.{kept_with, scan_of}
 
 -- an opening in which nobody uses the log

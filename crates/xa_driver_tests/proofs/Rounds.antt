@@ -1,14 +1,8 @@
 -- A round that goes on is still the round of its stage.
-use Rattle.std.proofs.Common.{◌≡◌, List, map, sym, ap, ◌∙◌, subst}
+use Rattle.xa_base.proofs.{◌≡◌, List, map, sym, ap, ◌∙◌, subst}
 use Rattle.xa_desk.specs.LedgerView.{LedgerView}
 use Rattle.xa_desk.specs.DeskView.{DeskView}
-use Rattle.xa_driver.specs.declared.round.Round.{Round}
-use Rattle.xa_driver.specs.declared.stages.Told.{Told}
-use Rattle.xa_driver.specs.declared.stages.Forgetting.{Forgetting}
-use Rattle.xa_driver.specs.Asks.{Ask, HaveComeSoFar, SameAsks}
-use Rattle.xa_driver.specs.Rounds.{third_ask}
-use Rattle.xa_driver.specs.Stages.{IsForgetting}
-use Rattle.xa_driver.specs.UnderWay.{IsUnderWay}
+use Rattle.xa_driver.specs.{Round, Told, Forgetting, Ask, HaveComeSoFar, SameAsks, third_ask, IsForgetting, IsUnderWay}
 use Rattle.xa_desk.specs.GoesOn.{GoesOn}
 
 -- what a step of a round keeps

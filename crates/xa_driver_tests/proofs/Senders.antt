@@ -1,32 +1,17 @@
 -- What the journals of a settled opening have, by what each of its threads sent.
-use Rattle.std.specs.Prelude.{cond}
-use Rattle.std.proofs.Common.{◌≡◌, ◌≢◌, ℕ, zero, suc, ◌<◌, ◌≤◌, Bool, true, false, ◌==◌, List, [], ◌∷◌, ◌++◌, length, map, filter, get_or, slice_get, Some}
-use Rattle.std.proofs.Common.{None, inl, inr, eq-eqb, sym, refl, ap, ◌∙◌, subst, arith}
-use Rattle.std.specs.Prelude.{slice_index_or}
-use Rattle.std.specs.List.{All}
-use Rattle.std.proofs.lemmas.Bool.{cases_eq, eqb-true, false_from_ne_true, false≢true}
-use Rattle.std.proofs.lemmas.List.Elements.{All-nil}
-use Rattle.std.proofs.lemmas.Option.{slice_get_within}
-use Rattle.xa_base.proofs.Lists.{all_right}
-use Rattle.xa_words.specs.Tran.{TranName}
-use Rattle.xa_words.specs.Xid.{XidName}
-use Rattle.xa_words.specs.declared.request.Op.{Op}
-use Rattle.xa_words.specs.declared.request.Op.TheVariants.{Shut}
-use Rattle.xa_words.specs.declared.request.Request.{Request}
-use Rattle.xa_tables.specs.Prepared.{is_heur, names}
-use Rattle.xa_desk.specs.LedgerView.{LedgerView, new_ledger}
-use Rattle.xa_desk.specs.DeskView.{DeskView, ledger, no_ledger, sent_to, is_known}
-use Rattle.xa_desk.specs.Ended.{EndedView}
-use Rattle.xa_desk.specs.Lanes.{numbered}
-use Rattle.xa_worker.specs.Workers.{WorkerView}
-use Rattle.xa_switch.specs.Closing.{thread_part}
-use Rattle.xa_switch.specs.Fates.{history as history_of, ledgers_of}
-use Rattle.xa_switch.specs.OpenedPieces.{AreOfOneOpening}
-use Rattle.xa_switch.specs.Plans.{Setup}
-use Rattle.xa_switch.specs.Settling.{ThreadPart, Settling, IsSettled, sent, find_thread, ledgers_in}
-use Rattle.xa_driver.specs.declared.branch.Branch.{Branch}
-use Rattle.xa_atomicity.specs.Outcomes.{AreLeftOrDecided, OnlyTheseOrDecisionsName, sent_so_far}
-use Rattle.xa_atomicity.specs.Resolution.{ResolveCall, resolves, OnlyResolves}
+use Rattle.xa_base.proofs.{cond, ◌≡◌, ◌≢◌, ℕ, zero, suc, ◌<◌, ◌≤◌, Bool, true, false, ◌==◌, List, [], ◌∷◌, ◌++◌, length, map, filter, get_or, slice_get, Some}
+use Rattle.xa_base.proofs.{None, inl, inr, eq-eqb, sym, refl, ap, ◌∙◌, subst, arith, slice_index_or, All, cases_eq, eqb-true, false_from_ne_true, false≢true}
+use Rattle.xa_base.proofs.{All-nil, slice_get_within, all_right}
+use Rattle.xa_words.specs.{TranName, XidName, Op, Shut, Request}
+use Rattle.xa_tables.specs.{is_heur, names}
+use Rattle.xa_desk.specs.LedgerView.{LedgerView}
+use Rattle.xa_desk.specs.{new_ledger, ledger, no_ledger, sent_to, is_known, EndedView, numbered}
+use Rattle.xa_desk.specs.DeskView.{DeskView}
+use Rattle.xa_worker.specs.{WorkerView}
+use Rattle.xa_switch.specs.{thread_part, history as history_of, ledgers_of, AreOfOneOpening, Setup, ThreadPart, IsSettled, sent, find_thread, ledgers_in}
+use Rattle.xa_switch.specs.Settling.{Settling}
+use Rattle.xa_driver.specs.{Branch}
+use Rattle.xa_atomicity.specs.{AreLeftOrDecided, OnlyTheseOrDecisionsName, sent_so_far, ResolveCall, resolves, OnlyResolves}
 use Rattle.xa_atomicity.proofs.Placing.{request_of}
 use Rattle.xa_atomicity.proofs.Requests.{of_ops, own_all}
 

@@ -1,17 +1,13 @@
 -- A desk that has sent only such requests, as Shuts, and sends one more.
-use Rattle.std.proofs.Common.{◌≡◌, ℕ, zero, suc, ◌-◌, Result, Ok, Err, IfOk, OnErr, List, [], ◌∷◌, sym, ap, subst, arith}
-use Rattle.std.specs.Prelude.{slice_index_or, slice_set}
-use Rattle.std.specs.List.{All}
-use Rattle.std.proofs.lemmas.List.Elements.{All-nil, All-push}
+use Rattle.xa_base.proofs.{◌≡◌, ℕ, zero, suc, ◌-◌, Result, Ok, Err, IfOk, List, [], ◌∷◌, sym, ap, subst, arith, slice_index_or, slice_set, All, All-nil}
+use Rattle.xa_base.proofs.{All-push}
+use Rattle.std.proofs.Common.{OnErr}
 use Rattle.xa_words.specs.declared.code.Code.{Code}
-use Rattle.xa_words.specs.declared.request.Op.{Op}
-use Rattle.xa_words.specs.declared.request.Op.TheVariants.{Shut}
-use Rattle.xa_desk.specs.declared.refused.Refused.{Refused}
-use Rattle.xa_desk.specs.declared.operation.Operation.{Operation}
-use Rattle.xa_desk.specs.LedgerView.{LedgerView, with_sent, with_collected}
-use Rattle.xa_desk.specs.DeskView.{DeskView, ledger, no_ledger, put_ledger, after_sent, after_collected, next_operation}
-use Rattle.xa_desk.specs.Lanes.{submitted, after_fulls}
-use Rattle.xa_desk.specs.Looks.{Collects}
+use Rattle.xa_words.specs.{Op, Shut}
+use Rattle.xa_desk.specs.{Refused, Operation, with_sent, with_collected, ledger, no_ledger, put_ledger, after_sent, after_collected, next_operation, submitted}
+use Rattle.xa_desk.specs.{after_fulls, Collects}
+use Rattle.xa_desk.specs.LedgerView.{LedgerView}
+use Rattle.xa_desk.specs.DeskView.{DeskView}
 use Rattle.xa_calls.proofs.Kept.{fulls_ledgers}
 
 -- what holds of each ledger, where one is put that it holds of

@@ -1,8 +1,8 @@
 -- What is found of a transaction in a file that a crash left.
-use Rattle.std.proofs.Common.{◌≡◌, List, ℕ, None, inl, inr, sym, ◌∙◌}
-use Rattle.xa_words.specs.Tran.{TranName}
-use Rattle.xa_log.specs.Log.{Records, record_in}
-use Rattle.xa_file_log.specs.Memory.{HasRecordsAndPerhaps}
+use Rattle.xa_base.proofs.{◌≡◌, List, ℕ, None, inl, inr, sym, ◌∙◌}
+use Rattle.xa_words.specs.{TranName}
+use Rattle.xa_log.specs.{Records, record_in}
+use Rattle.xa_file_log.specs.{HasRecordsAndPerhaps}
 
 -- where the log hasn't forgotten a record of it, the file has of it what the log had
 pub unforgotten : (records forgotten : Records) (file : List ℕ) (t : TranName) (h : HasRecordsAndPerhaps records forgotten file)

@@ -5,3 +5,22 @@ pub mod Memory
 pub mod Appends
 pub mod History
 pub mod HistoryLaws
+
+-- The words of this crate, by its name.
+pub use Device.{Elapses, Follows, HasCause, IsOverwritten, IsTorn, IsWhole, LeavesOnly, Only, Torn, overwritten}
+pub use Spelling.{IsValid, yes_bytes}
+unfoldable pub use Spelling.{fields, head, spelling}
+pub use Slots.{AreApart, HasEither, HasRecords, IsNewLog, IsNoLog, IsSettled, IsSlotOf, Keeps, StandsFor, Table}
+pub use Slots.{entries, free_slots, name_of, records_of, slot}
+pub use Memory.{AreNewNames, HasBodies, HasBody, HasName, HasNoFree, HasNoName, HasNoneForgotten, HasRecordsAndPerhaps}
+pub use Memory.{HasRoomFor, IsFull, IsIndexOf, LeavesShown, MayHave, MayShow, Shows, coming, forgets, forgotten}
+pub use Memory.{forgotten_in, log_state, name_at, on_file, placed, records_in, shut, table_of, taken, used}
+pub use Appends.{Disk, ForgetsNoMore, HasWithAnyOf, HasWithOrWithout, IsAppend, IsForgetting, IsGroupAppend}
+pub use Appends.{IsGroupLoss, IsLoss, IsOneOf, LogAt}
+pub use History.{LeftSince, Past, failed, failures, leaves, left_after, left_by, writing}
+pub use HistoryLaws.{now_is_since, only_the_last}
+pub use declared.mirrored.Call.{Call}
+pub use declared.mirrored.Call.TheVariants.{Synced}
+pub use declared.slot.Slot.{Slot}
+pub use declared.slot.Slot.TheVariants.{Forgotten, Free, Taken}
+pub use declared.slot_table.SlotTable.{SlotTable}

@@ -1,7 +1,6 @@
 -- From the bytes that a reader has left to what comes of them.
-use Rattle.std.proofs.Common.{◌≡◌, ℕ, List}
-use Rattle.std.specs.Prelude.{Option, Some, None}
-use Rattle.xa_grammar.specs.Grammar.{Outcome}
+use Rattle.xa_base.proofs.{◌≡◌, ℕ, List, Option, Some, None}
+use Rattle.xa_grammar.specs.{Outcome}
 
 -- Where the bytes are known, what f says of all of them is what g says of those that are left.
 abbrev pub Leads : Option (List ℕ) → Option (List ℕ) → (List ℕ → Outcome) → (List ℕ → Outcome) → Type 0

@@ -1,17 +1,14 @@
 -- The managers of a commit are numbers, one word after another.
-use Rattle.std.specs.Prelude.{◌≡◌, ◌==◌, ℕ, Bool, true, false, ◌&&◌, ◌||◌, nat_lt, nat_le, if◌then◌else◌, List, [], ◌∷◌, Option, Some, None, Result, Ok, Err}
-use Rattle.std.specs.Prelude.{codes, refl}
+use Rattle.xa_base.proofs.{◌≡◌, ◌==◌, ℕ, Bool, true, false, ◌&&◌, ◌||◌, nat_lt, nat_le, if◌then◌else◌, List, [], ◌∷◌, Option, Some, None, Result, Ok, Err, refl}
+use Rattle.xa_base.proofs.{sym, ap, ◌∙◌, and_parts}
+use Rattle.std.specs.Prelude.{codes}
 use Rattle.std.specs.Str.{bytes_eq}
-use Rattle.std.proofs.Common.{sym, ap, ◌∙◌}
 use Rattle.std.proofs.Math.Bool.{or_assoc}
-use Rattle.std.proofs.lemmas.Bool.{and_parts}
-use Rattle.xa_words.specs.declared.death.Death.{Death}
-use Rattle.xa_words.specs.ManagerSet.{is_in, set_of, with_manager}
-use Rattle.xa_grammar.specs.declared.fault.Reason.{Reason}
-use Rattle.xa_grammar.specs.declared.fault.Reason.TheVariants.{BadBranches}
-use Rattle.xa_grammar.specs.declared.named.Named.{Named}
-use Rattle.xa_grammar.specs.Fields.{◌>>=◌, Word, number_in, number_at}
-use Rattle.xa_grammar.specs.Commits.{are_rising, is_named, death_at, managers_to_end, managers_at, rising_branches, branches_at, goes_on}
+use Rattle.xa_words.specs.{Death, is_in, set_of, with_manager}
+use Rattle.xa_grammar.specs.{Reason, BadBranches, Named, Word, number_in, number_at, are_rising, is_named, death_at, managers_to_end, managers_at}
+use Rattle.xa_grammar.specs.{rising_branches, branches_at}
+use Rattle.xa_grammar.specs.Fields.{◌>>=◌}
+use Rattle.xa_grammar.specs.Commits.{goes_on}
 
 -- The managers that stand on a line, and where the coordinator dies.
 abbrev pub Named_on : Type 0

@@ -1,15 +1,9 @@
 -- What finds the declared keys finds one more.
-use Rattle.std.specs.Prelude.{◌≡◌, ℕ, ◌+◌, ◌<◌, ◌==◌, ◌&&◌, ◌||◌, Bool, true, false, cond, List, [], ◌∷◌, ◌++◌, length, get_or, slice_set, refl}
-use Rattle.std.proofs.Common.{sym, ap, ◌∙◌, subst, arith}
-use Rattle.std.specs.List.{list_any}
-use Rattle.std.proofs.lemmas.Bool.{eqb-true}
-use Rattle.std.proofs.lemmas.List.{get_or-set_same, get_or-set_other}
-use Rattle.std.proofs.lemmas.List.Folds.{list_any-append}
+use Rattle.xa_base.proofs.{◌≡◌, ℕ, ◌+◌, ◌<◌, ◌==◌, ◌&&◌, ◌||◌, Bool, true, false, cond, List, [], ◌∷◌, ◌++◌, length, get_or, slice_set, refl, sym, ap, ◌∙◌}
+use Rattle.xa_base.proofs.{subst, arith, list_any, eqb-true, get_or-set_same, get_or-set_other, list_any-append}
 use Rattle.std.proofs.lemmas.List.Sums.{sum_by-append, sum_by-cons}
-use Rattle.xa_words.specs.Key.{key_eq}
-use Rattle.xa_grammar.specs.declared.script.Declared.{Declared}
-use Rattle.xa_grammar.specs.Settings.{key_count}
-use Rattle.xa_grammar.specs.Found.{is_same, Finds}
+use Rattle.xa_words.specs.{key_eq}
+use Rattle.xa_grammar.specs.{Declared, key_count, is_same, Finds}
 
 -- The set may be laid out anew.
 pub still_found : (keys : List Declared) (found again : List (ℕ × List ℕ)) (counts : List ℕ) → Finds keys found counts

@@ -1,19 +1,14 @@
 -- Lines are taken off the front of the bytes one by one.
-use Rattle.std.proofs.Common.{◌≡◌, ℕ, ◌+◌, ◌-◌, ◌<◌, ◌≤◌, Bool, true, false, cond, List, [], ◌∷◌, ◌++◌, length, take, drop, slice_index, zero, suc, add-one}
-use Rattle.std.proofs.Common.{refl, sym, ap, ◌∙◌, arith, append_assoc, length-append, length-take, append-nil, take-append-drop, drop-cons, take_all, le_refl}
-use Rattle.std.proofs.Common.{subst}
-use Rattle.std.specs.Prelude.{◌&&◌, not, ◌==◌, nat_lt, Ok, Err}
-use Rattle.std.specs.List.{list_all, onto_first}
+use Rattle.xa_base.proofs.{◌≡◌, ℕ, ◌+◌, ◌-◌, ◌<◌, ◌≤◌, Bool, true, false, cond, List, [], ◌∷◌, ◌++◌, length, take, drop, zero, suc, refl, sym, ap, ◌∙◌, arith}
+use Rattle.xa_base.proofs.{append_assoc, length-append, append-nil, take-append-drop, take_all, subst, ◌&&◌, not, ◌==◌, nat_lt, Ok, Err, list_all, eqb-true}
+use Rattle.std.proofs.Common.{slice_index, add-one, length-take, drop-cons, le_refl}
+use Rattle.std.specs.List.{onto_first}
 use Rattle.std.specs.Io.BufRead.{ends_with_byte}
 use Rattle.std.proofs.lemmas.List.Folds.{list_all-append, list_all_more}
-use Rattle.std.proofs.lemmas.Bool.{eqb-true}
 use Rattle.xa_grammar.proofs.Splits.{onto_parts}
-use Rattle.xa_grammar.specs.declared.fault.Reason.TheVariants.{TooManyLines, LineTooLong}
-use Rattle.xa_grammar.specs.declared.fault.ScriptFault.{ScriptFault}
+use Rattle.xa_grammar.specs.{TooManyLines, LineTooLong, ScriptFault, lines_of, without_return, HasNoEnd, line_of, after_line, script_from, Fails, FailsAt}
 use Rattle.xa_grammar.specs.declared.fault.ScriptFault.TheVariants as faults
-use Rattle.xa_grammar.specs.Text.{lines_of, without_return, HasNoEnd}
 use Rattle.xa_grammar.specs.Content.{Content}
-use Rattle.xa_grammar.specs.Grammar.{line_of, after_line, script_from, Fails, FailsAt}
 
 -- The first byte of bytes without a line feed is none.
 is_no_end : (b : ℕ) (line : List ℕ) → HasNoEnd (b ∷ line) → (b == 10) ≡ false

@@ -1,26 +1,19 @@
 -- The bytes of names stay where they stand as more are appended.
-use Rattle.std.specs.Prelude.{◌≡◌, ◌==◌, ℕ, pos, ◌+◌, ◌≤◌, Bool, true, false, if◌then◌else◌, List, [], ◌∷◌, ◌++◌, length, take, drop, All, Some, None, is_some}
-use Rattle.std.specs.List.{list_any}
-use Rattle.std.proofs.Common.{◌||◌, refl, sym, ap, ◌∙◌, subst, arith, append-nil}
+use Rattle.xa_base.proofs.{◌≡◌, ◌==◌, ℕ, pos, ◌+◌, ◌≤◌, Bool, true, false, if◌then◌else◌, List, [], ◌∷◌, ◌++◌, length, take, drop, All, Some, None, is_some}
+use Rattle.xa_base.proofs.{list_any, ◌||◌, refl, sym, ap, ◌∙◌, subst, arith, append-nil, length-append, length-drop, All-nil, All-cons, All-head, All-tail}
 use Rattle.std.proofs.Math.ListN.{get_or-append}
 use Rattle.std.proofs.Math.Seq.{drop-append_seam, take-length, get_or-append_seam}
-use Rattle.std.proofs.lemmas.List.{length-append, length-drop, drop-append-le, take-append-le}
-use Rattle.std.proofs.lemmas.List.Elements.{All-nil, All-cons, All-head, All-tail}
-use Rattle.xa_words.specs.Xid.{XidName}
-use Rattle.xa_words.specs.Tran.{TranName}
-use Rattle.xa_grammar.specs.declared.step.Calling.{Calling}
+use Rattle.std.proofs.lemmas.List.{drop-append-le, take-append-le}
+use Rattle.xa_words.specs.{XidName, TranName}
+use Rattle.xa_grammar.specs.{Calling, Place, KeyPlace, ScriptCalling, ScriptAction, ScriptStep, CallHas, ActionHas, call_with, is_reopen, is_own, SpellsName}
+use Rattle.xa_grammar.specs.{Spells, IsShortName, IsShortGtrid, IsShort, KeptStep, bytes_at, name_at, gtrid_at, IsName, IsGtrid, IsKey, IsNamed, task_step}
+use Rattle.xa_grammar.specs.{step_at, steps_of, is_kept_of, is_kept_reopen, keys_called, keys_given, keys_in, place_from, key_place_from, action_from}
+use Rattle.xa_grammar.specs.{kept_from}
 use Rattle.xa_grammar.specs.declared.step.Calling.TheVariants as calling
 use Rattle.xa_grammar.specs.declared.step.Action.TheVariants as action
 use Rattle.xa_grammar.specs.declared.step.Step.TheVariants as step
-use Rattle.xa_grammar.specs.declared.steps.Place.{Place}
-use Rattle.xa_grammar.specs.declared.steps.KeyPlace.{KeyPlace}
 use Rattle.xa_grammar.specs.declared.steps.Kept.TheVariants as kept
-use Rattle.xa_grammar.specs.Steps.{ScriptCalling, ScriptAction, ScriptStep, CallHas, ActionHas, call_with}
-use Rattle.xa_grammar.specs.Content.{is_reopen}
-use Rattle.xa_grammar.specs.OwnTasks.{is_own}
-use Rattle.xa_grammar.specs.Spelling.{SpellsName, Spells, IsShortName, IsShortGtrid, IsShort}
-use Rattle.xa_grammar.specs.KeptSteps.{KeptStep, bytes_at, name_at, gtrid_at, key_at, IsName, IsGtrid, IsKey, IsNamed, task_step, step_at, steps_of}
-use Rattle.xa_grammar.specs.KeptSteps.{is_kept_of, is_kept_reopen, keys_called, keys_given, keys_in, place_from, key_place_from, action_from, kept_from}
+use Rattle.xa_grammar.specs.KeptSteps.{key_at}
 
 -- ---- the bytes that were appended last
 

@@ -1,5 +1,6 @@
 -- How large a number of so many digits is.
-use Rattle.std.proofs.Common.{ℕ, ◌^◌, ◌<◌, ◌≤◌, arith, lit<}
+use Rattle.xa_base.proofs.{ℕ, ◌^◌, ◌<◌, ◌≤◌, arith}
+use Rattle.std.proofs.Common.{lit<}
 use Rattle.std.proofs.Math.Nat.{pow-le-pow_right}
 
 -- A number of at most 18 digits is below 10 ^ 18.

@@ -1,19 +1,11 @@
 -- No line that the grammar reads for threads opens the managers again.
-use Rattle.std.specs.Prelude.{◌≡◌, ℕ, Bool, true, false, ◌||◌, Option, None, Some, Ok, List, [], ◌∷◌}
-use Rattle.std.proofs.Common.{refl, sym, ap, ◌∙◌, subst}
-use Rattle.std.proofs.lemmas.List.Folds.{list_any-append}
+use Rattle.xa_base.proofs.{◌≡◌, ℕ, Bool, true, false, ◌||◌, Option, None, Some, Ok, List, [], ◌∷◌, refl, sym, ap, ◌∙◌, subst, list_any-append}
 use Rattle.xa_grammar.specs.declared.step.Step.TheVariants as step
-use Rattle.xa_grammar.specs.declared.line.Head.{Head}
+use Rattle.xa_grammar.specs.{Head, Item, words_of, without_return, Word, ScriptStep, is_reopen, AreOfOne, with_step, setting_of, sync_of, logfail_of}
+use Rattle.xa_grammar.specs.{logunknown_of, declared_of, task_on, turn_of, reopen_of, head_of, item_by, item_of, line_of, with_item, after_line}
 use Rattle.xa_grammar.specs.declared.line.Head.TheVariants as head
-use Rattle.xa_grammar.specs.Items.{Item}
 use Rattle.xa_grammar.specs.Items as item
-use Rattle.xa_grammar.specs.Text.{words_of, without_return}
-use Rattle.xa_grammar.specs.Fields.{Word}
-use Rattle.xa_grammar.specs.Steps.{ScriptStep}
-use Rattle.xa_grammar.specs.Content.{Content, is_reopen, AreOfOne, with_step}
-use Rattle.xa_grammar.specs.Settings.{setting_of, sync_of, logfail_of, logunknown_of, declared_of}
-use Rattle.xa_grammar.specs.Actions.{task_on, turn_of, reopen_of}
-use Rattle.xa_grammar.specs.Grammar.{head_of, item_by, item_of, line_of, with_item, after_line}
+use Rattle.xa_grammar.specs.Content.{Content}
 use Rattle.xa_grammar.proofs.ScriptLemmas.{and_then, ok_is, item_made, line_words}
 
 -- what a line adds

@@ -1,14 +1,11 @@
 -- The tasks of one thread among the steps.
-use Rattle.std.specs.Prelude.{◌≡◌, ◌<◌, ◌+◌, ◌++◌, take, ℕ, zero, suc, true, false, cond, if◌then◌else◌, ◌==◌, List, [], ◌∷◌, length, Option, Some, None}
-use Rattle.std.specs.Prelude.{is_some, slice_get, All}
-use Rattle.std.specs.List.{cons_option}
-use Rattle.std.proofs.Common.{refl, ap, sym, ◌∙◌, subst, arith, inl, inr, get_or}
+use Rattle.xa_base.proofs.{◌≡◌, ◌<◌, ◌+◌, ◌++◌, take, ℕ, zero, suc, true, false, cond, if◌then◌else◌, ◌==◌, List, [], ◌∷◌, length, Option, Some, None, is_some}
+use Rattle.xa_base.proofs.{slice_get, All, cons_option, refl, ap, sym, ◌∙◌, subst, arith, inl, inr, get_or, All-nil, All-cons, All-head, All-tail}
+use Rattle.xa_base.proofs.{filter-append}
 use Rattle.std.proofs.lemmas.Option.{slice_get_cases, slice_get_read}
-use Rattle.std.proofs.lemmas.List.Elements.{All-nil, All-cons, All-head, All-tail, filter-append, filter_map-append}
+use Rattle.std.proofs.lemmas.List.Elements.{filter_map-append}
 use Rattle.xa_grammar.specs.declared.step.Step.TheVariants as step
-use Rattle.xa_grammar.specs.Steps.{ScriptTask, ScriptStep}
-use Rattle.xa_grammar.specs.Content.{tasks_of}
-use Rattle.xa_grammar.specs.OwnTasks.{IsTask, is_own, own_steps, tasks_in, steps_at}
+use Rattle.xa_grammar.specs.{ScriptTask, ScriptStep, tasks_of, IsTask, is_own, own_steps, tasks_in, steps_at}
 use Rattle.xa_grammar.proofs.Taken.{take_next}
 
 -- ---- of steps that are tasks

@@ -1,11 +1,9 @@
 -- Of the bytes that a script may have, spaces are the least.
-use Rattle.std.specs.Prelude.{◌≡◌, ◌<◌, ◌≤◌, ℕ, true, not, List, length, drop, get_or}
-use Rattle.std.proofs.Common.{ap, sym, ◌∙◌, arith}
-use Rattle.std.proofs.lemmas.Bool.{and_parts}
+use Rattle.xa_base.proofs.{◌≡◌, ◌<◌, ◌≤◌, ℕ, true, not, List, length, drop, get_or, ap, sym, ◌∙◌, arith, and_parts}
 use Rattle.std.proofs.lemmas.Bool.Decides.{nat_tests}
 use Rattle.std.proofs.lemmas.List.{drop_more}
 use Rattle.std.proofs.lemmas.List.Sums.{AllPass-from_list_all}
-use Rattle.xa_grammar.specs.Text.{is_script_byte, is_space, starts_blank, IsPlain}
+use Rattle.xa_grammar.specs.{is_script_byte, is_space, starts_blank, IsPlain}
 use Rattle.xa_grammar.proofs.Blocks.{apart}
 
 space_of : (b : ℕ) → is_script_byte b ≡ true → b ≤ 32 → is_space b ≡ true

@@ -1,38 +1,25 @@
 -- A line that the grammar reads leaves a script: each manager can be opened with its keys, each step is of a thread or a manager that there is, and no task asks for more than 64 xids.
-use Rattle.std.specs.Prelude.{◌≡◌, ℕ, zero, suc, ◌-◌, ◌<◌, ◌≤◌, Bool, true, false, not, cond, ◌&&◌, ◌||◌, ◌==◌, nat_le, nat_lt, if◌then◌else◌, List, []}
-use Rattle.std.specs.Prelude.{◌∷◌, ◌++◌, length, map, filter, Option, None, Some, unwrap_or, get_or, slice_set, IfSome, All, Result, Ok, Err, refl}
-use Rattle.std.proofs.Common.{sym, ap, ◌∙◌, subst, arith}
-use Rattle.std.specs.List.{list_all, list_any, slice_index_or}
+use Rattle.xa_base.proofs.{◌≡◌, ℕ, zero, suc, ◌-◌, ◌<◌, ◌≤◌, Bool, true, false, not, cond, ◌&&◌, ◌||◌, ◌==◌, nat_le, nat_lt, if◌then◌else◌, List, [], ◌∷◌, ◌++◌}
+use Rattle.xa_base.proofs.{length, map, filter, Option, None, Some, unwrap_or, get_or, slice_set, IfSome, All, Result, Ok, Err, refl, sym, ap, ◌∙◌, subst}
+use Rattle.xa_base.proofs.{arith, list_all, list_any, slice_index_or, or-false, le-leb, eqb-true, and_parts, map-append, append-nil, length-map, length-append}
+use Rattle.xa_base.proofs.{All-append, filter-append, All-cons, All-nil, list_any-append}
 use Rattle.std.specs.Option.{ok_or}
 use Rattle.std.specs.Cmp.Derive.{both_true}
-use Rattle.std.proofs.Math.Bool.{or-false}
-use Rattle.std.proofs.lemmas.Bool.{le-leb, leb-true, eqb-true, and_parts}
-use Rattle.std.proofs.lemmas.List.{map-append, append-nil, length-map, length-append}
-use Rattle.std.proofs.lemmas.List.Elements.{All-append, filter-append, All-cons, All-nil}
-use Rattle.std.proofs.lemmas.List.Folds.{list_any-append, list_all-append}
+use Rattle.std.proofs.lemmas.Bool.{leb-true}
+use Rattle.std.proofs.lemmas.List.Folds.{list_all-append}
 use Rattle.std.proofs.lemmas.List.Sums.{length-filter}
-use Rattle.xa_words.specs.Key.{key_eq}
-use Rattle.xa_words.specs.Orders.{Decides-key_eq}
-use Rattle.xa_tables.specs.Accounts.{are_accounts, are_apart}
-use Rattle.xa_grammar.specs.declared.fault.Reason.{Reason}
-use Rattle.xa_grammar.specs.declared.fault.Reason.TheVariants.{KeyTwice, TooManyKeys, OutOfRange, BadNumber, UnknownWord, TooManyLines, LineTooLong, BadByte}
-use Rattle.xa_grammar.specs.declared.script.Declared.{Declared}
-use Rattle.xa_grammar.specs.declared.script.UnknownAppend.{UnknownAppend}
+use Rattle.xa_words.specs.{key_eq, Decides-key_eq}
+use Rattle.xa_tables.specs.{are_accounts, are_apart}
+use Rattle.xa_grammar.specs.{Reason, KeyTwice, TooManyKeys, OutOfRange, BadNumber, UnknownWord, TooManyLines, LineTooLong, BadByte, Declared, UnknownAppend}
+use Rattle.xa_grammar.specs.{Threads, Managers, Item, is_script_byte, words_of, Word, end_of, number_of, number_in, number_at, ScriptStep, IsScript}
+use Rattle.xa_grammar.specs.{IsOfManager, IsOfLog, IsOfUnknown, IsOfScript, threads_of, managers_of, accounts_of, failing_append, unknown_append, with_count}
+use Rattle.xa_grammar.specs.{with_key, with_failing, with_unknown, with_step, before_actions, count_of, not_set, limit_of, setting_of, logfail_of, is_kept}
+use Rattle.xa_grammar.specs.{logunknown_of, has_key, key_count, declared_of, turn_of, item_of, line_of}
 use Rattle.xa_grammar.specs.declared.step.Step.TheVariants as step
 use Rattle.xa_grammar.specs.declared.script.Count.{Count}
-use Rattle.xa_grammar.specs.declared.script.Count.TheVariants.{Threads, Managers}
-use Rattle.xa_grammar.specs.Items.{Item}
-use Rattle.xa_grammar.specs.Text.{is_script_byte, words_of}
-use Rattle.xa_grammar.specs.Fields.{◌>>=◌, Word, word_at, end_of, number_of, number_in, number_at, key_at}
-use Rattle.xa_base.specs.Lists.{IsUpTo}
-use Rattle.xa_grammar.specs.Steps.{ScriptStep}
-use Rattle.xa_grammar.specs.Content.{Content, IsScript, IsOfManager, IsOfLog, IsOfUnknown, IsOfScript, threads_of, managers_of}
-use Rattle.xa_grammar.specs.Content.{accounts_of}
-use Rattle.xa_grammar.specs.Content.{failing_append, unknown_append, with_count, with_key, with_failing, with_unknown, with_step}
-use Rattle.xa_grammar.specs.Settings.{before_actions, count_of, not_set, limit_of, setting_of, logfail_of, is_kept, logunknown_of, has_key, key_count}
-use Rattle.xa_grammar.specs.Settings.{declared_of}
-use Rattle.xa_grammar.specs.Actions.{turn_of}
-use Rattle.xa_grammar.specs.Grammar.{item_of, line_of}
+use Rattle.xa_grammar.specs.Fields.{◌>>=◌, word_at, key_at}
+use Rattle.xa_base.specs.{IsUpTo}
+use Rattle.xa_grammar.specs.Content.{Content}
 
 -- ---- reading without a fault
 

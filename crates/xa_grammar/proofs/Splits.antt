@@ -1,10 +1,8 @@
 -- Words are cut off the front of a line one by one.
-use Rattle.std.proofs.Common.{◌≡◌, ℕ, ◌<◌, Bool, true, false, List, [], ◌∷◌, ◌++◌, length, refl, ap, sym, ◌∙◌, arith}
-use Rattle.std.specs.Prelude.{◌&&◌, not, filter, nat_eq, ◌==◌}
-use Rattle.std.specs.List.{list_all, onto_first, slice_split, starts_with}
+use Rattle.xa_base.proofs.{◌≡◌, ℕ, ◌<◌, Bool, true, false, List, [], ◌∷◌, ◌++◌, length, refl, ap, sym, ◌∙◌, arith, ◌&&◌, not, filter, nat_eq, ◌==◌, list_all}
+use Rattle.std.specs.List.{onto_first, slice_split, starts_with}
 use Rattle.std.proofs.lemmas.Bool.Decides.{nat_tests}
-use Rattle.xa_grammar.specs.Text.{is_space, starts_blank, has_bytes, words_of, IsWord}
-use Rattle.xa_grammar.specs.Grammar.{are_comment}
+use Rattle.xa_grammar.specs.{is_space, starts_blank, has_bytes, words_of, IsWord, are_comment}
 
 -- The first byte of a word is no space.
 no_space : (b : ℕ) (w : List ℕ) → IsWord (b ∷ w) → is_space b ≡ false

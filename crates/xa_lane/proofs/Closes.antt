@@ -1,18 +1,11 @@
 -- What the lists that close a lane say together.
-use Rattle.std.proofs.Common.{◌≡◌, ℕ, zero, suc, ◌<◌, ◌==◌, List, [], ◌∷◌, ◌++◌, length, map, get_or, sym, refl, ap, ◌∙◌, subst, append-nil, arith, Option}
-use Rattle.std.proofs.Common.{Some, None}
-use Rattle.std.specs.List.{All}
+use Rattle.xa_base.proofs.{◌≡◌, ℕ, zero, suc, ◌<◌, ◌==◌, List, [], ◌∷◌, ◌++◌, length, map, get_or, sym, refl, ap, ◌∙◌, subst, append-nil, arith, Option, Some}
+use Rattle.xa_base.proofs.{None, All, eqb-true}
 use Rattle.std.proofs.lemmas.List.Folds.{Any-from_list_any}
-use Rattle.std.proofs.lemmas.Bool.{eqb-true}
 use mathlib.Core.Option.{some}
 use lib.ListN.{get_elem?}
-use Rattle.xa_lane.specs.declared.parcel.Parcel.{Parcel}
-use Rattle.xa_lane.specs.declared.order.Log.{Log}
-use Rattle.xa_lane.specs.declared.order.View.{View}
-use Rattle.xa_lane.specs.declared.order.View.TheVariants.{Receives}
-use Rattle.xa_lane.specs.Order.{of_sender, receiver_learns, Tied, Within, made_in, taken_in, told_in}
-use Rattle.xa_lane.specs.Ends.{Sending, somes}
-use Rattle.xa_lane.specs.Closing.{kept, items_in, left_of, IsWhole, Conserves, EndsLast, LeavesNothing, AreKnown, told_of, Covers}
+use Rattle.xa_lane.specs.{Parcel, Log, View, Receives, of_sender, receiver_learns, Tied, Within, made_in, taken_in, told_in, Sending, somes, kept, items_in}
+use Rattle.xa_lane.specs.{left_of, IsWhole, Conserves, EndsLast, LeavesNothing, AreKnown, told_of, Covers}
 use Rattle.xa_lane.proofs.Parcels.{of_sender-append, somes-append, somes_marks, left_is, nothing_behind, nil_left, nil_right}
 use Rattle.xa_lane.proofs.Counts.{within_head, within_tail}
 

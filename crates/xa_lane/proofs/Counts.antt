@@ -1,14 +1,10 @@
 -- How many parcels a lane has: as many at any two moments once all senders were taken in.
-use Rattle.std.proofs.Common.{◌≡◌, ℕ, zero, suc, ◌+◌, ◌<◌, ◌≤◌, cond, List, [], ◌∷◌, ◌++◌, length, sym, refl, ap, ◌∙◌, subst, ⊎_elim, append_assoc, eq-eqb}
-use Rattle.std.proofs.Common.{ne_eqb, lt_of_not-le, arith, length-append}
+use Rattle.xa_base.proofs.{◌≡◌, ℕ, zero, suc, ◌+◌, ◌<◌, ◌≤◌, cond, List, [], ◌∷◌, ◌++◌, length, sym, refl, ap, ◌∙◌, subst, ⊎_elim, append_assoc, eq-eqb, ne_eqb}
+use Rattle.xa_base.proofs.{arith, length-append}
+use Rattle.std.proofs.Common.{lt_of_not-le}
 use Rattle.std.proofs.Math.Nat.{eq-or-lt_of_le}
-use Rattle.xa_lane.specs.declared.parcel.Parcel.{Parcel}
-use Rattle.xa_lane.specs.declared.order.Log.{Log}
-use Rattle.xa_lane.specs.declared.order.View.{View}
-use Rattle.xa_lane.specs.declared.order.View.TheVariants.{Receives}
-use Rattle.xa_base.specs.declared.limits.TheConstants.{MOST_QUEUED}
-use Rattle.xa_lane.specs.Order.{of_sender, after_get, Popped, receiver_learns, Tied, Within}
-use Rattle.xa_lane.specs.Closing.{items_in, Covers}
+use Rattle.xa_lane.specs.{Parcel, Log, View, Receives, of_sender, after_get, Popped, receiver_learns, Tied, Within, items_in, Covers}
+use Rattle.xa_base.specs.{MOST_QUEUED}
 use Rattle.xa_lane.proofs.Parcels.{few_items}
 
 not_cons : {X : Type 0} (xs : List X) (x : X) → x ∷ xs ≡ [] → ⊥

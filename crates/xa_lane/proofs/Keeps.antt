@@ -1,19 +1,16 @@
 -- Each step of a lane's queue keeps its rule.
-use Rattle.std.proofs.Common.{◌≡◌, ◌≢◌, ℕ, zero, suc, ◌+◌, ◌<◌, ◌≤◌, true, false, cond, ◌==◌, List, [], ◌∷◌, ◌++◌, length, map, set, sym, refl, ap, ◌∙◌, subst}
-use Rattle.std.proofs.Common.{◌⊎◌, ⊎_elim, inl, inr, append_assoc, append-nil, eq-eqb, ne_eqb, lt_of_not-le, arith, length-append, Option, Some, None}
-use Rattle.std.proofs.lemmas.List.{map-append}
+use Rattle.xa_base.proofs.{◌≡◌, ◌≢◌, ℕ, zero, suc, ◌+◌, ◌<◌, ◌≤◌, true, false, cond, ◌==◌, List, [], ◌∷◌, ◌++◌, length, map, set, sym, refl, ap, ◌∙◌, subst}
+use Rattle.xa_base.proofs.{◌⊎◌, ⊎_elim, inl, inr, append_assoc, append-nil, eq-eqb, ne_eqb, arith, length-append, Option, Some, None, map-append}
+use Rattle.std.proofs.Common.{lt_of_not-le}
 use mathlib.Core.Option.{some, none, some-ne-none, some-injective}
 use mathlib.Core.Option as maybe
 use lib.ListN.{get_elem?}
 use Rattle.crossbeam_queue.specs.Fifo.{Pushes, Pops, Forks, Merges, Learns}
 use Rattle.crossbeam_queue.proofs.Lists.{at_set, at_snoc}
-use Rattle.xa_lane.specs.declared.parcel.Parcel.{Parcel}
-use Rattle.xa_lane.specs.declared.order.Log.{Log}
-use Rattle.xa_lane.specs.declared.order.View.{View}
-use Rattle.xa_lane.specs.declared.order.View.TheVariants.{Sends, Receives, Spent}
+use Rattle.xa_lane.specs.{Parcel, Log, View, Sends, Receives, Spent, of_sender, log, put_of, wrote, after_put, Popped, after_deal, dealt, after_join}
+use Rattle.xa_lane.specs.{sender_learns, receiver_learns, Fits, Delivers}
 use Rattle.xa_lane.proofs.Parcels.{of_sender-append}
-use Rattle.xa_base.specs.declared.limits.TheConstants.{MOST_QUEUED}
-use Rattle.xa_lane.specs.Order.{of_sender, log, put_of, wrote, after_put, Popped, after_deal, dealt, after_join, sender_learns, receiver_learns, Fits, Delivers}
+use Rattle.xa_base.specs.{MOST_QUEUED}
 
 abbrev Seats : Type 0
 Seats = ℕ → maybe.Option ℕ

@@ -1,9 +1,6 @@
 -- Lists of parcels, and the items in them.
-use Rattle.std.proofs.Common.{◌≡◌, ℕ, ◌+◌, ◌≤◌, true, false, cond, ◌==◌, List, [], ◌∷◌, ◌++◌, length, map, refl, ap, ◌∙◌, append-nil, arith, Option, Some, None}
-use Rattle.xa_lane.specs.declared.parcel.Parcel.{Parcel}
-use Rattle.xa_lane.specs.Order.{of_sender, marks}
-use Rattle.xa_lane.specs.Ends.{somes, has_mark}
-use Rattle.xa_lane.specs.Closing.{kept, items_in, left_of}
+use Rattle.xa_base.proofs.{◌≡◌, ℕ, ◌+◌, ◌≤◌, true, false, cond, ◌==◌, List, [], ◌∷◌, ◌++◌, length, map, refl, ap, ◌∙◌, append-nil, arith, Option, Some, None}
+use Rattle.xa_lane.specs.{Parcel, of_sender, marks, somes, has_mark, kept, items_in, left_of}
 
 module _ {T : Type 0} where
   pub of_sender-append : (p : ℕ) (xs ys : List (Parcel T)) → of_sender p (xs ++ ys) ≡ of_sender p xs ++ of_sender p ys

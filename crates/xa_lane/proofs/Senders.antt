@@ -1,8 +1,7 @@
 -- A list with one element changed, and what several senders have sent.
-use Rattle.std.proofs.Common.{◌≡◌, ◌≢◌, ℕ, zero, suc, ◌<◌, ◌⊎◌, List, [], ◌∷◌, ◌++◌, length, map, Some, None, get_or, set, refl, ap, sym, ◌∙◌, inl, inr, arith}
-use Rattle.std.specs.List.{slice_get}
-use Rattle.xa_lane.specs.Ends.{Sending}
-use Rattle.xa_lane.specs.Senders.{at_place, with_item, with_full, but_full, sent_at}
+use Rattle.xa_base.proofs.{◌≡◌, ◌≢◌, ℕ, zero, suc, ◌<◌, ◌⊎◌, List, [], ◌∷◌, ◌++◌, length, map, Some, None, get_or, set, refl, ap, sym, ◌∙◌, inl, inr, arith}
+use Rattle.xa_base.proofs.{slice_get}
+use Rattle.xa_lane.specs.{Sending, at_place, with_item, with_full, but_full, sent_at}
 
 module _ {A : Type 0} (f : A → A) where
   pub length-at_place : (k : ℕ) (xs : List A) → length (at_place k f xs) ≡ length xs

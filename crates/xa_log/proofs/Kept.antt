@@ -1,19 +1,14 @@
 -- What a hash map keeps of its entries by their keys, as a finite map.
-use Rattle.std.specs.Prelude.{◌≡◌, ◌≤◌, ◌⊎◌, ℕ, Bool, true, cond, List, [], ◌∷◌, None, refl}
-use Rattle.std.proofs.Common.{sym, ap, subst, arith, inl, inr, ◌∙◌}
-use Rattle.std.specs.Ordering.{eq_by_cmp}
+use Rattle.xa_base.proofs.{◌≡◌, ◌≤◌, ◌⊎◌, ℕ, Bool, true, cond, List, [], ◌∷◌, None, refl, sym, ap, subst, arith, inl, inr, ◌∙◌, eq_by_cmp, find, from_entries}
+use Rattle.xa_base.proofs.{filter, retain_some, get-lookup, get-from_entries}
 use Rattle.std.specs.declared.cmp.Ordering.{Ordering}
 use Rattle.std.specs.Cmp.{IsTotalOrder}
 use Rattle.std.specs.FinMap as map
-use Rattle.std.specs.FinMap.{IsAntisymmetric, find, from_entries}
+use Rattle.std.specs.FinMap.{IsAntisymmetric}
 use Rattle.std.specs.Map.{lookup}
 use Rattle.std.specs.Map.Calls.{RetainsPairs}
-use Rattle.std.specs.List.{filter}
 use Rattle.std.proofs.lemmas.Map.Entries.{lookup-filter-keys}
-use Rattle.xa_base.proofs.FinMaps.{retain_some}
-use Rattle.xa_base.proofs.HashMaps.{get-lookup}
-use Rattle.std.specs.FinMap.{get-from_entries}
-use Rattle.xa_log.specs.Log.{room_in}
+use Rattle.xa_log.specs.{room_in}
 
 -- a closure that was called at each entry, kept those whose keys pass, and left the values and itself
 pub retained_keys : {F K X : Type 0} (T : F → K → X → Bool → X → F → Type 0) (p : K → Bool) (f : F)

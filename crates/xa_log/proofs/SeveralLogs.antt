@@ -1,15 +1,10 @@
 -- What several logs have that are read as one.
-use Rattle.std.specs.Prelude.{cond, is_some}
-use Rattle.std.proofs.Common.{◌≡◌, Bool, true, false, List, [], ◌∷◌, ◌++◌, sym, refl, ap, ◌∙◌, Option, Some, None}
+use Rattle.xa_base.proofs.{cond, is_some, ◌≡◌, Bool, true, false, List, [], ◌∷◌, ◌++◌, sym, refl, ap, ◌∙◌, Option, Some, None, find, get-from_entries, All}
+use Rattle.xa_base.proofs.{flat_map, option_or, eq_by_cmp, All-head, All-tail}
 use Rattle.std.specs.FinMap as map
-use Rattle.std.specs.FinMap.{find, get-entries, get-from_entries}
-use Rattle.std.specs.List.{All, flat_map}
-use Rattle.std.specs.Option.{option_or}
-use Rattle.std.specs.Ordering.{eq_by_cmp}
-use Rattle.std.proofs.lemmas.List.Elements.{All-head, All-tail}
-use Rattle.xa_words.specs.Tran.{TranName}
-use Rattle.xa_log.specs.Log.{Records, all_records, record_in}
-use Rattle.xa_log.specs.Transactions.{tran_cmp}
+use Rattle.std.specs.FinMap.{get-entries}
+use Rattle.xa_words.specs.{TranName}
+use Rattle.xa_log.specs.{Records, all_records, record_in, tran_cmp}
 use Rattle.xa_log.proofs.Transactions.{tran_cmp_total}
 
 find_both : (q : TranName) (es fs : List (TranName × List Bool)) → find tran_cmp q (es ++ fs) ≡ option_or (find tran_cmp q es) (find tran_cmp q fs)

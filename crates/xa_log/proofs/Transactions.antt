@@ -1,18 +1,15 @@
 -- The order of global transactions is total, and tells all apart as `==` does.
-use Rattle.std.specs.Prelude.{◌≡◌, ℤ, ℕ, Bool, List, true}
-use Rattle.std.proofs.Common.{ap, subst, sym}
-use Rattle.std.specs.Ordering.{nat_cmp, int_cmp, eq_by_cmp, is_eq}
+use Rattle.xa_base.proofs.{◌≡◌, ℤ, ℕ, Bool, List, true, ap, subst, sym, nat_cmp, eq_by_cmp, is_eq, tied_itself, is_equal}
+use Rattle.std.specs.Ordering.{int_cmp}
 use Rattle.std.specs.Bool.{Decides}
-use Rattle.std.specs.Cmp.{IsTotalOrder, tied_itself, int_cmp_total}
+use Rattle.std.specs.Cmp.{IsTotalOrder, int_cmp_total}
 use Rattle.std.specs.Cmp.Lexicographic.{slice_cmp, nat_list_cmp_total}
 use Rattle.std.specs.FinMap.{IsAntisymmetric}
 use Rattle.std.proofs.lemmas.Cmp.{then_total, on_total}
 use Rattle.std.proofs.lemmas.Map.Lookups.{exact_pairs, exact_signed, exact_bytes}
 use Rattle.std.proofs.lemmas.Bool.Decides.{same_from_decides}
-use Rattle.xa_base.proofs.Truth.{is_equal}
-use Rattle.xa_words.specs.Tran.{TranName, tran_eq}
-use Rattle.xa_words.specs.TranOrders.{Decides-tran_eq}
-use Rattle.xa_log.specs.Transactions.{tran_cmp}
+use Rattle.xa_words.specs.{TranName, tran_eq, Decides-tran_eq}
+use Rattle.xa_log.specs.{tran_cmp}
 
 pub tran_cmp_total : IsTotalOrder tran_cmp
 tran_cmp_total = then_total (on_total (λ x. x.format) int_cmp_total) (on_total (λ x. x.gtrid) nat_list_cmp_total)

@@ -1,20 +1,12 @@
 -- Deeds, one after another.
-use Rattle.std.proofs.Common.{◌≡◌, ℕ, cond, Bool, true, false, List, [], ◌∷◌, ◌++◌, None, Some, refl, sym, ap, ◌∙◌, subst, append_assoc}
-use Rattle.std.specs.Prelude.{if◌then◌else◌, is_some}
-use Rattle.std.specs.FinMap.{get-insert}
-use Rattle.std.specs.Ordering.{eq_by_cmp}
-use Rattle.xa_log.specs.Transactions.{tran_cmp}
+use Rattle.xa_base.proofs.{◌≡◌, ℕ, cond, Bool, true, false, List, [], ◌∷◌, ◌++◌, None, Some, refl, sym, ap, ◌∙◌, subst, append_assoc, if◌then◌else◌, is_some}
+use Rattle.xa_base.proofs.{get-insert, eq_by_cmp}
+use Rattle.xa_log.specs.{tran_cmp, LogState, record_of, with_record, with_failure, without_record, AreNew, CommitRecord}
 use Rattle.xa_log.proofs.Transactions.{tran_cmp_total}
-use Rattle.xa_log.specs.Log.{LogState, record_of, with_record, with_failure, without_record, AreNew}
-use Rattle.xa_words.specs.Tran.{TranName}
-use Rattle.xa_log.specs.declared.log.CommitRecord.{CommitRecord}
-use Rattle.xa_log_worker.specs.declared.ask.Answer.{Answer}
-use Rattle.xa_log_worker.specs.declared.ask.Answer.TheVariants.{Taken, Refused, Unknown}
-use Rattle.xa_log_worker.specs.declared.ask.Answered.{Answered}
-use Rattle.xa_log_worker.specs.declared.ask.Deed.{Deed}
+use Rattle.xa_words.specs.{TranName}
+use Rattle.xa_log_worker.specs.{Answer, Taken, Refused, Unknown, Answered, Deed, after_deed, after_answer, after, IsRightAnswer, AreRight, AreUnknown, Does}
+use Rattle.xa_log_worker.specs.{answers_in, answer_of}
 use Rattle.xa_log_worker.specs.declared.ask.Deed.TheVariants.{Answers, Forgets}
-use Rattle.xa_log_worker.specs.Deeds.{after_deed, after_answer, after, IsRightAnswer, AreRight, AreUnknown, Does}
-use Rattle.xa_log_worker.specs.Deeds.{answers_in, answer_of}
 
 pub after-append : (log : LogState) (ds es : List Deed) → after log (ds ++ es) ≡ after (after log ds) es
 after-append log [] es = refl

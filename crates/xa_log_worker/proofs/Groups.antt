@@ -1,19 +1,13 @@
 -- How the records of a group are settled.
-use Rattle.std.proofs.Common.{◌≡◌, ℕ, ◌+◌, ◌<◌, Bool, true, false, List, [], ◌∷◌, ◌++◌, map, None, length, get_or, drop, drop-cons, add-one, refl, sym, ap}
-use Rattle.std.proofs.Common.{subst, ◌∙◌, append_assoc, arith}
-use Rattle.std.proofs.lemmas.List.{map-append, length-map}
+use Rattle.xa_base.proofs.{◌≡◌, ℕ, ◌+◌, ◌<◌, Bool, true, false, List, [], ◌∷◌, ◌++◌, map, None, length, get_or, drop, refl, sym, ap, subst, ◌∙◌, append_assoc}
+use Rattle.xa_base.proofs.{arith, map-append, length-map}
+use Rattle.std.proofs.Common.{drop-cons, add-one}
 use Rattle.std.proofs.Math.ListN.{get_or-map}
-use Rattle.xa_log.specs.Log.{LogState, record_of, with_record, with_records, with_failure, AreNew}
-use Rattle.xa_log.specs.declared.log.CommitRecord.{CommitRecord}
-use Rattle.xa_log_worker.specs.declared.ask.Answer.{Answer}
-use Rattle.xa_log_worker.specs.declared.ask.Answer.TheVariants.{Taken, Unknown}
-use Rattle.xa_log_worker.specs.declared.ask.Answered.{Answered}
-use Rattle.xa_log_worker.specs.declared.ask.Deed.{Deed}
-use Rattle.xa_log_worker.specs.declared.ask.Deed.TheVariants.{Answers, IsRefused}
-use Rattle.xa_log_worker.specs.declared.group.Waiting.{Waiting}
-use Rattle.xa_log_worker.specs.declared.ask.Ask.TheVariants.{Append}
+use Rattle.xa_log.specs.{LogState, record_of, with_record, with_records, with_failure, AreNew, CommitRecord}
+use Rattle.xa_log_worker.specs.{Answer, Taken, Unknown, Answered, Deed, IsRefused, Waiting, Append, asked_if, after, AreRight, AreUnknown, Does, Settles}
+use Rattle.xa_log_worker.specs.{answers_in, answer_each, as_waiting, deeds_in, records_in}
+use Rattle.xa_log_worker.specs.declared.ask.Deed.TheVariants.{Answers}
 use Rattle.xa_log_worker.proofs.Requests.{asked_in-append, waits_of-append, asked_each}
-use Rattle.xa_log_worker.specs.Deeds.{asked_if, after, AreRight, AreUnknown, Does, Settles, answers_in, answer_each, as_waiting, deeds_in, records_in}
 use Rattle.xa_log_worker.proofs.Deeds.{answers-append, does-chain, new_below}
 
 abbrev Items : Type 0

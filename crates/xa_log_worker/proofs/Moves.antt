@@ -1,24 +1,15 @@
 -- What is sent on the lanes of answers.
-use Rattle.std.proofs.Common.{◌≡◌, ◌≢◌, ⊎_elim, ℕ, zero, suc, ◌<◌, ◌==◌, Bool, true, false, cond, List, [], ◌∷◌, ◌++◌, length, map, get_or, set, refl, sym, ap}
-use Rattle.std.proofs.Common.{◌∙◌}
-use Rattle.std.proofs.Common.{subst, append_assoc, arith, Some}
+use Rattle.xa_base.proofs.{◌≡◌, ◌≢◌, ⊎_elim, ℕ, zero, suc, ◌<◌, ◌==◌, Bool, true, false, cond, List, [], ◌∷◌, ◌++◌, length, map, get_or, set, refl, sym, ap}
+use Rattle.xa_base.proofs.{◌∙◌, subst, append_assoc, arith, Some, append-nil}
 use Rattle.std.proofs.lemmas.Bool.Decides.{eqb_tells}
-use Rattle.std.proofs.lemmas.List.{append-nil}
-use Rattle.xa_lane.specs.Ends.{Sending, parcel, received}
-use Rattle.xa_lane.specs.Senders.{sent_at, with_item, but_full}
+use Rattle.xa_lane.specs.{Sending, parcel, received, sent_at, with_item, but_full, Parcel}
 use Rattle.xa_lane.proofs.Senders.{sent_at-but_full}
-use Rattle.xa_log.specs.Log.{LogState}
-use Rattle.xa_log_worker.specs.declared.ask.Answer.{Answer}
-use Rattle.xa_log_worker.specs.declared.ask.Answered.{Answered}
-use Rattle.xa_log_worker.specs.declared.ask.Deed.{Deed}
-use Rattle.xa_log_worker.specs.declared.group.Waiting.{Waiting}
-use Rattle.xa_words.specs.Tran.{TranName}
-use Rattle.xa_lane.specs.declared.parcel.Parcel.{Parcel}
-use Rattle.xa_log_worker.specs.declared.ask.Ask.{Ask}
-use Rattle.xa_log_worker.specs.declared.ask.Ask.TheVariants.{Append}
+use Rattle.xa_log.specs.{LogState}
+use Rattle.xa_log_worker.specs.{Answer, Answered, Deed, Waiting, Ask, Append, Does, Settles, answers_in, asked_by, asked_if, asked_in, asked_of, waits_of}
+use Rattle.xa_log_worker.specs.{is_clash, deeds_in, Works, Steps, SentBy, told_to}
+use Rattle.xa_words.specs.{TranName}
 use Rattle.xa_log_worker.proofs.Requests.{asked_in-append, waits_of-append, asked_of-append, asked_last, received_item}
-use Rattle.xa_log_worker.specs.Deeds.{Does, Settles, answers_in, asked_by, asked_if, asked_in, asked_of, waits_of, is_clash, deeds_in}
-use Rattle.xa_log_worker.specs.Moves.{Moves, Works, Steps, SentBy, told_to}
+use Rattle.xa_log_worker.specs.Moves.{Moves}
 use Rattle.xa_log_worker.proofs.Deeds.{answers-append, does_nothing, does-chain}
 
 abbrev Lanes : Type 0

@@ -1,15 +1,9 @@
 -- Records that are new, as requests come.
-use Rattle.std.proofs.Common.{◌≡◌, Bool, true, false, cond, List, [], ◌∷◌, ◌++◌, None, Some, refl, sym, ◌∙◌}
-use Rattle.std.specs.Prelude.{◌||◌, ◌==◌}
-use Rattle.std.specs.FinMap.{get-insert, get-remove}
-use Rattle.std.specs.Ordering.{eq_by_cmp}
-use Rattle.xa_words.specs.Tran.{TranName, tran_eq}
-use Rattle.xa_words.specs.TranOrders.{Decides-tran_eq}
-use Rattle.xa_log.specs.Log.{LogState, record_of, with_record, without_record, AreNew}
-use Rattle.xa_log.specs.Transactions.{tran_cmp}
+use Rattle.xa_base.proofs.{◌≡◌, Bool, true, false, cond, List, [], ◌∷◌, ◌++◌, None, Some, refl, sym, ◌∙◌, ◌||◌, ◌==◌, get-insert, get-remove, eq_by_cmp}
+use Rattle.xa_words.specs.{TranName, tran_eq, Decides-tran_eq}
+use Rattle.xa_log.specs.{LogState, record_of, with_record, without_record, AreNew, tran_cmp}
 use Rattle.xa_log.proofs.Transactions.{tran_cmp_total, decides_by_cmp}
-use Rattle.xa_log_worker.specs.declared.group.Waiting.{Waiting}
-use Rattle.xa_log_worker.specs.Deeds.{is_clash, records_in}
+use Rattle.xa_log_worker.specs.{Waiting, is_clash, records_in}
 use Rattle.xa_log_worker.proofs.Deeds.{new_below}
 
 no_first : (a b : Bool) → (a || b) ≡ false → a ≡ false

@@ -1,9 +1,6 @@
 -- The senders of a new lane.
-use Rattle.std.proofs.Common.{◌≡◌, ℕ, zero, suc, List, [], ◌∷◌, ◌++◌, length, refl, ap, sym, subst, ◌∙◌, arith, length-append}
-use Rattle.std.specs.List.{All}
-use Rattle.std.proofs.lemmas.List.Elements.{All-push}
-use Rattle.xa_lane.specs.declared.name.LaneName.{LaneName}
-use Rattle.xa_lane.specs.Ends.{QueueId, Sending, new_sender, new_senders}
+use Rattle.xa_base.proofs.{◌≡◌, ℕ, zero, suc, List, [], ◌∷◌, ◌++◌, length, refl, ap, sym, subst, ◌∙◌, arith, length-append, All, All-push}
+use Rattle.xa_lane.specs.{LaneName, QueueId, Sending, new_sender, new_senders}
 
 -- they are as many as the lane was opened with
 pub as_many : (T : Type 0) (lane : LaneName) (line : QueueId) (capacity n : ℕ) (senders : List (Sending T))

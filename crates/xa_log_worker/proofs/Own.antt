@@ -1,16 +1,12 @@
 -- The records that a coordinator keeps.
-use Rattle.std.proofs.Common.{◌≡◌, true, false, cond, List, [], ◌∷◌, ◌++◌, map, Bool, Some, None, refl, sym, ap, ◌∙◌, append_assoc}
-use Rattle.std.proofs.lemmas.List.{map-append}
-use Rattle.std.specs.FinMap.{get, insert, remove, same_map, get-insert, get-remove}
-use Rattle.std.specs.Ordering.{eq_by_cmp}
-use Rattle.xa_base.proofs.Truth.{is_equal}
-use Rattle.xa_words.specs.Tran.{TranName}
-use Rattle.xa_log.specs.Log.{Records, record_in}
-use Rattle.xa_log.specs.Transactions.{tran_cmp}
+use Rattle.xa_base.proofs.{◌≡◌, true, false, cond, List, [], ◌∷◌, ◌++◌, map, Bool, Some, None, refl, sym, ap, ◌∙◌, append_assoc, map-append, get-insert}
+use Rattle.xa_base.proofs.{get-remove, eq_by_cmp, is_equal}
+use Rattle.std.specs.FinMap.{get, insert, remove, same_map}
+use Rattle.xa_words.specs.{TranName}
+use Rattle.xa_log.specs.{Records, record_in, tran_cmp}
 use Rattle.xa_log.proofs.Transactions.{tran_cmp_total, tran_cmp-IsAntisymmetric}
-use Rattle.xa_lane.specs.Senders.{with_item, but_full}
-use Rattle.xa_log_worker.specs.declared.ask.Ask.TheVariants.{Forget}
-use Rattle.xa_log_worker.specs.Asking.{Asks, AsksToForgetAll, Sends}
+use Rattle.xa_lane.specs.{with_item, but_full}
+use Rattle.xa_log_worker.specs.{Forget, Asks, AsksToForgetAll, Sends}
 
 -- a new record that is put and then removed leaves what was there
 pub removed_again : (m : Records) (k : TranName) (v : List Bool) → record_in m k ≡ None → remove (insert m k v) k ≡ m

@@ -1,21 +1,12 @@
 -- What coordinators asked.
-use Rattle.std.proofs.Common.{◌≡◌, ◌≢◌, ⊎_elim, ℕ, ◌==◌, Bool, true, false, cond, List, [], ◌∷◌, ◌++◌, map, Some, None, Option, refl, sym, ap, ◌∙◌, subst}
-use Rattle.std.proofs.Common.{append_assoc}
-use Rattle.std.specs.Prelude.{◌||◌}
+use Rattle.xa_base.proofs.{◌≡◌, ◌≢◌, ⊎_elim, ℕ, ◌==◌, Bool, true, false, cond, List, [], ◌∷◌, ◌++◌, map, Some, None, Option, refl, sym, ap, ◌∙◌, subst}
+use Rattle.xa_base.proofs.{append_assoc, ◌||◌, append-nil}
 use Rattle.std.proofs.lemmas.Bool.Decides.{eqb_tells}
-use Rattle.std.proofs.lemmas.List.{append-nil}
-use Rattle.xa_words.specs.Tran.{TranName, tran_eq}
-use Rattle.xa_lane.specs.declared.parcel.Parcel.{Parcel}
-use Rattle.xa_lane.specs.Order.{of_sender}
-use Rattle.xa_lane.specs.Ends.{parcel, received, somes}
+use Rattle.xa_words.specs.{TranName, tran_eq}
+use Rattle.xa_lane.specs.{Parcel, of_sender, parcel, received, somes}
 use Rattle.xa_lane.proofs.Parcels.{of_sender-append}
-use Rattle.xa_log_worker.specs.declared.ask.Ask.{Ask}
-use Rattle.xa_log_worker.specs.declared.ask.Ask.TheVariants.{Append}
-use Rattle.xa_log_worker.specs.declared.ask.Answer.{Answer}
-use Rattle.xa_log_worker.specs.declared.ask.Deed.{Deed}
+use Rattle.xa_log_worker.specs.{Ask, Append, Answer, Deed, Waiting, answer_each, asked_if, asked_by, asked_in, asked_of, waits_of, is_clash}
 use Rattle.xa_log_worker.specs.declared.ask.Deed.TheVariants.{Answers}
-use Rattle.xa_log_worker.specs.declared.group.Waiting.{Waiting}
-use Rattle.xa_log_worker.specs.Deeds.{answer_each, asked_if, asked_by, asked_in, asked_of, waits_of, is_clash}
 
 pub asked_in-append : (k : ℕ) (ds es : List Deed) → asked_in k (ds ++ es) ≡ asked_in k ds ++ asked_in k es
 asked_in-append k [] es = refl

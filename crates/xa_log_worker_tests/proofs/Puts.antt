@@ -1,9 +1,8 @@
 -- Records that are put, one after another.
-use Rattle.std.proofs.Common.{◌≡◌, List, [], ◌∷◌, ◌++◌, refl}
+use Rattle.xa_base.proofs.{◌≡◌, List, [], ◌∷◌, ◌++◌, refl}
 use Rattle.std.specs.FinMap.{insert}
-use Rattle.xa_log.specs.Log.{LogState, Records, with_record, with_records}
-use Rattle.xa_log.specs.declared.log.CommitRecord.{CommitRecord}
-use Rattle.xa_log_worker_tests.specs.Puts.{put_records}
+use Rattle.xa_log.specs.{LogState, Records, with_record, with_records, CommitRecord}
+use Rattle.xa_log_worker_tests.specs.{put_records}
 
 pub put_one_more : (records : Records) (rs : List CommitRecord) (r : CommitRecord)
     → put_records records (rs ++ r ∷ []) ≡ insert (put_records records rs) r.tran r.yes

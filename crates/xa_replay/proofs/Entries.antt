@@ -1,17 +1,13 @@
 -- Replays that go one entry further.
-use Rattle.std.proofs.Common.{◌≡◌, ℕ, suc, ◌+◌, ◌==◌, Bool, true, false, cond, List, [], ◌∷◌, ◌++◌, map, append-nil, sym, ap, ◌∙◌, arith}
-use Rattle.std.specs.Prelude.{filter}
-use Rattle.std.specs.List.{range_with_len}
-use Rattle.std.proofs.lemmas.List.{map-append}
-use Rattle.std.proofs.lemmas.List.Elements.{filter-append}
-use Rattle.xa_base.proofs.Lists.{range_suc}
+use Rattle.xa_base.proofs.{◌≡◌, ℕ, suc, ◌+◌, ◌==◌, Bool, true, false, cond, List, [], ◌∷◌, ◌++◌, map, append-nil, sym, ap, ◌∙◌, arith, filter, range_with_len}
+use Rattle.xa_base.proofs.{map-append, filter-append, range_suc}
 use Rattle.xa_words.specs.declared.code.Code.{Code}
-use Rattle.xa_words.specs.declared.request.Request.{Request}
+use Rattle.xa_words.specs.{Request}
 use Rattle.xa_tables.specs.Tables.{Tables}
-use Rattle.xa_tables.specs.Next.{next}
-use Rattle.xa_worker.specs.Journal.{Entry, Follows, entry_next, requests}
+use Rattle.xa_tables.specs.{next}
+use Rattle.xa_worker.specs.{Entry, Follows, entry_next, requests}
 use Rattle.xa_worker.proofs.Journals.{follows_more}
-use Rattle.xa_replay.specs.Replay.{numbers_of}
+use Rattle.xa_replay.specs.{numbers_of}
 
 -- one more entry has the code that the tables give
 pub replay_more : (first : Tables) (before after : List Entry) (e : Entry) (now then : Tables) (c : Code) → after ≡ before ++ e ∷ []

@@ -1,1 +1,4 @@
 pub mod Replay
+
+-- The words of this crate, by its name.
+pub use Replay.{Agrees, ShowsValues, WasOpened, numbers_of}

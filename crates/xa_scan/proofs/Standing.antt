@@ -1,13 +1,9 @@
 -- Where scans stand.
-use Rattle.std.proofs.Common.{◌≡◌, ℕ, zero, suc, ◌-◌, ◌≤◌, inl, inr, ◌==◌, Option, Some, None, IfSome, List, [], ◌∷◌, length, get_or, set}
-use Rattle.std.proofs.Common.{slice_index_or, slice_set, refl, sym, ap, ◌∙◌, subst, arith}
-use Rattle.std.specs.Prelude.{◌⊎◌, Vec}
-use Rattle.std.proofs.lemmas.Bool.{cases_Bool, eqb-true, eqb-false}
-use Rattle.std.proofs.lemmas.List.{get_or-map, get_or-set_other}
-use Rattle.std.specs.Arc.{arc_value}
+use Rattle.xa_base.proofs.{◌≡◌, ℕ, zero, suc, ◌-◌, ◌≤◌, inl, inr, ◌==◌, Option, Some, None, IfSome, List, [], ◌∷◌, length, get_or, set, slice_index_or}
+use Rattle.xa_base.proofs.{slice_set, refl, sym, ap, ◌∙◌, subst, arith, ◌⊎◌, Vec, cases_Bool, eqb-true, eqb-false, get_or-map, get_or-set_other, arc_value}
 use Rattle.std.specs.declared.sync.Arc.{Arc}
-use Rattle.xa_words.specs.Xid.{XidName}
-use Rattle.xa_scan.specs.Left.{ScanView, IsScan, scan_of, lists_in, left_at, place_at}
+use Rattle.xa_words.specs.{XidName}
+use Rattle.xa_scan.specs.{ScanView, IsScan, scan_of, lists_in, left_at, place_at}
 
 -- what was left at manager m stands at place m - 1
 left_there : (z : ScanView) (m : ℕ) → 1 ≤ m → left_at z m ≡ slice_index_or z.left (m - 1) []

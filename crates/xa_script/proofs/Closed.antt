@@ -1,28 +1,22 @@
 -- An opening in turns that ends: its answers are its own, whatever stood before them.
-use Rattle.std.proofs.Common.{◌≡◌, List, [], ◌++◌, sym, refl, ap, ◌∙◌, append-nil, append_assoc}
-use Rattle.xa_base.specs.Lists.{Chain, Pairwise}
+use Rattle.xa_base.proofs.{◌≡◌, List, [], ◌++◌, sym, refl, ap, ◌∙◌, append-nil, append_assoc}
+use Rattle.xa_base.specs.{Chain, Pairwise}
 use Rattle.xa_base.specs.Lists.Chain.{none, more}
 use Rattle.xa_desk.specs.DeskView.{DeskView}
-use Rattle.xa_desk.specs.Ended.{EndedView}
+use Rattle.xa_desk.specs.{EndedView}
 use Rattle.xa_desk.specs.GoesOn.{GoesOn}
-use Rattle.xa_worker.specs.Workers.{WorkerView}
-use Rattle.xa_worker.specs.Done.{Served}
-use Rattle.xa_switch.specs.Plans.{Setup}
-use Rattle.xa_switch.specs.Settling.{Settling, IsSettled}
-use Rattle.xa_switch.specs.Closing.{settling}
-use Rattle.xa_switch.specs.OfPlans.{IsOf}
-use Rattle.xa_crew.specs.Pieces.{HasServed, ArePiecesOf}
-use Rattle.xa_grammar.specs.Steps.{ScriptStep}
+use Rattle.xa_worker.specs.{WorkerView, Served}
+use Rattle.xa_switch.specs.{Setup, IsSettled, settling, IsOf}
+use Rattle.xa_switch.specs.Settling.{Settling}
+use Rattle.xa_crew.specs.{HasServed, ArePiecesOf}
+use Rattle.xa_grammar.specs.{ScriptStep}
 use Rattle.xa_grammar.specs.Content.{Content}
-use Rattle.xa_transcript.specs.declared.answer.Told.{Told}
-use Rattle.xa_session.specs.declared.session.Session.{Session}
-use Rattle.xa_transcript.specs.Ended.{all_ended}
-use Rattle.xa_telling.specs.ToldOpenings.{Beginning}
-use Rattle.xa_telling.specs.Runs.{Ran}
+use Rattle.xa_transcript.specs.{Told, all_ended}
+use Rattle.xa_session.specs.{Session}
+use Rattle.xa_telling.specs.{Beginning, Ran}
 use Rattle.xa_command.specs.declared.mode.Mode.TheVariants as mode
-use Rattle.xa_script.specs.InTurns.{Closing, HasEndedDesk, HaveEnded, InTurns, closing_of, turns_at}
-use Rattle.xa_script.specs.Outcome.{HasCome}
-use Rattle.xa_script.specs.TurnsSoFar.{Goes}
+use Rattle.xa_script.specs.{Closing, HasEndedDesk, HaveEnded, closing_of, turns_at, HasCome, Goes}
+use Rattle.xa_script.specs.InTurns.{InTurns}
 use Rattle.xa_script.proofs.Runs.{turns_ran}
 use Rattle.xa_script.proofs.Pieces.{pieces_of}
 

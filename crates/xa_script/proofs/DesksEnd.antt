@@ -1,11 +1,9 @@
 -- The desks of an opening in turns end one after the other.
-use Rattle.std.proofs.Common.{◌≡◌, ◌<◌, suc, List, [], ◌∷◌, ◌++◌, length, length-append, map, sym, ap, ◌∙◌, arith}
-use Rattle.std.proofs.lemmas.List.{map-append, length-map}
-use Rattle.xa_base.proofs.Lists.{taken_next}
+use Rattle.xa_base.proofs.{◌≡◌, ◌<◌, suc, List, [], ◌∷◌, ◌++◌, length, length-append, map, sym, ap, ◌∙◌, arith, map-append, length-map, taken_next}
 use Rattle.xa_base.specs.Lists.Chain.{more}
-use Rattle.xa_log.specs.declared.losing.LosingLog.{LosingLog}
-use Rattle.xa_session.specs.declared.session.Session.{Session}
-use Rattle.xa_script.specs.InTurns.{Closing, HasEndedDesk, HaveEnded}
+use Rattle.xa_log.specs.{LosingLog}
+use Rattle.xa_session.specs.{Session}
+use Rattle.xa_script.specs.{Closing, HasEndedDesk, HaveEnded}
 
 -- the first desks have ended, and their threads' logs were given; the others are still to come
 pub record EndSoFar (sessions : List Session) (start : Closing) (first rest : List Session) (logs : List LosingLog) (now : Closing) : Type 0 where

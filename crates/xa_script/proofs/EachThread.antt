@@ -1,31 +1,21 @@
 -- What each thread's lines come to, in a run of all lines.
-use Rattle.std.proofs.Common.{◌≡◌, ◌≢◌, ℕ, ◌+◌, ◌-◌, ◌≤◌, zero, suc, true, false, cond, List, [], ◌∷◌, ◌++◌, Some, None, sym, refl, ap, ◌∙◌, subst, inl, inr}
-use Rattle.std.proofs.Common.{arith, append-nil, append_assoc, map}
-use Rattle.std.specs.Prelude.{slice_get, slice_set, All, filter_map, if◌then◌else◌}
-use Rattle.std.specs.List.{flat_map}
-use Rattle.std.proofs.lemmas.Bool.{cases_eq, eq-eqb, ne_eqb}
-use Rattle.std.proofs.lemmas.List.{map-append}
-use Rattle.std.proofs.lemmas.List.Elements.{filter-append, filter_map-append, All-head, All-tail}
-use Rattle.xa_desk.specs.Ended.{EndedView}
+use Rattle.xa_base.proofs.{◌≡◌, ◌≢◌, ℕ, ◌+◌, ◌-◌, ◌≤◌, zero, suc, true, false, cond, List, [], ◌∷◌, ◌++◌, Some, None, sym, refl, ap, ◌∙◌, subst, inl, inr}
+use Rattle.xa_base.proofs.{arith, append-nil, append_assoc, map, slice_get, slice_set, All, if◌then◌else◌, flat_map, cases_eq, eq-eqb, ne_eqb, map-append}
+use Rattle.xa_base.proofs.{filter-append, All-head, All-tail, flat_push, none_side, push_side, some_same, all_left, all_mid}
+use Rattle.std.specs.Prelude.{filter_map}
+use Rattle.std.proofs.lemmas.List.Elements.{filter_map-append}
+use Rattle.xa_desk.specs.{EndedView}
 use Rattle.xa_grammar.specs.declared.step.Step.TheVariants as step
-use Rattle.xa_grammar.specs.Steps.{ScriptTask, ScriptStep}
-use Rattle.xa_grammar.specs.Content.{task_of, tasks_of, Fits}
-use Rattle.xa_session.specs.declared.session.Session.{Session}
-use Rattle.xa_transcript.specs.declared.answer.Told.{Told}
-use Rattle.xa_base.specs.Lists.{Chain, Pairwise}
+use Rattle.xa_grammar.specs.{ScriptTask, ScriptStep, task_of, tasks_of, Fits}
+use Rattle.xa_session.specs.{Session, Does, ScriptThread, HasDone, told_of}
+use Rattle.xa_transcript.specs.{Told, all_ended}
+use Rattle.xa_base.specs.{Chain, Pairwise}
 use Rattle.xa_base.specs.Lists.Chain.{none, more}
-use Rattle.xa_session.specs.Sessions.{Does}
 use Rattle.xa_words.specs.declared.code.Code.{Code}
-use Rattle.xa_crew.specs.Ending.{EndsDesk}
-use Rattle.xa_crew.specs.Run.{Member}
-use Rattle.xa_session.specs.declared.script_thread.ScriptThread.{ScriptThread}
-use Rattle.xa_transcript.specs.Ended.{all_ended}
-use Rattle.xa_script.specs.InThreads.{told_by}
-use Rattle.xa_script.specs.InTurns.{TurnsAt, Closing, HasCalled, HasTurned, HasStepped, HasEndedDesk}
-use Rattle.xa_session.specs.Sessions.{HasDone, told_of}
-use Rattle.xa_telling.specs.Journals.{is_to, answers_to}
+use Rattle.xa_crew.specs.{EndsDesk, Member}
+use Rattle.xa_script.specs.{told_by, TurnsAt, Closing, HasCalled, HasTurned, HasStepped, HasEndedDesk}
+use Rattle.xa_telling.specs.{is_to, answers_to}
 use Rattle.xa_telling.proofs.Tasks.{AreOf}
-use Rattle.xa_base.proofs.Lists.{flat_push, none_side, push_side, some_same, all_left, all_mid}
 
 -- ---- lists
 

@@ -1,19 +1,14 @@
 -- The lines of what was outstanding, among all answers.
-use Rattle.std.proofs.Common.{◌≡◌, ◌≢◌, ℕ, ◌==◌, false, cond, List, [], ◌∷◌, ◌++◌, refl, ap, ◌∙◌}
-use Rattle.std.proofs.Common.{append-nil}
-use Rattle.std.proofs.lemmas.Bool.{eq-eqb, eqb-true, false_from_ne_true}
-use Rattle.std.proofs.lemmas.List.Elements.{filter-append}
-use Rattle.xa_base.specs.Lists.{Chain}
+use Rattle.xa_base.proofs.{◌≡◌, ◌≢◌, ℕ, ◌==◌, false, cond, List, [], ◌∷◌, ◌++◌, refl, ap, ◌∙◌, append-nil, eq-eqb, eqb-true, false_from_ne_true, filter-append}
+use Rattle.xa_base.specs.{Chain}
 use Rattle.xa_base.specs.Lists.Chain.{none, more}
 use Rattle.xa_words.specs.declared.code.Code.{Code}
 use Rattle.xa_grammar.specs.declared.step.Step.TheVariants as step
-use Rattle.xa_grammar.specs.Steps.{ScriptTask, ScriptStep}
-use Rattle.xa_transcript.specs.declared.answer.Told.{Told}
-use Rattle.xa_session.specs.declared.session.Session.{Session}
-use Rattle.xa_transcript.specs.Ended.{ended, all_ended}
-use Rattle.xa_session.specs.Sessions.{HasDone, told_of}
-use Rattle.xa_telling.specs.Journals.{is_end_of, ends_of}
-use Rattle.xa_script.specs.InTurns.{TurnsAt, HasStepped}
+use Rattle.xa_grammar.specs.{ScriptTask, ScriptStep}
+use Rattle.xa_transcript.specs.{Told, ended, all_ended}
+use Rattle.xa_session.specs.{Session, HasDone, told_of}
+use Rattle.xa_telling.specs.{is_end_of, ends_of}
+use Rattle.xa_script.specs.{TurnsAt, HasStepped}
 
 -- ---- the lines of a thread's end
 

@@ -1,16 +1,11 @@
 -- What the program shows where it fails.
-use Rattle.std.proofs.Common.{◌≡◌, ◌⊎◌, ⊎_elim, ◌<◌, ℕ, List, Option, Some, None, Err, arith}
-use Rattle.std.specs.Prelude.{IfSome}
+use Rattle.xa_base.proofs.{◌≡◌, ◌⊎◌, ⊎_elim, ◌<◌, ℕ, List, Option, Some, None, Err, arith, IfSome}
 use Rattle.std.specs.Borrow.{Bor}
-use Rattle.xa_grammar.specs.declared.fault.Reason.{Reason}
+use Rattle.xa_grammar.specs.{Reason, script_of}
 use Rattle.xa_grammar.specs.declared.fault.ScriptFault.TheVariants as script
-use Rattle.xa_grammar.specs.Grammar.{script_of}
 use Rattle.xa_transcript.specs.declared.writing.RunFault.TheVariants as run
-use Rattle.xa_command.specs.declared.mode.Mode.{Mode}
-use Rattle.xa_script.specs.declared.entry.Fault.{Fault}
-use Rattle.xa_script.specs.declared.entry.Fault.TheVariants.{Usage, NoMemory, Script, Run}
-use Rattle.xa_command.specs.Words.{AreWords, IsMode}
-use Rattle.xa_script.specs.Program.{status_of, has_threads, IsJudged, IsFaulty, FailsBy}
+use Rattle.xa_command.specs.{Mode, AreWords, IsMode}
+use Rattle.xa_script.specs.{Fault, Usage, NoMemory, Script, Run, status_of, has_threads, IsJudged, IsFaulty, FailsBy}
 
 -- with another status than 4 nothing is shown
 shows_nothing : (fault : Fault) (m : Mode) (bytes before after : Option (List ℕ)) → FailsBy fault m bytes before after → status_of fault < 4 → after ≡ before

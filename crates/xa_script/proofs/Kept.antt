@@ -1,16 +1,14 @@
 -- What is outstanding stays kept as a run goes on.
-use Rattle.std.proofs.Common.{◌-◌, List, sym, subst}
-use Rattle.std.specs.Prelude.{All}
+use Rattle.xa_base.proofs.{◌-◌, List, sym, subst, All, all_at}
 use Rattle.std.proofs.lemmas.List.Elements.{All-set}
-use Rattle.xa_desk.specs.Kept.{AllKept}
+use Rattle.xa_desk.specs.{AllKept}
 use Rattle.xa_grammar.specs.declared.step.Step.TheVariants as step
-use Rattle.xa_grammar.specs.Steps.{ScriptStep}
-use Rattle.xa_base.specs.Lists.{Chain}
+use Rattle.xa_grammar.specs.{ScriptStep}
+use Rattle.xa_base.specs.{Chain}
 use Rattle.xa_base.specs.Lists.Chain.{none, more}
-use Rattle.xa_base.proofs.Lists.{all_at}
-use Rattle.xa_transcript.specs.declared.answer.Told.{Told}
-use Rattle.xa_session.specs.declared.session.Session.{Session}
-use Rattle.xa_script.specs.InTurns.{Stage, TurnsAt, Steps, HasStepped}
+use Rattle.xa_transcript.specs.{Told}
+use Rattle.xa_session.specs.{Session}
+use Rattle.xa_script.specs.{Stage, TurnsAt, Steps, HasStepped}
 
 -- of each thread
 abbrev pub AreKept : List Session → Type 0

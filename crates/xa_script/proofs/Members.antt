@@ -1,28 +1,20 @@
 -- What the threads of a script came to as a crew.
-use Rattle.std.proofs.Common.{◌≡◌, ◌+◌, ◌<◌, ℕ, zero, suc, List, [], ◌∷◌, ◌++◌, Some, length, map, false, refl, ap, ◌∙◌, sym, subst, arith}
-use Rattle.std.specs.Prelude.{All, slice_get, option_map}
-use Rattle.std.specs.List.{flat_map, range_with_len, slice_index_or}
-use Rattle.std.proofs.lemmas.List.{length-map}
+use Rattle.xa_base.proofs.{◌≡◌, ◌+◌, ◌<◌, ℕ, zero, suc, List, [], ◌∷◌, ◌++◌, Some, length, map, false, refl, ap, ◌∙◌, sym, subst, arith, All, slice_get}
+use Rattle.xa_base.proofs.{option_map, flat_map, range_with_len, slice_index_or, length-map, slice_get-map, slice_get_within, slice_get-get_or, all_at}
+use Rattle.xa_base.proofs.{some_same}
 use Rattle.std.proofs.lemmas.List.FromFn.{length-map-range_with_len, get_or-map-range_with_len}
-use Rattle.std.proofs.lemmas.Option.{slice_get-map, slice_get_within, slice_get-get_or}
-use Rattle.xa_base.specs.Lists.{Chain, Pairwise}
-use Rattle.xa_base.proofs.Lists.{all_at, some_same}
-use Rattle.xa_scan.specs.Left.{ScanView}
-use Rattle.xa_transcript.specs.Values.{opened}
-use Rattle.xa_worker.specs.Workers.{WorkerView}
-use Rattle.xa_grammar.specs.Steps.{ScriptTask}
-use Rattle.xa_grammar.specs.Content.{Content, tasks_of, threads_of}
-use Rattle.xa_log.specs.declared.losing.LosingLog.{LosingLog}
-use Rattle.xa_crew.specs.declared.client_job.Attended.{Attended}
-use Rattle.xa_crew.specs.Run.{Member, HasRun}
-use Rattle.xa_transcript.specs.declared.answer.Told.{Told}
-use Rattle.xa_session.specs.declared.script_thread.ScriptThread.{ScriptThread}
-use Rattle.xa_session.specs.declared.session.Session.{Session}
-use Rattle.xa_session.specs.Sessions.{session_of, log_of, HasDone}
-use Rattle.xa_session.specs.ScriptThreads.{IsNew, Works}
-use Rattle.xa_telling.specs.Planning.{AreOpened}
+use Rattle.xa_base.specs.{Chain, Pairwise}
+use Rattle.xa_scan.specs.{ScanView}
+use Rattle.xa_transcript.specs.{opened, Told}
+use Rattle.xa_worker.specs.{WorkerView}
+use Rattle.xa_grammar.specs.{ScriptTask, tasks_of, threads_of}
+use Rattle.xa_grammar.specs.Content.{Content}
+use Rattle.xa_log.specs.{LosingLog}
+use Rattle.xa_crew.specs.{Attended, Member, HasRun}
+use Rattle.xa_session.specs.{ScriptThread, Session, session_of, log_of, HasDone, IsNew, Works}
+use Rattle.xa_telling.specs.{AreOpened}
 use Rattle.xa_telling.proofs.Opened.{opened_thread}
-use Rattle.xa_script.specs.InThreads.{told_by, HasWorked}
+use Rattle.xa_script.specs.{told_by, HasWorked}
 
 -- the numbers from 1 on
 length_range : (n : ℕ) → length (range_with_len 1 n) ≡ n

@@ -1,9 +1,9 @@
 -- What a writer takes of a text that is written in parts.
-use Rattle.std.proofs.Common.{◌≡◌, ℕ, List, [], ◌∷◌, ◌++◌, take, Option, None, Some, Result, Ok, Err, sym, ap, ◌∙◌, subst, append-nil}
+use Rattle.xa_base.proofs.{◌≡◌, ℕ, List, [], ◌∷◌, ◌++◌, take, Option, None, Some, Result, Ok, Err, sym, ap, ◌∙◌, subst, append-nil}
 use Rattle.std.specs.Io.KnownBytes.{Appends, Keeps, WriteAppends}
 use Rattle.std.specs.Io.Slices.{io_slice_bytes, io_slices_bytes}
 use Rattle.std.specs.declared.io.slices.IoSlice.{IoSlice}
-use Rattle.xa_script.specs.Program.{AppendsSome}
+use Rattle.xa_script.specs.{AppendsSome}
 
 keeps_appends : (old new : Option (List ℕ)) (text : List ℕ) → Keeps old new → Appends old new (take 0 text)
 keeps_appends None new text keeps = keeps

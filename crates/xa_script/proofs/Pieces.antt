@@ -1,24 +1,17 @@
 -- The desks and the workers of a run in turns are all those of its opening.
-use Rattle.std.proofs.Common.{List, [], map, ◌∙◌, subst, sym, arith}
-use Rattle.std.proofs.lemmas.List.{length-map}
-use Rattle.std.proofs.lemmas.Option.{slice_get_within}
-use Rattle.xa_base.proofs.Lists.{got, was_mapped}
+use Rattle.xa_base.proofs.{List, [], map, ◌∙◌, subst, sym, arith, length-map, slice_get_within, got, was_mapped}
 use Rattle.xa_desk.specs.DeskView.{DeskView}
-use Rattle.xa_desk.specs.Ended.{EndedView}
+use Rattle.xa_desk.specs.{EndedView}
 use Rattle.xa_desk.specs.GoesOn.{GoesOn}
-use Rattle.xa_worker.specs.Workers.{WorkerView}
-use Rattle.xa_worker.specs.Done.{Served}
-use Rattle.xa_grammar.specs.Steps.{ScriptTask, ScriptStep}
-use Rattle.xa_grammar.specs.Content.{Content, tasks_of}
-use Rattle.xa_base.specs.Lists.{Chain}
+use Rattle.xa_worker.specs.{WorkerView, Served}
+use Rattle.xa_grammar.specs.{ScriptTask, ScriptStep, tasks_of}
+use Rattle.xa_grammar.specs.Content.{Content}
+use Rattle.xa_base.specs.{Chain}
 use Rattle.xa_base.specs.Lists.Chain.{none, more}
-use Rattle.xa_crew.specs.Pieces.{HasGone, ArePiecesOf}
-use Rattle.xa_transcript.specs.declared.answer.Told.{Told}
-use Rattle.xa_session.specs.declared.session.Session.{Session}
-use Rattle.xa_session.specs.Sessions.{HasDone}
-use Rattle.xa_telling.specs.ToldOpenings.{Beginning}
-use Rattle.xa_telling.specs.Journals.{answers_to}
-use Rattle.xa_telling.specs.Runs.{Comes, Ran}
+use Rattle.xa_crew.specs.{HasGone, ArePiecesOf}
+use Rattle.xa_transcript.specs.{Told}
+use Rattle.xa_session.specs.{Session, HasDone}
+use Rattle.xa_telling.specs.{Beginning, answers_to, Comes, Ran}
 
 module _ (same : (d : DeskView) → GoesOn d d) (further : (old mid new : DeskView) → GoesOn old mid → GoesOn mid new → GoesOn old new) where
   tasks_go_on : (first : Session × List Told) (tasks : List ScriptTask) (last : Session × List Told) → Chain HasDone first tasks last

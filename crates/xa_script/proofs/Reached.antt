@@ -1,26 +1,19 @@
 -- How far a script in turns has come, line by line.
-use Rattle.std.proofs.Common.{◌≡◌, ℕ, false, ◌||◌, List, [], ◌∷◌, ◌++◌, length, map, sym, refl, ap, ◌∙◌, append-nil, append_assoc}
-use Rattle.std.specs.List.{flat_map}
-use Rattle.std.proofs.lemmas.List.{length-map}
-use Rattle.std.proofs.lemmas.List.Elements.{All-nil, All-push}
-use Rattle.std.proofs.lemmas.List.Folds.{list_any-append}
+use Rattle.xa_base.proofs.{◌≡◌, ℕ, false, ◌||◌, List, [], ◌∷◌, ◌++◌, length, map, sym, refl, ap, ◌∙◌, append-nil, append_assoc, flat_map, length-map, All-nil}
+use Rattle.xa_base.proofs.{All-push, list_any-append, flat_push}
 use Rattle.xa_base.specs.Lists.Chain.{none, more}
-use Rattle.xa_base.proofs.Lists.{flat_push}
-use Rattle.xa_worker.specs.Workers.{WorkerView}
-use Rattle.xa_log.specs.declared.losing.LosingLog.{LosingLog}
+use Rattle.xa_worker.specs.{WorkerView}
+use Rattle.xa_log.specs.{LosingLog}
 use Rattle.xa_switch.specs.Settling.{Settling}
 use Rattle.xa_grammar.specs.declared.step.Step.TheVariants as step
-use Rattle.xa_grammar.specs.Steps.{ScriptStep}
-use Rattle.xa_grammar.specs.Content.{Content, Fits, threads_of, managers_of, is_reopen, AreOfOne}
-use Rattle.xa_transcript.specs.declared.answer.Told.{Told}
-use Rattle.xa_transcript.specs.declared.answer.Told.TheVariants.{Reopened}
-use Rattle.xa_session.specs.declared.session.Session.{Session}
-use Rattle.xa_telling.specs.ToldOpenings.{Beginning, Opening, Former, beginning}
+use Rattle.xa_grammar.specs.{ScriptStep, Fits, threads_of, managers_of, is_reopen, AreOfOne}
+use Rattle.xa_grammar.specs.Content.{Content}
+use Rattle.xa_transcript.specs.{Told, Reopened}
+use Rattle.xa_session.specs.{Session}
+use Rattle.xa_telling.specs.{Beginning, Opening, Former, beginning}
 use Rattle.xa_telling.proofs.Opened.{opened_threads, opened_managers}
 use Rattle.xa_command.specs.declared.mode.Mode.TheVariants as mode
-use Rattle.xa_script.specs.InTurns.{Steps, turns_at}
-use Rattle.xa_script.specs.Outcome.{Follows, IsOutcome}
-use Rattle.xa_script.specs.TurnsSoFar.{IsOpen, Goes, IsClosed, HasReached}
+use Rattle.xa_script.specs.{Steps, turns_at, Follows, IsOutcome, IsOpen, Goes, IsClosed, HasReached}
 use Rattle.xa_script.proofs.WorkersOn.{run_goes, run_count}
 
 abbrev lines_of_former : Former → List ScriptStep

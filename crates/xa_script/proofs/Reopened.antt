@@ -1,32 +1,22 @@
 -- What an opening begins with that follows another.
-use Rattle.std.proofs.Common.{◌≡◌, ℕ, ◌+◌, ◌≤◌, zero, suc, List, [], ◌∷◌, length, map, Some, sym, refl, ap, ◌∙◌, subst, arith}
-use Rattle.std.specs.Prelude.{slice_get}
-use Rattle.std.specs.List.{slice_index_or}
-use Rattle.std.proofs.lemmas.List.{length-map}
-use Rattle.std.proofs.lemmas.Option.{slice_get-get_or, slice_get_within}
-use Rattle.xa_base.proofs.Lists.{was_mapped, some_same}
+use Rattle.xa_base.proofs.{◌≡◌, ℕ, ◌+◌, ◌≤◌, zero, suc, List, [], ◌∷◌, length, map, Some, sym, refl, ap, ◌∙◌, subst, arith, slice_get, slice_index_or}
+use Rattle.xa_base.proofs.{length-map, slice_get-get_or, slice_get_within, was_mapped, some_same}
 use Rattle.xa_desk.specs.DeskView.{DeskView}
-use Rattle.xa_worker.specs.Workers.{WorkerView}
-use Rattle.xa_log.specs.Losing.{reopened}
-use Rattle.xa_log.specs.declared.losing.LosingLog.{LosingLog}
+use Rattle.xa_worker.specs.{WorkerView}
+use Rattle.xa_log.specs.{reopened, LosingLog}
 use Rattle.xa_switch.specs.declared.plan.Again.{Again}
-use Rattle.xa_switch.specs.OpenedPieces.{AreOfOneOpening}
-use Rattle.xa_switch.specs.Settling.{Settling, IsSettled}
-use Rattle.xa_switch.specs.Closing.{settling}
-use Rattle.xa_scan.specs.Left.{ScanView, no_scan}
-use Rattle.xa_switch.specs.Recovery.{IsScanOf, AreScansOf}
-use Rattle.xa_switch.specs.Again.{MayReopen, reopened_at, reopening}
-use Rattle.xa_grammar.specs.Content.{Content, threads_of}
-use Rattle.xa_session.specs.declared.session.Session.{Session}
-use Rattle.xa_session.specs.Sessions.{session_of, sessions_again}
-use Rattle.xa_telling.specs.Planning.{AreNumbersOf, IsSetupOf}
-use Rattle.xa_telling.specs.ToldOpenings.{Beginning, Opening, Leaves}
+use Rattle.xa_switch.specs.{AreOfOneOpening, IsSettled, settling, IsScanOf, AreScansOf, MayReopen, reopened_at, reopening}
+use Rattle.xa_switch.specs.Settling.{Settling}
+use Rattle.xa_scan.specs.{ScanView, no_scan}
+use Rattle.xa_grammar.specs.Content.{Content}
+use Rattle.xa_grammar.specs.{threads_of}
+use Rattle.xa_session.specs.{Session, session_of, sessions_again}
+use Rattle.xa_telling.specs.{AreNumbersOf, IsSetupOf, Beginning, Opening, Leaves}
 use Rattle.xa_telling.proofs.Opened.{opened_threads}
 use Rattle.xa_telling.proofs.Told.{log_left, log_there}
 use Rattle.xa_telling.proofs.Again.{again_setup, may_reopen, next_beginning, leaves}
 use Rattle.xa_command.specs.declared.mode.Mode.TheVariants as mode
-use Rattle.xa_script.specs.Outcome.{HasCome, Follows}
-use Rattle.xa_script.specs.TurnsSoFar.{IsOpen}
+use Rattle.xa_script.specs.{HasCome, Follows, IsOpen}
 
 -- ---- the threads
 

@@ -1,39 +1,24 @@
 -- What the threads and the managers of a run have come to, in turns and in threads.
-use Rattle.std.proofs.Common.{◌≡◌, ◌≢◌, ℕ, ◌+◌, List, [], length, map, Some, sym, refl, ◌∙◌, ap, subst, arith, ◌++◌, append-nil}
-use Rattle.std.specs.Prelude.{slice_get, option_map, All}
-use Rattle.std.specs.List.{flat_map}
-use Rattle.std.proofs.lemmas.List.{length-map}
-use Rattle.std.proofs.lemmas.List.Elements.{filter-append}
-use Rattle.std.proofs.lemmas.Option.{slice_get-map, slice_get_within}
-use Rattle.xa_desk.specs.Ended.{EndedView}
-use Rattle.xa_desk.specs.Seats.{DeskSeat}
-use Rattle.xa_worker.specs.Workers.{WorkerView}
-use Rattle.xa_worker.specs.Done.{Served}
-use Rattle.xa_grammar.specs.Steps.{ScriptTask, ScriptStep}
-use Rattle.xa_grammar.specs.Content.{Content, tasks_of, Fits, threads_of, managers_of}
-use Rattle.xa_base.specs.Lists.{Chain}
+use Rattle.xa_base.proofs.{◌≡◌, ◌≢◌, ℕ, ◌+◌, List, [], length, map, Some, sym, refl, ◌∙◌, ap, subst, arith, ◌++◌, append-nil, slice_get, option_map, All}
+use Rattle.xa_base.proofs.{flat_map, length-map, filter-append, slice_get-map, slice_get_within, was_mapped, flat_one, flat_none, some_same, got}
+use Rattle.xa_desk.specs.{EndedView, DeskSeat}
+use Rattle.xa_worker.specs.{WorkerView, Served}
+use Rattle.xa_grammar.specs.{ScriptTask, ScriptStep, tasks_of, Fits, threads_of, managers_of}
+use Rattle.xa_grammar.specs.Content.{Content}
+use Rattle.xa_base.specs.{Chain}
 use Rattle.xa_base.specs.Lists.Chain.{none, more}
-use Rattle.xa_base.proofs.Lists.{was_mapped, flat_one, flat_none, some_same, got}
-use Rattle.xa_crew.specs.Ending.{EndsDesk}
-use Rattle.xa_crew.specs.Run.{Member}
-use Rattle.xa_transcript.specs.declared.answer.Told.{Told}
-use Rattle.xa_session.specs.declared.session.Session.{Session}
-use Rattle.xa_session.specs.declared.script_thread.ScriptThread.{ScriptThread}
-use Rattle.xa_session.specs.Sessions.{new_session, HasDone}
-use Rattle.xa_telling.specs.Planning.{AreOpened}
-use Rattle.xa_transcript.specs.Ended.{all_ended}
-use Rattle.xa_telling.specs.Journals.{answers_to, ends_of, is_end_of, is_to}
-use Rattle.xa_telling.specs.ToldOpenings.{Beginning}
-use Rattle.xa_telling.specs.Runs.{BeginsAs, Comes, Ran}
+use Rattle.xa_crew.specs.{EndsDesk, Member, all_go_on}
+use Rattle.xa_transcript.specs.{Told, all_ended}
+use Rattle.xa_session.specs.{Session, ScriptThread, new_session, HasDone}
+use Rattle.xa_telling.specs.{AreOpened, answers_to, ends_of, is_end_of, is_to, Beginning, BeginsAs, Comes, Ran}
 use Rattle.xa_telling.proofs.Opened.{opened_thread}
 use Rattle.xa_telling.proofs.Tasks.{tasks_are_of}
-use Rattle.xa_script.specs.InThreads.{HasWorked, InThreads}
-use Rattle.xa_script.specs.InTurns.{TurnsAt, Closing, InTurns, turns_at, closing_of}
-use Rattle.xa_crew.specs.Turning.{all_go_on}
+use Rattle.xa_script.specs.{HasWorked, TurnsAt, Closing, turns_at, closing_of}
+use Rattle.xa_script.specs.InThreads.{InThreads}
+use Rattle.xa_script.specs.InTurns.{InTurns}
 use Rattle.xa_crew.proofs.WorkersOn.{all_served}
 use Rattle.xa_script.proofs.WorkersOn.{run_goes, ends_go, run_count}
-use Rattle.xa_script.proofs.EachThread.{Went, run_went, run_silent, Ending, ended_by, Closes, closes, ended_tell}
-use Rattle.xa_script.proofs.EachThread.{ends_silent, told_all, told_none, told}
+use Rattle.xa_script.proofs.EachThread.{Went, run_went, run_silent, Ending, ended_by, Closes, closes, ended_tell, ends_silent, told_all, told_none, told}
 use Rattle.xa_script.proofs.EndLines.{ends_all, ends_other, tasks_no_end, steps_no_end}
 
 -- ---- a thread's number

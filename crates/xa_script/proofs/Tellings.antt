@@ -1,18 +1,18 @@
 -- What a run tells of its openings.
-use Rattle.std.proofs.Common.{List, map, sym, subst}
-use Rattle.xa_base.specs.Lists.{Chain}
+use Rattle.xa_base.proofs.{List, map, sym, subst}
+use Rattle.xa_base.specs.{Chain}
 use Rattle.xa_base.specs.Lists.Chain.{none, more}
-use Rattle.xa_switch.specs.Settling.{Settling, IsSettled}
-use Rattle.xa_grammar.specs.declared.script.Declared.{Declared}
+use Rattle.xa_switch.specs.Settling.{Settling}
+use Rattle.xa_switch.specs.{IsSettled}
+use Rattle.xa_grammar.specs.{Declared}
 use Rattle.xa_grammar.specs.Content.{Content}
-use Rattle.xa_transcript.specs.declared.answer.Told.{Told}
-use Rattle.xa_session.specs.declared.session.Session.{Session}
-use Rattle.xa_telling.specs.ToldOpenings.{Beginning, Opening, Former, TellsOf, Leaves, Tells, beginning, settled_over}
-use Rattle.xa_transcript.specs.Values.{opened_after, AreOfScript, AreValues}
+use Rattle.xa_transcript.specs.{Told, opened_after, AreOfScript, AreValues}
+use Rattle.xa_session.specs.{Session}
+use Rattle.xa_telling.specs.{Beginning, Opening, Former, TellsOf, Leaves, Tells, beginning, settled_over}
 use Rattle.xa_telling.proofs.Told.{tells}
 use Rattle.xa_telling.proofs.Again.{of_script_after}
-use Rattle.xa_command.specs.declared.mode.Mode.{Mode}
-use Rattle.xa_script.specs.Outcome.{HasCome, Follows, IsOutcome}
+use Rattle.xa_command.specs.{Mode}
+use Rattle.xa_script.specs.{HasCome, Follows, IsOutcome}
 
 module _ (m : Mode) (s : Content) where
   -- an opening that has come to what was settled

@@ -1,16 +1,14 @@
 -- How the workers go on in an opening of a script, and as many threads stay.
-use Rattle.std.proofs.Common.{◌≡◌, ◌-◌, List, length, ap, ◌∙◌, subst, sym}
-use Rattle.std.proofs.lemmas.List.{length-set}
+use Rattle.xa_base.proofs.{◌≡◌, ◌-◌, List, length, ap, ◌∙◌, subst, sym, length-set}
 use Rattle.xa_grammar.specs.declared.step.Step.TheVariants as step
-use Rattle.xa_grammar.specs.Steps.{ScriptStep}
-use Rattle.xa_session.specs.declared.session.Session.{Session}
-use Rattle.xa_transcript.specs.declared.answer.Told.{Told}
-use Rattle.xa_base.specs.Lists.{Chain}
+use Rattle.xa_grammar.specs.{ScriptStep}
+use Rattle.xa_session.specs.{Session}
+use Rattle.xa_transcript.specs.{Told}
+use Rattle.xa_base.specs.{Chain}
 use Rattle.xa_base.specs.Lists.Chain.{none, more}
-use Rattle.xa_crew.specs.Turns.{AllGoOn}
-use Rattle.xa_crew.specs.Turning.{all_stay, all_go_on}
+use Rattle.xa_crew.specs.{AllGoOn, all_stay, all_go_on}
 use Rattle.xa_crew.proofs.WorkersOn.{turn_goes}
-use Rattle.xa_script.specs.InTurns.{Stage, TurnsAt, Steps, HasStepped, Closing, HasEndedDesk}
+use Rattle.xa_script.specs.{Stage, TurnsAt, Steps, HasStepped, Closing, HasEndedDesk}
 
 -- ---- all of a run
 

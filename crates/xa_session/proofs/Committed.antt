@@ -1,20 +1,12 @@
 -- What a commit of a script's line comes to.
-use Rattle.std.proofs.Common.{◌≡◌, ℕ, true, false, List, [], ◌∷◌, Vec, Global, map, refl, sym, subst}
-use Rattle.xa_words.specs.Tran.{TranName}
+use Rattle.xa_base.proofs.{◌≡◌, ℕ, true, false, List, [], ◌∷◌, Vec, Global, map, refl, sym, subst}
+use Rattle.xa_words.specs.{TranName}
 use Rattle.xa_words.specs.declared.code.Code.{Code}
-use Rattle.xa_driver.specs.declared.branch.Branch.{Branch}
-use Rattle.xa_driver.specs.Asks.{KeepsTheRest}
-use Rattle.xa_driver.specs.Decision.{yes_of}
-use Rattle.xa_driver.specs.Order.{GoesAsRound}
-use Rattle.xa_driver.specs.Rounds.{first_ask}
-use Rattle.xa_driver.specs.Stages.{HasVoted}
-use Rattle.xa_driver.specs.Trace.{IsTranOf, IsUnknown}
-use Rattle.xa_log.specs.Losing.{LosesTo}
-use Rattle.xa_log.specs.declared.losing.LosingLog.{LosingLog}
-use Rattle.xa_grammar.specs.declared.step.CommitAll.{CommitAll}
+use Rattle.xa_driver.specs.{Branch, KeepsTheRest, yes_of, GoesAsRound, first_ask, HasVoted, IsTranOf, IsUnknown}
+use Rattle.xa_log.specs.{LosesTo, LosingLog}
+use Rattle.xa_grammar.specs.{CommitAll}
 use Rattle.xa_transcript.specs.declared.answer.Answer.TheVariants as answer
-use Rattle.xa_session.specs.declared.session.Session.{Session}
-use Rattle.xa_session.specs.Committing.{CanCommit, CommitsAll, branch_at, branches_of, comes_to_decide, named}
+use Rattle.xa_session.specs.{Session, CanCommit, CommitsAll, branch_at, branches_of, comes_to_decide, named}
 use Rattle.xa_session.specs.Committing.CommitsAll.{undecided}
 
 -- all branches of a commit are of its transaction

@@ -1,16 +1,14 @@
 -- What an xa_complete writes is small.
-use Rattle.std.specs.Prelude.{◌≡◌, ℕ, ℤ, pos, Result, Ok, Err, IfOk}
-use Rattle.std.proofs.Common.{sym, ap, ◌∙◌, subst, arith, w32, SFits}
-use Rattle.std.proofs.lemmas.Int.{ints}
+use Rattle.xa_base.proofs.{◌≡◌, ℕ, ℤ, pos, Result, Ok, Err, IfOk, sym, ap, ◌∙◌, subst, arith, w32, ints}
+use Rattle.std.proofs.Common.{SFits}
 use Rattle.xa_words.specs.Code.{number_of}
 use Rattle.xa_words.specs.declared.code.Code.{Code}
-use Rattle.xa_words.specs.declared.code.Code.TheVariants.{Done, RdOnly, Retry, HeurMix, HeurRb, HeurCom, HeurHaz, RbRollback, RbCommFail, RbDeadlock}
-use Rattle.xa_words.specs.declared.code.Code.TheVariants.{RbIntegrity, RbOther, RbProto, RbTimeout, RbTransient, Async, RmErr, Nota, Inval, Proto, RmFail}
-use Rattle.xa_words.specs.declared.code.Code.TheVariants.{DupId, Outside}
-use Rattle.xa_desk.specs.DeskView.{IsHandle}
-use Rattle.xa_transcript.specs.declared.answer.Answer.{Answer}
-use Rattle.xa_calls.specs.Completing.{Tells}
-use Rattle.xa_session.specs.Calling.{completed}
+use Rattle.xa_words.specs.{Done, RdOnly, Retry, HeurMix, HeurRb, HeurCom, HeurHaz, RbRollback, RbCommFail, RbDeadlock, RbIntegrity, RbOther, RbProto, RbTimeout}
+use Rattle.xa_words.specs.{RbTransient, Async, RmErr, Nota, Inval, Proto, RmFail, DupId, Outside}
+use Rattle.xa_desk.specs.{IsHandle}
+use Rattle.xa_transcript.specs.{Answer}
+use Rattle.xa_calls.specs.{Tells}
+use Rattle.xa_session.specs.{completed}
 
 code_fits : (c : Code) → SFits w32 (number_of c)
 code_fits Done = omega (arith, ints)

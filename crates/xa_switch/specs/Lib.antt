@@ -10,3 +10,33 @@ pub mod OfPlans
 pub mod Worth
 pub mod Again
 pub mod Recovery
+
+-- The words of this crate, by its name.
+pub use Plans.{IsSound, IsSoundManager, IsUniform, IsWithinLimits, Setup, completion_room, manager_room, new_manager}
+pub use Plans.{numbers_of, opened_by, planned, setup, use_async, usual_numbers}
+pub use Columns.{AreLanes, Each, put_row}
+pub use Lanes.{AreNewLanes, IsCompletionEnd, IsCompletionSender, IsNewPair, IsNewReceiver, IsNewSender, IsRequestEnd}
+pub use Lanes.{IsRequestSender, lane_to}
+pub use OpenedPieces.{AreOfOneOpening, DesksFit, IsDeskOf, IsLaidOut, IsNewDesk, IsNewWorker, IsWorkerOf, ShareNewLanes}
+pub use OpenedPieces.{WorkersFit, desk_parts, worker_parts}
+pub use Settling.{Agree, FollowsTables, HasNumber, IsSettled, ManagerPart, ReadyPart, ThreadPart, answers, collected}
+pub use Settling.{find_manager, find_thread, journal, journal_in, ledgers_in, sent, value, value_in}
+pub use Belonging.{AreAll, AreApartDesks, AreApartWorkers, AreOfOne, AreSomeOf, AreTogether, ComeFromOpenings, DeskSeat}
+pub use Belonging.{EndSeat, HasDesks, HasWorkers, IsWhyUnsettled, ShareLanes, WorkerSeat, desk_opening, desk_seats}
+pub use Belonging.{end_seat, first_opening, first_worker_opening, has_desk, has_worker, openings_of, seat_of_desk}
+pub use Belonging.{seat_of_done, seat_of_ended, seat_of_worker, worker_opening, worker_seats}
+pub use Closing.{HasRoom, HasRoomFor, HasTaken, IsClosable, IsClosed, TakesIn, column, dealt, desk_lane, manager_part}
+pub use Closing.{ready_part, settling, taken_by, thread_part, worker_lane}
+pub use Fates.{IsOpenedWith, IsSumOver, fate_in, first_of, history, ledgers_of, settled_fate}
+pub use OfPlans.{IsOf, IsOfPlan}
+pub use Worth.{WorthIsOfThreads, accounts_in, accounts_of, managers_of, moved_at, moved_by, plan_worth, settled_worth}
+pub use Worth.{threads_of}
+pub use Again.{IsWhole, MayReopen, find_ready, first_ledgers, flags_in, last_in, managers_in, parts_of, reopened_at}
+pub use Again.{reopening}
+pub use Recovery.{AreScansOf, HasLeft, IsScanOf}
+pub use declared.opening.layout.Layout.{Layout}
+pub use declared.plan.ManagerPlan.{ManagerPlan}
+pub use declared.plan.Plan.{Plan}
+pub use declared.settling.Why.{Why}
+pub use declared.settling.Why.TheVariants.{Missing, Stranger}
+pub use declared.settling.gathered.Gathered.{Gathered}

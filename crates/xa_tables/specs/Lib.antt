@@ -12,3 +12,58 @@ pub mod Worked
 pub mod Prepared
 pub mod Worth
 pub mod Work
+
+-- The words of this crate, by its name.
+pub use Reasons.{decision_code, reason_code}
+pub use Tables.{Touch, association_of, associations_code, branch_in, branch_of, decision_in, decision_of, exists}
+pub use Tables.{has_association, has_opened, has_other_touched, has_touched, is_S1, is_S2, is_S3, is_S4, is_S5, is_T1}
+pub use Tables.{is_T2, is_active, is_associated, is_association_with, is_at_work, is_broken, is_completed, is_declared}
+pub use Tables.{is_idle, is_left, is_left_in, is_prepared, is_rollback_only, is_somebody_associated, is_suspended}
+pub use Tables.{is_suspended_state, is_within, no_xid, posted, reason_in, reason_of, set_code, state_of, states_code}
+pub use Tables.{sum_of, sums_code, sums_without, touch_cmp, value_of, values_code}
+pub use Views.{BranchTable, PlaceTable, ThreadTable, association_in, branch_table_code, entries_from, is_thread_with}
+pub use Views.{open_mark, place_table_code, thread_table_code, thread_table_of, with_entry}
+pub use Lending.{HasState, LendsState}
+pub use Next.{Answer, add, added, associated, association, by_rules, close_rm, commit_one, commit_two, committed}
+pub use Next.{completed, dissociated, end, forget, gone, heur, if_opened, is_fail, is_suspend, listed, needs_opening}
+pub use Next.{open_rm, prepare, rollback, shut_down, start, start_fresh, start_join, start_resume, stated, suspended}
+pub use Next.{unless_shut, with_association}
+unfoldable pub use Next.{next}
+pub use Accounts.{AreDistinct, AreDistinctEntries, AreIndexed, Holdings, IsGood, IsSmall, added_to, all_but, amount_in}
+pub use Accounts.{amount_of, are_accounts, are_apart, declared_values, hold_breaks, hold_entries, hold_is_of}
+pub use Accounts.{hold_is_other, hold_where, hold_without, holdings_code, holdings_of, is_broken_by, is_held_by}
+pub use Accounts.{is_held_by_other, kept_where, key_at, keys_of, later_place, place_in, posted_by, prepared_in}
+pub use Accounts.{value_entries, with_hold}
+pub use Held.{AreHeld, is_held, is_held_at, noted, passes_at}
+pub use Managers.{AreAssociationsLive, ArePreparedSound, Keeps, Managed, TablesWithRoom, counted, free_threads, is_free}
+pub use Managers.{managed_code, opening, places_taken, tables_code, tables_of, tables_with_room_code}
+pub use History.{Absent, ActiveWhileAssociated, Committed, EndsNowhere, Fate, HeurCommitted, HeurRolledBack, InDoubt}
+pub use History.{IsFateOf, LateAddNothing, LateAreRefused, LateChangeNothing, Live, OnlyUnfinishedTouch, ReadOnly}
+pub use History.{RolledBack, StaysWithin, accepted, added_by, added_in, carried_out, coded, codes, commit_fate}
+pub use History.{commits_later, decided_fate, ending, ending_by, fate, fate_in, fate_of, fates_in, first_shut}
+pub use History.{heur_fate, if_named, is_done, is_in_doubt, is_integrity, is_live, is_read_only, is_rolled_back}
+pub use History.{is_shut, is_unfinished, last_or, late, of_thread, or_later, parted, prepare_fate, rollback_fate, share}
+pub use History.{share_of, start_fate, tables_after}
+pub use Openings.{AreLeft, FatesAreTold, IsNew, IsOpening, ValueIsSum, added_over, commits_over, fate_left, fate_over}
+pub use Openings.{left_by, reopened, reopened_fate, told_by, value_over}
+pub use Worked.{begun_again, branch, commits_after, committed_later, decided, decided_then, ended_then, entry, failed}
+pub use Worked.{fate_after, forgotten_later, gone_later, overdrawn, rolled_back_later, transferred, unchanged, undone}
+pub use Worked.{value_after, voted, voted_then, worked}
+pub use Prepared.{AwaitsAfter, AwaitsTheOutcome, IsPrepared, IsTold, LeavesWaiting, NamesNowhere, OnlyDecides}
+pub use Prepared.{StaysAsItWas, StaysPrepared, answer_when, closes, fates_when, has_shut, is_close, is_forget, is_heur}
+pub use Prepared.{names, state_when}
+pub use Worth.{DeclareEach, HoldsItsAdditions, WorthIsMoved, WorthIsMovedFrom, added_by_now, gain, held_by, is_any}
+pub use Worth.{is_of, moved, moved_by, unless_ended, worth, worth_declared}
+pub use Work.{AddsAsItWorks, DoesWork, LeavesAtWork, request}
+pub use declared.accounts.Account.{Account}
+pub use declared.accounts.Hold.{Hold}
+pub use declared.state.Association.{Association}
+pub use declared.state.AssociationState.{AssociationState}
+pub use declared.state.AssociationState.TheVariants.{Associated, Suspended}
+pub use declared.state.HeuristicDecision.{HeuristicDecision}
+pub use declared.state.HeuristicDecision.TheVariants.{Commit, Rollback}
+pub use declared.state.RollbackReason.{RollbackReason}
+pub use declared.state.RollbackReason.TheVariants.{Failed, Transient}
+pub use declared.state.State.{State}
+pub use declared.state.State.TheVariants.{Active, HeuristicallyCompleted, Idle, RollbackOnly}
+pub use declared.threads.Thread.{Thread}

@@ -1,25 +1,19 @@
 -- Each declared key has a value, whatever its manager has carried out.
-use Rattle.std.specs.Prelude.{◌≡◌, ℕ, ℤ, ◌+ℤ◌, ◌+◌, ◌-◌, ◌≤◌, zero, suc, pos, ◌<◌, ◌==◌, Bool, true, false, cond, ◌||◌, Option, None, Some, is_some, option_map}
-use Rattle.std.specs.Prelude.{List, [], ◌∷◌, ◌++◌, length, map, filter, slice_get, refl}
-use Rattle.std.proofs.Common.{sym, ap, ◌∙◌, arith}
-use Rattle.std.specs.List.{list_any, slice_index_or}
+use Rattle.xa_base.proofs.{◌≡◌, ℕ, ℤ, ◌+ℤ◌, ◌+◌, ◌-◌, ◌≤◌, zero, suc, pos, ◌<◌, ◌==◌, Bool, true, false, cond, ◌||◌, Option, None, Some, is_some, option_map}
+use Rattle.xa_base.proofs.{List, [], ◌∷◌, ◌++◌, length, map, filter, slice_get, refl, sym, ap, ◌∙◌, arith, list_any, slice_index_or, get-from_entries}
+use Rattle.xa_base.proofs.{eq_by_cmp, or-true, eq-eqb, got, find_numbered}
 use Rattle.std.specs.FinMap as finmap
-use Rattle.std.specs.FinMap.{get-from_entries}
 use Rattle.std.specs.FinMap.Entries.{is_some-find}
-use Rattle.std.specs.Ordering.{eq_by_cmp}
-use Rattle.std.proofs.Math.Bool.{or-true}
-use Rattle.std.proofs.lemmas.Bool.{eq-eqb}
-use Rattle.xa_words.specs.Key.{key_cmp, key_eq}
-use Rattle.xa_words.specs.Orders.{key_cmp_total, key_eq-by_cmp, Decides-key_eq}
+use Rattle.xa_words.specs.Key.{key_cmp}
+use Rattle.xa_words.specs.{key_eq, key_cmp_total, key_eq-by_cmp, Decides-key_eq}
 use Rattle.xa_tables.specs.Tables.{Tables}
-use Rattle.xa_tables.specs.History.{History, Absent}
-use Rattle.xa_tables.specs.Openings.{added_over, value_over}
-use Rattle.xa_grammar.specs.declared.script.Declared.{Declared}
-use Rattle.xa_switch.specs.Settling.{ManagerPart, Settling, find_manager}
-use Rattle.xa_switch.specs.Fates.{first_of}
-use Rattle.xa_grammar.specs.Content.{Content, accounts_of, managers_of}
-use Rattle.xa_transcript.specs.Values.{opened, opened_after, AreOfScript, IsWorth}
-use Rattle.xa_base.proofs.Lists.{got, find_numbered}
+use Rattle.xa_tables.specs.History.{History}
+use Rattle.xa_tables.specs.{Absent, added_over, value_over}
+use Rattle.xa_grammar.specs.{Declared, accounts_of, managers_of}
+use Rattle.xa_switch.specs.{ManagerPart, find_manager, first_of}
+use Rattle.xa_switch.specs.Settling.{Settling}
+use Rattle.xa_grammar.specs.Content.{Content}
+use Rattle.xa_transcript.specs.{opened, opened_after, AreOfScript, IsWorth}
 
 -- the keys that a manager is opened with
 abbrev names : ℕ → List Declared → List (List ℕ)

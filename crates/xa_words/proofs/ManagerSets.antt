@@ -1,12 +1,8 @@
 -- A set of managers by a test, and one with one more.
-use Rattle.std.specs.Prelude.{◌≡◌, ℕ, zero, suc, ◌+◌, ◌-◌, ◌<◌, ◌≤◌, ◌==◌, ◌||◌, Bool, true, false, List, [], ◌∷◌, length, slice_set, get_or}
-use Rattle.std.proofs.Common.{refl, sym, ◌∙◌, subst, arith}
-use Rattle.std.proofs.Math.Bool.{or-false, or-true}
-use Rattle.std.proofs.lemmas.Bool.{eqb-true}
-use Rattle.std.proofs.lemmas.List.{get_or-set_same, get_or-set_other, length-set}
-use Rattle.xa_base.specs.declared.limits.TheConstants.{MOST_MANAGERS}
-use Rattle.xa_base.specs.Lists.{IsUpTo}
-use Rattle.xa_words.specs.ManagerSet.{is_in, set_of, with_manager}
+use Rattle.xa_base.proofs.{◌≡◌, ℕ, zero, suc, ◌+◌, ◌-◌, ◌<◌, ◌≤◌, ◌==◌, ◌||◌, Bool, true, false, List, [], ◌∷◌, length, slice_set, get_or, refl, sym, ◌∙◌}
+use Rattle.xa_base.proofs.{subst, arith, or-false, or-true, eqb-true, get_or-set_same, get_or-set_other, length-set}
+use Rattle.xa_base.specs.{MOST_MANAGERS, IsUpTo}
+use Rattle.xa_words.specs.{is_in, set_of, with_manager}
 
 -- the set of the managers that a test tells of has just these
 pub in_set_of : (test : ℕ → Bool) (m : ℕ) → IsUpTo MOST_MANAGERS m → is_in (set_of test) m ≡ test m

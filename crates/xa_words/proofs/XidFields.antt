@@ -1,8 +1,6 @@
 -- The lengths and the bytes of a branch name, read off the name.
-use Rattle.std.proofs.Common.{◌≡◌, ℕ, List, length, take, drop, sym, subst}
-use Rattle.std.specs.Prelude.{ℤ}
-use Rattle.xa_words.specs.Xid.{XidName, bytes_of}
-use Rattle.xa_words.specs.XidInverse.{IsPaddedXid, length_first, length_second, bytes_again}
+use Rattle.xa_base.proofs.{◌≡◌, ℕ, List, length, take, drop, sym, subst, ℤ}
+use Rattle.xa_words.specs.{XidName, bytes_of, IsPaddedXid, length_first, length_second, bytes_again}
 
 -- the fields are what the name gives
 pub record FieldsAre (g b : ℕ) (bs : List ℕ) (v : XidName) : Type 0 where

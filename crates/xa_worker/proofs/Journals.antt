@@ -1,13 +1,10 @@
 -- Journals that grow by an entry.
-use Rattle.std.proofs.Common.{◌≡◌, ℕ, ◌==◌, true, false, cond, List, [], ◌∷◌, ◌++◌, map, refl, sym, ap, ◌∙◌}
-use Rattle.std.specs.Prelude.{filter}
-use Rattle.std.proofs.lemmas.List.{map-append}
-use Rattle.std.proofs.lemmas.List.Elements.{filter-append}
-use Rattle.xa_words.specs.declared.request.Request.{Request}
+use Rattle.xa_base.proofs.{◌≡◌, ℕ, ◌==◌, true, false, cond, List, [], ◌∷◌, ◌++◌, map, refl, sym, ap, ◌∙◌, filter, map-append, filter-append}
+use Rattle.xa_words.specs.{Request}
 use Rattle.xa_tables.specs.Tables.{Tables}
-use Rattle.xa_tables.specs.Next.{next}
-use Rattle.xa_tables.specs.History.{History, codes, tables_after}
-use Rattle.xa_worker.specs.Journal.{Entry, entry_next, tables_next, requests, codes_in, Follows, completion_of, owed}
+use Rattle.xa_tables.specs.{next, codes, tables_after}
+use Rattle.xa_tables.specs.History.{History}
+use Rattle.xa_worker.specs.{Entry, entry_next, tables_next, requests, codes_in, Follows, completion_of, owed}
 
 codes-more : (h : History) (r : Request) (T : Tables) → codes (h ++ r ∷ []) T ≡ codes h T ++ (entry_next r (tables_after h T)).1 ∷ []
 codes-more [] r T = refl

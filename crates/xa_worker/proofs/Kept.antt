@@ -1,9 +1,7 @@
 -- The parts of a worker after a step.
-use Rattle.std.proofs.Common.{◌≡◌, ℕ}
-use Rattle.xa_lane.specs.Ends.{has_ended}
-use Rattle.xa_worker.specs.Workers.{IsTied}
-use Rattle.xa_worker.specs.Inner.{working_of, IsWorker}
-use Rattle.xa_worker.specs.declared.worker.Worker.TheInside.{Inside}
+use Rattle.xa_base.proofs.{◌≡◌, ℕ}
+use Rattle.xa_lane.specs.{has_ended}
+use Rattle.xa_worker.specs.{IsTied, working_of, IsWorker, Inside}
 
 -- nothing was entered, and no end mark was taken
 pub unentered : (w w' : Inside) → IsWorker w → w'.journal ≡ w.journal → w'.manager ≡ w.manager → w'.ended ≡ w.ended → w'.ends ≡ w.ends

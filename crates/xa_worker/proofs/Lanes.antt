@@ -1,13 +1,13 @@
 -- Lanes of completions, place by place.
-use Rattle.std.proofs.Common.{◌≡◌, ◌≢◌, ⊎_elim, ℕ, ◌<◌, ◌==◌, Bool, true, false, cond, List, [], ◌∷◌, ◌++◌, length, map, Option, Some, None, refl, sym, ap, ◌∙◌}
-use Rattle.std.proofs.Common.{subst, eq-eqb, ne_eqb}
+use Rattle.xa_base.proofs.{◌≡◌, ◌≢◌, ⊎_elim, ℕ, ◌<◌, ◌==◌, Bool, true, false, cond, List, [], ◌∷◌, ◌++◌, length, map, Option, Some, None, refl, sym, ap, ◌∙◌}
+use Rattle.xa_base.proofs.{subst, eq-eqb, ne_eqb, append-nil, length-map}
 use Rattle.std.specs.Prelude.{MatchBool}
 use Rattle.std.proofs.lemmas.Bool.Decides.{eqb_tells}
-use Rattle.std.proofs.lemmas.List.{append-nil, length-map}
-use Rattle.xa_words.specs.declared.request.Completion.{Completion}
-use Rattle.xa_lane.specs.Senders.{at_place, with_item, with_full, but_full, bare, sent_at}
+use Rattle.xa_words.specs.{Completion}
+use Rattle.xa_lane.specs.{at_place, with_item, with_full, but_full, bare, sent_at}
 use Rattle.xa_lane.proofs.Senders.{map-at_place, map-alike, sent_at-item, sent_at-other, sent_at-full, sent_at-but_full}
-use Rattle.xa_worker.specs.Outgoing.{Answering, Outgoing, SameLanes, StillFull, Puts, waiting_at, put_to, flushed}
+use Rattle.xa_worker.specs.{Answering, SameLanes, StillFull, Puts, waiting_at, put_to, flushed}
+use Rattle.xa_worker.specs.Outgoing.{Outgoing}
 
 -- numbers that are equal together are tested alike
 pub same_eqb : (a b c d : ℕ) → (a ≡ b → c ≡ d) → (c ≡ d → a ≡ b) → (a == b) ≡ (c == d)

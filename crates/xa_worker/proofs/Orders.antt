@@ -1,12 +1,10 @@
 -- Of each thread: what the journal has, and what was taken of its sender.
-use Rattle.std.proofs.Common.{◌≡◌, ℕ, ◌+◌, ◌==◌, cond, List, [], ◌∷◌, map, refl, sym, ap, ◌∙◌, arith}
-use Rattle.xa_words.specs.declared.request.Request.{Request}
-use Rattle.xa_tables.specs.History.{of_thread}
-use Rattle.xa_lane.specs.Closing.{items_in, left_of}
+use Rattle.xa_base.proofs.{◌≡◌, ℕ, ◌+◌, ◌==◌, cond, List, [], ◌∷◌, map, refl, sym, ap, ◌∙◌, arith}
+use Rattle.xa_words.specs.{Request}
+use Rattle.xa_tables.specs.{of_thread}
+use Rattle.xa_lane.specs.{items_in, left_of}
 use Rattle.xa_lane.proofs.Parcels.{left_is}
-use Rattle.xa_worker.specs.Journal.{Entry, requests}
-use Rattle.xa_worker.specs.Workers.{of_sender_thread, of_own_thread}
-use Rattle.xa_worker.specs.Done.{Served, IsServed, IsOrdered}
+use Rattle.xa_worker.specs.{Entry, requests, of_sender_thread, of_own_thread, Served, IsServed, IsOrdered}
 use Rattle.xa_worker.proofs.Lanes.{same_eqb}
 
 left_numbered : (s : ℕ) (xs : List (ℕ × Request)) → left_of (s + 1) (map of_sender_thread xs) ≡ left_of s xs

@@ -1,10 +1,8 @@
 -- What a pace is told.
-use Rattle.std.proofs.Common.{◌≡◌, List, [], ◌∷◌, ◌++◌, refl, sym, ap, ◌∙◌, subst, append-nil, append_assoc}
-use Rattle.std.proofs.lemmas.List.{map-append}
-use Rattle.xa_words.specs.declared.request.Request.{Request}
+use Rattle.xa_base.proofs.{◌≡◌, List, [], ◌∷◌, ◌++◌, refl, sym, ap, ◌∙◌, subst, append-nil, append_assoc, map-append}
+use Rattle.xa_words.specs.{Request}
 use Rattle.xa_tables.specs.History.{History}
-use Rattle.xa_worker.specs.Journal.{Entry, requests}
-use Rattle.xa_worker.specs.Steps.{IsTold, Paces}
+use Rattle.xa_worker.specs.{Entry, requests, IsTold, Paces}
 
 module _ {P : Type 0} (by : Request → P → P → Type 0) where
   -- a journal that stays tells it of nothing

@@ -1,17 +1,11 @@
 -- What was taken of a lane, with one parcel more.
-use Rattle.std.proofs.Common.{◌≡◌, ◌≢◌, ⊎_elim, ℕ, ◌+◌, ◌<◌, ◌==◌, Bool, true, false, ◌||◌, cond, List, [], ◌∷◌, ◌++◌, length, map, get_or, Option, Some, None}
-use Rattle.std.proofs.Common.{refl, sym, ap, ◌∙◌, subst, arith}
-use Rattle.std.proofs.Math.ListN.{set}
-use Rattle.std.proofs.Math.Bool.{or-false, or-true}
+use Rattle.xa_base.proofs.{◌≡◌, ◌≢◌, ⊎_elim, ℕ, ◌+◌, ◌<◌, ◌==◌, Bool, true, false, ◌||◌, cond, List, [], ◌∷◌, ◌++◌, length, map, get_or, Option, Some, None}
+use Rattle.xa_base.proofs.{refl, sym, ap, ◌∙◌, subst, arith, set, or-false, or-true, append-nil, map-append, get_or-set_same, get_or-set_other}
 use Rattle.std.proofs.lemmas.Bool.Decides.{eqb_tells}
-use Rattle.std.proofs.lemmas.List.{append-nil, map-append, get_or-set_same, get_or-set_other}
-use Rattle.xa_words.specs.declared.request.Request.{Request}
-use Rattle.xa_lane.specs.declared.parcel.Parcel.{Parcel}
-use Rattle.xa_lane.specs.Order.{of_sender}
-use Rattle.xa_lane.specs.Ends.{Receiving, Took, taken_of, parcel, has_mark, has_ended}
-use Rattle.xa_lane.specs.Closing.{items_in}
+use Rattle.xa_words.specs.{Request}
+use Rattle.xa_lane.specs.{Parcel, of_sender, Receiving, Took, taken_of, parcel, has_mark, has_ended, items_in}
 use Rattle.xa_lane.proofs.Parcels.{of_sender-append, items_in-append}
-use Rattle.xa_worker.specs.Workers.{asked, of_sender_thread}
+use Rattle.xa_worker.specs.{asked, of_sender_thread}
 
 module _ {T : Type 0} where
   -- what was taken of sender s, by what its parcel had

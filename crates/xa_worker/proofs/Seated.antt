@@ -1,12 +1,8 @@
 -- Workers keep their seats.
-use Rattle.std.proofs.Common.{◌≡◌, refl}
-use Rattle.xa_lane.specs.Senders.{bare}
-use Rattle.xa_lane.specs.Seats.{end_seat}
+use Rattle.xa_base.proofs.{◌≡◌, refl}
+use Rattle.xa_lane.specs.{bare, end_seat}
 use Rattle.xa_lane.proofs.Senders.{map-alike}
-use Rattle.xa_worker.specs.Outgoing.{Answering}
-use Rattle.xa_worker.specs.Workers.{WorkerView, SameWorker}
-use Rattle.xa_worker.specs.Done.{Served, SameServed}
-use Rattle.xa_worker.specs.Seats.{seat_of_worker, seat_of_done}
+use Rattle.xa_worker.specs.{Answering, WorkerView, SameWorker, Served, SameServed, seat_of_worker, seat_of_done}
 
 pub stepped_keeps : (w w' : WorkerView) → SameWorker w w' → seat_of_worker w' ≡ seat_of_worker w
 stepped_keeps w w' h =

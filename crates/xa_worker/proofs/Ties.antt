@@ -1,22 +1,14 @@
 -- What each kind of step keeps of a worker.
-use Rattle.std.proofs.Common.{◌≡◌, ◌⊎◌, ⊎_elim, append_assoc, ℕ, ◌+◌, ◌-◌, ◌<◌, ◌==◌, Bool, true, false, cond, List, [], ◌∷◌, ◌++◌, length, map, get_or, Some}
-use Rattle.std.proofs.Common.{None, sym, ap, ◌∙◌, subst, arith}
-use Rattle.std.proofs.lemmas.List.{append-nil, map-append, length-map}
-use Rattle.xa_words.specs.declared.request.Request.{Request}
-use Rattle.xa_words.specs.declared.request.Completion.{Completion}
-use Rattle.xa_tables.specs.Managers.{Managed}
-use Rattle.xa_lane.specs.declared.parcel.Taken.TheVariants.{Item, EndOf, Empty as Nothing}
-use Rattle.xa_lane.specs.Ends.{Took}
-use Rattle.xa_worker.specs.Journal.{Entry, entry_next, applied, completion_of, owed}
-use Rattle.xa_lane.specs.Senders.{but_full, bare, sent_at}
+use Rattle.xa_base.proofs.{◌≡◌, ◌⊎◌, ⊎_elim, append_assoc, ℕ, ◌+◌, ◌-◌, ◌<◌, ◌==◌, Bool, true, false, cond, List, [], ◌∷◌, ◌++◌, length, map, get_or, Some}
+use Rattle.xa_base.proofs.{None, sym, ap, ◌∙◌, subst, arith, append-nil, map-append, length-map}
+use Rattle.xa_words.specs.{Request, Completion}
+use Rattle.xa_tables.specs.{Managed}
+use Rattle.xa_lane.specs.{Item, EndOf, Empty as Nothing, Took, but_full, bare, sent_at}
+use Rattle.xa_worker.specs.{Entry, entry_next, applied, completion_of, owed, Answering, SameLanes, Puts, flushed, waiting_at, put_to, WorkerView, Asking}
+use Rattle.xa_worker.specs.{IsTied, IsUnfit, IsHeldUnfit, IsFinished, SameWorker, Extends, asked, of_own_thread, in_hand, new_worker, Step, Did, Late, EndSeen}
+use Rattle.xa_worker.specs.{Empty, Blocked, EntersOne, Waits, StillHolds, Holds, Stepped, step_of, served, IsServed}
 use Rattle.xa_lane.proofs.Senders.{nothing_sent}
-use Rattle.xa_worker.specs.Outgoing.{Answering, Outgoing, SameLanes, Puts, flushed, waiting_at, put_to}
-use Rattle.xa_worker.specs.Workers.{WorkerView, Asking, IsTied, IsUnfit, IsHeldUnfit, IsFinished, SameWorker, Extends, asked, of_own_thread, in_hand}
-use Rattle.xa_worker.specs.Workers.{new_worker}
-use Rattle.xa_worker.specs.declared.step.Step.{Step}
-use Rattle.xa_worker.specs.declared.step.Step.TheVariants.{Did, Late, EndSeen, Empty, Blocked}
-use Rattle.xa_worker.specs.Steps.{EntersOne, Waits, StillHolds, Holds, Stepped, step_of}
-use Rattle.xa_worker.specs.Done.{served, IsServed}
+use Rattle.xa_worker.specs.Outgoing.{Outgoing}
 use Rattle.xa_worker.proofs.Journals.{follows_more, follows_none, owed-more}
 use Rattle.xa_worker.proofs.Lanes.{same_eqb, length-lanes, lanes-flushed, none-flushed, lanes-puts, put-puts, sent_alike}
 use Rattle.xa_worker.proofs.Parcels.{asked_end, asked_item}

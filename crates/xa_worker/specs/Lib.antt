@@ -6,3 +6,17 @@ pub mod Done
 pub mod Seats
 pub mod Inner
 pub mod Finished
+
+-- The words of this crate, by its name.
+pub use Journal.{Entry, Follows, applied, codes_in, completion_of, entry, entry_next, owed, requests, tables_next}
+pub use Outgoing.{Answering, Puts, SameLanes, StillFull, flushed, flushed_by, put_to, waiting_at}
+pub use Workers.{Asking, Extends, IsFinished, IsHeldUnfit, IsTied, IsUnfit, Reserved, SameWorker, WorkerView, asked}
+pub use Workers.{first_tables, in_hand, new_worker, of_own_thread, of_sender_thread}
+pub use Steps.{Enters, EntersOne, FindsNothing, Holds, IsTold, Paces, SeesEnd, Stepped, StillHolds, Waits, step_of}
+pub use Done.{IsOrdered, IsServed, SameServed, Served, served}
+pub use Seats.{WorkerSeat, seat_of_done, seat_of_worker, worker_seat}
+pub use Inner.{AreSet, IsWorker, working_of}
+pub use Finished.{IsDone, served_of}
+pub use declared.step.Step.{Step}
+pub use declared.step.Step.TheVariants.{Blocked, Did, Empty, EndSeen, Late}
+pub use declared.worker.Worker.TheInside.{Inside}

@@ -1,6 +1,6 @@
-use Rattle.std.proofs.Common.{subst}
+use Rattle.xa_base.proofs.{subst}
 use Rattle.xa_tables.specs.Tables.{Tables}
-use Rattle.xa_worker.specs.Journal.{Follows}
+use Rattle.xa_worker.specs.{Follows}
 use Rattle.xa_replay.proofs.agrees.Goals as goal
 
 pub returns : goal.returns

@@ -1,7 +1,5 @@
-use Rattle.std.proofs.Common.{◌≡◌, ◌+◌, ◌<◌, ℕ}
-use Rattle.std.specs.Prelude.{slice_get, Some}
-use Rattle.std.specs.List.{range_with_len}
-use Rattle.xa_replay.specs.Replay.{numbers_of}
+use Rattle.xa_base.proofs.{◌≡◌, ◌+◌, ◌<◌, ℕ, slice_get, Some, range_with_len}
+use Rattle.xa_replay.specs.{numbers_of}
 use Rattle.xa_replay.proofs.are_in_order.Given as goal
 
 -- the requests of the first threads are in their order

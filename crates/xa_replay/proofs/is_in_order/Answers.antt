@@ -1,9 +1,6 @@
-use Rattle.std.proofs.Common.{◌≡◌, ◌+◌, [], ◌∷◌, ◌++◌, take, sym, subst, arith}
-use Rattle.std.specs.List.{range_with_len}
-use Rattle.std.proofs.lemmas.Bool.{eq-eqb, ne_eqb}
-use Rattle.xa_base.proofs.Lists.{one_more}
-use Rattle.xa_worker.specs.Journal.{Entry}
-use Rattle.xa_replay.specs.Replay.{numbers_of}
+use Rattle.xa_base.proofs.{◌≡◌, ◌+◌, [], ◌∷◌, ◌++◌, take, sym, subst, arith, range_with_len, eq-eqb, ne_eqb, one_more}
+use Rattle.xa_worker.specs.{Entry}
+use Rattle.xa_replay.specs.{numbers_of}
 use Rattle.xa_replay.proofs.Entries.{number_more, number_other}
 use Rattle.xa_replay.proofs.is_in_order.Goals as goal
 use Rattle.xa_replay.proofs.is_in_order.Goals.{then-entry-thread+else-entry-next, else-entry-thread}

@@ -1,6 +1,5 @@
-use Rattle.std.proofs.Common.{◌≡◌, ◌≤◌, take}
-use Rattle.std.specs.List.{range_with_len}
-use Rattle.xa_replay.specs.Replay.{numbers_of}
+use Rattle.xa_base.proofs.{◌≡◌, ◌≤◌, take, range_with_len}
+use Rattle.xa_replay.specs.{numbers_of}
 use Rattle.xa_replay.proofs.is_in_order.Given as goal
 
 -- the thread's requests among the first entries have the numbers 0, 1, ..

@@ -1,11 +1,8 @@
 use denote.Enum.Bare.{differs_false}
 use Rattle.xa_words.specs.contracts.code.Code.{the_type}
-use Rattle.std.proofs.Common.{rules, ◌≡◌, ◌+◌, [], ◌∷◌, ◌++◌, take, sym, ◌∙◌, subst, arith}
-use Rattle.std.specs.List.{All}
-use Rattle.std.proofs.lemmas.List.Elements.{All-push}
-use Rattle.xa_base.specs.Lists.{IsUpTo}
-use Rattle.xa_base.proofs.Lists.{one_more}
-use Rattle.xa_worker.specs.Journal.{Entry}
+use Rattle.xa_base.proofs.{rules, ◌≡◌, ◌+◌, [], ◌∷◌, ◌++◌, take, sym, ◌∙◌, subst, arith, All, All-push, one_more}
+use Rattle.xa_base.specs.{IsUpTo}
+use Rattle.xa_worker.specs.{Entry}
 use Rattle.xa_replay.proofs.Entries.{replay_more}
 use Rattle.xa_replay.proofs.replays.Goals as goal
 

@@ -1,7 +1,6 @@
-use Rattle.std.proofs.Common.{◌≡◌, take}
-use Rattle.std.specs.List.{All}
-use Rattle.xa_base.specs.Lists.{IsUpTo}
-use Rattle.xa_worker.specs.Journal.{Follows}
+use Rattle.xa_base.proofs.{◌≡◌, take, All}
+use Rattle.xa_base.specs.{IsUpTo}
+use Rattle.xa_worker.specs.{Follows}
 use Rattle.xa_replay.proofs.replays.Given as goal
 
 -- the tables have given the first entries their codes

@@ -1,7 +1,7 @@
 use Rattle.std.proofs.Common.{◌≡◌, ℕ, true, List, Option, subst}
-use Rattle.xa_worker.specs.Journal.{Entry}
-use Rattle.xa_replay.specs.Replay.{Agrees}
-use Rattle.xa_soak.specs.Soak.{sent_by_all}
+use Rattle.xa_worker.specs.{Entry}
+use Rattle.xa_replay.specs.{Agrees}
+use Rattle.xa_soak.specs.{sent_by_all}
 use Rattle.xa_soak.proofs.agrees_at.Goals as goal
 
 pub returns : goal.returns

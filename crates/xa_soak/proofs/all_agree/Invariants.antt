@@ -1,5 +1,5 @@
 use Rattle.std.proofs.Common.{◌≤◌, ℕ}
-use Rattle.xa_soak.specs.Soak.{AgreesAt}
+use Rattle.xa_soak.specs.{AgreesAt}
 use Rattle.xa_soak.proofs.all_agree.Given as goal
 
 -- the first managers agree

@@ -1,7 +1,7 @@
 use Rattle.std.proofs.Common.{◌≡◌, map, take, pos}
 use Rattle.std.specs.Prelude.{option_map}
 use Rattle.std.specs.List.{All}
-use Rattle.xa_switch.specs.Settling.{value}
+use Rattle.xa_switch.specs.{value}
 use Rattle.xa_soak.proofs.values_at.Given as goal
 
 -- the first accounts' keys have these values

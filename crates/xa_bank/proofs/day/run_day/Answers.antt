@@ -1,10 +1,8 @@
-use Rattle.std.specs.Prelude.{All}
-use Rattle.std.proofs.Common.{◌≡◌}
+use Rattle.xa_base.proofs.{All, ◌≡◌}
 use Rattle.std.proofs.lemmas.Result.{IfOk-weaker}
-use Rattle.xa_switch.specs.Plans.{IsSound, planned}
-use Rattle.xa_switch.specs.Worth.{plan_worth, settled_worth}
-use Rattle.xa_crew.specs.Run.{IsRun}
-use Rattle.xa_bank.specs.Tellers.{EndsWhole, Works}
+use Rattle.xa_switch.specs.{IsSound, planned, plan_worth, settled_worth}
+use Rattle.xa_crew.specs.{IsRun}
+use Rattle.xa_bank.specs.{EndsWhole, Works}
 use Rattle.xa_bank.proofs.Results.{ok_both}
 use Rattle.xa_bank.proofs.Days.{day_law}
 use Rattle.xa_bank.proofs.day.run_day.Goals as goal

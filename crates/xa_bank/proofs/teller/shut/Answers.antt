@@ -1,7 +1,5 @@
-use Rattle.std.proofs.Common.{◌≡◌, ℕ, ◌==◌, Bool, true, if◌then◌else◌, None, Option, Some, ap, ◌∙◌, eq-eqb, subst, sym}
-use Rattle.xa_bank.specs.declared.habits.ShutsAt.{ShutsAt}
-use Rattle.xa_bank.specs.Numbered.{store_if_at}
-use Rattle.xa_bank.specs.Transfers.{MayShut}
+use Rattle.xa_base.proofs.{◌≡◌, ℕ, ◌==◌, Bool, true, if◌then◌else◌, None, Option, Some, ap, ◌∙◌, eq-eqb, subst, sym}
+use Rattle.xa_bank.specs.{ShutsAt, store_if_at, MayShut}
 use Rattle.xa_bank.proofs.teller.shut.Goals as goal
 
 pub returns-then-shuts-place-clause-shuts : goal.returns-then-shuts-place-clause-shuts

@@ -1,5 +1,5 @@
-use Rattle.std.proofs.Common.{Bool, true, sym, subst}
-use Rattle.xa_calls.specs.Completing.{CompletesAt}
+use Rattle.xa_base.proofs.{Bool, true, sym, subst}
+use Rattle.xa_calls.specs.{CompletesAt}
 use Rattle.xa_calls.proofs.completing.complete_in.Goals as goal
 
 pub returns-then-mode-clause-completes : goal.returns-then-mode-clause-completes

@@ -1,7 +1,6 @@
-use Rattle.std.proofs.Common.{◌≡◌, false, None, Some, Ok, Err, refl, ap, ◌∙◌}
-use Rattle.std.specs.Prelude.{option_map}
-use Rattle.xa_words.specs.declared.request.Op.TheVariants.{Listed}
-use Rattle.xa_calls.specs.Putting.{code_of, put_refusal}
+use Rattle.xa_base.proofs.{◌≡◌, false, None, Some, Ok, Err, refl, ap, ◌∙◌, option_map}
+use Rattle.xa_words.specs.{Listed}
+use Rattle.xa_calls.specs.{code_of, put_refusal}
 use Rattle.xa_calls.specs.Scans.{refused, answered}
 use Rattle.xa_calls.proofs.Recovered.{asked_keep}
 use Rattle.xa_calls.proofs.Refusals.{no_refusal, its_refusal}

@@ -1,11 +1,8 @@
-use Rattle.std.proofs.Common.{◌≡◌, ◌<◌, Some, List, [], ◌∷◌, ◌++◌, length, length-append, set, refl, sym, ap, ◌∙◌, subst, arith}
-use Rattle.std.specs.Prelude.{slice_get}
-use Rattle.std.proofs.lemmas.List.{length-set}
-use Rattle.std.proofs.lemmas.Option.{slice_get-get_or}
-use Rattle.xa_words.specs.Xid.{XidName}
-use Rattle.xa_calls.specs.Scans.{AsksAndWaits, Looks, begun, filled, ended, stopped}
+use Rattle.xa_base.proofs.{◌≡◌, ◌<◌, Some, List, [], ◌∷◌, ◌++◌, length, length-append, set, refl, sym, ap, ◌∙◌, subst, arith, slice_get, length-set}
+use Rattle.xa_base.proofs.{slice_get-get_or, get_or_default}
+use Rattle.xa_words.specs.{XidName}
+use Rattle.xa_calls.specs.{AsksAndWaits, Looks, begun, filled, ended, stopped}
 use Rattle.xa_calls.proofs.Recovered.{finds_more, passes_more, written_more}
-use Rattle.std.proofs.lemmas.List.{get_or_default}
 use Rattle.xa_calls.proofs.Leaving.{leaves_all, leaves_on}
 use Rattle.xa_calls.proofs.recovering.look.Goals as goal
 use Rattle.xa_calls.proofs.recovering.look.Goals.{in-Done, in-Nota}

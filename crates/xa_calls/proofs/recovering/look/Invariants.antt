@@ -1,8 +1,7 @@
-use Rattle.std.proofs.Common.{◌≡◌, ◌≤◌, List, length}
-use Rattle.xa_words.specs.Xid.{XidName}
-use Rattle.xa_desk.specs.Kept.{AllKept}
-use Rattle.xa_calls.specs.Putting.{CallLeaves}
-use Rattle.xa_calls.specs.Scans.{AsksAndWaits, Looks, written}
+use Rattle.xa_base.proofs.{◌≡◌, ◌≤◌, List, length}
+use Rattle.xa_words.specs.{XidName}
+use Rattle.xa_desk.specs.{AllKept}
+use Rattle.xa_calls.specs.{CallLeaves, AsksAndWaits, Looks, written}
 use Rattle.xa_calls.proofs.recovering.look.Given as goal
 
 -- the branches so far were asked of, and those that were found are written

@@ -1,7 +1,6 @@
-use Rattle.std.proofs.Common.{◌≡◌, ◌+◌, Ok, Err, refl, sym, ap, ◌∙◌, subst, arith}
-use Rattle.xa_base.proofs.Truth.{at_true, at_false}
-use Rattle.xa_calls.specs.Scans.{AsksAndWaits, Recovers, unreached, stopped, told, room_in, end_of}
-use Rattle.xa_scan.specs.Left.{left_at, standing}
+use Rattle.xa_base.proofs.{◌≡◌, ◌+◌, Ok, Err, refl, sym, ap, ◌∙◌, subst, arith, at_true, at_false}
+use Rattle.xa_calls.specs.{AsksAndWaits, Recovers, unreached, stopped, told, room_in, end_of}
+use Rattle.xa_scan.specs.{left_at, standing}
 use Rattle.xa_calls.proofs.Leaving.{leaves_on}
 use Rattle.xa_calls.proofs.Recovered.{scanned_from, done_refuses_none}
 use Rattle.xa_calls.proofs.recovering.recover_from.Goals as goal

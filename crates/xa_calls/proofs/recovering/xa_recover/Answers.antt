@@ -1,6 +1,7 @@
-use Rattle.std.proofs.Common.{◌≡◌, ◌≤◌, sym, ap, ◌∙◌, arith, to_z, of_z, w32, pos}
-use Rattle.std.proofs.lemmas.Int.{to_z-of_z, to_z_pos, ints}
-use Rattle.xa_calls.specs.Scans.{told_as}
+use Rattle.xa_base.proofs.{◌≡◌, ◌≤◌, sym, ap, ◌∙◌, arith, of_z, w32, pos, to_z-of_z, ints}
+use Rattle.std.proofs.Common.{to_z}
+use Rattle.std.proofs.lemmas.Int.{to_z_pos}
+use Rattle.xa_calls.specs.{told_as}
 use Rattle.xa_calls.proofs.Recovered.{recovered_so}
 use Rattle.xa_calls.proofs.recovering.xa_recover.Goals as goal
 

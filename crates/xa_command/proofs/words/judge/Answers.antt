@@ -3,7 +3,7 @@ use Rattle.clap.specs.Words.{app_of, with_rule, takes, fault_of, is_simple_and_f
 use Rattle.clap.specs.ValueTests.{accepts}
 use Rattle.clap.specs.declared.error.kind.ErrorKind.TheVariants.{OutOfMemory}
 use Rattle.xa_command.proofs.CommandLemmas.{command, free, takes_mode, is_either, either_mode, only_either, mode_is, top_is, accepts_two, one_word}
-use Rattle.xa_command.specs.Words.{word_of}
+use Rattle.xa_command.specs.{word_of}
 use Rattle.xa_command.proofs.words.judge.Goals as goal
 
 pub returns-in-Ok-clause-ok : goal.returns-in-Ok-clause-ok

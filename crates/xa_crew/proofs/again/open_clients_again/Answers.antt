@@ -1,7 +1,6 @@
-use Rattle.std.proofs.Common.{List, map, ap, sym, ◌∙◌, subst}
-use Rattle.xa_switch.specs.Again.{reopening}
-use Rattle.xa_switch.specs.Recovery.{AreScansOf}
-use Rattle.xa_scan.specs.Left.{ScanView}
+use Rattle.xa_base.proofs.{List, map, ap, sym, ◌∙◌, subst}
+use Rattle.xa_switch.specs.{reopening, AreScansOf}
+use Rattle.xa_scan.specs.{ScanView}
 use Rattle.xa_crew.proofs.again.open_clients_again.Goals as goal
 
 pub returns-in-Ok-reopen-clause-opened : goal.returns-in-Ok-reopen-clause-opened

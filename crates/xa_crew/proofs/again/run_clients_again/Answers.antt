@@ -1,7 +1,6 @@
-use Rattle.std.proofs.Common.{List, subst, sym}
-use Rattle.xa_switch.specs.Again.{reopening}
-use Rattle.xa_crew.specs.Again.{AreGiven}
-use Rattle.xa_crew.specs.Opened.{clients_of}
+use Rattle.xa_base.proofs.{List, subst, sym}
+use Rattle.xa_switch.specs.{reopening}
+use Rattle.xa_crew.specs.{AreGiven, clients_of}
 use Rattle.xa_crew.proofs.again.run_clients_again.Goals as goal
 
 pub returns-in-Ok-run-clause-ran : goal.returns-in-Ok-run-clause-ran

@@ -1,5 +1,5 @@
-use Rattle.xa_switch.specs.Again.{reopening}
-use Rattle.xa_crew.specs.Opened.{clients_of}
+use Rattle.xa_switch.specs.{reopening}
+use Rattle.xa_crew.specs.{clients_of}
 use Rattle.xa_crew.proofs.again.run_clients_again_in_turns.Goals as goal
 
 pub returns-in-Ok-run_in_turns-clause-ran : goal.returns-in-Ok-run_in_turns-clause-ran

@@ -1,5 +1,5 @@
-use Rattle.std.proofs.Common.{subst}
-use Rattle.xa_crew.specs.Ending.{EndsDesk}
+use Rattle.xa_base.proofs.{subst}
+use Rattle.xa_crew.specs.{EndsDesk}
 use Rattle.xa_crew.proofs.client_job.attend.Goals as goal
 
 pub returns-clause-worked : goal.returns-clause-worked

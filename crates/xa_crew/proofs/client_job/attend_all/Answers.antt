@@ -1,7 +1,5 @@
-use Rattle.std.proofs.Common.{◌++◌, [], length, sym, ap, ◌∙◌, refl, rules}
-use Rattle.std.specs.Vec.Iter.{into_iter_items}
-use Rattle.xa_base.proofs.Lists.{all_at, next_there, none_side, push_side, taken_next}
-use Rattle.xa_crew.specs.Run.{HasWorked, IsReady}
+use Rattle.xa_base.proofs.{◌++◌, [], length, sym, ap, ◌∙◌, refl, rules, into_iter_items, all_at, next_there, none_side, push_side, taken_next}
+use Rattle.xa_crew.specs.{HasWorked, IsReady}
 use Rattle.xa_crew.proofs.client_job.attend_all.Goals as goal
 
 pub loop-job-init : goal.loop-job-init

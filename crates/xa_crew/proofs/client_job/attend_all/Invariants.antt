@@ -1,7 +1,6 @@
-use Rattle.std.proofs.Common.{◌≡◌, ◌++◌, vec_capacity}
-use Rattle.std.specs.Vec.Iter.{into_iter_items}
-use Rattle.xa_base.specs.Lists.{Pairwise}
-use Rattle.xa_crew.specs.Run.{HasWorked}
+use Rattle.xa_base.proofs.{◌≡◌, ◌++◌, vec_capacity, into_iter_items}
+use Rattle.xa_base.specs.{Pairwise}
+use Rattle.xa_crew.specs.{HasWorked}
 use Rattle.xa_crew.proofs.client_job.attend_all.Given as goal
 
 -- the first clients have worked

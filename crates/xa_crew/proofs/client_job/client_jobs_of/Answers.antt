@@ -1,12 +1,7 @@
-use Rattle.std.proofs.Common.{◌≡◌, ◌++◌, ◌∷◌, [], length, map, sym, ap, ◌∙◌, subst, arith, append_assoc}
-use Rattle.std.specs.Prelude.{All, List}
-use Rattle.std.specs.Vec.Iter.{into_iter_items}
-use Rattle.std.proofs.lemmas.List.{map-append}
-use Rattle.std.proofs.lemmas.List.Elements.{All-push}
-use Rattle.xa_desk.specs.Kept.{AllKept}
-use Rattle.xa_crew.specs.declared.client_job.ClientJob.{ClientJob}
-use Rattle.xa_crew.specs.Run.{CanTell, IsReady}
-use Rattle.xa_base.proofs.Lists.{all_at, next_there, taken_next}
+use Rattle.xa_base.proofs.{◌≡◌, ◌++◌, ◌∷◌, [], length, map, sym, ap, ◌∙◌, subst, arith, append_assoc, All, List, into_iter_items, map-append, All-push, all_at}
+use Rattle.xa_base.proofs.{next_there, taken_next}
+use Rattle.xa_desk.specs.{AllKept}
+use Rattle.xa_crew.specs.{ClientJob, CanTell, IsReady}
 use Rattle.xa_crew.proofs.client_job.client_jobs_of.Goals as goal
 
 -- what is read of the jobs, and what is left for the others, once there is one more

@@ -1,7 +1,7 @@
-use Rattle.std.proofs.Common.{subst}
+use Rattle.xa_base.proofs.{subst}
 use Rattle.xa_desk.specs.DeskView.{DeskView}
-use Rattle.xa_desk.specs.Looks.{Collects}
-use Rattle.xa_calls.specs.Completing.{CollectsRedeemed}
+use Rattle.xa_desk.specs.{Collects}
+use Rattle.xa_calls.specs.{CollectsRedeemed}
 use Rattle.xa_crew.specs.Ending.EndsNumber.{kept}
 use Rattle.xa_crew.proofs.ending.end_number.Goals as goal
 

@@ -1,11 +1,8 @@
-use Rattle.std.proofs.Common.{◌≡◌, ◌+◌, ◌≤◌, ◌<◌, None, sym, refl, subst, arith, inl, inr, ◌∙◌}
+use Rattle.xa_base.proofs.{◌≡◌, ◌+◌, ◌≤◌, ◌<◌, None, sym, refl, subst, arith, inl, inr, ◌∙◌, range_with_len, cases_eq, cases_lt, range_more}
 use Rattle.std.specs.FinMap as finmap
-use Rattle.std.specs.List.{range_with_len}
-use Rattle.std.proofs.lemmas.Bool.{cases_eq, cases_lt}
-use Rattle.xa_base.specs.Lists.{Chain}
+use Rattle.xa_base.specs.{Chain}
 use Rattle.xa_base.specs.Lists.Chain.{none, more}
-use Rattle.xa_crew.specs.Ending.{Telling, EndsNumber}
-use Rattle.xa_base.proofs.Lists.{range_more}
+use Rattle.xa_crew.specs.{Telling, EndsNumber}
 use Rattle.xa_crew.proofs.Kept.{number_freed, number_leaves}
 use Rattle.xa_crew.proofs.ending.end_numbers.Goals as goal
 

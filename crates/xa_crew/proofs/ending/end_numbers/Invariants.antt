@@ -1,10 +1,8 @@
-use Rattle.std.proofs.Common.{◌≡◌, ◌⊎◌, ℕ, ◌+◌, ◌<◌, ◌≤◌, length, None}
-use Rattle.std.specs.Prelude.{vec_capacity}
-use Rattle.std.specs.List.{range_with_len}
+use Rattle.xa_base.proofs.{◌≡◌, ◌⊎◌, ℕ, ◌+◌, ◌<◌, ◌≤◌, length, None, vec_capacity, range_with_len}
 use Rattle.std.specs.FinMap as finmap
 use Rattle.xa_desk.specs.GoesOn.{GoesOn}
-use Rattle.xa_base.specs.Lists.{Chain}
-use Rattle.xa_crew.specs.Ending.{EndsNumber}
+use Rattle.xa_base.specs.{Chain}
+use Rattle.xa_crew.specs.{EndsNumber}
 use Rattle.xa_crew.proofs.ending.end_numbers.Given as goal
 
 -- the first numbers are done, and nothing is kept under them, under 0 and past the handles

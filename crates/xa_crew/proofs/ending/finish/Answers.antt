@@ -1,5 +1,5 @@
-use Rattle.std.proofs.Common.{◌≡◌, refl, arith}
-use Rattle.xa_desk.specs.DeskView.{outstanding}
+use Rattle.xa_base.proofs.{◌≡◌, refl, arith}
+use Rattle.xa_desk.specs.{outstanding}
 use Rattle.xa_crew.proofs.ending.finish.Goals as goal
 
 pub unreachable-requires : goal.unreachable-requires

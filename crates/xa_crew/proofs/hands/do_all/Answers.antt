@@ -1,4 +1,4 @@
-use Rattle.std.proofs.Common.{◌∙◌, arith}
+use Rattle.xa_base.proofs.{◌∙◌, arith}
 use Rattle.xa_crew.proofs.Threads.{room_for_all}
 use Rattle.xa_crew.proofs.hands.do_all.Goals as goal
 

@@ -1,6 +1,6 @@
-use Rattle.std.proofs.Common.{List, subst}
-use Rattle.xa_switch.specs.Plans.{planned}
-use Rattle.xa_crew.specs.Run.{HasRunAll, IsRun}
+use Rattle.xa_base.proofs.{List, subst}
+use Rattle.xa_switch.specs.{planned}
+use Rattle.xa_crew.specs.{HasRunAll, IsRun}
 use Rattle.xa_crew.proofs.in_turns.run_clients_in_turns.Goals as goal
 
 pub returns-in-Ok-clause-ran : goal.returns-in-Ok-clause-ran

@@ -1,4 +1,4 @@
-use Rattle.xa_switch.specs.Plans.{planned}
+use Rattle.xa_switch.specs.{planned}
 use Rattle.xa_crew.proofs.opened.open_clients.Goals as goal
 
 pub returns-clause-opened : goal.returns-clause-opened

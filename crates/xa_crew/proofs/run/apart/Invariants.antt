@@ -1,5 +1,4 @@
-use Rattle.std.proofs.Common.{◌≡◌, ◌++◌, map, vec_capacity}
-use Rattle.std.specs.Vec.Iter.{into_iter_items}
+use Rattle.xa_base.proofs.{◌≡◌, ◌++◌, map, vec_capacity, into_iter_items}
 use Rattle.xa_crew.proofs.run.apart.Given as goal
 
 -- the clients and the desks of the first threads

@@ -1,6 +1,6 @@
-use Rattle.std.proofs.Common.{List, ap, ◌∙◌}
-use Rattle.xa_desk.specs.Ended.{EndedView}
-use Rattle.xa_switch.specs.Closing.{settling}
+use Rattle.xa_base.proofs.{List, ap, ◌∙◌}
+use Rattle.xa_desk.specs.{EndedView}
+use Rattle.xa_switch.specs.{settling}
 use Rattle.xa_crew.proofs.Members.{run_pieces}
 use Rattle.xa_crew.proofs.run.settle_run.Goals as goal
 

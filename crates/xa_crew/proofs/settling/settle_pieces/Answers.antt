@@ -1,8 +1,5 @@
-use Rattle.std.proofs.Common.{⊎_elim, ◌≡◌, sym, subst}
-use Rattle.xa_switch.specs.Belonging.{IsWhyUnsettled}
-use Rattle.xa_switch.specs.OfPlans.{IsOf}
-use Rattle.xa_switch.specs.declared.settling.Why.{Why}
-use Rattle.xa_switch.specs.declared.settling.Why.TheVariants.{Stranger, Missing}
+use Rattle.xa_base.proofs.{⊎_elim, ◌≡◌, sym, subst}
+use Rattle.xa_switch.specs.{IsWhyUnsettled, IsOf, Why, Stranger, Missing}
 use Rattle.xa_crew.proofs.Settled.{from_opening, of_one_opening, all_pieces, permuted_desks, permuted_workers}
 use Rattle.xa_crew.proofs.settling.settle_pieces.Goals as goal
 

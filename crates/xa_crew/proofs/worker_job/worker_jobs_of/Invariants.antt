@@ -1,5 +1,4 @@
-use Rattle.std.proofs.Common.{◌≡◌, ◌+◌, ◌++◌, map, length, vec_capacity}
-use Rattle.std.specs.Vec.Iter.{into_iter_items, into_iter_len}
+use Rattle.xa_base.proofs.{◌≡◌, ◌+◌, ◌++◌, map, length, vec_capacity, into_iter_items, into_iter_len}
 use Rattle.xa_crew.proofs.worker_job.worker_jobs_of.Given as goal
 
 -- the first workers have a pace, and each other has one left

@@ -1,5 +1,4 @@
-use Rattle.std.proofs.Common.{◌≡◌, ◌++◌, map, vec_capacity}
-use Rattle.std.specs.Vec.Iter.{into_iter_items}
+use Rattle.xa_base.proofs.{◌≡◌, ◌++◌, map, vec_capacity, into_iter_items}
 use Rattle.xa_crew.proofs.worker_job.workers_of.Given as goal
 
 -- the first workers have come back

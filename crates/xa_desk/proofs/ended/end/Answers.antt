@@ -1,4 +1,4 @@
-use Rattle.xa_desk.specs.Slots.{logged}
+use Rattle.xa_desk.specs.{logged}
 use Rattle.xa_desk.proofs.Ties.{tied_ended}
 use Rattle.xa_desk.proofs.ended.end.Goals as goal
 

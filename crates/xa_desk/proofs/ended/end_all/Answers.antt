@@ -1,6 +1,6 @@
-use Rattle.std.proofs.Common.{◌≡◌, ◌+◌, [], ◌∷◌, ◌++◌, length, sym, subst, arith}
+use Rattle.xa_base.proofs.{◌≡◌, ◌+◌, [], ◌∷◌, ◌++◌, length, sym, subst, arith}
 use Rattle.std.proofs.lemmas.Grind.{common_steps}
-use Rattle.xa_desk.specs.Waits.{MarkEnds}
+use Rattle.xa_desk.specs.{MarkEnds}
 use Rattle.xa_desk.proofs.Waiting.{marks_push}
 use Rattle.xa_desk.proofs.ended.end_all.Goals as goal
 

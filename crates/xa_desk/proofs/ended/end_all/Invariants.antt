@@ -1,8 +1,6 @@
-use Rattle.std.proofs.Common.{◌≡◌, ◌≤◌, ◌++◌, map, length}
-use Rattle.std.specs.Prelude.{vec_capacity}
-use Rattle.std.specs.Vec.Iter.{into_iter_items, into_iter_len}
-use Rattle.xa_lane.specs.Senders.{but_full}
-use Rattle.xa_desk.specs.Waits.{MarkEnds}
+use Rattle.xa_base.proofs.{◌≡◌, ◌≤◌, ◌++◌, map, length, vec_capacity, into_iter_items, into_iter_len}
+use Rattle.xa_lane.specs.{but_full}
+use Rattle.xa_desk.specs.{MarkEnds}
 use Rattle.xa_desk.proofs.ended.end_all.Given as goal
 
 -- the senders so far have ended, and the idle has changed by idling alone

@@ -1,5 +1,5 @@
-use Rattle.std.proofs.Common.{suc, refl, ap, ◌∙◌}
-use Rattle.xa_lane.specs.Senders.{but_full, with_full}
+use Rattle.xa_base.proofs.{suc, refl, ap, ◌∙◌}
+use Rattle.xa_lane.specs.{but_full, with_full}
 use Rattle.xa_desk.proofs.Waiting.{bare_full}
 use Rattle.xa_desk.proofs.ended.end_one.Goals as goal
 

@@ -1,5 +1,5 @@
-use Rattle.std.proofs.Common.{◌≡◌, ℕ}
-use Rattle.xa_desk.specs.Waits.{Idles, found_full}
+use Rattle.xa_base.proofs.{◌≡◌, ℕ}
+use Rattle.xa_desk.specs.{Idles, found_full}
 use Rattle.xa_desk.proofs.ended.end_one.Given as goal
 
 -- the lane was found full some times, with an idle after each

@@ -1,6 +1,5 @@
-use Rattle.std.proofs.Common.{ap, inl, inr, arith}
-use Rattle.std.proofs.lemmas.Bool.{cases_lt}
-use Rattle.xa_desk.specs.DeskView.{asked_at}
+use Rattle.xa_base.proofs.{ap, inl, inr, arith, cases_lt}
+use Rattle.xa_desk.specs.{asked_at}
 use Rattle.xa_desk.proofs.kept.keeps_any.Goals as goal
 
 pub returns-clause-none : goal.returns-clause-none

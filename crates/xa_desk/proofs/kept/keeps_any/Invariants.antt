@@ -1,5 +1,5 @@
-use Rattle.std.proofs.Common.{◌≡◌, ℕ, ◌<◌, false}
-use Rattle.xa_desk.specs.DeskView.{keeps_at}
+use Rattle.xa_base.proofs.{◌≡◌, ℕ, ◌<◌, false}
+use Rattle.xa_desk.specs.{keeps_at}
 use Rattle.xa_desk.proofs.kept.keeps_any.Given as goal
 
 -- no number so far passes

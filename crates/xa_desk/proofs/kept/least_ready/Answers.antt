@@ -1,6 +1,5 @@
-use Rattle.std.proofs.Common.{ap, inl, inr, arith}
-use Rattle.std.proofs.lemmas.Bool.{cases_lt}
-use Rattle.xa_desk.specs.DeskView.{ready_with}
+use Rattle.xa_base.proofs.{ap, inl, inr, arith, cases_lt}
+use Rattle.xa_desk.specs.{ready_with}
 use Rattle.xa_desk.proofs.kept.least_ready.Goals as goal
 
 pub returns-clause-absent : goal.returns-clause-absent

@@ -1,5 +1,5 @@
-use Rattle.std.proofs.Common.{◌≡◌, ℕ, ◌<◌, false}
-use Rattle.xa_desk.specs.DeskView.{ready_at}
+use Rattle.xa_base.proofs.{◌≡◌, ℕ, ◌<◌, false}
+use Rattle.xa_desk.specs.{ready_at}
 use Rattle.xa_desk.proofs.kept.least_ready.Given as goal
 
 -- no number so far passes

@@ -1,5 +1,5 @@
-use Rattle.std.proofs.Common.{◌≡◌, replicate}
-use Rattle.xa_desk.specs.Slots.{no_keys}
+use Rattle.xa_base.proofs.{◌≡◌, replicate}
+use Rattle.xa_desk.specs.{no_keys}
 use Rattle.xa_desk.proofs.keys.reserve_keys.Given as goal
 
 abbrev pub invariant-loop-manager : goal.invariant-loop-manager

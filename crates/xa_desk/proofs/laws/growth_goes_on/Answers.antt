@@ -1,4 +1,4 @@
-use Rattle.std.proofs.Common.{refl}
+use Rattle.xa_base.proofs.{refl}
 use Rattle.xa_desk.proofs.Growth.{same_lists, growing_on}
 use Rattle.xa_desk.proofs.laws.growth_goes_on.Goals as goal
 

@@ -1,5 +1,5 @@
-use Rattle.std.proofs.Common.{◌≡◌, map, take}
-use Rattle.xa_desk.specs.LedgerView.{new_ledger}
+use Rattle.xa_base.proofs.{◌≡◌, map, take}
+use Rattle.xa_desk.specs.{new_ledger}
 use Rattle.xa_desk.proofs.ledger.open_ledgers.Given as goal
 
 -- the ledgers so far

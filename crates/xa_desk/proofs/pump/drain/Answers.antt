@@ -1,6 +1,6 @@
-use Rattle.std.proofs.Common.{ap, ◌∙◌}
-use Rattle.xa_words.specs.declared.request.Completion.{Completion}
-use Rattle.xa_lane.specs.Ends.{Receiving, counted}
+use Rattle.xa_base.proofs.{ap, ◌∙◌}
+use Rattle.xa_words.specs.{Completion}
+use Rattle.xa_lane.specs.{Receiving, counted}
 use Rattle.xa_desk.proofs.Looks.{looks_on, looks_further}
 use Rattle.xa_desk.proofs.pump.drain.Goals as goal
 

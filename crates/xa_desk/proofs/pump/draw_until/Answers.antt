@@ -1,7 +1,8 @@
-use Rattle.std.proofs.Common.{ap, ◌∙◌}
-use Rattle.xa_words.specs.declared.request.Completion.{Completion}
-use Rattle.xa_lane.specs.Ends.{Receiving, counted}
-use Rattle.xa_desk.specs.DeskView.{DeskView, drained_code}
+use Rattle.xa_base.proofs.{ap, ◌∙◌}
+use Rattle.xa_words.specs.{Completion}
+use Rattle.xa_lane.specs.{Receiving, counted}
+use Rattle.xa_desk.specs.DeskView.{DeskView}
+use Rattle.xa_desk.specs.{drained_code}
 use Rattle.xa_desk.proofs.Looks.{looks_on, looks_further, looks_out, looks_loose, collects_found}
 use Rattle.xa_desk.proofs.pump.draw_until.Goals as goal
 

@@ -1,5 +1,5 @@
-use Rattle.std.specs.Prelude.{◌≡◌, None}
-use Rattle.xa_desk.specs.DeskView.{drained_code}
+use Rattle.xa_base.proofs.{◌≡◌, None}
+use Rattle.xa_desk.specs.{drained_code}
 use Rattle.xa_desk.proofs.Looks.{LooksOn}
 use Rattle.xa_desk.proofs.pump.draw_until.Given as goal
 

@@ -1,7 +1,6 @@
-use Rattle.std.proofs.Common.{ap, ◌∙◌}
-use Rattle.xa_words.specs.declared.request.Completion.{Completion}
-use Rattle.xa_lane.specs.Ends.{Receiving, counted}
-use Rattle.xa_lane.specs.declared.parcel.Taken.TheVariants.{Empty}
+use Rattle.xa_base.proofs.{ap, ◌∙◌}
+use Rattle.xa_words.specs.{Completion}
+use Rattle.xa_lane.specs.{Receiving, counted, Empty}
 use Rattle.xa_desk.proofs.Looks.{looks_on, looks_further, looks_drawn, looks_out}
 use Rattle.xa_desk.proofs.pump.look_for.Goals as goal
 

@@ -1,7 +1,7 @@
-use Rattle.std.proofs.Common.{suc, ◌+◌, List, length, ap, sym, subst, ◌∙◌, refl}
+use Rattle.xa_base.proofs.{suc, ◌+◌, List, length, ap, sym, subst, ◌∙◌, refl}
 use Rattle.xa_desk.specs.LedgerView.{LedgerView}
-use Rattle.xa_desk.specs.DeskView.{DeskView, IsKnown, next_operation, outstanding}
-use Rattle.xa_desk.specs.Lanes.{after_full, submitted}
+use Rattle.xa_desk.specs.DeskView.{DeskView}
+use Rattle.xa_desk.specs.{IsKnown, next_operation, outstanding, after_full, submitted}
 use Rattle.xa_desk.proofs.Ties.{fulls_alike}
 use Rattle.xa_desk.proofs.pump.send_waiting.Goals as goal
 

@@ -1,6 +1,5 @@
-use Rattle.std.proofs.Common.{◌≡◌, ℕ}
-use Rattle.xa_desk.specs.Lanes.{after_fulls}
-use Rattle.xa_desk.specs.Waits.{Idles}
+use Rattle.xa_base.proofs.{◌≡◌, ℕ}
+use Rattle.xa_desk.specs.{after_fulls, Idles}
 use Rattle.xa_desk.proofs.pump.send_waiting.Given as goal
 
 -- the lane was found full some times, with an idle after each

@@ -1,7 +1,6 @@
-use Rattle.std.proofs.Common.{refl, ap, sym, subst, ◌∙◌}
-use Rattle.xa_desk.specs.DeskView.{DeskView, IsOut, IsLoose, drained_code}
-use Rattle.xa_desk.specs.Looks.{Collects}
-use Rattle.xa_desk.specs.Waits.{WaitsFor}
+use Rattle.xa_base.proofs.{refl, ap, sym, subst, ◌∙◌}
+use Rattle.xa_desk.specs.DeskView.{DeskView}
+use Rattle.xa_desk.specs.{IsOut, IsLoose, drained_code, Collects, WaitsFor}
 use Rattle.xa_desk.specs.Waits.Waits.{begins}
 use Rattle.xa_desk.proofs.Looks.{looks_start, collects_from}
 use Rattle.xa_desk.proofs.pump.wait_for.Goals as goal

@@ -1,4 +1,4 @@
-use Rattle.std.proofs.Common.{refl}
+use Rattle.xa_base.proofs.{refl}
 use Rattle.xa_desk.specs.Waits.Waits.{begins, idles}
 use Rattle.xa_desk.proofs.Looks.{looks_start, looks_chain, quiet_looks, least_chain}
 use Rattle.xa_desk.proofs.pump.wait_for_any.Goals as goal

@@ -1,5 +1,6 @@
 use Rattle.xa_desk.specs.Looks.{Looks}
-use Rattle.xa_desk.specs.Waits.{Waits, NothingIsReady}
+use Rattle.xa_desk.specs.Waits.{Waits}
+use Rattle.xa_desk.specs.{NothingIsReady}
 use Rattle.xa_desk.proofs.pump.wait_for_any.Given as goal
 
 -- the book has changed by looks alone, and the idle by an idle after each quiet moment, where what is waited for was

@@ -1,7 +1,7 @@
-use Rattle.std.specs.Prelude.{◌≡◌, None}
-use Rattle.xa_desk.specs.DeskView.{drained_code}
+use Rattle.xa_base.proofs.{◌≡◌, None}
+use Rattle.xa_desk.specs.{drained_code, IsMissing}
 use Rattle.xa_desk.specs.Looks.{Looks}
-use Rattle.xa_desk.specs.Waits.{Waits, IsMissing}
+use Rattle.xa_desk.specs.Waits.{Waits}
 use Rattle.xa_desk.proofs.pump.wait_until.Given as goal
 
 -- the book has changed by looks alone, and the idle by an idle after each quiet moment, where what is waited for was

@@ -1,5 +1,5 @@
-use Rattle.std.proofs.Common.{ap, sym, ◌∙◌}
-use Rattle.xa_driver.specs.Asks.{Ask}
+use Rattle.xa_base.proofs.{ap, sym, ◌∙◌}
+use Rattle.xa_driver.specs.{Ask}
 use Rattle.xa_driver.proofs.Idling.{sends_so}
 use Rattle.xa_driver.proofs.ask.begin.Goals as goal
 

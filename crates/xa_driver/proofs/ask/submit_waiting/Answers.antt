@@ -1,13 +1,11 @@
-use Rattle.std.proofs.Common.{◌≡◌, ◌⊎◌, ℕ, suc, ◌<◌, ◌-◌, ◌==◌, true, false, List, length, inl, inr, None, Some, sym, ap, ◌∙◌, subst, arith, rules}
-use Rattle.std.specs.Prelude.{Bool, not, ◌&&◌, ◌||◌, nat_le, nat_lt, if◌then◌else◌}
-use Rattle.std.specs.Option.{option_or}
-use Rattle.xa_desk.specs.LedgerView.{LedgerView, learnt_shut}
-use Rattle.xa_desk.specs.DeskView.{DeskView, IsKnown, is_known, ledger, outstanding, reach_refusal, handle_refusal, spent_refusal, submit_refusal}
-use Rattle.xa_desk.specs.Lanes.{after_full, submitted}
-use Rattle.xa_desk.specs.declared.refused.Refused.{Refused}
-use Rattle.xa_desk.specs.declared.refused.Refused.TheVariants.{NoSuchManager, Shut, TooMany, Spent, Full}
+use Rattle.xa_base.proofs.{◌≡◌, ◌⊎◌, ℕ, suc, ◌<◌, ◌-◌, ◌==◌, true, false, List, length, inl, inr, None, Some, sym, ap, ◌∙◌, subst, arith, rules, Bool, not}
+use Rattle.xa_base.proofs.{◌&&◌, ◌||◌, nat_le, nat_lt, if◌then◌else◌, option_or}
+use Rattle.xa_desk.specs.LedgerView.{LedgerView}
+use Rattle.xa_desk.specs.{learnt_shut, IsKnown, is_known, ledger, outstanding, reach_refusal, handle_refusal, spent_refusal, submit_refusal, after_full}
+use Rattle.xa_desk.specs.{submitted, Refused, NoSuchManager, Shut, TooMany, Spent, Full}
+use Rattle.xa_desk.specs.DeskView.{DeskView}
 use Rattle.xa_desk.proofs.Ledgers.{known_true}
-use Rattle.xa_driver.specs.Asks.{CanAsk, KeepsDesk}
+use Rattle.xa_driver.specs.{CanAsk, KeepsDesk}
 use Rattle.xa_driver.proofs.ask.submit_waiting.Goals as goal
 
 -- the second of two, of which one fails and the first holds

@@ -1,7 +1,6 @@
-use Rattle.std.proofs.Common.{◌≡◌, ℕ}
-use Rattle.xa_desk.specs.Lanes.{after_fulls}
-use Rattle.xa_desk.specs.Waits.{Idles}
-use Rattle.xa_driver.specs.Asks.{KeepsDesk}
+use Rattle.xa_base.proofs.{◌≡◌, ℕ}
+use Rattle.xa_desk.specs.{after_fulls, Idles}
+use Rattle.xa_driver.specs.{KeepsDesk}
 use Rattle.xa_driver.proofs.ask.submit_waiting.Given as goal
 
 -- nothing was sent yet, and it idled once for each time that the lane was found full

@@ -1,18 +1,12 @@
-use Rattle.std.proofs.Common.{◌≡◌, ap, sym, ◌∙◌, subst, map, List, Bool}
-use Rattle.xa_words.specs.Tran.{TranName}
-use Rattle.xa_driver.specs.Decision.{yes_of}
-use Rattle.xa_log.specs.Log.{record_of}
-use Rattle.xa_driver.specs.Trace.{AppendsOnce, IsTraceOfCommit}
+use Rattle.xa_base.proofs.{◌≡◌, ap, sym, ◌∙◌, subst, map, List, Bool}
+use Rattle.xa_words.specs.{TranName}
+use Rattle.xa_driver.specs.{yes_of, AppendsOnce, IsTraceOfCommit, Ask, SameAsks, first_ask, second_ask, third_ask, Done, Prepared, IsAtRest}
+use Rattle.xa_log.specs.{record_of}
 use Rattle.xa_driver.proofs.Idling.{all_idle}
 use Rattle.xa_driver.proofs.Calls.{one_tran}
 use Rattle.xa_driver.proofs.OneCall.{asks_log, lost_log, may_forget, may_tell, stages_call}
-use Rattle.xa_driver.specs.Asks.{Ask, SameAsks}
-use Rattle.xa_driver.specs.Rounds.{first_ask, second_ask, third_ask}
 use Rattle.xa_driver.proofs.Ordering.{same_in_order}
 use Rattle.xa_driver.proofs.Staying.{rest_chain, rest_same}
-use Rattle.xa_driver.specs.declared.done.Done.{Done}
-use Rattle.xa_driver.specs.declared.stages.Prepared.{Prepared}
-use Rattle.xa_driver.specs.UnderWay.{IsAtRest}
 use Rattle.xa_driver.proofs.commit.commit_all.Goals as goal
 
 pub decide-requires-clause-new : goal.decide-requires-clause-new

@@ -1,15 +1,8 @@
-use Rattle.std.proofs.Common.{◌≡◌, ℕ, ◌∙◌, ap, map, subst, sym}
-use Rattle.xa_desk.specs.DeskView.{DeskView, ledger}
-use Rattle.xa_driver.specs.declared.round.Round.{Round}
-use Rattle.xa_driver.specs.declared.stages.Prepared.{Prepared}
-use Rattle.xa_driver.specs.Asks.{KeepsTheRest, among_asks}
-use Rattle.xa_driver.specs.Deaths.{Dies, LeavesDesk, PutsLedger, is_decided_by}
-use Rattle.xa_driver.specs.Idling.{IdlesAt}
-use Rattle.xa_driver.specs.Resolving.{AsksLedger}
-use Rattle.xa_driver.specs.Rounds.{first_ask}
-use Rattle.xa_driver.specs.Stages.{HasPrepared}
-use Rattle.xa_driver.specs.Trace.{has_branch_at}
-use Rattle.xa_driver.specs.UnderWay.{IsAtRest}
+use Rattle.xa_base.proofs.{◌≡◌, ℕ, ◌∙◌, ap, map, subst, sym}
+use Rattle.xa_desk.specs.DeskView.{DeskView}
+use Rattle.xa_desk.specs.{ledger}
+use Rattle.xa_driver.specs.{Round, Prepared, KeepsTheRest, among_asks, Dies, LeavesDesk, PutsLedger, is_decided_by, IdlesAt, AsksLedger, first_ask, HasPrepared}
+use Rattle.xa_driver.specs.{has_branch_at, IsAtRest}
 use Rattle.xa_driver.proofs.AtDeath.{appends_none, appends_once, appends_so, as_many_managers, decided_later, desk_further, desk_rest, dies_prepared}
 use Rattle.xa_driver.proofs.Calls.{among_first, one_tran}
 use Rattle.xa_driver.proofs.Idling.{first_idles, idles_chain, idles_start}

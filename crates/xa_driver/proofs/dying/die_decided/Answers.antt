@@ -1,7 +1,6 @@
-use Rattle.std.proofs.Common.{◌∙◌, ap, subst, sym}
-use Rattle.xa_desk.specs.DeskView.{ledger}
-use Rattle.xa_driver.specs.Deaths.{Dies, PutsLedger}
-use Rattle.xa_driver.specs.Resolving.{AsksLedger}
+use Rattle.xa_base.proofs.{◌∙◌, ap, subst, sym}
+use Rattle.xa_desk.specs.{ledger}
+use Rattle.xa_driver.specs.{Dies, PutsLedger, AsksLedger}
 use Rattle.xa_driver.proofs.AtDeath.{decided_here, desk_same, dies_decided, dies_told}
 use Rattle.xa_driver.proofs.Calls.{among_second}
 use Rattle.xa_driver.proofs.Idling.{idles_same, idles_start}

@@ -1,6 +1,5 @@
-use Rattle.std.proofs.Common.{◌≡◌, ◌∙◌, ap, arith, map}
-use Rattle.xa_driver.specs.Asks.{SameAsks}
-use Rattle.xa_driver.specs.Rounds.{first_ask}
+use Rattle.xa_base.proofs.{◌≡◌, ◌∙◌, ap, arith, map}
+use Rattle.xa_driver.specs.{SameAsks, first_ask}
 use Rattle.xa_driver.proofs.AtDeath.{came_to_votes, desk_left, others_stay}
 use Rattle.xa_driver.proofs.Calls.{among_first, same_long}
 use Rattle.xa_driver.proofs.Gathering.{same_itself}

@@ -1,5 +1,5 @@
-use Rattle.std.proofs.Common.{◌∙◌, ap, map}
-use Rattle.xa_driver.specs.Rounds.{second_ask}
+use Rattle.xa_base.proofs.{◌∙◌, ap, map}
+use Rattle.xa_driver.specs.{second_ask}
 use Rattle.xa_driver.proofs.AtDeath.{desk_left, dies_telling}
 use Rattle.xa_driver.proofs.Gathering.{same_among, same_itself}
 use Rattle.xa_driver.proofs.dying.die_telling.Goals as goal

@@ -1,5 +1,5 @@
-use Rattle.std.proofs.Common.{◌≡◌, ◌++◌, ◌+◌, ◌≤◌, drop, length, vec_capacity}
-use Rattle.xa_driver.specs.Forgetful.{unfinished}
+use Rattle.xa_base.proofs.{◌≡◌, ◌++◌, ◌+◌, ◌≤◌, drop, length, vec_capacity}
+use Rattle.xa_driver.specs.{unfinished}
 use Rattle.xa_driver.proofs.forgetful.unfinished.Given as goal
 
 abbrev pub invariant-loop-outcome : goal.invariant-loop-outcome

@@ -1,6 +1,6 @@
-use Rattle.std.proofs.Common.{drop}
+use Rattle.xa_base.proofs.{drop}
 use Rattle.std.specs.Prelude.{◌↔◌}
-use Rattle.xa_driver.specs.Trace.{AreBranchesRising}
+use Rattle.xa_driver.specs.{AreBranchesRising}
 use Rattle.xa_driver.proofs.may.are_rising.Given as goal
 
 abbrev pub invariant-loop-branch : goal.invariant-loop-branch

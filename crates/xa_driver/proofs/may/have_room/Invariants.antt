@@ -1,6 +1,6 @@
-use Rattle.std.proofs.Common.{drop}
+use Rattle.xa_base.proofs.{drop}
 use Rattle.std.specs.Prelude.{◌↔◌}
-use Rattle.xa_driver.specs.Trace.{HaveRoom}
+use Rattle.xa_driver.specs.{HaveRoom}
 use Rattle.xa_driver.proofs.may.have_room.Given as goal
 
 abbrev pub invariant-loop-branch : goal.invariant-loop-branch

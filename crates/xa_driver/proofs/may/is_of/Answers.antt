@@ -1,5 +1,5 @@
-use Rattle.std.proofs.Common.{sym, ◌∙◌}
-use Rattle.xa_words.specs.TranOrders.{Decides-tran_eq}
+use Rattle.xa_base.proofs.{sym, ◌∙◌}
+use Rattle.xa_words.specs.{Decides-tran_eq}
 use Rattle.xa_driver.proofs.may.is_of.Goals as goal
 
 pub returns : goal.returns

@@ -1,6 +1,6 @@
-use Rattle.std.proofs.Common.{drop}
+use Rattle.xa_base.proofs.{drop}
 use Rattle.std.specs.Prelude.{◌↔◌}
-use Rattle.xa_driver.specs.Trace.{IsTranOf}
+use Rattle.xa_driver.specs.{IsTranOf}
 use Rattle.xa_driver.proofs.may.is_tran_of.Given as goal
 
 abbrev pub invariant-loop-branch : goal.invariant-loop-branch

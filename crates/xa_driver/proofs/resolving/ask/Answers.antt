@@ -1,7 +1,6 @@
-use Rattle.std.proofs.Common.{◌≡◌, false, None, Some, Ok, refl, sym, ap, ◌∙◌}
-use Rattle.std.specs.Prelude.{option_map}
-use Rattle.xa_desk.specs.DeskView.{call_refusal}
-use Rattle.xa_calls.specs.Putting.{code_of, put_refusal}
+use Rattle.xa_base.proofs.{◌≡◌, false, None, Some, Ok, refl, sym, ap, ◌∙◌, option_map}
+use Rattle.xa_desk.specs.{call_refusal}
+use Rattle.xa_calls.specs.{code_of, put_refusal}
 use Rattle.xa_calls.specs.Scans.{answered}
 use Rattle.xa_calls.proofs.Refusals.{no_refusal}
 use Rattle.xa_driver.proofs.Alone.{call_answered}

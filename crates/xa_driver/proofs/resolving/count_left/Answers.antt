@@ -1,6 +1,6 @@
-use Rattle.std.proofs.Common.{◌≡◌, ◌≤◌, ◌+◌, length, ap, arith}
-use Rattle.xa_desk.specs.DeskView.{room_at}
-use Rattle.xa_scan.specs.Left.{left_at}
+use Rattle.xa_base.proofs.{◌≡◌, ◌≤◌, ◌+◌, length, ap, arith}
+use Rattle.xa_desk.specs.{room_at}
+use Rattle.xa_scan.specs.{left_at}
 use Rattle.xa_driver.proofs.EachLeft.{left_more, left_few}
 use Rattle.xa_driver.proofs.resolving.count_left.Goals as goal
 

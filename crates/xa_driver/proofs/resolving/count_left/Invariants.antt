@@ -1,5 +1,5 @@
-use Rattle.std.proofs.Common.{◌≡◌, ◌≤◌, ◌*◌}
-use Rattle.xa_driver.specs.Resolving.{left_in}
+use Rattle.xa_base.proofs.{◌≡◌, ◌≤◌, ◌*◌}
+use Rattle.xa_driver.specs.{left_in}
 use Rattle.xa_driver.proofs.resolving.count_left.Given as goal
 
 -- those of the managers so far are counted

@@ -1,8 +1,8 @@
-use Rattle.std.proofs.Common.{ℕ, ◌≤◌}
-use Rattle.xa_base.specs.Lists.{IsUpTo}
-use Rattle.xa_desk.specs.DeskView.{room_at}
-use Rattle.xa_scan.specs.Left.{left_at}
-use Rattle.xa_driver.specs.Resolving.{requests_for}
+use Rattle.xa_base.proofs.{ℕ, ◌≤◌}
+use Rattle.xa_base.specs.{IsUpTo}
+use Rattle.xa_desk.specs.{room_at}
+use Rattle.xa_scan.specs.{left_at}
+use Rattle.xa_driver.specs.{requests_for}
 use Rattle.xa_driver.proofs.resolving.may_resolve.Given as goal
 
 -- there is room at the managers so far

@@ -1,12 +1,11 @@
-use Rattle.std.proofs.Common.{◌≡◌, ◌≤◌, ◌+◌, length, length-append, vec_capacity, refl, sym, ap, ◌∙◌, subst, arith}
-use Rattle.xa_base.specs.declared.limits.TheConstants.{MOST_MANAGERS}
-use Rattle.xa_desk.specs.DeskView.{ledger}
-use Rattle.xa_driver.specs.Resolving.{requests_for, ResolvesAt, ResolvesInTurn, AsksLedger, begun, next}
-use Rattle.xa_calls.specs.Scans.{AsksAndWaits}
+use Rattle.xa_base.proofs.{◌≡◌, ◌≤◌, ◌+◌, length, length-append, vec_capacity, refl, sym, ap, ◌∙◌, subst, arith}
+use Rattle.xa_base.specs.{MOST_MANAGERS}
+use Rattle.xa_desk.specs.{ledger}
+use Rattle.xa_driver.specs.{requests_for, ResolvesAt, ResolvesInTurn, AsksLedger, begun, next}
+use Rattle.xa_calls.specs.{AsksAndWaits, Answers}
 use Rattle.xa_driver.proofs.Asking.{keeps_start, keeps_chain}
 use Rattle.xa_driver.proofs.Staying.{outstanding_chain, rest_same, tickets_stay}
 use Rattle.xa_driver.proofs.EachLeft.{SoFar, none_so_far, one_more_so_far, left_more, left_within, room_same}
-use Rattle.xa_calls.specs.Scans.{Answers}
 use Rattle.xa_driver.proofs.InTurn.{turns_by}
 use Rattle.xa_driver.proofs.resolving.resolve.Goals as goal
 

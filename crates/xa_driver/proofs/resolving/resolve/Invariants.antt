@@ -1,10 +1,8 @@
-use Rattle.std.proofs.Common.{◌≡◌, ◌≤◌, length, vec_capacity}
-use Rattle.xa_base.specs.declared.limits.TheConstants.{MOST_MANAGERS}
-use Rattle.xa_desk.specs.DeskView.{outstanding}
-use Rattle.xa_desk.specs.Kept.{AllKept}
-use Rattle.xa_driver.specs.Asks.{KeepsDesk, LeavesOutstanding}
-use Rattle.xa_driver.specs.Resolving.{ResolvesInTurn, left_in}
-use Rattle.xa_calls.specs.Scans.{AsksAndWaits}
+use Rattle.xa_base.proofs.{◌≡◌, ◌≤◌, length, vec_capacity}
+use Rattle.xa_base.specs.{MOST_MANAGERS}
+use Rattle.xa_desk.specs.{outstanding, AllKept}
+use Rattle.xa_driver.specs.{KeepsDesk, LeavesOutstanding, ResolvesInTurn, left_in}
+use Rattle.xa_calls.specs.{AsksAndWaits}
 use Rattle.xa_driver.proofs.EachLeft.{SoFar}
 use Rattle.xa_driver.proofs.resolving.resolve.Given as goal
 

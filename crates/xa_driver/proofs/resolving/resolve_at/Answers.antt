@@ -1,13 +1,11 @@
-use Rattle.std.proofs.Common.{◌≡◌, ◌≢◌, ◌++◌, List, [], ◌∷◌, length, map, append-nil, append_assoc, refl, sym, ap, ◌∙◌, arith}
-use Rattle.std.proofs.lemmas.Bool.{eqb-false}
-use Rattle.std.proofs.lemmas.List.{length-map, map_push, take_all}
+use Rattle.xa_base.proofs.{◌≡◌, ◌≢◌, ◌++◌, List, [], ◌∷◌, length, map, append-nil, append_assoc, refl, sym, ap, ◌∙◌, arith, eqb-false, length-map, take_all}
+use Rattle.xa_base.proofs.{one_more}
+use Rattle.std.proofs.lemmas.List.{map_push}
 use Rattle.xa_base.specs.Lists.Chain.{none, more}
-use Rattle.xa_base.proofs.Lists.{one_more}
-use Rattle.xa_words.specs.Xid.{XidName}
-use Rattle.xa_desk.specs.DeskView.{ledger}
-use Rattle.xa_driver.specs.declared.resolved.Outcome.{Outcome}
-use Rattle.xa_driver.specs.Resolving.{AsksLedger}
-use Rattle.xa_calls.specs.Scans.{AsksAndWaits}
+use Rattle.xa_words.specs.{XidName}
+use Rattle.xa_desk.specs.{ledger}
+use Rattle.xa_driver.specs.{Outcome, AsksLedger}
+use Rattle.xa_calls.specs.{AsksAndWaits}
 use Rattle.xa_driver.proofs.Alone.{alone_start, alone_chain}
 use Rattle.xa_driver.proofs.EachLeft.{requests_there, resolves_there}
 use Rattle.xa_driver.proofs.resolving.resolve_at.Goals as goal

@@ -1,9 +1,8 @@
-use Rattle.std.proofs.Common.{◌≡◌, ◌≤◌, ◌-◌, ◌*◌, ◌++◌, List, length, map, take, vec_capacity}
-use Rattle.xa_base.specs.Lists.{Chain}
-use Rattle.xa_desk.specs.DeskView.{ledger, room_at}
-use Rattle.xa_driver.specs.declared.resolved.Outcome.{Outcome}
-use Rattle.xa_driver.specs.Resolving.{AsksLedger, AsksAlone, ResolvesBranch}
-use Rattle.xa_calls.specs.Scans.{AsksAndWaits}
+use Rattle.xa_base.proofs.{◌≡◌, ◌≤◌, ◌-◌, ◌*◌, ◌++◌, List, length, map, take, vec_capacity}
+use Rattle.xa_base.specs.{Chain}
+use Rattle.xa_desk.specs.{ledger, room_at}
+use Rattle.xa_driver.specs.{Outcome, AsksLedger, AsksAlone, ResolvesBranch}
+use Rattle.xa_calls.specs.{AsksAndWaits}
 use Rattle.xa_driver.proofs.resolving.resolve_at.Given as goal
 
 -- once the manager was asked to open, the branches so far are resolved

@@ -1,9 +1,9 @@
-use Rattle.std.proofs.Common.{◌≡◌, true, false, refl, sym, ap, ◌∙◌, subst}
-use Rattle.xa_words.specs.declared.request.Op.TheVariants.{Forget}
-use Rattle.xa_desk.specs.DeskView.{DeskView, ledger}
-use Rattle.xa_driver.specs.Endings.{is_decided}
-use Rattle.xa_driver.specs.Resolving.{AsksLedger, AsksAlone, AsksIf}
-use Rattle.xa_calls.specs.Scans.{AsksAndWaits}
+use Rattle.xa_base.proofs.{◌≡◌, true, false, refl, sym, ap, ◌∙◌, subst}
+use Rattle.xa_words.specs.{Forget}
+use Rattle.xa_desk.specs.DeskView.{DeskView}
+use Rattle.xa_desk.specs.{ledger}
+use Rattle.xa_driver.specs.{is_decided, AsksLedger, AsksAlone, AsksIf}
+use Rattle.xa_calls.specs.{AsksAndWaits}
 use Rattle.xa_driver.proofs.Alone.{alone_chain}
 use Rattle.xa_driver.proofs.resolving.resolve_branch.Goals as goal
 use Rattle.xa_driver.proofs.resolving.resolve_branch.Goals.{then-is_decided, else-is_decided}

@@ -1,6 +1,6 @@
-use Rattle.std.proofs.Common.{drop}
+use Rattle.xa_base.proofs.{drop}
 use Rattle.std.specs.Prelude.{◌↔◌}
-use Rattle.xa_driver.specs.Asks.{AllCanAsk}
+use Rattle.xa_driver.specs.{AllCanAsk}
 use Rattle.xa_driver.proofs.round.can_ask_all.Given as goal
 
 abbrev pub invariant-loop-ask : goal.invariant-loop-ask

@@ -1,6 +1,6 @@
-use Rattle.std.proofs.Common.{◌≡◌, length, List, [], ◌∷◌, Option, refl, ap, subst, arith}
-use Rattle.xa_desk.specs.DeskView.{TicketView}
-use Rattle.xa_driver.specs.UnderWay.{AllKeptBut, OwnsAll}
+use Rattle.xa_base.proofs.{◌≡◌, length, List, [], ◌∷◌, Option, refl, ap, subst, arith}
+use Rattle.xa_desk.specs.{TicketView}
+use Rattle.xa_driver.specs.{AllKeptBut, OwnsAll}
 use Rattle.xa_driver.proofs.Leaving.{IsLast, all_kept, first_owned, kept_one_more, last_more, left_more, nothing_left, rest_owned}
 use Rattle.xa_driver.proofs.round.keep_all.Goals as goal
 

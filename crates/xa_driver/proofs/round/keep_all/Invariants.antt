@@ -1,6 +1,6 @@
-use Rattle.std.proofs.Common.{◌≡◌, ◌+◌, length}
+use Rattle.xa_base.proofs.{◌≡◌, ◌+◌, length}
 use Rattle.xa_desk.specs.GoesOn.{GoesOn}
-use Rattle.xa_driver.specs.UnderWay.{AllKeptBut, LeavesInFlight, OwnsAll}
+use Rattle.xa_driver.specs.{AllKeptBut, LeavesInFlight, OwnsAll}
 use Rattle.xa_driver.proofs.Leaving.{IsLast}
 use Rattle.xa_driver.proofs.round.keep_all.Given as goal
 

@@ -1,5 +1,5 @@
-use Rattle.std.proofs.Common.{◌∙◌}
-use Rattle.xa_driver.specs.Rounds.{second_ask}
+use Rattle.xa_base.proofs.{◌∙◌}
+use Rattle.xa_driver.specs.{second_ask}
 use Rattle.xa_driver.proofs.InPlace.{all_remade, one_more_remade}
 use Rattle.xa_driver.proofs.rounds.second_round.Goals as goal
 

@@ -1,5 +1,5 @@
-use Rattle.std.proofs.Common.{◌∙◌}
-use Rattle.xa_driver.specs.Rounds.{third_ask}
+use Rattle.xa_base.proofs.{◌∙◌}
+use Rattle.xa_driver.specs.{third_ask}
 use Rattle.xa_driver.proofs.InPlace.{all_remade, one_more_remade}
 use Rattle.xa_driver.proofs.rounds.third_round.Goals as goal
 

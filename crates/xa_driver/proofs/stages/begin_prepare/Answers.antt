@@ -1,10 +1,6 @@
-use Rattle.std.proofs.Common.{◌≡◌, List, length, map, refl, sym, ap, ◌∙◌, subst, arith}
-use Rattle.std.proofs.lemmas.List.{length-map}
-use Rattle.xa_words.specs.Tran.{tran_of}
-use Rattle.xa_driver.specs.declared.branch.Branch.{Branch}
-use Rattle.xa_driver.specs.Asks.{Ask, AllCanAsk, AreRising, SameAsks}
-use Rattle.xa_driver.specs.Rounds.{first_ask}
-use Rattle.xa_driver.specs.Trace.{IsTranOf}
+use Rattle.xa_base.proofs.{◌≡◌, List, length, map, refl, sym, ap, ◌∙◌, subst, arith, length-map}
+use Rattle.xa_words.specs.{tran_of}
+use Rattle.xa_driver.specs.{Branch, Ask, AllCanAsk, AreRising, SameAsks, first_ask, IsTranOf}
 use Rattle.xa_driver.proofs.Calls.{first_can, first_rising, tran_first}
 use Rattle.xa_driver.proofs.Gathering.{same_itself}
 use Rattle.xa_driver.proofs.stages.begin_prepare.Goals as goal

@@ -1,6 +1,6 @@
 use Rattle.xa_driver.proofs.Idling.{first_idles, idles_start}
-use Rattle.std.proofs.Common.{map}
-use Rattle.xa_driver.specs.Rounds.{first_ask}
+use Rattle.xa_base.proofs.{map}
+use Rattle.xa_driver.specs.{first_ask}
 use Rattle.xa_driver.proofs.Ordering.{whole_in_order}
 use Rattle.xa_driver.proofs.stages.prepare_all.Goals as goal
 

@@ -1,6 +1,6 @@
-use Rattle.std.proofs.Common.{inl, inr, refl}
-use Rattle.xa_log.specs.Log.{with_record}
-use Rattle.xa_driver.specs.Decision.{yes_of}
+use Rattle.xa_base.proofs.{inl, inr, refl}
+use Rattle.xa_log.specs.{with_record}
+use Rattle.xa_driver.specs.{yes_of}
 use Rattle.xa_durable.proofs.Found.{unforgotten}
 use Rattle.xa_durable.proofs.crashes.crashed_appends_are_cuts.Goals as goal
 

@@ -1,5 +1,5 @@
-use Rattle.std.proofs.Common.{sym, ap, ◌∙◌}
-use Rattle.xa_file_log.specs.Slots.{records_of}
+use Rattle.xa_base.proofs.{sym, ap, ◌∙◌}
+use Rattle.xa_file_log.specs.{records_of}
 use Rattle.xa_durable.proofs.crashes.files_have_one_log.Goals as goal
 
 pub returns : goal.returns

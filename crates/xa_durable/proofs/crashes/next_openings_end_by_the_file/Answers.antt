@@ -1,6 +1,6 @@
-use Rattle.std.proofs.Common.{◌≡◌, [], ap, ◌∙◌}
-use Rattle.xa_log.specs.Log.{Records, record_in}
-use Rattle.xa_atomicity.specs.Resolution.{cuts, resolves, with_use}
+use Rattle.xa_base.proofs.{◌≡◌, [], ap, ◌∙◌}
+use Rattle.xa_log.specs.{Records, record_in}
+use Rattle.xa_atomicity.specs.{cuts, resolves, with_use}
 use Rattle.xa_durable.proofs.Found.{unforgotten}
 use Rattle.xa_durable.proofs.crashes.next_openings_end_by_the_file.Goals as goal
 

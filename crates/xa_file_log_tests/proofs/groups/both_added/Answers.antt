@@ -1,12 +1,8 @@
-use Rattle.std.proofs.Common.{◌≡◌, Bool, true, false, cond, None, Some, Option, List, refl, sym, ◌∙◌, ap}
-use Rattle.xa_base.proofs.Options.{is_missing}
-use Rattle.std.specs.Ordering.{eq_by_cmp}
-use Rattle.std.specs.Cmp.{eq_by_cmp_equiv}
+use Rattle.xa_base.proofs.{◌≡◌, Bool, true, false, cond, None, Some, Option, List, refl, sym, ◌∙◌, ap, is_missing, eq_by_cmp, eq_by_cmp_equiv, get-insert}
 use Rattle.std.specs.FinMap as finmap
-use Rattle.std.specs.FinMap.{get-insert}
-use Rattle.xa_log.specs.Transactions.{tran_cmp}
+use Rattle.xa_log.specs.{tran_cmp}
 use Rattle.xa_log.proofs.Transactions.{tran_cmp_total, tran_eq-by_cmp}
-use Rattle.xa_file_log.specs.Memory.{records_in}
+use Rattle.xa_file_log.specs.{records_in}
 use Rattle.xa_file_log_tests.proofs.groups.both_added.Goals as goal
 
 pub append_all-requires-clause-new : goal.append_all-requires-clause-new

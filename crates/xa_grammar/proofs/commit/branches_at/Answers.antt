@@ -1,9 +1,9 @@
-use Rattle.std.specs.Prelude.{◌∷◌, Ok, Some, None, codes}
+use Rattle.xa_base.proofs.{◌∷◌, Ok, Some, None, ◌≡◌, true, false, ap, sym, ◌∙◌, rules, err_from_is_err_and}
+use Rattle.std.specs.Prelude.{codes}
 use Rattle.std.specs.Str.{bytes_eq}
-use Rattle.std.proofs.Common.{◌≡◌, true, false, ap, sym, ◌∙◌, rules}
-use Rattle.std.proofs.lemmas.Result.{err_from_is_err_and}
 use Rattle.xa_grammar.specs.Fields.{◌>>=◌}
-use Rattle.xa_grammar.specs.Commits.{managers_to_end, goes_on}
+use Rattle.xa_grammar.specs.{managers_to_end}
+use Rattle.xa_grammar.specs.Commits.{goes_on}
 use Rattle.xa_grammar.proofs.CommitLemmas.{first_number, no_first_number, next_number, no_next_number, dies_so, dies_nowhere, no_more_numbers, with_death}
 use Rattle.xa_grammar.proofs.commit.branches_at.Goals as goal
 

@@ -1,6 +1,7 @@
-use Rattle.std.proofs.Common.{◌≡◌, length}
+use Rattle.xa_base.proofs.{◌≡◌, length}
 use Rattle.xa_grammar.specs.Fields.{◌>>=◌}
-use Rattle.xa_grammar.specs.Commits.{managers_to_end, branches_at, goes_on}
+use Rattle.xa_grammar.specs.{managers_to_end, branches_at}
+use Rattle.xa_grammar.specs.Commits.{goes_on}
 use Rattle.xa_grammar.proofs.CommitLemmas.{with_death}
 use Rattle.xa_grammar.proofs.commit.branches_at.Given as goal
 

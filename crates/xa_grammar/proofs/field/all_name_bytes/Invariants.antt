@@ -1,6 +1,5 @@
-use Rattle.std.proofs.Common.{◌≡◌, take}
-use Rattle.std.specs.List.{list_all}
-use Rattle.xa_grammar.specs.Fields.{is_name_byte}
+use Rattle.xa_base.proofs.{◌≡◌, take, list_all}
+use Rattle.xa_grammar.specs.{is_name_byte}
 use Rattle.xa_grammar.proofs.field.all_name_bytes.Given as goal
 
 abbrev pub invariant-loop-b : goal.invariant-loop-b

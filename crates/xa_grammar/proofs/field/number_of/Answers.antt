@@ -1,4 +1,4 @@
-use Rattle.std.proofs.Common.{◌<◌, arith, length}
+use Rattle.xa_base.proofs.{◌<◌, arith, length}
 use Rattle.xa_grammar.proofs.Numbers.{digits_fit}
 use Rattle.xa_grammar.proofs.field.number_of.Goals as goal
 

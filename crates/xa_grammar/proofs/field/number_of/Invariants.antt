@@ -1,5 +1,5 @@
-use Rattle.std.proofs.Common.{◌≡◌, ◌<◌, ◌^◌, take, true}
-use Rattle.xa_grammar.specs.Fields.{all_digits, decimal_value}
+use Rattle.xa_base.proofs.{◌≡◌, ◌<◌, ◌^◌, take, true}
+use Rattle.xa_grammar.specs.{all_digits, decimal_value}
 use Rattle.xa_grammar.proofs.field.number_of.Given as goal
 
 abbrev pub invariant-loop-b : goal.invariant-loop-b

@@ -1,8 +1,6 @@
-use Rattle.std.specs.Prelude.{◌≡◌, ◌-◌, true, false, length, take, drop}
-use Rattle.std.specs.List.{list_all}
-use Rattle.std.proofs.Common.{rules, arith, sym, ap, ◌∙◌}
+use Rattle.xa_base.proofs.{◌≡◌, ◌-◌, true, false, length, take, drop, list_all, rules, arith, sym, ap, ◌∙◌}
 use Rattle.std.proofs.lemmas.List.{take_rest}
-use Rattle.xa_grammar.specs.Text.{is_script_byte}
+use Rattle.xa_grammar.specs.{is_script_byte}
 use Rattle.xa_grammar.proofs.Blocks.{block_more, block_bad, block_last}
 use Rattle.xa_grammar.proofs.line.are_script_blocks.Goals as goal
 

@@ -1,6 +1,5 @@
-use Rattle.std.proofs.Common.{◌≡◌, ◌≤◌, ◌+◌, ◌-◌, true, take}
-use Rattle.std.specs.List.{list_all}
-use Rattle.xa_grammar.specs.Text.{is_script_byte}
+use Rattle.xa_base.proofs.{◌≡◌, ◌≤◌, ◌+◌, ◌-◌, true, take, list_all}
+use Rattle.xa_grammar.specs.{is_script_byte}
 use Rattle.xa_grammar.proofs.line.are_script_blocks.Given as goal
 
 abbrev pub invariant-loop-start : goal.invariant-loop-start

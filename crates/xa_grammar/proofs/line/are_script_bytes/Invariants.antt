@@ -1,6 +1,5 @@
-use Rattle.std.proofs.Common.{◌≡◌, take}
-use Rattle.std.specs.List.{list_all}
-use Rattle.xa_grammar.specs.Text.{is_script_byte}
+use Rattle.xa_base.proofs.{◌≡◌, take, list_all}
+use Rattle.xa_grammar.specs.{is_script_byte}
 use Rattle.xa_grammar.proofs.line.are_script_bytes.Given as goal
 
 abbrev pub invariant-loop-b : goal.invariant-loop-b

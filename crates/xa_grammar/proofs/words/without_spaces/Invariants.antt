@@ -1,5 +1,5 @@
-use Rattle.std.proofs.Common.{◌≡◌, ◌≤◌, ◌-◌, length, drop}
-use Rattle.xa_grammar.specs.Text.{words_of}
+use Rattle.xa_base.proofs.{◌≡◌, ◌≤◌, ◌-◌, length, drop}
+use Rattle.xa_grammar.specs.{words_of}
 use Rattle.xa_grammar.proofs.words.without_spaces.Given as goal
 
 abbrev pub invariant-loop-start : goal.invariant-loop-start

@@ -1,5 +1,5 @@
-use Rattle.std.proofs.Common.{◌≤◌, ◌-◌, length, take}
-use Rattle.xa_grammar.specs.Text.{IsWord}
+use Rattle.xa_base.proofs.{◌≤◌, ◌-◌, length, take}
+use Rattle.xa_grammar.specs.{IsWord}
 use Rattle.xa_grammar.proofs.words.word_len.Given as goal
 
 abbrev pub invariant-loop-end : goal.invariant-loop-end

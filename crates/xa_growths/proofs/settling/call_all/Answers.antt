@@ -1,8 +1,7 @@
 use Rattle.std.proofs.Common.{◌≡◌, List, length, map, sym, ap, ◌∙◌, arith}
 use Rattle.std.proofs.lemmas.List.{length-map}
-use Rattle.xa_worker.specs.Seats.{WorkerSeat}
-use Rattle.xa_worker.specs.Workers.{WorkerView}
-use Rattle.xa_switch.specs.Belonging.{seat_of_worker}
+use Rattle.xa_worker.specs.{WorkerSeat, WorkerView}
+use Rattle.xa_switch.specs.{seat_of_worker}
 use Rattle.xa_growths.proofs.settling.call_all.Goals as goal
 
 -- as many workers as seats

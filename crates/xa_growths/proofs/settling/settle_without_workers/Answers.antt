@@ -2,8 +2,8 @@ use Rattle.std.proofs.Common.{List, [], sym, subst}
 use Rattle.std.proofs.lemmas.List.{append-nil}
 use Rattle.std.specs.List.Sorted.{IsPermutation}
 use Rattle.std.proofs.lemmas.List.Sorted.{IsPermutation-refl}
-use Rattle.xa_worker.specs.Done.{Served}
-use Rattle.xa_switch.specs.Belonging.{ComeFromOpenings, desk_seats, worker_seats}
+use Rattle.xa_worker.specs.{Served}
+use Rattle.xa_switch.specs.{ComeFromOpenings, desk_seats, worker_seats}
 use Rattle.xa_switch.proofs.Mixing.{some_come}
 use Rattle.xa_growths.proofs.settling.settle_without_workers.Goals as goal
 

@@ -1,5 +1,5 @@
-use Rattle.std.proofs.Common.{◌≡◌, ℕ, ◌<◌, true}
-use Rattle.xa_lane.specs.Closing.{has_end}
+use Rattle.xa_base.proofs.{◌≡◌, ℕ, ◌<◌, true}
+use Rattle.xa_lane.specs.{has_end}
 use Rattle.xa_lane.proofs.closing.are_whole.Given as goal
 
 abbrev pub invariant-loop-sender : goal.invariant-loop-sender

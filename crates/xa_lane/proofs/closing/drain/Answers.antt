@@ -1,6 +1,5 @@
-use Rattle.std.proofs.Common.{◌≡◌, ◌<◌, ◌∷◌, [], ◌++◌, length, Some, sym, ap, ◌∙◌, arith, rules}
-use Rattle.xa_lane.specs.declared.parcel.Parcel.{Parcel}
-use Rattle.xa_lane.specs.Closing.{items_in}
+use Rattle.xa_base.proofs.{◌≡◌, ◌<◌, ◌∷◌, [], ◌++◌, length, Some, sym, ap, ◌∙◌, arith, rules}
+use Rattle.xa_lane.specs.{Parcel, items_in}
 use Rattle.xa_lane.proofs.Keeps.{gets, receiver_learning}
 use Rattle.xa_lane.proofs.Counts.{drained, room_for}
 use Rattle.xa_lane.proofs.Parcels.{one_more, no_more}

@@ -1,10 +1,7 @@
-use Rattle.std.proofs.Common.{◌≡◌, ◌≤◌, ◌++◌, List, vec_capacity}
+use Rattle.xa_base.proofs.{◌≡◌, ◌≤◌, ◌++◌, List, vec_capacity}
 use Rattle.crossbeam_queue.specs.Passes.{view, IsPassOf}
-use Rattle.xa_lane.specs.declared.parcel.Parcel.{Parcel}
-use Rattle.xa_lane.specs.declared.order.View.TheVariants.{Receives}
-use Rattle.xa_base.specs.declared.limits.TheConstants.{MOST_QUEUED}
-use Rattle.xa_lane.specs.Order.{made_in, taken_in, told_in}
-use Rattle.xa_lane.specs.Closing.{items_in}
+use Rattle.xa_lane.specs.{Parcel, Receives, made_in, taken_in, told_in, items_in}
+use Rattle.xa_base.specs.{MOST_QUEUED}
 use Rattle.xa_lane.proofs.closing.drain.Given as goal
 
 abbrev pub invariant-loop : goal.invariant-loop

@@ -1,9 +1,6 @@
-use Rattle.std.proofs.Common.{◌≡◌, ◌++◌, map, length}
-use Rattle.std.specs.Vec.Iter.{into_iter_items, into_iter_len}
+use Rattle.xa_base.proofs.{◌≡◌, ◌++◌, map, length, into_iter_items, into_iter_len}
 use Rattle.crossbeam_queue.specs.Passes.{view, IsPassOf}
-use Rattle.xa_lane.specs.declared.order.View.TheVariants.{Receives}
-use Rattle.xa_lane.specs.Order.{made_in, taken_in}
-use Rattle.xa_lane.specs.Closing.{told_of}
+use Rattle.xa_lane.specs.{Receives, made_in, taken_in, told_of}
 use Rattle.xa_lane.proofs.closing.take_in.Given as goal
 
 abbrev pub invariant-loop-end : goal.invariant-loop-end

@@ -1,9 +1,6 @@
-use Rattle.std.proofs.Common.{◌≡◌, sym, ap, ◌∙◌, subst, refl}
-use Rattle.std.specs.List.{All}
+use Rattle.xa_base.proofs.{◌≡◌, sym, ap, ◌∙◌, subst, refl, All}
 use Rattle.crossbeam_queue.specs.Passes.{view}
-use Rattle.xa_lane.specs.Order.{made_in, taken_in}
-use Rattle.xa_lane.specs.Ends.{Sending, Receiving, line_of}
-use Rattle.xa_lane.specs.Closing.{IsWhole}
+use Rattle.xa_lane.specs.{made_in, taken_in, Sending, Receiving, line_of, IsWhole}
 use Rattle.xa_lane.proofs.Closes.{covers_as, marked_as, known_as, conserves_of_ends, leaves_nothing, knows_itself, knows_no_end}
 use Rattle.xa_lane.proofs.lane.close_lane.Goals as goal
 

@@ -1,8 +1,6 @@
-use Rattle.std.proofs.Common.{◌≡◌, []}
-use Rattle.std.specs.Arc.{arc_value}
+use Rattle.xa_base.proofs.{◌≡◌, [], arc_value}
 use Rattle.crossbeam_queue.specs.Passes.{view, IsPassOf, ruled_capacity}
-use Rattle.xa_lane.specs.declared.order.View.TheVariants.{Receives}
-use Rattle.xa_lane.specs.Ends.{line_of, new_senders}
+use Rattle.xa_lane.specs.{Receives, line_of, new_senders}
 use Rattle.xa_lane.proofs.lane.new_lane.Given as goal
 
 abbrev pub invariant-loop-index : goal.invariant-loop-index

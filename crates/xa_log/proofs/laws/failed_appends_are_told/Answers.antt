@@ -1,5 +1,5 @@
-use Rattle.std.proofs.Common.{◌≡◌, ◌+◌, ◌%◌, ◌^◌, ap, arith}
-use Rattle.xa_log.specs.Log.{LogState}
+use Rattle.xa_base.proofs.{◌≡◌, ◌+◌, ◌%◌, ◌^◌, ap, arith}
+use Rattle.xa_log.specs.{LogState}
 use Rattle.xa_log.proofs.laws.failed_appends_are_told.Goals as goal
 
 pub returns : goal.returns

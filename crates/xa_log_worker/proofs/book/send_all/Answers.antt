@@ -1,7 +1,5 @@
-use Rattle.std.proofs.Common.{◌≡◌, ◌+◌, ◌<◌, ◌++◌, ◌∷◌, [], length, set, ap, sym, subst, take, length-set, arith, ◌∙◌}
-use Rattle.std.proofs.lemmas.List.{take_more}
-use Rattle.xa_log_worker.specs.declared.ask.Answered.{Answered}
-use Rattle.xa_log_worker.specs.Moves.{SentBy}
+use Rattle.xa_base.proofs.{◌≡◌, ◌+◌, ◌<◌, ◌++◌, ◌∷◌, [], length, set, ap, sym, subst, take, length-set, arith, ◌∙◌, take_more}
+use Rattle.xa_log_worker.specs.{Answered, SentBy}
 use Rattle.xa_log_worker.proofs.Moves.{lane_sent, sent-chain}
 use Rattle.xa_log_worker.proofs.book.send_all.Goals as goal
 

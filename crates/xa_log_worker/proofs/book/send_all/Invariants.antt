@@ -1,5 +1,5 @@
-use Rattle.std.proofs.Common.{◌≡◌, take, length}
-use Rattle.xa_log_worker.specs.Moves.{SentBy}
+use Rattle.xa_base.proofs.{◌≡◌, take, length}
+use Rattle.xa_log_worker.specs.{SentBy}
 use Rattle.xa_log_worker.proofs.book.send_all.Given as goal
 
 abbrev pub invariant-loop-one : goal.invariant-loop-one

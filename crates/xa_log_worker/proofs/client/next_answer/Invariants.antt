@@ -1,5 +1,5 @@
-use Rattle.std.specs.Prelude.{◌≡◌}
-use Rattle.xa_lane.specs.Ends.{SameReceiver}
+use Rattle.xa_base.proofs.{◌≡◌}
+use Rattle.xa_lane.specs.{SameReceiver}
 use Rattle.xa_log_worker.proofs.client.next_answer.Given as goal
 
 abbrev pub invariant-loop : goal.invariant-loop

@@ -1,7 +1,5 @@
-use Rattle.std.proofs.Common.{sym, ◌∙◌}
-use Rattle.xa_base.proofs.Options.{at_ok}
-use Rattle.xa_base.proofs.HashMaps.{one_put}
-use Rattle.xa_words.specs.Tran.{tran_eq}
+use Rattle.xa_base.proofs.{sym, ◌∙◌, at_ok, one_put}
+use Rattle.xa_words.specs.{tran_eq}
 use Rattle.xa_log.proofs.Transactions.{tran_cmp_total, tran_cmp-IsAntisymmetric, tran_eq-by_cmp}
 use Rattle.xa_log_worker.proofs.client.put.Goals as goal
 

@@ -1,7 +1,6 @@
-use Rattle.std.proofs.Common.{◌≡◌, ◌++◌, take, map}
-use Rattle.std.specs.Prelude.{vec_capacity}
+use Rattle.xa_base.proofs.{◌≡◌, ◌++◌, take, map, vec_capacity}
 use Rattle.xa_log_worker.specs.declared.ask.Deed.TheVariants.{Answers}
-use Rattle.xa_log_worker.specs.Deeds.{answer_each, deeds_in}
+use Rattle.xa_log_worker.specs.{answer_each, deeds_in}
 use Rattle.xa_log_worker.proofs.group.answer_all.Given as goal
 
 abbrev pub invariant-loop-one : goal.invariant-loop-one

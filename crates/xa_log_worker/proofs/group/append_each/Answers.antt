@@ -1,7 +1,6 @@
-use Rattle.std.proofs.Common.{◌≡◌, ◌+◌, ◌++◌, ◌∷◌, [], ap, sym, subst, refl, take, drop, true, ◌∙◌}
-use Rattle.std.proofs.lemmas.List.{take_more}
-use Rattle.xa_log.specs.Log.{AreNew}
-use Rattle.xa_log_worker.specs.Deeds.{answered_by, records_in}
+use Rattle.xa_base.proofs.{◌≡◌, ◌+◌, ◌++◌, ◌∷◌, [], ap, sym, subst, refl, take, drop, true, ◌∙◌, take_more}
+use Rattle.xa_log.specs.{AreNew}
+use Rattle.xa_log_worker.specs.{answered_by, records_in}
 use Rattle.xa_log_worker.proofs.Deeds.{new_after}
 use Rattle.xa_log_worker.proofs.Groups.{settles_next, drop_more}
 use Rattle.xa_log_worker.proofs.group.append_each.Goals as goal

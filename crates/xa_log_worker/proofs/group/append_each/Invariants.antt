@@ -1,7 +1,6 @@
-use Rattle.std.proofs.Common.{◌≡◌, true, take, drop}
-use Rattle.std.specs.Prelude.{vec_capacity}
-use Rattle.xa_log.specs.Log.{AreNew}
-use Rattle.xa_log_worker.specs.Deeds.{IsToldBy, Settles, records_in}
+use Rattle.xa_base.proofs.{◌≡◌, true, take, drop, vec_capacity}
+use Rattle.xa_log.specs.{AreNew}
+use Rattle.xa_log_worker.specs.{IsToldBy, Settles, records_in}
 use Rattle.xa_log_worker.proofs.group.append_each.Given as goal
 
 abbrev pub invariant-loop-one : goal.invariant-loop-one

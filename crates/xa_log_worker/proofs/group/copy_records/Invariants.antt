@@ -1,6 +1,5 @@
-use Rattle.std.proofs.Common.{◌≡◌, take}
-use Rattle.std.specs.Prelude.{vec_capacity}
-use Rattle.xa_log_worker.specs.Deeds.{records_in}
+use Rattle.xa_base.proofs.{◌≡◌, take, vec_capacity}
+use Rattle.xa_log_worker.specs.{records_in}
 use Rattle.xa_log_worker.proofs.group.copy_records.Given as goal
 
 abbrev pub invariant-loop-one : goal.invariant-loop-one

@@ -1,9 +1,8 @@
-use Rattle.std.proofs.Common.{◌≡◌, ◌≤◌, [], true, ap, refl, rules, arith, length, ◌∙◌}
-use Rattle.std.specs.HashMap.{spare}
+use Rattle.xa_base.proofs.{◌≡◌, ◌≤◌, [], true, ap, refl, rules, arith, length, ◌∙◌, spare}
 use Rattle.std.proofs.lemmas.Grind.{common_steps}
-use Rattle.xa_log.specs.Log.{no_records}
-use Rattle.xa_log_worker.specs.Asking.{Answers, records_of}
-use Rattle.xa_log_worker.specs.declared.ask.Ask.{Ask}
+use Rattle.xa_log.specs.{no_records}
+use Rattle.xa_log_worker.specs.Asking.{Answers}
+use Rattle.xa_log_worker.specs.{records_of, Ask}
 use Rattle.xa_log_worker.proofs.Openings.{as_many, pushed_all}
 use Rattle.xa_log_worker.proofs.opening.open_parts.Goals as goal
 

@@ -1,9 +1,6 @@
-use Rattle.std.proofs.Common.{◌≡◌, ◌≤◌, ◌++◌, [], true, length}
-use Rattle.std.specs.List.{All}
-use Rattle.std.specs.HashMap.{spare}
-use Rattle.std.specs.Vec.Iter.{into_iter_items, into_iter_len}
-use Rattle.xa_log.specs.Log.{no_records}
-use Rattle.xa_log_worker.specs.Asking.{records_of}
+use Rattle.xa_base.proofs.{◌≡◌, ◌≤◌, ◌++◌, [], true, length, All, spare, into_iter_items, into_iter_len}
+use Rattle.xa_log.specs.{no_records}
+use Rattle.xa_log_worker.specs.{records_of}
 use Rattle.xa_log_worker.proofs.opening.open_parts.Given as goal
 
 abbrev pub invariant-loop-sender : goal.invariant-loop-sender

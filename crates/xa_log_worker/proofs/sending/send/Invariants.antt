@@ -1,5 +1,5 @@
-use Rattle.std.specs.Prelude.{◌≡◌}
-use Rattle.xa_lane.specs.Senders.{but_full}
+use Rattle.xa_base.proofs.{◌≡◌}
+use Rattle.xa_lane.specs.{but_full}
 use Rattle.xa_log_worker.proofs.sending.send.Given as goal
 
 abbrev pub invariant-loop : goal.invariant-loop

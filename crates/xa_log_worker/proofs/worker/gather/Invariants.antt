@@ -1,7 +1,6 @@
-use Rattle.std.proofs.Common.{◌≡◌, true, length}
-use Rattle.xa_log.specs.Log.{AreNew}
-use Rattle.xa_log_worker.specs.Deeds.{records_in}
-use Rattle.xa_log_worker.specs.Moves.{Works}
+use Rattle.xa_base.proofs.{◌≡◌, true, length}
+use Rattle.xa_log.specs.{AreNew}
+use Rattle.xa_log_worker.specs.{records_in, Works}
 use Rattle.xa_log_worker.proofs.worker.gather.Given as goal
 
 abbrev pub invariant-loop : goal.invariant-loop

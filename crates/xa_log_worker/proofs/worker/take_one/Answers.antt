@@ -1,6 +1,6 @@
-use Rattle.std.proofs.Common.{ap, ◌∙◌}
-use Rattle.xa_lane.specs.Ends.{received}
-use Rattle.xa_log_worker.specs.Asking.{Asked}
+use Rattle.xa_base.proofs.{ap, ◌∙◌}
+use Rattle.xa_lane.specs.{received}
+use Rattle.xa_log_worker.specs.{Asked}
 use Rattle.xa_log_worker.proofs.Moves.{works_none, works_one}
 use Rattle.xa_log_worker.proofs.Requests.{received_end}
 use Rattle.xa_log_worker.proofs.worker.take_one.Goals as goal

@@ -1,8 +1,7 @@
-use Rattle.std.proofs.Common.{◌≡◌, ◌+◌, ◌++◌, ◌∷◌, [], take, ap, sym, ◌∙◌}
+use Rattle.xa_base.proofs.{◌≡◌, ◌+◌, ◌++◌, ◌∷◌, [], take, ap, sym, ◌∙◌, take_more}
 use Rattle.std.specs.FinMap.{insert}
-use Rattle.std.proofs.lemmas.List.{take_more}
-use Rattle.xa_log_worker.specs.Asking.{records_of}
-use Rattle.xa_log_worker_tests.specs.Puts.{put_records}
+use Rattle.xa_log_worker.specs.{records_of}
+use Rattle.xa_log_worker_tests.specs.{put_records}
 use Rattle.xa_log_worker_tests.proofs.Puts.{put_one_more}
 use Rattle.xa_log_worker_tests.proofs.counted.put_all.Goals as goal
 

@@ -1,6 +1,6 @@
-use Rattle.std.proofs.Common.{◌≡◌, take}
-use Rattle.xa_log_worker.specs.Asking.{records_of}
-use Rattle.xa_log_worker_tests.specs.Puts.{put_records}
+use Rattle.xa_base.proofs.{◌≡◌, take}
+use Rattle.xa_log_worker.specs.{records_of}
+use Rattle.xa_log_worker_tests.specs.{put_records}
 use Rattle.xa_log_worker_tests.proofs.counted.put_all.Given as goal
 
 abbrev pub invariant-loop-decision : goal.invariant-loop-decision

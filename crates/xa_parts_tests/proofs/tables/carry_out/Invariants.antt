@@ -1,4 +1,4 @@
-use Rattle.std.proofs.Common.{◌≡◌}
+use Rattle.xa_base.proofs.{◌≡◌}
 use Rattle.xa_parts_tests.proofs.tables.carry_out.Given as goal
 
 -- the manager's threads stay

@@ -1,6 +1,5 @@
-use Rattle.std.proofs.Common.{◌≡◌, ◌-◌, ◌≤◌, length, slice_index_or, sym, ap, ◌∙◌, subst, arith}
-use Rattle.std.specs.Arc.{arc_value}
-use Rattle.xa_scan.specs.Left.{left_at}
+use Rattle.xa_base.proofs.{◌≡◌, ◌-◌, ◌≤◌, length, slice_index_or, sym, ap, ◌∙◌, subst, arith, arc_value}
+use Rattle.xa_scan.specs.{left_at}
 use Rattle.xa_scan.proofs.Standing.{left_is}
 use Rattle.xa_scan.proofs.Scan.left.Goals as goal
 

@@ -1,5 +1,5 @@
-use Rattle.std.proofs.Common.{subst, ◌-◌, ◌≤◌, IfSome, None, length, slice_index_or}
-use Rattle.xa_scan.specs.Left.{scan_of, left_at}
+use Rattle.xa_base.proofs.{subst, ◌-◌, ◌≤◌, IfSome, None, length, slice_index_or}
+use Rattle.xa_scan.specs.{scan_of, left_at}
 use Rattle.xa_scan.proofs.Standing.{stands_within}
 use Rattle.xa_scan.proofs.Scan.place.Goals as goal
 

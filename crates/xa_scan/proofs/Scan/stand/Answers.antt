@@ -1,5 +1,5 @@
-use Rattle.std.proofs.Common.{◌≤◌, IfSome, length, subst, sym}
-use Rattle.xa_scan.specs.Left.{scan_of, left_at}
+use Rattle.xa_base.proofs.{◌≤◌, IfSome, length, subst, sym}
+use Rattle.xa_scan.specs.{scan_of, left_at}
 use Rattle.xa_scan.proofs.Standing.{still_within}
 use Rattle.xa_scan.proofs.Scan.stand.Goals as goal
 

@@ -1,4 +1,4 @@
-use Rattle.std.proofs.Common.{◌<◌, sym, ◌∙◌, subst, ℕ}
+use Rattle.xa_base.proofs.{◌<◌, sym, ◌∙◌, subst, ℕ}
 use Rattle.xa_script.proofs.Faults.{nothing_shown, faulty}
 use Rattle.xa_script.proofs.entry.program.Goals as goal
 

@@ -1,4 +1,4 @@
-use Rattle.std.proofs.Common.{◌∙◌}
+use Rattle.xa_base.proofs.{◌∙◌}
 use Rattle.xa_script.proofs.Parts.{five_parts, writes_some}
 use Rattle.xa_script.proofs.entry.put_line.Goals as goal
 

@@ -1,12 +1,9 @@
-use Rattle.std.proofs.Common.{◌≡◌, false, ◌++◌, ◌∷◌, [], List, sym, ap, ◌∙◌, append_assoc, append-nil}
-use Rattle.std.specs.List.{flat_map}
-use Rattle.std.specs.Vec.Iter.{into_iter_items}
+use Rattle.xa_base.proofs.{◌≡◌, false, ◌++◌, ◌∷◌, [], List, sym, ap, ◌∙◌, append_assoc, append-nil, flat_map, into_iter_items, All-push}
 use Rattle.std.proofs.lemmas.List.Concat.{flat_map-append}
-use Rattle.std.proofs.lemmas.List.Elements.{All-push}
-use Rattle.xa_crew.specs.declared.client_job.Attended.{Attended}
-use Rattle.xa_session.specs.declared.script_thread.ScriptThread.{ScriptThread}
-use Rattle.xa_transcript.specs.Text.{line_text, lines_text}
-use Rattle.xa_script.specs.InThreads.{told_by}
+use Rattle.xa_crew.specs.{Attended}
+use Rattle.xa_session.specs.{ScriptThread}
+use Rattle.xa_transcript.specs.{line_text, lines_text}
+use Rattle.xa_script.specs.{told_by}
 use Rattle.xa_script.proofs.in_threads.lines_of.Goals as goal
 
 -- no memory was refused to the thread

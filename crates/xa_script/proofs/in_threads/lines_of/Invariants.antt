@@ -1,9 +1,6 @@
-use Rattle.std.proofs.Common.{◌≡◌, ◌++◌, false}
-use Rattle.std.specs.Prelude.{All}
-use Rattle.std.specs.List.{flat_map}
-use Rattle.std.specs.Vec.Iter.{into_iter_items}
-use Rattle.xa_transcript.specs.Text.{lines_text}
-use Rattle.xa_script.specs.InThreads.{told_by}
+use Rattle.xa_base.proofs.{◌≡◌, ◌++◌, false, All, flat_map, into_iter_items}
+use Rattle.xa_transcript.specs.{lines_text}
+use Rattle.xa_script.specs.{told_by}
 use Rattle.xa_script.proofs.in_threads.lines_of.Given as goal
 
 -- the first threads have told

@@ -1,25 +1,17 @@
-use Rattle.std.proofs.Common.{◌≡◌, ℕ, ◌+◌, List, [], map, Some, refl, sym, ◌∙◌, subst, arith}
-use Rattle.std.specs.Prelude.{All, slice_get}
-use Rattle.std.specs.List.{flat_map}
-use Rattle.std.proofs.lemmas.List.Elements.{All-nil}
+use Rattle.xa_base.proofs.{◌≡◌, ℕ, ◌+◌, List, [], map, Some, refl, sym, ◌∙◌, subst, arith, All, slice_get, flat_map, All-nil, was_mapped}
 use Rattle.xa_base.specs.Lists.Chain.{none}
-use Rattle.xa_base.proofs.Lists.{was_mapped}
 use Rattle.xa_desk.specs.DeskView.{DeskView}
-use Rattle.xa_desk.specs.Ended.{EndedView}
-use Rattle.xa_switch.specs.Plans.{planned}
-use Rattle.xa_grammar.specs.Content.{Content, Fits, threads_of, managers_of, AreOfOne}
-use Rattle.xa_crew.specs.Run.{Member, IsRun}
-use Rattle.xa_transcript.specs.declared.answer.Told.{Told}
-use Rattle.xa_session.specs.declared.session.Session.{Session}
-use Rattle.xa_session.specs.declared.script_thread.ScriptThread.{ScriptThread}
-use Rattle.xa_session.specs.ScriptThreads.{Works}
-use Rattle.xa_session.specs.Sessions.{new_session}
-use Rattle.xa_telling.specs.ToldOpenings.{Former, beginning}
-use Rattle.xa_telling.specs.Planning.{AreOpened}
-use Rattle.xa_telling.specs.Runs.{BeginsAs}
-use Rattle.xa_transcript.specs.Values.{opened}
+use Rattle.xa_desk.specs.{EndedView}
+use Rattle.xa_switch.specs.{planned}
+use Rattle.xa_grammar.specs.Content.{Content}
+use Rattle.xa_grammar.specs.{Fits, threads_of, managers_of, AreOfOne}
+use Rattle.xa_crew.specs.{Member, IsRun}
+use Rattle.xa_transcript.specs.{Told, opened}
+use Rattle.xa_session.specs.{Session, ScriptThread, Works, new_session}
+use Rattle.xa_telling.specs.{Former, beginning, AreOpened, BeginsAs}
 use Rattle.xa_telling.proofs.Opened.{map_map, planned_setup}
-use Rattle.xa_script.specs.InThreads.{InThreads, told_by}
+use Rattle.xa_script.specs.InThreads.{InThreads}
+use Rattle.xa_script.specs.{told_by}
 use Rattle.xa_script.proofs.Runs.{threads_ran}
 use Rattle.xa_script.proofs.Members.{members_worked, members_tell, as_many_new}
 use Rattle.xa_script.proofs.in_threads.run.Goals as goal

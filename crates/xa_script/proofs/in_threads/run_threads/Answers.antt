@@ -1,4 +1,4 @@
-use Rattle.std.proofs.Common.{[], ◌∙◌}
+use Rattle.xa_base.proofs.{[], ◌∙◌}
 use Rattle.xa_command.specs.declared.mode.Mode.TheVariants as mode
 use Rattle.xa_script.proofs.Results.{on_ok}
 use Rattle.xa_script.proofs.in_threads.run_threads.Goals as goal

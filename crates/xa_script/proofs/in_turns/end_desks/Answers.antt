@@ -1,11 +1,8 @@
-use Rattle.std.proofs.Common.{◌++◌, ◌∷◌, [], List, length, length-append, sym, ap, ◌∙◌, subst, refl, arith, rules}
-use Rattle.std.specs.Vec.Iter.{into_iter_items}
-use Rattle.xa_desk.specs.Ended.{EndedView}
-use Rattle.xa_desk.specs.Kept.{AllKept}
+use Rattle.xa_base.proofs.{◌++◌, ◌∷◌, [], List, length, length-append, sym, ap, ◌∙◌, subst, refl, arith, rules, into_iter_items, next_there, all_at}
+use Rattle.xa_desk.specs.{EndedView, AllKept}
 use Rattle.xa_base.specs.Lists.Chain.{none}
-use Rattle.xa_base.proofs.Lists.{next_there, all_at}
-use Rattle.xa_log.specs.declared.losing.LosingLog.{LosingLog}
-use Rattle.xa_script.specs.InTurns.{HasEndedDesk, closing_of}
+use Rattle.xa_log.specs.{LosingLog}
+use Rattle.xa_script.specs.{HasEndedDesk, closing_of}
 use Rattle.xa_script.proofs.DesksEnd.{one_more_ended, ended_count}
 use Rattle.xa_script.proofs.in_turns.end_desks.Goals as goal
 

@@ -1,6 +1,5 @@
-use Rattle.std.proofs.Common.{◌≡◌, ◌≤◌, [], length, vec_capacity}
-use Rattle.std.specs.Vec.Iter.{into_iter_items}
-use Rattle.xa_script.specs.InTurns.{closing_of}
+use Rattle.xa_base.proofs.{◌≡◌, ◌≤◌, [], length, vec_capacity, into_iter_items}
+use Rattle.xa_script.specs.{closing_of}
 use Rattle.xa_script.proofs.DesksEnd.{EndSoFar}
 use Rattle.xa_script.proofs.in_turns.end_desks.Given as goal
 

@@ -1,18 +1,15 @@
-use Rattle.std.proofs.Common.{◌≡◌, ℕ, ◌+◌, List, [], ◌∷◌, ◌++◌, take, refl, sym, ap, ◌∙◌, subst, arith}
-use Rattle.std.proofs.lemmas.List.{take_all}
-use Rattle.xa_base.specs.Lists.{IsUpTo}
+use Rattle.xa_base.proofs.{◌≡◌, ℕ, ◌+◌, List, [], ◌∷◌, ◌++◌, take, refl, sym, ap, ◌∙◌, subst, arith, take_all}
+use Rattle.xa_base.specs.{IsUpTo}
 use Rattle.xa_grammar.proofs.Taken.{take_next}
-use Rattle.xa_worker.specs.Workers.{WorkerView}
+use Rattle.xa_worker.specs.{WorkerView}
 use Rattle.xa_grammar.specs.declared.step.Step.TheVariants as step
-use Rattle.xa_grammar.specs.Steps.{ScriptStep}
-use Rattle.xa_grammar.specs.Content.{Content, Fits, IsOfScript, threads_of, managers_of}
-use Rattle.xa_transcript.specs.declared.answer.Told.{Told}
+use Rattle.xa_grammar.specs.{ScriptStep, Fits, IsOfScript, threads_of, managers_of}
+use Rattle.xa_grammar.specs.Content.{Content}
+use Rattle.xa_transcript.specs.{Told}
 use Rattle.xa_transcript.specs.declared.answer.Told.TheVariants as told
-use Rattle.xa_session.specs.declared.session.Session.{Session}
-use Rattle.xa_script.specs.declared.in_turns.Runner.{Runner}
+use Rattle.xa_session.specs.{Session}
+use Rattle.xa_script.specs.{Runner, IsOutcome, HasReached}
 use Rattle.xa_command.specs.declared.mode.Mode.TheVariants as mode
-use Rattle.xa_script.specs.Outcome.{IsOutcome}
-use Rattle.xa_script.specs.TurnsSoFar.{HasReached}
 use Rattle.xa_script.proofs.Reached.{begun, reached_threads, reached_managers, stepped, ended_so, reopened, outcome_so}
 use Rattle.xa_script.proofs.in_turns.run.Goals as goal
 use Rattle.xa_script.proofs.in_turns.run.Goals.{in-Task+in_ok-call-in-Task+in_ok-tell-in-Task, in-Turn+in_ok-tell-in-Turn}

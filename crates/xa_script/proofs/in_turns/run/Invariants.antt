@@ -1,5 +1,5 @@
-use Rattle.std.proofs.Common.{◌≤◌, ◌+◌, take}
-use Rattle.xa_script.specs.TurnsSoFar.{HasReached}
+use Rattle.xa_base.proofs.{◌≤◌, ◌+◌, take}
+use Rattle.xa_script.specs.{HasReached}
 use Rattle.xa_script.proofs.in_turns.run.Given as goal
 
 -- so far it has come by the first lines

@@ -1,15 +1,12 @@
-use Rattle.std.proofs.Common.{◌≡◌, ℕ, List, [], ◌∷◌, ◌++◌, map, sym, subst}
+use Rattle.xa_base.proofs.{◌≡◌, ℕ, List, [], ◌∷◌, ◌++◌, map, sym, subst}
 use Rattle.std.specs.Io.KnownBytes.{Appends}
 use Rattle.xa_switch.specs.Settling.{Settling}
-use Rattle.xa_grammar.specs.declared.script.Declared.{Declared}
+use Rattle.xa_grammar.specs.{Declared}
 use Rattle.xa_grammar.specs.Content.{Content}
-use Rattle.xa_transcript.specs.declared.answer.Told.{Told}
-use Rattle.xa_transcript.specs.Text.{lines_text}
-use Rattle.xa_telling.specs.ToldOpenings.{Opening, Former, settled_over}
-use Rattle.xa_transcript.specs.Transcript.{text, values_text}
-use Rattle.xa_transcript.specs.Values.{opened_after, AreOfScript, AreValues}
-use Rattle.xa_command.specs.declared.mode.Mode.{Mode}
-use Rattle.xa_script.specs.Outcome.{IsOutcome, Writes}
+use Rattle.xa_transcript.specs.{Told, lines_text, text, values_text, opened_after, AreOfScript, AreValues}
+use Rattle.xa_telling.specs.{Opening, Former, settled_over}
+use Rattle.xa_command.specs.{Mode}
+use Rattle.xa_script.specs.{IsOutcome, Writes}
 use Rattle.xa_script.proofs.Results.{on_ok}
 use Rattle.xa_script.proofs.Tellings.{managers_so, run_tells}
 use Rattle.xa_script.proofs.outcome.show.Goals as goal

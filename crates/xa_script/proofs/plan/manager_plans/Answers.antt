@@ -1,11 +1,7 @@
-use Rattle.std.proofs.Common.{◌+◌, sym, ap, ◌∙◌, ◌++◌, ◌∷◌, [], map, length, subst, arith}
-use Rattle.std.specs.Prelude.{All}
-use Rattle.std.specs.List.{range_with_len}
-use Rattle.std.proofs.lemmas.List.{map-append, length-append}
-use Rattle.std.proofs.lemmas.List.Elements.{All-push}
+use Rattle.xa_base.proofs.{◌+◌, sym, ap, ◌∙◌, ◌++◌, ◌∷◌, [], map, length, subst, arith, All, range_with_len, map-append, length-append, All-push}
 use Rattle.std.proofs.lemmas.List.FromFn.{map-range_with_len_more}
-use Rattle.xa_switch.specs.Plans.{IsSoundManager}
-use Rattle.xa_telling.specs.Planning.{script_says, plan_says}
+use Rattle.xa_switch.specs.{IsSoundManager}
+use Rattle.xa_telling.specs.{script_says, plan_says}
 use Rattle.xa_script.proofs.plan.manager_plans.Goals as goal
 
 pub loop-before-preserved : goal.loop-before-preserved

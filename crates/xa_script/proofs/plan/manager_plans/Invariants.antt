@@ -1,8 +1,6 @@
-use Rattle.std.proofs.Common.{◌≡◌, length, map}
-use Rattle.std.specs.Prelude.{All}
-use Rattle.std.specs.List.{range_with_len}
-use Rattle.xa_switch.specs.Plans.{IsSoundManager}
-use Rattle.xa_telling.specs.Planning.{script_says, plan_says}
+use Rattle.xa_base.proofs.{◌≡◌, length, map, All, range_with_len}
+use Rattle.xa_switch.specs.{IsSoundManager}
+use Rattle.xa_telling.specs.{script_says, plan_says}
 use Rattle.xa_script.proofs.plan.manager_plans.Given as goal
 
 -- the first managers have their plans

@@ -1,7 +1,6 @@
-use Rattle.std.proofs.Common.{ℤ, refl, sym, subst, arith, w32}
-use Rattle.std.proofs.lemmas.Int.{to_z-of_z, ints}
-use Rattle.xa_grammar.specs.Steps.{ScriptCalling}
-use Rattle.xa_session.specs.Calling.{Answers, HasCollected}
+use Rattle.xa_base.proofs.{ℤ, refl, sym, subst, arith, w32, to_z-of_z, ints}
+use Rattle.xa_grammar.specs.{ScriptCalling}
+use Rattle.xa_session.specs.{Answers, HasCollected}
 use Rattle.xa_session.proofs.calls.answer.Goals as goal
 
 pub returns-in-Complete-clause-answers : goal.returns-in-Complete-clause-answers

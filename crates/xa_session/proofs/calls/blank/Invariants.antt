@@ -1,5 +1,4 @@
-use Rattle.std.proofs.Common.{◌≡◌, ◌≤◌, length}
-use Rattle.std.specs.Prelude.{vec_capacity}
+use Rattle.xa_base.proofs.{◌≡◌, ◌≤◌, length, vec_capacity}
 use Rattle.xa_session.proofs.calls.blank.Given as goal
 
 abbrev pub invariant-loop : goal.invariant-loop

@@ -1,6 +1,5 @@
-use Rattle.std.proofs.Common.{subst, arith, w32, pos}
-use Rattle.std.proofs.lemmas.Int.{to_z-of_z, ints}
-use Rattle.xa_calls.specs.Completing.{HasCompleted}
+use Rattle.xa_base.proofs.{subst, arith, w32, pos, to_z-of_z, ints}
+use Rattle.xa_calls.specs.{HasCompleted}
 use Rattle.xa_session.proofs.Small.{told_fit, told_same}
 use Rattle.xa_session.proofs.calls.completed.Goals as goal
 

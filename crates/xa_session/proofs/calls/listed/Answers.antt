@@ -1,10 +1,9 @@
-use Rattle.std.proofs.Common.{◌≡◌, ℤ, true, false, List, take, pos, negsuc, refl, sym, ap, ◌∙◌, arith, w32}
-use Rattle.std.specs.Prelude.{Vec, nat_abs, int_lt}
-use Rattle.std.specs.Global.{Global}
-use Rattle.std.proofs.lemmas.Int.{to_z-of_z, ints}
-use Rattle.xa_words.specs.Xid.{XidName}
-use Rattle.xa_transcript.specs.declared.answer.Answer.TheVariants.{Recovered}
-use Rattle.xa_session.specs.Calling.{IsListed}
+use Rattle.xa_base.proofs.{◌≡◌, ℤ, true, false, List, take, pos, refl, sym, ap, ◌∙◌, arith, w32, Vec, Global, to_z-of_z, ints}
+use Rattle.std.proofs.Common.{negsuc}
+use Rattle.std.specs.Prelude.{nat_abs, int_lt}
+use Rattle.xa_words.specs.{XidName}
+use Rattle.xa_transcript.specs.{Recovered}
+use Rattle.xa_session.specs.{IsListed}
 use Rattle.xa_session.proofs.calls.listed.Goals as goal
 
 -- an answer that isn't negative tells how many were written

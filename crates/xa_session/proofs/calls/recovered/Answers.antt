@@ -1,9 +1,7 @@
-use Rattle.std.proofs.Common.{◌≡◌, ℕ, List, ◌++◌, length, take, drop, sym, ap, ◌∙◌, subst, arith, append-nil, w32}
-use Rattle.std.proofs.lemmas.Int.{to_z-of_z, ints}
-use Rattle.std.proofs.lemmas.List.{take_all, drop_all}
-use Rattle.xa_words.specs.Xid.{XidName}
-use Rattle.xa_calls.specs.Scans.{HasRecovered}
-use Rattle.xa_session.specs.Calling.{IsListed}
+use Rattle.xa_base.proofs.{◌≡◌, ℕ, List, ◌++◌, length, take, drop, sym, ap, ◌∙◌, subst, arith, append-nil, w32, to_z-of_z, ints, take_all, drop_all}
+use Rattle.xa_words.specs.{XidName}
+use Rattle.xa_calls.specs.{HasRecovered}
+use Rattle.xa_session.specs.{IsListed}
 use Rattle.xa_session.proofs.calls.recovered.Goals as goal
 
 -- what was written back is all that a slice of this length has

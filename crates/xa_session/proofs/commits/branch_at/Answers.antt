@@ -1,9 +1,7 @@
-use Rattle.std.proofs.Common.{◌≡◌, ◌≢◌, ◌≤◌, pos, true, Err, List, ℕ, length, decimal, sym, ap, ◌∙◌, arith}
-use Rattle.std.specs.Prelude.{◌&&◌, Bool}
-use Rattle.std.proofs.lemmas.Bool.{le-leb}
+use Rattle.xa_base.proofs.{◌≡◌, ◌≢◌, ◌≤◌, pos, true, Err, List, ℕ, length, sym, ap, ◌∙◌, arith, ◌&&◌, Bool, le-leb}
+use Rattle.std.proofs.Common.{decimal}
 use Rattle.std.proofs.lemmas.Fmt.{decimal_nonempty}
-use Rattle.xa_words.specs.declared.xid.XidFault.{XidFault}
-use Rattle.xa_words.specs.NewXid.{is_part, xid_of}
+use Rattle.xa_words.specs.{XidFault, is_part, xid_of}
 use Rattle.xa_session.proofs.commits.branch_at.Goals as goal
 
 both : (a b : Bool) → a ≡ true → b ≡ true → (a && b) ≡ true

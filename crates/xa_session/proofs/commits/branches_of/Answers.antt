@@ -1,14 +1,9 @@
-use Rattle.std.proofs.Common.{◌≡◌, ℕ, ◌+◌, true, false, cond, List, [], ◌∷◌, ◌++◌, length, map, filter, sym, ap, ◌∙◌, arith, length-append, append-nil}
-use Rattle.std.proofs.Common.{vec_capacity, Vec, Global}
-use Rattle.std.specs.List.{range_with_len}
-use Rattle.std.proofs.lemmas.List.{map-append}
-use Rattle.std.proofs.lemmas.List.Elements.{filter-append}
-use Rattle.xa_driver.specs.declared.branch.Branch.{Branch}
-use Rattle.xa_words.specs.Tran.{TranName}
-use Rattle.xa_words.specs.ManagerSet.{is_in}
-use Rattle.xa_grammar.specs.declared.step.CommitAll.{CommitAll}
-use Rattle.xa_session.specs.Committing.{branch_at}
-use Rattle.xa_base.proofs.Lists.{range_more}
+use Rattle.xa_base.proofs.{◌≡◌, ℕ, ◌+◌, true, false, cond, List, [], ◌∷◌, ◌++◌, length, map, filter, sym, ap, ◌∙◌, arith, length-append, append-nil}
+use Rattle.xa_base.proofs.{vec_capacity, Vec, Global, range_with_len, map-append, filter-append, range_more}
+use Rattle.xa_driver.specs.{Branch}
+use Rattle.xa_words.specs.{TranName, is_in}
+use Rattle.xa_grammar.specs.{CommitAll}
+use Rattle.xa_session.specs.{branch_at}
 use Rattle.xa_session.proofs.commits.branches_of.Goals as goal
 use Rattle.xa_session.proofs.commits.branches_of.Goals.{then-contains, else-contains}
 

@@ -1,7 +1,6 @@
-use Rattle.std.proofs.Common.{◌≡◌, ◌≤◌, length, map, filter, vec_capacity}
-use Rattle.std.specs.List.{range_with_len}
-use Rattle.xa_words.specs.ManagerSet.{is_in}
-use Rattle.xa_session.specs.Committing.{branch_at}
+use Rattle.xa_base.proofs.{◌≡◌, ◌≤◌, length, map, filter, vec_capacity, range_with_len}
+use Rattle.xa_words.specs.{is_in}
+use Rattle.xa_session.specs.{branch_at}
 use Rattle.xa_session.proofs.commits.branches_of.Given as goal
 
 -- the branches at the first managers

@@ -1,13 +1,9 @@
-use Rattle.std.proofs.Common.{◌≡◌, true, List, refl, subst}
+use Rattle.xa_base.proofs.{◌≡◌, true, List, refl, subst}
 use Rattle.xa_driver.specs.declared.done.CommitFault.TheVariants as fault
-use Rattle.xa_driver.specs.declared.branch.Branch.{Branch}
-use Rattle.xa_driver.specs.Decision.{yes_of}
-use Rattle.xa_driver.specs.Order.{IsThreeRounds}
-use Rattle.xa_driver.specs.Trace.{AppendsOnce, MayCommit, IsTraceOfCommit}
-use Rattle.xa_log.specs.Losing.{AppendsBefore}
+use Rattle.xa_driver.specs.{Branch, yes_of, IsThreeRounds, AppendsOnce, MayCommit, IsTraceOfCommit}
+use Rattle.xa_log.specs.{AppendsBefore}
 use Rattle.xa_driver.proofs.Undecided.{of_votes}
-use Rattle.xa_session.specs.Sessions.{session_of}
-use Rattle.xa_session.specs.Committing.{CanCommit, comes_to_decide, named}
+use Rattle.xa_session.specs.{session_of, CanCommit, comes_to_decide, named}
 use Rattle.xa_session.specs.Committing.CommitsAll.{decided}
 use Rattle.xa_session.proofs.Committed.{all_of_tran, was_lost}
 use Rattle.xa_session.proofs.commits.decide.Goals as goal

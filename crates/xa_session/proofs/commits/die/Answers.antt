@@ -1,17 +1,12 @@
-use Rattle.std.proofs.Common.{◌≡◌, true, List, Vec, Global, refl, sym, subst}
-use Rattle.xa_desk.specs.DeskView.{ledger}
-use Rattle.xa_driver.specs.declared.branch.Branch.{Branch}
+use Rattle.xa_base.proofs.{◌≡◌, true, List, Vec, Global, refl, sym, subst}
+use Rattle.xa_desk.specs.{ledger}
+use Rattle.xa_driver.specs.{Branch, AppendsUntil, Dies, LeavesHandles, PutsLedger, yes_of, AsksLedger, MayCommit}
 use Rattle.xa_driver.specs.declared.done.CommitFault.TheVariants as fault
-use Rattle.xa_driver.specs.Deaths.{AppendsUntil, Dies, LeavesHandles, PutsLedger}
-use Rattle.xa_driver.specs.Decision.{yes_of}
-use Rattle.xa_driver.specs.Resolving.{AsksLedger}
-use Rattle.xa_driver.specs.Trace.{MayCommit}
-use Rattle.xa_log.specs.Losing.{AppendsBefore}
+use Rattle.xa_log.specs.{AppendsBefore}
 use Rattle.xa_driver.proofs.Undecided.{of_votes}
-use Rattle.xa_session.specs.Sessions.{session_of}
+use Rattle.xa_session.specs.{session_of, CanCommit, CommitsAll, comes_to_decide, named}
 use Rattle.xa_words.specs.declared.code.Code.{Code}
-use Rattle.xa_transcript.specs.declared.answer.Answer.TheVariants.{Undecided}
-use Rattle.xa_session.specs.Committing.{CanCommit, CommitsAll, comes_to_decide, named}
+use Rattle.xa_transcript.specs.{Undecided}
 use Rattle.xa_session.specs.Committing.CommitsAll.{died}
 use Rattle.xa_session.proofs.Committed.{all_of_tran, was_lost}
 use Rattle.xa_session.proofs.commits.die.Goals as goal

@@ -1,7 +1,6 @@
-use Rattle.std.proofs.Common.{refl}
-use Rattle.xa_session.specs.Resolving.{CanResolve}
+use Rattle.xa_base.proofs.{refl}
+use Rattle.xa_session.specs.{CanResolve, session_of}
 use Rattle.xa_session.specs.Resolving.ResolvesLeft.{resolved}
-use Rattle.xa_session.specs.Sessions.{session_of}
 use Rattle.xa_session.proofs.resolving.resolve_left.Goals as goal
 
 pub returns-in-Ok-clause-resolves : goal.returns-in-Ok-clause-resolves

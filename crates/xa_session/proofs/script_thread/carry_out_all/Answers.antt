@@ -1,11 +1,9 @@
-use Rattle.std.proofs.Common.{◌<◌, length, List, [], take, sym, subst, refl, arith}
-use Rattle.std.proofs.lemmas.List.{take_all}
-use Rattle.xa_base.specs.Lists.{Chain}
+use Rattle.xa_base.proofs.{◌<◌, length, List, [], take, sym, subst, refl, arith, take_all}
+use Rattle.xa_base.specs.{Chain}
 use Rattle.xa_base.specs.Lists.Chain.{none, more}
 use Rattle.xa_grammar.proofs.Taken.{take_next}
-use Rattle.xa_transcript.specs.declared.answer.Told.{Told}
-use Rattle.xa_session.specs.declared.session.Session.{Session}
-use Rattle.xa_session.specs.Sessions.{session_of, HasDone}
+use Rattle.xa_transcript.specs.{Told}
+use Rattle.xa_session.specs.{Session, session_of, HasDone}
 use Rattle.xa_session.proofs.script_thread.carry_out_all.Goals as goal
 
 pub loop-place-init : goal.loop-place-init

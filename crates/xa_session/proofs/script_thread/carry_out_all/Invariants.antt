@@ -1,8 +1,8 @@
-use Rattle.std.proofs.Common.{take}
-use Rattle.xa_base.specs.Lists.{Chain}
+use Rattle.xa_base.proofs.{take}
+use Rattle.xa_base.specs.{Chain}
 use Rattle.xa_desk.specs.GoesOn.{GoesOn}
-use Rattle.xa_desk.specs.Kept.{AllKept}
-use Rattle.xa_session.specs.Sessions.{session_of, HasDone}
+use Rattle.xa_desk.specs.{AllKept}
+use Rattle.xa_session.specs.{session_of, HasDone}
 use Rattle.xa_session.proofs.script_thread.carry_out_all.Given as goal
 
 -- the first tasks were done

@@ -1,18 +1,15 @@
-use Rattle.std.proofs.Common.{◌≡◌, Ok, Err, Result, IfOk, sym, subst}
+use Rattle.xa_base.proofs.{◌≡◌, Ok, Err, Result, IfOk, sym, subst}
 use Rattle.std.specs.declared.alloc.AllocError.{AllocError}
 use Rattle.xa_desk.specs.GoesOn.{GoesOn}
-use Rattle.xa_desk.specs.Kept.{AllKept}
-use Rattle.xa_words.specs.Tran.{TranName}
-use Rattle.xa_grammar.specs.declared.step.CommitAll.{CommitAll}
+use Rattle.xa_desk.specs.{AllKept}
+use Rattle.xa_words.specs.{TranName}
+use Rattle.xa_grammar.specs.{CommitAll, ScriptAction}
 use Rattle.xa_grammar.specs.declared.step.Action.TheVariants as action
-use Rattle.xa_grammar.specs.Steps.{ScriptAction}
-use Rattle.xa_scan.specs.Left.{ScanView}
-use Rattle.xa_log.specs.declared.losing.LosingLog.{LosingLog}
+use Rattle.xa_scan.specs.{ScanView}
+use Rattle.xa_log.specs.{LosingLog}
 use Rattle.xa_desk.specs.DeskView.{DeskView}
-use Rattle.xa_transcript.specs.declared.answer.Answer.{Answer}
-use Rattle.xa_session.specs.Committing.{CommitsAll}
-use Rattle.xa_session.specs.Resolving.{ResolvesLeft}
-use Rattle.xa_session.specs.Sessions.{session_of, Executes, Does, MayWait}
+use Rattle.xa_transcript.specs.{Answer}
+use Rattle.xa_session.specs.{CommitsAll, ResolvesLeft, session_of, Executes, Does, MayWait}
 use Rattle.xa_session.proofs.session.carry_out.Goals as goal
 
 -- a commit leaves its thread's scans

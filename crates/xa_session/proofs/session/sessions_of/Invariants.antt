@@ -1,6 +1,5 @@
-use Rattle.std.proofs.Common.{◌≡◌, ◌++◌}
-use Rattle.std.specs.Vec.Iter.{into_iter_items}
-use Rattle.xa_session.specs.Sessions.{new_sessions}
+use Rattle.xa_base.proofs.{◌≡◌, ◌++◌, into_iter_items}
+use Rattle.xa_session.specs.{new_sessions}
 use Rattle.xa_session.proofs.session.sessions_of.Given as goal
 
 -- the first threads have their logs

@@ -1,5 +1,5 @@
-use Rattle.std.proofs.Common.{◌≡◌, ◌++◌, take}
-use Rattle.xa_transcript.specs.Ended.{all_ended}
+use Rattle.xa_base.proofs.{◌≡◌, ◌++◌, take}
+use Rattle.xa_transcript.specs.{all_ended}
 use Rattle.xa_transcript.proofs.ended.tell_ended.Given as goal
 
 -- the first ones were told

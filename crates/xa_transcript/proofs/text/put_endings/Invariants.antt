@@ -1,5 +1,5 @@
-use Rattle.std.proofs.Common.{◌≡◌, ◌++◌, take}
-use Rattle.xa_transcript.specs.Text.{endings_text}
+use Rattle.xa_base.proofs.{◌≡◌, ◌++◌, take}
+use Rattle.xa_transcript.specs.{endings_text}
 use Rattle.xa_transcript.proofs.text.put_endings.Given as goal
 
 -- the first endings are told

@@ -1,7 +1,6 @@
-use Rattle.std.proofs.Common.{◌≡◌, ◌++◌, length, take}
+use Rattle.xa_base.proofs.{◌≡◌, ◌++◌, length, take, flat_map}
 use Rattle.std.specs.Prelude.{codes, decimal}
-use Rattle.std.specs.List.{flat_map}
-use Rattle.xa_transcript.specs.Text.{xid_text}
+use Rattle.xa_transcript.specs.{xid_text}
 use Rattle.xa_transcript.proofs.text.put_listed.Given as goal
 
 -- how many, and the first of them

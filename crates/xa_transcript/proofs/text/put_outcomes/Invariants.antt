@@ -1,5 +1,5 @@
-use Rattle.std.proofs.Common.{◌≡◌, ◌++◌, take}
-use Rattle.xa_transcript.specs.Text.{outcomes_text}
+use Rattle.xa_base.proofs.{◌≡◌, ◌++◌, take}
+use Rattle.xa_transcript.specs.{outcomes_text}
 use Rattle.xa_transcript.proofs.text.put_outcomes.Given as goal
 
 -- the first outcomes are told

@@ -1,5 +1,5 @@
-use Rattle.std.proofs.Common.{◌≡◌, ◌++◌, take}
-use Rattle.xa_transcript.specs.Text.{votes_text}
+use Rattle.xa_base.proofs.{◌≡◌, ◌++◌, take}
+use Rattle.xa_transcript.specs.{votes_text}
 use Rattle.xa_transcript.proofs.text.put_votes.Given as goal
 
 -- the first votes are told

@@ -1,17 +1,13 @@
-use Rattle.std.proofs.Common.{◌≡◌, ◌<◌, sym, ap, ◌∙◌, subst, ◌++◌, ◌∷◌, ◌+◌, [], length, map, take, option_map, pos, slice_index_or, arith}
-use Rattle.std.specs.Prelude.{All}
+use Rattle.xa_base.proofs.{◌≡◌, ◌<◌, sym, ap, ◌∙◌, subst, ◌++◌, ◌∷◌, ◌+◌, [], length, map, take, option_map, pos, slice_index_or, arith, All, map-append}
+use Rattle.xa_base.proofs.{take_all, All-push, one_more}
 use Rattle.std.specs.List.Sorted.{IsPermutation}
-use Rattle.std.proofs.lemmas.List.{map-append, take_all}
-use Rattle.std.proofs.lemmas.List.Elements.{All-push}
 use Rattle.std.proofs.lemmas.List.Sorted.{IsPermutation-map, All-permutation}
 use Rattle.xa_tables.proofs.Reopening.{accounts_new}
-use Rattle.xa_switch.specs.Fates.{history}
-use Rattle.xa_grammar.specs.declared.script.Declared.{Declared}
-use Rattle.xa_grammar.specs.Content.{IsOfManager, accounts_of}
-use Rattle.xa_tables.specs.Openings.{value_over}
+use Rattle.xa_switch.specs.{history}
+use Rattle.xa_grammar.specs.{Declared, IsOfManager, accounts_of}
+use Rattle.xa_tables.specs.{value_over}
 use Rattle.xa_switch.specs.Settling.{Settling}
-use Rattle.xa_transcript.specs.Values.{name_of, opened, opened_after, histories}
-use Rattle.xa_base.proofs.Lists.{one_more}
+use Rattle.xa_transcript.specs.{name_of, opened, opened_after, histories}
 use Rattle.xa_transcript.proofs.Worth.{WorthAfter, told, first_is}
 use Rattle.xa_transcript.proofs.values.values_of.Goals as goal
 

@@ -1,6 +1,5 @@
-use Rattle.std.proofs.Common.{◌≡◌, map, take}
-use Rattle.std.specs.Prelude.{All}
-use Rattle.xa_transcript.specs.Values.{name_of}
+use Rattle.xa_base.proofs.{◌≡◌, map, take, All}
+use Rattle.xa_transcript.specs.{name_of}
 use Rattle.xa_transcript.proofs.Worth.{WorthAfter}
 use Rattle.xa_transcript.proofs.values.values_of.Given as goal
 

@@ -1,5 +1,5 @@
-use Rattle.std.proofs.Common.{◌≡◌, [], take}
-use Rattle.xa_transcript.specs.Transcript.{values_text}
+use Rattle.xa_base.proofs.{◌≡◌, [], take}
+use Rattle.xa_transcript.specs.{values_text}
 use Rattle.xa_transcript.proofs.writing.values_text.Given as goal
 
 -- the first values are told

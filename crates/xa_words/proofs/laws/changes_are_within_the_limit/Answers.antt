@@ -1,5 +1,5 @@
-use Rattle.std.proofs.Common.{◌≡◌}
-use Rattle.std.specs.Prelude.{ℤ, Bool, true, false, refl, neg_ℤ, pos, int_le, ◌≤ℤ◌}
+use Rattle.xa_base.proofs.{◌≡◌, ℤ, Bool, true, false, refl, pos}
+use Rattle.std.specs.Prelude.{neg_ℤ, int_le, ◌≤ℤ◌}
 use Rattle.std.specs.Bool.{Decides}
 use Rattle.std.specs.Int.Signed.{le_z_yes}
 use Rattle.std.proofs.Math.Dec.{T}

@@ -1,4 +1,4 @@
-use Rattle.xa_words.specs.Orders.{key_cmp_total, key_cmp-IsAntisymmetric}
+use Rattle.xa_words.specs.{key_cmp_total, key_cmp-IsAntisymmetric}
 use Rattle.xa_words.proofs.laws.keys_are_ordered.Goals as goal
 
 pub returns-clause-total : goal.returns-clause-total

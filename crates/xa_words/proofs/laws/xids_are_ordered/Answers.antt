@@ -1,4 +1,4 @@
-use Rattle.xa_words.specs.Orders.{xid_cmp_total, xid_cmp-IsAntisymmetric}
+use Rattle.xa_words.specs.{xid_cmp_total, xid_cmp-IsAntisymmetric}
 use Rattle.xa_words.proofs.laws.xids_are_ordered.Goals as goal
 
 pub returns-clause-total : goal.returns-clause-total

@@ -1,4 +1,4 @@
-use Rattle.std.proofs.Common.{◌≡◌, ◌+◌, ◌-◌, length, replicate, ap, ◌∙◌, arith, drop, ℕ}
+use Rattle.xa_base.proofs.{◌≡◌, ◌+◌, ◌-◌, length, replicate, ap, ◌∙◌, arith, drop, ℕ}
 use Rattle.std.proofs.lemmas.List.{drop-replicate}
 use Rattle.xa_words.proofs.xid.joined.Goals as goal
 

@@ -1,7 +1,7 @@
-use Rattle.std.proofs.Common.{◌≡◌, arith, [], ◌∷◌, ◌++◌, ap, ◌∙◌, get_or, length, set}
+use Rattle.xa_base.proofs.{◌≡◌, arith, [], ◌∷◌, ◌++◌, ap, ◌∙◌, get_or, length, set}
 use Rattle.std.proofs.Math.Seq.{get_or-append_seam, set-append_seam}
-use Rattle.xa_words.specs.declared.code.Code.TheVariants.{Done}
-use Rattle.xa_worker.specs.Journal.{Entry, entry_next}
+use Rattle.xa_words.specs.{Done}
+use Rattle.xa_worker.specs.{Entry, entry_next}
 use Rattle.xa_worker.proofs.carry.carry_out.Goals as goal
 
 pub returns-clause-journal : goal.returns-clause-journal

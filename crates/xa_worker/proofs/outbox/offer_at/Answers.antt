@@ -1,4 +1,4 @@
-use Rattle.xa_lane.specs.Senders.{with_item, with_full}
+use Rattle.xa_lane.specs.{with_item, with_full}
 use Rattle.xa_lane.proofs.Senders.{at_place-became}
 use Rattle.xa_worker.proofs.outbox.offer_at.Goals as goal
 

@@ -1,4 +1,4 @@
-use Rattle.xa_worker.specs.Inner.{AreSet}
+use Rattle.xa_worker.specs.{AreSet}
 use Rattle.xa_worker.proofs.worker.are_all.Given as goal
 
 abbrev pub invariant-loop-thread : goal.invariant-loop-thread

@@ -1,23 +1,15 @@
-use Rattle.std.proofs.Common.{◌≡◌, ℕ, ◌+◌, ◌-◌, Bool, if◌then◌else◌, List, [], ◌∷◌, Option, refl, sym, ap, ◌∙◌, subst, arith}
-use Rattle.xa_words.specs.Tran.{TranName, tran_of}
-use Rattle.xa_words.specs.declared.death.Death.{Death}
+use Rattle.xa_base.proofs.{◌≡◌, ℕ, ◌+◌, ◌-◌, Bool, if◌then◌else◌, List, [], ◌∷◌, Option, refl, sym, ap, ◌∙◌, subst, arith}
+use Rattle.xa_words.specs.{TranName, tran_of, Death}
 use Rattle.xa_desk.specs.DeskView.{DeskView}
 use Rattle.xa_desk.specs.GoesOn.{GoesOn}
-use Rattle.xa_desk.specs.Seats.{DeskSeat}
-use Rattle.xa_driver.specs.Decision.{yes_of}
-use Rattle.xa_driver.specs.Trace.{IsTranOf}
-use Rattle.xa_driver.specs.declared.branch.Branch.{Branch}
-use Rattle.xa_log.specs.Log.{IsEither, IsReadAs, LogState}
-use Rattle.xa_work.specs.declared.unit.Change.{Change}
-use Rattle.xa_work.specs.declared.unit.WorkOutcome.{WorkOutcome}
-use Rattle.xa_work.specs.Units.{IfLost, IsGivenUp, IsRefused, LeavesKnown, Loses, Transacts}
+use Rattle.xa_desk.specs.{DeskSeat}
+use Rattle.xa_driver.specs.{yes_of, IsTranOf, Branch}
+use Rattle.xa_log.specs.{IsEither, IsReadAs, LogState}
+use Rattle.xa_work.specs.{Change, WorkOutcome, IfLost, IsGivenUp, IsRefused, LeavesKnown, Loses, Transacts}
 use Rattle.xa_work.specs.Units.IsRefused.{barred, unbegun, undone}
 use Rattle.xa_work.specs.Units.Transacts.{commits, refused}
-use Rattle.xa_bank.specs.declared.habits.Habits.{Habits}
-use Rattle.xa_bank.specs.declared.teller.Teller.{Teller}
-use Rattle.xa_bank.specs.declared.teller.Transfer.{Transfer}
-use Rattle.xa_bank.specs.Numbered.{death_if_at, shut_before, store_if_at}
-use Rattle.xa_bank.specs.Transfers.{HasLegs, IsReadEither, Makes, MayShut, WantsMemory, changes_of, forgotten, leg_by, with_legs, without_legs}
+use Rattle.xa_bank.specs.{Habits, Teller, Transfer, death_if_at, shut_before, store_if_at, HasLegs, IsReadEither, Makes, MayShut, WantsMemory, changes_of}
+use Rattle.xa_bank.specs.{forgotten, leg_by, with_legs, without_legs}
 use Rattle.xa_bank.proofs.LostRecords.{if_both, if_so, lost_so}
 use Rattle.xa_bank.proofs.Results.{err_same}
 use Rattle.xa_bank.proofs.teller.Teller.make.Goals as goal

@@ -1,28 +1,16 @@
-use Rattle.std.proofs.Common.{rules, ◌≡◌, ℕ, ◌+◌, ◌-◌, ◌<◌, ◌≤◌, Vec, true, false, ◌||◌, List, [], ◌∷◌, ◌++◌, length, length-append, append-nil, None, take}
-use Rattle.std.proofs.Common.{drop, length-take}
-use Rattle.std.proofs.Common.{append_assoc, sym, refl, ap, ◌∙◌, subst, arith}
-use Rattle.std.specs.Global.{Global}
-use Rattle.std.specs.List.{list_any, slice_index_or}
-use Rattle.std.proofs.lemmas.List.{take_all, take-append-drop}
-use Rattle.std.proofs.lemmas.List.Folds.{list_any-append}
-use Rattle.xa_base.proofs.Lists.{one_more}
+use Rattle.xa_base.proofs.{rules, ◌≡◌, ℕ, ◌+◌, ◌-◌, ◌<◌, ◌≤◌, Vec, true, false, ◌||◌, List, [], ◌∷◌, ◌++◌, length, length-append, append-nil, None, take, drop}
+use Rattle.xa_base.proofs.{append_assoc, sym, refl, ap, ◌∙◌, subst, arith, Global, list_any, slice_index_or, take_all, take-append-drop, list_any-append}
+use Rattle.xa_base.proofs.{one_more}
+use Rattle.std.proofs.Common.{length-take}
 use Rattle.xa_desk.specs.DeskView.{DeskView}
-use Rattle.xa_desk.specs.Seats.{DeskSeat}
-use Rattle.xa_log.specs.Log.{IsReadAs, LogState}
-use Rattle.xa_work.specs.declared.unit.WorkOutcome.{WorkOutcome}
-use Rattle.xa_work.specs.declared.unit.WorkOutcome.TheVariants.{Decided, Died, Refused, Undecided}
-use Rattle.xa_work.specs.Sent.{IsOpenRm}
-use Rattle.xa_work.specs.Units.{LeavesKnown, has_died, is_last}
+use Rattle.xa_desk.specs.{DeskSeat}
+use Rattle.xa_log.specs.{IsReadAs, LogState}
+use Rattle.xa_work.specs.{WorkOutcome, Decided, Died, Refused, Undecided, IsOpenRm, LeavesKnown, has_died, is_last}
 use Rattle.xa_work.specs.Units.ComesOfCommit.{cut_short, in_full, undecided}
 use Rattle.xa_work.specs.Units.IsRefused.{barred, unbegun, undone}
 use Rattle.xa_work.specs.Units.Transacts.{commits, refused}
 use Rattle.xa_work.proofs.Sent.{have_none}
-use Rattle.xa_bank.specs.declared.habits.Habits.{Habits}
-use Rattle.xa_bank.specs.declared.teller.Teller.{Teller}
-use Rattle.xa_bank.specs.declared.teller.Transfer.{Transfer}
-use Rattle.xa_bank.specs.Numbered.{death_in, death_if_at}
-use Rattle.xa_bank.specs.Tellers.{ended, lived, unknown}
-use Rattle.xa_bank.specs.Transfers.{Makes, MakesEach, MakesNext, with_legs, without_legs}
+use Rattle.xa_bank.specs.{Habits, Teller, Transfer, death_in, death_if_at, ended, lived, unknown, Makes, MakesEach, MakesNext, with_legs, without_legs}
 use Rattle.xa_bank.proofs.Named.{makes_more, makes_none}
 use Rattle.xa_bank.proofs.LostRecords.{each_any}
 use Rattle.xa_bank.proofs.teller.Teller.make_all.Goals as goal

@@ -1,11 +1,9 @@
-use Rattle.std.proofs.Common.{◌≡◌, ◌+◌, false, List, ◌++◌, length, take}
-use Rattle.std.specs.List.{list_any}
+use Rattle.xa_base.proofs.{◌≡◌, ◌+◌, false, List, ◌++◌, length, take, list_any}
 use Rattle.xa_desk.specs.GoesOn.{GoesOn}
-use Rattle.xa_desk.specs.Kept.{AllKept}
-use Rattle.xa_log.specs.Log.{IsReadAs}
-use Rattle.xa_work.specs.declared.unit.WorkOutcome.{WorkOutcome}
-use Rattle.xa_work.specs.Units.{is_last}
-use Rattle.xa_bank.specs.Transfers.{MakesEach}
+use Rattle.xa_desk.specs.{AllKept}
+use Rattle.xa_log.specs.{IsReadAs}
+use Rattle.xa_work.specs.{WorkOutcome, is_last}
+use Rattle.xa_bank.specs.{MakesEach}
 use Rattle.xa_bank.proofs.teller.Teller.make_all.Given as goal
 
 -- the first transfers were made, none of them was the last, and the log is known

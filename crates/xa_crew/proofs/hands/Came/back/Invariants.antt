@@ -1,6 +1,5 @@
-use Rattle.std.proofs.Common.{◌≡◌, ◌++◌, length, vec_capacity}
-use Rattle.std.specs.Vec.Iter.{into_iter_items, into_iter_len}
-use Rattle.xa_base.specs.Lists.{Pairwise}
+use Rattle.xa_base.proofs.{◌≡◌, ◌++◌, length, vec_capacity, into_iter_items, into_iter_len}
+use Rattle.xa_base.specs.{Pairwise}
 use Rattle.xa_crew.proofs.Threads.{IsBackAs}
 use Rattle.xa_crew.proofs.hands.Came.back.Given as goal
 

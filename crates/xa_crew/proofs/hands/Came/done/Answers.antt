@@ -1,8 +1,7 @@
-use Rattle.std.proofs.Common.{◌≡◌, ◌++◌, ◌∷◌, [], List, length, sym, ap, ◌∙◌, subst, refl, arith, Some}
-use Rattle.std.specs.Vec.Iter.{into_iter_items}
-use Rattle.xa_base.specs.Lists.{Pairwise}
-use Rattle.xa_base.proofs.Lists.{all_at, got, next_there, push_side, taken_next}
-use Rattle.xa_crew.specs.Hands.{Comes}
+use Rattle.xa_base.proofs.{◌≡◌, ◌++◌, ◌∷◌, [], List, length, sym, ap, ◌∙◌, subst, refl, arith, Some, into_iter_items, all_at, got, next_there, push_side}
+use Rattle.xa_base.proofs.{taken_next}
+use Rattle.xa_base.specs.{Pairwise}
+use Rattle.xa_crew.specs.{Comes}
 use Rattle.xa_crew.proofs.Threads.{IsDoneAs, all_done, can_run, gone_through}
 use Rattle.xa_crew.proofs.hands.Came.done.Goals as goal
 

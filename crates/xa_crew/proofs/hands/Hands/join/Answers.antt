@@ -1,8 +1,6 @@
-use Rattle.std.proofs.Common.{◌≡◌, ◌++◌, ◌∷◌, [], length, sym, ap, ◌∙◌, subst, arith}
-use Rattle.std.specs.Vec.Iter.{into_iter_items}
-use Rattle.xa_base.specs.Lists.{Pairwise}
-use Rattle.xa_base.proofs.Lists.{push_side, taken_next}
-use Rattle.xa_crew.specs.Hands.{Comes}
+use Rattle.xa_base.proofs.{◌≡◌, ◌++◌, ◌∷◌, [], length, sym, ap, ◌∙◌, subst, arith, into_iter_items, push_side, taken_next}
+use Rattle.xa_base.specs.{Pairwise}
+use Rattle.xa_crew.specs.{Comes}
 use Rattle.xa_crew.proofs.Threads.{Brings, all_came, gone_through}
 use Rattle.xa_crew.proofs.hands.Hands.join.Goals as goal
 

@@ -1,8 +1,5 @@
-use Rattle.std.proofs.Common.{◌≡◌, ◌++◌, ◌∷◌, [], sym, ap, ◌∙◌, refl, subst, rules}
-use Rattle.std.specs.Prelude.{Err}
-use Rattle.std.specs.Vec.Iter.{into_iter_items}
-use Rattle.xa_base.proofs.Lists.{taken_next}
-use Rattle.xa_crew.specs.Hands.{AreAtFirst}
+use Rattle.xa_base.proofs.{◌≡◌, ◌++◌, ◌∷◌, [], sym, ap, ◌∙◌, refl, subst, rules, Err, into_iter_items, taken_next}
+use Rattle.xa_crew.specs.{AreAtFirst}
 use Rattle.xa_crew.proofs.Threads.{none_at, one_more_at, one_more_other}
 use Rattle.xa_crew.proofs.hands.Hands.start.Goals as goal
 

@@ -1,6 +1,5 @@
-use Rattle.std.proofs.Common.{◌≡◌, ◌+◌, ◌++◌, [], true, length, vec_capacity}
-use Rattle.std.specs.Vec.Iter.{into_iter_items}
-use Rattle.xa_crew.specs.Hands.{AreAtFirst}
+use Rattle.xa_base.proofs.{◌≡◌, ◌+◌, ◌++◌, [], true, length, vec_capacity, into_iter_items}
+use Rattle.xa_crew.specs.{AreAtFirst}
 use Rattle.xa_crew.proofs.hands.Hands.start.Given as goal
 
 -- the first jobs have a thread, or came to something without one

@@ -1,9 +1,7 @@
-use Rattle.std.proofs.Common.{List, map, refl, ap, sym, ◌∙◌, subst}
-use Rattle.xa_worker.specs.Workers.{WorkerView}
-use Rattle.xa_base.specs.Lists.{Pairwise}
-use Rattle.xa_crew.specs.Opened.{clients_of}
-use Rattle.xa_crew.specs.Pieces.{HasServed}
-use Rattle.xa_base.proofs.Lists.{side_of}
+use Rattle.xa_base.proofs.{List, map, refl, ap, sym, ◌∙◌, subst, side_of}
+use Rattle.xa_worker.specs.{WorkerView}
+use Rattle.xa_base.specs.{Pairwise}
+use Rattle.xa_crew.specs.{clients_of, HasServed}
 use Rattle.xa_crew.proofs.Members.{all_have_run, still_opened}
 use Rattle.xa_crew.proofs.opened.Opened.run.Goals as goal
 

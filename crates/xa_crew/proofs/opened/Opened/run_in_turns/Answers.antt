@@ -1,8 +1,7 @@
-use Rattle.std.proofs.Common.{List, subst}
+use Rattle.xa_base.proofs.{List, subst}
 use Rattle.std.proofs.lemmas.Result.{IfErr-weaker, IfOk-weaker}
-use Rattle.xa_worker.specs.Workers.{WorkerView}
-use Rattle.xa_crew.specs.Opened.{clients_of}
-use Rattle.xa_crew.specs.Turns.{AllGoOn}
+use Rattle.xa_worker.specs.{WorkerView}
+use Rattle.xa_crew.specs.{clients_of, AllGoOn}
 use Rattle.xa_crew.proofs.Members.{all_have_run}
 use Rattle.xa_crew.proofs.WorkersOn.{all_served}
 use Rattle.xa_crew.proofs.opened.Opened.run_in_turns.Goals as goal

@@ -1,5 +1,5 @@
-use Rattle.std.proofs.Common.{◌≡◌, length, All}
-use Rattle.xa_crew.specs.Run.{CanTell}
+use Rattle.xa_base.proofs.{◌≡◌, length, All}
+use Rattle.xa_crew.specs.{CanTell}
 use Rattle.xa_crew.proofs.opened.Space.reserve.Given as goal
 
 -- there is room to tell of so many desks

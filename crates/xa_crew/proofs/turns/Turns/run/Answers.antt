@@ -1,9 +1,6 @@
-use Rattle.std.proofs.Common.{◌≡◌, ◌++◌, List, length, map, sym, ap, ◌∙◌, arith, append-nil}
-use Rattle.std.specs.Vec.Iter.{into_iter_items}
-use Rattle.xa_base.proofs.Lists.{map_alike, none_of, push_side, taken_next}
-use Rattle.xa_worker.specs.Seats.{seat_of_worker, seat_of_done}
-use Rattle.xa_worker.specs.Workers.{WorkerView}
-use Rattle.xa_crew.specs.Pieces.{HasServed}
+use Rattle.xa_base.proofs.{◌≡◌, ◌++◌, List, length, map, sym, ap, ◌∙◌, arith, append-nil, into_iter_items, map_alike, none_of, push_side, taken_next}
+use Rattle.xa_worker.specs.{seat_of_worker, seat_of_done, WorkerView}
+use Rattle.xa_crew.specs.{HasServed}
 use Rattle.xa_crew.proofs.turns.Turns.run.Goals as goal
 
 pub loop-worker-preserved : goal.loop-worker-preserved

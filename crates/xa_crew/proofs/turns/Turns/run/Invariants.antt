@@ -1,7 +1,6 @@
-use Rattle.std.proofs.Common.{◌≡◌, ◌++◌, length, vec_capacity}
-use Rattle.std.specs.Vec.Iter.{into_iter_items, into_iter_len}
-use Rattle.xa_base.specs.Lists.{Pairwise}
-use Rattle.xa_crew.specs.Pieces.{HasServed}
+use Rattle.xa_base.proofs.{◌≡◌, ◌++◌, length, vec_capacity, into_iter_items, into_iter_len}
+use Rattle.xa_base.specs.{Pairwise}
+use Rattle.xa_crew.specs.{HasServed}
 use Rattle.xa_crew.proofs.turns.Turns.run.Given as goal
 
 -- the first workers have run

@@ -1,7 +1,6 @@
-use Rattle.std.proofs.Common.{◌-◌, ◌<◌, length, List, Some, sym, ap, ◌∙◌, refl, subst, arith, slice_set}
-use Rattle.std.proofs.lemmas.Option.{slice_get-get_or}
-use Rattle.xa_worker.specs.Workers.{WorkerView}
-use Rattle.xa_crew.specs.Turns.{TakesTurn}
+use Rattle.xa_base.proofs.{◌-◌, ◌<◌, length, List, Some, sym, ap, ◌∙◌, refl, subst, arith, slice_set, slice_get-get_or}
+use Rattle.xa_worker.specs.{WorkerView}
+use Rattle.xa_crew.specs.{TakesTurn}
 use Rattle.xa_crew.proofs.WorkersOn.{had_turn, turn_goes}
 use Rattle.xa_crew.proofs.turns.Turns.turn.Goals as goal
 

@@ -1,9 +1,7 @@
-use Rattle.std.proofs.Common.{◌≡◌, ◌<◌, length, List, slice_set, slice_get, Some, sym, ap, ◌∙◌, subst, arith}
-use Rattle.std.proofs.lemmas.Option.{slice_get-get_or}
-use Rattle.xa_worker.specs.Workers.{WorkerView}
-use Rattle.xa_base.specs.Lists.{Pairwise}
-use Rattle.xa_crew.specs.Turns.{AllGoOn, HadSomeTurn}
-use Rattle.xa_crew.specs.Turning.{all_stay, all_go_on}
+use Rattle.xa_base.proofs.{◌≡◌, ◌<◌, length, List, slice_set, slice_get, Some, sym, ap, ◌∙◌, subst, arith, slice_get-get_or}
+use Rattle.xa_worker.specs.{WorkerView}
+use Rattle.xa_base.specs.{Pairwise}
+use Rattle.xa_crew.specs.{AllGoOn, HadSomeTurn, all_stay, all_go_on}
 use Rattle.xa_crew.proofs.WorkersOn.{had_turn, one_goes_on, none_turned, one_more_turned, all_turned}
 use Rattle.xa_crew.proofs.turns.Turns.turn_all.Goals as goal
 

@@ -1,4 +1,4 @@
-use Rattle.xa_crew.specs.Turns.{AllGoOn}
+use Rattle.xa_crew.specs.{AllGoOn}
 use Rattle.xa_crew.proofs.WorkersOn.{HaveTurned}
 use Rattle.xa_crew.proofs.turns.Turns.turn_all.Given as goal
 

@@ -1,7 +1,7 @@
-use Rattle.std.proofs.Common.{List, length, ap, refl, arith}
-use Rattle.xa_worker.specs.Workers.{WorkerView}
+use Rattle.xa_base.proofs.{List, length, ap, refl, arith}
+use Rattle.xa_worker.specs.{WorkerView}
 use Rattle.xa_crew.specs.Turns.TurnsFor.{its, none}
-use Rattle.xa_crew.specs.Turning.{all_stay}
+use Rattle.xa_crew.specs.{all_stay}
 use Rattle.xa_crew.proofs.turns.TurnsIdle.idle.Goals as goal
 
 pub returns-then-manager-len : goal.returns-then-manager-len

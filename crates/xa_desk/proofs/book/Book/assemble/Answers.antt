@@ -1,9 +1,7 @@
-use Rattle.std.proofs.Common.{None, refl, length, replicate, sym, ◌∙◌, ap, arith}
-use Rattle.std.proofs.lemmas.List.{length-replicate}
+use Rattle.xa_base.proofs.{None, refl, length, replicate, sym, ◌∙◌, ap, arith, length-replicate}
 use Rattle.std.proofs.lemmas.Nat.{mul-le}
-use Rattle.xa_base.specs.declared.limits.TheConstants.{MOST_MANAGERS, MOST_REQUESTS}
-use Rattle.xa_desk.specs.Parts.{carried}
-use Rattle.xa_desk.specs.Slots.{no_keys, logged}
+use Rattle.xa_base.specs.{MOST_MANAGERS, MOST_REQUESTS}
+use Rattle.xa_desk.specs.{carried, no_keys, logged}
 use Rattle.xa_desk.proofs.Begins.{books_from, keys_from, planned_from, length-carried, begun-new}
 use Rattle.xa_desk.proofs.Marked.{kept_none, ready_none}
 use Rattle.xa_desk.proofs.book.Book.assemble.Goals as goal

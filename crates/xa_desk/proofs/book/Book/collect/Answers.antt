@@ -1,8 +1,6 @@
-use Rattle.std.proofs.Common.{◌≡◌, ◌+◌, Some, ap, ◌∙◌, sym, refl, subst, arith}
-use Rattle.xa_desk.specs.LedgerView.{LedgerView, with_collected}
-use Rattle.xa_desk.specs.declared.operation.Operation.{Operation}
-use Rattle.xa_desk.specs.DeskView.{IsOut, ledger, after_collected}
-use Rattle.xa_desk.specs.Slots.{logged, IsBooks}
+use Rattle.xa_base.proofs.{◌≡◌, ◌+◌, Some, ap, ◌∙◌, sym, refl, subst, arith}
+use Rattle.xa_desk.specs.LedgerView.{LedgerView}
+use Rattle.xa_desk.specs.{with_collected, Operation, IsOut, ledger, after_collected, logged, IsBooks}
 use Rattle.xa_desk.proofs.Ledgers.{ledger-read, collected-lt-sent, planned-put, length-put_ledger}
 use Rattle.xa_desk.proofs.Books.{books_collected}
 use Rattle.xa_desk.proofs.KeyRows.{keys_collected}

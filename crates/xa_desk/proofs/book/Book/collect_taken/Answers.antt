@@ -1,16 +1,8 @@
-use Rattle.std.proofs.Common.{◌≡◌, ◌≢◌, ◌-◌, ◌+◌, ◌∷◌, ◌++◌, [], Some, None, set, ap, ◌∙◌, sym, refl, subst, arith, length-append}
-use Rattle.std.proofs.lemmas.Bool.{false≢true}
-use Rattle.std.proofs.lemmas.List.{map-append}
+use Rattle.xa_base.proofs.{◌≡◌, ◌≢◌, ◌-◌, ◌+◌, ◌∷◌, ◌++◌, [], Some, None, set, ap, ◌∙◌, sym, refl, subst, arith, length-append, false≢true, map-append}
 use Rattle.slab.specs.Slab.{Slab, slab_len, Updates}
-use Rattle.xa_desk.specs.declared.slot.Slot.{Slot}
-use Rattle.xa_desk.specs.LedgerView.{LedgerView, with_collected}
-use Rattle.xa_desk.specs.declared.operation.Operation.{Operation}
-use Rattle.xa_desk.specs.declared.event.Event.TheVariants.{Collected}
-use Rattle.xa_desk.specs.Book.{desk_of}
-use Rattle.xa_desk.specs.DeskView.{IsOut, ledger, after_collected, operation_of, drained_code}
-use Rattle.xa_desk.specs.Looks.{first}
-use Rattle.xa_desk.specs.Marks.{AreReady}
-use Rattle.xa_desk.specs.Slots.{logged, HasKept, IsBooks}
+use Rattle.xa_desk.specs.{Slot, with_collected, Operation, Collected, desk_of, IsOut, ledger, after_collected, operation_of, drained_code, first, AreReady}
+use Rattle.xa_desk.specs.{logged, HasKept, IsBooks}
+use Rattle.xa_desk.specs.LedgerView.{LedgerView}
 use Rattle.xa_desk.proofs.Ledgers.{ledger-read, collected-lt-sent, planned-put, length-put_ledger}
 use Rattle.xa_desk.proofs.Books.{books_taken, drained_code-push_first}
 use Rattle.xa_desk.proofs.Counts.{drained-lt-planned}

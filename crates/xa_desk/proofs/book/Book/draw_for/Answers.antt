@@ -1,5 +1,5 @@
-use Rattle.std.proofs.Common.{sym}
-use Rattle.xa_lane.specs.declared.parcel.Taken.TheVariants.{Item}
+use Rattle.xa_base.proofs.{sym}
+use Rattle.xa_lane.specs.{Item}
 use Rattle.xa_desk.proofs.Looks.{item_drawn}
 use Rattle.xa_desk.proofs.book.Book.draw_for.Goals as goal
 

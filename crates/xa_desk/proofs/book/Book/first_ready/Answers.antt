@@ -1,4 +1,4 @@
-use Rattle.xa_desk.specs.Slots.{logged}
+use Rattle.xa_desk.specs.{logged}
 use Rattle.xa_desk.proofs.Marked.{ready_least, ready_nowhere}
 use Rattle.xa_desk.proofs.book.Book.first_ready.Goals as goal
 

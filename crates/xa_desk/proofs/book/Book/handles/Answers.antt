@@ -1,4 +1,4 @@
-use Rattle.std.proofs.Common.{arith}
+use Rattle.xa_base.proofs.{arith}
 use Rattle.xa_desk.proofs.KeptPlaces.{get-kept_of_past, get-kept_of_zero}
 use Rattle.xa_desk.proofs.book.Book.handles.Goals as goal
 

@@ -1,8 +1,5 @@
-use Rattle.std.proofs.Common.{Some, sym, ◌∙◌, ap, subst}
-use Rattle.std.proofs.lemmas.Bool.{eqb-true, eq-eqb}
-use Rattle.xa_desk.specs.declared.operation.Operation.{Operation}
-use Rattle.xa_desk.specs.DeskView.{IsOut}
-use Rattle.xa_desk.specs.Slots.{logged}
+use Rattle.xa_base.proofs.{Some, sym, ◌∙◌, ap, subst, eqb-true, eq-eqb}
+use Rattle.xa_desk.specs.{Operation, IsOut, logged}
 use Rattle.xa_desk.proofs.KeptPlaces.{loose_handle, loose_from_handle}
 use Rattle.xa_desk.proofs.book.Book.is_loose.Goals as goal
 

@@ -1,16 +1,9 @@
-use Rattle.std.proofs.Common.{◌≡◌, ◌<◌, ℕ, suc, ◌+◌, false, ◌||◌, Some, None, IsSome, is_some, get_or, set, sym, ◌∙◌, refl, ap, arith, length}
-use Rattle.std.proofs.Math.Bool.{or-false}
-use Rattle.std.specs.Ordering.{nat_cmp}
+use Rattle.xa_base.proofs.{◌≡◌, ◌<◌, ℕ, suc, ◌+◌, false, ◌||◌, Some, None, is_some, get_or, set, sym, ◌∙◌, refl, ap, arith, length, or-false, nat_cmp}
+use Rattle.xa_base.proofs.{length-set, is_missing}
+use Rattle.std.proofs.Common.{IsSome}
 use Rattle.std.specs.FinMap as map
-use Rattle.std.proofs.lemmas.List.{length-set}
-use Rattle.xa_base.proofs.Options.{is_missing}
 use Rattle.slab.specs.Slab.{get}
-use Rattle.xa_desk.specs.declared.operation.Operation.{Operation}
-use Rattle.xa_desk.specs.declared.slot.Slot.{Slot}
-use Rattle.xa_desk.specs.DeskView.{drained_code, ready_with}
-use Rattle.xa_desk.specs.Marks.{is_marked}
-use Rattle.xa_desk.specs.Book.{desk_of}
-use Rattle.xa_desk.specs.Slots.{HasSlot, logged}
+use Rattle.xa_desk.specs.{Operation, Slot, drained_code, ready_with, is_marked, desk_of, HasSlot, logged}
 use Rattle.xa_desk.proofs.Books.{books_rehandled, Rehandles}
 use Rattle.xa_desk.proofs.KeyRows.{keys_kept}
 use Rattle.xa_desk.proofs.KeptPlaces.{loose_handle, rehandles_keep, kept_of-insert, least_free}

@@ -1,4 +1,4 @@
-use Rattle.std.proofs.Common.{sym, ◌∙◌}
+use Rattle.xa_base.proofs.{sym, ◌∙◌}
 use Rattle.xa_desk.proofs.Marked.{any_kept, none_kept}
 use Rattle.xa_desk.proofs.book.Book.keeps.Goals as goal
 

@@ -1,4 +1,4 @@
-use Rattle.std.proofs.Common.{arith}
+use Rattle.xa_base.proofs.{arith}
 use Rattle.xa_desk.proofs.book.Book.managers.Goals as goal
 
 pub returns-clause-limits : goal.returns-clause-limits

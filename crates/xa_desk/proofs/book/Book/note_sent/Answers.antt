@@ -1,10 +1,8 @@
-use Rattle.std.proofs.Common.{◌≡◌, ◌+◌, ◌-◌, ◌<◌, ℕ, Some, None, ap, ◌∙◌, sym, refl, subst, arith, length}
+use Rattle.xa_base.proofs.{◌≡◌, ◌+◌, ◌-◌, ◌<◌, ℕ, Some, None, ap, ◌∙◌, sym, refl, subst, arith, length}
 use Rattle.std.proofs.lemmas.List.{get_or_read}
 use Rattle.slab.specs.Slab.{Updates}
-use Rattle.xa_desk.specs.declared.operation.Operation.{Operation}
-use Rattle.xa_desk.specs.LedgerView.{LedgerView, with_sent}
-use Rattle.xa_desk.specs.DeskView.{IsKnown, ledger, after_sent}
-use Rattle.xa_desk.specs.Slots.{logged, KeysView, no_keys, with_key, row_of, IsBooks, AreKeys}
+use Rattle.xa_desk.specs.{Operation, with_sent, IsKnown, ledger, after_sent, logged, KeysView, no_keys, with_key, row_of, IsBooks, AreKeys}
+use Rattle.xa_desk.specs.LedgerView.{LedgerView}
 use Rattle.xa_desk.proofs.Ledgers.{ledger-read, planned-put, length-put_ledger, sent_now_out, unsent}
 use Rattle.xa_desk.proofs.KeptPlaces.{loose_from_handle}
 use Rattle.xa_desk.proofs.Books.{books_sent, fresh}

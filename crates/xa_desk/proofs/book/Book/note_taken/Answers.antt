@@ -1,11 +1,6 @@
-use Rattle.std.proofs.Common.{◌≡◌, List, [], ◌∷◌, ◌++◌, None, sym, refl, ap, ◌∙◌, subst, arith, length-append}
-use Rattle.std.proofs.lemmas.List.{map-append}
-use Rattle.xa_words.specs.declared.request.Completion.{Completion}
-use Rattle.xa_desk.specs.declared.operation.Operation.{Operation}
-use Rattle.xa_desk.specs.Book.{desk_of}
-use Rattle.xa_desk.specs.DeskView.{IsOut, operation_of, drained_code}
-use Rattle.xa_desk.specs.Looks.{first, other}
-use Rattle.xa_desk.specs.Slots.{logged}
+use Rattle.xa_base.proofs.{◌≡◌, List, [], ◌∷◌, ◌++◌, None, sym, refl, ap, ◌∙◌, subst, arith, length-append, map-append}
+use Rattle.xa_words.specs.{Completion}
+use Rattle.xa_desk.specs.{Operation, desk_of, IsOut, operation_of, drained_code, first, other, logged}
 use Rattle.xa_desk.proofs.Books.{books_drained}
 use Rattle.xa_desk.proofs.Counts.{drained-lt-planned}
 use Rattle.xa_desk.proofs.Marked.{number_within, ready_drained}

@@ -1,13 +1,7 @@
-use Rattle.std.proofs.Common.{◌≡◌, ◌-◌, ◌<◌, ℕ, List, [], ◌∷◌, ◌++◌, length, set, ◌∙◌, ap, arith}
-use Rattle.xa_words.specs.declared.request.Op.{Op}
-use Rattle.xa_words.specs.declared.request.Request.{Request}
-use Rattle.xa_lane.specs.Ends.{Sending}
-use Rattle.xa_lane.specs.Senders.{with_item, with_full}
-use Rattle.xa_desk.specs.Book.{desk_of}
-use Rattle.xa_desk.specs.DeskView.{after_sent, next_operation}
-use Rattle.xa_desk.specs.Slots.{logged}
-use Rattle.xa_desk.specs.declared.event.Event.TheVariants.{Sent}
-use Rattle.xa_desk.specs.Lanes.{next_request}
+use Rattle.xa_base.proofs.{◌≡◌, ◌-◌, ◌<◌, ℕ, List, [], ◌∷◌, ◌++◌, length, set, ◌∙◌, ap, arith}
+use Rattle.xa_words.specs.{Op, Request}
+use Rattle.xa_lane.specs.{Sending, with_item, with_full}
+use Rattle.xa_desk.specs.{desk_of, after_sent, next_operation, logged, Sent, next_request}
 use Rattle.xa_lane.proofs.Senders.{at_place-set}
 use Rattle.xa_desk.proofs.book.Book.offer.Goals as goal
 

@@ -1,10 +1,6 @@
-use Rattle.std.proofs.Common.{◌<◌, ◌-◌, Some, None, set, sym, ◌∙◌, refl, ap, arith}
-use Rattle.std.specs.Ordering.{nat_cmp}
+use Rattle.xa_base.proofs.{◌<◌, ◌-◌, Some, None, set, sym, ◌∙◌, refl, ap, arith, nat_cmp, length-set}
 use Rattle.std.specs.FinMap as map
-use Rattle.std.proofs.lemmas.List.{length-set}
-use Rattle.xa_desk.specs.declared.operation.Operation.{Operation}
-use Rattle.xa_desk.specs.Slots.{logged, IsBooks}
-use Rattle.xa_desk.specs.Book.{desk_of}
+use Rattle.xa_desk.specs.{Operation, logged, IsBooks, desk_of}
 use Rattle.xa_desk.proofs.Books.{books_rehandled, rehandled, Rehandles}
 use Rattle.xa_desk.proofs.KeyRows.{keys_kept}
 use Rattle.xa_desk.proofs.KeptPlaces.{kept_place, KeptPlace, kept_handle, rehandles_release, kept_of-remove, loose_from_handle}

@@ -1,6 +1,6 @@
-use Rattle.std.proofs.Common.{ap, sym, subst, arith}
-use Rattle.xa_desk.specs.DeskView.{DeskView, outstanding}
-use Rattle.xa_desk.specs.Lanes.{IsDesk}
+use Rattle.xa_base.proofs.{ap, sym, subst, arith}
+use Rattle.xa_desk.specs.DeskView.{DeskView}
+use Rattle.xa_desk.specs.{outstanding, IsDesk}
 use Rattle.xa_desk.proofs.Fresh.{nothing_out}
 use Rattle.xa_desk.proofs.Ties.{tied_new}
 use Rattle.xa_desk.proofs.desk.Desk.assemble.Goals as goal

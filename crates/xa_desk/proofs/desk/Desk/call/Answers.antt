@@ -1,5 +1,5 @@
-use Rattle.std.proofs.Common.{◌≡◌, None, sym, subst, arith}
-use Rattle.xa_desk.specs.DeskView.{call_refusal}
+use Rattle.xa_base.proofs.{◌≡◌, None, sym, subst, arith}
+use Rattle.xa_desk.specs.{call_refusal}
 use Rattle.xa_desk.proofs.Desks.{call_known, called_desk}
 use Rattle.xa_desk.proofs.Looks.{collects_stays}
 use Rattle.xa_desk.proofs.GoesOn.{goes_called}

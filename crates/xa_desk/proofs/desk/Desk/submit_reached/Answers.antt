@@ -1,5 +1,5 @@
-use Rattle.std.proofs.Common.{◌≡◌, None, sym, subst}
-use Rattle.xa_desk.specs.DeskView.{reach_refusal, room_refusal}
+use Rattle.xa_base.proofs.{◌≡◌, None, sym, subst}
+use Rattle.xa_desk.specs.{reach_refusal, room_refusal}
 use Rattle.xa_desk.proofs.Desks.{full_desk, submitted_desk}
 use Rattle.xa_desk.proofs.GoesOn.{goes_submitted, goes_fuller}
 use Rattle.xa_desk.proofs.desk.Desk.submit_reached.Goals as goal

@@ -1,7 +1,6 @@
-use Rattle.std.proofs.Common.{◌<◌, w64, ap, sym, ◌∙◌, inl, inr, arith}
-use Rattle.std.specs.Prelude.{nat_eq, bit_and, ◌*◌, ◌^◌, ◌%◌}
+use Rattle.xa_base.proofs.{◌<◌, w64, ap, sym, ◌∙◌, inl, inr, arith, nat_eq, ◌*◌, ◌^◌, ◌%◌, cases_lt}
+use Rattle.std.specs.Prelude.{bit_and}
 use Rattle.std.specs.Int.{bit_not}
-use Rattle.std.proofs.lemmas.Bool.{cases_lt}
 use Rattle.std.proofs.lemmas.Nat.{and_le_l}
 use Rattle.std.proofs.lemmas.Nat.Bits.{bit_at_clear_same, bit_at_clear_other, bit_at_above}
 use Rattle.xa_desk.proofs.marks.Marks.clear.Goals as goal

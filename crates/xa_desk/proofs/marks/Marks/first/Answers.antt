@@ -1,5 +1,4 @@
-use Rattle.std.proofs.Common.{◌<◌, w64, ap, arith}
-use Rattle.std.specs.Prelude.{nat_eq}
+use Rattle.xa_base.proofs.{◌<◌, w64, ap, arith, nat_eq}
 use Rattle.std.proofs.lemmas.Nat.Bits.{bit_at-trailing_zeros}
 use Rattle.xa_desk.proofs.marks.Marks.first.Goals as goal
 

@@ -1,7 +1,5 @@
-use Rattle.std.proofs.Common.{◌≡◌, ◌<◌, ◌+◌, w64, ap, sym, ◌∙◌, true, false, inl, inr, arith}
-use Rattle.std.specs.Prelude.{nat_eq}
+use Rattle.xa_base.proofs.{◌≡◌, ◌<◌, ◌+◌, w64, ap, sym, ◌∙◌, true, false, inl, inr, arith, nat_eq, cases_lt}
 use Rattle.std.specs.Int.{bit_at}
-use Rattle.std.proofs.lemmas.Bool.{cases_lt}
 use Rattle.std.proofs.lemmas.Nat.Bits.{bit_at-trailing_ones}
 use Rattle.xa_desk.proofs.marks.Marks.first_clear.Goals as goal
 

@@ -1,9 +1,5 @@
-use Rattle.std.proofs.Common.{◌≡◌, length, replicate, sym, ◌∙◌, ap, refl}
-use Rattle.std.proofs.lemmas.List.{length-map}
-use Rattle.xa_desk.specs.LedgerView.{new_ledger}
-use Rattle.xa_desk.specs.Lanes.{new_ledgers}
-use Rattle.xa_desk.specs.Parts.{carried}
-use Rattle.xa_desk.specs.Slots.{no_keys}
+use Rattle.xa_base.proofs.{◌≡◌, length, replicate, sym, ◌∙◌, ap, refl, length-map}
+use Rattle.xa_desk.specs.{new_ledger, new_ledgers, carried, no_keys}
 use Rattle.xa_desk.proofs.Begins.{carried-new}
 use Rattle.xa_desk.proofs.parts.DeskParts.reserve.Goals as goal
 use Rattle.xa_desk.proofs.parts.DeskParts.reserve.Goals.{In_ok-ends}

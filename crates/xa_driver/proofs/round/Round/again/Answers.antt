@@ -1,4 +1,4 @@
-use Rattle.std.proofs.Common.{refl}
+use Rattle.xa_base.proofs.{refl}
 use Rattle.xa_driver.proofs.Stepping.{begins}
 use Rattle.xa_driver.proofs.round.Round.again.Goals as goal
 

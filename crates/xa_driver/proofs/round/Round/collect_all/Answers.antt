@@ -1,4 +1,4 @@
-use Rattle.std.proofs.Common.{◌<◌, length, refl, ◌∙◌, arith, rules}
+use Rattle.xa_base.proofs.{◌<◌, length, refl, ◌∙◌, arith, rules}
 use Rattle.xa_driver.proofs.Gathering.{same_itself}
 use Rattle.xa_driver.proofs.Idling.{idles_start, collect_on, collect_reaches}
 use Rattle.xa_driver.proofs.Ordering.{collects_nothing, collects_on, step_collects}

@@ -1,7 +1,5 @@
-use Rattle.std.specs.Prelude.{if◌then◌else◌}
-use Rattle.std.proofs.Common.{◌≡◌, ◌≢◌, ℕ, ◌+◌, ◌-◌, ◌<◌, Bool, false, inl, length, refl, sym, true, take, ap, ◌∙◌, arith}
-use Rattle.std.proofs.lemmas.Bool.{eqb-false}
-use Rattle.xa_driver.specs.Steps.{asked_in, is_passed, next_collected}
+use Rattle.xa_base.proofs.{if◌then◌else◌, ◌≡◌, ◌≢◌, ℕ, ◌+◌, ◌-◌, ◌<◌, Bool, false, inl, length, refl, sym, true, take, ap, ◌∙◌, arith, eqb-false}
+use Rattle.xa_driver.specs.{asked_in, is_passed, next_collected}
 use Rattle.xa_driver.proofs.Firsts.{OneCollected, first_so_many, one_collected}
 use Rattle.xa_driver.proofs.Gathering.{same_itself}
 use Rattle.xa_driver.proofs.Idling.{idles_start, collect_on}

@@ -1,9 +1,5 @@
-use Rattle.std.proofs.Common.{◌≡◌, ◌+◌, length, take, List}
-use Rattle.xa_driver.specs.Asks.{Ask, SameAsks, among_asks}
-use Rattle.xa_driver.specs.Idling.{IdlesAt}
-use Rattle.xa_driver.specs.Order.{CollectsFirst}
-use Rattle.xa_driver.specs.Steps.{asked_in}
-use Rattle.xa_driver.specs.UnderWay.{IsSent, IsUnderWay}
+use Rattle.xa_base.proofs.{◌≡◌, ◌+◌, length, take, List}
+use Rattle.xa_driver.specs.{Ask, SameAsks, among_asks, IdlesAt, CollectsFirst, asked_in, IsSent, IsUnderWay}
 use Rattle.xa_driver.proofs.round.Round.collect_first.Given as goal
 
 -- so many answers are left to come

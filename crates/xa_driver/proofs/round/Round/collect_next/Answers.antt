@@ -1,7 +1,5 @@
-use Rattle.std.proofs.Common.{◌≡◌, ◌<◌, ◌∙◌, arith, false, length, sym, true}
-use Rattle.xa_driver.specs.Idling.{IdlesToCollect}
-use Rattle.xa_driver.specs.Steps.{CollectsNothing}
-use Rattle.xa_driver.specs.UnderWay.{Collects, Stays, next_ticket}
+use Rattle.xa_base.proofs.{◌≡◌, ◌<◌, ◌∙◌, arith, false, length, sym, true}
+use Rattle.xa_driver.specs.{IdlesToCollect, CollectsNothing, Collects, Stays, next_ticket}
 use Rattle.xa_driver.proofs.Passing.{collect_passes, idles_is, none_passed, step_is}
 use Rattle.xa_driver.proofs.round.Round.collect_next.Goals as goal
 

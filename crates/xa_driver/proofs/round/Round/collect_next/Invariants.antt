@@ -1,5 +1,5 @@
-use Rattle.std.proofs.Common.{length}
-use Rattle.xa_driver.specs.Steps.{CollectsNothing}
+use Rattle.xa_base.proofs.{length}
+use Rattle.xa_driver.specs.{CollectsNothing}
 use Rattle.xa_driver.proofs.Passing.{Passed}
 use Rattle.xa_driver.proofs.round.Round.collect_next.Given as goal
 

@@ -1,8 +1,5 @@
-use Rattle.std.proofs.Common.{◌≡◌, refl, sym, ap, ◌∙◌, subst, Some, set}
-use Rattle.std.specs.List.{slice_get}
-use Rattle.std.proofs.lemmas.Option.{slice_get-get_or}
-use Rattle.xa_driver.specs.Asks.{Ask, Ends, IsSameAsk}
-use Rattle.xa_driver.specs.UnderWay.{coded, next_ticket}
+use Rattle.xa_base.proofs.{◌≡◌, refl, sym, ap, ◌∙◌, subst, Some, set, slice_get, slice_get-get_or}
+use Rattle.xa_driver.specs.{Ask, Ends, IsSameAsk, coded, next_ticket}
 use Rattle.xa_driver.proofs.Gathering.{same_set}
 use Rattle.xa_driver.proofs.Stepping.{first_one, flight_owned, matched_some, one_more_collected, place_is, place_within}
 use Rattle.xa_driver.proofs.round.Round.collect_place.Goals as goal

@@ -1,6 +1,6 @@
-use Rattle.std.proofs.Common.{subst, ap, ◌∙◌}
+use Rattle.xa_base.proofs.{subst, ap, ◌∙◌}
 use Rattle.xa_desk.specs.DeskView.{DeskView}
-use Rattle.xa_driver.specs.Asks.{KeepsTheRest}
+use Rattle.xa_driver.specs.{KeepsTheRest}
 use Rattle.xa_driver.proofs.Gathering.{same_itself}
 use Rattle.xa_driver.proofs.Idling.{round_idles}
 use Rattle.xa_driver.proofs.Staying.{rest_kept}

@@ -1,4 +1,4 @@
-use Rattle.std.proofs.Common.{refl, arith}
+use Rattle.xa_base.proofs.{refl, arith}
 use Rattle.xa_driver.proofs.Stepping.{begins}
 use Rattle.xa_driver.proofs.round.Round.new.Goals as goal
 

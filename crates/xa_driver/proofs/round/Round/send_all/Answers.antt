@@ -1,4 +1,4 @@
-use Rattle.std.proofs.Common.{◌<◌, length, refl, ◌∙◌, arith, rules}
+use Rattle.xa_base.proofs.{◌<◌, length, refl, ◌∙◌, arith, rules}
 use Rattle.xa_driver.proofs.Gathering.{same_itself}
 use Rattle.xa_driver.proofs.Idling.{idles_start, send_on, send_reaches}
 use Rattle.xa_driver.proofs.Ordering.{sends_on, step_sends, step_sends_keeps, sends_stay}

@@ -1,8 +1,5 @@
-use Rattle.std.proofs.Common.{◌≡◌, ◌≤◌, length, List}
-use Rattle.xa_driver.specs.Asks.{Ask, SameAsks, among_asks}
-use Rattle.xa_driver.specs.Idling.{IdlesAt}
-use Rattle.xa_driver.specs.Order.{SendsMore}
-use Rattle.xa_driver.specs.UnderWay.{IsUnderWay, sent_count}
+use Rattle.xa_base.proofs.{◌≡◌, ◌≤◌, length, List}
+use Rattle.xa_driver.specs.{Ask, SameAsks, among_asks, IdlesAt, SendsMore, IsUnderWay, sent_count}
 use Rattle.xa_driver.proofs.round.Round.send_all.Given as goal
 
 abbrev pub invariant-loop-place : goal.invariant-loop-place

@@ -1,7 +1,5 @@
-use Rattle.std.proofs.Common.{◌≡◌, ◌-◌, ◌<◌, ◌∙◌, ap, arith, false, length, sym, true}
-use Rattle.xa_driver.specs.Idling.{IdlesToSend}
-use Rattle.xa_driver.specs.Steps.{SendsNothing}
-use Rattle.xa_driver.specs.UnderWay.{Sends, Stays, next_ask, sent_count}
+use Rattle.xa_base.proofs.{◌≡◌, ◌-◌, ◌<◌, ◌∙◌, ap, arith, false, length, sym, true}
+use Rattle.xa_driver.specs.{IdlesToSend, SendsNothing, Sends, Stays, next_ask, sent_count}
 use Rattle.xa_driver.proofs.Passing.{send_passes, idles_is, none_passed, step_is}
 use Rattle.xa_driver.proofs.round.Round.send_next.Goals as goal
 

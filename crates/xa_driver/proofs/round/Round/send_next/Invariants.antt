@@ -1,6 +1,5 @@
-use Rattle.std.proofs.Common.{◌-◌, length}
-use Rattle.xa_driver.specs.Steps.{SendsNothing}
-use Rattle.xa_driver.specs.UnderWay.{sent_count}
+use Rattle.xa_base.proofs.{◌-◌, length}
+use Rattle.xa_driver.specs.{SendsNothing, sent_count}
 use Rattle.xa_driver.proofs.Passing.{Passed}
 use Rattle.xa_driver.proofs.round.Round.send_next.Given as goal
 

@@ -1,7 +1,5 @@
-use Rattle.std.proofs.Common.{◌≡◌, ◌+◌, ◌<◌, length, refl, sym, ap, ◌∙◌, Some, arith}
-use Rattle.std.specs.List.{slice_get}
-use Rattle.std.proofs.lemmas.Option.{slice_get-get_or}
-use Rattle.xa_driver.specs.UnderWay.{next_ask, sent_count}
+use Rattle.xa_base.proofs.{◌≡◌, ◌+◌, ◌<◌, length, refl, sym, ap, ◌∙◌, Some, arith, slice_get, slice_get-get_or}
+use Rattle.xa_driver.specs.{next_ask, sent_count}
 use Rattle.xa_driver.proofs.Stepping.{can_now, free_now, matched_some, one_more_leaves, one_more_sent}
 use Rattle.xa_driver.proofs.round.Round.send_place.Goals as goal
 

@@ -1,7 +1,7 @@
 use Rattle.xa_driver.proofs.Calls.{among_second}
 use Rattle.xa_driver.proofs.Idling.{idles_same}
-use Rattle.std.proofs.Common.{map}
-use Rattle.xa_driver.specs.Rounds.{second_ask}
+use Rattle.xa_base.proofs.{map}
+use Rattle.xa_driver.specs.{second_ask}
 use Rattle.xa_driver.proofs.Ordering.{whole_in_order}
 use Rattle.xa_driver.proofs.stages.Decided.tell.Goals as goal
 

@@ -1,7 +1,7 @@
-use Rattle.std.proofs.Common.{◌∙◌, ap, arith, map, subst}
+use Rattle.xa_base.proofs.{◌∙◌, ap, arith, map, subst}
 use Rattle.xa_desk.specs.DeskView.{DeskView}
 use Rattle.xa_driver.specs.Asks.{Asks}
-use Rattle.xa_driver.specs.Rounds.{code_of, first_ask}
+use Rattle.xa_driver.specs.{code_of, first_ask}
 use Rattle.xa_driver.proofs.stages.Preparing.finish.Goals as goal
 
 pub returns-clause-prepared : goal.returns-clause-prepared

@@ -1,7 +1,7 @@
 use Rattle.xa_driver.proofs.Calls.{among_third}
 use Rattle.xa_driver.proofs.Idling.{idles_same}
-use Rattle.std.proofs.Common.{map}
-use Rattle.xa_driver.specs.Rounds.{third_ask}
+use Rattle.xa_base.proofs.{map}
+use Rattle.xa_driver.specs.{third_ask}
 use Rattle.xa_driver.proofs.Ordering.{whole_in_order}
 use Rattle.xa_driver.proofs.stages.Told.forget.Goals as goal
 

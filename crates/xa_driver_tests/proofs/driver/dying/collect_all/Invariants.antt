@@ -1,7 +1,7 @@
-use Rattle.std.proofs.Common.{◌≡◌, ℕ, map}
-use Rattle.xa_desk.specs.DeskView.{ledger}
+use Rattle.xa_base.proofs.{◌≡◌, ℕ, map}
+use Rattle.xa_desk.specs.{ledger}
 use Rattle.xa_desk.specs.GoesOn.{GoesOn}
-use Rattle.xa_switch.specs.Belonging.{seat_of_worker}
+use Rattle.xa_switch.specs.{seat_of_worker}
 use Rattle.xa_driver_tests.proofs.driver.dying.collect_all.Given as goal
 
 -- what was collected so far leaves what was sent

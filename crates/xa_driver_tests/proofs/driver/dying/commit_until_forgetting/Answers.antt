@@ -1,14 +1,8 @@
-use Rattle.std.proofs.Common.{◌≡◌, List, sym, ap, ◌∙◌, subst}
+use Rattle.xa_base.proofs.{◌≡◌, List, sym, ap, ◌∙◌, subst}
 use Rattle.xa_desk.specs.LedgerView.{LedgerView}
 use Rattle.xa_desk.specs.DeskView.{DeskView}
-use Rattle.xa_driver.specs.declared.branch.Branch.{Branch}
-use Rattle.xa_driver.specs.declared.done.Done.{Done}
-use Rattle.xa_driver.specs.declared.done.Ending.{Ending}
-use Rattle.xa_driver.specs.declared.round.Round.{Round}
-use Rattle.xa_driver.specs.declared.stages.Forgetting.{Forgetting}
-use Rattle.xa_driver.specs.Asks.{HaveComeSoFar, KeepsTheRest}
-use Rattle.xa_atomicity.specs.Cut.{IsCut}
-use Rattle.xa_driver.specs.Stages.{HasPrepared, IsForgetting}
+use Rattle.xa_driver.specs.{Branch, Done, Ending, Round, Forgetting, HaveComeSoFar, KeepsTheRest, HasPrepared, IsForgetting}
+use Rattle.xa_atomicity.specs.{IsCut}
 use Rattle.xa_driver_tests.proofs.Rounds.{forgetting_on, left_so_far, went_on}
 use Rattle.xa_driver_tests.proofs.driver.dying.commit_until_forgetting.Goals as goal
 

@@ -1,14 +1,11 @@
-use Rattle.std.proofs.Common.{List}
+use Rattle.xa_base.proofs.{List}
 use Rattle.std.proofs.lemmas.Result.{IfOk-weaker}
-use Rattle.xa_words.specs.Tran.{TranName}
+use Rattle.xa_words.specs.{TranName}
 use Rattle.xa_desk.specs.LedgerView.{LedgerView}
-use Rattle.xa_desk.specs.DeskView.{DeskView, ledger}
-use Rattle.xa_driver.specs.declared.branch.Branch.{Branch}
-use Rattle.xa_driver.specs.declared.done.Done.{Done}
-use Rattle.xa_driver.specs.Deaths.{Dies, PutsLedger}
-use Rattle.xa_driver.specs.Resolving.{AsksLedger}
-use Rattle.xa_driver.specs.Trace.{IsTranOf}
-use Rattle.xa_atomicity.specs.Cut.{IsCut}
+use Rattle.xa_desk.specs.DeskView.{DeskView}
+use Rattle.xa_desk.specs.{ledger}
+use Rattle.xa_driver.specs.{Branch, Done, Dies, PutsLedger, AsksLedger, IsTranOf}
+use Rattle.xa_atomicity.specs.{IsCut}
 use Rattle.xa_driver_tests.proofs.driver.dying.commit_until_it_dies.Goals as goal
 
 pub returns-in-At-clause-cut : goal.returns-in-At-clause-cut

@@ -1,6 +1,6 @@
-use Rattle.std.proofs.Common.{◌≡◌, true, refl}
-use Rattle.xa_words.specs.declared.request.Op.TheVariants.{Heur}
-use Rattle.xa_tables.specs.Prepared.{is_heur}
+use Rattle.xa_base.proofs.{◌≡◌, true, refl}
+use Rattle.xa_words.specs.{Heur}
+use Rattle.xa_tables.specs.{is_heur}
 use Rattle.xa_driver_tests.proofs.Shutting.{after_only}
 use Rattle.xa_driver_tests.proofs.driver.dying.decide.Goals as goal
 

@@ -1,8 +1,7 @@
-use Rattle.std.proofs.Common.{◌≡◌, [], ◌∷◌, sym, ap, subst}
+use Rattle.xa_base.proofs.{◌≡◌, [], ◌∷◌, sym, ap, subst}
 use Rattle.xa_switch.specs.Settling.{Settling}
-use Rattle.xa_log.specs.Log.{LogView, Records, record_in}
-use Rattle.xa_atomicity.specs.Presumed.{CountsByTheLog, EndsByTheLog}
-use Rattle.xa_atomicity.specs.Resolution.{CutCall, ResolveCall, cuts, resolves, with_use}
+use Rattle.xa_log.specs.{LogView, Records, record_in}
+use Rattle.xa_atomicity.specs.{CountsByTheLog, EndsByTheLog, CutCall, ResolveCall, cuts, resolves, with_use}
 use Rattle.xa_driver_tests.proofs.driver.dying.die_and_resolve.Goals as goal
 
 pub returns : goal.returns

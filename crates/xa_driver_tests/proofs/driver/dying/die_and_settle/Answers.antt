@@ -1,15 +1,10 @@
-use Rattle.std.proofs.Common.{◌≡◌, ℕ, true, false, List, [], ◌∷◌, map, sym, ap, subst, ◌∙◌}
-use Rattle.std.specs.List.{All}
-use Rattle.std.proofs.lemmas.Bool.{false≢true}
-use Rattle.xa_words.specs.Xid.{XidName}
-use Rattle.xa_words.specs.declared.request.Op.{Op}
-use Rattle.xa_tables.specs.Prepared.{is_heur, names}
+use Rattle.xa_base.proofs.{◌≡◌, ℕ, true, false, List, [], ◌∷◌, map, sym, ap, subst, ◌∙◌, All, false≢true}
+use Rattle.xa_words.specs.{XidName, Op}
+use Rattle.xa_tables.specs.{is_heur, names}
 use Rattle.xa_desk.specs.LedgerView.{LedgerView}
-use Rattle.xa_desk.specs.DeskView.{DeskView, ledger}
-use Rattle.xa_desk.specs.Growth.{HaveGrown}
-use Rattle.xa_switch.specs.Closing.{thread_part}
-use Rattle.xa_switch.specs.Fates.{ledgers_of}
-use Rattle.xa_switch.specs.Belonging.{DeskSeat}
+use Rattle.xa_desk.specs.DeskView.{DeskView}
+use Rattle.xa_desk.specs.{ledger, HaveGrown}
+use Rattle.xa_switch.specs.{thread_part, ledgers_of, DeskSeat}
 use Rattle.xa_switch.specs.Settling.{Settling}
 use Rattle.xa_driver_tests.proofs.Senders.{first_ledgers, own_of_both}
 use Rattle.xa_driver_tests.proofs.Shutting.{none_only}

@@ -1,6 +1,5 @@
-use Rattle.std.proofs.Common.{sym, subst, arith}
-use Rattle.std.specs.List.{All}
-use Rattle.xa_switch.specs.Recovery.{IsScanOf}
+use Rattle.xa_base.proofs.{sym, subst, arith, All}
+use Rattle.xa_switch.specs.{IsScanOf}
 use Rattle.xa_driver_tests.proofs.driver.openings.open_again.Goals as goal
 
 -- the one scan is all scans

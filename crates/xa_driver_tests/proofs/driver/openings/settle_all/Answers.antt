@@ -1,8 +1,7 @@
-use Rattle.std.proofs.Common.{map, sym, subst}
+use Rattle.xa_base.proofs.{map, sym, subst}
 use Rattle.std.specs.List.Sorted.{IsPermutation}
 use Rattle.std.proofs.lemmas.List.Sorted.{IsPermutation-refl}
-use Rattle.xa_switch.specs.OfPlans.{IsOf}
-use Rattle.xa_switch.specs.Belonging.{seat_of_desk, seat_of_worker}
+use Rattle.xa_switch.specs.{IsOf, seat_of_desk, seat_of_worker}
 use Rattle.xa_driver_tests.proofs.driver.openings.settle_all.Goals as goal
 
 -- the seats are those of the opening, in their order

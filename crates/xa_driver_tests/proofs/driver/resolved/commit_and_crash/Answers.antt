@@ -1,11 +1,10 @@
-use Rattle.std.proofs.Common.{◌≡◌, ℕ, List, [], ◌∷◌, map, sym, ap, subst, ◌∙◌}
-use Rattle.std.specs.List.{All}
-use Rattle.xa_words.specs.declared.request.Op.TheVariants.{Shut}
+use Rattle.xa_base.proofs.{◌≡◌, ℕ, List, [], ◌∷◌, map, sym, ap, subst, ◌∙◌, All}
+use Rattle.xa_words.specs.{Shut}
 use Rattle.xa_desk.specs.LedgerView.{LedgerView}
-use Rattle.xa_desk.specs.DeskView.{DeskView, ledger}
+use Rattle.xa_desk.specs.DeskView.{DeskView}
+use Rattle.xa_desk.specs.{ledger}
 use Rattle.xa_desk.proofs.Growth.{same_lists}
-use Rattle.xa_switch.specs.Closing.{thread_part}
-use Rattle.xa_switch.specs.Belonging.{DeskSeat}
+use Rattle.xa_switch.specs.{thread_part, DeskSeat}
 use Rattle.xa_switch.specs.Settling.{Settling}
 use Rattle.xa_driver_tests.proofs.Senders.{grown_of_first, own_of_two}
 use Rattle.xa_driver_tests.proofs.Shutting.{none_shut}

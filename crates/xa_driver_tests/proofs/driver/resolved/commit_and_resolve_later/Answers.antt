@@ -1,6 +1,6 @@
-use Rattle.std.proofs.Common.{[], ◌∷◌, sym, ap}
-use Rattle.xa_log.specs.Log.{LogView}
-use Rattle.xa_atomicity.specs.Resolution.{CommitCall}
+use Rattle.xa_base.proofs.{[], ◌∷◌, sym, ap}
+use Rattle.xa_log.specs.{LogView}
+use Rattle.xa_atomicity.specs.{CommitCall}
 use Rattle.xa_driver_tests.proofs.Resolved.{told_three_resolved, without_use}
 use Rattle.xa_driver_tests.proofs.driver.resolved.commit_and_resolve_later.Goals as goal
 

@@ -1,6 +1,5 @@
-use Rattle.std.proofs.Common.{map, sym, subst}
-use Rattle.xa_switch.specs.Plans.{planned}
-use Rattle.xa_switch.specs.Belonging.{ComeFromOpenings, seat_of_desk, seat_of_worker}
+use Rattle.xa_base.proofs.{map, sym, subst}
+use Rattle.xa_switch.specs.{planned, ComeFromOpenings, seat_of_desk, seat_of_worker}
 use Rattle.xa_driver_tests.proofs.driver.told.open.Goals as goal
 
 -- the one desk is all desks

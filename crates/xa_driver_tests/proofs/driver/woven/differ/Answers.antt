@@ -1,8 +1,5 @@
-use Rattle.std.specs.Prelude.{not}
-use Rattle.std.proofs.Common.{◌≡◌, true, false, sym, ap, ◌∙◌}
-use Rattle.std.proofs.lemmas.Bool.{false_from_ne_true}
-use Rattle.xa_words.specs.Xid.{xid_eq}
-use Rattle.xa_words.specs.Orders.{Decides-xid_eq}
+use Rattle.xa_base.proofs.{not, ◌≡◌, true, false, sym, ap, ◌∙◌, false_from_ne_true}
+use Rattle.xa_words.specs.{xid_eq, Decides-xid_eq}
 use Rattle.xa_driver_tests.proofs.driver.woven.differ.Goals as goal
 
 pub returns : goal.returns

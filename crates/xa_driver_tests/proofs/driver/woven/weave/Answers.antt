@@ -1,11 +1,8 @@
-use Rattle.std.specs.Prelude.{None, false, is_some}
-use Rattle.std.proofs.Common.{◌≡◌, sym, ap, ◌∙◌}
-use Rattle.xa_base.proofs.Options.{is_missing}
-use Rattle.xa_words.specs.Tran.{tran_of}
-use Rattle.xa_driver.specs.declared.branch.Branch.{Branch}
-use Rattle.xa_atomicity.specs.Cut.{LeavesBranches}
-use Rattle.xa_log.specs.Log.{record_of}
-use Rattle.xa_driver.specs.Trace.{MayCommit}
+use Rattle.xa_base.proofs.{None, false, is_some, ◌≡◌, sym, ap, ◌∙◌, is_missing}
+use Rattle.xa_words.specs.{tran_of}
+use Rattle.xa_driver.specs.{Branch, MayCommit}
+use Rattle.xa_atomicity.specs.{LeavesBranches}
+use Rattle.xa_log.specs.{record_of}
 use Rattle.xa_driver.proofs.Calls.{tran_first}
 use Rattle.xa_driver_tests.proofs.driver.woven.weave.Goals as goal
 

@@ -1,5 +1,4 @@
-use Rattle.std.proofs.Common.{arith}
-use Rattle.xa_base.proofs.Options.{at_ok}
+use Rattle.xa_base.proofs.{arith, at_ok}
 use Rattle.xa_grammar.proofs.FoundLemmas.{still_found, one_found}
 use Rattle.xa_grammar.proofs.keys.DeclaredKeys.add.Goals as goal
 

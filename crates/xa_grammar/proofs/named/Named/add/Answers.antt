@@ -1,6 +1,6 @@
-use Rattle.std.proofs.Common.{◌&&◌, ◌||◌, sym, ◌∙◌}
-use Rattle.xa_words.specs.ManagerSet.{is_in, set_of}
-use Rattle.xa_grammar.specs.Commits.{are_rising, is_named}
+use Rattle.xa_base.proofs.{◌&&◌, ◌||◌, sym, ◌∙◌}
+use Rattle.xa_words.specs.{is_in, set_of}
+use Rattle.xa_grammar.specs.{are_rising, is_named}
 use Rattle.xa_grammar.proofs.CommitLemmas.{if_rising, taken}
 use Rattle.xa_grammar.proofs.named.Named.add.Goals as goal
 

@@ -1,7 +1,5 @@
-use Rattle.std.proofs.Common.{◌≡◌, ◌<◌, ℕ, List, length, false, sym, ap, subst, ◌∙◌, arith}
-use Rattle.std.specs.Prelude.{◌==◌, Ok}
-use Rattle.std.proofs.lemmas.Result.{err_from_is_err_and}
-use Rattle.xa_grammar.specs.Grammar.{after_line, FailsAt}
+use Rattle.xa_base.proofs.{◌≡◌, ◌<◌, ℕ, List, length, false, sym, ap, subst, ◌∙◌, arith, ◌==◌, Ok, err_from_is_err_and}
+use Rattle.xa_grammar.specs.{after_line, FailsAt}
 use Rattle.xa_grammar.proofs.OneOpening.{after_one}
 use Rattle.xa_grammar.proofs.Lines.{ends_empty, ends, ends_in_fault}
 use Rattle.xa_grammar.proofs.read.Reading.finish.Goals as goal

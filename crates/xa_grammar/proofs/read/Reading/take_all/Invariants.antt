@@ -1,4 +1,5 @@
-use Rattle.xa_grammar.specs.Reading.{goes_on, StaysOne}
+use Rattle.xa_grammar.specs.Reading.{goes_on}
+use Rattle.xa_grammar.specs.{StaysOne}
 use Rattle.xa_grammar.proofs.Bytes.{Leads}
 use Rattle.xa_grammar.proofs.read.Reading.take_all.Given as goal
 

@@ -1,10 +1,9 @@
-use Rattle.std.proofs.Common.{◌≡◌, ◌+◌, ◌-◌, ◌<◌, ℕ, List, [], ◌∷◌, ◌++◌, length, take, drop, slice_index, true, ap, sym, subst, ◌∙◌, arith, append_assoc}
-use Rattle.std.proofs.Common.{take_all, length-drop}
-use Rattle.std.specs.Prelude.{◌==◌}
-use Rattle.std.proofs.lemmas.Result.{err_from_is_err_and}
+use Rattle.xa_base.proofs.{◌≡◌, ◌+◌, ◌-◌, ◌<◌, ℕ, List, [], ◌∷◌, ◌++◌, length, take, drop, true, ap, sym, subst, ◌∙◌, arith, append_assoc, take_all}
+use Rattle.xa_base.proofs.{length-drop, ◌==◌, err_from_is_err_and}
+use Rattle.std.proofs.Common.{slice_index}
 use Rattle.xa_grammar.specs.declared.read.Reading.{Reading}
 use Rattle.xa_grammar.specs.Reading.{goes_on}
-use Rattle.xa_grammar.specs.Grammar.{Fails}
+use Rattle.xa_grammar.specs.{Fails}
 use Rattle.xa_grammar.proofs.Lines.{no_end, no_end_before, cut_at}
 use Rattle.xa_grammar.proofs.read.Reading.take_chunk.Goals as goal
 

@@ -1,5 +1,6 @@
-use Rattle.std.proofs.Common.{◌≡◌, ◌≤◌, ℕ, List, ◌++◌, length}
-use Rattle.xa_grammar.specs.Reading.{goes_on, StaysOne}
+use Rattle.xa_base.proofs.{◌≡◌, ◌≤◌, ℕ, List, ◌++◌, length}
+use Rattle.xa_grammar.specs.Reading.{goes_on}
+use Rattle.xa_grammar.specs.{StaysOne}
 use Rattle.xa_grammar.proofs.read.Reading.take_chunk.Given as goal
 
 abbrev pub invariant-loop-end : goal.invariant-loop-end

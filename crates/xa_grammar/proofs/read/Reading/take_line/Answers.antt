@@ -1,7 +1,6 @@
-use Rattle.std.proofs.lemmas.Result.{err_from_is_err_and}
+use Rattle.xa_base.proofs.{err_from_is_err_and, ◌≡◌, [], ◌∷◌, refl, arith, append_assoc}
 use Rattle.xa_grammar.proofs.OneOpening.{after_one}
 use Rattle.xa_grammar.proofs.Lines.{nil_of, goes_further, stops_there}
-use Rattle.std.proofs.Common.{◌≡◌, [], ◌∷◌, refl, arith, append_assoc}
 use Rattle.xa_grammar.proofs.read.Reading.take_line.Goals as goal
 
 pub returns-in_err-read_line-clause-err : goal.returns-in_err-read_line-clause-err

@@ -1,4 +1,4 @@
-use Rattle.std.proofs.Common.{arith}
+use Rattle.xa_base.proofs.{arith}
 use Rattle.xa_grammar.proofs.Lines.{too_many, too_long}
 use Rattle.xa_grammar.proofs.read.Reading.take_part.Goals as goal
 

@@ -1,4 +1,4 @@
-use Rattle.xa_grammar.specs.KeptSteps.{task_step}
+use Rattle.xa_grammar.specs.{task_step}
 use Rattle.xa_grammar.proofs.ScriptLemmas.{step_kept}
 use Rattle.xa_grammar.proofs.script.Script.add_task.Goals as goal
 

@@ -1,9 +1,6 @@
-use Rattle.std.proofs.Common.{◌≡◌, ℕ, List, sym, ap, ◌∙◌, subst}
-use Rattle.std.specs.Prelude.{All}
-use Rattle.std.specs.Arc.{arc_value}
-use Rattle.xa_grammar.specs.Steps.{ScriptStep}
-use Rattle.xa_grammar.specs.Content.{Content, tasks_of}
-use Rattle.xa_grammar.specs.OwnTasks.{IsTask, tasks_in, own_steps, steps_at}
+use Rattle.xa_base.proofs.{◌≡◌, ℕ, List, sym, ap, ◌∙◌, subst, All, arc_value}
+use Rattle.xa_grammar.specs.{ScriptStep, tasks_of, IsTask, tasks_in, own_steps, steps_at}
+use Rattle.xa_grammar.specs.Content.{Content}
 use Rattle.xa_grammar.proofs.OwnTasks.{own_are_tasks, own_tasks}
 use Rattle.xa_grammar.proofs.script.Script.tasks_of.Goals as goal
 

@@ -1,6 +1,6 @@
-use Rattle.std.proofs.Common.{refl, sym, ap, ◌∙◌}
+use Rattle.xa_base.proofs.{refl, sym, ap, ◌∙◌}
 use Rattle.xa_grammar.specs.declared.step.Action.TheVariants as action
-use Rattle.xa_grammar.specs.Steps.{action_with}
+use Rattle.xa_grammar.specs.{action_with}
 use Rattle.xa_grammar.proofs.step.Action.map.Goals as goal
 
 pub returns-in-CommitAll : goal.returns-in-CommitAll

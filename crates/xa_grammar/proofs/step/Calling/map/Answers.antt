@@ -1,7 +1,8 @@
-use Rattle.std.proofs.Common.{◌≡◌, Option, None, Some, Bor, refl, sym, ap, ◌∙◌}
-use Rattle.std.specs.Prelude.{MatchOption, IsSomeAnd, option_map, option_copied}
+use Rattle.xa_base.proofs.{◌≡◌, Option, None, Some, refl, sym, ap, ◌∙◌, MatchOption, option_map}
+use Rattle.std.proofs.Common.{Bor}
+use Rattle.std.specs.Prelude.{IsSomeAnd, option_copied}
 use Rattle.xa_grammar.specs.declared.step.Calling.TheVariants as calling
-use Rattle.xa_grammar.specs.Steps.{call_with}
+use Rattle.xa_grammar.specs.{call_with}
 use Rattle.xa_grammar.proofs.step.Calling.map.Goals as goal
 
 -- what a call at what is there may answer is what the function gives

@@ -1,7 +1,5 @@
-use Rattle.std.proofs.Common.{ap, ◌∙◌}
-use Rattle.std.specs.List.{list_any}
-use Rattle.xa_grammar.specs.Content.{is_reopen}
-use Rattle.xa_grammar.specs.KeptSteps.{is_kept_reopen}
+use Rattle.xa_base.proofs.{ap, ◌∙◌, list_any}
+use Rattle.xa_grammar.specs.{is_reopen, is_kept_reopen}
 use Rattle.xa_grammar.proofs.Names.{any_reopens}
 use Rattle.xa_grammar.proofs.steps.Steps.any_reopens.Goals as goal
 

@@ -1,12 +1,8 @@
-use Rattle.std.proofs.Common.{◌≡◌, ◌<◌, ◌+◌, ◌++◌, ◌∷◌, [], List, Some, length, slice_get, cond, take, refl, sym, ap, ◌∙◌, subst, arith, append-nil}
-use Rattle.std.specs.Prelude.{All, option_map}
-use Rattle.std.proofs.lemmas.List.{take_all, length-map}
-use Rattle.std.proofs.lemmas.Option.{slice_get-map, slice_get_read}
-use Rattle.std.proofs.lemmas.List.Elements.{All-nil, All-push}
-use Rattle.xa_grammar.specs.Steps.{ScriptStep}
-use Rattle.xa_grammar.specs.KeptSteps.{step_at, steps_of}
+use Rattle.xa_base.proofs.{◌≡◌, ◌<◌, ◌+◌, ◌++◌, ◌∷◌, [], List, Some, length, slice_get, cond, take, refl, sym, ap, ◌∙◌, subst, arith, append-nil, All}
+use Rattle.xa_base.proofs.{option_map, take_all, length-map, slice_get-map, All-nil, All-push}
+use Rattle.std.proofs.lemmas.Option.{slice_get_read}
+use Rattle.xa_grammar.specs.{ScriptStep, step_at, steps_of, is_own, own_steps, steps_at}
 use Rattle.xa_grammar.proofs.Names.{own_same}
-use Rattle.xa_grammar.specs.OwnTasks.{is_own, own_steps, steps_at}
 use Rattle.xa_grammar.proofs.OwnTasks.{one_place_more, one_step_more}
 use Rattle.xa_grammar.proofs.steps.Steps.places_of.Goals as goal
 use Rattle.xa_grammar.proofs.steps.Steps.places_of.Goals.{then-is_of+in_ok-push, else-is_of}

@@ -1,7 +1,5 @@
-use Rattle.std.proofs.Common.{◌≡◌, ◌<◌, length, take}
-use Rattle.std.specs.Prelude.{All}
-use Rattle.xa_grammar.specs.OwnTasks.{own_steps, steps_at}
-use Rattle.xa_grammar.specs.KeptSteps.{steps_of}
+use Rattle.xa_base.proofs.{◌≡◌, ◌<◌, length, take, All}
+use Rattle.xa_grammar.specs.{own_steps, steps_at, steps_of}
 use Rattle.xa_grammar.proofs.steps.Steps.places_of.Given as goal
 
 -- those among the first steps

@@ -1,10 +1,6 @@
-use Rattle.std.proofs.Common.{◌≡◌, ◌++◌, ◌∷◌, [], List, ℕ, length, rules, sym, ap, ◌∙◌, subst}
-use Rattle.std.specs.Prelude.{All, Result, Ok, Err, OnErr}
-use Rattle.std.proofs.lemmas.List.{map-append}
-use Rattle.std.proofs.lemmas.List.Elements.{All-push}
-use Rattle.xa_grammar.specs.Steps.{ScriptStep}
-use Rattle.xa_grammar.specs.Spelling.{Spells, IsShort}
-use Rattle.xa_grammar.specs.KeptSteps.{KeptStep, IsNamed, step_at, steps_of, keys_in, kept_from}
+use Rattle.xa_base.proofs.{◌≡◌, ◌++◌, ◌∷◌, [], List, ℕ, length, rules, sym, ap, ◌∙◌, subst, All, Result, Ok, Err, map-append, All-push}
+use Rattle.std.specs.Prelude.{OnErr}
+use Rattle.xa_grammar.specs.{ScriptStep, Spells, IsShort, KeptStep, IsNamed, step_at, steps_of, keys_in, kept_from}
 use Rattle.xa_grammar.proofs.Names.{step_put, steps_grown, names_grown}
 use Rattle.xa_grammar.proofs.steps.Steps.push.Goals as goal
 

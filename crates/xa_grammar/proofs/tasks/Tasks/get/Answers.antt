@@ -1,8 +1,5 @@
-use Rattle.std.proofs.Common.{◌≡◌, ◌<◌, ℕ, List, Some, false, true, inl, inr, length, sym, ap, ◌∙◌, subst, arith}
-use Rattle.std.specs.Prelude.{slice_get}
-use Rattle.std.specs.Arc.{arc_value}
-use Rattle.xa_grammar.specs.Steps.{ScriptTask, ScriptStep}
-use Rattle.xa_grammar.specs.OwnTasks.{IsTask, steps_at}
+use Rattle.xa_base.proofs.{◌≡◌, ◌<◌, ℕ, List, Some, false, true, inl, inr, length, sym, ap, ◌∙◌, subst, arith, slice_get, arc_value}
+use Rattle.xa_grammar.specs.{ScriptTask, ScriptStep, IsTask, steps_at}
 use Rattle.xa_grammar.proofs.OwnTasks.{place_within, step_at_place, task_there, none_there}
 use Rattle.xa_grammar.proofs.tasks.Tasks.get.Goals as goal
 

@@ -1,5 +1,5 @@
-use Rattle.std.proofs.Common.{ap, ◌∙◌}
-use Rattle.xa_grammar.specs.Grammar.{are_comment}
+use Rattle.xa_base.proofs.{ap, ◌∙◌}
+use Rattle.xa_grammar.specs.{are_comment}
 use Rattle.xa_grammar.proofs.Splits.{are_comment_words}
 use Rattle.xa_grammar.proofs.words.Words.are_comment.Goals as goal
 

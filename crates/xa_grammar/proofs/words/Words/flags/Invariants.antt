@@ -1,5 +1,5 @@
-use Rattle.std.proofs.Common.{◌≡◌, length}
-use Rattle.xa_grammar.specs.Fields.{flags_onto}
+use Rattle.xa_base.proofs.{◌≡◌, length}
+use Rattle.xa_grammar.specs.{flags_onto}
 use Rattle.xa_grammar.proofs.words.Words.flags.Given as goal
 
 abbrev pub invariant-loop-word : goal.invariant-loop-word

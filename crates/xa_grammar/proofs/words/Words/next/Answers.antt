@@ -1,6 +1,5 @@
-use Rattle.std.proofs.Common.{◌≡◌, ◌<◌, ◌∷◌, take, drop, length, sym, ap, ◌∙◌, arith, true, false, take-append-drop, refl}
-use Rattle.std.specs.Prelude.{List, ℕ, Bool}
-use Rattle.xa_grammar.specs.Text.{words_of, starts_blank}
+use Rattle.xa_base.proofs.{◌≡◌, ◌<◌, ◌∷◌, take, drop, length, sym, ap, ◌∙◌, arith, true, false, take-append-drop, refl, List, ℕ, Bool}
+use Rattle.xa_grammar.specs.{words_of, starts_blank}
 use Rattle.xa_grammar.proofs.Splits.{first_word}
 use Rattle.xa_grammar.proofs.words.Words.next.Goals as goal
 

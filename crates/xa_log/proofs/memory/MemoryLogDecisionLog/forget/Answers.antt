@@ -1,7 +1,6 @@
-use Rattle.std.proofs.Common.{ap, ◌∙◌}
+use Rattle.xa_base.proofs.{ap, ◌∙◌, one_removed}
 use Rattle.std.specs.FinMap as map
-use Rattle.xa_words.specs.Tran.{tran_eq}
-use Rattle.xa_base.proofs.HashMaps.{one_removed}
+use Rattle.xa_words.specs.{tran_eq}
 use Rattle.xa_log.proofs.Transactions.{tran_cmp_total, tran_cmp-IsAntisymmetric, tran_eq-by_cmp}
 use Rattle.xa_log.proofs.Kept.{room_stays}
 use Rattle.xa_log.proofs.memory.MemoryLogDecisionLog.forget.Goals as goal

@@ -1,7 +1,6 @@
-use Rattle.std.proofs.Common.{ap, sym, ◌∙◌}
+use Rattle.xa_base.proofs.{ap, sym, ◌∙◌, get-lookup}
 use Rattle.std.specs.FinMap as map
-use Rattle.xa_words.specs.Tran.{tran_eq}
-use Rattle.xa_base.proofs.HashMaps.{get-lookup}
+use Rattle.xa_words.specs.{tran_eq}
 use Rattle.xa_log.proofs.Transactions.{tran_cmp_total, tran_cmp-IsAntisymmetric, tran_eq-by_cmp}
 use Rattle.xa_log.proofs.memory.MemoryLogDecisionRecords.has.Goals as goal
 

@@ -1,5 +1,5 @@
-use Rattle.std.proofs.Common.{◌≡◌, drop, map}
-use Rattle.xa_log.specs.Log.{all_records, record_in}
+use Rattle.xa_base.proofs.{◌≡◌, drop, map}
+use Rattle.xa_log.specs.{all_records, record_in}
 use Rattle.xa_log.proofs.several.RefSliceDecisionRecords.has.Given as goal
 
 -- what all have of the transaction is what those have that are left

@@ -1,7 +1,6 @@
-use Rattle.std.proofs.Common.{sym, subst, ap, ◌∙◌}
-use Rattle.xa_base.proofs.Options.{is_missing}
-use Rattle.xa_log.specs.Log.{AreNew, record_in}
-use Rattle.xa_log_worker.specs.Deeds.{records_in}
+use Rattle.xa_base.proofs.{sym, subst, ap, ◌∙◌, is_missing}
+use Rattle.xa_log.specs.{AreNew, record_in}
+use Rattle.xa_log_worker.specs.{records_in}
 use Rattle.xa_log_worker.proofs.Moves.{moves_push}
 use Rattle.xa_log_worker.proofs.News.{new_push}
 use Rattle.xa_log_worker.proofs.book.Book.admit.Goals as goal

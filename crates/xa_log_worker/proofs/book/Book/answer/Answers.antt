@@ -1,7 +1,6 @@
-use Rattle.std.proofs.Common.{refl, arith}
-use Rattle.xa_log_worker.specs.declared.ask.Ask.TheVariants.{Append}
+use Rattle.xa_base.proofs.{refl, arith}
+use Rattle.xa_log_worker.specs.{Append, answered_by}
 use Rattle.xa_log_worker.specs.declared.ask.Deed.TheVariants.{Answers}
-use Rattle.xa_log_worker.specs.Deeds.{answered_by}
 use Rattle.xa_log_worker.proofs.Moves.{moves_one, lane_sent}
 use Rattle.xa_log_worker.proofs.book.Book.answer.Goals as goal
 

@@ -1,5 +1,5 @@
-use Rattle.std.proofs.Common.{ap, map, ◌∙◌}
-use Rattle.xa_log_worker.specs.Deeds.{as_waiting}
+use Rattle.xa_base.proofs.{ap, map, ◌∙◌}
+use Rattle.xa_log_worker.specs.{as_waiting}
 use Rattle.xa_log_worker.proofs.Groups.{answered_places}
 use Rattle.xa_log_worker.proofs.Moves.{moves_settled}
 use Rattle.xa_log_worker.proofs.book.Book.close_group.Goals as goal

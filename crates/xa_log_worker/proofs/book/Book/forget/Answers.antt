@@ -1,8 +1,7 @@
-use Rattle.std.proofs.Common.{sym, subst, refl}
-use Rattle.xa_log.specs.Log.{AreNew}
-use Rattle.xa_log_worker.specs.declared.ask.Ask.TheVariants.{Forget}
+use Rattle.xa_base.proofs.{sym, subst, refl}
+use Rattle.xa_log.specs.{AreNew}
+use Rattle.xa_log_worker.specs.{Forget, records_in}
 use Rattle.xa_log_worker.specs.declared.ask.Deed.TheVariants.{Forgets}
-use Rattle.xa_log_worker.specs.Deeds.{records_in}
 use Rattle.xa_log_worker.proofs.Deeds.{does_forget}
 use Rattle.xa_log_worker.proofs.Moves.{moves_one, sent_none}
 use Rattle.xa_log_worker.proofs.News.{new_without}

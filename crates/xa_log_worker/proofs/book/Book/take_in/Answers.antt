@@ -1,5 +1,5 @@
-use Rattle.std.proofs.Common.{◌≡◌, false, subst, ap, ◌∙◌}
-use Rattle.xa_log_worker.specs.Deeds.{is_clash, tran_in}
+use Rattle.xa_base.proofs.{◌≡◌, false, subst, ap, ◌∙◌}
+use Rattle.xa_log_worker.specs.{is_clash, tran_in}
 use Rattle.xa_log_worker.proofs.Moves.{moves_then}
 use Rattle.xa_log_worker.proofs.book.Book.take_in.Goals as goal
 

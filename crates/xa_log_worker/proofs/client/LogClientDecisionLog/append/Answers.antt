@@ -1,9 +1,8 @@
-use Rattle.std.proofs.Common.{ap, inl, ◌∙◌, ◌+◌, ◌%◌, ◌^◌}
+use Rattle.xa_base.proofs.{ap, inl, ◌∙◌, ◌+◌, ◌%◌, ◌^◌, one_removed}
 use Rattle.std.specs.FinMap as map
-use Rattle.xa_base.proofs.HashMaps.{one_removed}
-use Rattle.xa_words.specs.Tran.{tran_eq}
+use Rattle.xa_words.specs.{tran_eq}
 use Rattle.xa_log.proofs.Transactions.{tran_cmp_total, tran_cmp-IsAntisymmetric, tran_eq-by_cmp}
-use Rattle.xa_log_worker.specs.Asking.{records_of}
+use Rattle.xa_log_worker.specs.{records_of}
 use Rattle.xa_log_worker.proofs.Own.{removed_again}
 use Rattle.xa_log_worker.proofs.client.LogClientDecisionLog.append.Goals as goal
 

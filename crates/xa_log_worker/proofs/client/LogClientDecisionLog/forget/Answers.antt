@@ -1,10 +1,8 @@
-use Rattle.std.proofs.Common.{◌≡◌, true, false, [], ◌∷◌, ap, sym, subst, refl, ◌∙◌}
-use Rattle.std.specs.Prelude.{is_some}
-use Rattle.xa_base.proofs.HashMaps.{one_removed, get-lookup}
-use Rattle.xa_words.specs.Tran.{tran_eq}
-use Rattle.xa_log.specs.Log.{record_in}
+use Rattle.xa_base.proofs.{◌≡◌, true, false, [], ◌∷◌, ap, sym, subst, refl, ◌∙◌, is_some, one_removed, get-lookup}
+use Rattle.xa_words.specs.{tran_eq}
+use Rattle.xa_log.specs.{record_in}
 use Rattle.xa_log.proofs.Transactions.{tran_cmp_total, tran_cmp-IsAntisymmetric, tran_eq-by_cmp}
-use Rattle.xa_log_worker.specs.Asking.{AsksToForget, records_of}
+use Rattle.xa_log_worker.specs.{AsksToForget, records_of}
 use Rattle.xa_log_worker.proofs.client.LogClientDecisionLog.forget.Goals as goal
 
 pub returns-then-is_some-clause-forgotten : goal.returns-then-is_some-clause-forgotten

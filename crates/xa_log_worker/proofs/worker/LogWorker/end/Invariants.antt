@@ -1,7 +1,5 @@
-use Rattle.std.proofs.Common.{◌≡◌, ◌≤◌, ◌++◌, map, length}
-use Rattle.std.specs.Prelude.{vec_capacity}
-use Rattle.std.specs.Vec.Iter.{into_iter_items, into_iter_len}
-use Rattle.xa_lane.specs.Senders.{but_full}
+use Rattle.xa_base.proofs.{◌≡◌, ◌≤◌, ◌++◌, map, length, vec_capacity, into_iter_items, into_iter_len}
+use Rattle.xa_lane.specs.{but_full}
 use Rattle.xa_log_worker.proofs.worker.LogWorker.end.Given as goal
 
 abbrev pub invariant-loop-sender : goal.invariant-loop-sender

@@ -1,4 +1,4 @@
-use Rattle.xa_log_worker.specs.Moves.{Steps}
+use Rattle.xa_log_worker.specs.{Steps}
 use Rattle.xa_log_worker.proofs.worker.LogWorker.run.Given as goal
 
 abbrev pub invariant-loop : goal.invariant-loop

@@ -1,4 +1,4 @@
-use Rattle.std.proofs.Common.{arith}
+use Rattle.xa_base.proofs.{arith}
 use Rattle.xa_log_worker.proofs.Groups.{none_in}
 use Rattle.xa_log_worker.proofs.Moves.{steps_closed}
 use Rattle.xa_log_worker.proofs.worker.LogWorker.step.Goals as goal

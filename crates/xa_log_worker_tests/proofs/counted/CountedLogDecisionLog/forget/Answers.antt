@@ -1,5 +1,5 @@
-use Rattle.xa_base.proofs.HashMaps.{one_removed}
-use Rattle.xa_words.specs.Tran.{tran_eq}
+use Rattle.xa_base.proofs.{one_removed}
+use Rattle.xa_words.specs.{tran_eq}
 use Rattle.xa_log.proofs.Transactions.{tran_cmp_total, tran_cmp-IsAntisymmetric, tran_eq-by_cmp}
 use Rattle.xa_log_worker_tests.proofs.counted.CountedLogDecisionLog.forget.Goals as goal
 

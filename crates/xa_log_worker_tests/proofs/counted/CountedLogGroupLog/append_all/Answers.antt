@@ -1,5 +1,5 @@
-use Rattle.std.proofs.Common.{sym, ◌∙◌}
-use Rattle.xa_log_worker.specs.Asking.{client_state}
+use Rattle.xa_base.proofs.{sym, ◌∙◌}
+use Rattle.xa_log_worker.specs.{client_state}
 use Rattle.xa_log_worker_tests.proofs.Puts.{put_with}
 use Rattle.xa_log_worker_tests.proofs.counted.CountedLogGroupLog.append_all.Goals as goal
 

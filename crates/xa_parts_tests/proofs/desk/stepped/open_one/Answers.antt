@@ -1,7 +1,6 @@
-use Rattle.std.proofs.Common.{◌≡◌, ◌∙◌, ◌+◌, ℕ, List, [], ◌∷◌, ◌++◌, sym, ap}
-use Rattle.xa_words.specs.declared.request.Request.{Request}
-use Rattle.xa_lane.specs.declared.name.LaneName.{LaneName}
-use Rattle.xa_lane.specs.Ends.{QueueId, Sending, new_sender, new_senders}
+use Rattle.xa_base.proofs.{◌≡◌, ◌∙◌, ◌+◌, ℕ, List, [], ◌∷◌, ◌++◌, sym, ap}
+use Rattle.xa_words.specs.{Request}
+use Rattle.xa_lane.specs.{LaneName, QueueId, Sending, new_sender, new_senders}
 use Rattle.xa_parts_tests.proofs.desk.stepped.open_one.Goals as goal
 
 abbrev name_of : ℕ → LaneName

@@ -1,9 +1,8 @@
-use Rattle.std.proofs.Common.{◌≡◌, ◌+◌, ◌⊎◌, ℕ, zero, suc, List, [], ◌∷◌, ◌++◌, length, Some, None, sym, ◌∙◌, ap, refl, subst, inl, inr, arith, length-append}
-use Rattle.std.specs.List.{slice_get}
-use Rattle.std.proofs.lemmas.List.Elements.{All-push}
-use Rattle.xa_words.specs.declared.request.Request.{Request}
-use Rattle.xa_lane.specs.Ends.{Sending}
-use Rattle.xa_desk.specs.Lanes.{AreEndsTo, IsEndTo}
+use Rattle.xa_base.proofs.{◌≡◌, ◌+◌, ◌⊎◌, ℕ, zero, suc, List, [], ◌∷◌, ◌++◌, length, Some, None, sym, ◌∙◌, ap, refl, subst, inl, inr, arith, length-append}
+use Rattle.xa_base.proofs.{slice_get, All-push}
+use Rattle.xa_words.specs.{Request}
+use Rattle.xa_lane.specs.{Sending}
+use Rattle.xa_desk.specs.{AreEndsTo, IsEndTo}
 use Rattle.xa_parts_tests.proofs.desk.stepped.open_requests.Goals as goal
 
 slice_get-push : {A : Type 0} (xs : List A) (x y : A) (k : ℕ) → slice_get (xs ++ x ∷ []) k ≡ Some y → (slice_get xs k ≡ Some y) ⊎ ((k ≡ length xs) × (x ≡ y))

@@ -1,8 +1,7 @@
-use Rattle.std.proofs.Common.{◌≡◌, [], length}
-use Rattle.std.specs.List.{All}
-use Rattle.xa_words.specs.declared.request.Request.{Request}
-use Rattle.xa_lane.specs.Ends.{Sending}
-use Rattle.xa_desk.specs.Lanes.{AreEndsTo}
+use Rattle.xa_base.proofs.{◌≡◌, [], length, All}
+use Rattle.xa_words.specs.{Request}
+use Rattle.xa_lane.specs.{Sending}
+use Rattle.xa_desk.specs.{AreEndsTo}
 use Rattle.xa_parts_tests.proofs.desk.stepped.open_requests.Given as goal
 
 -- the senders so far

@@ -1,5 +1,5 @@
-use Rattle.std.proofs.Common.{sym, subst}
-use Rattle.xa_desk.specs.Lanes.{AreEndsTo}
+use Rattle.xa_base.proofs.{sym, subst}
+use Rattle.xa_desk.specs.{AreEndsTo}
 use Rattle.xa_parts_tests.proofs.desk.stepped.opened.Goals as goal
 
 pub assemble-requires-clause-ends : goal.assemble-requires-clause-ends

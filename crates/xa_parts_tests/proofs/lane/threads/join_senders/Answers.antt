@@ -1,4 +1,4 @@
-use Rattle.std.proofs.Common.{arith}
+use Rattle.xa_base.proofs.{arith}
 use Rattle.xa_lane.proofs.Promises.{kept}
 use Rattle.xa_parts_tests.proofs.lane.threads.join_senders.Goals as goal
 

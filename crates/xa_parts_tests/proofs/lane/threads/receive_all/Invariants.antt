@@ -1,4 +1,4 @@
-use Rattle.xa_lane.specs.Ends.{SameReceiver}
+use Rattle.xa_lane.specs.{SameReceiver}
 use Rattle.xa_parts_tests.proofs.lane.threads.receive_all.Given as goal
 
 abbrev pub invariant-loop : goal.invariant-loop

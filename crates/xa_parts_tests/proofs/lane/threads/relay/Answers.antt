@@ -1,4 +1,4 @@
-use Rattle.std.proofs.Common.{◌∙◌, sym}
+use Rattle.xa_base.proofs.{◌∙◌, sym}
 use Rattle.xa_lane.proofs.Promises.{are_of_lane}
 use Rattle.xa_parts_tests.proofs.lane.threads.relay.Goals as goal
 

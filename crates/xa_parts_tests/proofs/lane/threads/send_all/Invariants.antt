@@ -1,4 +1,4 @@
-use Rattle.xa_lane.specs.Ends.{SameSender}
+use Rattle.xa_lane.specs.{SameSender}
 use Rattle.xa_parts_tests.proofs.lane.threads.send_all.Given as goal
 
 abbrev pub invariant-items : goal.invariant-items

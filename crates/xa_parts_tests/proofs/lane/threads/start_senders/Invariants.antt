@@ -1,5 +1,4 @@
-use Rattle.std.proofs.Common.{◌≡◌, ◌++◌, map, length}
-use Rattle.std.specs.Vec.Iter.{into_iter_items, into_iter_len}
+use Rattle.xa_base.proofs.{◌≡◌, ◌++◌, map, length, into_iter_items, into_iter_len}
 use Rattle.xa_parts_tests.proofs.lane.threads.start_senders.Given as goal
 
 abbrev pub invariant-loop-sender : goal.invariant-loop-sender

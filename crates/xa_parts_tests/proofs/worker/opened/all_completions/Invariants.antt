@@ -1,6 +1,5 @@
-use Rattle.std.proofs.Common.{◌≡◌, [], length}
-use Rattle.std.specs.Prelude.{All}
-use Rattle.xa_worker.specs.Outgoing.{Answering}
+use Rattle.xa_base.proofs.{◌≡◌, [], length, All}
+use Rattle.xa_worker.specs.{Answering}
 use Rattle.xa_parts_tests.proofs.worker.opened.all_completions.Given as goal
 
 abbrev pub invariant-loop-thread : goal.invariant-loop-thread

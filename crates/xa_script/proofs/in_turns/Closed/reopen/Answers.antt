@@ -1,9 +1,9 @@
-use Rattle.std.proofs.Common.{◌≡◌, suc, ◌+◌, List, sym, subst, arith}
-use Rattle.xa_worker.specs.Workers.{WorkerView}
+use Rattle.xa_base.proofs.{◌≡◌, suc, ◌+◌, List, sym, subst, arith}
+use Rattle.xa_worker.specs.{WorkerView}
 use Rattle.xa_grammar.specs.Content.{Content}
-use Rattle.xa_session.specs.declared.session.Session.{Session}
-use Rattle.xa_telling.specs.Planning.{AreNumbersOf}
-use Rattle.xa_script.specs.TurnsSoFar.{IsOpen}
+use Rattle.xa_session.specs.{Session}
+use Rattle.xa_telling.specs.{AreNumbersOf}
+use Rattle.xa_script.specs.{IsOpen}
 use Rattle.xa_script.proofs.Reopened.{next, follows, open_again}
 use Rattle.xa_script.proofs.in_turns.Closed.reopen.Goals as goal
 

@@ -1,8 +1,7 @@
-use Rattle.std.proofs.Common.{[], map}
-use Rattle.xa_base.proofs.Lists.{all_unmapped}
-use Rattle.xa_desk.specs.Kept.{AllKept}
-use Rattle.xa_session.specs.declared.session.Session.{Session}
-use Rattle.xa_script.specs.InTurns.{turns_at}
+use Rattle.xa_base.proofs.{[], map, all_unmapped}
+use Rattle.xa_desk.specs.{AllKept}
+use Rattle.xa_session.specs.{Session}
+use Rattle.xa_script.specs.{turns_at}
 use Rattle.xa_script.proofs.Closed.{later, all_told, has_run, comes}
 use Rattle.xa_script.proofs.Kept.{run_keeps}
 use Rattle.xa_script.proofs.Pieces.{pieces_of}

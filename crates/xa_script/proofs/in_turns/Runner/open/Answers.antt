@@ -1,17 +1,12 @@
-use Rattle.std.proofs.Common.{◌≡◌, ℕ, ◌+◌, List, [], ◌∷◌, map, Some, refl, sym, ap, subst}
-use Rattle.std.specs.Prelude.{slice_get}
-use Rattle.xa_base.proofs.Lists.{was_mapped}
+use Rattle.xa_base.proofs.{◌≡◌, ℕ, ◌+◌, List, [], ◌∷◌, map, Some, refl, sym, ap, subst, slice_get, was_mapped}
 use Rattle.xa_desk.specs.DeskView.{DeskView}
-use Rattle.xa_worker.specs.Workers.{WorkerView}
-use Rattle.xa_switch.specs.Plans.{planned}
-use Rattle.xa_switch.specs.OpenedPieces.{AreOfOneOpening}
+use Rattle.xa_worker.specs.{WorkerView}
+use Rattle.xa_switch.specs.{planned, AreOfOneOpening}
 use Rattle.xa_grammar.specs.Content.{Content}
-use Rattle.xa_session.specs.declared.session.Session.{Session}
-use Rattle.xa_session.specs.Sessions.{new_session, new_sessions}
-use Rattle.xa_telling.specs.ToldOpenings.{beginning}
-use Rattle.xa_telling.specs.Runs.{BeginsAs}
+use Rattle.xa_session.specs.{Session, new_session, new_sessions}
+use Rattle.xa_telling.specs.{beginning, BeginsAs}
 use Rattle.xa_telling.proofs.Opened.{planned_setup}
-use Rattle.xa_script.specs.TurnsSoFar.{IsOpen}
+use Rattle.xa_script.specs.{IsOpen}
 use Rattle.xa_script.proofs.in_turns.Runner.open.Goals as goal
 
 desks_of_new : (s : Content) (desks : List DeskView) → map (λ (x : Session). x.desk) (new_sessions s desks) ≡ desks

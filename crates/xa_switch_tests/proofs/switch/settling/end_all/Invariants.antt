@@ -1,6 +1,6 @@
 use Rattle.std.proofs.Common.{◌≡◌, ◌++◌, map, length}
 use Rattle.std.specs.Vec.Iter.{into_iter_items, into_iter_len}
-use Rattle.xa_switch.specs.Belonging.{desk_seats, seat_of_desk}
+use Rattle.xa_switch.specs.{desk_seats, seat_of_desk}
 use Rattle.xa_switch_tests.proofs.switch.settling.end_all.Given as goal
 
 abbrev pub invariant-loop-desk : goal.invariant-loop-desk

@@ -1,6 +1,5 @@
 use Rattle.std.proofs.Common.{map, sym, subst}
-use Rattle.xa_switch.specs.Plans.{planned}
-use Rattle.xa_switch.specs.Belonging.{ComeFromOpenings, seat_of_desk, worker_seats}
+use Rattle.xa_switch.specs.{planned, ComeFromOpenings, seat_of_desk, worker_seats}
 use Rattle.xa_switch_tests.proofs.switch.settling.open_and_settle.Goals as goal
 
 pub settle_all-requires : goal.settle_all-requires

@@ -1,5 +1,5 @@
 use Rattle.std.proofs.Common.{◌≡◌}
-use Rattle.xa_switch.specs.Belonging.{seat_of_desk}
+use Rattle.xa_switch.specs.{seat_of_desk}
 use Rattle.xa_switch_tests.proofs.switch.settling.play.Given as goal
 
 abbrev pub invariant-loop-act : goal.invariant-loop-act

@@ -1,5 +1,5 @@
-use Rattle.std.proofs.Common.{◌∙◌, ap}
-use Rattle.xa_words.specs.ManagerSet.{with_manager}
+use Rattle.xa_base.proofs.{◌∙◌, ap}
+use Rattle.xa_words.specs.{with_manager}
 use Rattle.xa_words.proofs.ManagerSets.{set_with}
 use Rattle.xa_words.proofs.manager_set.ManagerSet.add.Goals as goal
 

@@ -1,9 +1,7 @@
 use Rattle.std.specs.Cmp.Lexicographic.{slice_cmp}
-use Rattle.std.specs.Int.{w32}
+use Rattle.xa_base.proofs.{w32, nat_cmp, ◌∙◌, rules, to_z-of_z}
 use Rattle.std.specs.Int.RustNames.{FitsSigned}
-use Rattle.std.specs.Ordering.{nat_cmp, int_cmp, ordering_then}
-use Rattle.std.proofs.Common.{◌∙◌, rules}
-use Rattle.std.proofs.lemmas.Int.{to_z-of_z}
+use Rattle.std.specs.Ordering.{int_cmp, ordering_then}
 use Rattle.xa_words.specs.NumberBytes.{number_of}
 use Rattle.xa_words.proofs.XidFields.{fields_are}
 use Rattle.xa_words.proofs.xid.XidOrd.cmp.Goals as goal

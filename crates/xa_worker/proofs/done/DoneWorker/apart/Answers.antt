@@ -1,5 +1,5 @@
-use Rattle.std.proofs.Common.{subst}
-use Rattle.xa_worker.specs.Done.{IsServed}
+use Rattle.xa_base.proofs.{subst}
+use Rattle.xa_worker.specs.{IsServed}
 use Rattle.xa_worker.proofs.Orders.{ordered}
 use Rattle.xa_worker.proofs.done.DoneWorker.apart.Goals as goal
 

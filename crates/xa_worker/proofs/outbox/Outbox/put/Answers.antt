@@ -1,4 +1,4 @@
-use Rattle.std.proofs.Common.{length, ap, arith}
+use Rattle.xa_base.proofs.{length, ap, arith}
 use Rattle.xa_worker.specs.Outgoing.{Outgoing}
 use Rattle.xa_worker.proofs.outbox.Outbox.put.Goals as goal
 

@@ -1,6 +1,6 @@
-use Rattle.std.proofs.Common.{◌≡◌, ◌<◌, ℕ, zero, suc, false, List, [], ◌∷◌, get_or, sym, ap, refl, arith, Bool, ◌∙◌}
-use Rattle.xa_lane.specs.Ends.{has_ended}
-use Rattle.xa_worker.specs.Workers.{Reserved}
+use Rattle.xa_base.proofs.{◌≡◌, ◌<◌, ℕ, zero, suc, false, List, [], ◌∷◌, get_or, sym, ap, refl, arith, Bool, ◌∙◌}
+use Rattle.xa_lane.specs.{has_ended}
+use Rattle.xa_worker.specs.{Reserved}
 use Rattle.xa_worker.proofs.Ties.{tied_new}
 use Rattle.xa_worker.proofs.worker.Worker.assemble.Goals as goal
 

@@ -1,7 +1,6 @@
-use Rattle.std.proofs.Common.{map, sym, ap, subst, ◌∙◌, refl, append-nil, []}
-use Rattle.xa_lane.specs.Senders.{but_full}
-use Rattle.xa_worker.specs.Workers.{IsFinished}
-use Rattle.xa_worker.specs.Inner.{working_of}
+use Rattle.xa_base.proofs.{map, sym, ap, subst, ◌∙◌, refl, append-nil, []}
+use Rattle.xa_lane.specs.{but_full}
+use Rattle.xa_worker.specs.{IsFinished, working_of}
 use Rattle.xa_worker.proofs.Lanes.{lanes_alike}
 use Rattle.xa_worker.proofs.Seated.{served_keeps}
 use Rattle.xa_worker.proofs.Ties.{served_by}

@@ -1,4 +1,4 @@
-use Rattle.std.proofs.Common.{◌∙◌}
+use Rattle.xa_base.proofs.{◌∙◌}
 use Rattle.xa_worker.proofs.Paced.{unpaced, paces_on}
 use Rattle.xa_worker.proofs.Seated.{stepped_keeps}
 use Rattle.xa_worker.proofs.Ties.{same-chain, extends-chain, stepped-extends}

@@ -1,5 +1,4 @@
-use Rattle.xa_worker.specs.Steps.{Paces}
-use Rattle.xa_worker.specs.Workers.{SameWorker, Extends}
+use Rattle.xa_worker.specs.{Paces, SameWorker, Extends}
 use Rattle.xa_worker.proofs.worker.Worker.run.Given as goal
 
 abbrev pub invariant-loop : goal.invariant-loop

@@ -1,11 +1,8 @@
-use Rattle.std.proofs.Common.{◌≡◌, inl, inr, ◌<◌, ◌-◌, ◌∙◌, sym, ap, refl, subst, arith, length, length-append, length-set}
-use Rattle.xa_base.proofs.Options.{is_missing, is_there}
-use Rattle.xa_lane.specs.Ends.{has_ended}
-use Rattle.xa_tables.specs.Managers.{Managed}
-use Rattle.xa_worker.specs.Journal.{completion_of, entry_next}
-use Rattle.xa_worker.specs.Outgoing.{Outgoing, Puts, SameLanes}
-use Rattle.xa_worker.specs.Workers.{Asking, IsUnfit}
-use Rattle.xa_worker.specs.Inner.{working_of}
+use Rattle.xa_base.proofs.{◌≡◌, inl, inr, ◌<◌, ◌-◌, ◌∙◌, sym, ap, refl, subst, arith, length, length-append, length-set, is_missing, is_there}
+use Rattle.xa_lane.specs.{has_ended}
+use Rattle.xa_tables.specs.{Managed}
+use Rattle.xa_worker.specs.{completion_of, entry_next, Puts, SameLanes, Asking, IsUnfit, working_of}
+use Rattle.xa_worker.specs.Outgoing.{Outgoing}
 use Rattle.xa_worker.proofs.Kept.{unentered}
 use Rattle.xa_worker.proofs.Lanes.{lanes_flush, lanes-puts, lanes-chain, length-lanes}
 use Rattle.xa_worker.proofs.Parcels.{marked_end, ended_item, took_as}

@@ -1,4 +1,4 @@
-use Rattle.xa_switch.specs.Again.{reopening}
+use Rattle.xa_switch.specs.{reopening}
 use Rattle.xa_switch_tests.proofs.switch.settling.reopening.reopened.Goals as goal
 
 pub returns : goal.returns

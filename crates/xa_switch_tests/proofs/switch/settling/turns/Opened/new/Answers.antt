@@ -1,4 +1,4 @@
-use Rattle.xa_switch.specs.Plans.{planned}
+use Rattle.xa_switch.specs.{planned}
 use Rattle.xa_switch_tests.proofs.switch.settling.turns.Opened.new.Goals as goal
 
 pub returns : goal.returns

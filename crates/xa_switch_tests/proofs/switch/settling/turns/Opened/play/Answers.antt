@@ -1,6 +1,6 @@
 use Rattle.std.proofs.Common.{ap, ◌∙◌}
 use Rattle.std.proofs.Math.Seq.{map-set_same}
-use Rattle.xa_switch.specs.Belonging.{seat_of_desk}
+use Rattle.xa_switch.specs.{seat_of_desk}
 use Rattle.xa_switch_tests.proofs.switch.settling.turns.Opened.play.Goals as goal
 
 pub returns-clause-desks : goal.returns-clause-desks
