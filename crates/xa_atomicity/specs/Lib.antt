@@ -6,7 +6,6 @@ pub mod Conservation
 pub mod Resolution
 pub mod Worth
 pub mod Presumed
-
 -- The words of this crate, by its name.
 pub use Cut.{AreOthers, CameSoFar, DidOther, EachVote, GoesByTheRecord, HasSentNone, IsAsked, IsCut, IsEnded, IsTold}
 pub use Cut.{LeavesBranches, NoneWasToldToCommit, NoneWasToldToRollBack, asking, ending_at, forgetting, is_commit_of}

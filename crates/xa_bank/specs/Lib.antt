@@ -1,7 +1,6 @@
 pub mod Numbered
 pub mod Transfers
 pub mod Tellers
-
 -- The words of this crate, by its name.
 pub use Numbered.{death_if_at, death_in, shut_before, store_if_at}
 pub use Transfers.{AreLegs, FORMAT, HasLegs, HasNoLegs, IsLeg, IsReadEither, Leg, Makes, MakesAll, MakesEach, MakesNext}

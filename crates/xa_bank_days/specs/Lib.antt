@@ -2,7 +2,6 @@ pub mod Ledger
 pub mod Days
 pub mod Nights
 pub mod Banks
-
 -- The words of this crate, by its name.
 pub use Ledger.{Balances, all_applied, applied, share}
 pub use Days.{AreReadBack, AreToldAll, BeginsWith, ForEach, IsDawn, IsDayOf, IsNamed, IsReadBack, IsResolvedBy}

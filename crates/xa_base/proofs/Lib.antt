@@ -5,7 +5,6 @@ pub mod Options
 pub mod Sums
 pub mod FinMaps
 pub mod HashMaps
-
 -- The common words of std, and the lemmas of this crate, by its name.
 pub use Rattle.std.specs.Prelude.{MatchOption, unwrap_or, ◌+ℤ◌}
 pub use Rattle.std.proofs.Common.{Bool, Err, IfOk, IfSome, List, None, Ok, Option, Result, Some, Vec, [], ap, append_assoc, arith, cond, drop, false, get_or}

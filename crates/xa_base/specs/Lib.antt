@@ -1,7 +1,6 @@
 pub mod Lists
 pub mod Sums
 pub mod Maps
-
 -- The words of this crate, by its name.
 pub use Lists.{Begins, Chain, IsUpTo, Pairwise, more, none}
 pub use Sums.{total}

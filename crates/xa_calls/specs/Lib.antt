@@ -2,7 +2,6 @@ pub mod Asking
 pub mod Putting
 pub mod Completing
 pub mod Scans
-
 -- The words of this crate, by its name.
 pub use Asking.{asked_of, native, op_by, op_of, rm_op}
 pub use Putting.{CallLeaves, Calls, CallsAndWaits, Puts, async_refusal, call_waits, code_of, full, kept, put_refusal}

@@ -6,7 +6,6 @@ pub mod Opened
 pub mod Again
 pub mod Turns
 pub mod Turning
-
 -- The words of this crate, by its name.
 pub use Ending.{EndsDesk, EndsNumber, EndsNumbers, Telling, Told}
 pub use Pieces.{ArePiecesOf, HasGone, HasServed}

@@ -5,7 +5,6 @@ pub mod Settled
 pub mod Calls
 pub mod Recorded
 pub mod Legs
-
 -- The words of this crate, by its name.
 pub use Openings.{CommitsAmong, CommitsNowhere, is_for, moved_over}
 pub use Course.{MovesWhereCommitted, OnlyTold, Votes, is_committed, is_outcome, is_undecided, tells_outcome, voted_sum}

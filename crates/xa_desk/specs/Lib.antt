@@ -15,7 +15,6 @@ pub mod Seats
 pub mod Growth
 pub mod GoesOn
 pub mod Waits
-
 -- The words of this crate, by its name.
 pub use LedgerView.{IsBalanced, is_collected, is_rm_fail, learnt_shut, new_ledger, numbers, with_collected, with_sent}
 pub use DeskView.{IsHandle, IsKnown, IsLeast, IsLeastFree, IsLoose, IsOut, IsSent, Owns, TicketView, after_collected}

@@ -13,7 +13,6 @@ pub mod Idling
 pub mod Steps
 pub mod Commits
 pub mod Deaths
-
 -- The words of this crate, by its name.
 pub use Decision.{decides_commit, has_yes, is_no, is_read, is_yes, voted_yes, yes_of}
 pub use Endings.{ending_of, is_decided, is_heuristic, is_out_of_reach, no_ending, second_op, third_op, yes_ending}

@@ -5,7 +5,6 @@ pub mod Memory
 pub mod Appends
 pub mod History
 pub mod HistoryLaws
-
 -- The words of this crate, by its name.
 pub use Device.{Elapses, Follows, HasCause, IsOverwritten, IsTorn, IsWhole, LeavesOnly, Only, Torn, overwritten}
 pub use Spelling.{IsValid, yes_bytes}

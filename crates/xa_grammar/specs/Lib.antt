@@ -14,7 +14,6 @@ pub mod Taking
 pub mod Reading
 pub mod KeptSteps
 pub mod OwnTasks
-
 -- The words of this crate, by its name.
 pub use Text.{HasNoEnd, IsPlain, IsWord, carriage_return, dot, has_bytes, hash, is_script_byte, is_space, line_feed}
 pub use Text.{lines_of, minus, space, starts_blank, tab, without_return, words_of}

@@ -3,7 +3,6 @@ pub mod Ends
 pub mod Closing
 pub mod Senders
 pub mod Seats
-
 -- The words of this crate, by its name.
 pub use Order.{Delivers, Fits, IsMade, Popped, Tied, Within, after_deal, after_get, after_join, after_put, dealt, log}
 pub use Order.{made_in, marks, of_sender, put_of, receiver_learns, sender_learns, sent_in, taken_in, told_in, wrote}

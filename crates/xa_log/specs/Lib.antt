@@ -1,7 +1,6 @@
 pub mod Transactions
 pub mod Log
 pub mod Losing
-
 -- The words of this crate, by its name.
 pub use Transactions.{tran_cmp}
 pub use Log.{AppendsTo, AreNew, ForgetsFrom, IsEither, IsReadAs, LogState, LogView, Records, all_records, counted}

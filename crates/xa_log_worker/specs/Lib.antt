@@ -1,7 +1,6 @@
 pub mod Asking
 pub mod Deeds
 pub mod Moves
-
 -- The words of this crate, by its name.
 pub use Asking.{Appended, Asked, Asks, AsksFor, AsksToForget, AsksToForgetAll, IsAnswered, IsFull, Sends, Takes}
 pub use Asking.{TakesEnd, client_state, decision, records_of}

@@ -1,4 +1,3 @@
 pub mod Puts
-
 -- The words of this crate, by its name.
 pub use Puts.{put_records}

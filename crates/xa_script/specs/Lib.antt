@@ -3,7 +3,6 @@ pub mod InThreads
 pub mod Outcome
 pub mod TurnsSoFar
 pub mod Program
-
 -- The words of this crate, by its name.
 pub use InTurns.{Closing, HasCalled, HasEndedDesk, HasMadeSteps, HasStepped, HasTurned, HaveEnded, Stage, Steps}
 pub use InTurns.{TurnsAt, closing_of, stage_of, turns_at}

@@ -3,7 +3,6 @@ pub mod Committing
 pub mod Resolving
 pub mod Sessions
 pub mod ScriptThreads
-
 -- The words of this crate, by its name.
 pub use Calling.{Answers, HasAnswered, HasCollected, HasListed, IsListed, calling_waits, completed}
 pub use Committing.{CanCommit, CommitsAll, branch_at, branches_of, comes_to_decide, named}

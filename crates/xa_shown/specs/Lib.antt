@@ -1,6 +1,5 @@
 pub mod Outcomes
 pub mod Unfinished
-
 -- The words of this crate, by its name.
 pub use Outcomes.{AreNamedByNoOther, CountsAsShown, IsAsShown, IsOneOutcome, IsSumOfShares, NamesNone, Place}
 pub use Outcomes.{ShowsOneOutcome, branches_by, entered_so_far, is_among, names_it}

@@ -1,4 +1,3 @@
 pub mod Soak
-
 -- The words of this crate, by its name.
 pub use Soak.{AgreesAt, AllAgree, AreValuesAt, sent_by_all}

@@ -10,7 +10,6 @@ pub mod OfPlans
 pub mod Worth
 pub mod Again
 pub mod Recovery
-
 -- The words of this crate, by its name.
 pub use Plans.{IsSound, IsSoundManager, IsUniform, IsWithinLimits, Setup, completion_room, manager_room, new_manager}
 pub use Plans.{numbers_of, opened_by, planned, setup, use_async, usual_numbers}

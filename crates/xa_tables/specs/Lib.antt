@@ -12,7 +12,6 @@ pub mod Worked
 pub mod Prepared
 pub mod Worth
 pub mod Work
-
 -- The words of this crate, by its name.
 pub use Reasons.{decision_code, reason_code}
 pub use Tables.{Touch, association_of, associations_code, branch_in, branch_of, decision_in, decision_of, exists}

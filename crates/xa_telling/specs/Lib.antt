@@ -6,7 +6,6 @@ pub mod Resolves
 pub mod Journals
 pub mod ToldOpenings
 pub mod Runs
-
 -- The words of this crate, by its name.
 pub use Planning.{AreNumbersOf, AreOpened, IsPlanOf, IsSetupOf, plan_says, script_says}
 pub use Wants.{IsRefusal, Wanted, in_xa, outside_xa, refusals, wanted, wanted_by, wanted_in}

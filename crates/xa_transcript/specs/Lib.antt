@@ -3,7 +3,6 @@ pub mod Lines
 pub mod Text
 pub mod Transcript
 pub mod Values
-
 -- The words of this crate, by its name.
 pub use Ended.{all_ended, ended}
 pub use Lines.{LinesView}

@@ -12,7 +12,6 @@ pub mod Flags
 pub mod Orders
 pub mod TranOrders
 pub mod ManagerSet
-
 -- The words of this crate, by its name.
 pub use Xid.{XidName, bytes_of, xid_cmp, xid_code, xid_eq}
 pub use XidInverse.{IsPaddedXid, bytes_again, length_first, length_second}

@@ -2,7 +2,6 @@ pub mod Requests
 pub mod Sent
 pub mod Works
 pub mod Units
-
 -- The words of this crate, by its name.
 pub use Requests.{CallsOp, CollectsOp, IsCollected, IsFull, IsNoHandle, IsPut, IsTurnedAway, PutsAtLast, PutsOp}
 pub use Requests.{StaysSo, after_called, called, carries_async, done, failed, nothing, op_of, uncalled}

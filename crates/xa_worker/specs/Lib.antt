@@ -6,7 +6,6 @@ pub mod Done
 pub mod Seats
 pub mod Inner
 pub mod Finished
-
 -- The words of this crate, by its name.
 pub use Journal.{Entry, Follows, applied, codes_in, completion_of, entry, entry_next, owed, requests, tables_next}
 pub use Outgoing.{Answering, Puts, SameLanes, StillFull, flushed, flushed_by, put_to, waiting_at}
