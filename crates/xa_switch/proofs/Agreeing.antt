@@ -22,7 +22,8 @@ use Rattle.xa_lane.specs.Closing.{items_in}
 use Rattle.xa_switch.specs.Belonging.{HasDesks, HasWorkers, has_desk, has_worker}
 use Rattle.xa_switch.specs.Settling.{FollowsTables, Agree, IsSettled, ledgers_in, journal_in, find_thread, find_manager}
 use Rattle.xa_switch.specs.Closing.{column, IsClosed, desk_lane, worker_lane, thread_part, manager_part, taken_by, settling}
-use Rattle.xa_switch.proofs.Lists.{all_contains, all_map, contains_map, searched}
+use Rattle.std.proofs.lemmas.List.Elements.{All-contains}
+use Rattle.xa_switch.proofs.Lists.{all_map, contains_map, searched}
 use Rattle.xa_switch.proofs.OneLane.{none_of}
 use Rattle.xa_switch.proofs.Pieces.{Joint, workers_opened, request_columns, completion_columns, pair_agrees, known_at}
 
@@ -68,19 +69,19 @@ module _ (ds : List EndedView) (ws : List Served) (j : Joint ds ws) (rs : All (�
     (cs : All (λ r. IsClosed r.1 (column (completion_columns ws) r.0)) (map desk_lane ds)) where
   requests_closed : (w : Served) → Contains ws w → IsClosed w.receiver (column (request_columns ds) (w.number - 1))
   requests_closed w cw =
-      all_contains (λ (r : ℕ × Asking). IsClosed r.1 (column (request_columns ds) r.0)) (map worker_lane ws) (worker_lane w) rs (contains_map worker_lane ws w cw)
+      All-contains (λ (r : ℕ × Asking). IsClosed r.1 (column (request_columns ds) r.0)) (map worker_lane ws) (worker_lane w) rs (contains_map worker_lane ws w cw)
 
   completions_closed : (d : EndedView) → Contains ds d → IsClosed d.completions (column (completion_columns ws) (d.thread - 1))
   completions_closed d cd =
-      all_contains (λ (r : ℕ × Receiving Completion). IsClosed r.1 (column (completion_columns ws) r.0)) (map desk_lane ds) (desk_lane d) cs (contains_map desk_lane ds d cd)
+      All-contains (λ (r : ℕ × Receiving Completion). IsClosed r.1 (column (completion_columns ws) r.0)) (map desk_lane ds) (desk_lane d) cs (contains_map desk_lane ds d cd)
 
   -- a journal has nothing of a thread that isn't there
   no_desk : (t : ℕ) (w : Served) → Contains ws w → has_desk t ds ≡ false → of_thread t (requests w.journal) ≡ []
-  no_desk zero w cw none = let k : IsServed w = all_contains IsServed ws w j.workers cw in no_zero (items_in w.receiver.taken) w.journal k.taken
+  no_desk zero w cw none = let k : IsServed w = All-contains IsServed ws w j.workers cw in no_zero (items_in w.receiver.taken) w.journal k.taken
   no_desk (suc s) w cw none =
-      let k : IsServed w = all_contains IsServed ws w j.workers cw in
+      let k : IsServed w = All-contains IsServed ws w j.workers cw in
       let senders = k.senders in
-      let own : IsOrdered w = all_contains IsOrdered ws w j.ordered cw in
+      let own : IsOrdered w = All-contains IsOrdered ws w j.ordered cw in
       let t : suc s ≡ s + 1 = omega arith in
       ap (λ t. of_thread t (requests w.journal)) t
       ∙ own s
@@ -88,7 +89,7 @@ module _ (ds : List EndedView) (ws : List Served) (j : Joint ds ws) (rs : All (�
       ⊎_elim
       (λ (lt : s < w.manager.threads).
       let there : has_desk (suc s) ds ≡ true =
-      all_contains (λ (w : Served). HasDesks w.manager.threads ds) ws w j.all.whole.desks cw (suc s) (omega arith) (omega (arith, lt)) in
+      All-contains (λ (w : Served). HasDesks w.manager.threads ds) ws w j.all.whole.desks cw (suc s) (omega arith) (omega (arith, lt)) in
       absurd (cc (none, there)))
       (λ (le : w.manager.threads ≤ s). none_of w.receiver.senders s w.receiver.taken (requests_closed w cw).known.0 (omega (arith, le, senders)))
       (cases_lt s w.manager.threads)
@@ -101,7 +102,7 @@ module _ (ds : List EndedView) (ws : List Served) (j : Joint ds ws) (rs : All (�
     no_worker_by true e =
         let k = known_is d.ledgers m e in
         let there : has_worker m ws ≡ true =
-        all_contains (λ (d : EndedView). HasWorkers (length d.ledgers) ws) ds d j.all.whole.workers cd m k.positive k.within in
+        All-contains (λ (d : EndedView). HasWorkers (length d.ledgers) ws) ds d j.all.whole.workers cd m k.positive k.within in
         absurd (cc (none, there))
 
   sent_by : (at : List LedgerView) (m : ℕ) (b : Bool) → is_known at m ≡ b → sent_to at m ≡ cond b (ledger at m).sent []
@@ -157,9 +158,9 @@ module _ (ds : List EndedView) (ws : List Served) (j : Joint ds ws) (rs : All (�
   settled = record {
     agree = agrees;
     tables = all_map manager_part FollowsTables ws (λ w cw.
-        let k : IsServed w = all_contains IsServed ws w j.workers cw in
+        let k : IsServed w = All-contains IsServed ws w j.workers cw in
         record {
-          opened = all_contains (λ (w : Served). IsOpening w.first) ws w (workers_opened ds ws j.all) cw;
+          opened = All-contains (λ (w : Served). IsOpening w.first) ws w (workers_opened ds ws j.all) cw;
           coded = k.follows.codes_then;
           entered = all_taken w k.taken ∙ parted (taken_by w);
           carried = ap accepted (all_taken w k.taken);

@@ -12,7 +12,8 @@ use Rattle.xa_switch.specs.Belonging.{has_worker}
 use Rattle.xa_switch.specs.Settling.{ManagerPart, ReadyPart, find_manager}
 use Rattle.xa_switch.specs.Closing.{settling, manager_part, ready_part}
 use Rattle.xa_switch.specs.Again.{IsWhole, managers_in, parts_of, find_ready}
-use Rattle.xa_switch.proofs.Lists.{all_contains, searched}
+use Rattle.std.proofs.lemmas.List.Elements.{All-contains}
+use Rattle.xa_switch.proofs.Lists.{searched}
 use Rattle.xa_switch.proofs.Pieces.{Joint, a_worker, sends_at, worker_number}
 use Rattle.xa_base.specs.Lists.{IsUpTo}
 
@@ -41,7 +42,7 @@ module _ (d : EndedView) (ds : List EndedView) (ws : List Served) (j : Joint (d 
       let w = a_worker (d ∷ ds) ws j.all in
       let e = sends_at (d ∷ ds) ws j.all d w.0 first w.1 in
       let below = slice_get_within d.requests (w.0.number - 1) e.0 e.1 in
-      let known : IsEnded d = all_contains IsEnded (d ∷ ds) d j.desks first in
+      let known : IsEnded d = All-contains IsEnded (d ∷ ds) d j.desks first in
       let many = known.tied.ends.number in
       omega (arith, below, many)
 
@@ -59,7 +60,7 @@ module _ (d : EndedView) (ds : List EndedView) (ws : List Served) (j : Joint (d 
       let number = eqb-true x.0.number m x.2 in
       let e = sends_at (d ∷ ds) ws j.all d x.0 first x.1 in
       let below = slice_get_within d.requests (x.0.number - 1) e.0 e.1 in
-      let known : IsEnded d = all_contains IsEnded (d ∷ ds) d j.desks first in
+      let known : IsEnded d = All-contains IsEnded (d ∷ ds) d j.desks first in
       let many = known.tied.ends.number in
       let positive = worker_number (d ∷ ds) ws j.all x.0 x.1 in
       (omega (arith, number, positive), omega (arith, number, below, many, positive)))

@@ -13,7 +13,8 @@ use Rattle.std.proofs.lemmas.Option.{same_Some}
 use Rattle.xa_worker.specs.Journal.{Entry, requests, codes_in}
 use Rattle.xa_switch.specs.Settling.{ManagerPart, Settling, FollowsTables, IsSettled, find_manager, journal_in, value_in}
 use Rattle.xa_switch.specs.Fates.{IsOpenedWith, IsSumOver, fate_in, first_of, history}
-use Rattle.xa_switch.proofs.Lists.{all_contains, found}
+use Rattle.std.proofs.lemmas.List.Elements.{All-contains}
+use Rattle.xa_switch.proofs.Lists.{found}
 
 -- entries with the codes of their places
 coded_by : (J : List Entry) (T : Tables) → codes_in J ≡ codes (requests J) T → J ≡ coded (requests J) T
@@ -26,7 +27,7 @@ coded_by (x ∷ J) T e =
 -- the tables that a manager began with
 pub follows_part : (s : Settling) (m : ℕ) (p : ManagerPart) → find_manager m s.managers ≡ Some p → IsSettled s → IsOpenedWith s m p.first
 follows_part s m p e h =
-    let f : FollowsTables p = all_contains FollowsTables s.managers p h.tables (found (λ q. q.number == m) s.managers p e).0 in
+    let f : FollowsTables p = All-contains FollowsTables s.managers p h.tables (found (λ q. q.number == m) s.managers p e).0 in
     record {
       opened = f.opened;
       codes = ap journal_in e ∙ coded_by p.journal p.first f.coded ∙ sym (ap (λ (o : Option ManagerPart). coded (requests (journal_in o)) p.first) e);

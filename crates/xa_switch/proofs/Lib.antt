@@ -4,6 +4,7 @@ pub mod Meeting
 pub mod Lists
 pub mod Gathering
 pub mod OneLane
+mod Sides
 pub mod Pieces
 pub mod Agreeing
 pub mod Seated

@@ -32,9 +32,6 @@ pub in_map : {X Y : Type 0} (f : X → Y) (y : Y) (xs : List X) → In y (map f 
 in_map f y [] h = absurd h
 in_map f y (x ∷ xs) h = ⊎_elim (λ (e : f x ≡ y). (x, inl refl, e)) (λ (i : In y (map f xs)). let r = in_map f y xs i in (r.0, inr r.1, r.2)) h
 
-pub all_contains : {X : Type 0} (P : X → Type 0) (xs : List X) (x : X) → All P xs → Contains xs x → P x
-all_contains P xs x h c = subst P c.2 (h c.0 x c.1)
-
 pub in_back : {X : Type 0} (y : X) (xs : List X) → In y (xs ++ y ∷ [])
 in_back y [] = inl refl
 in_back y (x ∷ xs) = inr (in_back y xs)

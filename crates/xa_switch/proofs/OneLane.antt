@@ -21,7 +21,8 @@ use Rattle.xa_worker.specs.Journal.{Entry, requests, completion_of}
 use Rattle.xa_worker.specs.Outgoing.{Answering}
 use Rattle.xa_switch.specs.Settling.{answers}
 use Rattle.xa_switch.specs.Closing.{IsClosed}
-use Rattle.xa_switch.proofs.Lists.{In, in_front, in_map, place_of, all_contains}
+use Rattle.std.proofs.lemmas.List.Elements.{All-contains}
+use Rattle.xa_switch.proofs.Lists.{In, in_front, in_map, place_of}
 
 -- what the end at a place has sent
 pub asked_there : (ss : List (Sending Request)) (k : ℕ) (e : Sending Request) → slice_get ss k ≡ Some e → sent_at k ss ≡ e.sent
@@ -38,12 +39,12 @@ module _ {T : Type 0} (r : Receiving T) (ends : List (Sending T)) (h : IsClosed 
   -- once its end mark was taken, all that an end sent was
   pub taken_whole : (e : Sending T) → Contains ends e → has_ended e.index r.taken ≡ true → received e.index r.taken ≡ e.sent
   taken_whole e c m =
-      (all_contains (λ (e : Sending T). has_ended e.index r.taken ≡ true → (received e.index r.taken ≡ e.sent) × (left_of e.index h.left ≡ [])) ends e h.nothing c m).0
+      (All-contains (λ (e : Sending T). has_ended e.index r.taken ≡ true → (received e.index r.taken ≡ e.sent) × (left_of e.index h.left ≡ [])) ends e h.nothing c m).0
 
   -- what was taken of an end was sent by it
   pub in_sent : (e : Sending T) → Contains ends e → (x : T) → In x (received e.index r.taken) → In x e.sent
   in_sent e c x i =
-      subst (In x) (all_contains (λ (e : Sending T). received e.index r.taken ++ left_of e.index h.left ≡ e.sent) ends e h.conserves c) (in_front x (received e.index r.taken) (left_of e.index h.left) i)
+      subst (In x) (All-contains (λ (e : Sending T). received e.index r.taken ++ left_of e.index h.left ≡ e.sent) ends e h.conserves c) (in_front x (received e.index r.taken) (left_of e.index h.left) i)
 
   -- there is an end for each number of a sender
   pub end_of : (p : ℕ) → p < r.senders → (e : Sending T) × Contains ends e × (e.index ≡ p)
@@ -151,7 +152,7 @@ pub drawn_law : (r : Receiving Completion) (ends : List (Sending Completion)) �
 drawn_law r ends h each m e A c i s y of_m drawn =
     let x = in_received y r.senders r.taken h.known.0 drawn in
     let f = end_of r ends h x.0 x.1 in
-    let a : Answers f.0 = all_contains Answers ends f.0 each f.1 in
+    let a : Answers f.0 = All-contains Answers ends f.0 each f.1 in
     let z =
     in_map (completion_of (f.0.index + 1)) y a.0 (subst (In y) a.1 (in_sent r ends h f.0 f.1 y (subst (λ p. In y (received p r.taken)) (sym f.2) x.2))) in
     let same : f.0.index + 1 ≡ m = ap (λ (v : Completion). v.manager) z.2 ∙ of_m in

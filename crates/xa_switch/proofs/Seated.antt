@@ -15,7 +15,8 @@ use Rattle.xa_base.proofs.Lists.{contains_at}
 use Rattle.xa_switch.specs.OpenedPieces.{IsNewDesk, IsNewWorker, ShareNewLanes, AreOfOneOpening}
 use Rattle.xa_switch.specs.Belonging.{DeskSeat, WorkerSeat, openings_of, end_seat, seat_of_desk, seat_of_worker, ShareLanes, AreTogether, AreApartDesks}
 use Rattle.xa_switch.specs.Belonging.{AreApartWorkers, ComeFromOpenings}
-use Rattle.xa_switch.proofs.Lists.{all_map, all_contains, pairs_map, get_contained}
+use Rattle.std.proofs.lemmas.List.Elements.{All-contains}
+use Rattle.xa_switch.proofs.Lists.{all_map, pairs_map, get_contained}
 
 -- ---- an opening
 
@@ -53,7 +54,7 @@ module _ (p : Setup) (ds : List DeskView) (ws : List WorkerView) (h : AreOfOneOp
   opened_at : (k : ℕ) (w : WorkerView) → slice_get ws k ≡ Some w → IsOpening w.first
   opened_at k w at =
       let W : IsNewWorker p k w = h.workers k w at in
-      subst (λ (w : WorkerView). IsOpening w.first) (sym W.made) (all_contains IsOpening p.first W.first h.begins (contains_at p.first k W.first W.begins))
+      subst (λ (w : WorkerView). IsOpening w.first) (sym W.made) (All-contains IsOpening p.first W.first h.begins (contains_at p.first k W.first W.begins))
 
   pub opened : ComeFromOpenings (map seat_of_desk ds) (map seat_of_worker ws)
   opened = record {
@@ -79,10 +80,10 @@ module _ (p : Setup) (ds : List DeskView) (ws : List WorkerView) (h : AreOfOneOp
   numbered =
       All-append (λ n. n ≡ p.numbers.opening) (map (λ (s : DeskSeat). s.lane.opening) (map seat_of_desk ds)) (map (λ (s : WorkerSeat). s.lane.opening) (map seat_of_worker ws))
       (all_map (λ (s : DeskSeat). s.lane.opening) (λ n. n ≡ p.numbers.opening) (map seat_of_desk ds)
-      (λ s cs. all_contains (λ (s : DeskSeat). s.lane.opening ≡ p.numbers.opening) (map seat_of_desk ds) s
+      (λ s cs. All-contains (λ (s : DeskSeat). s.lane.opening ≡ p.numbers.opening) (map seat_of_desk ds) s
       (all_map seat_of_desk (λ (s : DeskSeat). s.lane.opening ≡ p.numbers.opening) ds
       (λ d cd. let D : IsNewDesk p cd.0 d = h.desks cd.0 d (get_contained ds d cd) in ap (λ (r : Receiving Completion). r.lane.opening) D.completions)) cs))
       (all_map (λ (s : WorkerSeat). s.lane.opening) (λ n. n ≡ p.numbers.opening) (map seat_of_worker ws)
-      (λ s cs. all_contains (λ (s : WorkerSeat). s.lane.opening ≡ p.numbers.opening) (map seat_of_worker ws) s
+      (λ s cs. All-contains (λ (s : WorkerSeat). s.lane.opening ≡ p.numbers.opening) (map seat_of_worker ws) s
       (all_map seat_of_worker (λ (s : WorkerSeat). s.lane.opening ≡ p.numbers.opening) ws
       (λ w cw. let W : IsNewWorker p cw.0 w = h.workers cw.0 w (get_contained ws w cw) in ap (λ (r : Receiving Request). r.lane.opening) W.requests)) cs))

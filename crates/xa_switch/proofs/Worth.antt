@@ -28,7 +28,8 @@ use Rattle.xa_switch.specs.OfPlans.{IsOfPlan}
 use Rattle.xa_switch.specs.Settling.{ThreadPart, Settling, IsSettled, find_thread, ledgers_in, value, sent}
 use Rattle.xa_switch.specs.Fates.{IsOpenedWith, first_of, history}
 use Rattle.xa_switch.specs.Worth.{threads_of, managers_of, accounts_in, accounts_of, plan_worth, moved_at, WorthIsOfThreads}
-use Rattle.xa_switch.proofs.Lists.{all_contains, found, contains_map}
+use Rattle.std.proofs.lemmas.List.Elements.{All-contains}
+use Rattle.xa_switch.proofs.Lists.{found, contains_map}
 use Rattle.xa_switch.proofs.Journaled.{follows_first}
 
 -- ---- numbers of a range
@@ -123,7 +124,7 @@ module _ (p : Plan) (s : Settling) (settled : IsSettled s) (of_plan : IsOfPlan p
     sound_at m positive below =
         let (plan, planned) = got p.managers.items (m - 1) (omega (arith, positive, below)) in
         ap (λ o. are_accounts (accounts_in o)) planned
-        ∙ all_contains IsSoundManager p.managers.items plan sound (contains_at p.managers.items (m - 1) plan planned)
+        ∙ All-contains IsSoundManager p.managers.items plan sound (contains_at p.managers.items (m - 1) plan planned)
 
     at_manager : (m : ℕ) → 1 ≤ m → m < 1 + length p.managers.items
         → total (λ d. unwrap_or (value s m d.0) (pos 0)) (accounts_of p m) ≡ worth_declared (accounts_of p m) +ℤ total (λ t. moved_at p s t m) (threads_of p)

@@ -1,4 +1,4 @@
-use Rattle.std.proofs.Common.{◌≡◌, ◌≤◌, List, [], length, map, replicate, sym, subst, ap, ◌∙◌}
+use Rattle.std.proofs.Common.{◌≡◌, ◌≤◌, List, length, map, sym, subst, ap, ◌∙◌}
 use Rattle.std.specs.List.{All}
 use Rattle.std.proofs.lemmas.List.{length-map}
 use Rattle.xa_desk.specs.Ended.{EndedView, IsEnded}
@@ -6,19 +6,13 @@ use Rattle.xa_worker.specs.Done.{Served, IsServed, IsOrdered}
 use Rattle.xa_switch.specs.Belonging.{ComeFromOpenings, AreOfOne, AreAll, desk_seats, worker_seats}
 use Rattle.xa_switch.specs.Settling.{Settling, IsSettled, journal}
 use Rattle.xa_switch.specs.Fates.{ledgers_of}
-use Rattle.xa_switch.specs.Closing.{dealt}
-use Rattle.xa_switch.proofs.Gathering.{length_dealt}
-use Rattle.xa_switch.proofs.Pieces.{Joint, workers_numbered, workers_opened, request_lanes_apart, request_lanes_places, request_lanes_closable}
-use Rattle.xa_switch.proofs.Pieces.{completion_lanes_apart, completion_lanes_places, completion_lanes_closable}
+use Rattle.xa_switch.proofs.Pieces.{Joint, workers_numbered, workers_opened, request_lanes, completion_lanes}
+use Rattle.xa_switch.proofs.Sides.{AreLanesOf}
 use Rattle.xa_switch.proofs.Agreeing.{settled}
 use Rattle.xa_switch.specs.Again.{IsWhole, parts_of}
 use Rattle.xa_switch.proofs.Ledgers.{all_settled_ledgers, all_settled_journals}
 use Rattle.xa_switch.proofs.AllThere.{parts_ready, all_there}
 use Rattle.xa_switch.proofs.settling.close_all.Goals as goal
-
--- eight columns
-many : {V X : Type 0} (items : V → List X) (C : List V) (rows : List (List X)) → map items C ≡ dealt (replicate 8 []) rows → 8 ≡ length C
-many items C rows e = sym (ap length e ∙ length_dealt (replicate 8 []) rows) ∙ length-map C items
 
 -- the pieces go together
 joint : (ds : List EndedView) (ws : List Served) → ComeFromOpenings (desk_seats ds) (worker_seats ws) → AreOfOne ds ws → AreAll ds ws
@@ -46,14 +40,10 @@ close_lanes-requires g c =
     let ws = c.args.workers.items in
     let j = joint ds ws c.requires.from c.requires.one c.requires.whole c.requires.few_managers c.requires.few_threads c.take_desks-sent.ensures.known
     c.take_workers-answered.ensures.known c.take_workers-answered.ensures.ordered in
-    let columns = c.take_desks-sent.ensures.taken.columns in
-    let lanes = c.take_workers-answered.ensures.taken.lanes in
-    let eight = many (λ v. v.items) c.take_desks-sent.result.columns.items (map (λ p. p.requests) ds) columns in
-    record {
-      apart = rw lanes (request_lanes_apart ds ws j);
-      places = rw (lanes, ← eight) (request_lanes_places ds ws j);
-      closable = rw (lanes, columns) (request_lanes_closable ds ws j);
-    }
+    let sent = c.take_desks-sent in
+    let lanes : AreLanesOf (map (λ v. v.items) sent.result.columns.items) c.take_workers-answered.result.lanes.items =
+    rw (c.take_workers-answered.ensures.taken.lanes, sent.ensures.taken.columns) (request_lanes ds ws j) in
+    record { apart = lanes.apart; places = rw length-map at lanes.places; closable = lanes.closable }
 
 pub close_lanes-requires-2 : goal.close_lanes-requires-2
 close_lanes-requires-2 g c =
@@ -61,14 +51,10 @@ close_lanes-requires-2 g c =
     let ws = c.args.workers.items in
     let j = joint ds ws c.requires.from c.requires.one c.requires.whole c.requires.few_managers c.requires.few_threads c.take_desks-sent.ensures.known
     c.take_workers-answered.ensures.known c.take_workers-answered.ensures.ordered in
-    let columns = c.take_workers-answered.ensures.taken.columns in
-    let lanes = c.take_desks-sent.ensures.taken.lanes in
-    let eight = many (λ v. v.items) c.take_workers-answered.result.columns.items (map (λ p. p.ends) ws) columns in
-    record {
-      apart = rw lanes (completion_lanes_apart ds ws j);
-      places = rw (lanes, ← eight) (completion_lanes_places ds ws j);
-      closable = rw (lanes, columns) (completion_lanes_closable ds ws j);
-    }
+    let answered = c.take_workers-answered in
+    let lanes : AreLanesOf (map (λ v. v.items) answered.result.columns.items) c.take_desks-sent.result.lanes.items =
+    rw (c.take_desks-sent.ensures.taken.lanes, answered.ensures.taken.columns) (completion_lanes ds ws j) in
+    record { apart = lanes.apart; places = rw length-map at lanes.places; closable = lanes.closable }
 
 pub returns-clause-parts : goal.returns-clause-parts
 returns-clause-parts g c = λ i. record {

@@ -9,7 +9,8 @@ use Rattle.xa_switch.specs.Plans.{new_manager}
 use Rattle.xa_switch.specs.Settling.{ReadyPart}
 use Rattle.xa_switch.specs.Again.{find_ready, last_in, parts_of, reopened_at}
 use Rattle.xa_switch.proofs.AllThere.{find_parts}
-use Rattle.xa_switch.proofs.Lists.{all_contains, found}
+use Rattle.std.proofs.lemmas.List.Elements.{All-contains}
+use Rattle.xa_switch.proofs.Lists.{found}
 use Rattle.xa_switch.proofs.opening.reopening.reopen_managers.Goals as goal
 
 pub take_manager-manager-requires : goal.take_manager-manager-requires
@@ -24,7 +25,7 @@ reopened-requires c =
     let taken : ReadyPart = c.take_manager-manager.result in
     let there : find_ready (k + 1) c.args.carried.items ≡ Some taken =
     sym (c.loop-before.invariant.kept (k + 1) (omega arith)) ∙ c.take_manager-manager.ensures.taken in
-    all_contains (λ (r : ReadyPart). r.reserved ≡ Some (c.args.numbers.now.threads, c.args.room)) c.args.carried.items taken c.requires.reserved (found _ c.args.carried.items taken there).0
+    All-contains (λ (r : ReadyPart). r.reserved ≡ Some (c.args.numbers.now.threads, c.args.room)) c.args.carried.items taken c.requires.reserved (found _ c.args.carried.items taken there).0
 
 pub push_reserved-requires : goal.push_reserved-requires
 push_reserved-requires c =
