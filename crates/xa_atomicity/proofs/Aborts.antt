@@ -1,4 +1,5 @@
 -- On abort no Commit is sent.
+use Rattle.xa_atomicity.proofs.Asked.{second_so, third_so}
 use Rattle.std.specs.Prelude.{◌≡◌, true, false, not, ◌&&◌, ◌||◌, Option, None, Some, List, refl}
 use Rattle.std.proofs.Common.{◌∙◌, subst}
 use Rattle.std.proofs.lemmas.List.Folds.{list_any_none}
@@ -29,13 +30,6 @@ use Rattle.xa_atomicity.proofs.Resolves.{Sends, asks_on, stays}
 abbrev pub IsNoCommit : Op → Type 0
 IsNoCommit op = is_commit op ≡ false
 
-pub on_abort : (x : XidName) (v : Code) → IsAskedFor IsNoCommit (second_op false x v)
-on_abort x v = by_if (IsAskedFor IsNoCommit) (is_read v || (is_rolled_back v || is_out_of_reach v)) None (Some (Rollback x)) (λ _. tt) (λ _. refl)
-
-pub on_forget : (x : XidName) (s : Option Code) → IsAskedFor IsNoCommit (third_op x s)
-on_forget x None = tt
-on_forget x (Some c) = by_if (IsAskedFor IsNoCommit) (is_decided c) (Some (Forget x)) None (λ _. refl) (λ _. tt)
-
 -- on abort no Commit is sent to any manager
 pub abort_sends_no_commit : (tran : TranName) (bs : List Branch) (old new : List LedgerView) (log later : LogState) (done : Done)
     → IsTraceOfCommit tran bs old new log later done → done.commit ≡ false → NoCommitWasSent old new
@@ -46,7 +40,7 @@ abort_sends_no_commit tran bs old new log later done call off m positive =
   where
     no_commit : (b : Branch) (v : Code) (s : Option Code) (e : Ending) (a a' : LedgerView) → AtBranch AsksLedger false b v s e a a' → Sends IsNoCommit a a'
     no_commit b v s e a a' is =
-        branch_by AsksLedger IsNoCommit (Sends IsNoCommit a) (λ d z op c so asked q. asks_on IsNoCommit a d z op c so asked q) false b v s e a a' is (on_abort b.xid v) (on_forget b.xid s) refl (stays IsNoCommit a)
+        branch_by AsksLedger IsNoCommit (Sends IsNoCommit a) (λ d z op c so asked q. asks_on IsNoCommit a d z op c so asked q) false b v s e a a' is (second_so IsNoCommit false b.xid v refl) (third_so IsNoCommit b.xid s (λ _. refl)) refl (stays IsNoCommit a)
 
 -- where the log didn't take the record, the decision is to abort
 pub failed_append_aborts : (tran : TranName) (bs : List Branch) (old new : List LedgerView) (log later : LogState) (done : Done)

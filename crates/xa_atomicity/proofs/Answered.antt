@@ -1,13 +1,14 @@
 -- Where the request of a resolve that was answered stands in a history, and what it leaves.
+use Rattle.xa_atomicity.proofs.Leading.{waits, unforgotten, over}
 use Rattle.std.specs.Prelude.{◌&&◌, unwrap_or}
 use Rattle.std.proofs.Common.{◌≡◌, ◌≢◌, ℕ, suc, ◌+◌, Bool, true, false, cond, ◌==◌, ◌||◌, List, [], ◌∷◌, ◌++◌, length, append_assoc, slice_get, get_or, sym}
 use Rattle.std.proofs.Common.{refl, ap, ◌∙◌, subst, arith, Option, Some, None}
 use Rattle.std.specs.List.{All, cons_option}
 use Rattle.std.specs.Cmp.{nat_cmp_total}
 use Rattle.std.specs.FinSet.{contains-insert}
-use Rattle.std.proofs.lemmas.Bool.{and_right, eqb-true}
+use Rattle.std.proofs.lemmas.Bool.{and_right, both_ways, eqb-true, false_from_ne_true}
 use Rattle.std.proofs.lemmas.List.Elements.{All-head, All-tail}
-use Rattle.xa_base.proofs.Truth.{tied_true}
+use Rattle.xa_base.proofs.Truth.{by_bool, tied_true}
 use Rattle.xa_base.proofs.Lists.{all_left, all_right}
 use Rattle.xa_words.specs.Xid.{XidName}
 use Rattle.xa_words.specs.declared.code.Code.{Code}
@@ -33,7 +34,7 @@ use Rattle.xa_switch.specs.Settling.{answers}
 use Rattle.xa_atomicity.specs.Resolution.{ended_as}
 use Rattle.xa_driver.specs.Resolving.{outcome_op}
 use Rattle.xa_atomicity.proofs.Guided.{decided_known, known_stays}
-use Rattle.xa_atomicity.proofs.Leading.{Stands, waits, unforgotten, over, IsTowards, Led, Standing, led_after, ends_it}
+use Rattle.xa_atomicity.proofs.Leading.{Stands, IsTowards, Led, Standing, led_after, ends_it}
 use Rattle.xa_atomicity.proofs.Placing.{request_of, part, numbered_both, fates, fates_both, last_both}
 use Rattle.xa_atomicity.proofs.Requests.{own_all, code_there, count_two}
 use Rattle.xa_atomicity.proofs.Resolves.{IsAnsweredIn, IsNoClose}
@@ -88,24 +89,18 @@ decided_of {d = d} is (over state known) = let z : None ≡ Some (HeuristicallyC
 -- it stands in the history after its thread's OpenRm, with no CloseRm of the thread in between
 pub record Placed (t : ℕ) (T : Tables) (H : History) (op : Op) (code : Code) : Type 0 where
   pub first : History
-  pub opens : Request
+  pub opens : ℕ
   pub mid : History
-  pub ends : Request
+  pub ends : ℕ
   pub rest : History
-  pub place : H ≡ (first ++ opens ∷ mid) ++ ends ∷ rest
-  pub opens_thread : opens.thread ≡ t
-  pub opens_op : opens.op ≡ OpenRm
-  pub ends_thread : ends.thread ≡ t
-  pub ends_op : ends.op ≡ op
+  pub place : H ≡ (first ++ request_of t opens OpenRm ∷ mid) ++ request_of t ends op ∷ rest
   pub open_ : All (λ r. closes t r ≡ false) mid
-  pub code_is : code ≡ (next t op (tables_after (first ++ opens ∷ mid) T)).1
+  pub code_is : code ≡ (next t op (tables_after (first ++ request_of t opens OpenRm ∷ mid) T)).1
 
 no_closes : (t : ℕ) (h : History) → All (λ r. r.thread ≡ t → IsNoClose r.op) h → All (λ r. closes t r ≡ false) h
 no_closes t h none k d lt =
-    elim ((get_or h k d).thread == t) as (λ b. ((get_or h k d).thread == t) ≡ b → (is_close (get_or h k d).op && b) ≡ false) [
-      | false ↦ λ _. and_right (is_close (get_or h k d).op) false refl
-      | true ↦ λ own. closing (get_or h k d).op (none k d lt (eqb-true (get_or h k d).thread t own))
-    ] refl
+    by_bool (λ b. (is_close (get_or h k d).op && b) ≡ false) ((get_or h k d).thread == t) (λ own. closing (get_or h k d).op (none k d lt (eqb-true (get_or h k d).thread t own)))
+    (λ _. and_right (is_close (get_or h k d).op) false refl)
   where
     closing : (op : Op) → op ≢ CloseRm → (is_close op && true) ≡ false
     closing CloseRm n = absurd (n refl)
@@ -124,22 +119,16 @@ placed t T H op code a ops pairs carried answered i =
     let place : H ≡ (p.before ++ request_of t n OpenRm ∷ q.before) ++ request_of t m op ∷ q.after =
     p.place ∙ ap (λ l. p.before ++ request_of t n OpenRm ∷ l) q.place
     ∙ sym (append_assoc p.before (request_of t n OpenRm ∷ q.before) (request_of t m op ∷ q.after)) in
-    let count : length (of_thread t (p.before ++ request_of t n OpenRm ∷ q.before)) ≡ m =
-    count_two t n OpenRm p.before q.before a.sent i.mid p.earlier q.earlier ∙ (let e : suc (length a.sent) + length i.mid ≡ m = omega arith in e) in
-    let number : i.number ≡ m = i.number_is ∙ (let e : suc (length a.sent) + length i.mid ≡ m = omega arith in e) in
+    let more : suc (length a.sent) + length i.mid ≡ m = omega arith in
     record {
       first = p.before;
-      opens = request_of t n OpenRm;
+      opens = n;
       mid = q.before;
-      ends = request_of t m op;
+      ends = m;
       rest = q.after;
       place = place;
-      opens_thread = refl;
-      opens_op = refl;
-      ends_thread = refl;
-      ends_op = refl;
       open_ = no_closes t q.before (own_all t IsNoClose q.before (suc n) i.mid q.earlier i.open_);
-      code_is = code_there t H T pairs i.earlier i.others m code answered (i.collected ∙ ap (λ k. i.earlier ++ (k, code) ∷ i.others) number) (p.before ++ request_of t n OpenRm ∷ q.before) q.after op place count;
+      code_is = code_there t H T pairs i.earlier i.others m code answered (i.collected ∙ ap (λ k. i.earlier ++ (k, code) ∷ i.others) (i.number_is ∙ more)) (p.before ++ request_of t n OpenRm ∷ q.before) q.after op place (count_two t n OpenRm p.before q.before a.sent i.mid p.earlier q.earlier ∙ more);
     }
 
 -- a thread that asks to open has the manager open, unless it is shut
@@ -156,7 +145,10 @@ module _ (commit : Bool) (D L : Type 0) (t : ℕ) (x : XidName) (T : Tables) (H 
   op = outcome_op commit x
 
   abbrev before : History
-  before = z.first ++ z.opens ∷ z.mid
+  before = z.first ++ request_of t z.opens OpenRm ∷ z.mid
+
+  abbrev ends : Request
+  ends = request_of t z.ends op
 
   abbrev U : Tables
   U = tables_after before T
@@ -164,63 +156,43 @@ module _ (commit : Bool) (D L : Type 0) (t : ℕ) (x : XidName) (T : Tables) (H 
   abbrev at_first : Tables
   at_first = tables_after z.first T
 
-  pub all_towards : All (λ r. IsTowards commit L x r.op) (before ++ z.ends ∷ z.rest)
-  all_towards = subst (All (λ (r : Request). IsTowards commit L x r.op)) z.place towards
-
-  towards_before : All (λ r. IsTowards commit L x r.op) before
-  towards_before = all_left (λ (r : Request). IsTowards commit L x r.op) before (z.ends ∷ z.rest) all_towards
-
-  towards_rest : All (λ r. IsTowards commit L x r.op) z.rest
-  towards_rest =
-      All-tail (λ (r : Request). IsTowards commit L x r.op) z.ends z.rest (all_right (λ (r : Request). IsTowards commit L x r.op) before (z.ends ∷ z.rest) all_towards)
+  pub from_here : All (λ r. IsTowards commit L x r.op) (ends ∷ z.rest)
+  from_here = all_right (λ (r : Request). IsTowards commit L x r.op) before (ends ∷ z.rest) (subst (All (λ (r : Request). IsTowards commit L x r.op)) z.place towards)
 
   pub now : Standing commit true D L x U (last_or f (fates x before T))
-  now = led_after commit true D L x before T f towards_before st
+  now =
+      led_after commit true D L x before T f (all_left (λ (r : Request). IsTowards commit L x r.op) before (ends ∷ z.rest) (subst (All (λ (r : Request). IsTowards commit L x r.op)) z.place towards)) st
 
   open_now : U.shut ≡ false
-  open_now = elim (U.shut) as (λ b. U.shut ≡ b → b ≡ false) [
-    | true ↦ λ shut. absurd (reached (z.code_is ∙ ap (λ (a : Answer). a.1) (next-shut t op U shut)))
-    | false ↦ λ _. refl
-  ] refl
+  open_now = false_from_ne_true (U.shut) (λ shut. reached (z.code_is ∙ ap (λ (a : Answer). a.1) (next-shut t op U shut)))
 
   open_first : at_first.shut ≡ false
-  open_first = elim (at_first.shut) as (λ b. at_first.shut ≡ b → b ≡ false) [
-    | true ↦ λ shut.
-        let same : U ≡ at_first = tables_after-append z.first (z.opens ∷ z.mid) T ∙ shut_stays (z.opens ∷ z.mid) at_first shut in
-        let no_more : true ≡ false = sym shut ∙ sym (ap (λ (V : Tables). V.shut) same) ∙ open_now in cc
-    | false ↦ λ _. refl
-  ] refl
+  open_first = false_from_ne_true (at_first.shut) (λ shut.
+      both_ways (U.shut) open_now
+      (ap (λ (V : Tables). V.shut) (tables_after-append z.first (request_of t z.opens OpenRm ∷ z.mid) T ∙ shut_stays (request_of t z.opens OpenRm ∷ z.mid) at_first shut) ∙ shut))
 
   has_it : has_opened U t ≡ true
   has_it =
-      ap (λ (V : Tables). has_opened V t) (tables_after-append z.first (z.opens ∷ z.mid) T)
-      ∙ opened_on z.mid t (next z.opens.thread z.opens.op at_first).0 ((λ i. has_opened (next (z.opens_thread i) (z.opens_op i) at_first).0 t) ∙ opens_now t at_first open_first) z.open_
-
-  led : Led commit false D L x z.ends.op (last_or f (fates x before T)) (next z.ends.thread z.ends.op U)
-  led =
-      subst (λ (o : Op). Led commit false D L x o (last_or f (fates x before T)) (next z.ends.thread o U)) (sym z.ends_op)
-      (subst (λ (k : ℕ). Led commit false D L x op (last_or f (fates x before T)) (next k op U)) (sym z.ends_thread)
-      (ends_it commit D L x (last_or f (fates x before T)) U now.sound t open_now has_it now.stands (λ d e. told d (z.code_is ∙ e))))
+      ap (λ (V : Tables). has_opened V t) (tables_after-append z.first (request_of t z.opens OpenRm ∷ z.mid) T)
+      ∙ opened_on z.mid t (next t OpenRm at_first).0 (opens_now t at_first open_first) z.open_
 
   -- after it the branch is no longer open
   pub placed_ends : Standing commit false D L x (tables_after H T) (last_or f (fates x H T))
   placed_ends =
       subst (λ (h : History). Standing commit false D L x (tables_after h T) (last_or f (fates x h T))) (sym z.place)
-      (stands_after commit false D L x T f before z.rest z.ends towards_rest now.sound led)
+      (stands_after commit false D L x T f before z.rest ends (All-tail (λ (r : Request). IsTowards commit L x r.op) ends z.rest from_here) now.sound
+      (ends_it commit D L x (last_or f (fates x before T)) U now.sound t open_now has_it now.stands (λ d e. told d (z.code_is ∙ e))))
 
   -- from it on
-  pub from_there : last_or f (fates x H T) ≡ last_or (last_or f (fates x before T)) (fates x (z.ends ∷ z.rest) U)
+  pub from_there : last_or f (fates x H T) ≡ last_or (last_or f (fates x before T)) (fates x (ends ∷ z.rest) U)
   from_there =
-      ap (λ (h : History). last_or f (fates x h T)) z.place ∙ ap (last_or f) (fates_both x before (z.ends ∷ z.rest) T)
-      ∙ last_both f (fates x before T) (fates x (z.ends ∷ z.rest) U)
+      ap (λ (h : History). last_or f (fates x h T)) z.place ∙ ap (last_or f) (fates_both x before (ends ∷ z.rest) T)
+      ∙ last_both f (fates x before T) (fates x (ends ∷ z.rest) U)
 
   -- a decision that it was told is its fate
   pub placed_tells : (law : Tabled) (d : HeuristicDecision) → code ≡ decision_code d → last_or f (fates x H T) ≡ decided_fate d
   placed_tells law d e =
-      let is : IsTold x d U (next t op U) = tells_so law commit t x d U (sym z.code_is ∙ e) in
-      let here : last_or f (fates x before T) ≡ decided_fate d = decided_of is.state now.stands in
-      let towards_all : All (λ r. IsTowards commit L x r.op) (z.ends ∷ z.rest) =
-      all_right (λ (r : Request). IsTowards commit L x r.op) before (z.ends ∷ z.rest) all_towards in
+      let here : last_or f (fates x before T) ≡ decided_fate d = decided_of (tells_so law commit t x d U (sym z.code_is ∙ e)).state now.stands in
       from_there
-      ∙ ap (last_or (last_or f (fates x before T))) (known_stays commit D L x (z.ends ∷ z.rest) U (last_or f (fates x before T)) (ap is_unknown here ∙ decided_known d) towards_all now)
+      ∙ ap (last_or (last_or f (fates x before T))) (known_stays commit D L x (ends ∷ z.rest) U (last_or f (fates x before T)) (ap is_unknown here ∙ decided_known d) from_here now)
       ∙ here

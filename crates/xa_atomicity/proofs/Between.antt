@@ -1,4 +1,5 @@
 -- What leaves the branches of a commit: nothing, and requests of which none names them.
+use Rattle.xa_atomicity.proofs.Asked.{second_so, third_so}
 use Rattle.std.proofs.Common.{◌≡◌, ◌≢◌, ℕ, ◌<◌, ◌≤◌, Bool, true, false, ◌||◌, List, [], ◌∷◌, ◌++◌, length, map, get_or, ⊎_elim, sym, refl, ◌∙◌, subst, arith}
 use Rattle.std.proofs.Common.{Option, Some, None}
 use Rattle.std.specs.List.{All, Contains}
@@ -39,7 +40,7 @@ use Rattle.xa_driver.specs.Stages.{HasDecided, HasForgotten, HasPrepared, HasTol
 use Rattle.xa_driver.specs.Course.{AtBranch}
 use Rattle.xa_driver.specs.Resolving.{AsksLedger}
 use Rattle.xa_driver.specs.Trace.{AreBranchesRising, IsCommit}
-use Rattle.xa_atomicity.proofs.CutSends.{sends_so_far}
+use Rattle.xa_atomicity.proofs.CutSends.{seconds_are, sends_so_far}
 use Rattle.xa_atomicity.proofs.CutVotes.{did_nothing, other_sends}
 use Rattle.xa_driver.proofs.Mapped.{IsAskedFor, branch_by}
 use Rattle.xa_atomicity.proofs.EachManager.{every_manager}
@@ -63,17 +64,15 @@ module _ (x y : XidName) (differs : y ≢ x) where
   pub apart : xid_eq y x ≡ false
   apart = false_from_ne_true (xid_eq y x) (λ e. differs ((Decides-xid_eq y x).0 e))
 
-  pub second_unnamed : (commit : Bool) (v : Code) → IsAskedFor (Unnamed x) (second_op commit y v)
-  second_unnamed true v = by_if (IsAskedFor (Unnamed x)) (is_yes v) (Some (Commit y false)) None (λ _. apart) (λ _. tt)
-  second_unnamed false v = by_if (IsAskedFor (Unnamed x)) (is_read v || (is_rolled_back v || is_out_of_reach v)) None (Some (Rollback y)) (λ _. tt) (λ _. apart)
-
   pub outcome_unnamed : (commit : Bool) → Unnamed x (outcome_op commit y)
   outcome_unnamed true = apart
   outcome_unnamed false = apart
 
+  pub second_unnamed : (commit : Bool) (v : Code) → IsAskedFor (Unnamed x) (second_op commit y v)
+  second_unnamed commit v = second_so (Unnamed x) commit y v (outcome_unnamed commit)
+
   pub third_unnamed : (s : Option Code) → IsAskedFor (Unnamed x) (third_op y s)
-  third_unnamed None = tt
-  third_unnamed (Some c) = by_if (IsAskedFor (Unnamed x)) (is_decided c) (Some (Forget y)) None (λ _. apart) (λ _. tt)
+  third_unnamed s = third_so (Unnamed x) y s (λ _. apart)
 
   trace_sends : (commit : Bool) (c : Branch) (v : Code) (s : Option Code) (e : Ending) (a a' : LedgerView) → c.xid ≡ y → AtBranch AsksLedger commit c v s e a a'
       → Sends (Unnamed x) a a'
@@ -91,7 +90,7 @@ module _ (x : XidName) where
   abbrev Clear : Ask → Type 0
   Clear k = (k.xid ≢ x) × IsAskedFor (Unnamed x) k.op
 
-  firsts_clear : (cs : List Branch) (ks : List Ask) → Others x cs → SameAsks (map first_ask cs) ks → All Clear ks
+  pub firsts_clear : (cs : List Branch) (ks : List Ask) → Others x cs → SameAsks (map first_ask cs) ks → All Clear ks
   firsts_clear cs ks o s =
       carried first_ask (λ c. c.xid ≢ x) Clear (λ c k s differs. (λ e. differs (sym s.xid ∙ e), subst (IsAskedFor (Unnamed x)) (sym s.op) (apart x c.xid differs))) cs ks s o
 
@@ -122,43 +121,20 @@ module _ (bs cs : List Branch) (rising : AreBranchesRising 0 bs) (others : AreOt
       → All (λ b. DidOther b.xid (ledger old b.m) (ledger new b.m)) bs
   each_so old new one k d lt = one (get_or bs k d) (let z = positive_all 0 bs rising k d lt in omega (arith, z)) (others k d lt)
 
-  far_leaves : (ks : List Ask) (at now : List LedgerView) → ((x : XidName) → Others x cs → All (Clear x) ks) → HaveComeSoFar ks at now
+  pub far_leaves : (ks : List Ask) (at now : List LedgerView) → ((x : XidName) → Others x cs → All (Clear x) ks) → HaveComeSoFar ks at now
       → LeavesBranches bs at now
   far_leaves ks at now none far =
       record { each = each_so at now (λ b positive o. did_so_far b.xid b.m positive ks at now (none b.xid o) far); managers = far.managers }
 
-  pub preparing_leaves : (desk : DeskView) (now : List LedgerView) (p : Preparing) → IsPreparing cs desk p → HaveComeSoFar p.round.asks.items desk.ledgers now
-      → LeavesBranches bs desk.ledgers now
-  preparing_leaves desk now p first far = far_leaves p.round.asks.items desk.ledgers now (λ x o. firsts_clear x cs p.round.asks.items o first.same) far
-
-  pub prepared_leaves : (old new : List LedgerView) (p : Prepared) → HasPrepared cs old new p → LeavesBranches bs old new
-  prepared_leaves old new p first =
-      far_leaves p.round.asks.items old new (λ x o. firsts_clear x cs p.round.asks.items o first.same) (asks_so_far p.round.asks.items old new first.asked)
-
   module _ (asked_at voted_at : List LedgerView) (log later : LogState) (p : Prepared) (d : Decided) (first : HasPrepared cs asked_at voted_at p)
       (second : HasDecided p log later d) where
-    told_clear : (js : List Ask) → SameAsks (map (second_ask d.known.commit) d.round.asks.items) js → (x : XidName) → Others x cs → All (Clear x) js
+    pub told_clear : (js : List Ask) → SameAsks (map (second_ask d.known.commit) d.round.asks.items) js → (x : XidName) → Others x cs → All (Clear x) js
     told_clear js same x o =
-        seconds_clear x d.known.commit p.round.asks.items js (firsts_clear x cs p.round.asks.items o first.same) (subst (λ (r : Round). SameAsks (map (second_ask d.known.commit) r.asks.items) js) second.round same)
+        seconds_clear x d.known.commit p.round.asks.items js (firsts_clear x cs p.round.asks.items o first.same) (seconds_are js second same)
 
-    pub telling_leaves : (desk : DeskView) (now : List LedgerView) (t : Telling) → IsTelling d desk t → HaveComeSoFar t.round.asks.items desk.ledgers now
-        → LeavesBranches bs desk.ledgers now
-    telling_leaves desk now t third far = far_leaves t.round.asks.items desk.ledgers now (told_clear t.round.asks.items third.same) far
-
-    pub told_leaves : (old new : List LedgerView) (t : Told) → HasTold d old new t → LeavesBranches bs old new
-    told_leaves old new t third =
-        far_leaves t.round.asks.items old new (told_clear t.round.asks.items third.same) (asks_so_far t.round.asks.items old new third.asked)
-
-    module _ (told_at late : List LedgerView) (t : Told) (third : HasTold d told_at late t) where
-      forgot_clear : (ls : List Ask) → SameAsks (map third_ask t.round.asks.items) ls → (x : XidName) → Others x cs → All (Clear x) ls
-      forgot_clear ls same x o = thirds_clear x t.round.asks.items ls (told_clear t.round.asks.items third.same x o) same
-
-      pub forgetting_leaves : (desk : DeskView) (now : List LedgerView) (f : Forgetting) → IsForgetting t desk f
-          → HaveComeSoFar f.round.asks.items desk.ledgers now → LeavesBranches bs desk.ledgers now
-      forgetting_leaves desk now f last far = far_leaves f.round.asks.items desk.ledgers now (forgot_clear f.round.asks.items last.same) far
-
-      pub forgotten_leaves : (old new : List LedgerView) (done : Done) → HasForgotten t old new done → LeavesBranches bs old new
-      forgotten_leaves old new done last = far_leaves last.thirds old new (forgot_clear last.thirds last.same) (asks_so_far last.thirds old new last.asked)
+    pub forgot_clear : (told_at late : List LedgerView) (t : Told) → HasTold d told_at late t → (ls : List Ask) → SameAsks (map third_ask t.round.asks.items) ls
+        → (x : XidName) → Others x cs → All (Clear x) ls
+    forgot_clear told_at late t third ls same x o = thirds_clear x t.round.asks.items ls (told_clear t.round.asks.items third.same x o) same
 
   -- a whole commit
   pub commit_leaves : (desk : DeskView) (new : List LedgerView) (log later : LogState) (done : Done) → IsCommit cs desk new log later done

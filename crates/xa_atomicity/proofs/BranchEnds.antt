@@ -1,4 +1,5 @@
 -- How a branch ends that voted to commit, over openings one after another, by what it stands at as the first of them ends.
+use Rattle.xa_atomicity.proofs.Voting.{ends, tells, leaves}
 use Rattle.std.specs.Prelude.{ℤ, pos, ◌⊎◌}
 use Rattle.std.proofs.Common.{◌≡◌, ◌≢◌, ℕ, inl, inr, ⊎_elim, Bool, true, false, if◌then◌else◌, List, [], ◌∷◌, ◌++◌, sym, ap, ◌∙◌, subst, Some}
 use Rattle.std.specs.List.{All, Contains}
@@ -31,12 +32,12 @@ use Rattle.xa_atomicity.specs.Tabled.{Tabled}
 use Rattle.xa_atomicity.specs.Worth.{IsUnlisted, SharesOver, commits_after, histories, is_committed}
 use Rattle.xa_atomicity.proofs.Counting.{committed_so, counts_so, walk_counts}
 use Rattle.xa_atomicity.proofs.Shares.{add_place, commits_or, share_is}
-use Rattle.xa_atomicity.proofs.EndsByFate.{Through, End, decided_one, decision_so, ends_so, is_decided_so, is_known_so, untold}
-use Rattle.xa_atomicity.proofs.Later.{Walk, ends_with, walk, walk_after, walk_ends, walk_rests, walk_tells}
-use Rattle.xa_atomicity.proofs.Leading.{Stands}
+use Rattle.xa_atomicity.proofs.EndsByFate.{Through, End, decided_one, decision_so, ends_so, is_decided_so, is_known_so, untold, left_in_doubt}
+use Rattle.xa_atomicity.proofs.Later.{Walk, ends_with, walk, walk_after, walk_ends, walk_tells}
+use Rattle.xa_atomicity.proofs.Leading.{Stands, IsOver}
 use Rattle.xa_atomicity.proofs.Placing.{request_of, fates}
 use Rattle.xa_atomicity.proofs.Records.{FindsMark}
-use Rattle.xa_atomicity.proofs.Voting.{AtEnd, Comes, ends, tells, leaves, once, unknown_so}
+use Rattle.xa_atomicity.proofs.Voting.{AtEnd, Comes, once, unknown_so}
 
 -- a resolve of these openings was told a decision of the branch
 pub record WasTold (b : Branch) (os : List Opening) : Type 0 where
@@ -125,12 +126,12 @@ module _ (law : Tabled) (first : (s : Settling) (m : ℕ) (T : Tables) → IsSet
         decided_one j.0 d (sym (walk_tells law first commit D L m up b.xid j.0 later (tables_after H T) F w l.resolve l.made l.outcome l.listed l.manager l.xid j.1) ∙ is) in
         record { resolve = l.resolve; made = l.made; outcome = l.outcome; listed = l.listed; manager = l.manager; xid = l.xid; code = j.1 ∙ ap decision_code same }
 
+    last_walk : Walks → IsOver commit D L later_fate × (is_prepared (tables_left (last_of o later) m) b.xid ≡ false)
+    last_walk = walk_ends law first commit D L m up b.xid o between last q (tables_after H T) F there scan reached
+
     through : Walks → Through commit L (λ d. IsListed b d later) F later_fate e
-    through w = record {
-      over_then = walk_ends law first commit D L m up b.xid between last q (tables_after H T) F there scan reached w;
-      which = which w;
-      after = λ d z. walk_after law first commit D L m up b.xid d later (tables_after H T) F w z;
-    }
+    through w =
+        record { over_then = (last_walk w).0; which = which w; after = λ d z. walk_after law first commit D L m up b.xid d later (tables_after H T) F w z }
 
     abbrev Ended : Fate → Type 0
     Ended f = (f ≡ ended_as commit) ⊎ ((d : HeuristicDecision) × ((f ≡ decided_fate d) × ((told_fate e ≡ Some (decided_fate d)) ⊎ IsListed b d later)))
@@ -146,17 +147,11 @@ module _ (law : Tabled) (first : (s : Settling) (m : ℕ) (T : Tables) → IsSet
 
     -- where it was prepared as the first opening ended, it isn't in the end
     rests_so : is_prepared (tables_left o m) b.xid ≡ true → is_prepared (tables_left (last_of o later) m) b.xid ≡ false
-    rests_so prepared = by_end (at_end L).comes
-      where
-        unknown : is_unknown F ≡ true
-        unknown =
-            sym (law.kept H b.xid g T with_T.opened (law.first b.xid T)).prepared
-            ∙ ap (λ (U : Tables). is_prepared U b.xid) (sym (ends_with s m T kept_o.settled begins)) ∙ prepared
-
-        by_end : Comes commit W L (state_of (tables_after H T) b.xid) F e → is_prepared (tables_left (last_of o later) m) b.xid ≡ false
-        by_end (ends z) = let no_doubt : true ≡ false = sym unknown ∙ is_known_so F commit z in cc
-        by_end (tells d z h) = let no_doubt : true ≡ false = sym unknown ∙ is_decided_so F d z in cc
-        by_end (leaves why left st) = walk_rests law first commit D L m up b.xid o between last q (tables_after H T) F there scan reached (walks why left st)
+    rests_so prepared =
+        let unknown : is_unknown F ≡ true =
+        sym (law.kept H b.xid g T with_T.opened (law.first b.xid T)).prepared
+        ∙ ap (λ (U : Tables). is_prepared U b.xid) (sym (ends_with s m T kept_o.settled begins)) ∙ prepared in
+        let z = left_in_doubt commit W L F e (at_end L).comes unknown in (last_walk (walks z.0 z.1 z.2)).1
 
     branch_ends : EndsAs commit o later b e
     branch_ends = record { ends = ended_so; undoubted = λ before was. known_so (became b before o later) (ended_so before was); unprepared = rests_so }
@@ -165,13 +160,9 @@ module _ (law : Tabled) (first : (s : Settling) (m : ℕ) (T : Tables) → IsSet
 
     -- where it is in doubt it is committed later where it was decided to commit
     commits_so : is_unknown F ≡ true → commits_over b.xid F (histories m later) (tables_after H T) ≡ is_committed later_fate
-    commits_so unknown = by_end (at_end L).comes
-      where
-        by_end : Comes commit W L (state_of (tables_after H T) b.xid) F e
-            → commits_over b.xid F (histories m later) (tables_after H T) ≡ is_committed later_fate
-        by_end (ends z) = let no_doubt : true ≡ false = sym unknown ∙ is_known_so F commit z in cc
-        by_end (tells d z h) = let no_doubt : true ≡ false = sym unknown ∙ is_decided_so F d z in cc
-        by_end (leaves why left st) = (walk_counts law first commit D L m up b.xid later (tables_after H T) F (walks why left st)).0 (unknown_so F unknown)
+    commits_so unknown =
+        let z = left_in_doubt commit W L F e (at_end L).comes unknown in
+        (walk_counts law first commit D L m up b.xid later (tables_after H T) F (walks z.0 z.1 z.2)).0 (unknown_so F unknown)
 
     -- the same, whatever it was before
     abbrev Counts : Fate → Type 0

@@ -1,4 +1,5 @@
 -- Transfers conserve what all accounts are worth together, but for what branches in doubt hold.
+use Rattle.std.proofs.lemmas.Bool.{ne_eqb, or_from}
 use Rattle.std.specs.Prelude.{ℤ, pos, ◌+ℤ◌, All, nat_le, ◌&&◌}
 use Rattle.std.proofs.Common.{◌≡◌, ℕ, zero, suc, ◌+◌, ◌-◌, ◌<◌, ◌≤◌, ◌==◌, Bool, true, false, ◌||◌, if◌then◌else◌, ⊎_elim, List, [], ◌∷◌, ◌++◌, length}
 use Rattle.std.proofs.Common.{length-append, append_assoc, get_or, slice_get, sym, refl, ap, ◌∙◌, subst, arith, None}
@@ -44,7 +45,7 @@ use Rattle.xa_atomicity.specs.Tabled.{Tabled}
 use Rattle.xa_atomicity.proofs.Moves.{is_within, outside, moved_parted, moved_none, moved_without, moved_alike, moved_nothing, no_commits}
 use Rattle.xa_atomicity.proofs.Requests.{all_earlier}
 use Rattle.xa_atomicity.proofs.OneOutcome.{committed_law}
-use Rattle.xa_atomicity.proofs.Settled.{Both, all_outcomes, growth_law, by_ledger}
+use Rattle.xa_atomicity.proofs.Settled.{Both, all_outcomes, growth_law, by_ledger, sent_on}
 
 nothing_there : {X : Type 0} (xs : List X) (k : ℕ) → length xs ≤ k → slice_get xs k ≡ None
 nothing_there [] k le = refl
@@ -60,11 +61,7 @@ begins_length xs ys b = let e : length ys ≡ length xs + length b.0 = ap length
 none_before : (lo m : ℕ) (bs : List Branch) → AreBranchesRising lo bs → m ≤ lo → has_branch_at bs m ≡ false
 none_before lo m [] r le = refl
 none_before lo m (b ∷ bs) r le =
-    let up = r.0 in
-    elim (b.m == m) as (λ c. (b.m == m) ≡ c → (c || has_branch_at bs m) ≡ false) [
-      | true ↦ λ e. let same = eqb-true b.m m e in absurd (omega (arith, same, up, le))
-      | false ↦ λ e. none_before b.m m bs r.1 (omega (arith, up, le))
-    ] refl
+    let up = r.0 in or_from (b.m == m) (has_branch_at bs m) (ne_eqb b.m m (λ same. omega (arith, same, up, le))) (none_before b.m m bs r.1 (omega (arith, up, le)))
 
 -- what counts at the managers of branches alone may be summed over the branches
 over_branches : (g : ℕ → ℤ) (bs : List Branch) (lo n : ℕ) → AreBranchesRising lo bs → ((m : ℕ) → lo < m → has_branch_at bs m ≡ false → g m ≡ pos 0)
@@ -85,7 +82,7 @@ over_branches g (b ∷ bs) lo (suc n) r none beyond =
           let same : b.m ≡ lo + 1 = eqb-true b.m (lo + 1) e in
           let later : AreBranchesRising (lo + 1) bs = subst (λ k. AreBranchesRising k bs) same r.1 in
           let others : (m : ℕ) → lo + 1 < m → has_branch_at bs m ≡ false → g m ≡ pos 0 = λ m lt f.
-          none m (omega (arith, lt)) (elim (b.m == m) as (λ c. (b.m == m) ≡ c → (c || has_branch_at bs m) ≡ false) [ true ↦ λ e. let at = eqb-true b.m m e in absurd (omega (arith, at, same, lt)) | false ↦ λ e. f ] refl) in
+          none m (omega (arith, lt)) (or_from (b.m == m) (has_branch_at bs m) (ne_eqb b.m m (λ at. omega (arith, at, same, lt))) f) in
           λ i. g (sym same i) +ℤ over_branches g bs (lo + 1) n later others (λ m lt. beyond m (omega (arith, lt))) i
       | false ↦ λ e.
           let apart = eqb-false b.m (lo + 1) e in
@@ -127,17 +124,12 @@ module _ (law : Tabled) (opens : (s : Settling) (m : ℕ) → IsSettled s → (T
       moved_parted (accounts_of p m) t (count at m) (count later m) (history s m) (opening (accounts_of p m)) (begins_length _ _ (grown.each m positive).sent)))
       ∙ total_both (λ m. moved_in m 0 (count at m)) (λ m. moved_in m (count at m) (count later m)) (managers_of p)
 
-  -- what it sent to a manager, in a settled opening
-  all_sent : (at : List LedgerView) (m : ℕ) → 1 ≤ m → HaveGrown at (ledgers_of s t) → Begins (ledger at m).sent (sent s t m)
-  all_sent at m positive grown =
-      subst (Begins (ledger at m).sent) (sym (by_ledger (ledgers_of s t) m (λ (z : LedgerView). z.sent) positive refl)) (grown.each m positive).sent
-
   -- requests without a Commit move nothing
   quiet_between : (at later : List LedgerView) → HaveGrown later (ledgers_of s t) → NoCommitWasSent at later → (m : ℕ) → 1 ≤ m
       → moved_in m (count at m) (count later m) ≡ pos 0
   quiet_between at later grown none m positive =
       let since : HasSentNoCommit (ledger at m) (ledger later m) = none m positive in
-      let rest = all_sent later m positive grown in
+      let rest = sent_on s t m positive (ledger later m) (grown.each m positive) in
       let ops : sent s t m ≡ (ledger at m).sent ++ (since.more ++ rest.0) =
       rest.1 ∙ ap (λ l. l ++ rest.0) since.sent ∙ append_assoc (ledger at m).sent since.more rest.0 in
       let many : count later m ≡ count at m + length since.more = ap length since.sent ∙ length-append (ledger at m).sent since.more in

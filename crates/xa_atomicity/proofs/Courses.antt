@@ -1,4 +1,10 @@
 -- The courses that a branch of a commit may take, by the places of its requests in its manager's settled history.
+use Rattle.xa_atomicity.proofs.Sites.{asks, withholds}
+use Rattle.std.proofs.lemmas.Bool.{cases_lt}
+use Rattle.std.proofs.Common.{◌≤◌, ⊎_elim, get_or}
+use Rattle.std.specs.Prelude.{◌⊎◌}
+use Rattle.xa_driver.specs.Deaths.{VotesAndObeys}
+use Rattle.xa_driver.specs.Resolving.{outcome_op}
 use Rattle.std.proofs.Common.{◌≡◌, ℕ, ◌∷◌, ◌++◌, suc, ◌+◌, ◌<◌, Bool, true, false, ◌||◌, if◌then◌else◌, sym, refl, ap, ◌∙◌, subst, arith, Option, Some, None}
 use Rattle.std.specs.List.{All}
 use Rattle.std.proofs.Common.{inl, inr}
@@ -13,7 +19,7 @@ use Rattle.xa_words.specs.declared.request.Op.TheVariants.{Prepare, Commit, Roll
 use Rattle.xa_words.specs.declared.request.Request.{Request}
 use Rattle.xa_tables.specs.Tables.{Tables}
 use Rattle.xa_tables.specs.History.{History, is_rolled_back}
-use Rattle.xa_tables.specs.Prepared.{is_forget}
+use Rattle.xa_tables.specs.Prepared.{is_forget, is_heur}
 use Rattle.xa_desk.specs.LedgerView.{is_rm_fail}
 use Rattle.xa_base.proofs.Truth.{by_if, at_false, at_true}
 use Rattle.xa_driver.specs.declared.branch.Branch.{Branch}
@@ -23,7 +29,7 @@ use Rattle.xa_driver.specs.Course.{AsksFor, AtBranch}
 use Rattle.xa_driver.specs.Decision.{is_yes, is_read}
 use Rattle.xa_driver.specs.Endings.{second_op, third_op, ending_of, yes_ending, no_ending, is_out_of_reach, is_decided}
 use Rattle.xa_atomicity.proofs.Placing.{request_of}
-use Rattle.xa_atomicity.proofs.Sites.{Site, StandsIn, Sent, AsksIn, asks, withholds, At, at, only_op, Second}
+use Rattle.xa_atomicity.proofs.Sites.{Site, StandsIn, Sent, AsksIn, only_op, Second}
 
 pub yes_is : (c : Code) → is_yes c ≡ true → c ≡ Done
 yes_is Done e = refl
@@ -38,13 +44,13 @@ read_is c e = cc
 module _ {t : ℕ} {T : Tables} {H : History} (s : Site t T H) (x : XidName) (n last : ℕ) (vote : Code) where
   -- the Prepare alone was sent
   pub record SendsOne : Type 0 where
-    pub first : At s n (Prepare x) vote
+    pub first : StandsIn t n (Prepare x) vote T H
     pub limit : last ≡ n + 1
 
   -- after it a second request was sent, and at most a Forget after that
   pub record Sends (op : Op) (c : Code) : Type 0 where
-    pub first : At s n (Prepare x) vote
-    pub second : At s (suc n) op c
+    pub first : StandsIn t n (Prepare x) vote T H
+    pub second : StandsIn t (suc n) op c T H
     pub more : n + 1 < last
     pub forgets : All (λ r. r.thread ≡ t → suc n < r.number → r.number < last → is_forget r.op ≡ true) H
 
@@ -62,12 +68,41 @@ module _ {t : ℕ} {T : Tables} {H : History} (s : Site t T H) (x : XidName) (n 
     Refuses : (c : Code) → is_yes vote ≡ false → is_read vote ≡ false → Sends (Rollback x) c → Course commit (no_ending vote (Some c))
 
 -- what the thread sends of it after the second request is a Forget
-pub rest_forgets : {t : ℕ} {T : Tables} {H : History} (s : Site t T H) (x : XidName) (n last : ℕ) (vote : Code) (op : Op) (c : Code) (z : Sends s x n last vote op c) (f : At s n (Prepare x) vote) (r : Second s n (Prepare x) vote f op c)
+pub rest_forgets : {t : ℕ} {T : Tables} {H : History} (s : Site t T H) (x : XidName) (n last : ℕ) (vote : Code) (op : Op) (c : Code) (z : Sends s x n last vote op c) (f : StandsIn t n (Prepare x) vote T H) (r : Second s n (Prepare x) vote f op c)
     → All (λ q. q.thread ≡ t → q.number < last → is_forget q.op ≡ true) r.rest
 rest_forgets {t} {T} {H} s x n last vote op c z f r k d lt own less =
     let up = r.later k d lt own in
     all_after (λ (q : Request). q.thread ≡ t → suc n < q.number → q.number < last → is_forget q.op ≡ true) (f.before ++ request_of t n (Prepare x) ∷ r.mid) (request_of t (suc n) op) r.rest
     (subst (All (λ (q : Request). q.thread ≡ t → suc n < q.number → q.number < last → is_forget q.op ≡ true)) r.place z.forgets) k d lt own (omega (arith, up)) less
+
+-- what the thread sends of it after its Prepare is no decision by itself
+pub own_plain : {t : ℕ} {T : Tables} {H : History} (s : Site t T H) (x : XidName) (n last : ℕ) (vote : Code) (commit : Bool) (e : Ending) → Course s x n last vote commit e
+    → All (λ r. r.thread ≡ t → n < r.number → r.number < last → is_heur r.op ≡ false) H
+own_plain {t} {T} {H} s x n last vote commit = by_course
+  where
+    alone : SendsOne s x n last vote → All (λ r. r.thread ≡ t → n < r.number → r.number < last → is_heur r.op ≡ false) H
+    alone z k d lt own up down = let limit = z.limit in absurd (omega (arith, limit, up, down))
+
+    forget_plain : (op : Op) → is_forget op ≡ true → is_heur op ≡ false
+    forget_plain (Forget y) e = refl
+    forget_plain op e = cc
+
+    two : (op : Op) (c : Code) → is_heur op ≡ false → Sends s x n last vote op c → All (λ r. r.thread ≡ t → n < r.number → r.number < last → is_heur r.op ≡ false) H
+    two op c plain z k d lt own up down =
+        ⊎_elim (λ (more : suc n < (get_or H k d).number). forget_plain (get_or H k d).op (z.forgets k d lt own more down))
+        (λ (le : (get_or H k d).number ≤ suc n). ap is_heur (only_op s (suc n) op c z.second k d lt own (omega (arith, le, up))) ∙ plain) (cases_lt (suc n) (get_or H k d).number)
+
+    outcome_plain : (b : Bool) → is_heur (outcome_op b x) ≡ false
+    outcome_plain true = refl
+    outcome_plain false = refl
+
+    by_course : (e : Ending) → Course s x n last vote commit e → All (λ r. r.thread ≡ t → n < r.number → r.number < last → is_heur r.op ≡ false) H
+    by_course _ (Unreached same code) = λ k d lt own up down. absurd (omega (arith, same, up, down))
+    by_course _ (Reads r z) = alone z
+    by_course _ (Breaks k z) = alone z
+    by_course _ (Stays c y z) = alone z
+    by_course _ (Agrees c y z) = two (outcome_op commit x) c (outcome_plain commit) z
+    by_course _ (Refuses c y r z) = two (Rollback x) c refl z
 
 -- ---- the course, by what the branch was asked
 
@@ -78,11 +113,19 @@ none_wanted x vote true y e = at_false (is_yes vote) _ None y
 none_wanted x vote false y e = at_true (is_read vote || (is_rolled_back vote || is_out_of_reach vote)) None _ e
 
 -- the second request of a yes branch
-yes_wanted : (x : XidName) (vote : Code) (commit : Bool) → is_yes vote ≡ true → second_op commit x vote ≡ Some (if commit then Commit x false else Rollback x)
-yes_wanted x vote true y = at_true (is_yes vote) _ None y
-yes_wanted x vote false y = ap (λ v. if is_read v || (is_rolled_back v || is_out_of_reach v) then None else Some (Rollback x)) (yes_is vote y)
+pub yes_wanted : (commit : Bool) (x : XidName) → second_op commit x Done ≡ Some (outcome_op commit x)
+yes_wanted true x = refl
+yes_wanted false x = refl
 
-module _ {t : ℕ} {T : Tables} {H : History} (s : Site t T H) (x : XidName) (old new : Sent) (vote : Code) (first : At s old.number (Prepare x) vote) where
+-- after the second request nothing was asked, or a Forget as it is wanted
+abbrev MayForget : (t : ℕ) → Tables → History → XidName → Option Code → Sent → Sent → Type 0
+MayForget t T H x second d new = (new ≡ d) ⊎ ((third : Option Code) × AsksFor (AsksIn t T H) (third_op x second) third d new)
+
+none_forgets : (t : ℕ) (T : Tables) (H : History) (x : XidName) (d new : Sent) → MayForget t T H x None d new → new ≡ d
+none_forgets t T H x d new (inl same) = same
+none_forgets t T H x d new (inr f) = f.1.1
+
+module _ {t : ℕ} {T : Tables} {H : History} (s : Site t T H) (x : XidName) (old new : Sent) (vote : Code) (first : StandsIn t old.number (Prepare x) vote T H) where
   abbrev n : ℕ
   n = old.number
 
@@ -99,26 +142,18 @@ module _ {t : ℕ} {T : Tables} {H : History} (s : Site t T H) (x : XidName) (ol
   -- then the requests as they are wanted
   record Goes (op : Option Op) (second : Option Code) : Type 0 where
     decided : Sent
-    third : Option Code
     obeys : AsksFor (AsksIn t T H) op second voted decided
-    forgets : AsksFor (AsksIn t T H) (third_op x second) third decided new
+    forgets : MayForget t T H x second decided new
 
   sends_one : new ≡ voted → SendsOne s x n last vote
   sends_one is = record { first = first; limit = let e = ap (λ (z : Sent). z.number) is in omega (arith, e) }
 
   -- nothing more was wanted
   alone : (second : Option Code) → Goes None second → new ≡ voted
-  alone second g = after second g.third g.obeys.0 g.forgets ∙ g.obeys.1
-    where
-      after : (z third : Option Code) → z ≡ None → AsksFor (AsksIn t T H) (third_op x z) third g.decided new → new ≡ g.decided
-      after z third e f = (subst (λ (o : Option Code). AsksFor (AsksIn t T H) (third_op x o) third g.decided new) e f).1
-
-  -- nothing is to be forgotten where XAER_RMFAIL was answered
-  unsent : (third : Option Code) (d : Sent) → AsksFor (AsksIn t T H) (third_op x (Some RmFail)) third d new → d ≡ voted → new ≡ voted
-  unsent third d f same = f.1 ∙ same
+  alone second g = none_forgets t T H x g.decided new (subst (λ o. MayForget t T H x o g.decided new) g.obeys.0 g.forgets) ∙ g.obeys.1
 
   -- what was sent after the second request is a Forget
-  module _ (op : Op) (c : Code) (two : Sent) (number : two.number ≡ suc (suc n)) (second : At s (suc n) op c) where
+  module _ (op : Op) (c : Code) (two : Sent) (number : two.number ≡ suc (suc n)) (second : StandsIn t (suc n) op c T H) where
     -- nothing was
     no_third : new ≡ two → Sends s x n last vote op c
     no_third is =
@@ -131,12 +166,13 @@ module _ {t : ℕ} {T : Tables} {H : History} (s : Site t T H) (x : XidName) (ol
       first = first;
       second = second;
       more = omega (arith, is, number);
-      forgets = λ k e lt own up less. ap is_forget (only_op s two.number (Forget x) d (at s two.number (Forget x) d stands) k e lt own (omega (arith, up, less, is, number)));
+      forgets = λ k e lt own up less. ap is_forget (only_op s two.number (Forget x) d stands k e lt own (omega (arith, up, less, is, number)));
     }
 
-    third_of : (z third : Option Code) → AsksFor (AsksIn t T H) (third_op x z) third two new → Sends s x n last vote op c
-    third_of None third f = no_third f.1
-    third_of (Some d) third f = by_decided (is_decided d) third f
+    third_of : (z : Option Code) → MayForget t T H x z two new → Sends s x n last vote op c
+    third_of z (inl is) = no_third is
+    third_of None (inr f) = no_third f.1.1
+    third_of (Some d) (inr f) = by_decided (is_decided d) f.0 f.1
       where
         by_decided : (b : Bool) (third : Option Code) → AsksFor (AsksIn t T H) (if b then Some (Forget x) else None) third two new → Sends s x n last vote op c
         by_decided false third f = no_third f.1
@@ -150,9 +186,9 @@ module _ {t : ℕ} {T : Tables} {H : History} (s : Site t T H) (x : XidName) (ol
   sent_or_not P op c g sent not = by_second g.obeys
     where
       by_second : AsksIn t T H voted op g.decided c → P
-      by_second (asks stands hears is) = sent (third_of op c g.decided (ap (λ (z : Sent). z.number) is) (at s (suc n) op c stands) (Some c) g.third g.forgets)
+      by_second (asks stands hears is) = sent (third_of op c g.decided (ap (λ (z : Sent). z.number) is) stands (Some c) g.forgets)
       by_second (withholds shut fails is) =
-          not shut fails (sends_one (unsent g.third g.decided (subst (λ (d : Code). AsksFor (AsksIn t T H) (third_op x (Some d)) g.third g.decided new) fails g.forgets) is))
+          not shut fails (sends_one (none_forgets t T H x g.decided new (subst (λ (d : Code). MayForget t T H x (Some d) g.decided new) fails g.forgets) ∙ is))
 
   module _ (hears : old.shut ≡ true → vote ≡ RmFail) where
     -- a yes vote: the manager wasn't heard to be shut
@@ -187,7 +223,7 @@ module _ {t : ℕ} {T : Tables} {H : History} (s : Site t T H) (x : XidName) (ol
     sent_course : (commit : Bool) (second : Option Code) → Goes (second_op commit x vote) second → Ends commit (ending_of commit vote second)
     sent_course commit second g =
         let now : second_op commit x vote ≡ None → SendsOne s x n last vote = λ e. sends_one (alone second (subst (λ (p : Option Op). Goes p second) e g)) in
-        by_if (Ends commit) (is_yes vote) _ _ (λ y. agrees commit second y (subst (λ (p : Option Op). Goes p second) (yes_wanted x vote commit y) g)) (λ y.
+        by_if (Ends commit) (is_yes vote) _ _ (λ y. agrees commit second y (subst (λ (p : Option Op). Goes p second) (ap (second_op commit x) (yes_is vote y) ∙ yes_wanted commit x) g)) (λ y.
         by_if (Ends commit) (is_read vote) _ _ (λ r. Reads r (now (none_wanted x vote commit y (ap (λ q. q || (is_rolled_back vote || is_out_of_reach vote)) r)))) (λ r.
         by_if (Ends commit) (is_rolled_back vote) _ _ (λ k. Breaks k (now (none_wanted x vote commit y (ap (λ q. is_read vote || (q || is_out_of_reach vote)) k ∙ or-true (is_read vote))))) (λ k.
         by_if (Ends commit) (is_out_of_reach vote) _ _ (λ o.
@@ -195,26 +231,28 @@ module _ {t : ℕ} {T : Tables} {H : History} (s : Site t T H) (x : XidName) (ol
         still_there commit second y r k o g))))
 
 -- the course of a branch
-pub course_of : {t : ℕ} {T : Tables} {H : History} (s : Site t T H) (b : Branch) (commit : Bool) (vote : Code) (second : Option Code) (ending : Ending) (old new : Sent)
-    → AtBranch (AsksIn t T H) commit b vote second ending old new
-    → Course s b.xid old.number new.number vote commit ending
-course_of {t} {T} {H} s b commit vote second ending old new is = subst (Course s b.xid old.number new.number vote commit) (sym is.ends) (by_vote is.prepares)
-  where
-    none_for : (commit : Bool) → second_op commit b.xid RmFail ≡ None
-    none_for true = refl
-    none_for false = refl
+module _ {t : ℕ} {T : Tables} {H : History} (s : Site t T H) (x : XidName) (commit : Bool) (vote : Code) (second : Option Code) (old prepared decided new : Sent)
+    (obeys : AsksFor (AsksIn t T H) (second_op commit x vote) second prepared decided) (forgets : MayForget t T H x second decided new) where
+  none_for : (commit : Bool) → second_op commit x RmFail ≡ None
+  none_for true = refl
+  none_for false = refl
 
-    by_vote : AsksIn t T H old (Prepare b.xid) is.prepared vote → Course s b.xid old.number new.number vote commit (ending_of commit vote second)
-    by_vote (asks stands hears to) =
-        sent_course s b.xid old new vote (at s old.number (Prepare b.xid) vote stands) hears commit second (record {
-          decided = is.decided;
-          third = is.third;
-          obeys = subst (λ (z : Sent). AsksFor (AsksIn t T H) (second_op commit b.xid vote) second z is.decided) to is.obeys;
-          forgets = is.forgets;
-        })
-    by_vote (withholds shut fails same) =
-        let unasked : second_op commit b.xid vote ≡ None = ap (second_op commit b.xid) fails ∙ none_for commit in
-        let silent = subst (λ (o : Option Op). AsksFor (AsksIn t T H) o second is.prepared is.decided) unasked is.obeys in
-        let last_one = subst (λ (o : Option Code). AsksFor (AsksIn t T H) (third_op b.xid o) is.third is.decided new) silent.0 is.forgets in
-        subst (Course s b.xid old.number new.number vote commit) (sym (λ i. ending_of commit (fails i) (silent.0 i)))
-        (Unreached (ap (λ (z : Sent). z.number) (last_one.1 ∙ silent.1 ∙ same)) fails)
+  course_by : AsksIn t T H old (Prepare x) prepared vote → Course s x old.number new.number vote commit (ending_of commit vote second)
+  course_by (asks stands hears to) =
+      sent_course s x old new vote stands hears commit second (record { decided = decided; obeys = subst (λ (z : Sent). AsksFor (AsksIn t T H) (second_op commit x vote) second z decided) to obeys; forgets = forgets })
+  course_by (withholds shut fails same) =
+      let silent = subst (λ (o : Option Op). AsksFor (AsksIn t T H) o second prepared decided) (ap (second_op commit x) fails ∙ none_for commit) obeys in
+      let last_one = none_forgets t T H x decided new (subst (λ o. MayForget t T H x o decided new) silent.0 forgets) in
+      subst (Course s x old.number new.number vote commit) (sym (λ i. ending_of commit (fails i) (silent.0 i)))
+      (Unreached (ap (λ (z : Sent). z.number) (last_one ∙ silent.1 ∙ same)) fails)
+
+-- in a whole commit, or where nobody told it to forget
+pub course_of : {t : ℕ} {T : Tables} {H : History} (s : Site t T H) (b : Branch) (commit : Bool) (vote : Code) (second : Option Code) (ending : Ending) (old new : Sent)
+    → AtBranch (AsksIn t T H) commit b vote second ending old new → Course s b.xid old.number new.number vote commit ending
+course_of s b commit vote second ending old new is =
+    subst (Course s b.xid old.number new.number vote commit) (sym is.ends) (course_by s b.xid commit vote second old is.prepared is.decided new is.obeys (inr (is.third, is.forgets)) is.prepares)
+
+pub course_obeyed : {t : ℕ} {T : Tables} {H : History} (s : Site t T H) (b : Branch) (commit : Bool) (vote : Code) (second : Option Code) (ending : Ending) (old new : Sent)
+    → VotesAndObeys (AsksIn t T H) commit b vote second ending old new → Course s b.xid old.number new.number vote commit ending
+course_obeyed s b commit vote second ending old new is =
+    subst (Course s b.xid old.number new.number vote commit) (sym is.ends) (course_by s b.xid commit vote second old is.prepared new new is.obeys (inl refl) is.prepares)

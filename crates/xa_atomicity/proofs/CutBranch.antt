@@ -1,4 +1,10 @@
 -- What a branch stands at as the opening ends in which its commit was cut short.
+use Rattle.xa_atomicity.proofs.Voting.{ends, leaves, tells}
+use Rattle.xa_atomicity.proofs.Leading.{waits, unforgotten, over}
+use Rattle.xa_atomicity.proofs.Sites.{Site, StandsIn, above, at_place, below, later_place, stands_by}
+use Rattle.xa_atomicity.proofs.Asked.{is_told_decision, second_so, third_so}
+use Rattle.std.proofs.lemmas.Bool.{both_ways, false_from_ne_true}
+use Rattle.xa_atomicity.proofs.Courses.{yes_wanted}
 use Rattle.std.proofs.Common.{◌≡◌, ℕ, suc, ◌+◌, ◌≤◌, inl, inr, Bool, true, false, ◌||◌, if◌then◌else◌, List, [], ◌∷◌, ◌++◌, length, length-append, append-nil}
 use Rattle.std.proofs.Common.{append_assoc, slice_get, get_or, sym, refl, ap, ◌∙◌, subst, arith, Option, Some, None}
 use Rattle.std.specs.List.{All, Contains}
@@ -42,13 +48,13 @@ use Rattle.xa_atomicity.proofs.CutVotes.{HasVoted, ended_voted, first_is, forget
 use Rattle.xa_driver.proofs.Mapped.{IsAskedFor}
 use Rattle.xa_atomicity.proofs.EndsByFate.{decision_so, is_decided_so}
 use Rattle.xa_atomicity.proofs.Guided.{IsGuided, at_last, fate_any, fates_from, fates_once}
-use Rattle.xa_atomicity.proofs.Leading.{IsTowards, Stands, ends_towards, waits, unforgotten, over}
+use Rattle.xa_atomicity.proofs.Leading.{IsTowards, Stands, ends_towards}
 use Rattle.xa_atomicity.proofs.Naming.{sent_is}
-use Rattle.xa_atomicity.proofs.Placing.{Parted, answer_at, fates, fates_both, numbered_both, part, request_of, sides, same_code}
+use Rattle.xa_atomicity.proofs.Placing.{Parted, answer_at, fates, fates_both, numbered_both, part, request_of, same_code, at_seam}
 use Rattle.xa_driver.proofs.Ledgers.{numbered_length}
 use Rattle.xa_atomicity.proofs.Requests.{IsFromTo, all_later, code_there, count_two, own_between}
 use Rattle.xa_atomicity.proofs.Resolves.{Sends}
-use Rattle.xa_atomicity.proofs.Voting.{AtEnd, Comes, ends, leaves, once, tells, tells_so, told_decided, yes_wanted}
+use Rattle.xa_atomicity.proofs.Voting.{AtEnd, Comes, once, tells_so, told_decided}
 
 -- ---- what was sent
 
@@ -105,10 +111,8 @@ asked_only commit L b a a' z first = begun z.asks
 pub open_so : (commit : Bool) (L : Type 0) (b : Branch) (v : Code) (a a' : LedgerView) → HasVoted (IsTowards commit L b.xid) b v a a'
     → slice_get a'.sent (length a.sent) ≡ Some (Prepare b.xid) → learnt_shut a ≡ false
 open_so commit L b v a a' h first =
-    elim (learnt_shut a) as (λ c. learnt_shut a ≡ c → c ≡ false) [
-      | true ↦ λ shut. absurd (unprepared commit L b.xid a a' (subst (λ (l : LedgerView). Sends (IsTowards commit L b.xid) l a') (at_true (learnt_shut a) _ _ shut) h.rest) first)
-      | false ↦ λ _. refl
-    ] refl
+    false_from_ne_true (learnt_shut a) (λ shut.
+    unprepared commit L b.xid a a' (subst (λ (l : LedgerView). Sends (IsTowards commit L b.xid) l a') (at_true (learnt_shut a) _ _ shut) h.rest) first)
 
 pub voted_only : (commit : Bool) (L : Type 0) (b : Branch) (v : Code) (a a' : LedgerView) → HasVoted (IsTowards commit L b.xid) b v a a' → learnt_shut a ≡ false
     → HasSentOnly commit L b.xid a a'
@@ -127,22 +131,13 @@ vote_is P b v w a a' entries pairs h open_ begins answered agreed =
 
 -- ---- by how far it came
 
--- its second request leads it, whatever it voted
+-- what it is asked leads it, whatever it voted, where a Forget may be
 second_towards : (commit : Bool) (L : Type 0) (x : XidName) (v : Code) → IsAskedFor (IsTowards commit L x) (second_op commit x v)
-second_towards true L x v = by_if (IsAskedFor (IsTowards true L x)) (is_yes v) (Some (Commit x false)) None (λ _. ends_towards true L x x) (λ _. tt)
-second_towards false L x v =
-    by_if (IsAskedFor (IsTowards false L x)) (is_read v || (is_rolled_back v || is_out_of_reach v)) None (Some (Rollback x)) (λ _. tt) (λ _. ends_towards false L x x)
+second_towards commit L x v = second_so (IsTowards commit L x) commit x v (ends_towards commit L x x)
 
--- it was told a decision
-abbrev pub is_told_decision : Option Code → Bool
-is_told_decision None = false
-is_told_decision (Some c) = is_decided c
-
--- a Forget leads it where that may be
 third_towards : (commit : Bool) (L : Type 0) (x : XidName) (s : Option Code) → (is_told_decision s ≡ true → L)
     → IsAskedFor (IsTowards commit L x) (third_op x s)
-third_towards commit L x None may = tt
-third_towards commit L x (Some c) may = by_if (IsAskedFor (IsTowards commit L x)) (is_decided c) (Some (Forget x)) None (λ e. λ _. may e) (λ _. tt)
+third_towards commit L x s may = third_so (IsTowards commit L x) x s (λ e _. may e)
 
 pub told_voted_so : (commit : Bool) (L : Type 0) (b : Branch) (v : Code) (a a' : LedgerView) → IsTold commit b v a a'
     → HasVoted (IsTowards commit L b.xid) b v a a'
@@ -170,8 +165,7 @@ was_told commit b v c a a' z open_ agreed decided =
     let Q : Op → Type 0 = IsTowards commit (Unit {0}) x in
     let wanted : second_op commit x v ≡ Some op = ap (second_op commit x) agreed ∙ yes_wanted commit x in
     let refused : learnt_shut z.start ≡ true → c ≡ RmFail = subst (λ o. IsAnswered z.start o (Some c)) wanted z.seconded in
-    let open_now : learnt_shut z.start ≡ false =
-    elim (learnt_shut z.start) as (λ q. learnt_shut z.start ≡ q → q ≡ false) [ true ↦ λ shut. let no : true ≡ false = sym decided ∙ ap is_decided (refused shut) in cc | false ↦ λ _. refl ] refl in
+    let open_now : learnt_shut z.start ≡ false = false_from_ne_true (learnt_shut z.start) (λ shut. both_ways (is_decided c) (ap is_decided (refused shut)) decided) in
     let two : LedgerView = with_collected (with_sent z.start op) (length z.start.sent) c in
     let is_two : asked z.start (second_op commit x v) (Some c) ≡ two =
     ap (λ o. asked z.start o (Some c)) wanted ∙ at_false (learnt_shut z.start) _ _ open_now in
@@ -191,59 +185,6 @@ was_told commit b v c a a' z open_ agreed decided =
       collected = subst (λ k. Begins (z.start.collected ++ (k, c) ∷ []) a'.collected) number last.collected;
     }
 
--- ---- in its manager's history
-
-module _ (s : Settling) (settled : IsSettled s) (m : ℕ) (positive : 1 ≤ m) (t : ℕ) (x : XidName) (a a' : LedgerView)
-    (grown : HasGrown a' (ledger (ledgers_of s t) m)) (commit : Bool) (L : Type 0) (h : HasSentOnly commit L x a a')
-    (only : OnlyTheseOrDecisionsName x t (length a.sent) (length a'.sent) (history_of s m)) where
-  abbrev n : ℕ
-  n = length a.sent
-
-  abbrev P : Op
-  P = Prepare x
-
-  abbrev H : History
-  H = history_of s m
-
-  abbrev more : List Op
-  more = h.rest ++ grown.sent.0
-
-  ops : sent s t m ≡ a.sent ++ P ∷ more
-  ops = sent_is s m positive t ∙ grown.sent.1 ∙ ap (λ l. l ++ grown.sent.0) h.sent ∙ append_assoc a.sent (P ∷ h.rest) grown.sent.0
-
-  own : of_thread t H ≡ numbered t 0 (a.sent ++ P ∷ more)
-  own = (settled.agree t m).carried ∙ ap (numbered t 0) ops
-
-  abbrev IsLeading : Request → Type 0
-  IsLeading r = r.thread ≡ t → IsFromTo (IsTowards commit L x) (length (a.sent ++ P ∷ [])) (length (a.sent ++ P ∷ []) + length h.rest) r.number r.op
-
-  leading : All IsLeading H
-  leading =
-      own_between t (IsTowards commit L x) H (a.sent ++ P ∷ []) h.rest grown.sent.0 (own ∙ ap (numbered t 0) (sym (append_assoc a.sent (P ∷ []) more))) h.all
-
-  module _ (before after : History) (place : H ≡ before ++ request_of t n P ∷ after) where
-    parts : (of_thread t before ≡ numbered t 0 a.sent) × (of_thread t after ≡ numbered t (suc n) more)
-    parts = sides t H before after a.sent P more place own
-
-    long : length a'.sent ≡ suc (n + length h.rest)
-    long = ap (λ l. length l) h.sent ∙ (let e = length-append a.sent (P ∷ h.rest) in omega (arith, e))
-
-    pub guide : All (λ r. IsGuided commit L x r.op) after
-    guide k d lt named plain =
-        let between : IsBetween t n (length a'.sent) (get_or after k d) = only before after (request_of t n P) place refl refl k d lt named plain in
-        let up = all_later t after (suc n) more parts.1 k d lt between.thread in
-        let down = between.below in
-        let first = length-append a.sent (P ∷ []) in
-        all_after IsLeading before (request_of t n P) after (subst (All IsLeading) place leading) k d lt between.thread (omega (arith, up, first)) (omega (arith, down, long, first)) named
-
-    -- its Prepare was answered as the settled opening has it
-    pub code_is : (T : Tables) (c : Code) → slice_get (answers t (coded H T)) n ≡ Some (n, c) → (next t P (tables_after before T)).1 ≡ c
-    code_is T c got =
-        same_code (slice_get (answers t (coded H T)) n) n n _ c
-        (ap (λ (g : History). slice_get (answers t (coded g T)) n) place ∙ answer_at t before after (request_of t n P) T n refl (ap (λ (g : History). length g) parts.0 ∙ numbered_length t 0 a.sent)) got
-
--- ---- at the end of the opening
-
 -- where nothing that it was sent ends a decision, it ended as was decided, or it was left, in doubt or decided by itself
 comes_so : (commit : Bool) (L : Type 0) (s : Option State) (f : Fate) (e : Ending) → Stands commit true (Unit {0}) ⊥ s f → Comes commit (Unit {0}) L s f e
 comes_so commit L s f e (waits y o is g) = leaves tt (ap is_left_in is) (waits g refl is g)
@@ -251,107 +192,109 @@ comes_so commit L s f e (unforgotten d is g l) = leaves tt (ap is_left_in is) (u
 comes_so commit L s f e (over is (inl z)) = ends z.1
 comes_so commit L s f e (over is (inr z)) = absurd z.1.1
 
-module _ (law : Tabled) (s : Settling) (settled : IsSettled s) (m : ℕ) (positive : 1 ≤ m) (t : ℕ) (x : XidName) (a a' : LedgerView)
-    (grown : HasGrown a' (ledger (ledgers_of s t) m)) (commit : Bool)
-    (only : OnlyTheseOrDecisionsName x t (length a.sent) (length a'.sent) (history_of s m)) (T : Tables) (opening : IsOpening T) (pairs : List (ℕ × Code)) (answered : All (λ p. slice_get (answers t (coded (history_of s m) T)) p.0 ≡ Some p) pairs) (agreed : Contains pairs (length a.sent, Done))
-    (before after : History) (place : history_of s m ≡ before ++ request_of t (length a.sent) (Prepare x) ∷ after) where
-  module _ (L : Type 0) (h : HasSentOnly commit L x a a') where
-    guide_so : All (λ r. IsGuided commit L x r.op) after
-    guide_so = guide s settled m positive t x a a' grown commit L h only before after place
+-- ---- in its manager's history
 
-    agreed_so : (next t (Prepare x) (tables_after before T)).1 ≡ Done
-    agreed_so =
-        code_is s settled m positive t x a a' grown commit L h only before after place T Done
-        (All-contains (λ (p : ℕ × Code). slice_get (answers t (coded (history_of s m) T)) p.0 ≡ Some p) pairs (length a.sent, Done) answered agreed)
+module _ {t : ℕ} {T : Tables} {H : History} (s : Site t T H) (x : XidName) (a a' : LedgerView) (grown : Begins a'.sent s.ops) (commit : Bool)
+    (only : OnlyTheseOrDecisionsName x t (length a.sent) (length a'.sent) H) where
+  abbrev n : ℕ
+  n = length a.sent
+
+  abbrev P : Op
+  P = Prepare x
+
+  module _ (L : Type 0) (h : HasSentOnly commit L x a a') where
+    ops : s.ops ≡ a.sent ++ P ∷ (h.rest ++ grown.0)
+    ops = grown.1 ∙ ap (λ l. l ++ grown.0) h.sent ∙ append_assoc a.sent (P ∷ h.rest) grown.0
+
+    -- its Prepare stands there with the code that was answered
+    pub prepare_at : (c : Code) → slice_get (answers t (coded H T)) n ≡ Some (n, c) → StandsIn t n P c T H
+    prepare_at c got = stands_by s n P c (ap (λ l. slice_get l n) ops ∙ at_seam a.sent P (h.rest ++ grown.0)) got
+
+    abbrev IsLeading : Request → Type 0
+    IsLeading r = r.thread ≡ t → IsFromTo (IsTowards commit L x) (length (a.sent ++ P ∷ [])) (length (a.sent ++ P ∷ []) + length h.rest) r.number r.op
+
+    leading : All IsLeading H
+    leading =
+        own_between t (IsTowards commit L x) H (a.sent ++ P ∷ []) h.rest grown.0 (s.carried ∙ ap (numbered t 0) (ops ∙ sym (append_assoc a.sent (P ∷ []) (h.rest ++ grown.0)))) h.all
+
+    -- what names the branch after it decides it, or leads it
+    pub guide : (c : Code) (f : StandsIn t n P c T H) → All (λ r. IsGuided commit L x r.op) f.after
+    guide c f k d lt named plain =
+        let between : IsBetween t n (length a'.sent) (get_or f.after k d) = only f.before f.after (request_of t n P) f.place refl refl k d lt named plain in
+        let up = above s n P f.before f.after f.place k d lt between.thread in
+        let down = between.below in
+        let first = length-append a.sent (P ∷ []) in
+        let long : length a'.sent ≡ suc (n + length h.rest) = ap (λ l. length l) h.sent ∙ (let e = length-append a.sent (P ∷ h.rest) in omega (arith, e)) in
+        all_after IsLeading f.before (request_of t n P) f.after (subst (All IsLeading) f.place leading) k d lt between.thread (omega (arith, up, first)) (omega (arith, down, long, first)) named
 
     -- whatever its fate was before
-    any_so : (f g : Fate) → last_or f (fates x (history_of s m) T) ≡ last_or g (fates x (history_of s m) T)
-    any_so f g =
-        fate_any law commit (Unit {0}) L t (length a.sent) x T (history_of s m) opening before after place agreed_so guide_so f
-        ∙ sym (fate_any law commit (Unit {0}) L t (length a.sent) x T (history_of s m) opening before after place agreed_so guide_so g)
+    any_so : StandsIn t n P Done T H → (g k : Fate) → last_or g (fates x H T) ≡ last_or k (fates x H T)
+    any_so f g k =
+        fate_any s.law commit (Unit {0}) L t n x T H s.opening f.before f.after f.place (sym f.code) (guide Done f) g
+        ∙ sym (fate_any s.law commit (Unit {0}) L t n x T H s.opening f.before f.after f.place (sym f.code) (guide Done f) k)
 
-    pub sent_fates : (f : Fate)
-        → fates x (request_of t (length a.sent) (Prepare x) ∷ after) (tables_after before T) ≡ history.InDoubt ∷ once (fate x f (history_of s m) T)
-    sent_fates f = fates_from law commit (Unit {0}) L t (length a.sent) x T (history_of s m) opening before after place agreed_so guide_so tt f
+    pub sent_fates : StandsIn t n P Done T H → (g : Fate) (before after : History) → H ≡ before ++ request_of t n P ∷ after
+        → fates x (request_of t n P ∷ after) (tables_after before T) ≡ history.InDoubt ∷ once (fate x g H T)
+    sent_fates f g before after place =
+        let there = at_place s n P Done f before after place in
+        fates_from s.law commit (Unit {0}) L t n x T H s.opening before after place (sym there.code) (guide Done there) tt g
 
-  pub sent_end : HasSentOnly commit ⊥ x a a' → (e : Ending) (L : Type 0) (f : Fate)
-      → AtEnd commit (Unit {0}) L x (fate x f (history_of s m) T) (history_of s m) T e
-  sent_end h e L f = record {
-    comes = comes_so commit L _ _ e (at_last law commit (Unit {0}) ⊥ t (length a.sent) x T (history_of s m) opening before after place (agreed_so ⊥ h) (guide_so ⊥ h) tt f).stands;
-    any = any_so ⊥ h;
+  pub sent_end : HasSentOnly commit ⊥ x a a' → StandsIn t n P Done T H → (e : Ending) (L : Type 0) (g : Fate) → AtEnd commit (Unit {0}) L x (fate x g H T) H T e
+  sent_end h f e L g = record {
+    comes = comes_so commit L _ _ e (at_last s.law commit (Unit {0}) ⊥ t n x T H s.opening f.before f.after f.place (sym f.code) (guide ⊥ h Done f) tt g).stands;
+    any = any_so ⊥ h f;
   }
 
   -- where its second request was told a decision, that is its fate
-  module _ (c : Code) (z : WasTold commit x c a a') (begins : Begins a'.collected pairs) where
-    abbrev place_of : ℕ
-    place_of = length a.sent
-
-    abbrev prepare : Op
-    prepare = Prepare x
-
+  module _ (pairs : List (ℕ × Code)) (answered : All (λ p. slice_get (answers t (coded H T)) p.0 ≡ Some p) pairs) (begins : Begins a'.collected pairs)
+      (f : StandsIn t n P Done T H) (c : Code) (z : WasTold commit x c a a') where
     abbrev op : Op
     op = outcome_op commit x
 
-    abbrev whole : History
-    whole = history_of s m
+    abbrev k : ℕ
+    k = suc n + length z.gap
 
-    abbrev pub told_only : HasSentOnly commit (Unit {0}) x a a'
+    abbrev told_only : HasSentOnly commit (Unit {0}) x a a'
     told_only = record { rest = z.gap ++ op ∷ z.rest; sent = z.sent; all = z.all }
 
-    sides_are : (of_thread t before ≡ numbered t 0 a.sent) × (of_thread t after ≡ numbered t (suc place_of) ((z.gap ++ op ∷ z.rest) ++ grown.sent.0))
-    sides_are = parts s settled m positive t x a a' grown commit (Unit {0}) told_only only before after place
+    second : StandsIn t k op c T H
+    second =
+        let Q : ℕ × Code → Type 0 = λ p. slice_get (answers t (coded H T)) p.0 ≡ Some p in
+        let sends : s.ops ≡ (a.sent ++ P ∷ z.gap) ++ op ∷ (z.rest ++ grown.0) =
+        grown.1 ∙ ap (λ l. l ++ grown.0) (z.sent ∙ sym (append_assoc a.sent (P ∷ z.gap) (op ∷ z.rest))) ∙ append_assoc (a.sent ++ P ∷ z.gap) (op ∷ z.rest) grown.0 in
+        let many : length (a.sent ++ P ∷ z.gap) ≡ k = let e = length-append a.sent (P ∷ z.gap) in omega (arith, e) in
+        let all = begins_on (z.earlier ++ (k, c) ∷ []) a'.collected pairs z.collected begins in
+        stands_by s k op c ((λ i. slice_get (sends i) (sym many i)) ∙ at_seam (a.sent ++ P ∷ z.gap) op (z.rest ++ grown.0)) (all_mid Q z.earlier all.0 (k, c) (subst (All Q) (all.1 ∙ append_assoc z.earlier ((k, c) ∷ []) all.0) answered))
 
-    abbrev later : List Op
-    later = z.rest ++ grown.sent.0
+    abbrev there : Tables
+    there = tables_after second.before T
 
-    parted : Parted t (numbered t (suc place_of) z.gap) (numbered t (suc (suc place_of + length z.gap)) later) (request_of t (suc place_of + length z.gap) op) after
-    parted =
-        part t after (numbered t (suc place_of) z.gap) (numbered t (suc (suc place_of + length z.gap)) later) (request_of t (suc place_of + length z.gap) op) (sides_are.1 ∙ ap (numbered t (suc place_of)) (append_assoc z.gap (op ∷ z.rest) grown.sent.0) ∙ numbered_both t (suc place_of) z.gap (op ∷ later))
+    abbrev rest : History
+    rest = request_of t k op ∷ second.after
 
-    abbrev second : Request
-    second = request_of t (suc place_of + length z.gap) op
+    -- nothing more is made of it
+    module _ (d : HeuristicDecision) (e : c ≡ decision_code d) where
+      is_told : IsToldDecision x d there (next t op there)
+      is_told = tells_so s.law commit t x d there (sym second.code ∙ e)
 
-    abbrev there : History
-    there = before ++ request_of t place_of prepare ∷ parted.before
-
-    abbrev at_second : Tables
-    at_second = tables_after there T
-
-    place_there : whole ≡ there ++ second ∷ parted.after
-    place_there =
-        place ∙ ap (λ l. before ++ request_of t place_of prepare ∷ l) parted.place
-        ∙ sym (append_assoc before (request_of t place_of prepare ∷ parted.before) (second ∷ parted.after))
-
-    code_told : c ≡ (next t op at_second).1
-    code_told =
-        let all : Begins (z.earlier ++ (suc place_of + length z.gap, c) ∷ []) pairs =
-        begins_on (z.earlier ++ (suc place_of + length z.gap, c) ∷ []) a'.collected pairs z.collected begins in
-        code_there t whole T pairs z.earlier all.0 (suc place_of + length z.gap) c answered (all.1 ∙ append_assoc z.earlier ((suc place_of + length z.gap, c) ∷ []) all.0) there parted.after op place_there
-        (count_two t place_of prepare before parted.before a.sent z.gap sides_are.0 parted.earlier)
-
-    module _ (d : HeuristicDecision) (e : c ≡ decision_code d) (f : Fate) (fits : IsFateOf x f T) where
-      is_told : IsToldDecision x d at_second (next t op at_second)
-      is_told = tells_so law commit t x d at_second (sym code_told ∙ e)
-
-      -- nothing more is made of it
-      silent : fates x (second ∷ parted.after) at_second ≡ []
+      silent : fates x rest there ≡ []
       silent =
-          (fates_once commit (Unit {0}) (Unit {0}) x (second ∷ parted.after) at_second (decided_fate d)
-          (all_right (λ (r : Request). IsGuided commit (Unit {0}) x r.op) parted.before (second ∷ parted.after) (subst (All (λ (r : Request). IsGuided commit (Unit {0}) x r.op)) parted.place (guide_so (Unit {0}) told_only)))
-          (record { stands = unforgotten d is_told.state refl (inl refl); sound = run_sound there T (opening_sound T opening) })).0 (is_decided_so (decided_fate d) d refl)
+          let Q : Request → Type 0 = λ r. IsGuided commit (Unit {0}) x r.op in
+          let later = later_place t f.before second.before (request_of t n P) (request_of t k op) f.after second.after (sym f.place ∙ second.place) refl (omega arith) (below s n P f.before f.after f.place) in
+          (fates_once commit (Unit {0}) (Unit {0}) x rest there (decided_fate d) (all_right Q later.mid rest (subst (All Q) later.after (guide (Unit {0}) told_only Done f)))
+          (record { stands = unforgotten d is_told.state refl (inl refl); sound = run_sound second.before T (opening_sound T s.opening) })).0 (is_decided_so (decided_fate d) d refl)
 
-      told_fate_is : fate x f whole T ≡ decided_fate d
-      told_fate_is =
-          law.leaves whole x f T
-          ∙ ap (last_or f) (ap (λ (h : History). fates x h T) place_there ∙ fates_both x there (second ∷ parted.after) T ∙ ap (λ l. fates x there T ++ l) silent ∙ append-nil (fates x there T))
-          ∙ sym (law.leaves there x f T) ∙ (law.kept there x f T opening fits).decided d is_told.state
+      told_fate_is : (g : Fate) → IsFateOf x g T → fate x g H T ≡ decided_fate d
+      told_fate_is g fits =
+          s.law.leaves H x g T
+          ∙ ap (last_or g) (ap (λ (h : History). fates x h T) second.place ∙ fates_both x second.before rest T ∙ ap (λ l. fates x second.before T ++ l) silent ∙ append-nil (fates x second.before T))
+          ∙ sym (s.law.leaves second.before x g T) ∙ (s.law.kept second.before x g T s.opening fits).decided d is_told.state
 
     -- and its ending tells so
-    pub told_end : is_decided c ≡ true → (L : Type 0) (f : Fate) → IsFateOf x f T
-        → AtEnd commit (Unit {0}) L x (fate x f whole T) whole T (yes_ending commit (Some c))
-    told_end decided L f fits =
-        let k = decision_so c decided in
+    pub told_end : is_decided c ≡ true → (L : Type 0) (g : Fate) → IsFateOf x g T → AtEnd commit (Unit {0}) L x (fate x g H T) H T (yes_ending commit (Some c))
+    told_end decided L g fits =
+        let d = decision_so c decided in
         record {
-          comes = tells k.0 (told_fate_is k.0 k.1 f fits) (ap (λ (q : Code). told_fate (yes_ending commit (Some q))) k.1 ∙ told_decided commit k.0);
-          any = any_so (Unit {0}) told_only;
+          comes = tells d.0 (told_fate_is d.0 d.1 g fits) (ap (λ (q : Code). told_fate (yes_ending commit (Some q))) d.1 ∙ told_decided commit d.0);
+          any = any_so (Unit {0}) told_only f;
         }

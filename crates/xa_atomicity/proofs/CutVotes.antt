@@ -1,4 +1,6 @@
 -- The votes that a commit got which was cut short, and what it leaves in the log.
+use Rattle.xa_base.proofs.Truth.{by_bool}
+use Rattle.std.proofs.lemmas.Bool.{both_ways, false_from_ne_true, or_from}
 use Rattle.std.proofs.Common.{◌≡◌, ℕ, ◌+◌, Bool, true, false, ◌==◌, ◌&&◌, ◌||◌, List, [], ◌∷◌, ◌++◌, length, append-nil, append_assoc, get_or, sym, refl, ap}
 use Rattle.std.proofs.Common.{◌∙◌, subst, Option, Some}
 use Rattle.std.specs.List.{All}
@@ -86,11 +88,7 @@ module _ (P : Op → Type 0) where
 -- ---- a vote that was collected
 
 pub shut_unless : (v : Code) (a : LedgerView) → (learnt_shut a ≡ true → v ≡ RmFail) → is_yes v ≡ true → learnt_shut a ≡ false
-shut_unless v a refused y =
-    elim (learnt_shut a) as (λ c. learnt_shut a ≡ c → c ≡ false) [
-      | true ↦ λ shut. let no : true ≡ false = sym y ∙ ap is_yes (refused shut) in cc
-      | false ↦ λ _. refl
-    ] refl
+shut_unless v a refused y = false_from_ne_true (learnt_shut a) (λ shut. both_ways (is_yes v) (ap is_yes (refused shut)) y)
 
 pub first_is : (b : Branch) (v : Code) (a : LedgerView) → learnt_shut a ≡ false → voted b v a ≡ with_collected (with_sent a (Prepare b.xid)) (length a.sent) v
 first_is b v a open_ = at_false (learnt_shut a) _ _ open_
@@ -178,9 +176,8 @@ pub none_of : (P : Branch → Code → Type 0) (t : TranName) (m : ℕ) → ((b 
     → (bs : List Branch) (vs : List Code) → IsTranOf bs t → EachVote P bs vs → voted_yes m bs vs ≡ false
 none_of P t m against [] [] tran h = refl
 none_of P t m against (b ∷ bs) (v ∷ vs) tran h =
-    ap (λ q. q || voted_yes m bs vs)
-    (elim (b.m == m) as (λ c. (b.m == m) ≡ c → (c && is_yes v) ≡ false) [ true ↦ λ same. against b v tran.0 (eqb-true b.m m same) h.0 | false ↦ λ other. refl ] refl)
-    ∙ none_of P t m against bs vs tran.1 h.1
+    or_from ((b.m == m) && is_yes v) (voted_yes m bs vs) (by_bool (λ c. (c && is_yes v) ≡ false) (b.m == m) (λ same. against b v tran.0 (eqb-true b.m m same) h.0) (λ _. refl))
+    (none_of P t m against bs vs tran.1 h.1)
 none_of P t m against bs vs tran h = absurd h
 
 -- where the desk has learnt that the manager is shut
@@ -196,15 +193,12 @@ module _ (o : Opening) (kept : IsKept o) (t : TranName) (only : OnlyResolves t o
   no_vote : (u : ℕ) (old new : List LedgerView) → HaveGrown new (ledgers_of o.settled u) → (b : Branch) (v : Code) → tran_of b.xid ≡ t → b.m ≡ m
       → Votes old new b v → is_yes v ≡ false
   no_vote u old new grown b v of_tran same h =
-      elim (is_yes v) as (λ y. is_yes v ≡ y → y ≡ false) [
-        | false ↦ λ _. refl
-        | true ↦ λ y.
-            let mine : HasVoted Any b v (ledger old m) (ledger new m) = subst (λ k. HasVoted Any b v (ledger old k) (ledger new k)) same h in
-            let open_ : learnt_shut (ledger old m) ≡ false = shut_unless v (ledger old m) mine.prepared y in
-            let at =
-            prepare_part o.settled kept.settled m up.0 u b.xid (ledger old m) (ledger new m) (grown.each m up.0) mine.rest.more (prepare_sent Any b v (ledger old m) (ledger new m) open_ mine) in
-            absurd (all_mid (λ (r : Request). NamesTran t r.op → IsNoPrepare r.op) at.1.before at.1.after (request_of u (0 + length (ledger old m).sent) (Prepare b.xid)) (subst (All (λ (r : Request). NamesTran t r.op → IsNoPrepare r.op)) at.1.place no_prepares) of_tran b.xid refl)
-      ] refl
+      false_from_ne_true (is_yes v) (λ y.
+      let mine : HasVoted Any b v (ledger old m) (ledger new m) = subst (λ k. HasVoted Any b v (ledger old k) (ledger new k)) same h in
+      let open_ : learnt_shut (ledger old m) ≡ false = shut_unless v (ledger old m) mine.prepared y in
+      let at =
+      prepare_part o.settled kept.settled m up.0 u b.xid (ledger old m) (ledger new m) (grown.each m up.0) mine.rest.more (prepare_sent Any b v (ledger old m) (ledger new m) open_ mine) in
+      all_mid (λ (r : Request). NamesTran t r.op → IsNoPrepare r.op) at.1.before at.1.after (request_of u (0 + length (ledger old m).sent) (Prepare b.xid)) (subst (All (λ (r : Request). NamesTran t r.op → IsNoPrepare r.op)) at.1.place no_prepares) of_tran b.xid refl)
 
   pub none_resolved : (u : ℕ) (old new : List LedgerView) → HaveGrown new (ledgers_of o.settled u) → (bs : List Branch) (vs : List Code) → IsTranOf bs t
       → EachVote (Votes old new) bs vs → voted_yes m bs vs ≡ false

@@ -1,4 +1,7 @@
 -- How a branch ends, by its fate at the end of the first opening and through the later ones.
+use Rattle.xa_atomicity.proofs.Voting.{ends, tells, leaves}
+use Rattle.xa_atomicity.proofs.Leading.{waits, unforgotten, over}
+use Rattle.std.proofs.lemmas.Bool.{both_ways}
 use Rattle.std.specs.Prelude.{◌⊎◌}
 use Rattle.std.proofs.Common.{◌≡◌, inl, inr, ⊎_elim, Bool, true, false, if◌then◌else◌, sym, refl, ap, ◌∙◌, subst, Option, Some}
 use Rattle.xa_base.proofs.Truth.{at_false, at_true}
@@ -16,8 +19,8 @@ use Rattle.xa_driver.specs.declared.done.Ending.TheVariants.{Committed, ReadOnly
 use Rattle.xa_driver.specs.Endings.{is_decided}
 use Rattle.xa_atomicity.specs.Outcomes.{is_heuristic, is_in_doubt, is_left, told_fate}
 use Rattle.xa_atomicity.specs.Resolution.{ended_as}
-use Rattle.xa_atomicity.proofs.Leading.{IsOver, Stands, waits, unforgotten, over}
-use Rattle.xa_atomicity.proofs.Voting.{Comes, ends, tells, leaves}
+use Rattle.xa_atomicity.proofs.Leading.{IsOver, Stands}
+use Rattle.xa_atomicity.proofs.Voting.{Comes}
 
 -- fates that are known
 pub is_known_so : (f : Fate) (commit : Bool) → f ≡ ended_as commit → is_unknown f ≡ false
@@ -68,7 +71,7 @@ left_fate commit L f g left (waits y open_ state e) known apart same = let z : t
 left_fate commit L f g left (unforgotten d state e l) known apart same = apart d (sym e ∙ same)
 left_fate commit L f g left (over state e) known apart same = let z : true ≡ false = sym left ∙ ap is_left_in state in cc
 
-read_apart : (d : HeuristicDecision) → decided_fate d ≡ history.ReadOnly → ⊥
+pub read_apart : (d : HeuristicDecision) → decided_fate d ≡ history.ReadOnly → ⊥
 read_apart decision.Commit e = cc
 read_apart decision.Rollback e = cc
 
@@ -90,6 +93,13 @@ doubted commit W L {s} f e told reached named why (leaves _ left st) = by_ending
     by_ending InDoubt told reached named why = leaves (why refl) left st
     by_ending (Heuristic c) told reached named why = let z = named refl in tells z.0 (told (decided_fate z.0) z.1) z.1
     by_ending (Left c) told reached named why = cc
+
+-- one that is in doubt is left
+pub left_in_doubt : (commit : Bool) (W L : Type 0) {s : Option State} (f : Fate) (e : Ending) → Comes commit W L s f e → is_unknown f ≡ true
+    → W × (is_left_in s ≡ true) × Stands commit true (f ≡ history.InDoubt) L s f
+left_in_doubt commit W L f e (ends g) unknown = absurd (both_ways (is_unknown f) (is_known_so f commit g) unknown)
+left_in_doubt commit W L f e (tells d g h) unknown = absurd (both_ways (is_unknown f) (is_decided_so f d g) unknown)
+left_in_doubt commit W L f e (leaves why left st) unknown = (why, left, st)
 
 -- how it ends, by its fate at the end of the first opening and through the later ones
 module _ (commit : Bool) (L : Type 0) (Listed : HeuristicDecision → Type 0) (f later : Fate) (e : Ending) where

@@ -1,4 +1,11 @@
 -- What became of a branch that nobody else named, but for heuristic decisions, over the settled history of its manager.
+use Rattle.xa_atomicity.proofs.Courses.{Unreached, Reads, Breaks, Stays, Agrees, Refuses}
+use Rattle.xa_atomicity.specs.Outcomes.{OnlyTheseName}
+use Rattle.xa_base.proofs.Lists.{all_mid}
+use Rattle.std.proofs.lemmas.Bool.{both_ways}
+use Rattle.xa_driver.specs.Resolving.{outcome_op}
+use Rattle.std.proofs.lemmas.Bool.{or_left, true_from_ne_false}
+use Rattle.xa_base.proofs.Truth.{by_bool}
 use Rattle.std.specs.Prelude.{◌⊎◌}
 use Rattle.std.proofs.Common.{◌≡◌, ◌≢◌, ℕ, suc, ◌+◌, ◌<◌, inl, inr, Bool, true, false, ◌||◌, if◌then◌else◌, List, [], ◌∷◌, ◌++◌, length, append-nil}
 use Rattle.std.proofs.Common.{append_assoc, get_or, sym, refl, ap, ◌∙◌, subst, arith, Option, Some, None}
@@ -33,8 +40,8 @@ use Rattle.xa_driver.specs.Course.{AtBranch}
 use Rattle.xa_atomicity.specs.Outcomes.{IsBetween, OnlyTheseOrDecisionsName, IsAfterShut, IsDecidedAfter, told_fate, is_left, is_in_doubt, is_heuristic}
 use Rattle.xa_atomicity.proofs.Placing.{request_of, fates, fates_both, fate_is, last_both}
 use Rattle.xa_atomicity.proofs.Requests.{closes_other}
-use Rattle.xa_atomicity.proofs.Courses.{yes_is, read_is, Sends, SendsOne, Course, Unreached, Reads, Breaks, Stays, Agrees, Refuses, course_of, rest_forgets}
-use Rattle.xa_atomicity.proofs.Sites.{Site, Sent, AsksIn, At, above, Second, second_of}
+use Rattle.xa_atomicity.proofs.Courses.{yes_is, read_is, Sends, SendsOne, Course, rest_forgets}
+use Rattle.xa_atomicity.proofs.Sites.{Site, Sent, AsksIn, StandsIn, above, Second, second_of}
 
 -- ---- who may name the branch
 
@@ -48,11 +55,7 @@ pub leaves_waiting : (t : ℕ) (x : XidName) (n last : ℕ) (mid : History) (S :
     → ((k : ℕ) (d : Request) → k < length mid → (get_or mid k d).thread ≢ t) → LeavesWaiting t x mid
 leaves_waiting t x n last mid S rest allowed others k d lt =
     let differs = others k d lt in (
-      λ named.
-          elim (is_heur (get_or mid k d).op) as (λ b. is_heur (get_or mid k d).op ≡ b → b ≡ true) [
-            | true ↦ λ h. refl
-            | false ↦ λ h. absurd (differs (all_left (IsAllowed t x n last) mid (S ∷ rest) allowed k d lt named h).thread)
-          ] refl,
+      λ named. true_from_ne_false (is_heur (get_or mid k d).op) (λ h. differs (all_left (IsAllowed t x n last) mid (S ∷ rest) allowed k d lt named h).thread),
       closes_other t (get_or mid k d) differs,
     )
 
@@ -61,10 +64,8 @@ pub only_decides : (t : ℕ) (x : XidName) (n last : ℕ) (mid : History) (S : R
     → ((k : ℕ) (d : Request) → k < length rest → (get_or rest k d).thread ≡ t → (get_or rest k d).number < last → is_forget (get_or rest k d).op ≡ true)
     → OnlyDecides x rest
 only_decides t x n last mid S rest allowed forgets k d lt named =
-    elim (is_heur (get_or rest k d).op) as (λ b. is_heur (get_or rest k d).op ≡ b → (b || is_forget (get_or rest k d).op) ≡ true) [
-      | true ↦ λ h. refl
-      | false ↦ λ h. let between = all_after (IsAllowed t x n last) mid S rest allowed k d lt named h in forgets k d lt between.thread between.below
-    ] refl
+    by_bool (λ b. (b || is_forget (get_or rest k d).op) ≡ true) (is_heur (get_or rest k d).op) (λ _. refl)
+    (λ h. let between = all_after (IsAllowed t x n last) mid S rest allowed k d lt named h in forgets k d lt between.thread between.below)
 
 -- ---- decisions that were carried out
 
@@ -91,11 +92,7 @@ found x f (r ∷ g) T e =
 
 -- a request that makes something of the branch names it
 named_by : (x : XidName) (op : Op) (c : Code) (f : Fate) → fate_of x op c ≡ Some f → names x op ≡ true
-named_by x op c f is =
-    elim (names x op) as (λ b. names x op ≡ b → b ≡ true) [
-      | true ↦ λ n. refl
-      | false ↦ λ n. let z : None ≡ Some f = sym (unnamed_fate x op c n) ∙ is in cc
-    ] refl
+named_by x op c f is = true_from_ne_false (names x op) (λ n. let z : None ≡ Some f = sym (unnamed_fate x op c n) ∙ is in cc)
 
 -- a heuristic decision that makes something of it was carried out
 carried_out_by : (x : XidName) (op : Op) (c : Code) (f : Fate) → is_heur op ≡ true → fate_of x op c ≡ Some f → c ≡ Done
@@ -106,6 +103,37 @@ carried_out_by x (Heur y commits) c f h is = heur_done (xid_eq y x) c is
     heur_done true c e = cc
     heur_done false c e = cc
 carried_out_by x op c f h is = cc
+
+-- a decision that was carried out after a Prepare, before what is after it
+pub decided_in : (t n : ℕ) (x : XidName) (T : Tables) (H before after : History) → H ≡ before ++ request_of t n (Prepare x) ∷ after → (g h : History) → after ≡ g ++ h
+    → All (λ q. names x q.op ≡ true → is_heur q.op ≡ true) g → (d : HeuristicDecision)
+    → fates x g (next t (Prepare x) (tables_after before T)).0 ≡ decided_fate d ∷ [] → IsDecidedAfter x t n T H
+decided_in t n x T H before after place g h split heur d made =
+    let p = found x (decided_fate d) g (next t (Prepare x) (tables_after before T)).0 made in
+    let named = named_by x p.request.op _ (decided_fate d) p.fate_here in
+    let Q : Request → Type 0 = λ q. names x q.op ≡ true → is_heur q.op ≡ true in
+    let by_itself = all_mid Q p.before p.after p.request (subst (All Q) p.place heur) named in
+    record {
+      before = before;
+      request = request_of t n (Prepare x);
+      between = p.before;
+      decision = p.request;
+      after = p.after ++ h;
+      place = place ∙ ap (λ l. before ++ request_of t n (Prepare x) ∷ l) (split ∙ ap (λ l. l ++ h) p.place ∙ append_assoc p.before (p.request ∷ p.after) h);
+      thread = refl;
+      number = refl;
+      named = named;
+      decides = by_itself;
+      carried_out = ap (λ (U : Tables). (next p.request.thread p.request.op U).1) (tables_after-append before (request_of t n (Prepare x) ∷ p.before) T)
+          ∙ carried_out_by x p.request.op _ (decided_fate d) by_itself p.fate_here;
+    }
+
+-- a request for the outcome that is told a decision makes nothing of the branch
+pub outcome_quiet : (commit : Bool) (x : XidName) (d : HeuristicDecision) → fate_of x (outcome_op commit x) (decision_code d) ≡ None
+outcome_quiet true x decision.Commit = at_true (xid_eq x x) _ None (xid_self x)
+outcome_quiet true x decision.Rollback = at_true (xid_eq x x) _ None (xid_self x)
+outcome_quiet false x decision.Commit = at_true (xid_eq x x) _ None (xid_self x)
+outcome_quiet false x decision.Rollback = at_true (xid_eq x x) _ None (xid_self x)
 
 -- ---- what became of a branch
 
@@ -153,21 +181,14 @@ module _ {t : ℕ} {T : Tables} {H : History} (site : Site t T H) (x : XidName) 
   -- ---- the Prepare alone was sent
 
   module _ (z : SendsOne site x n last vote) where
-    abbrev alone : At site n P vote
+    abbrev alone : StandsIn t n P vote T H
     alone = z.first
 
     decides_after : OnlyDecides x alone.after
     decides_after k d lt named =
-        elim (is_heur (get_or alone.after k d).op) as (λ b. is_heur (get_or alone.after k d).op ≡ b → (b || is_forget (get_or alone.after k d).op) ≡ true) [
-          | true ↦ λ h. refl
-          | false ↦ λ h.
-              let between : IsBetween t n last (get_or alone.after k d) =
-              only alone.before alone.after (request_of t n P) alone.place refl refl k d lt named h in
-              let up = above site n P alone.before alone.after alone.sides k d lt between.thread in
-              let down = between.below in
-              let limit = z.limit in
-              absurd (omega (arith, up, down, limit))
-        ] refl
+        or_left (is_heur (get_or alone.after k d).op) (is_forget (get_or alone.after k d).op) (true_from_ne_false (is_heur (get_or alone.after k d).op) (λ h.
+        let between : IsBetween t n last (get_or alone.after k d) = only alone.before alone.after (request_of t n P) alone.place refl refl k d lt named h in
+        let up = above site n P alone.before alone.after alone.place k d lt between.thread in let down = between.below in let limit = z.limit in omega (arith, up, down, limit)))
 
     -- the vote tells what became of it
     voted_so : (e : Ending) (f : Fate) → is_yes vote ≡ false → is_in_doubt e ≡ false → told_fate e ≡ Some f → prepare_fate vote ≡ Some f → is_unknown f ≡ false
@@ -183,7 +204,7 @@ module _ {t : ℕ} {T : Tables} {H : History} (site : Site t T H) (x : XidName) 
   -- ---- a second request was sent
 
   module _ (op : Op) (c : Code) (z : Sends site x n last vote op c) where
-    abbrev f : At site n P vote
+    abbrev f : StandsIn t n P vote T H
     f = z.first
 
     abbrev s : Second site n P vote f op c
@@ -237,30 +258,7 @@ module _ {t : ℕ} {T : Tables} {H : History} (site : Site t T H) (x : XidName) 
 
       -- a decision of it was carried out between the two
       decided_between : (d : HeuristicDecision) → fates x s.mid now ≡ decided_fate d ∷ [] → IsDecidedAfter x t n T H
-      decided_between d made =
-          let p = found x (decided_fate d) s.mid now made in
-          let named : names x p.request.op ≡ true = named_by x p.request.op _ (decided_fate d) p.fate_here in
-          let heur : is_heur p.request.op ≡ true = (mid_of p.before p.request p.after (subst (LeavesWaiting t x) p.place waiting)).0 named in
-          record {
-            before = f.before;
-            request = request_of t n P;
-            between = p.before;
-            decision = p.request;
-            after = p.after ++ S ∷ s.rest;
-            place = f.place
-                ∙ ap (λ l. f.before ++ request_of t n P ∷ l) (s.split ∙ ap (λ l. l ++ S ∷ s.rest) p.place ∙ append_assoc p.before (p.request ∷ p.after) (S ∷ s.rest));
-            thread = refl;
-            number = refl;
-            named = named;
-            decides = heur;
-            carried_out = ap (λ (U : Tables). (next p.request.thread p.request.op U).1) (tables_after-append f.before (request_of t n P ∷ p.before) T)
-                ∙ carried_out_by x p.request.op (next p.request.thread p.request.op (tables_after p.before now)).1 (decided_fate d) heur p.fate_here;
-          }
-        where
-          mid_of : (before : History) (r : Request) (after : History) → LeavesWaiting t x (before ++ r ∷ after)
-              → (names x r.op ≡ true → is_heur r.op ≡ true) × (closes t r ≡ false)
-          mid_of [] r after all = all 0 r (omega arith)
-          mid_of (q ∷ before) r after all = mid_of before r after (λ k d lt. all (suc k) d (omega arith))
+      decided_between d made = decided_in t n x T H f.before f.after f.place s.mid (S ∷ s.rest) s.split (λ k d lt. (waiting k d lt).0) d made
 
       -- the manager is shut at its second request, and what became of it since its Prepare is all
       at_shut : there.shut ≡ true → fates x f.after now ≡ fates_when w.decision
@@ -349,14 +347,6 @@ module _ {t : ℕ} {T : Tables} {H : History} (site : Site t T H) (x : XidName) 
 
   -- ---- after a vote against
 
-  commit_quiet : (d : HeuristicDecision) → fate_of x (Commit x false) (decision_code d) ≡ None
-  commit_quiet decision.Commit = at_true (xid_eq x x) _ None (xid_self x)
-  commit_quiet decision.Rollback = at_true (xid_eq x x) _ None (xid_self x)
-
-  rollback_quiet : (d : HeuristicDecision) → fate_of x (Rollback x) (decision_code d) ≡ None
-  rollback_quiet decision.Commit = at_true (xid_eq x x) _ None (xid_self x)
-  rollback_quiet decision.Rollback = at_true (xid_eq x x) _ None (xid_self x)
-
   refused : (c : Code) → is_yes vote ≡ false → Sends site x n last vote (Rollback x) c → Goal (no_ending vote (Some c))
   refused c y z =
       by_if Goal (is_done c || is_rolled_back c) RolledBack _ (λ back.
@@ -365,7 +355,7 @@ module _ {t : ℕ} {T : Tables} {H : History} (site : Site t T H) (x : XidName) 
     where
       told_with : (d : HeuristicDecision) (c : Code) → c ≡ decision_code d → Sends site x n last vote (Rollback x) c → fate x f0 H T ≡ decided_fate d
       told_with d c is z =
-          told_by (Rollback x) c z d (ap (fate_of x (Rollback x)) is ∙ rollback_quiet d) (site.law.rollback_tells t x d _ (sym (code_there (Rollback x) c z) ∙ is))
+          told_by (Rollback x) c z d (ap (fate_of x (Rollback x)) is ∙ outcome_quiet false x d) (site.law.rollback_tells t x d _ (sym (code_there (Rollback x) c z) ∙ is))
 
       heuristic_told : (c : Code) → Sends site x n last vote (Rollback x) c → (g : Fate) → told_fate (Heuristic c) ≡ Some g → fate x f0 H T ≡ g
       heuristic_told HeurCom z g is = told_with decision.Commit HeurCom refl z ∙ (let q : Some history.HeurCommitted ≡ Some g = is in cc)
@@ -373,31 +363,43 @@ module _ {t : ℕ} {T : Tables} {H : History} (site : Site t T H) (x : XidName) 
       heuristic_told c z g is = cc
 
 -- what became of a branch of a commit that nobody else named, but for heuristic decisions
-pub branch_told : {t : ℕ} {T : Tables} {H : History} (site : Site t T H) (b : Branch) (commit : Bool) (vote : Code) (second : Option Code) (ending : Ending) (old new : Sent)
-    → AtBranch (AsksIn t T H) commit b vote second ending old new
-    → (f0 : Fate) → IsFateOf b.xid f0 T → OnlyTheseOrDecisionsName b.xid t old.number new.number H → Told t b.xid f0 T H old.number vote ending
-branch_told {t} {T} {H} site b commit vote second ending old new is f0 fits only = by_course ending (course_of site b commit vote second ending old new is)
+pub branch_told : {t : ℕ} {T : Tables} {H : History} (site : Site t T H) (x : XidName) (n last : ℕ) (commit : Bool) (vote : Code) (ending : Ending)
+    → Course site x n last vote commit ending → (f0 : Fate) → IsFateOf x f0 T → OnlyTheseOrDecisionsName x t n last H → Told t x f0 T H n vote ending
+branch_told {t} {T} {H} site x n last commit vote ending course f0 fits only = by_course ending course
   where
     read_not : is_read vote ≡ true → is_yes vote ≡ false
     read_not r = ap is_yes (read_is vote r)
 
     by_decision : (commit : Bool) (c : Code) → is_yes vote ≡ true
-        → Sends site b.xid old.number new.number vote (if commit then Commit b.xid false else Rollback b.xid) c
-        → Told t b.xid f0 T H old.number vote (yes_ending commit (Some c))
+        → Sends site x n last vote (if commit then Commit x false else Rollback x) c
+        → Told t x f0 T H n vote (yes_ending commit (Some c))
     by_decision true c y z =
-        outcome site b.xid f0 fits old.number new.number vote only (Commit b.xid false) c z (yes_is vote y) Committed history.Committed refl refl refl refl refl (at_true (xid_eq b.xid b.xid) _ None (xid_self b.xid))
-        (commit_quiet site b.xid f0 fits old.number new.number vote only) (λ o U h. h.commits) (λ d U. site.law.commit_tells t b.xid d U)
+        outcome site x f0 fits n last vote only (Commit x false) c z (yes_is vote y) Committed history.Committed refl refl refl refl refl (at_true (xid_eq x x) _ None (xid_self x))
+        (outcome_quiet true x) (λ o U h. h.commits) (λ d U. site.law.commit_tells t x d U)
     by_decision false c y z =
-        outcome site b.xid f0 fits old.number new.number vote only (Rollback b.xid) c z (yes_is vote y) RolledBack history.RolledBack refl refl refl refl refl (at_true (xid_eq b.xid b.xid) _ None (xid_self b.xid))
-        (rollback_quiet site b.xid f0 fits old.number new.number vote only) (λ o U h. h.rolls_back) (λ d U. site.law.rollback_tells t b.xid d U)
+        outcome site x f0 fits n last vote only (Rollback x) c z (yes_is vote y) RolledBack history.RolledBack refl refl refl refl refl (at_true (xid_eq x x) _ None (xid_self x))
+        (outcome_quiet false x) (λ o U h. h.rolls_back) (λ d U. site.law.rollback_tells t x d U)
 
-    by_course : (e : Ending) → Course site b.xid old.number new.number vote commit e → Told t b.xid f0 T H old.number vote e
-    by_course _ (Unreached same code) = no_vote site b.xid f0 fits old.number new.number vote only (Left RmFail) (ap is_yes code) refl (λ f e. cc)
+    by_course : (e : Ending) → Course site x n last vote commit e → Told t x f0 T H n vote e
+    by_course _ (Unreached same code) = no_vote site x f0 fits n last vote only (Left RmFail) (ap is_yes code) refl (λ f e. cc)
     by_course _ (Reads r z) =
-        voted_so site b.xid f0 fits old.number new.number vote only z ReadOnly history.ReadOnly (read_not r) refl refl (ap prepare_fate (read_is vote r)) refl
+        voted_so site x f0 fits n last vote only z ReadOnly history.ReadOnly (read_not r) refl refl (ap prepare_fate (read_is vote r)) refl
     by_course _ (Breaks k z) =
-        let code : vote ≡ RbIntegrity = broken_code site b.xid f0 fits old.number new.number vote only z k in
-        voted_so site b.xid f0 fits old.number new.number vote only z RolledBack history.RolledBack (ap is_yes code) refl refl (ap prepare_fate code) refl
-    by_course _ (Stays c y z) = no_vote site b.xid f0 fits old.number new.number vote only (Left c) y refl (λ f e. cc)
+        let code : vote ≡ RbIntegrity = broken_code site x f0 fits n last vote only z k in
+        voted_so site x f0 fits n last vote only z RolledBack history.RolledBack (ap is_yes code) refl refl (ap prepare_fate code) refl
+    by_course _ (Stays c y z) = no_vote site x f0 fits n last vote only (Left c) y refl (λ f e. cc)
     by_course _ (Agrees c y z) = by_decision commit c y z
-    by_course _ (Refuses c y r z) = refused site b.xid f0 fits old.number new.number vote only c y z
+    by_course _ (Refuses c y r z) = refused site x f0 fits n last vote only c y z
+
+-- where nobody else names it, and its thread decides nothing, no decision of it was carried out
+pub none_decides : {t : ℕ} {T : Tables} {H : History} (site : Site t T H) (x : XidName) (n last : ℕ) → OnlyTheseName x t n last H
+    → All (λ r. r.thread ≡ t → n < r.number → r.number < last → is_heur r.op ≡ false) H → IsDecidedAfter x t n T H → ⊥
+none_decides {t} {T} {H} site x n last only plain d =
+    let Plain : Request → Type 0 = λ r. r.thread ≡ t → n < r.number → r.number < last → is_heur r.op ≡ false in
+    let op : Op = d.request.op in
+    let tail : History = d.between ++ d.decision ∷ d.after in
+    let place : H ≡ d.before ++ request_of t n op ∷ tail = d.place ∙ (λ i. d.before ++ record { thread = d.thread i; number = d.number i; op = op } ∷ tail) in
+    let own = all_mid (λ (q : Request). names x q.op ≡ true → IsBetween t n last q) d.between d.after d.decision (only d.before tail d.request d.place d.thread d.number) d.named in
+    let up = all_mid (λ (q : Request). q.thread ≡ t → n < q.number) d.between d.after d.decision (above site n op d.before tail place) own.thread in
+    both_ways (is_heur d.decision.op)
+    (all_mid Plain (d.before ++ d.request ∷ d.between) d.after d.decision (subst (All Plain) (d.place ∙ sym (append_assoc d.before (d.request ∷ d.between) (d.decision ∷ d.after))) plain) own.thread up own.below) d.decides

@@ -1,4 +1,6 @@
 -- A branch whose end was told isn't left to the next opening.
+use Rattle.xa_atomicity.proofs.Voting.{ended_known}
+use Rattle.xa_atomicity.proofs.EndsByFate.{decided_apart, read_apart}
 use Rattle.std.proofs.Common.{◌≡◌, ℕ, Bool, true, false, [], ◌∷◌, List, ap, sym, subst, refl, ◌∙◌}
 use Rattle.std.specs.Prelude.{Option, None, Some, option_map}
 use Rattle.std.specs.List.{All, list_all}
@@ -37,21 +39,8 @@ record IsOver (f : Fate) : Type 0 where
   known : history.is_in_doubt f ≡ false
   plain : (d : HeuristicDecision) → f ≡ decided_fate d → ⊥
 
-committed_is_over : IsOver history.Committed
-committed_is_over =
-    record { known = refl; plain = λ d e. elim d as (λ d. history.Committed ≡ decided_fate d → ⊥) [ decision.Commit ↦ λ e. cc | decision.Rollback ↦ λ e. cc ] e }
-
-read_is_over : IsOver history.ReadOnly
-read_is_over =
-    record { known = refl; plain = λ d e. elim d as (λ d. history.ReadOnly ≡ decided_fate d → ⊥) [ decision.Commit ↦ λ e. cc | decision.Rollback ↦ λ e. cc ] e }
-
-rolled_back_is_over : IsOver history.RolledBack
-rolled_back_is_over =
-    record { known = refl; plain = λ d e. elim d as (λ d. history.RolledBack ≡ decided_fate d → ⊥) [ decision.Commit ↦ λ e. cc | decision.Rollback ↦ λ e. cc ] e }
-
 ended_is_over : (commit : Bool) → IsOver (ended_as commit)
-ended_is_over true = committed_is_over
-ended_is_over false = rolled_back_is_over
+ended_is_over commit = record { known = ended_known commit; plain = λ d e. decided_apart d commit (sym e) }
 
 -- tables that tell it have nothing left
 not_left : (x : XidName) (f : Fate) (T : Tables) → IsFateOf x f T → IsOver f → (o : Option State) → state_of T x ≡ o
@@ -90,8 +79,8 @@ module _ (law : Tabled) (first : (s : Settling) (m : ℕ) (T : Tables) → IsSet
   -- ---- of a commit that was acknowledged
 
   acknowledged_is_over : (e : Ending) → has_acknowledged e ≡ true → (f : Fate) × (told_fate e ≡ Some f) × IsOver f
-  acknowledged_is_over Committed is = (history.Committed, refl, committed_is_over)
-  acknowledged_is_over ReadOnly is = (history.ReadOnly, refl, read_is_over)
+  acknowledged_is_over Committed is = (history.Committed, refl, ended_is_over true)
+  acknowledged_is_over ReadOnly is = (history.ReadOnly, refl, record { known = refl; plain = λ d e. read_apart d (sym e) })
   acknowledged_is_over e is = cc
 
   abbrev IsGone : Branch → Type 0

@@ -1,4 +1,5 @@
 -- What becomes of a branch that was left, through the openings up to one with a resolve that reached it.
+use Rattle.xa_atomicity.proofs.Leading.{waits, unforgotten, over}
 use Rattle.std.specs.Prelude.{option_map}
 use Rattle.std.proofs.Common.{◌≡◌, ◌≢◌, ℕ, Bool, true, false, cond, ◌==◌, List, [], ◌∷◌, ◌++◌, slice_get, get_or, sym, refl, ap, ◌∙◌, subst, arith, Option}
 use Rattle.std.proofs.Common.{Some, None, ⊎_elim}
@@ -36,13 +37,13 @@ use Rattle.xa_atomicity.specs.Resolution.{ResolveCall, resolves, IsUseIn, IsKept
 use Rattle.xa_driver.specs.Resolving.{is_to_commit, outcome_op}
 use Rattle.xa_atomicity.proofs.Answered.{Placed, placed, placed_ends, placed_tells}
 use Rattle.xa_atomicity.proofs.Guided.{decided_known, known_stays}
-use Rattle.xa_atomicity.proofs.Leading.{IsOver, Stands, waits, unforgotten, over, IsTowards, Standing, led_after, by_itself, ends_towards, stands_reopened}
+use Rattle.xa_atomicity.proofs.Leading.{IsOver, Stands, IsTowards, Standing, led_after, by_itself, ends_towards, stands_reopened}
 use Rattle.xa_atomicity.proofs.Leading.{is_over}
 use Rattle.xa_atomicity.proofs.Naming.{named_so, named_tran, sent_is}
 use Rattle.xa_atomicity.proofs.Placing.{fates}
 use Rattle.xa_atomicity.proofs.Records.{FindsMark}
 use Rattle.xa_atomicity.proofs.Resolves.{IsAnsweredIn, left_has, outcome_asked}
-use Rattle.xa_atomicity.proofs.Settled.{by_ledger}
+use Rattle.xa_atomicity.proofs.Settled.{by_ledger, answered_of}
 use Rattle.xa_atomicity.specs.Tabled.{Tabled}
 
 -- ---- one opening
@@ -143,7 +144,7 @@ module _ (law : Tabled) (first : (s : Settling) (m : ℕ) (T : Tables) → IsSet
       answered : All (λ p. slice_get (answers t (coded H T)) p.0 ≡ Some p) (ledger (ledgers_of o.settled t) m).collected
       answered =
           subst (All (λ (p : ℕ × Code). slice_get (answers t (coded H T)) p.0 ≡ Some p)) (by_ledger (ledgers_of o.settled t) m (λ (z : LedgerView). z.collected) up.0 refl)
-          (subst (λ (J : List Entry). All (λ (p : ℕ × Code). slice_get (answers t J) p.0 ≡ Some p) (collected o.settled t m)) with_T.codes (w.kept.settled.agree t m).coded)
+          (answered_of law o.settled w.kept.settled t m T with_T)
 
       pub answered_at : (r : Outcome) → Contains q.outcomes r → r.m ≡ m → r.xid ≡ x → r.code ≢ RmFail → Placed t T H (outcome_op commit x) r.code
       answered_at r among own same reached =
@@ -206,25 +207,18 @@ module _ (law : Tabled) (first : (s : Settling) (m : ℕ) (T : Tables) → IsSet
             (λ q among. lists q (Contains-append_right p.uses (uses_of ps) (resolves q) among)) (opening_stands p (reopened V) (reopened_fate f) kept_p begins_p towards here),
       )
 
-  -- where a resolve of the last reached all, it is over
-  pub walk_ends : (between : List Opening) (last : Opening) (q : ResolveCall) (T : Tables) (f : Fate) → Contains last.uses (resolves q)
+  -- where a resolve of the last reached all, it is over, and isn't prepared at its end
+  pub walk_ends : (o : Opening) (between : List Opening) (last : Opening) (q : ResolveCall) (T : Tables) (f : Fate) → Contains last.uses (resolves q)
       → ((n : ℕ) (U : Tables) → first_of last.settled n ≡ Some U → AreLeft (left_at q.scan n) U)
-      → ((r : Outcome) → Contains q.outcomes r → r.m ≡ m → r.xid ≡ x → r.code ≢ RmFail)
-      → Walk (between ++ last ∷ []) T f → IsOver commit D L (fate_through m x f (between ++ last ∷ []))
-  walk_ends [] last q T f there scan reached w = step_ends last (reopened T) (reopened_fate f) w.0 q there (scan m (reopened T) w.0.begins) reached
-  walk_ends (p ∷ between) last q T f there scan reached w =
-      walk_ends between last q (tables_after (history_of p.settled m) (reopened T)) (settled_fate p.settled m x (reopened_fate f)) there scan reached w.1
-
-  -- and it isn't prepared at the end of the last
-  pub walk_rests : (o : Opening) (between : List Opening) (last : Opening) (q : ResolveCall) (T : Tables) (f : Fate) → Contains last.uses (resolves q)
-      → ((n : ℕ) (U : Tables) → first_of last.settled n ≡ Some U → AreLeft (left_at q.scan n) U)
-      → ((r : Outcome) → Contains q.outcomes r → r.m ≡ m → r.xid ≡ x → r.code ≢ RmFail)
-      → Walk (between ++ last ∷ []) T f → is_prepared (tables_left (last_of o (between ++ last ∷ [])) m) x ≡ false
-  walk_rests o [] last q T f there scan reached w =
-      ap (λ (U : Tables). is_prepared U x) (ends_with last.settled m (reopened T) w.0.kept.settled w.0.begins)
-      ∙ step_rests last (reopened T) (reopened_fate f) w.0 q there (scan m (reopened T) w.0.begins) reached
-  walk_rests o (p ∷ between) last q T f there scan reached w =
-      walk_rests p between last q (tables_after (history_of p.settled m) (reopened T)) (settled_fate p.settled m x (reopened_fate f)) there scan reached w.1
+      → ((r : Outcome) → Contains q.outcomes r → r.m ≡ m → r.xid ≡ x → r.code ≢ RmFail) → Walk (between ++ last ∷ []) T f
+      → IsOver commit D L (fate_through m x f (between ++ last ∷ [])) × (is_prepared (tables_left (last_of o (between ++ last ∷ [])) m) x ≡ false)
+  walk_ends o [] last q T f there scan reached w = (
+    step_ends last (reopened T) (reopened_fate f) w.0 q there (scan m (reopened T) w.0.begins) reached,
+    ap (λ (U : Tables). is_prepared U x) (ends_with last.settled m (reopened T) w.0.kept.settled w.0.begins)
+        ∙ step_rests last (reopened T) (reopened_fate f) w.0 q there (scan m (reopened T) w.0.begins) reached,
+  )
+  walk_ends o (p ∷ between) last q T f there scan reached w =
+      walk_ends p between last q (tables_after (history_of p.settled m) (reopened T)) (settled_fate p.settled m x (reopened_fate f)) there scan reached w.1
 
   -- ---- a decision that a resolve was told
 

@@ -1,4 +1,5 @@
 pub mod EachManager
+pub mod Asked
 pub mod Aborts
 pub mod Placing
 pub mod Moves

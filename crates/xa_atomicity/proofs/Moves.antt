@@ -1,4 +1,6 @@
 -- What the requests of one thread with numbers in a range move, in a history.
+use Rattle.std.proofs.lemmas.Bool.{and_left, and_right, false_from_ne_true}
+use Rattle.xa_base.proofs.Truth.{by_bool}
 use Rattle.std.specs.Prelude.{ℤ, pos, ◌+ℤ◌, nat_le, if◌then◌else◌}
 use Rattle.std.proofs.Common.{◌≡◌, ℕ, suc, ◌+◌, ◌<◌, ◌≤◌, Bool, true, false, ◌==◌, ◌&&◌, ◌⊎◌, ⊎_elim, inl, inr, List, [], ◌∷◌, ◌++◌, length, get_or, sym, refl}
 use Rattle.std.proofs.Common.{ap, ◌∙◌, arith, eq-eqb}
@@ -30,16 +32,12 @@ Accounts = List (List ℕ × ℕ)
 
 -- ---- numbers
 
-and_none : (a b c : Bool) → (a ≡ true → (b ≡ false) ⊎ (c ≡ false)) → (a && (b && c)) ≡ false
-and_none false b c h = refl
-and_none true b c h =
-    ⊎_elim (λ (e : b ≡ false). ap (λ q. q && c) e) (λ (e : c ≡ false). ap (λ q. b && q) e ∙ elim b as (λ q. (q && false) ≡ false) [ true ↦ refl | false ↦ refl ]) (h refl)
-
 -- a request whose number is outside
 pub outside : (t first last : ℕ) (r : Request) → (r.thread ≡ t → (r.number < first) ⊎ (last ≤ r.number)) → is_within t first last r ≡ false
 outside t first last r h =
-    and_none (r.thread == t) (nat_le first r.number) (nat_le (suc r.number) last) (λ e.
-    ⊎_elim (λ (lt : r.number < first). inl (lt-leb first r.number lt)) (λ (le : last ≤ r.number). inr (lt-leb (suc r.number) last (omega (arith, le)))) (h (eqb-true r.thread t e)))
+    by_bool (λ b. (b && (nat_le first r.number && nat_le (suc r.number) last)) ≡ false) (r.thread == t) (λ e.
+    ⊎_elim (λ (lt : r.number < first). and_left _ _ (lt-leb first r.number lt)) (λ (le : last ≤ r.number). and_right _ _ (lt-leb (suc r.number) last (omega (arith, le)))) (h (eqb-true r.thread t e)))
+    (λ _. refl)
 
 -- and one whose number is inside
 pub inside : (t first last : ℕ) (r : Request) → r.thread ≡ t → first ≤ r.number → r.number < last → is_within t first last r ≡ true
@@ -169,13 +167,9 @@ module _ (t : ℕ) where
       let there : (r.number == n) ≡ true = eq-eqb r.number n number in
       λ i. if here i && there i then [] else r ∷ taken_before t n after
   taken_is n (q ∷ before) after r own number below =
-      let other : ((q.thread == t) && (q.number == n)) ≡ false =
-      elim (q.thread == t) as (λ b. (q.thread == t) ≡ b → (b && (q.number == n)) ≡ false) [
-        | true ↦ λ e.
-            let lt = below 0 q (omega arith) (eqb-true q.thread t e) in
-            elim (q.number == n) as (λ c. (q.number == n) ≡ c → c ≡ false) [ true ↦ λ f. absurd (let same = eqb-true q.number n f in omega (arith, lt, same)) | false ↦ λ f. refl ] refl
-        | false ↦ λ e. refl
-      ] refl in
+      let other : ((q.thread == t) && (q.number == n)) ≡ false = false_from_ne_true ((q.thread == t) && (q.number == n)) (λ e.
+      let own = and_parts (q.thread == t) (q.number == n) e in
+      let lt = below 0 q (omega arith) (eqb-true q.thread t own.0) in let same = eqb-true q.number n own.1 in omega (arith, lt, same)) in
       (λ i. if other i then [] else q ∷ taken_before t n (before ++ r ∷ after))
       ∙ ap (λ l. q ∷ l) (taken_is n before after r own number (λ k d lt. below (suc k) d (omega arith)))
 

@@ -44,7 +44,7 @@ scan_of s next again z of scanned m T first =
     rw (begins_with s next again m T of first) (left_each _ z scanned.left.each m low (omega (arith, high, many)))
 
 -- resolves that find what the log has of the transaction use it so
-uses_by : (t : TranName) (records : Records) (qs : List ResolveCall) → All (λ r. record_in r.records t ≡ record_in records t) qs
+pub uses_by : (t : TranName) (records : Records) (qs : List ResolveCall) → All (λ r. record_in r.records t ≡ record_in records t) qs
     → AreUses t records (map resolves qs ++ [])
 uses_by t records [] same = tt
 uses_by t records (q ∷ qs) same =
@@ -58,7 +58,7 @@ module _ (s next : Settling) (again : Again) (u : Use) (bs : List Branch) (desk 
   abbrev last : Opening
   last = with_resolves next (ps ++ q ∷ rs)
 
-  abbrev next_follows : (HasLeft bs s → (t : TranName) → IsTranOf bs t → All (λ r. record_in r.records t ≡ record_in left.records t) (ps ++ q ∷ rs))
+  abbrev pub next_follows : (HasLeft bs s → (t : TranName) → IsTranOf bs t → All (λ r. record_in r.records t ≡ record_in left.records t) (ps ++ q ∷ rs))
       → ((t : TranName) → IsTranOf bs t → OnlyResolves t last) → All (λ r. IsOutcomeOf bs r → r.code ≢ RmFail) q.outcomes
       → IsFollowed (with_use s u) [] last u bs desk left q
   next_follows log later reached = record {
@@ -78,21 +78,6 @@ module _ (s next : Settling) (again : Again) (u : Use) (bs : List Branch) (desk 
     scan = scan_of s next again q.scan of scanned;
     reached = reached;
   }
-
-pub next_resolved : (s next : Settling) (again : Again) (c : CommitCall) (q : ResolveCall)
-    → IsSettled s → IsUseIn s (commits c) → length c.desk.ledgers ≤ MOST_MANAGERS
-    → AreLeftOrDecided s c.thread c.branches (sent_so_far c.desk.ledgers) (sent_so_far c.new)
-    → IsSettled next → IsUseIn next (resolves q) → Continues s next → IsOf (reopening s again) next → IsScanOf s q.scan
-    → (HasLeft c.branches s → (t : TranName) → IsTranOf c.branches t → record_in q.records t ≡ record_of c.later t)
-    → ((t : TranName) → IsTranOf c.branches t → OnlyResolves t (with_use next (resolves q))) → All (λ r. IsOutcomeOf c.branches r → r.code ≢ RmFail) q.outcomes
-    → IsResolved (with_use s (commits c)) [] (with_use next (resolves q)) c q
-next_resolved s next again c q settled made few own last_settled resolved continues of scanned log later reached = record {
-  followed =
-      next_follows s next again (commits c) c.branches c.desk c.later [] q [] settled made few last_settled (one_of (λ r. IsUseIn next (resolves r)) q resolved) continues of scanned
-      (λ left t tran. one_of (λ r. record_in r.records t ≡ record_of c.later t) q (log left t tran)) later reached;
-  its_thread = All-nil (IsByItsThread c);
-  own = own;
-}
 
 pub next_resolved_after : (s next : Settling) (again : Again) (k : CutCall) (ps : List ResolveCall) (q : ResolveCall) (rs : List ResolveCall)
     → IsSettled s → IsUseIn s (cuts k) → length k.desk.ledgers ≤ MOST_MANAGERS → AskedAreLeft k s

@@ -1,12 +1,13 @@
 -- One outcome for all the branches of a call.
-use Rattle.std.specs.Prelude.{◌≡◌, Bool, true, false, cond, not, ◌||◌, Option, None, Some, List, [], ◌∷◌, refl}
+use Rattle.xa_driver.specs.declared.done.Ending.TheVariants.{Heuristic, InDoubt, Left, RolledBack, Committed}
+use Rattle.std.specs.Prelude.{◌≡◌, Bool, true, false, cond, not, ◌||◌, Option, None, Some, List, [], ◌∷◌, refl, if◌then◌else◌}
 use Rattle.std.proofs.Common.{sym, ap, ◌∙◌, subst}
 use Rattle.std.specs.List.{list_any}
 use Rattle.std.specs.FinMap as map
 use Rattle.std.specs.FinMap.{get-insert}
 use Rattle.std.specs.Ordering.{is_eq, eq_by_cmp}
 use Rattle.std.specs.Cmp.{tied_itself}
-use Rattle.std.proofs.lemmas.Bool.{and_parts, or_parts, or_from, not-true}
+use Rattle.std.proofs.lemmas.Bool.{and_parts, or_parts, or_from, not-true, false_from_ne_true, true_from_ne_false, both_ways}
 use Rattle.xa_words.specs.Tran.{TranName}
 use Rattle.xa_words.specs.declared.code.Code.{Code}
 use Rattle.xa_tables.specs.History.{is_done}
@@ -22,12 +23,12 @@ use Rattle.xa_driver.specs.Endings.{ending_of, yes_ending, no_ending, is_out_of_
 use Rattle.xa_log.specs.Log.{LogState, record_of}
 use Rattle.xa_driver.specs.Course.{AtBranch}
 use Rattle.xa_driver.specs.Resolving.{AsksLedger}
-use Rattle.xa_driver.specs.Trace.{EachBranch, IsCommit, IsTraceOfCommit, IsTranOf, MayCommit, Logs, appended, failed, unwanted, wants_record}
+use Rattle.xa_driver.specs.Trace.{EachBranch, IsCommit, IsTraceOfCommit, IsTranOf, MayCommit, Logs, appended, failed, unwanted, wants_record, decision_of}
 use Rattle.xa_atomicity.specs.Outcomes.{is_committed, is_rolled_back, has_committed, has_rolled_back, has_vote_against, append_failed, was_refused}
 use Rattle.xa_atomicity.specs.Outcomes.{IsCommittedTransaction, IsAbortedTransaction}
-use Rattle.xa_base.proofs.Truth.{by_if}
+use Rattle.xa_base.proofs.Truth.{by_if, by_bool, at_true}
 use Rattle.xa_atomicity.proofs.Aborts.{abort_sends_no_commit, failed_append_aborts}
-use Rattle.xa_atomicity.proofs.Records.{none_on_abort}
+use Rattle.xa_atomicity.proofs.Records.{none_on_abort, record_so}
 use Rattle.xa_log.proofs.Transactions.{tran_cmp_total}
 use Rattle.xa_driver.proofs.Calls.{one_tran}
 
@@ -38,18 +39,19 @@ Falls test e = test e ≡ false
 pub neither : (v : Code) → is_yes v ≡ false → is_read v ≡ false → is_no v ≡ true
 neither v against unread = λ i. not (against i || unread i)
 
--- on abort nothing is committed
-not_by_abort : (v : Code) (s : Option Code) → Falls is_committed (yes_ending false s)
-not_by_abort v None = refl
-not_by_abort v (Some c) =
-    by_if (Falls is_committed) (is_done c) _ _ (λ _. refl) (λ _. by_if (Falls is_committed) (is_rm_fail c) _ _ (λ _. refl) (λ _. by_if (Falls is_committed) (is_heuristic c) _ _ (λ _. refl) (λ _. refl)))
+-- what holds of each ending that a branch may have after a vote to commit
+pub after_yes : (P : Ending → Type 0) (commit : Bool) (s : Option Code) → P (if commit then Committed else RolledBack) → P InDoubt → ((c : Code) → P (Heuristic c))
+    → ((c : Code) → P (Left c)) → P (yes_ending commit s)
+after_yes P commit None ended doubt heuristic left = doubt
+after_yes P commit (Some c) ended doubt heuristic left =
+    by_if P (is_done c) _ _ (λ _. ended) (λ _. by_if P (is_rm_fail c) _ _ (λ _. doubt) (λ _. by_if P (is_heuristic c) _ _ (λ _. heuristic c) (λ _. left c)))
 
 not_by_no : (v : Code) (s : Option Code) → Falls is_committed (no_ending v s)
 not_by_no v None = refl
 not_by_no v (Some c) =
     by_if (Falls is_committed) (is_done c || history.is_rolled_back c) _ _ (λ _. refl) (λ _. by_if (Falls is_committed) (is_heuristic c) _ _ (λ _. refl) (λ _. refl))
 
--- what isn't voted for isn't committed
+-- what isn't voted for isn't committed, and on abort nothing is
 unvoted : (commit : Bool) (v : Code) (s : Option Code) → is_yes v ≡ false → Falls is_committed (ending_of commit v s)
 unvoted commit v s e =
     by_if (Falls is_committed) (is_yes v) _ _ (λ t. cc) (λ _.
@@ -57,22 +59,15 @@ unvoted commit v s e =
     by_if (Falls is_committed) (history.is_rolled_back v) _ _ (λ _. refl) (λ _.
     by_if (Falls is_committed) (is_out_of_reach v) _ _ (λ _. refl) (λ _. not_by_no v s))))
 
-uncommitted : (v : Code) (s : Option Code) → Falls is_committed (ending_of false v s)
+pub uncommitted : (v : Code) (s : Option Code) → Falls is_committed (ending_of false v s)
 uncommitted v s =
-    elim (is_yes v) as (λ b. is_yes v ≡ b → Falls is_committed (ending_of false v s)) [
-      | true ↦ λ e. by_if (Falls is_committed) (is_yes v) _ _ (λ _. not_by_abort v s) (λ f. cc)
-      | false ↦ λ e. unvoted false v s e
-    ] refl
+    by_bool (λ _. Falls is_committed (ending_of false v s)) (is_yes v)
+    (λ y. ap is_committed (at_true (is_yes v) _ _ y) ∙ after_yes (Falls is_committed) false s refl refl (λ _. refl) (λ _. refl)) (λ n. unvoted false v s n)
 
 -- on commit nothing is rolled back, where no vote is against
-kept_by_commit : (s : Option Code) → Falls is_rolled_back (yes_ending true s)
-kept_by_commit None = refl
-kept_by_commit (Some c) =
-    by_if (Falls is_rolled_back) (is_done c) _ _ (λ _. refl) (λ _. by_if (Falls is_rolled_back) (is_rm_fail c) _ _ (λ _. refl) (λ _. by_if (Falls is_rolled_back) (is_heuristic c) _ _ (λ _. refl) (λ _. refl)))
-
-not_rolled_back : (v : Code) (s : Option Code) → is_no v ≡ false → Falls is_rolled_back (ending_of true v s)
+pub not_rolled_back : (v : Code) (s : Option Code) → is_no v ≡ false → Falls is_rolled_back (ending_of true v s)
 not_rolled_back v s e =
-    by_if (Falls is_rolled_back) (is_yes v) _ _ (λ _. kept_by_commit s) (λ one.
+    by_if (Falls is_rolled_back) (is_yes v) _ _ (λ _. after_yes (Falls is_rolled_back) true s refl refl (λ _. refl) (λ _. refl)) (λ one.
     by_if (Falls is_rolled_back) (is_read v) _ _ (λ _. refl) (λ two. let z = neither v one two in cc))
 
 -- a test that no ending of a call passes
@@ -93,9 +88,6 @@ any_never : (vs : List Code) → list_any never vs ≡ false
 unfolding never
 any_never [] = refl
 any_never (v ∷ vs) = any_never vs
-
-same_tran : (t : TranName) → eq_by_cmp tran_cmp t t ≡ true
-same_tran t = ap is_eq (tied_itself tran_cmp_total t)
 
 module _ (tran : TranName) (bs : List Branch) (desk : DeskView) (new : List LedgerView) (log later : LogState) (d : Done)
     (made : IsCommit bs desk new log later d) (of_tran : IsTranOf bs tran) where
@@ -120,23 +112,16 @@ module _ (tran : TranName) (bs : List Branch) (desk : DeskView) (new : List Ledg
   absent : record_of log tran ≡ None
   absent = ap (record_of log) (sym same_tran_here) ∙ may.absent
 
-  recorded : Logs tran (yes_of bs votes) votes d.logged log later → d.logged ≡ true → record_of later tran ≡ Some (yes_of bs votes)
-  recorded (appended wants on is) e =
-      ap (λ l. record_of l tran) is ∙ get-insert tran_cmp_total log.records tran (yes_of bs votes) tran
-      ∙ ap (λ b. cond b (Some (yes_of bs votes)) (map.get log.records tran)) (same_tran tran)
-  recorded (failed wants off is) e = cc
-  recorded (unwanted wants off is) e = cc
-
   -- on abort
-  aborted : d.commit ≡ false → IsAbortedTransaction tran desk.ledgers new later d
+  pub aborted : d.commit ≡ false → IsAbortedTransaction tran desk.ledgers new later d
   aborted off = record {
     uncommitted = none_end Traces d.commit is_committed never ends (λ v s _. ap (λ c. is_committed (ending_of c v s)) off ∙ uncommitted v s) bs votes call.course.seconds d.endings.items call.course.each (any_never votes);
-    unrecorded = none_on_abort tran (yes_of bs votes) votes d.logged d.commit log later call.course.decision off absent call.course.logs;
+    unrecorded = none_on_abort tran (yes_of bs votes) votes d.logged log later absent call.course.logs (sym call.course.decision ∙ off);
     unsent = abort_sends_no_commit tran bs desk.ledgers new log later d call off;
   }
 
   -- on commit no vote is against, and nothing is rolled back
-  unopposed : d.commit ≡ true → has_vote_against d ≡ false
+  pub unopposed : d.commit ≡ true → has_vote_against d ≡ false
   unopposed on = not-true _ (and_parts _ _ (sym call.course.decision ∙ on)).0
 
   kept : d.commit ≡ true → has_rolled_back d ≡ false
@@ -145,14 +130,15 @@ module _ (tran : TranName) (bs : List Branch) (desk : DeskView) (new : List Ledg
 
   pub committed_law : has_committed d ≡ true → IsCommittedTransaction tran bs later d
   committed_law some =
-      let on : d.commit ≡ true =
-      elim (d.commit) as (λ c. d.commit ≡ c → c ≡ true) [ true ↦ λ e. refl | false ↦ λ e. let z = (aborted e).uncommitted in cc ] refl in
-      let some_yes : has_yes votes ≡ true = elim (has_yes votes) as (λ y. has_yes votes ≡ y → y ≡ true) [
-        | true ↦ λ e. refl
-        | false ↦ λ e. let z = none_end Traces d.commit is_committed is_yes ends (λ v s n. unvoted d.commit v s n) bs votes call.course.seconds d.endings.items call.course.each e in cc
-      ] refl in
-      let in_log : d.logged ≡ true = sym (ap (λ y. not y || d.logged) some_yes) ∙ (and_parts _ _ (sym call.course.decision ∙ on)).1 in
-      record { unopposed = unopposed on; recorded = recorded call.course.logs in_log; kept = kept on }
+      let on : d.commit ≡ true = true_from_ne_false (d.commit) (λ off. both_ways (has_committed d) (aborted off).uncommitted some) in
+      let some_yes : has_yes votes ≡ true = true_from_ne_false (has_yes votes) (λ e.
+      both_ways (has_committed d) (none_end Traces d.commit is_committed is_yes ends (λ v s n. unvoted d.commit v s n) bs votes call.course.seconds d.endings.items call.course.each e) some) in
+      record {
+        unopposed = unopposed on;
+        recorded =
+            record_so tran (yes_of bs votes) votes d.logged log later absent call.course.logs some_yes ∙ at_true (decision_of votes d.logged) _ _ (sym call.course.decision ∙ on);
+        kept = kept on;
+      }
 
   -- where the log didn't take the record
   unlogged : append_failed d ≡ true → d.commit ≡ false
@@ -161,10 +147,6 @@ module _ (tran : TranName) (bs : List Branch) (desk : DeskView) (new : List Ledg
 
   pub aborted_law : was_refused d ≡ true → IsAbortedTransaction tran desk.ledgers new later d
   aborted_law refused =
-      aborted (elim (d.commit) as (λ c. d.commit ≡ c → c ≡ false) [
-        | false ↦ λ e. refl
-        | true ↦ λ on.
-            let logged_so : append_failed d ≡ false =
-            elim (append_failed d) as (λ b. append_failed d ≡ b → b ≡ false) [ true ↦ λ e. let z = unlogged e in cc | false ↦ λ e. refl ] refl in
-            let z : was_refused d ≡ false = or_from _ _ (unopposed on) (or_from _ _ (kept on) logged_so) in cc
-      ] refl)
+      aborted (false_from_ne_true (d.commit) (λ on.
+      let logged_so : append_failed d ≡ false = false_from_ne_true (append_failed d) (λ e. both_ways (d.commit) (unlogged e) on) in
+      both_ways (was_refused d) (or_from _ _ (unopposed on) (or_from _ _ (kept on) logged_so)) refused))

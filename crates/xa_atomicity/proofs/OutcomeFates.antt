@@ -1,4 +1,7 @@
 -- What the outcomes of a resolve tell, where nothing else names the transaction in its opening.
+use Rattle.xa_atomicity.proofs.Leading.{waits, unforgotten}
+use Rattle.xa_words.specs.declared.request.Op.TheVariants.{OpenRm}
+use Rattle.xa_words.specs.declared.request.Op.{Op}
 use Rattle.std.specs.Prelude.{unwrap_or}
 use Rattle.std.proofs.Common.{◌≡◌, ◌≢◌, ℕ, zero, inl, Bool, true, false, [], ◌∷◌, ◌++◌, get_or, sym, refl, ap, ◌∙◌, subst, arith, Option, Some, None}
 use Rattle.std.specs.List.{All, Contains, cons_option}
@@ -19,7 +22,7 @@ use Rattle.xa_tables.specs.declared.state.HeuristicDecision.{HeuristicDecision}
 use Rattle.xa_tables.specs.declared.state.HeuristicDecision.TheVariants as decision
 use Rattle.xa_tables.specs.Tables.{Tables, state_of, is_left_in, is_S3}
 use Rattle.xa_tables.specs.Reasons.{decision_code}
-use Rattle.xa_tables.specs.Next.{next}
+use Rattle.xa_tables.specs.Next.{next, Answer}
 use Rattle.xa_tables.specs.History as history
 use Rattle.xa_tables.specs.History.{History, Fate, IsFateOf, fate_of, tables_after, last_or, decided_fate}
 use Rattle.xa_tables.specs.Openings.{AreLeft}
@@ -32,12 +35,12 @@ use Rattle.xa_driver.specs.declared.resolved.Outcome.{Outcome}
 use Rattle.xa_atomicity.specs.Resolution.{IsKept, IsUseIn, OnlyResolves, Opening, ResolveCall, ended_as, outcome_fate, resolves, with_use, TellsTheOutcomes}
 use Rattle.xa_driver.specs.Resolving.{is_to_commit, outcome_op}
 use Rattle.xa_atomicity.specs.Tabled.{Tabled}
-use Rattle.xa_atomicity.proofs.Answered.{Placed, all_towards, from_there, now, placed_tells}
+use Rattle.xa_atomicity.proofs.Answered.{Placed, from_there, now, placed_tells, from_here}
 use Rattle.xa_atomicity.proofs.EndsByFate.{is_known_so}
 use Rattle.xa_atomicity.proofs.Guided.{known_stays}
 use Rattle.xa_atomicity.proofs.Later.{IsStep, answered_at, opening_towards}
-use Rattle.xa_atomicity.proofs.Leading.{IsTowards, Stands, waits, unforgotten, Standing, step_led}
-use Rattle.xa_atomicity.proofs.Placing.{fates}
+use Rattle.xa_atomicity.proofs.Leading.{IsTowards, Stands, Standing, step_led}
+use Rattle.xa_atomicity.proofs.Placing.{fates, request_of}
 use Rattle.xa_atomicity.proofs.Records.{FindsMark}
 use Rattle.xa_atomicity.proofs.Resolves.{outcome_asked, outcome_left, outcome_upto}
 use Rattle.xa_atomicity.proofs.Voting.{unknown_so}
@@ -65,20 +68,17 @@ module _ (law : Tabled) (commit : Bool) (t : ℕ) (x : XidName) (T : Tables) (H 
   abbrev Q : Request → Type 0
   Q r = IsTowards commit D x r.op
 
-  abbrev before : History
-  before = z.first ++ z.opens ∷ z.mid
-
   abbrev U : Tables
-  U = tables_after before T
+  U = tables_after (z.first ++ request_of t z.opens OpenRm ∷ z.mid) T
 
   abbrev fate_here : Fate
-  fate_here = last_or f (fates x before T)
+  fate_here = last_or f (fates x (z.first ++ request_of t z.opens OpenRm ∷ z.mid) T)
 
   here : Standing commit true D D x U fate_here
   here = now commit D D t x T H f code towards st reached (λ _ _. tt) z
 
-  from_here : All Q (z.ends ∷ z.rest)
-  from_here = all_right Q before (z.ends ∷ z.rest) (all_towards commit D D t x T H f code towards st reached (λ _ _. tt) z)
+  all_here : All Q (request_of t z.ends (outcome_op commit x) ∷ z.rest)
+  all_here = from_here commit D D t x T H f code towards st reached (λ _ _. tt) z
 
   -- a decision that it was told is its fate
   told_decision : (d : HeuristicDecision) → code ≡ decision_code d → last_or f (fates x H T) ≡ decided_fate d
@@ -87,16 +87,14 @@ module _ (law : Tabled) (commit : Bool) (t : ℕ) (x : XidName) (T : Tables) (H 
   -- XA_OK ended it
   told_done : code ≡ Done → last_or f (fates x H T) ≡ ended_as commit
   told_done e =
-      let T2 : Tables = (next z.ends.thread z.ends.op U).0 in
-      let o : Option Fate = fate_of x z.ends.op (next z.ends.thread z.ends.op U).1 in
-      let made : o ≡ Some (ended_as commit) =
-      (λ i. fate_of x (z.ends_op i) (next (z.ends_thread i) (z.ends_op i) U).1) ∙ ap (fate_of x (outcome_op commit x)) (sym z.code_is ∙ e)
-      ∙ ends_fate commit x in
-      let led = step_led commit true D D x fate_here U here.stands here.sound z.ends.thread z.ends.op (from_here 0 z.ends (omega arith)) in
-      let there : Standing commit true D D x T2 (ended_as commit) =
-      subst (λ (g : Fate). Standing commit true D D x T2 g) (ap (λ (p : Option Fate). unwrap_or p fate_here) made) (record { stands = led.stands; sound = sound_after z.ends.thread z.ends.op U here.sound }) in
-      let rest : All Q z.rest = All-tail Q z.ends z.rest from_here in
-      let silent : fates x z.rest T2 ≡ [] = known_stays commit D D x z.rest T2 (ended_as commit) (is_known_so (ended_as commit) commit refl) rest there in
+      let op : Op = outcome_op commit x in
+      let a : Answer = next t op U in
+      let made : fate_of x op a.1 ≡ Some (ended_as commit) = ap (fate_of x op) (sym z.code_is ∙ e) ∙ ends_fate commit x in
+      let led = step_led commit true D D x fate_here U here.stands here.sound t op (all_here 0 (request_of t z.ends op) (omega arith)) in
+      let there : Standing commit true D D x a.0 (ended_as commit) =
+      subst (λ (g : Fate). Standing commit true D D x a.0 g) (ap (λ (p : Option Fate). unwrap_or p fate_here) made) (record { stands = led.stands; sound = sound_after t op U here.sound }) in
+      let silent : fates x z.rest a.0 ≡ [] =
+      known_stays commit D D x z.rest a.0 (ended_as commit) (is_known_so (ended_as commit) commit refl) (All-tail Q (request_of t z.ends op) z.rest all_here) there in
       from_there commit D D t x T H f code towards st reached (λ _ _. tt) z ∙ (λ i. last_or fate_here (cons_option (made i) (silent i)))
 
   pub told_so : (g : Fate) → outcome_fate commit code ≡ Some g → last_or f (fates x H T) ≡ g
@@ -169,9 +167,3 @@ module _ (law : Tabled) (first : (s : Settling) (m : ℕ) (T : Tables) → IsSet
       let r : Outcome = get_or q.outcomes k d in
       let among : Contains q.outcomes r = Contains-get_or q.outcomes k d lt in
       outcome_so r among (outcome_upto q.scan q.records q.old q.new q.outcomes use_.made r among) (only r among) T begins before f fits tells
-
-pub outcomes_are_fates_law : (law : Tabled) (first : (s : Settling) (m : ℕ) (T : Tables) → IsSettled s → first_of s m ≡ Some T → IsOpenedWith s m T) (s : Settling) (q : ResolveCall)
-    → IsSettled s → IsUseIn s (resolves q)
-    → ((m : ℕ) (T : Tables) → first_of s m ≡ Some T → AreLeft (left_at q.scan m) T)
-    → ((r : Outcome) → Contains q.outcomes r → OnlyResolves (tran_of r.xid) (with_use s (resolves q))) → TellsTheOutcomes s q.outcomes
-outcomes_are_fates_law law first s q settled use_ scan only = outcomes_law law first s q settled use_ scan only

@@ -120,48 +120,10 @@ module _ (t : ℕ) where
 
 -- ---- numbers
 
--- lists that are one, parted at one place
-same_seam : {A : Type 0} (xs us : List A) (r q : A) (ys vs : List A) → xs ++ r ∷ ys ≡ us ++ q ∷ vs → length xs ≡ length us → (xs ≡ us) × ((r ≡ q) × (ys ≡ vs))
-same_seam [] [] r q ys vs e l = let head : r ≡ q = cc in let tail : ys ≡ vs = cc in (refl, (head, tail))
-same_seam [] (u ∷ us) r q ys vs e l = absurd (omega (arith, l))
-same_seam (x ∷ xs) [] r q ys vs e l = absurd (omega (arith, l))
-same_seam (x ∷ xs) (u ∷ us) r q ys vs e l =
-    let head : x ≡ u = cc in
-    let tail : xs ++ r ∷ ys ≡ us ++ q ∷ vs = cc in
-    let z = same_seam xs us r q ys vs tail (omega (arith, l)) in
-    ((λ i. head i ∷ z.0 i), z.1)
-
--- a request's number is its place among those of its thread
-number_at : (t n : ℕ) (xs : History) (r : Request) (ys : History) (ops : List Op) → xs ++ r ∷ ys ≡ numbered t n ops → r.number ≡ n + length xs
-number_at t n [] r ys [] e = cc
-number_at t n [] r ys (op ∷ ops) e =
-    let head : r ≡ request_of t n op = cc in let number : r.number ≡ n = ap (λ (q : Request). q.number) head in omega (arith, number)
-number_at t n (x ∷ xs) r ys [] e = cc
-number_at t n (x ∷ xs) r ys (op ∷ ops) e =
-    let tail : xs ++ r ∷ ys ≡ numbered t (suc n) ops = cc in
-    let z = number_at t (suc n) xs r ys ops tail in
-    omega (arith, z)
-
 pub numbered_both : (t n : ℕ) (xs ys : List Op) → numbered t n (xs ++ ys) ≡ numbered t n xs ++ numbered t (n + length xs) ys
 numbered_both t n [] ys = ap (λ k. numbered t k ys) (let e : n ≡ n + 0 = omega arith in e)
 numbered_both t n (x ∷ xs) ys =
     ap (λ l. request_of t n x ∷ l) (numbered_both t (suc n) xs ys ∙ ap (λ k. numbered t (suc n) xs ++ numbered t k ys) (let e : suc n + length xs ≡ n + suc (length xs) = omega arith in e))
-
--- where a history is parted at a request of the thread, the thread's own requests on both sides are what it sent before it
--- and after it
-pub sides : (t : ℕ) (h before after : History) (sent : List Op) (op : Op) (later : List Op) → h ≡ before ++ request_of t (length sent) op ∷ after
-    → of_thread t h ≡ numbered t 0 (sent ++ op ∷ later) → (of_thread t before ≡ numbered t 0 sent) × (of_thread t after ≡ numbered t (suc (length sent)) later)
-sides t h before after sent op later place own =
-    let r : Request = request_of t (length sent) op in
-    let both : of_thread t before ++ r ∷ of_thread t after ≡ numbered t 0 (sent ++ op ∷ later) =
-    sym (ap (of_thread t) place ∙ filter-append (λ (q : Request). q.thread == t) before (r ∷ after)
-    ∙ ap (λ b. of_thread t before ++ cond b (r ∷ of_thread t after) (of_thread t after)) (eq-eqb t t refl)) ∙ own in
-    let number : length sent ≡ length (of_thread t before) = let z = number_at t 0 (of_thread t before) r (of_thread t after) (sent ++ op ∷ later) both in
-    omega (arith, z) in
-    let count : length (of_thread t before) ≡ length (numbered t 0 sent) = sym number ∙ sym (numbered_length t 0 sent) in
-    let z =
-    same_seam (of_thread t before) (numbered t 0 sent) r r (of_thread t after) (numbered t (suc (length sent)) later) (both ∙ numbered_both t 0 sent (op ∷ later) ∙ ap (λ k. numbered t 0 sent ++ numbered t k (op ∷ later)) (let e : 0 + length sent ≡ length sent = omega arith in e)) count in
-    (z.0, z.1.1)
 
 -- the code of an answer
 pub same_code : (o : Option (ℕ × Code)) (n m : ℕ) (c d : Code) → o ≡ Some (n, c) → o ≡ Some (m, d) → c ≡ d

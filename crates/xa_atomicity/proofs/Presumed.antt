@@ -1,4 +1,5 @@
 -- One outcome for each global transaction whose commit was cut short, over openings one after another.
+use Rattle.xa_atomicity.proofs.Sites.{Site, StandsIn}
 use Rattle.std.specs.Prelude.{◌&&◌, not, option_map, is_some, unwrap_or, cond}
 use Rattle.std.proofs.Common.{◌≡◌, ◌≢◌, ℕ, zero, ◌+◌, ◌<◌, Bool, true, false, ◌==◌, ◌||◌, if◌then◌else◌, List, [], ◌∷◌, ◌++◌, length, get_or, slice_get, sym}
 use Rattle.std.proofs.Common.{refl, ap, ◌∙◌, subst, arith, Option, Some, None}
@@ -32,7 +33,7 @@ use Rattle.xa_desk.specs.Growth.{HasGrown, HaveGrown}
 use Rattle.xa_worker.specs.Journal.{Entry, requests}
 use Rattle.xa_switch.specs.Again.{reopened_at}
 use Rattle.xa_switch.specs.Fates.{IsOpenedWith, first_of, history as history_of, ledgers_of}
-use Rattle.xa_switch.specs.Settling.{ManagerPart, Settling, IsSettled, answers, collected, find_manager, journal, journal_in}
+use Rattle.xa_switch.specs.Settling.{ManagerPart, Settling, IsSettled, answers, collected, find_manager, journal, journal_in, sent}
 use Rattle.xa_driver.specs.declared.branch.Branch.{Branch}
 use Rattle.xa_driver.specs.declared.done.Ending.{Ending}
 use Rattle.xa_driver.specs.declared.done.Ending.TheVariants.{InDoubt}
@@ -50,7 +51,7 @@ use Rattle.xa_atomicity.specs.Tabled.{Tabled}
 use Rattle.xa_driver.specs.Trace.{AreBranchesRising, EachBranch, HaveRoom, IsTranOf, Logs, appended, decision_of, failed, unwanted}
 use Rattle.xa_atomicity.specs.Worth.{IsUnlisted, SharesOver}
 use Rattle.xa_atomicity.proofs.BranchEnds.{Follows, IsMarked, branch_follows}
-use Rattle.xa_atomicity.proofs.CutBranch.{HasSentOnly, WasTold, asked_only, ended_voted_so, open_so, sent_end, sent_fates, told_end, told_only, told_voted_so}
+use Rattle.xa_atomicity.proofs.CutBranch.{HasSentOnly, WasTold, asked_only, ended_voted_so, open_so, sent_end, sent_fates, told_end, told_voted_so, prepare_at}
 use Rattle.xa_atomicity.proofs.CutBranch.{vote_is, voted_only, was_told}
 use Rattle.xa_atomicity.proofs.CutVotes.{Ended, HasVoted, branch_votes}
 use Rattle.xa_atomicity.proofs.Leading.{IsTowards}
@@ -59,28 +60,10 @@ use Rattle.xa_driver.proofs.Calls.{one_tran}
 use Rattle.xa_atomicity.proofs.Placing.{request_of, fates}
 use Rattle.xa_atomicity.proofs.Later.{ends_with}
 use Rattle.xa_atomicity.proofs.Quiet.{quiet_alone, quiet_openings}
-use Rattle.xa_atomicity.proofs.Records.{FindsMark, IsQuiet, is_marked, marks_stay, own_mark, some_yes}
-use Rattle.xa_atomicity.proofs.Settled.{by_ledger}
+use Rattle.xa_atomicity.proofs.Records.{FindsMark, IsQuiet, is_marked, marks_stay, own_mark, some_yes, recorded_is}
+use Rattle.xa_atomicity.proofs.Settled.{by_ledger, answered_of, collected_on, sent_on, site_of}
 use Rattle.xa_log.proofs.Transactions.{tran_cmp_total}
 use Rattle.xa_atomicity.proofs.Voting.{AtEnd, Comes, once}
-
--- ---- the record is the decision, where a branch voted to commit
-
-none_left : (a b : Bool) → (a && b) ≡ false → b ≡ true → a ≡ false
-none_left true b e f = let z : true ≡ false = sym f ∙ e in cc
-none_left false b e f = refl
-
-pub recorded_is : (t : TranName) (managers : List Bool) (votes : List Code) (logged : Bool) (log later : LogState) → record_of log t ≡ None
-    → has_yes votes ≡ true → Logs t managers votes logged log later → decision_of votes logged ≡ is_recorded later t
-recorded_is t managers votes logged log later absent some (appended wants on is) =
-    (λ i. (and_parts (decides_commit votes) (has_yes votes) wants).0 i && (not (has_yes votes) || on i)) ∙ ap (λ b. true && b) (or-true (not (has_yes votes)))
-    ∙ sym (ap (λ (l : LogState). is_some (record_of l t)) is ∙ ap is_some (get-insert tran_cmp_total log.records t managers t ∙ ap (λ c. cond c (Some managers) (map.get log.records t)) (ap is_eq (tied_itself tran_cmp_total t))))
-recorded_is t managers votes logged log later absent some (failed wants off is) =
-    (λ i. decides_commit votes && (not (some i) || off i)) ∙ and-false (decides_commit votes)
-    ∙ sym (ap (λ (l : LogState). is_some (record_of l t)) is ∙ ap is_some absent)
-recorded_is t managers votes logged log later absent some (unwanted wants off is) =
-    (λ i. none_left (decides_commit votes) (has_yes votes) wants some i && (not (has_yes votes) || logged))
-    ∙ sym (ap (λ (l : LogState). is_some (record_of l t)) is ∙ ap is_some absent)
 
 -- ---- the manager of a branch
 
@@ -227,14 +210,10 @@ module _ (law : Tabled) (first : (s : Settling) (m : ℕ) (T : Tables) → IsSet
     grown : HasGrown (after_of b) (ledger (ledgers_of s t) m)
     grown = r.grown.each m up.0
 
-    -- where its Prepare stands in the history
-    stands_at : (before : History) × ((after : History) × (H ≡ before ++ request_of t n (Prepare b.xid) ∷ after))
-    stands_at =
-        let at = prepare_part s kept_o.settled m up.0 t b.xid (before_of b) (after_of b) grown prepared.0 prepared.1 in
-        (at.1.before, (at.1.after, at.1.place ∙ ap (λ j. at.1.before ++ request_of t j (Prepare b.xid) ∷ at.1.after) (let e : 0 + n ≡ n = omega arith in e)))
-
     part_of : (p : ManagerPart) × (find_manager m s.managers ≡ Some p)
-    part_of = part_there (find_manager m s.managers) stands_at.0 stands_at.1.0 (request_of t n (Prepare b.xid)) stands_at.1.1
+    part_of =
+        let at = prepare_part s kept_o.settled m up.0 t b.xid (before_of b) (after_of b) grown prepared.0 prepared.1 in
+        part_there (find_manager m s.managers) at.1.before at.1.after (request_of t (0 + n) (Prepare b.xid)) at.1.place
 
     abbrev T : Tables
     T = part_of.0.first
@@ -245,17 +224,19 @@ module _ (law : Tabled) (first : (s : Settling) (m : ℕ) (T : Tables) → IsSet
     with_T : IsOpenedWith s m T
     with_T = first s m T kept_o.settled begins
 
-    answered_T : All (λ p. slice_get (answers t (coded H T)) p.0 ≡ Some p) (collected s t m)
-    answered_T = subst (λ (J : List Entry). All (λ p. slice_get (answers t J) p.0 ≡ Some p) (collected s t m)) with_T.codes (kept_o.settled.agree t m).coded
+    abbrev site : Site t T H
+    site = site_of law s kept_o.settled t m T with_T
 
-    collected_is : collected s t m ≡ (ledger (ledgers_of s t) m).collected
-    collected_is = by_ledger (ledgers_of s t) m (λ (l : LedgerView). l.collected) up.0 refl
+    abbrev Answered : ℕ × Code → Type 0
+    Answered p = slice_get (answers t (coded H T)) p.0 ≡ Some p
 
-    collected_so : Begins (after_of b).collected (collected s t m)
-    collected_so = subst (Begins (after_of b).collected) (sym collected_is) grown.collected
+    answered : All Answered (collected s t m)
+    answered = answered_of law s kept_o.settled t m T with_T
 
-    agreed_so : Contains (collected s t m) (n, Done)
-    agreed_so = subst (λ (l : List (ℕ × Code)). Contains l (n, Done)) (sym collected_is) (r.voted b here).agreed
+    agreed : Answered (n, Done)
+    agreed =
+        All-contains Answered (collected s t m) (n, Done) answered
+        (subst (λ (l : List (ℕ × Code)). Contains l (n, Done)) (sym (by_ledger (ledgers_of s t) m (λ (l : LedgerView). l.collected) up.0 refl)) (r.voted b here).agreed)
 
     reached : (w : Outcome) → Contains q.outcomes w → w.m ≡ m → w.xid ≡ b.xid → w.code ≢ RmFail
     reached w there manager xid =
@@ -282,25 +263,26 @@ module _ (law : Tabled) (first : (s : Settling) (m : ℕ) (T : Tables) → IsSet
     abbrev Sent : Type 0 → Type 0
     Sent L = HasSentOnly commit L b.xid (before_of b) (after_of b)
 
-    makes_so : (L : Type 0) → Sent L → (f : Fate) → IsFateOf b.xid f T → (before after : History) → H ≡ before ++ request_of t n (Prepare b.xid) ∷ after
-        → fates b.xid (request_of t n (Prepare b.xid) ∷ after) (tables_after before T) ≡ history.InDoubt ∷ once (fate b.xid f H T)
-    makes_so L h f fits before after place =
-        sent_fates law s kept_o.settled m up.0 t b.xid (before_of b) (after_of b) grown commit only T with_T.opened (collected s t m) answered_T agreed_so before after place L h f
+    sent_grows : Begins (after_of b).sent (sent s t m)
+    sent_grows = sent_on s t m up.0 (after_of b) grown
+
+    prepared_at : (L : Type 0) → Sent L → StandsIn t n (Prepare b.xid) Done T H
+    prepared_at L h = prepare_at site b.xid (before_of b) (after_of b) sent_grows commit only L h Done agreed
 
     -- it was told no decision of its own, whatever its coordinator knew of it
     plain : Sent ⊥ → Result b
     plain h =
-        concludes
-        (λ L. sent_end law s kept_o.settled m up.0 t b.xid (before_of b) (after_of b) grown commit only T with_T.opened (collected s t m) answered_T agreed_so stands_at.0 stands_at.1.0 stands_at.1.1 h (known_of k b) L G)
-        (makes_so ⊥ h)
+        concludes (λ L. sent_end site b.xid (before_of b) (after_of b) sent_grows commit only h (prepared_at ⊥ h) (known_of k b) L G)
+        (λ g fits. sent_fates site b.xid (before_of b) (after_of b) sent_grows commit only ⊥ h (prepared_at ⊥ h) g)
 
     -- it was told one
     decided : (c : Code) → is_decided c ≡ true → yes_ending commit (Some c) ≡ known_of k b → WasTold commit b.xid c (before_of b) (after_of b) → Result b
     decided c is known z =
+        let h : Sent (Unit {0}) = record { rest = z.gap ++ outcome_op commit b.xid ∷ z.rest; sent = z.sent; all = z.all } in
         concludes
         (λ L. subst (AtEnd commit (Unit {0}) L b.xid (fate b.xid G H T) H T) known
-        (told_end law s kept_o.settled m up.0 t b.xid (before_of b) (after_of b) grown commit only T with_T.opened (collected s t m) answered_T agreed_so stands_at.0 stands_at.1.0 stands_at.1.1 c z collected_so is L G (law.first b.xid T)))
-        (makes_so (Unit {0}) (told_only law s kept_o.settled m up.0 t b.xid (before_of b) (after_of b) grown commit only T with_T.opened (collected s t m) answered_T agreed_so stands_at.0 stands_at.1.0 stands_at.1.1 c z collected_so))
+        (told_end site b.xid (before_of b) (after_of b) sent_grows commit only (collected s t m) answered (collected_on s t m up.0 (after_of b) grown) (prepared_at (Unit {0}) h) c z is L G (law.first b.xid T)))
+        (λ g fits. sent_fates site b.xid (before_of b) (after_of b) sent_grows commit only (Unit {0}) h (prepared_at (Unit {0}) h) g)
 
   -- ---- all of them, by how far it came
 
@@ -349,11 +331,9 @@ module _ (law : Tabled) (first : (s : Settling) (m : ℕ) (T : Tables) → IsSet
       -- the vote that was collected is the one that the settled opening has
       agreed_now : (L : Type 0) → Towards decision L → v ≡ Done
       agreed_now L h =
-          let same : collected s t b.m ≡ (ledger (ledgers_of s t) b.m).collected =
-          by_ledger (ledgers_of s t) b.m (λ (l : LedgerView). l.collected) among.0.0 refl in
           vote_is (IsTowards decision L x) b v Done (before_of b) (after_of b) (answers t (journal s b.m)) (collected s t b.m) h (open_now L h)
-          (subst (Begins (after_of b).collected) (sym same) (r.grown.each b.m among.0.0).collected) (kept_o.settled.agree t b.m).coded
-          (subst (λ (l : List (ℕ × Code)). Contains l (length (before_of b).sent, Done)) (sym same) voted.agreed)
+          (collected_on s t b.m among.0.0 (after_of b) (r.grown.each b.m among.0.0)) (kept_o.settled.agree t b.m).coded
+          (subst (λ (l : List (ℕ × Code)). Contains l (length (before_of b).sent, Done)) (sym (by_ledger (ledgers_of s t) b.m (λ (l : LedgerView). l.collected) among.0.0 refl)) voted.agreed)
 
       marked_now : (L : Type 0) → Towards decision L → voted_yes b.m k.branches votes ≡ true
       marked_now L h = yes_so (ap is_yes (agreed_now L h))
@@ -364,7 +344,7 @@ module _ (law : Tabled) (first : (s : Settling) (m : ℕ) (T : Tables) → IsSet
           recorded_is tran (yes_of k.branches votes) votes logged k.log k.later r.made.may.absent (some_yes b.m k.branches votes (marked_now L h)) logs
 
       mark_so : (L : Type 0) → Towards decision L → is_marked k.later.records tran b.m ≡ commit
-      mark_so L h = own_mark k.branches k.log k.later votes logged decision tran b.m among.0 refl r.made.may.absent (marked_now L h) logs ∙ decided_so L h
+      mark_so L h = own_mark k.branches k.log k.later votes logged tran b.m among.0 r.made.may.absent (marked_now L h) logs ∙ decided_so L h
 
       -- it was told no decision of its own
       voted_so : Towards decision ⊥ → Result b

@@ -1,6 +1,8 @@
 -- What the log has of a transaction stays what its commit left.
-use Rattle.std.specs.Prelude.{cond, not}
-use Rattle.std.proofs.Common.{◌≡◌, ℕ, Bool, true, false, ◌==◌, ◌&&◌, ◌||◌, List, [], ◌∷◌, sym, refl, ap, ◌∙◌, Some, None}
+use Rattle.std.proofs.Math.Bool.{and-true}
+use Rattle.xa_atomicity.specs.Cut.{is_recorded}
+use Rattle.std.specs.Prelude.{cond, not, if◌then◌else◌, is_some}
+use Rattle.std.proofs.Common.{◌≡◌, ℕ, Bool, true, false, ◌==◌, ◌&&◌, ◌||◌, List, [], ◌∷◌, sym, refl, ap, ◌∙◌, Some, None, ⊎_elim}
 use Rattle.std.specs.List.{All}
 use Rattle.std.specs.FinMap as map
 use Rattle.std.specs.FinMap.{get-insert}
@@ -8,17 +10,17 @@ use Rattle.std.specs.Ordering.{eq_by_cmp, is_eq}
 use Rattle.std.specs.Cmp.{tied_itself}
 use Rattle.std.proofs.lemmas.List.Elements.{All-nil, All-cons, All-head, All-tail}
 use Rattle.std.proofs.Math.Bool.{or-true, and-false}
-use Rattle.std.proofs.lemmas.Bool.{and_parts}
+use Rattle.std.proofs.lemmas.Bool.{and_parts, and_left, and_right, and_cases}
 use Rattle.xa_base.specs.declared.limits.TheConstants.{MOST_MANAGERS}
 use Rattle.xa_base.specs.Lists.{IsUpTo}
-use Rattle.xa_base.proofs.Truth.{is_equal}
+use Rattle.xa_base.proofs.Truth.{is_equal, at_false, at_true, by_if}
 use Rattle.xa_words.specs.Tran.{TranName}
 use Rattle.xa_words.proofs.ManagerSets.{in_set_of}
 use Rattle.xa_words.specs.declared.code.Code.{Code}
 use Rattle.xa_driver.specs.declared.branch.Branch.{Branch}
 use Rattle.xa_driver.specs.Decision.{is_yes, decides_commit, has_yes, voted_yes, yes_of}
-use Rattle.xa_log.specs.Log.{LogState, Records}
-use Rattle.xa_driver.specs.Trace.{Logs, appended, failed, unwanted}
+use Rattle.xa_log.specs.Log.{LogState, Records, record_of}
+use Rattle.xa_driver.specs.Trace.{Logs, appended, failed, unwanted, decision_of}
 use Rattle.xa_log.specs.Transactions.{tran_cmp}
 use Rattle.xa_atomicity.specs.Resolution.{Use, commits, cuts, resolves, AreUses, OfCommit}
 use Rattle.xa_driver.specs.Resolving.{names}
@@ -50,33 +52,49 @@ some_yes m (b ∷ bs) (v ∷ vs) e =
       | false ↦ λ e. some_yes m bs vs (sym (ap (λ q. q || voted_yes m bs vs) (and-false (b.m == m))) ∙ e)
     ] e
 
-module _ (bs : List Branch) (log later : LogState) (votes : List Code) (logged commit : Bool) (t : TranName) (m : ℕ) (up : IsUpTo MOST_MANAGERS m)
-    (decision : commit ≡ (decides_commit votes && (not (has_yes votes) || logged)))
-    (absent : map.get log.records t ≡ None) (here : voted_yes m bs votes ≡ true) where
-  some : has_yes votes ≡ true
-  some = some_yes m bs votes here
+-- ---- what a decision leaves
 
-  unlogged : logged ≡ false → commit ≡ false
-  unlogged off = decision ∙ (λ i. decides_commit votes && (not (some i) || off i)) ∙ and-false (decides_commit votes)
-
-  -- what a commit leaves in the log of a manager that voted to commit is the decision
-  pub own_mark : Logs t (yes_of bs votes) votes logged log later → is_marked later.records t m ≡ commit
-  own_mark (appended wants on is) =
-      ap (λ (l : LogState). is_marked l.records t m) is ∙ own_mark_is log.records t m bs votes up ∙ here
-      ∙ sym (decision ∙ (λ i. (and_parts (decides_commit votes) (has_yes votes) wants).0 i && (not (some i) || on i)))
-  own_mark (failed wants off is) = ap (λ (l : LogState). is_marked l.records t m) is ∙ ap (λ o. names o m) absent ∙ sym (unlogged off)
-  own_mark (unwanted wants off is) = ap (λ (l : LogState). is_marked l.records t m) is ∙ ap (λ o. names o m) absent ∙ sym (unlogged off)
+-- a record where it was decided to commit and some vote is to commit, and else none
+pub record_left : (t : TranName) (managers : List Bool) (votes : List Code) (logged : Bool) (log later : LogState) → record_of log t ≡ None
+    → Logs t managers votes logged log later → record_of later t ≡ (if decision_of votes logged && has_yes votes then Some managers else None)
+record_left t managers votes logged log later absent (appended wants on is) =
+    let w = and_parts (decides_commit votes) (has_yes votes) wants in
+    ap (λ (l : LogState). record_of l t) is ∙ get-insert tran_cmp_total log.records t managers t ∙ at_true (eq_by_cmp tran_cmp t t) _ _ (ap is_eq (tied_itself tran_cmp_total t))
+    ∙ sym (at_true (decision_of votes logged && has_yes votes) _ _ (λ i. (w.0 i && (not (w.1 i) || on i)) && w.1 i))
+record_left t managers votes logged log later absent (failed wants off is) =
+    let w = and_parts (decides_commit votes) (has_yes votes) wants in
+    ap (λ (l : LogState). record_of l t) is ∙ absent ∙ sym (at_false (decision_of votes logged && has_yes votes) _ _ (λ i. (w.0 i && (not (w.1 i) || off i)) && w.1 i))
+record_left t managers votes logged log later absent (unwanted wants off is) =
+    ap (λ (l : LogState). record_of l t) is ∙ absent
+    ∙ sym (at_false (decision_of votes logged && has_yes votes) _ _ (⊎_elim (λ (e : decides_commit votes ≡ false). (λ i. (e i && (not (has_yes votes) || logged)) && has_yes votes))
+    (λ (e : has_yes votes ≡ false). and_right (decision_of votes logged) (has_yes votes) e) (and_cases (decides_commit votes) (has_yes votes) wants)))
 
 -- where it was decided to abort it leaves none
-pub none_on_abort : (t : TranName) (managers : List Bool) (votes : List Code) (logged commit : Bool) (log later : LogState)
-    → commit ≡ (decides_commit votes && (not (has_yes votes) || logged)) → commit ≡ false → map.get log.records t ≡ None
-    → Logs t managers votes logged log later → map.get later.records t ≡ None
-none_on_abort t managers votes logged commit log later decision off absent (appended wants on is) =
-    let commits_so : commit ≡ true =
-    decision ∙ (λ i. (and_parts (decides_commit votes) (has_yes votes) wants).0 i && (not (has_yes votes) || on i)) ∙ or-true (not (has_yes votes)) in
-    let z : true ≡ false = sym commits_so ∙ off in cc
-none_on_abort t managers votes logged commit log later decision off absent (failed wants off_ is) = ap (λ (l : LogState). map.get l.records t) is ∙ absent
-none_on_abort t managers votes logged commit log later decision off absent (unwanted wants off_ is) = ap (λ (l : LogState). map.get l.records t) is ∙ absent
+pub none_on_abort : (t : TranName) (managers : List Bool) (votes : List Code) (logged : Bool) (log later : LogState) → record_of log t ≡ None
+    → Logs t managers votes logged log later → decision_of votes logged ≡ false → record_of later t ≡ None
+none_on_abort t managers votes logged log later absent logs off =
+    record_left t managers votes logged log later absent logs ∙ at_false (decision_of votes logged && has_yes votes) _ _ (and_left (decision_of votes logged) (has_yes votes) off)
+
+-- where some vote is to commit, the record is the decision
+pub record_so : (t : TranName) (managers : List Bool) (votes : List Code) (logged : Bool) (log later : LogState) → record_of log t ≡ None
+    → Logs t managers votes logged log later → has_yes votes ≡ true → record_of later t ≡ (if decision_of votes logged then Some managers else None)
+record_so t managers votes logged log later absent logs some =
+    record_left t managers votes logged log later absent logs
+    ∙ ap (λ b. if b then Some managers else None) (ap (λ y. decision_of votes logged && y) some ∙ and-true (decision_of votes logged))
+
+pub recorded_is : (t : TranName) (managers : List Bool) (votes : List Code) (logged : Bool) (log later : LogState) → record_of log t ≡ None
+    → has_yes votes ≡ true → Logs t managers votes logged log later → decision_of votes logged ≡ is_recorded later t
+recorded_is t managers votes logged log later absent some logs =
+    by_if (λ o. decision_of votes logged ≡ is_some o) (decision_of votes logged) (Some managers) None (λ on. on) (λ off. off)
+    ∙ sym (ap is_some (record_so t managers votes logged log later absent logs some))
+
+-- and so is the mark of a manager that voted to commit
+pub own_mark : (bs : List Branch) (log later : LogState) (votes : List Code) (logged : Bool) (t : TranName) (m : ℕ) → IsUpTo MOST_MANAGERS m
+    → record_of log t ≡ None → voted_yes m bs votes ≡ true → Logs t (yes_of bs votes) votes logged log later
+    → is_marked later.records t m ≡ decision_of votes logged
+own_mark bs log later votes logged t m up absent here logs =
+    ap (λ o. names o m) (record_so t (yes_of bs votes) votes logged log later absent logs (some_yes m bs votes here))
+    ∙ by_if (λ o. names o m ≡ decision_of votes logged) (decision_of votes logged) (Some (yes_of bs votes)) None (λ on. mark_is m bs votes up ∙ here ∙ sym on) (λ off. sym off)
 
 -- ---- it stays
 

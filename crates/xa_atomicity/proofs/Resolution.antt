@@ -1,5 +1,6 @@
 -- One outcome for each global transaction, over openings one after another: a commit that came to its end is one that was
 -- cut short after it.
+use Rattle.xa_base.proofs.Truth.{by_bool}
 use Rattle.std.proofs.Common.{◌≡◌, ℕ, ◌≤◌, zero, Bool, true, false, List, [], ◌∷◌, ◌++◌, length, append_assoc, slice_get, sym, refl, ap, ◌∙◌, subst, arith}
 use Rattle.std.proofs.Common.{Option, Some, None}
 use Rattle.std.specs.List.{All, Contains, list_any}
@@ -36,11 +37,11 @@ use Rattle.xa_atomicity.proofs.CutVotes.{HasVoted, any_voted, ended_so, finished
 use Rattle.xa_atomicity.proofs.EndsByFate.{doubted}
 use Rattle.xa_driver.proofs.Mapped.{Any}
 use Rattle.xa_atomicity.proofs.Naming.{Traced}
-use Rattle.xa_atomicity.proofs.OneOutcome.{committed_law}
+use Rattle.xa_atomicity.proofs.OneOutcome.{committed_law, unopposed, aborted}
 use Rattle.xa_driver.proofs.Calls.{one_tran}
-use Rattle.xa_atomicity.proofs.Presumed.{Followed, among_so, follows, known_each, recorded_is, use_there, uses_after}
+use Rattle.xa_atomicity.proofs.Presumed.{Followed, among_so, follows, known_each, use_there, uses_after}
 use Rattle.xa_atomicity.proofs.Quiet.{quiet_after}
-use Rattle.xa_atomicity.proofs.Records.{none_on_abort}
+use Rattle.xa_atomicity.proofs.Records.{none_on_abort, recorded_is}
 use Rattle.xa_atomicity.proofs.Settled.{each_outcome, told_in}
 use Rattle.xa_atomicity.proofs.Placing.{at_seam}
 use Rattle.xa_atomicity.proofs.Voting.{Comes, learnt_in_doubt}
@@ -187,20 +188,7 @@ module _ (law : Tabled) (first : (s : Settling) (m : ℕ) (T : Tables) → IsSet
 
   -- ---- the decision
 
-  unopposed : c.done.commit ≡ true → has_vote_against c.done ≡ false
-  unopposed on = not-true (list_any is_no c.done.votes.items) (and_parts (decides_commit c.done.votes.items) _ (sym made.trace.course.decision ∙ on)).0
-
-  uncommitted : c.done.commit ≡ false → has_committed c.done ≡ false
-  uncommitted off =
-      elim (has_committed c.done) as (λ k. has_committed c.done ≡ k → k ≡ false) [
-        | false ↦ λ _. refl
-        | true ↦ λ some.
-            let recorded = (committed_law tran c.branches c.desk c.new c.log c.later c.done made made.may.one some).recorded in
-            let unrecorded =
-            none_on_abort tran _ c.done.votes.items c.done.logged c.done.commit c.log c.later made.trace.course.decision off made.may.absent made.trace.course.logs in
-            let no_record : None ≡ Some _ = sym unrecorded ∙ recorded in cc
-      ] refl
-
   pub resolved_law : IsAllOrNone c o later
   resolved_law =
-      elim (c.done.commit) as (λ k. c.done.commit ≡ k → IsAllOrNone c o later) [ true ↦ λ on. all on (unopposed on) all_ends | false ↦ λ off. none off (uncommitted off) all_ends ] refl
+      by_bool (λ _. IsAllOrNone c o later) (c.done.commit) (λ on. all on (unopposed tran c.branches c.desk c.new c.log c.later c.done made made.may.one on) all_ends)
+      (λ off. none off (aborted tran c.branches c.desk c.new c.log c.later c.done made made.may.one off).uncommitted all_ends)

@@ -1,4 +1,8 @@
 -- What a resolve sent to a manager, and collected from it.
+use Rattle.xa_atomicity.proofs.Voting.{learnt_on}
+use Rattle.xa_words.proofs.Xids.{xid_self}
+use Rattle.std.proofs.lemmas.Map.Views.{Contains-from_any}
+use Rattle.std.proofs.lemmas.Bool.{both_ways, false_from_ne_true}
 use Rattle.std.specs.Prelude.{map}
 use Rattle.std.proofs.Common.{Option, None, ◌≡◌, ◌≢◌, ℕ, zero, suc, ⊎_elim, ◌+◌, ◌-◌, ◌<◌, Bool, true, false, ◌||◌, List, [], ◌∷◌, ◌++◌, length}
 use Rattle.std.proofs.Common.{append-nil, append_assoc, get_or, sym, refl, ap, ◌∙◌, subst, arith, Some}
@@ -10,7 +14,7 @@ use Rattle.std.proofs.lemmas.List.Folds.{list_any-append}
 use Rattle.std.proofs.Math.Bool.{or-true}
 use Rattle.xa_base.specs.declared.limits.TheConstants.{MOST_MANAGERS}
 use Rattle.xa_base.specs.Lists.{Begins, Chain, IsUpTo, none, more}
-use Rattle.xa_base.proofs.Lists.{same_begins, begins_on}
+use Rattle.xa_base.proofs.Lists.{any_at, contains_at, same_begins, begins_on, was_mapped}
 use Rattle.xa_base.proofs.Truth.{at_false, by_if}
 use Rattle.xa_words.specs.Xid.{XidName, xid_eq}
 use Rattle.xa_words.specs.Orders.{Decides-xid_eq}
@@ -22,7 +26,7 @@ use Rattle.xa_desk.specs.LedgerView.{LedgerView, is_rm_fail, learnt_shut, with_s
 use Rattle.xa_desk.specs.DeskView.{ledger}
 use Rattle.xa_desk.specs.Growth.{HasGrown}
 use Rattle.xa_scan.specs.Left.{ScanView, left_at}
-use Rattle.xa_switch.proofs.Lists.{contains_map}
+use Rattle.xa_switch.proofs.Lists.{contains_map, get_contained}
 use Rattle.xa_driver.specs.declared.resolved.Outcome.{Outcome}
 use Rattle.xa_driver.specs.Endings.{is_decided}
 use Rattle.xa_log.specs.Log.{Records}
@@ -175,18 +179,9 @@ pub record IsAnsweredIn (op : Op) (code : Code) (a : LedgerView) (ops : List Op)
   pub number_is : number ≡ suc (length a.sent) + length mid
   pub collected : pairs ≡ earlier ++ (number, code) ∷ others
 
-learnt_on : (a b : LedgerView) → Begins a.collected b.collected → learnt_shut b ≡ false → learnt_shut a ≡ false
-learnt_on a b begins open_ =
-    left (learnt_shut a) _ (sym (list_any-append (λ (p : ℕ × Code). is_rm_fail p.1) a.collected begins.0) ∙ sym (ap (list_any (λ (p : ℕ × Code). is_rm_fail p.1)) begins.1) ∙ open_)
-  where
-    left : (b c : Bool) → (b || c) ≡ false → b ≡ false
-    left true c e = e
-    left false c e = refl
-
 -- what was asked and answered in time was sent
 open_then : (a a' : LedgerView) (op : Op) (code : Code) → code ≢ RmFail → AskTrace (Some op) (Some code) a a' → learnt_shut a ≡ false
-open_then a a' op code reached tr =
-    elim (learnt_shut a) as (λ b. learnt_shut a ≡ b → b ≡ false) [ true ↦ λ shut. absurd (reached (tr.answered shut)) | false ↦ λ _. refl ] refl
+open_then a a' op code reached tr = false_from_ne_true (learnt_shut a) (λ shut. reached (tr.answered shut))
 
 sent_so : (a a' : LedgerView) (op : Op) (code : Code) → learnt_shut a ≡ false → AskTrace (Some op) (Some code) a a'
     → a' ≡ with_collected (with_sent a op) (length a.sent) code
@@ -199,7 +194,8 @@ module _ (a opened now decided new last : LedgerView) (op : Op) (first code : Co
   open_now = open_then now decided op code reached obeys
 
   open_first : learnt_shut a ≡ false
-  open_first = learnt_on a opened (asks_one Any a opened OpenRm first tt opens).collected (learnt_on opened now before.collected open_now)
+  open_first = false_from_ne_true (learnt_shut a) (λ shut. both_ways (learnt_shut now) open_now
+      (learnt_on a now (begins_on a.collected opened.collected now.collected (asks_one Any a opened OpenRm first tt opens).collected before.collected) shut))
 
   opened_sent : opened.sent ≡ a.sent ++ OpenRm ∷ []
   opened_sent = ap (λ (l : LedgerView). l.sent) (sent_so a opened OpenRm first open_first opens)
@@ -259,29 +255,17 @@ at_asked records m (x ∷ xs) os a a' last h grown o there =
     }
 
 -- a branch that was left has one
-any_there : {A : Type 0} (p : A → Bool) (xs : List A) → list_any p xs ≡ true → (x : A) × (Contains xs x × (p x ≡ true))
-any_there p [] e = cc
-any_there {A} p (y ∷ xs) e =
-    elim (p y) as (λ b. p y ≡ b → (b || list_any p xs) ≡ true → (x : A) × (Contains (y ∷ xs) x × (p x ≡ true))) [
-      | true ↦ λ is _. (y, ((zero, omega arith, refl), is))
-      | false ↦ λ _ e. let z = any_there p xs e in (z.0, (Contains-append_right (y ∷ []) xs z.0 z.1.0, z.1.1))
-    ] refl e
-
-any_map : (x : XidName) (os : List Outcome) → list_any (xid_eq x) (map (λ o. o.xid) os) ≡ list_any (λ o. xid_eq x o.xid) os
-any_map x [] = refl
-any_map x (o ∷ os) = ap (λ b. xid_eq x o.xid || b) (any_map x os)
-
 has_outcome : (records : Records) (m : ℕ) (x : XidName) (xs : List XidName) (os : List Outcome) (a a' : LedgerView) → ResolvesAt AsksLedger records m xs os a a'
     → list_any (xid_eq x) xs ≡ true → (o : Outcome) × (Contains os o × (o.xid ≡ x))
 has_outcome records m x [] os a a' h there = cc
 has_outcome records m x (y ∷ xs) os a a' h there =
-    let z = any_there (λ (o : Outcome). xid_eq x o.xid) os (sym (any_map x os) ∙ ap (list_any (xid_eq x)) h.xids_are ∙ there) in
-    (z.0, (z.1.0, sym ((Decides-xid_eq x z.0.xid).0 z.1.1)))
+    let c : Contains (map (λ (o : Outcome). o.xid) os) x =
+    subst (λ ys. Contains ys x) (sym h.xids_are) (Contains-from_any (λ p q. (Decides-xid_eq p q).0) x (y ∷ xs) there) in
+    let w = was_mapped (λ (o : Outcome). o.xid) os c.0 x (get_contained (map (λ (o : Outcome). o.xid) os) x c) in
+    (w.0, (contains_at os c.0 w.0 w.1, w.2))
 
 list_there : (x : XidName) (xs : List XidName) → Contains xs x → list_any (xid_eq x) xs ≡ true
-list_there x [] (k, lt, e) = absurd (omega (arith, lt))
-list_there x (y ∷ xs) (zero, lt, e) = ap (λ b. b || list_any (xid_eq x) xs) ((Decides-xid_eq x y).1 (sym e))
-list_there x (y ∷ xs) (suc k, lt, e) = ap (λ b. xid_eq x y || b) (list_there x xs (k, omega (arith, lt), e)) ∙ or-true (xid_eq x y)
+list_there x xs c = any_at (xid_eq x) xs c.0 x (get_contained xs x c) (xid_self x)
 
 at_left : (records : Records) (m : ℕ) (xs : List XidName) (os : List Outcome) (a a' : LedgerView) → ResolvesAt AsksLedger records m xs os a a' → (o : Outcome)
     → Contains os o → list_any (xid_eq o.xid) xs ≡ true
@@ -296,7 +280,7 @@ flat_contains f (x ∷ xs) y c =
     ⊎_elim (λ (here : Contains (f x) y). (x, ((zero, omega arith, refl), here))) (λ (later : Contains (flat_map f xs) y). let z = flat_contains f xs y later in (z.0, (Contains-append_right (x ∷ []) xs z.0 z.1.0, z.1.1)))
     (Contains-append_cases (f x) (flat_map f xs) y c)
 
-upto_so : (most m : ℕ) → Contains (range_with_len 1 most) m → IsUpTo most m
+pub upto_so : (most m : ℕ) → Contains (range_with_len 1 most) m → IsUpTo most m
 upto_so most m (k, lt, e) =
     let size = length-range_with_len 1 most in
     let is : 1 + k ≡ m = sym (get_or-range_with_len 1 most k m (omega (arith, size, lt))) ∙ e in

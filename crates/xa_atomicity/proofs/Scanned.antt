@@ -1,4 +1,5 @@
 -- What the scan of an opening that was opened again has.
+use Rattle.xa_atomicity.proofs.Resolves.{upto_so}
 use Rattle.std.proofs.Common.{◌≡◌, ℕ, zero, suc, ◌+◌, ◌-◌, ◌<◌, ◌≤◌, ◌==◌, List, [], length, map, get_or, slice_get, option_map, Option, Some, None, sym, refl}
 use Rattle.std.proofs.Common.{ap, ◌∙◌, subst, arith}
 use Rattle.std.specs.List.{Contains, range_with_len}
@@ -24,21 +25,6 @@ left_each Q z each (suc k) low high =
     let place : k ≡ suc k - 1 = omega arith in
     subst (λ n. Q n (left_at z (suc k))) place (each k (left_at z (suc k)) (slice_get-get_or z.left k [] (omega (arith, high))))
 
-in_range : (n m : ℕ) → Contains (range_with_len 1 n) m → (1 ≤ m) × (m ≤ n)
-in_range n m there = in_range_at n m there.0 there.1 there.2
-  where
-    number : (m k : ℕ) → 1 + k ≡ m → 1 ≤ m
-    number m k e = omega (arith, e)
-
-    within : (n m k : ℕ) → 1 + k ≡ m → k < n → m ≤ n
-    within n m k e low = omega (arith, e, low)
-
-    in_range_at : (n m k : ℕ) → k < length (range_with_len 1 n) → get_or (range_with_len 1 n) k m ≡ m → (1 ≤ m) × (m ≤ n)
-    in_range_at n m k below at =
-        let low : k < n = subst (λ size. k < size) (length-range_with_len 1 n) below in
-        let is : 1 + k ≡ m = sym (get_or-range_with_len 1 n k m low) ∙ at in
-        (number m k is, within n m k is low)
-
 -- a manager with first tables is there
 part_of : (o : Option ManagerPart) (T : Tables) → option_map (λ (p : ManagerPart). p.first) o ≡ Some T → (p : ManagerPart) × (o ≡ Some p)
 part_of None T e = cc
@@ -54,7 +40,7 @@ was_there s next again m T of first =
     let numbers : List ℕ = map (λ (p : ManagerPart). p.number) next.managers in
     let among : Contains numbers m = subst (Contains numbers) number (contains_map (λ (p : ManagerPart). p.number) next.managers there.0 is.0) in
     let within : Contains (range_with_len 1 n) m = Contains-permutation numbers (range_with_len 1 n) m (IsPermutation-sym _ _ of.managers) among in
-    in_range n m within
+    upto_so n m within
 
 -- it began with what the reopening made of the manager's tables
 pub begins_with : (s next : Settling) (again : Again) (m : ℕ) (T : _) → IsOf (reopening s again) next → first_of next m ≡ Some T

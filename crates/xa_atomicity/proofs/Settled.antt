@@ -1,4 +1,6 @@
 -- What the branches of a call came to in a settled opening.
+use Rattle.std.proofs.lemmas.List.Elements.{All-head, All-tail}
+use Rattle.xa_atomicity.proofs.Courses.{Course, course_of}
 use Rattle.std.proofs.Common.{◌≡◌, ℕ, suc, ◌-◌, ◌<◌, ◌≤◌, Bool, ◌&&◌, if◌then◌else◌, List, [], ◌∷◌, length, ◌++◌, append_assoc, slice_get, sym, refl, ap, ◌∙◌}
 use Rattle.std.proofs.Common.{subst, arith, Option, Some, ⊎_elim}
 use Rattle.std.specs.List.{All}
@@ -53,12 +55,6 @@ use Rattle.xa_driver.specs.Course.{AtBranch}
 use Rattle.xa_atomicity.proofs.Sites.{Site, Sent, AsksIn}
 use Rattle.xa_atomicity.proofs.InLedgers.{heard, branch_in}
 
-all_first : {A : Type 0} (P : A → Type 0) (y : A) (ys : List A) → All P (y ∷ ys) → P y
-all_first P y ys h = h 0 y (omega arith)
-
-all_rest : {A : Type 0} (P : A → Type 0) (y : A) (ys : List A) → All P (y ∷ ys) → All P ys
-all_rest P y ys h k d lt = h (suc k) d (omega arith)
-
 -- what was sent to a manager, and collected from it, stands in the ledger with it
 pub by_ledger : {X : Type 0} (at : List LedgerView) (m : ℕ) (f : LedgerView → List X) → 1 ≤ m → f no_ledger ≡ []
     → (if is_known at m then f (ledger at m) else []) ≡ f (ledger at m)
@@ -67,6 +63,21 @@ by_ledger at m f positive none =
     (λ (past : length at < m). by_if (λ l. l ≡ f (ledger at m)) (is_known at m) _ _ (λ _. refl) (λ _. sym (ap f (past_end at (m - 1) (omega (arith, past))) ∙ none)))
     (λ (within : m ≤ length at). ap (λ b. if b then f (ledger at m) else []) (λ i. le-leb 1 m positive i && le-leb m (length at) within i))
     (cases_lt (length at) m)
+
+pub sent_on : (s : Settling) (t m : ℕ) → 1 ≤ m → (a : LedgerView) → HasGrown a (ledger (ledgers_of s t) m) → Begins a.sent (sent s t m)
+sent_on s t m positive a grown = subst (Begins a.sent) (sym (by_ledger (ledgers_of s t) m (λ (l : LedgerView). l.sent) positive refl)) grown.sent
+
+pub collected_on : (s : Settling) (t m : ℕ) → 1 ≤ m → (a : LedgerView) → HasGrown a (ledger (ledgers_of s t) m) → Begins a.collected (collected s t m)
+collected_on s t m positive a grown =
+    subst (Begins a.collected) (sym (by_ledger (ledgers_of s t) m (λ (l : LedgerView). l.collected) positive refl)) grown.collected
+
+-- a manager of a settled opening, and what the thread collected from it
+module _ (law : Tabled) (s : Settling) (settled : IsSettled s) (t m : ℕ) (T : Tables) (with_T : IsOpenedWith s m T) where
+  abbrev pub site_of : Site t T (history_of s m)
+  site_of = record { law = law; opening = with_T.opened; ops = sent s t m; carried = (settled.agree t m).carried }
+
+  pub answered_of : All (λ p. slice_get (answers t (coded (history_of s m) T)) p.0 ≡ Some p) (collected s t m)
+  answered_of = subst (λ (J : List Entry). All (λ (p : ℕ × Code). slice_get (answers t J) p.0 ≡ Some p) (collected s t m)) with_T.codes (settled.agree t m).coded
 
 -- a branch that didn't vote against is left only where it voted yes
 not_left : (commit : Bool) (vote : Code) (second : Option Code) → (is_yes vote ≡ true → is_left (ending_of commit vote second) ≡ false) → is_no vote ≡ false
@@ -133,26 +144,23 @@ pub each_outcome : (C : Branch → Type 0) (P : Branch → Code → Option Code 
     → (bs : List Branch) (vs : List Code) (zs : List (Option Code)) (es : List Ending) → All C bs → EachBranch P bs vs zs es → EachOutcome Q bs vs es
 each_outcome C P Q so [] [] [] [] all h = tt
 each_outcome C P Q so (b ∷ bs) (v ∷ vs) (z ∷ zs) (e ∷ es) all h =
-    (so b v z e (all_first C b bs all) h.0, each_outcome C P Q so bs vs zs es (all_rest C b bs all) h.1)
+    (so b v z e (All-head C b bs all) h.0, each_outcome C P Q so bs vs zs es (All-tail C b bs all) h.1)
 each_outcome C P Q so bs vs zs es all h = absurd h
 
--- what a branch was asked, by its manager's history
+-- the course of a branch in its manager's history
 module _ (law : Tabled) (s : Settling) (t : ℕ) (settled : IsSettled s) (b : Branch) (commit : Bool) (v : Code) (z : Option Code) (e : Ending)
     (a a' : LedgerView) (positive : 1 ≤ b.m) (grown : HasGrown a' (ledger (ledgers_of s t) b.m)) (is : AtBranch AsksLedger commit b v z e a a')
     (T : Tables) (with_T : IsOpenedWith s b.m T) where
-  abbrev its_site : Site t T (history_of s b.m)
-  its_site = record { law = law; opening = with_T.opened; ops = sent s t b.m; carried = (settled.agree t b.m).carried }
-
-  pub asked_in : AtBranch (AsksIn t T (history_of s b.m)) commit b v z e (heard a) (heard a')
-  asked_in =
-      branch_in its_site (collected s t b.m) (subst (λ (J : List Entry). All (λ (p : ℕ × Code). slice_get (answers t J) p.0 ≡ Some p) (collected s t b.m)) with_T.codes (settled.agree t b.m).coded) b commit v z e a a' is
-      (subst (Begins a'.sent) (sym (by_ledger (ledgers_of s t) b.m (λ (l : LedgerView). l.sent) positive refl)) grown.sent)
-      (subst (Begins a'.collected) (sym (by_ledger (ledgers_of s t) b.m (λ (l : LedgerView). l.collected) positive refl)) grown.collected)
+  its_course : Course (site_of law s settled t b.m T with_T) b.xid (length a.sent) (length a'.sent) v commit e
+  its_course =
+      course_of (site_of law s settled t b.m T with_T) b commit v z e (heard a) (heard a')
+      (branch_in (site_of law s settled t b.m T with_T) (collected s t b.m) (answered_of law s settled t b.m T with_T) b commit v z e a a' is (sent_on s t b.m positive a' grown) (collected_on s t b.m positive a' grown))
 
   -- and what became of it
   pub told_in : OnlyTheseOrDecisionsName b.xid t (length a.sent) (length a'.sent) (history_of s b.m)
       → Told t b.xid (told_by (state_of T b.xid)) T (history_of s b.m) (length a.sent) v e
-  told_in only = branch_told its_site b commit v z e (heard a) (heard a') asked_in (told_by (state_of T b.xid)) (law.first b.xid T) only
+  told_in only =
+      branch_told (site_of law s settled t b.m T with_T) b.xid (length a.sent) (length a'.sent) commit v e its_course (told_by (state_of T b.xid)) (law.first b.xid T) only
 
 -- in a settled opening, by the histories of its managers
 module _ (law : Tabled) (opened : (s : Settling) (m : ℕ) → IsSettled s → (T : Tables) × IsOpenedWith s m T) (s : Settling) (t : ℕ) where
@@ -165,6 +173,7 @@ module _ (law : Tabled) (opened : (s : Settling) (m : ℕ) → IsSettled s → (
     pub keeps : KeepsItsVote s t b n vote ending
     pub tells : TellsTheFate s t b n ending
     pub unless_no : is_no vote ≡ false → is_left ending ≡ false
+    pub named : is_yes vote ≡ true → is_heuristic ending ≡ true → (d : HeuristicDecision) × (told_fate ending ≡ Some (decided_fate d))
 
   -- and what it counts for, whose requests have the numbers from n to below `last`
   pub record Both (b : Branch) (n last : ℕ) (vote : Code) (ending : Ending) : Type 0 where
@@ -177,90 +186,67 @@ module _ (law : Tabled) (opened : (s : Settling) (m : ℕ) → IsSettled s → (
     pub reads : is_read_only ending ≡ true → (T : Tables) → IsOpenedWith s b.m T → (accounts : List (List ℕ × ℕ))
         → held_by accounts b.xid (tables_after (taken_before t n (history_of s b.m)) T) ≡ pos 0
 
-  -- what a branch was asked, in its manager's history
-  abbrev pub InHistory : Bool → (ℕ → Sent) → (ℕ → Sent) → Branch → Code → Option Code → Ending → Type 0
-  InHistory commit old new b v z e = (T : Tables) → IsOpenedWith s b.m T → AtBranch (AsksIn t T (history_of s b.m)) commit b v z e (old b.m) (new b.m)
+  -- ---- branches whose requests have the numbers from those of `old` to below those of `new`
 
-  -- ---- one branch
+  module _ (settled : IsSettled s) (commit : Bool) (old new : ℕ → ℕ) where
+    -- what a branch went through, in its manager's history
+    abbrev pub InHistory : Branch → Code → Option Code → Ending → Type 0
+    InHistory b v z e = (T : Tables) (with_T : IsOpenedWith s b.m T)
+        → Course (site_of law s settled t b.m T with_T) b.xid (old b.m) (new b.m) v commit e × (e ≡ ending_of commit v z)
 
-  module _ (settled : IsSettled s) (commit : Bool) (old new : ℕ → Sent) (b : Branch) (vote : Code) (second : Option Code) (ending : Ending)
-      (is : InHistory commit old new b vote second ending) where
-    abbrev H : History
-    H = history_of s b.m
+    module _ (b : Branch) (vote : Code) (second : Option Code) (ending : Ending) (is : InHistory b vote second ending) where
+      abbrev H : History
+      H = history_of s b.m
 
-    abbrev n : ℕ
-    n = (old b.m).number
+      abbrev n : ℕ
+      n = old b.m
 
-    abbrev last : ℕ
-    last = (new b.m).number
+      abbrev last : ℕ
+      last = new b.m
 
-    abbrev site : (T : Tables) → IsOpenedWith s b.m T → Site t T H
-    site T with_T = record { law = law; opening = with_T.opened; ops = sent s t b.m; carried = (settled.agree t b.m).carried }
+      one_told : OnlyTheseOrDecisionsName b.xid t n last H → (before : Fate) (T : Tables) → IsOpenedWith s b.m T → IsFateOf b.xid before T
+          → Told t b.xid before T H n vote ending
+      one_told only before T with_T fits =
+          branch_told (site_of law s settled t b.m T with_T) b.xid n last commit vote ending (is T with_T).0 before fits only
 
-    one_told : OnlyTheseOrDecisionsName b.xid t n last H → (before : Fate) (T : Tables) → IsOpenedWith s b.m T → IsFateOf b.xid before T
-        → Told t b.xid before T H n vote ending
-    one_told only before T with_T fits = branch_told (site T with_T) b commit vote second ending (old b.m) (new b.m) (is T with_T) before fits only
+      one_voted : OnlyTheseOrDecisionsName b.xid t n last H → (T : Tables) → IsOpenedWith s b.m T → Told t b.xid (told_by (state_of T b.xid)) T H n vote ending
+      one_voted only T with_T = one_told only (told_by (state_of T b.xid)) T with_T (law.first b.xid T)
 
-    one_voted : OnlyTheseOrDecisionsName b.xid t n last H → (T : Tables) → IsOpenedWith s b.m T → Told t b.xid (told_by (state_of T b.xid)) T H n vote ending
-    one_voted only T with_T = one_told only (told_by (state_of T b.xid)) T with_T (law.first b.xid T)
+      pub one_fated : OnlyTheseOrDecisionsName b.xid t n last H → Fated b n vote ending
+      one_fated only =
+          let open_ = opened s b.m settled in
+          let z = one_voted only open_.0 open_.1 in
+          let ends = (is open_.0 open_.1).1 in
+          record {
+            keeps = record { reached = z.reached; shut = z.shut; decided = λ y h U with_U. (one_voted only U with_U).decided y h };
+            tells = tells_of s t b n ending (λ before U with_U fits. (one_told only before U with_U fits).told) (λ before U with_U fits. (one_told only before U with_U fits).doubt);
+            unless_no = λ no. ap is_left ends ∙ not_left commit vote second (λ y. sym (ap is_left ends) ∙ z.reached y) no;
+            named = z.named;
+          }
 
-    one_counted : OnlyTheseName b.xid t n last H → (T : Tables) → IsOpenedWith s b.m T → Counted t b.xid T H n last vote ending
-    one_counted only T with_T = branch_counts (site T with_T) b commit vote second ending (old b.m) (new b.m) (is T with_T) only
+      pub one_both : OnlyTheseName b.xid t n last H → Both b n last vote ending
+      one_both only =
+          let open_ = opened s b.m settled in
+          let z : (U : Tables) (with_U : IsOpenedWith s b.m U) → Counted t b.xid U H n last vote ending = λ U with_U.
+          branch_counts (site_of law s settled t b.m U with_U) b.xid n last commit vote ending (is U with_U).0 only in
+          record {
+            fated = one_fated (λ before after r place own number k d lt named other. only before after r place own number k d lt named);
+            counts = λ U with_U k d add. (z U with_U).counted k d add;
+            adders = λ U with_U k d add. (z U with_U).adders k d add;
+            moves = λ U with_U accounts. (z U with_U).moves accounts;
+            undecided = (z open_.0 open_.1).undecided;
+            reads = λ only_read U with_U accounts. (z U with_U).reads only_read accounts;
+          }
 
-    one_fated : OnlyTheseOrDecisionsName b.xid t n last H → Fated b n vote ending
-    one_fated only =
-        let open_ = opened s b.m settled in
-        let z = one_voted only open_.0 open_.1 in
-        let ends = (is open_.0 open_.1).ends in
-        record {
-          keeps = record { reached = z.reached; shut = z.shut; decided = λ y h U with_U. (one_voted only U with_U).decided y h };
-          tells = tells_of s t b n ending (λ before U with_U fits. (one_told only before U with_U fits).told) (λ before U with_U fits. (one_told only before U with_U fits).doubt);
-          unless_no = λ no. ap is_left ends ∙ not_left commit vote second (λ y. sym (ap is_left ends) ∙ z.reached y) no;
-        }
+    -- each of them
+    module _ (bs : List Branch) (vs : List Code) (zs : List (Option Code)) (es : List Ending) (each : EachBranch InHistory bs vs zs es) where
+      pub each_fated : AreLeftOrDecided s t bs old new → EachOutcome (λ b v e. Fated b (old b.m) v e) bs vs es
+      each_fated alone =
+          each_outcome (λ b. OnlyTheseOrDecisionsName b.xid t (old b.m) (new b.m) (history_of s b.m)) InHistory (λ b v e. Fated b (old b.m) v e) (λ b v z e only is. one_fated b v z e is only) bs vs zs es alone.each each
 
-    one_both : OnlyTheseName b.xid t n last H → Both b n last vote ending
-    one_both only =
-        let open_ = opened s b.m settled in
-        let z : (U : Tables) → IsOpenedWith s b.m U → Counted t b.xid U H n last vote ending = one_counted only in
-        record {
-          fated = one_fated (λ before after r place own number k d lt named other. only before after r place own number k d lt named);
-          counts = λ U with_U k d add. (z U with_U).counted k d add;
-          adders = λ U with_U k d add. (z U with_U).adders k d add;
-          moves = λ U with_U accounts. (z U with_U).moves accounts;
-          undecided = (z open_.0 open_.1).undecided;
-          reads = λ only_read U with_U accounts. (z U with_U).reads only_read accounts;
-        }
-
-  -- ---- each branch of a commit
-
-  abbrev numbers : (ℕ → Sent) → ℕ → ℕ
-  numbers at m = (at m).number
-
-  module _ (settled : IsSettled s) (d : Done) (bs : List Branch) (zs : List (Option Code)) (old new : ℕ → Sent)
-      (each : EachBranch (InHistory d.commit old new) bs d.votes.items zs d.endings.items) where
-    module _ (alone : AreLeftOrDecided s t bs (numbers old) (numbers new)) where
-      pub each_fated : EachOutcome (λ b v e. Fated b (old b.m).number v e) bs d.votes.items d.endings.items
-      each_fated =
-          each_outcome (λ b. OnlyTheseOrDecisionsName b.xid t (old b.m).number (new b.m).number (history_of s b.m)) (InHistory d.commit old new) (λ b v e. Fated b (old b.m).number v e)
-          (λ b v z e only is. one_fated settled d.commit old new b v z e is only) bs d.votes.items zs d.endings.items alone.each each
-
-      pub keeps_votes : KeepsTheVotes s t bs (numbers old) d
-      keeps_votes =
-          record { each = outcome_map (λ b v e. Fated b (old b.m).number v e) (λ b v e. KeepsItsVote s t b (old b.m).number v e) (λ b v e f. f.keeps) bs d.votes.items d.endings.items each_fated }
-
-      pub tells_fates : TellsTheFates s t bs (numbers old) d
-      tells_fates =
-          record { each = outcome_map (λ b v e. Fated b (old b.m).number v e) (λ b v e. TellsTheFate s t b (old b.m).number e) (λ b v e f. f.tells) bs d.votes.items d.endings.items each_fated }
-
-    module _ (alone : AreLeftAlone s t bs (numbers old) (numbers new)) where
-      pub each_both : EachOutcome (λ b v e. Both b (old b.m).number (new b.m).number v e) bs d.votes.items d.endings.items
-      each_both =
-          each_outcome (λ b. OnlyTheseName b.xid t (old b.m).number (new b.m).number (history_of s b.m)) (InHistory d.commit old new) (λ b v e. Both b (old b.m).number (new b.m).number v e)
-          (λ b v z e only is. one_both settled d.commit old new b v z e is only) bs d.votes.items zs d.endings.items alone.each each
-
-      pub counts_committed : CountsTheCommitted s t bs (numbers old) d
-      counts_committed =
-          record { each = outcome_map (λ b v e. Both b (old b.m).number (new b.m).number v e) (λ b v e. Shares s t b (old b.m).number (is_committed e)) (λ b v e z. z.counts) bs d.votes.items d.endings.items each_both }
+      pub each_both : AreLeftAlone s t bs old new → EachOutcome (λ b v e. Both b (old b.m) (new b.m) v e) bs vs es
+      each_both alone =
+          each_outcome (λ b. OnlyTheseName b.xid t (old b.m) (new b.m) (history_of s b.m)) InHistory (λ b v e. Both b (old b.m) (new b.m) v e) (λ b v z e only is. one_both b v z e is only) bs vs zs es alone.each each
 
   -- ---- all of a transaction or nothing
 
@@ -301,41 +287,39 @@ module _ (law : Tabled) (opened : (s : Settling) (m : ℕ) → IsSettled s → (
     abbrev at : List LedgerView
     at = desk.ledgers
 
-    abbrev old_sent : ℕ → Sent
-    old_sent m = heard (ledger at m)
-
-    abbrev new_sent : ℕ → Sent
-    new_sent m = heard (ledger new m)
-
-    in_history : (b : Branch) (v : Code) (z : Option Code) (e : Ending) → 1 ≤ b.m → AtBranch AsksLedger d.commit b v z e (ledger at b.m) (ledger new b.m)
-        → InHistory d.commit old_sent new_sent b v z e
-    in_history b v z e positive is T with_T =
-        asked_in law s t settled b d.commit v z e (ledger at b.m) (ledger new b.m) positive (grown.each b.m positive) is T with_T
+    abbrev In : Branch → Code → Option Code → Ending → Type 0
+    In = InHistory settled d.commit (sent_so_far at) (sent_so_far new)
 
     in_histories : (lo : ℕ) (cs : List Branch) (vs : List Code) (zs : List (Option Code)) (es : List Ending) → AreBranchesRising lo cs
-        → EachBranch (λ b v z e. AtBranch AsksLedger d.commit b v z e (ledger at b.m) (ledger new b.m)) cs vs zs es
-        → EachBranch (InHistory d.commit old_sent new_sent) cs vs zs es
+        → EachBranch (λ b v z e. AtBranch AsksLedger d.commit b v z e (ledger at b.m) (ledger new b.m)) cs vs zs es → EachBranch In cs vs zs es
     in_histories lo [] [] [] [] rising h = tt
     in_histories lo (b ∷ cs) (v ∷ vs) (z ∷ zs) (e ∷ es) rising h =
-        let up = rising.0 in (in_history b v z e (omega (arith, up)) h.0, in_histories b.m cs vs zs es rising.1 h.1)
+        let up = rising.0 in
+        let positive : 1 ≤ b.m = omega (arith, up) in (
+          λ T with_T. (its_course law s t settled b d.commit v z e (ledger at b.m) (ledger new b.m) positive (grown.each b.m positive) h.0 T with_T, h.0.ends),
+          in_histories b.m cs vs zs es rising.1 h.1,
+        )
     in_histories lo cs vs zs es rising h = absurd h
 
-    each : EachBranch (InHistory d.commit old_sent new_sent) bs d.votes.items made.trace.course.seconds d.endings.items
+    each : EachBranch In bs d.votes.items made.trace.course.seconds d.endings.items
     each = in_histories 0 bs d.votes.items made.trace.course.seconds d.endings.items made.may.rising made.trace.course.each
 
     module _ (alone : AreLeftOrDecided s t bs (sent_so_far at) (sent_so_far new)) where
+      all_fated : EachOutcome (λ b v e. Fated b (sent_so_far at b.m) v e) bs d.votes.items d.endings.items
+      all_fated = each_fated settled d.commit (sent_so_far at) (sent_so_far new) bs d.votes.items made.trace.course.seconds d.endings.items each alone
+
       pub votes_law : KeepsTheVotes s t bs (sent_so_far at) d
-      votes_law = keeps_votes settled d bs made.trace.course.seconds old_sent new_sent each alone
+      votes_law = record { each = outcome_map (λ b v e. Fated b (sent_so_far at b.m) v e) (λ b v e. KeepsItsVote s t b (sent_so_far at b.m) v e) (λ b v e f. f.keeps) bs d.votes.items d.endings.items all_fated }
 
       pub fates_law : TellsTheFates s t bs (sent_so_far at) d
-      fates_law = tells_fates settled d bs made.trace.course.seconds old_sent new_sent each alone
+      fates_law = record { each = outcome_map (λ b v e. Fated b (sent_so_far at b.m) v e) (λ b v e. TellsTheFate s t b (sent_so_far at b.m) e) (λ b v e f. f.tells) bs d.votes.items d.endings.items all_fated }
 
     module _ (alone : AreLeftAlone s t bs (sent_so_far at) (sent_so_far new)) where
       pub all_outcomes : EachOutcome (λ b v e. Both b (sent_so_far at b.m) (sent_so_far new b.m) v e) bs d.votes.items d.endings.items
-      all_outcomes = each_both settled d bs made.trace.course.seconds old_sent new_sent each alone
+      all_outcomes = each_both settled d.commit (sent_so_far at) (sent_so_far new) bs d.votes.items made.trace.course.seconds d.endings.items each alone
 
       pub counts_law : CountsTheCommitted s t bs (sent_so_far at) d
-      counts_law = counts_committed settled d bs made.trace.course.seconds old_sent new_sent each alone
+      counts_law = record { each = outcome_map (λ b v e. Both b (sent_so_far at b.m) (sent_so_far new b.m) v e) (λ b v e. Shares s t b (sent_so_far at b.m) (is_committed e)) (λ b v e z. z.counts) bs d.votes.items d.endings.items all_outcomes }
 
       -- no branch was rolled back, and none voted against, where one was committed
       pub whole_law : (has_committed d ≡ true → has_rolled_back d ≡ false) → (has_committed d ≡ true → has_vote_against d ≡ false) → is_decided d ≡ true

@@ -18,7 +18,7 @@ use Rattle.xa_desk.specs.Lanes.{numbered}
 use Rattle.xa_base.proofs.Lists.{some_same, all_left, all_after}
 use Rattle.xa_atomicity.specs.Tabled.{Tabled}
 use Rattle.xa_switch.specs.Settling.{answers}
-use Rattle.xa_atomicity.proofs.Placing.{Parted, request_of, same_code, at_seam, part, answer_at, numbered_both}
+use Rattle.xa_atomicity.proofs.Placing.{request_of, same_code, at_seam, part, answer_at, numbered_both}
 use Rattle.xa_driver.proofs.Ledgers.{numbered_length}
 use Rattle.xa_atomicity.proofs.Requests.{all_earlier, all_later, of_ops}
 
@@ -77,7 +77,7 @@ split t n (x ∷ xs) ys (op ∷ ops) e =
     }
 
 -- what the thread sent before a request and after it
-pub record Sides {t : ℕ} {T : Tables} {H : History} (s : Site t T H) (n : ℕ) (op : Op) (before after : History) : Type 0 where
+record Sides {t : ℕ} {T : Tables} {H : History} (s : Site t T H) (n : ℕ) (op : Op) (before after : History) : Type 0 where
   pub pre : List Op
   pub post : List Op
   pub earlier : of_thread t before ≡ numbered t 0 pre
@@ -85,16 +85,8 @@ pub record Sides {t : ℕ} {T : Tables} {H : History} (s : Site t T H) (n : ℕ)
   pub later : of_thread t after ≡ numbered t (suc n) post
   pub sent : s.ops ≡ pre ++ op ∷ post
 
--- the request, in its place
-pub record At {t : ℕ} {T : Tables} {H : History} (s : Site t T H) (n : ℕ) (op : Op) (c : Code) : Type 0 where
-  pub before : History
-  pub after : History
-  pub place : H ≡ before ++ request_of t n op ∷ after
-  pub sides : Sides s n op before after
-  pub code : c ≡ (next t op (tables_after before T)).1
-
 module _ {t : ℕ} {T : Tables} {H : History} (s : Site t T H) where
-  pub sides_at : (n : ℕ) (op : Op) (before after : History) → H ≡ before ++ request_of t n op ∷ after → Sides s n op before after
+  sides_at : (n : ℕ) (op : Op) (before after : History) → H ≡ before ++ request_of t n op ∷ after → Sides s n op before after
   sides_at n op before after place =
       let own : of_thread t before ++ request_of t n op ∷ of_thread t after ≡ numbered t 0 s.ops =
       sym (ap (of_thread t) place ∙ filter-append (λ (q : Request). q.thread == t) before (request_of t n op ∷ after)
@@ -119,8 +111,22 @@ module _ {t : ℕ} {T : Tables} {H : History} (s : Site t T H) where
             sent = ops ∙ ap (λ (q : Op). pre ++ q ∷ post) (sym same);
           }
 
-  abbrev pub at : (n : ℕ) (op : Op) (c : Code) → StandsIn t n op c T H → At s n op c
-  at n op c z = record { before = z.before; after = z.after; place = z.place; sides = sides_at n op z.before z.after z.place; code = z.code }
+  -- it is answered so wherever it stands
+  pub answered_here : (n : ℕ) (op : Op) (before after : History) → H ≡ before ++ request_of t n op ∷ after
+      → slice_get (answers t (coded H T)) n ≡ Some (n, (next t op (tables_after before T)).1)
+  answered_here n op before after place =
+      let z = sides_at n op before after place in
+      ap (λ (h : History). slice_get (answers t (coded h T)) n) place
+      ∙ answer_at t before after (request_of t n op) T n refl (ap (λ (h : History). length h) z.earlier ∙ numbered_length t 0 z.pre ∙ z.many)
+
+  abbrev pub at_place : (n : ℕ) (op : Op) (c : Code) → StandsIn t n op c T H → (before after : History) → H ≡ before ++ request_of t n op ∷ after
+      → StandsIn t n op c T H
+  at_place n op c z before after place = record {
+    before = before;
+    after = after;
+    place = place;
+    code = z.code ∙ same_code _ n n _ _ (answered_here n op z.before z.after z.place) (answered_here n op before after place);
+  }
 
 -- ---- a request by what was sent and what was answered
 
@@ -146,15 +152,9 @@ stands_by {t} {T} {H} s n op c sent answered =
     let z = part_list s.ops n op sent in
     let many = z.many in
     let number : 0 + length z.pre ≡ n = omega (arith, many) in
-    parted z.pre z.post many
-    (part t H (numbered t 0 z.pre) (numbered t (suc n) z.post) (request_of t n op) (s.carried ∙ ap (numbered t 0) z.whole ∙ numbered_both t 0 z.pre (op ∷ z.post) ∙ ap (λ k. numbered t 0 z.pre ++ numbered t k (op ∷ z.post)) number))
-  where
-    parted : (pre post : List Op) → length pre ≡ n → Parted t (numbered t 0 pre) (numbered t (suc n) post) (request_of t n op) H → StandsIn t n op c T H
-    parted pre post many p =
-        let there : slice_get (answers t (coded H T)) n ≡ Some (n, (next t op (tables_after p.before T)).1) =
-        ap (λ (h : History). slice_get (answers t (coded h T)) n) p.place
-        ∙ answer_at t p.before p.after (request_of t n op) T n refl (ap (λ (h : History). length h) p.earlier ∙ numbered_length t 0 pre ∙ many) in
-        record { before = p.before; after = p.after; place = p.place; code = same_code _ n n c _ answered there }
+    let p =
+    part t H (numbered t 0 z.pre) (numbered t (suc n) z.post) (request_of t n op) (s.carried ∙ ap (numbered t 0) z.whole ∙ numbered_both t 0 z.pre (op ∷ z.post) ∙ ap (λ k. numbered t 0 z.pre ++ numbered t k (op ∷ z.post)) number) in
+    record { before = p.before; after = p.after; place = p.place; code = same_code _ n n c _ answered (answered_here s n op p.before p.after p.place) }
 
 -- ---- two of the thread's requests
 
@@ -162,43 +162,25 @@ stands_by {t} {T} {H} s n op c sent answered =
 abbrev Below : ℕ → ℕ → History → Type 0
 Below t n h = All (λ r. r.thread ≡ t → r.number < n) h
 
-pub below : {t : ℕ} {T : Tables} {H : History} (s : Site t T H) (n : ℕ) (op : Op) (before after : History) → Sides s n op before after → Below t n before
-below {t} s n op before after z k d lt own = let up = all_earlier t before 0 z.pre z.earlier k d lt own in let many = z.many in omega (arith, up, many)
+module _ {t : ℕ} {T : Tables} {H : History} (s : Site t T H) (n : ℕ) (op : Op) (before after : History) (place : H ≡ before ++ request_of t n op ∷ after) where
+  pub below : Below t n before
+  below k d lt own =
+      let z = sides_at s n op before after place in
+      let up = all_earlier t before 0 z.pre z.earlier k d lt own in let many = z.many in omega (arith, up, many)
 
-pub above : {t : ℕ} {T : Tables} {H : History} (s : Site t T H) (n : ℕ) (op : Op) (before after : History) → Sides s n op before after
-    → All (λ r. r.thread ≡ t → n < r.number) after
-above {t} s n op before after z k d lt own = let up = all_later t after (suc n) z.post z.later k d lt own in omega (arith, up)
+  pub above : All (λ r. r.thread ≡ t → n < r.number) after
+  above k d lt own = let z = sides_at s n op before after place in let up = all_later t after (suc n) z.post z.later k d lt own in omega (arith, up)
 
 tail_below : (t n : ℕ) (q : Request) (h : History) → Below t n (q ∷ h) → Below t n h
 tail_below t n q h all k d lt = all (suc k) d (omega (arith, lt))
 
--- they have one number, and so one place
-same_place : (t : ℕ) (b c : History) (r q : Request) (a d : History) → b ++ r ∷ a ≡ c ++ q ∷ d → r.thread ≡ t → q.thread ≡ t → r.number ≡ q.number
-    → Below t r.number b → Below t q.number c → (b ≡ c) × (a ≡ d)
-same_place t [] [] r q a d e own its same low high = (refl, let z : a ≡ d = cc in z)
-same_place t [] (p ∷ c) r q a d e own its same low high =
-    let head : r ≡ p = cc in
-    let less = high 0 p (omega arith) (sym (ap (λ (z : Request). z.thread) head) ∙ own) in
-    let number : r.number ≡ p.number = ap (λ (z : Request). z.number) head in
-    absurd (omega (arith, less, number, same))
-same_place t (p ∷ b) [] r q a d e own its same low high =
-    let head : p ≡ q = cc in
-    let less = low 0 p (omega arith) (ap (λ (z : Request). z.thread) head ∙ its) in
-    let number : p.number ≡ q.number = ap (λ (z : Request). z.number) head in
-    absurd (omega (arith, less, number, same))
-same_place t (p ∷ b) (o ∷ c) r q a d e own its same low high =
-    let head : p ≡ o = cc in
-    let tail : b ++ r ∷ a ≡ c ++ q ∷ d = cc in
-    let z = same_place t b c r q a d tail own its same (tail_below t r.number p b low) (tail_below t q.number o c high) in
-    ((λ i. head i ∷ z.0 i), z.1)
-
 -- one has a higher number, and stands later
-record Later (b : History) (r : Request) (a : History) (c : History) (q : Request) (d : History) : Type 0 where
-  mid : History
-  before : c ≡ b ++ r ∷ mid
-  after : a ≡ mid ++ q ∷ d
+pub record Later (b : History) (r : Request) (a : History) (c : History) (q : Request) (d : History) : Type 0 where
+  pub mid : History
+  pub before : c ≡ b ++ r ∷ mid
+  pub after : a ≡ mid ++ q ∷ d
 
-later_place : (t : ℕ) (b c : History) (r q : Request) (a d : History) → b ++ r ∷ a ≡ c ++ q ∷ d → q.thread ≡ t → r.number < q.number → Below t r.number b
+pub later_place : (t : ℕ) (b c : History) (r q : Request) (a d : History) → b ++ r ∷ a ≡ c ++ q ∷ d → q.thread ≡ t → r.number < q.number → Below t r.number b
     → Later b r a c q d
 later_place t [] [] r q a d e its more low =
     let head : r ≡ q = cc in
@@ -219,35 +201,20 @@ later_place t (p ∷ b) (o ∷ c) r q a d e its more low =
     record { mid = z.mid; before = λ i. sym head i ∷ z.before i; after = z.after }
 
 module _ {t : ℕ} {T : Tables} {H : History} (s : Site t T H) where
-  -- a request has its code wherever it stands
-  pub code_here : (n : ℕ) (op : Op) (c : Code) → StandsIn t n op c T H → (before after : History) → H ≡ before ++ request_of t n op ∷ after
-      → c ≡ (next t op (tables_after before T)).1
-  code_here n op c z before after place =
-      let same = same_place t z.before before (request_of t n op) (request_of t n op) z.after after (sym z.place ∙ place) refl refl refl
-      (below s n op z.before z.after (sides_at s n op z.before z.after z.place)) (below s n op before after (sides_at s n op before after place)) in
-      z.code ∙ ap (λ (h : History). (next t op (tables_after h T)).1) same.0
-
-  abbrev pub at_place : (n : ℕ) (op : Op) (c : Code) → StandsIn t n op c T H → (before after : History) → H ≡ before ++ request_of t n op ∷ after → At s n op c
-  at_place n op c z before after place =
-      record { before = before; after = after; place = place; sides = sides_at s n op before after place; code = code_here n op c z before after place }
-
-  abbrev pub stands : (n : ℕ) (op : Op) (c : Code) → At s n op c → StandsIn t n op c T H
-  stands n op c f = record { before = f.before; after = f.after; place = f.place; code = f.code }
-
   -- the op that was sent with a number is that of the thread's request
   pub op_of_number : All (λ r. r.thread ≡ t → slice_get s.ops r.number ≡ Some r.op) H
   op_of_number = of_ops t (λ k op. slice_get s.ops k ≡ Some op) H 0 s.ops s.carried (λ k op e. ap (slice_get s.ops) (let z : 0 + k ≡ k = omega arith in z) ∙ e)
 
-  pub op_at : (n : ℕ) (op : Op) (c : Code) → At s n op c → slice_get s.ops n ≡ Some op
-  op_at n op c f = (λ i. slice_get (f.sides.sent i) (sym f.sides.many i)) ∙ at_seam f.sides.pre op f.sides.post
+  pub op_at : (n : ℕ) (op : Op) (c : Code) → StandsIn t n op c T H → slice_get s.ops n ≡ Some op
+  op_at n op c f = let z = sides_at s n op f.before f.after f.place in (λ i. slice_get (z.sent i) (sym z.many i)) ∙ at_seam z.pre op z.post
 
   -- so there is no other request of that number
-  pub only_op : (n : ℕ) (op : Op) (c : Code) → At s n op c → All (λ r. r.thread ≡ t → r.number ≡ n → r.op ≡ op) H
+  pub only_op : (n : ℕ) (op : Op) (c : Code) → StandsIn t n op c T H → All (λ r. r.thread ≡ t → r.number ≡ n → r.op ≡ op) H
   only_op n op c f k d lt own number =
       some_same (get_or H k d).op op (sym (op_of_number k d lt own) ∙ ap (slice_get s.ops) number ∙ op_at n op c f)
 
   -- the thread's next request after one: what is between the two is of other threads
-  pub record Second (n : ℕ) (op : Op) (c : Code) (f : At s n op c) (then_ : Op) (d : Code) : Type 0 where
+  pub record Second (n : ℕ) (op : Op) (c : Code) (f : StandsIn t n op c T H) (then_ : Op) (d : Code) : Type 0 where
     pub mid : History
     pub rest : History
     pub split : f.after ≡ mid ++ request_of t (suc n) then_ ∷ rest
@@ -257,22 +224,22 @@ module _ {t : ℕ} {T : Tables} {H : History} (s : Site t T H) where
     pub place : H ≡ (f.before ++ request_of t n op ∷ mid) ++ request_of t (suc n) then_ ∷ rest
     pub code : d ≡ (next t then_ (tables_after mid (next t op (tables_after f.before T)).0)).1
 
-  pub second_of : (n : ℕ) (op : Op) (c : Code) (f : At s n op c) (then_ : Op) (d : Code) → At s (suc n) then_ d → Second n op c f then_ d
+  pub second_of : (n : ℕ) (op : Op) (c : Code) (f : StandsIn t n op c T H) (then_ : Op) (d : Code) → StandsIn t (suc n) then_ d T H → Second n op c f then_ d
   second_of n op c f then_ d g =
       let z =
-      later_place t f.before g.before (request_of t n op) (request_of t (suc n) then_) f.after g.after (sym f.place ∙ g.place) refl (omega arith) (below s n op f.before f.after f.sides) in
+      later_place t f.before g.before (request_of t n op) (request_of t (suc n) then_) f.after g.after (sym f.place ∙ g.place) refl (omega arith) (below s n op f.before f.after f.place) in
       let there_is : tables_after (f.before ++ request_of t n op ∷ z.mid) T ≡ tables_after z.mid (next t op (tables_after f.before T)).0 =
       tables_after-append f.before (request_of t n op ∷ z.mid) T in
       let low : All (λ r. r.thread ≡ t → r.number < suc n) z.mid =
-      all_after (λ (r : Request). r.thread ≡ t → r.number < suc n) f.before (request_of t n op) z.mid (subst (All (λ (r : Request). r.thread ≡ t → r.number < suc n)) z.before (below s (suc n) then_ g.before g.after g.sides)) in
+      all_after (λ (r : Request). r.thread ≡ t → r.number < suc n) f.before (request_of t n op) z.mid (subst (All (λ (r : Request). r.thread ≡ t → r.number < suc n)) z.before (below s (suc n) then_ g.before g.after g.place)) in
       let high : All (λ r. r.thread ≡ t → n < r.number) z.mid =
-      all_left (λ (r : Request). r.thread ≡ t → n < r.number) z.mid (request_of t (suc n) then_ ∷ g.after) (subst (All (λ (r : Request). r.thread ≡ t → n < r.number)) z.after (above s n op f.before f.after f.sides)) in
+      all_left (λ (r : Request). r.thread ≡ t → n < r.number) z.mid (request_of t (suc n) then_ ∷ g.after) (subst (All (λ (r : Request). r.thread ≡ t → n < r.number)) z.after (above s n op f.before f.after f.place)) in
       record {
         mid = z.mid;
         rest = g.after;
         split = z.after;
         others = λ k e lt own. let down = low k e lt own in let up = high k e lt own in omega (arith, down, up);
-        later = λ k e lt own. let up = above s (suc n) then_ g.before g.after g.sides k e lt own in omega (arith, up);
+        later = λ k e lt own. let up = above s (suc n) then_ g.before g.after g.place k e lt own in omega (arith, up);
         there_is = there_is;
         place = g.place ∙ ap (λ (h : History). h ++ request_of t (suc n) then_ ∷ g.after) z.before;
         code = g.code ∙ ap (λ (h : History). (next t then_ (tables_after h T)).1) z.before ∙ ap (λ (U : Tables). (next t then_ U).1) there_is;

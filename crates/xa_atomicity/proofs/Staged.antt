@@ -1,4 +1,5 @@
 -- Each stage of a commit is one that was cut short, whatever else was done between them.
+use Rattle.xa_atomicity.proofs.CutSends.{seconds_are}
 use Rattle.std.specs.Prelude.{◌≡◌, ℕ, Bool, true, false, not, ◌&&◌, ◌||◌, Option, Some, List, [], ◌∷◌, map, refl}
 use Rattle.std.proofs.Common.{inl, inr, get_or, sym, ap, ◌∙◌, subst}
 use Rattle.std.specs.List.{All}
@@ -117,7 +118,7 @@ nothing_between bs at = record { each = λ k d lt. did_nothing (get_or bs k d).x
 
 -- ---- how far it came is a commit that was cut short
 
-asking_cut : (bs : List Branch) (desk : DeskView) (mid now : List LedgerView) (log : LogState) (ks : List Ask) → MayCommit desk log bs
+pub asking_cut : (bs : List Branch) (desk : DeskView) (mid now : List LedgerView) (log : LogState) (ks : List Ask) → MayCommit desk log bs
     → SameAsks (map first_ask bs) ks → HaveComeSoFar ks desk.ledgers mid → LeavesBranches bs mid now → IsCut bs desk now log log []
 asking_cut bs desk mid now log ks may same far between = record {
   may = may;
@@ -128,7 +129,7 @@ asking_cut bs desk mid now log ks may same far between = record {
 pub asks_so_far : (ks : List Ask) (at now : List LedgerView) → Asks ks at now → HaveComeSoFar ks at now
 asks_so_far ks at now asked = record { each = asks_begun ks at now asked.each; others = asked.others; managers = asked.managers }
 
-none_so_far : (ks : List Ask) (at : List LedgerView) → HaveComeSoFar ks at at
+pub none_so_far : (ks : List Ask) (at : List LedgerView) → HaveComeSoFar ks at at
 none_so_far ks at = record { each = none_begun ks at; others = λ m positive none. refl; managers = refl }
 
 module _ (bs : List Branch) (desk : DeskView) (mid tell : List LedgerView) (log later : LogState) (p : Prepared) (d : Decided) (may : MayCommit desk log bs)
@@ -151,7 +152,7 @@ module _ (bs : List Branch) (desk : DeskView) (mid tell : List LedgerView) (log 
   decision_is : commit ≡ decision_of votes d.known.logged
   decision_is = second.decision ∙ ap (λ vs. decision_of vs d.known.logged) first.votes
 
-  telling_cut : (now : List LedgerView) (js : List Ask) → SameAsks (map (second_ask commit) asks) js → HaveComeSoFar js tell now
+  pub telling_cut : (now : List LedgerView) (js : List Ask) → SameAsks (map (second_ask commit) asks) js → HaveComeSoFar js tell now
       → IsCut bs desk now log later []
   telling_cut now js same far = record {
     may = may;
@@ -161,17 +162,14 @@ module _ (bs : List Branch) (desk : DeskView) (mid tell : List LedgerView) (log 
   }
 
   module _ (late start : List LedgerView) (t : Told) (third : HasTold d tell late t) (after : LeavesBranches bs late start) where
-    told_are : SameAsks (map (second_ask commit) asks) t.round.asks.items
-    told_are = subst (λ (r : Round). SameAsks (map (second_ask commit) r.asks.items) t.round.asks.items) second.round third.same
-
-    forgetting_cut : (now : List LedgerView) (ls : List Ask) → SameAsks (map third_ask t.round.asks.items) ls → HaveComeSoFar ls start now
+    pub forgetting_cut : (now : List LedgerView) (ls : List Ask) → SameAsks (map third_ask t.round.asks.items) ls → HaveComeSoFar ls start now
         → IsCut bs desk now log later t.known.endings.items
     forgetting_cut now ls same far = record {
       may = may;
       far = forgetting votes d.known.logged (map second_code t.round.asks.items) logs_are
           (subst (λ c. EachBranch (Ended c desk.ledgers now) bs votes (map second_code t.round.asks.items) t.known.endings.items) decision_is
           (subst (λ (es : List Ending). EachBranch (Ended commit desk.ledgers now) bs votes (map second_code t.round.asks.items) es) (sym third.endings)
-          (all_ended commit desk.ledgers mid tell late start now bs asks t.round.asks.items ls first.same told_are same first.asked.each between.each third.asked.each after.each far.each)));
+          (all_ended commit desk.ledgers mid tell late start now bs asks t.round.asks.items ls first.same (seconds_are t.round.asks.items second third.same) same first.asked.each between.each third.asked.each after.each far.each)));
       managers = far.managers ∙ after.managers ∙ third.asked.managers ∙ between.managers ∙ first.asked.managers;
     }
 
@@ -186,13 +184,6 @@ pub decided_is_cut : (bs : List Branch) (desk : DeskView) (mid new : List Ledger
     → MayCommit desk log bs → HasPrepared bs desk.ledgers mid p → LeavesBranches bs mid new → HasDecided p log later d → IsCut bs desk new log later []
 decided_is_cut bs desk mid new log later p d may first between second =
     telling_cut bs desk mid new log later p d may first between second new (map (second_ask d.known.commit) p.round.asks.items) (same_itself (map (second_ask d.known.commit) p.round.asks.items)) (none_so_far (map (second_ask d.known.commit) p.round.asks.items) new)
-
-pub told_is_cut : (bs : List Branch) (desk : DeskView) (mid tell late new : List LedgerView) (log later : LogState) (p : Prepared) (d : Decided) (t : Told)
-    → MayCommit desk log bs → HasPrepared bs desk.ledgers mid p → LeavesBranches bs mid tell → HasDecided p log later d → HasTold d tell late t
-    → LeavesBranches bs late new
-    → IsCut bs desk new log later t.known.endings.items
-told_is_cut bs desk mid tell late new log later p d t may first between second third after =
-    forgetting_cut bs desk mid tell log later p d may first between second late new t third after new (map third_ask t.round.asks.items) (same_itself (map third_ask t.round.asks.items)) (none_so_far (map third_ask t.round.asks.items) new)
 
 -- ---- a commit that came to no decision
 
@@ -226,22 +217,3 @@ undecided_is_cut bs desk mid new log later votes tran may voted between of_tran 
             logs = appended wants refl (added ∙ (λ i. with_record log (tran_is i) (yes_are i)));
           })
     ]
-
--- ---- a round that is left
-
-pub asking_is_cut : (bs : List Branch) (desk : DeskView) (now : List LedgerView) (log : LogState) (p : Preparing) → MayCommit desk log bs
-    → IsPreparing bs desk p → HaveComeSoFar p.round.asks.items desk.ledgers now → IsCut bs desk now log log []
-asking_is_cut bs desk now log p may first far = asking_cut bs desk now now log p.round.asks.items may first.same far (nothing_between bs now)
-
-pub telling_is_cut : (bs : List Branch) (desk tell : DeskView) (mid now : List LedgerView) (log later : LogState) (p : Prepared) (d : Decided) (t : Telling)
-    → MayCommit desk log bs → HasPrepared bs desk.ledgers mid p → LeavesBranches bs mid tell.ledgers → HasDecided p log later d
-    → IsTelling d tell t → HaveComeSoFar t.round.asks.items tell.ledgers now → IsCut bs desk now log later []
-telling_is_cut bs desk tell mid now log later p d t may first between second third far =
-    telling_cut bs desk mid tell.ledgers log later p d may first between second now t.round.asks.items (subst (λ (r : Round). SameAsks (map (second_ask d.known.commit) r.asks.items) t.round.asks.items) second.round third.same) far
-
-pub forgetting_is_cut : (bs : List Branch) (desk start : DeskView) (mid tell late now : List LedgerView) (log later : LogState) (p : Prepared) (d : Decided) (t : Told) (f : Forgetting)
-    → MayCommit desk log bs → HasPrepared bs desk.ledgers mid p → LeavesBranches bs mid tell → HasDecided p log later d
-    → HasTold d tell late t → LeavesBranches bs late start.ledgers → IsForgetting t start f → HaveComeSoFar f.round.asks.items start.ledgers now
-    → IsCut bs desk now log later t.known.endings.items
-forgetting_is_cut bs desk start mid tell late now log later p d t f may first between second third after last far =
-    forgetting_cut bs desk mid tell log later p d may first between second late start.ledgers t third after now f.round.asks.items last.same far

@@ -1,5 +1,8 @@
 -- What a branch that nobody else named counts for, over the settled history of its manager: its additions, and what the
 -- call's requests moved.
+use Rattle.xa_atomicity.proofs.Courses.{Unreached, Reads, Breaks, Stays, Agrees, Refuses}
+use Rattle.std.proofs.lemmas.Bool.{both_ways, false_from_ne_true}
+use Rattle.xa_base.proofs.Truth.{by_bool}
 use Rattle.std.specs.Prelude.{ℤ, pos, ◌+ℤ◌}
 use Rattle.std.proofs.Common.{◌≡◌, ◌≢◌, ℕ, suc, ◌+◌, ◌≤◌, inl, inr, Bool, true, false, ◌||◌, if◌then◌else◌, List, [], ◌∷◌, ◌++◌, get_or, sym, refl, ap, ◌∙◌}
 use Rattle.std.proofs.Common.{subst, arith, Option, Some, None}
@@ -39,16 +42,11 @@ use Rattle.xa_base.proofs.Truth.{by_if, at_true}
 use Rattle.xa_base.proofs.Lists.{all_left, all_after}
 use Rattle.xa_atomicity.proofs.Placing.{request_of, fates, fates_both, none_first}
 use Rattle.xa_atomicity.proofs.Requests.{closes_other}
-use Rattle.xa_atomicity.proofs.Courses.{yes_is, read_is, Sends, SendsOne, Course, Unreached, Reads, Breaks, Stays, Agrees, Refuses, course_of, rest_forgets}
+use Rattle.xa_atomicity.proofs.Courses.{yes_is, read_is, Sends, SendsOne, Course, rest_forgets}
 use Rattle.xa_atomicity.proofs.Shares.{add_place, commits_or, share_is}
-use Rattle.xa_atomicity.proofs.Sites.{Site, StandsIn, Sent, AsksIn, At, above, below, at_place, stands, Second, second_of}
+use Rattle.xa_atomicity.proofs.Sites.{Site, StandsIn, Sent, AsksIn, above, below, at_place, Second, second_of}
 
 -- a history that doesn't name the branch makes nothing of it
-unnamed : (x : XidName) (h : History) (T : Tables) → NamesNowhere x h → fates x h T ≡ []
-unnamed x [] T n = refl
-unnamed x (r ∷ h) T n =
-    none_first x r h T (unnamed_fate x r.op _ (n 0 r (omega arith))) (unnamed x h (next r.thread r.op T).0 (λ k d lt. n (suc k) d (omega arith)))
-
 -- a Prepare commits nothing
 vote_then : (v : Code) (fs : List Fate) → commits_or false fs ≡ false → commits_or false (cons_option (prepare_fate v) fs) ≡ false
 vote_then v fs e =
@@ -61,22 +59,9 @@ rolled_then : (v c : Code) → commits_or false (cons_option (prepare_fate v) (c
 rolled_then v c =
     vote_then v (cons_option (rollback_fate c) []) (by_if (λ o. commits_or false (cons_option o []) ≡ false) (is_done c || is_rolled_back c) (Some history.RolledBack) None (λ _. refl) (λ _. refl))
 
--- after its own numbers a thread doesn't name the branch, and no other thread does
-never_named : (t : ℕ) (x : XidName) (first last : ℕ) (q : Request) → (names x q.op ≡ true → IsBetween t first last q) → (q.thread ≡ t → last ≤ q.number)
-    → names x q.op ≡ false
-never_named t x first last q only later =
-    elim (names x q.op) as (λ b. names x q.op ≡ b → b ≡ false) [
-      | true ↦ λ e. let own = only e in let up = later own.thread in let down = own.below in absurd (omega (arith, up, down))
-      | false ↦ λ e. refl
-    ] refl
-
 -- requests that name the branch only to forget it make nothing of it
 forgets_fate : (x : XidName) (op : Op) (c : Code) → (names x op ≡ true → is_forget op ≡ true) → fate_of x op c ≡ None
-forgets_fate x op c f =
-    elim (names x op) as (λ b. names x op ≡ b → fate_of x op c ≡ None) [
-      | true ↦ λ n. forget_fate op (f n)
-      | false ↦ λ n. unnamed_fate x op c n
-    ] refl
+forgets_fate x op c f = by_bool (λ _. fate_of x op c ≡ None) (names x op) (λ n. forget_fate op (f n)) (λ n. unnamed_fate x op c n)
   where
     forget_fate : (op : Op) → is_forget op ≡ true → fate_of x op c ≡ None
     forget_fate (Forget y) e = refl
@@ -87,19 +72,23 @@ forgotten x [] T n = refl
 forgotten x (r ∷ h) T n =
     none_first x r h T (forgets_fate x r.op _ (n 0 r (omega arith))) (forgotten x h (next r.thread r.op T).0 (λ k d lt. n (suc k) d (omega arith)))
 
+-- and none name it nowhere
+unnamed : (x : XidName) (h : History) (T : Tables) → NamesNowhere x h → fates x h T ≡ []
+unnamed x h T n = forgotten x h T (λ k d lt named. absurd (both_ways (names x (get_or h k d).op) (n k d lt) named))
+
 module _ {t : ℕ} {T : Tables} {H : History} (site : Site t T H) (x : XidName) (n : ℕ) (vote : Code) where
   abbrev P : Op
   P = Prepare x
 
   abbrev Voted : Type 0
-  Voted = At site n P vote
+  Voted = StandsIn t n P vote T H
 
   -- what was taken before it, and that no request there has its number or a later one
   taken : (f : Voted) → taken_before t n H ≡ f.before
-  taken f = ap (taken_before t n) f.place ∙ taken_is t n f.before f.after (request_of t n P) refl refl (below site n P f.before f.after f.sides)
+  taken f = ap (taken_before t n) f.place ∙ taken_is t n f.before f.after (request_of t n P) refl refl (below site n P f.before f.after f.place)
 
   earlier_out : (f : Voted) (last : ℕ) → All (λ q. is_within t n last q ≡ false) f.before
-  earlier_out f last k d lt = outside t n last (get_or f.before k d) (λ own. inl (below site n P f.before f.after f.sides k d lt own))
+  earlier_out f last k d lt = outside t n last (get_or f.before k d) (λ own. inl (below site n P f.before f.after f.place k d lt own))
 
   -- so it stands where an addition that it votes on has it
   abbrev voted_at : StandsIn t n P vote T H → (k : List ℕ) (d : ℤ) → IsAddition x k d t n T H → Voted
@@ -130,9 +119,9 @@ module _ {t : ℕ} {T : Tables} {H : History} (site : Site t T H) (x : XidName) 
 
   module _ (only : OnlyTheseName x t n (n + 1) H) where
     nowhere_after : (f : Voted) → NamesNowhere x f.after
-    nowhere_after f k d lt =
-        never_named t x n (n + 1) (get_or f.after k d) (only f.before f.after (request_of t n P) f.place refl refl k d lt)
-        (λ own. let up = above site n P f.before f.after f.sides k d lt own in omega (arith, up))
+    nowhere_after f k d lt = false_from_ne_true (names x (get_or f.after k d).op) (λ named.
+        let own = only f.before f.after (request_of t n P) f.place refl refl k d lt named in
+        let up = above site n P f.before f.after f.place k d lt own.thread in let down = own.below in omega (arith, up, down))
 
     -- the Prepare alone makes something of the branch
     one_fate : (f : Voted) → fates x (request_of t n P ∷ f.after) (tables_after f.before T) ≡ cons_option (prepare_fate vote) []
@@ -148,7 +137,7 @@ module _ {t : ℕ} {T : Tables} {H : History} (site : Site t T H) (x : XidName) 
         ap (λ (h : History). moved accounts (is_within t n (n + 1)) h T) f.place
         ∙ moved_at accounts (is_within t n (n + 1)) f.before f.after (request_of t n P) T (earlier_out f (n + 1))
         (inside t n (n + 1) (request_of t n P) refl (omega arith) (omega arith))
-        (λ k d lt. outside t n (n + 1) (get_or f.after k d) (λ own. let up = above site n P f.before f.after f.sides k d lt own in inr (omega (arith, up))))
+        (λ k d lt. outside t n (n + 1) (get_or f.after k d) (λ own. let up = above site n P f.before f.after f.place k d lt own in inr (omega (arith, up))))
 
   -- ---- a second request was sent
 
@@ -172,9 +161,8 @@ module _ {t : ℕ} {T : Tables} {H : History} (site : Site t T H) (x : XidName) 
     only_parts = subst (All (λ (q : Request). names x q.op ≡ true → IsBetween t n last q)) s.split (only f.before f.after (request_of t n P) f.place refl refl)
 
     quiet_mid : NamesNowhere x s.mid
-    quiet_mid k d lt =
-        let differs = s.others k d lt in
-        never_named t x n last (get_or s.mid k d) (all_left (λ (q : Request). names x q.op ≡ true → IsBetween t n last q) s.mid (S ∷ s.rest) only_parts k d lt) (λ own. absurd (differs own))
+    quiet_mid k d lt = false_from_ne_true (names x (get_or s.mid k d).op) (λ named.
+        s.others k d lt (all_left (λ (q : Request). names x q.op ≡ true → IsBetween t n last q) s.mid (S ∷ s.rest) only_parts k d lt named).thread)
 
     waiting : LeavesWaiting t x s.mid
     waiting k d lt = (λ named. let none = sym named ∙ quiet_mid k d lt in cc, closes_other t (get_or s.mid k d) (s.others k d lt))
@@ -277,7 +265,7 @@ module _ {t : ℕ} {T : Tables} {H : History} (site : Site t T H) (x : XidName) 
   none_counts : SendsOne site x n last vote → CountsAs false
   none_counts z = (
     λ k d add.
-        counted_by site x n vote (stands site n (Prepare x) vote z.first) (cons_option (prepare_fate vote) []) (one_fate site x n vote (only_one z)) k d add
+        counted_by site x n vote z.first (cons_option (prepare_fate vote) []) (one_fate site x n vote (only_one z)) k d add
         ∙ ap (λ q. if q then d else pos 0) (vote_then vote [] refl),
     λ accounts.
         ap (λ k. moved accounts (is_within t n k) H T) z.limit
@@ -300,7 +288,7 @@ module _ {t : ℕ} {T : Tables} {H : History} (site : Site t T H) (x : XidName) 
       let f = z.first in
       record {
         counted = counted_as ReadOnly false (none_counts z) refl;
-        adders = λ k d add. absurd (never_reads site x n vote (stands site n (Prepare x) vote f) k d add code);
+        adders = λ k d add. absurd (never_reads site x n vote f k d add code);
         moves = moved_as ReadOnly false (none_counts z) refl;
         reads = λ _ accounts.
             subst (λ (h : History). held_by accounts x (tables_after h T) ≡ pos 0) (sym (taken site x n vote f)) (site.law.reads accounts t x (tables_after f.before T) (sym f.code ∙ code));
@@ -319,7 +307,7 @@ module _ {t : ℕ} {T : Tables} {H : History} (site : Site t T H) (x : XidName) 
 
     counts_so : Counts site x n vote (commits_or false (cons_option (prepare_fate vote) (cons_option (fate_of x op c) [])))
     counts_so =
-        counted_by site x n vote (stands site n (Prepare x) vote z.first) (cons_option (prepare_fate vote) (cons_option (fate_of x op c) [])) (two_fates site x n vote last only op c z)
+        counted_by site x n vote z.first (cons_option (prepare_fate vote) (cons_option (fate_of x op c) [])) (two_fates site x n vote last only op c z)
 
     moves_so : (accounts : List (List ℕ × ℕ)) → moved_here accounts ≡ moved_by accounts op c second_tables
     moves_so accounts = moved_is site x n vote last only op c z z.first accounts
@@ -382,13 +370,6 @@ module _ {t : ℕ} {T : Tables} {H : History} (site : Site t T H) (x : XidName) 
 
 -- ---- a manager that was learnt to be shut
 
-nothing_between : (t : ℕ) (x : XidName) (n : ℕ) (q : Request) → (names x q.op ≡ true → IsBetween t n n q) → names x q.op ≡ false
-nothing_between t x n q only =
-    elim (names x q.op) as (λ b. names x q.op ≡ b → b ≡ false) [
-      | true ↦ λ e. let own = only e in let up = own.from in let down = own.below in absurd (omega (arith, up, down))
-      | false ↦ λ e. refl
-    ] refl
-
 -- where nothing was asked, a Prepare of that number commits nothing
 unasked : (t : ℕ) (x : XidName) (T : Tables) (H : History) (n : ℕ) → OnlyTheseName x t n n H → (k : List ℕ) (d : ℤ) (add : IsAddition x k d t n T H)
     → share k none_later add.adding (add.between ++ prepare_of t n x ∷ add.after) (tables_after add.before T) ≡ pos 0
@@ -396,46 +377,45 @@ unasked t x T H n only k d add =
     let P : Request = request_of t n (Prepare x) in
     let there : Tables = tables_after (add.before ++ add.adding ∷ add.between) T in
     let place : H ≡ (add.before ++ add.adding ∷ add.between) ++ P ∷ add.after = add_place x k d t n T H add in
-    let nowhere : NamesNowhere x add.after = λ j e lt.
-    nothing_between t x n (get_or add.after j e) (only (add.before ++ add.adding ∷ add.between) add.after P place refl refl j e lt) in
+    let nowhere : NamesNowhere x add.after = λ j e lt. false_from_ne_true (names x (get_or add.after j e).op) (λ named.
+    let own = only (add.before ++ add.adding ∷ add.between) add.after P place refl refl j e lt named in let up = own.from in let down = own.below in omega (arith, up, down)) in
     let own : fate_of x (Prepare x) (next t (Prepare x) there).1 ≡ prepare_fate (next t (Prepare x) there).1 = at_true (xid_eq x x) _ None (xid_self x) in
     let none : fates x add.after (next t (Prepare x) there).0 ≡ [] = unnamed x add.after (next t (Prepare x) there).0 nowhere in
     share_is x k d t n T H none_later add (cons_option (prepare_fate (next t (Prepare x) there).1) []) (λ i. cons_option (own i) (none i))
     ∙ ap (λ q. if q then d else pos 0) (vote_then (next t (Prepare x) there).1 [] refl)
 
 -- what a branch of a commit that nobody else named counts for
-pub branch_counts : {t : ℕ} {T : Tables} {H : History} (site : Site t T H) (b : Branch) (commit : Bool) (vote : Code) (second : Option Code) (ending : Ending) (old new : Sent)
-    → AtBranch (AsksIn t T H) commit b vote second ending old new
-    → OnlyTheseName b.xid t old.number new.number H → Counted t b.xid T H old.number new.number vote ending
-branch_counts {t} {T} {H} site b commit vote second ending old new is only = by_course ending (course_of site b commit vote second ending old new is)
+pub branch_counts : {t : ℕ} {T : Tables} {H : History} (site : Site t T H) (x : XidName) (n last : ℕ) (commit : Bool) (vote : Code) (ending : Ending)
+    → Course site x n last vote commit ending → OnlyTheseName x t n last H → Counted t x T H n last vote ending
+branch_counts {t} {T} {H} site x n last commit vote ending course only = by_course ending course
   where
-    stays_so : (e : Ending) → is_committed e ≡ false → is_read_only_ending e ≡ false → is_heuristic e ≡ false → SendsOne site b.xid old.number new.number vote
-        → Counted t b.xid T H old.number new.number vote e
+    stays_so : (e : Ending) → is_committed e ≡ false → is_read_only_ending e ≡ false → is_heuristic e ≡ false → SendsOne site x n last vote
+        → Counted t x T H n last vote e
     stays_so e uncommitted_so writes plain z =
-        uncommitted site b.xid old.number new.number vote only e uncommitted_so writes (λ _. plain) (none_counts site b.xid old.number new.number vote only z)
+        uncommitted site x n last vote only e uncommitted_so writes (λ _. plain) (none_counts site x n last vote only z)
 
     by_decision : (commit : Bool) (c : Code) → is_yes vote ≡ true
-        → Sends site b.xid old.number new.number vote (if commit then Commit b.xid false else Rollback b.xid) c
-        → Counted t b.xid T H old.number new.number vote (yes_ending commit (Some c))
+        → Sends site x n last vote (if commit then Commit x false else Rollback x) c
+        → Counted t x T H n last vote (yes_ending commit (Some c))
     by_decision true c y z =
-        agreed site b.xid old.number new.number vote only (Commit b.xid false) history.Committed Committed c y refl refl (at_true (xid_eq b.xid b.xid) _ None (xid_self b.xid)) (at_true (xid_eq b.xid b.xid) _ None (xid_self b.xid)) refl
+        agreed site x n last vote only (Commit x false) history.Committed Committed c y refl refl (at_true (xid_eq x x) _ None (xid_self x)) (at_true (xid_eq x x) _ None (xid_self x)) refl
         (λ accounts U. refl) (λ accounts U. refl) (λ U h. h.commits) z
     by_decision false c y z =
-        agreed site b.xid old.number new.number vote only (Rollback b.xid) history.RolledBack RolledBack c y refl refl (at_true (xid_eq b.xid b.xid) _ None (xid_self b.xid)) (at_true (xid_eq b.xid b.xid) _ None (xid_self b.xid)) refl
+        agreed site x n last vote only (Rollback x) history.RolledBack RolledBack c y refl refl (at_true (xid_eq x x) _ None (xid_self x)) (at_true (xid_eq x x) _ None (xid_self x)) refl
         (λ accounts U. refl) (λ accounts U. refl) (λ U h. h.rolls_back) z
 
-    by_course : (e : Ending) → Course site b.xid old.number new.number vote commit e → Counted t b.xid T H old.number new.number vote e
+    by_course : (e : Ending) → Course site x n last vote commit e → Counted t x T H n last vote e
     by_course _ (Unreached same code) = record {
-      counted = unasked t b.xid T H old.number (subst (λ k. OnlyTheseName b.xid t old.number k H) same only);
+      counted = unasked t x T H n (subst (λ k. OnlyTheseName x t n k H) same only);
       adders = λ k d add. refl;
       moves = λ accounts.
-          ap (λ k. moved accounts (is_within t old.number k) H T) same
-          ∙ moved_none accounts (is_within t old.number old.number) H T (λ k d lt. outside t old.number old.number (get_or H k d) (λ own. cases_lt (get_or H k d).number old.number));
+          ap (λ k. moved accounts (is_within t n k) H T) same
+          ∙ moved_none accounts (is_within t n n) H T (λ k d lt. outside t n n (get_or H k d) (λ own. cases_lt (get_or H k d).number n));
       reads = λ r. cc;
       undecided = λ _. refl;
     }
-    by_course _ (Reads r z) = read_goal site b.xid old.number new.number vote only r z
+    by_course _ (Reads r z) = read_goal site x n last vote only r z
     by_course _ (Breaks k z) = stays_so RolledBack refl refl refl z
     by_course _ (Stays c y z) = stays_so (Left c) refl refl refl z
     by_course _ (Agrees c y z) = by_decision commit c y z
-    by_course _ (Refuses c y r z) = refused site b.xid old.number new.number vote only c y r z
+    by_course _ (Refuses c y r z) = refused site x n last vote only c y r z

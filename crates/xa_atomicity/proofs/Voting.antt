@@ -30,7 +30,7 @@ use Rattle.xa_atomicity.specs.Tabled.{Tabled}
 use Rattle.xa_driver.specs.Trace.{voted}
 use Rattle.xa_driver.proofs.Traces.{trace_of, asked_grows}
 use Rattle.xa_driver.specs.Course.{AtBranch}
-use Rattle.xa_atomicity.proofs.Courses.{yes_is}
+use Rattle.xa_atomicity.proofs.Courses.{yes_is, yes_wanted}
 use Rattle.xa_atomicity.proofs.Leading.{Stands}
 use Rattle.xa_atomicity.proofs.Placing.{fates}
 
@@ -84,10 +84,6 @@ pub learnt_on : (a b : LedgerView) → Begins a.collected b.collected → learnt
 learnt_on a b begins e =
     ap (list_any (λ (p : ℕ × Code). is_rm_fail p.1)) begins.1 ∙ list_any-append (λ (p : ℕ × Code). is_rm_fail p.1) a.collected begins.0
     ∙ ap (λ q. q || list_any (λ (p : ℕ × Code). is_rm_fail p.1) begins.0) e
-
-pub yes_wanted : (commit : Bool) (x : XidName) → second_op commit x Done ≡ Some (outcome_op commit x)
-yes_wanted true x = refl
-yes_wanted false x = refl
 
 pub learnt_in_doubt : (b : Branch) (vote : Code) (second : Option Code) (ending : Ending) (commit : Bool) (a a' : LedgerView)
     → AtBranch AsksLedger commit b vote second ending a a' → is_yes vote ≡ true → is_in_doubt ending ≡ true → learnt_shut a' ≡ true

@@ -8,6 +8,5 @@ pub mod Named
 pub mod Alone
 pub mod Sums
 pub mod Unfinished
-pub mod Ends
 pub mod Decided
 pub mod Stopped

@@ -22,7 +22,9 @@ use Rattle.xa_atomicity.specs.Outcomes.{AreLeftAlone, AreLeftOrDecided, EachOutc
 use Rattle.xa_atomicity.specs.Outcomes.{is_read_only, KeepsItsVote, TellsTheFate}
 use Rattle.xa_driver.specs.Trace.{EachBranch}
 use Rattle.xa_atomicity.specs.Tabled.{Tabled}
-use Rattle.xa_atomicity.proofs.Settled.{Both, Fated, InHistory, each_both, each_fated, outcome_map, each_outcome}
+use Rattle.xa_atomicity.proofs.Courses.{course_of}
+use Rattle.xa_atomicity.proofs.OneOutcome.{not_rolled_back, uncommitted}
+use Rattle.xa_atomicity.proofs.Settled.{Both, Fated, InHistory, each_both, each_fated, outcome_map, each_outcome, site_of}
 use Rattle.xa_session.specs.Committing.{branches_of}
 use Rattle.xa_words.specs.Tran.{TranName}
 use Rattle.xa_grammar.specs.declared.step.CommitAll.{CommitAll}
@@ -79,40 +81,16 @@ no_ending_is P p so bs vs es h = list_any_none p es (all_endings P (λ e. p e �
 abbrev pub Ends : Bool → Branch → Code → Ending → Type 0
 Ends commit b v e = (z : Option Code) × (e ≡ ending_of commit v z)
 
--- a yes vote isn't rolled back where the transaction commits
-yes_stays : (z : Option Code) → is_rolled_back (yes_ending true z) ≡ false
-yes_stays None = refl
-yes_stays (Some c) = stays (is_done c) (is_rm_fail c) (is_heuristic_code c)
-  where
-    stays : (a b h : Bool) → is_rolled_back (if a then Committed else (if b then InDoubt else (if h then Heuristic c else Left c))) ≡ false
-    stays true b h = refl
-    stays false true h = refl
-    stays false false true = refl
-    stays false false false = refl
-
-stays_back : (v : Code) (z : Option Code) → is_no v ≡ false → is_rolled_back (ending_of true v z) ≡ false
-stays_back Done z e = yes_stays z
-stays_back RdOnly z e = refl
-stays_back v z e = absurd (cc)
-
 pub committed_so : (e : Ending) → is_committed e ≡ true → e ≡ Committed
 committed_so Committed e = refl
 committed_so x e = absurd (cc)
 
--- nothing is committed where it aborts
-pub stays_out : (v : Code) (z : Option Code) → is_committed (ending_of false v z) ≡ false
-stays_out v z = elim (cases_Bool (is_committed (ending_of false v z))) [
-  | inl y ↦
-      let yes' = committed_yes (is_yes v) (is_read v) (rolls_back v) (is_out_of_reach v) false v z (committed_so (ending_of false v z) y) in
-      absurd (let e : false ≡ true = (committed_done false z yes'.1).0 in cc)
-  | inr n ↦ n
-]
-
+-- nothing is rolled back where it commits and no vote is against, and nothing committed where it aborts
 pub kept_so : (commit : Bool) → commit ≡ true → (b : Branch) (v : Code) (e : Ending) → (is_no v ≡ false) × Ends commit b v e → is_rolled_back e ≡ false
-kept_so commit is b v e h = ap is_rolled_back (h.1.1 ∙ ap (λ c. ending_of c v h.1.0) is) ∙ stays_back v h.1.0 h.0
+kept_so commit is b v e h = ap is_rolled_back (h.1.1 ∙ ap (λ c. ending_of c v h.1.0) is) ∙ not_rolled_back v h.1.0 h.0
 
 pub out_so : (commit : Bool) → commit ≡ false → (b : Branch) (v : Code) (e : Ending) → Ends commit b v e → is_committed e ≡ false
-out_so commit is b v e h = ap is_committed (h.1 ∙ ap (λ c. ending_of c v h.0) is) ∙ stays_out v h.0
+out_so commit is b v e h = ap is_committed (h.1 ∙ ap (λ c. ending_of c v h.0) is) ∙ uncommitted v h.0
 
 -- what is neither left nor rolled back
 rest_is : (e : Ending) → is_left e ≡ false → is_rolled_back e ≡ false → (is_committed e || (is_read_only e || (is_in_doubt e || is_heuristic e))) ≡ true
@@ -167,20 +145,13 @@ module _ (law : Tabled) (opens : (s : Settling) (m : ℕ) → IsSettled s → (T
   FatedSo commit b v e = Fated law opens s t b (length (old.entries b.m)) v e × Ends commit b v e
 
   -- and what it counts for
-  pub record Counted (b : Branch) (v : Code) (e : Ending) : Type 0 where
-    pub fated : Fated law opens s t b (length (old.entries b.m)) v e
-    pub counts : Shares s t b (length (old.entries b.m)) (is_committed e)
-    pub adders : (T : Tables) → IsOpenedWith s b.m T → (k : List ℕ) (d : ℤ) → IsAddition b.xid k d t (length (old.entries b.m)) T (history_of s b.m)
-        → is_read_only e ≡ false
-    pub undecided : is_no v ≡ false → is_heuristic e ≡ false
-
-  abbrev pub CountedSo : Bool → Branch → Code → Ending → Type 0
-  CountedSo commit b v e = Counted b v e × Ends commit b v e
+  abbrev pub CountedSo : Part → Bool → Branch → Code → Ending → Type 0
+  CountedSo new commit b v e = Both law opens s t b (length (old.entries b.m)) (length (new.entries b.m)) v e × Ends commit b v e
 
 -- ---- all of them, by each
 
 module _ (law : Tabled) (opens : (s : Settling) (m : ℕ) → IsSettled s → (T : Tables) × IsOpenedWith s m T) (s : Settling) (t : ℕ) (bs : List Branch)
-    (old : Part) (done : Outcome) (unopposed_so : done.commit ≡ true → list_any is_no done.votes.items ≡ false) where
+    (old new : Part) (done : Outcome) (unopposed_so : done.commit ≡ true → list_any is_no done.votes.items ≡ false) where
   abbrev each : (Branch → Code → Ending → Type 0) → Type 0
   each P = EachOutcome P bs done.votes.items done.endings.items
 
@@ -188,7 +159,7 @@ module _ (law : Tabled) (opens : (s : Settling) (m : ℕ) → IsSettled s → (T
   FatedHere = FatedSo law opens s t old done.commit
 
   abbrev CountedHere : Branch → Code → Ending → Type 0
-  CountedHere = CountedSo law opens s t old done.commit
+  CountedHere = CountedSo law opens s t old new done.commit
 
   pub as_shown_by : each FatedHere → IsAsShown s t bs old done
   as_shown_by all = record {
@@ -244,22 +215,17 @@ module _ (law : Tabled) (opens : (s : Settling) (m : ℕ) → IsSettled s → (T
   bs = branches_of c
 
   -- how many requests the thread had sent each manager, by its entries
-  abbrev was : ℕ → Sent
-  was m = entered (old.entries m)
-
-  abbrev now : ℕ → Sent
-  now m = entered (new.entries m)
-
   abbrev In : Branch → Code → Option Code → Ending → Type 0
-  In = InHistory law opens s t done.commit was now
+  In = InHistory law opens s t settled done.commit (entered_so_far old) (entered_so_far new)
 
   in_history : (b : Branch) (v : Code) (z : Option Code) (e : Ending) → AtBranch (CarriesOut t) done.commit b v z e (old.entries b.m) (new.entries b.m)
       → In b v z e
   in_history b v z e at T with_T =
       let agree = settled.agree t b.m in
-      let more = grown b.m in
+      let asked =
       branch_entered law t T with_T.opened (journal s b.m) with_T.codes (sent s t b.m) (collected s t b.m) (agreed_fits t (sent s t b.m) (collected s t b.m) (journal s b.m) agree) agree.carried
-      done.commit b v z e (old.entries b.m) (new.entries b.m) at (more.0, more.1)
+      done.commit b v z e (old.entries b.m) (new.entries b.m) at ((grown b.m).0, (grown b.m).1) in
+      (course_of (site_of law s settled t b.m T with_T) b done.commit v z e (entered (old.entries b.m)) (entered (new.entries b.m)) asked, at.ends)
 
   each_in : EachBranch In bs done.votes.items is.course.seconds done.endings.items
   each_in =
@@ -269,9 +235,9 @@ module _ (law : Tabled) (opens : (s : Settling) (m : ℕ) → IsSettled s → (T
   -- what became of them
   pub as_shown : AreLeftOrDecided s t (branches_of c) (entered_so_far old) (entered_so_far new) → IsAsShown s t (branches_of c) old done
   as_shown alone =
-      as_shown_by law opens s t bs old done (unopposed t c done old new is)
+      as_shown_by law opens s t bs old new done (unopposed t c done old new is)
       (each_and (λ b v e. Fated law opens s t b (length (old.entries b.m)) v e) (Ends done.commit) bs done.votes.items done.endings.items
-      (each_fated law opens s t settled done bs is.course.seconds was now each_in alone) (ends_all t c done old new is))
+      (each_fated law opens s t settled done.commit (entered_so_far old) (entered_so_far new) bs done.votes.items is.course.seconds done.endings.items each_in alone) (ends_all t c done old new is))
 
   -- what they count for
   module _ (alone : AreLeftAlone s t (branches_of c) (entered_so_far old) (entered_so_far new)) where
@@ -281,10 +247,9 @@ module _ (law : Tabled) (opens : (s : Settling) (m : ℕ) → IsSettled s → (T
 
     pub counts_as_shown : CountsAsShown s t (branches_of c) old done
     counts_as_shown =
-        counts_by law opens s t bs old done (unopposed t c done old new is)
-        (each_and (Counted law opens s t old) (Ends done.commit) bs done.votes.items done.endings.items
-        (outcome_map (λ b v e. Both law opens s t b (was b.m).number (now b.m).number v e) (Counted law opens s t old) (λ b v e h. record { fated = h.fated; counts = h.counts; adders = h.adders; undecided = h.undecided }) bs done.votes.items done.endings.items
-        (each_both law opens s t settled done bs is.course.seconds was now each_in alone)) (ends_all t c done old new is))
+        counts_by law opens s t bs old new done (unopposed t c done old new is)
+        (each_and (λ b v e. Both law opens s t b (length (old.entries b.m)) (length (new.entries b.m)) v e) (Ends done.commit) bs done.votes.items done.endings.items
+        (each_both law opens s t settled done.commit (entered_so_far old) (entered_so_far new) bs done.votes.items is.course.seconds done.endings.items each_in alone) (ends_all t c done old new is))
 
 -- ---- line by line
 

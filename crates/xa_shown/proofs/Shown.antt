@@ -27,7 +27,8 @@ use Rattle.xa_driver.specs.Decision.{is_yes, is_read, is_no, decides_commit, has
 use Rattle.xa_driver.specs.Endings.{second_op, third_op, yes_ending, no_ending, is_out_of_reach, is_heuristic}
 use Rattle.xa_driver.specs.Course.{AsksFor, AtBranch}
 use Rattle.xa_driver.specs.Trace.{EachBranch, decision_of}
-use Rattle.xa_atomicity.proofs.Aborts.{IsNoCommit, on_abort, on_forget}
+use Rattle.xa_atomicity.proofs.Aborts.{IsNoCommit}
+use Rattle.xa_atomicity.proofs.Asked.{second_so, third_so}
 use Rattle.xa_driver.proofs.Mapped.{Any, IsAskedFor, any_asked, for_by, rest_by}
 use Rattle.xa_shown.proofs.Adds.{Adds, adds_none, carries_on, decides_adds, takes_adds}
 use Rattle.xa_words.specs.Tran.{TranName}
@@ -293,7 +294,7 @@ pub aborts_commit_none : (t : ℕ) (c : CommitAll TranName) (done : Outcome) (ol
 aborts_commit_none t c done old new is aborts m =
     let adds = decides_adds IsNoCommit m t c done old new (λ k d lt. record {
       prepares = λ here. refl;
-      obeys = λ here v. subst (λ q. IsAskedFor IsNoCommit (second_op q (get_or (branches_of c) k d).xid v)) (sym aborts) (on_abort (get_or (branches_of c) k d).xid v);
-      forgets = λ here s. on_forget (get_or (branches_of c) k d).xid s;
+      obeys = λ here v. subst (λ q. IsAskedFor IsNoCommit (second_op q (get_or (branches_of c) k d).xid v)) (sym aborts) (second_so IsNoCommit false (get_or (branches_of c) k d).xid v refl);
+      forgets = λ here s. third_so IsNoCommit (get_or (branches_of c) k d).xid s (λ _. refl);
     }) is in
     (adds.0, adds.1, list_any_none (λ (e : Entry). is_commit e.0.op) adds.0 adds.2)

@@ -1,6 +1,6 @@
 use Rattle.std.proofs.lemmas.List.Elements.{All-contains}
 use Rattle.xa_atomicity.specs.Resolution.{TellsTheOutcome}
-use Rattle.xa_atomicity.proofs.OutcomeFates.{outcomes_are_fates_law}
+use Rattle.xa_atomicity.proofs.OutcomeFates.{outcomes_law}
 use Rattle.xa_atomicity.proofs.Gone.{gone_finished}
 use Rattle.xa_atomicity.proofs.fates.finished_outcomes_leave_no_branch.Goals as goal
 
@@ -8,5 +8,5 @@ pub returns : goal.returns
 returns c s q settled made scan only r among finished =
     let law = c.tables_keep_to_their_laws.ensures in
     let first = c.settled_journals_follow_the_tables.ensures.first in
-    let told = outcomes_are_fates_law law first s q settled made scan only in
+    let told = outcomes_law law first s q settled made scan only in
     gone_finished law first s settled r finished (All-contains (TellsTheOutcome s) q.outcomes r told among)

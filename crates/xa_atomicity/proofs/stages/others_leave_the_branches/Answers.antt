@@ -1,6 +1,5 @@
-use Rattle.xa_atomicity.proofs.Between.{commit_leaves, forgetting_leaves, forgotten_leaves, leaves_on, prepared_leaves, preparing_leaves, resolve_leaves}
-use Rattle.xa_atomicity.proofs.Between.{telling_leaves, told_leaves, unnamed_leaves}
-use Rattle.xa_atomicity.proofs.Staged.{nothing_between}
+use Rattle.xa_atomicity.proofs.Between.{commit_leaves, far_leaves, firsts_clear, forgot_clear, leaves_on, resolve_leaves, told_clear, unnamed_leaves}
+use Rattle.xa_atomicity.proofs.Staged.{asks_so_far, nothing_between}
 use Rattle.xa_atomicity.proofs.stages.others_leave_the_branches.Goals as goal
 
 pub returns-clause-nothing : goal.returns-clause-nothing
@@ -19,23 +18,25 @@ pub returns-clause-committed : goal.returns-clause-committed
 returns-clause-committed c = λ bs cs desk new log later done rising others made. commit_leaves bs cs rising others desk new log later done made
 
 pub returns-clause-preparing : goal.returns-clause-preparing
-returns-clause-preparing c = λ bs cs desk now p rising others first far. preparing_leaves bs cs rising others desk now p first far
+returns-clause-preparing c = λ bs cs desk now p rising others first far.
+    far_leaves bs cs rising others p.round.asks.items desk.ledgers now (λ x o. firsts_clear x cs p.round.asks.items o first.same) far
 
 pub returns-clause-prepared : goal.returns-clause-prepared
-returns-clause-prepared c = λ bs cs old new p rising others first. prepared_leaves bs cs rising others old new p first
+returns-clause-prepared c = λ bs cs old new p rising others first.
+    far_leaves bs cs rising others p.round.asks.items old new (λ x o. firsts_clear x cs p.round.asks.items o first.same) (asks_so_far p.round.asks.items old new first.asked)
 
 pub returns-clause-telling : goal.returns-clause-telling
-returns-clause-telling c =
-    λ bs cs start mid desk now log later p d t rising others first second third far. telling_leaves bs cs rising others start mid log later p d first second desk now t third far
+returns-clause-telling c = λ bs cs start mid desk now log later p d t rising others first second third far.
+    far_leaves bs cs rising others t.round.asks.items desk.ledgers now (told_clear bs cs rising others start mid log later p d first second t.round.asks.items third.same) far
 
 pub returns-clause-told : goal.returns-clause-told
-returns-clause-told c =
-    λ bs cs start mid old new log later p d t rising others first second third. told_leaves bs cs rising others start mid log later p d first second old new t third
+returns-clause-told c = λ bs cs start mid old new log later p d t rising others first second third.
+    far_leaves bs cs rising others t.round.asks.items old new (told_clear bs cs rising others start mid log later p d first second t.round.asks.items third.same) (asks_so_far t.round.asks.items old new third.asked)
 
 pub returns-clause-forgetting : goal.returns-clause-forgetting
-returns-clause-forgetting c =
-    λ bs cs start mid tell late desk now log later p d t f rising others first second third last far. forgetting_leaves bs cs rising others start mid log later p d first second tell late t third desk now f last far
+returns-clause-forgetting c = λ bs cs start mid tell late desk now log later p d t f rising others first second third last far.
+    far_leaves bs cs rising others f.round.asks.items desk.ledgers now (forgot_clear bs cs rising others start mid log later p d first second tell late t third f.round.asks.items last.same) far
 
 pub returns-clause-forgotten : goal.returns-clause-forgotten
-returns-clause-forgotten c =
-    λ bs cs start mid tell late old new log later p d t done rising others first second third last. forgotten_leaves bs cs rising others start mid log later p d first second tell late t third old new done last
+returns-clause-forgotten c = λ bs cs start mid tell late old new log later p d t done rising others first second third last.
+    far_leaves bs cs rising others last.thirds old new (forgot_clear bs cs rising others start mid log later p d first second tell late t third last.thirds last.same) (asks_so_far last.thirds old new last.asked)

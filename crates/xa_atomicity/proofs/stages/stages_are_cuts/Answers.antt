@@ -1,4 +1,7 @@
-use Rattle.xa_atomicity.proofs.Staged.{decided_is_cut, prepared_is_cut, told_is_cut, undecided_is_cut}
+use Rattle.xa_driver.proofs.Gathering.{same_itself}
+use Rattle.std.proofs.Common.{map}
+use Rattle.xa_driver.specs.Rounds.{third_ask}
+use Rattle.xa_atomicity.proofs.Staged.{decided_is_cut, forgetting_cut, none_so_far, prepared_is_cut, undecided_is_cut}
 use Rattle.xa_atomicity.proofs.stages.stages_are_cuts.Goals as goal
 
 pub returns-clause-prepared : goal.returns-clause-prepared
@@ -8,8 +11,8 @@ pub returns-clause-decided : goal.returns-clause-decided
 returns-clause-decided c = λ bs desk mid new log later p d may first between second. decided_is_cut bs desk mid new log later p d may first between second
 
 pub returns-clause-told : goal.returns-clause-told
-returns-clause-told c =
-    λ bs desk mid tell late new log later p d t may first between second third after. told_is_cut bs desk mid tell late new log later p d t may first between second third after
+returns-clause-told c = λ bs desk mid tell late new log later p d t may first between second third after.
+    forgetting_cut bs desk mid tell log later p d may first between second late new t third after new (map third_ask t.round.asks.items) (same_itself (map third_ask t.round.asks.items)) (none_so_far (map third_ask t.round.asks.items) new)
 
 pub returns-clause-undecided : goal.returns-clause-undecided
 returns-clause-undecided c =
