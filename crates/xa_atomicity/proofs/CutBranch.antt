@@ -1,4 +1,5 @@
 -- What a branch stands at as the opening ends in which its commit was cut short.
+use Rattle.xa_atomicity.proofs.CutVotes.{vote_there}
 use Rattle.xa_atomicity.proofs.Voting.{ends, leaves, tells}
 use Rattle.xa_atomicity.proofs.Leading.{waits, unforgotten, over}
 use Rattle.xa_atomicity.proofs.Sites.{Site, StandsIn, above, at_place, below, later_place, stands_by}
@@ -123,11 +124,7 @@ pub vote_is : (P : Op → Type 0) (b : Branch) (v w : Code) (a a' : LedgerView) 
     → Begins a'.collected pairs → All (λ p. slice_get entries p.0 ≡ Some p) pairs → Contains pairs (length a.sent, w) → v ≡ w
 vote_is P b v w a a' entries pairs h open_ begins answered agreed =
     let Q : ℕ × Code → Type 0 = λ p. slice_get entries p.0 ≡ Some p in
-    let took : Begins (a.collected ++ (length a.sent, v) ∷ []) a'.collected =
-    subst (λ (l : LedgerView). Begins l.collected a'.collected) (first_is b v a open_) h.rest.collected in
-    let all : Begins (a.collected ++ (length a.sent, v) ∷ []) pairs = begins_on (a.collected ++ (length a.sent, v) ∷ []) a'.collected pairs took begins in
-    let place : pairs ≡ a.collected ++ (length a.sent, v) ∷ all.0 = all.1 ∙ append_assoc a.collected ((length a.sent, v) ∷ []) all.0 in
-    same_code (slice_get entries (length a.sent)) (length a.sent) (length a.sent) v w (all_mid Q a.collected all.0 (length a.sent, v) (subst (All Q) place answered)) (All-contains Q pairs (length a.sent, w) answered agreed)
+    same_code (slice_get entries (length a.sent)) (length a.sent) (length a.sent) v w (All-contains Q pairs (length a.sent, v) answered (vote_there P b v a a' pairs open_ h begins)) (All-contains Q pairs (length a.sent, w) answered agreed)
 
 -- ---- by how far it came
 
@@ -205,10 +202,6 @@ module _ {t : ℕ} {T : Tables} {H : History} (s : Site t T H) (x : XidName) (a 
   module _ (L : Type 0) (h : HasSentOnly commit L x a a') where
     ops : s.ops ≡ a.sent ++ P ∷ (h.rest ++ grown.0)
     ops = grown.1 ∙ ap (λ l. l ++ grown.0) h.sent ∙ append_assoc a.sent (P ∷ h.rest) grown.0
-
-    -- its Prepare stands there with the code that was answered
-    pub prepare_at : (c : Code) → slice_get (answers t (coded H T)) n ≡ Some (n, c) → StandsIn t n P c T H
-    prepare_at c got = stands_by s n P c (ap (λ l. slice_get l n) ops ∙ at_seam a.sent P (h.rest ++ grown.0)) got
 
     abbrev IsLeading : Request → Type 0
     IsLeading r = r.thread ≡ t → IsFromTo (IsTowards commit L x) (length (a.sent ++ P ∷ [])) (length (a.sent ++ P ∷ []) + length h.rest) r.number r.op

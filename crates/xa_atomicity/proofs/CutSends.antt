@@ -1,4 +1,5 @@
 -- What a commit sent that was cut short: by the record no Commit, or no Rollback.
+use Rattle.xa_atomicity.proofs.Requests.{none_all}
 use Rattle.xa_atomicity.proofs.Records.{recorded_is, none_on_abort}
 use Rattle.xa_atomicity.proofs.Asked.{second_so, third_so}
 use Rattle.std.specs.Prelude.{◌&&◌, is_some, ◌⊎◌}
@@ -114,18 +115,13 @@ no_rollback_so : (commit : Bool) (x : XidName) (v : Code) → commit ≡ true �
 no_rollback_so true x v h P so = second_so P true x v (so (Commit x false) refl)
 no_rollback_so false x v h P so = cc
 
-none_yes : (commit : Bool) (vs : List Code) → list_any is_yes vs ≡ false → All (NotToCommit commit) vs
-none_yes commit [] e = All-nil (NotToCommit commit)
-none_yes commit (v ∷ vs) e =
-    let parts = or_parts (is_yes v) (list_any is_yes vs) e in All-cons (NotToCommit commit) v vs (inr parts.0) (none_yes commit vs parts.1)
-
 module _ (tran : TranName) (log later : LogState) (absent : record_of log tran ≡ None) (votes : List Code) (logged : Bool) (managers : List Bool)
     (logs : Logs tran managers votes logged log later) where
   -- where there is no record, it was decided to abort, or no branch voted to commit
   pub undecided_so : is_recorded later tran ≡ false → All (λ v. (decision_of votes logged ≡ false) ⊎ (is_yes v ≡ false)) votes
   undecided_so off =
       by_bool (λ _. All (NotToCommit (decision_of votes logged)) votes) (has_yes votes)
-      (λ some j d lt. inl (recorded_is tran managers votes logged log later absent some logs ∙ off)) (λ none. none_yes (decision_of votes logged) votes none)
+      (λ some j d lt. inl (recorded_is tran managers votes logged log later absent some logs ∙ off)) (λ none j d lt. inr (none_all is_yes votes none j d lt))
 
   -- where there is one, it was decided to commit
   pub decided_so : is_recorded later tran ≡ true → decision_of votes logged ≡ true

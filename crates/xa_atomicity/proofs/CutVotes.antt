@@ -1,4 +1,9 @@
 -- The votes that a commit got which was cut short, and what it leaves in the log.
+use Rattle.xa_base.proofs.Lists.{begins_on}
+use Rattle.xa_atomicity.proofs.Placing.{at_seam}
+use Rattle.std.proofs.lemmas.List.Elements.{Contains-append_right}
+use Rattle.std.specs.List.{Contains}
+use Rattle.std.proofs.Common.{◌+◌, zero, slice_get, ◌<◌, arith}
 use Rattle.xa_base.proofs.Truth.{by_bool}
 use Rattle.std.proofs.lemmas.Bool.{both_ways, false_from_ne_true, or_from}
 use Rattle.std.proofs.Common.{◌≡◌, ℕ, ◌+◌, Bool, true, false, ◌==◌, ◌&&◌, ◌||◌, List, [], ◌∷◌, ◌++◌, length, append-nil, append_assoc, get_or, sym, refl, ap}
@@ -98,6 +103,20 @@ pub prepare_sent : (P : Op → Type 0) (b : Branch) (v : Code) (a a' : LedgerVie
     → a'.sent ≡ a.sent ++ Prepare b.xid ∷ h.rest.more
 prepare_sent P b v a a' open_ h =
     h.rest.sent ∙ ap (λ (l : LedgerView). l.sent ++ h.rest.more) (first_is b v a open_) ∙ append_assoc a.sent (Prepare b.xid ∷ []) h.rest.more
+
+pub prepare_there : (P : Op → Type 0) (b : Branch) (v : Code) (a a' : LedgerView) → learnt_shut a ≡ false → HasVoted P b v a a'
+    → slice_get a'.sent (length a.sent) ≡ Some (Prepare b.xid)
+prepare_there P b v a a' open_ h = ap (λ l. slice_get l (length a.sent)) (prepare_sent P b v a a' open_ h) ∙ at_seam a.sent (Prepare b.xid) h.rest.more
+
+-- and the vote was collected with its number
+pub vote_there : (P : Op → Type 0) (b : Branch) (v : Code) (a a' : LedgerView) (pairs : List (ℕ × Code)) → learnt_shut a ≡ false → HasVoted P b v a a'
+    → Begins a'.collected pairs → Contains pairs (length a.sent, v)
+vote_there P b v a a' pairs open_ h begins =
+    let took : Begins (a.collected ++ (length a.sent, v) ∷ []) a'.collected =
+    subst (λ (l : LedgerView). Begins l.collected a'.collected) (first_is b v a open_) h.rest.collected in
+    let all = begins_on (a.collected ++ (length a.sent, v) ∷ []) a'.collected pairs took begins in
+    subst (λ (l : List (ℕ × Code)). Contains l (length a.sent, v)) (sym (all.1 ∙ append_assoc a.collected ((length a.sent, v) ∷ []) all.0))
+    (Contains-append_right a.collected ((length a.sent, v) ∷ all.0) (length a.sent, v) (zero, omega arith, refl))
 
 -- ---- all of them
 

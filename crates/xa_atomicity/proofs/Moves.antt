@@ -1,4 +1,5 @@
 -- What the requests of one thread with numbers in a range move, in a history.
+use Rattle.xa_atomicity.proofs.Requests.{none_all}
 use Rattle.std.proofs.lemmas.Bool.{and_left, and_right, false_from_ne_true}
 use Rattle.xa_base.proofs.Truth.{by_bool}
 use Rattle.std.specs.Prelude.{ℤ, pos, ◌+ℤ◌, nat_le, if◌then◌else◌}
@@ -60,7 +61,7 @@ moved_both accounts passes (r ∷ h) g T =
     regroup v a b c e = omega (arith, ints)
 
 -- what is no Commit moves nothing
-unmoving : (accounts : Accounts) (op : Op) (c : Code) (T : Tables) → is_commit op ≡ false → moved_by accounts op c T ≡ pos 0
+pub unmoving : (accounts : Accounts) (op : Op) (c : Code) (T : Tables) → is_commit op ≡ false → moved_by accounts op c T ≡ pos 0
 unmoving accounts (Commit x one_phase) c T e = cc
 unmoving accounts (Heur x commits) c T e = ap (λ b. if b then held_by accounts x T else pos 0) (ap (λ b. is_done c && b) e ∙ and-false (is_done c))
 unmoving accounts op c T e = refl
@@ -180,10 +181,4 @@ module _ (t : ℕ) where
       let w = within_parts t a b (get_or h k d) here in
       let up = w.1 in
       let down = w.2 in
-      own_between t (λ op. is_commit op ≡ false) h pre more post e (each_none more none) k d lt w.0 (omega (arith, up, from)) (omega (arith, down, to))
-    where
-      each_none : (ops : List Op) → list_any is_commit ops ≡ false → All (λ op. is_commit op ≡ false) ops
-      each_none [] none = All-nil (λ (op : Op). is_commit op ≡ false)
-      each_none (op ∷ ops) none =
-          let parts = or_parts (is_commit op) (list_any is_commit ops) none in
-          All-cons (λ (op : Op). is_commit op ≡ false) op ops parts.0 (each_none ops parts.1)
+      own_between t (λ op. is_commit op ≡ false) h pre more post e (none_all is_commit more none) k d lt w.0 (omega (arith, up, from)) (omega (arith, down, to))

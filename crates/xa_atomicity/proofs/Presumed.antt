@@ -1,4 +1,5 @@
 -- One outcome for each global transaction whose commit was cut short, over openings one after another.
+use Rattle.xa_atomicity.proofs.Settled.{sent_stands}
 use Rattle.xa_atomicity.proofs.Sites.{Site, StandsIn}
 use Rattle.std.specs.Prelude.{◌&&◌, not, option_map, is_some, unwrap_or, cond}
 use Rattle.std.proofs.Common.{◌≡◌, ◌≢◌, ℕ, zero, ◌+◌, ◌<◌, Bool, true, false, ◌==◌, ◌||◌, if◌then◌else◌, List, [], ◌∷◌, ◌++◌, length, get_or, slice_get, sym}
@@ -51,7 +52,7 @@ use Rattle.xa_atomicity.specs.Tabled.{Tabled}
 use Rattle.xa_driver.specs.Trace.{AreBranchesRising, EachBranch, HaveRoom, IsTranOf, Logs, appended, decision_of, failed, unwanted}
 use Rattle.xa_atomicity.specs.Worth.{IsUnlisted, SharesOver}
 use Rattle.xa_atomicity.proofs.BranchEnds.{Follows, IsMarked, branch_follows}
-use Rattle.xa_atomicity.proofs.CutBranch.{HasSentOnly, WasTold, asked_only, ended_voted_so, open_so, sent_end, sent_fates, told_end, told_voted_so, prepare_at}
+use Rattle.xa_atomicity.proofs.CutBranch.{HasSentOnly, WasTold, asked_only, ended_voted_so, open_so, sent_end, sent_fates, told_end, told_voted_so}
 use Rattle.xa_atomicity.proofs.CutBranch.{vote_is, voted_only, was_told}
 use Rattle.xa_atomicity.proofs.CutVotes.{Ended, HasVoted, branch_votes}
 use Rattle.xa_atomicity.proofs.Leading.{IsTowards}
@@ -227,17 +228,6 @@ module _ (law : Tabled) (first : (s : Settling) (m : ℕ) (T : Tables) → IsSet
     abbrev site : Site t T H
     site = site_of law s kept_o.settled t m T with_T
 
-    abbrev Answered : ℕ × Code → Type 0
-    Answered p = slice_get (answers t (coded H T)) p.0 ≡ Some p
-
-    answered : All Answered (collected s t m)
-    answered = answered_of law s kept_o.settled t m T with_T
-
-    agreed : Answered (n, Done)
-    agreed =
-        All-contains Answered (collected s t m) (n, Done) answered
-        (subst (λ (l : List (ℕ × Code)). Contains l (n, Done)) (sym (by_ledger (ledgers_of s t) m (λ (l : LedgerView). l.collected) up.0 refl)) (r.voted b here).agreed)
-
     reached : (w : Outcome) → Contains q.outcomes w → w.m ≡ m → w.xid ≡ b.xid → w.code ≢ RmFail
     reached w there manager xid =
         All-contains (λ (z : Outcome). IsOutcomeOf k.branches z → z.code ≢ RmFail) q.outcomes w r.use_.reached there (record { branch = b; among = among.2; manager = manager; xid = xid })
@@ -266,14 +256,14 @@ module _ (law : Tabled) (first : (s : Settling) (m : ℕ) (T : Tables) → IsSet
     sent_grows : Begins (after_of b).sent (sent s t m)
     sent_grows = sent_on s t m up.0 (after_of b) grown
 
-    prepared_at : (L : Type 0) → Sent L → StandsIn t n (Prepare b.xid) Done T H
-    prepared_at L h = prepare_at site b.xid (before_of b) (after_of b) sent_grows commit only L h Done agreed
+    prepared_at : StandsIn t n (Prepare b.xid) Done T H
+    prepared_at = sent_stands law s kept_o.settled t m T with_T up.0 (after_of b) grown n (Prepare b.xid) Done (r.voted b here).asked (r.voted b here).agreed
 
     -- it was told no decision of its own, whatever its coordinator knew of it
     plain : Sent ⊥ → Result b
     plain h =
-        concludes (λ L. sent_end site b.xid (before_of b) (after_of b) sent_grows commit only h (prepared_at ⊥ h) (known_of k b) L G)
-        (λ g fits. sent_fates site b.xid (before_of b) (after_of b) sent_grows commit only ⊥ h (prepared_at ⊥ h) g)
+        concludes (λ L. sent_end site b.xid (before_of b) (after_of b) sent_grows commit only h prepared_at (known_of k b) L G)
+        (λ g fits. sent_fates site b.xid (before_of b) (after_of b) sent_grows commit only ⊥ h prepared_at g)
 
     -- it was told one
     decided : (c : Code) → is_decided c ≡ true → yes_ending commit (Some c) ≡ known_of k b → WasTold commit b.xid c (before_of b) (after_of b) → Result b
@@ -281,8 +271,8 @@ module _ (law : Tabled) (first : (s : Settling) (m : ℕ) (T : Tables) → IsSet
         let h : Sent (Unit {0}) = record { rest = z.gap ++ outcome_op commit b.xid ∷ z.rest; sent = z.sent; all = z.all } in
         concludes
         (λ L. subst (AtEnd commit (Unit {0}) L b.xid (fate b.xid G H T) H T) known
-        (told_end site b.xid (before_of b) (after_of b) sent_grows commit only (collected s t m) answered (collected_on s t m up.0 (after_of b) grown) (prepared_at (Unit {0}) h) c z is L G (law.first b.xid T)))
-        (λ g fits. sent_fates site b.xid (before_of b) (after_of b) sent_grows commit only (Unit {0}) h (prepared_at (Unit {0}) h) g)
+        (told_end site b.xid (before_of b) (after_of b) sent_grows commit only (collected s t m) (answered_of law s kept_o.settled t m T with_T) (collected_on s t m up.0 (after_of b) grown) prepared_at c z is L G (law.first b.xid T)))
+        (λ g fits. sent_fates site b.xid (before_of b) (after_of b) sent_grows commit only (Unit {0}) h prepared_at g)
 
   -- ---- all of them, by how far it came
 

@@ -1,4 +1,7 @@
 -- What is known of the requests of one thread in a history, by what it sent.
+use Rattle.std.proofs.Common.{Bool, false}
+use Rattle.std.proofs.lemmas.Bool.{or_parts}
+use Rattle.std.specs.List.{list_any}
 use Rattle.std.specs.Prelude.{cond}
 use Rattle.std.proofs.Common.{◌≡◌, ◌≢◌, ℕ, zero, suc, ◌+◌, ◌<◌, ◌≤◌, true, false, ◌==◌, List, [], ◌∷◌, ◌++◌, length, length-append, slice_get, sym, refl, ap}
 use Rattle.std.proofs.Common.{◌∙◌, subst, arith, Some}
@@ -43,6 +46,12 @@ of_ops t Q (q ∷ h) n ops e known =
                 All-cons P q h (λ _. here) (of_ops t Q h (suc n) rest tail (λ k o at. subst (λ j. Q j o) (let z : n + suc k ≡ suc n + k = omega arith in z) (known (suc k) o at)))
           ] known
     ] refl e
+
+-- a test that no element passes
+pub none_all : {A : Type 0} (p : A → Bool) (xs : List A) → list_any p xs ≡ false → All (λ x. p x ≡ false) xs
+none_all p [] none = All-nil (λ x. p x ≡ false)
+none_all p (x ∷ xs) none =
+    let parts = or_parts (p x) (list_any p xs) none in All-cons (λ y. p y ≡ false) x xs parts.0 (none_all p xs parts.1)
 
 -- so the numbers of the thread's requests rise, and are below how many there are
 pub all_later : (t : ℕ) (h : History) (n : ℕ) (ops : List Op) → of_thread t h ≡ numbered t n ops → All (λ r. r.thread ≡ t → n ≤ r.number) h

@@ -1,5 +1,6 @@
 -- One outcome for each global transaction, over openings one after another: a commit that came to its end is one that was
 -- cut short after it.
+use Rattle.xa_atomicity.proofs.CutVotes.{prepare_there, vote_there}
 use Rattle.xa_base.proofs.Truth.{by_bool}
 use Rattle.std.proofs.Common.{◌≡◌, ℕ, ◌≤◌, zero, Bool, true, false, List, [], ◌∷◌, ◌++◌, length, append_assoc, slice_get, sym, refl, ap, ◌∙◌, subst, arith}
 use Rattle.std.proofs.Common.{Option, Some, None}
@@ -94,18 +95,12 @@ module _ (law : Tabled) (first : (s : Settling) (m : ℕ) (T : Tables) → IsSet
   voted_so b positive v z e is y =
       let a : LedgerView = before_of b in
       let a' : LedgerView = after_of b in
-      let n : ℕ = length a.sent in
       let h : HasVoted Any b v a a' = any_voted c.done.commit b v z a a' (ended_so c.done.commit b v z e a a' is) in
       let open_ : learnt_shut a ≡ false = shut_unless v a h.prepared y in
-      let took : Begins (a.collected ++ (n, v) ∷ []) a'.collected =
-      subst (λ (l : LedgerView). Begins l.collected a'.collected) (first_is b v a open_) h.rest.collected in
-      let all : Begins (a.collected ++ (n, v) ∷ []) (ledger (ledgers_of s c.thread) b.m).collected =
-      begins_on (a.collected ++ (n, v) ∷ []) a'.collected (ledger (ledgers_of s c.thread) b.m).collected took (use_.grown.each b.m positive).collected in
+      let pairs : List (ℕ × Code) = (ledger (ledgers_of s c.thread) b.m).collected in
       record {
-        asked = ap (λ l. slice_get l n) (prepare_sent Any b v a a' open_ h) ∙ at_seam a.sent (Prepare b.xid) h.rest.more;
-        agreed =
-            subst (λ (l : List (ℕ × Code)). Contains l (n, Done)) (sym (all.1 ∙ append_assoc a.collected ((n, v) ∷ []) all.0 ∙ ap (λ w. a.collected ++ (n, w) ∷ all.0) (yes_is v y)))
-            (Contains-append_right a.collected ((n, Done) ∷ all.0) (n, Done) (zero, omega arith, refl));
+        asked = prepare_there Any b v a a' open_ h;
+        agreed = subst (λ w. Contains pairs (length a.sent, w)) (yes_is v y) (vote_there Any b v a a' pairs open_ h (use_.grown.each b.m positive).collected);
       }
 
   -- it is left only where the desk has learnt that its manager is shut

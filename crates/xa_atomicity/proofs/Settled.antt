@@ -1,4 +1,9 @@
 -- What the branches of a call came to in a settled opening.
+use Rattle.xa_atomicity.proofs.Sites.{StandsIn, stands_by}
+use Rattle.xa_words.specs.declared.request.Op.{Op}
+use Rattle.std.proofs.lemmas.List.Elements.{All-contains}
+use Rattle.std.specs.List.{Contains}
+use Rattle.std.proofs.Common.{zero, suc}
 use Rattle.std.proofs.lemmas.List.Elements.{All-head, All-tail}
 use Rattle.xa_atomicity.proofs.Courses.{Course, course_of}
 use Rattle.std.proofs.Common.{◌≡◌, ℕ, suc, ◌-◌, ◌<◌, ◌≤◌, Bool, ◌&&◌, if◌then◌else◌, List, [], ◌∷◌, length, ◌++◌, append_assoc, slice_get, sym, refl, ap, ◌∙◌}
@@ -71,6 +76,11 @@ pub collected_on : (s : Settling) (t m : ℕ) → 1 ≤ m → (a : LedgerView) �
 collected_on s t m positive a grown =
     subst (Begins a.collected) (sym (by_ledger (ledgers_of s t) m (λ (l : LedgerView). l.collected) positive refl)) grown.collected
 
+got_on : {A : Type 0} (xs ys : List A) (n : ℕ) (y : A) → slice_get xs n ≡ Some y → slice_get (xs ++ ys) n ≡ Some y
+got_on [] ys n y e = absurd (cc)
+got_on (x ∷ xs) ys zero y e = e
+got_on (x ∷ xs) ys (suc n) y e = got_on xs ys n y e
+
 -- a manager of a settled opening, and what the thread collected from it
 module _ (law : Tabled) (s : Settling) (settled : IsSettled s) (t m : ℕ) (T : Tables) (with_T : IsOpenedWith s m T) where
   abbrev pub site_of : Site t T (history_of s m)
@@ -78,6 +88,15 @@ module _ (law : Tabled) (s : Settling) (settled : IsSettled s) (t m : ℕ) (T : 
 
   pub answered_of : All (λ p. slice_get (answers t (coded (history_of s m) T)) p.0 ≡ Some p) (collected s t m)
   answered_of = subst (λ (J : List Entry). All (λ (p : ℕ × Code). slice_get (answers t J) p.0 ≡ Some p) (collected s t m)) with_T.codes (settled.agree t m).coded
+
+  -- what was sent with a number, and collected with a code, stands in the history
+  pub sent_stands : 1 ≤ m → (a : LedgerView) → HasGrown a (ledger (ledgers_of s t) m) → (n : ℕ) (op : Op) (c : Code) → slice_get a.sent n ≡ Some op
+      → Contains (ledger (ledgers_of s t) m).collected (n, c) → StandsIn t n op c T (history_of s m)
+  sent_stands positive a grown n op c asked agreed =
+      let more = sent_on s t m positive a grown in
+      stands_by site_of n op c (ap (λ l. slice_get l n) more.1 ∙ got_on a.sent more.0 n op asked)
+      (All-contains (λ (p : ℕ × Code). slice_get (answers t (coded (history_of s m) T)) p.0 ≡ Some p) (collected s t m) (n, c) answered_of
+      (subst (λ (l : List (ℕ × Code)). Contains l (n, c)) (sym (by_ledger (ledgers_of s t) m (λ (l : LedgerView). l.collected) positive refl)) agreed))
 
 -- a branch that didn't vote against is left only where it voted yes
 not_left : (commit : Bool) (vote : Code) (second : Option Code) → (is_yes vote ≡ true → is_left (ending_of commit vote second) ≡ false) → is_no vote ≡ false

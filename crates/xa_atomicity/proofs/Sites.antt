@@ -52,64 +52,43 @@ pub data AsksIn (t : ℕ) (T : Tables) (H : History) (old : Sent) (op : Op) (new
 
 -- ---- a request in its place
 
--- requests with rising numbers, parted
-record Split (t n : ℕ) (xs ys : History) (ops : List Op) : Type 0 where
+-- a request among those with rising numbers: what was sent before it and after it
+record Sides (t n : ℕ) (op : Op) (xs ys : History) (k : ℕ) (ops : List Op) : Type 0 where
   pre : List Op
   post : List Op
-  ops_are : ops ≡ pre ++ post
-  front : xs ≡ numbered t n pre
-  back : ys ≡ numbered t (n + length pre) post
+  earlier : xs ≡ numbered t k pre
+  many : k + length pre ≡ n
+  later : ys ≡ numbered t (suc n) post
+  sent : ops ≡ pre ++ op ∷ post
 
-split : (t n : ℕ) (xs ys : History) (ops : List Op) → xs ++ ys ≡ numbered t n ops → Split t n xs ys ops
-split t n [] ys ops e =
-    record { pre = []; post = ops; ops_are = refl; front = refl; back = e ∙ ap (λ k. numbered t k ops) (let z : n ≡ n + 0 = omega arith in z) }
-split t n (x ∷ xs) ys [] e = cc
-split t n (x ∷ xs) ys (op ∷ ops) e =
-    let head : x ≡ request_of t n op = cc in
-    let tail : xs ++ ys ≡ numbered t (suc n) ops = cc in
-    let s = split t (suc n) xs ys ops tail in
+sides : (t n : ℕ) (op : Op) (xs ys : History) (k : ℕ) (ops : List Op) → xs ++ request_of t n op ∷ ys ≡ numbered t k ops → Sides t n op xs ys k ops
+sides t n op [] ys k [] e = cc
+sides t n op [] ys k (o ∷ ops) e =
+    let head : request_of t n op ≡ request_of t k o = cc in
+    let tail : ys ≡ numbered t (suc k) ops = cc in
+    let number : n ≡ k = ap (λ (r : Request). r.number) head in
     record {
-      pre = op ∷ s.pre;
-      post = s.post;
-      ops_are = ap (λ l. op ∷ l) s.ops_are;
-      front = λ i. head i ∷ s.front i;
-      back = s.back ∙ ap (λ k. numbered t k s.post) (let z : suc n + length s.pre ≡ n + suc (length s.pre) = omega arith in z);
+      pre = [];
+      post = ops;
+      earlier = refl;
+      many = omega (arith, number);
+      later = tail ∙ ap (λ j. numbered t (suc j) ops) (sym number);
+      sent = ap (λ (r : Request). r.op ∷ ops) (sym head);
     }
-
--- what the thread sent before a request and after it
-record Sides {t : ℕ} {T : Tables} {H : History} (s : Site t T H) (n : ℕ) (op : Op) (before after : History) : Type 0 where
-  pub pre : List Op
-  pub post : List Op
-  pub earlier : of_thread t before ≡ numbered t 0 pre
-  pub many : length pre ≡ n
-  pub later : of_thread t after ≡ numbered t (suc n) post
-  pub sent : s.ops ≡ pre ++ op ∷ post
+sides t n op (x ∷ xs) ys k [] e = cc
+sides t n op (x ∷ xs) ys k (o ∷ ops) e =
+    let head : x ≡ request_of t k o = cc in
+    let tail : xs ++ request_of t n op ∷ ys ≡ numbered t (suc k) ops = cc in
+    let z = sides t n op xs ys (suc k) ops tail in
+    let many = z.many in
+    record { pre = o ∷ z.pre; post = z.post; earlier = λ i. head i ∷ z.earlier i; many = omega (arith, many); later = z.later; sent = ap (λ l. o ∷ l) z.sent }
 
 module _ {t : ℕ} {T : Tables} {H : History} (s : Site t T H) where
-  sides_at : (n : ℕ) (op : Op) (before after : History) → H ≡ before ++ request_of t n op ∷ after → Sides s n op before after
+  sides_at : (n : ℕ) (op : Op) (before after : History) → H ≡ before ++ request_of t n op ∷ after → Sides t n op (of_thread t before) (of_thread t after) 0 s.ops
   sides_at n op before after place =
-      let own : of_thread t before ++ request_of t n op ∷ of_thread t after ≡ numbered t 0 s.ops =
-      sym (ap (of_thread t) place ∙ filter-append (λ (q : Request). q.thread == t) before (request_of t n op ∷ after)
-      ∙ ap (λ b. of_thread t before ++ cond b (request_of t n op ∷ of_thread t after) (of_thread t after)) (eq-eqb t t refl)) ∙ s.carried in
-      let z = split t 0 (of_thread t before) (request_of t n op ∷ of_thread t after) s.ops own in
-      by_rest z.pre z.post z.ops_are z.front z.back
-    where
-      by_rest : (pre post : List Op) → s.ops ≡ pre ++ post → of_thread t before ≡ numbered t 0 pre
-          → request_of t n op ∷ of_thread t after ≡ numbered t (0 + length pre) post → Sides s n op before after
-      by_rest pre [] ops front back = cc
-      by_rest pre (o ∷ post) ops front back =
-          let head : request_of t n op ≡ request_of t (0 + length pre) o = cc in
-          let tail : of_thread t after ≡ numbered t (suc (0 + length pre)) post = cc in
-          let number : n ≡ 0 + length pre = ap (λ (r : Request). r.number) head in
-          let same : op ≡ o = ap (λ (r : Request). r.op) head in
-          record {
-            pre = pre;
-            post = post;
-            earlier = front;
-            many = omega (arith, number);
-            later = tail ∙ ap (λ k. numbered t (suc k) post) (sym number);
-            sent = ops ∙ ap (λ (q : Op). pre ++ q ∷ post) (sym same);
-          }
+      sides t n op (of_thread t before) (of_thread t after) 0 s.ops
+      (sym (ap (of_thread t) place ∙ filter-append (λ (q : Request). q.thread == t) before (request_of t n op ∷ after)
+      ∙ ap (λ b. of_thread t before ++ cond b (request_of t n op ∷ of_thread t after) (of_thread t after)) (eq-eqb t t refl)) ∙ s.carried)
 
   -- it is answered so wherever it stands
   pub answered_here : (n : ℕ) (op : Op) (before after : History) → H ≡ before ++ request_of t n op ∷ after
@@ -117,7 +96,7 @@ module _ {t : ℕ} {T : Tables} {H : History} (s : Site t T H) where
   answered_here n op before after place =
       let z = sides_at n op before after place in
       ap (λ (h : History). slice_get (answers t (coded h T)) n) place
-      ∙ answer_at t before after (request_of t n op) T n refl (ap (λ (h : History). length h) z.earlier ∙ numbered_length t 0 z.pre ∙ z.many)
+      ∙ answer_at t before after (request_of t n op) T n refl (ap (λ (h : History). length h) z.earlier ∙ numbered_length t 0 z.pre ∙ (let many = z.many in omega (arith, many)))
 
   abbrev pub at_place : (n : ℕ) (op : Op) (c : Code) → StandsIn t n op c T H → (before after : History) → H ≡ before ++ request_of t n op ∷ after
       → StandsIn t n op c T H
@@ -206,7 +185,7 @@ module _ {t : ℕ} {T : Tables} {H : History} (s : Site t T H) where
   op_of_number = of_ops t (λ k op. slice_get s.ops k ≡ Some op) H 0 s.ops s.carried (λ k op e. ap (slice_get s.ops) (let z : 0 + k ≡ k = omega arith in z) ∙ e)
 
   pub op_at : (n : ℕ) (op : Op) (c : Code) → StandsIn t n op c T H → slice_get s.ops n ≡ Some op
-  op_at n op c f = let z = sides_at s n op f.before f.after f.place in (λ i. slice_get (z.sent i) (sym z.many i)) ∙ at_seam z.pre op z.post
+  op_at n op c f = let z = sides_at s n op f.before f.after f.place in let many : n ≡ length z.pre = let e = z.many in omega (arith, e) in (λ i. slice_get (z.sent i) (many i)) ∙ at_seam z.pre op z.post
 
   -- so there is no other request of that number
   pub only_op : (n : ℕ) (op : Op) (c : Code) → StandsIn t n op c T H → All (λ r. r.thread ≡ t → r.number ≡ n → r.op ≡ op) H

@@ -84,7 +84,7 @@ module _ {t : ℕ} {T : Tables} {H : History} (site : Site t T H) (x : XidName) 
   Voted = StandsIn t n P vote T H
 
   -- what was taken before it, and that no request there has its number or a later one
-  taken : (f : Voted) → taken_before t n H ≡ f.before
+  pub taken : (f : Voted) → taken_before t n H ≡ f.before
   taken f = ap (taken_before t n) f.place ∙ taken_is t n f.before f.after (request_of t n P) refl refl (below site n P f.before f.after f.place)
 
   earlier_out : (f : Voted) (last : ℕ) → All (λ q. is_within t n last q ≡ false) f.before

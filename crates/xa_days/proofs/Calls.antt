@@ -1,4 +1,10 @@
 -- What a commit and a resolve sent, as the histories have it.
+use Rattle.xa_atomicity.proofs.Requests.{none_all}
+use Rattle.xa_atomicity.proofs.Values.{taken}
+use Rattle.xa_atomicity.proofs.Settled.{sent_on, sent_stands, site_of}
+use Rattle.xa_atomicity.proofs.Sites.{Site}
+use Rattle.xa_atomicity.specs.Tabled.{Tabled}
+use Rattle.std.proofs.lemmas.Bool.{both_ways, false_from_ne_true}
 use Rattle.std.specs.Prelude.{not}
 use Rattle.std.proofs.Common.{◌≡◌, ℕ, ◌+◌, ◌<◌, ◌≤◌, Bool, true, false, Option, Some, List, [], ◌∷◌, ◌++◌, length, get_or, slice_get, sym, refl, ap, ◌∙◌}
 use Rattle.std.proofs.Common.{subst, arith, append_assoc, length-append, ◌&&◌}
@@ -39,7 +45,7 @@ use Rattle.xa_atomicity.specs.Cut.{HasSentNone, is_commit_of, is_recorded}
 use Rattle.xa_atomicity.specs.Outcomes.{OnlyTheseOrDecisionsName}
 use Rattle.xa_atomicity.specs.Presumed.{AskedAreLeft, VotedToCommit, WasAsked}
 use Rattle.xa_atomicity.specs.Resolution.{CutCall, IsKept, IsUseIn, OnlyResolves, Opening, cuts}
-use Rattle.xa_atomicity.proofs.CutBranch.{HasSentOnly, asked_only, code_is, ended_voted_so, guide, open_so, told_voted_so, voted_only}
+use Rattle.xa_atomicity.proofs.CutBranch.{HasSentOnly, asked_only, ended_voted_so, guide, open_so, told_voted_so, voted_only}
 use Rattle.xa_atomicity.proofs.CutSends.{unrecorded_law}
 use Rattle.xa_atomicity.proofs.CutVotes.{Ended, HasVoted, branch_votes}
 use Rattle.xa_atomicity.proofs.Leading.{IsTowards, Leads}
@@ -129,7 +135,7 @@ leads_tells commit (Rollback y) z = refl
 leads_tells commit (Forget y) z = refl
 leads_tells commit op z = absurd z
 
-module _ (s : Settling) (k : CutCall) (b : Branch) (T : Tables) (settled : IsSettled s) (use_ : IsUseIn s (cuts k)) (there : Contains k.branches b)
+module _ (law : Tabled) (s : Settling) (k : CutCall) (b : Branch) (T : Tables) (settled : IsSettled s) (use_ : IsUseIn s (cuts k)) (there : Contains k.branches b)
     (voted : VotedToCommit k s b) (own : AskedAreLeft k s) (first : first_of s b.m ≡ Some T) (plain : DecidesNowhere b.xid (history_of s b.m))
     (quiet : CommitsNowhere b.xid (taken_till_asked k s b)) where
   abbrev t : ℕ
@@ -174,47 +180,28 @@ module _ (s : Settling) (k : CutCall) (b : Branch) (T : Tables) (settled : IsSet
   opened : IsOpenedWith s m T
   opened = follows_first s m T settled first
 
-  agreed : slice_get (answers t (coded H T)) n ≡ Some (n, Done)
-  agreed =
-      All-contains (λ (p : ℕ × Code). slice_get (answers t (coded H T)) p.0 ≡ Some p) (collected s t m) (n, Done)
-      (subst (λ (J : List Entry). All (λ p. slice_get (answers t J) p.0 ≡ Some p) (collected s t m)) opened.codes (settled.agree t m).coded)
-      (subst (λ (l : List (ℕ × Code)). Contains l (n, Done)) (sym (by_ledger (ledgers_of s t) m (λ (l : LedgerView). l.collected) positive refl)) voted.agreed)
-
   pub voted_in_call : VotedInCall k s b T
   voted_in_call =
-      let at = prepare_part s settled m positive t x a a' grown sends.1.rest sends.1.sent in
-      let before : History = at.1.before in
-      let after : History = at.1.after in
-      let place : H ≡ before ++ request_of t n (Prepare x) ∷ after =
-      at.1.place ∙ ap (λ j. before ++ request_of t j (Prepare x) ∷ after) (let e : 0 + n ≡ n = omega arith in e) in
-      let low : (j : ℕ) (d : Request) → j < length before → (get_or before j d).thread ≡ t → (get_or before j d).number < n = λ j d lt mine.
-      let up = all_earlier t before 0 a.sent at.1.earlier j d lt mine in omega (arith, up) in
-      let taken : taken_till_asked k s b ≡ before = ap (taken_before t n) place ∙ taken_is t n before after (request_of t n (Prepare x)) refl refl low in
+      let site : Site t T H = site_of law s settled t m T opened in
+      let f = sent_stands law s settled t m T opened positive a' grown n (Prepare x) Done voted.asked voted.agreed in
       let P : Request → Type 0 = λ r. names x r.op ≡ true → is_heur r.op ≡ false in
-      let plain_after : All P after = all_after P before (request_of t n (Prepare x)) after (subst (All P) place plain) in
+      let plain_after : All P f.after = all_after P f.before (request_of t n (Prepare x)) f.after (subst (All P) f.place plain) in
       record {
         votes = record {
-          before = before;
+          before = f.before;
           ask = request_of t n (Prepare x);
-          after = after;
-          parts = place;
+          after = f.after;
+          parts = f.place;
           asks = refl;
-          agrees = code_is s settled m positive t x a a' grown sends.0 (Unit {0}) sends.1 only before after place T Done agreed;
-          uncommitted = subst (CommitsNowhere x) taken quiet;
+          agrees = sym f.code;
+          uncommitted = subst (CommitsNowhere x) (taken site x n Done f) quiet;
           told = λ j d lt named.
-              leads_tells sends.0 (get_or after j d).op
-              (guide s settled m positive t x a a' grown sends.0 (Unit {0}) sends.1 only before after place j d lt named (plain_after j d lt named));
+              leads_tells sends.0 (get_or f.after j d).op (guide site x a a' (sent_on s t m positive a' grown) sends.0 only (Unit {0}) sends.1 Done f j d lt named (plain_after j d lt named));
         };
-        asked = sym taken;
+        asked = sym (taken site x n Done f);
       }
 
 -- ---- a commit that sent no Commit to a branch
-
-none_each : (f : Op → Bool) (ops : List Op) → list_any f ops ≡ false → All (λ op. f op ≡ false) ops
-none_each f [] none = All-nil (λ (op : Op). f op ≡ false)
-none_each f (op ∷ ops) none =
-    let parts = or_parts (f op) (list_any f ops) none in
-    All-cons (λ (op : Op). f op ≡ false) op ops parts.0 (none_each f ops parts.1)
 
 pub unsent_law : (s : Settling) (k : CutCall) (b : Branch) → IsSettled s → IsUseIn s (cuts k) → 1 ≤ b.m
     → HasSentNone (is_commit_of b.xid) (ledger k.desk.ledgers b.m) (ledger k.new b.m) → CommitsInCall k s b → CommitsNowhere b.xid (history_of s b.m)
@@ -228,17 +215,10 @@ unsent_law s k b settled use_ positive z within j d lt named =
     let size : length new.sent ≡ length old.sent + length z.more = ap (λ l. length l) z.sent ∙ length-append old.sent z.more in
     let each =
     own_between k.thread P (history_of s b.m) old.sent z.more grown.sent.0 ((settled.agree k.thread b.m).carried ∙ ap (numbered k.thread 0) ops)
-    (none_each (is_commit_of b.xid) z.more z.none) in
+    (none_all (is_commit_of b.xid) z.more z.none) in
     let r : Request = get_or (history_of s b.m) j d in
-    elim (is_commit r.op) as (λ c. is_commit r.op ≡ c → c ≡ false) [
-      | true ↦ λ on.
-          let w = within j d lt named on in
-          let no : is_commit_of b.xid r.op ≡ false = each j d lt w.thread w.from (subst (λ n. r.number < n) size w.below) in
-          let yes : is_commit_of b.xid r.op ≡ true = λ i. named i && on i in
-          let y : true ≡ false = sym yes ∙ no in
-          cc
-      | false ↦ λ off. refl
-    ] refl
+    false_from_ne_true (is_commit r.op) (λ on.
+    let w = within j d lt named on in both_ways (is_commit_of b.xid r.op) (each j d lt w.thread w.from (subst (λ n. r.number < n) size w.below)) (λ i. named i && on i))
 
 pub unrecorded_nowhere : (s : Settling) (k : CutCall) (b : Branch) (t : TranName) → IsSettled s → IsUseIn s (cuts k) → Contains k.branches b
     → IsTranOf k.branches t → is_recorded k.later t ≡ false → CommitsInCall k s b → CommitsNowhere b.xid (history_of s b.m)

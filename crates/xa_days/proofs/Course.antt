@@ -1,4 +1,7 @@
 -- The laws of one branch: one that nothing commits moves nothing, and one that votes to commit moves what it held where it is committed.
+use Rattle.std.proofs.lemmas.List.Elements.{All-cons}
+use Rattle.xa_atomicity.proofs.Placing.{fates_both, last_both}
+use Rattle.xa_atomicity.proofs.Moves.{moved_both, moved_without, unmoving}
 use Rattle.std.specs.Prelude.{◌≡◌, ◌≢◌, ℕ, ℤ, pos, ◌+ℤ◌, Bool, true, false, cond, not, ◌&&◌, ◌||◌, if◌then◌else◌, Option, None, Some, is_some, List, [], ◌∷◌}
 use Rattle.std.specs.Prelude.{◌++◌}
 use Rattle.std.specs.Prelude.{unwrap_or, refl}
@@ -7,7 +10,7 @@ use Rattle.std.specs.FinMap as finmap
 use Rattle.std.proofs.Common.{sym, ap, ◌∙◌, subst, arith, zero, suc}
 use Rattle.std.proofs.lemmas.Int.{ints}
 use Rattle.std.proofs.lemmas.List.Elements.{All-head, All-tail}
-use Rattle.std.proofs.Math.IntN.{+ℤ_idl as none_plus}
+use Rattle.std.proofs.Math.IntN.{+ℤ_idl as none_plus, +ℤ_idr as plus_none}
 use Rattle.xa_base.proofs.Sums.{total_same}
 use Rattle.xa_base.proofs.Truth.{by_if, by_bool, at_true, at_false}
 use Rattle.xa_words.specs.Xid.{XidName, xid_eq}
@@ -47,21 +50,14 @@ moved_for accounts x op c T = if names x op then moved_by accounts op c T else p
 
 -- ---- a branch that nothing commits
 
-still_for : (accounts : Accounts) (x : XidName) (op : Op) (c : Code) (T : Tables) → (names x op ≡ true → is_commit op ≡ false)
-    → moved_for accounts x op c T ≡ pos 0
-still_for accounts x (Commit y one_phase) c T quiet =
-    by_if (λ v. v ≡ pos 0) (xid_eq y x) _ _ (λ n. let z : true ≡ false = quiet n in cc) (λ n. refl)
-still_for accounts x (Heur y committing) c T quiet =
-    by_if (λ v. v ≡ pos 0) (xid_eq y x) _ _ (λ n.
-    ap (λ b. if is_done c && b then held_by accounts y T else pos 0) (quiet n)
-    ∙ by_bool (λ b. (if b && false then held_by accounts y T else pos 0) ≡ pos 0) (is_done c) (λ _. refl) (λ _. refl)) (λ n. refl)
-still_for accounts x op c T quiet = by_if (λ v. v ≡ pos 0) (names x op) (pos 0) (pos 0) (λ n. refl) (λ n. refl)
+if_same : (b : Bool) → (if b then pos 0 else pos 0) ≡ pos 0
+if_same b = by_if (λ v. v ≡ pos 0) b _ _ (λ _. refl) (λ _. refl)
+
+still_for : (accounts : Accounts) (x : XidName) (op : Op) (c : Code) (T : Tables) → is_commit op ≡ false → moved_for accounts x op c T ≡ pos 0
+still_for accounts x op c T quiet = ap (λ v. if names x op then v else pos 0) (unmoving accounts op c T quiet) ∙ if_same (names x op)
 
 pub still_on : (accounts : Accounts) (x : XidName) (h : History) (T : Tables) → CommitsNowhere x h → moved accounts (is_for x) h T ≡ pos 0
-still_on accounts x [] T quiet = refl
-still_on accounts x (r ∷ h) T quiet =
-    let P : Request → Type 0 = λ r. names x r.op ≡ true → is_commit r.op ≡ false in
-    λ i. still_for accounts x r.op (next r.thread r.op T).1 T (All-head P r h quiet) i +ℤ still_on accounts x h (next r.thread r.op T).0 (All-tail P r h quiet) i
+still_on accounts x = moved_without accounts (is_for x)
 
 pub still_over : (accounts : Accounts) (x : XidName) (hs : List History) (T : Tables) → All (CommitsNowhere x) hs
     → moved_over accounts (is_for x) hs T ≡ pos 0
@@ -82,9 +78,6 @@ record StaysGone (accounts : Accounts) (x : XidName) (op : Op) (T : Tables) (a :
   gone : IsGone x a.0
   quiet : fate_of x op a.1 ≡ None
   still : moved_for accounts x op a.1 T ≡ pos 0
-
-if_same : (b : Bool) → (if b then pos 0 else pos 0) ≡ pos 0
-if_same b = by_if (λ v. v ≡ pos 0) b _ _ (λ _. refl) (λ _. refl)
 
 module _ (accounts : Accounts) (t : ℕ) (x : XidName) (T : Tables) (gone : IsGone x T) where
   unknown : not (exists T x) ≡ true
@@ -259,9 +252,6 @@ data Course (accounts : Accounts) (x : XidName) (sum : ℤ) (h : History) (T : T
   Ended : (f : Fate) → is_outcome f ≡ true → fates_in x (coded h T) ≡ f ∷ [] → IsGone x (tables_after h T) → moved accounts (is_for x) h T ≡ due f sum
       → Course accounts x sum h T
 
-plus_none : (v : ℤ) → v +ℤ pos 0 ≡ v
-plus_none v = omega (arith, ints)
-
 after_one : {accounts : Accounts} {x : XidName} {sum : ℤ} (r : Request) (h : History) (T : Tables) → OnlyTold x h
     → (Waits accounts x sum (next r.thread r.op T).0 → Course accounts x sum h (next r.thread r.op T).0)
     → Meets accounts x sum r.op T (next r.thread r.op T) → Course accounts x sum (r ∷ h) T
@@ -333,26 +323,13 @@ left_law accounts x hs T o p told =
 
 -- ---- from before its Prepare on
 
-moved_append : (accounts : Accounts) (x : XidName) (h g : History) (T : Tables)
-    → moved accounts (is_for x) (h ++ g) T ≡ moved accounts (is_for x) h T +ℤ moved accounts (is_for x) g (tables_after h T)
-moved_append accounts x [] g T = sym (none_plus _)
-moved_append accounts x (r ∷ h) g T =
-    let one : ℤ = moved_for accounts x r.op (next r.thread r.op T).1 T in
-    let T1 : Tables = (next r.thread r.op T).0 in
-    regroup one (moved accounts (is_for x) h T1) (moved accounts (is_for x) g (tables_after h T1)) (moved accounts (is_for x) (h ++ g) T1) (moved_append accounts x h g T1)
-  where
-    regroup : (a b c d : ℤ) → d ≡ b +ℤ c → a +ℤ d ≡ (a +ℤ b) +ℤ c
-    regroup a b c d e = omega (arith, ints)
-
 -- a vote makes the fate, whatever it was
 fate_from : (x : XidName) (f : Fate) (before : History) (r : Request) (after : History) (T : Tables)
     → fate_of x r.op (next r.thread r.op (tables_after before T)).1 ≡ Some InDoubt
     → fate_in x f (coded (before ++ r ∷ after) T) ≡ fate_in x InDoubt (coded after (next r.thread r.op (tables_after before T)).0)
-fate_from x f [] r after T e = ap (λ o. last_or f (cons_option o (fates_in x (coded after (next r.thread r.op T).0)))) e
-fate_from x f (q ∷ before) r after T e =
-    let o : Option Fate = fate_of x q.op (next q.thread q.op T).1 in
-    let T1 : Tables = (next q.thread q.op T).0 in
-    sym (last_more f o (fates_in x (coded (before ++ r ∷ after) T1))) ∙ fate_from x (unwrap_or o f) before r after T1 e
+fate_from x f before r after T e =
+    let later : List Fate = fates_in x (coded after (next r.thread r.op (tables_after before T)).0) in
+    ap (last_or f) (fates_both x before (r ∷ after) T ∙ ap (λ o. fates_in x (coded before T) ++ cons_option o later) e) ∙ last_both f (fates_in x (coded before T)) (InDoubt ∷ later)
 
 undecided : (d : Option HeuristicDecision) → [] ≡ fates_when d → state_when d ≡ S3
 undecided None e = refl
@@ -394,20 +371,16 @@ has_voted accounts x f h T votes o =
     let sum : ℤ = held_by accounts x B in
     let now : fate_of x ask.op (next ask.thread ask.op B).1 ≡ Some InDoubt =
     (λ i. fate_of x (votes.asks i) (votes.agrees i)) ∙ at_true (xid_eq x x) _ None ((Decides-xid_eq x x).1 refl) in
-    let quiet : moved_for accounts x ask.op (next ask.thread ask.op B).1 B ≡ pos 0 = still_for accounts x ask.op _ B (λ n. ap is_commit votes.asks) in
+    let quiet : moved_for accounts x ask.op (next ask.thread ask.op B).1 B ≡ pos 0 = still_for accounts x ask.op _ B (ap is_commit votes.asks) in
     subst (λ (g : History). HasVoted accounts x f sum g after T U) (sym votes.parts) (record {
       waits = voted_at accounts x before ask.thread ask.op T o votes.asks votes.agrees;
       tables = tables_after-append before (ask ∷ after) T;
       fates =
           late_leave_fates x f (before ++ ask ∷ after) T ∙ fate_from x f before ask after T now ∙ sym (late_leave_fates x InDoubt after U);
       moves =
-          moved_append accounts x before (ask ∷ after) T
+          moved_both accounts (is_for x) before (ask ∷ after) T
           ∙ (λ i. still_on accounts x before T votes.uncommitted i +ℤ (quiet i +ℤ moved accounts (is_for x) after U)) ∙ none_plus _ ∙ none_plus _;
     })
-
-all_of : (x : XidName) (g : History) (gs : List History) → OnlyTold x g → All (OnlyTold x) gs → All (OnlyTold x) (g ∷ gs)
-all_of x g gs one rest zero d lt = one
-all_of x g gs one rest (suc k) d lt = rest k d (omega arith)
 
 module _ (accounts : Accounts) (x : XidName) (f : Fate) (h : History) (later : List History) (T : Tables) (votes : Votes x h T) (o : IsOpening T)
     (told : All (OnlyTold x) later) where
@@ -418,7 +391,7 @@ module _ (accounts : Accounts) (x : XidName) (f : Fate) (h : History) (later : L
   v = has_voted accounts x f h T votes o
 
   over : CourseOver accounts x (voted_sum accounts x h T votes) (votes.after ∷ later) U
-  over = course_over accounts x (voted_sum accounts x h T votes) (votes.after ∷ later) U v.waits (all_of x votes.after later votes.told told)
+  over = course_over accounts x (voted_sum accounts x h T votes) (votes.after ∷ later) U v.waits (All-cons (OnlyTold x) votes.after later votes.told told)
 
   same_fate : fate_left x f (h ∷ later) T ≡ fate_left x InDoubt (votes.after ∷ later) U
   same_fate = λ i. fate_left x (reopened_fate (v.fates i)) later (reopened (v.tables i))

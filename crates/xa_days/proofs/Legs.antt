@@ -1,4 +1,8 @@
 -- The branches of a commit come out by the log.
+use Rattle.std.proofs.lemmas.List.Elements.{All-cons}
+use Rattle.xa_atomicity.proofs.Values.{taken}
+use Rattle.xa_atomicity.proofs.Settled.{sent_stands, site_of}
+use Rattle.xa_atomicity.specs.Tabled.{Tabled}
 use Rattle.std.specs.Prelude.{if◌then◌else◌}
 use Rattle.std.proofs.Common.{◌≡◌, ℕ, pos, zero, suc, ◌+◌, ◌<◌, ◌≤◌, true, false, Some, List, [], ◌∷◌, ◌++◌, length, get_or, slice_get, sym, refl, ap, ◌∙◌}
 use Rattle.std.proofs.Common.{subst, arith}
@@ -55,35 +59,15 @@ after_seam [] (z ∷ rest) y e = (rest, ap (λ w. w ∷ rest) (some_same z y e))
 after_seam (x ∷ xs) more y e = after_seam xs more y e
 
 -- a branch that only read held nothing
-read_nothing : (accounts : List (List ℕ × ℕ)) (s : Settling) (k : CutCall) (b : Branch) (T : Tables) → IsSettled s → IsUseIn s (cuts k) → 1 ≤ b.m
+read_nothing : (law : Tabled) (accounts : List (List ℕ × ℕ)) (s : Settling) (k : CutCall) (b : Branch) (T : Tables) → IsSettled s → IsUseIn s (cuts k) → 1 ≤ b.m
     → first_of s b.m ≡ Some T → OnlyRead k s b → asked_sum accounts k s T b ≡ pos 0
-read_nothing accounts s k b T settled use_ positive first z =
+read_nothing law accounts s k b T settled use_ positive first z =
     let t : ℕ = k.thread in
-    let x : XidName = b.xid in
-    let a : LedgerView = ledger k.desk.ledgers b.m in
-    let a' : LedgerView = ledger k.new b.m in
-    let n : ℕ = length a.sent in
-    let H : History = history_of s b.m in
-    let grown : HasGrown a' (ledger (ledgers_of s t) b.m) = use_.grown.each b.m positive in
-    let rest = after_seam a.sent z.untold.more (Prepare x) (ap (λ l. slice_get l n) (sym z.untold.sent) ∙ z.asked) in
-    let at = prepare_part s settled b.m positive t x a a' grown rest.0 (z.untold.sent ∙ ap (λ l. a.sent ++ l) rest.1) in
-    let before : History = at.1.before in
-    let after : History = at.1.after in
-    let place : H ≡ before ++ request_of t n (Prepare x) ∷ after =
-    at.1.place ∙ ap (λ j. before ++ request_of t j (Prepare x) ∷ after) (let e : 0 + n ≡ n = omega arith in e) in
-    let low : (j : ℕ) (d : Request) → j < length before → (get_or before j d).thread ≡ t → (get_or before j d).number < n = λ j d lt mine.
-    let up = all_earlier t before 0 a.sent at.1.earlier j d lt mine in omega (arith, up) in
-    let taken : taken_till_asked k s b ≡ before = ap (taken_before t n) place ∙ taken_is t n before after (request_of t n (Prepare x)) refl refl low in
+    let n : ℕ = length (ledger k.desk.ledgers b.m).sent in
     let opened : IsOpenedWith s b.m T = follows_first s b.m T settled first in
-    let got : slice_get (answers t (coded H T)) n ≡ Some (n, RdOnly) =
-    All-contains (λ (p : ℕ × Code). slice_get (answers t (coded H T)) p.0 ≡ Some p) (collected s t b.m) (n, RdOnly)
-    (subst (λ (J : List Entry). All (λ p. slice_get (answers t J) p.0 ≡ Some p) (collected s t b.m)) opened.codes (settled.agree t b.m).coded)
-    (subst (λ (l : List (ℕ × Code)). Contains l (n, RdOnly)) (sym (by_ledger (ledgers_of s t) b.m (λ (l : LedgerView). l.collected) positive refl)) z.agreed) in
-    let code : (next t (Prepare x) (tables_after before T)).1 ≡ RdOnly =
-    same_code (slice_get (answers t (coded H T)) n) n n _ RdOnly
-    (ap (λ (g : History). slice_get (answers t (coded g T)) n) place
-    ∙ answer_at t before after (request_of t n (Prepare x)) T n refl (ap (λ (g : History). length g) at.1.earlier ∙ numbered_length t 0 a.sent)) got in
-    ap (λ (g : History). held_by accounts x (tables_after g T)) taken ∙ read_law accounts t x (tables_after before T) code
+    let f = sent_stands law s settled t b.m T opened positive (ledger k.new b.m) (use_.grown.each b.m positive) n (Prepare b.xid) RdOnly z.asked z.agreed in
+    ap (λ (g : History). held_by accounts b.xid (tables_after g T)) (taken (site_of law s settled t b.m T opened) b.xid n RdOnly f)
+    ∙ read_law accounts t b.xid (tables_after f.before T) (sym f.code)
 
 -- over later openings
 all_histories : (P : History → Type 0) (m : ℕ) (os : List Opening) → All (λ o. P (history_of o.settled m)) os → All P (histories m os)
@@ -91,11 +75,7 @@ all_histories P m [] all k d lt = absurd (omega arith)
 all_histories P m (o ∷ os) all zero d lt = All-head (λ (q : Opening). P (history_of q.settled m)) o os all
 all_histories P m (o ∷ os) all (suc k) d lt = all_histories P m os (All-tail (λ (q : Opening). P (history_of q.settled m)) o os all) k d (omega arith)
 
-first_and : (P : History → Type 0) (h : History) (hs : List History) → P h → All P hs → All P (h ∷ hs)
-first_and P h hs one rest zero d lt = one
-first_and P h hs one rest (suc k) d lt = rest k d (omega arith)
-
-module _ (accounts : List (List ℕ × ℕ)) (o : Opening) (later : List Opening) (k : CutCall) (t : TranName) (b : Branch) (T : Tables) (kept : IsKept o)
+module _ (law : Tabled) (accounts : List (List ℕ × ℕ)) (o : Opening) (later : List Opening) (k : CutCall) (t : TranName) (b : Branch) (T : Tables) (kept : IsKept o)
     (later_kept : All IsKept later) (use_ : IsUseIn o.settled (cuts k)) (few : b.m ≤ MOST_MANAGERS) (of_tran : IsTranOf k.branches t)
     (there : Contains k.branches b) (named : tran_of b.xid ≡ t) (own_calls : VotedToCommit k o.settled b → VotedInCall k o.settled b T)
     (first : first_of o.settled b.m ≡ Some T)
@@ -124,8 +104,8 @@ module _ (accounts : List (List ℕ × ℕ)) (o : Opening) (later : List Opening
       voted own.fresh z.votes told (known_of k b) (ended v) (ap (λ (h : History). held_by accounts b.xid (tables_after h T)) (sym z.asked))
   by_votes on (read z) =
       unasked
-      (first_and (CommitsNowhere b.xid) (history_of o.settled b.m) (histories b.m later) (unsent_law o.settled k b kept.settled use_ positive z.untold own.within) (nowhere (own.unread z)))
-      (ap (λ c. if c then asked_sum accounts k o.settled T b else pos 0) on ∙ read_nothing accounts o.settled k b T kept.settled use_ positive first z)
+      (All-cons (CommitsNowhere b.xid) (history_of o.settled b.m) (histories b.m later) (unsent_law o.settled k b kept.settled use_ positive z.untold own.within) (nowhere (own.unread z)))
+      (ap (λ c. if c then asked_sum accounts k o.settled T b else pos 0) on ∙ read_nothing law accounts o.settled k b T kept.settled use_ positive first z)
 
   pub out_law : ComesOutByTheLog accounts b.m T o later (leg_of accounts k t o.settled T b)
   out_law =
@@ -133,7 +113,7 @@ module _ (accounts : List (List ℕ × ℕ)) (o : Opening) (later : List Opening
         | true ↦ λ on. by_votes on (All-contains (AgreedOrRead k o.settled) k.branches b (recorded_law o.settled k use_ t of_tran on) there)
         | false ↦ λ off.
             unasked
-            (first_and (CommitsNowhere b.xid) (history_of o.settled b.m) (histories b.m later) (unrecorded_nowhere o.settled k b t kept.settled use_ there of_tran off own.within) (nowhere (own.unmarked off)))
+            (All-cons (CommitsNowhere b.xid) (history_of o.settled b.m) (histories b.m later) (unrecorded_nowhere o.settled k b t kept.settled use_ there of_tran off own.within) (nowhere (own.unmarked off)))
             (ap (λ c. if c then asked_sum accounts k o.settled T b else pos 0) off)
       ] refl
 
@@ -144,19 +124,19 @@ tran_each [] t of_tran k d lt = absurd (omega arith)
 tran_each (b ∷ bs) t of_tran zero d lt = of_tran.0
 tran_each (b ∷ bs) t of_tran (suc k) d lt = tran_each bs t of_tran.1 k d (omega arith)
 
-pub comes_out_law : ((o : Opening) (between : List Opening) (last : Opening) (k : CutCall) (q : ResolveCall) → IsResolvedAfter o between last k q
+pub comes_out_law : Tabled → ((o : Opening) (between : List Opening) (last : Opening) (k : CutCall) (q : ResolveCall) → IsResolvedAfter o between last k q
     → EndsByTheLog k o (between ++ last ∷ []))
     → (accounts : List (List ℕ × ℕ)) (o : Opening) (between : List Opening) (last : Opening) (k : CutCall) (q : ResolveCall) (t : TranName) (b : Branch) (T : Tables)
     → IsResolvedAfter o between last k q → IsTranOf k.branches t → Contains k.branches b → b.m ≤ MOST_MANAGERS → first_of o.settled b.m ≡ Some T
     → IsItsOwn k t o (between ++ last ∷ []) T b
     → ComesOutByTheLog accounts b.m T o (between ++ last ∷ []) (leg_of accounts k t o.settled T b)
-comes_out_law outcome accounts o between last k q t b T r of_tran there few first own =
+comes_out_law law outcome accounts o between last k q t b T r of_tran there few first own =
     let later : List Opening = between ++ last ∷ [] in
     let kept : IsKept o = All-head IsKept o later r.followed.kept in
     let use_ : IsUseIn o.settled (cuts k) = use_there o.settled o.uses r.followed.us r.followed.vs (cuts k) r.followed.use_at kept.uses in
-    out_law accounts o later k t b T kept (All-tail IsKept o later r.followed.kept) use_ few of_tran there
+    out_law law accounts o later k t b T kept (All-tail IsKept o later r.followed.kept) use_ few of_tran there
     (All-contains (λ (c : Branch). tran_of c.xid ≡ t) k.branches b (tran_each k.branches t of_tran) there)
-    (λ v. voted_in_call o.settled k b T kept.settled use_ there v r.own first own.plain own.before) first
+    (λ v. voted_in_call law o.settled k b T kept.settled use_ there v r.own first own.plain own.before) first
     (All-contains (λ (c : Branch). VotedToCommit k o.settled c → EndsAs (is_recorded k.later t) o later c (known_of k c)) k.branches b
     ((outcome o between last k q r).each t of_tran) there)
     own

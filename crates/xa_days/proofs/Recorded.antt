@@ -1,4 +1,8 @@
 -- Where the log has a transaction's record, all of its branches were asked, and none voted against.
+use Rattle.xa_driver.specs.Decision.{yes_of}
+use Rattle.xa_atomicity.proofs.CutVotes.{prepare_there, vote_there}
+use Rattle.xa_atomicity.proofs.CutSends.{decided_so}
+use Rattle.std.proofs.lemmas.Bool.{both_ways, false_from_ne_true}
 use Rattle.std.specs.Prelude.{if◌then◌else◌, ◌&&◌, is_some}
 use Rattle.std.proofs.Common.{◌≡◌, ℕ, zero, suc, ◌≤◌, Bool, true, false, ◌||◌, Option, None, Some, List, [], ◌∷◌, ◌++◌, length, get_or, slice_get, sym, refl}
 use Rattle.std.proofs.Common.{ap, ◌∙◌}
@@ -36,16 +40,6 @@ use Rattle.xa_atomicity.proofs.CutVotes.{Ended, HasVoted, branch_votes, ended_vo
 use Rattle.xa_atomicity.proofs.Placing.{at_seam}
 use Rattle.xa_days.specs.Recorded.{AgreedOrRead, agreed, read}
 use Rattle.xa_days.proofs.Calls.{positive_each}
-
--- ---- the record is there only where no vote was against
-
-decided_so : (tran : TranName) (managers : List Bool) (votes : List Code) (logged : Bool) (log later : LogState) → record_of log tran ≡ None
-    → is_recorded later tran ≡ true → Logs tran managers votes logged log later → list_any is_no votes ≡ false
-decided_so tran managers votes logged log later absent on (appended wants _ _) = not-true _ (and_parts (decides_commit votes) (has_yes votes) wants).0
-decided_so tran managers votes logged log later absent on (failed _ _ is) =
-    let z : false ≡ true = sym (ap (λ (l : LogState). is_some (record_of l tran)) is ∙ ap is_some absent) ∙ on in cc
-decided_so tran managers votes logged log later absent on (unwanted _ _ is) =
-    let z : false ≡ true = sym (ap (λ (l : LogState). is_some (record_of l tran)) is ∙ ap is_some absent) ∙ on in cc
 
 -- each branch with its vote, which isn't against
 votes_for : (P : Branch → Code → Type 0) (bs : List Branch) (vs : List Code) → EachVote P bs vs → list_any is_no vs ≡ false
@@ -96,19 +90,11 @@ module _ (s : Settling) (k : CutCall) (use_ : IsUseIn s (cuts k)) (b : Branch) (
 
   collected_so : (P : Op → Type 0) (v : Code) → is_no v ≡ false → HasVoted P b v a a' → Collected v
   collected_so P v for h =
-      let open_ : learnt_shut a ≡ false =
-      elim (learnt_shut a) as (λ c. learnt_shut a ≡ c → c ≡ false) [
-        | true ↦ λ shut. let z : true ≡ false = ap is_no (sym (h.prepared shut)) ∙ for in cc
-        | false ↦ λ _. refl
-      ] refl in
+      let open_ : learnt_shut a ≡ false = false_from_ne_true (learnt_shut a) (λ shut. both_ways (is_no v) for (ap is_no (h.prepared shut))) in
       let grown : HasGrown a' (ledger (ledgers_of s k.thread) b.m) = use_.grown.each b.m positive in
-      let took : Begins (a.collected ++ (length a.sent, v) ∷ []) a'.collected =
-      subst (λ (l : LedgerView). Begins l.collected a'.collected) (first_is b v a open_) h.rest.collected in
-      let all = begins_on (a.collected ++ (length a.sent, v) ∷ []) a'.collected (ledger (ledgers_of s k.thread) b.m).collected took grown.collected in
       record {
-        asked = ap (λ l. slice_get l (length a.sent)) (prepare_sent P b v a a' open_ h) ∙ at_seam a.sent (Prepare b.xid) h.rest.more;
-        voted = subst (λ (l : List (ℕ × Code)). Contains l (length a.sent, v)) (sym (all.1 ∙ append_assoc a.collected ((length a.sent, v) ∷ []) all.0))
-            (Contains-append_right a.collected ((length a.sent, v) ∷ all.0) (length a.sent, v) (zero, omega arith, refl));
+        asked = prepare_there P b v a a' open_ h;
+        voted = vote_there P b v a a' (ledger (ledgers_of s k.thread) b.m).collected open_ h grown.collected;
         open_ = open_;
       }
 
@@ -158,7 +144,7 @@ module _ (s : Settling) (k : CutCall) (use_ : IsUseIn s (cuts k)) (t : TranName)
   by_far (telling votes logged logs unknown each) = λ j d lt.
       let b : Branch = get_or k.branches j d in
       let c : Bool = decision_of votes logged in
-      let none = decided_so made.may.tran _ votes logged k.log k.later made.may.absent there logs in
+      let none = not-true _ (and_parts (decides_commit votes) _ (decided_so made.may.tran k.log k.later made.may.absent votes logged (yes_of k.branches votes) logs there)).0 in
       let w = votes_for (λ b v. IsTold c b v (ledger k.desk.ledgers b.m) (ledger k.new b.m)) k.branches votes each none j d lt in
       by_vote s k use_ b (positives j d lt) w.0 w.1.1
       (told_voted Any c b w.0 (ledger k.desk.ledgers b.m) (ledger k.new b.m) (λ op _. tt) (any_asked (second_op c b.xid w.0)) w.1.0)
@@ -167,7 +153,7 @@ module _ (s : Settling) (k : CutCall) (use_ : IsUseIn s (cuts k)) (t : TranName)
   by_far (forgetting votes logged seconds logs each) = λ j d lt.
       let b : Branch = get_or k.branches j d in
       let c : Bool = decision_of votes logged in
-      let none = decided_so made.may.tran _ votes logged k.log k.later made.may.absent there logs in
+      let none = not-true _ (and_parts (decides_commit votes) _ (decided_so made.may.tran k.log k.later made.may.absent votes logged (yes_of k.branches votes) logs there)).0 in
       let Q : Branch → Code → Type 0 = λ b v. (z : Option Code) × IsEnded c b v z (ledger k.desk.ledgers b.m) (ledger k.new b.m) in
       let w =
       votes_for Q k.branches votes (branch_votes (Ended c k.desk.ledgers k.new) Q (λ b v z e h. (z, h.0)) k.branches votes seconds k.endings each) none j d lt in

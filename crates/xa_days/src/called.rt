@@ -25,6 +25,8 @@ ghost use Rattle.xa_days.specs.Course.{OnlyTold};
 ghost use Rattle.xa_days.specs.Recorded.{AgreedOrRead};
 ghost use Rattle.xa_days.specs.Calls.{CommitsInCall, DecidesNowhere, IsMarkedNowhere, VotedInCall, taken_till_asked};
 
+use xa_atomicity::tables_keep_to_their_laws;
+
 /// A branch of a commit that voted to commit, in its settled opening: its Prepare stands in its manager's history with
 /// XA_OK, and from then on it is only told its outcome, if nobody else names it after that, nothing committed it
 /// before, and no manager decides it.
@@ -33,7 +35,9 @@ pub fn branches_of_a_commit_vote()
         → Contains k.branches b → VotedToCommit k s b → AskedAreLeft k s → first_of s b.m ≡ Some T
         → DecidesNowhere b.xid (history s b.m) → CommitsNowhere b.xid (taken_till_asked k s b)
         → VotedInCall k s b T }
-{}
+{
+    tables_keep_to_their_laws();
+}
 
 /// Where nothing but resolves names a transaction in an opening, its branches are only told their outcome there; and a
 /// branch is not committed there that no resolve has a record of.

@@ -18,7 +18,7 @@ ghost use Rattle.xa_days.specs.Days.{Leg, counted};
 ghost use Rattle.xa_days.specs.Legs.{IsItsOwn, leg_of};
 ghost use Rattle.xa_days.specs.Settled.{ComesOutByTheLog, IsSettledDay, SettledWorthIsRecorded};
 
-use xa_atomicity::presumed_transactions_have_one_outcome;
+use xa_atomicity::{presumed_transactions_have_one_outcome, tables_keep_to_their_laws};
 
 /// Settled openings in a row, at one manager: what any accounts are worth in its last tables is what they were worth in
 /// its first and, for each branch whose transaction was recorded, what it held as it voted. That each ended by its
@@ -58,5 +58,6 @@ pub fn branches_come_out_by_the_log()
         → IsItsOwn k t o (between ++ last ∷ []) T b
         → ComesOutByTheLog accounts b.m T o (between ++ last ∷ []) (leg_of accounts k t o.settled T b) }
 {
+    tables_keep_to_their_laws();
     presumed_transactions_have_one_outcome();
 }
