@@ -101,16 +101,16 @@ module _ (bad : Op → Bool) (prepares : (x : XidName) → bad (Prepare x) ≡ f
 -- ---- by the record
 
 -- on abort no second request is a Commit, and none is of a vote that isn't to commit
-abbrev NotToCommit : Bool → Code → Type 0
+abbrev pub NotToCommit : Bool → Code → Type 0
 NotToCommit commit v = (commit ≡ false) ⊎ (is_yes v ≡ false)
 
-no_commit_so : (commit : Bool) (x : XidName) (v : Code) → NotToCommit commit v → (P : Op → Type 0) → ((op : Op) → is_commit op ≡ false → P op)
+pub no_commit_so : (commit : Bool) (x : XidName) (v : Code) → NotToCommit commit v → (P : Op → Type 0) → ((op : Op) → is_commit op ≡ false → P op)
     → IsAskedFor P (second_op commit x v)
 no_commit_so false x v h P so = second_so P false x v (so (Rollback x) refl)
 no_commit_so true x v (inl e) P so = cc
 no_commit_so true x v (inr e) P so = by_if (IsAskedFor P) (is_yes v) (Some (Commit x false)) None (λ y. absurd (both_ways (is_yes v) e y)) (λ _. tt)
 
-no_rollback_so : (commit : Bool) (x : XidName) (v : Code) → commit ≡ true → (P : Op → Type 0) → ((op : Op) → is_rollback op ≡ false → P op)
+pub no_rollback_so : (commit : Bool) (x : XidName) (v : Code) → commit ≡ true → (P : Op → Type 0) → ((op : Op) → is_rollback op ≡ false → P op)
     → IsAskedFor P (second_op commit x v)
 no_rollback_so true x v h P so = second_so P true x v (so (Commit x false) refl)
 no_rollback_so false x v h P so = cc

@@ -52,7 +52,7 @@ not_by_no v (Some c) =
     by_if (Falls is_committed) (is_done c || history.is_rolled_back c) _ _ (λ _. refl) (λ _. by_if (Falls is_committed) (is_heuristic c) _ _ (λ _. refl) (λ _. refl))
 
 -- what isn't voted for isn't committed, and on abort nothing is
-unvoted : (commit : Bool) (v : Code) (s : Option Code) → is_yes v ≡ false → Falls is_committed (ending_of commit v s)
+pub unvoted : (commit : Bool) (v : Code) (s : Option Code) → is_yes v ≡ false → Falls is_committed (ending_of commit v s)
 unvoted commit v s e =
     by_if (Falls is_committed) (is_yes v) _ _ (λ t. cc) (λ _.
     by_if (Falls is_committed) (is_read v) _ _ (λ _. refl) (λ _.

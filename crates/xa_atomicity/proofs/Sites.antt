@@ -53,15 +53,15 @@ pub data AsksIn (t : ℕ) (T : Tables) (H : History) (old : Sent) (op : Op) (new
 -- ---- a request in its place
 
 -- a request among those with rising numbers: what was sent before it and after it
-record Sides (t n : ℕ) (op : Op) (xs ys : History) (k : ℕ) (ops : List Op) : Type 0 where
-  pre : List Op
-  post : List Op
-  earlier : xs ≡ numbered t k pre
-  many : k + length pre ≡ n
-  later : ys ≡ numbered t (suc n) post
-  sent : ops ≡ pre ++ op ∷ post
+pub record Sides (t n : ℕ) (op : Op) (xs ys : History) (k : ℕ) (ops : List Op) : Type 0 where
+  pub pre : List Op
+  pub post : List Op
+  pub earlier : xs ≡ numbered t k pre
+  pub many : k + length pre ≡ n
+  pub later : ys ≡ numbered t (suc n) post
+  pub sent : ops ≡ pre ++ op ∷ post
 
-sides : (t n : ℕ) (op : Op) (xs ys : History) (k : ℕ) (ops : List Op) → xs ++ request_of t n op ∷ ys ≡ numbered t k ops → Sides t n op xs ys k ops
+pub sides : (t n : ℕ) (op : Op) (xs ys : History) (k : ℕ) (ops : List Op) → xs ++ request_of t n op ∷ ys ≡ numbered t k ops → Sides t n op xs ys k ops
 sides t n op [] ys k [] e = cc
 sides t n op [] ys k (o ∷ ops) e =
     let head : request_of t n op ≡ request_of t k o = cc in

@@ -1,4 +1,8 @@
 -- Where no other line names the branches of a commit, nobody else names them in the journals.
+use Rattle.xa_atomicity.proofs.Placing.{request_of}
+use Rattle.xa_atomicity.proofs.Requests.{all_later}
+use Rattle.xa_atomicity.proofs.Sites.{sides}
+use Rattle.std.proofs.lemmas.List.Elements.{All-map}
 use Rattle.std.proofs.Common.{◌≡◌, ◌≢◌, ℕ, suc, ◌+◌, ◌<◌, inl, inr, Bool, true, false, cond, ◌==◌, List, [], ◌∷◌, ◌++◌, length, map, sym, refl, ap, ◌∙◌, subst}
 use Rattle.std.proofs.Common.{arith, get_or}
 use Rattle.std.specs.Prelude.{All}
@@ -32,10 +36,6 @@ use Rattle.xa_shown.proofs.Named.{AddsUnnamed, lines_unnamed, lines_leave}
 
 -- ---- lists
 
-pub all_mapped : {A B : Type 0} (f : A → B) (P : B → Type 0) (xs : List A) → All (λ x. P (f x)) xs → All P (map f xs)
-all_mapped f P [] h = All-nil P
-all_mapped f P (x ∷ xs) h = All-cons P (f x) (map f xs) (All-head (λ x. P (f x)) x xs h) (all_mapped f P xs (All-tail (λ x. P (f x)) x xs h))
-
 all_unfiltered : {A : Type 0} (p : A → Bool) (P : A → Type 0) (xs : List A) → All P (filter p xs) → All (λ x. p x ≡ true → P x) xs
 all_unfiltered p P [] h = All-nil (λ x. p x ≡ true → P x)
 all_unfiltered {A} p P (x ∷ xs) h =
@@ -46,23 +46,7 @@ all_unfiltered {A} p P (x ∷ xs) h =
 
 -- ---- the numbers of a thread's requests rise
 
-from_here : (t n m : ℕ) (ops : List Op) → n < m → All (λ (q : Request). n < q.number) (numbered t m ops)
-from_here t n m [] above = All-nil (λ (q : Request). n < q.number)
-from_here t n m (o ∷ ops) above =
-    All-cons (λ (q : Request). n < q.number) (record { thread = t; number = m; op = o }) (numbered t (suc m) ops) above (from_here t n (suc m) ops (omega (arith, above)))
-
--- after one the numbers are higher
-higher : (t n : ℕ) (ops : List Op) (xs : History) (r : Request) (ys : History) → numbered t n ops ≡ xs ++ r ∷ ys → All (λ (q : Request). r.number < q.number) ys
-higher t n [] [] r ys e = absurd (cc)
-higher t n [] (x ∷ xs) r ys e = absurd (cc)
-higher t n (o ∷ ops) [] r ys e =
-    let head : record { thread = t; number = n; op = o } ≡ r = cc in
-    let tail : numbered t (suc n) ops ≡ ys = cc in
-    let number : n ≡ r.number = ap (λ (q : Request). q.number) head in
-    subst (All (λ (q : Request). r.number < q.number)) tail (from_here t r.number (suc n) ops (omega (arith, number)))
-higher t n (o ∷ ops) (x ∷ xs) r ys e = let tail : numbered t (suc n) ops ≡ xs ++ r ∷ ys = cc in higher t (suc n) ops xs r ys tail
-
--- and of the first they are below how many these are
+-- of the first they are below how many these are
 lower : (t n : ℕ) (ops : List Op) (xs ys : History) (last : ℕ) → numbered t n ops ≡ xs ++ ys → n + length xs ≡ last → All (λ (q : Request). q.number < last) xs
 lower t n ops [] ys last e many = All-nil (λ (q : Request). q.number < last)
 lower t n [] (x ∷ xs) ys last e many = absurd (cc)
@@ -81,11 +65,12 @@ module _ (t : ℕ) (x : XidName) (H : History) (ops : List Op) (sent_so : of_thr
       let q : Request = get_or after k d in
       elim (cases_eq q.thread t) [
         | inl same ↦
-            let parted : of_thread t H ≡ of_thread t before ++ r ∷ of_thread t after =
-            ap (of_thread t) place ∙ filter-append (λ (p : Request). p.thread == t) before (r ∷ after)
-            ∙ ap (λ b. of_thread t before ++ cond b (r ∷ of_thread t after) (of_thread t after)) (eq-eqb r.thread t thread) in
-            let above : r.number < q.number =
-            all_unfiltered (λ (p : Request). p.thread == t) (λ p. r.number < p.number) after (higher t 0 ops (of_thread t before) r (of_thread t after) (sym sent_so ∙ parted)) k d lt (eq-eqb q.thread t same) in
+            let own_r : r ≡ request_of t r.number r.op = λ i. record { thread = thread i; number = r.number; op = r.op } in
+            let parted : of_thread t before ++ request_of t r.number r.op ∷ of_thread t after ≡ numbered t 0 ops =
+            sym (ap (of_thread t) (place ∙ ap (λ p. before ++ p ∷ after) own_r) ∙ filter-append (λ (p : Request). p.thread == t) before (request_of t r.number r.op ∷ after)
+            ∙ ap (λ b. of_thread t before ++ cond b (request_of t r.number r.op ∷ of_thread t after) (of_thread t after)) (eq-eqb t t refl)) ∙ sent_so in
+            let z = sides t r.number r.op (of_thread t before) (of_thread t after) 0 ops parted in
+            let above = all_later t after (suc r.number) z.post z.later k d lt same in
             let below : q.number < last =
             all_after (λ (p : Request). (p.thread == t) ≡ true → names x p.op ≡ true → p.number < last) before r after
             (subst (All (λ (p : Request). (p.thread == t) ≡ true → names x p.op ≡ true → p.number < last)) place
@@ -105,7 +90,7 @@ module _ (t : ℕ) (x : XidName) (H : History) (ops : List Op) (sent_so : of_thr
 quiet_requests : (u : ℕ) (x : XidName) (J : List Entry) → All (λ (e : Entry). names x e.0.op ≡ false) (entries_of u J)
     → All (λ (q : Request). names x q.op ≡ false) (of_thread u (requests J))
 quiet_requests u x J h =
-    subst (All (λ (q : Request). names x q.op ≡ false)) (sym (requests_kept u J)) (all_mapped (λ (e : Entry). e.0) (λ (q : Request). names x q.op ≡ false) (entries_of u J) h)
+    subst (All (λ (q : Request). names x q.op ≡ false)) (sym (requests_kept u J)) (All-map (λ (q : Request). names x q.op ≡ false) (λ (e : Entry). e.0) (entries_of u J) h)
 
 -- the thread itself, whose later entries don't name it
 own_requests : (t : ℕ) (x : XidName) (J : List Entry) (ops : List Op) (new : List Entry) → of_thread t (requests J) ≡ numbered t 0 ops
@@ -116,7 +101,7 @@ own_requests t x J ops new sent_so (more, grown, quiet) =
     let f : Entry → Request = λ e. e.0 in
     let parts : of_thread t (requests J) ≡ map f new ++ map f more = requests_kept t J ∙ ap (map f) grown ∙ map-append f new more in
     let early = lower t 0 ops (map f new) (map f more) (length new) (sym sent_so ∙ parts) (let many = length-map new f in omega (arith, many)) in
-    let late = all_mapped f (λ (q : Request). names x q.op ≡ false) more quiet in
+    let late = All-map (λ (q : Request). names x q.op ≡ false) f more quiet in
     subst (All P) (sym parts)
     (All-append P (map f new) (map f more) (λ k d lt named. early k d lt) (λ k d lt named. absurd (let e = late k d lt in let z : true ≡ false = sym named ∙ e in cc)))
 

@@ -1,4 +1,5 @@
 -- Lines that don't name a branch put nothing into the journals that does.
+use Rattle.xa_atomicity.proofs.Requests.{none_all}
 use Rattle.std.proofs.Common.{◌≡◌, ◌≢◌, ℕ, zero, suc, ◌⊎◌, ⊎_elim, inl, inr, Bool, true, false, ◌==◌, ◌&&◌, List, [], ◌∷◌, Option, Some, None, sym, refl, ap}
 use Rattle.std.proofs.Common.{◌∙◌}
 use Rattle.std.specs.Prelude.{if◌then◌else◌, All, Result, Ok, Err}
@@ -34,7 +35,6 @@ use Rattle.xa_session.specs.Committing.{branches_of}
 use Rattle.xa_telling.specs.Wants.{wanted, wanted_by}
 use Rattle.xa_telling.specs.Wants.Wanted.{code_of, handle_for}
 use Rattle.xa_telling.specs.Parts.{Part, Asked, CallTakes}
-use Rattle.xa_shown.proofs.Shown.{none_all}
 use Rattle.xa_shown.proofs.Adds.{Adds, TaskSo, adds_both, adds_none, op_in, takes_add}
 use Rattle.xa_atomicity.proofs.Between.{Unnamed, second_unnamed, outcome_unnamed, third_unnamed}
 use Rattle.xa_words.specs.Orders.{Decides-xid_eq}
@@ -44,8 +44,6 @@ use Rattle.xa_telling.specs.Commits.CommitTakes.{refused as takes_none, decided,
 use Rattle.xa_telling.specs.Resolves.ResolveTakes.{refused as ends_none, resolved}
 use Rattle.xa_telling.specs.Journals.{Line, Takes, TakesPart}
 use Rattle.xa_shown.specs.Outcomes.{branches_by, is_among, names_it}
-
--- ---- lists
 
 -- ---- what is added
 

@@ -40,7 +40,8 @@ use Rattle.xa_telling.specs.Journals.{Line, TakesPart, AreCarriedOut, ShowsCommi
 use Rattle.xa_telling.specs.ToldOpenings.{Beginning, Opening, TellsOf}
 use Rattle.xa_shown.specs.Outcomes.{IsOneOutcome, ShowsOneOutcome, Place, IsAsShown, CountsAsShown, entered_so_far}
 use Rattle.xa_telling.proofs.Entries.{agreed_fits}
-use Rattle.xa_shown.proofs.Shown.{decided_so, committed_yes, committed_done, none_against, none_all}
+use Rattle.xa_shown.proofs.Shown.{decided_so, none_against}
+use Rattle.xa_atomicity.proofs.Requests.{none_all}
 use Rattle.xa_telling.proofs.Deaths.{each_so}
 use Rattle.std.proofs.lemmas.List.Folds.{list_any_none}
 use Rattle.xa_shown.proofs.Placed.{chain_adds}
@@ -80,10 +81,6 @@ no_ending_is P p so bs vs es h = list_any_none p es (all_endings P (λ e. p e �
 -- by its vote and some second code
 abbrev pub Ends : Bool → Branch → Code → Ending → Type 0
 Ends commit b v e = (z : Option Code) × (e ≡ ending_of commit v z)
-
-pub committed_so : (e : Ending) → is_committed e ≡ true → e ≡ Committed
-committed_so Committed e = refl
-committed_so x e = absurd (cc)
 
 -- nothing is rolled back where it commits and no vote is against, and nothing committed where it aborts
 pub kept_so : (commit : Bool) → commit ≡ true → (b : Branch) (v : Code) (e : Ending) → (is_no v ≡ false) × Ends commit b v e → is_rolled_back e ≡ false

@@ -1,4 +1,10 @@
 -- What a line shows stands in the journals.
+use Rattle.xa_atomicity.proofs.Requests.{none_all}
+use Rattle.xa_atomicity.proofs.OneOutcome.{uncommitted, unvoted}
+use Rattle.xa_atomicity.specs.Outcomes.{is_committed}
+use Rattle.xa_driver.specs.Endings.{ending_of}
+use Rattle.xa_base.proofs.Truth.{by_if}
+use Rattle.std.proofs.lemmas.Bool.{both_ways, not-true, true_from_ne_false}
 use Rattle.std.proofs.Common.{◌≡◌, ℕ, pos, Bool, true, false, ◌==◌, ◌||◌, not, List, [], ◌∷◌, ◌++◌, length, Option, Some, None, sym, refl, ap, ◌∙◌, subst}
 use Rattle.std.proofs.Common.{⊎_elim, zero, suc, ◌<◌, arith, slice_index_or}
 use Rattle.std.specs.Prelude.{get_or, slice_get, All, if◌then◌else◌}
@@ -110,56 +116,28 @@ stays_there t u p d old new o c so is has = still_has t p d old new (carries_on 
 
 -- ---- a branch that ends as committed
 
-pub committed_yes : (yes' read back away : Bool) (commit : Bool) (v : Code) (s : Option Code)
-    → (if yes' then yes_ending commit s else (if read then ReadOnly else (if back then RolledBack else (if away then Left v else no_ending v s)))) ≡ Committed
-    → (yes' ≡ true) × (yes_ending commit s ≡ Committed)
-committed_yes true read back away commit v s e = (refl, e)
-committed_yes false true back away commit v s e = absurd (cc)
-committed_yes false false true away commit v s e = absurd (cc)
-committed_yes false false false true commit v s e = absurd (cc)
-committed_yes false false false false commit v s e = absurd (never s e)
-  where
-    one_of : (b h : Bool) (c : Code) → (if b then RolledBack else (if h then Heuristic c else Left c)) ≡ Committed → ⊥
-    one_of true h c e = cc
-    one_of false true c e = cc
-    one_of false false c e = cc
-
-    never : (s : Option Code) → no_ending v s ≡ Committed → ⊥
-    never None e = cc
-    never (Some c) e = one_of (is_done c || is_rolled_back c) (is_heuristic c) c e
-
 done_so : (c : Code) → is_done c ≡ true → c ≡ Done
 done_so Done e = refl
 done_so c e = absurd (cc)
 
-pub committed_done : (commit : Bool) (s : Option Code) → yes_ending commit s ≡ Committed → (commit ≡ true) × (s ≡ Some Done)
-committed_done commit None e = absurd (cc)
-committed_done commit (Some c) e =
-    let parts = both (is_done c) commit (is_rm_fail c) (is_heuristic c) e in (parts.1, ap (λ (d : Code). Some d) (done_so c parts.0))
-  where
-    both : (done' commit' shut heur : Bool)
-        → (if done' then (if commit' then Committed else RolledBack) else (if shut then InDoubt else (if heur then Heuristic c else Left c))) ≡ Committed
-        → (done' ≡ true) × (commit' ≡ true)
-    both true true shut heur e = (refl, refl)
-    both true false shut heur e = absurd (cc)
-    both false commit' true heur e = absurd (cc)
-    both false commit' false true e = absurd (cc)
-    both false commit' false false e = absurd (cc)
-
-chosen : (a b : Bool) (x y z : Option Op) → a ≡ true → b ≡ true → (if a then (if b then x else y) else z) ≡ x
-chosen true true x y z e f = refl
-chosen true false x y z e f = absurd (cc)
-chosen false b x y z e f = absurd (cc)
+-- its second request, to commit, was answered XA_OK
+committed_done : (s : Option Code) → yes_ending true s ≡ Committed → s ≡ Some Done
+committed_done None e = absurd (cc)
+committed_done (Some c) e =
+    by_if (λ w. w ≡ Committed → Some c ≡ Some Done) (is_done c) _ _ (λ done _. ap (λ (d : Code). Some d) (done_so c done)) (λ _.
+    by_if (λ w. w ≡ Committed → Some c ≡ Some Done) (is_rm_fail c) _ _ (λ _ e. absurd (cc)) (λ _.
+    by_if (λ w. w ≡ Committed → Some c ≡ Some Done) (is_heuristic c) _ _ (λ _ e. absurd (cc)) (λ _ e. absurd (cc)))) e
 
 branch_commits : (t : ℕ) (commit : Bool) (b : Branch) (v : Code) (s : Option Code) (e : Ending) (old new : List Entry)
     → AtBranch (CarriesOut t) commit b v s e old new → e ≡ Committed → HasEntry t (Commit b.xid false) Done new
 branch_commits t commit b v s e old new is told =
-    let voted = committed_yes (is_yes v) (is_read v) (is_rolled_back v) (is_out_of_reach v) commit v s (sym is.ends ∙ told) in
-    let heard = committed_done commit s voted.1 in
-    let op : second_op commit b.xid v ≡ Some (Commit b.xid false) =
-    chosen commit (is_yes v) (Some (Commit b.xid false)) None (if is_read v || (is_rolled_back v || is_out_of_reach v) then None else Some (Rollback b.xid)) heard.0 voted.0 in
+    let shown : is_committed (ending_of commit v s) ≡ true = ap is_committed (sym is.ends ∙ told) in
+    let voted : is_yes v ≡ true = true_from_ne_false (is_yes v) (λ against. both_ways (is_committed (ending_of commit v s)) (unvoted commit v s against) shown) in
+    let commits : commit ≡ true = true_from_ne_false commit (λ off. both_ways (is_committed (ending_of commit v s)) (ap (λ c. is_committed (ending_of c v s)) off ∙ uncommitted v s) shown) in
+    let heard : s ≡ Some Done = committed_done s (sym (at_true (is_yes v) _ _ voted) ∙ ap (λ c. ending_of c v s) (sym commits) ∙ sym is.ends ∙ told) in
+    let op : second_op commit b.xid v ≡ Some (Commit b.xid false) = ap (λ c. second_op c b.xid v) commits ∙ at_true (is_yes v) _ None voted in
     let obeyed : CarriesOut t is.prepared (Commit b.xid false) is.decided Done =
-    subst (λ (o : Option Op). AsksFor (CarriesOut t) o (Some Done) is.prepared is.decided) op (subst (λ (c : Option Code). AsksFor (CarriesOut t) (second_op commit b.xid v) c is.prepared is.decided) heard.1 is.obeys) in
+    subst (λ (o : Option Op). AsksFor (CarriesOut t) o (Some Done) is.prepared is.decided) op (subst (λ (c : Option Code). AsksFor (CarriesOut t) (second_op commit b.xid v) c is.prepared is.decided) heard is.obeys) in
     for_by (CarriesOut t) Any (HasEntry t (Commit b.xid false) Done) (stays_there t t (Commit b.xid false) Done) (third_op b.xid s) is.third is.decided new (any_asked (third_op b.xid s)) is.forgets
     (carried_out t (Commit b.xid false) Done is.prepared is.decided obeyed refl)
 
@@ -176,17 +154,7 @@ branch_prepared t commit b v s e old new is vote =
     (carried_out t (Prepare b.xid) v old is.prepared is.prepares (not_shut v vote))
 
 pub none_against : (votes : List Code) (logged : Bool) → decision_of votes logged ≡ true → list_any is_no votes ≡ false
-none_against votes logged e = flipped (list_any is_no votes) (and_parts (decides_commit votes) (not (has_yes votes) || logged) e).0
-  where
-    flipped : (b : Bool) → not b ≡ true → b ≡ false
-    flipped true f = absurd (cc)
-    flipped false f = refl
-
--- where none is so, each isn't
-pub none_all : {A : Type 0} (p : A → Bool) (xs : List A) → list_any p xs ≡ false → All (λ x. p x ≡ false) xs
-none_all p [] none_so = All-nil (λ x. p x ≡ false)
-none_all p (x ∷ xs) none_so =
-    let parts = or_parts (p x) (list_any p xs) none_so in All-cons (λ y. p y ≡ false) x xs parts.0 (none_all p xs parts.1)
+none_against votes logged e = not-true _ (and_parts (decides_commit votes) (not (has_yes votes) || logged) e).0
 
 -- ---- the k-th branch of a commit
 

@@ -1,4 +1,5 @@
 -- What became of the branches of a commit that came to no end.
+use Rattle.xa_tables.specs.Prepared.{is_heur}
 use Rattle.std.specs.Global.{Global}
 use Rattle.std.specs.Prelude.{Vec, slice_get, All}
 use Rattle.std.proofs.Common.{◌≡◌, ℕ, inl, inr, suc, ◌<◌, ◌≤◌, Bool, true, false, ◌||◌, if◌then◌else◌, List, [], ◌∷◌, ◌++◌, length, length-append, append_assoc}
@@ -26,7 +27,7 @@ use Rattle.xa_tables.specs.Reasons.{decision_code}
 use Rattle.xa_tables.specs.Tables.{Tables, state_of}
 use Rattle.xa_tables.specs.Openings.{told_by}
 use Rattle.xa_tables.specs.History as history
-use Rattle.xa_tables.specs.History.{Fate, decided_fate, fate, is_heur, is_in_doubt as is_unknown, is_rolled_back as rolls_back}
+use Rattle.xa_tables.specs.History.{Fate, decided_fate, fate, is_in_doubt as is_unknown, is_rolled_back as rolls_back}
 use Rattle.xa_desk.specs.LedgerView.{is_rm_fail}
 use Rattle.xa_worker.specs.Journal.{Entry}
 use Rattle.xa_switch.specs.Settling.{Settling, IsSettled, collected, journal, sent}

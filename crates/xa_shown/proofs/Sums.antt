@@ -16,7 +16,7 @@ use Rattle.xa_transcript.specs.declared.answer.Told.{Told}
 use Rattle.xa_telling.specs.ToldOpenings.{Beginning, Opening, Former, TellsOf, Leaves, Tells, beginning, settled_over}
 use Rattle.xa_shown.specs.Outcomes.{IsSumOfShares}
 use Rattle.xa_transcript.specs.Values.{opened, opened_after, histories, name_of}
-use Rattle.xa_shown.proofs.Alone.{all_mapped}
+use Rattle.std.proofs.lemmas.List.Elements.{All-map}
 use Rattle.xa_shown.proofs.Placed.{part}
 use Rattle.xa_transcript.proofs.Worth.{first_is}
 use Rattle.xa_telling.proofs.Again.{begins_after}
@@ -43,7 +43,7 @@ module _ (opens : (s : Settling) (m : ℕ) (T : Tables) → IsSettled s → firs
       let worth = was_some (λ v. v +ℤ added_over d.key (λ x. Absent) hs T) (finmap.get T.values d.key) (pos d.value) (tells.shown.worth j e below) in
       let There : ℕ × List ℕ → Type 0 = λ n. (1 ≤ n.0) × (n.0 ≤ managers_of s) in
       let (low, high) =
-      all_unmapped name_of There values (All-permutation There (map name_of s.keys) (map name_of values) tells.shown.all (all_mapped name_of There s.keys is.of_managers)) j e below in
+      all_unmapped name_of There values (All-permutation There (map name_of s.keys) (map name_of values) tells.shown.all (All-map There name_of s.keys is.of_managers)) j e below in
       record {
         former = λ xs f ys parted.
             let p = part (Leaves s) (beginning s) before tells.begins tells.former xs f ys parted in

@@ -1,4 +1,5 @@
 -- What a commit that came to no end left, by the line that shows it: it goes by the record.
+use Rattle.std.proofs.Common.{⊎_elim}
 use Rattle.std.specs.Global.{Global}
 use Rattle.std.specs.Prelude.{Vec, ◌⊎◌, All, is_some, not}
 use Rattle.std.proofs.Common.{◌≡◌, ℕ, inl, inr, Bool, true, false, ◌&&◌, ◌||◌, List, [], Option, Some, None, get_or, sym, refl, ap, ◌∙◌, subst}
@@ -30,7 +31,9 @@ use Rattle.xa_driver.proofs.Mapped.{IsAskedFor}
 use Rattle.xa_log.specs.Log.{LogState, record_of}
 use Rattle.xa_atomicity.specs.Cut.{is_recorded, is_rollback}
 use Rattle.xa_atomicity.specs.Outcomes.{EachOutcome, is_committed, is_rolled_back}
-use Rattle.xa_atomicity.proofs.CutSends.{decided_so, undecided_so}
+use Rattle.xa_atomicity.proofs.CutSends.{NotToCommit, decided_so, no_commit_so, no_rollback_so, undecided_so}
+use Rattle.xa_atomicity.proofs.OneOutcome.{unvoted}
+use Rattle.xa_atomicity.proofs.Requests.{none_all}
 use Rattle.xa_atomicity.proofs.Aborts.{IsNoCommit}
 use Rattle.xa_grammar.specs.declared.step.CommitAll.{CommitAll}
 use Rattle.xa_grammar.specs.Steps.{ScriptAction}
@@ -43,9 +46,9 @@ use Rattle.xa_telling.specs.Commits.CommitTakes.{refused as takes_none, decided,
 use Rattle.xa_telling.specs.Journals.{Line, Takes, TakesPart}
 use Rattle.xa_shown.specs.Unfinished.{GoesByTheRecord, ShowsDeath, ShowsUndecided}
 use Rattle.xa_shown.proofs.Adds.{loses_adds, stops_adds}
-use Rattle.xa_shown.proofs.Outcomes.{Ends, committed_so, kept_so, no_ending_is, out_so, voted_with}
+use Rattle.xa_shown.proofs.Outcomes.{Ends, kept_so, no_ending_is, out_so, voted_with}
 use Rattle.xa_atomicity.proofs.Settled.{each_outcome}
-use Rattle.xa_shown.proofs.Shown.{committed_yes, none_against, none_all}
+use Rattle.xa_shown.proofs.Shown.{none_against}
 
 -- ---- what such a line does
 
@@ -79,22 +82,8 @@ lost_so settled l c votes old new shows takes = of_answer (taken settled l c (an
 
 -- ---- by the record
 
--- it was decided to abort, or the vote isn't to commit
-abbrev pub NotToCommit : Bool → Code → Type 0
-NotToCommit commit v = (commit ≡ false) ⊎ (is_yes v ≡ false)
-
 abbrev IsNoRollback : Op → Type 0
 IsNoRollback op = is_rollback op ≡ false
-
-no_commit_so : (commit : Bool) (x : XidName) (v : Code) → NotToCommit commit v → IsAskedFor IsNoCommit (second_op commit x v)
-no_commit_so false x v h = by_if (IsAskedFor IsNoCommit) (is_read v || (rolls_back v || is_out_of_reach v)) None (Some (Rollback x)) (λ _. tt) (λ _. refl)
-no_commit_so true x v (inl e) = cc
-no_commit_so true x v (inr e) =
-    by_if (IsAskedFor IsNoCommit) (is_yes v) (Some (Commit x false)) None (λ y. let z : true ≡ false = sym y ∙ e in cc) (λ _. tt)
-
-no_rollback_so : (commit : Bool) (x : XidName) (v : Code) → commit ≡ true → IsAskedFor IsNoRollback (second_op commit x v)
-no_rollback_so true x v h = by_if (IsAskedFor IsNoRollback) (is_yes v) (Some (Commit x false)) None (λ _. refl) (λ _. tt)
-no_rollback_so false x v h = cc
 
 -- without a record the transaction isn't recorded
 unrecorded : (tran : TranName) (log later : LogState) → record_of log tran ≡ None → later ≡ log → is_recorded later tran ≡ true → ⊥
@@ -110,23 +99,26 @@ module _ (tran : TranName) (bs : List Branch) (log later : LogState) (known : Ou
   commits_by is on = decided_so tran log later absent known.votes.items known.logged _ is.logs on
 
   module _ {D : Type 0} (A : Asking D) (U : Putting D) (old new : ℕ → D) where
+    -- nothing was decided, or it was by the votes
+    far_so : (at : Death) → CameTo A U at tran bs old new log later known → ((known.commit ≡ false) × (later ≡ log)) ⊎ IsDecidedBy tran bs log later known
+    far_so (death.Preparing k) far = inl (far.undecided.commit, far.unlogged)
+    far_so death.Prepared far = inl (far.undecided.commit, far.unlogged)
+    far_so death.Decided far = inr far.decided
+    far_so (death.Telling k) far = inr far.decided
+    far_so death.Told far = inr far.decided
+
     -- where there is none, it was decided to abort, or no branch voted to commit
     pub votes_fit : (at : Death) → CameTo A U at tran bs old new log later known → is_recorded later tran ≡ false
         → All (NotToCommit known.commit) known.votes.items
-    votes_fit (death.Preparing k) far off = λ j d lt. inl far.undecided.commit
-    votes_fit death.Prepared far off = λ j d lt. inl far.undecided.commit
-    votes_fit death.Decided far off = votes_by far.decided off
-    votes_fit (death.Telling k) far off = votes_by far.decided off
-    votes_fit death.Told far off = votes_by far.decided off
+    votes_fit at far off =
+        ⊎_elim (λ (z : (known.commit ≡ false) × (later ≡ log)). λ k d lt. inl z.0) (λ (is : IsDecidedBy tran bs log later known). votes_by is off) (far_so at far)
 
     -- where there is one, it was decided to commit
     pub decision_so : (at : Death) → CameTo A U at tran bs old new log later known → is_recorded later tran ≡ true
         → (known.commit ≡ true) × (decision_of known.votes.items known.logged ≡ true)
-    decision_so (death.Preparing k) far on = absurd (unrecorded tran log later absent far.unlogged on)
-    decision_so death.Prepared far on = absurd (unrecorded tran log later absent far.unlogged on)
-    decision_so death.Decided far on = (far.decided.decision ∙ commits_by far.decided on, commits_by far.decided on)
-    decision_so (death.Telling k) far on = (far.decided.decision ∙ commits_by far.decided on, commits_by far.decided on)
-    decision_so death.Told far on = (far.decided.decision ∙ commits_by far.decided on, commits_by far.decided on)
+    decision_so at far on =
+        ⊎_elim (λ (z : (known.commit ≡ false) × (later ≡ log)). absurd (unrecorded tran log later absent z.1 on))
+        (λ (is : IsDecidedBy tran bs log later known). (is.decision ∙ commits_by is on, commits_by is on)) (far_so at far)
 
 -- ---- endings
 
@@ -139,36 +131,32 @@ obeyed_ends A commit old new bs vs zs es h =
 -- a branch that isn't to be committed isn't shown as committed
 not_shown : (commit : Bool) (b : Branch) (v : Code) (e : Ending) → NotToCommit commit v × Ends commit b v e → is_committed e ≡ false
 not_shown commit b v e (inl aborts, ends) = out_so commit aborts b v e ends
-not_shown commit b v e (inr against, ends) = elim (cases_Bool (is_committed e)) [
-  | inr out ↦ out
-  | inl shown ↦
-      let voted = committed_yes (is_yes v) (is_read v) (rolls_back v) (is_out_of_reach v) commit v ends.0 (sym ends.1 ∙ committed_so e shown) in
-      absurd (let z : true ≡ false = sym voted.0 ∙ against in cc)
-]
+not_shown commit b v e (inr against, ends) = ap is_committed ends.1 ∙ unvoted commit v ends.0 against
 
 abbrev none_among : (Ending → Bool) → List Ending → Type 0
 none_among p es = list_any p es ≡ false
 
 module _ {D : Type 0} (A : Asking D) (U : Putting D) (tran : TranName) (bs : List Branch) (old new : ℕ → D) (log later : LogState) (known : Outcome)
     (absent : record_of log tran ≡ None) where
+  -- no ending is known before all were told
+  unless_told : (p : Ending → Bool) → (CameTo A U death.Told tran bs old new log later known → none_among p known.endings.items)
+      → (at : Death) → CameTo A U at tran bs old new log later known → none_among p known.endings.items
+  unless_told p told (death.Preparing k) far = ap (list_any p) far.endings
+  unless_told p told death.Prepared far = ap (list_any p) far.endings
+  unless_told p told death.Decided far = ap (list_any p) far.endings
+  unless_told p told (death.Telling k) far = ap (list_any p) far.endings
+  unless_told p told death.Told far = told far
+
   endings_out : (at : Death) → CameTo A U at tran bs old new log later known → is_recorded later tran ≡ false → none_among is_committed known.endings.items
-  endings_out (death.Preparing k) far off = ap (list_any is_committed) far.endings
-  endings_out death.Prepared far off = ap (list_any is_committed) far.endings
-  endings_out death.Decided far off = ap (list_any is_committed) far.endings
-  endings_out (death.Telling k) far off = ap (list_any is_committed) far.endings
-  endings_out death.Told far off =
+  endings_out at far off = unless_told is_committed (λ far.
       no_ending_is (λ b v e. NotToCommit known.commit v × Ends known.commit b v e) is_committed (not_shown known.commit) bs known.votes.items known.endings.items
-      (voted_with (NotToCommit known.commit) (Ends known.commit) bs known.votes.items known.endings.items (votes_by tran bs log later known absent far.decided off) (obeyed_ends A known.commit old new bs known.votes.items far.seconds known.endings.items far.each))
+      (voted_with (NotToCommit known.commit) (Ends known.commit) bs known.votes.items known.endings.items (votes_by tran bs log later known absent far.decided off) (obeyed_ends A known.commit old new bs known.votes.items far.seconds known.endings.items far.each))) at far
 
   endings_kept : (at : Death) → CameTo A U at tran bs old new log later known → is_recorded later tran ≡ true → none_among is_rolled_back known.endings.items
-  endings_kept (death.Preparing k) far on = ap (list_any is_rolled_back) far.endings
-  endings_kept death.Prepared far on = ap (list_any is_rolled_back) far.endings
-  endings_kept death.Decided far on = ap (list_any is_rolled_back) far.endings
-  endings_kept (death.Telling k) far on = ap (list_any is_rolled_back) far.endings
-  endings_kept death.Told far on =
+  endings_kept at far on = unless_told is_rolled_back (λ far.
       let decides = commits_by tran bs log later known absent far.decided on in
       no_ending_is (λ b v e. (is_no v ≡ false) × Ends known.commit b v e) is_rolled_back (kept_so known.commit (far.decided.decision ∙ decides)) bs known.votes.items known.endings.items
-      (voted_with (λ v. is_no v ≡ false) (Ends known.commit) bs known.votes.items known.endings.items (none_all is_no known.votes.items (none_against known.votes.items known.logged decides)) (obeyed_ends A known.commit old new bs known.votes.items far.seconds known.endings.items far.each))
+      (voted_with (λ v. is_no v ≡ false) (Ends known.commit) bs known.votes.items known.endings.items (none_all is_no known.votes.items (none_against known.votes.items known.logged decides)) (obeyed_ends A known.commit old new bs known.votes.items far.seconds known.endings.items far.each))) at far
 
 -- ---- the laws
 
@@ -184,7 +172,7 @@ death_by_record t c at known old new is =
       unsent = λ off m.
           let adds = stops_adds IsNoCommit (NotToCommit known.commit) m t c at known old new (λ k d lt. record {
             prepares = λ here. refl;
-            obeys = λ here v w. no_commit_so known.commit (get_or bs k d).xid v w;
+            obeys = λ here v w. no_commit_so known.commit (get_or bs k d).xid v w IsNoCommit (λ op e. e);
           }) (votes_fit (named c) bs log later known is.unlogged A U old.entries new.entries at is.course.far off) is in
           (adds.0, adds.1, list_any_none (λ (e : Entry). is_commit e.0.op) adds.0 adds.2);
       uncommitted = λ off. endings_out A U (named c) bs old.entries new.entries log later known is.unlogged at is.course.far off;
@@ -193,7 +181,7 @@ death_by_record t c at known old new is =
       kept = λ on m.
           let adds = stops_adds IsNoRollback (λ v. Unit {0}) m t c at known old new (λ k d lt. record {
             prepares = λ here. refl;
-            obeys = λ here v w. no_rollback_so known.commit (get_or bs k d).xid v (decision_so (named c) bs log later known is.unlogged A U old.entries new.entries at is.course.far on).0;
+            obeys = λ here v w. no_rollback_so known.commit (get_or bs k d).xid v (decision_so (named c) bs log later known is.unlogged A U old.entries new.entries at is.course.far on).0 IsNoRollback (λ op e. e);
           }) (λ k d lt. tt) is in
           (adds.0, adds.1, list_any_none (λ (e : Entry). is_rollback e.0.op) adds.0 adds.2);
       committed = λ on. endings_kept A U (named c) bs old.entries new.entries log later known is.unlogged at is.course.far on;
