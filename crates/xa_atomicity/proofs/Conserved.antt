@@ -23,7 +23,7 @@ use Rattle.xa_desk.specs.LedgerView.{LedgerView}
 use Rattle.xa_desk.specs.DeskView.{DeskView, ledger}
 use Rattle.xa_desk.specs.Lanes.{numbered}
 use Rattle.xa_desk.specs.Growth.{HaveGrown}
-use Rattle.xa_desk.proofs.Growth.{as_it_was, grown_on}
+use Rattle.xa_desk.proofs.Growth.{growing_on, same_lists}
 use Rattle.xa_switch.specs.declared.plan.Plan.{Plan}
 use Rattle.xa_switch.specs.Plans.{IsSoundManager}
 use Rattle.xa_switch.specs.Settling.{Settling, IsSettled, sent}
@@ -190,8 +190,8 @@ module _ (law : Tabled) (opens : (s : Settling) (m : ℕ) → IsSettled s → (T
         let good = sound_at b.m positive below in
         let T : Tables = opening (accounts_of p b.m) in
         record {
-          moves = both.moves T (opens_with b.m positive below) (accounts_of p b.m) ∙ ap (λ v. if is_committed e then v else pos 0) (held_is b good);
-          reads = λ only_read. sym (held_is b good) ∙ both.reads only_read T (opens_with b.m positive below) (accounts_of p b.m);
+          moves = (both.counted T (opens_with b.m positive below)).moves (accounts_of p b.m) ∙ ap (λ v. if is_committed e then v else pos 0) (held_is b good);
+          reads = λ only_read. sym (held_is b good) ∙ (both.counted T (opens_with b.m positive below)).reads only_read (accounts_of p b.m);
           unless_no = both.fated.unless_no;
           undecided = both.undecided;
         })
@@ -267,10 +267,6 @@ module _ (law : Tabled) (opens : (s : Settling) (m : ℕ) → IsSettled s → (T
   add_up : (u v w d e : ℤ) → v ≡ u +ℤ w → w +ℤ e ≡ pos 0 → u +ℤ d ≡ pos 0 → v +ℤ (d +ℤ e) ≡ pos 0
   add_up u v w d e f g h = omega (arith, ints)
 
-  joined : (at later last : List LedgerView) → HaveGrown at later → HaveGrown later last → HaveGrown at last
-  joined at later last one two =
-      record { each = λ m positive. grown_on (ledger at m) (ledger later m) (ledger last m) (one.each m positive) (two.each m positive) }
-
   pub thread_law : (at : List LedgerView) (doubt : ℤ) → OnlyTransfers p s t at doubt → HaveGrown at (ledgers_of s t) → moved_until at +ℤ doubt ≡ pos 0
   thread_law _ _ (opened at nothing) grown =
       plus_none _
@@ -283,13 +279,13 @@ module _ (law : Tabled) (opens : (s : Settling) (m : ℕ) → IsSettled s → (T
       (range_all (λ m. moved_in m (count at m) (count later m) ≡ pos 0) 1 (length p.managers.items) (λ m positive below. quiet_between at later grown none m positive))
       ∙ total_nothing (managers_of p) in
       ap (λ v. v +ℤ doubt) (moved_on at later growth ∙ ap (λ v. moved_until at +ℤ v) quiet ∙ plus_none _)
-      ∙ thread_law at doubt before (joined at later (ledgers_of s t) growth grown)
+      ∙ thread_law at doubt before (growing_on at later (ledgers_of s t) growth grown)
   thread_law _ _ (committed bs desk new log later d doubt before made alone zero_sum) grown =
       let growth : HaveGrown desk.ledgers new = growth_law made.may.tran bs desk.ledgers new log later d made.trace in
       add_up (moved_until desk.ledgers) (moved_until new) (total (λ m. moved_in m (count desk.ledgers m) (count new m)) (managers_of p)) doubt (held_in_doubt p s t desk.ledgers bs d)
       (moved_on desk.ledgers new growth)
       (ap (λ v. v +ℤ held_in_doubt p s t desk.ledgers bs d) (at_managers bs desk new log later d made grown alone zero_sum) ∙ call_moves bs desk new log later d made grown alone zero_sum)
-      (thread_law desk.ledgers doubt before (joined desk.ledgers new (ledgers_of s t) growth grown))
+      (thread_law desk.ledgers doubt before (growing_on desk.ledgers new (ledgers_of s t) growth grown))
 
   -- in the end its requests are all those of the thread
   whole_thread : moved_by p s t ≡ moved_until (ledgers_of s t)
@@ -308,11 +304,8 @@ module _ (law : Tabled) (opens : (s : Settling) (m : ℕ) → IsSettled s → (T
         | false ↦ λ e. refl
       ] refl)))
 
-  grown_self : (at : List LedgerView) → HaveGrown at at
-  grown_self at = record { each = λ m positive. as_it_was (ledger at m) }
-
   pub conserved_by : (doubt : ℤ) → OnlyTransfers p s t (ledgers_of s t) doubt → moved_by p s t +ℤ doubt ≡ pos 0
-  conserved_by doubt only = ap (λ v. v +ℤ doubt) whole_thread ∙ thread_law (ledgers_of s t) doubt only (grown_self (ledgers_of s t))
+  conserved_by doubt only = ap (λ v. v +ℤ doubt) whole_thread ∙ thread_law (ledgers_of s t) doubt only (same_lists (ledgers_of s t) (ledgers_of s t) refl)
 
 -- ---- all threads
 

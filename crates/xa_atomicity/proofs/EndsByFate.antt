@@ -1,4 +1,5 @@
 -- How a branch ends, by its fate at the end of the first opening and through the later ones.
+use Rattle.xa_base.proofs.Lists.{some_same}
 use Rattle.xa_atomicity.proofs.Voting.{ends, tells, leaves}
 use Rattle.xa_atomicity.proofs.Leading.{waits, unforgotten, over}
 use Rattle.std.proofs.lemmas.Bool.{both_ways}
@@ -38,6 +39,10 @@ decided_apart decision.Commit false e = cc
 decided_apart decision.Rollback true e = cc
 decided_apart decision.Rollback false e = cc
 
+pub read_apart : (d : HeuristicDecision) → decided_fate d ≡ history.ReadOnly → ⊥
+read_apart decision.Commit e = cc
+read_apart decision.Rollback e = cc
+
 pub decided_one : (d k : HeuristicDecision) → decided_fate d ≡ decided_fate k → d ≡ k
 decided_one decision.Commit decision.Commit e = refl
 decided_one decision.Rollback decision.Rollback e = refl
@@ -52,12 +57,9 @@ decision_so c e = cc
 
 -- an ending that isn't heuristic tells no decision
 pub untold : (e : Ending) (d : HeuristicDecision) → is_heuristic e ≡ false → told_fate e ≡ Some (decided_fate d) → ⊥
-untold Committed decision.Commit plain e = cc
-untold Committed decision.Rollback plain e = cc
-untold ReadOnly decision.Commit plain e = cc
-untold ReadOnly decision.Rollback plain e = cc
-untold RolledBack decision.Commit plain e = cc
-untold RolledBack decision.Rollback plain e = cc
+untold Committed d plain e = decided_apart d true (some_same (decided_fate d) history.Committed (sym e))
+untold ReadOnly d plain e = read_apart d (some_same (decided_fate d) history.ReadOnly (sym e))
+untold RolledBack d plain e = decided_apart d false (some_same (decided_fate d) history.RolledBack (sym e))
 untold InDoubt d plain e = cc
 untold (Heuristic c) d plain e = cc
 untold (Left c) d plain e = cc
@@ -70,10 +72,6 @@ left_fate : (commit : Bool) (L : Type 0) {s : Option State} (f g : Fate) → is_
 left_fate commit L f g left (waits y open_ state e) known apart same = let z : true ≡ false = sym (ap is_unknown e) ∙ ap is_unknown same ∙ known in cc
 left_fate commit L f g left (unforgotten d state e l) known apart same = apart d (sym e ∙ same)
 left_fate commit L f g left (over state e) known apart same = let z : true ≡ false = sym left ∙ ap is_left_in state in cc
-
-pub read_apart : (d : HeuristicDecision) → decided_fate d ≡ history.ReadOnly → ⊥
-read_apart decision.Commit e = cc
-read_apart decision.Rollback e = cc
 
 -- so it is in doubt, or was decided
 pub doubted : (commit : Bool) (W L : Type 0) {s : Option State} (f : Fate) (e : Ending) → ((g : Fate) → told_fate e ≡ Some g → f ≡ g) → is_left e ≡ false

@@ -1,4 +1,6 @@
 -- What a branch that voted to commit stands at, where requests that lead it and heuristic decisions name it.
+use Rattle.std.proofs.lemmas.Bool.{both_ways}
+use Rattle.xa_base.proofs.Truth.{by_bool}
 use Rattle.std.specs.Prelude.{unwrap_or, ◌⊎◌}
 use Rattle.std.proofs.Common.{◌≡◌, ℕ, inl, inr, ⊎_elim, Bool, true, false, if◌then◌else◌, List, [], ◌∷◌, ◌++◌, sym, refl, ap, ◌∙◌, subst, arith, Option, Some}
 use Rattle.std.proofs.Common.{None}
@@ -44,6 +46,13 @@ pub decided_known : (d : HeuristicDecision) → is_unknown (decided_fate d) ≡ 
 decided_known decision.Commit = refl
 decided_known decision.Rollback = refl
 
+-- it leads the branch, or doesn't name it; or it is a decision of it
+by_guide : (P : Type 0) (commit : Bool) (L : Type 0) (x : XidName) (op : Op) → IsGuided commit L x op → (IsTowards commit L x op → P)
+    → (names x op ≡ true → is_heur op ≡ true → P) → P
+by_guide P commit L x op guide leads decides =
+    by_bool (λ _. P) (is_heur op) (λ heur. by_bool (λ _. P) (names x op) (λ named. decides named heur) (λ other. leads (λ named. absurd (both_ways (names x op) other named))))
+    (λ plain. leads (λ named. guide named plain))
+
 module _ (commit : Bool) (D L : Type 0) (x : XidName) where
   by_decision : (f : Fate) (T : Tables) (op : Op) (a : Answer) → Stands commit true D L (state_of T x) f → Decides x op T a → IsGuidedTo commit D L x f op a
   by_decision f T op a st (Nothing same none) = record {
@@ -64,14 +73,8 @@ module _ (commit : Bool) (D L : Type 0) (x : XidName) where
   pub guided : (f : Fate) (T : Tables) → Stands commit true D L (state_of T x) f → Sound T → (t : ℕ) (op : Op) → IsGuided commit L x op
       → IsGuidedTo commit D L x f op (next t op T)
   guided f T st sound t op guide =
-      elim (is_heur op) as (λ h. is_heur op ≡ h → IsGuidedTo commit D L x f op (next t op T)) [
-        | false ↦ λ plain. by_leading f op (next t op T) (step_led commit true D L x f T st sound t op (λ n. guide n plain))
-        | true ↦ λ heur.
-            elim (names x op) as (λ n. names x op ≡ n → IsGuidedTo commit D L x f op (next t op T)) [
-              | true ↦ λ named. by_decision f T op (next t op T) st (decides t x op T named heur)
-              | false ↦ λ other. by_leading f op (next t op T) (step_led commit true D L x f T st sound t op (λ n. let z : true ≡ false = sym n ∙ other in cc))
-            ] refl
-      ] refl
+      by_guide (IsGuidedTo commit D L x f op (next t op T)) commit L x op guide (λ leads. by_leading f op (next t op T) (step_led commit true D L x f T st sound t op leads))
+      (λ named heur. by_decision f T op (next t op T) st (decides t x op T named heur))
 
   pub guided_after : (h : History) (T : Tables) (f : Fate) → All (λ r. IsGuided commit L x r.op) h → Standing commit true D L x T f
       → Standing commit true D L x (tables_after h T) (last_or f (fates x h T))
@@ -133,16 +136,10 @@ module _ (x : XidName) (T : Tables) (sound : Sound T) (past : IsPast (state_of T
 
   quiet : (commit : Bool) (L : Type 0) (t : ℕ) (op : Op) → IsGuided commit L x op → Quiet op (next t op T)
   quiet commit L t op guide =
-      elim (is_heur op) as (λ h. is_heur op ≡ h → Quiet op (next t op T)) [
-        | false ↦ λ plain.
-            let st = stands_so commit in
-            led_quiet commit op (decided_fate st.0) (next t op T) (step_led commit true ⊥ (Unit {0}) x (decided_fate st.0) T st.1 sound t op (λ n. leads_any commit L op (guide n plain)))
-        | true ↦ λ heur.
-            elim (names x op) as (λ n. names x op ≡ n → Quiet op (next t op T)) [
-              | false ↦ λ other. unnamed_fate x op (next t op T).1 other
-              | true ↦ λ named. heur_quiet op (next t op T) (decides t x op T named heur)
-            ] refl
-      ] refl
+      let st = stands_so commit in
+      by_guide (Quiet op (next t op T)) commit L x op guide
+      (λ leads. led_quiet commit op (decided_fate st.0) (next t op T) (step_led commit true ⊥ (Unit {0}) x (decided_fate st.0) T st.1 sound t op (λ n. leads_any commit L op (leads n))))
+      (λ named heur. heur_quiet op (next t op T) (decides t x op T named heur))
 
 -- one that was in doubt gets at most one fate
 module _ (commit : Bool) (D L : Type 0) (x : XidName) where

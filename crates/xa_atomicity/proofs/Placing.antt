@@ -1,4 +1,5 @@
 -- Where the requests of one thread stand in a history, and what they were answered.
+use Rattle.std.proofs.lemmas.List.{map-append}
 use Rattle.std.proofs.Common.{◌≡◌, ◌≢◌, ℕ, zero, suc, ◌+◌, ◌<◌, true, false, ◌==◌, cond, List, [], ◌∷◌, ◌++◌, length, map, slice_get, get_or, sym, refl, ap}
 use Rattle.std.proofs.Common.{◌∙◌, arith, Option, Some, None}
 use Rattle.std.specs.Prelude.{filter}
@@ -81,13 +82,9 @@ module _ (t : ℕ) where
   -- ---- the answers
 
   answers_both : (xs ys : List Entry) → answers t (xs ++ ys) ≡ answers t xs ++ answers t ys
-  answers_both [] ys = refl
-  answers_both (x ∷ xs) ys =
-      elim (x.0.thread == t) as (λ b. map (λ (e : Entry). (e.0.number, e.1)) (cond b (x ∷ filter (λ (e : Entry). e.0.thread == t) (xs ++ ys)) (filter (λ (e : Entry). e.0.thread == t) (xs ++ ys)))
-      ≡ map (λ (e : Entry). (e.0.number, e.1)) (cond b (x ∷ filter (λ (e : Entry). e.0.thread == t) xs) (filter (λ (e : Entry). e.0.thread == t) xs)) ++ answers t ys) [
-        | true ↦ ap (λ l. (x.0.number, x.1) ∷ l) (answers_both xs ys)
-        | false ↦ answers_both xs ys
-      ]
+  answers_both xs ys =
+      ap (map (λ (e : Entry). (e.0.number, e.1))) (filter-append (λ (e : Entry). e.0.thread == t) xs ys)
+      ∙ map-append (λ (e : Entry). (e.0.number, e.1)) (filter (λ (e : Entry). e.0.thread == t) xs) (filter (λ (e : Entry). e.0.thread == t) ys)
 
   answers_length : (h : History) (T : Tables) → length (answers t (coded h T)) ≡ length (of_thread t h)
   answers_length [] T = refl

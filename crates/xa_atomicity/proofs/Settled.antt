@@ -183,10 +183,6 @@ module _ (law : Tabled) (s : Settling) (t : ℕ) (settled : IsSettled s) (b : Br
 
 -- in a settled opening, by the histories of its managers
 module _ (law : Tabled) (opened : (s : Settling) (m : ℕ) → IsSettled s → (T : Tables) × IsOpenedWith s m T) (s : Settling) (t : ℕ) where
-  -- a branch with an addition, whose Prepare has number n, didn't only read
-  abbrev Adders : Branch → ℕ → Ending → Type 0
-  Adders b n ending = (T : Tables) → IsOpenedWith s b.m T → (k : List ℕ) (d : ℤ) → IsAddition b.xid k d t n T (history_of s b.m) → is_read_only ending ≡ false
-
   -- what became of one branch
   pub record Fated (b : Branch) (n : ℕ) (vote : Code) (ending : Ending) : Type 0 where
     pub keeps : KeepsItsVote s t b n vote ending
@@ -197,13 +193,8 @@ module _ (law : Tabled) (opened : (s : Settling) (m : ℕ) → IsSettled s → (
   -- and what it counts for, whose requests have the numbers from n to below `last`
   pub record Both (b : Branch) (n last : ℕ) (vote : Code) (ending : Ending) : Type 0 where
     pub fated : Fated b n vote ending
-    pub counts : Shares s t b n (is_committed ending)
-    pub adders : Adders b n ending
-    pub moves : (T : Tables) → IsOpenedWith s b.m T → (accounts : List (List ℕ × ℕ))
-        → moved accounts (is_within t n last) (history_of s b.m) T ≡ (if is_committed ending then held_by accounts b.xid (tables_after (taken_before t n (history_of s b.m)) T) else pos 0)
+    pub counted : (T : Tables) → IsOpenedWith s b.m T → Counted t b.xid T (history_of s b.m) n last vote ending
     pub undecided : is_no vote ≡ false → is_heuristic ending ≡ false
-    pub reads : is_read_only ending ≡ true → (T : Tables) → IsOpenedWith s b.m T → (accounts : List (List ℕ × ℕ))
-        → held_by accounts b.xid (tables_after (taken_before t n (history_of s b.m)) T) ≡ pos 0
 
   -- ---- branches whose requests have the numbers from those of `old` to below those of `new`
 
@@ -246,15 +237,12 @@ module _ (law : Tabled) (opened : (s : Settling) (m : ℕ) → IsSettled s → (
       pub one_both : OnlyTheseName b.xid t n last H → Both b n last vote ending
       one_both only =
           let open_ = opened s b.m settled in
-          let z : (U : Tables) (with_U : IsOpenedWith s b.m U) → Counted t b.xid U H n last vote ending = λ U with_U.
+          let z : (U : Tables) → IsOpenedWith s b.m U → Counted t b.xid U H n last vote ending = λ U with_U.
           branch_counts (site_of law s settled t b.m U with_U) b.xid n last commit vote ending (is U with_U).0 only in
           record {
             fated = one_fated (λ before after r place own number k d lt named other. only before after r place own number k d lt named);
-            counts = λ U with_U k d add. (z U with_U).counted k d add;
-            adders = λ U with_U k d add. (z U with_U).adders k d add;
-            moves = λ U with_U accounts. (z U with_U).moves accounts;
+            counted = z;
             undecided = (z open_.0 open_.1).undecided;
-            reads = λ only_read U with_U accounts. (z U with_U).reads only_read accounts;
           }
 
     -- each of them
@@ -293,8 +281,8 @@ module _ (law : Tabled) (opened : (s : Settling) (m : ℕ) → IsSettled s → (
         λ T with_T k d add.
             let same : is_committed e ≡ whole =
             ending_is whole e (λ w. (or_parts (is_rolled_back e) (list_any is_rolled_back es) (agree w)).0) (λ w. h.0.undecided (or_parts (is_no v) (list_any is_no vs) (unopposed w)).0) (λ c. some (ap (λ q. q || list_any is_committed es) c)) here.0 there.0
-            (h.0.adders T with_T k d add) in
-            h.0.counts T with_T k d add ∙ ap (λ q. if q then d else pos 0) same,
+            ((h.0.counted T with_T).adders k d add) in
+            (h.0.counted T with_T).counted k d add ∙ ap (λ q. if q then d else pos 0) same,
         each_whole whole from upto bs vs es (λ w. (or_parts (is_rolled_back e) (list_any is_rolled_back es) (agree w)).1) (λ w. (or_parts (is_no v) (list_any is_no vs) (unopposed w)).1) (λ c. some (ap (λ q. is_committed e || q) c ∙ or-true (is_committed e))) here.1 there.1 h.1,
       )
   each_whole whole from upto bs vs es agree unopposed some doubt left h = absurd h
@@ -338,7 +326,7 @@ module _ (law : Tabled) (opened : (s : Settling) (m : ℕ) → IsSettled s → (
       all_outcomes = each_both settled d.commit (sent_so_far at) (sent_so_far new) bs d.votes.items made.trace.course.seconds d.endings.items each alone
 
       pub counts_law : CountsTheCommitted s t bs (sent_so_far at) d
-      counts_law = record { each = outcome_map (λ b v e. Both b (sent_so_far at b.m) (sent_so_far new b.m) v e) (λ b v e. Shares s t b (sent_so_far at b.m) (is_committed e)) (λ b v e z. z.counts) bs d.votes.items d.endings.items all_outcomes }
+      counts_law = record { each = outcome_map (λ b v e. Both b (sent_so_far at b.m) (sent_so_far new b.m) v e) (λ b v e. Shares s t b (sent_so_far at b.m) (is_committed e)) (λ b v e z T with_T. (z.counted T with_T).counted) bs d.votes.items d.endings.items all_outcomes }
 
       -- no branch was rolled back, and none voted against, where one was committed
       pub whole_law : (has_committed d ≡ true → has_rolled_back d ≡ false) → (has_committed d ≡ true → has_vote_against d ≡ false) → is_decided d ≡ true

@@ -182,9 +182,9 @@ module _ (law : Tabled) (opens : (s : Settling) (m : ℕ) → IsSettled s → (T
       (λ b v e h T with_T k d add.
       let own = h.1.1.0 in
       let same : is_committed e ≡ done.commit =
-      certain_is e (own.fated.unless_no h.1.0) (kept_so done.commit commit b v e (h.1.0, h.1.1.1)) h.0 (own.undecided h.1.0) (own.adders T with_T k d add)
+      certain_is e (own.fated.unless_no h.1.0) (kept_so done.commit commit b v e (h.1.0, h.1.1.1)) h.0 (own.undecided h.1.0) ((own.counted T with_T).adders k d add)
       ∙ sym commit in
-      own.counts T with_T k d add ∙ ap (λ q. if q then d else pos 0) same)
+      (own.counted T with_T).counted k d add ∙ ap (λ q. if q then d else pos 0) same)
       bs done.votes.items done.endings.items
       (with_endings (λ b v e. (is_no v ≡ false) × CountedHere b v e) is_in_doubt bs done.votes.items done.endings.items certain
       (voted_with (λ v. is_no v ≡ false) CountedHere bs done.votes.items done.endings.items (none_all is_no done.votes.items (unopposed_so commit)) all))
@@ -192,13 +192,13 @@ module _ (law : Tabled) (opens : (s : Settling) (m : ℕ) → IsSettled s → (T
   none_counts : each CountedHere → done.commit ≡ false → each (λ b v e. Shares s t b (length (old.entries b.m)) done.commit)
   none_counts all aborts =
       outcome_map CountedHere (λ b v e. Shares s t b (length (old.entries b.m)) done.commit)
-      (λ b v e own T with_T k d add. own.0.counts T with_T k d add ∙ ap (λ q. if q then d else pos 0) (out_so done.commit aborts b v e own.1 ∙ sym aborts)) bs done.votes.items done.endings.items all
+      (λ b v e own T with_T k d add. (own.0.counted T with_T).counted k d add ∙ ap (λ q. if q then d else pos 0) (out_so done.commit aborts b v e own.1 ∙ sym aborts)) bs done.votes.items done.endings.items all
 
   pub counts_by : each CountedHere → CountsAsShown s t bs old done
   counts_by all = record {
     counts = record {
       each =
-          outcome_map CountedHere (λ b v e. Shares s t b (length (old.entries b.m)) (is_committed e)) (λ b v e h. h.0.counts) bs done.votes.items done.endings.items all;
+          outcome_map CountedHere (λ b v e. Shares s t b (length (old.entries b.m)) (is_committed e)) (λ b v e h T with_T. (h.0.counted T with_T).counted) bs done.votes.items done.endings.items all;
     };
     whole = λ certain. elim (cases_Bool (done.commit)) [ inl commit ↦ all_count all commit certain | inr aborts ↦ none_counts all aborts ];
   }

@@ -4,22 +4,18 @@ use Rattle.xa_atomicity.proofs.fates.endings_are_fates.Goals as goal
 
 pub returns-clause-votes : goal.returns-clause-votes
 returns-clause-votes c = λ s t bs desk new log later done settled made grown alone.
-    let law = c.tables_keep_to_their_laws.ensures in
-    votes_law law c.settled_journals_follow_the_tables.ensures.some s t bs desk new log later done settled made grown alone
+    votes_law c.tables_keep_to_their_laws.ensures c.settled_journals_follow_the_tables.ensures.some s t bs desk new log later done settled made grown alone
 
 pub returns-clause-fates : goal.returns-clause-fates
 returns-clause-fates c = λ s t bs desk new log later done settled made grown alone.
-    let law = c.tables_keep_to_their_laws.ensures in
-    fates_law law c.settled_journals_follow_the_tables.ensures.some s t bs desk new log later done settled made grown alone
+    fates_law c.tables_keep_to_their_laws.ensures c.settled_journals_follow_the_tables.ensures.some s t bs desk new log later done settled made grown alone
 
 pub returns-clause-values : goal.returns-clause-values
 returns-clause-values c = λ s t bs desk new log later done settled made grown alone.
-    let law = c.tables_keep_to_their_laws.ensures in
-    counts_law law c.settled_journals_follow_the_tables.ensures.some s t bs desk new log later done settled made grown alone
+    counts_law c.tables_keep_to_their_laws.ensures c.settled_journals_follow_the_tables.ensures.some s t bs desk new log later done settled made grown alone
 
 pub returns-clause-whole : goal.returns-clause-whole
 returns-clause-whole c = λ s t bs desk new log later done settled made grown alone decided.
-    let law = c.tables_keep_to_their_laws.ensures in
-    whole_law law c.settled_journals_follow_the_tables.ensures.some s t bs desk new log later done settled made grown alone
+    whole_law c.tables_keep_to_their_laws.ensures c.settled_journals_follow_the_tables.ensures.some s t bs desk new log later done settled made grown alone
     (λ some. (committed_law made.may.tran bs desk new log later done made made.may.one some).kept)
     (λ some. (committed_law made.may.tran bs desk new log later done made made.may.one some).unopposed) decided

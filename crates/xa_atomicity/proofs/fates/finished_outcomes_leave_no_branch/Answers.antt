@@ -6,7 +6,5 @@ use Rattle.xa_atomicity.proofs.fates.finished_outcomes_leave_no_branch.Goals as 
 
 pub returns : goal.returns
 returns c s q settled made scan only r among finished =
-    let law = c.tables_keep_to_their_laws.ensures in
-    let first = c.settled_journals_follow_the_tables.ensures.first in
-    let told = outcomes_law law first s q settled made scan only in
-    gone_finished law first s settled r finished (All-contains (TellsTheOutcome s) q.outcomes r told among)
+    let told = outcomes_law c.tables_keep_to_their_laws.ensures c.settled_journals_follow_the_tables.ensures.first s q settled made scan only in
+    gone_finished c.tables_keep_to_their_laws.ensures c.settled_journals_follow_the_tables.ensures.first s settled r finished (All-contains (TellsTheOutcome s) q.outcomes r told among)
