@@ -1,4 +1,7 @@
 -- What a commit sent that was cut short: by the record no Commit, or no Rollback.
+use Rattle.std.proofs.lemmas.List.Elements.{All-contains}
+use Rattle.xa_atomicity.proofs.CutVotes.{CameAt, IsVoteOf, each_came, at_asking, at_forgetting, at_telling}
+use Rattle.xa_driver.specs.Trace.{AreBranchesRising}
 use Rattle.xa_atomicity.proofs.Requests.{none_all}
 use Rattle.xa_atomicity.proofs.Records.{recorded_is, none_on_abort}
 use Rattle.xa_atomicity.proofs.Asked.{second_so, third_so}
@@ -76,27 +79,22 @@ module _ (bad : Op → Bool) (prepares : (x : XidName) → bad (Prepare x) ≡ f
       (on (Good b.xid) (ledger old b.m) (voted b v (ledger old b.m)) (ledger new b.m)
       (asked_sends (Good b.xid) (ledger old b.m) (Some (Prepare b.xid)) (Some v) (good_so b.xid (Prepare b.xid) (prepares b.xid))) h.rest)
 
-  votes_none : (commit : Bool) (bs : List Branch) (vs : List Code) → All (Ok commit) vs → EachVote (λ b v. Ok commit v → None_ b) bs vs → All None_ bs
-  votes_none commit [] [] ok h = All-nil None_
-  votes_none commit (b ∷ bs) (v ∷ vs) ok h =
-      All-cons None_ b bs (h.0 (All-head (Ok commit) v vs ok)) (votes_none commit bs vs (All-tail (Ok commit) v vs ok) h.1)
-  votes_none commit bs vs ok h = absurd h
-
-  none_bad : (tran : TranName) (bs : List Branch) (log later : LogState) (es : List Ending) → CameSoFar tran bs old new log later es
+  none_bad : {tran : TranName} {bs : List Branch} {log later : LogState} {es : List Ending} → AreBranchesRising 0 bs → CameSoFar tran bs old new log later es
       → ((votes : List Code) (logged : Bool) → Logs tran (yes_of bs votes) votes logged log later → All (Ok (decision_of votes logged)) votes) → All None_ bs
-  none_bad tran bs log later es (asking is none each) ok = λ j d lt. asked_none (get_or bs j d) (each j d lt)
-  none_bad tran bs log later es (telling votes logged logs none each) ok =
-      let commit : Bool = decision_of votes logged in
-      votes_none commit bs votes (ok votes logged logs)
-      (vote_map (λ b v. IsTold commit b v (ledger old b.m) (ledger new b.m)) (λ b v. Ok commit v → None_ b) (λ b v z fine.
-      voted_none b v (told_voted (Good b.xid) commit b v (ledger old b.m) (ledger new b.m) (other_good b.xid) (good commit b.xid v fine (Good b.xid) (good_so b.xid)) z))
-      bs votes each)
-  none_bad tran bs log later es (forgetting votes logged seconds logs each) ok =
-      let commit : Bool = decision_of votes logged in
-      votes_none commit bs votes (ok votes logged logs)
-      (branch_votes (Ended commit old new) (λ b v. Ok commit v → None_ b) (λ b v s e z fine.
-      voted_none b v (ended_voted (Good b.xid) commit b v (ledger old b.m) (ledger new b.m) (other_good b.xid) (good commit b.xid v fine (Good b.xid) (good_so b.xid)) s (third_so (Good b.xid) b.xid s (λ _. good_so b.xid (Forget b.xid) (forgets b.xid))) z.0))
-      bs votes seconds es each)
+  none_bad {tran} {bs} {log} {later} {es} rising far ok j d lt = at_branch (get_or bs j d) (each_came rising far j d lt)
+    where
+      second : (votes : List Code) (logged : Bool) → Logs tran (yes_of bs votes) votes logged log later → (b : Branch) (v : Code) → IsVoteOf bs votes b v
+          → IsAskedFor (Good b.xid) (second_op (decision_of votes logged) b.xid v)
+      second votes logged logs b v vote =
+          good (decision_of votes logged) b.xid v (All-contains (Ok (decision_of votes logged)) votes v (ok votes logged logs) vote.among) (Good b.xid) (good_so b.xid)
+
+      at_branch : (b : Branch) → CameAt tran bs old new log later es b → None_ b
+      at_branch b (at_asking same h) = asked_none b h
+      at_branch b (at_telling votes logged logs v vote h) =
+          voted_none b v (told_voted (Good b.xid) (decision_of votes logged) b v (ledger old b.m) (ledger new b.m) (other_good b.xid) (second votes logged logs b v vote) h)
+      at_branch b (at_forgetting votes logged logs v vote z h known) =
+          voted_none b v
+          (ended_voted (Good b.xid) (decision_of votes logged) b v (ledger old b.m) (ledger new b.m) (other_good b.xid) (second votes logged logs b v vote) z (third_so (Good b.xid) b.xid z (λ _. good_so b.xid (Forget b.xid) (forgets b.xid))) h)
 
 -- ---- by the record
 
@@ -138,12 +136,12 @@ module _ (bs : List Branch) (desk : DeskView) (new : List LedgerView) (log later
 
   pub unrecorded_law : is_recorded later t ≡ false → NoneWasToldToCommit bs desk.ledgers new
   unrecorded_law off =
-      none_bad is_commit (λ x. refl) (λ x. refl) NotToCommit no_commit_so desk.ledgers new own bs log later es k.far (λ votes logged logs.
+      none_bad is_commit (λ x. refl) (λ x. refl) NotToCommit no_commit_so desk.ledgers new k.may.rising k.far (λ votes logged logs.
       undecided_so own log later k.may.absent votes logged (yes_of bs votes) logs (ap (is_recorded later) same_tran ∙ off))
 
   pub recorded_law : is_recorded later t ≡ true → NoneWasToldToRollBack bs desk.ledgers new
   recorded_law on =
-      none_bad is_rollback (λ x. refl) (λ x. refl) (λ commit v. commit ≡ true) no_rollback_so desk.ledgers new own bs log later es k.far (λ votes logged logs j d lt.
+      none_bad is_rollback (λ x. refl) (λ x. refl) (λ commit v. commit ≡ true) no_rollback_so desk.ledgers new k.may.rising k.far (λ votes logged logs j d lt.
       decided_so own log later k.may.absent votes logged (yes_of bs votes) logs (ap (is_recorded later) same_tran ∙ on))
 
 -- ---- the second round alone, to any manager

@@ -1,4 +1,13 @@
 -- The votes that a commit got which was cut short, and what it leaves in the log.
+use Rattle.xa_atomicity.specs.Cut.{IsAsked}
+use Rattle.std.proofs.Common.{◌==◌, ◌||◌, if◌then◌else◌}
+use Rattle.xa_driver.specs.declared.done.Ending.TheVariants.{InDoubt}
+use Rattle.std.specs.Prelude.{◌&&◌, unwrap_or}
+use Rattle.xa_driver.specs.Decision.{has_yes, voted_yes, yes_of}
+use Rattle.std.proofs.Math.Bool.{or-true}
+use Rattle.std.proofs.lemmas.Bool.{eq-eqb, ne_eqb}
+use Rattle.xa_atomicity.specs.Cut.{CameSoFar, ending_at, known_at}
+use Rattle.xa_driver.specs.Trace.{AreBranchesRising, Logs, decision_of}
 use Rattle.xa_base.proofs.Lists.{begins_on}
 use Rattle.xa_atomicity.proofs.Placing.{at_seam}
 use Rattle.std.proofs.lemmas.List.Elements.{Contains-append_right}
@@ -144,6 +153,60 @@ told_votes commit old new =
 
 abbrev pub Ended : Bool → List LedgerView → List LedgerView → Branch → Code → Option Code → Ending → Type 0
 Ended commit old new b v s e = IsEnded commit b v s (ledger old b.m) (ledger new b.m) × (e ≡ ending_of commit v s)
+
+-- what its coordinator knew of each branch is its ending
+pub known_each : (P : Branch → Code → Option Code → Ending → Type 0) (A : Type 0) (known : ℕ → Ending) (lo : ℕ) (bs : List Branch) (vs : List Code) (zs : List (Option Code)) (es : List Ending)
+    → AreBranchesRising lo bs
+    → ((n : ℕ) → lo < n → known_at n bs es ≡ known n) → (has_yes vs ≡ true → A) → EachBranch P bs vs zs es
+    → EachBranch (λ b v z e. P b v z e × (known b.m ≡ e) × (is_yes v ≡ true → A)) bs vs zs es
+known_each P A known lo [] [] [] [] rising same some h = tt
+known_each P A known lo (b ∷ bs) (v ∷ vs) (z ∷ zs) (e ∷ es) rising same some h =
+    let lower = rising.0 in (
+      (h.0, sym (same b.m lower) ∙ ap (λ c. unwrap_or (if c then Some e else ending_at b.m bs es) InDoubt) (eq-eqb b.m b.m refl), λ y. some (ap (λ c. c || has_yes vs) y)),
+      known_each P A known b.m bs vs zs es rising.1
+          (λ n above. ap (λ c. unwrap_or (if c then Some e else ending_at n bs es) InDoubt) (sym (ne_eqb b.m n (λ q. absurd (omega (arith, q, above))))) ∙ same n (omega (arith, lower, above)))
+          (λ y. some (ap (λ c. is_yes v || c) y ∙ or-true (is_yes v))) h.1,
+    )
+known_each P A known lo bs vs zs es rising same some h = absurd h
+
+-- ---- one branch, by how far the commit came
+
+-- its vote is one of those that made the decision, and marks its manager
+pub record IsVoteOf (bs : List Branch) (votes : List Code) (b : Branch) (v : Code) : Type 0 where
+  pub among : Contains votes v
+  pub marks : is_yes v ≡ true → voted_yes b.m bs votes ≡ true
+
+voters : (P : Branch → Code → Type 0) (bs : List Branch) (vs : List Code) → EachVote P bs vs → All (λ b. (v : Code) × (P b v × IsVoteOf bs vs b v)) bs
+voters P [] [] h = All-nil (λ b. (v : Code) × (P b v × IsVoteOf [] [] b v))
+voters P (b ∷ bs) (v ∷ vs) h =
+    All-cons (λ c. (w : Code) × (P c w × IsVoteOf (b ∷ bs) (v ∷ vs) c w)) b bs
+    (v, (h.0, record { among = (zero, omega arith, refl); marks = λ y. λ i. (eq-eqb b.m b.m refl i && y i) || voted_yes b.m bs vs })) (λ j d lt.
+    let w = voters P bs vs h.1 j d lt in
+    let own : Bool = (b.m == (get_or bs j d).m) && is_yes v in
+    (w.0, (w.1.0, record { among = Contains-append_right (v ∷ []) vs w.0 w.1.1.among; marks = λ y. ap (λ z. own || z) (w.1.1.marks y) ∙ or-true own })))
+voters P bs vs h = absurd h
+
+pub data CameAt (tran : TranName) (bs : List Branch) (old new : List LedgerView) (log later : LogState) (es : List Ending) (b : Branch) : Type 0 where
+  at_asking : later ≡ log → IsAsked b (ledger old b.m) (ledger new b.m) → CameAt tran bs old new log later es b
+  at_telling : (votes : List Code) (logged : Bool) → Logs tran (yes_of bs votes) votes logged log later → (v : Code) → IsVoteOf bs votes b v
+      → IsTold (decision_of votes logged) b v (ledger old b.m) (ledger new b.m) → CameAt tran bs old new log later es b
+  at_forgetting : (votes : List Code) (logged : Bool) → Logs tran (yes_of bs votes) votes logged log later → (v : Code) → IsVoteOf bs votes b v → (z : Option Code)
+      → IsEnded (decision_of votes logged) b v z (ledger old b.m) (ledger new b.m) → known_at b.m bs es ≡ ending_of (decision_of votes logged) v z
+      → CameAt tran bs old new log later es b
+
+pub each_came : {tran : TranName} {bs : List Branch} {old new : List LedgerView} {log later : LogState} {es : List Ending} → AreBranchesRising 0 bs
+    → CameSoFar tran bs old new log later es → All (CameAt tran bs old new log later es) bs
+each_came rising (asking same unknown each) j d lt = at_asking same (each j d lt)
+each_came {bs = bs} {old = old} {new = new} rising (telling votes logged logs unknown each) j d lt =
+    let w = voters (λ b v. IsTold (decision_of votes logged) b v (ledger old b.m) (ledger new b.m)) bs votes each j d lt in at_telling votes logged logs w.0 w.1.1 w.1.0
+each_came {bs = bs} {old = old} {new = new} {es = es} rising (forgetting votes logged seconds logs each) j d lt =
+    let End : Branch → Code → Option Code → Ending → Type 0 = Ended (decision_of votes logged) old new in
+    let Known : Branch → Code → Option Code → Ending → Type 0 = λ b v z e. End b v z e × (known_at b.m bs es ≡ e) × (is_yes v ≡ true → Unit {0}) in
+    let Q : Branch → Code → Type 0 = λ b v. (z : Option Code) × ((e : Ending) × Known b v z e) in
+    let known = known_each End (Unit {0}) (λ n. known_at n bs es) 0 bs votes seconds es rising (λ n above. refl) (λ _. tt) each in
+    let w = voters Q bs votes (branch_votes Known Q (λ b v z e h. (z, (e, h))) bs votes seconds es known) j d lt in
+    let h = w.1.0.1.1 in
+    at_forgetting votes logged logs w.0 w.1.1 w.1.0.0 h.0.0 (h.1 ∙ h.0.1)
 
 pub any_voted : (commit : Bool) (b : Branch) (v : Code) (s : Option Code) (a a' : LedgerView) → IsEnded commit b v s a a' → HasVoted Any b v a a'
 any_voted commit b v s a a' = ended_voted Any commit b v a a' (λ op _. tt) (any_asked (second_op commit b.xid v)) s (any_asked (third_op b.xid s))

@@ -1,4 +1,5 @@
 -- One outcome for each global transaction whose commit was cut short, over openings one after another.
+use Rattle.xa_atomicity.proofs.CutVotes.{CameAt, each_came, at_asking, at_forgetting, at_telling}
 use Rattle.xa_atomicity.proofs.Settled.{sent_stands}
 use Rattle.xa_atomicity.proofs.Sites.{Site, StandsIn}
 use Rattle.std.specs.Prelude.{◌&&◌, not, option_map, is_some, unwrap_or, cond}
@@ -119,33 +120,6 @@ pub record Followed (o : Opening) (between : List Opening) (last : Opening) (u :
   pub own : AskedAreLeft k o.settled
   pub voted : (b : Branch) → V b → VotedToCommit k o.settled b
   pub quiet : (mark : Bool) (b : Branch) → IsUpTo MOST_MANAGERS b.m → W b → All (IsQuiet mark made.may.tran b.m) use_.vs
-
--- what its coordinator knew of each branch is its ending
-pub known_each : (P : Branch → Code → Option Code → Ending → Type 0) (A : Type 0) (known : ℕ → Ending) (lo : ℕ) (bs : List Branch) (vs : List Code) (zs : List (Option Code)) (es : List Ending)
-    → AreBranchesRising lo bs
-    → ((n : ℕ) → lo < n → known_at n bs es ≡ known n) → (has_yes vs ≡ true → A) → EachBranch P bs vs zs es
-    → EachBranch (λ b v z e. P b v z e × (known b.m ≡ e) × (is_yes v ≡ true → A)) bs vs zs es
-known_each P A known lo [] [] [] [] rising same some h = tt
-known_each P A known lo (b ∷ bs) (v ∷ vs) (z ∷ zs) (e ∷ es) rising same some h =
-    let lower = rising.0 in (
-      (h.0, sym (same b.m lower) ∙ ap (λ c. unwrap_or (if c then Some e else ending_at b.m bs es) InDoubt) (eq-eqb b.m b.m refl), λ y. some (ap (λ c. c || has_yes vs) y)),
-      known_each P A known b.m bs vs zs es rising.1
-          (λ n above. ap (λ c. unwrap_or (if c then Some e else ending_at n bs es) InDoubt) (sym (ne_eqb b.m n (λ q. absurd (omega (arith, q, above))))) ∙ same n (omega (arith, lower, above)))
-          (λ y. some (ap (λ c. is_yes v || c) y ∙ or-true (is_yes v))) h.1,
-    )
-known_each P A known lo bs vs zs es rising same some h = absurd h
-
--- each branch has its vote, and a manager whose branch voted to commit did
-voters : (P : Branch → Code → Type 0) (bs : List Branch) (vs : List Code) → EachVote P bs vs
-    → All (λ b. (v : Code) × (P b v × (is_yes v ≡ true → voted_yes b.m bs vs ≡ true))) bs
-voters P [] [] h = All-nil (λ b. (v : Code) × (P b v × (is_yes v ≡ true → voted_yes b.m [] [] ≡ true)))
-voters P (b ∷ bs) (v ∷ vs) h =
-    All-cons (λ c. (w : Code) × (P c w × (is_yes w ≡ true → voted_yes c.m (b ∷ bs) (v ∷ vs) ≡ true))) b bs (v, (h.0, λ y. λ i. (eq-eqb b.m b.m refl i && y i) || voted_yes b.m bs vs))
-    (λ j d lt.
-    let w = voters P bs vs h.1 j d lt in
-    let n : ℕ = (get_or bs j d).m in
-    (w.0, (w.1.0, λ y. ap (λ z. ((b.m == n) && is_yes v) || z) (w.1.1 y) ∙ or-true ((b.m == n) && is_yes v))))
-voters P bs vs h = absurd h
 
 module _ (law : Tabled) (first : (s : Settling) (m : ℕ) (T : Tables) → IsSettled s → first_of s m ≡ Some T → IsOpenedWith s m T)
     (o : Opening) (between : List Opening) (last : Opening) (u : Use) (k : CutCall) (q : ResolveCall) (V W : Branch → Type 0) (r : Followed o between last u k q V W)
@@ -357,28 +331,14 @@ module _ (law : Tabled) (first : (s : Settling) (m : ℕ) (T : Tables) → IsSet
                 decided b among (own voted.asked) here (told.gap ++ outcome_op commit x ∷ told.rest, told.sent) (mark_so L sends) c on ending told
           ] refl
 
-  abbrev Goal : Branch → Type 0
-  Goal b = V b → Result b
+    by_came : CameAt tran k.branches k.desk.ledgers k.new k.log k.later k.endings b → Result b
+    by_came (at_asking same h) = asking_so same h
+    by_came (at_telling votes logged logs v vote h) =
+        voted_so votes logged logs v vote.marks (told_voted_so (decision_of votes logged) ⊥ b v (before_of b) (after_of b) h)
+    by_came (at_forgetting votes logged logs v vote z h known) = told_so votes logged logs v vote.marks z h known
 
-  all_goals : CameSoFar tran k.branches k.desk.ledgers k.new k.log k.later k.endings → All Goal k.branches
-  all_goals (asking same unknown each) = λ j d lt here. asking_so (get_or k.branches j d) (among_so j d lt) (r.own j d lt) here same (each j d lt)
-  all_goals (telling votes logged logs unknown each) = λ j d lt here.
-      let b : Branch = get_or k.branches j d in
-      let w = voters (λ c v. IsTold (decision_of votes logged) c v (before_of c) (after_of c)) k.branches votes each j d lt in
-      voted_so b (among_so j d lt) (r.own j d lt) here votes logged logs w.0 w.1.1 (told_voted_so (decision_of votes logged) ⊥ b w.0 (before_of b) (after_of b) w.1.0)
-  all_goals (forgetting votes logged seconds logs each) = λ j d lt here.
-      let b : Branch = get_or k.branches j d in
-      let End : Branch → Code → Option Code → Ending → Type 0 = Ended (decision_of votes logged) k.desk.ledgers k.new in
-      let Known : Branch → Code → Option Code → Ending → Type 0 = λ c v z e. End c v z e × (known_of k c ≡ e) × (is_yes v ≡ true → Unit {0}) in
-      let known : EachBranch Known k.branches votes seconds k.endings =
-      known_each End (Unit {0}) (λ n. known_at n k.branches k.endings) 0 k.branches votes seconds k.endings r.made.may.rising (λ n above. refl) (λ _. tt) each in
-      let w =
-      voters (λ c v. (z : Option Code) × ((e : Ending) × Known c v z e)) k.branches votes (branch_votes Known (λ c v. (z : Option Code) × ((e : Ending) × Known c v z e)) (λ c v z e h. (z, (e, h))) k.branches votes seconds k.endings known) j d lt in
-      let h = w.1.0.1.1 in
-      told_so b (among_so j d lt) (r.own j d lt) here votes logged logs w.0 w.1.1 w.1.0.0 h.0.0 (h.1 ∙ h.0.1)
-
-  pub follows : All Goal k.branches
-  follows = all_goals r.made.far
+  pub follows : All (λ b. V b → Result b) k.branches
+  follows j d lt here = by_came (get_or k.branches j d) (among_so j d lt) (r.own j d lt) here (each_came r.made.may.rising r.made.far j d lt)
 
 -- ---- one that may have been cut short
 

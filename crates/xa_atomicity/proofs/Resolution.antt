@@ -1,5 +1,6 @@
 -- One outcome for each global transaction, over openings one after another: a commit that came to its end is one that was
 -- cut short after it.
+use Rattle.xa_atomicity.proofs.CutVotes.{known_each}
 use Rattle.xa_atomicity.proofs.CutVotes.{prepare_there, vote_there}
 use Rattle.xa_base.proofs.Truth.{by_bool}
 use Rattle.std.proofs.Common.{◌≡◌, ℕ, ◌≤◌, zero, Bool, true, false, List, [], ◌∷◌, ◌++◌, length, append_assoc, slice_get, sym, refl, ap, ◌∙◌, subst, arith}
@@ -40,7 +41,7 @@ use Rattle.xa_driver.proofs.Mapped.{Any}
 use Rattle.xa_atomicity.proofs.Naming.{Traced}
 use Rattle.xa_atomicity.proofs.OneOutcome.{committed_law, unopposed, aborted}
 use Rattle.xa_driver.proofs.Calls.{one_tran}
-use Rattle.xa_atomicity.proofs.Presumed.{Followed, among_so, follows, known_each, use_there, uses_after}
+use Rattle.xa_atomicity.proofs.Presumed.{Followed, among_so, follows, use_there, uses_after}
 use Rattle.xa_atomicity.proofs.Quiet.{quiet_after}
 use Rattle.xa_atomicity.proofs.Records.{none_on_abort, recorded_is}
 use Rattle.xa_atomicity.proofs.Settled.{each_outcome, told_in}

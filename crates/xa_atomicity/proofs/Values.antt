@@ -250,14 +250,6 @@ module _ {t : ℕ} {T : Tables} {H : History} (site : Site t T H) (x : XidName) 
   abbrev CountsAs : Bool → Type 0
   CountsAs b = Counts site x n vote b × ((accounts : List (List ℕ × ℕ)) → moved_here accounts ≡ (if b then held accounts else pos 0))
 
-  counted_as : (e : Ending) (b : Bool) → CountsAs b → b ≡ is_committed e → (k : List ℕ) (d : ℤ) (add : IsAddition x k d t n T H)
-      → share k none_later add.adding (add.between ++ prepare_of t n x ∷ add.after) (tables_after add.before T) ≡ (if is_committed e then d else pos 0)
-  counted_as e b counts same k d add = counts.0 k d add ∙ ap (λ q. if q then d else pos 0) same
-
-  moved_as : (e : Ending) (b : Bool) → CountsAs b → b ≡ is_committed e → (accounts : List (List ℕ × ℕ))
-      → moved_here accounts ≡ (if is_committed e then held accounts else pos 0)
-  moved_as e b counts same accounts = counts.1 accounts ∙ ap (λ q. if q then held accounts else pos 0) same
-
   -- the Prepare alone was sent
   only_one : (z : SendsOne site x n last vote) → OnlyTheseName x t n (n + 1) H
   only_one z = subst (λ k. OnlyTheseName x t n k H) z.limit only
@@ -274,30 +266,22 @@ module _ {t : ℕ} {T : Tables} {H : History} (site : Site t T H) (x : XidName) 
 
   -- an ending that doesn't commit, and reads nothing
   uncommitted : (e : Ending) → is_committed e ≡ false → is_read_only_ending e ≡ false → (is_no vote ≡ false → is_heuristic e ≡ false) → CountsAs false → Goal e
-  uncommitted e none writes undecided counts = record {
-    counted = counted_as e false counts (sym none);
-    adders = λ k d add. writes;
-    moves = moved_as e false counts (sym none);
-    reads = λ r. let z : true ≡ false = sym r ∙ writes in cc;
-    undecided = undecided;
-  }
+  uncommitted e none writes undecided counts =
+      let so : CountsAs (is_committed e) = subst CountsAs (sym none) counts in
+      record { counted = so.0; adders = λ k d add. writes; moves = so.1; reads = λ r. let z : true ≡ false = sym r ∙ writes in cc; undecided = undecided }
 
   read_goal : is_read vote ≡ true → SendsOne site x n last vote → Goal ReadOnly
   read_goal r z =
       let code : vote ≡ RdOnly = read_is vote r in
       let f = z.first in
       record {
-        counted = counted_as ReadOnly false (none_counts z) refl;
+        counted = (none_counts z).0;
         adders = λ k d add. absurd (never_reads site x n vote f k d add code);
-        moves = moved_as ReadOnly false (none_counts z) refl;
+        moves = (none_counts z).1;
         reads = λ _ accounts.
             subst (λ (h : History). held_by accounts x (tables_after h T) ≡ pos 0) (sym (taken site x n vote f)) (site.law.reads accounts t x (tables_after f.before T) (sym f.code ∙ code));
         undecided = λ _. refl;
       }
-
-  -- a vote against
-  against : is_yes vote ≡ false → is_read vote ≡ false → is_no vote ≡ true
-  against = neither vote
 
   -- ---- a second request
 
@@ -312,9 +296,6 @@ module _ {t : ℕ} {T : Tables} {H : History} (site : Site t T H) (x : XidName) 
     moves_so : (accounts : List (List ℕ × ℕ)) → moved_here accounts ≡ moved_by accounts op c second_tables
     moves_so accounts = moved_is site x n vote last only op c z z.first accounts
 
-    code_so : c ≡ (next t op second_tables).1
-    code_so = (second_of site n (Prepare x) vote z.first op c z.second).code
-
   refuse_counts : (c : Code) → Sends site x n last vote (Rollback x) c → CountsAs false
   refuse_counts c z = (
     λ k d add.
@@ -326,7 +307,7 @@ module _ {t : ℕ} {T : Tables} {H : History} (site : Site t T H) (x : XidName) 
   refused : (c : Code) → is_yes vote ≡ false → is_read vote ≡ false → Sends site x n last vote (Rollback x) c → Goal (no_ending vote (Some c))
   refused c y r z =
       let none : CountsAs false = refuse_counts c z in
-      let no : is_no vote ≡ true = against y r in
+      let no : is_no vote ≡ true = neither vote y r in
       let never : (e : Ending) → is_no vote ≡ false → is_heuristic e ≡ false = λ e n. (let w : true ≡ false = sym no ∙ n in cc) in
       by_if Goal (is_done c || is_rolled_back c) RolledBack _ (λ _. uncommitted RolledBack refl refl (never RolledBack) none) (λ _.
       by_if Goal (is_heuristic_code c) (Heuristic c) (Left c) (λ _. uncommitted (Heuristic c) refl refl (never (Heuristic c)) none) (λ _. uncommitted (Left c) refl refl (never (Left c)) none))
@@ -342,7 +323,7 @@ module _ {t : ℕ} {T : Tables} {H : History} (site : Site t T H) (x : XidName) 
   agreed op g e c y writes plain by_done by_fail counts moving failing answers_so z =
       let done : vote ≡ Done = yes_is vote y in
       let U : Tables = second_tables op c z in
-      let code : c ≡ (if U.shut then RmFail else Done) = code_so op c z ∙ answers_so U (awaits site x n vote last only op c z z.first done) in
+      let code : c ≡ (if U.shut then RmFail else Done) = (second_of site n (Prepare x) vote z.first op c z.second).code ∙ answers_so U (awaits site x n vote last only op c z z.first done) in
       let by_second : commits_or false (cons_option (prepare_fate vote) (cons_option (fate_of x op c) [])) ≡ commits_or false (cons_option (fate_of x op c) []) =
       ap (λ v. commits_or false (cons_option (prepare_fate v) (cons_option (fate_of x op c) []))) done in
       elim (U.shut) as (λ l. c ≡ (if l then RmFail else Done) → Goal (if is_done c then e else (if is_rm_fail c then InDoubt else (if is_heuristic_code c then Heuristic c else Left c)))) [

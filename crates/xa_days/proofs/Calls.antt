@@ -1,4 +1,5 @@
 -- What a commit and a resolve sent, as the histories have it.
+use Rattle.xa_atomicity.proofs.CutVotes.{CameAt, each_came, at_asking, at_forgetting, at_telling}
 use Rattle.xa_atomicity.proofs.Requests.{none_all}
 use Rattle.xa_atomicity.proofs.Values.{taken}
 use Rattle.xa_atomicity.proofs.Settled.{sent_on, sent_stands, site_of}
@@ -91,11 +92,6 @@ resolves_commit_nothing m x o up kept only marked =
 
 -- ---- a commit
 
-each_of : (P : Branch → Code → Type 0) (bs : List Branch) (vs : List Code) → EachVote P bs vs → All (λ b. (v : Code) × P b v) bs
-each_of P [] [] h = All-nil (λ b. (v : Code) × P b v)
-each_of P (b ∷ bs) (v ∷ vs) h = All-cons (λ c. (v : Code) × P c v) b bs (v, h.0) (each_of P bs vs h.1)
-each_of P bs vs h = absurd h
-
 pub positive_each : (lo : ℕ) (bs : List Branch) → AreBranchesRising lo bs → All (λ b. 1 ≤ b.m) bs
 positive_each lo [] rising = All-nil (λ (b : Branch). 1 ≤ b.m)
 positive_each lo (b ∷ bs) rising = All-cons (λ (b : Branch). 1 ≤ b.m) b bs (let up = rising.0 in omega (arith, up)) (positive_each b.m bs rising.1)
@@ -112,22 +108,12 @@ module _ (bs : List Branch) (old new : List LedgerView) where
   voted_sent c b v h first =
       (c, voted_only c (Unit {0}) b v (ledger old b.m) (ledger new b.m) h (open_so c (Unit {0}) b v (ledger old b.m) (ledger new b.m) h first))
 
-  all_sent : {tran : TranName} {log later : LogState} {endings : List Ending} → CameSoFar tran bs old new log later endings
-      → All (λ b. Asked b → Sent b) bs
-  all_sent (asking same unknown each) = λ j d lt first.
-      let b : Branch = get_or bs j d in
-      (false, asked_only false (Unit {0}) b (ledger old b.m) (ledger new b.m) (each j d lt) first)
-  all_sent (telling votes logged logs unknown each) = λ j d lt first.
-      let b : Branch = get_or bs j d in
-      let c : Bool = decision_of votes logged in
-      let w = each_of (λ b v. IsTold c b v (ledger old b.m) (ledger new b.m)) bs votes each j d lt in
-      voted_sent c b w.0 (told_voted_so c (Unit {0}) b w.0 (ledger old b.m) (ledger new b.m) w.1) first
-  all_sent {endings = endings} (forgetting votes logged seconds logs each) = λ j d lt first.
-      let b : Branch = get_or bs j d in
-      let c : Bool = decision_of votes logged in
-      let Q : Branch → Code → Type 0 = λ b v. (z : Option Code) × IsEnded c b v z (ledger old b.m) (ledger new b.m) in
-      let w = each_of Q bs votes (branch_votes (Ended c old new) Q (λ b v z e h. (z, h.0)) bs votes seconds endings each) j d lt in
-      voted_sent c b w.0 (ended_voted_so c (Unit {0}) b w.0 w.1.0 (ledger old b.m) (ledger new b.m) (λ _. tt) w.1.1) first
+  sent_at : {tran : TranName} {log later : LogState} {es : List Ending} (b : Branch) → CameAt tran bs old new log later es b → Asked b → Sent b
+  sent_at b (at_asking same h) first = (false, asked_only false (Unit {0}) b (ledger old b.m) (ledger new b.m) h first)
+  sent_at b (at_telling votes logged logs v vote h) first =
+      voted_sent (decision_of votes logged) b v (told_voted_so (decision_of votes logged) (Unit {0}) b v (ledger old b.m) (ledger new b.m) h) first
+  sent_at b (at_forgetting votes logged logs v vote z h known) first =
+      voted_sent (decision_of votes logged) b v (ended_voted_so (decision_of votes logged) (Unit {0}) b v z (ledger old b.m) (ledger new b.m) (λ _. tt) h) first
 
 leads_tells : (commit : Bool) (op : Op) → Leads commit (Unit {0}) op → tells_outcome op ≡ true
 leads_tells commit (Commit y one_phase) z = ap not z.0
@@ -170,8 +156,7 @@ module _ (law : Tabled) (s : Settling) (k : CutCall) (b : Branch) (T : Tables) (
 
   sends : (commit : Bool) × HasSentOnly commit (Unit {0}) x a a'
   sends =
-      All-contains (λ (c : Branch). Asked k.branches k.desk.ledgers k.new c → Sent k.branches k.desk.ledgers k.new c) k.branches b
-      (all_sent k.branches k.desk.ledgers k.new made.far) there voted.asked
+      sent_at k.branches k.desk.ledgers k.new b (All-contains (CameAt made.may.tran k.branches k.desk.ledgers k.new k.log k.later k.endings) k.branches b (each_came made.may.rising made.far) there) voted.asked
 
   only : OnlyTheseOrDecisionsName x t n (length a'.sent) H
   only =

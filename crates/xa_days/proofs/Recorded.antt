@@ -1,4 +1,9 @@
 -- Where the log has a transaction's record, all of its branches were asked, and none voted against.
+use Rattle.std.proofs.lemmas.Bool.{and_right}
+use Rattle.std.proofs.lemmas.List.Elements.{All-contains}
+use Rattle.xa_atomicity.proofs.Asked.{third_so}
+use Rattle.xa_atomicity.proofs.Requests.{none_all}
+use Rattle.xa_atomicity.proofs.CutVotes.{CameAt, IsVoteOf, each_came, at_asking, at_forgetting, at_telling}
 use Rattle.xa_driver.specs.Decision.{yes_of}
 use Rattle.xa_atomicity.proofs.CutVotes.{prepare_there, vote_there}
 use Rattle.xa_atomicity.proofs.CutSends.{decided_so}
@@ -41,15 +46,6 @@ use Rattle.xa_atomicity.proofs.Placing.{at_seam}
 use Rattle.xa_days.specs.Recorded.{AgreedOrRead, agreed, read}
 use Rattle.xa_days.proofs.Calls.{positive_each}
 
--- each branch with its vote, which isn't against
-votes_for : (P : Branch → Code → Type 0) (bs : List Branch) (vs : List Code) → EachVote P bs vs → list_any is_no vs ≡ false
-    → All (λ b. (v : Code) × (P b v × (is_no v ≡ false))) bs
-votes_for P [] [] h none = All-nil (λ b. (v : Code) × (P b v × (is_no v ≡ false)))
-votes_for P (b ∷ bs) (v ∷ vs) h none =
-    let parts = or_parts (is_no v) (list_any is_no vs) none in
-    All-cons (λ c. (w : Code) × (P c w × (is_no w ≡ false))) b bs (v, (h.0, parts.0)) (votes_for P bs vs h.1 parts.1)
-votes_for P bs vs h none = absurd h
-
 -- it is one of two
 vote_so : (v : Code) → is_no v ≡ false → v ≡ (if is_yes v then Done else RdOnly)
 vote_so Done for = refl
@@ -68,10 +64,8 @@ untold : (c : Bool) (x : XidName) → IsAskedFor (NoCommit x) (second_op c x RdO
 untold true x = tt
 untold false x = tt
 
-forgets_none : (x : XidName) (z : Option Code) → IsAskedFor (NoCommit x) (third_op x z)
-forgets_none x None = tt
-forgets_none x (Some c) =
-    by_if (IsAskedFor (NoCommit x)) (is_decided c) (Some (Forget x)) None (λ _. by_bool (λ b. (b && false) ≡ false) (names x (Forget x)) (λ _. refl) (λ _. refl)) (λ _. tt)
+forgets_none : (x : XidName) (s : Option Code) → IsAskedFor (NoCommit x) (third_op x s)
+forgets_none x s = third_so (NoCommit x) x s (λ _. and_right (names x (Forget x)) false refl)
 
 -- ---- one branch
 
@@ -135,32 +129,25 @@ module _ (s : Settling) (k : CutCall) (use_ : IsUseIn s (cuts k)) (t : TranName)
   there : is_recorded k.later made.may.tran ≡ true
   there = ap (is_recorded k.later) (one_tran k.branches made.may.tran t made.may.some made.may.one of_tran) ∙ on
 
-  positives : All (λ b. 1 ≤ b.m) k.branches
-  positives = positive_each 0 k.branches made.may.rising
+  for_so : (votes : List Code) (logged : Bool) → Logs made.may.tran (yes_of k.branches votes) votes logged k.log k.later → (b : Branch) (v : Code)
+      → IsVoteOf k.branches votes b v → is_no v ≡ false
+  for_so votes logged logs b v vote =
+      let none = not-true _ (and_parts (decides_commit votes) _ (decided_so made.may.tran k.log k.later made.may.absent votes logged (yes_of k.branches votes) logs there)).0 in
+      All-contains (λ w. is_no w ≡ false) votes v (none_all is_no votes none) vote.among
 
-  by_far : CameSoFar made.may.tran k.branches k.desk.ledgers k.new k.log k.later k.endings → All (AgreedOrRead k s) k.branches
-  by_far (asking same unknown each) =
+  at_branch : (b : Branch) → 1 ≤ b.m → CameAt made.may.tran k.branches k.desk.ledgers k.new k.log k.later k.endings b → AgreedOrRead k s b
+  at_branch b positive (at_asking same h) =
       let z : false ≡ true = sym (ap (λ (l : LogState). is_some (record_of l made.may.tran)) same ∙ ap is_some made.may.absent) ∙ there in cc
-  by_far (telling votes logged logs unknown each) = λ j d lt.
-      let b : Branch = get_or k.branches j d in
+  at_branch b positive (at_telling votes logged logs v vote h) =
       let c : Bool = decision_of votes logged in
-      let none = not-true _ (and_parts (decides_commit votes) _ (decided_so made.may.tran k.log k.later made.may.absent votes logged (yes_of k.branches votes) logs there)).0 in
-      let w = votes_for (λ b v. IsTold c b v (ledger k.desk.ledgers b.m) (ledger k.new b.m)) k.branches votes each none j d lt in
-      by_vote s k use_ b (positives j d lt) w.0 w.1.1
-      (told_voted Any c b w.0 (ledger k.desk.ledgers b.m) (ledger k.new b.m) (λ op _. tt) (any_asked (second_op c b.xid w.0)) w.1.0)
-      (λ is. told_voted (NoCommit b.xid) c b w.0 (ledger k.desk.ledgers b.m) (ledger k.new b.m) (unnamed_none b.xid)
-      (subst (λ v. IsAskedFor (NoCommit b.xid) (second_op c b.xid v)) (sym is) (untold c b.xid)) w.1.0)
-  by_far (forgetting votes logged seconds logs each) = λ j d lt.
-      let b : Branch = get_or k.branches j d in
+      by_vote s k use_ b positive v (for_so votes logged logs b v vote)
+      (told_voted Any c b v (ledger k.desk.ledgers b.m) (ledger k.new b.m) (λ op _. tt) (any_asked (second_op c b.xid v)) h)
+      (λ is. told_voted (NoCommit b.xid) c b v (ledger k.desk.ledgers b.m) (ledger k.new b.m) (unnamed_none b.xid) (subst (λ w. IsAskedFor (NoCommit b.xid) (second_op c b.xid w)) (sym is) (untold c b.xid)) h)
+  at_branch b positive (at_forgetting votes logged logs v vote z h known) =
       let c : Bool = decision_of votes logged in
-      let none = not-true _ (and_parts (decides_commit votes) _ (decided_so made.may.tran k.log k.later made.may.absent votes logged (yes_of k.branches votes) logs there)).0 in
-      let Q : Branch → Code → Type 0 = λ b v. (z : Option Code) × IsEnded c b v z (ledger k.desk.ledgers b.m) (ledger k.new b.m) in
-      let w =
-      votes_for Q k.branches votes (branch_votes (Ended c k.desk.ledgers k.new) Q (λ b v z e h. (z, h.0)) k.branches votes seconds k.endings each) none j d lt in
-      by_vote s k use_ b (positives j d lt) w.0 w.1.1
-      (ended_voted Any c b w.0 (ledger k.desk.ledgers b.m) (ledger k.new b.m) (λ op _. tt) (any_asked (second_op c b.xid w.0)) w.1.0.0 (any_asked (third_op b.xid w.1.0.0)) w.1.0.1)
-      (λ is. ended_voted (NoCommit b.xid) c b w.0 (ledger k.desk.ledgers b.m) (ledger k.new b.m) (unnamed_none b.xid)
-      (subst (λ v. IsAskedFor (NoCommit b.xid) (second_op c b.xid v)) (sym is) (untold c b.xid)) w.1.0.0 (forgets_none b.xid w.1.0.0) w.1.0.1)
+      by_vote s k use_ b positive v (for_so votes logged logs b v vote)
+      (ended_voted Any c b v (ledger k.desk.ledgers b.m) (ledger k.new b.m) (λ op _. tt) (any_asked (second_op c b.xid v)) z (any_asked (third_op b.xid z)) h)
+      (λ is. ended_voted (NoCommit b.xid) c b v (ledger k.desk.ledgers b.m) (ledger k.new b.m) (unnamed_none b.xid) (subst (λ w. IsAskedFor (NoCommit b.xid) (second_op c b.xid w)) (sym is) (untold c b.xid)) z (forgets_none b.xid z) h)
 
   pub recorded_law : All (AgreedOrRead k s) k.branches
-  recorded_law = by_far made.far
+  recorded_law j d lt = at_branch (get_or k.branches j d) (positive_each 0 k.branches made.may.rising j d lt) (each_came made.may.rising made.far j d lt)
