@@ -39,16 +39,6 @@ use Rattle.xa_atomicity.proofs.Placing.{request_of, fates}
 use Rattle.xa_atomicity.proofs.Records.{FindsMark}
 use Rattle.xa_atomicity.proofs.Voting.{AtEnd, Comes, once, unknown_so}
 
--- a resolve of these openings was told a decision of the branch
-pub record WasTold (b : Branch) (os : List Opening) : Type 0 where
-  pub resolve : ResolveCall
-  pub made : Contains (uses_of os) (resolves resolve)
-  pub outcome : Outcome
-  pub listed : Contains resolve.outcomes outcome
-  pub manager : outcome.m ≡ b.m
-  pub xid : outcome.xid ≡ b.xid
-  pub code : is_decided outcome.code ≡ true
-
 -- nothing but resolves names the branch later, and they find what was decided
 pub record IsMarked (later : List Opening) (commit : Bool) (b : Branch) : Type 0 where
   pub only : All (OnlyResolves (tran_of b.xid)) later
@@ -88,11 +78,12 @@ module _ (law : Tabled) (first : (s : Settling) (m : ℕ) (T : Tables) → IsSet
 
     -- what a later resolve was told of it
     abbrev L : Type 0
-    L = WasTold b later
+    L = (d : HeuristicDecision) × IsListed b d later
 
     lists : (j : ResolveCall) → Contains (uses_of later) (resolves j) → (w : Outcome) → Contains j.outcomes w → w.m ≡ m → w.xid ≡ b.xid
         → is_decided w.code ≡ true → L
-    lists j made w among manager xid code = record { resolve = j; made = made; outcome = w; listed = among; manager = manager; xid = xid; code = code }
+    lists j made w among manager xid code =
+        let d = decision_so w.code code in (d.0, record { resolve = j; made = made; outcome = w; listed = among; manager = manager; xid = xid; code = d.1 })
 
     with_T : IsOpenedWith s m T
     with_T = first s m T kept_o.settled begins
@@ -121,10 +112,7 @@ module _ (law : Tabled) (first : (s : Settling) (m : ℕ) (T : Tables) → IsSet
     -- a decision that a resolve was told is its fate in the end, where it is a decision
     which : Walks → (d : HeuristicDecision) → later_fate ≡ decided_fate d → L → IsListed b d later
     which w d is l =
-        let j = decision_so l.outcome.code l.code in
-        let same : j.0 ≡ d =
-        decided_one j.0 d (sym (walk_tells law first commit D L m up b.xid j.0 later (tables_after H T) F w l.resolve l.made l.outcome l.listed l.manager l.xid j.1) ∙ is) in
-        record { resolve = l.resolve; made = l.made; outcome = l.outcome; listed = l.listed; manager = l.manager; xid = l.xid; code = j.1 ∙ ap decision_code same }
+        subst (λ k. IsListed b k later) (decided_one l.0 d (sym (walk_tells law first commit D L m up b.xid l.0 later (tables_after H T) F w l.1.resolve l.1.made l.1.outcome l.1.listed l.1.manager l.1.xid l.1.code) ∙ is)) l.1
 
     last_walk : Walks → IsOver commit D L later_fate × (is_prepared (tables_left (last_of o later) m) b.xid ≡ false)
     last_walk = walk_ends law first commit D L m up b.xid o between last q (tables_after H T) F there scan reached

@@ -1,4 +1,5 @@
 -- What becomes of a branch that was left, through the openings up to one with a resolve that reached it.
+use Rattle.std.proofs.lemmas.Bool.{both_ways}
 use Rattle.xa_atomicity.proofs.Leading.{waits, unforgotten, over}
 use Rattle.std.specs.Prelude.{option_map}
 use Rattle.std.proofs.Common.{◌≡◌, ◌≢◌, ℕ, Bool, true, false, cond, ◌==◌, List, [], ◌∷◌, ◌++◌, slice_get, get_or, sym, refl, ap, ◌∙◌, subst, arith, Option}
@@ -236,8 +237,7 @@ module _ (law : Tabled) (first : (s : Settling) (m : ℕ) (T : Tables) → IsSet
 
   -- so from the resolve on
   not_failed : (d : HeuristicDecision) (c : Code) → c ≡ decision_code d → c ≢ RmFail
-  not_failed decision.Commit c e f = let z : HeurCom ≡ RmFail = sym e ∙ f in cc
-  not_failed decision.Rollback c e f = let z : HeurRb ≡ RmFail = sym e ∙ f in cc
+  not_failed d c e f = both_ways (is_decided c) (ap is_decided f) (decided_so c d e)
 
   step_tells : (d : HeuristicDecision) (o : Opening) (T : Tables) (f : Fate) → IsStep o T f → (q : ResolveCall) → Contains o.uses (resolves q) → (r : Outcome)
       → Contains q.outcomes r → r.m ≡ m → r.xid ≡ x → r.code ≡ decision_code d → settled_fate o.settled m x f ≡ decided_fate d

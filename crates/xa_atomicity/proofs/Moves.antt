@@ -1,4 +1,6 @@
 -- What the requests of one thread with numbers in a range move, in a history.
+use Rattle.xa_base.proofs.Truth.{by_if}
+use Rattle.xa_tables.specs.Next.{Answer}
 use Rattle.xa_atomicity.proofs.Requests.{none_all}
 use Rattle.std.proofs.lemmas.Bool.{and_left, and_right, false_from_ne_true}
 use Rattle.xa_base.proofs.Truth.{by_bool}
@@ -66,17 +68,19 @@ unmoving accounts (Commit x one_phase) c T e = cc
 unmoving accounts (Heur x commits) c T e = ap (λ b. if b then held_by accounts x T else pos 0) (ap (λ b. is_done c && b) e ∙ and-false (is_done c))
 unmoving accounts op c T e = refl
 
+-- where each request that passes moves nothing, all do
+moved_still : (accounts : Accounts) (passes : Request → Bool) (h : History) (T : Tables)
+    → All (λ r. passes r ≡ true → (c : Code) (U : Tables) → moved_by accounts r.op c U ≡ pos 0) h → moved accounts passes h T ≡ pos 0
+moved_still accounts passes [] T still = refl
+moved_still accounts passes (r ∷ h) T still =
+    let a : Answer = next r.thread r.op T in
+    let first : (if passes r then moved_by accounts r.op a.1 T else pos 0) ≡ pos 0 =
+    by_if (λ v. v ≡ pos 0) (passes r) (moved_by accounts r.op a.1 T) (pos 0) (λ e. still 0 r (omega arith) e a.1 T) (λ _. refl) in
+    λ i. first i +ℤ moved_still accounts passes h a.0 (λ k d lt. still (suc k) d (omega arith)) i
+
 pub moved_without : (accounts : Accounts) (passes : Request → Bool) (h : History) (T : Tables) → All (λ r. passes r ≡ true → is_commit r.op ≡ false) h
     → moved accounts passes h T ≡ pos 0
-moved_without accounts passes [] T none = refl
-moved_without accounts passes (r ∷ h) T none =
-    let T1 : Tables = (next r.thread r.op T).0 in
-    let first : (if passes r then moved_by accounts r.op (next r.thread r.op T).1 T else pos 0) ≡ pos 0 =
-    elim (passes r) as (λ b. (b ≡ true → is_commit r.op ≡ false) → (if b then moved_by accounts r.op (next r.thread r.op T).1 T else pos 0) ≡ pos 0) [
-      | true ↦ λ e. unmoving accounts r.op (next r.thread r.op T).1 T (e refl)
-      | false ↦ λ e. refl
-    ] (none 0 r (omega arith)) in
-    λ i. first i +ℤ moved_without accounts passes h T1 (λ k d lt. none (suc k) d (omega arith)) i
+moved_without accounts passes h T none = moved_still accounts passes h T (λ k d lt e c U. unmoving accounts (get_or h k d).op c U (none k d lt e))
 
 pub moved_none : (accounts : Accounts) (passes : Request → Bool) (h : History) (T : Tables) → All (λ r. passes r ≡ false) h → moved accounts passes h T ≡ pos 0
 moved_none accounts passes h T none = moved_without accounts passes h T (λ k d lt passed. let z : true ≡ false = sym passed ∙ none k d lt in cc)
@@ -90,18 +94,12 @@ moved_alike accounts p q (r ∷ h) T same =
 
 -- accounts that aren't there are worth nothing
 pub moved_nothing : (passes : Request → Bool) (h : History) (T : Tables) → moved [] passes h T ≡ pos 0
-moved_nothing passes [] T = refl
-moved_nothing passes (r ∷ h) T =
-    let T1 : Tables = (next r.thread r.op T).0 in
-    let c : Code = (next r.thread r.op T).1 in
-    let first : (if passes r then moved_by [] r.op c T else pos 0) ≡ pos 0 =
-    elim (passes r) as (λ b. (if b then moved_by [] r.op c T else pos 0) ≡ pos 0) [ true ↦ no_worth r.op c T | false ↦ refl ] in
-    λ i. first i +ℤ moved_nothing passes h T1 i
+moved_nothing passes h T = moved_still [] passes h T (λ k d lt e. no_worth (get_or h k d).op)
   where
-    no_worth : (op : Op) (c : Code) (T : Tables) → moved_by [] op c T ≡ pos 0
-    no_worth (Commit x one_phase) c T = elim (is_done c) as (λ b. (if b then pos 0 else pos 0) ≡ pos 0) [ true ↦ refl | false ↦ refl ]
-    no_worth (Heur x commits) c T = elim (is_done c && commits) as (λ b. (if b then pos 0 else pos 0) ≡ pos 0) [ true ↦ refl | false ↦ refl ]
-    no_worth op c T = refl
+    no_worth : (op : Op) (c : Code) (U : Tables) → moved_by [] op c U ≡ pos 0
+    no_worth (Commit x one_phase) c U = by_if (λ v. v ≡ pos 0) (is_done c) (pos 0) (pos 0) (λ _. refl) (λ _. refl)
+    no_worth (Heur x commits) c U = by_if (λ v. v ≡ pos 0) (is_done c && commits) (pos 0) (pos 0) (λ _. refl) (λ _. refl)
+    no_worth op c U = refl
 
 -- what is passed at one place alone
 pub moved_at : (accounts : Accounts) (passes : Request → Bool) (before after : History) (r : Request) (T : Tables) → All (λ q. passes q ≡ false) before

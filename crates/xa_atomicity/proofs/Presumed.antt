@@ -363,19 +363,14 @@ module _ (law : Tabled) (first : (s : Settling) (m : ℕ) (T : Tables) → IsSet
   followed =
       record { use_ = r.followed; made = cut_made; grown = cut_use.grown; own = r.own; voted = λ b here. here; quiet = λ mark b up _. quiet_alone mark cut_tran b.m up o.settled r.followed.vs (uses_after o.settled o.uses r.followed.us r.followed.vs (cuts k) r.followed.use_at kept_first.uses) (r.alone cut_tran cut_made.may.one) }
 
-  each_so : All (λ b. VotedToCommit k o.settled b → Follows (is_recorded k.later cut_made.may.tran) o openings k.thread b (length (ledger k.desk.ledgers b.m).sent) (known_of k b)) k.branches
-  each_so = follows law first o between last (cuts k) k q (VotedToCommit k o.settled) (λ b. Unit {0}) followed (λ L b here up only T with_T commit comes. comes)
+  each_so : (u : TranName) → IsTranOf k.branches u
+      → All (λ b. VotedToCommit k o.settled b → Follows (is_recorded k.later u) o openings k.thread b (length (ledger k.desk.ledgers b.m).sent) (known_of k b)) k.branches
+  each_so u of_u =
+      subst (λ (w : TranName). All (λ b. VotedToCommit k o.settled b → Follows (is_recorded k.later w) o openings k.thread b (length (ledger k.desk.ledgers b.m).sent) (known_of k b)) k.branches)
+      (one_tran k.branches cut_tran u cut_made.may.some cut_made.may.one of_u) (follows law first o between last (cuts k) k q (VotedToCommit k o.settled) (λ b. Unit {0}) followed (λ L b here up only T with_T commit comes. comes))
 
   pub presumed_law : EndsByTheLog k o openings
-  presumed_law = record {
-    each = λ u of_u.
-        subst (λ (w : TranName). All (λ b. VotedToCommit k o.settled b → EndsAs (is_recorded k.later w) o openings b (known_of k b)) k.branches) (one_tran k.branches cut_made.may.tran u cut_made.may.some cut_made.may.one of_u)
-        (λ j d lt voted. (each_so j d lt voted).0);
-  }
+  presumed_law = record { each = λ u of_u j d lt voted. (each_so u of_u j d lt voted).0 }
 
   pub presumed_counts : CountsByTheLog k o openings
-  presumed_counts = record {
-    each = λ u of_u.
-        subst (λ (w : TranName). All (λ b. VotedToCommit k o.settled b → is_heuristic (known_of k b) ≡ false → IsUnlisted b openings → SharesOver o openings k.thread b (length (ledger k.desk.ledgers b.m).sent) (λ f. is_recorded k.later w)) k.branches)
-        (one_tran k.branches cut_made.may.tran u cut_made.may.some cut_made.may.one of_u) (λ j d lt voted plain unlisted. (each_so j d lt voted).2 plain unlisted);
-  }
+  presumed_counts = record { each = λ u of_u j d lt voted plain unlisted. (each_so u of_u j d lt voted).2 plain unlisted }

@@ -1,4 +1,5 @@
 -- What a resolve sent to a manager, and collected from it.
+use Rattle.std.proofs.Common.{length-append}
 use Rattle.xa_atomicity.proofs.Voting.{learnt_on}
 use Rattle.xa_words.proofs.Xids.{xid_self}
 use Rattle.std.proofs.lemmas.Map.Views.{Contains-from_any}
@@ -218,10 +219,6 @@ module _ (a opened now decided new last : LedgerView) (op : Op) (first code : Co
       ∙ append_assoc (now.collected ++ (length now.sent, code) ∷ []) after.collected.0 grown.collected.0
       ∙ append_assoc now.collected ((length now.sent, code) ∷ []) (after.collected.0 ++ grown.collected.0)
 
-  length_of : (xs ys : List Op) → length (xs ++ OpenRm ∷ ys) ≡ suc (length xs) + length ys
-  length_of [] ys = omega arith
-  length_of (x ∷ xs) ys = let e = length_of xs ys in omega (arith, e)
-
   pub answered_in : IsAnsweredIn op code a last.sent last.collected
   answered_in = record {
     mid = before.more;
@@ -231,7 +228,7 @@ module _ (a opened now decided new last : LedgerView) (op : Op) (first code : Co
     earlier = now.collected;
     others = after.collected.0 ++ grown.collected.0;
     number = length now.sent;
-    number_is = ap (λ l. length l) now_sent ∙ length_of a.sent before.more;
+    number_is = ap (λ l. length l) now_sent ∙ (let e = length-append a.sent (OpenRm ∷ before.more) in omega (arith, e));
     collected = last_collected;
   }
 
