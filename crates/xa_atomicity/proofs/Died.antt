@@ -65,9 +65,6 @@ module _ (old new : List LedgerView) where
   abbrev Asked : Branch → Type 0
   Asked b = IsAsked b (ledger old b.m) (ledger new b.m)
 
-  abbrev Told : Bool → Branch → Code → Type 0
-  Told commit b v = IsTold commit b v (ledger old b.m) (ledger new b.m)
-
   all_asked : (bs : List Branch) (vs : List Code) → HaveAsked AsksLedger PutsLedger bs vs (ledger old) (ledger new) → All Asked bs
   all_asked [] vs h = All-nil Asked
   all_asked (b ∷ bs) [] h =
@@ -78,7 +75,7 @@ module _ (old new : List LedgerView) where
 
   -- all have voted, and none was told
   all_voted : (commit : Bool) (bs : List Branch) (vs : List Code) → length vs ≡ length bs
-      → HaveAsked AsksLedger PutsLedger bs vs (ledger old) (ledger new) → EachVote (Told commit) bs vs
+      → HaveAsked AsksLedger PutsLedger bs vs (ledger old) (ledger new) → EachVote (λ b v. IsTold commit b v (ledger old b.m) (ledger new b.m)) bs vs
   all_voted commit [] [] long h = tt
   all_voted commit [] (v ∷ vs) long h = absurd h
   all_voted commit (b ∷ bs) [] long h = absurd (omega (arith, long))
@@ -93,7 +90,7 @@ module _ (old new : List LedgerView) where
   )
 
   all_told : (commit : Bool) (k : ℕ) (bs : List Branch) (vs : List Code) → HaveTold AsksLedger PutsLedger commit k bs vs (ledger old) (ledger new)
-      → EachVote (Told commit) bs vs
+      → EachVote (λ b v. IsTold commit b v (ledger old b.m) (ledger new b.m)) bs vs
   all_told commit k [] [] h = tt
   all_told commit k [] (v ∷ vs) h = absurd h
   all_told commit k (b ∷ bs) [] h = absurd h

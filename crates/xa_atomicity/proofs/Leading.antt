@@ -208,11 +208,9 @@ ends_towards false L x y n = refl
 
 module _ (commit : Bool) (D L : Type 0) (x : XidName) (f : Fate) (T : Tables) (sound : Sound T) (t : ℕ) (open_ : T.shut ≡ false)
     (has : has_opened T t ≡ true) where
-  abbrev E : Bool → Type 0
-  E b = Led commit false D L x (outcome_op b x) f (next t (outcome_op b x) T)
-
   -- one that awaits the outcome
-  prepared_ends : D → state_of T x ≡ Some Prepared → (b : Bool) → b ≡ commit → E b
+  prepared_ends : D → state_of T x ≡ Some Prepared → (b : Bool) → b ≡ commit
+      → Led commit false D L x (outcome_op b x) f (next t (outcome_op b x) T)
   prepared_ends y e true is =
       let free : is_somebody_associated T.associations x ≡ false =
       nobody_rests T sound x (λ w. let z : standing (state_of T x) ≡ standing (Some Prepared) = ap standing e in cc) in

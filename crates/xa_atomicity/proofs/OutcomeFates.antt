@@ -1,4 +1,5 @@
 -- What the outcomes of a resolve tell, where nothing else names the transaction in its opening.
+use Rattle.xa_atomicity.proofs.NextOpening.{kept_with}
 use Rattle.xa_atomicity.proofs.Leading.{waits, unforgotten}
 use Rattle.xa_words.specs.declared.request.Op.TheVariants.{OpenRm}
 use Rattle.xa_words.specs.declared.request.Op.{Op}
@@ -62,11 +63,8 @@ ends_fate false x = at_true (xid_eq x x) _ None (xid_self x)
 module _ (law : Tabled) (commit : Bool) (t : ℕ) (x : XidName) (T : Tables) (H : History) (f : Fate) (code : Code)
     (towards : All (λ r. IsTowards commit (Unit {0}) x r.op) H) (st : Standing commit true (Unit {0}) (Unit {0}) x T f) (reached : code ≢ RmFail)
     (z : Placed t T H (outcome_op commit x) code) where
-  abbrev D : Type 0
-  D = Unit {0}
-
   abbrev Q : Request → Type 0
-  Q r = IsTowards commit D x r.op
+  Q r = IsTowards commit (Unit {0}) x r.op
 
   abbrev U : Tables
   U = tables_after (z.first ++ request_of t z.opens OpenRm ∷ z.mid) T
@@ -74,15 +72,15 @@ module _ (law : Tabled) (commit : Bool) (t : ℕ) (x : XidName) (T : Tables) (H 
   abbrev fate_here : Fate
   fate_here = last_or f (fates x (z.first ++ request_of t z.opens OpenRm ∷ z.mid) T)
 
-  here : Standing commit true D D x U fate_here
-  here = now commit D D t x T H f code towards st reached (λ _ _. tt) z
+  here : Standing commit true (Unit {0}) (Unit {0}) x U fate_here
+  here = now commit (Unit {0}) (Unit {0}) t x T H f code towards st reached (λ _ _. tt) z
 
   all_here : All Q (request_of t z.ends (outcome_op commit x) ∷ z.rest)
-  all_here = from_here commit D D t x T H f code towards st reached (λ _ _. tt) z
+  all_here = from_here commit (Unit {0}) (Unit {0}) t x T H f code towards st reached (λ _ _. tt) z
 
   -- a decision that it was told is its fate
   told_decision : (d : HeuristicDecision) → code ≡ decision_code d → last_or f (fates x H T) ≡ decided_fate d
-  told_decision = placed_tells commit D D t x T H f code towards st reached (λ _ _. tt) z law
+  told_decision = placed_tells commit (Unit {0}) (Unit {0}) t x T H f code towards st reached (λ _ _. tt) z law
 
   -- XA_OK ended it
   told_done : code ≡ Done → last_or f (fates x H T) ≡ ended_as commit
@@ -90,12 +88,12 @@ module _ (law : Tabled) (commit : Bool) (t : ℕ) (x : XidName) (T : Tables) (H 
       let op : Op = outcome_op commit x in
       let a : Answer = next t op U in
       let made : fate_of x op a.1 ≡ Some (ended_as commit) = ap (fate_of x op) (sym z.code_is ∙ e) ∙ ends_fate commit x in
-      let led = step_led commit true D D x fate_here U here.stands here.sound t op (all_here 0 (request_of t z.ends op) (omega arith)) in
-      let there : Standing commit true D D x a.0 (ended_as commit) =
-      subst (λ (g : Fate). Standing commit true D D x a.0 g) (ap (λ (p : Option Fate). unwrap_or p fate_here) made) (record { stands = led.stands; sound = sound_after t op U here.sound }) in
+      let led = step_led commit true (Unit {0}) (Unit {0}) x fate_here U here.stands here.sound t op (all_here 0 (request_of t z.ends op) (omega arith)) in
+      let there : Standing commit true (Unit {0}) (Unit {0}) x a.0 (ended_as commit) =
+      subst (λ (g : Fate). Standing commit true (Unit {0}) (Unit {0}) x a.0 g) (ap (λ (p : Option Fate). unwrap_or p fate_here) made) (record { stands = led.stands; sound = sound_after t op U here.sound }) in
       let silent : fates x z.rest a.0 ≡ [] =
-      known_stays commit D D x z.rest a.0 (ended_as commit) (is_known_so (ended_as commit) commit refl) (All-tail Q (request_of t z.ends op) z.rest all_here) there in
-      from_there commit D D t x T H f code towards st reached (λ _ _. tt) z ∙ (λ i. last_or fate_here (cons_option (made i) (silent i)))
+      known_stays commit (Unit {0}) (Unit {0}) x z.rest a.0 (ended_as commit) (is_known_so (ended_as commit) commit refl) (All-tail Q (request_of t z.ends op) z.rest all_here) there in
+      from_there commit (Unit {0}) (Unit {0}) t x T H f code towards st reached (λ _ _. tt) z ∙ (λ i. last_or fate_here (cons_option (made i) (silent i)))
 
   pub told_so : (g : Fate) → outcome_fate commit code ≡ Some g → last_or f (fates x H T) ≡ g
   told_so g is = by_code code refl is
@@ -119,7 +117,7 @@ module _ (law : Tabled) (first : (s : Settling) (m : ℕ) (T : Tables) → IsSet
   o = with_use s (resolves q)
 
   kept : IsKept o
-  kept = record { settled = settled; uses = All-cons (IsUseIn s) (resolves q) [] use_ (All-nil (IsUseIn s)) }
+  kept = kept_with s (resolves q) settled use_
 
   -- an outcome of a manager that is there tells what became of its branch, where only the resolve names its transaction
   module _ (r : Outcome) (among : Contains q.outcomes r) (up : IsUpTo MOST_MANAGERS r.m) (only : OnlyResolves (tran_of r.xid) o) (T : Tables)

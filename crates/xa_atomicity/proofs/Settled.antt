@@ -205,40 +205,31 @@ module _ (law : Tabled) (opened : (s : Settling) (m : ℕ) → IsSettled s → (
         → Course (site_of law s settled t b.m T with_T) b.xid (old b.m) (new b.m) v commit e × (e ≡ ending_of commit v z)
 
     module _ (b : Branch) (vote : Code) (second : Option Code) (ending : Ending) (is : InHistory b vote second ending) where
-      abbrev H : History
-      H = history_of s b.m
-
-      abbrev n : ℕ
-      n = old b.m
-
-      abbrev last : ℕ
-      last = new b.m
-
-      one_told : OnlyTheseOrDecisionsName b.xid t n last H → (before : Fate) (T : Tables) → IsOpenedWith s b.m T → IsFateOf b.xid before T
-          → Told t b.xid before T H n vote ending
+      one_told : OnlyTheseOrDecisionsName b.xid t (old b.m) (new b.m) (history_of s b.m) → (before : Fate) (T : Tables) → IsOpenedWith s b.m T → IsFateOf b.xid before T
+          → Told t b.xid before T (history_of s b.m) (old b.m) vote ending
       one_told only before T with_T fits =
-          branch_told (site_of law s settled t b.m T with_T) b.xid n last commit vote ending (is T with_T).0 before fits only
+          branch_told (site_of law s settled t b.m T with_T) b.xid (old b.m) (new b.m) commit vote ending (is T with_T).0 before fits only
 
-      one_voted : OnlyTheseOrDecisionsName b.xid t n last H → (T : Tables) → IsOpenedWith s b.m T → Told t b.xid (told_by (state_of T b.xid)) T H n vote ending
+      one_voted : OnlyTheseOrDecisionsName b.xid t (old b.m) (new b.m) (history_of s b.m) → (T : Tables) → IsOpenedWith s b.m T → Told t b.xid (told_by (state_of T b.xid)) T (history_of s b.m) (old b.m) vote ending
       one_voted only T with_T = one_told only (told_by (state_of T b.xid)) T with_T (law.first b.xid T)
 
-      pub one_fated : OnlyTheseOrDecisionsName b.xid t n last H → Fated b n vote ending
+      pub one_fated : OnlyTheseOrDecisionsName b.xid t (old b.m) (new b.m) (history_of s b.m) → Fated b (old b.m) vote ending
       one_fated only =
           let open_ = opened s b.m settled in
           let z = one_voted only open_.0 open_.1 in
           let ends = (is open_.0 open_.1).1 in
           record {
             keeps = record { reached = z.reached; shut = z.shut; decided = λ y h U with_U. (one_voted only U with_U).decided y h };
-            tells = tells_of s t b n ending (λ before U with_U fits. (one_told only before U with_U fits).told) (λ before U with_U fits. (one_told only before U with_U fits).doubt);
+            tells = tells_of s t b (old b.m) ending (λ before U with_U fits. (one_told only before U with_U fits).told) (λ before U with_U fits. (one_told only before U with_U fits).doubt);
             unless_no = λ no. ap is_left ends ∙ not_left commit vote second (λ y. sym (ap is_left ends) ∙ z.reached y) no;
             named = z.named;
           }
 
-      pub one_both : OnlyTheseName b.xid t n last H → Both b n last vote ending
+      pub one_both : OnlyTheseName b.xid t (old b.m) (new b.m) (history_of s b.m) → Both b (old b.m) (new b.m) vote ending
       one_both only =
           let open_ = opened s b.m settled in
-          let z : (U : Tables) → IsOpenedWith s b.m U → Counted t b.xid U H n last vote ending = λ U with_U.
-          branch_counts (site_of law s settled t b.m U with_U) b.xid n last commit vote ending (is U with_U).0 only in
+          let z : (U : Tables) → IsOpenedWith s b.m U → Counted t b.xid U (history_of s b.m) (old b.m) (new b.m) vote ending = λ U with_U.
+          branch_counts (site_of law s settled t b.m U with_U) b.xid (old b.m) (new b.m) commit vote ending (is U with_U).0 only in
           record {
             fated = one_fated (λ before after r place own number k d lt named other. only before after r place own number k d lt named);
             counted = z;

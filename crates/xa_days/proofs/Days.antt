@@ -1,11 +1,12 @@
 -- The laws of a day: the branches' shares of what is moved, and what accounts are worth after it.
+use Rattle.xa_atomicity.proofs.Moves.{unmoving}
 use Rattle.std.specs.Prelude.{◌≡◌, ℤ, pos, ◌+ℤ◌, Bool, true, false, ◌||◌, ◌&&◌, if◌then◌else◌, List, [], ◌∷◌, map, refl}
 use Rattle.std.specs.List.{All, AllByRecursion, IsDistinct, list_any}
 use Rattle.std.proofs.Common.{sym, ap, ◌∙◌, arith, get_or}
 use Rattle.std.proofs.lemmas.Int.{ints}
 use Rattle.std.proofs.lemmas.List.Elements.{All-head, All-tail}
 use Rattle.std.proofs.lemmas.Map.Keys.{IsDistinct-head, IsDistinct-tail}
-use Rattle.std.proofs.Math.IntN.{+ℤ_idl as none_plus}
+use Rattle.std.proofs.Math.IntN.{+ℤ_idl as none_plus, +ℤ_idr as plus_none}
 use Rattle.xa_base.specs.Sums.{total}
 use Rattle.xa_base.proofs.Sums.{total_same, total_alike, total_both, total_nothing}
 use Rattle.xa_base.proofs.Truth.{by_if, at_true}
@@ -47,9 +48,6 @@ once (x ∷ xs) y v distinct =
           (λ i. v +ℤ (later ∙ ap (λ b. if b then v else pos 0) gone) i) ∙ plus_none v
       | false ↦ λ t. none_plus _ ∙ later
     ] refl
-  where
-    plus_none : (v : ℤ) → v +ℤ pos 0 ≡ v
-    plus_none v = omega (arith, ints)
 
 -- what one request moves is moved for one of them
 nothing_for : (xs : List XidName) (op : Op) → total (λ x. if names x op then pos 0 else pos 0) xs ≡ pos 0
@@ -65,12 +63,8 @@ for_one accounts xs (Commit y one_phase) c T distinct among =
 for_one accounts xs (Heur y true) c T distinct among =
     sym (once xs y (moved_by accounts (Heur y true) c T) distinct ∙ at_true (list_any (λ x. xid_eq y x) xs) _ _ (among refl))
 for_one accounts xs (Heur y false) c T distinct among =
-    let still : moved_by accounts (Heur y false) c T ≡ pos 0 = no_decision (is_done c) in
+    let still : moved_by accounts (Heur y false) c T ≡ pos 0 = unmoving accounts (Heur y false) c T refl in
     still ∙ sym (ap (λ v. total (λ x. if xid_eq y x then v else pos 0) xs) still ∙ nothing_for xs (Heur y false))
-  where
-    no_decision : (b : Bool) → (if b && false then held_by accounts y T else pos 0) ≡ pos 0
-    no_decision true = refl
-    no_decision false = refl
 for_one accounts xs op c T distinct among = sym (nothing_for xs op)
 
 abbrev Among : List XidName → Request → Type 0
@@ -102,10 +96,7 @@ regroup w v m n u e f = omega (arith, ints)
 
 worth_over : (accounts : Accounts) (hs : List History) (T : Tables) → DeclareEach accounts T
     → worth accounts (left_by hs T) ≡ worth accounts T +ℤ moved_over accounts is_any hs T
-worth_over accounts [] T known = plus_none _
-  where
-    plus_none : (v : ℤ) → v ≡ v +ℤ pos 0
-    plus_none v = omega (arith, ints)
+worth_over accounts [] T known = sym (plus_none _)
 worth_over accounts (h ∷ hs) T known =
     let T1 : Tables = reopened (tables_after h T) in
     let still : DeclareEach accounts T1 = λ k d lt. declared_on h (get_or accounts k d).0 T ∙ known k d lt in

@@ -1,4 +1,5 @@
 -- The laws of a day over settled openings: their histories lead to their tables, and to what became of each branch.
+use Rattle.std.proofs.Math.IntN.{+ℤ_idr as plus_none}
 use Rattle.std.specs.Prelude.{◌≡◌, ℕ, ℤ, pos, ◌+ℤ◌, Bool, true, false, if◌then◌else◌, None, Some, List, [], ◌∷◌, refl}
 use Rattle.std.specs.Prelude.{cond, is_some, map}
 use Rattle.std.specs.FinMap.{find, get-from_entries}
@@ -154,9 +155,6 @@ pub first_law : (accounts : List (List ℕ × ℕ)) (m : ℕ) (o : Opening) (lat
 first_law accounts m o later legs sound settled row first day =
     settled_law accounts m (opening accounts) o later legs settled row first (opens_with accounts) day
     ∙ ap (λ v. v +ℤ total counted legs) (worth_law accounts [] sound ∙ plus_none _)
-  where
-    plus_none : (v : ℤ) → v +ℤ pos 0 ≡ v
-    plus_none v = omega (arith, ints)
 
 -- ---- all managers
 
@@ -172,6 +170,3 @@ conserved_law ms accounts first o later legs transfers share each parted even =
     (total_alike (λ m. total counted (legs m)) (λ m. total (λ k. share k m) transfers) ms parted
     ∙ total_across (λ m k. share k m) ms transfers ∙ total_alike (λ k. total (share k) ms) (λ k. pos 0) transfers even ∙ total_nothing transfers)
     ∙ plus_none _
-  where
-    plus_none : (v : ℤ) → v +ℤ pos 0 ≡ v
-    plus_none v = omega (arith, ints)

@@ -1,4 +1,5 @@
 -- All branches of a commit: what the line shows of them became of them.
+use Rattle.xa_atomicity.specs.Outcomes.{OnlyTheseName, OnlyTheseOrDecisionsName}
 use Rattle.std.proofs.Common.{◌≡◌, ℕ, inl, inr, Bool, true, false, ◌||◌, List, [], ◌∷◌, length, Option, Some, None, sym, refl, ap, ◌∙◌, subst, slice_index_or}
 use Rattle.std.specs.Prelude.{ℤ, pos, if◌then◌else◌, All}
 use Rattle.std.specs.List.{list_any}
@@ -24,7 +25,7 @@ use Rattle.xa_driver.specs.Trace.{EachBranch}
 use Rattle.xa_atomicity.specs.Tabled.{Tabled}
 use Rattle.xa_atomicity.proofs.Courses.{course_of}
 use Rattle.xa_atomicity.proofs.OneOutcome.{not_rolled_back, uncommitted}
-use Rattle.xa_atomicity.proofs.Settled.{Both, Fated, InHistory, each_both, each_fated, outcome_map, each_outcome, site_of}
+use Rattle.xa_atomicity.proofs.Settled.{Both, Fated, InHistory, one_both, one_fated, outcome_map, each_outcome, site_of}
 use Rattle.xa_session.specs.Committing.{branches_of}
 use Rattle.xa_words.specs.Tran.{TranName}
 use Rattle.xa_grammar.specs.declared.step.CommitAll.{CommitAll}
@@ -125,15 +126,6 @@ module _ (t : ℕ) (c : CommitAll TranName) (done : Outcome) (old new : Part) (i
     uncommitted = λ aborts. no_ending_is (Ends done.commit) is_committed (out_so done.commit aborts) own done.votes.items done.endings.items ends_all;
   }
 
--- ---- by the journals
-
--- each with what is known of it twice
-pub each_and : (P Q : Branch → Code → Ending → Type 0) (bs : List Branch) (vs : List Code) (es : List Ending) → EachOutcome P bs vs es → EachOutcome Q bs vs es
-    → EachOutcome (λ b v e. P b v e × Q b v e) bs vs es
-each_and P Q [] [] [] h k = tt
-each_and P Q (b ∷ bs) (v ∷ vs) (e ∷ es) h k = ((h.0, k.0), each_and P Q bs vs es h.1 k.1)
-each_and P Q bs vs es h k = absurd h
-
 -- ---- one branch
 
 module _ (law : Tabled) (opens : (s : Settling) (m : ℕ) → IsSettled s → (T : Tables) × IsOpenedWith s m T) (s : Settling) (t : ℕ) (old : Part) where
@@ -212,11 +204,8 @@ module _ (law : Tabled) (opens : (s : Settling) (m : ℕ) → IsSettled s → (T
   bs = branches_of c
 
   -- how many requests the thread had sent each manager, by its entries
-  abbrev In : Branch → Code → Option Code → Ending → Type 0
-  In = InHistory law opens s t settled done.commit (entered_so_far old) (entered_so_far new)
-
   in_history : (b : Branch) (v : Code) (z : Option Code) (e : Ending) → AtBranch (CarriesOut t) done.commit b v z e (old.entries b.m) (new.entries b.m)
-      → In b v z e
+      → InHistory law opens s t settled done.commit (entered_so_far old) (entered_so_far new) b v z e
   in_history b v z e at T with_T =
       let agree = settled.agree t b.m in
       let asked =
@@ -224,17 +213,12 @@ module _ (law : Tabled) (opens : (s : Settling) (m : ℕ) → IsSettled s → (T
       done.commit b v z e (old.entries b.m) (new.entries b.m) at ((grown b.m).0, (grown b.m).1) in
       (course_of (site_of law s settled t b.m T with_T) b done.commit v z e (entered (old.entries b.m)) (entered (new.entries b.m)) asked, at.ends)
 
-  each_in : EachBranch In bs done.votes.items is.course.seconds done.endings.items
-  each_in =
-      (each_so (λ b. Unit {0}) (λ b. Unit {0}) (λ v. Unit {0}) (λ b v z e. AtBranch (CarriesOut t) done.commit b v z e (old.entries b.m) (new.entries b.m)) In
-      (λ b v z e _ _ at. (in_history b v z e at, tt)) bs done.votes.items is.course.seconds done.endings.items (λ k d lt. tt) (λ k d lt. tt) is.course.each).0
-
   -- what became of them
   pub as_shown : AreLeftOrDecided s t (branches_of c) (entered_so_far old) (entered_so_far new) → IsAsShown s t (branches_of c) old done
   as_shown alone =
       as_shown_by law opens s t bs old new done (unopposed t c done old new is)
-      (each_and (λ b v e. Fated law opens s t b (length (old.entries b.m)) v e) (Ends done.commit) bs done.votes.items done.endings.items
-      (each_fated law opens s t settled done.commit (entered_so_far old) (entered_so_far new) bs done.votes.items is.course.seconds done.endings.items each_in alone) (ends_all t c done old new is))
+      (each_outcome (λ b. OnlyTheseOrDecisionsName b.xid t (length (old.entries b.m)) (length (new.entries b.m)) (history_of s b.m)) (λ b v z e. AtBranch (CarriesOut t) done.commit b v z e (old.entries b.m) (new.entries b.m)) (FatedSo law opens s t old done.commit)
+      (λ b v z e only at. (one_fated law opens s t settled done.commit (entered_so_far old) (entered_so_far new) b v z e (in_history b v z e at) only, (z, at.ends))) bs done.votes.items is.course.seconds done.endings.items alone.each is.course.each)
 
   -- what they count for
   module _ (alone : AreLeftAlone s t (branches_of c) (entered_so_far old) (entered_so_far new)) where
@@ -245,8 +229,8 @@ module _ (law : Tabled) (opens : (s : Settling) (m : ℕ) → IsSettled s → (T
     pub counts_as_shown : CountsAsShown s t (branches_of c) old done
     counts_as_shown =
         counts_by law opens s t bs old new done (unopposed t c done old new is)
-        (each_and (λ b v e. Both law opens s t b (length (old.entries b.m)) (length (new.entries b.m)) v e) (Ends done.commit) bs done.votes.items done.endings.items
-        (each_both law opens s t settled done.commit (entered_so_far old) (entered_so_far new) bs done.votes.items is.course.seconds done.endings.items each_in alone) (ends_all t c done old new is))
+        (each_outcome (λ b. OnlyTheseName b.xid t (length (old.entries b.m)) (length (new.entries b.m)) (history_of s b.m)) (λ b v z e. AtBranch (CarriesOut t) done.commit b v z e (old.entries b.m) (new.entries b.m)) (CountedSo law opens s t old new done.commit)
+        (λ b v z e only at. (one_both law opens s t settled done.commit (entered_so_far old) (entered_so_far new) b v z e (in_history b v z e at) only, (z, at.ends))) bs done.votes.items is.course.seconds done.endings.items alone.each is.course.each)
 
 -- ---- line by line
 

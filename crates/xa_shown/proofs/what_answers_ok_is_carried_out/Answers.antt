@@ -2,4 +2,4 @@ use Rattle.xa_shown.proofs.Shown.{all_carried_out}
 use Rattle.xa_shown.proofs.what_answers_ok_is_carried_out.Goals as goal
 
 pub returns : goal.returns
-returns c = λ steps answers settled t first told. all_carried_out steps answers settled t first told
+returns c = all_carried_out

@@ -2,4 +2,4 @@ use Rattle.xa_shown.proofs.Shown.{all_prepared}
 use Rattle.xa_shown.proofs.what_commits_was_prepared.Goals as goal
 
 pub returns : goal.returns
-returns c = λ steps answers settled t first told. all_prepared steps answers settled t first told
+returns c = all_prepared

@@ -2,4 +2,4 @@ use Rattle.xa_shown.proofs.Shown.{all_committed}
 use Rattle.xa_shown.proofs.what_is_committed_has_its_commit.Goals as goal
 
 pub returns : goal.returns
-returns c = λ steps answers settled t first told. all_committed steps answers settled t first told
+returns c = all_committed

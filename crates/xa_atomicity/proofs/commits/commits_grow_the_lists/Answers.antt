@@ -2,4 +2,4 @@ use Rattle.xa_atomicity.proofs.Settled.{growth_law}
 use Rattle.xa_atomicity.proofs.commits.commits_grow_the_lists.Goals as goal
 
 pub returns : goal.returns
-returns c tran bs old new log later done call = growth_law tran bs old new log later done call
+returns c = growth_law

@@ -2,7 +2,7 @@ use Rattle.xa_atomicity.proofs.OneOutcome.{committed_law, aborted_law}
 use Rattle.xa_atomicity.proofs.commits.one_outcome.Goals as goal
 
 pub returns-clause-committed : goal.returns-clause-committed
-returns-clause-committed c = λ tran bs desk new log later done made of_tran some. committed_law tran bs desk new log later done made of_tran some
+returns-clause-committed c = committed_law
 
 pub returns-clause-aborted : goal.returns-clause-aborted
-returns-clause-aborted c = λ tran bs desk new log later done made of_tran refused. aborted_law tran bs desk new log later done made of_tran refused
+returns-clause-aborted c = aborted_law

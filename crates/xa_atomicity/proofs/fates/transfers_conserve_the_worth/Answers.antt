@@ -8,4 +8,4 @@ returns-clause-conserved c = λ p s doubt settled of_plan sound transfers.
     (λ m first last. c.managers_open_with_their_accounts.ensures p s m settled of_plan first last) sound t (doubt t) (transfers t positive below))
 
 pub returns-clause-decided : goal.returns-clause-decided
-returns-clause-decided c = λ p s t old bs done none. decided_law p s t old bs done none
+returns-clause-decided c = decided_law

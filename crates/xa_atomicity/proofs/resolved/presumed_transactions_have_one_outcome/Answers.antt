@@ -2,5 +2,4 @@ use Rattle.xa_atomicity.proofs.Presumed.{presumed_law}
 use Rattle.xa_atomicity.proofs.resolved.presumed_transactions_have_one_outcome.Goals as goal
 
 pub returns : goal.returns
-returns c o between last call resolve resolved =
-    presumed_law c.tables_keep_to_their_laws.ensures c.settled_journals_follow_the_tables.ensures.first o between last call resolve resolved
+returns c = presumed_law c.tables_keep_to_their_laws.ensures c.settled_journals_follow_the_tables.ensures.first

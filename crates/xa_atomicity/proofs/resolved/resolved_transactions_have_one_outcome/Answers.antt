@@ -2,5 +2,4 @@ use Rattle.xa_atomicity.proofs.Resolution.{resolved_law}
 use Rattle.xa_atomicity.proofs.resolved.resolved_transactions_have_one_outcome.Goals as goal
 
 pub returns : goal.returns
-returns c o between last call resolve resolved =
-    resolved_law c.tables_keep_to_their_laws.ensures c.settled_journals_follow_the_tables.ensures.first o between last call resolve resolved
+returns c = resolved_law c.tables_keep_to_their_laws.ensures c.settled_journals_follow_the_tables.ensures.first

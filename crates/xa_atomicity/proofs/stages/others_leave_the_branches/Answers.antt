@@ -3,16 +3,16 @@ use Rattle.xa_atomicity.proofs.Staged.{asks_so_far, nothing_between}
 use Rattle.xa_atomicity.proofs.stages.others_leave_the_branches.Goals as goal
 
 pub returns-clause-nothing : goal.returns-clause-nothing
-returns-clause-nothing c = λ bs at. nothing_between bs at
+returns-clause-nothing c = nothing_between
 
 pub returns-clause-chained : goal.returns-clause-chained
-returns-clause-chained c = λ bs old mid new first second. leaves_on bs old mid new first second
+returns-clause-chained c = leaves_on
 
 pub returns-clause-unnamed : goal.returns-clause-unnamed
-returns-clause-unnamed c = λ bs old new rising grown managers unnamed. unnamed_leaves bs old new rising grown managers unnamed
+returns-clause-unnamed c = unnamed_leaves
 
 pub returns-clause-resolved : goal.returns-clause-resolved
-returns-clause-resolved c = λ bs q rising made others. resolve_leaves bs q rising made others
+returns-clause-resolved c = resolve_leaves
 
 pub returns-clause-committed : goal.returns-clause-committed
 returns-clause-committed c = λ bs cs desk new log later done rising others made. commit_leaves bs cs rising others desk new log later done made

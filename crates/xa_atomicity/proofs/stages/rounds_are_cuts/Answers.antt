@@ -4,7 +4,7 @@ use Rattle.xa_atomicity.proofs.Staged.{asking_cut, forgetting_cut, nothing_betwe
 use Rattle.xa_atomicity.proofs.stages.rounds_are_cuts.Goals as goal
 
 pub returns-clause-so_far : goal.returns-clause-so_far
-returns-clause-so_far c = λ r now under_way. so_far r now under_way
+returns-clause-so_far c = so_far
 
 pub returns-clause-asking : goal.returns-clause-asking
 returns-clause-asking c = λ bs desk now log p may first far. asking_cut bs desk now now log p.round.asks.items may first.same far (nothing_between bs now)

@@ -5,15 +5,14 @@ use Rattle.xa_atomicity.proofs.Staged.{decided_is_cut, forgetting_cut, none_so_f
 use Rattle.xa_atomicity.proofs.stages.stages_are_cuts.Goals as goal
 
 pub returns-clause-prepared : goal.returns-clause-prepared
-returns-clause-prepared c = λ bs desk mid new log p may first between. prepared_is_cut bs desk mid new log p may first between
+returns-clause-prepared c = prepared_is_cut
 
 pub returns-clause-decided : goal.returns-clause-decided
-returns-clause-decided c = λ bs desk mid new log later p d may first between second. decided_is_cut bs desk mid new log later p d may first between second
+returns-clause-decided c = decided_is_cut
 
 pub returns-clause-told : goal.returns-clause-told
 returns-clause-told c = λ bs desk mid tell late new log later p d t may first between second third after.
     forgetting_cut bs desk mid tell log later p d may first between second late new t third after new (map third_ask t.round.asks.items) (same_itself (map third_ask t.round.asks.items)) (none_so_far (map third_ask t.round.asks.items) new)
 
 pub returns-clause-undecided : goal.returns-clause-undecided
-returns-clause-undecided c =
-    λ bs desk mid new log later votes tran may voted between of_tran wanted either. undecided_is_cut bs desk mid new log later votes tran may voted between of_tran wanted either
+returns-clause-undecided c = undecided_is_cut

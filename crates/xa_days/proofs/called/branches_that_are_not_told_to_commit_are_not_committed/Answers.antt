@@ -2,7 +2,7 @@ use Rattle.xa_days.proofs.Calls.{unsent_law, unrecorded_nowhere}
 use Rattle.xa_days.proofs.called.branches_that_are_not_told_to_commit_are_not_committed.Goals as goal
 
 pub returns-clause-unsent : goal.returns-clause-unsent
-returns-clause-unsent c s k b settled made positive none within = unsent_law s k b settled made positive none within
+returns-clause-unsent c = unsent_law
 
 pub returns-clause-unrecorded : goal.returns-clause-unrecorded
-returns-clause-unrecorded c s k b t settled made there of_tran off within = unrecorded_nowhere s k b t settled made there of_tran off within
+returns-clause-unrecorded c = unrecorded_nowhere

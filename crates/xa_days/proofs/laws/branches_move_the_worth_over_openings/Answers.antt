@@ -2,4 +2,4 @@ use Rattle.xa_days.proofs.Days.{branches_law}
 use Rattle.xa_days.proofs.laws.branches_move_the_worth_over_openings.Goals as goal
 
 pub returns : goal.returns
-returns c accounts xs hs T known distinct among = branches_law accounts xs hs T known distinct among
+returns c = branches_law

@@ -2,4 +2,4 @@ use Rattle.xa_days.proofs.Days.{day_law}
 use Rattle.xa_days.proofs.laws.recorded_branches_are_what_a_day_moves.Goals as goal
 
 pub returns : goal.returns
-returns c accounts T h later legs o known day = day_law accounts T h later legs o known day
+returns c = day_law

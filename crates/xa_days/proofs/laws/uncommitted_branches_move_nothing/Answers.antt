@@ -2,4 +2,4 @@ use Rattle.xa_days.proofs.Course.{still_over}
 use Rattle.xa_days.proofs.laws.uncommitted_branches_move_nothing.Goals as goal
 
 pub returns : goal.returns
-returns c accounts x hs T quiet = still_over accounts x hs T quiet
+returns c = still_over

@@ -2,5 +2,4 @@ use Rattle.xa_days.proofs.Legs.{comes_out_law}
 use Rattle.xa_days.proofs.settled.branches_come_out_by_the_log.Goals as goal
 
 pub returns : goal.returns
-returns c accounts o between last k q t b T r of_tran there few first own =
-    comes_out_law c.tables_keep_to_their_laws.ensures c.presumed_transactions_have_one_outcome.ensures accounts o between last k q t b T r of_tran there few first own
+returns c = comes_out_law c.tables_keep_to_their_laws.ensures c.presumed_transactions_have_one_outcome.ensures

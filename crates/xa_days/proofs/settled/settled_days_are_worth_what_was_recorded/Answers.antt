@@ -2,7 +2,7 @@ use Rattle.xa_days.proofs.InARow.{first_law, settled_law}
 use Rattle.xa_days.proofs.settled.settled_days_are_worth_what_was_recorded.Goals as goal
 
 pub returns-clause-any : goal.returns-clause-any
-returns-clause-any c accounts m T o later legs settled row first known day = settled_law accounts m T o later legs settled row first known day
+returns-clause-any c = settled_law
 
 pub returns-clause-first : goal.returns-clause-first
-returns-clause-first c accounts m o later legs sound settled row first day = first_law accounts m o later legs sound settled row first day
+returns-clause-first c = first_law

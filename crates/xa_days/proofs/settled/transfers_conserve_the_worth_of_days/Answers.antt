@@ -2,5 +2,4 @@ use Rattle.xa_days.proofs.InARow.{conserved_law}
 use Rattle.xa_days.proofs.settled.transfers_conserve_the_worth_of_days.Goals as goal
 
 pub returns : goal.returns
-returns c ms accounts first o later legs transfers share each parted even =
-    conserved_law ms accounts first o later legs transfers share each parted even
+returns c = conserved_law
