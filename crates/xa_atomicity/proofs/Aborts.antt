@@ -1,28 +1,23 @@
 -- On abort no Commit is sent.
 use Rattle.xa_atomicity.proofs.Asked.{second_so, third_so}
-use Rattle.std.specs.Prelude.{◌≡◌, true, false, not, ◌&&◌, ◌||◌, Option, None, Some, List, refl}
+use Rattle.std.specs.Prelude.{◌≡◌, true, false, not, ◌&&◌, ◌||◌, Option, List, refl}
 use Rattle.std.proofs.Common.{◌∙◌, subst}
 use Rattle.std.proofs.lemmas.List.Folds.{list_any_none}
 use Rattle.std.proofs.Math.Bool.{and-false}
 use Rattle.std.proofs.lemmas.Bool.{and_parts}
-use Rattle.xa_base.proofs.Truth.{by_if}
-use Rattle.xa_words.specs.Xid.{XidName}
 use Rattle.xa_words.specs.Tran.{TranName}
 use Rattle.xa_words.specs.declared.code.Code.{Code}
 use Rattle.xa_words.specs.declared.request.Op.{Op}
-use Rattle.xa_words.specs.declared.request.Op.TheVariants.{Rollback, Forget}
-use Rattle.xa_tables.specs.History.{is_rolled_back}
 use Rattle.xa_desk.specs.LedgerView.{LedgerView}
 use Rattle.xa_driver.specs.declared.branch.Branch.{Branch}
 use Rattle.xa_driver.specs.declared.done.Done.{Done}
-use Rattle.xa_driver.specs.Decision.{is_read, decides_commit, has_yes}
-use Rattle.xa_driver.specs.Endings.{second_op, third_op, is_decided, is_out_of_reach}
+use Rattle.xa_driver.specs.Decision.{decides_commit, has_yes}
 use Rattle.xa_log.specs.Log.{LogState}
 use Rattle.xa_driver.specs.Trace.{IsTraceOfCommit, wants_record}
 use Rattle.xa_driver.specs.Course.{AtBranch}
 use Rattle.xa_driver.specs.Resolving.{AsksLedger}
 use Rattle.xa_driver.specs.declared.done.Ending.{Ending}
-use Rattle.xa_driver.proofs.Mapped.{IsAskedFor, branch_by}
+use Rattle.xa_driver.proofs.Mapped.{branch_by}
 use Rattle.xa_driver.specs.Commits.{NoCommitWasSent, is_commit}
 use Rattle.xa_atomicity.proofs.EachManager.{every_manager}
 use Rattle.xa_atomicity.proofs.Resolves.{Sends, asks_on, stays}

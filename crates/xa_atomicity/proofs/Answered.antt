@@ -23,7 +23,7 @@ use Rattle.xa_tables.specs.Tables.{Tables, has_opened}
 use Rattle.xa_tables.specs.Reasons.{decision_code}
 use Rattle.xa_tables.specs.Next.{Answer, next, open_rm}
 use Rattle.xa_tables.specs.History.{History, Fate, decided_fate, coded, of_thread, tables_after, fate_of, last_or, is_in_doubt as is_unknown}
-use Rattle.xa_tables.specs.Prepared.{IsTold, closes, is_close}
+use Rattle.xa_tables.specs.Prepared.{closes, is_close}
 use Rattle.xa_tables.proofs.Law.{Sound, sound_after, last_more}
 use Rattle.xa_tables.proofs.Opened.{opened_on}
 use Rattle.xa_tables.proofs.ShutLemmas.{next-shut, shut_stays}

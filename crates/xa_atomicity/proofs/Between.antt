@@ -1,18 +1,16 @@
 -- What leaves the branches of a commit: nothing, and requests of which none names them.
 use Rattle.xa_atomicity.proofs.Asked.{second_so, third_so}
-use Rattle.std.proofs.Common.{◌≡◌, ◌≢◌, ℕ, ◌<◌, ◌≤◌, Bool, true, false, ◌||◌, List, [], ◌∷◌, ◌++◌, length, map, get_or, ⊎_elim, sym, refl, ◌∙◌, subst, arith}
-use Rattle.std.proofs.Common.{Option, Some, None}
+use Rattle.std.proofs.Common.{◌≡◌, ◌≢◌, ℕ, ◌<◌, ◌≤◌, Bool, true, false, List, [], ◌∷◌, ◌++◌, length, map, get_or, ⊎_elim, sym, refl, ◌∙◌, subst, arith}
+use Rattle.std.proofs.Common.{Option}
 use Rattle.std.specs.List.{All, Contains}
 use Rattle.std.proofs.lemmas.Bool.{cases_lt, false_from_ne_true}
 use Rattle.std.proofs.lemmas.List.Elements.{All-nil, All-cons, All-contains, Contains-get_or}
 use Rattle.xa_base.specs.declared.limits.TheConstants.{MOST_MANAGERS}
-use Rattle.xa_base.proofs.Truth.{by_if}
 use Rattle.xa_words.specs.Xid.{XidName, xid_eq}
 use Rattle.xa_words.specs.Orders.{Decides-xid_eq}
 use Rattle.xa_words.specs.declared.code.Code.{Code}
 use Rattle.xa_words.specs.declared.request.Op.{Op}
-use Rattle.xa_words.specs.declared.request.Op.TheVariants.{Prepare, Commit, Rollback, Forget}
-use Rattle.xa_tables.specs.History.{is_rolled_back}
+use Rattle.xa_words.specs.declared.request.Op.TheVariants.{Prepare}
 use Rattle.xa_tables.specs.Prepared.{names}
 use Rattle.xa_desk.specs.LedgerView.{LedgerView}
 use Rattle.xa_desk.specs.DeskView.{DeskView, ledger}
@@ -21,22 +19,17 @@ use Rattle.xa_driver.specs.declared.branch.Branch.{Branch}
 use Rattle.xa_driver.specs.declared.done.Done.{Done}
 use Rattle.xa_driver.specs.declared.done.Ending.{Ending}
 use Rattle.xa_driver.specs.declared.resolved.Outcome.{Outcome}
-use Rattle.xa_driver.specs.declared.round.Round.{Round}
-use Rattle.xa_driver.specs.declared.stages.Preparing.{Preparing}
 use Rattle.xa_driver.specs.declared.stages.Prepared.{Prepared}
 use Rattle.xa_driver.specs.declared.stages.Decided.{Decided}
-use Rattle.xa_driver.specs.declared.stages.Telling.{Telling}
 use Rattle.xa_driver.specs.declared.stages.Told.{Told}
-use Rattle.xa_driver.specs.declared.stages.Forgetting.{Forgetting}
 use Rattle.xa_driver.specs.Asks.{Ask, HaveComeSoFar, SameAsks}
 use Rattle.xa_atomicity.specs.Cut.{AreOthers, DidOther, LeavesBranches}
-use Rattle.xa_driver.specs.Decision.{is_read, is_yes}
-use Rattle.xa_driver.specs.Endings.{is_decided, is_out_of_reach, second_op, third_op}
+use Rattle.xa_driver.specs.Endings.{second_op, third_op}
 use Rattle.xa_log.specs.Log.{LogState}
 use Rattle.xa_atomicity.specs.Resolution.{IsDone, IsOutcomeOf, ResolveCall, resolves}
 use Rattle.xa_driver.specs.Resolving.{outcome_op}
 use Rattle.xa_driver.specs.Rounds.{code_of, first_ask, second_ask, third_ask}
-use Rattle.xa_driver.specs.Stages.{HasDecided, HasForgotten, HasPrepared, HasTold, IsForgetting, IsPreparing, IsTelling}
+use Rattle.xa_driver.specs.Stages.{HasDecided, HasPrepared, HasTold}
 use Rattle.xa_driver.specs.Course.{AtBranch}
 use Rattle.xa_driver.specs.Resolving.{AsksLedger}
 use Rattle.xa_driver.specs.Trace.{AreBranchesRising, IsCommit}
@@ -46,7 +39,6 @@ use Rattle.xa_driver.proofs.Mapped.{IsAskedFor, branch_by}
 use Rattle.xa_atomicity.proofs.EachManager.{every_manager}
 use Rattle.xa_driver.proofs.Gathering.{carried}
 use Rattle.xa_atomicity.proofs.Resolves.{Sends, asks_on, on, resolve_sends, stays}
-use Rattle.xa_atomicity.proofs.Staged.{asks_so_far}
 
 -- ---- what doesn't name the branch
 

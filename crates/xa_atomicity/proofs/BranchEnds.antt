@@ -1,5 +1,4 @@
 -- How a branch ends that voted to commit, over openings one after another, by what it stands at as the first of them ends.
-use Rattle.xa_atomicity.proofs.Voting.{ends, tells, leaves}
 use Rattle.std.specs.Prelude.{ℤ, pos, ◌⊎◌}
 use Rattle.std.proofs.Common.{◌≡◌, ◌≢◌, ℕ, inl, inr, ⊎_elim, Bool, true, false, if◌then◌else◌, List, [], ◌∷◌, ◌++◌, sym, ap, ◌∙◌, subst, Some}
 use Rattle.std.specs.List.{All, Contains}
@@ -13,7 +12,6 @@ use Rattle.xa_words.specs.declared.code.Code.TheVariants.{RmFail}
 use Rattle.xa_words.specs.declared.request.Op.TheVariants.{Prepare}
 use Rattle.xa_tables.specs.declared.state.HeuristicDecision.{HeuristicDecision}
 use Rattle.xa_tables.specs.Tables.{Tables, state_of, is_left_in, is_prepared}
-use Rattle.xa_tables.specs.Reasons.{decision_code}
 use Rattle.xa_tables.specs.History as history
 use Rattle.xa_tables.specs.History.{History, Fate, fate, coded, tables_after, decided_fate, is_in_doubt as is_unknown, IsFateOf, share}
 use Rattle.xa_tables.specs.Openings.{AreLeft, commits_over, told_by}
@@ -37,7 +35,7 @@ use Rattle.xa_atomicity.proofs.Later.{Walk, ends_with, walk, walk_after, walk_en
 use Rattle.xa_atomicity.proofs.Leading.{Stands, IsOver}
 use Rattle.xa_atomicity.proofs.Placing.{request_of, fates}
 use Rattle.xa_atomicity.proofs.Records.{FindsMark}
-use Rattle.xa_atomicity.proofs.Voting.{AtEnd, Comes, once, unknown_so}
+use Rattle.xa_atomicity.proofs.Voting.{AtEnd, once, unknown_so}
 
 -- nothing but resolves names the branch later, and they find what was decided
 pub record IsMarked (later : List Opening) (commit : Bool) (b : Branch) : Type 0 where

@@ -6,18 +6,18 @@ use Rattle.xa_atomicity.proofs.Sites.{Site, StandsIn, above, at_place, below, la
 use Rattle.xa_atomicity.proofs.Asked.{is_told_decision, second_so, third_so}
 use Rattle.std.proofs.lemmas.Bool.{both_ways, false_from_ne_true}
 use Rattle.xa_atomicity.proofs.Courses.{yes_wanted}
-use Rattle.std.proofs.Common.{◌≡◌, ℕ, suc, ◌+◌, ◌≤◌, inl, inr, Bool, true, false, ◌||◌, if◌then◌else◌, List, [], ◌∷◌, ◌++◌, length, length-append, append-nil}
+use Rattle.std.proofs.Common.{◌≡◌, ℕ, suc, ◌+◌, inl, inr, Bool, true, false, if◌then◌else◌, List, [], ◌∷◌, ◌++◌, length, length-append, append-nil}
 use Rattle.std.proofs.Common.{append_assoc, slice_get, get_or, sym, refl, ap, ◌∙◌, subst, arith, Option, Some, None}
 use Rattle.std.specs.List.{All, Contains}
 use Rattle.std.proofs.lemmas.List.Elements.{All-append, All-cons, All-contains, All-head}
 use Rattle.xa_base.specs.Lists.{Begins}
 use Rattle.xa_base.proofs.Lists.{begins_on, some_same, all_mid, all_right, all_after}
-use Rattle.xa_base.proofs.Truth.{at_false, at_true, by_if}
+use Rattle.xa_base.proofs.Truth.{at_false, at_true}
 use Rattle.xa_words.specs.Xid.{XidName}
 use Rattle.xa_words.specs.declared.code.Code.{Code}
 use Rattle.xa_words.specs.declared.code.Code.TheVariants.{Done, RmFail}
 use Rattle.xa_words.specs.declared.request.Op.{Op}
-use Rattle.xa_words.specs.declared.request.Op.TheVariants.{Prepare, Commit, Rollback, Forget}
+use Rattle.xa_words.specs.declared.request.Op.TheVariants.{Prepare}
 use Rattle.xa_words.specs.declared.request.Request.{Request}
 use Rattle.xa_words.proofs.Xids.{xid_self}
 use Rattle.xa_tables.specs.declared.state.HeuristicDecision.{HeuristicDecision}
@@ -27,33 +27,25 @@ use Rattle.xa_tables.specs.Reasons.{decision_code}
 use Rattle.xa_tables.specs.Next.{next}
 use Rattle.xa_tables.specs.History as history
 use Rattle.xa_tables.specs.History.{History, Fate, IsFateOf, coded, decided_fate, fate, is_rolled_back, last_or, of_thread, tables_after}
-use Rattle.xa_tables.specs.Openings.{IsOpening}
 use Rattle.xa_tables.specs.Prepared.{IsTold as IsToldDecision, names}
 use Rattle.xa_tables.proofs.Law.{opening_sound, run_sound}
 use Rattle.xa_desk.specs.LedgerView.{LedgerView, learnt_shut, with_sent, with_collected}
-use Rattle.xa_desk.specs.DeskView.{ledger}
-use Rattle.xa_desk.specs.Growth.{HasGrown}
 use Rattle.xa_desk.specs.Lanes.{numbered}
-use Rattle.xa_switch.specs.Settling.{Settling, IsSettled, answers, sent}
-use Rattle.xa_switch.specs.Fates.{ledgers_of, history as history_of}
+use Rattle.xa_switch.specs.Settling.{answers}
 use Rattle.xa_driver.specs.declared.branch.Branch.{Branch}
 use Rattle.xa_driver.specs.declared.done.Ending.{Ending}
 use Rattle.xa_driver.specs.Asks.{IsAnswered, IsBegun, asked, collected, in_flight, unasked}
 use Rattle.xa_atomicity.specs.Cut.{IsAsked, IsEnded, IsTold}
-use Rattle.xa_driver.specs.Decision.{is_read, is_yes}
-use Rattle.xa_driver.specs.Endings.{is_decided, is_out_of_reach, second_op, third_op, yes_ending}
+use Rattle.xa_driver.specs.Endings.{is_decided, second_op, third_op, yes_ending}
 use Rattle.xa_atomicity.specs.Outcomes.{IsBetween, OnlyTheseOrDecisionsName, told_fate}
 use Rattle.xa_driver.specs.Resolving.{outcome_op}
-use Rattle.xa_atomicity.specs.Tabled.{Tabled}
 use Rattle.xa_atomicity.proofs.CutVotes.{HasVoted, ended_voted, first_is, forget_sends, other_sends, prepare_sent, told_voted}
 use Rattle.xa_driver.proofs.Mapped.{IsAskedFor}
 use Rattle.xa_atomicity.proofs.EndsByFate.{decision_so, is_decided_so}
 use Rattle.xa_atomicity.proofs.Guided.{IsGuided, at_last, fate_any, fates_from, fates_once}
 use Rattle.xa_atomicity.proofs.Leading.{IsTowards, Stands, ends_towards}
-use Rattle.xa_atomicity.proofs.Naming.{sent_is}
-use Rattle.xa_atomicity.proofs.Placing.{Parted, answer_at, fates, fates_both, numbered_both, part, request_of, same_code, at_seam}
-use Rattle.xa_driver.proofs.Ledgers.{numbered_length}
-use Rattle.xa_atomicity.proofs.Requests.{IsFromTo, all_later, code_there, count_two, own_between}
+use Rattle.xa_atomicity.proofs.Placing.{fates, fates_both, request_of, same_code, at_seam}
+use Rattle.xa_atomicity.proofs.Requests.{IsFromTo, own_between}
 use Rattle.xa_atomicity.proofs.Resolves.{Sends}
 use Rattle.xa_atomicity.proofs.Voting.{AtEnd, Comes, once, tells_so, told_decided}
 

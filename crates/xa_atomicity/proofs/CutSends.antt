@@ -6,13 +6,12 @@ use Rattle.xa_atomicity.proofs.Requests.{none_all}
 use Rattle.xa_atomicity.proofs.Records.{recorded_is, none_on_abort}
 use Rattle.xa_atomicity.proofs.Asked.{second_so, third_so}
 use Rattle.std.specs.Prelude.{◌&&◌, is_some, ◌⊎◌}
-use Rattle.std.proofs.Common.{◌≡◌, ℕ, ◌≤◌, Bool, true, false, ◌==◌, ◌||◌, List, [], ◌∷◌, map, get_or, inl, inr, ⊎_elim, sym, refl, ap, ◌∙◌, subst, Option, Some}
+use Rattle.std.proofs.Common.{◌≡◌, ℕ, ◌≤◌, Bool, true, false, ◌==◌, ◌||◌, List, [], ◌∷◌, map, get_or, inl, inr, sym, refl, ap, ◌∙◌, subst, Some}
 use Rattle.std.proofs.Common.{None}
-use Rattle.std.specs.List.{All, list_any}
-use Rattle.std.proofs.lemmas.Bool.{eqb-true, and_parts, or_parts, and_left, and_right, true_from_ne_false, both_ways}
-use Rattle.std.proofs.lemmas.List.Elements.{All-nil, All-cons, All-head, All-tail}
+use Rattle.std.specs.List.{All}
+use Rattle.std.proofs.lemmas.Bool.{eqb-true, and_left, and_right, true_from_ne_false, both_ways}
+use Rattle.std.proofs.lemmas.List.Elements.{All-head, All-tail}
 use Rattle.std.proofs.lemmas.List.Folds.{list_any_none}
-use Rattle.std.proofs.Math.Bool.{and-false}
 use Rattle.xa_base.proofs.Lists.{all_unmapped}
 use Rattle.xa_base.proofs.Truth.{by_if, by_bool}
 use Rattle.xa_words.specs.Xid.{XidName}
@@ -20,7 +19,6 @@ use Rattle.xa_words.specs.Tran.{TranName}
 use Rattle.xa_words.specs.declared.code.Code.{Code}
 use Rattle.xa_words.specs.declared.request.Op.{Op}
 use Rattle.xa_words.specs.declared.request.Op.TheVariants.{Prepare, Commit, Rollback, Forget}
-use Rattle.xa_tables.specs.History.{is_rolled_back}
 use Rattle.xa_tables.specs.Prepared.{names}
 use Rattle.xa_desk.specs.LedgerView.{LedgerView}
 use Rattle.xa_desk.specs.DeskView.{DeskView, ledger}
@@ -31,15 +29,15 @@ use Rattle.xa_driver.specs.declared.stages.Prepared.{Prepared}
 use Rattle.xa_driver.specs.declared.stages.Decided.{Decided}
 use Rattle.xa_driver.specs.Asks.{Ask, HaveComeSoFar, IsBegun, SameAsks, among_asks}
 use Rattle.xa_driver.specs.Commits.{is_commit}
-use Rattle.xa_atomicity.specs.Cut.{CameSoFar, EachVote, GoesByTheRecord, HasSentNone, IsAsked, IsCut, IsEnded, IsTold, NoneWasToldToCommit}
-use Rattle.xa_atomicity.specs.Cut.{NoneWasToldToRollBack, asking, forgetting, is_recorded, is_rollback, telling}
-use Rattle.xa_driver.specs.Decision.{decides_commit, has_yes, is_read, is_yes, yes_of}
-use Rattle.xa_driver.specs.Endings.{second_op, third_op, is_decided, is_out_of_reach}
-use Rattle.xa_log.specs.Log.{LogState, record_of, with_failure}
+use Rattle.xa_atomicity.specs.Cut.{CameSoFar, GoesByTheRecord, HasSentNone, IsAsked, IsCut, NoneWasToldToCommit}
+use Rattle.xa_atomicity.specs.Cut.{NoneWasToldToRollBack, is_recorded, is_rollback}
+use Rattle.xa_driver.specs.Decision.{has_yes, is_yes, yes_of}
+use Rattle.xa_driver.specs.Endings.{second_op}
+use Rattle.xa_log.specs.Log.{LogState, record_of}
 use Rattle.xa_driver.specs.Rounds.{code_of, second_ask, yes_asked}
 use Rattle.xa_driver.specs.Stages.{HasDecided, HasPrepared}
-use Rattle.xa_driver.specs.Trace.{EachBranch, IsTranOf, Logs, appended, decision_of, failed, unwanted, voted}
-use Rattle.xa_atomicity.proofs.CutVotes.{branch_votes, Ended, HasVoted, begun_sends, ended_voted, other_sends, told_voted, vote_map}
+use Rattle.xa_driver.specs.Trace.{IsTranOf, Logs, decision_of, voted}
+use Rattle.xa_atomicity.proofs.CutVotes.{HasVoted, begun_sends, ended_voted, other_sends, told_voted}
 use Rattle.xa_driver.proofs.Gathering.{carried}
 use Rattle.xa_driver.proofs.Mapped.{IsAskedFor}
 use Rattle.xa_driver.proofs.Calls.{one_tran}

@@ -26,22 +26,20 @@ use Rattle.xa_tables.proofs.Unnamed.{tables_after-append, unnamed_fate}
 use Rattle.xa_tables.specs.History as history
 use Rattle.xa_tables.specs.History.{History, Fate, fate, fate_in, fate_of, coded, tables_after, last_or, is_done, is_rolled_back, is_in_doubt as is_unknown}
 use Rattle.xa_tables.specs.History.{prepare_fate, decided_fate, heur_fate, IsFateOf}
-use Rattle.xa_tables.specs.Prepared.{names, OnlyDecides, LeavesWaiting, AwaitsTheOutcome, AwaitsAfter, IsTold, closes, is_heur, is_forget, answer_when}
+use Rattle.xa_tables.specs.Prepared.{names, OnlyDecides, LeavesWaiting, AwaitsTheOutcome, AwaitsAfter, IsTold, is_heur, is_forget, answer_when}
 use Rattle.xa_tables.specs.Prepared.{fates_when}
 use Rattle.xa_desk.specs.LedgerView.{is_rm_fail}
 use Rattle.xa_base.proofs.Truth.{by_if, at_true}
 use Rattle.xa_base.proofs.Lists.{all_left, all_after, some_same}
-use Rattle.xa_driver.specs.declared.branch.Branch.{Branch}
 use Rattle.xa_driver.specs.declared.done.Ending.{Ending}
 use Rattle.xa_driver.specs.declared.done.Ending.TheVariants.{Committed, ReadOnly, RolledBack, InDoubt, Heuristic, Left}
 use Rattle.xa_driver.specs.Decision.{is_yes, is_read}
 use Rattle.xa_driver.specs.Endings.{yes_ending, no_ending, is_heuristic as is_heuristic_code}
-use Rattle.xa_driver.specs.Course.{AtBranch}
 use Rattle.xa_atomicity.specs.Outcomes.{IsBetween, OnlyTheseOrDecisionsName, IsAfterShut, IsDecidedAfter, told_fate, is_left, is_in_doubt, is_heuristic}
 use Rattle.xa_atomicity.proofs.Placing.{request_of, fates, fates_both, fate_is, last_both}
 use Rattle.xa_atomicity.proofs.Requests.{closes_other}
 use Rattle.xa_atomicity.proofs.Courses.{yes_is, read_is, Sends, SendsOne, Course, rest_forgets}
-use Rattle.xa_atomicity.proofs.Sites.{Site, Sent, AsksIn, StandsIn, above, Second, second_of}
+use Rattle.xa_atomicity.proofs.Sites.{Site, StandsIn, above, Second, second_of}
 
 -- ---- who may name the branch
 

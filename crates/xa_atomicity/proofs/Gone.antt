@@ -13,7 +13,6 @@ use Rattle.xa_words.specs.declared.code.Code.TheVariants.{Done as OK}
 use Rattle.xa_tables.specs.declared.state.State.{State}
 use Rattle.xa_tables.specs.declared.state.State.TheVariants.{Prepared, HeuristicallyCompleted}
 use Rattle.xa_tables.specs.declared.state.HeuristicDecision.{HeuristicDecision}
-use Rattle.xa_tables.specs.declared.state.HeuristicDecision.TheVariants as decision
 use Rattle.xa_tables.specs.Managers.{opening}
 use Rattle.xa_tables.specs.Tables.{Tables, state_of, is_left, is_left_in, is_S3}
 use Rattle.xa_tables.specs.History as history

@@ -25,7 +25,7 @@ use Rattle.xa_tables.specs.Openings.{IsOpening}
 use Rattle.xa_tables.specs.Prepared.{names, is_heur, AwaitsAfter, fates_when, state_when}
 use Rattle.xa_tables.proofs.HeuristicLaw.{Decides, Nothing, Completes, decides}
 use Rattle.xa_tables.proofs.Law.{Sound, sound_after, run_sound, opening_sound, last_more}
-use Rattle.xa_tables.proofs.Unnamed.{tables_after-append, unnamed_fate}
+use Rattle.xa_tables.proofs.Unnamed.{tables_after-append}
 use Rattle.xa_atomicity.specs.Resolution.{ended_as}
 use Rattle.xa_atomicity.specs.Tabled.{Tabled}
 use Rattle.xa_atomicity.proofs.EndsByFate.{decided_apart}

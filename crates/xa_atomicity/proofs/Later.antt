@@ -13,7 +13,7 @@ use Rattle.xa_words.specs.Xid.{XidName, xid_eq}
 use Rattle.xa_words.specs.Orders.{Decides-xid_eq}
 use Rattle.xa_words.specs.Tran.{tran_of}
 use Rattle.xa_words.specs.declared.code.Code.{Code}
-use Rattle.xa_words.specs.declared.code.Code.TheVariants.{HeurCom, HeurRb, RmFail}
+use Rattle.xa_words.specs.declared.code.Code.TheVariants.{RmFail}
 use Rattle.xa_words.specs.declared.request.Op.{Op}
 use Rattle.xa_tables.specs.declared.state.State.{State}
 use Rattle.xa_tables.specs.declared.state.HeuristicDecision.{HeuristicDecision}
@@ -27,11 +27,11 @@ use Rattle.xa_tables.proofs.Law.{opening_sound}
 use Rattle.xa_desk.specs.LedgerView.{LedgerView}
 use Rattle.xa_desk.specs.DeskView.{ledger}
 use Rattle.xa_desk.specs.Lanes.{numbered}
-use Rattle.xa_worker.specs.Journal.{requests, Entry}
+use Rattle.xa_worker.specs.Journal.{requests}
 use Rattle.xa_switch.specs.Again.{last_in}
 use Rattle.xa_switch.specs.Fates.{IsOpenedWith, first_of, history as history_of, ledgers_of, settled_fate}
 use Rattle.xa_scan.specs.Left.{left_at}
-use Rattle.xa_switch.specs.Settling.{ManagerPart, Settling, IsSettled, FollowsTables, answers, collected, find_manager, journal_in}
+use Rattle.xa_switch.specs.Settling.{ManagerPart, Settling, IsSettled, FollowsTables, answers, find_manager, journal_in}
 use Rattle.xa_driver.specs.declared.resolved.Outcome.{Outcome}
 use Rattle.xa_driver.specs.Endings.{is_decided}
 use Rattle.xa_atomicity.specs.Resolution.{ResolveCall, resolves, IsUseIn, IsKept, Opening, AreInARow, OnlyResolves, uses_of, fate_through, last_of, tables_left}

@@ -18,11 +18,10 @@ use Rattle.xa_switch.specs.declared.plan.Again.{Again}
 use Rattle.xa_desk.specs.DeskView.{DeskView}
 use Rattle.xa_driver.specs.declared.branch.Branch.{Branch}
 use Rattle.xa_log.specs.Log.{LogState, Records, all_records, record_in, record_of}
-use Rattle.xa_atomicity.specs.Outcomes.{AreLeftOrDecided, sent_so_far}
 use Rattle.xa_atomicity.specs.Presumed.{AskedAreLeft, IsOfAnother, IsResolvedAfter}
-use Rattle.xa_atomicity.specs.Resolution.{CommitCall, CutCall, ResolveCall, Use, commits, cuts, resolves, AreUses, Continues, HasLeft, IsByItsThread}
+use Rattle.xa_atomicity.specs.Resolution.{CutCall, ResolveCall, Use, cuts, resolves, AreUses, Continues, HasLeft}
 use Rattle.xa_atomicity.specs.Resolution.{AreOfAllLogs, IsFollowed, IsKept, Opening}
-use Rattle.xa_atomicity.specs.Resolution.{IsOutcomeOf, IsResolved, IsUseIn, OnlyResolves, with_resolves, with_use}
+use Rattle.xa_atomicity.specs.Resolution.{IsOutcomeOf, IsUseIn, OnlyResolves, with_resolves, with_use}
 use Rattle.xa_driver.specs.Trace.{IsTranOf}
 use Rattle.xa_atomicity.proofs.Scanned.{begins_with, left_each, was_there}
 

@@ -1,12 +1,8 @@
 -- One outcome for all the branches of a call.
 use Rattle.xa_driver.specs.declared.done.Ending.TheVariants.{Heuristic, InDoubt, Left, RolledBack, Committed}
-use Rattle.std.specs.Prelude.{◌≡◌, Bool, true, false, cond, not, ◌||◌, Option, None, Some, List, [], ◌∷◌, refl, if◌then◌else◌}
+use Rattle.std.specs.Prelude.{◌≡◌, Bool, true, false, not, ◌||◌, Option, None, Some, List, [], ◌∷◌, refl, if◌then◌else◌}
 use Rattle.std.proofs.Common.{sym, ap, ◌∙◌, subst}
 use Rattle.std.specs.List.{list_any}
-use Rattle.std.specs.FinMap as map
-use Rattle.std.specs.FinMap.{get-insert}
-use Rattle.std.specs.Ordering.{is_eq, eq_by_cmp}
-use Rattle.std.specs.Cmp.{tied_itself}
 use Rattle.std.proofs.lemmas.Bool.{and_parts, or_parts, or_from, not-true, false_from_ne_true, true_from_ne_false, both_ways}
 use Rattle.xa_words.specs.Tran.{TranName}
 use Rattle.xa_words.specs.declared.code.Code.{Code}
@@ -14,7 +10,6 @@ use Rattle.xa_tables.specs.History.{is_done}
 use Rattle.xa_tables.specs.History as history
 use Rattle.xa_desk.specs.LedgerView.{LedgerView, is_rm_fail}
 use Rattle.xa_desk.specs.DeskView.{DeskView, ledger}
-use Rattle.xa_log.specs.Transactions.{tran_cmp}
 use Rattle.xa_driver.specs.declared.branch.Branch.{Branch}
 use Rattle.xa_driver.specs.declared.done.Done.{Done}
 use Rattle.xa_driver.specs.declared.done.Ending.{Ending}
@@ -23,13 +18,12 @@ use Rattle.xa_driver.specs.Endings.{ending_of, yes_ending, no_ending, is_out_of_
 use Rattle.xa_log.specs.Log.{LogState, record_of}
 use Rattle.xa_driver.specs.Course.{AtBranch}
 use Rattle.xa_driver.specs.Resolving.{AsksLedger}
-use Rattle.xa_driver.specs.Trace.{EachBranch, IsCommit, IsTraceOfCommit, IsTranOf, MayCommit, Logs, appended, failed, unwanted, wants_record, decision_of}
+use Rattle.xa_driver.specs.Trace.{EachBranch, IsCommit, IsTraceOfCommit, IsTranOf, MayCommit, wants_record, decision_of}
 use Rattle.xa_atomicity.specs.Outcomes.{is_committed, is_rolled_back, has_committed, has_rolled_back, has_vote_against, append_failed, was_refused}
 use Rattle.xa_atomicity.specs.Outcomes.{IsCommittedTransaction, IsAbortedTransaction}
 use Rattle.xa_base.proofs.Truth.{by_if, by_bool, at_true}
 use Rattle.xa_atomicity.proofs.Aborts.{abort_sends_no_commit, failed_append_aborts}
 use Rattle.xa_atomicity.proofs.Records.{none_on_abort, record_so}
-use Rattle.xa_log.proofs.Transactions.{tran_cmp_total}
 use Rattle.xa_driver.proofs.Calls.{one_tran}
 
 abbrev Falls : (Ending → Bool) → Ending → Type 0

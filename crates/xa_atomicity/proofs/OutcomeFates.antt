@@ -9,7 +9,7 @@ use Rattle.std.specs.List.{All, Contains, cons_option}
 use Rattle.std.proofs.lemmas.List.Elements.{All-nil, All-cons, All-tail, Contains-get_or}
 use Rattle.xa_base.specs.declared.limits.TheConstants.{MOST_MANAGERS}
 use Rattle.xa_base.specs.Lists.{IsUpTo}
-use Rattle.xa_base.proofs.Lists.{some_same, all_right}
+use Rattle.xa_base.proofs.Lists.{some_same}
 use Rattle.xa_base.proofs.Truth.{at_true}
 use Rattle.xa_words.specs.Xid.{XidName, xid_eq}
 use Rattle.xa_words.specs.Tran.{tran_of}

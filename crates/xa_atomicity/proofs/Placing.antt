@@ -18,7 +18,6 @@ use Rattle.xa_tables.proofs.WorkLaw.{others_first}
 use Rattle.xa_desk.specs.Lanes.{numbered}
 use Rattle.xa_worker.specs.Journal.{Entry}
 use Rattle.xa_switch.specs.Settling.{answers}
-use Rattle.xa_driver.proofs.Ledgers.{numbered_length}
 
 -- thread t's request of number n
 abbrev pub request_of : ℕ → ℕ → Op → Request

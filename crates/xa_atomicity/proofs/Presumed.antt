@@ -2,17 +2,11 @@
 use Rattle.xa_atomicity.proofs.CutVotes.{CameAt, each_came, at_asking, at_forgetting, at_telling}
 use Rattle.xa_atomicity.proofs.Settled.{sent_stands}
 use Rattle.xa_atomicity.proofs.Sites.{Site, StandsIn}
-use Rattle.std.specs.Prelude.{◌&&◌, not, option_map, is_some, unwrap_or, cond}
-use Rattle.std.proofs.Common.{◌≡◌, ◌≢◌, ℕ, zero, ◌+◌, ◌<◌, Bool, true, false, ◌==◌, ◌||◌, if◌then◌else◌, List, [], ◌∷◌, ◌++◌, length, get_or, slice_get, sym}
+use Rattle.std.specs.Prelude.{option_map, is_some}
+use Rattle.std.proofs.Common.{◌≡◌, ◌≢◌, ℕ, zero, ◌+◌, Bool, true, false, List, [], ◌∷◌, ◌++◌, length, get_or, sym}
 use Rattle.std.proofs.Common.{refl, ap, ◌∙◌, subst, arith, Option, Some, None}
 use Rattle.std.specs.List.{All, Contains}
-use Rattle.std.specs.FinMap as map
-use Rattle.std.specs.FinMap.{get-insert}
-use Rattle.std.specs.Ordering.{is_eq}
-use Rattle.std.specs.Cmp.{tied_itself}
-use Rattle.std.proofs.lemmas.Bool.{eq-eqb, ne_eqb, and_parts}
 use Rattle.std.proofs.lemmas.List.Elements.{All-nil, All-cons, All-append, All-contains, All-head, All-tail, Contains-append_right}
-use Rattle.std.proofs.Math.Bool.{or-true, and-false}
 use Rattle.xa_base.specs.declared.limits.TheConstants.{MOST_MANAGERS}
 use Rattle.xa_base.specs.Lists.{Begins, IsUpTo}
 use Rattle.xa_base.proofs.Lists.{all_after, all_mid, all_right}
@@ -32,30 +26,27 @@ use Rattle.xa_tables.proofs.Reopening.{as_left}
 use Rattle.xa_desk.specs.LedgerView.{LedgerView, learnt_shut}
 use Rattle.xa_desk.specs.DeskView.{ledger}
 use Rattle.xa_desk.specs.Growth.{HasGrown, HaveGrown}
-use Rattle.xa_worker.specs.Journal.{Entry, requests}
+use Rattle.xa_worker.specs.Journal.{requests}
 use Rattle.xa_switch.specs.Again.{reopened_at}
 use Rattle.xa_switch.specs.Fates.{IsOpenedWith, first_of, history as history_of, ledgers_of}
 use Rattle.xa_switch.specs.Settling.{ManagerPart, Settling, IsSettled, answers, collected, find_manager, journal, journal_in, sent}
 use Rattle.xa_driver.specs.declared.branch.Branch.{Branch}
-use Rattle.xa_driver.specs.declared.done.Ending.{Ending}
-use Rattle.xa_driver.specs.declared.done.Ending.TheVariants.{InDoubt}
 use Rattle.xa_driver.specs.declared.resolved.Outcome.{Outcome}
-use Rattle.xa_atomicity.specs.Cut.{CameSoFar, EachVote, IsAsked, IsCut, IsEnded, IsTold, asking, ending_at, forgetting, is_recorded, known_at, telling}
-use Rattle.xa_driver.specs.Decision.{decides_commit, has_yes, is_yes, voted_yes, yes_of}
+use Rattle.xa_atomicity.specs.Cut.{IsAsked, IsCut, IsEnded, is_recorded}
+use Rattle.xa_driver.specs.Decision.{is_yes, voted_yes, yes_of}
 use Rattle.xa_driver.specs.Endings.{ending_of, is_decided, yes_ending}
 use Rattle.xa_log.specs.Log.{LogState, Records, record_of}
-use Rattle.xa_atomicity.specs.Outcomes.{OnlyTheseOrDecisionsName, is_heuristic}
+use Rattle.xa_atomicity.specs.Outcomes.{OnlyTheseOrDecisionsName}
 use Rattle.xa_atomicity.specs.Presumed.{AskedAreLeft, CountsByTheLog, EndsByTheLog, IsResolvedAfter, VotedToCommit, WasAsked, known_of}
 use Rattle.xa_driver.specs.Resolving.{names, outcome_op}
-use Rattle.xa_atomicity.specs.Resolution.{AreUses, CutCall, EndsAs, IsFollowed, IsKept, IsOutcomeOf, IsUseIn, OnlyResolves, Opening, ResolveCall}
+use Rattle.xa_atomicity.specs.Resolution.{AreUses, CutCall, IsFollowed, IsKept, IsOutcomeOf, IsUseIn, OnlyResolves, Opening, ResolveCall}
 use Rattle.xa_atomicity.specs.Resolution.{Use, cuts, resolves, uses_of}
 use Rattle.xa_atomicity.specs.Tabled.{Tabled}
-use Rattle.xa_driver.specs.Trace.{AreBranchesRising, EachBranch, HaveRoom, IsTranOf, Logs, appended, decision_of, failed, unwanted}
-use Rattle.xa_atomicity.specs.Worth.{IsUnlisted, SharesOver}
+use Rattle.xa_driver.specs.Trace.{AreBranchesRising, HaveRoom, IsTranOf, Logs, decision_of}
 use Rattle.xa_atomicity.proofs.BranchEnds.{Follows, IsMarked, branch_follows}
 use Rattle.xa_atomicity.proofs.CutBranch.{HasSentOnly, WasTold, asked_only, ended_voted_so, open_so, sent_end, sent_fates, told_end, told_voted_so}
 use Rattle.xa_atomicity.proofs.CutBranch.{vote_is, voted_only, was_told}
-use Rattle.xa_atomicity.proofs.CutVotes.{Ended, HasVoted, branch_votes}
+use Rattle.xa_atomicity.proofs.CutVotes.{HasVoted}
 use Rattle.xa_atomicity.proofs.Leading.{IsTowards}
 use Rattle.xa_atomicity.proofs.Naming.{prepare_part}
 use Rattle.xa_driver.proofs.Calls.{one_tran}
@@ -64,7 +55,6 @@ use Rattle.xa_atomicity.proofs.Later.{ends_with}
 use Rattle.xa_atomicity.proofs.Quiet.{quiet_alone, quiet_openings}
 use Rattle.xa_atomicity.proofs.Records.{FindsMark, IsQuiet, is_marked, marks_stay, own_mark, some_yes, recorded_is}
 use Rattle.xa_atomicity.proofs.Settled.{by_ledger, answered_of, collected_on, sent_on, site_of}
-use Rattle.xa_log.proofs.Transactions.{tran_cmp_total}
 use Rattle.xa_atomicity.proofs.Voting.{AtEnd, Comes, once}
 
 -- ---- the manager of a branch

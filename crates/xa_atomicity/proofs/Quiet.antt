@@ -10,7 +10,7 @@ use Rattle.xa_words.specs.Tran.{TranName}
 use Rattle.xa_desk.specs.LedgerView.{learnt_shut}
 use Rattle.xa_desk.specs.DeskView.{ledger}
 use Rattle.xa_switch.specs.Settling.{Settling}
-use Rattle.xa_atomicity.specs.Cut.{IsCut, EachVote}
+use Rattle.xa_atomicity.specs.Cut.{EachVote}
 use Rattle.xa_atomicity.specs.Presumed.{IsOfAnother}
 use Rattle.xa_atomicity.specs.Resolution.{CommitCall, CutCall, GoesOnAfter, OfCommit, Use, as_cut, commits, cuts, resolves, Opening, IsByItsThread, IsKept}
 use Rattle.xa_atomicity.specs.Resolution.{IsUseIn, OnlyResolves, uses_of}

@@ -3,18 +3,14 @@
 use Rattle.xa_atomicity.proofs.CutVotes.{known_each}
 use Rattle.xa_atomicity.proofs.CutVotes.{prepare_there, vote_there}
 use Rattle.xa_base.proofs.Truth.{by_bool}
-use Rattle.std.proofs.Common.{◌≡◌, ℕ, ◌≤◌, zero, Bool, true, false, List, [], ◌∷◌, ◌++◌, length, append_assoc, slice_get, sym, refl, ap, ◌∙◌, subst, arith}
-use Rattle.std.proofs.Common.{Option, Some, None}
-use Rattle.std.specs.List.{All, Contains, list_any}
-use Rattle.std.proofs.lemmas.Bool.{and_parts, not-true}
-use Rattle.std.proofs.lemmas.List.Elements.{All-head, Contains-append_right}
+use Rattle.std.proofs.Common.{◌≡◌, ℕ, ◌≤◌, Bool, true, false, List, [], ◌∷◌, ◌++◌, length, sym, refl, ap, ◌∙◌, subst}
+use Rattle.std.proofs.Common.{Option, Some}
+use Rattle.std.specs.List.{All, Contains}
+use Rattle.std.proofs.lemmas.List.Elements.{All-head}
 use Rattle.xa_base.specs.declared.limits.TheConstants.{MOST_MANAGERS}
-use Rattle.xa_base.specs.Lists.{Begins, IsUpTo}
-use Rattle.xa_base.proofs.Lists.{begins_on}
+use Rattle.xa_base.specs.Lists.{IsUpTo}
 use Rattle.xa_words.specs.Tran.{TranName}
 use Rattle.xa_words.specs.declared.code.Code.{Code}
-use Rattle.xa_words.specs.declared.code.Code.TheVariants.{Done}
-use Rattle.xa_words.specs.declared.request.Op.TheVariants.{Prepare}
 use Rattle.xa_tables.specs.Tables.{Tables, state_of}
 use Rattle.xa_tables.specs.History.{fate, tables_after}
 use Rattle.xa_tables.specs.Openings.{told_by}
@@ -25,8 +21,8 @@ use Rattle.xa_switch.specs.Settling.{Settling, IsSettled}
 use Rattle.xa_driver.specs.declared.branch.Branch.{Branch}
 use Rattle.xa_driver.specs.declared.done.Ending.{Ending}
 use Rattle.xa_atomicity.specs.Cut.{IsCut, is_recorded, known_at}
-use Rattle.xa_driver.specs.Decision.{decides_commit, has_yes, is_no, is_yes, yes_of}
-use Rattle.xa_atomicity.specs.Outcomes.{EachOutcome, OnlyTheseOrDecisionsName, has_committed, has_vote_against, is_heuristic}
+use Rattle.xa_driver.specs.Decision.{has_yes, is_yes, yes_of}
+use Rattle.xa_atomicity.specs.Outcomes.{EachOutcome, OnlyTheseOrDecisionsName, is_heuristic}
 use Rattle.xa_atomicity.specs.Presumed.{VotedToCommit, known_of}
 use Rattle.xa_atomicity.specs.Resolution.{CommitCall, CutCall, as_cut, ResolveCall, commits, Opening, EndsAs, EachEnds, IsAllOrNone, all, none, IsKept}
 use Rattle.xa_atomicity.specs.Resolution.{IsResolved, IsUseIn}
@@ -35,17 +31,16 @@ use Rattle.xa_driver.specs.Trace.{EachBranch, IsCommit}
 use Rattle.xa_atomicity.specs.Worth.{CountsOver, CountsAllOrNone, IsUnlisted, SharesOver, is_committed}
 use Rattle.xa_atomicity.proofs.BranchEnds.{Follows}
 use Rattle.xa_atomicity.proofs.Courses.{yes_is}
-use Rattle.xa_atomicity.proofs.CutVotes.{HasVoted, any_voted, ended_so, finished_law, first_is, prepare_sent, shut_unless}
+use Rattle.xa_atomicity.proofs.CutVotes.{HasVoted, any_voted, ended_so, finished_law, shut_unless}
 use Rattle.xa_atomicity.proofs.EndsByFate.{doubted}
 use Rattle.xa_driver.proofs.Mapped.{Any}
 use Rattle.xa_atomicity.proofs.Naming.{Traced}
-use Rattle.xa_atomicity.proofs.OneOutcome.{committed_law, unopposed, aborted}
+use Rattle.xa_atomicity.proofs.OneOutcome.{unopposed, aborted}
 use Rattle.xa_driver.proofs.Calls.{one_tran}
 use Rattle.xa_atomicity.proofs.Presumed.{Followed, among_so, follows, use_there, uses_after}
 use Rattle.xa_atomicity.proofs.Quiet.{quiet_after}
-use Rattle.xa_atomicity.proofs.Records.{none_on_abort, recorded_is}
+use Rattle.xa_atomicity.proofs.Records.{recorded_is}
 use Rattle.xa_atomicity.proofs.Settled.{each_outcome, told_in}
-use Rattle.xa_atomicity.proofs.Placing.{at_seam}
 use Rattle.xa_atomicity.proofs.Voting.{Comes, learnt_in_doubt}
 
 module _ (law : Tabled) (first : (s : Settling) (m : ℕ) (T : Tables) → IsSettled s → first_of s m ≡ Some T → IsOpenedWith s m T)

@@ -5,14 +5,12 @@ use Rattle.xa_words.proofs.Xids.{xid_self}
 use Rattle.std.proofs.lemmas.Map.Views.{Contains-from_any}
 use Rattle.std.proofs.lemmas.Bool.{both_ways, false_from_ne_true}
 use Rattle.std.specs.Prelude.{map}
-use Rattle.std.proofs.Common.{Option, None, ◌≡◌, ◌≢◌, ℕ, zero, suc, ⊎_elim, ◌+◌, ◌-◌, ◌<◌, Bool, true, false, ◌||◌, List, [], ◌∷◌, ◌++◌, length}
+use Rattle.std.proofs.Common.{Option, None, ◌≡◌, ◌≢◌, ℕ, zero, suc, ⊎_elim, ◌+◌, ◌-◌, ◌<◌, Bool, true, false, List, [], ◌∷◌, ◌++◌, length}
 use Rattle.std.proofs.Common.{append-nil, append_assoc, get_or, sym, refl, ap, ◌∙◌, subst, arith, Some}
 use Rattle.std.specs.List.{All, Contains, flat_map, list_any, range_with_len}
 use Rattle.std.proofs.lemmas.List.Elements.{All-nil, All-cons, All-append, Contains-append_left, Contains-append_right, Contains-append_cases}
 use Rattle.std.proofs.lemmas.List.Elements.{Contains-push_cases}
 use Rattle.std.proofs.lemmas.List.FromFn.{length-range_with_len, get_or-range_with_len}
-use Rattle.std.proofs.lemmas.List.Folds.{list_any-append}
-use Rattle.std.proofs.Math.Bool.{or-true}
 use Rattle.xa_base.specs.declared.limits.TheConstants.{MOST_MANAGERS}
 use Rattle.xa_base.specs.Lists.{Begins, Chain, IsUpTo, none, more}
 use Rattle.xa_base.proofs.Lists.{any_at, contains_at, same_begins, begins_on, was_mapped}
@@ -23,7 +21,7 @@ use Rattle.xa_words.specs.declared.code.Code.{Code}
 use Rattle.xa_words.specs.declared.code.Code.TheVariants.{RmFail}
 use Rattle.xa_words.specs.declared.request.Op.{Op}
 use Rattle.xa_words.specs.declared.request.Op.TheVariants.{OpenRm, CloseRm, Forget}
-use Rattle.xa_desk.specs.LedgerView.{LedgerView, is_rm_fail, learnt_shut, with_sent, with_collected}
+use Rattle.xa_desk.specs.LedgerView.{LedgerView, learnt_shut, with_sent, with_collected}
 use Rattle.xa_desk.specs.DeskView.{ledger}
 use Rattle.xa_desk.specs.Growth.{HasGrown}
 use Rattle.xa_scan.specs.Left.{ScanView, left_at}

@@ -21,7 +21,6 @@ use Rattle.xa_tables.specs.Next.{next}
 use Rattle.xa_tables.specs.Openings.{told_by}
 use Rattle.xa_tables.specs.History as history
 use Rattle.xa_tables.specs.History.{History, Fate, IsFateOf, fate, coded, decided_fate, tables_after}
-use Rattle.xa_tables.specs.Worth.{moved, held_by}
 use Rattle.xa_desk.specs.LedgerView.{LedgerView}
 use Rattle.xa_desk.specs.DeskView.{DeskView, ledger, no_ledger, is_known}
 use Rattle.xa_worker.specs.Journal.{Entry}
@@ -46,18 +45,16 @@ use Rattle.xa_atomicity.specs.Outcomes.{undecided, decided, told_fate, EachOutco
 use Rattle.xa_atomicity.specs.Outcomes.{has_vote_against, is_committed, is_rolled_back, is_in_doubt, is_heuristic, is_left, is_read_only, sent_so_far}
 use Rattle.xa_driver.specs.declared.done.Ending.TheVariants.{Committed, ReadOnly, RolledBack, InDoubt, Heuristic, Left}
 use Rattle.std.specs.List.{list_any}
-use Rattle.std.specs.Prelude.{ℤ, pos, true, false, ◌||◌, ◌⊎◌}
+use Rattle.std.specs.Prelude.{pos, true, false, ◌||◌, ◌⊎◌}
 use Rattle.std.proofs.Math.Bool.{or-true}
-use Rattle.xa_atomicity.specs.Additions.{IsAddition, Shares, CountsTheCommitted, HasAllOrNothing, is_decided}
+use Rattle.xa_atomicity.specs.Additions.{Shares, CountsTheCommitted, HasAllOrNothing, is_decided}
 use Rattle.xa_base.proofs.Truth.{by_if}
-use Rattle.xa_atomicity.specs.Conservation.{taken_before}
-use Rattle.xa_atomicity.proofs.Moves.{is_within}
 use Rattle.xa_atomicity.proofs.EachManager.{every_manager}
 use Rattle.xa_atomicity.specs.Tabled.{Tabled}
 use Rattle.xa_atomicity.proofs.Values.{Counted, branch_counts}
 use Rattle.xa_atomicity.proofs.Fated.{Told, branch_told}
 use Rattle.xa_driver.specs.Course.{AtBranch}
-use Rattle.xa_atomicity.proofs.Sites.{Site, Sent, AsksIn}
+use Rattle.xa_atomicity.proofs.Sites.{Site}
 use Rattle.xa_atomicity.proofs.InLedgers.{heard, branch_in}
 
 -- what was sent to a manager, and collected from it, stands in the ledger with it

@@ -12,20 +12,16 @@ use Rattle.xa_desk.specs.LedgerView.{LedgerView}
 use Rattle.xa_desk.specs.DeskView.{DeskView, ledger}
 use Rattle.xa_driver.specs.declared.branch.Branch.{Branch}
 use Rattle.xa_driver.specs.declared.done.Ending.{Ending}
-use Rattle.xa_driver.specs.declared.round.Round.{Round}
-use Rattle.xa_driver.specs.declared.stages.Preparing.{Preparing}
 use Rattle.xa_driver.specs.declared.stages.Prepared.{Prepared}
 use Rattle.xa_driver.specs.declared.stages.Decided.{Decided}
-use Rattle.xa_driver.specs.declared.stages.Telling.{Telling}
 use Rattle.xa_driver.specs.declared.stages.Told.{Told}
-use Rattle.xa_driver.specs.declared.stages.Forgetting.{Forgetting}
 use Rattle.xa_driver.specs.Asks.{Ask, Asks, EachAsk, HaveComeSoFar, IsBegun, SameAsks, collected, unasked}
 use Rattle.xa_atomicity.specs.Cut.{DidOther, EachVote, IsAsked, IsCut, IsTold, LeavesBranches, asking, forgetting, telling}
 use Rattle.xa_driver.specs.Decision.{decides_commit, has_yes, yes_of}
 use Rattle.xa_driver.specs.Endings.{second_op, third_op, ending_of}
 use Rattle.xa_log.specs.Log.{LogState, IsEither, with_record}
 use Rattle.xa_driver.specs.Rounds.{code_of, ending_of_ask, first_ask, second_ask, third_ask, yes_asked}
-use Rattle.xa_driver.specs.Stages.{HasDecided, HasPrepared, HasTold, HasVoted, IsForgetting, IsPreparing, IsTelling}
+use Rattle.xa_driver.specs.Stages.{HasDecided, HasPrepared, HasTold, HasVoted}
 use Rattle.xa_driver.specs.Trace.{EachBranch, IsTranOf, Logs, MayCommit, appended, decision_of, wants_record}
 use Rattle.xa_driver.proofs.Calls.{first_trace, second_code, second_is, second_trace, yes_is, one_tran}
 use Rattle.xa_atomicity.proofs.CutVotes.{Ended, did_nothing}

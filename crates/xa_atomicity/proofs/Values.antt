@@ -4,7 +4,7 @@ use Rattle.xa_atomicity.proofs.Courses.{Unreached, Reads, Breaks, Stays, Agrees,
 use Rattle.std.proofs.lemmas.Bool.{both_ways, false_from_ne_true}
 use Rattle.xa_base.proofs.Truth.{by_bool}
 use Rattle.std.specs.Prelude.{ℤ, pos, ◌+ℤ◌}
-use Rattle.std.proofs.Common.{◌≡◌, ◌≢◌, ℕ, suc, ◌+◌, ◌≤◌, inl, inr, Bool, true, false, ◌||◌, if◌then◌else◌, List, [], ◌∷◌, ◌++◌, get_or, sym, refl, ap, ◌∙◌}
+use Rattle.std.proofs.Common.{◌≡◌, ◌≢◌, ℕ, suc, ◌+◌, inl, inr, Bool, true, false, ◌||◌, if◌then◌else◌, List, [], ◌∷◌, ◌++◌, get_or, sym, refl, ap, ◌∙◌}
 use Rattle.std.proofs.Common.{subst, arith, Option, Some, None}
 use Rattle.std.specs.List.{All, cons_option}
 use Rattle.std.proofs.lemmas.Bool.{cases_lt}
@@ -27,12 +27,10 @@ use Rattle.xa_tables.specs.History.{ending, share}
 use Rattle.xa_tables.specs.Worth.{moved, moved_by, held_by}
 use Rattle.xa_tables.specs.Prepared.{names, NamesNowhere, LeavesWaiting, AwaitsTheOutcome, is_forget, fates_when}
 use Rattle.xa_desk.specs.LedgerView.{is_rm_fail}
-use Rattle.xa_driver.specs.declared.branch.Branch.{Branch}
 use Rattle.xa_driver.specs.declared.done.Ending.{Ending}
 use Rattle.xa_driver.specs.declared.done.Ending.TheVariants.{Committed, ReadOnly, RolledBack, InDoubt, Heuristic, Left}
 use Rattle.xa_driver.specs.Decision.{is_yes, is_no, is_read}
 use Rattle.xa_driver.specs.Endings.{yes_ending, no_ending, is_heuristic as is_heuristic_code}
-use Rattle.xa_driver.specs.Course.{AtBranch}
 use Rattle.xa_driver.specs.Commits.{is_commit}
 use Rattle.xa_atomicity.specs.Outcomes.{IsBetween, OnlyTheseName, is_committed, is_heuristic, is_read_only as is_read_only_ending}
 use Rattle.xa_atomicity.specs.Additions.{IsAddition, none_later, prepare_of}
@@ -44,7 +42,7 @@ use Rattle.xa_atomicity.proofs.Placing.{request_of, fates, fates_both, none_firs
 use Rattle.xa_atomicity.proofs.Requests.{closes_other}
 use Rattle.xa_atomicity.proofs.Courses.{yes_is, read_is, Sends, SendsOne, Course, rest_forgets}
 use Rattle.xa_atomicity.proofs.Shares.{add_place, commits_or, share_is}
-use Rattle.xa_atomicity.proofs.Sites.{Site, StandsIn, Sent, AsksIn, above, below, at_place, Second, second_of}
+use Rattle.xa_atomicity.proofs.Sites.{Site, StandsIn, above, below, at_place, Second, second_of}
 
 -- a history that doesn't name the branch makes nothing of it
 -- a Prepare commits nothing

@@ -7,10 +7,9 @@ use Rattle.xa_atomicity.proofs.Sites.{Site}
 use Rattle.xa_atomicity.specs.Tabled.{Tabled}
 use Rattle.std.proofs.lemmas.Bool.{both_ways, false_from_ne_true}
 use Rattle.std.specs.Prelude.{not}
-use Rattle.std.proofs.Common.{◌≡◌, ℕ, ◌+◌, ◌<◌, ◌≤◌, Bool, true, false, Option, Some, List, [], ◌∷◌, ◌++◌, length, get_or, slice_get, sym, refl, ap, ◌∙◌}
+use Rattle.std.proofs.Common.{◌≡◌, ℕ, ◌+◌, ◌<◌, ◌≤◌, Bool, true, false, Some, List, [], ◌∷◌, ◌++◌, length, get_or, slice_get, sym, refl, ap, ◌∙◌}
 use Rattle.std.proofs.Common.{subst, arith, append_assoc, length-append, ◌&&◌}
-use Rattle.std.specs.List.{All, Contains, list_any}
-use Rattle.std.proofs.lemmas.Bool.{or_parts}
+use Rattle.std.specs.List.{All, Contains}
 use Rattle.std.proofs.lemmas.List.Elements.{All-nil, All-cons, All-contains}
 use Rattle.xa_base.specs.declared.limits.TheConstants.{MOST_MANAGERS}
 use Rattle.xa_base.specs.Lists.{IsUpTo}
@@ -24,15 +23,14 @@ use Rattle.xa_words.specs.declared.request.Op.{Op}
 use Rattle.xa_words.specs.declared.request.Op.TheVariants.{Prepare, Commit, Rollback, Forget}
 use Rattle.xa_words.specs.declared.request.Request.{Request}
 use Rattle.xa_tables.specs.Tables.{Tables}
-use Rattle.xa_tables.specs.History.{History, coded}
+use Rattle.xa_tables.specs.History.{History}
 use Rattle.xa_tables.specs.Prepared.{names, is_heur}
 use Rattle.xa_desk.specs.Lanes.{numbered}
 use Rattle.xa_desk.specs.LedgerView.{LedgerView}
 use Rattle.xa_desk.specs.DeskView.{ledger}
 use Rattle.xa_desk.specs.Growth.{HasGrown}
-use Rattle.xa_worker.specs.Journal.{Entry}
 use Rattle.xa_switch.specs.Fates.{IsOpenedWith, first_of, history as history_of, ledgers_of}
-use Rattle.xa_switch.specs.Settling.{Settling, IsSettled, answers, collected, sent}
+use Rattle.xa_switch.specs.Settling.{Settling, IsSettled, sent}
 use Rattle.xa_switch.proofs.Journaled.{follows_first}
 use Rattle.xa_log.specs.Log.{LogState}
 use Rattle.xa_driver.specs.declared.branch.Branch.{Branch}
@@ -40,21 +38,18 @@ use Rattle.xa_driver.specs.declared.done.Ending.{Ending}
 use Rattle.xa_driver.specs.Commits.{is_commit}
 use Rattle.xa_driver.specs.Resolving.{outcome_op, is_to_commit}
 use Rattle.xa_driver.specs.Trace.{AreBranchesRising, decision_of, IsTranOf}
-use Rattle.xa_atomicity.specs.Conservation.{taken_before}
-use Rattle.xa_atomicity.specs.Cut.{CameSoFar, EachVote, IsCut, IsEnded, IsTold, asking, forgetting, telling}
+use Rattle.xa_atomicity.specs.Cut.{IsCut}
 use Rattle.xa_atomicity.specs.Cut.{HasSentNone, is_commit_of, is_recorded}
 use Rattle.xa_atomicity.specs.Outcomes.{OnlyTheseOrDecisionsName}
 use Rattle.xa_atomicity.specs.Presumed.{AskedAreLeft, VotedToCommit, WasAsked}
 use Rattle.xa_atomicity.specs.Resolution.{CutCall, IsKept, IsUseIn, OnlyResolves, Opening, cuts}
 use Rattle.xa_atomicity.proofs.CutBranch.{HasSentOnly, asked_only, ended_voted_so, guide, open_so, told_voted_so, voted_only}
 use Rattle.xa_atomicity.proofs.CutSends.{unrecorded_law}
-use Rattle.xa_atomicity.proofs.CutVotes.{Ended, HasVoted, branch_votes}
+use Rattle.xa_atomicity.proofs.CutVotes.{HasVoted}
 use Rattle.xa_atomicity.proofs.Leading.{IsTowards, Leads}
-use Rattle.xa_atomicity.proofs.Moves.{taken_is}
-use Rattle.xa_atomicity.proofs.Naming.{named_so, named_tran, prepare_part, sent_is}
+use Rattle.xa_atomicity.proofs.Naming.{named_so, named_tran, sent_is}
 use Rattle.xa_atomicity.proofs.Placing.{request_of}
-use Rattle.xa_atomicity.proofs.Requests.{all_earlier, own_between}
-use Rattle.xa_atomicity.proofs.Settled.{by_ledger}
+use Rattle.xa_atomicity.proofs.Requests.{own_between}
 use Rattle.xa_days.specs.Openings.{CommitsNowhere}
 use Rattle.xa_days.specs.Course.{OnlyTold, tells_outcome}
 use Rattle.xa_days.specs.Calls.{CommitsInCall, DecidesNowhere, IsMarkedNowhere, VotedInCall, taken_till_asked}

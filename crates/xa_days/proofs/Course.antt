@@ -2,23 +2,22 @@
 use Rattle.std.proofs.lemmas.List.Elements.{All-cons}
 use Rattle.xa_atomicity.proofs.Placing.{fates_both, last_both}
 use Rattle.xa_atomicity.proofs.Moves.{moved_both, moved_without, unmoving}
-use Rattle.std.specs.Prelude.{◌≡◌, ◌≢◌, ℕ, ℤ, pos, ◌+ℤ◌, Bool, true, false, cond, not, ◌&&◌, ◌||◌, if◌then◌else◌, Option, None, Some, is_some, List, [], ◌∷◌}
+use Rattle.std.specs.Prelude.{◌≡◌, ◌≢◌, ℕ, ℤ, pos, ◌+ℤ◌, Bool, true, false, cond, not, ◌||◌, if◌then◌else◌, Option, None, Some, is_some, List, [], ◌∷◌}
 use Rattle.std.specs.Prelude.{◌++◌}
 use Rattle.std.specs.Prelude.{unwrap_or, refl}
 use Rattle.std.specs.List.{All, cons_option}
 use Rattle.std.specs.FinMap as finmap
-use Rattle.std.proofs.Common.{sym, ap, ◌∙◌, subst, arith, zero, suc}
-use Rattle.std.proofs.lemmas.Int.{ints}
+use Rattle.std.proofs.Common.{sym, ap, ◌∙◌, subst, arith}
 use Rattle.std.proofs.lemmas.List.Elements.{All-head, All-tail}
 use Rattle.std.proofs.Math.IntN.{+ℤ_idl as none_plus, +ℤ_idr as plus_none}
 use Rattle.xa_base.proofs.Sums.{total_same}
-use Rattle.xa_base.proofs.Truth.{by_if, by_bool, at_true, at_false}
+use Rattle.xa_base.proofs.Truth.{by_if, at_true, at_false}
 use Rattle.xa_words.specs.Xid.{XidName, xid_eq}
 use Rattle.xa_words.specs.Orders.{Decides-xid_eq}
 use Rattle.xa_words.specs.declared.code.Code.{Code}
 use Rattle.xa_words.specs.declared.code.Code.TheVariants.{Done, Nota, Proto, RmFail}
 use Rattle.xa_words.specs.declared.request.Op.{Op}
-use Rattle.xa_words.specs.declared.request.Op.TheVariants.{Prepare, Commit, Rollback, Forget, Heur}
+use Rattle.xa_words.specs.declared.request.Op.TheVariants.{Prepare, Commit, Rollback, Forget}
 use Rattle.xa_words.specs.declared.request.Request.{Request}
 use Rattle.xa_tables.specs.declared.state.State.TheVariants.{Prepared as S3}
 use Rattle.xa_tables.specs.Tables.{Tables, state_of, sum_of, exists, has_opened, is_S3, is_S5, is_left_in, is_somebody_associated}
@@ -31,7 +30,7 @@ use Rattle.xa_tables.specs.declared.state.HeuristicDecision.{HeuristicDecision}
 use Rattle.xa_tables.specs.Prepared.{names, IsPrepared, state_when, fates_when}
 use Rattle.xa_tables.specs.Worth.{held_by, moved, moved_by}
 use Rattle.xa_tables.proofs.Effects.{Effect, Stays, Commits, Drops, Forgets, effect_of, named_none}
-use Rattle.xa_tables.proofs.Law.{Nowhere, AtWork, standing, voted_rests, nobody_rests, get_gone, last_more, sound_after, run_sound, opening_sound}
+use Rattle.xa_tables.proofs.Law.{Nowhere, AtWork, standing, voted_rests, nobody_rests, get_gone, sound_after, run_sound, opening_sound}
 use Rattle.xa_tables.proofs.Unnamed.{unnamed_stays, unnamed_fate, tables_after-append}
 use Rattle.xa_tables.proofs.Reopening.{reopens, state_reopened, sums_reopened}
 use Rattle.xa_tables.proofs.FateLaw.{late_leave_fates}

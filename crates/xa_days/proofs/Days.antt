@@ -1,6 +1,6 @@
 -- The laws of a day: the branches' shares of what is moved, and what accounts are worth after it.
 use Rattle.xa_atomicity.proofs.Moves.{unmoving}
-use Rattle.std.specs.Prelude.{◌≡◌, ℤ, pos, ◌+ℤ◌, Bool, true, false, ◌||◌, ◌&&◌, if◌then◌else◌, List, [], ◌∷◌, map, refl}
+use Rattle.std.specs.Prelude.{◌≡◌, ℤ, pos, ◌+ℤ◌, true, false, ◌||◌, if◌then◌else◌, List, [], ◌∷◌, map, refl}
 use Rattle.std.specs.List.{All, AllByRecursion, IsDistinct, list_any}
 use Rattle.std.proofs.Common.{sym, ap, ◌∙◌, arith, get_or}
 use Rattle.std.proofs.lemmas.Int.{ints}
@@ -18,10 +18,10 @@ use Rattle.xa_words.specs.declared.request.Op.TheVariants.{Commit, Heur}
 use Rattle.xa_words.specs.declared.request.Request.{Request}
 use Rattle.xa_tables.specs.Tables.{Tables}
 use Rattle.xa_tables.specs.Next.{next}
-use Rattle.xa_tables.specs.History.{History, Absent, is_done, tables_after}
+use Rattle.xa_tables.specs.History.{History, Absent, tables_after}
 use Rattle.xa_tables.specs.Openings.{IsOpening, reopened, left_by}
 use Rattle.xa_tables.specs.Prepared.{names}
-use Rattle.xa_tables.specs.Worth.{worth, held_by, moved, moved_by, is_any, DeclareEach}
+use Rattle.xa_tables.specs.Worth.{worth, moved, moved_by, is_any, DeclareEach}
 use Rattle.xa_tables.proofs.WorthLaw.{worth_from, declared_on}
 use Rattle.xa_driver.specs.Commits.{is_commit}
 use Rattle.xa_days.specs.Openings.{moved_over, is_for, CommitsAmong}

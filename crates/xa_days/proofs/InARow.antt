@@ -3,7 +3,6 @@ use Rattle.std.proofs.Math.IntN.{+ℤ_idr as plus_none}
 use Rattle.std.specs.Prelude.{◌≡◌, ℕ, ℤ, pos, ◌+ℤ◌, Bool, true, false, if◌then◌else◌, None, Some, List, [], ◌∷◌, refl}
 use Rattle.std.specs.Prelude.{cond, is_some, map}
 use Rattle.std.specs.FinMap.{find, get-from_entries}
-use Rattle.std.proofs.lemmas.Int.{ints}
 use Rattle.xa_base.specs.Sums.{total}
 use Rattle.xa_base.proofs.Sums.{total_across, total_alike, total_both, total_nothing}
 use Rattle.xa_words.specs.Orders.{key_cmp, key_cmp_total}

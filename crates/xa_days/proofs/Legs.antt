@@ -4,46 +4,32 @@ use Rattle.xa_atomicity.proofs.Values.{taken}
 use Rattle.xa_atomicity.proofs.Settled.{sent_stands, site_of}
 use Rattle.xa_atomicity.specs.Tabled.{Tabled}
 use Rattle.std.specs.Prelude.{if◌then◌else◌}
-use Rattle.std.proofs.Common.{◌≡◌, ℕ, pos, zero, suc, ◌+◌, ◌<◌, ◌≤◌, true, false, Some, List, [], ◌∷◌, ◌++◌, length, get_or, slice_get, sym, refl, ap, ◌∙◌}
+use Rattle.std.proofs.Common.{◌≡◌, ℕ, pos, zero, suc, ◌≤◌, true, false, Some, List, [], ◌∷◌, ◌++◌, length, get_or, slice_get, sym, refl, ap, ◌∙◌}
 use Rattle.std.proofs.Common.{subst, arith}
 use Rattle.std.specs.List.{All, Contains}
 use Rattle.std.proofs.lemmas.List.Elements.{All-contains, All-head, All-tail}
 use Rattle.std.proofs.lemmas.Option.{same_Some as some_same}
 use Rattle.xa_base.specs.declared.limits.TheConstants.{MOST_MANAGERS}
 use Rattle.xa_base.specs.Lists.{IsUpTo}
-use Rattle.xa_words.specs.Xid.{XidName}
 use Rattle.xa_words.specs.Tran.{TranName, tran_of}
-use Rattle.xa_words.specs.declared.code.Code.{Code}
 use Rattle.xa_words.specs.declared.code.Code.TheVariants.{RdOnly}
 use Rattle.xa_words.specs.declared.request.Op.TheVariants.{Prepare}
-use Rattle.xa_words.specs.declared.request.Request.{Request}
 use Rattle.xa_tables.specs.Tables.{Tables}
-use Rattle.xa_tables.specs.Next.{next}
-use Rattle.xa_tables.specs.History.{History, coded, tables_after}
+use Rattle.xa_tables.specs.History.{History, tables_after}
 use Rattle.xa_tables.specs.Worth.{held_by}
 use Rattle.xa_tables.proofs.WorthLaw.{read_law}
-use Rattle.xa_desk.specs.LedgerView.{LedgerView}
 use Rattle.xa_desk.specs.DeskView.{ledger}
-use Rattle.xa_desk.specs.Growth.{HasGrown}
-use Rattle.xa_worker.specs.Journal.{Entry}
-use Rattle.xa_switch.specs.Fates.{IsOpenedWith, first_of, history as history_of, ledgers_of}
-use Rattle.xa_switch.specs.Settling.{Settling, IsSettled, answers, collected}
+use Rattle.xa_switch.specs.Fates.{IsOpenedWith, first_of, history as history_of}
+use Rattle.xa_switch.specs.Settling.{Settling, IsSettled}
 use Rattle.xa_switch.proofs.Journaled.{follows_first}
 use Rattle.xa_driver.specs.declared.branch.Branch.{Branch}
 use Rattle.xa_driver.specs.Trace.{IsTranOf}
-use Rattle.xa_driver.proofs.Ledgers.{numbered_length}
-use Rattle.xa_atomicity.specs.Conservation.{taken_before}
 use Rattle.xa_atomicity.specs.Cut.{is_recorded}
 use Rattle.xa_atomicity.specs.Presumed.{EndsByTheLog, IsResolvedAfter, VotedToCommit, known_of}
 use Rattle.xa_atomicity.specs.Resolution.{CutCall, EndsAs, IsKept, IsUseIn, OnlyResolves, Opening, ResolveCall, cuts}
 use Rattle.xa_atomicity.specs.Worth.{histories}
-use Rattle.xa_atomicity.proofs.Moves.{taken_is}
-use Rattle.xa_atomicity.proofs.Naming.{prepare_part}
-use Rattle.xa_atomicity.proofs.Placing.{answer_at, request_of, same_code}
 use Rattle.xa_atomicity.proofs.Presumed.{use_there}
-use Rattle.xa_atomicity.proofs.Requests.{all_earlier}
-use Rattle.xa_atomicity.proofs.Settled.{by_ledger}
-use Rattle.xa_days.specs.Calls.{IsMarkedNowhere, VotedInCall, taken_till_asked}
+use Rattle.xa_days.specs.Calls.{IsMarkedNowhere, VotedInCall}
 use Rattle.xa_days.specs.Course.{OnlyTold}
 use Rattle.xa_days.specs.Legs.{IsItsOwn, asked_sum, leg_of}
 use Rattle.xa_days.specs.Openings.{CommitsNowhere}

@@ -9,15 +9,12 @@ use Rattle.xa_atomicity.proofs.CutVotes.{prepare_there, vote_there}
 use Rattle.xa_atomicity.proofs.CutSends.{decided_so}
 use Rattle.std.proofs.lemmas.Bool.{both_ways, false_from_ne_true}
 use Rattle.std.specs.Prelude.{if◌then◌else◌, ◌&&◌, is_some}
-use Rattle.std.proofs.Common.{◌≡◌, ℕ, zero, suc, ◌≤◌, Bool, true, false, ◌||◌, Option, None, Some, List, [], ◌∷◌, ◌++◌, length, get_or, slice_get, sym, refl}
+use Rattle.std.proofs.Common.{◌≡◌, suc, ◌≤◌, Bool, true, false, ◌||◌, Option, List, [], ◌∷◌, length, get_or, sym, refl}
 use Rattle.std.proofs.Common.{ap, ◌∙◌}
-use Rattle.std.proofs.Common.{subst, arith, append_assoc}
+use Rattle.std.proofs.Common.{subst, arith}
 use Rattle.std.specs.List.{All, Contains, list_any}
-use Rattle.std.proofs.lemmas.Bool.{and_parts, or_parts, not-true}
-use Rattle.std.proofs.lemmas.List.Elements.{All-nil, All-cons, Contains-append_right}
-use Rattle.xa_base.specs.Lists.{Begins}
-use Rattle.xa_base.proofs.Lists.{begins_on}
-use Rattle.xa_base.proofs.Truth.{by_bool, by_if}
+use Rattle.std.proofs.lemmas.Bool.{and_parts, not-true}
+use Rattle.std.proofs.lemmas.List.Elements.{All-cons}
 use Rattle.xa_words.specs.Xid.{XidName}
 use Rattle.xa_words.specs.Tran.{TranName}
 use Rattle.xa_words.specs.declared.code.Code.{Code}
@@ -32,17 +29,16 @@ use Rattle.xa_switch.specs.Settling.{Settling}
 use Rattle.xa_log.specs.Log.{LogState, record_of}
 use Rattle.xa_driver.specs.declared.branch.Branch.{Branch}
 use Rattle.xa_driver.specs.Commits.{is_commit}
-use Rattle.xa_driver.specs.Decision.{decides_commit, has_yes, is_no, is_yes}
-use Rattle.xa_driver.specs.Endings.{is_decided, second_op, third_op}
+use Rattle.xa_driver.specs.Decision.{decides_commit, is_no, is_yes}
+use Rattle.xa_driver.specs.Endings.{second_op, third_op}
 use Rattle.xa_tables.specs.Prepared.{names}
-use Rattle.xa_driver.specs.Trace.{IsTranOf, Logs, appended, decision_of, failed, unwanted}
+use Rattle.xa_driver.specs.Trace.{IsTranOf, Logs, decision_of}
 use Rattle.xa_driver.proofs.Calls.{one_tran}
 use Rattle.xa_driver.proofs.Mapped.{Any, IsAskedFor, any_asked}
-use Rattle.xa_atomicity.specs.Cut.{CameSoFar, EachVote, HasSentNone, IsCut, IsEnded, IsTold, asking, forgetting, is_commit_of, is_recorded, telling}
+use Rattle.xa_atomicity.specs.Cut.{HasSentNone, IsCut, is_commit_of, is_recorded}
 use Rattle.xa_atomicity.specs.Presumed.{WasAsked}
 use Rattle.xa_atomicity.specs.Resolution.{CutCall, IsUseIn, cuts}
-use Rattle.xa_atomicity.proofs.CutVotes.{Ended, HasVoted, branch_votes, ended_voted, first_is, prepare_sent, told_voted}
-use Rattle.xa_atomicity.proofs.Placing.{at_seam}
+use Rattle.xa_atomicity.proofs.CutVotes.{HasVoted, ended_voted, prepare_sent, told_voted}
 use Rattle.xa_days.specs.Recorded.{AgreedOrRead, agreed, read}
 use Rattle.xa_days.proofs.Calls.{positive_each}
 

@@ -2,36 +2,26 @@
 -- anything, over the settled history of its manager.
 use Rattle.xa_atomicity.proofs.Fated.{decided_in}
 use Rattle.std.proofs.lemmas.Bool.{true_from_ne_false}
-use Rattle.std.proofs.Common.{◌≡◌, ℕ, suc, ◌≤◌, inl, inr, Bool, true, false, if◌then◌else◌, [], ◌∷◌, ◌++◌, get_or, sym, refl, ap, ◌∙◌, subst}
-use Rattle.std.proofs.Common.{append-nil, append_assoc, arith, Option, Some, None}
+use Rattle.std.proofs.Common.{◌≡◌, ℕ, suc, ◌≤◌, inl, inr, Bool, true, false, if◌then◌else◌, [], ◌∷◌, get_or, sym, refl, ap, ◌∙◌}
+use Rattle.std.proofs.Common.{append-nil, arith}
 use Rattle.std.specs.List.{All, cons_option}
-use Rattle.xa_words.specs.Xid.{XidName, xid_eq}
-use Rattle.xa_words.specs.declared.code.Code.{Code}
-use Rattle.xa_words.specs.declared.code.Code.TheVariants.{Done, RmFail}
+use Rattle.xa_words.specs.Xid.{XidName}
+use Rattle.xa_words.specs.declared.code.Code.TheVariants.{Done}
 use Rattle.xa_words.specs.declared.request.Op.{Op}
-use Rattle.xa_words.specs.declared.request.Op.TheVariants.{Heur, Prepare}
-use Rattle.xa_words.specs.declared.request.Request.{Request}
-use Rattle.xa_words.proofs.Xids.{xid_self}
+use Rattle.xa_words.specs.declared.request.Op.TheVariants.{Prepare}
 use Rattle.xa_tables.specs.declared.state.HeuristicDecision.{HeuristicDecision}
-use Rattle.xa_tables.specs.declared.state.HeuristicDecision.TheVariants as decision
-use Rattle.xa_tables.specs.Tables.{Tables, is_prepared, is_S3, state_of}
-use Rattle.xa_tables.specs.Reasons.{decision_code}
+use Rattle.xa_tables.specs.Tables.{Tables, state_of}
 use Rattle.xa_tables.specs.Next.{next}
-use Rattle.xa_tables.proofs.Unnamed.{tables_after-append, unnamed_fate}
 use Rattle.xa_tables.specs.History as history
 use Rattle.xa_tables.specs.History.{History, Fate, IsFateOf, coded, decided_fate, fate, fate_in, fate_of, heur_fate, last_or, tables_after}
-use Rattle.xa_tables.specs.Prepared.{AwaitsAfter, AwaitsTheOutcome, IsTold, LeavesWaiting, OnlyDecides, answer_when, fates_when, is_heur, names}
-use Rattle.xa_base.proofs.Truth.{at_true}
-use Rattle.xa_driver.specs.Endings.{is_decided}
-use Rattle.xa_driver.specs.Resolving.{outcome_op}
+use Rattle.xa_tables.specs.Prepared.{is_heur, names}
 use Rattle.xa_atomicity.specs.Outcomes.{IsDecidedAfter, OnlyTheseOrDecisionsName}
 use Rattle.xa_atomicity.specs.Resolution.{ended_as}
-use Rattle.xa_atomicity.proofs.Fated.{IsAllowed, leaves_waiting, only_decides}
 use Rattle.xa_atomicity.proofs.Guided.{IsGuided, at_last, decided_known, fates_from, voted_now}
 use Rattle.xa_atomicity.proofs.Leading.{Stands, over, unforgotten, waits}
-use Rattle.xa_atomicity.proofs.Placing.{request_of, fates, fates_both, none_first}
-use Rattle.xa_atomicity.proofs.Sites.{Site, StandsIn, Second, above, second_of}
-use Rattle.xa_atomicity.proofs.Voting.{once, tells_so}
+use Rattle.xa_atomicity.proofs.Placing.{request_of, fates}
+use Rattle.xa_atomicity.proofs.Sites.{Site, StandsIn, above}
+use Rattle.xa_atomicity.proofs.Voting.{once}
 
 module _ {t : ℕ} {T : Tables} {H : History} (site : Site t T H) (x : XidName) (n last : ℕ) (only : OnlyTheseOrDecisionsName x t n last H) where
   abbrev P : Op

@@ -1,27 +1,23 @@
 -- All branches of a commit: what the line shows of them became of them.
 use Rattle.xa_atomicity.specs.Outcomes.{OnlyTheseName, OnlyTheseOrDecisionsName}
-use Rattle.std.proofs.Common.{◌≡◌, ℕ, inl, inr, Bool, true, false, ◌||◌, List, [], ◌∷◌, length, Option, Some, None, sym, refl, ap, ◌∙◌, subst, slice_index_or}
-use Rattle.std.specs.Prelude.{ℤ, pos, if◌then◌else◌, All}
+use Rattle.std.proofs.Common.{◌≡◌, ℕ, inl, inr, Bool, true, false, ◌||◌, List, [], ◌∷◌, length, Option, sym, refl, ap, ◌∙◌, subst, slice_index_or}
+use Rattle.std.specs.Prelude.{pos, if◌then◌else◌, All}
 use Rattle.std.specs.List.{list_any}
 use Rattle.std.proofs.lemmas.Bool.{cases_Bool, or_parts}
 use Rattle.std.proofs.lemmas.List.Elements.{All-head, All-tail, All-cons, All-nil, All-append}
 use Rattle.xa_words.specs.declared.code.Code.{Code}
-use Rattle.xa_words.specs.declared.code.Code.TheVariants.{Done, RdOnly}
 use Rattle.xa_tables.specs.Tables.{Tables}
-use Rattle.xa_tables.specs.History.{is_done, is_rolled_back as rolls_back}
-use Rattle.xa_desk.specs.LedgerView.{is_rm_fail}
 use Rattle.xa_switch.specs.Settling.{Settling, IsSettled, journal, sent, collected}
 use Rattle.xa_switch.specs.Fates.{IsOpenedWith, history as history_of}
 use Rattle.xa_driver.specs.declared.branch.Branch.{Branch}
 use Rattle.xa_driver.specs.declared.done.Done.{Done as Outcome}
 use Rattle.xa_driver.specs.declared.done.Ending.{Ending}
-use Rattle.xa_driver.specs.declared.done.Ending.TheVariants.{Committed, ReadOnly, InDoubt, Heuristic, Left}
-use Rattle.xa_atomicity.specs.Additions.{IsAddition, Shares}
-use Rattle.xa_driver.specs.Decision.{is_yes, is_no, is_read}
-use Rattle.xa_driver.specs.Endings.{ending_of, yes_ending, is_out_of_reach, is_heuristic as is_heuristic_code}
+use Rattle.xa_driver.specs.declared.done.Ending.TheVariants.{Committed, ReadOnly, InDoubt, Heuristic}
+use Rattle.xa_atomicity.specs.Additions.{Shares}
+use Rattle.xa_driver.specs.Decision.{is_no}
+use Rattle.xa_driver.specs.Endings.{ending_of}
 use Rattle.xa_atomicity.specs.Outcomes.{AreLeftAlone, AreLeftOrDecided, EachOutcome, is_committed, is_rolled_back, is_in_doubt, is_heuristic, is_left}
 use Rattle.xa_atomicity.specs.Outcomes.{is_read_only, KeepsItsVote, TellsTheFate}
-use Rattle.xa_driver.specs.Trace.{EachBranch}
 use Rattle.xa_atomicity.specs.Tabled.{Tabled}
 use Rattle.xa_atomicity.proofs.Courses.{course_of}
 use Rattle.xa_atomicity.proofs.OneOutcome.{not_rolled_back, uncommitted}
@@ -43,13 +39,11 @@ use Rattle.xa_shown.specs.Outcomes.{IsOneOutcome, ShowsOneOutcome, Place, IsAsSh
 use Rattle.xa_telling.proofs.Entries.{agreed_fits}
 use Rattle.xa_shown.proofs.Shown.{decided_so, none_against}
 use Rattle.xa_atomicity.proofs.Requests.{none_all}
-use Rattle.xa_telling.proofs.Deaths.{each_so}
 use Rattle.std.proofs.lemmas.List.Folds.{list_any_none}
 use Rattle.xa_shown.proofs.Placed.{chain_adds}
 use Rattle.xa_shown.proofs.Became.{entered, branch_entered}
 use Rattle.xa_shown.proofs.Adds.{Adds}
 use Rattle.xa_driver.proofs.Mapped.{Any}
-use Rattle.xa_atomicity.proofs.Sites.{Sent}
 
 -- ---- lists of outcomes
 

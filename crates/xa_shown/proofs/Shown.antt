@@ -7,30 +7,30 @@ use Rattle.xa_base.proofs.Truth.{by_if}
 use Rattle.std.proofs.lemmas.Bool.{both_ways, not-true, true_from_ne_false}
 use Rattle.std.proofs.Common.{◌≡◌, ℕ, pos, Bool, true, false, ◌==◌, ◌||◌, not, List, [], ◌∷◌, ◌++◌, length, Option, Some, None, sym, refl, ap, ◌∙◌, subst}
 use Rattle.std.proofs.Common.{⊎_elim, zero, suc, ◌<◌, arith, slice_index_or}
-use Rattle.std.specs.Prelude.{get_or, slice_get, All, if◌then◌else◌}
+use Rattle.std.specs.Prelude.{get_or, slice_get, All}
 use Rattle.std.specs.List.{Contains, filter, list_any}
-use Rattle.std.proofs.lemmas.Bool.{and_parts, eq-eqb, or_parts}
+use Rattle.std.proofs.lemmas.Bool.{and_parts, eq-eqb}
 use Rattle.std.proofs.lemmas.List.Folds.{list_any_none}
 use Rattle.xa_base.proofs.Truth.{at_true}
 use Rattle.std.proofs.lemmas.List.Elements.{Contains-append_left, Contains-push, Contains-push_cases, Contains-get_or, All-contains}
-use Rattle.std.proofs.lemmas.List.Elements.{All-cons, All-nil, All-filter, All-contains_itself}
+use Rattle.std.proofs.lemmas.List.Elements.{All-filter, All-contains_itself}
 use Rattle.xa_words.specs.Code.{number_of}
 use Rattle.xa_words.specs.declared.code.Code.{Code}
 use Rattle.xa_words.specs.declared.code.Code.TheVariants.{Done}
 use Rattle.xa_words.specs.declared.code.Code.TheVariants.{RmErr, Inval, RmFail}
 use Rattle.xa_words.specs.declared.request.Op.{Op}
-use Rattle.xa_words.specs.declared.request.Op.TheVariants.{Prepare, Commit, Rollback}
-use Rattle.xa_tables.specs.History.{is_done, is_rolled_back}
+use Rattle.xa_words.specs.declared.request.Op.TheVariants.{Prepare, Commit}
+use Rattle.xa_tables.specs.History.{is_done}
 use Rattle.xa_desk.specs.LedgerView.{is_rm_fail}
 use Rattle.xa_worker.specs.Journal.{Entry, entry}
 use Rattle.xa_switch.specs.Settling.{Settling, journal}
 use Rattle.xa_driver.specs.declared.branch.Branch.{Branch}
 use Rattle.xa_driver.specs.declared.done.Done.{Done as Outcome}
 use Rattle.xa_driver.specs.declared.done.Ending.{Ending}
-use Rattle.xa_driver.specs.declared.done.Ending.TheVariants.{Committed, ReadOnly, RolledBack, InDoubt, Heuristic, Left}
+use Rattle.xa_driver.specs.declared.done.Ending.TheVariants.{Committed}
 use Rattle.xa_driver.specs.Commits.{is_commit}
-use Rattle.xa_driver.specs.Decision.{is_yes, is_read, is_no, decides_commit, has_yes}
-use Rattle.xa_driver.specs.Endings.{second_op, third_op, yes_ending, no_ending, is_out_of_reach, is_heuristic}
+use Rattle.xa_driver.specs.Decision.{is_yes, is_no, decides_commit, has_yes}
+use Rattle.xa_driver.specs.Endings.{second_op, third_op, yes_ending, is_heuristic}
 use Rattle.xa_driver.specs.Course.{AsksFor, AtBranch}
 use Rattle.xa_driver.specs.Trace.{EachBranch, decision_of}
 use Rattle.xa_atomicity.proofs.Aborts.{IsNoCommit}

@@ -12,23 +12,17 @@ use Rattle.std.proofs.lemmas.List.Elements.{All-cons, All-nil, All-head, All-tai
 use Rattle.std.proofs.lemmas.Option.{slice_get_past}
 use Rattle.xa_base.specs.Lists.{Begins}
 use Rattle.xa_base.proofs.Lists.{begins_same, next_there, some_same}
-use Rattle.xa_base.proofs.Truth.{at_false, at_true}
-use Rattle.xa_words.specs.Xid.{XidName}
 use Rattle.xa_words.specs.Tran.{TranName}
 use Rattle.xa_words.specs.declared.code.Code.{Code}
-use Rattle.xa_words.specs.declared.code.Code.TheVariants.{Done, RdOnly, RmFail}
+use Rattle.xa_words.specs.declared.code.Code.TheVariants.{Done, RmFail}
 use Rattle.xa_words.specs.declared.death.Death.{Death}
 use Rattle.xa_words.specs.declared.death.Death.TheVariants as death
 use Rattle.xa_words.specs.declared.request.Op.{Op}
-use Rattle.xa_words.specs.declared.request.Op.TheVariants.{Commit, Prepare, Rollback}
+use Rattle.xa_words.specs.declared.request.Op.TheVariants.{Prepare}
 use Rattle.xa_tables.specs.declared.state.HeuristicDecision.{HeuristicDecision}
-use Rattle.xa_tables.specs.declared.state.HeuristicDecision.TheVariants as decision
-use Rattle.xa_tables.specs.Reasons.{decision_code}
-use Rattle.xa_tables.specs.Tables.{Tables, state_of}
-use Rattle.xa_tables.specs.Openings.{told_by}
+use Rattle.xa_tables.specs.Tables.{Tables}
 use Rattle.xa_tables.specs.History as history
 use Rattle.xa_tables.specs.History.{Fate, decided_fate, fate, is_in_doubt as is_unknown, is_rolled_back as rolls_back}
-use Rattle.xa_desk.specs.LedgerView.{is_rm_fail}
 use Rattle.xa_worker.specs.Journal.{Entry}
 use Rattle.xa_switch.specs.Settling.{Settling, IsSettled, collected, journal, sent}
 use Rattle.xa_switch.specs.Fates.{IsOpenedWith, history as history_of, settled_fate}
@@ -36,19 +30,17 @@ use Rattle.xa_calls.specs.Scans.{Asking}
 use Rattle.xa_driver.specs.declared.branch.Branch.{Branch}
 use Rattle.xa_driver.specs.declared.done.Done.{Done as Outcome}
 use Rattle.xa_driver.specs.declared.done.Ending.{Ending}
-use Rattle.xa_driver.specs.declared.done.Ending.TheVariants.{Committed, Heuristic, InDoubt, Left, ReadOnly, RolledBack}
-use Rattle.xa_driver.specs.Course.{AsksFor, AtBranch}
+use Rattle.xa_driver.specs.declared.done.Ending.TheVariants.{Committed, RolledBack}
+use Rattle.xa_driver.specs.Course.{AsksFor}
 use Rattle.xa_driver.specs.Deaths.{CameTo, HaveAsked, HaveTold, IsDecidedBy, Tells, VotesAndObeys, to_come}
-use Rattle.xa_driver.specs.Decision.{has_yes, is_no, is_read, is_yes}
-use Rattle.xa_driver.specs.Endings.{ending_of, is_decided, is_heuristic as is_heuristic_code, is_out_of_reach, no_ending, second_op, third_op, yes_ending}
-use Rattle.xa_driver.specs.Resolving.{outcome_op}
+use Rattle.xa_driver.specs.Decision.{has_yes, is_no, is_yes}
+use Rattle.xa_driver.specs.Endings.{ending_of, second_op}
 use Rattle.xa_driver.specs.Trace.{EachBranch}
 use Rattle.xa_driver.proofs.Mapped.{Any}
 use Rattle.xa_log.specs.Log.{LogState, record_of}
 use Rattle.xa_atomicity.specs.Cut.{is_recorded}
-use Rattle.xa_atomicity.specs.Additions.{Shares}
-use Rattle.xa_atomicity.specs.Outcomes.{AreLeftAlone, AreLeftOrDecided, EachOutcome, IsDecidedAfter, OnlyTheseName, OnlyTheseOrDecisionsName, TellsTheFate}
-use Rattle.xa_atomicity.specs.Outcomes.{WasAtFirst, is_committed, is_heuristic, is_in_doubt, is_left, is_read_only, told_fate}
+use Rattle.xa_atomicity.specs.Outcomes.{AreLeftAlone, AreLeftOrDecided, EachOutcome, IsDecidedAfter, OnlyTheseName, OnlyTheseOrDecisionsName}
+use Rattle.xa_atomicity.specs.Outcomes.{WasAtFirst, is_heuristic, is_in_doubt, is_left, told_fate}
 use Rattle.xa_atomicity.specs.Outcomes.IsInDoubtUnlessDecided.{decided as was_decided, undecided}
 use Rattle.xa_atomicity.specs.Resolution.{ended_as}
 use Rattle.xa_atomicity.specs.Tabled.{Tabled}
@@ -58,7 +50,7 @@ use Rattle.xa_atomicity.proofs.Fated.{none_decides}
 use Rattle.xa_atomicity.proofs.OneOutcome.{after_yes}
 use Rattle.xa_atomicity.proofs.Records.{recorded_is}
 use Rattle.xa_atomicity.proofs.Settled.{Both, Fated, InHistory, each_outcome, one_both, one_fated, outcome_map, site_of}
-use Rattle.xa_atomicity.proofs.Sites.{Site, Sent, AsksIn, asks, withholds, StandsIn}
+use Rattle.xa_atomicity.proofs.Sites.{Sent, AsksIn, asks, withholds, StandsIn}
 use Rattle.xa_grammar.specs.declared.step.CommitAll.{CommitAll}
 use Rattle.xa_session.specs.Committing.{branches_of, named}
 use Rattle.xa_telling.specs.Parts.{Part, next_entry}
@@ -75,7 +67,7 @@ use Rattle.xa_shown.specs.Unfinished.{ShowsDeath, ShowsUndecided, are_told_by}
 use Rattle.xa_shown.specs.Unfinished.EndsByTheRecord.{ends, doubts}
 use Rattle.xa_shown.specs.Unfinished.EndsSoOrIsDecided.{decided, ends_so}
 use Rattle.xa_shown.proofs.Adds.{Adds}
-use Rattle.xa_shown.proofs.Became.{carry_begins, entered, obeys_entered, or_false, vote_entered}
+use Rattle.xa_shown.proofs.Became.{carry_begins, entered, obeys_entered, vote_entered}
 use Rattle.xa_shown.proofs.Decided.{IsSoOrDecided, doubt_or_decided}
 use Rattle.xa_shown.proofs.Decided.IsSoOrDecided.{is_decided_so, is_so}
 use Rattle.xa_shown.proofs.Outcomes.{CountedSo, FatedSo, as_shown_by, counts_by}

@@ -2,20 +2,16 @@
 use Rattle.std.proofs.Common.{⊎_elim}
 use Rattle.std.specs.Global.{Global}
 use Rattle.std.specs.Prelude.{Vec, ◌⊎◌, All, is_some, not}
-use Rattle.std.proofs.Common.{◌≡◌, ℕ, inl, inr, Bool, true, false, ◌&&◌, ◌||◌, List, [], Option, Some, None, get_or, sym, refl, ap, ◌∙◌, subst}
+use Rattle.std.proofs.Common.{◌≡◌, ℕ, inl, inr, Bool, true, false, ◌&&◌, List, [], Option, None, get_or, sym, refl, ap, ◌∙◌, subst}
 use Rattle.std.specs.List.{list_any}
 use Rattle.std.proofs.Math.Bool.{or-true}
-use Rattle.std.proofs.lemmas.Bool.{and_parts, cases_Bool}
+use Rattle.std.proofs.lemmas.Bool.{and_parts}
 use Rattle.std.proofs.lemmas.List.Folds.{list_any_none}
-use Rattle.xa_base.proofs.Truth.{by_if}
-use Rattle.xa_words.specs.Xid.{XidName}
 use Rattle.xa_words.specs.Tran.{TranName}
 use Rattle.xa_words.specs.declared.code.Code.{Code}
 use Rattle.xa_words.specs.declared.death.Death.{Death}
 use Rattle.xa_words.specs.declared.death.Death.TheVariants as death
 use Rattle.xa_words.specs.declared.request.Op.{Op}
-use Rattle.xa_words.specs.declared.request.Op.TheVariants.{Commit, Rollback}
-use Rattle.xa_tables.specs.History.{is_rolled_back as rolls_back}
 use Rattle.xa_worker.specs.Journal.{Entry}
 use Rattle.xa_switch.specs.Settling.{Settling}
 use Rattle.xa_calls.specs.Scans.{Asking}
@@ -24,10 +20,8 @@ use Rattle.xa_driver.specs.declared.done.Done.{Done as Outcome}
 use Rattle.xa_driver.specs.declared.done.Ending.{Ending}
 use Rattle.xa_driver.specs.Commits.{is_commit}
 use Rattle.xa_driver.specs.Deaths.{CameTo, IsDecidedBy, Putting, VotesAndObeys}
-use Rattle.xa_driver.specs.Decision.{decides_commit, has_yes, is_no, is_read, is_yes}
-use Rattle.xa_driver.specs.Endings.{is_out_of_reach, second_op}
+use Rattle.xa_driver.specs.Decision.{decides_commit, has_yes, is_no}
 use Rattle.xa_driver.specs.Trace.{EachBranch, decision_of}
-use Rattle.xa_driver.proofs.Mapped.{IsAskedFor}
 use Rattle.xa_log.specs.Log.{LogState, record_of}
 use Rattle.xa_atomicity.specs.Cut.{is_recorded, is_rollback}
 use Rattle.xa_atomicity.specs.Outcomes.{EachOutcome, is_committed, is_rolled_back}
