@@ -1,5 +1,5 @@
 -- Where the request of a resolve that was answered stands in a history, and what it leaves.
-use Rattle.xa_atomicity.proofs.Leading.{waits, unforgotten, over}
+use Rattle.xa_atomicity.proofs.Leading.{waits, unforgotten, over, Stands, IsTowards, Led, Standing, led_after, ends_it}
 use Rattle.std.specs.Prelude.{◌&&◌, unwrap_or}
 use Rattle.std.proofs.Common.{◌≡◌, ◌≢◌, ℕ, suc, ◌+◌, Bool, true, false, cond, ◌==◌, ◌||◌, List, [], ◌∷◌, ◌++◌, length, append_assoc, slice_get, get_or, sym}
 use Rattle.std.proofs.Common.{refl, ap, ◌∙◌, subst, arith, Option, Some, None}
@@ -34,7 +34,6 @@ use Rattle.xa_switch.specs.Settling.{answers}
 use Rattle.xa_atomicity.specs.Resolution.{ended_as}
 use Rattle.xa_driver.specs.Resolving.{outcome_op}
 use Rattle.xa_atomicity.proofs.Guided.{decided_known, known_stays}
-use Rattle.xa_atomicity.proofs.Leading.{Stands, IsTowards, Led, Standing, led_after, ends_it}
 use Rattle.xa_atomicity.proofs.Placing.{request_of, part, numbered_both, fates, fates_both, last_both}
 use Rattle.xa_atomicity.proofs.Requests.{own_all, code_there, count_two}
 use Rattle.xa_atomicity.proofs.Resolves.{IsAnsweredIn, IsNoClose}
@@ -157,7 +156,8 @@ module _ (commit : Bool) (D L : Type 0) (t : ℕ) (x : XidName) (T : Tables) (H 
   at_first = tables_after z.first T
 
   pub from_here : All (λ r. IsTowards commit L x r.op) (ends ∷ z.rest)
-  from_here = all_right (λ (r : Request). IsTowards commit L x r.op) before (ends ∷ z.rest) (subst (All (λ (r : Request). IsTowards commit L x r.op)) z.place towards)
+  from_here =
+      all_right (λ (r : Request). IsTowards commit L x r.op) before (ends ∷ z.rest) (subst (All (λ (r : Request). IsTowards commit L x r.op)) z.place towards)
 
   pub now : Standing commit true D L x U (last_or f (fates x before T))
   now =

@@ -1,7 +1,6 @@
 -- What leaves the branches of a commit: nothing, and requests of which none names them.
 use Rattle.xa_atomicity.proofs.Asked.{second_so, third_so}
-use Rattle.std.proofs.Common.{◌≡◌, ◌≢◌, ℕ, ◌<◌, ◌≤◌, Bool, true, false, List, [], ◌∷◌, ◌++◌, length, map, get_or, ⊎_elim, sym, refl, ◌∙◌, subst, arith}
-use Rattle.std.proofs.Common.{Option}
+use Rattle.std.proofs.Common.{◌≡◌, ◌≢◌, ℕ, ◌<◌, ◌≤◌, Bool, true, false, List, [], ◌∷◌, ◌++◌, length, map, get_or, ⊎_elim, sym, refl, ◌∙◌, subst, arith, Option}
 use Rattle.std.specs.List.{All, Contains}
 use Rattle.std.proofs.lemmas.Bool.{cases_lt, false_from_ne_true}
 use Rattle.std.proofs.lemmas.List.Elements.{All-nil, All-cons, All-contains, Contains-get_or}
@@ -27,11 +26,10 @@ use Rattle.xa_atomicity.specs.Cut.{AreOthers, DidOther, LeavesBranches}
 use Rattle.xa_driver.specs.Endings.{second_op, third_op}
 use Rattle.xa_log.specs.Log.{LogState}
 use Rattle.xa_atomicity.specs.Resolution.{IsDone, IsOutcomeOf, ResolveCall, resolves}
-use Rattle.xa_driver.specs.Resolving.{outcome_op}
+use Rattle.xa_driver.specs.Resolving.{outcome_op, AsksLedger}
 use Rattle.xa_driver.specs.Rounds.{code_of, first_ask, second_ask, third_ask}
 use Rattle.xa_driver.specs.Stages.{HasDecided, HasPrepared, HasTold}
 use Rattle.xa_driver.specs.Course.{AtBranch}
-use Rattle.xa_driver.specs.Resolving.{AsksLedger}
 use Rattle.xa_driver.specs.Trace.{AreBranchesRising, IsCommit}
 use Rattle.xa_atomicity.proofs.CutSends.{seconds_are, sends_so_far}
 use Rattle.xa_atomicity.proofs.CutVotes.{did_nothing, other_sends}

@@ -1,11 +1,10 @@
 -- Transfers conserve what all accounts are worth together, but for what branches in doubt hold.
-use Rattle.std.proofs.lemmas.Bool.{ne_eqb, or_from}
+use Rattle.std.proofs.lemmas.Bool.{ne_eqb, or_from, cases_lt, eqb-true, eqb-false, le-leb, or_parts}
 use Rattle.std.specs.Prelude.{ℤ, pos, ◌+ℤ◌, All, nat_le, ◌&&◌}
-use Rattle.std.proofs.Common.{◌≡◌, ℕ, zero, suc, ◌+◌, ◌-◌, ◌<◌, ◌≤◌, ◌==◌, Bool, true, false, if◌then◌else◌, ⊎_elim, List, [], ◌∷◌, ◌++◌, length}
-use Rattle.std.proofs.Common.{length-append, append_assoc, get_or, slice_get, sym, refl, ap, ◌∙◌, subst, arith, None}
+use Rattle.std.proofs.Common.{◌≡◌, ℕ, zero, suc, ◌+◌, ◌-◌, ◌<◌, ◌≤◌, ◌==◌, Bool, true, false, if◌then◌else◌, ⊎_elim, List, [], ◌∷◌, ◌++◌, length, length-append}
+use Rattle.std.proofs.Common.{append_assoc, get_or, slice_get, sym, refl, ap, ◌∙◌, subst, arith, None}
 use Rattle.std.specs.List.{list_any, range_with_len}
 use Rattle.std.proofs.lemmas.Int.{ints}
-use Rattle.std.proofs.lemmas.Bool.{cases_lt, eqb-true, eqb-false, le-leb, or_parts}
 use Rattle.std.proofs.Math.IntN.{+ℤ_idl as none_plus, +ℤ_idr as plus_none}
 use Rattle.xa_base.specs.Lists.{Begins}
 use Rattle.xa_base.specs.Sums.{total}
@@ -61,7 +60,8 @@ begins_length xs ys b = let e : length ys ≡ length xs + length b.0 = ap length
 none_before : (lo m : ℕ) (bs : List Branch) → AreBranchesRising lo bs → m ≤ lo → has_branch_at bs m ≡ false
 none_before lo m [] r le = refl
 none_before lo m (b ∷ bs) r le =
-    let up = r.0 in or_from (b.m == m) (has_branch_at bs m) (ne_eqb b.m m (λ same. omega (arith, same, up, le))) (none_before b.m m bs r.1 (omega (arith, up, le)))
+    let up = r.0 in
+    or_from (b.m == m) (has_branch_at bs m) (ne_eqb b.m m (λ same. omega (arith, same, up, le))) (none_before b.m m bs r.1 (omega (arith, up, le)))
 
 -- what counts at the managers of branches alone may be summed over the branches
 over_branches : (g : ℕ → ℤ) (bs : List Branch) (lo n : ℕ) → AreBranchesRising lo bs → ((m : ℕ) → lo < m → has_branch_at bs m ≡ false → g m ≡ pos 0)

@@ -1,14 +1,12 @@
 -- The courses that a branch of a commit may take, by the places of its requests in its manager's settled history.
-use Rattle.xa_atomicity.proofs.Sites.{asks, withholds}
-use Rattle.std.proofs.lemmas.Bool.{cases_lt}
-use Rattle.std.proofs.Common.{◌≤◌, ⊎_elim, get_or}
+use Rattle.xa_atomicity.proofs.Sites.{asks, withholds, Site, StandsIn, Sent, AsksIn, only_op, Second}
+use Rattle.std.proofs.lemmas.Bool.{cases_lt, cases_Bool}
+use Rattle.std.proofs.Common.{◌≤◌, ⊎_elim, get_or, ◌≡◌, ℕ, ◌∷◌, ◌++◌, suc, ◌+◌, ◌<◌, Bool, true, false, ◌||◌, if◌then◌else◌, sym, refl, ap, ◌∙◌, subst, arith}
+use Rattle.std.proofs.Common.{Option, Some, None, inl, inr}
 use Rattle.std.specs.Prelude.{◌⊎◌}
 use Rattle.xa_driver.specs.Deaths.{VotesAndObeys}
 use Rattle.xa_driver.specs.Resolving.{outcome_op}
-use Rattle.std.proofs.Common.{◌≡◌, ℕ, ◌∷◌, ◌++◌, suc, ◌+◌, ◌<◌, Bool, true, false, ◌||◌, if◌then◌else◌, sym, refl, ap, ◌∙◌, subst, arith, Option, Some, None}
 use Rattle.std.specs.List.{All}
-use Rattle.std.proofs.Common.{inl, inr}
-use Rattle.std.proofs.lemmas.Bool.{cases_Bool}
 use Rattle.std.proofs.Math.Bool.{or-true}
 use Rattle.xa_base.proofs.Lists.{all_after}
 use Rattle.xa_words.specs.Xid.{XidName}
@@ -29,7 +27,6 @@ use Rattle.xa_driver.specs.Course.{AsksFor, AtBranch}
 use Rattle.xa_driver.specs.Decision.{is_yes, is_read}
 use Rattle.xa_driver.specs.Endings.{second_op, third_op, ending_of, yes_ending, no_ending, is_out_of_reach, is_decided}
 use Rattle.xa_atomicity.proofs.Placing.{request_of}
-use Rattle.xa_atomicity.proofs.Sites.{Site, StandsIn, Sent, AsksIn, only_op, Second}
 
 pub yes_is : (c : Code) → is_yes c ≡ true → c ≡ Done
 yes_is Done e = refl
@@ -76,7 +73,8 @@ rest_forgets {t} {T} {H} s x n last vote op c z f r k d lt own less =
     (subst (All (λ (q : Request). q.thread ≡ t → suc n < q.number → q.number < last → is_forget q.op ≡ true)) r.place z.forgets) k d lt own (omega (arith, up)) less
 
 -- what the thread sends of it after its Prepare is no decision by itself
-pub own_plain : {t : ℕ} {T : Tables} {H : History} (s : Site t T H) (x : XidName) (n last : ℕ) (vote : Code) (commit : Bool) (e : Ending) → Course s x n last vote commit e
+pub own_plain : {t : ℕ} {T : Tables} {H : History} (s : Site t T H) (x : XidName) (n last : ℕ) (vote : Code) (commit : Bool) (e : Ending)
+    → Course s x n last vote commit e
     → All (λ r. r.thread ≡ t → n < r.number → r.number < last → is_heur r.op ≡ false) H
 own_plain {t} {T} {H} s x n last vote commit = by_course
   where
@@ -87,7 +85,8 @@ own_plain {t} {T} {H} s x n last vote commit = by_course
     forget_plain (Forget y) e = refl
     forget_plain op e = cc
 
-    two : (op : Op) (c : Code) → is_heur op ≡ false → Sends s x n last vote op c → All (λ r. r.thread ≡ t → n < r.number → r.number < last → is_heur r.op ≡ false) H
+    two : (op : Op) (c : Code) → is_heur op ≡ false → Sends s x n last vote op c
+        → All (λ r. r.thread ≡ t → n < r.number → r.number < last → is_heur r.op ≡ false) H
     two op c plain z k d lt own up down =
         ⊎_elim (λ (more : suc n < (get_or H k d).number). forget_plain (get_or H k d).op (z.forgets k d lt own more down))
         (λ (le : (get_or H k d).number ≤ suc n). ap is_heur (only_op s (suc n) op c z.second k d lt own (omega (arith, le, up))) ∙ plain) (cases_lt (suc n) (get_or H k d).number)
@@ -125,7 +124,8 @@ none_forgets : (t : ℕ) (T : Tables) (H : History) (x : XidName) (d new : Sent)
 none_forgets t T H x d new (inl same) = same
 none_forgets t T H x d new (inr f) = f.1.1
 
-module _ {t : ℕ} {T : Tables} {H : History} (s : Site t T H) (x : XidName) (old new : Sent) (vote : Code) (first : StandsIn t old.number (Prepare x) vote T H) where
+module _ {t : ℕ} {T : Tables} {H : History} (s : Site t T H) (x : XidName) (old new : Sent) (vote : Code)
+    (first : StandsIn t old.number (Prepare x) vote T H) where
   abbrev n : ℕ
   n = old.number
 
@@ -231,7 +231,8 @@ module _ {t : ℕ} {T : Tables} {H : History} (s : Site t T H) (x : XidName) (ol
         still_there commit second y r k o g))))
 
 -- the course of a branch
-module _ {t : ℕ} {T : Tables} {H : History} (s : Site t T H) (x : XidName) (commit : Bool) (vote : Code) (second : Option Code) (old prepared decided new : Sent)
+module _ {t : ℕ} {T : Tables} {H : History} (s : Site t T H) (x : XidName) (commit : Bool) (vote : Code) (second : Option Code)
+    (old prepared decided new : Sent)
     (obeys : AsksFor (AsksIn t T H) (second_op commit x vote) second prepared decided) (forgets : MayForget t T H x second decided new) where
   none_for : (commit : Bool) → second_op commit x RmFail ≡ None
   none_for true = refl

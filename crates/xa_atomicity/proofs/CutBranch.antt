@@ -1,7 +1,7 @@
 -- What a branch stands at as the opening ends in which its commit was cut short.
-use Rattle.xa_atomicity.proofs.CutVotes.{vote_there}
-use Rattle.xa_atomicity.proofs.Voting.{ends, leaves, tells}
-use Rattle.xa_atomicity.proofs.Leading.{waits, unforgotten, over}
+use Rattle.xa_atomicity.proofs.CutVotes.{vote_there, HasVoted, ended_voted, first_is, forget_sends, other_sends, prepare_sent, told_voted}
+use Rattle.xa_atomicity.proofs.Voting.{ends, leaves, tells, AtEnd, Comes, once, tells_so, told_decided}
+use Rattle.xa_atomicity.proofs.Leading.{waits, unforgotten, over, IsTowards, Stands, ends_towards}
 use Rattle.xa_atomicity.proofs.Sites.{Site, StandsIn, above, at_place, below, later_place, stands_by}
 use Rattle.xa_atomicity.proofs.Asked.{is_told_decision, second_so, third_so}
 use Rattle.std.proofs.lemmas.Bool.{both_ways, false_from_ne_true}
@@ -39,15 +39,12 @@ use Rattle.xa_atomicity.specs.Cut.{IsAsked, IsEnded, IsTold}
 use Rattle.xa_driver.specs.Endings.{is_decided, second_op, third_op, yes_ending}
 use Rattle.xa_atomicity.specs.Outcomes.{IsBetween, OnlyTheseOrDecisionsName, told_fate}
 use Rattle.xa_driver.specs.Resolving.{outcome_op}
-use Rattle.xa_atomicity.proofs.CutVotes.{HasVoted, ended_voted, first_is, forget_sends, other_sends, prepare_sent, told_voted}
 use Rattle.xa_driver.proofs.Mapped.{IsAskedFor}
 use Rattle.xa_atomicity.proofs.EndsByFate.{decision_so, is_decided_so}
 use Rattle.xa_atomicity.proofs.Guided.{IsGuided, at_last, fate_any, fates_from, fates_once}
-use Rattle.xa_atomicity.proofs.Leading.{IsTowards, Stands, ends_towards}
 use Rattle.xa_atomicity.proofs.Placing.{fates, fates_both, request_of, same_code, at_seam}
 use Rattle.xa_atomicity.proofs.Requests.{IsFromTo, own_between}
 use Rattle.xa_atomicity.proofs.Resolves.{Sends}
-use Rattle.xa_atomicity.proofs.Voting.{AtEnd, Comes, once, tells_so, told_decided}
 
 -- ---- what was sent
 
@@ -154,7 +151,8 @@ was_told commit b v c a a' z open_ agreed decided =
     let Q : Op → Type 0 = IsTowards commit (Unit {0}) x in
     let wanted : second_op commit x v ≡ Some op = ap (second_op commit x) agreed ∙ yes_wanted commit x in
     let refused : learnt_shut z.start ≡ true → c ≡ RmFail = subst (λ o. IsAnswered z.start o (Some c)) wanted z.seconded in
-    let open_now : learnt_shut z.start ≡ false = false_from_ne_true (learnt_shut z.start) (λ shut. both_ways (is_decided c) (ap is_decided (refused shut)) decided) in
+    let open_now : learnt_shut z.start ≡ false =
+    false_from_ne_true (learnt_shut z.start) (λ shut. both_ways (is_decided c) (ap is_decided (refused shut)) decided) in
     let two : LedgerView = with_collected (with_sent z.start op) (length z.start.sent) c in
     let is_two : asked z.start (second_op commit x v) (Some c) ≡ two =
     ap (λ o. asked z.start o (Some c)) wanted ∙ at_false (learnt_shut z.start) _ _ open_now in
@@ -246,7 +244,8 @@ module _ {t : ℕ} {T : Tables} {H : History} (s : Site t T H) (x : XidName) (a 
     second =
         let Q : ℕ × Code → Type 0 = λ p. slice_get (answers t (coded H T)) p.0 ≡ Some p in
         let sends : s.ops ≡ (a.sent ++ P ∷ z.gap) ++ op ∷ (z.rest ++ grown.0) =
-        grown.1 ∙ ap (λ l. l ++ grown.0) (z.sent ∙ sym (append_assoc a.sent (P ∷ z.gap) (op ∷ z.rest))) ∙ append_assoc (a.sent ++ P ∷ z.gap) (op ∷ z.rest) grown.0 in
+        grown.1 ∙ ap (λ l. l ++ grown.0) (z.sent ∙ sym (append_assoc a.sent (P ∷ z.gap) (op ∷ z.rest)))
+        ∙ append_assoc (a.sent ++ P ∷ z.gap) (op ∷ z.rest) grown.0 in
         let many : length (a.sent ++ P ∷ z.gap) ≡ k = let e = length-append a.sent (P ∷ z.gap) in omega (arith, e) in
         let all = begins_on (z.earlier ++ (k, c) ∷ []) a'.collected pairs z.collected begins in
         stands_by s k op c ((λ i. slice_get (sends i) (sym many i)) ∙ at_seam (a.sent ++ P ∷ z.gap) op (z.rest ++ grown.0)) (all_mid Q z.earlier all.0 (k, c) (subst (All Q) (all.1 ∙ append_assoc z.earlier ((k, c) ∷ []) all.0) answered))
@@ -265,7 +264,8 @@ module _ {t : ℕ} {T : Tables} {H : History} (s : Site t T H) (x : XidName) (a 
       silent : fates x rest there ≡ []
       silent =
           let Q : Request → Type 0 = λ r. IsGuided commit (Unit {0}) x r.op in
-          let later = later_place t f.before second.before (request_of t n P) (request_of t k op) f.after second.after (sym f.place ∙ second.place) refl (omega arith) (below s n P f.before f.after f.place) in
+          let later =
+          later_place t f.before second.before (request_of t n P) (request_of t k op) f.after second.after (sym f.place ∙ second.place) refl (omega arith) (below s n P f.before f.after f.place) in
           (fates_once commit (Unit {0}) (Unit {0}) x rest there (decided_fate d) (all_right Q later.mid rest (subst (All Q) later.after (guide (Unit {0}) told_only Done f)))
           (record { stands = unforgotten d is_told.state refl (inl refl); sound = run_sound second.before T (opening_sound T s.opening) })).0 (is_decided_so (decided_fate d) d refl)
 

@@ -1,16 +1,15 @@
 -- What a commit sent that was cut short: by the record no Commit, or no Rollback.
-use Rattle.std.proofs.lemmas.List.Elements.{All-contains}
-use Rattle.xa_atomicity.proofs.CutVotes.{CameAt, IsVoteOf, each_came, at_asking, at_forgetting, at_telling}
-use Rattle.xa_driver.specs.Trace.{AreBranchesRising}
+use Rattle.std.proofs.lemmas.List.Elements.{All-contains, All-head, All-tail}
+use Rattle.xa_atomicity.proofs.CutVotes.{CameAt, IsVoteOf, each_came, at_asking, at_forgetting, at_telling, HasVoted, begun_sends, ended_voted, other_sends}
+use Rattle.xa_atomicity.proofs.CutVotes.{told_voted}
+use Rattle.xa_driver.specs.Trace.{AreBranchesRising, IsTranOf, Logs, decision_of, voted}
 use Rattle.xa_atomicity.proofs.Requests.{none_all}
 use Rattle.xa_atomicity.proofs.Records.{recorded_is, none_on_abort}
 use Rattle.xa_atomicity.proofs.Asked.{second_so, third_so}
 use Rattle.std.specs.Prelude.{◌&&◌, is_some, ◌⊎◌}
-use Rattle.std.proofs.Common.{◌≡◌, ℕ, ◌≤◌, Bool, true, false, ◌==◌, ◌||◌, List, [], ◌∷◌, map, get_or, inl, inr, sym, refl, ap, ◌∙◌, subst, Some}
-use Rattle.std.proofs.Common.{None}
+use Rattle.std.proofs.Common.{◌≡◌, ℕ, ◌≤◌, Bool, true, false, ◌==◌, ◌||◌, List, [], ◌∷◌, map, get_or, inl, inr, sym, refl, ap, ◌∙◌, subst, Some, None}
 use Rattle.std.specs.List.{All}
 use Rattle.std.proofs.lemmas.Bool.{eqb-true, and_left, and_right, true_from_ne_false, both_ways}
-use Rattle.std.proofs.lemmas.List.Elements.{All-head, All-tail}
 use Rattle.std.proofs.lemmas.List.Folds.{list_any_none}
 use Rattle.xa_base.proofs.Lists.{all_unmapped}
 use Rattle.xa_base.proofs.Truth.{by_if, by_bool}
@@ -29,15 +28,13 @@ use Rattle.xa_driver.specs.declared.stages.Prepared.{Prepared}
 use Rattle.xa_driver.specs.declared.stages.Decided.{Decided}
 use Rattle.xa_driver.specs.Asks.{Ask, HaveComeSoFar, IsBegun, SameAsks, among_asks}
 use Rattle.xa_driver.specs.Commits.{is_commit}
-use Rattle.xa_atomicity.specs.Cut.{CameSoFar, GoesByTheRecord, HasSentNone, IsAsked, IsCut, NoneWasToldToCommit}
-use Rattle.xa_atomicity.specs.Cut.{NoneWasToldToRollBack, is_recorded, is_rollback}
+use Rattle.xa_atomicity.specs.Cut.{CameSoFar, GoesByTheRecord, HasSentNone, IsAsked, IsCut, NoneWasToldToCommit, NoneWasToldToRollBack, is_recorded}
+use Rattle.xa_atomicity.specs.Cut.{is_rollback}
 use Rattle.xa_driver.specs.Decision.{has_yes, is_yes, yes_of}
 use Rattle.xa_driver.specs.Endings.{second_op}
 use Rattle.xa_log.specs.Log.{LogState, record_of}
 use Rattle.xa_driver.specs.Rounds.{code_of, second_ask, yes_asked}
 use Rattle.xa_driver.specs.Stages.{HasDecided, HasPrepared}
-use Rattle.xa_driver.specs.Trace.{IsTranOf, Logs, decision_of, voted}
-use Rattle.xa_atomicity.proofs.CutVotes.{HasVoted, begun_sends, ended_voted, other_sends, told_voted}
 use Rattle.xa_driver.proofs.Gathering.{carried}
 use Rattle.xa_driver.proofs.Mapped.{IsAskedFor}
 use Rattle.xa_driver.proofs.Calls.{one_tran}
@@ -173,10 +170,12 @@ pub second_round_sends : (bs : List Branch) (start mid : List LedgerView) (log l
     → SameAsks (map (second_ask d.known.commit) d.round.asks.items) js → HaveComeSoFar js at now → GoesByTheRecord (is_recorded later p.tran) at now
 second_round_sends bs start mid log later p d js at now first absent second same far = record {
   unrecorded = λ off m positive.
-      let z = goes is_commit NotToCommit no_commit_so (subst (λ c. All (NotToCommit c) (map code_of p.round.asks.items)) (sym decision) (undecided_so p.tran log later absent (map code_of p.round.asks.items) d.known.logged (yes_asked p.round.asks.items) logs off)) m positive in
+      let z =
+      goes is_commit NotToCommit no_commit_so (subst (λ c. All (NotToCommit c) (map code_of p.round.asks.items)) (sym decision) (undecided_so p.tran log later absent (map code_of p.round.asks.items) d.known.logged (yes_asked p.round.asks.items) logs off)) m positive in
       record { more = z.more; sent = z.sent; none = list_any_none is_commit z.more z.all };
   recorded = λ on m positive.
-      let z = goes is_rollback (λ commit v. commit ≡ true) no_rollback_so (λ k e lt. decision ∙ decided_so p.tran log later absent (map code_of p.round.asks.items) d.known.logged (yes_asked p.round.asks.items) logs on) m positive in
+      let z =
+      goes is_rollback (λ commit v. commit ≡ true) no_rollback_so (λ k e lt. decision ∙ decided_so p.tran log later absent (map code_of p.round.asks.items) d.known.logged (yes_asked p.round.asks.items) logs on) m positive in
       record { more = z.more; sent = z.sent; none = list_any_none is_rollback z.more z.all };
 }
 
@@ -188,7 +187,8 @@ second_round_sends bs start mid log later p d js at now first absent second same
     logs = subst (λ (vs : List Code). Logs p.tran (yes_asked p.round.asks.items) vs d.known.logged log later) first.votes second.logs
 
     -- nothing that is bad, where no second request of a vote that is so is
-    goes : (bad : Op → Bool) (Ok : Bool → Code → Type 0) → ((commit : Bool) (x : XidName) (v : Code) → Ok commit v → (P : Op → Type 0) → ((op : Op) → bad op ≡ false → P op) → IsAskedFor P (second_op commit x v))
+    goes : (bad : Op → Bool) (Ok : Bool → Code → Type 0)
+        → ((commit : Bool) (x : XidName) (v : Code) → Ok commit v → (P : Op → Type 0) → ((op : Op) → bad op ≡ false → P op) → IsAskedFor P (second_op commit x v))
         → All (Ok d.known.commit) (map code_of p.round.asks.items) → (m : ℕ) → 1 ≤ m → Sends (λ op. bad op ≡ false) (ledger at m) (ledger now m)
     goes bad Ok good ok m positive =
         let P : Op → Type 0 = λ op. bad op ≡ false in

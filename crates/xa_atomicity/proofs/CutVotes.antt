@@ -1,29 +1,20 @@
 -- The votes that a commit got which was cut short, and what it leaves in the log.
-use Rattle.xa_atomicity.specs.Cut.{IsAsked}
-use Rattle.std.proofs.Common.{◌==◌, ◌||◌, if◌then◌else◌}
+use Rattle.xa_atomicity.specs.Cut.{IsAsked, CameSoFar, ending_at, known_at, DidOther, EachVote, IsCut, IsEnded, IsTold, asking, forgetting, telling}
+use Rattle.std.proofs.Common.{◌==◌, ◌||◌, if◌then◌else◌, ◌+◌, zero, slice_get, ◌<◌, arith, ◌≡◌, ℕ, Bool, true, false, ◌&&◌, List, [], ◌∷◌, ◌++◌, length}
+use Rattle.std.proofs.Common.{append-nil, append_assoc, get_or, sym, refl, ap, ◌∙◌, subst, Option, Some}
 use Rattle.xa_driver.specs.declared.done.Ending.TheVariants.{InDoubt}
 use Rattle.std.specs.Prelude.{◌&&◌, unwrap_or}
-use Rattle.xa_driver.specs.Decision.{has_yes, voted_yes, yes_of}
+use Rattle.xa_driver.specs.Decision.{has_yes, voted_yes, yes_of, is_yes}
 use Rattle.std.proofs.Math.Bool.{or-true}
-use Rattle.std.proofs.lemmas.Bool.{eq-eqb, ne_eqb}
-use Rattle.xa_atomicity.specs.Cut.{CameSoFar, ending_at, known_at}
-use Rattle.xa_driver.specs.Trace.{AreBranchesRising, Logs, decision_of}
-use Rattle.xa_base.proofs.Lists.{begins_on}
-use Rattle.xa_atomicity.proofs.Placing.{at_seam}
-use Rattle.std.proofs.lemmas.List.Elements.{Contains-append_right}
-use Rattle.std.specs.List.{Contains}
-use Rattle.std.proofs.Common.{◌+◌, zero, slice_get, ◌<◌, arith}
-use Rattle.xa_base.proofs.Truth.{by_bool}
-use Rattle.std.proofs.lemmas.Bool.{both_ways, false_from_ne_true, or_from}
-use Rattle.std.proofs.Common.{◌≡◌, ℕ, ◌+◌, Bool, true, false, ◌==◌, ◌&&◌, ◌||◌, List, [], ◌∷◌, ◌++◌, length, append-nil, append_assoc, get_or, sym, refl, ap}
-use Rattle.std.proofs.Common.{◌∙◌, subst, Option, Some}
-use Rattle.std.specs.List.{All}
-use Rattle.std.proofs.lemmas.Bool.{eqb-true}
-use Rattle.std.proofs.lemmas.List.Elements.{All-nil, All-cons}
+use Rattle.std.proofs.lemmas.Bool.{eq-eqb, ne_eqb, both_ways, false_from_ne_true, or_from, eqb-true}
+use Rattle.xa_driver.specs.Trace.{AreBranchesRising, Logs, decision_of, EachBranch, IsCommit, IsTranOf, voted}
+use Rattle.xa_base.proofs.Lists.{begins_on, all_mid, same_begins}
+use Rattle.xa_atomicity.proofs.Placing.{at_seam, request_of}
+use Rattle.std.proofs.lemmas.List.Elements.{Contains-append_right, All-nil, All-cons}
+use Rattle.std.specs.List.{Contains, All}
+use Rattle.xa_base.proofs.Truth.{by_bool, at_false}
 use Rattle.xa_base.specs.declared.limits.TheConstants.{MOST_MANAGERS}
 use Rattle.xa_base.specs.Lists.{Begins, IsUpTo}
-use Rattle.xa_base.proofs.Lists.{all_mid, same_begins}
-use Rattle.xa_base.proofs.Truth.{at_false}
 use Rattle.xa_words.specs.Xid.{XidName}
 use Rattle.xa_words.specs.Tran.{TranName, tran_of}
 use Rattle.xa_words.specs.declared.code.Code.{Code}
@@ -40,18 +31,14 @@ use Rattle.xa_driver.specs.declared.branch.Branch.{Branch}
 use Rattle.xa_driver.specs.declared.done.Done.{Done}
 use Rattle.xa_driver.specs.declared.done.Ending.{Ending}
 use Rattle.xa_driver.specs.Asks.{IsAnswered, IsBegun, asked, collected, in_flight, unasked}
-use Rattle.xa_atomicity.specs.Cut.{CameSoFar, DidOther, EachVote, IsCut, IsEnded, IsTold, asking, forgetting, telling}
-use Rattle.xa_driver.specs.Decision.{is_yes, voted_yes}
 use Rattle.xa_driver.specs.Endings.{second_op, third_op, ending_of}
 use Rattle.xa_log.specs.Log.{LogState}
 use Rattle.xa_atomicity.specs.Resolution.{IsKept, NamesTran, OnlyResolves, Opening}
 use Rattle.xa_driver.specs.Course.{AtBranch}
 use Rattle.xa_driver.specs.Resolving.{AsksLedger}
-use Rattle.xa_driver.specs.Trace.{EachBranch, IsCommit, IsTranOf, decision_of, voted}
 use Rattle.xa_driver.proofs.Mapped.{Any, IsAskedFor, any_asked}
 use Rattle.xa_driver.proofs.Traces.{trace_of}
 use Rattle.xa_atomicity.proofs.Naming.{named_so, no_prepare, prepare_part, IsNoPrepare}
-use Rattle.xa_atomicity.proofs.Placing.{request_of}
 use Rattle.xa_atomicity.proofs.Records.{is_marked, logs_keep}
 use Rattle.xa_atomicity.proofs.Resolves.{Sends, asked_sends, stays, on}
 
@@ -190,7 +177,8 @@ pub data CameAt (tran : TranName) (bs : List Branch) (old new : List LedgerView)
   at_asking : later ≡ log → IsAsked b (ledger old b.m) (ledger new b.m) → CameAt tran bs old new log later es b
   at_telling : (votes : List Code) (logged : Bool) → Logs tran (yes_of bs votes) votes logged log later → (v : Code) → IsVoteOf bs votes b v
       → IsTold (decision_of votes logged) b v (ledger old b.m) (ledger new b.m) → CameAt tran bs old new log later es b
-  at_forgetting : (votes : List Code) (logged : Bool) → Logs tran (yes_of bs votes) votes logged log later → (v : Code) → IsVoteOf bs votes b v → (z : Option Code)
+  at_forgetting : (votes : List Code) (logged : Bool) → Logs tran (yes_of bs votes) votes logged log later → (v : Code) → IsVoteOf bs votes b v
+      → (z : Option Code)
       → IsEnded (decision_of votes logged) b v z (ledger old b.m) (ledger new b.m) → known_at b.m bs es ≡ ending_of (decision_of votes logged) v z
       → CameAt tran bs old new log later es b
 
@@ -198,7 +186,8 @@ pub each_came : {tran : TranName} {bs : List Branch} {old new : List LedgerView}
     → CameSoFar tran bs old new log later es → All (CameAt tran bs old new log later es) bs
 each_came rising (asking same unknown each) j d lt = at_asking same (each j d lt)
 each_came {bs = bs} {old = old} {new = new} rising (telling votes logged logs unknown each) j d lt =
-    let w = voters (λ b v. IsTold (decision_of votes logged) b v (ledger old b.m) (ledger new b.m)) bs votes each j d lt in at_telling votes logged logs w.0 w.1.1 w.1.0
+    let w = voters (λ b v. IsTold (decision_of votes logged) b v (ledger old b.m) (ledger new b.m)) bs votes each j d lt in
+    at_telling votes logged logs w.0 w.1.1 w.1.0
 each_came {bs = bs} {old = old} {new = new} {es = es} rising (forgetting votes logged seconds logs each) j d lt =
     let End : Branch → Code → Option Code → Ending → Type 0 = Ended (decision_of votes logged) old new in
     let Known : Branch → Code → Option Code → Ending → Type 0 = λ b v z e. End b v z e × (known_at b.m bs es ≡ e) × (is_yes v ≡ true → Unit {0}) in

@@ -1,7 +1,7 @@
 -- How a branch ends, by its fate at the end of the first opening and through the later ones.
 use Rattle.xa_base.proofs.Lists.{some_same}
-use Rattle.xa_atomicity.proofs.Voting.{ends, tells, leaves}
-use Rattle.xa_atomicity.proofs.Leading.{waits, unforgotten, over}
+use Rattle.xa_atomicity.proofs.Voting.{ends, tells, leaves, Comes}
+use Rattle.xa_atomicity.proofs.Leading.{waits, unforgotten, over, IsOver, Stands}
 use Rattle.std.proofs.lemmas.Bool.{both_ways}
 use Rattle.std.specs.Prelude.{◌⊎◌}
 use Rattle.std.proofs.Common.{◌≡◌, inl, inr, ⊎_elim, Bool, true, false, if◌then◌else◌, sym, refl, ap, ◌∙◌, subst, Option, Some}
@@ -20,8 +20,6 @@ use Rattle.xa_driver.specs.declared.done.Ending.TheVariants.{Committed, ReadOnly
 use Rattle.xa_driver.specs.Endings.{is_decided}
 use Rattle.xa_atomicity.specs.Outcomes.{is_heuristic, is_in_doubt, is_left, told_fate}
 use Rattle.xa_atomicity.specs.Resolution.{ended_as}
-use Rattle.xa_atomicity.proofs.Leading.{IsOver, Stands}
-use Rattle.xa_atomicity.proofs.Voting.{Comes}
 
 -- fates that are known
 pub is_known_so : (f : Fate) (commit : Bool) → f ≡ ended_as commit → is_unknown f ≡ false

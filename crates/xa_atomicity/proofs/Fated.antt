@@ -1,11 +1,11 @@
 -- What became of a branch that nobody else named, but for heuristic decisions, over the settled history of its manager.
-use Rattle.xa_atomicity.proofs.Courses.{Unreached, Reads, Breaks, Stays, Agrees, Refuses}
-use Rattle.xa_atomicity.specs.Outcomes.{OnlyTheseName}
-use Rattle.xa_base.proofs.Lists.{all_mid}
-use Rattle.std.proofs.lemmas.Bool.{both_ways}
+use Rattle.xa_atomicity.proofs.Courses.{Unreached, Reads, Breaks, Stays, Agrees, Refuses, yes_is, read_is, Sends, SendsOne, Course, rest_forgets}
+use Rattle.xa_atomicity.specs.Outcomes.{OnlyTheseName, IsBetween, OnlyTheseOrDecisionsName, IsAfterShut, IsDecidedAfter, told_fate, is_left, is_in_doubt}
+use Rattle.xa_atomicity.specs.Outcomes.{is_heuristic}
+use Rattle.xa_base.proofs.Lists.{all_mid, all_left, all_after, some_same}
+use Rattle.std.proofs.lemmas.Bool.{both_ways, or_left, true_from_ne_false}
 use Rattle.xa_driver.specs.Resolving.{outcome_op}
-use Rattle.std.proofs.lemmas.Bool.{or_left, true_from_ne_false}
-use Rattle.xa_base.proofs.Truth.{by_bool}
+use Rattle.xa_base.proofs.Truth.{by_bool, by_if, at_true}
 use Rattle.std.specs.Prelude.{◌⊎◌}
 use Rattle.std.proofs.Common.{◌≡◌, ◌≢◌, ℕ, suc, ◌+◌, ◌<◌, inl, inr, Bool, true, false, ◌||◌, if◌then◌else◌, List, [], ◌∷◌, ◌++◌, length, append-nil}
 use Rattle.std.proofs.Common.{append_assoc, get_or, sym, refl, ap, ◌∙◌, subst, arith, Option, Some, None}
@@ -26,19 +26,14 @@ use Rattle.xa_tables.proofs.Unnamed.{tables_after-append, unnamed_fate}
 use Rattle.xa_tables.specs.History as history
 use Rattle.xa_tables.specs.History.{History, Fate, fate, fate_in, fate_of, coded, tables_after, last_or, is_done, is_rolled_back, is_in_doubt as is_unknown}
 use Rattle.xa_tables.specs.History.{prepare_fate, decided_fate, heur_fate, IsFateOf}
-use Rattle.xa_tables.specs.Prepared.{names, OnlyDecides, LeavesWaiting, AwaitsTheOutcome, AwaitsAfter, IsTold, is_heur, is_forget, answer_when}
-use Rattle.xa_tables.specs.Prepared.{fates_when}
+use Rattle.xa_tables.specs.Prepared.{names, OnlyDecides, LeavesWaiting, AwaitsTheOutcome, AwaitsAfter, IsTold, is_heur, is_forget, answer_when, fates_when}
 use Rattle.xa_desk.specs.LedgerView.{is_rm_fail}
-use Rattle.xa_base.proofs.Truth.{by_if, at_true}
-use Rattle.xa_base.proofs.Lists.{all_left, all_after, some_same}
 use Rattle.xa_driver.specs.declared.done.Ending.{Ending}
 use Rattle.xa_driver.specs.declared.done.Ending.TheVariants.{Committed, ReadOnly, RolledBack, InDoubt, Heuristic, Left}
 use Rattle.xa_driver.specs.Decision.{is_yes, is_read}
 use Rattle.xa_driver.specs.Endings.{yes_ending, no_ending, is_heuristic as is_heuristic_code}
-use Rattle.xa_atomicity.specs.Outcomes.{IsBetween, OnlyTheseOrDecisionsName, IsAfterShut, IsDecidedAfter, told_fate, is_left, is_in_doubt, is_heuristic}
 use Rattle.xa_atomicity.proofs.Placing.{request_of, fates, fates_both, fate_is, last_both}
 use Rattle.xa_atomicity.proofs.Requests.{closes_other}
-use Rattle.xa_atomicity.proofs.Courses.{yes_is, read_is, Sends, SendsOne, Course, rest_forgets}
 use Rattle.xa_atomicity.proofs.Sites.{Site, StandsIn, above, Second, second_of}
 
 -- ---- who may name the branch
@@ -103,7 +98,8 @@ carried_out_by x (Heur y commits) c f h is = heur_done (xid_eq y x) c is
 carried_out_by x op c f h is = cc
 
 -- a decision that was carried out after a Prepare, before what is after it
-pub decided_in : (t n : ℕ) (x : XidName) (T : Tables) (H before after : History) → H ≡ before ++ request_of t n (Prepare x) ∷ after → (g h : History) → after ≡ g ++ h
+pub decided_in : (t n : ℕ) (x : XidName) (T : Tables) (H before after : History) → H ≡ before ++ request_of t n (Prepare x) ∷ after → (g h : History)
+    → after ≡ g ++ h
     → All (λ q. names x q.op ≡ true → is_heur q.op ≡ true) g → (d : HeuristicDecision)
     → fates x g (next t (Prepare x) (tables_after before T)).0 ≡ decided_fate d ∷ [] → IsDecidedAfter x t n T H
 decided_in t n x T H before after place g h split heur d made =
@@ -186,7 +182,8 @@ module _ {t : ℕ} {T : Tables} {H : History} (site : Site t T H) (x : XidName) 
     decides_after k d lt named =
         or_left (is_heur (get_or alone.after k d).op) (is_forget (get_or alone.after k d).op) (true_from_ne_false (is_heur (get_or alone.after k d).op) (λ h.
         let between : IsBetween t n last (get_or alone.after k d) = only alone.before alone.after (request_of t n P) alone.place refl refl k d lt named h in
-        let up = above site n P alone.before alone.after alone.place k d lt between.thread in let down = between.below in let limit = z.limit in omega (arith, up, down, limit)))
+        let up = above site n P alone.before alone.after alone.place k d lt between.thread in
+        let down = between.below in let limit = z.limit in omega (arith, up, down, limit)))
 
     -- the vote tells what became of it
     voted_so : (e : Ending) (f : Fate) → is_yes vote ≡ false → is_in_doubt e ≡ false → told_fate e ≡ Some f → prepare_fate vote ≡ Some f → is_unknown f ≡ false
@@ -397,7 +394,8 @@ none_decides {t} {T} {H} site x n last only plain d =
     let op : Op = d.request.op in
     let tail : History = d.between ++ d.decision ∷ d.after in
     let place : H ≡ d.before ++ request_of t n op ∷ tail = d.place ∙ (λ i. d.before ++ record { thread = d.thread i; number = d.number i; op = op } ∷ tail) in
-    let own = all_mid (λ (q : Request). names x q.op ≡ true → IsBetween t n last q) d.between d.after d.decision (only d.before tail d.request d.place d.thread d.number) d.named in
+    let own =
+    all_mid (λ (q : Request). names x q.op ≡ true → IsBetween t n last q) d.between d.after d.decision (only d.before tail d.request d.place d.thread d.number) d.named in
     let up = all_mid (λ (q : Request). q.thread ≡ t → n < q.number) d.between d.after d.decision (above site n op d.before tail place) own.thread in
     both_ways (is_heur d.decision.op)
     (all_mid Plain (d.before ++ d.request ∷ d.between) d.after d.decision (subst (All Plain) (d.place ∙ sym (append_assoc d.before (d.request ∷ d.between) (d.decision ∷ d.after))) plain) own.thread up own.below) d.decides

@@ -1,12 +1,11 @@
 -- What a branch that voted to commit stands at, where requests that lead it and heuristic decisions name it.
 use Rattle.std.proofs.lemmas.Bool.{both_ways}
-use Rattle.xa_base.proofs.Truth.{by_bool}
+use Rattle.xa_base.proofs.Truth.{by_bool, at_true}
 use Rattle.std.specs.Prelude.{unwrap_or, ◌⊎◌}
 use Rattle.std.proofs.Common.{◌≡◌, ℕ, inl, inr, ⊎_elim, Bool, true, false, if◌then◌else◌, List, [], ◌∷◌, ◌++◌, sym, refl, ap, ◌∙◌, subst, arith, Option, Some}
 use Rattle.std.proofs.Common.{None}
 use Rattle.std.specs.List.{All, cons_option}
 use Rattle.std.proofs.lemmas.List.Elements.{All-head, All-tail}
-use Rattle.xa_base.proofs.Truth.{at_true}
 use Rattle.xa_words.specs.Xid.{XidName, xid_eq}
 use Rattle.xa_words.specs.declared.code.Code.TheVariants.{Done}
 use Rattle.xa_words.specs.declared.request.Op.{Op}

@@ -1,6 +1,6 @@
 -- What a branch was asked by a desk's ledgers, in its manager's settled history.
-use Rattle.std.proofs.Common.{◌≡◌, ℕ, suc, Bool, true, false, ◌||◌, List, [], ◌∷◌, ◌++◌, length, length-append, append_assoc, slice_get, sym, refl, ap}
-use Rattle.std.proofs.Common.{◌∙◌, subst, arith, Option, Some}
+use Rattle.std.proofs.Common.{◌≡◌, ℕ, suc, Bool, true, false, ◌||◌, List, [], ◌∷◌, ◌++◌, length, length-append, append_assoc, slice_get, sym, refl, ap, ◌∙◌}
+use Rattle.std.proofs.Common.{subst, arith, Option, Some}
 use Rattle.std.specs.List.{All}
 use Rattle.std.proofs.lemmas.List.Folds.{list_any-append}
 use Rattle.xa_base.specs.Lists.{Begins}

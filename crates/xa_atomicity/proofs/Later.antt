@@ -1,6 +1,7 @@
 -- What becomes of a branch that was left, through the openings up to one with a resolve that reached it.
 use Rattle.std.proofs.lemmas.Bool.{both_ways}
-use Rattle.xa_atomicity.proofs.Leading.{waits, unforgotten, over}
+use Rattle.xa_atomicity.proofs.Leading.{waits, unforgotten, over, IsOver, Stands, IsTowards, Standing, led_after, by_itself, ends_towards, stands_reopened}
+use Rattle.xa_atomicity.proofs.Leading.{is_over}
 use Rattle.std.specs.Prelude.{option_map}
 use Rattle.std.proofs.Common.{◌≡◌, ◌≢◌, ℕ, Bool, true, false, cond, ◌==◌, List, [], ◌∷◌, ◌++◌, slice_get, get_or, sym, refl, ap, ◌∙◌, subst, arith, Option}
 use Rattle.std.proofs.Common.{Some, None, ⊎_elim}
@@ -38,8 +39,6 @@ use Rattle.xa_atomicity.specs.Resolution.{ResolveCall, resolves, IsUseIn, IsKept
 use Rattle.xa_driver.specs.Resolving.{is_to_commit, outcome_op}
 use Rattle.xa_atomicity.proofs.Answered.{Placed, placed, placed_ends, placed_tells}
 use Rattle.xa_atomicity.proofs.Guided.{decided_known, known_stays}
-use Rattle.xa_atomicity.proofs.Leading.{IsOver, Stands, IsTowards, Standing, led_after, by_itself, ends_towards, stands_reopened}
-use Rattle.xa_atomicity.proofs.Leading.{is_over}
 use Rattle.xa_atomicity.proofs.Naming.{named_so, named_tran, sent_is}
 use Rattle.xa_atomicity.proofs.Placing.{fates}
 use Rattle.xa_atomicity.proofs.Records.{FindsMark}

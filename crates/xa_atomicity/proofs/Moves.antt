@@ -1,15 +1,13 @@
 -- What the requests of one thread with numbers in a range move, in a history.
-use Rattle.xa_base.proofs.Truth.{by_if}
-use Rattle.xa_tables.specs.Next.{Answer}
-use Rattle.xa_atomicity.proofs.Requests.{none_all}
-use Rattle.std.proofs.lemmas.Bool.{and_left, and_right, false_from_ne_true}
-use Rattle.xa_base.proofs.Truth.{by_bool}
+use Rattle.xa_base.proofs.Truth.{by_if, by_bool}
+use Rattle.xa_tables.specs.Next.{Answer, next}
+use Rattle.xa_atomicity.proofs.Requests.{none_all, own_between}
+use Rattle.std.proofs.lemmas.Bool.{and_left, and_right, false_from_ne_true, and_parts, eqb-true, le-leb, lt-leb, leb-true, leb-false}
 use Rattle.std.specs.Prelude.{ℤ, pos, ◌+ℤ◌, nat_le, if◌then◌else◌}
-use Rattle.std.proofs.Common.{◌≡◌, ℕ, suc, ◌+◌, ◌<◌, ◌≤◌, Bool, true, false, ◌==◌, ◌&&◌, ◌⊎◌, ⊎_elim, List, [], ◌∷◌, ◌++◌, length, get_or, sym, refl}
-use Rattle.std.proofs.Common.{ap, ◌∙◌, arith, eq-eqb}
+use Rattle.std.proofs.Common.{◌≡◌, ℕ, suc, ◌+◌, ◌<◌, ◌≤◌, Bool, true, false, ◌==◌, ◌&&◌, ◌⊎◌, ⊎_elim, List, [], ◌∷◌, ◌++◌, length, get_or, sym, refl, ap, ◌∙◌}
+use Rattle.std.proofs.Common.{arith, eq-eqb}
 use Rattle.std.specs.List.{All, list_any}
 use Rattle.std.proofs.lemmas.Int.{ints}
-use Rattle.std.proofs.lemmas.Bool.{and_parts, eqb-true, le-leb, lt-leb, leb-true, leb-false}
 use Rattle.std.proofs.Math.Bool.{and-false}
 use Rattle.std.proofs.Math.IntN.{+ℤ_idl as none_plus, +ℤ_idr as plus_none}
 use Rattle.xa_words.specs.declared.request.Op.{Op}
@@ -17,13 +15,11 @@ use Rattle.xa_words.specs.declared.request.Op.TheVariants.{Commit, Heur}
 use Rattle.xa_words.specs.declared.code.Code.{Code}
 use Rattle.xa_words.specs.declared.request.Request.{Request}
 use Rattle.xa_tables.specs.Tables.{Tables}
-use Rattle.xa_tables.specs.Next.{next}
 use Rattle.xa_tables.specs.History.{History, of_thread, tables_after, is_done}
 use Rattle.xa_tables.specs.Worth.{moved, moved_by, held_by}
 use Rattle.xa_desk.specs.Lanes.{numbered}
 use Rattle.xa_driver.specs.Commits.{is_commit}
 use Rattle.xa_atomicity.specs.Conservation.{taken_before}
-use Rattle.xa_atomicity.proofs.Requests.{own_between}
 
 -- a request of thread t with a number from `first` to below `last`
 abbrev pub is_within : ℕ → ℕ → ℕ → Request → Bool

@@ -19,8 +19,7 @@ use Rattle.xa_desk.specs.DeskView.{DeskView}
 use Rattle.xa_driver.specs.declared.branch.Branch.{Branch}
 use Rattle.xa_log.specs.Log.{LogState, Records, all_records, record_in, record_of}
 use Rattle.xa_atomicity.specs.Presumed.{AskedAreLeft, IsOfAnother, IsResolvedAfter}
-use Rattle.xa_atomicity.specs.Resolution.{CutCall, ResolveCall, Use, cuts, resolves, AreUses, Continues, HasLeft}
-use Rattle.xa_atomicity.specs.Resolution.{AreOfAllLogs, IsFollowed, IsKept, Opening}
+use Rattle.xa_atomicity.specs.Resolution.{CutCall, ResolveCall, Use, cuts, resolves, AreUses, Continues, HasLeft, AreOfAllLogs, IsFollowed, IsKept, Opening}
 use Rattle.xa_atomicity.specs.Resolution.{IsOutcomeOf, IsUseIn, OnlyResolves, with_resolves, with_use}
 use Rattle.xa_driver.specs.Trace.{IsTranOf}
 use Rattle.xa_atomicity.proofs.Scanned.{begins_with, left_each, was_there}

@@ -34,7 +34,8 @@ pub neither : (v : Code) → is_yes v ≡ false → is_read v ≡ false → is_n
 neither v against unread = λ i. not (against i || unread i)
 
 -- what holds of each ending that a branch may have after a vote to commit
-pub after_yes : (P : Ending → Type 0) (commit : Bool) (s : Option Code) → P (if commit then Committed else RolledBack) → P InDoubt → ((c : Code) → P (Heuristic c))
+pub after_yes : (P : Ending → Type 0) (commit : Bool) (s : Option Code) → P (if commit then Committed else RolledBack) → P InDoubt
+    → ((c : Code) → P (Heuristic c))
     → ((c : Code) → P (Left c)) → P (yes_ending commit s)
 after_yes P commit None ended doubt heuristic left = doubt
 after_yes P commit (Some c) ended doubt heuristic left =
@@ -130,7 +131,8 @@ module _ (tran : TranName) (bs : List Branch) (desk : DeskView) (new : List Ledg
       record {
         unopposed = unopposed on;
         recorded =
-            record_so tran (yes_of bs votes) votes d.logged log later absent call.course.logs some_yes ∙ at_true (decision_of votes d.logged) _ _ (sym call.course.decision ∙ on);
+            record_so tran (yes_of bs votes) votes d.logged log later absent call.course.logs some_yes
+            ∙ at_true (decision_of votes d.logged) _ _ (sym call.course.decision ∙ on);
         kept = kept on;
       }
 

@@ -1,6 +1,6 @@
 -- What the outcomes of a resolve tell, where nothing else names the transaction in its opening.
 use Rattle.xa_atomicity.proofs.NextOpening.{kept_with}
-use Rattle.xa_atomicity.proofs.Leading.{waits, unforgotten}
+use Rattle.xa_atomicity.proofs.Leading.{waits, unforgotten, IsTowards, Stands, Standing, step_led}
 use Rattle.xa_words.specs.declared.request.Op.TheVariants.{OpenRm}
 use Rattle.xa_words.specs.declared.request.Op.{Op}
 use Rattle.std.specs.Prelude.{unwrap_or}
@@ -40,7 +40,6 @@ use Rattle.xa_atomicity.proofs.Answered.{Placed, from_there, now, placed_tells, 
 use Rattle.xa_atomicity.proofs.EndsByFate.{is_known_so}
 use Rattle.xa_atomicity.proofs.Guided.{known_stays}
 use Rattle.xa_atomicity.proofs.Later.{IsStep, answered_at, opening_towards}
-use Rattle.xa_atomicity.proofs.Leading.{IsTowards, Stands, Standing, step_led}
 use Rattle.xa_atomicity.proofs.Placing.{fates, request_of}
 use Rattle.xa_atomicity.proofs.Records.{FindsMark}
 use Rattle.xa_atomicity.proofs.Resolves.{outcome_asked, outcome_left, outcome_upto}

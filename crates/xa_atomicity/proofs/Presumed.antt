@@ -1,10 +1,10 @@
 -- One outcome for each global transaction whose commit was cut short, over openings one after another.
-use Rattle.xa_atomicity.proofs.CutVotes.{CameAt, each_came, at_asking, at_forgetting, at_telling}
-use Rattle.xa_atomicity.proofs.Settled.{sent_stands}
+use Rattle.xa_atomicity.proofs.CutVotes.{CameAt, each_came, at_asking, at_forgetting, at_telling, HasVoted}
+use Rattle.xa_atomicity.proofs.Settled.{sent_stands, by_ledger, answered_of, collected_on, sent_on, site_of}
 use Rattle.xa_atomicity.proofs.Sites.{Site, StandsIn}
 use Rattle.std.specs.Prelude.{option_map, is_some}
-use Rattle.std.proofs.Common.{◌≡◌, ◌≢◌, ℕ, zero, ◌+◌, Bool, true, false, List, [], ◌∷◌, ◌++◌, length, get_or, sym}
-use Rattle.std.proofs.Common.{refl, ap, ◌∙◌, subst, arith, Option, Some, None}
+use Rattle.std.proofs.Common.{◌≡◌, ◌≢◌, ℕ, zero, ◌+◌, Bool, true, false, List, [], ◌∷◌, ◌++◌, length, get_or, sym, refl, ap, ◌∙◌, subst, arith, Option, Some}
+use Rattle.std.proofs.Common.{None}
 use Rattle.std.specs.List.{All, Contains}
 use Rattle.std.proofs.lemmas.List.Elements.{All-nil, All-cons, All-append, All-contains, All-head, All-tail, Contains-append_right}
 use Rattle.xa_base.specs.declared.limits.TheConstants.{MOST_MANAGERS}
@@ -39,14 +39,13 @@ use Rattle.xa_log.specs.Log.{LogState, Records, record_of}
 use Rattle.xa_atomicity.specs.Outcomes.{OnlyTheseOrDecisionsName}
 use Rattle.xa_atomicity.specs.Presumed.{AskedAreLeft, CountsByTheLog, EndsByTheLog, IsResolvedAfter, VotedToCommit, WasAsked, known_of}
 use Rattle.xa_driver.specs.Resolving.{names, outcome_op}
-use Rattle.xa_atomicity.specs.Resolution.{AreUses, CutCall, IsFollowed, IsKept, IsOutcomeOf, IsUseIn, OnlyResolves, Opening, ResolveCall}
-use Rattle.xa_atomicity.specs.Resolution.{Use, cuts, resolves, uses_of}
+use Rattle.xa_atomicity.specs.Resolution.{AreUses, CutCall, IsFollowed, IsKept, IsOutcomeOf, IsUseIn, OnlyResolves, Opening, ResolveCall, Use, cuts, resolves}
+use Rattle.xa_atomicity.specs.Resolution.{uses_of}
 use Rattle.xa_atomicity.specs.Tabled.{Tabled}
 use Rattle.xa_driver.specs.Trace.{AreBranchesRising, HaveRoom, IsTranOf, Logs, decision_of}
 use Rattle.xa_atomicity.proofs.BranchEnds.{Follows, IsMarked, branch_follows}
-use Rattle.xa_atomicity.proofs.CutBranch.{HasSentOnly, WasTold, asked_only, ended_voted_so, open_so, sent_end, sent_fates, told_end, told_voted_so}
-use Rattle.xa_atomicity.proofs.CutBranch.{vote_is, voted_only, was_told}
-use Rattle.xa_atomicity.proofs.CutVotes.{HasVoted}
+use Rattle.xa_atomicity.proofs.CutBranch.{HasSentOnly, WasTold, asked_only, ended_voted_so, open_so, sent_end, sent_fates, told_end, told_voted_so, vote_is}
+use Rattle.xa_atomicity.proofs.CutBranch.{voted_only, was_told}
 use Rattle.xa_atomicity.proofs.Leading.{IsTowards}
 use Rattle.xa_atomicity.proofs.Naming.{prepare_part}
 use Rattle.xa_driver.proofs.Calls.{one_tran}
@@ -54,7 +53,6 @@ use Rattle.xa_atomicity.proofs.Placing.{request_of, fates}
 use Rattle.xa_atomicity.proofs.Later.{ends_with}
 use Rattle.xa_atomicity.proofs.Quiet.{quiet_alone, quiet_openings}
 use Rattle.xa_atomicity.proofs.Records.{FindsMark, IsQuiet, is_marked, marks_stay, own_mark, some_yes, recorded_is}
-use Rattle.xa_atomicity.proofs.Settled.{by_ledger, answered_of, collected_on, sent_on, site_of}
 use Rattle.xa_atomicity.proofs.Voting.{AtEnd, Comes, once}
 
 -- ---- the manager of a branch

@@ -1,5 +1,5 @@
 -- What the log has of a transaction stays what its commit left.
-use Rattle.std.proofs.Math.Bool.{and-true}
+use Rattle.std.proofs.Math.Bool.{and-true, and-false}
 use Rattle.xa_atomicity.specs.Cut.{is_recorded}
 use Rattle.std.specs.Prelude.{cond, not, if◌then◌else◌, is_some}
 use Rattle.std.proofs.Common.{◌≡◌, ℕ, Bool, true, false, ◌==◌, ◌&&◌, ◌||◌, List, [], ◌∷◌, sym, refl, ap, ◌∙◌, Some, None, ⊎_elim}
@@ -9,7 +9,6 @@ use Rattle.std.specs.FinMap.{get-insert}
 use Rattle.std.specs.Ordering.{eq_by_cmp, is_eq}
 use Rattle.std.specs.Cmp.{tied_itself}
 use Rattle.std.proofs.lemmas.List.Elements.{All-nil, All-cons, All-head, All-tail}
-use Rattle.std.proofs.Math.Bool.{and-false}
 use Rattle.std.proofs.lemmas.Bool.{and_parts, and_left, and_right, and_cases}
 use Rattle.xa_base.specs.declared.limits.TheConstants.{MOST_MANAGERS}
 use Rattle.xa_base.specs.Lists.{IsUpTo}
@@ -59,11 +58,13 @@ pub record_left : (t : TranName) (managers : List Bool) (votes : List Code) (log
     → Logs t managers votes logged log later → record_of later t ≡ (if decision_of votes logged && has_yes votes then Some managers else None)
 record_left t managers votes logged log later absent (appended wants on is) =
     let w = and_parts (decides_commit votes) (has_yes votes) wants in
-    ap (λ (l : LogState). record_of l t) is ∙ get-insert tran_cmp_total log.records t managers t ∙ at_true (eq_by_cmp tran_cmp t t) _ _ (ap is_eq (tied_itself tran_cmp_total t))
+    ap (λ (l : LogState). record_of l t) is ∙ get-insert tran_cmp_total log.records t managers t
+    ∙ at_true (eq_by_cmp tran_cmp t t) _ _ (ap is_eq (tied_itself tran_cmp_total t))
     ∙ sym (at_true (decision_of votes logged && has_yes votes) _ _ (λ i. (w.0 i && (not (w.1 i) || on i)) && w.1 i))
 record_left t managers votes logged log later absent (failed wants off is) =
     let w = and_parts (decides_commit votes) (has_yes votes) wants in
-    ap (λ (l : LogState). record_of l t) is ∙ absent ∙ sym (at_false (decision_of votes logged && has_yes votes) _ _ (λ i. (w.0 i && (not (w.1 i) || off i)) && w.1 i))
+    ap (λ (l : LogState). record_of l t) is ∙ absent
+    ∙ sym (at_false (decision_of votes logged && has_yes votes) _ _ (λ i. (w.0 i && (not (w.1 i) || off i)) && w.1 i))
 record_left t managers votes logged log later absent (unwanted wants off is) =
     ap (λ (l : LogState). record_of l t) is ∙ absent
     ∙ sym (at_false (decision_of votes logged && has_yes votes) _ _ (⊎_elim (λ (e : decides_commit votes ≡ false). (λ i. (e i && (not (has_yes votes) || logged)) && has_yes votes))
@@ -73,7 +74,8 @@ record_left t managers votes logged log later absent (unwanted wants off is) =
 pub none_on_abort : (t : TranName) (managers : List Bool) (votes : List Code) (logged : Bool) (log later : LogState) → record_of log t ≡ None
     → Logs t managers votes logged log later → decision_of votes logged ≡ false → record_of later t ≡ None
 none_on_abort t managers votes logged log later absent logs off =
-    record_left t managers votes logged log later absent logs ∙ at_false (decision_of votes logged && has_yes votes) _ _ (and_left (decision_of votes logged) (has_yes votes) off)
+    record_left t managers votes logged log later absent logs
+    ∙ at_false (decision_of votes logged && has_yes votes) _ _ (and_left (decision_of votes logged) (has_yes votes) off)
 
 -- where some vote is to commit, the record is the decision
 pub record_so : (t : TranName) (managers : List Bool) (votes : List Code) (logged : Bool) (log later : LogState) → record_of log t ≡ None

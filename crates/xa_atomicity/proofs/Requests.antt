@@ -1,12 +1,9 @@
 -- What is known of the requests of one thread in a history, by what it sent.
-use Rattle.std.proofs.Common.{Bool, false}
-use Rattle.std.proofs.lemmas.Bool.{or_parts}
-use Rattle.std.specs.List.{list_any}
+use Rattle.std.proofs.Common.{Bool, false, ◌≡◌, ◌≢◌, ℕ, zero, suc, ◌+◌, ◌<◌, ◌≤◌, true, ◌==◌, List, [], ◌∷◌, ◌++◌, length, length-append, slice_get, sym, refl}
+use Rattle.std.proofs.Common.{ap, ◌∙◌, subst, arith, Some}
+use Rattle.std.proofs.lemmas.Bool.{or_parts, eqb-false, and_right, ne_eqb, eq-eqb}
+use Rattle.std.specs.List.{list_any, All}
 use Rattle.std.specs.Prelude.{cond}
-use Rattle.std.proofs.Common.{◌≡◌, ◌≢◌, ℕ, zero, suc, ◌+◌, ◌<◌, ◌≤◌, true, false, ◌==◌, List, [], ◌∷◌, ◌++◌, length, length-append, slice_get, sym, refl, ap}
-use Rattle.std.proofs.Common.{◌∙◌, subst, arith, Some}
-use Rattle.std.specs.List.{All}
-use Rattle.std.proofs.lemmas.Bool.{eqb-false, and_right, ne_eqb, eq-eqb}
 use Rattle.std.proofs.lemmas.List.Elements.{All-nil, All-cons, All-head, All-tail, filter-append}
 use Rattle.xa_words.specs.declared.code.Code.{Code}
 use Rattle.xa_words.specs.declared.request.Op.{Op}

@@ -1,10 +1,8 @@
 -- One outcome for each global transaction, over openings one after another: a commit that came to its end is one that was
 -- cut short after it.
-use Rattle.xa_atomicity.proofs.CutVotes.{known_each}
-use Rattle.xa_atomicity.proofs.CutVotes.{prepare_there, vote_there}
+use Rattle.xa_atomicity.proofs.CutVotes.{known_each, prepare_there, vote_there, HasVoted, any_voted, ended_so, finished_law, shut_unless}
 use Rattle.xa_base.proofs.Truth.{by_bool}
-use Rattle.std.proofs.Common.{◌≡◌, ℕ, ◌≤◌, Bool, true, false, List, [], ◌∷◌, ◌++◌, length, sym, refl, ap, ◌∙◌, subst}
-use Rattle.std.proofs.Common.{Option, Some}
+use Rattle.std.proofs.Common.{◌≡◌, ℕ, ◌≤◌, Bool, true, false, List, [], ◌∷◌, ◌++◌, length, sym, refl, ap, ◌∙◌, subst, Option, Some}
 use Rattle.std.specs.List.{All, Contains}
 use Rattle.std.proofs.lemmas.List.Elements.{All-head}
 use Rattle.xa_base.specs.declared.limits.TheConstants.{MOST_MANAGERS}
@@ -31,7 +29,6 @@ use Rattle.xa_driver.specs.Trace.{EachBranch, IsCommit}
 use Rattle.xa_atomicity.specs.Worth.{CountsOver, CountsAllOrNone, IsUnlisted, SharesOver, is_committed}
 use Rattle.xa_atomicity.proofs.BranchEnds.{Follows}
 use Rattle.xa_atomicity.proofs.Courses.{yes_is}
-use Rattle.xa_atomicity.proofs.CutVotes.{HasVoted, any_voted, ended_so, finished_law, shut_unless}
 use Rattle.xa_atomicity.proofs.EndsByFate.{doubted}
 use Rattle.xa_driver.proofs.Mapped.{Any}
 use Rattle.xa_atomicity.proofs.Naming.{Traced}

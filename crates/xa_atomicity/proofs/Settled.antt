@@ -1,14 +1,11 @@
 -- What the branches of a call came to in a settled opening.
-use Rattle.xa_atomicity.proofs.Sites.{StandsIn, stands_by}
+use Rattle.xa_atomicity.proofs.Sites.{StandsIn, stands_by, Site}
 use Rattle.xa_words.specs.declared.request.Op.{Op}
-use Rattle.std.proofs.lemmas.List.Elements.{All-contains}
-use Rattle.std.specs.List.{Contains}
-use Rattle.std.proofs.Common.{zero, suc}
-use Rattle.std.proofs.lemmas.List.Elements.{All-head, All-tail}
+use Rattle.std.proofs.lemmas.List.Elements.{All-contains, All-head, All-tail}
+use Rattle.std.specs.List.{Contains, All, list_any}
+use Rattle.std.proofs.Common.{zero, suc, ◌≡◌, ℕ, ◌-◌, ◌<◌, ◌≤◌, Bool, ◌&&◌, if◌then◌else◌, List, [], ◌∷◌, length, ◌++◌, append_assoc, slice_get, sym, refl, ap}
+use Rattle.std.proofs.Common.{◌∙◌, subst, arith, Option, Some, ⊎_elim}
 use Rattle.xa_atomicity.proofs.Courses.{Course, course_of}
-use Rattle.std.proofs.Common.{◌≡◌, ℕ, suc, ◌-◌, ◌<◌, ◌≤◌, Bool, ◌&&◌, if◌then◌else◌, List, [], ◌∷◌, length, ◌++◌, append_assoc, slice_get, sym, refl, ap, ◌∙◌}
-use Rattle.std.proofs.Common.{subst, arith, Option, Some, ⊎_elim}
-use Rattle.std.specs.List.{All}
 use Rattle.std.proofs.lemmas.Bool.{le-leb, cases_lt, or_parts, not-true}
 use Rattle.xa_words.specs.Tran.{TranName}
 use Rattle.xa_words.specs.declared.code.Code.{Code}
@@ -44,7 +41,6 @@ use Rattle.xa_atomicity.specs.Outcomes.{AreLeftAlone, AreLeftOrDecided, OnlyThes
 use Rattle.xa_atomicity.specs.Outcomes.{undecided, decided, told_fate, EachOutcome, KeepsTheVotes, TellsTheFates, has_committed, has_rolled_back}
 use Rattle.xa_atomicity.specs.Outcomes.{has_vote_against, is_committed, is_rolled_back, is_in_doubt, is_heuristic, is_left, is_read_only, sent_so_far}
 use Rattle.xa_driver.specs.declared.done.Ending.TheVariants.{Committed, ReadOnly, RolledBack, InDoubt, Heuristic, Left}
-use Rattle.std.specs.List.{list_any}
 use Rattle.std.specs.Prelude.{pos, true, false, ◌||◌, ◌⊎◌}
 use Rattle.std.proofs.Math.Bool.{or-true}
 use Rattle.xa_atomicity.specs.Additions.{Shares, CountsTheCommitted, HasAllOrNothing, is_decided}
@@ -54,7 +50,6 @@ use Rattle.xa_atomicity.specs.Tabled.{Tabled}
 use Rattle.xa_atomicity.proofs.Values.{Counted, branch_counts}
 use Rattle.xa_atomicity.proofs.Fated.{Told, branch_told}
 use Rattle.xa_driver.specs.Course.{AtBranch}
-use Rattle.xa_atomicity.proofs.Sites.{Site}
 use Rattle.xa_atomicity.proofs.InLedgers.{heard, branch_in}
 
 -- what was sent to a manager, and collected from it, stands in the ledger with it
@@ -84,7 +79,8 @@ module _ (law : Tabled) (s : Settling) (settled : IsSettled s) (t m : ℕ) (T : 
   site_of = record { law = law; opening = with_T.opened; ops = sent s t m; carried = (settled.agree t m).carried }
 
   pub answered_of : All (λ p. slice_get (answers t (coded (history_of s m) T)) p.0 ≡ Some p) (collected s t m)
-  answered_of = subst (λ (J : List Entry). All (λ (p : ℕ × Code). slice_get (answers t J) p.0 ≡ Some p) (collected s t m)) with_T.codes (settled.agree t m).coded
+  answered_of =
+      subst (λ (J : List Entry). All (λ (p : ℕ × Code). slice_get (answers t J) p.0 ≡ Some p) (collected s t m)) with_T.codes (settled.agree t m).coded
 
   -- what was sent with a number, and collected with a code, stands in the history
   pub sent_stands : 1 ≤ m → (a : LedgerView) → HasGrown a (ledger (ledgers_of s t) m) → (n : ℕ) (op : Op) (c : Code) → slice_get a.sent n ≡ Some op
@@ -202,12 +198,14 @@ module _ (law : Tabled) (opened : (s : Settling) (m : ℕ) → IsSettled s → (
         → Course (site_of law s settled t b.m T with_T) b.xid (old b.m) (new b.m) v commit e × (e ≡ ending_of commit v z)
 
     module _ (b : Branch) (vote : Code) (second : Option Code) (ending : Ending) (is : InHistory b vote second ending) where
-      one_told : OnlyTheseOrDecisionsName b.xid t (old b.m) (new b.m) (history_of s b.m) → (before : Fate) (T : Tables) → IsOpenedWith s b.m T → IsFateOf b.xid before T
+      one_told : OnlyTheseOrDecisionsName b.xid t (old b.m) (new b.m) (history_of s b.m) → (before : Fate) (T : Tables) → IsOpenedWith s b.m T
+          → IsFateOf b.xid before T
           → Told t b.xid before T (history_of s b.m) (old b.m) vote ending
       one_told only before T with_T fits =
           branch_told (site_of law s settled t b.m T with_T) b.xid (old b.m) (new b.m) commit vote ending (is T with_T).0 before fits only
 
-      one_voted : OnlyTheseOrDecisionsName b.xid t (old b.m) (new b.m) (history_of s b.m) → (T : Tables) → IsOpenedWith s b.m T → Told t b.xid (told_by (state_of T b.xid)) T (history_of s b.m) (old b.m) vote ending
+      one_voted : OnlyTheseOrDecisionsName b.xid t (old b.m) (new b.m) (history_of s b.m) → (T : Tables) → IsOpenedWith s b.m T
+          → Told t b.xid (told_by (state_of T b.xid)) T (history_of s b.m) (old b.m) vote ending
       one_voted only T with_T = one_told only (told_by (state_of T b.xid)) T with_T (law.first b.xid T)
 
       pub one_fated : OnlyTheseOrDecisionsName b.xid t (old b.m) (new b.m) (history_of s b.m) → Fated b (old b.m) vote ending
@@ -304,17 +302,20 @@ module _ (law : Tabled) (opened : (s : Settling) (m : ℕ) → IsSettled s → (
       all_fated = each_fated settled d.commit (sent_so_far at) (sent_so_far new) bs d.votes.items made.trace.course.seconds d.endings.items each alone
 
       pub votes_law : KeepsTheVotes s t bs (sent_so_far at) d
-      votes_law = record { each = outcome_map (λ b v e. Fated b (sent_so_far at b.m) v e) (λ b v e. KeepsItsVote s t b (sent_so_far at b.m) v e) (λ b v e f. f.keeps) bs d.votes.items d.endings.items all_fated }
+      votes_law =
+          record { each = outcome_map (λ b v e. Fated b (sent_so_far at b.m) v e) (λ b v e. KeepsItsVote s t b (sent_so_far at b.m) v e) (λ b v e f. f.keeps) bs d.votes.items d.endings.items all_fated }
 
       pub fates_law : TellsTheFates s t bs (sent_so_far at) d
-      fates_law = record { each = outcome_map (λ b v e. Fated b (sent_so_far at b.m) v e) (λ b v e. TellsTheFate s t b (sent_so_far at b.m) e) (λ b v e f. f.tells) bs d.votes.items d.endings.items all_fated }
+      fates_law =
+          record { each = outcome_map (λ b v e. Fated b (sent_so_far at b.m) v e) (λ b v e. TellsTheFate s t b (sent_so_far at b.m) e) (λ b v e f. f.tells) bs d.votes.items d.endings.items all_fated }
 
     module _ (alone : AreLeftAlone s t bs (sent_so_far at) (sent_so_far new)) where
       pub all_outcomes : EachOutcome (λ b v e. Both b (sent_so_far at b.m) (sent_so_far new b.m) v e) bs d.votes.items d.endings.items
       all_outcomes = each_both settled d.commit (sent_so_far at) (sent_so_far new) bs d.votes.items made.trace.course.seconds d.endings.items each alone
 
       pub counts_law : CountsTheCommitted s t bs (sent_so_far at) d
-      counts_law = record { each = outcome_map (λ b v e. Both b (sent_so_far at b.m) (sent_so_far new b.m) v e) (λ b v e. Shares s t b (sent_so_far at b.m) (is_committed e)) (λ b v e z T with_T. (z.counted T with_T).counted) bs d.votes.items d.endings.items all_outcomes }
+      counts_law =
+          record { each = outcome_map (λ b v e. Both b (sent_so_far at b.m) (sent_so_far new b.m) v e) (λ b v e. Shares s t b (sent_so_far at b.m) (is_committed e)) (λ b v e z T with_T. (z.counted T with_T).counted) bs d.votes.items d.endings.items all_outcomes }
 
       -- no branch was rolled back, and none voted against, where one was committed
       pub whole_law : (has_committed d ≡ true → has_rolled_back d ≡ false) → (has_committed d ≡ true → has_vote_against d ≡ false) → is_decided d ≡ true

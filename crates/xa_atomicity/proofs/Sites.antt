@@ -84,7 +84,8 @@ sides t n op (x ∷ xs) ys k (o ∷ ops) e =
     record { pre = o ∷ z.pre; post = z.post; earlier = λ i. head i ∷ z.earlier i; many = omega (arith, many); later = z.later; sent = ap (λ l. o ∷ l) z.sent }
 
 module _ {t : ℕ} {T : Tables} {H : History} (s : Site t T H) where
-  sides_at : (n : ℕ) (op : Op) (before after : History) → H ≡ before ++ request_of t n op ∷ after → Sides t n op (of_thread t before) (of_thread t after) 0 s.ops
+  sides_at : (n : ℕ) (op : Op) (before after : History) → H ≡ before ++ request_of t n op ∷ after
+      → Sides t n op (of_thread t before) (of_thread t after) 0 s.ops
   sides_at n op before after place =
       sides t n op (of_thread t before) (of_thread t after) 0 s.ops
       (sym (ap (of_thread t) place ∙ filter-append (λ (q : Request). q.thread == t) before (request_of t n op ∷ after)
@@ -185,7 +186,9 @@ module _ {t : ℕ} {T : Tables} {H : History} (s : Site t T H) where
   op_of_number = of_ops t (λ k op. slice_get s.ops k ≡ Some op) H 0 s.ops s.carried (λ k op e. ap (slice_get s.ops) (let z : 0 + k ≡ k = omega arith in z) ∙ e)
 
   pub op_at : (n : ℕ) (op : Op) (c : Code) → StandsIn t n op c T H → slice_get s.ops n ≡ Some op
-  op_at n op c f = let z = sides_at s n op f.before f.after f.place in let many : n ≡ length z.pre = let e = z.many in omega (arith, e) in (λ i. slice_get (z.sent i) (many i)) ∙ at_seam z.pre op z.post
+  op_at n op c f =
+      let z = sides_at s n op f.before f.after f.place in
+      let many : n ≡ length z.pre = let e = z.many in omega (arith, e) in (λ i. slice_get (z.sent i) (many i)) ∙ at_seam z.pre op z.post
 
   -- so there is no other request of that number
   pub only_op : (n : ℕ) (op : Op) (c : Code) → StandsIn t n op c T H → All (λ r. r.thread ≡ t → r.number ≡ n → r.op ≡ op) H

@@ -1,13 +1,12 @@
 -- What a branch that nobody else named counts for, over the settled history of its manager: its additions, and what the
 -- call's requests moved.
-use Rattle.xa_atomicity.proofs.Courses.{Unreached, Reads, Breaks, Stays, Agrees, Refuses}
-use Rattle.std.proofs.lemmas.Bool.{both_ways, false_from_ne_true}
-use Rattle.xa_base.proofs.Truth.{by_bool}
+use Rattle.xa_atomicity.proofs.Courses.{Unreached, Reads, Breaks, Stays, Agrees, Refuses, yes_is, read_is, Sends, SendsOne, Course, rest_forgets}
+use Rattle.std.proofs.lemmas.Bool.{both_ways, false_from_ne_true, cases_lt}
+use Rattle.xa_base.proofs.Truth.{by_bool, by_if, at_true}
 use Rattle.std.specs.Prelude.{ℤ, pos, ◌+ℤ◌}
-use Rattle.std.proofs.Common.{◌≡◌, ◌≢◌, ℕ, suc, ◌+◌, inl, inr, Bool, true, false, ◌||◌, if◌then◌else◌, List, [], ◌∷◌, ◌++◌, get_or, sym, refl, ap, ◌∙◌}
-use Rattle.std.proofs.Common.{subst, arith, Option, Some, None}
+use Rattle.std.proofs.Common.{◌≡◌, ◌≢◌, ℕ, suc, ◌+◌, inl, inr, Bool, true, false, ◌||◌, if◌then◌else◌, List, [], ◌∷◌, ◌++◌, get_or, sym, refl, ap, ◌∙◌, subst}
+use Rattle.std.proofs.Common.{arith, Option, Some, None}
 use Rattle.std.specs.List.{All, cons_option}
-use Rattle.std.proofs.lemmas.Bool.{cases_lt}
 use Rattle.std.proofs.Math.IntN.{+ℤ_idl as none_plus, +ℤ_idr as plus_none}
 use Rattle.xa_atomicity.proofs.OneOutcome.{neither}
 use Rattle.xa_words.specs.Xid.{XidName, xid_eq}
@@ -36,11 +35,9 @@ use Rattle.xa_atomicity.specs.Outcomes.{IsBetween, OnlyTheseName, is_committed, 
 use Rattle.xa_atomicity.specs.Additions.{IsAddition, none_later, prepare_of}
 use Rattle.xa_atomicity.specs.Conservation.{taken_before}
 use Rattle.xa_atomicity.proofs.Moves.{is_within, inside, outside, moved_both, moved_none, moved_at, moved_without, taken_is, within_parts}
-use Rattle.xa_base.proofs.Truth.{by_if, at_true}
 use Rattle.xa_base.proofs.Lists.{all_left, all_after}
 use Rattle.xa_atomicity.proofs.Placing.{request_of, fates, fates_both, none_first}
 use Rattle.xa_atomicity.proofs.Requests.{closes_other}
-use Rattle.xa_atomicity.proofs.Courses.{yes_is, read_is, Sends, SendsOne, Course, rest_forgets}
 use Rattle.xa_atomicity.proofs.Shares.{add_place, commits_or, share_is}
 use Rattle.xa_atomicity.proofs.Sites.{Site, StandsIn, above, below, at_place, Second, second_of}
 
@@ -321,7 +318,8 @@ module _ {t : ℕ} {T : Tables} {H : History} (site : Site t T H) (x : XidName) 
   agreed op g e c y writes plain by_done by_fail counts moving failing answers_so z =
       let done : vote ≡ Done = yes_is vote y in
       let U : Tables = second_tables op c z in
-      let code : c ≡ (if U.shut then RmFail else Done) = (second_of site n (Prepare x) vote z.first op c z.second).code ∙ answers_so U (awaits site x n vote last only op c z z.first done) in
+      let code : c ≡ (if U.shut then RmFail else Done) =
+      (second_of site n (Prepare x) vote z.first op c z.second).code ∙ answers_so U (awaits site x n vote last only op c z z.first done) in
       let by_second : commits_or false (cons_option (prepare_fate vote) (cons_option (fate_of x op c) [])) ≡ commits_or false (cons_option (fate_of x op c) []) =
       ap (λ v. commits_or false (cons_option (prepare_fate v) (cons_option (fate_of x op c) []))) done in
       elim (U.shut) as (λ l. c ≡ (if l then RmFail else Done) → Goal (if is_done c then e else (if is_rm_fail c then InDoubt else (if is_heuristic_code c then Heuristic c else Left c)))) [
@@ -357,7 +355,8 @@ unasked t x T H n only k d add =
     let there : Tables = tables_after (add.before ++ add.adding ∷ add.between) T in
     let place : H ≡ (add.before ++ add.adding ∷ add.between) ++ P ∷ add.after = add_place x k d t n T H add in
     let nowhere : NamesNowhere x add.after = λ j e lt. false_from_ne_true (names x (get_or add.after j e).op) (λ named.
-    let own = only (add.before ++ add.adding ∷ add.between) add.after P place refl refl j e lt named in let up = own.from in let down = own.below in omega (arith, up, down)) in
+    let own = only (add.before ++ add.adding ∷ add.between) add.after P place refl refl j e lt named in
+    let up = own.from in let down = own.below in omega (arith, up, down)) in
     let own : fate_of x (Prepare x) (next t (Prepare x) there).1 ≡ prepare_fate (next t (Prepare x) there).1 = at_true (xid_eq x x) _ None (xid_self x) in
     let none : fates x add.after (next t (Prepare x) there).0 ≡ [] = unnamed x add.after (next t (Prepare x) there).0 nowhere in
     share_is x k d t n T H none_later add (cons_option (prepare_fate (next t (Prepare x) there).1) []) (λ i. cons_option (own i) (none i))

@@ -23,8 +23,7 @@ use Rattle.xa_words.specs.declared.request.Request.{Request}
 use Rattle.xa_tables.specs.declared.state.Association.{Association}
 use Rattle.xa_tables.specs.declared.state.AssociationState.TheVariants.{Associated}
 use Rattle.xa_tables.specs.declared.state.State.{State}
-use Rattle.xa_tables.specs.Tables.{Tables, association_of, has_association, has_opened, exists, is_S3, is_prepared, is_association_with}
-use Rattle.xa_tables.specs.Tables.{is_associated}
+use Rattle.xa_tables.specs.Tables.{Tables, association_of, has_association, has_opened, exists, is_S3, is_prepared, is_association_with, is_associated}
 use Rattle.xa_tables.specs.Tables.{is_somebody_associated, is_at_work, is_declared, is_rollback_only, has_other_touched, branch_in, branch_of, reason_of}
 use Rattle.xa_tables.specs.Tables.{state_of, sum_of}
 use Rattle.xa_tables.specs.Next.{Answer, next, association, added}

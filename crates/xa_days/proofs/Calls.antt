@@ -1,14 +1,14 @@
 -- What a commit and a resolve sent, as the histories have it.
-use Rattle.xa_atomicity.proofs.CutVotes.{CameAt, each_came, at_asking, at_forgetting, at_telling}
-use Rattle.xa_atomicity.proofs.Requests.{none_all}
+use Rattle.xa_atomicity.proofs.CutVotes.{CameAt, each_came, at_asking, at_forgetting, at_telling, HasVoted}
+use Rattle.xa_atomicity.proofs.Requests.{none_all, own_between}
 use Rattle.xa_atomicity.proofs.Values.{taken}
 use Rattle.xa_atomicity.proofs.Settled.{sent_on, sent_stands, site_of}
 use Rattle.xa_atomicity.proofs.Sites.{Site}
 use Rattle.xa_atomicity.specs.Tabled.{Tabled}
 use Rattle.std.proofs.lemmas.Bool.{both_ways, false_from_ne_true}
 use Rattle.std.specs.Prelude.{not}
-use Rattle.std.proofs.Common.{◌≡◌, ℕ, ◌+◌, ◌<◌, ◌≤◌, Bool, true, false, Some, List, [], ◌∷◌, ◌++◌, length, get_or, slice_get, sym, refl, ap, ◌∙◌}
-use Rattle.std.proofs.Common.{subst, arith, append_assoc, length-append, ◌&&◌}
+use Rattle.std.proofs.Common.{◌≡◌, ℕ, ◌+◌, ◌<◌, ◌≤◌, Bool, true, false, Some, List, [], ◌∷◌, ◌++◌, length, get_or, slice_get, sym, refl, ap, ◌∙◌, subst, arith}
+use Rattle.std.proofs.Common.{append_assoc, length-append, ◌&&◌}
 use Rattle.std.specs.List.{All, Contains}
 use Rattle.std.proofs.lemmas.List.Elements.{All-nil, All-cons, All-contains}
 use Rattle.xa_base.specs.declared.limits.TheConstants.{MOST_MANAGERS}
@@ -38,18 +38,15 @@ use Rattle.xa_driver.specs.declared.done.Ending.{Ending}
 use Rattle.xa_driver.specs.Commits.{is_commit}
 use Rattle.xa_driver.specs.Resolving.{outcome_op, is_to_commit}
 use Rattle.xa_driver.specs.Trace.{AreBranchesRising, decision_of, IsTranOf}
-use Rattle.xa_atomicity.specs.Cut.{IsCut}
-use Rattle.xa_atomicity.specs.Cut.{HasSentNone, is_commit_of, is_recorded}
+use Rattle.xa_atomicity.specs.Cut.{IsCut, HasSentNone, is_commit_of, is_recorded}
 use Rattle.xa_atomicity.specs.Outcomes.{OnlyTheseOrDecisionsName}
 use Rattle.xa_atomicity.specs.Presumed.{AskedAreLeft, VotedToCommit, WasAsked}
 use Rattle.xa_atomicity.specs.Resolution.{CutCall, IsKept, IsUseIn, OnlyResolves, Opening, cuts}
 use Rattle.xa_atomicity.proofs.CutBranch.{HasSentOnly, asked_only, ended_voted_so, guide, open_so, told_voted_so, voted_only}
 use Rattle.xa_atomicity.proofs.CutSends.{unrecorded_law}
-use Rattle.xa_atomicity.proofs.CutVotes.{HasVoted}
 use Rattle.xa_atomicity.proofs.Leading.{IsTowards, Leads}
 use Rattle.xa_atomicity.proofs.Naming.{named_so, named_tran, sent_is}
 use Rattle.xa_atomicity.proofs.Placing.{request_of}
-use Rattle.xa_atomicity.proofs.Requests.{own_between}
 use Rattle.xa_days.specs.Openings.{CommitsNowhere}
 use Rattle.xa_days.specs.Course.{OnlyTold, tells_outcome}
 use Rattle.xa_days.specs.Calls.{CommitsInCall, DecidesNowhere, IsMarkedNowhere, VotedInCall, taken_till_asked}
@@ -116,7 +113,8 @@ leads_tells commit (Rollback y) z = refl
 leads_tells commit (Forget y) z = refl
 leads_tells commit op z = absurd z
 
-module _ (law : Tabled) (s : Settling) (k : CutCall) (b : Branch) (T : Tables) (settled : IsSettled s) (use_ : IsUseIn s (cuts k)) (there : Contains k.branches b)
+module _ (law : Tabled) (s : Settling) (k : CutCall) (b : Branch) (T : Tables) (settled : IsSettled s) (use_ : IsUseIn s (cuts k))
+    (there : Contains k.branches b)
     (voted : VotedToCommit k s b) (own : AskedAreLeft k s) (first : first_of s b.m ≡ Some T) (plain : DecidesNowhere b.xid (history_of s b.m))
     (quiet : CommitsNowhere b.xid (taken_till_asked k s b)) where
   abbrev t : ℕ
@@ -198,7 +196,8 @@ unsent_law s k b settled use_ positive z within j d lt named =
     (none_all (is_commit_of b.xid) z.more z.none) in
     let r : Request = get_or (history_of s b.m) j d in
     false_from_ne_true (is_commit r.op) (λ on.
-    let w = within j d lt named on in both_ways (is_commit_of b.xid r.op) (each j d lt w.thread w.from (subst (λ n. r.number < n) size w.below)) (λ i. named i && on i))
+    let w = within j d lt named on in
+    both_ways (is_commit_of b.xid r.op) (each j d lt w.thread w.from (subst (λ n. r.number < n) size w.below)) (λ i. named i && on i))
 
 pub unrecorded_nowhere : (s : Settling) (k : CutCall) (b : Branch) (t : TranName) → IsSettled s → IsUseIn s (cuts k) → Contains k.branches b
     → IsTranOf k.branches t → is_recorded k.later t ≡ false → CommitsInCall k s b → CommitsNowhere b.xid (history_of s b.m)

@@ -1,14 +1,12 @@
 -- The laws of one branch: one that nothing commits moves nothing, and one that votes to commit moves what it held where it is committed.
-use Rattle.std.proofs.lemmas.List.Elements.{All-cons}
+use Rattle.std.proofs.lemmas.List.Elements.{All-cons, All-head, All-tail}
 use Rattle.xa_atomicity.proofs.Placing.{fates_both, last_both}
 use Rattle.xa_atomicity.proofs.Moves.{moved_both, moved_without, unmoving}
-use Rattle.std.specs.Prelude.{◌≡◌, ◌≢◌, ℕ, ℤ, pos, ◌+ℤ◌, Bool, true, false, cond, not, ◌||◌, if◌then◌else◌, Option, None, Some, is_some, List, [], ◌∷◌}
-use Rattle.std.specs.Prelude.{◌++◌}
+use Rattle.std.specs.Prelude.{◌≡◌, ◌≢◌, ℕ, ℤ, pos, ◌+ℤ◌, Bool, true, false, cond, not, ◌||◌, if◌then◌else◌, Option, None, Some, is_some, List, [], ◌∷◌, ◌++◌}
 use Rattle.std.specs.Prelude.{unwrap_or, refl}
 use Rattle.std.specs.List.{All, cons_option}
 use Rattle.std.specs.FinMap as finmap
 use Rattle.std.proofs.Common.{sym, ap, ◌∙◌, subst, arith}
-use Rattle.std.proofs.lemmas.List.Elements.{All-head, All-tail}
 use Rattle.std.proofs.Math.IntN.{+ℤ_idl as none_plus, +ℤ_idr as plus_none}
 use Rattle.xa_base.proofs.Sums.{total_same}
 use Rattle.xa_base.proofs.Truth.{by_if, at_true, at_false}
@@ -23,8 +21,7 @@ use Rattle.xa_tables.specs.declared.state.State.TheVariants.{Prepared as S3}
 use Rattle.xa_tables.specs.Tables.{Tables, state_of, sum_of, exists, has_opened, is_S3, is_S5, is_left_in, is_somebody_associated}
 use Rattle.xa_tables.specs.Next.{Answer, next}
 use Rattle.xa_tables.specs.History.{History, Fate, Live, InDoubt, Committed, RolledBack, fate, fate_in, fates_in, fate_of, coded, ending_by, is_done}
-use Rattle.xa_tables.specs.History.{is_integrity, is_rolled_back, is_in_doubt, is_live}
-use Rattle.xa_tables.specs.History.{last_or, tables_after}
+use Rattle.xa_tables.specs.History.{is_integrity, is_rolled_back, is_in_doubt, is_live, last_or, tables_after}
 use Rattle.xa_tables.specs.Openings.{IsOpening, reopened, reopened_fate, fate_left}
 use Rattle.xa_tables.specs.declared.state.HeuristicDecision.{HeuristicDecision}
 use Rattle.xa_tables.specs.Prepared.{names, IsPrepared, state_when, fates_when}
@@ -328,7 +325,8 @@ fate_from : (x : XidName) (f : Fate) (before : History) (r : Request) (after : H
     → fate_in x f (coded (before ++ r ∷ after) T) ≡ fate_in x InDoubt (coded after (next r.thread r.op (tables_after before T)).0)
 fate_from x f before r after T e =
     let later : List Fate = fates_in x (coded after (next r.thread r.op (tables_after before T)).0) in
-    ap (last_or f) (fates_both x before (r ∷ after) T ∙ ap (λ o. fates_in x (coded before T) ++ cons_option o later) e) ∙ last_both f (fates_in x (coded before T)) (InDoubt ∷ later)
+    ap (last_or f) (fates_both x before (r ∷ after) T ∙ ap (λ o. fates_in x (coded before T) ++ cons_option o later) e)
+    ∙ last_both f (fates_in x (coded before T)) (InDoubt ∷ later)
 
 undecided : (d : Option HeuristicDecision) → [] ≡ fates_when d → state_when d ≡ S3
 undecided None e = refl

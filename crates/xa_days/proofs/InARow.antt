@@ -1,7 +1,6 @@
 -- The laws of a day over settled openings: their histories lead to their tables, and to what became of each branch.
 use Rattle.std.proofs.Math.IntN.{+ℤ_idr as plus_none}
-use Rattle.std.specs.Prelude.{◌≡◌, ℕ, ℤ, pos, ◌+ℤ◌, Bool, true, false, if◌then◌else◌, None, Some, List, [], ◌∷◌, refl}
-use Rattle.std.specs.Prelude.{cond, is_some, map}
+use Rattle.std.specs.Prelude.{◌≡◌, ℕ, ℤ, pos, ◌+ℤ◌, Bool, true, false, if◌then◌else◌, None, Some, List, [], ◌∷◌, refl, cond, is_some, map}
 use Rattle.std.specs.FinMap.{find, get-from_entries}
 use Rattle.xa_base.specs.Sums.{total}
 use Rattle.xa_base.proofs.Sums.{total_across, total_alike, total_both, total_nothing}

@@ -1,13 +1,11 @@
 -- The branches of a commit come out by the log.
-use Rattle.std.proofs.lemmas.List.Elements.{All-cons}
+use Rattle.std.proofs.lemmas.List.Elements.{All-cons, All-contains, All-head, All-tail}
 use Rattle.xa_atomicity.proofs.Values.{taken}
 use Rattle.xa_atomicity.proofs.Settled.{sent_stands, site_of}
 use Rattle.xa_atomicity.specs.Tabled.{Tabled}
 use Rattle.std.specs.Prelude.{if◌then◌else◌}
-use Rattle.std.proofs.Common.{◌≡◌, ℕ, pos, zero, suc, ◌≤◌, true, false, Some, List, [], ◌∷◌, ◌++◌, length, get_or, slice_get, sym, refl, ap, ◌∙◌}
-use Rattle.std.proofs.Common.{subst, arith}
+use Rattle.std.proofs.Common.{◌≡◌, ℕ, pos, zero, suc, ◌≤◌, true, false, Some, List, [], ◌∷◌, ◌++◌, length, get_or, slice_get, sym, refl, ap, ◌∙◌, subst, arith}
 use Rattle.std.specs.List.{All, Contains}
-use Rattle.std.proofs.lemmas.List.Elements.{All-contains, All-head, All-tail}
 use Rattle.std.proofs.lemmas.Option.{same_Some as some_same}
 use Rattle.xa_base.specs.declared.limits.TheConstants.{MOST_MANAGERS}
 use Rattle.xa_base.specs.Lists.{IsUpTo}
@@ -61,7 +59,8 @@ all_histories P m [] all k d lt = absurd (omega arith)
 all_histories P m (o ∷ os) all zero d lt = All-head (λ (q : Opening). P (history_of q.settled m)) o os all
 all_histories P m (o ∷ os) all (suc k) d lt = all_histories P m os (All-tail (λ (q : Opening). P (history_of q.settled m)) o os all) k d (omega arith)
 
-module _ (law : Tabled) (accounts : List (List ℕ × ℕ)) (o : Opening) (later : List Opening) (k : CutCall) (t : TranName) (b : Branch) (T : Tables) (kept : IsKept o)
+module _ (law : Tabled) (accounts : List (List ℕ × ℕ)) (o : Opening) (later : List Opening) (k : CutCall) (t : TranName) (b : Branch) (T : Tables)
+    (kept : IsKept o)
     (later_kept : All IsKept later) (use_ : IsUseIn o.settled (cuts k)) (few : b.m ≤ MOST_MANAGERS) (of_tran : IsTranOf k.branches t)
     (there : Contains k.branches b) (named : tran_of b.xid ≡ t) (own_calls : VotedToCommit k o.settled b → VotedInCall k o.settled b T)
     (first : first_of o.settled b.m ≡ Some T)

@@ -1,20 +1,15 @@
 -- Where the log has a transaction's record, all of its branches were asked, and none voted against.
-use Rattle.std.proofs.lemmas.Bool.{and_right}
-use Rattle.std.proofs.lemmas.List.Elements.{All-contains}
+use Rattle.std.proofs.lemmas.Bool.{and_right, both_ways, false_from_ne_true, and_parts, not-true}
+use Rattle.std.proofs.lemmas.List.Elements.{All-contains, All-cons}
 use Rattle.xa_atomicity.proofs.Asked.{third_so}
 use Rattle.xa_atomicity.proofs.Requests.{none_all}
-use Rattle.xa_atomicity.proofs.CutVotes.{CameAt, IsVoteOf, each_came, at_asking, at_forgetting, at_telling}
-use Rattle.xa_driver.specs.Decision.{yes_of}
-use Rattle.xa_atomicity.proofs.CutVotes.{prepare_there, vote_there}
+use Rattle.xa_atomicity.proofs.CutVotes.{CameAt, IsVoteOf, each_came, at_asking, at_forgetting, at_telling, prepare_there, vote_there, HasVoted, ended_voted}
+use Rattle.xa_atomicity.proofs.CutVotes.{prepare_sent, told_voted}
+use Rattle.xa_driver.specs.Decision.{yes_of, decides_commit, is_no, is_yes}
 use Rattle.xa_atomicity.proofs.CutSends.{decided_so}
-use Rattle.std.proofs.lemmas.Bool.{both_ways, false_from_ne_true}
 use Rattle.std.specs.Prelude.{if◌then◌else◌, ◌&&◌, is_some}
-use Rattle.std.proofs.Common.{◌≡◌, suc, ◌≤◌, Bool, true, false, ◌||◌, Option, List, [], ◌∷◌, length, get_or, sym, refl}
-use Rattle.std.proofs.Common.{ap, ◌∙◌}
-use Rattle.std.proofs.Common.{subst, arith}
+use Rattle.std.proofs.Common.{◌≡◌, suc, ◌≤◌, Bool, true, false, ◌||◌, Option, List, [], ◌∷◌, length, get_or, sym, refl, ap, ◌∙◌, subst, arith}
 use Rattle.std.specs.List.{All, Contains, list_any}
-use Rattle.std.proofs.lemmas.Bool.{and_parts, not-true}
-use Rattle.std.proofs.lemmas.List.Elements.{All-cons}
 use Rattle.xa_words.specs.Xid.{XidName}
 use Rattle.xa_words.specs.Tran.{TranName}
 use Rattle.xa_words.specs.declared.code.Code.{Code}
@@ -29,7 +24,6 @@ use Rattle.xa_switch.specs.Settling.{Settling}
 use Rattle.xa_log.specs.Log.{LogState, record_of}
 use Rattle.xa_driver.specs.declared.branch.Branch.{Branch}
 use Rattle.xa_driver.specs.Commits.{is_commit}
-use Rattle.xa_driver.specs.Decision.{decides_commit, is_no, is_yes}
 use Rattle.xa_driver.specs.Endings.{second_op, third_op}
 use Rattle.xa_tables.specs.Prepared.{names}
 use Rattle.xa_driver.specs.Trace.{IsTranOf, Logs, decision_of}
@@ -38,7 +32,6 @@ use Rattle.xa_driver.proofs.Mapped.{Any, IsAskedFor, any_asked}
 use Rattle.xa_atomicity.specs.Cut.{HasSentNone, IsCut, is_commit_of, is_recorded}
 use Rattle.xa_atomicity.specs.Presumed.{WasAsked}
 use Rattle.xa_atomicity.specs.Resolution.{CutCall, IsUseIn, cuts}
-use Rattle.xa_atomicity.proofs.CutVotes.{HasVoted, ended_voted, prepare_sent, told_voted}
 use Rattle.xa_days.specs.Recorded.{AgreedOrRead, agreed, read}
 use Rattle.xa_days.proofs.Calls.{positive_each}
 
@@ -128,7 +121,8 @@ module _ (s : Settling) (k : CutCall) (use_ : IsUseIn s (cuts k)) (t : TranName)
   for_so : (votes : List Code) (logged : Bool) → Logs made.may.tran (yes_of k.branches votes) votes logged k.log k.later → (b : Branch) (v : Code)
       → IsVoteOf k.branches votes b v → is_no v ≡ false
   for_so votes logged logs b v vote =
-      let none = not-true _ (and_parts (decides_commit votes) _ (decided_so made.may.tran k.log k.later made.may.absent votes logged (yes_of k.branches votes) logs there)).0 in
+      let none =
+      not-true _ (and_parts (decides_commit votes) _ (decided_so made.may.tran k.log k.later made.may.absent votes logged (yes_of k.branches votes) logs there)).0 in
       All-contains (λ w. is_no w ≡ false) votes v (none_all is_no votes none) vote.among
 
   at_branch : (b : Branch) → 1 ≤ b.m → CameAt made.may.tran k.branches k.desk.ledgers k.new k.log k.later k.endings b → AgreedOrRead k s b

@@ -2,8 +2,7 @@
 -- anything, over the settled history of its manager.
 use Rattle.xa_atomicity.proofs.Fated.{decided_in}
 use Rattle.std.proofs.lemmas.Bool.{true_from_ne_false}
-use Rattle.std.proofs.Common.{◌≡◌, ℕ, suc, ◌≤◌, inl, inr, Bool, true, false, if◌then◌else◌, [], ◌∷◌, get_or, sym, refl, ap, ◌∙◌}
-use Rattle.std.proofs.Common.{append-nil, arith}
+use Rattle.std.proofs.Common.{◌≡◌, ℕ, suc, ◌≤◌, inl, inr, Bool, true, false, if◌then◌else◌, [], ◌∷◌, get_or, sym, refl, ap, ◌∙◌, append-nil, arith}
 use Rattle.std.specs.List.{All, cons_option}
 use Rattle.xa_words.specs.Xid.{XidName}
 use Rattle.xa_words.specs.declared.code.Code.TheVariants.{Done}

@@ -2,14 +2,14 @@
 use Rattle.xa_atomicity.proofs.Requests.{none_all}
 use Rattle.std.proofs.Common.{◌≡◌, ◌≢◌, ℕ, zero, suc, ◌⊎◌, ⊎_elim, inl, inr, Bool, true, false, ◌==◌, ◌&&◌, List, [], ◌∷◌, Option, Some, None, sym, refl, ap}
 use Rattle.std.proofs.Common.{◌∙◌}
-use Rattle.std.specs.Prelude.{if◌then◌else◌, All, Result, Ok, Err}
+use Rattle.std.specs.Prelude.{if◌then◌else◌, All, Result, Ok, Err, get_or}
 use Rattle.std.proofs.lemmas.Bool.{eq-eqb, or_parts}
 use Rattle.std.specs.List.{list_any, slice_index_or}
 use Rattle.xa_base.specs.Lists.{Chain}
 use Rattle.xa_base.specs.Lists.Chain.{none as no_step, more as one_step}
 use Rattle.xa_base.proofs.Lists.{all_mid, all_left}
 use Rattle.xa_words.specs.Xid.{XidName, xid_eq}
-use Rattle.xa_words.specs.Flags.{check_flags}
+use Rattle.xa_words.specs.Flags.{check_flags, TMASYNC}
 use Rattle.xa_words.specs.declared.code.Code.{Code}
 use Rattle.xa_words.specs.declared.flags.Call.{Call}
 use Rattle.xa_words.specs.declared.flags.Call.TheVariants as call
@@ -21,7 +21,6 @@ use Rattle.xa_words.specs.declared.request.RmOp.TheVariants as rm
 use Rattle.xa_tables.specs.Prepared.{names}
 use Rattle.xa_worker.specs.Journal.{Entry}
 use Rattle.xa_calls.specs.Asking.{◌>>=◌, op_by, asked_of, native, rm_op}
-use Rattle.xa_words.specs.Flags.{TMASYNC}
 use Rattle.xa_switch.specs.Settling.{Settling}
 use Rattle.xa_calls.specs.Scans.{Asking, start_of, Recovers, RecoversFrom, RecoversBy}
 use Rattle.xa_scan.specs.Left.{ScanView, standing, left_at, place_at}
@@ -38,7 +37,6 @@ use Rattle.xa_telling.specs.Parts.{Part, Asked, CallTakes}
 use Rattle.xa_shown.proofs.Adds.{Adds, TaskSo, adds_both, adds_none, op_in, takes_add}
 use Rattle.xa_atomicity.proofs.Between.{Unnamed, second_unnamed, outcome_unnamed, third_unnamed}
 use Rattle.xa_words.specs.Orders.{Decides-xid_eq}
-use Rattle.std.specs.Prelude.{get_or}
 use Rattle.xa_telling.specs.Parts.CallTakes.{answered, kept, refused, completes, lists}
 use Rattle.xa_telling.specs.Commits.CommitTakes.{refused as takes_none, decided, undecided, died}
 use Rattle.xa_telling.specs.Resolves.ResolveTakes.{refused as ends_none, resolved}

@@ -1,5 +1,6 @@
 -- All branches of a commit: what the line shows of them became of them.
-use Rattle.xa_atomicity.specs.Outcomes.{OnlyTheseName, OnlyTheseOrDecisionsName}
+use Rattle.xa_atomicity.specs.Outcomes.{OnlyTheseName, OnlyTheseOrDecisionsName, AreLeftAlone, AreLeftOrDecided, EachOutcome, is_committed, is_rolled_back}
+use Rattle.xa_atomicity.specs.Outcomes.{is_in_doubt, is_heuristic, is_left, is_read_only, KeepsItsVote, TellsTheFate}
 use Rattle.std.proofs.Common.{◌≡◌, ℕ, inl, inr, Bool, true, false, ◌||◌, List, [], ◌∷◌, length, Option, sym, refl, ap, ◌∙◌, subst, slice_index_or}
 use Rattle.std.specs.Prelude.{pos, if◌then◌else◌, All}
 use Rattle.std.specs.List.{list_any}
@@ -16,8 +17,6 @@ use Rattle.xa_driver.specs.declared.done.Ending.TheVariants.{Committed, ReadOnly
 use Rattle.xa_atomicity.specs.Additions.{Shares}
 use Rattle.xa_driver.specs.Decision.{is_no}
 use Rattle.xa_driver.specs.Endings.{ending_of}
-use Rattle.xa_atomicity.specs.Outcomes.{AreLeftAlone, AreLeftOrDecided, EachOutcome, is_committed, is_rolled_back, is_in_doubt, is_heuristic, is_left}
-use Rattle.xa_atomicity.specs.Outcomes.{is_read_only, KeepsItsVote, TellsTheFate}
 use Rattle.xa_atomicity.specs.Tabled.{Tabled}
 use Rattle.xa_atomicity.proofs.Courses.{course_of}
 use Rattle.xa_atomicity.proofs.OneOutcome.{not_rolled_back, uncommitted}

@@ -2,22 +2,19 @@
 use Rattle.xa_atomicity.proofs.Requests.{none_all}
 use Rattle.xa_atomicity.proofs.OneOutcome.{uncommitted, unvoted}
 use Rattle.xa_atomicity.specs.Outcomes.{is_committed}
-use Rattle.xa_driver.specs.Endings.{ending_of}
-use Rattle.xa_base.proofs.Truth.{by_if}
-use Rattle.std.proofs.lemmas.Bool.{both_ways, not-true, true_from_ne_false}
+use Rattle.xa_driver.specs.Endings.{ending_of, second_op, third_op, yes_ending, is_heuristic}
+use Rattle.xa_base.proofs.Truth.{by_if, at_true}
+use Rattle.std.proofs.lemmas.Bool.{both_ways, not-true, true_from_ne_false, and_parts, eq-eqb}
 use Rattle.std.proofs.Common.{◌≡◌, ℕ, pos, Bool, true, false, ◌==◌, ◌||◌, not, List, [], ◌∷◌, ◌++◌, length, Option, Some, None, sym, refl, ap, ◌∙◌, subst}
 use Rattle.std.proofs.Common.{⊎_elim, zero, suc, ◌<◌, arith, slice_index_or}
 use Rattle.std.specs.Prelude.{get_or, slice_get, All}
 use Rattle.std.specs.List.{Contains, filter, list_any}
-use Rattle.std.proofs.lemmas.Bool.{and_parts, eq-eqb}
 use Rattle.std.proofs.lemmas.List.Folds.{list_any_none}
-use Rattle.xa_base.proofs.Truth.{at_true}
-use Rattle.std.proofs.lemmas.List.Elements.{Contains-append_left, Contains-push, Contains-push_cases, Contains-get_or, All-contains}
-use Rattle.std.proofs.lemmas.List.Elements.{All-filter, All-contains_itself}
+use Rattle.std.proofs.lemmas.List.Elements.{Contains-append_left, Contains-push, Contains-push_cases, Contains-get_or, All-contains, All-filter}
+use Rattle.std.proofs.lemmas.List.Elements.{All-contains_itself}
 use Rattle.xa_words.specs.Code.{number_of}
 use Rattle.xa_words.specs.declared.code.Code.{Code}
-use Rattle.xa_words.specs.declared.code.Code.TheVariants.{Done}
-use Rattle.xa_words.specs.declared.code.Code.TheVariants.{RmErr, Inval, RmFail}
+use Rattle.xa_words.specs.declared.code.Code.TheVariants.{Done, RmErr, Inval, RmFail}
 use Rattle.xa_words.specs.declared.request.Op.{Op}
 use Rattle.xa_words.specs.declared.request.Op.TheVariants.{Prepare, Commit}
 use Rattle.xa_tables.specs.History.{is_done}
@@ -30,7 +27,6 @@ use Rattle.xa_driver.specs.declared.done.Ending.{Ending}
 use Rattle.xa_driver.specs.declared.done.Ending.TheVariants.{Committed}
 use Rattle.xa_driver.specs.Commits.{is_commit}
 use Rattle.xa_driver.specs.Decision.{is_yes, is_no, decides_commit, has_yes}
-use Rattle.xa_driver.specs.Endings.{second_op, third_op, yes_ending, is_heuristic}
 use Rattle.xa_driver.specs.Course.{AsksFor, AtBranch}
 use Rattle.xa_driver.specs.Trace.{EachBranch, decision_of}
 use Rattle.xa_atomicity.proofs.Aborts.{IsNoCommit}
@@ -132,8 +128,10 @@ branch_commits : (t : ℕ) (commit : Bool) (b : Branch) (v : Code) (s : Option C
     → AtBranch (CarriesOut t) commit b v s e old new → e ≡ Committed → HasEntry t (Commit b.xid false) Done new
 branch_commits t commit b v s e old new is told =
     let shown : is_committed (ending_of commit v s) ≡ true = ap is_committed (sym is.ends ∙ told) in
-    let voted : is_yes v ≡ true = true_from_ne_false (is_yes v) (λ against. both_ways (is_committed (ending_of commit v s)) (unvoted commit v s against) shown) in
-    let commits : commit ≡ true = true_from_ne_false commit (λ off. both_ways (is_committed (ending_of commit v s)) (ap (λ c. is_committed (ending_of c v s)) off ∙ uncommitted v s) shown) in
+    let voted : is_yes v ≡ true =
+    true_from_ne_false (is_yes v) (λ against. both_ways (is_committed (ending_of commit v s)) (unvoted commit v s against) shown) in
+    let commits : commit ≡ true =
+    true_from_ne_false commit (λ off. both_ways (is_committed (ending_of commit v s)) (ap (λ c. is_committed (ending_of c v s)) off ∙ uncommitted v s) shown) in
     let heard : s ≡ Some Done = committed_done s (sym (at_true (is_yes v) _ _ voted) ∙ ap (λ c. ending_of c v s) (sym commits) ∙ sym is.ends ∙ told) in
     let op : second_op commit b.xid v ≡ Some (Commit b.xid false) = ap (λ c. second_op c b.xid v) commits ∙ at_true (is_yes v) _ None voted in
     let obeyed : CarriesOut t is.prepared (Commit b.xid false) is.decided Done =

@@ -3,8 +3,7 @@ use Rattle.xa_tables.specs.Prepared.{is_heur}
 use Rattle.std.specs.Global.{Global}
 use Rattle.std.specs.Prelude.{Vec, slice_get, All}
 use Rattle.std.proofs.Common.{◌≡◌, ℕ, inl, inr, suc, ◌<◌, ◌≤◌, Bool, true, false, ◌||◌, if◌then◌else◌, List, [], ◌∷◌, ◌++◌, length, length-append, append_assoc}
-use Rattle.std.proofs.Common.{append-nil, Option, zero}
-use Rattle.std.proofs.Common.{Some, None, get_or, sym, refl, ap, ◌∙◌, subst, arith}
+use Rattle.std.proofs.Common.{append-nil, Option, zero, Some, None, get_or, sym, refl, ap, ◌∙◌, subst, arith}
 use Rattle.std.specs.List.{list_any}
 use Rattle.std.proofs.Math.Bool.{or-true}
 use Rattle.std.proofs.lemmas.Bool.{both_ways, cases_Bool}
@@ -39,8 +38,8 @@ use Rattle.xa_driver.specs.Trace.{EachBranch}
 use Rattle.xa_driver.proofs.Mapped.{Any}
 use Rattle.xa_log.specs.Log.{LogState, record_of}
 use Rattle.xa_atomicity.specs.Cut.{is_recorded}
-use Rattle.xa_atomicity.specs.Outcomes.{AreLeftAlone, AreLeftOrDecided, EachOutcome, IsDecidedAfter, OnlyTheseName, OnlyTheseOrDecisionsName}
-use Rattle.xa_atomicity.specs.Outcomes.{WasAtFirst, is_heuristic, is_in_doubt, is_left, told_fate}
+use Rattle.xa_atomicity.specs.Outcomes.{AreLeftAlone, AreLeftOrDecided, EachOutcome, IsDecidedAfter, OnlyTheseName, OnlyTheseOrDecisionsName, WasAtFirst}
+use Rattle.xa_atomicity.specs.Outcomes.{is_heuristic, is_in_doubt, is_left, told_fate}
 use Rattle.xa_atomicity.specs.Outcomes.IsInDoubtUnlessDecided.{decided as was_decided, undecided}
 use Rattle.xa_atomicity.specs.Resolution.{ended_as}
 use Rattle.xa_atomicity.specs.Tabled.{Tabled}
@@ -305,7 +304,8 @@ module _ (law : Tabled) (opens : (s : Settling) (m : ℕ) → IsSettled s → (T
             | was_decided d f after ↦ decided d f after
           ])
           (λ c is_so.
-          let d = fated_so.named y (ap is_heuristic is_so) in decided d.0 (fated_so.tells.told before (decided_fate d.0) first d.1) (fated_so.keeps.decided y (ap is_heuristic is_so)))
+          let d = fated_so.named y (ap is_heuristic is_so) in
+          decided d.0 (fated_so.tells.told before (decided_fate d.0) first d.1) (fated_so.keeps.decided y (ap is_heuristic is_so)))
           (λ c is_so. absurd (both_ways (is_left e) (fated_so.keeps.reached y) (ap is_left is_so))) (is.ends ∙ ap (λ w. ending_of commit w z) done)
         where
           done : v ≡ Done

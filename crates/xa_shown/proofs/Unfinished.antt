@@ -1,8 +1,7 @@
 -- What a commit that came to no end left, by the line that shows it: it goes by the record.
-use Rattle.std.proofs.Common.{⊎_elim}
+use Rattle.std.proofs.Common.{⊎_elim, ◌≡◌, ℕ, inl, inr, Bool, true, false, ◌&&◌, List, [], Option, None, get_or, sym, refl, ap, ◌∙◌, subst}
 use Rattle.std.specs.Global.{Global}
 use Rattle.std.specs.Prelude.{Vec, ◌⊎◌, All, is_some, not}
-use Rattle.std.proofs.Common.{◌≡◌, ℕ, inl, inr, Bool, true, false, ◌&&◌, List, [], Option, None, get_or, sym, refl, ap, ◌∙◌, subst}
 use Rattle.std.specs.List.{list_any}
 use Rattle.std.proofs.Math.Bool.{or-true}
 use Rattle.std.proofs.lemmas.Bool.{and_parts}

@@ -16,5 +16,6 @@ pub returns-clause-lines : goal.returns-clause-lines
 returns-clause-lines c = λ s b o tells commit done before l after is shows named.
     let (old, new, place) = places o.steps o.answers o.settled l.task.thread (part_at b l.task.thread) (tells.carried l.task.thread) before l after is in
     let alone = left_alone s b o tells commit before l after old new place named in
-    let shown = counts_so c.tables_keep_to_their_laws.ensures c.settled_journals_follow_the_tables.ensures.some s b o tells commit done before l after old new place shows alone in
+    let shown =
+    counts_so c.tables_keep_to_their_laws.ensures c.settled_journals_follow_the_tables.ensures.some s b o tells commit done before l after old new place shows alone in
     (old, new, place, shown.0, shown.1)
