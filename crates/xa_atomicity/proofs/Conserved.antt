@@ -1,8 +1,13 @@
 -- Transfers conserve what all accounts are worth together, but for what branches in doubt hold.
+use Rattle.xa_driver.specs.Commits.{is_commit}
+use Rattle.xa_atomicity.proofs.Moves.{within_parts}
+use Rattle.xa_atomicity.proofs.Requests.{none_all}
+use Rattle.xa_atomicity.proofs.Settled.{sent_between}
+use Rattle.std.proofs.lemmas.Option.{slice_get_past}
 use Rattle.std.proofs.lemmas.Bool.{ne_eqb, or_from, cases_lt, eqb-true, eqb-false, le-leb, or_parts}
 use Rattle.std.specs.Prelude.{ℤ, pos, ◌+ℤ◌, All, nat_le, ◌&&◌}
-use Rattle.std.proofs.Common.{◌≡◌, ℕ, zero, suc, ◌+◌, ◌-◌, ◌<◌, ◌≤◌, ◌==◌, Bool, true, false, if◌then◌else◌, ⊎_elim, List, [], ◌∷◌, ◌++◌, length, length-append}
-use Rattle.std.proofs.Common.{append_assoc, get_or, slice_get, sym, refl, ap, ◌∙◌, subst, arith, None}
+use Rattle.std.proofs.Common.{◌≡◌, ℕ, zero, suc, ◌+◌, ◌-◌, ◌<◌, ◌≤◌, ◌==◌, Bool, true, false, if◌then◌else◌, ⊎_elim, List, [], ◌∷◌, length, length-append}
+use Rattle.std.proofs.Common.{get_or, sym, refl, ap, ◌∙◌, subst, arith}
 use Rattle.std.specs.List.{list_any, range_with_len}
 use Rattle.std.proofs.lemmas.Int.{ints}
 use Rattle.std.proofs.Math.IntN.{+ℤ_idl as none_plus, +ℤ_idr as plus_none}
@@ -20,7 +25,6 @@ use Rattle.xa_tables.specs.History.{History, tables_after}
 use Rattle.xa_tables.specs.Worth.{moved, held_by, is_of, HoldsItsAdditions}
 use Rattle.xa_desk.specs.LedgerView.{LedgerView}
 use Rattle.xa_desk.specs.DeskView.{DeskView, ledger}
-use Rattle.xa_desk.specs.Lanes.{numbered}
 use Rattle.xa_desk.specs.Growth.{HaveGrown}
 use Rattle.xa_desk.proofs.Growth.{growing_on, same_lists}
 use Rattle.xa_switch.specs.declared.plan.Plan.{Plan}
@@ -41,15 +45,10 @@ use Rattle.xa_atomicity.specs.Outcomes.{EachOutcome, AreLeftAlone, has_committed
 use Rattle.xa_atomicity.specs.Outcomes.{is_read_only, sent_so_far}
 use Rattle.xa_atomicity.specs.Conservation.{taken_before, added_before, added_by_all, total_in_doubt, held_in_doubt, OnlyTransfers, opened, worked, committed}
 use Rattle.xa_atomicity.specs.Tabled.{Tabled}
-use Rattle.xa_atomicity.proofs.Moves.{is_within, outside, moved_parted, moved_none, moved_without, moved_alike, moved_nothing, no_commits}
+use Rattle.xa_atomicity.proofs.Moves.{is_within, outside, moved_parted, moved_none, moved_without, moved_alike, moved_nothing}
 use Rattle.xa_atomicity.proofs.Requests.{all_earlier}
 use Rattle.xa_atomicity.proofs.OneOutcome.{committed_law}
-use Rattle.xa_atomicity.proofs.Settled.{Both, all_outcomes, growth_law, by_ledger, sent_on}
-
-nothing_there : {X : Type 0} (xs : List X) (k : ℕ) → length xs ≤ k → slice_get xs k ≡ None
-nothing_there [] k le = refl
-nothing_there (x ∷ xs) zero le = absurd (omega arith)
-nothing_there (x ∷ xs) (suc k) le = nothing_there xs k (omega arith)
+use Rattle.xa_atomicity.proofs.Settled.{Both, all_outcomes, growth_law, by_ledger}
 
 begins_length : {X : Type 0} (xs ys : List X) → Begins xs ys → length xs ≤ length ys
 begins_length xs ys b = let e : length ys ≡ length xs + length b.0 = ap length b.1 ∙ length-append xs b.0 in omega (arith, e)
@@ -129,12 +128,9 @@ module _ (law : Tabled) (opens : (s : Settling) (m : ℕ) → IsSettled s → (T
       → moved_in m (count at m) (count later m) ≡ pos 0
   quiet_between at later grown none m positive =
       let since : HasSentNoCommit (ledger at m) (ledger later m) = none m positive in
-      let rest = sent_on s t m positive (ledger later m) (grown.each m positive) in
-      let ops : sent s t m ≡ (ledger at m).sent ++ (since.more ++ rest.0) =
-      rest.1 ∙ ap (λ l. l ++ rest.0) since.sent ∙ append_assoc (ledger at m).sent since.more rest.0 in
-      let many : count later m ≡ count at m + length since.more = ap length since.sent ∙ length-append (ledger at m).sent since.more in
-      moved_without (accounts_of p m) (is_within t (count at m) (count later m)) (history s m) (opening (accounts_of p m))
-      (no_commits t (history s m) (ledger at m).sent since.more rest.0 ((settled.agree t m).carried ∙ ap (numbered t 0) ops) since.none (count at m) (count later m) (omega arith) (omega (arith, many)))
+      moved_without (accounts_of p m) (is_within t (count at m) (count later m)) (history s m) (opening (accounts_of p m)) (λ k d lt here.
+      let w = within_parts t (count at m) (count later m) (get_or (history s m) k d) here in
+      sent_between s settled t m positive (λ op. is_commit op ≡ false) (ledger at m) (ledger later m) since.more since.sent (none_all is_commit since.more since.none) (grown.each m positive) k d lt w.0 w.1 w.2)
 
   -- where nothing was sent nothing was moved
   none_within : (m k : ℕ) → moved_in m k k ≡ pos 0
@@ -143,7 +139,7 @@ module _ (law : Tabled) (opens : (s : Settling) (m : ℕ) → IsSettled s → (T
 
   -- a manager that isn't there has no accounts
   no_accounts : (m : ℕ) → length p.managers.items < m → accounts_of p m ≡ []
-  no_accounts m past = ap accounts_in (nothing_there p.managers.items (m - 1) (omega (arith, past)))
+  no_accounts m past = ap accounts_in (slice_get_past p.managers.items (m - 1) (omega (arith, past)))
 
   no_moves : (m a b : ℕ) → length p.managers.items < m → moved_in m a b ≡ pos 0
   no_moves m a b past =

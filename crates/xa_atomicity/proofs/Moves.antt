@@ -1,12 +1,11 @@
 -- What the requests of one thread with numbers in a range move, in a history.
 use Rattle.xa_base.proofs.Truth.{by_if, by_bool}
 use Rattle.xa_tables.specs.Next.{Answer, next}
-use Rattle.xa_atomicity.proofs.Requests.{none_all, own_between}
 use Rattle.std.proofs.lemmas.Bool.{and_left, and_right, false_from_ne_true, and_parts, eqb-true, le-leb, lt-leb, leb-true, leb-false}
 use Rattle.std.specs.Prelude.{ℤ, pos, ◌+ℤ◌, nat_le, if◌then◌else◌}
-use Rattle.std.proofs.Common.{◌≡◌, ℕ, suc, ◌+◌, ◌<◌, ◌≤◌, Bool, true, false, ◌==◌, ◌&&◌, ◌⊎◌, ⊎_elim, List, [], ◌∷◌, ◌++◌, length, get_or, sym, refl, ap, ◌∙◌}
+use Rattle.std.proofs.Common.{◌≡◌, ℕ, suc, ◌<◌, ◌≤◌, Bool, true, false, ◌==◌, ◌&&◌, ◌⊎◌, ⊎_elim, List, [], ◌∷◌, ◌++◌, length, get_or, sym, refl, ap, ◌∙◌}
 use Rattle.std.proofs.Common.{arith, eq-eqb}
-use Rattle.std.specs.List.{All, list_any}
+use Rattle.std.specs.List.{All}
 use Rattle.std.proofs.lemmas.Int.{ints}
 use Rattle.std.proofs.Math.Bool.{and-false}
 use Rattle.std.proofs.Math.IntN.{+ℤ_idl as none_plus, +ℤ_idr as plus_none}
@@ -15,9 +14,8 @@ use Rattle.xa_words.specs.declared.request.Op.TheVariants.{Commit, Heur}
 use Rattle.xa_words.specs.declared.code.Code.{Code}
 use Rattle.xa_words.specs.declared.request.Request.{Request}
 use Rattle.xa_tables.specs.Tables.{Tables}
-use Rattle.xa_tables.specs.History.{History, of_thread, tables_after, is_done}
+use Rattle.xa_tables.specs.History.{History, tables_after, is_done}
 use Rattle.xa_tables.specs.Worth.{moved, moved_by, held_by}
-use Rattle.xa_desk.specs.Lanes.{numbered}
 use Rattle.xa_driver.specs.Commits.{is_commit}
 use Rattle.xa_atomicity.specs.Conservation.{taken_before}
 
@@ -166,12 +164,3 @@ module _ (t : ℕ) where
       let lt = below 0 q (omega arith) (eqb-true q.thread t own.0) in let same = eqb-true q.number n own.1 in omega (arith, lt, same)) in
       (λ i. if other i then [] else q ∷ taken_before t n (before ++ r ∷ after))
       ∙ ap (λ l. q ∷ l) (taken_is n before after r own number (λ k d lt. below (suc k) d (omega arith)))
-
-  -- where no Commit was sent in between, none stands among the requests with those numbers
-  pub no_commits : (h : History) (pre more post : List Op) → of_thread t h ≡ numbered t 0 (pre ++ (more ++ post)) → list_any is_commit more ≡ false
-      → (a b : ℕ) → length pre ≤ a → b ≤ length pre + length more → All (λ r. is_within t a b r ≡ true → is_commit r.op ≡ false) h
-  no_commits h pre more post e none a b from to k d lt here =
-      let w = within_parts t a b (get_or h k d) here in
-      let up = w.1 in
-      let down = w.2 in
-      own_between t (λ op. is_commit op ≡ false) h pre more post e (none_all is_commit more none) k d lt w.0 (omega (arith, up, from)) (omega (arith, down, to))

@@ -1,5 +1,6 @@
 -- What names a transaction in an opening where only resolves do.
-use Rattle.std.proofs.Common.{◌≡◌, ◌≢◌, ℕ, suc, ◌+◌, ◌<◌, ◌≤◌, Bool, true, false, List, ◌∷◌, ◌++◌, length, length-append, append_assoc, get_or, refl, ap, ◌∙◌}
+use Rattle.xa_atomicity.proofs.Settled.{sent_between}
+use Rattle.std.proofs.Common.{◌≡◌, ◌≢◌, ℕ, suc, ◌+◌, ◌≤◌, Bool, true, false, List, ◌∷◌, ◌++◌, length, append_assoc, get_or, refl, ap, ◌∙◌}
 use Rattle.std.proofs.Common.{subst, Option}
 use Rattle.std.specs.List.{All, Contains}
 use Rattle.std.proofs.lemmas.List.Elements.{All-contains, Contains-get_or}
@@ -11,7 +12,6 @@ use Rattle.xa_words.specs.Tran.{TranName, tran_of}
 use Rattle.xa_words.specs.declared.code.Code.{Code}
 use Rattle.xa_words.specs.declared.request.Op.{Op}
 use Rattle.xa_words.specs.declared.request.Op.TheVariants.{OpenRm, Start, End, Prepare, Commit, Rollback, Forget, Heur}
-use Rattle.xa_words.specs.declared.request.Request.{Request}
 use Rattle.xa_tables.specs.History.{History, of_thread}
 use Rattle.xa_tables.specs.Prepared.{names}
 use Rattle.xa_desk.specs.LedgerView.{LedgerView}
@@ -29,7 +29,6 @@ use Rattle.xa_driver.specs.Resolving.{AsksLedger, outcome_op}
 use Rattle.xa_driver.specs.Course.{AtBranch}
 use Rattle.xa_driver.proofs.Mapped.{Asks}
 use Rattle.xa_atomicity.proofs.Placing.{Parted, request_of, part, numbered_both}
-use Rattle.xa_atomicity.proofs.Requests.{own_between, IsFromTo}
 use Rattle.xa_atomicity.proofs.Resolves.{Sends, resolve_sends}
 use Rattle.xa_atomicity.proofs.Settled.{by_ledger}
 
@@ -50,17 +49,8 @@ module _ (s : Settling) (settled : IsSettled s) (m : ℕ) (up : IsUpTo MOST_MANA
   resolve_passes : (P : Op → Type 0) (q : ResolveCall) → IsUseIn s (resolves q) → P OpenRm → ((o : Outcome) → Contains q.outcomes o → Asks P q.records m o)
       → Passes P (resolves q)
   resolve_passes P q use_ opens asks =
-      let t : ℕ = q.thread in
-      let old : LedgerView = ledger q.old m in
-      let new : LedgerView = ledger q.new m in
-      let z : Sends P old new = resolve_sends q.scan q.records q.old q.new q.outcomes use_.made P m up opens asks in
-      let grown : HasGrown new (ledger (ledgers_of s t) m) = use_.grown.each m up.0 in
-      let all_sent : sent s t m ≡ old.sent ++ (z.more ++ grown.sent.0) =
-      sent_is s m up.0 t ∙ grown.sent.1 ∙ ap (λ l. l ++ grown.sent.0) z.sent ∙ append_assoc old.sent z.more grown.sent.0 in
-      let size : length new.sent ≡ length old.sent + length z.more = ap (λ l. length l) z.sent ∙ length-append old.sent z.more in
-      let each : All (λ (r : Request). r.thread ≡ t → IsFromTo P (length old.sent) (length old.sent + length z.more) r.number r.op) H =
-      own_between t P H old.sent z.more grown.sent.0 ((settled.agree t m).carried ∙ ap (numbered t 0) all_sent) z.all in
-      λ k d lt has. each k d lt has.thread has.from (subst (λ n. (get_or H k d).number < n) size has.below)
+      let z : Sends P (ledger q.old m) (ledger q.new m) = resolve_sends q.scan q.records q.old q.new q.outcomes use_.made P m up opens asks in
+      λ k d lt has. sent_between s settled q.thread m up.0 P (ledger q.old m) (ledger q.new m) z.more z.sent z.all (use_.grown.each m up.0) k d lt has.thread has.from has.below
 
   use_passes : (P : Op → Type 0) → P OpenRm → (u : Use) → IsUseIn s u
       → ((q : ResolveCall) → u ≡ resolves q → (o : Outcome) → Contains q.outcomes o → Asks P q.records m o) → Passes P u

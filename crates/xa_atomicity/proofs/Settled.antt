@@ -1,4 +1,7 @@
 -- What the branches of a call came to in a settled opening.
+use Rattle.xa_atomicity.proofs.Requests.{IsFromTo, own_between}
+use Rattle.xa_desk.specs.Lanes.{numbered}
+use Rattle.std.proofs.Common.{length-append, ◌+◌}
 use Rattle.xa_atomicity.proofs.Sites.{StandsIn, stands_by, Site}
 use Rattle.xa_words.specs.declared.request.Op.{Op}
 use Rattle.std.proofs.lemmas.List.Elements.{All-contains, All-head, All-tail}
@@ -63,6 +66,17 @@ by_ledger at m f positive none =
 
 pub sent_on : (s : Settling) (t m : ℕ) → 1 ≤ m → (a : LedgerView) → HasGrown a (ledger (ledgers_of s t) m) → Begins a.sent (sent s t m)
 sent_on s t m positive a grown = subst (Begins a.sent) (sym (by_ledger (ledgers_of s t) m (λ (l : LedgerView). l.sent) positive refl)) grown.sent
+
+-- what was sent between two of a desk's lists stands in the history with the numbers between them
+pub sent_between : (s : Settling) → IsSettled s → (t m : ℕ) → 1 ≤ m → (P : Op → Type 0) (a a' : LedgerView) (more : List Op) → a'.sent ≡ a.sent ++ more
+    → All P more
+    → HasGrown a' (ledger (ledgers_of s t) m) → All (λ r. r.thread ≡ t → IsFromTo P (length a.sent) (length a'.sent) r.number r.op) (history_of s m)
+sent_between s settled t m positive P a a' more is all grown =
+    let rest = sent_on s t m positive a' grown in
+    let ops : sent s t m ≡ a.sent ++ (more ++ rest.0) = rest.1 ∙ ap (λ l. l ++ rest.0) is ∙ append_assoc a.sent more rest.0 in
+    let size : length a.sent + length more ≡ length a'.sent = sym (length-append a.sent more) ∙ sym (ap (λ l. length l) is) in
+    subst (λ k. All (λ r. r.thread ≡ t → IsFromTo P (length a.sent) k r.number r.op) (history_of s m)) size
+    (own_between t P (history_of s m) a.sent more rest.0 ((settled.agree t m).carried ∙ ap (numbered t 0) ops) all)
 
 pub collected_on : (s : Settling) (t m : ℕ) → 1 ≤ m → (a : LedgerView) → HasGrown a (ledger (ledgers_of s t) m) → Begins a.collected (collected s t m)
 collected_on s t m positive a grown =

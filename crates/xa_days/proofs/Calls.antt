@@ -1,14 +1,15 @@
 -- What a commit and a resolve sent, as the histories have it.
+use Rattle.xa_atomicity.proofs.Settled.{sent_between}
 use Rattle.xa_atomicity.proofs.CutVotes.{CameAt, each_came, at_asking, at_forgetting, at_telling, HasVoted}
-use Rattle.xa_atomicity.proofs.Requests.{none_all, own_between}
+use Rattle.xa_atomicity.proofs.Requests.{none_all}
 use Rattle.xa_atomicity.proofs.Values.{taken}
 use Rattle.xa_atomicity.proofs.Settled.{sent_on, sent_stands, site_of}
 use Rattle.xa_atomicity.proofs.Sites.{Site}
 use Rattle.xa_atomicity.specs.Tabled.{Tabled}
 use Rattle.std.proofs.lemmas.Bool.{both_ways, false_from_ne_true}
 use Rattle.std.specs.Prelude.{not}
-use Rattle.std.proofs.Common.{◌≡◌, ℕ, ◌+◌, ◌<◌, ◌≤◌, Bool, true, false, Some, List, [], ◌∷◌, ◌++◌, length, get_or, slice_get, sym, refl, ap, ◌∙◌, subst, arith}
-use Rattle.std.proofs.Common.{append_assoc, length-append, ◌&&◌}
+use Rattle.std.proofs.Common.{◌≡◌, ℕ, ◌≤◌, Bool, true, false, Some, List, [], ◌∷◌, length, get_or, slice_get, sym, refl, ap, ◌∙◌, subst, arith}
+use Rattle.std.proofs.Common.{◌&&◌}
 use Rattle.std.specs.List.{All, Contains}
 use Rattle.std.proofs.lemmas.List.Elements.{All-nil, All-cons, All-contains}
 use Rattle.xa_base.specs.declared.limits.TheConstants.{MOST_MANAGERS}
@@ -25,12 +26,11 @@ use Rattle.xa_words.specs.declared.request.Request.{Request}
 use Rattle.xa_tables.specs.Tables.{Tables}
 use Rattle.xa_tables.specs.History.{History}
 use Rattle.xa_tables.specs.Prepared.{names, is_heur}
-use Rattle.xa_desk.specs.Lanes.{numbered}
 use Rattle.xa_desk.specs.LedgerView.{LedgerView}
 use Rattle.xa_desk.specs.DeskView.{ledger}
 use Rattle.xa_desk.specs.Growth.{HasGrown}
 use Rattle.xa_switch.specs.Fates.{IsOpenedWith, first_of, history as history_of, ledgers_of}
-use Rattle.xa_switch.specs.Settling.{Settling, IsSettled, sent}
+use Rattle.xa_switch.specs.Settling.{Settling, IsSettled}
 use Rattle.xa_switch.proofs.Journaled.{follows_first}
 use Rattle.xa_log.specs.Log.{LogState}
 use Rattle.xa_driver.specs.declared.branch.Branch.{Branch}
@@ -45,7 +45,7 @@ use Rattle.xa_atomicity.specs.Resolution.{CutCall, IsKept, IsUseIn, OnlyResolves
 use Rattle.xa_atomicity.proofs.CutBranch.{HasSentOnly, asked_only, ended_voted_so, guide, open_so, told_voted_so, voted_only}
 use Rattle.xa_atomicity.proofs.CutSends.{unrecorded_law}
 use Rattle.xa_atomicity.proofs.Leading.{IsTowards, Leads}
-use Rattle.xa_atomicity.proofs.Naming.{named_so, named_tran, sent_is}
+use Rattle.xa_atomicity.proofs.Naming.{named_so, named_tran}
 use Rattle.xa_atomicity.proofs.Placing.{request_of}
 use Rattle.xa_days.specs.Openings.{CommitsNowhere}
 use Rattle.xa_days.specs.Course.{OnlyTold, tells_outcome}
@@ -186,18 +186,12 @@ pub unsent_law : (s : Settling) (k : CutCall) (b : Branch) → IsSettled s → I
 unsent_law s k b settled use_ positive z within j d lt named =
     let old : LedgerView = ledger k.desk.ledgers b.m in
     let new : LedgerView = ledger k.new b.m in
-    let grown : HasGrown new (ledger (ledgers_of s k.thread) b.m) = use_.grown.each b.m positive in
-    let P : Op → Type 0 = λ op. is_commit_of b.xid op ≡ false in
-    let ops : sent s k.thread b.m ≡ old.sent ++ (z.more ++ grown.sent.0) =
-    sent_is s b.m positive k.thread ∙ grown.sent.1 ∙ ap (λ l. l ++ grown.sent.0) z.sent ∙ append_assoc old.sent z.more grown.sent.0 in
-    let size : length new.sent ≡ length old.sent + length z.more = ap (λ l. length l) z.sent ∙ length-append old.sent z.more in
     let each =
-    own_between k.thread P (history_of s b.m) old.sent z.more grown.sent.0 ((settled.agree k.thread b.m).carried ∙ ap (numbered k.thread 0) ops)
-    (none_all (is_commit_of b.xid) z.more z.none) in
+    sent_between s settled k.thread b.m positive (λ op. is_commit_of b.xid op ≡ false) old new z.more z.sent (none_all (is_commit_of b.xid) z.more z.none) (use_.grown.each b.m positive) in
     let r : Request = get_or (history_of s b.m) j d in
     false_from_ne_true (is_commit r.op) (λ on.
     let w = within j d lt named on in
-    both_ways (is_commit_of b.xid r.op) (each j d lt w.thread w.from (subst (λ n. r.number < n) size w.below)) (λ i. named i && on i))
+    both_ways (is_commit_of b.xid r.op) (each j d lt w.thread w.from w.below) (λ i. named i && on i))
 
 pub unrecorded_nowhere : (s : Settling) (k : CutCall) (b : Branch) (t : TranName) → IsSettled s → IsUseIn s (cuts k) → Contains k.branches b
     → IsTranOf k.branches t → is_recorded k.later t ≡ false → CommitsInCall k s b → CommitsNowhere b.xid (history_of s b.m)
