@@ -186,7 +186,7 @@ second_round_sends bs start mid log later p d js at now first absent second same
     logs : Logs p.tran (yes_asked p.round.asks.items) (map code_of p.round.asks.items) d.known.logged log later
     logs = subst (λ (vs : List Code). Logs p.tran (yes_asked p.round.asks.items) vs d.known.logged log later) first.votes second.logs
 
-    -- nothing that is bad, where no second request of a vote that is so is
+    -- it sends nothing bad, where no second request of such votes is bad
     goes : (bad : Op → Bool) (Ok : Bool → Code → Type 0)
         → ((commit : Bool) (x : XidName) (v : Code) → Ok commit v → (P : Op → Type 0) → ((op : Op) → bad op ≡ false → P op) → IsAskedFor P (second_op commit x v))
         → All (Ok d.known.commit) (map code_of p.round.asks.items) → (m : ℕ) → 1 ≤ m → Sends (λ op. bad op ≡ false) (ledger at m) (ledger now m)

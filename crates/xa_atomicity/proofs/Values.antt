@@ -67,7 +67,7 @@ forgotten x [] T n = refl
 forgotten x (r ∷ h) T n =
     none_first x r h T (forgets_fate x r.op _ (n 0 r (omega arith))) (forgotten x h (next r.thread r.op T).0 (λ k d lt. n (suc k) d (omega arith)))
 
--- and none name it nowhere
+-- nor does one that nowhere names it
 unnamed : (x : XidName) (h : History) (T : Tables) → NamesNowhere x h → fates x h T ≡ []
 unnamed x h T n = forgotten x h T (λ k d lt named. absurd (both_ways (names x (get_or h k d).op) (n k d lt) named))
 

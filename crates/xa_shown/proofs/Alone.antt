@@ -44,7 +44,7 @@ all_unfiltered {A} p P (x ∷ xs) h =
 
 -- ---- the numbers of a thread's requests rise
 
--- of the first they are below how many these are
+-- the numbers of the first are below how many these are
 lower : (t n : ℕ) (ops : List Op) (xs ys : History) (last : ℕ) → numbered t n ops ≡ xs ++ ys → n + length xs ≡ last → All (λ (q : Request). q.number < last) xs
 lower t n ops [] ys last e many = All-nil (λ (q : Request). q.number < last)
 lower t n [] (x ∷ xs) ys last e many = absurd (cc)
