@@ -13,8 +13,8 @@ use Rattle.std.specs.FinMap as finmap
 use Rattle.std.specs.FinMap.{FinMap, IsAntisymmetric, find, from_entries, get-from_entries}
 use Rattle.xa_words.specs.Xid.{XidName, xid_cmp, xid_eq}
 use Rattle.std.proofs.lemmas.Int.{ints}
-use Rattle.std.proofs.lemmas.List.Elements.{All-map}
-use Rattle.std.proofs.lemmas.List.{length-map, get_or-set_other, length-set, take_all, drop_all, append-nil}
+use Rattle.std.proofs.lemmas.List.Elements.{All-map, All-head, All-tail}
+use Rattle.std.proofs.lemmas.List.{length-map, get_or_default, get_or-set_other, length-set, take_all, drop_all, append-nil}
 use Rattle.std.proofs.lemmas.Grind.{get_or-set_at}
 use Rattle.std.proofs.Math.Bool.{and-false}
 use Rattle.std.proofs.lemmas.Bool.{eqb-true, eq-eqb, false_from_ne_true, not-false, and_parts}
@@ -23,15 +23,17 @@ use Rattle.std.specs.Int.Signed.{le_z_yes}
 use Rattle.xa_words.specs.Delta.{IsDelta}
 use Rattle.std.proofs.lemmas.List.Folds.{list_any_at}
 use Rattle.std.proofs.Math.IntN.{+ℤ_idr as plus_none}
-use Rattle.xa_base.proofs.Truth.{is_equal}
+use Rattle.xa_base.proofs.Truth.{by_bool, is_equal}
 use Rattle.xa_words.specs.Key.{key_eq}
-use Rattle.xa_words.specs.Orders.{key_cmp, key_cmp_total, key_cmp-IsAntisymmetric, xid_cmp_total, xid_cmp-IsAntisymmetric, Decides-xid_eq, Decides-key_eq}
+use Rattle.xa_words.specs.Orders.{key_cmp, key_cmp_total, key_cmp-IsAntisymmetric, xid_cmp_total, xid_cmp-IsAntisymmetric, xid_eq-by_cmp, Decides-xid_eq}
+use Rattle.xa_words.specs.Orders.{Decides-key_eq}
 use Rattle.xa_tables.specs.declared.accounts.Account.{Account}
 use Rattle.xa_tables.specs.declared.accounts.Hold.{Hold}
 use Rattle.xa_tables.specs.Tables.{Touch, touch_cmp, is_within, value_of, sum_of, has_touched, has_other_touched, is_broken, posted}
 use Rattle.xa_tables.specs.Accounts.{IsSmall, IsGood, with_hold, hold_entries, value_entries, AreDistinct, AreDistinctEntries, hold_is_of, is_held_by}
 use Rattle.xa_tables.specs.Accounts.{hold_is_other, hold_breaks, is_broken_by, amount_in, added_to, hold_where, hold_without, kept_where, all_but, amount_of}
 use Rattle.xa_tables.specs.Accounts.{posted_by}
+use Rattle.xa_tables.proofs.SoundLemmas.{swap_xid}
 use Rattle.xa_base.proofs.FinMaps.{put_one, retain_some, map_some, any_entries, Distinct}
 
 -- touches are ordered, and no two are tied
@@ -68,8 +70,14 @@ touch_from p q t = touch_cmp-IsAntisymmetric p q (is_equal _ t)
 pub touch_self : (p : Touch) → same_touch p p ≡ true
 touch_self p = ap is_eq (tied_itself touch_cmp_total p)
 
-touch_apart : (p q : Touch) → (p.1 ≡ q.1 → ⊥) → same_touch p q ≡ false
-touch_apart p q h = false_from_ne_true _ (λ t. h (ap (λ (r : Touch). r.1) (touch_from p q t)))
+-- touches are one if their branches and their keys are
+then_is : (a b : Ordering) → is_eq (ordering_then a b) ≡ (is_eq a && is_eq b)
+then_is Less b = refl
+then_is Equal b = refl
+then_is Greater b = refl
+
+touch_same : (x y : XidName) (k l : List ℕ) → same_touch (x, k) (y, l) ≡ (xid_eq y x && same_key k l)
+touch_same x y k l = then_is (xid_cmp x y) (key_cmp k l) ∙ ap (λ b. b && same_key k l) (sym (xid_eq-by_cmp x y) ∙ swap_xid x y)
 
 pub key_apart : (k l : List ℕ) → (k ≡ l → ⊥) → same_key k l ≡ false
 key_apart k l h = false_from_ne_true _ (λ t. h (key_from k l t))
@@ -78,23 +86,74 @@ key_apart k l h = false_from_ne_true _ (λ t. h (key_from k l t))
 abbrev pub Lacks : List ℕ → List Account → Type 0
 Lacks k accounts = find key_cmp k (value_entries accounts) ≡ None
 
--- neither the first account has the key, nor one of the rest
-pub lacks_split : (k : List ℕ) (a : Account) (rest : List Account) → Lacks k (a ∷ rest) → (k ≡ a.key → ⊥) × Lacks k rest
-lacks_split k a rest h =
-    elim (same_key k a.key) as (λ b. same_key k a.key ≡ b → cond b (Some a.value) (find key_cmp k (value_entries rest)) ≡ None → (k ≡ a.key → ⊥) × Lacks k rest) [
-      | true ↦ λ t e. absurd (cc)
-      | false ↦ λ t e. (λ same. let y = ap (same_key k) same ∙ t in let z = key_self k in cc, e)
-    ] refl h
+-- the account of a key
+abbrev at_key : List ℕ → List Account → Option Account
+at_key k [] = None
+at_key k (a ∷ rest) = cond (same_key k a.key) (Some a) (at_key k rest)
 
-lacks_hold : (x : XidName) (k : List ℕ) (accounts : List Account) → Lacks k accounts → find touch_cmp (x, k) (hold_entries accounts) ≡ None
-lacks_hold x k [] h = refl
-lacks_hold x k (a ∷ rest) h =
-    let d = lacks_split k a rest h in
-    let later = lacks_hold x k rest d.1 in
-    elim (a.hold) as (λ o. find touch_cmp (x, k) (with_hold a.key o (hold_entries rest)) ≡ None) [
-      | None ↦ later
-      | Some l ↦ ap (λ b. cond b (Some l.amount) (find touch_cmp (x, k) (hold_entries rest))) (touch_apart (x, k) (l.xid, a.key) d.0) ∙ later
-    ]
+-- its value is found
+pub value_found : (k : List ℕ) (accounts : List Account) → find key_cmp k (value_entries accounts) ≡ option_map (λ (a : Account). a.value) (at_key k accounts)
+value_found k [] = refl
+value_found k (a ∷ rest) =
+    by_bool (λ b. cond b (Some a.value) (find key_cmp k (value_entries rest)) ≡ option_map (λ (c : Account). c.value) (cond b (Some a) (at_key k rest))) (same_key k a.key)
+    (λ _. refl) (λ _. value_found k rest)
+
+lacks_key : (k : List ℕ) (accounts : List Account) → Lacks k accounts → at_key k accounts ≡ None
+lacks_key k accounts h = none_mapped (at_key k accounts) (sym (value_found k accounts) ∙ h)
+  where
+    none_mapped : (o : Option Account) → option_map (λ (a : Account). a.value) o ≡ None → o ≡ None
+    none_mapped None e = refl
+    none_mapped (Some a) e = cc
+
+key_lacks : (k : List ℕ) (accounts : List Account) → at_key k accounts ≡ None → Lacks k accounts
+key_lacks k accounts e = value_found k accounts ∙ ap (option_map (λ (a : Account). a.value)) e
+
+-- each account is that of its key
+pub at_own_key : (accounts : List Account) (i : ℕ) (a : Account) → AreDistinct accounts → i < length accounts → a ≡ get_or accounts i a
+    → at_key a.key accounts ≡ Some a
+at_own_key [] i a dist h e = absurd (omega arith)
+at_own_key (c ∷ rest) zero a dist h e =
+    ap (λ b. cond b (Some c) (at_key a.key rest)) (ap (λ (w : Account). same_key w.key c.key) e ∙ key_self c.key) ∙ ap (λ (w : Account). Some w) (sym e)
+at_own_key (c ∷ rest) (suc i) a dist h e =
+    let later = at_own_key rest i a dist.1 (omega arith) e in
+    ap (λ b. cond b (Some c) (at_key a.key rest)) (key_apart a.key c.key (λ is. let none = ap (λ k. at_key k rest) is ∙ lacks_key c.key rest dist.0 in cc))
+    ∙ later
+
+-- what x holds by an account
+abbrev hold_amount : XidName → Option Hold → Option ℤ
+hold_amount x None = None
+hold_amount x (Some l) = if xid_eq l.xid x then Some l.amount else None
+
+abbrev amount_held : XidName → Option Account → Option ℤ
+amount_held x None = None
+amount_held x (Some a) = hold_amount x a.hold
+
+-- what x holds of a key is what it holds by the key's account
+hold_found : (accounts : List Account) → AreDistinct accounts → (x : XidName) (k : List ℕ)
+    → find touch_cmp (x, k) (hold_entries accounts) ≡ amount_held x (at_key k accounts)
+hold_found [] h x k = refl
+hold_found (a ∷ rest) h x k =
+    let later = hold_found rest h.1 x k in
+    by_bool (λ b. same_key k a.key ≡ b → find touch_cmp (x, k) (with_hold a.key a.hold (hold_entries rest)) ≡ amount_held x (cond b (Some a) (at_key k rest))) (same_key k a.key)
+    (λ _ t. first a.hold t (later ∙ ap (amount_held x) (ap (λ q. at_key q rest) (key_from k a.key t) ∙ lacks_key a.key rest h.0)))
+    (λ _ t. others a.hold t ∙ later) refl
+  where
+    first : (o : Option Hold) → same_key k a.key ≡ true → find touch_cmp (x, k) (hold_entries rest) ≡ None
+        → find touch_cmp (x, k) (with_hold a.key o (hold_entries rest)) ≡ hold_amount x o
+    first None t none = none
+    first (Some l) t none =
+        (λ i. cond (touch_same x l.xid k a.key i) (Some l.amount) (none i)) ∙ ap (λ b. cond (xid_eq l.xid x && b) (Some l.amount) None) t
+        ∙ by_bool (λ b. cond (b && true) (Some l.amount) None ≡ (if b then Some l.amount else None)) (xid_eq l.xid x) (λ _. refl) (λ _. refl)
+
+    others : (o : Option Hold) → same_key k a.key ≡ false
+        → find touch_cmp (x, k) (with_hold a.key o (hold_entries rest)) ≡ find touch_cmp (x, k) (hold_entries rest)
+    others None t = refl
+    others (Some l) t =
+        ap (λ b. cond b (Some l.amount) (find touch_cmp (x, k) (hold_entries rest))) (touch_same x l.xid k a.key ∙ ap (λ b. xid_eq l.xid x && b) t ∙ and-false _)
+
+sum_is : (accounts : List Account) → AreDistinct accounts → (x : XidName) (k : List ℕ)
+    → sum_of (from_entries (hold_entries accounts)) x k ≡ unwrap_or (amount_held x (at_key k accounts)) (pos 0)
+sum_is accounts h x k = ap (λ o. unwrap_or o (pos 0)) (get-from_entries touch_cmp_total (hold_entries accounts) (x, k) ∙ hold_found accounts h x k)
 
 -- accounts with keys of their own make entries with keys of their own
 pub distinct_holds : (accounts : List Account) → AreDistinct accounts → Distinct touch_cmp_total touch_cmp-IsAntisymmetric (hold_entries accounts)
@@ -102,19 +161,21 @@ distinct_holds [] h = tt
 distinct_holds (a ∷ rest) h =
     elim (a.hold) as (λ o. Distinct touch_cmp_total touch_cmp-IsAntisymmetric (with_hold a.key o (hold_entries rest))) [
       | None ↦ distinct_holds rest h.1
-      | Some l ↦ (lacks_hold l.xid a.key rest h.0, distinct_holds rest h.1)
+      | Some l ↦ (hold_found rest h.1 l.xid a.key ∙ ap (amount_held l.xid) (lacks_key a.key rest h.0), distinct_holds rest h.1)
     ]
 
 -- tests of the holds, account by account
-any_hold : (p : Touch → ℤ → Bool) (q : Account → Bool) → ((a : Account) → q a ≡ elim (a.hold) [ None ↦ false | Some l ↦ p (l.xid, a.key) l.amount ])
-    → (accounts : List Account)
+any_hold : (p : Touch → ℤ → Bool) (q : Account → Bool) (accounts : List Account)
+    → All (λ a. q a ≡ elim (a.hold) [ None ↦ false | Some l ↦ p (l.xid, a.key) l.amount ]) accounts
     → list_any (λ (e : Touch × ℤ). p e.0 e.1) (hold_entries accounts) ≡ list_any q accounts
-any_hold p q is [] = refl
-any_hold p q is (a ∷ rest) =
+any_hold p q [] is = refl
+any_hold p q (a ∷ rest) is =
+    let Q : Account → Type 0 = λ c. q c ≡ elim (c.hold) [ None ↦ false | Some l ↦ p (l.xid, c.key) l.amount ] in
+    let later = any_hold p q rest (All-tail Q a rest is) in
     (elim (a.hold) as (λ o. list_any (λ (e : Touch × ℤ). p e.0 e.1) (with_hold a.key o (hold_entries rest)) ≡ (elim o [ None ↦ false | Some l ↦ p (l.xid, a.key) l.amount ] || list_any q rest)) [
-      | None ↦ any_hold p q is rest
-      | Some l ↦ ap (λ b. p (l.xid, a.key) l.amount || b) (any_hold p q is rest)
-    ]) ∙ ap (λ b. b || list_any q rest) (sym (is a))
+      | None ↦ later
+      | Some l ↦ ap (λ b. p (l.xid, a.key) l.amount || b) later
+    ]) ∙ ap (λ b. b || list_any q rest) (sym (All-head Q a rest is))
 
 hold_of_cases : (x : XidName) (a : Account) → is_held_by a x ≡ elim (a.hold) [ None ↦ false | Some l ↦ xid_eq l.xid x ]
 hold_of_cases x a = elim (a.hold) as (λ o. hold_is_of o x ≡ elim o [ None ↦ false | Some l ↦ xid_eq l.xid x ]) [ None ↦ refl | Some l ↦ refl ]
@@ -124,7 +185,7 @@ pub touched_any : (accounts : List Account) (x : XidName) → AreDistinct accoun
     → has_touched (from_entries (hold_entries accounts)) x ≡ list_any (λ a. is_held_by a x) accounts
 touched_any accounts x h =
     any_entries touch_cmp_total touch_cmp-IsAntisymmetric (λ p s. xid_eq p.0 x) (hold_entries accounts) (distinct_holds accounts h)
-    ∙ any_hold (λ p s. xid_eq p.0 x) (λ a. is_held_by a x) (hold_of_cases x) accounts
+    ∙ any_hold (λ p s. xid_eq p.0 x) (λ a. is_held_by a x) accounts (λ i d within. hold_of_cases x (get_or accounts i d))
 
 -- another branch than x has touched the key k here
 abbrev pub is_other : Account → XidName → List ℕ → Bool
@@ -139,34 +200,14 @@ pub other_any : (accounts : List Account) (x : XidName) (k : List ℕ) → AreDi
     → has_other_touched (from_entries (hold_entries accounts)) x k ≡ list_any (λ a. is_other a x k) accounts
 other_any accounts x k h =
     any_entries touch_cmp_total touch_cmp-IsAntisymmetric (λ p s. key_eq p.1 k && not (xid_eq p.0 x)) (hold_entries accounts) (distinct_holds accounts h)
-    ∙ any_hold (λ p s. key_eq p.1 k && not (xid_eq p.0 x)) (λ a. is_other a x k) (other_cases x k) accounts
+    ∙ any_hold (λ p s. key_eq p.1 k && not (xid_eq p.0 x)) (λ a. is_other a x k) accounts (λ i d within. other_cases x k (get_or accounts i d))
 
--- the entries have each account's value
-abbrev Values : List (List ℕ × ℤ) → List Account → Type 0
-Values es [] = Unit {0}
-Values es (a ∷ rest) = (find key_cmp a.key es ≡ Some a.value) × Values es rest
-
-values_more : (e : List ℕ × ℤ) (es : List (List ℕ × ℤ)) (accounts : List Account) → Lacks e.0 accounts → Values es accounts → Values (e ∷ es) accounts
-values_more e es [] h v = tt
-values_more e es (a ∷ rest) h v =
-    let d = lacks_split e.0 a rest h in
-    (ap (λ b. cond b (Some e.1) (find key_cmp a.key es)) (key_apart a.key e.0 (λ t. d.0 (sym t))) ∙ v.0, values_more e es rest d.1 v.1)
-
-values_all : (accounts : List Account) → AreDistinct accounts → Values (value_entries accounts) accounts
-values_all [] h = tt
-values_all (a ∷ rest) h =
-    (ap (λ b. cond b (Some a.value) (find key_cmp a.key (value_entries rest))) (key_self a.key), values_more (a.key, a.value) (value_entries rest) rest h.0 (values_all rest h.1))
-
-broken_each : (values : FinMap key_cmp ℤ) (x : XidName) (es : List (List ℕ × ℤ)) → ((k : List ℕ) → finmap.get values k ≡ find key_cmp k es)
-    → (accounts : List Account) → Values es accounts
-    → list_any (λ (e : Touch × ℤ). xid_eq e.0.0 x && not (is_within (value_of values e.0.1 +ℤ e.1))) (hold_entries accounts) ≡ list_any (λ a. is_broken_by a x) accounts
-broken_each values x es gets [] v = refl
-broken_each values x es gets (a ∷ rest) v =
-    let later = broken_each values x es gets rest v.1 in
-    let is : value_of values a.key ≡ a.value = ap (λ o. unwrap_or o (pos 0)) (gets a.key ∙ v.0) in
-    elim (a.hold) as (λ o. list_any (λ (e : Touch × ℤ). xid_eq e.0.0 x && not (is_within (value_of values e.0.1 +ℤ e.1))) (with_hold a.key o (hold_entries rest)) ≡ (hold_breaks a.value o x || list_any (λ b. is_broken_by b x) rest)) [
-      | None ↦ later
-      | Some l ↦ λ i. (xid_eq l.xid x && not (is_within (is i +ℤ l.amount))) || later i
+broken_cases : (values : FinMap key_cmp ℤ) (x : XidName) (a : Account) → value_of values a.key ≡ a.value
+    → is_broken_by a x ≡ elim (a.hold) [ None ↦ false | Some l ↦ xid_eq l.xid x && not (is_within (value_of values a.key +ℤ l.amount)) ]
+broken_cases values x a is =
+    elim (a.hold) as (λ o. hold_breaks a.value o x ≡ elim o [ None ↦ false | Some l ↦ xid_eq l.xid x && not (is_within (value_of values a.key +ℤ l.amount)) ]) [
+      | None ↦ refl
+      | Some l ↦ ap (λ v. xid_eq l.xid x && not (is_within (v +ℤ l.amount))) (sym is)
     ]
 
 -- x takes a value out of the limits if it does so at an account
@@ -174,8 +215,12 @@ pub broken_any : (accounts : List Account) (x : XidName) → AreDistinct account
     → is_broken (from_entries (value_entries accounts)) (from_entries (hold_entries accounts)) x ≡ list_any (λ a. is_broken_by a x) accounts
 broken_any accounts x h =
     let values : FinMap key_cmp ℤ = from_entries (value_entries accounts) in
-    any_entries touch_cmp_total touch_cmp-IsAntisymmetric (λ p s. xid_eq p.0 x && not (is_within (value_of values p.1 +ℤ s))) (hold_entries accounts) (distinct_holds accounts h)
-    ∙ broken_each values x (value_entries accounts) (λ k. get-from_entries key_cmp_total (value_entries accounts) k) accounts (values_all accounts h)
+    let p : Touch → ℤ → Bool = λ p s. xid_eq p.0 x && not (is_within (value_of values p.1 +ℤ s)) in
+    any_entries touch_cmp_total touch_cmp-IsAntisymmetric p (hold_entries accounts) (distinct_holds accounts h)
+    ∙ any_hold p (λ a. is_broken_by a x) accounts (λ i d within.
+    let a : Account = get_or accounts i d in
+    broken_cases values x a (ap (λ o. unwrap_or o (pos 0)) (get-from_entries key_cmp_total (value_entries accounts) a.key ∙ value_found a.key accounts
+    ∙ ap (option_map (λ (c : Account). c.value)) (at_own_key accounts i a h within (get_or_default accounts i d a within)))))
 
 -- ---- some branches let go of their keys
 
@@ -190,33 +235,38 @@ posted_goes x = record { key = λ a. refl; hold = λ a. refl }
 pub kept_goes : (keep : XidName → Bool) → LetsGo keep (kept_where keep)
 kept_goes keep = record { key = λ a. refl; hold = λ a. refl }
 
-kept_hold : (keep : XidName → Bool) (p : Touch) (k : List ℕ) (l : Hold) (fs es : List (Touch × ℤ))
-    → find touch_cmp p fs ≡ cond (keep p.0) (find touch_cmp p es) None
-    → find touch_cmp p (with_hold k (if keep l.xid then Some l else None) fs) ≡ cond (keep p.0) (cond (same_touch p (l.xid, k)) (Some l.amount) (find touch_cmp p es)) None
-kept_hold keep p k l fs es later =
-    elim (same_touch p (l.xid, k)) as (λ t. same_touch p (l.xid, k) ≡ t → find touch_cmp p (with_hold k (if keep l.xid then Some l else None) fs) ≡ cond (keep p.0) (cond t (Some l.amount) (find touch_cmp p es)) None) [
-      | true ↦ λ t.
-          let same : keep p.0 ≡ keep l.xid = ap (λ (r : Touch). keep r.0) (touch_from p (l.xid, k) t) in
-          elim (keep l.xid) as (λ b. keep l.xid ≡ b → find touch_cmp p (with_hold k (if b then Some l else None) fs) ≡ cond (keep p.0) (Some l.amount) None) [
-            | true ↦ λ y. ap (λ b. cond b (Some l.amount) (find touch_cmp p fs)) t ∙ sym (ap (λ b. cond b (Some l.amount) None) (same ∙ y))
-            | false ↦ λ y. later ∙ ap (λ b. cond b (find touch_cmp p es) None) (same ∙ y) ∙ sym (ap (λ b. cond b (Some l.amount) None) (same ∙ y))
-          ] refl
-      | false ↦ λ t. elim (keep l.xid) as (λ b. find touch_cmp p (with_hold k (if b then Some l else None) fs) ≡ cond (keep p.0) (find touch_cmp p es) None) [
-        | true ↦ ap (λ b. cond b (Some l.amount) (find touch_cmp p fs)) t ∙ later
-        | false ↦ later
-      ]
-    ] refl
+-- the account of a key, once each was changed by f, which leaves the keys
+at_key_map : (f : Account → Account) → ((a : Account) → (f a).key ≡ a.key) → (k : List ℕ) (accounts : List Account)
+    → at_key k (map f accounts) ≡ option_map f (at_key k accounts)
+at_key_map f keys k [] = refl
+at_key_map f keys k (a ∷ rest) =
+    (λ i. cond (same_key k (keys a i)) (Some (f a)) (at_key_map f keys k rest i))
+    ∙ by_bool (λ b. cond b (Some (f a)) (option_map f (at_key k rest)) ≡ option_map f (cond b (Some a) (at_key k rest))) (same_key k a.key) (λ _. refl) (λ _. refl)
 
-kept_holds : (keep : XidName → Bool) (f : Account → Account) → LetsGo keep f → (accounts : List Account) (p : Touch)
-    → find touch_cmp p (hold_entries (map f accounts)) ≡ cond (keep p.0) (find touch_cmp p (hold_entries accounts)) None
-kept_holds keep f g [] p = elim (keep p.0) as (λ b. ◌≡◌ {A = Option ℤ} None (cond b None None)) [ true ↦ refl | false ↦ refl ]
-kept_holds keep f g (a ∷ rest) p =
-    let later = kept_holds keep f g rest p in
-    (λ i. find touch_cmp p (with_hold (g.key a i) (g.hold a i) (hold_entries (map f rest))))
-    ∙ elim (a.hold) as (λ o. find touch_cmp p (with_hold a.key (hold_where keep o) (hold_entries (map f rest))) ≡ cond (keep p.0) (find touch_cmp p (with_hold a.key o (hold_entries rest))) None) [
-      | None ↦ later
-      | Some l ↦ kept_hold keep p a.key l (hold_entries (map f rest)) (hold_entries rest) later
-    ]
+-- so the keys stay apart
+pub distinct_changed : (f : Account → Account) → ((a : Account) → (f a).key ≡ a.key) → (accounts : List Account) → AreDistinct accounts
+    → AreDistinct (map f accounts)
+distinct_changed f keys [] h = tt
+distinct_changed f keys (a ∷ rest) h = (
+  key_lacks (f a).key (map f rest) (ap (λ k. at_key k (map f rest)) (keys a) ∙ at_key_map f keys a.key rest ∙ ap (option_map f) (lacks_key a.key rest h.0)),
+  distinct_changed f keys rest h.1,
+)
+
+cond_none : (b : Bool) → ◌≡◌ {A = Option ℤ} (cond b None None) None
+cond_none true = refl
+cond_none false = refl
+
+kept_amount : (keep : XidName → Bool) (f : Account → Account) → LetsGo keep f → (x : XidName) (o : Option Account)
+    → amount_held x (option_map f o) ≡ cond (keep x) (amount_held x o) None
+kept_amount keep f g x None = sym (cond_none (keep x))
+kept_amount keep f g x (Some a) = ap (hold_amount x) (g.hold a) ∙ where_amount a.hold
+  where
+    where_amount : (o : Option Hold) → hold_amount x (hold_where keep o) ≡ cond (keep x) (hold_amount x o) None
+    where_amount None = sym (cond_none (keep x))
+    where_amount (Some l) =
+        by_bool (λ b. hold_amount x (if b then Some l else None) ≡ cond b (hold_amount x (Some l)) None) (keep l.xid) (λ _. refl) (λ _. refl)
+        ∙ by_bool (λ b. cond (keep l.xid) (if b then Some l.amount else None) None ≡ cond (keep x) (if b then Some l.amount else None) None) (xid_eq l.xid x)
+        (λ e. ap (λ z. cond (keep z) (Some l.amount) None) ((Decides-xid_eq l.xid x).0 e)) (λ _. cond_none (keep l.xid) ∙ sym (cond_none (keep x)))
 
 -- the values stay
 pub values_kept : (keep : XidName → Bool) (accounts : List Account) → value_entries (map (kept_where keep) accounts) ≡ value_entries accounts
@@ -224,73 +274,31 @@ values_kept keep [] = refl
 values_kept keep (a ∷ rest) = ap (λ es. (a.key, a.value) ∷ es) (values_kept keep rest)
 
 -- the sums are then those of the branches that are kept
-pub sums_go : (keep : XidName → Bool) (f : Account → Account) → LetsGo keep f → (accounts : List Account)
+pub sums_go : (keep : XidName → Bool) (f : Account → Account) → LetsGo keep f → (accounts : List Account) → AreDistinct accounts
     → from_entries {R = touch_cmp} (hold_entries (map f accounts)) ≡ finmap.retain_keys (from_entries (hold_entries accounts)) (λ p. keep p.0)
-sums_go keep f g accounts = retain_some touch_cmp_total touch_cmp-IsAntisymmetric _ _ (λ p. keep p.0) (kept_holds keep f g accounts)
+sums_go keep f g accounts h =
+    retain_some touch_cmp_total touch_cmp-IsAntisymmetric _ _ (λ p. keep p.0) (λ p.
+    hold_found (map f accounts) (distinct_changed f g.key accounts h) p.0 p.1 ∙ ap (amount_held p.0) (at_key_map f g.key p.1 accounts)
+    ∙ kept_amount keep f g p.0 (at_key p.1 accounts) ∙ ap (λ o. cond (keep p.0) o None) (sym (hold_found accounts h p.0 p.1)))
 
--- what x holds of each key
-abbrev Amounts : XidName → List (Touch × ℤ) → List Account → Type 0
-Amounts x es [] = Unit {0}
-Amounts x es (a ∷ rest) = (unwrap_or (find touch_cmp (x, a.key) es) (pos 0) ≡ amount_of a.hold x) × Amounts x es rest
-
-amounts_more : (x : XidName) (k : List ℕ) (o : Option Hold) (es : List (Touch × ℤ)) (accounts : List Account) → Lacks k accounts → Amounts x es accounts
-    → Amounts x (with_hold k o es) accounts
-amounts_more x k None es accounts h v = v
-amounts_more x k (Some l) es [] h v = tt
-amounts_more x k (Some l) es (a ∷ rest) h v =
-    let d = lacks_split k a rest h in
-    (ap (λ b. unwrap_or (cond b (Some l.amount) (find touch_cmp (x, a.key) es)) (pos 0)) (touch_apart (x, a.key) (l.xid, k) (λ t. d.0 (sym t))) ∙ v.0, amounts_more x k (Some l) es rest d.1 v.1)
-
-amount_first : (x : XidName) (k : List ℕ) (o : Option Hold) (es : List (Touch × ℤ)) → find touch_cmp (x, k) es ≡ None
-    → unwrap_or (find touch_cmp (x, k) (with_hold k o es)) (pos 0) ≡ amount_of o x
-amount_first x k None es none = ap (λ v. unwrap_or v (pos 0)) none
-amount_first x k (Some l) es none =
-    elim (xid_eq l.xid x) as (λ b. xid_eq l.xid x ≡ b → unwrap_or (cond (same_touch (x, k) (l.xid, k)) (Some l.amount) (find touch_cmp (x, k) es)) (pos 0) ≡ cond b l.amount (pos 0)) [
-      | true ↦ λ t.
-          let same : l.xid ≡ x = (Decides-xid_eq l.xid x).0 t in
-          ap (λ b. unwrap_or (cond b (Some l.amount) (find touch_cmp (x, k) es)) (pos 0)) (ap (λ z. same_touch (x, k) (z, k)) same ∙ touch_self (x, k))
-      | false ↦ λ t.
-          ap (λ b. unwrap_or (cond b (Some l.amount) (find touch_cmp (x, k) es)) (pos 0)) (false_from_ne_true _ (λ y. let z = (Decides-xid_eq l.xid x).1 (sym (ap (λ (r : Touch). r.0) (touch_from (x, k) (l.xid, k) y))) in cc))
-          ∙ ap (λ v. unwrap_or v (pos 0)) none
-    ] refl
-
-amounts_all : (x : XidName) (accounts : List Account) → AreDistinct accounts → Amounts x (hold_entries accounts) accounts
-amounts_all x [] h = tt
-amounts_all x (a ∷ rest) h =
-    (amount_first x a.key a.hold (hold_entries rest) (lacks_hold x a.key rest h.0), amounts_more x a.key a.hold (hold_entries rest) rest h.0 (amounts_all x rest h.1))
-
-settled_finds : (x : XidName) (sums : FinMap touch_cmp ℤ) (es : List (Touch × ℤ)) → ((p : Touch) → finmap.get sums p ≡ find touch_cmp p es)
-    → (accounts : List Account) → Amounts x es accounts
-    → (q : List ℕ)
-    → find key_cmp q (value_entries (map (posted_by x) accounts)) ≡ option_map (λ v. v +ℤ sum_of sums x q) (find key_cmp q (value_entries accounts))
-settled_finds x sums es gets [] v q = refl
-settled_finds x sums es gets (a ∷ rest) v q =
-    elim (same_key q a.key) as (λ b. same_key q a.key ≡ b → cond b (Some (a.value +ℤ amount_of a.hold x)) (find key_cmp q (value_entries (map (posted_by x) rest))) ≡ option_map (λ v. v +ℤ sum_of sums x q) (cond b (Some a.value) (find key_cmp q (value_entries rest)))) [
-      | true ↦ λ t. ap (λ s. Some (a.value +ℤ s)) (sym (ap (λ k. sum_of sums x k) (key_from q a.key t) ∙ ap (λ o. unwrap_or o (pos 0)) (gets (x, a.key)) ∙ v.0))
-      | false ↦ λ t. settled_finds x sums es gets rest v.1 q
-    ] refl
+amount_is : (x : XidName) (o : Option Hold) → amount_of o x ≡ unwrap_or (hold_amount x o) (pos 0)
+amount_is x None = refl
+amount_is x (Some l) =
+    by_bool (λ b. (if b then l.amount else pos 0) ≡ unwrap_or (if b then Some l.amount else None) (pos 0)) (xid_eq l.xid x) (λ _. refl) (λ _. refl)
 
 -- the values once x has committed
 pub values_posted : (x : XidName) (accounts : List Account) → AreDistinct accounts
     → from_entries {R = key_cmp} (value_entries (map (posted_by x) accounts)) ≡ posted (from_entries (value_entries accounts)) (from_entries (hold_entries accounts)) x
 values_posted x accounts h =
     let sums : FinMap touch_cmp ℤ = from_entries (hold_entries accounts) in
-    map_some key_cmp_total key_cmp-IsAntisymmetric (λ k v. v +ℤ sum_of sums x k) _ _ (settled_finds x sums (hold_entries accounts) (λ p. get-from_entries touch_cmp_total (hold_entries accounts) p) accounts (amounts_all x accounts h))
-
-lacks_changed : (f : Account → Account) → ((a : Account) → (f a).key ≡ a.key) → (k : List ℕ) (accounts : List Account) → Lacks k accounts
-    → Lacks k (map f accounts)
-lacks_changed f keys k [] h = refl
-lacks_changed f keys k (a ∷ rest) h =
-    let d = lacks_split k a rest h in
-    ap (λ b. cond b (Some (f a).value) (find key_cmp k (value_entries (map f rest)))) (key_apart k (f a).key (λ e. d.0 (e ∙ keys a)))
-    ∙ lacks_changed f keys k rest d.1
-
--- the keys stay apart
-pub distinct_changed : (f : Account → Account) → ((a : Account) → (f a).key ≡ a.key) → (accounts : List Account) → AreDistinct accounts
-    → AreDistinct (map f accounts)
-distinct_changed f keys [] h = tt
-distinct_changed f keys (a ∷ rest) h =
-    (subst (λ (k : List ℕ). Lacks k (map f rest)) (sym (keys a)) (lacks_changed f keys a.key rest h.0), distinct_changed f keys rest h.1)
+    map_some key_cmp_total key_cmp-IsAntisymmetric (λ k v. v +ℤ sum_of sums x k) _ _ (λ q.
+    value_found q (map (posted_by x) accounts) ∙ ap (option_map (λ (a : Account). a.value)) (at_key_map (posted_by x) (λ a. refl) q accounts)
+    ∙ settled (at_key q accounts) (sum_of sums x q) (sum_is accounts h x q) ∙ ap (option_map (λ v. v +ℤ sum_of sums x q)) (sym (value_found q accounts)))
+  where
+    settled : (o : Option Account) (s : ℤ) → s ≡ unwrap_or (amount_held x o) (pos 0)
+        → option_map (λ (a : Account). a.value) (option_map (posted_by x) o) ≡ option_map (λ v. v +ℤ s) (option_map (λ (a : Account). a.value) o)
+    settled None s e = refl
+    settled (Some a) s e = ap (λ v. Some (a.value +ℤ v)) (amount_is x a.hold ∙ sym e)
 
 -- another branch is broken as it was
 each_as_was : (p : Account → Bool) (f : Account → Account) → ((a : Account) → p (f a) ≡ p a) → (accounts : List Account)
@@ -336,14 +344,6 @@ written_whole f n slice items after done is long =
 
 -- ---- an addition
 
-place_has : (accounts : List Account) (i : ℕ) (a : Account) → i < length accounts → a ≡ get_or accounts i a
-    → is_some (find key_cmp a.key (value_entries accounts)) ≡ true
-place_has [] i a h e = absurd (omega arith)
-place_has (b ∷ rest) zero a h e =
-    ap (λ t. is_some (cond t (Some b.value) (find key_cmp a.key (value_entries rest)))) (ap (λ z. same_key a.key z) (sym (ap (λ (w : Account). w.key) e)) ∙ key_self a.key)
-place_has (b ∷ rest) (suc i) a h e =
-    elim (same_key a.key b.key) as (λ t. is_some (cond t (Some b.value) (find key_cmp a.key (value_entries rest))) ≡ true) [ true ↦ refl | false ↦ place_has rest i a (omega arith) e ]
-
 -- an account that is replaced by one of the same key and value
 pub values_set : (accounts : List Account) (i : ℕ) (a b : Account) → i < length accounts → a ≡ get_or accounts i a → b.key ≡ a.key → b.value ≡ a.value
     → value_entries (set accounts i b) ≡ value_entries accounts
@@ -356,58 +356,47 @@ abbrev pub IsFor : XidName → Option Hold → Type 0
 IsFor x None = Unit {0}
 IsFor x (Some l) = l.xid ≡ x
 
-held_find : (x : XidName) (k : List ℕ) (d : ℤ) (o : Option Hold) (es : List (Touch × ℤ)) (p : Touch) → IsFor x o
-    → cond (same_touch p (x, k)) (Some d) (find touch_cmp p es) ≡ cond (same_touch p (x, k)) (Some d) (find touch_cmp p (with_hold k o es))
-held_find x k d None es p h = refl
-held_find x k d (Some l) es p h =
-    subst (λ (y : XidName). cond (same_touch p (x, k)) (Some d) (find touch_cmp p es) ≡ cond (same_touch p (x, k)) (Some d) (cond (same_touch p (y, k)) (Some l.amount) (find touch_cmp p es))) (sym h)
-    (elim (same_touch p (x, k)) as (λ t. cond t (Some d) (find touch_cmp p es) ≡ cond t (Some d) (cond t (Some l.amount) (find touch_cmp p es))) [ true ↦ refl | false ↦ refl ])
+-- the account of a key, once one is replaced by one of the same key
+at_key_set : (k : List ℕ) (accounts : List Account) (i : ℕ) (b : Account) → AreDistinct accounts → i < length accounts → b.key ≡ (get_or accounts i b).key
+    → at_key k (set accounts i b) ≡ cond (same_key k b.key) (Some b) (at_key k accounts)
+at_key_set k [] i b dist h same = absurd (omega arith)
+at_key_set k (c ∷ rest) zero b dist h same =
+    by_bool (λ t. cond t (Some b) (at_key k rest) ≡ cond t (Some b) (cond t (Some c) (at_key k rest))) (same_key k b.key) (λ _. refl) (λ _. refl)
+    ∙ ap (λ q. cond (same_key k b.key) (Some b) (cond (same_key k q) (Some c) (at_key k rest))) same
+at_key_set k (c ∷ rest) (suc i) b dist h same =
+    let there = at_own_key rest i (get_or rest i b) dist.1 (omega arith) (get_or_default rest i b (get_or rest i b) (omega arith)) in
+    ap (cond (same_key k c.key) (Some c)) (at_key_set k rest i b dist.1 (omega arith) same)
+    ∙ by_bool (λ t. same_key k c.key ≡ t → cond t (Some c) (cond (same_key k b.key) (Some b) (at_key k rest)) ≡ cond (same_key k b.key) (Some b) (cond t (Some c) (at_key k rest))) (same_key k c.key)
+    (λ _ t. sym (ap (λ u. cond u (Some b) (Some c)) (key_apart k b.key (λ is.
+    let none = ap (λ q. at_key q rest) (sym (sym (key_from k c.key t) ∙ is ∙ same)) ∙ lacks_key c.key rest dist.0 in cc)))) (λ _ _. refl) refl
 
-other_swap : (p : Touch) (x y : XidName) (k l : List ℕ) (d e : ℤ) (o : Option ℤ) → (k ≡ l → ⊥)
-    → cond (same_touch p (y, l)) (Some e) (cond (same_touch p (x, k)) (Some d) o) ≡ cond (same_touch p (x, k)) (Some d) (cond (same_touch p (y, l)) (Some e) o)
-other_swap p x y k l d e o apart =
-    elim (same_touch p (y, l)) as (λ t. same_touch p (y, l) ≡ t → cond t (Some e) (cond (same_touch p (x, k)) (Some d) o) ≡ cond (same_touch p (x, k)) (Some d) (cond t (Some e) o)) [
-      | true ↦ λ t. sym (ap (λ b. cond b (Some d) (Some e)) (touch_apart p (x, k) (λ same. apart (sym same ∙ ap (λ (r : Touch). r.1) (touch_from p (y, l) t)))))
-      | false ↦ λ t. refl
-    ] refl
+for_other : (x y : XidName) (o : Option Hold) → IsFor x o → xid_eq x y ≡ false → hold_amount y o ≡ None
+for_other x y None h e = refl
+for_other x y (Some l) h e = ap (λ z. if xid_eq z y then Some l.amount else None) h ∙ ap (λ b. if b then Some l.amount else None) e
 
-holds_set : (accounts : List Account) (i : ℕ) (a : Account) (x : XidName) (d : ℤ) → AreDistinct accounts → i < length accounts → a ≡ get_or accounts i a
-    → IsFor x a.hold
-    → (p : Touch)
-    → find touch_cmp p (hold_entries (set accounts i (record a { hold = Some (record { xid = x; amount = d }) }))) ≡ cond (same_touch p (x, a.key)) (Some d) (find touch_cmp p (hold_entries accounts))
-holds_set [] i a x d dist h e for p = absurd (omega arith)
-holds_set (c ∷ rest) zero a x d dist h e for p =
-    held_find x a.key d a.hold (hold_entries rest) p for
-    ∙ ap (λ (w : Account). cond (same_touch p (x, a.key)) (Some d) (find touch_cmp p (with_hold w.key w.hold (hold_entries rest)))) e
-holds_set (c ∷ rest) (suc i) a x d dist h e for p =
-    let later = holds_set rest i a x d dist.1 (omega arith) e for p in
-    let there = place_has rest i a (omega arith) e in
-    elim (c.hold) as (λ o. find touch_cmp p (with_hold c.key o (hold_entries (set rest i (record a { hold = Some (record { xid = x; amount = d }) })))) ≡ cond (same_touch p (x, a.key)) (Some d) (find touch_cmp p (with_hold c.key o (hold_entries rest)))) [
-      | None ↦ later
-      | Some l ↦ ap (λ v. cond (same_touch p (l.xid, c.key)) (Some l.amount) v) later
-          ∙ other_swap p x l.xid a.key c.key d l.amount (find touch_cmp p (hold_entries rest)) (λ same. let z = ap (λ k. is_some (find key_cmp k (value_entries rest))) same in let n = ap is_some dist.0 in cc)
-    ]
-
-amount_at : (x : XidName) (es : List (Touch × ℤ)) (accounts : List Account) (i : ℕ) (a : Account) → i < length accounts → a ≡ get_or accounts i a
-    → Amounts x es accounts → unwrap_or (find touch_cmp (x, a.key) es) (pos 0) ≡ amount_of a.hold x
-amount_at x es [] i a h e v = absurd (omega arith)
-amount_at x es (c ∷ rest) zero a h e v = subst (λ (w : Account). unwrap_or (find touch_cmp (x, w.key) es) (pos 0) ≡ amount_of w.hold x) (sym e) v.0
-amount_at x es (c ∷ rest) (suc i) a h e v = amount_at x es rest i a (omega arith) e v.1
-
-amount_for : (x : XidName) (o : Option Hold) → IsFor x o → amount_of o x ≡ amount_in o
+amount_for : (x : XidName) (o : Option Hold) → IsFor x o → unwrap_or (hold_amount x o) (pos 0) ≡ amount_in o
 amount_for x None h = refl
-amount_for x (Some l) h = ap (λ b. if b then l.amount else pos 0) ((Decides-xid_eq l.xid x).1 h)
+amount_for x (Some l) h = ap (λ b. unwrap_or (if b then Some l.amount else None) (pos 0)) ((Decides-xid_eq l.xid x).1 h)
 
 -- the sums once x has added d at one account
 pub sums_added : (accounts : List Account) (i : ℕ) (a : Account) (x : XidName) (d : ℤ) → AreDistinct accounts → i < length accounts → a ≡ get_or accounts i a
     → IsFor x a.hold
     → from_entries {R = touch_cmp} (hold_entries (set accounts i (added_to a x d))) ≡ finmap.insert (from_entries (hold_entries accounts)) (x, a.key) (sum_of (from_entries (hold_entries accounts)) x a.key +ℤ d)
 sums_added accounts i a x d dist h e for =
-    let amount : sum_of (from_entries (hold_entries accounts)) x a.key ≡ amount_in a.hold =
-    ap (λ o. unwrap_or o (pos 0)) (get-from_entries touch_cmp_total (hold_entries accounts) (x, a.key))
-    ∙ amount_at x (hold_entries accounts) accounts i a h e (amounts_all x accounts dist) ∙ amount_for x a.hold for in
-    put_one touch_cmp_total touch_cmp-IsAntisymmetric _ _ (x, a.key) (amount_in a.hold +ℤ d) (holds_set accounts i a x (amount_in a.hold +ℤ d) dist h e for)
-    ∙ ap (λ s. finmap.insert (from_entries (hold_entries accounts)) (x, a.key) (s +ℤ d)) (sym amount)
+    let b : Account = added_to a x d in
+    let v : ℤ = amount_in a.hold +ℤ d in
+    let at_a = at_own_key accounts i a dist h e in
+    let apart : AreDistinct (set accounts i b) = subst AreDistinctEntries (sym (values_set accounts i a b h e refl refl)) dist in
+    let own : b.key ≡ (get_or accounts i b).key = ap (λ (w : Account). w.key) (e ∙ sym (get_or_default accounts i b a h)) in
+    put_one touch_cmp_total touch_cmp-IsAntisymmetric _ _ (x, a.key) v (λ p.
+    hold_found (set accounts i b) apart p.0 p.1 ∙ ap (amount_held p.0) (at_key_set p.1 accounts i b dist h own)
+    ∙ by_bool (λ t. same_key p.1 a.key ≡ t → amount_held p.0 (cond t (Some b) (at_key p.1 accounts)) ≡ cond (xid_eq x p.0 && t) (Some v) (amount_held p.0 (at_key p.1 accounts))) (same_key p.1 a.key)
+    (λ _ t.
+    by_bool (λ u. xid_eq x p.0 ≡ u → (if u then Some v else None) ≡ cond (u && true) (Some v) (amount_held p.0 (at_key p.1 accounts))) (xid_eq x p.0) (λ _ _. refl)
+    (λ _ u. sym (ap (amount_held p.0) (ap (λ q. at_key q accounts) (key_from p.1 a.key t) ∙ at_a) ∙ for_other x p.0 a.hold for u)) refl)
+    (λ _ _. sym (ap (λ u. cond u (Some v) (amount_held p.0 (at_key p.1 accounts))) (and-false (xid_eq x p.0)))) refl
+    ∙ (λ j. cond (sym (touch_same p.0 x p.1 a.key) j) (Some v) (sym (hold_found accounts dist p.0 p.1) j)))
+    ∙ ap (λ s. finmap.insert (from_entries (hold_entries accounts)) (x, a.key) (s +ℤ d)) (sym (sum_is accounts dist x a.key ∙ ap (λ o. unwrap_or (amount_held x o) (pos 0)) at_a ∙ amount_for x a.hold for))
 
 -- where no other branch has touched the key
 for_hold : (x : XidName) (o : Option Hold) → hold_is_other o x ≡ false → IsFor x o

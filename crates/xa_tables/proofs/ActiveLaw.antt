@@ -1,12 +1,9 @@
 -- The law: a branch is active exactly while somebody is associated with it and it is in none of S3, S4 and S5.
-use Rattle.std.specs.Prelude.{◌≡◌, ◌≢◌, ℕ, Bool, true, false, cond, not, ◌&&◌, ◌||◌, if◌then◌else◌, Option, None, Some, is_some, [], ◌∷◌, refl}
+use Rattle.std.specs.Prelude.{◌≡◌, ◌≢◌, ℕ, Bool, true, false, not, ◌&&◌, ◌||◌, Option, None, Some, is_some, [], ◌∷◌, refl}
 use Rattle.std.proofs.Common.{sym, ap, ◌∙◌, subst, ⊎_elim}
-use Rattle.std.specs.Ordering.{nat_cmp, eq_by_cmp, is_eq}
-use Rattle.std.specs.Cmp.{nat_cmp_total, tied_itself}
 use Rattle.std.specs.FinMap as map
-use Rattle.std.specs.FinMap.{FinMap, get-insert, get-remove, nat_cmp-IsAntisymmetric}
 use Rattle.std.proofs.lemmas.Bool.{or_cases}
-use Rattle.xa_base.proofs.Truth.{by_bool, is_equal}
+use Rattle.xa_base.proofs.Truth.{by_bool}
 use Rattle.xa_words.specs.Xid.{XidName, xid_eq}
 use Rattle.xa_words.specs.Orders.{Decides-xid_eq}
 use Rattle.xa_words.specs.declared.request.Op.{Op}
@@ -24,104 +21,65 @@ use Rattle.xa_tables.specs.History.{History, tables_after, ActiveWhileAssociated
 use Rattle.xa_tables.specs.Openings.{IsOpening}
 use Rattle.xa_tables.proofs.Effects.{Effect, Starts, Joins, Resumes, Suspends, Leaves, Fails, Idles, Dooms, Prepares, Commits, Drops, CommitsByItself}
 use Rattle.xa_tables.proofs.Effects.{RollsBackByItself, Forgets, effect_of}
-use Rattle.xa_tables.proofs.Law.{AtWork, standing, get_put, get_gone, nobody_rests, run_sound, opening_sound}
-use Rattle.xa_tables.proofs.Unnamed.{apart_from, nobody_with, nobody_joins, nobody_leaves}
+use Rattle.xa_tables.proofs.Law.{AtWork, standing, where_put, where_gone, nobody_rests, run_sound, opening_sound}
+use Rattle.xa_tables.proofs.SoundLemmas.{Associations, apart_from, nobody_as, nobody_joins, nobody_leaves, own_put, other_put, other_removed}
 
 -- a branch with which nobody is associated isn't active, and with an idle one nobody is
 record AtWorkWhile (T : Tables) : Type 0 where
   active : (x : XidName) → is_somebody_associated T.associations x ≡ false → is_S1 (state_of T x) ≡ false
   idle : (x : XidName) → is_S2 (state_of T x) ≡ true → is_somebody_associated T.associations x ≡ false
 
--- ---- associations
-
--- a thread's own association, once it was put
-own_now : (associations : FinMap nat_cmp Association) (t : ℕ) (l : Association) → map.get (map.insert associations t l) t ≡ Some l
-own_now associations t l =
-    get-insert nat_cmp_total associations t l t ∙ ap (λ b. cond b (Some l) (map.get associations t)) (ap is_eq (tied_itself nat_cmp_total t))
-
 -- t has an association with y
 with_y : (T : Tables) (t : ℕ) (y : XidName) (l : Association) → is_associated T t y ≡ true → association_of T t ≡ Some l → l.xid ≡ y
 with_y T t y l own here = (Decides-xid_eq l.xid y).0 (sym (ap (λ o. is_association_with o y) here) ∙ own)
 
-module _ (T : Tables) (t : ℕ) (x : XidName) where
-  -- nobody was associated with x before t, which had no association, got one
-  before_join : (l : Association) → has_association T t ≡ false → is_somebody_associated (map.insert T.associations t l) x ≡ false
-      → is_somebody_associated T.associations x ≡ false
-  before_join l free nobody =
-      nobody_with x T.associations (λ u k found.
-      elim (eq_by_cmp nat_cmp u t) as (λ b. eq_by_cmp nat_cmp u t ≡ b → xid_eq k.xid x ≡ false) [
-        | true ↦ λ e.
-            let here : association_of T t ≡ Some k = ap (map.get T.associations) (sym (nat_cmp-IsAntisymmetric u t (is_equal _ e))) ∙ found in
-            let some : true ≡ false = sym (ap is_some here) ∙ free in
-            cc
-        | false ↦ λ e. apart_from x (map.insert T.associations t l) nobody u k (get-insert nat_cmp_total T.associations t l u ∙ ap (λ b. cond b (Some l) (map.get T.associations u)) e ∙ found)
-      ] refl)
-
-  -- nor before t's association with another branch y changed
-  before_change : (y : XidName) (l : Association) → is_associated T t y ≡ true → xid_eq y x ≡ false
-      → is_somebody_associated (map.insert T.associations t l) x ≡ false → is_somebody_associated T.associations x ≡ false
-  before_change y l own other nobody =
-      nobody_with x T.associations (λ u k found.
-      elim (eq_by_cmp nat_cmp u t) as (λ b. eq_by_cmp nat_cmp u t ≡ b → xid_eq k.xid x ≡ false) [
-        | true ↦ λ e.
-            let here : association_of T t ≡ Some k = ap (map.get T.associations) (sym (nat_cmp-IsAntisymmetric u t (is_equal _ e))) ∙ found in
-            ap (λ z. xid_eq z x) (with_y T t y k own here) ∙ other
-        | false ↦ λ e. apart_from x (map.insert T.associations t l) nobody u k (get-insert nat_cmp_total T.associations t l u ∙ ap (λ b. cond b (Some l) (map.get T.associations u)) e ∙ found)
-      ] refl)
-
-  -- nor before t's association with another branch y went
-  before_leave : (y : XidName) → is_associated T t y ≡ true → xid_eq y x ≡ false → is_somebody_associated (map.remove T.associations t) x ≡ false
-      → is_somebody_associated T.associations x ≡ false
-  before_leave y own other nobody =
-      nobody_with x T.associations (λ u k found.
-      elim (eq_by_cmp nat_cmp u t) as (λ b. eq_by_cmp nat_cmp u t ≡ b → xid_eq k.xid x ≡ false) [
-        | true ↦ λ e.
-            let here : association_of T t ≡ Some k = ap (map.get T.associations) (sym (nat_cmp-IsAntisymmetric u t (is_equal _ e))) ∙ found in
-            ap (λ z. xid_eq z x) (with_y T t y k own here) ∙ other
-        | false ↦ λ e. apart_from x (map.remove T.associations t) nobody u k (get-remove nat_cmp_total T.associations t u ∙ ap (λ b. cond b None (map.get T.associations u)) e ∙ found)
-      ] refl)
-
-  -- t's own association is with another branch than x, with which nobody is associated
-  own_apart : (y : XidName) → is_associated T t y ≡ true → is_somebody_associated T.associations x ≡ false → xid_eq y x ≡ false
-  own_apart y own nobody =
-      elim (association_of T t) as (λ o. association_of T t ≡ o → is_association_with o y ≡ true → xid_eq y x ≡ false) [
-        | None ↦ λ here is. cc
-        | Some l ↦ λ here is. ap (λ z. xid_eq z x) (sym ((Decides-xid_eq l.xid y).0 is)) ∙ apart_from x T.associations nobody t l here
-      ] refl own
+-- t's own association is with another branch than x, with which nobody is associated
+own_apart : (T : Tables) (t : ℕ) (x y : XidName) → is_associated T t y ≡ true → is_somebody_associated T.associations x ≡ false → xid_eq y x ≡ false
+own_apart T t x y own nobody =
+    elim (association_of T t) as (λ o. association_of T t ≡ o → is_association_with o y ≡ true → xid_eq y x ≡ false) [
+      | None ↦ λ here is. cc
+      | Some l ↦ λ here is. ap (λ z. xid_eq z x) (sym ((Decides-xid_eq l.xid y).0 is)) ∙ apart_from x T.associations nobody t l here
+    ] refl own
 
 -- ---- what each effect leaves
 
 S4_alone : (o : Option State) → is_S4 o ≡ true → is_S1 o ≡ false
-S4_alone None e = refl
 S4_alone (Some Active) e = cc
-S4_alone (Some Idle) e = refl
-S4_alone (Some S3) e = refl
-S4_alone (Some (RollbackOnly reason)) e = refl
-S4_alone (Some (HeuristicallyCompleted decision)) e = refl
+S4_alone o e = refl
 
 module _ (t : ℕ) (T : Tables) (w : AtWorkWhile T) where
+  -- nobody was associated with x before t's association changed, which was with another branch
+  before : (x y : XidName) (m : Associations) → is_associated T t y ≡ true → xid_eq y x ≡ false → ((u : ℕ) → u ≢ t → map.get m u ≡ association_of T u)
+      → is_somebody_associated m x ≡ false → is_somebody_associated T.associations x ≡ false
+  before x y m own other others =
+      nobody_as x t m T.associations (λ u apart. sym (others u apart)) (λ l here. ap (λ z. xid_eq z x) (with_y T t y l own here) ∙ other)
+
+  before_leave : (x y : XidName) → is_associated T t y ≡ true → xid_eq y x ≡ false → is_somebody_associated (map.remove T.associations t) x ≡ false
+      → is_somebody_associated T.associations x ≡ false
+  before_leave x y own other = before x y (map.remove T.associations t) own other (other_removed T.associations t)
+
   -- t, which had no association, works for y
   begins : (y : XidName) → has_association T t ≡ false → AtWorkWhile (associated t y (stated y Active T))
-  begins y free = record {
-    active = λ x nobody.
-        let other : xid_eq y x ≡ false =
-        apart_from x (map.insert T.associations t (association y Associated)) nobody t (association y Associated) (own_now T.associations t (association y Associated)) in
-        ap is_S1 (get_put T y x Active ∙ ap (λ b. if b then Some Active else state_of T x) other)
-        ∙ w.active x (before_join T t x (association y Associated) free nobody);
-    idle = λ x is.
-        by_bool (λ b. is_S2 (if b then Some Active else state_of T x) ≡ true → is_somebody_associated (map.insert T.associations t (association y Associated)) x ≡ false) (xid_eq y x)
-        (λ _ e. cc) (λ other e. nobody_joins x T.associations t (association y Associated) other (w.idle x e)) (sym (ap is_S2 (get_put T y x Active)) ∙ is);
-  }
+  begins y free =
+      let l = association y Associated in
+      let m : Associations = map.insert T.associations t l in
+      record {
+        active = λ x nobody.
+            where_put T y x Active (λ b o. b ≡ false → is_S1 o ≡ false) (λ _ e. cc) (λ _ _. w.active x (nobody_as x t m T.associations (λ u apart. sym (other_put T.associations t u l apart)) (λ k here. let some = ap is_some here in cc) nobody))
+            (apart_from x m nobody t l (own_put T.associations t l));
+        idle = λ x. where_put T y x Active (λ _ o. is_S2 o ≡ true → is_somebody_associated m x ≡ false) (λ _ e. cc) (λ other e. nobody_joins x T.associations t l other (w.idle x e));
+      }
 
   -- t's association with y changes
   changes : (y : XidName) (state : AssociationState) → is_associated T t y ≡ true → AtWorkWhile (with_association t (association y state) T)
-  changes y state own = record {
-    active = λ x nobody.
-        let other : xid_eq y x ≡ false =
-        apart_from x (map.insert T.associations t (association y state)) nobody t (association y state) (own_now T.associations t (association y state)) in
-        w.active x (before_change T t x y (association y state) own other nobody);
-    idle = λ x is. let nobody = w.idle x is in nobody_joins x T.associations t (association y state) (own_apart T t x y own nobody) nobody;
-  }
+  changes y state own =
+      let l = association y state in
+      let m : Associations = map.insert T.associations t l in
+      record {
+        active = λ x nobody.
+            w.active x (before x y m own (apart_from x m nobody t l (own_put T.associations t l)) (λ u. other_put T.associations t u l) nobody);
+        idle = λ x is. let nobody = w.idle x is in nobody_joins x T.associations t l (own_apart T t x y own nobody) nobody;
+      }
 
   -- t's association with y goes, and y stays as it is
   leaves : (y : XidName) → is_associated T t y ≡ true → (is_rollback_only T y || is_somebody_associated (dissociated t T).associations y) ≡ true
@@ -135,41 +93,34 @@ module _ (t : ℕ) (T : Tables) (w : AtWorkWhile T) where
         (⊎_elim (λ (doomed : is_rollback_only T y ≡ true). S4_alone (state_of T y) doomed)
         (λ (left : is_somebody_associated (map.remove T.associations t) y ≡ true). let z : true ≡ false = sym left ∙ ap (is_somebody_associated (map.remove T.associations t)) same ∙ nobody in cc)
         (or_cases (is_rollback_only T y) (is_somebody_associated (map.remove T.associations t) y) why)))
-        (λ other e. w.active x (before_leave T t x y own e nobody)) refl;
+        (λ other e. w.active x (before_leave x y own e nobody)) refl;
     idle = λ x is. nobody_leaves x T.associations t (w.idle x is);
   }
 
   -- t's association with y goes, and y is put into a state that isn't active
   left_as : (y : XidName) (s : State) → is_S1 (Some s) ≡ false → (is_S2 (Some s) ≡ true → is_somebody_associated (map.remove T.associations t) y ≡ false)
       → is_associated T t y ≡ true → AtWorkWhile (stated y s (dissociated t T))
-  left_as y s inactive alone own = record {
-    active = λ x nobody.
-        ap is_S1 (get_put (dissociated t T) y x s)
-        ∙ by_bool (λ b. is_S1 (if b then Some s else state_of T x) ≡ false) (xid_eq y x) (λ _. inactive) (λ other. w.active x (before_leave T t x y own other nobody));
-    idle = λ x is.
-        by_bool (λ b. xid_eq y x ≡ b → is_S2 (if b then Some s else state_of T x) ≡ true → is_somebody_associated (map.remove T.associations t) x ≡ false) (xid_eq y x)
-        (λ _ here e. subst (λ z. is_somebody_associated (map.remove T.associations t) z ≡ false) ((Decides-xid_eq y x).0 here) (alone e))
-        (λ _ other e. nobody_leaves x T.associations t (w.idle x e)) refl (sym (ap is_S2 (get_put (dissociated t T) y x s)) ∙ is);
-  }
+  left_as y s inactive alone own =
+      let m : Associations = map.remove T.associations t in
+      record {
+        active = λ x nobody. where_put T y x s (λ _ o. is_S1 o ≡ false) (λ _. inactive) (λ other. w.active x (before_leave x y own other nobody));
+        idle = λ x.
+            where_put T y x s (λ _ o. is_S2 o ≡ true → is_somebody_associated m x ≡ false)
+            (λ same e. subst (λ z. is_somebody_associated m z ≡ false) same (alone e)) (λ _ e. nobody_leaves x T.associations t (w.idle x e));
+      }
 
   -- y is put into a state that is neither active nor idle
   put_as : (y : XidName) (s : State) → is_S1 (Some s) ≡ false → is_S2 (Some s) ≡ false → AtWorkWhile (stated y s T)
   put_as y s inactive busy = record {
-    active = λ x nobody. ap is_S1 (get_put T y x s)
-        ∙ by_bool (λ b. is_S1 (if b then Some s else state_of T x) ≡ false) (xid_eq y x) (λ _. inactive) (λ _. w.active x nobody);
-    idle = λ x is.
-        by_bool (λ b. is_S2 (if b then Some s else state_of T x) ≡ true → is_somebody_associated T.associations x ≡ false) (xid_eq y x)
-        (λ _ e. let z : true ≡ false = sym e ∙ busy in cc) (λ _ e. w.idle x e) (sym (ap is_S2 (get_put T y x s)) ∙ is);
+    active = λ x nobody. where_put T y x s (λ _ o. is_S1 o ≡ false) (λ _. inactive) (λ _. w.active x nobody);
+    idle = λ x. where_put T y x s (λ _ o. is_S2 o ≡ true → is_somebody_associated T.associations x ≡ false) (λ _ e. let z : true ≡ false = sym e ∙ busy in cc) (λ _. w.idle x);
   }
 
   -- y is gone
   without : (y : XidName) → AtWorkWhile (gone y T)
   without y = record {
-    active = λ x nobody. ap is_S1 (get_gone T y x)
-        ∙ by_bool (λ b. is_S1 (if b then None else state_of T x) ≡ false) (xid_eq y x) (λ _. refl) (λ _. w.active x nobody);
-    idle = λ x is.
-        by_bool (λ b. is_S2 (if b then None else state_of T x) ≡ true → is_somebody_associated T.associations x ≡ false) (xid_eq y x)
-        (λ _ e. cc) (λ _ e. w.idle x e) (sym (ap is_S2 (get_gone T y x)) ∙ is);
+    active = λ x nobody. where_gone T y x (λ _ o. is_S1 o ≡ false) (λ _. refl) (λ _. w.active x nobody);
+    idle = λ x. where_gone T y x (λ _ o. is_S2 o ≡ true → is_somebody_associated T.associations x ≡ false) (λ _ e. cc) (λ _. w.idle x);
   }
 
   by_effect : {op : Op} {a : Answer} → Effect t T op a → AtWorkWhile a.0
@@ -199,26 +150,16 @@ run_at_work (r ∷ h) T w = run_at_work h (next r.thread r.op T).0 (by_effect r.
 conclude : (o : Option State) (b : Bool) → (b ≡ false → is_S1 o ≡ false) → (is_S2 o ≡ true → b ≡ false) → (standing o ≢ AtWork → b ≡ false)
     → is_S1 o ≡ (b && not (is_S3 o || (is_S4 o || is_S5 o)))
 conclude None true active idle rests = sym (rests (λ e. cc))
-conclude None false active idle rests = refl
-conclude (Some Active) true active idle rests = refl
 conclude (Some Active) false active idle rests = active refl
 conclude (Some Idle) true active idle rests = sym (idle refl)
-conclude (Some Idle) false active idle rests = refl
-conclude (Some S3) true active idle rests = refl
-conclude (Some S3) false active idle rests = refl
-conclude (Some (RollbackOnly reason)) true active idle rests = refl
-conclude (Some (RollbackOnly reason)) false active idle rests = refl
-conclude (Some (HeuristicallyCompleted decision)) true active idle rests = refl
-conclude (Some (HeuristicallyCompleted decision)) false active idle rests = refl
+conclude o true active idle rests = refl
+conclude o false active idle rests = refl
 
 -- a branch that an opening begins with is neither active nor idle
 left_rests : (o : Option State) → ((s : State) → o ≡ Some s → is_left_in (Some s) ≡ true) → (is_S1 o ≡ false) × (is_S2 o ≡ false)
-left_rests None left = (refl, refl)
 left_rests (Some Active) left = let z : false ≡ true = left Active refl in cc
 left_rests (Some Idle) left = let z : false ≡ true = left Idle refl in cc
-left_rests (Some S3) left = (refl, refl)
-left_rests (Some (RollbackOnly reason)) left = (refl, refl)
-left_rests (Some (HeuristicallyCompleted decision)) left = (refl, refl)
+left_rests o left = (refl, refl)
 
 opening_at_work : (T : Tables) → IsOpening T → AtWorkWhile T
 opening_at_work T o =

@@ -1,15 +1,13 @@
 -- A thread that begins a branch was free, and each request frees at most one thread.
-use Rattle.std.specs.Prelude.{◌≡◌, ◌≢◌, ℕ, zero, suc, ◌+◌, ◌*◌, ◌<◌, ◌≤◌, Bool, true, false, cond, not, ◌&&◌, ◌||◌, Option, None, Some, is_some, refl}
+use Rattle.std.specs.Prelude.{◌≡◌, ◌≢◌, ℕ, zero, suc, ◌+◌, ◌*◌, ◌<◌, ◌≤◌, Bool, true, false, not, ◌&&◌, ◌||◌, Option, None, Some, is_some, refl}
 use Rattle.std.proofs.Common.{sym, ap, ◌∙◌, arith}
 use Rattle.std.proofs.lemmas.Bool.{not-false}
 use Rattle.std.proofs.Math.Bool.{and-false}
-use Rattle.std.specs.Ordering.{nat_cmp, eq_by_cmp}
 use Rattle.std.specs.Cmp.{nat_cmp_total}
 use Rattle.std.specs.FinSet as set
 use Rattle.std.specs.FinMap as map
 use Rattle.std.specs.FinSet.{contains-insert, contains-remove}
-use Rattle.std.specs.FinMap.{get-insert, get-remove, nat_cmp-IsAntisymmetric}
-use Rattle.xa_base.proofs.Truth.{by_if, by_bool, is_equal, tied_true, tied_false}
+use Rattle.xa_base.proofs.Truth.{by_if, tied_false}
 use Rattle.xa_words.specs.Xid.{XidName}
 use Rattle.xa_words.specs.declared.code.Code.{Code}
 use Rattle.xa_words.specs.declared.code.Code.TheVariants.{Done, RbRollback}
@@ -19,6 +17,7 @@ use Rattle.xa_tables.specs.Tables.{Tables, has_opened, association_of, has_assoc
 use Rattle.xa_tables.specs.declared.state.AssociationState.TheVariants.{Associated, Suspended}
 use Rattle.xa_tables.specs.Next.{Answer, next, needs_opening, association, with_association, dissociated}
 use Rattle.xa_tables.specs.Managers.{TablesWithRoom, Keeps, is_free, counted, free_threads, places_taken}
+use Rattle.xa_tables.proofs.SoundLemmas.{by_nat, own_put, other_put, own_removed, other_removed}
 use Rattle.xa_tables.proofs.Effects.{Effect, Opens, Closes, Starts, Joins, Resumes, Suspends, Leaves, Fails, Idles, at_rules}
 
 -- what keeps all places keeps all but some
@@ -36,12 +35,6 @@ none_free (suc n) T closed =
 at_most_one : (b : Bool) → counted b ≤ 1
 at_most_one true = omega arith
 at_most_one false = omega arith
-
--- by whether two numbers are one
-by_nat : {P : Type 0} (a b : ℕ) → (a ≡ b → P) → (a ≢ b → P) → P
-by_nat {P} a b one two =
-    by_bool (λ _. P) (eq_by_cmp nat_cmp a b) (λ e. one (nat_cmp-IsAntisymmetric a b (is_equal _ e)))
-    (λ e. two (λ same. let tied = tied_true a b same in cc))
 
 -- T becomes U, and only thread t may be free in one of them alone
 module _ (t : ℕ) (T U : Tables) (others : (u : ℕ) → u ≢ t → is_free U u ≡ is_free T u) where
@@ -95,12 +88,10 @@ has_own (Some l) x e = refl
 
 -- t has the association that is put, and none where it goes
 put_there : (t : ℕ) (T U : Tables) (l : Association) → U.associations ≡ map.insert T.associations t l → association_of U t ≡ Some l
-put_there t T U l e =
-    ap (λ m. map.get m t) e ∙ get-insert nat_cmp_total T.associations t l t ∙ ap (λ b. cond b (Some l) (association_of T t)) (tied_true t t refl)
+put_there t T U l e = ap (λ m. map.get m t) e ∙ own_put T.associations t l
 
 gone_there : (t : ℕ) (T U : Tables) → U.associations ≡ map.remove T.associations t → association_of U t ≡ None
-gone_there t T U e =
-    ap (λ m. map.get m t) e ∙ get-remove nat_cmp_total T.associations t t ∙ ap (λ b. cond b None (association_of T t)) (tied_true t t refl)
+gone_there t T U e = ap (λ m. map.get m t) e ∙ own_removed T.associations t
 
 -- t, which wasn't associated, takes a place
 pub takes_one : (t : ℕ) (T U : Tables) (l : Association) → has_association T t ≡ false → U.associations ≡ map.insert T.associations t l → places_taken t T U ≡ 1
@@ -112,12 +103,10 @@ module _ (n t : ℕ) (T : Tables) (first : 0 < t) (last : t ≤ n) where
 
   -- what stands at another thread, where t's association is put or goes, and where t opens or closes
   put : (l : Association) (u : ℕ) → u ≢ t → is_free (with_association t l T) u ≡ is_free T u
-  put l u apart =
-      ap (λ o. has_opened T u && not (is_some o)) (get-insert nat_cmp_total T.associations t l u ∙ ap (λ b. cond b (Some l) (association_of T u)) (tied_false u t apart))
+  put l u apart = ap (λ o. has_opened T u && not (is_some o)) (other_put T.associations t u l apart)
 
   gone : (u : ℕ) → u ≢ t → is_free (dissociated t T) u ≡ is_free T u
-  gone u apart =
-      ap (λ o. has_opened T u && not (is_some o)) (get-remove nat_cmp_total T.associations t u ∙ ap (λ b. cond b None (association_of T u)) (tied_false u t apart))
+  gone u apart = ap (λ o. has_opened T u && not (is_some o)) (other_removed T.associations t u apart)
 
   opens : (u : ℕ) → u ≢ t → (set.contains (set.insert T.opened t) u && not (has_association T u)) ≡ is_free T u
   opens u apart =

@@ -26,9 +26,9 @@ use Rattle.xa_tables.specs.Next.{Answer, next, completed, committed, gone}
 use Rattle.xa_tables.specs.History.{History, HeurCommitted, HeurRolledBack, fate_of, fates_in, coded, decided_fate, heur_fate}
 use Rattle.xa_tables.specs.Prepared.{names, is_heur, is_forget, OnlyDecides, IsTold}
 use Rattle.xa_base.proofs.Truth.{by_if, at_true}
-use Rattle.xa_tables.proofs.ShutLemmas.{next-shut}
+use Rattle.xa_tables.proofs.ShutLemmas.{all_quiet, fates_quiet}
 use Rattle.xa_tables.proofs.Effects.{Effect, Starts, Joins, Fails, Idles, Dooms, Prepares, Commits, Drops, CommitsByItself, RollsBackByItself, Forgets}
-use Rattle.xa_tables.proofs.Effects.{effect_of, error_tells, named_none}
+use Rattle.xa_tables.proofs.Effects.{effect_of, named_none}
 use Rattle.xa_tables.proofs.Law.{get_put, get_gone}
 use Rattle.xa_tables.proofs.SoundLemmas.{others_put, others_removed}
 use Rattle.xa_tables.proofs.Unnamed.{unnamed_fate, differs}
@@ -135,10 +135,7 @@ unprepared_law (r ∷ g) x T u only =
 -- ---- a manager that is shut
 
 pub quiet_shut : (g : History) (x : XidName) (T : Tables) → T.shut ≡ true → fates_in x (coded g T) ≡ []
-quiet_shut [] x T s = refl
-quiet_shut (r ∷ g) x T s =
-    ap (λ (a : Answer). cons_option (fate_of x r.op a.1) (fates_in x (coded g a.0))) (next-shut r.thread r.op T s)
-    ∙ ap (λ o. cons_option o (fates_in x (coded g T))) ((error_tells r.op RmFail refl).fates x) ∙ quiet_shut g x T s
+quiet_shut g x T s = all_quiet (λ h U. fates_in x (coded h U)) (fates_quiet x) g T s
 
 -- ---- who is told a decision
 

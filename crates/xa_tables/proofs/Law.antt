@@ -1,37 +1,59 @@
--- How a branch stands, by its state and by its fate, whatever is requested.
+-- What the state of a branch tells of its fate, and that nobody is associated with a branch that isn't at work, whatever is requested.
 use Rattle.std.specs.Prelude.{◌≡◌, ◌≢◌, ℕ, pos, Bool, true, false, cond, ◌||◌, if◌then◌else◌, Option, None, Some, is_some, unwrap_or, List, [], ◌∷◌, refl}
-use Rattle.std.proofs.Common.{sym, ap, ◌∙◌}
+use Rattle.std.proofs.Common.{sym, ap, ◌∙◌, subst}
 use Rattle.std.specs.FinMap as map
-use Rattle.std.specs.FinMap.{get-empty, get-insert, get-remove, nat_cmp-IsAntisymmetric}
-use Rattle.std.specs.Cmp.{nat_cmp_total}
+use Rattle.std.specs.FinMap.{get-empty, get-insert, get-remove}
 use Rattle.std.specs.Ordering.{nat_cmp}
-use Rattle.std.proofs.lemmas.Bool.{false_from_ne_true}
-use Rattle.std.proofs.lemmas.Bool.Decides.{same_from_decides}
+use Rattle.xa_base.proofs.Truth.{by_bool}
 use Rattle.xa_words.specs.Xid.{XidName, xid_eq}
 use Rattle.xa_words.specs.Orders.{xid_cmp_total, Decides-xid_eq, xid_eq-by_cmp}
+use Rattle.xa_words.proofs.Xids.{xid_self}
 use Rattle.xa_words.specs.declared.request.Op.{Op}
-use Rattle.xa_words.specs.declared.request.Op.TheVariants.{Start, Forget}
-use Rattle.xa_words.specs.declared.request.StartHow.TheVariants.{Join, Resume}
 use Rattle.xa_tables.specs.declared.state.State.{State}
 use Rattle.xa_tables.specs.declared.state.State.TheVariants.{Active, Idle, Prepared as S3, RollbackOnly, HeuristicallyCompleted}
 use Rattle.xa_tables.specs.declared.state.HeuristicDecision.{HeuristicDecision}
 use Rattle.xa_tables.specs.declared.state.HeuristicDecision.TheVariants as decision
 use Rattle.xa_tables.specs.declared.state.RollbackReason.TheVariants.{Failed, Transient}
+use Rattle.xa_tables.specs.declared.state.Association.{Association}
 use Rattle.xa_tables.specs.declared.state.AssociationState.{AssociationState}
 use Rattle.xa_tables.specs.declared.state.AssociationState.TheVariants.{Associated, Suspended}
 use Rattle.xa_tables.specs.Tables.{Tables, association_of, state_of, is_S3, is_S5, is_prepared, is_association_with, is_associated, is_somebody_associated}
-use Rattle.xa_tables.specs.Next.{Answer, next, gone, forgotten, stated, with_association, associated, dissociated, association}
+use Rattle.xa_tables.specs.Next.{Answer, next, gone, stated, with_association, associated, dissociated, association}
 use Rattle.xa_tables.specs.History.{History, Fate, ending_by, InDoubt, Live, Committed, ReadOnly, RolledBack, HeurCommitted, HeurRolledBack, Absent}
-use Rattle.xa_tables.specs.History.{is_in_doubt, is_unfinished, fate_of, last_or, if_named, tables_after, coded}
-use Rattle.xa_tables.specs.Openings.{IsOpening}
-use Rattle.std.specs.List.{filter_map, cons_option}
-use Rattle.xa_base.proofs.FinMaps.{none_pass}
+use Rattle.xa_tables.specs.History.{is_in_doubt, is_unfinished, decided_fate, fate_of, fates_in, last_or, if_named, tables_after, coded}
+use Rattle.xa_tables.specs.Openings.{IsOpening, told_by}
+use Rattle.std.specs.List.{cons_option}
 use Rattle.xa_tables.proofs.Effects.{Effect, Stays, Starts, Joins, Resumes, Suspends, Leaves, Fails, Idles, Dooms, Prepares, Commits, Drops, CommitsByItself}
 use Rattle.xa_tables.proofs.Effects.{RollsBackByItself, Forgets, effect_of, named_none}
-use Rattle.xa_tables.proofs.SoundLemmas.{AreHeld, held_put, held_associated, held_dissociated, held_apart, held_now, associated_held, others_put}
-use Rattle.xa_tables.proofs.SoundLemmas.{others_removed}
+pub use Rattle.xa_tables.proofs.SoundLemmas.{swap_xid}
+use Rattle.xa_tables.proofs.SoundLemmas.{Associations, apart_from, nobody_with, nobody_joins, nobody_leaves}
 
--- how a branch stands, as its state and as its fate have it
+-- ---- what a state tells
+
+-- the state of a branch tells its fate
+pub record Tells (o : Option State) (f : Fate) : Type 0 where
+  pub prepared : is_S3 o ≡ is_in_doubt f
+  pub exists : is_some o ≡ (is_unfinished f || is_S5 o)
+  pub decided : (d : HeuristicDecision) → o ≡ Some (HeuristicallyCompleted d) → f ≡ decided_fate d
+
+-- a branch that doesn't exist, and hasn't begun or has ended
+none_tells : (f : Fate) → is_in_doubt f ≡ false → is_unfinished f ≡ false → Tells None f
+none_tells f sure ended = record { prepared = sym sure; exists = sym (ap (λ b. b || false) ended); decided = λ d e. cc }
+
+same_decision : (c d : HeuristicDecision) → Some (HeuristicallyCompleted c) ≡ Some (HeuristicallyCompleted d) → c ≡ d
+same_decision c d e = cc
+
+pub decided_tells : (d : HeuristicDecision) → Tells (Some (HeuristicallyCompleted d)) (decided_fate d)
+decided_tells decision.Commit = record { prepared = refl; exists = refl; decided = λ d e. ap decided_fate (same_decision decision.Commit d e) }
+decided_tells decision.Rollback = record { prepared = refl; exists = refl; decided = λ d e. ap decided_fate (same_decision decision.Rollback d e) }
+
+-- each state tells some fate
+pub told_tells : (o : Option State) → Tells o (told_by o)
+told_tells (Some (HeuristicallyCompleted d)) = decided_tells d
+told_tells None = none_tells Absent refl refl
+told_tells (Some s) = record { prepared = refl; exists = refl; decided = λ d e. cc }
+
+-- how a branch stands
 pub data Standing : Type 0 where
   Nowhere : Standing
   AtWork : Standing
@@ -45,52 +67,25 @@ standing (Some S3) = Voted
 standing (Some (RollbackOnly reason)) = AtWork
 standing (Some (HeuristicallyCompleted decision)) = Nowhere
 
-abbrev pub standing_of : Fate → Standing
-standing_of Live = AtWork
-standing_of InDoubt = Voted
-standing_of f = Nowhere
-
--- a fate of a branch that stands so
-abbrev fate_at : Standing → Fate
-fate_at Nowhere = Absent
-fate_at AtWork = Live
-fate_at Voted = InDoubt
-
-at_fate : (s : Standing) → standing_of (fate_at s) ≡ s
-at_fate Nowhere = refl
-at_fate AtWork = refl
-at_fate Voted = refl
-
-abbrev pub is_voted : Standing → Bool
-is_voted Voted = true
-is_voted s = false
-
-pub state_voted : (o : Option State) → is_S3 o ≡ is_voted (standing o)
-state_voted (Some S3) = refl
-state_voted o = refl
-
-pub fate_voted : (f : Fate) → is_in_doubt f ≡ is_voted (standing_of f)
-fate_voted Live = refl
-fate_voted f = refl
-
-abbrev pub is_there : Standing → Bool
-is_there Nowhere = false
-is_there s = true
-
-pub state_there : (o : Option State) → is_some o ≡ (is_there (standing o) || is_S5 o)
-state_there (Some S3) = refl
-state_there o = refl
-
-pub fate_there : (f : Fate) → is_unfinished f ≡ is_there (standing_of f)
-fate_there Live = refl
-fate_there f = refl
-
--- a branch that exists and is in neither S3 nor S5
+-- a branch is at work that exists and is in neither S3 nor S5
 pub works : (o : Option State) → is_some o ≡ true → (is_S3 o || is_S5 o) ≡ false → standing o ≡ AtWork
 works (Some Active) some e = refl
-works (Some Idle) some e = refl
-works (Some (RollbackOnly reason)) some e = refl
 works o some e = cc
+
+pub working : (o : Option State) → standing o ≡ AtWork → (is_some o ≡ true) × (is_S3 o ≡ false) × (is_S5 o ≡ false)
+working (Some Active) e = (refl, refl, refl)
+working o e = (cc, cc, cc)
+
+-- so all states of work tell the same
+works_tells : (o p : Option State) (f : Fate) → standing o ≡ AtWork → standing p ≡ AtWork → Tells o f → Tells p f
+works_tells o p f at_o at_p h =
+    let was = working o at_o in
+    let is = working p at_p in
+    record {
+      prepared = is.1 ∙ sym was.1 ∙ h.prepared;
+      exists = is.0 ∙ sym was.0 ∙ h.exists ∙ ap (λ b. is_unfinished f || b) (was.2 ∙ sym is.2);
+      decided = λ d e. let z : true ≡ false = sym (ap is_S5 e) ∙ is.2 in cc;
+    }
 
 -- a branch in S3 or S5
 pub voted_rests : (o : Option State) → is_S3 o ≡ true → standing o ≢ AtWork
@@ -101,17 +96,23 @@ pub completed_nowhere : (o : Option State) → is_S5 o ≡ true → standing o �
 completed_nowhere (Some (HeuristicallyCompleted decision)) e = refl
 completed_nowhere o e = cc
 
--- each association is with a branch at work
-pub record Sound (T : Tables) : Type 0 where
-  pub at_work : AreHeld standing AtWork T.associations T.states
+decided_ended : (d : HeuristicDecision) → Tells None (decided_fate d)
+decided_ended decision.Commit = none_tells HeurCommitted refl refl
+decided_ended decision.Rollback = none_tells HeurRolledBack refl refl
 
--- what a step keeps and owes: after it the state of x and its fate agree
-pub record Step (x : XidName) (op : Op) (f : Fate) (a : Answer) : Type 0 where
-  pub sound : Sound a.0
-  pub owes : standing (state_of a.0 x) ≡ standing_of (unwrap_or (fate_of x op a.1) f)
+-- a decision that is forgotten was made
+forgotten_tells : (o : Option State) (f : Fate) → is_S5 o ≡ true → Tells o f → Tells None f
+forgotten_tells (Some (HeuristicallyCompleted d)) f e h = subst (Tells None) (sym (h.decided d refl)) (decided_ended d)
+forgotten_tells o f e h = cc
 
-pub swap_xid : (x y : XidName) → xid_eq x y ≡ xid_eq y x
-swap_xid x y = same_from_decides _ _ (Decides-xid_eq x y) ((λ t. sym ((Decides-xid_eq y x).0 t)), (λ e. (Decides-xid_eq y x).1 (sym e)))
+-- so is a branch that ends without a commit
+dropped_tells : (f : Fate) → ending_by f ≡ Some false → Tells None f
+dropped_tells ReadOnly e = none_tells ReadOnly refl refl
+dropped_tells RolledBack e = none_tells RolledBack refl refl
+dropped_tells HeurRolledBack e = none_tells HeurRolledBack refl refl
+dropped_tells f e = cc
+
+-- ---- the state of x after a change of the branch y
 
 -- the state of x after y was put into s, and after y is gone
 pub get_put : (T : Tables) (y x : XidName) (s : State) → state_of (stated y s T) x ≡ (if xid_eq y x then Some s else state_of T x)
@@ -120,158 +121,165 @@ get_put T y x s = get-insert xid_cmp_total T.states y s x ∙ ap (λ b. cond b (
 pub get_gone : (T : Tables) (y x : XidName) → state_of (gone y T) x ≡ (if xid_eq y x then None else state_of T x)
 get_gone T y x = get-remove xid_cmp_total T.states y x ∙ ap (λ b. cond b None (state_of T x)) (sym (xid_eq-by_cmp x y) ∙ swap_xid x y)
 
--- y is put into a state, and its fate says so
-owes_put : (x y : XidName) (s : State) (g f : Fate) (T : Tables) → standing (Some s) ≡ standing_of g → standing (state_of T x) ≡ standing_of f
-    → standing (state_of (stated y s T) x) ≡ standing_of (unwrap_or (if_named x y (Some g)) f)
-owes_put x y s g f T e h =
-    ap standing (get_put T y x s)
-    ∙ elim (xid_eq y x) as (λ b. standing (if b then Some s else state_of T x) ≡ standing_of (unwrap_or (if b then Some g else None) f)) [ true ↦ e | false ↦ h ]
+-- what holds of it, by whether x is y
+where_changed : (T : Tables) (y x : XidName) (o p : Option State) (P : Bool → Option State → Type 0) → p ≡ (if xid_eq y x then o else state_of T x)
+    → (y ≡ x → P true o) → (xid_eq y x ≡ false → P false (state_of T x)) → P (xid_eq y x) p
+where_changed T y x o p P is one other =
+    subst (P (xid_eq y x)) (sym is) (by_bool (λ b. P b (if b then o else state_of T x)) (xid_eq y x) (λ e. one ((Decides-xid_eq y x).0 e)) other)
 
-owes_gone : (x y : XidName) (g f : Fate) (T : Tables) → Nowhere ≡ standing_of g → standing (state_of T x) ≡ standing_of f
-    → standing (state_of (gone y T) x) ≡ standing_of (unwrap_or (if_named x y (Some g)) f)
-owes_gone x y g f T e h =
-    ap standing (get_gone T y x)
-    ∙ elim (xid_eq y x) as (λ b. standing (if b then None else state_of T x) ≡ standing_of (unwrap_or (if b then Some g else None) f)) [ true ↦ e | false ↦ h ]
+pub where_put : (T : Tables) (y x : XidName) (s : State) (P : Bool → Option State → Type 0) → (y ≡ x → P true (Some s))
+    → (xid_eq y x ≡ false → P false (state_of T x)) → P (xid_eq y x) (state_of (stated y s T) x)
+where_put T y x s P = where_changed T y x (Some s) _ P (get_put T y x s)
 
--- y is put into a state in which it stands as it stood
-quiet_put : (x y : XidName) (s : State) (T : Tables) → standing (Some s) ≡ standing (state_of T y)
-    → standing (state_of (stated y s T) x) ≡ standing (state_of T x)
-quiet_put x y s T e =
-    ap standing (get_put T y x s)
-    ∙ elim (xid_eq y x) as (λ b. xid_eq y x ≡ b → standing (if b then Some s else state_of T x) ≡ standing (state_of T x)) [
-      | true ↦ λ t. e ∙ ap (λ z. standing (state_of T z)) ((Decides-xid_eq y x).0 t)
-      | false ↦ λ t. refl
-    ] refl
+pub where_gone : (T : Tables) (y x : XidName) (P : Bool → Option State → Type 0) → (y ≡ x → P true None)
+    → (xid_eq y x ≡ false → P false (state_of T x)) → P (xid_eq y x) (state_of (gone y T) x)
+where_gone T y x P = where_changed T y x None _ P (get_gone T y x)
 
--- y, which stands nowhere, is gone
-quiet_gone : (x y : XidName) (T : Tables) → standing (state_of T y) ≡ Nowhere → standing (state_of (forgotten y T) x) ≡ standing (state_of T x)
-quiet_gone x y T e =
-    ap standing (get_gone T y x)
-    ∙ elim (xid_eq y x) as (λ b. xid_eq y x ≡ b → standing (if b then None else state_of T x) ≡ standing (state_of T x)) [
-      | true ↦ λ t. sym e ∙ ap (λ z. standing (state_of T z)) ((Decides-xid_eq y x).0 t)
-      | false ↦ λ t. refl
-    ] refl
+-- ---- what each request keeps
 
 -- nobody is associated with a branch that isn't at work
+pub record Sound (T : Tables) : Type 0 where
+  pub rests : (x : XidName) → standing (state_of T x) ≢ AtWork → is_somebody_associated T.associations x ≡ false
+
 pub nobody_rests : (T : Tables) → Sound T → (x : XidName) → standing (state_of T x) ≢ AtWork → is_somebody_associated T.associations x ≡ false
-nobody_rests T s x rests =
-    none_pass nat_cmp_total nat_cmp-IsAntisymmetric (λ t l. xid_eq l.xid x) T.associations (λ t l found. false_from_ne_true (xid_eq l.xid x) (λ e.
-    rests (ap (λ z. standing (state_of T z)) (sym ((Decides-xid_eq l.xid x).0 e)) ∙ s.at_work t l found)))
+nobody_rests T s = s.rests
 
--- t is associated with y, and y is S1
-started : (t : ℕ) (y : XidName) (T : Tables) → Sound T → Sound (associated t y (stated y Active T))
-started t y T s =
-    record {
-      at_work = held_associated standing AtWork _ _ _ t (association y Associated) refl (held_now standing AtWork _ _ y Active refl refl) (held_put standing AtWork _ _ _ y Active refl refl s.at_work);
-    }
+-- so the branch of each association is at work
+pub associated_works : (T : Tables) → Sound T → (t : ℕ) (l : Association) → association_of T t ≡ Some l → standing (state_of T l.xid) ≡ AtWork
+associated_works T s t l found =
+    by_standing (standing (state_of T l.xid)) (λ rests.
+    let apart = apart_from l.xid T.associations (s.rests l.xid rests) t l found in let own = xid_self l.xid in cc)
+  where
+    by_standing : (p : Standing) → (p ≢ AtWork → ⊥) → p ≡ AtWork
+    by_standing AtWork not = refl
+    by_standing p not = absurd (not (λ e. cc))
 
--- y is put into a state of work
-worked : (y : XidName) (o : State) (T : Tables) → standing (Some o) ≡ AtWork → Sound T → Sound (stated y o T)
-worked y o T e s = record { at_work = held_put standing AtWork _ _ _ y o refl e s.at_work }
-
--- a branch with which a thread is associated is at work
-associated_alive : (t : ℕ) (y : XidName) (T : Tables) → Sound T → is_associated T t y ≡ true → standing (state_of T y) ≡ AtWork
-associated_alive t y T s =
+-- and that of the association that t has with y
+pub own_works : (T : Tables) → Sound T → (t : ℕ) (y : XidName) → is_associated T t y ≡ true → standing (state_of T y) ≡ AtWork
+own_works T s t y =
     elim (association_of T t) as (λ o. association_of T t ≡ o → is_association_with o y ≡ true → standing (state_of T y) ≡ AtWork) [
       | None ↦ λ e h. cc
-      | Some l ↦ λ e h. associated_held standing AtWork T.associations T.states t l y s.at_work (sym e) (sym h)
+      | Some l ↦ λ e h. ap (λ z. standing (state_of T z)) (sym ((Decides-xid_eq l.xid y).0 h)) ∙ associated_works T s t l e
     ] refl
 
-reassociated : (t : ℕ) (y : XidName) (state : AssociationState) (T : Tables) → Sound T → is_associated T t y ≡ true
-    → Sound (with_association t (association y state) T)
-reassociated t y state T s h =
-    record { at_work = held_associated standing AtWork T.associations _ T.states t (association y state) refl (associated_alive t y T s h) s.at_work }
+-- what a step keeps: after it the state of x tells what became of it
+pub record Step (x : XidName) (op : Op) (f : Fate) (a : Answer) : Type 0 where
+  pub sound : Sound a.0
+  pub tells : Tells (state_of a.0 x) (unwrap_or (fate_of x op a.1) f)
 
--- a fate that ends a branch without a commit leaves it nowhere
-dropped_nowhere : (g : Fate) → ending_by g ≡ Some false → Nowhere ≡ standing_of g
-dropped_nowhere ReadOnly e = refl
-dropped_nowhere RolledBack e = refl
-dropped_nowhere HeurRolledBack e = refl
-dropped_nowhere g e = cc
+module _ (t : ℕ) (x : XidName) (f : Fate) (T : Tables) (s : Sound T) (h : Tells (state_of T x) f) where
+  -- y is put into a state of work, and the associations become these
+  worked : (y : XidName) (o : State) (m : Associations) → standing (Some o) ≡ AtWork
+      → ((z : XidName) → xid_eq y z ≡ false → is_somebody_associated T.associations z ≡ false → is_somebody_associated m z ≡ false)
+      → Sound (record (stated y o T) { associations = m })
+  worked y o m e stay = record {
+    rests = λ z. where_put T y z o (λ _ p. standing p ≢ AtWork → is_somebody_associated m z ≡ false) (λ _ r. absurd (r e)) (λ other r. stay z other (s.rests z r));
+  }
 
-module _ (t : ℕ) (x : XidName) (f : Fate) (T : Tables) (s : Sound T) (h : standing (state_of T x) ≡ standing_of f) where
-  same : (op : Op) (a : Answer) → Sound a.0 → fate_of x op a.1 ≡ None → standing (state_of a.0 x) ≡ standing_of f → Step x op f a
-  same op a sound none e = record { sound = sound; owes = e ∙ ap (λ o. standing_of (unwrap_or o f)) (sym none) }
-
-  left : Sound (dissociated t T)
-  left = record { at_work = held_dissociated standing AtWork _ _ _ t refl s.at_work }
-
-  removed : (y : XidName) → is_somebody_associated T.associations y ≡ false → AreHeld standing AtWork T.associations (gone y T).states
-  removed y nobody = held_apart standing AtWork _ _ _ y (others_removed T.states y) nobody s.at_work
+  -- y rests, and nobody is associated with it
+  rested : (y : XidName) (o : State) → is_somebody_associated T.associations y ≡ false → Sound (stated y o T)
+  rested y o nobody = record {
+    rests = λ z. where_put T y z o (λ _ p. standing p ≢ AtWork → is_somebody_associated T.associations z ≡ false) (λ e _. subst (λ w. is_somebody_associated T.associations w ≡ false) e nobody) (λ _. s.rests z);
+  }
 
   -- a prepared branch is decided heuristically
-  decided : (y : XidName) (d : HeuristicDecision) → is_prepared T y ≡ true
-      → AreHeld standing AtWork T.associations (stated y (HeuristicallyCompleted d) T).states
-  decided y d voted =
-      held_apart standing AtWork T.associations T.states _ y (others_put T.states y (HeuristicallyCompleted d)) (nobody_rests T s y (voted_rests (state_of T y) voted)) s.at_work
+  decided : (y : XidName) (d : HeuristicDecision) → is_prepared T y ≡ true → Sound (stated y (HeuristicallyCompleted d) T)
+  decided y d voted = rested y (HeuristicallyCompleted d) (s.rests y (voted_rests (state_of T y) voted))
+
+  removed : (y : XidName) → is_somebody_associated T.associations y ≡ false → Sound (gone y T)
+  removed y nobody = record {
+    rests = λ z. where_gone T y z (λ _ p. standing p ≢ AtWork → is_somebody_associated T.associations z ≡ false) (λ e _. subst (λ w. is_somebody_associated T.associations w ≡ false) e nobody) (λ _. s.rests z);
+  }
+
+  -- t's own association with y changes, and goes
+  reassociated : (y : XidName) (state : AssociationState) → is_associated T t y ≡ true → Sound (with_association t (association y state) T)
+  reassociated y state own = record {
+    rests = λ z r.
+        nobody_joins z T.associations t (association y state) (by_bool (λ b. xid_eq y z ≡ b → b ≡ false) (xid_eq y z)
+        (λ _ e. absurd (r (ap (λ w. standing (state_of T w)) (sym ((Decides-xid_eq y z).0 e)) ∙ own_works T s t y own))) (λ _ _. refl) refl) (s.rests z r);
+  }
+
+  left : Sound (dissociated t T)
+  left = record { rests = λ z r. nobody_leaves z T.associations t (s.rests z r) }
+
+  begun : (y : XidName) → Sound (associated t y (stated y Active T))
+  begun y = worked y Active _ refl (λ z. nobody_joins z T.associations t (association y Associated))
+
+  -- y gets a state, and its request makes g of it
+  named_put : (y : XidName) (o : State) (g : Option Fate) → (y ≡ x → Tells (Some o) (unwrap_or g f))
+      → Tells (state_of (stated y o T) x) (unwrap_or (if_named x y g) f)
+  named_put y o g here = where_put T y x o (λ b p. Tells p (unwrap_or (if b then g else None) f)) here (λ _. h)
+
+  named_gone : (y : XidName) (g : Option Fate) → (y ≡ x → Tells None (unwrap_or g f)) → Tells (state_of (gone y T) x) (unwrap_or (if_named x y g) f)
+  named_gone y g here = where_gone T y x (λ b p. Tells p (unwrap_or (if b then g else None) f)) here (λ _. h)
+
+  -- y goes on working, which the request doesn't tell
+  goes_on : (y : XidName) (o : State) → standing (state_of T y) ≡ AtWork → standing (Some o) ≡ AtWork → Tells (state_of (stated y o T) x) f
+  goes_on y o was is =
+      where_put T y x o (λ _ p. Tells p f) (λ e. works_tells (state_of T x) (Some o) f (ap (λ z. standing (state_of T z)) (sym e) ∙ was) is h) (λ _. h)
+
+  -- the request makes nothing of x
+  silent : {op : Op} {a : Answer} → Sound a.0 → Tells (state_of a.0 x) f → fate_of x op a.1 ≡ None → Step x op f a
+  silent {a = a} sound tells none = record { sound = sound; tells = subst (Tells (state_of a.0 x)) (ap (λ o. unwrap_or o f) (sym none)) tells }
 
   by_effect : {op : Op} {a : Answer} → Effect t T op a → Step x op f a
-  by_effect (Stays op c tells) = same op (T, c) s (tells.fates x) h
-  by_effect (Starts y free) = record { sound = started t y T s; owes = owes_put x y Active Live f T refl h }
-  by_effect (Joins y free there unprepared) =
-      same (Start y Join) _ (started t y T s) (named_none x y) (quiet_put x y Active T (sym (works _ there unprepared)) ∙ h)
-  by_effect (Resumes y own) = same (Start y Resume) _ (reassociated t y Associated T s own) (named_none x y) h
-  by_effect (Suspends y own) = record { sound = reassociated t y Suspended T s own; owes = h }
-  by_effect (Leaves y how c own why) = record { sound = left; owes = h }
-  by_effect (Fails y own) = record {
-    sound = worked y (RollbackOnly Failed) (dissociated t T) refl left;
-    owes = quiet_put x y (RollbackOnly Failed) (dissociated t T) (sym (associated_alive t y T s own)) ∙ h;
-  }
-  by_effect (Idles y own alone) = record {
-    sound = worked y Idle (dissociated t T) refl left;
-    owes = quiet_put x y Idle (dissociated t T) (sym (associated_alive t y T s own)) ∙ h;
-  }
-  by_effect (Dooms k d l own) = record {
-    sound = worked l.xid (RollbackOnly Transient) T refl s;
-    owes = quiet_put x l.xid (RollbackOnly Transient) T (sym (s.at_work t l own)) ∙ h;
-  }
-  by_effect (Prepares y nobody unbroken) = record {
-    sound = record { at_work = held_apart standing AtWork T.associations T.states _ y (others_put T.states y S3) nobody s.at_work };
-    owes = owes_put x y S3 InDoubt f T refl h;
-  }
-  by_effect (Commits y one_phase nobody may) = record { sound = record { at_work = removed y nobody }; owes = owes_gone x y Committed f T refl h }
+  by_effect (Stays op c tells) = silent s h (tells.fates x)
+  by_effect (Starts y free) = record { sound = begun y; tells = named_put y Active (Some Live) (λ _. told_tells (Some Active)) }
+  by_effect (Joins y free there unprepared) = silent (begun y) (goes_on y Active (works _ there unprepared) refl) (named_none x y)
+  by_effect (Resumes y own) = silent (reassociated y Associated own) h (named_none x y)
+  by_effect (Suspends y own) = silent (reassociated y Suspended own) h refl
+  by_effect (Leaves y how c own why) = silent left h refl
+  by_effect (Fails y own) =
+      silent (worked y (RollbackOnly Failed) _ refl (λ z _. nobody_leaves z T.associations t)) (goes_on y (RollbackOnly Failed) (own_works T s t y own) refl) refl
+  by_effect (Idles y own alone) = silent (worked y Idle _ refl (λ z _. nobody_leaves z T.associations t)) (goes_on y Idle (own_works T s t y own) refl) refl
+  by_effect (Dooms k d l own) =
+      silent (worked l.xid (RollbackOnly Transient) _ refl (λ z _ n. n)) (goes_on l.xid (RollbackOnly Transient) (associated_works T s t l own) refl) refl
+  by_effect (Prepares y nobody unbroken) = record { sound = rested y S3 nobody; tells = named_put y S3 (Some InDoubt) (λ _. told_tells (Some S3)) }
+  by_effect (Commits y one_phase nobody may) =
+      record { sound = record { rests = (removed y nobody).rests }; tells = named_gone y (Some Committed) (λ _. none_tells Committed refl refl) }
   by_effect (Drops op y c nobody tells) = record {
-    sound = record { at_work = removed y nobody };
-    owes = owes_gone x y tells.fate f T (dropped_nowhere tells.fate tells.uncommitted) h ∙ ap (λ o. standing_of (unwrap_or o f)) (sym (tells.fates x));
+    sound = removed y nobody;
+    tells = subst (λ o. Tells (state_of (gone y T) x) (unwrap_or o f)) (sym (tells.fates x)) (named_gone y (Some tells.fate) (λ _. dropped_tells tells.fate tells.uncommitted));
   }
   by_effect (CommitsByItself y voted) =
-      record { sound = record { at_work = decided y decision.Commit voted }; owes = owes_put x y (HeuristicallyCompleted decision.Commit) HeurCommitted f T refl h }
+      record { sound = record { rests = (decided y decision.Commit voted).rests }; tells = named_put y (HeuristicallyCompleted decision.Commit) (Some HeurCommitted) (λ _. decided_tells decision.Commit) }
   by_effect (RollsBackByItself y voted) =
-      record { sound = record { at_work = decided y decision.Rollback voted }; owes = owes_put x y (HeuristicallyCompleted decision.Rollback) HeurRolledBack f T refl h }
+      record { sound = record { rests = (decided y decision.Rollback voted).rests }; tells = named_put y (HeuristicallyCompleted decision.Rollback) (Some HeurRolledBack) (λ _. decided_tells decision.Rollback) }
   by_effect (Forgets y is) =
-      let nowhere = completed_nowhere (state_of T y) is in
-      same (Forget y) _ (record { at_work = removed y (nobody_rests T s y (λ w. let z : Nowhere ≡ AtWork = sym nowhere ∙ w in cc)) }) refl (quiet_gone x y T nowhere ∙ h)
+      silent (record { rests = (removed y (s.rests y (λ w. let nowhere = completed_nowhere (state_of T y) is in cc))).rests }) (where_gone T y x (λ _ p. Tells p f) (λ e. forgotten_tells (state_of T x) f (ap (λ z. is_S5 (state_of T z)) (sym e) ∙ is) h) (λ _. h)) refl
   -- the others change no state and no association
-  by_effect effect = record { sound = record { at_work = s.at_work }; owes = h }
+  by_effect effect = record { sound = record { rests = s.rests }; tells = h }
 
-pub step : (t : ℕ) (op : Op) (x : XidName) (f : Fate) (T : Tables) → Sound T → standing (state_of T x) ≡ standing_of f → Step x op f (next t op T)
+pub step : (t : ℕ) (op : Op) (x : XidName) (f : Fate) (T : Tables) → Sound T → Tells (state_of T x) f → Step x op f (next t op T)
 step t op x f T s h = by_effect t x f T s h (effect_of t op T)
 
 pub last_more : (f : Fate) (o : Option Fate) (gs : List Fate) → last_or (unwrap_or o f) gs ≡ last_or f (cons_option o gs)
 last_more f None gs = refl
 last_more f (Some g) gs = refl
 
--- the fates that a history gives x, one by one
-abbrev pub fates : XidName → History → Tables → List Fate
-fates x H T = filter_map (λ e. fate_of x e.0.op e.1) (coded H T)
-
-pub run : (H : History) (x : XidName) (f : Fate) (T : Tables) → Sound T → standing (state_of T x) ≡ standing_of f
-    → standing (state_of (tables_after H T) x) ≡ standing_of (last_or f (fates x H T))
+pub run : (H : History) (x : XidName) (f : Fate) (T : Tables) → Sound T → Tells (state_of T x) f
+    → Tells (state_of (tables_after H T) x) (last_or f (fates_in x (coded H T)))
 run [] x f T s h = h
 run (r ∷ H) x f T s h =
     let T1 : Tables = (next r.thread r.op T).0 in
     let o : Option Fate = fate_of x r.op (next r.thread r.op T).1 in
     let a = step r.thread r.op x f T s h in
-    run H x (unwrap_or o f) T1 a.sound a.owes ∙ ap standing_of (last_more f o (fates x H T1))
+    subst (Tells (state_of (tables_after H T1) x)) (last_more f o (fates_in x (coded H T1))) (run H x (unwrap_or o f) T1 a.sound a.tells)
 
 pub sound_after : (t : ℕ) (op : Op) (T : Tables) → Sound T → Sound (next t op T).0
 sound_after t op T s =
     let x : XidName = record { format = pos 0; gtrid = []; bqual = [] } in
-    (step t op x (fate_at (standing (state_of T x))) T s (sym (at_fate (standing (state_of T x))))).sound
+    (step t op x (told_by (state_of T x)) T s (told_tells (state_of T x))).sound
 
 pub run_sound : (h : History) (T : Tables) → Sound T → Sound (tables_after h T)
 run_sound [] T s = s
 run_sound (r ∷ h) T s = run_sound h (next r.thread r.op T).0 (sound_after r.thread r.op T s)
 
+-- nobody is associated with a branch as an opening begins
+pub opening_free : (x : XidName) (T : Tables) → IsOpening T → is_somebody_associated T.associations x ≡ false
+opening_free x T o =
+    ap (λ m. is_somebody_associated m x) o.associations
+    ∙ nobody_with x map.empty (λ u l found. let z : None ≡ Some l = sym (get-empty nat_cmp u) ∙ found in cc)
+
 pub opening_sound : (T : Tables) → IsOpening T → Sound T
-opening_sound T o = record { at_work = λ t a found. let n = ap (λ m. map.get m t) o.associations ∙ get-empty nat_cmp t in cc }
+opening_sound T o = record { rests = λ x r. opening_free x T o }

@@ -23,7 +23,6 @@ pub mod ActiveLaw
 pub mod WithinLaw
 pub mod FateLaw
 pub mod TouchLaw
-pub mod DecidedLaw
 pub mod Reopening
 pub mod FatesLaw
 pub mod SumLaw

@@ -1,6 +1,6 @@
 -- Where the keys stand among the accounts, and what was declared.
 use Rattle.std.specs.Prelude.{◌≡◌, ℕ, pos, zero, suc, ◌+◌, ◌<◌, ◌≤◌, All, Bool, true, false, cond, ◌&&◌, ◌||◌, if◌then◌else◌, nat_le, List, [], ◌∷◌, ◌++◌}
-use Rattle.std.specs.Prelude.{length, map, Option, None, Some, is_some, refl, slice_index_or}
+use Rattle.std.specs.Prelude.{length, map, Option, None, Some, is_some, option_map, refl, slice_index_or}
 use Rattle.std.proofs.Common.{sym, ap, ◌∙◌, arith, get_or, take, length-take-le}
 use Rattle.std.proofs.Math.ListN.{set}
 use Rattle.std.proofs.lemmas.Int.{ints}
@@ -19,7 +19,7 @@ use Rattle.xa_words.specs.Orders.{key_cmp, key_cmp_total, Decides-key_eq, key_eq
 use Rattle.xa_tables.specs.declared.accounts.Account.{Account}
 use Rattle.xa_tables.specs.Accounts.{AreDistinct, AreIndexed, IsGood, value_entries, hold_entries, place_in, later_place, hold_is_other, is_held_by_other}
 use Rattle.xa_tables.specs.Accounts.{are_apart, are_accounts, declared_values, keys_of}
-use Rattle.xa_tables.proofs.AccountLemmas.{same_key, key_self, key_apart, Lacks, is_other}
+use Rattle.xa_tables.proofs.AccountLemmas.{same_key, Lacks, is_other, value_found, at_own_key}
 
 swapped : (k l : List ℕ) → key_eq l k ≡ same_key k l
 swapped k l = key_eq-by_cmp l k ∙ (eq_by_cmp_equiv key_cmp_total).symm l k
@@ -86,21 +86,11 @@ pub value_none : (k : List ℕ) (accounts : List Account) → place_in k account
 value_none k accounts e =
     elim (find key_cmp k (value_entries accounts)) as (λ o. is_some o ≡ false → o ≡ None) [ Some v ↦ λ f. let never : ⊥ = cc in absurd never | None ↦ λ f. refl ] (sym (place_some k accounts) ∙ ap is_some e)
 
-found : (k : List ℕ) (accounts : List Account) (i : ℕ) (a : Account) → AreDistinct accounts → i < length accounts → a ≡ get_or accounts i a → a.key ≡ k
-    → find key_cmp k (value_entries accounts) ≡ Some a.value
-found k [] i a dist h e same = absurd (omega arith)
-found k (c ∷ rest) zero a dist h e same =
-    ap (λ b. cond b (Some c.value) (find key_cmp k (value_entries rest))) (ap (same_key k) (sym (ap (λ (w : Account). w.key) e) ∙ same) ∙ key_self k)
-    ∙ ap (λ (w : Account). Some w.value) (sym e)
-found k (c ∷ rest) (suc i) a dist h e same =
-    let later = found k rest i a dist.1 (omega arith) e same in
-    ap (λ b. cond b (Some c.value) (find key_cmp k (value_entries rest)))
-    (key_apart k c.key (λ is. let z : is_some (find key_cmp k (value_entries rest)) ≡ false = ap (λ w. is_some (find key_cmp w (value_entries rest))) is ∙ ap is_some dist.0 in let y = ap is_some later in cc))
-    ∙ later
-
 pub value_at : (k : List ℕ) (accounts : List Account) (i : ℕ) (a : Account) → AreDistinct accounts → place_in k accounts ≡ Some i → a ≡ get_or accounts i a
     → find key_cmp k (value_entries accounts) ≡ Some a.value
-value_at k accounts i a dist there e = found k accounts i a dist (place_within k accounts i there) e (place_key k accounts i a there e)
+value_at k accounts i a dist there e =
+    ap (λ q. find key_cmp q (value_entries accounts)) (sym (place_key k accounts i a there e)) ∙ value_found a.key accounts
+    ∙ ap (option_map (λ (w : Account). w.value)) (at_own_key accounts i a dist (place_within k accounts i there) e)
 
 -- one more account at the end
 place_push : (k : List ℕ) (xs : List Account) (a : Account) → place_in k (xs ++ a ∷ []) ≡ cond (key_eq a.key k) (Some (length xs)) (place_in k xs)

@@ -22,7 +22,7 @@ use Rattle.xa_tables.specs.History.{History, is_shut, is_rolled_back, coded, fat
 use Rattle.xa_tables.specs.Openings.{IsOpening}
 use Rattle.xa_tables.specs.Prepared.{names, closes, is_heur, is_forget, NamesNowhere, OnlyDecides, LeavesWaiting, has_shut, IsPrepared, StaysPrepared}
 use Rattle.xa_tables.specs.Prepared.{AwaitsTheOutcome, AwaitsAfter}
-use Rattle.xa_tables.proofs.ShutLemmas.{next-shut, next-Shut, shut_op}
+use Rattle.xa_tables.proofs.ShutLemmas.{next-Shut, shut_op, shut_stays}
 use Rattle.xa_base.proofs.Truth.{by_if, at_false, at_true}
 use Rattle.xa_tables.proofs.Law.{Sound, Nowhere, AtWork, standing, voted_rests, nobody_rests, get_put, sound_after, run_sound, opening_sound}
 use Rattle.xa_tables.proofs.Unnamed.{unnamed_on, unnamed_stays, unnamed_fate, unnamed_law}
@@ -204,15 +204,14 @@ outcome_law h g t x T o e n =
 
 -- ---- a manager is shut after a Shut alone
 
-shut_stays_on : (h : History) (T : Tables) → T.shut ≡ true → (tables_after h T).shut ≡ true
-shut_stays_on [] T s = s
-shut_stays_on (r ∷ h) T s = ap (λ (a : Answer). (tables_after h a.0).shut) (next-shut r.thread r.op T s) ∙ shut_stays_on h T s
-
 shut_from : (h : History) (T : Tables) → T.shut ≡ false → (tables_after h T).shut ≡ has_shut h
 shut_from [] T s = s
 shut_from (r ∷ h) T s =
     elim (is_shut r.op) as (λ b. is_shut r.op ≡ b → (tables_after h (next r.thread r.op T).0).shut ≡ (b || has_shut h)) [
-      | true ↦ λ e. shut_stays_on h (next r.thread r.op T).0 (ap (λ (o : Op). (next r.thread o T).0.shut) (shut_op r.op e) ∙ ap (λ (a : Answer). a.0.shut) (next-Shut r.thread T s))
+      | true ↦ λ e.
+          let now : (next r.thread r.op T).0.shut ≡ true =
+          ap (λ (o : Op). (next r.thread o T).0.shut) (shut_op r.op e) ∙ ap (λ (a : Answer). a.0.shut) (next-Shut r.thread T s) in
+          ap (λ (U : Tables). U.shut) (shut_stays h (next r.thread r.op T).0 now) ∙ now
       | false ↦ λ e. shut_from h (next r.thread r.op T).0 (stays_open r.thread r.op T e ∙ s)
     ] refl
 

@@ -1,47 +1,66 @@
 -- What the first Shut parts.
 use Rattle.std.specs.Prelude.{◌≡◌, ℕ, true, false, if◌then◌else◌, [], ◌∷◌, refl}
-use Rattle.std.proofs.Common.{ap, ◌∙◌}
+use Rattle.std.specs.List.{cons_option}
+use Rattle.std.proofs.Common.{sym, ap, ◌∙◌, subst}
+use Rattle.xa_base.proofs.Truth.{by_bool}
+use Rattle.xa_words.specs.Xid.{XidName}
 use Rattle.xa_words.specs.declared.code.Code.TheVariants.{Done, RmFail}
 use Rattle.xa_words.specs.declared.request.Op.{Op}
 use Rattle.xa_words.specs.declared.request.Op.TheVariants.{Shut}
+use Rattle.xa_words.specs.declared.request.Request.{Request}
 use Rattle.xa_tables.specs.Tables.{Tables}
 use Rattle.xa_tables.specs.Next.{Answer, next, if_opened, by_rules, shut_down}
-use Rattle.xa_tables.specs.History.{History, tables_after, is_shut, accepted}
+use Rattle.xa_tables.specs.History.{History, tables_after, is_shut, accepted, coded, fate_of, fates_in}
+use Rattle.xa_tables.proofs.Effects.{TellsNothing, error_tells}
 
 -- a manager that is shut refuses, and its tables stay
 pub next-shut : (t : ℕ) (op : Op) (T : Tables) → T.shut ≡ true → next t op T ≡ (T, RmFail)
 unfolding next
 next-shut t op T s = ap (λ b. if b then (T, RmFail) else if_opened t op T (by_rules t op T)) s
 
--- a manager that is shut leaves its tables
-pub shut_stays : (h : History) (T : Tables) → T.shut ≡ true → tables_after h T ≡ T
-shut_stays [] T s = refl
-shut_stays (r ∷ h) T s = ap (λ (a : Answer). tables_after h a.0) (next-shut r.thread r.op T s) ∙ shut_stays h T s
-
 pub shut_op : (op : Op) → is_shut op ≡ true → op ≡ Shut
 shut_op Shut e = refl
 shut_op op e = cc
+
+shut_tells : TellsNothing Shut Done
+shut_tells = record { fates = λ x. refl; shares = λ k l later. refl; moved = λ accounts T. refl }
 
 pub next-Shut : (t : ℕ) (T : Tables) → T.shut ≡ false → next t Shut T ≡ (shut_down T, Done)
 unfolding next
 next-Shut t T s = ap (λ b. if b then (T, RmFail) else (shut_down T, Done)) s
 
--- what a Shut leaves is left by all after it
-after_shut : {A : Type 0} (view : Tables → A) → ((T : Tables) → view (shut_down T) ≡ view T) → (t : ℕ) (op : Op) (h : History) (T : Tables) → op ≡ Shut
-    → view (tables_after h (next t op T).0) ≡ view T
-after_shut view keeps t op h T is =
-    elim (T.shut) as (λ b. T.shut ≡ b → view (tables_after h (next t op T).0) ≡ view T) [
-      | true ↦ λ s. ap (λ (a : Answer). view (tables_after h a.0)) (next-shut t op T s) ∙ ap view (shut_stays h T s)
-      | false ↦ λ s. ap (λ (o : Op). view (tables_after h (next t o T).0)) is ∙ ap (λ (a : Answer). view (tables_after h a.0)) (next-Shut t T s)
-          ∙ ap view (shut_stays h (shut_down T) refl) ∙ keeps T
-    ] refl
+-- what F reads of a history, where it reads nothing of a request that tells nothing
+module _ {A : Type 0} (F : History → Tables → A)
+    (quiet : (r : Request) (h : History) (T : Tables) (a : Answer) → next r.thread r.op T ≡ a → TellsNothing r.op a.1 → F (r ∷ h) T ≡ F h a.0) where
+  -- of a manager that is shut, nothing
+  pub all_quiet : (h : History) (T : Tables) → T.shut ≡ true → F h T ≡ F [] T
+  all_quiet [] T s = refl
+  all_quiet (r ∷ h) T s = quiet r h T (T, RmFail) (next-shut r.thread r.op T s) (error_tells r.op RmFail refl) ∙ all_quiet h T s
+
+  -- and of any manager, the accepted requests alone
+  pub accepted_read : ((T : Tables) → F [] (shut_down T) ≡ F [] T)
+      → ((r : Request) (h : History) (T : Tables) → F (accepted h) (next r.thread r.op T).0 ≡ F h (next r.thread r.op T).0 → F (r ∷ accepted h) T ≡ F (r ∷ h) T)
+      → (h : History) (T : Tables) → F (accepted h) T ≡ F h T
+  accepted_read end more [] T = refl
+  accepted_read end more (r ∷ h) T =
+      by_bool (λ b. is_shut r.op ≡ b → F (if b then [] else r ∷ accepted h) T ≡ F (r ∷ h) T) (is_shut r.op) (λ e _.
+      let is = shut_op r.op e in
+      by_bool (λ _. F [] T ≡ F (r ∷ h) T) (T.shut) (λ s. sym (all_quiet (r ∷ h) T s)) (λ s.
+      sym (quiet r h T (shut_down T, Done) (ap (λ (o : Op). next r.thread o T) is ∙ next-Shut r.thread T s) (subst (λ (o : Op). TellsNothing o Done) (sym is) shut_tells)
+      ∙ all_quiet h (shut_down T) refl ∙ end T))) (λ _ _. more r h T (accepted_read end more h (next r.thread r.op T).0)) refl
+
+-- a manager that is shut leaves its tables
+pub shut_stays : (h : History) (T : Tables) → T.shut ≡ true → tables_after h T ≡ T
+shut_stays = all_quiet tables_after (λ r h T a e tells. ap (λ (b : Answer). tables_after h b.0) e)
 
 -- what a Shut leaves is decided by the accepted requests
 pub after_accepted : {A : Type 0} (view : Tables → A) → ((T : Tables) → view (shut_down T) ≡ view T) → (h : History) (T : Tables)
     → view (tables_after h T) ≡ view (tables_after (accepted h) T)
-after_accepted view keeps [] T = refl
-after_accepted view keeps (r ∷ h) T =
-    elim (is_shut r.op) as (λ b. is_shut r.op ≡ b → view (tables_after h (next r.thread r.op T).0) ≡ view (tables_after (if b then [] else r ∷ accepted h) T)) [
-      | true ↦ λ e. after_shut view keeps r.thread r.op h T (shut_op r.op e)
-      | false ↦ λ e. after_accepted view keeps h (next r.thread r.op T).0
-    ] refl
+after_accepted view keeps h T =
+    sym (accepted_read (λ g U. view (tables_after g U)) (λ r g U a e tells. ap (λ (b : Answer). view (tables_after g b.0)) e) keeps (λ r g U e. e) h T)
+
+-- nothing becomes of x by a request that tells nothing
+pub fates_quiet : (x : XidName) (r : Request) (h : History) (T : Tables) (a : Answer) → next r.thread r.op T ≡ a → TellsNothing r.op a.1
+    → fates_in x (coded (r ∷ h) T) ≡ fates_in x (coded h a.0)
+fates_quiet x r h T a e tells =
+    ap (λ (b : Answer). cons_option (fate_of x r.op b.1) (fates_in x (coded h b.0))) e ∙ ap (λ o. cons_option o (fates_in x (coded h a.0))) (tells.fates x)

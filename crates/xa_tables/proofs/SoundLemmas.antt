@@ -1,4 +1,4 @@
--- What a step keeps of the facts on branches in S3.
+-- What a step keeps of the facts on branches in S3, and of who is associated.
 use Rattle.std.specs.Prelude.{◌≡◌, ◌≢◌, ℕ, ℤ, Bool, true, false, cond, Option, None, Some, is_some, refl}
 use Rattle.std.proofs.Common.{sym, ap, ◌∙◌, subst}
 use Rattle.std.specs.Ordering.{nat_cmp, eq_by_cmp, is_eq}
@@ -7,7 +7,8 @@ use Rattle.std.specs.Borrow.{MutBor}
 use Rattle.std.specs.Option.{OnSome}
 use Rattle.std.specs.FinMap as map
 use Rattle.std.specs.FinMap.{FinMap, same_map, get-insert, get-remove, nat_cmp-IsAntisymmetric}
-use Rattle.xa_base.proofs.Truth.{is_equal}
+use Rattle.std.proofs.lemmas.Bool.Decides.{same_from_decides}
+use Rattle.xa_base.proofs.Truth.{by_bool, is_equal, tied_true, tied_false}
 use Rattle.xa_words.specs.Xid.{XidName, xid_cmp, xid_eq}
 use Rattle.xa_words.specs.Orders.{key_cmp, xid_cmp_total, xid_cmp-IsAntisymmetric, Decides-xid_eq}
 use Rattle.xa_tables.specs.declared.state.State.{State}
@@ -18,9 +19,9 @@ use Rattle.xa_tables.specs.Tables.{is_S3, is_left_in}
 use Rattle.xa_tables.specs.Views.{BranchTable}
 use Rattle.xa_tables.specs.Lending.{HasState}
 use Rattle.xa_tables.specs.Managers.{ArePreparedSound}
-use Rattle.xa_base.proofs.FinMaps.{none_passes}
+use Rattle.xa_base.proofs.FinMaps.{none_pass, none_passes}
 
-abbrev Associations : Type 0
+abbrev pub Associations : Type 0
 Associations = FinMap nat_cmp Association
 
 abbrev States : Type 0
@@ -34,6 +35,9 @@ Values = FinMap key_cmp ℤ
 
 pub xid_tied : (x y : XidName) → x ≡ y → eq_by_cmp xid_cmp x y ≡ true
 xid_tied x y e = subst (λ (z : XidName). eq_by_cmp xid_cmp x z ≡ true) e (ap is_eq (tied_itself xid_cmp_total x))
+
+pub swap_xid : (x y : XidName) → xid_eq x y ≡ xid_eq y x
+swap_xid x y = same_from_decides _ _ (Decides-xid_eq x y) ((λ t. sym ((Decides-xid_eq y x).0 t)), (λ e. (Decides-xid_eq y x).1 (sym e)))
 
 -- by whether two xids are one
 pub by_xid : (x y : XidName) (P : Bool → Type 0) → (x ≡ y → P true) → (x ≢ y → P false) → P (eq_by_cmp xid_cmp x y)
@@ -54,6 +58,13 @@ others_removed states x y apart =
     get-remove xid_cmp_total states x y
     ∙ by_xid y x (λ b. cond b None (map.get states y) ≡ map.get states y) (λ e. absurd (apart e)) (λ _. refl)
 
+-- its own state is the one that it is put into, and none once it is gone
+pub put_here : (states : States) (x : XidName) (s : State) → map.get (map.insert states x s) x ≡ Some s
+put_here states x s = get-insert xid_cmp_total states x s x ∙ ap (λ b. cond b (Some s) (map.get states x)) (xid_tied x x refl)
+
+removed_here : (states : States) (x : XidName) → map.get (map.remove states x) x ≡ None
+removed_here states x = get-remove xid_cmp_total states x x ∙ ap (λ b. cond b None (map.get states x)) (xid_tied x x refl)
+
 -- a branch that is put into the state that it has
 pub put_same : (states : States) (x : XidName) (s : State) → map.get states x ≡ Some s → map.insert states x s ≡ states
 put_same states x s is =
@@ -70,58 +81,53 @@ module _ {r : Option (MutBor State)} {m : MutBor State} (b n : BranchTable) (x :
   pub unwritten : Some s ≡ map.get b.states x → n ≡ b
   unwritten was = (rw lent at holds).1 (sym was)
 
--- what is so of the branch of each association: what f reads of its state is v
-module _ {A : Type 0} (f : Option State → A) (v : A) where
-  abbrev pub AreHeld : Associations → States → Type 0
-  AreHeld associations states = (t : ℕ) (l : Association) → map.get associations t ≡ Some l → f (map.get states l.xid) ≡ v
+-- ---- who is associated with a branch
 
-  -- a branch is put into a state of which it is so
-  pub held_put : (associations : Associations) (states states' : States) (x : XidName) (s : State) → states' ≡ map.insert states x s → f (Some s) ≡ v
-      → AreHeld associations states → AreHeld associations states'
-  held_put associations states states' x s e fits held t l found =
-      ap (λ m. f (map.get m l.xid)) e ∙ ap f (get-insert xid_cmp_total states x s l.xid)
-      ∙ by_xid l.xid x (λ b. f (cond b (Some s) (map.get states l.xid)) ≡ v) (λ _. fits) (λ _. held t l found)
+-- each association is with another branch than x
+pub apart_from : (x : XidName) (associations : Associations) → is_somebody_associated associations x ≡ false → (t : ℕ) (l : Association)
+    → map.get associations t ≡ Some l → xid_eq l.xid x ≡ false
+apart_from x associations nobody t l found = none_passes nat_cmp_total nat_cmp-IsAntisymmetric (λ u k. xid_eq k.xid x) associations t l nobody found
 
-  -- a thread becomes associated with a branch of which it is so
-  pub held_associated : (associations associations' : Associations) (states : States) (t : ℕ) (l : Association) → associations' ≡ map.insert associations t l
-      → f (map.get states l.xid) ≡ v → AreHeld associations states → AreHeld associations' states
-  held_associated associations associations' states t l e fits held u k found =
-      let is : cond (eq_by_cmp nat_cmp u t) (Some l) (map.get associations u) ≡ Some k =
-      sym (get-insert nat_cmp_total associations t l u) ∙ ap (λ m. map.get m u) (sym e) ∙ found in
-      elim (eq_by_cmp nat_cmp u t) as (λ b. cond b (Some l) (map.get associations u) ≡ Some k → f (map.get states k.xid) ≡ v) [
-        | true ↦ λ is. let same : l ≡ k = cc in subst (λ (j : Association). f (map.get states j.xid) ≡ v) same fits
-        | false ↦ λ is. held u k is
-      ] is
+-- and where each is, nobody is associated with x
+pub nobody_with : (x : XidName) (associations : Associations)
+    → ((t : ℕ) (l : Association) → map.get associations t ≡ Some l → xid_eq l.xid x ≡ false) → is_somebody_associated associations x ≡ false
+nobody_with x associations apart = none_pass nat_cmp_total nat_cmp-IsAntisymmetric (λ u k. xid_eq k.xid x) associations apart
 
-  -- a thread loses its association
-  pub held_dissociated : (associations associations' : Associations) (states : States) (t : ℕ) → associations' ≡ map.remove associations t
-      → AreHeld associations states → AreHeld associations' states
-  held_dissociated associations associations' states t e held u k found =
-      let is : cond (eq_by_cmp nat_cmp u t) None (map.get associations u) ≡ Some k =
-      sym (get-remove nat_cmp_total associations t u) ∙ ap (λ m. map.get m u) (sym e) ∙ found in
-      elim (eq_by_cmp nat_cmp u t) as (λ b. cond b None (map.get associations u) ≡ Some k → f (map.get states k.xid) ≡ v) [
-        | true ↦ λ is. cc
-        | false ↦ λ is. held u k is
-      ] is
+-- by whether two numbers are one
+pub by_nat : {P : Type 0} (a b : ℕ) → (a ≡ b → P) → (a ≢ b → P) → P
+by_nat {P} a b one two =
+    by_bool (λ _. P) (eq_by_cmp nat_cmp a b) (λ e. one (nat_cmp-IsAntisymmetric a b (is_equal _ e)))
+    (λ e. two (λ same. let tied = tied_true a b same in cc))
 
-  -- a branch that nobody is associated with changes
-  pub held_apart : (associations : Associations) (states states' : States) (x : XidName) → ((y : XidName) → y ≢ x → map.get states' y ≡ map.get states y)
-      → is_somebody_associated associations x ≡ false → AreHeld associations states → AreHeld associations states'
-  held_apart associations states states' x others nobody held t l found =
-      let other : xid_eq l.xid x ≡ false = none_passes nat_cmp_total nat_cmp-IsAntisymmetric (λ t l. xid_eq l.xid x) associations t l nobody found in
-      ap f (others l.xid (λ same. let tied = (Decides-xid_eq l.xid x).1 same in cc)) ∙ held t l found
+-- an association that is put and one that goes, and those of the other threads
+pub own_put : (m : Associations) (t : ℕ) (l : Association) → map.get (map.insert m t l) t ≡ Some l
+own_put m t l = get-insert nat_cmp_total m t l t ∙ ap (λ b. cond b (Some l) (map.get m t)) (tied_true t t refl)
 
-  -- x is in the state that it was put into
-  pub held_now : (states states' : States) (x : XidName) (s : State) → states' ≡ map.insert states x s → f (Some s) ≡ v → f (map.get states' x) ≡ v
-  held_now states states' x s e fits =
-      ap (λ m. f (map.get m x)) e ∙ ap f (get-insert xid_cmp_total states x s x)
-      ∙ by_xid x x (λ b. f (cond b (Some s) (map.get states x)) ≡ v) (λ _. fits) (λ apart. absurd (apart refl))
+pub other_put : (m : Associations) (t u : ℕ) (l : Association) → u ≢ t → map.get (map.insert m t l) u ≡ map.get m u
+other_put m t u l apart = get-insert nat_cmp_total m t l u ∙ ap (λ b. cond b (Some l) (map.get m u)) (tied_false u t apart)
 
-  -- it is so of the branch of an association
-  pub associated_held : (associations : Associations) (states : States) (t : ℕ) (l : Association) (x : XidName) → AreHeld associations states
-      → Some l ≡ map.get associations t → true ≡ xid_eq l.xid x → f (map.get states x) ≡ v
-  associated_held associations states t l x held found same =
-      subst (λ (y : XidName). f (map.get states y) ≡ v) ((Decides-xid_eq l.xid x).0 (sym same)) (held t l (sym found))
+pub own_removed : (m : Associations) (t : ℕ) → map.get (map.remove m t) t ≡ None
+own_removed m t = get-remove nat_cmp_total m t t ∙ ap (λ b. cond b None (map.get m t)) (tied_true t t refl)
+
+pub other_removed : (m : Associations) (t u : ℕ) → u ≢ t → map.get (map.remove m t) u ≡ map.get m u
+other_removed m t u apart = get-remove nat_cmp_total m t u ∙ ap (λ b. cond b None (map.get m u)) (tied_false u t apart)
+
+-- only t's association changes, and isn't with x
+pub nobody_as : (x : XidName) (t : ℕ) (m n : Associations) → ((u : ℕ) → u ≢ t → map.get n u ≡ map.get m u)
+    → ((l : Association) → map.get n t ≡ Some l → xid_eq l.xid x ≡ false) → is_somebody_associated m x ≡ false → is_somebody_associated n x ≡ false
+nobody_as x t m n others own nobody =
+    nobody_with x n (λ u k found.
+    by_nat u t (λ same. own k (ap (map.get n) (sym same) ∙ found)) (λ apart. apart_from x m nobody u k (sym (others u apart) ∙ found)))
+
+-- a thread becomes associated with another branch, and a thread loses its association
+pub nobody_joins : (x : XidName) (m : Associations) (t : ℕ) (l : Association) → xid_eq l.xid x ≡ false
+    → is_somebody_associated m x ≡ false → is_somebody_associated (map.insert m t l) x ≡ false
+nobody_joins x m t l other =
+    nobody_as x t m (map.insert m t l) (λ u. other_put m t u l) (λ k found.
+    let put = own_put m t l in let same : l ≡ k = cc in ap (λ (j : Association). xid_eq j.xid x) (sym same) ∙ other)
+
+pub nobody_leaves : (x : XidName) (m : Associations) (t : ℕ) → is_somebody_associated m x ≡ false → is_somebody_associated (map.remove m t) x ≡ false
+nobody_leaves x m t = nobody_as x t m (map.remove m t) (other_removed m t) (λ k found. let none = own_removed m t in cc)
 
 -- a branch that is neither prepared nor completed isn't prepared
 pub unvoted : (o : Option State) → is_left_in o ≡ false → is_S3 o ≡ false
@@ -132,40 +138,36 @@ unvoted o e = refl
 pub there_as : (states : States) (x y : XidName) → is_some (map.get states x) ≡ true → true ≡ xid_eq x y → is_some (map.get states y) ≡ true
 there_as states x y there same = subst (λ z. is_some (map.get states z) ≡ true) ((Decides-xid_eq x y).0 (sym same)) there
 
-pub sound_put : (states states' : States) (sums : Sums) (values : Values) (x : XidName) (s : State) → states' ≡ map.insert states x s → is_S3 (Some s) ≡ false
-    → ArePreparedSound states sums values → ArePreparedSound states' sums values
-sound_put states states' sums values x s e not_prepared sound y =
-    subst (λ (o : Option State). is_S3 o ≡ true → is_broken values sums y ≡ false) (sym (ap (λ m. map.get m y) e ∙ get-insert xid_cmp_total states x s y))
-    (by_xid y x (λ b. is_S3 (cond b (Some s) (map.get states y)) ≡ true → is_broken values sums y ≡ false) (λ _ h. cc) (λ _. sound y))
+-- only x changes, and where it is prepared it keeps the values within the limits
+sound_but : (states states' : States) (sums sums' : Sums) (values values' : Values) (x : XidName)
+    → ((y : XidName) → y ≢ x → map.get states' y ≡ map.get states y)
+    → ((y : XidName) → y ≢ x → is_broken values' sums' y ≡ is_broken values sums y)
+    → (is_S3 (map.get states' x) ≡ true → is_broken values' sums' x ≡ false) → ArePreparedSound states sums values → ArePreparedSound states' sums' values'
+sound_but states states' sums sums' values values' x kept others here sound y voted =
+    by_xid y x (λ _. is_broken values' sums' y ≡ false)
+    (λ e. ap (λ z. is_broken values' sums' z) e ∙ here (ap (λ z. is_S3 (map.get states' z)) (sym e) ∙ voted))
+    (λ apart. others y apart ∙ sound y (ap is_S3 (sym (kept y apart)) ∙ voted))
 
--- x is gone, and the other branches stand as they stood
+-- x is put into a state, and the other branches stand as they stood
+pub sound_put : (states states' : States) (sums sums' : Sums) (values values' : Values) (x : XidName) (s : State) → states' ≡ map.insert states x s
+    → (is_S3 (Some s) ≡ true → is_broken values' sums' x ≡ false)
+    → ((y : XidName) → y ≢ x → is_broken values' sums' y ≡ is_broken values sums y) → ArePreparedSound states sums values
+    → ArePreparedSound states' sums' values'
+sound_put states states' sums sums' values values' x s e here others =
+    sound_but states states' sums sums' values values' x (λ y apart. ap (λ m. map.get m y) e ∙ others_put states x s y apart) others (λ voted.
+    here (ap is_S3 (sym (ap (λ m. map.get m x) e ∙ put_here states x s)) ∙ voted))
+
+-- x is gone
 pub sound_removed : (states states' : States) (sums sums' : Sums) (values values' : Values) (x : XidName) → states' ≡ map.remove states x
     → ((y : XidName) → y ≢ x → is_broken values' sums' y ≡ is_broken values sums y) → ArePreparedSound states sums values
     → ArePreparedSound states' sums' values'
-sound_removed states states' sums sums' values values' x e others sound y =
-    subst (λ (o : Option State). is_S3 o ≡ true → is_broken values' sums' y ≡ false) (sym (ap (λ m. map.get m y) e ∙ get-remove xid_cmp_total states x y))
-    (by_xid y x (λ b. is_S3 (cond b None (map.get states y)) ≡ true → is_broken values' sums' y ≡ false) (λ _ h. cc) (λ apart h. others y apart ∙ sound y h))
+sound_removed states states' sums sums' values values' x e others =
+    sound_but states states' sums sums' values values' x (λ y apart. ap (λ m. map.get m y) e ∙ others_removed states x y apart) others (λ voted.
+    let none = ap (λ m. is_S3 (map.get m x)) e ∙ ap is_S3 (removed_here states x) in cc)
 
--- x isn't in S3, and the other branches stand as they stood
+-- x isn't in S3, and stays in its state
 pub sound_others : (states : States) (sums sums' : Sums) (values values' : Values) (x : XidName) → is_S3 (map.get states x) ≡ false
     → ((y : XidName) → y ≢ x → is_broken values' sums' y ≡ is_broken values sums y) → ArePreparedSound states sums values
     → ArePreparedSound states sums' values'
-sound_others states sums sums' values values' x not_prepared others sound y h =
-    others y (λ e. let z = ap (λ w. is_S3 (map.get states w)) e in cc) ∙ sound y h
-
--- x is put into another state than S3, and the other branches stand as they stood
-pub sound_decided : (states states' : States) (sums sums' : Sums) (values values' : Values) (x : XidName) (s : State) → states' ≡ map.insert states x s
-    → is_S3 (Some s) ≡ false
-    → ((y : XidName) → y ≢ x → is_broken values' sums' y ≡ is_broken values sums y) → ArePreparedSound states sums values
-    → ArePreparedSound states' sums' values'
-sound_decided states states' sums sums' values values' x s e not_prepared others sound y =
-    subst (λ (o : Option State). is_S3 o ≡ true → is_broken values' sums' y ≡ false) (sym (ap (λ m. map.get m y) e ∙ get-insert xid_cmp_total states x s y))
-    (by_xid y x (λ b. is_S3 (cond b (Some s) (map.get states y)) ≡ true → is_broken values' sums' y ≡ false) (λ _ h. cc) (λ apart h. others y apart ∙ sound y h))
-
--- a branch that keeps the values within the limits is put into S3
-pub sound_prepared : (states states' : States) (sums : Sums) (values : Values) (x : XidName) → states' ≡ map.insert states x Prepared
-    → is_broken values sums x ≡ false
-    → ArePreparedSound states sums values → ArePreparedSound states' sums values
-sound_prepared states states' sums values x e whole sound y =
-    subst (λ (o : Option State). is_S3 o ≡ true → is_broken values sums y ≡ false) (sym (ap (λ m. map.get m y) e ∙ get-insert xid_cmp_total states x Prepared y))
-    (by_xid y x (λ b. is_S3 (cond b (Some Prepared) (map.get states y)) ≡ true → is_broken values sums y ≡ false) (λ same h. ap (λ w. is_broken values sums w) same ∙ whole) (λ _. sound y))
+sound_others states sums sums' values values' x unvoted others =
+    sound_but states states sums sums' values values' x (λ y apart. refl) others (λ voted. cc)

@@ -1,45 +1,29 @@
 -- The law: a key's value is its value at the first opening and the additions whose branches commit, over any openings.
-use Rattle.std.specs.Prelude.{◌≡◌, ℕ, ℤ, pos, ◌+ℤ◌, Bool, true, false, cond, not, if◌then◌else◌, Option, None, Some, option_map, List, [], ◌∷◌, ◌++◌, refl}
+use Rattle.std.specs.Prelude.{◌≡◌, ℕ, ℤ, pos, ◌+ℤ◌, Bool, true, false, cond, not, ◌||◌, if◌then◌else◌, None, Some, option_map, List, [], ◌∷◌, ◌++◌, refl}
 use Rattle.std.proofs.Common.{sym, ap, ◌∙◌, subst, arith}
+use Rattle.std.proofs.Math.Bool.{or-false}
 use Rattle.std.proofs.lemmas.Int.{ints}
 use Rattle.std.specs.FinMap as map
 use Rattle.std.specs.FinMap.{get-empty}
 use Rattle.std.proofs.Math.IntN.{+ℤ_idl as none_plus}
-use Rattle.xa_words.specs.Xid.{XidName, xid_cmp}
-use Rattle.xa_tables.specs.declared.state.State.{State}
-use Rattle.xa_tables.specs.declared.state.State.TheVariants.{Active, Idle, Prepared as S3, RollbackOnly, HeuristicallyCompleted}
-use Rattle.xa_tables.specs.Tables.{Tables, touch_cmp, state_of, is_S3, is_left_in, is_prepared}
-use Rattle.xa_tables.specs.History.{History, Fate, Absent, Live, InDoubt, RolledBack, is_live, fate, coded, accepted, tables_after, commits_later, added_in}
+use Rattle.xa_words.specs.Xid.{XidName}
+use Rattle.xa_tables.specs.Tables.{Tables, touch_cmp, is_prepared}
+use Rattle.xa_tables.specs.History.{History, Fate, Absent, InDoubt, RolledBack, is_live, is_in_doubt, is_unfinished, fate, coded, accepted, tables_after}
+use Rattle.xa_tables.specs.History.{commits_later, added_in, IsFateOf}
 use Rattle.xa_tables.specs.Openings.{IsNew, IsOpening, reopened, reopened_fate, left_by, commits_over, added_over, value_over, ValueIsSum}
 use Rattle.xa_tables.proofs.ShutLemmas.{after_accepted}
 use Rattle.xa_tables.proofs.SoundLemmas.{by_xid}
-use Rattle.xa_tables.proofs.Law.{Sound, Nowhere, standing, standing_of, run, opening_sound}
+use Rattle.xa_tables.proofs.Law.{opening_sound}
+use Rattle.xa_tables.proofs.FatesLaw.{first_law, kept_law, reopened_law}
 use Rattle.xa_tables.proofs.ValueLaw.{Held, IsPending, due, plus_zero, Run, value_run, chained}
-use Rattle.xa_tables.proofs.TouchLaw.{Clean, run_clean, opening_clean}
-use Rattle.xa_tables.proofs.Reopening.{state_reopened, sums_reopened, reopens, new_opens}
+use Rattle.xa_tables.proofs.TouchLaw.{Clean, touching, run_clean, opening_clean}
+use Rattle.xa_tables.proofs.Reopening.{sums_reopened, reopens, new_opens}
 
 -- ---- a reopening
 
--- how a branch stands after a reopening
-stands_reopened : (o : Option State) (f : Fate) → standing o ≡ standing_of f → standing (cond (is_left_in o) o None) ≡ standing_of (reopened_fate f)
-stands_reopened None Live e = cc
-stands_reopened None InDoubt e = cc
-stands_reopened None f e = refl
-stands_reopened (Some Active) Live e = refl
-stands_reopened (Some Active) f e = cc
-stands_reopened (Some Idle) Live e = refl
-stands_reopened (Some Idle) f e = cc
-stands_reopened (Some (RollbackOnly reason)) Live e = refl
-stands_reopened (Some (RollbackOnly reason)) f e = cc
-stands_reopened (Some S3) InDoubt e = refl
-stands_reopened (Some S3) f e = cc
-stands_reopened (Some (HeuristicallyCompleted d)) Live e = cc
-stands_reopened (Some (HeuristicallyCompleted d)) InDoubt e = cc
-stands_reopened (Some (HeuristicallyCompleted d)) f e = refl
-
--- each branch stands by its fate
-abbrev Stand : (XidName → Fate) → Tables → Type 0
-Stand F T = (x : XidName) → standing (state_of T x) ≡ standing_of (F x)
+-- the tables tell the fate of each branch
+abbrev Tell : (XidName → Fate) → Tables → Type 0
+Tell F T = (x : XidName) → IsFateOf x (F x) T
 
 -- the fates after an opening, and as the next begins
 abbrev ended : (XidName → Fate) → History → Tables → XidName → Fate
@@ -47,12 +31,6 @@ ended F h T x = fate x (F x) h T
 
 abbrev begun : (XidName → Fate) → XidName → Fate
 begun F x = reopened_fate (F x)
-
-stand_after : (h : History) (F : XidName → Fate) (T : Tables) → Sound T → Stand F T → Stand (ended F h T) (tables_after h T)
-stand_after h F T s w x = after_accepted (λ (U : Tables). standing (state_of U x)) (λ _. refl) h T ∙ run (accepted h) x (F x) T s (w x)
-
-stand_reopened : (F : XidName → Fate) (T : Tables) → Stand F T → Stand (begun F) (reopened T)
-stand_reopened F T w x = ap standing (state_reopened T x) ∙ stands_reopened (state_of T x) (F x) (w x)
 
 -- who has touched the key after a reopening
 left_held : Tables → Held → Held
@@ -74,17 +52,9 @@ pending_left k (Some p) T h =
     ] refl
 
 -- a branch that has touched a key is prepared exactly if it isn't at work
-prepared_unless_live : (o : Option State) (f : Fate) → standing o ≡ standing_of f → (standing o ≡ Nowhere → ⊥) → is_S3 o ≡ not (is_live f)
-prepared_unless_live None f e n = absurd (n refl)
-prepared_unless_live (Some (HeuristicallyCompleted d)) f e n = absurd (n refl)
-prepared_unless_live (Some Active) Live e n = refl
-prepared_unless_live (Some Active) f e n = cc
-prepared_unless_live (Some Idle) Live e n = refl
-prepared_unless_live (Some Idle) f e n = cc
-prepared_unless_live (Some (RollbackOnly reason)) Live e n = refl
-prepared_unless_live (Some (RollbackOnly reason)) f e n = cc
-prepared_unless_live (Some S3) InDoubt e n = refl
-prepared_unless_live (Some S3) f e n = cc
+doubted_unless_live : (f : Fate) → is_unfinished f ≡ true → is_in_doubt f ≡ not (is_live f)
+doubted_unless_live InDoubt e = refl
+doubted_unless_live f e = cc
 
 none_due : (p : Held) → due p (λ x. false) ≡ pos 0
 none_due None = refl
@@ -95,14 +65,16 @@ abbrev from_start : (XidName → Fate) → History → List History → Tables �
 from_start F h hs T x = commits_later (commits_over x (ended F h T x) hs (tables_after h T)) x (coded (accepted h) T)
 
 -- what is due after an opening is due as the next begins
-due_over : (k : List ℕ) (G : XidName → Fate) (g : History) (gs : List History) (T : Tables) (p : Held) → Clean T → Stand G T → IsPending k p T.sums
+due_over : (k : List ℕ) (G : XidName → Fate) (g : History) (gs : List History) (T : Tables) (p : Held) → Clean T → Tell G T → IsPending k p T.sums
     → due p (λ x. commits_over x (G x) (g ∷ gs) T) ≡ due (left_held T p) (from_start (begun G) g gs (reopened T))
 unfolding left_held
 due_over k G g gs T None n s h = refl
 due_over k G g gs T (Some p) n s h =
     let U : Tables = reopened T in
-    let there : standing (state_of T p.0) ≡ Nowhere → ⊥ = λ e. let z = sym h.0 ∙ n.none p.0 e k in cc in
-    let same : is_prepared T p.0 ≡ not (is_live (G p.0)) = prepared_unless_live (state_of T p.0) (G p.0) (s p.0) there in
+    let there = touching T n p.0 k p.1 h.0 in
+    let unfinished : is_unfinished (G p.0) ≡ true =
+    sym (or-false _) ∙ ap (λ b. is_unfinished (G p.0) || b) (sym there.1) ∙ sym (s p.0).exists ∙ there.0 in
+    let same : is_prepared T p.0 ≡ not (is_live (G p.0)) = (s p.0).prepared ∙ doubted_unless_live (G p.0) unfinished in
     let on : Fate → Bool = λ f. commits_later (commits_over p.0 (fate p.0 f g U) gs (tables_after g U)) p.0 (coded (accepted g) U) in
     elim (is_live (G p.0)) as (λ b. is_live (G p.0) ≡ b → (if (if b then false else on (G p.0)) then p.1 else pos 0) ≡ due (if is_prepared T p.0 then Some p else None) (from_start (begun G) g gs U)) [
       | true ↦ λ e. sym (ap (λ b. due (if b then Some p else None) (from_start (begun G) g gs U)) (same ∙ ap not e))
@@ -120,30 +92,29 @@ sum_more : (m d d1 e s r : ℤ) → m +ℤ d ≡ e +ℤ s → d ≡ d1 → m +�
 sum_more m d d1 e s r h z = omega (arith, ints)
 
 -- the values after openings, with what is due to the branch that has touched the key as the first of them begins
-values_over : (h : History) (hs : List History) (k : List ℕ) (p : Held) (F : XidName → Fate) (T : Tables) → Sound T → Clean T → Stand F T → IsPending k p T.sums
+values_over : (h : History) (hs : List History) (k : List ℕ) (p : Held) (F : XidName → Fate) (T : Tables) → IsOpening T → Tell F T → IsPending k p T.sums
     → map.get (left_by (h ∷ hs) T).values k ≡ option_map (λ v. v +ℤ (due p (from_start F h hs T) +ℤ added_over k F (h ∷ hs) T)) (map.get T.values k)
-values_over h [] k p F T s n stand pending =
+values_over h [] k p F T o told pending =
     let B : XidName → Bool = λ (x : XidName). commits_over x (ended F h T x) [] (tables_after h T) in
     let r : Run k p B (accepted h) T = value_run (accepted h) k p B T pending in
     after_accepted (λ (U : Tables). map.get U.values k) (λ _. refl) h T ∙ r.values
     ∙ ap (λ m. option_map (λ v. v +ℤ m) (map.get T.values k)) (sum_last r.moved (due r.held B) (due p (from_start F h [] T)) (added_in k B (accepted h) T) r.owes (none_due r.held))
-values_over h (g ∷ gs) k p F T s n stand pending =
+values_over h (g ∷ gs) k p F T o told pending =
     let U : Tables = tables_after h T in
     let G : XidName → Fate = ended F h T in
     let B : XidName → Bool = λ (x : XidName). commits_over x (G x) (g ∷ gs) U in
     let r : Run k p B (accepted h) T = value_run (accepted h) k p B T pending in
     let here : IsPending k r.held U.sums = subst (IsPending k r.held) (sym (after_accepted (λ (W : Tables). W.sums) (λ _. refl) h T)) r.pending in
-    let clean : Clean U = run_clean h T s n in
-    let stand_now : Stand G U = stand_after h F T s stand in
-    let o : IsOpening (reopened U) = reopens U in
+    let clean : Clean U = run_clean h T (opening_sound T o) (opening_clean T o) in
+    let told_now : Tell G U = λ x. kept_law h x (F x) T o (told x) in
     let more : ℤ = added_over k (begun G) (g ∷ gs) (reopened U) in
     let rest =
-    values_over g gs k (left_held U r.held) (begun G) (reopened U) (opening_sound (reopened U) o) (opening_clean (reopened U) o) (stand_reopened G U stand_now) (pending_left k r.held U here) in
+    values_over g gs k (left_held U r.held) (begun G) (reopened U) (reopens U) (λ x. reopened_law x (G x) U (told_now x)) (pending_left k r.held U here) in
     rest
     ∙ ap (option_map (λ v. v +ℤ (due (left_held U r.held) (from_start (begun G) g gs (reopened U)) +ℤ more))) (after_accepted (λ (W : Tables). map.get W.values k) (λ _. refl) h T ∙ r.values)
     ∙ chained (map.get T.values k) r.moved (due (left_held U r.held) (from_start (begun G) g gs (reopened U)) +ℤ more)
     ∙ ap (λ m. option_map (λ v. v +ℤ m) (map.get T.values k))
-    (sum_more r.moved (due r.held B) (due (left_held U r.held) (from_start (begun G) g gs (reopened U))) (due p (from_start F h (g ∷ gs) T)) (added_in k B (accepted h) T) more r.owes (due_over k G g gs U r.held clean stand_now here))
+    (sum_more r.moved (due r.held B) (due (left_held U r.held) (from_start (begun G) g gs (reopened U))) (due p (from_start F h (g ∷ gs) T)) (added_in k B (accepted h) T) more r.owes (due_over k G g gs U r.held clean told_now here))
 
 -- what an opening leaves after the ones before it
 pub left_on : (before : List History) (h : History) (T : Tables) → left_by (before ++ h ∷ []) T ≡ reopened (tables_after h (left_by before T))
@@ -153,9 +124,7 @@ left_on (g ∷ gs) h T = left_on gs h (reopened (tables_after g T))
 from_first : (hs : List History) (k : List ℕ) (T : Tables) → IsNew T → map.get (left_by hs T).values k ≡ value_over k hs T
 from_first [] k T o = plus_zero (map.get T.values k)
 from_first (h ∷ hs) k T n =
-    let o = new_opens T n in
-    let first : Stand (λ x. Absent) T = λ x. ap (λ m. standing (map.get m x)) n.states ∙ ap standing (get-empty xid_cmp x) in
-    values_over h hs k None (λ x. Absent) T (opening_sound T o) (opening_clean T o) first (λ x. ap (λ m. map.get m (x, k)) n.sums ∙ get-empty touch_cmp (x, k))
+    values_over h hs k None (λ x. Absent) T (new_opens T n) (λ x. first_law x T n) (λ x. ap (λ m. map.get m (x, k)) n.sums ∙ get-empty touch_cmp (x, k))
     ∙ ap (λ d. option_map d (map.get T.values k)) (λ i v. v +ℤ none_plus (added_over k (λ x. Absent) (h ∷ hs) T) i)
 
 pub sum_law : (before : List History) (h : History) (k : List ℕ) (T : Tables) → IsNew T → ValueIsSum k before h T

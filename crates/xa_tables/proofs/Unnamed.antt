@@ -1,10 +1,7 @@
 -- The law: a branch with which nobody is associated stays as it is under every request that doesn't name it.
-use Rattle.std.specs.Prelude.{◌≡◌, ◌≢◌, ℕ, true, false, cond, None, Some, List, [], ◌∷◌, ◌++◌, refl}
+use Rattle.std.specs.Prelude.{◌≡◌, ◌≢◌, ℕ, false, None, Some, List, [], ◌∷◌, ◌++◌, refl}
 use Rattle.std.proofs.Common.{sym, ap, ◌∙◌, subst}
-use Rattle.std.specs.Ordering.{nat_cmp, eq_by_cmp}
-use Rattle.std.specs.Cmp.{nat_cmp_total}
 use Rattle.std.specs.FinMap as map
-use Rattle.std.specs.FinMap.{FinMap, get-insert, get-remove, nat_cmp-IsAntisymmetric}
 use Rattle.std.proofs.lemmas.List.Elements.{All-head, All-tail}
 use Rattle.xa_words.specs.Xid.{XidName, xid_eq}
 use Rattle.xa_words.specs.Orders.{Decides-xid_eq}
@@ -22,42 +19,13 @@ use Rattle.xa_tables.specs.Tables.{Tables, association_of, is_somebody_associate
 use Rattle.xa_tables.specs.Next.{Answer, next, gone, association}
 use Rattle.xa_tables.specs.History.{History, tables_after, fate_of}
 use Rattle.xa_tables.specs.Prepared.{names, NamesNowhere, StaysAsItWas}
-use Rattle.xa_base.proofs.FinMaps.{none_pass, none_passes}
-use Rattle.xa_tables.proofs.SoundLemmas.{others_put, others_removed}
+use Rattle.xa_tables.proofs.SoundLemmas.{others_put, others_removed, nobody_joins, nobody_leaves}
+pub use Rattle.xa_tables.proofs.SoundLemmas.{apart_from}
 use Rattle.xa_base.proofs.Truth.{at_false}
 use Rattle.xa_tables.proofs.Effects.{Effect, Starts, Joins, Resumes, Suspends, Leaves, Fails, Idles, Dooms, Adds, Prepares, Commits, Drops, CommitsByItself}
 use Rattle.xa_tables.proofs.Effects.{RollsBackByItself, Forgets, effect_of}
 use Rattle.xa_tables.proofs.Law.{swap_xid}
 use Rattle.xa_tables.proofs.ValueLaw.{get_without, get_added}
-
--- each association is with another branch than x
-pub apart_from : (x : XidName) (associations : FinMap nat_cmp Association) → is_somebody_associated associations x ≡ false → (t : ℕ) (l : Association)
-    → map.get associations t ≡ Some l → xid_eq l.xid x ≡ false
-apart_from x associations nobody t l found = none_passes nat_cmp_total nat_cmp-IsAntisymmetric (λ u k. xid_eq k.xid x) associations t l nobody found
-
--- and where each is, nobody is associated with x
-pub nobody_with : (x : XidName) (associations : FinMap nat_cmp Association)
-    → ((t : ℕ) (l : Association) → map.get associations t ≡ Some l → xid_eq l.xid x ≡ false) → is_somebody_associated associations x ≡ false
-nobody_with x associations apart = none_pass nat_cmp_total nat_cmp-IsAntisymmetric (λ u k. xid_eq k.xid x) associations apart
-
--- a thread becomes associated with another branch, and a thread loses its association
-pub nobody_joins : (x : XidName) (associations : FinMap nat_cmp Association) (t : ℕ) (l : Association) → xid_eq l.xid x ≡ false
-    → is_somebody_associated associations x ≡ false → is_somebody_associated (map.insert associations t l) x ≡ false
-nobody_joins x associations t l other nobody =
-    nobody_with x (map.insert associations t l) (λ u k found.
-    elim (eq_by_cmp nat_cmp u t) as (λ b. cond b (Some l) (map.get associations u) ≡ Some k → xid_eq k.xid x ≡ false) [
-      | true ↦ λ is. let same : l ≡ k = cc in ap (λ (j : Association). xid_eq j.xid x) (sym same) ∙ other
-      | false ↦ λ is. apart_from x associations nobody u k is
-    ] (sym (get-insert nat_cmp_total associations t l u) ∙ found))
-
-pub nobody_leaves : (x : XidName) (associations : FinMap nat_cmp Association) (t : ℕ) → is_somebody_associated associations x ≡ false
-    → is_somebody_associated (map.remove associations t) x ≡ false
-nobody_leaves x associations t nobody =
-    nobody_with x (map.remove associations t) (λ u k found.
-    elim (eq_by_cmp nat_cmp u t) as (λ b. cond b None (map.get associations u) ≡ Some k → xid_eq k.xid x ≡ false) [
-      | true ↦ λ is. cc
-      | false ↦ λ is. apart_from x associations nobody u k is
-    ] (sym (get-remove nat_cmp_total associations t u) ∙ found))
 
 -- a request that doesn't name x makes nothing of it
 pub unnamed_fate : (x : XidName) (op : Op) (c : Code) → names x op ≡ false → fate_of x op c ≡ None

@@ -8,17 +8,16 @@ use Rattle.std.proofs.lemmas.Bool.{false_from_ne_true, not-false}
 use Rattle.xa_words.specs.Xid.{XidName, xid_eq}
 use Rattle.xa_words.specs.Orders.{Decides-xid_eq, key_cmp_total, key_cmp-IsAntisymmetric, Decides-key_eq}
 use Rattle.xa_words.specs.declared.code.Code.{Code}
-use Rattle.xa_words.specs.declared.code.Code.TheVariants.{Done, RmFail}
+use Rattle.xa_words.specs.declared.code.Code.TheVariants.{Done}
 use Rattle.xa_words.specs.declared.request.Op.{Op}
-use Rattle.xa_words.specs.declared.request.Op.TheVariants.{Add, Shut}
-use Rattle.xa_words.specs.declared.request.Request.{Request}
+use Rattle.xa_words.specs.declared.request.Op.TheVariants.{Add}
+use Rattle.std.proofs.Math.IntN.{+ℤ_idl as none_plus}
 use Rattle.xa_tables.specs.declared.state.Association.{Association}
 use Rattle.xa_tables.specs.Tables.{Tables, association_of, has_other_touched, Touch, touch_cmp, sum_of, sums_without}
-use Rattle.xa_tables.specs.Next.{Answer, next, committed, shut_down}
-use Rattle.xa_tables.specs.History.{History, coded, accepted, fate_of, tables_after, added_in, share_of, commits_later, ending, or_later, is_shut}
+use Rattle.xa_tables.specs.Next.{Answer, next, committed}
+use Rattle.xa_tables.specs.History.{History, coded, accepted, fate_of, tables_after, added_in, share_of, commits_later, ending, or_later}
 use Rattle.xa_tables.specs.History.{LateAddNothing}
-use Rattle.xa_tables.proofs.ShutLemmas.{next-shut, next-Shut, shut_op}
-use Rattle.xa_tables.proofs.Effects.{error_tells}
+use Rattle.xa_tables.proofs.ShutLemmas.{accepted_read}
 use Rattle.xa_tables.proofs.Moves.{Moves, Still, Ended, Added, moves_of}
 use Rattle.xa_tables.proofs.Law.{swap_xid}
 use Rattle.std.proofs.lemmas.Int.{ints}
@@ -242,51 +241,19 @@ value_run (r ∷ H) k p after T h =
 
 -- ---- late requests add nothing
 
-none_shut : (k : List ℕ) (after : XidName → Bool) (h : History) (T : Tables) → T.shut ≡ true → added_in k after h T ≡ pos 0
-none_shut k after [] T s = refl
-none_shut k after (r ∷ h) T s =
-    ap (λ (a : Answer). share_of k r.op a.1 (association_of T r.thread) (λ x. commits_later (after x) x (coded h a.0)) +ℤ added_in k after h a.0) (next-shut r.thread r.op T s)
-    ∙ (λ i. (error_tells r.op RmFail refl).shares k (association_of T r.thread) (λ x. commits_later (after x) x (coded h T)) i +ℤ none_shut k after h T s i)
-
--- a Shut and what is after it
-none_from : (k : List ℕ) (after : XidName → Bool) (r : Request) (h : History) (T : Tables) → r.op ≡ Shut → added_in k after (r ∷ h) T ≡ pos 0
-none_from k after r h T is =
-    ap (λ (o : Op). share_of k o (next r.thread o T).1 (association_of T r.thread) (λ x. commits_later (after x) x (coded h (next r.thread o T).0)) +ℤ added_in k after h (next r.thread o T).0) is
-    ∙ elim (T.shut) as (λ b. T.shut ≡ b → pos 0 +ℤ added_in k after h (next r.thread Shut T).0 ≡ pos 0) [
-      | true ↦ λ s. ap (λ (a : Answer). pos 0 +ℤ added_in k after h a.0) (next-shut r.thread Shut T s) ∙ ap (λ z. pos 0 +ℤ z) (none_shut k after h T s)
-      | false ↦ λ s. ap (λ (a : Answer). pos 0 +ℤ added_in k after h a.0) (next-Shut r.thread T s)
-          ∙ ap (λ z. pos 0 +ℤ z) (none_shut k after h (shut_down T) refl)
-    ] refl
-
 -- who commits is decided by the accepted requests
-commits_shut : (b : Bool) (x : XidName) (h : History) (T : Tables) → T.shut ≡ true → commits_later b x (coded h T) ≡ b
-commits_shut b x [] T s = refl
-commits_shut b x (r ∷ h) T s =
-    ap (λ (a : Answer). or_later (ending (fate_of x r.op a.1)) (commits_later b x (coded h a.0))) (next-shut r.thread r.op T s)
-    ∙ ap (λ o. or_later (ending o) (commits_later b x (coded h T))) ((error_tells r.op RmFail refl).fates x) ∙ commits_shut b x h T s
-
-commits_from : (b : Bool) (x : XidName) (t : ℕ) (op : Op) (h : History) (T : Tables) → op ≡ Shut
-    → or_later (ending (fate_of x op (next t op T).1)) (commits_later b x (coded h (next t op T).0)) ≡ b
-commits_from b x t op h T is =
-    ap (λ (o : Op). or_later (ending (fate_of x o (next t o T).1)) (commits_later b x (coded h (next t o T).0))) is
-    ∙ elim (T.shut) as (λ c. T.shut ≡ c → commits_later b x (coded h (next t Shut T).0) ≡ b) [
-      | true ↦ λ s. ap (λ (a : Answer). commits_later b x (coded h a.0)) (next-shut t Shut T s) ∙ commits_shut b x h T s
-      | false ↦ λ s. ap (λ (a : Answer). commits_later b x (coded h a.0)) (next-Shut t T s) ∙ commits_shut b x h (shut_down T) refl
-    ] refl
-
 commits_accepted : (b : Bool) (x : XidName) (h : History) (T : Tables) → commits_later b x (coded (accepted h) T) ≡ commits_later b x (coded h T)
-commits_accepted b x [] T = refl
-commits_accepted b x (r ∷ h) T =
-    elim (is_shut r.op) as (λ c. is_shut r.op ≡ c → commits_later b x (coded (if c then [] else r ∷ accepted h) T) ≡ commits_later b x (coded (r ∷ h) T)) [
-      | true ↦ λ e. sym (commits_from b x r.thread r.op h T (shut_op r.op e))
-      | false ↦ λ e. ap (λ c. or_later (ending (fate_of x r.op (next r.thread r.op T).1)) c) (commits_accepted b x h (next r.thread r.op T).0)
-    ] refl
+commits_accepted b x =
+    accepted_read (λ h T. commits_later b x (coded h T)) (λ r h T a e tells.
+    ap (λ (c : Answer). or_later (ending (fate_of x r.op c.1)) (commits_later b x (coded h c.0))) e
+    ∙ ap (λ o. or_later (ending o) (commits_later b x (coded h a.0))) (tells.fates x))
+    (λ _. refl) (λ r h T e. ap (or_later (ending (fate_of x r.op (next r.thread r.op T).1))) e)
 
 pub late_law : (h : History) (k : List ℕ) (after : XidName → Bool) (T : Tables) → LateAddNothing k after h T
-late_law [] k after T = refl
-late_law (r ∷ h) k after T =
-    let T1 : Tables = (next r.thread r.op T).0 in
-    elim (is_shut r.op) as (λ b. is_shut r.op ≡ b → added_in k after (if b then [] else r ∷ accepted h) T ≡ added_in k after (r ∷ h) T) [
-      | true ↦ λ e. sym (none_from k after r h T (shut_op r.op e))
-      | false ↦ λ e. (λ i. share_of k r.op (next r.thread r.op T).1 (association_of T r.thread) (λ x. commits_accepted (after x) x h T1 i) +ℤ late_law h k after T1 i)
-    ] refl
+late_law h k after T =
+    accepted_read (added_in k after) (λ r g U a e tells.
+    let l = association_of U r.thread in
+    ap (λ (c : Answer). share_of k r.op c.1 l (λ x. commits_later (after x) x (coded g c.0)) +ℤ added_in k after g c.0) e
+    ∙ ap (λ v. v +ℤ added_in k after g a.0) (tells.shares k l (λ x. commits_later (after x) x (coded g a.0))) ∙ none_plus _)
+    (λ _. refl) (λ r g U e i.
+    share_of k r.op (next r.thread r.op U).1 (association_of U r.thread) (λ x. commits_accepted (after x) x g (next r.thread r.op U).0 i) +ℤ e i) h T

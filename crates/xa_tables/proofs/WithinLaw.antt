@@ -4,12 +4,12 @@ use Rattle.std.specs.Prelude.{◌∷◌, map, refl, nat_le}
 use Rattle.std.specs.List.{list_all}
 use Rattle.std.proofs.Common.{sym, ap, ◌∙◌, subst, ⊎_elim, le-leb, arith}
 use Rattle.std.specs.FinMap as finmap
-use Rattle.std.specs.FinMap.{find, get-empty, get-insert, get-from_entries}
+use Rattle.std.specs.FinMap.{FinMap, find, get-empty, get-insert, get-from_entries}
 use Rattle.std.specs.Ordering.{eq_by_cmp}
 use Rattle.std.proofs.lemmas.Bool.{and_parts, not-false}
 use Rattle.std.proofs.Math.IntN.{+ℤ_idr as plus_none}
 use Rattle.xa_base.proofs.Truth.{by_bool}
-use Rattle.xa_words.specs.Xid.{XidName, xid_eq}
+use Rattle.xa_words.specs.Xid.{XidName, xid_cmp, xid_eq}
 use Rattle.xa_words.specs.Key.{key_eq}
 use Rattle.xa_words.specs.Orders.{key_cmp, key_cmp_total, key_cmp-IsAntisymmetric, Decides-xid_eq, Decides-key_eq}
 use Rattle.xa_words.specs.declared.request.Op.{Op}
@@ -31,7 +31,7 @@ use Rattle.xa_base.proofs.FinMaps.{none_passes, get-map_values}
 use Rattle.xa_tables.proofs.AccountLemmas.{touch_cmp_total, touch_cmp-IsAntisymmetric, touch_from, within_bounds}
 use Rattle.xa_tables.proofs.Effects.{Effect, Starts, Joins, Fails, Idles, Dooms, Adds, Prepares, Commits, Drops, CommitsByItself, RollsBackByItself, Forgets}
 use Rattle.xa_tables.proofs.Effects.{effect_of}
-use Rattle.xa_tables.proofs.Law.{Sound, standing, get_put, get_gone, voted_rests, sound_after, opening_sound}
+use Rattle.xa_tables.proofs.Law.{Sound, standing, where_put, where_gone, associated_works, voted_rests, sound_after, opening_sound}
 use Rattle.xa_tables.proofs.ValueLaw.{get_without, get_added}
 
 -- each sum of x and its key's value are together within the limits
@@ -61,23 +61,12 @@ some_same : {u v : ℤ} → Some u ≡ Some v → u ≡ v
 some_same e = cc
 
 module _ (t : ℕ) (T : Tables) (s : Sound T) (w : Kept T) where
-  -- y is put into another state than S3
-  put : (y : XidName) (o : State) → is_S3 (Some o) ≡ false → Kept (stated y o T)
-  put y o other = record {
+  -- y is put into a state; it fits, where that is S3
+  put : (y : XidName) (o : State) → (is_S3 (Some o) ≡ true → Fits T y) → Kept (stated y o T)
+  put y o fits = record {
     values = w.values;
     alone = w.alone;
-    prepared = λ x is.
-        by_bool (λ b. is_S3 (if b then Some o else state_of T x) ≡ true → Fits T x) (xid_eq y x) (λ _ e. let z : true ≡ false = sym e ∙ other in cc) (λ _ e. w.prepared x e) (sym (ap is_S3 (get_put T y x o)) ∙ is);
-  }
-
-  -- y, which fits, is prepared
-  prepares : (y : XidName) → Fits T y → Kept (stated y S3 T)
-  prepares y fits = record {
-    values = w.values;
-    alone = w.alone;
-    prepared = λ x is.
-        by_bool (λ b. xid_eq y x ≡ b → is_S3 (if b then Some S3 else state_of T x) ≡ true → Fits T x) (xid_eq y x)
-        (λ _ here e. subst (Fits T) ((Decides-xid_eq y x).0 here) fits) (λ _ _ e. w.prepared x e) refl (sym (ap is_S3 (get_put T y x S3)) ∙ is);
+    prepared = λ x. where_put T y x o (λ _ p. is_S3 p ≡ true → Fits T x) (λ same e. subst (Fits T) same (fits e)) (λ _. w.prepared x);
   }
 
   -- the branch of a thread's association, which alone has touched the key, adds to it
@@ -92,7 +81,7 @@ module _ (t : ℕ) (T : Tables) (s : Sound T) (w : Kept T) where
         (λ _ here f. let one = touch_from (y, q) (l.xid, k) here in only x q a (ap (λ (p : Touch). p.1) one) at_x ∙ sym (ap (λ (p : Touch). p.0) one))
         (λ _ _ f. w.alone x y q a b e f) refl (sym (get-insert touch_cmp_total T.sums (l.xid, k) (sum_of T.sums l.xid k +ℤ d) (y, q)) ∙ at_y))
         refl (sym (get-insert touch_cmp_total T.sums (l.xid, k) (sum_of T.sums l.xid k +ℤ d) (x, q)) ∙ at_x);
-    prepared = λ x is q r at. w.prepared x is q r (sym (get_added T.sums l.xid x k q (sum_of T.sums l.xid k +ℤ d) (λ same _. voted_rests (state_of T x) is (ap (λ z. standing (state_of T z)) same ∙ s.at_work t l own))) ∙ at);
+    prepared = λ x is q r at. w.prepared x is q r (sym (get_added T.sums l.xid x k q (sum_of T.sums l.xid k +ℤ d) (λ same _. voted_rests (state_of T x) is (ap (λ z. standing (state_of T z)) same ∙ associated_works T s t l own))) ∙ at);
   }
     where
       -- whoever has touched that key is the branch itself
@@ -110,31 +99,30 @@ module _ (t : ℕ) (T : Tables) (s : Sound T) (w : Kept T) where
   left y x k r at =
       by_bool (λ b. (if b then None else finmap.get T.sums (x, k)) ≡ Some r → finmap.get T.sums (x, k) ≡ Some r) (xid_eq x y) (λ _ e. cc) (λ _ e. e) (sym (get_without T.sums y x k) ∙ at)
 
-  -- a branch that is prepared when y is gone is another one, and was prepared
-  still : (y x : XidName) → is_S3 (state_of (gone y T) x) ≡ true → (is_S3 (state_of T x) ≡ true) × (x ≢ y)
-  still y x is =
-      by_bool (λ b. xid_eq y x ≡ b → is_S3 (if b then None else state_of T x) ≡ true → (is_S3 (state_of T x) ≡ true) × (x ≢ y)) (xid_eq y x)
-      (λ _ _ e. cc) (λ _ other e. (e, λ same. let z : true ≡ false = sym ((Decides-xid_eq y x).1 (sym same)) ∙ other in cc)) refl (sym (ap is_S3 (get_gone T y x)) ∙ is)
+  -- a branch that is prepared when y is gone, or decided, is another one, and was prepared
+  abbrev Left : XidName → Option State → XidName → Type 0
+  Left y o x = is_S3 o ≡ true → (is_S3 (state_of T x) ≡ true) × (x ≢ y)
 
-  -- a branch that is prepared when y is decided is another one, and was prepared
-  undecided : (y : XidName) (d : HeuristicDecision) (x : XidName) → is_S3 (state_of (completed y d T) x) ≡ true → (is_S3 (state_of T x) ≡ true) × (x ≢ y)
-  undecided y d x is =
-      by_bool (λ b. xid_eq y x ≡ b → is_S3 (if b then Some (HeuristicallyCompleted d) else state_of T x) ≡ true → (is_S3 (state_of T x) ≡ true) × (x ≢ y)) (xid_eq y x)
-      (λ _ _ e. cc) (λ _ other e. (e, λ same. let z : true ≡ false = sym ((Decides-xid_eq y x).1 (sym same)) ∙ other in cc)) refl (sym (ap is_S3 (get_put T y x (HeuristicallyCompleted d))) ∙ is)
+  other : (y x : XidName) → xid_eq y x ≡ false → Left y (state_of T x) x
+  other y x apart e = (e, λ same. let z = (Decides-xid_eq y x).1 (sym same) in cc)
+
+  still : (y x : XidName) → Left y (state_of (gone y T) x) x
+  still y x = where_gone T y x (λ _ o. Left y o x) (λ _ e. cc) (other y x)
+
+  undecided : (y : XidName) (d : HeuristicDecision) (x : XidName) → Left y (state_of (completed y d T) x) x
+  undecided y d x = where_put T y x (HeuristicallyCompleted d) (λ _ o. Left y o x) (λ _ e. cc) (other y x)
 
   -- y is gone, and its sums stay
   forgets : (y : XidName) → Kept (forgotten y T)
   forgets y = record { values = w.values; alone = w.alone; prepared = λ x is. w.prepared x (still y x is).0 }
 
-  drops : (y : XidName) → Kept (gone y T)
-  drops y = record {
+  -- y has no sums, and isn't prepared any more
+  drops : (y : XidName) (m : FinMap xid_cmp State) → ((x : XidName) → Left y (finmap.get m x) x) → Kept (record (gone y T) { states = m })
+  drops y m others = record {
     values = w.values;
     alone = λ x z k a b at_x at_z. w.alone x z k a b (left y x k a at_x) (left y z k b at_z);
-    prepared = λ x is k r at. w.prepared x (still y x is).0 k r (left y x k r at);
+    prepared = λ x is k r at. w.prepared x (others x is).0 k r (left y x k r at);
   }
-
-  decides : (y : XidName) (d : HeuristicDecision) → Kept (completed y d T)
-  decides y d = record { values = w.values; alone = (drops y).alone; prepared = λ x is k r at. w.prepared x (undecided y d x is).0 k r (left y x k r at) }
 
   -- y, which fits, is added to the values
   posts : (y : XidName) → Fits T y → Posted T y
@@ -175,26 +163,24 @@ module _ (t : ℕ) (T : Tables) (s : Sound T) (w : Kept T) where
           ] refl
 
   -- y, which fits, is committed
-  commits : (y : XidName) → Fits T y → Kept (gone y (committed y T))
-  commits y fits = record { values = (posts y fits).values; alone = (drops y).alone; prepared = λ x is. (posts y fits).others x (still y x is) }
-
-  commits_by_itself : (y : XidName) → Fits T y → Kept (completed y decision.Commit (committed y T))
-  commits_by_itself y fits =
-      record { values = (posts y fits).values; alone = (drops y).alone; prepared = λ x is. (posts y fits).others x (undecided y decision.Commit x is) }
+  commits : (y : XidName) (m : FinMap xid_cmp State) → ((x : XidName) → Left y (finmap.get m x) x) → Fits T y
+      → Kept (record (gone y (committed y T)) { states = m })
+  commits y m others fits =
+      record { values = (posts y fits).values; alone = (drops y m others).alone; prepared = λ x is. (posts y fits).others x (others x is) }
 
   by_effect : {op : Op} {a : Answer} → Effect t T op a → Kept a.0
-  by_effect (Starts y free) = let p = put y Active refl in record { values = p.values; alone = p.alone; prepared = p.prepared }
-  by_effect (Joins y free there unprepared) = let p = put y Active refl in record { values = p.values; alone = p.alone; prepared = p.prepared }
-  by_effect (Fails y own) = let p = put y (RollbackOnly Failed) refl in record { values = p.values; alone = p.alone; prepared = p.prepared }
-  by_effect (Idles y own alone) = let p = put y Idle refl in record { values = p.values; alone = p.alone; prepared = p.prepared }
-  by_effect (Dooms k d l own) = put l.xid (RollbackOnly Transient) refl
+  by_effect (Starts y free) = let p = put y Active (λ e. cc) in record { values = p.values; alone = p.alone; prepared = p.prepared }
+  by_effect (Joins y free there unprepared) = let p = put y Active (λ e. cc) in record { values = p.values; alone = p.alone; prepared = p.prepared }
+  by_effect (Fails y own) = let p = put y (RollbackOnly Failed) (λ e. cc) in record { values = p.values; alone = p.alone; prepared = p.prepared }
+  by_effect (Idles y own alone) = let p = put y Idle (λ e. cc) in record { values = p.values; alone = p.alone; prepared = p.prepared }
+  by_effect (Dooms k d l own) = put l.xid (RollbackOnly Transient) (λ e. cc)
   by_effect (Adds k d l own known free) = adds k d l own free
-  by_effect (Prepares y nobody unbroken) = prepares y (unbroken_fits T y unbroken)
+  by_effect (Prepares y nobody unbroken) = put y S3 (λ _. unbroken_fits T y unbroken)
   by_effect (Commits y one_phase nobody may) =
-      commits y (⊎_elim (λ (is : is_prepared T y ≡ true). w.prepared y is) (λ (unbroken : is_broken T.values T.sums y ≡ false). unbroken_fits T y unbroken) may)
-  by_effect (Drops op y c nobody tells) = drops y
-  by_effect (CommitsByItself y voted) = commits_by_itself y (w.prepared y voted)
-  by_effect (RollsBackByItself y voted) = decides y decision.Rollback
+      commits y _ (still y) (⊎_elim (λ (is : is_prepared T y ≡ true). w.prepared y is) (λ (unbroken : is_broken T.values T.sums y ≡ false). unbroken_fits T y unbroken) may)
+  by_effect (Drops op y c nobody tells) = drops y _ (still y)
+  by_effect (CommitsByItself y voted) = commits y _ (undecided y decision.Commit) (w.prepared y voted)
+  by_effect (RollsBackByItself y voted) = drops y _ (undecided y decision.Rollback)
   by_effect (Forgets y is) = forgets y
   -- the others change no state, no sum and no value
   by_effect effect = record { values = w.values; alone = w.alone; prepared = w.prepared }

@@ -3,10 +3,6 @@ use Rattle.std.specs.Prelude.{◌≡◌, ◌≢◌, ℕ, ◌+◌, ◌==◌, ℤ,
 use Rattle.std.proofs.Common.{sym, ap, ◌∙◌, arith}
 use Rattle.std.proofs.lemmas.Int.{ints}
 use Rattle.std.proofs.lemmas.Bool.{eqb-true, eqb-false}
-use Rattle.std.specs.Ordering.{nat_cmp, eq_by_cmp, is_eq}
-use Rattle.std.specs.Cmp.{nat_cmp_total, tied_itself}
-use Rattle.std.specs.FinMap as map
-use Rattle.std.specs.FinMap.{FinMap, get-empty, get-insert, get-remove, nat_cmp-IsAntisymmetric}
 use Rattle.std.proofs.lemmas.List.Elements.{All-head, All-tail}
 use Rattle.std.proofs.Math.IntN.{+ℤ_idl as none_plus, +ℤ_idr as plus_none}
 use Rattle.xa_words.specs.Xid.{XidName, xid_eq}
@@ -27,50 +23,33 @@ use Rattle.xa_tables.specs.Openings.{IsOpening}
 use Rattle.xa_tables.specs.Prepared.{names, NamesNowhere}
 use Rattle.xa_tables.specs.Worth.{gain, unless_ended, added_by_now}
 use Rattle.xa_tables.specs.Work.{request, LeavesAtWork, DoesWork}
-use Rattle.xa_base.proofs.Truth.{by_if, tied_false}
-use Rattle.xa_base.proofs.FinMaps.{none_pass}
+use Rattle.xa_base.proofs.Truth.{by_if}
 use Rattle.xa_tables.proofs.Effects.{Effect, Starts, Joins, Resumes, Suspends, Leaves, Fails, Idles, effect_of}
 use Rattle.xa_tables.proofs.Moves.{quiet_named}
+use Rattle.xa_tables.proofs.SoundLemmas.{own_put, other_put, own_removed, other_removed}
+use Rattle.xa_tables.proofs.Law.{opening_free}
 use Rattle.xa_tables.proofs.Unnamed.{apart_from, unnamed_fate, unnamed_stays, unnamed_on}
 
 -- ---- associations
 
-abbrev Associations : Type 0
-Associations = FinMap nat_cmp Association
-
-tied : (t : ℕ) → eq_by_cmp nat_cmp t t ≡ true
-tied t = ap is_eq (tied_itself nat_cmp_total t)
-
-other_inserted : (m : Associations) (t u : ℕ) (l : Association) → u ≢ t → map.get (map.insert m t l) u ≡ map.get m u
-other_inserted m t u l apart = get-insert nat_cmp_total m t l u ∙ ap (λ b. cond b (Some l) (map.get m u)) (tied_false u t apart)
-
-other_removed : (m : Associations) (t u : ℕ) → u ≢ t → map.get (map.remove m t) u ≡ map.get m u
-other_removed m t u apart = get-remove nat_cmp_total m t u ∙ ap (λ b. cond b None (map.get m u)) (tied_false u t apart)
-
-own_inserted : (m : Associations) (t : ℕ) (l : Association) → map.get (map.insert m t l) t ≡ Some l
-own_inserted m t l = get-insert nat_cmp_total m t l t ∙ ap (λ b. cond b (Some l) (map.get m t)) (tied t)
-
-own_removed : (m : Associations) (t : ℕ) → map.get (map.remove m t) t ≡ None
-own_removed m t = get-remove nat_cmp_total m t t ∙ ap (λ b. cond b None (map.get m t)) (tied t)
-
 module _ (t : ℕ) (T : Tables) where
   -- a request leaves the associations of the other threads
-  others_by : (u : ℕ) → u ≢ t → {op : Op} {a : Answer} → Effect t T op a → association_of a.0 u ≡ association_of T u
-  others_by u apart (Starts y free) = other_inserted T.associations t u _ apart
-  others_by u apart (Joins y free there unprepared) = other_inserted T.associations t u _ apart
-  others_by u apart (Resumes y own) = other_inserted T.associations t u _ apart
-  others_by u apart (Suspends y own) = other_inserted T.associations t u _ apart
+  pub others_by : (u : ℕ) → u ≢ t → {op : Op} {a : Answer} → Effect t T op a → association_of a.0 u ≡ association_of T u
+  others_by u apart (Starts y free) = other_put T.associations t u _ apart
+  others_by u apart (Joins y free there unprepared) = other_put T.associations t u _ apart
+  others_by u apart (Resumes y own) = other_put T.associations t u _ apart
+  others_by u apart (Suspends y own) = other_put T.associations t u _ apart
   others_by u apart (Leaves y how c own why) = other_removed T.associations t u apart
   others_by u apart (Fails y own) = other_removed T.associations t u apart
   others_by u apart (Idles y own alone) = other_removed T.associations t u apart
   others_by u apart effect = refl
 
   -- and its thread becomes associated with no branch that it doesn't name
-  stays_apart : (x : XidName) {op : Op} {a : Answer} → Effect t T op a → names x op ≡ false → is_associated T t x ≡ false → is_associated a.0 t x ≡ false
-  stays_apart x (Starts y free) n h = ap (λ o. is_association_with o x) (own_inserted T.associations t _) ∙ n
-  stays_apart x (Joins y free there unprepared) n h = ap (λ o. is_association_with o x) (own_inserted T.associations t _) ∙ n
-  stays_apart x (Resumes y own) n h = ap (λ o. is_association_with o x) (own_inserted T.associations t _) ∙ n
-  stays_apart x (Suspends y own) n h = ap (λ o. is_association_with o x) (own_inserted T.associations t _) ∙ n
+  pub stays_apart : (x : XidName) {op : Op} {a : Answer} → Effect t T op a → names x op ≡ false → is_associated T t x ≡ false → is_associated a.0 t x ≡ false
+  stays_apart x (Starts y free) n h = ap (λ o. is_association_with o x) (own_put T.associations t _) ∙ n
+  stays_apart x (Joins y free there unprepared) n h = ap (λ o. is_association_with o x) (own_put T.associations t _) ∙ n
+  stays_apart x (Resumes y own) n h = ap (λ o. is_association_with o x) (own_put T.associations t _) ∙ n
+  stays_apart x (Suspends y own) n h = ap (λ o. is_association_with o x) (own_put T.associations t _) ∙ n
   stays_apart x (Leaves y how c own why) n h = ap (λ o. is_association_with o x) (own_removed T.associations t)
   stays_apart x (Fails y own) n h = ap (λ o. is_association_with o x) (own_removed T.associations t)
   stays_apart x (Idles y own alone) n h = ap (λ o. is_association_with o x) (own_removed T.associations t)
@@ -79,7 +58,7 @@ module _ (t : ℕ) (T : Tables) where
 -- ---- what requests add that aren't the branch's
 
 -- no thread but t is associated with x
-abbrev OnlyOne : ℕ → XidName → Tables → Type 0
+abbrev pub OnlyOne : ℕ → XidName → Tables → Type 0
 OnlyOne t x T = (u : ℕ) → u ≢ t → is_associated T u x ≡ false
 
 -- a thread that isn't associated with x adds nothing to it
@@ -102,7 +81,7 @@ unmoved x v r T n apart =
     ∙ same_after v _ (apart_gains x r.op c (association_of T r.thread) apart)
 
 -- nobody is associated with x
-nobody_is : (x : XidName) (T : Tables) → is_somebody_associated T.associations x ≡ false → (u : ℕ) → is_associated T u x ≡ false
+pub nobody_is : (x : XidName) (T : Tables) → is_somebody_associated T.associations x ≡ false → (u : ℕ) → is_associated T u x ≡ false
 nobody_is x T nobody u =
     elim (association_of T u) as (λ o. association_of T u ≡ o → is_association_with o x ≡ false) [ None ↦ λ e. refl | Some l ↦ λ e. apart_from x T.associations nobody u l e ] refl
 
@@ -162,7 +141,7 @@ begun_with t x T =
     by_if P (T.shut) _ _ (λ _ e. cc) (λ _.
     by_if P (not (has_opened T t)) _ _ (λ _ e. cc) (λ _.
     by_if P (has_association T t) _ _ (λ _ e. cc) (λ _.
-    by_if P (exists T x) _ _ (λ _ e. cc) (λ _ e. own_inserted T.associations t (association x Associated)))))
+    by_if P (exists T x) _ _ (λ _ e. cc) (λ _ e. own_put T.associations t (association x Associated)))))
 
 -- what a history adds that is followed by another
 added_both : (x : XidName) (v : ℤ) (h g : History) (T : Tables) → added_by_now x v (h ++ g) T ≡ added_by_now x (added_by_now x v h T) g (tables_after h T)
@@ -171,13 +150,8 @@ added_both x v (r ∷ h) g T =
     added_both x (unless_ended (ending (fate_of x r.op (next r.thread r.op T).1)) (v +ℤ gain x r.op (next r.thread r.op T).1 (association_of T r.thread))) h g (next r.thread r.op T).0
 
 -- a request of t leaves the other threads
-own_request : (t : ℕ) (x : XidName) (op : Op) (T : Tables) → OnlyOne t x T → OnlyOne t x (next t op T).0
+pub own_request : (t : ℕ) (x : XidName) (op : Op) (T : Tables) → OnlyOne t x T → OnlyOne t x (next t op T).0
 own_request t x op T only u other = ap (λ o. is_association_with o x) (others_by t T u other (effect_of t op T)) ∙ only u other
-
-opening_free : (x : XidName) (T : Tables) → IsOpening T → is_somebody_associated T.associations x ≡ false
-opening_free x T o =
-    ap (λ m. is_somebody_associated m x) o.associations
-    ∙ none_pass nat_cmp_total nat_cmp-IsAntisymmetric (λ u l. xid_eq l.xid x) map.empty (λ u l found. let z : None ≡ Some l = sym (get-empty nat_cmp u) ∙ found in cc)
 
 pub work_law : (t n : ℕ) (x : XidName) (k : List ℕ) (d : ℤ) (h : History) (T : Tables) → IsOpening T → DoesWork t n x k d T h → added_by_now x (pos 0) h T ≡ d
 work_law t n x k d h T opened w =

@@ -23,7 +23,8 @@ pub returns-clause-sums : goal.returns-clause-sums
 returns-clause-sums c =
     let keep = all_but c.args.xid.now in
     ap (λ as1. from_entries {R = touch_cmp} (hold_entries as1)) (all c)
-    ∙ sums_go keep (kept_where keep) (kept_goes keep) c.self.inside.accounts.items ∙ ap (λ h. sums_without h.sums c.args.xid.now) c.self.view_is
+    ∙ sums_go keep (kept_where keep) (kept_goes keep) c.self.inside.accounts.items c.self.invariant.0
+    ∙ ap (λ h. sums_without h.sums c.args.xid.now) c.self.view_is
 
 pub returns-clause-values : goal.returns-clause-values
 returns-clause-values c =

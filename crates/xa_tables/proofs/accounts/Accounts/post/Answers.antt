@@ -31,7 +31,7 @@ pub returns-clause-sums : goal.returns-clause-sums
 returns-clause-sums c =
     let x = c.args.xid.now in
     ap (λ as1. from_entries {R = touch_cmp} (hold_entries as1)) (all c)
-    ∙ sums_go (all_but x) (posted_by x) (posted_goes x) c.self.inside.accounts.items ∙ ap (λ h. sums_without h.sums x) c.self.view_is
+    ∙ sums_go (all_but x) (posted_by x) (posted_goes x) c.self.inside.accounts.items c.self.invariant.0 ∙ ap (λ h. sums_without h.sums x) c.self.view_is
 
 pub returns-clause-values : goal.returns-clause-values
 returns-clause-values c =

@@ -25,7 +25,8 @@ pub returns-clause-sums : goal.returns-clause-sums
 returns-clause-sums c =
     let keep = prepared_in c.args.branches.now.states in
     ap (λ as1. from_entries {R = touch_cmp} (hold_entries as1)) (all c)
-    ∙ sums_go keep (kept_where keep) (kept_goes keep) c.self.inside.accounts.items ∙ ap (λ h. finmap.retain_keys h.sums (λ p. keep p.0)) c.self.view_is
+    ∙ sums_go keep (kept_where keep) (kept_goes keep) c.self.inside.accounts.items c.self.invariant.0
+    ∙ ap (λ h. finmap.retain_keys h.sums (λ p. keep p.0)) c.self.view_is
 
 pub returns-clause-values : goal.returns-clause-values
 returns-clause-values c =

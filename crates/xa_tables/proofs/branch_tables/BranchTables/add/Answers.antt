@@ -18,18 +18,16 @@ invariant_of-self c =
 
 pub returns-in-RollbackOnly : goal.returns-in-RollbackOnly
 returns-in-RollbackOnly c =
-    let same = unwritten _ _ _ _ c.in-Some-state_mut.is (c.state_mut.follows.holds c.in-Some-state_mut.state.now) c.in-Some-state_mut.ensures.value in
-    rw same (record { step = search rules; kept = search rules })
+    search (rules, unwritten _ _ _ _ c.in-Some-state_mut.is (c.state_mut.follows.holds c.in-Some-state_mut.state.now) c.in-Some-state_mut.ensures.value)
 
 pub invariant_of-self-then-has_other_touched : goal.invariant_of-self-then-has_other_touched
 invariant_of-self-then-has_other_touched c =
     let now = written _ _ _ _ c.in-Some-state_mut.is (c.state_mut.follows.holds (RollbackOnly Transient)) in
-    sound_put _ _ _ _ _ _ (ap (λ b. b.states) now) refl c.self.invariant
+    sound_put _ _ _ _ _ _ _ _ (ap (λ b. b.states) now) (λ e. cc) (λ y apart. refl) c.self.invariant
 
 pub returns-then-has_other_touched : goal.returns-then-has_other_touched
 returns-then-has_other_touched c =
-    let now = written _ _ _ _ c.in-Some-state_mut.is (c.state_mut.follows.holds (RollbackOnly Transient)) in
-    rw now (record { step = search rules; kept = search rules })
+    search (rules, written _ _ _ _ c.in-Some-state_mut.is (c.state_mut.follows.holds (RollbackOnly Transient)))
 
 pub invariant_of-self-2 : goal.invariant_of-self-2
 invariant_of-self-2 c =
@@ -39,5 +37,4 @@ invariant_of-self-2 c =
 
 pub returns : goal.returns
 returns c =
-    let same = unwritten _ _ _ _ c.in-Some-state_mut.is (c.state_mut.follows.holds c.in-Some-state_mut.state.now) c.in-Some-state_mut.ensures.value in
-    rw same (record { step = search rules; kept = search rules })
+    search (rules, unwritten _ _ _ _ c.in-Some-state_mut.is (c.state_mut.follows.holds c.in-Some-state_mut.state.now) c.in-Some-state_mut.ensures.value)

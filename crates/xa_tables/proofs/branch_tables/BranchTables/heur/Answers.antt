@@ -1,7 +1,7 @@
 use Rattle.std.proofs.Common.{rules, refl, ap}
 use Rattle.xa_tables.specs.declared.state.State.TheVariants.{HeuristicallyCompleted}
 use Rattle.xa_tables.specs.declared.state.HeuristicDecision.TheVariants.{Commit, Rollback}
-use Rattle.xa_tables.proofs.SoundLemmas.{sound_decided, written, unwritten}
+use Rattle.xa_tables.proofs.SoundLemmas.{sound_put, written, unwritten}
 use Rattle.xa_tables.proofs.branch_tables.BranchTables.heur.Goals as goal
 
 pub invariant_of-self-then-ne : goal.invariant_of-self-then-ne
@@ -10,25 +10,22 @@ invariant_of-self-then-ne c =
 
 pub returns-then-ne : goal.returns-then-ne
 returns-then-ne c =
-    let same = unwritten _ _ _ _ c.in-Some.is (c.state_mut.follows.holds c.in-Some.state.now) c.in-Some.ensures.value in
-    rw same (record { step = search rules; kept = search rules })
+    search (rules, unwritten _ _ _ _ c.in-Some.is (c.state_mut.follows.holds c.in-Some.state.now) c.in-Some.ensures.value)
 
 pub invariant_of-self-then-commits : goal.invariant_of-self-then-commits
 invariant_of-self-then-commits c =
     let now = written _ _ _ _ c.in-Some.is (c.state_mut.follows.holds (HeuristicallyCompleted Commit)) in
-    sound_decided _ _ _ _ _ _ _ _ (ap (λ b. b.states) now) refl c.post.ensures.others c.self.invariant
+    sound_put _ _ _ _ _ _ _ _ (ap (λ b. b.states) now) (λ e. cc) c.post.ensures.others c.self.invariant
 
 pub returns-then-commits : goal.returns-then-commits
 returns-then-commits c =
-    let now = written _ _ _ _ c.in-Some.is (c.state_mut.follows.holds (HeuristicallyCompleted Commit)) in
-    rw now (record { step = search rules; kept = search rules })
+    search (rules, written _ _ _ _ c.in-Some.is (c.state_mut.follows.holds (HeuristicallyCompleted Commit)))
 
 pub invariant_of-self-2 : goal.invariant_of-self-2
 invariant_of-self-2 c =
     let now = written _ _ _ _ c.in-Some.is (c.state_mut.follows.holds (HeuristicallyCompleted Rollback)) in
-    sound_decided _ _ _ _ _ _ _ _ (ap (λ b. b.states) now) refl c.forget.ensures.others c.self.invariant
+    sound_put _ _ _ _ _ _ _ _ (ap (λ b. b.states) now) (λ e. cc) c.forget.ensures.others c.self.invariant
 
 pub returns : goal.returns
 returns c =
-    let now = written _ _ _ _ c.in-Some.is (c.state_mut.follows.holds (HeuristicallyCompleted Rollback)) in
-    rw now (record { step = search rules; kept = search rules })
+    search (rules, written _ _ _ _ c.in-Some.is (c.state_mut.follows.holds (HeuristicallyCompleted Rollback)))

@@ -1,6 +1,6 @@
-use Rattle.std.proofs.Common.{rules, sym, ap}
+use Rattle.std.proofs.Common.{rules, refl, sym, ap}
 use Rattle.xa_tables.specs.declared.state.State.TheVariants.{Prepared}
-use Rattle.xa_tables.proofs.SoundLemmas.{sound_prepared, written, unwritten}
+use Rattle.xa_tables.proofs.SoundLemmas.{sound_put, written, unwritten}
 use Rattle.xa_tables.proofs.branch_tables.BranchTables.prepare.Goals as goal
 
 pub invariant_of-self-then-is_somebody_associated : goal.invariant_of-self-then-is_somebody_associated
@@ -9,8 +9,7 @@ invariant_of-self-then-is_somebody_associated c =
 
 pub returns-then-is_somebody_associated : goal.returns-then-is_somebody_associated
 returns-then-is_somebody_associated c =
-    let same = unwritten _ _ _ _ c.in-Some.is (c.state_mut.follows.holds c.in-Some.state.now) c.in-Some.ensures.value in
-    rw same (record { step = search rules; kept = search rules })
+    search (rules, unwritten _ _ _ _ c.in-Some.is (c.state_mut.follows.holds c.in-Some.state.now) c.in-Some.ensures.value)
 
 pub invariant_of-self-in-Prepared : goal.invariant_of-self-in-Prepared
 invariant_of-self-in-Prepared c =
@@ -18,8 +17,7 @@ invariant_of-self-in-Prepared c =
 
 pub returns-in-Prepared : goal.returns-in-Prepared
 returns-in-Prepared c =
-    let same = unwritten _ _ _ _ c.in-Some.is (c.state_mut.follows.holds c.in-Some.state.now) c.in-Some.ensures.value in
-    rw same (record { step = search rules; kept = search rules })
+    search (rules, unwritten _ _ _ _ c.in-Some.is (c.state_mut.follows.holds c.in-Some.state.now) c.in-Some.ensures.value)
 
 pub invariant_of-self-then-not-has_touched : goal.invariant_of-self-then-not-has_touched
 invariant_of-self-then-not-has_touched c =
@@ -46,9 +44,8 @@ returns-then-is_broken c =
 pub invariant_of-self-2 : goal.invariant_of-self-2
 invariant_of-self-2 c =
     let now = written _ _ _ _ c.in-Some.is (c.state_mut.follows.holds Prepared) in
-    sound_prepared _ _ _ _ _ (ap (λ b. b.states) now) (sym c.if-is_broken.ensures) c.self.invariant
+    sound_put _ _ _ _ _ _ _ _ (ap (λ b. b.states) now) (λ _. sym c.if-is_broken.ensures) (λ y apart. refl) c.self.invariant
 
 pub returns : goal.returns
 returns c =
-    let now = written _ _ _ _ c.in-Some.is (c.state_mut.follows.holds Prepared) in
-    rw now (record { step = search rules; kept = search rules })
+    search (rules, written _ _ _ _ c.in-Some.is (c.state_mut.follows.holds Prepared))

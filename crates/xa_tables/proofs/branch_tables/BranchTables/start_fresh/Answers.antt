@@ -9,7 +9,7 @@ use Rattle.xa_tables.proofs.FreeThreads.{takes_one}
 use Rattle.xa_tables.proofs.branch_tables.BranchTables.start_fresh.Goals as goal
 
 pub invariant_of-self : goal.invariant_of-self
-invariant_of-self c = sound_put _ _ _ _ _ _ c.insert.ensures.state refl c.self.invariant
+invariant_of-self c = sound_put _ _ _ _ _ _ _ _ c.insert.ensures.state (λ e. cc) (λ y apart. refl) c.self.invariant
 
 pub returns-clause-kept : goal.returns-clause-kept
 returns-clause-kept c =

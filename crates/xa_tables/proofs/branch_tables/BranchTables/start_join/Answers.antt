@@ -9,8 +9,7 @@ invariant_of-self-in-Prepared c =
 
 pub returns-in-Prepared : goal.returns-in-Prepared
 returns-in-Prepared c =
-    let same = unwritten _ _ _ _ c.in-Some.is (c.state_mut.follows.holds c.in-Some.state.now) c.in-Some.ensures.value in
-    rw same (record { step = search rules; kept = search rules })
+    search (rules, unwritten _ _ _ _ c.in-Some.is (c.state_mut.follows.holds c.in-Some.state.now) c.in-Some.ensures.value)
 
 pub invariant_of-self-in-RollbackOnly : goal.invariant_of-self-in-RollbackOnly
 invariant_of-self-in-RollbackOnly c =
@@ -18,15 +17,13 @@ invariant_of-self-in-RollbackOnly c =
 
 pub returns-in-RollbackOnly : goal.returns-in-RollbackOnly
 returns-in-RollbackOnly c =
-    let same = unwritten _ _ _ _ c.in-Some.is (c.state_mut.follows.holds c.in-Some.state.now) c.in-Some.ensures.value in
-    rw same (record { step = search rules; kept = search rules })
+    search (rules, unwritten _ _ _ _ c.in-Some.is (c.state_mut.follows.holds c.in-Some.state.now) c.in-Some.ensures.value)
 
 pub invariant_of-self-in-Active : goal.invariant_of-self-in-Active
 invariant_of-self-in-Active c =
     let now = written _ _ _ _ c.in-Some.is (c.state_mut.follows.holds Active) in
-    sound_put _ _ _ _ _ _ (ap (λ b. b.states) now) refl c.self.invariant
+    sound_put _ _ _ _ _ _ _ _ (ap (λ b. b.states) now) (λ e. cc) (λ y apart. refl) c.self.invariant
 
 pub returns-in-Active : goal.returns-in-Active
 returns-in-Active c =
-    let now = written _ _ _ _ c.in-Some.is (c.state_mut.follows.holds Active) in
-    rw now (record { step = search rules; kept = search rules })
+    search (rules, written _ _ _ _ c.in-Some.is (c.state_mut.follows.holds Active))
