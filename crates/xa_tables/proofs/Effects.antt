@@ -83,28 +83,19 @@ error_undone : (c : Code) → is_error c ≡ true → is_done c ≡ false
 error_undone Done e = cc
 error_undone c e = refl
 
-error_prepare : (c : Code) → is_error c ≡ true → prepare_fate c ≡ None
-error_prepare Done e = cc
-error_prepare c e = cc
-
-error_commit : (c : Code) → is_error c ≡ true → commit_fate c ≡ None
-error_commit Done e = cc
-error_commit c e = cc
-
-error_rollback : (c : Code) → is_error c ≡ true → rollback_fate c ≡ None
-error_rollback Done e = cc
-error_rollback c e = cc
-
-error_heur : (commits : Bool) (c : Code) → is_error c ≡ true → heur_fate commits c ≡ None
-error_heur commits c e = ap (λ b. if b then Some (if commits then HeurCommitted else HeurRolledBack) else None) (error_undone c e)
+-- no error stands in the table of fates
+error_fates : (c : Code) → is_error c ≡ true → (prepare_fate c ≡ None) × (commit_fate c ≡ None) × (rollback_fate c ≡ None)
+error_fates Done e = cc
+error_fates c e = (cc, cc, cc)
 
 error_fate : (x : XidName) (op : Op) (c : Code) → is_error c ≡ true → fate_of x op c ≡ None
 error_fate x (Start y Fresh) c e = ap (λ b. if_named x y (if b then Some Live else None)) (error_undone c e) ∙ named_none x y
 error_fate x (Start y how) c e = named_none x y
-error_fate x (Prepare y) c e = ap (if_named x y) (error_prepare c e) ∙ named_none x y
-error_fate x (Commit y one_phase) c e = ap (if_named x y) (error_commit c e) ∙ named_none x y
-error_fate x (Rollback y) c e = ap (if_named x y) (error_rollback c e) ∙ named_none x y
-error_fate x (Heur y commits) c e = ap (if_named x y) (error_heur commits c e) ∙ named_none x y
+error_fate x (Prepare y) c e = ap (if_named x y) (error_fates c e).0 ∙ named_none x y
+error_fate x (Commit y one_phase) c e = ap (if_named x y) (error_fates c e).1 ∙ named_none x y
+error_fate x (Rollback y) c e = ap (if_named x y) (error_fates c e).2 ∙ named_none x y
+error_fate x (Heur y commits) c e =
+    ap (λ b. if_named x y (if b then Some (if commits then HeurCommitted else HeurRolledBack) else None)) (error_undone c e) ∙ named_none x y
 error_fate x op c e = refl
 
 error_moved : (accounts : List (List ℕ × ℕ)) (T : Tables) (op : Op) (c : Code) → is_error c ≡ true → moved_by accounts op c T ≡ pos 0
@@ -117,51 +108,28 @@ pub error_tells : (op : Op) (c : Code) → is_error c ≡ true → TellsNothing 
 error_tells (Add own d) c e = undone_adds own d c (error_undone c e)
 error_tells op c e = record { fates = λ x. error_fate x op c e; shares = λ k l later. refl; moved = λ accounts T. error_moved accounts T op c e }
 
-code_rolls_back : (reason : RollbackReason) → is_rolled_back (reason_code reason) ≡ true
-code_rolls_back Failed = refl
-code_rolls_back Transient = refl
-
 -- the reason of a branch that can only be rolled back is an XA_RB* code
 pub reason_rolls_back : (o : Option State) → is_S4 o ≡ true → is_rolled_back (reason_in o) ≡ true
-reason_rolls_back (Some (RollbackOnly reason)) e = code_rolls_back reason
+reason_rolls_back (Some (RollbackOnly Failed)) e = refl
 reason_rolls_back o e = cc
 
 -- a decision's code tells of no fate, to a Commit and to a Rollback
-decided_commit : (d : HeuristicDecision) → commit_fate (decision_code d) ≡ None
-decided_commit decision.Commit = refl
-decided_commit decision.Rollback = refl
-
-decided_rollback : (d : HeuristicDecision) → rollback_fate (decision_code d) ≡ None
-decided_rollback decision.Commit = refl
-decided_rollback decision.Rollback = refl
-
 pub decision_commits_nothing : (o : Option State) → is_S5 o ≡ true → commit_fate (decision_in o) ≡ None
-decision_commits_nothing (Some (HeuristicallyCompleted d)) e = decided_commit d
+decision_commits_nothing (Some (HeuristicallyCompleted decision.Commit)) e = refl
 decision_commits_nothing o e = cc
+
+pub decision_rolls_nothing_back : (o : Option State) → is_S5 o ≡ true → rollback_fate (decision_in o) ≡ None
+decision_rolls_nothing_back (Some (HeuristicallyCompleted decision.Commit)) e = refl
+decision_rolls_nothing_back o e = cc
 
 -- nor does it move any worth
 undone_commit : (c : Code) → commit_fate c ≡ None → is_done c ≡ false
 undone_commit Done e = cc
 undone_commit c e = refl
 
-pub decision_rolls_nothing_back : (o : Option State) → is_S5 o ≡ true → rollback_fate (decision_in o) ≡ None
-decision_rolls_nothing_back (Some (HeuristicallyCompleted d)) e = decided_rollback d
-decision_rolls_nothing_back o e = cc
-
 not_done : (r : Code) → is_rolled_back r ≡ true → is_done r ≡ false
 not_done Done e = cc
 not_done r e = refl
-
-read_only_drops : (y : XidName) → TellsDropped (Prepare y) y RdOnly
-read_only_drops y = record { fate = ReadOnly; uncommitted = refl; fates = λ x. refl; shares = λ k l later. refl; moved = λ accounts T. refl; named = λ x. refl }
-
-broken_prepare_drops : (y : XidName) → TellsDropped (Prepare y) y RbIntegrity
-broken_prepare_drops y =
-    record { fate = RolledBack; uncommitted = refl; fates = λ x. refl; shares = λ k l later. refl; moved = λ accounts T. refl; named = λ x. refl }
-
-broken_commit_drops : (y : XidName) → TellsDropped (Commit y true) y RbIntegrity
-broken_commit_drops y =
-    record { fate = RolledBack; uncommitted = refl; fates = λ x. refl; shares = λ k l later. refl; moved = λ accounts T. refl; named = λ x. refl }
 
 rollback_drops : (y : XidName) (c : Code) → (is_done c || is_rolled_back c) ≡ true → TellsDropped (Rollback y) y c
 rollback_drops y c e = record {
@@ -214,32 +182,31 @@ pub data Effect (t : ℕ) (T : Tables) : Op → Answer → Type 0 where
 -- ---- the walk
 
 module _ (t : ℕ) (T : Tables) where
-  refuses : (op : Op) (c : Code) → is_error c ≡ true → Effect t T op (T, c)
-  refuses op c error = Stays op c (error_tells op c error)
+  refuses : {op : Op} {c : Code} → is_error c ≡ true → Effect t T op (T, c)
+  refuses {op = op} {c = c} error = Stays op c (error_tells op c error)
+
+  at_if : {op : Op} {p q : Answer} (b : Bool) → (b ≡ true → Effect t T op p) → (b ≡ false → Effect t T op q) → Effect t T op (if b then p else q)
+  at_if {op = op} b = by_if (Effect t T op) b _ _
 
   at_close : Effect t T CloseRm (close_rm t T)
   at_close =
-      let Q : Answer → Type 0 = Effect t T CloseRm in
-      by_if Q (not (has_opened T t)) _ _ (λ _. Stays CloseRm Done (record { fates = λ x. refl; shares = λ k l later. refl; moved = λ accounts T. refl })) (λ _.
-      by_if Q (has_association T t) _ _ (λ _. refuses CloseRm Proto refl) (λ _. Closes))
+      at_if (not (has_opened T t)) (λ _. Stays CloseRm Done (record { fates = λ x. refl; shares = λ k l later. refl; moved = λ accounts T. refl })) (λ _.
+      at_if (has_association T t) (λ _. refuses refl) (λ _. Closes))
 
   at_start : (how : StartHow) (y : XidName) → Effect t T (Start y how) (start how t y T)
   at_start Fresh y =
-      let Q : Answer → Type 0 = Effect t T (Start y Fresh) in
-      by_if Q (has_association T t) _ _ (λ _. refuses (Start y Fresh) Proto refl) (λ free.
-      by_if Q (exists T y) _ _ (λ _. refuses (Start y Fresh) DupId refl) (λ _. Starts y free))
+      at_if (has_association T t) (λ _. refuses refl) (λ free.
+      at_if (exists T y) (λ _. refuses refl) (λ _. Starts y free))
   at_start Join y =
-      let Q : Answer → Type 0 = Effect t T (Start y Join) in
-      by_if Q (has_association T t) _ _ (λ _. refuses (Start y Join) Proto refl) (λ free.
-      by_if Q (not (exists T y)) _ _ (λ _. refuses (Start y Join) Nota refl) (λ there.
-      by_if Q (is_left T y) _ _ (λ _. refuses (Start y Join) Proto refl) (λ unprepared.
-      by_if Q (is_rollback_only T y) _ _
+      at_if (has_association T t) (λ _. refuses refl) (λ free.
+      at_if (not (exists T y)) (λ _. refuses refl) (λ there.
+      at_if (is_left T y) (λ _. refuses refl) (λ unprepared.
+      at_if (is_rollback_only T y)
       (λ _. Stays (Start y Join) (reason_of T y) (record { fates = λ x. named_none x y; shares = λ k l later. refl; moved = λ accounts T. refl })) (λ _.
       Joins y free (not-false _ there) unprepared))))
   at_start Resume y =
-      let Q : Answer → Type 0 = Effect t T (Start y Resume) in
-      by_if Q (is_associated T t y && is_suspended T t) _ _ (λ own. Resumes y (and_parts _ _ own).0) (λ _.
-      by_if Q (not (exists T y)) _ _ (λ _. refuses (Start y Resume) Nota refl) (λ _. refuses (Start y Resume) Proto refl))
+      at_if (is_associated T t y && is_suspended T t) (λ own. Resumes y (and_parts _ _ own).0) (λ _.
+      at_if (not (exists T y)) (λ _. refuses refl) (λ _. refuses refl))
 
   -- the rule of an addition by a thread with this association
   abbrev add_with : Option Association → List ℕ → ℤ → Answer
@@ -252,14 +219,13 @@ module _ (t : ℕ) (T : Tables) where
 
   at_add : (k : List ℕ) (d : ℤ) → Effect t T (Add k d) (add t k d T)
   at_add k d =
-      let Q : Answer → Type 0 = Effect t T (Add k d) in
-      elim (association_of T t) as (λ o. association_of T t ≡ o → Q (add_with o k d)) [
-        | None ↦ λ _. refuses (Add k d) Proto refl
+      elim (association_of T t) as (λ o. association_of T t ≡ o → Effect t T (Add k d) (add_with o k d)) [
+        | None ↦ λ _. refuses refl
         | Some l ↦ λ own.
-            by_if Q (not (is_T1 (Some l))) _ _ (λ _. refuses (Add k d) Proto refl) (λ _.
-            by_if Q (not (is_declared T k)) _ _ (λ _. refuses (Add k d) Inval refl) (λ known.
-            by_if Q (is_rollback_only T l.xid) _ _ (λ doomed. Stays (Add k d) (reason_of T l.xid) (undone_adds k d (reason_of T l.xid) (not_done (reason_of T l.xid) (reason_rolls_back (state_of T l.xid) doomed)))) (λ _.
-            by_if Q (has_other_touched T.sums l.xid k) _ _ (λ _. Dooms k d l own) (λ alone. Adds k d l own (not-false (is_declared T k) known) alone))))
+            at_if (not (is_T1 (Some l))) (λ _. refuses refl) (λ _.
+            at_if (not (is_declared T k)) (λ _. refuses refl) (λ known.
+            at_if (is_rollback_only T l.xid) (λ doomed. Stays (Add k d) (reason_of T l.xid) (undone_adds k d (reason_of T l.xid) (not_done (reason_of T l.xid) (reason_rolls_back (state_of T l.xid) doomed)))) (λ _.
+            at_if (has_other_touched T.sums l.xid k) (λ _. Dooms k d l own) (λ alone. Adds k d l own (not-false (is_declared T k) known) alone))))
       ] refl
 
   -- an xa_end, with what it does where t may end its work and y isn't doomed
@@ -270,83 +236,74 @@ module _ (t : ℕ) (T : Tables) where
       else if is_rollback_only T y then (dissociated t T, reason_of T y)
       else last)
   at_end_by how y last ends =
-      let Q : Answer → Type 0 = Effect t T (End y how) in
-      by_if Q (not (is_associated T t y) && not (exists T y)) _ _ (λ _. refuses (End y how) Nota refl) (λ _.
-      by_if Q (not (is_associated T t y)) _ _ (λ _. refuses (End y how) Proto refl) (λ own.
-      by_if Q (is_suspend how && is_suspended T t) _ _ (λ _. refuses (End y how) Proto refl) (λ _.
-      by_if Q (is_rollback_only T y) _ _ (λ doomed. Leaves y how (reason_of T y) (not-false _ own) (ap (λ b. b || is_somebody_associated (dissociated t T).associations y) doomed)) (λ _. ends (not-false _ own)))))
+      at_if (not (is_associated T t y) && not (exists T y)) (λ _. refuses refl) (λ _.
+      at_if (not (is_associated T t y)) (λ _. refuses refl) (λ own.
+      at_if (is_suspend how && is_suspended T t) (λ _. refuses refl) (λ _.
+      at_if (is_rollback_only T y) (λ doomed. Leaves y how (reason_of T y) (not-false _ own) (ap (λ b. b || is_somebody_associated (dissociated t T).associations y) doomed)) (λ _. ends (not-false _ own)))))
 
   at_end : (how : EndHow) (y : XidName) → Effect t T (End y how) (end how t y T)
   at_end Suspend y = at_end_by Suspend y (suspended t y T, Done) (Suspends y)
   at_end Fail y = at_end_by Fail y (stated y (RollbackOnly Failed) (dissociated t T), RbRollback) (Fails y)
   at_end Success y =
-      at_end_by Success y (if is_somebody_associated (dissociated t T).associations y then (dissociated t T, Done) else (stated y Idle (dissociated t T), Done)) (λ own. by_if (Effect t T (End y Success)) (is_somebody_associated (dissociated t T).associations y) _ _ (λ left. Leaves y Success Done own (ap (λ b. is_rollback_only T y || b) left ∙ or-true (is_rollback_only T y))) (λ alone. Idles y own alone))
+      at_end_by Success y (if is_somebody_associated (dissociated t T).associations y then (dissociated t T, Done) else (stated y Idle (dissociated t T), Done)) (λ own. at_if (is_somebody_associated (dissociated t T).associations y) (λ left. Leaves y Success Done own (ap (λ b. is_rollback_only T y || b) left ∙ or-true (is_rollback_only T y))) (λ alone. Idles y own alone))
 
   at_prepare : (y : XidName) → Effect t T (Prepare y) (prepare y T)
   at_prepare y =
-      let Q : Answer → Type 0 = Effect t T (Prepare y) in
-      by_if Q (not (exists T y)) _ _ (λ _. refuses (Prepare y) Nota refl) (λ _.
-      by_if Q (is_somebody_associated T.associations y || (is_prepared T y || (is_rollback_only T y || is_completed T y))) _ _ (λ _. refuses (Prepare y) Proto refl) (λ free.
+      at_if (not (exists T y)) (λ _. refuses refl) (λ _.
+      at_if (is_somebody_associated T.associations y || (is_prepared T y || (is_rollback_only T y || is_completed T y))) (λ _. refuses refl) (λ free.
       let nobody = (or_parts (is_somebody_associated T.associations y) _ free).0 in
-      by_if Q (not (has_touched T.sums y)) _ _ (λ _. Drops (Prepare y) y RdOnly nobody (read_only_drops y)) (λ _.
-      by_if Q (is_broken T.values T.sums y) _ _ (λ _. Drops (Prepare y) y RbIntegrity nobody (broken_prepare_drops y)) (λ unbroken. Prepares y nobody unbroken))))
+      at_if (not (has_touched T.sums y)) (λ _. Drops (Prepare y) y RdOnly nobody (record { fate = ReadOnly; uncommitted = refl; fates = λ x. refl; shares = λ k l later. refl; moved = λ accounts U. refl; named = λ x. refl })) (λ _.
+      at_if (is_broken T.values T.sums y) (λ _. Drops (Prepare y) y RbIntegrity nobody (record { fate = RolledBack; uncommitted = refl; fates = λ x. refl; shares = λ k l later. refl; moved = λ accounts U. refl; named = λ x. refl })) (λ unbroken. Prepares y nobody unbroken))))
 
   at_commit : (one_phase : Bool) (y : XidName) → Effect t T (Commit y one_phase) (if one_phase then commit_one y T else commit_two y T)
   at_commit true y =
-      let Q : Answer → Type 0 = Effect t T (Commit y true) in
-      by_if Q (not (exists T y)) _ _ (λ _. refuses (Commit y true) Nota refl) (λ _.
-      by_if Q (is_somebody_associated T.associations y || not (is_idle T y)) _ _ (λ _. refuses (Commit y true) Proto refl) (λ free.
+      at_if (not (exists T y)) (λ _. refuses refl) (λ _.
+      at_if (is_somebody_associated T.associations y || not (is_idle T y)) (λ _. refuses refl) (λ free.
       let nobody = (or_parts (is_somebody_associated T.associations y) _ free).0 in
-      by_if Q (is_broken T.values T.sums y) _ _ (λ _. Drops (Commit y true) y RbIntegrity nobody (broken_commit_drops y)) (λ unbroken. Commits y true nobody (inr unbroken))))
+      at_if (is_broken T.values T.sums y) (λ _. Drops (Commit y true) y RbIntegrity nobody (record { fate = RolledBack; uncommitted = refl; fates = λ x. refl; shares = λ k l later. refl; moved = λ accounts U. refl; named = λ x. refl })) (λ unbroken. Commits y true nobody (inr unbroken))))
   at_commit false y =
-      let Q : Answer → Type 0 = Effect t T (Commit y false) in
-      by_if Q (not (exists T y)) _ _ (λ _. refuses (Commit y false) Nota refl) (λ _.
-      by_if Q (is_completed T y) _ _ (λ decided.
+      at_if (not (exists T y)) (λ _. refuses refl) (λ _.
+      at_if (is_completed T y) (λ decided.
       let none = decision_commits_nothing (state_of T y) decided in
       Stays (Commit y false) (decision_of T y) (record {
         fates = λ x. ap (if_named x y) none ∙ named_none x y;
         shares = λ k l later. refl;
         moved = λ accounts U. ap (λ b. if b then held_by accounts y U else pos 0) (undone_commit (decision_of T y) none);
       })) (λ _.
-      by_if Q (is_somebody_associated T.associations y || not (is_prepared T y)) _ _ (λ _. refuses (Commit y false) Proto refl) (λ free.
+      at_if (is_somebody_associated T.associations y || not (is_prepared T y)) (λ _. refuses refl) (λ free.
       let parts = or_parts (is_somebody_associated T.associations y) _ free in
       Commits y false parts.0 (inl (not-false (is_prepared T y) parts.1)))))
 
   at_rollback : (y : XidName) → Effect t T (Rollback y) (rollback y T)
   at_rollback y =
-      let Q : Answer → Type 0 = Effect t T (Rollback y) in
-      by_if Q (not (exists T y)) _ _ (λ _. refuses (Rollback y) Nota refl) (λ _.
-      by_if Q (is_completed T y) _ _ (λ decided. Stays (Rollback y) (decision_of T y) (record {
+      at_if (not (exists T y)) (λ _. refuses refl) (λ _.
+      at_if (is_completed T y) (λ decided. Stays (Rollback y) (decision_of T y) (record {
         fates = λ x. ap (if_named x y) (decision_rolls_nothing_back (state_of T y) decided) ∙ named_none x y;
         shares = λ k l later. refl;
         moved = λ accounts U. refl;
       })) (λ _.
-      by_if Q (is_somebody_associated T.associations y) _ _ (λ _. refuses (Rollback y) Proto refl) (λ nobody.
-      by_if Q (is_rollback_only T y) _ _ (λ doomed. Drops (Rollback y) y (reason_of T y) nobody (rollback_drops y (reason_of T y) (ap (λ b. is_done (reason_of T y) || b) (reason_rolls_back (state_of T y) doomed) ∙ or-true (is_done (reason_of T y))))) (λ _.
+      at_if (is_somebody_associated T.associations y) (λ _. refuses refl) (λ nobody.
+      at_if (is_rollback_only T y) (λ doomed. Drops (Rollback y) y (reason_of T y) nobody (rollback_drops y (reason_of T y) (ap (λ b. is_done (reason_of T y) || b) (reason_rolls_back (state_of T y) doomed) ∙ or-true (is_done (reason_of T y))))) (λ _.
       Drops (Rollback y) y Done nobody (rollback_drops y Done refl)))))
 
   at_heur : (commits : Bool) (y : XidName) → Effect t T (Heur y commits) (heur y commits T)
   at_heur true y =
-      let Q : Answer → Type 0 = Effect t T (Heur y true) in
-      by_if Q (not (exists T y)) _ _ (λ _. refuses (Heur y true) Nota refl) (λ _.
-      by_if Q (not (is_prepared T y)) _ _ (λ _. refuses (Heur y true) Proto refl) (λ voted. CommitsByItself y (not-false (is_prepared T y) voted)))
+      at_if (not (exists T y)) (λ _. refuses refl) (λ _.
+      at_if (not (is_prepared T y)) (λ _. refuses refl) (λ voted. CommitsByItself y (not-false (is_prepared T y) voted)))
   at_heur false y =
-      let Q : Answer → Type 0 = Effect t T (Heur y false) in
-      by_if Q (not (exists T y)) _ _ (λ _. refuses (Heur y false) Nota refl) (λ _.
-      by_if Q (not (is_prepared T y)) _ _ (λ _. refuses (Heur y false) Proto refl) (λ voted. RollsBackByItself y (not-false (is_prepared T y) voted)))
+      at_if (not (exists T y)) (λ _. refuses refl) (λ _.
+      at_if (not (is_prepared T y)) (λ _. refuses refl) (λ voted. RollsBackByItself y (not-false (is_prepared T y) voted)))
 
   at_forget : (y : XidName) → Effect t T (Forget y) (forget y T)
   at_forget y =
-      let Q : Answer → Type 0 = Effect t T (Forget y) in
-      by_if Q (not (exists T y)) _ _ (λ _. refuses (Forget y) Nota refl) (λ _.
-      by_if Q (not (is_completed T y)) _ _ (λ _. refuses (Forget y) Proto refl) (λ decided. Forgets y (not-false (is_completed T y) decided)))
+      at_if (not (exists T y)) (λ _. refuses refl) (λ _.
+      at_if (not (is_completed T y)) (λ _. refuses refl) (λ decided. Forgets y (not-false (is_completed T y) decided)))
 
   at_listed : (x : Option XidName) → Effect t T (Listed x) (listed x T)
   at_listed None = Stays (Listed None) Done (record { fates = λ x. refl; shares = λ k l later. refl; moved = λ accounts T. refl })
   at_listed (Some y) =
-      let Q : Answer → Type 0 = Effect t T (Listed (Some y)) in
-      by_if Q (is_left T y) _ _ (λ _. Stays (Listed (Some y)) Done (record { fates = λ x. refl; shares = λ k l later. refl; moved = λ accounts T. refl }))
-      (λ _. refuses (Listed (Some y)) Nota refl)
+      at_if (is_left T y) (λ _. Stays (Listed (Some y)) Done (record { fates = λ x. refl; shares = λ k l later. refl; moved = λ accounts T. refl }))
+      (λ _. refuses refl)
 
   pub at_rules : (op : Op) → Effect t T op (by_rules t op T)
   at_rules Shut = Shuts
@@ -366,5 +323,4 @@ module _ (t : ℕ) (T : Tables) where
 pub effect_of : (t : ℕ) (op : Op) (T : Tables) → Effect t T op (next t op T)
 unfolding next
 effect_of t op T =
-    by_if (Effect t T op) (T.shut) _ _ (λ _. refuses t T op RmFail refl) (λ _.
-    by_if (Effect t T op) (needs_opening op && not (has_opened T t)) _ _ (λ _. refuses t T op Proto refl) (λ _. at_rules t T op))
+    at_if t T (T.shut) (λ _. refuses t T refl) (λ _. at_if t T (needs_opening op && not (has_opened T t)) (λ _. refuses t T refl) (λ _. at_rules t T op))

@@ -21,7 +21,7 @@ use Rattle.xa_tables.specs.Accounts.{AreDistinct, AreIndexed, IsGood, value_entr
 use Rattle.xa_tables.specs.Accounts.{are_apart, are_accounts, declared_values, keys_of}
 use Rattle.xa_tables.proofs.AccountLemmas.{same_key, Lacks, is_other, value_found, at_own_key}
 
-swapped : (k l : List ℕ) → key_eq l k ≡ same_key k l
+pub swapped : (k l : List ℕ) → key_eq l k ≡ same_key k l
 swapped k l = key_eq-by_cmp l k ∙ (eq_by_cmp_equiv key_cmp_total).symm l k
 
 one_here : (b : Bool) (i : ℕ) → later_place None b ≡ Some i → (b ≡ true) × (i ≡ 0)
@@ -180,7 +180,7 @@ other_at k x (c ∷ rest) (suc i) a dist e h =
 abbrev pub account_of : List ℕ × ℕ → Account
 account_of d = record { key = d.0; value = pos d.1; hold = None }
 
-declared_entries : (ds : List (List ℕ × ℕ)) → value_entries (map account_of ds) ≡ map (λ d. (d.0, pos d.1)) ds
+pub declared_entries : (ds : List (List ℕ × ℕ)) → value_entries (map account_of ds) ≡ map (λ d. (d.0, pos d.1)) ds
 declared_entries [] = refl
 declared_entries (d ∷ ds) = ap (λ es. (d.0, pos d.1) ∷ es) (declared_entries ds)
 
@@ -201,7 +201,7 @@ lacks_declared k (d ∷ ds) h =
       | false ↦ λ t f. ap (λ b. cond b (Some (pos d.1)) (find key_cmp k (value_entries (map account_of ds)))) (sym (swapped k d.0) ∙ t) ∙ lacks_declared k ds f
     ] refl h
 
-distinct_apart : (ds : List (List ℕ × ℕ)) → are_apart ds ≡ true → AreDistinct (map account_of ds)
+pub distinct_apart : (ds : List (List ℕ × ℕ)) → are_apart ds ≡ true → AreDistinct (map account_of ds)
 distinct_apart [] h = tt
 distinct_apart (d ∷ ds) h = (lacks_declared d.0 ds (not-true _ (and_parts _ _ h).0), distinct_apart ds (and_parts _ _ h).1)
 

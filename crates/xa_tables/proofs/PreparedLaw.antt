@@ -56,17 +56,11 @@ module _ (t : ℕ) (x : XidName) (T : Tables) (o : has_opened T t ≡ true) wher
 
     commit_done : (next t (Commit x false) T).1 ≡ (if T.shut then RmFail else Done)
     unfolding next
-    commit_done =
-        unless_shut _ Done (ap (λ (a : Answer). a.1)
-        (at_false (not (has_opened T t)) _ _ unopened ∙ at_false (not (exists T x)) _ _ unknown ∙ at_false (is_completed T x) _ _ (ap is_S5 h)
-        ∙ at_false (is_somebody_associated T.associations x || not (is_prepared T x)) _ _ (or_from _ _ free (ap (λ st. not (is_S3 st)) h))))
+    commit_done = unless_shut _ Done (rw (o, h, free))
 
     rollback_done : (next t (Rollback x) T).1 ≡ (if T.shut then RmFail else Done)
     unfolding next
-    rollback_done =
-        unless_shut _ Done (ap (λ (a : Answer). a.1)
-        (at_false (not (has_opened T t)) _ _ unopened ∙ at_false (not (exists T x)) _ _ unknown ∙ at_false (is_completed T x) _ _ (ap is_S5 h)
-        ∙ at_false (is_somebody_associated T.associations x) _ _ free ∙ at_false (is_rollback_only T x) _ _ (ap is_S4 h)))
+    rollback_done = unless_shut _ Done (rw (o, h, free))
 
     awaits : AwaitsTheOutcome t x None T
     awaits = record { state = h; commits = commit_done; rolls_back = rollback_done }
@@ -77,15 +71,11 @@ module _ (t : ℕ) (x : XidName) (T : Tables) (o : has_opened T t ≡ true) wher
 
     commit_told : (next t (Commit x false) T).1 ≡ (if T.shut then RmFail else decision_code d)
     unfolding next
-    commit_told =
-        unless_shut _ (decision_code d) (ap (λ (a : Answer). a.1)
-        (at_false (not (has_opened T t)) _ _ unopened ∙ at_false (not (exists T x)) _ _ there ∙ at_true (is_completed T x) _ _ (ap is_S5 h)) ∙ ap decision_in h)
+    commit_told = unless_shut _ (decision_code d) (rw (o, h))
 
     rollback_told : (next t (Rollback x) T).1 ≡ (if T.shut then RmFail else decision_code d)
     unfolding next
-    rollback_told =
-        unless_shut _ (decision_code d) (ap (λ (a : Answer). a.1)
-        (at_false (not (has_opened T t)) _ _ unopened ∙ at_false (not (exists T x)) _ _ there ∙ at_true (is_completed T x) _ _ (ap is_S5 h)) ∙ ap decision_in h)
+    rollback_told = unless_shut _ (decision_code d) (rw (o, h))
 
     told : AwaitsTheOutcome t x (Some d) T
     told = record { state = h; commits = commit_told; rolls_back = rollback_told }

@@ -1,7 +1,7 @@
 -- The laws: commits alone, heuristic ones included, move what the accounts are worth together, by what their branches hold, and a branch holds what it
 -- has added.
 use Rattle.std.specs.Prelude.{◌≡◌, ℕ, zero, suc, ℤ, pos, ◌+ℤ◌, Bool, true, false, cond, not, ◌&&◌, ◌||◌, if◌then◌else◌, Option, None, Some, is_some, option_map}
-use Rattle.std.specs.Prelude.{unwrap_or, List, [], ◌∷◌, map, refl}
+use Rattle.std.specs.Prelude.{unwrap_or, List, [], ◌∷◌, ◌<◌, length, map, refl}
 use Rattle.std.specs.List.{All, list_any}
 use Rattle.std.specs.FinMap as finmap
 use Rattle.std.specs.FinMap.{find, get-empty, get-insert, get-from_entries}
@@ -31,7 +31,11 @@ use Rattle.xa_tables.specs.Prepared.{NamesNowhere}
 use Rattle.xa_tables.specs.Worth.{worth_declared, worth, held_by, moved_by, moved, is_any, gain, unless_ended, added_by_now, WorthIsMoved, HoldsItsAdditions}
 use Rattle.xa_tables.specs.Worth.{DeclareEach, WorthIsMovedFrom}
 use Rattle.xa_base.proofs.FinMaps.{get-map_values}
-use Rattle.xa_tables.proofs.AccountLemmas.{same_key, key_self, key_apart, touch_cmp_total, touch_self}
+use Rattle.xa_tables.proofs.AccountLemmas.{touch_cmp_total, touch_self, value_found, at_own_key}
+use Rattle.xa_tables.proofs.PlaceLemmas.{swapped, account_of, declared_entries, distinct_apart}
+use Rattle.xa_tables.specs.declared.accounts.Account.{Account}
+use Rattle.xa_base.proofs.Truth.{by_bool}
+use Rattle.std.proofs.lemmas.List.{length-map, get_or-map}
 use Rattle.xa_tables.proofs.Moves.{Moves, Still, Ended, Added, moves_of}
 use Rattle.xa_tables.proofs.Law.{swap_xid}
 use Rattle.xa_tables.proofs.ValueLaw.{get_without, get_added}
@@ -57,17 +61,10 @@ Entry = List ℕ × ℤ
 abbrev entry_of : List ℕ × ℕ → Entry
 entry_of d = (d.0, pos d.1)
 
-same_as : (k l : List ℕ) → same_key k l ≡ key_eq l k
-same_as k l =
-    elim (key_eq l k) as (λ b. key_eq l k ≡ b → same_key k l ≡ b) [
-      | true ↦ λ t. ap (λ q. same_key k q) ((Decides-key_eq l k).0 t) ∙ key_self k
-      | false ↦ λ t. key_apart k l (λ e. let z : key_eq l k ≡ true = (Decides-key_eq l k).1 (sym e) in cc)
-    ] refl
-
 found_among : (accounts : Accounts) (k : List ℕ) → is_some (find key_cmp k (map entry_of accounts)) ≡ among accounts k
 found_among [] k = refl
 found_among (d ∷ ds) k =
-    ap (λ b. is_some (cond b (Some (pos d.1)) (find key_cmp k (map entry_of ds)))) (same_as k d.0)
+    ap (λ b. is_some (cond b (Some (pos d.1)) (find key_cmp k (map entry_of ds)))) (sym (swapped k d.0))
     ∙ elim (key_eq d.0 k) as (λ b. is_some (cond b (Some (pos d.1)) (find key_cmp k (map entry_of ds))) ≡ (b || among ds k)) [ true ↦ refl | false ↦ found_among ds k ]
 
 -- the tables declare just the accounts' keys
@@ -103,39 +100,19 @@ once (d ∷ ds) k v apart =
       | false ↦ λ t. none_plus _ ∙ once ds k v parts.1
     ] refl
 
--- what is found of a key is the first account's alone
-value_in : List Entry → List ℕ → ℤ
-value_in es k = unwrap_or (find key_cmp k es) (pos 0)
-
-passed : (d : Entry) (es : List Entry) (rest : Accounts) → list_any (λ e. key_eq e.0 d.0) rest ≡ false
-    → total (λ e. value_in (d ∷ es) e.0) rest ≡ total (λ e. value_in es e.0) rest
-unfolding value_in
-passed d es [] none = refl
-passed d es (e ∷ rest) none =
-    elim (key_eq e.0 d.0) as (λ b. key_eq e.0 d.0 ≡ b → (b || list_any (λ e. key_eq e.0 d.0) rest) ≡ false
-    → value_in (d ∷ es) e.0 +ℤ total (λ e. value_in (d ∷ es) e.0) rest ≡ value_in es e.0 +ℤ total (λ e. value_in es e.0) rest) [
-      | true ↦ λ t f. cc
-      | false ↦ λ t f.
-          let other : same_key e.0 d.0 ≡ false = key_apart e.0 d.0 (λ same. let z : key_eq e.0 d.0 ≡ true = (Decides-key_eq e.0 d.0).1 same in cc) in
-          λ i. unwrap_or (cond (other i) (Some d.1) (find key_cmp e.0 es)) (pos 0) +ℤ passed d es rest f i
-    ] refl none
-
-declared_worth : (accounts : Accounts) → are_apart accounts ≡ true → total (λ d. value_in (map entry_of accounts) d.0) accounts ≡ worth_declared accounts
-unfolding value_in
-declared_worth [] apart = refl
-declared_worth (d ∷ ds) apart =
-    let parts = and_parts (not (list_any (λ e. key_eq e.0 d.0) ds)) (are_apart ds) apart in
-    let here : value_in (map entry_of (d ∷ ds)) d.0 ≡ pos d.1 =
-    ap (λ b. unwrap_or (cond b (Some (pos d.1)) (find key_cmp d.0 (map entry_of ds))) (pos 0)) (key_self d.0) in
-    let there : total (λ e. value_in (map entry_of (d ∷ ds)) e.0) ds ≡ worth_declared ds =
-    passed (entry_of d) (map entry_of ds) ds (not-true _ parts.0) ∙ declared_worth ds parts.1 in
-    λ i. here i +ℤ there i
+-- each account's value at the opening
+opening_value : (ds : Accounts) (i : ℕ) (d : List ℕ × ℕ) → are_apart ds ≡ true → i < length ds
+    → find key_cmp (get_or ds i d).0 (map entry_of ds) ≡ Some (pos (get_or ds i d).1)
+opening_value ds i d apart lt =
+    let a = account_of (get_or ds i d) in
+    ap (find key_cmp a.key) (sym (declared_entries ds)) ∙ value_found a.key (map account_of ds)
+    ∙ ap (option_map (λ (c : Account). c.value))
+    (at_own_key (map account_of ds) i a (distinct_apart ds apart) (omega (arith, length-map ds account_of)) (sym (get_or-map account_of ds i d a lt)))
 
 opening_worth : (accounts : Accounts) → are_apart accounts ≡ true → worth accounts (opening accounts) ≡ worth_declared accounts
-unfolding value_in
 opening_worth accounts apart =
-    total_same (λ d. value_of (opening accounts).values d.0) (λ d. value_in (map entry_of accounts) d.0) accounts (λ d. ap (λ o. unwrap_or o (pos 0)) (get-from_entries key_cmp_total (map entry_of accounts) d.0))
-    ∙ declared_worth accounts apart
+    total_alike (λ d. value_of (opening accounts).values d.0) (λ d. pos d.1) accounts (λ i d lt.
+    ap (λ o. unwrap_or o (pos 0)) (get-from_entries key_cmp_total (map entry_of accounts) (get_or accounts i d).0 ∙ opening_value accounts i d apart lt))
 
 -- nothing is held at the opening
 opening_holds : (accounts : Accounts) (x : XidName) → held_by accounts x (opening accounts) ≡ pos 0
@@ -147,19 +124,19 @@ opening_holds accounts x =
 
 -- an addition counts for its branch, at its key
 get_sum : (x y : XidName) (own k : List ℕ) (d : ℤ) (T : Tables)
-    → sum_of (added y own d T).sums x k ≡ sum_of T.sums x k +ℤ (if key_eq k own && xid_eq y x then d else pos 0)
+    → sum_of (added y own d T).sums x k ≡ sum_of T.sums x k +ℤ (if xid_eq y x then (if key_eq k own then d else pos 0) else pos 0)
 get_sum x y own k d T =
-    elim (key_eq k own) as (λ b. key_eq k own ≡ b → sum_of (added y own d T).sums x k ≡ sum_of T.sums x k +ℤ (if b && xid_eq y x then d else pos 0)) [
-      | false ↦ λ t. ap (λ o. unwrap_or o (pos 0)) (get_added T.sums y x own k _ (λ _ e. let z = (Decides-key_eq k own).1 e in cc)) ∙ plus_none _
-      | true ↦ λ t. elim (xid_eq y x) as (λ b. xid_eq y x ≡ b → sum_of (added y own d T).sums x k ≡ sum_of T.sums x k +ℤ (if b then d else pos 0)) [
-        | false ↦ λ u. ap (λ o. unwrap_or o (pos 0)) (get_added T.sums y x own k _ (λ e _. let z = (Decides-xid_eq y x).1 (sym e) in cc)) ∙ plus_none _
-        | true ↦ λ u.
-            let same : ◌≡◌ {A = Touch} (x, k) (y, own) = λ i. (sym ((Decides-xid_eq y x).0 u) i, (Decides-key_eq k own).0 t i) in
-            ap (λ (p : Touch). unwrap_or (finmap.get (added y own d T).sums p) (pos 0)) same
-            ∙ ap (λ o. unwrap_or o (pos 0)) (get-insert touch_cmp_total T.sums (y, own) (sum_of T.sums y own +ℤ d) (y, own) ∙ ap (λ b. cond b (Some (sum_of T.sums y own +ℤ d)) (finmap.get T.sums (y, own))) (touch_self (y, own)))
-            ∙ ap (λ (p : Touch). unwrap_or (finmap.get T.sums p) (pos 0) +ℤ d) (sym same)
-      ] refl
-    ] refl
+    let apart : (x ≡ y → k ≡ own → ⊥) → sum_of (added y own d T).sums x k ≡ sum_of T.sums x k +ℤ pos 0 =
+    λ e. ap (λ o. unwrap_or o (pos 0)) (get_added T.sums y x own k _ e) ∙ plus_none _ in
+    by_bool (λ b. xid_eq y x ≡ b → sum_of (added y own d T).sums x k ≡ sum_of T.sums x k +ℤ (if b then (if key_eq k own then d else pos 0) else pos 0)) (xid_eq y x) (λ _ u.
+    by_bool (λ b. key_eq k own ≡ b → sum_of (added y own d T).sums x k ≡ sum_of T.sums x k +ℤ (if b then d else pos 0)) (key_eq k own) (λ _ t.
+    let v : ℤ = sum_of T.sums y own +ℤ d in
+    let same : ◌≡◌ {A = Touch} (x, k) (y, own) = λ i. (sym ((Decides-xid_eq y x).0 u) i, (Decides-key_eq k own).0 t i) in
+    ap (λ (p : Touch). unwrap_or (finmap.get (added y own d T).sums p) (pos 0)) same
+    ∙ ap (λ o. unwrap_or o (pos 0)) (get-insert touch_cmp_total T.sums (y, own) v (y, own) ∙ ap (λ b. cond b (Some v) (finmap.get T.sums (y, own))) (touch_self (y, own)))
+    ∙ ap (λ (p : Touch). unwrap_or (finmap.get T.sums p) (pos 0) +ℤ d) (sym same))
+    (λ _ t. apart (λ _ e. let z = (Decides-key_eq k own).1 e in cc)) refl)
+    (λ _ u. apart (λ e _. let z = (Decides-xid_eq y x).1 (sym e) in cc)) refl
 
 -- what a request that is so answered does to the worth of accounts, and to what branches hold
 record WorthStep (accounts : Accounts) (op : Op) (T : Tables) (a : Answer) : Type 0 where
@@ -185,11 +162,11 @@ module _ (accounts : Accounts) (T : Tables) where
   -- what branches hold once y is gone
   without : (y x : XidName) → total (λ d. sum_of (sums_without T.sums y) x d.0) accounts ≡ (if xid_eq y x then pos 0 else held_by accounts x T)
   without y x =
-      total_same (λ d. sum_of (sums_without T.sums y) x d.0) (λ d. if xid_eq y x then pos 0 else sum_of T.sums x d.0) accounts (λ d.
-      ap (λ o. unwrap_or o (pos 0)) (get_without T.sums y x d.0)
-      ∙ ap (λ b. unwrap_or (if b then None else finmap.get T.sums (x, d.0)) (pos 0)) (swap_xid x y)
-      ∙ elim (xid_eq y x) as (λ b. unwrap_or (if b then None else finmap.get T.sums (x, d.0)) (pos 0) ≡ (if b then pos 0 else sum_of T.sums x d.0)) [ true ↦ refl | false ↦ refl ])
-      ∙ elim (xid_eq y x) as (λ b. total (λ d. if b then pos 0 else sum_of T.sums x d.0) accounts ≡ (if b then pos 0 else held_by accounts x T)) [ true ↦ total_nothing accounts | false ↦ refl ]
+      total_same (λ d. sum_of (sums_without T.sums y) x d.0) (λ d. unwrap_or (if xid_eq x y then None else finmap.get T.sums (x, d.0)) (pos 0)) accounts (λ d.
+      ap (λ o. unwrap_or o (pos 0)) (get_without T.sums y x d.0))
+      ∙ by_bool (λ b. total (λ d. unwrap_or (if b then None else finmap.get T.sums (x, d.0)) (pos 0)) accounts ≡ (if b then pos 0 else held_by accounts x T)) (xid_eq x y)
+      (λ _. total_nothing accounts) (λ _. refl)
+      ∙ ap (λ b. if b then pos 0 else held_by accounts x T) (swap_xid x y)
 
   -- the values once y is committed
   paid_value : (y : XidName) (d : List ℕ × ℕ) → is_declared T d.0 ≡ true → value_of (committed y T).values d.0 ≡ value_of T.values d.0 +ℤ sum_of T.sums y d.0
@@ -234,17 +211,11 @@ module _ (accounts : Accounts) (apart : are_apart accounts ≡ true) (T : Tables
   gained : (own : List ℕ) (d : ℤ) (l : Association) → is_declared T own ≡ true → (x : XidName)
       → held_by accounts x (added l.xid own d T) ≡ held_by accounts x T +ℤ (if xid_eq l.xid x then d else pos 0)
   gained own d l there x =
-      total_same (λ e. sum_of (added l.xid own d T).sums x e.0) (λ e. sum_of T.sums x e.0 +ℤ (if key_eq e.0 own && xid_eq l.xid x then d else pos 0)) accounts (λ e. get_sum x l.xid own e.0 d T)
-      ∙ total_both (λ e. sum_of T.sums x e.0) (λ e. if key_eq e.0 own && xid_eq l.xid x then d else pos 0) accounts
+      total_same (λ e. sum_of (added l.xid own d T).sums x e.0) (λ e. sum_of T.sums x e.0 +ℤ (if xid_eq l.xid x then (if key_eq e.0 own then d else pos 0) else pos 0)) accounts (λ e. get_sum x l.xid own e.0 d T)
+      ∙ total_both (λ e. sum_of T.sums x e.0) (λ e. if xid_eq l.xid x then (if key_eq e.0 own then d else pos 0) else pos 0) accounts
       ∙ ap (λ v. held_by accounts x T +ℤ v)
-      (elim (xid_eq l.xid x) as (λ b. total (λ e. if key_eq e.0 own && b then d else pos 0) accounts ≡ (if b then d else pos 0)) [
-        | true ↦
-            total_same (λ e. if key_eq e.0 own && true then d else pos 0) (λ e. if key_eq e.0 own then d else pos 0) accounts (λ e. elim (key_eq e.0 own) as (λ b. (if b && true then d else pos 0) ≡ (if b then d else pos 0)) [ true ↦ refl | false ↦ refl ])
-            ∙ once accounts own d apart ∙ ap (λ b. if b then d else pos 0) (sym (known own) ∙ there)
-        | false ↦
-            total_same (λ e. if key_eq e.0 own && false then d else pos 0) (λ e. pos 0) accounts (λ e. elim (key_eq e.0 own) as (λ b. (if b && false then d else pos 0) ≡ pos 0) [ true ↦ refl | false ↦ refl ])
-            ∙ total_nothing accounts
-      ])
+      (by_bool (λ b. total (λ e. if b then (if key_eq e.0 own then d else pos 0) else pos 0) accounts ≡ (if b then d else pos 0)) (xid_eq l.xid x)
+      (λ _. once accounts own d apart ∙ ap (λ b. if b then d else pos 0) (sym (known own) ∙ there)) (λ _. total_nothing accounts))
 
   held_by_move : {l : Option Association} {op : Op} {a : Answer} → Moves T l op a → HeldStep accounts op l T a
   held_by_move (Still l op a sums values shares moved endings) x =

@@ -51,12 +51,14 @@ pub fn tables_tell_the_fates()
 {}
 
 /// Whatever is requested, a branch that doesn't exist, or is heuristically completed, has touched no key.
+#[tactic(auto, using(crate::proofs::TouchLaw::touch_law))]
 pub fn only_unfinished_branches_have_touched_keys()
     ensures { (h : History) (x : XidName) (T : Tables) → IsOpening T → OnlyUnfinishedTouch x h T }
 {}
 
 /// Whatever is requested, a branch is active exactly while somebody is associated with it, suspended or
 /// not, and it is neither prepared nor rollback-only nor heuristically completed.
+#[tactic(auto, using(crate::proofs::ActiveLaw::active_law))]
 pub fn branches_are_active_while_associated()
     ensures { (h : History) (x : XidName) (T : Tables) → IsOpening T → ActiveWhileAssociated x h T }
 {}
@@ -69,12 +71,14 @@ pub fn values_stay_within_the_limits()
 
 /// Whatever is requested, over any openings, the tables' value of a key is its value at the first opening and each
 /// accepted addition whose branch commits later, in its own opening or in another.
+#[tactic(auto, using(crate::proofs::SumLaw::sum_law))]
 pub fn value_is_sum()
     ensures { (before : List History) (h : History) (k : List ℕ) (T : Tables) → IsNew T → ValueIsSum k before h T }
 {}
 
 /// A branch that has added to a key isn't read only: its Prepare isn't answered XA_RDONLY, unless it was
 /// ended in between.
+#[tactic(auto, using(crate::proofs::AddedLaw::added_law))]
 pub fn adders_never_vote_read_only()
     ensures { (t u : ℕ) (op : Op) (x : XidName) (k : List ℕ) (d : ℤ) (g : History) (T : Tables) → op ≡ Add k d
         → option_map (λ a. a.xid) (association_of T u) ≡ Some x → (next u op T).1 ≡ Done
@@ -83,12 +87,14 @@ pub fn adders_never_vote_read_only()
 
 /// What a manager's accounts are worth together is what was declared and what each Commit, and each heuristic
 /// one, that was answered XA_OK has added: all that its branch held.
+#[tactic(auto, using(crate::proofs::WorthLaw::worth_law))]
 pub fn commits_alone_move_the_worth()
     ensures { (accounts : List (List ℕ × ℕ)) (h : History) → are_accounts accounts ≡ true → WorthIsMoved accounts h }
 {}
 
 /// So they move the worth of any accounts that are declared in the tables with which a history begins, as in those of a
 /// later opening. What is declared stays so, and nothing else becomes so.
+#[tactic(auto, using(crate::proofs::WorthLaw::worth_from, crate::proofs::WorthLaw::declared_on))]
 pub fn commits_alone_move_the_worth_of_any_tables()
     ensures worth { (accounts : List (List ℕ × ℕ)) (h : History) (T : Tables) → DeclareEach accounts T
         → WorthIsMovedFrom accounts h T }
@@ -96,6 +102,7 @@ pub fn commits_alone_move_the_worth_of_any_tables()
 {}
 
 /// A branch holds what it has added since it was last ended, whichever threads have added it.
+#[tactic(auto, using(crate::proofs::WorthLaw::held_law))]
 pub fn branches_hold_their_additions()
     ensures { (accounts : List (List ℕ × ℕ)) (x : XidName) (h : History) → are_accounts accounts ≡ true
         → HoldsItsAdditions accounts x h }
@@ -109,6 +116,7 @@ pub fn a_thread_adds_as_it_works()
 
 /// From a Prepare that was answered XA_OK on a branch holds what it held, whatever is requested that doesn't
 /// name it.
+#[tactic(auto, using(crate::proofs::WorthLaw::kept_law))]
 pub fn prepared_branches_keep_what_they_hold()
     ensures { (accounts : List (List ℕ × ℕ)) (t : ℕ) (x : XidName) (h g : History) (T : Tables) → IsOpening T
         → (next t (Prepare x) (tables_after h T)).1 ≡ Done → NamesNowhere x g
@@ -117,12 +125,14 @@ pub fn prepared_branches_keep_what_they_hold()
 {}
 
 /// A branch whose Prepare is answered XA_RDONLY held nothing.
+#[tactic(auto, using(crate::proofs::WorthLaw::read_law))]
 pub fn read_only_branches_hold_nothing()
     ensures { (accounts : List (List ℕ × ℕ)) (t : ℕ) (x : XidName) (T : Tables) → (next t (Prepare x) T).1 ≡ RdOnly
         → held_by accounts x T ≡ pos 0 }
 {}
 
 /// Late requests add nothing, so a value may be read from the whole history.
+#[tactic(auto, using(crate::proofs::ValueLaw::late_law))]
 pub fn late_requests_add_nothing()
     ensures { (h : History) (k : List ℕ) (after : XidName → Bool) (T : Tables) → LateAddNothing k after h T }
 {}
@@ -136,11 +146,13 @@ pub fn late_requests_are_refused()
 {}
 
 /// They make nothing of any branch, so its fate may be read from the whole history.
+#[tactic(auto, using(crate::proofs::FateLaw::late_leave_fates))]
 pub fn late_requests_leave_fates()
     ensures { (h : History) (x : XidName) (f : Fate) (T : Tables) → fate x f h T ≡ fate_in x f (coded h T) }
 {}
 
 /// A manager is shut exactly where a Shut stands before.
+#[tactic(auto, using(crate::proofs::PreparedLaw::shut_law))]
 pub fn only_a_shut_shuts()
     ensures { (h : History) (T : Tables) → IsOpening T → (tables_after h T).shut ≡ has_shut h }
 {}
@@ -161,6 +173,7 @@ pub fn prepared_branches_stay_prepared()
 /// A branch whose Prepare a thread got answered XA_OK awaits the outcome from that thread, whatever is requested in
 /// between that doesn't name it, but for a CloseRm of the thread itself. A heuristic decision may name it: where one
 /// was carried out, that is its one fate since, and the outcome is answered with it.
+#[tactic(auto, using(crate::proofs::PreparedLaw::outcome_law))]
 pub fn prepared_branches_await_the_outcome()
     ensures { (h g : History) (t : ℕ) (x : XidName) (T : Tables) → IsOpening T
         → (next t (Prepare x) (tables_after h T)).1 ≡ Done → LeavesWaiting t x g
@@ -169,12 +182,14 @@ pub fn prepared_branches_await_the_outcome()
 
 /// A branch that isn't prepared isn't decided: heuristic decisions and Forgets make nothing of it, whatever is
 /// requested that doesn't name it.
+#[tactic(auto, using(crate::proofs::HeuristicLaw::unprepared_law))]
 pub fn only_prepared_branches_are_decided()
     ensures { (g : History) (x : XidName) (T : Tables) → is_prepared T x ≡ false → OnlyDecides x g
         → fates_in x (coded g T) ≡ [] }
 {}
 
 /// A manager that is shut makes nothing of any branch.
+#[tactic(auto, using(crate::proofs::HeuristicLaw::quiet_shut))]
 pub fn shut_managers_decide_nothing()
     ensures { (g : History) (x : XidName) (T : Tables) → T.shut ≡ true → fates_in x (coded g T) ≡ [] }
 {}
@@ -189,6 +204,7 @@ pub fn only_completed_branches_tell_a_decision()
 {}
 
 /// A Prepare that rolls its branch back answers XA_RBINTEGRITY.
+#[tactic(auto, using(crate::proofs::PreparedLaw::prepare_breaks))]
 pub fn refused_prepares_tell_integrity()
     ensures { (t : ℕ) (x : XidName) (T : Tables) → is_rolled_back (next t (Prepare x) T).1 ≡ true
         → (next t (Prepare x) T).1 ≡ RbIntegrity }
