@@ -95,14 +95,7 @@ has_added t x k d T own =
 -- a Prepare that is answered XA_RDONLY is of a branch that touched no key
 pub reads_only : (t : ℕ) (x : XidName) (T : Tables) → (next t (Prepare x) T).1 ≡ RdOnly → has_touched T.sums x ≡ false
 unfolding next
-reads_only t x T =
-    let P : Answer → Type 0 = λ a. a.1 ≡ RdOnly → has_touched T.sums x ≡ false in
-    by_if P (T.shut) _ _ (λ _ e. cc) (λ _.
-    by_if P (not (has_opened T t)) _ _ (λ _ e. cc) (λ _.
-    by_if P (not (exists T x)) _ _ (λ _ e. cc) (λ _.
-    by_if P (is_somebody_associated T.associations x || (is_prepared T x || (is_rollback_only T x || is_completed T x))) _ _ (λ _ e. cc) (λ _.
-    by_if P (not (has_touched T.sums x)) _ _ (λ none _. not-true _ none) (λ _.
-    by_if P (is_broken T.values T.sums x) _ _ (λ _ e. cc) (λ _ e. cc))))))
+reads_only t x T = grind arith
 
 pub added_law : (t u : ℕ) (op : Op) (x : XidName) (k : List ℕ) (d : ℤ) (g : History) (T : Tables) → op ≡ Add k d
     → option_map (λ (a : Association). a.xid) (association_of T u) ≡ Some x

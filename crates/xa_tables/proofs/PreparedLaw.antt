@@ -113,14 +113,7 @@ sums_kept h g t x T o e n k =
 
 pub prepare_breaks : (t : ℕ) (x : XidName) (T : Tables) → is_rolled_back (next t (Prepare x) T).1 ≡ true → (next t (Prepare x) T).1 ≡ RbIntegrity
 unfolding next
-prepare_breaks t x T =
-    let P : Answer → Type 0 = λ a. is_rolled_back a.1 ≡ true → a.1 ≡ RbIntegrity in
-    by_if P (T.shut) _ _ (λ _ e. cc) (λ _.
-    by_if P (not (has_opened T t)) _ _ (λ _ e. cc) (λ _.
-    by_if P (not (exists T x)) _ _ (λ _ e. cc) (λ _.
-    by_if P (is_somebody_associated T.associations x || (is_prepared T x || (is_rollback_only T x || is_completed T x))) _ _ (λ _ e. cc) (λ _.
-    by_if P (not (has_touched T.sums x)) _ _ (λ _ e. cc) (λ _.
-    by_if P (is_broken T.values T.sums x) _ _ (λ _ e. refl) (λ _ e. cc))))))
+prepare_breaks t x T = grind arith
 
 -- ---- what leaves a branch waiting
 

@@ -136,12 +136,7 @@ left_at_work t x v (r ∷ h) T only leaves =
 begun_with : (t : ℕ) (x : XidName) (T : Tables) → (next t (Start x Fresh) T).1 ≡ Done
     → association_of (next t (Start x Fresh) T).0 t ≡ Some (association x Associated)
 unfolding next
-begun_with t x T =
-    let P : Answer → Type 0 = λ a. a.1 ≡ Done → association_of a.0 t ≡ Some (association x Associated) in
-    by_if P (T.shut) _ _ (λ _ e. cc) (λ _.
-    by_if P (not (has_opened T t)) _ _ (λ _ e. cc) (λ _.
-    by_if P (has_association T t) _ _ (λ _ e. cc) (λ _.
-    by_if P (exists T x) _ _ (λ _ e. cc) (λ _ e. own_put T.associations t (association x Associated)))))
+begun_with t x T = grind (arith, own_put)
 
 -- what a history adds that is followed by another
 added_both : (x : XidName) (v : ℤ) (h g : History) (T : Tables) → added_by_now x v (h ++ g) T ≡ added_by_now x (added_by_now x v h T) g (tables_after h T)

@@ -276,6 +276,7 @@ fn is_held_at(accounts: &[Account], place: usize) -> bool
 }
 
 // Whether one of these accounts passes a test, which only accounts pass that a branch has touched.
+#[tactic(auto, using(crate::proofs::HeldLemmas::held_within))]
 fn any_at<F: Fn(&Account) -> bool>(accounts: &[Account], held: &[usize], test: F) -> bool
     requires callable { F.IsAlwaysCallable test }
     requires held { AreHeld held.now accounts.now }
@@ -352,6 +353,7 @@ fn with_added(account: &Account, adds: u64, xid: &Xid, delta: Delta) -> Account
 }
 
 // Adds to the values what the branch holds, and lets go of it.
+#[tactic(auto, using(crate::proofs::HeldLemmas::held_within))]
 fn post_all(accounts: &mut [Account], held: &[usize], xid: &Xid)
     requires held { AreHeld held.now accounts.old }
     requires whole { list_any (λ a. is_broken_by a xid.now) accounts.old ≡ false }
@@ -375,6 +377,7 @@ fn post_account(account: &mut Account, xid: &Xid)
 }
 
 // Lets go of what is held by branches that aren't to be kept.
+#[tactic(auto, using(crate::proofs::HeldLemmas::held_within))]
 fn let_go<F: Fn(&Xid) -> bool>(accounts: &mut [Account], held: &[usize], keeps: F)
     requires callable { F.IsAlwaysCallable keeps }
     requires held { AreHeld held.now accounts.old }

@@ -7,15 +7,6 @@ use Rattle.xa_tables.specs.Held.{passes_at}
 use Rattle.xa_tables.proofs.HeldLemmas.{held_within, passes_read, none_held}
 use Rattle.xa_tables.proofs.accounts.any_at.Goals as goal
 
-pub bounds-accounts-place : goal.bounds-accounts-place
-bounds-accounts-place g c = held_within c.args.held.now c.args.accounts.now c.requires.held c.loop-place.place-index c.loop-place-test.true
-
-pub offset_bounds-accounts-place : goal.offset_bounds-accounts-place
-offset_bounds-accounts-place g c =
-    let within : get_or c.args.held.now c.loop-place.place-index 0 < length c.args.accounts.now =
-    held_within c.args.held.now c.args.accounts.now c.requires.held c.loop-place.place-index c.loop-place-test.true in
-    search rules
-
 pub returns-then-test : goal.returns-then-test
 returns-then-test g c passes agrees only =
     let a = c.index-accounts-place.result in

@@ -6,17 +6,6 @@ use Rattle.xa_tables.proofs.accounts.let_go.Goals as goal
 pub loop-place-init : goal.loop-place-init
 loop-place-init g c keep agrees = changing_none (kept_where keep) (kept_untouched keep) c.args.held.now c.args.accounts.now c.requires.held
 
-pub bounds-accounts-place : goal.bounds-accounts-place
-bounds-accounts-place g c =
-    let inside = held_within c.args.held.now c.args.accounts.now c.requires.held c.loop-place.place-index c.loop-place-test.true in
-    omega (arith, c.loop-place.auto.accounts)
-
-pub offset_bounds-accounts-place : goal.offset_bounds-accounts-place
-offset_bounds-accounts-place g c =
-    let inside = held_within c.args.held.now c.args.accounts.now c.requires.held c.loop-place.place-index c.loop-place-test.true in
-    let within : get_or c.args.held.now c.loop-place.place-index 0 < length c.loop-place.accounts = omega (arith, c.loop-place.auto.accounts) in
-    search rules
-
 pub loop-place-preserved : goal.loop-place-preserved
 loop-place-preserved g c keep agrees =
     let f = kept_where keep in

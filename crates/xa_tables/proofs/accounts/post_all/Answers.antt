@@ -12,17 +12,6 @@ pub loop-place-init : goal.loop-place-init
 loop-place-init c =
     (changing_none (posted_by c.args.xid.now) (posted_untouched c.args.xid.now) c.args.held.now c.args.accounts.now c.requires.held, c.requires.whole)
 
-pub bounds-accounts-place : goal.bounds-accounts-place
-bounds-accounts-place c =
-    let inside = held_within c.args.held.now c.args.accounts.now c.requires.held c.loop-place.place-index c.loop-place-test.true in
-    omega (arith, c.loop-place.auto.accounts)
-
-pub offset_bounds-accounts-place : goal.offset_bounds-accounts-place
-offset_bounds-accounts-place c =
-    let inside = held_within c.args.held.now c.args.accounts.now c.requires.held c.loop-place.place-index c.loop-place-test.true in
-    let within : get_or c.args.held.now c.loop-place.place-index 0 < length c.loop-place.accounts = omega (arith, c.loop-place.auto.accounts) in
-    search rules
-
 pub post_account-requires : goal.post_account-requires
 post_account-requires c =
     let now = c.loop-place.accounts in
