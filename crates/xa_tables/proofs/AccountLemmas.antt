@@ -41,9 +41,7 @@ pub touch_cmp_total : IsTotalOrder touch_cmp
 touch_cmp_total = then_total (on_total (λ (p : Touch). p.0) xid_cmp_total) (on_total (λ (p : Touch). p.1) key_cmp_total)
 
 both_equal : (a b : Ordering) → ordering_then a b ≡ Equal → (a ≡ Equal) × (b ≡ Equal)
-both_equal Less b e = cc
-both_equal Equal b e = (refl, e)
-both_equal Greater b e = cc
+both_equal v0 b e = grind arith
 
 pub touch_cmp-IsAntisymmetric : IsAntisymmetric touch_cmp
 touch_cmp-IsAntisymmetric p q e =
@@ -72,9 +70,7 @@ touch_self p = ap is_eq (tied_itself touch_cmp_total p)
 
 -- touches are one if their branches and their keys are
 then_is : (a b : Ordering) → is_eq (ordering_then a b) ≡ (is_eq a && is_eq b)
-then_is Less b = refl
-then_is Equal b = refl
-then_is Greater b = refl
+then_is v0 b = grind arith
 
 touch_same : (x y : XidName) (k l : List ℕ) → same_touch (x, k) (y, l) ≡ (xid_eq y x && same_key k l)
 touch_same x y k l = then_is (xid_cmp x y) (key_cmp k l) ∙ ap (λ b. b && same_key k l) (sym (xid_eq-by_cmp x y) ∙ swap_xid x y)
@@ -99,11 +95,7 @@ value_found k (a ∷ rest) =
     (λ _. refl) (λ _. value_found k rest)
 
 lacks_key : (k : List ℕ) (accounts : List Account) → Lacks k accounts → at_key k accounts ≡ None
-lacks_key k accounts h = none_mapped (at_key k accounts) (sym (value_found k accounts) ∙ h)
-  where
-    none_mapped : (o : Option Account) → option_map (λ (a : Account). a.value) o ≡ None → o ≡ None
-    none_mapped None e = refl
-    none_mapped (Some a) e = cc
+lacks_key k accounts h = grind (arith, value_found)
 
 key_lacks : (k : List ℕ) (accounts : List Account) → at_key k accounts ≡ None → Lacks k accounts
 key_lacks k accounts e = value_found k accounts ∙ ap (option_map (λ (a : Account). a.value)) e
@@ -192,8 +184,7 @@ abbrev pub is_other : Account → XidName → List ℕ → Bool
 is_other a x k = key_eq a.key k && hold_is_other a.hold x
 
 other_cases : (x : XidName) (k : List ℕ) (a : Account) → is_other a x k ≡ elim (a.hold) [ None ↦ false | Some l ↦ key_eq a.key k && not (xid_eq l.xid x) ]
-other_cases x k a =
-    elim (a.hold) as (λ o. (key_eq a.key k && hold_is_other o x) ≡ elim o [ None ↦ false | Some l ↦ key_eq a.key k && not (xid_eq l.xid x) ]) [ None ↦ and-false (key_eq a.key k) | Some l ↦ refl ]
+other_cases x k a = grind (arith, and-false)
 
 -- another branch has touched k if it holds k's account
 pub other_any : (accounts : List Account) (x : XidName) (k : List ℕ) → AreDistinct accounts
@@ -204,11 +195,7 @@ other_any accounts x k h =
 
 broken_cases : (values : FinMap key_cmp ℤ) (x : XidName) (a : Account) → value_of values a.key ≡ a.value
     → is_broken_by a x ≡ elim (a.hold) [ None ↦ false | Some l ↦ xid_eq l.xid x && not (is_within (value_of values a.key +ℤ l.amount)) ]
-broken_cases values x a is =
-    elim (a.hold) as (λ o. hold_breaks a.value o x ≡ elim o [ None ↦ false | Some l ↦ xid_eq l.xid x && not (is_within (value_of values a.key +ℤ l.amount)) ]) [
-      | None ↦ refl
-      | Some l ↦ ap (λ v. xid_eq l.xid x && not (is_within (v +ℤ l.amount))) (sym is)
-    ]
+broken_cases values x a is = grind arith
 
 -- x takes a value out of the limits if it does so at an account
 pub broken_any : (accounts : List Account) (x : XidName) → AreDistinct accounts
@@ -253,20 +240,11 @@ distinct_changed f keys (a ∷ rest) h = (
 )
 
 cond_none : (b : Bool) → ◌≡◌ {A = Option ℤ} (cond b None None) None
-cond_none true = refl
-cond_none false = refl
+cond_none v0 = grind arith
 
 kept_amount : (keep : XidName → Bool) (f : Account → Account) → LetsGo keep f → (x : XidName) (o : Option Account)
     → amount_held x (option_map f o) ≡ cond (keep x) (amount_held x o) None
-kept_amount keep f g x None = sym (cond_none (keep x))
-kept_amount keep f g x (Some a) = ap (hold_amount x) (g.hold a) ∙ where_amount a.hold
-  where
-    where_amount : (o : Option Hold) → hold_amount x (hold_where keep o) ≡ cond (keep x) (hold_amount x o) None
-    where_amount None = sym (cond_none (keep x))
-    where_amount (Some l) =
-        by_bool (λ b. hold_amount x (if b then Some l else None) ≡ cond b (hold_amount x (Some l)) None) (keep l.xid) (λ _. refl) (λ _. refl)
-        ∙ by_bool (λ b. cond (keep l.xid) (if b then Some l.amount else None) None ≡ cond (keep x) (if b then Some l.amount else None) None) (xid_eq l.xid x)
-        (λ e. ap (λ z. cond (keep z) (Some l.amount) None) ((Decides-xid_eq l.xid x).0 e)) (λ _. cond_none (keep l.xid) ∙ sym (cond_none (keep x)))
+kept_amount keep f g x v4 = grind (arith, cond_none, Decides-xid_eq)
 
 -- the values stay
 pub values_kept : (keep : XidName → Bool) (accounts : List Account) → value_entries (map (kept_where keep) accounts) ≡ value_entries accounts
@@ -282,9 +260,7 @@ sums_go keep f g accounts h =
     ∙ kept_amount keep f g p.0 (at_key p.1 accounts) ∙ ap (λ o. cond (keep p.0) o None) (sym (hold_found accounts h p.0 p.1)))
 
 amount_is : (x : XidName) (o : Option Hold) → amount_of o x ≡ unwrap_or (hold_amount x o) (pos 0)
-amount_is x None = refl
-amount_is x (Some l) =
-    by_bool (λ b. (if b then l.amount else pos 0) ≡ unwrap_or (if b then Some l.amount else None) (pos 0)) (xid_eq l.xid x) (λ _. refl) (λ _. refl)
+amount_is x v1 = grind arith
 
 -- the values once x has committed
 pub values_posted : (x : XidName) (accounts : List Account) → AreDistinct accounts
@@ -307,12 +283,7 @@ each_as_was p f is [] = refl
 each_as_was p f is (a ∷ rest) = λ i. is a i || each_as_was p f is rest i
 
 pub forgotten_breaks : (x y : XidName) → y ≢ x → (v : ℤ) (o : Option Hold) → hold_breaks v (hold_without o x) y ≡ hold_breaks v o y
-forgotten_breaks x y apart v None = refl
-forgotten_breaks x y apart v (Some l) =
-    elim (xid_eq l.xid x) as (λ b. xid_eq l.xid x ≡ b → hold_breaks v (if not b then Some l else None) y ≡ (xid_eq l.xid y && not (is_within (v +ℤ l.amount)))) [
-      | true ↦ λ t. sym (ap (λ b. b && not (is_within (v +ℤ l.amount))) (false_from_ne_true (xid_eq l.xid y) (λ s. apart (sym ((Decides-xid_eq l.xid y).0 s) ∙ (Decides-xid_eq l.xid x).0 t))))
-      | false ↦ λ t. refl
-    ] refl
+forgotten_breaks x y apart v v4 = grind (arith, false_from_ne_true, Decides-xid_eq)
 
 pub settled_breaks : (x y : XidName) → y ≢ x → (v : ℤ) (o : Option Hold) → hold_breaks (v +ℤ amount_of o x) (hold_without o x) y ≡ hold_breaks v o y
 settled_breaks x y apart v None = refl
@@ -332,15 +303,12 @@ others_as_were f keys accounts y h same =
 
 -- what is written over the whole of a list
 over_whole : (n : ℕ) (xs ys : List Account) → length xs ≡ length ys → length ys ≡ n → take n (xs ++ drop (length xs) ys) ≡ xs
-over_whole n xs ys e h =
-    ap (λ zs. take n (xs ++ zs)) (drop_all (length xs) ys (omega arith)) ∙ ap (take n) (append-nil xs) ∙ take_all n xs (omega arith)
+over_whole n xs ys e h = grind (arith, drop_all, append-nil, take_all)
 
 -- the accounts, each of them changed by f through one slice
 pub written_whole : (f : Account → Account) (n : ℕ) (slice items after : List Account) → after ≡ map f slice → slice ≡ items → length slice ≡ n
     → take n (after ++ drop (length after) items) ≡ map f items
-written_whole f n slice items after done is long =
-    let written : after ≡ map f items = done ∙ ap (map f) is in
-    over_whole n after items (ap length written ∙ length-map items f) (sym (ap length is) ∙ long) ∙ written
+written_whole f n slice items after done is long = grind (arith, over_whole, length-map)
 
 -- ---- an addition
 
@@ -371,12 +339,10 @@ at_key_set k (c ∷ rest) (suc i) b dist h same =
     let none = ap (λ q. at_key q rest) (sym (sym (key_from k c.key t) ∙ is ∙ same)) ∙ lacks_key c.key rest dist.0 in cc)))) (λ _ _. refl) refl
 
 for_other : (x y : XidName) (o : Option Hold) → IsFor x o → xid_eq x y ≡ false → hold_amount y o ≡ None
-for_other x y None h e = refl
-for_other x y (Some l) h e = ap (λ z. if xid_eq z y then Some l.amount else None) h ∙ ap (λ b. if b then Some l.amount else None) e
+for_other x y v2 h e = grind arith
 
 amount_for : (x : XidName) (o : Option Hold) → IsFor x o → unwrap_or (hold_amount x o) (pos 0) ≡ amount_in o
-amount_for x None h = refl
-amount_for x (Some l) h = ap (λ b. unwrap_or (if b then Some l.amount else None) (pos 0)) ((Decides-xid_eq l.xid x).1 h)
+amount_for x v1 h = grind (arith, Decides-xid_eq)
 
 -- the sums once x has added d at one account
 pub sums_added : (accounts : List Account) (i : ℕ) (a : Account) (x : XidName) (d : ℤ) → AreDistinct accounts → i < length accounts → a ≡ get_or accounts i a
@@ -400,8 +366,7 @@ sums_added accounts i a x d dist h e for =
 
 -- where no other branch has touched the key
 for_hold : (x : XidName) (o : Option Hold) → hold_is_other o x ≡ false → IsFor x o
-for_hold x None h = tt
-for_hold x (Some l) h = (Decides-xid_eq l.xid x).0 (not-false (xid_eq l.xid x) h)
+for_hold x v1 h = grind (arith, Decides-xid_eq, not-false)
 
 pub passes_none : (p : Account → Bool) (accounts : List Account) (i : ℕ) (a : Account) → i < length accounts → a ≡ get_or accounts i a
     → list_any p accounts ≡ false → p a ≡ false
@@ -411,11 +376,7 @@ passes_none p accounts i a h e none = false_from_ne_true (p a) (λ t. let some =
 pub for_place : (accounts : List Account) (i : ℕ) (a : Account) (x : XidName) (k : List ℕ) → AreDistinct accounts → i < length accounts
     → a ≡ get_or accounts i a → a.key ≡ k
     → has_other_touched (from_entries (hold_entries accounts)) x k ≡ false → IsFor x a.hold
-for_place accounts i a x k dist h e same alone =
-    let none : (key_eq a.key k && hold_is_other a.hold x) ≡ false =
-    passes_none (λ b. is_other b x k) accounts i a h e (sym (other_any accounts x k dist) ∙ alone) in
-    let here : key_eq a.key k ≡ true = (Decides-key_eq a.key k).1 same in
-    for_hold x a.hold (sym (ap (λ b. b && hold_is_other a.hold x) here) ∙ none)
+for_place accounts i a x k dist h e same alone = grind (arith, passes_none, other_any, Decides-key_eq, for_hold)
 
 pub any_set : (p : Account → Bool) (accounts : List Account) (i : ℕ) (a b : Account) → i < length accounts → a ≡ get_or accounts i a → p b ≡ p a
     → list_any p (set accounts i b) ≡ list_any p accounts
@@ -424,10 +385,7 @@ any_set p (c ∷ rest) zero a b h e is = ap (λ t. t || list_any p rest) (is ∙
 any_set p (c ∷ rest) (suc i) a b h e is = ap (λ t. p c || t) (any_set p rest i a b (omega arith) e is)
 
 added_breaks : (x y : XidName) (v d : ℤ) (o : Option Hold) → y ≢ x → IsFor x o → hold_breaks v (Some (record { xid = x; amount = d })) y ≡ hold_breaks v o y
-added_breaks x y v d None apart h = ap (λ b. b && not (is_within (v +ℤ d))) (false_from_ne_true (xid_eq x y) (λ t. apart (sym ((Decides-xid_eq x y).0 t))))
-added_breaks x y v d (Some l) apart h =
-    ap (λ b. b && not (is_within (v +ℤ d))) (false_from_ne_true (xid_eq x y) (λ t. apart (sym ((Decides-xid_eq x y).0 t))))
-    ∙ sym (ap (λ b. b && not (is_within (v +ℤ l.amount))) (false_from_ne_true (xid_eq l.xid y) (λ t. apart (sym ((Decides-xid_eq l.xid y).0 t) ∙ h))))
+added_breaks x y v d v4 apart h = grind (arith, false_from_ne_true, Decides-xid_eq)
 
 -- the keys stay
 pub distinct_added : (accounts : List Account) (i : ℕ) (a : Account) (x : XidName) (d : ℤ) → AreDistinct accounts → i < length accounts
@@ -449,28 +407,20 @@ pub within_bounds : (v : ℤ) → is_within v ≡ true → (pos 0 ≤ℤ v) × (
 within_bounds v e = (le_z_yes (T_from_true _ (and_parts _ _ e).0), le_z_yes (T_from_true _ (and_parts _ _ e).1))
 
 small_where : (n : ℕ) (keep : XidName → Bool) (o : Option Hold) → IsSmall n o → IsSmall n (hold_where keep o)
-small_where n keep None s = tt
-small_where n keep (Some l) s = elim (keep l.xid) as (λ b. IsSmall n (if b then Some l else None)) [ true ↦ s | false ↦ tt ]
+small_where n keep v2 s = grind arith
 
 posted_value : (x : XidName) (v : ℤ) (o : Option Hold) → hold_breaks v o x ≡ false → (pos 0 ≤ℤ v) × (v ≤ℤ pos 1000000000000)
     → (pos 0 ≤ℤ (v +ℤ amount_of o x)) × ((v +ℤ amount_of o x) ≤ℤ pos 1000000000000)
-posted_value x v None e g = subst (λ (w : ℤ). (pos 0 ≤ℤ w) × (w ≤ℤ pos 1000000000000)) (sym (plus_none v)) g
-posted_value x v (Some l) e g =
-    elim (xid_eq l.xid x) as (λ b. (b && not (is_within (v +ℤ l.amount))) ≡ false → (pos 0 ≤ℤ (v +ℤ (if b then l.amount else pos 0))) × ((v +ℤ (if b then l.amount else pos 0)) ≤ℤ pos 1000000000000)) [
-      | true ↦ λ h. within_bounds _ (not-false _ h)
-      | false ↦ λ h. subst (λ (w : ℤ). (pos 0 ≤ℤ w) × (w ≤ℤ pos 1000000000000)) (sym (plus_none v)) g
-    ] e
+posted_value x v v2 e g = grind (arith, plus_none, within_bounds, not-false)
 
 good_posted : (n : ℕ) (x : XidName) (a : Account) → IsGood n a → is_broken_by a x ≡ false → IsGood n (posted_by x a)
 good_posted n x a g e = let v = posted_value x a.value a.hold e (g.0, g.1) in (v.0, v.1, small_where n (all_but x) a.hold g.2)
 
 small_more : (n : ℕ) (o : Option Hold) → IsSmall n o → IsSmall (n + 1) o
-small_more n None s = tt
-small_more n (Some l) s = (omega (arith, ints), omega (arith, ints))
+small_more n v1 s = grind arith
 
 small_added : (n : ℕ) (x : XidName) (d : ℤ) (o : Option Hold) → IsDelta d → IsSmall n o → IsSmall (n + 1) (Some (record { xid = x; amount = amount_in o +ℤ d }))
-small_added n x d None h s = (omega (arith, ints), omega (arith, ints))
-small_added n x d (Some l) h s = (omega (arith, ints), omega (arith, ints))
+small_added n x d v3 h s = grind arith
 
 -- every account stays within its bounds
 pub all_kept : (n : ℕ) (keep : XidName → Bool) (accounts : List Account) → All (IsGood n) accounts → All (IsGood n) (map (kept_where keep) accounts)
@@ -498,16 +448,7 @@ all_added n i a x d accounts delta h e g k b j =
 -- a prepared branch keeps the value within the limits, so its sum is that of one addition
 small_prepared : (keep : XidName → Bool) (v : ℤ) (o : Option Hold) → (pos 0 ≤ℤ v) × (v ≤ℤ pos 1000000000000)
     → ((x : XidName) → keep x ≡ true → hold_breaks v o x ≡ false) → IsSmall 1 (hold_where keep o)
-small_prepared keep v None g unbroken = tt
-small_prepared keep v (Some l) g unbroken =
-    elim (keep l.xid) as (λ b. keep l.xid ≡ b → IsSmall 1 (if b then Some l else None)) [
-      | true ↦ λ t.
-          let fits : is_within (v +ℤ l.amount) ≡ true =
-          not-false _ (ap (λ b. b && not (is_within (v +ℤ l.amount))) (sym ((Decides-xid_eq l.xid l.xid).1 refl)) ∙ unbroken l.xid t) in
-          let sum : (pos 0 ≤ℤ (v +ℤ l.amount)) × ((v +ℤ l.amount) ≤ℤ pos 1000000000000) = within_bounds _ fits in
-          (omega (arith, ints), omega (arith, ints))
-      | false ↦ λ t. tt
-    ] refl
+small_prepared keep v v2 g unbroken = grind (arith, not-false, Decides-xid_eq, within_bounds)
 
 pub all_prepared : (n : ℕ) (keep : XidName → Bool) (accounts : List Account) → All (IsGood n) accounts
     → ((x : XidName) → keep x ≡ true → list_any (λ a. is_broken_by a x) accounts ≡ false) → All (IsGood 1) (map (kept_where keep) accounts)

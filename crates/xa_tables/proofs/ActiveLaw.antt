@@ -1,6 +1,6 @@
 -- The law: a branch is active exactly while somebody is associated with it and it is in none of S3, S4 and S5.
 use Rattle.std.specs.Prelude.{◌≡◌, ◌≢◌, ℕ, Bool, true, false, not, ◌&&◌, ◌||◌, Option, None, Some, is_some, [], ◌∷◌, refl}
-use Rattle.std.proofs.Common.{sym, ap, ◌∙◌, subst, ⊎_elim}
+use Rattle.std.proofs.Common.{arith, sym, ap, ◌∙◌, subst, ⊎_elim}
 use Rattle.std.specs.FinMap as map
 use Rattle.std.proofs.lemmas.Bool.{or_cases}
 use Rattle.xa_base.proofs.Truth.{by_bool}
@@ -35,17 +35,12 @@ with_y T t y l own here = (Decides-xid_eq l.xid y).0 (sym (ap (λ o. is_associat
 
 -- t's own association is with another branch than x, with which nobody is associated
 own_apart : (T : Tables) (t : ℕ) (x y : XidName) → is_associated T t y ≡ true → is_somebody_associated T.associations x ≡ false → xid_eq y x ≡ false
-own_apart T t x y own nobody =
-    elim (association_of T t) as (λ o. association_of T t ≡ o → is_association_with o y ≡ true → xid_eq y x ≡ false) [
-      | None ↦ λ here is. cc
-      | Some l ↦ λ here is. ap (λ z. xid_eq z x) (sym ((Decides-xid_eq l.xid y).0 is)) ∙ apart_from x T.associations nobody t l here
-    ] refl own
+own_apart v0 t x y own nobody = grind (arith, Decides-xid_eq, apart_from)
 
 -- ---- what each effect leaves
 
 S4_alone : (o : Option State) → is_S4 o ≡ true → is_S1 o ≡ false
-S4_alone (Some Active) e = cc
-S4_alone o e = refl
+S4_alone o e = grind arith
 
 module _ (t : ℕ) (T : Tables) (w : AtWorkWhile T) where
   -- nobody was associated with x before t's association changed, which was with another branch
@@ -149,11 +144,7 @@ run_at_work (r ∷ h) T w = run_at_work h (next r.thread r.op T).0 (by_effect r.
 
 conclude : (o : Option State) (b : Bool) → (b ≡ false → is_S1 o ≡ false) → (is_S2 o ≡ true → b ≡ false) → (standing o ≢ AtWork → b ≡ false)
     → is_S1 o ≡ (b && not (is_S3 o || (is_S4 o || is_S5 o)))
-conclude None true active idle rests = sym (rests (λ e. cc))
-conclude (Some Active) false active idle rests = active refl
-conclude (Some Idle) true active idle rests = sym (idle refl)
-conclude o true active idle rests = refl
-conclude o false active idle rests = refl
+conclude o v1 active idle rests = grind arith
 
 -- a branch that an opening begins with is neither active nor idle
 left_rests : (o : Option State) → ((s : State) → o ≡ Some s → is_left_in (Some s) ≡ true) → (is_S1 o ≡ false) × (is_S2 o ≡ false)
@@ -162,10 +153,7 @@ left_rests (Some Idle) left = let z : false ≡ true = left Idle refl in cc
 left_rests o left = (refl, refl)
 
 opening_at_work : (T : Tables) → IsOpening T → AtWorkWhile T
-opening_at_work T o =
-    let rests : (x : XidName) → (is_S1 (state_of T x) ≡ false) × (is_S2 (state_of T x) ≡ false) =
-    λ x. left_rests (state_of T x) (λ s e. ap is_left_in (sym e) ∙ o.left x s e) in
-    record { active = λ x nobody. (rests x).0; idle = λ x is. let z : true ≡ false = sym is ∙ (rests x).1 in cc }
+opening_at_work v0 o = grind (arith, left_rests)
 
 pub active_law : (h : History) (x : XidName) (T : Tables) → IsOpening T → ActiveWhileAssociated x h T
 active_law h x T o =

@@ -30,8 +30,7 @@ abbrev HasAdded : XidName → List ℕ → Tables → Type 0
 HasAdded x k T = is_some (map.get T.sums (x, k)) ≡ true
 
 either : {A : Type 0} (b : Bool) (v : A) (o : Option A) → is_some o ≡ true → is_some (cond b (Some v) o) ≡ true
-either true v o e = refl
-either false v o e = e
+either v0 v o e = grind arith
 
 -- a branch that has touched no key has none
 pub untouched : (x : XidName) (T : Tables) → has_touched T.sums x ≡ false → (k : List ℕ) → map.get T.sums (x, k) ≡ None
@@ -50,8 +49,7 @@ left_there x y k T other h = ap is_some (get_without T.sums y x k ∙ ap (λ b. 
 
 -- a request that ends y doesn't end x, and so x isn't y
 not_ended : (x y : XidName) (b : Bool) → (if xid_eq y x then Some b else None) ≡ None → xid_eq x y ≡ false
-not_ended x y b none =
-    swap_xid x y ∙ elim (xid_eq y x) as (λ c. (if c then Some b else None) ≡ None → c ≡ false) [ true ↦ λ n. cc | false ↦ λ n. refl ] none
+not_ended x y b none = grind (arith, swap_xid)
 
 -- a request that doesn't end the branch leaves what it has added to
 stays : (x : XidName) (k : List ℕ) (T : Tables) {l : Option Association} {op : Op} {a : Answer} → Moves T l op a → HasAdded x k T
@@ -70,8 +68,7 @@ stays_on (r ∷ g) x k T h n =
 
 -- an addition that is answered XA_OK
 branch_is : (o : Option Association) (x : XidName) → option_map (λ (a : Association). a.xid) o ≡ Some x → branch_in o ≡ x
-branch_is None x e = cc
-branch_is (Some a) x e = let z : a.xid ≡ x = cc in z
+branch_is v0 x e = grind arith
 
 reason_not_done : (T : Tables) (y : XidName) → is_rollback_only T y ≡ true → reason_of T y ≡ Done → ⊥
 reason_not_done T y back e = let z : is_rolled_back Done ≡ true = ap is_rolled_back (sym e) ∙ reason_rolls_back (state_of T y) back in cc

@@ -1,6 +1,6 @@
 -- What one request does to the tables. The rules are walked here alone: a law of all requests is one of their effects.
 use Rattle.std.specs.Prelude.{◌≡◌, ℕ, ℤ, pos, Bool, true, false, not, ◌&&◌, ◌||◌, if◌then◌else◌, Option, None, Some, List, refl}
-use Rattle.std.proofs.Common.{ap, ◌∙◌, ◌⊎◌, inl, inr}
+use Rattle.std.proofs.Common.{arith, ap, ◌∙◌, ◌⊎◌, inl, inr}
 use Rattle.std.specs.FinSet as set
 use Rattle.std.proofs.Math.Bool.{or-true}
 use Rattle.std.proofs.lemmas.Bool.{and_parts, or_parts, not-false}
@@ -68,68 +68,46 @@ pub named_none : (x y : XidName) → if_named x y None ≡ None
 named_none x y = elim (xid_eq y x) as (λ b. ◌≡◌ {A = Option Fate} (if b then None else None) None) [ true ↦ refl | false ↦ refl ]
 
 no_share : (b : Bool) (z : ℤ) → (if b && false then z else pos 0) ≡ pos 0
-no_share true z = refl
-no_share false z = refl
+no_share v0 z = grind arith
 
 -- an addition with another code than XA_OK tells nothing
 pub undone_adds : (own : List ℕ) (d : ℤ) (c : Code) → is_done c ≡ false → TellsNothing (Add own d) c
-undone_adds own d c e = record {
-  fates = λ x. refl;
-  shares = λ k l later. ap (λ b. if key_eq own k && b then added_by l d later else pos 0) e ∙ no_share (key_eq own k) _;
-  moved = λ accounts T. refl;
-}
+undone_adds own d c e = grind (arith, no_share)
 
 error_undone : (c : Code) → is_error c ≡ true → is_done c ≡ false
-error_undone Done e = cc
-error_undone c e = refl
+error_undone c e = grind arith
 
 -- no error stands in the table of fates
 error_fates : (c : Code) → is_error c ≡ true → (prepare_fate c ≡ None) × (commit_fate c ≡ None) × (rollback_fate c ≡ None)
-error_fates Done e = cc
-error_fates c e = (cc, cc, cc)
+error_fates c e = grind arith
 
 error_fate : (x : XidName) (op : Op) (c : Code) → is_error c ≡ true → fate_of x op c ≡ None
-error_fate x (Start y Fresh) c e = ap (λ b. if_named x y (if b then Some Live else None)) (error_undone c e) ∙ named_none x y
-error_fate x (Start y how) c e = named_none x y
-error_fate x (Prepare y) c e = ap (if_named x y) (error_fates c e).0 ∙ named_none x y
-error_fate x (Commit y one_phase) c e = ap (if_named x y) (error_fates c e).1 ∙ named_none x y
-error_fate x (Rollback y) c e = ap (if_named x y) (error_fates c e).2 ∙ named_none x y
-error_fate x (Heur y commits) c e =
-    ap (λ b. if_named x y (if b then Some (if commits then HeurCommitted else HeurRolledBack) else None)) (error_undone c e) ∙ named_none x y
-error_fate x op c e = refl
+error_fate x op c e = grind (arith, error_undone, named_none, error_fates)
 
 error_moved : (accounts : List (List ℕ × ℕ)) (T : Tables) (op : Op) (c : Code) → is_error c ≡ true → moved_by accounts op c T ≡ pos 0
-error_moved accounts T (Commit y one_phase) c e = ap (λ b. if b then held_by accounts y T else pos 0) (error_undone c e)
-error_moved accounts T (Heur y commits) c e = ap (λ b. if b && commits then held_by accounts y T else pos 0) (error_undone c e)
-error_moved accounts T op c e = refl
+error_moved accounts v1 op c e = grind (arith, error_undone)
 
 -- an error tells nothing, whatever was requested
 pub error_tells : (op : Op) (c : Code) → is_error c ≡ true → TellsNothing op c
-error_tells (Add own d) c e = undone_adds own d c (error_undone c e)
-error_tells op c e = record { fates = λ x. error_fate x op c e; shares = λ k l later. refl; moved = λ accounts T. error_moved accounts T op c e }
+error_tells op c e = grind (arith, undone_adds, error_undone, error_fate, error_moved)
 
 -- the reason of a branch that can only be rolled back is an XA_RB* code
 pub reason_rolls_back : (o : Option State) → is_S4 o ≡ true → is_rolled_back (reason_in o) ≡ true
-reason_rolls_back (Some (RollbackOnly Failed)) e = refl
-reason_rolls_back o e = cc
+reason_rolls_back o e = grind arith
 
 -- a decision's code tells of no fate, to a Commit and to a Rollback
 pub decision_commits_nothing : (o : Option State) → is_S5 o ≡ true → commit_fate (decision_in o) ≡ None
-decision_commits_nothing (Some (HeuristicallyCompleted decision.Commit)) e = refl
-decision_commits_nothing o e = cc
+decision_commits_nothing o e = grind arith
 
 pub decision_rolls_nothing_back : (o : Option State) → is_S5 o ≡ true → rollback_fate (decision_in o) ≡ None
-decision_rolls_nothing_back (Some (HeuristicallyCompleted decision.Commit)) e = refl
-decision_rolls_nothing_back o e = cc
+decision_rolls_nothing_back o e = grind arith
 
 -- nor does it move any worth
 undone_commit : (c : Code) → commit_fate c ≡ None → is_done c ≡ false
-undone_commit Done e = cc
-undone_commit c e = refl
+undone_commit c e = grind arith
 
 not_done : (r : Code) → is_rolled_back r ≡ true → is_done r ≡ false
-not_done Done e = cc
-not_done r e = refl
+not_done r e = grind arith
 
 rollback_drops : (y : XidName) (c : Code) → (is_done c || is_rolled_back c) ≡ true → TellsDropped (Rollback y) y c
 rollback_drops y c e = record {
@@ -322,5 +300,4 @@ module _ (t : ℕ) (T : Tables) where
 -- each request has one of them
 pub effect_of : (t : ℕ) (op : Op) (T : Tables) → Effect t T op (next t op T)
 unfolding next
-effect_of t op T =
-    at_if t T (T.shut) (λ _. refuses t T refl) (λ _. at_if t T (needs_opening op && not (has_opened T t)) (λ _. refuses t T refl) (λ _. at_rules t T op))
+effect_of t op v2 = grind (arith, refuses, at_rules)

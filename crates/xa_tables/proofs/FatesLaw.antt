@@ -1,6 +1,6 @@
 -- The law: the tables tell what became of each branch, over any openings.
 use Rattle.std.specs.Prelude.{◌≡◌, true, false, cond, if◌then◌else◌, Option, None, Some, List, [], ◌∷◌, refl}
-use Rattle.std.proofs.Common.{sym, ap, ◌∙◌, subst}
+use Rattle.std.proofs.Common.{arith, sym, ap, ◌∙◌, subst}
 use Rattle.std.specs.FinMap as map
 use Rattle.std.specs.FinMap.{get-empty}
 use Rattle.xa_words.specs.Xid.{XidName, xid_cmp}
@@ -43,23 +43,17 @@ unlive_decided decision.Commit = refl
 unlive_decided decision.Rollback = refl
 
 in_doubt_waits : (f : Fate) → is_in_doubt f ≡ true → is_live f ≡ false
-in_doubt_waits Live e = cc
-in_doubt_waits f e = refl
+in_doubt_waits f e = grind arith
 
 -- a branch at work is gone, and was rolled back
 gone : (f : Fate) → is_in_doubt f ≡ false → Tells None (reopened_fate f)
-gone InDoubt e = cc
-gone f e = record { prepared = refl; exists = refl; decided = λ d e. cc }
+gone f e = grind arith
 
 reopened_tells : (o : Option State) (f : Fate) → Tells o f → Tells (cond (is_left_in o) o None) (reopened_fate f)
-reopened_tells (Some S3) f t = subst (Tells (Some S3)) (sym (unlive f (in_doubt_waits f (sym t.prepared)))) t
-reopened_tells (Some (HeuristicallyCompleted c)) f t =
-    subst (Tells (Some (HeuristicallyCompleted c))) (sym (unlive f (ap is_live (t.decided c refl) ∙ unlive_decided c))) t
-reopened_tells o f t = gone f (sym t.prepared)
+reopened_tells o f t = grind (arith, unlive, in_doubt_waits, unlive_decided, gone)
 
 pub reopened_law : (x : XidName) (f : Fate) (T : Tables) → IsFateOf x f T → IsFateOf x (reopened_fate f) (reopened T)
-reopened_law x f T w =
-    tells_told x (reopened_fate f) (reopened T) (subst (λ (o : Option State). Tells o (reopened_fate f)) (sym (state_reopened T x)) (reopened_tells (state_of T x) f (state_tells x f T w)))
+reopened_law x f v2 w = grind (arith, tells_told, state_reopened, reopened_tells, state_tells)
 
 -- ---- any openings
 

@@ -33,8 +33,7 @@ none_free (suc n) T closed =
     omega arith
 
 at_most_one : (b : Bool) → counted b ≤ 1
-at_most_one true = omega arith
-at_most_one false = omega arith
+at_most_one v0 = grind arith
 
 -- T becomes U, and only thread t may be free in one of them alone
 module _ (t : ℕ) (T U : Tables) (others : (u : ℕ) → u ≢ t → is_free U u ≡ is_free T u) where
@@ -68,23 +67,16 @@ module _ (n t : ℕ) (T U : Tables) (first : 0 < t) (last : t ≤ n) (others : (
 
   -- t, which was free, isn't any more
   pays_one : is_free T t ≡ true → is_free U t ≡ false → free_threads n U + 2 * places_taken t T U ≤ free_threads n T + 1
-  pays_one before after =
-      let counts = one_changes t T U others n first last in
-      let was : counted (is_free T t) ≡ 1 = ap counted before in
-      let is : counted (is_free U t) ≡ 0 = ap counted after in
-      omega (arith, at_most_one (not (has_association T t) && has_association U t))
+  pays_one before after = grind (arith, one_changes, at_most_one)
 
 free_or_not : (b : Bool) → (not b && b) ≡ false
-free_or_not true = refl
-free_or_not false = refl
+free_or_not v0 = grind arith
 
 never_both : (b : Bool) → (not b && false) ≡ false
-never_both true = refl
-never_both false = refl
+never_both v0 = grind arith
 
 has_own : (o : Option Association) (x : XidName) → is_association_with o x ≡ true → is_some o ≡ true
-has_own None x e = cc
-has_own (Some l) x e = refl
+has_own v0 x e = grind arith
 
 -- t has the association that is put, and none where it goes
 put_there : (t : ℕ) (T U : Tables) (l : Association) → U.associations ≡ map.insert T.associations t l → association_of U t ≡ Some l
@@ -119,10 +111,7 @@ module _ (n t : ℕ) (T : Tables) (first : 0 < t) (last : t ≤ n) where
   -- t, which has it open and is free, becomes associated
   begins : (l : Association) (c : Code) (U : Tables) → U.opened ≡ T.opened → U.associations ≡ map.insert T.associations t l → has_opened T t ≡ true
       → has_association T t ≡ false → Pays (U, c)
-  begins l c U opened associations has free =
-      pays_one n t T U first last
-      (λ u apart. ap (λ m. is_free (record U { associations = m }) u) associations ∙ ap (λ s. is_free (record (with_association t l T) { opened = s }) u) opened ∙ put l u apart)
-      (ap (λ b. b && not (has_association T t)) has ∙ ap not free) (ap (λ o. has_opened U t && not (is_some o)) (put_there t T U l associations) ∙ and-false _)
+  begins l c v2 opened associations has free = grind (arith, pays_one, put, put_there, and-false)
 
   -- t, which has an association, gets another
   goes_on : (y : XidName) (l : Association) (c : Code) → is_associated T t y ≡ true → Pays (with_association t l T, c)
@@ -132,10 +121,7 @@ module _ (n t : ℕ) (T : Tables) (first : 0 < t) (last : t ≤ n) where
 
   -- t's association goes
   ends : (c : Code) (U : Tables) → U.opened ≡ T.opened → U.associations ≡ map.remove T.associations t → Pays (U, c)
-  ends c U opened associations =
-      pays_none n t T U first last
-      (λ u apart. ap (λ m. is_free (record U { associations = m }) u) associations ∙ ap (λ s. is_free (record (dissociated t T) { opened = s }) u) opened ∙ gone u apart)
-      (ap (λ o. not (has_association T t) && is_some o) (gone_there t T U associations) ∙ never_both (has_association T t))
+  ends c v1 opened associations = grind (arith, pays_none, gone, gone_there, never_both)
 
   by_effect : {op : Op} {a : Answer} → (needs_opening op && not (has_opened T t)) ≡ false → Effect t T op a → Pays a
   by_effect may (Opens) = pays_none n t T _ first last opens (free_or_not (has_association T t))
@@ -154,8 +140,4 @@ module _ (n t : ℕ) (T : Tables) (first : 0 < t) (last : t ≤ n) where
 pub places_paid : (n t : ℕ) (op : Op) (T : Tables) → 0 < t → t ≤ n
     → free_threads n (next t op T).0 + 2 * places_taken t T (next t op T).0 ≤ free_threads n T + 1
 unfolding next
-places_paid n t op T first last =
-    let same : free_threads n T + 2 * places_taken t T T ≤ free_threads n T + 1 =
-    pays_none n t T T first last (λ u apart. refl) (free_or_not (has_association T t)) in
-    by_if (Pays n t T first last) T.shut _ _ (λ _. same) (λ _.
-    by_if (Pays n t T first last) (needs_opening op && not (has_opened T t)) _ _ (λ _. same) (λ may. by_effect n t T first last may (at_rules t T op)))
+places_paid n t op v3 first last = grind (arith, pays_none, free_or_not, by_effect, at_rules)

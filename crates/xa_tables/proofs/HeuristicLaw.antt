@@ -1,7 +1,7 @@
 -- The laws of heuristic decisions: only a prepared branch is decided, and by a manager that isn't shut; and only a
 -- completed one tells its decision.
 use Rattle.std.specs.Prelude.{◌≡◌, ℕ, Bool, true, false, not, ◌||◌, if◌then◌else◌, Option, None, Some, [], ◌∷◌, refl}
-use Rattle.std.proofs.Common.{sym, ap, ◌∙◌, subst}
+use Rattle.std.proofs.Common.{arith, sym, ap, ◌∙◌, subst}
 use Rattle.std.specs.List.{cons_option}
 use Rattle.std.proofs.lemmas.Bool.{not-false}
 use Rattle.std.proofs.lemmas.List.Elements.{All-head, All-tail}
@@ -60,8 +60,7 @@ heur_step t x commits T =
     (λ e. Completes decision.Rollback (not-false _ voted) (get_put dropped x x (HeuristicallyCompleted decision.Rollback) ∙ put_here dropped x (HeuristicallyCompleted decision.Rollback)) refl (by_decision false e)))))
 
 heur_op : (x : XidName) (op : Op) → names x op ≡ true → is_heur op ≡ true → (commits : Bool) × (op ≡ Heur x commits)
-heur_op x (Heur y commits) n h = (commits, ap (λ z. Heur z commits) ((Decides-xid_eq y x).0 n))
-heur_op x op n h = cc
+heur_op x op n h = grind (arith, Decides-xid_eq)
 
 pub decides : (t : ℕ) (x : XidName) (op : Op) (T : Tables) → names x op ≡ true → is_heur op ≡ true → Decides x op T (next t op T)
 decides t x op T n h =
@@ -91,13 +90,7 @@ module _ (t : ℕ) (x : XidName) (T : Tables) (u : is_prepared T x ≡ false) wh
 
   forget_step : is_prepared (next t (Forget x) T).0 x ≡ false
   unfolding next
-  forget_step =
-      let P : Answer → Type 0 = λ a. is_prepared a.0 x ≡ false in
-      by_if P (T.shut) _ _ (λ _. u) (λ _.
-      by_if P (not (has_opened T t)) _ _ (λ _. u) (λ _.
-      by_if P (not (exists T x)) _ _ (λ _. u) (λ _.
-      by_if P (not (is_completed T x)) _ _ (λ _. u) (λ _.
-      ap is_S3 (get_gone T x x ∙ at_true (xid_eq x x) None _ (xid_self x))))))
+  forget_step = grind (arith, get_gone, at_true, xid_self)
 
   -- it stays so, and nothing becomes of it
   record Rests (op : Op) (a : Answer) : Type 0 where
@@ -105,8 +98,7 @@ module _ (t : ℕ) (x : XidName) (T : Tables) (u : is_prepared T x ≡ false) wh
     quiet : fate_of x op a.1 ≡ None
 
   by_decision : (op : Op) (a : Answer) → Decides x op T a → Rests op a
-  by_decision op a (Nothing same none) = record { unprepared = ap (λ (U : Tables). is_prepared U x) same ∙ u; quiet = none }
-  by_decision op a (Completes d voted state opened told) = let z : true ≡ false = sym voted ∙ u in cc
+  by_decision op a v2 = grind arith
 
   by_name : (op : Op) → names x op ≡ true → (is_heur op || is_forget op) ≡ true → Rests op (next t op T)
   by_name (Heur y commits) n h = by_decision (Heur y commits) _ (decides t x (Heur y commits) T n refl)
@@ -155,16 +147,13 @@ same_decision decision.Rollback decision.Commit e = cc
 same_decision decision.Rollback decision.Rollback e = refl
 
 completed_with : (o : Option State) (d : HeuristicDecision) → is_S5 o ≡ true → decision_in o ≡ decision_code d → o ≡ Some (HeuristicallyCompleted d)
-completed_with (Some (HeuristicallyCompleted c)) d is e = same_decision c d e
-completed_with o d is e = cc
+completed_with o d is e = grind (arith, same_decision)
 
 reason_tells_none : (r : RollbackReason) → is_told (reason_code r) ≡ false
-reason_tells_none Failed = refl
-reason_tells_none Transient = refl
+reason_tells_none v0 = grind arith
 
 reason_is_none : (o : Option State) → is_S4 o ≡ true → is_told (reason_in o) ≡ false
-reason_is_none (Some (RollbackOnly reason)) is = reason_tells_none reason
-reason_is_none o is = cc
+reason_is_none o is = grind (arith, reason_tells_none)
 
 module _ (t : ℕ) (x : XidName) (d : HeuristicDecision) (T : Tables) where
   abbrev Told : Answer → Type 0
@@ -179,19 +168,8 @@ module _ (t : ℕ) (x : XidName) (d : HeuristicDecision) (T : Tables) where
 
   pub commit_tells : Told (next t (Commit x false) T)
   unfolding next
-  commit_tells =
-      by_if Told (T.shut) _ _ (λ _. no_decision (T, RmFail) refl) (λ _.
-      by_if Told (not (has_opened T t)) _ _ (λ _. no_decision (T, Proto) refl) (λ _.
-      by_if Told (not (exists T x)) _ _ (λ _. no_decision (T, Nota) refl) (λ _.
-      by_if Told (is_completed T x) _ _ (λ is. as_decided is) (λ _.
-      by_if Told (is_somebody_associated T.associations x || not (is_prepared T x)) _ _ (λ _. no_decision (T, Proto) refl) (λ _. no_decision (gone x (committed x T), Done) refl)))))
+  commit_tells = grind (arith, no_decision, as_decided)
 
   pub rollback_tells : Told (next t (Rollback x) T)
   unfolding next
-  rollback_tells =
-      by_if Told (T.shut) _ _ (λ _. no_decision (T, RmFail) refl) (λ _.
-      by_if Told (not (has_opened T t)) _ _ (λ _. no_decision (T, Proto) refl) (λ _.
-      by_if Told (not (exists T x)) _ _ (λ _. no_decision (T, Nota) refl) (λ _.
-      by_if Told (is_completed T x) _ _ (λ is. as_decided is) (λ _.
-      by_if Told (is_somebody_associated T.associations x) _ _ (λ _. no_decision (T, Proto) refl) (λ _.
-      by_if Told (is_rollback_only T x) _ _ (λ doomed. no_decision (gone x T, reason_of T x) (reason_is_none (state_of T x) doomed)) (λ _. no_decision (gone x T, Done) refl))))))
+  rollback_tells = grind (arith, no_decision, as_decided, reason_is_none)

@@ -1,6 +1,6 @@
 -- What the state of a branch tells of its fate, and that nobody is associated with a branch that isn't at work, whatever is requested.
 use Rattle.std.specs.Prelude.{◌≡◌, ◌≢◌, ℕ, pos, Bool, true, false, cond, ◌||◌, if◌then◌else◌, Option, None, Some, is_some, unwrap_or, List, [], ◌∷◌, refl}
-use Rattle.std.proofs.Common.{sym, ap, ◌∙◌, subst}
+use Rattle.std.proofs.Common.{arith, sym, ap, ◌∙◌, subst}
 use Rattle.std.specs.FinMap as map
 use Rattle.std.specs.FinMap.{get-empty, get-insert, get-remove}
 use Rattle.std.specs.Ordering.{nat_cmp}
@@ -69,12 +69,10 @@ standing (Some (HeuristicallyCompleted decision)) = Nowhere
 
 -- a branch is at work that exists and is in neither S3 nor S5
 pub works : (o : Option State) → is_some o ≡ true → (is_S3 o || is_S5 o) ≡ false → standing o ≡ AtWork
-works (Some Active) some e = refl
-works o some e = cc
+works o some e = grind arith
 
 pub working : (o : Option State) → standing o ≡ AtWork → (is_some o ≡ true) × (is_S3 o ≡ false) × (is_S5 o ≡ false)
-working (Some Active) e = (refl, refl, refl)
-working o e = (cc, cc, cc)
+working o e = grind arith
 
 -- so all states of work tell the same
 works_tells : (o p : Option State) (f : Fate) → standing o ≡ AtWork → standing p ≡ AtWork → Tells o f → Tells p f
@@ -89,12 +87,10 @@ works_tells o p f at_o at_p h =
 
 -- a branch in S3 or S5
 pub voted_rests : (o : Option State) → is_S3 o ≡ true → standing o ≢ AtWork
-voted_rests (Some S3) e = λ w. cc
-voted_rests o e = cc
+voted_rests o e = grind arith
 
 pub completed_nowhere : (o : Option State) → is_S5 o ≡ true → standing o ≡ Nowhere
-completed_nowhere (Some (HeuristicallyCompleted decision)) e = refl
-completed_nowhere o e = cc
+completed_nowhere o e = grind arith
 
 decided_ended : (d : HeuristicDecision) → Tells None (decided_fate d)
 decided_ended decision.Commit = none_tells HeurCommitted refl refl
@@ -107,10 +103,7 @@ forgotten_tells o f e h = cc
 
 -- so is a branch that ends without a commit
 dropped_tells : (f : Fate) → ending_by f ≡ Some false → Tells None f
-dropped_tells ReadOnly e = none_tells ReadOnly refl refl
-dropped_tells RolledBack e = none_tells RolledBack refl refl
-dropped_tells HeurRolledBack e = none_tells HeurRolledBack refl refl
-dropped_tells f e = cc
+dropped_tells f e = grind (arith, none_tells)
 
 -- ---- the state of x after a change of the branch y
 
@@ -124,8 +117,7 @@ get_gone T y x = get-remove xid_cmp_total T.states y x ∙ ap (λ b. cond b None
 -- what holds of it, by whether x is y
 where_changed : (T : Tables) (y x : XidName) (o p : Option State) (P : Bool → Option State → Type 0) → p ≡ (if xid_eq y x then o else state_of T x)
     → (y ≡ x → P true o) → (xid_eq y x ≡ false → P false (state_of T x)) → P (xid_eq y x) p
-where_changed T y x o p P is one other =
-    subst (P (xid_eq y x)) (sym is) (by_bool (λ b. P b (if b then o else state_of T x)) (xid_eq y x) (λ e. one ((Decides-xid_eq y x).0 e)) other)
+where_changed v0 y x o p v5 is one other = grind (arith, Decides-xid_eq)
 
 pub where_put : (T : Tables) (y x : XidName) (s : State) (P : Bool → Option State → Type 0) → (y ≡ x → P true (Some s))
     → (xid_eq y x ≡ false → P false (state_of T x)) → P (xid_eq y x) (state_of (stated y s T) x)
@@ -156,11 +148,7 @@ associated_works T s t l found =
 
 -- and that of the association that t has with y
 pub own_works : (T : Tables) → Sound T → (t : ℕ) (y : XidName) → is_associated T t y ≡ true → standing (state_of T y) ≡ AtWork
-own_works T s t y =
-    elim (association_of T t) as (λ o. association_of T t ≡ o → is_association_with o y ≡ true → standing (state_of T y) ≡ AtWork) [
-      | None ↦ λ e h. cc
-      | Some l ↦ λ e h. ap (λ z. standing (state_of T z)) (sym ((Decides-xid_eq l.xid y).0 h)) ∙ associated_works T s t l e
-    ] refl
+own_works v0 s t y = grind (arith, Decides-xid_eq, associated_works)
 
 -- what a step keeps: after it the state of x tells what became of it
 pub record Step (x : XidName) (op : Op) (f : Fate) (a : Answer) : Type 0 where
@@ -193,11 +181,7 @@ module _ (t : ℕ) (x : XidName) (f : Fate) (T : Tables) (s : Sound T) (h : Tell
 
   -- t's own association with y changes, and goes
   reassociated : (y : XidName) (state : AssociationState) → is_associated T t y ≡ true → Sound (with_association t (association y state) T)
-  reassociated y state own = record {
-    rests = λ z r.
-        nobody_joins z T.associations t (association y state) (by_bool (λ b. xid_eq y z ≡ b → b ≡ false) (xid_eq y z)
-        (λ _ e. absurd (r (ap (λ w. standing (state_of T w)) (sym ((Decides-xid_eq y z).0 e)) ∙ own_works T s t y own))) (λ _ _. refl) refl) (s.rests z r);
-  }
+  reassociated y state own = grind (arith, nobody_joins, Decides-xid_eq, own_works)
 
   left : Sound (dissociated t T)
   left = record { rests = λ z r. nobody_leaves z T.associations t (s.rests z r) }
@@ -254,8 +238,7 @@ pub step : (t : ℕ) (op : Op) (x : XidName) (f : Fate) (T : Tables) → Sound T
 step t op x f T s h = by_effect t x f T s h (effect_of t op T)
 
 pub last_more : (f : Fate) (o : Option Fate) (gs : List Fate) → last_or (unwrap_or o f) gs ≡ last_or f (cons_option o gs)
-last_more f None gs = refl
-last_more f (Some g) gs = refl
+last_more f v1 gs = grind arith
 
 pub run : (H : History) (x : XidName) (f : Fate) (T : Tables) → Sound T → Tells (state_of T x) f
     → Tells (state_of (tables_after H T) x) (last_or f (fates_in x (coded H T)))

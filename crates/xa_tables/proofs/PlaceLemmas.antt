@@ -25,12 +25,10 @@ pub swapped : (k l : List ℕ) → key_eq l k ≡ same_key k l
 swapped k l = key_eq-by_cmp l k ∙ (eq_by_cmp_equiv key_cmp_total).symm l k
 
 one_here : (b : Bool) (i : ℕ) → later_place None b ≡ Some i → (b ≡ true) × (i ≡ 0)
-one_here true i e = (refl, let is : 0 ≡ i = cc in sym is)
-one_here false i e = let never : ⊥ = cc in absurd never
+one_here v0 i e = grind arith
 
 nowhere : (b : Bool) → later_place None b ≡ None → b ≡ false
-nowhere true e = cc
-nowhere false e = refl
+nowhere v0 e = grind arith
 
 -- a place is within
 pub place_within : (k : List ℕ) (accounts : List Account) (i : ℕ) → place_in k accounts ≡ Some i → i < length accounts
@@ -88,9 +86,7 @@ value_none k accounts e =
 
 pub value_at : (k : List ℕ) (accounts : List Account) (i : ℕ) (a : Account) → AreDistinct accounts → place_in k accounts ≡ Some i → a ≡ get_or accounts i a
     → find key_cmp k (value_entries accounts) ≡ Some a.value
-value_at k accounts i a dist there e =
-    ap (λ q. find key_cmp q (value_entries accounts)) (sym (place_key k accounts i a there e)) ∙ value_found a.key accounts
-    ∙ ap (option_map (λ (w : Account). w.value)) (at_own_key accounts i a dist (place_within k accounts i there) e)
+value_at k accounts i a dist there e = grind (arith, find, key_cmp, place_key, value_found, at_own_key, place_within)
 
 -- one more account at the end
 place_push : (k : List ℕ) (xs : List Account) (a : Account) → place_in k (xs ++ a ∷ []) ≡ cond (key_eq a.key k) (Some (length xs)) (place_in k xs)
@@ -211,8 +207,7 @@ distinct_declared ds h = distinct_apart ds (and_parts _ _ (and_parts _ _ h).1).1
 
 limit_from : (ds : List (List ℕ × ℕ)) (i : ℕ) (d : List ℕ × ℕ) → list_all (λ e. nat_le e.1 1000000000000) ds ≡ true → i < length ds → d.1 ≡ (get_or ds i d).1
     → d.1 ≤ 1000000000000
-limit_from ds i d each within is =
-    leb-true d.1 1000000000000 (true_from_ne_false (nat_le d.1 1000000000000) (λ f. let broken = list_all_at (λ (e : List ℕ × ℕ). nat_le e.1 1000000000000) ds i d within (ap (λ v. nat_le v 1000000000000) (sym is) ∙ f) in cc))
+limit_from ds i d each within is = grind (arith, leb-true, true_from_ne_false, list_all_at)
 
 -- each declared value is within the limit
 pub limit_declared : (ds : List (List ℕ × ℕ)) (i : ℕ) (d : List ℕ × ℕ) → are_accounts ds ≡ true → i < length ds → d.1 ≡ (get_or ds i d).1 → d.1 ≤ 1000000000000

@@ -88,18 +88,7 @@ record Holds (t : ℕ) (x : XidName) (T : Tables) (a : Answer) : Type 0 where
 
 prepare_holds : (t : ℕ) (x : XidName) (T : Tables) → (next t (Prepare x) T).1 ≡ Done → Holds t x T (next t (Prepare x) T)
 unfolding next
-prepare_holds t x T =
-    let P : Answer → Type 0 = λ a. a.1 ≡ Done → Holds t x T a in
-    by_if P (T.shut) _ _ (λ _ e. cc) (λ _.
-    by_if P (not (has_opened T t)) _ _ (λ _ e. cc) (λ opened_now.
-    by_if P (not (exists T x)) _ _ (λ _ e. cc) (λ _.
-    by_if P (is_somebody_associated T.associations x || (is_prepared T x || (is_rollback_only T x || is_completed T x))) _ _ (λ _ e. cc) (λ _.
-    by_if P (not (has_touched T.sums x)) _ _ (λ _ e. cc) (λ _.
-    by_if P (is_broken T.values T.sums x) _ _ (λ _ e. cc) (λ _ e. record {
-      prepared = get_put T x x S3 ∙ ap (λ b. if b then Some S3 else state_of T x) ((Decides-xid_eq x x).1 refl);
-      opened = not-false (has_opened T t) opened_now;
-      sums = refl;
-    }))))))
+prepare_holds t x v2 = grind (arith, get_put, Decides-xid_eq, not-false)
 
 -- and from then on what it has added stays
 pub sums_kept : (h g : History) (t : ℕ) (x : XidName) (T : Tables) → IsOpening T → (next t (Prepare x) (tables_after h T)).1 ≡ Done → NamesNowhere x g

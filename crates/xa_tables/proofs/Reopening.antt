@@ -1,6 +1,6 @@
 -- What a reopening leaves, and what the next opening begins with.
 use Rattle.std.specs.Prelude.{◌≡◌, ℕ, ℤ, Bool, true, false, cond, not, ◌&&◌, ◌+ℤ◌, Option, None, Some, List, [], ◌∷◌, refl}
-use Rattle.std.proofs.Common.{sym, ap, ◌∙◌}
+use Rattle.std.proofs.Common.{arith, sym, ap, ◌∙◌}
 use Rattle.std.specs.FinMap as map
 use Rattle.std.specs.FinMap.{FinMap, get-empty, get-retain_keys}
 use Rattle.xa_words.specs.Xid.{XidName, xid_cmp, xid_eq}
@@ -23,12 +23,10 @@ sums_reopened T x k =
 
 -- a branch is as left as it was, and as prepared
 left_stays : (o : Option State) → is_left_in (cond (is_left_in o) o None) ≡ is_left_in o
-left_stays (Some S3) = refl
-left_stays o = refl
+left_stays o = grind arith
 
 prepared_stays : (o : Option State) → is_S3 (cond (is_left_in o) o None) ≡ is_S3 o
-prepared_stays (Some S3) = refl
-prepared_stays o = refl
+prepared_stays o = grind arith
 
 pub as_left : (T : Tables) (x : XidName) → is_left (reopened T) x ≡ is_left T x
 as_left T x = ap is_left_in (state_reopened T x) ∙ left_stays (state_of T x)
@@ -38,17 +36,10 @@ as_prepared T x = ap is_S3 (state_reopened T x) ∙ prepared_stays (state_of T x
 
 -- only what is left stays
 stays_if_left : (b : Bool) (o : Option State) (s : State) → cond b o None ≡ Some s → b ≡ true
-stays_if_left true o s e = refl
-stays_if_left false o s e = cc
+stays_if_left v0 o s e = grind arith
 
 pub reopens : (T : Tables) → IsOpening (reopened T)
-reopens T = record {
-  opened = refl;
-  associations = refl;
-  shut = refl;
-  left = λ x s is. as_left T x ∙ stays_if_left (is_left T x) (state_of T x) s (sym (state_reopened T x) ∙ is);
-  sums = λ x k unprepared. sums_reopened T x k ∙ ap (λ b. cond b (map.get T.sums (x, k)) None) (sym (as_prepared T x) ∙ unprepared);
-}
+reopens v0 = grind (arith, as_left, stays_if_left, state_reopened, sums_reopened, as_prepared)
 
 -- a first opening is one
 pub new_opens : (T : Tables) → IsNew T → IsOpening T

@@ -1,7 +1,7 @@
 -- What the first Shut parts.
 use Rattle.std.specs.Prelude.{◌≡◌, ℕ, true, false, if◌then◌else◌, [], ◌∷◌, refl}
 use Rattle.std.specs.List.{cons_option}
-use Rattle.std.proofs.Common.{sym, ap, ◌∙◌, subst}
+use Rattle.std.proofs.Common.{arith, sym, ap, ◌∙◌, subst}
 use Rattle.xa_base.proofs.Truth.{by_bool}
 use Rattle.xa_words.specs.Xid.{XidName}
 use Rattle.xa_words.specs.declared.code.Code.TheVariants.{Done, RmFail}
@@ -19,8 +19,7 @@ unfolding next
 next-shut t op T s = ap (λ b. if b then (T, RmFail) else if_opened t op T (by_rules t op T)) s
 
 pub shut_op : (op : Op) → is_shut op ≡ true → op ≡ Shut
-shut_op Shut e = refl
-shut_op op e = cc
+shut_op op e = grind arith
 
 shut_tells : TellsNothing Shut Done
 shut_tells = record { fates = λ x. refl; shares = λ k l later. refl; moved = λ accounts T. refl }
@@ -62,5 +61,4 @@ after_accepted view keeps h T =
 -- nothing becomes of x by a request that tells nothing
 pub fates_quiet : (x : XidName) (r : Request) (h : History) (T : Tables) (a : Answer) → next r.thread r.op T ≡ a → TellsNothing r.op a.1
     → fates_in x (coded (r ∷ h) T) ≡ fates_in x (coded h a.0)
-fates_quiet x r h T a e tells =
-    ap (λ (b : Answer). cons_option (fate_of x r.op b.1) (fates_in x (coded h b.0))) e ∙ ap (λ o. cons_option o (fates_in x (coded h a.0))) (tells.fates x)
+fates_quiet x r h v3 a e tells = grind arith

@@ -1,6 +1,6 @@
 -- What a step keeps of the facts on branches in S3, and of who is associated.
 use Rattle.std.specs.Prelude.{◌≡◌, ◌≢◌, ℕ, ℤ, Bool, true, false, cond, Option, None, Some, is_some, refl}
-use Rattle.std.proofs.Common.{sym, ap, ◌∙◌, subst}
+use Rattle.std.proofs.Common.{arith, sym, ap, ◌∙◌, subst}
 use Rattle.std.specs.Ordering.{nat_cmp, eq_by_cmp, is_eq}
 use Rattle.std.specs.Cmp.{nat_cmp_total, tied_itself}
 use Rattle.std.specs.Borrow.{MutBor}
@@ -95,9 +95,7 @@ nobody_with x associations apart = none_pass nat_cmp_total nat_cmp-IsAntisymmetr
 
 -- by whether two numbers are one
 pub by_nat : {P : Type 0} (a b : ℕ) → (a ≡ b → P) → (a ≢ b → P) → P
-by_nat {P} a b one two =
-    by_bool (λ _. P) (eq_by_cmp nat_cmp a b) (λ e. one (nat_cmp-IsAntisymmetric a b (is_equal _ e)))
-    (λ e. two (λ same. let tied = tied_true a b same in cc))
+by_nat {P} a b one two = grind (arith, is_equal, tied_true)
 
 -- an association that is put and one that goes, and those of the other threads
 pub own_put : (m : Associations) (t : ℕ) (l : Association) → map.get (map.insert m t l) t ≡ Some l
@@ -115,9 +113,7 @@ other_removed m t u apart = get-remove nat_cmp_total m t u ∙ ap (λ b. cond b 
 -- only t's association changes, and isn't with x
 pub nobody_as : (x : XidName) (t : ℕ) (m n : Associations) → ((u : ℕ) → u ≢ t → map.get n u ≡ map.get m u)
     → ((l : Association) → map.get n t ≡ Some l → xid_eq l.xid x ≡ false) → is_somebody_associated m x ≡ false → is_somebody_associated n x ≡ false
-nobody_as x t m n others own nobody =
-    nobody_with x n (λ u k found.
-    by_nat u t (λ same. own k (ap (map.get n) (sym same) ∙ found)) (λ apart. apart_from x m nobody u k (sym (others u apart) ∙ found)))
+nobody_as x t m n others own nobody = grind (arith, nobody_with, apart_from)
 
 -- a thread becomes associated with another branch, and a thread loses its association
 pub nobody_joins : (x : XidName) (m : Associations) (t : ℕ) (l : Association) → xid_eq l.xid x ≡ false
@@ -131,8 +127,7 @@ nobody_leaves x m t = nobody_as x t m (map.remove m t) (other_removed m t) (λ k
 
 -- a branch that is neither prepared nor completed isn't prepared
 pub unvoted : (o : Option State) → is_left_in o ≡ false → is_S3 o ≡ false
-unvoted (Some Prepared) e = cc
-unvoted o e = refl
+unvoted o e = grind arith
 
 -- a branch exists under each name that is equal to its own
 pub there_as : (states : States) (x y : XidName) → is_some (map.get states x) ≡ true → true ≡ xid_eq x y → is_some (map.get states y) ≡ true
@@ -143,31 +138,23 @@ sound_but : (states states' : States) (sums sums' : Sums) (values values' : Valu
     → ((y : XidName) → y ≢ x → map.get states' y ≡ map.get states y)
     → ((y : XidName) → y ≢ x → is_broken values' sums' y ≡ is_broken values sums y)
     → (is_S3 (map.get states' x) ≡ true → is_broken values' sums' x ≡ false) → ArePreparedSound states sums values → ArePreparedSound states' sums' values'
-sound_but states states' sums sums' values values' x kept others here sound y voted =
-    by_xid y x (λ _. is_broken values' sums' y ≡ false)
-    (λ e. ap (λ z. is_broken values' sums' z) e ∙ here (ap (λ z. is_S3 (map.get states' z)) (sym e) ∙ voted))
-    (λ apart. others y apart ∙ sound y (ap is_S3 (sym (kept y apart)) ∙ voted))
+sound_but states states' sums sums' values values' x kept others here sound y voted = grind arith
 
 -- x is put into a state, and the other branches stand as they stood
 pub sound_put : (states states' : States) (sums sums' : Sums) (values values' : Values) (x : XidName) (s : State) → states' ≡ map.insert states x s
     → (is_S3 (Some s) ≡ true → is_broken values' sums' x ≡ false)
     → ((y : XidName) → y ≢ x → is_broken values' sums' y ≡ is_broken values sums y) → ArePreparedSound states sums values
     → ArePreparedSound states' sums' values'
-sound_put states states' sums sums' values values' x s e here others =
-    sound_but states states' sums sums' values values' x (λ y apart. ap (λ m. map.get m y) e ∙ others_put states x s y apart) others (λ voted.
-    here (ap is_S3 (sym (ap (λ m. map.get m x) e ∙ put_here states x s)) ∙ voted))
+sound_put states states' sums sums' values values' x s e here others = grind (arith, sound_but, others_put, put_here)
 
 -- x is gone
 pub sound_removed : (states states' : States) (sums sums' : Sums) (values values' : Values) (x : XidName) → states' ≡ map.remove states x
     → ((y : XidName) → y ≢ x → is_broken values' sums' y ≡ is_broken values sums y) → ArePreparedSound states sums values
     → ArePreparedSound states' sums' values'
-sound_removed states states' sums sums' values values' x e others =
-    sound_but states states' sums sums' values values' x (λ y apart. ap (λ m. map.get m y) e ∙ others_removed states x y apart) others (λ voted.
-    let none = ap (λ m. is_S3 (map.get m x)) e ∙ ap is_S3 (removed_here states x) in cc)
+sound_removed states states' sums sums' values values' x e others = grind (arith, sound_but, others_removed, removed_here)
 
 -- x isn't in S3, and stays in its state
 pub sound_others : (states : States) (sums sums' : Sums) (values values' : Values) (x : XidName) → is_S3 (map.get states x) ≡ false
     → ((y : XidName) → y ≢ x → is_broken values' sums' y ≡ is_broken values sums y) → ArePreparedSound states sums values
     → ArePreparedSound states sums' values'
-sound_others states sums sums' values values' x unvoted others =
-    sound_but states states sums sums' values values' x (λ y apart. refl) others (λ voted. cc)
+sound_others states sums sums' values values' x unvoted others = grind (arith, unvoted, sound_but)

@@ -53,12 +53,10 @@ pending_left k (Some p) T h =
 
 -- a branch that has touched a key is prepared exactly if it isn't at work
 doubted_unless_live : (f : Fate) → is_unfinished f ≡ true → is_in_doubt f ≡ not (is_live f)
-doubted_unless_live InDoubt e = refl
-doubted_unless_live f e = cc
+doubted_unless_live f e = grind arith
 
 none_due : (p : Held) → due p (λ x. false) ≡ pos 0
-none_due None = refl
-none_due (Some p) = refl
+none_due v0 = grind arith
 
 -- who commits from the beginning of an opening on, where F has the fates then
 abbrev from_start : (XidName → Fate) → History → List History → Tables → XidName → Bool

@@ -83,8 +83,7 @@ module _ {S X : Type 0} (f : S → Option X) where
 
   found_set : (ss : List S) (t : ℕ) (s : S) → 0 < t → t ≤ length ss → (q : ℕ)
       → find nat_cmp q (entries_from f 1 (set ss (t - 1) s)) ≡ cond (same_nat q t) (f s) (find nat_cmp q (entries_from f 1 ss))
-  found_set ss t s p h q =
-      find-look q 1 (set ss (t - 1) s) ∙ look-set ss (t - 1) 1 t q s (omega arith) (omega arith) ∙ ap (cond (same_nat q t) (f s)) (sym (find-look q 1 ss))
+  found_set ss t s p h q = grind (arith, find-look, set, look-set)
 
   -- the same where f reads o of what is written
   written : (ss : List S) (t : ℕ) (s : S) (o : Option X) → 0 < t → t ≤ length ss → f s ≡ o
@@ -105,13 +104,7 @@ module _ {S X : Type 0} (f : S → Option X) where
 
   same_set : (ss : List S) (t : ℕ) (s d : S) → 0 < t → t ≤ length ss → f s ≡ f (get_or ss (t - 1) d)
       → (q : ℕ) → find nat_cmp q (entries_from f 1 (set ss (t - 1) s)) ≡ find nat_cmp q (entries_from f 1 ss)
-  same_set ss t s d p h e q =
-      found_set ss t s p h q
-      ∙ elim (same_nat q t) as (λ b. same_nat q t ≡ b → cond b (f s) (find nat_cmp q (entries_from f 1 ss)) ≡ find nat_cmp q (entries_from f 1 ss)) [
-        | true ↦ λ y. e ∙ sym (find-look t 1 ss ∙ look-at ss (t - 1) 1 t d (omega arith) (omega arith))
-            ∙ ap (λ r. find nat_cmp r (entries_from f 1 ss)) (sym (same_nat-yes q t y))
-        | false ↦ λ y. refl
-      ] refl
+  same_set ss t s d p h e q = grind (arith, found_set, find, find-look, look-at, same_nat-yes)
 
   find_thread : (ss : List S) (t : ℕ) (d : S) → 0 < t → t ≤ length ss → find nat_cmp t (entries_from f 1 ss) ≡ f (get_or ss (t - 1) d)
   find_thread ss t d p h = find-look t 1 ss ∙ look-at ss (t - 1) 1 t d (omega arith) (omega arith)
@@ -155,8 +148,7 @@ module _ {S : Type 0} (f : S → Option (Unit {0})) where
   pub open_given : (ss : List S) (t : ℕ) (s : S) (b : Bool) → 0 < t → t ≤ length ss → f s ≡ (if b then Some tt else None)
       → marked (entries_from f 1 (set ss (t - 1) s))
       ≡ (if b then finset.insert (marked (entries_from f 1 ss)) t else finset.remove (marked (entries_from f 1 ss)) t)
-  open_given ss t s true p h e = mark_put _ _ t (written f ss t s (Some tt) p h e)
-  open_given ss t s false p h e = mark_removed _ _ t (written f ss t s None p h e)
+  open_given ss t s v3 p h e = grind (arith, mark_put, written, mark_removed)
 
   pub open_same : (ss : List S) (t : ℕ) (s d : S) → 0 < t → t ≤ length ss → f s ≡ f (get_or ss (t - 1) d)
       → marked (entries_from f 1 (set ss (t - 1) s)) ≡ marked (entries_from f 1 ss)

@@ -1,6 +1,6 @@
 -- The law: only a branch that exists and isn't heuristically completed has touched a key.
 use Rattle.std.specs.Prelude.{◌≡◌, ℕ, ℤ, Bool, true, false, not, ◌&&◌, if◌then◌else◌, Option, None, Some, is_some, List, [], ◌∷◌, refl}
-use Rattle.std.proofs.Common.{sym, ap, ◌∙◌, subst}
+use Rattle.std.proofs.Common.{arith, sym, ap, ◌∙◌, subst}
 use Rattle.std.proofs.lemmas.Bool.{and_parts, not-true, true_from_ne_false}
 use Rattle.std.specs.FinMap as map
 use Rattle.xa_base.proofs.Truth.{at_true, by_bool}
@@ -81,21 +81,15 @@ run_clean [] T s w = w
 run_clean (r ∷ h) T s w = run_clean h (next r.thread r.op T).0 (sound_after r.thread r.op T s) (by_effect r.thread T s w (effect_of r.thread r.op T))
 
 unfinished : (o : Option State) → (is_some o && not (is_S5 o)) ≡ false → standing o ≡ Nowhere
-unfinished None e = refl
-unfinished (Some (HeuristicallyCompleted d)) e = refl
-unfinished o e = cc
+unfinished o e = grind arith
 
 -- a branch that has touched a key exists, and isn't heuristically completed
 pub touching : (T : Tables) → Clean T → (x : XidName) (k : List ℕ) (s : ℤ) → map.get T.sums (x, k) ≡ Some s
     → (is_some (state_of T x) ≡ true) × (is_S5 (state_of T x) ≡ false)
-touching T n x k s at =
-    let there =
-    and_parts _ _ (true_from_ne_false (is_some (state_of T x) && not (is_S5 (state_of T x))) (λ e. let none = n.none x (unfinished (state_of T x) e) k in cc)) in
-    (there.0, not-true _ there.1)
+touching v0 n x k s at = grind (arith, and_parts, true_from_ne_false, unfinished, not-true)
 
 nowhere_unprepared : (o : Option State) → standing o ≡ Nowhere → is_S3 o ≡ false
-nowhere_unprepared (Some S3) e = cc
-nowhere_unprepared o e = refl
+nowhere_unprepared o e = grind arith
 
 pub opening_clean : (T : Tables) → IsOpening T → Clean T
 opening_clean T o = record { none = λ x nowhere k. o.sums x k (nowhere_unprepared (state_of T x) nowhere) }

@@ -1,6 +1,6 @@
 -- The law: a branch with which nobody is associated stays as it is under every request that doesn't name it.
 use Rattle.std.specs.Prelude.{◌≡◌, ◌≢◌, ℕ, false, None, Some, List, [], ◌∷◌, ◌++◌, refl}
-use Rattle.std.proofs.Common.{sym, ap, ◌∙◌, subst}
+use Rattle.std.proofs.Common.{arith, sym, ap, ◌∙◌, subst}
 use Rattle.std.specs.FinMap as map
 use Rattle.std.proofs.lemmas.List.Elements.{All-head, All-tail}
 use Rattle.xa_words.specs.Xid.{XidName, xid_eq}
@@ -29,12 +29,7 @@ use Rattle.xa_tables.proofs.ValueLaw.{get_without, get_added}
 
 -- a request that doesn't name x makes nothing of it
 pub unnamed_fate : (x : XidName) (op : Op) (c : Code) → names x op ≡ false → fate_of x op c ≡ None
-unnamed_fate x (Start y how) c n = at_false (xid_eq y x) _ None n
-unnamed_fate x (Prepare y) c n = at_false (xid_eq y x) _ None n
-unnamed_fate x (Commit y b) c n = at_false (xid_eq y x) _ None n
-unnamed_fate x (Rollback y) c n = at_false (xid_eq y x) _ None n
-unnamed_fate x (Heur y commits) c n = at_false (xid_eq y x) _ None n
-unnamed_fate x op c n = refl
+unnamed_fate x op c n = grind (arith, at_false)
 
 -- another branch
 pub differs : (x y : XidName) → xid_eq y x ≡ false → x ≢ y

@@ -50,12 +50,10 @@ record ValueStep (k : List ℕ) (p : Held) (op : Op) (l : Option Association) (T
   owes : (later : XidName → Bool) → moved +ℤ due held later ≡ due p (before op a.1 later) +ℤ share_of k op a.1 l later
 
 pub plus_zero : (o : Option ℤ) → o ≡ option_map (λ v. v +ℤ pos 0) o
-plus_zero None = refl
-plus_zero (Some v) = ap (λ w. Some w) (omega (arith, ints))
+plus_zero v0 = grind arith
 
 due_same : (p : Held) (C D : XidName → Bool) → ((x : XidName) → D x ≡ C x) → due p D ≡ due p C
-due_same None C D h = refl
-due_same (Some p) C D h = ap (λ b. if b then p.1 else pos 0) (h p.0)
+due_same v0 v1 v2 h = grind arith
 
 zero_plus : (d e s : ℤ) → e ≡ d → s ≡ pos 0 → pos 0 +ℤ d ≡ e +ℤ s
 zero_plus d e s h z = omega (arith, ints)
@@ -110,12 +108,7 @@ add_zero d e m s h z = omega (arith, ints)
 
 amount_is : (k : List ℕ) (p : Held) (y : XidName) (sums : FinMap touch_cmp ℤ) → IsPending k p sums → sum_of sums y k ≡ amount_of_held p y
 unfolding amount_of_held
-amount_is k None y sums h = ap (λ o. unwrap_or o (pos 0)) (h y)
-amount_is k (Some p) y sums h =
-    elim (xid_eq p.0 y) as (λ b. xid_eq p.0 y ≡ b → sum_of sums y k ≡ (if b then p.1 else pos 0)) [
-      | true ↦ λ t. ap (λ z. sum_of sums z k) (sym ((Decides-xid_eq p.0 y).0 t)) ∙ ap (λ o. unwrap_or o (pos 0)) h.0
-      | false ↦ λ t. ap (λ o. unwrap_or o (pos 0)) (h.1 y (λ e. let z = (Decides-xid_eq p.0 y).1 (sym e) in cc))
-    ] refl
+amount_is k v1 y sums h = grind (arith, Decides-xid_eq)
 
 pub get_added : (sums : FinMap touch_cmp ℤ) (y x : XidName) (own k : List ℕ) (s : ℤ) → (x ≡ y → k ≡ own → ⊥)
     → map.get (map.insert sums (y, own) s) (x, k) ≡ map.get sums (x, k)
@@ -125,9 +118,7 @@ get_added sums y x own k s apart =
 
 pending_other : (k : List ℕ) (p : Held) (y : XidName) (own : List ℕ) (s : ℤ) (sums : FinMap touch_cmp ℤ) → (k ≡ own → ⊥) → IsPending k p sums
     → IsPending k p (map.insert sums (y, own) s)
-pending_other k None y own s sums apart h = λ x. get_added sums y x own k s (λ _ e. apart e) ∙ h x
-pending_other k (Some p) y own s sums apart h =
-    (get_added sums y p.0 own k s (λ _ e. apart e) ∙ h.0, λ x z. get_added sums y x own k s (λ _ e. apart e) ∙ h.1 x z)
+pending_other k v1 y own s sums apart h = grind (arith, get_added)
 
 no_other : (sums : FinMap touch_cmp ℤ) (y x : XidName) (k : List ℕ) (s : ℤ) → has_other_touched sums y k ≡ false → map.get sums (x, k) ≡ Some s → x ≡ y
 no_other sums y x k s none found =
@@ -146,16 +137,10 @@ pending_own k y s sums none = (
 
 due_own : (k : List ℕ) (p : Held) (y : XidName) (sums : FinMap touch_cmp ℤ) (later : XidName → Bool) → IsPending k p sums → has_other_touched sums y k ≡ false
     → due p later ≡ (if later y then sum_of sums y k else pos 0)
-due_own k None y sums later h none =
-    elim (later y) as (λ b. pos 0 ≡ (if b then sum_of sums y k else pos 0)) [ true ↦ sym (ap (λ o. unwrap_or o (pos 0)) (h y)) | false ↦ refl ]
-due_own k (Some p) y sums later h none =
-    let e : p.0 ≡ y = no_other sums y p.0 k p.1 none h.0 in
-    let amount : sum_of sums y k ≡ p.1 = ap (λ z. sum_of sums z k) (sym e) ∙ ap (λ o. unwrap_or o (pos 0)) h.0 in
-    ap (λ z. if later z then p.1 else pos 0) e ∙ ap (λ w. if later y then w else pos 0) (sym amount)
+due_own k v1 y sums later h none = grind (arith, no_other)
 
 split_due : (b : Bool) (u d : ℤ) → pos 0 +ℤ (if b then u +ℤ d else pos 0) ≡ (if b then u else pos 0) +ℤ (if b then d else pos 0)
-split_due true u d = omega (arith, ints)
-split_due false u d = refl
+split_due v0 u d = grind arith
 
 gained : (k own : List ℕ) (d : ℤ) (p : Held) (l : Association) (T : Tables) → IsPending k p T.sums → has_other_touched T.sums l.xid own ≡ false
     → ValueStep k p (Add own d) (Some l) T (record T { sums = map.insert T.sums (l.xid, own) (sum_of T.sums l.xid own +ℤ d) }, Done)

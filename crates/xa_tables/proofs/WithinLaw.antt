@@ -96,8 +96,7 @@ module _ (t : ℕ) (T : Tables) (s : Sound T) (w : Kept T) where
 
   -- what was touched by a branch that is left when y is gone
   left : (y x : XidName) (k : List ℕ) (r : ℤ) → finmap.get (sums_without T.sums y) (x, k) ≡ Some r → finmap.get T.sums (x, k) ≡ Some r
-  left y x k r at =
-      by_bool (λ b. (if b then None else finmap.get T.sums (x, k)) ≡ Some r → finmap.get T.sums (x, k) ≡ Some r) (xid_eq x y) (λ _ e. cc) (λ _ e. e) (sym (get_without T.sums y x k) ∙ at)
+  left y x k r at = grind (arith, get_without)
 
   -- a branch that is prepared when y is gone, or decided, is another one, and was prepared
   abbrev Left : XidName → Option State → XidName → Type 0
@@ -118,11 +117,7 @@ module _ (t : ℕ) (T : Tables) (s : Sound T) (w : Kept T) where
 
   -- y has no sums, and isn't prepared any more
   drops : (y : XidName) (m : FinMap xid_cmp State) → ((x : XidName) → Left y (finmap.get m x) x) → Kept (record (gone y T) { states = m })
-  drops y m others = record {
-    values = w.values;
-    alone = λ x z k a b at_x at_z. w.alone x z k a b (left y x k a at_x) (left y z k b at_z);
-    prepared = λ x is k r at. w.prepared x (others x is).0 k r (left y x k r at);
-  }
+  drops y m others = grind (arith, left)
 
   -- y, which fits, is added to the values
   posts : (y : XidName) → Fits T y → Posted T y
@@ -211,18 +206,10 @@ opening_kept accounts are = record {
 
 -- a reopening keeps it
 cond_some : (b : Bool) (o : Option ℤ) (r : ℤ) → cond b o None ≡ Some r → (b ≡ true) × (o ≡ Some r)
-cond_some true o r e = (refl, e)
-cond_some false o r e = cc
+cond_some v0 o r e = grind arith
 
 pub kept_over : (T : Tables) → Kept T → Kept (reopened T)
-kept_over T w = record {
-  values = w.values;
-  alone = λ x y k s r at_x at_y. w.alone x y k s r (held x k s at_x).1 (held y k r at_y).1;
-  prepared = λ x is k r at. let before = held x k r at in w.prepared x before.0 k r before.1;
-}
-  where
-    held : (x : XidName) (k : List ℕ) (r : ℤ) → finmap.get (reopened T).sums (x, k) ≡ Some r → (is_prepared T x ≡ true) × (finmap.get T.sums (x, k) ≡ Some r)
-    held x k r at = cond_some (is_prepared T x) (finmap.get T.sums (x, k)) r (sym (sums_reopened T x k) ∙ at)
+kept_over v0 w = grind (arith, cond_some, sums_reopened)
 
 pub kept_by : (before : List History) (T : Tables) → IsOpening T → Kept T → Kept (left_by before T)
 kept_by [] T o w = w

@@ -35,14 +35,7 @@ use Rattle.xa_tables.proofs.Unnamed.{apart_from, unnamed_fate, unnamed_stays, un
 module _ (t : ℕ) (T : Tables) where
   -- a request leaves the associations of the other threads
   pub others_by : (u : ℕ) → u ≢ t → {op : Op} {a : Answer} → Effect t T op a → association_of a.0 u ≡ association_of T u
-  others_by u apart (Starts y free) = other_put T.associations t u _ apart
-  others_by u apart (Joins y free there unprepared) = other_put T.associations t u _ apart
-  others_by u apart (Resumes y own) = other_put T.associations t u _ apart
-  others_by u apart (Suspends y own) = other_put T.associations t u _ apart
-  others_by u apart (Leaves y how c own why) = other_removed T.associations t u apart
-  others_by u apart (Fails y own) = other_removed T.associations t u apart
-  others_by u apart (Idles y own alone) = other_removed T.associations t u apart
-  others_by u apart effect = refl
+  others_by u apart effect = grind (arith, other_put, other_removed)
 
   -- and its thread becomes associated with no branch that it doesn't name
   pub stays_apart : (x : XidName) {op : Op} {a : Answer} → Effect t T op a → names x op ≡ false → is_associated T t x ≡ false → is_associated a.0 t x ≡ false
@@ -63,11 +56,7 @@ OnlyOne t x T = (u : ℕ) → u ≢ t → is_associated T u x ≡ false
 
 -- a thread that isn't associated with x adds nothing to it
 apart_gains : (x : XidName) (op : Op) (c : Code) (l : Option Association) → is_association_with l x ≡ false → gain x op c l ≡ pos 0
-apart_gains x (Add k d) c None e = elim (is_done c) as (λ b. (if b then pos 0 else pos 0) ≡ pos 0) [ true ↦ refl | false ↦ refl ]
-apart_gains x (Add k d) c (Some l) e =
-    ap (λ b. if is_done c then (if b then d else pos 0) else pos 0) e
-    ∙ elim (is_done c) as (λ b. (if b then pos 0 else pos 0) ≡ pos 0) [ true ↦ refl | false ↦ refl ]
-apart_gains x op c l e = refl
+apart_gains x op c l e = grind arith
 
 same_after : (v w : ℤ) → w ≡ pos 0 → v +ℤ w ≡ v
 same_after v w e = omega (arith, ints)
@@ -75,15 +64,11 @@ same_after v w e = omega (arith, ints)
 -- a request that doesn't name it, of such a thread
 unmoved : (x : XidName) (v : ℤ) (r : Request) (T : Tables) → names x r.op ≡ false → is_associated T r.thread x ≡ false
     → unless_ended (ending (fate_of x r.op (next r.thread r.op T).1)) (v +ℤ gain x r.op (next r.thread r.op T).1 (association_of T r.thread)) ≡ v
-unmoved x v r T n apart =
-    let c : Code = (next r.thread r.op T).1 in
-    ap (λ o. unless_ended (ending o) (v +ℤ gain x r.op c (association_of T r.thread))) (unnamed_fate x r.op c n)
-    ∙ same_after v _ (apart_gains x r.op c (association_of T r.thread) apart)
+unmoved x v r v3 n apart = grind (arith, unnamed_fate, same_after, apart_gains)
 
 -- nobody is associated with x
 pub nobody_is : (x : XidName) (T : Tables) → is_somebody_associated T.associations x ≡ false → (u : ℕ) → is_associated T u x ≡ false
-nobody_is x T nobody u =
-    elim (association_of T u) as (λ o. association_of T u ≡ o → is_association_with o x ≡ false) [ None ↦ λ e. refl | Some l ↦ λ e. apart_from x T.associations nobody u l e ] refl
+nobody_is x v1 nobody u = grind (arith, apart_from)
 
 nobody_adds : (x : XidName) (v : ℤ) (h : History) (T : Tables) → is_somebody_associated T.associations x ≡ false → NamesNowhere x h → added_by_now x v h T ≡ v
 nobody_adds x v [] T nobody n = refl
@@ -101,11 +86,7 @@ record LeftAtWork (t : ℕ) (x : XidName) (v : ℤ) (h : History) (T : Tables) :
 
 -- a thread without requests in a history
 pub others_first : (t : ℕ) (r : Request) (h : History) → of_thread t (r ∷ h) ≡ [] → (r.thread ≢ t) × (of_thread t h ≡ [])
-others_first t r h e =
-    elim (r.thread == t) as (λ b. (r.thread == t) ≡ b → cond b (r ∷ of_thread t h) (of_thread t h) ≡ [] → (r.thread ≢ t) × (of_thread t h ≡ [])) [
-      | true ↦ λ own e. cc
-      | false ↦ λ other e. (eqb-false r.thread t other, e)
-    ] refl e
+others_first t r h e = grind (arith, eqb-false)
 
 only_after : (t : ℕ) (x : XidName) (r : Request) (T : Tables) → r.thread ≢ t → names x r.op ≡ false → OnlyOne t x T → OnlyOne t x (next r.thread r.op T).0
 only_after t x r T apart n only u other =

@@ -155,8 +155,7 @@ no_gain x (Add k d) c l shares =
 no_gain x op c l shares = refl
 
 ended_either : (b : Bool) (c : Bool) (u v : ℤ) → v ≡ (if b then pos 0 else u) → v ≡ unless_ended (if b then Some c else None) (u +ℤ pos 0)
-ended_either true c u v e = e
-ended_either false c u v e = e ∙ plus_none u
+ended_either v0 c u v e = grind (arith, plus_none)
 
 module _ (accounts : Accounts) (T : Tables) where
   -- what branches hold once y is gone
