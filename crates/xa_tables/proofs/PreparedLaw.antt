@@ -43,16 +43,12 @@ prepared_law h g x T o p n =
 -- ---- what a branch answers whose outcome is awaited
 
 module _ (t : ℕ) (x : XidName) (T : Tables) (o : has_opened T t ≡ true) where
-  unopened : not (has_opened T t) ≡ false
-  unopened = ap not o
 
   -- whatever it is, unless the manager is shut
   unless_shut : (a : Answer) (c : Code) → a.1 ≡ c → (if T.shut then (T, RmFail) else a).1 ≡ (if T.shut then RmFail else c)
   unless_shut a c e = elim (T.shut) as (λ b. (if b then (T, RmFail) else a).1 ≡ (if b then RmFail else c)) [ true ↦ refl | false ↦ e ]
 
   module _ (h : IsPrepared x T) (free : is_somebody_associated T.associations x ≡ false) where
-    unknown : not (exists T x) ≡ false
-    unknown = ap (λ st. not (is_some st)) h
 
     commit_done : (next t (Commit x false) T).1 ≡ (if T.shut then RmFail else Done)
     unfolding next
@@ -66,8 +62,6 @@ module _ (t : ℕ) (x : XidName) (T : Tables) (o : has_opened T t ≡ true) wher
     awaits = record { state = h; commits = commit_done; rolls_back = rollback_done }
 
   module _ (d : HeuristicDecision) (h : state_of T x ≡ Some (HeuristicallyCompleted d)) where
-    there : not (exists T x) ≡ false
-    there = ap (λ st. not (is_some st)) h
 
     commit_told : (next t (Commit x false) T).1 ≡ (if T.shut then RmFail else decision_code d)
     unfolding next
