@@ -13,14 +13,7 @@ loop-place-init c =
     (changing_none (posted_by c.args.xid.now) (posted_untouched c.args.xid.now) c.args.held.now c.args.accounts.now c.requires.held, c.requires.whole)
 
 pub post_account-requires : goal.post_account-requires
-post_account-requires c =
-    let now = c.loop-place.accounts in
-    let place = get_or c.args.held.now c.loop-place.place-index 0 in
-    let inside = held_within c.args.held.now c.args.accounts.now c.requires.held c.loop-place.place-index c.loop-place-test.true in
-    let within : place < length now = omega (arith, c.loop-place.auto.accounts) in
-    let a = get_or now place c.index-accounts-place.result in
-    let is = get_or_default now place c.index-accounts-place.result a within in
-    passes_none (λ b. is_broken_by b c.args.xid.now) now place a within is c.loop-place.invariant.1
+post_account-requires c = grind (arith, held_within, get_or_default, passes_none)
 
 pub loop-place-preserved : goal.loop-place-preserved
 loop-place-preserved c =

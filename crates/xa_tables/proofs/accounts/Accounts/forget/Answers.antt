@@ -1,4 +1,4 @@
-use Rattle.std.proofs.Common.{◌≡◌, ◌++◌, refl, rules, ap, ◌∙◌, length, take, drop}
+use Rattle.std.proofs.Common.{arith, ◌≡◌, ◌++◌, refl, rules, ap, ◌∙◌, length, take, drop}
 use Rattle.std.specs.Prelude.{filter, map}
 use Rattle.std.specs.FinMap.{from_entries}
 use Rattle.xa_words.specs.Orders.{key_cmp}
@@ -15,9 +15,7 @@ let_go-requires-clause-held c = held_alike c.deref.ensures.value c.deref_mut.ens
 -- each of the accounts was changed
 all : (c : goal.After-keep_held) → take c.self.inside.accounts.len (c.let_go.new.accounts ++ drop (length c.let_go.new.accounts) c.self.inside.accounts.items)
     ≡ map (kept_where (all_but c.args.xid.now)) c.self.inside.accounts.items
-all c =
-    written_whole (kept_where (all_but c.args.xid.now)) c.self.inside.accounts.len _ c.self.inside.accounts.items c.let_go.new.accounts
-    (c.let_go.ensures (all_but c.args.xid.now) (λ y b is. search rules)) c.deref_mut.ensures.value c.deref_mut.ensures.len
+all c = grind (arith, written_whole)
 
 pub returns-clause-sums : goal.returns-clause-sums
 returns-clause-sums c =
@@ -27,9 +25,7 @@ returns-clause-sums c =
     ∙ ap (λ h. sums_without h.sums c.args.xid.now) c.self.view_is
 
 pub returns-clause-values : goal.returns-clause-values
-returns-clause-values c =
-    ap (λ as1. from_entries {R = key_cmp} (value_entries as1)) (all c)
-    ∙ ap (from_entries {R = key_cmp}) (values_kept (all_but c.args.xid.now) c.self.inside.accounts.items) ∙ ap (λ h. h.values) c.self.view_is
+returns-clause-values c = grind (arith, from_entries, key_cmp, all, values_kept)
 
 pub returns-clause-others : goal.returns-clause-others
 returns-clause-others c y apart =

@@ -9,11 +9,7 @@ use Rattle.xa_tables.proofs.PlaceLemmas.{other_at, placed_there, key_there}
 use Rattle.xa_tables.proofs.accounts.Accounts.has_other_touched.Goals as goal
 
 pub index-requires : goal.index-requires
-index-requires c =
-    let items = c.self.inside.accounts.items in
-    let same = length-map items (λ (a : Account). a.key) in
-    let keys : length (keys_of items) ≡ length c.args.self.now.keys = ap (λ h. length h.keys) c.self.view_is in
-    omega (arith, c.requires, c.self.inside.accounts.ok.0)
+index-requires c = grind (arith, length-map)
 
 pub returns : goal.returns
 returns c =

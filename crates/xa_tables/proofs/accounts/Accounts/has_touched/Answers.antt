@@ -1,4 +1,4 @@
-use Rattle.std.proofs.Common.{rules, sym, ap, ◌∙◌}
+use Rattle.std.proofs.Common.{arith, rules, sym, ap, ◌∙◌}
 use Rattle.std.specs.List.{list_any}
 use Rattle.xa_tables.specs.Tables.{has_touched}
 use Rattle.xa_tables.specs.Accounts.{is_held_by}
@@ -10,7 +10,4 @@ pub any_at-requires-clause-held : goal.any_at-requires-clause-held
 any_at-requires-clause-held c = held_alike c.deref-2.ensures.value c.deref.ensures.value c.self.invariant.3
 
 pub returns : goal.returns
-returns c =
-    let x = c.args.xid.now in
-    c.any_at.ensures (λ a. is_held_by a x) (λ a b is. search rules) (touched_held x) ∙ ap (list_any (λ a. is_held_by a x)) c.deref.ensures.value
-    ∙ sym (touched_any c.self.inside.accounts.items x c.self.invariant.0) ∙ ap (λ h. has_touched h.sums x) c.self.view_is
+returns c = grind (arith, touched_held, touched_any)

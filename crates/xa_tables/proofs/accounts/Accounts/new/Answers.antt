@@ -21,8 +21,7 @@ loop-place-init c =
     (none, omega (arith, c.in_ok-places.ensures.room), subst (AreIndexed c.in_ok-places.places.places) (sym none) (λ k. ap (λ m. finmap.get m k) empty ∙ get-empty key_cmp k))
 
 pub signed-requires : goal.signed-requires
-signed-requires c =
-    limit_declared c.args.declared.now c.loop-place.place c.index-declared-place.result c.requires c.loop-place-test.true (ap (λ d. d.1) c.index-declared-place.is)
+signed-requires c = grind (arith, limit_declared)
 
 pub loop-place-preserved : goal.loop-place-preserved
 loop-place-preserved c =
@@ -54,15 +53,7 @@ invariant_of-result c =
     )
 
 pub returns-clause-sums : goal.returns-clause-sums
-returns-clause-sums c =
-    let ds = c.args.declared.now in
-    let all : c.loop-place.accounts.items ≡ map account_of ds =
-    c.loop-place.invariant.0 ∙ ap (map account_of) (take_all c.loop-place.place ds (omega (arith, c.loop-place-test.false))) in
-    ap (λ es. from_entries {R = touch_cmp} es) (ap hold_entries all ∙ holds_declared ds)
+returns-clause-sums c = grind (arith, account_of, take_all, from_entries, holds_declared)
 
 pub returns-clause-values : goal.returns-clause-values
-returns-clause-values c =
-    let ds = c.args.declared.now in
-    let all : c.loop-place.accounts.items ≡ map account_of ds =
-    c.loop-place.invariant.0 ∙ ap (map account_of) (take_all c.loop-place.place ds (omega (arith, c.loop-place-test.false))) in
-    ap (λ as1. from_entries {R = key_cmp} (value_entries as1)) all ∙ values_declared ds
+returns-clause-values c = grind (arith, account_of, take_all, from_entries, key_cmp, values_declared)

@@ -18,15 +18,10 @@ returns-clause-declared c =
 
 -- a place in the accounts is within their keys, and has the key
 within_keys : (k : List ℕ) (items : List Account) (o : Option ℕ) → o ≡ place_in k items → IfSome o (λ i. i < length (keys_of items))
-within_keys k items None e = tt
-within_keys k items (Some i) e =
-    let within : i < length items = place_within k items i (sym e) in
-    let same : length (keys_of items) ≡ length items = length-map items (λ (a : Account). a.key) in
-    omega arith
+within_keys k items v2 e = grind (arith, place_within, length-map)
 
 has_key : (k : List ℕ) (items : List Account) (o : Option ℕ) → o ≡ place_in k items → IfSome o (λ i. slice_index_or (keys_of items) i [] ≡ k)
-has_key k items None e = tt
-has_key k items (Some i) e = key_placed k items i (sym e)
+has_key k items v2 e = grind (arith, key_placed)
 
 pub returns-clause-within : goal.returns-clause-within
 returns-clause-within c =
@@ -35,7 +30,4 @@ returns-clause-within c =
     subst (λ h. IfSome c.get.result (λ i. i < length h.keys)) c.self.view_is (within_keys k items c.get.result (c.get.ensures ∙ c.self.invariant.2 k))
 
 pub returns-clause-placed : goal.returns-clause-placed
-returns-clause-placed c =
-    let k = c.args.key.now in
-    let items = c.self.inside.accounts.items in
-    subst (λ h. IfSome c.get.result (λ i. key_at h i ≡ k)) c.self.view_is (has_key k items c.get.result (c.get.ensures ∙ c.self.invariant.2 k))
+returns-clause-placed c = grind (arith, has_key)

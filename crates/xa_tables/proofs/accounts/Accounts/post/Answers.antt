@@ -1,4 +1,4 @@
-use Rattle.std.proofs.Common.{◌≡◌, ◌++◌, refl, sym, ap, ◌∙◌, length, take, drop}
+use Rattle.std.proofs.Common.{arith, ◌≡◌, ◌++◌, refl, sym, ap, ◌∙◌, length, take, drop}
 use Rattle.std.specs.List.{list_any}
 use Rattle.std.specs.Prelude.{filter, map}
 use Rattle.std.specs.FinMap.{from_entries}
@@ -23,9 +23,7 @@ post_all-requires-clause-held c = held_alike c.deref.ensures.value c.deref_mut.e
 all : (c : goal.After-keep_held)
     → take c.self.inside.accounts.len (c.post_all.new.accounts ++ drop (length c.post_all.new.accounts) c.self.inside.accounts.items)
     ≡ map (posted_by c.args.xid.now) c.self.inside.accounts.items
-all c =
-    written_whole (posted_by c.args.xid.now) c.self.inside.accounts.len _ c.self.inside.accounts.items c.post_all.new.accounts c.post_all.ensures
-    c.deref_mut.ensures.value c.deref_mut.ensures.len
+all c = grind (arith, written_whole)
 
 pub returns-clause-sums : goal.returns-clause-sums
 returns-clause-sums c =
@@ -34,9 +32,7 @@ returns-clause-sums c =
     ∙ sums_go (all_but x) (posted_by x) (posted_goes x) c.self.inside.accounts.items c.self.invariant.0 ∙ ap (λ h. sums_without h.sums x) c.self.view_is
 
 pub returns-clause-values : goal.returns-clause-values
-returns-clause-values c =
-    ap (λ as1. from_entries {R = key_cmp} (value_entries as1)) (all c)
-    ∙ values_posted c.args.xid.now c.self.inside.accounts.items c.self.invariant.0 ∙ ap (λ h. posted h.values h.sums c.args.xid.now) c.self.view_is
+returns-clause-values c = grind (arith, from_entries, key_cmp, all, values_posted)
 
 pub returns-clause-others : goal.returns-clause-others
 returns-clause-others c y apart =

@@ -1,4 +1,4 @@
-use Rattle.std.proofs.Common.{◌≡◌, ◌++◌, rules, sym, ap, ◌∙◌, length, take, drop}
+use Rattle.std.proofs.Common.{arith, ◌≡◌, ◌++◌, rules, sym, ap, ◌∙◌, length, take, drop}
 use Rattle.std.specs.Prelude.{filter, map}
 use Rattle.std.specs.FinMap as finmap
 use Rattle.std.specs.FinMap.{from_entries}
@@ -16,10 +16,7 @@ let_go-requires-clause-held c = held_alike c.deref.ensures.value c.deref_mut.ens
 -- each of the accounts was changed
 all : (c : goal.After-keep_held) → take c.self.inside.accounts.len (c.let_go.new.accounts ++ drop (length c.let_go.new.accounts) c.self.inside.accounts.items)
     ≡ map (kept_where (prepared_in c.args.branches.now.states)) c.self.inside.accounts.items
-all c =
-    let keep = prepared_in c.args.branches.now.states in
-    written_whole (kept_where keep) c.self.inside.accounts.len _ c.self.inside.accounts.items c.let_go.new.accounts
-    (c.let_go.ensures keep (λ y b is. search rules)) c.deref_mut.ensures.value c.deref_mut.ensures.len
+all c = grind (arith, written_whole)
 
 pub returns-clause-sums : goal.returns-clause-sums
 returns-clause-sums c =
@@ -29,9 +26,7 @@ returns-clause-sums c =
     ∙ ap (λ h. finmap.retain_keys h.sums (λ p. keep p.0)) c.self.view_is
 
 pub returns-clause-values : goal.returns-clause-values
-returns-clause-values c =
-    ap (λ as1. from_entries {R = key_cmp} (value_entries as1)) (all c)
-    ∙ ap (from_entries {R = key_cmp}) (values_kept (prepared_in c.args.branches.now.states) c.self.inside.accounts.items) ∙ ap (λ h. h.values) c.self.view_is
+returns-clause-values c = grind (arith, from_entries, key_cmp, all, values_kept)
 
 pub invariant_of-self : goal.invariant_of-self
 invariant_of-self c =

@@ -9,17 +9,10 @@ use Rattle.xa_tables.proofs.PlaceLemmas.{place_within, value_at, value_none}
 use Rattle.xa_tables.proofs.accounts.Accounts.value.Goals as goal
 
 pub index-requires : goal.index-requires
-index-requires c =
-    let items = c.self.inside.accounts.items in
-    let there = sym (c.self.invariant.2 c.args.key.now) ∙ sym c.get.ensures ∙ c.in_ok-place.was in
-    omega (arith, place_within c.args.key.now items c.in_ok-place.place there, c.self.inside.accounts.ok.0)
+index-requires c = grind (arith, place_within)
 
 pub committed-requires : goal.committed-requires
-committed-requires c =
-    let items = c.self.inside.accounts.items in
-    let there = sym (c.self.invariant.2 c.args.key.now) ∙ sym c.get.ensures ∙ c.in_ok-place.was in
-    let good = c.self.invariant.1 c.in_ok-place.place c.index.result.now (place_within c.args.key.now items c.in_ok-place.place there) in
-    subst (λ a. pos 0 ≤ℤ a.value) (sym c.index.ensures) good.0
+committed-requires c = grind (arith, place_within)
 
 pub returns-clause-value : goal.returns-clause-value
 returns-clause-value c =
@@ -36,11 +29,4 @@ returns-in_err-place-clause-value c =
     ∙ sym (get-from_entries key_cmp_total (value_entries items) c.args.key.now) ∙ ap (λ h. finmap.get h.values c.args.key.now) c.self.view_is
 
 pub returns-clause-bounded : goal.returns-clause-bounded
-returns-clause-bounded c =
-    let items = c.self.inside.accounts.items in
-    let there = sym (c.self.invariant.2 c.args.key.now) ∙ sym c.get.ensures ∙ c.in_ok-place.was in
-    let good = c.self.invariant.1 c.in_ok-place.place c.index.result.now (place_within c.args.key.now items c.in_ok-place.place there) in
-    let within : c.index.result.now.value ≤ℤ pos 1000000000000 = subst (λ a. a.value ≤ℤ pos 1000000000000) (sym c.index.ensures) good.1 in
-    let is : pos c.committed.result ≡ c.index.result.now.value = c.committed.ensures in
-    let small : pos c.committed.result ≤ℤ pos 1000000000000 = subst (λ v. v ≤ℤ pos 1000000000000) (sym is) within in
-    omega (arith, ints, small)
+returns-clause-bounded c = grind (arith, place_within)

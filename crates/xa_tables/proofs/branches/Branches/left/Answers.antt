@@ -1,4 +1,4 @@
-use Rattle.std.proofs.Common.{◌++◌, ap, append-nil, sym, refl, rules, ◌∙◌, ◌≡◌, Some, Bool, subst}
+use Rattle.std.proofs.Common.{arith, ◌++◌, ap, append-nil, sym, refl, rules, ◌∙◌, ◌≡◌, Some, Bool, subst}
 use Rattle.std.specs.Prelude.{filter, Option, None, is_some, cond, false, true}
 use Rattle.std.specs.FinMap as map
 use Rattle.std.specs.List.{IsDistinct, list_any}
@@ -20,8 +20,7 @@ abbrev is_kept : State → Bool
 is_kept s = is_left_in (Some s)
 
 there : (o : Option State) → is_some (option_filter is_kept o) ≡ is_left_in o
-there None = refl
-there (Some s) = elim (is_kept s) as (λ b. is_some (cond b (Some s) None) ≡ b) [ true ↦ refl | false ↦ refl ]
+there v0 = grind arith
 
 -- before they are sorted: the keys of the entries that are left
 all_left : (c : goal.After-sort_unstable) → c.loop-xid.left.items ≡ keys_of (filter (λ e. is_kept e.1) c.self.inside.states.entries)

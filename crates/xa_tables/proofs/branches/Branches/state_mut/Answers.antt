@@ -1,4 +1,4 @@
-use Rattle.std.proofs.Common.{◌≡◌, Option, None, Some, is_some, true, ap, refl, sym, ◌∙◌}
+use Rattle.std.proofs.Common.{arith, ◌≡◌, Option, None, Some, is_some, true, ap, refl, sym, ◌∙◌}
 use Rattle.std.specs.Option.{OnSome, option_copied_mut}
 use Rattle.std.specs.HashMap.{spare}
 use Rattle.std.specs.FinMap as map
@@ -11,8 +11,7 @@ use Rattle.xa_tables.proofs.SoundLemmas.{put_same}
 use Rattle.xa_tables.proofs.branches.Branches.state_mut.Goals as goal
 
 where_some : (r : Option (MutBor State)) (P : Type 0) → (is_some (option_copied_mut r) ≡ true → P) → OnSome r P
-where_some None P p = tt
-where_some (Some s) P p = p refl
+where_some v0 v1 p = grind arith
 
 pub returns : goal.returns
 returns c =

@@ -6,10 +6,7 @@ use Rattle.xa_tables.proofs.ThreadLemmas.{thread_given, open_same}
 use Rattle.xa_tables.proofs.threads.Threads.associate.Goals as goal
 
 pub returns-clause-associations : goal.returns-clause-associations
-returns-clause-associations c =
-    let last : c.args.thread ≤ length c.self.inside.threads.items = omega (arith, ap (λ s. s.threads) c.self.view_is) in
-    thread_given association_in c.self.inside.threads.items c.args.thread _ _ c.requires.first last refl
-    ∙ ap (λ s. map.insert s.associations c.args.thread (association c.args.xid.now c.args.state)) c.self.view_is
+returns-clause-associations c = grind (arith, thread_given)
 
 pub returns-clause-opened : goal.returns-clause-opened
 returns-clause-opened c =

@@ -5,10 +5,7 @@ use Rattle.xa_tables.proofs.ThreadLemmas.{thread_given, open_same}
 use Rattle.xa_tables.proofs.threads.Threads.dissociate.Goals as goal
 
 pub returns-clause-associations : goal.returns-clause-associations
-returns-clause-associations c =
-    let last : c.args.thread ≤ length c.self.inside.threads.items = omega (arith, ap (λ s. s.threads) c.self.view_is) in
-    thread_given association_in c.self.inside.threads.items c.args.thread _ _ c.requires.first last refl
-    ∙ ap (λ s. map.remove s.associations c.args.thread) c.self.view_is
+returns-clause-associations c = grind (arith, thread_given)
 
 pub returns-clause-opened : goal.returns-clause-opened
 returns-clause-opened c =

@@ -1,4 +1,4 @@
-use Rattle.std.proofs.Common.{◌≡◌, ap, sym, refl, ◌∙◌}
+use Rattle.std.proofs.Common.{arith, ◌≡◌, ap, sym, refl, ◌∙◌}
 use Rattle.std.specs.Prelude.{None, Some, false, Option}
 use Rattle.std.specs.List.{list_any}
 use Rattle.xa_words.specs.Xid.{XidName, xid_eq}
@@ -10,8 +10,7 @@ use Rattle.xa_tables.proofs.ThreadLemmas.{any_thread}
 use Rattle.xa_tables.proofs.threads.Threads.is_somebody_associated.Goals as goal
 
 same_test : (x : XidName) (o : Option Association) → is_association_with o x ≡ (elim o [ None ↦ false | Some v ↦ xid_eq v.xid x ])
-same_test x None = refl
-same_test x (Some l) = refl
+same_test x v1 = grind arith
 
 pub returns : goal.returns
 returns c =

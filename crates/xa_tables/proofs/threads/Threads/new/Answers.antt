@@ -1,4 +1,4 @@
-use Rattle.std.proofs.Common.{ap, refl, ◌∙◌}
+use Rattle.std.proofs.Common.{arith, ap, refl, ◌∙◌}
 use Rattle.std.specs.Ordering.{nat_cmp}
 use Rattle.std.specs.FinMap.{from_entries}
 use Rattle.xa_tables.specs.Views.{open_mark, association_in, entries_from}
@@ -7,12 +7,7 @@ use Rattle.xa_tables.proofs.ThreadLemmas.{none_from}
 use Rattle.xa_tables.proofs.threads.Threads.new.Goals as goal
 
 pub returns-clause-nobody : goal.returns-clause-nobody
-returns-clause-nobody c =
-    let is = c.in_ok-vec.ensures.items_if_clones_equal (λ y e. e) in
-    ap (λ ss. marked (entries_from open_mark 1 ss)) is ∙ ap marked (none_from open_mark _ c.args.threads 1 refl)
+returns-clause-nobody c = grind (arith, marked, none_from)
 
 pub returns-clause-free : goal.returns-clause-free
-returns-clause-free c =
-    let is = c.in_ok-vec.ensures.items_if_clones_equal (λ y e. e) in
-    ap (λ ss. from_entries {R = nat_cmp} (entries_from association_in 1 ss)) is
-    ∙ ap (from_entries {R = nat_cmp}) (none_from association_in _ c.args.threads 1 refl)
+returns-clause-free c = grind (arith, from_entries, none_from)

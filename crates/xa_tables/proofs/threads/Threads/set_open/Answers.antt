@@ -12,7 +12,4 @@ returns-clause-opened c =
     ∙ ap (λ s. if c.args.is_open then set.insert s.opened c.args.thread else set.remove s.opened c.args.thread) c.self.view_is
 
 pub returns-clause-associations : goal.returns-clause-associations
-returns-clause-associations c =
-    let last : c.args.thread ≤ length c.self.inside.threads.items = omega (arith, ap (λ s. s.threads) c.self.view_is) in
-    thread_same association_in c.self.inside.threads.items c.args.thread _ c.index_mut.result.now c.requires.first last (ap association_in c.index_mut.ensures.value)
-    ∙ ap (λ s. s.associations) c.self.view_is
+returns-clause-associations c = grind (arith, thread_same)
