@@ -90,9 +90,7 @@ at_key k (a ∷ rest) = cond (same_key k a.key) (Some a) (at_key k rest)
 -- its value is found
 pub value_found : (k : List ℕ) (accounts : List Account) → find key_cmp k (value_entries accounts) ≡ option_map (λ (a : Account). a.value) (at_key k accounts)
 value_found k [] = refl
-value_found k (a ∷ rest) =
-    by_bool (λ b. cond b (Some a.value) (find key_cmp k (value_entries rest)) ≡ option_map (λ (c : Account). c.value) (cond b (Some a) (at_key k rest))) (same_key k a.key)
-    (λ _. refl) (λ _. value_found k rest)
+value_found k (a ∷ rest) = grind (arith, (value_found k rest), find, key_cmp)
 
 lacks_key : (k : List ℕ) (accounts : List Account) → Lacks k accounts → at_key k accounts ≡ None
 lacks_key k accounts h = grind (arith, value_found)
@@ -104,12 +102,8 @@ key_lacks k accounts e = value_found k accounts ∙ ap (option_map (λ (a : Acco
 pub at_own_key : (accounts : List Account) (i : ℕ) (a : Account) → AreDistinct accounts → i < length accounts → a ≡ get_or accounts i a
     → at_key a.key accounts ≡ Some a
 at_own_key [] i a dist h e = absurd (omega arith)
-at_own_key (c ∷ rest) zero a dist h e =
-    ap (λ b. cond b (Some c) (at_key a.key rest)) (ap (λ (w : Account). same_key w.key c.key) e ∙ key_self c.key) ∙ ap (λ (w : Account). Some w) (sym e)
-at_own_key (c ∷ rest) (suc i) a dist h e =
-    let later = at_own_key rest i a dist.1 (omega arith) e in
-    ap (λ b. cond b (Some c) (at_key a.key rest)) (key_apart a.key c.key (λ is. let none = ap (λ k. at_key k rest) is ∙ lacks_key c.key rest dist.0 in cc))
-    ∙ later
+at_own_key (c ∷ rest) zero a dist h e = grind (arith, key_self)
+at_own_key (c ∷ rest) (suc i) a dist h e = grind (arith, (at_own_key rest i a dist.1 (omega arith) e), key_apart, lacks_key)
 
 -- what x holds by an account
 abbrev hold_amount : XidName → Option Hold → Option ℤ
@@ -226,18 +220,13 @@ kept_goes keep = record { key = λ a. refl; hold = λ a. refl }
 at_key_map : (f : Account → Account) → ((a : Account) → (f a).key ≡ a.key) → (k : List ℕ) (accounts : List Account)
     → at_key k (map f accounts) ≡ option_map f (at_key k accounts)
 at_key_map f keys k [] = refl
-at_key_map f keys k (a ∷ rest) =
-    (λ i. cond (same_key k (keys a i)) (Some (f a)) (at_key_map f keys k rest i))
-    ∙ by_bool (λ b. cond b (Some (f a)) (option_map f (at_key k rest)) ≡ option_map f (cond b (Some a) (at_key k rest))) (same_key k a.key) (λ _. refl) (λ _. refl)
+at_key_map f keys k (a ∷ rest) = grind (arith, (at_key_map f keys k rest))
 
 -- so the keys stay apart
 pub distinct_changed : (f : Account → Account) → ((a : Account) → (f a).key ≡ a.key) → (accounts : List Account) → AreDistinct accounts
     → AreDistinct (map f accounts)
 distinct_changed f keys [] h = tt
-distinct_changed f keys (a ∷ rest) h = (
-  key_lacks (f a).key (map f rest) (ap (λ k. at_key k (map f rest)) (keys a) ∙ at_key_map f keys a.key rest ∙ ap (option_map f) (lacks_key a.key rest h.0)),
-  distinct_changed f keys rest h.1,
-)
+distinct_changed f keys (a ∷ rest) h = grind (arith, (distinct_changed f keys rest h.1), key_lacks, at_key_map, lacks_key)
 
 cond_none : (b : Bool) → ◌≡◌ {A = Option ℤ} (cond b None None) None
 cond_none v0 = grind arith
@@ -287,11 +276,7 @@ forgotten_breaks x y apart v v4 = grind (arith, false_from_ne_true, Decides-xid_
 
 pub settled_breaks : (x y : XidName) → y ≢ x → (v : ℤ) (o : Option Hold) → hold_breaks (v +ℤ amount_of o x) (hold_without o x) y ≡ hold_breaks v o y
 settled_breaks x y apart v None = refl
-settled_breaks x y apart v (Some l) =
-    elim (xid_eq l.xid x) as (λ b. xid_eq l.xid x ≡ b → hold_breaks (v +ℤ (if b then l.amount else pos 0)) (if not b then Some l else None) y ≡ (xid_eq l.xid y && not (is_within (v +ℤ l.amount)))) [
-      | true ↦ λ t. sym (ap (λ b. b && not (is_within (v +ℤ l.amount))) (false_from_ne_true (xid_eq l.xid y) (λ s. apart (sym ((Decides-xid_eq l.xid y).0 s) ∙ (Decides-xid_eq l.xid x).0 t))))
-      | false ↦ λ t. ap (λ w. xid_eq l.xid y && not (is_within (w +ℤ l.amount))) (plus_none v)
-    ] refl
+settled_breaks x y apart v (Some l) = grind (arith, false_from_ne_true, Decides-xid_eq, plus_none)
 
 -- and so once each account was changed by f, which leaves the keys
 pub others_as_were : (f : Account → Account) → ((a : Account) → (f a).key ≡ a.key) → (accounts : List Account) (y : XidName) → AreDistinct accounts

@@ -60,8 +60,7 @@ reopened_law x f v2 w = grind (arith, tells_told, state_reopened, reopened_tells
 left_told : (before : List History) (x : XidName) (f : Fate) (T : Tables) → IsOpening T → IsFateOf x f T
     → IsFateOf x (fate_left x f before T) (left_by before T)
 left_told [] x f T o w = w
-left_told (h ∷ hs) x f T o w =
-    left_told hs x (reopened_fate (fate x f h T)) (reopened (tables_after h T)) (reopens (tables_after h T)) (reopened_law x (fate x f h T) (tables_after h T) (kept_law h x f T o w))
+left_told (h ∷ hs) x f T o w = grind (arith, (left_told hs x (reopened_fate (fate x f h T)) (reopened (tables_after h T)) (reopens (tables_after h T)) (reopened_law x (fate x f h T) (tables_after h T) (kept_law h x f T o w))), reopens, reopened_law, kept_law)
 
 -- each branch is absent at a first opening
 pub first_law : (x : XidName) (T : Tables) → IsNew T → IsFateOf x Absent T

@@ -27,10 +27,7 @@ keeps_more places old new k = record { threads = k.threads; spare = omega (arith
 -- nobody is free where nobody has it open
 pub none_free : (n : ℕ) (T : Tables) → ((u : ℕ) → has_opened T u ≡ false) → free_threads n T ≡ 0
 none_free zero T closed = refl
-none_free (suc n) T closed =
-    let here : counted (is_free T (suc n)) ≡ 0 = ap (λ b. counted (b && not (has_association T (suc n)))) (closed (suc n)) in
-    let rest = none_free n T closed in
-    omega arith
+none_free (suc n) T closed = grind (arith, (none_free n T closed))
 
 at_most_one : (b : Bool) → counted b ≤ 1
 at_most_one v0 = grind arith
@@ -39,10 +36,7 @@ at_most_one v0 = grind arith
 module _ (t : ℕ) (T U : Tables) (others : (u : ℕ) → u ≢ t → is_free U u ≡ is_free T u) where
   same_below : (n : ℕ) → n < t → free_threads n U ≡ free_threads n T
   same_below zero h = refl
-  same_below (suc n) h =
-      let here : is_free U (suc n) ≡ is_free T (suc n) = others (suc n) (λ e. omega arith) in
-      let rest : free_threads n U ≡ free_threads n T = same_below n (omega arith) in
-      λ i. counted (here i) + rest i
+  same_below (suc n) h = grind (arith, (same_below n (omega arith)))
 
   one_changes : (n : ℕ) → 0 < t → t ≤ n → free_threads n U + counted (is_free T t) ≡ free_threads n T + counted (is_free U t)
   one_changes zero p h = absurd (omega arith)

@@ -168,13 +168,11 @@ changing_all f held old now i h past =
 -- what is let go stays so
 where_twice : (keep : XidName → Bool) (o : Option Hold) → hold_where keep (hold_where keep o) ≡ hold_where keep o
 where_twice keep None = refl
-where_twice keep (Some l) =
-    elim (keep l.xid) as (λ b. keep l.xid ≡ b → hold_where keep (if b then Some l else None) ≡ (if b then Some l else None)) [ true ↦ λ t. ap (λ b. if b then Some l else None) t | false ↦ λ t. refl ] refl
+where_twice keep (Some l) = grind arith
 
 amount_gone : (x : XidName) (o : Option Hold) → amount_of (hold_without o x) x ≡ pos 0
 amount_gone x None = refl
-amount_gone x (Some l) =
-    elim (xid_eq l.xid x) as (λ b. xid_eq l.xid x ≡ b → amount_of (if not b then Some l else None) x ≡ pos 0) [ true ↦ λ t. refl | false ↦ λ t. ap (λ b. if b then l.amount else pos 0) t ] refl
+amount_gone x (Some l) = grind arith
 
 pub posted_twice : (x : XidName) (a : Account) → posted_by x (posted_by x a) ≡ posted_by x a
 posted_twice x a =
@@ -220,17 +218,11 @@ where_held keep (Some l) h = refl
 
 kept_all : (P : ℕ → Type 0) (test : ℕ → Bool) (ps : List ℕ) → AllByRecursion P ps → AllByRecursion P (filter test ps)
 kept_all P test [] h = tt
-kept_all P test (p ∷ ps) h =
-    elim (test p) as (λ b. AllByRecursion P (cond b (p ∷ filter test ps) (filter test ps))) [ true ↦ (h.0, kept_all P test ps h.1) | false ↦ kept_all P test ps h.1 ]
+kept_all P test (p ∷ ps) h = grind (arith, (kept_all P test ps h.1))
 
 kept_once : (test : ℕ → Bool) (ps : List ℕ) → IsDistinct nat_eq ps → IsDistinct nat_eq (filter test ps)
 kept_once test [] h = h
-kept_once test (p ∷ ps) h =
-    let later = kept_once test ps (IsDistinct-tail nat_eq p ps h) in
-    elim (test p) as (λ b. IsDistinct nat_eq (cond b (p ∷ filter test ps) (filter test ps))) [
-      | true ↦ IsDistinct-cons nat_eq p (filter test ps) (kept_all (λ y. nat_eq p y ≡ false) test ps (IsDistinct-head nat_eq p ps h)) later
-      | false ↦ later
-    ]
+kept_once test (p ∷ ps) h = grind (arith, (kept_once test ps (IsDistinct-tail nat_eq p ps h)), IsDistinct-tail, IsDistinct-cons, kept_all, IsDistinct-head)
 
 -- once some branches let go of their keys
 held_kept : (f : Account → Account) → ((a : Account) → is_held (f a) ≡ true → is_held a ≡ true) → (held : List ℕ) (accounts : List Account)

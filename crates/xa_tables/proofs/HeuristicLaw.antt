@@ -76,9 +76,7 @@ module _ (t : ℕ) (x : XidName) (T : Tables) (u : is_prepared T x ≡ false) wh
   by_effect (Joins y free there unprepared) n = ap is_S3 (others_put T.states y Active x (differs x y n)) ∙ u
   by_effect (Fails y own) n = ap is_S3 (others_put T.states y (RollbackOnly Failed) x (differs x y n)) ∙ u
   by_effect (Idles y own alone) n = ap is_S3 (others_put T.states y Idle x (differs x y n)) ∙ u
-  by_effect (Dooms k d l own) n =
-      ap is_S3 (get_put T l.xid x (RollbackOnly Transient))
-      ∙ elim (xid_eq l.xid x) as (λ b. is_S3 (if b then Some (RollbackOnly Transient) else state_of T x) ≡ false) [ true ↦ refl | false ↦ u ]
+  by_effect (Dooms k d l own) n = grind (arith, get_put)
   by_effect (Prepares y free unbroken) n = ap is_S3 (others_put T.states y S3 x (differs x y n)) ∙ u
   by_effect (Commits y one_phase free may) n = ap is_S3 (others_removed T.states y x (differs x y n)) ∙ u
   by_effect (Drops op y c free tells) n = ap is_S3 (others_removed T.states y x (differs x y (sym (tells.named x) ∙ n))) ∙ u
@@ -102,9 +100,7 @@ module _ (t : ℕ) (x : XidName) (T : Tables) (u : is_prepared T x ≡ false) wh
 
   by_name : (op : Op) → names x op ≡ true → (is_heur op || is_forget op) ≡ true → Rests op (next t op T)
   by_name (Heur y commits) n h = by_decision (Heur y commits) _ (decides t x (Heur y commits) T n refl)
-  by_name (Forget y) n h =
-      let same : y ≡ x = (Decides-xid_eq y x).0 n in
-      record { unprepared = ap (λ z. is_prepared (next t (Forget z) T).0 x) same ∙ forget_step; quiet = refl }
+  by_name (Forget y) n h = grind (arith, Decides-xid_eq, forget_step)
   by_name op n h = cc
 
   rests : (op : Op) → (names x op ≡ true → (is_heur op || is_forget op) ≡ true) → Rests op (next t op T)

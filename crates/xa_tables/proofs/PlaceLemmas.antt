@@ -72,12 +72,7 @@ key_placed k accounts i e =
 -- a key has a place exactly where it has a value
 pub place_some : (k : List ℕ) (accounts : List Account) → is_some (place_in k accounts) ≡ is_some (find key_cmp k (value_entries accounts))
 place_some k [] = refl
-place_some k (a ∷ rest) =
-    elim (place_in k rest) as (λ o. is_some o ≡ is_some (find key_cmp k (value_entries rest)) → is_some (later_place o (key_eq a.key k)) ≡ is_some (cond (same_key k a.key) (Some a.value) (find key_cmp k (value_entries rest)))) [
-      | Some j ↦ λ there. elim (same_key k a.key) as (λ b. true ≡ is_some (cond b (Some a.value) (find key_cmp k (value_entries rest)))) [ true ↦ refl | false ↦ there ]
-      | None ↦ λ there. ap (λ b. is_some (later_place None b)) (swapped k a.key)
-          ∙ elim (same_key k a.key) as (λ b. is_some (later_place None b) ≡ is_some (cond b (Some a.value) (find key_cmp k (value_entries rest)))) [ true ↦ refl | false ↦ there ]
-    ] (place_some k rest)
+place_some k (a ∷ rest) = grind (arith, (place_some k rest), find, key_cmp, same_key, swapped)
 
 -- a key's value, by its place
 pub value_none : (k : List ℕ) (accounts : List Account) → place_in k accounts ≡ None → find key_cmp k (value_entries accounts) ≡ None
@@ -91,9 +86,7 @@ value_at k accounts i a dist there e = grind (arith, find, key_cmp, place_key, v
 -- one more account at the end
 place_push : (k : List ℕ) (xs : List Account) (a : Account) → place_in k (xs ++ a ∷ []) ≡ cond (key_eq a.key k) (Some (length xs)) (place_in k xs)
 place_push k [] a = elim (key_eq a.key k) as (λ b. ◌≡◌ {A = Option ℕ} (if b then Some 0 else None) (cond b (Some 0) None)) [ true ↦ refl | false ↦ refl ]
-place_push k (c ∷ xs) a =
-    ap (λ o. later_place o (key_eq c.key k)) (place_push k xs a)
-    ∙ elim (key_eq a.key k) as (λ b. later_place (cond b (Some (length xs)) (place_in k xs)) (key_eq c.key k) ≡ cond b (Some (suc (length xs))) (later_place (place_in k xs) (key_eq c.key k))) [ true ↦ refl | false ↦ refl ]
+place_push k (c ∷ xs) a = grind (arith, (place_push k xs a))
 
 pub indexed_push : (places : FinMap key_cmp ℕ) (xs : List Account) (a : Account) → AreIndexed places xs
     → AreIndexed (finmap.insert places a.key (length xs)) (xs ++ a ∷ [])
@@ -131,11 +124,7 @@ lacks_place k accounts h =
 pub placed_there : (accounts : List Account) (i : ℕ) (a : Account) → AreDistinct accounts → i < length accounts → a ≡ get_or accounts i a
     → place_in a.key accounts ≡ Some i
 placed_there [] i a dist h e = absurd (omega arith)
-placed_there (c ∷ rest) zero a dist h e =
-    let same : c.key ≡ a.key = ap (λ (w : Account). w.key) (sym e) in
-    let here : key_eq c.key a.key ≡ true = (Decides-key_eq c.key a.key).1 same in
-    let none : Lacks a.key rest = ap (λ z. find key_cmp z (value_entries rest)) (sym same) ∙ dist.0 in
-    λ i. later_place (lacks_place a.key rest none i) (here i)
+placed_there (c ∷ rest) zero a dist h e = grind (arith, Decides-key_eq, find, key_cmp, lacks_place)
 placed_there (c ∷ rest) (suc i) a dist h e = ap (λ o. later_place o (key_eq c.key a.key)) (placed_there rest i a dist.1 (omega arith) e)
 
 -- nobody holds a key without a place

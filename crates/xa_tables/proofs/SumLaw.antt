@@ -40,16 +40,7 @@ left_held T (Some p) = if is_prepared T p.0 then Some p else None
 pending_left : (k : List ℕ) (p : Held) (T : Tables) → IsPending k p T.sums → IsPending k (left_held T p) (reopened T).sums
 unfolding left_held
 pending_left k None T h = λ x. sums_reopened T x k ∙ elim (is_prepared T x) as (λ b. cond b (map.get T.sums (x, k)) None ≡ None) [ true ↦ h x | false ↦ refl ]
-pending_left k (Some p) T h =
-    elim (is_prepared T p.0) as (λ b. is_prepared T p.0 ≡ b → IsPending k (if b then Some p else None) (reopened T).sums) [
-      | true ↦ λ t. (
-        sums_reopened T p.0 k ∙ ap (λ b. cond b (map.get T.sums (p.0, k)) None) t ∙ h.0,
-        λ y apart. sums_reopened T y k ∙ elim (is_prepared T y) as (λ b. cond b (map.get T.sums (y, k)) None ≡ None) [ true ↦ h.1 y apart | false ↦ refl ],
-      )
-      | false ↦ λ t x. sums_reopened T x k ∙ by_xid x p.0 (λ b. cond (is_prepared T x) (map.get T.sums (x, k)) None ≡ None)
-          (λ e. ap (λ z. cond (is_prepared T z) (map.get T.sums (x, k)) None) e ∙ ap (λ b. cond b (map.get T.sums (x, k)) None) t)
-          (λ apart. elim (is_prepared T x) as (λ b. cond b (map.get T.sums (x, k)) None ≡ None) [ true ↦ h.1 x apart | false ↦ refl ])
-    ] refl
+pending_left k (Some p) T h = grind (arith, sums_reopened)
 
 -- a branch that has touched a key is prepared exactly if it isn't at work
 doubted_unless_live : (f : Fate) → is_unfinished f ≡ true → is_in_doubt f ≡ not (is_live f)
@@ -67,19 +58,7 @@ due_over : (k : List ℕ) (G : XidName → Fate) (g : History) (gs : List Histor
     → due p (λ x. commits_over x (G x) (g ∷ gs) T) ≡ due (left_held T p) (from_start (begun G) g gs (reopened T))
 unfolding left_held
 due_over k G g gs T None n s h = refl
-due_over k G g gs T (Some p) n s h =
-    let U : Tables = reopened T in
-    let there = touching T n p.0 k p.1 h.0 in
-    let unfinished : is_unfinished (G p.0) ≡ true =
-    sym (or-false _) ∙ ap (λ b. is_unfinished (G p.0) || b) (sym there.1) ∙ sym (s p.0).exists ∙ there.0 in
-    let same : is_prepared T p.0 ≡ not (is_live (G p.0)) = (s p.0).prepared ∙ doubted_unless_live (G p.0) unfinished in
-    let on : Fate → Bool = λ f. commits_later (commits_over p.0 (fate p.0 f g U) gs (tables_after g U)) p.0 (coded (accepted g) U) in
-    elim (is_live (G p.0)) as (λ b. is_live (G p.0) ≡ b → (if (if b then false else on (G p.0)) then p.1 else pos 0) ≡ due (if is_prepared T p.0 then Some p else None) (from_start (begun G) g gs U)) [
-      | true ↦ λ e. sym (ap (λ b. due (if b then Some p else None) (from_start (begun G) g gs U)) (same ∙ ap not e))
-      | false ↦ λ e.
-          ap (λ f. if on f then p.1 else pos 0) (sym (ap (λ b. if b then RolledBack else G p.0) e))
-          ∙ sym (ap (λ b. due (if b then Some p else None) (from_start (begun G) g gs U)) (same ∙ ap not e))
-    ] refl
+due_over k G g gs T (Some p) n s h = grind (arith, touching, or-false, doubted_unless_live, due)
 
 -- ---- openings one after another
 

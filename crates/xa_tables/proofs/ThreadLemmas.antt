@@ -35,12 +35,7 @@ same_nat-apart q k h = elim (same_nat q k) as (λ b. same_nat q k ≡ b → b �
 module _ {S X : Type 0} (f : S → Option X) where
   absent : (q n : ℕ) (ss : List S) → q < n → find nat_cmp q (entries_from f n ss) ≡ None
   absent q n [] h = refl
-  absent q n (s ∷ ss) h =
-      let rest : find nat_cmp q (entries_from f (suc n) ss) ≡ None = absent q (suc n) ss (omega arith) in
-      elim (f s) as (λ o. find nat_cmp q (with_entry n o (entries_from f (suc n) ss)) ≡ None) [
-        | None ↦ rest
-        | Some v ↦ ap (λ b. cond b (Some v) (find nat_cmp q (entries_from f (suc n) ss))) (same_nat-apart q n (λ e. omega arith)) ∙ rest
-      ]
+  absent q n (s ∷ ss) h = grind (arith, (absent q (suc n) ss (omega arith)), find, same_nat-apart)
 
   -- what f reads of the place that has the number q
   look : ℕ → List S → ℕ → Option X
@@ -50,36 +45,19 @@ module _ {S X : Type 0} (f : S → Option X) where
   find-look : (q n : ℕ) (ss : List S) → find nat_cmp q (entries_from f n ss) ≡ look n ss q
   unfolding look
   find-look q n [] = refl
-  find-look q n (s ∷ ss) =
-      let rest = find-look q (suc n) ss in
-      elim (f s) as (λ o. find nat_cmp q (with_entry n o (entries_from f (suc n) ss)) ≡ cond (same_nat q n) o (look (suc n) ss q)) [
-        | None ↦ elim (same_nat q n) as (λ b. same_nat q n ≡ b → find nat_cmp q (entries_from f (suc n) ss) ≡ cond b None (look (suc n) ss q)) [
-          | true ↦ λ t. absent q (suc n) ss (let e = same_nat-yes q n t in omega arith)
-          | false ↦ λ t. rest
-        ] refl
-        | Some v ↦ ap (cond (same_nat q n) (Some v)) rest
-      ]
+  find-look q n (s ∷ ss) = grind (arith, (find-look q (suc n) ss), find, look, absent, same_nat-yes)
 
   look-set : (ss : List S) (i n k q : ℕ) (s : S) → k ≡ n + i → i < length ss → look n (set ss i s) q ≡ cond (same_nat q k) (f s) (look n ss q)
   unfolding look
   look-set [] i n k q s e h = absurd (omega arith)
-  look-set (x ∷ ss) zero n k q s e h =
-      let same : n ≡ k = omega arith in
-      subst (λ (m : ℕ). cond (same_nat q n) (f s) (look (suc n) ss q) ≡ cond (same_nat q m) (f s) (cond (same_nat q n) (f x) (look (suc n) ss q))) same
-      (elim (same_nat q n) as (λ b. cond b (f s) (look (suc n) ss q) ≡ cond b (f s) (cond b (f x) (look (suc n) ss q))) [ true ↦ refl | false ↦ refl ])
-  look-set (x ∷ ss) (suc j) n k q s e h =
-      let rest = look-set ss j (suc n) k q s (omega arith) (omega arith) in
-      elim (same_nat q n) as (λ b. same_nat q n ≡ b → cond b (f x) (look (suc n) (set ss j s) q) ≡ cond (same_nat q k) (f s) (cond b (f x) (look (suc n) ss q))) [
-        | true ↦ λ t. sym (ap (λ b. cond b (f s) (f x)) (same_nat-apart q k (λ y. let z = same_nat-yes q n t in omega arith)))
-        | false ↦ λ t. rest
-      ] refl
+  look-set (x ∷ ss) zero n k q s e h = grind (arith, look)
+  look-set (x ∷ ss) (suc j) n k q s e h = grind (arith, (look-set ss j (suc n) k q s (omega arith) (omega arith)), look, set, same_nat-apart, same_nat-yes)
 
   look-at : (ss : List S) (i n k : ℕ) (d : S) → k ≡ n + i → i < length ss → look n ss k ≡ f (get_or ss i d)
   unfolding look
   look-at [] i n k d e h = absurd (omega arith)
   look-at (x ∷ ss) zero n k d e h = let same : k ≡ n = omega arith in ap (λ b. cond b (f x) (look (suc n) ss k)) (ap (same_nat k) (sym same) ∙ same_nat-self k)
-  look-at (x ∷ ss) (suc j) n k d e h =
-      ap (λ b. cond b (f x) (look (suc n) ss k)) (same_nat-apart k n (λ y. omega arith)) ∙ look-at ss j (suc n) k d (omega arith) (omega arith)
+  look-at (x ∷ ss) (suc j) n k d e h = grind (arith, (look-at ss j (suc n) k d (omega arith) (omega arith)), look, same_nat-apart)
 
   found_set : (ss : List S) (t : ℕ) (s : S) → 0 < t → t ≤ length ss → (q : ℕ)
       → find nat_cmp q (entries_from f 1 (set ss (t - 1) s)) ≡ cond (same_nat q t) (f s) (find nat_cmp q (entries_from f 1 ss))
@@ -133,11 +111,7 @@ module _ {S X : Type 0} (f : S → Option X) where
 
   list_any-from : (p : X → Bool) (n : ℕ) (ss : List S) → list_any (λ (e : ℕ × X). p e.1) (entries_from f n ss) ≡ list_any (some_passes p) ss
   list_any-from p n [] = refl
-  list_any-from p n (s ∷ ss) =
-      elim (f s) as (λ o. list_any (λ (e : ℕ × X). p e.1) (with_entry n o (entries_from f (suc n) ss)) ≡ (elim o [ None ↦ false | Some v ↦ p v ] || list_any (some_passes p) ss)) [
-        | None ↦ list_any-from p (suc n) ss
-        | Some v ↦ ap (λ b. p v || b) (list_any-from p (suc n) ss)
-      ]
+  list_any-from p n (s ∷ ss) = grind (arith, (list_any-from p (suc n) ss))
 
   -- some entry passes if some thread does
   pub any_thread : (p : X → Bool) (ss : List S) → any_entry {R = nat_cmp} (λ t x. p x) (from_entries (entries_from f 1 ss)) ≡ list_any (some_passes p) ss

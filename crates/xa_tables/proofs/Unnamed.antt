@@ -50,8 +50,7 @@ module _ (t : ℕ) (x : XidName) (T : Tables) (nobody : is_somebody_associated T
 
   by_effect : {op : Op} {a : Answer} → Effect t T op a → names x op ≡ false → StaysAsItWas x T a.0
   by_effect (Starts y free) n = record { state = others_put T.states y Active x (differs x y n); sums = λ k. refl; apart = joined y Associated n }
-  by_effect (Joins y free there unprepared) n =
-      record { state = others_put T.states y Active x (differs x y n); sums = λ k. refl; apart = joined y Associated n }
+  by_effect (Joins y free there unprepared) n = grind (arith, others_put, differs, joined)
   by_effect (Resumes y own) n = record { state = refl; sums = λ k. refl; apart = joined y Associated n }
   by_effect (Suspends y own) n = record { state = refl; sums = λ k. refl; apart = joined y Suspended n }
   by_effect (Leaves y how c own why) n = record { state = refl; sums = λ k. refl; apart = left }
@@ -61,13 +60,9 @@ module _ (t : ℕ) (x : XidName) (T : Tables) (nobody : is_somebody_associated T
   by_effect (Adds k d l own known alone) n = record { state = refl; sums = λ q. get_added T.sums l.xid x k q _ (λ same _. another l own same); apart = nobody }
   by_effect (Prepares y free unbroken) n = record { state = others_put T.states y S3 x (differs x y n); sums = λ k. refl; apart = nobody }
   by_effect (Commits y one_phase free may) n = record { state = others_removed T.states y x (differs x y n); sums = others_gone y n; apart = nobody }
-  by_effect (Drops op y c free tells) n =
-      let other = sym (tells.named x) ∙ n in
-      record { state = others_removed T.states y x (differs x y other); sums = others_gone y other; apart = nobody }
-  by_effect (CommitsByItself y voted) n =
-      record { state = others_put T.states y (HeuristicallyCompleted decision.Commit) x (differs x y n); sums = others_gone y n; apart = nobody }
-  by_effect (RollsBackByItself y voted) n =
-      record { state = others_put T.states y (HeuristicallyCompleted decision.Rollback) x (differs x y n); sums = others_gone y n; apart = nobody }
+  by_effect (Drops op y c free tells) n = grind (arith, others_removed, differs, others_gone)
+  by_effect (CommitsByItself y voted) n = grind (arith, others_put, differs, others_gone)
+  by_effect (RollsBackByItself y voted) n = grind (arith, others_put, differs, others_gone)
   by_effect (Forgets y is) n = record { state = others_removed T.states y x (differs x y n); sums = λ k. refl; apart = nobody }
   -- the others change no branch
   by_effect effect n = record { state = refl; sums = λ k. refl; apart = nobody }

@@ -75,20 +75,8 @@ amount_of_held (Some p) y = if xid_eq p.0 y then p.1 else pos 0
 
 due_left : (k : List ℕ) (y : XidName) (p : Held) (sums : FinMap touch_cmp ℤ) → IsPending k p sums → IsPending k (left_by p y) (sums_without sums y)
 unfolding left_by
-due_left k y None sums h =
-    λ x. get_without sums y x k ∙ elim (xid_eq x y) as (λ b. (if b then None else map.get sums (x, k)) ≡ None) [ true ↦ refl | false ↦ h x ]
-due_left k y (Some p) sums h =
-    elim (xid_eq p.0 y) as (λ b. xid_eq p.0 y ≡ b → IsPending k (if b then None else Some p) (sums_without sums y)) [
-      | true ↦ λ t x. get_without sums y x k
-          ∙ elim (xid_eq x y) as (λ b. xid_eq x y ≡ b → (if b then None else map.get sums (x, k)) ≡ None) [
-            | true ↦ λ u. refl
-            | false ↦ λ u. h.1 x (λ e. let z = ap (λ w. xid_eq w y) e ∙ t in cc)
-          ] refl
-      | false ↦ λ t. (
-        get_without sums y p.0 k ∙ ap (λ b. if b then None else map.get sums (p.0, k)) t ∙ h.0,
-        λ x apart. get_without sums y x k ∙ elim (xid_eq x y) as (λ b. (if b then None else map.get sums (x, k)) ≡ None) [ true ↦ refl | false ↦ h.1 x apart ],
-      )
-    ] refl
+due_left k y None sums h = grind (arith, get_without)
+due_left k y (Some p) sums h = grind (arith, get_without)
 
 -- what is due before an entry that ends y: y's sum if it commits, and else nothing
 due_ended : (y : XidName) (b : Bool) (p : Held) (op : Op) (c : Code) (later : XidName → Bool)

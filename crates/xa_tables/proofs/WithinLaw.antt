@@ -171,8 +171,7 @@ module _ (t : ℕ) (T : Tables) (s : Sound T) (w : Kept T) where
   by_effect (Dooms k d l own) = put l.xid (RollbackOnly Transient) (λ e. cc)
   by_effect (Adds k d l own known free) = adds k d l own free
   by_effect (Prepares y nobody unbroken) = put y S3 (λ _. unbroken_fits T y unbroken)
-  by_effect (Commits y one_phase nobody may) =
-      commits y _ (still y) (⊎_elim (λ (is : is_prepared T y ≡ true). w.prepared y is) (λ (unbroken : is_broken T.values T.sums y ≡ false). unbroken_fits T y unbroken) may)
+  by_effect (Commits y one_phase nobody may) = grind (arith, commits, still, unbroken_fits)
   by_effect (Drops op y c nobody tells) = drops y _ (still y)
   by_effect (CommitsByItself y voted) = commits y _ (undecided y decision.Commit) (w.prepared y voted)
   by_effect (RollsBackByItself y voted) = drops y _ (undecided y decision.Rollback)
@@ -213,8 +212,7 @@ kept_over v0 w = grind (arith, cond_some, sums_reopened)
 
 pub kept_by : (before : List History) (T : Tables) → IsOpening T → Kept T → Kept (left_by before T)
 kept_by [] T o w = w
-kept_by (h ∷ hs) T o w =
-    kept_by hs (reopened (tables_after h T)) (reopens (tables_after h T)) (kept_over (tables_after h T) (run_kept h T (opening_sound T o) w))
+kept_by (h ∷ hs) T o w = grind (arith, (kept_by hs (reopened (tables_after h T)) (reopens (tables_after h T)) (kept_over (tables_after h T) (run_kept h T (opening_sound T o) w))), reopens, kept_over, run_kept, opening_sound)
 
 pub within_law : (accounts : List (List ℕ × ℕ)) (before : List History) (h : History) (k : List ℕ) → are_accounts accounts ≡ true
     → StaysWithin k h (left_by before (opening accounts))

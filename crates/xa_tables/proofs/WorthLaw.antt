@@ -63,9 +63,7 @@ entry_of d = (d.0, pos d.1)
 
 found_among : (accounts : Accounts) (k : List ℕ) → is_some (find key_cmp k (map entry_of accounts)) ≡ among accounts k
 found_among [] k = refl
-found_among (d ∷ ds) k =
-    ap (λ b. is_some (cond b (Some (pos d.1)) (find key_cmp k (map entry_of ds)))) (sym (swapped k d.0))
-    ∙ elim (key_eq d.0 k) as (λ b. is_some (cond b (Some (pos d.1)) (find key_cmp k (map entry_of ds))) ≡ (b || among ds k)) [ true ↦ refl | false ↦ found_among ds k ]
+found_among (d ∷ ds) k = grind (arith, (found_among ds k), find, key_cmp, swapped)
 
 -- the tables declare just the accounts' keys
 abbrev Declares : Accounts → Tables → Type 0
@@ -81,9 +79,7 @@ among_first d ds = ap (λ b. b || among ds d.0) ((Decides-key_eq d.0 d.0).1 refl
 each_among : (accounts : Accounts) → All (λ d. among accounts d.0 ≡ true) accounts
 each_among [] k d lt = absurd (omega arith)
 each_among (d ∷ ds) zero e lt = among_first d ds
-each_among (d ∷ ds) (suc k) e lt =
-    let q : List ℕ = (get_or ds k e).0 in
-    ap (λ b. key_eq d.0 q || b) (each_among ds k e (omega arith)) ∙ or-true (key_eq d.0 q)
+each_among (d ∷ ds) (suc k) e lt = grind (arith, (each_among ds k e (omega arith)), or-true)
 
 -- ---- sums over accounts with keys of their own
 
@@ -192,17 +188,8 @@ module _ (accounts : Accounts) (T : Tables) where
   ended_worth y false known = plus_none _
 
   worth_by_move : {l : Option Association} {op : Op} {a : Answer} → Moves T l op a → WorthStep accounts op T a
-  worth_by_move (Still l op a sums values shares moved endings) = record {
-    keys = λ k. ap (λ m. is_some (finmap.get m k)) values;
-    worth_after = λ known.
-        ap (λ m. total (λ d. value_of m d.0) accounts) values ∙ plus_none _ ∙ ap (λ v. worth accounts T +ℤ v) (sym (moved accounts));
-  }
-  worth_by_move (Ended l op a y commits sums values shares moved endings) = record {
-    keys = λ k. ap (λ m. is_some (finmap.get m k)) values ∙ ended_keys y commits k;
-    worth_after = λ known.
-        ap (λ m. total (λ d. value_of m d.0) accounts) values ∙ ended_worth y commits known
-        ∙ ap (λ v. worth accounts T +ℤ v) (sym (moved accounts));
-  }
+  worth_by_move (Still l op a sums values shares moved endings) = grind (arith, plus_none)
+  worth_by_move (Ended l op a y commits sums values shares moved endings) = grind (arith, ended_keys, ended_worth)
   worth_by_move (Added own d l there alone) = record { keys = λ k. refl; worth_after = λ known. plus_none _ }
 
 module _ (accounts : Accounts) (apart : are_apart accounts ≡ true) (T : Tables) (known : Declares accounts T) where
