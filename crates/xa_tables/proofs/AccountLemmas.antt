@@ -1,18 +1,17 @@
 -- The maps that the accounts make.
 use Rattle.std.specs.Prelude.{◌≡◌, ◌≢◌, ℕ, ℤ, pos, ◌+ℤ◌, ◌≤ℤ◌, All, nat_eq, zero, suc, ◌+◌, ◌<◌, Bool, true, false, cond, not, ◌&&◌, ◌||◌, if◌then◌else◌, List}
-use Rattle.std.specs.Prelude.{[], ◌∷◌, ◌++◌, take, drop, length, map, Option, None, Some, is_some, unwrap_or, option_map, refl}
+use Rattle.std.specs.Prelude.{[], ◌∷◌, ◌++◌, take, drop, length, map, Option, None, Some, unwrap_or, option_map, refl}
 use Rattle.std.proofs.Common.{sym, ap, ◌∙◌, subst, arith, get_or}
 use Rattle.std.proofs.Math.ListN.{set}
 use Rattle.std.specs.List.{list_any}
 use Rattle.std.specs.Ordering.{eq_by_cmp, is_eq, ordering_then}
 use Rattle.std.specs.declared.cmp.Ordering.{Ordering}
-use Rattle.std.specs.declared.cmp.Ordering.TheVariants.{Less, Equal, Greater}
+use Rattle.std.specs.declared.cmp.Ordering.TheVariants.{Equal}
 use Rattle.std.specs.Cmp.{IsTotalOrder, tied_itself}
 use Rattle.std.proofs.lemmas.Cmp.{then_total, on_total}
 use Rattle.std.specs.FinMap as finmap
 use Rattle.std.specs.FinMap.{FinMap, IsAntisymmetric, find, from_entries, get-from_entries}
 use Rattle.xa_words.specs.Xid.{XidName, xid_cmp, xid_eq}
-use Rattle.std.proofs.lemmas.Int.{ints}
 use Rattle.std.proofs.lemmas.List.Elements.{All-map, All-head, All-tail}
 use Rattle.std.proofs.lemmas.List.{length-map, get_or_default, get_or-set_other, length-set, take_all, drop_all, append-nil}
 use Rattle.std.proofs.lemmas.Grind.{get_or-set_at}

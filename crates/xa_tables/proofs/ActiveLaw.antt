@@ -1,5 +1,5 @@
 -- The law: a branch is active exactly while somebody is associated with it and it is in none of S3, S4 and S5.
-use Rattle.std.specs.Prelude.{◌≡◌, ◌≢◌, ℕ, Bool, true, false, not, ◌&&◌, ◌||◌, Option, None, Some, is_some, [], ◌∷◌, refl}
+use Rattle.std.specs.Prelude.{◌≡◌, ◌≢◌, ℕ, Bool, true, false, not, ◌&&◌, ◌||◌, Option, Some, is_some, [], ◌∷◌, refl}
 use Rattle.std.proofs.Common.{arith, sym, ap, ◌∙◌, subst, ⊎_elim}
 use Rattle.std.specs.FinMap as map
 use Rattle.std.proofs.lemmas.Bool.{or_cases}

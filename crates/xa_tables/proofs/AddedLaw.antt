@@ -1,19 +1,18 @@
 -- The law: a branch that has added to a key doesn't vote read-only, unless it was ended in between.
-use Rattle.std.specs.Prelude.{◌≡◌, ◌≢◌, ℕ, suc, ℤ, ◌+ℤ◌, Bool, true, false, cond, not, ◌||◌, if◌then◌else◌, Option, None, Some, option_map, is_some, List, []}
+use Rattle.std.specs.Prelude.{◌≡◌, ◌≢◌, ℕ, suc, ℤ, ◌+ℤ◌, Bool, true, false, cond, not, if◌then◌else◌, Option, None, Some, option_map, is_some, List, []}
 use Rattle.std.specs.Prelude.{◌∷◌, refl}
 use Rattle.std.proofs.Common.{sym, ap, ◌∙◌, subst, arith}
 use Rattle.std.specs.FinMap as map
 use Rattle.std.specs.FinMap.{get-insert}
 use Rattle.std.specs.Ordering.{eq_by_cmp}
-use Rattle.std.proofs.lemmas.Bool.{not-true}
 use Rattle.xa_words.specs.Xid.{XidName, xid_eq}
 use Rattle.xa_words.specs.Orders.{Decides-xid_eq}
 use Rattle.xa_words.specs.declared.code.Code.TheVariants.{Done, RdOnly}
 use Rattle.xa_words.specs.declared.request.Op.{Op}
 use Rattle.xa_words.specs.declared.request.Op.TheVariants.{Add, Prepare}
 use Rattle.xa_tables.specs.declared.state.Association.{Association}
-use Rattle.xa_tables.specs.Tables.{Tables, touch_cmp, association_of, has_opened, exists, is_somebody_associated, is_prepared, is_rollback_only, is_completed}
-use Rattle.xa_tables.specs.Tables.{reason_of, state_of, branch_in, is_broken, has_touched, is_at_work, is_declared, branch_of, has_other_touched, sum_of}
+use Rattle.xa_tables.specs.Tables.{Tables, touch_cmp, association_of, has_opened, is_rollback_only}
+use Rattle.xa_tables.specs.Tables.{reason_of, state_of, branch_in, has_touched, is_at_work, is_declared, branch_of, has_other_touched, sum_of}
 use Rattle.xa_tables.specs.Tables.{sums_without}
 use Rattle.xa_tables.specs.Next.{Answer, next}
 use Rattle.xa_tables.specs.History.{History, ending, fate_of, tables_after, EndsNowhere, is_rolled_back}

@@ -6,7 +6,6 @@ use Rattle.std.proofs.Math.Bool.{or-true}
 use Rattle.std.proofs.lemmas.Bool.{and_parts, or_parts, not-false}
 use Rattle.xa_base.proofs.Truth.{by_if}
 use Rattle.xa_words.specs.Xid.{XidName, xid_eq}
-use Rattle.xa_words.specs.Key.{key_eq}
 use Rattle.xa_words.specs.declared.code.Code.{Code}
 use Rattle.xa_words.specs.declared.code.Code.TheVariants.{Done, RdOnly, RbRollback, RbIntegrity, RbTransient, Async, RmErr, Nota, Inval, Proto, RmFail, DupId}
 use Rattle.xa_words.specs.declared.code.Code.TheVariants.{Outside}
@@ -17,21 +16,18 @@ use Rattle.xa_words.specs.declared.request.StartHow.TheVariants.{Fresh, Join, Re
 use Rattle.xa_words.specs.declared.request.EndHow.{EndHow}
 use Rattle.xa_words.specs.declared.request.EndHow.TheVariants.{Success, Suspend, Fail}
 use Rattle.xa_tables.specs.declared.state.State.{State}
-use Rattle.xa_tables.specs.declared.state.State.TheVariants.{Active, Idle, Prepared as S3, RollbackOnly, HeuristicallyCompleted}
-use Rattle.xa_tables.specs.declared.state.HeuristicDecision.{HeuristicDecision}
+use Rattle.xa_tables.specs.declared.state.State.TheVariants.{Active, Idle, Prepared as S3, RollbackOnly}
 use Rattle.xa_tables.specs.declared.state.HeuristicDecision.TheVariants as decision
-use Rattle.xa_tables.specs.declared.state.RollbackReason.{RollbackReason}
 use Rattle.xa_tables.specs.declared.state.RollbackReason.TheVariants.{Failed, Transient}
 use Rattle.xa_tables.specs.declared.state.Association.{Association}
 use Rattle.xa_tables.specs.Tables.{Tables, has_opened, association_of, has_association, is_T1, branch_in, state_of, exists, is_S4, is_suspended, is_associated}
 use Rattle.xa_tables.specs.Tables.{is_idle, is_prepared, is_rollback_only, is_completed, is_left, is_S5, reason_in, reason_of, decision_in, decision_of}
 use Rattle.xa_tables.specs.Tables.{is_somebody_associated, is_declared, has_touched, has_other_touched, is_broken}
-use Rattle.xa_tables.specs.Reasons.{reason_code, decision_code}
-use Rattle.xa_tables.specs.Next.{Answer, next, needs_opening, by_rules, open_rm, close_rm, start, add, end, prepare, commit_one, commit_two, rollback, heur}
+use Rattle.xa_tables.specs.Next.{Answer, next, by_rules, open_rm, close_rm, start, add, end, prepare, commit_one, commit_two, rollback, heur}
 use Rattle.xa_tables.specs.Next.{forget, listed, is_suspend, associated, suspended, dissociated, stated, added, gone, forgotten, completed, committed}
 use Rattle.xa_tables.specs.Next.{shut_down}
-use Rattle.xa_tables.specs.History.{Fate, Live, ReadOnly, RolledBack, HeurCommitted, HeurRolledBack, fate_of, if_named, prepare_fate, commit_fate}
-use Rattle.xa_tables.specs.History.{rollback_fate, heur_fate, ending_by, is_done, is_rolled_back, added_by, share_of}
+use Rattle.xa_tables.specs.History.{Fate, ReadOnly, RolledBack, fate_of, if_named, prepare_fate, commit_fate}
+use Rattle.xa_tables.specs.History.{rollback_fate, ending_by, is_done, is_rolled_back, share_of}
 use Rattle.xa_tables.specs.Prepared.{names}
 use Rattle.xa_tables.specs.Worth.{moved_by, held_by}
 

@@ -1,7 +1,7 @@
 -- The law: late requests make nothing of any branch.
 use Rattle.std.specs.Prelude.{◌≡◌, refl}
 use Rattle.std.specs.List.{cons_option}
-use Rattle.std.proofs.Common.{arith, ap}
+use Rattle.std.proofs.Common.{ap}
 use Rattle.xa_words.specs.Xid.{XidName}
 use Rattle.xa_tables.specs.Tables.{Tables}
 use Rattle.xa_tables.specs.Next.{next}

@@ -1,15 +1,14 @@
 -- The law: the tables tell what became of each branch, over any openings.
-use Rattle.std.specs.Prelude.{◌≡◌, true, false, cond, if◌then◌else◌, Option, None, Some, List, [], ◌∷◌, refl}
+use Rattle.std.specs.Prelude.{◌≡◌, true, false, cond, if◌then◌else◌, Option, None, List, [], ◌∷◌, refl}
 use Rattle.std.proofs.Common.{arith, sym, ap, ◌∙◌, subst}
 use Rattle.std.specs.FinMap as map
 use Rattle.std.specs.FinMap.{get-empty}
 use Rattle.xa_words.specs.Xid.{XidName, xid_cmp}
 use Rattle.xa_tables.specs.declared.state.State.{State}
-use Rattle.xa_tables.specs.declared.state.State.TheVariants.{Prepared as S3, HeuristicallyCompleted}
 use Rattle.xa_tables.specs.declared.state.HeuristicDecision.{HeuristicDecision}
 use Rattle.xa_tables.specs.declared.state.HeuristicDecision.TheVariants as decision
 use Rattle.xa_tables.specs.Tables.{Tables, state_of, is_left_in}
-use Rattle.xa_tables.specs.History.{History, Fate, Absent, Live, InDoubt, RolledBack, is_live, is_in_doubt, decided_fate, fate, tables_after, accepted}
+use Rattle.xa_tables.specs.History.{History, Fate, Absent, RolledBack, is_live, is_in_doubt, decided_fate, fate, tables_after, accepted}
 use Rattle.xa_tables.specs.History.{IsFateOf}
 use Rattle.xa_tables.specs.Openings.{IsNew, IsOpening, reopened, reopened_fate, left_by, fate_left, told_by, FatesAreTold}
 use Rattle.xa_tables.proofs.ShutLemmas.{after_accepted}
@@ -60,7 +59,8 @@ reopened_law x f v2 w = grind (arith, tells_told, state_reopened, reopened_tells
 left_told : (before : List History) (x : XidName) (f : Fate) (T : Tables) → IsOpening T → IsFateOf x f T
     → IsFateOf x (fate_left x f before T) (left_by before T)
 left_told [] x f T o w = w
-left_told (h ∷ hs) x f T o w = grind (arith, (left_told hs x (reopened_fate (fate x f h T)) (reopened (tables_after h T)) (reopens (tables_after h T)) (reopened_law x (fate x f h T) (tables_after h T) (kept_law h x f T o w))), reopens, reopened_law, kept_law)
+left_told (h ∷ hs) x f T o w =
+    grind (arith, (left_told hs x (reopened_fate (fate x f h T)) (reopened (tables_after h T)) (reopens (tables_after h T)) (reopened_law x (fate x f h T) (tables_after h T) (kept_law h x f T o w))), reopens, reopened_law, kept_law)
 
 -- each branch is absent at a first opening
 pub first_law : (x : XidName) (T : Tables) → IsNew T → IsFateOf x Absent T

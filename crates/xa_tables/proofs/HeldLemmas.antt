@@ -1,5 +1,5 @@
 -- Scans of the places that branches hold, in place of scans of all accounts.
-use Rattle.std.specs.Prelude.{◌≡◌, All, ℕ, ℤ, pos, ◌+ℤ◌, zero, suc, ◌+◌, ◌<◌, ◌≤◌, nat_eq, Bool, true, false, cond, not, ◌&&◌, ◌||◌, if◌then◌else◌, List, []}
+use Rattle.std.specs.Prelude.{◌≡◌, All, ℕ, ℤ, pos, ◌+ℤ◌, zero, suc, ◌+◌, ◌<◌, ◌≤◌, nat_eq, Bool, true, false, not, ◌&&◌, ◌||◌, if◌then◌else◌, List, []}
 use Rattle.std.specs.Prelude.{◌∷◌, ◌++◌, drop, length, map, filter, Option, None, Some, is_some, refl}
 use Rattle.std.proofs.Common.{sym, ap, ◌∙◌, subst, arith, get_or}
 use Rattle.std.proofs.Math.ListN.{set}

@@ -8,7 +8,7 @@ use Rattle.std.proofs.lemmas.List.Elements.{All-head, All-tail}
 use Rattle.xa_words.specs.Xid.{XidName, xid_eq}
 use Rattle.xa_words.specs.Orders.{Decides-xid_eq}
 use Rattle.xa_words.specs.declared.code.Code.{Code}
-use Rattle.xa_words.specs.declared.code.Code.TheVariants.{Done, HeurCom, HeurRb, Nota, Proto, RmFail}
+use Rattle.xa_words.specs.declared.code.Code.TheVariants.{Done, HeurCom, HeurRb}
 use Rattle.xa_words.specs.declared.request.Op.{Op}
 use Rattle.xa_words.specs.declared.request.Op.TheVariants.{Commit, Rollback, Forget, Heur}
 use Rattle.xa_words.specs.declared.request.Request.{Request}
@@ -16,13 +16,13 @@ use Rattle.xa_words.proofs.Xids.{xid_self}
 use Rattle.xa_tables.specs.declared.state.State.{State}
 use Rattle.xa_tables.specs.declared.state.State.TheVariants.{Active, Idle, Prepared as S3, RollbackOnly, HeuristicallyCompleted}
 use Rattle.xa_tables.specs.declared.state.RollbackReason.{RollbackReason}
-use Rattle.xa_tables.specs.declared.state.RollbackReason.TheVariants.{Failed, Transient}
+use Rattle.xa_tables.specs.declared.state.RollbackReason.TheVariants.{Failed}
 use Rattle.xa_tables.specs.declared.state.HeuristicDecision.{HeuristicDecision}
 use Rattle.xa_tables.specs.declared.state.HeuristicDecision.TheVariants as decision
-use Rattle.xa_tables.specs.Tables.{Tables, has_opened, state_of, exists, is_S3, is_S4, is_S5, is_prepared, is_rollback_only, is_completed, decision_in}
-use Rattle.xa_tables.specs.Tables.{decision_of, reason_in, reason_of, is_somebody_associated}
+use Rattle.xa_tables.specs.Tables.{Tables, state_of, exists, is_S3, is_S4, is_S5, is_prepared, is_completed, decision_in}
+use Rattle.xa_tables.specs.Tables.{decision_of, reason_in}
 use Rattle.xa_tables.specs.Reasons.{reason_code, decision_code}
-use Rattle.xa_tables.specs.Next.{Answer, next, completed, committed, gone}
+use Rattle.xa_tables.specs.Next.{Answer, next, completed, committed}
 use Rattle.xa_tables.specs.History.{History, HeurCommitted, HeurRolledBack, fate_of, fates_in, coded, decided_fate, heur_fate}
 use Rattle.xa_tables.specs.Prepared.{names, is_heur, is_forget, OnlyDecides, IsTold}
 use Rattle.xa_base.proofs.Truth.{by_if, at_true}

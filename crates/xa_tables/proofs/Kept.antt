@@ -1,6 +1,6 @@
 -- What a manager keeps of its tables from request to request.
 use Rattle.std.specs.Prelude.{ℕ}
-use Rattle.std.proofs.Common.{arith, sym, ap, ◌∙◌}
+use Rattle.std.proofs.Common.{sym, ap, ◌∙◌}
 use Rattle.std.proofs.lemmas.Bool.{or_from, false_from_ne_true}
 use Rattle.xa_words.specs.Xid.{xid_eq}
 use Rattle.xa_words.specs.Orders.{Decides-xid_eq}

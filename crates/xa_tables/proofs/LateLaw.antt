@@ -8,7 +8,7 @@ use Rattle.xa_words.specs.declared.request.Request.{Request}
 use Rattle.xa_tables.specs.Tables.{Tables}
 use Rattle.xa_tables.specs.Next.{Answer, next, shut_down}
 use Rattle.xa_tables.specs.History.{History, codes, is_shut, accepted, first_shut, late, LateAreRefused, LateChangeNothing}
-use Rattle.xa_tables.proofs.Effects.{Effect, Shuts, effect_of}
+use Rattle.xa_tables.proofs.Effects.{Effect, effect_of}
 use Rattle.xa_tables.proofs.ShutLemmas.{next-shut, next-Shut, shut_op, after_accepted}
 
 -- only a Shut shuts

@@ -4,7 +4,6 @@ use Rattle.std.proofs.Common.{arith, sym, ap, ◌∙◌, subst}
 use Rattle.std.specs.FinMap as map
 use Rattle.std.specs.FinMap.{get-empty, get-insert, get-remove}
 use Rattle.std.specs.Ordering.{nat_cmp}
-use Rattle.xa_base.proofs.Truth.{by_bool}
 use Rattle.xa_words.specs.Xid.{XidName, xid_eq}
 use Rattle.xa_words.specs.Orders.{xid_cmp_total, Decides-xid_eq, xid_eq-by_cmp}
 use Rattle.xa_words.proofs.Xids.{xid_self}
@@ -17,9 +16,9 @@ use Rattle.xa_tables.specs.declared.state.RollbackReason.TheVariants.{Failed, Tr
 use Rattle.xa_tables.specs.declared.state.Association.{Association}
 use Rattle.xa_tables.specs.declared.state.AssociationState.{AssociationState}
 use Rattle.xa_tables.specs.declared.state.AssociationState.TheVariants.{Associated, Suspended}
-use Rattle.xa_tables.specs.Tables.{Tables, association_of, state_of, is_S3, is_S5, is_prepared, is_association_with, is_associated, is_somebody_associated}
+use Rattle.xa_tables.specs.Tables.{Tables, association_of, state_of, is_S3, is_S5, is_prepared, is_associated, is_somebody_associated}
 use Rattle.xa_tables.specs.Next.{Answer, next, gone, stated, with_association, associated, dissociated, association}
-use Rattle.xa_tables.specs.History.{History, Fate, ending_by, InDoubt, Live, Committed, ReadOnly, RolledBack, HeurCommitted, HeurRolledBack, Absent}
+use Rattle.xa_tables.specs.History.{History, Fate, ending_by, InDoubt, Live, Committed, HeurCommitted, HeurRolledBack, Absent}
 use Rattle.xa_tables.specs.History.{is_in_doubt, is_unfinished, decided_fate, fate_of, fates_in, last_or, if_named, tables_after, coded}
 use Rattle.xa_tables.specs.Openings.{IsOpening, told_by}
 use Rattle.std.specs.List.{cons_option}

@@ -1,6 +1,6 @@
 -- Where the keys stand among the accounts, and what was declared.
 use Rattle.std.specs.Prelude.{◌≡◌, ℕ, pos, zero, suc, ◌+◌, ◌<◌, ◌≤◌, All, Bool, true, false, cond, ◌&&◌, ◌||◌, if◌then◌else◌, nat_le, List, [], ◌∷◌, ◌++◌}
-use Rattle.std.specs.Prelude.{length, map, Option, None, Some, is_some, option_map, refl, slice_index_or}
+use Rattle.std.specs.Prelude.{length, map, Option, None, Some, is_some, refl, slice_index_or}
 use Rattle.std.proofs.Common.{sym, ap, ◌∙◌, arith, get_or, take, length-take-le}
 use Rattle.std.proofs.Math.ListN.{set}
 use Rattle.std.proofs.lemmas.Int.{ints}

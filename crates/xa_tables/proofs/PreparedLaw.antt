@@ -1,10 +1,10 @@
 -- The laws of prepared branches: they stay prepared, and await the outcome; and what a Prepare and a Shut leave.
-use Rattle.std.specs.Prelude.{◌≡◌, ℕ, true, false, not, ◌||◌, if◌then◌else◌, None, Some, is_some, List, [], ◌∷◌, ◌++◌, refl}
+use Rattle.std.specs.Prelude.{◌≡◌, ℕ, true, false, ◌||◌, if◌then◌else◌, None, Some, List, [], ◌∷◌, ◌++◌, refl}
 use Rattle.std.proofs.Common.{sym, ap, ◌∙◌, zero, suc, get_or, arith}
 use Rattle.std.specs.FinMap as map
 use Rattle.std.specs.List.{All, cons_option}
 use Rattle.std.proofs.lemmas.List.Elements.{All-head, All-tail}
-use Rattle.std.proofs.lemmas.Bool.{not-false, or_from}
+use Rattle.std.proofs.lemmas.Bool.{not-false}
 use Rattle.xa_words.specs.Xid.{XidName}
 use Rattle.xa_words.specs.Orders.{Decides-xid_eq}
 use Rattle.xa_words.specs.declared.code.Code.{Code}
@@ -12,10 +12,10 @@ use Rattle.xa_words.specs.declared.code.Code.TheVariants.{Done, RbIntegrity, RmF
 use Rattle.xa_words.specs.declared.request.Op.{Op}
 use Rattle.xa_words.specs.declared.request.Op.TheVariants.{Prepare, Commit, Rollback}
 use Rattle.xa_words.specs.declared.request.Request.{Request}
-use Rattle.xa_tables.specs.declared.state.State.TheVariants.{Prepared as S3, HeuristicallyCompleted}
+use Rattle.xa_tables.specs.declared.state.State.TheVariants.{HeuristicallyCompleted}
 use Rattle.xa_tables.specs.declared.state.HeuristicDecision.{HeuristicDecision}
-use Rattle.xa_tables.specs.Tables.{Tables, has_opened, state_of, exists, is_S3, is_S4, is_S5, is_prepared, is_rollback_only, is_completed, decision_in}
-use Rattle.xa_tables.specs.Tables.{is_somebody_associated, has_touched, is_broken}
+use Rattle.xa_tables.specs.Tables.{Tables, has_opened, state_of, is_S3}
+use Rattle.xa_tables.specs.Tables.{is_somebody_associated}
 use Rattle.xa_tables.specs.Reasons.{decision_code}
 use Rattle.xa_tables.specs.Next.{Answer, next}
 use Rattle.xa_tables.specs.History.{History, is_shut, is_rolled_back, coded, fates_in, tables_after}
@@ -23,7 +23,6 @@ use Rattle.xa_tables.specs.Openings.{IsOpening}
 use Rattle.xa_tables.specs.Prepared.{names, closes, is_heur, is_forget, NamesNowhere, OnlyDecides, LeavesWaiting, has_shut, IsPrepared, StaysPrepared}
 use Rattle.xa_tables.specs.Prepared.{AwaitsTheOutcome, AwaitsAfter}
 use Rattle.xa_tables.proofs.ShutLemmas.{next-Shut, shut_op, shut_stays}
-use Rattle.xa_base.proofs.Truth.{by_if, at_false, at_true}
 use Rattle.xa_tables.proofs.Law.{Sound, Nowhere, AtWork, standing, voted_rests, nobody_rests, get_put, sound_after, run_sound, opening_sound}
 use Rattle.xa_tables.proofs.Unnamed.{unnamed_on, unnamed_stays, unnamed_fate, unnamed_law}
 use Rattle.xa_tables.proofs.HeuristicLaw.{Decides, Nothing, Completes, decides, unprepared_law}
@@ -43,13 +42,11 @@ prepared_law h g x T o p n =
 -- ---- what a branch answers whose outcome is awaited
 
 module _ (t : ℕ) (x : XidName) (T : Tables) (o : has_opened T t ≡ true) where
-
   -- whatever it is, unless the manager is shut
   unless_shut : (a : Answer) (c : Code) → a.1 ≡ c → (if T.shut then (T, RmFail) else a).1 ≡ (if T.shut then RmFail else c)
   unless_shut a c e = elim (T.shut) as (λ b. (if b then (T, RmFail) else a).1 ≡ (if b then RmFail else c)) [ true ↦ refl | false ↦ e ]
 
   module _ (h : IsPrepared x T) (free : is_somebody_associated T.associations x ≡ false) where
-
     commit_done : (next t (Commit x false) T).1 ≡ (if T.shut then RmFail else Done)
     unfolding next
     commit_done = unless_shut _ Done (rw (o, h, free))
@@ -62,7 +59,6 @@ module _ (t : ℕ) (x : XidName) (T : Tables) (o : has_opened T t ≡ true) wher
     awaits = record { state = h; commits = commit_done; rolls_back = rollback_done }
 
   module _ (d : HeuristicDecision) (h : state_of T x ≡ Some (HeuristicallyCompleted d)) where
-
     commit_told : (next t (Commit x false) T).1 ≡ (if T.shut then RmFail else decision_code d)
     unfolding next
     commit_told = unless_shut _ (decision_code d) (rw (o, h))

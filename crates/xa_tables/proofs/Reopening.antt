@@ -6,7 +6,6 @@ use Rattle.std.specs.FinMap.{FinMap, get-empty, get-retain_keys}
 use Rattle.xa_words.specs.Xid.{XidName, xid_cmp, xid_eq}
 use Rattle.xa_words.specs.Orders.{key_cmp, xid_cmp-IsAntisymmetric}
 use Rattle.xa_tables.specs.declared.state.State.{State}
-use Rattle.xa_tables.specs.declared.state.State.TheVariants.{Prepared as S3}
 use Rattle.xa_tables.specs.Tables.{Tables, Touch, touch_cmp, state_of, is_S3, is_left_in, is_left, is_prepared, is_broken, is_within, value_of}
 use Rattle.xa_tables.specs.Managers.{ArePreparedSound, opening}
 use Rattle.xa_tables.specs.History.{History, tables_after}

@@ -1,6 +1,5 @@
 -- What the first Shut parts.
 use Rattle.std.specs.Prelude.{◌≡◌, ℕ, true, false, if◌then◌else◌, [], ◌∷◌, refl}
-use Rattle.std.specs.List.{cons_option}
 use Rattle.std.proofs.Common.{arith, sym, ap, ◌∙◌, subst}
 use Rattle.xa_base.proofs.Truth.{by_bool}
 use Rattle.xa_words.specs.Xid.{XidName}
@@ -10,7 +9,7 @@ use Rattle.xa_words.specs.declared.request.Op.TheVariants.{Shut}
 use Rattle.xa_words.specs.declared.request.Request.{Request}
 use Rattle.xa_tables.specs.Tables.{Tables}
 use Rattle.xa_tables.specs.Next.{Answer, next, if_opened, by_rules, shut_down}
-use Rattle.xa_tables.specs.History.{History, tables_after, is_shut, accepted, coded, fate_of, fates_in}
+use Rattle.xa_tables.specs.History.{History, tables_after, is_shut, accepted, coded, fates_in}
 use Rattle.xa_tables.proofs.Effects.{TellsNothing, error_tells}
 
 -- a manager that is shut refuses, and its tables stay

@@ -8,11 +8,10 @@ use Rattle.std.specs.Option.{OnSome}
 use Rattle.std.specs.FinMap as map
 use Rattle.std.specs.FinMap.{FinMap, same_map, get-insert, get-remove, nat_cmp-IsAntisymmetric}
 use Rattle.std.proofs.lemmas.Bool.Decides.{same_from_decides}
-use Rattle.xa_base.proofs.Truth.{by_bool, is_equal, tied_true, tied_false}
+use Rattle.xa_base.proofs.Truth.{is_equal, tied_true, tied_false}
 use Rattle.xa_words.specs.Xid.{XidName, xid_cmp, xid_eq}
 use Rattle.xa_words.specs.Orders.{key_cmp, xid_cmp_total, xid_cmp-IsAntisymmetric, Decides-xid_eq}
 use Rattle.xa_tables.specs.declared.state.State.{State}
-use Rattle.xa_tables.specs.declared.state.State.TheVariants.{Prepared}
 use Rattle.xa_tables.specs.declared.state.Association.{Association}
 use Rattle.xa_tables.specs.Tables.{touch_cmp, is_broken, is_somebody_associated}
 use Rattle.xa_tables.specs.Tables.{is_S3, is_left_in}

@@ -1,5 +1,5 @@
 -- The law: a key's value is its value at the first opening and the additions whose branches commit, over any openings.
-use Rattle.std.specs.Prelude.{◌≡◌, ℕ, ℤ, pos, ◌+ℤ◌, Bool, true, false, cond, not, ◌||◌, if◌then◌else◌, None, Some, option_map, List, [], ◌∷◌, ◌++◌, refl}
+use Rattle.std.specs.Prelude.{◌≡◌, ℕ, ℤ, pos, ◌+ℤ◌, Bool, true, false, cond, not, if◌then◌else◌, None, Some, option_map, List, [], ◌∷◌, ◌++◌, refl}
 use Rattle.std.proofs.Common.{sym, ap, ◌∙◌, subst, arith}
 use Rattle.std.proofs.Math.Bool.{or-false}
 use Rattle.std.proofs.lemmas.Int.{ints}
@@ -8,11 +8,10 @@ use Rattle.std.specs.FinMap.{get-empty}
 use Rattle.std.proofs.Math.IntN.{+ℤ_idl as none_plus}
 use Rattle.xa_words.specs.Xid.{XidName}
 use Rattle.xa_tables.specs.Tables.{Tables, touch_cmp, is_prepared}
-use Rattle.xa_tables.specs.History.{History, Fate, Absent, InDoubt, RolledBack, is_live, is_in_doubt, is_unfinished, fate, coded, accepted, tables_after}
+use Rattle.xa_tables.specs.History.{History, Fate, Absent, is_live, is_in_doubt, is_unfinished, fate, coded, accepted, tables_after}
 use Rattle.xa_tables.specs.History.{commits_later, added_in, IsFateOf}
 use Rattle.xa_tables.specs.Openings.{IsNew, IsOpening, reopened, reopened_fate, left_by, commits_over, added_over, value_over, ValueIsSum}
 use Rattle.xa_tables.proofs.ShutLemmas.{after_accepted}
-use Rattle.xa_tables.proofs.SoundLemmas.{by_xid}
 use Rattle.xa_tables.proofs.Law.{opening_sound}
 use Rattle.xa_tables.proofs.FatesLaw.{first_law, kept_law, reopened_law}
 use Rattle.xa_tables.proofs.ValueLaw.{Held, IsPending, due, plus_zero, Run, value_run, chained}

@@ -1,5 +1,5 @@
 -- What a history moves of a key's value: the additions whose branches commit.
-use Rattle.std.specs.Prelude.{◌≡◌, ◌≢◌, ℕ, ℤ, pos, ◌+ℤ◌, option_map, Bool, true, false, cond, not, ◌&&◌, if◌then◌else◌, Option, None, Some, unwrap_or, List, []}
+use Rattle.std.specs.Prelude.{◌≡◌, ◌≢◌, ℕ, ℤ, pos, ◌+ℤ◌, option_map, Bool, true, false, cond, not, ◌&&◌, if◌then◌else◌, Option, None, Some, List, []}
 use Rattle.std.specs.Prelude.{◌∷◌, refl}
 use Rattle.std.proofs.Common.{sym, ap, ◌∙◌, subst, arith}
 use Rattle.std.specs.FinMap as map

@@ -1,8 +1,8 @@
 -- The law: the value of a declared key stays within the limits, whatever is requested, over any openings.
-use Rattle.std.specs.Prelude.{◌≡◌, ◌≢◌, ℕ, ℤ, pos, ◌+ℤ◌, Bool, true, false, cond, not, ◌&&◌, if◌then◌else◌, Option, None, Some, option_map, unwrap_or, List, []}
+use Rattle.std.specs.Prelude.{◌≡◌, ◌≢◌, ℕ, ℤ, pos, ◌+ℤ◌, Bool, true, false, cond, not, ◌&&◌, Option, None, Some, option_map, unwrap_or, List, []}
 use Rattle.std.specs.Prelude.{◌∷◌, map, refl, nat_le}
 use Rattle.std.specs.List.{list_all}
-use Rattle.std.proofs.Common.{sym, ap, ◌∙◌, subst, ⊎_elim, le-leb, arith}
+use Rattle.std.proofs.Common.{sym, ap, ◌∙◌, subst, le-leb, arith}
 use Rattle.std.specs.FinMap as finmap
 use Rattle.std.specs.FinMap.{FinMap, find, get-empty, get-insert, get-from_entries}
 use Rattle.std.specs.Ordering.{eq_by_cmp}
@@ -19,7 +19,7 @@ use Rattle.xa_tables.specs.declared.state.HeuristicDecision.{HeuristicDecision}
 use Rattle.xa_tables.specs.declared.state.HeuristicDecision.TheVariants as decision
 use Rattle.xa_tables.specs.declared.state.RollbackReason.TheVariants.{Failed, Transient}
 use Rattle.xa_tables.specs.declared.state.Association.{Association}
-use Rattle.xa_tables.specs.Tables.{Tables, Touch, touch_cmp, association_of, state_of, is_S3, is_prepared, is_within, value_of, sum_of, has_other_touched}
+use Rattle.xa_tables.specs.Tables.{Tables, Touch, touch_cmp, association_of, state_of, is_S3, is_within, value_of, sum_of, has_other_touched}
 use Rattle.xa_tables.specs.Tables.{is_broken, sums_without}
 use Rattle.xa_tables.specs.Next.{Answer, next, stated, added, gone, forgotten, completed, committed}
 use Rattle.xa_tables.specs.Accounts.{are_accounts}
@@ -212,7 +212,8 @@ kept_over v0 w = grind (arith, cond_some, sums_reopened)
 
 pub kept_by : (before : List History) (T : Tables) → IsOpening T → Kept T → Kept (left_by before T)
 kept_by [] T o w = w
-kept_by (h ∷ hs) T o w = grind (arith, (kept_by hs (reopened (tables_after h T)) (reopens (tables_after h T)) (kept_over (tables_after h T) (run_kept h T (opening_sound T o) w))), reopens, kept_over, run_kept, opening_sound)
+kept_by (h ∷ hs) T o w =
+    grind (arith, (kept_by hs (reopened (tables_after h T)) (reopens (tables_after h T)) (kept_over (tables_after h T) (run_kept h T (opening_sound T o) w))), reopens, kept_over, run_kept, opening_sound)
 
 pub within_law : (accounts : List (List ℕ × ℕ)) (before : List History) (h : History) (k : List ℕ) → are_accounts accounts ≡ true
     → StaysWithin k h (left_by before (opening accounts))

@@ -1,5 +1,5 @@
 -- The law: a branch whose work one thread did has added what that thread added.
-use Rattle.std.specs.Prelude.{◌≡◌, ◌≢◌, ℕ, ◌+◌, ◌==◌, ℤ, pos, ◌+ℤ◌, true, false, cond, not, if◌then◌else◌, Option, None, Some, List, [], ◌∷◌, ◌++◌, refl}
+use Rattle.std.specs.Prelude.{◌≡◌, ◌≢◌, ℕ, ◌+◌, ◌==◌, ℤ, pos, ◌+ℤ◌, true, false, if◌then◌else◌, Option, Some, List, [], ◌∷◌, ◌++◌, refl}
 use Rattle.std.proofs.Common.{sym, ap, ◌∙◌, arith}
 use Rattle.std.proofs.lemmas.Int.{ints}
 use Rattle.std.proofs.lemmas.Bool.{eqb-true, eqb-false}
@@ -16,14 +16,13 @@ use Rattle.xa_words.specs.declared.request.EndHow.TheVariants.{Success}
 use Rattle.xa_words.specs.declared.request.Request.{Request}
 use Rattle.xa_tables.specs.declared.state.Association.{Association}
 use Rattle.xa_tables.specs.declared.state.AssociationState.TheVariants.{Associated}
-use Rattle.xa_tables.specs.Tables.{Tables, association_of, has_association, has_opened, exists, is_association_with, is_associated, is_somebody_associated}
+use Rattle.xa_tables.specs.Tables.{Tables, association_of, is_association_with, is_associated, is_somebody_associated}
 use Rattle.xa_tables.specs.Next.{Answer, next, association}
 use Rattle.xa_tables.specs.History.{History, Live, of_thread, tables_after, fate_of, ending, is_done, added_by}
 use Rattle.xa_tables.specs.Openings.{IsOpening}
 use Rattle.xa_tables.specs.Prepared.{names, NamesNowhere}
 use Rattle.xa_tables.specs.Worth.{gain, unless_ended, added_by_now}
 use Rattle.xa_tables.specs.Work.{request, LeavesAtWork, DoesWork}
-use Rattle.xa_base.proofs.Truth.{by_if}
 use Rattle.xa_tables.proofs.Effects.{Effect, Starts, Joins, Resumes, Suspends, Leaves, Fails, Idles, effect_of}
 use Rattle.xa_tables.proofs.Moves.{quiet_named}
 use Rattle.xa_tables.proofs.SoundLemmas.{own_put, other_put, own_removed, other_removed}

@@ -5,7 +5,7 @@ use Rattle.std.specs.Map.{lookup}
 use Rattle.xa_base.proofs.HashMaps.{get-lookup}
 use Rattle.xa_tables.specs.declared.state.State.{State}
 use Rattle.std.specs.Cmp.{IsEquivalence}
-use Rattle.std.proofs.Common.{arith, ap}
+use Rattle.std.proofs.Common.{ap}
 use Rattle.xa_words.specs.Xid.{XidName, xid_cmp, xid_eq}
 use Rattle.xa_words.specs.Orders.{Decides-xid_eq, xid_cmp_total, xid_cmp-IsAntisymmetric, xid_eq-by_cmp}
 use Rattle.xa_tables.proofs.Law.{swap_xid}

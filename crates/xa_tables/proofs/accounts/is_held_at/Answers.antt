@@ -1,4 +1,4 @@
-use Rattle.std.proofs.Common.{arith, sym, ◌∙◌, get_or}
+use Rattle.std.proofs.Common.{arith, sym}
 use Rattle.std.proofs.lemmas.List.{get_or_default}
 use Rattle.xa_tables.specs.Held.{is_held}
 use Rattle.xa_tables.proofs.HeldLemmas.{passes_read, passes_past}

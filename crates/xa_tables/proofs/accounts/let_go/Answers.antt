@@ -1,6 +1,6 @@
-use Rattle.std.proofs.Common.{◌<◌, ◌∙◌, sym, ap, arith, rules, length, get_or}
+use Rattle.std.proofs.Common.{◌∙◌, sym, ap, arith}
 use Rattle.xa_tables.specs.Accounts.{kept_where}
-use Rattle.xa_tables.proofs.HeldLemmas.{changing_none, changing_at, changing_all, held_within, kept_untouched, kept_twice}
+use Rattle.xa_tables.proofs.HeldLemmas.{changing_none, changing_at, changing_all, kept_untouched, kept_twice}
 use Rattle.xa_tables.proofs.accounts.let_go.Goals as goal
 
 pub loop-place-init : goal.loop-place-init

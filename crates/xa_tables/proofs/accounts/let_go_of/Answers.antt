@@ -1,4 +1,4 @@
-use Rattle.std.proofs.Common.{arith, ◌≡◌, Bool, true, false, Some, None, rules, sym, ap, ◌∙◌}
+use Rattle.std.proofs.Common.{◌≡◌, Bool, true, false, Some, None, rules, sym, ap, ◌∙◌}
 use Rattle.std.specs.Prelude.{if◌then◌else◌}
 use Rattle.xa_words.specs.Xid.{XidName}
 use Rattle.xa_tables.specs.declared.accounts.Account.{Account}

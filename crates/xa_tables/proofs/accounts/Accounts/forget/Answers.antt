@@ -1,4 +1,4 @@
-use Rattle.std.proofs.Common.{arith, ◌≡◌, ◌++◌, refl, rules, ap, ◌∙◌, length, take, drop}
+use Rattle.std.proofs.Common.{arith, ◌≡◌, ◌++◌, refl, ap, ◌∙◌, length, take, drop}
 use Rattle.std.specs.Prelude.{filter, map}
 use Rattle.std.specs.FinMap.{from_entries}
 use Rattle.xa_words.specs.Orders.{key_cmp}

@@ -1,7 +1,4 @@
-use Rattle.std.proofs.Common.{arith, rules, sym, ap, ◌∙◌}
-use Rattle.std.specs.List.{list_any}
-use Rattle.xa_tables.specs.Tables.{has_touched}
-use Rattle.xa_tables.specs.Accounts.{is_held_by}
+use Rattle.std.proofs.Common.{arith}
 use Rattle.xa_tables.proofs.AccountLemmas.{touched_any}
 use Rattle.xa_tables.proofs.HeldLemmas.{touched_held, held_alike}
 use Rattle.xa_tables.proofs.accounts.Accounts.has_touched.Goals as goal

@@ -1,4 +1,4 @@
-use Rattle.std.proofs.Common.{arith, rules, sym, ap, ◌∙◌}
+use Rattle.std.proofs.Common.{rules, sym, ap, ◌∙◌}
 use Rattle.std.specs.List.{list_any}
 use Rattle.xa_tables.specs.Tables.{is_broken}
 use Rattle.xa_tables.specs.Accounts.{is_broken_by}

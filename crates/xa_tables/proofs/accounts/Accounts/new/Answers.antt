@@ -6,8 +6,7 @@ use Rattle.std.specs.FinMap.{get-empty, from_entries}
 use Rattle.std.proofs.lemmas.List.{take_all, length-map}
 use Rattle.xa_words.specs.Orders.{key_cmp}
 use Rattle.xa_tables.specs.declared.accounts.Account.{Account}
-use Rattle.xa_tables.specs.Tables.{touch_cmp}
-use Rattle.xa_tables.specs.Accounts.{hold_entries, value_entries, AreDistinct, AreIndexed, IsGood}
+use Rattle.xa_tables.specs.Accounts.{AreDistinct, AreIndexed, IsGood}
 use Rattle.xa_tables.specs.Held.{AreHeld}
 use Rattle.xa_tables.proofs.HeldLemmas.{held_declared}
 use Rattle.xa_tables.proofs.PlaceLemmas.{account_of, indexed_push, values_declared, holds_declared, distinct_declared, good_declared, limit_declared}

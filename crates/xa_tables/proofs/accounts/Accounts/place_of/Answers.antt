@@ -1,11 +1,11 @@
-use Rattle.std.proofs.Common.{◌≡◌, ◌<◌, ℕ, List, [], Option, None, Some, length, sym, ap, ◌∙◌, subst, arith}
+use Rattle.std.proofs.Common.{◌≡◌, ◌<◌, ℕ, List, [], Option, length, sym, ap, ◌∙◌, subst, arith}
 use Rattle.std.specs.Prelude.{is_some, IfSome, slice_index_or}
 use Rattle.std.specs.FinMap as finmap
 use Rattle.std.specs.FinMap.{get-from_entries}
 use Rattle.std.proofs.lemmas.List.{length-map}
 use Rattle.xa_words.specs.Orders.{key_cmp_total}
 use Rattle.xa_tables.specs.declared.accounts.Account.{Account}
-use Rattle.xa_tables.specs.Accounts.{value_entries, key_at, keys_of, place_in}
+use Rattle.xa_tables.specs.Accounts.{value_entries, keys_of, place_in}
 use Rattle.xa_tables.proofs.PlaceLemmas.{place_some, place_within, key_placed}
 use Rattle.xa_tables.proofs.accounts.Accounts.place_of.Goals as goal
 

@@ -1,7 +1,6 @@
-use Rattle.std.proofs.Common.{◌≡◌, sym, ap, ◌∙◌, subst, arith}
-use Rattle.std.specs.Prelude.{pos, ◌≤ℤ◌, Some, option_map}
+use Rattle.std.proofs.Common.{sym, ap, ◌∙◌, arith}
+use Rattle.std.specs.Prelude.{pos, Some, option_map}
 use Rattle.std.specs.FinMap as finmap
-use Rattle.std.proofs.lemmas.Int.{ints}
 use Rattle.std.specs.FinMap.{get-from_entries}
 use Rattle.xa_words.specs.Orders.{key_cmp_total}
 use Rattle.xa_tables.specs.Accounts.{value_entries}

@@ -1,4 +1,3 @@
-use Rattle.std.proofs.Common.{arith}
 use Rattle.xa_tables.proofs.SoundLemmas.{sound_removed}
 use Rattle.xa_tables.proofs.branch_tables.BranchTables.commit_one.Goals as goal
 

@@ -1,4 +1,4 @@
-use Rattle.std.proofs.Common.{arith, rules, refl, sym, ap, subst, is_some}
+use Rattle.std.proofs.Common.{rules, refl, sym, ap, subst, is_some}
 use Rattle.xa_tables.specs.Managers.{AreAssociationsLive}
 use Rattle.xa_tables.specs.declared.state.State.TheVariants.{Idle, RollbackOnly}
 use Rattle.xa_tables.specs.declared.state.RollbackReason.TheVariants.{Failed}

@@ -1,4 +1,4 @@
-use Rattle.std.proofs.Common.{arith, rules, refl, ap}
+use Rattle.std.proofs.Common.{rules, ap}
 use Rattle.xa_tables.specs.declared.state.State.TheVariants.{HeuristicallyCompleted}
 use Rattle.xa_tables.specs.declared.state.HeuristicDecision.TheVariants.{Commit, Rollback}
 use Rattle.xa_tables.proofs.SoundLemmas.{sound_put, written, unwritten}

@@ -1,5 +1,5 @@
-use Rattle.std.proofs.Common.{arith, ◌++◌, ap, append-nil, sym, refl, rules, ◌∙◌, ◌≡◌, Some, Bool, subst}
-use Rattle.std.specs.Prelude.{filter, Option, None, is_some, cond, false, true}
+use Rattle.std.proofs.Common.{arith, ◌++◌, ap, append-nil, sym, rules, ◌∙◌, ◌≡◌, Some, Bool, subst}
+use Rattle.std.specs.Prelude.{filter, Option, is_some}
 use Rattle.std.specs.FinMap as map
 use Rattle.std.specs.List.{IsDistinct, list_any}
 use Rattle.std.specs.Map.{keys_of, lookup}

@@ -1,4 +1,4 @@
-use Rattle.std.proofs.Common.{arith, ap, ◌∙◌}
+use Rattle.std.proofs.Common.{ap, ◌∙◌}
 use Rattle.xa_words.specs.Xid.{xid_eq}
 use Rattle.xa_words.specs.Orders.{xid_cmp_total, xid_cmp-IsAntisymmetric, xid_eq-by_cmp}
 use Rattle.xa_base.proofs.HashMaps.{reordered}

@@ -1,4 +1,4 @@
-use Rattle.std.proofs.Common.{arith, ◌≡◌, Option, None, Some, is_some, true, ap, refl, sym, ◌∙◌}
+use Rattle.std.proofs.Common.{arith, ◌≡◌, Option, is_some, true, ap, refl, sym, ◌∙◌}
 use Rattle.std.specs.Option.{OnSome, option_copied_mut}
 use Rattle.std.specs.HashMap.{spare}
 use Rattle.std.specs.FinMap as map

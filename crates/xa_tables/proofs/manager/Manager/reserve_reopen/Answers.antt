@@ -1,4 +1,4 @@
-use Rattle.std.proofs.Common.{arith, rules, sym, subst}
+use Rattle.std.proofs.Common.{rules, sym, subst}
 use Rattle.xa_tables.specs.Managers.{AreAssociationsLive}
 use Rattle.xa_tables.proofs.manager.Manager.reserve_reopen.Goals as goal
 

@@ -1,7 +1,5 @@
-use Rattle.std.proofs.Common.{ap, refl, ◌∙◌, length, ◌≤◌, arith}
-use Rattle.std.specs.FinMap as map
-use Rattle.xa_tables.specs.Next.{association}
-use Rattle.xa_tables.specs.Views.{open_mark, association_in}
+use Rattle.std.proofs.Common.{ap, ◌∙◌, length, ◌≤◌, arith}
+use Rattle.xa_tables.specs.Views.{open_mark}
 use Rattle.xa_tables.proofs.ThreadLemmas.{thread_given, open_same}
 use Rattle.xa_tables.proofs.threads.Threads.associate.Goals as goal
 

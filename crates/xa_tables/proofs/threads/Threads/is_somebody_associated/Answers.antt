@@ -1,4 +1,4 @@
-use Rattle.std.proofs.Common.{arith, ◌≡◌, ap, sym, refl, ◌∙◌}
+use Rattle.std.proofs.Common.{arith, ◌≡◌, ap, sym, ◌∙◌}
 use Rattle.std.specs.Prelude.{None, Some, false, Option}
 use Rattle.std.specs.List.{list_any}
 use Rattle.xa_words.specs.Xid.{XidName, xid_eq}

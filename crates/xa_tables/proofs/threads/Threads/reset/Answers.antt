@@ -1,8 +1,5 @@
-use Rattle.std.proofs.Common.{arith, ap, refl, rules, ◌∙◌, ◌≡◌, None, false}
-use Rattle.std.specs.Prelude.{replicate}
-use Rattle.std.specs.Ordering.{nat_cmp}
+use Rattle.std.proofs.Common.{arith}
 use Rattle.std.specs.FinMap.{from_entries}
-use Rattle.xa_tables.specs.Views.{open_mark, association_in, entries_from}
 use Rattle.xa_tables.proofs.SetLemmas.{marked}
 use Rattle.xa_tables.proofs.ThreadLemmas.{none_from}
 use Rattle.xa_tables.proofs.threads.Threads.reset.Goals as goal
