@@ -1,24 +1,12 @@
 -- On abort no Commit is sent.
 use Rattle.xa_atomicity.proofs.Asked.{second_so, third_so}
-use Rattle.std.specs.Prelude.{◌≡◌, true, false, not, ◌&&◌, ◌||◌, Option, List, refl}
-use Rattle.std.proofs.Common.{◌∙◌, subst}
-use Rattle.std.proofs.lemmas.List.Folds.{list_any_none}
-use Rattle.std.proofs.Math.Bool.{and-false}
-use Rattle.std.proofs.lemmas.Bool.{and_parts}
-use Rattle.xa_words.specs.Tran.{TranName}
+use Rattle.xa_base.proofs.{◌≡◌, true, false, not, ◌&&◌, ◌||◌, Option, List, refl, ◌∙◌, subst, list_any_none, and-false, and_parts}
+use Rattle.xa_words.specs.{TranName, Op}
 use Rattle.xa_words.specs.declared.code.Code.{Code}
-use Rattle.xa_words.specs.declared.request.Op.{Op}
 use Rattle.xa_desk.specs.LedgerView.{LedgerView}
-use Rattle.xa_driver.specs.declared.branch.Branch.{Branch}
-use Rattle.xa_driver.specs.declared.done.Done.{Done}
-use Rattle.xa_driver.specs.Decision.{decides_commit, has_yes}
-use Rattle.xa_log.specs.Log.{LogState}
-use Rattle.xa_driver.specs.Trace.{IsTraceOfCommit, wants_record}
-use Rattle.xa_driver.specs.Course.{AtBranch}
-use Rattle.xa_driver.specs.Resolving.{AsksLedger}
-use Rattle.xa_driver.specs.declared.done.Ending.{Ending}
+use Rattle.xa_driver.specs.{Branch, Done, decides_commit, has_yes, IsTraceOfCommit, wants_record, AtBranch, AsksLedger, Ending, NoCommitWasSent, is_commit}
+use Rattle.xa_log.specs.{LogState}
 use Rattle.xa_driver.proofs.Mapped.{branch_by}
-use Rattle.xa_driver.specs.Commits.{NoCommitWasSent, is_commit}
 use Rattle.xa_atomicity.proofs.EachManager.{every_manager}
 use Rattle.xa_atomicity.proofs.Resolves.{Sends, asks_on, stays}
 

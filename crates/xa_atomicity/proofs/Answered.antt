@@ -1,38 +1,26 @@
 -- Where the request of a resolve that was answered stands in a history, and what it leaves.
 use Rattle.xa_atomicity.proofs.Leading.{waits, unforgotten, over, Stands, IsTowards, Led, Standing, led_after, ends_it}
-use Rattle.std.specs.Prelude.{◌&&◌, unwrap_or}
-use Rattle.std.proofs.Common.{◌≡◌, ◌≢◌, ℕ, suc, ◌+◌, Bool, true, false, cond, ◌==◌, ◌||◌, List, [], ◌∷◌, ◌++◌, length, append_assoc, slice_get, get_or, sym}
-use Rattle.std.proofs.Common.{refl, ap, ◌∙◌, subst, arith, Option, Some, None}
-use Rattle.std.specs.List.{All, cons_option}
-use Rattle.std.specs.Cmp.{nat_cmp_total}
+use Rattle.xa_base.proofs.{◌&&◌, unwrap_or, ◌≡◌, ◌≢◌, ℕ, suc, ◌+◌, Bool, true, false, cond, ◌==◌, ◌||◌, List, [], ◌∷◌, ◌++◌, length, append_assoc, slice_get}
+use Rattle.xa_base.proofs.{get_or, sym, refl, ap, ◌∙◌, subst, arith, Option, Some, None, All, cons_option, nat_cmp_total, eqb-true, false_from_ne_true}
+use Rattle.xa_base.proofs.{All-head, All-tail, by_bool, tied_true, all_left, all_right}
 use Rattle.std.specs.FinSet.{contains-insert}
-use Rattle.std.proofs.lemmas.Bool.{and_right, both_ways, eqb-true, false_from_ne_true}
-use Rattle.std.proofs.lemmas.List.Elements.{All-head, All-tail}
-use Rattle.xa_base.proofs.Truth.{by_bool, tied_true}
-use Rattle.xa_base.proofs.Lists.{all_left, all_right}
-use Rattle.xa_words.specs.Xid.{XidName}
+use Rattle.std.proofs.lemmas.Bool.{and_right, both_ways}
+use Rattle.xa_words.specs.{XidName, RmFail, Op, OpenRm, CloseRm, Request}
 use Rattle.xa_words.specs.declared.code.Code.{Code}
-use Rattle.xa_words.specs.declared.code.Code.TheVariants.{RmFail}
-use Rattle.xa_words.specs.declared.request.Op.{Op}
-use Rattle.xa_words.specs.declared.request.Op.TheVariants.{OpenRm, CloseRm}
-use Rattle.xa_words.specs.declared.request.Request.{Request}
-use Rattle.xa_tables.specs.declared.state.HeuristicDecision.{HeuristicDecision}
-use Rattle.xa_tables.specs.declared.state.State.{State}
-use Rattle.xa_tables.specs.declared.state.State.TheVariants.{Prepared, HeuristicallyCompleted}
-use Rattle.xa_tables.specs.Tables.{Tables, has_opened}
-use Rattle.xa_tables.specs.Reasons.{decision_code}
-use Rattle.xa_tables.specs.Next.{Answer, next, open_rm}
-use Rattle.xa_tables.specs.History.{History, Fate, decided_fate, coded, of_thread, tables_after, fate_of, last_or, is_in_doubt as is_unknown}
-use Rattle.xa_tables.specs.Prepared.{closes, is_close}
+use Rattle.xa_tables.specs.{HeuristicDecision, State, HeuristicallyCompleted, has_opened, decision_code, Answer, next, open_rm, Fate, decided_fate, coded}
+use Rattle.xa_tables.specs.{of_thread, tables_after, fate_of, last_or, is_in_doubt as is_unknown, closes, is_close}
+use Rattle.xa_tables.specs.declared.state.State.TheVariants.{Prepared}
+use Rattle.xa_tables.specs.Tables.{Tables}
+use Rattle.xa_tables.specs.History.{History}
 use Rattle.xa_tables.proofs.Law.{Sound, sound_after, last_more}
 use Rattle.xa_tables.proofs.Opened.{opened_on}
 use Rattle.xa_tables.proofs.ShutLemmas.{next-shut, shut_stays}
 use Rattle.xa_tables.proofs.Unnamed.{tables_after-append}
 use Rattle.xa_desk.specs.LedgerView.{LedgerView}
-use Rattle.xa_desk.specs.Lanes.{numbered}
-use Rattle.xa_switch.specs.Settling.{answers}
-use Rattle.xa_atomicity.specs.Resolution.{ended_as}
-use Rattle.xa_driver.specs.Resolving.{outcome_op}
+use Rattle.xa_desk.specs.{numbered}
+use Rattle.xa_switch.specs.{answers}
+use Rattle.xa_atomicity.specs.{ended_as}
+use Rattle.xa_driver.specs.{outcome_op}
 use Rattle.xa_atomicity.proofs.Guided.{decided_known, known_stays}
 use Rattle.xa_atomicity.proofs.Placing.{request_of, part, numbered_both, fates, fates_both, last_both}
 use Rattle.xa_atomicity.proofs.Requests.{own_all, code_there, count_two}

@@ -1,36 +1,19 @@
 -- What leaves the branches of a commit: nothing, and requests of which none names them.
 use Rattle.xa_atomicity.proofs.Asked.{second_so, third_so}
-use Rattle.std.proofs.Common.{◌≡◌, ◌≢◌, ℕ, ◌<◌, ◌≤◌, Bool, true, false, List, [], ◌∷◌, ◌++◌, length, map, get_or, ⊎_elim, sym, refl, ◌∙◌, subst, arith, Option}
-use Rattle.std.specs.List.{All, Contains}
-use Rattle.std.proofs.lemmas.Bool.{cases_lt, false_from_ne_true}
-use Rattle.std.proofs.lemmas.List.Elements.{All-nil, All-cons, All-contains, Contains-get_or}
-use Rattle.xa_base.specs.declared.limits.TheConstants.{MOST_MANAGERS}
-use Rattle.xa_words.specs.Xid.{XidName, xid_eq}
-use Rattle.xa_words.specs.Orders.{Decides-xid_eq}
+use Rattle.xa_base.proofs.{◌≡◌, ◌≢◌, ℕ, ◌<◌, ◌≤◌, Bool, true, false, List, [], ◌∷◌, ◌++◌, length, map, get_or, ⊎_elim, sym, refl, ◌∙◌, subst, arith, Option}
+use Rattle.xa_base.proofs.{All, Contains, cases_lt, false_from_ne_true, All-nil, All-cons, All-contains}
+use Rattle.std.proofs.lemmas.List.Elements.{Contains-get_or}
+use Rattle.xa_base.specs.{MOST_MANAGERS}
+use Rattle.xa_words.specs.{XidName, xid_eq, Decides-xid_eq, Op, Prepare}
 use Rattle.xa_words.specs.declared.code.Code.{Code}
-use Rattle.xa_words.specs.declared.request.Op.{Op}
-use Rattle.xa_words.specs.declared.request.Op.TheVariants.{Prepare}
-use Rattle.xa_tables.specs.Prepared.{names}
+use Rattle.xa_tables.specs.{names}
 use Rattle.xa_desk.specs.LedgerView.{LedgerView}
-use Rattle.xa_desk.specs.DeskView.{DeskView, ledger}
-use Rattle.xa_desk.specs.Growth.{HaveGrown}
-use Rattle.xa_driver.specs.declared.branch.Branch.{Branch}
-use Rattle.xa_driver.specs.declared.done.Done.{Done}
-use Rattle.xa_driver.specs.declared.done.Ending.{Ending}
-use Rattle.xa_driver.specs.declared.resolved.Outcome.{Outcome}
-use Rattle.xa_driver.specs.declared.stages.Prepared.{Prepared}
-use Rattle.xa_driver.specs.declared.stages.Decided.{Decided}
-use Rattle.xa_driver.specs.declared.stages.Told.{Told}
-use Rattle.xa_driver.specs.Asks.{Ask, HaveComeSoFar, SameAsks}
-use Rattle.xa_atomicity.specs.Cut.{AreOthers, DidOther, LeavesBranches}
-use Rattle.xa_driver.specs.Endings.{second_op, third_op}
-use Rattle.xa_log.specs.Log.{LogState}
-use Rattle.xa_atomicity.specs.Resolution.{IsDone, IsOutcomeOf, ResolveCall, resolves}
-use Rattle.xa_driver.specs.Resolving.{outcome_op, AsksLedger}
-use Rattle.xa_driver.specs.Rounds.{code_of, first_ask, second_ask, third_ask}
-use Rattle.xa_driver.specs.Stages.{HasDecided, HasPrepared, HasTold}
-use Rattle.xa_driver.specs.Course.{AtBranch}
-use Rattle.xa_driver.specs.Trace.{AreBranchesRising, IsCommit}
+use Rattle.xa_desk.specs.DeskView.{DeskView}
+use Rattle.xa_desk.specs.{ledger, HaveGrown}
+use Rattle.xa_driver.specs.{Branch, Done, Ending, Outcome, Prepared, Decided, Told, Ask, HaveComeSoFar, SameAsks, second_op, third_op, outcome_op, AsksLedger}
+use Rattle.xa_driver.specs.{code_of, first_ask, second_ask, third_ask, HasDecided, HasPrepared, HasTold, AtBranch, AreBranchesRising, IsCommit}
+use Rattle.xa_atomicity.specs.{AreOthers, DidOther, LeavesBranches, IsDone, IsOutcomeOf, ResolveCall, resolves}
+use Rattle.xa_log.specs.{LogState}
 use Rattle.xa_atomicity.proofs.CutSends.{seconds_are, sends_so_far}
 use Rattle.xa_atomicity.proofs.CutVotes.{did_nothing, other_sends}
 use Rattle.xa_driver.proofs.Mapped.{IsAskedFor, branch_by}

@@ -1,33 +1,22 @@
 -- How a branch ends that voted to commit, over openings one after another, by what it stands at as the first of them ends.
-use Rattle.std.specs.Prelude.{ℤ, pos, ◌⊎◌}
-use Rattle.std.proofs.Common.{◌≡◌, ◌≢◌, ℕ, inl, inr, ⊎_elim, Bool, true, false, if◌then◌else◌, List, [], ◌∷◌, ◌++◌, sym, ap, ◌∙◌, subst, Some}
-use Rattle.std.specs.List.{All, Contains}
-use Rattle.std.proofs.lemmas.List.Elements.{All-head, All-tail}
-use Rattle.xa_base.specs.declared.limits.TheConstants.{MOST_MANAGERS}
-use Rattle.xa_base.specs.Lists.{IsUpTo}
-use Rattle.xa_base.proofs.Lists.{some_same}
-use Rattle.xa_words.specs.Xid.{XidName}
-use Rattle.xa_words.specs.Tran.{tran_of}
-use Rattle.xa_words.specs.declared.code.Code.TheVariants.{RmFail}
-use Rattle.xa_words.specs.declared.request.Op.TheVariants.{Prepare}
-use Rattle.xa_tables.specs.declared.state.HeuristicDecision.{HeuristicDecision}
-use Rattle.xa_tables.specs.Tables.{Tables, state_of, is_left_in, is_prepared}
+use Rattle.xa_base.proofs.{ℤ, pos, ◌⊎◌, ◌≡◌, ◌≢◌, ℕ, inl, inr, ⊎_elim, Bool, true, false, if◌then◌else◌, List, [], ◌∷◌, ◌++◌, sym, ap, ◌∙◌, subst, Some, All}
+use Rattle.xa_base.proofs.{Contains, All-head, All-tail, some_same}
+use Rattle.xa_base.specs.{MOST_MANAGERS, IsUpTo}
+use Rattle.xa_words.specs.{XidName, tran_of, RmFail, Prepare}
+use Rattle.xa_tables.specs.{HeuristicDecision, state_of, is_left_in, is_prepared, Fate, fate, coded, tables_after, decided_fate, is_in_doubt as is_unknown}
+use Rattle.xa_tables.specs.{IsFateOf, share, AreLeft, commits_over, told_by}
+use Rattle.xa_tables.specs.Tables.{Tables}
 use Rattle.xa_tables.specs.History as history
-use Rattle.xa_tables.specs.History.{History, Fate, fate, coded, tables_after, decided_fate, is_in_doubt as is_unknown, IsFateOf, share}
-use Rattle.xa_tables.specs.Openings.{AreLeft, commits_over, told_by}
-use Rattle.xa_switch.specs.Fates.{IsOpenedWith, first_of, history as history_of, settled_fate}
-use Rattle.xa_scan.specs.Left.{left_at}
-use Rattle.xa_switch.specs.Settling.{Settling, IsSettled}
-use Rattle.xa_driver.specs.declared.branch.Branch.{Branch}
-use Rattle.xa_driver.specs.declared.done.Ending.{Ending}
-use Rattle.xa_driver.specs.declared.resolved.Outcome.{Outcome}
-use Rattle.xa_atomicity.specs.Additions.{IsAddition, prepare_of}
-use Rattle.xa_driver.specs.Endings.{is_decided}
-use Rattle.xa_atomicity.specs.Outcomes.{WasAtFirst, is_heuristic, told_fate}
-use Rattle.xa_atomicity.specs.Resolution.{AreInARow, EndsAs, IsKept, IsListed, OnlyResolves, Opening, ResolveCall, became, ended_as, fate_through, last_of}
-use Rattle.xa_atomicity.specs.Resolution.{resolves, tables_left, uses_of}
+use Rattle.xa_tables.specs.History.{History}
+use Rattle.xa_switch.specs.{IsOpenedWith, first_of, history as history_of, settled_fate, IsSettled}
+use Rattle.xa_scan.specs.{left_at}
+use Rattle.xa_switch.specs.Settling.{Settling}
+use Rattle.xa_driver.specs.{Branch, Ending, Outcome, is_decided}
+use Rattle.xa_atomicity.specs.{IsAddition, prepare_of, WasAtFirst, is_heuristic, told_fate, AreInARow, EndsAs, IsKept, IsListed, OnlyResolves, Opening}
+use Rattle.xa_atomicity.specs.{ResolveCall, became, ended_as, fate_through, last_of, resolves, tables_left, uses_of, IsUnlisted, SharesOver, commits_after}
+use Rattle.xa_atomicity.specs.{histories}
 use Rattle.xa_atomicity.specs.Tabled.{Tabled}
-use Rattle.xa_atomicity.specs.Worth.{IsUnlisted, SharesOver, commits_after, histories, is_committed}
+use Rattle.xa_atomicity.specs.Worth.{is_committed}
 use Rattle.xa_atomicity.proofs.Counting.{committed_so, counts_so, walk_counts}
 use Rattle.xa_atomicity.proofs.Shares.{add_place, commits_or, share_is}
 use Rattle.xa_atomicity.proofs.EndsByFate.{Through, End, decided_one, decision_so, ends_so, is_decided_so, is_known_so, untold, left_in_doubt}

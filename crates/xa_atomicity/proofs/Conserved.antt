@@ -1,54 +1,34 @@
 -- Transfers conserve what all accounts are worth together, but for what branches in doubt hold.
-use Rattle.xa_driver.specs.Commits.{is_commit}
-use Rattle.xa_atomicity.proofs.Moves.{within_parts}
-use Rattle.xa_atomicity.proofs.Requests.{none_all}
-use Rattle.xa_atomicity.proofs.Settled.{sent_between}
+use Rattle.xa_driver.specs.{is_commit, Branch, Done, Ending, Committed, ReadOnly, RolledBack, InDoubt, Heuristic, Left, is_no, IsCommit, AreBranchesRising}
+use Rattle.xa_driver.specs.{has_branch_at, HasSentNoCommit, NoCommitWasSent}
+use Rattle.xa_atomicity.proofs.Moves.{within_parts, is_within, outside, moved_parted, moved_none, moved_without, moved_alike, moved_nothing}
+use Rattle.xa_atomicity.proofs.Requests.{none_all, all_earlier}
+use Rattle.xa_atomicity.proofs.Settled.{sent_between, Both, all_outcomes, growth_law, by_ledger}
 use Rattle.std.proofs.lemmas.Option.{slice_get_past}
-use Rattle.std.proofs.lemmas.Bool.{ne_eqb, or_from, cases_lt, eqb-true, eqb-false, le-leb, or_parts}
-use Rattle.std.specs.Prelude.{ℤ, pos, ◌+ℤ◌, All, nat_le, ◌&&◌}
-use Rattle.std.proofs.Common.{◌≡◌, ℕ, zero, suc, ◌+◌, ◌-◌, ◌<◌, ◌≤◌, ◌==◌, Bool, true, false, if◌then◌else◌, ⊎_elim, List, [], ◌∷◌, length, length-append}
-use Rattle.std.proofs.Common.{get_or, sym, refl, ap, ◌∙◌, subst, arith}
-use Rattle.std.specs.List.{list_any, range_with_len}
-use Rattle.std.proofs.lemmas.Int.{ints}
-use Rattle.std.proofs.Math.IntN.{+ℤ_idl as none_plus, +ℤ_idr as plus_none}
-use Rattle.xa_base.specs.Lists.{Begins}
-use Rattle.xa_base.specs.Sums.{total}
-use Rattle.xa_base.proofs.Lists.{contains_at, range_all, got}
-use Rattle.xa_base.proofs.Sums.{total_alike, total_both, total_nothing}
-use Rattle.xa_words.specs.Xid.{XidName}
+use Rattle.xa_base.proofs.{ne_eqb, or_from, cases_lt, eqb-true, eqb-false, le-leb, or_parts, ℤ, pos, ◌+ℤ◌, All, nat_le, ◌&&◌, ◌≡◌, ℕ, zero, suc, ◌+◌, ◌-◌, ◌<◌}
+use Rattle.xa_base.proofs.{◌≤◌, ◌==◌, Bool, true, false, if◌then◌else◌, ⊎_elim, List, [], ◌∷◌, length, length-append, get_or, sym, refl, ap, ◌∙◌, subst, arith}
+use Rattle.xa_base.proofs.{list_any, range_with_len, ints, +ℤ_idl as none_plus, +ℤ_idr as plus_none, contains_at, range_all, got, total_alike, total_both}
+use Rattle.xa_base.proofs.{total_nothing}
+use Rattle.xa_base.specs.{Begins, total}
+use Rattle.xa_words.specs.{XidName, Request}
 use Rattle.xa_words.specs.declared.code.Code.{Code}
-use Rattle.xa_words.specs.declared.request.Request.{Request}
 use Rattle.xa_tables.specs.Tables.{Tables}
-use Rattle.xa_tables.specs.Accounts.{are_accounts}
-use Rattle.xa_tables.specs.Managers.{opening}
-use Rattle.xa_tables.specs.History.{History, tables_after}
-use Rattle.xa_tables.specs.Worth.{moved, held_by, is_of, HoldsItsAdditions}
+use Rattle.xa_tables.specs.{are_accounts, opening, tables_after, moved, held_by, is_of, HoldsItsAdditions}
+use Rattle.xa_tables.specs.History.{History}
 use Rattle.xa_desk.specs.LedgerView.{LedgerView}
-use Rattle.xa_desk.specs.DeskView.{DeskView, ledger}
-use Rattle.xa_desk.specs.Growth.{HaveGrown}
+use Rattle.xa_desk.specs.DeskView.{DeskView}
+use Rattle.xa_desk.specs.{ledger, HaveGrown}
 use Rattle.xa_desk.proofs.Growth.{growing_on, same_lists}
-use Rattle.xa_switch.specs.declared.plan.Plan.{Plan}
-use Rattle.xa_switch.specs.Plans.{IsSoundManager}
-use Rattle.xa_switch.specs.Settling.{Settling, IsSettled, sent}
-use Rattle.xa_switch.specs.Fates.{IsOpenedWith, ledgers_of, history}
-use Rattle.xa_switch.specs.Worth.{threads_of, managers_of, accounts_in, accounts_of, plan_worth, settled_worth, moved_by, WorthIsOfThreads}
+use Rattle.xa_switch.specs.{Plan, IsSoundManager, IsSettled, sent, IsOpenedWith, ledgers_of, history, threads_of, managers_of, accounts_in, accounts_of}
+use Rattle.xa_switch.specs.{plan_worth, settled_worth, moved_by, WorthIsOfThreads}
+use Rattle.xa_switch.specs.Settling.{Settling}
 use Rattle.xa_switch.proofs.Lists.{all_contains}
-use Rattle.xa_driver.specs.declared.branch.Branch.{Branch}
-use Rattle.xa_driver.specs.declared.done.Done.{Done}
-use Rattle.xa_driver.specs.declared.done.Ending.{Ending}
-use Rattle.xa_driver.specs.declared.done.Ending.TheVariants.{Committed, ReadOnly, RolledBack, InDoubt, Heuristic, Left}
-use Rattle.xa_driver.specs.Decision.{is_no}
-use Rattle.xa_log.specs.Log.{LogState}
-use Rattle.xa_driver.specs.Trace.{IsCommit, AreBranchesRising, has_branch_at}
-use Rattle.xa_driver.specs.Commits.{HasSentNoCommit, NoCommitWasSent}
-use Rattle.xa_atomicity.specs.Outcomes.{EachOutcome, AreLeftAlone, has_committed, is_committed, is_rolled_back, is_in_doubt, is_heuristic, is_left}
-use Rattle.xa_atomicity.specs.Outcomes.{is_read_only, sent_so_far}
-use Rattle.xa_atomicity.specs.Conservation.{taken_before, added_before, added_by_all, total_in_doubt, held_in_doubt, OnlyTransfers, opened, worked, committed}
+use Rattle.xa_log.specs.{LogState}
+use Rattle.xa_atomicity.specs.{EachOutcome, AreLeftAlone, has_committed, is_rolled_back, is_in_doubt, is_heuristic, is_left, is_read_only, sent_so_far}
+use Rattle.xa_atomicity.specs.{taken_before, added_before, added_by_all, total_in_doubt, held_in_doubt, OnlyTransfers, opened, worked, committed}
+use Rattle.xa_atomicity.specs.Outcomes.{is_committed}
 use Rattle.xa_atomicity.specs.Tabled.{Tabled}
-use Rattle.xa_atomicity.proofs.Moves.{is_within, outside, moved_parted, moved_none, moved_without, moved_alike, moved_nothing}
-use Rattle.xa_atomicity.proofs.Requests.{all_earlier}
 use Rattle.xa_atomicity.proofs.OneOutcome.{committed_law}
-use Rattle.xa_atomicity.proofs.Settled.{Both, all_outcomes, growth_law, by_ledger}
 
 begins_length : {X : Type 0} (xs ys : List X) → Begins xs ys → length xs ≤ length ys
 begins_length xs ys b = let e : length ys ≡ length xs + length b.0 = ap length b.1 ∙ length-append xs b.0 in omega (arith, e)

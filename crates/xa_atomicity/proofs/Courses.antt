@@ -1,31 +1,15 @@
 -- The courses that a branch of a commit may take, by the places of its requests in its manager's settled history.
 use Rattle.xa_atomicity.proofs.Sites.{asks, withholds, Site, StandsIn, Sent, AsksIn, only_op, Second}
-use Rattle.std.proofs.lemmas.Bool.{cases_lt, cases_Bool}
-use Rattle.std.proofs.Common.{◌≤◌, ⊎_elim, get_or, ◌≡◌, ℕ, ◌∷◌, ◌++◌, suc, ◌+◌, ◌<◌, Bool, true, false, ◌||◌, if◌then◌else◌, sym, refl, ap, ◌∙◌, subst, arith}
-use Rattle.std.proofs.Common.{Option, Some, None, inl, inr}
-use Rattle.std.specs.Prelude.{◌⊎◌}
-use Rattle.xa_driver.specs.Deaths.{VotesAndObeys}
-use Rattle.xa_driver.specs.Resolving.{outcome_op}
-use Rattle.std.specs.List.{All}
-use Rattle.std.proofs.Math.Bool.{or-true}
-use Rattle.xa_base.proofs.Lists.{all_after}
-use Rattle.xa_words.specs.Xid.{XidName}
+use Rattle.xa_base.proofs.{cases_lt, cases_Bool, ◌≤◌, ⊎_elim, get_or, ◌≡◌, ℕ, ◌∷◌, ◌++◌, suc, ◌+◌, ◌<◌, Bool, true, false, ◌||◌, if◌then◌else◌, sym, refl, ap}
+use Rattle.xa_base.proofs.{◌∙◌, subst, arith, Option, Some, None, inl, inr, ◌⊎◌, All, or-true, all_after, by_if, at_false, at_true}
+use Rattle.xa_driver.specs.{VotesAndObeys, outcome_op, Branch, Ending, ReadOnly, RolledBack, Left, AsksFor, AtBranch, is_yes, is_read, second_op, third_op}
+use Rattle.xa_driver.specs.{ending_of, yes_ending, no_ending, is_out_of_reach, is_decided}
+use Rattle.xa_words.specs.{XidName, Done, RdOnly, RmFail, Op, Prepare, Commit, Rollback, Forget, Request}
 use Rattle.xa_words.specs.declared.code.Code.{Code}
-use Rattle.xa_words.specs.declared.code.Code.TheVariants.{Done, RdOnly, RmFail}
-use Rattle.xa_words.specs.declared.request.Op.{Op}
-use Rattle.xa_words.specs.declared.request.Op.TheVariants.{Prepare, Commit, Rollback, Forget}
-use Rattle.xa_words.specs.declared.request.Request.{Request}
 use Rattle.xa_tables.specs.Tables.{Tables}
-use Rattle.xa_tables.specs.History.{History, is_rolled_back}
-use Rattle.xa_tables.specs.Prepared.{is_forget, is_heur}
-use Rattle.xa_desk.specs.LedgerView.{is_rm_fail}
-use Rattle.xa_base.proofs.Truth.{by_if, at_false, at_true}
-use Rattle.xa_driver.specs.declared.branch.Branch.{Branch}
-use Rattle.xa_driver.specs.declared.done.Ending.{Ending}
-use Rattle.xa_driver.specs.declared.done.Ending.TheVariants.{ReadOnly, RolledBack, Left}
-use Rattle.xa_driver.specs.Course.{AsksFor, AtBranch}
-use Rattle.xa_driver.specs.Decision.{is_yes, is_read}
-use Rattle.xa_driver.specs.Endings.{second_op, third_op, ending_of, yes_ending, no_ending, is_out_of_reach, is_decided}
+use Rattle.xa_tables.specs.History.{History}
+use Rattle.xa_tables.specs.{is_rolled_back, is_forget, is_heur}
+use Rattle.xa_desk.specs.{is_rm_fail}
 use Rattle.xa_atomicity.proofs.Placing.{request_of}
 
 pub yes_is : (c : Code) → is_yes c ≡ true → c ≡ Done

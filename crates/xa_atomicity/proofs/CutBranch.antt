@@ -4,41 +4,26 @@ use Rattle.xa_atomicity.proofs.Voting.{ends, leaves, tells, AtEnd, Comes, once, 
 use Rattle.xa_atomicity.proofs.Leading.{waits, unforgotten, over, IsTowards, Stands, ends_towards}
 use Rattle.xa_atomicity.proofs.Sites.{Site, StandsIn, above, at_place, below, later_place, stands_by}
 use Rattle.xa_atomicity.proofs.Asked.{is_told_decision, second_so, third_so}
-use Rattle.std.proofs.lemmas.Bool.{both_ways, false_from_ne_true}
+use Rattle.std.proofs.lemmas.Bool.{both_ways}
+use Rattle.xa_base.proofs.{false_from_ne_true, ◌≡◌, ℕ, suc, ◌+◌, inl, inr, Bool, true, false, if◌then◌else◌, List, [], ◌∷◌, ◌++◌, length, length-append}
+use Rattle.xa_base.proofs.{append-nil, append_assoc, slice_get, get_or, sym, refl, ap, ◌∙◌, subst, arith, Option, Some, None, All, Contains, All-append}
+use Rattle.xa_base.proofs.{All-cons, All-contains, All-head, begins_on, some_same, all_mid, all_right, all_after, at_false, at_true}
 use Rattle.xa_atomicity.proofs.Courses.{yes_wanted}
-use Rattle.std.proofs.Common.{◌≡◌, ℕ, suc, ◌+◌, inl, inr, Bool, true, false, if◌then◌else◌, List, [], ◌∷◌, ◌++◌, length, length-append, append-nil}
-use Rattle.std.proofs.Common.{append_assoc, slice_get, get_or, sym, refl, ap, ◌∙◌, subst, arith, Option, Some, None}
-use Rattle.std.specs.List.{All, Contains}
-use Rattle.std.proofs.lemmas.List.Elements.{All-append, All-cons, All-contains, All-head}
-use Rattle.xa_base.specs.Lists.{Begins}
-use Rattle.xa_base.proofs.Lists.{begins_on, some_same, all_mid, all_right, all_after}
-use Rattle.xa_base.proofs.Truth.{at_false, at_true}
-use Rattle.xa_words.specs.Xid.{XidName}
+use Rattle.xa_base.specs.{Begins}
+use Rattle.xa_words.specs.{XidName, Done, RmFail, Op, Prepare, Request}
 use Rattle.xa_words.specs.declared.code.Code.{Code}
-use Rattle.xa_words.specs.declared.code.Code.TheVariants.{Done, RmFail}
-use Rattle.xa_words.specs.declared.request.Op.{Op}
-use Rattle.xa_words.specs.declared.request.Op.TheVariants.{Prepare}
-use Rattle.xa_words.specs.declared.request.Request.{Request}
 use Rattle.xa_words.proofs.Xids.{xid_self}
-use Rattle.xa_tables.specs.declared.state.HeuristicDecision.{HeuristicDecision}
-use Rattle.xa_tables.specs.declared.state.State.{State}
-use Rattle.xa_tables.specs.Tables.{Tables, is_left_in}
-use Rattle.xa_tables.specs.Reasons.{decision_code}
-use Rattle.xa_tables.specs.Next.{next}
+use Rattle.xa_tables.specs.{HeuristicDecision, State, is_left_in, decision_code, next, Fate, IsFateOf, coded, decided_fate, fate, is_rolled_back, last_or}
+use Rattle.xa_tables.specs.{of_thread, tables_after, IsTold as IsToldDecision, names}
+use Rattle.xa_tables.specs.Tables.{Tables}
 use Rattle.xa_tables.specs.History as history
-use Rattle.xa_tables.specs.History.{History, Fate, IsFateOf, coded, decided_fate, fate, is_rolled_back, last_or, of_thread, tables_after}
-use Rattle.xa_tables.specs.Prepared.{IsTold as IsToldDecision, names}
+use Rattle.xa_tables.specs.History.{History}
 use Rattle.xa_tables.proofs.Law.{opening_sound, run_sound}
-use Rattle.xa_desk.specs.LedgerView.{LedgerView, learnt_shut, with_sent, with_collected}
-use Rattle.xa_desk.specs.Lanes.{numbered}
-use Rattle.xa_switch.specs.Settling.{answers}
-use Rattle.xa_driver.specs.declared.branch.Branch.{Branch}
-use Rattle.xa_driver.specs.declared.done.Ending.{Ending}
-use Rattle.xa_driver.specs.Asks.{IsAnswered, IsBegun, asked, collected, in_flight, unasked}
-use Rattle.xa_atomicity.specs.Cut.{IsAsked, IsEnded, IsTold}
-use Rattle.xa_driver.specs.Endings.{is_decided, second_op, third_op, yes_ending}
-use Rattle.xa_atomicity.specs.Outcomes.{IsBetween, OnlyTheseOrDecisionsName, told_fate}
-use Rattle.xa_driver.specs.Resolving.{outcome_op}
+use Rattle.xa_desk.specs.LedgerView.{LedgerView}
+use Rattle.xa_desk.specs.{learnt_shut, with_sent, with_collected, numbered}
+use Rattle.xa_switch.specs.{answers}
+use Rattle.xa_driver.specs.{Branch, Ending, IsAnswered, IsBegun, asked, collected, in_flight, unasked, is_decided, second_op, third_op, yes_ending, outcome_op}
+use Rattle.xa_atomicity.specs.{IsAsked, IsEnded, IsTold, IsBetween, OnlyTheseOrDecisionsName, told_fate}
 use Rattle.xa_driver.proofs.Mapped.{IsAskedFor}
 use Rattle.xa_atomicity.proofs.EndsByFate.{decision_so, is_decided_so}
 use Rattle.xa_atomicity.proofs.Guided.{IsGuided, at_last, fate_any, fates_from, fates_once}

@@ -1,40 +1,22 @@
 -- What a commit sent that was cut short: by the record no Commit, or no Rollback.
-use Rattle.std.proofs.lemmas.List.Elements.{All-contains, All-head, All-tail}
+use Rattle.xa_base.proofs.{All-contains, All-head, All-tail, ◌&&◌, is_some, ◌⊎◌, ◌≡◌, ℕ, ◌≤◌, Bool, true, false, ◌==◌, ◌||◌, List, [], ◌∷◌, map, get_or, inl}
+use Rattle.xa_base.proofs.{inr, sym, refl, ap, ◌∙◌, subst, Some, None, All, eqb-true, list_any_none, all_unmapped, by_if, by_bool}
 use Rattle.xa_atomicity.proofs.CutVotes.{CameAt, IsVoteOf, each_came, at_asking, at_forgetting, at_telling, HasVoted, begun_sends, ended_voted, other_sends}
 use Rattle.xa_atomicity.proofs.CutVotes.{told_voted}
-use Rattle.xa_driver.specs.Trace.{AreBranchesRising, IsTranOf, Logs, decision_of, voted}
+use Rattle.xa_driver.specs.{AreBranchesRising, IsTranOf, Logs, decision_of, voted, Branch, Ending, Round, Prepared, Decided, Ask, HaveComeSoFar, IsBegun}
+use Rattle.xa_driver.specs.{SameAsks, among_asks, is_commit, has_yes, is_yes, yes_of, second_op, code_of, second_ask, yes_asked, HasDecided, HasPrepared}
 use Rattle.xa_atomicity.proofs.Requests.{none_all}
 use Rattle.xa_atomicity.proofs.Records.{recorded_is, none_on_abort}
 use Rattle.xa_atomicity.proofs.Asked.{second_so, third_so}
-use Rattle.std.specs.Prelude.{◌&&◌, is_some, ◌⊎◌}
-use Rattle.std.proofs.Common.{◌≡◌, ℕ, ◌≤◌, Bool, true, false, ◌==◌, ◌||◌, List, [], ◌∷◌, map, get_or, inl, inr, sym, refl, ap, ◌∙◌, subst, Some, None}
-use Rattle.std.specs.List.{All}
-use Rattle.std.proofs.lemmas.Bool.{eqb-true, and_left, and_right, true_from_ne_false, both_ways}
-use Rattle.std.proofs.lemmas.List.Folds.{list_any_none}
-use Rattle.xa_base.proofs.Lists.{all_unmapped}
-use Rattle.xa_base.proofs.Truth.{by_if, by_bool}
-use Rattle.xa_words.specs.Xid.{XidName}
-use Rattle.xa_words.specs.Tran.{TranName}
+use Rattle.std.proofs.lemmas.Bool.{and_left, and_right, true_from_ne_false, both_ways}
+use Rattle.xa_words.specs.{XidName, TranName, Op, Prepare, Commit, Rollback, Forget}
 use Rattle.xa_words.specs.declared.code.Code.{Code}
-use Rattle.xa_words.specs.declared.request.Op.{Op}
-use Rattle.xa_words.specs.declared.request.Op.TheVariants.{Prepare, Commit, Rollback, Forget}
-use Rattle.xa_tables.specs.Prepared.{names}
+use Rattle.xa_tables.specs.{names}
 use Rattle.xa_desk.specs.LedgerView.{LedgerView}
-use Rattle.xa_desk.specs.DeskView.{DeskView, ledger}
-use Rattle.xa_driver.specs.declared.branch.Branch.{Branch}
-use Rattle.xa_driver.specs.declared.done.Ending.{Ending}
-use Rattle.xa_driver.specs.declared.round.Round.{Round}
-use Rattle.xa_driver.specs.declared.stages.Prepared.{Prepared}
-use Rattle.xa_driver.specs.declared.stages.Decided.{Decided}
-use Rattle.xa_driver.specs.Asks.{Ask, HaveComeSoFar, IsBegun, SameAsks, among_asks}
-use Rattle.xa_driver.specs.Commits.{is_commit}
-use Rattle.xa_atomicity.specs.Cut.{CameSoFar, GoesByTheRecord, HasSentNone, IsAsked, IsCut, NoneWasToldToCommit, NoneWasToldToRollBack, is_recorded}
-use Rattle.xa_atomicity.specs.Cut.{is_rollback}
-use Rattle.xa_driver.specs.Decision.{has_yes, is_yes, yes_of}
-use Rattle.xa_driver.specs.Endings.{second_op}
-use Rattle.xa_log.specs.Log.{LogState, record_of}
-use Rattle.xa_driver.specs.Rounds.{code_of, second_ask, yes_asked}
-use Rattle.xa_driver.specs.Stages.{HasDecided, HasPrepared}
+use Rattle.xa_desk.specs.DeskView.{DeskView}
+use Rattle.xa_desk.specs.{ledger}
+use Rattle.xa_atomicity.specs.{CameSoFar, GoesByTheRecord, HasSentNone, IsAsked, IsCut, NoneWasToldToCommit, NoneWasToldToRollBack, is_recorded, is_rollback}
+use Rattle.xa_log.specs.{LogState, record_of}
 use Rattle.xa_driver.proofs.Gathering.{carried}
 use Rattle.xa_driver.proofs.Mapped.{IsAskedFor}
 use Rattle.xa_driver.proofs.Calls.{one_tran}
@@ -178,7 +160,6 @@ second_round_sends bs start mid log later p d js at now first absent second same
       goes is_rollback (λ commit v. commit ≡ true) no_rollback_so (λ k e lt. decision ∙ decided_so p.tran log later absent (map code_of p.round.asks.items) d.known.logged (yes_asked p.round.asks.items) logs on) m positive in
       record { more = z.more; sent = z.sent; none = list_any_none is_rollback z.more z.all };
 }
-
   where
     decision : d.known.commit ≡ decision_of (map code_of p.round.asks.items) d.known.logged
     decision = second.decision ∙ ap (λ vs. decision_of vs d.known.logged) first.votes

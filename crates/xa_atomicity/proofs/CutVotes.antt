@@ -1,41 +1,22 @@
 -- The votes that a commit got which was cut short, and what it leaves in the log.
-use Rattle.xa_atomicity.specs.Cut.{IsAsked, CameSoFar, ending_at, known_at, DidOther, EachVote, IsCut, IsEnded, IsTold, asking, forgetting, telling}
-use Rattle.std.proofs.Common.{◌==◌, ◌||◌, if◌then◌else◌, ◌+◌, zero, slice_get, ◌<◌, arith, ◌≡◌, ℕ, Bool, true, false, ◌&&◌, List, [], ◌∷◌, ◌++◌, length}
-use Rattle.std.proofs.Common.{append-nil, append_assoc, get_or, sym, refl, ap, ◌∙◌, subst, Option, Some}
-use Rattle.xa_driver.specs.declared.done.Ending.TheVariants.{InDoubt}
-use Rattle.std.specs.Prelude.{◌&&◌, unwrap_or}
-use Rattle.xa_driver.specs.Decision.{has_yes, voted_yes, yes_of, is_yes}
-use Rattle.std.proofs.Math.Bool.{or-true}
-use Rattle.std.proofs.lemmas.Bool.{eq-eqb, ne_eqb, both_ways, false_from_ne_true, or_from, eqb-true}
-use Rattle.xa_driver.specs.Trace.{AreBranchesRising, Logs, decision_of, EachBranch, IsCommit, IsTranOf, voted}
-use Rattle.xa_base.proofs.Lists.{begins_on, all_mid, same_begins}
+use Rattle.xa_atomicity.specs.{IsAsked, CameSoFar, ending_at, known_at, DidOther, EachVote, IsCut, IsEnded, IsTold, asking, forgetting, telling, IsKept}
+use Rattle.xa_atomicity.specs.{NamesTran, OnlyResolves, Opening}
+use Rattle.xa_base.proofs.{◌==◌, ◌||◌, if◌then◌else◌, ◌+◌, zero, slice_get, ◌<◌, arith, ◌≡◌, ℕ, Bool, true, false, ◌&&◌, List, [], ◌∷◌, ◌++◌, length}
+use Rattle.xa_base.proofs.{append-nil, append_assoc, get_or, sym, refl, ap, ◌∙◌, subst, Option, Some, unwrap_or, or-true, eq-eqb, ne_eqb, false_from_ne_true}
+use Rattle.xa_base.proofs.{or_from, eqb-true, begins_on, all_mid, same_begins, Contains-append_right, All-nil, All-cons, Contains, All, by_bool, at_false}
+use Rattle.xa_driver.specs.{InDoubt, has_yes, voted_yes, yes_of, is_yes, AreBranchesRising, Logs, decision_of, EachBranch, IsCommit, IsTranOf, voted, Branch}
+use Rattle.xa_driver.specs.{Done, Ending, IsAnswered, IsBegun, asked, collected, in_flight, unasked, second_op, third_op, ending_of, AtBranch, AsksLedger}
+use Rattle.std.proofs.lemmas.Bool.{both_ways}
 use Rattle.xa_atomicity.proofs.Placing.{at_seam, request_of}
-use Rattle.std.proofs.lemmas.List.Elements.{Contains-append_right, All-nil, All-cons}
-use Rattle.std.specs.List.{Contains, All}
-use Rattle.xa_base.proofs.Truth.{by_bool, at_false}
-use Rattle.xa_base.specs.declared.limits.TheConstants.{MOST_MANAGERS}
-use Rattle.xa_base.specs.Lists.{Begins, IsUpTo}
-use Rattle.xa_words.specs.Xid.{XidName}
-use Rattle.xa_words.specs.Tran.{TranName, tran_of}
+use Rattle.xa_base.specs.{MOST_MANAGERS, Begins, IsUpTo}
+use Rattle.xa_words.specs.{XidName, TranName, tran_of, RmFail, Op, Prepare, Request}
 use Rattle.xa_words.specs.declared.code.Code.{Code}
-use Rattle.xa_words.specs.declared.code.Code.TheVariants.{RmFail}
-use Rattle.xa_words.specs.declared.request.Op.{Op}
-use Rattle.xa_words.specs.declared.request.Op.TheVariants.{Prepare}
-use Rattle.xa_words.specs.declared.request.Request.{Request}
-use Rattle.xa_tables.specs.Prepared.{names}
-use Rattle.xa_desk.specs.LedgerView.{LedgerView, learnt_shut, with_sent, with_collected}
-use Rattle.xa_desk.specs.DeskView.{DeskView, ledger}
-use Rattle.xa_desk.specs.Growth.{HaveGrown}
-use Rattle.xa_switch.specs.Fates.{ledgers_of, history as history_of}
-use Rattle.xa_driver.specs.declared.branch.Branch.{Branch}
-use Rattle.xa_driver.specs.declared.done.Done.{Done}
-use Rattle.xa_driver.specs.declared.done.Ending.{Ending}
-use Rattle.xa_driver.specs.Asks.{IsAnswered, IsBegun, asked, collected, in_flight, unasked}
-use Rattle.xa_driver.specs.Endings.{second_op, third_op, ending_of}
-use Rattle.xa_log.specs.Log.{LogState}
-use Rattle.xa_atomicity.specs.Resolution.{IsKept, NamesTran, OnlyResolves, Opening}
-use Rattle.xa_driver.specs.Course.{AtBranch}
-use Rattle.xa_driver.specs.Resolving.{AsksLedger}
+use Rattle.xa_tables.specs.{names}
+use Rattle.xa_desk.specs.LedgerView.{LedgerView}
+use Rattle.xa_desk.specs.{learnt_shut, with_sent, with_collected, ledger, HaveGrown}
+use Rattle.xa_desk.specs.DeskView.{DeskView}
+use Rattle.xa_switch.specs.{ledgers_of, history as history_of}
+use Rattle.xa_log.specs.{LogState}
 use Rattle.xa_driver.proofs.Mapped.{Any, IsAskedFor, any_asked}
 use Rattle.xa_driver.proofs.Traces.{trace_of}
 use Rattle.xa_atomicity.proofs.Naming.{named_so, no_prepare, prepare_part, IsNoPrepare}

@@ -1,26 +1,18 @@
 -- A commit whose coordinator died is one that was cut short.
-use Rattle.std.proofs.Common.{◌≡◌, ℕ, zero, suc, Bool, Option, Some, None, List, [], ◌∷◌, arith, length, refl, subst}
-use Rattle.std.specs.List.{All}
-use Rattle.std.proofs.lemmas.List.Elements.{All-nil, All-cons}
-use Rattle.xa_words.specs.Tran.{TranName}
+use Rattle.xa_base.proofs.{◌≡◌, ℕ, zero, suc, Bool, Option, Some, None, List, [], ◌∷◌, arith, length, refl, subst, All, All-nil, All-cons}
+use Rattle.xa_words.specs.{TranName, Death, Op}
 use Rattle.xa_words.specs.declared.code.Code.{Code}
-use Rattle.xa_words.specs.declared.death.Death.{Death}
 use Rattle.xa_words.specs.declared.death.Death.TheVariants as death
-use Rattle.xa_words.specs.declared.request.Op.{Op}
 use Rattle.xa_desk.specs.LedgerView.{LedgerView}
-use Rattle.xa_desk.specs.DeskView.{DeskView, ledger}
-use Rattle.xa_driver.specs.declared.branch.Branch.{Branch}
-use Rattle.xa_driver.specs.declared.done.Done.{Done}
-use Rattle.xa_driver.specs.declared.done.Ending.{Ending}
-use Rattle.xa_driver.specs.Asks.{IsBegun, collected, in_flight, unasked}
-use Rattle.xa_driver.specs.Deaths.{Dies, HaveAsked, HaveTold, PutsLedger, Tells, VotesAndHears, VotesAndObeys, sent, withheld}
-use Rattle.xa_driver.specs.Endings.{second_op}
-use Rattle.xa_driver.specs.Resolving.{AsksLedger}
-use Rattle.xa_driver.specs.Trace.{EachBranch, IsTranOf, MayCommit, decision_of}
+use Rattle.xa_desk.specs.DeskView.{DeskView}
+use Rattle.xa_desk.specs.{ledger}
+use Rattle.xa_driver.specs.{Branch, Done, Ending, IsBegun, collected, in_flight, unasked, Dies, HaveAsked, HaveTold, PutsLedger, Tells, VotesAndHears}
+use Rattle.xa_driver.specs.{VotesAndObeys, withheld, second_op, AsksLedger, EachBranch, IsTranOf, MayCommit, decision_of}
+use Rattle.xa_driver.specs.Deaths.{sent}
 use Rattle.xa_driver.proofs.Calls.{one_tran}
 use Rattle.xa_driver.proofs.Traces.{trace_for}
-use Rattle.xa_log.specs.Log.{LogState}
-use Rattle.xa_atomicity.specs.Cut.{CameSoFar, DidOther, EachVote, IsAsked, IsCut, IsEnded, IsTold, asking, forgetting, telling}
+use Rattle.xa_log.specs.{LogState}
+use Rattle.xa_atomicity.specs.{CameSoFar, DidOther, EachVote, IsAsked, IsCut, IsEnded, IsTold, asking, forgetting, telling}
 use Rattle.xa_atomicity.proofs.CutVotes.{Ended, did_nothing}
 
 -- ---- one request

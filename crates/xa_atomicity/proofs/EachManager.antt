@@ -1,19 +1,11 @@
 -- What a commit does to a desk's ledger with each manager: that of a branch goes by the branch's trace, any other stays.
-use Rattle.std.proofs.Common.{◌≡◌, ℕ, ◌≤◌, Bool, true, false, ◌||◌, ◌==◌, List, [], ◌∷◌, sym, refl, subst, Option}
-use Rattle.std.specs.List.{All}
-use Rattle.std.proofs.lemmas.Bool.{eqb-true}
-use Rattle.std.proofs.lemmas.List.Elements.{All-head, All-tail}
-use Rattle.xa_words.specs.Tran.{TranName}
+use Rattle.xa_base.proofs.{◌≡◌, ℕ, ◌≤◌, Bool, true, false, ◌||◌, ◌==◌, List, [], ◌∷◌, sym, refl, subst, Option, All, eqb-true, All-head, All-tail}
+use Rattle.xa_words.specs.{TranName}
 use Rattle.xa_words.specs.declared.code.Code.{Code}
 use Rattle.xa_desk.specs.LedgerView.{LedgerView}
-use Rattle.xa_desk.specs.DeskView.{ledger}
-use Rattle.xa_driver.specs.declared.branch.Branch.{Branch}
-use Rattle.xa_driver.specs.declared.done.Done.{Done}
-use Rattle.xa_driver.specs.declared.done.Ending.{Ending}
-use Rattle.xa_driver.specs.Course.{AtBranch}
-use Rattle.xa_log.specs.Log.{LogState}
-use Rattle.xa_driver.specs.Resolving.{AsksLedger}
-use Rattle.xa_driver.specs.Trace.{EachBranch, IsTraceOfCommit, has_branch_at}
+use Rattle.xa_desk.specs.{ledger}
+use Rattle.xa_driver.specs.{Branch, Done, Ending, AtBranch, AsksLedger, EachBranch, IsTraceOfCommit, has_branch_at}
+use Rattle.xa_log.specs.{LogState}
 
 -- P holds of each ledger before and after, if it holds where nothing was done and where the trace was of a branch of which C is known
 module _ (P : LedgerView → LedgerView → Type 0) (stays : (a : LedgerView) → P a a) (C : Branch → Type 0) (commit : Bool) (old new : List LedgerView)

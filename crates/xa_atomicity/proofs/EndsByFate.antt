@@ -1,25 +1,15 @@
 -- How a branch ends, by its fate at the end of the first opening and through the later ones.
-use Rattle.xa_base.proofs.Lists.{some_same}
+use Rattle.xa_base.proofs.{some_same, ◌⊎◌, ◌≡◌, inl, inr, ⊎_elim, Bool, true, false, if◌then◌else◌, sym, refl, ap, ◌∙◌, subst, Option, Some, at_false, at_true}
 use Rattle.xa_atomicity.proofs.Voting.{ends, tells, leaves, Comes}
 use Rattle.xa_atomicity.proofs.Leading.{waits, unforgotten, over, IsOver, Stands}
 use Rattle.std.proofs.lemmas.Bool.{both_ways}
-use Rattle.std.specs.Prelude.{◌⊎◌}
-use Rattle.std.proofs.Common.{◌≡◌, inl, inr, ⊎_elim, Bool, true, false, if◌then◌else◌, sym, refl, ap, ◌∙◌, subst, Option, Some}
-use Rattle.xa_base.proofs.Truth.{at_false, at_true}
 use Rattle.xa_words.specs.declared.code.Code.{Code}
-use Rattle.xa_words.specs.declared.code.Code.TheVariants.{HeurCom, HeurRb}
-use Rattle.xa_tables.specs.declared.state.State.{State}
-use Rattle.xa_tables.specs.declared.state.HeuristicDecision.{HeuristicDecision}
+use Rattle.xa_words.specs.{HeurCom, HeurRb}
+use Rattle.xa_tables.specs.{State, HeuristicDecision, is_left_in, decision_code, Fate, decided_fate, is_in_doubt as is_unknown}
 use Rattle.xa_tables.specs.declared.state.HeuristicDecision.TheVariants as decision
-use Rattle.xa_tables.specs.Tables.{is_left_in}
-use Rattle.xa_tables.specs.Reasons.{decision_code}
 use Rattle.xa_tables.specs.History as history
-use Rattle.xa_tables.specs.History.{Fate, decided_fate, is_in_doubt as is_unknown}
-use Rattle.xa_driver.specs.declared.done.Ending.{Ending}
-use Rattle.xa_driver.specs.declared.done.Ending.TheVariants.{Committed, ReadOnly, RolledBack, InDoubt, Heuristic, Left}
-use Rattle.xa_driver.specs.Endings.{is_decided}
-use Rattle.xa_atomicity.specs.Outcomes.{is_heuristic, is_in_doubt, is_left, told_fate}
-use Rattle.xa_atomicity.specs.Resolution.{ended_as}
+use Rattle.xa_driver.specs.{Ending, Committed, ReadOnly, RolledBack, InDoubt, Heuristic, Left, is_decided}
+use Rattle.xa_atomicity.specs.{is_heuristic, is_in_doubt, is_left, told_fate, ended_as}
 
 -- fates that are known
 pub is_known_so : (f : Fate) (commit : Bool) → f ≡ ended_as commit → is_unknown f ≡ false

@@ -1,37 +1,24 @@
 -- What became of a branch that nobody else named, but for heuristic decisions, over the settled history of its manager.
 use Rattle.xa_atomicity.proofs.Courses.{Unreached, Reads, Breaks, Stays, Agrees, Refuses, yes_is, read_is, Sends, SendsOne, Course, rest_forgets}
-use Rattle.xa_atomicity.specs.Outcomes.{OnlyTheseName, IsBetween, OnlyTheseOrDecisionsName, IsAfterShut, IsDecidedAfter, told_fate, is_left, is_in_doubt}
-use Rattle.xa_atomicity.specs.Outcomes.{is_heuristic}
-use Rattle.xa_base.proofs.Lists.{all_mid, all_left, all_after, some_same}
+use Rattle.xa_atomicity.specs.{OnlyTheseName, IsBetween, OnlyTheseOrDecisionsName, IsAfterShut, IsDecidedAfter, told_fate, is_left, is_in_doubt, is_heuristic}
+use Rattle.xa_base.proofs.{all_mid, all_left, all_after, some_same, by_bool, by_if, at_true, ◌⊎◌, ◌≡◌, ◌≢◌, ℕ, suc, ◌+◌, ◌<◌, inl, inr, Bool, true, false, ◌||◌}
+use Rattle.xa_base.proofs.{if◌then◌else◌, List, [], ◌∷◌, ◌++◌, length, append-nil, append_assoc, get_or, sym, refl, ap, ◌∙◌, subst, arith, Option, Some, None}
+use Rattle.xa_base.proofs.{All, cons_option}
 use Rattle.std.proofs.lemmas.Bool.{both_ways, or_left, true_from_ne_false}
-use Rattle.xa_driver.specs.Resolving.{outcome_op}
-use Rattle.xa_base.proofs.Truth.{by_bool, by_if, at_true}
-use Rattle.std.specs.Prelude.{◌⊎◌}
-use Rattle.std.proofs.Common.{◌≡◌, ◌≢◌, ℕ, suc, ◌+◌, ◌<◌, inl, inr, Bool, true, false, ◌||◌, if◌then◌else◌, List, [], ◌∷◌, ◌++◌, length, append-nil}
-use Rattle.std.proofs.Common.{append_assoc, get_or, sym, refl, ap, ◌∙◌, subst, arith, Option, Some, None}
-use Rattle.std.specs.List.{All, cons_option}
-use Rattle.xa_words.specs.Xid.{XidName, xid_eq}
+use Rattle.xa_driver.specs.{outcome_op, Ending, Committed, ReadOnly, RolledBack, InDoubt, Heuristic, Left, is_yes, is_read, yes_ending, no_ending}
+use Rattle.xa_driver.specs.{is_heuristic as is_heuristic_code}
+use Rattle.xa_words.specs.{XidName, xid_eq, Done, RbIntegrity, HeurRb, HeurCom, RmFail, Op, Prepare, Commit, Rollback, Heur, Request}
 use Rattle.xa_words.specs.declared.code.Code.{Code}
-use Rattle.xa_words.specs.declared.code.Code.TheVariants.{Done, RbIntegrity, HeurRb, HeurCom, RmFail}
-use Rattle.xa_words.specs.declared.request.Op.{Op}
-use Rattle.xa_words.specs.declared.request.Op.TheVariants.{Prepare, Commit, Rollback, Heur}
-use Rattle.xa_words.specs.declared.request.Request.{Request}
 use Rattle.xa_words.proofs.Xids.{xid_self}
-use Rattle.xa_tables.specs.declared.state.HeuristicDecision.{HeuristicDecision}
+use Rattle.xa_tables.specs.{HeuristicDecision, is_S3, is_prepared, decision_code, next, Fate, fate, fate_in, fate_of, coded, tables_after, last_or, is_done}
+use Rattle.xa_tables.specs.{is_rolled_back, is_in_doubt as is_unknown, prepare_fate, decided_fate, heur_fate, IsFateOf, names, OnlyDecides, LeavesWaiting}
+use Rattle.xa_tables.specs.{AwaitsTheOutcome, AwaitsAfter, IsTold, is_heur, is_forget, answer_when, fates_when}
 use Rattle.xa_tables.specs.declared.state.HeuristicDecision.TheVariants as decision
-use Rattle.xa_tables.specs.Tables.{Tables, is_S3, is_prepared}
-use Rattle.xa_tables.specs.Reasons.{decision_code}
-use Rattle.xa_tables.specs.Next.{next}
+use Rattle.xa_tables.specs.Tables.{Tables}
 use Rattle.xa_tables.proofs.Unnamed.{tables_after-append, unnamed_fate}
 use Rattle.xa_tables.specs.History as history
-use Rattle.xa_tables.specs.History.{History, Fate, fate, fate_in, fate_of, coded, tables_after, last_or, is_done, is_rolled_back, is_in_doubt as is_unknown}
-use Rattle.xa_tables.specs.History.{prepare_fate, decided_fate, heur_fate, IsFateOf}
-use Rattle.xa_tables.specs.Prepared.{names, OnlyDecides, LeavesWaiting, AwaitsTheOutcome, AwaitsAfter, IsTold, is_heur, is_forget, answer_when, fates_when}
-use Rattle.xa_desk.specs.LedgerView.{is_rm_fail}
-use Rattle.xa_driver.specs.declared.done.Ending.{Ending}
-use Rattle.xa_driver.specs.declared.done.Ending.TheVariants.{Committed, ReadOnly, RolledBack, InDoubt, Heuristic, Left}
-use Rattle.xa_driver.specs.Decision.{is_yes, is_read}
-use Rattle.xa_driver.specs.Endings.{yes_ending, no_ending, is_heuristic as is_heuristic_code}
+use Rattle.xa_tables.specs.History.{History}
+use Rattle.xa_desk.specs.{is_rm_fail}
 use Rattle.xa_atomicity.proofs.Placing.{request_of, fates, fates_both, fate_is, last_both}
 use Rattle.xa_atomicity.proofs.Requests.{closes_other}
 use Rattle.xa_atomicity.proofs.Sites.{Site, StandsIn, above, Second, second_of}

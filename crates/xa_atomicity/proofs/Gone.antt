@@ -1,35 +1,21 @@
 -- A branch whose end was told isn't left to the next opening.
 use Rattle.xa_atomicity.proofs.Voting.{ended_known}
 use Rattle.xa_atomicity.proofs.EndsByFate.{decided_apart, read_apart}
-use Rattle.std.proofs.Common.{◌≡◌, ℕ, Bool, true, false, [], ◌∷◌, List, ap, sym, subst, refl, ◌∙◌}
-use Rattle.std.specs.Prelude.{Option, None, Some, option_map}
-use Rattle.std.specs.List.{All, list_all}
-use Rattle.std.specs.FinMap.{get-empty}
-use Rattle.std.proofs.lemmas.Bool.{and_parts}
-use Rattle.std.proofs.lemmas.List.Elements.{All-contains, All-cons, All-nil}
-use Rattle.xa_words.specs.Xid.{XidName, xid_cmp}
+use Rattle.xa_base.proofs.{◌≡◌, ℕ, Bool, true, false, [], ◌∷◌, List, ap, sym, subst, refl, ◌∙◌, Option, None, Some, option_map, All, list_all, get-empty}
+use Rattle.xa_base.proofs.{and_parts, All-contains, All-cons, All-nil}
+use Rattle.xa_words.specs.{XidName, xid_cmp, Done as OK}
 use Rattle.xa_words.specs.declared.code.Code.{Code}
-use Rattle.xa_words.specs.declared.code.Code.TheVariants.{Done as OK}
-use Rattle.xa_tables.specs.declared.state.State.{State}
-use Rattle.xa_tables.specs.declared.state.State.TheVariants.{Prepared, HeuristicallyCompleted}
-use Rattle.xa_tables.specs.declared.state.HeuristicDecision.{HeuristicDecision}
-use Rattle.xa_tables.specs.Managers.{opening}
-use Rattle.xa_tables.specs.Tables.{Tables, state_of, is_left, is_left_in, is_S3}
+use Rattle.xa_tables.specs.{State, HeuristicallyCompleted, HeuristicDecision, opening, state_of, is_left, is_left_in, is_S3, Fate, IsFateOf, decided_fate, fate}
+use Rattle.xa_tables.specs.{is_done, tables_after, reopened, told_by}
+use Rattle.xa_tables.specs.declared.state.State.TheVariants.{Prepared}
+use Rattle.xa_tables.specs.Tables.{Tables}
 use Rattle.xa_tables.specs.History as history
-use Rattle.xa_tables.specs.History.{Fate, History, IsFateOf, decided_fate, fate, is_done, tables_after}
-use Rattle.xa_tables.specs.Openings.{reopened, told_by}
+use Rattle.xa_tables.specs.History.{History}
 use Rattle.xa_tables.proofs.Reopening.{as_left}
-use Rattle.xa_switch.specs.Again.{last_in, reopened_at}
-use Rattle.xa_switch.specs.Fates.{IsOpenedWith, first_of, history as history_of, settled_fate}
-use Rattle.xa_switch.specs.Settling.{ManagerPart, Settling, IsSettled, find_manager}
-use Rattle.xa_driver.specs.declared.branch.Branch.{Branch}
-use Rattle.xa_driver.specs.declared.done.Done.{Done}
-use Rattle.xa_driver.specs.declared.done.Ending.{Ending}
-use Rattle.xa_driver.specs.declared.done.Ending.TheVariants.{Committed, ReadOnly}
-use Rattle.xa_driver.specs.declared.resolved.Outcome.{Outcome}
-use Rattle.xa_driver.specs.Forgetful.{has_acknowledged, is_acknowledged}
-use Rattle.xa_atomicity.specs.Outcomes.{EachOutcome, TellsTheFate, WasAtFirst, told_fate}
-use Rattle.xa_atomicity.specs.Resolution.{HasLeft, TellsTheOutcome, ended_as, outcome_fate}
+use Rattle.xa_switch.specs.{last_in, reopened_at, IsOpenedWith, first_of, history as history_of, settled_fate, ManagerPart, IsSettled, find_manager}
+use Rattle.xa_switch.specs.Settling.{Settling}
+use Rattle.xa_driver.specs.{Branch, Done, Ending, Committed, ReadOnly, Outcome, has_acknowledged, is_acknowledged}
+use Rattle.xa_atomicity.specs.{EachOutcome, TellsTheFate, WasAtFirst, told_fate, HasLeft, TellsTheOutcome, ended_as, outcome_fate}
 use Rattle.xa_atomicity.specs.Tabled.{Tabled}
 use Rattle.xa_atomicity.proofs.Later.{ends_with}
 

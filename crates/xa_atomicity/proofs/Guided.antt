@@ -1,31 +1,20 @@
 -- What a branch that voted to commit stands at, where requests that lead it and heuristic decisions name it.
 use Rattle.std.proofs.lemmas.Bool.{both_ways}
-use Rattle.xa_base.proofs.Truth.{by_bool, at_true}
-use Rattle.std.specs.Prelude.{unwrap_or, ◌⊎◌}
-use Rattle.std.proofs.Common.{◌≡◌, ℕ, inl, inr, ⊎_elim, Bool, true, false, if◌then◌else◌, List, [], ◌∷◌, ◌++◌, sym, refl, ap, ◌∙◌, subst, arith, Option, Some}
-use Rattle.std.proofs.Common.{None}
-use Rattle.std.specs.List.{All, cons_option}
-use Rattle.std.proofs.lemmas.List.Elements.{All-head, All-tail}
-use Rattle.xa_words.specs.Xid.{XidName, xid_eq}
-use Rattle.xa_words.specs.declared.code.Code.TheVariants.{Done}
-use Rattle.xa_words.specs.declared.request.Op.{Op}
-use Rattle.xa_words.specs.declared.request.Op.TheVariants.{Prepare, Commit, Rollback, Forget}
-use Rattle.xa_words.specs.declared.request.Request.{Request}
+use Rattle.xa_base.proofs.{by_bool, at_true, unwrap_or, ◌⊎◌, ◌≡◌, ℕ, inl, inr, ⊎_elim, Bool, true, false, if◌then◌else◌, List, [], ◌∷◌, ◌++◌, sym, refl, ap}
+use Rattle.xa_base.proofs.{◌∙◌, subst, arith, Option, Some, None, All, cons_option, All-head, All-tail}
+use Rattle.xa_words.specs.{XidName, xid_eq, Done, Op, Prepare, Commit, Rollback, Forget, Request}
 use Rattle.xa_words.proofs.Xids.{xid_self}
-use Rattle.xa_tables.specs.declared.state.State.{State}
-use Rattle.xa_tables.specs.declared.state.State.TheVariants.{Prepared, HeuristicallyCompleted}
-use Rattle.xa_tables.specs.declared.state.HeuristicDecision.{HeuristicDecision}
+use Rattle.xa_tables.specs.{State, HeuristicallyCompleted, HeuristicDecision, state_of, is_S3, is_prepared, Answer, next, Fate, fate, fate_of, tables_after}
+use Rattle.xa_tables.specs.{last_or, decided_fate, is_in_doubt as is_unknown, IsOpening, names, is_heur, AwaitsAfter, fates_when, state_when}
+use Rattle.xa_tables.specs.declared.state.State.TheVariants.{Prepared}
 use Rattle.xa_tables.specs.declared.state.HeuristicDecision.TheVariants as decision
-use Rattle.xa_tables.specs.Tables.{Tables, state_of, is_S3, is_prepared}
-use Rattle.xa_tables.specs.Next.{Answer, next}
+use Rattle.xa_tables.specs.Tables.{Tables}
 use Rattle.xa_tables.specs.History as history
-use Rattle.xa_tables.specs.History.{History, Fate, fate, fate_of, tables_after, last_or, decided_fate, is_in_doubt as is_unknown}
-use Rattle.xa_tables.specs.Openings.{IsOpening}
-use Rattle.xa_tables.specs.Prepared.{names, is_heur, AwaitsAfter, fates_when, state_when}
+use Rattle.xa_tables.specs.History.{History}
 use Rattle.xa_tables.proofs.HeuristicLaw.{Decides, Nothing, Completes, decides}
 use Rattle.xa_tables.proofs.Law.{Sound, sound_after, run_sound, opening_sound, last_more}
 use Rattle.xa_tables.proofs.Unnamed.{tables_after-append}
-use Rattle.xa_atomicity.specs.Resolution.{ended_as}
+use Rattle.xa_atomicity.specs.{ended_as}
 use Rattle.xa_atomicity.specs.Tabled.{Tabled}
 use Rattle.xa_atomicity.proofs.EndsByFate.{decided_apart}
 use Rattle.xa_atomicity.proofs.Leading.{Stands, waits, unforgotten, over, Leads, Led, Standing, step_led, IsTowards}

@@ -2,41 +2,28 @@
 use Rattle.std.proofs.lemmas.Bool.{both_ways}
 use Rattle.xa_atomicity.proofs.Leading.{waits, unforgotten, over, IsOver, Stands, IsTowards, Standing, led_after, by_itself, ends_towards, stands_reopened}
 use Rattle.xa_atomicity.proofs.Leading.{is_over}
-use Rattle.std.specs.Prelude.{option_map}
-use Rattle.std.proofs.Common.{◌≡◌, ◌≢◌, ℕ, Bool, true, false, cond, ◌==◌, List, [], ◌∷◌, ◌++◌, slice_get, get_or, sym, refl, ap, ◌∙◌, subst, arith, Option}
-use Rattle.std.proofs.Common.{Some, None, ⊎_elim}
-use Rattle.std.specs.List.{All, Contains}
-use Rattle.std.proofs.lemmas.List.Elements.{All-head, All-tail, All-contains, Contains-append_left, Contains-append_right, Contains-append_cases}
-use Rattle.xa_base.specs.declared.limits.TheConstants.{MOST_MANAGERS}
-use Rattle.xa_base.specs.Lists.{IsUpTo}
-use Rattle.xa_base.proofs.Lists.{all_left, all_right}
-use Rattle.xa_words.specs.Xid.{XidName, xid_eq}
-use Rattle.xa_words.specs.Orders.{Decides-xid_eq}
-use Rattle.xa_words.specs.Tran.{tran_of}
+use Rattle.xa_base.proofs.{option_map, ◌≡◌, ◌≢◌, ℕ, Bool, true, false, cond, ◌==◌, List, [], ◌∷◌, ◌++◌, slice_get, get_or, sym, refl, ap, ◌∙◌, subst, arith}
+use Rattle.xa_base.proofs.{Option, Some, None, ⊎_elim, All, Contains, All-head, All-tail, All-contains, Contains-append_left, Contains-append_right, all_left}
+use Rattle.xa_base.proofs.{all_right}
+use Rattle.std.proofs.lemmas.List.Elements.{Contains-append_cases}
+use Rattle.xa_base.specs.{MOST_MANAGERS, IsUpTo}
+use Rattle.xa_words.specs.{XidName, xid_eq, Decides-xid_eq, tran_of, RmFail, Op}
 use Rattle.xa_words.specs.declared.code.Code.{Code}
-use Rattle.xa_words.specs.declared.code.Code.TheVariants.{RmFail}
-use Rattle.xa_words.specs.declared.request.Op.{Op}
-use Rattle.xa_tables.specs.declared.state.State.{State}
-use Rattle.xa_tables.specs.declared.state.HeuristicDecision.{HeuristicDecision}
+use Rattle.xa_tables.specs.{State, HeuristicDecision, state_of, is_S3, is_left_in, is_prepared, decision_code, Fate, coded, decided_fate, of_thread}
+use Rattle.xa_tables.specs.{tables_after, last_or, is_in_doubt as is_unknown, AreLeft, reopened, reopened_fate, names}
 use Rattle.xa_tables.specs.declared.state.HeuristicDecision.TheVariants as decision
-use Rattle.xa_tables.specs.Tables.{Tables, state_of, is_S3, is_left_in, is_prepared}
-use Rattle.xa_tables.specs.Reasons.{decision_code}
-use Rattle.xa_tables.specs.History.{History, Fate, coded, decided_fate, of_thread, tables_after, last_or, is_in_doubt as is_unknown}
-use Rattle.xa_tables.specs.Openings.{AreLeft, reopened, reopened_fate}
-use Rattle.xa_tables.specs.Prepared.{names}
+use Rattle.xa_tables.specs.Tables.{Tables}
+use Rattle.xa_tables.specs.History.{History}
 use Rattle.xa_tables.proofs.Law.{opening_sound}
 use Rattle.xa_desk.specs.LedgerView.{LedgerView}
-use Rattle.xa_desk.specs.DeskView.{ledger}
-use Rattle.xa_desk.specs.Lanes.{numbered}
-use Rattle.xa_worker.specs.Journal.{requests}
-use Rattle.xa_switch.specs.Again.{last_in}
-use Rattle.xa_switch.specs.Fates.{IsOpenedWith, first_of, history as history_of, ledgers_of, settled_fate}
-use Rattle.xa_scan.specs.Left.{left_at}
-use Rattle.xa_switch.specs.Settling.{ManagerPart, Settling, IsSettled, FollowsTables, answers, find_manager, journal_in}
-use Rattle.xa_driver.specs.declared.resolved.Outcome.{Outcome}
-use Rattle.xa_driver.specs.Endings.{is_decided}
-use Rattle.xa_atomicity.specs.Resolution.{ResolveCall, resolves, IsUseIn, IsKept, Opening, AreInARow, OnlyResolves, uses_of, fate_through, last_of, tables_left}
-use Rattle.xa_driver.specs.Resolving.{is_to_commit, outcome_op}
+use Rattle.xa_desk.specs.{ledger, numbered}
+use Rattle.xa_worker.specs.{requests}
+use Rattle.xa_switch.specs.{last_in, IsOpenedWith, first_of, history as history_of, ledgers_of, settled_fate, ManagerPart, IsSettled, FollowsTables, answers}
+use Rattle.xa_switch.specs.{find_manager, journal_in}
+use Rattle.xa_scan.specs.{left_at}
+use Rattle.xa_switch.specs.Settling.{Settling}
+use Rattle.xa_driver.specs.{Outcome, is_decided, is_to_commit, outcome_op}
+use Rattle.xa_atomicity.specs.{ResolveCall, resolves, IsUseIn, IsKept, Opening, AreInARow, OnlyResolves, uses_of, fate_through, last_of, tables_left}
 use Rattle.xa_atomicity.proofs.Answered.{Placed, placed, placed_ends, placed_tells}
 use Rattle.xa_atomicity.proofs.Guided.{decided_known, known_stays}
 use Rattle.xa_atomicity.proofs.Naming.{named_so, named_tran, sent_is}

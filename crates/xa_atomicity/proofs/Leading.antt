@@ -1,37 +1,25 @@
 -- What a branch that voted to commit stands at, where nothing but resolves names it.
-use Rattle.std.specs.Prelude.{◌⊎◌, ◌&&◌, not, cond, is_some, unwrap_or}
-use Rattle.std.proofs.Common.{◌≡◌, ◌≢◌, ℕ, inl, inr, ⊎_elim, Bool, true, false, ◌||◌, if◌then◌else◌, [], ◌∷◌, sym, refl, ap, ◌∙◌, subst, Option, Some, None}
-use Rattle.std.specs.List.{All, cons_option}
-use Rattle.std.proofs.lemmas.Bool.{not-false, or_from}
-use Rattle.std.proofs.lemmas.List.Elements.{All-nil, All-cons, All-head, All-tail}
-use Rattle.std.proofs.Math.Bool.{and-false}
-use Rattle.xa_words.specs.Xid.{XidName, xid_eq}
-use Rattle.xa_words.specs.Orders.{Decides-xid_eq}
+use Rattle.xa_base.proofs.{◌⊎◌, ◌&&◌, not, cond, is_some, unwrap_or, ◌≡◌, ◌≢◌, ℕ, inl, inr, ⊎_elim, Bool, true, false, ◌||◌, if◌then◌else◌, [], ◌∷◌, sym, refl}
+use Rattle.xa_base.proofs.{ap, ◌∙◌, subst, Option, Some, None, All, cons_option, not-false, or_from, All-nil, All-cons, All-head, All-tail, and-false, by_if}
+use Rattle.xa_base.proofs.{at_false, at_true}
+use Rattle.xa_words.specs.{XidName, xid_eq, Decides-xid_eq, Done, Nota, Proto, RmFail, Op, Commit, Rollback, Forget, Request}
 use Rattle.xa_words.specs.declared.code.Code.{Code}
-use Rattle.xa_words.specs.declared.code.Code.TheVariants.{Done, Nota, Proto, RmFail}
-use Rattle.xa_words.specs.declared.request.Op.{Op}
-use Rattle.xa_words.specs.declared.request.Op.TheVariants.{Commit, Rollback, Forget}
-use Rattle.xa_words.specs.declared.request.Request.{Request}
 use Rattle.xa_words.proofs.Xids.{xid_self}
-use Rattle.xa_tables.specs.declared.state.State.{State}
-use Rattle.xa_tables.specs.declared.state.State.TheVariants.{Prepared, HeuristicallyCompleted}
-use Rattle.xa_tables.specs.declared.state.HeuristicDecision.{HeuristicDecision}
+use Rattle.xa_tables.specs.{State, HeuristicallyCompleted, HeuristicDecision, has_opened, state_of, exists, is_S3, is_S4, is_S5, is_left_in, is_prepared}
+use Rattle.xa_tables.specs.{is_completed, is_rollback_only, is_somebody_associated, decision_in, decision_of, reason_of, decision_code, Answer, next}
+use Rattle.xa_tables.specs.{needs_opening, by_rules, commit_two, rollback, forget, gone, committed, Fate, tables_after, fate_of, is_done, last_or, decided_fate}
+use Rattle.xa_tables.specs.{reopened, reopened_fate, names}
+use Rattle.xa_tables.specs.declared.state.State.TheVariants.{Prepared}
 use Rattle.xa_tables.specs.declared.state.HeuristicDecision.TheVariants as decision
-use Rattle.xa_tables.specs.Tables.{Tables, has_opened, state_of, exists, is_S3, is_S4, is_S5, is_left_in, is_prepared, is_completed, is_rollback_only}
-use Rattle.xa_tables.specs.Tables.{is_somebody_associated, decision_in, decision_of, reason_of}
-use Rattle.xa_tables.specs.Reasons.{decision_code}
-use Rattle.xa_tables.specs.Next.{Answer, next, needs_opening, by_rules, commit_two, rollback, forget, gone, committed}
+use Rattle.xa_tables.specs.Tables.{Tables}
 use Rattle.xa_tables.specs.History as history
-use Rattle.xa_tables.specs.History.{History, Fate, tables_after, fate_of, is_done, last_or, decided_fate}
-use Rattle.xa_tables.specs.Openings.{reopened, reopened_fate}
-use Rattle.xa_tables.specs.Prepared.{names}
+use Rattle.xa_tables.specs.History.{History}
 use Rattle.xa_tables.proofs.Effects.{error_tells, reason_rolls_back, decision_commits_nothing, decision_rolls_nothing_back}
 use Rattle.xa_tables.proofs.Law.{Sound, Nowhere, AtWork, standing, nobody_rests, get_gone, sound_after, last_more}
 use Rattle.xa_tables.proofs.Reopening.{state_reopened}
 use Rattle.xa_tables.proofs.Unnamed.{unnamed_fate, unnamed_stays}
-use Rattle.xa_base.proofs.Truth.{by_if, at_false, at_true}
-use Rattle.xa_atomicity.specs.Resolution.{ended_as}
-use Rattle.xa_driver.specs.Resolving.{outcome_op}
+use Rattle.xa_atomicity.specs.{ended_as}
+use Rattle.xa_driver.specs.{outcome_op}
 use Rattle.xa_atomicity.proofs.Placing.{fates}
 
 -- it ended as was decided, where it was undecided at first: D; or heuristically, and then it is listed: L

@@ -1,23 +1,15 @@
 -- What the requests of one thread with numbers in a range move, in a history.
-use Rattle.xa_base.proofs.Truth.{by_if, by_bool}
-use Rattle.xa_tables.specs.Next.{Answer, next}
-use Rattle.std.proofs.lemmas.Bool.{and_left, and_right, false_from_ne_true, and_parts, eqb-true, le-leb, lt-leb, leb-true, leb-false}
-use Rattle.std.specs.Prelude.{ℤ, pos, ◌+ℤ◌, nat_le, if◌then◌else◌}
-use Rattle.std.proofs.Common.{◌≡◌, ℕ, suc, ◌<◌, ◌≤◌, Bool, true, false, ◌==◌, ◌&&◌, ◌⊎◌, ⊎_elim, List, [], ◌∷◌, ◌++◌, length, get_or, sym, refl, ap, ◌∙◌}
-use Rattle.std.proofs.Common.{arith, eq-eqb}
-use Rattle.std.specs.List.{All}
-use Rattle.std.proofs.lemmas.Int.{ints}
-use Rattle.std.proofs.Math.Bool.{and-false}
-use Rattle.std.proofs.Math.IntN.{+ℤ_idl as none_plus, +ℤ_idr as plus_none}
-use Rattle.xa_words.specs.declared.request.Op.{Op}
-use Rattle.xa_words.specs.declared.request.Op.TheVariants.{Commit, Heur}
+use Rattle.xa_base.proofs.{by_if, by_bool, false_from_ne_true, and_parts, eqb-true, le-leb, ℤ, pos, ◌+ℤ◌, nat_le, if◌then◌else◌, ◌≡◌, ℕ, suc, ◌<◌, ◌≤◌, Bool}
+use Rattle.xa_base.proofs.{true, false, ◌==◌, ◌&&◌, ◌⊎◌, ⊎_elim, List, [], ◌∷◌, ◌++◌, length, get_or, sym, refl, ap, ◌∙◌, arith, eq-eqb, All, ints, and-false}
+use Rattle.xa_base.proofs.{+ℤ_idl as none_plus, +ℤ_idr as plus_none}
+use Rattle.xa_tables.specs.{Answer, next, tables_after, is_done, moved, moved_by, held_by}
+use Rattle.std.proofs.lemmas.Bool.{and_left, and_right, lt-leb, leb-true, leb-false}
+use Rattle.xa_words.specs.{Op, Commit, Heur, Request}
 use Rattle.xa_words.specs.declared.code.Code.{Code}
-use Rattle.xa_words.specs.declared.request.Request.{Request}
 use Rattle.xa_tables.specs.Tables.{Tables}
-use Rattle.xa_tables.specs.History.{History, tables_after, is_done}
-use Rattle.xa_tables.specs.Worth.{moved, moved_by, held_by}
-use Rattle.xa_driver.specs.Commits.{is_commit}
-use Rattle.xa_atomicity.specs.Conservation.{taken_before}
+use Rattle.xa_tables.specs.History.{History}
+use Rattle.xa_driver.specs.{is_commit}
+use Rattle.xa_atomicity.specs.{taken_before}
 
 -- a request of thread t with a number from `first` to below `last`
 abbrev pub is_within : ℕ → ℕ → ℕ → Request → Bool

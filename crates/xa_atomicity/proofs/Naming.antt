@@ -1,36 +1,23 @@
 -- What names a transaction in an opening where only resolves do.
-use Rattle.xa_atomicity.proofs.Settled.{sent_between}
-use Rattle.std.proofs.Common.{◌≡◌, ◌≢◌, ℕ, suc, ◌+◌, ◌≤◌, Bool, true, false, List, ◌∷◌, ◌++◌, length, append_assoc, get_or, refl, ap, ◌∙◌}
-use Rattle.std.proofs.Common.{subst, Option}
-use Rattle.std.specs.List.{All, Contains}
-use Rattle.std.proofs.lemmas.List.Elements.{All-contains, Contains-get_or}
-use Rattle.xa_base.specs.declared.limits.TheConstants.{MOST_MANAGERS}
-use Rattle.xa_base.specs.Lists.{IsUpTo}
-use Rattle.xa_words.specs.Xid.{XidName}
-use Rattle.xa_words.specs.Orders.{Decides-xid_eq}
-use Rattle.xa_words.specs.Tran.{TranName, tran_of}
+use Rattle.xa_atomicity.proofs.Settled.{sent_between, by_ledger}
+use Rattle.xa_base.proofs.{◌≡◌, ◌≢◌, ℕ, suc, ◌+◌, ◌≤◌, Bool, true, false, List, ◌∷◌, ◌++◌, length, append_assoc, get_or, refl, ap, ◌∙◌, subst, Option, All}
+use Rattle.xa_base.proofs.{Contains, All-contains}
+use Rattle.std.proofs.lemmas.List.Elements.{Contains-get_or}
+use Rattle.xa_base.specs.{MOST_MANAGERS, IsUpTo}
+use Rattle.xa_words.specs.{XidName, Decides-xid_eq, TranName, tran_of, Op, OpenRm, Start, End, Prepare, Commit, Rollback, Forget, Heur}
 use Rattle.xa_words.specs.declared.code.Code.{Code}
-use Rattle.xa_words.specs.declared.request.Op.{Op}
-use Rattle.xa_words.specs.declared.request.Op.TheVariants.{OpenRm, Start, End, Prepare, Commit, Rollback, Forget, Heur}
-use Rattle.xa_tables.specs.History.{History, of_thread}
-use Rattle.xa_tables.specs.Prepared.{names}
+use Rattle.xa_tables.specs.History.{History}
+use Rattle.xa_tables.specs.{of_thread, names}
 use Rattle.xa_desk.specs.LedgerView.{LedgerView}
-use Rattle.xa_desk.specs.DeskView.{ledger}
-use Rattle.xa_desk.specs.Growth.{HasGrown}
-use Rattle.xa_desk.specs.Lanes.{numbered}
-use Rattle.xa_switch.specs.Settling.{Settling, IsSettled, sent}
-use Rattle.xa_switch.specs.Fates.{ledgers_of, history as history_of}
-use Rattle.xa_driver.specs.declared.branch.Branch.{Branch}
-use Rattle.xa_driver.specs.declared.done.Ending.{Ending}
-use Rattle.xa_driver.specs.declared.resolved.Outcome.{Outcome}
-use Rattle.xa_log.specs.Log.{Records}
-use Rattle.xa_atomicity.specs.Resolution.{ResolveCall, Use, commits, cuts, resolves, IsUseIn, NamesTran, HasSent}
-use Rattle.xa_driver.specs.Resolving.{AsksLedger, outcome_op}
-use Rattle.xa_driver.specs.Course.{AtBranch}
+use Rattle.xa_desk.specs.{ledger, HasGrown, numbered}
+use Rattle.xa_switch.specs.Settling.{Settling}
+use Rattle.xa_switch.specs.{IsSettled, sent, ledgers_of, history as history_of}
+use Rattle.xa_driver.specs.{Branch, Ending, Outcome, AsksLedger, outcome_op, AtBranch}
+use Rattle.xa_log.specs.{Records}
+use Rattle.xa_atomicity.specs.{ResolveCall, Use, commits, cuts, resolves, IsUseIn, NamesTran, HasSent}
 use Rattle.xa_driver.proofs.Mapped.{Asks}
 use Rattle.xa_atomicity.proofs.Placing.{Parted, request_of, part, numbered_both}
 use Rattle.xa_atomicity.proofs.Resolves.{Sends, resolve_sends}
-use Rattle.xa_atomicity.proofs.Settled.{by_ledger}
 
 -- what a thread sent to a manager
 pub sent_is : (s : Settling) (m : ℕ) → 1 ≤ m → (t : ℕ) → sent s t m ≡ (ledger (ledgers_of s t) m).sent

@@ -1,27 +1,19 @@
 -- A commit in an opening and resolves in the next one, with nothing else in either.
-use Rattle.std.proofs.Common.{◌≡◌, ◌≢◌, ℕ, ◌≤◌, List, [], ◌∷◌, ◌++◌, length, map, refl, ap, ◌∙◌, arith, None, Some}
-use Rattle.std.specs.List.{All}
-use Rattle.std.proofs.lemmas.List.{map-append}
-use Rattle.std.proofs.lemmas.List.Elements.{All-nil, All-cons, All-head, All-tail, All-map}
-use Rattle.xa_base.specs.declared.limits.TheConstants.{MOST_MANAGERS}
-use Rattle.xa_words.specs.Tran.{TranName}
-use Rattle.xa_words.specs.declared.code.Code.TheVariants.{RmFail}
+use Rattle.xa_base.proofs.{◌≡◌, ◌≢◌, ℕ, ◌≤◌, List, [], ◌∷◌, ◌++◌, length, map, refl, ap, ◌∙◌, arith, None, Some, All, map-append, All-nil, All-cons, All-head}
+use Rattle.xa_base.proofs.{All-tail, All-map}
+use Rattle.xa_base.specs.{MOST_MANAGERS}
+use Rattle.xa_words.specs.{TranName, RmFail}
 use Rattle.xa_tables.specs.Tables.{Tables}
-use Rattle.xa_tables.specs.Openings.{AreLeft}
-use Rattle.xa_switch.specs.Again.{reopening}
-use Rattle.xa_switch.specs.Fates.{first_of}
-use Rattle.xa_switch.specs.OfPlans.{IsOf}
-use Rattle.xa_switch.specs.Recovery.{IsScanOf}
-use Rattle.xa_scan.specs.Left.{ScanView, left_at}
-use Rattle.xa_switch.specs.Settling.{Settling, IsSettled}
+use Rattle.xa_tables.specs.{AreLeft}
+use Rattle.xa_switch.specs.{reopening, first_of, IsOf, IsScanOf, IsSettled}
+use Rattle.xa_scan.specs.{ScanView, left_at}
+use Rattle.xa_switch.specs.Settling.{Settling}
 use Rattle.xa_switch.specs.declared.plan.Again.{Again}
 use Rattle.xa_desk.specs.DeskView.{DeskView}
-use Rattle.xa_driver.specs.declared.branch.Branch.{Branch}
-use Rattle.xa_log.specs.Log.{LogState, Records, all_records, record_in, record_of}
-use Rattle.xa_atomicity.specs.Presumed.{AskedAreLeft, IsOfAnother, IsResolvedAfter}
-use Rattle.xa_atomicity.specs.Resolution.{CutCall, ResolveCall, Use, cuts, resolves, AreUses, Continues, HasLeft, AreOfAllLogs, IsFollowed, IsKept, Opening}
-use Rattle.xa_atomicity.specs.Resolution.{IsOutcomeOf, IsUseIn, OnlyResolves, with_resolves, with_use}
-use Rattle.xa_driver.specs.Trace.{IsTranOf}
+use Rattle.xa_driver.specs.{Branch, IsTranOf}
+use Rattle.xa_log.specs.{LogState, Records, all_records, record_in, record_of}
+use Rattle.xa_atomicity.specs.{AskedAreLeft, IsOfAnother, IsResolvedAfter, CutCall, ResolveCall, Use, cuts, resolves, AreUses, Continues, HasLeft, AreOfAllLogs}
+use Rattle.xa_atomicity.specs.{IsFollowed, IsKept, Opening, IsOutcomeOf, IsUseIn, OnlyResolves, with_resolves, with_use}
 use Rattle.xa_atomicity.proofs.Scanned.{begins_with, left_each, was_there}
 
 pub kept_with : (s : Settling) (u : Use) → IsSettled s → IsUseIn s u → IsKept (with_use s u)

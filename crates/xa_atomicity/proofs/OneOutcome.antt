@@ -1,27 +1,21 @@
 -- One outcome for all the branches of a call.
-use Rattle.xa_driver.specs.declared.done.Ending.TheVariants.{Heuristic, InDoubt, Left, RolledBack, Committed}
-use Rattle.std.specs.Prelude.{◌≡◌, Bool, true, false, not, ◌||◌, Option, None, Some, List, [], ◌∷◌, refl, if◌then◌else◌}
-use Rattle.std.proofs.Common.{sym, ap, ◌∙◌, subst}
-use Rattle.std.specs.List.{list_any}
-use Rattle.std.proofs.lemmas.Bool.{and_parts, or_parts, or_from, not-true, false_from_ne_true, true_from_ne_false, both_ways}
-use Rattle.xa_words.specs.Tran.{TranName}
+use Rattle.xa_driver.specs.{Heuristic, InDoubt, Left, RolledBack, Committed, Branch, Done, Ending, is_yes, is_read, is_no, has_yes, yes_of, ending_of}
+use Rattle.xa_driver.specs.{yes_ending, no_ending, is_out_of_reach, is_heuristic, AtBranch, AsksLedger, EachBranch, IsCommit, IsTraceOfCommit, IsTranOf}
+use Rattle.xa_driver.specs.{MayCommit, wants_record, decision_of}
+use Rattle.xa_base.proofs.{◌≡◌, Bool, true, false, not, ◌||◌, Option, None, Some, List, [], ◌∷◌, refl, if◌then◌else◌, sym, ap, ◌∙◌, subst, list_any, and_parts}
+use Rattle.xa_base.proofs.{or_parts, or_from, not-true, false_from_ne_true, by_if, by_bool, at_true}
+use Rattle.std.proofs.lemmas.Bool.{true_from_ne_false, both_ways}
+use Rattle.xa_words.specs.{TranName}
 use Rattle.xa_words.specs.declared.code.Code.{Code}
-use Rattle.xa_tables.specs.History.{is_done}
+use Rattle.xa_tables.specs.{is_done}
 use Rattle.xa_tables.specs.History as history
-use Rattle.xa_desk.specs.LedgerView.{LedgerView, is_rm_fail}
-use Rattle.xa_desk.specs.DeskView.{DeskView, ledger}
-use Rattle.xa_driver.specs.declared.branch.Branch.{Branch}
-use Rattle.xa_driver.specs.declared.done.Done.{Done}
-use Rattle.xa_driver.specs.declared.done.Ending.{Ending}
-use Rattle.xa_driver.specs.Decision.{is_yes, is_read, is_no, has_yes, yes_of}
-use Rattle.xa_driver.specs.Endings.{ending_of, yes_ending, no_ending, is_out_of_reach, is_heuristic}
-use Rattle.xa_log.specs.Log.{LogState, record_of}
-use Rattle.xa_driver.specs.Course.{AtBranch}
-use Rattle.xa_driver.specs.Resolving.{AsksLedger}
-use Rattle.xa_driver.specs.Trace.{EachBranch, IsCommit, IsTraceOfCommit, IsTranOf, MayCommit, wants_record, decision_of}
-use Rattle.xa_atomicity.specs.Outcomes.{is_committed, is_rolled_back, has_committed, has_rolled_back, has_vote_against, append_failed, was_refused}
-use Rattle.xa_atomicity.specs.Outcomes.{IsCommittedTransaction, IsAbortedTransaction}
-use Rattle.xa_base.proofs.Truth.{by_if, by_bool, at_true}
+use Rattle.xa_desk.specs.LedgerView.{LedgerView}
+use Rattle.xa_desk.specs.{is_rm_fail, ledger}
+use Rattle.xa_desk.specs.DeskView.{DeskView}
+use Rattle.xa_log.specs.{LogState, record_of}
+use Rattle.xa_atomicity.specs.Outcomes.{is_committed}
+use Rattle.xa_atomicity.specs.{is_rolled_back, has_committed, has_rolled_back, has_vote_against, append_failed, was_refused, IsCommittedTransaction}
+use Rattle.xa_atomicity.specs.{IsAbortedTransaction}
 use Rattle.xa_atomicity.proofs.Aborts.{abort_sends_no_commit, failed_append_aborts}
 use Rattle.xa_atomicity.proofs.Records.{none_on_abort, record_so}
 use Rattle.xa_driver.proofs.Calls.{one_tran}

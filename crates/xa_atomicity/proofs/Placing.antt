@@ -1,23 +1,16 @@
 -- Where the requests of one thread stand in a history, and what they were answered.
-use Rattle.std.proofs.lemmas.List.{map-append}
-use Rattle.std.proofs.Common.{◌≡◌, ◌≢◌, ℕ, zero, suc, ◌+◌, ◌<◌, true, false, ◌==◌, cond, List, [], ◌∷◌, ◌++◌, length, map, slice_get, get_or, sym, refl, ap}
-use Rattle.std.proofs.Common.{◌∙◌, arith, Option, Some, None}
-use Rattle.std.specs.Prelude.{filter}
-use Rattle.std.specs.List.{cons_option}
-use Rattle.std.proofs.lemmas.Bool.{eq-eqb}
-use Rattle.std.proofs.lemmas.List.Elements.{filter-append}
+use Rattle.xa_base.proofs.{map-append, ◌≡◌, ◌≢◌, ℕ, zero, suc, ◌+◌, ◌<◌, true, false, ◌==◌, cond, List, [], ◌∷◌, ◌++◌, length, map, slice_get, get_or, sym}
+use Rattle.xa_base.proofs.{refl, ap, ◌∙◌, arith, Option, Some, None, filter, cons_option, eq-eqb, filter-append}
 use Rattle.std.proofs.lemmas.Option.{some_pair_parts}
-use Rattle.xa_words.specs.Xid.{XidName}
+use Rattle.xa_words.specs.{XidName, Op, Request}
 use Rattle.xa_words.specs.declared.code.Code.{Code}
-use Rattle.xa_words.specs.declared.request.Op.{Op}
-use Rattle.xa_words.specs.declared.request.Request.{Request}
 use Rattle.xa_tables.specs.Tables.{Tables}
-use Rattle.xa_tables.specs.Next.{next}
-use Rattle.xa_tables.specs.History.{History, Fate, of_thread, tables_after, coded, fate_of, fate_in, fates_in, last_or}
+use Rattle.xa_tables.specs.{next, Fate, of_thread, tables_after, coded, fate_of, fate_in, fates_in, last_or}
+use Rattle.xa_tables.specs.History.{History}
 use Rattle.xa_tables.proofs.WorkLaw.{others_first}
-use Rattle.xa_desk.specs.Lanes.{numbered}
-use Rattle.xa_worker.specs.Journal.{Entry}
-use Rattle.xa_switch.specs.Settling.{answers}
+use Rattle.xa_desk.specs.{numbered}
+use Rattle.xa_worker.specs.{Entry}
+use Rattle.xa_switch.specs.{answers}
 
 -- thread t's request of number n
 abbrev pub request_of : ℕ → ℕ → Op → Request

@@ -2,47 +2,30 @@
 use Rattle.xa_atomicity.proofs.CutVotes.{CameAt, each_came, at_asking, at_forgetting, at_telling, HasVoted}
 use Rattle.xa_atomicity.proofs.Settled.{sent_stands, by_ledger, answered_of, collected_on, sent_on, site_of}
 use Rattle.xa_atomicity.proofs.Sites.{Site, StandsIn}
-use Rattle.std.specs.Prelude.{option_map, is_some}
-use Rattle.std.proofs.Common.{◌≡◌, ◌≢◌, ℕ, zero, ◌+◌, Bool, true, false, List, [], ◌∷◌, ◌++◌, length, get_or, sym, refl, ap, ◌∙◌, subst, arith, Option, Some}
-use Rattle.std.proofs.Common.{None}
-use Rattle.std.specs.List.{All, Contains}
-use Rattle.std.proofs.lemmas.List.Elements.{All-nil, All-cons, All-append, All-contains, All-head, All-tail, Contains-append_right}
-use Rattle.xa_base.specs.declared.limits.TheConstants.{MOST_MANAGERS}
-use Rattle.xa_base.specs.Lists.{Begins, IsUpTo}
-use Rattle.xa_base.proofs.Lists.{all_after, all_mid, all_right}
-use Rattle.xa_base.proofs.Truth.{at_true}
-use Rattle.xa_words.specs.Xid.{XidName}
-use Rattle.xa_words.specs.Tran.{TranName, tran_of}
+use Rattle.xa_base.proofs.{option_map, is_some, ◌≡◌, ◌≢◌, ℕ, zero, ◌+◌, Bool, true, false, List, [], ◌∷◌, ◌++◌, length, get_or, sym, refl, ap, ◌∙◌, subst}
+use Rattle.xa_base.proofs.{arith, Option, Some, None, All, Contains, All-nil, All-cons, All-append, All-contains, All-head, All-tail, Contains-append_right}
+use Rattle.xa_base.proofs.{all_after, all_mid, all_right, at_true}
+use Rattle.xa_base.specs.{MOST_MANAGERS, Begins, IsUpTo}
+use Rattle.xa_words.specs.{XidName, TranName, tran_of, Done, RmFail, Op, Prepare, Request}
 use Rattle.xa_words.specs.declared.code.Code.{Code}
-use Rattle.xa_words.specs.declared.code.Code.TheVariants.{Done, RmFail}
-use Rattle.xa_words.specs.declared.request.Op.{Op}
-use Rattle.xa_words.specs.declared.request.Op.TheVariants.{Prepare}
-use Rattle.xa_words.specs.declared.request.Request.{Request}
-use Rattle.xa_tables.specs.Tables.{Tables, state_of, is_left_in}
+use Rattle.xa_tables.specs.Tables.{Tables}
+use Rattle.xa_tables.specs.{state_of, is_left_in, Fate, IsFateOf, coded, fate, tables_after, reopened, told_by}
 use Rattle.xa_tables.specs.History as history
-use Rattle.xa_tables.specs.History.{History, Fate, IsFateOf, coded, fate, tables_after}
-use Rattle.xa_tables.specs.Openings.{reopened, told_by}
+use Rattle.xa_tables.specs.History.{History}
 use Rattle.xa_tables.proofs.Reopening.{as_left}
-use Rattle.xa_desk.specs.LedgerView.{LedgerView, learnt_shut}
-use Rattle.xa_desk.specs.DeskView.{ledger}
-use Rattle.xa_desk.specs.Growth.{HasGrown, HaveGrown}
-use Rattle.xa_worker.specs.Journal.{requests}
-use Rattle.xa_switch.specs.Again.{reopened_at}
-use Rattle.xa_switch.specs.Fates.{IsOpenedWith, first_of, history as history_of, ledgers_of}
-use Rattle.xa_switch.specs.Settling.{ManagerPart, Settling, IsSettled, answers, collected, find_manager, journal, journal_in, sent}
-use Rattle.xa_driver.specs.declared.branch.Branch.{Branch}
-use Rattle.xa_driver.specs.declared.resolved.Outcome.{Outcome}
-use Rattle.xa_atomicity.specs.Cut.{IsAsked, IsCut, IsEnded, is_recorded}
-use Rattle.xa_driver.specs.Decision.{is_yes, voted_yes, yes_of}
-use Rattle.xa_driver.specs.Endings.{ending_of, is_decided, yes_ending}
-use Rattle.xa_log.specs.Log.{LogState, Records, record_of}
-use Rattle.xa_atomicity.specs.Outcomes.{OnlyTheseOrDecisionsName}
-use Rattle.xa_atomicity.specs.Presumed.{AskedAreLeft, CountsByTheLog, EndsByTheLog, IsResolvedAfter, VotedToCommit, WasAsked, known_of}
-use Rattle.xa_driver.specs.Resolving.{names, outcome_op}
-use Rattle.xa_atomicity.specs.Resolution.{AreUses, CutCall, IsFollowed, IsKept, IsOutcomeOf, IsUseIn, OnlyResolves, Opening, ResolveCall, Use, cuts, resolves}
-use Rattle.xa_atomicity.specs.Resolution.{uses_of}
+use Rattle.xa_desk.specs.LedgerView.{LedgerView}
+use Rattle.xa_desk.specs.{learnt_shut, ledger, HasGrown, HaveGrown}
+use Rattle.xa_worker.specs.{requests}
+use Rattle.xa_switch.specs.{reopened_at, IsOpenedWith, first_of, history as history_of, ledgers_of, ManagerPart, IsSettled, answers, collected, find_manager}
+use Rattle.xa_switch.specs.{journal, journal_in, sent}
+use Rattle.xa_switch.specs.Settling.{Settling}
+use Rattle.xa_driver.specs.{Branch, Outcome, is_yes, voted_yes, yes_of, ending_of, is_decided, yes_ending, names, outcome_op, AreBranchesRising, HaveRoom}
+use Rattle.xa_driver.specs.{IsTranOf, Logs, decision_of}
+use Rattle.xa_atomicity.specs.{IsAsked, IsCut, IsEnded, is_recorded, OnlyTheseOrDecisionsName, AskedAreLeft, CountsByTheLog, EndsByTheLog, IsResolvedAfter}
+use Rattle.xa_atomicity.specs.{VotedToCommit, WasAsked, known_of, AreUses, CutCall, IsFollowed, IsKept, IsOutcomeOf, IsUseIn, OnlyResolves, Opening}
+use Rattle.xa_atomicity.specs.{ResolveCall, Use, cuts, resolves, uses_of}
+use Rattle.xa_log.specs.{LogState, Records, record_of}
 use Rattle.xa_atomicity.specs.Tabled.{Tabled}
-use Rattle.xa_driver.specs.Trace.{AreBranchesRising, HaveRoom, IsTranOf, Logs, decision_of}
 use Rattle.xa_atomicity.proofs.BranchEnds.{Follows, IsMarked, branch_follows}
 use Rattle.xa_atomicity.proofs.CutBranch.{HasSentOnly, WasTold, asked_only, ended_voted_so, open_so, sent_end, sent_fates, told_end, told_voted_so, vote_is}
 use Rattle.xa_atomicity.proofs.CutBranch.{voted_only, was_told}

@@ -1,20 +1,13 @@
 -- That no later use of the log marks a manager of a transaction that was decided to abort.
-use Rattle.xa_driver.specs.Decision.{voted_yes}
+use Rattle.xa_driver.specs.{voted_yes, IsTranOf}
 use Rattle.xa_words.specs.declared.code.Code.{Code}
-use Rattle.std.proofs.Common.{◌≡◌, ℕ, Bool, true, List, [], ◌∷◌, get_or, subst, false}
-use Rattle.std.specs.List.{All}
-use Rattle.std.proofs.lemmas.List.Elements.{All-nil, All-append, All-head, All-tail}
-use Rattle.xa_base.specs.declared.limits.TheConstants.{MOST_MANAGERS}
-use Rattle.xa_base.specs.Lists.{IsUpTo}
-use Rattle.xa_words.specs.Tran.{TranName}
-use Rattle.xa_desk.specs.LedgerView.{learnt_shut}
-use Rattle.xa_desk.specs.DeskView.{ledger}
+use Rattle.xa_base.proofs.{◌≡◌, ℕ, Bool, true, List, [], ◌∷◌, get_or, subst, false, All, All-nil, All-append, All-head, All-tail}
+use Rattle.xa_base.specs.{MOST_MANAGERS, IsUpTo}
+use Rattle.xa_words.specs.{TranName}
+use Rattle.xa_desk.specs.{learnt_shut, ledger}
 use Rattle.xa_switch.specs.Settling.{Settling}
-use Rattle.xa_atomicity.specs.Cut.{EachVote}
-use Rattle.xa_atomicity.specs.Presumed.{IsOfAnother}
-use Rattle.xa_atomicity.specs.Resolution.{CommitCall, CutCall, GoesOnAfter, OfCommit, Use, as_cut, commits, cuts, resolves, Opening, IsByItsThread, IsKept}
-use Rattle.xa_atomicity.specs.Resolution.{IsUseIn, OnlyResolves, uses_of}
-use Rattle.xa_driver.specs.Trace.{IsTranOf}
+use Rattle.xa_atomicity.specs.{EachVote, IsOfAnother, CommitCall, CutCall, GoesOnAfter, OfCommit, Use, as_cut, commits, cuts, resolves, Opening, IsByItsThread}
+use Rattle.xa_atomicity.specs.{IsKept, IsUseIn, OnlyResolves, uses_of}
 use Rattle.xa_atomicity.proofs.CutVotes.{cut_keeps, finished_law, none_resolved, none_shut, Votes}
 use Rattle.xa_atomicity.proofs.Records.{IsQuiet, is_marked}
 use Rattle.xa_atomicity.proofs.Voting.{learnt_on}

@@ -1,28 +1,17 @@
 -- What the log has of a transaction stays what its commit left.
-use Rattle.std.proofs.Math.Bool.{and-true, and-false}
-use Rattle.xa_atomicity.specs.Cut.{is_recorded}
-use Rattle.std.specs.Prelude.{cond, not, if◌then◌else◌, is_some}
-use Rattle.std.proofs.Common.{◌≡◌, ℕ, Bool, true, false, ◌==◌, ◌&&◌, ◌||◌, List, [], ◌∷◌, sym, refl, ap, ◌∙◌, Some, None, ⊎_elim}
-use Rattle.std.specs.List.{All}
+use Rattle.std.proofs.Math.Bool.{and-true}
+use Rattle.xa_base.proofs.{and-false, cond, not, if◌then◌else◌, is_some, ◌≡◌, ℕ, Bool, true, false, ◌==◌, ◌&&◌, ◌||◌, List, [], ◌∷◌, sym, refl, ap, ◌∙◌, Some}
+use Rattle.xa_base.proofs.{None, ⊎_elim, All, get-insert, eq_by_cmp, is_eq, tied_itself, All-nil, All-cons, All-head, All-tail, and_parts, is_equal, at_false}
+use Rattle.xa_base.proofs.{at_true, by_if}
+use Rattle.xa_atomicity.specs.{is_recorded, Use, commits, cuts, resolves, AreUses, OfCommit}
 use Rattle.std.specs.FinMap as map
-use Rattle.std.specs.FinMap.{get-insert}
-use Rattle.std.specs.Ordering.{eq_by_cmp, is_eq}
-use Rattle.std.specs.Cmp.{tied_itself}
-use Rattle.std.proofs.lemmas.List.Elements.{All-nil, All-cons, All-head, All-tail}
-use Rattle.std.proofs.lemmas.Bool.{and_parts, and_left, and_right, and_cases}
-use Rattle.xa_base.specs.declared.limits.TheConstants.{MOST_MANAGERS}
-use Rattle.xa_base.specs.Lists.{IsUpTo}
-use Rattle.xa_base.proofs.Truth.{is_equal, at_false, at_true, by_if}
-use Rattle.xa_words.specs.Tran.{TranName}
+use Rattle.std.proofs.lemmas.Bool.{and_left, and_right, and_cases}
+use Rattle.xa_base.specs.{MOST_MANAGERS, IsUpTo}
+use Rattle.xa_words.specs.{TranName}
 use Rattle.xa_words.proofs.ManagerSets.{in_set_of}
 use Rattle.xa_words.specs.declared.code.Code.{Code}
-use Rattle.xa_driver.specs.declared.branch.Branch.{Branch}
-use Rattle.xa_driver.specs.Decision.{is_yes, decides_commit, has_yes, voted_yes, yes_of}
-use Rattle.xa_log.specs.Log.{LogState, Records, record_of}
-use Rattle.xa_driver.specs.Trace.{Logs, appended, failed, unwanted, decision_of}
-use Rattle.xa_log.specs.Transactions.{tran_cmp}
-use Rattle.xa_atomicity.specs.Resolution.{Use, commits, cuts, resolves, AreUses, OfCommit}
-use Rattle.xa_driver.specs.Resolving.{names}
+use Rattle.xa_driver.specs.{Branch, is_yes, decides_commit, has_yes, voted_yes, yes_of, Logs, appended, failed, unwanted, decision_of, names}
+use Rattle.xa_log.specs.{LogState, Records, record_of, tran_cmp}
 use Rattle.xa_log.proofs.Transactions.{tran_cmp_total, tran_cmp-IsAntisymmetric}
 
 -- the record of the transaction names the manager

@@ -1,21 +1,15 @@
 -- What is known of the requests of one thread in a history, by what it sent.
-use Rattle.std.proofs.Common.{Bool, false, ◌≡◌, ◌≢◌, ℕ, zero, suc, ◌+◌, ◌<◌, ◌≤◌, true, ◌==◌, List, [], ◌∷◌, ◌++◌, length, length-append, slice_get, sym, refl}
-use Rattle.std.proofs.Common.{ap, ◌∙◌, subst, arith, Some}
-use Rattle.std.proofs.lemmas.Bool.{or_parts, eqb-false, and_right, ne_eqb, eq-eqb}
-use Rattle.std.specs.List.{list_any, All}
-use Rattle.std.specs.Prelude.{cond}
-use Rattle.std.proofs.lemmas.List.Elements.{All-nil, All-cons, All-head, All-tail, filter-append}
+use Rattle.xa_base.proofs.{Bool, false, ◌≡◌, ◌≢◌, ℕ, zero, suc, ◌+◌, ◌<◌, ◌≤◌, true, ◌==◌, List, [], ◌∷◌, ◌++◌, length, length-append, slice_get, sym, refl, ap}
+use Rattle.xa_base.proofs.{◌∙◌, subst, arith, Some, or_parts, eqb-false, ne_eqb, eq-eqb, list_any, All, cond, All-nil, All-cons, All-head, All-tail}
+use Rattle.xa_base.proofs.{filter-append, all_mid, some_same, slice_get_within}
+use Rattle.std.proofs.lemmas.Bool.{and_right}
 use Rattle.xa_words.specs.declared.code.Code.{Code}
-use Rattle.xa_words.specs.declared.request.Op.{Op}
-use Rattle.xa_words.specs.declared.request.Request.{Request}
+use Rattle.xa_words.specs.{Op, Request}
 use Rattle.xa_tables.specs.Tables.{Tables}
-use Rattle.xa_tables.specs.Next.{next}
-use Rattle.xa_tables.specs.History.{History, coded, of_thread, tables_after}
-use Rattle.xa_tables.specs.Prepared.{closes, is_close}
-use Rattle.xa_desk.specs.Lanes.{numbered}
-use Rattle.xa_switch.specs.Settling.{answers}
-use Rattle.xa_base.proofs.Lists.{all_mid, some_same}
-use Rattle.std.proofs.lemmas.Option.{slice_get_within}
+use Rattle.xa_tables.specs.{next, coded, of_thread, tables_after, closes, is_close}
+use Rattle.xa_tables.specs.History.{History}
+use Rattle.xa_desk.specs.{numbered}
+use Rattle.xa_switch.specs.{answers}
 use Rattle.xa_atomicity.proofs.Placing.{request_of, answer_at, same_code}
 use Rattle.xa_driver.proofs.Ledgers.{numbered_length}
 

@@ -1,32 +1,23 @@
 -- One outcome for each global transaction, over openings one after another: a commit that came to its end is one that was
 -- cut short after it.
 use Rattle.xa_atomicity.proofs.CutVotes.{known_each, prepare_there, vote_there, HasVoted, any_voted, ended_so, finished_law, shut_unless}
-use Rattle.xa_base.proofs.Truth.{by_bool}
-use Rattle.std.proofs.Common.{◌≡◌, ℕ, ◌≤◌, Bool, true, false, List, [], ◌∷◌, ◌++◌, length, sym, refl, ap, ◌∙◌, subst, Option, Some}
-use Rattle.std.specs.List.{All, Contains}
-use Rattle.std.proofs.lemmas.List.Elements.{All-head}
-use Rattle.xa_base.specs.declared.limits.TheConstants.{MOST_MANAGERS}
-use Rattle.xa_base.specs.Lists.{IsUpTo}
-use Rattle.xa_words.specs.Tran.{TranName}
+use Rattle.xa_base.proofs.{by_bool, ◌≡◌, ℕ, ◌≤◌, Bool, true, false, List, [], ◌∷◌, ◌++◌, length, sym, refl, ap, ◌∙◌, subst, Option, Some, All, Contains}
+use Rattle.xa_base.proofs.{All-head}
+use Rattle.xa_base.specs.{MOST_MANAGERS, IsUpTo}
+use Rattle.xa_words.specs.{TranName}
 use Rattle.xa_words.specs.declared.code.Code.{Code}
-use Rattle.xa_tables.specs.Tables.{Tables, state_of}
-use Rattle.xa_tables.specs.History.{fate, tables_after}
-use Rattle.xa_tables.specs.Openings.{told_by}
-use Rattle.xa_desk.specs.LedgerView.{LedgerView, learnt_shut}
-use Rattle.xa_desk.specs.DeskView.{ledger}
-use Rattle.xa_switch.specs.Fates.{IsOpenedWith, first_of, history as history_of, ledgers_of}
-use Rattle.xa_switch.specs.Settling.{Settling, IsSettled}
-use Rattle.xa_driver.specs.declared.branch.Branch.{Branch}
-use Rattle.xa_driver.specs.declared.done.Ending.{Ending}
-use Rattle.xa_atomicity.specs.Cut.{IsCut, is_recorded, known_at}
-use Rattle.xa_driver.specs.Decision.{has_yes, is_yes, yes_of}
-use Rattle.xa_atomicity.specs.Outcomes.{EachOutcome, OnlyTheseOrDecisionsName, is_heuristic}
-use Rattle.xa_atomicity.specs.Presumed.{VotedToCommit, known_of}
-use Rattle.xa_atomicity.specs.Resolution.{CommitCall, CutCall, as_cut, ResolveCall, commits, Opening, EndsAs, EachEnds, IsAllOrNone, all, none, IsKept}
-use Rattle.xa_atomicity.specs.Resolution.{IsResolved, IsUseIn}
+use Rattle.xa_tables.specs.Tables.{Tables}
+use Rattle.xa_tables.specs.{state_of, fate, tables_after, told_by}
+use Rattle.xa_desk.specs.LedgerView.{LedgerView}
+use Rattle.xa_desk.specs.{learnt_shut, ledger}
+use Rattle.xa_switch.specs.{IsOpenedWith, first_of, history as history_of, ledgers_of, IsSettled}
+use Rattle.xa_switch.specs.Settling.{Settling}
+use Rattle.xa_driver.specs.{Branch, Ending, has_yes, is_yes, yes_of, EachBranch, IsCommit}
+use Rattle.xa_atomicity.specs.{IsCut, is_recorded, known_at, EachOutcome, OnlyTheseOrDecisionsName, is_heuristic, VotedToCommit, known_of, CommitCall, CutCall}
+use Rattle.xa_atomicity.specs.{as_cut, ResolveCall, commits, Opening, EndsAs, EachEnds, IsAllOrNone, all, none, IsKept, IsResolved, IsUseIn, CountsOver}
+use Rattle.xa_atomicity.specs.{CountsAllOrNone, IsUnlisted, SharesOver}
 use Rattle.xa_atomicity.specs.Tabled.{Tabled}
-use Rattle.xa_driver.specs.Trace.{EachBranch, IsCommit}
-use Rattle.xa_atomicity.specs.Worth.{CountsOver, CountsAllOrNone, IsUnlisted, SharesOver, is_committed}
+use Rattle.xa_atomicity.specs.Worth.{is_committed}
 use Rattle.xa_atomicity.proofs.BranchEnds.{Follows}
 use Rattle.xa_atomicity.proofs.Courses.{yes_is}
 use Rattle.xa_atomicity.proofs.EndsByFate.{doubted}

@@ -1,58 +1,38 @@
 -- What the branches of a call came to in a settled opening.
 use Rattle.xa_atomicity.proofs.Requests.{IsFromTo, own_between}
-use Rattle.xa_desk.specs.Lanes.{numbered}
-use Rattle.std.proofs.Common.{length-append, ◌+◌}
+use Rattle.xa_desk.specs.{numbered, ledger, no_ledger, is_known, HasGrown, HaveGrown}
+use Rattle.xa_base.proofs.{length-append, ◌+◌, All-contains, All-head, All-tail, Contains, All, list_any, zero, suc, ◌≡◌, ℕ, ◌-◌, ◌<◌, ◌≤◌, Bool, ◌&&◌}
+use Rattle.xa_base.proofs.{if◌then◌else◌, List, [], ◌∷◌, length, ◌++◌, append_assoc, slice_get, sym, refl, ap, ◌∙◌, subst, arith, Option, Some, ⊎_elim, le-leb}
+use Rattle.xa_base.proofs.{cases_lt, or_parts, not-true, pos, true, false, ◌||◌, ◌⊎◌, or-true, by_if}
 use Rattle.xa_atomicity.proofs.Sites.{StandsIn, stands_by, Site}
-use Rattle.xa_words.specs.declared.request.Op.{Op}
-use Rattle.std.proofs.lemmas.List.Elements.{All-contains, All-head, All-tail}
-use Rattle.std.specs.List.{Contains, All, list_any}
-use Rattle.std.proofs.Common.{zero, suc, ◌≡◌, ℕ, ◌-◌, ◌<◌, ◌≤◌, Bool, ◌&&◌, if◌then◌else◌, List, [], ◌∷◌, length, ◌++◌, append_assoc, slice_get, sym, refl, ap}
-use Rattle.std.proofs.Common.{◌∙◌, subst, arith, Option, Some, ⊎_elim}
+use Rattle.xa_words.specs.{Op, TranName, Done as Voted, RdOnly, XidName, Request}
 use Rattle.xa_atomicity.proofs.Courses.{Course, course_of}
-use Rattle.std.proofs.lemmas.Bool.{le-leb, cases_lt, or_parts, not-true}
-use Rattle.xa_words.specs.Tran.{TranName}
 use Rattle.xa_words.specs.declared.code.Code.{Code}
-use Rattle.xa_words.specs.declared.code.Code.TheVariants.{Done as Voted, RdOnly}
-use Rattle.xa_tables.specs.declared.state.HeuristicDecision.{HeuristicDecision}
-use Rattle.xa_words.specs.Xid.{XidName}
-use Rattle.xa_words.specs.declared.request.Request.{Request}
-use Rattle.xa_tables.specs.Tables.{Tables, state_of}
-use Rattle.xa_tables.specs.Next.{next}
-use Rattle.xa_tables.specs.Openings.{told_by}
+use Rattle.xa_tables.specs.{HeuristicDecision, state_of, next, told_by, Fate, IsFateOf, fate, coded, decided_fate, tables_after}
+use Rattle.xa_tables.specs.Tables.{Tables}
 use Rattle.xa_tables.specs.History as history
-use Rattle.xa_tables.specs.History.{History, Fate, IsFateOf, fate, coded, decided_fate, tables_after}
+use Rattle.xa_tables.specs.History.{History}
 use Rattle.xa_desk.specs.LedgerView.{LedgerView}
-use Rattle.xa_desk.specs.DeskView.{DeskView, ledger, no_ledger, is_known}
-use Rattle.xa_worker.specs.Journal.{Entry}
-use Rattle.xa_switch.specs.Settling.{Settling, IsSettled, sent, collected, answers}
-use Rattle.xa_base.specs.Lists.{Begins}
-use Rattle.xa_desk.specs.Growth.{HasGrown, HaveGrown}
+use Rattle.xa_desk.specs.DeskView.{DeskView}
+use Rattle.xa_worker.specs.{Entry}
+use Rattle.xa_switch.specs.Settling.{Settling}
+use Rattle.xa_switch.specs.{IsSettled, sent, collected, answers, IsOpenedWith, ledgers_of, history as history_of}
+use Rattle.xa_base.specs.{Begins}
 use Rattle.xa_desk.proofs.Ledgers.{past_end}
 use Rattle.xa_desk.proofs.Growth.{as_it_was, grown_on}
-use Rattle.xa_switch.specs.Fates.{IsOpenedWith, ledgers_of, history as history_of}
-use Rattle.xa_driver.specs.declared.branch.Branch.{Branch}
-use Rattle.xa_driver.specs.declared.done.Done.{Done}
-use Rattle.xa_driver.specs.declared.done.Ending.{Ending}
-use Rattle.xa_driver.specs.Decision.{is_yes, is_no}
-use Rattle.xa_driver.specs.Endings.{ending_of, second_op, third_op}
-use Rattle.xa_log.specs.Log.{LogState}
-use Rattle.xa_driver.specs.Resolving.{AsksLedger}
-use Rattle.xa_driver.specs.Trace.{EachBranch, IsCommit, IsTraceOfCommit, AreBranchesRising}
+use Rattle.xa_driver.specs.{Branch, Done, Ending, is_yes, is_no, ending_of, second_op, third_op, AsksLedger, EachBranch, IsCommit, IsTraceOfCommit}
+use Rattle.xa_driver.specs.{AreBranchesRising, Committed, ReadOnly, RolledBack, InDoubt, Heuristic, Left, AtBranch}
+use Rattle.xa_log.specs.{LogState}
 use Rattle.xa_driver.proofs.Mapped.{any_asked, branch_by}
 use Rattle.xa_driver.proofs.Traces.{asked_grows}
-use Rattle.xa_atomicity.specs.Outcomes.{AreLeftAlone, AreLeftOrDecided, OnlyTheseName, OnlyTheseOrDecisionsName, IsDecidedAfter, KeepsItsVote, TellsTheFate}
-use Rattle.xa_atomicity.specs.Outcomes.{undecided, decided, told_fate, EachOutcome, KeepsTheVotes, TellsTheFates, has_committed, has_rolled_back}
-use Rattle.xa_atomicity.specs.Outcomes.{has_vote_against, is_committed, is_rolled_back, is_in_doubt, is_heuristic, is_left, is_read_only, sent_so_far}
-use Rattle.xa_driver.specs.declared.done.Ending.TheVariants.{Committed, ReadOnly, RolledBack, InDoubt, Heuristic, Left}
-use Rattle.std.specs.Prelude.{pos, true, false, ◌||◌, ◌⊎◌}
-use Rattle.std.proofs.Math.Bool.{or-true}
-use Rattle.xa_atomicity.specs.Additions.{Shares, CountsTheCommitted, HasAllOrNothing, is_decided}
-use Rattle.xa_base.proofs.Truth.{by_if}
+use Rattle.xa_atomicity.specs.{AreLeftAlone, AreLeftOrDecided, OnlyTheseName, OnlyTheseOrDecisionsName, IsDecidedAfter, KeepsItsVote, TellsTheFate, undecided}
+use Rattle.xa_atomicity.specs.{decided, told_fate, EachOutcome, KeepsTheVotes, TellsTheFates, has_committed, has_rolled_back, has_vote_against, is_rolled_back}
+use Rattle.xa_atomicity.specs.{is_in_doubt, is_heuristic, is_left, is_read_only, sent_so_far, Shares, CountsTheCommitted, HasAllOrNothing, is_decided}
+use Rattle.xa_atomicity.specs.Outcomes.{is_committed}
 use Rattle.xa_atomicity.proofs.EachManager.{every_manager}
 use Rattle.xa_atomicity.specs.Tabled.{Tabled}
 use Rattle.xa_atomicity.proofs.Values.{Counted, branch_counts}
 use Rattle.xa_atomicity.proofs.Fated.{Told, branch_told}
-use Rattle.xa_driver.specs.Course.{AtBranch}
 use Rattle.xa_atomicity.proofs.InLedgers.{heard, branch_in}
 
 -- what was sent to a manager, and collected from it, stands in the ledger with it

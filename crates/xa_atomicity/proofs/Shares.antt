@@ -1,18 +1,13 @@
 -- The share that a value has of an addition, by the fates that a history makes of its branch.
-use Rattle.std.specs.Prelude.{ℤ, pos, option_map}
-use Rattle.std.proofs.Common.{◌≡◌, ℕ, suc, Bool, true, ◌&&◌, if◌then◌else◌, List, [], ◌∷◌, ◌++◌, append_assoc, sym, refl, ap, ◌∙◌, arith, Option, Some, None}
-use Rattle.std.specs.List.{cons_option}
-use Rattle.xa_words.specs.Xid.{XidName}
-use Rattle.xa_words.specs.Key.{key_eq}
-use Rattle.xa_words.specs.Orders.{Decides-key_eq}
-use Rattle.xa_words.specs.declared.request.Op.TheVariants.{Prepare}
-use Rattle.xa_tables.specs.declared.state.Association.{Association}
-use Rattle.xa_tables.specs.Tables.{Tables, association_of}
-use Rattle.xa_tables.specs.Next.{next}
-use Rattle.xa_tables.specs.History.{History, Fate, added_by, coded, commits_later, ending, ending_by, fate_of, is_done, or_later, share, share_of, tables_after}
-use Rattle.xa_tables.specs.History.{EndsNowhere}
+use Rattle.xa_base.proofs.{ℤ, pos, option_map, ◌≡◌, ℕ, suc, Bool, true, ◌&&◌, if◌then◌else◌, List, [], ◌∷◌, ◌++◌, append_assoc, sym, refl, ap, ◌∙◌, arith}
+use Rattle.xa_base.proofs.{Option, Some, None, cons_option}
+use Rattle.xa_words.specs.{XidName, key_eq, Decides-key_eq, Prepare}
+use Rattle.xa_tables.specs.{Association, association_of, next, Fate, added_by, coded, commits_later, ending, ending_by, fate_of, is_done, or_later, share}
+use Rattle.xa_tables.specs.{share_of, tables_after, EndsNowhere}
+use Rattle.xa_tables.specs.Tables.{Tables}
+use Rattle.xa_tables.specs.History.{History}
 use Rattle.xa_tables.proofs.Unnamed.{tables_after-append}
-use Rattle.xa_atomicity.specs.Additions.{IsAddition, prepare_of}
+use Rattle.xa_atomicity.specs.{IsAddition, prepare_of}
 use Rattle.xa_atomicity.proofs.Placing.{request_of, fates}
 
 -- ---- by the fates that a history makes

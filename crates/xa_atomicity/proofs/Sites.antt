@@ -1,23 +1,15 @@
 -- The requests of one thread to a manager, by their numbers in the manager's settled history.
-use Rattle.std.proofs.Common.{◌≡◌, ◌≢◌, ℕ, suc, ◌+◌, ◌<◌, ◌≤◌, Bool, true, cond, ◌==◌, ◌||◌, List, [], ◌∷◌, ◌++◌, length, slice_get, get_or, sym, refl, ap, ◌∙◌}
-use Rattle.std.proofs.Common.{subst, arith, Some, zero}
-use Rattle.std.specs.List.{All}
-use Rattle.std.proofs.lemmas.List.Elements.{filter-append}
-use Rattle.std.proofs.lemmas.Bool.{eq-eqb}
+use Rattle.xa_base.proofs.{◌≡◌, ◌≢◌, ℕ, suc, ◌+◌, ◌<◌, ◌≤◌, Bool, true, cond, ◌==◌, ◌||◌, List, [], ◌∷◌, ◌++◌, length, slice_get, get_or, sym, refl, ap, ◌∙◌}
+use Rattle.xa_base.proofs.{subst, arith, Some, zero, All, filter-append, eq-eqb, some_same, all_left, all_after}
 use Rattle.xa_words.specs.declared.code.Code.{Code}
-use Rattle.xa_words.specs.declared.code.Code.TheVariants.{RmFail}
-use Rattle.xa_words.specs.declared.request.Op.{Op}
-use Rattle.xa_words.specs.declared.request.Request.{Request}
+use Rattle.xa_words.specs.{RmFail, Op, Request}
 use Rattle.xa_tables.specs.Tables.{Tables}
-use Rattle.xa_tables.specs.Next.{next}
+use Rattle.xa_tables.specs.{next, coded, of_thread, tables_after, IsOpening}
 use Rattle.xa_tables.proofs.Unnamed.{tables_after-append}
-use Rattle.xa_tables.specs.History.{History, coded, of_thread, tables_after}
-use Rattle.xa_tables.specs.Openings.{IsOpening}
-use Rattle.xa_desk.specs.LedgerView.{is_rm_fail}
-use Rattle.xa_desk.specs.Lanes.{numbered}
-use Rattle.xa_base.proofs.Lists.{some_same, all_left, all_after}
+use Rattle.xa_tables.specs.History.{History}
+use Rattle.xa_desk.specs.{is_rm_fail, numbered}
 use Rattle.xa_atomicity.specs.Tabled.{Tabled}
-use Rattle.xa_switch.specs.Settling.{answers}
+use Rattle.xa_switch.specs.{answers}
 use Rattle.xa_atomicity.proofs.Placing.{request_of, same_code, at_seam, part, answer_at, numbered_both}
 use Rattle.xa_driver.proofs.Ledgers.{numbered_length}
 use Rattle.xa_atomicity.proofs.Requests.{all_earlier, all_later, of_ops}

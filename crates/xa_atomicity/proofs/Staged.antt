@@ -1,28 +1,18 @@
 -- Each stage of a commit is one that was cut short, whatever else was done between them.
 use Rattle.xa_atomicity.proofs.CutSends.{seconds_are}
-use Rattle.std.specs.Prelude.{◌≡◌, ℕ, Bool, true, false, not, ◌&&◌, ◌||◌, Option, Some, List, [], ◌∷◌, map, refl}
-use Rattle.std.proofs.Common.{inl, inr, get_or, sym, ap, ◌∙◌, subst}
-use Rattle.std.specs.List.{All}
-use Rattle.std.proofs.lemmas.List.Elements.{All-nil, All-cons, All-head, All-tail}
-use Rattle.xa_words.specs.Tran.{TranName}
+use Rattle.xa_base.proofs.{◌≡◌, ℕ, Bool, true, false, not, ◌&&◌, ◌||◌, Option, Some, List, [], ◌∷◌, map, refl, inl, inr, get_or, sym, ap, ◌∙◌, subst, All}
+use Rattle.xa_base.proofs.{All-nil, All-cons, All-head, All-tail}
+use Rattle.xa_words.specs.{TranName, Op, Prepare}
 use Rattle.xa_words.specs.declared.code.Code.{Code}
-use Rattle.xa_words.specs.declared.request.Op.{Op}
-use Rattle.xa_words.specs.declared.request.Op.TheVariants.{Prepare}
 use Rattle.xa_desk.specs.LedgerView.{LedgerView}
-use Rattle.xa_desk.specs.DeskView.{DeskView, ledger}
-use Rattle.xa_driver.specs.declared.branch.Branch.{Branch}
-use Rattle.xa_driver.specs.declared.done.Ending.{Ending}
-use Rattle.xa_driver.specs.declared.stages.Prepared.{Prepared}
-use Rattle.xa_driver.specs.declared.stages.Decided.{Decided}
-use Rattle.xa_driver.specs.declared.stages.Told.{Told}
-use Rattle.xa_driver.specs.Asks.{Ask, Asks, EachAsk, HaveComeSoFar, IsBegun, SameAsks, collected, unasked}
-use Rattle.xa_atomicity.specs.Cut.{DidOther, EachVote, IsAsked, IsCut, IsTold, LeavesBranches, asking, forgetting, telling}
-use Rattle.xa_driver.specs.Decision.{decides_commit, has_yes, yes_of}
-use Rattle.xa_driver.specs.Endings.{second_op, third_op, ending_of}
-use Rattle.xa_log.specs.Log.{LogState, IsEither, with_record}
-use Rattle.xa_driver.specs.Rounds.{code_of, ending_of_ask, first_ask, second_ask, third_ask, yes_asked}
-use Rattle.xa_driver.specs.Stages.{HasDecided, HasPrepared, HasTold, HasVoted}
-use Rattle.xa_driver.specs.Trace.{EachBranch, IsTranOf, Logs, MayCommit, appended, decision_of, wants_record}
+use Rattle.xa_desk.specs.DeskView.{DeskView}
+use Rattle.xa_desk.specs.{ledger}
+use Rattle.xa_driver.specs.{Branch, Ending, Prepared, Decided, Told, Ask, EachAsk, HaveComeSoFar, IsBegun, SameAsks, collected, unasked, decides_commit}
+use Rattle.xa_driver.specs.{has_yes, yes_of, second_op, third_op, ending_of, code_of, ending_of_ask, first_ask, second_ask, third_ask, yes_asked, HasDecided}
+use Rattle.xa_driver.specs.{HasPrepared, HasTold, HasVoted, EachBranch, IsTranOf, Logs, MayCommit, appended, decision_of, wants_record}
+use Rattle.xa_driver.specs.Asks.{Asks}
+use Rattle.xa_atomicity.specs.{DidOther, EachVote, IsAsked, IsCut, IsTold, LeavesBranches, asking, forgetting, telling}
+use Rattle.xa_log.specs.{LogState, IsEither, with_record}
 use Rattle.xa_driver.proofs.Calls.{first_trace, second_code, second_is, second_trace, yes_is, one_tran}
 use Rattle.xa_atomicity.proofs.CutVotes.{Ended, did_nothing}
 use Rattle.xa_driver.proofs.Gathering.{same_itself}

@@ -1,41 +1,26 @@
 -- What a branch that nobody else named counts for, over the settled history of its manager: its additions, and what the
 -- call's requests moved.
 use Rattle.xa_atomicity.proofs.Courses.{Unreached, Reads, Breaks, Stays, Agrees, Refuses, yes_is, read_is, Sends, SendsOne, Course, rest_forgets}
-use Rattle.std.proofs.lemmas.Bool.{both_ways, false_from_ne_true, cases_lt}
-use Rattle.xa_base.proofs.Truth.{by_bool, by_if, at_true}
-use Rattle.std.specs.Prelude.{ℤ, pos, ◌+ℤ◌}
-use Rattle.std.proofs.Common.{◌≡◌, ◌≢◌, ℕ, suc, ◌+◌, inl, inr, Bool, true, false, ◌||◌, if◌then◌else◌, List, [], ◌∷◌, ◌++◌, get_or, sym, refl, ap, ◌∙◌, subst}
-use Rattle.std.proofs.Common.{arith, Option, Some, None}
-use Rattle.std.specs.List.{All, cons_option}
-use Rattle.std.proofs.Math.IntN.{+ℤ_idl as none_plus, +ℤ_idr as plus_none}
+use Rattle.std.proofs.lemmas.Bool.{both_ways}
+use Rattle.xa_base.proofs.{false_from_ne_true, cases_lt, by_bool, by_if, at_true, ℤ, pos, ◌+ℤ◌, ◌≡◌, ◌≢◌, ℕ, suc, ◌+◌, inl, inr, Bool, true, false, ◌||◌}
+use Rattle.xa_base.proofs.{if◌then◌else◌, List, [], ◌∷◌, ◌++◌, get_or, sym, refl, ap, ◌∙◌, subst, arith, Option, Some, None, All, cons_option}
+use Rattle.xa_base.proofs.{+ℤ_idl as none_plus, +ℤ_idr as plus_none, all_left, all_after}
 use Rattle.xa_atomicity.proofs.OneOutcome.{neither}
-use Rattle.xa_words.specs.Xid.{XidName, xid_eq}
+use Rattle.xa_words.specs.{XidName, xid_eq, Done, RdOnly, RmFail, Op, Prepare, Commit, Rollback, Forget, Request}
 use Rattle.xa_words.specs.declared.code.Code.{Code}
-use Rattle.xa_words.specs.declared.code.Code.TheVariants.{Done, RdOnly, RmFail}
-use Rattle.xa_words.specs.declared.request.Op.{Op}
-use Rattle.xa_words.specs.declared.request.Op.TheVariants.{Prepare, Commit, Rollback, Forget}
-use Rattle.xa_words.specs.declared.request.Request.{Request}
 use Rattle.xa_words.proofs.Xids.{xid_self}
-use Rattle.xa_tables.specs.declared.state.HeuristicDecision.{HeuristicDecision}
+use Rattle.xa_tables.specs.{HeuristicDecision, next, Fate, fate_of, tables_after, is_done, is_read_only, is_rolled_back, is_integrity, prepare_fate}
+use Rattle.xa_tables.specs.{rollback_fate, ending, share, moved, moved_by, held_by, names, NamesNowhere, LeavesWaiting, AwaitsTheOutcome, is_forget, fates_when}
 use Rattle.xa_tables.specs.Tables.{Tables}
-use Rattle.xa_tables.specs.Next.{next}
 use Rattle.xa_tables.proofs.Unnamed.{tables_after-append, unnamed_fate}
 use Rattle.xa_tables.specs.History as history
-use Rattle.xa_tables.specs.History.{History, Fate, fate_of, tables_after, is_done, is_read_only, is_rolled_back, is_integrity, prepare_fate, rollback_fate}
-use Rattle.xa_tables.specs.History.{ending, share}
-use Rattle.xa_tables.specs.Worth.{moved, moved_by, held_by}
-use Rattle.xa_tables.specs.Prepared.{names, NamesNowhere, LeavesWaiting, AwaitsTheOutcome, is_forget, fates_when}
-use Rattle.xa_desk.specs.LedgerView.{is_rm_fail}
-use Rattle.xa_driver.specs.declared.done.Ending.{Ending}
-use Rattle.xa_driver.specs.declared.done.Ending.TheVariants.{Committed, ReadOnly, RolledBack, InDoubt, Heuristic, Left}
-use Rattle.xa_driver.specs.Decision.{is_yes, is_no, is_read}
-use Rattle.xa_driver.specs.Endings.{yes_ending, no_ending, is_heuristic as is_heuristic_code}
-use Rattle.xa_driver.specs.Commits.{is_commit}
-use Rattle.xa_atomicity.specs.Outcomes.{IsBetween, OnlyTheseName, is_committed, is_heuristic, is_read_only as is_read_only_ending}
-use Rattle.xa_atomicity.specs.Additions.{IsAddition, none_later, prepare_of}
-use Rattle.xa_atomicity.specs.Conservation.{taken_before}
+use Rattle.xa_tables.specs.History.{History}
+use Rattle.xa_desk.specs.{is_rm_fail}
+use Rattle.xa_driver.specs.{Ending, Committed, ReadOnly, RolledBack, InDoubt, Heuristic, Left, is_yes, is_no, is_read, yes_ending, no_ending}
+use Rattle.xa_driver.specs.{is_heuristic as is_heuristic_code, is_commit}
+use Rattle.xa_atomicity.specs.{IsBetween, OnlyTheseName, is_heuristic, is_read_only as is_read_only_ending, IsAddition, none_later, prepare_of, taken_before}
+use Rattle.xa_atomicity.specs.Outcomes.{is_committed}
 use Rattle.xa_atomicity.proofs.Moves.{is_within, inside, outside, moved_both, moved_none, moved_at, moved_without, taken_is, within_parts}
-use Rattle.xa_base.proofs.Lists.{all_left, all_after}
 use Rattle.xa_atomicity.proofs.Placing.{request_of, fates, fates_both, none_first}
 use Rattle.xa_atomicity.proofs.Requests.{closes_other}
 use Rattle.xa_atomicity.proofs.Shares.{add_place, commits_or, share_is}

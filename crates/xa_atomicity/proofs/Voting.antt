@@ -1,35 +1,21 @@
 -- What a branch that voted to commit stands at as the opening of its commit ends.
-use Rattle.std.proofs.Common.{◌≡◌, ℕ, Bool, true, false, ◌||◌, if◌then◌else◌, List, [], ◌∷◌, length, sym, refl, ap, ◌∙◌, subst, Option, Some, None}
-use Rattle.std.specs.List.{list_any}
-use Rattle.std.proofs.lemmas.List.Folds.{list_any-append}
-use Rattle.std.proofs.Math.Bool.{or-true}
-use Rattle.xa_base.specs.Lists.{Begins}
-use Rattle.xa_words.specs.Xid.{XidName}
+use Rattle.xa_base.proofs.{◌≡◌, ℕ, Bool, true, false, ◌||◌, if◌then◌else◌, List, [], ◌∷◌, length, sym, refl, ap, ◌∙◌, subst, Option, Some, None, list_any}
+use Rattle.xa_base.proofs.{list_any-append, or-true}
+use Rattle.xa_base.specs.{Begins}
+use Rattle.xa_words.specs.{XidName, Done, RmFail, Op}
 use Rattle.xa_words.specs.declared.code.Code.{Code}
-use Rattle.xa_words.specs.declared.code.Code.TheVariants.{Done, RmFail}
-use Rattle.xa_words.specs.declared.request.Op.{Op}
-use Rattle.xa_tables.specs.declared.state.State.{State}
-use Rattle.xa_tables.specs.declared.state.HeuristicDecision.{HeuristicDecision}
+use Rattle.xa_tables.specs.{State, HeuristicDecision, state_of, is_left_in, decision_code, next, Fate, tables_after, last_or, is_in_doubt as is_unknown}
+use Rattle.xa_tables.specs.{decided_fate, IsTold}
 use Rattle.xa_tables.specs.declared.state.HeuristicDecision.TheVariants as decision
-use Rattle.xa_tables.specs.Tables.{Tables, state_of, is_left_in}
-use Rattle.xa_tables.specs.Reasons.{decision_code}
-use Rattle.xa_tables.specs.Next.{next}
+use Rattle.xa_tables.specs.Tables.{Tables}
 use Rattle.xa_tables.specs.History as history
-use Rattle.xa_tables.specs.History.{History, Fate, tables_after, last_or, is_in_doubt as is_unknown, decided_fate}
-use Rattle.xa_tables.specs.Prepared.{IsTold}
-use Rattle.xa_desk.specs.LedgerView.{LedgerView, is_rm_fail, learnt_shut, with_sent, with_collected}
-use Rattle.xa_driver.specs.declared.branch.Branch.{Branch}
-use Rattle.xa_driver.specs.declared.done.Ending.{Ending}
-use Rattle.xa_driver.specs.Asks.{asked, IsAnswered}
-use Rattle.xa_driver.specs.Decision.{is_yes}
-use Rattle.xa_driver.specs.Endings.{ending_of, yes_ending, second_op, third_op}
-use Rattle.xa_atomicity.specs.Outcomes.{told_fate, is_in_doubt}
-use Rattle.xa_atomicity.specs.Resolution.{ended_as}
-use Rattle.xa_driver.specs.Resolving.{AsksLedger, outcome_op}
+use Rattle.xa_tables.specs.History.{History}
+use Rattle.xa_desk.specs.LedgerView.{LedgerView}
+use Rattle.xa_desk.specs.{is_rm_fail, learnt_shut, with_sent, with_collected}
+use Rattle.xa_driver.specs.{Branch, Ending, asked, IsAnswered, is_yes, ending_of, yes_ending, second_op, third_op, AsksLedger, outcome_op, voted, AtBranch}
+use Rattle.xa_atomicity.specs.{told_fate, is_in_doubt, ended_as}
 use Rattle.xa_atomicity.specs.Tabled.{Tabled}
-use Rattle.xa_driver.specs.Trace.{voted}
 use Rattle.xa_driver.proofs.Traces.{trace_of, asked_grows}
-use Rattle.xa_driver.specs.Course.{AtBranch}
 use Rattle.xa_atomicity.proofs.Courses.{yes_is, yes_wanted}
 use Rattle.xa_atomicity.proofs.Leading.{Stands}
 use Rattle.xa_atomicity.proofs.Placing.{fates}

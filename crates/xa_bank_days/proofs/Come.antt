@@ -1,47 +1,27 @@
 -- What a commit came to that was made, or whose coordinator died: whether its log has the record is what was told, where the
 -- first branch isn't read only.
-use Rattle.std.specs.Prelude.{is_some, if◌then◌else◌}
-use Rattle.std.proofs.Common.{◌≡◌, ◌≢◌, ℕ, zero, Bool, true, false, not, ◌&&◌, ◌||◌, cond, Option, None, Some, List, [], ◌∷◌, ◌++◌, length, append_assoc, sym}
-use Rattle.std.proofs.Common.{refl, ap, ◌∙◌, subst, arith, inl, inr}
-use Rattle.std.specs.List.{Contains}
-use Rattle.std.specs.Ordering.{eq_by_cmp, is_eq}
-use Rattle.std.specs.Cmp.{tied_itself}
+use Rattle.xa_base.proofs.{is_some, if◌then◌else◌, ◌≡◌, ◌≢◌, ℕ, zero, Bool, true, false, not, ◌&&◌, ◌||◌, cond, Option, None, Some, List, [], ◌∷◌, ◌++◌, length}
+use Rattle.xa_base.proofs.{append_assoc, sym, refl, ap, ◌∙◌, subst, arith, inl, inr, Contains, eq_by_cmp, is_eq, tied_itself, get-insert, or-true, and_parts}
+use Rattle.xa_base.proofs.{Contains-append_right, is_equal}
 use Rattle.std.specs.FinMap as map
-use Rattle.std.specs.FinMap.{get-insert}
-use Rattle.std.proofs.Math.Bool.{or-true}
-use Rattle.std.proofs.lemmas.Bool.{and_parts}
-use Rattle.std.proofs.lemmas.List.Elements.{Contains-append_right}
-use Rattle.xa_base.proofs.Truth.{is_equal}
-use Rattle.xa_words.specs.Tran.{TranName, tran_of}
+use Rattle.xa_words.specs.{TranName, tran_of, Done, RdOnly, RmFail, Death, Op, Prepare}
 use Rattle.xa_words.specs.declared.code.Code.{Code}
-use Rattle.xa_words.specs.declared.code.Code.TheVariants.{Done, RdOnly, RmFail}
-use Rattle.xa_words.specs.declared.death.Death.{Death}
 use Rattle.xa_words.specs.declared.death.Death.TheVariants as death
-use Rattle.xa_words.specs.declared.request.Op.{Op}
-use Rattle.xa_words.specs.declared.request.Op.TheVariants.{Prepare}
-use Rattle.xa_desk.specs.LedgerView.{LedgerView, learnt_shut, with_collected, with_sent}
-use Rattle.xa_desk.specs.DeskView.{DeskView, ledger}
-use Rattle.xa_log.specs.Log.{IsEither, LogState, record_of, with_record}
-use Rattle.xa_log.specs.Transactions.{tran_cmp}
+use Rattle.xa_desk.specs.LedgerView.{LedgerView}
+use Rattle.xa_desk.specs.{learnt_shut, with_collected, with_sent, ledger}
+use Rattle.xa_desk.specs.DeskView.{DeskView}
+use Rattle.xa_log.specs.{IsEither, LogState, record_of, with_record, tran_cmp}
 use Rattle.xa_log.proofs.Transactions.{tran_cmp_total, tran_cmp-IsAntisymmetric}
-use Rattle.xa_driver.specs.declared.branch.Branch.{Branch}
-use Rattle.xa_driver.specs.declared.done.Done.{Done as Made}
-use Rattle.xa_driver.specs.declared.done.Ending.{Ending}
-use Rattle.xa_driver.specs.Course.{AtBranch}
-use Rattle.xa_driver.specs.Deaths.{CameTo, HaveAsked, HaveTold, IsDecidedBy, PutsLedger, VotesAndObeys}
-use Rattle.xa_driver.specs.Decision.{decides_commit, has_yes, yes_of}
-use Rattle.xa_driver.specs.Resolving.{AsksLedger}
-use Rattle.xa_driver.specs.Trace.{EachBranch, IsTranOf, Logs, appended, decision_of, failed, unwanted}
-use Rattle.xa_atomicity.specs.Cut.{IsCut, is_recorded}
+use Rattle.xa_driver.specs.{Branch, Done as Made, Ending, AtBranch, CameTo, HaveAsked, HaveTold, IsDecidedBy, PutsLedger, VotesAndObeys, decides_commit}
+use Rattle.xa_driver.specs.{has_yes, yes_of, AsksLedger, EachBranch, IsTranOf, Logs, appended, decision_of, failed, unwanted}
+use Rattle.xa_atomicity.specs.{IsCut, is_recorded}
 use Rattle.xa_atomicity.proofs.CutVotes.{finished_law}
 use Rattle.xa_atomicity.proofs.Died.{died_is_cut}
 use Rattle.xa_atomicity.proofs.Staged.{nothing_between, undecided_is_cut}
-use Rattle.xa_work.specs.declared.unit.WorkOutcome.{WorkOutcome}
-use Rattle.xa_work.specs.Sent.{HasSent}
-use Rattle.xa_work.specs.Units.{ComesOfCommit, IfLost}
+use Rattle.xa_work.specs.{WorkOutcome, HasSent, ComesOfCommit, IfLost}
 use Rattle.xa_work.specs.Units.ComesOfCommit.{cut_short, in_full, undecided}
 use Rattle.xa_work.proofs.Sent.{none_sent}
-use Rattle.xa_bank_days.specs.Days.{is_applied}
+use Rattle.xa_bank_days.specs.{is_applied}
 use Rattle.xa_bank_days.proofs.Obeyed.{Obeys, ObeysAll, after_heard, after_obeyed, after_vote, died_obeys, made_obeys, voted_obeys}
 
 -- ---- the record

@@ -1,34 +1,21 @@
 -- Transfers between accounts that both stores have leave what all accounts are worth together.
-use Rattle.std.specs.Prelude.{ℤ, pos, neg_ℤ, ◌+ℤ◌, is_some, unwrap_or, if◌then◌else◌, ◌&&◌}
-use Rattle.std.proofs.Common.{◌≡◌, ◌≢◌, ℕ, zero, suc, ◌+◌, ◌-◌, ◌<◌, ◌≤◌, ⊎_elim, Bool, true, false, cond, not, ◌||◌, ◌==◌, Option, None, Some, List, [], ◌∷◌}
-use Rattle.std.proofs.Common.{length, get_or, map, sym, refl, ap, ◌∙◌, subst, arith, eq-eqb}
-use Rattle.std.specs.List.{All, list_any, range_with_len}
-use Rattle.std.specs.FinMap.{find, get-from_entries}
-use Rattle.std.proofs.Math.IntN.{+ℤ_idl as none_plus, +ℤ_idr as plus_none}
-use Rattle.std.proofs.lemmas.Int.{ints}
-use Rattle.std.proofs.lemmas.Bool.{and_parts, cases_eq, eqb-true, ne_eqb, not-true, or_parts}
-use Rattle.xa_base.specs.Lists.{IsUpTo}
-use Rattle.xa_base.specs.Sums.{total}
-use Rattle.xa_base.proofs.Lists.{all_at, got, range_all}
-use Rattle.xa_base.proofs.Sums.{total_across, total_alike, total_both, total_nothing, total_same}
-use Rattle.xa_words.specs.Key.{key_eq}
-use Rattle.xa_words.specs.Orders.{Decides-key_eq, key_cmp, key_cmp_total}
+use Rattle.xa_base.proofs.{ℤ, pos, ◌+ℤ◌, is_some, unwrap_or, if◌then◌else◌, ◌&&◌, ◌≡◌, ◌≢◌, ℕ, zero, suc, ◌+◌, ◌-◌, ◌<◌, ◌≤◌, ⊎_elim, Bool, true, false, cond}
+use Rattle.xa_base.proofs.{not, ◌||◌, ◌==◌, Option, None, Some, List, [], ◌∷◌, length, get_or, map, sym, refl, ap, ◌∙◌, subst, arith, eq-eqb, All, list_any}
+use Rattle.xa_base.proofs.{range_with_len, find, get-from_entries, +ℤ_idl as none_plus, +ℤ_idr as plus_none, ints, and_parts, cases_eq, eqb-true, ne_eqb}
+use Rattle.xa_base.proofs.{not-true, or_parts, all_at, got, range_all, total_across, total_alike, total_both, total_nothing, total_same}
+use Rattle.std.specs.Prelude.{neg_ℤ}
+use Rattle.xa_base.specs.{IsUpTo, total}
+use Rattle.xa_words.specs.{key_eq, Decides-key_eq, key_cmp_total}
+use Rattle.xa_words.specs.Orders.{key_cmp}
 use Rattle.xa_tables.proofs.AccountLemmas.{key_self, same_key}
-use Rattle.xa_tables.specs.Accounts.{are_accounts, are_apart}
-use Rattle.xa_tables.specs.Managers.{opening}
-use Rattle.xa_tables.specs.Tables.{Tables, is_declared, value_of}
-use Rattle.xa_tables.specs.Worth.{worth, worth_declared}
+use Rattle.xa_tables.specs.{are_accounts, are_apart, opening, is_declared, value_of, worth, worth_declared}
+use Rattle.xa_tables.specs.Tables.{Tables}
 use Rattle.xa_tables.proofs.WorthLaw.{worth_law}
-use Rattle.xa_switch.specs.declared.plan.ManagerPlan.{ManagerPlan}
-use Rattle.xa_switch.specs.declared.plan.Plan.{Plan}
-use Rattle.xa_switch.specs.Again.{last_in}
-use Rattle.xa_switch.specs.Plans.{IsSound, IsSoundManager}
-use Rattle.xa_switch.specs.Settling.{ManagerPart, Settling, find_manager, value, value_in}
-use Rattle.xa_switch.specs.Worth.{accounts_in, accounts_of, managers_of, plan_worth, settled_worth}
-use Rattle.xa_bank.specs.declared.teller.Transfer.{Transfer}
-use Rattle.xa_bank_days.specs.Days.{balances_at}
-use Rattle.xa_bank_days.specs.Ledger.{all_applied}
-use Rattle.xa_bank_days.specs.Banks.{IsWithin}
+use Rattle.xa_switch.specs.{ManagerPlan, Plan, last_in, IsSound, IsSoundManager, ManagerPart, find_manager, value, value_in, accounts_in, accounts_of}
+use Rattle.xa_switch.specs.{managers_of, plan_worth, settled_worth}
+use Rattle.xa_switch.specs.Settling.{Settling}
+use Rattle.xa_bank.specs.{Transfer}
+use Rattle.xa_bank_days.specs.{balances_at, all_applied, IsWithin}
 use Rattle.xa_bank_days.proofs.Shares.{all_applied_is, counts_for}
 
 -- ---- sums that have one part

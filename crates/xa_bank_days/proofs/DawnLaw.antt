@@ -1,43 +1,30 @@
 -- After a night that told of each branch XA_OK the next day may begin: no store has a branch, and the logs have records of earlier
 -- transfers alone.
-use Rattle.std.specs.Prelude.{is_some}
-use Rattle.std.proofs.Common.{◌≡◌, ℕ, ◌+◌, ◌<◌, ◌≤◌, ⊎_elim, Bool, true, false, None, Some, List, [], ◌∷◌, length, get_or, map, slice_get, sym, refl, ap, ◌∙◌}
-use Rattle.std.proofs.Common.{subst, arith}
-use Rattle.std.specs.List.{All, Contains, list_any}
-use Rattle.std.proofs.lemmas.List.Elements.{All-nil, All-cons, All-contains}
-use Rattle.xa_base.specs.declared.limits.TheConstants.{MOST_MANAGERS}
-use Rattle.xa_base.specs.Lists.{IsUpTo}
-use Rattle.std.proofs.lemmas.Option.{slice_get_within}
-use Rattle.xa_base.proofs.Lists.{all_at, got, got_map, some_same}
-use Rattle.xa_words.specs.Xid.{XidName, xid_eq}
-use Rattle.xa_words.specs.Orders.{Decides-xid_eq}
-use Rattle.xa_words.specs.Tran.{TranName, tran_of}
-use Rattle.xa_words.specs.declared.request.Op.{Op}
-use Rattle.xa_tables.specs.Tables.{Tables, exists, is_left, is_left_in, state_of}
-use Rattle.xa_tables.specs.History.{is_done, tables_after}
-use Rattle.xa_tables.specs.Openings.{AreLeft, IsOpening, reopened}
-use Rattle.xa_tables.specs.Prepared.{NamesNowhere, names}
+use Rattle.xa_base.proofs.{is_some, ◌≡◌, ℕ, ◌+◌, ◌<◌, ◌≤◌, ⊎_elim, Bool, true, false, None, Some, List, [], ◌∷◌, length, get_or, map, slice_get, sym, refl, ap}
+use Rattle.xa_base.proofs.{◌∙◌, subst, arith, All, Contains, list_any, All-nil, All-cons, All-contains, slice_get_within, all_at, got, got_map, some_same}
+use Rattle.xa_base.specs.{MOST_MANAGERS, IsUpTo}
+use Rattle.xa_words.specs.{XidName, xid_eq, Decides-xid_eq, TranName, tran_of, Op}
+use Rattle.xa_tables.specs.Tables.{Tables}
+use Rattle.xa_tables.specs.{exists, is_left, is_left_in, state_of, is_done, tables_after, AreLeft, IsOpening, reopened, NamesNowhere, names}
 use Rattle.xa_tables.proofs.Reopening.{as_left, reopens}
 use Rattle.xa_tables.proofs.Unnamed.{unnamed_on}
-use Rattle.xa_desk.specs.DeskView.{ledger}
+use Rattle.xa_desk.specs.{ledger}
 use Rattle.xa_switch.specs.declared.plan.Again.{Again}
-use Rattle.xa_switch.specs.Again.{last_in, reopened_at}
-use Rattle.xa_switch.specs.Settling.{Settling, IsSettled, find_manager}
-use Rattle.xa_switch.specs.Fates.{first_of, history, ledgers_of}
-use Rattle.xa_scan.specs.Left.{left_at}
+use Rattle.xa_switch.specs.{last_in, reopened_at, IsSettled, find_manager, first_of, history, ledgers_of}
+use Rattle.xa_switch.specs.Settling.{Settling}
+use Rattle.xa_scan.specs.{left_at}
 use Rattle.xa_switch.proofs.Journaled.{follows_first}
-use Rattle.xa_log.specs.Log.{IsReadAs, LogState, Records, record_of}
-use Rattle.xa_driver.specs.declared.resolved.Outcome.{Outcome}
+use Rattle.xa_log.specs.{IsReadAs, LogState, Records, record_of}
+use Rattle.xa_driver.specs.{Outcome}
 use Rattle.xa_driver.proofs.Mapped.{Asks}
-use Rattle.xa_atomicity.specs.Cut.{is_recorded}
-use Rattle.xa_atomicity.specs.Resolution.{IsUseIn, OnlyResolves, ResolveCall, resolves, with_use}
+use Rattle.xa_atomicity.specs.{is_recorded, IsUseIn, OnlyResolves, ResolveCall, resolves, with_use}
 use Rattle.xa_atomicity.proofs.Later.{ends_with}
 use Rattle.xa_atomicity.proofs.Naming.{named_so, named_tran}
 use Rattle.xa_atomicity.proofs.NextOpening.{scan_of}
 use Rattle.xa_atomicity.proofs.Resolves.{left_has, outcome_left}
-use Rattle.xa_work.specs.declared.unit.WorkOutcome.{WorkOutcome}
-use Rattle.xa_bank.specs.declared.teller.Teller.{Teller}
-use Rattle.xa_bank_days.specs.Days.{AreReadBack, AreToldAll, BeginsWith, IsDawn, IsDayOf, IsNamed, IsReadBack, IsResolvedBy, records_of}
+use Rattle.xa_work.specs.{WorkOutcome}
+use Rattle.xa_bank.specs.{Teller}
+use Rattle.xa_bank_days.specs.{AreReadBack, AreToldAll, BeginsWith, IsDawn, IsDayOf, IsNamed, IsReadBack, IsResolvedBy, records_of}
 use Rattle.xa_bank_days.proofs.Back.{as_many, back_at}
 use Rattle.xa_days.proofs.AtWork.{opening_free}
 use Rattle.xa_days.proofs.Calls.{outcome_named}

@@ -1,54 +1,34 @@
 -- A day of the bank and its night apply the transfers of which the tellers were told that they were decided to commit, each whole,
 -- and the others not at all.
-use Rattle.std.specs.Prelude.{◌+ℤ◌, is_some}
-use Rattle.std.proofs.Common.{◌≡◌, ℕ, ◌^◌, ◌<◌, ◌⊎◌, ⊎_elim, Bool, true, false, ◌||◌, Option, None, Some, List, [], ◌∷◌, length, get_or, map, sym}
-use Rattle.std.proofs.Common.{refl, ap, ◌∙◌, subst, arith, inl, inr}
-use Rattle.std.specs.List.{All, Contains, list_any}
-use Rattle.std.proofs.Math.Bool.{or-true}
-use Rattle.std.proofs.Math.IntN.{+ℤ_idr as plus_none}
-use Rattle.std.proofs.lemmas.List.{length-map}
-use Rattle.std.proofs.lemmas.List.Elements.{All-nil, All-cons, All-head, All-tail}
-use Rattle.xa_base.specs.declared.limits.TheConstants.{MOST_MANAGERS}
-use Rattle.xa_base.specs.Lists.{IsUpTo}
-use Rattle.xa_words.specs.Xid.{XidName, xid_eq}
-use Rattle.xa_words.specs.Orders.{Decides-xid_eq}
-use Rattle.xa_words.specs.Tran.{TranName, tran_of}
-use Rattle.xa_words.specs.declared.request.Op.{Op}
-use Rattle.xa_words.specs.declared.request.Op.TheVariants.{Commit, Heur}
-use Rattle.xa_base.specs.Sums.{total}
-use Rattle.xa_words.specs.declared.request.Request.{Request}
-use Rattle.xa_tables.specs.declared.state.State.{State}
-use Rattle.xa_tables.specs.Tables.{Tables, exists, is_declared, is_left, is_left_in, state_of}
-use Rattle.xa_tables.specs.History.{History, tables_after}
-use Rattle.xa_tables.specs.Openings.{IsOpening, reopened}
-use Rattle.xa_tables.specs.Prepared.{NamesNowhere, names}
+use Rattle.xa_base.proofs.{◌+ℤ◌, is_some, ◌≡◌, ℕ, ◌^◌, ◌<◌, ◌⊎◌, ⊎_elim, Bool, true, false, ◌||◌, Option, None, Some, List, [], ◌∷◌, length, get_or, map, sym}
+use Rattle.xa_base.proofs.{refl, ap, ◌∙◌, subst, arith, inl, inr, All, Contains, list_any, or-true, +ℤ_idr as plus_none, length-map, All-nil, All-cons}
+use Rattle.xa_base.proofs.{All-head, All-tail}
+use Rattle.xa_base.specs.{MOST_MANAGERS, IsUpTo, total}
+use Rattle.xa_words.specs.{XidName, xid_eq, Decides-xid_eq, TranName, tran_of, Op, Commit, Heur, Request}
+use Rattle.xa_tables.specs.{State, exists, is_declared, is_left, is_left_in, state_of, tables_after, IsOpening, reopened, NamesNowhere, names}
+use Rattle.xa_tables.specs.Tables.{Tables}
+use Rattle.xa_tables.specs.History.{History}
 use Rattle.xa_tables.proofs.Reopening.{as_left}
 use Rattle.xa_tables.proofs.Unnamed.{unnamed_on}
-use Rattle.xa_desk.specs.DeskView.{ledger}
+use Rattle.xa_desk.specs.{ledger}
 use Rattle.xa_switch.specs.declared.plan.Again.{Again}
-use Rattle.xa_switch.specs.Settling.{Settling, IsSettled}
-use Rattle.xa_switch.specs.Again.{reopened_at}
-use Rattle.xa_switch.specs.Fates.{first_of, history, ledgers_of}
+use Rattle.xa_switch.specs.Settling.{Settling}
+use Rattle.xa_switch.specs.{IsSettled, reopened_at, first_of, history, ledgers_of}
 use Rattle.xa_switch.proofs.Journaled.{follows_first}
-use Rattle.xa_log.specs.Log.{LogState, Records, record_in}
-use Rattle.xa_driver.specs.declared.resolved.Outcome.{Outcome}
-use Rattle.xa_driver.specs.Commits.{is_commit}
-use Rattle.xa_driver.specs.Resolving.{is_to_commit, names as names_manager, outcome_op}
+use Rattle.xa_log.specs.{LogState, Records, record_in}
+use Rattle.xa_driver.specs.{Outcome, is_commit, is_to_commit, names as names_manager, outcome_op}
 use Rattle.xa_driver.proofs.Mapped.{Asks}
-use Rattle.xa_atomicity.specs.Resolution.{IsUseIn, Opening, ResolveCall, resolves}
+use Rattle.xa_atomicity.specs.{IsUseIn, Opening, ResolveCall, resolves}
 use Rattle.xa_atomicity.proofs.Later.{ends_with}
 use Rattle.xa_atomicity.proofs.Naming.{named_so, named_tran}
 use Rattle.xa_atomicity.proofs.NextOpening.{scan_of}
 use Rattle.xa_atomicity.proofs.Resolves.{outcome_left}
-use Rattle.xa_days.specs.Days.{Leg, counted}
-use Rattle.xa_days.specs.Openings.{CommitsAmong}
-use Rattle.xa_days.specs.Settled.{IsSettledDay}
+use Rattle.xa_days.specs.{Leg, counted, CommitsAmong, IsSettledDay}
 use Rattle.xa_days.proofs.AtWork.{opening_free}
 use Rattle.xa_days.proofs.InARow.{settled_law}
 use Rattle.xa_words.proofs.Xids.{xid_self}
-use Rattle.xa_bank.specs.declared.teller.Teller.{Teller}
-use Rattle.xa_bank_days.specs.Days.{AreReadBack, AreToldAll, BeginsWith, IsDawn, IsDayOf, IsResolvedBy, all_told, balances_at, balances_of, records_of}
-use Rattle.xa_bank_days.specs.Ledger.{all_applied}
+use Rattle.xa_bank.specs.{Teller}
+use Rattle.xa_bank_days.specs.{AreReadBack, AreToldAll, BeginsWith, IsDawn, IsDayOf, IsResolvedBy, all_told, balances_at, balances_of, records_of, all_applied}
 use Rattle.xa_bank_days.proofs.Logs.{NoLogs, OneLogMore}
 use Rattle.xa_bank_days.proofs.Made.{Noted}
 use Rattle.xa_bank_days.proofs.Out.{BranchesComeOut, day, night, only_one}

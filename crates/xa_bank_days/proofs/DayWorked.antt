@@ -1,42 +1,22 @@
 -- What tellers come to over stores that are opened again.
-use Rattle.std.specs.Prelude.{option_map}
-use Rattle.std.proofs.Common.{◌≡◌, ℕ, ◌+◌, ◌%◌, ◌^◌, ◌<◌, ◌≤◌, ⊎_elim, Bool, true, false, if◌then◌else◌, ◌||◌, List, [], ◌∷◌, length, map, slice_get, Some, inl}
-use Rattle.std.proofs.Common.{inr, sym}
-use Rattle.std.proofs.Common.{refl, ap}
-use Rattle.std.proofs.Common.{◌∙◌, subst}
-use Rattle.std.proofs.Common.{arith}
-use Rattle.std.specs.List.{All, list_any}
-use Rattle.std.proofs.lemmas.Bool.{or_parts}
-use Rattle.std.proofs.lemmas.List.{length-map}
-use Rattle.std.proofs.lemmas.List.Elements.{All-nil, All-cons}
-use Rattle.std.proofs.lemmas.Option.{same_Some as some_same, slice_get_within}
-use Rattle.xa_base.specs.Lists.{IsUpTo}
-use Rattle.xa_base.proofs.Lists.{got_map}
-use Rattle.xa_words.specs.Tran.{TranName}
+use Rattle.xa_base.proofs.{option_map, ◌≡◌, ℕ, ◌+◌, ◌%◌, ◌^◌, ◌<◌, ◌≤◌, ⊎_elim, Bool, true, false, if◌then◌else◌, ◌||◌, List, [], ◌∷◌, length, map, slice_get}
+use Rattle.xa_base.proofs.{Some, inl, inr, sym, refl, ap, ◌∙◌, subst, arith, All, list_any, or_parts, length-map, All-nil, All-cons, same_Some as some_same}
+use Rattle.xa_base.proofs.{slice_get_within, got_map}
+use Rattle.xa_base.specs.{IsUpTo}
+use Rattle.xa_words.specs.{TranName}
 use Rattle.xa_tables.specs.Tables.{Tables}
 use Rattle.xa_desk.specs.DeskView.{DeskView}
 use Rattle.xa_switch.specs.declared.plan.Again.{Again}
-use Rattle.xa_switch.specs.Again.{IsWhole, MayReopen, managers_in, reopened_at, reopening}
-use Rattle.xa_switch.specs.Fates.{first_of}
-use Rattle.xa_switch.specs.OfPlans.{IsOf}
-use Rattle.xa_switch.specs.Plans.{IsWithinLimits}
-use Rattle.xa_switch.specs.Settling.{ManagerPart, Settling}
+use Rattle.xa_switch.specs.{IsWhole, MayReopen, managers_in, reopened_at, reopening, first_of, IsOf, IsWithinLimits, ManagerPart}
+use Rattle.xa_switch.specs.Settling.{Settling}
 use Rattle.xa_switch.proofs.Journaled.{begun}
-use Rattle.xa_log.specs.Log.{LogState}
+use Rattle.xa_log.specs.{LogState}
 use Rattle.xa_atomicity.proofs.Scanned.{was_there}
-use Rattle.xa_crew.specs.declared.again.WithScan.{WithScan}
-use Rattle.xa_crew.specs.declared.client_job.Attended.{Attended}
-use Rattle.xa_crew.specs.Again.{AgainWorks, IsRunAgain, WorksWithScan}
-use Rattle.xa_crew.specs.Run.{Member}
-use Rattle.xa_bank.specs.declared.teller.Teller.{Teller}
-use Rattle.xa_bank.specs.Tellers.{Works, WorksOn}
+use Rattle.xa_crew.specs.{WithScan, Attended, AgainWorks, IsRunAgain, WorksWithScan, Member}
+use Rattle.xa_bank.specs.{Teller, Works, WorksOn}
 use Rattle.xa_bank.proofs.Members.{MemberAt, member_at, nobody_else}
-use Rattle.xa_bank_days.specs.declared.bank.Bank.{Bank}
-use Rattle.xa_bank_days.specs.Days.{BeginsWith, IsDayOf, WorkedIn}
-use Rattle.xa_bank_days.specs.declared.day.Closed.{Closed}
-use Rattle.xa_bank_days.specs.declared.errands.Errands.{Errands}
-use Rattle.xa_bank_days.specs.declared.day.Worked.{Worked}
-use Rattle.xa_bank_days.specs.Banks.{AreTurned, HasWorked, IsDay, IsWorkedDay, day_numbers, next_numbers, night_numbers}
+use Rattle.xa_bank_days.specs.{Bank, BeginsWith, IsDayOf, WorkedIn, Closed, Errands, Worked, AreTurned, HasWorked, IsDay, IsWorkedDay, day_numbers}
+use Rattle.xa_bank_days.specs.{next_numbers, night_numbers}
 
 -- lists that are mapped to one list are as long
 pub same_length : {A B C : Type 0} (f : A → C) (g : B → C) (xs : List A) (ys : List B) → map f xs ≡ map g ys → length xs ≡ length ys

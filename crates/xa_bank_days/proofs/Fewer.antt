@@ -1,25 +1,19 @@
 -- A commit that was cut short, seen over the first managers of its desk alone, of which there are no more than a record has
 -- places for.
-use Rattle.std.proofs.Common.{◌≡◌, ℕ, ◌+◌, ◌-◌, ◌<◌, ◌≤◌, ⊎_elim, List, [], ◌∷◌, length, get_or, take, sym, refl, subst, arith, Option}
-use Rattle.std.specs.List.{All}
-use Rattle.std.proofs.lemmas.Bool.{cases_lt}
+use Rattle.xa_base.proofs.{◌≡◌, ℕ, ◌+◌, ◌-◌, ◌<◌, ◌≤◌, ⊎_elim, List, [], ◌∷◌, length, get_or, take, sym, refl, subst, arith, Option, All, cases_lt, All-head}
+use Rattle.xa_base.proofs.{All-tail}
 use Rattle.std.proofs.lemmas.List.{length-take, get_or-take}
 use Rattle.std.proofs.lemmas.List.Sums.{sum_by-take-le}
-use Rattle.std.proofs.lemmas.List.Elements.{All-head, All-tail}
-use Rattle.xa_base.specs.declared.limits.TheConstants.{MOST_MANAGERS}
-use Rattle.xa_base.specs.Lists.{IsUpTo}
+use Rattle.xa_base.specs.{MOST_MANAGERS, IsUpTo}
 use Rattle.xa_words.specs.declared.code.Code.{Code}
 use Rattle.xa_desk.specs.LedgerView.{LedgerView}
-use Rattle.xa_desk.specs.DeskView.{DeskView, ledger, no_ledger, outstanding}
-use Rattle.xa_desk.specs.Growth.{HasGrown, HaveGrown}
+use Rattle.xa_desk.specs.DeskView.{DeskView}
+use Rattle.xa_desk.specs.{ledger, no_ledger, outstanding, HasGrown, HaveGrown}
 use Rattle.xa_desk.proofs.Ledgers.{past_end}
-use Rattle.xa_driver.specs.declared.branch.Branch.{Branch}
-use Rattle.xa_driver.specs.declared.done.Ending.{Ending}
-use Rattle.xa_driver.specs.Endings.{ending_of}
-use Rattle.xa_driver.specs.Trace.{EachBranch, HaveRoom, MayCommit, decision_of}
-use Rattle.xa_log.specs.Log.{LogState}
-use Rattle.xa_words.specs.Tran.{TranName}
-use Rattle.xa_atomicity.specs.Cut.{CameSoFar, EachVote, IsAsked, IsCut, IsEnded, IsTold, asking, forgetting, telling}
+use Rattle.xa_driver.specs.{Branch, Ending, ending_of, EachBranch, HaveRoom, MayCommit, decision_of}
+use Rattle.xa_log.specs.{LogState}
+use Rattle.xa_words.specs.{TranName}
+use Rattle.xa_atomicity.specs.{CameSoFar, EachVote, IsAsked, IsCut, IsEnded, IsTold, asking, forgetting, telling}
 
 -- the first managers
 abbrev pub fewer : List LedgerView → List LedgerView

@@ -1,33 +1,23 @@
 -- An opening of a plan in which nobody does anything: each store is left with what it opened with.
-use Rattle.std.proofs.Common.{◌≡◌, ℕ, ◌+◌, ◌-◌, ◌<◌, ◌≤◌, ⊎_elim, List, [], ◌∷◌, ◌++◌, append-nil, length, map, Option, Some, inl, inr, sym, refl, ap, ◌∙◌}
-use Rattle.std.proofs.Common.{subst, arith, ◌==◌}
-use Rattle.std.specs.List.{Contains, range_with_len}
-use Rattle.std.proofs.lemmas.Bool.{cases_lt, eqb-true}
-use Rattle.std.proofs.lemmas.List.Elements.{All-contains}
-use Rattle.std.proofs.lemmas.List.FromFn.{length-range_with_len, get_or-range_with_len}
+use Rattle.xa_base.proofs.{◌≡◌, ℕ, ◌+◌, ◌-◌, ◌<◌, ◌≤◌, ⊎_elim, List, [], ◌∷◌, ◌++◌, append-nil, length, map, Option, Some, inl, inr, sym, refl, ap, ◌∙◌, subst}
+use Rattle.xa_base.proofs.{arith, ◌==◌, Contains, range_with_len, cases_lt, eqb-true, All-contains, length-range_with_len, get_or-range_with_len, got, got_map}
 use Rattle.std.proofs.lemmas.List.Sorted.{IsPermutation-sym, Contains-permutation}
-use Rattle.xa_base.specs.Lists.{IsUpTo}
-use Rattle.xa_base.proofs.Lists.{got, got_map}
-use Rattle.xa_words.specs.declared.request.Op.{Op}
-use Rattle.xa_tables.specs.History.{History, of_thread, tables_after}
-use Rattle.xa_tables.specs.Managers.{opening}
+use Rattle.xa_base.specs.{IsUpTo}
+use Rattle.xa_words.specs.{Op}
+use Rattle.xa_tables.specs.History.{History}
+use Rattle.xa_tables.specs.{of_thread, tables_after, opening}
 use Rattle.xa_tables.proofs.WorkLaw.{others_first}
 use Rattle.xa_desk.specs.LedgerView.{LedgerView}
-use Rattle.xa_desk.specs.Lanes.{numbered}
-use Rattle.xa_desk.specs.DeskView.{DeskView, ledger}
-use Rattle.xa_worker.specs.Journal.{requests}
-use Rattle.xa_switch.specs.declared.plan.Plan.{Plan}
-use Rattle.xa_switch.specs.declared.plan.ManagerPlan.{ManagerPlan}
-use Rattle.xa_switch.specs.Again.{IsWhole, last_in, managers_in}
-use Rattle.xa_switch.specs.Fates.{first_of, history, ledgers_of}
-use Rattle.xa_switch.specs.Plans.{planned}
-use Rattle.xa_switch.specs.Settling.{ManagerPart, FollowsTables, Settling, find_manager, journal_in, sent}
-use Rattle.xa_switch.specs.Worth.{accounts_in, accounts_of}
+use Rattle.xa_desk.specs.{numbered, ledger}
+use Rattle.xa_desk.specs.DeskView.{DeskView}
+use Rattle.xa_worker.specs.{requests}
+use Rattle.xa_switch.specs.{Plan, ManagerPlan, IsWhole, last_in, managers_in, first_of, history, ledgers_of, planned, ManagerPart, FollowsTables, find_manager}
+use Rattle.xa_switch.specs.{journal_in, sent, accounts_in, accounts_of}
+use Rattle.xa_switch.specs.Settling.{Settling}
 use Rattle.xa_switch.proofs.Journaled.{begun}
 use Rattle.xa_switch.proofs.Lists.{contains_map, found}
 use Rattle.xa_atomicity.proofs.Settled.{by_ledger}
-use Rattle.xa_crew.specs.declared.client_job.Attended.{Attended}
-use Rattle.xa_crew.specs.Run.{IsRun}
+use Rattle.xa_crew.specs.{Attended, IsRun}
 use Rattle.xa_bank.proofs.Members.{member_at, nobody_else}
 use Rattle.xa_bank_days.proofs.Nightly.{never_none}
 

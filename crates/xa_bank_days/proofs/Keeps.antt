@@ -1,27 +1,17 @@
 -- What the log of a teller has after its transfers: what it had of other transactions, and records of these.
-use Rattle.std.specs.Prelude.{pos, if◌then◌else◌}
-use Rattle.std.proofs.Common.{◌≡◌, ℕ, zero, suc, ◌+◌, ◌^◌, ◌<◌, ◌≤◌, ◌⊎◌, ⊎_elim, true, false, List, [], ◌∷◌, length, sym, refl, ap, ◌∙◌, subst, arith, inl}
-use Rattle.std.proofs.Common.{inr}
-use Rattle.std.specs.Ordering.{eq_by_cmp, is_eq}
-use Rattle.std.specs.Cmp.{tied_itself}
-use Rattle.std.proofs.lemmas.Bool.{cases_lt}
-use Rattle.xa_base.proofs.Truth.{is_equal}
-use Rattle.xa_words.specs.Tran.{TranName, tran_of}
+use Rattle.xa_base.proofs.{pos, if◌then◌else◌, ◌≡◌, ℕ, zero, suc, ◌+◌, ◌^◌, ◌<◌, ◌≤◌, ◌⊎◌, ⊎_elim, true, false, List, [], ◌∷◌, length, sym, refl, ap, ◌∙◌}
+use Rattle.xa_base.proofs.{subst, arith, inl, inr, eq_by_cmp, is_eq, tied_itself, cases_lt, is_equal}
+use Rattle.xa_words.specs.{TranName, tran_of}
 use Rattle.xa_desk.specs.DeskView.{DeskView}
-use Rattle.xa_log.specs.Log.{LogState, record_of}
-use Rattle.xa_atomicity.specs.Cut.{is_recorded}
-use Rattle.xa_log.specs.Transactions.{tran_cmp}
+use Rattle.xa_log.specs.{LogState, record_of, tran_cmp}
+use Rattle.xa_atomicity.specs.{is_recorded}
 use Rattle.xa_log.proofs.Transactions.{tran_cmp_total, tran_cmp-IsAntisymmetric}
-use Rattle.xa_work.specs.declared.unit.WorkOutcome.{WorkOutcome}
-use Rattle.xa_work.specs.Units.{IfLost, is_last}
+use Rattle.xa_work.specs.{WorkOutcome, IfLost, is_last}
 use Rattle.xa_work.specs.Units.Transacts.{commits, refused}
-use Rattle.xa_bank.specs.declared.habits.Habits.{Habits}
-use Rattle.xa_bank.specs.declared.teller.Transfer.{Transfer}
-use Rattle.xa_bank.specs.Numbered.{death_in}
-use Rattle.xa_bank.specs.Transfers.{Makes, MakesEach, branches_of, forgotten, gtrid_of, with_legs, without_legs}
+use Rattle.xa_bank.specs.{Habits, Transfer, death_in, Makes, MakesEach, branches_of, forgotten, gtrid_of, with_legs, without_legs}
 use Rattle.xa_bank.proofs.Named.{legs_are, one_transfer}
 use Rattle.xa_bank.proofs.LostRecords.{if_both, if_so, none_lost}
-use Rattle.xa_bank_days.specs.Days.{IsNamed}
+use Rattle.xa_bank_days.specs.{IsNamed}
 use Rattle.xa_bank_days.proofs.Come.{IsReadSo, has_come}
 
 -- ---- numbers

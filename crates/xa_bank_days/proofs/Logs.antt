@@ -1,9 +1,7 @@
 -- What several logs have that are read as one.
-use Rattle.std.specs.Option.{option_or}
-use Rattle.std.proofs.Common.{◌≡◌, ◌≢◌, ℕ, zero, suc, Bool, Option, None, Some, List, [], ◌∷◌, length, slice_get, sym, refl, ap, ◌∙◌, arith}
-use Rattle.xa_base.proofs.Lists.{some_same}
-use Rattle.xa_words.specs.Tran.{TranName}
-use Rattle.xa_log.specs.Log.{Records, all_records, record_in}
+use Rattle.xa_base.proofs.{option_or, ◌≡◌, ◌≢◌, ℕ, zero, suc, Bool, Option, None, Some, List, [], ◌∷◌, length, slice_get, sym, refl, ap, ◌∙◌, arith, some_same}
+use Rattle.xa_words.specs.{TranName}
+use Rattle.xa_log.specs.{Records, all_records, record_in}
 
 or_none : (o : Option (List Bool)) → option_or o None ≡ o
 or_none None = refl

@@ -1,55 +1,32 @@
 -- What one transfer comes to at one store, for one account: the legs that it has there, and what else was sent.
-use Rattle.std.specs.Prelude.{ℤ, pos, if◌then◌else◌}
-use Rattle.std.proofs.Common.{◌≡◌, ◌≢◌, ℕ, ◌+◌, ◌^◌, ◌<◌, ◌≤◌, ◌⊎◌, Bool, true, false, ◌||◌, ◌==◌, None, Some, List, [], ◌∷◌, map, sym, refl, ap, ◌∙◌}
-use Rattle.std.proofs.Common.{subst, inl, inr}
-use Rattle.std.specs.List.{All, IsDistinct, list_any}
-use Rattle.std.proofs.Math.IntN.{+ℤ_idr as plus_none}
-use Rattle.std.proofs.lemmas.Bool.{cases_eq, ne_eqb}
-use Rattle.std.proofs.lemmas.List.Elements.{All-nil, All-cons, All-append, All-weaker}
-use Rattle.xa_base.proofs.Lists.{none_twice}
-use Rattle.xa_base.specs.Sums.{total}
-use Rattle.xa_words.specs.Xid.{XidName, xid_eq}
-use Rattle.xa_words.specs.Orders.{Decides-xid_eq}
-use Rattle.xa_words.specs.Tran.{TranName, tran_of}
-use Rattle.xa_words.specs.declared.request.Op.{Op}
-use Rattle.xa_words.specs.declared.request.Op.TheVariants.{Start, Add, End, Prepare, Commit, Rollback, Forget, Heur}
-use Rattle.xa_words.specs.declared.request.StartHow.TheVariants.{Fresh}
-use Rattle.xa_words.specs.declared.request.EndHow.TheVariants.{Success}
-use Rattle.xa_tables.specs.Tables.{Tables, state_of}
-use Rattle.xa_tables.specs.Prepared.{names}
+use Rattle.xa_base.proofs.{ℤ, pos, if◌then◌else◌, ◌≡◌, ◌≢◌, ℕ, ◌+◌, ◌^◌, ◌<◌, ◌≤◌, ◌⊎◌, Bool, true, false, ◌||◌, ◌==◌, None, Some, List, [], ◌∷◌, map, sym}
+use Rattle.xa_base.proofs.{refl, ap, ◌∙◌, subst, inl, inr, All, list_any, +ℤ_idr as plus_none, cases_eq, ne_eqb, All-nil, All-cons, All-append, All-weaker}
+use Rattle.xa_base.proofs.{none_twice}
+use Rattle.std.specs.List.{IsDistinct}
+use Rattle.xa_base.specs.{total}
+use Rattle.xa_words.specs.{XidName, xid_eq, Decides-xid_eq, TranName, tran_of, Op, Start, Add, End, Prepare, Commit, Rollback, Forget, Heur, Fresh, Success}
+use Rattle.xa_tables.specs.Tables.{Tables}
+use Rattle.xa_tables.specs.{state_of, names}
 use Rattle.xa_desk.specs.LedgerView.{LedgerView}
-use Rattle.xa_desk.specs.DeskView.{DeskView, ledger}
+use Rattle.xa_desk.specs.DeskView.{DeskView}
+use Rattle.xa_desk.specs.{ledger}
 use Rattle.xa_switch.specs.declared.plan.Again.{Again}
 use Rattle.xa_switch.specs.Settling.{Settling}
-use Rattle.xa_switch.specs.Fates.{first_of, ledgers_of}
-use Rattle.xa_log.specs.Log.{LogState, Records, record_in, record_of}
-use Rattle.xa_driver.specs.declared.branch.Branch.{Branch}
-use Rattle.xa_driver.specs.Commits.{is_commit}
-use Rattle.xa_driver.specs.Trace.{MayCommit, has_branch_at}
-use Rattle.xa_atomicity.specs.Cut.{is_recorded}
-use Rattle.xa_atomicity.specs.Resolution.{ResolveCall}
-use Rattle.xa_days.specs.Days.{Leg, counted}
-use Rattle.xa_days.specs.Settled.{ComesOutByTheLog}
-use Rattle.xa_work.specs.declared.unit.Change.{Change}
-use Rattle.xa_work.specs.declared.unit.Refusal.TheVariants.{GivenUp, NotBegun}
-use Rattle.xa_work.specs.declared.unit.WorkOutcome.{WorkOutcome}
-use Rattle.xa_work.specs.declared.unit.WorkOutcome.TheVariants.{Refused}
-use Rattle.xa_work.specs.Works.{HaveWorked}
-use Rattle.xa_work.specs.Sent.{HasSent, HaveSent, IsFor}
-use Rattle.xa_work.specs.Units.{IfLost, IsRefused}
+use Rattle.xa_switch.specs.{first_of, ledgers_of}
+use Rattle.xa_log.specs.{LogState, Records, record_in, record_of}
+use Rattle.xa_driver.specs.{Branch, is_commit, MayCommit, has_branch_at}
+use Rattle.xa_atomicity.specs.{is_recorded, ResolveCall}
+use Rattle.xa_days.specs.{Leg, counted, ComesOutByTheLog}
+use Rattle.xa_work.specs.{Change, GivenUp, NotBegun, WorkOutcome, Refused, HaveWorked, HasSent, HaveSent, IsFor, IfLost, IsRefused}
 use Rattle.xa_work.specs.Units.IsRefused.{unbegun, undone, barred}
 use Rattle.xa_work.specs.Units.Transacts.{commits, refused}
 use Rattle.xa_work.proofs.Sent.{none_sent, sent_on, sent_as, have_on}
-use Rattle.xa_bank.specs.declared.habits.Habits.{Habits}
-use Rattle.xa_bank.specs.declared.teller.Transfer.{Transfer}
-use Rattle.xa_bank.specs.Numbered.{death_in, shut_before}
-use Rattle.xa_bank.specs.Transfers.{AreLegs, Makes, MakesNext, branches_of, changes_of, tran_named, with_legs, without_legs}
+use Rattle.xa_bank.specs.{Habits, Transfer, death_in, shut_before, AreLegs, Makes, MakesNext, branches_of, changes_of, tran_named, with_legs, without_legs}
 use Rattle.xa_bank.proofs.Legs.{AnyLeg, LegWorked, leg_work}
 use Rattle.xa_bank.proofs.Named.{IsOf, Is, IsFrom, IsShut, LegsOf, Names, comes_names, legs_are, shut_names, shut_sent, work_names}
 use Rattle.xa_bank.proofs.LostRecords.{if_both}
 use Rattle.xa_bank.proofs.Told.{IsBelow}
-use Rattle.xa_bank_days.specs.Days.{IsNamed, is_applied}
-use Rattle.xa_bank_days.specs.Ledger.{share}
+use Rattle.xa_bank_days.specs.{IsNamed, is_applied, share}
 use Rattle.xa_bank_days.proofs.Come.{HasCome, IsReadSo, has_come}
 use Rattle.xa_bank_days.proofs.Keeps.{left_is}
 use Rattle.xa_bank_days.proofs.Obeyed.{Obeys}

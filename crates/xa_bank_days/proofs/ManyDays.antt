@@ -1,18 +1,11 @@
 -- Days one after the other.
-use Rattle.std.proofs.Common.{◌≡◌, Bool, true, Vec, List, [], ◌∷◌, ◌++◌, refl, subst}
-use Rattle.std.specs.Prelude.{IfErr, IfOk, MatchResult, Result, Ok, Err}
-use Rattle.std.specs.Global.{Global}
-use Rattle.std.specs.List.{All}
-use Rattle.xa_base.proofs.Lists.{all_mid}
-use Rattle.xa_words.specs.Tran.{TranName}
-use Rattle.xa_tables.specs.History.{is_done}
-use Rattle.xa_log.specs.Log.{LogState}
-use Rattle.xa_driver.specs.declared.resolved.Resolved.{Resolved}
-use Rattle.xa_bank_days.specs.declared.bank.Bank.{Bank}
-use Rattle.xa_bank_days.specs.declared.day.Closed.{Closed}
-use Rattle.xa_bank_days.specs.declared.errands.Errands.{Errands}
-use Rattle.xa_bank_days.specs.declared.night.Unresolved.{Unresolved}
-use Rattle.xa_bank_days.specs.Banks.{AreClosed, AreOver, HasEnded, early, whole, IsClosed, IsClosedDay, IsOver}
+use Rattle.xa_base.proofs.{◌≡◌, Bool, true, Vec, List, [], ◌∷◌, ◌++◌, refl, subst, IfOk, Result, Ok, Err, Global, All, all_mid}
+use Rattle.std.specs.Prelude.{IfErr, MatchResult}
+use Rattle.xa_words.specs.{TranName}
+use Rattle.xa_tables.specs.{is_done}
+use Rattle.xa_log.specs.{LogState}
+use Rattle.xa_driver.specs.{Resolved}
+use Rattle.xa_bank_days.specs.{Bank, Closed, Errands, Unresolved, AreClosed, AreOver, HasEnded, early, whole, IsClosed, IsClosedDay, IsOver}
 
 pub if_ok : {A B : Type 0} {P Q : A → Type 0} (o : Result A B) → ((z : A) → P z → Q z) → IfOk o P → IfOk o Q
 if_ok (Ok z) so p = so z p

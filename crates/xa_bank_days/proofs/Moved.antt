@@ -1,33 +1,22 @@
 -- What days do to the balances, by the law of a day and its night.
-use Rattle.std.specs.Prelude.{if◌then◌else◌, is_some, ◌+ℤ◌}
-use Rattle.std.proofs.Common.{◌≡◌, ℕ, ℤ, suc, ◌+◌, ◌^◌, ◌<◌, ◌≤◌, Bool, true, false, Option, Some, Vec, List, [], ◌∷◌, ◌++◌, length, map, slice_get, sym, refl}
-use Rattle.std.proofs.Common.{ap, ◌∙◌, subst, arith}
-use Rattle.std.specs.Global.{Global}
-use Rattle.std.specs.List.{All}
-use Rattle.xa_base.specs.Lists.{IsUpTo}
-use Rattle.xa_base.proofs.Lists.{all_at, all_from, got_map, was_mapped}
-use Rattle.std.proofs.lemmas.List.Elements.{All-map}
-use Rattle.xa_words.specs.Tran.{TranName}
-use Rattle.xa_tables.specs.Tables.{Tables, is_declared}
-use Rattle.xa_tables.specs.History.{is_done}
+use Rattle.xa_base.proofs.{if◌then◌else◌, is_some, ◌+ℤ◌, ◌≡◌, ℕ, ℤ, suc, ◌+◌, ◌^◌, ◌<◌, ◌≤◌, Bool, true, false, Option, Some, Vec, List, [], ◌∷◌, ◌++◌, length}
+use Rattle.xa_base.proofs.{map, slice_get, sym, refl, ap, ◌∙◌, subst, arith, Global, All, all_at, all_from, got_map, was_mapped, All-map}
+use Rattle.xa_base.specs.{IsUpTo}
+use Rattle.xa_words.specs.{TranName}
+use Rattle.xa_tables.specs.Tables.{Tables}
+use Rattle.xa_tables.specs.{is_declared, is_done}
 use Rattle.xa_tables.proofs.WorthLaw.{declared_on}
 use Rattle.xa_switch.specs.declared.plan.Again.{Again}
-use Rattle.xa_switch.specs.Again.{last_in, managers_in, reopened_at}
-use Rattle.xa_switch.specs.Fates.{first_of, history}
-use Rattle.xa_switch.specs.Settling.{ManagerPart, Settling, IsSettled, value_in}
+use Rattle.xa_switch.specs.{last_in, managers_in, reopened_at, first_of, history, ManagerPart, IsSettled, value_in}
+use Rattle.xa_switch.specs.Settling.{Settling}
 use Rattle.xa_switch.proofs.Journaled.{begun, follows_first}
-use Rattle.xa_log.specs.Log.{LogState}
-use Rattle.xa_driver.specs.declared.resolved.Outcome.{Outcome}
-use Rattle.xa_atomicity.specs.Resolution.{ResolveCall}
-use Rattle.xa_bank.specs.declared.habits.Habits.{Habits}
-use Rattle.xa_bank.specs.declared.teller.Teller.{Teller}
-use Rattle.xa_bank.specs.declared.teller.Transfer.{Transfer}
-use Rattle.xa_bank_days.specs.declared.bank.Bank.{Bank}
-use Rattle.xa_bank_days.specs.declared.day.Closed.{Closed}
-use Rattle.xa_bank_days.specs.declared.errands.Errands.{Errands}
-use Rattle.xa_bank_days.specs.Days.{AreReadBack, AreToldAll, BeginsWith, IsDawn, IsDayOf, IsResolvedBy, all_told, balances_at, balances_of, records_of, told}
-use Rattle.xa_bank_days.specs.Banks.{AreClosed, HasWorked, IsClosed, IsMovedBy, IsReady, habits_on, has_account, told_on, told_over}
-use Rattle.xa_bank_days.specs.Ledger.{Balances, all_applied, applied, share}
+use Rattle.xa_log.specs.{LogState}
+use Rattle.xa_driver.specs.{Outcome}
+use Rattle.xa_atomicity.specs.{ResolveCall}
+use Rattle.xa_bank.specs.{Habits, Teller, Transfer}
+use Rattle.xa_bank_days.specs.{Bank, Closed, Errands, AreReadBack, AreToldAll, BeginsWith, IsDawn, IsDayOf, IsResolvedBy, all_told, balances_at, balances_of}
+use Rattle.xa_bank_days.specs.{records_of, told, AreClosed, HasWorked, IsClosed, IsMovedBy, IsReady, habits_on, has_account, told_on, told_over, Balances}
+use Rattle.xa_bank_days.specs.{all_applied, applied, share}
 use Rattle.xa_bank_days.proofs.Back.{are_read_back}
 use Rattle.xa_bank_days.proofs.DayWorked.{none_wants, same_length}
 

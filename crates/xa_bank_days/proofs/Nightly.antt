@@ -1,52 +1,33 @@
 -- The one client of a night resolves what was left, and nothing else was done in its opening.
-use Rattle.std.specs.Prelude.{Err, IfErr, IfOk, Ok, Result}
-use Rattle.std.proofs.Common.{◌≡◌, ◌≢◌, ℕ, zero, suc, ◌+◌, ◌<◌, ◌≤◌, ◌⊎◌, ⊎_elim, true, false, Some, List, [], ◌∷◌, ◌++◌, length, length-append, map}
-use Rattle.std.proofs.Common.{get_or, slice_get, inl, inr}
-use Rattle.std.proofs.Common.{append-nil, sym, refl, ap, ◌∙◌, subst, arith}
-use Rattle.std.specs.List.{All}
-use Rattle.std.proofs.lemmas.Bool.{cases_eq, cases_lt}
-use Rattle.std.proofs.lemmas.List.{length-map}
-use Rattle.std.proofs.lemmas.List.Elements.{All-nil, All-head, All-contains, Contains-get_or}
-use Rattle.std.proofs.lemmas.Option.{same_Some as some_same}
-use Rattle.xa_base.specs.declared.limits.TheConstants.{MOST_MANAGERS}
-use Rattle.xa_base.specs.Lists.{IsUpTo}
-use Rattle.xa_base.proofs.Lists.{all_at, got_map}
-use Rattle.xa_words.specs.Tran.{TranName}
+use Rattle.xa_base.proofs.{Err, IfOk, Ok, Result, ◌≡◌, ◌≢◌, ℕ, zero, suc, ◌+◌, ◌<◌, ◌≤◌, ◌⊎◌, ⊎_elim, true, false, Some, List, [], ◌∷◌, ◌++◌, length}
+use Rattle.xa_base.proofs.{length-append, map, get_or, slice_get, inl, inr, append-nil, sym, refl, ap, ◌∙◌, subst, arith, All, cases_eq, cases_lt, length-map}
+use Rattle.xa_base.proofs.{All-nil, All-head, All-contains, same_Some as some_same, all_at, got_map}
+use Rattle.std.specs.Prelude.{IfErr}
+use Rattle.std.proofs.lemmas.List.Elements.{Contains-get_or}
+use Rattle.xa_base.specs.{MOST_MANAGERS, IsUpTo}
+use Rattle.xa_words.specs.{TranName, Op, Request}
 use Rattle.xa_words.specs.declared.code.Code.{Code}
-use Rattle.xa_words.specs.declared.request.Op.{Op}
-use Rattle.xa_words.specs.declared.request.Request.{Request}
 use Rattle.xa_tables.specs.Tables.{Tables}
-use Rattle.xa_desk.specs.LedgerView.{LedgerView, is_rm_fail, learnt_shut}
-use Rattle.xa_desk.specs.DeskView.{DeskView, ledger}
+use Rattle.xa_desk.specs.LedgerView.{LedgerView}
+use Rattle.xa_desk.specs.{is_rm_fail, learnt_shut, ledger}
+use Rattle.xa_desk.specs.DeskView.{DeskView}
 use Rattle.xa_switch.specs.declared.plan.Again.{Again}
-use Rattle.xa_switch.specs.Again.{IsWhole, MayReopen, reopened_at, reopening}
-use Rattle.xa_switch.specs.Fates.{first_of, history, ledgers_of}
-use Rattle.xa_switch.specs.OfPlans.{IsOf}
-use Rattle.xa_switch.specs.Recovery.{IsScanOf}
-use Rattle.xa_scan.specs.Left.{ScanView, left_at}
-use Rattle.xa_switch.specs.Settling.{Settling, IsSettled, sent}
-use Rattle.xa_log.specs.Log.{LogState, Records}
-use Rattle.xa_driver.specs.declared.resolved.Outcome.{Outcome}
-use Rattle.xa_driver.specs.declared.resolved.Resolved.{Resolved}
-use Rattle.xa_driver.specs.Resolving.{IsTraceOfResolve, MayResolve}
+use Rattle.xa_switch.specs.{IsWhole, MayReopen, reopened_at, reopening, first_of, history, ledgers_of, IsOf, IsScanOf, IsSettled, sent}
+use Rattle.xa_scan.specs.{ScanView, left_at}
+use Rattle.xa_switch.specs.Settling.{Settling}
+use Rattle.xa_log.specs.{LogState, Records}
+use Rattle.xa_driver.specs.{Outcome, Resolved, IsTraceOfResolve, MayResolve}
 use Rattle.xa_driver.proofs.Mapped.{Asks}
-use Rattle.xa_atomicity.specs.Outcomes.{IsBetween}
-use Rattle.xa_atomicity.specs.Resolution.{OnlyResolves, ResolveCall, resolve_call, resolves, with_use}
+use Rattle.xa_atomicity.specs.{IsBetween, OnlyResolves, ResolveCall, resolve_call, resolves, with_use}
 use Rattle.xa_atomicity.proofs.Requests.{all_earlier, own_all}
 use Rattle.xa_atomicity.proofs.Resolves.{outcome_at, resolve_sends}
 use Rattle.xa_atomicity.proofs.Settled.{by_ledger}
 use Rattle.xa_atomicity.proofs.Voting.{learnt_on}
-use Rattle.xa_crew.specs.declared.again.WithScan.{WithScan}
-use Rattle.xa_crew.specs.declared.client_job.Attended.{Attended}
-use Rattle.xa_crew.specs.Again.{IsRunAgain, WorksWithScan}
-use Rattle.xa_crew.specs.Run.{Member}
-use Rattle.xa_work.specs.Sent.{HasSent}
-use Rattle.xa_bank.specs.declared.teller.Teller.{Teller}
+use Rattle.xa_crew.specs.{WithScan, Attended, IsRunAgain, WorksWithScan, Member}
+use Rattle.xa_work.specs.{HasSent}
+use Rattle.xa_bank.specs.{Teller}
 use Rattle.xa_bank.proofs.Members.{MemberAt, Never, member_at, nobody_else}
-use Rattle.xa_bank_days.specs.declared.night.Resolver.{Resolver}
-use Rattle.xa_bank_days.specs.Days.{IsResolvedBy, records_of}
-use Rattle.xa_bank_days.specs.declared.night.Unresolved.{Unresolved}
-use Rattle.xa_bank_days.specs.Nights.{Excuses, HasRoomToResolve, IsNight, IsUntouched, ResolvesBy, unused}
+use Rattle.xa_bank_days.specs.{Resolver, IsResolvedBy, records_of, Unresolved, Excuses, HasRoomToResolve, IsNight, IsUntouched, ResolvesBy, unused}
 use Rattle.xa_bank_days.proofs.ManyDays.{if_err}
 use Rattle.xa_bank_days.proofs.Rooms.{left_on, room_to_resolve}
 use Rattle.xa_bank_days.proofs.Reached.{InNight, IsReached, all_reached, answered_open, ends_in_night, none_shut}

@@ -1,38 +1,22 @@
 -- What a commit sent to the manager of one of its branches: requests that name that branch, and no decision of the manager's own.
-use Rattle.std.proofs.Common.{◌≡◌, ℕ, zero, suc, Bool, true, false, ◌||◌, Option, Some, None, List, [], ◌∷◌, map, refl, sym, ◌∙◌, subst}
-use Rattle.std.specs.List.{All}
-use Rattle.std.proofs.lemmas.List.Elements.{All-nil, All-cons}
-use Rattle.xa_base.proofs.Lists.{same_begins, some_same}
-use Rattle.xa_base.proofs.Truth.{by_if}
-use Rattle.xa_words.specs.Xid.{XidName}
+use Rattle.xa_base.proofs.{◌≡◌, ℕ, zero, suc, Bool, true, false, ◌||◌, Option, Some, None, List, [], ◌∷◌, map, refl, sym, ◌∙◌, subst, All, All-nil, All-cons}
+use Rattle.xa_base.proofs.{same_begins, some_same, by_if}
+use Rattle.xa_words.specs.{XidName, TranName, Death, Op, Commit, Forget, Prepare, Rollback}
 use Rattle.xa_words.proofs.Xids.{xid_self}
-use Rattle.xa_words.specs.Tran.{TranName}
 use Rattle.xa_words.specs.declared.code.Code.{Code}
-use Rattle.xa_words.specs.declared.death.Death.{Death}
 use Rattle.xa_words.specs.declared.death.Death.TheVariants as death
-use Rattle.xa_words.specs.declared.request.Op.{Op}
-use Rattle.xa_words.specs.declared.request.Op.TheVariants.{Commit, Forget, Prepare, Rollback}
-use Rattle.xa_tables.specs.History.{is_rolled_back}
-use Rattle.xa_tables.specs.Prepared.{names, is_heur}
+use Rattle.xa_tables.specs.{is_rolled_back, names, is_heur}
 use Rattle.xa_desk.specs.LedgerView.{LedgerView}
-use Rattle.xa_desk.specs.DeskView.{DeskView, ledger}
-use Rattle.xa_driver.specs.declared.branch.Branch.{Branch}
-use Rattle.xa_driver.specs.declared.done.Done.{Done}
-use Rattle.xa_driver.specs.declared.done.Ending.{Ending}
-use Rattle.xa_driver.specs.Course.{AsksFor, AtBranch}
-use Rattle.xa_driver.specs.Deaths.{CameTo, HaveAsked, HaveTold, PutsLedger, Tells, VotesAndHears, VotesAndObeys, sent, to_come, withheld}
-use Rattle.xa_driver.specs.Decision.{is_read, is_yes}
-use Rattle.xa_driver.specs.Endings.{is_decided, is_out_of_reach, second_op, third_op}
-use Rattle.xa_driver.specs.Resolving.{AsksLedger}
-use Rattle.xa_driver.specs.Stages.{HasVoted}
-use Rattle.xa_driver.specs.Rounds.{code_of}
-use Rattle.xa_driver.specs.Asks.{Ask}
+use Rattle.xa_desk.specs.DeskView.{DeskView}
+use Rattle.xa_desk.specs.{ledger}
+use Rattle.xa_driver.specs.{Branch, Done, Ending, AsksFor, AtBranch, CameTo, HaveAsked, HaveTold, PutsLedger, Tells, VotesAndHears, VotesAndObeys, to_come}
+use Rattle.xa_driver.specs.{withheld, is_read, is_yes, is_decided, is_out_of_reach, second_op, third_op, AsksLedger, HasVoted, code_of, Ask, EachBranch}
+use Rattle.xa_driver.specs.{IsCommit}
+use Rattle.xa_driver.specs.Deaths.{sent}
 use Rattle.xa_driver.proofs.AtDeath.{asked_all}
 use Rattle.xa_driver.proofs.Calls.{among_first}
-use Rattle.xa_driver.specs.Trace.{EachBranch, IsCommit}
-use Rattle.xa_log.specs.Log.{LogState}
-use Rattle.xa_work.specs.Sent.{HasSent}
-use Rattle.xa_work.specs.Units.{IsDeath}
+use Rattle.xa_log.specs.{LogState}
+use Rattle.xa_work.specs.{HasSent, IsDeath}
 use Rattle.xa_work.proofs.Sent.{none_sent, sent_on, asked_sent}
 use Rattle.xa_work.proofs.Voted.{StaysElsewhere}
 

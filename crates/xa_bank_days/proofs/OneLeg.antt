@@ -1,50 +1,31 @@
 -- A leg of a transfer whose work was done, of which a commit was made or cut short: who names its branch, what it holds as it is
 -- asked to prepare, and that it isn't read only.
-use Rattle.std.specs.Prelude.{pos, if◌then◌else◌, ◌&&◌}
-use Rattle.std.proofs.Common.{◌≡◌, ◌≢◌, ℕ, suc, ◌+◌, ◌^◌, ◌<◌, ◌≤◌, ⊎_elim, true, false, ◌==◌, cond, List, [], ◌∷◌, ◌++◌, length, length-append, append_assoc}
-use Rattle.std.proofs.Common.{get_or, slice_get}
-use Rattle.std.proofs.Common.{sym, refl, ap, ◌∙◌, subst, arith, Option, None, Some, option_map}
-use Rattle.std.specs.List.{All, Contains}
-use Rattle.std.proofs.lemmas.Bool.{cases_lt, eqb-false}
-use Rattle.std.proofs.lemmas.List.Elements.{All-nil, All-cons, All-head, All-tail, All-contains}
-use Rattle.xa_base.specs.Lists.{Begins}
-use Rattle.xa_base.proofs.Lists.{all_right, begins_on}
-use Rattle.xa_words.specs.Xid.{XidName}
-use Rattle.xa_words.specs.Key.{key_eq}
+use Rattle.xa_base.proofs.{pos, if◌then◌else◌, ◌&&◌, ◌≡◌, ◌≢◌, ℕ, suc, ◌+◌, ◌^◌, ◌<◌, ◌≤◌, ⊎_elim, true, false, ◌==◌, cond, List, [], ◌∷◌, ◌++◌, length}
+use Rattle.xa_base.proofs.{length-append, append_assoc, get_or, slice_get, sym, refl, ap, ◌∙◌, subst, arith, Option, None, Some, option_map, All, Contains}
+use Rattle.xa_base.proofs.{cases_lt, eqb-false, All-nil, All-cons, All-head, All-tail, All-contains, all_right, begins_on}
+use Rattle.xa_base.specs.{Begins}
+use Rattle.xa_words.specs.{XidName, key_eq, Done, RdOnly, Op, Start, Add, End, Prepare, Fresh, Success, Request}
 use Rattle.xa_words.specs.declared.code.Code.{Code}
-use Rattle.xa_words.specs.declared.code.Code.TheVariants.{Done, RdOnly}
-use Rattle.xa_words.specs.declared.request.Op.{Op}
-use Rattle.xa_words.specs.declared.request.Op.TheVariants.{Start, Add, End, Prepare}
-use Rattle.xa_words.specs.declared.request.StartHow.TheVariants.{Fresh}
-use Rattle.xa_words.specs.declared.request.EndHow.TheVariants.{Success}
-use Rattle.xa_words.specs.declared.request.Request.{Request}
 use Rattle.xa_tables.specs.Tables.{Tables}
-use Rattle.xa_tables.specs.Next.{next}
-use Rattle.xa_tables.specs.History.{History, of_thread, tables_after, coded}
-use Rattle.xa_tables.specs.Prepared.{names, is_heur}
-use Rattle.xa_tables.specs.Work.{DoesWork}
-use Rattle.xa_tables.specs.Worth.{held_by}
+use Rattle.xa_tables.specs.{next, of_thread, tables_after, coded, names, is_heur, DoesWork, held_by}
+use Rattle.xa_tables.specs.History.{History}
 use Rattle.xa_desk.specs.LedgerView.{LedgerView}
-use Rattle.xa_desk.specs.DeskView.{ledger}
-use Rattle.xa_desk.specs.Growth.{HasGrown}
-use Rattle.xa_desk.specs.Lanes.{numbered}
-use Rattle.xa_worker.specs.Journal.{Entry, requests}
-use Rattle.xa_switch.specs.Settling.{Settling, IsSettled, ManagerPart, find_manager, sent, journal, journal_in, answers}
-use Rattle.xa_switch.specs.Fates.{IsOpenedWith, first_of, history, ledgers_of}
+use Rattle.xa_desk.specs.{ledger, HasGrown, numbered}
+use Rattle.xa_worker.specs.{Entry, requests}
+use Rattle.xa_switch.specs.Settling.{Settling}
+use Rattle.xa_switch.specs.{IsSettled, ManagerPart, find_manager, sent, journal, journal_in, answers, IsOpenedWith, first_of, history, ledgers_of}
 use Rattle.xa_switch.proofs.Journaled.{follows_first}
-use Rattle.xa_driver.specs.Commits.{is_commit}
+use Rattle.xa_driver.specs.{is_commit}
 use Rattle.xa_driver.proofs.Ledgers.{numbered_length}
-use Rattle.xa_atomicity.specs.Conservation.{taken_before}
-use Rattle.xa_atomicity.specs.Outcomes.{IsBetween}
+use Rattle.xa_atomicity.specs.{taken_before, IsBetween}
 use Rattle.xa_atomicity.proofs.Moves.{taken_is}
 use Rattle.xa_atomicity.proofs.Naming.{prepare_part}
 use Rattle.xa_atomicity.proofs.Placing.{answer_at, request_of, same_code}
 use Rattle.xa_atomicity.proofs.Requests.{IsFromTo, all_earlier, own_between}
 use Rattle.xa_atomicity.proofs.Settled.{by_ledger}
-use Rattle.xa_days.specs.Openings.{CommitsNowhere}
-use Rattle.xa_days.specs.Calls.{DecidesNowhere}
+use Rattle.xa_days.specs.{CommitsNowhere, DecidesNowhere}
 use Rattle.xa_days.proofs.AtWork.{work_held, work_never_reads}
-use Rattle.xa_work.specs.Sent.{HasSent}
+use Rattle.xa_work.specs.{HasSent}
 use Rattle.xa_bank.proofs.Named.{IsOf, Names, Is, IsFrom}
 use Rattle.xa_bank.proofs.Told.{IsBelow, IsTold, NamedWithin, named_within}
 use Rattle.xa_bank.proofs.Legs.{AnyLeg, LegWorked, leg_work}

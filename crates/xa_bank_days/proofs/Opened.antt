@@ -1,23 +1,15 @@
 -- A bank that was opened with a plan is ready for its first day.
-use Rattle.std.specs.Prelude.{is_some}
-use Rattle.std.proofs.Common.{◌≡◌, ℕ, true, false, Some, List, map, slice_get, sym, ap, ◌∙◌, subst}
-use Rattle.std.specs.FinMap.{get-empty}
-use Rattle.xa_base.specs.Lists.{IsUpTo}
-use Rattle.xa_base.proofs.Lists.{all_at, was_mapped}
-use Rattle.xa_words.specs.Xid.{XidName, xid_cmp}
-use Rattle.xa_words.specs.Tran.{TranName}
-use Rattle.xa_tables.specs.Tables.{Tables, exists, is_left, is_left_in}
-use Rattle.xa_tables.specs.Managers.{opening}
-use Rattle.xa_tables.specs.Openings.{reopened}
+use Rattle.xa_base.proofs.{is_some, ◌≡◌, ℕ, true, false, Some, List, map, slice_get, sym, ap, ◌∙◌, subst, get-empty, all_at, was_mapped}
+use Rattle.xa_base.specs.{IsUpTo}
+use Rattle.xa_words.specs.{XidName, xid_cmp, TranName}
+use Rattle.xa_tables.specs.Tables.{Tables}
+use Rattle.xa_tables.specs.{exists, is_left, is_left_in, opening, reopened}
 use Rattle.xa_tables.proofs.Reopening.{as_left, reopens}
-use Rattle.xa_switch.specs.declared.plan.Plan.{Plan}
-use Rattle.xa_switch.specs.Again.{managers_in, reopened_at}
-use Rattle.xa_switch.specs.Worth.{accounts_of}
-use Rattle.xa_log.specs.Log.{LogState}
-use Rattle.xa_atomicity.specs.Cut.{is_recorded}
-use Rattle.xa_bank.specs.declared.teller.Teller.{Teller}
-use Rattle.xa_bank_days.specs.declared.bank.Bank.{Bank}
-use Rattle.xa_bank_days.specs.Banks.{HaveNoRecord, IsOpenedBank, IsReady}
+use Rattle.xa_switch.specs.{Plan, managers_in, reopened_at, accounts_of}
+use Rattle.xa_log.specs.{LogState}
+use Rattle.xa_atomicity.specs.{is_recorded}
+use Rattle.xa_bank.specs.{Teller}
+use Rattle.xa_bank_days.specs.{Bank, HaveNoRecord, IsOpenedBank, IsReady}
 use Rattle.xa_bank_days.proofs.DawnLaw.{none_left}
 
 module _ {L : Type 0} (state : L → LogState) (p : Plan) (tellers : List (Teller L)) (b : Bank L) (opened : IsOpenedBank p tellers b)

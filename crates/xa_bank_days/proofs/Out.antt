@@ -1,45 +1,31 @@
 -- A leg of a transfer that was committed, or whose commit was cut short, comes out by the log, once the night's resolve is made.
-use Rattle.std.specs.Prelude.{pos, is_some, if◌then◌else◌}
-use Rattle.std.proofs.Common.{◌≡◌, ◌≢◌, ℕ, zero, suc, ◌+◌, ◌^◌, ◌<◌, ◌≤◌, Bool, false, Option, None, Some, List, [], ◌∷◌, ◌++◌, length, slice_get, sym, refl}
-use Rattle.std.proofs.Common.{ap, ◌∙◌, subst, arith}
-use Rattle.std.specs.List.{All, Contains}
-use Rattle.std.proofs.lemmas.List.Elements.{All-nil, All-cons, All-head, All-tail, All-weaker, Contains-append_left}
-use Rattle.xa_base.specs.declared.limits.TheConstants.{MOST_MANAGERS}
-use Rattle.xa_base.specs.Lists.{IsUpTo}
-use Rattle.xa_words.specs.Key.{key_eq}
-use Rattle.xa_words.specs.Tran.{TranName, tran_of}
-use Rattle.xa_words.specs.declared.code.Code.TheVariants.{RdOnly, RmFail}
-use Rattle.xa_words.specs.declared.request.Op.TheVariants.{Prepare}
-use Rattle.xa_tables.specs.Tables.{Tables, state_of}
+use Rattle.xa_base.proofs.{pos, is_some, if◌then◌else◌, ◌≡◌, ◌≢◌, ℕ, zero, suc, ◌+◌, ◌^◌, ◌<◌, ◌≤◌, Bool, false, Option, None, Some, List, [], ◌∷◌, ◌++◌}
+use Rattle.xa_base.proofs.{length, slice_get, sym, refl, ap, ◌∙◌, subst, arith, All, Contains, All-nil, All-cons, All-head, All-tail, All-weaker}
+use Rattle.xa_base.proofs.{Contains-append_left}
+use Rattle.xa_base.specs.{MOST_MANAGERS, IsUpTo}
+use Rattle.xa_words.specs.{key_eq, TranName, tran_of, RdOnly, RmFail, Prepare}
+use Rattle.xa_tables.specs.Tables.{Tables}
+use Rattle.xa_tables.specs.{state_of}
 use Rattle.xa_desk.specs.LedgerView.{LedgerView}
-use Rattle.xa_desk.specs.DeskView.{DeskView, ledger}
-use Rattle.xa_desk.specs.Growth.{HaveGrown}
+use Rattle.xa_desk.specs.DeskView.{DeskView}
+use Rattle.xa_desk.specs.{ledger, HaveGrown}
 use Rattle.xa_switch.specs.declared.plan.Again.{Again}
-use Rattle.xa_switch.specs.Settling.{Settling, IsSettled}
-use Rattle.xa_switch.specs.Fates.{first_of, history, ledgers_of}
-use Rattle.xa_log.specs.Log.{LogState, Records, record_in, record_of}
-use Rattle.xa_driver.specs.declared.branch.Branch.{Branch}
-use Rattle.xa_driver.specs.declared.resolved.Outcome.{Outcome}
-use Rattle.xa_driver.specs.Resolving.{is_to_commit as is_marked, names as names_manager}
-use Rattle.xa_driver.specs.Trace.{IsTranOf}
-use Rattle.xa_atomicity.specs.Cut.{IsCut, is_recorded}
-use Rattle.xa_atomicity.specs.Outcomes.{OnlyTheseOrDecisionsName}
-use Rattle.xa_atomicity.specs.Presumed.{AskedAreLeft, IsResolvedAfter, WasAsked}
-use Rattle.xa_atomicity.specs.Resolution.{CutCall, IsOutcomeOf, IsUseIn, OnlyResolves, Opening, ResolveCall, cut_call, cuts, resolves, with_use}
+use Rattle.xa_switch.specs.Settling.{Settling}
+use Rattle.xa_switch.specs.{IsSettled, first_of, history, ledgers_of}
+use Rattle.xa_log.specs.{LogState, Records, record_in, record_of}
+use Rattle.xa_driver.specs.{Branch, Outcome, is_to_commit as is_marked, names as names_manager, IsTranOf}
+use Rattle.xa_atomicity.specs.{IsCut, is_recorded, OnlyTheseOrDecisionsName, AskedAreLeft, IsResolvedAfter, WasAsked, CutCall, IsOutcomeOf, IsUseIn}
+use Rattle.xa_atomicity.specs.{OnlyResolves, Opening, ResolveCall, cut_call, cuts, resolves, with_use}
 use Rattle.xa_atomicity.proofs.NextOpening.{next_resolved_after, one_of}
-use Rattle.xa_days.specs.Calls.{IsMarkedNowhere}
-use Rattle.xa_days.specs.Days.{Leg}
+use Rattle.xa_days.specs.{IsMarkedNowhere, Leg, IsItsOwn, asked_sum, leg_of, OnlyRead, ComesOutByTheLog}
 use Rattle.xa_days.proofs.Legs.{after_seam}
-use Rattle.xa_days.specs.Legs.{IsItsOwn, asked_sum, leg_of}
-use Rattle.xa_days.specs.Recorded.{OnlyRead}
-use Rattle.xa_days.specs.Settled.{ComesOutByTheLog, voted, unasked}
-use Rattle.xa_work.specs.Sent.{HasSent, HaveSent}
-use Rattle.xa_work.specs.Works.{HaveWorked}
-use Rattle.xa_bank.specs.Transfers.{branches_of, changes_of}
+use Rattle.xa_days.specs.Settled.{voted, unasked}
+use Rattle.xa_work.specs.{HasSent, HaveSent, HaveWorked}
+use Rattle.xa_bank.specs.{branches_of, changes_of}
 use Rattle.xa_bank.proofs.Legs.{AnyLeg, LegWorked, legs_worked}
 use Rattle.xa_bank.proofs.Named.{IsOf, Is, IsFrom, LegsOf, Names}
 use Rattle.xa_bank.proofs.Told.{IsBelow, IsTold, only_these}
-use Rattle.xa_bank_days.specs.Days.{IsResolvedBy}
+use Rattle.xa_bank_days.specs.{IsResolvedBy}
 use Rattle.xa_bank_days.proofs.Come.{HasCome, OnlyReads}
 use Rattle.xa_bank_days.proofs.Fewer.{IsLow, few_left, fewer, fewer_at, fewer_cut, fewer_grown, same_ledger}
 use Rattle.xa_bank_days.proofs.Obeyed.{Obeys, ObeysAt}

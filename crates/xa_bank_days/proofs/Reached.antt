@@ -1,37 +1,25 @@
 -- A resolve in an opening to which nobody sent a Shut is answered by each manager with another code than XAER_RMFAIL.
-use Rattle.std.specs.Prelude.{not, ◌||◌, ◌&&◌, if◌then◌else◌}
-use Rattle.std.proofs.Common.{◌≡◌, ◌≢◌, ℕ, Bool, true, false, ◌==◌, Option, Some, List, [], ◌∷◌, filter, get_or, length, sym, refl, ap, ◌∙◌, subst}
-use Rattle.std.specs.List.{All, list_any}
-use Rattle.std.proofs.lemmas.List.Elements.{All-nil, All-cons, All-head, All-tail, All-append, All-filter}
-use Rattle.std.proofs.lemmas.List.Folds.{list_any-append}
-use Rattle.std.proofs.Math.Bool.{or-true}
-use Rattle.xa_base.specs.Lists.{Chain, none, more}
-use Rattle.xa_base.proofs.Lists.{all_at, was_mapped}
-use Rattle.xa_base.proofs.Truth.{by_if}
-use Rattle.xa_words.specs.Xid.{XidName}
+use Rattle.xa_base.proofs.{not, ◌||◌, ◌&&◌, if◌then◌else◌, ◌≡◌, ◌≢◌, ℕ, Bool, true, false, ◌==◌, Option, Some, List, [], ◌∷◌, filter, get_or, length, sym, refl}
+use Rattle.xa_base.proofs.{ap, ◌∙◌, subst, All, list_any, All-nil, All-cons, All-head, All-tail, All-append, list_any-append, or-true, all_at, was_mapped}
+use Rattle.xa_base.proofs.{by_if}
+use Rattle.std.proofs.lemmas.List.Elements.{All-filter}
+use Rattle.xa_base.specs.{Chain, none, more}
+use Rattle.xa_words.specs.{XidName, RmFail, Op, OpenRm, Commit, Rollback, Forget, Request}
 use Rattle.xa_words.specs.declared.code.Code.{Code}
-use Rattle.xa_words.specs.declared.code.Code.TheVariants.{RmFail}
-use Rattle.xa_words.specs.declared.request.Op.{Op}
-use Rattle.xa_words.specs.declared.request.Op.TheVariants.{OpenRm, Commit, Rollback, Forget}
-use Rattle.xa_words.specs.declared.request.Request.{Request}
-use Rattle.xa_tables.specs.declared.state.State.{State}
-use Rattle.xa_tables.specs.declared.state.State.TheVariants.{HeuristicallyCompleted}
+use Rattle.xa_tables.specs.{State, HeuristicallyCompleted, has_opened, exists, is_completed, is_prepared, is_rollback_only, is_somebody_associated, is_S5}
+use Rattle.xa_tables.specs.{decision_in, state_of, Answer, next, needs_opening, by_rules, coded, is_rolled_back}
 use Rattle.xa_tables.specs.declared.state.HeuristicDecision.TheVariants as decision
-use Rattle.xa_tables.specs.Tables.{Tables, has_opened, exists, is_completed, is_prepared, is_rollback_only, is_somebody_associated, is_S5, decision_in}
-use Rattle.xa_tables.specs.Tables.{state_of}
-use Rattle.xa_tables.specs.Next.{Answer, next, needs_opening, by_rules}
-use Rattle.xa_tables.specs.History.{History, coded, is_rolled_back}
+use Rattle.xa_tables.specs.Tables.{Tables}
+use Rattle.xa_tables.specs.History.{History}
 use Rattle.xa_tables.proofs.Effects.{reason_rolls_back}
-use Rattle.xa_desk.specs.LedgerView.{LedgerView, is_rm_fail, learnt_shut, with_sent, with_collected}
-use Rattle.xa_worker.specs.Journal.{Entry}
-use Rattle.xa_switch.specs.Fates.{history}
-use Rattle.xa_switch.specs.Settling.{Settling, IsSettled, collected, journal}
+use Rattle.xa_desk.specs.LedgerView.{LedgerView}
+use Rattle.xa_desk.specs.{is_rm_fail, learnt_shut, with_sent, with_collected}
+use Rattle.xa_worker.specs.{Entry}
+use Rattle.xa_switch.specs.{history, IsSettled, collected, journal}
+use Rattle.xa_switch.specs.Settling.{Settling}
 use Rattle.xa_switch.proofs.Journaled.{follows}
-use Rattle.xa_driver.specs.declared.resolved.Outcome.{Outcome}
-use Rattle.xa_driver.specs.Asks.{AskTrace}
-use Rattle.xa_driver.specs.Endings.{is_decided}
-use Rattle.xa_driver.specs.Resolving.{AsksIf, AsksLedger, ResolvesAt, ResolvesBranch, outcome_op}
-use Rattle.xa_log.specs.Log.{Records}
+use Rattle.xa_driver.specs.{Outcome, AskTrace, is_decided, AsksIf, AsksLedger, ResolvesAt, ResolvesBranch, outcome_op}
+use Rattle.xa_log.specs.{Records}
 
 -- ---- what a resolve asks for
 

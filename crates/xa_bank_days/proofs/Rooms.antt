@@ -1,27 +1,20 @@
 -- The room of a night's desk for what it takes to resolve, and why nothing was resolved.
-use Rattle.std.specs.Prelude.{IfErr, Ok, Err, Result, nat_lt}
-use Rattle.std.proofs.Common.{◌≡◌, ℕ, zero, suc, ◌-◌, ◌<◌, ◌≤◌, ◌==◌, ◌||◌, ⊎_elim, Bool, List, [], ◌∷◌, length, sym, refl, ap, ◌∙◌, subst}
-use Rattle.std.proofs.Common.{arith}
-use Rattle.std.specs.List.{slice_index_or}
-use Rattle.std.proofs.lemmas.Bool.{cases_lt, le-ltb, ne_eqb, or_from}
-use Rattle.xa_base.proofs.Truth.{at_false}
-use Rattle.xa_base.specs.Lists.{IsUpTo}
-use Rattle.xa_words.specs.Xid.{XidName}
+use Rattle.std.specs.Prelude.{IfErr}
+use Rattle.xa_base.proofs.{Ok, Err, Result, nat_lt, ◌≡◌, ℕ, zero, suc, ◌-◌, ◌<◌, ◌≤◌, ◌==◌, ◌||◌, ⊎_elim, Bool, List, [], ◌∷◌, length, sym, refl, ap, ◌∙◌}
+use Rattle.xa_base.proofs.{subst, arith, slice_index_or, cases_lt, ne_eqb, or_from, at_false}
+use Rattle.std.proofs.lemmas.Bool.{le-ltb}
+use Rattle.xa_base.specs.{IsUpTo}
+use Rattle.xa_words.specs.{XidName}
 use Rattle.xa_desk.specs.LedgerView.{LedgerView}
-use Rattle.xa_desk.specs.Lanes.{new_ledgers}
-use Rattle.xa_desk.specs.DeskView.{DeskView, ledger, no_ledger, room_at}
+use Rattle.xa_desk.specs.{new_ledgers, ledger, no_ledger, room_at}
+use Rattle.xa_desk.specs.DeskView.{DeskView}
 use Rattle.xa_desk.proofs.Fresh.{fresh_sent}
 use Rattle.xa_switch.specs.declared.plan.Again.{Again}
-use Rattle.xa_switch.specs.Again.{flags_in, managers_in, reopening}
-use Rattle.xa_switch.specs.OpenedPieces.{IsNewDesk}
-use Rattle.xa_switch.specs.Recovery.{IsScanOf}
-use Rattle.xa_scan.specs.Left.{ScanView, left_at}
+use Rattle.xa_switch.specs.{flags_in, managers_in, reopening, IsNewDesk, IsScanOf}
+use Rattle.xa_scan.specs.{ScanView, left_at}
 use Rattle.xa_switch.specs.Settling.{Settling}
-use Rattle.xa_driver.specs.declared.resolved.Resolved.{Resolved}
-use Rattle.xa_driver.specs.Resolving.{MayResolve, requests_for}
-use Rattle.xa_bank_days.specs.declared.night.Unresolved.{Unresolved}
-use Rattle.xa_bank_days.specs.declared.night.Unresolved.TheVariants.{BadNumbers, NoMemory, NoRoom, TellerWantsMemory, UnknownLog}
-use Rattle.xa_bank_days.specs.Nights.{Excuses, HasRoomToResolve}
+use Rattle.xa_driver.specs.{Resolved, MayResolve, requests_for}
+use Rattle.xa_bank_days.specs.{Unresolved, BadNumbers, NoMemory, NoRoom, TellerWantsMemory, UnknownLog, Excuses, HasRoomToResolve}
 
 -- a new ledger has all requests of the plan
 fresh_plan : (n : ℕ) (flags : List Bool) (i : ℕ) → i < length flags → (slice_index_or (new_ledgers n flags) i no_ledger).plan ≡ n

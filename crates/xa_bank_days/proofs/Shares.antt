@@ -1,15 +1,12 @@
 -- What a transfer is to an account at a store, by its legs; and what many are together.
-use Rattle.std.specs.Prelude.{ℤ, pos, neg_ℤ, ◌+ℤ◌, if◌then◌else◌, ◌&&◌}
-use Rattle.std.proofs.Common.{◌≡◌, ◌≢◌, ℕ, Bool, true, false, ◌==◌, List, [], ◌∷◌, ◌++◌, sym, refl, ap, ◌∙◌, arith, eq-eqb}
-use Rattle.std.proofs.Math.IntN.{+ℤ_idl as none_plus, +ℤ_idr as plus_none}
-use Rattle.std.proofs.lemmas.Int.{ints}
-use Rattle.std.proofs.lemmas.Bool.{ne_eqb}
-use Rattle.xa_base.specs.Sums.{total}
-use Rattle.xa_words.specs.Key.{key_eq}
-use Rattle.xa_bank.specs.declared.teller.Transfer.{Transfer}
-use Rattle.xa_bank.specs.Transfers.{AreLegs, pays_first, paid_first}
+use Rattle.xa_base.proofs.{ℤ, pos, ◌+ℤ◌, if◌then◌else◌, ◌&&◌, ◌≡◌, ◌≢◌, ℕ, Bool, true, false, ◌==◌, List, [], ◌∷◌, ◌++◌, sym, refl, ap, ◌∙◌, arith, eq-eqb}
+use Rattle.xa_base.proofs.{+ℤ_idl as none_plus, +ℤ_idr as plus_none, ints, ne_eqb}
+use Rattle.std.specs.Prelude.{neg_ℤ}
+use Rattle.xa_base.specs.{total}
+use Rattle.xa_words.specs.{key_eq}
+use Rattle.xa_bank.specs.{Transfer, AreLegs, pays_first, paid_first}
 use Rattle.xa_bank.proofs.Legs.{AnyLeg}
-use Rattle.xa_bank_days.specs.Ledger.{Balances, all_applied, applied, share}
+use Rattle.xa_bank_days.specs.{Balances, all_applied, applied, share}
 
 -- ---- one
 

@@ -1,44 +1,29 @@
 -- What all transfers of one teller come to at one store, for one account.
-use Rattle.std.specs.Prelude.{◌+ℤ◌}
-use Rattle.std.proofs.Common.{◌≡◌, ℕ, suc, ◌+◌, ◌^◌, ◌<◌, ◌≤◌, ⊎_elim, Bool, true, false, ◌||◌, None, Some, List, [], ◌∷◌, ◌++◌, length, get_or, map, sym, refl}
-use Rattle.std.proofs.Common.{ap}
-use Rattle.std.proofs.Common.{◌∙◌, subst, arith, inl, inr}
-use Rattle.std.specs.List.{All, AllByRecursion, IsDistinct, list_any}
-use Rattle.std.proofs.Math.Bool.{or-true}
-use Rattle.std.proofs.lemmas.List.{map-append}
-use Rattle.std.proofs.lemmas.List.Elements.{All-map, All-nil, All-head, All-tail, All-append, All-weaker}
-use Rattle.std.proofs.lemmas.List.Folds.{list_any-append}
-use Rattle.xa_base.specs.Sums.{total}
-use Rattle.xa_base.proofs.Lists.{none_twice}
-use Rattle.xa_words.specs.Xid.{XidName, xid_eq}
-use Rattle.xa_words.specs.Orders.{Decides-xid_eq}
-use Rattle.xa_words.specs.Tran.{TranName, tran_of}
-use Rattle.xa_words.specs.declared.request.Op.{Op}
-use Rattle.xa_tables.specs.Tables.{Tables, state_of}
+use Rattle.xa_base.proofs.{◌+ℤ◌, ◌≡◌, ℕ, suc, ◌+◌, ◌^◌, ◌<◌, ◌≤◌, ⊎_elim, Bool, true, false, ◌||◌, None, Some, List, [], ◌∷◌, ◌++◌, length, get_or, map, sym}
+use Rattle.xa_base.proofs.{refl, ap, ◌∙◌, subst, arith, inl, inr, All, list_any, or-true, map-append, All-map, All-nil, All-head, All-tail, All-append}
+use Rattle.xa_base.proofs.{All-weaker, list_any-append, none_twice}
+use Rattle.std.specs.List.{AllByRecursion, IsDistinct}
+use Rattle.xa_base.specs.{total}
+use Rattle.xa_words.specs.{XidName, xid_eq, Decides-xid_eq, TranName, tran_of, Op}
+use Rattle.xa_tables.specs.Tables.{Tables}
+use Rattle.xa_tables.specs.{state_of}
 use Rattle.xa_desk.specs.LedgerView.{LedgerView}
-use Rattle.xa_desk.specs.DeskView.{DeskView, ledger}
+use Rattle.xa_desk.specs.DeskView.{DeskView}
+use Rattle.xa_desk.specs.{ledger}
 use Rattle.xa_switch.specs.declared.plan.Again.{Again}
 use Rattle.xa_switch.specs.Settling.{Settling}
-use Rattle.xa_switch.specs.Fates.{first_of, ledgers_of}
-use Rattle.xa_log.specs.Log.{LogState, Records, record_in, record_of}
-use Rattle.xa_driver.specs.Commits.{is_commit}
-use Rattle.xa_atomicity.specs.Cut.{is_recorded}
-use Rattle.xa_atomicity.specs.Resolution.{ResolveCall}
-use Rattle.xa_days.specs.Days.{Leg, counted}
-use Rattle.xa_days.specs.Settled.{ComesOutByTheLog}
-use Rattle.xa_work.specs.declared.unit.WorkOutcome.{WorkOutcome}
-use Rattle.xa_work.specs.Sent.{HasSent, HaveSent}
-use Rattle.xa_work.specs.Units.{IfLost}
-use Rattle.xa_work.specs.declared.unit.WorkOutcome.TheVariants.{Decided, Died, Refused, Undecided}
+use Rattle.xa_switch.specs.{first_of, ledgers_of}
+use Rattle.xa_log.specs.{LogState, Records, record_in, record_of}
+use Rattle.xa_driver.specs.{is_commit}
+use Rattle.xa_atomicity.specs.{is_recorded, ResolveCall}
+use Rattle.xa_days.specs.{Leg, counted, ComesOutByTheLog}
+use Rattle.xa_work.specs.{WorkOutcome, HasSent, HaveSent, IfLost, Decided, Died, Refused, Undecided}
 use Rattle.xa_work.proofs.Sent.{none_sent, sent_on, sent_as, have_on, have_as}
-use Rattle.xa_bank.specs.declared.habits.Habits.{Habits}
-use Rattle.xa_bank.specs.declared.teller.Transfer.{Transfer}
-use Rattle.xa_bank.specs.Tellers.{is_undecided}
-use Rattle.xa_bank.specs.Transfers.{MakesEach, tran_named}
+use Rattle.xa_bank.specs.{Habits, Transfer, is_undecided, MakesEach, tran_named}
 use Rattle.xa_bank.proofs.Named.{IsOf, Is, IsFrom, Names, names_as, next_names, one_transfer, transfers_name}
 use Rattle.xa_bank.proofs.LostRecords.{none_lost}
 use Rattle.xa_bank.proofs.Told.{IsBelow}
-use Rattle.xa_bank_days.specs.Days.{IsNamed, is_applied, told as told_of}
+use Rattle.xa_bank_days.specs.{IsNamed, is_applied, told as told_of}
 use Rattle.xa_bank_days.proofs.Keeps.{AreKnown, each_keeps, one_number, rest_known}
 use Rattle.xa_bank_days.proofs.Made.{IsFoundSo, Noted, TransferAt, next_at}
 use Rattle.xa_bank_days.proofs.Out.{BranchesComeOut, IsScene, day, night}

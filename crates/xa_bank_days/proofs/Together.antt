@@ -1,43 +1,28 @@
 -- What the transfers of all tellers come to at one store, for one account.
-use Rattle.std.specs.Prelude.{pos, ◌+ℤ◌, is_some, Vec}
-use Rattle.std.proofs.Common.{◌≡◌, ℕ, zero, suc, ◌+◌, ◌-◌, ◌^◌, ◌<◌, ◌≤◌, ⊎_elim, Bool, true, false, Option, None, Some, List, [], ◌∷◌, ◌++◌, length, get_or}
-use Rattle.std.proofs.Common.{map, slice_get, sym, refl, ap, ◌∙◌, subst, arith, inl, inr}
-use Rattle.std.specs.List.{All, IsDistinct}
-use Rattle.std.proofs.lemmas.Bool.{cases_lt}
-use Rattle.std.proofs.lemmas.List.{length-map, map-append}
-use Rattle.std.proofs.lemmas.Option.{slice_get_within}
-use Rattle.std.specs.Global.{Global}
-use Rattle.std.proofs.lemmas.List.Elements.{All-map, All-nil, All-append, All-weaker}
-use Rattle.xa_base.specs.declared.limits.TheConstants.{MOST_MANAGERS}
-use Rattle.xa_base.specs.Lists.{IsUpTo}
-use Rattle.xa_base.specs.Sums.{total}
-use Rattle.xa_base.proofs.Lists.{all_at, got, got_map, none_twice, some_same, was_mapped}
-use Rattle.xa_words.specs.Xid.{XidName, xid_eq}
-use Rattle.xa_words.specs.Orders.{Decides-xid_eq}
-use Rattle.xa_words.specs.Tran.{TranName}
-use Rattle.xa_words.specs.declared.request.Op.{Op}
-use Rattle.xa_tables.specs.declared.state.State.{State}
-use Rattle.xa_tables.specs.Tables.{Tables, state_of}
-use Rattle.xa_tables.specs.Prepared.{names}
+use Rattle.xa_base.proofs.{pos, ◌+ℤ◌, is_some, Vec, ◌≡◌, ℕ, zero, suc, ◌+◌, ◌-◌, ◌^◌, ◌<◌, ◌≤◌, ⊎_elim, Bool, true, false, Option, None, Some, List, [], ◌∷◌}
+use Rattle.xa_base.proofs.{◌++◌, length, get_or, map, slice_get, sym, refl, ap, ◌∙◌, subst, arith, inl, inr, All, IsDistinct, cases_lt, length-map, map-append}
+use Rattle.xa_base.proofs.{slice_get_within, Global, All-map, All-nil, All-append, All-weaker, all_at, got, got_map, none_twice, some_same, was_mapped}
+use Rattle.xa_base.specs.{MOST_MANAGERS, IsUpTo, total}
+use Rattle.xa_words.specs.{XidName, xid_eq, Decides-xid_eq, TranName, Op}
+use Rattle.xa_tables.specs.{State, state_of, names}
+use Rattle.xa_tables.specs.Tables.{Tables}
 use Rattle.xa_desk.specs.LedgerView.{LedgerView}
-use Rattle.xa_desk.specs.DeskView.{ledger}
+use Rattle.xa_desk.specs.{ledger}
 use Rattle.xa_switch.specs.declared.plan.Again.{Again}
-use Rattle.xa_switch.specs.Settling.{Settling, sent}
-use Rattle.xa_switch.specs.Fates.{first_of, history, ledgers_of}
-use Rattle.xa_log.specs.Log.{IsReadAs, LogState, Records, record_in, record_of}
-use Rattle.xa_atomicity.specs.Resolution.{ResolveCall}
+use Rattle.xa_switch.specs.Settling.{Settling}
+use Rattle.xa_switch.specs.{sent, first_of, history, ledgers_of}
+use Rattle.xa_log.specs.{IsReadAs, LogState, Records, record_in, record_of}
+use Rattle.xa_atomicity.specs.{ResolveCall}
 use Rattle.xa_atomicity.proofs.Requests.{own_all}
 use Rattle.xa_atomicity.proofs.Settled.{by_ledger}
-use Rattle.xa_days.specs.Days.{Leg, counted}
-use Rattle.xa_days.specs.Settled.{ComesOutByTheLog}
-use Rattle.xa_work.specs.Sent.{HasSent, IsOpenRm}
+use Rattle.xa_days.specs.{Leg, counted, ComesOutByTheLog}
+use Rattle.xa_work.specs.{HasSent, IsOpenRm}
 use Rattle.xa_work.proofs.Sent.{sent_on, sent_as}
-use Rattle.xa_bank.specs.declared.teller.Teller.{Teller}
-use Rattle.xa_bank.specs.declared.teller.Transfer.{Transfer}
+use Rattle.xa_bank.specs.{Teller, Transfer}
 use Rattle.xa_bank.proofs.Named.{IsOf, Names, one_transfer}
 use Rattle.xa_bank.proofs.Told.{IsAny, IsBelow, IsTold}
-use Rattle.xa_bank_days.specs.Days.{AreReadBack, AreToldAll, BeginsWith, IsDawn, IsDayOf, IsNamed, IsReadBack, IsResolvedBy, IsToldAll, all_told, records_of}
-use Rattle.xa_bank_days.specs.Days.{told as told_of}
+use Rattle.xa_bank_days.specs.{AreReadBack, AreToldAll, BeginsWith, IsDawn, IsDayOf, IsNamed, IsReadBack, IsResolvedBy, IsToldAll, all_told, records_of}
+use Rattle.xa_bank_days.specs.{told as told_of}
 use Rattle.xa_bank_days.proofs.Back.{as_many as as_many_back, back_at}
 use Rattle.xa_bank_days.proofs.Keeps.{each_keeps}
 use Rattle.xa_bank_days.proofs.Logs.{NoLogs, OneLogMore, one_in_all, same_in_all}

@@ -1,6 +1,5 @@
 -- Lists to which elements are pushed one by one, by what each has of another list's.
-use Rattle.std.proofs.Common.{◌≡◌, ℕ, ◌+◌, List, [], ◌∷◌, ◌++◌, length, map, append_assoc, sym, ap, ◌∙◌, arith}
-use Rattle.std.proofs.lemmas.List.{map-append}
+use Rattle.xa_base.proofs.{◌≡◌, ℕ, ◌+◌, List, [], ◌∷◌, ◌++◌, length, map, append_assoc, sym, ap, ◌∙◌, arith, map-append}
 
 module _ {A B C : Type 0} (f : A → C) (g : B → C) (xs xs' : List A) (x : A) (push : xs' ≡ xs ++ x ∷ []) (y : B) (same : f x ≡ g y) where
   pub pushed_map : (ys : List B) → map f xs ≡ map g ys → map f xs' ≡ map g (ys ++ y ∷ [])

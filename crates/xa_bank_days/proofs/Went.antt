@@ -1,31 +1,22 @@
 -- How the thread of a teller went that was told all, and whose log was read back.
-use Rattle.std.specs.Prelude.{if◌then◌else◌}
-use Rattle.std.proofs.Common.{◌≡◌, ℕ, ◌+◌, ◌^◌, ◌<◌, ◌≤◌, Bool, true, false, ◌||◌, List, [], ◌∷◌, ◌++◌, length, sym, refl, ap, ◌∙◌, subst, arith}
-use Rattle.std.specs.List.{All, list_any}
-use Rattle.std.proofs.lemmas.Bool.{or_parts}
-use Rattle.xa_words.specs.Tran.{TranName, tran_of}
+use Rattle.xa_base.proofs.{if◌then◌else◌, ◌≡◌, ℕ, ◌+◌, ◌^◌, ◌<◌, ◌≤◌, Bool, true, false, ◌||◌, List, [], ◌∷◌, ◌++◌, length, sym, refl, ap, ◌∙◌, subst, arith}
+use Rattle.xa_base.proofs.{All, list_any, or_parts}
+use Rattle.xa_words.specs.{TranName, tran_of}
 use Rattle.xa_desk.specs.DeskView.{DeskView}
-use Rattle.xa_switch.specs.Settling.{Settling, sent}
-use Rattle.xa_switch.specs.Fates.{ledgers_of}
-use Rattle.xa_log.specs.Log.{IsReadAs, LogState}
-use Rattle.xa_atomicity.specs.Conservation.{NothingWasSent}
-use Rattle.xa_atomicity.specs.Cut.{is_recorded}
-use Rattle.xa_work.specs.declared.unit.WorkOutcome.{WorkOutcome}
-use Rattle.xa_work.specs.declared.unit.WorkOutcome.TheVariants.{Decided, Died, Refused, Undecided}
-use Rattle.xa_work.specs.Sent.{HaveSent, IsOpenRm}
-use Rattle.xa_work.specs.Units.{is_last}
+use Rattle.xa_switch.specs.Settling.{Settling}
+use Rattle.xa_switch.specs.{sent, ledgers_of}
+use Rattle.xa_log.specs.{IsReadAs, LogState}
+use Rattle.xa_atomicity.specs.{NothingWasSent, is_recorded}
+use Rattle.xa_work.specs.{WorkOutcome, Decided, Died, Refused, Undecided, HaveSent, IsOpenRm, is_last}
 use Rattle.xa_work.specs.Units.ComesOfCommit.{cut_short, in_full, undecided}
 use Rattle.xa_work.specs.Units.IsRefused.{barred, unbegun, undone}
 use Rattle.xa_work.specs.Units.Transacts.{commits, refused}
-use Rattle.xa_bank.specs.declared.habits.Habits.{Habits}
-use Rattle.xa_bank.specs.declared.teller.Teller.{Teller}
-use Rattle.xa_bank.specs.declared.teller.Transfer.{Transfer}
-use Rattle.xa_bank.specs.Tellers.{Comes, HasMade, ended, has_undecided, is_undecided, last_number, lived, unknown}
-use Rattle.xa_bank.specs.Transfers.{Makes, MakesEach, MakesNext, forgotten, tran_named, with_legs, without_legs}
+use Rattle.xa_bank.specs.{Habits, Teller, Transfer, Comes, HasMade, ended, has_undecided, is_undecided, last_number, lived, unknown, Makes, MakesEach}
+use Rattle.xa_bank.specs.{MakesNext, forgotten, tran_named, with_legs, without_legs}
 use Rattle.xa_bank.proofs.Named.{Names}
 use Rattle.xa_bank.proofs.Told.{IsAny}
 use Rattle.xa_bank.proofs.Only.{all_told}
-use Rattle.xa_bank_days.specs.Days.{IsReadBack, IsToldAll, WorkedIn}
+use Rattle.xa_bank_days.specs.{IsReadBack, IsToldAll, WorkedIn}
 use Rattle.xa_bank_days.proofs.Keeps.{AreKnown}
 
 -- ---- of the last alone nobody may know whether its record was made

@@ -1,98 +1,31 @@
 -- The law: a branch whose work one thread did holds of each account what that thread added to it.
-use Rattle.std.specs.Prelude.{◌≡◌, ◌≢◌, ℕ, ◌+◌, ◌==◌, ℤ, pos, ◌+ℤ◌, true, false, Bool, cond, not, if◌then◌else◌, Option, None, Some, is_some, unwrap_or, List}
-use Rattle.std.specs.Prelude.{[], ◌∷◌, ◌++◌, refl}
-use Rattle.std.proofs.Common.{sym, ap, ◌∙◌, option_map}
-use Rattle.std.specs.List.{All}
-use Rattle.std.proofs.lemmas.Bool.{eqb-true, eqb-false}
-use Rattle.std.specs.Ordering.{nat_cmp}
-use Rattle.std.specs.Cmp.{nat_cmp_total}
+use Rattle.xa_base.proofs.{◌≡◌, ◌≢◌, ℕ, ◌+◌, ◌==◌, ℤ, pos, ◌+ℤ◌, true, false, cond, not, if◌then◌else◌, Option, None, Some, is_some, unwrap_or, List, [], ◌∷◌}
+use Rattle.xa_base.proofs.{◌++◌, refl, sym, ap, ◌∙◌, option_map, All, eqb-true, eqb-false, get-insert, All-nil, All-cons, All-head, All-tail, All-append}
+use Rattle.xa_base.proofs.{All-weaker, +ℤ_idl as none_plus, +ℤ_idr as plus_none, at_false, by_if}
 use Rattle.std.specs.FinMap as map
-use Rattle.std.specs.FinMap.{FinMap, get-empty, get-insert, get-remove, nat_cmp-IsAntisymmetric}
-use Rattle.std.proofs.lemmas.List.Elements.{All-nil, All-cons, All-head, All-tail, All-append, All-weaker}
-use Rattle.std.proofs.Math.IntN.{+ℤ_idl as none_plus, +ℤ_idr as plus_none}
-use Rattle.xa_words.specs.Xid.{XidName, xid_eq}
-use Rattle.xa_words.specs.Key.{key_eq}
-use Rattle.xa_words.specs.Orders.{Decides-xid_eq, Decides-key_eq}
+use Rattle.xa_words.specs.{XidName, xid_eq, key_eq, Decides-xid_eq, Decides-key_eq, Done, RdOnly, Op, Start, Add, End, Prepare, Fresh, Success, Request}
 use Rattle.xa_words.specs.declared.code.Code.{Code}
-use Rattle.xa_words.specs.declared.code.Code.TheVariants.{Done, RdOnly}
-use Rattle.xa_words.specs.declared.request.Op.{Op}
-use Rattle.xa_words.specs.declared.request.Op.TheVariants.{Start, Add, End, Prepare}
-use Rattle.xa_words.specs.declared.request.StartHow.TheVariants.{Fresh}
-use Rattle.xa_words.specs.declared.request.EndHow.TheVariants.{Success}
-use Rattle.xa_words.specs.declared.request.Request.{Request}
-use Rattle.xa_tables.specs.declared.state.Association.{Association}
-use Rattle.xa_tables.specs.declared.state.AssociationState.TheVariants.{Associated}
-use Rattle.xa_tables.specs.declared.state.State.{State}
-use Rattle.xa_tables.specs.Tables.{Tables, association_of, has_association, has_opened, exists, is_S3, is_prepared, is_association_with, is_associated}
-use Rattle.xa_tables.specs.Tables.{is_somebody_associated, is_at_work, is_declared, is_rollback_only, has_other_touched, branch_in, branch_of, reason_of}
-use Rattle.xa_tables.specs.Tables.{state_of, sum_of}
-use Rattle.xa_tables.specs.Next.{Answer, next, association, added}
-use Rattle.xa_tables.specs.History.{History, EndsNowhere, Live, coded, tables_after, fate_of, ending, is_rolled_back}
-use Rattle.xa_tables.specs.Openings.{IsOpening}
-use Rattle.xa_tables.specs.Prepared.{names}
-use Rattle.xa_tables.specs.Worth.{held_by}
-use Rattle.xa_tables.specs.Work.{request, LeavesAtWork, DoesWork}
-use Rattle.xa_base.proofs.Truth.{at_false, by_if, tied_true, tied_false}
-use Rattle.xa_base.proofs.FinMaps.{none_pass}
+use Rattle.xa_tables.specs.{Association, Associated, State, association_of, has_association, has_opened, exists, is_S3, is_prepared, is_association_with}
+use Rattle.xa_tables.specs.{is_associated, is_at_work, is_declared, is_rollback_only, has_other_touched, branch_in, branch_of, state_of, sum_of, Answer, next}
+use Rattle.xa_tables.specs.{association, added, EndsNowhere, Live, coded, tables_after, fate_of, ending, IsOpening, names, held_by, request, LeavesAtWork}
+use Rattle.xa_tables.specs.{DoesWork}
+use Rattle.xa_tables.specs.Tables.{Tables}
+use Rattle.xa_tables.specs.History.{History}
 use Rattle.xa_tables.proofs.AccountLemmas.{touch_cmp_total, touch_self}
-use Rattle.xa_tables.proofs.AddedLaw.{added_law}
-use Rattle.xa_tables.proofs.Effects.{Effect, Starts, Joins, Resumes, Suspends, Leaves, Fails, Idles, effect_of, reason_rolls_back}
-use Rattle.xa_tables.proofs.Law.{swap_xid}
+use Rattle.xa_tables.proofs.AddedLaw.{added_law, not_ended, reason_not_done as not_done}
+use Rattle.xa_tables.proofs.Effects.{effect_of}
+use Rattle.xa_tables.proofs.Law.{opening_free}
+use Rattle.xa_tables.proofs.SoundLemmas.{own_put}
 use Rattle.xa_tables.proofs.Moves.{Moves, Still, Ended, Added, moves_of, quiet_named}
-use Rattle.xa_tables.proofs.Unnamed.{apart_from, unnamed_fate, unnamed_on, tables_after-append}
+use Rattle.xa_tables.proofs.Unnamed.{unnamed_fate, unnamed_on, tables_after-append}
 use Rattle.xa_tables.proofs.ValueLaw.{get_without, get_added}
-use Rattle.xa_tables.proofs.WorkLaw.{others_first}
-
--- ---- associations
-
-abbrev Associations : Type 0
-Associations = FinMap nat_cmp Association
-
-other_put : (m : Associations) (t u : ℕ) (l : Association) → u ≢ t → map.get (map.insert m t l) u ≡ map.get m u
-other_put m t u l apart = get-insert nat_cmp_total m t l u ∙ at_false _ (Some l) (map.get m u) (tied_false u t apart)
-
-other_removed : (m : Associations) (t u : ℕ) → u ≢ t → map.get (map.remove m t) u ≡ map.get m u
-other_removed m t u apart = get-remove nat_cmp_total m t u ∙ at_false _ None (map.get m u) (tied_false u t apart)
-
-own_put : (m : Associations) (t : ℕ) (l : Association) → map.get (map.insert m t l) t ≡ Some l
-own_put m t l = get-insert nat_cmp_total m t l t ∙ ap (λ b. cond b (Some l) (map.get m t)) (tied_true t t refl)
-
-own_removed : (m : Associations) (t : ℕ) → map.get (map.remove m t) t ≡ None
-own_removed m t = get-remove nat_cmp_total m t t ∙ ap (λ b. cond b None (map.get m t)) (tied_true t t refl)
-
-module _ (t : ℕ) (T : Tables) where
-  -- a request leaves the associations of the other threads
-  others_by : (u : ℕ) → u ≢ t → {op : Op} {a : Answer} → Effect t T op a → association_of a.0 u ≡ association_of T u
-  others_by u apart (Starts y free) = other_put T.associations t u _ apart
-  others_by u apart (Joins y free there unprepared) = other_put T.associations t u _ apart
-  others_by u apart (Resumes y own) = other_put T.associations t u _ apart
-  others_by u apart (Suspends y own) = other_put T.associations t u _ apart
-  others_by u apart (Leaves y how c own why) = other_removed T.associations t u apart
-  others_by u apart (Fails y own) = other_removed T.associations t u apart
-  others_by u apart (Idles y own alone) = other_removed T.associations t u apart
-  others_by u apart effect = refl
-
-  -- and its thread becomes associated with no branch that it doesn't name
-  stays_apart : (x : XidName) {op : Op} {a : Answer} → Effect t T op a → names x op ≡ false → is_associated T t x ≡ false → is_associated a.0 t x ≡ false
-  stays_apart x (Starts y free) n h = ap (λ o. is_association_with o x) (own_put T.associations t _) ∙ n
-  stays_apart x (Joins y free there unprepared) n h = ap (λ o. is_association_with o x) (own_put T.associations t _) ∙ n
-  stays_apart x (Resumes y own) n h = ap (λ o. is_association_with o x) (own_put T.associations t _) ∙ n
-  stays_apart x (Suspends y own) n h = ap (λ o. is_association_with o x) (own_put T.associations t _) ∙ n
-  stays_apart x (Leaves y how c own why) n h = ap (λ o. is_association_with o x) (own_removed T.associations t)
-  stays_apart x (Fails y own) n h = ap (λ o. is_association_with o x) (own_removed T.associations t)
-  stays_apart x (Idles y own alone) n h = ap (λ o. is_association_with o x) (own_removed T.associations t)
-  stays_apart x effect n h = h
+use Rattle.xa_tables.proofs.WorkLaw.{OnlyOne, nobody_is, others_by, others_first, own_request, stays_apart}
 
 -- ---- sums
 
 -- the sum of x of each account is what it was
 abbrev SameSums : XidName → Tables → Tables → Type 0
 SameSums x T T' = (j : List ℕ) → map.get T'.sums (x, j) ≡ map.get T.sums (x, j)
-
--- a request that ends y doesn't end x, and so x isn't y
-not_ended : (x y : XidName) (b : Bool) → (if xid_eq y x then Some b else None) ≡ None → xid_eq x y ≡ false
-not_ended x y b none =
-    swap_xid x y ∙ elim (xid_eq y x) as (λ c. (if c then Some b else None) ≡ None → c ≡ false) [ true ↦ λ n. cc | false ↦ λ n. refl ] none
 
 -- a request that doesn't end x leaves its sums, unless it adds for it
 leaves_sums : (x : XidName) (T : Tables) {l : Option Association} {op : Op} {a : Answer} → Moves T l op a → ending (fate_of x op a.1) ≡ None
@@ -107,10 +40,6 @@ leaves_sums x T (Added own d l known alone) n quiet j =
     cc)
 
 -- ---- the requests of others
-
--- no thread but t is associated with x
-abbrev OnlyOne : ℕ → XidName → Tables → Type 0
-OnlyOne t x T = (u : ℕ) → u ≢ t → is_associated T u x ≡ false
 
 -- what others ask for leaves t at its work
 record LeftAtWork (t : ℕ) (x : XidName) (T T' : Tables) : Type 0 where
@@ -142,9 +71,6 @@ left_at_work t x (r ∷ h) T only leaves =
 
 -- ---- the requests of t
 
-own_request : (t : ℕ) (x : XidName) (op : Op) (T : Tables) → OnlyOne t x T → OnlyOne t x (next t op T).0
-own_request t x op T only u other = ap (λ o. is_association_with o x) (others_by t T u other (effect_of t op T)) ∙ only u other
-
 -- t began x, which wasn't there
 record HasBegun (t : ℕ) (x : XidName) (T T' : Tables) : Type 0 where
   absent : exists T x ≡ false
@@ -174,9 +100,6 @@ put_alone x k d T none j =
           ap (λ o. unwrap_or o (pos 0)) (get_added T.sums x x k j v (λ _ same. let z : key_eq j k ≡ true = (Decides-key_eq j k).1 same in cc) ∙ none j)
     ] refl
 
-not_done : (T : Tables) (y : XidName) → is_rollback_only T y ≡ true → reason_of T y ≡ Done → ⊥
-not_done T y back e = let z : is_rolled_back Done ≡ true = ap is_rolled_back (sym e) ∙ reason_rolls_back (state_of T y) back in cc
-
 added_alone : (t : ℕ) (x : XidName) (k : List ℕ) (d : ℤ) (T : Tables) → branch_of T t ≡ x → ((j : List ℕ) → map.get T.sums (x, j) ≡ None)
     → (next t (Add k d) T).1 ≡ Done → (j : List ℕ) → sum_of (next t (Add k d) T).0.sums x j ≡ (if key_eq j k then d else pos 0)
 unfolding next
@@ -191,15 +114,6 @@ added_alone t x k d T own none =
     ap (λ y. sum_of (added y k d T).sums x j) own ∙ put_alone x k d T none j))))))
 
 -- ---- the work
-
-nobody_is : (x : XidName) (T : Tables) → is_somebody_associated T.associations x ≡ false → (u : ℕ) → is_associated T u x ≡ false
-nobody_is x T nobody u =
-    elim (association_of T u) as (λ o. association_of T u ≡ o → is_association_with o x ≡ false) [ None ↦ λ e. refl | Some l ↦ λ e. apart_from x T.associations nobody u l e ] refl
-
-pub opening_free : (x : XidName) (T : Tables) → IsOpening T → is_somebody_associated T.associations x ≡ false
-opening_free x T o =
-    ap (λ m. is_somebody_associated m x) o.associations
-    ∙ none_pass nat_cmp_total nat_cmp-IsAntisymmetric (λ u l. xid_eq l.xid x) map.empty (λ u l found. let z : None ≡ Some l = sym (get-empty nat_cmp u) ∙ found in cc)
 
 absent_unprepared : (o : Option State) → is_some o ≡ false → is_S3 o ≡ false
 absent_unprepared None e = refl

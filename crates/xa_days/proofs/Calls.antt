@@ -1,55 +1,34 @@
 -- What a commit and a resolve sent, as the histories have it.
-use Rattle.xa_atomicity.proofs.Settled.{sent_between}
+use Rattle.xa_atomicity.proofs.Settled.{sent_between, sent_on, sent_stands, site_of}
 use Rattle.xa_atomicity.proofs.CutVotes.{CameAt, each_came, at_asking, at_forgetting, at_telling, HasVoted}
 use Rattle.xa_atomicity.proofs.Requests.{none_all}
 use Rattle.xa_atomicity.proofs.Values.{taken}
-use Rattle.xa_atomicity.proofs.Settled.{sent_on, sent_stands, site_of}
 use Rattle.xa_atomicity.proofs.Sites.{Site}
 use Rattle.xa_atomicity.specs.Tabled.{Tabled}
-use Rattle.std.proofs.lemmas.Bool.{both_ways, false_from_ne_true}
-use Rattle.std.specs.Prelude.{not}
-use Rattle.std.proofs.Common.{◌≡◌, ℕ, ◌≤◌, Bool, true, false, Some, List, [], ◌∷◌, length, get_or, slice_get, sym, refl, ap, ◌∙◌, subst, arith}
-use Rattle.std.proofs.Common.{◌&&◌}
-use Rattle.std.specs.List.{All, Contains}
-use Rattle.std.proofs.lemmas.List.Elements.{All-nil, All-cons, All-contains}
-use Rattle.xa_base.specs.declared.limits.TheConstants.{MOST_MANAGERS}
-use Rattle.xa_base.specs.Lists.{IsUpTo}
-use Rattle.xa_base.proofs.Lists.{all_after}
-use Rattle.xa_words.specs.Xid.{XidName}
-use Rattle.xa_words.specs.Orders.{Decides-xid_eq}
-use Rattle.xa_words.specs.Tran.{TranName, tran_of}
+use Rattle.std.proofs.lemmas.Bool.{both_ways}
+use Rattle.xa_base.proofs.{false_from_ne_true, not, ◌≡◌, ℕ, ◌≤◌, Bool, true, false, Some, List, [], ◌∷◌, length, get_or, slice_get, sym, refl, ap, ◌∙◌, subst}
+use Rattle.xa_base.proofs.{arith, ◌&&◌, All, Contains, All-nil, All-cons, All-contains, all_after}
+use Rattle.xa_base.specs.{MOST_MANAGERS, IsUpTo}
+use Rattle.xa_words.specs.{XidName, Decides-xid_eq, TranName, tran_of, Done, Op, Prepare, Commit, Rollback, Forget, Request}
 use Rattle.xa_words.specs.declared.code.Code.{Code}
-use Rattle.xa_words.specs.declared.code.Code.TheVariants.{Done}
-use Rattle.xa_words.specs.declared.request.Op.{Op}
-use Rattle.xa_words.specs.declared.request.Op.TheVariants.{Prepare, Commit, Rollback, Forget}
-use Rattle.xa_words.specs.declared.request.Request.{Request}
 use Rattle.xa_tables.specs.Tables.{Tables}
 use Rattle.xa_tables.specs.History.{History}
-use Rattle.xa_tables.specs.Prepared.{names, is_heur}
+use Rattle.xa_tables.specs.{names, is_heur}
 use Rattle.xa_desk.specs.LedgerView.{LedgerView}
-use Rattle.xa_desk.specs.DeskView.{ledger}
-use Rattle.xa_desk.specs.Growth.{HasGrown}
-use Rattle.xa_switch.specs.Fates.{IsOpenedWith, first_of, history as history_of, ledgers_of}
-use Rattle.xa_switch.specs.Settling.{Settling, IsSettled}
+use Rattle.xa_desk.specs.{ledger, HasGrown}
+use Rattle.xa_switch.specs.{IsOpenedWith, first_of, history as history_of, ledgers_of, IsSettled}
+use Rattle.xa_switch.specs.Settling.{Settling}
 use Rattle.xa_switch.proofs.Journaled.{follows_first}
-use Rattle.xa_log.specs.Log.{LogState}
-use Rattle.xa_driver.specs.declared.branch.Branch.{Branch}
-use Rattle.xa_driver.specs.declared.done.Ending.{Ending}
-use Rattle.xa_driver.specs.Commits.{is_commit}
-use Rattle.xa_driver.specs.Resolving.{outcome_op, is_to_commit}
-use Rattle.xa_driver.specs.Trace.{AreBranchesRising, decision_of, IsTranOf}
-use Rattle.xa_atomicity.specs.Cut.{IsCut, HasSentNone, is_commit_of, is_recorded}
-use Rattle.xa_atomicity.specs.Outcomes.{OnlyTheseOrDecisionsName}
-use Rattle.xa_atomicity.specs.Presumed.{AskedAreLeft, VotedToCommit, WasAsked}
-use Rattle.xa_atomicity.specs.Resolution.{CutCall, IsKept, IsUseIn, OnlyResolves, Opening, cuts}
+use Rattle.xa_log.specs.{LogState}
+use Rattle.xa_driver.specs.{Branch, Ending, is_commit, outcome_op, is_to_commit, AreBranchesRising, decision_of, IsTranOf}
+use Rattle.xa_atomicity.specs.{IsCut, HasSentNone, is_commit_of, is_recorded, OnlyTheseOrDecisionsName, AskedAreLeft, VotedToCommit, WasAsked, CutCall, IsKept}
+use Rattle.xa_atomicity.specs.{IsUseIn, OnlyResolves, Opening, cuts}
 use Rattle.xa_atomicity.proofs.CutBranch.{HasSentOnly, asked_only, ended_voted_so, guide, open_so, told_voted_so, voted_only}
 use Rattle.xa_atomicity.proofs.CutSends.{unrecorded_law}
 use Rattle.xa_atomicity.proofs.Leading.{IsTowards, Leads}
 use Rattle.xa_atomicity.proofs.Naming.{named_so, named_tran}
 use Rattle.xa_atomicity.proofs.Placing.{request_of}
-use Rattle.xa_days.specs.Openings.{CommitsNowhere}
-use Rattle.xa_days.specs.Course.{OnlyTold, tells_outcome}
-use Rattle.xa_days.specs.Calls.{CommitsInCall, DecidesNowhere, IsMarkedNowhere, VotedInCall, taken_till_asked}
+use Rattle.xa_days.specs.{CommitsNowhere, OnlyTold, tells_outcome, CommitsInCall, DecidesNowhere, IsMarkedNowhere, VotedInCall, taken_till_asked}
 
 -- ---- resolves
 

@@ -1,31 +1,19 @@
 -- The laws of one branch: one that nothing commits moves nothing, and one that votes to commit moves what it held where it is committed.
-use Rattle.std.proofs.lemmas.List.Elements.{All-cons, All-head, All-tail}
+use Rattle.xa_base.proofs.{All-cons, All-head, All-tail, ◌≡◌, ◌≢◌, ℕ, ℤ, pos, ◌+ℤ◌, Bool, true, false, cond, not, ◌||◌, if◌then◌else◌, Option, None, Some}
+use Rattle.xa_base.proofs.{is_some, List, [], ◌∷◌, ◌++◌, unwrap_or, refl, All, cons_option, sym, ap, ◌∙◌, subst, arith, +ℤ_idl as none_plus}
+use Rattle.xa_base.proofs.{+ℤ_idr as plus_none, total_same, by_if, at_true, at_false}
 use Rattle.xa_atomicity.proofs.Placing.{fates_both, last_both}
 use Rattle.xa_atomicity.proofs.Moves.{moved_both, moved_without, unmoving}
-use Rattle.std.specs.Prelude.{◌≡◌, ◌≢◌, ℕ, ℤ, pos, ◌+ℤ◌, Bool, true, false, cond, not, ◌||◌, if◌then◌else◌, Option, None, Some, is_some, List, [], ◌∷◌, ◌++◌}
-use Rattle.std.specs.Prelude.{unwrap_or, refl}
-use Rattle.std.specs.List.{All, cons_option}
 use Rattle.std.specs.FinMap as finmap
-use Rattle.std.proofs.Common.{sym, ap, ◌∙◌, subst, arith}
-use Rattle.std.proofs.Math.IntN.{+ℤ_idl as none_plus, +ℤ_idr as plus_none}
-use Rattle.xa_base.proofs.Sums.{total_same}
-use Rattle.xa_base.proofs.Truth.{by_if, at_true, at_false}
-use Rattle.xa_words.specs.Xid.{XidName, xid_eq}
-use Rattle.xa_words.specs.Orders.{Decides-xid_eq}
+use Rattle.xa_words.specs.{XidName, xid_eq, Decides-xid_eq, Done, Nota, Proto, RmFail, Op, Prepare, Commit, Rollback, Forget, Request}
 use Rattle.xa_words.specs.declared.code.Code.{Code}
-use Rattle.xa_words.specs.declared.code.Code.TheVariants.{Done, Nota, Proto, RmFail}
-use Rattle.xa_words.specs.declared.request.Op.{Op}
-use Rattle.xa_words.specs.declared.request.Op.TheVariants.{Prepare, Commit, Rollback, Forget}
-use Rattle.xa_words.specs.declared.request.Request.{Request}
 use Rattle.xa_tables.specs.declared.state.State.TheVariants.{Prepared as S3}
-use Rattle.xa_tables.specs.Tables.{Tables, state_of, sum_of, exists, has_opened, is_S3, is_S5, is_left_in, is_somebody_associated}
-use Rattle.xa_tables.specs.Next.{Answer, next}
-use Rattle.xa_tables.specs.History.{History, Fate, Live, InDoubt, Committed, RolledBack, fate, fate_in, fates_in, fate_of, coded, ending_by, is_done}
-use Rattle.xa_tables.specs.History.{is_integrity, is_rolled_back, is_in_doubt, is_live, last_or, tables_after}
-use Rattle.xa_tables.specs.Openings.{IsOpening, reopened, reopened_fate, fate_left}
-use Rattle.xa_tables.specs.declared.state.HeuristicDecision.{HeuristicDecision}
-use Rattle.xa_tables.specs.Prepared.{names, IsPrepared, state_when, fates_when}
-use Rattle.xa_tables.specs.Worth.{held_by, moved, moved_by}
+use Rattle.xa_tables.specs.Tables.{Tables}
+use Rattle.xa_tables.specs.{state_of, sum_of, exists, has_opened, is_S3, is_S5, is_left_in, is_somebody_associated, Answer, next, Fate, Live, InDoubt}
+use Rattle.xa_tables.specs.{Committed, RolledBack, fate, fate_in, fates_in, fate_of, coded, ending_by, is_done, is_integrity, is_rolled_back, is_in_doubt}
+use Rattle.xa_tables.specs.{is_live, last_or, tables_after, IsOpening, reopened, reopened_fate, fate_left, HeuristicDecision, names, IsPrepared, state_when}
+use Rattle.xa_tables.specs.{fates_when, held_by, moved, moved_by}
+use Rattle.xa_tables.specs.History.{History}
 use Rattle.xa_tables.proofs.Effects.{Effect, Stays, Commits, Drops, Forgets, effect_of, named_none}
 use Rattle.xa_tables.proofs.Law.{Nowhere, AtWork, standing, voted_rests, nobody_rests, get_gone, sound_after, run_sound, opening_sound}
 use Rattle.xa_tables.proofs.Unnamed.{unnamed_stays, unnamed_fate, tables_after-append}
@@ -33,9 +21,9 @@ use Rattle.xa_tables.proofs.Reopening.{reopens, state_reopened, sums_reopened}
 use Rattle.xa_tables.proofs.FateLaw.{late_leave_fates}
 use Rattle.xa_tables.proofs.PreparedLaw.{outcome_law}
 use Rattle.xa_tables.proofs.WorthLaw.{kept_law}
-use Rattle.xa_driver.specs.Commits.{is_commit}
-use Rattle.xa_days.specs.Openings.{moved_over, is_for, CommitsNowhere}
-use Rattle.xa_days.specs.Course.{tells_outcome, OnlyTold, is_committed, is_outcome, is_undecided, Votes, voted_sum, MovesWhereCommitted}
+use Rattle.xa_driver.specs.{is_commit}
+use Rattle.xa_days.specs.{moved_over, is_for, CommitsNowhere, tells_outcome, OnlyTold, is_committed, is_outcome, is_undecided, Votes, voted_sum}
+use Rattle.xa_days.specs.{MovesWhereCommitted}
 
 abbrev pub Accounts : Type 0
 Accounts = List (List ℕ × ℕ)

@@ -1,31 +1,20 @@
 -- The laws of a day: the branches' shares of what is moved, and what accounts are worth after it.
 use Rattle.xa_atomicity.proofs.Moves.{unmoving}
-use Rattle.std.specs.Prelude.{◌≡◌, ℤ, pos, ◌+ℤ◌, true, false, ◌||◌, if◌then◌else◌, List, [], ◌∷◌, map, refl}
-use Rattle.std.specs.List.{All, AllByRecursion, IsDistinct, list_any}
-use Rattle.std.proofs.Common.{sym, ap, ◌∙◌, arith, get_or}
-use Rattle.std.proofs.lemmas.Int.{ints}
-use Rattle.std.proofs.lemmas.List.Elements.{All-head, All-tail}
+use Rattle.xa_base.proofs.{◌≡◌, ℤ, pos, ◌+ℤ◌, true, false, ◌||◌, if◌then◌else◌, List, [], ◌∷◌, map, refl, All, IsDistinct, list_any, sym, ap, ◌∙◌, arith}
+use Rattle.xa_base.proofs.{get_or, ints, All-head, All-tail, +ℤ_idl as none_plus, +ℤ_idr as plus_none, total_same, total_alike, total_both, total_nothing}
+use Rattle.xa_base.proofs.{by_if, at_true}
+use Rattle.std.specs.List.{AllByRecursion}
 use Rattle.std.proofs.lemmas.Map.Keys.{IsDistinct-head, IsDistinct-tail}
-use Rattle.std.proofs.Math.IntN.{+ℤ_idl as none_plus, +ℤ_idr as plus_none}
-use Rattle.xa_base.specs.Sums.{total}
-use Rattle.xa_base.proofs.Sums.{total_same, total_alike, total_both, total_nothing}
-use Rattle.xa_base.proofs.Truth.{by_if, at_true}
-use Rattle.xa_words.specs.Xid.{XidName, xid_eq}
-use Rattle.xa_words.specs.Orders.{Decides-xid_eq}
+use Rattle.xa_base.specs.{total}
+use Rattle.xa_words.specs.{XidName, xid_eq, Decides-xid_eq, Op, Commit, Heur, Request}
 use Rattle.xa_words.specs.declared.code.Code.{Code}
-use Rattle.xa_words.specs.declared.request.Op.{Op}
-use Rattle.xa_words.specs.declared.request.Op.TheVariants.{Commit, Heur}
-use Rattle.xa_words.specs.declared.request.Request.{Request}
 use Rattle.xa_tables.specs.Tables.{Tables}
-use Rattle.xa_tables.specs.Next.{next}
-use Rattle.xa_tables.specs.History.{History, Absent, tables_after}
-use Rattle.xa_tables.specs.Openings.{IsOpening, reopened, left_by}
-use Rattle.xa_tables.specs.Prepared.{names}
-use Rattle.xa_tables.specs.Worth.{worth, moved, moved_by, is_any, DeclareEach}
+use Rattle.xa_tables.specs.{next, Absent, tables_after, IsOpening, reopened, left_by, names, worth, moved, moved_by, is_any, DeclareEach}
+use Rattle.xa_tables.specs.History.{History}
 use Rattle.xa_tables.proofs.WorthLaw.{worth_from, declared_on}
-use Rattle.xa_driver.specs.Commits.{is_commit}
-use Rattle.xa_days.specs.Openings.{moved_over, is_for, CommitsAmong}
-use Rattle.xa_days.specs.Days.{WorthIsOfBranches, WorthIsRecorded, IsDay, Leg, counted, ComesOut, voted, unasked}
+use Rattle.xa_driver.specs.{is_commit}
+use Rattle.xa_days.specs.{moved_over, is_for, CommitsAmong, WorthIsOfBranches, WorthIsRecorded, IsDay, Leg, counted, ComesOut}
+use Rattle.xa_days.specs.Days.{voted, unasked}
 use Rattle.xa_days.proofs.Course.{Accounts, moved_for, still_over, voted_law}
 
 -- ---- the shares of branches

@@ -1,35 +1,26 @@
 -- The laws of a day over settled openings: their histories lead to their tables, and to what became of each branch.
-use Rattle.std.proofs.Math.IntN.{+ℤ_idr as plus_none}
-use Rattle.std.specs.Prelude.{◌≡◌, ℕ, ℤ, pos, ◌+ℤ◌, Bool, true, false, if◌then◌else◌, None, Some, List, [], ◌∷◌, refl, cond, is_some, map}
-use Rattle.std.specs.FinMap.{find, get-from_entries}
-use Rattle.xa_base.specs.Sums.{total}
-use Rattle.xa_base.proofs.Sums.{total_across, total_alike, total_both, total_nothing}
-use Rattle.xa_words.specs.Orders.{key_cmp, key_cmp_total}
-use Rattle.xa_tables.specs.Accounts.{are_accounts}
-use Rattle.xa_tables.specs.Managers.{opening}
+use Rattle.xa_base.proofs.{+ℤ_idr as plus_none, ◌≡◌, ℕ, ℤ, pos, ◌+ℤ◌, Bool, true, false, if◌then◌else◌, None, Some, List, [], ◌∷◌, refl, cond, is_some, map}
+use Rattle.xa_base.proofs.{find, get-from_entries, total_across, total_alike, total_both, total_nothing, All, sym, ap, ◌∙◌, subst, arith, get_or, inl, inr}
+use Rattle.xa_base.proofs.{zero, suc, All-head, All-tail}
+use Rattle.xa_base.specs.{total}
+use Rattle.xa_words.specs.Orders.{key_cmp}
+use Rattle.xa_words.specs.{key_cmp_total, XidName}
+use Rattle.xa_tables.specs.{are_accounts, opening, HeuristicDecision, state_of, Fate, Absent, Live, IsFateOf, is_in_doubt, decided_fate, tables_after, reopened}
+use Rattle.xa_tables.specs.{reopened_fate, fate_left, left_by, told_by, worth, DeclareEach, worth_declared}
 use Rattle.xa_tables.proofs.AccountLemmas.{key_self, same_key}
 use Rattle.xa_tables.proofs.WorthLaw.{worth_law}
-use Rattle.std.specs.List.{All}
-use Rattle.std.proofs.Common.{sym, ap, ◌∙◌, subst, arith, get_or, inl, inr, zero, suc}
-use Rattle.std.proofs.lemmas.List.Elements.{All-head, All-tail}
-use Rattle.xa_words.specs.Xid.{XidName}
-use Rattle.xa_tables.specs.declared.state.HeuristicDecision.{HeuristicDecision}
 use Rattle.xa_tables.specs.declared.state.HeuristicDecision.TheVariants as decision
-use Rattle.xa_tables.specs.Tables.{Tables, state_of}
-use Rattle.xa_tables.specs.History.{Fate, Absent, Live, IsFateOf, is_in_doubt, decided_fate, tables_after}
-use Rattle.xa_tables.specs.Openings.{reopened, reopened_fate, fate_left, left_by, told_by}
-use Rattle.xa_tables.specs.Worth.{worth, DeclareEach, worth_declared}
+use Rattle.xa_tables.specs.Tables.{Tables}
 use Rattle.xa_tables.proofs.FatesLaw.{begin_law}
-use Rattle.xa_switch.specs.Settling.{IsSettled}
-use Rattle.xa_switch.specs.Fates.{IsOpenedWith, first_of, history, settled_fate}
+use Rattle.xa_switch.specs.{IsSettled, IsOpenedWith, first_of, history, settled_fate}
 use Rattle.xa_switch.proofs.Journaled.{follows_first}
-use Rattle.xa_driver.specs.declared.done.Ending.{Ending}
-use Rattle.xa_atomicity.specs.Resolution.{CutCall, Opening, AreInARow, EndsAs, became, ended_as, fate_through, last_of, tables_left}
-use Rattle.xa_atomicity.specs.Worth.{histories}
+use Rattle.xa_driver.specs.{Ending}
+use Rattle.xa_atomicity.specs.{CutCall, Opening, AreInARow, EndsAs, became, ended_as, fate_through, last_of, tables_left, histories}
 use Rattle.xa_atomicity.proofs.Later.{ends_with}
-use Rattle.xa_days.specs.Course.{Votes, OnlyTold, is_committed, is_undecided}
-use Rattle.xa_days.specs.Days.{Leg, counted, ComesOut, voted as voted_leg, unasked as unasked_leg}
-use Rattle.xa_days.specs.Settled.{branch_at, ComesOutByTheLog, IsSettledDay, SettledWorthIsRecorded, voted, unasked}
+use Rattle.xa_days.specs.{Votes, OnlyTold, is_committed, is_undecided, Leg, counted, ComesOut, branch_at, ComesOutByTheLog, IsSettledDay}
+use Rattle.xa_days.specs.{SettledWorthIsRecorded}
+use Rattle.xa_days.specs.Days.{voted as voted_leg, unasked as unasked_leg}
+use Rattle.xa_days.specs.Settled.{voted, unasked}
 use Rattle.xa_days.proofs.Course.{ended_law, undecided_law}
 use Rattle.xa_days.proofs.Days.{day_law}
 

@@ -1,38 +1,26 @@
 -- The branches of a commit come out by the log.
-use Rattle.std.proofs.lemmas.List.Elements.{All-cons, All-contains, All-head, All-tail}
+use Rattle.xa_base.proofs.{All-cons, All-contains, All-head, All-tail, if◌then◌else◌, ◌≡◌, ℕ, pos, zero, suc, ◌≤◌, true, false, Some, List, [], ◌∷◌, ◌++◌}
+use Rattle.xa_base.proofs.{length, get_or, slice_get, sym, refl, ap, ◌∙◌, subst, arith, All, Contains, same_Some as some_same}
 use Rattle.xa_atomicity.proofs.Values.{taken}
 use Rattle.xa_atomicity.proofs.Settled.{sent_stands, site_of}
 use Rattle.xa_atomicity.specs.Tabled.{Tabled}
-use Rattle.std.specs.Prelude.{if◌then◌else◌}
-use Rattle.std.proofs.Common.{◌≡◌, ℕ, pos, zero, suc, ◌≤◌, true, false, Some, List, [], ◌∷◌, ◌++◌, length, get_or, slice_get, sym, refl, ap, ◌∙◌, subst, arith}
-use Rattle.std.specs.List.{All, Contains}
-use Rattle.std.proofs.lemmas.Option.{same_Some as some_same}
-use Rattle.xa_base.specs.declared.limits.TheConstants.{MOST_MANAGERS}
-use Rattle.xa_base.specs.Lists.{IsUpTo}
-use Rattle.xa_words.specs.Tran.{TranName, tran_of}
-use Rattle.xa_words.specs.declared.code.Code.TheVariants.{RdOnly}
-use Rattle.xa_words.specs.declared.request.Op.TheVariants.{Prepare}
+use Rattle.xa_base.specs.{MOST_MANAGERS, IsUpTo}
+use Rattle.xa_words.specs.{TranName, tran_of, RdOnly, Prepare}
 use Rattle.xa_tables.specs.Tables.{Tables}
-use Rattle.xa_tables.specs.History.{History, tables_after}
-use Rattle.xa_tables.specs.Worth.{held_by}
+use Rattle.xa_tables.specs.History.{History}
+use Rattle.xa_tables.specs.{tables_after, held_by}
 use Rattle.xa_tables.proofs.WorthLaw.{read_law}
-use Rattle.xa_desk.specs.DeskView.{ledger}
-use Rattle.xa_switch.specs.Fates.{IsOpenedWith, first_of, history as history_of}
-use Rattle.xa_switch.specs.Settling.{Settling, IsSettled}
+use Rattle.xa_desk.specs.{ledger}
+use Rattle.xa_switch.specs.{IsOpenedWith, first_of, history as history_of, IsSettled}
+use Rattle.xa_switch.specs.Settling.{Settling}
 use Rattle.xa_switch.proofs.Journaled.{follows_first}
-use Rattle.xa_driver.specs.declared.branch.Branch.{Branch}
-use Rattle.xa_driver.specs.Trace.{IsTranOf}
-use Rattle.xa_atomicity.specs.Cut.{is_recorded}
-use Rattle.xa_atomicity.specs.Presumed.{EndsByTheLog, IsResolvedAfter, VotedToCommit, known_of}
-use Rattle.xa_atomicity.specs.Resolution.{CutCall, EndsAs, IsKept, IsUseIn, OnlyResolves, Opening, ResolveCall, cuts}
-use Rattle.xa_atomicity.specs.Worth.{histories}
+use Rattle.xa_driver.specs.{Branch, IsTranOf}
+use Rattle.xa_atomicity.specs.{is_recorded, EndsByTheLog, IsResolvedAfter, VotedToCommit, known_of, CutCall, EndsAs, IsKept, IsUseIn, OnlyResolves, Opening}
+use Rattle.xa_atomicity.specs.{ResolveCall, cuts, histories}
 use Rattle.xa_atomicity.proofs.Presumed.{use_there}
-use Rattle.xa_days.specs.Calls.{IsMarkedNowhere, VotedInCall}
-use Rattle.xa_days.specs.Course.{OnlyTold}
-use Rattle.xa_days.specs.Legs.{IsItsOwn, asked_sum, leg_of}
-use Rattle.xa_days.specs.Openings.{CommitsNowhere}
-use Rattle.xa_days.specs.Recorded.{AgreedOrRead, OnlyRead, agreed, read}
-use Rattle.xa_days.specs.Settled.{ComesOutByTheLog, voted, unasked}
+use Rattle.xa_days.specs.{IsMarkedNowhere, VotedInCall, OnlyTold, IsItsOwn, asked_sum, leg_of, CommitsNowhere, AgreedOrRead, OnlyRead, agreed, read}
+use Rattle.xa_days.specs.{ComesOutByTheLog}
+use Rattle.xa_days.specs.Settled.{voted, unasked}
 use Rattle.xa_days.proofs.Calls.{positive_each, resolves_commit_nothing, resolves_tell, unrecorded_nowhere, unsent_law, voted_in_call}
 use Rattle.xa_days.proofs.Recorded.{recorded_law}
 

@@ -1,38 +1,25 @@
 -- Where the log has a transaction's record, all of its branches were asked, and none voted against.
-use Rattle.std.proofs.lemmas.Bool.{and_right, both_ways, false_from_ne_true, and_parts, not-true}
-use Rattle.std.proofs.lemmas.List.Elements.{All-contains, All-cons}
+use Rattle.std.proofs.lemmas.Bool.{and_right, both_ways}
+use Rattle.xa_base.proofs.{false_from_ne_true, and_parts, not-true, All-contains, All-cons, if◌then◌else◌, ◌&&◌, is_some, ◌≡◌, suc, ◌≤◌, Bool, true, false}
+use Rattle.xa_base.proofs.{◌||◌, Option, List, [], ◌∷◌, length, get_or, sym, refl, ap, ◌∙◌, subst, arith, All, Contains, list_any}
 use Rattle.xa_atomicity.proofs.Asked.{third_so}
 use Rattle.xa_atomicity.proofs.Requests.{none_all}
 use Rattle.xa_atomicity.proofs.CutVotes.{CameAt, IsVoteOf, each_came, at_asking, at_forgetting, at_telling, prepare_there, vote_there, HasVoted, ended_voted}
 use Rattle.xa_atomicity.proofs.CutVotes.{prepare_sent, told_voted}
-use Rattle.xa_driver.specs.Decision.{yes_of, decides_commit, is_no, is_yes}
+use Rattle.xa_driver.specs.{yes_of, decides_commit, is_no, is_yes, Branch, is_commit, second_op, third_op, IsTranOf, Logs, decision_of}
 use Rattle.xa_atomicity.proofs.CutSends.{decided_so}
-use Rattle.std.specs.Prelude.{if◌then◌else◌, ◌&&◌, is_some}
-use Rattle.std.proofs.Common.{◌≡◌, suc, ◌≤◌, Bool, true, false, ◌||◌, Option, List, [], ◌∷◌, length, get_or, sym, refl, ap, ◌∙◌, subst, arith}
-use Rattle.std.specs.List.{All, Contains, list_any}
-use Rattle.xa_words.specs.Xid.{XidName}
-use Rattle.xa_words.specs.Tran.{TranName}
+use Rattle.xa_words.specs.{XidName, TranName, Done, RdOnly, Op, Forget, Prepare}
 use Rattle.xa_words.specs.declared.code.Code.{Code}
-use Rattle.xa_words.specs.declared.code.Code.TheVariants.{Done, RdOnly}
-use Rattle.xa_words.specs.declared.request.Op.{Op}
-use Rattle.xa_words.specs.declared.request.Op.TheVariants.{Forget, Prepare}
-use Rattle.xa_desk.specs.LedgerView.{LedgerView, learnt_shut}
-use Rattle.xa_desk.specs.DeskView.{ledger}
-use Rattle.xa_desk.specs.Growth.{HasGrown}
-use Rattle.xa_switch.specs.Fates.{ledgers_of}
+use Rattle.xa_desk.specs.LedgerView.{LedgerView}
+use Rattle.xa_desk.specs.{learnt_shut, ledger, HasGrown}
+use Rattle.xa_switch.specs.{ledgers_of}
 use Rattle.xa_switch.specs.Settling.{Settling}
-use Rattle.xa_log.specs.Log.{LogState, record_of}
-use Rattle.xa_driver.specs.declared.branch.Branch.{Branch}
-use Rattle.xa_driver.specs.Commits.{is_commit}
-use Rattle.xa_driver.specs.Endings.{second_op, third_op}
-use Rattle.xa_tables.specs.Prepared.{names}
-use Rattle.xa_driver.specs.Trace.{IsTranOf, Logs, decision_of}
+use Rattle.xa_log.specs.{LogState, record_of}
+use Rattle.xa_tables.specs.{names}
 use Rattle.xa_driver.proofs.Calls.{one_tran}
 use Rattle.xa_driver.proofs.Mapped.{Any, IsAskedFor, any_asked}
-use Rattle.xa_atomicity.specs.Cut.{HasSentNone, IsCut, is_commit_of, is_recorded}
-use Rattle.xa_atomicity.specs.Presumed.{WasAsked}
-use Rattle.xa_atomicity.specs.Resolution.{CutCall, IsUseIn, cuts}
-use Rattle.xa_days.specs.Recorded.{AgreedOrRead, agreed, read}
+use Rattle.xa_atomicity.specs.{HasSentNone, IsCut, is_commit_of, is_recorded, WasAsked, CutCall, IsUseIn, cuts}
+use Rattle.xa_days.specs.{AgreedOrRead, agreed, read}
 use Rattle.xa_days.proofs.Calls.{positive_each}
 
 -- it is one of two

@@ -1,17 +1,12 @@
 -- The index of the slots, made anew as forgotten ones are shut.
-use Rattle.std.proofs.Common.{◌≡◌, ℕ, ◌+◌, ◌<◌, ◌≤◌, cond, Option, None, Result, Ok, List, [], ◌∷◌, length, get_or, set, take, refl, sym, ◌∙◌, ap, subst, arith}
-use Rattle.std.specs.Prelude.{is_some, IfOk}
-use Rattle.std.proofs.lemmas.List.{length-set, length-take-le}
+use Rattle.xa_base.proofs.{◌≡◌, ℕ, ◌+◌, ◌<◌, ◌≤◌, cond, Option, None, Result, Ok, List, [], ◌∷◌, length, get_or, set, take, refl, sym, ◌∙◌, ap, subst, arith}
+use Rattle.xa_base.proofs.{is_some, IfOk, length-set, FinMap, find, get-from_entries}
+use Rattle.std.proofs.lemmas.List.{length-take-le}
 use Rattle.std.specs.FinMap as finmap
-use Rattle.std.specs.FinMap.{FinMap, find, get-from_entries}
-use Rattle.xa_words.specs.Tran.{TranName}
-use Rattle.xa_log.specs.declared.log.CommitRecord.{CommitRecord}
-use Rattle.xa_log.specs.Transactions.{tran_cmp}
+use Rattle.xa_words.specs.{TranName}
+use Rattle.xa_log.specs.{CommitRecord, tran_cmp}
 use Rattle.xa_log.proofs.Transactions.{tran_cmp_total}
-use Rattle.xa_file_log.specs.declared.slot.Slot.{Slot}
-use Rattle.xa_file_log.specs.declared.slot.Slot.TheVariants.{Free, Taken, Forgotten}
-use Rattle.xa_file_log.specs.Slots.{name_of}
-use Rattle.xa_file_log.specs.Memory.{on_file, taken, shut, used, IsIndexOf}
+use Rattle.xa_file_log.specs.{Slot, Free, Taken, Forgotten, name_of, on_file, taken, shut, used, IsIndexOf}
 use Rattle.xa_file_log.proofs.Index.{IsIndexBelow, index_skip, index_next, not_yet, used_next, used_most}
 use Rattle.xa_file_log.proofs.Mapped.{MapsBelow, none_mapped, one_mapped, unchanged}
 

@@ -1,14 +1,8 @@
 -- What an append leaves, first of the gates that are shut, then of the record.
-use Rattle.std.proofs.Common.{◌≡◌, ◌⊎◌, inl, inr, ⊎_elim, ℕ, ◌<◌, None, List, length, get_or, map, set, ◌∙◌, ap, subst}
+use Rattle.xa_base.proofs.{◌≡◌, ◌⊎◌, inl, inr, ⊎_elim, ℕ, ◌<◌, None, List, length, get_or, map, set, ◌∙◌, ap, subst}
 use Rattle.std.specs.FinMap as finmap
-use Rattle.xa_log.specs.declared.log.CommitRecord.{CommitRecord}
-use Rattle.xa_log.specs.Log.{Records, record_in}
-use Rattle.xa_file_log.specs.declared.slot.Slot.{Slot}
-use Rattle.xa_file_log.specs.declared.slot.Slot.TheVariants.{Free, Taken}
-use Rattle.xa_file_log.specs.Appends.{HasWithOrWithout, ForgetsNoMore}
-use Rattle.xa_file_log.specs.Device.{LeavesOnly}
-use Rattle.xa_file_log.specs.Slots.{records_of}
-use Rattle.xa_file_log.specs.Memory.{MayShow, table_of, records_in, forgotten_in, shut}
+use Rattle.xa_log.specs.{CommitRecord, Records, record_in}
+use Rattle.xa_file_log.specs.{Slot, Free, Taken, HasWithOrWithout, ForgetsNoMore, LeavesOnly, records_of, MayShow, table_of, records_in, forgotten_in, shut}
 use Rattle.xa_file_log.proofs.Moments.{weaker, joined}
 use Rattle.xa_file_log.proofs.Shown.{shows_records, stands_shown, perhaps_fewer}
 use Rattle.xa_file_log.proofs.Slotwise.{shut_counts, none_forgotten_shut, takes_record, takes_no_forgotten}

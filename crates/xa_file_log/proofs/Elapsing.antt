@@ -1,12 +1,9 @@
 -- One call more.
-use Rattle.std.proofs.Common.{◌≡◌, ◌⊎◌, inl, inr, ℕ, ◌+◌, ◌<◌, ◌≤◌, Bool, true, false, cond, List, [], ◌∷◌, ◌++◌, length, take, Vec, refl, sym, ◌∙◌, ap}
-use Rattle.std.proofs.Common.{subst, arith, length-append}
+use Rattle.xa_base.proofs.{◌≡◌, ◌⊎◌, inl, inr, ℕ, ◌+◌, ◌<◌, ◌≤◌, Bool, true, false, cond, List, [], ◌∷◌, ◌++◌, length, take, Vec, refl, sym, ◌∙◌, ap, subst}
+use Rattle.xa_base.proofs.{arith, length-append, take_all, cases_lt}
 use Rattle.std.specs.declared.alloc.Global.{Global}
-use Rattle.std.proofs.lemmas.List.{take-append-le, take_all}
-use Rattle.std.proofs.lemmas.Bool.{cases_lt}
-use Rattle.xa_file_log.specs.Device.{Elapses, Follows, Torn}
-use Rattle.xa_file_log.specs.History.{Past, left_after, left_by, leaves, writing, LeftSince, failed, failures}
-use Rattle.xa_file_log.specs.declared.mirrored.Call.{Call}
+use Rattle.std.proofs.lemmas.List.{take-append-le}
+use Rattle.xa_file_log.specs.{Elapses, Follows, Torn, Past, left_after, left_by, leaves, writing, LeftSince, failed, failures, Call}
 
 left_by_push : (before : List ℕ → Type 0) (past : Past) (call : Call) (bytes : Vec ℕ Global) (c : List ℕ) → left_by before (past ++ (call, bytes) ∷ []) c
     → left_after call bytes.items (left_by before past) c

@@ -1,15 +1,10 @@
 -- What a table has of a transaction, by the slot where it is.
-use Rattle.std.proofs.Common.{◌≡◌, ℕ, zero, suc, Bool, true, false, cond, Option, None, Some, List, [], ◌∷◌, get_or, map, refl, sym, ◌∙◌, ap, subst, arith}
-use Rattle.std.specs.Ordering.{eq_by_cmp}
-use Rattle.std.specs.FinMap.{find}
-use Rattle.xa_words.specs.Tran.{TranName}
-use Rattle.xa_log.specs.declared.log.CommitRecord.{CommitRecord}
-use Rattle.xa_log.specs.Transactions.{tran_cmp}
+use Rattle.xa_base.proofs.{◌≡◌, ℕ, zero, suc, Bool, true, false, cond, Option, None, Some, List, [], ◌∷◌, get_or, map, refl, sym, ◌∙◌, ap, subst, arith}
+use Rattle.xa_base.proofs.{eq_by_cmp, find}
+use Rattle.xa_words.specs.{TranName}
+use Rattle.xa_log.specs.{CommitRecord, tran_cmp}
 use Rattle.xa_log.proofs.Transactions.{decides_by_cmp}
-use Rattle.xa_file_log.specs.declared.slot.Slot.{Slot}
-use Rattle.xa_file_log.specs.declared.slot.Slot.TheVariants.{Free, Taken, Forgotten}
-use Rattle.xa_file_log.specs.Slots.{Table, name_of, AreApart, entries}
-use Rattle.xa_file_log.specs.Memory.{on_file, taken, forgotten, table_of}
+use Rattle.xa_file_log.specs.{Slot, Free, Taken, Forgotten, Table, name_of, AreApart, entries, on_file, taken, forgotten, table_of}
 
 -- the table has these votes of the transaction
 pub record IsAt (table : Table) (q : TranName) (v : List Bool) : Type 0 where

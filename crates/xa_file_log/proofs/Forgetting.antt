@@ -1,17 +1,10 @@
 -- The slots as one record is forgotten, or several.
-use Rattle.std.proofs.Common.{◌≡◌, inl, inr, ℕ, ◌+◌, ◌<◌, Bool, true, false, cond, None, Some, List, [], ◌∷◌, length, get_or, map, set, refl, sym, ◌∙◌, ap}
-use Rattle.std.proofs.Common.{subst}
-use Rattle.std.proofs.lemmas.Bool.{cases_eq}
-use Rattle.std.proofs.lemmas.List.{length-map, length-set, get_or-set_same, get_or-set_other, ext_get_or}
-use Rattle.std.specs.FinMap.{FinMap}
-use Rattle.xa_words.specs.Tran.{TranName, tran_eq}
-use Rattle.xa_words.specs.TranOrders.{Decides-tran_eq}
-use Rattle.xa_log.specs.declared.log.CommitRecord.{CommitRecord}
-use Rattle.xa_log.specs.Transactions.{tran_cmp}
-use Rattle.xa_file_log.specs.declared.slot.Slot.{Slot}
-use Rattle.xa_file_log.specs.declared.slot.Slot.TheVariants.{Free, Taken, Forgotten}
-use Rattle.xa_file_log.specs.Slots.{Table, name_of}
-use Rattle.xa_file_log.specs.Memory.{on_file, taken, forgets, name_at, HasNoFree, IsIndexOf, used}
+use Rattle.xa_base.proofs.{◌≡◌, inl, inr, ℕ, ◌+◌, ◌<◌, Bool, true, false, cond, None, Some, List, [], ◌∷◌, length, get_or, map, set, refl, sym, ◌∙◌, ap, subst}
+use Rattle.xa_base.proofs.{cases_eq, length-map, length-set, get_or-set_same, get_or-set_other, FinMap}
+use Rattle.std.proofs.lemmas.List.{ext_get_or}
+use Rattle.xa_words.specs.{TranName, tran_eq, Decides-tran_eq}
+use Rattle.xa_log.specs.{CommitRecord, tran_cmp}
+use Rattle.xa_file_log.specs.{Slot, Free, Taken, Forgotten, Table, name_of, on_file, taken, forgets, name_at, HasNoFree, IsIndexOf, used}
 use Rattle.xa_file_log.proofs.Finds.{at_map, whole_part}
 use Rattle.xa_file_log.proofs.Slotwise.{at_slot, forgets_on_file}
 

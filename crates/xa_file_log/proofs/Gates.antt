@@ -1,15 +1,9 @@
 -- What the file has while the gates of forgotten records are shut.
-use Rattle.std.proofs.Common.{◌≡◌, inl, inr, ⊎_elim, ℕ, ◌+◌, ◌*◌, ◌<◌, ◌≤◌, None, List, [], ◌∷◌, length, get_or, map, take, refl, sym, ◌∙◌, ap}
-use Rattle.std.proofs.Common.{subst, arith}
-use Rattle.std.proofs.lemmas.Bool.{cases_eq, cases_lt}
-use Rattle.std.proofs.lemmas.List.{length-map}
-use Rattle.xa_log.specs.declared.log.CommitRecord.{CommitRecord}
-use Rattle.xa_file_log.specs.declared.slot.Slot.{Slot}
-use Rattle.xa_file_log.specs.declared.slot.Slot.TheVariants.{Free, Taken, Forgotten}
-use Rattle.xa_file_log.specs.Device.{overwritten, Torn}
-use Rattle.xa_file_log.specs.Spelling.{head}
-use Rattle.xa_file_log.specs.Slots.{slot, AreApart, IsSlotOf, StandsFor}
-use Rattle.xa_file_log.specs.Memory.{on_file, taken, forgotten, table_of, MayHave, MayShow}
+use Rattle.xa_base.proofs.{◌≡◌, inl, inr, ⊎_elim, ℕ, ◌+◌, ◌*◌, ◌<◌, ◌≤◌, None, List, [], ◌∷◌, length, get_or, map, take, refl, sym, ◌∙◌, ap, subst, arith}
+use Rattle.xa_base.proofs.{cases_eq, cases_lt, length-map}
+use Rattle.xa_log.specs.{CommitRecord}
+use Rattle.xa_file_log.specs.{Slot, Free, Taken, Forgotten, overwritten, Torn, head, slot, AreApart, IsSlotOf, StandsFor, on_file, taken, forgotten, table_of}
+use Rattle.xa_file_log.specs.{MayHave, MayShow}
 use Rattle.xa_file_log.proofs.Overwrites.{length-overwritten, take-overwritten, bytes-overwritten}
 use Rattle.xa_file_log.proofs.Stands.{other_slot, gate_of}
 use Rattle.xa_file_log.proofs.Finds.{taken_part, at_map, apart_part}

@@ -1,25 +1,14 @@
 -- The records of slots in which several are placed.
-use Rattle.std.proofs.Common.{◌≡◌, ◌⊎◌, inl, inr, ⊎_elim, ℕ, zero, suc, ◌+◌, ◌<◌, ◌≤◌, Bool, true, false, cond, Option, None, Some, List, [], ◌∷◌, length}
-use Rattle.std.proofs.Common.{get_or, map, set, take, drop}
-use Rattle.std.proofs.Common.{refl, sym, ◌∙◌, ap, subst, arith}
-use Rattle.std.specs.List.{All, Contains}
-use Rattle.std.proofs.lemmas.Bool.{cases_eq}
-use Rattle.std.proofs.lemmas.List.{length-set, length-drop, take_all, get_or-set_same}
-use Rattle.std.specs.Ordering.{eq_by_cmp}
+use Rattle.xa_base.proofs.{◌≡◌, ◌⊎◌, inl, inr, ⊎_elim, ℕ, zero, suc, ◌+◌, ◌<◌, ◌≤◌, Bool, true, false, cond, Option, None, Some, List, [], ◌∷◌, length, get_or}
+use Rattle.xa_base.proofs.{map, set, take, drop, refl, sym, ◌∙◌, ap, subst, arith, All, Contains, cases_eq, length-set, length-drop, take_all, get_or-set_same}
+use Rattle.xa_base.proofs.{eq_by_cmp, find, get-insert}
 use Rattle.std.specs.FinMap as finmap
-use Rattle.std.specs.FinMap.{find, get-insert}
-use Rattle.xa_words.specs.Tran.{TranName}
-use Rattle.xa_log.specs.declared.log.CommitRecord.{CommitRecord}
-use Rattle.xa_log.specs.Log.{LogState, Records, record_in, record_of, with_record, with_records, AreNew}
-use Rattle.xa_log.specs.Transactions.{tran_cmp}
+use Rattle.xa_words.specs.{TranName}
+use Rattle.xa_log.specs.{CommitRecord, LogState, Records, record_in, record_of, with_record, with_records, AreNew, tran_cmp}
 use Rattle.xa_log.proofs.Transactions.{tran_cmp_total, decides_by_cmp}
-use Rattle.xa_file_log.specs.declared.slot.Slot.{Slot}
-use Rattle.xa_file_log.specs.declared.slot.Slot.TheVariants.{Free, Taken, Forgotten}
-use Rattle.xa_file_log.specs.Appends.{HasWithAnyOf, IsOneOf, ForgetsNoMore}
-use Rattle.xa_file_log.specs.Device.{LeavesOnly}
-use Rattle.xa_file_log.specs.Slots.{Table, name_of, AreApart, entries, records_of}
-use Rattle.xa_file_log.specs.Memory.{on_file, taken, forgotten, table_of, records_in, forgotten_in, placed, coming, used, name_at, HasNoName, HasNoFree}
-use Rattle.xa_file_log.specs.Memory.{HasRoomFor, MayShow}
+use Rattle.xa_file_log.specs.{Slot, Free, Taken, Forgotten, HasWithAnyOf, IsOneOf, ForgetsNoMore, LeavesOnly, Table, name_of, AreApart, entries, records_of}
+use Rattle.xa_file_log.specs.{on_file, taken, forgotten, table_of, records_in, forgotten_in, placed, coming, used, name_at, HasNoName, HasNoFree, HasRoomFor}
+use Rattle.xa_file_log.specs.{MayShow}
 use Rattle.xa_file_log.proofs.Finds.{at_from, whole_part, forgotten_part, at_map, part_found}
 use Rattle.xa_file_log.proofs.Appending.{MayBeShut, same_records, no_more}
 use Rattle.xa_file_log.proofs.Moments.{weaker, joined}

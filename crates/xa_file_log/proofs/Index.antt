@@ -1,20 +1,14 @@
 -- How the index of the slots' transactions goes on.
-use Rattle.std.proofs.Common.{◌≡◌, inl, inr, ⊎_elim, ℕ, zero, suc, ◌+◌, ◌<◌, ◌≤◌, Bool, true, false, cond, Option, None, Some, List, [], ◌∷◌, length, get_or}
-use Rattle.std.proofs.Common.{map, set, take, replicate, refl, sym, ◌∙◌, ap, subst, arith}
-use Rattle.std.specs.Prelude.{IfSome, IfNone}
-use Rattle.std.proofs.lemmas.Bool.{cases_eq, cases_lt}
-use Rattle.std.proofs.lemmas.List.{get_or_past, get_or-set_same, get_or-set_other}
-use Rattle.std.specs.Ordering.{eq_by_cmp}
+use Rattle.xa_base.proofs.{◌≡◌, inl, inr, ⊎_elim, ℕ, zero, suc, ◌+◌, ◌<◌, ◌≤◌, Bool, true, false, cond, Option, None, Some, List, [], ◌∷◌, length, get_or, map}
+use Rattle.xa_base.proofs.{set, take, replicate, refl, sym, ◌∙◌, ap, subst, arith, IfSome, cases_eq, cases_lt, get_or-set_same, get_or-set_other, eq_by_cmp}
+use Rattle.xa_base.proofs.{FinMap, find, get-insert, get-from_entries}
+use Rattle.std.specs.Prelude.{IfNone}
+use Rattle.std.proofs.lemmas.List.{get_or_past}
 use Rattle.std.specs.FinMap as finmap
-use Rattle.std.specs.FinMap.{FinMap, find, get-insert, get-from_entries}
-use Rattle.xa_words.specs.Tran.{TranName}
-use Rattle.xa_log.specs.declared.log.CommitRecord.{CommitRecord}
-use Rattle.xa_log.specs.Transactions.{tran_cmp}
+use Rattle.xa_words.specs.{TranName}
+use Rattle.xa_log.specs.{CommitRecord, tran_cmp}
 use Rattle.xa_log.proofs.Transactions.{tran_cmp_total, decides_by_cmp}
-use Rattle.xa_file_log.specs.declared.slot.Slot.{Slot}
-use Rattle.xa_file_log.specs.declared.slot.Slot.TheVariants.{Free, Taken, Forgotten}
-use Rattle.xa_file_log.specs.Slots.{name_of, AreApart}
-use Rattle.xa_file_log.specs.Memory.{on_file, table_of, shut, name_at, HasName, HasNoName, HasNoFree, IsIndexOf, used}
+use Rattle.xa_file_log.specs.{Slot, Free, Taken, Forgotten, name_of, AreApart, on_file, table_of, shut, name_at, HasName, HasNoName, HasNoFree, IsIndexOf, used}
 use Rattle.xa_file_log.proofs.Finds.{at_map, whole_part}
 use Rattle.xa_file_log.proofs.Slotwise.{name_set_same, name_set_other}
 use Rattle.xa_file_log.proofs.Mapped.{MapsBelow}

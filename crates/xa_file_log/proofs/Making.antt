@@ -1,8 +1,6 @@
 -- What a crash leaves in each step of making a log.
-use Rattle.std.proofs.Common.{◌≡◌, inl, ℕ, ◌*◌, ◌≤◌, List, [], ◌∷◌, ◌++◌, length, drop, replicate, sym, ap, subst, arith}
-use Rattle.xa_file_log.specs.Device.{Elapses, Follows, IsOverwritten, LeavesOnly, Only, Torn}
-use Rattle.xa_file_log.specs.Spelling.{head}
-use Rattle.xa_file_log.specs.Slots.{IsNoLog, IsNewLog}
+use Rattle.xa_base.proofs.{◌≡◌, inl, ℕ, ◌*◌, ◌≤◌, List, [], ◌∷◌, ◌++◌, length, drop, replicate, sym, ap, subst, arith}
+use Rattle.xa_file_log.specs.{Elapses, Follows, IsOverwritten, LeavesOnly, Only, Torn, head, IsNoLog, IsNewLog}
 use Rattle.xa_file_log.proofs.Moments.{started, goes_on, weaker, joined}
 use Rattle.xa_file_log.proofs.NewLogs.{short_file, wrong_first, after_first, after_rest, after_last}
 

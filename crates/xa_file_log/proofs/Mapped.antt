@@ -1,9 +1,8 @@
 -- A loop that changes one slot after another.
-use Rattle.std.proofs.Common.{◌≡◌, inl, inr, ℕ, ◌+◌, ◌<◌, ◌≤◌, List, length, get_or, map, set, refl, sym, ◌∙◌, ap, subst, arith}
-use Rattle.std.proofs.lemmas.Bool.{cases_eq}
-use Rattle.std.proofs.lemmas.List.{length-map, length-set, get_or-set_same, get_or-set_other, ext_get_or, set-get_or, get_or_default}
-use Rattle.xa_file_log.specs.declared.slot.Slot.{Slot}
-use Rattle.xa_file_log.specs.declared.slot.Slot.TheVariants.{Free}
+use Rattle.xa_base.proofs.{◌≡◌, inl, inr, ℕ, ◌+◌, ◌<◌, ◌≤◌, List, length, get_or, map, set, refl, sym, ◌∙◌, ap, subst, arith, cases_eq, length-map, length-set}
+use Rattle.xa_base.proofs.{get_or-set_same, get_or-set_other, get_or_default}
+use Rattle.std.proofs.lemmas.List.{ext_get_or, set-get_or}
+use Rattle.xa_file_log.specs.{Slot, Free}
 use Rattle.xa_file_log.proofs.Slotwise.{at_slot}
 
 -- what is read at a place that is there

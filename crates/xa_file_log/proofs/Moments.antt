@@ -1,6 +1,6 @@
 -- How a run of device calls goes on.
-use Rattle.std.proofs.Common.{inl, inr, ⊎_elim, ℕ, List, arith}
-use Rattle.xa_file_log.specs.Device.{Elapses, LeavesOnly}
+use Rattle.xa_base.proofs.{inl, inr, ⊎_elim, ℕ, List, arith}
+use Rattle.xa_file_log.specs.{Elapses, LeavesOnly}
 
 module _ {D : Type 0} (moment : D → ℕ) (left_since : D → ℕ → List ℕ → Type 0) where
   -- before the first call

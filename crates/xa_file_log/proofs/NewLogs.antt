@@ -1,12 +1,9 @@
 -- What a crash leaves while a log is made.
-use Rattle.std.proofs.Common.{◌≡◌, ◌≢◌, inl, inr, ℕ, zero, suc, ◌+◌, ◌-◌, ◌*◌, ◌<◌, ◌≤◌, None, Some, List, [], ◌∷◌, ◌++◌, length, get_or, take, drop, replicate}
-use Rattle.std.proofs.Common.{refl, sym, ◌∙◌}
-use Rattle.std.proofs.Common.{ap, subst, arith, length-append}
-use Rattle.std.proofs.lemmas.List.{append-nil, drop_all, length-replicate, get_or-replicate, take-replicate, drop-replicate, take_at, drop_at, drop-drop}
-use Rattle.xa_file_log.specs.Device.{overwritten, IsOverwritten, Torn}
-use Rattle.xa_file_log.specs.Spelling.{head}
-use Rattle.xa_words.specs.Tran.{TranName}
-use Rattle.xa_file_log.specs.Slots.{slot, name_of, StandsFor, IsNoLog, IsNewLog, free_slots}
+use Rattle.xa_base.proofs.{◌≡◌, ◌≢◌, inl, inr, ℕ, zero, suc, ◌+◌, ◌-◌, ◌*◌, ◌<◌, ◌≤◌, None, Some, List, [], ◌∷◌, ◌++◌, length, get_or, take, drop, replicate}
+use Rattle.xa_base.proofs.{refl, sym, ◌∙◌, ap, subst, arith, length-append, append-nil, drop_all, length-replicate}
+use Rattle.std.proofs.lemmas.List.{get_or-replicate, take-replicate, drop-replicate, take_at, drop_at, drop-drop}
+use Rattle.xa_file_log.specs.{overwritten, IsOverwritten, Torn, head, slot, name_of, StandsFor, IsNoLog, IsNewLog, free_slots}
+use Rattle.xa_words.specs.{TranName}
 
 pub short_file : (c : List ℕ) → length c ≤ 17 → IsNoLog c
 short_file c short = λ records there. absurd (omega (arith, there.stands.size))

@@ -1,11 +1,8 @@
 -- A file stands for one table at most.
-use Rattle.std.proofs.Common.{◌≡◌, ℕ, Option, None, Some, List, [], ◌∷◌, length, get_or, take, drop, refl, sym, ◌∙◌, ap}
-use Rattle.std.proofs.Common.{arith}
+use Rattle.xa_base.proofs.{◌≡◌, ℕ, Option, None, Some, List, [], ◌∷◌, length, get_or, take, drop, refl, sym, ◌∙◌, ap, arith}
 use Rattle.std.proofs.lemmas.List.{ext_get_or}
-use Rattle.xa_log.specs.declared.log.CommitRecord.{CommitRecord}
-use Rattle.xa_log.specs.Log.{Records}
-use Rattle.xa_file_log.specs.Spelling.{spelling}
-use Rattle.xa_file_log.specs.Slots.{Table, slot, IsSlotOf, StandsFor, HasRecords, records_of}
+use Rattle.xa_log.specs.{CommitRecord, Records}
+use Rattle.xa_file_log.specs.{spelling, Table, slot, IsSlotOf, StandsFor, HasRecords, records_of}
 use Rattle.xa_file_log.proofs.Unspelled.{same_record}
 
 -- a gate isn't both

@@ -1,8 +1,8 @@
 -- What a crash leaves of a write over bytes that are there, and how such a write looks from further on in the file.
-use Rattle.std.proofs.Common.{◌≡◌, inl, ℕ, ◌+◌, ◌-◌, ◌≤◌, List, ◌++◌, length, take, drop, refl, sym, ◌∙◌, ap, subst, arith, append_assoc, length-append}
-use Rattle.std.proofs.Common.{length-drop, take-append-drop}
+use Rattle.xa_base.proofs.{◌≡◌, inl, ℕ, ◌+◌, ◌-◌, ◌≤◌, List, ◌++◌, length, take, drop, refl, sym, ◌∙◌, ap, subst, arith, append_assoc, length-append}
+use Rattle.xa_base.proofs.{length-drop, take-append-drop}
 use Rattle.std.proofs.lemmas.List.{take_at, drop_at, drop-drop, length-take-le, take-append-le, take-take, drop-append-le, drop-take}
-use Rattle.xa_file_log.specs.Device.{overwritten, IsOverwritten, Torn}
+use Rattle.xa_file_log.specs.{overwritten, IsOverwritten, Torn}
 
 pub torn_is_overwritten : (at : ℕ) (bytes old c : List ℕ) → at + length bytes ≤ length old → Torn at bytes old c → IsOverwritten old at bytes c
 torn_is_overwritten at bytes old c within t =

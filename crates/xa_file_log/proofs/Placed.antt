@@ -1,16 +1,10 @@
 -- Records in the free slots of a file, one after another.
-use Rattle.std.proofs.Common.{◌≡◌, ◌⊎◌, inl, inr, ⊎_elim, ℕ, zero, suc, ◌+◌, ◌-◌, ◌*◌, ◌<◌, ◌≤◌, None, Some, List, [], ◌∷◌, length, get_or, take, drop}
-use Rattle.std.proofs.Common.{refl, sym, ◌∙◌, ap, subst, arith}
-use Rattle.std.specs.List.{All, Contains}
-use Rattle.std.proofs.lemmas.Bool.{cases_eq, cases_lt}
-use Rattle.std.proofs.lemmas.List.{length-map, length-drop, get_or-drop, drop_all}
-use Rattle.xa_log.specs.declared.log.CommitRecord.{CommitRecord}
-use Rattle.xa_file_log.specs.declared.slot.Slot.{Slot}
-use Rattle.xa_file_log.specs.declared.slot.Slot.TheVariants.{Free, Taken, Forgotten}
-use Rattle.xa_file_log.specs.Device.{overwritten, Torn}
-use Rattle.xa_file_log.specs.Spelling.{spelling, head, IsValid}
-use Rattle.xa_file_log.specs.Slots.{Table, slot, AreApart, IsSlotOf, StandsFor}
-use Rattle.xa_file_log.specs.Memory.{on_file, table_of, placed, coming, used, HasBody, HasBodies, HasNoFree, HasRoomFor, MayHave, MayShow}
+use Rattle.xa_base.proofs.{◌≡◌, ◌⊎◌, inl, inr, ⊎_elim, ℕ, zero, suc, ◌+◌, ◌-◌, ◌*◌, ◌<◌, ◌≤◌, None, Some, List, [], ◌∷◌, length, get_or, take, drop, refl, sym}
+use Rattle.xa_base.proofs.{◌∙◌, ap, subst, arith, All, Contains, cases_eq, cases_lt, length-map, length-drop, drop_all}
+use Rattle.std.proofs.lemmas.List.{get_or-drop}
+use Rattle.xa_log.specs.{CommitRecord}
+use Rattle.xa_file_log.specs.{Slot, Free, Taken, Forgotten, overwritten, Torn, spelling, head, IsValid, Table, slot, AreApart, IsSlotOf, StandsFor, on_file}
+use Rattle.xa_file_log.specs.{table_of, placed, coming, used, HasBody, HasBodies, HasNoFree, HasRoomFor, MayHave, MayShow}
 use Rattle.xa_file_log.proofs.Overwrites.{torn_is_overwritten, length-overwritten, take-overwritten, drop-overwritten, bytes-overwritten, drop-overwritten_past}
 use Rattle.xa_file_log.proofs.Overwrites.{part-overwritten}
 use Rattle.xa_file_log.proofs.Stands.{other_slot, staged, after_stage}

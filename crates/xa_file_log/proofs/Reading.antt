@@ -1,17 +1,9 @@
 -- The slots as they are read from a file.
-use Rattle.std.proofs.Common.{◌≡◌, inl, inr, ℕ, ◌+◌, ◌*◌, ◌<◌, ◌≤◌, true, Option, None, Some, List, length, get_or, set, take, replicate, sym, ◌∙◌, ap, subst}
-use Rattle.std.proofs.Common.{arith}
-use Rattle.std.specs.Prelude.{is_some, IfSome}
-use Rattle.std.specs.FinMap.{FinMap}
-use Rattle.std.proofs.lemmas.Bool.{cases_eq, cases_lt}
-use Rattle.std.proofs.lemmas.List.{length-map, length-set, length-replicate, get_or-set_same, get_or-set_other}
-use Rattle.xa_log.specs.declared.log.CommitRecord.{CommitRecord}
-use Rattle.xa_log.specs.Transactions.{tran_cmp}
-use Rattle.xa_file_log.specs.declared.slot.Slot.{Slot}
-use Rattle.xa_file_log.specs.declared.slot.Slot.TheVariants.{Free, Taken}
-use Rattle.xa_file_log.specs.Spelling.{head}
-use Rattle.xa_file_log.specs.Slots.{name_of, slot, IsSlotOf, StandsFor, IsNoLog}
-use Rattle.xa_file_log.specs.Memory.{on_file, forgotten, table_of, HasName, HasNoneForgotten, IsIndexOf}
+use Rattle.xa_base.proofs.{◌≡◌, inl, inr, ℕ, ◌+◌, ◌*◌, ◌<◌, ◌≤◌, true, Option, None, Some, List, length, get_or, set, take, replicate, sym, ◌∙◌, ap, subst}
+use Rattle.xa_base.proofs.{arith, is_some, IfSome, FinMap, cases_eq, cases_lt, length-map, length-set, length-replicate, get_or-set_same, get_or-set_other}
+use Rattle.xa_log.specs.{CommitRecord, tran_cmp}
+use Rattle.xa_file_log.specs.{Slot, Free, Taken, head, name_of, slot, IsSlotOf, StandsFor, IsNoLog, on_file, forgotten, table_of, HasName, HasNoneForgotten}
+use Rattle.xa_file_log.specs.{IsIndexOf}
 use Rattle.xa_file_log.proofs.Finds.{at_map, whole_part}
 use Rattle.xa_file_log.proofs.Index.{index_apart, all_free}
 use Rattle.xa_file_log.proofs.OneTable.{same_slot}

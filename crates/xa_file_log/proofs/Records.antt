@@ -1,16 +1,12 @@
 -- One more record in a table.
-use Rattle.std.proofs.Common.{◌≡◌, ℕ, zero, suc, ◌<◌, Bool, true, false, cond, Option, None, Some, [], ◌∷◌, length, get_or, set, refl, sym, ◌∙◌, ap}
-use Rattle.std.proofs.Common.{subst, arith}
-use Rattle.std.specs.Ordering.{eq_by_cmp, is_eq}
-use Rattle.std.specs.Cmp.{tied_itself}
+use Rattle.xa_base.proofs.{◌≡◌, ℕ, zero, suc, ◌<◌, Bool, true, false, cond, Option, None, Some, [], ◌∷◌, length, get_or, set, refl, sym, ◌∙◌, ap, subst, arith}
+use Rattle.xa_base.proofs.{eq_by_cmp, is_eq, tied_itself, find, get-from_entries, get-insert, is_equal}
 use Rattle.std.specs.FinMap as finmap
-use Rattle.std.specs.FinMap.{find, get-from_entries, get-insert, same_map}
-use Rattle.xa_base.proofs.Truth.{is_equal}
-use Rattle.xa_words.specs.Tran.{TranName}
-use Rattle.xa_log.specs.declared.log.CommitRecord.{CommitRecord}
-use Rattle.xa_log.specs.Transactions.{tran_cmp}
+use Rattle.std.specs.FinMap.{same_map}
+use Rattle.xa_words.specs.{TranName}
+use Rattle.xa_log.specs.{CommitRecord, tran_cmp}
 use Rattle.xa_log.proofs.Transactions.{tran_cmp_total, tran_cmp-IsAntisymmetric}
-use Rattle.xa_file_log.specs.Slots.{Table, entries, records_of}
+use Rattle.xa_file_log.specs.{Table, entries, records_of}
 
 one_name : (x y : TranName) → eq_by_cmp tran_cmp x y ≡ true → x ≡ y
 one_name x y t = tran_cmp-IsAntisymmetric x y (is_equal (tran_cmp x y) t)

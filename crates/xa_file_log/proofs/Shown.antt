@@ -1,19 +1,11 @@
 -- What a crash leaves of the slots: which records a file has that may show them.
-use Rattle.std.proofs.Common.{◌≡◌, ◌⊎◌, inl, inr, ⊎_elim, ℕ, zero, suc, ◌+◌, ◌*◌, ◌<◌, Bool, Option, None, Some, List, [], ◌∷◌, length, get_or, map, take, refl}
-use Rattle.std.proofs.Common.{sym, ◌∙◌}
-use Rattle.std.proofs.Common.{ap, subst, arith}
-use Rattle.std.proofs.lemmas.Bool.{cases_eq, cases_lt}
-use Rattle.std.proofs.lemmas.List.{length-map, get_or_past}
-use Rattle.std.specs.FinMap.{find}
-use Rattle.xa_words.specs.Tran.{TranName}
-use Rattle.xa_log.specs.declared.log.CommitRecord.{CommitRecord}
-use Rattle.xa_log.specs.Log.{Records, record_in}
-use Rattle.xa_log.specs.Transactions.{tran_cmp}
-use Rattle.xa_file_log.specs.declared.slot.Slot.{Slot}
-use Rattle.xa_file_log.specs.declared.slot.Slot.TheVariants.{Free, Taken, Forgotten}
-use Rattle.xa_file_log.specs.Spelling.{head}
-use Rattle.xa_file_log.specs.Slots.{Table, slot, name_of, AreApart, IsSlotOf, StandsFor, entries, records_of}
-use Rattle.xa_file_log.specs.Memory.{on_file, taken, forgotten, table_of, records_in, forgotten_in, MayHave, MayShow, HasRecordsAndPerhaps}
+use Rattle.xa_base.proofs.{◌≡◌, ◌⊎◌, inl, inr, ⊎_elim, ℕ, zero, suc, ◌+◌, ◌*◌, ◌<◌, Bool, Option, None, Some, List, [], ◌∷◌, length, get_or, map, take, refl}
+use Rattle.xa_base.proofs.{sym, ◌∙◌, ap, subst, arith, cases_eq, cases_lt, length-map, find}
+use Rattle.std.proofs.lemmas.List.{get_or_past}
+use Rattle.xa_words.specs.{TranName}
+use Rattle.xa_log.specs.{CommitRecord, Records, record_in, tran_cmp}
+use Rattle.xa_file_log.specs.{Slot, Free, Taken, Forgotten, head, Table, slot, name_of, AreApart, IsSlotOf, StandsFor, entries, records_of, on_file, taken}
+use Rattle.xa_file_log.specs.{forgotten, table_of, records_in, forgotten_in, MayHave, MayShow, HasRecordsAndPerhaps}
 use Rattle.xa_file_log.proofs.Finds.{at_from, found_is, whole_part, taken_part, forgotten_part, at_map, name_within, part_found}
 use Rattle.xa_file_log.proofs.Records.{get_found}
 

@@ -1,23 +1,14 @@
 -- How the records change as slots are shut, forgotten and taken.
-use Rattle.std.proofs.Common.{◌≡◌, ◌⊎◌, inl, inr, ⊎_elim, ℕ, zero, suc, ◌<◌, Bool, true, false, not, cond, Option, None, Some, List, [], ◌∷◌, length}
-use Rattle.std.proofs.Common.{get_or, map, set, replicate, refl, sym, ◌∙◌, ap, subst, arith}
-use Rattle.std.proofs.lemmas.Bool.{cases_eq}
-use Rattle.std.proofs.lemmas.List.{length-map, map-set, set-get_or, get_or-set_same, get_or-set_other}
-use Rattle.std.specs.Ordering.{eq_by_cmp}
-use Rattle.std.specs.Cmp.{eq_by_cmp_equiv}
+use Rattle.xa_base.proofs.{◌≡◌, ◌⊎◌, inl, inr, ⊎_elim, ℕ, zero, suc, ◌<◌, Bool, true, false, not, cond, Option, None, Some, List, [], ◌∷◌, length, get_or, map}
+use Rattle.xa_base.proofs.{set, replicate, refl, sym, ◌∙◌, ap, subst, arith, cases_eq, length-map, get_or-set_same, get_or-set_other, eq_by_cmp}
+use Rattle.xa_base.proofs.{eq_by_cmp_equiv, find, remove_one, retain_some}
+use Rattle.std.proofs.lemmas.List.{map-set, set-get_or}
 use Rattle.std.specs.FinMap as finmap
-use Rattle.std.specs.FinMap.{find}
-use Rattle.xa_base.proofs.FinMaps.{remove_one, retain_some}
-use Rattle.xa_words.specs.Tran.{TranName, tran_eq}
-use Rattle.xa_log.specs.declared.log.CommitRecord.{CommitRecord}
-use Rattle.xa_log.specs.Log.{record_in, is_among}
-use Rattle.xa_log.specs.Transactions.{tran_cmp}
+use Rattle.xa_words.specs.{TranName, tran_eq}
+use Rattle.xa_log.specs.{CommitRecord, record_in, is_among, tran_cmp}
 use Rattle.xa_log.proofs.Transactions.{tran_cmp_total, tran_cmp-IsAntisymmetric, tran_eq-by_cmp, decides_by_cmp}
-use Rattle.xa_file_log.specs.declared.slot.Slot.{Slot}
-use Rattle.xa_file_log.specs.declared.slot.Slot.TheVariants.{Free, Taken, Forgotten}
-use Rattle.xa_file_log.specs.Slots.{Table, name_of, AreApart, slot, entries, records_of}
-use Rattle.xa_file_log.specs.Memory.{on_file, taken, forgotten, table_of, records_in, forgotten_in, shut, forgets, name_at, HasNoName, HasNoFree}
-use Rattle.xa_file_log.specs.Memory.{HasNoneForgotten, IsFull, MayHave, MayShow}
+use Rattle.xa_file_log.specs.{Slot, Free, Taken, Forgotten, Table, name_of, AreApart, slot, entries, records_of, on_file, taken, forgotten, table_of}
+use Rattle.xa_file_log.specs.{records_in, forgotten_in, shut, forgets, name_at, HasNoName, HasNoFree, HasNoneForgotten, IsFull, MayHave, MayShow}
 use Rattle.xa_file_log.proofs.Finds.{at_from, whole_part, taken_part, forgotten_part, at_map, part_found}
 use Rattle.xa_file_log.proofs.Records.{get_found, records_set}
 

@@ -1,12 +1,12 @@
 -- How the bytes of a record are put together, and how they are read.
-use Rattle.std.proofs.Common.{◌≡◌, ℕ, ◌-◌, ◌≤◌, eqb, Option, None, Some, Ok, List, [], ◌∷◌, ◌++◌, length, get_or, map, take}
-use Rattle.std.proofs.Common.{drop, replicate, refl, sym, ◌∙◌, ap, arith, append_assoc}
-use Rattle.std.specs.Int.{w32, cast_unsigned, to_be_bytes}
+use Rattle.xa_base.proofs.{◌≡◌, ℕ, ◌-◌, ◌≤◌, Option, None, Some, Ok, List, [], ◌∷◌, ◌++◌, length, get_or, map, take, drop, replicate, refl, sym, ◌∙◌, ap, arith}
+use Rattle.xa_base.proofs.{append_assoc, w32}
+use Rattle.std.proofs.Common.{eqb}
+use Rattle.std.specs.Int.{cast_unsigned, to_be_bytes}
 use Rattle.std.proofs.lemmas.List.{take-replicate, drop-replicate, get_or-take}
-use Rattle.xa_words.specs.NewXid.{new_tran}
-use Rattle.xa_log.specs.declared.log.CommitRecord.{CommitRecord}
-use Rattle.xa_file_log.specs.Spelling.{fields, spelling, yes_bytes, IsValid}
-use Rattle.xa_file_log.specs.Slots.{IsSlotOf}
+use Rattle.xa_words.specs.{new_tran}
+use Rattle.xa_log.specs.{CommitRecord}
+use Rattle.xa_file_log.specs.{fields, spelling, yes_bytes, IsValid, IsSlotOf}
 use Rattle.xa_file_log.proofs.Unspelled.{number, unspelled, unspelled_again}
 
 -- the zeros between the gtrid and the managers

@@ -1,12 +1,9 @@
 -- What a file stands for while a record is written into it.
-use Rattle.std.proofs.Common.{◌≡◌, ◌≢◌, ◌⊎◌, inl, inr, ℕ, ◌+◌, ◌*◌, ◌<◌, ◌≤◌, Option, None, Some, List, [], ◌∷◌, length, get_or, set, take, drop, refl, sym}
-use Rattle.std.proofs.Common.{◌∙◌, ap, subst, arith, length-set}
-use Rattle.std.proofs.lemmas.Bool.{cases_eq, cases_lt}
-use Rattle.std.proofs.lemmas.List.{take-take, get_or-set_same, get_or-set_other}
-use Rattle.xa_log.specs.declared.log.CommitRecord.{CommitRecord}
-use Rattle.xa_file_log.specs.Device.{overwritten, IsOverwritten}
-use Rattle.xa_file_log.specs.Spelling.{spelling, head, IsValid}
-use Rattle.xa_file_log.specs.Slots.{Table, slot, AreApart, IsSlotOf, StandsFor}
+use Rattle.xa_base.proofs.{◌≡◌, ◌≢◌, ◌⊎◌, inl, inr, ℕ, ◌+◌, ◌*◌, ◌<◌, ◌≤◌, Option, None, Some, List, [], ◌∷◌, length, get_or, set, take, drop, refl, sym, ◌∙◌}
+use Rattle.xa_base.proofs.{ap, subst, arith, length-set, cases_eq, cases_lt, get_or-set_same, get_or-set_other}
+use Rattle.std.proofs.lemmas.List.{take-take}
+use Rattle.xa_log.specs.{CommitRecord}
+use Rattle.xa_file_log.specs.{overwritten, IsOverwritten, spelling, head, IsValid, Table, slot, AreApart, IsSlotOf, StandsFor}
 use Rattle.xa_file_log.proofs.Overwrites.{length-overwritten, take-overwritten, drop-overwritten, bytes-overwritten, drop-overwritten_past, part-overwritten}
 
 -- a write within slot k leaves the others

@@ -1,9 +1,7 @@
 -- What a crash leaves in each of the two steps of a record.
-use Rattle.std.proofs.Common.{◌≡◌, ◌⊎◌, inl, ℕ, ◌+◌, ◌*◌, ◌<◌, None, Some, List, [], ◌∷◌, length, get_or, set, subst, sym}
-use Rattle.xa_log.specs.declared.log.CommitRecord.{CommitRecord}
-use Rattle.xa_file_log.specs.Device.{overwritten, IsOverwritten, LeavesOnly}
-use Rattle.xa_file_log.specs.Spelling.{spelling, IsValid}
-use Rattle.xa_file_log.specs.Slots.{Table, AreApart, StandsFor}
+use Rattle.xa_base.proofs.{◌≡◌, ◌⊎◌, inl, ℕ, ◌+◌, ◌*◌, ◌<◌, None, Some, List, [], ◌∷◌, length, get_or, set, subst, sym}
+use Rattle.xa_log.specs.{CommitRecord}
+use Rattle.xa_file_log.specs.{overwritten, IsOverwritten, LeavesOnly, spelling, IsValid, Table, AreApart, StandsFor}
 use Rattle.xa_file_log.proofs.Moments.{weaker, joined}
 use Rattle.xa_file_log.proofs.Stands.{after_stage, after_gate, opened, Staged, stage_done}
 

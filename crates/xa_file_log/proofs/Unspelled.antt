@@ -1,17 +1,15 @@
 -- What the bytes of a record tell of it.
-use Rattle.std.proofs.Common.{◌≡◌, ℕ, ℤ, ◌-◌, ◌≤◌, Bool, true, false, cond, eqb, List, [], ◌∷◌, ◌++◌, length, get_or, map, take, drop, replicate}
-use Rattle.std.proofs.Common.{FitsSigned, refl, sym, ◌∙◌, ap, arith, append_assoc, length-append}
-use Rattle.std.specs.Int.{w32, cast_unsigned, cast_signed, to_be_bytes, from_be_bytes}
+use Rattle.xa_base.proofs.{◌≡◌, ℕ, ℤ, ◌-◌, ◌≤◌, Bool, true, false, cond, List, [], ◌∷◌, ◌++◌, length, get_or, map, take, drop, replicate, refl, sym, ◌∙◌, ap}
+use Rattle.xa_base.proofs.{arith, append_assoc, length-append, w32, to_z-of_z, length-replicate}
+use Rattle.std.proofs.Common.{eqb, FitsSigned}
+use Rattle.std.specs.Int.{cast_unsigned, cast_signed, to_be_bytes, from_be_bytes}
 use Rattle.std.proofs.lemmas.Bool.Decides.{nat_tests}
-use Rattle.std.proofs.lemmas.Int.{to_z-of_z}
 use Rattle.std.proofs.lemmas.Nat.{from_be_bytes-to_be_bytes_4}
-use Rattle.std.proofs.lemmas.List.{take_at, drop_at, length-replicate}
+use Rattle.std.proofs.lemmas.List.{take_at, drop_at}
 use mir.ValLaws.{of_z_fits}
-use Rattle.xa_words.specs.ManagerSet.{is_in, set_of}
-use Rattle.xa_words.specs.NewXid.{is_part}
-use Rattle.xa_words.specs.Tran.{tran_bytes}
-use Rattle.xa_log.specs.declared.log.CommitRecord.{CommitRecord}
-use Rattle.xa_file_log.specs.Spelling.{fields, spelling, yes_bytes, IsValid}
+use Rattle.xa_words.specs.{is_in, set_of, is_part, tran_bytes}
+use Rattle.xa_log.specs.{CommitRecord}
+use Rattle.xa_file_log.specs.{fields, spelling, yes_bytes, IsValid}
 
 pub part_few : (l : List ℕ) → is_part l ≡ true → length l ≤ 64
 part_few l valid = grind (arith, nat_tests)

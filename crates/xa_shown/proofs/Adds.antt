@@ -1,49 +1,29 @@
 -- What a thread's lines add to its entries of a manager's journal, where all that they ask the manager is so.
-use Rattle.std.proofs.Common.{◌≡◌, ℕ, ⊎_elim, zero, suc, ◌<◌, ◌≤◌, Bool, false, ◌==◌, List, [], ◌∷◌, ◌++◌, Option, Some, None, sym, refl, ap, ◌∙◌, subst, arith}
-use Rattle.std.proofs.Common.{append_assoc, append-nil}
-use Rattle.std.specs.Prelude.{if◌then◌else◌, All, map}
-use Rattle.std.specs.List.{Contains}
-use Rattle.std.proofs.lemmas.Bool.{cases_lt, eqb-true}
-use Rattle.std.proofs.lemmas.List.Elements.{All-append, All-cons, All-contains, All-head, All-nil, All-tail}
-use Rattle.xa_base.proofs.Truth.{by_if}
-use Rattle.xa_base.specs.declared.limits.TheConstants.{MOST_MANAGERS}
-use Rattle.xa_words.specs.Flags.{check_flags}
-use Rattle.xa_words.specs.Tran.{TranName}
-use Rattle.xa_words.specs.Xid.{XidName}
+use Rattle.xa_base.proofs.{◌≡◌, ℕ, ⊎_elim, zero, suc, ◌<◌, ◌≤◌, Bool, false, ◌==◌, List, [], ◌∷◌, ◌++◌, Option, Some, None, sym, refl, ap, ◌∙◌, subst, arith}
+use Rattle.xa_base.proofs.{append_assoc, append-nil, if◌then◌else◌, All, map, Contains, cases_lt, eqb-true, All-append, All-cons, All-contains, All-head}
+use Rattle.xa_base.proofs.{All-nil, All-tail, by_if}
+use Rattle.xa_base.specs.{MOST_MANAGERS}
+use Rattle.xa_words.specs.{check_flags, TranName, XidName, Death, Op, OpenRm, Prepare, Forget, Listed}
 use Rattle.xa_words.specs.declared.code.Code.{Code}
-use Rattle.xa_words.specs.declared.death.Death.{Death}
 use Rattle.xa_words.specs.declared.flags.Call.TheVariants as call
-use Rattle.xa_words.specs.declared.request.Op.{Op}
-use Rattle.xa_words.specs.declared.request.Op.TheVariants.{OpenRm, Prepare, Forget, Listed}
-use Rattle.xa_worker.specs.Journal.{Entry}
-use Rattle.xa_scan.specs.Left.{ScanView, left_at}
+use Rattle.xa_worker.specs.{Entry}
+use Rattle.xa_scan.specs.{ScanView, left_at}
 use Rattle.xa_switch.specs.Settling.{Settling}
-use Rattle.xa_driver.specs.declared.branch.Branch.{Branch}
-use Rattle.xa_driver.specs.declared.done.Done.{Done as Outcomes}
-use Rattle.xa_driver.specs.declared.done.Ending.{Ending}
-use Rattle.xa_driver.specs.declared.resolved.Outcome.{Outcome}
-use Rattle.xa_driver.specs.Course.{AtBranch}
-use Rattle.xa_driver.specs.Endings.{second_op, third_op}
-use Rattle.xa_log.specs.Log.{Records}
-use Rattle.xa_driver.specs.Resolving.{ResolvesAt, outcome_op}
-use Rattle.xa_driver.specs.Trace.{has_branch_at}
+use Rattle.xa_driver.specs.{Branch, Done as Outcomes, Ending, Outcome, AtBranch, second_op, third_op, ResolvesAt, outcome_op, has_branch_at}
+use Rattle.xa_log.specs.{Records}
 use Rattle.xa_driver.proofs.Mapped.{Any, IsAskedFor, any_asked, branch_by, resolves_by}
-use Rattle.xa_grammar.specs.declared.step.CommitAll.{CommitAll}
+use Rattle.xa_grammar.specs.{CommitAll, ScriptCalled, ScriptAction}
 use Rattle.xa_grammar.specs.declared.step.Action.TheVariants as action
-use Rattle.xa_grammar.specs.Steps.{ScriptCalled, ScriptAction}
-use Rattle.xa_transcript.specs.declared.answer.Answer.{Answer}
-use Rattle.xa_session.specs.Committing.{branches_of, named}
-use Rattle.xa_telling.specs.Wants.{Wanted, wanted_in}
+use Rattle.xa_transcript.specs.{Answer}
+use Rattle.xa_session.specs.{branches_of, named}
+use Rattle.xa_telling.specs.{Wanted, wanted_in, Part, next_entry, Asked, Lists, CallTakes, CarriesOut, CarriesOutSome, Decides, LosesSight, StopsAt, EndsLeft}
+use Rattle.xa_telling.specs.{Takes}
 use Rattle.xa_telling.specs.Wants.Wanted.{code_of, handle_for, in_vain, completion, listing}
-use Rattle.xa_telling.specs.Parts.{Part, next_entry, Asked, Lists, CallTakes}
 use Rattle.xa_telling.specs.Parts.Asked.{answered as asked_answered, refused as asked_refused}
 use Rattle.xa_telling.specs.Parts.CallTakes.{answered, kept, refused, completes, lists}
-use Rattle.xa_telling.specs.Commits.{CarriesOut, CarriesOutSome, Decides, LosesSight, StopsAt}
 use Rattle.xa_telling.specs.Commits.CarriesOut.{carried, withheld}
 use Rattle.xa_telling.specs.Commits.CommitTakes.{refused as takes_none, decided, undecided, died}
-use Rattle.xa_telling.specs.Resolves.{EndsLeft}
 use Rattle.xa_telling.specs.Resolves.ResolveTakes.{refused as ends_none, resolved}
-use Rattle.xa_telling.specs.Journals.{Takes}
 use Rattle.xa_telling.proofs.Mapped.{by_mapped}
 use Rattle.xa_telling.proofs.Deaths.{asked_so, at_each, came_so, each_so, hears_by, obeys_by}
 

@@ -2,32 +2,22 @@
 use Rattle.xa_atomicity.proofs.Placing.{request_of}
 use Rattle.xa_atomicity.proofs.Requests.{all_later}
 use Rattle.xa_atomicity.proofs.Sites.{sides}
-use Rattle.std.proofs.lemmas.List.Elements.{All-map, All-cons, All-nil, All-head, All-tail, All-append, filter-append}
-use Rattle.std.proofs.Common.{◌≡◌, ◌≢◌, ℕ, suc, ◌+◌, ◌<◌, inl, inr, Bool, true, false, cond, ◌==◌, List, [], ◌∷◌, ◌++◌, length, map, sym, refl, ap, ◌∙◌, subst}
-use Rattle.std.proofs.Common.{arith, get_or}
-use Rattle.std.specs.Prelude.{All}
-use Rattle.std.specs.List.{filter}
-use Rattle.std.proofs.lemmas.Bool.{cases_eq, eq-eqb}
-use Rattle.std.proofs.lemmas.List.{length-map, map-append}
-use Rattle.xa_base.proofs.Lists.{all_after, all_unmapped}
-use Rattle.xa_words.specs.Xid.{XidName}
-use Rattle.xa_words.specs.declared.request.Op.{Op}
-use Rattle.xa_words.specs.declared.request.Request.{Request}
-use Rattle.xa_tables.specs.History.{History, of_thread}
-use Rattle.xa_tables.specs.Prepared.{names}
-use Rattle.xa_desk.specs.Lanes.{numbered}
-use Rattle.xa_worker.specs.Journal.{Entry, requests}
-use Rattle.xa_switch.specs.Settling.{journal, sent}
-use Rattle.xa_driver.specs.declared.branch.Branch.{Branch}
-use Rattle.xa_atomicity.specs.Outcomes.{OnlyTheseName, AreLeftAlone}
-use Rattle.xa_words.specs.Tran.{TranName}
-use Rattle.xa_grammar.specs.declared.step.CommitAll.{CommitAll}
+use Rattle.xa_base.proofs.{All-map, All-cons, All-nil, All-head, All-tail, All-append, filter-append, ◌≡◌, ◌≢◌, ℕ, suc, ◌+◌, ◌<◌, inl, inr, Bool, true, false}
+use Rattle.xa_base.proofs.{cond, ◌==◌, List, [], ◌∷◌, ◌++◌, length, map, sym, refl, ap, ◌∙◌, subst, arith, get_or, All, filter, cases_eq, eq-eqb, length-map}
+use Rattle.xa_base.proofs.{map-append, all_after, all_unmapped}
+use Rattle.xa_words.specs.{XidName, Op, Request, TranName}
+use Rattle.xa_tables.specs.History.{History}
+use Rattle.xa_tables.specs.{of_thread, names}
+use Rattle.xa_desk.specs.{numbered}
+use Rattle.xa_worker.specs.{Entry, requests}
+use Rattle.xa_switch.specs.{journal, sent}
+use Rattle.xa_driver.specs.{Branch}
+use Rattle.xa_atomicity.specs.{OnlyTheseName, AreLeftAlone}
+use Rattle.xa_grammar.specs.{CommitAll}
 use Rattle.xa_grammar.specs.Content.{Content}
-use Rattle.xa_session.specs.Committing.{branches_of}
-use Rattle.xa_telling.specs.Parts.{Part}
-use Rattle.xa_telling.specs.Journals.{Line, entries_of}
-use Rattle.xa_telling.specs.ToldOpenings.{Beginning, Opening, TellsOf, part_at}
-use Rattle.xa_shown.specs.Outcomes.{Place, AreNamedByNoOther, NamesNone, entered_so_far}
+use Rattle.xa_session.specs.{branches_of}
+use Rattle.xa_telling.specs.{Part, Line, entries_of, Beginning, Opening, TellsOf, part_at}
+use Rattle.xa_shown.specs.{Place, AreNamedByNoOther, NamesNone, entered_so_far}
 use Rattle.xa_telling.proofs.Entries.{requests_kept}
 use Rattle.xa_base.specs.Lists.Chain.{more as one_step}
 use Rattle.xa_shown.proofs.Named.{AddsUnnamed, lines_unnamed, lines_leave}

@@ -2,20 +2,15 @@
 -- anything, over the settled history of its manager.
 use Rattle.xa_atomicity.proofs.Fated.{decided_in}
 use Rattle.std.proofs.lemmas.Bool.{true_from_ne_false}
-use Rattle.std.proofs.Common.{◌≡◌, ℕ, suc, ◌≤◌, inl, inr, Bool, true, false, if◌then◌else◌, [], ◌∷◌, get_or, sym, refl, ap, ◌∙◌, append-nil, arith}
-use Rattle.std.specs.List.{All, cons_option}
-use Rattle.xa_words.specs.Xid.{XidName}
-use Rattle.xa_words.specs.declared.code.Code.TheVariants.{Done}
-use Rattle.xa_words.specs.declared.request.Op.{Op}
-use Rattle.xa_words.specs.declared.request.Op.TheVariants.{Prepare}
-use Rattle.xa_tables.specs.declared.state.HeuristicDecision.{HeuristicDecision}
-use Rattle.xa_tables.specs.Tables.{Tables, state_of}
-use Rattle.xa_tables.specs.Next.{next}
+use Rattle.xa_base.proofs.{◌≡◌, ℕ, suc, ◌≤◌, inl, inr, Bool, true, false, if◌then◌else◌, [], ◌∷◌, get_or, sym, refl, ap, ◌∙◌, append-nil, arith, All}
+use Rattle.xa_base.proofs.{cons_option}
+use Rattle.xa_words.specs.{XidName, Done, Op, Prepare}
+use Rattle.xa_tables.specs.{HeuristicDecision, state_of, next, Fate, IsFateOf, coded, decided_fate, fate, fate_in, fate_of, heur_fate, last_or, tables_after}
+use Rattle.xa_tables.specs.{is_heur, names}
+use Rattle.xa_tables.specs.Tables.{Tables}
 use Rattle.xa_tables.specs.History as history
-use Rattle.xa_tables.specs.History.{History, Fate, IsFateOf, coded, decided_fate, fate, fate_in, fate_of, heur_fate, last_or, tables_after}
-use Rattle.xa_tables.specs.Prepared.{is_heur, names}
-use Rattle.xa_atomicity.specs.Outcomes.{IsDecidedAfter, OnlyTheseOrDecisionsName}
-use Rattle.xa_atomicity.specs.Resolution.{ended_as}
+use Rattle.xa_tables.specs.History.{History}
+use Rattle.xa_atomicity.specs.{IsDecidedAfter, OnlyTheseOrDecisionsName, ended_as}
 use Rattle.xa_atomicity.proofs.Guided.{IsGuided, at_last, decided_known, fates_from, voted_now}
 use Rattle.xa_atomicity.proofs.Leading.{Stands, over, unforgotten, waits}
 use Rattle.xa_atomicity.proofs.Placing.{request_of, fates}

@@ -1,28 +1,20 @@
 -- A manager answers XAER_RMFAIL only where it is shut, and then to all that comes after.
-use Rattle.std.specs.Prelude.{if◌then◌else◌, not, ◌||◌}
-use Rattle.std.proofs.Common.{◌≡◌, ℕ, ◌⊎◌, ⊎_elim, inl, inr, zero, suc, ◌<◌, Bool, true, false, cond, ◌&&◌, List, [], ◌∷◌, ◌++◌, length, length-append, Option}
-use Rattle.std.proofs.Common.{Some, None, sym, refl, ap, ◌∙◌, subst, arith, slice_index_or}
-use Rattle.std.specs.List.{All, Contains, filter}
+use Rattle.xa_base.proofs.{if◌then◌else◌, not, ◌||◌, ◌≡◌, ℕ, ◌⊎◌, ⊎_elim, inl, inr, zero, suc, ◌<◌, Bool, true, false, cond, ◌&&◌, List, [], ◌∷◌, ◌++◌, length}
+use Rattle.xa_base.proofs.{length-append, Option, Some, None, sym, refl, ap, ◌∙◌, subst, arith, slice_index_or, All, Contains, filter, all_mid, by_if}
 use Rattle.std.proofs.lemmas.List.Elements.{All-filter}
-use Rattle.xa_base.proofs.Lists.{all_mid}
-use Rattle.xa_base.proofs.Truth.{by_if}
 use Rattle.xa_words.specs.declared.code.Code.{Code}
-use Rattle.xa_words.specs.declared.code.Code.TheVariants.{Proto, RmFail}
-use Rattle.xa_words.specs.declared.request.Op.{Op}
-use Rattle.xa_words.specs.declared.request.Op.TheVariants.{OpenRm, CloseRm, Start, Add, End, Prepare, Commit, Rollback, Forget, Heur, Listed, Shut}
-use Rattle.xa_words.specs.declared.request.StartHow.TheVariants.{Fresh, Join, Resume}
-use Rattle.xa_tables.specs.declared.state.State.{State}
-use Rattle.xa_tables.specs.declared.state.State.TheVariants.{Active, Idle, Prepared, RollbackOnly, HeuristicallyCompleted}
-use Rattle.xa_tables.specs.declared.state.RollbackReason.TheVariants.{Failed, Transient}
+use Rattle.xa_words.specs.{Proto, RmFail, Op, OpenRm, CloseRm, Start, Add, End, Prepare, Commit, Rollback, Forget, Heur, Listed, Shut, Fresh, Join, Resume}
+use Rattle.xa_tables.specs.{State, Active, Idle, RollbackOnly, HeuristicallyCompleted, Failed, Transient, has_opened, has_association, is_at_work, is_suspended}
+use Rattle.xa_tables.specs.{is_associated, branch_of, exists, is_idle, is_prepared, is_rollback_only, is_completed, is_left, reason_in, decision_in, state_of}
+use Rattle.xa_tables.specs.{is_somebody_associated, is_declared, has_touched, has_other_touched, is_broken, Answer, next, needs_opening, by_rules, is_suspend}
+use Rattle.xa_tables.specs.{is_fail, dissociated, coded}
+use Rattle.xa_tables.specs.declared.state.State.TheVariants.{Prepared}
 use Rattle.xa_tables.specs.declared.state.HeuristicDecision.TheVariants as decision
-use Rattle.xa_tables.specs.Tables.{Tables, has_opened, has_association, is_at_work, is_suspended, is_associated, branch_of, exists, is_idle, is_prepared}
-use Rattle.xa_tables.specs.Tables.{is_rollback_only, is_completed, is_left, reason_in, decision_in, state_of, is_somebody_associated, is_declared, has_touched}
-use Rattle.xa_tables.specs.Tables.{has_other_touched, is_broken}
-use Rattle.xa_tables.specs.Next.{Answer, next, needs_opening, by_rules, is_suspend, is_fail, dissociated}
-use Rattle.xa_tables.specs.History.{History, coded}
+use Rattle.xa_tables.specs.Tables.{Tables}
+use Rattle.xa_tables.specs.History.{History}
 use Rattle.xa_tables.proofs.ShutLemmas.{next-shut}
-use Rattle.xa_desk.specs.LedgerView.{is_rm_fail}
-use Rattle.xa_worker.specs.Journal.{Entry, codes_in}
+use Rattle.xa_desk.specs.{is_rm_fail}
+use Rattle.xa_worker.specs.{Entry, codes_in}
 
 -- the code isn't XAER_RMFAIL
 record Tells (a : Answer) : Type 0 where

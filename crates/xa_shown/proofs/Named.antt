@@ -1,47 +1,36 @@
 -- Lines that don't name a branch put nothing into the journals that does.
 use Rattle.xa_atomicity.proofs.Requests.{none_all}
-use Rattle.std.proofs.Common.{◌≡◌, ◌≢◌, ℕ, zero, suc, ◌⊎◌, ⊎_elim, inl, inr, Bool, true, false, ◌==◌, ◌&&◌, List, [], ◌∷◌, Option, Some, None, sym, refl, ap}
-use Rattle.std.proofs.Common.{◌∙◌}
-use Rattle.std.specs.Prelude.{if◌then◌else◌, All, Result, Ok, Err, get_or}
-use Rattle.std.proofs.lemmas.Bool.{eq-eqb, or_parts}
-use Rattle.std.specs.List.{list_any, slice_index_or}
-use Rattle.xa_base.specs.Lists.{Chain}
+use Rattle.xa_base.proofs.{◌≡◌, ◌≢◌, ℕ, zero, suc, ◌⊎◌, ⊎_elim, inl, inr, Bool, true, false, ◌==◌, ◌&&◌, List, [], ◌∷◌, Option, Some, None, sym, refl, ap, ◌∙◌}
+use Rattle.xa_base.proofs.{if◌then◌else◌, All, Result, Ok, Err, get_or, eq-eqb, or_parts, list_any, slice_index_or, all_mid, all_left}
+use Rattle.xa_base.specs.{Chain}
 use Rattle.xa_base.specs.Lists.Chain.{none as no_step, more as one_step}
-use Rattle.xa_base.proofs.Lists.{all_mid, all_left}
-use Rattle.xa_words.specs.Xid.{XidName, xid_eq}
-use Rattle.xa_words.specs.Flags.{check_flags, TMASYNC}
+use Rattle.xa_words.specs.{XidName, xid_eq, check_flags, TMASYNC, Call, Mode, Op, RmOp, Decides-xid_eq}
 use Rattle.xa_words.specs.declared.code.Code.{Code}
-use Rattle.xa_words.specs.declared.flags.Call.{Call}
 use Rattle.xa_words.specs.declared.flags.Call.TheVariants as call
-use Rattle.xa_words.specs.declared.flags.Mode.{Mode}
-use Rattle.xa_words.specs.declared.request.Op.{Op}
 use Rattle.xa_words.specs.declared.request.Op.TheVariants as op
-use Rattle.xa_words.specs.declared.request.RmOp.{RmOp}
 use Rattle.xa_words.specs.declared.request.RmOp.TheVariants as rm
-use Rattle.xa_tables.specs.Prepared.{names}
-use Rattle.xa_worker.specs.Journal.{Entry}
-use Rattle.xa_calls.specs.Asking.{◌>>=◌, op_by, asked_of, native, rm_op}
+use Rattle.xa_tables.specs.{names}
+use Rattle.xa_worker.specs.{Entry}
+use Rattle.xa_calls.specs.Asking.{◌>>=◌}
+use Rattle.xa_calls.specs.{op_by, asked_of, native, rm_op, start_of, Recovers, RecoversFrom, RecoversBy}
 use Rattle.xa_switch.specs.Settling.{Settling}
-use Rattle.xa_calls.specs.Scans.{Asking, start_of, Recovers, RecoversFrom, RecoversBy}
-use Rattle.xa_scan.specs.Left.{ScanView, standing, left_at, place_at}
+use Rattle.xa_calls.specs.Scans.{Asking}
+use Rattle.xa_scan.specs.{ScanView, standing, left_at, place_at}
 use Rattle.xa_calls.specs.Scans.Recovers.{unreached, stopped, told as found_some}
-use Rattle.xa_driver.specs.declared.branch.Branch.{Branch}
+use Rattle.xa_driver.specs.{Branch}
 use Rattle.xa_grammar.specs.declared.step.Calling.TheVariants as calling
 use Rattle.xa_grammar.specs.declared.step.Action.TheVariants as action
-use Rattle.xa_grammar.specs.Steps.{ScriptCalling, ScriptCalled, ScriptAction}
-use Rattle.xa_transcript.specs.declared.answer.Answer.{Answer}
-use Rattle.xa_session.specs.Committing.{branches_of}
-use Rattle.xa_telling.specs.Wants.{wanted, wanted_by}
+use Rattle.xa_grammar.specs.{ScriptCalling, ScriptCalled, ScriptAction}
+use Rattle.xa_transcript.specs.{Answer}
+use Rattle.xa_session.specs.{branches_of}
+use Rattle.xa_telling.specs.{wanted, wanted_by, Part, Asked, CallTakes, Line, Takes, TakesPart}
 use Rattle.xa_telling.specs.Wants.Wanted.{code_of, handle_for}
-use Rattle.xa_telling.specs.Parts.{Part, Asked, CallTakes}
 use Rattle.xa_shown.proofs.Adds.{Adds, TaskSo, adds_both, adds_none, op_in, takes_add}
 use Rattle.xa_atomicity.proofs.Between.{Unnamed, second_unnamed, outcome_unnamed, third_unnamed}
-use Rattle.xa_words.specs.Orders.{Decides-xid_eq}
 use Rattle.xa_telling.specs.Parts.CallTakes.{answered, kept, refused, completes, lists}
 use Rattle.xa_telling.specs.Commits.CommitTakes.{refused as takes_none, decided, undecided, died}
 use Rattle.xa_telling.specs.Resolves.ResolveTakes.{refused as ends_none, resolved}
-use Rattle.xa_telling.specs.Journals.{Line, Takes, TakesPart}
-use Rattle.xa_shown.specs.Outcomes.{branches_by, is_among, names_it}
+use Rattle.xa_shown.specs.{branches_by, is_among, names_it}
 
 -- ---- what is added
 

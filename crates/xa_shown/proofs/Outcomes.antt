@@ -1,44 +1,30 @@
 -- All branches of a commit: what the line shows of them became of them.
-use Rattle.xa_atomicity.specs.Outcomes.{OnlyTheseName, OnlyTheseOrDecisionsName, AreLeftAlone, AreLeftOrDecided, EachOutcome, is_committed, is_rolled_back}
-use Rattle.xa_atomicity.specs.Outcomes.{is_in_doubt, is_heuristic, is_left, is_read_only, KeepsItsVote, TellsTheFate}
-use Rattle.std.proofs.Common.{◌≡◌, ℕ, inl, inr, Bool, true, false, ◌||◌, List, [], ◌∷◌, length, Option, sym, refl, ap, ◌∙◌, subst, slice_index_or}
-use Rattle.std.specs.Prelude.{pos, if◌then◌else◌, All}
-use Rattle.std.specs.List.{list_any}
-use Rattle.std.proofs.lemmas.Bool.{cases_Bool, or_parts}
-use Rattle.std.proofs.lemmas.List.Elements.{All-head, All-tail, All-cons, All-nil, All-append}
+use Rattle.xa_atomicity.specs.{OnlyTheseName, OnlyTheseOrDecisionsName, AreLeftAlone, AreLeftOrDecided, EachOutcome, is_rolled_back, is_in_doubt, is_heuristic}
+use Rattle.xa_atomicity.specs.{is_left, is_read_only, KeepsItsVote, TellsTheFate, Shares}
+use Rattle.xa_atomicity.specs.Outcomes.{is_committed}
+use Rattle.xa_base.proofs.{◌≡◌, ℕ, inl, inr, Bool, true, false, ◌||◌, List, [], ◌∷◌, length, Option, sym, refl, ap, ◌∙◌, subst, slice_index_or, pos}
+use Rattle.xa_base.proofs.{if◌then◌else◌, All, list_any, cases_Bool, or_parts, All-head, All-tail, All-cons, All-nil, All-append, list_any_none}
 use Rattle.xa_words.specs.declared.code.Code.{Code}
 use Rattle.xa_tables.specs.Tables.{Tables}
-use Rattle.xa_switch.specs.Settling.{Settling, IsSettled, journal, sent, collected}
-use Rattle.xa_switch.specs.Fates.{IsOpenedWith, history as history_of}
-use Rattle.xa_driver.specs.declared.branch.Branch.{Branch}
-use Rattle.xa_driver.specs.declared.done.Done.{Done as Outcome}
-use Rattle.xa_driver.specs.declared.done.Ending.{Ending}
-use Rattle.xa_driver.specs.declared.done.Ending.TheVariants.{Committed, ReadOnly, InDoubt, Heuristic}
-use Rattle.xa_atomicity.specs.Additions.{Shares}
-use Rattle.xa_driver.specs.Decision.{is_no}
-use Rattle.xa_driver.specs.Endings.{ending_of}
+use Rattle.xa_switch.specs.Settling.{Settling}
+use Rattle.xa_switch.specs.{IsSettled, journal, sent, collected, IsOpenedWith, history as history_of}
+use Rattle.xa_driver.specs.{Branch, Done as Outcome, Ending, Committed, ReadOnly, InDoubt, Heuristic, is_no, ending_of, AtBranch}
 use Rattle.xa_atomicity.specs.Tabled.{Tabled}
 use Rattle.xa_atomicity.proofs.Courses.{course_of}
 use Rattle.xa_atomicity.proofs.OneOutcome.{not_rolled_back, uncommitted}
 use Rattle.xa_atomicity.proofs.Settled.{Both, Fated, InHistory, one_both, one_fated, outcome_map, each_outcome, site_of}
-use Rattle.xa_session.specs.Committing.{branches_of}
-use Rattle.xa_words.specs.Tran.{TranName}
-use Rattle.xa_grammar.specs.declared.step.CommitAll.{CommitAll}
-use Rattle.xa_grammar.specs.Steps.{ScriptStep}
+use Rattle.xa_session.specs.{branches_of}
+use Rattle.xa_words.specs.{TranName}
+use Rattle.xa_grammar.specs.{CommitAll, ScriptStep}
 use Rattle.xa_grammar.specs.Content.{Content}
-use Rattle.xa_transcript.specs.declared.answer.Told.{Told}
-use Rattle.xa_telling.specs.Parts.{Part}
-use Rattle.xa_base.specs.Lists.{Chain}
+use Rattle.xa_transcript.specs.{Told}
+use Rattle.xa_telling.specs.{Part, CarriesOut, Decides, Line, TakesPart, AreCarriedOut, ShowsCommit, entries_of, Beginning, Opening, TellsOf}
+use Rattle.xa_base.specs.{Chain}
 use Rattle.xa_base.specs.Lists.Chain.{none, more}
-use Rattle.xa_telling.specs.Commits.{CarriesOut, Decides}
-use Rattle.xa_driver.specs.Course.{AtBranch}
-use Rattle.xa_telling.specs.Journals.{Line, TakesPart, AreCarriedOut, ShowsCommit, entries_of}
-use Rattle.xa_telling.specs.ToldOpenings.{Beginning, Opening, TellsOf}
-use Rattle.xa_shown.specs.Outcomes.{IsOneOutcome, ShowsOneOutcome, Place, IsAsShown, CountsAsShown, entered_so_far}
+use Rattle.xa_shown.specs.{IsOneOutcome, ShowsOneOutcome, Place, IsAsShown, CountsAsShown, entered_so_far}
 use Rattle.xa_telling.proofs.Entries.{agreed_fits}
 use Rattle.xa_shown.proofs.Shown.{decided_so, none_against}
 use Rattle.xa_atomicity.proofs.Requests.{none_all}
-use Rattle.std.proofs.lemmas.List.Folds.{list_any_none}
 use Rattle.xa_shown.proofs.Placed.{chain_adds}
 use Rattle.xa_shown.proofs.Became.{entered, branch_entered}
 use Rattle.xa_shown.proofs.Adds.{Adds}

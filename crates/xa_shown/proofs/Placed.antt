@@ -1,14 +1,13 @@
 -- The place of a line among those of its thread.
-use Rattle.std.proofs.Common.{◌≡◌, ℕ, ◌⊎◌, ⊎_elim, inl, inr, List, [], ◌∷◌, ◌++◌, length, length-append, append_assoc, sym, refl, ap, ◌∙◌, subst, arith}
-use Rattle.xa_base.specs.Lists.{Chain}
+use Rattle.xa_base.proofs.{◌≡◌, ℕ, ◌⊎◌, ⊎_elim, inl, inr, List, [], ◌∷◌, ◌++◌, length, length-append, append_assoc, sym, refl, ap, ◌∙◌, subst, arith}
+use Rattle.xa_base.proofs.{snoc_parts}
+use Rattle.xa_base.specs.{Chain}
 use Rattle.xa_base.specs.Lists.Chain.{none, more}
-use Rattle.xa_base.proofs.Lists.{snoc_parts}
 use Rattle.xa_switch.specs.Settling.{Settling}
-use Rattle.xa_grammar.specs.Steps.{ScriptStep}
-use Rattle.xa_transcript.specs.declared.answer.Told.{Told}
-use Rattle.xa_telling.specs.Parts.{Part}
-use Rattle.xa_telling.specs.Journals.{Line, TakesPart, AreCarriedOut}
-use Rattle.xa_shown.specs.Outcomes.{Place}
+use Rattle.xa_grammar.specs.{ScriptStep}
+use Rattle.xa_transcript.specs.{Told}
+use Rattle.xa_telling.specs.{Part, Line, TakesPart, AreCarriedOut}
+use Rattle.xa_shown.specs.{Place}
 use Rattle.xa_driver.proofs.Mapped.{Any}
 use Rattle.xa_shown.proofs.Adds.{Adds, adds_none, adds_both, takes_adds}
 

@@ -2,57 +2,37 @@
 use Rattle.xa_atomicity.proofs.Requests.{none_all}
 use Rattle.xa_atomicity.proofs.OneOutcome.{uncommitted, unvoted}
 use Rattle.xa_atomicity.specs.Outcomes.{is_committed}
-use Rattle.xa_driver.specs.Endings.{ending_of, second_op, third_op, yes_ending, is_heuristic}
-use Rattle.xa_base.proofs.Truth.{by_if, at_true}
-use Rattle.std.proofs.lemmas.Bool.{both_ways, not-true, true_from_ne_false, and_parts, eq-eqb}
-use Rattle.std.proofs.Common.{◌≡◌, ℕ, pos, Bool, true, false, ◌==◌, ◌||◌, not, List, [], ◌∷◌, ◌++◌, length, Option, Some, None, sym, refl, ap, ◌∙◌, subst}
-use Rattle.std.proofs.Common.{⊎_elim, zero, suc, ◌<◌, arith, slice_index_or}
-use Rattle.std.specs.Prelude.{get_or, slice_get, All}
-use Rattle.std.specs.List.{Contains, filter, list_any}
-use Rattle.std.proofs.lemmas.List.Folds.{list_any_none}
-use Rattle.std.proofs.lemmas.List.Elements.{Contains-append_left, Contains-push, Contains-push_cases, Contains-get_or, All-contains, All-filter}
-use Rattle.std.proofs.lemmas.List.Elements.{All-contains_itself}
+use Rattle.xa_driver.specs.{ending_of, second_op, third_op, yes_ending, is_heuristic, Branch, Done as Outcome, Ending, Committed, is_commit, is_yes, is_no}
+use Rattle.xa_driver.specs.{decides_commit, has_yes, AsksFor, AtBranch, EachBranch, decision_of}
+use Rattle.xa_base.proofs.{by_if, at_true, not-true, and_parts, eq-eqb, ◌≡◌, ℕ, pos, Bool, true, false, ◌==◌, ◌||◌, not, List, [], ◌∷◌, ◌++◌, length, Option}
+use Rattle.xa_base.proofs.{Some, None, sym, refl, ap, ◌∙◌, subst, ⊎_elim, zero, suc, ◌<◌, arith, slice_index_or, get_or, slice_get, All, Contains, filter}
+use Rattle.xa_base.proofs.{list_any, list_any_none, Contains-append_left, All-contains, all_at, some_same}
+use Rattle.std.proofs.lemmas.Bool.{both_ways, true_from_ne_false}
+use Rattle.std.proofs.lemmas.List.Elements.{Contains-push, Contains-push_cases, Contains-get_or, All-filter, All-contains_itself}
 use Rattle.xa_words.specs.Code.{number_of}
 use Rattle.xa_words.specs.declared.code.Code.{Code}
-use Rattle.xa_words.specs.declared.code.Code.TheVariants.{Done, RmErr, Inval, RmFail}
-use Rattle.xa_words.specs.declared.request.Op.{Op}
-use Rattle.xa_words.specs.declared.request.Op.TheVariants.{Prepare, Commit}
-use Rattle.xa_tables.specs.History.{is_done}
-use Rattle.xa_desk.specs.LedgerView.{is_rm_fail}
-use Rattle.xa_worker.specs.Journal.{Entry, entry}
-use Rattle.xa_switch.specs.Settling.{Settling, journal}
-use Rattle.xa_driver.specs.declared.branch.Branch.{Branch}
-use Rattle.xa_driver.specs.declared.done.Done.{Done as Outcome}
-use Rattle.xa_driver.specs.declared.done.Ending.{Ending}
-use Rattle.xa_driver.specs.declared.done.Ending.TheVariants.{Committed}
-use Rattle.xa_driver.specs.Commits.{is_commit}
-use Rattle.xa_driver.specs.Decision.{is_yes, is_no, decides_commit, has_yes}
-use Rattle.xa_driver.specs.Course.{AsksFor, AtBranch}
-use Rattle.xa_driver.specs.Trace.{EachBranch, decision_of}
+use Rattle.xa_words.specs.{Done, RmErr, Inval, RmFail, Op, Prepare, Commit, TranName}
+use Rattle.xa_tables.specs.{is_done}
+use Rattle.xa_desk.specs.{is_rm_fail}
+use Rattle.xa_worker.specs.{Entry, entry}
+use Rattle.xa_switch.specs.Settling.{Settling}
+use Rattle.xa_switch.specs.{journal}
 use Rattle.xa_atomicity.proofs.Aborts.{IsNoCommit}
 use Rattle.xa_atomicity.proofs.Asked.{second_so, third_so}
 use Rattle.xa_driver.proofs.Mapped.{Any, IsAskedFor, any_asked, for_by, rest_by}
 use Rattle.xa_shown.proofs.Adds.{Adds, adds_none, carries_on, decides_adds, takes_adds}
-use Rattle.xa_words.specs.Tran.{TranName}
-use Rattle.xa_grammar.specs.declared.step.CommitAll.{CommitAll}
-use Rattle.xa_grammar.specs.Steps.{ScriptCalled, ScriptAction, ScriptStep}
-use Rattle.xa_transcript.specs.declared.answer.Answer.{Answer}
-use Rattle.xa_transcript.specs.declared.answer.Told.{Told}
+use Rattle.xa_grammar.specs.{CommitAll, ScriptCalled, ScriptAction, ScriptStep}
+use Rattle.xa_transcript.specs.{Answer, Told, Called as shown}
 use Rattle.xa_transcript.specs.declared.answer.Answer.TheVariants as answer
-use Rattle.xa_base.specs.Lists.{Chain}
+use Rattle.xa_base.specs.{Chain}
 use Rattle.xa_base.specs.Lists.Chain.{none, more}
-use Rattle.xa_transcript.specs.declared.answer.Answer.TheVariants.{Called as shown}
-use Rattle.xa_session.specs.Committing.{branches_of}
-use Rattle.xa_telling.specs.Wants.{wanted_in, refusals, IsRefusal}
-use Rattle.xa_telling.specs.Parts.{Part, next_entry, CallTakes}
-use Rattle.xa_telling.specs.Commits.{CarriesOut, Decides, CommitTakes}
-use Rattle.xa_telling.specs.Journals.{Line, Takes, TakesPart, entries_of, AreCarriedOut, IsInJournal, IsCarriedOut, ShowsCommit, AreCommitted, ArePrepared}
-use Rattle.xa_telling.specs.Journals.{AddsNoCommit}
+use Rattle.xa_session.specs.{branches_of}
+use Rattle.xa_telling.specs.{wanted_in, refusals, IsRefusal, Part, next_entry, CallTakes, CarriesOut, Decides, CommitTakes, Line, Takes, TakesPart, entries_of}
+use Rattle.xa_telling.specs.{AreCarriedOut, IsInJournal, IsCarriedOut, ShowsCommit, AreCommitted, ArePrepared, AddsNoCommit}
 use Rattle.xa_telling.specs.Wants.Wanted.{code_of, handle_for, completion, listing}
 use Rattle.xa_telling.specs.Parts.CallTakes.{answered, kept, refused, completes, lists}
 use Rattle.xa_telling.specs.Commits.CarriesOut.{carried, withheld}
 use Rattle.xa_telling.specs.Commits.CommitTakes.{refused as takes_none, decided, undecided, died}
-use Rattle.xa_base.proofs.Lists.{all_at, some_same}
 
 -- ---- codes
 

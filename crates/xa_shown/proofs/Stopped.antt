@@ -1,47 +1,27 @@
 -- What became of the branches of a commit that came to no end.
-use Rattle.xa_tables.specs.Prepared.{is_heur}
-use Rattle.std.specs.Global.{Global}
-use Rattle.std.specs.Prelude.{Vec, slice_get, All}
-use Rattle.std.proofs.Common.{◌≡◌, ℕ, inl, inr, suc, ◌<◌, ◌≤◌, Bool, true, false, ◌||◌, if◌then◌else◌, List, [], ◌∷◌, ◌++◌, length, length-append, append_assoc}
-use Rattle.std.proofs.Common.{append-nil, Option, zero, Some, None, get_or, sym, refl, ap, ◌∙◌, subst, arith}
-use Rattle.std.specs.List.{list_any}
-use Rattle.std.proofs.Math.Bool.{or-true}
-use Rattle.std.proofs.lemmas.Bool.{both_ways, cases_Bool}
-use Rattle.std.proofs.lemmas.List.Elements.{All-cons, All-nil, All-head, All-tail}
+use Rattle.xa_tables.specs.{is_heur, HeuristicDecision, Fate, decided_fate, fate, is_in_doubt as is_unknown, is_rolled_back as rolls_back}
+use Rattle.xa_base.proofs.{Global, Vec, slice_get, All, ◌≡◌, ℕ, inl, inr, suc, ◌<◌, ◌≤◌, Bool, true, false, ◌||◌, if◌then◌else◌, List, [], ◌∷◌, ◌++◌, length}
+use Rattle.xa_base.proofs.{length-append, append_assoc, append-nil, Option, zero, Some, None, get_or, sym, refl, ap, ◌∙◌, subst, arith, list_any, or-true}
+use Rattle.xa_base.proofs.{cases_Bool, All-cons, All-nil, All-head, All-tail, begins_same, next_there, some_same}
+use Rattle.std.proofs.lemmas.Bool.{both_ways}
 use Rattle.std.proofs.lemmas.Option.{slice_get_past}
-use Rattle.xa_base.specs.Lists.{Begins}
-use Rattle.xa_base.proofs.Lists.{begins_same, next_there, some_same}
-use Rattle.xa_words.specs.Tran.{TranName}
+use Rattle.xa_base.specs.{Begins}
+use Rattle.xa_words.specs.{TranName, Done, RmFail, Death, Op, Prepare}
 use Rattle.xa_words.specs.declared.code.Code.{Code}
-use Rattle.xa_words.specs.declared.code.Code.TheVariants.{Done, RmFail}
-use Rattle.xa_words.specs.declared.death.Death.{Death}
 use Rattle.xa_words.specs.declared.death.Death.TheVariants as death
-use Rattle.xa_words.specs.declared.request.Op.{Op}
-use Rattle.xa_words.specs.declared.request.Op.TheVariants.{Prepare}
-use Rattle.xa_tables.specs.declared.state.HeuristicDecision.{HeuristicDecision}
 use Rattle.xa_tables.specs.Tables.{Tables}
 use Rattle.xa_tables.specs.History as history
-use Rattle.xa_tables.specs.History.{Fate, decided_fate, fate, is_in_doubt as is_unknown, is_rolled_back as rolls_back}
-use Rattle.xa_worker.specs.Journal.{Entry}
-use Rattle.xa_switch.specs.Settling.{Settling, IsSettled, collected, journal, sent}
-use Rattle.xa_switch.specs.Fates.{IsOpenedWith, history as history_of, settled_fate}
+use Rattle.xa_worker.specs.{Entry}
+use Rattle.xa_switch.specs.Settling.{Settling}
+use Rattle.xa_switch.specs.{IsSettled, collected, journal, sent, IsOpenedWith, history as history_of, settled_fate}
 use Rattle.xa_calls.specs.Scans.{Asking}
-use Rattle.xa_driver.specs.declared.branch.Branch.{Branch}
-use Rattle.xa_driver.specs.declared.done.Done.{Done as Outcome}
-use Rattle.xa_driver.specs.declared.done.Ending.{Ending}
-use Rattle.xa_driver.specs.declared.done.Ending.TheVariants.{Committed, RolledBack}
-use Rattle.xa_driver.specs.Course.{AsksFor}
-use Rattle.xa_driver.specs.Deaths.{CameTo, HaveAsked, HaveTold, IsDecidedBy, Tells, VotesAndObeys, to_come}
-use Rattle.xa_driver.specs.Decision.{has_yes, is_no, is_yes}
-use Rattle.xa_driver.specs.Endings.{ending_of, second_op}
-use Rattle.xa_driver.specs.Trace.{EachBranch}
+use Rattle.xa_driver.specs.{Branch, Done as Outcome, Ending, Committed, RolledBack, AsksFor, CameTo, HaveAsked, HaveTold, IsDecidedBy, Tells, VotesAndObeys}
+use Rattle.xa_driver.specs.{to_come, has_yes, is_no, is_yes, ending_of, second_op, EachBranch}
 use Rattle.xa_driver.proofs.Mapped.{Any}
-use Rattle.xa_log.specs.Log.{LogState, record_of}
-use Rattle.xa_atomicity.specs.Cut.{is_recorded}
-use Rattle.xa_atomicity.specs.Outcomes.{AreLeftAlone, AreLeftOrDecided, EachOutcome, IsDecidedAfter, OnlyTheseName, OnlyTheseOrDecisionsName, WasAtFirst}
-use Rattle.xa_atomicity.specs.Outcomes.{is_heuristic, is_in_doubt, is_left, told_fate}
+use Rattle.xa_log.specs.{LogState, record_of}
+use Rattle.xa_atomicity.specs.{is_recorded, AreLeftAlone, AreLeftOrDecided, EachOutcome, IsDecidedAfter, OnlyTheseName, OnlyTheseOrDecisionsName, WasAtFirst}
+use Rattle.xa_atomicity.specs.{is_heuristic, is_in_doubt, is_left, told_fate, ended_as}
 use Rattle.xa_atomicity.specs.Outcomes.IsInDoubtUnlessDecided.{decided as was_decided, undecided}
-use Rattle.xa_atomicity.specs.Resolution.{ended_as}
 use Rattle.xa_atomicity.specs.Tabled.{Tabled}
 use Rattle.xa_atomicity.proofs.Courses.{course_obeyed, own_plain}
 use Rattle.xa_atomicity.proofs.Guided.{decided_known}
@@ -50,19 +30,15 @@ use Rattle.xa_atomicity.proofs.OneOutcome.{after_yes}
 use Rattle.xa_atomicity.proofs.Records.{recorded_is}
 use Rattle.xa_atomicity.proofs.Settled.{Both, Fated, InHistory, each_outcome, one_both, one_fated, outcome_map, site_of}
 use Rattle.xa_atomicity.proofs.Sites.{Sent, AsksIn, asks, withholds, StandsIn}
-use Rattle.xa_grammar.specs.declared.step.CommitAll.{CommitAll}
-use Rattle.xa_session.specs.Committing.{branches_of, named}
-use Rattle.xa_telling.specs.Parts.{Part, next_entry}
-use Rattle.xa_telling.specs.Commits.{CarriesOut, CarriesOutSome, LosesSight, StopsAt}
+use Rattle.xa_grammar.specs.{CommitAll}
+use Rattle.xa_session.specs.{branches_of, named}
+use Rattle.xa_telling.specs.{Part, next_entry, CarriesOut, CarriesOutSome, LosesSight, StopsAt, Line, entries_of, Beginning, Opening, TellsOf}
 use Rattle.xa_telling.specs.Commits.CarriesOut.{carried, withheld}
-use Rattle.xa_telling.specs.Journals.{Line, entries_of}
-use Rattle.xa_telling.specs.ToldOpenings.{Beginning, Opening, TellsOf}
 use Rattle.xa_grammar.specs.Content.{Content}
 use Rattle.xa_telling.proofs.Deaths.{asked_so, each_so}
 use Rattle.xa_telling.proofs.Entries.{agreed_fits}
-use Rattle.xa_shown.specs.Outcomes.{Place, entered_so_far}
-use Rattle.xa_shown.specs.Unfinished.{EndByTheRecord, EndsByTheRecord, EndSoOrAreDecided, EndsSoOrIsDecided, HasAgreed, IsAsFarAsShown, IsAsFarUnlessDecided}
-use Rattle.xa_shown.specs.Unfinished.{ShowsDeath, ShowsUndecided, are_told_by}
+use Rattle.xa_shown.specs.{Place, entered_so_far, EndByTheRecord, EndsByTheRecord, EndSoOrAreDecided, EndsSoOrIsDecided, HasAgreed, IsAsFarAsShown}
+use Rattle.xa_shown.specs.{IsAsFarUnlessDecided, ShowsDeath, ShowsUndecided, are_told_by}
 use Rattle.xa_shown.specs.Unfinished.EndsByTheRecord.{ends, doubts}
 use Rattle.xa_shown.specs.Unfinished.EndsSoOrIsDecided.{decided, ends_so}
 use Rattle.xa_shown.proofs.Adds.{Adds}

@@ -1,22 +1,18 @@
 -- What is shown of a key is its value at the first opening and what the journals have added to it.
-use Rattle.std.proofs.Common.{◌≡◌, ℕ, ◌≤◌, List, map, Option, None, Some, option_map, refl, sym, ap, ◌∙◌, get_or}
-use Rattle.std.specs.Prelude.{pos, ◌+ℤ◌, All}
+use Rattle.xa_base.proofs.{◌≡◌, ℕ, ◌≤◌, List, map, Option, None, Some, option_map, refl, sym, ap, ◌∙◌, get_or, pos, ◌+ℤ◌, All, all_unmapped, some_same, All-map}
 use Rattle.std.specs.FinMap as finmap
 use Rattle.std.proofs.lemmas.List.Sorted.{All-permutation}
-use Rattle.xa_base.proofs.Lists.{all_unmapped, some_same}
-use Rattle.xa_base.specs.Lists.{Chain}
+use Rattle.xa_base.specs.{Chain}
 use Rattle.xa_tables.specs.Tables.{Tables}
-use Rattle.xa_tables.specs.History.{History, Absent}
-use Rattle.xa_tables.specs.Openings.{added_over}
-use Rattle.xa_switch.specs.Settling.{Settling, IsSettled}
-use Rattle.xa_switch.specs.Fates.{IsOpenedWith, first_of}
-use Rattle.xa_grammar.specs.declared.script.Declared.{Declared}
-use Rattle.xa_grammar.specs.Content.{Content, IsScript, managers_of}
-use Rattle.xa_transcript.specs.declared.answer.Told.{Told}
-use Rattle.xa_telling.specs.ToldOpenings.{Beginning, Opening, Former, TellsOf, Leaves, Tells, beginning, settled_over}
-use Rattle.xa_shown.specs.Outcomes.{IsSumOfShares}
-use Rattle.xa_transcript.specs.Values.{opened, opened_after, histories, name_of}
-use Rattle.std.proofs.lemmas.List.Elements.{All-map}
+use Rattle.xa_tables.specs.History.{History}
+use Rattle.xa_tables.specs.{Absent, added_over}
+use Rattle.xa_switch.specs.Settling.{Settling}
+use Rattle.xa_switch.specs.{IsSettled, IsOpenedWith, first_of}
+use Rattle.xa_grammar.specs.{Declared, IsScript, managers_of}
+use Rattle.xa_grammar.specs.Content.{Content}
+use Rattle.xa_transcript.specs.{Told, opened, opened_after, histories, name_of}
+use Rattle.xa_telling.specs.{Beginning, Opening, Former, TellsOf, Leaves, Tells, beginning, settled_over}
+use Rattle.xa_shown.specs.{IsSumOfShares}
 use Rattle.xa_shown.proofs.Placed.{part}
 use Rattle.xa_transcript.proofs.Worth.{first_is}
 use Rattle.xa_telling.proofs.Again.{begins_after}

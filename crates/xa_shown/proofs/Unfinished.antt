@@ -1,43 +1,28 @@
 -- What a commit that came to no end left, by the line that shows it: it goes by the record.
-use Rattle.std.proofs.Common.{⊎_elim, ◌≡◌, ℕ, inl, inr, Bool, true, false, ◌&&◌, List, [], Option, None, get_or, sym, refl, ap, ◌∙◌, subst}
-use Rattle.std.specs.Global.{Global}
-use Rattle.std.specs.Prelude.{Vec, ◌⊎◌, All, is_some, not}
-use Rattle.std.specs.List.{list_any}
-use Rattle.std.proofs.Math.Bool.{or-true}
-use Rattle.std.proofs.lemmas.Bool.{and_parts}
-use Rattle.std.proofs.lemmas.List.Folds.{list_any_none}
-use Rattle.xa_words.specs.Tran.{TranName}
+use Rattle.xa_base.proofs.{⊎_elim, ◌≡◌, ℕ, inl, inr, Bool, true, false, ◌&&◌, List, [], Option, None, get_or, sym, refl, ap, ◌∙◌, subst, Global, Vec, ◌⊎◌, All}
+use Rattle.xa_base.proofs.{is_some, not, list_any, or-true, and_parts, list_any_none}
+use Rattle.xa_words.specs.{TranName, Death, Op}
 use Rattle.xa_words.specs.declared.code.Code.{Code}
-use Rattle.xa_words.specs.declared.death.Death.{Death}
 use Rattle.xa_words.specs.declared.death.Death.TheVariants as death
-use Rattle.xa_words.specs.declared.request.Op.{Op}
-use Rattle.xa_worker.specs.Journal.{Entry}
+use Rattle.xa_worker.specs.{Entry}
 use Rattle.xa_switch.specs.Settling.{Settling}
 use Rattle.xa_calls.specs.Scans.{Asking}
-use Rattle.xa_driver.specs.declared.branch.Branch.{Branch}
-use Rattle.xa_driver.specs.declared.done.Done.{Done as Outcome}
-use Rattle.xa_driver.specs.declared.done.Ending.{Ending}
-use Rattle.xa_driver.specs.Commits.{is_commit}
-use Rattle.xa_driver.specs.Deaths.{CameTo, IsDecidedBy, Putting, VotesAndObeys}
-use Rattle.xa_driver.specs.Decision.{decides_commit, has_yes, is_no}
-use Rattle.xa_driver.specs.Trace.{EachBranch, decision_of}
-use Rattle.xa_log.specs.Log.{LogState, record_of}
-use Rattle.xa_atomicity.specs.Cut.{is_recorded, is_rollback}
-use Rattle.xa_atomicity.specs.Outcomes.{EachOutcome, is_committed, is_rolled_back}
+use Rattle.xa_driver.specs.{Branch, Done as Outcome, Ending, is_commit, CameTo, IsDecidedBy, Putting, VotesAndObeys, decides_commit, has_yes, is_no, EachBranch}
+use Rattle.xa_driver.specs.{decision_of}
+use Rattle.xa_log.specs.{LogState, record_of}
+use Rattle.xa_atomicity.specs.{is_recorded, is_rollback, EachOutcome, is_rolled_back}
+use Rattle.xa_atomicity.specs.Outcomes.{is_committed}
 use Rattle.xa_atomicity.proofs.CutSends.{NotToCommit, decided_so, no_commit_so, no_rollback_so, undecided_so}
 use Rattle.xa_atomicity.proofs.OneOutcome.{unvoted}
 use Rattle.xa_atomicity.proofs.Requests.{none_all}
 use Rattle.xa_atomicity.proofs.Aborts.{IsNoCommit}
-use Rattle.xa_grammar.specs.declared.step.CommitAll.{CommitAll}
-use Rattle.xa_grammar.specs.Steps.{ScriptAction}
-use Rattle.xa_transcript.specs.declared.answer.Answer.{Answer}
+use Rattle.xa_grammar.specs.{CommitAll, ScriptAction}
+use Rattle.xa_transcript.specs.{Answer}
 use Rattle.xa_transcript.specs.declared.answer.Answer.TheVariants as answer
-use Rattle.xa_session.specs.Committing.{branches_of, named}
-use Rattle.xa_telling.specs.Parts.{Part}
-use Rattle.xa_telling.specs.Commits.{CarriesOut, CarriesOutSome, CommitTakes, LosesSight, StopsAt}
+use Rattle.xa_session.specs.{branches_of, named}
+use Rattle.xa_telling.specs.{Part, CarriesOut, CarriesOutSome, CommitTakes, LosesSight, StopsAt, Line, Takes, TakesPart}
 use Rattle.xa_telling.specs.Commits.CommitTakes.{refused as takes_none, decided, undecided, died}
-use Rattle.xa_telling.specs.Journals.{Line, Takes, TakesPart}
-use Rattle.xa_shown.specs.Unfinished.{GoesByTheRecord, ShowsDeath, ShowsUndecided}
+use Rattle.xa_shown.specs.{GoesByTheRecord, ShowsDeath, ShowsUndecided}
 use Rattle.xa_shown.proofs.Adds.{loses_adds, stops_adds}
 use Rattle.xa_shown.proofs.Outcomes.{Ends, kept_so, no_ending_is, out_so, voted_with}
 use Rattle.xa_atomicity.proofs.Settled.{each_outcome}

@@ -1,28 +1,16 @@
 -- All threads and managers of a settled opening agree.
-use Rattle.std.proofs.Common.{◌≡◌, ℕ, zero, suc, ◌+◌, ◌-◌, ◌<◌, ◌≤◌, Bool, true, false, ◌==◌, nat_eq, cond, List, [], ◌∷◌, length, map, sym, refl, ap, ◌∙◌}
-use Rattle.std.proofs.Common.{subst, ⊎_elim, arith, ne_eqb, Some, None}
-use Rattle.std.specs.List.{All, Contains}
-use Rattle.std.proofs.lemmas.Bool.{eqb-true, cases_lt}
-use Rattle.xa_base.proofs.Lists.{none_twice}
+use Rattle.xa_base.proofs.{◌≡◌, ℕ, zero, suc, ◌+◌, ◌-◌, ◌<◌, ◌≤◌, Bool, true, false, ◌==◌, nat_eq, cond, List, [], ◌∷◌, length, map, sym, refl, ap, ◌∙◌, subst}
+use Rattle.xa_base.proofs.{⊎_elim, arith, ne_eqb, Some, None, All, Contains, eqb-true, cases_lt, none_twice, All-contains}
 use Rattle.xa_words.specs.declared.code.Code.{Code}
-use Rattle.xa_words.specs.declared.request.Op.{Op}
-use Rattle.xa_words.specs.declared.request.Request.{Request}
-use Rattle.xa_words.specs.declared.request.Completion.{Completion}
-use Rattle.xa_lane.specs.Ends.{Receiving}
-use Rattle.xa_tables.specs.History.{of_thread, accepted, parted}
-use Rattle.xa_tables.specs.Openings.{IsOpening}
+use Rattle.xa_words.specs.{Op, Request, Completion}
+use Rattle.xa_lane.specs.{Receiving, items_in}
+use Rattle.xa_tables.specs.{of_thread, accepted, parted, IsOpening}
 use Rattle.xa_desk.specs.LedgerView.{LedgerView}
-use Rattle.xa_desk.specs.DeskView.{is_known, ledger, sent_to, collected_from}
-use Rattle.xa_desk.specs.Ended.{EndedView}
+use Rattle.xa_desk.specs.{is_known, ledger, sent_to, collected_from, EndedView}
 use Rattle.xa_desk.proofs.Ledgers.{known_is, known_true}
-use Rattle.xa_worker.specs.Journal.{Entry, requests}
-use Rattle.xa_worker.specs.Workers.{Asking, asked, of_sender_thread, of_own_thread}
-use Rattle.xa_worker.specs.Done.{Served, IsServed, IsOrdered}
-use Rattle.xa_lane.specs.Closing.{items_in}
-use Rattle.xa_switch.specs.Belonging.{HasDesks, HasWorkers, has_desk, has_worker}
-use Rattle.xa_switch.specs.Settling.{FollowsTables, Agree, IsSettled, ledgers_in, journal_in, find_thread, find_manager}
-use Rattle.xa_switch.specs.Closing.{column, IsClosed, desk_lane, worker_lane, thread_part, manager_part, taken_by, settling}
-use Rattle.std.proofs.lemmas.List.Elements.{All-contains}
+use Rattle.xa_worker.specs.{Entry, requests, Asking, asked, of_sender_thread, of_own_thread, Served, IsServed, IsOrdered}
+use Rattle.xa_switch.specs.{HasDesks, HasWorkers, has_desk, has_worker, FollowsTables, Agree, IsSettled, ledgers_in, journal_in, find_thread, find_manager}
+use Rattle.xa_switch.specs.{column, IsClosed, desk_lane, worker_lane, thread_part, manager_part, taken_by, settling}
 use Rattle.xa_switch.proofs.Lists.{all_map, contains_map, searched}
 use Rattle.xa_switch.proofs.OneLane.{none_of}
 use Rattle.xa_switch.proofs.Pieces.{Joint, workers_opened, request_columns, completion_columns, pair_agrees, known_at}

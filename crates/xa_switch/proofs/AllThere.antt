@@ -1,21 +1,13 @@
 -- In a settled opening every manager is there.
-use Rattle.std.proofs.Common.{◌≡◌, ℕ, zero, ◌-◌, ◌≤◌, true, false, ◌==◌, List, [], ◌∷◌, length, map, refl, sym, ap, ◌∙◌, subst, arith, cond, option_map, Some}
-use Rattle.std.proofs.Common.{None, ⊎_elim}
-use Rattle.std.specs.List.{Contains, list_any}
-use Rattle.std.proofs.lemmas.Bool.{eqb-true}
-use Rattle.std.proofs.lemmas.List.{length-map}
-use Rattle.std.proofs.lemmas.Option.{slice_get_within}
+use Rattle.xa_base.proofs.{◌≡◌, ℕ, zero, ◌-◌, ◌≤◌, true, false, ◌==◌, List, [], ◌∷◌, length, map, refl, sym, ap, ◌∙◌, subst, arith, cond, option_map, Some}
+use Rattle.xa_base.proofs.{None, ⊎_elim, Contains, list_any, eqb-true, length-map, slice_get_within, All-contains}
 use Rattle.xa_desk.specs.LedgerView.{LedgerView}
-use Rattle.xa_desk.specs.Ended.{EndedView, IsEnded}
-use Rattle.xa_worker.specs.Done.{Served}
-use Rattle.xa_switch.specs.Belonging.{has_worker}
-use Rattle.xa_switch.specs.Settling.{ManagerPart, ReadyPart, find_manager}
-use Rattle.xa_switch.specs.Closing.{settling, manager_part, ready_part}
-use Rattle.xa_switch.specs.Again.{IsWhole, managers_in, parts_of, find_ready}
-use Rattle.std.proofs.lemmas.List.Elements.{All-contains}
+use Rattle.xa_desk.specs.{EndedView, IsEnded}
+use Rattle.xa_worker.specs.{Served}
+use Rattle.xa_switch.specs.{has_worker, ManagerPart, ReadyPart, find_manager, settling, manager_part, ready_part, IsWhole, managers_in, parts_of, find_ready}
 use Rattle.xa_switch.proofs.Lists.{searched}
 use Rattle.xa_switch.proofs.Pieces.{Joint, a_worker, sends_at, worker_number}
-use Rattle.xa_base.specs.Lists.{IsUpTo}
+use Rattle.xa_base.specs.{IsUpTo}
 
 pub parts_ready : (ws : List Served) → parts_of (map ready_part ws) ≡ map manager_part ws
 parts_ready [] = refl

@@ -1,15 +1,12 @@
 -- Rows that are dealt into columns.
-use Rattle.std.proofs.Common.{◌≡◌, ℕ, zero, suc, ◌+◌, ◌<◌, ◌≤◌, List, [], ◌∷◌, ◌++◌, length, map, set, get_or, slice_get, drop, refl, sym, ap, ◌∙◌, subst}
-use Rattle.std.proofs.Common.{arith, length-append, ◌⊎◌, ⊎_elim, inl, inr, Some}
-use Rattle.std.specs.List.{All}
-use Rattle.std.proofs.lemmas.List.{get_or-map as get_or-map', map-set, length-map}
+use Rattle.xa_base.proofs.{◌≡◌, ℕ, zero, suc, ◌+◌, ◌<◌, ◌≤◌, List, [], ◌∷◌, ◌++◌, length, map, set, get_or, slice_get, drop, refl, sym, ap, ◌∙◌, subst, arith}
+use Rattle.xa_base.proofs.{length-append, ◌⊎◌, ⊎_elim, inl, inr, Some, All, get_or-map as get_or-map', length-map, option_map, into_iter_items, into_iter_len}
+use Rattle.xa_base.proofs.{slice_get_within, slice_get-map, slice_get-get_or}
+use Rattle.std.proofs.lemmas.List.{map-set}
 use Rattle.std.proofs.Math.ListN.{get_or-map}
 use Rattle.std.proofs.Math.Seq.{map-set_same}
-use Rattle.std.specs.Option.{option_map}
-use Rattle.std.specs.Vec.Iter.{into_iter_items, into_iter_len}
 use Rattle.std.specs.declared.vec.IntoIter.{IntoIter}
-use Rattle.std.proofs.lemmas.Option.{slice_get_within, slice_get-map, slice_get-get_or}
-use Rattle.xa_switch.specs.Columns.{put_row, Each, AreLanes}
+use Rattle.xa_switch.specs.{put_row, Each, AreLanes}
 
 pub no_element : {X : Type 0} (k : ℕ) (x : X) → slice_get [] k ≡ Some x → ⊥
 no_element k x e = cc

@@ -1,16 +1,11 @@
 -- Ends of lanes that are dealt by row into the column of their lane.
-use Rattle.std.proofs.Common.{◌≡◌, ℕ, zero, suc, ◌+◌, ◌<◌, ◌≤◌, List, [], ◌∷◌, ◌++◌, length, map, set, get_or, slice_get, replicate, refl, sym, ap, ◌∙◌, subst}
-use Rattle.std.proofs.Common.{arith, length-append, vec_capacity, Some}
-use Rattle.std.specs.List.{All, AllPairs}
-use Rattle.std.specs.Vec.Iter.{into_iter_items, into_iter_len}
+use Rattle.xa_base.proofs.{◌≡◌, ℕ, zero, suc, ◌+◌, ◌<◌, ◌≤◌, List, [], ◌∷◌, ◌++◌, length, map, set, get_or, slice_get, replicate, refl, sym, ap, ◌∙◌, subst}
+use Rattle.xa_base.proofs.{arith, length-append, vec_capacity, Some, All, AllPairs, into_iter_items, into_iter_len, get_or-map as get_or-map', get_or-set_other}
+use Rattle.xa_base.proofs.{length-map, map-append, All-push, next_place, taken_next}
 use Rattle.std.specs.declared.vec.IntoIter.{IntoIter}
-use Rattle.std.proofs.lemmas.List.{get_or-map as get_or-map', get_or-set_other, map-set, length-map, map-append}
+use Rattle.std.proofs.lemmas.List.{map-set}
 use Rattle.std.proofs.Math.ListN.{get_or-map}
-use Rattle.std.proofs.lemmas.List.Elements.{All-push}
-use Rattle.xa_base.proofs.Lists.{next_place, taken_next}
-use Rattle.xa_switch.specs.Columns.{put_row}
-use Rattle.xa_switch.specs.Closing.{dealt, column, HasTaken, HasRoom, TakesIn}
-use Rattle.xa_switch.specs.declared.settling.gathered.Gathered.{Gathered}
+use Rattle.xa_switch.specs.{put_row, dealt, column, HasTaken, HasRoom, TakesIn, Gathered}
 use Rattle.xa_switch.proofs.Dealing.{length_put, room_stays}
 use Rattle.xa_switch.proofs.Lists.{In, in_front, in_back}
 

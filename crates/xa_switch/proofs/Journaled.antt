@@ -1,19 +1,14 @@
 -- A settled journal is what the tables at the opening make of its requests.
-use Rattle.std.specs.Prelude.{option_map}
-use Rattle.std.proofs.Common.{◌≡◌, ℕ, ◌==◌, List, [], ◌∷◌, sym, refl, ap, ◌∙◌, subst, Option, Some, None}
+use Rattle.xa_base.proofs.{option_map, ◌≡◌, ℕ, ◌==◌, List, [], ◌∷◌, sym, refl, ap, ◌∙◌, subst, Option, Some, None, same_Some, All-contains}
 use Rattle.std.specs.FinMap as finmap
 use Rattle.xa_tables.specs.Tables.{Tables}
-use Rattle.xa_tables.specs.Next.{next}
+use Rattle.xa_tables.specs.{next, coded, codes, fate, tables_after, opening, IsNew, ValueIsSum, left_by}
 use Rattle.xa_words.specs.Orders.{key_cmp}
-use Rattle.xa_tables.specs.History.{History, coded, codes, fate, tables_after}
-use Rattle.xa_tables.specs.Managers.{opening}
-use Rattle.xa_tables.specs.Openings.{IsNew, ValueIsSum, left_by}
+use Rattle.xa_tables.specs.History.{History}
 use Rattle.xa_tables.proofs.Reopening.{new_opens, accounts_new}
-use Rattle.std.proofs.lemmas.Option.{same_Some}
-use Rattle.xa_worker.specs.Journal.{Entry, requests, codes_in}
-use Rattle.xa_switch.specs.Settling.{ManagerPart, Settling, FollowsTables, IsSettled, find_manager, journal_in, value_in}
-use Rattle.xa_switch.specs.Fates.{IsOpenedWith, IsSumOver, fate_in, first_of, history}
-use Rattle.std.proofs.lemmas.List.Elements.{All-contains}
+use Rattle.xa_worker.specs.{Entry, requests, codes_in}
+use Rattle.xa_switch.specs.{ManagerPart, FollowsTables, IsSettled, find_manager, journal_in, value_in, IsOpenedWith, IsSumOver, fate_in, first_of, history}
+use Rattle.xa_switch.specs.Settling.{Settling}
 use Rattle.xa_switch.proofs.Lists.{found}
 
 -- entries with the codes of their places

@@ -1,15 +1,11 @@
 -- What a settled opening has of a thread is what its desk had in the end, and of a manager what its worker had.
-use Rattle.std.proofs.Common.{◌≡◌, ℕ, suc, ◌<◌, ◌≤◌, true, false, ◌==◌, List, [], ◌∷◌, length, map, get_or, sym, refl, ap, ◌∙◌, arith, Some, None, ⊎_elim}
-use Rattle.std.proofs.Common.{eq-eqb}
-use Rattle.std.specs.List.{Contains, find, list_any}
-use Rattle.std.proofs.lemmas.List.{get_or_default}
-use Rattle.std.proofs.lemmas.Bool.{eqb-true, cases_lt, cases_eq}
-use Rattle.xa_desk.specs.Ended.{EndedView}
-use Rattle.xa_worker.specs.Done.{Served}
-use Rattle.xa_switch.specs.Belonging.{AreApartDesks, AreApartWorkers, ComeFromOpenings, AreOfOne, desk_seats, worker_seats, seat_of_ended, seat_of_done}
-use Rattle.xa_switch.specs.Closing.{settling, thread_part, manager_part}
-use Rattle.xa_switch.specs.Settling.{ledgers_in, journal_in, journal}
-use Rattle.xa_switch.specs.Fates.{ledgers_of}
+use Rattle.xa_base.proofs.{◌≡◌, ℕ, suc, ◌<◌, ◌≤◌, true, false, ◌==◌, List, [], ◌∷◌, length, map, get_or, sym, refl, ap, ◌∙◌, arith, Some, None, ⊎_elim, eq-eqb}
+use Rattle.xa_base.proofs.{Contains, list_any, get_or_default, eqb-true, cases_lt, cases_eq}
+use Rattle.std.specs.List.{find}
+use Rattle.xa_desk.specs.{EndedView}
+use Rattle.xa_worker.specs.{Served}
+use Rattle.xa_switch.specs.{AreApartDesks, AreApartWorkers, ComeFromOpenings, AreOfOne, desk_seats, worker_seats, seat_of_ended, seat_of_done, settling}
+use Rattle.xa_switch.specs.{thread_part, manager_part, ledgers_in, journal_in, journal, ledgers_of}
 use Rattle.xa_switch.proofs.Lists.{searched, fails_each, pairs_at}
 
 -- lists of which each element comes to the same

@@ -1,11 +1,8 @@
 -- Elements of lists: where they stand, what maps and searches make of them.
-use Rattle.std.proofs.Common.{◌≡◌, ℕ, zero, suc, ◌<◌, Bool, true, false, cond, ◌||◌, List, [], ◌∷◌, ◌++◌, length, map, get_or, slice_get, option_map, sym, refl}
-use Rattle.std.proofs.Common.{ap, ◌∙◌, subst, ◌⊎◌, ⊎_elim, inl, inr, arith, Option, Some, None}
-use Rattle.std.specs.List.{list_any, find, Contains, All, AllPairs}
-use Rattle.std.proofs.lemmas.Option.{slice_get-get_or, slice_get-map}
-use Rattle.std.proofs.lemmas.List.{get_or-map, length-map, get_or_default}
-use Rattle.std.proofs.lemmas.Bool.{or_parts}
-use Rattle.xa_base.proofs.Lists.{contains_at}
+use Rattle.xa_base.proofs.{◌≡◌, ℕ, zero, suc, ◌<◌, Bool, true, false, cond, ◌||◌, List, [], ◌∷◌, ◌++◌, length, map, get_or, slice_get, option_map, sym, refl}
+use Rattle.xa_base.proofs.{ap, ◌∙◌, subst, ◌⊎◌, ⊎_elim, inl, inr, arith, Option, Some, None, list_any, Contains, All, AllPairs, slice_get-get_or, slice_get-map}
+use Rattle.xa_base.proofs.{get_or-map, length-map, get_or_default, or_parts, contains_at}
+use Rattle.std.specs.List.{find}
 
 -- y is an element
 abbrev pub In : {X : Type 0} → X → List X → Type 0

@@ -1,26 +1,16 @@
 -- Desks and workers of one opening.
-use Rattle.std.proofs.Common.{◌≡◌, ℕ, suc, ◌+◌, ◌≤◌, List, [], ◌∷◌, length, slice_get, refl, sym, ap, ◌∙◌, subst, arith, map, Some}
-use Rattle.std.specs.List.{All}
-use Rattle.std.proofs.lemmas.List.{length-map}
-use Rattle.std.proofs.lemmas.Option.{slice_get_within}
-use Rattle.xa_switch.specs.Columns.{Each, AreLanes}
-use Rattle.xa_switch.specs.Lanes.{AreNewLanes, IsRequestSender, IsCompletionSender}
-use Rattle.xa_switch.specs.OpenedPieces.{desk_parts, worker_parts, DesksFit, WorkersFit, IsDeskOf, IsWorkerOf, IsLaidOut, IsNewDesk, IsNewWorker, ShareNewLanes}
-use Rattle.xa_switch.specs.OpenedPieces.{AreOfOneOpening}
-use Rattle.xa_words.specs.declared.request.Request.{Request}
-use Rattle.xa_words.specs.declared.request.Completion.{Completion}
-use Rattle.xa_lane.specs.Ends.{Sending, Receiving}
+use Rattle.xa_base.proofs.{◌≡◌, ℕ, suc, ◌+◌, ◌≤◌, List, [], ◌∷◌, length, slice_get, refl, sym, ap, ◌∙◌, subst, arith, map, Some, All, length-map}
+use Rattle.xa_base.proofs.{slice_get_within, All-map, got, all_from, was_mapped}
+use Rattle.xa_switch.specs.{Each, AreLanes, AreNewLanes, IsRequestSender, IsCompletionSender, desk_parts, worker_parts, DesksFit, WorkersFit, IsDeskOf}
+use Rattle.xa_switch.specs.{IsWorkerOf, IsLaidOut, IsNewDesk, IsNewWorker, ShareNewLanes, AreOfOneOpening, Setup, setup, manager_room, new_manager}
+use Rattle.xa_switch.specs.{completion_room, Layout}
+use Rattle.xa_words.specs.{Request, Completion}
+use Rattle.xa_lane.specs.{Sending, Receiving}
 use Rattle.xa_desk.specs.DeskView.{DeskView}
-use Rattle.xa_desk.specs.Lanes.{PartsView, new_desk}
-use Rattle.xa_worker.specs.Outgoing.{Answering}
-use Rattle.xa_worker.specs.Workers.{Reserved, Asking, WorkerView, new_worker}
+use Rattle.xa_desk.specs.{PartsView, new_desk}
+use Rattle.xa_worker.specs.{Answering, Reserved, Asking, WorkerView, new_worker}
 use Rattle.xa_tables.specs.Tables.{Tables}
-use Rattle.xa_tables.specs.Managers.{Managed}
-use Rattle.std.proofs.lemmas.List.Elements.{All-map}
-use Rattle.xa_base.proofs.Lists.{got, all_from, was_mapped}
-use Rattle.xa_tables.specs.Openings.{IsOpening}
-use Rattle.xa_switch.specs.Plans.{Setup, setup, manager_room, new_manager, completion_room}
-use Rattle.xa_switch.specs.declared.opening.layout.Layout.{Layout}
+use Rattle.xa_tables.specs.{Managed, IsOpening}
 
 -- an element of the list that a function makes
 pub mapped : {X Y : Type 0} (f : X → Y) (xs : List X) (k : ℕ) (y : Y) → slice_get (map f xs) k ≡ Some y → (x : X) × (slice_get xs k ≡ Some x) × (y ≡ f x)

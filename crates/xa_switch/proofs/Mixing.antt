@@ -1,15 +1,13 @@
 -- Desks and workers that are left out, that are taken in another order, and that are of several openings.
-use Rattle.std.proofs.Common.{◌≡◌, ◌≢◌, ℕ, suc, ◌<◌, ◌≤◌, List, [], ◌∷◌, ◌++◌, length, length-append, map, get_or, sym, refl, ap, ◌∙◌, subst, ⊎_elim, arith}
-use Rattle.std.specs.List.{All, AllPairs, swap}
-use Rattle.std.proofs.lemmas.Bool.{cases_lt, cases_eq}
+use Rattle.xa_base.proofs.{◌≡◌, ◌≢◌, ℕ, suc, ◌<◌, ◌≤◌, List, [], ◌∷◌, ◌++◌, length, length-append, map, get_or, sym, refl, ap, ◌∙◌, subst, ⊎_elim, arith, All}
+use Rattle.xa_base.proofs.{AllPairs, cases_lt, cases_eq, All-append, all_left, all_unmapped, all_right}
+use Rattle.std.specs.List.{swap}
 use Rattle.std.proofs.lemmas.List.{get_or_append_left}
 use Rattle.std.proofs.lemmas.List.Edits.{Swapped, swapped_from_swap, length-swap}
-use Rattle.std.proofs.lemmas.List.Elements.{All-append}
 use Rattle.std.proofs.lemmas.List.Kept.{AllPairs-cons}
 use Rattle.std.proofs.lemmas.List.Sorted.{IsPermutation-keeps, All-permutation}
-use Rattle.xa_base.proofs.Lists.{all_left, all_unmapped, all_right}
-use Rattle.xa_tables.specs.Openings.{IsOpening}
-use Rattle.xa_switch.specs.Belonging.{DeskSeat, WorkerSeat, AreTogether, AreApartDesks, AreApartWorkers, ComeFromOpenings, AreSomeOf, openings_of}
+use Rattle.xa_tables.specs.{IsOpening}
+use Rattle.xa_switch.specs.{DeskSeat, WorkerSeat, AreTogether, AreApartDesks, AreApartWorkers, ComeFromOpenings, AreSomeOf, openings_of}
 use Rattle.xa_switch.proofs.Gathering.{pairs_mid}
 
 -- ---- some of them, in any order

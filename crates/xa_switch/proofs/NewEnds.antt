@@ -1,9 +1,7 @@
 -- The ends of new lanes.
-use Rattle.std.proofs.Common.{◌≡◌, ℕ, zero, suc, ◌+◌, List, [], ◌∷◌, ◌++◌, length, slice_get, refl, sym, ap, ◌∙◌, arith, length-append, ⊎_elim, Some}
-use Rattle.xa_switch.specs.Columns.{put_row}
-use Rattle.xa_switch.specs.Lanes.{lane_to, IsNewReceiver, IsNewPair, AreNewLanes}
-use Rattle.xa_lane.specs.declared.name.LaneName.{LaneName}
-use Rattle.xa_lane.specs.Ends.{QueueId, Sending, Receiving, new_sender, new_senders, new_receiver}
+use Rattle.xa_base.proofs.{◌≡◌, ℕ, zero, suc, ◌+◌, List, [], ◌∷◌, ◌++◌, length, slice_get, refl, sym, ap, ◌∙◌, arith, length-append, ⊎_elim, Some}
+use Rattle.xa_switch.specs.{put_row, lane_to, IsNewReceiver, IsNewPair, AreNewLanes}
+use Rattle.xa_lane.specs.{LaneName, QueueId, Sending, Receiving, new_sender, new_senders, new_receiver}
 use Rattle.xa_switch.proofs.Dealing.{no_element, snoc_cases, more_lanes}
 
 pub length_senders : (T : Type 0) (lane : LaneName) (line : QueueId) (capacity n : ℕ) → length (new_senders {T = T} lane line capacity n) ≡ n

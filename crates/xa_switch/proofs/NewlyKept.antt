@@ -1,16 +1,11 @@
 -- What is outstanding is kept, at a desk that was opened.
-use Rattle.std.proofs.Common.{◌≡◌, ℕ, ◌-◌, List, [], length, arith, ap, ◌∙◌}
-use Rattle.std.specs.Prelude.{All}
-use Rattle.std.specs.List.{slice_index_or}
-use Rattle.std.proofs.lemmas.Option.{slice_get-get_or}
+use Rattle.xa_base.proofs.{◌≡◌, ℕ, ◌-◌, List, [], length, arith, ap, ◌∙◌, All, slice_index_or, slice_get-get_or}
 use Rattle.xa_desk.specs.LedgerView.{LedgerView}
-use Rattle.xa_desk.specs.DeskView.{DeskView, ledger}
-use Rattle.xa_desk.specs.Kept.{AllKept}
-use Rattle.xa_desk.specs.Lanes.{new_ledgers}
+use Rattle.xa_desk.specs.DeskView.{DeskView}
+use Rattle.xa_desk.specs.{ledger, AllKept, new_ledgers}
 use Rattle.xa_desk.proofs.Fresh.{fresh_sent}
-use Rattle.xa_worker.specs.Workers.{WorkerView}
-use Rattle.xa_switch.specs.Plans.{Setup}
-use Rattle.xa_switch.specs.OpenedPieces.{IsNewDesk, AreOfOneOpening}
+use Rattle.xa_worker.specs.{WorkerView}
+use Rattle.xa_switch.specs.{Setup, IsNewDesk, AreOfOneOpening}
 
 -- so nothing is outstanding
 new_kept : (p : Setup) (t : ℕ) (d : DeskView) → IsNewDesk p t d → AllKept d

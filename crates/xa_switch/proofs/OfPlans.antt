@@ -1,28 +1,17 @@
 -- What is settled of all pieces of an opening is of the setup that it was made with.
-use Rattle.std.proofs.Common.{◌≡◌, ℕ, suc, ◌+◌, ◌<◌, ◌==◌, true, false, List, [], ◌∷◌, length, map, slice_get, option_map, Some, None, sym, refl, ap, subst}
-use Rattle.std.proofs.Common.{◌∙◌, ⊎_elim, eq-eqb, arith}
-use Rattle.std.specs.List.{All, Contains, list_any, range_with_len}
+use Rattle.xa_base.proofs.{◌≡◌, ℕ, suc, ◌+◌, ◌<◌, ◌==◌, true, false, List, [], ◌∷◌, length, map, slice_get, option_map, Some, None, sym, refl, ap, subst, ◌∙◌}
+use Rattle.xa_base.proofs.{⊎_elim, eq-eqb, arith, All, Contains, list_any, range_with_len, eqb-true, same_Some, slice_get_within, contains_at, got, was_mapped}
 use Rattle.std.specs.List.Sorted.{IsPermutation}
-use Rattle.std.proofs.lemmas.Bool.{eqb-true}
 use Rattle.std.proofs.lemmas.List.Sorted.{IsPermutation-sym, IsPermutation-map, Contains-permutation, All-permutation}
-use Rattle.std.proofs.lemmas.Option.{same_Some, slice_get_within}
 use Rattle.xa_desk.specs.DeskView.{DeskView}
-use Rattle.xa_desk.specs.Ended.{EndedView}
-use Rattle.xa_worker.specs.Workers.{WorkerView}
-use Rattle.xa_worker.specs.Done.{Served}
-use Rattle.xa_switch.specs.Closing.{settling, thread_part, manager_part}
-use Rattle.xa_switch.specs.Columns.{Each}
-use Rattle.xa_switch.specs.OfPlans.{IsOf}
-use Rattle.xa_switch.specs.Fates.{first_of}
-use Rattle.xa_switch.specs.Plans.{Setup}
+use Rattle.xa_desk.specs.{EndedView}
+use Rattle.xa_worker.specs.{WorkerView, Served}
+use Rattle.xa_switch.specs.{settling, thread_part, manager_part, Each, IsOf, first_of, Setup, AreOfOneOpening, IsNewDesk, IsNewWorker, DeskSeat, WorkerSeat}
+use Rattle.xa_switch.specs.{desk_seats, worker_seats, seat_of_desk, seat_of_worker, seat_of_ended, seat_of_done, first_opening, AreAll, ThreadPart, ManagerPart}
+use Rattle.xa_switch.specs.{find_manager}
 use Rattle.xa_tables.specs.Tables.{Tables}
-use Rattle.xa_switch.specs.OpenedPieces.{AreOfOneOpening, IsNewDesk, IsNewWorker}
-use Rattle.xa_switch.specs.Belonging.{DeskSeat, WorkerSeat, desk_seats, worker_seats, seat_of_desk, seat_of_worker, seat_of_ended, seat_of_done, first_opening}
-use Rattle.xa_switch.specs.Belonging.{AreAll}
-use Rattle.xa_switch.specs.Settling.{ThreadPart, ManagerPart, find_manager}
-use Rattle.xa_words.specs.declared.request.Completion.{Completion}
-use Rattle.xa_lane.specs.Ends.{Receiving}
-use Rattle.xa_base.proofs.Lists.{contains_at, got, was_mapped}
+use Rattle.xa_words.specs.{Completion}
+use Rattle.xa_lane.specs.{Receiving}
 use Rattle.xa_switch.proofs.Lists.{all_map, contains_map, get_contained, fails_each, searched}
 
 -- a list whose elements have rising numbers

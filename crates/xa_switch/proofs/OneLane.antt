@@ -1,27 +1,15 @@
 -- What the closed lanes of a desk and a worker say of the two.
-use Rattle.std.proofs.Common.{◌≡◌, ℕ, zero, suc, ◌+◌, ◌<◌, ◌≤◌, Bool, true, false, ◌==◌, ◌&&◌, cond, List, [], ◌∷◌, ◌++◌, map, slice_get, option_map, sym, refl}
-use Rattle.std.proofs.Common.{ap, ◌∙◌, subst, ⊎_elim, inl, inr, arith, eq-eqb, ne_eqb, Option, Some, None}
-use Rattle.std.specs.List.{All, Contains, filter}
-use Rattle.std.proofs.lemmas.Bool.{eqb-true}
+use Rattle.xa_base.proofs.{◌≡◌, ℕ, zero, suc, ◌+◌, ◌<◌, ◌≤◌, Bool, true, false, ◌==◌, ◌&&◌, cond, List, [], ◌∷◌, ◌++◌, map, slice_get, option_map, sym, refl}
+use Rattle.xa_base.proofs.{ap, ◌∙◌, subst, ⊎_elim, inl, inr, arith, eq-eqb, ne_eqb, Option, Some, None, All, Contains, filter, eqb-true, slice_get-map}
+use Rattle.xa_base.proofs.{All-contains}
 use Rattle.std.proofs.lemmas.List.Folds.{Any-from_list_any}
-use Rattle.std.proofs.lemmas.Option.{slice_get-map}
 use Rattle.xa_words.specs.declared.code.Code.{Code}
-use Rattle.xa_words.specs.declared.request.Op.{Op}
-use Rattle.xa_words.specs.declared.request.Request.{Request}
-use Rattle.xa_words.specs.declared.request.Completion.{Completion}
-use Rattle.xa_lane.specs.declared.parcel.Parcel.{Parcel}
-use Rattle.xa_lane.specs.Order.{of_sender}
-use Rattle.xa_lane.specs.Ends.{Sending, Receiving, somes, received, has_ended}
-use Rattle.xa_lane.specs.Closing.{left_of}
-use Rattle.xa_lane.specs.Senders.{sent_at}
-use Rattle.xa_tables.specs.History.{of_thread}
-use Rattle.xa_desk.specs.DeskView.{drained_code}
-use Rattle.xa_desk.specs.Lanes.{numbered, arrived, IsPartOf, nothing, with_last, without_last}
-use Rattle.xa_worker.specs.Journal.{Entry, requests, completion_of}
-use Rattle.xa_worker.specs.Outgoing.{Answering}
-use Rattle.xa_switch.specs.Settling.{answers}
-use Rattle.xa_switch.specs.Closing.{IsClosed}
-use Rattle.std.proofs.lemmas.List.Elements.{All-contains}
+use Rattle.xa_words.specs.{Op, Request, Completion}
+use Rattle.xa_lane.specs.{Parcel, of_sender, Sending, Receiving, somes, received, has_ended, left_of, sent_at}
+use Rattle.xa_tables.specs.{of_thread}
+use Rattle.xa_desk.specs.{drained_code, numbered, arrived, IsPartOf, nothing, with_last, without_last}
+use Rattle.xa_worker.specs.{Entry, requests, completion_of, Answering}
+use Rattle.xa_switch.specs.{answers, IsClosed}
 use Rattle.xa_switch.proofs.Lists.{In, in_front, in_map, place_of}
 
 -- what the end at a place has sent

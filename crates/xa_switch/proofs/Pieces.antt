@@ -1,27 +1,15 @@
 -- What is known of desks and workers that are all there, and of one opening.
-use Rattle.std.proofs.Common.{◌≡◌, ℕ, ◌+◌, ◌-◌, ◌<◌, ◌≤◌, ◌==◌, List, [], ◌∷◌, length, map, filter, replicate, get_or, slice_get, sym}
-use Rattle.std.proofs.Common.{refl, ap, ◌∙◌, subst, arith, Some}
-use Rattle.std.specs.List.{All, Contains}
-use Rattle.std.proofs.lemmas.Option.{slice_get_within}
+use Rattle.xa_base.proofs.{◌≡◌, ℕ, ◌+◌, ◌-◌, ◌<◌, ◌≤◌, ◌==◌, List, [], ◌∷◌, length, map, filter, replicate, get_or, slice_get, sym, refl, ap, ◌∙◌, subst, arith}
+use Rattle.xa_base.proofs.{Some, All, Contains, slice_get_within, All-contains, was_mapped}
 use Rattle.xa_words.specs.declared.code.Code.{Code}
-use Rattle.xa_words.specs.declared.request.Request.{Request}
-use Rattle.xa_words.specs.declared.request.Completion.{Completion}
-use Rattle.xa_lane.specs.Ends.{Sending}
-use Rattle.xa_tables.specs.History.{of_thread}
-use Rattle.xa_tables.specs.Openings.{IsOpening}
-use Rattle.xa_desk.specs.DeskView.{IsKnown, ledger}
-use Rattle.xa_desk.specs.Lanes.{numbered, arrived}
-use Rattle.xa_desk.specs.Ended.{EndedView, IsEnded}
-use Rattle.xa_worker.specs.Journal.{Entry, requests, completion_of}
-use Rattle.xa_worker.specs.Outgoing.{Answering}
-use Rattle.xa_worker.specs.Done.{Served, IsServed, IsOrdered}
-use Rattle.xa_switch.specs.Settling.{Agree, answers}
-use Rattle.xa_switch.specs.Belonging.{EndSeat, WorkerSeat, end_seat, seat_of_ended, seat_of_done, ShareLanes, AreTogether, AreApartDesks, AreApartWorkers}
-use Rattle.xa_switch.specs.Belonging.{ComeFromOpenings, desk_seats, worker_seats, desk_opening, worker_opening, first_opening, AreOfOne, HasDesks, HasWorkers}
-use Rattle.xa_switch.specs.Belonging.{AreAll}
-use Rattle.xa_switch.specs.Closing.{dealt, column, IsClosed, desk_lane, worker_lane}
-use Rattle.std.proofs.lemmas.List.Elements.{All-contains}
-use Rattle.xa_base.proofs.Lists.{was_mapped}
+use Rattle.xa_words.specs.{Request, Completion}
+use Rattle.xa_lane.specs.{Sending}
+use Rattle.xa_tables.specs.{of_thread, IsOpening}
+use Rattle.xa_desk.specs.{IsKnown, ledger, numbered, arrived, EndedView, IsEnded}
+use Rattle.xa_worker.specs.{Entry, requests, completion_of, Answering, Served, IsServed, IsOrdered}
+use Rattle.xa_switch.specs.{Agree, answers, EndSeat, WorkerSeat, end_seat, seat_of_ended, seat_of_done, ShareLanes, AreTogether, AreApartDesks, AreApartWorkers}
+use Rattle.xa_switch.specs.{ComeFromOpenings, desk_seats, worker_seats, desk_opening, worker_opening, first_opening, AreOfOne, HasDesks, HasWorkers, AreAll}
+use Rattle.xa_switch.specs.{dealt, column, IsClosed, desk_lane, worker_lane}
 use Rattle.xa_switch.proofs.Lists.{In, contains_map, contains_place}
 use Rattle.xa_switch.proofs.Sides.{HasEnd, Sides, AreLanesOf, each_end, own_end, end_in, lanes_closable, lanes_places, lanes_apart}
 use Rattle.xa_switch.proofs.OneLane.{Answers, asked_there, answered_there, taken_whole, in_drained, in_part, placed, drawn_law}

@@ -1,15 +1,9 @@
 -- What an opening by a plan is made with.
-use Rattle.std.proofs.Common.{◌≡◌, ℕ, Bool, List, [], ◌∷◌, length, map, None, sym, refl, ap, ◌∙◌, subst, get_or}
-use Rattle.std.specs.List.{All}
-use Rattle.std.proofs.lemmas.List.{length-map}
-use Rattle.std.proofs.lemmas.List.Elements.{All-map}
-use Rattle.xa_tables.specs.Managers.{Managed, opening}
-use Rattle.xa_tables.specs.Openings.{IsOpening}
+use Rattle.xa_base.proofs.{◌≡◌, ℕ, Bool, List, [], ◌∷◌, length, map, None, sym, refl, ap, ◌∙◌, subst, get_or, All, length-map, All-map}
+use Rattle.xa_tables.specs.{Managed, opening, IsOpening}
 use Rattle.xa_tables.proofs.Reopening.{new_opens, accounts_new}
-use Rattle.xa_switch.specs.declared.plan.Plan.{Plan}
-use Rattle.xa_switch.specs.declared.plan.ManagerPlan.{ManagerPlan}
+use Rattle.xa_switch.specs.{Plan, ManagerPlan, setup, planned, numbers_of, manager_room, new_manager, opened_by, use_async}
 use Rattle.xa_switch.specs.declared.plan.Again.{Again}
-use Rattle.xa_switch.specs.Plans.{setup, planned, numbers_of, manager_room, new_manager, opened_by, use_async}
 
 tables_of : (threads room : ℕ) (ms : List ManagerPlan)
     → map (λ (m : Managed). m.tables) (map (opened_by threads room) ms) ≡ map (λ (m : ManagerPlan). opening m.accounts.items) ms

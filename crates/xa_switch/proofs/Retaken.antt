@@ -1,9 +1,8 @@
 -- Managers that are taken out of a list, and that have their memory.
-use Rattle.std.proofs.Common.{◌≡◌, ℕ, zero, suc, ◌+◌, ◌<◌, Bool, true, false, cond, Option, None, Some, option_map, List, [], ◌∷◌, length, map, take, remove}
-use Rattle.std.proofs.Common.{get_or, set, refl, sym, ap, ◌∙◌, subst, arith}
-use Rattle.std.specs.List.{All, find}
-use Rattle.std.proofs.lemmas.List.{take_more}
-use Rattle.std.proofs.lemmas.List.Elements.{All-cons, All-nil, All-head, All-tail, All-push}
+use Rattle.xa_base.proofs.{◌≡◌, ℕ, zero, suc, ◌+◌, ◌<◌, Bool, true, false, cond, Option, None, Some, option_map, List, [], ◌∷◌, length, map, take, get_or, set}
+use Rattle.xa_base.proofs.{refl, sym, ap, ◌∙◌, subst, arith, All, take_more, All-cons, All-nil, All-head, All-tail, All-push}
+use Rattle.std.proofs.Common.{remove}
+use Rattle.std.specs.List.{find}
 
 -- one element more
 pub all_more : {A : Type 0} (P : A → Type 0) (xs : List A) (i : ℕ) (d : A) → i < length xs → All P (take i xs) → P (get_or xs i d) → All P (take (i + 1) xs)

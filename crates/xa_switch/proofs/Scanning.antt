@@ -1,9 +1,6 @@
 -- Lists of what is left that grow.
-use Rattle.std.proofs.Common.{ℕ, inl, inr, List, [], ◌∷◌, ◌++◌, length, map, sym, ap, ◌∙◌, subst}
-use Rattle.std.specs.Prelude.{slice_get}
-use Rattle.std.proofs.lemmas.List.{length-map, map-append}
-use Rattle.xa_base.proofs.Lists.{got_push}
-use Rattle.xa_switch.specs.Columns.{Each}
+use Rattle.xa_base.proofs.{ℕ, inl, inr, List, [], ◌∷◌, ◌++◌, length, map, sym, ap, ◌∙◌, subst, slice_get, length-map, map-append, got_push}
+use Rattle.xa_switch.specs.{Each}
 
 -- one element more
 pub each_more : {A B : Type 0} (P : ℕ → B → Type 0) (f : A → B) (xs : List A) (x : A) → Each P (map f xs) → P (length xs) (f x) → Each P (map f (xs ++ x ∷ []))

@@ -1,21 +1,13 @@
 -- The desks and workers of an opening come from it.
-use Rattle.std.proofs.Common.{◌≡◌, ℕ, ◌+◌, ◌-◌, List, map, slice_get, option_map, sym, ap, ◌∙◌, subst, arith, Some}
-use Rattle.std.specs.List.{All}
-use Rattle.std.proofs.lemmas.List.Elements.{All-append}
-use Rattle.std.proofs.lemmas.Option.{slice_get-map, slice_get-get_or}
-use Rattle.xa_words.specs.declared.request.Request.{Request}
-use Rattle.xa_words.specs.declared.request.Completion.{Completion}
-use Rattle.xa_tables.specs.Openings.{IsOpening}
-use Rattle.xa_lane.specs.Ends.{Sending, Receiving}
+use Rattle.xa_base.proofs.{◌≡◌, ℕ, ◌+◌, ◌-◌, List, map, slice_get, option_map, sym, ap, ◌∙◌, subst, arith, Some, All, All-append, slice_get-map}
+use Rattle.xa_base.proofs.{slice_get-get_or, contains_at, All-contains}
+use Rattle.xa_words.specs.{Request, Completion}
+use Rattle.xa_tables.specs.{IsOpening}
+use Rattle.xa_lane.specs.{Sending, Receiving}
 use Rattle.xa_desk.specs.DeskView.{DeskView}
-use Rattle.xa_worker.specs.Outgoing.{Answering}
-use Rattle.xa_worker.specs.Workers.{WorkerView}
-use Rattle.xa_switch.specs.Plans.{Setup}
-use Rattle.xa_base.proofs.Lists.{contains_at}
-use Rattle.xa_switch.specs.OpenedPieces.{IsNewDesk, IsNewWorker, ShareNewLanes, AreOfOneOpening}
-use Rattle.xa_switch.specs.Belonging.{DeskSeat, WorkerSeat, openings_of, end_seat, seat_of_desk, seat_of_worker, ShareLanes, AreTogether, AreApartDesks}
-use Rattle.xa_switch.specs.Belonging.{AreApartWorkers, ComeFromOpenings}
-use Rattle.std.proofs.lemmas.List.Elements.{All-contains}
+use Rattle.xa_worker.specs.{Answering, WorkerView}
+use Rattle.xa_switch.specs.{Setup, IsNewDesk, IsNewWorker, ShareNewLanes, AreOfOneOpening, DeskSeat, WorkerSeat, openings_of, end_seat, seat_of_desk}
+use Rattle.xa_switch.specs.{seat_of_worker, ShareLanes, AreTogether, AreApartDesks, AreApartWorkers, ComeFromOpenings}
 use Rattle.xa_switch.proofs.Lists.{all_map, pairs_map, get_contained}
 
 -- ---- an opening

@@ -1,15 +1,9 @@
 -- The lanes that the pieces of one side have ends of: the desks of the lanes of requests, the workers of those of completions.
-use Rattle.std.proofs.Common.{◌≡◌, ◌≢◌, ℕ, ◌+◌, ◌-◌, ◌<◌, ◌≤◌, true, ◌==◌, List, [], length, map, replicate, get_or, slice_get, option_map, sym, ap, ◌∙◌, subst}
-use Rattle.std.proofs.Common.{arith, eq-eqb, Some}
-use Rattle.std.specs.List.{All, AllPairs, Contains, list_any}
-use Rattle.std.proofs.lemmas.Bool.{eqb-true}
-use Rattle.std.proofs.lemmas.List.Elements.{All-nil, All-contains}
+use Rattle.xa_base.proofs.{◌≡◌, ◌≢◌, ℕ, ◌+◌, ◌-◌, ◌<◌, ◌≤◌, true, ◌==◌, List, [], length, map, replicate, get_or, slice_get, option_map, sym, ap, ◌∙◌, subst}
+use Rattle.xa_base.proofs.{arith, eq-eqb, Some, All, AllPairs, Contains, list_any, eqb-true, All-nil, All-contains, slice_get-map, contains_at, was_mapped}
 use Rattle.std.proofs.lemmas.List.Folds.{Any-from_list_any, list_any_at}
-use Rattle.std.proofs.lemmas.Option.{slice_get-map}
-use Rattle.xa_lane.specs.Ends.{Sending, Receiving}
-use Rattle.xa_lane.specs.Closing.{IsWhole}
-use Rattle.xa_switch.specs.Closing.{dealt, column, IsClosable}
-use Rattle.xa_base.proofs.Lists.{contains_at, was_mapped}
+use Rattle.xa_lane.specs.{Sending, Receiving, IsWhole}
+use Rattle.xa_switch.specs.{dealt, column, IsClosable}
 use Rattle.xa_switch.proofs.Lists.{all_map, pairs_map, pairs_at, contains_in, get_contained}
 use Rattle.xa_switch.proofs.Gathering.{dealt_adds, dealt_all, column_none, length_dealt}
 

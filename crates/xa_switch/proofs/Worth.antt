@@ -1,34 +1,20 @@
 -- What all accounts are worth together is what was declared and what the threads have moved.
-use Rattle.std.specs.Prelude.{ℤ, pos, ◌+ℤ◌, option_map, unwrap_or, All}
-use Rattle.std.proofs.Common.{◌≡◌, ℕ, zero, suc, ◌+◌, ◌-◌, ◌<◌, ◌≤◌, ◌==◌, true, false, cond, if◌then◌else◌, List, [], ◌∷◌, length, map, get_or, slice_get, sym}
-use Rattle.std.proofs.Common.{refl, ap, ◌∙◌, arith, Some, None}
-use Rattle.std.specs.List.{Contains, range_with_len}
+use Rattle.xa_base.proofs.{ℤ, pos, ◌+ℤ◌, option_map, unwrap_or, All, ◌≡◌, ℕ, zero, suc, ◌+◌, ◌-◌, ◌<◌, ◌≤◌, ◌==◌, true, false, cond, if◌then◌else◌, List, []}
+use Rattle.xa_base.proofs.{◌∷◌, length, map, get_or, slice_get, sym, refl, ap, ◌∙◌, arith, Some, None, Contains, range_with_len, eqb-true, eqb-false}
+use Rattle.xa_base.proofs.{length-range_with_len, get_or-range_with_len, slice_get-map, +ℤ_idl as none_plus, +ℤ_idr as plus_none, total_same, total_alike}
+use Rattle.xa_base.proofs.{total_both, total_nothing, total_across, contains_at, range_all, got, All-contains}
 use Rattle.std.specs.FinMap as finmap
-use Rattle.std.proofs.lemmas.Bool.{eqb-true, eqb-false}
-use Rattle.std.proofs.lemmas.List.FromFn.{length-range_with_len, get_or-range_with_len}
 use Rattle.std.proofs.lemmas.List.Sorted.{IsPermutation-sym, Contains-permutation}
-use Rattle.std.proofs.lemmas.Option.{slice_get-map}
-use Rattle.std.proofs.Math.IntN.{+ℤ_idl as none_plus, +ℤ_idr as plus_none}
-use Rattle.xa_switch.specs.declared.plan.ManagerPlan.{ManagerPlan}
-use Rattle.xa_base.specs.Sums.{total}
-use Rattle.xa_base.proofs.Sums.{total_same, total_alike, total_both, total_nothing, total_across}
-use Rattle.xa_base.proofs.Lists.{contains_at, range_all, got}
-use Rattle.xa_words.specs.declared.request.Request.{Request}
-use Rattle.xa_tables.specs.Tables.{Tables, value_of}
-use Rattle.xa_tables.specs.Next.{next}
-use Rattle.xa_tables.specs.Accounts.{are_accounts}
-use Rattle.xa_tables.specs.Managers.{opening}
-use Rattle.xa_tables.specs.History.{History, of_thread, tables_after}
-use Rattle.xa_tables.specs.Worth.{worth_declared, moved, moved_by as moved_by_request, is_any, is_of, WorthIsMoved}
-use Rattle.xa_desk.specs.Lanes.{numbered}
-use Rattle.xa_desk.specs.DeskView.{sent_to, is_known, ledger}
-use Rattle.xa_switch.specs.declared.plan.Plan.{Plan}
-use Rattle.xa_switch.specs.Plans.{IsSoundManager}
-use Rattle.xa_switch.specs.OfPlans.{IsOfPlan}
-use Rattle.xa_switch.specs.Settling.{ThreadPart, Settling, IsSettled, find_thread, ledgers_in, value, sent}
-use Rattle.xa_switch.specs.Fates.{IsOpenedWith, first_of, history}
-use Rattle.xa_switch.specs.Worth.{threads_of, managers_of, accounts_in, accounts_of, plan_worth, moved_at, WorthIsOfThreads}
-use Rattle.std.proofs.lemmas.List.Elements.{All-contains}
+use Rattle.xa_switch.specs.{ManagerPlan, Plan, IsSoundManager, IsOfPlan, ThreadPart, IsSettled, find_thread, ledgers_in, value, sent, IsOpenedWith, first_of}
+use Rattle.xa_switch.specs.{history, threads_of, managers_of, accounts_in, accounts_of, plan_worth, moved_at, WorthIsOfThreads}
+use Rattle.xa_base.specs.{total}
+use Rattle.xa_words.specs.{Request}
+use Rattle.xa_tables.specs.Tables.{Tables}
+use Rattle.xa_tables.specs.{value_of, next, are_accounts, opening, of_thread, tables_after, worth_declared, moved, moved_by as moved_by_request, is_any, is_of}
+use Rattle.xa_tables.specs.{WorthIsMoved}
+use Rattle.xa_tables.specs.History.{History}
+use Rattle.xa_desk.specs.{numbered, sent_to, is_known, ledger}
+use Rattle.xa_switch.specs.Settling.{Settling}
 use Rattle.xa_switch.proofs.Lists.{found, contains_map}
 use Rattle.xa_switch.proofs.Journaled.{follows_first}
 

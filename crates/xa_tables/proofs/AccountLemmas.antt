@@ -1,46 +1,35 @@
 -- The maps that the accounts make.
-use Rattle.std.specs.Prelude.{◌≡◌, ◌≢◌, ℕ, ℤ, pos, ◌+ℤ◌, ◌≤ℤ◌, All, nat_eq, zero, suc, ◌+◌, ◌<◌, Bool, true, false, cond, not, ◌&&◌, ◌||◌, if◌then◌else◌, List}
-use Rattle.std.specs.Prelude.{[], ◌∷◌, ◌++◌, take, drop, length, map, Option, None, Some, unwrap_or, option_map, refl}
-use Rattle.std.proofs.Common.{sym, ap, ◌∙◌, subst, arith, get_or}
-use Rattle.std.proofs.Math.ListN.{set}
-use Rattle.std.specs.List.{list_any}
-use Rattle.std.specs.Ordering.{eq_by_cmp, is_eq, ordering_then}
+use Rattle.xa_base.proofs.{◌≡◌, ◌≢◌, ℕ, ℤ, pos, ◌+ℤ◌, All, nat_eq, zero, suc, ◌+◌, ◌<◌, Bool, true, false, cond, not, ◌&&◌, ◌||◌, if◌then◌else◌, List, [], ◌∷◌}
+use Rattle.xa_base.proofs.{◌++◌, take, drop, length, map, Option, None, Some, unwrap_or, option_map, refl, sym, ap, ◌∙◌, subst, arith, get_or, set, list_any}
+use Rattle.xa_base.proofs.{eq_by_cmp, is_eq, tied_itself, FinMap, find, from_entries, get-from_entries, All-map, All-head, All-tail, length-map, get_or_default}
+use Rattle.xa_base.proofs.{get_or-set_other, length-set, take_all, drop_all, append-nil, and-false, eqb-true, eq-eqb, false_from_ne_true, not-false, and_parts}
+use Rattle.xa_base.proofs.{+ℤ_idr as plus_none, by_bool, is_equal, put_one, retain_some, map_some, any_entries, Distinct}
+use Rattle.std.specs.Prelude.{◌≤ℤ◌}
+use Rattle.std.specs.Ordering.{ordering_then}
 use Rattle.std.specs.declared.cmp.Ordering.{Ordering}
 use Rattle.std.specs.declared.cmp.Ordering.TheVariants.{Equal}
-use Rattle.std.specs.Cmp.{IsTotalOrder, tied_itself}
+use Rattle.std.specs.Cmp.{IsTotalOrder}
 use Rattle.std.proofs.lemmas.Cmp.{then_total, on_total}
 use Rattle.std.specs.FinMap as finmap
-use Rattle.std.specs.FinMap.{FinMap, IsAntisymmetric, find, from_entries, get-from_entries}
-use Rattle.xa_words.specs.Xid.{XidName, xid_cmp, xid_eq}
-use Rattle.std.proofs.lemmas.List.Elements.{All-map, All-head, All-tail}
-use Rattle.std.proofs.lemmas.List.{length-map, get_or_default, get_or-set_other, length-set, take_all, drop_all, append-nil}
+use Rattle.std.specs.FinMap.{IsAntisymmetric}
+use Rattle.xa_words.specs.{XidName, xid_cmp, xid_eq, IsDelta, key_eq, key_cmp_total, key_cmp-IsAntisymmetric, xid_cmp_total, xid_cmp-IsAntisymmetric}
+use Rattle.xa_words.specs.{xid_eq-by_cmp, Decides-xid_eq, Decides-key_eq}
 use Rattle.std.proofs.lemmas.Grind.{get_or-set_at}
-use Rattle.std.proofs.Math.Bool.{and-false}
-use Rattle.std.proofs.lemmas.Bool.{eqb-true, eq-eqb, false_from_ne_true, not-false, and_parts}
 use Rattle.std.proofs.lemmas.Float.{T_from_true}
 use Rattle.std.specs.Int.Signed.{le_z_yes}
-use Rattle.xa_words.specs.Delta.{IsDelta}
 use Rattle.std.proofs.lemmas.List.Folds.{list_any_at}
-use Rattle.std.proofs.Math.IntN.{+ℤ_idr as plus_none}
-use Rattle.xa_base.proofs.Truth.{by_bool, is_equal}
-use Rattle.xa_words.specs.Key.{key_eq}
-use Rattle.xa_words.specs.Orders.{key_cmp, key_cmp_total, key_cmp-IsAntisymmetric, xid_cmp_total, xid_cmp-IsAntisymmetric, xid_eq-by_cmp, Decides-xid_eq}
-use Rattle.xa_words.specs.Orders.{Decides-key_eq}
-use Rattle.xa_tables.specs.declared.accounts.Account.{Account}
-use Rattle.xa_tables.specs.declared.accounts.Hold.{Hold}
-use Rattle.xa_tables.specs.Tables.{Touch, touch_cmp, is_within, value_of, sum_of, has_touched, has_other_touched, is_broken, posted}
-use Rattle.xa_tables.specs.Accounts.{IsSmall, IsGood, with_hold, hold_entries, value_entries, AreDistinct, AreDistinctEntries, hold_is_of, is_held_by}
-use Rattle.xa_tables.specs.Accounts.{hold_is_other, hold_breaks, is_broken_by, amount_in, added_to, hold_where, hold_without, kept_where, all_but, amount_of}
-use Rattle.xa_tables.specs.Accounts.{posted_by}
+use Rattle.xa_words.specs.Orders.{key_cmp}
+use Rattle.xa_tables.specs.{Account, Hold, Touch, touch_cmp, is_within, value_of, sum_of, has_touched, has_other_touched, is_broken, posted, IsSmall, IsGood}
+use Rattle.xa_tables.specs.{with_hold, hold_entries, value_entries, AreDistinct, AreDistinctEntries, hold_is_of, is_held_by, hold_is_other, hold_breaks}
+use Rattle.xa_tables.specs.{is_broken_by, amount_in, added_to, hold_where, hold_without, kept_where, all_but, amount_of, posted_by}
 use Rattle.xa_tables.proofs.SoundLemmas.{swap_xid}
-use Rattle.xa_base.proofs.FinMaps.{put_one, retain_some, map_some, any_entries, Distinct}
 
 -- touches are ordered, and no two are tied
 pub touch_cmp_total : IsTotalOrder touch_cmp
 touch_cmp_total = then_total (on_total (λ (p : Touch). p.0) xid_cmp_total) (on_total (λ (p : Touch). p.1) key_cmp_total)
 
 both_equal : (a b : Ordering) → ordering_then a b ≡ Equal → (a ≡ Equal) × (b ≡ Equal)
-both_equal v0 b e = grind arith
+both_equal a b e = grind arith
 
 pub touch_cmp-IsAntisymmetric : IsAntisymmetric touch_cmp
 touch_cmp-IsAntisymmetric p q e =
@@ -69,7 +58,7 @@ touch_self p = ap is_eq (tied_itself touch_cmp_total p)
 
 -- touches are one if their branches and their keys are
 then_is : (a b : Ordering) → is_eq (ordering_then a b) ≡ (is_eq a && is_eq b)
-then_is v0 b = grind arith
+then_is a b = grind arith
 
 touch_same : (x y : XidName) (k l : List ℕ) → same_touch (x, k) (y, l) ≡ (xid_eq y x && same_key k l)
 touch_same x y k l = then_is (xid_cmp x y) (key_cmp k l) ∙ ap (λ b. b && same_key k l) (sym (xid_eq-by_cmp x y) ∙ swap_xid x y)
@@ -228,11 +217,11 @@ distinct_changed f keys [] h = tt
 distinct_changed f keys (a ∷ rest) h = grind (arith, (distinct_changed f keys rest h.1), key_lacks, at_key_map, lacks_key)
 
 cond_none : (b : Bool) → ◌≡◌ {A = Option ℤ} (cond b None None) None
-cond_none v0 = grind arith
+cond_none b = grind arith
 
 kept_amount : (keep : XidName → Bool) (f : Account → Account) → LetsGo keep f → (x : XidName) (o : Option Account)
     → amount_held x (option_map f o) ≡ cond (keep x) (amount_held x o) None
-kept_amount keep f g x v4 = grind (arith, cond_none, Decides-xid_eq)
+kept_amount keep f g x o = grind (arith, cond_none, Decides-xid_eq)
 
 -- the values stay
 pub values_kept : (keep : XidName → Bool) (accounts : List Account) → value_entries (map (kept_where keep) accounts) ≡ value_entries accounts
@@ -248,7 +237,7 @@ sums_go keep f g accounts h =
     ∙ kept_amount keep f g p.0 (at_key p.1 accounts) ∙ ap (λ o. cond (keep p.0) o None) (sym (hold_found accounts h p.0 p.1)))
 
 amount_is : (x : XidName) (o : Option Hold) → amount_of o x ≡ unwrap_or (hold_amount x o) (pos 0)
-amount_is x v1 = grind arith
+amount_is x o = grind arith
 
 -- the values once x has committed
 pub values_posted : (x : XidName) (accounts : List Account) → AreDistinct accounts
@@ -271,7 +260,7 @@ each_as_was p f is [] = refl
 each_as_was p f is (a ∷ rest) = λ i. is a i || each_as_was p f is rest i
 
 pub forgotten_breaks : (x y : XidName) → y ≢ x → (v : ℤ) (o : Option Hold) → hold_breaks v (hold_without o x) y ≡ hold_breaks v o y
-forgotten_breaks x y apart v v4 = grind (arith, false_from_ne_true, Decides-xid_eq)
+forgotten_breaks x y apart v o = grind (arith, false_from_ne_true, Decides-xid_eq)
 
 pub settled_breaks : (x y : XidName) → y ≢ x → (v : ℤ) (o : Option Hold) → hold_breaks (v +ℤ amount_of o x) (hold_without o x) y ≡ hold_breaks v o y
 settled_breaks x y apart v None = refl
@@ -323,10 +312,10 @@ at_key_set k (c ∷ rest) (suc i) b dist h same =
     let none = ap (λ q. at_key q rest) (sym (sym (key_from k c.key t) ∙ is ∙ same)) ∙ lacks_key c.key rest dist.0 in cc)))) (λ _ _. refl) refl
 
 for_other : (x y : XidName) (o : Option Hold) → IsFor x o → xid_eq x y ≡ false → hold_amount y o ≡ None
-for_other x y v2 h e = grind arith
+for_other x y o h e = grind arith
 
 amount_for : (x : XidName) (o : Option Hold) → IsFor x o → unwrap_or (hold_amount x o) (pos 0) ≡ amount_in o
-amount_for x v1 h = grind (arith, Decides-xid_eq)
+amount_for x o h = grind (arith, Decides-xid_eq)
 
 -- the sums once x has added d at one account
 pub sums_added : (accounts : List Account) (i : ℕ) (a : Account) (x : XidName) (d : ℤ) → AreDistinct accounts → i < length accounts → a ≡ get_or accounts i a
@@ -350,7 +339,7 @@ sums_added accounts i a x d dist h e for =
 
 -- where no other branch has touched the key
 for_hold : (x : XidName) (o : Option Hold) → hold_is_other o x ≡ false → IsFor x o
-for_hold x v1 h = grind (arith, Decides-xid_eq, not-false)
+for_hold x o h = grind (arith, Decides-xid_eq, not-false)
 
 pub passes_none : (p : Account → Bool) (accounts : List Account) (i : ℕ) (a : Account) → i < length accounts → a ≡ get_or accounts i a
     → list_any p accounts ≡ false → p a ≡ false
@@ -369,7 +358,7 @@ any_set p (c ∷ rest) zero a b h e is = ap (λ t. t || list_any p rest) (is ∙
 any_set p (c ∷ rest) (suc i) a b h e is = ap (λ t. p c || t) (any_set p rest i a b (omega arith) e is)
 
 added_breaks : (x y : XidName) (v d : ℤ) (o : Option Hold) → y ≢ x → IsFor x o → hold_breaks v (Some (record { xid = x; amount = d })) y ≡ hold_breaks v o y
-added_breaks x y v d v4 apart h = grind (arith, false_from_ne_true, Decides-xid_eq)
+added_breaks x y v d o apart h = grind (arith, false_from_ne_true, Decides-xid_eq)
 
 -- the keys stay
 pub distinct_added : (accounts : List Account) (i : ℕ) (a : Account) (x : XidName) (d : ℤ) → AreDistinct accounts → i < length accounts
@@ -391,20 +380,20 @@ pub within_bounds : (v : ℤ) → is_within v ≡ true → (pos 0 ≤ℤ v) × (
 within_bounds v e = (le_z_yes (T_from_true _ (and_parts _ _ e).0), le_z_yes (T_from_true _ (and_parts _ _ e).1))
 
 small_where : (n : ℕ) (keep : XidName → Bool) (o : Option Hold) → IsSmall n o → IsSmall n (hold_where keep o)
-small_where n keep v2 s = grind arith
+small_where n keep o s = grind arith
 
 posted_value : (x : XidName) (v : ℤ) (o : Option Hold) → hold_breaks v o x ≡ false → (pos 0 ≤ℤ v) × (v ≤ℤ pos 1000000000000)
     → (pos 0 ≤ℤ (v +ℤ amount_of o x)) × ((v +ℤ amount_of o x) ≤ℤ pos 1000000000000)
-posted_value x v v2 e g = grind (arith, plus_none, within_bounds, not-false)
+posted_value x v o e g = grind (arith, plus_none, within_bounds, not-false)
 
 good_posted : (n : ℕ) (x : XidName) (a : Account) → IsGood n a → is_broken_by a x ≡ false → IsGood n (posted_by x a)
 good_posted n x a g e = let v = posted_value x a.value a.hold e (g.0, g.1) in (v.0, v.1, small_where n (all_but x) a.hold g.2)
 
 small_more : (n : ℕ) (o : Option Hold) → IsSmall n o → IsSmall (n + 1) o
-small_more n v1 s = grind arith
+small_more n o s = grind arith
 
 small_added : (n : ℕ) (x : XidName) (d : ℤ) (o : Option Hold) → IsDelta d → IsSmall n o → IsSmall (n + 1) (Some (record { xid = x; amount = amount_in o +ℤ d }))
-small_added n x d v3 h s = grind arith
+small_added n x d o h s = grind arith
 
 -- every account stays within its bounds
 pub all_kept : (n : ℕ) (keep : XidName → Bool) (accounts : List Account) → All (IsGood n) accounts → All (IsGood n) (map (kept_where keep) accounts)
@@ -432,7 +421,7 @@ all_added n i a x d accounts delta h e g k b j =
 -- a prepared branch keeps the value within the limits, so its sum is that of one addition
 small_prepared : (keep : XidName → Bool) (v : ℤ) (o : Option Hold) → (pos 0 ≤ℤ v) × (v ≤ℤ pos 1000000000000)
     → ((x : XidName) → keep x ≡ true → hold_breaks v o x ≡ false) → IsSmall 1 (hold_where keep o)
-small_prepared keep v v2 g unbroken = grind (arith, not-false, Decides-xid_eq, within_bounds)
+small_prepared keep v o g unbroken = grind (arith, not-false, Decides-xid_eq, within_bounds)
 
 pub all_prepared : (n : ℕ) (keep : XidName → Bool) (accounts : List Account) → All (IsGood n) accounts
     → ((x : XidName) → keep x ≡ true → list_any (λ a. is_broken_by a x) accounts ≡ false) → All (IsGood 1) (map (kept_where keep) accounts)

@@ -1,24 +1,16 @@
 -- The law: a branch is active exactly while somebody is associated with it and it is in none of S3, S4 and S5.
-use Rattle.std.specs.Prelude.{◌≡◌, ◌≢◌, ℕ, Bool, true, false, not, ◌&&◌, ◌||◌, Option, Some, is_some, [], ◌∷◌, refl}
-use Rattle.std.proofs.Common.{arith, sym, ap, ◌∙◌, subst, ⊎_elim}
+use Rattle.xa_base.proofs.{◌≡◌, ◌≢◌, ℕ, Bool, true, false, not, ◌&&◌, ◌||◌, Option, Some, is_some, [], ◌∷◌, refl, arith, sym, ap, ◌∙◌, subst, ⊎_elim, by_bool}
 use Rattle.std.specs.FinMap as map
 use Rattle.std.proofs.lemmas.Bool.{or_cases}
-use Rattle.xa_base.proofs.Truth.{by_bool}
-use Rattle.xa_words.specs.Xid.{XidName, xid_eq}
-use Rattle.xa_words.specs.Orders.{Decides-xid_eq}
-use Rattle.xa_words.specs.declared.request.Op.{Op}
-use Rattle.xa_tables.specs.declared.state.State.{State}
-use Rattle.xa_tables.specs.declared.state.State.TheVariants.{Active, Idle, Prepared as S3, RollbackOnly, HeuristicallyCompleted}
+use Rattle.xa_words.specs.{XidName, xid_eq, Decides-xid_eq, Op}
+use Rattle.xa_tables.specs.{State, Active, Idle, RollbackOnly, HeuristicallyCompleted, Failed, Transient, Association, AssociationState, Associated, Suspended}
+use Rattle.xa_tables.specs.{association_of, has_association, is_association_with, is_associated, state_of, is_S1, is_S2, is_S3, is_S4, is_S5, is_left_in}
+use Rattle.xa_tables.specs.{is_rollback_only, is_somebody_associated, Answer, next, association, with_association, associated, dissociated, stated, gone}
+use Rattle.xa_tables.specs.{tables_after, ActiveWhileAssociated, IsOpening}
+use Rattle.xa_tables.specs.declared.state.State.TheVariants.{Prepared as S3}
 use Rattle.xa_tables.specs.declared.state.HeuristicDecision.TheVariants as decision
-use Rattle.xa_tables.specs.declared.state.RollbackReason.TheVariants.{Failed, Transient}
-use Rattle.xa_tables.specs.declared.state.Association.{Association}
-use Rattle.xa_tables.specs.declared.state.AssociationState.{AssociationState}
-use Rattle.xa_tables.specs.declared.state.AssociationState.TheVariants.{Associated, Suspended}
-use Rattle.xa_tables.specs.Tables.{Tables, association_of, has_association, is_association_with, is_associated, state_of, is_S1, is_S2, is_S3, is_S4, is_S5}
-use Rattle.xa_tables.specs.Tables.{is_left_in, is_rollback_only, is_somebody_associated}
-use Rattle.xa_tables.specs.Next.{Answer, next, association, with_association, associated, dissociated, stated, gone}
-use Rattle.xa_tables.specs.History.{History, tables_after, ActiveWhileAssociated}
-use Rattle.xa_tables.specs.Openings.{IsOpening}
+use Rattle.xa_tables.specs.Tables.{Tables}
+use Rattle.xa_tables.specs.History.{History}
 use Rattle.xa_tables.proofs.Effects.{Effect, Starts, Joins, Resumes, Suspends, Leaves, Fails, Idles, Dooms, Prepares, Commits, Drops, CommitsByItself}
 use Rattle.xa_tables.proofs.Effects.{RollsBackByItself, Forgets, effect_of}
 use Rattle.xa_tables.proofs.Law.{AtWork, standing, where_put, where_gone, nobody_rests, run_sound, opening_sound}
@@ -35,7 +27,7 @@ with_y T t y l own here = (Decides-xid_eq l.xid y).0 (sym (ap (λ o. is_associat
 
 -- t's own association is with another branch than x, with which nobody is associated
 own_apart : (T : Tables) (t : ℕ) (x y : XidName) → is_associated T t y ≡ true → is_somebody_associated T.associations x ≡ false → xid_eq y x ≡ false
-own_apart v0 t x y own nobody = grind (arith, Decides-xid_eq, apart_from)
+own_apart T t x y own nobody = grind (arith, Decides-xid_eq, apart_from)
 
 -- ---- what each effect leaves
 
@@ -144,7 +136,7 @@ run_at_work (r ∷ h) T w = run_at_work h (next r.thread r.op T).0 (by_effect r.
 
 conclude : (o : Option State) (b : Bool) → (b ≡ false → is_S1 o ≡ false) → (is_S2 o ≡ true → b ≡ false) → (standing o ≢ AtWork → b ≡ false)
     → is_S1 o ≡ (b && not (is_S3 o || (is_S4 o || is_S5 o)))
-conclude o v1 active idle rests = grind arith
+conclude o b active idle rests = grind arith
 
 -- a branch that an opening begins with is neither active nor idle
 left_rests : (o : Option State) → ((s : State) → o ≡ Some s → is_left_in (Some s) ≡ true) → (is_S1 o ≡ false) × (is_S2 o ≡ false)
@@ -153,7 +145,7 @@ left_rests (Some Idle) left = let z : false ≡ true = left Idle refl in cc
 left_rests o left = (refl, refl)
 
 opening_at_work : (T : Tables) → IsOpening T → AtWorkWhile T
-opening_at_work v0 o = grind (arith, left_rests)
+opening_at_work T o = grind (arith, left_rests)
 
 pub active_law : (h : History) (x : XidName) (T : Tables) → IsOpening T → ActiveWhileAssociated x h T
 active_law h x T o =

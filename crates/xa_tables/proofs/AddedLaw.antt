@@ -1,26 +1,16 @@
 -- The law: a branch that has added to a key doesn't vote read-only, unless it was ended in between.
-use Rattle.std.specs.Prelude.{◌≡◌, ◌≢◌, ℕ, suc, ℤ, ◌+ℤ◌, Bool, true, false, cond, not, if◌then◌else◌, Option, None, Some, option_map, is_some, List, []}
-use Rattle.std.specs.Prelude.{◌∷◌, refl}
-use Rattle.std.proofs.Common.{sym, ap, ◌∙◌, subst, arith}
+use Rattle.xa_base.proofs.{◌≡◌, ◌≢◌, ℕ, suc, ℤ, ◌+ℤ◌, Bool, true, false, cond, not, if◌then◌else◌, Option, None, Some, option_map, is_some, List, [], ◌∷◌, refl}
+use Rattle.xa_base.proofs.{sym, ap, ◌∙◌, subst, arith, get-insert, eq_by_cmp, by_if, none_passes}
 use Rattle.std.specs.FinMap as map
-use Rattle.std.specs.FinMap.{get-insert}
-use Rattle.std.specs.Ordering.{eq_by_cmp}
-use Rattle.xa_words.specs.Xid.{XidName, xid_eq}
-use Rattle.xa_words.specs.Orders.{Decides-xid_eq}
-use Rattle.xa_words.specs.declared.code.Code.TheVariants.{Done, RdOnly}
-use Rattle.xa_words.specs.declared.request.Op.{Op}
-use Rattle.xa_words.specs.declared.request.Op.TheVariants.{Add, Prepare}
-use Rattle.xa_tables.specs.declared.state.Association.{Association}
-use Rattle.xa_tables.specs.Tables.{Tables, touch_cmp, association_of, has_opened, is_rollback_only}
-use Rattle.xa_tables.specs.Tables.{reason_of, state_of, branch_in, has_touched, is_at_work, is_declared, branch_of, has_other_touched, sum_of}
-use Rattle.xa_tables.specs.Tables.{sums_without}
-use Rattle.xa_tables.specs.Next.{Answer, next}
-use Rattle.xa_tables.specs.History.{History, ending, fate_of, tables_after, EndsNowhere, is_rolled_back}
-use Rattle.xa_base.proofs.Truth.{by_if}
+use Rattle.xa_words.specs.{XidName, xid_eq, Decides-xid_eq, Done, RdOnly, Op, Add, Prepare}
+use Rattle.xa_tables.specs.{Association, touch_cmp, association_of, has_opened, is_rollback_only, reason_of, state_of, branch_in, has_touched, is_at_work}
+use Rattle.xa_tables.specs.{is_declared, branch_of, has_other_touched, sum_of, sums_without, Answer, next, ending, fate_of, tables_after, EndsNowhere}
+use Rattle.xa_tables.specs.{is_rolled_back}
+use Rattle.xa_tables.specs.Tables.{Tables}
+use Rattle.xa_tables.specs.History.{History}
 use Rattle.xa_tables.proofs.Effects.{reason_rolls_back}
 use Rattle.xa_tables.proofs.Moves.{Moves, Still, Ended, Added, moves_of}
 use Rattle.xa_tables.proofs.Law.{swap_xid}
-use Rattle.xa_base.proofs.FinMaps.{none_passes}
 use Rattle.xa_tables.proofs.AccountLemmas.{touch_cmp_total, touch_cmp-IsAntisymmetric, touch_self}
 use Rattle.xa_tables.proofs.ValueLaw.{get_without}
 
@@ -29,7 +19,7 @@ abbrev HasAdded : XidName → List ℕ → Tables → Type 0
 HasAdded x k T = is_some (map.get T.sums (x, k)) ≡ true
 
 either : {A : Type 0} (b : Bool) (v : A) (o : Option A) → is_some o ≡ true → is_some (cond b (Some v) o) ≡ true
-either v0 v o e = grind arith
+either b v o e = grind arith
 
 -- a branch that has touched no key has none
 pub untouched : (x : XidName) (T : Tables) → has_touched T.sums x ≡ false → (k : List ℕ) → map.get T.sums (x, k) ≡ None
@@ -47,7 +37,7 @@ left_there : (x y : XidName) (k : List ℕ) (T : Tables) → xid_eq x y ≡ fals
 left_there x y k T other h = ap is_some (get_without T.sums y x k ∙ ap (λ b. if b then None else map.get T.sums (x, k)) other) ∙ h
 
 -- a request that ends y doesn't end x, and so x isn't y
-not_ended : (x y : XidName) (b : Bool) → (if xid_eq y x then Some b else None) ≡ None → xid_eq x y ≡ false
+pub not_ended : (x y : XidName) (b : Bool) → (if xid_eq y x then Some b else None) ≡ None → xid_eq x y ≡ false
 not_ended x y b none = grind (arith, swap_xid)
 
 -- a request that doesn't end the branch leaves what it has added to
@@ -67,9 +57,9 @@ stays_on (r ∷ g) x k T h n =
 
 -- an addition that is answered XA_OK
 branch_is : (o : Option Association) (x : XidName) → option_map (λ (a : Association). a.xid) o ≡ Some x → branch_in o ≡ x
-branch_is v0 x e = grind arith
+branch_is o x e = grind arith
 
-reason_not_done : (T : Tables) (y : XidName) → is_rollback_only T y ≡ true → reason_of T y ≡ Done → ⊥
+pub reason_not_done : (T : Tables) (y : XidName) → is_rollback_only T y ≡ true → reason_of T y ≡ Done → ⊥
 reason_not_done T y back e = let z : is_rolled_back Done ≡ true = ap is_rolled_back (sym e) ∙ reason_rolls_back (state_of T y) back in cc
 
 has_added : (t : ℕ) (x : XidName) (k : List ℕ) (d : ℤ) (T : Tables) → option_map (λ (a : Association). a.xid) (association_of T t) ≡ Some x

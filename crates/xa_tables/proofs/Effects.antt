@@ -1,35 +1,21 @@
 -- What one request does to the tables. The rules are walked here alone: a law of all requests is one of their effects.
-use Rattle.std.specs.Prelude.{◌≡◌, ℕ, ℤ, pos, Bool, true, false, not, ◌&&◌, ◌||◌, if◌then◌else◌, Option, None, Some, List, refl}
-use Rattle.std.proofs.Common.{arith, ap, ◌∙◌, ◌⊎◌, inl, inr}
+use Rattle.xa_base.proofs.{◌≡◌, ℕ, ℤ, pos, Bool, true, false, not, ◌&&◌, ◌||◌, if◌then◌else◌, Option, None, Some, List, refl, arith, ap, ◌∙◌, ◌⊎◌, inl, inr}
+use Rattle.xa_base.proofs.{or-true, and_parts, or_parts, not-false, by_if}
 use Rattle.std.specs.FinSet as set
-use Rattle.std.proofs.Math.Bool.{or-true}
-use Rattle.std.proofs.lemmas.Bool.{and_parts, or_parts, not-false}
-use Rattle.xa_base.proofs.Truth.{by_if}
-use Rattle.xa_words.specs.Xid.{XidName, xid_eq}
+use Rattle.xa_words.specs.{XidName, xid_eq, Done, RdOnly, RbRollback, RbIntegrity, RbTransient, Async, RmErr, Nota, Inval, Proto, RmFail, DupId, Outside, Op}
+use Rattle.xa_words.specs.{OpenRm, CloseRm, Start, Add, End, Prepare, Commit, Rollback, Forget, Heur, Listed, Shut, StartHow, Fresh, Join, Resume, EndHow}
+use Rattle.xa_words.specs.{Success, Suspend, Fail}
 use Rattle.xa_words.specs.declared.code.Code.{Code}
-use Rattle.xa_words.specs.declared.code.Code.TheVariants.{Done, RdOnly, RbRollback, RbIntegrity, RbTransient, Async, RmErr, Nota, Inval, Proto, RmFail, DupId}
-use Rattle.xa_words.specs.declared.code.Code.TheVariants.{Outside}
-use Rattle.xa_words.specs.declared.request.Op.{Op}
-use Rattle.xa_words.specs.declared.request.Op.TheVariants.{OpenRm, CloseRm, Start, Add, End, Prepare, Commit, Rollback, Forget, Heur, Listed, Shut}
-use Rattle.xa_words.specs.declared.request.StartHow.{StartHow}
-use Rattle.xa_words.specs.declared.request.StartHow.TheVariants.{Fresh, Join, Resume}
-use Rattle.xa_words.specs.declared.request.EndHow.{EndHow}
-use Rattle.xa_words.specs.declared.request.EndHow.TheVariants.{Success, Suspend, Fail}
-use Rattle.xa_tables.specs.declared.state.State.{State}
-use Rattle.xa_tables.specs.declared.state.State.TheVariants.{Active, Idle, Prepared as S3, RollbackOnly}
+use Rattle.xa_tables.specs.{State, Active, Idle, RollbackOnly, Failed, Transient, Association, has_opened, association_of, has_association, is_T1, branch_in}
+use Rattle.xa_tables.specs.{state_of, exists, is_S4, is_suspended, is_associated, is_idle, is_prepared, is_rollback_only, is_completed, is_left, is_S5}
+use Rattle.xa_tables.specs.{reason_in, reason_of, decision_in, decision_of, is_somebody_associated, is_declared, has_touched, has_other_touched, is_broken}
+use Rattle.xa_tables.specs.{Answer, next, by_rules, open_rm, close_rm, start, add, end, prepare, commit_one, commit_two, rollback, heur, forget, listed}
+use Rattle.xa_tables.specs.{is_suspend, associated, suspended, dissociated, stated, added, gone, completed, committed, shut_down, Fate, ReadOnly, RolledBack}
+use Rattle.xa_tables.specs.{fate_of, if_named, prepare_fate, commit_fate, rollback_fate, ending_by, is_done, is_rolled_back, share_of, names, moved_by, held_by}
+use Rattle.xa_tables.specs.declared.state.State.TheVariants.{Prepared as S3}
 use Rattle.xa_tables.specs.declared.state.HeuristicDecision.TheVariants as decision
-use Rattle.xa_tables.specs.declared.state.RollbackReason.TheVariants.{Failed, Transient}
-use Rattle.xa_tables.specs.declared.state.Association.{Association}
-use Rattle.xa_tables.specs.Tables.{Tables, has_opened, association_of, has_association, is_T1, branch_in, state_of, exists, is_S4, is_suspended, is_associated}
-use Rattle.xa_tables.specs.Tables.{is_idle, is_prepared, is_rollback_only, is_completed, is_left, is_S5, reason_in, reason_of, decision_in, decision_of}
-use Rattle.xa_tables.specs.Tables.{is_somebody_associated, is_declared, has_touched, has_other_touched, is_broken}
-use Rattle.xa_tables.specs.Next.{Answer, next, by_rules, open_rm, close_rm, start, add, end, prepare, commit_one, commit_two, rollback, heur}
-use Rattle.xa_tables.specs.Next.{forget, listed, is_suspend, associated, suspended, dissociated, stated, added, gone, forgotten, completed, committed}
-use Rattle.xa_tables.specs.Next.{shut_down}
-use Rattle.xa_tables.specs.History.{Fate, ReadOnly, RolledBack, fate_of, if_named, prepare_fate, commit_fate}
-use Rattle.xa_tables.specs.History.{rollback_fate, ending_by, is_done, is_rolled_back, share_of}
-use Rattle.xa_tables.specs.Prepared.{names}
-use Rattle.xa_tables.specs.Worth.{moved_by, held_by}
+use Rattle.xa_tables.specs.Tables.{Tables}
+use Rattle.xa_tables.specs.Next.{forgotten}
 
 -- ---- what a code tells
 
@@ -64,7 +50,7 @@ pub named_none : (x y : XidName) → if_named x y None ≡ None
 named_none x y = elim (xid_eq y x) as (λ b. ◌≡◌ {A = Option Fate} (if b then None else None) None) [ true ↦ refl | false ↦ refl ]
 
 no_share : (b : Bool) (z : ℤ) → (if b && false then z else pos 0) ≡ pos 0
-no_share v0 z = grind arith
+no_share b z = grind arith
 
 -- an addition with another code than XA_OK tells nothing
 pub undone_adds : (own : List ℕ) (d : ℤ) (c : Code) → is_done c ≡ false → TellsNothing (Add own d) c
@@ -81,7 +67,7 @@ error_fate : (x : XidName) (op : Op) (c : Code) → is_error c ≡ true → fate
 error_fate x op c e = grind (arith, error_undone, named_none, error_fates)
 
 error_moved : (accounts : List (List ℕ × ℕ)) (T : Tables) (op : Op) (c : Code) → is_error c ≡ true → moved_by accounts op c T ≡ pos 0
-error_moved accounts v1 op c e = grind (arith, error_undone)
+error_moved accounts T op c e = grind (arith, error_undone)
 
 -- an error tells nothing, whatever was requested
 pub error_tells : (op : Op) (c : Code) → is_error c ≡ true → TellsNothing op c
@@ -296,4 +282,4 @@ module _ (t : ℕ) (T : Tables) where
 -- each request has one of them
 pub effect_of : (t : ℕ) (op : Op) (T : Tables) → Effect t T op (next t op T)
 unfolding next
-effect_of t op v2 = grind (arith, refuses, at_rules)
+effect_of t op T = grind (arith, refuses, at_rules)

@@ -1,11 +1,9 @@
 -- The law: late requests make nothing of any branch.
-use Rattle.std.specs.Prelude.{◌≡◌, refl}
-use Rattle.std.specs.List.{cons_option}
-use Rattle.std.proofs.Common.{ap}
-use Rattle.xa_words.specs.Xid.{XidName}
+use Rattle.xa_base.proofs.{◌≡◌, refl, cons_option, ap}
+use Rattle.xa_words.specs.{XidName}
 use Rattle.xa_tables.specs.Tables.{Tables}
-use Rattle.xa_tables.specs.Next.{next}
-use Rattle.xa_tables.specs.History.{History, Fate, fate, fate_in, fate_of, fates_in, coded, last_or}
+use Rattle.xa_tables.specs.{next, Fate, fate, fate_in, fate_of, fates_in, coded, last_or}
+use Rattle.xa_tables.specs.History.{History}
 use Rattle.xa_tables.proofs.ShutLemmas.{accepted_read, fates_quiet}
 
 pub late_leave_fates : (x : XidName) (f : Fate) (h : History) (T : Tables) → fate x f h T ≡ fate_in x f (coded h T)

@@ -1,16 +1,12 @@
 -- The law: the tables tell what became of each branch, over any openings.
-use Rattle.std.specs.Prelude.{◌≡◌, true, false, cond, if◌then◌else◌, Option, None, List, [], ◌∷◌, refl}
-use Rattle.std.proofs.Common.{arith, sym, ap, ◌∙◌, subst}
+use Rattle.xa_base.proofs.{◌≡◌, true, false, cond, if◌then◌else◌, Option, None, List, [], ◌∷◌, refl, arith, sym, ap, ◌∙◌, subst, get-empty}
 use Rattle.std.specs.FinMap as map
-use Rattle.std.specs.FinMap.{get-empty}
-use Rattle.xa_words.specs.Xid.{XidName, xid_cmp}
-use Rattle.xa_tables.specs.declared.state.State.{State}
-use Rattle.xa_tables.specs.declared.state.HeuristicDecision.{HeuristicDecision}
+use Rattle.xa_words.specs.{XidName, xid_cmp}
+use Rattle.xa_tables.specs.{State, HeuristicDecision, state_of, is_left_in, Fate, Absent, RolledBack, is_live, is_in_doubt, decided_fate, fate, tables_after}
+use Rattle.xa_tables.specs.{accepted, IsFateOf, IsNew, IsOpening, reopened, reopened_fate, left_by, fate_left, told_by, FatesAreTold}
 use Rattle.xa_tables.specs.declared.state.HeuristicDecision.TheVariants as decision
-use Rattle.xa_tables.specs.Tables.{Tables, state_of, is_left_in}
-use Rattle.xa_tables.specs.History.{History, Fate, Absent, RolledBack, is_live, is_in_doubt, decided_fate, fate, tables_after, accepted}
-use Rattle.xa_tables.specs.History.{IsFateOf}
-use Rattle.xa_tables.specs.Openings.{IsNew, IsOpening, reopened, reopened_fate, left_by, fate_left, told_by, FatesAreTold}
+use Rattle.xa_tables.specs.Tables.{Tables}
+use Rattle.xa_tables.specs.History.{History}
 use Rattle.xa_tables.proofs.ShutLemmas.{after_accepted}
 use Rattle.xa_tables.proofs.Law.{Tells, told_tells, run, opening_sound}
 use Rattle.xa_tables.proofs.Reopening.{state_reopened, reopens, new_opens, left_opens}
@@ -52,7 +48,7 @@ reopened_tells : (o : Option State) (f : Fate) → Tells o f → Tells (cond (is
 reopened_tells o f t = grind (arith, unlive, in_doubt_waits, unlive_decided, gone)
 
 pub reopened_law : (x : XidName) (f : Fate) (T : Tables) → IsFateOf x f T → IsFateOf x (reopened_fate f) (reopened T)
-reopened_law x f v2 w = grind (arith, tells_told, state_reopened, reopened_tells, state_tells)
+reopened_law x f T w = grind (arith, tells_told, state_reopened, reopened_tells, state_tells)
 
 -- ---- any openings
 

@@ -1,22 +1,14 @@
 -- A thread that begins a branch was free, and each request frees at most one thread.
-use Rattle.std.specs.Prelude.{◌≡◌, ◌≢◌, ℕ, zero, suc, ◌+◌, ◌*◌, ◌<◌, ◌≤◌, Bool, true, false, not, ◌&&◌, ◌||◌, Option, None, Some, is_some, refl}
-use Rattle.std.proofs.Common.{sym, ap, ◌∙◌, arith}
-use Rattle.std.proofs.lemmas.Bool.{not-false}
-use Rattle.std.proofs.Math.Bool.{and-false}
-use Rattle.std.specs.Cmp.{nat_cmp_total}
+use Rattle.xa_base.proofs.{◌≡◌, ◌≢◌, ℕ, zero, suc, ◌+◌, ◌*◌, ◌<◌, ◌≤◌, Bool, true, false, not, ◌&&◌, ◌||◌, Option, None, Some, is_some, refl, sym, ap, ◌∙◌}
+use Rattle.xa_base.proofs.{arith, not-false, and-false, nat_cmp_total, tied_false}
 use Rattle.std.specs.FinSet as set
 use Rattle.std.specs.FinMap as map
 use Rattle.std.specs.FinSet.{contains-insert, contains-remove}
-use Rattle.xa_base.proofs.Truth.{tied_false}
-use Rattle.xa_words.specs.Xid.{XidName}
+use Rattle.xa_words.specs.{XidName, Done, RbRollback, Op}
 use Rattle.xa_words.specs.declared.code.Code.{Code}
-use Rattle.xa_words.specs.declared.code.Code.TheVariants.{Done, RbRollback}
-use Rattle.xa_words.specs.declared.request.Op.{Op}
-use Rattle.xa_tables.specs.declared.state.Association.{Association}
-use Rattle.xa_tables.specs.Tables.{Tables, has_opened, association_of, has_association, is_association_with, is_associated}
-use Rattle.xa_tables.specs.declared.state.AssociationState.TheVariants.{Associated, Suspended}
-use Rattle.xa_tables.specs.Next.{Answer, next, needs_opening, association, with_association, dissociated}
-use Rattle.xa_tables.specs.Managers.{TablesWithRoom, Keeps, is_free, counted, free_threads, places_taken}
+use Rattle.xa_tables.specs.{Association, has_opened, association_of, has_association, is_association_with, is_associated, Associated, Suspended, Answer, next}
+use Rattle.xa_tables.specs.{needs_opening, association, with_association, dissociated, TablesWithRoom, Keeps, is_free, counted, free_threads, places_taken}
+use Rattle.xa_tables.specs.Tables.{Tables}
 use Rattle.xa_tables.proofs.SoundLemmas.{by_nat, own_put, other_put, own_removed, other_removed}
 use Rattle.xa_tables.proofs.Effects.{Effect, Opens, Closes, Starts, Joins, Resumes, Suspends, Leaves, Fails, Idles, at_rules}
 
@@ -30,7 +22,7 @@ none_free zero T closed = refl
 none_free (suc n) T closed = grind (arith, (none_free n T closed))
 
 at_most_one : (b : Bool) → counted b ≤ 1
-at_most_one v0 = grind arith
+at_most_one b = grind arith
 
 -- T becomes U, and only thread t may be free in one of them alone
 module _ (t : ℕ) (T U : Tables) (others : (u : ℕ) → u ≢ t → is_free U u ≡ is_free T u) where
@@ -64,13 +56,13 @@ module _ (n t : ℕ) (T U : Tables) (first : 0 < t) (last : t ≤ n) (others : (
   pays_one before after = grind (arith, one_changes, at_most_one)
 
 free_or_not : (b : Bool) → (not b && b) ≡ false
-free_or_not v0 = grind arith
+free_or_not b = grind arith
 
 never_both : (b : Bool) → (not b && false) ≡ false
-never_both v0 = grind arith
+never_both b = grind arith
 
 has_own : (o : Option Association) (x : XidName) → is_association_with o x ≡ true → is_some o ≡ true
-has_own v0 x e = grind arith
+has_own o x e = grind arith
 
 -- t has the association that is put, and none where it goes
 put_there : (t : ℕ) (T U : Tables) (l : Association) → U.associations ≡ map.insert T.associations t l → association_of U t ≡ Some l
@@ -105,7 +97,7 @@ module _ (n t : ℕ) (T : Tables) (first : 0 < t) (last : t ≤ n) where
   -- t, which has it open and is free, becomes associated
   begins : (l : Association) (c : Code) (U : Tables) → U.opened ≡ T.opened → U.associations ≡ map.insert T.associations t l → has_opened T t ≡ true
       → has_association T t ≡ false → Pays (U, c)
-  begins l c v2 opened associations has free = grind (arith, pays_one, put, put_there, and-false)
+  begins l c U opened associations has free = grind (arith, pays_one, put, put_there, and-false)
 
   -- t, which has an association, gets another
   goes_on : (y : XidName) (l : Association) (c : Code) → is_associated T t y ≡ true → Pays (with_association t l T, c)
@@ -115,7 +107,7 @@ module _ (n t : ℕ) (T : Tables) (first : 0 < t) (last : t ≤ n) where
 
   -- t's association goes
   ends : (c : Code) (U : Tables) → U.opened ≡ T.opened → U.associations ≡ map.remove T.associations t → Pays (U, c)
-  ends c v1 opened associations = grind (arith, pays_none, gone, gone_there, never_both)
+  ends c U opened associations = grind (arith, pays_none, gone, gone_there, never_both)
 
   by_effect : {op : Op} {a : Answer} → (needs_opening op && not (has_opened T t)) ≡ false → Effect t T op a → Pays a
   by_effect may (Opens) = pays_none n t T _ first last opens (free_or_not (has_association T t))
@@ -134,4 +126,4 @@ module _ (n t : ℕ) (T : Tables) (first : 0 < t) (last : t ≤ n) where
 pub places_paid : (n t : ℕ) (op : Op) (T : Tables) → 0 < t → t ≤ n
     → free_threads n (next t op T).0 + 2 * places_taken t T (next t op T).0 ≤ free_threads n T + 1
 unfolding next
-places_paid n t op v3 first last = grind (arith, pays_none, free_or_not, by_effect, at_rules)
+places_paid n t op T first last = grind (arith, pays_none, free_or_not, by_effect, at_rules)

@@ -1,29 +1,21 @@
 -- Scans of the places that branches hold, in place of scans of all accounts.
-use Rattle.std.specs.Prelude.{◌≡◌, All, ℕ, ℤ, pos, ◌+ℤ◌, zero, suc, ◌+◌, ◌<◌, ◌≤◌, nat_eq, Bool, true, false, not, ◌&&◌, ◌||◌, if◌then◌else◌, List, []}
-use Rattle.std.specs.Prelude.{◌∷◌, ◌++◌, drop, length, map, filter, Option, None, Some, is_some, refl}
-use Rattle.std.proofs.Common.{sym, ap, ◌∙◌, subst, arith, get_or}
-use Rattle.std.proofs.Math.ListN.{set}
-use Rattle.std.specs.List.{AllByRecursion, IsDistinct, list_any}
+use Rattle.xa_base.proofs.{◌≡◌, All, ℕ, ℤ, pos, ◌+ℤ◌, zero, suc, ◌+◌, ◌<◌, ◌≤◌, nat_eq, Bool, true, false, not, ◌&&◌, ◌||◌, if◌then◌else◌, List, [], ◌∷◌, ◌++◌}
+use Rattle.xa_base.proofs.{drop, length, map, filter, Option, None, Some, is_some, refl, sym, ap, ◌∙◌, subst, arith, get_or, set, IsDistinct, list_any, FinMap}
+use Rattle.xa_base.proofs.{or-false, eqb-true, eq-eqb, false_from_ne_true, drop_all, get_or_default, get_or-map, get_or-set_other, length-map, length-set}
+use Rattle.xa_base.proofs.{list_any-append, +ℤ_idr as plus_none, none_twice}
+use Rattle.std.specs.List.{AllByRecursion}
 use Rattle.std.specs.Cmp.{nat_eq_equiv}
-use Rattle.std.specs.FinMap.{FinMap}
-use Rattle.std.proofs.Math.Bool.{or-false}
-use Rattle.std.proofs.lemmas.Bool.{eqb-true, eq-eqb, false_from_ne_true, or_left, or_right}
+use Rattle.std.proofs.lemmas.Bool.{or_left, or_right}
 use Rattle.std.proofs.lemmas.Grind.{get_or-set_at}
-use Rattle.std.proofs.lemmas.List.{drop_more, drop_all, get_or_default, get_or-map, get_or-set_other, length-map, length-set, length_push, map-set, set-get_or}
-use Rattle.std.proofs.lemmas.List.Folds.{list_any-append, list_any_at, map_fixed}
+use Rattle.std.proofs.lemmas.List.{drop_more, length_push, map-set, set-get_or}
+use Rattle.std.proofs.lemmas.List.Folds.{list_any_at, map_fixed}
 use Rattle.std.proofs.lemmas.Map.Keys.{IsDistinct-head, IsDistinct-tail, IsDistinct-cons, IsDistinct-push}
 use Rattle.std.proofs.lemmas.Map.Steps.{length-le_from_distinct_below}
 use Rattle.std.proofs.lemmas.Map.Views.{any-filter_same}
-use Rattle.std.proofs.Math.IntN.{+ℤ_idr as plus_none}
-use Rattle.xa_base.proofs.Lists.{none_twice}
-use Rattle.xa_words.specs.Xid.{XidName, xid_eq}
+use Rattle.xa_words.specs.{XidName, xid_eq}
 use Rattle.xa_words.specs.Orders.{key_cmp}
-use Rattle.xa_tables.specs.declared.accounts.Account.{Account}
-use Rattle.xa_tables.specs.declared.accounts.Hold.{Hold}
-use Rattle.xa_tables.specs.Tables.{is_within}
-use Rattle.xa_tables.specs.Accounts.{AreDistinct, AreIndexed, IsGood, hold_is_of, is_held_by, hold_breaks, is_broken_by, hold_where, hold_without, kept_where}
-use Rattle.xa_tables.specs.Accounts.{all_but, amount_of, added_to, posted_by}
-use Rattle.xa_tables.specs.Held.{passes_at, is_held, is_held_at, AreHeld, noted}
+use Rattle.xa_tables.specs.{Account, Hold, is_within, AreDistinct, AreIndexed, IsGood, hold_is_of, is_held_by, hold_breaks, is_broken_by, hold_where}
+use Rattle.xa_tables.specs.{hold_without, kept_where, all_but, amount_of, added_to, posted_by, passes_at, is_held, is_held_at, AreHeld, noted}
 use Rattle.xa_tables.proofs.AccountLemmas.{LetsGo, distinct_changed, passes_none, any_set}
 use Rattle.xa_tables.proofs.PlaceLemmas.{account_of, indexed_map}
 

@@ -1,31 +1,18 @@
 -- The laws of heuristic decisions: only a prepared branch is decided, and by a manager that isn't shut; and only a
 -- completed one tells its decision.
-use Rattle.std.specs.Prelude.{◌≡◌, ℕ, Bool, true, false, not, ◌||◌, if◌then◌else◌, Option, None, Some, [], ◌∷◌, refl}
-use Rattle.std.proofs.Common.{arith, sym, ap, ◌∙◌, subst}
-use Rattle.std.specs.List.{cons_option}
-use Rattle.std.proofs.lemmas.Bool.{not-false}
-use Rattle.std.proofs.lemmas.List.Elements.{All-head, All-tail}
-use Rattle.xa_words.specs.Xid.{XidName, xid_eq}
-use Rattle.xa_words.specs.Orders.{Decides-xid_eq}
+use Rattle.xa_base.proofs.{◌≡◌, ℕ, Bool, true, false, not, ◌||◌, if◌then◌else◌, Option, None, Some, [], ◌∷◌, refl, arith, sym, ap, ◌∙◌, subst, cons_option}
+use Rattle.xa_base.proofs.{not-false, All-head, All-tail, by_if, at_true}
+use Rattle.xa_words.specs.{XidName, xid_eq, Decides-xid_eq, Done, HeurCom, HeurRb, Op, Commit, Rollback, Forget, Heur, Request}
 use Rattle.xa_words.specs.declared.code.Code.{Code}
-use Rattle.xa_words.specs.declared.code.Code.TheVariants.{Done, HeurCom, HeurRb}
-use Rattle.xa_words.specs.declared.request.Op.{Op}
-use Rattle.xa_words.specs.declared.request.Op.TheVariants.{Commit, Rollback, Forget, Heur}
-use Rattle.xa_words.specs.declared.request.Request.{Request}
 use Rattle.xa_words.proofs.Xids.{xid_self}
-use Rattle.xa_tables.specs.declared.state.State.{State}
-use Rattle.xa_tables.specs.declared.state.State.TheVariants.{Active, Idle, Prepared as S3, RollbackOnly, HeuristicallyCompleted}
-use Rattle.xa_tables.specs.declared.state.RollbackReason.{RollbackReason}
-use Rattle.xa_tables.specs.declared.state.RollbackReason.TheVariants.{Failed}
-use Rattle.xa_tables.specs.declared.state.HeuristicDecision.{HeuristicDecision}
+use Rattle.xa_tables.specs.{State, Active, Idle, RollbackOnly, HeuristicallyCompleted, RollbackReason, Failed, HeuristicDecision, state_of, exists, is_S3}
+use Rattle.xa_tables.specs.{is_S4, is_S5, is_prepared, is_completed, decision_in, decision_of, reason_in, reason_code, decision_code, Answer, next, completed}
+use Rattle.xa_tables.specs.{committed, HeurCommitted, HeurRolledBack, fate_of, fates_in, coded, decided_fate, heur_fate, names, is_heur, is_forget, OnlyDecides}
+use Rattle.xa_tables.specs.{IsTold}
+use Rattle.xa_tables.specs.declared.state.State.TheVariants.{Prepared as S3}
 use Rattle.xa_tables.specs.declared.state.HeuristicDecision.TheVariants as decision
-use Rattle.xa_tables.specs.Tables.{Tables, state_of, exists, is_S3, is_S4, is_S5, is_prepared, is_completed, decision_in}
-use Rattle.xa_tables.specs.Tables.{decision_of, reason_in}
-use Rattle.xa_tables.specs.Reasons.{reason_code, decision_code}
-use Rattle.xa_tables.specs.Next.{Answer, next, completed, committed}
-use Rattle.xa_tables.specs.History.{History, HeurCommitted, HeurRolledBack, fate_of, fates_in, coded, decided_fate, heur_fate}
-use Rattle.xa_tables.specs.Prepared.{names, is_heur, is_forget, OnlyDecides, IsTold}
-use Rattle.xa_base.proofs.Truth.{by_if, at_true}
+use Rattle.xa_tables.specs.Tables.{Tables}
+use Rattle.xa_tables.specs.History.{History}
 use Rattle.xa_tables.proofs.ShutLemmas.{all_quiet, fates_quiet}
 use Rattle.xa_tables.proofs.Effects.{Effect, Starts, Joins, Fails, Idles, Dooms, Prepares, Commits, Drops, CommitsByItself, RollsBackByItself, Forgets}
 use Rattle.xa_tables.proofs.Effects.{effect_of, named_none}
@@ -96,7 +83,7 @@ module _ (t : ℕ) (x : XidName) (T : Tables) (u : is_prepared T x ≡ false) wh
     quiet : fate_of x op a.1 ≡ None
 
   by_decision : (op : Op) (a : Answer) → Decides x op T a → Rests op a
-  by_decision op a v2 = grind arith
+  by_decision op a h = grind arith
 
   by_name : (op : Op) → names x op ≡ true → (is_heur op || is_forget op) ≡ true → Rests op (next t op T)
   by_name (Heur y commits) n h = by_decision (Heur y commits) _ (decides t x (Heur y commits) T n refl)
@@ -146,7 +133,7 @@ completed_with : (o : Option State) (d : HeuristicDecision) → is_S5 o ≡ true
 completed_with o d is e = grind (arith, same_decision)
 
 reason_tells_none : (r : RollbackReason) → is_told (reason_code r) ≡ false
-reason_tells_none v0 = grind arith
+reason_tells_none r = grind arith
 
 reason_is_none : (o : Option State) → is_S4 o ≡ true → is_told (reason_in o) ≡ false
 reason_is_none o is = grind (arith, reason_tells_none)

@@ -1,14 +1,8 @@
 -- What a manager keeps of its tables from request to request.
-use Rattle.std.specs.Prelude.{ℕ}
-use Rattle.std.proofs.Common.{sym, ap, ◌∙◌}
-use Rattle.std.proofs.lemmas.Bool.{or_from, false_from_ne_true}
-use Rattle.xa_words.specs.Xid.{xid_eq}
-use Rattle.xa_words.specs.Orders.{Decides-xid_eq}
-use Rattle.xa_words.specs.declared.request.Op.{Op}
-use Rattle.xa_tables.specs.Tables.{Tables, state_of}
-use Rattle.xa_tables.specs.Next.{next}
-use Rattle.xa_tables.specs.Managers.{AreAssociationsLive}
-use Rattle.xa_tables.specs.Openings.{IsOpening}
+use Rattle.xa_base.proofs.{ℕ, sym, ap, ◌∙◌, or_from, false_from_ne_true}
+use Rattle.xa_words.specs.{xid_eq, Decides-xid_eq, Op}
+use Rattle.xa_tables.specs.Tables.{Tables}
+use Rattle.xa_tables.specs.{state_of, next, AreAssociationsLive, IsOpening}
 use Rattle.xa_tables.proofs.SoundLemmas.{nobody_with}
 use Rattle.xa_tables.proofs.Law.{Sound, standing, works, working, associated_works, sound_after, opening_sound}
 

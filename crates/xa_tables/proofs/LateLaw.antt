@@ -1,19 +1,15 @@
 -- The law: what comes after the first Shut is refused and changes nothing.
-use Rattle.std.specs.Prelude.{◌≡◌, ℕ, true, false, if◌then◌else◌, [], ◌∷◌, ◌++◌, map, refl}
-use Rattle.std.proofs.Common.{arith, ap, ◌∙◌}
-use Rattle.xa_words.specs.declared.code.Code.TheVariants.{Done, RmFail}
-use Rattle.xa_words.specs.declared.request.Op.{Op}
-use Rattle.xa_words.specs.declared.request.Op.TheVariants.{Shut}
-use Rattle.xa_words.specs.declared.request.Request.{Request}
+use Rattle.xa_base.proofs.{◌≡◌, ℕ, true, false, if◌then◌else◌, [], ◌∷◌, ◌++◌, map, refl, arith, ap, ◌∙◌}
+use Rattle.xa_words.specs.{Done, RmFail, Op, Shut, Request}
 use Rattle.xa_tables.specs.Tables.{Tables}
-use Rattle.xa_tables.specs.Next.{Answer, next, shut_down}
-use Rattle.xa_tables.specs.History.{History, codes, is_shut, accepted, first_shut, late, LateAreRefused, LateChangeNothing}
+use Rattle.xa_tables.specs.{Answer, next, shut_down, codes, is_shut, accepted, first_shut, late, LateAreRefused, LateChangeNothing}
+use Rattle.xa_tables.specs.History.{History}
 use Rattle.xa_tables.proofs.Effects.{Effect, effect_of}
 use Rattle.xa_tables.proofs.ShutLemmas.{next-shut, next-Shut, shut_op, after_accepted}
 
 -- only a Shut shuts
 leaves_open : (t : ℕ) (T : Tables) {op : Op} {a : Answer} → Effect t T op a → is_shut op ≡ false → a.0.shut ≡ T.shut
-leaves_open t v1 effect e = grind arith
+leaves_open t T effect e = grind arith
 
 pub stays_open : (t : ℕ) (op : Op) (T : Tables) → is_shut op ≡ false → (next t op T).0.shut ≡ T.shut
 stays_open t op T = leaves_open t T (effect_of t op T)
@@ -24,7 +20,7 @@ all_refused (r ∷ h) T s = ap (λ (a : Answer). a.1 ∷ codes h a.0) (next-shut
 
 from_shut : (t : ℕ) (op : Op) (h : History) (T : Tables) → op ≡ Shut → T.shut ≡ false
     → (next t op T).1 ∷ codes h (next t op T).0 ≡ Done ∷ map (λ (q : Request). RmFail) h
-from_shut t op h v3 is s = grind (arith, next-Shut, all_refused)
+from_shut t op h T is s = grind (arith, next-Shut, all_refused)
 
 pub late_are_refused : (h : History) (T : Tables) → T.shut ≡ false → LateAreRefused h T
 late_are_refused [] T s = refl

@@ -1,27 +1,18 @@
 -- What the state of a branch tells of its fate, and that nobody is associated with a branch that isn't at work, whatever is requested.
-use Rattle.std.specs.Prelude.{◌≡◌, ◌≢◌, ℕ, pos, Bool, true, false, cond, ◌||◌, if◌then◌else◌, Option, None, Some, is_some, unwrap_or, List, [], ◌∷◌, refl}
-use Rattle.std.proofs.Common.{arith, sym, ap, ◌∙◌, subst}
+use Rattle.xa_base.proofs.{◌≡◌, ◌≢◌, ℕ, pos, Bool, true, false, cond, ◌||◌, if◌then◌else◌, Option, None, Some, is_some, unwrap_or, List, [], ◌∷◌, refl, arith}
+use Rattle.xa_base.proofs.{sym, ap, ◌∙◌, subst, get-empty, get-insert, get-remove, nat_cmp, cons_option}
 use Rattle.std.specs.FinMap as map
-use Rattle.std.specs.FinMap.{get-empty, get-insert, get-remove}
-use Rattle.std.specs.Ordering.{nat_cmp}
-use Rattle.xa_words.specs.Xid.{XidName, xid_eq}
-use Rattle.xa_words.specs.Orders.{xid_cmp_total, Decides-xid_eq, xid_eq-by_cmp}
+use Rattle.xa_words.specs.{XidName, xid_eq, xid_cmp_total, Decides-xid_eq, xid_eq-by_cmp, Op}
 use Rattle.xa_words.proofs.Xids.{xid_self}
-use Rattle.xa_words.specs.declared.request.Op.{Op}
-use Rattle.xa_tables.specs.declared.state.State.{State}
-use Rattle.xa_tables.specs.declared.state.State.TheVariants.{Active, Idle, Prepared as S3, RollbackOnly, HeuristicallyCompleted}
-use Rattle.xa_tables.specs.declared.state.HeuristicDecision.{HeuristicDecision}
+use Rattle.xa_tables.specs.{State, Active, Idle, RollbackOnly, HeuristicallyCompleted, HeuristicDecision, Failed, Transient, Association, AssociationState}
+use Rattle.xa_tables.specs.{Associated, Suspended, association_of, state_of, is_S3, is_S5, is_prepared, is_associated, is_somebody_associated, Answer, next}
+use Rattle.xa_tables.specs.{gone, stated, with_association, associated, dissociated, association, Fate, ending_by, InDoubt, Live, Committed, HeurCommitted}
+use Rattle.xa_tables.specs.{HeurRolledBack, Absent, is_in_doubt, is_unfinished, decided_fate, fate_of, fates_in, last_or, if_named, tables_after, coded}
+use Rattle.xa_tables.specs.{IsOpening, told_by}
+use Rattle.xa_tables.specs.declared.state.State.TheVariants.{Prepared as S3}
 use Rattle.xa_tables.specs.declared.state.HeuristicDecision.TheVariants as decision
-use Rattle.xa_tables.specs.declared.state.RollbackReason.TheVariants.{Failed, Transient}
-use Rattle.xa_tables.specs.declared.state.Association.{Association}
-use Rattle.xa_tables.specs.declared.state.AssociationState.{AssociationState}
-use Rattle.xa_tables.specs.declared.state.AssociationState.TheVariants.{Associated, Suspended}
-use Rattle.xa_tables.specs.Tables.{Tables, association_of, state_of, is_S3, is_S5, is_prepared, is_associated, is_somebody_associated}
-use Rattle.xa_tables.specs.Next.{Answer, next, gone, stated, with_association, associated, dissociated, association}
-use Rattle.xa_tables.specs.History.{History, Fate, ending_by, InDoubt, Live, Committed, HeurCommitted, HeurRolledBack, Absent}
-use Rattle.xa_tables.specs.History.{is_in_doubt, is_unfinished, decided_fate, fate_of, fates_in, last_or, if_named, tables_after, coded}
-use Rattle.xa_tables.specs.Openings.{IsOpening, told_by}
-use Rattle.std.specs.List.{cons_option}
+use Rattle.xa_tables.specs.Tables.{Tables}
+use Rattle.xa_tables.specs.History.{History}
 use Rattle.xa_tables.proofs.Effects.{Effect, Stays, Starts, Joins, Resumes, Suspends, Leaves, Fails, Idles, Dooms, Prepares, Commits, Drops, CommitsByItself}
 use Rattle.xa_tables.proofs.Effects.{RollsBackByItself, Forgets, effect_of, named_none}
 pub use Rattle.xa_tables.proofs.SoundLemmas.{swap_xid}
@@ -116,7 +107,7 @@ get_gone T y x = get-remove xid_cmp_total T.states y x ∙ ap (λ b. cond b None
 -- what holds of it, by whether x is y
 where_changed : (T : Tables) (y x : XidName) (o p : Option State) (P : Bool → Option State → Type 0) → p ≡ (if xid_eq y x then o else state_of T x)
     → (y ≡ x → P true o) → (xid_eq y x ≡ false → P false (state_of T x)) → P (xid_eq y x) p
-where_changed v0 y x o p v5 is one other = grind (arith, Decides-xid_eq)
+where_changed T y x o p P is one other = grind (arith, Decides-xid_eq)
 
 pub where_put : (T : Tables) (y x : XidName) (s : State) (P : Bool → Option State → Type 0) → (y ≡ x → P true (Some s))
     → (xid_eq y x ≡ false → P false (state_of T x)) → P (xid_eq y x) (state_of (stated y s T) x)
@@ -147,7 +138,7 @@ associated_works T s t l found =
 
 -- and that of the association that t has with y
 pub own_works : (T : Tables) → Sound T → (t : ℕ) (y : XidName) → is_associated T t y ≡ true → standing (state_of T y) ≡ AtWork
-own_works v0 s t y = grind (arith, Decides-xid_eq, associated_works)
+own_works T s t y = grind (arith, Decides-xid_eq, associated_works)
 
 -- what a step keeps: after it the state of x tells what became of it
 pub record Step (x : XidName) (op : Op) (f : Fate) (a : Answer) : Type 0 where
@@ -237,7 +228,7 @@ pub step : (t : ℕ) (op : Op) (x : XidName) (f : Fate) (T : Tables) → Sound T
 step t op x f T s h = by_effect t x f T s h (effect_of t op T)
 
 pub last_more : (f : Fate) (o : Option Fate) (gs : List Fate) → last_or (unwrap_or o f) gs ≡ last_or f (cons_option o gs)
-last_more f v1 gs = grind arith
+last_more f o gs = grind arith
 
 pub run : (H : History) (x : XidName) (f : Fate) (T : Tables) → Sound T → Tells (state_of T x) f
     → Tells (state_of (tables_after H T) x) (last_or f (fates_in x (coded H T)))

@@ -1,21 +1,11 @@
 -- The law: a thread that has the manager open keeps it open until its own CloseRm.
-use Rattle.std.specs.Prelude.{◌≡◌, ℕ, true, false, not, ◌&&◌, ◌||◌, ◌==◌, [], ◌∷◌}
-use Rattle.std.proofs.Common.{sym, ap, ◌∙◌}
-use Rattle.std.proofs.Math.Bool.{or-true}
-use Rattle.std.proofs.lemmas.Bool.{false_from_ne_true, eq-eqb}
-use Rattle.std.proofs.lemmas.List.Elements.{All-head, All-tail}
-use Rattle.std.specs.Ordering.{nat_cmp, eq_by_cmp}
-use Rattle.std.specs.Cmp.{nat_cmp_total}
-use Rattle.std.specs.List.{All}
+use Rattle.xa_base.proofs.{◌≡◌, ℕ, true, false, not, ◌&&◌, ◌||◌, ◌==◌, [], ◌∷◌, sym, ap, ◌∙◌, or-true, false_from_ne_true, eq-eqb, All-head, All-tail, nat_cmp}
+use Rattle.xa_base.proofs.{eq_by_cmp, nat_cmp_total, All, nat_cmp-IsAntisymmetric, is_equal}
 use Rattle.std.specs.FinSet.{contains-insert, contains-remove}
-use Rattle.std.specs.FinMap.{nat_cmp-IsAntisymmetric}
-use Rattle.xa_base.proofs.Truth.{is_equal}
-use Rattle.xa_words.specs.declared.request.Op.{Op}
-use Rattle.xa_words.specs.declared.request.Request.{Request}
-use Rattle.xa_tables.specs.Tables.{Tables, has_opened}
-use Rattle.xa_tables.specs.Next.{Answer, next}
-use Rattle.xa_tables.specs.History.{History, tables_after}
-use Rattle.xa_tables.specs.Prepared.{is_close, closes}
+use Rattle.xa_words.specs.{Op, Request}
+use Rattle.xa_tables.specs.Tables.{Tables}
+use Rattle.xa_tables.specs.{has_opened, Answer, next, tables_after, is_close, closes}
+use Rattle.xa_tables.specs.History.{History}
 use Rattle.xa_tables.proofs.Effects.{Effect, Opens, Closes, effect_of}
 
 another : (t u : ℕ) → (t == u) ≡ false → eq_by_cmp nat_cmp u t ≡ false

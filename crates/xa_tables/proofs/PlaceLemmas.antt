@@ -1,34 +1,26 @@
 -- Where the keys stand among the accounts, and what was declared.
-use Rattle.std.specs.Prelude.{◌≡◌, ℕ, pos, zero, suc, ◌+◌, ◌<◌, ◌≤◌, All, Bool, true, false, cond, ◌&&◌, ◌||◌, if◌then◌else◌, nat_le, List, [], ◌∷◌, ◌++◌}
-use Rattle.std.specs.Prelude.{length, map, Option, None, Some, is_some, refl, slice_index_or}
-use Rattle.std.proofs.Common.{sym, ap, ◌∙◌, arith, get_or, take, length-take-le}
-use Rattle.std.proofs.Math.ListN.{set}
-use Rattle.std.proofs.lemmas.Int.{ints}
-use Rattle.std.proofs.Math.Bool.{or-false}
-use Rattle.std.proofs.lemmas.Bool.{leb-true, false_from_ne_true, true_from_ne_false, not-true, and_parts}
-use Rattle.std.proofs.lemmas.List.{take_more, map-append, length-map, get_or_default}
+use Rattle.xa_base.proofs.{◌≡◌, ℕ, pos, zero, suc, ◌+◌, ◌<◌, ◌≤◌, All, Bool, true, false, cond, ◌&&◌, ◌||◌, if◌then◌else◌, nat_le, List, [], ◌∷◌, ◌++◌, length}
+use Rattle.xa_base.proofs.{map, Option, None, Some, is_some, refl, slice_index_or, sym, ap, ◌∙◌, arith, get_or, take, set, ints, or-false, false_from_ne_true}
+use Rattle.xa_base.proofs.{not-true, and_parts, take_more, map-append, length-map, get_or_default, All-map, list_any, list_all, eq_by_cmp_equiv, FinMap, find}
+use Rattle.xa_base.proofs.{from_entries, get-insert}
+use Rattle.std.proofs.Common.{length-take-le}
+use Rattle.std.proofs.lemmas.Bool.{leb-true, true_from_ne_false}
 use Rattle.std.proofs.lemmas.List.Folds.{list_all_at}
-use Rattle.std.proofs.lemmas.List.Elements.{All-map}
-use Rattle.std.specs.List.{list_any, list_all}
-use Rattle.std.specs.Cmp.{eq_by_cmp_equiv}
 use Rattle.std.specs.FinMap as finmap
-use Rattle.std.specs.FinMap.{FinMap, find, from_entries, get-insert}
-use Rattle.xa_words.specs.Xid.{XidName}
-use Rattle.xa_words.specs.Key.{key_eq}
-use Rattle.xa_words.specs.Orders.{key_cmp, key_cmp_total, Decides-key_eq, key_eq-by_cmp}
-use Rattle.xa_tables.specs.declared.accounts.Account.{Account}
-use Rattle.xa_tables.specs.Accounts.{AreDistinct, AreIndexed, IsGood, value_entries, hold_entries, place_in, later_place, hold_is_other, is_held_by_other}
-use Rattle.xa_tables.specs.Accounts.{are_apart, are_accounts, declared_values, keys_of}
+use Rattle.xa_words.specs.{XidName, key_eq, key_cmp_total, Decides-key_eq, key_eq-by_cmp}
+use Rattle.xa_words.specs.Orders.{key_cmp}
+use Rattle.xa_tables.specs.{Account, AreDistinct, AreIndexed, IsGood, value_entries, hold_entries, place_in, later_place, hold_is_other, is_held_by_other}
+use Rattle.xa_tables.specs.{are_apart, are_accounts, declared_values, keys_of}
 use Rattle.xa_tables.proofs.AccountLemmas.{same_key, Lacks, is_other, value_found, at_own_key}
 
 pub swapped : (k l : List ℕ) → key_eq l k ≡ same_key k l
 swapped k l = key_eq-by_cmp l k ∙ (eq_by_cmp_equiv key_cmp_total).symm l k
 
 one_here : (b : Bool) (i : ℕ) → later_place None b ≡ Some i → (b ≡ true) × (i ≡ 0)
-one_here v0 i e = grind arith
+one_here b i e = grind arith
 
 nowhere : (b : Bool) → later_place None b ≡ None → b ≡ false
-nowhere v0 e = grind arith
+nowhere b e = grind arith
 
 -- a place is within
 pub place_within : (k : List ℕ) (accounts : List Account) (i : ℕ) → place_in k accounts ≡ Some i → i < length accounts

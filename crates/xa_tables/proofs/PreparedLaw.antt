@@ -1,27 +1,14 @@
 -- The laws of prepared branches: they stay prepared, and await the outcome; and what a Prepare and a Shut leave.
-use Rattle.std.specs.Prelude.{◌≡◌, ℕ, true, false, ◌||◌, if◌then◌else◌, None, Some, List, [], ◌∷◌, ◌++◌, refl}
-use Rattle.std.proofs.Common.{sym, ap, ◌∙◌, zero, suc, get_or, arith}
+use Rattle.xa_base.proofs.{◌≡◌, ℕ, true, false, ◌||◌, if◌then◌else◌, None, Some, List, [], ◌∷◌, ◌++◌, refl, sym, ap, ◌∙◌, zero, suc, get_or, arith, All}
+use Rattle.xa_base.proofs.{cons_option, All-head, All-tail, not-false}
 use Rattle.std.specs.FinMap as map
-use Rattle.std.specs.List.{All, cons_option}
-use Rattle.std.proofs.lemmas.List.Elements.{All-head, All-tail}
-use Rattle.std.proofs.lemmas.Bool.{not-false}
-use Rattle.xa_words.specs.Xid.{XidName}
-use Rattle.xa_words.specs.Orders.{Decides-xid_eq}
+use Rattle.xa_words.specs.{XidName, Decides-xid_eq, Done, RbIntegrity, RmFail, Op, Prepare, Commit, Rollback, Request}
 use Rattle.xa_words.specs.declared.code.Code.{Code}
-use Rattle.xa_words.specs.declared.code.Code.TheVariants.{Done, RbIntegrity, RmFail}
-use Rattle.xa_words.specs.declared.request.Op.{Op}
-use Rattle.xa_words.specs.declared.request.Op.TheVariants.{Prepare, Commit, Rollback}
-use Rattle.xa_words.specs.declared.request.Request.{Request}
-use Rattle.xa_tables.specs.declared.state.State.TheVariants.{HeuristicallyCompleted}
-use Rattle.xa_tables.specs.declared.state.HeuristicDecision.{HeuristicDecision}
-use Rattle.xa_tables.specs.Tables.{Tables, has_opened, state_of, is_S3}
-use Rattle.xa_tables.specs.Tables.{is_somebody_associated}
-use Rattle.xa_tables.specs.Reasons.{decision_code}
-use Rattle.xa_tables.specs.Next.{Answer, next}
-use Rattle.xa_tables.specs.History.{History, is_shut, is_rolled_back, coded, fates_in, tables_after}
-use Rattle.xa_tables.specs.Openings.{IsOpening}
-use Rattle.xa_tables.specs.Prepared.{names, closes, is_heur, is_forget, NamesNowhere, OnlyDecides, LeavesWaiting, has_shut, IsPrepared, StaysPrepared}
-use Rattle.xa_tables.specs.Prepared.{AwaitsTheOutcome, AwaitsAfter}
+use Rattle.xa_tables.specs.{HeuristicallyCompleted, HeuristicDecision, has_opened, state_of, is_S3, is_somebody_associated, decision_code, Answer, next}
+use Rattle.xa_tables.specs.{is_shut, is_rolled_back, coded, fates_in, tables_after, IsOpening, names, closes, is_heur, is_forget, NamesNowhere, OnlyDecides}
+use Rattle.xa_tables.specs.{LeavesWaiting, has_shut, IsPrepared, StaysPrepared, AwaitsTheOutcome, AwaitsAfter}
+use Rattle.xa_tables.specs.Tables.{Tables}
+use Rattle.xa_tables.specs.History.{History}
 use Rattle.xa_tables.proofs.ShutLemmas.{next-Shut, shut_op, shut_stays}
 use Rattle.xa_tables.proofs.Law.{Sound, Nowhere, AtWork, standing, voted_rests, nobody_rests, get_put, sound_after, run_sound, opening_sound}
 use Rattle.xa_tables.proofs.Unnamed.{unnamed_on, unnamed_stays, unnamed_fate, unnamed_law}
@@ -78,7 +65,7 @@ record Holds (t : ℕ) (x : XidName) (T : Tables) (a : Answer) : Type 0 where
 
 prepare_holds : (t : ℕ) (x : XidName) (T : Tables) → (next t (Prepare x) T).1 ≡ Done → Holds t x T (next t (Prepare x) T)
 unfolding next
-prepare_holds t x v2 = grind (arith, get_put, Decides-xid_eq, not-false)
+prepare_holds t x T = grind (arith, get_put, Decides-xid_eq, not-false)
 
 -- and from then on what it has added stays
 pub sums_kept : (h g : History) (t : ℕ) (x : XidName) (T : Tables) → IsOpening T → (next t (Prepare x) (tables_after h T)).1 ≡ Done → NamesNowhere x g

@@ -1,17 +1,15 @@
 -- What a reopening leaves, and what the next opening begins with.
-use Rattle.std.specs.Prelude.{◌≡◌, ℕ, ℤ, Bool, true, false, cond, not, ◌&&◌, ◌+ℤ◌, Option, None, Some, List, [], ◌∷◌, refl}
-use Rattle.std.proofs.Common.{arith, sym, ap, ◌∙◌}
+use Rattle.xa_base.proofs.{◌≡◌, ℕ, ℤ, Bool, true, false, cond, not, ◌&&◌, ◌+ℤ◌, Option, None, Some, List, [], ◌∷◌, refl, arith, sym, ap, ◌∙◌, FinMap, get-empty}
+use Rattle.xa_base.proofs.{none_pass, none_passes}
 use Rattle.std.specs.FinMap as map
-use Rattle.std.specs.FinMap.{FinMap, get-empty, get-retain_keys}
-use Rattle.xa_words.specs.Xid.{XidName, xid_cmp, xid_eq}
-use Rattle.xa_words.specs.Orders.{key_cmp, xid_cmp-IsAntisymmetric}
-use Rattle.xa_tables.specs.declared.state.State.{State}
-use Rattle.xa_tables.specs.Tables.{Tables, Touch, touch_cmp, state_of, is_S3, is_left_in, is_left, is_prepared, is_broken, is_within, value_of}
-use Rattle.xa_tables.specs.Managers.{ArePreparedSound, opening}
-use Rattle.xa_tables.specs.History.{History, tables_after}
-use Rattle.xa_tables.specs.Openings.{IsNew, IsOpening, AreLeft, reopened, left_by}
+use Rattle.std.specs.FinMap.{get-retain_keys}
+use Rattle.xa_words.specs.{XidName, xid_cmp, xid_eq, xid_cmp-IsAntisymmetric}
+use Rattle.xa_words.specs.Orders.{key_cmp}
+use Rattle.xa_tables.specs.{State, Touch, touch_cmp, state_of, is_S3, is_left_in, is_left, is_prepared, is_broken, is_within, value_of, ArePreparedSound}
+use Rattle.xa_tables.specs.{opening, tables_after, IsNew, IsOpening, AreLeft, reopened, left_by}
+use Rattle.xa_tables.specs.Tables.{Tables}
+use Rattle.xa_tables.specs.History.{History}
 use Rattle.xa_tables.proofs.AccountLemmas.{touch_cmp_total, touch_cmp-IsAntisymmetric}
-use Rattle.xa_base.proofs.FinMaps.{none_pass, none_passes}
 
 pub state_reopened : (T : Tables) (x : XidName) → state_of (reopened T) x ≡ cond (is_left T x) (state_of T x) None
 state_reopened T x = get-retain_keys T.states (λ y. is_left T y) x (λ y e. ap (λ z. is_left T z) (sym (xid_cmp-IsAntisymmetric x y e)))
@@ -35,10 +33,10 @@ as_prepared T x = ap is_S3 (state_reopened T x) ∙ prepared_stays (state_of T x
 
 -- only what is left stays
 stays_if_left : (b : Bool) (o : Option State) (s : State) → cond b o None ≡ Some s → b ≡ true
-stays_if_left v0 o s e = grind arith
+stays_if_left b o s e = grind arith
 
 pub reopens : (T : Tables) → IsOpening (reopened T)
-reopens v0 = grind (arith, as_left, stays_if_left, state_reopened, sums_reopened, as_prepared)
+reopens T = grind (arith, as_left, stays_if_left, state_reopened, sums_reopened, as_prepared)
 
 -- a first opening is one
 pub new_opens : (T : Tables) → IsNew T → IsOpening T

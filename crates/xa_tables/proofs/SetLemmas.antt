@@ -1,11 +1,8 @@
 -- Finite sets that are made of the keys of a list of entries.
-use Rattle.std.specs.Prelude.{◌≡◌, ℕ, Bool, cond, not, ◌||◌, ◌&&◌, List, map, Option, None, Some, is_some}
-use Rattle.std.proofs.Common.{arith, sym, ap, ◌∙◌}
-use Rattle.std.specs.Ordering.{nat_cmp, eq_by_cmp}
-use Rattle.std.specs.Cmp.{nat_cmp_total}
+use Rattle.xa_base.proofs.{◌≡◌, ℕ, Bool, cond, not, ◌||◌, ◌&&◌, List, map, Option, None, Some, is_some, arith, sym, ap, ◌∙◌, nat_cmp, eq_by_cmp, nat_cmp_total}
+use Rattle.xa_base.proofs.{find, nat_cmp-IsAntisymmetric}
 use Rattle.std.specs.FinSet as set
 use Rattle.std.specs.FinSet.{FinSet, same_set, from_list, contains-insert, contains-remove, contains-from_list}
-use Rattle.std.specs.FinMap.{find, nat_cmp-IsAntisymmetric}
 use Rattle.std.specs.FinMap.Entries.{is_some-find}
 
 abbrev Marks : Type 0
@@ -20,10 +17,10 @@ pub contains-marked : (es : Marks) (q : ℕ) → set.contains (marked es) q ≡ 
 contains-marked es q = contains-from_list nat_cmp_total _ q ∙ sym (is_some-find nat_cmp q es)
 
 some_or : (b : Bool) (x : Option (Unit {0})) → is_some (cond b (Some tt) x) ≡ (b || is_some x)
-some_or v0 x = grind arith
+some_or b x = grind arith
 
 none_or : (b : Bool) (x : Option (Unit {0})) → is_some (cond b None x) ≡ (not b && is_some x)
-none_or v0 x = grind arith
+none_or b x = grind arith
 
 -- one key more
 pub mark_put : (es fs : Marks) (k : ℕ) → ((q : ℕ) → find nat_cmp q fs ≡ cond (eq_by_cmp nat_cmp q k) (Some tt) (find nat_cmp q es))

@@ -1,15 +1,9 @@
 -- What the first Shut parts.
-use Rattle.std.specs.Prelude.{◌≡◌, ℕ, true, false, if◌then◌else◌, [], ◌∷◌, refl}
-use Rattle.std.proofs.Common.{arith, sym, ap, ◌∙◌, subst}
-use Rattle.xa_base.proofs.Truth.{by_bool}
-use Rattle.xa_words.specs.Xid.{XidName}
-use Rattle.xa_words.specs.declared.code.Code.TheVariants.{Done, RmFail}
-use Rattle.xa_words.specs.declared.request.Op.{Op}
-use Rattle.xa_words.specs.declared.request.Op.TheVariants.{Shut}
-use Rattle.xa_words.specs.declared.request.Request.{Request}
+use Rattle.xa_base.proofs.{◌≡◌, ℕ, true, false, if◌then◌else◌, [], ◌∷◌, refl, arith, sym, ap, ◌∙◌, subst, by_bool}
+use Rattle.xa_words.specs.{XidName, Done, RmFail, Op, Shut, Request}
 use Rattle.xa_tables.specs.Tables.{Tables}
-use Rattle.xa_tables.specs.Next.{Answer, next, if_opened, by_rules, shut_down}
-use Rattle.xa_tables.specs.History.{History, tables_after, is_shut, accepted, coded, fates_in}
+use Rattle.xa_tables.specs.{Answer, next, if_opened, by_rules, shut_down, tables_after, is_shut, accepted, coded, fates_in}
+use Rattle.xa_tables.specs.History.{History}
 use Rattle.xa_tables.proofs.Effects.{TellsNothing, error_tells}
 
 -- a manager that is shut refuses, and its tables stay
@@ -60,4 +54,4 @@ after_accepted view keeps h T =
 -- nothing becomes of x by a request that tells nothing
 pub fates_quiet : (x : XidName) (r : Request) (h : History) (T : Tables) (a : Answer) → next r.thread r.op T ≡ a → TellsNothing r.op a.1
     → fates_in x (coded (r ∷ h) T) ≡ fates_in x (coded h a.0)
-fates_quiet x r h v3 a e tells = grind arith
+fates_quiet x r h T a e tells = grind arith

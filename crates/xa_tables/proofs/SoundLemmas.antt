@@ -1,24 +1,15 @@
 -- What a step keeps of the facts on branches in S3, and of who is associated.
-use Rattle.std.specs.Prelude.{◌≡◌, ◌≢◌, ℕ, ℤ, Bool, true, false, cond, Option, None, Some, is_some, refl}
-use Rattle.std.proofs.Common.{arith, sym, ap, ◌∙◌, subst}
-use Rattle.std.specs.Ordering.{nat_cmp, eq_by_cmp, is_eq}
-use Rattle.std.specs.Cmp.{nat_cmp_total, tied_itself}
+use Rattle.xa_base.proofs.{◌≡◌, ◌≢◌, ℕ, ℤ, Bool, true, false, cond, Option, None, Some, is_some, refl, arith, sym, ap, ◌∙◌, subst, nat_cmp, eq_by_cmp, is_eq}
+use Rattle.xa_base.proofs.{nat_cmp_total, tied_itself, FinMap, get-insert, get-remove, nat_cmp-IsAntisymmetric, is_equal, tied_true, tied_false, none_pass}
+use Rattle.xa_base.proofs.{none_passes}
 use Rattle.std.specs.Borrow.{MutBor}
 use Rattle.std.specs.Option.{OnSome}
 use Rattle.std.specs.FinMap as map
-use Rattle.std.specs.FinMap.{FinMap, same_map, get-insert, get-remove, nat_cmp-IsAntisymmetric}
+use Rattle.std.specs.FinMap.{same_map}
 use Rattle.std.proofs.lemmas.Bool.Decides.{same_from_decides}
-use Rattle.xa_base.proofs.Truth.{is_equal, tied_true, tied_false}
-use Rattle.xa_words.specs.Xid.{XidName, xid_cmp, xid_eq}
-use Rattle.xa_words.specs.Orders.{key_cmp, xid_cmp_total, xid_cmp-IsAntisymmetric, Decides-xid_eq}
-use Rattle.xa_tables.specs.declared.state.State.{State}
-use Rattle.xa_tables.specs.declared.state.Association.{Association}
-use Rattle.xa_tables.specs.Tables.{touch_cmp, is_broken, is_somebody_associated}
-use Rattle.xa_tables.specs.Tables.{is_S3, is_left_in}
-use Rattle.xa_tables.specs.Views.{BranchTable}
-use Rattle.xa_tables.specs.Lending.{HasState}
-use Rattle.xa_tables.specs.Managers.{ArePreparedSound}
-use Rattle.xa_base.proofs.FinMaps.{none_pass, none_passes}
+use Rattle.xa_words.specs.{XidName, xid_cmp, xid_eq, xid_cmp_total, xid_cmp-IsAntisymmetric, Decides-xid_eq}
+use Rattle.xa_words.specs.Orders.{key_cmp}
+use Rattle.xa_tables.specs.{State, Association, touch_cmp, is_broken, is_somebody_associated, is_S3, is_left_in, BranchTable, HasState, ArePreparedSound}
 
 abbrev pub Associations : Type 0
 Associations = FinMap nat_cmp Association

@@ -1,16 +1,12 @@
 -- The law: a key's value is its value at the first opening and the additions whose branches commit, over any openings.
-use Rattle.std.specs.Prelude.{◌≡◌, ℕ, ℤ, pos, ◌+ℤ◌, Bool, true, false, cond, not, if◌then◌else◌, None, Some, option_map, List, [], ◌∷◌, ◌++◌, refl}
-use Rattle.std.proofs.Common.{sym, ap, ◌∙◌, subst, arith}
-use Rattle.std.proofs.Math.Bool.{or-false}
-use Rattle.std.proofs.lemmas.Int.{ints}
+use Rattle.xa_base.proofs.{◌≡◌, ℕ, ℤ, pos, ◌+ℤ◌, Bool, true, false, cond, not, if◌then◌else◌, None, Some, option_map, List, [], ◌∷◌, ◌++◌, refl, sym, ap, ◌∙◌}
+use Rattle.xa_base.proofs.{subst, arith, or-false, ints, get-empty, +ℤ_idl as none_plus}
 use Rattle.std.specs.FinMap as map
-use Rattle.std.specs.FinMap.{get-empty}
-use Rattle.std.proofs.Math.IntN.{+ℤ_idl as none_plus}
-use Rattle.xa_words.specs.Xid.{XidName}
-use Rattle.xa_tables.specs.Tables.{Tables, touch_cmp, is_prepared}
-use Rattle.xa_tables.specs.History.{History, Fate, Absent, is_live, is_in_doubt, is_unfinished, fate, coded, accepted, tables_after}
-use Rattle.xa_tables.specs.History.{commits_later, added_in, IsFateOf}
-use Rattle.xa_tables.specs.Openings.{IsNew, IsOpening, reopened, reopened_fate, left_by, commits_over, added_over, value_over, ValueIsSum}
+use Rattle.xa_words.specs.{XidName}
+use Rattle.xa_tables.specs.Tables.{Tables}
+use Rattle.xa_tables.specs.{touch_cmp, is_prepared, Fate, Absent, is_live, is_in_doubt, is_unfinished, fate, coded, accepted, tables_after, commits_later}
+use Rattle.xa_tables.specs.{added_in, IsFateOf, IsNew, IsOpening, reopened, reopened_fate, left_by, commits_over, added_over, value_over, ValueIsSum}
+use Rattle.xa_tables.specs.History.{History}
 use Rattle.xa_tables.proofs.ShutLemmas.{after_accepted}
 use Rattle.xa_tables.proofs.Law.{opening_sound}
 use Rattle.xa_tables.proofs.FatesLaw.{first_law, kept_law, reopened_law}
@@ -46,7 +42,7 @@ doubted_unless_live : (f : Fate) → is_unfinished f ≡ true → is_in_doubt f 
 doubted_unless_live f e = grind arith
 
 none_due : (p : Held) → due p (λ x. false) ≡ pos 0
-none_due v0 = grind arith
+none_due p = grind arith
 
 -- who commits from the beginning of an opening on, where F has the fates then
 abbrev from_start : (XidName → Fate) → History → List History → Tables → XidName → Bool

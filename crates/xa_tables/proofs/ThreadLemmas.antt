@@ -1,19 +1,13 @@
 -- The maps that the threads make.
-use Rattle.std.specs.Prelude.{◌≡◌, ◌≢◌, ℕ, zero, suc, ◌+◌, ◌-◌, ◌<◌, ◌≤◌, Bool, true, false, cond, if◌then◌else◌, List, [], ◌∷◌, length, replicate}
-use Rattle.std.specs.Prelude.{Option, None, Some, is_some, refl}
-use Rattle.std.proofs.Common.{sym, ap, ◌∙◌, arith, get_or}
-use Rattle.std.proofs.Math.ListN.{set}
-use Rattle.std.specs.List.{list_any}
-use Rattle.std.specs.Ordering.{nat_cmp, eq_by_cmp, is_eq}
-use Rattle.std.specs.Cmp.{nat_cmp_total, tied_itself, eq_by_cmp_equiv}
+use Rattle.xa_base.proofs.{◌≡◌, ◌≢◌, ℕ, zero, suc, ◌+◌, ◌-◌, ◌<◌, ◌≤◌, Bool, true, false, cond, if◌then◌else◌, List, [], ◌∷◌, length, replicate, Option, None}
+use Rattle.xa_base.proofs.{Some, is_some, refl, sym, ap, ◌∙◌, arith, get_or, set, list_any, nat_cmp, eq_by_cmp, is_eq, nat_cmp_total, tied_itself}
+use Rattle.xa_base.proofs.{eq_by_cmp_equiv, FinMap, find, from_entries, get-from_entries, nat_cmp-IsAntisymmetric, is_equal, put_one, remove_one, same_finds}
+use Rattle.xa_base.proofs.{Distinct, any_entries}
 use Rattle.std.specs.FinMap as map
 use Rattle.std.specs.FinSet as finset
-use Rattle.std.specs.FinMap.{FinMap, find, from_entries, get-from_entries, nat_cmp-IsAntisymmetric}
-use Rattle.xa_base.proofs.Truth.{is_equal}
-use Rattle.xa_base.specs.Maps.{any_entry}
-use Rattle.xa_tables.specs.Views.{with_entry, entries_from}
+use Rattle.xa_base.specs.{any_entry}
+use Rattle.xa_tables.specs.{with_entry, entries_from}
 use Rattle.xa_tables.proofs.SetLemmas.{marked, contains-marked, mark_put, mark_removed, mark_same}
-use Rattle.xa_base.proofs.FinMaps.{put_one, remove_one, same_finds, Distinct, any_entries}
 
 -- the map with this value at the key, or with none there
 abbrev put_or_removed : {V : Type 0} → FinMap nat_cmp V → ℕ → Option V → FinMap nat_cmp V
@@ -122,7 +116,7 @@ module _ {S : Type 0} (f : S → Option (Unit {0})) where
   pub open_given : (ss : List S) (t : ℕ) (s : S) (b : Bool) → 0 < t → t ≤ length ss → f s ≡ (if b then Some tt else None)
       → marked (entries_from f 1 (set ss (t - 1) s))
       ≡ (if b then finset.insert (marked (entries_from f 1 ss)) t else finset.remove (marked (entries_from f 1 ss)) t)
-  open_given ss t s v3 p h e = grind (arith, mark_put, written, mark_removed)
+  open_given ss t s b p h e = grind (arith, mark_put, written, mark_removed)
 
   pub open_same : (ss : List S) (t : ℕ) (s d : S) → 0 < t → t ≤ length ss → f s ≡ f (get_or ss (t - 1) d)
       → marked (entries_from f 1 (set ss (t - 1) s)) ≡ marked (entries_from f 1 ss)

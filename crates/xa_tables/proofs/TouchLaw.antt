@@ -1,21 +1,15 @@
 -- The law: only a branch that exists and isn't heuristically completed has touched a key.
-use Rattle.std.specs.Prelude.{◌≡◌, ℕ, ℤ, Bool, true, false, not, ◌&&◌, if◌then◌else◌, Option, None, Some, is_some, List, [], ◌∷◌, refl}
-use Rattle.std.proofs.Common.{arith, sym, ap, ◌∙◌, subst}
-use Rattle.std.proofs.lemmas.Bool.{and_parts, not-true, true_from_ne_false}
+use Rattle.xa_base.proofs.{◌≡◌, ℕ, ℤ, Bool, true, false, not, ◌&&◌, if◌then◌else◌, Option, None, Some, is_some, List, [], ◌∷◌, refl, arith, sym, ap, ◌∙◌, subst}
+use Rattle.xa_base.proofs.{and_parts, not-true, at_true, by_bool}
+use Rattle.std.proofs.lemmas.Bool.{true_from_ne_false}
 use Rattle.std.specs.FinMap as map
-use Rattle.xa_base.proofs.Truth.{at_true, by_bool}
-use Rattle.xa_words.specs.Xid.{XidName, xid_eq}
-use Rattle.xa_words.specs.Orders.{Decides-xid_eq}
-use Rattle.xa_words.specs.declared.request.Op.{Op}
-use Rattle.xa_tables.specs.declared.state.State.{State}
-use Rattle.xa_tables.specs.declared.state.State.TheVariants.{Active, Idle, Prepared as S3, RollbackOnly, HeuristicallyCompleted}
-use Rattle.xa_tables.specs.declared.state.HeuristicDecision.{HeuristicDecision}
+use Rattle.xa_words.specs.{XidName, xid_eq, Decides-xid_eq, Op}
+use Rattle.xa_tables.specs.{State, Active, Idle, RollbackOnly, HeuristicallyCompleted, HeuristicDecision, Failed, Transient, state_of, is_S3, is_S5}
+use Rattle.xa_tables.specs.{sums_without, Answer, next, stated, gone, completed, tables_after, OnlyUnfinishedTouch, IsOpening}
+use Rattle.xa_tables.specs.declared.state.State.TheVariants.{Prepared as S3}
 use Rattle.xa_tables.specs.declared.state.HeuristicDecision.TheVariants as decision
-use Rattle.xa_tables.specs.declared.state.RollbackReason.TheVariants.{Failed, Transient}
-use Rattle.xa_tables.specs.Tables.{Tables, state_of, is_S3, is_S5, sums_without}
-use Rattle.xa_tables.specs.Next.{Answer, next, stated, gone, completed}
-use Rattle.xa_tables.specs.History.{History, tables_after, OnlyUnfinishedTouch}
-use Rattle.xa_tables.specs.Openings.{IsOpening}
+use Rattle.xa_tables.specs.Tables.{Tables}
+use Rattle.xa_tables.specs.History.{History}
 use Rattle.xa_tables.proofs.Effects.{Effect, Starts, Joins, Fails, Idles, Dooms, Adds, Prepares, Commits, Drops, CommitsByItself, RollsBackByItself, Forgets}
 use Rattle.xa_tables.proofs.Effects.{effect_of}
 use Rattle.xa_tables.proofs.Law.{Sound, Standing, Nowhere, AtWork, standing, associated_works, where_put, where_gone, completed_nowhere, sound_after}
@@ -86,7 +80,7 @@ unfinished o e = grind arith
 -- a branch that has touched a key exists, and isn't heuristically completed
 pub touching : (T : Tables) → Clean T → (x : XidName) (k : List ℕ) (s : ℤ) → map.get T.sums (x, k) ≡ Some s
     → (is_some (state_of T x) ≡ true) × (is_S5 (state_of T x) ≡ false)
-touching v0 n x k s at = grind (arith, and_parts, true_from_ne_false, unfinished, not-true)
+touching T n x k s at = grind (arith, and_parts, true_from_ne_false, unfinished, not-true)
 
 nowhere_unprepared : (o : Option State) → standing o ≡ Nowhere → is_S3 o ≡ false
 nowhere_unprepared o e = grind arith

@@ -1,25 +1,15 @@
 -- The law: a branch with which nobody is associated stays as it is under every request that doesn't name it.
-use Rattle.std.specs.Prelude.{◌≡◌, ◌≢◌, ℕ, false, None, Some, List, [], ◌∷◌, ◌++◌, refl}
-use Rattle.std.proofs.Common.{arith, sym, ◌∙◌, subst}
+use Rattle.xa_base.proofs.{◌≡◌, ◌≢◌, ℕ, false, None, Some, List, [], ◌∷◌, ◌++◌, refl, arith, sym, ◌∙◌, subst, All-head, All-tail, at_false}
 use Rattle.std.specs.FinMap as map
-use Rattle.std.proofs.lemmas.List.Elements.{All-head, All-tail}
-use Rattle.xa_words.specs.Xid.{XidName, xid_eq}
-use Rattle.xa_words.specs.Orders.{Decides-xid_eq}
+use Rattle.xa_words.specs.{XidName, xid_eq, Decides-xid_eq, Op, Request}
 use Rattle.xa_words.specs.declared.code.Code.{Code}
-use Rattle.xa_words.specs.declared.request.Op.{Op}
-use Rattle.xa_words.specs.declared.request.Request.{Request}
-use Rattle.xa_tables.specs.declared.state.State.TheVariants.{Active, Idle, Prepared as S3, RollbackOnly}
-use Rattle.xa_tables.specs.declared.state.RollbackReason.TheVariants.{Failed, Transient}
-use Rattle.xa_tables.specs.declared.state.Association.{Association}
-use Rattle.xa_tables.specs.declared.state.AssociationState.{AssociationState}
-use Rattle.xa_tables.specs.declared.state.AssociationState.TheVariants.{Associated, Suspended}
-use Rattle.xa_tables.specs.Tables.{Tables, association_of, is_somebody_associated}
-use Rattle.xa_tables.specs.Next.{Answer, next, gone, association}
-use Rattle.xa_tables.specs.History.{History, tables_after, fate_of}
-use Rattle.xa_tables.specs.Prepared.{names, NamesNowhere, StaysAsItWas}
+use Rattle.xa_tables.specs.{Active, Idle, RollbackOnly, Failed, Transient, Association, AssociationState, Associated, Suspended, association_of}
+use Rattle.xa_tables.specs.{is_somebody_associated, Answer, next, gone, association, tables_after, fate_of, names, NamesNowhere, StaysAsItWas}
+use Rattle.xa_tables.specs.declared.state.State.TheVariants.{Prepared as S3}
+use Rattle.xa_tables.specs.Tables.{Tables}
+use Rattle.xa_tables.specs.History.{History}
 use Rattle.xa_tables.proofs.SoundLemmas.{others_put, others_removed, nobody_joins, nobody_leaves}
 pub use Rattle.xa_tables.proofs.SoundLemmas.{apart_from}
-use Rattle.xa_base.proofs.Truth.{at_false}
 use Rattle.xa_tables.proofs.Effects.{Effect, Starts, Joins, Resumes, Suspends, Leaves, Fails, Idles, Dooms, Adds, Prepares, Commits, Drops, CommitsByItself}
 use Rattle.xa_tables.proofs.Effects.{RollsBackByItself, Forgets, effect_of}
 use Rattle.xa_tables.proofs.Law.{swap_xid}

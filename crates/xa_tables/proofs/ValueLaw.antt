@@ -1,28 +1,18 @@
 -- What a history moves of a key's value: the additions whose branches commit.
-use Rattle.std.specs.Prelude.{◌≡◌, ◌≢◌, ℕ, ℤ, pos, ◌+ℤ◌, option_map, Bool, true, false, cond, not, ◌&&◌, if◌then◌else◌, Option, None, Some, List, []}
-use Rattle.std.specs.Prelude.{◌∷◌, refl}
-use Rattle.std.proofs.Common.{sym, ap, ◌∙◌, subst, arith}
+use Rattle.xa_base.proofs.{◌≡◌, ◌≢◌, ℕ, ℤ, pos, ◌+ℤ◌, option_map, Bool, true, false, cond, not, ◌&&◌, if◌then◌else◌, Option, None, Some, List, [], ◌∷◌, refl}
+use Rattle.xa_base.proofs.{sym, ap, ◌∙◌, subst, arith, get-insert, FinMap, false_from_ne_true, not-false, +ℤ_idl as none_plus, ints, get-map_values}
+use Rattle.xa_base.proofs.{none_passes}
 use Rattle.std.specs.FinMap as map
-use Rattle.std.specs.FinMap.{get-insert, get-retain_keys, FinMap}
-use Rattle.std.proofs.lemmas.Bool.{false_from_ne_true, not-false}
-use Rattle.xa_words.specs.Xid.{XidName, xid_eq}
-use Rattle.xa_words.specs.Orders.{Decides-xid_eq, key_cmp_total, key_cmp-IsAntisymmetric, Decides-key_eq}
+use Rattle.std.specs.FinMap.{get-retain_keys}
+use Rattle.xa_words.specs.{XidName, xid_eq, Decides-xid_eq, key_cmp_total, key_cmp-IsAntisymmetric, Decides-key_eq, Done, Op, Add, key_eq}
 use Rattle.xa_words.specs.declared.code.Code.{Code}
-use Rattle.xa_words.specs.declared.code.Code.TheVariants.{Done}
-use Rattle.xa_words.specs.declared.request.Op.{Op}
-use Rattle.xa_words.specs.declared.request.Op.TheVariants.{Add}
-use Rattle.std.proofs.Math.IntN.{+ℤ_idl as none_plus}
-use Rattle.xa_tables.specs.declared.state.Association.{Association}
-use Rattle.xa_tables.specs.Tables.{Tables, association_of, has_other_touched, Touch, touch_cmp, sum_of, sums_without}
-use Rattle.xa_tables.specs.Next.{Answer, next, committed}
-use Rattle.xa_tables.specs.History.{History, coded, accepted, fate_of, tables_after, added_in, share_of, commits_later, ending, or_later}
-use Rattle.xa_tables.specs.History.{LateAddNothing}
+use Rattle.xa_tables.specs.{Association, association_of, has_other_touched, Touch, touch_cmp, sum_of, sums_without, Answer, next, committed, coded, accepted}
+use Rattle.xa_tables.specs.{fate_of, tables_after, added_in, share_of, commits_later, ending, or_later, LateAddNothing}
+use Rattle.xa_tables.specs.Tables.{Tables}
+use Rattle.xa_tables.specs.History.{History}
 use Rattle.xa_tables.proofs.ShutLemmas.{accepted_read}
 use Rattle.xa_tables.proofs.Moves.{Moves, Still, Ended, Added, moves_of}
 use Rattle.xa_tables.proofs.Law.{swap_xid}
-use Rattle.std.proofs.lemmas.Int.{ints}
-use Rattle.xa_words.specs.Key.{key_eq}
-use Rattle.xa_base.proofs.FinMaps.{get-map_values, none_passes}
 use Rattle.xa_tables.proofs.AccountLemmas.{touch_cmp_total, touch_cmp-IsAntisymmetric, touch_from, touch_self}
 
 -- the branch that has touched the key, and its sum
@@ -50,10 +40,10 @@ record ValueStep (k : List ℕ) (p : Held) (op : Op) (l : Option Association) (T
   owes : (later : XidName → Bool) → moved +ℤ due held later ≡ due p (before op a.1 later) +ℤ share_of k op a.1 l later
 
 pub plus_zero : (o : Option ℤ) → o ≡ option_map (λ v. v +ℤ pos 0) o
-plus_zero v0 = grind arith
+plus_zero o = grind arith
 
 due_same : (p : Held) (C D : XidName → Bool) → ((x : XidName) → D x ≡ C x) → due p D ≡ due p C
-due_same v0 v1 v2 h = grind arith
+due_same p C D h = grind arith
 
 zero_plus : (d e s : ℤ) → e ≡ d → s ≡ pos 0 → pos 0 +ℤ d ≡ e +ℤ s
 zero_plus d e s h z = omega (arith, ints)
@@ -96,7 +86,7 @@ add_zero d e m s h z = omega (arith, ints)
 
 amount_is : (k : List ℕ) (p : Held) (y : XidName) (sums : FinMap touch_cmp ℤ) → IsPending k p sums → sum_of sums y k ≡ amount_of_held p y
 unfolding amount_of_held
-amount_is k v1 y sums h = grind (arith, Decides-xid_eq)
+amount_is k p y sums h = grind (arith, Decides-xid_eq)
 
 pub get_added : (sums : FinMap touch_cmp ℤ) (y x : XidName) (own k : List ℕ) (s : ℤ) → (x ≡ y → k ≡ own → ⊥)
     → map.get (map.insert sums (y, own) s) (x, k) ≡ map.get sums (x, k)
@@ -106,7 +96,7 @@ get_added sums y x own k s apart =
 
 pending_other : (k : List ℕ) (p : Held) (y : XidName) (own : List ℕ) (s : ℤ) (sums : FinMap touch_cmp ℤ) → (k ≡ own → ⊥) → IsPending k p sums
     → IsPending k p (map.insert sums (y, own) s)
-pending_other k v1 y own s sums apart h = grind (arith, get_added)
+pending_other k p y own s sums apart h = grind (arith, get_added)
 
 no_other : (sums : FinMap touch_cmp ℤ) (y x : XidName) (k : List ℕ) (s : ℤ) → has_other_touched sums y k ≡ false → map.get sums (x, k) ≡ Some s → x ≡ y
 no_other sums y x k s none found =
@@ -125,10 +115,10 @@ pending_own k y s sums none = (
 
 due_own : (k : List ℕ) (p : Held) (y : XidName) (sums : FinMap touch_cmp ℤ) (later : XidName → Bool) → IsPending k p sums → has_other_touched sums y k ≡ false
     → due p later ≡ (if later y then sum_of sums y k else pos 0)
-due_own k v1 y sums later h none = grind (arith, no_other)
+due_own k p y sums later h none = grind (arith, no_other)
 
 split_due : (b : Bool) (u d : ℤ) → pos 0 +ℤ (if b then u +ℤ d else pos 0) ≡ (if b then u else pos 0) +ℤ (if b then d else pos 0)
-split_due v0 u d = grind arith
+split_due b u d = grind arith
 
 gained : (k own : List ℕ) (d : ℤ) (p : Held) (l : Association) (T : Tables) → IsPending k p T.sums → has_other_touched T.sums l.xid own ≡ false
     → ValueStep k p (Add own d) (Some l) T (record T { sums = map.insert T.sums (l.xid, own) (sum_of T.sums l.xid own +ℤ d) }, Done)

@@ -1,33 +1,19 @@
 -- The law: the value of a declared key stays within the limits, whatever is requested, over any openings.
-use Rattle.std.specs.Prelude.{◌≡◌, ◌≢◌, ℕ, ℤ, pos, ◌+ℤ◌, Bool, true, false, cond, not, ◌&&◌, Option, None, Some, option_map, unwrap_or, List, []}
-use Rattle.std.specs.Prelude.{◌∷◌, map, refl, nat_le}
-use Rattle.std.specs.List.{list_all}
-use Rattle.std.proofs.Common.{sym, ap, ◌∙◌, subst, le-leb, arith}
+use Rattle.xa_base.proofs.{◌≡◌, ◌≢◌, ℕ, ℤ, pos, ◌+ℤ◌, Bool, true, false, cond, not, ◌&&◌, Option, None, Some, option_map, unwrap_or, List, [], ◌∷◌, map, refl}
+use Rattle.xa_base.proofs.{nat_le, list_all, sym, ap, ◌∙◌, subst, le-leb, arith, FinMap, find, get-empty, get-insert, get-from_entries, eq_by_cmp, and_parts}
+use Rattle.xa_base.proofs.{not-false, +ℤ_idr as plus_none, by_bool, none_passes, get-map_values}
 use Rattle.std.specs.FinMap as finmap
-use Rattle.std.specs.FinMap.{FinMap, find, get-empty, get-insert, get-from_entries}
-use Rattle.std.specs.Ordering.{eq_by_cmp}
-use Rattle.std.proofs.lemmas.Bool.{and_parts, not-false}
-use Rattle.std.proofs.Math.IntN.{+ℤ_idr as plus_none}
-use Rattle.xa_base.proofs.Truth.{by_bool}
-use Rattle.xa_words.specs.Xid.{XidName, xid_cmp, xid_eq}
-use Rattle.xa_words.specs.Key.{key_eq}
-use Rattle.xa_words.specs.Orders.{key_cmp, key_cmp_total, key_cmp-IsAntisymmetric, Decides-xid_eq, Decides-key_eq}
-use Rattle.xa_words.specs.declared.request.Op.{Op}
-use Rattle.xa_tables.specs.declared.state.State.{State}
-use Rattle.xa_tables.specs.declared.state.State.TheVariants.{Active, Idle, Prepared as S3, RollbackOnly, HeuristicallyCompleted}
-use Rattle.xa_tables.specs.declared.state.HeuristicDecision.{HeuristicDecision}
+use Rattle.xa_words.specs.{XidName, xid_cmp, xid_eq, key_eq, key_cmp_total, key_cmp-IsAntisymmetric, Decides-xid_eq, Decides-key_eq, Op}
+use Rattle.xa_words.specs.Orders.{key_cmp}
+use Rattle.xa_tables.specs.{State, Active, Idle, RollbackOnly, HeuristicallyCompleted, HeuristicDecision, Failed, Transient, Association, Touch, touch_cmp}
+use Rattle.xa_tables.specs.{association_of, state_of, is_S3, is_within, value_of, sum_of, has_other_touched, is_broken, sums_without, Answer, next, stated}
+use Rattle.xa_tables.specs.{added, gone, completed, committed, are_accounts, opening, tables_after, StaysWithin, IsOpening, reopened, left_by}
+use Rattle.xa_tables.specs.declared.state.State.TheVariants.{Prepared as S3}
 use Rattle.xa_tables.specs.declared.state.HeuristicDecision.TheVariants as decision
-use Rattle.xa_tables.specs.declared.state.RollbackReason.TheVariants.{Failed, Transient}
-use Rattle.xa_tables.specs.declared.state.Association.{Association}
-use Rattle.xa_tables.specs.Tables.{Tables, Touch, touch_cmp, association_of, state_of, is_S3, is_within, value_of, sum_of, has_other_touched}
-use Rattle.xa_tables.specs.Tables.{is_broken, sums_without}
-use Rattle.xa_tables.specs.Next.{Answer, next, stated, added, gone, forgotten, completed, committed}
-use Rattle.xa_tables.specs.Accounts.{are_accounts}
-use Rattle.xa_tables.specs.Managers.{opening}
-use Rattle.xa_tables.specs.History.{History, tables_after, StaysWithin}
-use Rattle.xa_tables.specs.Openings.{IsOpening, reopened, left_by}
+use Rattle.xa_tables.specs.Tables.{Tables}
+use Rattle.xa_tables.specs.Next.{forgotten}
+use Rattle.xa_tables.specs.History.{History}
 use Rattle.xa_tables.proofs.Reopening.{sums_reopened, reopens, new_opens, accounts_new, left_opens}
-use Rattle.xa_base.proofs.FinMaps.{none_passes, get-map_values}
 use Rattle.xa_tables.proofs.AccountLemmas.{touch_cmp_total, touch_cmp-IsAntisymmetric, touch_from, within_bounds}
 use Rattle.xa_tables.proofs.Effects.{Effect, Starts, Joins, Fails, Idles, Dooms, Adds, Prepares, Commits, Drops, CommitsByItself, RollsBackByItself, Forgets}
 use Rattle.xa_tables.proofs.Effects.{effect_of}
@@ -205,10 +191,10 @@ opening_kept accounts are = record {
 
 -- a reopening keeps it
 cond_some : (b : Bool) (o : Option ℤ) (r : ℤ) → cond b o None ≡ Some r → (b ≡ true) × (o ≡ Some r)
-cond_some v0 o r e = grind arith
+cond_some b o r e = grind arith
 
 pub kept_over : (T : Tables) → Kept T → Kept (reopened T)
-kept_over v0 w = grind (arith, cond_some, sums_reopened)
+kept_over T w = grind (arith, cond_some, sums_reopened)
 
 pub kept_by : (before : List History) (T : Tables) → IsOpening T → Kept T → Kept (left_by before T)
 kept_by [] T o w = w

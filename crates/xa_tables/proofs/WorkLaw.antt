@@ -1,28 +1,13 @@
 -- The law: a branch whose work one thread did has added what that thread added.
-use Rattle.std.specs.Prelude.{◌≡◌, ◌≢◌, ℕ, ◌+◌, ◌==◌, ℤ, pos, ◌+ℤ◌, true, false, if◌then◌else◌, Option, Some, List, [], ◌∷◌, ◌++◌, refl}
-use Rattle.std.proofs.Common.{sym, ap, ◌∙◌, arith}
-use Rattle.std.proofs.lemmas.Int.{ints}
-use Rattle.std.proofs.lemmas.Bool.{eqb-true, eqb-false}
-use Rattle.std.proofs.lemmas.List.Elements.{All-head, All-tail}
-use Rattle.std.proofs.Math.IntN.{+ℤ_idl as none_plus, +ℤ_idr as plus_none}
-use Rattle.xa_words.specs.Xid.{XidName, xid_eq}
-use Rattle.xa_words.specs.Orders.{Decides-xid_eq}
+use Rattle.xa_base.proofs.{◌≡◌, ◌≢◌, ℕ, ◌+◌, ◌==◌, ℤ, pos, ◌+ℤ◌, true, false, if◌then◌else◌, Option, Some, List, [], ◌∷◌, ◌++◌, refl, sym, ap, ◌∙◌, arith, ints}
+use Rattle.xa_base.proofs.{eqb-true, eqb-false, All-head, All-tail, +ℤ_idl as none_plus, +ℤ_idr as plus_none}
+use Rattle.xa_words.specs.{XidName, xid_eq, Decides-xid_eq, Done, Op, Start, Add, End, Fresh, Success, Request}
 use Rattle.xa_words.specs.declared.code.Code.{Code}
-use Rattle.xa_words.specs.declared.code.Code.TheVariants.{Done}
-use Rattle.xa_words.specs.declared.request.Op.{Op}
-use Rattle.xa_words.specs.declared.request.Op.TheVariants.{Start, Add, End}
-use Rattle.xa_words.specs.declared.request.StartHow.TheVariants.{Fresh}
-use Rattle.xa_words.specs.declared.request.EndHow.TheVariants.{Success}
-use Rattle.xa_words.specs.declared.request.Request.{Request}
-use Rattle.xa_tables.specs.declared.state.Association.{Association}
-use Rattle.xa_tables.specs.declared.state.AssociationState.TheVariants.{Associated}
-use Rattle.xa_tables.specs.Tables.{Tables, association_of, is_association_with, is_associated, is_somebody_associated}
-use Rattle.xa_tables.specs.Next.{Answer, next, association}
-use Rattle.xa_tables.specs.History.{History, Live, of_thread, tables_after, fate_of, ending, is_done, added_by}
-use Rattle.xa_tables.specs.Openings.{IsOpening}
-use Rattle.xa_tables.specs.Prepared.{names, NamesNowhere}
-use Rattle.xa_tables.specs.Worth.{gain, unless_ended, added_by_now}
-use Rattle.xa_tables.specs.Work.{request, LeavesAtWork, DoesWork}
+use Rattle.xa_tables.specs.{Association, Associated, association_of, is_association_with, is_associated, is_somebody_associated, Answer, next, association}
+use Rattle.xa_tables.specs.{Live, of_thread, tables_after, fate_of, ending, is_done, added_by, IsOpening, names, NamesNowhere, gain, unless_ended, added_by_now}
+use Rattle.xa_tables.specs.{request, LeavesAtWork, DoesWork}
+use Rattle.xa_tables.specs.Tables.{Tables}
+use Rattle.xa_tables.specs.History.{History}
 use Rattle.xa_tables.proofs.Effects.{Effect, Starts, Joins, Resumes, Suspends, Leaves, Fails, Idles, effect_of}
 use Rattle.xa_tables.proofs.Moves.{quiet_named}
 use Rattle.xa_tables.proofs.SoundLemmas.{own_put, other_put, own_removed, other_removed}
@@ -63,11 +48,11 @@ same_after v w e = omega (arith, ints)
 -- a request that doesn't name it, of such a thread
 unmoved : (x : XidName) (v : ℤ) (r : Request) (T : Tables) → names x r.op ≡ false → is_associated T r.thread x ≡ false
     → unless_ended (ending (fate_of x r.op (next r.thread r.op T).1)) (v +ℤ gain x r.op (next r.thread r.op T).1 (association_of T r.thread)) ≡ v
-unmoved x v r v3 n apart = grind (arith, unnamed_fate, same_after, apart_gains)
+unmoved x v r T n apart = grind (arith, unnamed_fate, same_after, apart_gains)
 
 -- nobody is associated with x
 pub nobody_is : (x : XidName) (T : Tables) → is_somebody_associated T.associations x ≡ false → (u : ℕ) → is_associated T u x ≡ false
-nobody_is x v1 nobody u = grind (arith, apart_from)
+nobody_is x T nobody u = grind (arith, apart_from)
 
 nobody_adds : (x : XidName) (v : ℤ) (h : History) (T : Tables) → is_somebody_associated T.associations x ≡ false → NamesNowhere x h → added_by_now x v h T ≡ v
 nobody_adds x v [] T nobody n = refl

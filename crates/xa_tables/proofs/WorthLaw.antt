@@ -1,41 +1,22 @@
 -- The laws: commits alone, heuristic ones included, move what the accounts are worth together, by what their branches hold, and a branch holds what it
 -- has added.
-use Rattle.std.specs.Prelude.{◌≡◌, ℕ, zero, suc, ℤ, pos, ◌+ℤ◌, Bool, true, false, cond, not, ◌&&◌, ◌||◌, if◌then◌else◌, Option, None, Some, is_some, option_map}
-use Rattle.std.specs.Prelude.{unwrap_or, List, [], ◌∷◌, ◌<◌, length, map, refl}
-use Rattle.std.specs.List.{All, list_any}
+use Rattle.xa_base.proofs.{◌≡◌, ℕ, zero, suc, ℤ, pos, ◌+ℤ◌, Bool, true, false, cond, not, ◌&&◌, ◌||◌, if◌then◌else◌, Option, None, Some, is_some, option_map}
+use Rattle.xa_base.proofs.{unwrap_or, List, [], ◌∷◌, ◌<◌, length, map, refl, All, list_any, find, get-empty, get-insert, get-from_entries, sym, ap, ◌∙◌, arith}
+use Rattle.xa_base.proofs.{get_or, ints, and_parts, not-true, or-true, +ℤ_idl as none_plus, total_same, total_alike, total_both, total_nothing, get-map_values}
+use Rattle.xa_base.proofs.{by_bool, length-map, get_or-map}
 use Rattle.std.specs.FinMap as finmap
-use Rattle.std.specs.FinMap.{find, get-empty, get-insert, get-from_entries}
-use Rattle.std.proofs.Common.{sym, ap, ◌∙◌, arith, get_or}
-use Rattle.std.proofs.lemmas.Int.{ints}
-use Rattle.std.proofs.lemmas.Bool.{and_parts, not-true}
-use Rattle.std.proofs.Math.Bool.{or-true}
-use Rattle.std.proofs.Math.IntN.{+ℤ_idl as none_plus}
-use Rattle.xa_base.specs.Sums.{total}
-use Rattle.xa_base.proofs.Sums.{total_same, total_alike, total_both, total_nothing}
-use Rattle.xa_words.specs.Xid.{XidName, xid_eq}
-use Rattle.xa_words.specs.Key.{key_eq}
-use Rattle.xa_words.specs.Orders.{key_cmp, key_cmp_total, key_cmp-IsAntisymmetric, Decides-xid_eq, Decides-key_eq}
+use Rattle.xa_base.specs.{total}
+use Rattle.xa_words.specs.{XidName, xid_eq, key_eq, key_cmp_total, key_cmp-IsAntisymmetric, Decides-xid_eq, Decides-key_eq, Done, RdOnly, Op, Add, Prepare}
+use Rattle.xa_words.specs.{Request}
+use Rattle.xa_words.specs.Orders.{key_cmp}
 use Rattle.xa_words.specs.declared.code.Code.{Code}
-use Rattle.xa_words.specs.declared.code.Code.TheVariants.{Done, RdOnly}
-use Rattle.xa_words.specs.declared.request.Op.{Op}
-use Rattle.xa_words.specs.declared.request.Op.TheVariants.{Add, Prepare}
-use Rattle.xa_words.specs.declared.request.Request.{Request}
-use Rattle.xa_tables.specs.declared.state.Association.{Association}
-use Rattle.xa_tables.specs.Tables.{Tables, Touch, touch_cmp, is_declared, value_of, sum_of, sums_without}
-use Rattle.xa_tables.specs.Next.{Answer, next, added, committed}
-use Rattle.xa_tables.specs.Accounts.{are_accounts, are_apart}
-use Rattle.xa_tables.specs.Managers.{opening}
-use Rattle.xa_tables.specs.History.{History, fate_of, tables_after, added_by, share_of, is_done, ending}
-use Rattle.xa_tables.specs.Openings.{IsOpening}
-use Rattle.xa_tables.specs.Prepared.{NamesNowhere}
-use Rattle.xa_tables.specs.Worth.{worth_declared, worth, held_by, moved_by, moved, is_any, gain, unless_ended, added_by_now, WorthIsMoved, HoldsItsAdditions}
-use Rattle.xa_tables.specs.Worth.{DeclareEach, WorthIsMovedFrom}
-use Rattle.xa_base.proofs.FinMaps.{get-map_values}
+use Rattle.xa_tables.specs.{Association, Touch, touch_cmp, is_declared, value_of, sum_of, sums_without, Answer, next, added, committed, are_accounts, are_apart}
+use Rattle.xa_tables.specs.{opening, fate_of, tables_after, added_by, share_of, is_done, ending, IsOpening, NamesNowhere, worth_declared, worth, held_by}
+use Rattle.xa_tables.specs.{moved_by, moved, is_any, gain, unless_ended, added_by_now, WorthIsMoved, HoldsItsAdditions, DeclareEach, WorthIsMovedFrom, Account}
+use Rattle.xa_tables.specs.Tables.{Tables}
+use Rattle.xa_tables.specs.History.{History}
 use Rattle.xa_tables.proofs.AccountLemmas.{touch_cmp_total, touch_self, value_found, at_own_key}
 use Rattle.xa_tables.proofs.PlaceLemmas.{swapped, account_of, declared_entries, distinct_apart}
-use Rattle.xa_tables.specs.declared.accounts.Account.{Account}
-use Rattle.xa_base.proofs.Truth.{by_bool}
-use Rattle.std.proofs.lemmas.List.{length-map, get_or-map}
 use Rattle.xa_tables.proofs.Moves.{Moves, Still, Ended, Added, moves_of}
 use Rattle.xa_tables.proofs.Law.{swap_xid}
 use Rattle.xa_tables.proofs.ValueLaw.{get_without, get_added}
@@ -151,7 +132,7 @@ no_gain x (Add k d) c l shares =
 no_gain x op c l shares = refl
 
 ended_either : (b : Bool) (c : Bool) (u v : ℤ) → v ≡ (if b then pos 0 else u) → v ≡ unless_ended (if b then Some c else None) (u +ℤ pos 0)
-ended_either v0 c u v e = grind (arith, plus_none)
+ended_either b c u v e = grind (arith, plus_none)
 
 module _ (accounts : Accounts) (T : Tables) where
   -- what branches hold once y is gone

@@ -1,13 +1,10 @@
 -- Xids as keys of hash maps.
-use Rattle.std.specs.Prelude.{◌≡◌, List, refl}
+use Rattle.xa_base.proofs.{◌≡◌, List, refl, get-lookup, ap}
 use Rattle.std.specs.FinMap as map
 use Rattle.std.specs.Map.{lookup}
-use Rattle.xa_base.proofs.HashMaps.{get-lookup}
-use Rattle.xa_tables.specs.declared.state.State.{State}
+use Rattle.xa_tables.specs.{State}
 use Rattle.std.specs.Cmp.{IsEquivalence}
-use Rattle.std.proofs.Common.{ap}
-use Rattle.xa_words.specs.Xid.{XidName, xid_cmp, xid_eq}
-use Rattle.xa_words.specs.Orders.{Decides-xid_eq, xid_cmp_total, xid_cmp-IsAntisymmetric, xid_eq-by_cmp}
+use Rattle.xa_words.specs.{XidName, xid_cmp, xid_eq, Decides-xid_eq, xid_cmp_total, xid_cmp-IsAntisymmetric, xid_eq-by_cmp}
 use Rattle.xa_tables.proofs.Law.{swap_xid}
 
 pub xid_eq_laws : IsEquivalence xid_eq

@@ -1,42 +1,26 @@
 -- What an opening leaves to the next one.
-use Rattle.std.proofs.Common.{◌≡◌, ℕ, ◌+◌, ◌-◌, ◌≤◌, suc, Bool, List, [], ◌∷◌, length, map, Some, sym, refl, ap, ◌∙◌, subst, arith}
-use Rattle.std.specs.Prelude.{slice_get}
-use Rattle.std.specs.List.{range_with_len, slice_index_or}
-use Rattle.std.proofs.lemmas.List.{length-map, map-append}
+use Rattle.xa_base.proofs.{◌≡◌, ℕ, ◌+◌, ◌-◌, ◌≤◌, suc, Bool, List, [], ◌∷◌, length, map, Some, sym, refl, ap, ◌∙◌, subst, arith, slice_get, range_with_len}
+use Rattle.xa_base.proofs.{slice_index_or, length-map, map-append, slice_get_within, got}
 use Rattle.std.proofs.lemmas.List.FromFn.{length-map-range_with_len}
-use Rattle.std.proofs.lemmas.Option.{slice_get_within, get_or_from_slice_get}
+use Rattle.std.proofs.lemmas.Option.{get_or_from_slice_get}
 use Rattle.xa_tables.proofs.SumLaw.{left_on}
-use Rattle.xa_base.specs.Lists.{Chain, IsUpTo}
+use Rattle.xa_base.specs.{Chain, IsUpTo}
 use Rattle.xa_base.specs.Lists.Chain.{none, more}
-use Rattle.xa_base.proofs.Lists.{got}
-use Rattle.xa_tables.specs.History.{tables_after}
-use Rattle.xa_tables.specs.Openings.{reopened, left_by}
+use Rattle.xa_tables.specs.{tables_after, reopened, left_by}
 use Rattle.xa_desk.specs.LedgerView.{LedgerView}
 use Rattle.xa_desk.specs.DeskView.{DeskView}
-use Rattle.xa_desk.specs.Lanes.{new_ledgers}
-use Rattle.xa_desk.specs.GoesOn.{plans}
-use Rattle.xa_desk.specs.Ended.{EndedView}
-use Rattle.xa_worker.specs.Journal.{requests}
-use Rattle.xa_worker.specs.Workers.{WorkerView}
-use Rattle.xa_worker.specs.Done.{Served}
+use Rattle.xa_desk.specs.{new_ledgers, plans, EndedView}
+use Rattle.xa_worker.specs.{requests, WorkerView, Served}
 use Rattle.xa_switch.specs.declared.plan.Again.{Again}
-use Rattle.xa_switch.specs.OpenedPieces.{IsNewDesk}
-use Rattle.xa_switch.specs.Settling.{Settling, ManagerPart, IsSettled, FollowsTables, journal_in}
-use Rattle.xa_switch.specs.Closing.{thread_part, settling}
-use Rattle.xa_switch.specs.Fates.{history}
-use Rattle.xa_scan.specs.Left.{ScanView}
-use Rattle.xa_switch.specs.Recovery.{IsScanOf}
-use Rattle.xa_switch.specs.Again.{first_ledgers, flags_in, managers_in, last_in, reopened_at, reopening, MayReopen}
-use Rattle.xa_grammar.specs.Steps.{ScriptTask, ScriptStep}
-use Rattle.xa_grammar.specs.Content.{Content, threads_of, managers_of, tasks_of, carries_async}
-use Rattle.xa_session.specs.declared.session.Session.{Session}
-use Rattle.xa_transcript.specs.declared.answer.Told.{Told}
-use Rattle.xa_session.specs.Sessions.{HasDone}
-use Rattle.xa_telling.specs.Journals.{answers_to}
-use Rattle.xa_telling.specs.Planning.{AreNumbersOf, IsSetupOf}
-use Rattle.xa_telling.specs.Runs.{Comes, Ran}
-use Rattle.xa_transcript.specs.Values.{opened, opened_after, histories, AreOfScript}
-use Rattle.xa_telling.specs.ToldOpenings.{Beginning, Former, Leaves, beginning}
+use Rattle.xa_switch.specs.{IsNewDesk, ManagerPart, IsSettled, FollowsTables, journal_in, thread_part, settling, history, IsScanOf, first_ledgers, flags_in}
+use Rattle.xa_switch.specs.{managers_in, last_in, reopened_at, reopening, MayReopen}
+use Rattle.xa_switch.specs.Settling.{Settling}
+use Rattle.xa_scan.specs.{ScanView}
+use Rattle.xa_grammar.specs.{ScriptTask, ScriptStep, threads_of, managers_of, tasks_of, carries_async}
+use Rattle.xa_grammar.specs.Content.{Content}
+use Rattle.xa_session.specs.{Session, HasDone}
+use Rattle.xa_transcript.specs.{Told, opened, opened_after, histories, AreOfScript}
+use Rattle.xa_telling.specs.{answers_to, AreNumbersOf, IsSetupOf, Comes, Ran, Beginning, Former, Leaves, beginning}
 use Rattle.xa_telling.proofs.Opened.{map_map}
 use Rattle.xa_transcript.proofs.Worth.{found_manager}
 use Rattle.xa_telling.proofs.Told.{log_left, of_script, new_desk_at, all_carried}

@@ -1,42 +1,25 @@
 -- What a commit and a resolve do to a thread's ledgers, they do to its entries in the journals of a settled opening.
-use Rattle.std.proofs.Common.{◌≡◌, ℕ, ◌<◌, ◌≤◌, ⊎_elim, zero, suc, Bool, false, List, [], ◌∷◌, ◌++◌, length, take, Option, Some, sym, refl, ap, ◌∙◌, subst}
-use Rattle.std.proofs.Common.{arith}
-use Rattle.std.specs.Prelude.{All}
+use Rattle.xa_base.proofs.{◌≡◌, ℕ, ◌<◌, ◌≤◌, ⊎_elim, zero, suc, Bool, false, List, [], ◌∷◌, ◌++◌, length, take, Option, Some, sym, refl, ap, ◌∙◌, subst, arith}
+use Rattle.xa_base.proofs.{All, cases_lt, All-cons, All-nil, by_if}
 use Rattle.std.proofs.Math.Seq.{take-nil}
-use Rattle.std.proofs.lemmas.Bool.{cases_lt}
-use Rattle.std.proofs.lemmas.List.Elements.{All-cons, All-nil}
-use Rattle.xa_base.proofs.Truth.{by_if}
-use Rattle.xa_base.specs.declared.limits.TheConstants.{MOST_MANAGERS}
+use Rattle.xa_base.specs.{MOST_MANAGERS}
 use Rattle.xa_words.specs.declared.code.Code.{Code}
-use Rattle.xa_words.specs.declared.code.Code.TheVariants.{RmFail}
-use Rattle.xa_words.specs.declared.death.Death.{Death}
-use Rattle.xa_words.specs.declared.request.Op.{Op}
-use Rattle.xa_words.specs.declared.request.Op.TheVariants.{Prepare}
-use Rattle.xa_words.specs.Tran.{TranName}
-use Rattle.xa_desk.specs.Growth.{HasGrown, HaveGrown}
-use Rattle.xa_desk.specs.LedgerView.{LedgerView, learnt_shut, with_sent, with_collected}
-use Rattle.xa_desk.specs.DeskView.{ledger}
+use Rattle.xa_words.specs.{RmFail, Death, Op, Prepare, TranName}
+use Rattle.xa_desk.specs.{HasGrown, HaveGrown, learnt_shut, with_sent, with_collected, ledger}
+use Rattle.xa_desk.specs.LedgerView.{LedgerView}
 use Rattle.xa_desk.proofs.Growth.{as_it_was, grown_on}
-use Rattle.xa_worker.specs.Journal.{Entry}
-use Rattle.xa_switch.specs.Fates.{ledgers_of}
-use Rattle.xa_scan.specs.Left.{ScanView, left_at}
-use Rattle.xa_switch.specs.Settling.{Settling, IsSettled, sent, collected, journal}
-use Rattle.xa_driver.specs.declared.branch.Branch.{Branch}
-use Rattle.xa_driver.specs.declared.done.Done.{Done}
-use Rattle.xa_driver.specs.declared.done.Ending.{Ending}
-use Rattle.xa_driver.specs.declared.resolved.Outcome.{Outcome}
-use Rattle.xa_driver.specs.Course.{AtBranch}
-use Rattle.xa_driver.specs.Deaths.{CameTo, HaveAsked, PutsLedger}
+use Rattle.xa_worker.specs.{Entry}
+use Rattle.xa_switch.specs.{ledgers_of, IsSettled, sent, collected, journal}
+use Rattle.xa_scan.specs.{ScanView, left_at}
+use Rattle.xa_switch.specs.Settling.{Settling}
+use Rattle.xa_driver.specs.{Branch, Done, Ending, Outcome, AtBranch, CameTo, HaveAsked, PutsLedger, second_op, third_op, AsksLedger, Resolves, EachBranch}
+use Rattle.xa_driver.specs.{HasRoom, HaveRoom, has_branch_at}
 use Rattle.xa_driver.specs.Deaths.PutsLedger.{sent as put_sent, withheld as put_withheld}
-use Rattle.xa_driver.specs.Endings.{second_op, third_op}
-use Rattle.xa_driver.specs.Resolving.{AsksLedger, Resolves}
-use Rattle.xa_driver.specs.Trace.{EachBranch, HasRoom, HaveRoom, has_branch_at}
 use Rattle.xa_driver.proofs.Mapped.{Any, any_asked, anything, branch_by, branch_mapped, resolves_by, resolves_mapped}
 use Rattle.xa_driver.proofs.Traces.{asked_grows}
-use Rattle.xa_log.specs.Log.{LogState, Records}
-use Rattle.xa_telling.specs.Commits.{CarriesOut, CarriesOutSome}
+use Rattle.xa_log.specs.{LogState, Records}
+use Rattle.xa_telling.specs.{CarriesOut, CarriesOutSome, entries_of}
 use Rattle.xa_telling.specs.Commits.CarriesOut.{carried, withheld}
-use Rattle.xa_telling.specs.Journals.{entries_of}
 use Rattle.xa_telling.proofs.Deaths.{at_each, asked_so, came_so, each_so, hears_by, hears_mapped, obeys_by, obeys_mapped}
 use Rattle.xa_telling.proofs.Entries.{Fits, agreed_fits, collected_there, enters, enters_coded, fails, ledger_fits, no_entries, upto}
 use Rattle.xa_telling.proofs.Ledgers.{AllSound, Sound, ask_sound, put_sound}

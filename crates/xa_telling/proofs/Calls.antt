@@ -1,37 +1,26 @@
 -- What a thread's calls do to its desk, and why they may be refused.
-use Rattle.std.proofs.Common.{◌≡◌, ℕ, ℤ, ◌≤◌, Bool, true, false, not, ◌&&◌, [], ◌∷◌, Option, Some, None, Result, Ok, Err, sym, refl, ap, ◌∙◌, subst, arith}
-use Rattle.std.specs.Prelude.{pos, if◌then◌else◌, option_map}
-use Rattle.std.specs.Option.{option_or}
+use Rattle.xa_base.proofs.{◌≡◌, ℕ, ℤ, ◌≤◌, Bool, true, false, not, ◌&&◌, [], ◌∷◌, Option, Some, None, Result, Ok, Err, sym, refl, ap, ◌∙◌, subst, arith, pos}
+use Rattle.xa_base.proofs.{if◌then◌else◌, option_map, option_or, Contains, some_same}
 use Rattle.std.specs.Ordering.{int_eq}
-use Rattle.std.specs.List.{Contains}
 use Rattle.std.specs.FinMap as finmap
-use Rattle.xa_base.proofs.Lists.{some_same}
 use Rattle.xa_words.specs.Code.{number_of}
-use Rattle.xa_words.specs.Flags.{has_only, bits_of, go_together, mode_of}
+use Rattle.xa_words.specs.{has_only, bits_of, go_together, mode_of, Async, Inval, Proto, Retry, RmErr, RmFail, Mode, Op}
 use Rattle.xa_words.specs.declared.code.Code.{Code}
-use Rattle.xa_words.specs.declared.code.Code.TheVariants.{Async, Inval, Proto, Retry, RmErr, RmFail}
 use Rattle.xa_words.specs.declared.flags.Call.TheVariants as call
-use Rattle.xa_words.specs.declared.flags.Mode.{Mode}
-use Rattle.xa_words.specs.declared.request.Op.{Op}
-use Rattle.xa_desk.specs.declared.operation.Operation.{Operation}
-use Rattle.xa_desk.specs.declared.refused.Refused.{Refused}
-use Rattle.xa_desk.specs.declared.refused.Refused.TheVariants.{NoSuchManager, Shut, TooMany, Spent}
-use Rattle.xa_desk.specs.LedgerView.{learnt_shut}
-use Rattle.xa_desk.specs.DeskView.{DeskView, IsKnown, is_known, ledger, next_operation, after_sent}
-use Rattle.xa_scan.specs.Left.{ScanView}
-use Rattle.xa_calls.specs.Putting.{code_of as to_code, put_refusal, Puts, Calls}
+use Rattle.xa_desk.specs.{Operation, Refused, NoSuchManager, Shut, TooMany, Spent, learnt_shut, IsKnown, is_known, ledger, next_operation, after_sent}
+use Rattle.xa_desk.specs.DeskView.{DeskView}
+use Rattle.xa_scan.specs.{ScanView}
+use Rattle.xa_calls.specs.{code_of as to_code, put_refusal, Puts, Calls, number_in, CompletesOne, CompletesAny, CompletesAt, CompletesBy, Tells, may_complete}
 use Rattle.xa_calls.specs.Putting.Puts.{refused as put_refused, full, kept as put_kept, answered as put_answered}
-use Rattle.xa_calls.specs.Completing.{number_in, CompletesOne, CompletesAny, CompletesAt, CompletesBy, Tells, may_complete}
 use Rattle.xa_calls.specs.Completing.CompletesOne.{unknown, retry as retry_one, ready, waited}
 use Rattle.xa_calls.specs.Completing.CompletesAny.{nothing as nothing_kept, retry as retry_any, least}
 use Rattle.xa_calls.proofs.Kept.{quiet_same, known_here}
 use Rattle.xa_grammar.specs.declared.step.Calling.TheVariants as calling
-use Rattle.xa_grammar.specs.Steps.{ScriptCalling, ScriptCalled}
-use Rattle.xa_transcript.specs.declared.answer.Answer.{Answer}
+use Rattle.xa_grammar.specs.{ScriptCalling, ScriptCalled}
+use Rattle.xa_transcript.specs.{Answer, Called as shown}
 use Rattle.xa_transcript.specs.declared.answer.Answer.TheVariants as answer
-use Rattle.xa_transcript.specs.declared.answer.Answer.TheVariants.{Called as shown}
-use Rattle.xa_session.specs.Calling.{HasListed, completed, Answers}
-use Rattle.xa_telling.specs.Wants.{Wanted, wanted, wanted_by, wanted_in, refusals, IsRefusal}
+use Rattle.xa_session.specs.{HasListed, completed, Answers}
+use Rattle.xa_telling.specs.{Wanted, wanted, wanted_by, wanted_in, refusals, IsRefusal}
 use Rattle.xa_telling.specs.Wants.Wanted.{code_of, handle_for, completion, listing}
 use Rattle.xa_telling.proofs.Ledgers.{kept_at, ledgers_at, Stays, stays_same, HasAsked, has_asked, HasTaken, has_taken, has_redeemed}
 

@@ -1,24 +1,15 @@
 -- What a commit did at its branches, also where its coordinator died: at each manager, and over states of another kind.
-use Rattle.std.proofs.Common.{◌≡◌, ℕ, min, inl, inr, zero, suc, Bool, false, ◌||◌, List, [], ◌∷◌, length, Option, Some, None, sym, refl, ap, ◌∙◌, subst}
-use Rattle.std.specs.Prelude.{All}
-use Rattle.std.proofs.lemmas.Bool.{cases_eq, ne_eqb}
-use Rattle.std.proofs.lemmas.List.Elements.{All-cons, All-nil, All-head, All-tail}
-use Rattle.xa_words.specs.Tran.{TranName}
+use Rattle.xa_base.proofs.{◌≡◌, ℕ, inl, inr, zero, suc, Bool, false, ◌||◌, List, [], ◌∷◌, length, Option, Some, None, sym, refl, ap, ◌∙◌, subst, All, cases_eq}
+use Rattle.xa_base.proofs.{ne_eqb, All-cons, All-nil, All-head, All-tail}
+use Rattle.std.proofs.Common.{min}
+use Rattle.xa_words.specs.{TranName, Death, Op, Prepare}
 use Rattle.xa_words.specs.declared.code.Code.{Code}
-use Rattle.xa_words.specs.declared.death.Death.{Death}
 use Rattle.xa_words.specs.declared.death.Death.TheVariants as death
-use Rattle.xa_words.specs.declared.request.Op.{Op}
-use Rattle.xa_words.specs.declared.request.Op.TheVariants.{Prepare}
 use Rattle.xa_calls.specs.Scans.{Asking}
-use Rattle.xa_driver.specs.declared.branch.Branch.{Branch}
-use Rattle.xa_driver.specs.declared.done.Done.{Done}
-use Rattle.xa_driver.specs.declared.done.Ending.{Ending}
-use Rattle.xa_driver.specs.Course.{AsksFor}
-use Rattle.xa_driver.specs.Deaths.{Putting, HaveAsked, HaveTold, Tells, VotesAndHears, VotesAndObeys, CameTo, CameToVotes, to_come}
-use Rattle.xa_driver.specs.Endings.{second_op}
-use Rattle.xa_driver.specs.Trace.{EachBranch, has_branch_at}
+use Rattle.xa_driver.specs.{Branch, Done, Ending, AsksFor, Putting, HaveAsked, HaveTold, Tells, VotesAndHears, VotesAndObeys, CameTo, CameToVotes, to_come}
+use Rattle.xa_driver.specs.{second_op, EachBranch, has_branch_at}
 use Rattle.xa_driver.proofs.Mapped.{IsAskedFor, for_by}
-use Rattle.xa_log.specs.Log.{LogState}
+use Rattle.xa_log.specs.{LogState}
 
 -- what holds at the manager of each branch, and of a manager without one
 pub at_each : (P : ℕ → Type 0) (m : ℕ) (bs : List Branch) → All (λ b. b.m ≡ m → P b.m) bs → (has_branch_at bs m ≡ false → P m) → P m

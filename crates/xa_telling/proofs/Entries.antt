@@ -1,31 +1,22 @@
 -- What a thread has sent to a manager and collected from it, as the manager's journal has it.
-use Rattle.std.proofs.Common.{◌≡◌, ℕ, ◌+◌, ◌-◌, ◌<◌, ◌≤◌, ⊎_elim, suc, Bool, true, false, cond, ◌==◌, List, [], ◌∷◌, ◌++◌, length, map, take, Some}
-use Rattle.std.proofs.Common.{sym, refl, ap, ◌∙◌, subst, arith, append_assoc, length-append}
-use Rattle.std.specs.Prelude.{All, slice_get, if◌then◌else◌}
-use Rattle.std.specs.List.{Contains}
-use Rattle.std.proofs.lemmas.Bool.{cases_lt}
-use Rattle.std.proofs.lemmas.List.{length-map, length-take-le, get_or-take}
-use Rattle.std.proofs.lemmas.List.Elements.{All-contains, Contains-append_left, Contains-push}
+use Rattle.xa_base.proofs.{◌≡◌, ℕ, ◌+◌, ◌-◌, ◌<◌, ◌≤◌, ⊎_elim, suc, Bool, true, false, cond, ◌==◌, List, [], ◌∷◌, ◌++◌, length, map, take, Some, sym, refl, ap}
+use Rattle.xa_base.proofs.{◌∙◌, subst, arith, append_assoc, length-append, All, slice_get, if◌then◌else◌, Contains, cases_lt, length-map, All-contains}
+use Rattle.xa_base.proofs.{Contains-append_left, slice_get_within, slice_get-get_or, contains_at, got_map, one_more, was_mapped, by_bool}
+use Rattle.std.proofs.lemmas.List.{length-take-le, get_or-take}
+use Rattle.std.proofs.lemmas.List.Elements.{Contains-push}
 use Rattle.std.proofs.lemmas.List.Folds.{Any-from_list_any}
-use Rattle.std.proofs.lemmas.Option.{slice_get_within, slice_get-get_or, get_or_from_slice_get, some_pair_parts}
-use Rattle.xa_base.specs.Lists.{Begins}
-use Rattle.xa_base.proofs.Lists.{contains_at, got_map, one_more, was_mapped}
-use Rattle.xa_base.proofs.Truth.{by_bool}
+use Rattle.std.proofs.lemmas.Option.{get_or_from_slice_get, some_pair_parts}
+use Rattle.xa_base.specs.{Begins}
 use Rattle.xa_words.specs.declared.code.Code.{Code}
-use Rattle.xa_words.specs.declared.code.Code.TheVariants.{RmFail}
-use Rattle.xa_words.specs.declared.request.Op.{Op}
-use Rattle.xa_words.specs.declared.request.Request.{Request}
-use Rattle.xa_tables.specs.History.{of_thread}
-use Rattle.xa_desk.specs.LedgerView.{LedgerView, is_rm_fail, learnt_shut}
-use Rattle.xa_desk.specs.DeskView.{is_known, ledger, sent_to, collected_from}
-use Rattle.xa_desk.specs.Growth.{HasGrown}
-use Rattle.xa_desk.specs.Lanes.{numbered}
+use Rattle.xa_words.specs.{RmFail, Op, Request}
+use Rattle.xa_tables.specs.{of_thread}
+use Rattle.xa_desk.specs.LedgerView.{LedgerView}
+use Rattle.xa_desk.specs.{is_rm_fail, learnt_shut, is_known, ledger, sent_to, collected_from, HasGrown, numbered}
 use Rattle.xa_desk.proofs.Ledgers.{known_true, past_end}
-use Rattle.xa_worker.specs.Journal.{Entry, entry, requests, codes_in}
-use Rattle.xa_switch.specs.Settling.{Agree}
+use Rattle.xa_worker.specs.{Entry, entry, requests, codes_in}
+use Rattle.xa_switch.specs.{Agree}
 use Rattle.xa_driver.proofs.Ledgers.{numbered_length}
-use Rattle.xa_telling.specs.Parts.{next_entry}
-use Rattle.xa_telling.specs.Journals.{entries_of}
+use Rattle.xa_telling.specs.{next_entry, entries_of}
 use Rattle.xa_telling.proofs.Ledgers.{Sound}
 
 -- ---- the entries of a thread

@@ -1,31 +1,17 @@
 -- What a dead coordinator leaves in flight.
-use Rattle.std.proofs.Common.{◌≡◌, ℕ, ◌≤◌, ◌⊎◌, inl, inr, zero, suc, ◌-◌, ◌<◌, Bool, true, false, ◌||◌, List, [], ◌∷◌, ◌++◌, length, map, drop, Option, Some}
-use Rattle.std.proofs.Common.{None}
-use Rattle.std.proofs.Common.{sym, refl, ap, ◌∙◌, subst, arith, length-append}
-use Rattle.std.specs.Prelude.{All, nat_eq}
-use Rattle.std.proofs.lemmas.Bool.{ne_eqb}
-use Rattle.std.proofs.lemmas.List.Elements.{All-cons, All-head, All-map, All-nil, All-tail}
-use Rattle.std.proofs.lemmas.List.Folds.{list_any-append, list_any_none}
-use Rattle.xa_base.proofs.Truth.{by_if}
-use Rattle.xa_words.specs.Tran.{TranName}
+use Rattle.xa_base.proofs.{◌≡◌, ℕ, ◌≤◌, ◌⊎◌, inl, inr, zero, suc, ◌-◌, ◌<◌, Bool, true, false, ◌||◌, List, [], ◌∷◌, ◌++◌, length, map, drop, Option, Some, None}
+use Rattle.xa_base.proofs.{sym, refl, ap, ◌∙◌, subst, arith, length-append, All, nat_eq, ne_eqb, All-cons, All-head, All-map, All-nil, All-tail}
+use Rattle.xa_base.proofs.{list_any-append, list_any_none, by_if}
+use Rattle.xa_words.specs.{TranName, RmFail, Death, Op, Prepare}
 use Rattle.xa_words.specs.declared.code.Code.{Code}
-use Rattle.xa_words.specs.declared.code.Code.TheVariants.{RmFail}
-use Rattle.xa_words.specs.declared.death.Death.{Death}
 use Rattle.xa_words.specs.declared.death.Death.TheVariants as death
-use Rattle.xa_words.specs.declared.request.Op.{Op}
-use Rattle.xa_words.specs.declared.request.Op.TheVariants.{Prepare}
-use Rattle.xa_desk.specs.LedgerView.{LedgerView, is_collected, is_rm_fail, learnt_shut, with_sent, with_collected}
-use Rattle.xa_desk.specs.DeskView.{IsOut, ledger}
+use Rattle.xa_desk.specs.LedgerView.{LedgerView}
+use Rattle.xa_desk.specs.{is_collected, is_rm_fail, learnt_shut, with_sent, with_collected, IsOut, ledger}
 use Rattle.xa_desk.proofs.Ledgers.{known_by}
-use Rattle.xa_driver.specs.declared.branch.Branch.{Branch}
-use Rattle.xa_driver.specs.declared.done.Done.{Done}
-use Rattle.xa_driver.specs.Deaths.{CameTo, HaveAsked, HaveTold, PutsLedger, Tells, to_come}
+use Rattle.xa_driver.specs.{Branch, Done, CameTo, HaveAsked, HaveTold, PutsLedger, Tells, to_come, second_op, AsksLedger, HasRoom}
 use Rattle.xa_driver.specs.Deaths.PutsLedger.{sent as put_sent, withheld as put_withheld}
-use Rattle.xa_driver.specs.Endings.{second_op}
-use Rattle.xa_driver.specs.Resolving.{AsksLedger}
-use Rattle.xa_driver.specs.Trace.{HasRoom}
-use Rattle.xa_log.specs.Log.{LogState}
-use Rattle.xa_telling.specs.Commits.{and_if_after, in_flight_at, told_after}
+use Rattle.xa_log.specs.{LogState}
+use Rattle.xa_telling.specs.{and_if_after, in_flight_at, told_after}
 use Rattle.xa_telling.proofs.Entries.{is_rm_fail_so}
 use Rattle.xa_telling.proofs.Ledgers.{AllSound, Sound, ask_sound}
 

@@ -1,26 +1,19 @@
 -- That each request that was collected was sent, as a thread goes on, and what its calls do to its ledgers and its handles.
-use Rattle.std.proofs.Common.{◌≡◌, ◌<◌, ◌≤◌, ℕ, Bool, List, [], ◌∷◌, length, None, Some, sym, ap, ◌∙◌, refl, subst, arith, length-append}
-use Rattle.std.specs.Prelude.{All}
-use Rattle.std.specs.Ordering.{nat_cmp}
+use Rattle.xa_base.proofs.{◌≡◌, ◌<◌, ◌≤◌, ℕ, Bool, List, [], ◌∷◌, length, None, Some, sym, ap, ◌∙◌, refl, subst, arith, length-append, All, nat_cmp, All-push}
+use Rattle.xa_base.proofs.{by_if}
 use Rattle.std.specs.FinMap as finmap
-use Rattle.std.proofs.lemmas.List.Elements.{All-push}
-use Rattle.xa_base.proofs.Truth.{by_if}
 use Rattle.xa_words.specs.declared.code.Code.{Code}
-use Rattle.xa_words.specs.declared.request.Op.{Op}
-use Rattle.xa_desk.specs.declared.operation.Operation.{Operation}
-use Rattle.xa_desk.specs.Growth.{HaveGrown}
-use Rattle.xa_desk.specs.LedgerView.{LedgerView, learnt_shut, with_sent, with_collected}
-use Rattle.xa_desk.specs.DeskView.{DeskView, IsKnown, IsOut, ledger, next_operation, after_sent, after_collected}
-use Rattle.xa_desk.specs.Lanes.{submitted, after_fulls}
-use Rattle.xa_desk.specs.Looks.{Collects, TakesKept}
+use Rattle.xa_words.specs.{Op}
+use Rattle.xa_desk.specs.{Operation, HaveGrown, learnt_shut, with_sent, with_collected, IsKnown, IsOut, ledger, next_operation, after_sent, after_collected}
+use Rattle.xa_desk.specs.{submitted, after_fulls, Collects, TakesKept}
+use Rattle.xa_desk.specs.LedgerView.{LedgerView}
+use Rattle.xa_desk.specs.DeskView.{DeskView}
 use Rattle.xa_desk.proofs.Growth.{growing_on, sending_grows, collecting_grows}
 use Rattle.xa_desk.proofs.Ledgers.{put_each}
-use Rattle.xa_calls.specs.Completing.{CollectsRedeemed}
-use Rattle.xa_calls.specs.Putting.{put_refusal}
+use Rattle.xa_calls.specs.{CollectsRedeemed, put_refusal}
 use Rattle.xa_calls.proofs.Kept.{known_here, fulls_ledgers, fulls_kept}
-use Rattle.xa_driver.specs.Deaths.{PutsLedger}
+use Rattle.xa_driver.specs.{PutsLedger, AsksLedger}
 use Rattle.xa_driver.specs.Deaths.PutsLedger.{sent as put_sent, withheld as put_withheld}
-use Rattle.xa_driver.specs.Resolving.{AsksLedger}
 
 -- ---- each request that was collected was sent
 

@@ -1,25 +1,18 @@
 -- What is left outstanding at a desk, by the numbers under which it is kept.
-use Rattle.std.proofs.Common.{◌≡◌, ℕ, ◌+◌, ◌<◌, ◌≤◌, zero, suc, List, [], ◌∷◌, ◌++◌, length, map, Some, None}
-use Rattle.std.proofs.Common.{sym, refl, ap, ◌∙◌, subst, inl, inr, arith, length-append}
-use Rattle.std.specs.Prelude.{All}
-use Rattle.std.specs.List.{AllPairs, Contains, range_with_len}
+use Rattle.xa_base.proofs.{◌≡◌, ℕ, ◌+◌, ◌<◌, ◌≤◌, zero, suc, List, [], ◌∷◌, ◌++◌, length, map, Some, None, sym, refl, ap, ◌∙◌, subst, inl, inr, arith}
+use Rattle.xa_base.proofs.{length-append, All, AllPairs, Contains, range_with_len, cases_eq, map-append, All-nil, All-push, Contains-append_left, not_both}
+use Rattle.xa_base.proofs.{pairs_push, range_suc, same_begins, snoc_parts, removed_other}
 use Rattle.std.specs.FinMap as finmap
-use Rattle.std.proofs.lemmas.Bool.{cases_eq}
-use Rattle.std.proofs.lemmas.List.{map-append}
-use Rattle.std.proofs.lemmas.List.Elements.{All-nil, All-push, Contains-append_left, Contains-push}
-use Rattle.xa_base.proofs.Options.{not_both}
-use Rattle.xa_base.specs.Lists.{Chain}
+use Rattle.std.proofs.lemmas.List.Elements.{Contains-push}
+use Rattle.xa_base.specs.{Chain}
 use Rattle.xa_base.specs.Lists.Chain.{none, more}
-use Rattle.xa_base.proofs.Lists.{pairs_push, range_suc, same_begins, snoc_parts}
-use Rattle.xa_base.proofs.Maps.{removed_other}
 use Rattle.xa_words.specs.declared.code.Code.{Code}
-use Rattle.xa_desk.specs.declared.operation.Operation.{Operation}
-use Rattle.xa_desk.specs.DeskView.{DeskView, ledger}
-use Rattle.xa_desk.specs.Growth.{HaveGrown}
+use Rattle.xa_desk.specs.{Operation, ledger, HaveGrown}
+use Rattle.xa_desk.specs.DeskView.{DeskView}
 use Rattle.xa_desk.specs.LedgerView.{LedgerView}
 use Rattle.xa_desk.proofs.Growth.{collecting_grows}
 use Rattle.xa_desk.proofs.Ledgers.{ledger-collected_same}
-use Rattle.xa_crew.specs.Ending.{Telling, EndsNumber}
+use Rattle.xa_crew.specs.{Telling, EndsNumber}
 use Rattle.xa_crew.specs.Ending.EndsNumber.{kept, free}
 use Rattle.xa_telling.proofs.Entries.{collected_there}
 use Rattle.xa_telling.proofs.Ledgers.{Handles, HasTaken, collecting_sends_none, has_redeemed}

@@ -1,65 +1,40 @@
 -- A thread's lines put its entries into the journals, line by line.
-use Rattle.std.proofs.Common.{◌≡◌, ℕ, ◌-◌, ◌<◌, ◌≤◌, ⊎_elim, zero, suc, true, false, Bool, ◌==◌, List, [], ◌∷◌, ◌++◌, length, map, take, None, Some}
-use Rattle.std.proofs.Common.{inl, inr, sym, refl, ap, ◌∙◌, subst, arith}
-use Rattle.std.specs.Prelude.{All, get_or, if◌then◌else◌}
-use Rattle.std.specs.List.{Contains}
+use Rattle.xa_base.proofs.{◌≡◌, ℕ, ◌-◌, ◌<◌, ◌≤◌, ⊎_elim, zero, suc, true, false, Bool, ◌==◌, List, [], ◌∷◌, ◌++◌, length, map, take, None, Some, inl, inr, sym}
+use Rattle.xa_base.proofs.{refl, ap, ◌∙◌, subst, arith, All, get_or, if◌then◌else◌, Contains, eqb-true, eqb-false, length-map, map-append, take_all}
+use Rattle.xa_base.proofs.{All-contains, All-nil, all_left, all_mid, by_bool, by_if}
 use Rattle.std.specs.FinMap as finmap
-use Rattle.std.proofs.lemmas.Bool.{eqb-true, eqb-false}
 use Rattle.std.proofs.Math.Seq.{take-nil}
-use Rattle.std.proofs.lemmas.List.{length-map, map-append, take_all}
-use Rattle.std.proofs.lemmas.List.Elements.{All-contains, All-nil}
-use Rattle.xa_base.specs.Lists.{Chain}
+use Rattle.xa_base.specs.{Chain}
 use Rattle.xa_base.specs.Lists.Chain.{none, more}
-use Rattle.xa_base.proofs.Lists.{all_left, all_mid}
-use Rattle.xa_base.proofs.Truth.{by_bool, by_if}
-use Rattle.xa_words.specs.Flags.{check_flags}
-use Rattle.xa_words.specs.ManagerSet.{managers_in}
-use Rattle.xa_words.specs.Tran.{TranName}
+use Rattle.xa_words.specs.{check_flags, managers_in, TranName, Death, Op, Listed}
 use Rattle.xa_words.specs.declared.code.Code.{Code}
-use Rattle.xa_words.specs.declared.death.Death.{Death}
 use Rattle.xa_words.specs.declared.flags.Call.TheVariants as call
-use Rattle.xa_words.specs.declared.request.Op.{Op}
-use Rattle.xa_words.specs.declared.request.Op.TheVariants.{Listed}
-use Rattle.xa_desk.specs.DeskView.{DeskView, IsKnown, IsOut, is_known, ledger, next_operation, after_sent}
-use Rattle.xa_desk.specs.Growth.{HaveGrown}
-use Rattle.xa_desk.specs.Kept.{AllKept}
-use Rattle.xa_desk.specs.LedgerView.{LedgerView, learnt_shut}
+use Rattle.xa_desk.specs.DeskView.{DeskView}
+use Rattle.xa_desk.specs.{IsKnown, IsOut, is_known, ledger, next_operation, after_sent, HaveGrown, AllKept, learnt_shut}
+use Rattle.xa_desk.specs.LedgerView.{LedgerView}
 use Rattle.xa_desk.proofs.Growth.{growing_on}
 use Rattle.xa_desk.proofs.Ledgers.{ledger-collected_same, ledger-sent_other, ledger-sent_same}
-use Rattle.xa_worker.specs.Journal.{Entry}
-use Rattle.xa_scan.specs.Left.{ScanView}
-use Rattle.xa_calls.specs.Scans.{Answers as Reaches}
+use Rattle.xa_worker.specs.{Entry}
+use Rattle.xa_scan.specs.{ScanView}
+use Rattle.xa_calls.specs.{Answers as Reaches}
 use Rattle.xa_calls.specs.Scans.Answers.{refused as unreached, answered as reached}
-use Rattle.xa_switch.specs.Settling.{Settling, IsSettled}
-use Rattle.xa_log.specs.Log.{LogState, record_of}
-use Rattle.xa_log.specs.Losing.{AppendsBefore}
-use Rattle.xa_log.specs.declared.losing.LosingLog.{LosingLog}
-use Rattle.xa_driver.specs.declared.branch.Branch.{Branch}
-use Rattle.xa_driver.specs.declared.done.Done.{Done}
-use Rattle.xa_driver.specs.Deaths.{AppendsUntil, CameTo, HaveAsked, IsOfRound, LeavesHandles, PutsLedger, is_decided_by}
-use Rattle.xa_driver.specs.Resolving.{AsksLedger}
-use Rattle.xa_driver.specs.Rounds.{code_of}
-use Rattle.xa_driver.specs.Trace.{AppendsOnce, HasRoom, IsTranOf, has_branch_at, wants_record}
+use Rattle.xa_switch.specs.Settling.{Settling}
+use Rattle.xa_switch.specs.{IsSettled}
+use Rattle.xa_log.specs.{LogState, record_of, AppendsBefore, LosingLog}
+use Rattle.xa_driver.specs.{Branch, Done, AppendsUntil, CameTo, HaveAsked, IsOfRound, LeavesHandles, PutsLedger, is_decided_by, AsksLedger, code_of}
+use Rattle.xa_driver.specs.{AppendsOnce, HasRoom, IsTranOf, has_branch_at, wants_record}
 use Rattle.xa_driver.proofs.AtDeath.{asked_all}
 use Rattle.xa_driver.proofs.Calls.{among_first, asks_long}
-use Rattle.xa_grammar.specs.declared.step.CommitAll.{CommitAll}
+use Rattle.xa_grammar.specs.{CommitAll, ScriptCalled, ScriptAction, ScriptTask}
 use Rattle.xa_grammar.specs.declared.step.Action.TheVariants as action
-use Rattle.xa_grammar.specs.Steps.{ScriptCalled, ScriptAction, ScriptTask}
-use Rattle.xa_transcript.specs.declared.answer.Answer.{Answer}
-use Rattle.xa_transcript.specs.declared.answer.Told.{Told}
-use Rattle.xa_session.specs.declared.session.Session.{Session}
-use Rattle.xa_session.specs.Calling.{IsListed, HasListed}
-use Rattle.xa_session.specs.Committing.{named, branch_at, branches_of, CommitsAll}
+use Rattle.xa_transcript.specs.{Answer, Told}
+use Rattle.xa_session.specs.{Session, IsListed, HasListed, named, branch_at, branches_of, CommitsAll, ResolvesLeft, Executes, HasDone, told_of}
 use Rattle.xa_session.specs.Committing.CommitsAll.{refused, decided, undecided, died}
-use Rattle.xa_session.specs.Resolving.{ResolvesLeft}
 use Rattle.xa_session.specs.Resolving.ResolvesLeft.{refused as left_refused, resolved as left_resolved}
-use Rattle.xa_session.specs.Sessions.{Executes, HasDone, told_of}
-use Rattle.xa_telling.specs.Commits.{CommitTakes, KeepsInFlight, in_flight_at}
+use Rattle.xa_telling.specs.{CommitTakes, KeepsInFlight, in_flight_at, Line, Takes, TakesPart, Part, next_entry, new_part, Asked, Lists, CallTakes}
+use Rattle.xa_telling.specs.{ResolveTakes}
 use Rattle.xa_telling.specs.Commits.CommitTakes.{refused as takes_none, decided as takes_decided, undecided as takes_undecided, died as takes_died}
-use Rattle.xa_telling.specs.Journals.{Line, Takes, TakesPart}
-use Rattle.xa_telling.specs.Parts.{Part, next_entry, new_part, Asked, Lists, CallTakes}
 use Rattle.xa_telling.specs.Parts.Asked.{answered as asked_answered, refused as asked_refused}
-use Rattle.xa_telling.specs.Resolves.{ResolveTakes}
 use Rattle.xa_telling.specs.Resolves.ResolveTakes.{refused as ends_none, resolved as ends_left}
 use Rattle.xa_telling.proofs.Branches.{last, own, fits, nobody, same_entries, rooms, decided_so, voted_so, died_so, others_so, all_sound, resolved_so}
 use Rattle.xa_telling.proofs.Branches.{resolved_sound}

@@ -1,14 +1,10 @@
 -- What an xa_recover does over one kind of states it does over another, where each of its requests does.
-use Rattle.std.proofs.Common.{ℕ, Some, None, Bool, true, false, Option, Result, Ok, Err, List, length, ap, subst}
-use Rattle.xa_words.specs.Xid.{XidName}
+use Rattle.xa_base.proofs.{ℕ, Some, None, Bool, true, false, Option, Result, Ok, Err, List, length, ap, subst}
+use Rattle.xa_words.specs.{XidName, Done, Nota, Mode, Listed}
 use Rattle.xa_words.specs.declared.code.Code.{Code}
-use Rattle.xa_words.specs.declared.code.Code.TheVariants.{Done, Nota}
-use Rattle.xa_words.specs.declared.flags.Mode.{Mode}
-use Rattle.xa_words.specs.declared.request.Op.TheVariants.{Listed}
-use Rattle.xa_calls.specs.Scans.{Asking, Looks, begun, finds, passes, Scans, filled, ended, stopped, start_of, IsInVain, RecoversFrom}
-use Rattle.xa_scan.specs.Left.{ScanView, place_at}
-use Rattle.xa_calls.specs.Scans.{RecoversAt, RecoversBy}
-use Rattle.xa_calls.specs.Scans.{Recovers}
+use Rattle.xa_calls.specs.Scans.{Asking, Scans}
+use Rattle.xa_calls.specs.{Looks, begun, finds, passes, filled, ended, stopped, start_of, IsInVain, RecoversFrom, RecoversAt, RecoversBy, Recovers}
+use Rattle.xa_scan.specs.{ScanView, place_at}
 use Rattle.xa_calls.specs.Scans.Recovers.{unreached, stopped as stopped_at, told}
 
 -- what is asked over states D is asked over E, where P holds afterwards, and P held before

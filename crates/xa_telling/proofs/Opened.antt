@@ -1,21 +1,16 @@
 -- What holds of the desks and the workers that a script has opened.
-use Rattle.std.proofs.Common.{◌≡◌, ℕ, ◌+◌, Bool, List, [], ◌∷◌, length, map, Some, sym, refl, ap, ◌∙◌, arith}
-use Rattle.std.specs.Prelude.{slice_get}
-use Rattle.std.specs.List.{range_with_len, slice_index_or}
-use Rattle.std.proofs.lemmas.List.{length-map}
+use Rattle.xa_base.proofs.{◌≡◌, ℕ, ◌+◌, Bool, List, [], ◌∷◌, length, map, Some, sym, refl, ap, ◌∙◌, arith, slice_get, range_with_len, slice_index_or}
+use Rattle.xa_base.proofs.{length-map, slice_get_within, slice_get-get_or, some_same}
 use Rattle.std.proofs.lemmas.List.FromFn.{length-map-range_with_len, get_or-map-range_with_len}
-use Rattle.std.proofs.lemmas.Option.{slice_get_within, slice_get-get_or}
 use Rattle.xa_desk.specs.DeskView.{DeskView}
-use Rattle.xa_worker.specs.Workers.{WorkerView}
+use Rattle.xa_worker.specs.{WorkerView}
 use Rattle.xa_tables.specs.Tables.{Tables}
-use Rattle.xa_tables.specs.Managers.{opening}
-use Rattle.xa_switch.specs.declared.plan.Plan.{Plan}
-use Rattle.xa_switch.specs.Plans.{Setup, IsSound, planned}
-use Rattle.xa_switch.specs.OpenedPieces.{IsNewDesk, IsNewWorker}
-use Rattle.xa_grammar.specs.Content.{Content, threads_of, managers_of}
-use Rattle.xa_telling.specs.Planning.{IsPlanOf, IsSetupOf, AreOpened, script_says, plan_says}
-use Rattle.xa_transcript.specs.Values.{opened}
-use Rattle.xa_base.proofs.Lists.{some_same}
+use Rattle.xa_tables.specs.{opening}
+use Rattle.xa_switch.specs.{Plan, Setup, IsSound, planned, IsNewDesk, IsNewWorker}
+use Rattle.xa_grammar.specs.Content.{Content}
+use Rattle.xa_grammar.specs.{threads_of, managers_of}
+use Rattle.xa_telling.specs.{IsPlanOf, IsSetupOf, AreOpened, script_says, plan_says}
+use Rattle.xa_transcript.specs.{opened}
 
 -- ---- the desks
 

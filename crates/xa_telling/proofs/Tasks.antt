@@ -1,12 +1,10 @@
 -- The tasks of one thread among the steps of a script.
-use Rattle.std.proofs.Common.{◌≡◌, ◌≢◌, ℕ, ◌≤◌, ◌==◌, List, [], ◌∷◌, ◌++◌, Some, None, sym, refl, ap, ◌∙◌, subst}
-use Rattle.std.specs.Prelude.{All, filter_map, if◌then◌else◌}
-use Rattle.std.proofs.lemmas.Bool.{eqb-true, ne_eqb}
-use Rattle.std.proofs.lemmas.List.Elements.{filter_map-append, All-head, All-tail, All-cons, All-nil}
-use Rattle.xa_base.proofs.Truth.{by_bool}
+use Rattle.xa_base.proofs.{◌≡◌, ◌≢◌, ℕ, ◌≤◌, ◌==◌, List, [], ◌∷◌, ◌++◌, Some, None, sym, refl, ap, ◌∙◌, subst, All, if◌then◌else◌, eqb-true, ne_eqb, All-head}
+use Rattle.xa_base.proofs.{All-tail, All-cons, All-nil, by_bool}
+use Rattle.std.specs.Prelude.{filter_map}
+use Rattle.std.proofs.lemmas.List.Elements.{filter_map-append}
 use Rattle.xa_grammar.specs.declared.step.Step.TheVariants as step
-use Rattle.xa_grammar.specs.Steps.{ScriptTask, ScriptStep}
-use Rattle.xa_grammar.specs.Content.{task_of, tasks_of, Fits}
+use Rattle.xa_grammar.specs.{ScriptTask, ScriptStep, task_of, tasks_of, Fits}
 
 -- each is the thread's own
 abbrev pub AreOf : ℕ → List ScriptTask → Type 0

@@ -1,50 +1,29 @@
 -- What the threads and the managers of a run tell once they are settled.
-use Rattle.std.proofs.Common.{◌≡◌, ◌≢◌, ℕ, ◌+◌, ◌-◌, ◌<◌, ◌≤◌, ⊎_elim, zero, suc, List, [], length, map, Some, None, option_map, sym, refl, ap, ◌∙◌, subst}
-use Rattle.std.proofs.Common.{arith, Option, inl, inr, false}
-use Rattle.std.specs.Prelude.{slice_get}
-use Rattle.std.specs.List.{Contains, range_with_len, slice_index_or}
+use Rattle.xa_base.proofs.{◌≡◌, ◌≢◌, ℕ, ◌+◌, ◌-◌, ◌<◌, ◌≤◌, ⊎_elim, zero, suc, List, [], length, map, Some, None, option_map, sym, refl, ap, ◌∙◌, subst, arith}
+use Rattle.xa_base.proofs.{Option, inl, inr, false, slice_get, Contains, range_with_len, slice_index_or, nat_cmp, cases_lt, length-map, All-contains, All-nil}
+use Rattle.xa_base.proofs.{slice_get-map, slice_get_within, not_both, got, find_numbered, find_none, was_mapped}
 use Rattle.std.specs.FinMap as finmap
-use Rattle.std.specs.Ordering.{nat_cmp}
-use Rattle.std.proofs.lemmas.Bool.{cases_lt}
-use Rattle.std.proofs.lemmas.List.{length-map}
-use Rattle.std.proofs.lemmas.List.Elements.{All-contains, All-nil}
-use Rattle.std.proofs.lemmas.Option.{slice_get-map, slice_get_within, slice_get_past, slice_get_cases}
-use Rattle.xa_base.proofs.Options.{not_both}
+use Rattle.std.proofs.lemmas.Option.{slice_get_past, slice_get_cases}
 use Rattle.xa_desk.proofs.Fresh.{fresh_sent, fresh_collected}
 use Rattle.xa_desk.proofs.Ledgers.{nobody_sent}
-use Rattle.xa_desk.specs.Growth.{HaveGrown}
-use Rattle.xa_desk.specs.Kept.{AllKept}
-use Rattle.xa_switch.specs.Fates.{ledgers_of}
+use Rattle.xa_desk.specs.{HaveGrown, AllKept, ledger, sent_to, EndedView, new_ledgers, Operation}
+use Rattle.xa_switch.specs.{ledgers_of, Setup, IsNewDesk, IsNewWorker, DeskSeat, seat_of_desk, ThreadPart, ManagerPart, IsSettled, find_thread, ledgers_in}
+use Rattle.xa_switch.specs.{sent, collected, journal, thread_part, manager_part, settling}
 use Rattle.xa_desk.specs.LedgerView.{LedgerView}
-use Rattle.xa_desk.specs.DeskView.{DeskView, ledger, sent_to}
-use Rattle.xa_desk.specs.Ended.{EndedView}
-use Rattle.xa_desk.specs.Lanes.{new_ledgers}
-use Rattle.xa_worker.specs.Workers.{WorkerView}
-use Rattle.xa_worker.specs.Done.{Served}
-use Rattle.xa_crew.specs.Pieces.{HasServed}
-use Rattle.xa_switch.specs.Plans.{Setup}
-use Rattle.xa_switch.specs.OpenedPieces.{IsNewDesk, IsNewWorker}
-use Rattle.xa_switch.specs.Belonging.{DeskSeat, seat_of_desk}
-use Rattle.xa_switch.specs.Settling.{Settling, ThreadPart, ManagerPart, IsSettled, find_thread, ledgers_in, sent, collected, journal}
-use Rattle.xa_switch.specs.Closing.{thread_part, manager_part, settling}
-use Rattle.xa_log.specs.Log.{LogState}
-use Rattle.xa_grammar.specs.Steps.{ScriptTask, ScriptStep}
-use Rattle.xa_grammar.specs.Content.{Content, tasks_of, threads_of, managers_of}
-use Rattle.xa_session.specs.declared.session.Session.{Session}
-use Rattle.xa_transcript.specs.declared.answer.Told.{Told}
-use Rattle.xa_base.specs.Lists.{Chain}
+use Rattle.xa_desk.specs.DeskView.{DeskView}
+use Rattle.xa_worker.specs.{WorkerView, Served}
+use Rattle.xa_crew.specs.{HasServed, EndsDesk}
+use Rattle.xa_switch.specs.Settling.{Settling}
+use Rattle.xa_log.specs.{LogState}
+use Rattle.xa_grammar.specs.{ScriptTask, ScriptStep, tasks_of, threads_of, managers_of}
+use Rattle.xa_grammar.specs.Content.{Content}
+use Rattle.xa_session.specs.{Session, HasDone}
+use Rattle.xa_transcript.specs.{Told, AreOfScript}
+use Rattle.xa_base.specs.{Chain}
 use Rattle.xa_base.specs.Lists.Chain.{none, more}
-use Rattle.xa_session.specs.Sessions.{HasDone}
-use Rattle.xa_telling.specs.Runs.{Comes, Ran}
-use Rattle.xa_transcript.specs.Values.{AreOfScript}
-use Rattle.xa_telling.specs.ToldOpenings.{Beginning, TellsOf, part_at}
-use Rattle.xa_telling.specs.Journals.{answers_to, entries_of, TakesPart, AreLeft, AreCarriedOut}
-use Rattle.xa_telling.specs.Parts.{Part, HasCode, new_part}
+use Rattle.xa_telling.specs.{Comes, Ran, Beginning, TellsOf, part_at, answers_to, entries_of, TakesPart, AreLeft, AreCarriedOut, Part, HasCode, new_part}
 use Rattle.xa_telling.proofs.Left.{HaveEnded, numbers_ended}
-use Rattle.xa_crew.specs.Ending.{EndsDesk}
 use Rattle.xa_words.specs.declared.code.Code.{Code}
-use Rattle.xa_desk.specs.declared.operation.Operation.{Operation}
-use Rattle.xa_base.proofs.Lists.{got, find_numbered, find_none, was_mapped}
 use Rattle.xa_telling.proofs.Opened.{opened_threads, opened_managers, opened_first, opened_thread}
 use Rattle.xa_telling.proofs.Entries.{Fits as Agrees, StandsAt, agreed_fits, no_entries}
 use Rattle.xa_telling.proofs.Branches.{fits, own as own_entries}

@@ -1,18 +1,13 @@
 -- What comes of a synchronous call.
-use Rattle.std.proofs.Common.{◌≡◌, ℕ, Bool, true, false, ℤ, sym, refl, ap, ◌∙◌, subst}
-use Rattle.std.proofs.Common.{Option, Some, None, w32, of_z, ◌==◌}
-use Rattle.std.specs.Prelude.{option_map}
+use Rattle.xa_base.proofs.{◌≡◌, ℕ, Bool, true, false, ℤ, sym, refl, ap, ◌∙◌, subst, Option, Some, None, w32, of_z, ◌==◌, option_map}
 use Rattle.xa_words.specs.Code.{number_of}
 use Rattle.xa_words.specs.declared.code.Code.{Code}
-use Rattle.xa_words.specs.declared.code.Code.TheVariants.{Done}
-use Rattle.xa_words.specs.declared.request.Op.{Op}
-use Rattle.xa_desk.specs.declared.refused.Refused.{Refused}
-use Rattle.xa_desk.specs.declared.refused.Refused.TheVariants.{NoSuchManager, Shut, TooMany, Spent, Full}
-use Rattle.xa_desk.specs.DeskView.{DeskView, call_refusal}
-use Rattle.xa_calls.specs.Putting.{code_of, Puts}
+use Rattle.xa_words.specs.{Done, Op}
+use Rattle.xa_desk.specs.{Refused, NoSuchManager, Shut, TooMany, Spent, Full, call_refusal}
+use Rattle.xa_desk.specs.DeskView.{DeskView}
+use Rattle.xa_calls.specs.{code_of, Puts}
 use Rattle.xa_calls.specs.Putting.Puts.{refused, full, kept, answered}
-use Rattle.xa_work.specs.Requests.{after_called, CallsOp, called, failed, uncalled}
-use Rattle.xa_work.specs.Sent.{HaveSent}
+use Rattle.xa_work.specs.{after_called, CallsOp, called, failed, uncalled, HaveSent}
 use Rattle.xa_work.proofs.Sent.{have_none, answered_ledgers, call_adds}
 use Rattle.xa_work.proofs.Handles.{only_done, not_done}
 

@@ -1,22 +1,13 @@
 -- A commit of a unit of work names its branches alone.
-use Rattle.std.proofs.Common.{◌≡◌, Bool, true, false, ◌||◌, Option, None, Some, List, subst}
-use Rattle.xa_base.proofs.Lists.{any_at, some_same}
-use Rattle.xa_base.proofs.Truth.{by_if}
-use Rattle.xa_words.specs.Xid.{xid_eq}
+use Rattle.xa_base.proofs.{◌≡◌, Bool, true, false, ◌||◌, Option, None, Some, List, subst, any_at, some_same, by_if}
+use Rattle.xa_words.specs.{xid_eq, Death, Op, Commit, Forget, Prepare, Rollback}
 use Rattle.xa_words.specs.declared.code.Code.{Code}
-use Rattle.xa_words.specs.declared.death.Death.{Death}
-use Rattle.xa_words.specs.declared.request.Op.{Op}
-use Rattle.xa_words.specs.declared.request.Op.TheVariants.{Commit, Forget, Prepare, Rollback}
-use Rattle.xa_tables.specs.History.{is_rolled_back}
+use Rattle.xa_tables.specs.{is_rolled_back}
 use Rattle.xa_desk.specs.LedgerView.{LedgerView}
 use Rattle.xa_desk.specs.DeskView.{DeskView}
-use Rattle.xa_driver.specs.declared.branch.Branch.{Branch}
-use Rattle.xa_driver.specs.Decision.{is_read, is_yes}
-use Rattle.xa_driver.specs.Endings.{is_decided, is_out_of_reach, second_op, third_op}
-use Rattle.xa_log.specs.Log.{LogState}
-use Rattle.xa_work.specs.declared.unit.WorkOutcome.{WorkOutcome}
-use Rattle.xa_work.specs.Sent.{HaveSent, NamesOnly}
-use Rattle.xa_work.specs.Units.{ComesOfCommit}
+use Rattle.xa_driver.specs.{Branch, is_read, is_yes, is_decided, is_out_of_reach, second_op, third_op}
+use Rattle.xa_log.specs.{LogState}
+use Rattle.xa_work.specs.{WorkOutcome, HaveSent, NamesOnly, ComesOfCommit}
 use Rattle.xa_work.specs.Units.ComesOfCommit.{cut_short, in_full, undecided}
 use Rattle.xa_work.proofs.Named.{IsAmong, all_among}
 use Rattle.xa_work.proofs.Voted.{died_sent, made_sent, voted_sent}

@@ -1,22 +1,15 @@
 -- The work for branches in flight that was all done: what was put to each manager, and what was collected.
-use Rattle.std.proofs.Common.{◌≡◌, ◌≢◌, ℕ, suc, ◌+◌, ◌-◌, ◌≤◌, Bool, true, false, cond, ◌==◌, List, [], ◌∷◌, ◌++◌, length, map, filter, length-append}
-use Rattle.std.proofs.Common.{append_assoc, sym, refl, ap, ◌∙◌, subst, arith, eq-eqb}
-use Rattle.std.specs.List.{All, list_any, range_with_len}
-use Rattle.std.proofs.lemmas.Bool.{eqb-true, or_parts}
-use Rattle.std.proofs.lemmas.List.{append-nil, length-set, map-append}
-use Rattle.std.proofs.lemmas.List.Elements.{All-head, All-tail, filter-append}
-use Rattle.std.proofs.lemmas.List.Folds.{list_any-append}
-use Rattle.xa_base.specs.Lists.{Chain}
+use Rattle.xa_base.proofs.{◌≡◌, ◌≢◌, ℕ, suc, ◌+◌, ◌-◌, ◌≤◌, Bool, true, false, cond, ◌==◌, List, [], ◌∷◌, ◌++◌, length, map, filter, length-append}
+use Rattle.xa_base.proofs.{append_assoc, sym, refl, ap, ◌∙◌, subst, arith, eq-eqb, All, list_any, range_with_len, eqb-true, or_parts, append-nil, length-set}
+use Rattle.xa_base.proofs.{map-append, All-head, All-tail, filter-append, list_any-append, all_left, all_right, range_suc}
+use Rattle.xa_base.specs.{Chain}
 use Rattle.xa_base.specs.Lists.Chain.{none, more}
-use Rattle.xa_base.proofs.Lists.{all_left, all_right, range_suc}
-use Rattle.xa_words.specs.declared.code.Code.TheVariants.{Done}
-use Rattle.xa_words.specs.declared.request.Op.{Op}
-use Rattle.xa_desk.specs.declared.operation.Operation.{Operation}
-use Rattle.xa_desk.specs.LedgerView.{LedgerView, with_sent, with_collected}
-use Rattle.xa_desk.specs.DeskView.{DeskView, IsKnown, ledger, put_ledger, next_operation}
+use Rattle.xa_words.specs.{Done, Op}
+use Rattle.xa_desk.specs.{Operation, with_sent, with_collected, IsKnown, ledger, put_ledger, next_operation}
+use Rattle.xa_desk.specs.LedgerView.{LedgerView}
+use Rattle.xa_desk.specs.DeskView.{DeskView}
 use Rattle.xa_desk.proofs.Ledgers.{ledger-put_same, ledger-put_other}
-use Rattle.xa_work.specs.Requests.{PutsAtLast, PutsOp}
-use Rattle.xa_work.specs.Works.{Put}
+use Rattle.xa_work.specs.{PutsAtLast, PutsOp, Put}
 use Rattle.xa_work.proofs.Worked.{AreCollected, AreKept, Flights, IsKey, is_put, kept_push, key_of, known_on}
 
 -- ---- lists

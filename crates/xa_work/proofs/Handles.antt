@@ -1,24 +1,20 @@
 -- What comes of a call that its flags make asynchronous, and of collecting by its handle.
-use Rattle.std.specs.Prelude.{◌≡◌, ◌≢◌, ℕ, zero, suc, ◌<◌, ℤ, pos, negsuc, Bool, true, false, Option, Some, None, option_map, if◌then◌else◌, Result, Err}
-use Rattle.std.specs.Prelude.{IfOk, refl}
-use Rattle.std.proofs.Common.{sym, ap, ◌∙◌, subst, inl, inr, arith, w32, of_z, ◌==◌, List}
-use Rattle.std.specs.Option.{option_or}
+use Rattle.xa_base.proofs.{◌≡◌, ◌≢◌, ℕ, zero, suc, ◌<◌, ℤ, pos, Bool, true, false, Option, Some, None, option_map, if◌then◌else◌, Result, Err, IfOk, refl, sym}
+use Rattle.xa_base.proofs.{ap, ◌∙◌, subst, inl, inr, arith, w32, of_z, ◌==◌, List, option_or, nat_cmp}
+use Rattle.std.specs.Prelude.{negsuc}
 use Rattle.std.specs.FinMap as map
-use Rattle.std.specs.Ordering.{nat_cmp}
 use Rattle.xa_words.specs.Code.{number_of}
 use Rattle.xa_words.specs.declared.code.Code.{Code}
-use Rattle.xa_words.specs.declared.code.Code.TheVariants.{Done, Async, Inval}
-use Rattle.xa_words.specs.declared.request.Op.{Op}
-use Rattle.xa_desk.specs.declared.refused.Refused.{Refused}
-use Rattle.xa_desk.specs.declared.refused.Refused.TheVariants.{NoSuchManager, Shut, TooMany, Spent, Full}
+use Rattle.xa_words.specs.{Done, Async, Inval, Op}
+use Rattle.xa_desk.specs.{Refused, NoSuchManager, Shut, TooMany, Spent, Full, Operation, IsHandle, ledger, after_sent, after_collected, next_operation}
+use Rattle.xa_desk.specs.{reach_refusal, submit_refusal}
 use Rattle.xa_desk.specs.LedgerView.{LedgerView}
-use Rattle.xa_desk.specs.declared.operation.Operation.{Operation}
-use Rattle.xa_desk.specs.DeskView.{DeskView, IsHandle, ledger, after_sent, after_collected, next_operation, reach_refusal, submit_refusal}
-use Rattle.xa_calls.specs.Putting.{code_of, async_refusal, put_refusal, Puts}
+use Rattle.xa_desk.specs.DeskView.{DeskView}
+use Rattle.xa_calls.specs.{code_of, async_refusal, put_refusal, Puts, CompletesAt, CompletesOne, HasCompleted, Tells, CollectsRedeemed, may_complete, number_in}
 use Rattle.xa_calls.specs.Putting.Puts.{refused, full, kept, answered}
-use Rattle.xa_calls.specs.Completing.{CompletesAt, CompletesOne, HasCompleted, Tells, CollectsRedeemed, may_complete, number_in}
 use Rattle.xa_calls.specs.Completing.CompletesOne.{unknown, retry, ready, waited}
-use Rattle.xa_work.specs.Requests.{StaysSo, IsTurnedAway, IsPut, PutsOp, IsNoHandle, IsCollected, CollectsOp, done, undone}
+use Rattle.xa_work.specs.{StaysSo, IsTurnedAway, IsPut, PutsOp, IsNoHandle, IsCollected, CollectsOp, done}
+use Rattle.xa_work.specs.Requests.{undone}
 
 -- ---- a request
 

@@ -1,26 +1,16 @@
 -- How the requests of a unit of work are made, one more after those before.
-use Rattle.std.proofs.Common.{◌≡◌, ◌≢◌, ℕ, suc, drop-cons, ◌+◌, ◌<◌, ◌≤◌, Bool, true, false, ◌&&◌, ◌==◌, cond, List, [], ◌∷◌, ◌++◌, length, map}
-use Rattle.std.proofs.Common.{take, drop, subst}
-use Rattle.std.proofs.Common.{append_assoc, length-append, arith, eq-eqb, sym, refl, ap, ◌∙◌}
-use Rattle.std.specs.Prelude.{slice_index_or}
-use Rattle.std.specs.List.{list_all, range_with_len}
-use Rattle.std.proofs.lemmas.Bool.{ne_eqb}
-use Rattle.std.proofs.lemmas.List.{append-nil, length-map, map-append, take_all, take-append-drop}
-use Rattle.std.proofs.lemmas.List.Elements.{filter-append}
+use Rattle.xa_base.proofs.{◌≡◌, ◌≢◌, ℕ, suc, ◌+◌, ◌<◌, ◌≤◌, Bool, true, false, ◌&&◌, ◌==◌, cond, List, [], ◌∷◌, ◌++◌, length, map, take, drop, subst}
+use Rattle.xa_base.proofs.{append_assoc, length-append, arith, eq-eqb, sym, refl, ap, ◌∙◌, slice_index_or, list_all, range_with_len, ne_eqb, append-nil}
+use Rattle.xa_base.proofs.{length-map, map-append, take_all, take-append-drop, filter-append, flat_push, one_more, range_more}
+use Rattle.std.proofs.Common.{drop-cons}
 use Rattle.std.proofs.lemmas.List.Folds.{list_all-append}
-use Rattle.xa_base.specs.Lists.{Chain}
+use Rattle.xa_base.specs.{Chain}
 use Rattle.xa_base.specs.Lists.Chain.{none, more}
-use Rattle.xa_base.proofs.Lists.{flat_push, one_more, range_more}
-use Rattle.xa_words.specs.declared.request.Op.{Op}
-use Rattle.xa_words.specs.declared.request.Op.TheVariants.{Add, End, OpenRm, Start}
-use Rattle.xa_words.specs.declared.request.StartHow.TheVariants.{Fresh}
-use Rattle.xa_words.specs.declared.request.EndHow.TheVariants.{Success}
+use Rattle.xa_words.specs.{Op, Add, End, OpenRm, Start, Fresh, Success}
 use Rattle.xa_desk.specs.DeskView.{DeskView}
-use Rattle.xa_driver.specs.declared.branch.Branch.{Branch}
-use Rattle.xa_work.specs.declared.in_flight.Flight.{Flight}
-use Rattle.xa_work.specs.declared.unit.Change.{Change}
-use Rattle.xa_work.specs.Requests.{CallsOp, CollectsOp, PutsAtLast}
-use Rattle.xa_work.specs.Works.{Called, CallsOps, OpensAt, CollectsAll, Got, Put, PutsRequests, changes_at, ops_of, requests_at, requests_of, steps_in}
+use Rattle.xa_driver.specs.{Branch}
+use Rattle.xa_work.specs.{Flight, Change, CallsOp, CollectsOp, PutsAtLast, Called, CallsOps, OpensAt, CollectsAll, Got, Put, PutsRequests, changes_at, ops_of}
+use Rattle.xa_work.specs.{requests_at, requests_of, steps_in}
 
 and_true : (a : Bool) → a ≡ (a && true)
 and_true true = refl

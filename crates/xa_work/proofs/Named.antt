@@ -1,28 +1,17 @@
 -- Which branches the requests of a unit of work name, one after the other.
-use Rattle.std.proofs.Common.{◌≡◌, ℕ, Bool, true, false, List, [], ◌∷◌, ◌++◌, map, Some, refl, sym, ap, subst}
-use Rattle.std.specs.Prelude.{slice_get}
-use Rattle.std.specs.List.{All}
-use Rattle.std.proofs.lemmas.List.Elements.{All-nil, All-cons, All-head, All-tail, All-append, All-map}
-use Rattle.xa_base.specs.Lists.{Chain}
+use Rattle.xa_base.proofs.{◌≡◌, ℕ, Bool, true, false, List, [], ◌∷◌, ◌++◌, map, Some, refl, sym, ap, subst, slice_get, All, All-nil, All-cons, All-head}
+use Rattle.xa_base.proofs.{All-tail, All-append, All-map, all_at, all_from, all_left, all_right, all_unmapped, any_at}
+use Rattle.xa_base.specs.{Chain}
 use Rattle.xa_base.specs.Lists.Chain.{none, more}
-use Rattle.xa_base.proofs.Lists.{all_at, all_from, all_left, all_right, all_unmapped, any_at}
-use Rattle.xa_words.specs.Xid.{XidName, xid_eq}
-use Rattle.xa_words.specs.Flags.{TMFAIL}
+use Rattle.xa_words.specs.{XidName, xid_eq, TMFAIL, Op, Start, Add, End, Rollback, Fresh, Success, Fail}
 use Rattle.xa_words.specs.declared.flags.Call.TheVariants as call
-use Rattle.xa_words.specs.declared.request.Op.{Op}
-use Rattle.xa_words.specs.declared.request.Op.TheVariants.{Start, Add, End, Rollback}
-use Rattle.xa_words.specs.declared.request.StartHow.TheVariants.{Fresh}
-use Rattle.xa_words.specs.declared.request.EndHow.TheVariants.{Success, Fail}
-use Rattle.xa_tables.specs.Prepared.{names}
+use Rattle.xa_tables.specs.{names}
 use Rattle.xa_desk.specs.LedgerView.{LedgerView}
-use Rattle.xa_desk.specs.DeskView.{DeskView, ledger}
-use Rattle.xa_driver.specs.declared.branch.Branch.{Branch}
-use Rattle.xa_driver.specs.Commits.{is_commit}
-use Rattle.xa_work.specs.declared.unit.Change.{Change}
-use Rattle.xa_work.specs.Requests.{CallsOp, CollectsOp, PutsAtLast}
-use Rattle.xa_work.specs.Sent.{HaveSent, IsFor}
-use Rattle.xa_work.specs.Works.{Asks, Called, CallsBranch, CallsBranches, GivesUp, Got, HasWorked, HaveWorked, Put, Tries, TriesInFlight}
-use Rattle.xa_work.specs.Works.{changes_at, in_flight, in_turn, ops_of, requests_at, requests_of}
+use Rattle.xa_desk.specs.DeskView.{DeskView}
+use Rattle.xa_desk.specs.{ledger}
+use Rattle.xa_driver.specs.{Branch, is_commit}
+use Rattle.xa_work.specs.{Change, CallsOp, CollectsOp, PutsAtLast, HaveSent, IsFor, Asks, Called, CallsBranch, CallsBranches, GivesUp, Got, HasWorked}
+use Rattle.xa_work.specs.{HaveWorked, Put, Tries, TriesInFlight, changes_at, in_flight, in_turn, ops_of, requests_at, requests_of}
 use Rattle.xa_work.specs.Works.CallsBranches.{completed, stopped}
 use Rattle.xa_work.proofs.Sent.{call_sent, collect_sent, have_none, have_on, put_sent}
 use Rattle.xa_work.proofs.Called.{op_sent}

@@ -1,24 +1,20 @@
 -- Which requests were sent since: what is done one after the other, and what a request or a collection adds.
-use Rattle.std.proofs.Common.{◌≡◌, ℕ, zero, suc, Bool, false, ℤ, pos, negsuc, List, [], ◌∷◌, ◌++◌, length, append_assoc, sym, refl, ap, ◌∙◌}
-use Rattle.std.proofs.Common.{subst, Option, None, Some}
-use Rattle.std.proofs.lemmas.List.{append-nil}
-use Rattle.std.proofs.lemmas.List.Elements.{All-nil, All-cons, All-append, All-weaker}
-use Rattle.xa_base.proofs.Lists.{same_begins, begins_on}
+use Rattle.xa_base.proofs.{◌≡◌, ℕ, zero, suc, Bool, false, ℤ, pos, List, [], ◌∷◌, ◌++◌, length, append_assoc, sym, refl, ap, ◌∙◌, subst, Option, None, Some}
+use Rattle.xa_base.proofs.{append-nil, All-nil, All-cons, All-append, All-weaker, same_begins, begins_on, by_if}
+use Rattle.std.proofs.Common.{negsuc}
 use Rattle.xa_words.specs.declared.code.Code.{Code}
-use Rattle.xa_words.specs.declared.request.Op.{Op}
-use Rattle.xa_desk.specs.declared.operation.Operation.{Operation}
-use Rattle.xa_desk.specs.LedgerView.{LedgerView, learnt_shut, with_sent, with_collected}
-use Rattle.xa_desk.specs.DeskView.{DeskView, ledger, after_sent, after_collected, next_operation}
-use Rattle.xa_desk.specs.Lanes.{submitted, after_fulls}
-use Rattle.xa_desk.specs.Looks.{Collects}
+use Rattle.xa_words.specs.{Op}
+use Rattle.xa_desk.specs.{Operation, learnt_shut, with_sent, with_collected, ledger, after_sent, after_collected, next_operation, submitted, after_fulls}
+use Rattle.xa_desk.specs.{Collects}
+use Rattle.xa_desk.specs.LedgerView.{LedgerView}
+use Rattle.xa_desk.specs.DeskView.{DeskView}
 use Rattle.xa_desk.proofs.Ledgers.{put_each}
-use Rattle.xa_calls.specs.Putting.{Puts}
+use Rattle.xa_calls.specs.{Puts}
 use Rattle.xa_calls.specs.Putting.Puts.{refused, full, kept, answered}
 use Rattle.xa_calls.proofs.Kept.{fulls_ledgers}
-use Rattle.xa_base.proofs.Truth.{by_if}
-use Rattle.xa_driver.specs.Asks.{asked}
-use Rattle.xa_work.specs.Requests.{StaysSo, PutsOp, IsCollected, CollectsOp, done, undone, nothing, after_called}
-use Rattle.xa_work.specs.Sent.{HasSent, HaveSent}
+use Rattle.xa_driver.specs.{asked}
+use Rattle.xa_work.specs.{StaysSo, PutsOp, IsCollected, CollectsOp, done, nothing, after_called, HasSent, HaveSent}
+use Rattle.xa_work.specs.Requests.{undone}
 
 -- ---- one ledger
 

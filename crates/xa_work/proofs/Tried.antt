@@ -1,23 +1,14 @@
 -- Where all of the work answered XA_OK, all of it was done.
-use Rattle.std.proofs.Common.{◌≡◌, ◌≢◌, ℕ, zero, suc, ◌<◌, ◌≤◌, Bool, true, false, cond, ◌||◌, ◌==◌, List, [], ◌∷◌, ◌++◌, length, map, filter}
-use Rattle.std.proofs.Common.{sym, refl, ap, ◌∙◌, subst, arith, eq-eqb, Some, ⊎_elim}
-use Rattle.std.specs.Prelude.{slice_get}
-use Rattle.std.specs.List.{All, list_any, range_with_len}
-use Rattle.std.proofs.lemmas.Bool.{cases_lt, ne_eqb, or_parts}
-use Rattle.std.proofs.lemmas.List.Elements.{All-nil, All-cons, All-head, All-tail, All-append, All-map}
-use Rattle.std.proofs.lemmas.List.Folds.{list_any-append}
+use Rattle.xa_base.proofs.{◌≡◌, ◌≢◌, ℕ, zero, suc, ◌<◌, ◌≤◌, Bool, true, false, cond, ◌||◌, ◌==◌, List, [], ◌∷◌, ◌++◌, length, map, filter, sym, refl, ap, ◌∙◌}
+use Rattle.xa_base.proofs.{subst, arith, eq-eqb, Some, ⊎_elim, slice_get, All, list_any, range_with_len, cases_lt, ne_eqb, or_parts, All-nil, All-cons}
+use Rattle.xa_base.proofs.{All-head, All-tail, All-append, All-map, list_any-append, all_at, all_from, all_unmapped, flat_one, some_same}
 use Rattle.std.proofs.lemmas.Simd.{map-map as map_map}
-use Rattle.xa_base.proofs.Lists.{all_at, all_from, all_unmapped, flat_one, some_same}
-use Rattle.xa_words.specs.declared.code.Code.TheVariants.{Done}
-use Rattle.xa_words.specs.declared.request.Op.{Op}
-use Rattle.xa_desk.specs.declared.operation.Operation.{Operation}
+use Rattle.xa_words.specs.{Done, Op}
+use Rattle.xa_desk.specs.{Operation, IsKnown, ledger}
 use Rattle.xa_desk.specs.LedgerView.{LedgerView}
-use Rattle.xa_desk.specs.DeskView.{DeskView, IsKnown, ledger}
-use Rattle.xa_driver.specs.declared.branch.Branch.{Branch}
-use Rattle.xa_driver.specs.Trace.{AreBranchesRising, HaveRoom, has_branch_at}
-use Rattle.xa_work.specs.declared.in_flight.Flight.{Flight}
-use Rattle.xa_work.specs.declared.unit.Change.{Change}
-use Rattle.xa_work.specs.Works.{Got, HasWorked, HaveWorked, Put, Tries, TriesInFlight, in_flight, in_turn, ops_of, requests_at, requests_of}
+use Rattle.xa_desk.specs.DeskView.{DeskView}
+use Rattle.xa_driver.specs.{Branch, AreBranchesRising, HaveRoom, has_branch_at}
+use Rattle.xa_work.specs.{Flight, Change, Got, HasWorked, HaveWorked, Put, Tries, TriesInFlight, in_flight, in_turn, ops_of, requests_at, requests_of}
 use Rattle.xa_work.specs.Works.CallsBranches.{completed, stopped}
 use Rattle.xa_work.proofs.Worked.{AreTaken, Flights, IsKey, all_collected, all_kept, all_true, branches_called, gots_taken, key_of, known_on}
 use Rattle.xa_work.proofs.Flown.{Flown, all_flown, all_got, got_all, got_collected, got_sent, numbers_at, ops_to, sent_collected, sent_sent, to_manager}

@@ -1,32 +1,18 @@
 -- What a commit sent: one that was made, one that came to no decision, or one whose coordinator died.
-use Rattle.std.proofs.Common.{◌≡◌, ◌≤◌, ℕ, zero, suc, Bool, true, false, ◌||◌, ◌==◌, Option, Some, None, List, [], ◌∷◌, map, refl, sym, ◌∙◌, subst}
-use Rattle.std.specs.List.{All}
-use Rattle.std.proofs.lemmas.Bool.{eqb-true}
-use Rattle.std.proofs.lemmas.List.Elements.{All-nil, All-cons, All-head, All-tail}
-use Rattle.xa_base.proofs.Lists.{same_begins, some_same}
-use Rattle.xa_words.specs.Tran.{TranName}
+use Rattle.xa_base.proofs.{◌≡◌, ◌≤◌, ℕ, zero, suc, Bool, true, false, ◌||◌, ◌==◌, Option, Some, None, List, [], ◌∷◌, map, refl, sym, ◌∙◌, subst, All, eqb-true}
+use Rattle.xa_base.proofs.{All-nil, All-cons, All-head, All-tail, same_begins, some_same}
+use Rattle.xa_words.specs.{TranName, Death, Op, Prepare}
 use Rattle.xa_words.specs.declared.code.Code.{Code}
-use Rattle.xa_words.specs.declared.death.Death.{Death}
 use Rattle.xa_words.specs.declared.death.Death.TheVariants as death
-use Rattle.xa_words.specs.declared.request.Op.{Op}
-use Rattle.xa_words.specs.declared.request.Op.TheVariants.{Prepare}
 use Rattle.xa_desk.specs.LedgerView.{LedgerView}
-use Rattle.xa_desk.specs.DeskView.{DeskView, ledger}
-use Rattle.xa_driver.specs.declared.branch.Branch.{Branch}
-use Rattle.xa_driver.specs.declared.done.Done.{Done}
-use Rattle.xa_driver.specs.declared.done.Ending.{Ending}
-use Rattle.xa_driver.specs.Asks.{Ask, EachAsk, SameAsks}
-use Rattle.xa_driver.specs.Course.{AsksFor, AtBranch}
-use Rattle.xa_driver.specs.Deaths.{CameTo, HaveAsked, HaveTold, PutsLedger, Tells, VotesAndObeys, sent, to_come, withheld}
-use Rattle.xa_driver.specs.Endings.{second_op, third_op}
-use Rattle.xa_log.specs.Log.{LogState}
-use Rattle.xa_driver.specs.Resolving.{AsksLedger}
-use Rattle.xa_driver.specs.Rounds.{first_ask}
-use Rattle.xa_driver.specs.Stages.{HasVoted}
-use Rattle.xa_driver.specs.Trace.{EachBranch, IsTraceOfCommit, has_branch_at}
+use Rattle.xa_desk.specs.DeskView.{DeskView}
+use Rattle.xa_desk.specs.{ledger}
+use Rattle.xa_driver.specs.{Branch, Done, Ending, Ask, EachAsk, SameAsks, AsksFor, AtBranch, CameTo, HaveAsked, HaveTold, PutsLedger, Tells, VotesAndObeys}
+use Rattle.xa_driver.specs.{to_come, withheld, second_op, third_op, AsksLedger, first_ask, HasVoted, EachBranch, IsTraceOfCommit, has_branch_at}
+use Rattle.xa_driver.specs.Deaths.{sent}
+use Rattle.xa_log.specs.{LogState}
 use Rattle.xa_driver.proofs.Calls.{among_first}
-use Rattle.xa_work.specs.Sent.{HasSent, HaveSent}
-use Rattle.xa_work.specs.Units.{IsDeath}
+use Rattle.xa_work.specs.{HasSent, HaveSent, IsDeath}
 use Rattle.xa_work.proofs.Sent.{none_sent, sent_on, asked_sent}
 
 -- ---- one request

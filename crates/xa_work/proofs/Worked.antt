@@ -1,30 +1,22 @@
 -- The work for branches that was all done: what it sent to each manager, and what was collected.
-use Rattle.std.proofs.Common.{◌≡◌, ◌≢◌, ℕ, zero, suc, ◌+◌, ◌-◌, ◌<◌, ◌≤◌, Bool, true, false, ◌||◌, ◌==◌, ℤ, pos, negsuc, List, [], ◌∷◌, ◌++◌, length, map}
-use Rattle.std.proofs.Common.{length-append, append_assoc, sym, refl, ap, ◌∙◌, subst, arith, eq-eqb, Some, None}
+use Rattle.xa_base.proofs.{◌≡◌, ◌≢◌, ℕ, zero, suc, ◌+◌, ◌-◌, ◌<◌, ◌≤◌, Bool, true, false, ◌||◌, ◌==◌, ℤ, pos, List, [], ◌∷◌, ◌++◌, length, map, length-append}
+use Rattle.xa_base.proofs.{append_assoc, sym, refl, ap, ◌∙◌, subst, arith, eq-eqb, Some, None, get_or, All, list_all, range_with_len, nat_cmp, and_parts}
+use Rattle.xa_base.proofs.{ne_eqb, or_parts, append-nil, length-set, map-append, All-nil, All-cons, All-head, All-push, All-tail, All-weaker, all_left}
+use Rattle.xa_base.proofs.{all_right, inserted_there, inserted_other, removed_other, not_both}
+use Rattle.std.proofs.Common.{negsuc}
 use Rattle.std.specs.FinMap as finmap
-use Rattle.std.specs.Prelude.{get_or}
-use Rattle.std.specs.List.{All, list_all, range_with_len}
-use Rattle.std.specs.Ordering.{nat_cmp}
-use Rattle.std.proofs.lemmas.Bool.{and_parts, ne_eqb, or_parts}
-use Rattle.std.proofs.lemmas.List.{append-nil, length-set, map-append}
-use Rattle.std.proofs.lemmas.List.Elements.{All-nil, All-cons, All-head, All-push, All-tail, All-weaker}
-use Rattle.xa_base.specs.Lists.{Chain}
+use Rattle.xa_base.specs.{Chain}
 use Rattle.xa_base.specs.Lists.Chain.{none, more}
-use Rattle.xa_base.proofs.Lists.{all_left, all_right}
-use Rattle.xa_base.proofs.Maps.{inserted_there, inserted_other, removed_other}
-use Rattle.xa_base.proofs.Options.{not_both}
 use Rattle.xa_words.specs.declared.code.Code.{Code}
-use Rattle.xa_words.specs.declared.code.Code.TheVariants.{Done}
-use Rattle.xa_words.specs.declared.request.Op.{Op}
-use Rattle.xa_desk.specs.declared.operation.Operation.{Operation}
-use Rattle.xa_desk.specs.LedgerView.{LedgerView, with_sent, with_collected}
-use Rattle.xa_desk.specs.DeskView.{DeskView, IsKnown, ledger, put_ledger, after_sent, after_collected}
+use Rattle.xa_words.specs.{Done, Op}
+use Rattle.xa_desk.specs.{Operation, with_sent, with_collected, IsKnown, ledger, put_ledger, after_sent, after_collected}
+use Rattle.xa_desk.specs.LedgerView.{LedgerView}
+use Rattle.xa_desk.specs.DeskView.{DeskView}
 use Rattle.xa_desk.proofs.Ledgers.{ledger-put_same, ledger-put_other}
-use Rattle.xa_driver.specs.declared.branch.Branch.{Branch}
-use Rattle.xa_driver.specs.Trace.{AreBranchesRising, has_branch_at}
-use Rattle.xa_work.specs.declared.unit.Change.{Change}
-use Rattle.xa_work.specs.Requests.{IsPut, PutsOp, IsCollected, CallsOp, CollectsOp, after_called, done, undone, nothing}
-use Rattle.xa_work.specs.Works.{Called, CallsBranch, Got, HasWorked, HaveWorked, ops_of}
+use Rattle.xa_driver.specs.{Branch, AreBranchesRising, has_branch_at}
+use Rattle.xa_work.specs.{Change, IsPut, PutsOp, IsCollected, CallsOp, CollectsOp, after_called, done, nothing, Called, CallsBranch, Got, HasWorked, HaveWorked}
+use Rattle.xa_work.specs.{ops_of}
+use Rattle.xa_work.specs.Requests.{undone}
 use Rattle.xa_work.proofs.Called.{is_called}
 
 pub all_true : {X : Type 0} (p : X → Bool) (xs : List X) → list_all p xs ≡ true → All (λ x. p x ≡ true) xs

@@ -1,6 +1,6 @@
 use Rattle.xa_shown.proofs.Alone.{left_alone}
 use Rattle.xa_shown.proofs.Outcomes.{shown_so, counts_so}
-use Rattle.xa_telling.specs.ToldOpenings.{part_at}
+use Rattle.xa_telling.specs.{part_at}
 use Rattle.xa_shown.proofs.Placed.{places}
 use Rattle.xa_shown.proofs.branches_are_as_shown.Goals as goal
 

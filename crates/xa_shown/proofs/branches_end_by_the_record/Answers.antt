@@ -1,7 +1,7 @@
 use Rattle.xa_shown.proofs.Alone.{left_alone}
 use Rattle.xa_shown.proofs.Placed.{places}
 use Rattle.xa_shown.proofs.Stopped.{place_decided, place_stopped, place_undecided, place_undecided_unless}
-use Rattle.xa_telling.specs.ToldOpenings.{part_at}
+use Rattle.xa_telling.specs.{part_at}
 use Rattle.xa_shown.proofs.branches_end_by_the_record.Goals as goal
 
 pub returns-clause-decisions : goal.returns-clause-decisions

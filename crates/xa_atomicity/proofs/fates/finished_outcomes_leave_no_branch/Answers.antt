@@ -1,5 +1,5 @@
-use Rattle.std.proofs.lemmas.List.Elements.{All-contains}
-use Rattle.xa_atomicity.specs.Resolution.{TellsTheOutcome}
+use Rattle.xa_base.proofs.{All-contains}
+use Rattle.xa_atomicity.specs.{TellsTheOutcome}
 use Rattle.xa_atomicity.proofs.OutcomeFates.{outcomes_law}
 use Rattle.xa_atomicity.proofs.Gone.{gone_finished}
 use Rattle.xa_atomicity.proofs.fates.finished_outcomes_leave_no_branch.Goals as goal

@@ -1,7 +1,6 @@
-use Rattle.std.proofs.lemmas.List.Elements.{All-nil}
-use Rattle.std.proofs.Common.{◌≡◌, []}
-use Rattle.xa_log.specs.Log.{record_in, record_of}
-use Rattle.xa_atomicity.specs.Resolution.{IsByItsThread, IsUseIn, commits, resolves}
+use Rattle.xa_base.proofs.{All-nil, ◌≡◌, []}
+use Rattle.xa_log.specs.{record_in, record_of}
+use Rattle.xa_atomicity.specs.{IsByItsThread, IsUseIn, commits, resolves}
 use Rattle.xa_atomicity.proofs.NextOpening.{next_follows, next_resolved_after, one_of}
 use Rattle.xa_atomicity.proofs.resolved.next_openings_resolve.Goals as goal
 

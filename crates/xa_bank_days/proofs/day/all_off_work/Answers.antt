@@ -1,12 +1,8 @@
-use Rattle.std.proofs.Common.{rules, ◌≡◌, ℕ, ◌+◌, Bool, List, [], ◌∷◌, ◌++◌, length, length-append, map, append_assoc, append-nil, sym, ap, ◌∙◌, subst, arith}
-use Rattle.std.proofs.lemmas.List.{length-map, map-append}
-use Rattle.std.specs.Vec.Iter.{into_iter_items, into_iter_len}
-use Rattle.xa_base.proofs.Lists.{none_of}
-use Rattle.xa_crew.specs.declared.again.WithScan.{WithScan}
-use Rattle.xa_crew.specs.declared.client_job.Attended.{Attended}
-use Rattle.xa_bank.specs.declared.teller.Teller.{Teller}
-use Rattle.xa_bank.specs.Tellers.{ReadsBack}
-use Rattle.xa_bank_days.specs.Days.{ForEach}
+use Rattle.xa_base.proofs.{rules, ◌≡◌, ℕ, ◌+◌, Bool, List, [], ◌∷◌, ◌++◌, length, length-append, map, append_assoc, append-nil, sym, ap, ◌∙◌, subst, arith}
+use Rattle.xa_base.proofs.{length-map, map-append, into_iter_items, into_iter_len, none_of}
+use Rattle.xa_crew.specs.{WithScan, Attended}
+use Rattle.xa_bank.specs.{Teller, ReadsBack}
+use Rattle.xa_bank_days.specs.{ForEach}
 use Rattle.xa_bank_days.proofs.Back.{one_back_more}
 use Rattle.xa_bank_days.proofs.Turned.{one_fewer}
 use Rattle.xa_bank_days.proofs.day.all_off_work.Goals as goal

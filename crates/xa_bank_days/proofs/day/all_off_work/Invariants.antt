@@ -1,7 +1,6 @@
-use Rattle.std.proofs.Common.{◌≡◌, ◌++◌, map, length, vec_capacity}
-use Rattle.std.specs.Vec.Iter.{into_iter_items, into_iter_len}
-use Rattle.xa_bank.specs.Tellers.{ReadsBack}
-use Rattle.xa_bank_days.specs.Days.{ForEach}
+use Rattle.xa_base.proofs.{◌≡◌, ◌++◌, map, length, vec_capacity, into_iter_items, into_iter_len}
+use Rattle.xa_bank.specs.{ReadsBack}
+use Rattle.xa_bank_days.specs.{ForEach}
 use Rattle.xa_bank_days.proofs.day.all_off_work.Given as goal
 
 -- the first tellers are off work

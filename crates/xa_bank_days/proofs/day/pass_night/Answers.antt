@@ -1,13 +1,10 @@
-use Rattle.std.specs.Prelude.{Err, IfErr, IfOk, Ok, Result}
-use Rattle.std.proofs.Common.{◌≡◌, Bool, true, false, if◌then◌else◌, sym, ap, ◌∙◌, refl, subst}
-use Rattle.std.specs.List.{All}
+use Rattle.xa_base.proofs.{Err, IfOk, Ok, Result, ◌≡◌, Bool, true, false, if◌then◌else◌, sym, ap, ◌∙◌, refl, subst, All}
+use Rattle.std.specs.Prelude.{IfErr}
 use Rattle.xa_switch.specs.declared.plan.Again.{Again}
-use Rattle.xa_switch.specs.Again.{MayReopen}
-use Rattle.xa_driver.specs.declared.resolved.Resolved.{Resolved}
-use Rattle.xa_bank_days.specs.declared.night.Unresolved.{Unresolved}
-use Rattle.xa_bank_days.specs.declared.night.Unresolved.TheVariants.{BadNumbers, NoMemory, NoRoom, TellerWantsMemory, UnknownLog}
-use Rattle.xa_bank_days.specs.Banks.{next_numbers}
-use Rattle.xa_bank_days.specs.Nights.{Excuses, HasRoomToResolve, IsNight, IsUnsettledNight, IsUntouched, unopened}
+use Rattle.xa_switch.specs.{MayReopen}
+use Rattle.xa_driver.specs.{Resolved}
+use Rattle.xa_bank_days.specs.{Unresolved, BadNumbers, NoMemory, NoRoom, TellerWantsMemory, UnknownLog, next_numbers, Excuses, HasRoomToResolve, IsNight}
+use Rattle.xa_bank_days.specs.{IsUnsettledNight, IsUntouched, unopened}
 use Rattle.xa_bank_days.proofs.DayWorked.{same_stores}
 use Rattle.xa_bank_days.proofs.ManyDays.{if_ok}
 use Rattle.xa_bank_days.proofs.day.pass_night.Goals as goal

@@ -1,12 +1,8 @@
 use Rattle.std.specs.Prelude.{IsTrue}
-use Rattle.std.proofs.Common.{◌≡◌, true, false, List, Vec, [], ◌∷◌, ◌++◌, append_assoc, append-nil, sym, ap, ◌∙◌, subst, rules, arith, refl}
+use Rattle.xa_base.proofs.{◌≡◌, true, false, List, Vec, [], ◌∷◌, ◌++◌, append_assoc, append-nil, sym, ap, ◌∙◌, subst, rules, arith, refl, Global}
+use Rattle.xa_base.proofs.{into_iter_items, into_iter_len, none_of}
 use Rattle.std.proofs.lemmas.Grind.{common_steps}
-use Rattle.std.specs.Global.{Global}
-use Rattle.std.specs.Vec.Iter.{into_iter_items, into_iter_len}
-use Rattle.xa_base.proofs.Lists.{none_of}
-use Rattle.xa_bank_days.specs.declared.day.Closed.{Closed}
-use Rattle.xa_bank_days.specs.declared.errands.Errands.{Errands}
-use Rattle.xa_bank_days.specs.Banks.{early, whole, at_day, at_once, AreClosed}
+use Rattle.xa_bank_days.specs.{Closed, Errands, early, whole, at_day, at_once, AreClosed}
 use Rattle.xa_bank_days.proofs.ManyDays.{closed_day, one_day_more}
 use Rattle.xa_bank_days.proofs.Turned.{one_fewer}
 use Rattle.xa_bank_days.proofs.days.close_days.Goals as goal

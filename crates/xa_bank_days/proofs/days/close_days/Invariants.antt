@@ -1,6 +1,5 @@
-use Rattle.std.proofs.Common.{◌≡◌, ◌++◌, length, vec_capacity}
-use Rattle.std.specs.Vec.Iter.{into_iter_items, into_iter_len}
-use Rattle.xa_bank_days.specs.Banks.{AreClosed}
+use Rattle.xa_base.proofs.{◌≡◌, ◌++◌, length, vec_capacity, into_iter_items, into_iter_len}
+use Rattle.xa_bank_days.specs.{AreClosed}
 use Rattle.xa_bank_days.proofs.days.close_days.Given as goal
 
 -- the first days were closed

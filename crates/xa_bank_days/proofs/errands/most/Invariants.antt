@@ -1,6 +1,5 @@
-use Rattle.std.proofs.Common.{ℕ, ◌<◌, ◌≤◌, get_or, length}
-use Rattle.std.specs.List.{All}
-use Rattle.xa_bank_days.specs.declared.errands.Errands.{Errands}
+use Rattle.xa_base.proofs.{ℕ, ◌<◌, ◌≤◌, get_or, length, All}
+use Rattle.xa_bank_days.specs.{Errands}
 use Rattle.xa_bank_days.proofs.errands.most.Given as goal
 
 -- none of the first has more, and what none has more than is no less

@@ -1,12 +1,8 @@
-use Rattle.std.proofs.Common.{◌≡◌, ℕ, ◌+◌, List, [], ◌∷◌, ◌++◌, length, length-append, map, append_assoc, append-nil, sym, ap, ◌∙◌, subst, rules, arith}
-use Rattle.std.specs.List.{All}
-use Rattle.std.proofs.lemmas.List.Elements.{All-nil, All-cons, All-append}
-use Rattle.std.specs.Vec.Iter.{into_iter_items, into_iter_len}
+use Rattle.xa_base.proofs.{◌≡◌, ℕ, ◌+◌, List, [], ◌∷◌, ◌++◌, length, length-append, map, append_assoc, append-nil, sym, ap, ◌∙◌, subst, rules, arith, All}
+use Rattle.xa_base.proofs.{All-nil, All-cons, All-append, into_iter_items, into_iter_len, none_of}
 use Rattle.std.proofs.lemmas.Grind.{common_steps}
-use Rattle.xa_base.proofs.Lists.{none_of}
-use Rattle.xa_bank.specs.declared.teller.Teller.{Teller}
-use Rattle.xa_bank_days.specs.declared.errands.Errands.{Errands}
-use Rattle.xa_bank_days.specs.Banks.{habits_on}
+use Rattle.xa_bank.specs.{Teller}
+use Rattle.xa_bank_days.specs.{Errands, habits_on}
 use Rattle.xa_bank_days.proofs.Turned.{moved_map, one_fewer, pushed_map}
 use Rattle.xa_bank_days.proofs.errands.turn_all.Goals as goal
 

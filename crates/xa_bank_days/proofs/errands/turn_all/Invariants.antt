@@ -1,7 +1,5 @@
-use Rattle.std.proofs.Common.{◌≡◌, ◌+◌, [], ◌++◌, map, length, vec_capacity}
-use Rattle.std.specs.List.{All}
-use Rattle.std.specs.Vec.Iter.{into_iter_items, into_iter_len}
-use Rattle.xa_bank_days.specs.Banks.{habits_on}
+use Rattle.xa_base.proofs.{◌≡◌, ◌+◌, [], ◌++◌, map, length, vec_capacity, All, into_iter_items, into_iter_len}
+use Rattle.xa_bank_days.specs.{habits_on}
 use Rattle.xa_bank_days.proofs.errands.turn_all.Given as goal
 
 -- the first tellers are turned to the first errands

@@ -1,5 +1,5 @@
-use Rattle.std.proofs.Common.{sym, subst}
-use Rattle.xa_base.specs.Lists.{IsUpTo}
+use Rattle.xa_base.proofs.{sym, subst}
+use Rattle.xa_base.specs.{IsUpTo}
 use Rattle.xa_bank_days.proofs.Conserved.{conserved}
 use Rattle.xa_bank_days.proofs.law.applied_transfers_conserve_the_worth.Goals as goal
 

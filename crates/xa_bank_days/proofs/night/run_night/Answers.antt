@@ -1,15 +1,8 @@
-use Rattle.std.specs.Prelude.{Err, IfErr, IfOk, Result}
-use Rattle.std.proofs.Common.{◌≡◌, List, [], ◌∷◌, ◌++◌, subst, sym, ap, ◌∙◌, refl}
-use Rattle.std.specs.List.{All}
-use Rattle.xa_crew.specs.declared.again.AgainFault.{AgainFault}
-use Rattle.xa_crew.specs.declared.again.AgainFault.TheVariants.{Unsettled}
-use Rattle.xa_crew.specs.declared.again.WithScan.{WithScan}
-use Rattle.xa_crew.specs.declared.run.Ran.{Ran}
-use Rattle.xa_crew.specs.Again.{HasRunAgain, IfUnsettled, IsRunAgain}
-use Rattle.xa_switch.specs.Again.{MayReopen}
-use Rattle.xa_bank_days.specs.declared.night.Resolver.{Resolver}
-use Rattle.xa_bank_days.specs.declared.night.Unresolved.TheVariants.{NoMemory}
-use Rattle.xa_bank_days.specs.Nights.{Excuses, HasRoomToResolve, IsNight, ResolvesBy}
+use Rattle.xa_base.proofs.{Err, IfOk, Result, ◌≡◌, List, [], ◌∷◌, ◌++◌, subst, sym, ap, ◌∙◌, refl, All}
+use Rattle.std.specs.Prelude.{IfErr}
+use Rattle.xa_crew.specs.{AgainFault, Unsettled, WithScan, Ran, HasRunAgain, IfUnsettled, IsRunAgain}
+use Rattle.xa_switch.specs.{MayReopen}
+use Rattle.xa_bank_days.specs.{Resolver, NoMemory, Excuses, HasRoomToResolve, IsNight, ResolvesBy}
 use Rattle.xa_bank_days.proofs.Nightly.{left_law, night_law, tellers_law, untouched_law}
 use Rattle.xa_bank_days.proofs.night.run_night.Goals as goal
 

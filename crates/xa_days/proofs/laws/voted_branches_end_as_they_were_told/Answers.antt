@@ -1,4 +1,4 @@
-use Rattle.std.proofs.Common.{[]}
+use Rattle.xa_base.proofs.{[]}
 use Rattle.xa_days.proofs.Course.{undecided_law, ended_law}
 use Rattle.xa_days.proofs.laws.voted_branches_end_as_they_were_told.Goals as goal
 

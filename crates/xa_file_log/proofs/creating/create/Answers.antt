@@ -1,8 +1,8 @@
-use Rattle.std.proofs.Common.{◌≡◌, inl, ℕ, true, eqb, List, [], length, vec_len, sym, ◌∙◌, ap, subst, arith}
+use Rattle.xa_base.proofs.{◌≡◌, inl, ℕ, true, List, [], length, sym, ◌∙◌, ap, subst, arith}
+use Rattle.std.proofs.Common.{eqb, vec_len}
 use Rattle.std.proofs.lemmas.Bool.Decides.{Decides-eqb}
 use Rattle.std.proofs.lemmas.List.{nil_from_length}
-use Rattle.xa_file_log.specs.Slots.{StandsFor, IsNewLog, free_slots}
-use Rattle.xa_file_log.specs.Memory.{table_of}
+use Rattle.xa_file_log.specs.{StandsFor, IsNewLog, free_slots, table_of}
 use Rattle.xa_file_log.proofs.Anew.{if_ok_at}
 use Rattle.xa_file_log.proofs.Moments.{started, goes_on, joined}
 use Rattle.xa_file_log.proofs.NewLogs.{short_file}

@@ -1,6 +1,5 @@
-use Rattle.std.proofs.Common.{◌≡◌, ℕ, List, [], ◌∷◌, sym, ◌∙◌, ap, subst}
-use Rattle.xa_file_log.specs.Device.{IsOverwritten, LeavesOnly, overwritten}
-use Rattle.xa_file_log.specs.Slots.{StandsFor, free_slots}
+use Rattle.xa_base.proofs.{◌≡◌, ℕ, List, [], ◌∷◌, sym, ◌∙◌, ap, subst}
+use Rattle.xa_file_log.specs.{IsOverwritten, LeavesOnly, overwritten, StandsFor, free_slots}
 use Rattle.xa_file_log.proofs.Making.{up_to_rest, rest_unsynced, head_put}
 use Rattle.xa_file_log.proofs.NewLogs.{rest_done, new_stands}
 use Rattle.xa_file_log.proofs.creating.write_new.Goals as goal

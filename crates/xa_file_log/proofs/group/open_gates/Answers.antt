@@ -1,14 +1,9 @@
-use Rattle.std.proofs.Common.{◌≡◌, ℕ, ◌+◌, ◌<◌, ◌≤◌, List, length, get_or, sym, ◌∙◌, subst, arith}
-use Rattle.std.proofs.lemmas.List.{get_or_default, drop_all}
-use Rattle.xa_file_log.specs.declared.slot.Slot.TheVariants.{Free}
-use Rattle.xa_file_log.specs.Device.{LeavesOnly}
-use Rattle.xa_file_log.specs.Slots.{StandsFor}
-use Rattle.xa_file_log.specs.Memory.{MayShow, HasBodies, coming, table_of}
+use Rattle.xa_base.proofs.{◌≡◌, ℕ, ◌+◌, ◌<◌, ◌≤◌, List, length, get_or, sym, ◌∙◌, subst, arith, get_or_default, drop_all}
+use Rattle.xa_file_log.specs.{Free, LeavesOnly, StandsFor, MayShow, HasBodies, coming, table_of}
 use Rattle.xa_file_log.proofs.Mapped.{slot_read}
 use Rattle.xa_file_log.proofs.Moments.{started, goes_on}
 use Rattle.xa_file_log.proofs.Placed.{IsOnTheWay, IsOpenBelow, MayCome, way_from, way_passes, way_takes, way_new, way_done, element_at, none_open, may_come}
-use Rattle.xa_file_log.proofs.Placed.{open_passes}
-use Rattle.xa_file_log.proofs.Placed.{all_open, gate_open, torn_comes}
+use Rattle.xa_file_log.proofs.Placed.{open_passes, all_open, gate_open, torn_comes}
 use Rattle.xa_file_log.proofs.group.open_gates.Goals as goal
 use Rattle.xa_file_log.proofs.group.open_gates.Goals.{in-Free+in_ok-write_at, in_default}
 

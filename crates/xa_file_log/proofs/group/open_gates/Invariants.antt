@@ -1,6 +1,5 @@
-use Rattle.std.proofs.Common.{ℕ, ◌≤◌, List}
-use Rattle.xa_file_log.specs.Device.{LeavesOnly}
-use Rattle.xa_file_log.specs.Memory.{MayShow, coming}
+use Rattle.xa_base.proofs.{ℕ, ◌≤◌, List}
+use Rattle.xa_file_log.specs.{LeavesOnly, MayShow, coming}
 use Rattle.xa_file_log.proofs.Placed.{IsOnTheWay, IsOpenBelow, MayCome}
 use Rattle.xa_file_log.proofs.group.open_gates.Given as goal
 

@@ -1,9 +1,5 @@
-use Rattle.std.proofs.Common.{◌≡◌, ℕ, ◌+◌, ◌*◌, ◌<◌, ◌≤◌, List, length, get_or, sym, ◌∙◌, subst, arith}
-use Rattle.std.proofs.lemmas.List.{get_or_default, drop_all, length-map}
-use Rattle.xa_file_log.specs.declared.slot.Slot.TheVariants.{Free}
-use Rattle.xa_file_log.specs.Device.{LeavesOnly}
-use Rattle.xa_file_log.specs.Slots.{StandsFor}
-use Rattle.xa_file_log.specs.Memory.{on_file, table_of}
+use Rattle.xa_base.proofs.{◌≡◌, ℕ, ◌+◌, ◌*◌, ◌<◌, ◌≤◌, List, length, get_or, sym, ◌∙◌, subst, arith, get_or_default, drop_all, length-map}
+use Rattle.xa_file_log.specs.{Free, LeavesOnly, StandsFor, on_file, table_of}
 use Rattle.xa_file_log.proofs.Mapped.{slot_read}
 use Rattle.xa_file_log.proofs.Moments.{started, goes_on}
 use Rattle.xa_file_log.proofs.Placed.{IsOnTheWay, HasBodiesBelow, way_from, way_passes, way_takes, way_new, way_done, no_bodies, bodies_pass, all_bodies}

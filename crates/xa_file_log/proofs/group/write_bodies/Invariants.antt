@@ -1,7 +1,5 @@
-use Rattle.std.proofs.Common.{ℕ, ◌≤◌, List}
-use Rattle.xa_file_log.specs.Device.{LeavesOnly}
-use Rattle.xa_file_log.specs.Slots.{StandsFor}
-use Rattle.xa_file_log.specs.Memory.{table_of}
+use Rattle.xa_base.proofs.{ℕ, ◌≤◌, List}
+use Rattle.xa_file_log.specs.{LeavesOnly, StandsFor, table_of}
 use Rattle.xa_file_log.proofs.Placed.{IsOnTheWay, HasBodiesBelow}
 use Rattle.xa_file_log.proofs.group.write_bodies.Given as goal
 

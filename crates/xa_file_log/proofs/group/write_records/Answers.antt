@@ -1,6 +1,5 @@
-use Rattle.std.proofs.Common.{sym, subst}
-use Rattle.xa_file_log.specs.Slots.{StandsFor}
-use Rattle.xa_file_log.specs.Memory.{MayShow, table_of, placed, coming}
+use Rattle.xa_base.proofs.{sym, subst}
+use Rattle.xa_file_log.specs.{StandsFor, MayShow, table_of, placed, coming}
 use Rattle.xa_file_log.proofs.Moments.{goes_on, weaker, joined}
 use Rattle.xa_file_log.proofs.Placed.{stands_shown_coming, placed_shown}
 use Rattle.xa_file_log.proofs.group.write_records.Goals as goal

@@ -1,6 +1,6 @@
-use Rattle.std.proofs.Common.{ℕ, ◌<◌, get_or}
-use Rattle.xa_log.specs.declared.log.CommitRecord.{CommitRecord}
-use Rattle.xa_file_log.specs.Spelling.{IsValid}
+use Rattle.xa_base.proofs.{ℕ, ◌<◌, get_or}
+use Rattle.xa_log.specs.{CommitRecord}
+use Rattle.xa_file_log.specs.{IsValid}
 use Rattle.xa_file_log.proofs.group_log.are_valid.Given as goal
 
 abbrev pub invariant-loop-decision : goal.invariant-loop-decision

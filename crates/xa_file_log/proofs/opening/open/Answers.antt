@@ -1,6 +1,5 @@
-use Rattle.std.proofs.Common.{◌≡◌, ℕ, List, sym, ◌∙◌, ap, subst, rules}
-use Rattle.xa_file_log.specs.Slots.{StandsFor, IsNoLog, records_of}
-use Rattle.xa_file_log.specs.Memory.{table_of}
+use Rattle.xa_base.proofs.{◌≡◌, ℕ, List, sym, ◌∙◌, ap, subst, rules}
+use Rattle.xa_file_log.specs.{StandsFor, IsNoLog, records_of, table_of}
 use Rattle.xa_file_log.proofs.OneTable.{one_content}
 use Rattle.xa_file_log.proofs.Shown.{stands_shown}
 use Rattle.xa_file_log.proofs.Slotwise.{all_count}

@@ -1,7 +1,5 @@
-use Rattle.std.proofs.Common.{◌≡◌, ◌-◌, false, Option, None, Some, length, drop, sym, ◌∙◌, ap, arith, refl, length-drop}
-use Rattle.std.specs.Prelude.{is_some}
-use Rattle.std.proofs.lemmas.List.{take_all}
-use Rattle.xa_log.specs.declared.log.CommitRecord.{CommitRecord}
+use Rattle.xa_base.proofs.{◌≡◌, ◌-◌, false, Option, None, Some, length, drop, sym, ◌∙◌, ap, arith, refl, length-drop, is_some, take_all}
+use Rattle.xa_log.specs.{CommitRecord}
 use Rattle.xa_file_log.proofs.Spelled.{no_body, no_gate}
 use Rattle.xa_file_log.proofs.opening.read_slot.Goals as goal
 

@@ -1,7 +1,5 @@
-use Rattle.std.proofs.Common.{◌+◌, None, Some, sym, ◌∙◌, ap, subst}
-use Rattle.xa_file_log.specs.declared.slot_table.SlotTable.{SlotTable}
-use Rattle.xa_file_log.specs.Slots.{IsSlotOf}
-use Rattle.xa_file_log.specs.Memory.{HasName}
+use Rattle.xa_base.proofs.{◌+◌, None, Some, sym, ◌∙◌, ap, subst}
+use Rattle.xa_file_log.specs.{SlotTable, IsSlotOf, HasName}
 use Rattle.xa_file_log.proofs.Reading.{IsRead, none_read, free_read, taken_read, all_read, some_of, twice_named}
 use Rattle.xa_file_log.proofs.opening.read_slots.Goals as goal
 use Rattle.xa_file_log.proofs.opening.read_slots.Goals.{in-Some-found+else-is_some, in_default-found}

@@ -1,10 +1,6 @@
-use Rattle.std.proofs.Common.{ℕ, ◌+◌, ◌≤◌, List, map, sym, ◌∙◌, subst, arith}
-use Rattle.std.proofs.lemmas.List.{get_or_default}
-use Rattle.xa_log.specs.declared.log.CommitRecord.{CommitRecord}
-use Rattle.xa_file_log.specs.declared.slot.Slot.TheVariants.{Free, Forgotten}
-use Rattle.xa_file_log.specs.Device.{LeavesOnly, Only}
-use Rattle.xa_file_log.specs.Slots.{StandsFor}
-use Rattle.xa_file_log.specs.Memory.{MayShow, taken}
+use Rattle.xa_base.proofs.{ℕ, ◌+◌, ◌≤◌, List, map, sym, ◌∙◌, subst, arith, get_or_default}
+use Rattle.xa_log.specs.{CommitRecord}
+use Rattle.xa_file_log.specs.{Free, Forgotten, LeavesOnly, Only, StandsFor, MayShow, taken}
 use Rattle.xa_file_log.proofs.Moments.{goes_on}
 use Rattle.xa_file_log.proofs.Gates.{IsShutBelow, all_shut, passed, one_shut, torn_shown, not_forgotten, below_shown}
 use Rattle.xa_file_log.proofs.Mapped.{slot_read}

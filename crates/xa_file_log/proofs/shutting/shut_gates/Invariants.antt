@@ -1,6 +1,5 @@
-use Rattle.std.proofs.Common.{◌≡◌, ℕ, ◌≤◌, true, List}
-use Rattle.xa_file_log.specs.Device.{LeavesOnly}
-use Rattle.xa_file_log.specs.Memory.{MayShow}
+use Rattle.xa_base.proofs.{◌≡◌, ℕ, ◌≤◌, true, List}
+use Rattle.xa_file_log.specs.{LeavesOnly, MayShow}
 use Rattle.xa_file_log.proofs.Gates.{IsShutBelow}
 use Rattle.xa_file_log.proofs.shutting.shut_gates.Given as goal
 

@@ -1,6 +1,6 @@
-use Rattle.std.proofs.Common.{◌<◌, not, length, set, ap, sym, ◌∙◌, refl, arith}
-use Rattle.xa_log.specs.Log.{is_among}
-use Rattle.xa_file_log.specs.Memory.{forgets}
+use Rattle.xa_base.proofs.{◌<◌, not, length, set, ap, sym, ◌∙◌, refl, arith}
+use Rattle.xa_log.specs.{is_among}
+use Rattle.xa_file_log.specs.{forgets}
 use Rattle.xa_file_log.proofs.Mapped.{slot_indexed, none_mapped, one_mapped, all_mapped}
 use Rattle.xa_file_log.proofs.slot_table.forget_others.Goals as goal
 

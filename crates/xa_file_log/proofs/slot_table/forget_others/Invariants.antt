@@ -1,6 +1,6 @@
-use Rattle.std.proofs.Common.{not}
-use Rattle.xa_log.specs.Log.{is_among}
-use Rattle.xa_file_log.specs.Memory.{forgets}
+use Rattle.xa_base.proofs.{not}
+use Rattle.xa_log.specs.{is_among}
+use Rattle.xa_file_log.specs.{forgets}
 use Rattle.xa_file_log.proofs.Mapped.{MapsBelow}
 use Rattle.xa_file_log.proofs.slot_table.forget_others.Given as goal
 

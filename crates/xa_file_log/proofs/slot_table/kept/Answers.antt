@@ -1,13 +1,8 @@
-use Rattle.std.proofs.Common.{◌≡◌, Bool, true, false, not, cond, ◌||◌, List, [], ◌∷◌, refl, sym, ◌∙◌, ap}
-use Rattle.std.specs.List.{list_any}
-use Rattle.std.specs.Cmp.{eq_by_cmp_equiv}
-use Rattle.xa_words.specs.Tran.{TranName, tran_eq}
-use Rattle.xa_log.specs.declared.log.CommitRecord.{CommitRecord}
-use Rattle.xa_log.specs.Log.{is_among}
+use Rattle.xa_base.proofs.{◌≡◌, Bool, true, false, not, cond, ◌||◌, List, [], ◌∷◌, refl, sym, ◌∙◌, ap, list_any, eq_by_cmp_equiv}
+use Rattle.xa_words.specs.{TranName, tran_eq}
+use Rattle.xa_log.specs.{CommitRecord, is_among}
 use Rattle.xa_log.proofs.Transactions.{tran_cmp_total, tran_eq-by_cmp}
-use Rattle.xa_file_log.specs.declared.slot.Slot.{Slot}
-use Rattle.xa_file_log.specs.declared.slot.Slot.TheVariants.{Free, Taken, Forgotten}
-use Rattle.xa_file_log.specs.Memory.{forgets}
+use Rattle.xa_file_log.specs.{Slot, Free, Taken, Forgotten, forgets}
 use Rattle.xa_file_log.proofs.slot_table.kept.Goals as goal
 use Rattle.xa_file_log.proofs.slot_table.kept.Goals.{in-Taken+else-not-contains, in_default}
 

@@ -1,15 +1,9 @@
-use Rattle.std.proofs.Common.{◌≡◌, ℕ, ◌+◌, ◌<◌, ◌≤◌, None, length, get_or, map, take, refl, sym, ◌∙◌, ap, subst, arith}
-use Rattle.std.proofs.lemmas.List.{take_all}
-use Rattle.std.specs.FinMap.{from_entries}
-use Rattle.std.specs.HashMap.{hash_map_len, spare}
-use Rattle.xa_base.proofs.Options.{at_ok}
-use Rattle.xa_base.proofs.HashMaps.{get-lookup, one_put}
-use Rattle.xa_words.specs.Tran.{tran_eq}
+use Rattle.xa_base.proofs.{◌≡◌, ℕ, ◌+◌, ◌<◌, ◌≤◌, None, length, get_or, map, take, refl, sym, ◌∙◌, ap, subst, arith, take_all, from_entries, spare, at_ok}
+use Rattle.xa_base.proofs.{get-lookup, one_put}
+use Rattle.std.specs.HashMap.{hash_map_len}
+use Rattle.xa_words.specs.{tran_eq}
 use Rattle.xa_log.proofs.Transactions.{tran_cmp_total, tran_cmp-IsAntisymmetric, tran_eq-by_cmp}
-use Rattle.xa_file_log.specs.declared.slot.Slot.{Slot}
-use Rattle.xa_file_log.specs.declared.slot.Slot.TheVariants.{Free, Taken, Forgotten}
-use Rattle.xa_file_log.specs.Slots.{name_of}
-use Rattle.xa_file_log.specs.Memory.{on_file, taken, shut, used}
+use Rattle.xa_file_log.specs.{Slot, Free, Taken, Forgotten, name_of, on_file, taken, shut, used}
 use Rattle.xa_file_log.proofs.Anew.{IsAnew, none_done, room_there, passed_over, put_in, if_ok_at, longer_by_one}
 use Rattle.xa_file_log.proofs.Index.{index_all, not_yet}
 use Rattle.xa_file_log.proofs.Mapped.{slot_indexed, unchanged, all_mapped}

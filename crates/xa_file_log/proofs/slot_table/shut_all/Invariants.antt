@@ -1,5 +1,5 @@
-use Rattle.std.specs.FinMap.{from_entries}
-use Rattle.std.specs.HashMap.{hash_map_len, spare}
+use Rattle.xa_base.proofs.{from_entries, spare}
+use Rattle.std.specs.HashMap.{hash_map_len}
 use Rattle.xa_file_log.proofs.Anew.{IsAnew}
 use Rattle.xa_file_log.proofs.slot_table.shut_all.Given as goal
 

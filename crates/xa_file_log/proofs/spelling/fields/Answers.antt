@@ -1,6 +1,5 @@
-use Rattle.std.proofs.Common.{◌≡◌, ℕ, ℤ, ◌-◌, ◌≤◌, List, [], ◌∷◌, length, take, drop, ◌∙◌, ap, subst}
-use Rattle.std.specs.Int.{w32, cast_unsigned, to_be_bytes}
-use Rattle.std.proofs.lemmas.Int.{to_z-of_z}
+use Rattle.xa_base.proofs.{◌≡◌, ℕ, ℤ, ◌-◌, ◌≤◌, List, [], ◌∷◌, length, take, drop, ◌∙◌, ap, subst, w32, to_z-of_z}
+use Rattle.std.specs.Int.{cast_unsigned, to_be_bytes}
 use Rattle.xa_file_log.proofs.Unspelled.{part_few}
 use Rattle.xa_file_log.proofs.Spelled.{put_together}
 use Rattle.xa_file_log.proofs.spelling.fields.Goals as goal

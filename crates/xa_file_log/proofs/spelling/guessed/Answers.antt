@@ -1,13 +1,10 @@
-use Rattle.std.proofs.Common.{◌≡◌, ℕ, ℤ, ◌+◌, ◌-◌, ◌≤◌, Some, Result, Ok, List, [], ◌∷◌, get_or, length, take, drop, to_z, of_z, FitsSigned, sym, ◌∙◌, ap}
-use Rattle.std.proofs.Common.{arith}
-use Rattle.std.specs.Int.{w32, cast_signed, from_be_bytes}
+use Rattle.xa_base.proofs.{◌≡◌, ℕ, ℤ, ◌+◌, ◌-◌, ◌≤◌, Some, Result, Ok, List, [], ◌∷◌, get_or, length, take, drop, of_z, sym, ◌∙◌, ap, arith, w32, to_z-of_z}
+use Rattle.std.proofs.Common.{to_z, FitsSigned}
+use Rattle.std.specs.Int.{cast_signed, from_be_bytes}
 use Rattle.std.specs.Result.{result_ok}
-use Rattle.std.proofs.lemmas.Int.{to_z-of_z}
-use Rattle.xa_words.specs.NewXid.{new_tran}
-use Rattle.xa_words.specs.Tran.{TranName}
-use Rattle.xa_words.specs.declared.xid.XidFault.{XidFault}
-use Rattle.xa_log.specs.declared.log.CommitRecord.{CommitRecord}
-use Rattle.xa_file_log.specs.Spelling.{spelling, IsValid}
+use Rattle.xa_words.specs.{new_tran, TranName, XidFault}
+use Rattle.xa_log.specs.{CommitRecord}
+use Rattle.xa_file_log.specs.{spelling, IsValid}
 use Rattle.xa_file_log.proofs.Unspelled.{part_few, number, number_is, length_again}
 use Rattle.xa_file_log.proofs.Spelled.{first_four, read_name, read_votes}
 use Rattle.xa_file_log.proofs.spelling.guessed.Goals as goal

@@ -1,6 +1,6 @@
-use Rattle.std.proofs.Common.{ℕ, List, ◌++◌, ◌∙◌, ap}
+use Rattle.xa_base.proofs.{ℕ, List, ◌++◌, ◌∙◌, ap}
 use Rattle.md5.specs.Md5.{md5}
-use Rattle.xa_file_log.specs.Spelling.{spelling}
+use Rattle.xa_file_log.specs.{spelling}
 use Rattle.xa_file_log.proofs.spelling.spelled.Goals as goal
 
 pub returns-clause-bytes : goal.returns-clause-bytes

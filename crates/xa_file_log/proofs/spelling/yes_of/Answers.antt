@@ -1,4 +1,4 @@
-use Rattle.std.proofs.Common.{◌∙◌}
+use Rattle.xa_base.proofs.{◌∙◌}
 use Rattle.xa_file_log.proofs.Spelled.{eight_bits}
 use Rattle.xa_file_log.proofs.spelling.yes_of.Goals as goal
 

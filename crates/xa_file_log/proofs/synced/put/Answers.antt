@@ -1,4 +1,4 @@
-use Rattle.std.proofs.Common.{sym, ◌∙◌}
+use Rattle.xa_base.proofs.{sym, ◌∙◌}
 use Rattle.xa_file_log.proofs.Puts.{all_written, torn_now, written, then_synced}
 use Rattle.xa_file_log.proofs.synced.put.Goals as goal
 

@@ -1,7 +1,6 @@
-use Rattle.std.proofs.Common.{◌≡◌, ◌<◌, None, length, get_or, set, sym, ◌∙◌, ap, arith}
-use Rattle.std.proofs.lemmas.List.{length-map, map-set}
-use Rattle.xa_file_log.specs.declared.slot.Slot.TheVariants.{Taken}
-use Rattle.xa_file_log.specs.Memory.{on_file, table_of}
+use Rattle.xa_base.proofs.{◌≡◌, ◌<◌, None, length, get_or, set, sym, ◌∙◌, ap, arith, length-map}
+use Rattle.std.proofs.lemmas.List.{map-set}
+use Rattle.xa_file_log.specs.{Taken, on_file, table_of}
 use Rattle.xa_file_log.proofs.Stands.{after_stage}
 use Rattle.xa_file_log.proofs.Steps.{first_step, both_steps, logged}
 use Rattle.xa_file_log.proofs.Finds.{at_map, whole_part}

@@ -1,6 +1,5 @@
-use Rattle.std.proofs.Common.{◌<◌, get_or, set, map, ◌∷◌, [], ◌++◌, length, length-append, vec_capacity, rules, arith, refl, sym, subst, ap, ◌∙◌}
-use Rattle.std.specs.Vec.Iter.{into_iter_items}
-use Rattle.xa_base.proofs.Lists.{taken_next}
+use Rattle.xa_base.proofs.{◌<◌, get_or, set, map, ◌∷◌, [], ◌++◌, length, length-append, vec_capacity, rules, arith, refl, sym, subst, ap, ◌∙◌, into_iter_items}
+use Rattle.xa_base.proofs.{taken_next}
 use Rattle.xa_switch.proofs.Dealing.{put_none, room_there, dealt_more, cap_more}
 use Rattle.xa_switch.proofs.columns.deal.Goals as goal
 

@@ -1,11 +1,6 @@
-use Rattle.std.proofs.Common.{◌≡◌, ℕ, ◌+◌, ◌-◌, ◌<◌, refl, Some, None, length, map, sym, ap, ◌∙◌, arith, option_map}
-use Rattle.std.specs.Prelude.{slice_get}
-use Rattle.std.specs.List.{range_with_len}
-use Rattle.std.proofs.lemmas.List.FromFn.{length-range_with_len, get_or-range_with_len}
-use Rattle.std.proofs.lemmas.Option.{slice_get-map, slice_get-get_or}
-use Rattle.xa_switch.specs.Settling.{ManagerPart, find_manager}
-use Rattle.xa_switch.specs.Fates.{first_of}
-use Rattle.xa_switch.specs.Again.{managers_in, reopened_at}
+use Rattle.xa_base.proofs.{◌≡◌, ℕ, ◌+◌, ◌-◌, ◌<◌, refl, Some, None, length, map, sym, ap, ◌∙◌, arith, option_map, slice_get, range_with_len}
+use Rattle.xa_base.proofs.{length-range_with_len, get_or-range_with_len, slice_get-map, slice_get-get_or}
+use Rattle.xa_switch.specs.{ManagerPart, find_manager, first_of, managers_in, reopened_at}
 use Rattle.xa_switch.proofs.laws.reopened_openings_go_on_from_what_was_left.Goals as goal
 
 pub returns : goal.returns

@@ -1,8 +1,5 @@
-use Rattle.std.proofs.Common.{rules, length, sym, ap, ◌∙◌, subst}
-use Rattle.std.specs.List.{All}
-use Rattle.std.proofs.lemmas.Result.{err_from_is_err_and}
-use Rattle.xa_switch.specs.Plans.{Setup, IsWithinLimits, IsSoundManager, numbers_of, use_async}
-use Rattle.xa_switch.specs.OpenedPieces.{AreOfOneOpening}
+use Rattle.xa_base.proofs.{rules, length, sym, ap, ◌∙◌, subst, All, err_from_is_err_and}
+use Rattle.xa_switch.specs.{Setup, IsWithinLimits, IsSoundManager, numbers_of, use_async, AreOfOneOpening}
 use Rattle.xa_switch.proofs.Planned.{all_new, all_begin, setup_is}
 use Rattle.xa_switch.proofs.opening.open_switch.Goals as goal
 

@@ -1,15 +1,11 @@
-use Rattle.std.proofs.Common.{◌≡◌, ◌≤◌, List, length, map, sym, subst, ap, ◌∙◌}
-use Rattle.std.specs.List.{All}
-use Rattle.std.proofs.lemmas.List.{length-map}
-use Rattle.xa_desk.specs.Ended.{EndedView, IsEnded}
-use Rattle.xa_worker.specs.Done.{Served, IsServed, IsOrdered}
-use Rattle.xa_switch.specs.Belonging.{ComeFromOpenings, AreOfOne, AreAll, desk_seats, worker_seats}
-use Rattle.xa_switch.specs.Settling.{Settling, IsSettled, journal}
-use Rattle.xa_switch.specs.Fates.{ledgers_of}
+use Rattle.xa_base.proofs.{◌≡◌, ◌≤◌, List, length, map, sym, subst, ap, ◌∙◌, All, length-map}
+use Rattle.xa_desk.specs.{EndedView, IsEnded}
+use Rattle.xa_worker.specs.{Served, IsServed, IsOrdered}
+use Rattle.xa_switch.specs.{ComeFromOpenings, AreOfOne, AreAll, desk_seats, worker_seats, IsSettled, journal, ledgers_of, IsWhole, parts_of}
+use Rattle.xa_switch.specs.Settling.{Settling}
 use Rattle.xa_switch.proofs.Pieces.{Joint, workers_numbered, workers_opened, request_lanes, completion_lanes}
 use Rattle.xa_switch.proofs.Sides.{AreLanesOf}
 use Rattle.xa_switch.proofs.Agreeing.{settled}
-use Rattle.xa_switch.specs.Again.{IsWhole, parts_of}
 use Rattle.xa_switch.proofs.Ledgers.{all_settled_ledgers, all_settled_journals}
 use Rattle.xa_switch.proofs.AllThere.{parts_ready, all_there}
 use Rattle.xa_switch.proofs.settling.close_all.Goals as goal

@@ -1,9 +1,6 @@
-use Rattle.std.proofs.Common.{◌≡◌, ◌∙◌, sym, ap, rules, get_or}
-use Rattle.std.specs.List.{list_any}
-use Rattle.std.proofs.lemmas.Bool.{or_from}
-use Rattle.std.proofs.lemmas.List.{take_all}
+use Rattle.xa_base.proofs.{◌≡◌, ◌∙◌, sym, ap, rules, get_or, list_any, or_from, take_all}
 use Rattle.std.proofs.lemmas.List.Folds.{list_any_at, list_any_more}
-use Rattle.xa_tables.specs.Held.{passes_at}
+use Rattle.xa_tables.specs.{passes_at}
 use Rattle.xa_tables.proofs.HeldLemmas.{held_within, passes_read, none_held}
 use Rattle.xa_tables.proofs.accounts.any_at.Goals as goal
 

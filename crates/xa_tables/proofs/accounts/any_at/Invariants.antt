@@ -1,8 +1,6 @@
-use Rattle.std.proofs.Common.{◌≡◌, Bool, false, take}
+use Rattle.xa_base.proofs.{◌≡◌, Bool, false, take, list_any}
 use Rattle.std.specs.Fn.{FnReturnsAt}
-use Rattle.std.specs.List.{list_any}
-use Rattle.xa_tables.specs.declared.accounts.Account.{Account}
-use Rattle.xa_tables.specs.Held.{passes_at}
+use Rattle.xa_tables.specs.{Account, passes_at}
 use Rattle.xa_tables.proofs.accounts.any_at.Given as goal
 
 -- none of the accounts at the places so far

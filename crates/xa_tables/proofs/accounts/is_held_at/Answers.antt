@@ -1,6 +1,5 @@
-use Rattle.std.proofs.Common.{arith, sym}
-use Rattle.std.proofs.lemmas.List.{get_or_default}
-use Rattle.xa_tables.specs.Held.{is_held}
+use Rattle.xa_base.proofs.{arith, sym, get_or_default}
+use Rattle.xa_tables.specs.{is_held}
 use Rattle.xa_tables.proofs.HeldLemmas.{passes_read, passes_past}
 use Rattle.xa_tables.proofs.accounts.is_held_at.Goals as goal
 

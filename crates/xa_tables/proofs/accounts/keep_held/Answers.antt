@@ -1,4 +1,4 @@
-use Rattle.std.proofs.Common.{rules}
+use Rattle.xa_base.proofs.{rules}
 use Rattle.std.proofs.lemmas.Fn.{filter_same}
 use Rattle.xa_tables.proofs.accounts.keep_held.Goals as goal
 

@@ -1,5 +1,5 @@
-use Rattle.std.proofs.Common.{◌∙◌, sym, ap, arith}
-use Rattle.xa_tables.specs.Accounts.{kept_where}
+use Rattle.xa_base.proofs.{◌∙◌, sym, ap, arith}
+use Rattle.xa_tables.specs.{kept_where}
 use Rattle.xa_tables.proofs.HeldLemmas.{changing_none, changing_at, changing_all, kept_untouched, kept_twice}
 use Rattle.xa_tables.proofs.accounts.let_go.Goals as goal
 

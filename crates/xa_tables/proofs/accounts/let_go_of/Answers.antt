@@ -1,9 +1,6 @@
-use Rattle.std.proofs.Common.{◌≡◌, Bool, true, false, Some, None, rules, sym, ap, ◌∙◌}
-use Rattle.std.specs.Prelude.{if◌then◌else◌}
-use Rattle.xa_words.specs.Xid.{XidName}
-use Rattle.xa_tables.specs.declared.accounts.Account.{Account}
-use Rattle.xa_tables.specs.declared.accounts.Hold.{Hold}
-use Rattle.xa_tables.specs.Accounts.{hold_where, kept_where}
+use Rattle.xa_base.proofs.{◌≡◌, Bool, true, false, Some, None, rules, sym, ap, ◌∙◌, if◌then◌else◌}
+use Rattle.xa_words.specs.{XidName}
+use Rattle.xa_tables.specs.{Account, Hold, hold_where, kept_where}
 use Rattle.xa_tables.proofs.accounts.let_go_of.Goals as goal
 
 -- the account where h is its hold, which is to be kept or not

@@ -1,9 +1,5 @@
-use Rattle.std.proofs.Common.{◌≡◌, ◌<◌, ◌∙◌, sym, ap, subst, arith, false, length, get_or}
-use Rattle.std.proofs.Math.ListN.{set}
-use Rattle.std.specs.List.{list_any}
-use Rattle.std.proofs.lemmas.List.{get_or_default}
-use Rattle.xa_tables.specs.declared.accounts.Account.{Account}
-use Rattle.xa_tables.specs.Accounts.{is_broken_by, posted_by}
+use Rattle.xa_base.proofs.{◌≡◌, ◌<◌, ◌∙◌, sym, ap, subst, arith, false, length, get_or, set, list_any, get_or_default}
+use Rattle.xa_tables.specs.{Account, is_broken_by, posted_by}
 use Rattle.xa_tables.proofs.AccountLemmas.{passes_none}
 use Rattle.xa_tables.proofs.HeldLemmas.{changing_none, changing_at, changing_all, held_within, posted_untouched, posted_twice, whole_more}
 use Rattle.xa_tables.proofs.accounts.post_all.Goals as goal

@@ -1,6 +1,5 @@
-use Rattle.std.proofs.Common.{◌≡◌, false}
-use Rattle.std.specs.List.{list_any}
-use Rattle.xa_tables.specs.Accounts.{posted_by, is_broken_by}
+use Rattle.xa_base.proofs.{◌≡◌, false, list_any}
+use Rattle.xa_tables.specs.{posted_by, is_broken_by}
 use Rattle.xa_tables.proofs.HeldLemmas.{IsChanging}
 use Rattle.xa_tables.proofs.accounts.post_all.Given as goal
 

@@ -1,4 +1,4 @@
-use Rattle.xa_tables.specs.History.{parted}
+use Rattle.xa_tables.specs.{parted}
 use Rattle.xa_tables.proofs.LateLaw.{late_are_refused, late_change_nothing}
 use Rattle.xa_tables.proofs.laws.late_requests_are_refused.Goals as goal
 

@@ -1,8 +1,8 @@
-use Rattle.std.proofs.Common.{[], refl}
+use Rattle.xa_base.proofs.{[], refl}
 use Rattle.xa_base.specs.Lists.Chain.{none}
-use Rattle.xa_words.specs.Flags.{TMFAIL}
+use Rattle.xa_words.specs.{TMFAIL}
 use Rattle.xa_words.specs.declared.flags.Call.TheVariants as call
-use Rattle.xa_work.specs.Works.{Asks}
+use Rattle.xa_work.specs.{Asks}
 use Rattle.xa_work.proofs.Making.{chain_all, chain_more}
 use Rattle.xa_work.proofs.giving_up.give_up.Goals as goal
 

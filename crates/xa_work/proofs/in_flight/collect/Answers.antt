@@ -1,5 +1,5 @@
-use Rattle.std.proofs.Common.{arith, sym, ap, ◌∙◌, ◌≡◌, ℤ, pos, w32, to_z, of_z}
-use Rattle.std.proofs.lemmas.Int.{to_z-of_z, ints}
+use Rattle.xa_base.proofs.{arith, sym, ap, ◌∙◌, ◌≡◌, ℤ, pos, w32, of_z, to_z-of_z, ints}
+use Rattle.std.proofs.Common.{to_z}
 use Rattle.xa_work.proofs.Handles.{completed, by_code}
 use Rattle.xa_work.proofs.in_flight.collect.Goals as goal
 

@@ -1,9 +1,5 @@
-use Rattle.std.proofs.Common.{◌≡◌, ◌<◌, ◌&&◌, ℕ, List, length, pos, sym, subst, ◌∙◌}
-use Rattle.std.specs.Prelude.{slice_index_or}
-use Rattle.std.proofs.lemmas.Option.{slice_get-get_or}
-use Rattle.xa_base.proofs.Lists.{one_more, some_same}
-use Rattle.xa_work.specs.declared.in_flight.Flight.{Flight}
-use Rattle.xa_work.specs.Works.{CollectsAll}
+use Rattle.xa_base.proofs.{◌≡◌, ◌<◌, ◌&&◌, ℕ, List, length, pos, sym, subst, ◌∙◌, slice_index_or, slice_get-get_or, one_more, some_same}
+use Rattle.xa_work.specs.{Flight, CollectsAll}
 use Rattle.xa_work.proofs.Making.{collects_more, collects_none}
 use Rattle.xa_work.proofs.in_flight.collect_all.Goals as goal
 

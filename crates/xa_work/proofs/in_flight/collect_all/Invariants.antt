@@ -1,7 +1,7 @@
-use Rattle.std.proofs.Common.{take}
+use Rattle.xa_base.proofs.{take}
 use Rattle.xa_desk.specs.GoesOn.{GoesOn}
-use Rattle.xa_desk.specs.Kept.{AllKept}
-use Rattle.xa_work.specs.Works.{CollectsAll}
+use Rattle.xa_desk.specs.{AllKept}
+use Rattle.xa_work.specs.{CollectsAll}
 use Rattle.xa_work.proofs.in_flight.collect_all.Given as goal
 
 -- the first were collected

@@ -1,6 +1,6 @@
-use Rattle.std.proofs.Common.{◌≡◌, ◌≤◌, ◌+◌, ◌*◌, take, length}
-use Rattle.xa_base.specs.declared.limits.TheConstants.{MOST_REQUESTS}
-use Rattle.xa_work.specs.Works.{requests_of}
+use Rattle.xa_base.proofs.{◌≡◌, ◌≤◌, ◌+◌, ◌*◌, take, length}
+use Rattle.xa_base.specs.{MOST_REQUESTS}
+use Rattle.xa_work.specs.{requests_of}
 use Rattle.xa_work.proofs.in_flight.count_steps.Given as goal
 
 -- the first branches' steps were counted

@@ -1,8 +1,7 @@
-use Rattle.std.proofs.Common.{◌≡◌, true, false, ℤ, arith, subst, sym, ◌∙◌, w32, rules}
-use Rattle.std.proofs.lemmas.Int.{to_z-of_z, ints}
+use Rattle.xa_base.proofs.{◌≡◌, true, false, ℤ, arith, subst, sym, ◌∙◌, w32, rules, to_z-of_z, ints}
 use Rattle.xa_words.specs.Code.{number_of}
-use Rattle.xa_words.specs.declared.code.Code.TheVariants.{Async}
-use Rattle.xa_work.specs.Requests.{PutsOp, op_of}
+use Rattle.xa_words.specs.{Async}
+use Rattle.xa_work.specs.{PutsOp, op_of}
 use Rattle.xa_work.proofs.Handles.{full_stays, put_by, put_later, stays_on}
 use Rattle.xa_work.proofs.in_flight.put.Goals as goal
 

@@ -1,6 +1,6 @@
 use Rattle.xa_desk.specs.GoesOn.{GoesOn}
-use Rattle.xa_desk.specs.Kept.{AllKept}
-use Rattle.xa_work.specs.Requests.{StaysSo}
+use Rattle.xa_desk.specs.{AllKept}
+use Rattle.xa_work.specs.{StaysSo}
 use Rattle.xa_work.proofs.in_flight.put.Given as goal
 
 -- so far the queue was full, and nothing was done

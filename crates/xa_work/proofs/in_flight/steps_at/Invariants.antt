@@ -1,5 +1,5 @@
-use Rattle.std.proofs.Common.{◌≡◌, ◌≤◌, ◌+◌, take}
-use Rattle.xa_work.specs.Works.{steps_in}
+use Rattle.xa_base.proofs.{◌≡◌, ◌≤◌, ◌+◌, take}
+use Rattle.xa_work.specs.{steps_in}
 use Rattle.xa_work.proofs.in_flight.steps_at.Given as goal
 
 -- the first changes were looked at

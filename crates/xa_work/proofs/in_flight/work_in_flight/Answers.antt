@@ -1,7 +1,5 @@
-use Rattle.std.proofs.Common.{◌++◌, [], List, length, ap, arith, length-append, subst, sym, take, ◌∙◌}
-use Rattle.std.proofs.lemmas.List.{take_all}
-use Rattle.xa_work.specs.declared.in_flight.Flight.{Flight}
-use Rattle.xa_work.specs.Works.{CollectsAll, PutsRequests, requests_at, requests_of}
+use Rattle.xa_base.proofs.{◌++◌, [], List, length, ap, arith, length-append, subst, sym, take, ◌∙◌, take_all}
+use Rattle.xa_work.specs.{Flight, CollectsAll, PutsRequests, requests_at, requests_of}
 use Rattle.xa_work.proofs.Making.{first_requests, puts_append, puts_length, puts_none, requests_left}
 use Rattle.xa_work.proofs.in_flight.work_in_flight.Goals as goal
 

@@ -1,7 +1,7 @@
-use Rattle.std.proofs.Common.{◌≤◌, ◌+◌, drop, length, take, vec_capacity}
+use Rattle.xa_base.proofs.{◌≤◌, ◌+◌, drop, length, take, vec_capacity}
 use Rattle.xa_desk.specs.GoesOn.{GoesOn}
-use Rattle.xa_desk.specs.Kept.{AllKept}
-use Rattle.xa_work.specs.Works.{PutsRequests, requests_of}
+use Rattle.xa_desk.specs.{AllKept}
+use Rattle.xa_work.specs.{PutsRequests, requests_of}
 use Rattle.xa_work.proofs.in_flight.work_in_flight.Given as goal
 
 -- the requests of the first branches were put

@@ -1,4 +1,4 @@
-use Rattle.xa_work.specs.Requests.{op_of}
+use Rattle.xa_work.specs.{op_of}
 use Rattle.xa_work.proofs.Called.{call_by}
 use Rattle.xa_work.proofs.in_turn.ask.Goals as goal
 

@@ -1,6 +1,6 @@
-use Rattle.std.proofs.Common.{◌≡◌, ◌+◌, true, false, [], drop, refl, subst, take}
+use Rattle.xa_base.proofs.{◌≡◌, ◌+◌, true, false, [], drop, refl, subst, take}
 use Rattle.xa_base.specs.Lists.Chain.{none}
-use Rattle.xa_work.specs.Works.{CallsBranch}
+use Rattle.xa_work.specs.{CallsBranch}
 use Rattle.xa_work.specs.Works.CallsBranches.{completed, stopped}
 use Rattle.xa_work.proofs.Making.{chain_all, chain_more, parted}
 use Rattle.xa_work.proofs.in_turn.work_in_turn.Goals as goal

@@ -1,8 +1,8 @@
-use Rattle.std.proofs.Common.{true, take}
-use Rattle.xa_base.specs.Lists.{Chain}
+use Rattle.xa_base.proofs.{true, take}
+use Rattle.xa_base.specs.{Chain}
 use Rattle.xa_desk.specs.GoesOn.{GoesOn}
-use Rattle.xa_desk.specs.Kept.{AllKept}
-use Rattle.xa_work.specs.Works.{CallsBranch}
+use Rattle.xa_desk.specs.{AllKept}
+use Rattle.xa_work.specs.{CallsBranch}
 use Rattle.xa_work.proofs.in_turn.work_in_turn.Given as goal
 
 -- the work of the first branches was done

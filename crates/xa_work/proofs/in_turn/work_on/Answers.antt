@@ -1,11 +1,9 @@
-use Rattle.std.proofs.Common.{◌+◌, ◌&&◌, true, subst, sym, take}
-use Rattle.xa_words.specs.declared.request.Op.TheVariants.{Add, End, Start}
-use Rattle.xa_words.specs.declared.request.EndHow.TheVariants.{Success}
-use Rattle.xa_words.specs.declared.request.StartHow.TheVariants.{Fresh}
+use Rattle.xa_base.proofs.{◌+◌, ◌&&◌, true, subst, sym, take}
+use Rattle.xa_words.specs.{Add, End, Start, Success, Fresh}
 use Rattle.xa_desk.specs.GoesOn.{GoesOn}
-use Rattle.xa_desk.specs.Kept.{AllKept}
+use Rattle.xa_desk.specs.{AllKept}
 use Rattle.xa_desk.specs.DeskView.{DeskView}
-use Rattle.xa_work.specs.Works.{CallsOps}
+use Rattle.xa_work.specs.{CallsOps}
 use Rattle.xa_work.proofs.Making.{begun_all, begun_elsewhere, begun_here, begun_of, calls_more, calls_none}
 use Rattle.xa_work.proofs.in_turn.work_on.Goals as goal
 use Rattle.xa_work.proofs.in_turn.work_on.Goals.{then-change-branch, else-change-branch}

@@ -1,7 +1,7 @@
-use Rattle.std.proofs.Common.{take}
+use Rattle.xa_base.proofs.{take}
 use Rattle.xa_desk.specs.GoesOn.{GoesOn}
-use Rattle.xa_desk.specs.Kept.{AllKept}
-use Rattle.xa_work.specs.Works.{CallsOps}
+use Rattle.xa_desk.specs.{AllKept}
+use Rattle.xa_work.specs.{CallsOps}
 use Rattle.xa_work.proofs.Making.{begun_of}
 use Rattle.xa_work.proofs.in_turn.work_on.Given as goal
 

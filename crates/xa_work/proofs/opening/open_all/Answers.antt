@@ -1,6 +1,6 @@
-use Rattle.std.proofs.Common.{◌+◌, refl}
-use Rattle.xa_words.specs.declared.request.Op.TheVariants.{OpenRm}
-use Rattle.xa_work.specs.Sent.{IsOpenRm}
+use Rattle.xa_base.proofs.{◌+◌, refl}
+use Rattle.xa_words.specs.{OpenRm}
+use Rattle.xa_work.specs.{IsOpenRm}
 use Rattle.xa_work.proofs.Called.{op_sent}
 use Rattle.xa_work.proofs.Making.{opens_more, opens_none}
 use Rattle.xa_work.proofs.Sent.{have_none, have_on}

@@ -1,4 +1,4 @@
-use Rattle.xa_words.specs.declared.request.Op.TheVariants.{OpenRm}
+use Rattle.xa_words.specs.{OpenRm}
 use Rattle.xa_work.proofs.Called.{call_by}
 use Rattle.xa_work.proofs.opening.open_one.Goals as goal
 

@@ -1,17 +1,13 @@
-use Rattle.std.proofs.Common.{◌≡◌, ℕ, ℤ, Bool, true, false, Some, ap, arith, bit_or, subst, sym, w32, ◌∙◌}
-use Rattle.std.proofs.lemmas.Int.{to_z-of_z, ints}
-use Rattle.xa_words.specs.Flags.{TMASYNC, TMSUCCESS}
-use Rattle.xa_words.specs.Xid.{XidName}
+use Rattle.xa_base.proofs.{◌≡◌, ℕ, ℤ, Bool, true, false, Some, ap, arith, subst, sym, w32, ◌∙◌, to_z-of_z, ints}
+use Rattle.std.proofs.Common.{bit_or}
+use Rattle.xa_words.specs.{TMASYNC, TMSUCCESS, XidName}
 use Rattle.xa_words.specs.declared.flags.Call.TheVariants as call
 use Rattle.xa_words.specs.declared.request.RmOp.TheVariants as rm
 use Rattle.xa_words.specs.declared.key.Key.{Key}
 use Rattle.xa_words.specs.declared.delta.Delta.{Delta}
 use Rattle.xa_desk.specs.DeskView.{DeskView}
-use Rattle.xa_calls.specs.Asking.{asked_of, native}
-use Rattle.xa_calls.specs.Putting.{Calls, Puts}
-use Rattle.xa_work.specs.declared.step.Step.{Step}
-use Rattle.xa_work.specs.declared.step.Step.TheVariants.{Start, Add, End}
-use Rattle.xa_work.specs.Requests.{op_of}
+use Rattle.xa_calls.specs.{asked_of, native, Calls, Puts}
+use Rattle.xa_work.specs.{Step, Start, Add, End, op_of}
 use Rattle.xa_work.proofs.step.take_step.Goals as goal
 use Rattle.xa_work.proofs.step.take_step.Goals.{then-asynchronous, else-asynchronous}
 

@@ -1,9 +1,7 @@
-use Rattle.std.proofs.Common.{◌≡◌, true, None, Some, refl}
+use Rattle.xa_base.proofs.{◌≡◌, true, None, Some, refl}
 use Rattle.xa_driver.specs.declared.done.CommitFault.TheVariants as fault
 use Rattle.xa_driver.proofs.Undecided.{of_votes}
-use Rattle.xa_work.specs.declared.unit.WorkOutcome.{WorkOutcome}
-use Rattle.xa_work.specs.declared.unit.WorkOutcome.TheVariants.{Decided, Died, Undecided}
-use Rattle.xa_work.specs.Units.{comes_to_decide, cut_short, in_full, undecided}
+use Rattle.xa_work.specs.{WorkOutcome, Decided, Died, Undecided, comes_to_decide, cut_short, in_full, undecided}
 use Rattle.xa_work.proofs.unit.commit.Goals as goal
 
 pub returns-in-Ok-clause-comes : goal.returns-in-Ok-clause-comes

@@ -1,12 +1,7 @@
-use Rattle.std.proofs.Common.{rules, ◌≤◌, ◌+◌, arith, subst, sym, take}
-use Rattle.std.proofs.lemmas.List.{take_all}
-use Rattle.std.proofs.lemmas.List.Elements.{All-push}
-use Rattle.xa_base.proofs.Lists.{one_more}
-use Rattle.xa_desk.specs.DeskView.{room_at}
-use Rattle.xa_driver.specs.declared.branch.Branch.{Branch}
-use Rattle.xa_work.specs.declared.unit.TheConstants.{AFTERWARDS}
-use Rattle.xa_work.specs.Units.{HaveRoomToWork}
-use Rattle.xa_work.specs.Works.{steps_in}
+use Rattle.xa_base.proofs.{rules, ◌≤◌, ◌+◌, arith, subst, sym, take, take_all, All-push, one_more}
+use Rattle.xa_desk.specs.{room_at}
+use Rattle.xa_driver.specs.{Branch}
+use Rattle.xa_work.specs.{AFTERWARDS, HaveRoomToWork, steps_in}
 use Rattle.xa_work.proofs.unit.have_room.Goals as goal
 
 pub loop-branch-preserved : goal.loop-branch-preserved

@@ -1,5 +1,5 @@
-use Rattle.std.proofs.Common.{take}
-use Rattle.xa_work.specs.Units.{HaveRoomToWork}
+use Rattle.xa_base.proofs.{take}
+use Rattle.xa_work.specs.{HaveRoomToWork}
 use Rattle.xa_work.proofs.unit.have_room.Given as goal
 
 -- there is room for the work of the first

@@ -1,10 +1,8 @@
-use Rattle.std.proofs.Common.{◌≡◌, true, false, refl, subst}
+use Rattle.xa_base.proofs.{◌≡◌, true, false, refl, subst}
 use Rattle.xa_desk.specs.DeskView.{DeskView}
-use Rattle.xa_work.specs.Sent.{IsFor, NamesOnly}
-use Rattle.xa_work.specs.Units.{IsRefused}
+use Rattle.xa_work.specs.{IsFor, NamesOnly, IsRefused, GivesUp, Tries}
 use Rattle.xa_work.specs.Units.IsRefused.{barred, unbegun, undone}
 use Rattle.xa_work.specs.Units.Transacts.{commits, refused}
-use Rattle.xa_work.specs.Works.{GivesUp, Tries}
 use Rattle.xa_work.proofs.Comes.{comes_named}
 use Rattle.xa_work.proofs.Named.{all_among, gives_up_sent, tries_sent}
 use Rattle.xa_work.proofs.Sent.{have_as, have_none, have_on}

@@ -1,4 +1,4 @@
-use Rattle.xa_work.specs.Works.{in_turn}
+use Rattle.xa_work.specs.{in_turn}
 use Rattle.xa_work.proofs.unit.work.Goals as goal
 
 pub returns-clause-tries : goal.returns-clause-tries

@@ -1,6 +1,5 @@
-use Rattle.std.proofs.Common.{rules, ℕ, ◌+◌, ◌-◌, ◌^◌, ◌<◌, ◌≤◌, length, arith}
-use Rattle.std.proofs.lemmas.List.Elements.{All-weaker}
-use Rattle.xa_bank_days.specs.declared.errands.Errands.{Errands}
+use Rattle.xa_base.proofs.{rules, ℕ, ◌+◌, ◌-◌, ◌^◌, ◌<◌, ◌≤◌, length, arith, All-weaker}
+use Rattle.xa_bank_days.specs.{Errands}
 use Rattle.xa_bank_days.proofs.bank.Bank.after.Goals as goal
 
 pub returns-in_err-next-clause-none : goal.returns-in_err-next-clause-none

@@ -1,8 +1,7 @@
-use Rattle.std.proofs.Common.{◌≡◌, true, List, ap, ◌∙◌, map, subst}
-use Rattle.std.specs.List.{All}
-use Rattle.xa_driver.specs.Resolving.{IsTraceOfResolve}
-use Rattle.xa_log.specs.Log.{Records, all_records}
-use Rattle.xa_bank.specs.declared.teller.Teller.{Teller}
+use Rattle.xa_base.proofs.{◌≡◌, true, List, ap, ◌∙◌, map, subst, All}
+use Rattle.xa_driver.specs.{IsTraceOfResolve}
+use Rattle.xa_log.specs.{Records, all_records}
+use Rattle.xa_bank.specs.{Teller}
 use Rattle.xa_bank_days.proofs.DayWorked.{mapped_twice}
 use Rattle.xa_bank_days.proofs.night.Resolver.resolve_left.Goals as goal
 

@@ -1,7 +1,5 @@
-use Rattle.std.proofs.Common.{◌≡◌, inl, inr, ⊎_elim, Some, List, length, refl, ap, subst, arith}
-use Rattle.std.proofs.lemmas.List.{length-map}
-use Rattle.xa_file_log.specs.declared.slot.Slot.{Slot}
-use Rattle.xa_file_log.specs.Memory.{MayShow, log_state, name_at, shut, used}
+use Rattle.xa_base.proofs.{◌≡◌, inl, inr, ⊎_elim, Some, List, length, refl, ap, subst, arith, length-map}
+use Rattle.xa_file_log.specs.{Slot, MayShow, log_state, name_at, shut, used}
 use Rattle.xa_file_log.proofs.Grouped.{new_none}
 use Rattle.xa_file_log.proofs.Index.{index_apart}
 use Rattle.xa_file_log.proofs.Moments.{started}

@@ -1,7 +1,6 @@
-use Rattle.std.proofs.Common.{◌≡◌, inl, inr, ⊎_elim, None, Some, Option, List, length, map, refl, ap, ◌∙◌, subst}
+use Rattle.xa_base.proofs.{◌≡◌, inl, inr, ⊎_elim, None, Some, Option, List, length, map, refl, ap, ◌∙◌, subst}
 use Rattle.std.specs.Prelude.{IfNone}
-use Rattle.xa_file_log.specs.declared.slot.Slot.{Slot}
-use Rattle.xa_file_log.specs.Memory.{HasNoFree, name_at, shut}
+use Rattle.xa_file_log.specs.{Slot, HasNoFree, name_at, shut}
 use Rattle.xa_file_log.proofs.Index.{index_apart}
 use Rattle.xa_file_log.proofs.Slotwise.{none_named_shut, full_shut}
 use Rattle.xa_file_log.proofs.file_log.FileLog.place_for.Goals as goal

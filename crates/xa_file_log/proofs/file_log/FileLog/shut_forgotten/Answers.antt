@@ -1,6 +1,5 @@
-use Rattle.std.proofs.Common.{◌≡◌, map, sym, ◌∙◌, ap, subst}
-use Rattle.xa_file_log.specs.Slots.{Table, StandsFor, IsSettled}
-use Rattle.xa_file_log.specs.Memory.{taken, table_of}
+use Rattle.xa_base.proofs.{◌≡◌, map, sym, ◌∙◌, ap, subst}
+use Rattle.xa_file_log.specs.{Table, StandsFor, IsSettled, taken, table_of}
 use Rattle.xa_file_log.proofs.Shown.{stands_shown}
 use Rattle.xa_file_log.proofs.Slotwise.{shut_on_file}
 use Rattle.xa_file_log.proofs.file_log.FileLog.shut_forgotten.Goals as goal

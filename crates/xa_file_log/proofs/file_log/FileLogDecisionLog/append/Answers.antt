@@ -1,9 +1,5 @@
-use Rattle.std.proofs.Common.{inl, inr, ◌<◌, ◌+◌, ◌%◌, ◌^◌, List, set, refl, sym, ◌∙◌, ap, subst, arith}
-use Rattle.xa_file_log.specs.declared.slot.Slot.{Slot}
-use Rattle.xa_file_log.specs.declared.slot.Slot.TheVariants.{Taken}
-use Rattle.xa_file_log.specs.Slots.{StandsFor, IsSettled}
-use Rattle.xa_file_log.specs.Appends.{ForgetsNoMore}
-use Rattle.xa_file_log.specs.Memory.{MayShow, table_of, records_in}
+use Rattle.xa_base.proofs.{inl, inr, ◌<◌, ◌+◌, ◌%◌, ◌^◌, List, set, refl, sym, ◌∙◌, ap, subst, arith}
+use Rattle.xa_file_log.specs.{Slot, Taken, StandsFor, IsSettled, ForgetsNoMore, MayShow, table_of, records_in}
 use Rattle.xa_file_log.proofs.Appending.{same_records, no_more, before_it, one_more, none_more, both_runs}
 use Rattle.xa_file_log.proofs.Moments.{weaker}
 use Rattle.xa_file_log.proofs.Shown.{stands_shown}

@@ -1,8 +1,6 @@
-use Rattle.std.proofs.Common.{List, refl, sym, ◌∙◌, ap, subst}
-use Rattle.xa_words.specs.Tran.{tran_eq}
-use Rattle.xa_file_log.specs.declared.slot.Slot.{Slot}
-use Rattle.xa_file_log.specs.Slots.{Table, IsSettled}
-use Rattle.xa_file_log.specs.Memory.{MayShow, table_of, records_in}
+use Rattle.xa_base.proofs.{List, refl, sym, ◌∙◌, ap, subst}
+use Rattle.xa_words.specs.{tran_eq}
+use Rattle.xa_file_log.specs.{Slot, Table, IsSettled, MayShow, table_of, records_in}
 use Rattle.xa_file_log.proofs.Index.{index_apart}
 use Rattle.xa_file_log.proofs.Slotwise.{records_without, forgets_on_file, forgets_shown, forgets_its_own, ForgetsItsOwn}
 use Rattle.xa_file_log.proofs.file_log.FileLogDecisionLog.forget.Goals as goal

@@ -1,7 +1,5 @@
-use Rattle.std.proofs.Common.{◌≡◌, ℕ, None, get_or, refl, sym, ◌∙◌, subst}
-use Rattle.std.proofs.lemmas.List.{get_or_default}
-use Rattle.xa_file_log.specs.declared.slot.Slot.TheVariants.{Free, Taken}
-use Rattle.xa_file_log.specs.Memory.{taken}
+use Rattle.xa_base.proofs.{◌≡◌, ℕ, None, get_or, refl, sym, ◌∙◌, subst, get_or_default}
+use Rattle.xa_file_log.specs.{Free, Taken, taken}
 use Rattle.xa_file_log.proofs.Index.{index_apart, one_place}
 use Rattle.xa_file_log.proofs.Slotwise.{counted_found, not_counted}
 use Rattle.xa_file_log.proofs.Mapped.{slot_indexed}

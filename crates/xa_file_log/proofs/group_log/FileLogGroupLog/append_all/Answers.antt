@@ -1,9 +1,6 @@
-use Rattle.std.proofs.Common.{◌≡◌, inl, inr, ⊎_elim, ◌<◌, ◌+◌, ◌%◌, ◌^◌, List, length, refl, sym, ◌∙◌, ap, subst, arith}
+use Rattle.xa_base.proofs.{◌≡◌, inl, inr, ⊎_elim, ◌<◌, ◌+◌, ◌%◌, ◌^◌, List, length, refl, sym, ◌∙◌, ap, subst, arith}
 use Rattle.std.proofs.lemmas.Bool.Decides.{Decides-eqb}
-use Rattle.xa_file_log.specs.declared.slot.Slot.{Slot}
-use Rattle.xa_file_log.specs.Appends.{ForgetsNoMore}
-use Rattle.xa_file_log.specs.Slots.{StandsFor, IsSettled}
-use Rattle.xa_file_log.specs.Memory.{MayShow, AreNewNames, log_state, placed, table_of, records_in}
+use Rattle.xa_file_log.specs.{Slot, ForgetsNoMore, StandsFor, IsSettled, MayShow, AreNewNames, log_state, placed, table_of, records_in}
 use Rattle.xa_file_log.proofs.Appending.{same_records, no_more}
 use Rattle.xa_file_log.proofs.Grouped.{before_group, failures_stay, nothing_recorded, all_in, none_more_forgotten, group_runs}
 use Rattle.xa_file_log.proofs.Index.{index_apart}

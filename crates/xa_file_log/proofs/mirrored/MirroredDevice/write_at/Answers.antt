@@ -1,5 +1,5 @@
-use Rattle.std.proofs.Common.{[], ◌∷◌, ◌++◌, Bool, cond, ◌∙◌, ap, arith}
-use Rattle.xa_file_log.specs.declared.mirrored.Call.{Call}
+use Rattle.xa_base.proofs.{[], ◌∷◌, ◌++◌, Bool, cond, ◌∙◌, ap, arith}
+use Rattle.xa_file_log.specs.{Call}
 use Rattle.xa_file_log.proofs.Elapsing.{leaves_to, elapses_to, failures_to, writing_follows, writing_failed}
 use Rattle.xa_file_log.proofs.mirrored.MirroredDevice.write_at.Goals as goal
 

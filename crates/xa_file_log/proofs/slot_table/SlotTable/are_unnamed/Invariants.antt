@@ -1,6 +1,6 @@
-use Rattle.std.proofs.Common.{ℕ, ◌<◌, get_or}
-use Rattle.xa_log.specs.declared.log.CommitRecord.{CommitRecord}
-use Rattle.xa_file_log.specs.Memory.{HasNoName}
+use Rattle.xa_base.proofs.{ℕ, ◌<◌, get_or}
+use Rattle.xa_log.specs.{CommitRecord}
+use Rattle.xa_file_log.specs.{HasNoName}
 use Rattle.xa_file_log.proofs.slot_table.SlotTable.are_unnamed.Given as goal
 
 abbrev pub invariant-loop-decision : goal.invariant-loop-decision

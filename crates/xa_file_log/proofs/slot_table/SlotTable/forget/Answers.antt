@@ -1,11 +1,6 @@
-use Rattle.std.proofs.Common.{◌≡◌, ℕ, Some, get_or, map, set, sym, ◌∙◌, ap, subst, arith}
-use Rattle.std.specs.FinMap.{from_entries}
-use Rattle.std.proofs.lemmas.List.{length-set, get_or_default}
-use Rattle.xa_words.specs.Tran.{TranName, tran_eq}
-use Rattle.xa_file_log.specs.declared.slot.Slot.{Slot}
-use Rattle.xa_file_log.specs.declared.slot.Slot.TheVariants.{Free, Taken, Forgotten}
-use Rattle.xa_file_log.specs.Slots.{name_of}
-use Rattle.xa_file_log.specs.Memory.{on_file, forgets, HasNoFree, IsIndexOf, used}
+use Rattle.xa_base.proofs.{◌≡◌, ℕ, Some, get_or, map, set, sym, ◌∙◌, ap, subst, arith, from_entries, length-set, get_or_default}
+use Rattle.xa_words.specs.{TranName, tran_eq}
+use Rattle.xa_file_log.specs.{Slot, Free, Taken, Forgotten, name_of, on_file, forgets, HasNoFree, IsIndexOf, used}
 use Rattle.xa_file_log.proofs.Forgetting.{none_forgets, one_forgets, forgets_index, forgets_none_free, forgets_used}
 use Rattle.xa_file_log.proofs.Mapped.{slot_indexed}
 use Rattle.xa_file_log.proofs.Index.{one_place}

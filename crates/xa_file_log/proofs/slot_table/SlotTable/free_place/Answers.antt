@@ -1,8 +1,6 @@
-use Rattle.std.proofs.Common.{◌≡◌, ◌<◌, List, length, get_or, sym, ◌∙◌, ap, arith}
-use Rattle.std.proofs.lemmas.List.{get_or_default}
+use Rattle.xa_base.proofs.{◌≡◌, ◌<◌, List, length, get_or, sym, ◌∙◌, ap, arith, get_or_default}
 use borrow.Author.Count.{below_more}
-use Rattle.xa_file_log.specs.declared.slot.Slot.{Slot}
-use Rattle.xa_file_log.specs.declared.slot.Slot.TheVariants.{Free}
+use Rattle.xa_file_log.specs.{Slot, Free}
 use Rattle.xa_file_log.proofs.Mapped.{slot_indexed}
 use Rattle.xa_file_log.proofs.slot_table.SlotTable.free_place.Goals as goal
 

@@ -1,5 +1,5 @@
-use Rattle.std.proofs.Common.{◌≡◌}
-use Rattle.xa_file_log.specs.Memory.{HasNoFree}
+use Rattle.xa_base.proofs.{◌≡◌}
+use Rattle.xa_file_log.specs.{HasNoFree}
 use Rattle.xa_file_log.proofs.slot_table.SlotTable.free_place.Given as goal
 
 abbrev pub invariant-loop-place : goal.invariant-loop-place

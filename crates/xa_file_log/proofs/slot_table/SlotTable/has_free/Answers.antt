@@ -1,6 +1,5 @@
-use Rattle.std.proofs.Common.{◌<◌, length, ◌∙◌, arith}
-use Rattle.std.proofs.lemmas.List.{get_or_default}
-use Rattle.xa_file_log.specs.declared.slot.Slot.TheVariants.{Free}
+use Rattle.xa_base.proofs.{◌<◌, length, ◌∙◌, arith, get_or_default}
+use Rattle.xa_file_log.specs.{Free}
 use Rattle.xa_file_log.proofs.Grouped.{used_past_free, used_past, none_free_used, room_for}
 use Rattle.xa_file_log.proofs.Mapped.{slot_indexed}
 use Rattle.xa_file_log.proofs.slot_table.SlotTable.has_free.Goals as goal

@@ -1,5 +1,5 @@
-use Rattle.std.proofs.Common.{◌≡◌, ◌+◌, ◌≤◌, take}
-use Rattle.xa_file_log.specs.Memory.{used}
+use Rattle.xa_base.proofs.{◌≡◌, ◌+◌, ◌≤◌, take}
+use Rattle.xa_file_log.specs.{used}
 use Rattle.xa_file_log.proofs.slot_table.SlotTable.has_free.Given as goal
 
 abbrev pub invariant-loop-place : goal.invariant-loop-place

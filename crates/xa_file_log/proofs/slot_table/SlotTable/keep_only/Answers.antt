@@ -1,8 +1,6 @@
-use Rattle.std.proofs.Common.{not, length, sym, ◌∙◌, ap, subst, arith}
-use Rattle.std.proofs.lemmas.List.{length-map}
-use Rattle.std.specs.FinMap.{from_entries}
-use Rattle.xa_log.specs.Log.{is_among}
-use Rattle.xa_file_log.specs.Memory.{forgets, HasNoFree, IsIndexOf, used}
+use Rattle.xa_base.proofs.{not, length, sym, ◌∙◌, ap, subst, arith, length-map, from_entries}
+use Rattle.xa_log.specs.{is_among}
+use Rattle.xa_file_log.specs.{forgets, HasNoFree, IsIndexOf, used}
 use Rattle.xa_file_log.proofs.Forgetting.{forgets_index, forgets_none_free, forgets_used}
 use Rattle.xa_file_log.proofs.slot_table.SlotTable.keep_only.Goals as goal
 

@@ -1,6 +1,5 @@
-use Rattle.std.proofs.Common.{◌≡◌, length, replicate, rules, ◌∙◌, ap, arith}
-use Rattle.std.proofs.lemmas.List.{length-replicate}
-use Rattle.xa_file_log.specs.declared.slot.Slot.TheVariants.{Free}
+use Rattle.xa_base.proofs.{◌≡◌, length, replicate, rules, ◌∙◌, ap, arith, length-replicate}
+use Rattle.xa_file_log.specs.{Free}
 use Rattle.xa_file_log.proofs.Index.{new_index}
 use Rattle.xa_file_log.proofs.slot_table.SlotTable.new.Goals as goal
 

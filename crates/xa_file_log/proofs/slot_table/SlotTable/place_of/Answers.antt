@@ -1,7 +1,5 @@
-use Rattle.std.proofs.Common.{sym, ◌∙◌}
-use Rattle.std.specs.FinMap.{from_entries}
-use Rattle.xa_words.specs.Tran.{tran_eq}
-use Rattle.xa_base.proofs.HashMaps.{get-lookup}
+use Rattle.xa_base.proofs.{sym, ◌∙◌, from_entries, get-lookup}
+use Rattle.xa_words.specs.{tran_eq}
 use Rattle.xa_log.proofs.Transactions.{tran_cmp_total, tran_cmp-IsAntisymmetric, tran_eq-by_cmp}
 use Rattle.xa_file_log.proofs.Index.{if_there, if_none}
 use Rattle.xa_file_log.proofs.slot_table.SlotTable.place_of.Goals as goal

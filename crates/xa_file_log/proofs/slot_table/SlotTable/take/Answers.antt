@@ -1,12 +1,8 @@
-use Rattle.std.proofs.Common.{◌<◌, refl, ◌∙◌, sym, arith}
-use Rattle.std.specs.FinMap.{from_entries}
-use Rattle.std.specs.HashMap.{hash_map_len, spare}
-use Rattle.std.proofs.lemmas.List.{length-set}
-use Rattle.xa_base.proofs.Options.{at_ok}
-use Rattle.xa_base.proofs.HashMaps.{get-lookup, one_put}
-use Rattle.xa_words.specs.Tran.{tran_eq}
+use Rattle.xa_base.proofs.{◌<◌, refl, ◌∙◌, sym, arith, from_entries, spare, length-set, at_ok, get-lookup, one_put}
+use Rattle.std.specs.HashMap.{hash_map_len}
+use Rattle.xa_words.specs.{tran_eq}
 use Rattle.xa_log.proofs.Transactions.{tran_cmp_total, tran_cmp-IsAntisymmetric, tran_eq-by_cmp}
-use Rattle.xa_file_log.specs.declared.slot.Slot.TheVariants.{Taken}
+use Rattle.xa_file_log.specs.{Taken}
 use Rattle.xa_file_log.proofs.Anew.{if_ok_at, longer_by_one}
 use Rattle.xa_file_log.proofs.Index.{used_less, index_set, not_indexed, used_set, none_free_set}
 use Rattle.xa_file_log.proofs.slot_table.SlotTable.take.Goals as goal

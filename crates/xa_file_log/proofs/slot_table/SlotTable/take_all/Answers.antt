@@ -1,9 +1,5 @@
-use Rattle.std.proofs.Common.{◌+◌, List, length, set, drop, sym, ◌∙◌, ap, subst, arith}
-use Rattle.std.proofs.lemmas.List.{length-drop, length-set, drop_all}
-use Rattle.xa_file_log.specs.declared.slot.Slot.{Slot}
-use Rattle.xa_file_log.specs.declared.slot.Slot.TheVariants.{Taken}
-use Rattle.xa_file_log.specs.Slots.{AreApart}
-use Rattle.xa_file_log.specs.Memory.{HasNoName, placed, table_of, used}
+use Rattle.xa_base.proofs.{◌+◌, List, length, set, drop, sym, ◌∙◌, ap, subst, arith, length-drop, length-set, drop_all}
+use Rattle.xa_file_log.specs.{Slot, Taken, AreApart, HasNoName, placed, table_of, used}
 use Rattle.xa_file_log.proofs.Grouped.{all_used, first_is_new, placed_first}
 use Rattle.xa_file_log.proofs.Index.{used_set}
 use Rattle.xa_file_log.proofs.Placed.{records_left, none_placed}

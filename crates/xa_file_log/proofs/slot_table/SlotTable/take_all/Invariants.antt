@@ -1,5 +1,5 @@
-use Rattle.std.proofs.Common.{◌≡◌, length, drop}
-use Rattle.xa_file_log.specs.Memory.{placed, HasRoomFor}
+use Rattle.xa_base.proofs.{◌≡◌, length, drop}
+use Rattle.xa_file_log.specs.{placed, HasRoomFor}
 use Rattle.xa_file_log.proofs.slot_table.SlotTable.take_all.Given as goal
 
 abbrev pub invariant-loop-decision : goal.invariant-loop-decision

@@ -1,7 +1,5 @@
-use Rattle.std.proofs.Common.{◌≡◌, ◌++◌, length, map, vec_capacity}
-use Rattle.std.specs.Vec.Iter.{into_iter_items}
-use Rattle.xa_switch.specs.Columns.{Each}
-use Rattle.xa_switch.specs.OpenedPieces.{IsDeskOf}
+use Rattle.xa_base.proofs.{◌≡◌, ◌++◌, length, map, vec_capacity, into_iter_items}
+use Rattle.xa_switch.specs.{Each, IsDeskOf}
 use Rattle.xa_switch.proofs.Dealing.{IsLeft}
 use Rattle.xa_switch.proofs.opening.assemble.assemble_desks.Given as goal
 

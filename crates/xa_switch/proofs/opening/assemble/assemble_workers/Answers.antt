@@ -1,7 +1,5 @@
-use Rattle.std.proofs.Common.{length, map, sym, ap, ◌∙◌, ◌++◌}
-use Rattle.std.specs.Vec.Iter.{into_iter_items}
-use Rattle.xa_base.proofs.Lists.{got_map, next_there, taken_next}
-use Rattle.xa_switch.specs.OpenedPieces.{IsWorkerOf}
+use Rattle.xa_base.proofs.{length, map, sym, ap, ◌∙◌, ◌++◌, into_iter_items, got_map, next_there, taken_next}
+use Rattle.xa_switch.specs.{IsWorkerOf}
 use Rattle.xa_switch.proofs.Dealing.{next_of, one_more_made}
 use Rattle.xa_switch.proofs.opening.assemble.assemble_workers.Goals as goal
 

@@ -1,7 +1,5 @@
-use Rattle.std.proofs.Common.{◌+◌, length, map, vec_capacity, sym, ap, subst, arith}
-use Rattle.std.proofs.lemmas.List.{length-map}
-use Rattle.xa_switch.specs.Columns.{put_row}
-use Rattle.xa_switch.specs.Lanes.{lane_to, AreNewLanes}
+use Rattle.xa_base.proofs.{◌+◌, length, map, vec_capacity, sym, ap, subst, arith, length-map}
+use Rattle.xa_switch.specs.{put_row, lane_to, AreNewLanes}
 use Rattle.xa_switch.proofs.Dealing.{room_more, room_stays}
 use Rattle.xa_switch.proofs.NewEnds.{length_senders, one_more_lane}
 use Rattle.xa_switch.proofs.opening.lanes.open_lanes.Goals as goal

@@ -1,6 +1,5 @@
-use Rattle.std.proofs.Common.{◌≤◌, map, vec_capacity}
-use Rattle.std.specs.List.{All}
-use Rattle.xa_switch.specs.Lanes.{AreNewLanes}
+use Rattle.xa_base.proofs.{◌≤◌, map, vec_capacity, All}
+use Rattle.xa_switch.specs.{AreNewLanes}
 use Rattle.xa_switch.proofs.opening.lanes.open_lanes.Given as goal
 
 -- the lanes so far, and room for the others

@@ -1,5 +1,4 @@
-use Rattle.std.proofs.Common.{arith}
-use Rattle.std.proofs.lemmas.List.{length-map}
+use Rattle.xa_base.proofs.{arith, length-map}
 use Rattle.xa_switch.proofs.Meeting.{ends_of, desks_fit, workers_fit, one_opening}
 use Rattle.xa_switch.proofs.opening.layout.put_together.Goals as goal
 

@@ -1,10 +1,8 @@
-use Rattle.std.proofs.Common.{◌≡◌, Bool, true, false, ℕ, ◌+◌, ◌<◌, List, [], ◌∷◌, ◌++◌, length, cond, Result, Ok, Err, is_ok, is_err, get_or, take, refl, sym}
-use Rattle.std.proofs.Common.{ap, ◌∙◌, subst, arith}
-use Rattle.std.specs.List.{All}
-use Rattle.std.proofs.lemmas.List.{take_more, take_all, map_more}
-use Rattle.std.proofs.lemmas.List.Elements.{All-push}
-use Rattle.xa_switch.specs.Plans.{IsSoundManager, opened_by}
-use Rattle.xa_switch.specs.declared.plan.ManagerPlan.{ManagerPlan}
+use Rattle.xa_base.proofs.{◌≡◌, Bool, true, false, ℕ, ◌+◌, ◌<◌, List, [], ◌∷◌, ◌++◌, length, cond, Result, Ok, Err, get_or, take, refl, sym, ap, ◌∙◌, subst}
+use Rattle.xa_base.proofs.{arith, All, take_more, take_all, All-push}
+use Rattle.std.proofs.Common.{is_ok, is_err}
+use Rattle.std.proofs.lemmas.List.{map_more}
+use Rattle.xa_switch.specs.{IsSoundManager, opened_by, ManagerPlan}
 use Rattle.xa_switch.proofs.opening.managers.open_managers.Goals as goal
 use Rattle.xa_switch.proofs.opening.managers.open_managers.Goals.{in-Ok+then-is_short, in-Ok+else-is_short, in-Err-NoMemory}
 

@@ -1,6 +1,5 @@
-use Rattle.std.proofs.Common.{◌≡◌, false, map, take}
-use Rattle.std.specs.List.{All}
-use Rattle.xa_switch.specs.Plans.{IsSoundManager, opened_by}
+use Rattle.xa_base.proofs.{◌≡◌, false, map, take, All}
+use Rattle.xa_switch.specs.{IsSoundManager, opened_by}
 use Rattle.xa_switch.proofs.opening.managers.open_managers.Given as goal
 
 -- the accounts so far can be had, and their managers are there unless memory was short

@@ -1,13 +1,9 @@
-use Rattle.std.proofs.Common.{◌≡◌, ℕ, ◌≤◌, length, map, sym, ap, ◌∙◌, subst, refl}
-use Rattle.std.specs.List.{All, range_with_len}
+use Rattle.xa_base.proofs.{◌≡◌, ℕ, ◌≤◌, length, map, sym, ap, ◌∙◌, subst, refl, All, range_with_len}
 use Rattle.std.proofs.lemmas.List.FromFn.{length-map-range_with_len}
 use Rattle.std.proofs.lemmas.Simd.{map-map as map_map}
-use Rattle.xa_tables.specs.Managers.{Managed}
-use Rattle.xa_tables.specs.Openings.{IsOpening}
-use Rattle.xa_switch.specs.Plans.{setup, new_manager}
-use Rattle.xa_switch.specs.OpenedPieces.{AreOfOneOpening}
-use Rattle.xa_switch.specs.Settling.{Settling, ReadyPart, find_manager}
-use Rattle.xa_switch.specs.Again.{last_in, managers_in, parts_of, reopened_at}
+use Rattle.xa_tables.specs.{Managed, IsOpening}
+use Rattle.xa_switch.specs.{setup, new_manager, AreOfOneOpening, ReadyPart, find_manager, last_in, managers_in, parts_of, reopened_at}
+use Rattle.xa_switch.specs.Settling.{Settling}
 use Rattle.xa_switch.specs.declared.plan.Again.{Again}
 use Rattle.xa_switch.proofs.AllThere.{find_parts}
 use Rattle.xa_switch.proofs.Retaken.{some_of, all_given}

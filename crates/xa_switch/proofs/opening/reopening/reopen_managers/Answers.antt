@@ -1,15 +1,9 @@
-use Rattle.std.proofs.Common.{◌≡◌, ℕ, ◌+◌, None, Some, [], ◌∷◌, ◌++◌, length, map, option_map, sym, ap, ◌∙◌, arith}
-use Rattle.std.specs.List.{range_with_len}
-use Rattle.std.proofs.lemmas.List.{map-append}
+use Rattle.xa_base.proofs.{◌≡◌, ℕ, ◌+◌, None, Some, [], ◌∷◌, ◌++◌, length, map, option_map, sym, ap, ◌∙◌, arith, range_with_len, map-append, range_more}
+use Rattle.xa_base.proofs.{All-contains}
 use Rattle.std.proofs.lemmas.List.FromFn.{length-map-range_with_len}
-use Rattle.xa_base.proofs.Lists.{range_more}
-use Rattle.xa_tables.specs.Managers.{Managed}
-use Rattle.xa_tables.specs.Openings.{reopened}
-use Rattle.xa_switch.specs.Plans.{new_manager}
-use Rattle.xa_switch.specs.Settling.{ReadyPart}
-use Rattle.xa_switch.specs.Again.{find_ready, last_in, parts_of, reopened_at}
+use Rattle.xa_tables.specs.{Managed, reopened}
+use Rattle.xa_switch.specs.{new_manager, ReadyPart, find_ready, last_in, parts_of, reopened_at}
 use Rattle.xa_switch.proofs.AllThere.{find_parts}
-use Rattle.std.proofs.lemmas.List.Elements.{All-contains}
 use Rattle.xa_switch.proofs.Lists.{found}
 use Rattle.xa_switch.proofs.opening.reopening.reopen_managers.Goals as goal
 

@@ -1,7 +1,5 @@
-use Rattle.std.proofs.Common.{◌≡◌, ℕ, ◌<◌, map, vec_capacity}
-use Rattle.std.specs.List.{range_with_len}
-use Rattle.xa_switch.specs.Plans.{new_manager}
-use Rattle.xa_switch.specs.Again.{find_ready, parts_of, reopened_at}
+use Rattle.xa_base.proofs.{◌≡◌, ℕ, ◌<◌, map, vec_capacity, range_with_len}
+use Rattle.xa_switch.specs.{new_manager, find_ready, parts_of, reopened_at}
 use Rattle.xa_switch.proofs.opening.reopening.reopen_managers.Given as goal
 
 -- the managers so far are reopened, and the others are still there

@@ -1,7 +1,5 @@
-use Rattle.std.proofs.Common.{◌≡◌, Some, ap, ◌∙◌, subst, arith}
-use Rattle.std.specs.List.{All}
-use Rattle.std.proofs.lemmas.List.{length-set, take_all}
-use Rattle.xa_switch.specs.Settling.{ReadyPart}
+use Rattle.xa_base.proofs.{◌≡◌, Some, ap, ◌∙◌, subst, arith, All, length-set, take_all}
+use Rattle.xa_switch.specs.{ReadyPart}
 use Rattle.xa_switch.proofs.Retaken.{set_alike, all_set_more}
 use Rattle.xa_switch.proofs.opening.reopening.reserve_managers.Goals as goal
 

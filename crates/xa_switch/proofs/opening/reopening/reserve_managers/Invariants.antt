@@ -1,6 +1,5 @@
-use Rattle.std.proofs.Common.{◌≡◌, Some, length, take}
-use Rattle.std.specs.List.{All}
-use Rattle.xa_switch.specs.Again.{parts_of}
+use Rattle.xa_base.proofs.{◌≡◌, Some, length, take, All}
+use Rattle.xa_switch.specs.{parts_of}
 use Rattle.xa_switch.proofs.opening.reopening.reserve_managers.Given as goal
 
 -- the managers so far have their memory

@@ -1,11 +1,5 @@
-use Rattle.std.proofs.Common.{◌≡◌, ◌≢◌, ◌==◌, Some, take, get_or, sym, ap, ◌∙◌, subst, arith}
-use Rattle.std.specs.List.{All}
-use Rattle.std.proofs.lemmas.Bool.{eq-eqb, ne_eqb}
-use Rattle.std.proofs.lemmas.List.{take_all}
-use Rattle.xa_base.proofs.Lists.{all_at, find_none}
-use Rattle.xa_switch.specs.Settling.{ReadyPart}
-use Rattle.xa_switch.specs.Again.{find_ready}
-use Rattle.std.proofs.lemmas.List.{get_or_default}
+use Rattle.xa_base.proofs.{◌≡◌, ◌≢◌, ◌==◌, Some, take, get_or, sym, ap, ◌∙◌, subst, arith, All, eq-eqb, ne_eqb, take_all, all_at, find_none, get_or_default}
+use Rattle.xa_switch.specs.{ReadyPart, find_ready}
 use Rattle.xa_switch.proofs.Retaken.{all_more, found_at, found_without}
 use Rattle.xa_switch.proofs.opening.reopening.take_manager.Goals as goal
 

@@ -1,5 +1,4 @@
-use Rattle.std.proofs.Common.{◌≡◌, ◌≢◌, take}
-use Rattle.std.specs.List.{All}
+use Rattle.xa_base.proofs.{◌≡◌, ◌≢◌, take, All}
 use Rattle.xa_switch.proofs.opening.reopening.take_manager.Given as goal
 
 -- none of those before has the number

@@ -1,6 +1,5 @@
-use Rattle.std.proofs.Common.{◌≡◌, ◌+◌, length}
-use Rattle.xa_switch.specs.Columns.{Each}
-use Rattle.xa_switch.specs.OpenedPieces.{desk_parts}
+use Rattle.xa_base.proofs.{◌≡◌, ◌+◌, length}
+use Rattle.xa_switch.specs.{Each, desk_parts}
 use Rattle.xa_switch.proofs.opening.reserve.reserve_desks.Given as goal
 
 -- the parts of the threads so far

@@ -1,5 +1,5 @@
-use Rattle.std.proofs.Common.{◌≡◌, ◌+◌, length}
-use Rattle.xa_switch.specs.Columns.{Each}
+use Rattle.xa_base.proofs.{◌≡◌, ◌+◌, length}
+use Rattle.xa_switch.specs.{Each}
 use Rattle.xa_switch.proofs.opening.reserve.reserve_workers.Given as goal
 
 -- the parts of the managers so far

@@ -1,7 +1,6 @@
-use Rattle.std.proofs.Common.{◌≡◌, ◌+◌, length, map, vec_capacity}
-use Rattle.xa_switch.specs.Again.{reopened_at}
-use Rattle.xa_switch.specs.Columns.{Each}
-use Rattle.xa_tables.specs.Openings.{AreLeft}
+use Rattle.xa_base.proofs.{◌≡◌, ◌+◌, length, map, vec_capacity}
+use Rattle.xa_switch.specs.{reopened_at, Each}
+use Rattle.xa_tables.specs.{AreLeft}
 use Rattle.xa_switch.proofs.opening.scans.left_of.Given as goal
 
 -- the lists so far have what is left at their managers

@@ -1,7 +1,5 @@
-use Rattle.std.proofs.Common.{[], ◌∷◌, length, length-append, map, sym, ap, ◌∙◌, subst, arith}
-use Rattle.std.specs.List.{All}
-use Rattle.std.proofs.lemmas.List.Elements.{All-push}
-use Rattle.xa_switch.specs.Recovery.{HasLeft, IsScanOf}
+use Rattle.xa_base.proofs.{[], ◌∷◌, length, length-append, map, sym, ap, ◌∙◌, subst, arith, All, All-push}
+use Rattle.xa_switch.specs.{HasLeft, IsScanOf}
 use Rattle.xa_switch.proofs.opening.scans.scans_of.Goals as goal
 
 pub loop-preserved : goal.loop-preserved

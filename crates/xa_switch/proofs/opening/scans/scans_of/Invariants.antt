@@ -1,6 +1,5 @@
-use Rattle.std.proofs.Common.{◌≡◌, length, vec_capacity}
-use Rattle.std.specs.List.{All}
-use Rattle.xa_switch.specs.Recovery.{IsScanOf}
+use Rattle.xa_base.proofs.{◌≡◌, length, vec_capacity, All}
+use Rattle.xa_switch.specs.{IsScanOf}
 use Rattle.xa_switch.proofs.opening.scans.scans_of.Given as goal
 
 -- each scan so far is of what is left

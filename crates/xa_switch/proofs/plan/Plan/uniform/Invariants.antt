@@ -1,5 +1,5 @@
-use Rattle.std.proofs.Common.{◌≡◌, true, map, replicate}
-use Rattle.xa_switch.specs.Plans.{use_async}
+use Rattle.xa_base.proofs.{◌≡◌, true, map, replicate}
+use Rattle.xa_switch.specs.{use_async}
 use Rattle.xa_switch.proofs.plan.Plan.uniform.Given as goal
 
 -- the managers so far

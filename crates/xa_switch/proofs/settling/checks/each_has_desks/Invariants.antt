@@ -1,6 +1,6 @@
-use Rattle.std.proofs.Common.{ℕ, ◌≤◌, ◌<◌, get_or}
-use Rattle.xa_worker.specs.Done.{Served}
-use Rattle.xa_switch.specs.Belonging.{HasDesks}
+use Rattle.xa_base.proofs.{ℕ, ◌≤◌, ◌<◌, get_or}
+use Rattle.xa_worker.specs.{Served}
+use Rattle.xa_switch.specs.{HasDesks}
 use Rattle.xa_switch.proofs.settling.checks.each_has_desks.Given as goal
 
 abbrev pub invariant-loop-worker : goal.invariant-loop-worker

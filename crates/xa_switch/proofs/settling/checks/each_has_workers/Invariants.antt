@@ -1,6 +1,6 @@
-use Rattle.std.proofs.Common.{ℕ, ◌≤◌, ◌<◌, length, get_or}
-use Rattle.xa_desk.specs.Ended.{EndedView}
-use Rattle.xa_switch.specs.Belonging.{HasWorkers}
+use Rattle.xa_base.proofs.{ℕ, ◌≤◌, ◌<◌, length, get_or}
+use Rattle.xa_desk.specs.{EndedView}
+use Rattle.xa_switch.specs.{HasWorkers}
 use Rattle.xa_switch.proofs.settling.checks.each_has_workers.Given as goal
 
 abbrev pub invariant-loop-desk : goal.invariant-loop-desk

@@ -1,5 +1,4 @@
-use Rattle.std.proofs.Common.{◌==◌, sym, arith, ne_eqb}
-use Rattle.std.proofs.lemmas.List.Folds.{list_any_none}
+use Rattle.xa_base.proofs.{◌==◌, sym, arith, ne_eqb, list_any_none}
 use Rattle.xa_switch.proofs.settling.checks.has_desk.Goals as goal
 
 pub returns-clause-there : goal.returns-clause-there

@@ -1,5 +1,5 @@
-use Rattle.std.proofs.Common.{◌≢◌, ℕ, ◌<◌, get_or}
-use Rattle.xa_desk.specs.Ended.{EndedView}
+use Rattle.xa_base.proofs.{◌≢◌, ℕ, ◌<◌, get_or}
+use Rattle.xa_desk.specs.{EndedView}
 use Rattle.xa_switch.proofs.settling.checks.has_desk.Given as goal
 
 abbrev pub invariant-loop-desk : goal.invariant-loop-desk

@@ -1,5 +1,5 @@
-use Rattle.std.proofs.Common.{◌≤◌}
-use Rattle.xa_switch.specs.Belonging.{HasDesks}
+use Rattle.xa_base.proofs.{◌≤◌}
+use Rattle.xa_switch.specs.{HasDesks}
 use Rattle.xa_switch.proofs.settling.checks.has_desks.Given as goal
 
 abbrev pub invariant-loop-before : goal.invariant-loop-before

@@ -1,4 +1,4 @@
-use Rattle.xa_switch.specs.Belonging.{HasWorkers}
+use Rattle.xa_switch.specs.{HasWorkers}
 use Rattle.xa_switch.proofs.settling.checks.has_workers.Given as goal
 
 abbrev pub invariant-loop-before : goal.invariant-loop-before

@@ -1,10 +1,6 @@
-use Rattle.std.proofs.Common.{◌≡◌, ◌≢◌, ◌<◌, ℕ, suc, List, get_or, ◌∷◌, ◌++◌, length, map, arith, sym, subst, ap, ◌∙◌}
-use Rattle.std.specs.List.{All, AllPairs}
-use Rattle.std.specs.Vec.Iter.{into_iter_items}
-use Rattle.std.proofs.lemmas.List.{length-set}
-use Rattle.std.proofs.lemmas.List.Elements.{All-push}
-use Rattle.xa_switch.specs.Closing.{column, IsClosable, IsClosed}
-use Rattle.xa_base.proofs.Lists.{all_mid, taken_next}
+use Rattle.xa_base.proofs.{◌≡◌, ◌≢◌, ◌<◌, ℕ, suc, List, get_or, ◌∷◌, ◌++◌, length, map, arith, sym, subst, ap, ◌∙◌, All, AllPairs, into_iter_items, length-set}
+use Rattle.xa_base.proofs.{All-push, all_mid, taken_next}
+use Rattle.xa_switch.specs.{column, IsClosable, IsClosed}
 use Rattle.xa_switch.proofs.Gathering.{pairs_mid, column_kept, column_at}
 use Rattle.xa_switch.proofs.settling.closing.close_lanes.Goals as goal
 

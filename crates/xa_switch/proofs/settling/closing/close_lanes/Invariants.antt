@@ -1,7 +1,5 @@
-use Rattle.std.proofs.Common.{◌≡◌, ◌++◌, map, length}
-use Rattle.std.specs.List.{All}
-use Rattle.std.specs.Vec.Iter.{into_iter_items, into_iter_len}
-use Rattle.xa_switch.specs.Closing.{column, IsClosed}
+use Rattle.xa_base.proofs.{◌≡◌, ◌++◌, map, length, All, into_iter_items, into_iter_len}
+use Rattle.xa_switch.specs.{column, IsClosed}
 use Rattle.xa_switch.proofs.settling.closing.close_lanes.Given as goal
 
 abbrev pub invariant-loop-place : goal.invariant-loop-place

@@ -1,7 +1,6 @@
-use Rattle.std.proofs.Common.{length, rules, arith, ap}
-use Rattle.std.proofs.lemmas.List.Elements.{All-push}
-use Rattle.xa_desk.specs.Ended.{IsEnded}
-use Rattle.xa_switch.specs.Closing.{TakesIn, desk_lane, thread_part}
+use Rattle.xa_base.proofs.{length, rules, arith, ap, All-push}
+use Rattle.xa_desk.specs.{IsEnded}
+use Rattle.xa_switch.specs.{TakesIn, desk_lane, thread_part}
 use Rattle.xa_switch.proofs.Gathering.{room_left, row_fits, one_more_taken}
 use Rattle.xa_switch.proofs.settling.gathered.take_desks.Goals as goal
 

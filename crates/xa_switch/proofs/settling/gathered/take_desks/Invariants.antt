@@ -1,7 +1,6 @@
-use Rattle.std.specs.List.{All}
-use Rattle.std.specs.Vec.Iter.{into_iter_items}
-use Rattle.xa_desk.specs.Ended.{IsEnded}
-use Rattle.xa_switch.specs.Closing.{desk_lane, thread_part}
+use Rattle.xa_base.proofs.{All, into_iter_items}
+use Rattle.xa_desk.specs.{IsEnded}
+use Rattle.xa_switch.specs.{desk_lane, thread_part}
 use Rattle.xa_switch.proofs.Gathering.{Gathers}
 use Rattle.xa_switch.proofs.settling.gathered.take_desks.Given as goal
 

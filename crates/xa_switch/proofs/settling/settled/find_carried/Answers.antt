@@ -1,5 +1,5 @@
-use Rattle.std.proofs.Common.{◌≡◌, Option, Some, None, option_map, refl, sym, ap, ◌∙◌}
-use Rattle.xa_switch.specs.Settling.{ReadyPart}
+use Rattle.xa_base.proofs.{◌≡◌, Option, Some, None, option_map, refl, sym, ap, ◌∙◌}
+use Rattle.xa_switch.specs.{ReadyPart}
 use Rattle.xa_switch.proofs.AllThere.{find_parts}
 use Rattle.xa_switch.proofs.settling.settled.find_carried.Goals as goal
 

@@ -1,14 +1,9 @@
-use Rattle.std.proofs.Common.{◌≡◌, ◌<◌, ℕ, length, ◌≤◌, refl, sym, ap, ◌∙◌, subst, arith, List, ◌+◌}
-use Rattle.std.specs.Prelude.{vec_capacity, All, slice_index_or, [], ◌+ℤ◌}
-use Rattle.std.proofs.Math.ListN.{set}
-use Rattle.std.proofs.lemmas.List.{length-set, length-map}
+use Rattle.xa_base.proofs.{◌≡◌, ◌<◌, ℕ, length, ◌≤◌, refl, sym, ap, ◌∙◌, subst, arith, List, ◌+◌, vec_capacity, All, slice_index_or, [], ◌+ℤ◌, set, length-set}
+use Rattle.xa_base.proofs.{length-map, from_entries}
 use Rattle.std.specs.FinMap as finmap
-use Rattle.std.specs.FinMap.{from_entries}
 use Rattle.xa_words.specs.Orders.{key_cmp}
-use Rattle.xa_tables.specs.declared.accounts.Account.{Account}
-use Rattle.xa_tables.specs.Tables.{touch_cmp, is_broken, has_other_touched, sum_of}
-use Rattle.xa_tables.specs.Accounts.{AreDistinct, AreIndexed, IsGood, value_entries, hold_entries, added_to, key_at, keys_of}
-use Rattle.xa_tables.specs.Held.{AreHeld}
+use Rattle.xa_tables.specs.{Account, touch_cmp, is_broken, has_other_touched, sum_of, AreDistinct, AreIndexed, IsGood, value_entries, hold_entries, added_to}
+use Rattle.xa_tables.specs.{key_at, keys_of, AreHeld}
 use Rattle.xa_tables.proofs.HeldLemmas.{held_noted, note_room}
 use Rattle.xa_tables.proofs.AccountLemmas.{IsFor, for_place, values_set, sums_added, others_added, distinct_added, all_added}
 use Rattle.xa_tables.proofs.PlaceLemmas.{key_there, indexed_set}

@@ -1,10 +1,6 @@
-use Rattle.std.proofs.Common.{arith, ◌≡◌, ◌++◌, refl, ap, ◌∙◌, length, take, drop}
-use Rattle.std.specs.Prelude.{filter, map}
-use Rattle.std.specs.FinMap.{from_entries}
+use Rattle.xa_base.proofs.{arith, ◌≡◌, ◌++◌, refl, ap, ◌∙◌, length, take, drop, filter, map, from_entries}
 use Rattle.xa_words.specs.Orders.{key_cmp}
-use Rattle.xa_tables.specs.Tables.{touch_cmp, is_broken, sums_without}
-use Rattle.xa_tables.specs.Accounts.{value_entries, hold_entries, kept_where, all_but}
-use Rattle.xa_tables.specs.Held.{is_held_at}
+use Rattle.xa_tables.specs.{touch_cmp, is_broken, sums_without, value_entries, hold_entries, kept_where, all_but, is_held_at}
 use Rattle.xa_tables.proofs.AccountLemmas.{written_whole, kept_goes, sums_go, values_kept, others_as_were, forgotten_breaks, all_kept}
 use Rattle.xa_tables.proofs.HeldLemmas.{held_alike, accounts_kept}
 use Rattle.xa_tables.proofs.accounts.Accounts.forget.Goals as goal

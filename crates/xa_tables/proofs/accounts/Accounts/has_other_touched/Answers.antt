@@ -1,9 +1,5 @@
-use Rattle.std.proofs.Common.{◌≡◌, ◌<◌, length, sym, ap, ◌∙◌, arith}
-use Rattle.std.proofs.lemmas.List.{length-map}
-use Rattle.std.specs.FinMap.{from_entries}
-use Rattle.xa_tables.specs.declared.accounts.Account.{Account}
-use Rattle.xa_tables.specs.Tables.{touch_cmp, has_other_touched}
-use Rattle.xa_tables.specs.Accounts.{hold_entries, keys_of, key_at}
+use Rattle.xa_base.proofs.{◌≡◌, ◌<◌, length, sym, ap, ◌∙◌, arith, length-map, from_entries}
+use Rattle.xa_tables.specs.{Account, touch_cmp, has_other_touched, hold_entries, keys_of, key_at}
 use Rattle.xa_tables.proofs.AccountLemmas.{other_any}
 use Rattle.xa_tables.proofs.PlaceLemmas.{other_at, placed_there, key_there}
 use Rattle.xa_tables.proofs.accounts.Accounts.has_other_touched.Goals as goal

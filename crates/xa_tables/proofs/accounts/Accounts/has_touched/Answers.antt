@@ -1,4 +1,4 @@
-use Rattle.std.proofs.Common.{arith}
+use Rattle.xa_base.proofs.{arith}
 use Rattle.xa_tables.proofs.AccountLemmas.{touched_any}
 use Rattle.xa_tables.proofs.HeldLemmas.{touched_held, held_alike}
 use Rattle.xa_tables.proofs.accounts.Accounts.has_touched.Goals as goal

@@ -1,7 +1,5 @@
-use Rattle.std.proofs.Common.{rules, sym, ap, ◌∙◌}
-use Rattle.std.specs.List.{list_any}
-use Rattle.xa_tables.specs.Tables.{is_broken}
-use Rattle.xa_tables.specs.Accounts.{is_broken_by}
+use Rattle.xa_base.proofs.{rules, sym, ap, ◌∙◌, list_any}
+use Rattle.xa_tables.specs.{is_broken, is_broken_by}
 use Rattle.xa_tables.proofs.AccountLemmas.{broken_any}
 use Rattle.xa_tables.proofs.HeldLemmas.{broken_held, held_alike}
 use Rattle.xa_tables.proofs.accounts.Accounts.is_broken.Goals as goal

@@ -1,13 +1,8 @@
-use Rattle.std.proofs.Common.{◌≡◌, ℕ, List, ◌++◌, ◌∷◌, [], sym, ap, ◌∙◌, subst, arith, length, map, None, w64}
-use Rattle.std.proofs.lemmas.Int.{to_z-of_z, ints}
-use Rattle.std.specs.Prelude.{All}
+use Rattle.xa_base.proofs.{◌≡◌, ℕ, List, ◌++◌, ◌∷◌, [], sym, ap, ◌∙◌, subst, arith, length, map, None, w64, to_z-of_z, ints, All, get-empty, from_entries}
+use Rattle.xa_base.proofs.{take_all, length-map}
 use Rattle.std.specs.FinMap as finmap
-use Rattle.std.specs.FinMap.{get-empty, from_entries}
-use Rattle.std.proofs.lemmas.List.{take_all, length-map}
 use Rattle.xa_words.specs.Orders.{key_cmp}
-use Rattle.xa_tables.specs.declared.accounts.Account.{Account}
-use Rattle.xa_tables.specs.Accounts.{AreDistinct, AreIndexed, IsGood}
-use Rattle.xa_tables.specs.Held.{AreHeld}
+use Rattle.xa_tables.specs.{Account, AreDistinct, AreIndexed, IsGood, AreHeld}
 use Rattle.xa_tables.proofs.HeldLemmas.{held_declared}
 use Rattle.xa_tables.proofs.PlaceLemmas.{account_of, indexed_push, values_declared, holds_declared, distinct_declared, good_declared, limit_declared}
 use Rattle.xa_tables.proofs.PlaceLemmas.{declared_more, length_declared}

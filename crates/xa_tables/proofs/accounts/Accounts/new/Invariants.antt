@@ -1,6 +1,6 @@
 use Rattle.xa_tables.proofs.PlaceLemmas.{account_of}
-use Rattle.std.proofs.Common.{◌≡◌, ◌+◌, ◌≤◌, length, map, take}
-use Rattle.xa_tables.specs.Accounts.{AreIndexed}
+use Rattle.xa_base.proofs.{◌≡◌, ◌+◌, ◌≤◌, length, map, take}
+use Rattle.xa_tables.specs.{AreIndexed}
 use Rattle.xa_tables.proofs.accounts.Accounts.new.Given as goal
 
 -- the accounts of the keys so far, each with its place, and room for the other places

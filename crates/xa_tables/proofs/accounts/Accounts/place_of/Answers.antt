@@ -1,11 +1,7 @@
-use Rattle.std.proofs.Common.{◌≡◌, ◌<◌, ℕ, List, [], Option, length, sym, ap, ◌∙◌, subst, arith}
-use Rattle.std.specs.Prelude.{is_some, IfSome, slice_index_or}
+use Rattle.xa_base.proofs.{◌≡◌, ◌<◌, ℕ, List, [], Option, length, sym, ap, ◌∙◌, subst, arith, is_some, IfSome, slice_index_or, get-from_entries, length-map}
 use Rattle.std.specs.FinMap as finmap
-use Rattle.std.specs.FinMap.{get-from_entries}
-use Rattle.std.proofs.lemmas.List.{length-map}
-use Rattle.xa_words.specs.Orders.{key_cmp_total}
-use Rattle.xa_tables.specs.declared.accounts.Account.{Account}
-use Rattle.xa_tables.specs.Accounts.{value_entries, keys_of, place_in}
+use Rattle.xa_words.specs.{key_cmp_total}
+use Rattle.xa_tables.specs.{Account, value_entries, keys_of, place_in}
 use Rattle.xa_tables.proofs.PlaceLemmas.{place_some, place_within, key_placed}
 use Rattle.xa_tables.proofs.accounts.Accounts.place_of.Goals as goal
 
@@ -18,10 +14,10 @@ returns-clause-declared c =
 
 -- a place in the accounts is within their keys, and has the key
 within_keys : (k : List ℕ) (items : List Account) (o : Option ℕ) → o ≡ place_in k items → IfSome o (λ i. i < length (keys_of items))
-within_keys k items v2 e = grind (arith, place_within, length-map)
+within_keys k items o e = grind (arith, place_within, length-map)
 
 has_key : (k : List ℕ) (items : List Account) (o : Option ℕ) → o ≡ place_in k items → IfSome o (λ i. slice_index_or (keys_of items) i [] ≡ k)
-has_key k items v2 e = grind (arith, key_placed)
+has_key k items o e = grind (arith, key_placed)
 
 pub returns-clause-within : goal.returns-clause-within
 returns-clause-within c =

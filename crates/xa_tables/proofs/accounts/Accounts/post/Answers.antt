@@ -1,11 +1,6 @@
-use Rattle.std.proofs.Common.{arith, ◌≡◌, ◌++◌, refl, sym, ap, ◌∙◌, length, take, drop}
-use Rattle.std.specs.List.{list_any}
-use Rattle.std.specs.Prelude.{filter, map}
-use Rattle.std.specs.FinMap.{from_entries}
+use Rattle.xa_base.proofs.{arith, ◌≡◌, ◌++◌, refl, sym, ap, ◌∙◌, length, take, drop, list_any, filter, map, from_entries}
 use Rattle.xa_words.specs.Orders.{key_cmp}
-use Rattle.xa_tables.specs.Tables.{touch_cmp, is_broken, sums_without}
-use Rattle.xa_tables.specs.Accounts.{value_entries, hold_entries, posted_by, is_broken_by, all_but}
-use Rattle.xa_tables.specs.Held.{is_held_at}
+use Rattle.xa_tables.specs.{touch_cmp, is_broken, sums_without, value_entries, hold_entries, posted_by, is_broken_by, all_but, is_held_at}
 use Rattle.xa_tables.proofs.AccountLemmas.{written_whole, posted_goes, sums_go, values_posted, others_as_were, settled_breaks, all_posted, broken_any}
 use Rattle.xa_tables.proofs.HeldLemmas.{held_alike, accounts_kept}
 use Rattle.xa_tables.proofs.accounts.Accounts.post.Goals as goal

@@ -1,11 +1,7 @@
-use Rattle.std.proofs.Common.{arith, ◌≡◌, ◌++◌, sym, ap, ◌∙◌, length, take, drop}
-use Rattle.std.specs.Prelude.{filter, map}
+use Rattle.xa_base.proofs.{arith, ◌≡◌, ◌++◌, sym, ap, ◌∙◌, length, take, drop, filter, map, from_entries}
 use Rattle.std.specs.FinMap as finmap
-use Rattle.std.specs.FinMap.{from_entries}
 use Rattle.xa_words.specs.Orders.{key_cmp}
-use Rattle.xa_tables.specs.Tables.{is_broken, touch_cmp}
-use Rattle.xa_tables.specs.Accounts.{hold_entries, kept_where, prepared_in}
-use Rattle.xa_tables.specs.Held.{is_held_at}
+use Rattle.xa_tables.specs.{is_broken, touch_cmp, hold_entries, kept_where, prepared_in, is_held_at}
 use Rattle.xa_tables.proofs.AccountLemmas.{written_whole, kept_goes, sums_go, values_kept, all_prepared, broken_any}
 use Rattle.xa_tables.proofs.HeldLemmas.{held_alike, accounts_kept}
 use Rattle.xa_tables.proofs.accounts.Accounts.retain_prepared.Goals as goal

@@ -1,9 +1,7 @@
-use Rattle.std.proofs.Common.{sym, ap, ◌∙◌, arith}
-use Rattle.std.specs.Prelude.{pos, Some, option_map}
+use Rattle.xa_base.proofs.{sym, ap, ◌∙◌, arith, pos, Some, option_map, get-from_entries}
 use Rattle.std.specs.FinMap as finmap
-use Rattle.std.specs.FinMap.{get-from_entries}
-use Rattle.xa_words.specs.Orders.{key_cmp_total}
-use Rattle.xa_tables.specs.Accounts.{value_entries}
+use Rattle.xa_words.specs.{key_cmp_total}
+use Rattle.xa_tables.specs.{value_entries}
 use Rattle.xa_tables.proofs.PlaceLemmas.{place_within, value_at, value_none}
 use Rattle.xa_tables.proofs.accounts.Accounts.value.Goals as goal
 

@@ -1,7 +1,5 @@
-use Rattle.std.proofs.Common.{rules, refl, sym, ap, subst, is_some}
-use Rattle.xa_tables.specs.Managers.{AreAssociationsLive}
-use Rattle.xa_tables.specs.declared.state.State.TheVariants.{RollbackOnly}
-use Rattle.xa_tables.specs.declared.state.RollbackReason.TheVariants.{Transient}
+use Rattle.xa_base.proofs.{rules, refl, sym, ap, subst, is_some}
+use Rattle.xa_tables.specs.{AreAssociationsLive, RollbackOnly, Transient}
 use Rattle.xa_tables.proofs.SoundLemmas.{sound_put, sound_others, unvoted, written, unwritten}
 use Rattle.xa_tables.proofs.branch_tables.BranchTables.add.Goals as goal
 

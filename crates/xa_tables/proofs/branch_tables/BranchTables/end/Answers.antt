@@ -1,7 +1,5 @@
-use Rattle.std.proofs.Common.{rules, refl, sym, ap, subst, is_some}
-use Rattle.xa_tables.specs.Managers.{AreAssociationsLive}
-use Rattle.xa_tables.specs.declared.state.State.TheVariants.{Idle, RollbackOnly}
-use Rattle.xa_tables.specs.declared.state.RollbackReason.TheVariants.{Failed}
+use Rattle.xa_base.proofs.{rules, refl, sym, ap, subst, is_some}
+use Rattle.xa_tables.specs.{AreAssociationsLive, Idle, RollbackOnly, Failed}
 use Rattle.xa_tables.proofs.SoundLemmas.{sound_put, there_as, written, unwritten}
 use Rattle.xa_tables.proofs.branch_tables.BranchTables.end.Goals as goal
 

@@ -1,4 +1,4 @@
-use Rattle.std.proofs.Common.{refl}
+use Rattle.xa_base.proofs.{refl}
 use Rattle.xa_tables.proofs.SoundLemmas.{sound_removed}
 use Rattle.xa_tables.proofs.branch_tables.BranchTables.forget.Goals as goal
 

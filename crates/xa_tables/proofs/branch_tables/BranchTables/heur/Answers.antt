@@ -1,6 +1,5 @@
-use Rattle.std.proofs.Common.{rules, ap}
-use Rattle.xa_tables.specs.declared.state.State.TheVariants.{HeuristicallyCompleted}
-use Rattle.xa_tables.specs.declared.state.HeuristicDecision.TheVariants.{Commit, Rollback}
+use Rattle.xa_base.proofs.{rules, ap}
+use Rattle.xa_tables.specs.{HeuristicallyCompleted, Commit, Rollback}
 use Rattle.xa_tables.proofs.SoundLemmas.{sound_put, written, unwritten}
 use Rattle.xa_tables.proofs.branch_tables.BranchTables.heur.Goals as goal
 

@@ -1,8 +1,7 @@
-use Rattle.std.proofs.Common.{ap, ◌∙◌}
+use Rattle.xa_base.proofs.{ap, ◌∙◌, get-empty}
 use Rattle.std.specs.FinMap as finmap
-use Rattle.std.specs.FinMap.{get-empty}
-use Rattle.xa_words.specs.Xid.{xid_cmp}
-use Rattle.xa_tables.specs.Tables.{is_S3}
+use Rattle.xa_words.specs.{xid_cmp}
+use Rattle.xa_tables.specs.{is_S3}
 use Rattle.xa_tables.proofs.branch_tables.BranchTables.new.Goals as goal
 
 pub invariant_of-result : goal.invariant_of-result

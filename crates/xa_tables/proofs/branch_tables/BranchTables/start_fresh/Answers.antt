@@ -1,9 +1,6 @@
-use Rattle.std.proofs.Common.{rules, ◌≡◌, false, refl, ap, ◌∙◌, arith}
+use Rattle.xa_base.proofs.{rules, ◌≡◌, false, refl, ap, ◌∙◌, arith}
 use Rattle.std.specs.FinMap as map
-use Rattle.xa_tables.specs.declared.state.AssociationState.TheVariants.{Associated}
-use Rattle.xa_tables.specs.Tables.{has_association}
-use Rattle.xa_tables.specs.Managers.{tables_of}
-use Rattle.xa_tables.specs.Next.{association}
+use Rattle.xa_tables.specs.{Associated, has_association, tables_of, association}
 use Rattle.xa_tables.proofs.SoundLemmas.{sound_put}
 use Rattle.xa_tables.proofs.FreeThreads.{takes_one}
 use Rattle.xa_tables.proofs.branch_tables.BranchTables.start_fresh.Goals as goal

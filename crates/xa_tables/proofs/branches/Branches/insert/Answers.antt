@@ -1,10 +1,6 @@
-use Rattle.std.proofs.Common.{ap, ◌∙◌, ◌<◌, arith}
-use Rattle.std.specs.HashMap.{spare}
+use Rattle.xa_base.proofs.{ap, ◌∙◌, ◌<◌, arith, spare, at_ok, one_put}
 use Rattle.std.specs.FinMap as map
-use Rattle.xa_base.proofs.Options.{at_ok}
-use Rattle.xa_words.specs.Xid.{xid_eq}
-use Rattle.xa_words.specs.Orders.{xid_cmp_total, xid_cmp-IsAntisymmetric, xid_eq-by_cmp}
-use Rattle.xa_base.proofs.HashMaps.{one_put}
+use Rattle.xa_words.specs.{xid_eq, xid_cmp_total, xid_cmp-IsAntisymmetric, xid_eq-by_cmp}
 use Rattle.xa_tables.proofs.branches.Branches.insert.Goals as goal
 
 pub returns-clause-state : goal.returns-clause-state

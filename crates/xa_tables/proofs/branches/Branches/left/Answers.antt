@@ -1,17 +1,12 @@
-use Rattle.std.proofs.Common.{arith, ◌++◌, ap, append-nil, sym, rules, ◌∙◌, ◌≡◌, Some, Bool, subst}
-use Rattle.std.specs.Prelude.{filter, Option, is_some}
+use Rattle.xa_base.proofs.{arith, ◌++◌, ap, append-nil, sym, rules, ◌∙◌, ◌≡◌, Some, Bool, subst, filter, Option, is_some, IsDistinct, list_any, get-lookup}
 use Rattle.std.specs.FinMap as map
-use Rattle.std.specs.List.{IsDistinct, list_any}
 use Rattle.std.specs.Map.{keys_of, lookup}
 use Rattle.std.proofs.lemmas.List.Sorted.{list_any-IsPermutation}
 use Rattle.std.proofs.lemmas.Map.Keys.{IsDistinct-IsPermutation}
 use Rattle.std.proofs.lemmas.Map.Made.{IsDistinct-keys_filter, is_some-lookup}
 use Rattle.std.proofs.lemmas.Map.Entries.{option_filter, lookup-filter-values}
-use Rattle.xa_words.specs.Xid.{xid_eq}
-use Rattle.xa_words.specs.Orders.{xid_cmp_total, xid_cmp-IsAntisymmetric, xid_eq-by_cmp}
-use Rattle.xa_tables.specs.declared.state.State.{State}
-use Rattle.xa_tables.specs.Tables.{is_left_in}
-use Rattle.xa_base.proofs.HashMaps.{get-lookup}
+use Rattle.xa_words.specs.{xid_eq, xid_cmp_total, xid_cmp-IsAntisymmetric, xid_eq-by_cmp}
+use Rattle.xa_tables.specs.{State, is_left_in}
 use Rattle.xa_tables.proofs.Law.{swap_xid}
 use Rattle.xa_tables.proofs.Xids.{xid_eq_laws}
 use Rattle.xa_tables.proofs.branches.Branches.left.Goals as goal
@@ -20,7 +15,7 @@ abbrev is_kept : State → Bool
 is_kept s = is_left_in (Some s)
 
 there : (o : Option State) → is_some (option_filter is_kept o) ≡ is_left_in o
-there v0 = grind arith
+there o = grind arith
 
 -- before they are sorted: the keys of the entries that are left
 all_left : (c : goal.After-sort_unstable) → c.loop-xid.left.items ≡ keys_of (filter (λ e. is_kept e.1) c.self.inside.states.entries)

@@ -1,7 +1,6 @@
-use Rattle.std.proofs.Common.{◌≡◌, ◌++◌, Some}
-use Rattle.std.specs.Prelude.{filter}
+use Rattle.xa_base.proofs.{◌≡◌, ◌++◌, Some, filter}
 use Rattle.std.specs.Map.{keys_of}
-use Rattle.xa_tables.specs.Tables.{is_left_in}
+use Rattle.xa_tables.specs.{is_left_in}
 use Rattle.xa_tables.proofs.branches.Branches.left.Given as goal
 
 -- what was taken, followed by what is left of the rest

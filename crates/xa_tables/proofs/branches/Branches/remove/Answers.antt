@@ -1,8 +1,6 @@
-use Rattle.std.proofs.Common.{ap, ◌∙◌}
+use Rattle.xa_base.proofs.{ap, ◌∙◌, one_removed}
 use Rattle.std.specs.FinMap as map
-use Rattle.xa_words.specs.Xid.{xid_eq}
-use Rattle.xa_words.specs.Orders.{xid_cmp_total, xid_cmp-IsAntisymmetric, xid_eq-by_cmp}
-use Rattle.xa_base.proofs.HashMaps.{one_removed}
+use Rattle.xa_words.specs.{xid_eq, xid_cmp_total, xid_cmp-IsAntisymmetric, xid_eq-by_cmp}
 use Rattle.xa_tables.proofs.branches.Branches.remove.Goals as goal
 
 pub returns-clause-state : goal.returns-clause-state

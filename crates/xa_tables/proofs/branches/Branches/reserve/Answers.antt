@@ -1,7 +1,5 @@
-use Rattle.std.proofs.Common.{ap, ◌∙◌}
-use Rattle.xa_words.specs.Xid.{xid_eq}
-use Rattle.xa_words.specs.Orders.{xid_cmp_total, xid_cmp-IsAntisymmetric, xid_eq-by_cmp}
-use Rattle.xa_base.proofs.HashMaps.{reordered}
+use Rattle.xa_base.proofs.{ap, ◌∙◌, reordered}
+use Rattle.xa_words.specs.{xid_eq, xid_cmp_total, xid_cmp-IsAntisymmetric, xid_eq-by_cmp}
 use Rattle.xa_tables.proofs.branches.Branches.reserve.Goals as goal
 
 pub returns-clause-states : goal.returns-clause-states

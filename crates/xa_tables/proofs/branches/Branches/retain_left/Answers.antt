@@ -1,10 +1,7 @@
-use Rattle.std.proofs.Common.{ap, refl, rules, ◌∙◌}
+use Rattle.xa_base.proofs.{ap, refl, rules, ◌∙◌, Some, retained, kept_by_value}
 use Rattle.std.specs.FinMap as map
-use Rattle.xa_words.specs.Xid.{xid_eq}
-use Rattle.xa_words.specs.Orders.{xid_cmp_total, xid_cmp-IsAntisymmetric, xid_eq-by_cmp}
-use Rattle.std.specs.Prelude.{Some}
-use Rattle.xa_tables.specs.Tables.{is_left_in}
-use Rattle.xa_base.proofs.HashMaps.{retained, kept_by_value}
+use Rattle.xa_words.specs.{xid_eq, xid_cmp_total, xid_cmp-IsAntisymmetric, xid_eq-by_cmp}
+use Rattle.xa_tables.specs.{is_left_in}
 use Rattle.xa_tables.proofs.Xids.{xid_eq_laws}
 use Rattle.xa_tables.proofs.branches.Branches.retain_left.Goals as goal
 

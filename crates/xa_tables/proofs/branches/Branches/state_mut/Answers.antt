@@ -1,17 +1,14 @@
-use Rattle.std.proofs.Common.{arith, ◌≡◌, Option, is_some, true, ap, refl, sym, ◌∙◌}
+use Rattle.xa_base.proofs.{arith, ◌≡◌, Option, is_some, true, ap, refl, sym, ◌∙◌, spare, get-lookup, one_put}
 use Rattle.std.specs.Option.{OnSome, option_copied_mut}
-use Rattle.std.specs.HashMap.{spare}
 use Rattle.std.specs.FinMap as map
 use Rattle.std.specs.Borrow.{MutBor}
-use Rattle.xa_words.specs.Xid.{xid_eq}
-use Rattle.xa_words.specs.Orders.{xid_cmp_total, xid_cmp-IsAntisymmetric, xid_eq-by_cmp}
-use Rattle.xa_base.proofs.HashMaps.{get-lookup, one_put}
-use Rattle.xa_tables.specs.declared.state.State.{State}
+use Rattle.xa_words.specs.{xid_eq, xid_cmp_total, xid_cmp-IsAntisymmetric, xid_eq-by_cmp}
+use Rattle.xa_tables.specs.{State}
 use Rattle.xa_tables.proofs.SoundLemmas.{put_same}
 use Rattle.xa_tables.proofs.branches.Branches.state_mut.Goals as goal
 
 where_some : (r : Option (MutBor State)) (P : Type 0) → (is_some (option_copied_mut r) ≡ true → P) → OnSome r P
-where_some v0 v1 p = grind arith
+where_some r P p = grind arith
 
 pub returns : goal.returns
 returns c =

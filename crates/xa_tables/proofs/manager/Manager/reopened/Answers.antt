@@ -1,9 +1,8 @@
-use Rattle.std.proofs.Common.{◌≡◌, Some, rules, sym, ap, subst, ◌∙◌, arith}
-use Rattle.std.specs.Ordering.{nat_cmp}
+use Rattle.xa_base.proofs.{◌≡◌, Some, rules, sym, ap, subst, ◌∙◌, arith, nat_cmp}
 use Rattle.std.specs.FinSet as set
 use Rattle.std.specs.FinSet.{contains-empty}
 use Rattle.xa_tables.specs.Tables.{Tables}
-use Rattle.xa_tables.specs.Managers.{AreAssociationsLive}
+use Rattle.xa_tables.specs.{AreAssociationsLive}
 use Rattle.xa_tables.proofs.Kept.{live_opening}
 use Rattle.xa_tables.proofs.FreeThreads.{none_free}
 use Rattle.xa_tables.proofs.Reopening.{reopens}

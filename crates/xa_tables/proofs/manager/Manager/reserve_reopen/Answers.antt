@@ -1,5 +1,5 @@
-use Rattle.std.proofs.Common.{rules, sym, subst}
-use Rattle.xa_tables.specs.Managers.{AreAssociationsLive}
+use Rattle.xa_base.proofs.{rules, sym, subst}
+use Rattle.xa_tables.specs.{AreAssociationsLive}
 use Rattle.xa_tables.proofs.manager.Manager.reserve_reopen.Goals as goal
 
 pub invariant_of-self : goal.invariant_of-self

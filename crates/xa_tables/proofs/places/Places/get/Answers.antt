@@ -1,8 +1,6 @@
-use Rattle.std.proofs.Common.{ap, sym, ◌∙◌}
+use Rattle.xa_base.proofs.{ap, sym, ◌∙◌, get-lookup}
 use Rattle.std.specs.FinMap as map
-use Rattle.xa_words.specs.Key.{key_eq}
-use Rattle.xa_words.specs.Orders.{key_cmp_total, key_cmp-IsAntisymmetric, key_eq-by_cmp}
-use Rattle.xa_base.proofs.HashMaps.{get-lookup}
+use Rattle.xa_words.specs.{key_eq, key_cmp_total, key_cmp-IsAntisymmetric, key_eq-by_cmp}
 use Rattle.xa_tables.proofs.places.Places.get.Goals as goal
 
 pub returns : goal.returns

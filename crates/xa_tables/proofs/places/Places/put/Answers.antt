@@ -1,10 +1,6 @@
-use Rattle.std.proofs.Common.{ap, ◌∙◌, ◌<◌, arith}
-use Rattle.std.specs.HashMap.{spare}
+use Rattle.xa_base.proofs.{ap, ◌∙◌, ◌<◌, arith, spare, at_ok, one_put}
 use Rattle.std.specs.FinMap as map
-use Rattle.xa_base.proofs.Options.{at_ok}
-use Rattle.xa_words.specs.Key.{key_eq}
-use Rattle.xa_words.specs.Orders.{key_cmp_total, key_cmp-IsAntisymmetric, key_eq-by_cmp}
-use Rattle.xa_base.proofs.HashMaps.{one_put}
+use Rattle.xa_words.specs.{key_eq, key_cmp_total, key_cmp-IsAntisymmetric, key_eq-by_cmp}
 use Rattle.xa_tables.proofs.places.Places.put.Goals as goal
 
 pub returns-clause-places : goal.returns-clause-places

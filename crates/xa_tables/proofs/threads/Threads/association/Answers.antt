@@ -1,4 +1,4 @@
-use Rattle.std.proofs.Common.{arith}
+use Rattle.xa_base.proofs.{arith}
 use Rattle.xa_tables.proofs.ThreadLemmas.{get_thread}
 use Rattle.xa_tables.proofs.threads.Threads.association.Goals as goal
 

@@ -1,5 +1,5 @@
-use Rattle.std.proofs.Common.{ap, ◌∙◌, length, ◌≤◌, arith}
-use Rattle.xa_tables.specs.Views.{open_mark}
+use Rattle.xa_base.proofs.{ap, ◌∙◌, length, ◌≤◌, arith}
+use Rattle.xa_tables.specs.{open_mark}
 use Rattle.xa_tables.proofs.ThreadLemmas.{thread_given, open_same}
 use Rattle.xa_tables.proofs.threads.Threads.dissociate.Goals as goal
 

@@ -1,8 +1,6 @@
-use Rattle.std.proofs.Common.{◌≡◌, ap, sym, refl, ◌∙◌, length, ◌≤◌, true, false, arith}
-use Rattle.std.specs.Prelude.{is_some}
+use Rattle.xa_base.proofs.{◌≡◌, ap, sym, refl, ◌∙◌, length, ◌≤◌, true, false, arith, is_some}
 use Rattle.std.specs.FinSet as set
-use Rattle.xa_tables.specs.declared.threads.Thread.{Thread}
-use Rattle.xa_tables.specs.Views.{open_mark}
+use Rattle.xa_tables.specs.{Thread, open_mark}
 use Rattle.xa_tables.proofs.ThreadLemmas.{contains_thread}
 use Rattle.xa_tables.proofs.threads.Threads.has_opened.Goals as goal
 

@@ -1,5 +1,4 @@
-use Rattle.std.proofs.Common.{arith}
-use Rattle.std.specs.FinMap.{from_entries}
+use Rattle.xa_base.proofs.{arith, from_entries}
 use Rattle.xa_tables.proofs.SetLemmas.{marked}
 use Rattle.xa_tables.proofs.ThreadLemmas.{none_from}
 use Rattle.xa_tables.proofs.threads.Threads.reset.Goals as goal

@@ -1,7 +1,6 @@
-use Rattle.std.proofs.Common.{ap, refl, ◌∙◌, length, ◌≤◌, arith}
-use Rattle.std.specs.Prelude.{if◌then◌else◌}
+use Rattle.xa_base.proofs.{ap, refl, ◌∙◌, length, ◌≤◌, arith, if◌then◌else◌}
 use Rattle.std.specs.FinSet as set
-use Rattle.xa_tables.specs.Views.{open_mark}
+use Rattle.xa_tables.specs.{open_mark}
 use Rattle.xa_tables.proofs.ThreadLemmas.{open_given, thread_same}
 use Rattle.xa_tables.proofs.threads.Threads.set_open.Goals as goal
 
