@@ -1,87 +1,106 @@
 -- The index of the slots, made anew as forgotten ones are shut.
-use Rattle.xa_base.proofs.{◌≡◌, ℕ, ◌+◌, ◌<◌, ◌≤◌, cond, Option, None, Result, Ok, List, [], ◌∷◌, length, get_or, set, take, refl, sym, ◌∙◌, ap, subst, arith}
-use Rattle.xa_base.proofs.{is_some, IfOk, length-set, FinMap, find, get-from_entries}
-use Rattle.std.proofs.lemmas.List.{length-take-le}
+use Rattle.xa_base.proofs.{◌≡◌, inl, inr, ℕ, ◌+◌, ◌<◌, ◌≤◌, cond, Option, None, Some, Result, Ok, List, [], length, get_or, map, set, take, refl, sym, ◌∙◌, ap}
+use Rattle.xa_base.proofs.{subst, arith, is_some, IfOk, cases_eq, cases_lt, length-map, take_all, FinMap}
+use Rattle.std.proofs.lemmas.List.{length-take, get_or-take, get_or_past}
 use Rattle.std.specs.FinMap as finmap
 use Rattle.xa_words.specs.{TranName}
 use Rattle.xa_log.specs.{CommitRecord, tran_cmp}
-use Rattle.xa_log.proofs.Transactions.{tran_cmp_total}
-use Rattle.xa_file_log.specs.{Slot, Free, Taken, Forgotten, name_of, on_file, taken, shut, used, IsIndexOf}
-use Rattle.xa_file_log.proofs.Index.{IsIndexBelow, index_skip, index_next, not_yet, used_next, used_most}
-use Rattle.xa_file_log.proofs.Mapped.{MapsBelow, none_mapped, one_mapped, unchanged}
+use Rattle.xa_file_log.specs.{Slot, Free, Taken, name_of, on_file, taken, shut, used, name_at, HasNoName, IsIndexOf}
+use Rattle.xa_file_log.proofs.Finds.{at_slot}
+use Rattle.xa_file_log.proofs.Slotwise.{named_record, shut_free}
+use Rattle.xa_file_log.proofs.Mapped.{MapsBelow, none_mapped, one_mapped, all_mapped}
+use Rattle.xa_file_log.proofs.Used.{weight, used_next, used_most}
+use Rattle.xa_file_log.proofs.Index.{named_within, new_index, one_place, not_indexed, index_same, index_more}
 
 -- the slots before this place are done
 pub record IsAnew (n : ℕ) (old slots : List Slot) (places : FinMap tran_cmp ℕ) (len room : ℕ) : Type 0 where
   pub mapped : MapsBelow shut n old slots
-  pub indexed : IsIndexBelow n places slots
-  pub room_left : length slots ≤ used (take n slots) + room
-  pub capacity : length slots ≤ len + room
+  pub indexed : IsIndexOf places (take n (map shut old))
+  pub room_left : length old ≤ used (take n (map shut old)) + room
+  pub capacity : length old ≤ len + room
 
 pub none_done : (old : List Slot) (es : List (TranName × ℕ)) (len room : ℕ) → es ≡ [] → length old ≤ room → len ≡ 0
     → IsAnew 0 old old (finmap.from_entries {R = tran_cmp} es) len room
-none_done old es len room none much zero_ =
-    let nowhere : (t : TranName) → finmap.get (finmap.from_entries {R = tran_cmp} es) t ≡ None =
-    λ t. get-from_entries tran_cmp_total es t ∙ ap (λ (l : List (TranName × ℕ)). find tran_cmp t l) none in
-    record {
-      mapped = none_mapped shut old;
-      indexed = record {
-        there = λ k t no_. absurd (omega (arith, no_));
-        only = λ k t is. let no_place = nowhere t in absurd (cc (no_place, is));
-      };
-      room_left = omega (arith, much);
-      capacity = omega (arith, much);
-    }
+none_done old es len room none much zero_ = record {
+  mapped = none_mapped shut old;
+  indexed = new_index es [] 0 none refl;
+  room_left = omega (arith, much);
+  capacity = omega (arith, much);
+}
 
-pub room_there : (n : ℕ) (old slots : List Slot) (places : FinMap tran_cmp ℕ) (len room : ℕ) → IsAnew n old slots places len room → n < length old → 0 < room
-room_there n old slots places len room so_far below =
-    omega (arith, so_far.room_left, so_far.mapped.count, used_most (take n slots), length-take-le n slots (omega (arith, so_far.mapped.count)))
+-- one slot more
+taken_past : (slots : List Slot) (n : ℕ) → get_or (take n slots) n Free ≡ Free
+taken_past slots n = get_or_past (take n slots) n Free (omega (arith, length-take n slots))
 
-no_name : (s : Slot) → taken s ≡ None → name_of (on_file (shut s)) ≡ None
-no_name Free none = refl
-no_name (Taken r) none = absurd (cc (none))
-no_name (Forgotten r) none = refl
+taken_others : (slots : List Slot) (n j : ℕ) → (j ≡ n → ⊥) → get_or (take (n + 1) slots) j Free ≡ get_or (take n slots) j Free
+taken_others slots n j other = elim (cases_lt j n) [
+  | inl before ↦ get_or-take (n + 1) slots j Free (omega arith) ∙ sym (get_or-take n slots j Free before)
+  | inr from ↦
+      get_or_past (take (n + 1) slots) j Free (omega (arith, other, length-take (n + 1) slots))
+      ∙ sym (get_or_past (take n slots) j Free (omega (arith, length-take n slots)))
+]
 
-not_used : (s : Slot) → taken s ≡ None → used (shut s ∷ []) ≡ 0
-not_used Free none = refl
-not_used (Taken r) none = absurd (cc (none))
-not_used (Forgotten r) none = refl
+module _ {n : ℕ} {old slots : List Slot} {places : FinMap tran_cmp ℕ} {len room : ℕ} (so_far : IsAnew n old slots places len room) where
+  pub room_there : n < length old → 0 < room
+  room_there below = omega (arith, so_far.room_left, used_most (take n (map shut old)), length-take n (map shut old))
 
--- a slot without a record that counts
-pub passed_over : (n : ℕ) (old slots new : List Slot) (places : FinMap tran_cmp ℕ) (len room : ℕ) → n < length old
-    → taken (get_or old n Free) ≡ None → new ≡ set slots n (shut (get_or old n Free))
-    → IsAnew n old slots places len room → IsAnew (n + 1) old new places len room
-passed_over n old slots new places len room below none put so_far =
-    let here : n < length slots = omega (arith, so_far.mapped.count) in
-    let many = ap length put ∙ length-set slots n (shut (get_or old n Free)) in
-    let as_many = ap (λ (l : List Slot). used (take (n + 1) l)) put ∙ used_next slots n (shut (get_or old n Free)) here in
-    record {
-      mapped = one_mapped shut n old slots new below put so_far.mapped;
-      indexed = subst (IsIndexBelow (n + 1) places) (sym put)
-          (index_skip n places slots (shut (get_or old n Free)) here (no_name (get_or old n Free) none) so_far.indexed);
-      room_left = omega (arith, many, as_many, not_used (get_or old n Free) none, so_far.room_left);
-      capacity = omega (arith, many, so_far.capacity);
-    }
+  shut_here : n < length old → get_or (take (n + 1) (map shut old)) n Free ≡ shut (get_or old n Free)
+  shut_here below = get_or-take (n + 1) (map shut old) n Free (omega arith) ∙ at_slot shut refl old n
 
--- a slot with one
-pub put_in : (n : ℕ) (old slots new : List Slot) (before places more : FinMap tran_cmp ℕ) (len new_len room new_room : ℕ) (r : CommitRecord)
-    → n < length old → get_or old n Free ≡ Taken r → new ≡ slots → more ≡ finmap.insert places r.tran n → new_len ≡ len + 1 → room ≤ new_room + 1
-    → IsIndexOf before old → IsAnew n old slots places len room → IsAnew (n + 1) old new more new_len new_room
-put_in n old slots new before places more len new_len room new_room r below is same inserted longer less index so_far =
-    let here : n < length slots = omega (arith, so_far.mapped.count) in
-    let stays : slots ≡ set slots n (shut (get_or old n Free)) = unchanged shut n old slots so_far.mapped (ap shut is ∙ sym is) in
-    let put : new ≡ set slots n (shut (get_or old n Free)) = same ∙ stays in
-    let many = ap length same in
-    let as_many = ap (λ (l : List Slot). used (take (n + 1) l)) put ∙ used_next slots n (shut (get_or old n Free)) here in
-    let one : used (shut (get_or old n Free) ∷ []) ≡ 1 = ap (λ (s : Slot). used (shut s ∷ [])) is in
-    record {
-      mapped = one_mapped shut n old slots new below put so_far.mapped;
-      indexed = subst (IsIndexBelow (n + 1) more) (sym put)
-          (index_next n places more slots (shut (get_or old n Free)) r.tran here (ap (λ (s : Slot). name_of (on_file (shut s))) is)
-          (not_yet n before old places slots index so_far.mapped so_far.indexed r.tran (ap (λ (s : Slot). name_of (on_file s)) is) _ refl)
-          inserted so_far.indexed);
-      room_left = omega (arith, many, as_many, one, so_far.room_left);
-      capacity = omega (arith, many, longer, so_far.capacity);
-    }
+  weight_here : n < length old → used (take (n + 1) (map shut old)) ≡ used (take n (map shut old)) + weight (shut (get_or old n Free))
+  weight_here below =
+      used_next (map shut old) n (omega (arith, length-map old shut)) ∙ ap (λ (s : Slot). used (take n (map shut old)) + weight s) (at_slot shut refl old n)
+
+  -- a slot without a record that counts
+  pub passed_over : {new : List Slot} → n < length old → taken (get_or old n Free) ≡ None → new ≡ set slots n (shut (get_or old n Free))
+      → IsAnew (n + 1) old new places len room
+  passed_over below none put =
+      let free = shut_free (get_or old n Free) none in
+      record {
+        mapped = one_mapped so_far.mapped below put;
+        indexed = index_same so_far.indexed (λ k. ap (λ (s : Slot). name_of (on_file s)) (elim (cases_eq k n) [
+          | inl same ↦
+              subst (λ (i : ℕ). get_or (take (n + 1) (map shut old)) i Free ≡ get_or (take n (map shut old)) i Free) (sym same)
+              (shut_here below ∙ free ∙ sym (taken_past (map shut old) n))
+          | inr other ↦ taken_others (map shut old) n k other
+        ]));
+        room_left = omega (arith, weight_here below, ap weight free, so_far.room_left);
+        capacity = so_far.capacity;
+      }
+
+  -- the next one isn't in the index yet
+  not_yet : {before : FinMap tran_cmp ℕ} → IsIndexOf before old → {t : TranName} → name_at old n ≡ Some t → HasNoName (take n (map shut old)) t
+  not_yet index {t} named k is =
+      let below : k < n = (let within = named_within (take n (map shut old)) k t is in omega (arith, within, length-take n (map shut old))) in
+      let there = ap (λ (s : Slot). name_of (on_file s)) (sym (get_or-take n (map shut old) k Free below ∙ at_slot shut refl old k)) ∙ is in
+      let at = named_record (get_or old k Free) t there in
+      let same = one_place index k n t (ap (λ (s : Slot). name_of (on_file s)) at.1.0 ∙ ap (λ (q : TranName). Some q) at.1.1) named in
+      absurd (omega (arith, below, same))
+
+  -- a slot with one
+  pub put_in : {new : List Slot} {before more : FinMap tran_cmp ℕ} {new_len new_room : ℕ} {r : CommitRecord} → n < length old → get_or old n Free ≡ Taken r
+      → new ≡ set slots n (shut (get_or old n Free)) → IsIndexOf before old → (finmap.get places r.tran ≡ None → more ≡ finmap.insert places r.tran n)
+      → (finmap.get places r.tran ≡ None → new_len ≡ len + 1) → room ≤ new_room + 1 → IsAnew (n + 1) old new more new_len new_room
+  put_in {r = r} below is put index inserted longer less =
+      let absent = not_indexed so_far.indexed (not_yet index (ap (λ (s : Slot). name_of (on_file s)) is)) _ refl in
+      record {
+        mapped = one_mapped so_far.mapped below put;
+        indexed = index_more so_far.indexed n r.tran (ap (λ (s : Slot). name_of (on_file s)) (taken_past (map shut old) n))
+            (ap (λ (s : Slot). name_of (on_file s)) (shut_here below ∙ ap shut is))
+            (λ j other. ap (λ (s : Slot). name_of (on_file s)) (taken_others (map shut old) n j other)) absent (inserted absent);
+        room_left = omega (arith, weight_here below, ap (λ (s : Slot). weight (shut s)) is, less, so_far.room_left);
+        capacity = omega (arith, longer absent, less, so_far.capacity);
+      }
+
+  pub all_anew : length old ≤ n → (slots ≡ map shut old) × IsIndexOf places slots × (length slots ≤ used slots + room) × (length slots ≤ len + room)
+  all_anew past =
+      let is = all_mapped so_far.mapped refl past in
+      let whole : take n (map shut old) ≡ slots = take_all n (map shut old) (omega (arith, length-map old shut)) ∙ sym is in (
+        is,
+        subst (IsIndexOf places) whole so_far.indexed,
+        omega (arith, so_far.room_left, ap used whole, so_far.mapped.count),
+        omega (arith, so_far.capacity, so_far.mapped.count),
+      )
 
 pub if_ok_at : {T E : Type 0} (P : T → Type 0) (r : Result T E) (x : T) → r ≡ Ok x → IfOk r P → P x
 if_ok_at {T} {E} P r x is has = subst (λ (q : Result T E). IfOk q P) is has

@@ -1,10 +1,12 @@
 -- What a table has of a transaction, by the slot where it is.
 use Rattle.xa_base.proofs.{◌≡◌, ℕ, zero, suc, Bool, true, false, cond, Option, None, Some, List, [], ◌∷◌, get_or, map, refl, sym, ◌∙◌, ap, subst, arith}
 use Rattle.xa_base.proofs.{eq_by_cmp, find}
+use Rattle.std.specs.FinMap as finmap
 use Rattle.xa_words.specs.{TranName}
 use Rattle.xa_log.specs.{CommitRecord, tran_cmp}
 use Rattle.xa_log.proofs.Transactions.{decides_by_cmp}
-use Rattle.xa_file_log.specs.{Slot, Free, Taken, Forgotten, Table, name_of, AreApart, entries, on_file, taken, forgotten, table_of}
+use Rattle.xa_file_log.specs.{Slot, Free, Taken, Forgotten, Table, name_of, AreApart, entries, records_of, on_file, taken, forgotten, table_of, name_at}
+use Rattle.xa_file_log.proofs.Records.{get_found}
 
 -- the table has these votes of the transaction
 pub record IsAt (table : Table) (q : TranName) (v : List Bool) : Type 0 where
@@ -62,14 +64,12 @@ pub record IsPart (f : Slot → Option CommitRecord) : Type 0 where
   pub within : (s : Slot) (r : CommitRecord) → f s ≡ Some r → on_file s ≡ Some r
 
 taken_within : (s : Slot) (r : CommitRecord) → taken s ≡ Some r → on_file s ≡ Some r
-taken_within Free r e = e
-taken_within (Taken r) s e = e
 taken_within (Forgotten r) s e = absurd (cc (e))
+taken_within x s e = e
 
 forgotten_within : (s : Slot) (r : CommitRecord) → forgotten s ≡ Some r → on_file s ≡ Some r
-forgotten_within Free r e = e
 forgotten_within (Taken r) s e = absurd (cc (e))
-forgotten_within (Forgotten r) s e = e
+forgotten_within x s e = e
 
 pub whole_part : IsPart on_file
 whole_part = record { free = refl; within = λ s r e. e }
@@ -80,24 +80,51 @@ taken_part = record { free = refl; within = taken_within }
 pub forgotten_part : IsPart forgotten
 forgotten_part = record { free = refl; within = forgotten_within }
 
-pub at_map : (f : Slot → Option CommitRecord) → IsPart f → (slots : List Slot) (k : ℕ) → get_or (map f slots) k None ≡ f (get_or slots k Free)
-at_map f part [] k = sym part.free
-at_map f part (s ∷ slots) zero = refl
-at_map f part (s ∷ slots) (suc k) = at_map f part slots k
+pub at_slot : {X : Type 0} (f : Slot → X) {d : X} → f Free ≡ d → (slots : List Slot) (k : ℕ) → get_or (map f slots) k d ≡ f (get_or slots k Free)
+at_slot f free [] k = sym free
+at_slot f free (s ∷ slots) zero = refl
+at_slot f free (s ∷ slots) (suc k) = at_slot f free slots k
 
-pub name_within : (o p : Option CommitRecord) (t : TranName) → ((r : CommitRecord) → o ≡ Some r → p ≡ Some r) → name_of o ≡ Some t → name_of p ≡ Some t
+pub at_map : (f : Slot → Option CommitRecord) → IsPart f → (slots : List Slot) (k : ℕ) → get_or (map f slots) k None ≡ f (get_or slots k Free)
+at_map f part = at_slot f part.free
+
+-- a slot of which the parts have these votes
+pub part_at : {f : Slot → Option CommitRecord} → IsPart f → (slots : List Slot) (q : TranName) (v : List Bool)
+    → find tran_cmp q (entries (map f slots)) ≡ Some v
+    → (at : IsAt (map f slots) q v) × (f (get_or slots at.place Free) ≡ Some at.found)
+part_at {f} part slots q v is = let at = at_from (map f slots) q v is in (at, sym (at_map f part slots at.place) ∙ at.there)
+
+-- of two slots with one name
+pub names_apart : (slots : List Slot) → AreApart (table_of slots) → (j k : ℕ) (t : TranName) → name_at slots j ≡ Some t → name_at slots k ≡ Some t → j ≡ k
+names_apart slots apart j k t a b =
+    apart j k t (ap name_of (at_map on_file whole_part slots j) ∙ a) (ap name_of (at_map on_file whole_part slots k) ∙ b)
+
+pub apart_names : (slots : List Slot) → ((j k : ℕ) (t : TranName) → name_at slots j ≡ Some t → name_at slots k ≡ Some t → j ≡ k) → AreApart (table_of slots)
+apart_names slots one j k t a b =
+    one j k t (ap name_of (sym (at_map on_file whole_part slots j)) ∙ a) (ap name_of (sym (at_map on_file whole_part slots k)) ∙ b)
+
+name_within : (o p : Option CommitRecord) (t : TranName) → ((r : CommitRecord) → o ≡ Some r → p ≡ Some r) → name_of o ≡ Some t → name_of p ≡ Some t
 name_within None p t within is = absurd (cc (is))
 name_within (Some r) p t within is = ap name_of (within r refl) ∙ is
 
+-- a table that has no other records than the slots
+pub apart_within : (table : Table) (slots : List Slot) → ((k : ℕ) (r : CommitRecord) → get_or table k None ≡ Some r → on_file (get_or slots k Free) ≡ Some r)
+    → AreApart (table_of slots) → AreApart table
+apart_within table slots within apart j k t a b =
+    names_apart slots apart j k t (name_within (get_or table j None) (on_file (get_or slots j Free)) t (within j) a)
+    (name_within (get_or table k None) (on_file (get_or slots k Free)) t (within k) b)
+
 pub apart_part : (f : Slot → Option CommitRecord) → IsPart f → (slots : List Slot) → AreApart (table_of slots) → AreApart (map f slots)
-apart_part f part slots apart j k t a b = apart j k t (lift j a) (lift k b)
-  where
-    lift : (i : ℕ) → name_of (get_or (map f slots) i None) ≡ Some t → name_of (get_or (table_of slots) i None) ≡ Some t
-    lift i is =
-        ap name_of (at_map on_file whole_part slots i)
-        ∙ name_within (f (get_or slots i Free)) (on_file (get_or slots i Free)) t (part.within (get_or slots i Free)) (ap name_of (sym (at_map f part slots i)) ∙ is)
+apart_part f part slots = apart_within (map f slots) slots (λ k r is. part.within (get_or slots k Free) r (sym (at_map f part slots k) ∙ is))
 
 -- what is found of a transaction among the parts of the slots, and where
-pub part_found : (f : Slot → Option CommitRecord) → IsPart f → (slots : List Slot) → AreApart (table_of slots) → (k : ℕ) (r : CommitRecord)
-    → f (get_or slots k Free) ≡ Some r → find tran_cmp r.tran (entries (map f slots)) ≡ Some r.yes
-part_found f part slots apart k r is = found_at (map f slots) (apart_part f part slots apart) k r (at_map f part slots k ∙ is)
+pub part_found : {f : Slot → Option CommitRecord} → IsPart f → (slots : List Slot) → AreApart (table_of slots) → (k : ℕ) (r : CommitRecord)
+    → f (get_or slots k Free) ≡ Some r → finmap.get (records_of (map f slots)) r.tran ≡ Some r.yes
+part_found {f} part slots apart k r is =
+    get_found (map f slots) r.tran ∙ found_at (map f slots) (apart_part f part slots apart) k r (at_map f part slots k ∙ is)
+
+pub part_has : {f : Slot → Option CommitRecord} → IsPart f → (slots : List Slot) → AreApart (table_of slots) → {table : Table} {q : TranName} {v : List Bool}
+    (at : IsAt table q v) → f (get_or slots at.place Free) ≡ Some at.found → finmap.get (records_of (map f slots)) q ≡ Some v
+part_has {f} part slots apart {v = v} at is =
+    subst (λ (t : TranName). finmap.get (records_of (map f slots)) t ≡ Some v) at.named
+    (part_found part slots apart at.place at.found is ∙ ap (λ (w : List Bool). Some w) at.votes)

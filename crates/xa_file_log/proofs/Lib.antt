@@ -13,6 +13,7 @@ pub mod Making
 pub mod Finds
 pub mod Shown
 pub mod Slotwise
+pub mod Used
 pub mod Gates
 pub mod Mapped
 pub mod Index

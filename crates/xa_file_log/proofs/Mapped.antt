@@ -3,12 +3,9 @@ use Rattle.xa_base.proofs.{◌≡◌, inl, inr, ℕ, ◌+◌, ◌<◌, ◌≤◌
 use Rattle.xa_base.proofs.{get_or-set_same, get_or-set_other, get_or_default}
 use Rattle.std.proofs.lemmas.List.{ext_get_or, set-get_or}
 use Rattle.xa_file_log.specs.{Slot, Free}
-use Rattle.xa_file_log.proofs.Slotwise.{at_slot}
+use Rattle.xa_file_log.proofs.Finds.{at_slot}
 
 -- what is read at a place that is there
-pub slot_read : (slots : List Slot) (k : ℕ) (d s : Slot) → k < length slots → get_or slots k d ≡ s → get_or slots k Free ≡ s
-slot_read slots k d s below is = get_or_default slots k Free d below ∙ is
-
 pub slot_indexed : (slots : List Slot) (k : ℕ) (read s : Slot) → k < length slots → read ≡ get_or slots k read → read ≡ s → get_or slots k Free ≡ s
 slot_indexed slots k read s below is same = get_or_default slots k Free read below ∙ sym is ∙ same
 
@@ -21,28 +18,26 @@ pub record MapsBelow (f : Slot → Slot) (n : ℕ) (old slots : List Slot) : Typ
 pub none_mapped : (f : Slot → Slot) (old : List Slot) → MapsBelow f 0 old old
 none_mapped f old = record { count = refl; done = λ k no. absurd (omega (arith, no)); later = λ k from. refl }
 
-pub one_mapped : (f : Slot → Slot) (n : ℕ) (old slots new : List Slot) → n < length old → new ≡ set slots n (f (get_or old n Free))
-    → MapsBelow f n old slots → MapsBelow f (n + 1) old new
-one_mapped f n old slots new below is so_far =
-    subst (MapsBelow f (n + 1) old) (sym is) (record {
-      count = length-set slots n (f (get_or old n Free)) ∙ so_far.count;
-      done = λ k before. elim (cases_eq k n) [
-        | inl same ↦
-            subst (λ (i : ℕ). get_or (set slots n (f (get_or old n Free))) i Free ≡ f (get_or old i Free)) (sym same)
-            (get_or-set_same slots n (f (get_or old n Free)) Free (omega (arith, so_far.count)))
-        | inr other ↦ get_or-set_other slots n k (f (get_or old n Free)) Free other ∙ so_far.done k (omega (arith, other))
-      ];
-      later = λ k from.
-          let other : k ≡ n → ⊥ = λ e. omega (arith, e, from) in
-          get_or-set_other slots n k (f (get_or old n Free)) Free other ∙ so_far.later k (omega (arith, from));
-    })
+module _ {f : Slot → Slot} {n : ℕ} {old slots : List Slot} (so_far : MapsBelow f n old slots) where
+  pub one_mapped : {new : List Slot} → n < length old → new ≡ set slots n (f (get_or old n Free)) → MapsBelow f (n + 1) old new
+  one_mapped below is = subst (MapsBelow f (n + 1) old) (sym is) (record {
+    count = length-set slots n (f (get_or old n Free)) ∙ so_far.count;
+    done = λ k before. elim (cases_eq k n) [
+      | inl same ↦
+          subst (λ (i : ℕ). get_or (set slots n (f (get_or old n Free))) i Free ≡ f (get_or old i Free)) (sym same)
+          (get_or-set_same slots n (f (get_or old n Free)) Free (omega (arith, so_far.count)))
+      | inr other ↦ get_or-set_other slots n k (f (get_or old n Free)) Free other ∙ so_far.done k (omega (arith, other))
+    ];
+    later = λ k from.
+        let other : k ≡ n → ⊥ = λ e. omega (arith, e, from) in
+        get_or-set_other slots n k (f (get_or old n Free)) Free other ∙ so_far.later k (omega (arith, from));
+  })
 
--- a slot that stays
-pub unchanged : (f : Slot → Slot) (n : ℕ) (old slots : List Slot) → MapsBelow f n old slots → f (get_or old n Free) ≡ get_or old n Free
-    → slots ≡ set slots n (f (get_or old n Free))
-unchanged f n old slots so_far same = sym (ap (set slots n) (same ∙ sym (so_far.later n (omega arith))) ∙ set-get_or slots n Free)
+  -- a slot that stays
+  pub unchanged : f (get_or old n Free) ≡ get_or old n Free → slots ≡ set slots n (f (get_or old n Free))
+  unchanged same = sym (ap (set slots n) (same ∙ sym (so_far.later n (omega arith))) ∙ set-get_or slots n Free)
 
-pub all_mapped : (f : Slot → Slot) → f Free ≡ Free → (n : ℕ) (old slots : List Slot) → length old ≤ n → MapsBelow f n old slots → slots ≡ map f old
-all_mapped f free n old slots past mapped =
-    ext_get_or Free slots (map f old) (omega (arith, mapped.count, length-map old f)) (λ k below.
-    mapped.done k (omega (arith, mapped.count)) ∙ sym (at_slot f free old k))
+  pub all_mapped : f Free ≡ Free → length old ≤ n → slots ≡ map f old
+  all_mapped free past =
+      ext_get_or Free slots (map f old) (omega (arith, so_far.count, length-map old f)) (λ k below.
+      so_far.done k (omega (arith, so_far.count)) ∙ sym (at_slot f free old k))

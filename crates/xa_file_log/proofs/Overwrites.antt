@@ -1,7 +1,7 @@
 -- What a crash leaves of a write over bytes that are there, and how such a write looks from further on in the file.
 use Rattle.xa_base.proofs.{◌≡◌, inl, ℕ, ◌+◌, ◌-◌, ◌≤◌, List, ◌++◌, length, take, drop, refl, sym, ◌∙◌, ap, subst, arith, append_assoc, length-append}
 use Rattle.xa_base.proofs.{length-drop, take-append-drop}
-use Rattle.std.proofs.lemmas.List.{take_at, drop_at, drop-drop, length-take-le, take-append-le, take-take, drop-append-le, drop-take}
+use Rattle.std.proofs.lemmas.List.{drop_at, drop-drop, length-take-le, take-append-le, take-take, drop-append-le, drop-take}
 use Rattle.xa_file_log.specs.{overwritten, IsOverwritten, Torn}
 
 pub torn_is_overwritten : (at : ℕ) (bytes old c : List ℕ) → at + length bytes ≤ length old → Torn at bytes old c → IsOverwritten old at bytes c
@@ -61,9 +61,6 @@ module _ (f : List ℕ) (at : ℕ) (bytes : List ℕ) (within : at + length byte
   -- from its place on
   pub drop-overwritten : drop at (overwritten f at bytes) ≡ bytes ++ drop (at + length bytes) f
   drop-overwritten = ap (λ (l : List ℕ). drop at l) grouped ∙ drop_at (take at f) (bytes ++ drop (at + length bytes) f) at front_size
-
-  pub bytes-overwritten : take (length bytes) (drop at (overwritten f at bytes)) ≡ bytes
-  bytes-overwritten = ap (λ (l : List ℕ). take (length bytes) l) drop-overwritten ∙ take_at bytes (drop (at + length bytes) f) (length bytes) refl
 
   -- what stands after it stays
   past_it : drop (at + length bytes) (overwritten f at bytes) ≡ drop (at + length bytes) f

@@ -1,188 +1,138 @@
 -- Records in the free slots of a file, one after another.
-use Rattle.xa_base.proofs.{◌≡◌, ◌⊎◌, inl, inr, ⊎_elim, ℕ, zero, suc, ◌+◌, ◌-◌, ◌*◌, ◌<◌, ◌≤◌, None, Some, List, [], ◌∷◌, length, get_or, take, drop, refl, sym}
-use Rattle.xa_base.proofs.{◌∙◌, ap, subst, arith, All, Contains, cases_eq, cases_lt, length-map, length-drop, drop_all}
-use Rattle.std.proofs.lemmas.List.{get_or-drop}
+use Rattle.xa_base.proofs.{◌≡◌, ◌≢◌, ◌⊎◌, inl, inr, ⊎_elim, ℕ, zero, suc, ◌+◌, ◌-◌, ◌*◌, ◌<◌, ◌≤◌, List, [], ◌∷◌, ◌++◌, length, get_or, map, take, drop, refl}
+use Rattle.xa_base.proofs.{sym, ◌∙◌, ap, subst, arith, All, Contains, cases_lt, length-map, length-drop, drop_all}
+use Rattle.std.proofs.Common.{add-one, drop-cons}
+use Rattle.std.proofs.lemmas.List.{get_or-drop, get_or_past, drop-drop}
 use Rattle.xa_log.specs.{CommitRecord}
-use Rattle.xa_file_log.specs.{Slot, Free, Taken, Forgotten, overwritten, Torn, spelling, head, IsValid, Table, slot, AreApart, IsSlotOf, StandsFor, on_file}
-use Rattle.xa_file_log.specs.{table_of, placed, coming, used, HasBody, HasBodies, HasNoFree, HasRoomFor, MayHave, MayShow}
-use Rattle.xa_file_log.proofs.Overwrites.{torn_is_overwritten, length-overwritten, take-overwritten, drop-overwritten, bytes-overwritten, drop-overwritten_past}
-use Rattle.xa_file_log.proofs.Overwrites.{part-overwritten}
-use Rattle.xa_file_log.proofs.Stands.{other_slot, staged, after_stage}
-use Rattle.xa_file_log.proofs.Shown.{stands_shown}
-use Rattle.xa_file_log.proofs.Finds.{at_map, whole_part}
+use Rattle.xa_file_log.specs.{Slot, Free, Taken, Forgotten, Elapses, LeavesOnly, Only, Torn, spelling, IsValid, AreApart, IsSlotOf, StandsFor, on_file}
+use Rattle.xa_file_log.specs.{table_of, filled, placed, coming, used, HasBodies, HasNoFree, HasRoomFor, MayHave, MayShow}
+use Rattle.xa_file_log.proofs.Finds.{whole_part}
+use Rattle.xa_file_log.proofs.Used.{weight, weighs, used_left}
+use Rattle.xa_file_log.proofs.Stands.{HasSlots, Between, Has, slots_as, gate_torn, ends, slots_of, stands_of, shown_of, surely, open_slot, still_free}
+use Rattle.xa_file_log.proofs.Stands.{stands_shown, stage_torn}
+use Rattle.xa_file_log.proofs.Moments.{goes_on, weaker, joined}
+use Rattle.xa_file_log.proofs.Overwrites.{torn_is_overwritten}
 
--- a slot that gets this record, of those that are placed
-pub record IsNewAt (slots : List Slot) (rs : List CommitRecord) (k : ℕ) (r : CommitRecord) : Type 0 where
-  pub free : get_or slots k Free ≡ Free
-  pub placed_is : get_or (placed slots rs) k Free ≡ Taken r
-  pub coming_is : get_or (coming slots rs) k Free ≡ Forgotten r
-  pub one_of : Contains rs r
-
--- a slot that stays
-pub record IsOldAt (slots : List Slot) (rs : List CommitRecord) (k : ℕ) : Type 0 where
-  pub placed_is : get_or (placed slots rs) k Free ≡ get_or slots k Free
-  pub coming_is : get_or (coming slots rs) k Free ≡ get_or slots k Free
-
-abbrev NewOrOld : List Slot → List CommitRecord → ℕ → Type 0
-NewOrOld slots rs k = ((r : CommitRecord) × IsNewAt slots rs k r) ⊎ IsOldAt slots rs k
-
-one_later : (x : CommitRecord) (rs : List CommitRecord) (r : CommitRecord) → Contains rs r → Contains (x ∷ rs) r
-one_later x rs r has = (suc has.0, omega (arith, has.1), has.2)
-
-after_new : (x : CommitRecord) (slots : List Slot) (rs : List CommitRecord) (k : ℕ) → NewOrOld slots rs k → NewOrOld (Free ∷ slots) (x ∷ rs) (suc k)
-after_new x slots rs k (inl new) =
-    inl (new.0, record { free = new.1.free; placed_is = new.1.placed_is; coming_is = new.1.coming_is; one_of = one_later x rs new.0 new.1.one_of })
-after_new x slots rs k (inr old) = inr (record { placed_is = old.placed_is; coming_is = old.coming_is })
+-- a slot is free and gets one of the records, or it stays
+abbrev pub NewOrOld : List Slot → List CommitRecord → ℕ → Type 0
+NewOrOld slots rs k =
+    ((r : CommitRecord) × (get_or slots k Free ≡ Free) × ((f : CommitRecord → Slot) → get_or (filled f slots rs) k Free ≡ f r) × Contains rs r)
+    ⊎ ((f : CommitRecord → Slot) → get_or (filled f slots rs) k Free ≡ get_or slots k Free)
 
 pub new_or_old : (slots : List Slot) (rs : List CommitRecord) (k : ℕ) → NewOrOld slots rs k
-new_or_old [] rs k = inr (record { placed_is = refl; coming_is = refl })
-new_or_old (Free ∷ slots) [] zero = inr (record { placed_is = refl; coming_is = refl })
-new_or_old (Free ∷ slots) [] (suc k) = ⊎_elim
-    (λ new. inl (new.0, record { free = new.1.free; placed_is = new.1.placed_is; coming_is = new.1.coming_is; one_of = new.1.one_of }))
-    (λ old. inr (record { placed_is = old.placed_is; coming_is = old.coming_is })) (new_or_old slots [] k)
-new_or_old (Free ∷ slots) (r ∷ rs) zero = inl (r, record { free = refl; placed_is = refl; coming_is = refl; one_of = (0, omega arith, refl) })
-new_or_old (Free ∷ slots) (r ∷ rs) (suc k) = after_new r slots rs k (new_or_old slots rs k)
-new_or_old (Taken x ∷ slots) rs zero = inr (record { placed_is = refl; coming_is = refl })
-new_or_old (Taken x ∷ slots) rs (suc k) = ⊎_elim
-    (λ new. inl (new.0, record { free = new.1.free; placed_is = new.1.placed_is; coming_is = new.1.coming_is; one_of = new.1.one_of }))
-    (λ old. inr (record { placed_is = old.placed_is; coming_is = old.coming_is })) (new_or_old slots rs k)
-new_or_old (Forgotten x ∷ slots) rs zero = inr (record { placed_is = refl; coming_is = refl })
-new_or_old (Forgotten x ∷ slots) rs (suc k) = ⊎_elim
-    (λ new. inl (new.0, record { free = new.1.free; placed_is = new.1.placed_is; coming_is = new.1.coming_is; one_of = new.1.one_of }))
-    (λ old. inr (record { placed_is = old.placed_is; coming_is = old.coming_is })) (new_or_old slots rs k)
+new_or_old [] rs k = inr (λ f. refl)
+new_or_old (Free ∷ slots) (r ∷ rs) zero = inl (r, refl, λ f. refl, (0, omega arith, refl))
+new_or_old (Free ∷ slots) (r ∷ rs) (suc k) =
+    ⊎_elim (λ new. let has = new.3 in inl (new.0, new.1, new.2, (suc has.0, omega (arith, has.1), has.2))) (λ old. inr old) (new_or_old slots rs k)
+new_or_old (s ∷ slots) rs zero = inr (λ f. refl)
+new_or_old (s ∷ slots) rs (suc k) = new_or_old slots rs k
 
-pub length-placed : (slots : List Slot) (rs : List CommitRecord) → length (placed slots rs) ≡ length slots
-length-placed [] rs = refl
-length-placed (Free ∷ slots) [] = ap (λ (n : ℕ). suc n) (length-placed slots [])
-length-placed (Free ∷ slots) (r ∷ rs) = ap (λ (n : ℕ). suc n) (length-placed slots rs)
-length-placed (Taken x ∷ slots) rs = ap (λ (n : ℕ). suc n) (length-placed slots rs)
-length-placed (Forgotten x ∷ slots) rs = ap (λ (n : ℕ). suc n) (length-placed slots rs)
+pub length-filled : (f : CommitRecord → Slot) (slots : List Slot) (rs : List CommitRecord) → length (filled f slots rs) ≡ length slots
+length-filled f [] rs = refl
+length-filled f (Free ∷ slots) (r ∷ rs) = ap (λ (n : ℕ). suc n) (length-filled f slots rs)
+length-filled f (s ∷ slots) rs = ap (λ (n : ℕ). suc n) (length-filled f slots rs)
 
-pub length-coming : (slots : List Slot) (rs : List CommitRecord) → length (coming slots rs) ≡ length slots
-length-coming [] rs = refl
-length-coming (Free ∷ slots) [] = ap (λ (n : ℕ). suc n) (length-coming slots [])
-length-coming (Free ∷ slots) (r ∷ rs) = ap (λ (n : ℕ). suc n) (length-coming slots rs)
-length-coming (Taken x ∷ slots) rs = ap (λ (n : ℕ). suc n) (length-coming slots rs)
-length-coming (Forgotten x ∷ slots) rs = ap (λ (n : ℕ). suc n) (length-coming slots rs)
+pub filled_alike : {X : Type 0} (g : Slot → X) (e f : CommitRecord → Slot) → ((r : CommitRecord) → g (e r) ≡ g (f r)) → (slots : List Slot)
+    (rs : List CommitRecord) → map g (filled e slots rs) ≡ map g (filled f slots rs)
+filled_alike g e f same [] rs = refl
+filled_alike g e f same (Free ∷ slots) (r ∷ rs) = λ i. same r i ∷ filled_alike g e f same slots rs i
+filled_alike g e f same (s ∷ slots) rs = λ i. g s ∷ filled_alike g e f same slots rs i
+
+pub filled_free : (slots : List Slot) (rs : List CommitRecord) → filled (λ r. Free) slots rs ≡ slots
+filled_free [] rs = refl
+filled_free (Free ∷ slots) (r ∷ rs) = ap (λ (l : List Slot). Free ∷ l) (filled_free slots rs)
+filled_free (s ∷ slots) rs = ap (λ (l : List Slot). s ∷ l) (filled_free slots rs)
+
+pub none_filled : (f : CommitRecord → Slot) (slots : List Slot) → filled f slots [] ≡ slots
+none_filled f [] = refl
+none_filled f (Free ∷ slots) = ap (λ (l : List Slot). Free ∷ l) (none_filled f slots)
+none_filled f (s ∷ slots) = ap (λ (l : List Slot). s ∷ l) (none_filled f slots)
 
 -- both have the same names
 pub coming_on_file : (slots : List Slot) (rs : List CommitRecord) → table_of (coming slots rs) ≡ table_of (placed slots rs)
-coming_on_file [] rs = refl
-coming_on_file (Free ∷ slots) [] = ap (λ (l : Table). None ∷ l) (coming_on_file slots [])
-coming_on_file (Free ∷ slots) (r ∷ rs) = ap (λ (l : Table). Some r ∷ l) (coming_on_file slots rs)
-coming_on_file (Taken x ∷ slots) rs = ap (λ (l : Table). Some x ∷ l) (coming_on_file slots rs)
-coming_on_file (Forgotten x ∷ slots) rs = ap (λ (l : Table). Some x ∷ l) (coming_on_file slots rs)
-
-pub none_placed : (slots : List Slot) → placed slots [] ≡ slots
-none_placed [] = refl
-none_placed (Free ∷ slots) = ap (λ (l : List Slot). Free ∷ l) (none_placed slots)
-none_placed (Taken x ∷ slots) = ap (λ (l : List Slot). Taken x ∷ l) (none_placed slots)
-none_placed (Forgotten x ∷ slots) = ap (λ (l : List Slot). Forgotten x ∷ l) (none_placed slots)
+coming_on_file = filled_alike on_file Forgotten Taken (λ r. refl)
 
 -- ON THE WAY: the slots before n are done, and have the first i records
 pub record IsOnTheWay (slots : List Slot) (rs : List CommitRecord) (n i : ℕ) : Type 0 where
   pub few : i ≤ length rs
   pub room : used (drop n slots) + length (drop i rs) ≤ length (drop n slots)
-  pub rest : (k : ℕ) → get_or (placed slots rs) (n + k) Free ≡ get_or (placed (drop n slots) (drop i rs)) k Free
-
--- the rest, by its first
-slots_after : (slots : List Slot) (n : ℕ) → n < length slots → drop n slots ≡ get_or slots n Free ∷ drop (suc n) slots
-slots_after [] n below = absurd (omega arith)
-slots_after (s ∷ slots) zero below = refl
-slots_after (s ∷ slots) (suc n) below = slots_after slots n (omega arith)
-
-slots_left : (slots : List Slot) (n : ℕ) → n < length slots → drop n slots ≡ get_or slots n Free ∷ drop (n + 1) slots
-slots_left slots n below =
-    let e : suc n ≡ n + 1 = omega arith in slots_after slots n below ∙ ap (λ (m : ℕ). get_or slots n Free ∷ drop m slots) e
-
-records_after : (rs : List CommitRecord) (i : ℕ) (r : CommitRecord) → i < length rs → r ≡ get_or rs i r → drop i rs ≡ r ∷ drop (suc i) rs
-records_after [] i r below is = absurd (omega arith)
-records_after (x ∷ rs) zero r below is = ap (λ (y : CommitRecord). y ∷ rs) (sym is)
-records_after (x ∷ rs) (suc i) r below is = records_after rs i r (omega arith) is
-
-pub records_left : (rs : List CommitRecord) (i : ℕ) (r : CommitRecord) → i < length rs → r ≡ get_or rs i r → drop i rs ≡ r ∷ drop (i + 1) rs
-records_left rs i r below is =
-    let e : suc i ≡ i + 1 = omega arith in records_after rs i r below is ∙ ap (λ (m : ℕ). r ∷ drop m rs) e
+  pub rest : drop n (placed slots rs) ≡ placed (drop n slots) (drop i rs)
 
 pub way_begins : (slots : List Slot) (rs : List CommitRecord) → HasRoomFor slots (length rs) → IsOnTheWay slots rs 0 0
-way_begins slots rs room = record {
-  few = omega arith;
-  room = room;
-  rest = λ k. let e : 0 + k ≡ k = omega arith in ap (λ (j : ℕ). get_or (placed slots rs) j Free) e;
-}
+way_begins slots rs room = record { few = omega arith; room = room; rest = refl }
 
-passes : (s : Slot) (slots : List Slot) (rs : List CommitRecord) → (s ≡ Free → ⊥) → placed (s ∷ slots) rs ≡ s ∷ placed slots rs
-passes Free slots rs differs = absurd (differs refl)
-passes (Taken x) slots rs differs = refl
-passes (Forgotten x) slots rs differs = refl
-
-passes_used : (s : Slot) (slots : List Slot) → (s ≡ Free → ⊥) → used (s ∷ slots) ≡ used slots + 1
-passes_used Free slots differs = absurd (differs refl)
-passes_used (Taken x) slots differs = refl
-passes_used (Forgotten x) slots differs = refl
+left_of : {X : Type 0} (l : List X) (n : ℕ) (d : X) → n < length l → drop n l ≡ get_or l n d ∷ drop (n + 1) l
+left_of l n d below = rw add-one (drop-cons l n d below)
 
 -- over a slot that isn't free
-pub way_passes : (slots : List Slot) (rs : List CommitRecord) (n i : ℕ) → n < length slots → (get_or slots n Free ≡ Free → ⊥)
-    → IsOnTheWay slots rs n i → IsOnTheWay slots rs (n + 1) i
-way_passes slots rs n i below differs way =
-    let left = slots_left slots n below in
-    let as_many = ap used left ∙ passes_used (get_or slots n Free) (drop (n + 1) slots) differs in
-    let many = ap length left in
+over : (s : Slot) (slots : List Slot) (rs : List CommitRecord) → (s ≡ Free → ⊥) → drop 1 (placed (s ∷ slots) rs) ≡ placed slots rs
+over Free slots rs differs = absurd (differs refl)
+over s slots rs differs = refl
+
+pub way_passes : {slots : List Slot} {rs : List CommitRecord} {n i : ℕ} → IsOnTheWay slots rs n i → n < length slots
+    → (get_or slots n Free ≡ Free → ⊥) → IsOnTheWay slots rs (n + 1) i
+way_passes {slots} {rs} {n} {i} way below differs =
+    let one = weighs (get_or slots n Free) differs in
     record {
       few = way.few;
-      room = omega (arith, way.room, as_many, many);
-      rest = λ k.
-          let e : n + 1 + k ≡ n + suc k = omega arith in
-          ap (λ (j : ℕ). get_or (placed slots rs) j Free) e ∙ way.rest (suc k)
-          ∙ ap (λ (l : List Slot). get_or (placed l (drop i rs)) (suc k) Free) left
-          ∙ ap (λ (l : List Slot). get_or l (suc k) Free) (passes (get_or slots n Free) (drop (n + 1) slots) (drop i rs) differs);
+      room = omega (arith, way.room, used_left slots n below, one, length-drop n slots, length-drop (n + 1) slots);
+      rest = sym (drop-drop 1 n (placed slots rs)) ∙ ap (λ (l : List Slot). drop 1 l) way.rest
+          ∙ ap (λ (l : List Slot). drop 1 (placed l (drop i rs))) (left_of slots n Free below)
+          ∙ over (get_or slots n Free) (drop (n + 1) slots) (drop i rs) differs;
     }
 
-module _ (slots : List Slot) (rs : List CommitRecord) (n i : ℕ) (below : n < length slots) (free : get_or slots n Free ≡ Free)
-    (r : CommitRecord) (more : i < length rs) (read : r ≡ get_or rs i r) (way : IsOnTheWay slots rs n i) where
-  left_is : drop n slots ≡ Free ∷ drop (n + 1) slots
-  left_is = slots_left slots n below ∙ ap (λ (s : Slot). s ∷ drop (n + 1) slots) free
+pub records_left : (rs : List CommitRecord) (i : ℕ) (r : CommitRecord) → i < length rs → r ≡ get_or rs i r → drop i rs ≡ r ∷ drop (i + 1) rs
+records_left rs i r below is = left_of rs i r below ∙ ap (λ (x : CommitRecord). x ∷ drop (i + 1) rs) (sym is)
 
-  records_are : drop i rs ≡ r ∷ drop (i + 1) rs
-  records_are = records_left rs i r more read
+module _ {slots : List Slot} {rs : List CommitRecord} {n i : ℕ} (way : IsOnTheWay slots rs n i) (below : n < length slots)
+    (free : get_or slots n Free ≡ Free) (r : CommitRecord) (more : i < length rs) (read : r ≡ get_or rs i r) where
+  this_left : drop n (placed slots rs) ≡ Taken r ∷ placed (drop (n + 1) slots) (drop (i + 1) rs)
+  this_left =
+      let left_is = left_of slots n Free below ∙ ap (λ (s : Slot). s ∷ drop (n + 1) slots) free in
+      way.rest ∙ (λ j. placed (left_is j) (records_left rs i r more read j))
 
   -- into one that is
   pub way_takes : IsOnTheWay slots rs (n + 1) (i + 1)
   way_takes =
-      let as_many = ap used left_is in
-      let many = ap length left_is in
-      let fewer = ap length records_are in
+      let none = ap weight free in
       record {
         few = omega (arith, more);
-        room = omega (arith, way.room, as_many, many, fewer);
-        rest = λ k.
-            let e : n + 1 + k ≡ n + suc k = omega arith in
-            ap (λ (j : ℕ). get_or (placed slots rs) j Free) e ∙ way.rest (suc k)
-            ∙ (λ j. get_or (placed (left_is j) (records_are j)) (suc k) Free);
+        room = omega (arith, way.room, used_left slots n below, none, length-drop n slots, length-drop (n + 1) slots, length-drop i rs, length-drop (i + 1) rs);
+        rest = sym (drop-drop 1 n (placed slots rs)) ∙ ap (λ (l : List Slot). drop 1 l) this_left;
       }
 
   pub way_new : get_or (placed slots rs) n Free ≡ Taken r
   way_new =
       let e : n ≡ n + 0 = omega arith in
-      ap (λ (j : ℕ). get_or (placed slots rs) j Free) e ∙ way.rest 0 ∙ (λ j. get_or (placed (left_is j) (records_are j)) 0 Free)
+      ap (λ (j : ℕ). get_or (placed slots rs) j Free) e ∙ sym (get_or-drop n (placed slots rs) 0 Free) ∙ ap (λ (l : List Slot). get_or l 0 Free) this_left
+
+element_at : (rs : List CommitRecord) (i : ℕ) → i < length rs → (r : CommitRecord) × (r ≡ get_or rs i r)
+element_at [] i below = absurd (omega arith)
+element_at (r ∷ rs) zero below = (r, refl)
+element_at (r ∷ rs) (suc i) below = element_at rs i (omega arith)
+
+pub next_taken : {slots : List Slot} {rs : List CommitRecord} {n i : ℕ} → IsOnTheWay slots rs n i → n < length slots → get_or slots n Free ≡ Free
+    → i ≢ length rs → (r : CommitRecord) × (get_or (placed slots rs) n Free ≡ Taken r) × IsOnTheWay slots rs (n + 1) (i + 1)
+next_taken {rs = rs} {i = i} way below free left =
+    let more : i < length rs = omega (arith, way.few, left) in
+    let at = element_at rs i more in
+    (at.0, way_new way below free at.0 more at.1, way_takes way below free at.0 more at.1)
 
 -- once all records are placed
-pub way_ends : (slots : List Slot) (rs : List CommitRecord) (n i : ℕ) → drop i rs ≡ [] → IsOnTheWay slots rs n i
-    → (k : ℕ) → n ≤ k → get_or (placed slots rs) k Free ≡ get_or slots k Free
-way_ends slots rs n i none way k from =
-    let e : k ≡ n + (k - n) = omega arith in
-    subst (λ (m : ℕ). get_or (placed slots rs) m Free ≡ get_or slots m Free) (sym e)
-    (way.rest ((k - n))
-    ∙ ap (λ (l : List CommitRecord). get_or (placed (drop n slots) l) ((k - n)) Free) none
-    ∙ ap (λ (l : List Slot). get_or l ((k - n)) Free) (none_placed (drop n slots))
-    ∙ get_or-drop n slots ((k - n)) Free)
+pub way_ends : {slots : List Slot} {rs : List CommitRecord} {n i : ℕ} → IsOnTheWay slots rs n i → drop i rs ≡ [] → (k : ℕ) → n ≤ k
+    → get_or (placed slots rs) k Free ≡ get_or slots k Free
+way_ends {slots} {rs} {n} way none k from =
+    let e : n + (k - n) ≡ k = omega arith in
+    subst (λ (m : ℕ). get_or (placed slots rs) m Free ≡ get_or slots m Free) e
+    (sym (get_or-drop n (placed slots rs) (k - n) Free)
+    ∙ ap (λ (l : List Slot). get_or l (k - n) Free) (way.rest ∙ ap (placed (drop n slots)) none ∙ none_filled Taken (drop n slots))
+    ∙ get_or-drop n slots (k - n) Free)
 
 -- at the end of the slots all are
-pub way_done : (slots : List Slot) (rs : List CommitRecord) (n i : ℕ) → length slots ≤ n → IsOnTheWay slots rs n i → length rs ≤ i
-way_done slots rs n i past way =
+pub way_done : {slots : List Slot} {rs : List CommitRecord} {n i : ℕ} → IsOnTheWay slots rs n i → length slots ≤ n → drop i rs ≡ []
+way_done {slots} {rs} {n} {i} way past =
     let none = ap length (drop_all n slots past) in
-    let fewer = length-drop i rs in
-    omega (arith, way.room, none, fewer, way.few)
+    drop_all i rs (omega (arith, way.room, none, length-drop i rs, way.few))
 
 -- up to the first that is free
 pub way_from : (slots : List Slot) (rs : List CommitRecord) (n : ℕ) → HasRoomFor slots (length rs) → n ≤ length slots → HasNoFree slots n
@@ -191,272 +141,139 @@ way_from slots rs zero room few none = way_begins slots rs room
 way_from slots rs (suc n) room few none =
     let e : n + 1 ≡ suc n = omega arith in
     subst (λ (m : ℕ). IsOnTheWay slots rs m 0) e
-    (way_passes slots rs n 0 (omega arith) (none n (omega arith))
-    (way_from slots rs n room (omega arith) (λ k below. none k (omega arith))))
+    (way_passes (way_from slots rs n room (omega arith) (λ k below. none k (omega arith))) (omega arith) (none n (omega arith)))
 
--- BODIES
-pub record HasBodiesBelow (n : ℕ) (slots : List Slot) (rs : List CommitRecord) (file : List ℕ) : Type 0 where
-  pub each : (k : ℕ) (r : CommitRecord) → k < n → get_or slots k Free ≡ Free → get_or (placed slots rs) k Free ≡ Taken r → HasBody k r file
+-- the body of a record that is placed stands in its slot
+abbrev pub HasItsBody : List Slot → List CommitRecord → ℕ → List ℕ → Type 0
+HasItsBody slots rs k bytes = (r : CommitRecord) → get_or slots k Free ≡ Free → get_or (placed slots rs) k Free ≡ Taken r → drop 1 bytes ≡ spelling r
 
--- what is new in a slot that was free before n is none
-pub no_bodies : (slots : List Slot) (rs : List CommitRecord) (n : ℕ) (file : List ℕ) → HasNoFree slots n → HasBodiesBelow n slots rs file
-no_bodies slots rs n file none = record { each = λ k r below free new. absurd (none k below free) }
+-- with the gates of all free slots shut
+pub record IsBodied (slots : List Slot) (rs : List CommitRecord) (k : ℕ) (bytes : List ℕ) : Type 0 where
+  pub is : Has on_file slots k bytes
+  pub body : HasItsBody slots rs k bytes
 
-pub bodies_pass : (slots : List Slot) (rs : List CommitRecord) (n : ℕ) (file : List ℕ) → (get_or slots n Free ≡ Free → ⊥)
-    → HasBodiesBelow n slots rs file → HasBodiesBelow (n + 1) slots rs file
-bodies_pass slots rs n file differs so_far = record {
-  each = λ k r below free new. elim (cases_eq k n) [
-    | inl same ↦ absurd (differs (subst (λ (j : ℕ). get_or slots j Free ≡ Free) same free))
-    | inr other ↦ so_far.each k r (omega (arith, other)) free new
-  ];
-}
+-- with some open
+pub record MayCome (slots : List Slot) (rs : List CommitRecord) (k : ℕ) (bytes : List ℕ) : Type 0 where
+  pub may : MayHave (get_or (coming slots rs) k Free) bytes
+  pub body : HasItsBody slots rs k bytes
 
-pub all_bodies : (slots : List Slot) (rs : List CommitRecord) (n i : ℕ) (file : List ℕ) → drop i rs ≡ [] → IsOnTheWay slots rs n i
-    → HasBodiesBelow n slots rs file → HasBodies slots rs file
-all_bodies slots rs n i file none way so_far k r free new = elim (cases_lt k n) [
-  | inl below ↦ so_far.each k r below free new
-  | inr from ↦ let same = way_ends slots rs n i none way k from ∙ free in absurd (cc (same, new))
-]
+stays : (slots : List Slot) (rs : List CommitRecord) (k : ℕ) → (get_or slots k Free ≡ Free → ⊥) → get_or (placed slots rs) k Free ≡ get_or slots k Free
+stays slots rs k differs = ⊎_elim (λ new. absurd (differs new.1)) (λ old. old Taken) (new_or_old slots rs k)
 
--- one body more
-pub body_put : (slots : List Slot) (rs : List CommitRecord) (n : ℕ) (r : CommitRecord) (file new body : List ℕ)
-    → length file ≡ 18 + 94 * length slots → n < length slots → get_or (placed slots rs) n Free ≡ Taken r → body ≡ spelling r → length body ≡ 93
-    → new ≡ overwritten file (18 + 94 * n + 1) body → HasBodiesBelow n slots rs file → HasBodiesBelow (n + 1) slots rs new
-body_put slots rs n r file new body size below this spells long is so_far =
-    let within : 18 + 94 * n + 1 + length body ≤ length file = omega arith in
-    record {
-      each = λ k x before free there. elim (cases_eq k n) [
-        | inl same ↦
-            let there_too = subst (λ (j : ℕ). get_or (placed slots rs) j Free ≡ Taken x) same there in
-            let record_is : Taken r ≡ Taken x = sym this ∙ there_too in
-            let same_record : r ≡ x = cc (record_is) in
-            subst (λ (j : ℕ). HasBody j x new) (sym same)
-            (ap (λ (l : List ℕ). take 93 (drop (18 + 94 * n + 1) l)) is
-            ∙ ap (λ (m : ℕ). take m (drop (18 + 94 * n + 1) (overwritten file (18 + 94 * n + 1) body))) (sym long)
-            ∙ bytes-overwritten file (18 + 94 * n + 1) body within ∙ spells ∙ ap spelling same_record)
-        | inr other ↦
-            ap (λ (l : List ℕ). take 93 (drop (18 + 94 * k + 1) l)) is
-            ∙ part-overwritten file (18 + 94 * n + 1) body within (18 + 94 * k + 1) 93 (omega (arith, other))
-            ∙ so_far.each k x (omega (arith, other)) free there
-      ];
-    }
+-- while it isn't known which are
+still_shut : (slots : List Slot) (rs : List CommitRecord) (k : ℕ) {bytes : List ℕ} → Has on_file slots k bytes → MayHave (get_or (coming slots rs) k Free) bytes
+still_shut slots rs k {bytes} is = ⊎_elim
+    (λ new. subst (λ (s : Slot). MayHave s bytes) (sym (new.2 Forgotten)) (record {
+      counts = λ none. absurd (cc (none));
+      unshut = λ wide. absurd (wide (is.free (ap on_file new.1)));
+    }))
+    (λ old. subst (λ (s : Slot). MayHave s bytes) (sym (old Forgotten)) (surely is)) (new_or_old slots rs k)
 
--- OPENING
--- a gate that is written leaves all bodies
-bodies_stay : (slots : List Slot) (rs : List CommitRecord) (n : ℕ) (file : List ℕ) → length file ≡ 18 + 94 * length slots → n < length slots
-    → HasBodies slots rs file → HasBodies slots rs (overwritten file (18 + 94 * n) (255 ∷ []))
-bodies_stay slots rs n file size below bodies k r free new =
-    let within : 18 + 94 * n + 1 ≤ length file = omega arith in
-    elim (cases_lt k n) [
-      | inl before ↦ part-overwritten file (18 + 94 * n) (255 ∷ []) within (18 + 94 * k + 1) 93 (omega arith) ∙ bodies k r free new
-      | inr from ↦
-          ap (λ (l : List ℕ). take 93 l) (drop-overwritten_past file (18 + 94 * n) (255 ∷ []) within (18 + 94 * k + 1) (omega arith)) ∙ bodies k r free new
-    ]
+-- the body after the gate isn't looked at while this is shut
+pub stands_shown_coming : (slots : List Slot) (rs : List CommitRecord) → AreApart (table_of (placed slots rs)) → (file : List ℕ)
+    → StandsFor (table_of slots) file → MayShow (coming slots rs) file
+stands_shown_coming slots rs apart file stands =
+    shown_of (slots_as (length-filled Forgotten slots rs) (slots_of whole_part slots stands) (λ k below is. still_shut slots rs k is))
+    (subst AreApart (sym (coming_on_file slots rs)) apart)
 
-open_slot : (n : ℕ) (r : CommitRecord) (file : List ℕ) → 18 + 94 * n + 1 ≤ length file → HasBody n r file → IsValid r
-    → IsSlotOf (Some r) (slot n (overwritten file (18 + 94 * n) (255 ∷ [])))
-open_slot n r file within body valid =
-    let bytes : slot n (overwritten file (18 + 94 * n) (255 ∷ [])) ≡ 255 ∷ spelling r =
-    ap (λ (l : List ℕ). take 94 l) (drop-overwritten file (18 + 94 * n) (255 ∷ []) within) ∙ ap (λ (l : List ℕ). 255 ∷ l) body in
-    record {
-      free = λ none. absurd (cc (none));
-      taken = λ x is. let same : r ≡ x = cc (is) in bytes ∙ ap (λ (y : CommitRecord). 255 ∷ spelling y) same;
-      valid = λ x is. let same : r ≡ x = cc (is) in subst IsValid same valid;
-    }
+-- up to the last gate
+pub up_to_gates : (slots : List Slot) (rs : List CommitRecord) {D : Type 0} {moment : D → ℕ} {left_since : D → ℕ → List ℕ → Type 0} {old staged synced new : D} {file : List ℕ}
+    {may_leave : List ℕ → Type 0} → AreApart (table_of (placed slots rs)) → LeavesOnly moment left_since old staged (StandsFor (table_of slots))
+    → StandsFor (table_of slots) file → Only file may_leave
+    → Elapses (moment staged) (moment synced) (left_since staged) (left_since synced) may_leave
+    → LeavesOnly moment left_since synced new (MayShow (coming slots rs)) → LeavesOnly moment left_since old new (MayShow (coming slots rs))
+up_to_gates slots rs apart bodies stands durable time gates = joined (goes_on (weaker (stands_shown_coming slots rs apart) bodies) time (λ f now.
+    stands_shown_coming slots rs apart f (subst (StandsFor (table_of slots)) (sym (durable f now)) stands))) gates
 
--- the gates before n are open
-pub record IsOpenBelow (slots : List Slot) (rs : List CommitRecord) (n : ℕ) (file : List ℕ) : Type 0 where
-  pub few : length slots ≤ 65536
-  pub size : length file ≡ 18 + 94 * length slots
-  pub header : take 18 file ≡ head (length slots)
-  pub bodies : HasBodies slots rs file
-  pub done : (k : ℕ) → k < length slots → k < n → IsSlotOf (on_file (get_or (placed slots rs) k Free)) (slot k file)
-  pub later : (k : ℕ) → k < length slots → n ≤ k → IsSlotOf (on_file (get_or slots k Free)) (slot k file)
+is_new : (slots : List Slot) (rs : List CommitRecord) (n : ℕ) (r : CommitRecord) → All IsValid rs → get_or slots n Free ≡ Free
+    → get_or (placed slots rs) n Free ≡ Taken r → (get_or (coming slots rs) n Free ≡ Forgotten r) × IsValid r
+is_new slots rs n r valid free this = ⊎_elim
+    (λ new.
+    let both : Taken new.0 ≡ Taken r = sym (new.2 Taken) ∙ this in
+    let same : new.0 ≡ r = cc (both) in
+    let has = new.3 in (new.2 Forgotten ∙ ap (λ (x : CommitRecord). Forgotten x) same, subst IsValid (has.2 ∙ same) (valid has.0 new.0 has.1)))
+    (λ old. let no = sym this ∙ old Taken ∙ free in absurd (cc (no))) (new_or_old slots rs n)
 
--- a file that a crash leaves meanwhile
-pub record MayCome (slots : List Slot) (rs : List CommitRecord) (file : List ℕ) : Type 0 where
-  pub shown : MayShow (coming slots rs) file
-  pub bodies : HasBodies slots rs file
+module _ {slots : List Slot} {rs : List CommitRecord} where
+  has_bodies : {file : List ℕ} → HasSlots (length slots) (IsBodied slots rs) file → HasBodies slots rs file
+  has_bodies has k r free new = elim (cases_lt k (length slots)) [
+    | inl below ↦ (has.each k below).body r free new
+    | inr past ↦ let none = get_or_past (placed slots rs) k Free (omega (arith, past, length-filled Taken slots rs)) in absurd (cc (none, new))
+  ]
 
-valid_at : (rs : List CommitRecord) → All IsValid rs → (r : CommitRecord) → Contains rs r → IsValid r
-valid_at rs all r has = subst IsValid has.2 (all has.0 r has.1)
+  pub bodied : {file : List ℕ} → StandsFor (table_of slots) file → HasBodies slots rs file → HasSlots (length slots) (IsBodied slots rs) file
+  bodied stands bodies = slots_as refl (slots_of whole_part slots stands) (λ k below is. record { is = is; body = bodies k })
 
-module _ (slots : List Slot) (rs : List CommitRecord) (valid : All IsValid rs) (apart : AreApart (table_of (placed slots rs))) where
-  stands_here : (file : List ℕ) → StandsFor (table_of slots) file → (k : ℕ) → k < length slots → IsSlotOf (on_file (get_or slots k Free)) (slot k file)
-  stands_here file stands k below =
-      subst (λ o. IsSlotOf o (slot k file)) (at_map on_file whole_part slots k) (stands.each k (omega (arith, length-map slots on_file)))
+  -- a slot that isn't free has none
+  pub no_body : {k : ℕ} {bytes : List ℕ} → (get_or slots k Free ≡ Free → ⊥) → Has on_file slots k bytes → IsBodied slots rs k bytes
+  no_body differs is = record { is = is; body = λ r free. absurd (differs free) }
 
-  pub none_open : (n : ℕ) (file : List ℕ) → HasNoFree slots n → StandsFor (table_of slots) file → HasBodies slots rs file → IsOpenBelow slots rs n file
-  none_open n file none stands bodies =
-      let many = length-map slots on_file in
-      record {
-        few = omega (arith, many, stands.few);
-        size = omega (arith, many, stands.size);
-        header = stands.header ∙ ap head many;
-        bodies = bodies;
-        done = λ k below before. ⊎_elim
-            (λ new. absurd (none k before new.1.free))
-            (λ old. subst (λ (s : Slot). IsSlotOf (on_file s) (slot k file)) (sym old.placed_is) (stands_here file stands k below))
-            (new_or_old slots rs k);
-        later = λ k below from. stands_here file stands k below;
-      }
-
-  -- the body after the gate isn't looked at while this is shut
-  pub stands_shown_coming : (file : List ℕ) → StandsFor (table_of slots) file → MayShow (coming slots rs) file
-  stands_shown_coming file stands =
-      let many = length-map slots on_file in
-      let long = length-coming slots rs in
-      record {
-        few = omega (arith, many, long, stands.few);
-        size = omega (arith, many, long, stands.size);
-        header = stands.header ∙ ap head (many ∙ sym long);
-        apart = subst AreApart (sym (coming_on_file slots rs)) apart;
-        each = λ k below.
-            let here = stands_here file stands k (omega (arith, long)) in
-            ⊎_elim
-            (λ new.
-            let gate : take 1 (slot k file) ≡ 0 ∷ [] = here.free (ap on_file new.1.free) in
-            subst (λ (s : Slot). MayHave s (slot k file)) (sym new.1.coming_is) (record {
-              counts = λ none. absurd (cc (none));
-              unshut = λ wide. absurd (wide gate);
-            }))
-            (λ old. subst (λ (s : Slot). MayHave s (slot k file)) (sym old.coming_is) (record { counts = λ none. here; unshut = λ wide. here }))
-            (new_or_old slots rs k);
-      }
-
-  pub may_come : (file : List ℕ) → StandsFor (table_of slots) file → HasBodies slots rs file → MayCome slots rs file
-  may_come file stands bodies = record { shown = stands_shown_coming file stands; bodies = bodies }
-
-  -- a slot that isn't free
-  pub open_passes : (n : ℕ) (file : List ℕ) → n < length slots → (get_or slots n Free ≡ Free → ⊥) → IsOpenBelow slots rs n file
-      → IsOpenBelow slots rs (n + 1) file
-  open_passes n file below differs so_far = record {
-    few = so_far.few;
-    size = so_far.size;
-    header = so_far.header;
-    bodies = so_far.bodies;
-    done = λ k here before. elim (cases_eq k n) [
-      | inl same ↦
-          subst (λ (j : ℕ). IsSlotOf (on_file (get_or (placed slots rs) j Free)) (slot j file)) (sym same)
-          (⊎_elim (λ new. absurd (differs new.1.free))
-          (λ old. subst (λ (s : Slot). IsSlotOf (on_file s) (slot n file)) (sym old.placed_is) (so_far.later n below (omega arith)))
-          (new_or_old slots rs n))
-      | inr other ↦ so_far.done k here (omega (arith, other))
-    ];
-    later = λ k here from. so_far.later k here (omega (arith, from));
+  pub body_put : {n : ℕ} {r : CommitRecord} {bytes body : List ℕ} → get_or slots n Free ≡ Free → get_or (placed slots rs) n Free ≡ Taken r
+      → body ≡ spelling r → Has on_file slots n bytes → IsBodied slots rs n (take 1 bytes ++ body)
+  body_put {r = r} {body = body} free this spells is = record {
+    is = still_free body free is;
+    body = λ x none there.
+        let same : Taken r ≡ Taken x = sym this ∙ there in
+        let record_is : r ≡ x = cc (same) in
+        ap (λ (l : List ℕ). drop 1 (l ++ body)) (is.free (ap on_file free)) ∙ spells ∙ ap spelling record_is;
   }
 
-  -- once all gates are open
-  pub all_open : (n i : ℕ) (file : List ℕ) → drop i rs ≡ [] → IsOnTheWay slots rs n i → IsOpenBelow slots rs n file
-      → StandsFor (table_of (placed slots rs)) file
-  all_open n i file none way so_far =
-      let many : length (table_of (placed slots rs)) ≡ length slots = length-map (placed slots rs) on_file ∙ length-placed slots rs in
-      record {
-        few = omega (arith, many, so_far.few);
-        size = omega (arith, many, so_far.size);
-        header = so_far.header ∙ ap head (sym many);
-        each = λ k here. subst (λ o. IsSlotOf o (slot k file)) (sym (at_map on_file whole_part (placed slots rs) k)) (elim (cases_lt k n) [
-          | inl before ↦ so_far.done k (omega (arith, many)) before
-          | inr from ↦
-              subst (λ (s : Slot). IsSlotOf (on_file s) (slot k file)) (sym (way_ends slots rs n i none way k from))
-              (so_far.later k (omega (arith, many)) from)
-        ]);
-        apart = apart;
-      }
+  -- all bodies are there
+  all_bodies : {n i : ℕ} {file : List ℕ} → IsOnTheWay slots rs n i → drop i rs ≡ []
+      → HasSlots (length slots) (Between (IsBodied slots rs) (Has on_file slots) n) file
+      → HasSlots (length slots) (IsBodied slots rs) file
+  all_bodies way none so_far = ends so_far (λ k below from is. record {
+    is = is;
+    body = λ r free new. let same = way_ends way none k from ∙ free in absurd (cc (same, new));
+  })
 
-  module _ (n : ℕ) (r : CommitRecord) (below : n < length slots) (free : get_or slots n Free ≡ Free)
-      (this : get_or (placed slots rs) n Free ≡ Taken r) where
-    new_here : (IsNewAt slots rs n r)
-    new_here = ⊎_elim
-        (λ new.
-        let both : Taken r ≡ Taken new.0 = sym this ∙ new.1.placed_is in
-        let same : new.0 ≡ r = cc (both) in
-        subst (IsNewAt slots rs n) same new.1)
-        (λ old. let no_ = sym this ∙ old.placed_is ∙ free in absurd (cc (no_)))
-        (new_or_old slots rs n)
+  pub all_written : {n i : ℕ} {file : List ℕ} → AreApart (table_of slots) → IsOnTheWay slots rs n i → drop i rs ≡ []
+      → HasSlots (length slots) (Between (IsBodied slots rs) (Has on_file slots) n) file → StandsFor (table_of slots) file × HasBodies slots rs file
+  all_written apart way none so_far =
+      let has = all_bodies way none so_far in (stands_of whole_part slots (slots_as refl has (λ k below is. is.is)) apart, has_bodies has)
 
-    r_valid : IsValid r
-    r_valid = valid_at rs valid r new_here.one_of
+  -- OPENING
+  as_placed : {k : ℕ} {bytes : List ℕ} → get_or (placed slots rs) k Free ≡ get_or slots k Free → IsBodied slots rs k bytes
+      → Has on_file (placed slots rs) k bytes
+  as_placed {bytes = bytes} same was = subst (λ (s : Slot). IsSlotOf (on_file s) bytes) (sym same) was.is
 
-    -- one gate more
-    pub gate_open : (file new : List ℕ) → new ≡ overwritten file (18 + 94 * n) (255 ∷ []) → IsOpenBelow slots rs n file → IsOpenBelow slots rs (n + 1) new
-    gate_open file new written so_far =
-        let within : 18 + 94 * n + 1 ≤ length file = omega (arith, so_far.size) in
-        let other : (k : ℕ) → k < length slots → (k ≡ n → ⊥) → slot k (overwritten file (18 + 94 * n) (255 ∷ [])) ≡ slot k file =
-        λ k here apart_. other_slot (length slots) file so_far.size n below k (18 + 94 * n) (255 ∷ []) here apart_ (omega arith)
-        (let w : 18 + 94 * n + 1 ≤ 112 + 94 * n = omega arith in w) in
-        subst (IsOpenBelow slots rs (n + 1)) (sym written) (record {
-          few = so_far.few;
-          size = length-overwritten file (18 + 94 * n) (255 ∷ []) within ∙ so_far.size;
-          header = take-overwritten file (18 + 94 * n) (255 ∷ []) within 18 (omega arith) ∙ so_far.header;
-          bodies = bodies_stay slots rs n file so_far.size below so_far.bodies;
-          done = λ k here before. elim (cases_eq k n) [
-            | inl same ↦
-                subst (λ (j : ℕ). IsSlotOf (on_file (get_or (placed slots rs) j Free)) (slot j (overwritten file (18 + 94 * n) (255 ∷ [])))) (sym same)
-                (subst (λ (s : Slot). IsSlotOf (on_file s) (slot n (overwritten file (18 + 94 * n) (255 ∷ [])))) (sym this)
-                (open_slot n r file within (so_far.bodies n r free this) r_valid))
-            | inr differs ↦
-                subst (IsSlotOf (on_file (get_or (placed slots rs) k Free))) (sym (other k here differs)) (so_far.done k here (omega (arith, differs)))
-          ];
-          later = λ k here from.
-              let differs : k ≡ n → ⊥ = λ e. omega (arith, e, from) in
-              subst (IsSlotOf (on_file (get_or slots k Free))) (sym (other k here differs)) (so_far.later k here (omega (arith, from)));
-        })
+  pub not_opened : {k : ℕ} {bytes : List ℕ} → (get_or slots k Free ≡ Free → ⊥) → IsBodied slots rs k bytes → Has on_file (placed slots rs) k bytes
+  not_opened {k} differs was = as_placed (stays slots rs k differs) was
 
-    opened_comes : (d : List ℕ) → MayCome slots rs d → MayCome slots rs (overwritten d (18 + 94 * n) (255 ∷ []))
-    opened_comes d comes =
-        let long = length-coming slots rs in
-        let size : length d ≡ 18 + 94 * length slots = omega (arith, long, comes.shown.size) in
-        let within : 18 + 94 * n + 1 ≤ length d = omega (arith, size) in
-        let there = open_slot n r d within (comes.bodies n r free this) r_valid in
-        record {
-          bodies = bodies_stay slots rs n d size below comes.bodies;
-          shown = record {
-            few = comes.shown.few;
-            size = length-overwritten d (18 + 94 * n) (255 ∷ []) within ∙ comes.shown.size;
-            header = take-overwritten d (18 + 94 * n) (255 ∷ []) within 18 (omega arith) ∙ comes.shown.header;
-            apart = comes.shown.apart;
-            each = λ k here. elim (cases_eq k n) [
-              | inl same ↦
-                  subst (λ (j : ℕ). MayHave (get_or (coming slots rs) j Free) (slot j (overwritten d (18 + 94 * n) (255 ∷ [])))) (sym same)
-                  (subst (λ (s : Slot). MayHave s (slot n (overwritten d (18 + 94 * n) (255 ∷ [])))) (sym new_here.coming_is)
-                  (record { counts = λ none. there; unshut = λ wide. there }))
-              | inr differs ↦
-                  subst (MayHave (get_or (coming slots rs) k Free))
-                  (sym (other_slot (length slots) d size n below k (18 + 94 * n) (255 ∷ []) (omega (arith, long)) differs (omega arith)
-                  (let w : 18 + 94 * n + 1 ≤ 112 + 94 * n = omega arith in w)))
-                  (comes.shown.each k here)
-            ];
-          };
-        }
+  -- the gates before n are open
+  pub all_open : {n i : ℕ} {file : List ℕ} → AreApart (table_of (placed slots rs)) → IsOnTheWay slots rs n i → drop i rs ≡ []
+      → HasSlots (length slots) (Between (Has on_file (placed slots rs)) (IsBodied slots rs) n) file → StandsFor (table_of (placed slots rs)) file
+  all_open apart way none so_far =
+      stands_of whole_part (placed slots rs)
+      (slots_as (length-filled Taken slots rs) (ends so_far (λ k below from was. as_placed (way_ends way none k from) was)) (λ k below is. is)) apart
 
-    -- a crash in between
-    pub torn_comes : (d c : List ℕ) → MayCome slots rs d → Torn (18 + 94 * n) (255 ∷ []) d c → MayCome slots rs c
-    torn_comes d c comes torn =
-        ⊎_elim (λ before. subst (MayCome slots rs) (sym before) comes) (λ after. subst (MayCome slots rs) (sym after) (opened_comes d comes))
-        (torn.whole.alone 255 refl)
+  pub comes : {k : ℕ} {bytes : List ℕ} → IsBodied slots rs k bytes → MayCome slots rs k bytes
+  comes {k} was = record { may = still_shut slots rs k was.is; body = was.body }
+
+  pub comes_shown : {file : List ℕ} → AreApart (table_of (placed slots rs)) → HasSlots (length slots) (MayCome slots rs) file → MayShow (coming slots rs) file
+  comes_shown apart has =
+      shown_of (slots_as (length-filled Forgotten slots rs) has (λ k below is. is.may)) (subst AreApart (sym (coming_on_file slots rs)) apart)
+
+  module _ (valid : All IsValid rs) {n : ℕ} {r : CommitRecord} (free : get_or slots n Free ≡ Free) (this : get_or (placed slots rs) n Free ≡ Taken r) where
+    pub gate_opened : {bytes : List ℕ} → IsBodied slots rs n bytes → Has on_file (placed slots rs) n (255 ∷ drop 1 bytes)
+    gate_opened {bytes} was =
+        subst (λ (s : Slot). IsSlotOf (on_file s) (255 ∷ drop 1 bytes)) (sym this) (open_slot (was.body r free this) (is_new slots rs n r valid free this).1)
+
+    may_open : {bytes : List ℕ} → MayCome slots rs n bytes → MayCome slots rs n (255 ∷ drop 1 bytes)
+    may_open {bytes} was = record {
+      may = subst (λ (s : Slot). MayHave s (255 ∷ drop 1 bytes)) (sym (is_new slots rs n r valid free this).0) (surely (open_slot (was.body r free this) (is_new slots rs n r valid free this).1));
+      body = was.body;
+    }
+
+    pub opens_torn : {d c : List ℕ} → n < length slots → HasSlots (length slots) (MayCome slots rs) d → Torn (18 + 94 * n) (255 ∷ []) d c
+        → HasSlots (length slots) (MayCome slots rs) c
+    opens_torn below has torn = gate_torn n 255 has below (may_open (has.each n below)) torn
 
 -- while a body is written
-pub body_torn : (slots : List Slot) (n : ℕ) (r : CommitRecord) (body d c : List ℕ) → n < length slots → get_or slots n Free ≡ Free → length body ≡ 93
+pub body_torn : (slots : List Slot) {n : ℕ} {body d c : List ℕ} → n < length slots → get_or slots n Free ≡ Free → length body ≡ 93
     → StandsFor (table_of slots) d → Torn (18 + 94 * n + 1) body d c → StandsFor (table_of slots) c
-body_torn slots n r body d c below free size stands torn =
-    let many = length-map slots on_file in
-    after_stage (table_of slots) d stands n r (omega (arith, many)) body c (at_map on_file whole_part slots n ∙ ap on_file free) size
-    (torn_is_overwritten (18 + 94 * n + 1) body d c (omega (arith, many, stands.size)) torn)
-
--- once it is
-pub body_staged : (slots : List Slot) (n : ℕ) (body d new : List ℕ) → n < length slots → get_or slots n Free ≡ Free → length body ≡ 93
-    → StandsFor (table_of slots) d → new ≡ overwritten d (18 + 94 * n + 1) body → StandsFor (table_of slots) new
-body_staged slots n body d new below free size stands written =
-    let many = length-map slots on_file in
-    subst (StandsFor (table_of slots)) (sym written)
-    (staged (table_of slots) d stands n (omega (arith, many)) body (at_map on_file whole_part slots n ∙ ap on_file free) size)
-
-pub element_at : (rs : List CommitRecord) (i : ℕ) → i < length rs → (r : CommitRecord) × (r ≡ get_or rs i r)
-element_at [] i below = absurd (omega arith)
-element_at (r ∷ rs) zero below = (r, refl)
-element_at (r ∷ rs) (suc i) below = element_at rs i (omega arith)
+body_torn slots {n} {body} {d} {c} below free size stands torn =
+    stage_torn slots n stands below free size (torn_is_overwritten (18 + 94 * n + 1) body d c (omega (arith, length-map slots on_file, stands.size)) torn)
 
 pub placed_shown : (slots : List Slot) (rs : List CommitRecord) (file : List ℕ) → StandsFor (table_of (placed slots rs)) file → MayShow (coming slots rs) file
-placed_shown slots rs file stands =
-    stands_shown (coming slots rs) file (subst (λ (t : Table). StandsFor t file) (sym (coming_on_file slots rs)) stands)
+placed_shown slots rs file stands = stands_shown (coming slots rs) file (subst (λ t. StandsFor t file) (sym (coming_on_file slots rs)) stands)

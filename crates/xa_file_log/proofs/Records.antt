@@ -1,18 +1,11 @@
 -- One more record in a table.
-use Rattle.xa_base.proofs.{◌≡◌, ℕ, zero, suc, ◌<◌, Bool, true, false, cond, Option, None, Some, [], ◌∷◌, length, get_or, set, refl, sym, ◌∙◌, ap, subst, arith}
-use Rattle.xa_base.proofs.{eq_by_cmp, is_eq, tied_itself, find, get-from_entries, get-insert, is_equal}
+use Rattle.xa_base.proofs.{◌≡◌, ℕ, zero, suc, ◌<◌, Bool, true, false, cond, Option, None, Some, [], ◌∷◌, length, get_or, set, refl, sym, ◌∙◌, ap, arith}
+use Rattle.xa_base.proofs.{eq_by_cmp, find, get-from_entries, put_one}
 use Rattle.std.specs.FinMap as finmap
-use Rattle.std.specs.FinMap.{same_map}
 use Rattle.xa_words.specs.{TranName}
 use Rattle.xa_log.specs.{CommitRecord, tran_cmp}
-use Rattle.xa_log.proofs.Transactions.{tran_cmp_total, tran_cmp-IsAntisymmetric}
+use Rattle.xa_log.proofs.Transactions.{tran_cmp_total, tran_cmp-IsAntisymmetric, decides_by_cmp}
 use Rattle.xa_file_log.specs.{Table, entries, records_of}
-
-one_name : (x y : TranName) → eq_by_cmp tran_cmp x y ≡ true → x ≡ y
-one_name x y t = tran_cmp-IsAntisymmetric x y (is_equal (tran_cmp x y) t)
-
-own_name : (x y : TranName) → x ≡ y → eq_by_cmp tran_cmp x y ≡ true
-own_name x y e = subst (λ (z : TranName). eq_by_cmp tran_cmp x z ≡ true) e (ap is_eq (tied_itself tran_cmp_total x))
 
 turned : {X : Type 0} (a b : Bool) (x y z : X) → (a ≡ true → b ≡ true → ⊥) → cond a x (cond b y z) ≡ cond b y (cond a x z)
 turned true true x y z apart = absurd (apart refl refl)
@@ -34,8 +27,7 @@ find_set (None ∷ table) (suc k) r q below free absent = find_set table k r q (
 find_set (Some e ∷ table) (suc k) r q below free absent =
     let apart = not_here (eq_by_cmp tran_cmp r.tran e.tran) e.yes (find tran_cmp r.tran (entries table)) absent in
     let both : eq_by_cmp tran_cmp q e.tran ≡ true → eq_by_cmp tran_cmp q r.tran ≡ true → ⊥ = λ a b.
-    let same : r.tran ≡ e.tran = sym (one_name q r.tran b) ∙ one_name q e.tran a in
-    let here = own_name r.tran e.tran same in
+    let here = (decides_by_cmp r.tran e.tran).1 (sym ((decides_by_cmp q r.tran).0 b) ∙ (decides_by_cmp q e.tran).0 a) in
     let never = apart.0 in
     cc in
     ap (cond (eq_by_cmp tran_cmp q e.tran) (Some e.yes)) (find_set table k r q (omega arith) free apart.1)
@@ -45,11 +37,8 @@ find_set (Some e ∷ table) (suc k) r q below free absent =
 pub records_set : (table : Table) (k : ℕ) (r : CommitRecord) → k < length table → get_or table k None ≡ None → finmap.get (records_of table) r.tran ≡ None
     → records_of (set table k (Some r)) ≡ finmap.insert (records_of table) r.tran r.yes
 records_set table k r below free absent =
-    let none = sym (get-from_entries tran_cmp_total (entries table) r.tran) ∙ absent in
-    same_map tran_cmp_total tran_cmp-IsAntisymmetric _ _ (λ q.
-    get-from_entries tran_cmp_total (entries (set table k (Some r))) q ∙ find_set table k r q below free none
-    ∙ ap (cond (eq_by_cmp tran_cmp q r.tran) (Some r.yes)) (sym (get-from_entries tran_cmp_total (entries table) q))
-    ∙ sym (get-insert tran_cmp_total (records_of table) r.tran r.yes q))
+    put_one tran_cmp_total tran_cmp-IsAntisymmetric (entries table) (entries (set table k (Some r))) r.tran r.yes
+    (λ q. find_set table k r q below free (sym (get-from_entries tran_cmp_total (entries table) r.tran) ∙ absent))
 
 -- what the table has of a transaction
 pub get_found : (table : Table) (q : TranName) → finmap.get (records_of table) q ≡ find tran_cmp q (entries table)

@@ -1,109 +1,235 @@
--- What a file stands for while a record is written into it.
-use Rattle.xa_base.proofs.{◌≡◌, ◌≢◌, ◌⊎◌, inl, inr, ℕ, ◌+◌, ◌*◌, ◌<◌, ◌≤◌, Option, None, Some, List, [], ◌∷◌, length, get_or, set, take, drop, refl, sym, ◌∙◌}
-use Rattle.xa_base.proofs.{ap, subst, arith, length-set, cases_eq, cases_lt, get_or-set_same, get_or-set_other}
-use Rattle.std.proofs.lemmas.List.{take-take}
+-- What a file has of its slots, and how a write within one of them changes it.
+use Rattle.xa_base.proofs.{◌≡◌, ◌≢◌, inl, inr, ⊎_elim, ℕ, ◌+◌, ◌*◌, ◌<◌, ◌≤◌, Option, None, Some, List, [], ◌∷◌, ◌++◌, length, get_or, map, set, take, drop}
+use Rattle.xa_base.proofs.{refl, sym, ◌∙◌, ap, subst, arith, length-set, length-append, length-drop, cases_eq, cases_lt, length-map, get_or-set_same}
+use Rattle.xa_base.proofs.{get_or-set_other}
+use Rattle.std.proofs.lemmas.List.{length-take-le, take-take, take_at, drop-drop}
 use Rattle.xa_log.specs.{CommitRecord}
-use Rattle.xa_file_log.specs.{overwritten, IsOverwritten, spelling, head, IsValid, Table, slot, AreApart, IsSlotOf, StandsFor}
-use Rattle.xa_file_log.proofs.Overwrites.{length-overwritten, take-overwritten, drop-overwritten, bytes-overwritten, drop-overwritten_past, part-overwritten}
+use Rattle.xa_file_log.specs.{Slot, Free, Taken, overwritten, IsOverwritten, Torn, spelling, head, IsValid, slot, AreApart, IsSlotOf, StandsFor, IsSettled}
+use Rattle.xa_file_log.specs.{on_file, table_of, HasBody, HasNoName, MayHave, MayShow}
+use Rattle.xa_file_log.proofs.Overwrites.{length-overwritten, take-overwritten, drop-overwritten, drop-overwritten_past, drop_overwritten_in, part-overwritten}
+use Rattle.xa_file_log.proofs.Finds.{IsPart, at_map, whole_part}
+use Rattle.xa_file_log.proofs.Slotwise.{apart_set}
 
+-- a file of so many slots, of each of which P says what it is
+pub record HasSlots (n : ℕ) (P : ℕ → List ℕ → Type 0) (file : List ℕ) : Type 0 where
+  pub few : n ≤ 65536
+  pub size : length file ≡ 18 + 94 * n
+  pub header : take 18 file ≡ head n
+  pub each : (k : ℕ) → k < n → P k (slot k file)
+
+pub slots_as : {m n : ℕ} {P Q : ℕ → List ℕ → Type 0} {file : List ℕ} → m ≡ n → HasSlots n P file
+    → ((k : ℕ) → k < n → P k (slot k file) → Q k (slot k file)) → HasSlots m Q file
+slots_as same has f = record {
+  few = omega (arith, has.few);
+  size = omega (arith, has.size);
+  header = has.header ∙ ap head (sym same);
+  each = λ k below. f k (omega arith) (has.each k (omega arith));
+}
+
+-- WRITES
 -- a write within slot k leaves the others
-pub other_slot : (n : ℕ) (file : List ℕ) → length file ≡ 18 + 94 * n → (k : ℕ) → k < n → (j at : ℕ) (bytes : List ℕ) → j < n → j ≢ k
+other_slot : (n : ℕ) (file : List ℕ) → length file ≡ 18 + 94 * n → (k : ℕ) → k < n → (j at : ℕ) (bytes : List ℕ) → j < n → j ≢ k
     → 18 + 94 * k ≤ at → at + length bytes ≤ 112 + 94 * k → slot j (overwritten file at bytes) ≡ slot j file
 other_slot n file size k below j at bytes here apart from to =
     let within : at + length bytes ≤ length file = omega (arith, size) in
     elim (cases_lt j k) [
       | inl lt ↦ part-overwritten file at bytes within (18 + 94 * j) 94 (omega arith)
-      | inr ge ↦
-          let gt : k < j = elim (cases_lt k j) [
-            | inl more ↦ more
-            | inr le ↦ let same : j ≡ k = omega arith in absurd (apart same)
-          ] in
-          ap (λ (l : List ℕ). take 94 l) (drop-overwritten_past file at bytes within (18 + 94 * j) (omega arith))
+      | inr ge ↦ ap (λ (l : List ℕ). take 94 l) (drop-overwritten_past file at bytes within (18 + 94 * j) (omega (arith, apart)))
     ]
 
-pub gate_of : (k : ℕ) (f : List ℕ) → take 1 (slot k f) ≡ take 1 (drop (18 + 94 * k) f)
-gate_of k f = take-take 1 94 (drop (18 + 94 * k) f) (omega arith)
-
-module _ (table : Table) (file : List ℕ) (stands : StandsFor table file) (k : ℕ) (below : k < length table) where
-  -- and so it changes what the file stands for at this place alone
-  with_slot : (new : Table) (at : ℕ) (bytes : List ℕ) → length new ≡ length table → 18 + 94 * k ≤ at → at + length bytes ≤ 112 + 94 * k
-      → ((j : ℕ) → j ≢ k → get_or new j None ≡ get_or table j None)
-      → IsSlotOf (get_or new k None) (slot k (overwritten file at bytes)) → AreApart new → StandsFor new (overwritten file at bytes)
-  with_slot new at bytes same from to others this apart_now =
-      let within : at + length bytes ≤ length file = omega (arith, stands.size) in
-      record {
-        few = omega (arith, stands.few);
-        size = length-overwritten file at bytes within ∙ stands.size ∙ ap (λ (m : ℕ). 18 + 94 * m) (sym same);
-        header = take-overwritten file at bytes within 18 (omega arith) ∙ stands.header ∙ ap head (sym same);
-        each = λ j here. elim (cases_eq j k) [
-          | inl is ↦ subst (λ (i : ℕ). IsSlotOf (get_or new i None) (slot i (overwritten file at bytes))) (sym is) this
-          | inr apart ↦
-              subst (λ (o : Option CommitRecord). IsSlotOf o (slot j (overwritten file at bytes))) (sym (others j apart))
-              (subst (IsSlotOf (get_or table j None)) (sym (other_slot (length table) file stands.size k below j at bytes (omega (arith, same)) apart from to)) (stands.each j (omega (arith, same))))
-        ];
-        apart = apart_now;
-      }
-
-  -- a body after a closed gate
-  pub staged : (body : List ℕ) → get_or table k None ≡ None → length body ≡ 93 → StandsFor table (overwritten file (18 + 94 * k + 1) body)
-  staged body free size =
-      let at = 18 + 94 * k + 1 in
-      let within : at + length body ≤ length file = omega (arith, stands.size) in
-      let shut : take 1 (slot k (overwritten file at body)) ≡ 0 ∷ [] =
-      gate_of k (overwritten file at body) ∙ part-overwritten file at body within (18 + 94 * k) 1 (omega arith) ∙ sym (gate_of k file)
-      ∙ (stands.each k below).free free in
-      with_slot table at body refl (omega arith) (omega arith) (λ j apart. refl) (record {
-        free = λ none. shut;
-        taken = λ r is. absurd (cc (free, is));
-        valid = λ r is. absurd (cc (free, is));
-      })
-      stands.apart
-
-  -- the gate of a record is opened
-  pub opened : (r : CommitRecord) → IsValid r → AreApart (set table k (Some r)) → take 93 (drop (18 + 94 * k + 1) file) ≡ spelling r
-      → StandsFor (set table k (Some r)) (overwritten file (18 + 94 * k) (255 ∷ []))
-  opened r valid apart_now body =
-      let at = 18 + 94 * k in
-      let within : at + 1 ≤ length file = omega (arith, stands.size) in
-      let is_there : get_or (set table k (Some r)) k None ≡ Some r = get_or-set_same table k (Some r) None below in
-      let bytes : slot k (overwritten file at (255 ∷ [])) ≡ 255 ∷ spelling r =
-      ap (λ (l : List ℕ). take 94 l) (drop-overwritten file at (255 ∷ []) within) ∙ ap (λ (l : List ℕ). 255 ∷ l) body in
-      with_slot (set table k (Some r)) at (255 ∷ []) (length-set table k (Some r)) (omega arith) (omega arith)
-      (λ j apart. get_or-set_other table k j (Some r) None apart) (record {
-        free = λ none. absurd (cc (is_there, none));
-        taken = λ s is. let same : r ≡ s = cc (is_there, is) in bytes ∙ ap (λ (x : CommitRecord). 255 ∷ spelling x) same;
-        valid = λ s is. let same : r ≡ s = cc (is_there, is) in subst IsValid same valid;
-      })
-      apart_now
-
-module _ (table : Table) (file : List ℕ) (stands : StandsFor table file) (k : ℕ) (r : CommitRecord) (below : k < length table) where
-  -- while the body is written
-  pub after_stage : (body c : List ℕ) → get_or table k None ≡ None → length body ≡ 93 → IsOverwritten file (18 + 94 * k + 1) body c → StandsFor table c
-  after_stage body c free size torn =
-      subst (StandsFor table) (sym torn.file_is) (staged table file stands k below torn.some free (torn.count ∙ size))
-
-  -- while the gate is opened
-  pub after_gate : (c : List ℕ) → IsValid r → AreApart (set table k (Some r)) → take 93 (drop (18 + 94 * k + 1) file) ≡ spelling r
-      → IsOverwritten file (18 + 94 * k) (255 ∷ []) c
-      → StandsFor table c ⊎ StandsFor (set table k (Some r)) c
-  after_gate c valid apart body torn = elim (torn.whole.alone 255 refl) [
-    | inl before ↦ inl (subst (StandsFor table) (sym before) stands)
-    | inr after ↦ inr (subst (StandsFor (set table k (Some r))) (sym after) (opened table file stands k below r valid apart body))
-  ]
-
--- once the body is written: what the file stands for, and what is after the gate
-pub record Staged (table : Table) (k : ℕ) (r : CommitRecord) (file : List ℕ) : Type 0 where
-  pub stands : StandsFor table file
-  pub body : take 93 (drop (18 + 94 * k + 1) file) ≡ spelling r
-
-pub stage_done : (table : Table) (file : List ℕ) (stands : StandsFor table file) (k : ℕ) (r : CommitRecord) (below : k < length table)
-    (free : get_or table k None ≡ None) (body new : List ℕ)
-    → body ≡ spelling r → length body ≡ 93 → new ≡ overwritten file (18 + 94 * k + 1) body → Staged table k r new
-stage_done table file stands k r below free body new spells size is =
-    let within : 18 + 94 * k + 1 + length body ≤ length file = omega (arith, stands.size) in
+slot_written : {n : ℕ} {P Q : ℕ → List ℕ → Type 0} {file : List ℕ} (k at : ℕ) (bytes : List ℕ) → HasSlots n P file → k < n → 18 + 94 * k ≤ at
+    → at + length bytes ≤ 112 + 94 * k → Q k (slot k (overwritten file at bytes))
+    → ((j : ℕ) → j ≢ k → P j (slot j file) → Q j (slot j file)) → HasSlots n Q (overwritten file at bytes)
+slot_written {n} {P} {Q} {file} k at bytes has below from to this others =
+    let within : at + length bytes ≤ length file = omega (arith, has.size) in
     record {
-      stands = subst (StandsFor table) (sym is) (staged table file stands k below body free size);
-      body = ap (λ (l : List ℕ). take 93 (drop (18 + 94 * k + 1) l)) is
-          ∙ ap (λ (n : ℕ). take n (drop (18 + 94 * k + 1) (overwritten file (18 + 94 * k + 1) body))) (sym size)
-          ∙ bytes-overwritten file (18 + 94 * k + 1) body within ∙ spells;
+      few = has.few;
+      size = length-overwritten file at bytes within ∙ has.size;
+      header = take-overwritten file at bytes within 18 (omega arith) ∙ has.header;
+      each = λ j here. elim (cases_eq j k) [
+        | inl is ↦ subst (λ (i : ℕ). Q i (slot i (overwritten file at bytes))) (sym is) this
+        | inr apart ↦ subst (Q j) (sym (other_slot n file has.size k below j at bytes here apart from to)) (others j apart (has.each j here))
+      ];
     }
+
+-- the gate of a slot, and its body
+gate_of : (k : ℕ) (file : List ℕ) → take 1 (slot k file) ≡ take 1 (drop (18 + 94 * k) file)
+gate_of k file = take-take 1 94 (drop (18 + 94 * k) file) (omega arith)
+
+tail_of : (l : List ℕ) → drop 1 (take 94 l) ≡ take 93 (drop 1 l)
+tail_of [] = refl
+tail_of (b ∷ l) = refl
+
+-- a gate is written
+pub gate_written : {n : ℕ} {P Q : ℕ → List ℕ → Type 0} {file : List ℕ} (k b : ℕ) → HasSlots n P file → k < n → Q k (b ∷ drop 1 (slot k file))
+    → ((j : ℕ) → j ≢ k → P j (slot j file) → Q j (slot j file)) → HasSlots n Q (overwritten file (18 + 94 * k) (b ∷ []))
+gate_written {Q = Q} {file = file} k b has below this others =
+    let at = 18 + 94 * k in
+    let within : 18 + 94 * k + 1 ≤ length file = omega (arith, has.size) in
+    let room : 18 + 94 * k + 1 ≤ 112 + 94 * k = omega arith in
+    let bytes : slot k (overwritten file (18 + 94 * k) (b ∷ [])) ≡ b ∷ drop 1 (slot k file) =
+    ap (λ (l : List ℕ). take 94 l) (drop-overwritten file (18 + 94 * k) (b ∷ []) within)
+    ∙ ap (λ (l : List ℕ). b ∷ l) (sym (tail_of (drop (18 + 94 * k) file) ∙ ap (λ (l : List ℕ). take 93 l) (drop-drop 1 (18 + 94 * k) file))) in
+    slot_written k (18 + 94 * k) (b ∷ []) has below (omega arith) room (subst (Q k) (sym bytes) this) others
+
+-- or a crash comes in between
+pub gate_torn : {n : ℕ} {P : ℕ → List ℕ → Type 0} {d c : List ℕ} (k b : ℕ) → HasSlots n P d → k < n → P k (b ∷ drop 1 (slot k d))
+    → Torn (18 + 94 * k) (b ∷ []) d c → HasSlots n P c
+gate_torn {n} {P} k b has below this torn =
+    ⊎_elim (λ before. subst (HasSlots n P) (sym before) has)
+    (λ after. subst (HasSlots n P) (sym after) (gate_written k b has below this (λ j apart is. is))) (torn.whole.alone b refl)
+
+-- a body is written
+pub body_slot : {n : ℕ} {P : ℕ → List ℕ → Type 0} {file : List ℕ} (k : ℕ) (body : List ℕ) → HasSlots n P file → k < n → length body ≡ 93
+    → slot k (overwritten file (18 + 94 * k + 1) body) ≡ take 1 (slot k file) ++ body
+body_slot {file = file} k body has below size =
+    let first : length (take 1 (drop (18 + 94 * k) file)) ≡ 1 =
+    length-take-le 1 (drop (18 + 94 * k) file) (omega (arith, has.size, length-drop (18 + 94 * k) file)) in
+    ap (λ (l : List ℕ). take 94 l) (drop_overwritten_in file (18 + 94 * k) 1 body (omega (arith, has.size)))
+    ∙ take_at (take 1 (drop (18 + 94 * k) file) ++ body) (drop (1 + length body) (drop (18 + 94 * k) file)) 94
+    (omega (arith, length-append (take 1 (drop (18 + 94 * k) file)) body, first))
+    ∙ ap (λ (l : List ℕ). l ++ body) (sym (gate_of k file))
+
+pub body_written : {n : ℕ} {P Q : ℕ → List ℕ → Type 0} {file : List ℕ} (k : ℕ) (body : List ℕ) → HasSlots n P file → k < n → length body ≡ 93
+    → Q k (take 1 (slot k file) ++ body) → ((j : ℕ) → j ≢ k → P j (slot j file) → Q j (slot j file))
+    → HasSlots n Q (overwritten file (18 + 94 * k + 1) body)
+body_written {Q = Q} k body has below size this others =
+    slot_written k (18 + 94 * k + 1) body has below (omega arith) (omega arith) (subst (Q k) (sym (body_slot k body has below size)) this) others
+
+-- SLOT AFTER SLOT
+-- what is said of a slot that was done, before this place, and of one that is to be
+pub record Between (New Old : ℕ → List ℕ → Type 0) (n k : ℕ) (bytes : List ℕ) : Type 0 where
+  pub done : k < n → New k bytes
+  pub later : n ≤ k → Old k bytes
+
+one_on : {New Old : ℕ → List ℕ → Type 0} {n j : ℕ} {bytes : List ℕ} → j ≢ n → Between New Old n j bytes → Between New Old (n + 1) j bytes
+one_on other is = record { done = λ before. is.done (omega (arith, other, before)); later = λ from. is.later (omega (arith, from)) }
+
+this_done : {New Old : ℕ → List ℕ → Type 0} {n : ℕ} {bytes : List ℕ} → New n bytes → Between New Old (n + 1) n bytes
+this_done now = record { done = λ before. now; later = λ from. absurd (omega (arith, from)) }
+
+pub starts : {m n : ℕ} {New Old : ℕ → List ℕ → Type 0} {file : List ℕ} → HasSlots m Old file
+    → ((k : ℕ) → k < n → Old k (slot k file) → New k (slot k file)) → HasSlots m (Between New Old n) file
+starts has early = slots_as refl has (λ k below is. record { done = λ before. early k before is; later = λ from. is })
+
+pub passes : {m n : ℕ} {New Old : ℕ → List ℕ → Type 0} {file : List ℕ} → HasSlots m (Between New Old n) file → n < m
+    → (Old n (slot n file) → New n (slot n file)) → HasSlots m (Between New Old (n + 1)) file
+passes {n = n} {New = New} {Old = Old} {file = file} has below now = slots_as refl has (λ k here is. elim (cases_eq k n) [
+  | inl same ↦
+      subst (λ (j : ℕ). Between New Old (n + 1) j (slot j file)) (sym same) (this_done (now ((has.each n below).later (omega arith))))
+  | inr other ↦ one_on other is
+])
+
+pub gate_done : {m n : ℕ} {New Old : ℕ → List ℕ → Type 0} {file : List ℕ} (b : ℕ) → HasSlots m (Between New Old n) file → n < m
+    → (Old n (slot n file) → New n (b ∷ drop 1 (slot n file))) → HasSlots m (Between New Old (n + 1)) (overwritten file (18 + 94 * n) (b ∷ []))
+gate_done {n = n} b has below now =
+    gate_written n b has below (this_done (now ((has.each n below).later (omega arith)))) (λ j apart is. one_on apart is)
+
+pub body_done : {m n : ℕ} {New Old : ℕ → List ℕ → Type 0} {file : List ℕ} (body : List ℕ) → HasSlots m (Between New Old n) file → n < m
+    → length body ≡ 93 → (Old n (slot n file) → New n (take 1 (slot n file) ++ body))
+    → HasSlots m (Between New Old (n + 1)) (overwritten file (18 + 94 * n + 1) body)
+body_done {n = n} body has below size now =
+    body_written n body has below size (this_done (now ((has.each n below).later (omega arith)))) (λ j apart is. one_on apart is)
+
+pub ends : {m n : ℕ} {New Old : ℕ → List ℕ → Type 0} {file : List ℕ} → HasSlots m (Between New Old n) file
+    → ((k : ℕ) → k < m → n ≤ k → Old k (slot k file) → New k (slot k file)) → HasSlots m New file
+ends {n = n} has rest = slots_as refl has (λ k below is. elim (cases_lt k n) [
+  | inl before ↦ is.done before
+  | inr from ↦ rest k below from (is.later from)
+])
+
+-- TABLES
+-- slot k has what f says of it
+abbrev pub Has : (Slot → Option CommitRecord) → List Slot → ℕ → List ℕ → Type 0
+Has f slots k bytes = IsSlotOf (f (get_or slots k Free)) bytes
+
+pub slots_of : {f : Slot → Option CommitRecord} → IsPart f → (slots : List Slot) {file : List ℕ} → StandsFor (map f slots) file
+    → HasSlots (length slots) (Has f slots) file
+slots_of {f} part slots {file} stands =
+    let many = length-map slots f in
+    record {
+      few = omega (arith, many, stands.few);
+      size = omega (arith, many, stands.size);
+      header = stands.header ∙ ap head many;
+      each = λ k below. subst (λ o. IsSlotOf o (slot k file)) (at_map f part slots k) (stands.each k (omega (arith, many)));
+    }
+
+pub stands_of : {f : Slot → Option CommitRecord} → IsPart f → (slots : List Slot) {file : List ℕ} → HasSlots (length slots) (Has f slots) file
+    → AreApart (map f slots) → StandsFor (map f slots) file
+stands_of {f} part slots {file} has apart =
+    let many = length-map slots f in
+    record {
+      few = omega (arith, many, has.few);
+      size = omega (arith, many, has.size);
+      header = has.header ∙ ap head (sym many);
+      each = λ k below. subst (λ o. IsSlotOf o (slot k file)) (sym (at_map f part slots k)) (has.each k (omega (arith, many)));
+      apart = apart;
+    }
+
+pub slots_shown : {slots : List Slot} {file : List ℕ} → MayShow slots file → HasSlots (length slots) (λ k. MayHave (get_or slots k Free)) file
+slots_shown shown = record { few = shown.few; size = shown.size; header = shown.header; each = shown.each }
+
+pub shown_of : {slots : List Slot} {file : List ℕ} → HasSlots (length slots) (λ k. MayHave (get_or slots k Free)) file → AreApart (table_of slots)
+    → MayShow slots file
+shown_of has apart = record { few = has.few; size = has.size; header = has.header; apart = apart; each = has.each }
+
+pub surely : {s : Slot} {bytes : List ℕ} → IsSlotOf (on_file s) bytes → MayHave s bytes
+surely is = record { counts = λ none. is; unshut = λ wide. is }
+
+-- a file that stands for the slots may show them
+pub stands_shown : (slots : List Slot) (file : List ℕ) → StandsFor (table_of slots) file → MayShow slots file
+stands_shown slots file stands = shown_of (slots_as refl (slots_of whole_part slots stands) (λ k below is. surely is)) stands.apart
+
+-- and so does what a crash leaves once it is synced
+pub settled_shown : {D : Type 0} {seen : D → List ℕ} {may_leave : D → List ℕ → Type 0} (slots : List Slot) {device : D}
+    → IsSettled seen may_leave (table_of slots) device → (c : List ℕ) → may_leave device c → MayShow slots c
+settled_shown slots settled c left = stands_shown slots c (subst (StandsFor (table_of slots)) (sym (settled.durable c left)) settled.stands)
+
+-- what has a shut gate, and what has an open one before a record
+pub shut_slot : {bytes : List ℕ} → take 1 bytes ≡ 0 ∷ [] → IsSlotOf None bytes
+shut_slot is = record { free = λ none. is; taken = λ r no. absurd (cc (no)); valid = λ r no. absurd (cc (no)) }
+
+pub open_slot : {r : CommitRecord} {body : List ℕ} → body ≡ spelling r → IsValid r → IsSlotOf (Some r) (255 ∷ body)
+open_slot {r} spells valid = record {
+  free = λ none. absurd (cc (none));
+  taken = λ x is. let same : r ≡ x = cc (is) in ap (λ (l : List ℕ). 255 ∷ l) spells ∙ ap (λ (y : CommitRecord). 255 ∷ spelling y) same;
+  valid = λ x is. let same : r ≡ x = cc (is) in subst IsValid same valid;
+}
+
+-- a body after a shut gate isn't looked at
+pub still_free : {s : Slot} {bytes : List ℕ} (body : List ℕ) → s ≡ Free → IsSlotOf (on_file s) bytes → IsSlotOf (on_file s) (take 1 bytes ++ body)
+still_free {s} {bytes} body free is =
+    subst (λ (x : Slot). IsSlotOf (on_file x) (take 1 bytes ++ body)) (sym free) (shut_slot (ap (λ (l : List ℕ). take 1 (l ++ body)) (is.free (ap on_file free))))
+
+-- ONE RECORD
+module _ (slots : List Slot) (k : ℕ) {file : List ℕ} (stands : StandsFor (table_of slots) file) (below : k < length slots) where
+  -- a body is written
+  pub staged : (body : List ℕ) → get_or slots k Free ≡ Free → length body ≡ 93 → StandsFor (table_of slots) (overwritten file (18 + 94 * k + 1) body)
+  staged body free size =
+      let has = slots_of whole_part slots stands in
+      stands_of whole_part slots (body_written k body has below size (still_free body free (has.each k below)) (λ j apart is. is)) stands.apart
+
+  -- which a crash may cut short
+  pub stage_torn : {body c : List ℕ} → get_or slots k Free ≡ Free → length body ≡ 93 → IsOverwritten file (18 + 94 * k + 1) body c
+      → StandsFor (table_of slots) c
+  stage_torn free size torn = subst (StandsFor (table_of slots)) (sym torn.file_is) (staged torn.some free (torn.count ∙ size))
+
+  stage_body : (body : List ℕ) (r : CommitRecord) → get_or slots k Free ≡ Free → length body ≡ 93 → body ≡ spelling r
+      → HasBody k r (overwritten file (18 + 94 * k + 1) body)
+  stage_body body r free size spells =
+      let has = slots_of whole_part slots stands in
+      let gate : take 1 (slot k file) ≡ 0 ∷ [] = (has.each k below).free (ap on_file free) in
+      ap (λ (l : List ℕ). drop 1 l) (body_slot k body has below size ∙ ap (λ (l : List ℕ). l ++ body) gate) ∙ spells
+
+  -- and once it is, its gate is opened
+  pub logged : {r : CommitRecord} {body now : List ℕ} → get_or slots k Free ≡ Free → length body ≡ 93 → HasNoName slots r.tran → IsValid r
+      → body ≡ spelling r → now ≡ overwritten file (18 + 94 * k + 1) body
+      → StandsFor (table_of (set slots k (Taken r))) (overwritten now (18 + 94 * k) (255 ∷ []))
+  logged {r} {body} {now} free size new valid spells is =
+      let has = slots_of whole_part slots (subst (StandsFor (table_of slots)) (sym is) (staged body free size)) in
+      let there : HasBody k r now = subst (HasBody k r) (sym is) (stage_body body r free size spells) in
+      let with_it : HasSlots (length slots) (Has on_file (set slots k (Taken r))) (overwritten now (18 + 94 * k) (255 ∷ [])) =
+      gate_written k 255 has below
+      (subst (λ (s : Slot). IsSlotOf (on_file s) (255 ∷ drop 1 (slot k now))) (sym (get_or-set_same slots k (Taken r) Free below)) (open_slot there valid))
+      (λ j apart is. subst (λ (s : Slot). IsSlotOf (on_file s) (slot j now)) (sym (get_or-set_other slots k j (Taken r) Free apart)) is) in
+      stands_of whole_part (set slots k (Taken r)) (slots_as (length-set slots k (Taken r)) with_it (λ j here is. is)) (apart_set slots k r below new stands.apart)

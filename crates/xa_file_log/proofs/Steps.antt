@@ -1,43 +1,25 @@
 -- What a crash leaves in each of the two steps of a record.
-use Rattle.xa_base.proofs.{◌≡◌, ◌⊎◌, inl, ℕ, ◌+◌, ◌*◌, ◌<◌, None, Some, List, [], ◌∷◌, length, get_or, set, subst, sym}
+use Rattle.xa_base.proofs.{◌≡◌, ◌⊎◌, inl, inr, ⊎_elim, ℕ, ◌+◌, ◌*◌, ◌<◌, List, [], ◌∷◌, length, get_or, set, refl, subst, sym, ◌∙◌}
 use Rattle.xa_log.specs.{CommitRecord}
-use Rattle.xa_file_log.specs.{overwritten, IsOverwritten, LeavesOnly, spelling, IsValid, Table, AreApart, StandsFor}
+use Rattle.xa_file_log.specs.{Slot, Free, Taken, overwritten, IsOverwritten, LeavesOnly, spelling, IsValid, StandsFor, table_of, HasNoName}
 use Rattle.xa_file_log.proofs.Moments.{weaker, joined}
-use Rattle.xa_file_log.proofs.Stands.{after_stage, after_gate, opened, Staged, stage_done}
+use Rattle.xa_file_log.proofs.Stands.{staged, stage_torn, logged}
 
 -- the records from before, or with the one more
-abbrev pub StandsForEither : Table → Table → List ℕ → Type 0
-StandsForEither table new c = StandsFor table c ⊎ StandsFor new c
+abbrev pub WithOrWithout : List Slot → ℕ → CommitRecord → List ℕ → Type 0
+WithOrWithout slots k r c = StandsFor (table_of slots) c ⊎ StandsFor (table_of (set slots k (Taken r))) c
 
-module _ {D : Type 0} (moment : D → ℕ) (left_since : D → ℕ → List ℕ → Type 0) (seen : D → List ℕ) (table new_table : Table) (k : ℕ)
-    (r : CommitRecord) (body : List ℕ) (below : k < length table) (free : get_or table k None ≡ None) (size : length body ≡ 93)
-    (new_is : set table k (Some r) ≡ new_table) (apart : AreApart new_table) (old mid : D) (stands : StandsFor table (seen old)) where
+module _ {D : Type 0} {moment : D → ℕ} {left_since : D → ℕ → List ℕ → Type 0} (slots : List Slot) (k : ℕ) (r : CommitRecord) {old mid : D}
+    {file body : List ℕ} (stands : StandsFor (table_of slots) file) (below : k < length slots) (free : get_or slots k Free ≡ Free) (size : length body ≡ 93)
+    (first : LeavesOnly moment left_since old mid (IsOverwritten file (18 + 94 * k + 1) body)) where
   -- the body
-  pub first_step : LeavesOnly moment left_since old mid (IsOverwritten (seen old) (18 + 94 * k + 1) body)
-      → LeavesOnly moment left_since old mid (StandsForEither table new_table)
-  first_step =
-      weaker moment left_since old mid (IsOverwritten (seen old) (18 + 94 * k + 1) body) (StandsForEither table new_table)
-      (λ c torn. inl (after_stage table (seen old) stands k r below body c free size torn))
+  pub first_step : LeavesOnly moment left_since old mid (WithOrWithout slots k r)
+  first_step = weaker (λ c torn. inl (stage_torn slots k stands below free size torn)) first
 
-  module _ (valid : IsValid r) (spells : body ≡ spelling r) (is : seen mid ≡ overwritten (seen old) (18 + 94 * k + 1) body) (new : D) where
-    staged : Staged table k r (seen mid)
-    staged = stage_done table (seen old) stands k r below free body (seen mid) spells size is
-
-    set_apart : AreApart (set table k (Some r))
-    set_apart = subst AreApart (sym new_is) apart
-
-    -- and the gate
-    pub both_steps : LeavesOnly moment left_since old mid (IsOverwritten (seen old) (18 + 94 * k + 1) body)
-        → LeavesOnly moment left_since mid new (IsOverwritten (seen mid) (18 + 94 * k) (255 ∷ []))
-        → LeavesOnly moment left_since old new (StandsForEither table new_table)
-    both_steps first second =
-        joined moment left_since old mid new (StandsForEither table new_table) (first_step first)
-        (weaker moment left_since mid new (IsOverwritten (seen mid) (18 + 94 * k) (255 ∷ [])) (StandsForEither table new_table)
-        (λ c torn. subst (λ (t : Table). StandsForEither table t c) new_is
-        (after_gate table (seen mid) staged.stands k r below c valid set_apart staged.body torn)) second)
-
-    -- after both
-    pub logged : seen new ≡ overwritten (seen mid) (18 + 94 * k) (255 ∷ []) → StandsFor new_table (seen new)
-    logged done =
-        subst (λ (t : Table). StandsFor t (seen new)) new_is
-        (subst (StandsFor (set table k (Some r))) (sym done) (opened table (seen mid) staged.stands k below r valid set_apart staged.body))
+  -- and the gate
+  pub both_steps : {new : D} {now : List ℕ} → HasNoName slots r.tran → IsValid r → body ≡ spelling r → now ≡ overwritten file (18 + 94 * k + 1) body
+      → LeavesOnly moment left_since mid new (IsOverwritten now (18 + 94 * k) (255 ∷ [])) → LeavesOnly moment left_since old new (WithOrWithout slots k r)
+  both_steps unnamed valid spells is second = joined first_step (weaker (λ c torn. ⊎_elim
+      (λ before. inl (subst (StandsFor (table_of slots)) (sym (before ∙ is)) (staged slots k stands below body free size)))
+      (λ after. inr (subst (StandsFor (table_of (set slots k (Taken r)))) (sym after) (logged slots k stands below free size unnamed valid spells is)))
+      (torn.whole.alone 255 refl)) second)

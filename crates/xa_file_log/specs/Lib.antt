@@ -13,7 +13,8 @@ pub use Slots.{AreApart, HasEither, HasRecords, IsNewLog, IsNoLog, IsSettled, Is
 pub use Slots.{entries, free_slots, name_of, records_of, slot}
 pub use Memory.{AreNewNames, HasBodies, HasBody, HasName, HasNoFree, HasNoName, HasNoneForgotten, HasRecordsAndPerhaps}
 pub use Memory.{HasRoomFor, IsFull, IsIndexOf, LeavesShown, MayHave, MayShow, Shows, coming, forgets, forgotten}
-pub use Memory.{forgotten_in, log_state, name_at, on_file, placed, records_in, shut, table_of, taken, used}
+pub use Memory.{filled, forgotten_in, is_used, log_state, name_at, on_file, placed, records_in, shut, table_of, taken}
+pub use Memory.{used}
 pub use Appends.{Disk, ForgetsNoMore, HasWithAnyOf, HasWithOrWithout, IsAppend, IsForgetting, IsGroupAppend}
 pub use Appends.{IsGroupLoss, IsLoss, IsOneOf, LogAt}
 pub use History.{LeftSince, Past, failed, failures, leaves, left_after, left_by, writing}

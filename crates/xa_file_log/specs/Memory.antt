@@ -1,6 +1,7 @@
 -- The slots as the log has them in memory, and what a file may have of them.
-use Rattle.std.specs.Prelude.{◌≡◌, ◌⊎◌, ℕ, ◌+◌, ◌*◌, ◌<◌, ◌≤◌, Bool, if◌then◌else◌, Option, None, Some}
+use Rattle.std.specs.Prelude.{◌≡◌, ◌⊎◌, ℕ, ◌+◌, ◌*◌, ◌<◌, ◌≤◌, Bool, true, false, if◌then◌else◌, Option, None, Some}
 use Rattle.std.specs.Prelude.{List, [], ◌∷◌, length, get_or, take, drop, map}
+use Rattle.std.specs.List.{count_by}
 use Rattle.std.specs.FinMap.{FinMap}
 use Rattle.std.specs.FinMap as finmap
 use Rattle.xa_words.specs.Tran.{TranName}
@@ -87,32 +88,32 @@ pub record IsIndexOf (places : FinMap tran_cmp ℕ) (slots : List Slot) : Type 0
   pub there : (k : ℕ) (t : TranName) → name_at slots k ≡ Some t → finmap.get places t ≡ Some k
   pub only : (k : ℕ) (t : TranName) → finmap.get places t ≡ Some k → name_at slots k ≡ Some t
 
--- how many slots aren't free
-abbrev pub used : List Slot → ℕ
-used [] = 0
-used (Free ∷ slots) = used slots
-used (Taken r ∷ slots) = used slots + 1
-used (Forgotten r ∷ slots) = used slots + 1
+-- the slot isn't free
+abbrev pub is_used : Slot → Bool
+is_used Free = false
+is_used s = true
 
--- the slots with these records in the first that are free, one after another
+-- how many slots aren't
+abbrev pub used : List Slot → ℕ
+used slots = count_by is_used slots
+
+-- the slots with these records in the first that are free, one after another, each as the slot that f makes of it
+abbrev pub filled : (CommitRecord → Slot) → List Slot → List CommitRecord → List Slot
+filled f [] rs = []
+filled f (Free ∷ slots) (r ∷ rs) = f r ∷ filled f slots rs
+filled f (s ∷ slots) rs = s ∷ filled f slots rs
+
+-- with these records taken
 abbrev pub placed : List Slot → List CommitRecord → List Slot
-placed [] rs = []
-placed (Free ∷ slots) [] = Free ∷ placed slots []
-placed (Free ∷ slots) (r ∷ rs) = Taken r ∷ placed slots rs
-placed (Taken x ∷ slots) rs = Taken x ∷ placed slots rs
-placed (Forgotten x ∷ slots) rs = Forgotten x ∷ placed slots rs
+placed slots rs = filled Taken slots rs
 
 -- the same, while it isn't known of which of them the gates are open
 abbrev pub coming : List Slot → List CommitRecord → List Slot
-coming [] rs = []
-coming (Free ∷ slots) [] = Free ∷ coming slots []
-coming (Free ∷ slots) (r ∷ rs) = Forgotten r ∷ coming slots rs
-coming (Taken x ∷ slots) rs = Taken x ∷ coming slots rs
-coming (Forgotten x ∷ slots) rs = Forgotten x ∷ coming slots rs
+coming slots rs = filled Forgotten slots rs
 
 -- the body of this record stands in slot k, whatever its gate
 abbrev pub HasBody : ℕ → CommitRecord → List ℕ → Type 0
-HasBody k r file = take 93 (drop (18 + 94 * k + 1) file) ≡ spelling r
+HasBody k r file = drop 1 (slot k file) ≡ spelling r
 
 -- the bodies of the records that are placed stand in their slots
 abbrev pub HasBodies : List Slot → List CommitRecord → List ℕ → Type 0

@@ -1,8 +1,9 @@
 -- How the requests of a unit of work are made, one more after those before.
 use Rattle.xa_base.proofs.{◌≡◌, ◌≢◌, ℕ, suc, ◌+◌, ◌<◌, ◌≤◌, Bool, true, false, ◌&&◌, ◌==◌, cond, List, [], ◌∷◌, ◌++◌, length, map, take, drop, subst}
 use Rattle.xa_base.proofs.{append_assoc, length-append, arith, eq-eqb, sym, refl, ap, ◌∙◌, slice_index_or, list_all, range_with_len, ne_eqb, append-nil}
-use Rattle.xa_base.proofs.{length-map, map-append, take_all, take-append-drop, filter-append, flat_push, one_more, range_more}
+use Rattle.xa_base.proofs.{length-map, map-append, take_all, take-append-drop, flat_push, one_more, range_more}
 use Rattle.std.proofs.Common.{drop-cons}
+use Rattle.std.proofs.lemmas.List.Elements.{filter_more}
 use Rattle.std.proofs.lemmas.List.Folds.{list_all-append}
 use Rattle.xa_base.specs.{Chain}
 use Rattle.xa_base.specs.Lists.Chain.{none, more}
@@ -102,21 +103,11 @@ collects_more flights f ok one old mid new x is =
 
 -- ---- the changes at a manager, one more
 
-pub change_here : (cs : List Change) (c : Change) (m : ℕ) → (c.m == m) ≡ true → changes_at (cs ++ c ∷ []) m ≡ changes_at cs m ++ c ∷ []
-change_here cs c m e = filter-append (λ (x : Change). x.m == m) cs (c ∷ []) ∙ ap (λ b. changes_at cs m ++ cond b (c ∷ []) []) e
-
-pub change_elsewhere : (cs : List Change) (c : Change) (m : ℕ) → (c.m == m) ≡ false → changes_at (cs ++ c ∷ []) m ≡ changes_at cs m
-change_elsewhere cs c m e =
-    filter-append (λ (x : Change). x.m == m) cs (c ∷ []) ∙ ap (λ b. changes_at cs m ++ cond b (c ∷ []) []) e ∙ append-nil (changes_at cs m)
-
 -- among the first and one more
-pub first_here : (cs : List Change) (i : ℕ) (c : Change) (m : ℕ) → i < length cs → c ≡ slice_index_or cs i c → (c.m == m) ≡ true
-    → changes_at (take (i + 1) cs) m ≡ changes_at (take i cs) m ++ c ∷ []
-first_here cs i c m below is e = ap (λ l. changes_at l m) (one_more cs i c below is) ∙ change_here (take i cs) c m e
-
-pub first_elsewhere : (cs : List Change) (i : ℕ) (c : Change) (m : ℕ) → i < length cs → c ≡ slice_index_or cs i c → (c.m == m) ≡ false
-    → changes_at (take (i + 1) cs) m ≡ changes_at (take i cs) m
-first_elsewhere cs i c m below is e = ap (λ l. changes_at l m) (one_more cs i c below is) ∙ change_elsewhere (take i cs) c m e
+first_changes : (cs : List Change) (i : ℕ) (c : Change) (m : ℕ) → i < length cs → c ≡ slice_index_or cs i c
+    → changes_at (take (i + 1) cs) m ≡ changes_at (take i cs) m ++ cond (c.m == m) (c ∷ []) []
+first_changes cs i c m below is =
+    filter_more (λ (x : Change). x.m == m) cs i c below ∙ (λ j. changes_at (take i cs) m ++ cond ((sym is j).m == m) (sym is j ∷ []) [])
 
 -- a branch's start, and these changes at its manager
 abbrev pub begun_of : List Change → Branch → List Op
@@ -125,13 +116,14 @@ begun_of cs b = Start b.xid Fresh ∷ map (λ c. Add c.key c.delta) (changes_at 
 pub begun_here : (cs : List Change) (i : ℕ) (c : Change) (b : Branch) → i < length cs → c ≡ slice_index_or cs i c → c.m ≡ b.m
     → begun_of (take (i + 1) cs) b ≡ begun_of (take i cs) b ++ Add c.key c.delta ∷ []
 begun_here cs i c b below is e =
-    ap (λ (l : List Change). Start b.xid Fresh ∷ map (λ (x : Change). Add x.key x.delta) l) (first_here cs i c b.m below is (eq-eqb c.m b.m e))
+    ap (λ (l : List Change). Start b.xid Fresh ∷ map (λ (x : Change). Add x.key x.delta) l) (first_changes cs i c b.m below is ∙ ap (λ t. changes_at (take i cs) b.m ++ cond t (c ∷ []) []) (eq-eqb c.m b.m e))
     ∙ ap (λ (l : List Op). Start b.xid Fresh ∷ l) (map-append (λ (x : Change). Add x.key x.delta) (changes_at (take i cs) b.m) (c ∷ []))
 
 pub begun_elsewhere : (cs : List Change) (i : ℕ) (c : Change) (b : Branch) → i < length cs → c ≡ slice_index_or cs i c → c.m ≢ b.m
     → begun_of (take (i + 1) cs) b ≡ begun_of (take i cs) b
 begun_elsewhere cs i c b below is e =
-    ap (λ (l : List Change). Start b.xid Fresh ∷ map (λ (x : Change). Add x.key x.delta) l) (first_elsewhere cs i c b.m below is (ne_eqb c.m b.m e))
+    ap (λ (l : List Change). Start b.xid Fresh ∷ map (λ (x : Change). Add x.key x.delta) l)
+    (first_changes cs i c b.m below is ∙ ap (λ t. changes_at (take i cs) b.m ++ cond t (c ∷ []) []) (ne_eqb c.m b.m e) ∙ append-nil (changes_at (take i cs) b.m))
 
 -- after the last change the end is left
 pub begun_all : (cs : List Change) (i : ℕ) (b : Branch) → length cs ≤ i → begun_of (take i cs) b ++ End b.xid Success ∷ [] ≡ ops_of cs b

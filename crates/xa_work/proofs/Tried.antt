@@ -2,6 +2,7 @@
 use Rattle.xa_base.proofs.{◌≡◌, ◌≢◌, ℕ, zero, suc, ◌<◌, ◌≤◌, Bool, true, false, cond, ◌||◌, ◌==◌, List, [], ◌∷◌, ◌++◌, length, map, filter, sym, refl, ap, ◌∙◌}
 use Rattle.xa_base.proofs.{subst, arith, eq-eqb, Some, ⊎_elim, slice_get, All, list_any, range_with_len, cases_lt, ne_eqb, or_parts, All-nil, All-cons}
 use Rattle.xa_base.proofs.{All-head, All-tail, All-append, All-map, list_any-append, all_at, all_from, all_unmapped, flat_one, some_same}
+use Rattle.std.proofs.lemmas.List.Sums.{AllPass-from_list_all}
 use Rattle.std.proofs.lemmas.Simd.{map-map as map_map}
 use Rattle.xa_words.specs.{Done, Op}
 use Rattle.xa_desk.specs.{Operation, IsKnown, ledger}
@@ -10,7 +11,7 @@ use Rattle.xa_desk.specs.DeskView.{DeskView}
 use Rattle.xa_driver.specs.{Branch, AreBranchesRising, HaveRoom, has_branch_at}
 use Rattle.xa_work.specs.{Flight, Change, Got, HasWorked, HaveWorked, Put, Tries, TriesInFlight, in_flight, in_turn, ops_of, requests_at, requests_of}
 use Rattle.xa_work.specs.Works.CallsBranches.{completed, stopped}
-use Rattle.xa_work.proofs.Worked.{AreTaken, Flights, IsKey, all_collected, all_kept, all_true, branches_called, gots_taken, key_of, known_on}
+use Rattle.xa_work.proofs.Worked.{AreTaken, Flights, IsKey, all_collected, all_kept, branches_called, gots_taken, key_of, known_on}
 use Rattle.xa_work.proofs.Flown.{Flown, all_flown, all_got, got_all, got_collected, got_sent, numbers_at, ops_to, sent_collected, sent_sent, to_manager}
 
 -- ---- lists
@@ -118,7 +119,7 @@ module _ (cs : List Change) (bs : List Branch) (old new : DeskView) (up : AreBra
   gots = t.collects.gots
 
   got_by_keys : AreTaken (map (λ (g : Got). key_of g.flight.handle) gots) t.begun new × All (λ (g : Got). IsKey g.flight.handle) gots
-  got_by_keys = gots_taken t.begun gots new t.collects.each (all_true (λ (g : Got). g.ok) gots (sym t.collects.all))
+  got_by_keys = gots_taken t.begun gots new t.collects.each (AllPass-from_list_all (λ (g : Got). g.ok) gots (sym t.collects.all))
 
   -- what was put is what was collected
   same_flights : map (λ (p : Put). p.flight) puts ≡ map (λ (g : Got). g.flight) gots

@@ -1,10 +1,11 @@
 -- The work for branches that was all done: what it sent to each manager, and what was collected.
 use Rattle.xa_base.proofs.{◌≡◌, ◌≢◌, ℕ, zero, suc, ◌+◌, ◌-◌, ◌<◌, ◌≤◌, Bool, true, false, ◌||◌, ◌==◌, ℤ, pos, List, [], ◌∷◌, ◌++◌, length, map, length-append}
-use Rattle.xa_base.proofs.{append_assoc, sym, refl, ap, ◌∙◌, subst, arith, eq-eqb, Some, None, get_or, All, list_all, range_with_len, nat_cmp, and_parts}
-use Rattle.xa_base.proofs.{ne_eqb, or_parts, append-nil, length-set, map-append, All-nil, All-cons, All-head, All-push, All-tail, All-weaker, all_left}
-use Rattle.xa_base.proofs.{all_right, inserted_there, inserted_other, removed_other, not_both}
+use Rattle.xa_base.proofs.{append_assoc, sym, refl, ap, ◌∙◌, subst, arith, eq-eqb, Some, None, get_or, All, range_with_len, nat_cmp, ne_eqb, or_parts}
+use Rattle.xa_base.proofs.{append-nil, length-set, map-append, All-nil, All-cons, All-head, All-push, All-tail, All-weaker, all_left, all_right, inserted_there}
+use Rattle.xa_base.proofs.{inserted_other, removed_other, not_both}
 use Rattle.std.proofs.Common.{negsuc}
 use Rattle.std.specs.FinMap as finmap
+use Rattle.std.proofs.lemmas.List.Sums.{AllPass-from_list_all}
 use Rattle.xa_base.specs.{Chain}
 use Rattle.xa_base.specs.Lists.Chain.{none, more}
 use Rattle.xa_words.specs.declared.code.Code.{Code}
@@ -18,10 +19,6 @@ use Rattle.xa_work.specs.{Change, IsPut, PutsOp, IsCollected, CallsOp, CollectsO
 use Rattle.xa_work.specs.{ops_of}
 use Rattle.xa_work.specs.Requests.{undone}
 use Rattle.xa_work.proofs.Called.{is_called}
-
-pub all_true : {X : Type 0} (p : X → Bool) (xs : List X) → list_all p xs ≡ true → All (λ x. p x ≡ true) xs
-all_true {X} p [] e = All-nil (λ (x : X). p x ≡ true)
-all_true {X} p (x ∷ xs) e = let z = and_parts (p x) (list_all p xs) e in All-cons (λ (y : X). p y ≡ true) x xs z.0 (all_true p xs z.1)
 
 -- ---- one manager's ledger
 
@@ -106,7 +103,7 @@ branch_block : (cs : List Change) (b : Branch) (old new : DeskView) → IsKnown 
     → Block b.m (called_all (ledger old.ledgers b.m) (ops_of cs b)) old.ledgers new.ledgers
 branch_block cs b old new known c =
     subst (λ (os : List Op). Block b.m (called_all (ledger old.ledgers b.m) os) old.ledgers new.ledgers) c.ops_are
-    (calls_block b.m old c.calls new known c.each (all_true (λ (x : Called). x.ok) c.calls (sym c.all)))
+    (calls_block b.m old c.calls new known c.each (AllPass-from_list_all (λ (x : Called). x.ok) c.calls (sym c.all)))
 
 -- ---- branches by rising manager
 

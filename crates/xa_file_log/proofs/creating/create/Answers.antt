@@ -1,12 +1,12 @@
-use Rattle.xa_base.proofs.{◌≡◌, inl, ℕ, true, List, [], length, sym, ◌∙◌, ap, subst, arith}
-use Rattle.std.proofs.Common.{eqb, vec_len}
+use Rattle.xa_base.proofs.{◌≡◌, inl, ℕ, List, [], length, sym, ◌∙◌, ap, subst, arith}
+use Rattle.std.proofs.Common.{vec_len}
 use Rattle.std.proofs.lemmas.Bool.Decides.{Decides-eqb}
 use Rattle.std.proofs.lemmas.List.{nil_from_length}
-use Rattle.xa_file_log.specs.{StandsFor, IsNewLog, free_slots, table_of}
+use Rattle.xa_file_log.specs.{StandsFor, IsSettled, IsNewLog, free_slots, table_of}
 use Rattle.xa_file_log.proofs.Anew.{if_ok_at}
 use Rattle.xa_file_log.proofs.Moments.{started, goes_on, joined}
 use Rattle.xa_file_log.proofs.NewLogs.{short_file}
-use Rattle.xa_file_log.proofs.Shown.{stands_shown}
+use Rattle.xa_file_log.proofs.Stands.{settled_shown}
 use Rattle.xa_file_log.proofs.Slotwise.{new_table}
 use Rattle.xa_file_log.proofs.creating.create.Goals as goal
 
@@ -16,23 +16,16 @@ invariant_of-result g c =
     let same : table_of c.in-Ok-Ok.table.slots.items ≡ free_slots c.args.slots = ap table_of free ∙ new_table c.args.slots in
     let stands : StandsFor (table_of c.in-Ok-Ok.table.slots.items) (g.D.Device.seen c.write_new.new.device) =
     subst (λ t. StandsFor t (g.D.Device.seen c.write_new.new.device)) (sym same) c.in-Ok-write_new.ensures.written in
-    record {
-      ready = λ is. record { stands = stands; durable = c.in-Ok-write_new.ensures.durable };
-      known = λ is f left.
-          stands_shown c.in-Ok-Ok.table.slots.items f
-          (subst (StandsFor (table_of c.in-Ok-Ok.table.slots.items)) (sym (c.in-Ok-write_new.ensures.durable f left)) stands);
-    }
+    let settled : IsSettled g.D.Device.seen g.D.Device.may_leave (table_of c.in-Ok-Ok.table.slots.items) c.write_new.new.device =
+    record { stands = stands; durable = c.in-Ok-write_new.ensures.durable } in
+    record { ready = λ is. settled; known = λ known. settled_shown c.in-Ok-Ok.table.slots.items settled }
 
 pub returns-clause-any_moment : goal.returns-clause-any_moment
 returns-clause-any_moment g c =
-    let test : eqb (vec_len c.in-Ok.bytes) 0 ≡ true = sym c.is_empty.ensures ∙ c.if-is_empty.true in
-    let none : vec_len c.in-Ok.bytes ≡ 0 = (Decides-eqb (vec_len c.in-Ok.bytes) 0).0 test in
+    let none : vec_len c.in-Ok.bytes ≡ 0 = (Decides-eqb (vec_len c.in-Ok.bytes) 0).0 (sym c.is_empty.ensures ∙ c.if-is_empty.true) in
     let empty : g.D.Device.seen c.args.device ≡ [] =
     sym c.in-Ok.ensures.bytes ∙ nil_from_length c.in-Ok.bytes.items (omega (arith, none, c.in-Ok.bytes.ok.0)) in
     let new : (f : List ℕ) → g.D.Device.may_leave c.args.device f → IsNewLog c.args.slots f =
     λ f left. let size = ap length (c.requires.durable f left ∙ empty) in inl (short_file f (omega (arith, size))) in
-    joined g.D.Device.moment g.D.Device.left_since c.args.device c.read.new.self c.write_new.new.device (IsNewLog c.args.slots)
-    (goes_on g.D.Device.moment g.D.Device.left_since c.args.device c.args.device c.read.new.self (IsNewLog c.args.slots) (g.D.Device.may_leave c.read.new.self)
-    (started g.D.Device.moment g.D.Device.left_since c.args.device (IsNewLog c.args.slots) (λ f left. new f (g.met.D.Device.only_now c.args.device f left)))
-    c.read.ensures.time (λ f left. new f (c.read.ensures.crash f left)))
+    joined (goes_on (started (λ f left. new f (g.met.D.Device.only_now c.args.device f left))) c.read.ensures.time (λ f left. new f (c.read.ensures.crash f left)))
     c.write_new.ensures.any_moment

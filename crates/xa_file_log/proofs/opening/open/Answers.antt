@@ -1,21 +1,17 @@
-use Rattle.xa_base.proofs.{◌≡◌, ℕ, List, sym, ◌∙◌, ap, subst, rules}
-use Rattle.xa_file_log.specs.{StandsFor, IsNoLog, records_of, table_of}
+use Rattle.xa_base.proofs.{sym, ◌∙◌, ap, subst, rules}
+use Rattle.xa_file_log.specs.{IsSettled, StandsFor, IsNoLog, records_of, table_of}
 use Rattle.xa_file_log.proofs.OneTable.{one_content}
-use Rattle.xa_file_log.proofs.Shown.{stands_shown}
+use Rattle.xa_file_log.proofs.Stands.{settled_shown}
 use Rattle.xa_file_log.proofs.Slotwise.{all_count}
 use Rattle.xa_file_log.proofs.opening.open.Goals as goal
 
 pub invariant_of-result : goal.invariant_of-result
 invariant_of-result g c =
-    let stands : StandsFor (table_of c.in-Ok-read_table.table.slots.items) (g.D.Device.seen c.read.new.self) = search rules in
-    let durable : (f : List ℕ) → g.D.Device.may_leave c.read.new.self f → f ≡ g.D.Device.seen c.read.new.self =
-    λ f left. c.requires f (c.read.ensures.crash f left) ∙ sym c.read.ensures.seen in
-    record {
-      ready = λ is. record { stands = stands; durable = durable };
-      known = λ is f left.
-          stands_shown c.in-Ok-read_table.table.slots.items f
-          (subst (StandsFor (table_of c.in-Ok-read_table.table.slots.items)) (sym (durable f left)) stands);
-    }
+    let settled : IsSettled g.D.Device.seen g.D.Device.may_leave (table_of c.in-Ok-read_table.table.slots.items) c.read.new.self = record {
+      stands = search rules;
+      durable = λ f left. c.requires f (c.read.ensures.crash f left) ∙ sym c.read.ensures.seen;
+    } in
+    record { ready = λ is. settled; known = λ known. settled_shown c.in-Ok-read_table.table.slots.items settled }
 
 pub returns-in-Ok-read_table-clause-reads : goal.returns-in-Ok-read_table-clause-reads
 returns-in-Ok-read_table-clause-reads g c = λ records there.

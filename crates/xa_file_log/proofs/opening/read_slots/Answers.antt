@@ -1,11 +1,11 @@
-use Rattle.xa_base.proofs.{◌+◌, None, Some, sym, ◌∙◌, ap, subst}
-use Rattle.xa_file_log.specs.{SlotTable, IsSlotOf, HasName}
-use Rattle.xa_file_log.proofs.Reading.{IsRead, none_read, free_read, taken_read, all_read, some_of, twice_named}
+use Rattle.xa_base.proofs.{None, Some, refl, sym, ◌∙◌, ap, subst}
+use Rattle.xa_file_log.specs.{SlotTable, Taken, IsSlotOf, HasName}
+use Rattle.xa_file_log.proofs.Reading.{none_read, one_read, free_read, all_read, some_of, twice_named}
 use Rattle.xa_file_log.proofs.opening.read_slots.Goals as goal
 use Rattle.xa_file_log.proofs.opening.read_slots.Goals.{in-Some-found+else-is_some, in_default-found}
 
 pub loop-place-init : goal.loop-place-init
-loop-place-init c = none_read c.args.count c.in_ok-table.table.slots.items c.args.bytes.now c.in_ok-table.ensures
+loop-place-init c = none_read c.args.bytes.now c.in_ok-table.ensures
 
 pub returns-then-is_some-clause-refused : goal.returns-then-is_some-clause-refused
 returns-then-is_some-clause-refused c = λ other.
@@ -21,15 +21,13 @@ loop-place-preserved c = elim c.match-found.branch [
   | in-Some-found+else-is_some w ↦
       let here =
       subst (IsSlotOf (Some w.in-Some-found.record)) c.slot_of.ensures.bytes (subst (λ o. IsSlotOf o c.slot_of.result.now) w.in-Some-found.is c.in-Some.ensures.found) in
-      taken_read c.loop-place.place c.args.count c.loop-place.table.slots.items c.match-found.table.slots.items c.args.bytes.now w.in-Some-found.record
-      c.loop-place-test.true (ap (λ (t : SlotTable). t.slots.items) w.table-is ∙ w.take.ensures) here c.loop-place.invariant
+      one_read (Taken w.in-Some-found.record) c.loop-place.invariant c.loop-place-test.true refl here
+      (ap (λ (t : SlotTable). t.slots.items) w.table-is ∙ w.take.ensures)
   | in_default-found w ↦
       let here = subst (IsSlotOf None) c.slot_of.ensures.bytes (subst (λ o. IsSlotOf o c.slot_of.result.now) w.in_default-found.is c.in-Some.ensures.found) in
-      subst (λ (t : SlotTable). IsRead (c.loop-place.place + 1) c.args.count t.slots.items c.args.bytes.now) (sym w.table-is)
-      (free_read c.loop-place.place c.args.count c.loop-place.table.slots.items c.args.bytes.now here c.loop-place.invariant)
+      rw w.table-is (free_read c.loop-place.invariant c.loop-place-test.true here)
 ]
 
 pub returns-clause-stands : goal.returns-clause-stands
 returns-clause-stands c =
-    all_read c.loop-place.place c.args.count c.loop-place.table.slots.items c.args.bytes.now _ c.loop-place.table.indexed c.loop-place-test.false
-    c.requires.few c.requires.size c.requires.header c.loop-place.invariant
+    all_read c.loop-place.invariant c.loop-place.table.indexed c.loop-place-test.false c.requires.few c.requires.size c.requires.header

@@ -13,12 +13,8 @@ loop-place-preserved c =
     let here : c.loop-place.place < length c.loop-place.slots.items = omega (arith, below, c.loop-place.invariant.count) in
     let read = slot_indexed c.loop-place.slots.items c.loop-place.place c.index.result.now c.index.result.now here c.index.ensures refl in
     let was = sym read ∙ c.loop-place.invariant.later c.loop-place.place (omega arith) in
-    one_mapped (forgets (λ t. not (is_among c.args.trans.now t))) c.loop-place.place c.args.slots.now.items c.loop-place.slots.items
-    (set c.loop-place.slots.items c.loop-place.place c.kept.result) below
+    one_mapped c.loop-place.invariant below
     (ap (set c.loop-place.slots.items c.loop-place.place) (c.kept.ensures ∙ ap (forgets (λ t. not (is_among c.args.trans.now t))) was))
-    c.loop-place.invariant
 
 pub returns : goal.returns
-returns c =
-    all_mapped (forgets (λ t. not (is_among c.args.trans.now t))) refl c.loop-place.place c.args.slots.now.items c.loop-place.slots.items
-    (let past = c.loop-place-test.false in omega (arith, past)) c.loop-place.invariant
+returns c = all_mapped c.loop-place.invariant refl (let past = c.loop-place-test.false in omega (arith, past))

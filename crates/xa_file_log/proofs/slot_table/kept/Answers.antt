@@ -2,7 +2,7 @@ use Rattle.xa_base.proofs.{◌≡◌, Bool, true, false, not, cond, ◌||◌, Li
 use Rattle.xa_words.specs.{TranName, tran_eq}
 use Rattle.xa_log.specs.{CommitRecord, is_among}
 use Rattle.xa_log.proofs.Transactions.{tran_cmp_total, tran_eq-by_cmp}
-use Rattle.xa_file_log.specs.{Slot, Free, Taken, Forgotten, forgets}
+use Rattle.xa_file_log.specs.{Slot, Taken, Forgotten, forgets}
 use Rattle.xa_file_log.proofs.slot_table.kept.Goals as goal
 use Rattle.xa_file_log.proofs.slot_table.kept.Goals.{in-Taken+else-not-contains, in_default}
 
@@ -14,9 +14,8 @@ among [] t = refl
 among (s ∷ ts) t = λ i. turned s t i || among ts t i
 
 others : (ts : List TranName) (s : Slot) → ((r : CommitRecord) → s ≡ Taken r → ⊥) → s ≡ forgets (λ t. not (is_among ts t)) s
-others ts Free differs = refl
 others ts (Taken r) differs = absurd (differs r refl)
-others ts (Forgotten r) differs = refl
+others ts s differs = refl
 
 pub returns-then-not-contains : goal.returns-then-not-contains
 returns-then-not-contains c =

@@ -1,45 +1,31 @@
 use Rattle.xa_base.proofs.{sym, ◌∙◌}
-use Rattle.xa_file_log.proofs.Puts.{all_written, torn_now, written, then_synced}
+use Rattle.xa_file_log.proofs.Moments.{goes_on}
+use Rattle.xa_file_log.proofs.Puts.{all_written, torn_now, written}
 use Rattle.xa_file_log.proofs.synced.put.Goals as goal
 
 pub returns-in_err-write_at-clause-now : goal.returns-in_err-write_at-clause-now
-returns-in_err-write_at-clause-now g c =
-    torn_now g.D.Device.may_leave (g.D.Device.seen c.args.device.now) c.args.at c.args.bytes.now c.requires.within
-    c.args.device.now c.write_at.new.self c.requires.durable c.write_at.ensures.crash
+returns-in_err-write_at-clause-now g c = torn_now c.requires.within c.requires.durable c.write_at.ensures.crash
 
 pub returns-in_err-write_at-clause-any_moment : goal.returns-in_err-write_at-clause-any_moment
 returns-in_err-write_at-clause-any_moment g c =
-    written g.D.Device.moment g.D.Device.left_since g.D.Device.may_leave (g.D.Device.seen c.args.device.now) c.args.at
-    c.args.bytes.now c.requires.within c.args.device.now c.write_at.new.self c.requires.durable
-    (g.met.D.Device.only_now c.args.device.now) c.write_at.ensures.crash c.write_at.ensures.time
+    written c.requires.within c.requires.durable (g.met.D.Device.only_now c.args.device.now) c.write_at.ensures.crash c.write_at.ensures.time
 
 pub returns-in_err-sync-clause-now : goal.returns-in_err-sync-clause-now
 returns-in_err-sync-clause-now g c = λ f now.
-    torn_now g.D.Device.may_leave (g.D.Device.seen c.args.device.now) c.args.at c.args.bytes.now c.requires.within
-    c.args.device.now c.write_at.new.self c.requires.durable c.write_at.ensures.crash f (c.in_err-sync.ensures.crash f now)
+    torn_now c.requires.within c.requires.durable c.write_at.ensures.crash f (c.in_err-sync.ensures.crash f now)
 
 pub returns-in_err-sync-clause-any_moment : goal.returns-in_err-sync-clause-any_moment
 returns-in_err-sync-clause-any_moment g c =
-    let run = written g.D.Device.moment g.D.Device.left_since g.D.Device.may_leave (g.D.Device.seen c.args.device.now) c.args.at
-    c.args.bytes.now c.requires.within c.args.device.now c.write_at.new.self c.requires.durable
-    (g.met.D.Device.only_now c.args.device.now) c.write_at.ensures.crash c.write_at.ensures.time in
-    then_synced g.D.Device.moment g.D.Device.left_since g.D.Device.may_leave (g.D.Device.seen c.args.device.now) c.args.at
-    c.args.bytes.now c.requires.within c.args.device.now c.write_at.new.self c.sync.new.self run c.sync.ensures.time
-    (returns-in_err-sync-clause-now g c)
+    goes_on (written c.requires.within c.requires.durable (g.met.D.Device.only_now c.args.device.now) c.write_at.ensures.crash c.write_at.ensures.time)
+    c.sync.ensures.time (returns-in_err-sync-clause-now g c)
 
 pub returns-clause-now : goal.returns-clause-now
-returns-clause-now g c = λ f now.
-    all_written (g.D.Device.seen c.args.device.now) c.args.at c.args.bytes.now f
-    (c.in_ok-sync.ensures.durable f now ∙ c.in_ok-write_at.ensures.written)
+returns-clause-now g c = λ f now. all_written (c.in_ok-sync.ensures.durable f now ∙ c.in_ok-write_at.ensures.written)
 
 pub returns-clause-any_moment : goal.returns-clause-any_moment
 returns-clause-any_moment g c =
-    let run = written g.D.Device.moment g.D.Device.left_since g.D.Device.may_leave (g.D.Device.seen c.args.device.now) c.args.at
-    c.args.bytes.now c.requires.within c.args.device.now c.write_at.new.self c.requires.durable
-    (g.met.D.Device.only_now c.args.device.now) c.write_at.ensures.crash c.write_at.ensures.time in
-    then_synced g.D.Device.moment g.D.Device.left_since g.D.Device.may_leave (g.D.Device.seen c.args.device.now) c.args.at
-    c.args.bytes.now c.requires.within c.args.device.now c.write_at.new.self c.sync.new.self run c.sync.ensures.time
-    (returns-clause-now g c)
+    goes_on (written c.requires.within c.requires.durable (g.met.D.Device.only_now c.args.device.now) c.write_at.ensures.crash c.write_at.ensures.time)
+    c.sync.ensures.time (returns-clause-now g c)
 
 pub returns-clause-durable : goal.returns-clause-durable
 returns-clause-durable g c = λ f now. c.in_ok-sync.ensures.durable f now ∙ sym c.sync.ensures.seen

@@ -16,6 +16,6 @@ returns-clause-cause g c =
     if_none _ _ (⊎_elim
     (λ none. inr (inl (full_shut c.args.self.now.table.slots.items (subst (λ (l : List Slot). HasNoFree l (length l)) is none))))
     (λ at. absurd (none_named_shut c.args.self.now.table.slots.items
-    (index_apart _ c.args.self.now.table.slots.items c.args.self.now.table.indexed) c.args.decision.now.tran c.requires.new at.0
+    (index_apart c.args.self.now.table.indexed) c.args.decision.now.tran c.requires.new at.0
     (subst (λ (l : List Slot). name_at l at.0 ≡ Some c.args.decision.now.tran) is at.1.1))))
     c.free_place_for.result c.free_place_for.ensures.none

@@ -1,22 +1,19 @@
 use Rattle.xa_base.proofs.{inl, inr, ◌<◌, ◌+◌, ◌%◌, ◌^◌, List, set, refl, sym, ◌∙◌, ap, subst, arith}
-use Rattle.xa_file_log.specs.{Slot, Taken, StandsFor, IsSettled, ForgetsNoMore, MayShow, table_of, records_in}
+use Rattle.xa_file_log.specs.{Slot, Taken, StandsFor, IsSettled, ForgetsNoMore, table_of, records_in}
 use Rattle.xa_file_log.proofs.Appending.{same_records, no_more, before_it, one_more, none_more, both_runs}
 use Rattle.xa_file_log.proofs.Moments.{weaker}
-use Rattle.xa_file_log.proofs.Shown.{stands_shown}
+use Rattle.xa_file_log.proofs.Stands.{stands_shown, settled_shown}
 use Rattle.xa_file_log.proofs.file_log.FileLogDecisionLog.append.Goals as goal
 
 -- what is refused before the record is written
 pub returns-in_default-clause-refused : goal.returns-in_default-clause-refused
 returns-in_default-clause-refused g c = λ it.
-    let same = same_records c.args.self.now.table.slots.items c.place_for.new.self.table.slots.items c.place_for.ensures.slots in (
+    let same = same_records c.place_for.ensures.slots in (
       λ i. record { records = same i; failures = (c.place_for.ensures.failures i + 1) % 2 ^ 64 },
       c.place_for.ensures.known,
       record {
-        any_moment =
-            weaker g.D.Device.moment g.D.Device.left_since c.args.self.now.device c.place_for.new.self.device
-            (MayShow c.args.self.now.table.slots.items) _ (before_it c.args.self.now.table.slots.items c.args.decision.now)
-            c.place_for.ensures.any_moment;
-        forgotten = no_more c.args.self.now.table.slots.items c.place_for.new.self.table.slots.items c.place_for.ensures.slots;
+        any_moment = weaker (before_it c.args.self.now.table.slots.items c.args.decision.now) c.place_for.ensures.any_moment;
+        forgotten = no_more c.place_for.ensures.slots;
         ready = λ taken. absurd (cc (taken));
         goes_on = λ refused. c.place_for.ensures.goes_on;
         cause = λ refused. c.in_default.ensures.cause;
@@ -28,12 +25,7 @@ invariant_of-self-in-Ok g c =
     let same = ap (λ (l : List Slot). table_of (set l c.in-Some.place (Taken c.args.decision.now))) c.deref.ensures.value
     ∙ sym (ap table_of c.take.ensures) in
     let settled = subst (λ t. IsSettled g.D.Device.seen g.D.Device.may_leave t c.write_record.new.device) same c.in-Ok.ensures.logged in
-    record {
-      ready = λ is. settled;
-      known = λ known f left.
-          stands_shown c.take.new.self.slots.items f
-          (subst (StandsFor (table_of c.take.new.self.slots.items)) (sym (settled.durable f left)) settled.stands);
-    }
+    record { ready = λ is. settled; known = λ known. settled_shown c.take.new.self.slots.items settled }
 
 pub invariant_of-self-in-Err-Refused : goal.invariant_of-self-in-Err-Refused
 invariant_of-self-in-Err-Refused g c = record {
@@ -47,19 +39,15 @@ pub returns-in-Ok-clause-appended : goal.returns-in-Ok-clause-appended
 returns-in-Ok-clause-appended g c =
     let free = c.in-Some.ensures.free in
     let more = ap records_in c.take.ensures
-    ∙ one_more c.args.self.now.table.slots.items c.place_for.new.self.table.slots.items c.place_for.ensures.slots c.in-Some.place
-    c.args.decision.now free.0 free.1 c.requires.new in (
+    ∙ one_more c.place_for.ensures.slots c.in-Some.place c.args.decision.now free.0 free.1 c.requires.new in (
       λ i. record { records = more i; failures = c.place_for.ensures.failures i },
       λ lost. absurd (cc (lost, c.in-Some.ensures.ready)),
       record {
-        any_moment =
-            both_runs c.args.self.now.table.slots.items c.place_for.new.self.table.slots.items c.place_for.ensures.slots c.in-Some.place
-            c.args.decision.now free.0 free.1 c.requires.new g.D.Device.moment g.D.Device.left_since c.deref.result.now c.deref.ensures.value
-            c.args.self.now.device c.place_for.new.self.device c.write_record.new.device c.place_for.ensures.any_moment c.write_record.ensures.any_moment;
+        any_moment = both_runs c.place_for.ensures.slots c.in-Some.place c.args.decision.now free.0 free.1 c.requires.new c.deref.ensures.value
+            c.place_for.ensures.any_moment c.write_record.ensures.any_moment;
         forgotten =
             subst (ForgetsNoMore c.args.self.now.table.slots.items) (sym c.take.ensures)
-            (none_more c.args.self.now.table.slots.items c.place_for.new.self.table.slots.items c.place_for.ensures.slots c.in-Some.place
-            c.args.decision.now free.0 free.1 c.requires.new);
+            (none_more c.place_for.ensures.slots c.in-Some.place c.args.decision.now free.0 free.1 c.requires.new);
         ready = λ taken. c.in-Some.ensures.ready;
         goes_on = λ refused. absurd (cc (refused));
         cause = λ refused. absurd (cc (refused));
@@ -69,17 +57,15 @@ returns-in-Ok-clause-appended g c =
 pub returns-in-Err-Refused-clause-refused : goal.returns-in-Err-Refused-clause-refused
 returns-in-Err-Refused-clause-refused g c = λ it.
     let free = c.in-Some.ensures.free in
-    let same = same_records c.args.self.now.table.slots.items c.place_for.new.self.table.slots.items c.place_for.ensures.slots in
+    let same = same_records c.place_for.ensures.slots in
     let failed : g.D.Device.faults c.args.self.now.device < g.D.Device.faults c.write_record.new.device =
     omega (arith, c.place_for.ensures.faults, c.in-Err-Refused.ensures.cause refl) in (
       λ i. record { records = same i; failures = (c.place_for.ensures.failures i + 1) % 2 ^ 64 },
       λ lost. absurd (cc (lost)),
       record {
-        any_moment =
-            both_runs c.args.self.now.table.slots.items c.place_for.new.self.table.slots.items c.place_for.ensures.slots c.in-Some.place
-            c.args.decision.now free.0 free.1 c.requires.new g.D.Device.moment g.D.Device.left_since c.deref.result.now c.deref.ensures.value
-            c.args.self.now.device c.place_for.new.self.device c.write_record.new.device c.place_for.ensures.any_moment c.write_record.ensures.any_moment;
-        forgotten = no_more c.args.self.now.table.slots.items c.place_for.new.self.table.slots.items c.place_for.ensures.slots;
+        any_moment = both_runs c.place_for.ensures.slots c.in-Some.place c.args.decision.now free.0 free.1 c.requires.new c.deref.ensures.value
+            c.place_for.ensures.any_moment c.write_record.ensures.any_moment;
+        forgotten = no_more c.place_for.ensures.slots;
         ready = λ taken. absurd (cc (taken));
         goes_on = λ refused. inr failed;
         cause = λ refused. inr (inr (inl failed));
@@ -91,10 +77,8 @@ returns-in-Err-Unknown-clause-unknown g c = λ it.
     let free = c.in-Some.ensures.free in (
       λ known. known refl,
       record {
-        any_moment =
-            both_runs c.args.self.now.table.slots.items c.place_for.new.self.table.slots.items c.place_for.ensures.slots c.in-Some.place
-            c.args.decision.now free.0 free.1 c.requires.new g.D.Device.moment g.D.Device.left_since c.deref.result.now c.deref.ensures.value
-            c.args.self.now.device c.place_for.new.self.device c.write_record.new.device c.place_for.ensures.any_moment c.write_record.ensures.any_moment;
+        any_moment = both_runs c.place_for.ensures.slots c.in-Some.place c.args.decision.now free.0 free.1 c.requires.new c.deref.ensures.value
+            c.place_for.ensures.any_moment c.write_record.ensures.any_moment;
         cause = omega (arith, c.place_for.ensures.faults, c.in-Err-Unknown.ensures.cause refl);
       },
     )

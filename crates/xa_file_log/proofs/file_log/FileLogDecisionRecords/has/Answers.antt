@@ -14,7 +14,7 @@ returns-in_err-place g c =
 pub returns-in-Taken : goal.returns-in-Taken
 returns-in-Taken g c =
     let at = c.in_ok-place.ensures.there in
-    sym (counted_found c.args.self.now.table.slots.items (index_apart _ c.args.self.now.table.slots.items c.args.self.now.table.indexed)
+    sym (counted_found c.args.self.now.table.slots.items (index_apart c.args.self.now.table.indexed)
     c.in_ok-place.place c.args.tran.now c.in-Taken.record
     (slot_indexed c.args.self.now.table.slots.items c.in_ok-place.place c.index.result.now (Taken c.in-Taken.record) at.0 c.index.ensures c.in-Taken.is)
     at.1)
@@ -27,4 +27,4 @@ returns-in_default g c =
     c.in_default.not-Taken r (c.index.ensures ∙ get_or_default c.args.self.now.table.slots.items c.in_ok-place.place c.index.result.now Free at.0 ∙ is)) in
     sym (not_counted c.args.self.now.table.slots.items c.args.tran.now (λ k named.
     subst (λ (i : ℕ). taken (get_or c.args.self.now.table.slots.items i Free) ≡ None)
-    (sym (one_place _ c.args.self.now.table.slots.items c.args.self.now.table.indexed k c.in_ok-place.place c.args.tran.now named at.1)) none) _ refl)
+    (sym (one_place c.args.self.now.table.indexed k c.in_ok-place.place c.args.tran.now named at.1)) none) _ refl)

@@ -1,21 +1,22 @@
-use Rattle.xa_base.proofs.{◌≡◌, inl, inr, ⊎_elim, ◌<◌, ◌+◌, ◌%◌, ◌^◌, List, length, refl, sym, ◌∙◌, ap, subst, arith}
+use Rattle.xa_base.proofs.{◌≡◌, inl, inr, ⊎_elim, ◌<◌, ◌+◌, ◌%◌, ◌^◌, List, length, refl, sym, ◌∙◌, ap, subst, arith, none_of}
 use Rattle.std.proofs.lemmas.Bool.Decides.{Decides-eqb}
-use Rattle.xa_file_log.specs.{Slot, ForgetsNoMore, StandsFor, IsSettled, MayShow, AreNewNames, log_state, placed, table_of, records_in}
+use Rattle.xa_log.specs.{with_records}
+use Rattle.xa_file_log.specs.{Slot, ForgetsNoMore, StandsFor, IsSettled, AreNewNames, log_state, placed, table_of, records_in}
 use Rattle.xa_file_log.proofs.Appending.{same_records, no_more}
-use Rattle.xa_file_log.proofs.Grouped.{before_group, failures_stay, nothing_recorded, all_in, none_more_forgotten, group_runs}
+use Rattle.xa_file_log.proofs.Grouped.{before_group, failures_stay, all_in, none_more_forgotten, group_runs}
 use Rattle.xa_file_log.proofs.Index.{index_apart}
 use Rattle.xa_file_log.proofs.Moments.{started, weaker}
-use Rattle.xa_file_log.proofs.Shown.{stands_shown}
+use Rattle.xa_file_log.proofs.Stands.{stands_shown, settled_shown}
 use Rattle.xa_file_log.proofs.group_log.FileLogGroupLog.append_all.Goals as goal
 
 -- no record
 pub returns-then-is_empty-clause-appended : goal.returns-then-is_empty-clause-appended
 returns-then-is_empty-clause-appended g c =
     let none : length c.args.decisions.now ≡ 0 = (Decides-eqb (length c.args.decisions.now) 0).0 (sym c.is_empty.ensures ∙ c.if-is_empty.true) in (
-      nothing_recorded (log_state c.args.self.now.table.slots.items c.args.self.now.failures) c.args.decisions.now none,
+      ap (with_records (log_state c.args.self.now.table.slots.items c.args.self.now.failures)) (sym (none_of c.args.decisions.now none)),
       c.requires.known,
       record {
-        any_moment = started g.D.Device.moment g.D.Device.left_since c.args.self.now.device _ (λ f left.
+        any_moment = started (λ f left.
             before_group c.args.self.now.table.slots.items c.args.decisions.now f
             (c.args.self.now.known c.requires.known f (g.met.D.Device.only_now c.args.self.now.device f left)));
         nothing = λ none. refl;
@@ -28,16 +29,13 @@ returns-then-is_empty-clause-appended g c =
 -- what is refused before the records are written
 pub returns-then-not-makes_room_for-clause-refused : goal.returns-then-not-makes_room_for-clause-refused
 returns-then-not-makes_room_for-clause-refused g c = λ it.
-    let same = same_records c.args.self.now.table.slots.items c.makes_room_for.new.self.table.slots.items c.makes_room_for.ensures.slots in (
+    let same = same_records c.makes_room_for.ensures.slots in (
       λ i. record { records = same i; failures = (c.makes_room_for.ensures.failures i + 1) % 2 ^ 64 },
       c.makes_room_for.ensures.known,
       record {
-        any_moment =
-            weaker g.D.Device.moment g.D.Device.left_since c.args.self.now.device c.makes_room_for.new.self.device
-            (MayShow c.args.self.now.table.slots.items) _ (before_group c.args.self.now.table.slots.items c.args.decisions.now)
-            c.makes_room_for.ensures.any_moment;
+        any_moment = weaker (before_group c.args.self.now.table.slots.items c.args.decisions.now) c.makes_room_for.ensures.any_moment;
         nothing = λ none. absurd (let test = (Decides-eqb (length c.args.decisions.now) 0).1 none in cc (test, c.is_empty.ensures, c.if-is_empty.false));
-        forgotten = no_more c.args.self.now.table.slots.items c.makes_room_for.new.self.table.slots.items c.makes_room_for.ensures.slots;
+        forgotten = no_more c.makes_room_for.ensures.slots;
         goes_on = ⊎_elim (λ same. inl same) (λ failed. inr (refl, failed.1)) c.makes_room_for.ensures.goes_on;
         cause = λ refused. c.makes_room_for.ensures.cause c.if-not-makes_room_for.true;
       },
@@ -45,23 +43,15 @@ returns-then-not-makes_room_for-clause-refused g c = λ it.
 
 pub write_records-requires-clause-new : goal.write_records-requires-clause-new
 write_records-requires-clause-new g c =
-    let together = all_in c.args.self.now.table.slots.items c.makes_room_for.new.self.table.slots.items c.makes_room_for.ensures.slots
-    (log_state c.args.self.now.table.slots.items c.args.self.now.failures) c.args.decisions.now refl
-    (c.makes_room_for.ensures.room c.if-not-makes_room_for.false)
-    (index_apart _ c.makes_room_for.new.self.table.slots.items c.makes_room_for.new.self.table.indexed) c.requires.new
-    (c.makes_room_for.ensures.unnamed c.if-not-makes_room_for.false) in
+    let together = all_in c.makes_room_for.ensures.slots c.args.self.now.failures (c.makes_room_for.ensures.room c.if-not-makes_room_for.false)
+    (index_apart c.makes_room_for.new.self.table.indexed) c.requires.new (c.makes_room_for.ensures.unnamed c.if-not-makes_room_for.false) in
     subst (λ (l : List Slot). AreNewNames l c.args.decisions.now) (sym c.deref.ensures.value) together.apart
 
 pub invariant_of-self-in-Ok : goal.invariant_of-self-in-Ok
 invariant_of-self-in-Ok g c =
     let same = ap (λ (l : List Slot). table_of (placed l c.args.decisions.now)) c.deref.ensures.value ∙ sym (ap table_of c.take_all.ensures) in
     let settled = subst (λ t. IsSettled g.D.Device.seen g.D.Device.may_leave t c.write_records.new.device) same c.in-Ok.ensures.logged in
-    record {
-      ready = λ is. settled;
-      known = λ known f left.
-          stands_shown c.take_all.new.self.slots.items f
-          (subst (StandsFor (table_of c.take_all.new.self.slots.items)) (sym (settled.durable f left)) settled.stands);
-    }
+    record { ready = λ is. settled; known = λ known. settled_shown c.take_all.new.self.slots.items settled }
 
 pub invariant_of-self-in-Err-Refused : goal.invariant_of-self-in-Err-Refused
 invariant_of-self-in-Err-Refused g c = record {
@@ -74,11 +64,8 @@ invariant_of-self-in-Err-Refused g c = record {
 
 pub returns-in-Ok-clause-appended : goal.returns-in-Ok-clause-appended
 returns-in-Ok-clause-appended g c =
-    let together = all_in c.args.self.now.table.slots.items c.makes_room_for.new.self.table.slots.items c.makes_room_for.ensures.slots
-    (log_state c.args.self.now.table.slots.items c.args.self.now.failures) c.args.decisions.now refl
-    (c.makes_room_for.ensures.room c.if-not-makes_room_for.false)
-    (index_apart _ c.makes_room_for.new.self.table.slots.items c.makes_room_for.new.self.table.indexed) c.requires.new
-    (c.makes_room_for.ensures.unnamed c.if-not-makes_room_for.false) in
+    let together = all_in c.makes_room_for.ensures.slots c.args.self.now.failures (c.makes_room_for.ensures.room c.if-not-makes_room_for.false)
+    (index_apart c.makes_room_for.new.self.table.indexed) c.requires.new (c.makes_room_for.ensures.unnamed c.if-not-makes_room_for.false) in
     let records = ap records_in c.take_all.ensures ∙ together.records in
     let failures = c.makes_room_for.ensures.failures
     ∙ sym (failures_stay (log_state c.args.self.now.table.slots.items c.args.self.now.failures) c.args.decisions.now) in (
@@ -86,21 +73,12 @@ returns-in-Ok-clause-appended g c =
       λ lost. absurd (cc (lost, c.makes_room_for.ensures.ready c.if-not-makes_room_for.false)),
       record {
         any_moment =
-            group_runs c.args.self.now.table.slots.items c.makes_room_for.new.self.table.slots.items c.makes_room_for.ensures.slots
-            (log_state c.args.self.now.table.slots.items c.args.self.now.failures) c.args.decisions.now refl
-            (c.makes_room_for.ensures.room c.if-not-makes_room_for.false)
-            (index_apart _ c.makes_room_for.new.self.table.slots.items c.makes_room_for.new.self.table.indexed) c.requires.new
-            (c.makes_room_for.ensures.unnamed c.if-not-makes_room_for.false) g.D.Device.moment g.D.Device.left_since c.deref.result.now c.deref.ensures.value
-            c.args.self.now.device c.makes_room_for.new.self.device c.write_records.new.device c.makes_room_for.ensures.any_moment
-            c.write_records.ensures.any_moment;
+            group_runs c.makes_room_for.ensures.slots (index_apart c.makes_room_for.new.self.table.indexed) c.deref.ensures.value
+            c.makes_room_for.ensures.any_moment c.write_records.ensures.any_moment;
         nothing = λ none. absurd (let test = (Decides-eqb (length c.args.decisions.now) 0).1 none in cc (test, c.is_empty.ensures, c.if-is_empty.false));
         forgotten =
             subst (ForgetsNoMore c.args.self.now.table.slots.items) (sym c.take_all.ensures)
-            (none_more_forgotten c.args.self.now.table.slots.items c.makes_room_for.new.self.table.slots.items c.makes_room_for.ensures.slots
-            (log_state c.args.self.now.table.slots.items c.args.self.now.failures) c.args.decisions.now refl
-            (c.makes_room_for.ensures.room c.if-not-makes_room_for.false)
-            (index_apart _ c.makes_room_for.new.self.table.slots.items c.makes_room_for.new.self.table.indexed) c.requires.new
-            (c.makes_room_for.ensures.unnamed c.if-not-makes_room_for.false));
+            (none_more_forgotten c.makes_room_for.ensures.slots c.args.decisions.now);
         goes_on = ⊎_elim (λ same. inl same) (λ failed. absurd (cc (failed.0, c.if-not-makes_room_for.false))) c.makes_room_for.ensures.goes_on;
         cause = λ refused. absurd (cc (refused));
       },
@@ -108,22 +86,17 @@ returns-in-Ok-clause-appended g c =
 
 pub returns-in-Err-Refused-clause-refused : goal.returns-in-Err-Refused-clause-refused
 returns-in-Err-Refused-clause-refused g c = λ it.
-    let same = same_records c.args.self.now.table.slots.items c.makes_room_for.new.self.table.slots.items c.makes_room_for.ensures.slots in
+    let same = same_records c.makes_room_for.ensures.slots in
     let failed : g.D.Device.faults c.args.self.now.device < g.D.Device.faults c.write_records.new.device =
     omega (arith, c.makes_room_for.ensures.faults, c.in-Err-Refused.ensures.cause refl) in (
       λ i. record { records = same i; failures = (c.makes_room_for.ensures.failures i + 1) % 2 ^ 64 },
       λ lost. absurd (cc (lost)),
       record {
         any_moment =
-            group_runs c.args.self.now.table.slots.items c.makes_room_for.new.self.table.slots.items c.makes_room_for.ensures.slots
-            (log_state c.args.self.now.table.slots.items c.args.self.now.failures) c.args.decisions.now refl
-            (c.makes_room_for.ensures.room c.if-not-makes_room_for.false)
-            (index_apart _ c.makes_room_for.new.self.table.slots.items c.makes_room_for.new.self.table.indexed) c.requires.new
-            (c.makes_room_for.ensures.unnamed c.if-not-makes_room_for.false) g.D.Device.moment g.D.Device.left_since c.deref.result.now c.deref.ensures.value
-            c.args.self.now.device c.makes_room_for.new.self.device c.write_records.new.device c.makes_room_for.ensures.any_moment
-            c.write_records.ensures.any_moment;
+            group_runs c.makes_room_for.ensures.slots (index_apart c.makes_room_for.new.self.table.indexed) c.deref.ensures.value
+            c.makes_room_for.ensures.any_moment c.write_records.ensures.any_moment;
         nothing = λ none. absurd (let test = (Decides-eqb (length c.args.decisions.now) 0).1 none in cc (test, c.is_empty.ensures, c.if-is_empty.false));
-        forgotten = no_more c.args.self.now.table.slots.items c.makes_room_for.new.self.table.slots.items c.makes_room_for.ensures.slots;
+        forgotten = no_more c.makes_room_for.ensures.slots;
         goes_on = inr (refl, failed);
         cause = λ refused. inr (inr (inl failed));
       },
@@ -134,13 +107,8 @@ returns-in-Err-Unknown-clause-unknown g c = λ it. (
   λ known. known refl,
   record {
     any_moment =
-        group_runs c.args.self.now.table.slots.items c.makes_room_for.new.self.table.slots.items c.makes_room_for.ensures.slots
-        (log_state c.args.self.now.table.slots.items c.args.self.now.failures) c.args.decisions.now refl
-        (c.makes_room_for.ensures.room c.if-not-makes_room_for.false)
-        (index_apart _ c.makes_room_for.new.self.table.slots.items c.makes_room_for.new.self.table.indexed) c.requires.new
-        (c.makes_room_for.ensures.unnamed c.if-not-makes_room_for.false) g.D.Device.moment g.D.Device.left_since c.deref.result.now c.deref.ensures.value
-        c.args.self.now.device c.makes_room_for.new.self.device c.write_records.new.device c.makes_room_for.ensures.any_moment
-        c.write_records.ensures.any_moment;
+        group_runs c.makes_room_for.ensures.slots (index_apart c.makes_room_for.new.self.table.indexed) c.deref.ensures.value
+        c.makes_room_for.ensures.any_moment c.write_records.ensures.any_moment;
     cause = omega (arith, c.makes_room_for.ensures.faults, c.in-Err-Unknown.ensures.cause refl);
   },
 )

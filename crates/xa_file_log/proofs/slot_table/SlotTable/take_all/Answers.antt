@@ -1,8 +1,8 @@
 use Rattle.xa_base.proofs.{◌+◌, List, length, set, drop, sym, ◌∙◌, ap, subst, arith, length-drop, length-set, drop_all}
 use Rattle.xa_file_log.specs.{Slot, Taken, AreApart, HasNoName, placed, table_of, used}
-use Rattle.xa_file_log.proofs.Grouped.{all_used, first_is_new, placed_first}
-use Rattle.xa_file_log.proofs.Index.{used_set}
-use Rattle.xa_file_log.proofs.Placed.{records_left, none_placed}
+use Rattle.xa_file_log.proofs.Grouped.{first_is_new, placed_first}
+use Rattle.xa_file_log.proofs.Used.{used_set, all_used}
+use Rattle.xa_file_log.proofs.Placed.{records_left, none_filled}
 use Rattle.xa_file_log.proofs.slot_table.SlotTable.take_all.Goals as goal
 
 pub returns-in_default : goal.returns-in_default
@@ -38,6 +38,6 @@ loop-decision-preserved c =
 
 pub returns : goal.returns
 returns c =
-    sym (none_placed c.loop-decision.self.slots.items)
+    sym (none_filled Taken c.loop-decision.self.slots.items)
     ∙ ap (placed c.loop-decision.self.slots.items) (sym (drop_all c.loop-decision.decision-index c.args.decisions.now c.loop-decision-test.false))
     ∙ c.loop-decision.invariant.rest
