@@ -8,7 +8,7 @@ use Rattle.std.proofs.lemmas.Option.{slice_get_past}
 use Rattle.xa_base.proofs.{ne_eqb, or_from, cases_lt, eqb-true, eqb-false, le-leb, or_parts, ℤ, pos, ◌+ℤ◌, All, nat_le, ◌&&◌, ◌≡◌, ℕ, zero, suc, ◌+◌, ◌-◌, ◌<◌}
 use Rattle.xa_base.proofs.{◌≤◌, ◌==◌, Bool, true, false, if◌then◌else◌, ⊎_elim, List, [], ◌∷◌, length, length-append, get_or, sym, refl, ap, ◌∙◌, subst, arith}
 use Rattle.xa_base.proofs.{list_any, range_with_len, ints, +ℤ_idl as none_plus, +ℤ_idr as plus_none, contains_at, range_all, got, total_alike, total_both}
-use Rattle.xa_base.proofs.{total_nothing}
+use Rattle.xa_base.proofs.{total_nothing, All-contains}
 use Rattle.xa_base.specs.{Begins, total}
 use Rattle.xa_words.specs.{XidName, Request}
 use Rattle.xa_words.specs.declared.code.Code.{Code}
@@ -22,7 +22,6 @@ use Rattle.xa_desk.proofs.Growth.{growing_on, same_lists}
 use Rattle.xa_switch.specs.{Plan, IsSoundManager, IsSettled, sent, IsOpenedWith, ledgers_of, history, threads_of, managers_of, accounts_in, accounts_of}
 use Rattle.xa_switch.specs.{plan_worth, settled_worth, moved_by, WorthIsOfThreads}
 use Rattle.xa_switch.specs.Settling.{Settling}
-use Rattle.xa_switch.proofs.Lists.{all_contains}
 use Rattle.xa_log.specs.{LogState}
 use Rattle.xa_atomicity.specs.{EachOutcome, AreLeftAlone, has_committed, is_rolled_back, is_in_doubt, is_heuristic, is_left, is_read_only, sent_so_far}
 use Rattle.xa_atomicity.specs.{taken_before, added_before, added_by_all, total_in_doubt, held_in_doubt, OnlyTransfers, opened, worked, committed}
@@ -80,7 +79,7 @@ module _ (law : Tabled) (opens : (s : Settling) (m : ℕ) → IsSettled s → (T
   sound_at m positive below =
       let (plan, planned) = got p.managers.items (m - 1) (omega (arith, positive, below)) in
       ap (λ o. are_accounts (accounts_in o)) planned
-      ∙ all_contains IsSoundManager p.managers.items plan sound (contains_at p.managers.items (m - 1) plan planned)
+      ∙ All-contains IsSoundManager p.managers.items plan sound (contains_at p.managers.items (m - 1) plan planned)
 
   -- what the thread's requests with numbers from a to below b moved at manager m
   abbrev moved_in : ℕ → ℕ → ℕ → ℤ

@@ -26,7 +26,7 @@ use Rattle.xa_work.specs.{WorkOutcome}
 use Rattle.xa_bank.specs.{Teller}
 use Rattle.xa_bank_days.specs.{AreReadBack, AreToldAll, BeginsWith, IsDawn, IsDayOf, IsNamed, IsReadBack, IsResolvedBy, records_of}
 use Rattle.xa_bank_days.proofs.Back.{as_many, back_at}
-use Rattle.xa_days.proofs.AtWork.{opening_free}
+use Rattle.xa_tables.proofs.Law.{opening_free}
 use Rattle.xa_days.proofs.Calls.{outcome_named}
 use Rattle.xa_bank_days.proofs.Keeps.{IsNamedFrom, each_keeps, made_most, named_from}
 use Rattle.xa_bank_days.proofs.Out.{only_one}

@@ -24,7 +24,7 @@ use Rattle.xa_atomicity.proofs.Naming.{named_so, named_tran}
 use Rattle.xa_atomicity.proofs.NextOpening.{scan_of}
 use Rattle.xa_atomicity.proofs.Resolves.{outcome_left}
 use Rattle.xa_days.specs.{Leg, counted, CommitsAmong, IsSettledDay}
-use Rattle.xa_days.proofs.AtWork.{opening_free}
+use Rattle.xa_tables.proofs.Law.{opening_free}
 use Rattle.xa_days.proofs.InARow.{settled_law}
 use Rattle.xa_words.proofs.Xids.{xid_self}
 use Rattle.xa_bank.specs.{Teller}
