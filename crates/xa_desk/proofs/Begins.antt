@@ -1,5 +1,5 @@
 -- A book made of parts with which nothing was done.
-use Rattle.xa_base.proofs.{◌≡◌, ◌*◌, ℕ, Bool, List, [], ◌∷◌, length, Option, None, replicate, refl, ap, ◌∙◌, length-map}
+use Rattle.xa_base.proofs.{arith, ◌≡◌, ◌*◌, ℕ, Bool, List, [], ◌∷◌, length, Option, None, replicate, refl, ap, ◌∙◌, length-map}
 use Rattle.slab.specs.Slab.{Slab}
 use Rattle.xa_words.specs.{Request, Completion}
 use Rattle.xa_lane.specs.{Sending, Receiving}
@@ -37,14 +37,4 @@ module _ (t h plan : ℕ) (at : List LedgerView) (events : List Event) (table : 
   made_with = record { thread = t; handles = h; plan = plan; use_async = carried at }
 
   pub begun-new : at ≡ new_ledgers plan (carried at) → events ≡ [] → table ≡ replicate h None → drained ≡ [] → begun ≡ new_desk made_with requests r
-  begun-new new nothing empty none = λ i. record {
-    thread = t;
-    handles = h;
-    ledgers = new i;
-    events = nothing i;
-    kept = (ap kept_of empty ∙ kept_of-replicate h) i;
-    drained = none i;
-    drained_then = 0;
-    requests = requests;
-    completions = r;
-  }
+  begun-new new nothing empty none = grind (arith, kept_of-replicate)

@@ -1,7 +1,7 @@
 -- Each step of a desk keeps its books.
-use Rattle.xa_base.proofs.{◌≡◌, ◌≢◌, ℕ, suc, ◌+◌, ◌-◌, ◌<◌, ◌⊎◌, Bool, true, false, cond, nat_eq, is_some, List, [], ◌∷◌, ◌++◌, length, Option, Some, None}
-use Rattle.xa_base.proofs.{get_or, sym, refl, ap, ◌∙◌, subst, inl, inr, arith, length-append, get_or-set_same, get_or-set_other, cases_eq, cases_lt, cases_Bool}
-use Rattle.xa_base.proofs.{false≢true, false_from_ne_true, and_parts, eqb-true, eq-eqb}
+use Rattle.xa_base.proofs.{◌≡◌, ◌≢◌, ℕ, suc, ◌+◌, ◌-◌, ◌<◌, ◌⊎◌, true, cond, nat_eq, is_some, List, [], ◌∷◌, ◌++◌, length, Option, Some, None, get_or, sym}
+use Rattle.xa_base.proofs.{refl, ap, ◌∙◌, subst, inl, inr, arith, length-append, get_or-set_same, get_or-set_other, cases_eq, cases_lt, cases_Bool, false≢true}
+use Rattle.xa_base.proofs.{false_from_ne_true, option_or, and_parts, eqb-true, eq-eqb}
 use Rattle.std.proofs.lemmas.List.{get_or_past}
 use Rattle.std.proofs.lemmas.List.Sums.{sum_by-set}
 use Rattle.std.proofs.lemmas.Bool.{and_from}
@@ -18,37 +18,30 @@ use Rattle.xa_desk.proofs.Ledgers.{collected_known, collected_out, collected_kee
 module _ (s t : Slab Slot) (key : ℕ) where
   -- a value found after a change is the new one, or was there
   pub found_cases : (x : Slot) → Updates s t key (Some x) → (k : ℕ) (y : Slot) → get t k ≡ Some y → ((k ≡ key) × (x ≡ y)) ⊎ ((k ≢ key) × (get s k ≡ Some y))
-  found_cases x u k y found =
-      elim (cases_eq k key) [
-        | inl same ↦ let e : Some x ≡ Some y = sym u.changed ∙ ap (get t) (sym same) ∙ found in inl (same, cc)
-        | inr differs ↦ inr (differs, sym (u.others k differs) ∙ found)
-      ]
+  found_cases x u k y found = grind (arith, cases_eq)
 
   pub found_still : (o : Option Slot) → Updates s t key o → (k : ℕ) (y : Slot) → k ≢ key → get s k ≡ Some y → get t k ≡ Some y
   found_still o u k y differs found = u.others k differs ∙ found
 
   pub found_before : Updates s t key None → (k : ℕ) (y : Slot) → get t k ≡ Some y → (k ≢ key) × (get s k ≡ Some y)
-  found_before u k y found =
-      elim (cases_eq k key) [
-        | inl same ↦ let e : None ≡ Some y = sym u.changed ∙ ap (get t) (sym same) ∙ found in absurd cc
-        | inr differs ↦ (differs, sym (u.others k differs) ∙ found)
-      ]
+  found_before u k y found = grind (arith, cases_eq)
 
   pub ready_count-changed : (o : Option Slot) → Updates s t key o → ready_count t + ready_weight (get s key) ≡ ready_count s + ready_weight o
-  ready_count-changed o u =
-      let e : ready_count t + ready_weight (get s key) ≡ ready_count s + ready_weight (get t key) =
-      sum_by-changed ready_weight refl s.slots t.slots key u.others in
-      e ∙ ap (λ x. ready_count s + ready_weight x) u.changed
+  ready_count-changed o u = grind (arith, sum_by-changed)
 
 pub key_apart : (s : Slab Slot) (key k : ℕ) (y : Slot) → get s key ≡ None → get s k ≡ Some y → k ≢ key
 key_apart s key k y none found e = let no : None ≡ Some y = sym none ∙ ap (get s) (sym e) ∙ found in cc
+
+-- the slot of an operation that was sent
+abbrev pub fresh_slot : Operation → Slot
+fresh_slot o = record { operation = o; code = None; handle = 0 }
 
 -- sending
 
 module _ (at : List LedgerView) (m : ℕ) (op : Op) (known : IsKnown at m) (s t : Slab Slot) (key : ℕ) (table : List (Option Operation))
     (drained : List Completion) where
-  abbrev pub fresh : Slot
-  fresh = record { operation = sent_now at m op known; code = None; handle = 0 }
+  abbrev fresh : Slot
+  fresh = fresh_slot (sent_now at m op known)
 
   pub books_sent : IsBooks at s table drained → length (ledger at m).sent < (ledger at m).plan → get s key ≡ None → Updates s t key (Some fresh)
       → slab_len t ≡ slab_len s + 1 → IsBooks (after_sent at m op) t table drained
@@ -109,51 +102,29 @@ same_slot s key k x y fx fy e = let both : Some y ≡ Some x = sym fy ∙ ap (ge
 -- draining
 
 module _ (o : Operation) where
-  code_or : Option Code → Option Code → Option Code
-  code_or None other = other
-  code_or (Some code) other = Some code
-
-  push_past : (b : Bool) (code : Code) (r z : Option Code) → cond b (Some code) (code_or r z) ≡ code_or (cond b (Some code) r) z
-  unfolding code_or
-  push_past true code r z = refl
-  push_past false code r z = refl
-
-  drained_code-append : (cs : List Completion) (c : Completion) → drained_code o (cs ++ c ∷ []) ≡ code_or (drained_code o cs) (drained_code o (c ∷ []))
-  unfolding code_or
+  drained_code-append : (cs : List Completion) (c : Completion) → drained_code o (cs ++ c ∷ []) ≡ option_or (drained_code o cs) (drained_code o (c ∷ []))
   drained_code-append [] c = refl
-  drained_code-append (d ∷ cs) c =
-      ap (λ r. cond (names o d) (Some d.code) r) (drained_code-append cs c) ∙ push_past (names o d) d.code (drained_code o cs) (drained_code o (c ∷ []))
+  drained_code-append (d ∷ cs) c = grind (arith, drained_code-append cs c, option_or)
 
-  or_nothing : (x : Option Code) → code_or x None ≡ x
-  unfolding code_or
-  or_nothing None = refl
-  or_nothing (Some x) = refl
+  or_nothing : (x : Option Code) → option_or x None ≡ x
+  or_nothing x = grind arith
 
   names-true : (c : Completion) → names o c ≡ true → o ≡ operation_of c
-  names-true c e =
-      let parts : (nat_eq o.manager c.manager ≡ true) × (nat_eq o.number c.number ≡ true) =
-      and_parts (nat_eq o.manager c.manager) (nat_eq o.number c.number) e in
-      same_operation o (operation_of c) (eqb-true o.manager c.manager parts.0) (eqb-true o.number c.number parts.1)
+  names-true c e = grind (arith, nat_eq, and_parts, same_operation, eqb-true)
 
   names-same : (c : Completion) → o ≡ operation_of c → names o c ≡ true
-  names-same c e =
-      and_from (nat_eq o.manager c.manager) (nat_eq o.number c.number) (eq-eqb o.manager c.manager (ap (λ (q : Operation). q.manager) e)) (eq-eqb o.number c.number (ap (λ (q : Operation). q.number) e))
+  names-same c e = grind (arith, and_from, nat_eq, eq-eqb)
 
   pub drained_code-push_other : (cs : List Completion) (c : Completion) → o ≢ operation_of c → drained_code o (cs ++ c ∷ []) ≡ drained_code o cs
-  drained_code-push_other cs c differs =
-      let no : names o c ≡ false = false_from_ne_true (names o c) (λ e. differs (names-true c e)) in
-      drained_code-append cs c ∙ ap (λ b. code_or (drained_code o cs) (cond b (Some c.code) None)) no ∙ or_nothing (drained_code o cs)
+  drained_code-push_other cs c differs = grind (arith, false_from_ne_true, names-true, drained_code-append, option_or, or_nothing)
 
   pub drained_code-push_first : (cs : List Completion) (c : Completion) → o ≡ operation_of c → drained_code o cs ≡ None
       → drained_code o (cs ++ c ∷ []) ≡ Some c.code
-  unfolding code_or
-  drained_code-push_first cs c same none =
-      drained_code-append cs c ∙ ap (λ x. code_or x (drained_code o (c ∷ []))) none ∙ ap (λ b. cond b (Some c.code) None) (names-same c same)
+  drained_code-push_first cs c same none = grind (arith, drained_code-append, option_or, names-same)
 
   pub drained_code-push_again : (cs : List Completion) (c : Completion) (code : Code) → drained_code o cs ≡ Some code
       → drained_code o (cs ++ c ∷ []) ≡ Some code
-  unfolding code_or
-  drained_code-push_again cs c code some = drained_code-append cs c ∙ ap (λ x. code_or x (drained_code o (c ∷ []))) some
+  drained_code-push_again cs c code some = drained_code-append cs c ∙ ap (λ x. option_or x (drained_code o (c ∷ []))) some
 
 -- the slot at a key changes its code or its handle, and keeps its operation
 module _ (at : List LedgerView) (s t : Slab Slot) (key : ℕ) (slot x : Slot) (table : List (Option Operation)) (drained : List Completion)
@@ -179,10 +150,7 @@ module _ (at : List LedgerView) (s t : Slab Slot) (key : ℕ) (slot x : Slot) (t
   ]
 
   pub changed_one : (j k : ℕ) (y z : Slot) → get t j ≡ Some y → get t k ≡ Some z → y.operation ≡ z.operation → j ≡ k
-  changed_one j k y z fy fz e =
-      let p = changed_back j y fy in
-      let q = changed_back k z fz in
-      b.one_slot j k p.0 q.0 p.1.0 q.1.0 (p.1.1 ∙ e ∙ sym q.1.1)
+  changed_one j k y z fy fz e = grind (arith, changed_back)
 
   -- another slot has another operation
   pub changed_apart : (k : ℕ) (y : Slot) → k ≢ key → get s k ≡ Some y → y.operation ≢ slot.operation

@@ -1,6 +1,6 @@
 -- How many slots, numbers and drained completions there can be.
-use Rattle.xa_base.proofs.{◌≡◌, ℕ, zero, suc, ◌+◌, ◌-◌, ◌<◌, ◌≤◌, Bool, true, false, cond, is_some, List, [], ◌∷◌, length, Option, Some, None, get_or, set}
-use Rattle.xa_base.proofs.{refl, ap, ◌∙◌, inl, inr, arith, le-leb, eq-eqb, ne_eqb, false≢true, cases_Bool}
+use Rattle.xa_base.proofs.{◌≡◌, ℕ, zero, suc, ◌+◌, ◌-◌, ◌<◌, ◌≤◌, Bool, cond, is_some, List, [], ◌∷◌, length, Option, Some, None, get_or, set, refl, ap, ◌∙◌}
+use Rattle.xa_base.proofs.{inl, inr, arith, le-leb, eq-eqb, ne_eqb, is_there, cases_Bool}
 use Rattle.std.proofs.Common.{leb, eqb, IsSome, sum_by}
 use Rattle.std.proofs.lemmas.List.Sums.{sum_by-set, sum_by-cons, sum_by-le-sum_by, get_or-le-sum_by}
 use Rattle.std.proofs.lemmas.Bool.{cases_order, lt-leb}
@@ -21,26 +21,17 @@ sum_by-within f g h d (x ∷ xs) each =
     let rest : sum_by f xs + sum_by g xs ≤ sum_by h xs = sum_by-within f g h d xs (λ i below. each (suc i) (omega arith)) in
     omega (arith, sum_by-cons f x xs, sum_by-cons g x xs, sum_by-cons h x xs)
 
-sum_by-parts : {A : Type 0} (f g h : A → ℕ) (xs : List A) → ((x : A) → f x + g x ≤ h x) → sum_by f xs + sum_by g xs ≤ sum_by h xs
-sum_by-parts f g h [] each = omega arith
-sum_by-parts f g h (x ∷ xs) each =
-    let first : f x + g x ≤ h x = each x in
-    let rest : sum_by f xs + sum_by g xs ≤ sum_by h xs = sum_by-parts f g h xs each in
-    omega (arith, sum_by-cons f x xs, sum_by-cons g x xs, sum_by-cons h x xs)
-
 abbrev code_weight : Option Code → ℕ
 code_weight x = cond (is_some x) 1 0
 
 abbrev there_weight : Option Slot → ℕ
 there_weight x = cond (is_some x) 1 0
 
-ready-le-there : (x : Option Slot) → ready_weight x ≤ cond (is_some x) 1 0
-ready-le-there None = omega arith
-ready-le-there (Some slot) = at_most slot.code
-  where
-    at_most : {A : Type 0} (o : Option A) → cond (is_some o) 1 0 ≤ 1
-    at_most None = omega arith
-    at_most (Some a) = omega arith
+at_most_one : (b : Bool) → cond b 1 0 ≤ 1
+at_most_one b = grind arith
+
+ready-le-there : (x : Option Slot) → ready_weight x ≤ there_weight x
+ready-le-there x = grind (arith, at_most_one, is_some)
 
 -- a slot that waits leaves room in the list of drained completions
 pub drained-lt-planned : (at : List LedgerView) (s : Slab Slot) (table : List (Option Operation)) (drained : List Completion) (key : ℕ) (slot : Slot)
@@ -78,21 +69,11 @@ module _ where
 
   one_more : (n : ℕ) (x : Option Slot) → up_to n x + just (suc n) x ≤ up_to (suc n) x
   unfolding up_to just
-  one_more n None = omega arith
-  one_more n (Some slot) = elim (cases_order slot.handle (suc n)) [
-    | inl same ↦ rw (lt-leb slot.handle n (omega arith), eq-eqb slot.handle (suc n) same, le-leb slot.handle (suc n) (omega arith)) (omega arith)
-    | inr (inl below) ↦ rw (le-leb slot.handle n (omega arith), ne_eqb slot.handle (suc n) (λ e. absurd (omega arith)), le-leb slot.handle (suc n) (omega arith)) (omega arith)
-    | inr (inr above) ↦ rw (lt-leb slot.handle n (omega arith), ne_eqb slot.handle (suc n) (λ e. absurd (omega arith)), lt-leb slot.handle (suc n) above) (omega arith)
-  ]
+  one_more n x = grind (arith, cases_order, lt-leb, eq-eqb, le-leb, ne_eqb)
 
   all_there : (n : ℕ) (x : Option Slot) → up_to n x ≤ cond (is_some x) 1 0
   unfolding up_to
-  all_there n None = omega arith
-  all_there n (Some slot) = at_most (leb slot.handle n)
-    where
-      at_most : (b : Bool) → cond b 1 0 ≤ 1
-      at_most true = omega arith
-      at_most false = omega arith
+  all_there n x = grind (arith, at_most_one)
 
   found_one : (f : Option Slot → ℕ) (s : Slab Slot) (key : ℕ) (slot : Slot) → get s key ≡ Some slot → f (Some slot) ≡ 1 → 1 ≤ sum_by f s.slots
   found_one f s key slot there one =
@@ -110,7 +91,7 @@ module _ where
       let one : 1 ≤ sum_by (just (suc n)) s.slots =
       found_one (just (suc n)) s h.key h.slot h.found (ap (λ b. cond b 1 0) (eq-eqb h.slot.handle (suc n) h.handle)) in
       let step : sum_by (up_to n) s.slots + sum_by (just (suc n)) s.slots ≤ sum_by (up_to (suc n)) s.slots =
-      sum_by-parts (up_to n) (just (suc n)) (up_to (suc n)) s.slots (one_more n) in
+      sum_by-within (up_to n) (just (suc n)) (up_to (suc n)) None s.slots (λ i _. one_more n (get s i)) in
       omega arith
 
 pub numbers-lt-slots : (s : Slab Slot) (key : ℕ) (slot : Slot) → get s key ≡ Some slot → slot.handle ≡ 0 → (n : ℕ)
@@ -126,12 +107,8 @@ pub free_place : (at : List LedgerView) (s : Slab Slot) (table : List (Option Op
     → ((k : ℕ) → k < n → IsSome (get_or table k None)) → n < length table
 free_place at s table drained key slot b there loose fits n within taken =
     let below : n < slab_len s =
-    numbers-lt-slots s key slot there loose n (λ k under. let o = some_is (get_or table k None) (taken k under) in (o.0, b.tabled k o.0 o.1)) in
+    numbers-lt-slots s key slot there loose n (λ k under. let o = is_there (get_or table k None) (taken k under) in (o.0, b.tabled k o.0 o.1)) in
     omega arith
-  where
-    some_is : (x : Option Operation) → IsSome x → (o : Operation) × (x ≡ Some o)
-    some_is None h = absurd (false≢true h)
-    some_is (Some o) h = (o, refl)
 
 -- where nothing is outstanding, every request was collected
 pub nothing_open : (at : List LedgerView) (s : Slab Slot) (table : List (Option Operation)) (drained : List Completion) → IsBooks at s table drained

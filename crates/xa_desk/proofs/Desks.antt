@@ -1,22 +1,20 @@
 -- Which calls a desk doesn't refuse, and that a desk stays one.
-use Rattle.xa_base.proofs.{◌≡◌, ◌≤◌, ◌<◌, ◌+◌, ℕ, Bool, true, false, not, cond, List, length, Option, Some, None, sym, ◌∙◌, refl, ap, subst, arith, option_or}
+use Rattle.xa_base.proofs.{◌≡◌, ◌≤◌, ◌<◌, ◌+◌, ℕ, Bool, false, not, cond, List, length, Option, Some, None, sym, ◌∙◌, refl, ap, subst, arith, option_or}
 use Rattle.xa_base.proofs.{not-false, and_parts}
 use Rattle.std.proofs.Common.{leb}
 use Rattle.std.proofs.lemmas.Bool.{leb-true, leb-false}
 use Rattle.xa_words.specs.{Op}
 use Rattle.xa_desk.specs.LedgerView.{LedgerView}
-use Rattle.xa_desk.specs.{learnt_shut, IsKnown, is_known, ledger, outstanding, reach_refusal, handle_refusal, spent_refusal, room_refusal, call_refusal, IsDesk}
-use Rattle.xa_desk.specs.{submitted, after_full, after_fulls, NoSuchManager, Shut, TooMany}
+use Rattle.xa_desk.specs.{learnt_shut, IsKnown, is_known, ledger, outstanding, reach_refusal, spent_refusal, room_refusal, call_refusal, IsDesk, submitted}
+use Rattle.xa_desk.specs.{after_full, after_fulls, NoSuchManager, Shut}
 use Rattle.xa_desk.specs.DeskView.{DeskView}
 use Rattle.xa_desk.proofs.Ties.{tied_full, tied_fulls, tied_submitted, fulls_alike}
 
 unless : {A : Type 0} (b : Bool) (x : A) (r : Option A) → None ≡ cond b (Some x) r → (b ≡ false) × (None ≡ r)
-unless true x r e = absurd (cc)
-unless false x r e = (refl, e)
+unless b x r e = grind arith
 
 neither : {A : Type 0} (a b : Option A) → None ≡ option_or a b → (None ≡ a) × (None ≡ b)
-neither None b e = (refl, e)
-neither (Some x) b e = absurd (cc)
+neither a b e = grind arith
 
 known_from : (at : List LedgerView) (m : ℕ) → not (is_known at m) ≡ false → IsKnown at m
 known_from at m e =
@@ -28,9 +26,7 @@ reaches d m e = known_from d.ledgers m (unless (not (is_known d.ledgers m)) NoSu
 
 -- where the manager is reached, a request that isn't refused has a handle
 room_free : (d : DeskView) (m : ℕ) → None ≡ room_refusal d m → outstanding d.ledgers < d.handles
-room_free d m e =
-    let has_handle = neither (handle_refusal d) (spent_refusal d m) e in
-    leb-false d.handles (outstanding d.ledgers) (unless (leb d.handles (outstanding d.ledgers)) TooMany None has_handle.0).0
+room_free d m e = grind (arith, neither, leb-false, unless)
 
 pub call_known : (d : DeskView) (m : ℕ) → None ≡ call_refusal d m → IsKnown d.ledgers m
 call_known d m e = reaches d m (neither (reach_refusal d m) (spent_refusal d m) e).0

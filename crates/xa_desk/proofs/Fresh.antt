@@ -23,15 +23,11 @@ fresh_collected requests (b ∷ bs) (suc i) = fresh_collected requests bs i
 
 pub nothing_out : (requests : ℕ) (use_async : List Bool) → outstanding (new_ledgers requests use_async) ≡ 0
 nothing_out requests [] = refl
-nothing_out requests (b ∷ bs) =
-    let rest : outstanding (new_ledgers requests bs) ≡ 0 = nothing_out requests bs in
-    omega (arith, sum_by-cons (λ (a : LedgerView). length a.sent - length a.collected) (new_ledger b requests) (new_ledgers requests bs))
+nothing_out requests (b ∷ bs) = grind (arith, nothing_out requests bs, sum_by-cons)
 
 nothing_collected : (requests : ℕ) (use_async : List Bool) → collected_total (new_ledgers requests use_async) ≡ 0
 nothing_collected requests [] = refl
-nothing_collected requests (b ∷ bs) =
-    let rest : collected_total (new_ledgers requests bs) ≡ 0 = nothing_collected requests bs in
-    omega (arith, sum_by-cons (λ (a : LedgerView). length a.collected) (new_ledger b requests) (new_ledgers requests bs))
+nothing_collected requests (b ∷ bs) = grind (arith, nothing_collected requests bs, sum_by-cons)
 
 pub planned-new : (requests : ℕ) (use_async : List Bool) → planned_total (new_ledgers requests use_async) ≡ requests * length use_async
 planned-new requests [] = grind arith

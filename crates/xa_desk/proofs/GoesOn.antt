@@ -1,6 +1,6 @@
 -- A desk goes on by its calls.
-use Rattle.xa_base.proofs.{◌≡◌, ℕ, zero, suc, ◌-◌, ◌^◌, ◌≤◌, List, [], ◌∷◌, ◌++◌, length, map, Option, Some, None, IfSome, sym, refl, ◌∙◌, subst, arith}
-use Rattle.xa_base.proofs.{nat_cmp, same_begins, begins_on}
+use Rattle.xa_base.proofs.{◌≡◌, ◌≢◌, ℕ, zero, suc, ◌-◌, ◌^◌, ◌≤◌, List, [], ◌∷◌, ◌++◌, length, map, Option, Some, None, IfSome, sym, refl, ap, ◌∙◌, subst}
+use Rattle.xa_base.proofs.{arith, nat_cmp, same_begins, begins_on}
 use Rattle.std.proofs.Common.{IsNone}
 use Rattle.std.proofs.Math.Nat.{min-le_left, min-le_right, le-min}
 use Rattle.std.proofs.Math.Seq.{map-set_same}
@@ -11,13 +11,16 @@ use Rattle.xa_lane.specs.{Taken, Item, EndOf, Empty, Sending, Receiving, parcel,
 use Rattle.xa_lane.proofs.Senders.{map-at_place, map-alike}
 use Rattle.xa_desk.specs.{Operation, with_sent, with_collected, ledger, no_ledger, put_ledger, completed, Event, EndedView, Ends, next_request, submitted}
 use Rattle.xa_desk.specs.{after_full, after_fulls, Drains, first, other, Draws, Pops, start, drawn, EndsQuiet, Collects, CollectsKept, CollectsLeast, TakesKept}
-use Rattle.xa_desk.specs.{GoesOut, plan_of, plans, HaveGrown}
+use Rattle.xa_desk.specs.{GoesOut, plan_of, plans, HaveGrown, TicketView, Owns, IsOut, IsDesk, outstanding, drained_code}
 use Rattle.xa_desk.specs.LedgerView.{LedgerView}
 use Rattle.xa_desk.specs.DeskView.{DeskView}
 use Rattle.xa_desk.specs.Looks.{Looks}
 use Rattle.xa_base.specs.{Begins}
 use Rattle.xa_desk.specs.GoesOn.{GoesOn}
 use Rattle.xa_desk.proofs.Growth.{same_lists, growing_on, sending_grows, collecting_grows}
+use Rattle.xa_desk.proofs.Ledgers.{collected_keeps_out}
+use Rattle.xa_desk.proofs.Ties.{tied_looks, tied_collected}
+use Rattle.xa_desk.proofs.Looks.{looks_outstanding, looking_leaves, quiet_looks, freed_loose}
 
 -- ---- counts of quiet moments
 
@@ -141,28 +144,106 @@ pub goes_looking : (old new : DeskView) → Looks old new → GoesOn old new
 goes_looking old new l = goes_popped old new l.pops
 
 pub goes_quiet : (old new : DeskView) → EndsQuiet old new → GoesOn old new
-goes_quiet old new q = goes_further old q.before new (goes_looking old q.before q.looks) (goes_drawn q.before new Empty q.quiet)
+goes_quiet old new q = goes_looking old new (quiet_looks old new q)
 
--- ---- collecting and keeping
+-- ---- looking and collecting
 
-goes_collected : (d : DeskView) (o : Operation) (code : Code) (kept : finmap.FinMap nat_cmp Operation) → GoesOn d (record (completed d o code) { kept = kept })
-goes_collected d o code kept =
-    goes_with d d.requests (completed d o code).ledgers (completed d o code).events kept refl
-    (put_plans d.ledgers o.manager (with_collected (ledger d.ledgers o.manager) o.number code) refl)
-    (collecting_grows d.ledgers o code)
+-- the desk goes on, no more is outstanding than was, the ledgers go on saying what the lanes do, and each of these tickets
+-- that was owned still is
+pub record Stays (old new : DeskView) (left : TicketView → Type 0) : Type 0 where
+  pub goes_on : GoesOn old new
+  pub fewer : outstanding new.ledgers ≤ outstanding old.ledgers
+  pub tied : IsDesk old → IsDesk new
+  pub tickets : (t : TicketView) → Owns old t → left t → Owns new t
+
+-- any ticket, and each that isn't of the operation
+abbrev pub any_one : TicketView → Type 0
+any_one t = Unit
+
+abbrev pub not_of : Operation → TicketView → Type 0
+not_of o t = t.operation ≢ o
+
+-- so it stays a desk
+pub desk_stays : (old new : DeskView) (left : TicketView → Type 0) → Stays old new left → (outstanding old.ledgers ≤ old.handles) × IsDesk old
+    → (outstanding new.ledgers ≤ new.handles) × IsDesk new
+desk_stays old new left s was = (let h = s.goes_on.handles in let f = s.fewer in let w = was.0 in omega arith, s.tied was.1)
+
+pub looks_stays : (old new : DeskView) (left : TicketView → Type 0) → Looks old new → Stays old new left
+looks_stays old new left l = record {
+  goes_on = goes_looking old new l;
+  fewer = let same = looks_outstanding old new l in omega arith;
+  tied = tied_looks old new l;
+  tickets = λ t owned _. looking_leaves old new l t owned;
+}
+
+stays_chain : (a b c : DeskView) (left : TicketView → Type 0) → Stays a b any_one → Stays b c left → Stays a c left
+stays_chain a b c left x y = record {
+  goes_on = goes_further a b c x.goes_on y.goes_on;
+  fewer = let p = x.fewer in let q = y.fewer in omega arith;
+  tied = λ b. y.tied (x.tied b);
+  tickets = λ t owned. y.tickets t (x.tickets t owned tt);
+}
+
+-- an outstanding operation is collected, and perhaps its number is free
+completed_stays : (d new : DeskView) (o : Operation) (code : Code) (kept : finmap.FinMap nat_cmp Operation) (left : TicketView → Type 0)
+    → IsOut d.ledgers o → drained_code o d.drained ≡ Some code → new ≡ record (completed d o code) { kept = kept }
+    → outstanding new.ledgers ≤ outstanding d.ledgers
+    → ((t : TicketView) → Owns d t → left t → (t.operation ≢ o) × ((k : ℕ) → finmap.get kept k ≢ Some t.operation)) → Stays d new left
+completed_stays d new o code kept left out drained is fewer each = subst (λ (x : DeskView). Stays d x left) (sym is) (record {
+  goes_on = goes_with d d.requests (completed d o code).ledgers (completed d o code).events kept refl
+      (put_plans d.ledgers o.manager (with_collected (ledger d.ledgers o.manager) o.number code) refl) (collecting_grows d.ledgers o code);
+  fewer = rw is at fewer;
+  tied = tied_collected d o code out.known drained;
+  tickets = λ t owned l. record {
+    opening = owned.opening;
+    thread = owned.thread;
+    out = collected_keeps_out d.ledgers o code out.known t.operation owned.out (each t owned l).0;
+    loose = (each t owned l).1;
+  };
+})
+
+pub collects_stays : (old new : DeskView) (o : Operation) (code : Code) → Collects old new o code → Stays old new (not_of o)
+collects_stays old new o code x =
+    let same = looks_outstanding old x.before x.looks in
+    let fewer = x.fewer in
+    stays_chain old x.before new (not_of o) (looks_stays old x.before any_one x.looks)
+    (completed_stays x.before new o code x.before.kept (not_of o) x.out x.drained x.collected (omega arith) (λ t owned differs. (differs, owned.loose)))
+
+-- an operation that was kept has no ticket
+takes_stays : (old new : DeskView) (number : ℕ) (code : Code) → TakesKept old new number code → Stays old new any_one
+takes_stays old new number code x =
+    let fewer = x.fewer in
+    completed_stays old new x.operation code (finmap.remove old.kept number) any_one x.out x.drained x.taken (omega arith)
+    (λ t owned _. (λ same. owned.loose number (x.kept ∙ ap Some (sym same)), freed_loose old number t.operation owned.loose))
+
+pub kept_stays : (old new : DeskView) (number : ℕ) (code : Code) → CollectsKept old new number code → Stays old new any_one
+kept_stays old new number code x =
+    stays_chain old x.before new any_one (looks_stays old x.before any_one x.looks) (takes_stays x.before new number code x.takes)
+
+pub least_stays : (old new : DeskView) (m number : ℕ) (code : Code) → CollectsLeast old new m number code → Stays old new any_one
+least_stays old new m number code x =
+    stays_chain old x.before new any_one (looks_stays old x.before any_one (quiet_looks old x.before x.quiet)) (takes_stays x.before new number code x.takes)
+
+-- a call may find nothing
+either_stays : {A : Type 0} (old new : DeskView) (left : TicketView → Type 0) (P : A → Type 0) → ((a : A) → P a → Stays old new left)
+    → (r : Option A) → IfSome r P → (IsNone r → EndsQuiet old new) → Stays old new left
+either_stays old new left P each None some none = looks_stays old new left (quiet_looks old new (none refl))
+either_stays old new left P each (Some a) some none = each a some
+
+pub tried_stays : (old new : DeskView) (o : Operation) (r : Option Code) → IfSome r (Collects old new o) → (IsNone r → EndsQuiet old new)
+    → Stays old new (not_of o)
+tried_stays old new o = either_stays old new (not_of o) (Collects old new o) (collects_stays old new o)
+
+pub tried_kept_stays : (old new : DeskView) (k : ℕ) (r : Option Code) → IfSome r (CollectsKept old new k) → (IsNone r → EndsQuiet old new)
+    → Stays old new any_one
+tried_kept_stays old new k = either_stays old new any_one (CollectsKept old new k) (kept_stays old new k)
+
+pub tried_any_stays : (old new : DeskView) (m : ℕ) (r : Option (ℕ × Code)) → IfSome r (λ p. CollectsLeast old new m p.0 p.1)
+    → (IsNone r → EndsQuiet old new) → Stays old new any_one
+tried_any_stays old new m = either_stays old new any_one (λ p. CollectsLeast old new m p.0 p.1) (λ p. least_stays old new m p.0 p.1)
 
 pub goes_collecting : (old new : DeskView) (o : Operation) (code : Code) → Collects old new o code → GoesOn old new
-goes_collecting old new o code x =
-    goes_further old x.before new (goes_looking old x.before x.looks) (subst (GoesOn x.before) (sym x.collected) (goes_collected x.before o code x.before.kept))
-
-goes_taking : (old new : DeskView) (k : ℕ) (code : Code) → TakesKept old new k code → GoesOn old new
-goes_taking old new k code t = subst (GoesOn old) (sym t.taken) (goes_collected old t.operation code (finmap.remove old.kept k))
-
-pub goes_collecting_kept : (old new : DeskView) (k : ℕ) (code : Code) → CollectsKept old new k code → GoesOn old new
-goes_collecting_kept old new k code x = goes_further old x.before new (goes_looking old x.before x.looks) (goes_taking x.before new k code x.takes)
-
-pub goes_collecting_least : (old new : DeskView) (m k : ℕ) (code : Code) → CollectsLeast old new m k code → GoesOn old new
-goes_collecting_least old new m k code x = goes_further old x.before new (goes_quiet old x.before x.quiet) (goes_taking x.before new k code x.takes)
+goes_collecting old new o code x = (collects_stays old new o code x).goes_on
 
 -- what a call sent, where lanes may have been full before, was collected
 pub goes_called : (n : ℕ) (old sent new : DeskView) (m : ℕ) (op : Op) (o : Operation) (code : Code) → sent ≡ submitted (after_fulls n old m) m op
@@ -170,21 +251,6 @@ pub goes_called : (n : ℕ) (old sent new : DeskView) (m : ℕ) (op : Op) (o : O
 goes_called n old sent new m op o code e x =
     let full : DeskView = after_fulls n old m in
     goes_further old full new (goes_fulls n old m) (goes_further full sent new (goes_submitted full sent m op e) (goes_collecting sent new o code x))
-
--- ---- calls that may find nothing
-
-pub goes_trying : (old new : DeskView) (o : Operation) (r : Option Code) → IfSome r (Collects old new o) → (IsNone r → EndsQuiet old new) → GoesOn old new
-goes_trying old new o None some none = goes_quiet old new (none refl)
-goes_trying old new o (Some code) some none = goes_collecting old new o code some
-
-pub goes_trying_kept : (old new : DeskView) (k : ℕ) (r : Option Code) → IfSome r (CollectsKept old new k) → (IsNone r → EndsQuiet old new) → GoesOn old new
-goes_trying_kept old new k None some none = goes_quiet old new (none refl)
-goes_trying_kept old new k (Some code) some none = goes_collecting_kept old new k code some
-
-pub goes_trying_any : (old new : DeskView) (m : ℕ) (r : Option (ℕ × Code)) → IfSome r (λ p. CollectsLeast old new m p.0 p.1) → (IsNone r → EndsQuiet old new)
-    → GoesOn old new
-goes_trying_any old new m None some none = goes_quiet old new (none refl)
-goes_trying_any old new m (Some p) some none = goes_collecting_least old new m p.0 p.1 some
 
 -- ---- ending
 

@@ -1,6 +1,6 @@
 -- The map that a table of kept operations is.
 use Rattle.xa_base.proofs.{◌≡◌, ◌≢◌, ℕ, zero, suc, ◌+◌, ◌-◌, ◌<◌, cond, List, [], ◌∷◌, length, Option, Some, None, IfSome, get_or, set, sym, refl, ap, ◌∙◌, inl}
-use Rattle.xa_base.proofs.{inr, arith, nat_cmp, nat_cmp_total, get_or-set_same, get_or-set_other, cases_eq, cases_lt, tied_true, tied_false}
+use Rattle.xa_base.proofs.{inr, arith, nat_cmp, nat_cmp_total, eq_by_cmp, get_or-set_same, get_or-set_other, cases_eq, cases_lt, tied_true, tied_false}
 use Rattle.std.proofs.Common.{IsSome}
 use Rattle.std.specs.FinMap as map
 use Rattle.std.proofs.lemmas.List.{get_or_past}
@@ -8,24 +8,19 @@ use Rattle.slab.specs.Slab.{Slab, get, entries_from}
 use Rattle.xa_words.specs.{Completion}
 use Rattle.xa_desk.specs.LedgerView.{LedgerView}
 use Rattle.xa_desk.specs.{Slot, Operation, IsLeastFree, kept_of, IsBooks}
-use Rattle.xa_desk.proofs.Books.{Rehandles}
+use Rattle.xa_desk.proofs.Books.{Rehandles, same_slot}
 
 find_below : (k q : ℕ) (table : List (Option Operation)) → q < k → map.find nat_cmp q (entries_from k table) ≡ None
 find_below k q [] below = refl
 find_below k q (None ∷ rest) below = find_below (k + 1) q rest (omega arith)
-find_below k q (Some o ∷ rest) below =
-    ap (λ b. cond b (Some o) (map.find nat_cmp q (entries_from (k + 1) rest))) (tied_false q k (λ e. absurd (omega arith)))
-    ∙ find_below (k + 1) q rest (omega arith)
+find_below k q (Some o ∷ rest) below = grind (arith, find_below (k + 1) q rest (omega arith), nat_cmp, tied_false)
 
 find_at : (k j : ℕ) (table : List (Option Operation)) → map.find nat_cmp (k + j) (entries_from k table) ≡ get_or table j None
 find_at k j [] = refl
 find_at k zero (None ∷ rest) = find_below (k + 1) (k + 0) rest (omega arith)
 find_at k (suc j) (None ∷ rest) = let shift : k + suc j ≡ k + 1 + j = omega arith in rw shift (find_at (k + 1) j rest)
 find_at k zero (Some o ∷ rest) = ap (λ b. cond b (Some o) (map.find nat_cmp (k + 0) (entries_from (k + 1) rest))) (tied_true (k + 0) k (omega arith))
-find_at k (suc j) (Some o ∷ rest) =
-    let shift : k + suc j ≡ k + 1 + j = omega arith in
-    ap (λ b. cond b (Some o) (map.find nat_cmp (k + suc j) (entries_from (k + 1) rest))) (tied_false (k + suc j) k (λ e. absurd (omega arith)))
-    ∙ rw shift (find_at (k + 1) j rest)
+find_at k (suc j) (Some o ∷ rest) = grind (arith, find_at (k + 1) j rest, nat_cmp, tied_false)
 
 pub get-kept_of : (table : List (Option Operation)) (j number : ℕ) → number ≡ suc j → map.get (kept_of table) number ≡ get_or table j None
 get-kept_of table j number e =
@@ -36,48 +31,27 @@ pub get-kept_of_zero : (table : List (Option Operation)) → map.get (kept_of ta
 get-kept_of_zero table = map.get-from_entries nat_cmp_total (entries_from 1 table) 0 ∙ find_below 1 0 table (omega arith)
 
 module _ (table : List (Option Operation)) (j number : ℕ) (is : number ≡ suc j) (within : j < length table) where
-  pub kept_of-insert : (o : Operation) → kept_of (set table j (Some o)) ≡ map.insert (kept_of table) number o
-  kept_of-insert o = map.same_map nat_cmp_total map.nat_cmp-IsAntisymmetric _ _ (at_each)
+  -- a map that is changed at the number alone is that of a table that is changed at the place
+  kept_of-set : (x : Option Operation) (m : map.FinMap nat_cmp Operation)
+      → ((q : ℕ) → map.get m q ≡ cond (eq_by_cmp nat_cmp q number) x (map.get (kept_of table) q)) → kept_of (set table j x) ≡ m
+  kept_of-set x m changed = map.same_map nat_cmp_total map.nat_cmp-IsAntisymmetric _ _ at_each
     where
-      at_each : (q : ℕ) → map.get (kept_of (set table j (Some o))) q ≡ map.get (map.insert (kept_of table) number o) q
+      at_each : (q : ℕ) → map.get (kept_of (set table j x)) q ≡ map.get m q
       at_each zero =
-          get-kept_of_zero (set table j (Some o))
-          ∙ sym (map.get-insert nat_cmp_total (kept_of table) number o 0
-          ∙ ap (λ b. cond b (Some o) (map.get (kept_of table) 0)) (tied_false 0 number (λ e. absurd (omega arith)))
-          ∙ get-kept_of_zero table)
-      at_each (suc q) =
-          get-kept_of (set table j (Some o)) q (suc q) refl ∙ sym (map.get-insert nat_cmp_total (kept_of table) number o (suc q) ∙ elim (cases_eq q j) [
-            | inl same ↦ ap (λ b. cond b (Some o) (map.get (kept_of table) (suc q))) (tied_true (suc q) number (omega arith))
-                ∙ sym (rw same (get_or-set_same table j (Some o) None within))
-            | inr differs ↦ ap (λ b. cond b (Some o) (map.get (kept_of table) (suc q))) (tied_false (suc q) number (λ e. differs (omega arith)))
-                ∙ get-kept_of table q (suc q) refl ∙ sym (get_or-set_other table j q (Some o) None differs)
-          ])
+          get-kept_of_zero (set table j x)
+          ∙ sym (changed 0 ∙ ap (λ b. cond b x (map.get (kept_of table) 0)) (tied_false 0 number (λ e. absurd (omega arith))) ∙ get-kept_of_zero table)
+      at_each (suc q) = get-kept_of (set table j x) q (suc q) refl ∙ sym (changed (suc q) ∙ elim (cases_eq q j) [
+        | inl same ↦ ap (λ b. cond b x (map.get (kept_of table) (suc q))) (tied_true (suc q) number (omega arith))
+            ∙ sym (rw same (get_or-set_same table j x None within))
+        | inr differs ↦ ap (λ b. cond b x (map.get (kept_of table) (suc q))) (tied_false (suc q) number (λ e. differs (omega arith)))
+            ∙ get-kept_of table q (suc q) refl ∙ sym (get_or-set_other table j q x None differs)
+      ])
+
+  pub kept_of-insert : (o : Operation) → kept_of (set table j (Some o)) ≡ map.insert (kept_of table) number o
+  kept_of-insert o = kept_of-set (Some o) (map.insert (kept_of table) number o) (map.get-insert nat_cmp_total (kept_of table) number o)
 
   pub kept_of-remove : kept_of (set table j None) ≡ map.remove (kept_of table) number
-  kept_of-remove = map.same_map nat_cmp_total map.nat_cmp-IsAntisymmetric _ _ (at_each)
-    where
-      at_each : (q : ℕ) → map.get (kept_of (set table j None)) q ≡ map.get (map.remove (kept_of table) number) q
-      at_each zero =
-          get-kept_of_zero (set table j None)
-          ∙ sym (map.get-remove nat_cmp_total (kept_of table) number 0
-          ∙ ap (λ b. cond b None (map.get (kept_of table) 0)) (tied_false 0 number (λ e. absurd (omega arith)))
-          ∙ get-kept_of_zero table)
-      at_each (suc q) =
-          get-kept_of (set table j None) q (suc q) refl ∙ sym (map.get-remove nat_cmp_total (kept_of table) number (suc q) ∙ elim (cases_eq q j) [
-            | inl same ↦ ap (λ b. cond b None (map.get (kept_of table) (suc q))) (tied_true (suc q) number (omega arith))
-                ∙ sym (rw same (get_or-set_same table j None None within))
-            | inr differs ↦ ap (λ b. cond b None (map.get (kept_of table) (suc q))) (tied_false (suc q) number (λ e. differs (omega arith)))
-                ∙ get-kept_of table q (suc q) refl ∙ sym (get_or-set_other table j q None None differs)
-          ])
-
--- a slot whose operation no number has isn't kept
-pub loose_handle : (at : List LedgerView) (s : Slab Slot) (key : ℕ) (slot : Slot) (table : List (Option Operation)) (drained : List Completion)
-    → IsBooks at s table drained → get s key ≡ Some slot → ((k : ℕ) → map.get (kept_of table) k ≢ Some slot.operation) → slot.handle ≡ 0
-loose_handle at s key slot table drained b there loose = from slot.handle refl
-  where
-    from : (h : ℕ) → slot.handle ≡ h → slot.handle ≡ 0
-    from zero e = e
-    from (suc n) e = absurd (loose (suc n) (get-kept_of table n (suc n) refl ∙ b.handled key slot n there e))
+  kept_of-remove = kept_of-set None (map.remove (kept_of table) number) (map.get-remove nat_cmp_total (kept_of table) number)
 
 pub get-kept_of_past : (table : List (Option Operation)) (number : ℕ) → length table < number → map.get (kept_of table) number ≡ None
 get-kept_of_past table number past =
@@ -104,15 +78,26 @@ kept_place table number o e = elim (cases_lt 0 number) [
       ]
 ]
 
--- what a slot's handle is, where its operation is kept
-pub kept_handle : (at : List LedgerView) (s : Slab Slot) (key : ℕ) (slot : Slot) (table : List (Option Operation)) (drained : List Completion)
-    → IsBooks at s table drained → get s key ≡ Some slot → (number : ℕ) → KeptPlace table number slot.operation → slot.handle ≡ number
-kept_handle at s key slot table drained b there number p =
-    let h = b.tabled (number - 1) slot.operation p.there in
-    let same : h.key ≡ key = b.one_slot h.key key h.slot slot h.found there h.names in
-    let both : Some h.slot ≡ Some slot = sym h.found ∙ ap (get s) same ∙ there in
-    let is : h.slot ≡ slot = cc in
-    sym (ap (λ (z : Slot). z.handle) is) ∙ h.handle ∙ sym p.is
+module _ (at : List LedgerView) (s : Slab Slot) (key : ℕ) (slot : Slot) (table : List (Option Operation)) (drained : List Completion)
+    (b : IsBooks at s table drained) (there : get s key ≡ Some slot) where
+  -- a slot whose operation no number has isn't kept
+  pub loose_handle : (o : Operation) → slot.operation ≡ o → ((k : ℕ) → map.get (kept_of table) k ≢ Some o) → slot.handle ≡ 0
+  loose_handle o named loose = from slot.handle refl
+    where
+      from : (h : ℕ) → slot.handle ≡ h → slot.handle ≡ 0
+      from zero e = e
+      from (suc n) e = absurd (loose (suc n) (get-kept_of table n (suc n) refl ∙ b.handled key slot n there e ∙ ap Some named))
+
+  -- what a slot's handle is, where its operation is kept
+  pub kept_handle : (number : ℕ) → KeptPlace table number slot.operation → slot.handle ≡ number
+  kept_handle number p =
+      let h = b.tabled (number - 1) slot.operation p.there in
+      let same = same_slot s key h.key slot h.slot there h.found (b.one_slot h.key key h.slot slot h.found there h.names) in
+      sym (ap (λ (z : Slot). z.handle) same) ∙ h.handle ∙ sym p.is
+
+  -- an operation that isn't kept has no number
+  pub loose_from_handle : (o : Operation) → slot.operation ≡ o → slot.handle ≡ 0 → (k : ℕ) → map.get (kept_of table) k ≢ Some o
+  loose_from_handle o named zero_handle k e = grind (arith, kept_place, kept_handle)
 
 pub rehandles_release : (table : List (Option Operation)) (number : ℕ) (o : Operation) → KeptPlace table number o
     → Rehandles table (set table (number - 1) None) number 0 o
@@ -139,18 +124,6 @@ least_free table j free taken = record {
   free = get-kept_of table j (j + 1) (omega arith) ∙ free;
   least = λ k positive below. rw (get-kept_of table (k - 1) k (omega arith)) (taken (k - 1) (omega arith));
 }
-
--- an operation that isn't kept has no number
-pub loose_from_handle : (at : List LedgerView) (s : Slab Slot) (key : ℕ) (slot : Slot) (table : List (Option Operation)) (drained : List Completion)
-    → IsBooks at s table drained → get s key ≡ Some slot → slot.handle ≡ 0 → (k : ℕ) → map.get (kept_of table) k ≢ Some slot.operation
-loose_from_handle at s key slot table drained b there zero_handle k e =
-    let p = kept_place table k slot.operation e in
-    let h = b.tabled (k - 1) slot.operation p.there in
-    let same : h.key ≡ key = b.one_slot h.key key h.slot slot h.found there h.names in
-    let both : Some h.slot ≡ Some slot = sym h.found ∙ ap (get s) same ∙ there in
-    let is : h.slot ≡ slot = cc in
-    let no : 0 ≡ suc (k - 1) = sym zero_handle ∙ sym (ap (λ (z : Slot). z.handle) is) ∙ h.handle in
-    absurd (omega arith)
 
 pub IfSome_from : {A : Type 0} (x : Option A) (P : A → Type 0) → ((a : A) → x ≡ Some a → P a) → IfSome x P
 IfSome_from None P each = tt

@@ -1,15 +1,15 @@
 -- The rows tell the key of each slot, as slots come and go.
 use Rattle.xa_base.proofs.{◌≡◌, ◌≢◌, ℕ, zero, suc, ◌-◌, ◌<◌, ◌≤◌, Bool, List, [], ◌∷◌, ◌++◌, length, length-append, Some, None, get_or, set, replicate, sym}
 use Rattle.xa_base.proofs.{refl, ap, ◌∙◌, inl, inr, arith, slice_get, get_or-set_same, get_or-set_other, length-set, length-replicate, length-map, cases_eq}
-use Rattle.std.proofs.lemmas.List.{get_or-replicate}
+use Rattle.std.proofs.lemmas.List.{get_or-replicate, get_or_read}
 use Rattle.slab.specs.Slab.{Slab, get, Updates}
 use Rattle.xa_words.specs.{Op}
 use Rattle.xa_words.specs.declared.code.Code.{Code}
-use Rattle.xa_desk.specs.{Operation, Slot, new_ledger, with_sent, with_collected, IsKnown, no_ledger, ledger, after_sent, after_collected, new_ledgers}
+use Rattle.xa_desk.specs.{Operation, Slot, new_ledger, with_sent, with_collected, IsKnown, IsOut, no_ledger, ledger, after_sent, after_collected, new_ledgers}
 use Rattle.xa_desk.specs.{KeysView, no_keys, with_key, row_of, key_at, AreTold, AreKeys}
 use Rattle.xa_desk.specs.LedgerView.{LedgerView}
-use Rattle.xa_desk.proofs.Ledgers.{same_operation, ledger-sent_same, ledger-sent_other, ledger-collected_same, ledger-collected_other, known_before}
-use Rattle.xa_desk.proofs.Ledgers.{collected_known, length-put_ledger}
+use Rattle.xa_desk.proofs.Ledgers.{same_operation, ledger-sent_same, ledger-sent_other, known_before, put_same, set_each, collected_known, collected_sends}
+use Rattle.xa_desk.proofs.Ledgers.{length-put_ledger, unsent}
 use Rattle.xa_desk.proofs.Books.{found_cases, found_before}
 use Rattle.xa_desk.proofs.Fresh.{fresh_sent}
 
@@ -32,20 +32,15 @@ module _ (rows : List KeysView) (m key : ℕ) where
   next = record { manager = m; number = length (row_of rows m).keys }
 
   told_same : m - 1 < length rows → key_at entered next ≡ Some key
-  told_same known =
-      ap (λ (r : KeysView). slice_get r.keys (length (row_of rows m).keys)) (get_or-set_same rows (m - 1) (with_key (row_of rows m) key) (no_keys 0) known)
-      ∙ slice_get-push_last (row_of rows m).keys key
+  told_same known = grind (arith, slice_get, get_or-set_same, slice_get-push_last)
 
   told_other : (o : Operation) → 1 ≤ m → m - 1 < length rows → 1 ≤ o.manager → o ≢ next → key_at entered o ≡ key_at rows o
-  told_other o positive known is_positive differs = elim (cases_eq o.manager m) [
-    | inl same ↦
-        let here : o.manager - 1 ≡ m - 1 = ap (λ k. k - 1) same in
-        ap (λ k. slice_get (get_or entered k (no_keys 0)).keys o.number) here
-        ∙ ap (λ (r : KeysView). slice_get r.keys o.number) (get_or-set_same rows (m - 1) (with_key (row_of rows m) key) (no_keys 0) known)
-        ∙ slice_get-push_other (row_of rows m).keys key o.number (λ e. differs (same_operation o next same e))
-        ∙ ap (λ k. slice_get (get_or rows k (no_keys 0)).keys o.number) (sym here)
-    | inr apart ↦ ap (λ (r : KeysView). slice_get r.keys o.number) (get_or-set_other rows (m - 1) (o.manager - 1) (with_key (row_of rows m) key) (no_keys 0) (λ e. apart (omega arith)))
-  ]
+  told_other o positive known is_positive differs = grind (arith, cases_eq, slice_get, get_or-set_same, slice_get-push_other, same_operation, get_or-set_other)
+
+-- what is read of the row of a manager that is known
+pub row-read : (at : List LedgerView) (rows : List KeysView) (m : ℕ) (x : KeysView) → length rows ≡ length at → IsKnown at m → x ≡ get_or rows (m - 1) x
+    → x ≡ row_of rows m
+row-read at rows m x number known read = let p = known.positive in let w = known.within in get_or_read rows (m - 1) x (omega arith) read (no_keys 0)
 
 -- sending
 
@@ -56,10 +51,9 @@ module _ (at : List LedgerView) (m : ℕ) (op : Op) (known : IsKnown at m) (rows
   abbrev with_next : KeysView
   with_next = with_key (row_of rows m) key
 
-  pub keys_sent : AreKeys at rows s → slot.operation ≡ record { manager = m; number = n }
-      → ((k : ℕ) (y : Slot) → get s k ≡ Some y → (1 ≤ y.operation.manager) × (y.operation ≢ record { manager = m; number = n })) → Updates s t key (Some slot)
-      → AreKeys (after_sent at m op) (entered rows m key) t
-  keys_sent r named apart u = record {
+  pub keys_sent : AreKeys at rows s → slot.operation ≡ record { manager = m; number = n } → ((k : ℕ) (y : Slot) → get s k ≡ Some y → IsOut at y.operation)
+      → Updates s t key (Some slot) → AreKeys (after_sent at m op) (entered rows m key) t
+  keys_sent r named out u = record {
     number = length-set rows (m - 1) with_next ∙ r.number ∙ sym (length-put_ledger at m (with_sent (ledger at m) op));
     sent = λ q is. let was = known_before at m q (with_sent (ledger at m) op) is in elim (cases_eq q m) [
       | inl same ↦
@@ -72,17 +66,17 @@ module _ (at : List LedgerView) (m : ℕ) (op : Op) (known : IsKnown at m) (rows
           ∙ r.sent q was
           ∙ sym (ap (λ (a : LedgerView). length a.sent) (ledger-sent_other at m op known q was.positive differs))
     ];
-    planned = λ q is. let was = known_before at m q (with_sent (ledger at m) op) is in elim (cases_eq q m) [
-      | inl same ↦ rw (row_same q same, ledger-sent_same at m op known q same, same) (r.planned m known)
-      | inr differs ↦ rw (row_other q was differs, ledger-sent_other at m op known q was.positive differs) (r.planned q was)
-    ];
+    planned =
+        λ q is. rw (set_each (λ x y. y.capacity ≡ x.capacity) (λ _. refl) rows (m - 1) with_next (no_keys 0) refl (q - 1), put_same (λ a. a.plan) at m (with_sent (ledger at m) op) refl q)
+        (r.planned q (known_before at m q (with_sent (ledger at m) op) is));
     told = λ k y found. elim (found_cases s t key slot u k y found) [
       | inl new ↦
           let is : y.operation ≡ next rows m key = sym (ap (λ (z : Slot). z.operation) new.1) ∙ named ∙ sym is_next in
           ap (key_at (entered rows m key)) is ∙ told_same rows m key within ∙ ap (λ j. Some j) (sym new.0)
       | inr old ↦
-          let p = apart k y old.1 in
-          told_other rows m key y.operation known.positive within p.0 (λ e. p.1 (e ∙ is_next)) ∙ r.told k y old.1
+          let o = out k y old.1 in
+          told_other rows m key y.operation known.positive within o.known.positive (λ e. unsent at m op known y.operation (record { known = o.known; sent = o.sent }) (e ∙ is_next))
+          ∙ r.told k y old.1
     ];
   }
     where
@@ -96,8 +90,7 @@ module _ (at : List LedgerView) (m : ℕ) (op : Op) (known : IsKnown at m) (rows
       row_same q same = ap (row_of (entered rows m key)) same ∙ get_or-set_same rows (m - 1) with_next (no_keys 0) within
 
       row_other : (q : ℕ) → IsKnown at q → q ≢ m → row_of (entered rows m key) q ≡ row_of rows q
-      row_other q was differs =
-          get_or-set_other rows (m - 1) (q - 1) with_next (no_keys 0) (λ e. let p = known.positive in let w = was.positive in differs (omega arith))
+      row_other q was differs = grind (arith, get_or-set_other)
 
 -- the slot at a key keeps its operation
 pub told_kept : (rows : List KeysView) (s t : Slab Slot) (key : ℕ) (slot x : Slot) → AreTold rows s → get s key ≡ Some slot → slot.operation ≡ x.operation
@@ -118,14 +111,8 @@ pub keys_collected : (at : List LedgerView) (o : Operation) (code : Code) (known
     → AreKeys at rows s → Updates s t key None → AreKeys (after_collected at o code) rows t
 keys_collected at o code known rows s t key r u = record {
   number = r.number ∙ sym (length-put_ledger at o.manager (with_collected (ledger at o.manager) o.number code));
-  sent = λ q is. let was = collected_known at o code known q is in elim (cases_eq q o.manager) [
-    | inl same ↦ r.sent q was ∙ sym (ap (λ (a : LedgerView). length a.sent) (ledger-collected_same at o code known q same))
-    | inr differs ↦ r.sent q was ∙ sym (ap (λ (a : LedgerView). length a.sent) (ledger-collected_other at o code known q was.positive differs))
-  ];
-  planned = λ q is. let was = collected_known at o code known q is in elim (cases_eq q o.manager) [
-    | inl same ↦ rw (ledger-collected_same at o code known q same) (r.planned q was)
-    | inr differs ↦ rw (ledger-collected_other at o code known q was.positive differs) (r.planned q was)
-  ];
+  sent = λ q is. r.sent q (collected_known at o code known q is) ∙ sym (ap length (collected_sends at o code known q));
+  planned = λ q is. rw (put_same (λ a. a.plan) at o.manager (with_collected (ledger at o.manager) o.number code) refl q) (r.planned q (collected_known at o code known q is));
   told = λ k y found. r.told k y (found_before s t key u k y found).1;
 }
 

@@ -1,11 +1,11 @@
 -- What a sending and a collection do to the ledgers.
 use Rattle.xa_base.proofs.{◌≡◌, ◌≢◌, ℕ, zero, suc, ◌+◌, ◌-◌, ◌<◌, ◌≤◌, ◌⊎◌, false, ◌||◌, nat_eq, List, [], ◌∷◌, ◌++◌, length, Option, Some, None, get_or, sym}
-use Rattle.xa_base.proofs.{refl, ap, ◌∙◌, subst, inl, inr, arith, length-append, true, ◌&&◌, nat_le, if◌then◌else◌, map-append, length-set, get_or-set_same}
-use Rattle.xa_base.proofs.{get_or-set_other, length-map, list_any-append, cases_eq, false_from_ne_true, eqb-true, or_parts, or_from, false≢true, ne_eqb}
-use Rattle.xa_base.proofs.{eqb-false, and_parts, le-leb, cases_lt, by_bool}
+use Rattle.xa_base.proofs.{refl, ap, ◌∙◌, inl, inr, arith, length-append, true, ◌&&◌, nat_le, map-append, length-set, get_or-set_same, set, get_or-set_other}
+use Rattle.xa_base.proofs.{length-map, list_any-append, cases_eq, false_from_ne_true, eqb-true, or_parts, or_from, false≢true, ne_eqb, eqb-false, and_parts}
+use Rattle.xa_base.proofs.{le-leb, cases_lt}
 use Rattle.std.proofs.Common.{sum_by}
 use Rattle.std.specs.Cmp.{nat_eq_equiv}
-use Rattle.std.proofs.lemmas.List.{get_or_read, set_past}
+use Rattle.std.proofs.lemmas.List.{get_or_read, get_or_past, set_past}
 use Rattle.std.proofs.lemmas.List.Sums.{sum_by-set, sum_by-cons}
 use Rattle.std.proofs.lemmas.Map.Keys.{IsDistinct-push}
 use Rattle.std.proofs.lemmas.Map.Steps.{length-le_from_distinct_below}
@@ -21,53 +21,31 @@ pub same_operation : (a b : Operation) → a.manager ≡ b.manager → a.number 
 same_operation a b e f = λ i. record { manager = e i; number = f i }
 
 pub none_from : {A : Type 0} (x : Option A) → ((a : A) → x ≡ Some a → ⊥) → x ≡ None
-none_from None never = refl
-none_from (Some a) never = absurd (never a refl)
+none_from x never = grind arith
 
 module _ {A : Type 0} (f : Option A → ℕ) (zeros : f None ≡ 0) where
   pub sum_by-same : (xs ys : List (Option A)) → ((k : ℕ) → get_or ys k None ≡ get_or xs k None) → sum_by f ys ≡ sum_by f xs
   sum_by-same [] [] same = refl
-  sum_by-same [] (y ∷ ys) same =
-      let rest : sum_by f ys ≡ sum_by f [] = sum_by-same [] ys (λ k. same (suc k)) in
-      let head : f y ≡ f None = ap f (same 0) in
-      omega (arith, sum_by-cons f y ys)
-  sum_by-same (x ∷ xs) [] same =
-      let rest : sum_by f [] ≡ sum_by f xs = sum_by-same xs [] (λ k. same (suc k)) in
-      let head : f None ≡ f x = ap f (same 0) in
-      omega (arith, sum_by-cons f x xs)
-  sum_by-same (x ∷ xs) (y ∷ ys) same =
-      let rest : sum_by f ys ≡ sum_by f xs = sum_by-same xs ys (λ k. same (suc k)) in
-      let head : f y ≡ f x = ap f (same 0) in
-      omega (arith, sum_by-cons f x xs, sum_by-cons f y ys)
+  sum_by-same [] (y ∷ ys) same = omega (arith, sum_by-same [] ys (λ k. same (suc k)), ap f (same 0), sum_by-cons f y ys)
+  sum_by-same (x ∷ xs) [] same = omega (arith, sum_by-same xs [] (λ k. same (suc k)), ap f (same 0), sum_by-cons f x xs)
+  sum_by-same (x ∷ xs) (y ∷ ys) same = omega (arith, sum_by-same xs ys (λ k. same (suc k)), ap f (same 0), sum_by-cons f x xs, sum_by-cons f y ys)
 
   -- a sum over slots changes by the slot that changes
   pub sum_by-changed : (xs ys : List (Option A)) (key : ℕ) → ((k : ℕ) → k ≢ key → get_or ys k None ≡ get_or xs k None)
       → sum_by f ys + f (get_or xs key None) ≡ sum_by f xs + f (get_or ys key None)
-  sum_by-changed [] [] key others = refl
-  sum_by-changed [] (y ∷ ys) zero others =
-      let rest : sum_by f ys ≡ sum_by f [] = sum_by-same [] ys (λ k. others (suc k) (λ e. absurd (omega arith))) in
-      omega (arith, sum_by-cons f y ys)
-  sum_by-changed [] (y ∷ ys) (suc key) others =
-      let rest : sum_by f ys + f None ≡ sum_by f [] + f (get_or ys key None) =
-      sum_by-changed [] ys key (λ k differs. others (suc k) (λ e. differs (omega arith))) in
-      let head : f y ≡ f None = ap f (others 0 (λ e. absurd (omega arith))) in
-      omega (arith, sum_by-cons f y ys)
-  sum_by-changed (x ∷ xs) [] zero others =
-      let rest : sum_by f [] ≡ sum_by f xs = sum_by-same xs [] (λ k. others (suc k) (λ e. absurd (omega arith))) in
-      omega (arith, sum_by-cons f x xs)
-  sum_by-changed (x ∷ xs) [] (suc key) others =
-      let rest : sum_by f [] + f (get_or xs key None) ≡ sum_by f xs + f None =
-      sum_by-changed xs [] key (λ k differs. others (suc k) (λ e. differs (omega arith))) in
-      let head : f None ≡ f x = ap f (others 0 (λ e. absurd (omega arith))) in
-      omega (arith, sum_by-cons f x xs)
-  sum_by-changed (x ∷ xs) (y ∷ ys) zero others =
-      let rest : sum_by f ys ≡ sum_by f xs = sum_by-same xs ys (λ k. others (suc k) (λ e. absurd (omega arith))) in
-      omega (arith, sum_by-cons f x xs, sum_by-cons f y ys)
-  sum_by-changed (x ∷ xs) (y ∷ ys) (suc key) others =
-      let rest : sum_by f ys + f (get_or xs key None) ≡ sum_by f xs + f (get_or ys key None) =
-      sum_by-changed xs ys key (λ k differs. others (suc k) (λ e. differs (omega arith))) in
-      let head : f y ≡ f x = ap f (others 0 (λ e. absurd (omega arith))) in
-      omega (arith, sum_by-cons f x xs, sum_by-cons f y ys)
+  sum_by-changed xs ys key others = omega (arith, without xs, without ys, sum_by-same (set xs key None) (set ys key None) alike)
+    where
+      without : (zs : List (Option A)) → sum_by f (set zs key None) + f (get_or zs key None) ≡ sum_by f zs
+      without zs = elim (cases_lt key (length zs)) [
+        | inl below ↦ omega (arith, zeros, sum_by-set f zs key None None below)
+        | inr past ↦ rw (set_past zs key None past, get_or_past zs key None past) (omega arith)
+      ]
+
+      emptied : (zs : List (Option A)) → get_or (set zs key None) key None ≡ None
+      emptied zs = grind (arith, cases_lt, get_or-set_same, set_past, get_or_past)
+
+      alike : (k : ℕ) → get_or (set ys key None) k None ≡ get_or (set xs key None) k None
+      alike k = grind (arith, cases_eq, emptied, get_or-set_other)
 
 -- ---- managers that are known
 
@@ -90,9 +68,7 @@ past_end (a ∷ at) zero past = absurd (omega arith)
 past_end (a ∷ at) (suc k) past = past_end at k (omega arith)
 
 pub nobody_sent : (m : ℕ) → sent_to [] m ≡ []
-nobody_sent m =
-    by_bool (λ b. (if b then (ledger [] m).sent else []) ≡ []) (is_known [] m)
-    (λ _. ap (λ (a : LedgerView). a.sent) (past_end [] (m - 1) (omega arith))) (λ _. refl)
+nobody_sent m = grind (arith, past_end)
 
 -- ---- a ledger is put in the place of another
 
@@ -109,17 +85,25 @@ module _ (at : List LedgerView) where
   pub known_after : (m n : ℕ) (a : LedgerView) → IsKnown at n → IsKnown (put_ledger at m a) n
   known_after m n a known = record { positive = known.positive; within = rw (length-set at (m - 1) a) known.within }
 
--- what holds of a ledger and itself, and of the one that is put in its place, holds of each ledger before and after
+-- what holds of an element and itself, and of the one that is put in its place, holds of each before and after
+pub set_each : {A : Type 0} (R : A → A → Type 0) → ((a : A) → R a a) → (xs : List A) (i : ℕ) (a d : A) → R (get_or xs i d) a → (k : ℕ)
+    → R (get_or xs k d) (get_or (set xs i a) k d)
+set_each R same xs i a d new k = elim (cases_eq k i) [
+  | inl here ↦ elim (cases_lt i (length xs)) [
+    | inl below ↦ rw (here, get_or-set_same xs i a d below) new
+    | inr past ↦ rw (set_past xs i a past) (same (get_or xs k d))
+  ]
+  | inr other ↦ rw (get_or-set_other xs i k a d other) (same (get_or xs k d))
+]
+
 pub put_each : (R : LedgerView → LedgerView → Type 0) → ((a : LedgerView) → R a a) → (at : List LedgerView) (m : ℕ) (a : LedgerView) → R (ledger at m) a
     → (n : ℕ) → R (ledger at n) (ledger (put_ledger at m a) n)
-put_each R same at m a new n = elim (cases_eq (n - 1) (m - 1)) [
-  | inl here ↦ elim (cases_lt (m - 1) (length at)) [
-    | inl below ↦ subst (λ k. R (get_or at k no_ledger) (get_or (put_ledger at m a) k no_ledger)) (sym here)
-        (subst (R (ledger at m)) (sym (get_or-set_same at (m - 1) a no_ledger below)) new)
-    | inr past ↦ subst (λ (l : List LedgerView). R (ledger at n) (ledger l n)) (sym (set_past at (m - 1) a past)) (same (ledger at n))
-  ]
-  | inr other ↦ subst (R (ledger at n)) (sym (get_or-set_other at (m - 1) (n - 1) a no_ledger other)) (same (ledger at n))
-]
+put_each R same at m a new n = set_each R same at (m - 1) a no_ledger new (n - 1)
+
+-- what the new ledger has of the one before, each has
+pub put_same : {A : Type 0} (f : LedgerView → A) (at : List LedgerView) (m : ℕ) (a : LedgerView) → f a ≡ f (ledger at m)
+    → (n : ℕ) → f (ledger (put_ledger at m a) n) ≡ f (ledger at n)
+put_same f = put_each (λ x y. f y ≡ f x) (λ _. refl)
 
 -- fewer were collected than sent, where one is outstanding; and never more
 pub collected-le-sent : (a : LedgerView) → IsOrderly a → length a.collected ≤ length a.sent
@@ -168,29 +152,20 @@ module _ (at : List LedgerView) (m : ℕ) (op : Op) (known : IsKnown at m) where
   pub ledger-sent_other : (n : ℕ) → 1 ≤ n → n ≢ m → ledger (after_sent at m op) n ≡ ledger at n
   ledger-sent_other n p differs = ledger-put_other at m n (with_sent (ledger at m) op) known.positive p differs
 
+  pub sent_collects : (n q : ℕ) → is_collected (ledger (after_sent at m op) n) q ≡ is_collected (ledger at n) q
+  sent_collects n q = put_same (λ a. is_collected a q) at m (with_sent (ledger at m) op) refl n
+
   pub sent_keeps_sent : (o : Operation) → IsSent at o → IsSent (after_sent at m op) o
   sent_keeps_sent o was =
-      let k = known_after at m o.manager (with_sent (ledger at m) op) was.known in
-      elim (cases_eq o.manager m) [
-        | inl same ↦ record { known = k; sent = rw (ledger-sent_same o.manager same) (let h = was.sent in omega (arith, length-append (ledger at o.manager).sent (op ∷ []))) }
-        | inr differs ↦ record { known = k; sent = rw (ledger-sent_other o.manager was.known.positive differs) was.sent }
-      ]
+      let more : length (ledger at o.manager).sent ≤ length (ledger (after_sent at m op) o.manager).sent =
+      put_each (λ a b. length a.sent ≤ length b.sent) (λ _. omega arith) at m (with_sent (ledger at m) op) (omega (arith, length-append (ledger at m).sent (op ∷ []))) o.manager in
+      let before = was.sent in
+      record { known = known_after at m o.manager (with_sent (ledger at m) op) was.known; sent = omega arith }
 
   pub sent_keeps_out : (o : Operation) → IsOut at o → IsOut (after_sent at m op) o
   sent_keeps_out o was =
-      let k = known_after at m o.manager (with_sent (ledger at m) op) was.known in
-      elim (cases_eq o.manager m) [
-        | inl same ↦ record {
-          known = k;
-          sent = rw (ledger-sent_same o.manager same) (let h = was.sent in omega (arith, length-append (ledger at o.manager).sent (op ∷ [])));
-          open_ = rw (ledger-sent_same o.manager same) was.open_;
-        }
-        | inr differs ↦ record {
-          known = k;
-          sent = rw (ledger-sent_other o.manager was.known.positive differs) was.sent;
-          open_ = rw (ledger-sent_other o.manager was.known.positive differs) was.open_;
-        }
-      ]
+      let still = sent_keeps_sent o (record { known = was.known; sent = was.sent }) in
+      record { known = still.known; sent = still.sent; open_ = sent_collects o.manager o.number ∙ was.open_ }
 
   pub sent_now_out : IsOrderly (ledger at m) → IsOut (after_sent at m op) sent_now
   sent_now_out o = record {
@@ -202,25 +177,19 @@ module _ (at : List LedgerView) (m : ℕ) (op : Op) (known : IsKnown at m) where
   pub sent_out_cases : (o : Operation) → IsOut (after_sent at m op) o → (o ≡ sent_now) ⊎ IsOut at o
   sent_out_cases o is =
       let k = known_before at m o.manager (with_sent (ledger at m) op) is.known in
+      let fresh = sym (sent_collects o.manager o.number) ∙ is.open_ in
       elim (cases_eq o.manager m) [
         | inl same ↦
             let within : o.number < length (with_sent (ledger at o.manager) op).sent = rw (ledger-sent_same o.manager same) at is.sent in
-            let fresh : is_collected (ledger at o.manager) o.number ≡ false = rw (ledger-sent_same o.manager same) at is.open_ in
             elim (cases_eq o.number (length (ledger at o.manager).sent)) [
               | inl last ↦ inl (same_operation o sent_now same (last ∙ ap (λ n. length (ledger at n).sent) same))
               | inr before ↦ inr (record { known = k; sent = omega (arith, length-append (ledger at o.manager).sent (op ∷ [])); open_ = fresh })
             ]
-        | inr differs ↦ inr (record {
-          known = k;
-          sent = rw (ledger-sent_other o.manager k.positive differs) at is.sent;
-          open_ = rw (ledger-sent_other o.manager k.positive differs) at is.open_;
-        })
+        | inr differs ↦ inr (record { known = k; sent = rw (ledger-sent_other o.manager k.positive differs) at is.sent; open_ = fresh })
       ]
 
   pub unsent : (o : Operation) → IsSent at o → o ≢ sent_now
-  unsent o was e =
-      let before : length (ledger at m).sent < length (ledger at m).sent = subst (λ p. p.number < length (ledger at p.manager).sent) e was.sent in
-      omega arith
+  unsent o was e = grind arith
 
 -- collecting
 
@@ -237,47 +206,34 @@ module _ (at : List LedgerView) (o : Operation) (code : Code) (known : IsKnown a
   pub collected_known : (n : ℕ) → IsKnown (after_collected at o code) n → IsKnown at n
   collected_known n k = known_before at o.manager n (with_collected (ledger at o.manager) o.number code) k
 
+  pub collected_sends : (n : ℕ) → (ledger (after_collected at o code) n).sent ≡ (ledger at n).sent
+  collected_sends = put_same (λ a. a.sent) at o.manager (with_collected (ledger at o.manager) o.number code) refl
+
   pub collected_keeps_sent : (p : Operation) → IsSent at p → IsSent (after_collected at o code) p
-  collected_keeps_sent p was =
-      elim (cases_eq p.manager o.manager) [
-        | inl same ↦ record { known = known_collected p.manager was.known; sent = rw (ledger-collected_same p.manager same) was.sent }
-        | inr differs ↦ record { known = known_collected p.manager was.known; sent = rw (ledger-collected_other p.manager was.known.positive differs) was.sent }
-      ]
+  collected_keeps_sent p was = record { known = known_collected p.manager was.known; sent = rw (collected_sends p.manager) was.sent }
 
   pub collected_keeps_out : (p : Operation) → IsOut at p → p ≢ o → IsOut (after_collected at o code) p
-  collected_keeps_out p was other =
-      elim (cases_eq p.manager o.manager) [
-        | inl same ↦ record {
-          known = known_collected p.manager was.known;
-          sent = rw (ledger-collected_same p.manager same) was.sent;
-          open_ = rw (ledger-collected_same p.manager same) (is_collected-push (ledger at p.manager) o.number code p.number
-              ∙ or_from _ _ was.open_ (or_from _ _ (ne_eqb p.number o.number (λ e. other (same_operation p o same e))) refl));
-        }
-        | inr differs ↦ record {
-          known = known_collected p.manager was.known;
-          sent = rw (ledger-collected_other p.manager was.known.positive differs) was.sent;
-          open_ = rw (ledger-collected_other p.manager was.known.positive differs) was.open_;
-        }
-      ]
+  collected_keeps_out p was other = record {
+    known = known_collected p.manager was.known;
+    sent = rw (collected_sends p.manager) was.sent;
+    open_ = elim (cases_eq p.manager o.manager) [
+      | inl same ↦ rw (ledger-collected_same p.manager same) (is_collected-push (ledger at p.manager) o.number code p.number
+          ∙ or_from _ _ was.open_ (or_from _ _ (ne_eqb p.number o.number (λ e. other (same_operation p o same e))) refl))
+      | inr differs ↦ rw (ledger-collected_other p.manager was.known.positive differs) was.open_
+    ];
+  }
 
   pub collected_out : (p : Operation) → IsOut (after_collected at o code) p → IsOut at p × (p ≢ o)
   collected_out p is =
       let k = collected_known p.manager is.known in
+      let sent = rw (collected_sends p.manager) at is.sent in
       elim (cases_eq p.manager o.manager) [
         | inl same ↦
             let parts : (is_collected (ledger at p.manager) p.number ≡ false) × ((nat_eq p.number o.number || false) ≡ false) =
-            or_parts _ _ (sym (is_collected-push (ledger at p.manager) o.number code p.number) ∙ rw (ledger-collected_same p.manager same) at is.open_) in (
-              record { known = k; sent = rw (ledger-collected_same p.manager same) at is.sent; open_ = parts.0 },
-              λ e. eqb-false p.number o.number (or_parts _ _ parts.1).0 (ap (λ (q : Operation). q.number) e),
-            )
-        | inr differs ↦ (
-          record {
-            known = k;
-            sent = rw (ledger-collected_other p.manager k.positive differs) at is.sent;
-            open_ = rw (ledger-collected_other p.manager k.positive differs) at is.open_;
-          },
-          λ e. differs (ap (λ (q : Operation). q.manager) e),
-        )
+            or_parts _ _ (sym (is_collected-push (ledger at p.manager) o.number code p.number) ∙ rw (ledger-collected_same p.manager same) at is.open_) in
+            (record { known = k; sent = sent; open_ = parts.0 }, λ e. eqb-false p.number o.number (or_parts _ _ parts.1).0 (ap (λ (q : Operation). q.number) e))
+        | inr differs ↦
+            (record { known = k; sent = sent; open_ = rw (ledger-collected_other p.manager k.positive differs) at is.open_ }, λ e. differs (ap (λ (q : Operation). q.manager) e))
       ]
 
 -- what a read of the list of ledgers gives, and what a write leaves
@@ -285,12 +241,14 @@ module _ (at : List LedgerView) (o : Operation) (code : Code) (known : IsKnown a
 pub ledger-read : (at : List LedgerView) (m : ℕ) (a : LedgerView) → IsKnown at m → a ≡ get_or at (m - 1) a → a ≡ ledger at m
 ledger-read at m a known read = get_or_read at (m - 1) a (omega arith) read no_ledger
 
+-- there is room in the ledger of an outstanding operation to collect it
+pub room_collected : (at : List LedgerView) (o : Operation) (code : Code) (a : LedgerView) → IsOut at o → IsOrderly (ledger at o.manager)
+    → a ≡ get_or at (o.manager - 1) a → length a.collected < a.plan
+room_collected at o code a out orderly read = grind (arith, collected-lt-sent, ledger-read)
+
 pub planned-put : (at : List LedgerView) (m : ℕ) (a : LedgerView) → IsKnown at m → a.plan ≡ (ledger at m).plan
     → planned_total (put_ledger at m a) ≡ planned_total at
-planned-put at m a known same =
-    let sums : planned_total (put_ledger at m a) + (ledger at m).plan ≡ planned_total at + a.plan =
-    sum_by-set (λ (x : LedgerView). x.plan) at (m - 1) a no_ledger (omega arith) in
-    omega arith
+planned-put at m a known same = grind (arith, sum_by-set)
 
 pub length-put_ledger : (at : List LedgerView) (m : ℕ) (a : LedgerView) → length (put_ledger at m a) ≡ length at
 length-put_ledger at m a = length-set at (m - 1) a

@@ -1,24 +1,21 @@
 -- What takes of the lane of completions leave as it was.
-use Rattle.xa_base.proofs.{◌≡◌, ◌≢◌, ◌≤◌, ℕ, List, length, Option, Some, None, IfSome, is_some, true, false, ◌+◌, sym, ◌∙◌, refl, ap, subst, arith}
-use Rattle.std.proofs.Common.{OnSome, IsNone, IsSome}
+use Rattle.xa_base.proofs.{arith, ◌≡◌, ◌≢◌, ℕ, List, length, Option, Some, None, IfSome, is_some, true, false, ◌+◌, sym, ◌∙◌, refl, ap, subst, cases_eq}
+use Rattle.xa_base.proofs.{removed_there, removed_other}
+use Rattle.std.proofs.Common.{OnSome, IsSome}
 use Rattle.std.specs.FinMap as finmap
 use Rattle.xa_words.specs.declared.code.Code.{Code}
 use Rattle.xa_words.specs.{Completion}
 use Rattle.xa_lane.specs.{Taken, Item, EndOf, Empty, Receiving, Took}
-use Rattle.xa_desk.specs.{Its, Operation, TicketView, IsOut, IsLoose, Owns, opening_of, ready_at, ready_with, completed, outstanding, drained_code}
-use Rattle.xa_desk.specs.{operation_of, IsDesk, Drains, first, other, Draws, Pops, start, drawn, EndsQuiet, Collects, CollectsKept, CollectsLeast, TakesKept}
-use Rattle.xa_desk.specs.{DrawsFor}
+use Rattle.xa_desk.specs.{Its, Operation, IsOut, IsLoose, opening_of, ready_at, ready_with, completed, outstanding, drained_code, operation_of, LeavesTickets}
+use Rattle.xa_desk.specs.{Drains, first, other, Draws, Pops, start, drawn, EndsQuiet, Collects, CollectsLeast, DrawsFor}
 use Rattle.xa_desk.specs.DeskView.{DeskView}
 use Rattle.xa_desk.specs.Looks.{Looks}
 use Rattle.xa_desk.proofs.Books.{drained_code-push_other}
-use Rattle.xa_desk.proofs.Ties.{tied_looks, tied_collected}
 
 -- another operation's completion was taken
 pub still_missing : (old new : DeskView) (c : Completion) (o : Operation) → Drains old c new → o ≢ operation_of c → drained_code o old.drained ≡ None
     → drained_code o new.drained ≡ None
-still_missing old new c o (first out none e) differs missing =
-    ap (λ (d : DeskView). drained_code o d.drained) e ∙ drained_code-push_other o old.drained c differs ∙ missing
-still_missing old new c o (other never e) differs missing = ap (λ (d : DeskView). drained_code o d.drained) e ∙ missing
+still_missing old new c o h differs missing = grind (arith, drained_code-push_other)
 
 -- only what was drained and taken, and the quiet moments, may differ
 abbrev IsSameBut : DeskView → DeskView → Type 0
@@ -29,7 +26,7 @@ IsSameBut old new =
 abbrev IsSameFrom : DeskView → DeskView → Type 0
 IsSameFrom old new = new ≡ record old { drained = new.drained; drained_then = new.drained_then; completions = new.completions }
 
-abbrev SameEnd : Receiving Completion → Receiving Completion → Type 0
+abbrev pub SameEnd : Receiving Completion → Receiving Completion → Type 0
 SameEnd r r' = r' ≡ record r { taken = r'.taken; quiet = r'.quiet; taken_then = r'.taken_then }
 
 same_start : (old new : DeskView) → new ≡ old → IsSameBut old new
@@ -38,7 +35,7 @@ same_start old new e = subst (IsSameBut old) (sym e) refl
 same_from : (old new : DeskView) → SameEnd old.completions new.completions → IsSameFrom old new → IsSameBut old new
 same_from old new r e = e ∙ ap (λ (x : Receiving Completion). record old { drained = new.drained; drained_then = new.drained_then; completions = x }) r
 
-same_took : (a : Taken Completion) (r r' : Receiving Completion) → Took r a r' → SameEnd r r'
+pub same_took : (a : Taken Completion) (r r' : Receiving Completion) → Took r a r' → SameEnd r r'
 same_took (Item s c) r r' t = subst (SameEnd r) (sym t.1) refl
 same_took (EndOf s) r r' t = subst (SameEnd r) (sym t.1) refl
 same_took Empty r r' t = subst (SameEnd r) (sym t) refl
@@ -48,17 +45,12 @@ same_drains old new r c (first out none e) = subst (IsSameFrom old) (sym e) refl
 same_drains old new r c (other never e) = subst (IsSameFrom old) (sym e) refl
 
 drains_same : (old new : DeskView) (c : Completion) → Drains old c new → new.completions ≡ old.completions
-drains_same old new c (first out none e) = ap (λ (d : DeskView). d.completions) e
-drains_same old new c (other never e) = ap (λ (d : DeskView). d.completions) e
+drains_same old new c h = grind arith
 
 -- the completion that a take found was drained
 pub item_drawn : (old new : DeskView) (r : Receiving Completion) (s : ℕ) (c : Completion) → Took old.completions (Item s c) r
     → Drains (record old { completions = r }) c new → Draws old (Item s c) new × (new.completions.quiet ≡ old.completions.quiet)
-item_drawn old new r s c took drains =
-    let same : new.completions ≡ r = drains_same (record old { completions = r }) new c drains in (
-      (subst (Took old.completions (Item s c)) (sym same) took, subst (λ (x : Receiving Completion). Drains (record old { completions = x }) c new) (sym same) drains),
-      ap (λ (x : Receiving Completion). x.quiet) (same ∙ took.1),
-    )
+item_drawn old new r s c took drains = grind (arith, drains_same)
 
 same_then : (old new : DeskView) (drained : List Completion) (then : ℕ)
     → new ≡ record old { drained = drained; drained_then = then; completions = new.completions } → IsSameFrom old new
@@ -111,13 +103,17 @@ looks_out a b o l out = subst (λ at. IsOut at o) (sym (ap (λ (x : DeskView). x
 pub looks_loose : (a b : DeskView) (o : Operation) → Looks a b → IsLoose a o → IsLoose b o
 looks_loose a b o l loose k e = loose k (ap (λ m. finmap.get m k) (sym (ap (λ (x : DeskView). x.kept) l.rest)) ∙ e)
 
-pub looks_owned : (a b : DeskView) (t : TicketView) → Looks a b → Owns a t → Owns b t
-looks_owned a b t l o = record {
+pub looking_leaves : (a b : DeskView) → Looks a b → LeavesTickets a b
+looking_leaves a b l t o = record {
   opening = o.opening ∙ sym (ap opening_of l.rest);
   thread = o.thread ∙ sym (ap (λ (x : DeskView). x.thread) l.rest);
   out = looks_out a b t.operation l o.out;
   loose = looks_loose a b t.operation l o.loose;
 }
+
+-- what isn't kept isn't kept once a number is free
+pub freed_loose : (d : DeskView) (number : ℕ) (o : Operation) → IsLoose d o → (k : ℕ) → finmap.get (finmap.remove d.kept number) k ≢ Some o
+freed_loose d number o loose k kept = grind (arith, cases_eq, removed_there, removed_other)
 
 pub looks_outstanding : (a b : DeskView) → Looks a b → outstanding b.ledgers ≡ outstanding a.ledgers
 looks_outstanding a b l = ap (λ (x : DeskView). outstanding x.ledgers) l.rest
@@ -157,61 +153,7 @@ pub not_ready_from : (d : DeskView) (number : ℕ) (o : Operation) → finmap.ge
     → ready_at d 0 number ≡ false
 not_ready_from d number o kept none = ap (ready_with d.drained 0) kept ∙ ap is_some none
 
--- no more is outstanding than was, and the ledgers go on saying what the lanes do
-pub record Stays (old new : DeskView) : Type 0 where
-  pub handles : new.handles ≡ old.handles
-  pub fewer : outstanding new.ledgers ≤ outstanding old.ledgers
-  pub tied : IsDesk old → IsDesk new
+-- what calls that look go by, and those that look for what is kept
+pub ruleset look_rules = (looks_on, looks_further, looks_out, looks_loose)
 
-pub looks_stays : (old new : DeskView) → Looks old new → Stays old new
-looks_stays old new l = record {
-  handles = ap (λ (x : DeskView). x.handles) l.rest;
-  fewer = let same = looks_outstanding old new l in omega arith;
-  tied = tied_looks old new l;
-}
-
-stays_chain : (a b c : DeskView) → Stays a b → Stays b c → Stays a c
-stays_chain a b c x y = record {
-  handles = y.handles ∙ x.handles;
-  fewer = let p = x.fewer in let q = y.fewer in omega arith;
-  tied = λ b. y.tied (x.tied b);
-}
-
-pub collects_stays : (old new : DeskView) (o : Operation) (code : Code) → Collects old new o code → Stays old new
-collects_stays old new o code x =
-    let before = looks_stays old x.before x.looks in
-    record {
-      handles = ap (λ (y : DeskView). y.handles) x.collected ∙ before.handles;
-      fewer = let f = x.fewer in omega arith;
-      tied = λ b. subst IsDesk (sym x.collected) (tied_collected x.before o code x.out.known x.drained (before.tied b));
-    }
-
-pub tried_stays : (old new : DeskView) (o : Operation) (r : Option Code) → IfSome r (Collects old new o) → (IsNone r → EndsQuiet old new) → Stays old new
-tried_stays old new o None some none = looks_stays old new (quiet_looks old new (none refl))
-tried_stays old new o (Some code) some none = collects_stays old new o code some
-
-takes_stays : (old new : DeskView) (number : ℕ) (code : Code) → TakesKept old new number code → Stays old new
-takes_stays old new number code t = record {
-  handles = ap (λ (y : DeskView). y.handles) t.taken;
-  fewer = let f = t.fewer in omega arith;
-  tied = λ b. subst IsDesk (sym t.taken) (tied_collected old t.operation code t.out.known t.drained b);
-}
-
-pub kept_stays : (old new : DeskView) (number : ℕ) (r : Option Code) → IfSome r (CollectsKept old new number) → (IsNone r → EndsQuiet old new) → Stays old new
-kept_stays old new number None some none = looks_stays old new (quiet_looks old new (none refl))
-kept_stays old new number (Some code) some none =
-    stays_chain old some.before new (looks_stays old some.before some.looks) (takes_stays some.before new number code some.takes)
-
-pub least_stays : (old new : DeskView) (m number : ℕ) (code : Code) → CollectsLeast old new m number code → Stays old new
-least_stays old new m number code x =
-    stays_chain old x.before new (looks_stays old x.before (quiet_looks old x.before x.quiet)) (takes_stays x.before new number code x.takes)
-
-pub any_stays : (old new : DeskView) (m : ℕ) (r : Option (ℕ × Code)) → IfSome r (λ p. CollectsLeast old new m p.0 p.1) → (IsNone r → EndsQuiet old new)
-    → Stays old new
-any_stays old new m None some none = looks_stays old new (quiet_looks old new (none refl))
-any_stays old new m (Some p) some none = least_stays old new m p.0 p.1 some
-
--- so a desk stays one
-pub desk_stays : (old new : DeskView) → Stays old new → (outstanding old.ledgers ≤ old.handles) × IsDesk old
-    → (outstanding new.ledgers ≤ new.handles) × IsDesk new
-desk_stays old new s was = (let h = s.handles in let f = s.fewer in let w = was.0 in omega arith, s.tied was.1)
+pub ruleset kept_rules = (looks_kept, ready_from, not_ready_from)

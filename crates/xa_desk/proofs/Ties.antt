@@ -1,17 +1,18 @@
 -- A desk's ledgers go on saying what its ends of lanes do.
-use Rattle.xa_base.proofs.{◌≡◌, ◌≢◌, ℕ, zero, suc, ◌+◌, ◌-◌, ◌<◌, List, [], ◌∷◌, ◌++◌, length, map, Option, Some, None, get_or, sym, refl, ap, ◌∙◌, subst, inl}
-use Rattle.xa_base.proofs.{inr, arith, append-nil, All, slice_get, map-append, length-map, All-append, All-cons, All-nil, cases_eq}
+use Rattle.xa_base.proofs.{◌≡◌, ◌≢◌, ℕ, zero, suc, ◌+◌, ◌-◌, ◌<◌, List, [], ◌∷◌, ◌++◌, length, map, Option, Some, None, sym, refl, ap, ◌∙◌, subst, inl, inr}
+use Rattle.xa_base.proofs.{arith, append-nil, All, slice_get, map-append, length-map, All-append, All-cons, All-nil, cases_eq}
 use Rattle.xa_words.specs.{Op, Request, Completion}
 use Rattle.xa_words.specs.declared.code.Code.{Code}
-use Rattle.xa_lane.specs.{Parcel, Taken, Item, EndOf, Empty, Sending, Receiving, somes, parcel, at_place, with_item, with_full, but_full, sent_at}
+use Rattle.xa_lane.specs.{Parcel, Taken, Item, EndOf, Empty, Sending, Receiving, parcel, Took, at_place, with_item, with_full, but_full, sent_at}
 use Rattle.xa_desk.specs.{Operation, new_ledger, with_sent, with_collected, IsKnown, ledger, after_collected, drained_code, next_request, submitted, after_full}
-use Rattle.xa_desk.specs.{after_fulls, numbered, arrived, IsPartOf, nothing, with_last, without_last, IsEndTo, AreEnds, WasDrained, IsTied, IsDesk, PartsView}
-use Rattle.xa_desk.specs.{AreNew, new_desk, Drains, first, other, Draws, Pops, start, drawn}
+use Rattle.xa_desk.specs.{after_fulls, numbered, arrived, IsPartOf, nothing, with_last, without_last, IsEndTo, AreEndsTo, AreEnds, WasDrained, IsTied, IsDesk}
+use Rattle.xa_desk.specs.{PartsView, AreNew, new_desk, Drains, first, other, Draws, Pops, start, drawn}
 use Rattle.xa_desk.specs.LedgerView.{LedgerView}
 use Rattle.xa_desk.specs.DeskView.{DeskView}
 use Rattle.xa_desk.specs.Looks.{Looks}
 use Rattle.xa_desk.proofs.Ledgers.{same_operation, ledger-sent_same, ledger-sent_other, ledger-collected_same, ledger-collected_other, known_before}
-use Rattle.xa_desk.proofs.Ledgers.{collected_known, length-put_ledger}
+use Rattle.xa_desk.proofs.Ledgers.{collected_known, collected_sends, length-put_ledger, put_same}
+use Rattle.xa_desk.proofs.Looks.{SameEnd, same_took}
 use Rattle.xa_lane.proofs.Senders.{length-at_place, at_place_cases, sent_at-full, sent_at-item, sent_at-other, sent_at-but_full, nothing_sent}
 use Rattle.xa_lane.proofs.Parcels.{somes-append}
 use Rattle.xa_desk.proofs.Books.{drained_code-push_again}
@@ -20,63 +21,46 @@ use Rattle.xa_desk.proofs.Fresh.{fresh_sent, fresh_collected}
 -- ---- what was taken
 
 arrived-item : (taken : List (Parcel Completion)) (s : ℕ) (c : Completion) → arrived (taken ++ parcel s (Some c) ∷ []) ≡ arrived taken ++ c ∷ []
-arrived-item taken s c =
-    ap somes (map-append (λ (x : Parcel Completion). x.item) taken (parcel s (Some c) ∷ []))
-    ∙ somes-append (map (λ (x : Parcel Completion). x.item) taken) (Some c ∷ [])
+arrived-item taken s c = grind (arith, map-append, somes-append)
 
 arrived-mark : (taken : List (Parcel Completion)) (s : ℕ) → arrived (taken ++ parcel s None ∷ []) ≡ arrived taken
-arrived-mark taken s =
-    ap somes (map-append (λ (x : Parcel Completion). x.item) taken (parcel s None ∷ []))
-    ∙ somes-append (map (λ (x : Parcel Completion). x.item) taken) (None ∷ [])
-    ∙ append-nil (arrived taken)
+arrived-mark taken s = grind (arith, map-append, somes-append, append-nil)
 
-module _ (t : ℕ) (at : List LedgerView) (drained : List Completion) (requests : List (Sending Request)) (r : Receiving Completion)
-    (b : IsTied t at drained requests r) where
-  tied_first : (s : ℕ) (c : Completion) → IsTied t at (drained ++ c ∷ []) requests (record r { taken = r.taken ++ parcel s (Some c) ∷ [] })
-  tied_first s c = record {
-    ends = record { number = b.ends.number; to = b.ends.to; lane = b.ends.lane; senders = b.ends.senders };
-    sent = b.sent;
-    drained_ = with_last drained (arrived r.taken) (arrived (r.taken ++ parcel s (Some c) ∷ [])) c b.drained_ (arrived-item r.taken s c);
-    collected = λ m known k d below. drained_code-push_again (record { manager = m; number = (get_or (ledger at m).collected k d).0 }) drained c (get_or (ledger at m).collected k d).1 (b.collected m known k d below);
-  }
+-- a take changes what was taken, and perhaps what was drained
+tied_on : (d : DeskView) (drained : List Completion) (r : Receiving Completion) → IsDesk d → SameEnd d.completions r → IsPartOf drained (arrived r.taken)
+    → ((o : Operation) (code : Code) → drained_code o d.drained ≡ Some code → drained_code o drained ≡ Some code)
+    → IsTied d.thread d.ledgers drained d.requests r
+tied_on d drained r b same part still = record {
+  ends = record {
+    number = b.ends.number;
+    to = subst (λ (x : Receiving Completion). AreEndsTo d.thread x.lane.opening d.requests) (sym same) b.ends.to;
+    lane = ap (λ (x : Receiving Completion). x.lane.index) same ∙ b.ends.lane;
+    senders = ap (λ (x : Receiving Completion). x.senders) same ∙ b.ends.senders;
+  };
+  sent = b.sent;
+  drained_ = part;
+  collected = λ m known k p below. still _ _ (b.collected m known k p below);
+}
 
-  tied_other : (s : ℕ) (c : Completion) → IsTied t at drained requests (record r { taken = r.taken ++ parcel s (Some c) ∷ [] })
-  tied_other s c = record {
-    ends = record { number = b.ends.number; to = b.ends.to; lane = b.ends.lane; senders = b.ends.senders };
-    sent = b.sent;
-    drained_ = without_last drained (arrived r.taken) (arrived (r.taken ++ parcel s (Some c) ∷ [])) c b.drained_ (arrived-item r.taken s c);
-    collected = b.collected;
-  }
-
-  tied_mark : (s : ℕ) → IsTied t at drained requests (record r { taken = r.taken ++ parcel s None ∷ [] })
-  tied_mark s = record {
-    ends = record { number = b.ends.number; to = b.ends.to; lane = b.ends.lane; senders = b.ends.senders };
-    sent = b.sent;
-    drained_ = subst (IsPartOf drained) (sym (arrived-mark r.taken s)) b.drained_;
-    collected = b.collected;
-  }
-
-  tied_quiet : (n then : ℕ) → IsTied t at drained requests (record r { quiet = n; taken_then = then })
-  tied_quiet n then = record {
-    ends = record { number = b.ends.number; to = b.ends.to; lane = b.ends.lane; senders = b.ends.senders };
-    sent = b.sent;
-    drained_ = b.drained_;
-    collected = b.collected;
-  }
-
-tied_drains : (old new : DeskView) (s : ℕ) (c : Completion) (r : Receiving Completion) → IsDesk old
-    → r ≡ record old.completions { taken = old.completions.taken ++ parcel s (Some c) ∷ [] } → Drains (record old { completions = r }) c new → IsDesk new
-tied_drains old new s c r b e (first out none is) =
-    subst IsDesk (sym is) (subst (IsTied old.thread old.ledgers (old.drained ++ c ∷ []) old.requests) (sym e) (tied_first old.thread old.ledgers old.drained old.requests old.completions b s c))
-tied_drains old new s c r b e (other never is) =
-    subst IsDesk (sym is) (subst (IsTied old.thread old.ledgers old.drained old.requests) (sym e) (tied_other old.thread old.ledgers old.drained old.requests old.completions b s c))
+tied_drains : (old new : DeskView) (s : ℕ) (c : Completion) (r : Receiving Completion) → IsDesk old → Took old.completions (Item s c) r
+    → Drains (record old { completions = r }) c new → IsDesk new
+tied_drains old new s c r b took drains =
+    let same = same_took (Item s c) old.completions r took in
+    let more = ap (λ (x : Receiving Completion). arrived x.taken) took.1 ∙ arrived-item old.completions.taken s c in
+    by drains same more
+  where
+    by : Drains (record old { completions = r }) c new → SameEnd old.completions r → arrived r.taken ≡ arrived old.completions.taken ++ c ∷ [] → IsDesk new
+    by (first out none is) same more =
+        subst IsDesk (sym is) (tied_on old (old.drained ++ c ∷ []) r b same (with_last old.drained (arrived old.completions.taken) (arrived r.taken) c b.drained_ more) (λ o code. drained_code-push_again o old.drained c code))
+    by (other never is) same more =
+        subst IsDesk (sym is) (tied_on old old.drained r b same (without_last old.drained (arrived old.completions.taken) (arrived r.taken) c b.drained_ more) (λ o code some. some))
 
 pub tied_draws : (old new : DeskView) (a : Taken Completion) → Draws old a new → IsDesk old → IsDesk new
-tied_draws old new (Item s c) d b = tied_drains old new s c new.completions b d.0.1 d.1
-tied_draws old new (EndOf s) d b =
-    subst IsDesk (sym d.1) (subst (IsTied old.thread old.ledgers old.drained old.requests) (sym d.0.1) (tied_mark old.thread old.ledgers old.drained old.requests old.completions b s))
-tied_draws old new Empty d b =
-    subst IsDesk (sym d.1) (subst (IsTied old.thread old.ledgers old.drained old.requests) (sym d.0) (tied_quiet old.thread old.ledgers old.drained old.requests old.completions b _ _))
+tied_draws old new (Item s c) d b = tied_drains old new s c new.completions b d.0 d.1
+tied_draws old new (EndOf s) d b = subst IsDesk (sym d.1) (tied_on old old.drained new.completions b (same_took (EndOf s) old.completions new.completions d.0)
+    (subst (IsPartOf old.drained) (sym (ap (λ (x : Receiving Completion). arrived x.taken) d.0.1 ∙ arrived-mark old.completions.taken s)) b.drained_) (λ o code some. some))
+tied_draws old new Empty d b = subst IsDesk (sym d.1) (tied_on old old.drained new.completions b (same_took Empty old.completions new.completions d.0)
+    (subst (IsPartOf old.drained) (sym (ap (λ (x : Receiving Completion). arrived x.taken) d.0)) b.drained_) (λ o code some. some))
 
 tied_pops : (old new : DeskView) → Pops old new → IsDesk old → IsDesk new
 tied_pops old new (start _ e) b = subst IsDesk (sym e) b
@@ -91,11 +75,7 @@ pub tied_collected : (d : DeskView) (o : Operation) (code : Code) → IsKnown d.
     → IsTied d.thread (after_collected d.ledgers o code) d.drained d.requests d.completions
 tied_collected d o code known was b = let at = d.ledgers in record {
   ends = record { number = b.ends.number ∙ sym same; to = b.ends.to; lane = b.ends.lane; senders = b.ends.senders ∙ sym same };
-  sent = λ m is. let before = collected_known at o code known m is in elim (cases_eq m o.manager) [
-    | inl here ↦ b.sent m before ∙ ap (numbered d.thread 0) (sym (ap (λ (a : LedgerView). a.sent) (ledger-collected_same at o code known m here)))
-    | inr apart ↦ b.sent m before
-        ∙ ap (numbered d.thread 0) (sym (ap (λ (a : LedgerView). a.sent) (ledger-collected_other at o code known m before.positive apart)))
-  ];
+  sent = λ m is. b.sent m (collected_known at o code known m is) ∙ ap (numbered d.thread 0) (sym (collected_sends at o code known m));
   drained_ = b.drained_;
   collected = λ m is. let before = collected_known at o code known m is in elim (cases_eq m o.manager) [
     | inl here ↦
@@ -159,10 +139,8 @@ tied_submitted d m op known b = let at = d.ledgers in let x = next_request d m o
         ∙ ap (numbered d.thread 0) (sym (ap (λ (a : LedgerView). a.sent) (ledger-sent_other at m op known q before.positive apart)))
   ];
   drained_ = b.drained_;
-  collected = λ q is. let before = known_before at m q (with_sent (ledger at m) op) is in elim (cases_eq q m) [
-    | inl same ↦ subst (λ (a : LedgerView). All (WasDrained d.drained q) a.collected) (sym (ledger-sent_same at m op known q same)) (b.collected q before)
-    | inr apart ↦ subst (λ (a : LedgerView). All (WasDrained d.drained q) a.collected) (sym (ledger-sent_other at m op known q before.positive apart)) (b.collected q before)
-  ];
+  collected = λ q is. subst (All (WasDrained d.drained q)) (sym (put_same (λ a. a.collected) at m (with_sent (ledger at m) op) refl q))
+      (b.collected q (known_before at m q (with_sent (ledger at m) op) is));
 }
   where
     within : m - 1 < length d.requests

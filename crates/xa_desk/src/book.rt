@@ -137,6 +137,7 @@ impl Book {
 
     /// A completion was taken. One that names nothing outstanding, or that isn't the first for its
     /// operation, changes nothing.
+    #[tactic(auto, using(crate::proofs::Marked::number_within))]
     #[inline(always)]
     pub(crate) fn note_taken(&mut self, completion: Completion)
         ensures { Drains self.old completion self.new }
@@ -264,6 +265,7 @@ impl Book {
     }
 
     /// Whether an operation is kept.
+    #[tactic(auto, using(crate::proofs::Marked::none_kept))]
     #[inline(always)]
     pub(crate) fn keeps(&self) -> bool
         ensures some { IsTrue result → (k : ℕ) × (keeps_at self.now 0 k ≡ true) }
@@ -341,6 +343,7 @@ impl Book {
     }
 
     /// How many managers there are, which are numbered from 1.
+    #[tactic(auto, using(std::proofs::lemmas::Grind::common_steps))]
     #[inline(always)]
     pub(crate) fn managers(&self) -> u32
         ensures managers { result ≡ length self.now.ledgers }

@@ -29,6 +29,7 @@ fn is_ready(book: &Book, manager: u32, number: u32) -> bool
 }
 
 /// Whether an operation of the manager, of any for 0, is kept.
+#[tactic(auto, using(std::proofs::lemmas::Bool::cases_lt))]
 #[inline(always)]
 pub(crate) fn keeps_any(book: &Book, manager: u32) -> bool
     ensures some { IsTrue result → (k : ℕ) × (keeps_at book.now manager k ≡ true) }
@@ -47,6 +48,7 @@ pub(crate) fn keeps_any(book: &Book, manager: u32) -> bool
 }
 
 /// The least number under which a drained operation of the manager, of any for 0, is kept.
+#[tactic(auto, using(std::proofs::lemmas::Bool::cases_lt))]
 #[inline(always)]
 pub(crate) fn least_ready(book: &Book, manager: u32) -> Option<u32>
     ensures found { IfSome result (IsLeast (ready_at book.now manager)) }

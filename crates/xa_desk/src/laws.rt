@@ -17,12 +17,14 @@ ghost use Rattle.xa_desk.specs.Looks.{Looks, EndsQuiet, Collects, CollectsKept, 
 ghost use Rattle.xa_desk.specs.Tickets.{LeavesTickets, LeavesOthers};
 
 /// Looking at the lane of completions leaves every ticket owned.
+#[tactic(auto, using(crate::proofs::Looks::looking_leaves))]
 pub fn looking_leaves_tickets()
     ensures { (old new : DeskView) → Looks old new → LeavesTickets old new }
 {}
 
 /// Sending a request leaves every ticket owned, and none of them is of the new operation. A lane that is
 /// full leaves them too.
+#[tactic(auto, using(crate::proofs::Tickets::sent_rules))]
 pub fn sending_leaves_tickets()
     ensures left { (old : DeskView) (m : ℕ) (op : Op) → IsKnown old.ledgers m → LeavesTickets old (submitted old m op) }
     ensures fresh { (old : DeskView) (m : ℕ) (op : Op) → IsKnown old.ledgers m → (t : TicketView) → Owns old t
@@ -44,6 +46,7 @@ pub fn keeping_leaves_others()
 {}
 
 /// A desk goes on as it is, and one that went on may go on.
+#[tactic(auto, using(crate::proofs::GoesOn::goes_same, crate::proofs::GoesOn::goes_further))]
 pub fn desks_go_on()
     ensures same { (d : DeskView) → GoesOn d d }
     ensures further { (old mid new : DeskView) → GoesOn old mid → GoesOn mid new → GoesOn old new }

@@ -17,6 +17,7 @@ use std::sync::Wait;
 use xa_words::{Code, Op};
 
 // Takes until the operation's completion is drained, or the lane is found empty.
+#[tactic(auto, using(crate::proofs::Looks::look_rules))]
 #[inline(always)]
 fn look_for<R: Wait>(rt: &R, book: &mut Book, operation: Operation) -> bool
     requires { IsOut book.old.ledgers operation }
@@ -39,6 +40,7 @@ fn look_for<R: Wait>(rt: &R, book: &mut Book, operation: Operation) -> bool
 }
 
 // Takes until the operation's completion comes, which is collected, or the lane is found empty.
+#[tactic(auto, using(crate::proofs::Looks::look_rules))]
 #[inline(always)]
 fn draw_until<R: Wait>(rt: &R, book: &mut Book, operation: Operation) -> Option<Code>
     requires out { IsOut book.old.ledgers operation }
@@ -120,6 +122,7 @@ pub(crate) fn wait_for<R: Wait, I: Idle>(
 }
 
 // Takes until the lane is found empty.
+#[tactic(auto, using(crate::proofs::Looks::look_rules))]
 #[inline(always)]
 fn drain<R: Wait>(rt: &R, book: &mut Book)
     ensures quiet { EndsQuiet book.old book.new }
@@ -134,6 +137,7 @@ fn drain<R: Wait>(rt: &R, book: &mut Book)
 }
 
 /// Collects what is kept under the number, where its completion came.
+#[tactic(auto, using(crate::proofs::Looks::kept_rules))]
 pub(crate) fn try_collect_kept<R: Wait>(rt: &R, book: &mut Book, number: u32) -> Option<Code>
     requires { IsSome (map.get book.old.kept number) }
     ensures collected { IfSome result (CollectsKept book.old book.new number) }

@@ -1,15 +1,9 @@
 use Rattle.xa_base.proofs.{suc, refl, ap, ◌∙◌}
-use Rattle.xa_lane.specs.{but_full, with_full}
-use Rattle.xa_desk.proofs.Waiting.{bare_full}
+use Rattle.xa_lane.specs.{with_full}
 use Rattle.xa_desk.proofs.ended.end_one.Goals as goal
 
 pub loop-init : goal.loop-init
 loop-init g c = record { fulls = (0, refl, refl); idled = g.met.I.Idle.leads_start _ }
-
-pub returns-in-Ok-clause-ended : goal.returns-in-Ok-clause-ended
-returns-in-Ok-clause-ended g c =
-    let fulls = c.loop.invariant.fulls in
-    ap but_full (c.in-Ok.ensures.ended ∙ fulls.1) ∙ bare_full fulls.0 c.args.sender
 
 pub loop-preserved : goal.loop-preserved
 loop-preserved g c =

@@ -1,5 +1,5 @@
-use Rattle.xa_desk.proofs.Tickets.{collected_leaves}
+use Rattle.xa_desk.proofs.GoesOn.{collects_stays}
 use Rattle.xa_desk.proofs.laws.collecting_leaves_others.Goals as goal
 
 pub returns : goal.returns
-returns c = collected_leaves
+returns c old new o code x = (collects_stays old new o code x).tickets

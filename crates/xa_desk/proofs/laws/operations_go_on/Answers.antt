@@ -1,4 +1,4 @@
-use Rattle.xa_desk.proofs.GoesOn.{goes_sent, goes_fulls, goes_looking, goes_quiet, goes_collecting, goes_collecting_kept, goes_collecting_least}
+use Rattle.xa_desk.proofs.GoesOn.{goes_sent, goes_fulls, goes_looking, goes_quiet, goes_collecting, kept_stays, least_stays}
 use Rattle.xa_desk.proofs.laws.operations_go_on.Goals as goal
 
 pub returns : goal.returns
@@ -8,6 +8,6 @@ returns c = record {
   looking = goes_looking;
   quiet = goes_quiet;
   collecting = goes_collecting;
-  collecting_kept = goes_collecting_kept;
-  collecting_least = goes_collecting_least;
+  collecting_kept = λ old new k code x. (kept_stays old new k code x).goes_on;
+  collecting_least = λ old new m k code x. (least_stays old new m k code x).goes_on;
 }

@@ -1,32 +1,22 @@
-use Rattle.xa_base.proofs.{suc, ◌+◌, List, length, ap, sym, subst, ◌∙◌, refl}
+use Rattle.xa_base.proofs.{arith, suc, ◌+◌, List, length, ap, sym, subst, ◌∙◌, refl}
 use Rattle.xa_desk.specs.LedgerView.{LedgerView}
 use Rattle.xa_desk.specs.DeskView.{DeskView}
-use Rattle.xa_desk.specs.{IsKnown, next_operation, outstanding, after_full, submitted}
+use Rattle.xa_desk.specs.{IsKnown, next_operation, outstanding, after_full}
 use Rattle.xa_desk.proofs.Ties.{fulls_alike}
 use Rattle.xa_desk.proofs.pump.send_waiting.Goals as goal
 
 pub loop-init : goal.loop-init
 loop-init g c = record { fulls = (0, refl, refl); idled = g.met.I.Idle.leads_start _ }
 
-pub offer-requires-clause-known : goal.offer-requires-clause-known
-offer-requires-clause-known g c =
+pub offer-requires : goal.offer-requires
+offer-requires g c =
     let a = fulls_alike c.loop.invariant.fulls.0 c.args.book.now c.loop.book c.args.manager c.loop.invariant.fulls.1 in
-    subst (λ (at : List LedgerView). IsKnown at c.args.manager) (sym a.ledgers) c.requires.known
-
-pub offer-requires-clause-lanes : goal.offer-requires-clause-lanes
-offer-requires-clause-lanes g c =
-    let a = fulls_alike c.loop.invariant.fulls.0 c.args.book.now c.loop.book c.args.manager c.loop.invariant.fulls.1 in
-    a.requests ∙ c.requires.lanes ∙ sym (ap length a.ledgers)
-
-pub offer-requires-clause-room : goal.offer-requires-clause-room
-offer-requires-clause-room g c =
-    let a = fulls_alike c.loop.invariant.fulls.0 c.args.book.now c.loop.book c.args.manager c.loop.invariant.fulls.1 in
-    rw a.ledgers c.requires.room
-
-pub offer-requires-clause-slot : goal.offer-requires-clause-slot
-offer-requires-clause-slot g c =
-    let a = fulls_alike c.loop.invariant.fulls.0 c.args.book.now c.loop.book c.args.manager c.loop.invariant.fulls.1 in
-    rw (a.ledgers, a.handles) c.requires.slot
+    record {
+      known = subst (λ (at : List LedgerView). IsKnown at c.args.manager) (sym a.ledgers) c.requires.known;
+      lanes = a.requests ∙ c.requires.lanes ∙ sym (ap length a.ledgers);
+      room = rw a.ledgers c.requires.room;
+      slot = rw (a.ledgers, a.handles) c.requires.slot;
+    }
 
 pub returns-in-Some-offer-clause-named : goal.returns-in-Some-offer-clause-named
 returns-in-Some-offer-clause-named g c =
@@ -34,8 +24,7 @@ returns-in-Some-offer-clause-named g c =
     c.in-Some-offer.ensures.named ∙ ap (λ (at : List LedgerView). next_operation at c.args.manager) a.ledgers
 
 pub returns-in-Some-offer-clause-sent : goal.returns-in-Some-offer-clause-sent
-returns-in-Some-offer-clause-sent g c =
-    (c.loop.invariant.fulls.0, c.in-Some-offer.ensures.sent ∙ ap (λ (d : DeskView). submitted d c.args.manager c.args.op.now) c.loop.invariant.fulls.1, c.loop.invariant.fulls.2)
+returns-in-Some-offer-clause-sent g c = grind arith
 
 pub returns-in-Some-offer-clause-more : goal.returns-in-Some-offer-clause-more
 returns-in-Some-offer-clause-more g c =

@@ -1,6 +1,5 @@
-use Rattle.xa_base.proofs.{refl, ap, sym, subst, ◌∙◌}
+use Rattle.xa_base.proofs.{arith, refl, ap}
 use Rattle.xa_desk.specs.DeskView.{DeskView}
-use Rattle.xa_desk.specs.{IsOut, IsLoose, drained_code, Collects, WaitsFor}
 use Rattle.xa_desk.specs.Waits.Waits.{begins}
 use Rattle.xa_desk.proofs.Looks.{looks_start, collects_from}
 use Rattle.xa_desk.proofs.pump.wait_for.Goals as goal
@@ -18,5 +17,4 @@ returns-in-Some-clause-waited g c = record {
 }
 
 pub wait_until-requires-clause-missing : goal.wait_until-requires-clause-missing
-wait_until-requires-clause-missing g c =
-    ap (λ (d : DeskView). drained_code c.args.operation d.drained) c.in_default.ensures.waiting ∙ sym c.in_default.ensures.code
+wait_until-requires-clause-missing g c = grind arith

@@ -1,9 +1,9 @@
-use Rattle.xa_base.proofs.{None, refl, length, replicate, sym, ◌∙◌, ap, arith, length-replicate}
+use Rattle.xa_base.proofs.{None, is_some, refl, length, replicate, sym, ◌∙◌, ap, arith, length-replicate}
 use Rattle.std.proofs.lemmas.Nat.{mul-le}
 use Rattle.xa_base.specs.{MOST_MANAGERS, MOST_REQUESTS}
-use Rattle.xa_desk.specs.{carried, no_keys, logged}
+use Rattle.xa_desk.specs.{carried, no_keys, logged, ready_with}
 use Rattle.xa_desk.proofs.Begins.{books_from, keys_from, planned_from, length-carried, begun-new}
-use Rattle.xa_desk.proofs.Marked.{kept_none, ready_none}
+use Rattle.xa_desk.proofs.Marked.{marks_none}
 use Rattle.xa_desk.proofs.book.Book.assemble.Goals as goal
 
 pub invariant_of-result : goal.invariant_of-result
@@ -22,8 +22,8 @@ invariant_of-result c =
       limits = i.limits;
       ends = i.ends;
       ends_room = i.ends_room;
-      kept_marks = kept_none c.none.result p.handles p.kept.items c.none.ensures i.kept;
-      ready_marks = ready_none c.none-2.result p.handles p.kept.items (logged c.new-2.result.items) c.none-2.ensures i.kept;
+      kept_marks = marks_none is_some c.none.result p.handles p.kept.items refl c.none.ensures i.kept;
+      ready_marks = marks_none (ready_with (logged c.new-2.result.items) 0) c.none-2.result p.handles p.kept.items refl c.none-2.ensures i.kept;
     }
 
 pub returns : goal.returns

@@ -1,7 +1,6 @@
-use Rattle.xa_base.proofs.{◌≡◌, ◌+◌, Some, ap, ◌∙◌, sym, refl, subst, arith}
-use Rattle.xa_desk.specs.LedgerView.{LedgerView}
-use Rattle.xa_desk.specs.{with_collected, Operation, IsOut, ledger, after_collected, logged, IsBooks}
-use Rattle.xa_desk.proofs.Ledgers.{ledger-read, collected-lt-sent, planned-put, length-put_ledger}
+use Rattle.xa_base.proofs.{◌≡◌, ◌+◌, ap, ◌∙◌, sym, refl, subst, arith}
+use Rattle.xa_desk.specs.{with_collected, IsOut, ledger, after_collected, logged, IsBooks}
+use Rattle.xa_desk.proofs.Ledgers.{ledger-read, room_collected, planned-put, length-put_ledger}
 use Rattle.xa_desk.proofs.Books.{books_collected}
 use Rattle.xa_desk.proofs.KeyRows.{keys_collected}
 use Rattle.xa_desk.proofs.KeptPlaces.{loose_handle}
@@ -10,24 +9,15 @@ use Rattle.xa_desk.proofs.book.Book.collect.Goals.{After-push_collected}
 
 pub push_collected-requires : goal.push_collected-requires
 push_collected-requires c =
-    let at = c.self.inside.ledgers.items in
-    let o = c.args.operation in
     let out = rw (← c.self.view_is) at c.requires.out in
-    let read = ledger-read at o.manager c.index_mut-ledger.result.now out.known c.index_mut-ledger.ensures.value in
-    let orderly = c.self.invariant.books.orderly o.manager out.known in
-    let fewer = collected-lt-sent (ledger at o.manager) o.number c.in-Some-code.code orderly out.sent out.open_ in
-    let planned = orderly.planned in
-    rw read (omega arith)
+    room_collected c.self.inside.ledgers.items c.args.operation c.in-Some-code.code c.index_mut-ledger.result.now out (c.self.invariant.books.orderly _ out.known) c.index_mut-ledger.ensures.value
 
 out : (c : After-push_collected) → IsOut c.self.inside.ledgers.items c.args.operation
 out c = rw (← c.self.view_is) at c.requires.out
 
 written : (c : After-push_collected)
     → c.push_collected.new.self ≡ with_collected (ledger c.self.inside.ledgers.items c.args.operation.manager) c.args.operation.number c.in-Some-code.code
-written c =
-    let o = c.args.operation in
-    let read = ledger-read c.self.inside.ledgers.items o.manager c.index_mut-ledger.result.now (out c).known c.index_mut-ledger.ensures.value in
-    c.push_collected.ensures ∙ ap (λ (a : LedgerView). with_collected a o.number c.in-Some-code.code) read
+written c = grind (arith, ledger-read, out)
 
 books : (c : After-push_collected)
     → IsBooks (after_collected c.self.inside.ledgers.items c.args.operation c.in-Some-code.code) c.remove.new.self c.self.inside.kept.items (logged c.self.inside.drained.items)
@@ -37,9 +27,8 @@ books c =
     let code = c.in-Some-code.code in
     let slot = c.in-Some.slot in
     let named = c.in-Some.ensures.named in
-    let loose = rw (← c.self.view_is) at c.requires.loose in
     let handle =
-    loose_handle at c.self.inside.slots c.in-Some.key slot c.self.inside.kept.items (logged c.self.inside.drained.items) i.books c.in-Some.ensures.found (λ k kept. loose k (kept ∙ ap (λ (p : Operation). Some p) named)) in
+    loose_handle at c.self.inside.slots c.in-Some.key slot c.self.inside.kept.items (logged c.self.inside.drained.items) i.books c.in-Some.ensures.found c.args.operation named (rw (← c.self.view_is) at c.requires.loose) in
     let after =
     books_collected at c.self.inside.slots c.remove.new.self c.in-Some.key slot code c.self.inside.kept.items (logged c.self.inside.drained.items) i.books c.in-Some.ensures.found c.in-Some-code.is handle c.remove.ensures.updates c.remove.ensures.len in
     subst (λ p. IsBooks (after_collected at p code) c.remove.new.self c.self.inside.kept.items (logged c.self.inside.drained.items)) named after

@@ -1,15 +1,14 @@
-use Rattle.xa_base.proofs.{◌≡◌, ◌≢◌, ◌-◌, ◌+◌, ◌∷◌, ◌++◌, [], Some, None, set, ap, ◌∙◌, sym, refl, subst, arith, length-append, false≢true, map-append}
+use Rattle.xa_base.proofs.{◌≡◌, ◌≢◌, ◌-◌, ◌+◌, ◌∷◌, ◌++◌, [], None, set, ap, ◌∙◌, sym, refl, subst, arith, length-append, false≢true, map-append}
 use Rattle.slab.specs.Slab.{Slab, slab_len, Updates}
 use Rattle.xa_desk.specs.{Slot, with_collected, Operation, Collected, desk_of, IsOut, ledger, after_collected, operation_of, drained_code, first, AreReady}
 use Rattle.xa_desk.specs.{logged, HasKept, IsBooks}
-use Rattle.xa_desk.specs.LedgerView.{LedgerView}
-use Rattle.xa_desk.proofs.Ledgers.{ledger-read, collected-lt-sent, planned-put, length-put_ledger}
+use Rattle.xa_desk.proofs.Ledgers.{ledger-read, room_collected, planned-put, length-put_ledger}
 use Rattle.xa_desk.proofs.Books.{books_taken, drained_code-push_first}
 use Rattle.xa_desk.proofs.Counts.{drained-lt-planned}
 use Rattle.xa_desk.proofs.KeyRows.{keys_collected}
 use Rattle.xa_desk.proofs.KeptPlaces.{loose_handle}
 use Rattle.xa_desk.proofs.Looks.{still_missing}
-use Rattle.xa_desk.proofs.Marked.{ready_taken}
+use Rattle.xa_desk.proofs.Marked.{ready_drained}
 use Rattle.xa_desk.proofs.book.Book.collect_taken.Goals as goal
 use Rattle.xa_desk.proofs.book.Book.collect_taken.Goals.{In-Some, After-push_collected}
 
@@ -40,9 +39,8 @@ waiting c =
 
 loose : (c : In-Some) → c.in-Some.field-0-1.handle ≡ 0
 loose c =
-    let loose_at = rw (← c.self.view_is) at c.requires.loose in
     loose_handle c.self.inside.ledgers.items c.self.inside.slots c.in-Some.key c.in-Some.field-0-1 c.self.inside.kept.items (logged c.self.inside.drained.items) c.self.invariant.books c.in-Some.ensures.found
-    (λ k kept. loose_at k (kept ∙ ap (λ (p : Operation). Some p) c.in-Some.ensures.named))
+    c.args.operation c.in-Some.ensures.named (rw (← c.self.view_is) at c.requires.loose)
 
 pub overflow_add-self : goal.overflow_add-self
 overflow_add-self c =
@@ -56,22 +54,12 @@ overflow_add-self c =
 
 pub push_collected-requires : goal.push_collected-requires
 push_collected-requires c =
-    let d = (goal.at.push_collected-requires c).In-Some in
-    let at = c.self.inside.ledgers.items in
-    let o = c.args.operation in
-    let read = ledger-read at o.manager c.index_mut-ledger.result.now (out d).known c.index_mut-ledger.ensures.value in
-    let orderly = c.self.invariant.books.orderly o.manager (out d).known in
-    let fewer = collected-lt-sent (ledger at o.manager) o.number c.args.completion.code orderly (out d).sent (out d).open_ in
-    let planned = orderly.planned in
-    rw read (omega arith)
+    let is = out ((goal.at.push_collected-requires c).In-Some) in
+    room_collected c.self.inside.ledgers.items c.args.operation c.args.completion.code c.index_mut-ledger.result.now is (c.self.invariant.books.orderly _ is.known) c.index_mut-ledger.ensures.value
 
 written : (c : After-push_collected)
     → c.push_collected.new.self ≡ with_collected (ledger c.self.inside.ledgers.items c.args.operation.manager) c.args.operation.number c.args.completion.code
-written c =
-    let o = c.args.operation in
-    let was_out = rw (← c.self.view_is) at c.requires.out in
-    let read = ledger-read c.self.inside.ledgers.items o.manager c.index_mut-ledger.result.now was_out.known c.index_mut-ledger.ensures.value in
-    c.push_collected.ensures ∙ ap (λ (a : LedgerView). with_collected a o.number c.args.completion.code) read
+written c = grind (arith, out, ledger-read)
 
 drained : (c : After-push_collected) → logged c.and-self-inside.result.items ≡ logged c.self.inside.drained.items ++ c.args.completion ∷ []
 drained c = ap logged c.and-self-inside.ensures ∙ map-append (λ p. p.0) c.self.inside.drained.items ((c.args.completion, tt) ∷ [])
@@ -91,9 +79,9 @@ marks c =
     let i = c.self.invariant in
     let slot : HasKept c.self.inside.slots (operation_of c.args.completion) 0 =
     record { key = c.in-Some.key; slot = c.in-Some.field-0-1; found = c.in-Some.ensures.found; names = c.in-Some.ensures.named ∙ its c; handle = loose c } in
-    ready_taken c.self.inside.ledgers.items c.self.inside.slots c.self.inside.kept.items (logged c.self.inside.drained.items) c.args.completion c.self.inside.ready_marks i.books slot
+    ready_drained c.self.inside.ledgers.items c.self.inside.slots c.self.inside.kept.items (logged c.self.inside.drained.items) c.args.completion 0 c.self.inside.ready_marks c.self.inside.ready_marks i.books slot
     (ap (λ (o : Operation). drained_code o (logged c.self.inside.drained.items)) (sym (its c)) ∙ missing c)
-    i.ready_marks
+    i.ready_marks (λ k no. absurd (omega (arith, no))) (λ k apart. refl)
 
 pub invariant_of-self : goal.invariant_of-self
 invariant_of-self c =

@@ -6,9 +6,7 @@ pub returns-clause-limit : goal.returns-clause-limit
 returns-clause-limit c = c.self.invariant.limits.handles.1
 
 pub returns-clause-past : goal.returns-clause-past
-returns-clause-past c = λ k past.
-    let places = c.self.invariant.places in
-    rw (← c.self.view_is) (get-kept_of_past c.self.inside.kept.items k (omega arith))
+returns-clause-past c = grind (arith, get-kept_of_past)
 
 pub returns-clause-zero : goal.returns-clause-zero
 returns-clause-zero c = rw (← c.self.view_is) (get-kept_of_zero c.self.inside.kept.items)

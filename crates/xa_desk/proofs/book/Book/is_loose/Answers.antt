@@ -1,4 +1,4 @@
-use Rattle.xa_base.proofs.{Some, sym, ◌∙◌, ap, subst, eqb-true, eq-eqb}
+use Rattle.xa_base.proofs.{subst, eqb-true, eq-eqb}
 use Rattle.xa_desk.specs.{Operation, IsOut, logged}
 use Rattle.xa_desk.proofs.KeptPlaces.{loose_handle, loose_from_handle}
 use Rattle.xa_desk.proofs.book.Book.is_loose.Goals as goal
@@ -13,7 +13,7 @@ returns-in-Some c =
     rw (← c.self.view_is) (
       λ e. (
         subst (λ (o : Operation). IsOut at o) named (b.slot_out _ c.in-Some.slot there),
-        λ k kept. loose_from_handle at c.self.inside.slots _ c.in-Some.slot table (logged c.self.inside.drained.items) b there (eqb-true c.in-Some.slot.handle 0 e) k (kept ∙ ap (λ (o : Operation). Some o) (sym named)),
+        loose_from_handle at c.self.inside.slots _ c.in-Some.slot table (logged c.self.inside.drained.items) b there _ named (eqb-true c.in-Some.slot.handle 0 e),
       ),
-      λ p. eq-eqb c.in-Some.slot.handle 0 (loose_handle at c.self.inside.slots _ c.in-Some.slot table (logged c.self.inside.drained.items) b there (λ k kept. p.1 k (kept ∙ ap (λ (o : Operation). Some o) named))),
+      λ p. eq-eqb c.in-Some.slot.handle 0 (loose_handle at c.self.inside.slots _ c.in-Some.slot table (logged c.self.inside.drained.items) b there _ named p.1),
     )

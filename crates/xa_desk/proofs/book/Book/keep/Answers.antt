@@ -8,43 +8,29 @@ use Rattle.xa_desk.proofs.Books.{books_rehandled, Rehandles}
 use Rattle.xa_desk.proofs.KeyRows.{keys_kept}
 use Rattle.xa_desk.proofs.KeptPlaces.{loose_handle, rehandles_keep, kept_of-insert, least_free}
 use Rattle.xa_desk.proofs.Counts.{free_place}
-use Rattle.xa_desk.proofs.Marked.{some_from, kept_past, clear_within, kept_set, ready_set}
+use Rattle.xa_desk.proofs.Marked.{kept_past, clear_within, marks_set}
 use Rattle.xa_desk.proofs.book.Book.keep.Goals as goal
 use Rattle.xa_desk.proofs.book.Book.keep.Goals.{After-first_clear-place}
 
 taken : (c : After-first_clear-place) (k : ℕ) → k < c.first_clear-place.result → IsSome (get_or c.self.inside.kept.items k None)
-taken c k below = some_from (get_or c.self.inside.kept.items k None) (sym (c.self.invariant.kept_marks k) ∙ c.first_clear-place.ensures.marked k below)
+taken c k below = sym (c.self.invariant.kept_marks k) ∙ c.first_clear-place.ensures.marked k below
 
 has : (c : After-first_clear-place) → HasSlot c.self.inside.slots c.args.operation
 has c = c.self.invariant.books.out_slot c.args.operation (rw (← c.self.view_is) at c.requires.out)
 
 unkept : (c : After-first_clear-place) (key : ℕ) (slot : Slot) → get c.self.inside.slots key ≡ Some slot → slot.operation ≡ c.args.operation → slot.handle ≡ 0
 unkept c key slot found names =
-    let loose = rw (← c.self.view_is) at c.requires.loose in
-    loose_handle c.self.inside.ledgers.items c.self.inside.slots key slot c.self.inside.kept.items (logged c.self.inside.drained.items) c.self.invariant.books found
-    (λ k kept. loose k (kept ∙ ap (λ (p : Operation). Some p) names))
+    loose_handle c.self.inside.ledgers.items c.self.inside.slots key slot c.self.inside.kept.items (logged c.self.inside.drained.items) c.self.invariant.books found c.args.operation names (rw (← c.self.view_is) at c.requires.loose)
 
 within : (c : After-first_clear-place) → c.first_clear-place.result < length c.self.inside.kept.items
-within c =
-    let i = c.self.invariant in
-    let h = has c in
-    let used = i.books.count in
-    let slot = rw (← c.self.view_is) at c.requires.slot in
-    let places = i.places in
-    let most = clear_within c.self.inside.kept_marks c.self.inside.kept.items c.first_clear-place.result i.kept_marks c.first_clear-place.ensures.marked in
-    free_place c.self.inside.ledgers.items c.self.inside.slots c.self.inside.kept.items (logged c.self.inside.drained.items) h.key h.slot i.books h.found (unkept c h.key h.slot h.found h.names) (omega arith) c.first_clear-place.result most (taken c)
+within c = grind (arith, has, clear_within, free_place, unkept, taken)
 
 free : (c : After-first_clear-place) → get_or c.self.inside.kept.items c.first_clear-place.result None ≡ None
-free c =
-    is_missing (get_or c.self.inside.kept.items c.first_clear-place.result None) (sym (c.self.invariant.kept_marks c.first_clear-place.result) ∙ c.first_clear-place.ensures.clear)
+free c = grind (arith, is_missing)
 
 -- there are at most 32 places
 few : (c : After-first_clear-place) → c.first_clear-place.result < 32
-few c =
-    let below = within c in
-    let places = c.self.invariant.places in
-    let most = c.self.invariant.limits.handles in
-    omega arith
+few c = grind (arith, within)
 
 pub first_clear-place-requires : goal.first_clear-place-requires
 first_clear-place-requires c =
@@ -100,8 +86,8 @@ invariant_of-self c =
       limits = i.limits;
       ends = i.ends;
       ends_room = i.ends_room;
-      kept_marks = kept_set c.self.inside.kept_marks c.mark.new.self old place (Some c.args.operation) (within d) i.kept_marks c.mark.ensures.marked c.mark.ensures.others;
-      ready_marks = ready_set c.self.inside.ready_marks c.mark_if.new.self old drained place (Some c.args.operation) (within d) i.ready_marks marked c.mark_if.ensures.others;
+      kept_marks = marks_set is_some c.self.inside.kept_marks c.mark.new.self old place (Some c.args.operation) (within d) i.kept_marks c.mark.ensures.marked c.mark.ensures.others;
+      ready_marks = marks_set (ready_with drained 0) c.self.inside.ready_marks c.mark_if.new.self old place (Some c.args.operation) (within d) i.ready_marks marked c.mark_if.ensures.others;
     }
 
 pub returns-clause-least : goal.returns-clause-least

@@ -1,4 +1,4 @@
-use Rattle.xa_base.proofs.{◌≡◌, suc, ◌-◌, None, subst, sym, ◌∙◌, arith}
+use Rattle.xa_base.proofs.{◌-◌, None, subst, sym, ◌∙◌, arith}
 use Rattle.std.proofs.lemmas.List.{get_or_read}
 use Rattle.xa_desk.specs.{IsOut, Operation}
 use Rattle.xa_desk.proofs.KeptPlaces.{IfSome_from, get-kept_of, get-kept_of_zero, get-kept_of_past}
@@ -8,9 +8,7 @@ pub returns-then-number-eq0-clause-kept : goal.returns-then-number-eq0-clause-ke
 returns-then-number-eq0-clause-kept c = rw (← c.self.view_is, c.if-number-eq0.true) (sym (get-kept_of_zero c.self.inside.kept.items))
 
 pub returns-then-number-len-clause-kept : goal.returns-then-number-len-clause-kept
-returns-then-number-len-clause-kept c =
-    let same = c.self.inside.kept.ok.0 in
-    rw (← c.self.view_is) (sym (get-kept_of_past c.self.inside.kept.items c.args.number (omega arith)))
+returns-then-number-len-clause-kept c = grind (arith, get-kept_of_past)
 
 pub returns-clause-out : goal.returns-clause-out
 returns-clause-out c = IfSome_from c.index.result.now (λ o. IsOut c.args.self.now.ledgers o) (λ o e.
@@ -21,8 +19,4 @@ returns-clause-out c = IfSome_from c.index.result.now (λ o. IsOut c.args.self.n
     rw (← c.self.view_is) (subst (λ (p : Operation). IsOut c.self.inside.ledgers.items p) h.names (c.self.invariant.books.slot_out h.key h.slot h.found)))
 
 pub returns-clause-kept : goal.returns-clause-kept
-returns-clause-kept c =
-    let same = c.self.inside.kept.ok.0 in
-    let positive = c.if-number-eq0.false in
-    let is : c.args.number ≡ suc (c.args.number - 1) = omega arith in
-    rw (← c.self.view_is) (get_or_read c.self.inside.kept.items (c.args.number - 1) c.index.result.now (omega arith) c.index.ensures None ∙ sym (get-kept_of c.self.inside.kept.items (c.args.number - 1) c.args.number is))
+returns-clause-kept c = grind (arith, get_or_read, get-kept_of)

@@ -1,12 +1,11 @@
-use Rattle.xa_base.proofs.{◌≡◌, ◌+◌, ◌-◌, ◌<◌, ℕ, Some, None, ap, ◌∙◌, sym, refl, subst, arith, length}
-use Rattle.std.proofs.lemmas.List.{get_or_read}
+use Rattle.xa_base.proofs.{◌≡◌, ◌+◌, ℕ, Some, ap, ◌∙◌, sym, refl, arith, length}
 use Rattle.slab.specs.Slab.{Updates}
-use Rattle.xa_desk.specs.{Operation, with_sent, IsKnown, ledger, after_sent, logged, KeysView, no_keys, with_key, row_of, IsBooks, AreKeys}
+use Rattle.xa_desk.specs.{Operation, with_sent, IsKnown, ledger, after_sent, logged, KeysView, with_key, row_of, IsBooks, AreKeys}
 use Rattle.xa_desk.specs.LedgerView.{LedgerView}
-use Rattle.xa_desk.proofs.Ledgers.{ledger-read, planned-put, length-put_ledger, sent_now_out, unsent}
+use Rattle.xa_desk.proofs.Ledgers.{ledger-read, planned-put, length-put_ledger, sent_now_out}
 use Rattle.xa_desk.proofs.KeptPlaces.{loose_from_handle}
-use Rattle.xa_desk.proofs.Books.{books_sent, fresh}
-use Rattle.xa_desk.proofs.KeyRows.{entered, keys_sent}
+use Rattle.xa_desk.proofs.Books.{books_sent, fresh_slot}
+use Rattle.xa_desk.proofs.KeyRows.{entered, keys_sent, row-read}
 use Rattle.xa_desk.proofs.book.Book.note_sent.Goals as goal
 use Rattle.xa_desk.proofs.book.Book.note_sent.Goals.{After-enter}
 
@@ -19,13 +18,9 @@ enter-requires c =
     let is_known = rw (← c.self.view_is) at c.requires.known in
     let room = rw (← c.self.view_is) at c.requires.room in
     let k = c.self.invariant.keys in
-    let rows = k.number in
     let sent = k.sent m is_known in
     let planned = k.planned m is_known in
-    let positive = is_known.positive in
-    let most = is_known.within in
-    let below : m - 1 < length c.self.inside.rows.items = omega arith in
-    let read = get_or_read c.self.inside.rows.items (m - 1) c.index_mut-row.result.now below c.index_mut-row.ensures.value (no_keys 0) in
+    let read = row-read c.self.inside.ledgers.items c.self.inside.rows.items m c.index_mut-row.result.now k.number is_known c.index_mut-row.ensures.value in
     let in_range = c.insert_reserved-key.ensures.key_in_range in
     let same = c.insert_reserved-key.ensures.capacity in
     let few = c.self.invariant.slots_room.1 in
@@ -44,9 +39,8 @@ number : (c : After-enter) → c.next_number-number.result ≡ length (ledger c.
 number c = c.next_number-number.ensures.sent ∙ ap (λ (a : LedgerView). length a.sent) (read c)
 
 updates : (c : After-enter)
-    → Updates c.self.inside.slots c.insert_reserved-key.new.self c.insert_reserved-key.result (Some (record { operation = record { manager = c.args.manager; number = length (ledger c.self.inside.ledgers.items c.args.manager).sent }; code = None; handle = 0 }))
-updates c =
-    subst (λ k. Updates c.self.inside.slots c.insert_reserved-key.new.self c.insert_reserved-key.result (Some (record { operation = record { manager = c.args.manager; number = k }; code = None; handle = 0 }))) (number c) c.insert_reserved-key.ensures.updates
+    → Updates c.self.inside.slots c.insert_reserved-key.new.self c.insert_reserved-key.result (Some (fresh_slot (operation_at c.args.manager (length (ledger c.self.inside.ledgers.items c.args.manager).sent))))
+updates c = rw (number c) at c.insert_reserved-key.ensures.updates
 
 books : (c : After-enter)
     → IsBooks (after_sent c.self.inside.ledgers.items c.args.manager c.args.op.now) c.insert_reserved-key.new.self c.self.inside.kept.items (logged c.self.inside.drained.items)
@@ -54,30 +48,18 @@ books c =
     let room = rw (← c.self.view_is) at c.requires.room in
     books_sent c.self.inside.ledgers.items c.args.manager c.args.op.now (known c) c.self.inside.slots c.insert_reserved-key.new.self c.insert_reserved-key.result c.self.inside.kept.items (logged c.self.inside.drained.items) c.self.invariant.books room c.insert_reserved-key.ensures.was_vacant (updates c) c.insert_reserved-key.ensures.len
 
-within : (c : After-enter) → c.args.manager - 1 < length c.self.inside.rows.items
-within c =
-    let rows = c.self.invariant.keys.number in
-    let k = known c in
-    let positive = k.positive in
-    let most = k.within in
-    omega arith
-
 entering : (c : After-enter) → c.enter.new.self ≡ with_key (row_of c.self.inside.rows.items c.args.manager) c.insert_reserved-key.result
 entering c =
-    c.enter.ensures
-    ∙ ap (λ (row : KeysView). with_key row c.insert_reserved-key.result) (get_or_read c.self.inside.rows.items (c.args.manager - 1) c.index_mut-row.result.now (within c) c.index_mut-row.ensures.value (no_keys 0))
+    c.enter.ensures ∙ ap (λ (row : KeysView). with_key row c.insert_reserved-key.result)
+    (row-read c.self.inside.ledgers.items c.self.inside.rows.items c.args.manager c.index_mut-row.result.now c.self.invariant.keys.number (known c) c.index_mut-row.ensures.value)
 
 keys : (c : After-enter)
     → AreKeys (after_sent c.self.inside.ledgers.items c.args.manager c.args.op.now) (entered c.self.inside.rows.items c.args.manager c.insert_reserved-key.result) c.insert_reserved-key.new.self
 keys c =
     let at = c.self.inside.ledgers.items in
     let m = c.args.manager in
-    let b = c.self.invariant.books in
-    keys_sent at m c.args.op.now (known c) c.self.inside.rows.items c.self.inside.slots c.insert_reserved-key.new.self c.insert_reserved-key.result
-    (fresh at m c.args.op.now (known c) c.self.inside.slots c.insert_reserved-key.new.self c.insert_reserved-key.result c.self.inside.kept.items (logged c.self.inside.drained.items))
-    c.self.invariant.keys refl
-    (λ k y found. let o = b.slot_out k y found in (o.known.positive, unsent at m c.args.op.now (known c) y.operation (record { known = o.known; sent = o.sent })))
-    (updates c)
+    keys_sent at m c.args.op.now (known c) c.self.inside.rows.items c.self.inside.slots c.insert_reserved-key.new.self c.insert_reserved-key.result (fresh_slot (operation_at m (length (ledger at m).sent)))
+    c.self.invariant.keys refl c.self.invariant.books.slot_out (updates c)
 
 pub invariant_of-self : goal.invariant_of-self
 invariant_of-self c =
@@ -110,11 +92,11 @@ returns-clause-out c =
     rw (written d, number d) (sent_now_out at c.args.manager c.args.op.now (known d) (c.self.invariant.books.orderly c.args.manager (known d)))
 
 pub returns-clause-loose : goal.returns-clause-loose
-returns-clause-loose c = λ k e.
+returns-clause-loose c =
     let d = (goal.at.returns-clause-loose c).After-enter in
     let at = c.self.inside.ledgers.items in
-    loose_from_handle (after_sent at c.args.manager c.args.op.now) c.insert_reserved-key.new.self c.insert_reserved-key.result (fresh at c.args.manager c.args.op.now (known d) c.self.inside.slots c.insert_reserved-key.new.self c.insert_reserved-key.result c.self.inside.kept.items (logged c.self.inside.drained.items)) c.self.inside.kept.items (logged c.self.inside.drained.items) (books d) (updates d).changed refl k
-    (e ∙ ap (λ n. Some (operation_at c.args.manager n)) (number d))
+    loose_from_handle (after_sent at c.args.manager c.args.op.now) c.insert_reserved-key.new.self c.insert_reserved-key.result (fresh_slot (operation_at c.args.manager (length (ledger at c.args.manager).sent))) c.self.inside.kept.items (logged c.self.inside.drained.items) (books d) (updates d).changed
+    (operation_at c.args.manager c.next_number-number.result) (ap (operation_at c.args.manager) (sym (number d))) refl
 
 pub returns-clause-more : goal.returns-clause-more
 returns-clause-more c =

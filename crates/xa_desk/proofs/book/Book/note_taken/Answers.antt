@@ -1,21 +1,12 @@
-use Rattle.xa_base.proofs.{◌≡◌, List, [], ◌∷◌, ◌++◌, None, sym, refl, ap, ◌∙◌, subst, arith, length-append, map-append}
+use Rattle.xa_base.proofs.{◌≡◌, List, [], ◌∷◌, ◌++◌, None, refl, ap, ◌∙◌, subst, arith, length-append, map-append}
 use Rattle.xa_words.specs.{Completion}
 use Rattle.xa_desk.specs.{Operation, desk_of, IsOut, operation_of, drained_code, first, other, logged}
 use Rattle.xa_desk.proofs.Books.{books_drained}
 use Rattle.xa_desk.proofs.Counts.{drained-lt-planned}
-use Rattle.xa_desk.proofs.Marked.{number_within, ready_drained}
+use Rattle.xa_desk.proofs.Marked.{ready_drained}
 use Rattle.xa_desk.proofs.KeyRows.{keys_kept}
 use Rattle.xa_desk.proofs.book.Book.note_taken.Goals as goal
 use Rattle.xa_desk.proofs.book.Book.note_taken.Goals.{After-and-self-inside}
-
-pub mark_number-requires : goal.mark_number-requires
-mark_number-requires c =
-    let i = c.self.invariant in
-    let within =
-    number_within c.self.inside.ledgers.items c.self.inside.slots c.self.inside.kept.items (logged c.self.inside.drained.items) (operation_of c.args.completion) c.in-Some.number i.books c.in-Some.ensures.number in
-    let places = i.places in
-    let most = i.limits.handles in
-    omega arith
 
 pub overflow_add-self : goal.overflow_add-self
 overflow_add-self c =
@@ -32,9 +23,7 @@ one_more c = ap logged c.and-self-inside.ensures ∙ map-append (λ p. p.0) c.se
 
 -- no completion was drained for the operation before
 fresh : (c : After-and-self-inside) → drained_code (operation_of c.args.completion) (logged c.self.inside.drained.items) ≡ None
-fresh c =
-    let e = c.in-Some.ensures.entered in
-    subst (λ (o : Operation). drained_code o (logged c.self.inside.drained.items) ≡ None) e.names (sym (c.self.invariant.books.coded e.key e.slot e.found) ∙ e.waiting)
+fresh c = grind arith
 
 pub invariant_of-self : goal.invariant_of-self
 invariant_of-self c =

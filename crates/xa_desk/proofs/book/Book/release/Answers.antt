@@ -1,10 +1,10 @@
-use Rattle.xa_base.proofs.{◌<◌, ◌-◌, Some, None, set, sym, ◌∙◌, refl, ap, arith, nat_cmp, length-set}
+use Rattle.xa_base.proofs.{◌-◌, None, is_some, set, sym, ◌∙◌, refl, ap, arith, nat_cmp, length-set}
 use Rattle.std.specs.FinMap as map
-use Rattle.xa_desk.specs.{Operation, logged, IsBooks, desk_of}
-use Rattle.xa_desk.proofs.Books.{books_rehandled, rehandled, Rehandles}
+use Rattle.xa_desk.specs.{Operation, logged, IsBooks, desk_of, ready_with}
+use Rattle.xa_desk.proofs.Books.{books_rehandled, Rehandles}
 use Rattle.xa_desk.proofs.KeyRows.{keys_kept}
 use Rattle.xa_desk.proofs.KeptPlaces.{kept_place, KeptPlace, kept_handle, rehandles_release, kept_of-remove, loose_from_handle}
-use Rattle.xa_desk.proofs.Marked.{kept_set, ready_set}
+use Rattle.xa_desk.proofs.Marked.{marks_set}
 use Rattle.xa_desk.proofs.book.Book.release.Goals as goal
 use Rattle.xa_desk.proofs.book.Book.release.Goals.{In_ok-operation, After-clear-2}
 
@@ -19,32 +19,12 @@ enter_handle-was_ready-requires-clause-there c =
     let h = c.self.invariant.books.tabled (c.args.number - 1) c.in_ok-operation.operation p.there in
     record { key = h.key; slot = h.slot; found = h.found; names = h.names }
 
-pub overflow_sub-place : goal.overflow_sub-place
-overflow_sub-place c =
-    let p = place ((goal.at.overflow_sub-place c).In_ok-operation) in
-    let is = p.is in
-    omega arith
-
 pub index_mut-requires : goal.index_mut-requires
 index_mut-requires c =
     let p = place ((goal.at.index_mut-requires c).In_ok-operation) in
     let within = p.within in
     let same = c.self.inside.kept.ok.0 in
     omega arith
-
--- there are at most 32 places
-few : (c : In_ok-operation) → c.args.number - 1 < 32
-few c =
-    let within = (place c).within in
-    let places = c.self.invariant.places in
-    let most = c.self.invariant.limits.handles in
-    omega arith
-
-pub clear-requires : goal.clear-requires
-clear-requires c = let below = few ((goal.at.clear-requires c).In_ok-operation) in omega arith
-
-pub clear-requires-2 : goal.clear-requires-2
-clear-requires-2 c = let below = few ((goal.at.clear-requires-2 c).In_ok-operation) in omega arith
 
 books : (c : After-clear-2)
     → IsBooks c.self.inside.ledgers.items c.enter_handle-was_ready.new.slots (set c.self.inside.kept.items (c.args.number - 1) None) (logged c.self.inside.drained.items)
@@ -75,8 +55,8 @@ invariant_of-self c =
       limits = i.limits;
       ends = i.ends;
       ends_room = i.ends_room;
-      kept_marks = kept_set c.self.inside.kept_marks c.clear.new.self c.self.inside.kept.items (c.args.number - 1) None p.within i.kept_marks c.clear.ensures.cleared c.clear.ensures.others;
-      ready_marks = ready_set c.self.inside.ready_marks c.clear-2.new.self c.self.inside.kept.items (logged c.self.inside.drained.items) (c.args.number - 1) None p.within i.ready_marks c.clear-2.ensures.cleared c.clear-2.ensures.others;
+      kept_marks = marks_set is_some c.self.inside.kept_marks c.clear.new.self c.self.inside.kept.items (c.args.number - 1) None p.within i.kept_marks c.clear.ensures.cleared c.clear.ensures.others;
+      ready_marks = marks_set (ready_with (logged c.self.inside.drained.items) 0) c.self.inside.ready_marks c.clear-2.new.self c.self.inside.kept.items (c.args.number - 1) None p.within i.ready_marks c.clear-2.ensures.cleared c.clear-2.ensures.others;
     }
 
 pub returns-clause-freed : goal.returns-clause-freed
@@ -85,8 +65,4 @@ returns-clause-freed c =
     rw (← c.self.view_is) (ap (λ (k : map.FinMap nat_cmp Operation). record (desk_of c.self.inside) { kept = k }) (kept_of-remove c.self.inside.kept.items (c.args.number - 1) c.args.number p.is p.within))
 
 pub returns-clause-loose : goal.returns-clause-loose
-returns-clause-loose c = λ k kept.
-    let e = c.enter_handle-was_ready.ensures.entered in
-    let free =
-    rehandled c.self.inside.ledgers.items c.self.inside.slots c.enter_handle-was_ready.new.slots e.key e.slot 0 c.self.inside.kept.items (set c.self.inside.kept.items (c.args.number - 1) None) (logged c.self.inside.drained.items) in
-    loose_from_handle c.self.inside.ledgers.items c.enter_handle-was_ready.new.slots e.key free (set c.self.inside.kept.items (c.args.number - 1) None) (logged c.self.inside.drained.items) (books c) e.updates.changed refl k (kept ∙ ap (λ (o : Operation). Some o) (sym e.names))
+returns-clause-loose c = grind (arith, loose_from_handle, books)

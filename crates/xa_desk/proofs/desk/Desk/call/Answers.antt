@@ -1,8 +1,7 @@
 use Rattle.xa_base.proofs.{◌≡◌, None, sym, subst, arith}
 use Rattle.xa_desk.specs.{call_refusal}
 use Rattle.xa_desk.proofs.Desks.{call_known, called_desk}
-use Rattle.xa_desk.proofs.Looks.{collects_stays}
-use Rattle.xa_desk.proofs.GoesOn.{goes_called}
+use Rattle.xa_desk.proofs.GoesOn.{goes_called, collects_stays}
 use Rattle.xa_desk.proofs.Tickets.{called_leaves, leaves_seen}
 use Rattle.xa_desk.proofs.desk.Desk.call.Goals as goal
 
@@ -15,7 +14,7 @@ invariant_of-self g c =
     let stays = collects_stays _ _ _ _ c.wait_until.ensures.collected in
     let fewer = c.wait_until.ensures.collected.fewer in
     let more = c.send_waiting-operation.ensures.more in
-    let handles = stays.handles in
+    let handles = stays.goes_on.handles in
     let before = called.1 in
     let fit = c.self.invariant.0 in
     (omega arith, stays.tied called.0)
