@@ -1,5 +1,5 @@
 -- What a request to one manager does to a desk.
-use Rattle.xa_base.proofs.{◌≡◌, ◌≢◌, ℕ, ◌+◌, ◌≤◌, if◌then◌else◌, Option, None, Some, length, refl, sym, ap, ◌∙◌, subst, at_false, at_true}
+use Rattle.xa_base.proofs.{arith, ◌≡◌, ◌≢◌, ℕ, ◌+◌, ◌≤◌, if◌then◌else◌, Option, None, Some, length, refl, sym, ap, ◌∙◌, subst, at_false, at_true}
 use Rattle.xa_words.specs.declared.code.Code.{Code}
 use Rattle.xa_words.specs.{Op}
 use Rattle.xa_desk.specs.{Operation, learnt_shut, with_sent, with_collected, TicketView, IsKnown, ledger, put_ledger, after_collected, outstanding, Collects}
@@ -35,7 +35,7 @@ unmoved m a' old new e h =
     })
 
 -- one ledger was written, and nothing else that counts
-put_moved : (m : ℕ) (a' : LedgerView) (old new : DeskView) → IsKnown old.ledgers m → new.ledgers ≡ put_ledger old.ledgers m a' → KeepsDesk old new
+pub put_moved : (m : ℕ) (a' : LedgerView) (old new : DeskView) → IsKnown old.ledgers m → new.ledgers ≡ put_ledger old.ledgers m a' → KeepsDesk old new
     → Moved m a' old new
 put_moved m a' old new known e keeps = record {
   here = ap (λ l. ledger l m) e ∙ ledger-put_same old.ledgers m a' known;
@@ -51,8 +51,7 @@ sent_by a None = a
 sent_by a (Some op) = if learnt_shut a then a else with_sent a op
 
 sent_none : (a : LedgerView) (op : Option Op) → IsUnsent a op → a ≡ sent_by a op
-sent_none a None h = refl
-sent_none a (Some op) h = sym (at_true (learnt_shut a) _ _ h)
+sent_none a op h = grind (arith, at_true)
 
 pub began_moved : (k : Ask) (old new : DeskView) (r : Option TicketView) → IsKnown old.ledgers k.manager → BeginsAsk k old new r
     → Moved k.manager (sent_by (ledger old.ledgers k.manager) k.op) old new

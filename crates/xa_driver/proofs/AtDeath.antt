@@ -1,6 +1,7 @@
 -- A commit whose coordinator dies: what was asked of each branch, how far that came, and what is kept of it.
-use Rattle.xa_base.proofs.{if◌then◌else◌, ◌≡◌, ℕ, zero, suc, ◌==◌, ◌||◌, ◌<◌, ◌≤◌, Bool, true, false, inl, inr, ⊎_elim, Option, Some, None, List, [], ◌∷◌, ◌++◌}
-use Rattle.xa_base.proofs.{length, map, take, refl, sym, ap, ◌∙◌, subst, arith, append-nil, length-append, eq-eqb, length-map, or-true, some_same}
+use Rattle.xa_base.proofs.{list_any-append, none_of, rules, if◌then◌else◌, ◌≡◌, ℕ, zero, suc, ◌==◌, ◌||◌, ◌<◌, ◌≤◌, Bool, true, false, inl, inr, ⊎_elim, Option}
+use Rattle.xa_base.proofs.{Some, None, List, [], ◌∷◌, ◌++◌, length, map, take, refl, sym, ap, ◌∙◌, subst, arith, append-nil, length-append, eq-eqb, length-map}
+use Rattle.xa_base.proofs.{or-true, some_same}
 use Rattle.std.specs.Prelude.{is_none, min}
 use Rattle.std.specs.FinMap as finmap
 use Rattle.std.proofs.Math.Seq.{take-append_seam}
@@ -12,16 +13,14 @@ use Rattle.xa_desk.specs.GoesOn.{GoesOn}
 use Rattle.xa_desk.specs.LedgerView.{LedgerView}
 use Rattle.xa_desk.specs.DeskView.{DeskView}
 use Rattle.xa_desk.proofs.GoesOn.{goes_same, goes_further}
-use Rattle.xa_driver.specs.{Branch, Done, Ending, Round, Prepared, Decided, Told, Ask, AskTrace, EachAsk, EachBegan, HasBegun, IsUnsent, KeepsTheRest, SameAsks}
-use Rattle.xa_driver.specs.{among_asks, AppendsUntil, CameToVotes, Dies, HaveAsked, HaveTold, IsDecidedBy, IsOfRound, LeavesDesk, LeavesHandles, PutsLedger}
-use Rattle.xa_driver.specs.{Tells, VotesAndObeys, is_decided_by, to_come, withheld, yes_of, ending_of, second_op, AsksLedger, code_of, ending_of_ask, first_ask}
-use Rattle.xa_driver.specs.{second_ask, yes_asked, HasDecided, HasPrepared, HasTold, IsUndecided, asked_in, AppendsOnce, EachBranch, Logs, decision_of}
-use Rattle.xa_driver.specs.{has_branch_at, IsAmong, IsSent, IsUnderWay, LeavesInFlight}
+use Rattle.xa_driver.specs.{Branch, Done, Round, Prepared, Decided, Told, Ask, AskTrace, EachAsk, EachBegan, HasBegun, IsUnsent, KeepsTheRest, SameAsks}
+use Rattle.xa_driver.specs.{among_asks, CameToVotes, Dies, HaveAsked, HaveTold, IsDecidedBy, IsOfRound, LeavesDesk, LeavesHandles, PutsLedger, Tells}
+use Rattle.xa_driver.specs.{VotesAndObeys, is_decided_by, to_come, withheld, ending_of, second_op, AsksLedger, code_of, ending_of_ask, first_ask, second_ask}
+use Rattle.xa_driver.specs.{HasDecided, HasPrepared, HasTold, IsUndecided, asked_in, EachBranch, Logs, decision_of, has_branch_at, IsAmong, IsSent, IsUnderWay}
+use Rattle.xa_driver.specs.{LeavesInFlight}
 use Rattle.xa_driver.specs.Deaths.{sent}
-use Rattle.xa_driver.proofs.Calls.{among_first, among_second, asks_long, first_trace, second_code, second_is, second_trace, yes_is}
-use Rattle.xa_driver.proofs.Flights.{among_first_part, among_last_part}
-use Rattle.xa_driver.proofs.OneCall.{seconds_are}
-use Rattle.xa_driver.proofs.Ordering.{no_elements}
+use Rattle.xa_driver.proofs.Calls.{among_first, among_second, asks_long, first_trace, second_code, second_is, second_trace}
+use Rattle.xa_driver.proofs.OneCall.{seconds_are, for_log}
 use Rattle.xa_driver.proofs.Stepping.{as_many, so_far}
 use Rattle.xa_driver.proofs.Traces.{for_trace}
 use Rattle.xa_log.specs.{LogState}
@@ -37,8 +36,7 @@ put_so k (Some t) at d op is began =
 
 put_nothing : (k : Ask) (t : Option TicketView) (at : List LedgerView) (d : DeskView) → k.op ≡ None → HasBegun k t at d
     → ledger d.ledgers k.manager ≡ ledger at k.manager
-put_nothing k None at d none began = began.1
-put_nothing k (Some t) at d none began = let e : None ≡ Some began.op = sym none ∙ began.wanted in cc
+put_nothing k t at d none began = grind arith
 
 -- ---- the first round
 
@@ -46,38 +44,25 @@ pub asked_far : (bs : List Branch) (done flying : List Ask) (ts : List (Option T
     → SameAsks (map first_ask bs) (done ++ flying) → EachAsk done at d.ledgers → EachBegan flying ts at d
     → HaveAsked AsksLedger PutsLedger bs (map code_of done) (ledger at) (ledger d.ledgers)
 asked_far [] [] [] ts at d s e f = tt
-asked_far [] [] (k ∷ flying) ts at d s e f = absurd s
-asked_far [] (k ∷ done) flying ts at d s e f = absurd s
-asked_far (b ∷ bs) [] [] ts at d s e f = absurd s
-asked_far (b ∷ bs) [] (k ∷ flying) [] at d s e f = absurd f
 asked_far (b ∷ bs) [] (k ∷ flying) (t ∷ ts) at d s e f =
     (subst (λ (m : ℕ). PutsLedger (ledger at m) (Prepare b.xid) (ledger d.ledgers m)) s.0.manager (put_so k t at d (Prepare b.xid) s.0.op f.0), asked_far bs [] flying ts at d s.1 tt f.1)
 asked_far (b ∷ bs) (k ∷ done) flying ts at d s e f = (first_trace b k at d.ledgers s.0 e.0, asked_far bs done flying ts at d s.1 e.1 f)
+asked_far _ _ _ _ at d s e f = absurd (search rules)
 
 -- all of it
 pub asked_all : (bs : List Branch) (ks : List Ask) (at now : List LedgerView) → SameAsks (map first_ask bs) ks → EachAsk ks at now
     → HaveAsked AsksLedger PutsLedger bs (map code_of ks) (ledger at) (ledger now)
 asked_all [] [] at now s e = tt
-asked_all [] (k ∷ ks) at now s e = absurd s
-asked_all (b ∷ bs) [] at now s e = absurd s
 asked_all (b ∷ bs) (k ∷ ks) at now s e = (first_trace b k at now s.0 e.0, asked_all bs ks at now s.1 e.1)
+asked_all _ _ at now s e = absurd s
 
 -- each branch is asked something
 firsts_asked : (bs : List Branch) (done flying : List Ask) → SameAsks (map first_ask bs) (done ++ flying)
     → (asked_in done ≡ length done) × (asked_in (done ++ flying) ≡ length (done ++ flying))
 firsts_asked [] [] [] s = (refl, refl)
-firsts_asked [] [] (k ∷ flying) s = absurd s
-firsts_asked [] (k ∷ done) flying s = absurd s
-firsts_asked (b ∷ bs) [] [] s = absurd s
-firsts_asked (b ∷ bs) [] (k ∷ flying) s =
-    let rest = firsts_asked bs [] flying s.1 in
-    (refl, ap (λ o. if is_none o then asked_in flying else suc (asked_in flying)) s.0.op ∙ ap suc rest.1)
-firsts_asked (b ∷ bs) (k ∷ done) flying s =
-    let rest = firsts_asked bs done flying s.1 in
-    let all : List Ask = done ++ flying in (
-      ap (λ o. if is_none o then asked_in done else suc (asked_in done)) s.0.op ∙ ap suc rest.0,
-      ap (λ o. if is_none o then asked_in all else suc (asked_in all)) s.0.op ∙ ap suc rest.1,
-    )
+firsts_asked (b ∷ bs) [] (k ∷ flying) s = rw s.0.op (refl, ap suc (firsts_asked bs [] flying s.1).1)
+firsts_asked (b ∷ bs) (k ∷ done) flying s = let rest = firsts_asked bs done flying s.1 in rw s.0.op (ap suc rest.0, ap suc rest.1)
+firsts_asked _ _ _ s = absurd s
 
 -- ---- the second round
 
@@ -85,27 +70,18 @@ firsts_asked (b ∷ bs) (k ∷ done) flying s =
 answered_step : (n w x : ℕ) (op : Option Op) (code : Option Code) (a a' : LedgerView) → AskTrace op code a a'
     → (if is_none op then w else suc w) ≡ min n (if is_none op then x else suc x)
     → Tells AsksLedger PutsLedger n op a a' × (w ≡ min (to_come op n) x)
-answered_step n w x None code a a' tr e = (tr.trace, e)
-answered_step zero w x (Some op) code a a' tr e = absurd (omega (arith, e))
-answered_step (suc n) w x (Some op) None a a' tr e = absurd tr.answered
-answered_step (suc n) w x (Some op) (Some c) a a' tr e = ((c, tr), omega (arith, e))
+answered_step n w x op code a a' tr e = grind arith
 
 -- one that wasn't
 put_step : (n x : ℕ) (op : Option Op) (a a' : LedgerView) → (op ≡ None → a' ≡ a) → ((o : Op) → op ≡ Some o → PutsLedger a o a')
     → 0 ≡ min n (if is_none op then x else suc x) → Tells AsksLedger PutsLedger n op a a' × (0 ≡ min (to_come op n) x)
-put_step n x None a a' same put e = (same refl, e)
-put_step zero x (Some op) a a' same put e = (put op refl, omega arith)
-put_step (suc n) x (Some op) a a' same put e = absurd (omega (arith, e))
+put_step n x op a a' same put e = grind arith
 
 pub told_far : (commit : Bool) (bs : List Branch) (ks done flying : List Ask) (ts : List (Option TicketView)) (n : ℕ) (old mid : List LedgerView) (now : DeskView)
     → SameAsks (map first_ask bs) ks → SameAsks (map (second_ask commit) ks) (done ++ flying)
     → EachAsk ks old mid → EachAsk done mid now.ledgers → EachBegan flying ts mid now → asked_in done ≡ min n (asked_in (done ++ flying))
     → HaveTold AsksLedger PutsLedger commit n bs (map code_of ks) (ledger old) (ledger now.ledgers)
 told_far commit [] [] done flying ts n old mid now s r e f g count = tt
-told_far commit [] (k ∷ ks) done flying ts n old mid now s r e f g count = absurd s
-told_far commit (b ∷ bs) [] done flying ts n old mid now s r e f g count = absurd s
-told_far commit (b ∷ bs) (k ∷ ks) [] [] ts n old mid now s r e f g count = absurd r
-told_far commit (b ∷ bs) (k ∷ ks) [] (j ∷ flying) [] n old mid now s r e f g count = absurd g
 told_far commit (b ∷ bs) (k ∷ ks) [] (j ∷ flying) (t ∷ ts) n old mid now s r e f g count =
     let op : Option Op = second_op commit b.xid (code_of k) in
     let op_is : j.op ≡ op = second_is commit b k j s.0 r.0 in
@@ -128,16 +104,13 @@ told_far commit (b ∷ bs) (k ∷ ks) (j ∷ done) flying ts n old mid now s r e
       record { prepared = ledger mid b.m; prepares = first_trace b k old mid s.0 e.0; tells = step.0 },
       told_far commit bs ks done flying ts (to_come op n) old mid now s.1 r.1 e.1 f.1 g step.1,
     )
+told_far commit _ _ _ _ _ n old mid now s r e f g count = absurd (search rules)
 
 -- all of it
 pub each_obeys : (commit : Bool) (bs : List Branch) (ks js : List Ask) (old mid late : List LedgerView) → SameAsks (map first_ask bs) ks
     → SameAsks (map (second_ask commit) ks) js → EachAsk ks old mid → EachAsk js mid late
     → EachBranch (λ b v s e. VotesAndObeys AsksLedger commit b v s e (ledger old b.m) (ledger late b.m)) bs (map code_of ks) (map second_code js) (map (ending_of_ask commit) js)
 each_obeys commit [] [] [] old mid late s r e f = tt
-each_obeys commit [] [] (j ∷ js) old mid late s r e f = absurd r
-each_obeys commit [] (k ∷ ks) js old mid late s r e f = absurd s
-each_obeys commit (b ∷ bs) [] js old mid late s r e f = absurd s
-each_obeys commit (b ∷ bs) (k ∷ ks) [] old mid late s r e f = absurd r
 each_obeys commit (b ∷ bs) (k ∷ ks) (j ∷ js) old mid late s r e f = (
   record {
     prepared = ledger mid b.m;
@@ -147,18 +120,13 @@ each_obeys commit (b ∷ bs) (k ∷ ks) (j ∷ js) old mid late s r e f = (
   },
   each_obeys commit bs ks js old mid late s.1 r.1 e.1 f.1,
 )
+each_obeys commit _ _ _ old mid late s r e f = absurd (search rules)
 
 -- ---- a round that was sent
 
 module _ (r : Round) (now : DeskView) (u : IsUnderWay r now) (whole : IsSent r) where
   parts_are : r.asks.items ≡ u.done ++ u.flying
-  parts_are =
-      let many = as_many u.flying r.tickets.items r.before.value.ledgers now u.in_flight in
-      let parts = ap (λ l. length l) u.parts in
-      let counted = u.counted in
-      let none : u.rest ≡ [] =
-      no_elements u.rest (omega (arith, whole, many, parts, counted, length-append u.done (u.flying ++ u.rest), length-append u.flying u.rest)) in
-      u.parts ∙ ap (λ l. u.done ++ (u.flying ++ l)) none ∙ ap (λ l. u.done ++ l) (append-nil u.flying)
+  parts_are = grind (arith, as_many, none_of, length-append, append-nil)
 
   first_are : take r.collected r.asks.items ≡ u.done
   first_are = ap (take r.collected) parts_are ∙ ap (λ n. take n (u.done ++ u.flying)) (sym u.counted) ∙ take-append_seam u.done u.flying
@@ -177,12 +145,8 @@ module _ (r : Round) (now : DeskView) (u : IsUnderWay r now) (whole : IsSent r) 
         let votes_are : known.votes.items ≡ map code_of u.done = votes ∙ ap (map code_of) first_are in
         let both = firsts_asked bs u.done u.flying apart in
         let long : length (u.done ++ u.flying) ≡ length bs = sym (ap (λ l. length l) parts_are) ∙ asks_long bs r.asks.items same in
-        let far : HaveAsked AsksLedger PutsLedger bs (map code_of u.done) (ledger r.before.value.ledgers) (ledger now.ledgers) =
-        asked_far bs u.done u.flying r.tickets.items r.before.value.ledgers now apart u.answered u.in_flight in
         record {
-          asked = subst (λ (vs : List Code). HaveAsked AsksLedger PutsLedger bs vs (ledger desk.ledgers) (ledger new)) (sym votes_are)
-              (subst (λ (l : List LedgerView). HaveAsked AsksLedger PutsLedger bs (map code_of u.done) (ledger desk.ledgers) (ledger l)) (sym new_is)
-              (subst (λ (d : DeskView). HaveAsked AsksLedger PutsLedger bs (map code_of u.done) (ledger d.ledgers) (ledger now.ledgers)) before far));
+          asked = rw (votes_are, new_is, ← before) (asked_far bs u.done u.flying r.tickets.items r.before.value.ledgers now apart u.answered u.in_flight);
           counted = ap (λ l. length l) votes_are ∙ length-map u.done code_of ∙ sym both.0 ∙ first_count ∙ ap (min n) (both.1 ∙ long);
           undecided = undecided;
           unlogged = refl;
@@ -193,16 +157,13 @@ module _ (r : Round) (now : DeskView) (u : IsUnderWay r now) (whole : IsSent r) 
         → SameAsks (map (second_ask commit) ks) r.asks.items → EachAsk ks old mid → r.before.value.ledgers ≡ mid → new ≡ now.ledgers
         → HaveTold AsksLedger PutsLedger commit n bs (map code_of ks) (ledger old) (ledger new)
     came_to_answers commit ks old mid new s same e before new_is =
-        subst (λ (l : List LedgerView). HaveTold AsksLedger PutsLedger commit n bs (map code_of ks) (ledger old) (ledger l)) (sym new_is)
-        (told_far commit bs ks u.done u.flying r.tickets.items n old r.before.value.ledgers now s (subst (SameAsks (map (second_ask commit) ks)) parts_are same)
-        (subst (EachAsk ks old) (sym before) e) u.answered u.in_flight first_count)
+        rw new_is (told_far commit bs ks u.done u.flying r.tickets.items n old r.before.value.ledgers now s (rw parts_are at same) (rw (← before) at e) u.answered u.in_flight first_count)
 
 -- nothing was done at other managers
 pub others_stay : (r : Round) (now : DeskView) → IsUnderWay r now → (bs : List Branch) (old new : List LedgerView)
     → ((m : ℕ) → among_asks r.asks.items m ≡ has_branch_at bs m) → r.before.value.ledgers ≡ old → new ≡ now.ledgers
     → (m : ℕ) → 1 ≤ m → has_branch_at bs m ≡ false → ledger new m ≡ ledger old m
-others_stay r now u bs old new among before new_is m positive none =
-    ap (λ l. ledger l m) new_is ∙ (so_far r now u).others m positive (among m ∙ none) ∙ ap (λ l. ledger l m) before
+others_stay r now u bs old new among before new_is m positive none = grind (arith, so_far)
 
 -- ---- what is kept under handles
 
@@ -218,9 +179,6 @@ flight_later k ks at now o f =
 
 flight_of : (o : Operation) (ks : List Ask) (ts : List (Option TicketView)) (at : List LedgerView) (d : DeskView) → EachBegan ks ts at d → IsAmong o ts
     → IsFlight ks at d.ledgers o
-flight_of o [] [] at d began among = absurd among
-flight_of o [] (t ∷ ts) at d began among = absurd began
-flight_of o (k ∷ ks) [] at d began among = absurd began
 flight_of o (k ∷ ks) (None ∷ ts) at d began among = flight_later k ks at d.ledgers o (flight_of o ks ts at d began.1 among)
 flight_of o (k ∷ ks) (Some t ∷ ts) at d began among =
     ⊎_elim (λ (here : t.operation ≡ o). subst (IsFlight (k ∷ ks) at d.ledgers) (sym began.0.operation ∙ here) (record {
@@ -229,14 +187,11 @@ flight_of o (k ∷ ks) (Some t ∷ ts) at d began among =
       there = let z = ap (λ (a : LedgerView). length a.sent) began.0.sent in omega (arith, z, length-append (ledger at k.manager).sent (began.0.op ∷ []));
     }))
     (λ (later : IsAmong o ts). flight_later k ks at d.ledgers o (flight_of o ks ts at d began.1 later)) among
+flight_of o _ _ at d began among = absurd (search rules)
 
 -- what stands in the middle stands there
 among_middle : (xs ys zs : List Ask) (m : ℕ) → among_asks ys m ≡ true → among_asks (xs ++ (ys ++ zs)) m ≡ true
-among_middle xs ys zs m there =
-    elim (among_asks (xs ++ (ys ++ zs)) m) as (λ b. among_asks (xs ++ (ys ++ zs)) m ≡ b → b ≡ true) [
-      | true ↦ λ e. refl
-      | false ↦ λ e. let no : true ≡ false = sym there ∙ among_first_part ys zs m (among_last_part xs (ys ++ zs) m e) in cc
-    ] refl
+among_middle xs ys zs m there = grind (arith, list_any-append, or-true)
 
 pub left_handles : (r : Round) (now : DeskView) → IsUnderWay r now → (bs : List Branch) (old new : DeskView)
     → ((m : ℕ) → among_asks r.asks.items m ≡ has_branch_at bs m) → r.before.value ≡ old → LeavesInFlight r.tickets.items now new
@@ -319,35 +274,26 @@ pub dies_prepared : (bs : List Branch) (old new : List LedgerView) (log : LogSta
     → (known : Done) → known ≡ p.known → Dies AsksLedger PutsLedger death.Prepared tran bs (ledger old) (ledger new) log log known
 dies_prepared bs old new log tran p first known same =
     let ks : List Ask = p.round.asks.items in
-    let votes : known.votes.items ≡ map code_of ks = ap (λ k. k.votes.items) same ∙ first.votes in
-    record {
+    rw same (record {
       far = record {
-        asked = subst (λ (vs : List Code). HaveAsked AsksLedger PutsLedger bs vs (ledger old) (ledger new)) (sym votes) (asked_all bs ks old new first.same first.asked.each);
-        counted = ap (λ l. length l) votes ∙ length-map ks code_of ∙ asks_long bs ks first.same;
-        undecided = record { commit = ap (λ k. k.commit) same ∙ first.undecided.commit; logged = ap (λ k. k.logged) same ∙ first.undecided.logged };
+        asked = rw first.votes (asked_all bs ks old new first.same first.asked.each);
+        counted = ap (λ l. length l) first.votes ∙ length-map ks code_of ∙ asks_long bs ks first.same;
+        undecided = first.undecided;
         unlogged = refl;
-        endings = ap (λ k. k.endings.items) same ∙ first.endings.none;
+        endings = first.endings.none;
       };
       others = λ m positive none. first.asked.others m positive (among_first bs ks m first.same ∙ none);
-    }
+    })
 
 -- ---- what was decided
 
 -- the only death that is left where nobody is told
 pub decided_here : (at : Death) → is_decided_by at ≡ true → ((k : ℕ) → at ≡ death.Telling k → ⊥) → (at ≡ death.Told → ⊥) → at ≡ death.Decided
-decided_here (death.Preparing k) by telling told = cc
-decided_here death.Prepared by telling told = cc
-decided_here death.Decided by telling told = refl
-decided_here (death.Telling k) by telling told = absurd (telling k refl)
-decided_here death.Told by telling told = absurd (told refl)
+decided_here at by telling told = grind arith
 
 -- it is one of those that are left where it goes on to decide
 pub decided_later : (at : Death) → ((k : ℕ) → at ≡ death.Preparing k → ⊥) → (at ≡ death.Prepared → ⊥) → is_decided_by at ≡ true
-decided_later (death.Preparing k) preparing prepared = absurd (preparing k refl)
-decided_later death.Prepared preparing prepared = absurd (prepared refl)
-decided_later death.Decided preparing prepared = refl
-decided_later (death.Telling k) preparing prepared = refl
-decided_later death.Told preparing prepared = refl
+decided_later at preparing prepared = grind arith
 
 module _ (bs : List Branch) (old mid : List LedgerView) (log later : LogState) (p : Prepared) (d : Decided)
     (first : HasPrepared bs old mid p) (second : HasDecided p log later d) where
@@ -361,12 +307,9 @@ module _ (bs : List Branch) (old mid : List LedgerView) (log later : LogState) (
       → IsDecidedBy p.tran bs log later known
   decided_by known commit logged votes =
       let all : p.known.votes.items ≡ known.votes.items = sym (votes ∙ ap (λ v. v.items) second.votes) in
-      let yes_are : yes_asked firsts ≡ yes_of bs known.votes.items = yes_is bs firsts first.same ∙ ap (yes_of bs) (sym first.votes ∙ all) in
       record {
         decision = commit ∙ second.decision ∙ (λ i. decision_of (all i) (sym logged i));
-        logs = subst (λ (ys : List Bool). Logs p.tran ys known.votes.items known.logged log later) yes_are
-            (subst (λ (vs : List Code). Logs p.tran (yes_asked firsts) vs known.logged log later) all
-            (subst (λ (l : Bool). Logs p.tran (yes_asked firsts) p.known.votes.items l log later) (sym logged) second.logs));
+        logs = for_log bs old mid p (λ t ys vs. Logs t ys vs known.logged log later) p.tran known.votes.items first refl all (rw (sym logged) at second.logs);
       }
 
   pub no_endings : d.known.endings.items ≡ []
@@ -377,17 +320,15 @@ module _ (bs : List Branch) (old mid : List LedgerView) (log later : LogState) (
 
   -- nobody was told
   pub dies_decided : (known : Done) → known ≡ d.known → Dies AsksLedger PutsLedger death.Decided p.tran bs (ledger old) (ledger mid) log later known
-  dies_decided known same =
-      let votes : known.votes.items ≡ map code_of firsts = ap (λ k. k.votes.items) same ∙ votes_are in
-      record {
-        far = record {
-          asked = subst (λ (vs : List Code). HaveAsked AsksLedger PutsLedger bs vs (ledger old) (ledger mid)) (sym votes) (asked_all bs firsts old mid first.same first.asked.each);
-          counted = ap (λ l. length l) votes ∙ length-map firsts code_of ∙ asks_long bs firsts first.same;
-          decided = decided_by known (ap (λ k. k.commit) same) (ap (λ k. k.logged) same) (ap (λ k. k.votes.items) same);
-          endings = ap (λ k. k.endings.items) same ∙ no_endings;
-        };
-        others = λ m positive none. first.asked.others m positive (among_first bs firsts m first.same ∙ none);
-      }
+  dies_decided known same = rw same (record {
+    far = record {
+      asked = rw votes_are (asked_all bs firsts old mid first.same first.asked.each);
+      counted = ap (λ l. length l) votes_are ∙ length-map firsts code_of ∙ asks_long bs firsts first.same;
+      decided = decided_by d.known refl refl refl;
+      endings = no_endings;
+    };
+    others = λ m positive none. first.asked.others m positive (among_first bs firsts m first.same ∙ none);
+  })
 
   -- all were told
   pub dies_told : (new : List LedgerView) (t : Told) → HasTold d mid new t → (known : Done) → known ≡ t.known
@@ -398,16 +339,10 @@ module _ (bs : List Branch) (old mid : List LedgerView) (log later : LogState) (
       let commit_is : known.commit ≡ d.known.commit = ap (λ k. k.commit) same ∙ third.commit in
       let votes : known.votes.items ≡ d.known.votes.items = ap (λ k. k.votes.items) same ∙ ap (λ v. v.items) third.votes in
       let endings : known.endings.items ≡ map (ending_of_ask d.known.commit) seconds = ap (λ k. k.endings.items) same ∙ third.endings in
-      let obeys : Branch → Code → Option Code → Ending → Type 0 =
-      λ b v s e. VotesAndObeys AsksLedger d.known.commit b v s e (ledger old b.m) (ledger new b.m) in
-      let each = each_obeys d.known.commit bs firsts seconds old mid new first.same again first.asked.each third.asked.each in
       record {
         far = record {
           seconds = map second_code seconds;
-          each =
-              subst (λ (c : Bool). EachBranch (λ b v s e. VotesAndObeys AsksLedger c b v s e (ledger old b.m) (ledger new b.m)) bs known.votes.items (map second_code seconds) known.endings.items) (sym commit_is)
-              (subst (λ (vs : List Code). EachBranch obeys bs vs (map second_code seconds) known.endings.items) (sym (votes ∙ votes_are))
-              (subst (λ (es : List Ending). EachBranch obeys bs (map code_of firsts) (map second_code seconds) es) (sym endings) each));
+          each = rw (commit_is, (votes ∙ votes_are), endings) (each_obeys d.known.commit bs firsts seconds old mid new first.same again first.asked.each third.asked.each);
           decided = decided_by known commit_is (ap (λ k. k.logged) same ∙ third.logged) votes;
         };
         others = λ m positive none.
@@ -427,40 +362,8 @@ module _ (bs : List Branch) (old mid : List LedgerView) (log later : LogState) (
       λ m. among_second d.known.commit firsts r.asks.items m again ∙ among_first bs firsts m first.same in
       let told : HaveTold AsksLedger PutsLedger d.known.commit n bs (map code_of firsts) (ledger old) (ledger new) =
       came_to_answers r now u whole bs n count d.known.commit firsts old mid new first.same again first.asked.each before new_is in
-      record {
-        far = record {
-          told =
-              subst (λ (vs : List Code). HaveTold AsksLedger PutsLedger known.commit n bs vs (ledger old) (ledger new)) (sym (ap (λ k. k.votes.items) is ∙ votes_are))
-              (subst (λ (c : Bool). HaveTold AsksLedger PutsLedger c n bs (map code_of firsts) (ledger old) (ledger new)) (sym (ap (λ k. k.commit) is)) told);
-          decided = decided_by known (ap (λ k. k.commit) is) (ap (λ k. k.logged) is) (ap (λ k. k.votes.items) is);
-          endings = ap (λ k. k.endings.items) is ∙ no_endings;
-        };
+      rw is (record {
+        far = record { told = rw votes_are told; decided = decided_by d.known refl refl refl; endings = no_endings };
         others = λ m positive none.
             others_stay r now u bs mid new among before new_is m positive none ∙ first.asked.others m positive (among_first bs firsts m first.same ∙ none);
-      }
-
--- ---- what the log is asked
-
-pub appends_so : {L : Type 0} (appends : TranName → List Bool → Bool → L → L → Type 0) (x y : L) (bs : List Branch) (old new : List LedgerView) (p : Prepared)
-    → HasPrepared bs old new p → (t : TranName) → p.tran ≡ t → (votes : List Code) → p.known.votes.items ≡ votes
-    → (was logged : Bool) → was ≡ logged → AppendsOnce appends p.tran (yes_asked p.round.asks.items) p.known.votes.items was x y
-    → AppendsOnce appends t (yes_of bs votes) votes logged x y
-appends_so appends x y bs old new p first t same votes votes_are was logged logged_is once =
-    let firsts : List Ask = p.round.asks.items in
-    let yes_are : yes_asked firsts ≡ yes_of bs votes = yes_is bs firsts first.same ∙ ap (yes_of bs) (sym first.votes ∙ votes_are) in
-    subst (λ (u : TranName). AppendsOnce appends u (yes_of bs votes) votes logged x y) same
-    (subst (λ (ys : List Bool). AppendsOnce appends p.tran ys votes logged x y) yes_are
-    (subst (λ (vs : List Code). AppendsOnce appends p.tran (yes_asked firsts) vs logged x y) votes_are
-    (subst (λ (l : Bool). AppendsOnce appends p.tran (yes_asked firsts) p.known.votes.items l x y) logged_is once)))
-
--- before the decision it is asked nothing
-pub appends_none : {L : Type 0} (appends : TranName → List Bool → Bool → L → L → Type 0) (x : L) (at : Death) (t : TranName) (ys : List Bool)
-    (votes : List Code) (logged : Bool) → is_decided_by at ≡ false → AppendsUntil appends at t ys votes logged x x
-appends_none appends x at t ys votes logged before =
-    record { decided = λ by. let no : true ≡ false = sym by ∙ before in cc; undecided = λ _. refl }
-
-pub appends_once : {L : Type 0} (appends : TranName → List Bool → Bool → L → L → Type 0) (x y : L) (at : Death) (t : TranName) (ys : List Bool)
-    (votes : List Code) (logged : Bool) → is_decided_by at ≡ true → AppendsOnce appends t ys votes logged x y
-    → AppendsUntil appends at t ys votes logged x y
-appends_once appends x y at t ys votes logged by once =
-    record { decided = λ _. once; undecided = λ before. let no : true ≡ false = sym by ∙ before in cc }
+      })

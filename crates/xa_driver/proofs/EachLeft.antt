@@ -1,7 +1,6 @@
 -- Branches that are resolved one after another, and managers one after another.
 use Rattle.xa_base.proofs.{◌≡◌, ◌≢◌, ℕ, zero, suc, ◌+◌, ◌-◌, ◌*◌, ◌≤◌, ◌==◌, ◌||◌, if◌then◌else◌, List, [], ◌∷◌, ◌++◌, length, append-nil, sym, refl, ap, ◌∙◌}
-use Rattle.xa_base.proofs.{subst, arith, inl, inr, nat_lt, flat_map, range_with_len, cases_Bool, eqb-true, eqb-false, eq-eqb, ne_eqb, range_more, at_true}
-use Rattle.xa_base.proofs.{at_false}
+use Rattle.xa_base.proofs.{subst, arith, inl, inr, nat_lt, flat_map, range_with_len, cases_eq, eq-eqb, ne_eqb, range_more, at_true, at_false}
 use Rattle.std.specs.List.{sum_by}
 use Rattle.std.proofs.lemmas.Grind.{flat_map-append}
 use Rattle.std.proofs.lemmas.List.Sums.{sum_by_push}
@@ -16,13 +15,11 @@ use Rattle.xa_log.specs.{Records}
 -- ---- a manager at which some are left
 
 pub requests_there : (xs : List XidName) → length xs ≢ 0 → requests_for xs ≡ 1 + 2 * length xs
-requests_there [] some = absurd (some refl)
-requests_there (x ∷ xs) some = refl
+requests_there xs some = grind arith
 
 -- there is a request for each
 pub left_few : (xs : List XidName) (n : ℕ) → requests_for xs ≤ n → length xs ≤ n
-left_few [] n few = omega arith
-left_few (x ∷ xs) n few = omega (arith, few)
+left_few xs n few = grind arith
 
 pub resolves_there : {D : Type 0} (asking : Asking D) (records : Records) (m : ℕ) (xs : List XidName) (os : List Outcome) (a a' : D) → length xs ≢ 0
     → ResolvesThese asking records m xs os a a' → ResolvesAt asking records m xs os a a'
@@ -53,9 +50,7 @@ pub room_same : (at at' : List LedgerView) (m : ℕ) → length at' ≡ length a
 room_same at at' m many same = λ i. if (m == 0) || nat_lt (many i) m then 0 else ((same i).plan - length (same i).sent)
 
 lists_more : (f : ℕ → List Outcome) (n : ℕ) → flat_map f (range_with_len 1 (n + 1)) ≡ flat_map f (range_with_len 1 n) ++ f (n + 1)
-lists_more f n =
-    ap (flat_map f) (range_more n) ∙ flat_map-append f (range_with_len 1 n) ((n + 1) ∷ [])
-    ∙ ap (λ l. flat_map f (range_with_len 1 n) ++ l) (append-nil (f (n + 1)))
+lists_more f n = grind (arith, flat_map, range_more, flat_map-append, range_with_len, append-nil)
 
 lists_same : (f g : ℕ → List Outcome) (n : ℕ) → ((m : ℕ) → m ≤ n → f m ≡ g m) → flat_map f (range_with_len 1 n) ≡ flat_map g (range_with_len 1 n)
 lists_same f g zero same = refl
@@ -84,18 +79,12 @@ one_more_so_far z records n old mid new outcomes outcomes' more is grown here ot
       grown
       ∙ (λ i. (is.outcomes_are ∙ lists_same is.at at n (λ m low. sym (at_false (m == n + 1) more (is.at m) (ne_eqb m (n + 1) (λ e. absurd (omega (arith, low, e))))))) i ++ sym (at_true ((n + 1) == n + 1) more (is.at (n + 1)) (eq-eqb (n + 1) (n + 1) refl)) i)
       ∙ sym (lists_more at n);
-  each = λ m within. elim (cases_Bool (m == n + 1)) [
-    | inl same ↦
-        let e : m ≡ n + 1 = eqb-true m (n + 1) same in
-        subst (λ l. ResolvesAt AsksLedger records m (left_at z m) l (ledger old m) (ledger new m)) (sym (at_true (m == n + 1) more (is.at m) same))
-        (subst (λ k. ResolvesAt AsksLedger records k (left_at z k) more (ledger old k) (ledger new k)) (sym e)
-        (subst (λ a. ResolvesAt AsksLedger records (n + 1) (left_at z (n + 1)) more a (ledger new (n + 1))) (is.others (n + 1) (omega arith)) here))
-    | inr other ↦
-        let differs = eqb-false m (n + 1) other in
+  each = λ m within. elim (cases_eq m (n + 1)) [
+    | inl same ↦ rw (same, at_true ((n + 1) == n + 1) more (is.at (n + 1)) (eq-eqb (n + 1) (n + 1) refl)) (rw (is.others (n + 1) (omega arith)) at here)
+    | inr differs ↦
         let low = within.0 in
         let high = within.1 in
-        subst (λ l. ResolvesAt AsksLedger records m (left_at z m) l (ledger old m) (ledger new m)) (sym (at_false (m == n + 1) more (is.at m) other))
-        (subst (λ a. ResolvesAt AsksLedger records m (left_at z m) (is.at m) (ledger old m) a) (sym (others m low differs)) (is.each m (low, omega (arith, high, differs))))
+        rw (at_false (m == n + 1) more (is.at m) (ne_eqb m (n + 1) differs), others m low differs) (is.each m (low, omega (arith, high, differs)))
   ];
   others = λ m above. others m (omega (arith, above)) (λ e. absurd (omega (arith, above, e))) ∙ is.others m (omega (arith, above));
 }

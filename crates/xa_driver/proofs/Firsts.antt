@@ -1,5 +1,5 @@
 -- A round of which the first requests are collected: how many of those were asked anything.
-use Rattle.xa_base.proofs.{◌⊎◌, if◌then◌else◌, MatchOption, ◌≡◌, ◌≢◌, ℕ, zero, suc, ◌+◌, ◌≤◌, Bool, true, false, inl, inr, Option, Some, List, [], ◌∷◌, length}
+use Rattle.xa_base.proofs.{◌⊎◌, if◌then◌else◌, MatchOption, ◌≡◌, ◌≢◌, ℕ, zero, suc, ◌+◌, ◌≤◌, Bool, true, false, Option, Some, List, [], ◌∷◌, length}
 use Rattle.xa_base.proofs.{length-set, ap, arith, refl, set, sym, take, ◌∙◌, slice_get}
 use Rattle.std.specs.Prelude.{is_none, min}
 use Rattle.std.proofs.Common.{add-one}
@@ -13,23 +13,19 @@ abbrev one_if : Bool → ℕ
 one_if passed = if passed then 0 else 1
 
 one_alone : (b : Bool) → (if b then 0 else suc 0) ≡ 0 + one_if b
-one_alone true = refl
-one_alone false = refl
+one_alone b = grind arith
 
 one_before : (b : Bool) (x y w : ℕ) → x ≡ y + w → (if b then x else suc x) ≡ (if b then y else suc y) + w
-one_before true x y w e = e
-one_before false x y w e = omega (arith, e)
+one_before b x y w e = grind arith
 
 take_coded : (ks : List Ask) (n : ℕ) (k : Ask) (code : Option Code) → slice_get ks n ≡ Some k
     → asked_in (take (suc n) (set ks n (coded k code))) ≡ asked_in (take n ks) + one_if (is_none k.op)
 take_coded [] n k code e = cc
 take_coded (j ∷ ks) zero k code e = one_alone (is_none k.op)
-take_coded (j ∷ ks) (suc n) k code e =
-    one_before (is_none j.op) (asked_in (take (suc n) (set ks n (coded k code)))) (asked_in (take n ks)) (one_if (is_none k.op)) (take_coded ks n k code e)
+take_coded (j ∷ ks) (suc n) k code e = grind (arith, take_coded ks n k code e, one_before)
 
 more_if : (b : Bool) (x y : ℕ) → x ≤ y → (if b then x else suc x) ≤ (if b then y else suc y)
-more_if true x y e = e
-more_if false x y e = omega (arith, e)
+more_if b x y e = grind arith
 
 take_fewer : (n : ℕ) (ks : List Ask) → asked_in (take n ks) ≤ asked_in ks
 take_fewer zero ks = omega arith
@@ -40,8 +36,7 @@ take_all : (n : ℕ) (ks : List Ask) → length ks ≤ n → asked_in (take n ks
 take_all zero [] e = refl
 take_all zero (k ∷ ks) e = absurd (omega (arith, e))
 take_all (suc n) [] e = refl
-take_all (suc n) (k ∷ ks) e =
-    let rest : asked_in (take n ks) ≡ asked_in ks = take_all n ks (omega (arith, e)) in ap (λ x. if is_none k.op then x else suc x) rest
+take_all (suc n) (k ∷ ks) e = grind (arith, take_all n ks (omega (arith, e)))
 
 -- ---- one more is collected
 
@@ -75,7 +70,4 @@ one_collected r new desk now b step all some =
 -- once so many were collected, or all
 pub first_so_many : (r : Round) (count left : ℕ) → IsSent r → asked_in (take r.collected r.asks.items) + left ≡ count
     → (left ≡ 0) ⊎ (length r.tickets.items ≡ 0) → asked_in (take r.collected r.asks.items) ≡ min count (asked_in r.asks.items)
-first_so_many r count left all counted (inl none) = let few = take_fewer r.collected r.asks.items in omega (arith, counted, none, few)
-first_so_many r count left all counted (inr none) =
-    let whole : asked_in (take r.collected r.asks.items) ≡ asked_in r.asks.items = take_all r.collected r.asks.items (omega (arith, all, none)) in
-    omega (arith, counted, whole)
+first_so_many r count left all counted h = grind (arith, take_fewer, take_all)

@@ -1,6 +1,6 @@
 -- Requests in flight: what sending and collecting one leaves of the others.
-use Rattle.xa_base.proofs.{◌≡◌, ◌≢◌, ℕ, ◌+◌, ◌<◌, ◌≤◌, false, ◌||◌, ◌==◌, Option, None, Some, List, [], ◌∷◌, ◌++◌, length, refl, sym, ap, ◌∙◌, subst, arith}
-use Rattle.xa_base.proofs.{length-append, eqb-false, ne_eqb, or_parts, at_false, at_true}
+use Rattle.xa_base.proofs.{list_any-append, ◌≡◌, ◌≢◌, ℕ, ◌+◌, ◌<◌, ◌≤◌, false, ◌==◌, Option, None, Some, List, [], ◌∷◌, ◌++◌, length, refl, sym, ap, ◌∙◌, subst}
+use Rattle.xa_base.proofs.{arith, length-append, eqb-false, ne_eqb, or_parts, at_false, at_true}
 use Rattle.std.specs.FinMap as finmap
 use Rattle.xa_words.specs.declared.code.Code.{Code}
 use Rattle.xa_words.specs.{Op}
@@ -19,12 +19,10 @@ pub apart : (k : Ask) (ks : List Ask) (m : ℕ) → among_asks (k ∷ ks) m ≡ 
 apart k ks m none e = eqb-false k.manager m (or_parts _ _ none).0 e
 
 pub among_first_part : (js bs : List Ask) (m : ℕ) → among_asks (js ++ bs) m ≡ false → among_asks js m ≡ false
-among_first_part [] bs m none = refl
-among_first_part (a ∷ js) bs m none = (λ i. (or_parts (a.manager == m) _ none).0 i || among_first_part js bs m (or_parts (a.manager == m) _ none).1 i)
+among_first_part js bs m none = (or_parts _ _ (sym (list_any-append (λ (k : Ask). k.manager == m) js bs) ∙ none)).0
 
 pub among_last_part : (js bs : List Ask) (m : ℕ) → among_asks (js ++ bs) m ≡ false → among_asks bs m ≡ false
-among_last_part [] bs m none = none
-among_last_part (a ∷ js) bs m none = among_last_part js bs m (or_parts (a.manager == m) _ none).1
+among_last_part js bs m none = (or_parts _ _ (sym (list_any-append (λ (k : Ask). k.manager == m) js bs) ∙ none)).1
 
 -- ---- rising requests
 
@@ -35,9 +33,7 @@ rising_above lo (a ∷ js) k bs r = let one = r.0 in let two = rising_above a.ma
 -- a request's manager is after those before it, so it isn't among them
 pub rising_apart : (lo : ℕ) (js : List Ask) (k : Ask) (bs : List Ask) → AreRising lo (js ++ k ∷ bs) → among_asks js k.manager ≡ false
 rising_apart lo [] k bs r = refl
-rising_apart lo (a ∷ js) k bs r =
-    let above = rising_above a.manager js k bs r.1 in
-    (λ i. ne_eqb a.manager k.manager (λ e. absurd (omega arith)) i || rising_apart a.manager js k bs r.1 i)
+rising_apart lo (a ∷ js) k bs r = grind (arith, rising_apart a.manager js k bs r.1, rising_above, ne_eqb)
 
 pub rising_last_part : (lo : ℕ) (js : List Ask) (k : Ask) (bs : List Ask) → AreRising lo (js ++ k ∷ bs) → AreRising k.manager bs
 rising_last_part lo [] k bs r = r.1
@@ -86,10 +82,9 @@ one_stays k (Some t) at d d' m a' p differs moved h =
 pub begun_stays : (lo : ℕ) (ks : List Ask) (rs : List (Option TicketView)) (at : List LedgerView) (d d' : DeskView) (m : ℕ) (a' : LedgerView) → AreRising lo ks
     → among_asks ks m ≡ false → Moved m a' d d' → EachBegan ks rs at d → EachBegan ks rs at d'
 begun_stays lo [] [] at d d' m a' up none moved h = tt
-begun_stays lo [] (r ∷ rs) at d d' m a' up none moved h = absurd h
-begun_stays lo (k ∷ ks) [] at d d' m a' up none moved h = absurd h
 begun_stays lo (k ∷ ks) (r ∷ rs) at d d' m a' up none moved h =
     (one_stays k r at d d' m a' (let z = up.0 in omega arith) (apart k ks m none) moved h.0, begun_stays k.manager ks rs at d d' m a' up.1 (or_parts (k.manager == m) _ none).1 moved h.1)
+begun_stays lo _ _ at d d' m a' up none moved h = absurd h
 
 pub asked_stays : (lo : ℕ) (ks : List Ask) (at : List LedgerView) (d d' : DeskView) (m : ℕ) (a' : LedgerView) → AreRising lo ks → among_asks ks m ≡ false
     → Moved m a' d d' → EachAsk ks at d.ledgers → EachAsk ks at d'.ledgers
@@ -104,9 +99,8 @@ asked_stays lo (k ∷ ks) at d d' m a' up none moved h = (
 pub begun_more : (ks : List Ask) (rs : List (Option TicketView)) (k : Ask) (r : Option TicketView) (at : List LedgerView) (d : DeskView) → EachBegan ks rs at d
     → HasBegun k r at d → EachBegan (ks ++ k ∷ []) (rs ++ r ∷ []) at d
 begun_more [] [] k r at d h one = (one, tt)
-begun_more [] (q ∷ rs) k r at d h one = absurd h
-begun_more (j ∷ ks) [] k r at d h one = absurd h
 begun_more (j ∷ ks) (q ∷ rs) k r at d h one = (h.0, begun_more ks rs k r at d h.1 one)
+begun_more _ _ k r at d h one = absurd h
 
 pub asked_more : (ks : List Ask) (k : Ask) (at at' : List LedgerView) → EachAsk ks at at' → AskTrace k.op k.code (ledger at k.manager) (ledger at' k.manager)
     → EachAsk (ks ++ k ∷ []) at at'
@@ -130,24 +124,13 @@ begins_flight k (Some t) d0 d d' same known b = record {
 -- it takes one handle at most
 pub sent_takes_one : (k : Ask) (r : Option TicketView) (d d' : DeskView) → IsKnown d.ledgers k.manager → BeginsAsk k d d' r
     → outstanding d'.ledgers ≤ outstanding d.ledgers + 1
-sent_takes_one k None d d' known b = let z = ap (λ (e : DeskView). outstanding e.ledgers) b.0 in omega arith
-sent_takes_one k (Some t) d d' known b =
-    let moved = began_moved k d d' (Some t) known b in
-    let a : LedgerView = ledger d.ledgers k.manager in
-    let is : with_sent a b.op ≡ sent_by a k.op = sym (at_false (learnt_shut a) _ _ b.open_) ∙ ap (sent_by a) (sym b.wanted) in
-    let open_ : outstanding d'.ledgers + open_count a ≡ outstanding d.ledgers + open_count (with_sent a b.op) =
-    subst (λ (x : LedgerView). outstanding d'.ledgers + open_count a ≡ outstanding d.ledgers + open_count x) (sym is) moved.open_ in
-    omega (arith, length-append a.sent (b.op ∷ []))
+sent_takes_one k r d d' known b = grind (arith, began_moved, sent_by, at_false, open_count, length-append)
 
 -- ---- one is collected
 
 flight_manager : (k : Ask) (r : Option TicketView) (at : List LedgerView) (d : DeskView) → HasBegun k r at d → (t : TicketView) → r ≡ Some t
     → t.operation.manager ≡ k.manager
-flight_manager k None at d h t e = absurd (none_is t e)
-  where
-    none_is : (t : TicketView) → None ≡ Some t → ⊥
-    none_is t e = cc
-flight_manager k (Some q) at d h t e = let same : q ≡ t = cc in ap (λ (z : TicketView). z.operation.manager) (sym same) ∙ ap (λ o. o.manager) h.operation
+flight_manager k r at d h t e = grind arith
 
 -- the ledger moves by what was collected
 pub end_moves : (k : Ask) (r : Option TicketView) (code : Option Code) (at : List LedgerView) (d d' : DeskView) → IsKnown d.ledgers k.manager

@@ -141,18 +141,7 @@ none_beyond (k ∷ ks) (suc n) e = let z = none_beyond ks n e in omega (arith, z
 pub send_reaches : (r new : Round) (desk now : DeskView) (b : Bool) (n : ℕ)
     → MatchOption (next_ask r) ((b ≡ false) × Stays r new desk now) (λ k. (b ≡ true) × Sends k r new desk now) → n ≤ sent_count r → n < length r.asks.items
     → n + 1 ≤ sent_count new
-send_reaches r new desk now b n step so_far below =
-    elim (next_ask r) as (λ o. next_ask r ≡ o → MatchOption o ((b ≡ false) × Stays r new desk now) (λ k. (b ≡ true) × Sends k r new desk now) → n + 1 ≤ sent_count new) [
-      | None ↦ λ e still.
-          let all = none_beyond r.asks.items (sent_count r) e in
-          let same : sent_count new ≡ sent_count r = ap sent_count still.1.round in
-          omega (arith, all, same, below)
-      | Some k ↦ λ e one.
-          let x = ap (λ l. length l) one.1.tickets in
-          let y = length-append r.tickets.items (one.1.ticket ∷ []) in
-          let z = one.1.collected in
-          omega (arith, x, y, z, so_far)
-    ] refl step
+send_reaches r new desk now b n step so_far below = grind (arith, none_beyond, length-append)
 
 -- where all were sent, and fewer than all were collected, one more is
 pub collect_reaches : (r new : Round) (desk now : DeskView) (b : Bool) (n : ℕ)

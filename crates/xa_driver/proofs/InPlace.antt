@@ -1,5 +1,5 @@
 -- A round whose requests are remade in place, one after another.
-use Rattle.xa_base.proofs.{◌≡◌, ℕ, zero, suc, ◌+◌, ◌<◌, ◌≤◌, List, [], ◌∷◌, ◌++◌, length, take, refl, sym, ap, ◌∙◌, subst, get_or, set, arith, map}
+use Rattle.xa_base.proofs.{length-map, ◌≡◌, ℕ, zero, suc, ◌+◌, ◌<◌, ◌≤◌, List, [], ◌∷◌, ◌++◌, length, take, refl, sym, ap, ◌∙◌, subst, get_or, set, arith, map}
 use Rattle.std.specs.VecDeque.{deque_capacity}
 use Rattle.xa_desk.specs.LedgerView.{LedgerView}
 use Rattle.xa_desk.specs.DeskView.{DeskView}
@@ -47,13 +47,9 @@ module _ (f : Ask → Ask) (same : (k : Ask) → (f k).manager ≡ k.manager) wh
   remade_can at [] can = tt
   remade_can at (k ∷ ks) can = (subst (CanAsk at) (sym (same k)) can.0, remade_can at ks can.1)
 
-  pub remade_long : (ks : List Ask) → length (map f ks) ≡ length ks
-  remade_long [] = refl
-  remade_long (k ∷ ks) = let z = remade_long ks in omega (arith, z)
-
   module _ (r r' : Round) (is : r'.asks.items ≡ map f r.asks.items) where
     as_long : length r'.asks.items ≡ length r.asks.items
-    as_long = ap (λ l. length l) is ∙ remade_long r.asks.items
+    as_long = ap (λ l. length l) is ∙ length-map r.asks.items f
 
     pub remade_rest : r'.tickets ≡ r.tickets → IsAtRest r → IsAtRest r'
     remade_rest tickets rest = record {
@@ -76,4 +72,4 @@ pub lent : (f : Ask → Ask) → ((k : Ask) → (f k).manager ≡ k.manager) →
     → before ≡ asks → take n (after ++ rest) ≡ map f asks
 lent f same n asks before after rest long made value =
     let is : after ≡ map f asks = made ∙ ap (map f) value in
-    seam n after rest (long ∙ sym (ap (λ l. length l) is ∙ remade_long f same asks)) ∙ is
+    seam n after rest (long ∙ sym (ap (λ l. length l) is ∙ length-map asks f)) ∙ is

@@ -1,15 +1,16 @@
 -- What is outstanding after requests that were collected was outstanding before them.
-use Rattle.xa_base.proofs.{◌≡◌, ℕ, ◌<◌, ◌≤◌, Bool, false, true, ◌||◌, ◌==◌, nat_eq, Option, Some, None, List, [], ◌∷◌, length, sym, ap, ◌∙◌, subst, inl, inr}
-use Rattle.xa_base.proofs.{arith, length-append, cases_Bool, eqb-true, eqb-false, or_parts, if◌then◌else◌}
+use Rattle.xa_base.proofs.{◌≡◌, ℕ, ◌<◌, ◌≤◌, Bool, false, true, ◌||◌, nat_eq, Option, Some, None, List, [], ◌∷◌, length, sym, ap, ◌∙◌, subst, arith}
+use Rattle.xa_base.proofs.{length-append, eqb-false, or_parts, if◌then◌else◌}
 use Rattle.std.specs.FinMap as finmap
 use Rattle.xa_words.specs.{Op}
 use Rattle.xa_words.specs.declared.code.Code.{Code}
-use Rattle.xa_desk.specs.{Operation, is_collected, learnt_shut, with_sent, with_collected, IsOut, ledger, AllKept}
+use Rattle.xa_desk.specs.{Operation, is_collected, learnt_shut, with_sent, with_collected, IsOut, AllKept}
 use Rattle.xa_desk.specs.LedgerView.{LedgerView}
 use Rattle.xa_desk.specs.DeskView.{DeskView}
 use Rattle.xa_desk.proofs.Ledgers.{is_collected-push}
-use Rattle.xa_driver.specs.{Ask, EachAsk, KeepsDesk, among_asks, asked}
+use Rattle.xa_driver.specs.{Ask, KeepsDesk, asked}
 use Rattle.xa_driver.specs.Asks.{Asks}
+use Rattle.xa_driver.proofs.Gathering.{asks_at}
 
 -- what is outstanding in the later ledger was so in the earlier one
 pub record Leaves (a a' : LedgerView) : Type 0 where
@@ -38,20 +39,9 @@ asked_leaves a None code = leaves_same a
 asked_leaves a (Some op) None = leaves_same a
 asked_leaves a (Some op) (Some code) = either_leaves a _ (learnt_shut a) (leaves_answered a op code)
 
--- one of the requests is to the manager
-asks_there : (ks : List Ask) (at at' : List LedgerView) (m : ℕ) → EachAsk ks at at' → among_asks ks m ≡ true → Leaves (ledger at m) (ledger at' m)
-asks_there [] at at' m e there = absurd (cc)
-asks_there (k ∷ ks) at at' m e there = elim (cases_Bool (k.manager == m)) [
-  | inl here ↦ subst (λ n. Leaves (ledger at n) (ledger at' n)) (eqb-true k.manager m here) (subst (Leaves (ledger at k.manager)) (sym e.0.trace) (asked_leaves (ledger at k.manager) k.op k.code))
-  | inr other ↦ asks_there ks at at' m e.1 (ap (λ c. c || among_asks ks m) (sym other) ∙ there)
-]
-
 out_asked : (ks : List Ask) (at at' : List LedgerView) → Asks ks at at' → (o : Operation) → IsOut at' o → IsOut at o
 out_asked ks at at' is o out =
-    let leaves : Leaves (ledger at o.manager) (ledger at' o.manager) = elim (cases_Bool (among_asks ks o.manager)) [
-      | inl there ↦ asks_there ks at at' o.manager is.each there
-      | inr elsewhere ↦ subst (Leaves (ledger at o.manager)) (sym (is.others o.manager out.known.positive elsewhere)) (leaves_same (ledger at o.manager))
-    ] in
+    let leaves = asks_at Leaves asked_leaves ks at at' o.manager out.known.positive is in
     record {
       known = record { positive = out.known.positive; within = subst (λ n. o.manager ≤ n) is.managers out.known.within };
       sent = leaves.sent o.number out.sent out.open_;

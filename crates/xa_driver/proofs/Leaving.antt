@@ -1,15 +1,16 @@
 -- A round that is left in the middle: what is in flight is kept under handles, and so is all that is outstanding.
-use Rattle.xa_base.proofs.{◌⊎◌, ◌≡◌, ℕ, ◌==◌, ◌||◌, ◌≤◌, inl, inr, ⊎_elim, false, true, Option, Some, None, List, [], ◌∷◌, ◌++◌, length, refl, sym, ap, ◌∙◌}
-use Rattle.xa_base.proofs.{subst, arith, length-append, eqb-false, eqb-true, some_same, inserted_other, inserted_there}
+use Rattle.xa_base.proofs.{list_any-append, or_from, cases_eq, cases_Bool, ◌⊎◌, ◌≡◌, ℕ, ◌==◌, ◌||◌, ◌≤◌, inl, inr, ⊎_elim, false, true, Option, Some, None}
+use Rattle.xa_base.proofs.{List, [], ◌∷◌, ◌++◌, length, refl, sym, ap, ◌∙◌, subst, arith, length-append, eqb-true, some_same, inserted_other, inserted_there}
 use Rattle.std.specs.FinMap as map
 use Rattle.xa_words.specs.{Op}
 use Rattle.xa_desk.specs.{Operation, AllKept, with_sent, TicketView, IsOut, Owns, ledger, LeavesOthers}
 use Rattle.xa_desk.specs.LedgerView.{LedgerView}
 use Rattle.xa_desk.specs.DeskView.{DeskView}
 use Rattle.xa_desk.proofs.Ledgers.{known_by}
-use Rattle.xa_driver.specs.{Round, Ask, AreRising, EachAsk, EachBegan, HasBegun, Keeps, LeavesOwned, Owning, among_asks, AllKeptBut, AreApart, IsAmong}
-use Rattle.xa_driver.specs.{IsUnderWay, LeavesInFlight, LeavesKept, LeavesOtherTickets, OwnsAll}
-use Rattle.xa_driver.proofs.Kept.{asked_leaves}
+use Rattle.xa_driver.specs.{Round, Ask, AreRising, EachBegan, HasBegun, Keeps, LeavesOwned, Owning, among_asks, AllKeptBut, AreApart, IsAmong, IsUnderWay}
+use Rattle.xa_driver.specs.{LeavesInFlight, LeavesKept, LeavesOtherTickets, OwnsAll}
+use Rattle.xa_driver.proofs.Kept.{asked_leaves, Leaves}
+use Rattle.xa_driver.proofs.Gathering.{asks_there}
 use Rattle.xa_driver.proofs.Staying.{IsOpen}
 use Rattle.xa_driver.proofs.Stepping.{rising_rest}
 use Rattle.xa_driver.proofs.Flights.{rising_first_part}
@@ -35,8 +36,6 @@ rest_owned d d' (Some t) rs owned leaves = others_owned d d' t.operation rs owne
 apart_above : (m lo : ℕ) (o : Operation) (ks : List Ask) (rs : List (Option TicketView)) (at : List LedgerView) (d : DeskView) → o.manager ≡ m → m ≤ lo
     → AreRising lo ks → EachBegan ks rs at d → AreApart o rs
 apart_above m lo o [] [] at d is up rising began = tt
-apart_above m lo o [] (r ∷ rs) at d is up rising began = absurd began
-apart_above m lo o (k ∷ ks) [] at d is up rising began = absurd began
 apart_above m lo o (k ∷ ks) (None ∷ rs) at d is up rising began =
     let above = rising.0 in apart_above m k.manager o ks rs at d is (omega (arith, up, above)) rising.1 began.1
 apart_above m lo o (k ∷ ks) (Some t ∷ rs) at d is up rising began =
@@ -44,15 +43,15 @@ apart_above m lo o (k ∷ ks) (Some t ∷ rs) at d is up rising began =
       λ same. let number : k.manager ≡ m = ap (λ (p : Operation). p.manager) (sym began.0.operation ∙ same) ∙ is in omega (arith, up, above, number),
       apart_above m k.manager o ks rs at d is (omega (arith, up, above)) rising.1 began.1,
     )
+apart_above m lo o _ _ at d is up rising began = absurd began
 
 begun_owned : (lo : ℕ) (ks : List Ask) (rs : List (Option TicketView)) (at : List LedgerView) (d : DeskView) → AreRising lo ks → EachBegan ks rs at d
     → OwnsAll d rs
 begun_owned lo [] [] at d rising began = tt
-begun_owned lo [] (r ∷ rs) at d rising began = absurd began
-begun_owned lo (k ∷ ks) [] at d rising began = absurd began
 begun_owned lo (k ∷ ks) (None ∷ rs) at d rising began = begun_owned k.manager ks rs at d rising.1 began.1
 begun_owned lo (k ∷ ks) (Some t ∷ rs) at d rising began =
     (began.0.owned, (apart_above k.manager k.manager t.operation ks rs at d (ap (λ (p : Operation). p.manager) began.0.operation) (omega arith) rising.1 began.1, begun_owned k.manager ks rs at d rising.1 began.1))
+begun_owned lo _ _ at d rising began = absurd began
 
 pub flights_owned : (r : Round) (now : DeskView) → IsUnderWay r now → OwnsAll now r.tickets.items
 flights_owned r now u =
@@ -62,12 +61,10 @@ flights_owned r now u =
 -- ---- one more is kept
 
 lists_kept : (d d' : DeskView) (r : Option TicketView) → Keeps d d' r → d'.ledgers ≡ d.ledgers
-lists_kept d d' None same = ap (λ (e : DeskView). e.ledgers) same
-lists_kept d d' (Some t) (n, (free, is)) = ap (λ (e : DeskView). e.ledgers) is
+lists_kept d d' r h = grind arith
 
 events_kept : (d d' : DeskView) (r : Option TicketView) → Keeps d d' r → d'.events ≡ d.events
-events_kept d d' None same = ap (λ (e : DeskView). e.events) same
-events_kept d d' (Some t) (n, (free, is)) = ap (λ (e : DeskView). e.events) is
+events_kept d d' r h = grind arith
 
 pub kept_one_more : (d d' : DeskView) (r : Option TicketView) (rs : List (Option TicketView)) → AllKeptBut (r ∷ rs) d → Keeps d d' r → AllKeptBut rs d'
 kept_one_more d d' None rs but same = subst (AllKeptBut rs) (sym same) but
@@ -106,15 +103,7 @@ kept_stays d d' (Some t) (n, (free, made)) k o is =
 -- nothing else is
 kept_only : (d d' : DeskView) (r : Option TicketView) (rs : List (Option TicketView)) → Keeps d d' r → (k : ℕ) (o : Operation)
     → map.get d'.kept k ≡ Some o → (map.get d.kept k ≡ Some o) ⊎ IsAmong o (r ∷ rs)
-kept_only d d' None rs same k o is = inl (ap (λ (e : DeskView). map.get e.kept k) (sym same) ∙ is)
-kept_only d d' (Some t) rs (n, (free, made)) k o is =
-    let got : map.get (map.insert d.kept n t.operation) k ≡ Some o = ap (λ (e : DeskView). map.get e.kept k) (sym made) ∙ is in
-    elim (k == n) as (λ b. (k == n) ≡ b → (map.get d.kept k ≡ Some o) ⊎ IsAmong o (Some t ∷ rs)) [
-      | true ↦ λ e.
-          let same : k ≡ n = eqb-true k n e in
-          inr (inl (some_same t.operation o (sym (inserted_there d.kept n t.operation) ∙ ap (map.get (map.insert d.kept n t.operation)) (sym same) ∙ got)))
-      | false ↦ λ e. inl (sym (inserted_other d.kept n t.operation k (eqb-false k n e)) ∙ got)
-    ] refl
+kept_only d d' r rs h k o is = grind (arith, cases_eq, some_same, inserted_there, inserted_other)
 
 other_owned : (d d' : DeskView) (r : Option TicketView) (rs all : List (Option TicketView)) → IsLast (r ∷ rs) all → LeavesOwned d d' r
     → LeavesOtherTickets all d d'
@@ -139,11 +128,7 @@ all_kept d but = record { each = λ o out. ⊎_elim (λ (k : (k : ℕ) × (map.g
 
 -- a request that is in flight
 open_or_it : (a : LedgerView) (op : Op) (n : ℕ) → IsOpen n (with_sent a op) → IsOpen n a ⊎ (n ≡ length a.sent)
-open_or_it a op n h =
-    elim (n == length a.sent) as (λ b. (n == length a.sent) ≡ b → IsOpen n a ⊎ (n ≡ length a.sent)) [
-      | true ↦ λ e. inr (eqb-true n (length a.sent) e)
-      | false ↦ λ e. let differs = eqb-false n (length a.sent) e in let sent = h.sent in inl (record { sent = omega (arith, differs, sent, length-append a.sent (op ∷ [])); open_ = h.open_ })
-    ] refl
+open_or_it a op n h = grind (arith, cases_eq, length-append)
 
 flying_open : (o : Operation) (ks : List Ask) (ts : List (Option TicketView)) (at : List LedgerView) (d : DeskView) → EachBegan ks ts at d
     → among_asks ks o.manager ≡ true → IsOpen o.number (ledger d.ledgers o.manager)
@@ -166,23 +151,8 @@ flying_open o (k ∷ ks) (t ∷ ts) at d h there open_ =
         inr (inl (began.operation ∙ (λ i. record { manager = same i; number = (ap (λ m. length (ledger at m).sent) same ∙ sym p) i }))))
         (open_or_it (ledger at o.manager) began.op o.number (subst (IsOpen o.number) sent_is open_))
 
-done_open : (n m : ℕ) (ks : List Ask) (at now : List LedgerView) → EachAsk ks at now → among_asks ks m ≡ true → IsOpen n (ledger now m) → IsOpen n (ledger at m)
-done_open n m [] at now h there open_ = cc
-done_open n m (k ∷ ks) at now h there open_ =
-    elim (k.manager == m) as (λ b. (k.manager == m) ≡ b → (b || among_asks ks m) ≡ true → IsOpen n (ledger at m)) [
-      | true ↦ λ e _.
-          let same = eqb-true k.manager m e in
-          let leaves = asked_leaves (ledger at k.manager) k.op k.code in
-          let mine : IsOpen n (ledger now k.manager) = subst (λ q. IsOpen n (ledger now q)) (sym same) open_ in
-          let asked_ = subst (IsOpen n) h.0.trace mine in
-          subst (λ q. IsOpen n (ledger at q)) same (record { sent = leaves.sent n asked_.sent asked_.open_; open_ = leaves.open_ n asked_.open_ })
-      | false ↦ λ _ rest. done_open n m ks at now h.1 rest open_
-    ] refl there
-
 not_among_both : (js ks : List Ask) (m : ℕ) → among_asks js m ≡ false → among_asks ks m ≡ false → among_asks (js ++ ks) m ≡ false
-not_among_both [] ks m a b = b
-not_among_both (j ∷ js) ks m a b =
-    elim (j.manager == m) as (λ c. (c || among_asks js m) ≡ false → (c || among_asks (js ++ ks) m) ≡ false) [ true ↦ λ e. cc | false ↦ λ e. not_among_both js ks m e b ] a
+not_among_both js ks m a b = list_any-append (λ (k : Ask). k.manager == m) js ks ∙ or_from _ _ a b
 
 -- was kept as the round began, or is in flight
 pub all_but_flights : (r : Round) (now : DeskView) → IsUnderWay r now → AllKept r.before.value → AllKeptBut r.tickets.items now
@@ -196,12 +166,12 @@ all_but_flights r now u kept o out =
     at = r.before.value.ledgers
 
     where_is : IsOpen o.number (ledger now.ledgers o.manager) → IsOpen o.number (ledger at o.manager) ⊎ IsAmong o r.tickets.items
-    where_is open_ =
-        elim (among_asks u.flying o.manager) as (λ b. among_asks u.flying o.manager ≡ b → IsOpen o.number (ledger at o.manager) ⊎ IsAmong o r.tickets.items) [
-          | true ↦ λ flies. flying_open o u.flying r.tickets.items at now u.in_flight flies open_
-          | false ↦ λ lies.
-              elim (among_asks u.done o.manager) as (λ b. among_asks u.done o.manager ≡ b → IsOpen o.number (ledger at o.manager) ⊎ IsAmong o r.tickets.items) [
-                | true ↦ λ done. inl (done_open o.number o.manager u.done at now.ledgers u.answered done open_)
-                | false ↦ λ none. inl (subst (IsOpen o.number) (u.others o.manager out.known.positive (not_among_both u.done u.flying o.manager none lies)) open_)
-              ] refl
-        ] refl
+    where_is open_ = elim (cases_Bool (among_asks u.flying o.manager)) [
+      | inl flies ↦ flying_open o u.flying r.tickets.items at now u.in_flight flies open_
+      | inr lies ↦ elim (cases_Bool (among_asks u.done o.manager)) [
+        | inl done ↦
+            let leaves = asks_there Leaves asked_leaves u.done at now.ledgers o.manager u.answered done in
+            inl (record { sent = leaves.sent o.number open_.sent open_.open_; open_ = leaves.open_ o.number open_.open_ })
+        | inr none ↦ inl (subst (IsOpen o.number) (u.others o.manager out.known.positive (not_among_both u.done u.flying o.manager none lies)) open_)
+      ]
+    ]

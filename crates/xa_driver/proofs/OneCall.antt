@@ -5,8 +5,8 @@ use Rattle.xa_words.specs.declared.code.Code.{Code}
 use Rattle.xa_desk.specs.LedgerView.{LedgerView}
 use Rattle.xa_desk.specs.DeskView.{DeskView}
 use Rattle.xa_driver.specs.{Branch, Done, Round, Prepared, Decided, Told, Ask, KeepsTheRest, SameAsks, yes_of, code_of, ending_of_ask, second_ask, yes_asked}
-use Rattle.xa_driver.specs.{HasDecided, HasForgotten, HasPrepared, HasTold, MayForget, MayTell, AppendsOnce, IsTraceOfCommit, IsTranOf, IsUnknown, Logs}
-use Rattle.xa_driver.specs.{MayCommit, decision_of, IsAtRest, MayAsk}
+use Rattle.xa_driver.specs.{HasDecided, HasForgotten, HasPrepared, HasTold, MayForget, MayTell, IsTraceOfCommit, IsTranOf, Logs, MayCommit, decision_of}
+use Rattle.xa_driver.specs.{IsAtRest, MayAsk}
 use Rattle.xa_log.specs.{LogState, record_of}
 use Rattle.xa_driver.proofs.Calls.{asks_long, call_by, last_can, next_can, same_long, seconds_long, yes_is, one_tran}
 
@@ -34,31 +34,14 @@ module _ (bs : List Branch) (old mid late new : List LedgerView) (log later : Lo
       (ap (λ k. k.votes.items) last.known ∙ ap (λ v. v.items) third.votes ∙ ap (λ v. v.items) second.votes ∙ first.votes) (ap (λ k. k.endings.items) last.known ∙ third.endings ∙ ap (λ c. map (ending_of_ask c) seconds) commit_is)
       (sym commit_is ∙ second.decision ∙ (λ i. decision_of (first.votes i) (logged_is i))) (subst (λ g. Logs p.tran (yes_asked firsts) (map code_of firsts) g log later) logged_is (subst (λ vs. Logs p.tran (yes_asked firsts) vs d.known.logged log later) first.votes second.logs))
 
-  -- and ask the log for one append
-  pub asks_log : {L : Type 0} (appends : TranName → List Bool → Bool → L → L → Type 0) (x y : L) (done : Done) → HasForgotten t late new done
-      → AppendsOnce appends p.tran (yes_asked firsts) p.known.votes.items d.known.logged x y
-      → AppendsOnce appends p.tran (yes_of bs done.votes.items) done.votes.items done.logged x y
-  asks_log appends x y done last asks =
-      let logged_is : d.known.logged ≡ done.logged = sym (ap (λ k. k.logged) last.known ∙ third.logged) in
-      let votes_are : p.known.votes.items ≡ done.votes.items =
-      sym (ap (λ k. k.votes.items) last.known ∙ ap (λ v. v.items) third.votes ∙ ap (λ v. v.items) second.votes) in
-      let yes_are : yes_asked firsts ≡ yes_of bs done.votes.items = yes_is bs firsts first.same ∙ ap (yes_of bs) (sym first.votes ∙ votes_are) in
-      subst (λ yes. AppendsOnce appends p.tran yes done.votes.items done.logged x y) yes_are
-      (subst (λ votes. AppendsOnce appends p.tran (yes_asked firsts) votes done.logged x y) votes_are
-      (subst (λ logged. AppendsOnce appends p.tran (yes_asked firsts) p.known.votes.items logged x y) logged_is asks))
-
--- or ask it for one whose end is unknown
-pub lost_log : {L : Type 0} (bs : List Branch) (old new : List LedgerView) (p : Prepared) (first : HasPrepared bs old new p)
-    (knows : L → Type 0) (loses : TranName → List Bool → L → L → Type 0) (x y : L) (votes : List Code)
-    → p.known.votes.items ≡ votes → (t : TranName) → p.tran ≡ t
-    → IsUnknown knows loses p.tran (yes_asked p.round.asks.items) p.known.votes.items x y
-    → IsUnknown knows loses t (yes_of bs votes) votes x y
-lost_log bs old new p first knows loses x y votes votes_are t same lost =
+-- what the log is asked by the votes of the first stage, it is asked by those of the commit
+pub for_log : (bs : List Branch) (old new : List LedgerView) (p : Prepared) (P : TranName → List Bool → List Code → Type 0) (t : TranName) (votes : List Code)
+    → HasPrepared bs old new p → p.tran ≡ t → p.known.votes.items ≡ votes → P p.tran (yes_asked p.round.asks.items) p.known.votes.items
+    → P t (yes_of bs votes) votes
+for_log bs old new p P t votes first same votes_are h =
     let firsts : List Ask = p.round.asks.items in
     let yes_are : yes_asked firsts ≡ yes_of bs votes = yes_is bs firsts first.same ∙ ap (yes_of bs) (sym first.votes ∙ votes_are) in
-    subst (λ (u : TranName). IsUnknown knows loses u (yes_of bs votes) votes x y) same
-    (subst (λ (ys : List Bool). IsUnknown knows loses p.tran ys votes x y) yes_are
-    (subst (λ (vs : List Code). IsUnknown knows loses p.tran (yes_asked firsts) vs x y) votes_are lost))
+    subst (λ u. P u (yes_of bs votes) votes) same (subst (λ ys. P p.tran ys votes) yes_are (subst (P p.tran (yes_asked firsts)) votes_are h))
 
 -- ---- when the next may be done, with nothing in between
 

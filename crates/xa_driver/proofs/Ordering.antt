@@ -1,6 +1,6 @@
 -- The order of what a round sends and collects.
-use Rattle.xa_base.proofs.{◌≡◌, ◌≤◌, ℕ, Bool, true, false, List, [], ◌∷◌, ◌++◌, length, drop, Option, None, Some, refl, sym, ap, ◌∙◌, subst, append_assoc}
-use Rattle.xa_base.proofs.{append-nil, arith, not, if◌then◌else◌, MatchOption, map-append, length-append}
+use Rattle.xa_base.proofs.{none_of, ◌≡◌, ◌≤◌, ℕ, Bool, true, false, List, [], ◌∷◌, ◌++◌, length, drop, Option, None, Some, refl, sym, ap, ◌∙◌, subst}
+use Rattle.xa_base.proofs.{append_assoc, append-nil, arith, not, if◌then◌else◌, MatchOption, map-append, length-append}
 use Rattle.std.proofs.Common.{ap₂}
 use Rattle.std.proofs.Math.Seq.{drop-append_seam}
 use Rattle.xa_words.specs.{Op}
@@ -51,8 +51,7 @@ step_sends (Some k) result old new desk now (is, sends) = sends_ticket k old.tic
 pub step_sends_keeps : (next : Option Ask) (result : Bool) (old new : Round) (desk now : DeskView)
     → MatchOption next ((result ≡ false) × Stays old new desk now) (λ k. (result ≡ true) × Sends k old new desk now)
     → (new.asks ≡ old.asks) × (new.collected ≡ old.collected)
-step_sends_keeps None result old new desk now (is, stays) = (ap (λ (r : Round). r.asks) stays.round, ap (λ (r : Round). r.collected) stays.round)
-step_sends_keeps (Some k) result old new desk now (is, sends) = (sends.asks, sends.collected)
+step_sends_keeps next result old new desk now h = grind arith
 
 pub sends_on : (ts us vs : List (Option TicketView)) (a b c : DeskView) → SendsMore ts us a b → SendsMore us vs b c → SendsMore ts vs a c
 sends_on ts us vs a b c first later = record {
@@ -75,20 +74,17 @@ collects_ticket k ts ts' old new None code ended is =
 collects_ticket k ts ts' old new (Some t) code (c, (coded, one)) is =
     record { first = t.operation ∷ []; events = collected_event old new t.operation c one; tickets = ap operations_of is }
 
+pub collects_nothing : (ts : List (Option TicketView)) (d : DeskView) → CollectsFirst ts ts d d
+collects_nothing ts d = record { first = []; events = sym (append-nil d.events); tickets = refl }
+
 pub step_collects : (next : Option (Option TicketView)) (result : Bool) (old new : Round) (desk now : DeskView)
     → MatchOption next ((result ≡ false) × Stays old new desk now) (λ t. (result ≡ true) × Collects t old new desk now)
     → CollectsFirst old.tickets.items new.tickets.items desk now
 step_collects None result old new desk now (is, stays) =
     subst (λ (r : Round). CollectsFirst old.tickets.items r.tickets.items desk now) (sym stays.round)
-    (subst (λ (d : DeskView). CollectsFirst old.tickets.items old.tickets.items desk d) (sym stays.still) (collects_none_yet old.tickets.items desk))
-  where
-    collects_none_yet : (ts : List (Option TicketView)) (d : DeskView) → CollectsFirst ts ts d d
-    collects_none_yet ts d = record { first = []; events = sym (append-nil d.events); tickets = refl }
+    (subst (λ (d : DeskView). CollectsFirst old.tickets.items old.tickets.items desk d) (sym stays.still) (collects_nothing old.tickets.items desk))
 step_collects (Some t) result old new desk now (is, collects) =
     collects_ticket collects.ask old.tickets.items new.tickets.items desk now t collects.code collects.ended collects.tickets
-
-pub collects_nothing : (ts : List (Option TicketView)) (d : DeskView) → CollectsFirst ts ts d d
-collects_nothing ts d = record { first = []; events = sym (append-nil d.events); tickets = refl }
 
 pub collects_on : (ts us vs : List (Option TicketView)) (a b c : DeskView) → CollectsFirst ts us a b → CollectsFirst us vs b c → CollectsFirst ts vs a c
 collects_on ts us vs a b c before later = record {
@@ -123,17 +119,10 @@ in_flight_sent (k ∷ ks) (Some t ∷ rs) at d (begun, each) =
 -- what goes out hangs on the managers and what they are asked
 pub same_sent : (js ks : List Ask) (at : List LedgerView) → SameAsks js ks → sent_of ks at ≡ sent_of js at
 same_sent [] [] at same = refl
-same_sent [] (k ∷ ks) at same = absurd same
-same_sent (j ∷ js) [] at same = absurd same
-same_sent (j ∷ js) (k ∷ ks) at (one, same) =
-    ap₂ (λ m op. if goes_out op (ledger at m) then next_operation at m ∷ sent_of ks at else sent_of ks at) one.manager one.op
-    ∙ ap (λ l. if goes_out j.op (ledger at j.manager) then next_operation at j.manager ∷ l else l) (same_sent js ks at same)
+same_sent (j ∷ js) (k ∷ ks) at (one, same) = grind (arith, same_sent js ks at same)
+same_sent _ _ at same = absurd same
 
 -- ---- a round that is finished
-
-pub no_elements : {A : Type 0} (l : List A) → length l ≤ 0 → l ≡ []
-no_elements [] few = refl
-no_elements (x ∷ l) few = absurd (omega (arith, few))
 
 drop_done : (done l : List Ask) (n : ℕ) → length done ≡ n → drop n (done ++ l) ≡ l
 drop_done done l n is = ap (λ k. drop k (done ++ l)) (sym is) ∙ drop-append_seam done l
@@ -141,26 +130,11 @@ drop_done done l n is = ap (λ k. drop k (done ++ l)) (sym is) ∙ drop-append_s
 -- once all is sent, what has a ticket is what goes out of all that wasn't collected
 pub all_in_flight : (r : Round) (now : DeskView) (u : IsUnderWay r now) → IsSent r
     → operations_of r.tickets.items ≡ sent_of (drop r.collected r.asks.items) r.before.value.ledgers
-all_in_flight r now u sent =
-    let at = r.before.value.ledgers in
-    let many = as_many u.flying r.tickets.items at now u.in_flight in
-    let parts = ap (λ l. length l) u.parts in
-    let counted = u.counted in
-    let none : u.rest ≡ [] =
-    no_elements u.rest (omega (arith, sent, many, parts, counted, length-append u.done (u.flying ++ u.rest), length-append u.flying u.rest)) in
-    let left : drop r.collected r.asks.items ≡ u.flying =
-    ap (drop r.collected) u.parts ∙ drop_done u.done (u.flying ++ u.rest) r.collected counted ∙ ap (λ l. u.flying ++ l) none ∙ append-nil u.flying in
-    in_flight_sent u.flying r.tickets.items at now u.in_flight ∙ ap (λ l. sent_of l at) (sym left)
+all_in_flight r now u sent = grind (arith, as_many, none_of, length-append, drop_done, append-nil, in_flight_sent)
 
 -- once all is collected nothing has a ticket
 pub none_in_flight : (r : Round) (now : DeskView) (u : IsUnderWay r now) → length r.asks.items ≤ r.collected → operations_of r.tickets.items ≡ []
-none_in_flight r now u all =
-    let at = r.before.value.ledgers in
-    let parts = ap (λ l. length l) u.parts in
-    let counted = u.counted in
-    let none : u.flying ≡ [] =
-    no_elements u.flying (omega (arith, all, parts, counted, length-append u.done (u.flying ++ u.rest), length-append u.flying u.rest)) in
-    in_flight_sent u.flying r.tickets.items at now u.in_flight ∙ ap (λ l. sent_of l at) none
+none_in_flight r now u all = grind (arith, none_of, length-append, in_flight_sent)
 
 pub finished_in_order : (first sent last : Round) (old mid new : DeskView) → SendsMore first.tickets.items sent.tickets.items old mid
     → (sent.asks ≡ first.asks) × (sent.collected ≡ first.collected) → sent.before ≡ first.before → IsUnderWay sent mid → IsSent sent
@@ -184,7 +158,7 @@ pub far_in_order : (first sent last : Round) (old mid new : DeskView) → SendsM
     → (sent.asks ≡ first.asks) × (sent.collected ≡ first.collected) → sent.before ≡ first.before → IsUnderWay sent mid → IsSent sent
     → sent_count first ≡ 0 → CollectsFirst sent.tickets.items last.tickets.items mid new → GoesAsFar first.asks.items first.before.value.ledgers old new
 far_in_order first sent last old mid new sends same before under_way all none collects =
-    let no_tickets : first.tickets.items ≡ [] = no_elements first.tickets.items (omega (arith, none)) in
+    let no_tickets : first.tickets.items ≡ [] = none_of first.tickets.items (omega (arith, none)) in
     let none_collected : first.collected ≡ 0 = omega (arith, none) in
     let more : sends.more ≡ operations_of sent.tickets.items =
     sym (sends.tickets ∙ ap (λ l. operations_of l ++ sends.more) no_tickets) in
@@ -204,7 +178,7 @@ far_in_order first sent last old mid new sends same before under_way all none co
 pub whole_in_order : (r : Round) (js : List Ask) (old new : DeskView) → SendsThenCollects r old new → sent_count r ≡ 0 → r.before.value ≡ old
     → SameAsks js r.asks.items → GoesAsRound js old new
 whole_in_order r js old new is none before same =
-    let no_tickets : r.tickets.items ≡ [] = no_elements r.tickets.items (omega (arith, none)) in
+    let no_tickets : r.tickets.items ≡ [] = none_of r.tickets.items (omega (arith, none)) in
     let first : r.collected ≡ 0 = omega (arith, none) in
     let more : is.more ≡ sent_of js old.ledgers =
     ap (λ l. operations_of l ++ is.more) (sym no_tickets) ∙ is.all ∙ ap (λ n. sent_of (drop n r.asks.items) r.before.value.ledgers) first

@@ -1,6 +1,6 @@
 -- What requests to managers leave of the operations that were outstanding before.
-use Rattle.xa_base.proofs.{◌≡◌, ℕ, ◌<◌, ◌≤◌, true, false, ◌==◌, ◌||◌, Option, None, Some, List, [], ◌∷◌, length, refl, sym, ap, ◌∙◌, subst, arith}
-use Rattle.xa_base.proofs.{length-append, eqb-true, ne_eqb, or_from, by_if}
+use Rattle.xa_base.proofs.{◌≡◌, ℕ, ◌<◌, false, Option, None, Some, List, [], ◌∷◌, length, refl, sym, ap, ◌∙◌, subst, arith, length-append, ne_eqb, or_from}
+use Rattle.xa_base.proofs.{by_if, inl, inr, cases_eq}
 use Rattle.std.specs.FinMap as finmap
 use Rattle.xa_words.specs.declared.code.Code.{Code}
 use Rattle.xa_words.specs.{Op}
@@ -8,11 +8,11 @@ use Rattle.xa_desk.specs.LedgerView.{LedgerView}
 use Rattle.xa_desk.specs.{learnt_shut, is_collected, with_sent, ledger, DeskSeat, LeavesTickets}
 use Rattle.xa_desk.specs.DeskView.{DeskView}
 use Rattle.xa_desk.proofs.Ledgers.{is_collected-push, known_by}
-use Rattle.xa_driver.specs.{Ask, asked, among_asks, EachAsk, KeepsDesk, KeepsTheRest, LeavesOutstanding}
+use Rattle.xa_driver.specs.{Ask, asked, KeepsDesk, KeepsTheRest, LeavesOutstanding}
 use Rattle.xa_driver.specs.Asks.{Asks}
-use Rattle.xa_driver.proofs.Gathering.{as_many_open}
+use Rattle.xa_driver.proofs.Gathering.{as_many_open, asks_at}
 use Rattle.xa_driver.proofs.Kept.{asks_keep}
-use Rattle.xa_driver.proofs.Asking.{keeps_chain, keeps_start}
+use Rattle.xa_driver.proofs.Asking.{Moved, keeps_chain, keeps_start}
 
 -- the request of this number was sent and not collected
 pub record IsOpen (n : ℕ) (a : LedgerView) : Type 0 where
@@ -29,28 +29,10 @@ asked_leaves_open a (Some op) (Some c) n h =
           ∙ or_from _ _ h.open_ (or_from _ _ (ne_eqb n (length a.sent) (λ e. let z = h.sent in absurd (omega (arith, e)))) refl);
     })
 
-open_there : (ks : List Ask) (at at' : List LedgerView) (m n : ℕ) → EachAsk ks at at' → among_asks ks m ≡ true → IsOpen n (ledger at m)
-    → IsOpen n (ledger at' m)
-open_there [] at at' m n e there h = cc
-open_there (k ∷ ks) at at' m n e there h =
-    elim (k.manager == m) as (λ b. (k.manager == m) ≡ b → (b || among_asks ks m) ≡ true → IsOpen n (ledger at' m)) [
-      | true ↦ λ is _.
-          let same : k.manager ≡ m = eqb-true k.manager m is in
-          let before : IsOpen n (ledger at k.manager) = subst (λ (q : ℕ). IsOpen n (ledger at q)) (sym same) h in
-          let after : IsOpen n (ledger at' k.manager) = subst (IsOpen n) (sym e.0.trace) (asked_leaves_open (ledger at k.manager) k.op k.code n before) in
-          subst (λ (q : ℕ). IsOpen n (ledger at' q)) same after
-      | false ↦ λ is there. open_there ks at at' m n e.1 there h
-    ] refl there
-
-open_at : (ks : List Ask) (at at' : List LedgerView) (m n : ℕ) → 1 ≤ m → Asks ks at at' → IsOpen n (ledger at m) → IsOpen n (ledger at' m)
-open_at ks at at' m n p asks h = elim (among_asks ks m) as (λ b. among_asks ks m ≡ b → IsOpen n (ledger at' m)) [
-  | true ↦ λ there. open_there ks at at' m n asks.each there h
-  | false ↦ λ none. subst (IsOpen n) (sym (asks.others m p none)) h
-] refl
-
 pub asks_leave_outstanding : (ks : List Ask) (at at' : List LedgerView) → Asks ks at at' → LeavesOutstanding at at'
 asks_leave_outstanding ks at at' asks o out =
-    let open_ = open_at ks at at' o.manager o.number out.known.positive asks (record { sent = out.sent; open_ = out.open_ }) in
+    let open_ =
+    asks_at (λ a a'. IsOpen o.number a → IsOpen o.number a') (λ a op code. asked_leaves_open a op code o.number) ks at at' o.manager out.known.positive asks (record { sent = out.sent; open_ = out.open_ }) in
     record { known = known_by at at' o.manager asks.managers out.known; sent = open_.sent; open_ = open_.open_ }
 
 pub outstanding_chain : (a b c : List LedgerView) → LeavesOutstanding a b → LeavesOutstanding b c → LeavesOutstanding a c
@@ -64,6 +46,17 @@ tickets_stay old new keeps out t owned = record {
   out = out t.operation owned.out;
   loose = λ k is. owned.loose k (ap (λ m. finmap.get m k) (sym keeps.kept) ∙ is);
 }
+
+-- a request to one manager that leaves what is open there leaves what is outstanding
+pub moved_leaves : (m : ℕ) (a' : LedgerView) (old new : DeskView) → Moved m a' old new → ((n : ℕ) → IsOpen n (ledger old.ledgers m) → IsOpen n a')
+    → LeavesOutstanding old.ledgers new.ledgers
+moved_leaves m a' old new moved leaves o out =
+    let was : IsOpen o.number (ledger old.ledgers o.manager) = record { sent = out.sent; open_ = out.open_ } in
+    let now : IsOpen o.number (ledger new.ledgers o.manager) = elim (cases_eq o.manager m) [
+      | inl same ↦ rw (same, moved.here) (leaves o.number (rw same at was))
+      | inr apart ↦ rw (moved.others o.manager out.known.positive apart) was
+    ] in
+    record { known = known_by old.ledgers new.ledgers o.manager moved.managers out.known; sent = now.sent; open_ = now.open_ }
 
 -- requests that were collected leave the rest of the desk
 pub rest_kept : (ks : List Ask) (old new : DeskView) → Asks ks old.ledgers new.ledgers → KeepsDesk old new → KeepsTheRest old new

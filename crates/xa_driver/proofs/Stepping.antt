@@ -1,7 +1,7 @@
 -- One step of a round: a request is sent, or collected; and the end, once all are.
-use Rattle.xa_base.proofs.{MatchOption, ◌≡◌, ◌≢◌, ℕ, suc, ◌+◌, ◌==◌, ◌||◌, ◌<◌, ◌≤◌, Option, None, Some, false, true, List, [], ◌∷◌, ◌++◌, length, refl, sym}
-use Rattle.xa_base.proofs.{ap, ◌∙◌, subst, arith, get_or, set, append_assoc, append-nil, length-append, slice_get-get_or, slice_get_within, All, slice_get}
-use Rattle.xa_base.proofs.{All-nil, All-cons, by_if, eqb-false, eqb-true}
+use Rattle.xa_base.proofs.{list_any-append, none_of, MatchOption, ◌≡◌, ◌≢◌, ℕ, suc, ◌+◌, ◌==◌, ◌<◌, ◌≤◌, Option, None, Some, false, List, [], ◌∷◌, ◌++◌, length}
+use Rattle.xa_base.proofs.{refl, sym, ap, ◌∙◌, subst, arith, get_or, set, append_assoc, append-nil, length-append, slice_get-get_or, slice_get_within, All}
+use Rattle.xa_base.proofs.{slice_get, All-nil, All-cons, by_if}
 use Rattle.std.proofs.Math.Seq.{get_or-append_seam, set-append_seam}
 use Rattle.std.proofs.lemmas.Option.{get_or_from_slice_get}
 use Rattle.std.specs.VecDeque.{deque_capacity}
@@ -14,7 +14,7 @@ use Rattle.xa_desk.proofs.Ledgers.{known_by}
 use Rattle.xa_driver.specs.{Ask, Round, AllCanAsk, AreRising, AskTrace, BeginsAsk, CanAsk, EachAsk, EachBegan, Ends, HasBegun, HaveComeSoFar, IsBegun}
 use Rattle.xa_driver.specs.{KeepsDesk, Owning, among_asks, collected, in_flight, unasked, Begins, IsUnderWay, coded, sent_count}
 use Rattle.xa_driver.specs.Asks.{Asks}
-use Rattle.xa_driver.proofs.Staying.{IsOpen, tickets_stay}
+use Rattle.xa_driver.proofs.Staying.{IsOpen, moved_leaves, tickets_stay}
 use Rattle.xa_driver.proofs.Asking.{Moved, sent_by, collected_of, keeps_chain, keeps_start, began_moved}
 use Rattle.xa_driver.proofs.Gathering.{behind}
 use Rattle.xa_driver.proofs.Flights.{among_first_part, among_last_part, apart, asked_more, asked_stays, begins_flight, begun_more, begun_stays, can_at}
@@ -39,9 +39,8 @@ rising_rest lo (x ∷ xs) ys r = rising_rest x.manager xs ys r.1
 
 pub as_many : (ks : List Ask) (rs : List (Option TicketView)) (at : List LedgerView) (d : DeskView) → EachBegan ks rs at d → length rs ≡ length ks
 as_many [] [] at d h = refl
-as_many [] (r ∷ rs) at d h = absurd h
-as_many (k ∷ ks) [] at d h = absurd h
 as_many (k ∷ ks) (r ∷ rs) at d h = let z = as_many ks rs at d h.1 in omega arith
+as_many _ _ at d h = absurd h
 
 -- the first in flight has the first ticket
 pub first_flies : (ks : List Ask) (r : Option TicketView) (rs : List (Option TicketView)) (at : List LedgerView) (d : DeskView) → EachBegan ks (r ∷ rs) at d
@@ -166,12 +165,7 @@ module _ (r : Round) (now : DeskView) (u : IsUnderWay r now) where
     }
 
     pub free_now : outstanding now.ledgers < now.handles
-    free_now =
-        let fewer = u.fewer in
-        let free = u.free in
-        let long = ap (λ l. length l) all_is in
-        let handles = u.keeps.goes_on.handles in
-        omega (arith, fewer, free, long, handles, length-append gone (k ∷ zs), length-append u.done u.flying)
+    free_now = grind (arith, all_is, length-append)
 
     parts_on : gone ++ k ∷ zs ≡ u.done ++ ((u.flying ++ k ∷ []) ++ zs)
     parts_on = append_assoc u.done u.flying (k ∷ zs) ∙ ap (λ l. u.done ++ l) (sym (append_assoc u.flying (k ∷ []) zs))
@@ -211,13 +205,7 @@ module _ (r : Round) (now : DeskView) (u : IsUnderWay r now) where
     pub one_more_leaves : (t : Option TicketView) (new : DeskView) → BeginsAsk k now new t → LeavesTickets now new
     one_more_leaves t new began =
         let moved = began_moved k now new t can_now.known began in
-        tickets_stay now new moved.keeps (λ o out.
-        let open_ : IsOpen o.number (ledger new.ledgers o.manager) = elim (o.manager == k.manager) as (λ b. (o.manager == k.manager) ≡ b → IsOpen o.number (ledger new.ledgers o.manager)) [
-          | true ↦ λ e. let is : o.manager ≡ k.manager = eqb-true o.manager k.manager e in
-              subst (λ m. IsOpen o.number (ledger new.ledgers m)) (sym is) (subst (IsOpen o.number) (sym moved.here) (sent_leaves_open (ledger now.ledgers k.manager) k.op o.number (subst (λ m. IsOpen o.number (ledger now.ledgers m)) is (record { sent = out.sent; open_ = out.open_ }))))
-          | false ↦ λ e. subst (IsOpen o.number) (sym (moved.others o.manager out.known.positive (eqb-false o.manager k.manager e))) (record { sent = out.sent; open_ = out.open_ })
-        ] refl in
-        record { known = known_by now.ledgers new.ledgers o.manager moved.managers out.known; sent = open_.sent; open_ = open_.open_ })
+        tickets_stay now new moved.keeps (moved_leaves k.manager _ now new moved (sent_leaves_open (ledger now.ledgers k.manager) k.op))
 
   -- ---- the one that is longest in flight is collected
 
@@ -291,8 +279,8 @@ module _ (r : Round) (now : DeskView) (u : IsUnderWay r now) where
         fewer_now (Some t) code new e = let z = e.1.1.fewer in omega (arith, z)
 
         same_managers : (code : Option Code) (m : ℕ) (xs js : List Ask) → among_asks (xs ++ k ∷ js) m ≡ among_asks (xs ++ coded k code ∷ js) m
-        same_managers code m [] js = refl
-        same_managers code m (x ∷ xs) js = ap (λ b. (x.manager == m) || b) (same_managers code m xs js)
+        same_managers code m xs js =
+            list_any-append (λ (l : Ask). l.manager == m) xs (k ∷ js) ∙ sym (list_any-append (λ (l : Ask). l.manager == m) xs (coded k code ∷ js))
 
         can_coded : (code : Option Code) (xs : List Ask) → AllCanAsk (xs ++ k ∷ (js ++ u.rest)) at.ledgers
             → AllCanAsk (xs ++ coded k code ∷ (js ++ u.rest)) at.ledgers
@@ -323,22 +311,14 @@ pub all_answered : (r : Round) (now : DeskView) (u : IsUnderWay r now) → lengt
     → Asks r.asks.items r.before.value.ledgers now.ledgers
 all_answered r now u all =
     let nothing : u.flying ++ u.rest ≡ [] =
-    empty (u.flying ++ u.rest) (let a = u.counted in let b = ap (λ l. length l) u.parts in omega (arith, all, a, b, length-append u.done (u.flying ++ u.rest))) in
-    let flying : u.flying ≡ [] = first_empty u.flying u.rest nothing in
+    none_of (u.flying ++ u.rest) (let a = u.counted in let b = ap (λ l. length l) u.parts in omega (arith, all, a, b, length-append u.done (u.flying ++ u.rest))) in
+    let flying : u.flying ≡ [] = none_of u.flying (let a = ap (λ l. length l) nothing in omega (arith, a, length-append u.flying u.rest)) in
     let is : r.asks.items ≡ u.done = u.parts ∙ ap (λ l. u.done ++ l) nothing ∙ append-nil u.done in
     record {
       each = subst (λ (l : List Ask). EachAsk l r.before.value.ledgers now.ledgers) (sym is) u.answered;
       others = λ m p none. u.others m p (ap (λ l. among_asks (u.done ++ l) m) flying ∙ ap (λ l. among_asks l m) (append-nil u.done ∙ sym is) ∙ none);
       managers = u.managers;
     }
-  where
-    empty : (l : List Ask) → length l ≤ 0 → l ≡ []
-    empty [] e = refl
-    empty (k ∷ l) e = absurd (omega (arith, e))
-
-    first_empty : (a b : List Ask) → a ++ b ≡ [] → a ≡ []
-    first_empty [] b e = refl
-    first_empty (k ∷ a) b e = cc
 
 -- ---- as far as it came
 
@@ -357,9 +337,8 @@ module _ (at : List LedgerView) (d : DeskView) where
 
   so_flying : (ks js : List Ask) (ts : List (Option TicketView)) → EachBegan ks ts at d → All Begun js → All Begun (ks ++ js)
   so_flying [] ls [] e h = h
-  so_flying [] ls (t ∷ ts) e h = absurd e
-  so_flying (k ∷ ks) ls [] e h = absurd e
   so_flying (k ∷ ks) ls (t ∷ ts) e h = All-cons Begun k (ks ++ ls) (begun_so k t at d e.0) (so_flying ks ls ts e.1 h)
+  so_flying _ ls _ e h = absurd e
 
   so_unasked : (gone ks : List Ask) (lo : ℕ) → AreRising lo (gone ++ ks) → ((m : ℕ) → 1 ≤ m → among_asks gone m ≡ false → ledger d.ledgers m ≡ ledger at m)
       → All Begun ks

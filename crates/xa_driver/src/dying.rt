@@ -86,6 +86,7 @@ fn die_telling<R: Wait, I: Idle>(
 }
 
 // Goes on from the decision to the death of the coordinator.
+#[tactic(auto, using(crate::proofs::Idling::idles_same, crate::proofs::Calls::among_second))]
 fn die_decided<R: Wait, I: Idle>(
     rt: &R,
     decided: Decided,
@@ -128,6 +129,7 @@ fn die_decided<R: Wait, I: Idle>(
 ///
 /// It fails for want of memory, before anything is sent; and where the log has lost the record of the decision before
 /// the coordinator came to its death.
+#[tactic(auto, using(crate::proofs::Idling::first_idles, crate::proofs::AtDeath::desk_rest))]
 pub fn commit_until<R: Wait, L: DecisionLog, I: Idle>(
     rt: &R,
     alloc: Global,

@@ -132,6 +132,7 @@ fn resolve_at<R: Wait, L: DecisionRecords, I: Idle>(
 }
 
 // How many branches are left.
+#[tactic(auto, using(crate::proofs::EachLeft::left_few, crate::proofs::EachLeft::left_more))]
 fn count_left(desk: &Desk, scan: &Scan) -> usize
     requires { MayResolve desk.now scan.now }
     ensures { result ≡ left_in scan.now MOST_MANAGERS }

@@ -44,6 +44,7 @@ fn can_ask_all(desk: &Desk, asks: &[Ask]) -> bool
 }
 
 // Keeps the operations of all these tickets under handles, where they stay until somebody collects them.
+#[tactic(auto, using(crate::proofs::Leaving::first_owned))]
 fn keep_all(desk: &mut Desk, tickets: &mut VecDeque<Option<Ticket>>)
     requires { OwnsAll desk.old tickets.old.items }
     ensures left { LeavesInFlight tickets.old.items desk.old desk.new }

@@ -108,6 +108,7 @@ fn decide_by<L: DecisionLog>(
 /// Begins to ask all branches of a global transaction to prepare; nothing is sent yet.
 ///
 /// It takes all memory that the commit needs.
+#[tactic(auto, using(crate::proofs::Calls::first_can))]
 pub fn begin_prepare<L: DecisionLog>(
     alloc: Global,
     desk: &Desk,
@@ -184,6 +185,7 @@ impl Preparing {
 /// Asks all branches of a global transaction to prepare, and collects their votes: the first phase.
 ///
 /// It takes all memory that the commit needs, and want of it comes before anything is sent.
+#[tactic(auto, using(crate::proofs::Idling::first_idles, crate::proofs::Idling::idles_start))]
 pub fn prepare_all<R: Wait, L: DecisionLog, I: Idle>(
     rt: &R,
     alloc: Global,
@@ -292,6 +294,7 @@ impl Decided {
     }
 
     /// Tells all branches the decision, and collects what they answer: the second phase.
+    #[tactic(auto, using(crate::proofs::Idling::idles_same, crate::proofs::Calls::among_second))]
     pub fn tell<R: Wait, I: Idle>(self, rt: &R, desk: &mut Desk, idle: &mut I) -> Told
         requires { MayTell self desk.old }
         ensures told { HasTold self desk.old.ledgers desk.new.ledgers result }
@@ -382,6 +385,7 @@ impl Told {
     }
 
     /// Tells each branch that was decided heuristically to forget it: the end.
+    #[tactic(auto, using(crate::proofs::Idling::idles_same, crate::proofs::Calls::among_third))]
     pub fn forget<R: Wait, I: Idle>(self, rt: &R, desk: &mut Desk, idle: &mut I) -> Done
         requires { MayForget self desk.old }
         ensures forgot { HasForgotten self desk.old.ledgers desk.new.ledgers result }

@@ -1,11 +1,12 @@
 use Rattle.xa_base.proofs.{◌≡◌, ◌⊎◌, ℕ, suc, ◌<◌, ◌-◌, ◌==◌, true, false, List, length, inl, inr, None, Some, sym, ap, ◌∙◌, subst, arith, rules, Bool, not}
-use Rattle.xa_base.proofs.{◌&&◌, ◌||◌, nat_le, nat_lt, if◌then◌else◌, option_or}
+use Rattle.xa_base.proofs.{◌&&◌, nat_le, if◌then◌else◌, option_or}
 use Rattle.xa_desk.specs.LedgerView.{LedgerView}
 use Rattle.xa_desk.specs.{learnt_shut, IsKnown, is_known, ledger, outstanding, reach_refusal, handle_refusal, spent_refusal, submit_refusal, after_full}
 use Rattle.xa_desk.specs.{submitted, Refused, NoSuchManager, Shut, TooMany, Spent, Full}
 use Rattle.xa_desk.specs.DeskView.{DeskView}
 use Rattle.xa_desk.proofs.Ledgers.{known_true}
 use Rattle.xa_driver.specs.{CanAsk, KeepsDesk}
+use Rattle.xa_driver.proofs.Alone.{room_is}
 use Rattle.xa_driver.proofs.ask.submit_waiting.Goals as goal
 
 -- the second of two, of which one fails and the first holds
@@ -24,15 +25,9 @@ has_handle d free = let few : nat_le d.handles (outstanding d.ledgers) ≡ false
 
 has_room : (d : DeskView) (m : ℕ) → CanAsk d.ledgers m → spent_refusal d m ≡ None
 has_room d m can =
-    let positive = can.known.positive in
-    let within = can.known.within in
     let room = can.room in
-    let counted : m == 0 ≡ false = grind (arith, positive) in
-    let known : nat_lt (length d.ledgers) m ≡ false = grind (arith, within) in
     let left : (ledger d.ledgers m).plan - length (ledger d.ledgers m).sent == 0 ≡ false = grind (arith, room) in
-    ap (λ b. if (if b || nat_lt (length d.ledgers) m then 0 else ((ledger d.ledgers m).plan - length (ledger d.ledgers m).sent)) == 0 then Some Spent else None) counted
-    ∙ ap (λ b. if (if b then 0 else ((ledger d.ledgers m).plan - length (ledger d.ledgers m).sent)) == 0 then Some Spent else None) known
-    ∙ ap (λ b. if b then Some Spent else None) left
+    rw (room_is d.ledgers m can.known, left)
 
 allowed : (d : DeskView) (m : ℕ) → CanAsk d.ledgers m → learnt_shut (ledger d.ledgers m) ≡ false → outstanding d.ledgers < d.handles → submit_refusal d m ≡ None
 allowed d m can open_ free = λ i. option_or (reached d m can.known open_ i) (option_or (has_handle d free i) (has_room d m can i))

@@ -1,20 +1,15 @@
-use Rattle.xa_base.proofs.{◌≡◌, ap, sym, ◌∙◌, subst, map, List, Bool}
-use Rattle.xa_words.specs.{TranName}
-use Rattle.xa_driver.specs.{yes_of, AppendsOnce, IsTraceOfCommit, Ask, SameAsks, first_ask, second_ask, third_ask, Done, Prepared, IsAtRest}
-use Rattle.xa_log.specs.{record_of}
+use Rattle.xa_base.proofs.{arith, ◌≡◌, ap, sym, ◌∙◌, subst, map, List, Bool}
+use Rattle.xa_driver.specs.{AppendsOnce, IsUnknown, Ask, SameAsks, first_ask, second_ask, third_ask, Done, Prepared, IsAtRest}
 use Rattle.xa_driver.proofs.Idling.{all_idle}
 use Rattle.xa_driver.proofs.Calls.{one_tran}
-use Rattle.xa_driver.proofs.OneCall.{asks_log, lost_log, may_forget, may_tell, stages_call}
+use Rattle.xa_driver.proofs.OneCall.{may_decide, may_forget, may_tell, stages_call, for_log}
 use Rattle.xa_driver.proofs.Ordering.{same_in_order}
 use Rattle.xa_driver.proofs.Staying.{rest_chain, rest_same}
 use Rattle.xa_driver.proofs.commit.commit_all.Goals as goal
 
 pub decide-requires-clause-new : goal.decide-requires-clause-new
 decide-requires-clause-new g c =
-    let p = c.in_ok-prepared.prepared in
-    let first = c.in_ok-prepared.ensures.prepared in
-    ap (record_of (g.L.DecisionLog.state c.args.log.now)) (one_tran c.args.branches.now p.tran c.requires.may.tran c.requires.may.some first.tran c.requires.may.one)
-    ∙ c.requires.may.absent
+    may_decide c.args.branches.now c.args.desk.now _ (g.L.DecisionLog.state c.args.log.now) c.in_ok-prepared.prepared c.requires.may c.in_ok-prepared.ensures.prepared
 
 pub tell-told-requires : goal.tell-told-requires
 tell-told-requires g c =
@@ -31,17 +26,14 @@ returns-in-Ok-clause-call g c t all =
     let first = c.in_ok-prepared.ensures.prepared in
     let old = g.L.DecisionLog.state c.args.log.now in
     let new = g.L.DecisionLog.state c.decide.new.log in
-    subst (λ (u : TranName). IsTraceOfCommit u c.args.branches.now c.args.desk.now.ledgers c.forget.new.desk.ledgers old new c.forget.result) (one_tran c.args.branches.now p.tran t c.requires.may.some first.tran all)
-    (stages_call c.args.branches.now c.args.desk.now.ledgers c.prepare_all.new.desk.ledgers c.tell-told.new.desk.ledgers c.forget.new.desk.ledgers old new p c.in-Ok.decided c.tell-told.result first c.in-Ok.ensures.decided c.tell-told.ensures.told
+    rw (← one_tran c.args.branches.now p.tran t c.requires.may.some first.tran all) (stages_call c.args.branches.now c.args.desk.now.ledgers c.prepare_all.new.desk.ledgers c.tell-told.new.desk.ledgers c.forget.new.desk.ledgers old new p c.in-Ok.decided c.tell-told.result first c.in-Ok.ensures.decided c.tell-told.ensures.told
     c.forget.result c.forget.ensures.forgot)
 
 pub returns-in-Ok-clause-made : goal.returns-in-Ok-clause-made
 returns-in-Ok-clause-made g c = record { may = c.requires.may; trace = returns-in-Ok-clause-call g c c.requires.may.tran c.requires.may.one }
 
 pub returns-in-Ok-clause-keeps : goal.returns-in-Ok-clause-keeps
-returns-in-Ok-clause-keeps g c =
-    rest_chain c.args.desk.now c.prepare_all.new.desk c.forget.new.desk c.in_ok-prepared.ensures.keeps
-    (rest_chain c.prepare_all.new.desk c.tell-told.new.desk c.forget.new.desk c.tell-told.ensures.keeps c.forget.ensures.keeps)
+returns-in-Ok-clause-keeps g c = grind (arith, rest_chain)
 
 pub returns-in_err-prepared-clause-keeps : goal.returns-in_err-prepared-clause-keeps
 returns-in_err-prepared-clause-keeps g c = rest_same c.args.desk.now c.prepare_all.new.desk c.in_err-prepared.ensures.unsent
@@ -60,9 +52,9 @@ pub returns-in-Err-clause-unknown : goal.returns-in-Err-clause-unknown
 returns-in-Err-clause-unknown g c t all =
     let p = c.in_ok-prepared.prepared in
     let first = c.in_ok-prepared.ensures.prepared in
-    lost_log c.args.branches.now c.args.desk.now.ledgers c.prepare_all.new.desk.ledgers p first g.L.DecisionRecords.knows g.L.DecisionLog.loses c.args.log.now c.decide.new.log _
-    (ap (λ (q : Prepared). q.known.votes.items) (sym c.in-Err.ensures.undecided) ∙ ap (λ (k : Done). k.votes.items) (sym c.let_go.ensures))
-    t (one_tran c.args.branches.now p.tran t c.requires.may.some first.tran all) c.in-Err.ensures.unknown
+    for_log _ _ _ p (λ u ys vs. IsUnknown g.L.DecisionRecords.knows g.L.DecisionLog.loses u ys vs c.args.log.now c.decide.new.log) t _ first
+    (one_tran c.args.branches.now p.tran t c.requires.may.some first.tran all)
+    (ap (λ (q : Prepared). q.known.votes.items) (sym c.in-Err.ensures.undecided) ∙ ap (λ (k : Done). k.votes.items) (sym c.let_go.ensures)) c.in-Err.ensures.unknown
 
 pub returns-in-Ok-clause-waited : goal.returns-in-Ok-clause-waited
 returns-in-Ok-clause-waited g c =
@@ -74,9 +66,13 @@ pub returns-in-Ok-clause-appends : goal.returns-in-Ok-clause-appends
 returns-in-Ok-clause-appends g c t all =
     let p = c.in_ok-prepared.prepared in
     let first = c.in_ok-prepared.ensures.prepared in
-    subst (λ (u : TranName). AppendsOnce g.L.DecisionLog.appends u (yes_of c.args.branches.now c.forget.result.votes.items) c.forget.result.votes.items c.forget.result.logged c.args.log.now c.decide.new.log) (one_tran c.args.branches.now p.tran t c.requires.may.some first.tran all)
-    (asks_log c.args.branches.now c.args.desk.now.ledgers c.prepare_all.new.desk.ledgers c.tell-told.new.desk.ledgers c.forget.new.desk.ledgers (g.L.DecisionLog.state c.args.log.now) (g.L.DecisionLog.state c.decide.new.log) p c.in-Ok.decided c.tell-told.result first
-    c.in-Ok.ensures.decided c.tell-told.ensures.told g.L.DecisionLog.appends c.args.log.now c.decide.new.log c.forget.result c.forget.ensures.forgot c.in-Ok.ensures.appends)
+    let told = c.tell-told.ensures.told in
+    let known = c.forget.ensures.forgot.known in
+    let votes : p.known.votes.items ≡ c.forget.result.votes.items =
+    sym (ap (λ k. k.votes.items) known ∙ ap (λ v. v.items) told.votes ∙ ap (λ v. v.items) c.in-Ok.ensures.decided.votes) in
+    let logged : c.in-Ok.decided.known.logged ≡ c.forget.result.logged = sym (ap (λ k. k.logged) known ∙ told.logged) in
+    for_log _ _ _ p (λ u ys vs. AppendsOnce g.L.DecisionLog.appends u ys vs c.forget.result.logged c.args.log.now c.decide.new.log) t c.forget.result.votes.items first
+    (one_tran c.args.branches.now p.tran t c.requires.may.some first.tran all) votes (rw logged at c.in-Ok.ensures.appends)
 
 pub returns-in-Ok-clause-rounds : goal.returns-in-Ok-clause-rounds
 returns-in-Ok-clause-rounds g c =

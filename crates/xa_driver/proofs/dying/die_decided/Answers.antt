@@ -3,7 +3,7 @@ use Rattle.xa_desk.specs.{ledger}
 use Rattle.xa_driver.specs.{Dies, PutsLedger, AsksLedger}
 use Rattle.xa_driver.proofs.AtDeath.{decided_here, desk_same, dies_decided, dies_told}
 use Rattle.xa_driver.proofs.Calls.{among_second}
-use Rattle.xa_driver.proofs.Idling.{idles_same, idles_start}
+use Rattle.xa_driver.proofs.Idling.{idles_start}
 use Rattle.xa_driver.proofs.dying.die_decided.Goals as goal
 
 pub returns-in-Telling-clause-dies : goal.returns-in-Telling-clause-dies
@@ -16,13 +16,6 @@ returns-in-Telling-clause-leaves g c bs among =
     let d = c.args.decided in
     let t = c.begin_telling-telling in
     c.die_telling.ensures.leaves bs (λ m. among_second d.known.commit d.round.asks.items t.result.round.asks.items m t.ensures.telling.same ∙ among m)
-
-pub returns-in-Telling-clause-waited : goal.returns-in-Telling-clause-waited
-returns-in-Telling-clause-waited g c =
-    let ks = c.args.decided.round.asks.items in
-    let t = c.begin_telling-telling in
-    let js = t.result.round.asks.items in
-    idles_same g.I.Idle.leads_by ks js c.args.idle.now c.die_telling.new.idle (λ m. among_second c.args.decided.known.commit ks js m t.ensures.telling.same) c.die_telling.ensures.waited
 
 pub returns-in-Told-clause-dies : goal.returns-in-Told-clause-dies
 returns-in-Told-clause-dies g c bs old log later p first second =

@@ -6,27 +6,16 @@ use Rattle.xa_calls.proofs.Refusals.{no_refusal}
 use Rattle.xa_driver.proofs.Alone.{call_answered}
 use Rattle.xa_driver.proofs.resolving.ask.Goals as goal
 
-pub returns-in-Ok-clause-asked : goal.returns-in-Ok-clause-asked
-returns-in-Ok-clause-asked g c =
-    let none : call_refusal c.args.desk.now c.args.manager ≡ None = no_refusal (Ok c.in-Ok.code) c.in-Ok.code _ refl c.in-Ok.ensures.refused in
-    let x = c.in-Ok.ensures.collected in
-    (call_answered c.args.manager x.0 c.args.op c.in-Ok.code c.args.desk.now c.call.new.self c.requires none x.1 c.call.ensures.goes_on).asked_
-
-pub returns-in-Ok-clause-waits : goal.returns-in-Ok-clause-waits
-returns-in-Ok-clause-waits g c =
+pub returns-in-Ok : goal.returns-in-Ok
+returns-in-Ok g c =
     let none : call_refusal c.args.desk.now c.args.manager ≡ None = no_refusal (Ok c.in-Ok.code) c.in-Ok.code _ refl c.in-Ok.ensures.refused in
     let never : put_refusal c.args.desk.now c.args.manager false ≡ None = ap (option_map code_of) none in
     let x = c.in-Ok.ensures.collected in
-    record { answers = answered never x.0 x.1; waits = λ _. c.in-Ok.ensures.waited; stays = λ why. let e : None ≡ Some c.in-Ok.code = sym never ∙ why in cc }
-
-pub returns-in-Ok-clause-alone : goal.returns-in-Ok-clause-alone
-returns-in-Ok-clause-alone g c =
-    let none : call_refusal c.args.desk.now c.args.manager ≡ None = no_refusal (Ok c.in-Ok.code) c.in-Ok.code _ refl c.in-Ok.ensures.refused in
-    let x = c.in-Ok.ensures.collected in
-    (call_answered c.args.manager x.0 c.args.op c.in-Ok.code c.args.desk.now c.call.new.self c.requires none x.1 c.call.ensures.goes_on).alone
-
-pub returns-in-Ok-clause-room : goal.returns-in-Ok-clause-room
-returns-in-Ok-clause-room g c =
-    let none : call_refusal c.args.desk.now c.args.manager ≡ None = no_refusal (Ok c.in-Ok.code) c.in-Ok.code _ refl c.in-Ok.ensures.refused in
-    let x = c.in-Ok.ensures.collected in
-    (call_answered c.args.manager x.0 c.args.op c.in-Ok.code c.args.desk.now c.call.new.self c.requires none x.1 c.call.ensures.goes_on).room
+    let called = call_answered c.args.manager x.0 c.args.op c.in-Ok.code c.args.desk.now c.call.new.self c.requires none x.1 c.call.ensures.goes_on in
+    record {
+      asked = called.asked_;
+      waits = record { answers = answered never x.0 x.1; waits = λ _. c.in-Ok.ensures.waited; stays = λ why. let e : None ≡ Some c.in-Ok.code = sym never ∙ why in cc };
+      alone = called.alone;
+      room = called.room;
+      idled = c.call.ensures.idled;
+    }

@@ -1,12 +1,13 @@
 use Rattle.xa_base.proofs.{◌≡◌, ◌≤◌, ◌+◌, length, length-append, vec_capacity, refl, sym, ap, ◌∙◌, subst, arith}
 use Rattle.xa_base.specs.{MOST_MANAGERS}
 use Rattle.xa_desk.specs.{ledger}
-use Rattle.xa_driver.specs.{requests_for, ResolvesAt, ResolvesInTurn, AsksLedger, begun, next}
+use Rattle.xa_driver.specs.{ResolvesAt, AsksLedger, begun, next}
 use Rattle.xa_calls.specs.{AsksAndWaits, Answers}
-use Rattle.xa_driver.proofs.Asking.{keeps_start, keeps_chain}
-use Rattle.xa_driver.proofs.Staying.{outstanding_chain, rest_same, tickets_stay}
+use Rattle.xa_driver.proofs.Alone.{alone_rest}
+use Rattle.xa_driver.proofs.Staying.{rest_same, rest_chain}
 use Rattle.xa_driver.proofs.EachLeft.{SoFar, none_so_far, one_more_so_far, left_more, left_within, room_same}
 use Rattle.xa_driver.proofs.InTurn.{turns_by}
+use Rattle.xa_driver.proofs.resolving.resolve.Given as given
 use Rattle.xa_driver.proofs.resolving.resolve.Goals as goal
 
 pub loop-before-init : goal.loop-before-init
@@ -16,22 +17,12 @@ loop-before-init g c = record {
   many = ap (λ l. length l) c.in_ok-outcomes.ensures.items;
   space = subst (λ n. n ≤ vec_capacity c.in_ok-outcomes.outcomes) c.count_left.ensures c.in_ok-outcomes.ensures.capacity;
   managers = refl;
-  keeps = keeps_start c.args.desk.now;
-  left = λ o out. out;
-  free = refl;
-  all = λ all. all;
+  rest = rest_same c.args.desk.now c.args.desk.now refl;
   idled = g.met.I.Idle.leads_start _;
 }
 
 pub resolve_at-requires-clause-room : goal.resolve_at-requires-clause-room
-resolve_at-requires-clause-room g c =
-    let i = c.loop-before.invariant in
-    let n = c.loop-before.before in
-    let below = c.loop-before-test.true in
-    let same = room_same c.args.desk.now.ledgers c.loop-before.desk.ledgers (n + 1) i.managers (i.so_far.others (n + 1) (omega arith)) in
-    let room = c.requires.may.room (n + 1) (omega arith, omega (arith, below)) in
-    let there = ap requests_for c.left.ensures in
-    omega (arith, same, room, there)
+resolve_at-requires-clause-room g c = grind (arith, room_same)
 
 pub resolve_at-requires-clause-space : goal.resolve_at-requires-clause-space
 resolve_at-requires-clause-space g c =
@@ -69,43 +60,24 @@ loop-before-preserved g c =
           omega (arith, all, parts, there, so_many, as_many, next_one);
       space = let space = i.space in let same = c.resolve_at.ensures.space in omega (arith, space, same);
       managers = alone.managers ∙ i.managers;
-      keeps = keeps_chain c.args.desk.now c.loop-before.desk c.resolve_at.new.desk i.keeps alone.keeps;
-      left = outstanding_chain c.args.desk.now.ledgers c.loop-before.desk.ledgers c.resolve_at.new.desk.ledgers i.left alone.left;
-      free = alone.free ∙ i.free;
-      all = λ all. alone.all (i.all all);
+      rest = rest_chain c.args.desk.now c.loop-before.desk c.resolve_at.new.desk i.rest (alone_rest _ c.loop-before.desk c.resolve_at.new.desk alone);
       idled = g.met.I.Idle.leads_chain _ _ _ i.idled c.resolve_at.ensures.idled;
     }
 
+all_before : (g : given.Over) (c : goal.After-loop-before g) → c.loop-before.before ≡ MOST_MANAGERS
+all_before g c = let done = c.loop-before-test.false in let stop = c.loop-before.auto.before-end in omega (arith, done, stop)
+
 pub returns-clause-trace : goal.returns-clause-trace
-returns-clause-trace g c =
-    let i = c.loop-before.invariant in
-    let done = c.loop-before-test.false in
-    let stop = c.loop-before.auto.before-end in
-    let all : c.loop-before.before ≡ MOST_MANAGERS = omega (arith, done, stop) in
-    let is =
-    subst (λ n. SoFar c.args.scan.now (g.L.DecisionRecords.records c.args.log.now) n c.args.desk.now.ledgers c.loop-before.desk.ledgers c.loop-before.outcomes.items) all i.so_far in
-    record { course = is; managers = i.managers }
+returns-clause-trace g c = record { course = rw (all_before g c) at c.loop-before.invariant.so_far; managers = c.loop-before.invariant.managers }
 
 pub returns-clause-keeps : goal.returns-clause-keeps
-returns-clause-keeps g c =
-    let i = c.loop-before.invariant in
-    record {
-      keeps = i.keeps;
-      kept = i.all;
-      left = i.left;
-      tickets = tickets_stay c.args.desk.now c.loop-before.desk i.keeps i.left;
-      free = i.free;
-    }
+returns-clause-keeps g c = c.loop-before.invariant.rest
 
 pub returns-in_err-outcomes-clause-keeps : goal.returns-in_err-outcomes-clause-keeps
 returns-in_err-outcomes-clause-keeps g c = rest_same c.args.desk.now c.args.desk.now refl
 
 pub returns-clause-waited : goal.returns-clause-waited
-returns-clause-waited g c =
-    let done = c.loop-before-test.false in
-    let stop = c.loop-before.auto.before-end in
-    let all : c.loop-before.before ≡ MOST_MANAGERS = omega (arith, done, stop) in
-    subst (λ n. ResolvesInTurn (AsksAndWaits g.I.Idle.leads_by) (g.L.DecisionRecords.records c.args.log.now) c.args.scan.now (c.args.desk.now, c.args.idle.now) n c.loop-before.outcomes.items (c.loop-before.desk, c.loop-before.idle)) all c.loop-before.invariant.waits
+returns-clause-waited g c = rw (all_before g c) at c.loop-before.invariant.waits
 
 pub returns-clause-in_turn : goal.returns-clause-in_turn
 returns-clause-in_turn g c =

@@ -1,7 +1,6 @@
 use Rattle.xa_base.proofs.{◌≡◌, ◌≤◌, length, vec_capacity}
 use Rattle.xa_base.specs.{MOST_MANAGERS}
-use Rattle.xa_desk.specs.{outstanding, AllKept}
-use Rattle.xa_driver.specs.{KeepsDesk, LeavesOutstanding, ResolvesInTurn, left_in}
+use Rattle.xa_driver.specs.{KeepsTheRest, ResolvesInTurn, left_in}
 use Rattle.xa_calls.specs.{AsksAndWaits}
 use Rattle.xa_driver.proofs.EachLeft.{SoFar}
 use Rattle.xa_driver.proofs.resolving.resolve.Given as goal
@@ -14,9 +13,6 @@ invariant-loop-before g l = record {
   many : length l.outcomes.items ≡ left_in l.scan l.before;
   space : left_in l.scan MOST_MANAGERS ≤ vec_capacity l.outcomes;
   managers : length l.desk.ledgers ≡ length l.initial.desk.ledgers;
-  keeps : KeepsDesk l.initial.desk l.desk;
-  left : LeavesOutstanding l.initial.desk.ledgers l.desk.ledgers;
-  free : outstanding l.desk.ledgers ≡ outstanding l.initial.desk.ledgers;
-  all : AllKept l.initial.desk → AllKept l.desk;
+  rest : KeepsTheRest l.initial.desk l.desk;
   idled : g.I.Idle.leads l.initial.idle l.idle;
 }

@@ -1,7 +1,7 @@
-use Rattle.xa_base.proofs.{◌≡◌, length, List, [], ◌∷◌, Option, refl, ap, subst, arith}
+use Rattle.xa_base.proofs.{none_of, length, List, Option, ap, subst, arith}
 use Rattle.xa_desk.specs.{TicketView}
 use Rattle.xa_driver.specs.{AllKeptBut, OwnsAll}
-use Rattle.xa_driver.proofs.Leaving.{IsLast, all_kept, first_owned, kept_one_more, last_more, left_more, nothing_left, rest_owned}
+use Rattle.xa_driver.proofs.Leaving.{IsLast, all_kept, kept_one_more, last_more, left_more, nothing_left, rest_owned}
 use Rattle.xa_driver.proofs.round.keep_all.Goals as goal
 
 pub loop-place-init : goal.loop-place-init
@@ -13,10 +13,6 @@ loop-place-init c = record {
   last = λ o among. among;
   counted = omega arith;
 }
-
-pub keep-requires : goal.keep-requires
-keep-requires c =
-    first_owned c.loop-place.desk c.in-Some.ticket c.pop_front.new.self.items (subst (λ (rs : List (Option TicketView)). OwnsAll c.loop-place.desk rs) c.in-Some.ensures.items c.loop-place.invariant.owned)
 
 pub loop-place-preserved : goal.loop-place-preserved
 loop-place-preserved c =
@@ -36,11 +32,4 @@ loop-place-preserved c =
     }
 
 pub returns-clause-kept : goal.returns-clause-kept
-returns-clause-kept c but =
-    let none =
-    none_left c.loop-place.tickets.items (let a = c.loop-place-test.false in let b = c.loop-place.invariant.counted in let d = c.len-place-end.ensures in let e = c.args.tickets.now.ok.0 in omega (arith, a, b, d, e)) in
-    all_kept c.loop-place.desk (subst (λ (rs : List (Option TicketView)). AllKeptBut rs c.loop-place.desk) none (c.loop-place.invariant.kept but))
-  where
-    none_left : (rs : List (Option TicketView)) → length rs ≡ 0 → rs ≡ []
-    none_left [] e = refl
-    none_left (r ∷ rs) e = absurd (omega (arith, e))
+returns-clause-kept c but = grind (arith, none_of, all_kept)

@@ -1,4 +1,3 @@
-use Rattle.xa_driver.proofs.Idling.{first_idles, idles_start}
 use Rattle.xa_base.proofs.{map}
 use Rattle.xa_driver.specs.{first_ask}
 use Rattle.xa_driver.proofs.Ordering.{whole_in_order}
@@ -6,13 +5,6 @@ use Rattle.xa_driver.proofs.stages.prepare_all.Goals as goal
 
 pub returns-clause-prepared : goal.returns-clause-prepared
 returns-clause-prepared g c = c.finish.ensures.prepared c.args.branches.now c.args.desk.now c.in_ok-preparing.ensures.preparing
-
-pub returns-clause-waited : goal.returns-clause-waited
-returns-clause-waited g c =
-    first_idles g.I.Idle.leads_by c.args.branches.now c.in_ok-preparing.preparing.round.asks.items c.args.idle.now c.finish.new.idle c.in_ok-preparing.ensures.preparing.same c.finish.ensures.waited
-
-pub returns-in_err-preparing-clause-waited : goal.returns-in_err-preparing-clause-waited
-returns-in_err-preparing-clause-waited g c = idles_start g.I.Idle.leads_by _ _
 
 pub returns-clause-ordered : goal.returns-clause-ordered
 returns-clause-ordered g c =

@@ -1,21 +1,11 @@
-use Rattle.xa_base.proofs.{◌<◌, length, refl, ◌∙◌, arith, rules}
+use Rattle.xa_base.proofs.{◌<◌, length, ◌∙◌, arith, rules}
 use Rattle.xa_driver.proofs.Gathering.{same_itself}
 use Rattle.xa_driver.proofs.Idling.{idles_start, collect_on, collect_reaches}
 use Rattle.xa_driver.proofs.Ordering.{collects_nothing, collects_on, step_collects}
 use Rattle.xa_driver.proofs.round.Round.collect_all.Goals as goal
 
 pub loop-place-init : goal.loop-place-init
-loop-place-init g c = record {
-  under_way = c.requires.under_way;
-  reached = omega arith;
-  all = c.requires.all;
-  long = refl;
-  before = refl;
-  same = λ js s. s;
-  waited = idles_start g.I.Idle.leads_by _ _;
-  ordered = collects_nothing c.args.self.now.tickets.items c.args.desk.now;
-  idled = g.met.I.Idle.leads_start _;
-}
+loop-place-init g c = grind (arith, idles_start, collects_nothing)
 
 pub loop-place-preserved : goal.loop-place-preserved
 loop-place-preserved g c =

@@ -1,5 +1,5 @@
-use Rattle.xa_base.proofs.{if◌then◌else◌, ◌≡◌, ◌≢◌, ℕ, ◌+◌, ◌-◌, ◌<◌, Bool, false, inl, length, refl, sym, true, take, ap, ◌∙◌, arith, eqb-false}
-use Rattle.xa_driver.specs.{asked_in, is_passed, next_collected}
+use Rattle.xa_base.proofs.{if◌then◌else◌, ◌≡◌, ◌≢◌, ℕ, ◌+◌, ◌-◌, ◌<◌, Bool, false, inl, length, sym, true, ◌∙◌, arith, eqb-false}
+use Rattle.xa_driver.specs.{is_passed, next_collected}
 use Rattle.xa_driver.proofs.Firsts.{OneCollected, first_so_many, one_collected}
 use Rattle.xa_driver.proofs.Gathering.{same_itself}
 use Rattle.xa_driver.proofs.Idling.{idles_start, collect_on}
@@ -8,24 +8,13 @@ use Rattle.xa_driver.proofs.round.Round.collect_first.Goals as goal
 use Rattle.xa_driver.proofs.round.Round.collect_first.Goals.{then-not-is_unasked, else-not-is_unasked}
 
 pub answers-init : goal.answers-init
-answers-init g c = record {
-  under_way = c.requires.under_way;
-  all = c.requires.all;
-  counted = let none = ap (λ n. asked_in (take n c.args.self.now.asks.items)) c.requires.none in omega (arith, none);
-  before = refl;
-  same = λ js s. s;
-  waited = idles_start g.I.Idle.leads_by _ _;
-  ordered = collects_nothing c.args.self.now.tickets.items c.args.desk.now;
-  idled = g.met.I.Idle.leads_start _;
-}
+answers-init g c = grind (arith, idles_start, collects_nothing)
 
 one_less : (b : Bool) (before now : ℕ) → b ≡ false → 0 < before → now ≡ before - 1 → (if b then 0 else 1) + now ≡ before
-one_less true before now e some is = cc
-one_less false before now e some is = omega (arith, some, is)
+one_less b before now e some is = grind arith
 
 as_many : (b : Bool) (before now : ℕ) → b ≡ true → now ≡ before → (if b then 0 else 1) + now ≡ before
-as_many true before now e is = omega (arith, is)
-as_many false before now e is = cc
+as_many b before now e is = grind arith
 
 pub answers-preserved : goal.answers-preserved
 answers-preserved g c =

@@ -1,4 +1,4 @@
-use Rattle.xa_base.proofs.{◌≡◌, ◌<◌, ◌∙◌, arith, false, length, sym, true}
+use Rattle.xa_base.proofs.{◌≡◌, ◌∙◌, arith, false, sym, true}
 use Rattle.xa_driver.specs.{IdlesToCollect, CollectsNothing, Collects, Stays, next_ticket}
 use Rattle.xa_driver.proofs.Passing.{collect_passes, idles_is, none_passed, step_is}
 use Rattle.xa_driver.proofs.round.Round.collect_next.Goals as goal
@@ -13,13 +13,7 @@ passed-preserved g c =
     (sym c.is_unasked.ensures ∙ c.passed-test.true) e.collects e.waited e.under_way e.before e.same).0
 
 pub passed-smaller : goal.passed-smaller
-passed-smaller g c =
-    let e = c.collect_place.ensures in
-    let p =
-    collect_passes g.I.Idle.leads_by c.args.desk.now c.args.self.now c.passed.self c.collect_place.new.self c.passed.desk c.collect_place.new.desk c.args.idle.now c.passed.idle c.collect_place.new.idle c.collect_place.result c.passed.invariant
-    (sym c.is_unasked.ensures ∙ c.passed-test.true) e.collects e.waited e.under_way e.before e.same in
-    let smaller : length c.collect_place.new.self.tickets.items < length c.passed.self.tickets.items = let a = p.1 in omega (arith, a) in
-    smaller
+passed-smaller g c = grind (arith, collect_passes)
 
 pub returns-clause-collects : goal.returns-clause-collects
 returns-clause-collects g c =

@@ -1,21 +1,11 @@
-use Rattle.xa_base.proofs.{◌<◌, length, refl, ◌∙◌, arith, rules}
+use Rattle.xa_base.proofs.{◌<◌, length, ◌∙◌, arith, rules}
 use Rattle.xa_driver.proofs.Gathering.{same_itself}
 use Rattle.xa_driver.proofs.Idling.{idles_start, send_on, send_reaches}
 use Rattle.xa_driver.proofs.Ordering.{sends_on, step_sends, step_sends_keeps, sends_stay}
 use Rattle.xa_driver.proofs.round.Round.send_all.Goals as goal
 
 pub loop-place-init : goal.loop-place-init
-loop-place-init g c = record {
-  under_way = c.requires;
-  reached = omega arith;
-  long = refl;
-  before = refl;
-  same = λ js s. s;
-  waited = idles_start g.I.Idle.leads_by _ _;
-  asks = (refl, refl);
-  ordered = sends_stay c.args.self.now.tickets.items c.args.desk.now;
-  idled = g.met.I.Idle.leads_start _;
-}
+loop-place-init g c = grind (arith, idles_start, sends_stay)
 
 pub loop-place-preserved : goal.loop-place-preserved
 loop-place-preserved g c =

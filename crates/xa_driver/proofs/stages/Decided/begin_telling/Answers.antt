@@ -1,18 +1,16 @@
 use Rattle.xa_base.proofs.{◌∙◌, refl, subst, sym, map}
-use Rattle.xa_driver.specs.{SameAsks, second_ask}
+use Rattle.xa_driver.specs.{Ask, SameAsks, second_ask}
 use Rattle.xa_driver.proofs.Gathering.{same_itself}
 use Rattle.xa_driver.proofs.InPlace.{lent, remade_endings, remade_may, remade_rest}
 use Rattle.xa_driver.proofs.stages.Decided.begin_telling.Goals as goal
 
-pub again-requires-clause-rest : goal.again-requires-clause-rest
-again-requires-clause-rest c =
+pub again-requires : goal.again-requires
+again-requires c =
     let r = c.args.self.round in
-    remade_rest (second_ask c.args.self.known.commit) (λ k. refl) r _ (lent (second_ask c.args.self.known.commit) (λ k. refl) r.asks.len r.asks.items c.as_mut_slice.result.now c.second_round.new.asks _ r.asks.ok.0 c.second_round.ensures c.as_mut_slice.ensures.value) refl c.requires.rest
-
-pub again-requires-clause-may : goal.again-requires-clause-may
-again-requires-clause-may c =
-    let r = c.args.self.round in
-    remade_may (second_ask c.args.self.known.commit) (λ k. refl) r _ (lent (second_ask c.args.self.known.commit) (λ k. refl) r.asks.len r.asks.items c.as_mut_slice.result.now c.second_round.new.asks _ r.asks.ok.0 c.second_round.ensures c.as_mut_slice.ensures.value) c.args.desk.now c.requires.may
+    let f : Ask → Ask = second_ask c.args.self.known.commit in
+    let is =
+    lent f (λ k. refl) r.asks.len r.asks.items c.as_mut_slice.result.now c.second_round.new.asks _ r.asks.ok.0 c.second_round.ensures c.as_mut_slice.ensures.value in
+    record { rest = remade_rest f (λ k. refl) r _ is refl c.requires.rest; may = remade_may f (λ k. refl) r _ is c.args.desk.now c.requires.may }
 
 pub returns-clause-telling : goal.returns-clause-telling
 returns-clause-telling c =

@@ -1,5 +1,3 @@
-use Rattle.xa_driver.proofs.Calls.{among_second}
-use Rattle.xa_driver.proofs.Idling.{idles_same}
 use Rattle.xa_base.proofs.{map}
 use Rattle.xa_driver.specs.{second_ask}
 use Rattle.xa_driver.proofs.Ordering.{whole_in_order}
@@ -7,12 +5,6 @@ use Rattle.xa_driver.proofs.stages.Decided.tell.Goals as goal
 
 pub returns-clause-told : goal.returns-clause-told
 returns-clause-told g c = c.finish.ensures.told c.args.self c.args.desk.now c.begin_telling-telling.ensures.telling
-
-pub returns-clause-waited : goal.returns-clause-waited
-returns-clause-waited g c =
-    let ks = c.args.self.round.asks.items in
-    let js = c.begin_telling-telling.result.round.asks.items in
-    idles_same g.I.Idle.leads_by ks js c.args.idle.now c.finish.new.idle (λ m. among_second c.args.self.known.commit ks js m c.begin_telling-telling.ensures.telling.same) c.finish.ensures.waited
 
 pub returns-clause-ordered : goal.returns-clause-ordered
 returns-clause-ordered g c =

@@ -1,5 +1,3 @@
-use Rattle.xa_driver.proofs.Calls.{among_third}
-use Rattle.xa_driver.proofs.Idling.{idles_same}
 use Rattle.xa_base.proofs.{map}
 use Rattle.xa_driver.specs.{third_ask}
 use Rattle.xa_driver.proofs.Ordering.{whole_in_order}
@@ -7,12 +5,6 @@ use Rattle.xa_driver.proofs.stages.Told.forget.Goals as goal
 
 pub returns-clause-forgot : goal.returns-clause-forgot
 returns-clause-forgot g c = c.finish.ensures.forgot c.args.self c.args.desk.now c.begin_forgetting-forgetting.ensures.forgetting
-
-pub returns-clause-waited : goal.returns-clause-waited
-returns-clause-waited g c =
-    let ks = c.args.self.round.asks.items in
-    let js = c.begin_forgetting-forgetting.result.round.asks.items in
-    idles_same g.I.Idle.leads_by ks js c.args.idle.now c.finish.new.idle (λ m. among_third ks js m c.begin_forgetting-forgetting.ensures.forgetting.same) c.finish.ensures.waited
 
 pub returns-clause-ordered : goal.returns-clause-ordered
 returns-clause-ordered g c =
