@@ -130,18 +130,10 @@ module _ (o : Operation) where
 module _ (at : List LedgerView) (s t : Slab Slot) (key : ℕ) (slot x : Slot) (table : List (Option Operation)) (drained : List Completion)
     (b : IsBooks at s table drained) (there : get s key ≡ Some slot) (u : Updates s t key (Some x)) (keeps : slot.operation ≡ x.operation) where
   pub changed_out : (k : ℕ) (y : Slot) → get t k ≡ Some y → IsOut at y.operation
-  changed_out k y found = elim (found_cases s t key x u k y found) [
-    | inl new ↦ subst (λ o. IsOut at o) (keeps ∙ ap (λ (z : Slot). z.operation) new.1) (b.slot_out key slot there)
-    | inr old ↦ b.slot_out k y old.1
-  ]
+  changed_out k y found = search (arith, found_cases)
 
   pub changed_has : (o : Operation) → IsOut at o → HasSlot t o
-  changed_has o out =
-      let h = b.out_slot o out in
-      elim (cases_eq h.key key) [
-        | inl same ↦ record { key = key; slot = x; found = u.changed; names = sym keeps ∙ sym (ap (λ (z : Slot). z.operation) (same_slot s key h.key slot h.slot there h.found same)) ∙ h.names }
-        | inr differs ↦ record { key = h.key; slot = h.slot; found = found_still s t key (Some x) u h.key h.slot differs h.found; names = h.names }
-      ]
+  changed_has o out = search (arith, cases_eq, same_slot, found_still)
 
   changed_back : (k : ℕ) (y : Slot) → get t k ≡ Some y → (z : Slot) × ((get s k ≡ Some z) × (z.operation ≡ y.operation))
   changed_back k y found = elim (found_cases s t key x u k y found) [
@@ -173,8 +165,7 @@ module _ (at : List LedgerView) (s t : Slab Slot) (key : ℕ) (slot : Slot) (tab
       | inr old ↦ b.handled k y n old.1 e
     ];
     tabled = λ n o e. let h = b.tabled n o e in elim (cases_eq h.key key) [
-      | inl same ↦ let is = same_slot s key h.key slot h.slot there h.found same in
-          record { key = key; slot = answered; found = u.changed; names = sym (ap (λ (z : Slot). z.operation) is) ∙ h.names; handle = sym (ap (λ (z : Slot). z.handle) is) ∙ h.handle }
+      | inl same ↦ search (arith, same_slot)
       | inr differs ↦ record { key = h.key; slot = h.slot; found = found_still s t key (Some answered) u h.key h.slot differs h.found; names = h.names; handle = h.handle }
     ];
     coded = λ k y found. elim (found_cases s t key answered u k y found) [

@@ -88,8 +88,7 @@ module _ where
   more_than s key slot there loose (suc n) each =
       let before : suc n ≤ sum_by (up_to n) s.slots = more_than s key slot there loose n (λ k below. each k (omega arith)) in
       let h = (each n (omega arith)).1 in
-      let one : 1 ≤ sum_by (just (suc n)) s.slots =
-      found_one (just (suc n)) s h.key h.slot h.found (ap (λ b. cond b 1 0) (eq-eqb h.slot.handle (suc n) h.handle)) in
+      let one : 1 ≤ sum_by (just (suc n)) s.slots = search (arith, found_one, just, eq-eqb, h.key, h.slot, h.found, h.slot.handle) in
       let step : sum_by (up_to n) s.slots + sum_by (just (suc n)) s.slots ≤ sum_by (up_to (suc n)) s.slots =
       sum_by-within (up_to n) (just (suc n)) (up_to (suc n)) None s.slots (λ i _. one_more n (get s i)) in
       omega arith

@@ -17,9 +17,7 @@ neither : {A : Type 0} (a b : Option A) → None ≡ option_or a b → (None ≡
 neither a b e = grind arith
 
 known_from : (at : List LedgerView) (m : ℕ) → not (is_known at m) ≡ false → IsKnown at m
-known_from at m e =
-    let parts = and_parts (leb 1 m) (leb m (length at)) (not-false (is_known at m) e) in
-    record { positive = leb-true 1 m parts.0; within = leb-true m (length at) parts.1 }
+known_from at m e = search (arith, and_parts, not-false, leb-true)
 
 reaches : (d : DeskView) (m : ℕ) → None ≡ reach_refusal d m → IsKnown d.ledgers m
 reaches d m e = known_from d.ledgers m (unless (not (is_known d.ledgers m)) NoSuchManager (cond (learnt_shut (ledger d.ledgers m)) (Some Shut) None) e).0

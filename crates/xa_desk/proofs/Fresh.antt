@@ -31,9 +31,7 @@ nothing_collected requests (b ∷ bs) = grind (arith, nothing_collected requests
 
 pub planned-new : (requests : ℕ) (use_async : List Bool) → planned_total (new_ledgers requests use_async) ≡ requests * length use_async
 planned-new requests [] = grind arith
-planned-new requests (b ∷ bs) =
-    let rest : planned_total (new_ledgers requests bs) ≡ requests * length bs = planned-new requests bs in
-    grind (arith, sum_by-cons (λ (a : LedgerView). a.plan) (new_ledger b requests) (new_ledgers requests bs), rest)
+planned-new requests (b ∷ bs) = search (arith, planned-new requests bs, sum_by-cons)
 
 orderly_empty : (a : LedgerView) → a.sent ≡ [] → a.collected ≡ [] → IsOrderly a
 unfolding IsDistinct

@@ -39,15 +39,7 @@ counts_on a b c p q = let l : at_most_counted a ≤ at_most_counted b = le-min p
 goes_with : (d : DeskView) (requests : List (Sending Request)) (at : List LedgerView) (events : List Event) (kept : finmap.FinMap nat_cmp Operation)
     → map end_seat requests ≡ map end_seat d.requests → plans at ≡ plans d.ledgers → HaveGrown d.ledgers at
     → GoesOn d (record d { requests = requests; ledgers = at; events = events; kept = kept })
-goes_with d requests at events kept ends plan lists = record {
-  seat = λ i. record { thread = d.thread; ends = ends i; lane = d.completions.lane; line = d.completions.line };
-  handles = refl;
-  plan = plan;
-  lists = lists;
-  taken = same_begins d.completions.taken;
-  drained = same_begins d.drained;
-  quiet = same_count d.completions.quiet;
-}
+goes_with d requests at events kept ends plan lists = search (arith, same_begins, same_count)
 
 -- nothing but what is kept may differ
 pub goes_keeping : (d : DeskView) (kept : finmap.FinMap nat_cmp Operation) → GoesOn d (record d { kept = kept })
@@ -80,15 +72,10 @@ put_plans : (at : List LedgerView) (m : ℕ) (a : LedgerView) → plan_of a ≡ 
 put_plans at m a same = map-set_same plan_of at (m - 1) a no_ledger same
 
 pub goes_sent : (d : DeskView) (m : ℕ) (op : Op) → GoesOn d (submitted d m op)
-goes_sent d m op =
-    goes_with d (submitted d m op).requests (submitted d m op).ledgers (submitted d m op).events d.kept
-    (map-at_place (with_item (next_request d m op)) seat_of (λ _. refl) (m - 1) d.requests)
-    (put_plans d.ledgers m (with_sent (ledger d.ledgers m) op) refl) (sending_grows d.ledgers m op)
+goes_sent d m op = search (arith, goes_with, map-at_place, put_plans, sending_grows)
 
 pub goes_full : (d : DeskView) (m : ℕ) → GoesOn d (after_full d m)
-goes_full d m =
-    goes_with d (after_full d m).requests d.ledgers d.events d.kept (map-at_place with_full seat_of (λ _. refl) (m - 1) d.requests) refl
-    (same_lists d.ledgers d.ledgers refl)
+goes_full d m = search (arith, goes_with, map-at_place, same_lists, d.kept)
 
 pub goes_submitted : (d d' : DeskView) (m : ℕ) (op : Op) → d' ≡ submitted d m op → GoesOn d d'
 goes_submitted d d' m op e = subst (GoesOn d) (sym e) (goes_sent d m op)
@@ -109,15 +96,7 @@ moved d drained then r = record d { drained = drained; drained_then = then; comp
 goes_moved : (d : DeskView) (drained : List Completion) (then : ℕ) (r : Receiving Completion) → r.lane ≡ d.completions.lane → r.line ≡ d.completions.line
     → Begins d.completions.taken r.taken → Begins d.drained drained
     → at_most_counted d.completions.quiet ≤ r.quiet → GoesOn d (moved d drained then r)
-goes_moved d drained then r lane line taken more quiet = record {
-  seat = λ i. record { thread = d.thread; ends = map end_seat d.requests; lane = lane i; line = line i };
-  handles = refl;
-  plan = refl;
-  lists = same_lists d.ledgers d.ledgers refl;
-  taken = taken;
-  drained = more;
-  quiet = quiet;
-}
+goes_moved d drained then r lane line taken more quiet = search (arith, same_lists)
 
 -- a parcel was taken
 goes_taken : (d : DeskView) (drained : List Completion) (x : _) (r : Receiving Completion) → r ≡ record d.completions { taken = d.completions.taken ++ x ∷ [] }
@@ -169,20 +148,10 @@ pub desk_stays : (old new : DeskView) (left : TicketView → Type 0) → Stays o
 desk_stays old new left s was = (let h = s.goes_on.handles in let f = s.fewer in let w = was.0 in omega arith, s.tied was.1)
 
 pub looks_stays : (old new : DeskView) (left : TicketView → Type 0) → Looks old new → Stays old new left
-looks_stays old new left l = record {
-  goes_on = goes_looking old new l;
-  fewer = let same = looks_outstanding old new l in omega arith;
-  tied = tied_looks old new l;
-  tickets = λ t owned _. looking_leaves old new l t owned;
-}
+looks_stays old new left l = search (arith, goes_looking, looks_outstanding, tied_looks, looking_leaves)
 
 stays_chain : (a b c : DeskView) (left : TicketView → Type 0) → Stays a b any_one → Stays b c left → Stays a c left
-stays_chain a b c left x y = record {
-  goes_on = goes_further a b c x.goes_on y.goes_on;
-  fewer = let p = x.fewer in let q = y.fewer in omega arith;
-  tied = λ b. y.tied (x.tied b);
-  tickets = λ t owned. y.tickets t (x.tickets t owned tt);
-}
+stays_chain a b c left x y = search (arith, goes_further, x.goes_on, x.fewer, y.fewer, y.tied, x.tied, y.tickets, x.tickets)
 
 -- an outstanding operation is collected, and perhaps its number is free
 completed_stays : (d new : DeskView) (o : Operation) (code : Code) (kept : finmap.FinMap nat_cmp Operation) (left : TicketView → Type 0)
@@ -248,18 +217,9 @@ goes_collecting old new o code x = (collects_stays old new o code x).goes_on
 -- what a call sent, where lanes may have been full before, was collected
 pub goes_called : (n : ℕ) (old sent new : DeskView) (m : ℕ) (op : Op) (o : Operation) (code : Code) → sent ≡ submitted (after_fulls n old m) m op
     → Collects sent new o code → GoesOn old new
-goes_called n old sent new m op o code e x =
-    let full : DeskView = after_fulls n old m in
-    goes_further old full new (goes_fulls n old m) (goes_further full sent new (goes_submitted full sent m op e) (goes_collecting sent new o code x))
+goes_called n old sent new m op o code e x = search (arith, goes_further, goes_fulls, goes_submitted, goes_collecting)
 
 -- ---- ending
 
 pub goes_out : (d : DeskView) (e : EndedView) → Ends d e → GoesOut d e
-goes_out d e h =
-    let ends = map-alike but_full seat_of (λ _. refl) e.requests d.requests h.requests in
-    record {
-      thread = h.thread;
-      seat = λ i. record { thread = h.thread i; ends = ends i; lane = (h.completions i).lane; line = (h.completions i).line };
-      ledgers = h.ledgers;
-      lists = same_lists d.ledgers e.ledgers h.ledgers;
-    }
+goes_out d e h = search (arith, map-alike, same_lists, e.requests, d.requests, h.requests, h.thread, h.completions, d.ledgers, e.ledgers)

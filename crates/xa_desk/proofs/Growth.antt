@@ -1,4 +1,5 @@
 -- The lists of a desk only grow.
+use Rattle.std.proofs.Common.{arith}
 use Rattle.xa_base.proofs.{◌≡◌, ℕ, List, [], ◌∷◌, sym, refl, subst, same_begins, begins_on}
 use Rattle.xa_words.specs.declared.code.Code.{Code}
 use Rattle.xa_words.specs.{Op}
@@ -11,8 +12,7 @@ pub as_it_was : (a : LedgerView) → HasGrown a a
 as_it_was a = record { sent = same_begins a.sent; collected = same_begins a.collected }
 
 pub grown_on : (a b c : LedgerView) → HasGrown a b → HasGrown b c → HasGrown a c
-grown_on a b c p q =
-    record { sent = begins_on a.sent b.sent c.sent p.sent q.sent; collected = begins_on a.collected b.collected c.collected p.collected q.collected }
+grown_on a b c p q = search (arith, begins_on, p.sent, p.collected)
 
 pub same_lists : (at at' : List LedgerView) → at' ≡ at → HaveGrown at at'
 same_lists at at' e = subst (HaveGrown at) (sym e) (record { each = λ m p. as_it_was (ledger at m) })
@@ -28,5 +28,4 @@ pub sending_grows : (at : List LedgerView) (m : ℕ) (op : Op) → HaveGrown at 
 sending_grows at m op = put_grows at m (with_sent (ledger at m) op) (record { sent = (op ∷ [], refl); collected = same_begins (ledger at m).collected })
 
 pub collecting_grows : (at : List LedgerView) (o : Operation) (code : Code) → HaveGrown at (after_collected at o code)
-collecting_grows at o code =
-    put_grows at o.manager (with_collected (ledger at o.manager) o.number code) (record { sent = same_begins (ledger at o.manager).sent; collected = ((o.number, code) ∷ [], refl) })
+collecting_grows at o code = search (arith, put_grows, same_begins, o.manager, o.number)

@@ -101,21 +101,11 @@ module _ (at : List LedgerView) (s : Slab Slot) (key : ℕ) (slot : Slot) (table
 
 pub rehandles_release : (table : List (Option Operation)) (number : ℕ) (o : Operation) → KeptPlace table number o
     → Rehandles table (set table (number - 1) None) number 0 o
-rehandles_release table number o p = record {
-  vacant = λ n e. absurd (omega arith);
-  filled = λ n e. absurd (omega arith);
-  freed = λ n e _. let here : n ≡ number - 1 = omega arith in rw here (get_or-set_same table (number - 1) None None p.within);
-  rest = λ n differs _. get_or-set_other table (number - 1) n None None (λ e. differs (p.is ∙ ap suc (sym e)));
-}
+rehandles_release table number o p = search (arith, get_or-set_same, get_or-set_other)
 
 pub rehandles_keep : (table : List (Option Operation)) (j : ℕ) (o : Operation) → j < length table → get_or table j None ≡ None
     → Rehandles table (set table j (Some o)) 0 (suc j) o
-rehandles_keep table j o within free = record {
-  vacant = λ n e. let here : n ≡ j = omega arith in rw here free;
-  filled = λ n e. let here : n ≡ j = omega arith in rw here (get_or-set_same table j (Some o) None within);
-  freed = λ n e _. absurd (omega arith);
-  rest = λ n _ differs. get_or-set_other table j n (Some o) None (λ e. differs (ap suc (sym e)));
-}
+rehandles_keep table j o within free = search (arith, get_or-set_same, get_or-set_other)
 
 pub least_free : (table : List (Option Operation)) (j : ℕ) → get_or table j None ≡ None → ((k : ℕ) → k < j → IsSome (get_or table k None))
     → IsLeastFree (kept_of table) (j + 1)

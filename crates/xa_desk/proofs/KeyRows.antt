@@ -95,15 +95,11 @@ module _ (at : List LedgerView) (m : ℕ) (op : Op) (known : IsKnown at m) (rows
 -- the slot at a key keeps its operation
 pub told_kept : (rows : List KeysView) (s t : Slab Slot) (key : ℕ) (slot x : Slot) → AreTold rows s → get s key ≡ Some slot → slot.operation ≡ x.operation
     → Updates s t key (Some x) → AreTold rows t
-told_kept rows s t key slot x r there keeps u k y found = elim (found_cases s t key x u k y found) [
-  | inl new ↦ ap (key_at rows) (sym (keeps ∙ ap (λ (z : Slot). z.operation) new.1)) ∙ r key slot there ∙ ap (λ j. Some j) (sym new.0)
-  | inr old ↦ r k y old.1
-]
+told_kept rows s t key slot x r there keeps u k y found = search (arith, found_cases)
 
 pub keys_kept : (at : List LedgerView) (rows : List KeysView) (s t : Slab Slot) (key : ℕ) (slot x : Slot) → AreKeys at rows s → get s key ≡ Some slot
     → slot.operation ≡ x.operation → Updates s t key (Some x) → AreKeys at rows t
-keys_kept at rows s t key slot x r there keeps u =
-    record { number = r.number; sent = r.sent; planned = r.planned; told = told_kept rows s t key slot x r.told there keeps u }
+keys_kept at rows s t key slot x r there keeps u = search (arith, told_kept, r.told)
 
 -- collecting
 

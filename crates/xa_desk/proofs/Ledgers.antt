@@ -53,9 +53,7 @@ pub known_true : (at : List LedgerView) (m : ℕ) → IsKnown at m → is_known 
 known_true at m known = λ i. le-leb 1 m known.positive i && le-leb m (length at) known.within i
 
 pub known_is : (at : List LedgerView) (m : ℕ) → is_known at m ≡ true → IsKnown at m
-known_is at m e =
-    let parts = and_parts (nat_le 1 m) (nat_le m (length at)) e in
-    record { positive = leb-true 1 m parts.0; within = leb-true m (length at) parts.1 }
+known_is at m e = search (arith, and_parts, nat_le, leb-true)
 
 -- as many ledgers are with as many managers
 pub known_by : (l l' : List LedgerView) (m : ℕ) → length l' ≡ length l → IsKnown l m → IsKnown l' m
@@ -88,13 +86,7 @@ module _ (at : List LedgerView) where
 -- what holds of an element and itself, and of the one that is put in its place, holds of each before and after
 pub set_each : {A : Type 0} (R : A → A → Type 0) → ((a : A) → R a a) → (xs : List A) (i : ℕ) (a d : A) → R (get_or xs i d) a → (k : ℕ)
     → R (get_or xs k d) (get_or (set xs i a) k d)
-set_each R same xs i a d new k = elim (cases_eq k i) [
-  | inl here ↦ elim (cases_lt i (length xs)) [
-    | inl below ↦ rw (here, get_or-set_same xs i a d below) new
-    | inr past ↦ rw (set_past xs i a past) (same (get_or xs k d))
-  ]
-  | inr other ↦ rw (get_or-set_other xs i k a d other) (same (get_or xs k d))
-]
+set_each R same xs i a d new k = search (arith, cases_eq, cases_lt, get_or-set_same, set_past, get_or-set_other)
 
 pub put_each : (R : LedgerView → LedgerView → Type 0) → ((a : LedgerView) → R a a) → (at : List LedgerView) (m : ℕ) (a : LedgerView) → R (ledger at m) a
     → (n : ℕ) → R (ledger at n) (ledger (put_ledger at m a) n)
@@ -112,28 +104,14 @@ collected-le-sent a o =
     rw length-map at below
 
 pub orderly_sent : (a : LedgerView) (op : Op) → IsOrderly a → length a.sent < a.plan → IsOrderly (with_sent a op)
-orderly_sent a op o room = record {
-  planned = omega (arith, length-append a.sent (op ∷ []));
-  distinct = o.distinct;
-  below = λ n e. let h = o.below n e in omega (arith, length-append a.sent (op ∷ []));
-}
+orderly_sent a op o room = search (arith, length-append, a.sent, o.below)
 
 pub is_collected-push : (a : LedgerView) (n : ℕ) (code : Code) (q : ℕ) → is_collected (with_collected a n code) q ≡ (is_collected a q || (nat_eq q n || false))
 is_collected-push a n code q = rw (map-append (λ (p : ℕ × Code). p.0) a.collected ((n, code) ∷ [])) (list_any-append (nat_eq q) (numbers a) (n ∷ []))
 
 pub orderly_collected : (a : LedgerView) (n : ℕ) (code : Code) → IsOrderly a → n < length a.sent → is_collected a n ≡ false
     → IsOrderly (with_collected a n code)
-orderly_collected a n code o sent fresh = record {
-  planned = o.planned;
-  distinct = rw (map-append (λ (p : ℕ × Code). p.0) a.collected ((n, code) ∷ [])) (IsDistinct-push nat_eq_equiv (numbers a) n o.distinct fresh);
-  below = λ q e. elim (or_cases (is_collected a q) (nat_eq q n || false) (sym (is_collected-push a n code q) ∙ e)) [
-    | inl was ↦ o.below q was
-    | inr new ↦ elim (or_cases (nat_eq q n) false new) [
-      | inl same ↦ rw (eqb-true q n same) sent
-      | inr wrong ↦ absurd (false≢true wrong)
-    ]
-  ];
-}
+orderly_collected a n code o sent fresh = search (arith, map-append, IsDistinct-push, or_cases, nat_eq, is_collected-push, eqb-true)
 
 pub collected-lt-sent : (a : LedgerView) (n : ℕ) (code : Code) → IsOrderly a → n < length a.sent → is_collected a n ≡ false → length a.collected < length a.sent
 collected-lt-sent a n code o sent fresh =
@@ -178,15 +156,7 @@ module _ (at : List LedgerView) (m : ℕ) (op : Op) (known : IsKnown at m) where
   sent_out_cases o is =
       let k = known_before at m o.manager (with_sent (ledger at m) op) is.known in
       let fresh = sym (sent_collects o.manager o.number) ∙ is.open_ in
-      elim (cases_eq o.manager m) [
-        | inl same ↦
-            let within : o.number < length (with_sent (ledger at o.manager) op).sent = rw (ledger-sent_same o.manager same) at is.sent in
-            elim (cases_eq o.number (length (ledger at o.manager).sent)) [
-              | inl last ↦ inl (same_operation o sent_now same (last ∙ ap (λ n. length (ledger at n).sent) same))
-              | inr before ↦ inr (record { known = k; sent = omega (arith, length-append (ledger at o.manager).sent (op ∷ [])); open_ = fresh })
-            ]
-        | inr differs ↦ inr (record { known = k; sent = rw (ledger-sent_other o.manager k.positive differs) at is.sent; open_ = fresh })
-      ]
+      search (arith, cases_eq, ledger-sent_same, same_operation, length-append, ledger-sent_other, o.manager, is.sent, o.number, k.positive)
 
   pub unsent : (o : Operation) → IsSent at o → o ≢ sent_now
   unsent o was e = grind arith
@@ -217,8 +187,7 @@ module _ (at : List LedgerView) (o : Operation) (code : Code) (known : IsKnown a
     known = known_collected p.manager was.known;
     sent = rw (collected_sends p.manager) was.sent;
     open_ = elim (cases_eq p.manager o.manager) [
-      | inl same ↦ rw (ledger-collected_same p.manager same) (is_collected-push (ledger at p.manager) o.number code p.number
-          ∙ or_from _ _ was.open_ (or_from _ _ (ne_eqb p.number o.number (λ e. other (same_operation p o same e))) refl))
+      | inl same ↦ search (arith, ledger-collected_same, is_collected-push, or_from, ne_eqb, same_operation, p.manager, was.open_, p.number)
       | inr differs ↦ rw (ledger-collected_other p.manager was.known.positive differs) was.open_
     ];
   }
@@ -227,14 +196,7 @@ module _ (at : List LedgerView) (o : Operation) (code : Code) (known : IsKnown a
   collected_out p is =
       let k = collected_known p.manager is.known in
       let sent = rw (collected_sends p.manager) at is.sent in
-      elim (cases_eq p.manager o.manager) [
-        | inl same ↦
-            let parts : (is_collected (ledger at p.manager) p.number ≡ false) × ((nat_eq p.number o.number || false) ≡ false) =
-            or_parts _ _ (sym (is_collected-push (ledger at p.manager) o.number code p.number) ∙ rw (ledger-collected_same p.manager same) at is.open_) in
-            (record { known = k; sent = sent; open_ = parts.0 }, λ e. eqb-false p.number o.number (or_parts _ _ parts.1).0 (ap (λ (q : Operation). q.number) e))
-        | inr differs ↦
-            (record { known = k; sent = sent; open_ = rw (ledger-collected_other p.manager k.positive differs) at is.open_ }, λ e. differs (ap (λ (q : Operation). q.manager) e))
-      ]
+      search (arith, cases_eq, nat_eq, or_parts, is_collected-push, ledger-collected_same, eqb-false, ledger-collected_other, p.manager, p.number, k.positive)
 
 -- what a read of the list of ledgers gives, and what a write leaves
 

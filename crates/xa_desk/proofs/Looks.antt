@@ -1,4 +1,5 @@
 -- What takes of the lane of completions leave as it was.
+use Rattle.std.proofs.Common.{rules}
 use Rattle.xa_base.proofs.{arith, ◌≡◌, ◌≢◌, ℕ, List, length, Option, Some, None, IfSome, is_some, true, false, ◌+◌, sym, ◌∙◌, refl, ap, subst, cases_eq}
 use Rattle.xa_base.proofs.{removed_there, removed_other}
 use Rattle.std.proofs.Common.{OnSome, IsSome}
@@ -54,19 +55,15 @@ item_drawn old new r s c took drains = grind (arith, drains_same)
 
 same_then : (old new : DeskView) (drained : List Completion) (then : ℕ)
     → new ≡ record old { drained = drained; drained_then = then; completions = new.completions } → IsSameFrom old new
-same_then old new drained then e =
-    e ∙ ap (λ (x : DeskView). record old { drained = x.drained; drained_then = x.drained_then; completions = new.completions }) (sym e)
+same_then old new drained then e = search (arith, rules)
 
 same_draws : (old new : DeskView) (a : Taken Completion) → Draws old a new → IsSameBut old new
 same_draws old new (Item s c) d = same_from old new (same_took (Item s c) old.completions new.completions d.0) (same_drains old new new.completions c d.1)
-same_draws old new (EndOf s) d =
-    same_from old new (same_took (EndOf s) old.completions new.completions d.0) (same_then old new old.drained old.drained_then d.1)
+same_draws old new (EndOf s) d = search (arith, same_from, same_took, same_then)
 same_draws old new Empty d = same_from old new (same_took Empty old.completions new.completions d.0) (same_then old new old.drained (length old.drained) d.1)
 
 same_chain : (a b c : DeskView) → IsSameBut a b → IsSameBut b c → IsSameBut a c
-same_chain a b c p q =
-    q
-    ∙ ap (λ (x : DeskView). record x { drained = c.drained; drained_then = c.drained_then; completions = record x.completions { taken = c.completions.taken; quiet = c.completions.quiet; taken_then = c.completions.taken_then } }) p
+same_chain a b c p q = search (arith, rules)
 
 pub looks_start : (old new : DeskView) → new ≡ old → Looks old new
 looks_start old new e = record { pops = start new e; rest = same_start old new e }
@@ -104,12 +101,7 @@ pub looks_loose : (a b : DeskView) (o : Operation) → Looks a b → IsLoose a o
 looks_loose a b o l loose k e = loose k (ap (λ m. finmap.get m k) (sym (ap (λ (x : DeskView). x.kept) l.rest)) ∙ e)
 
 pub looking_leaves : (a b : DeskView) → Looks a b → LeavesTickets a b
-looking_leaves a b l t o = record {
-  opening = o.opening ∙ sym (ap opening_of l.rest);
-  thread = o.thread ∙ sym (ap (λ (x : DeskView). x.thread) l.rest);
-  out = looks_out a b t.operation l o.out;
-  loose = looks_loose a b t.operation l o.loose;
-}
+looking_leaves a b l t o = search (arith, looks_out, looks_loose, t.operation)
 
 -- what isn't kept isn't kept once a number is free
 pub freed_loose : (d : DeskView) (number : ℕ) (o : Operation) → IsLoose d o → (k : ℕ) → finmap.get (finmap.remove d.kept number) k ≢ Some o

@@ -52,9 +52,7 @@ pub ready_drained : (at : List LedgerView) (s : Slab Slot) (table : List (Option
     → ((k : ℕ) → number ≡ suc k → is_marked n k ≡ true) → ((k : ℕ) → number ≢ suc k → is_marked n k ≡ is_marked m k)
     → AreReady n table (drained ++ c ∷ [])
 ready_drained at s table drained c number m n b h none old here others k = elim (cases_eq number (suc k)) [
-  | inl same ↦
-      let there : get_or table k None ≡ Some (operation_of c) = b.handled h.key h.slot k h.found (h.handle ∙ same) ∙ ap (λ (o : Operation). Some o) h.names in
-      here k same ∙ sym (ap (ready_with (drained ++ c ∷ []) 0) there ∙ ap is_some (drained_code-push_first (operation_of c) drained c refl none))
+  | inl same ↦ search (arith, is_some, drained_code-push_first, b.handled, h.key, h.slot, h.found, h.names)
   | inr apart ↦ others k apart ∙ old k ∙ sym (as_ready at s table drained c number b h k apart (get_or table k None) refl)
 ]
 

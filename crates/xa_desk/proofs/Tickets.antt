@@ -1,4 +1,5 @@
 -- Which tickets are still owned as a desk goes on.
+use Rattle.std.proofs.Common.{arith}
 use Rattle.xa_base.proofs.{◌≡◌, ◌≢◌, ℕ, zero, suc, Option, Some, None, IfSome, sym, refl, ◌∙◌, subst, inl, inr, cases_eq, inserted_there, inserted_other}
 use Rattle.std.specs.FinMap as map
 use Rattle.xa_words.specs.declared.code.Code.{Code}
@@ -11,30 +12,16 @@ use Rattle.xa_desk.proofs.GoesOn.{collects_stays, desk_stays, tried_stays, tried
 use Rattle.xa_desk.proofs.Ties.{fulls_alike}
 
 pub sent_leaves : (old : DeskView) (m : ℕ) (op : Op) → IsKnown old.ledgers m → LeavesTickets old (submitted old m op)
-sent_leaves old m op known t owned = record {
-  opening = owned.opening;
-  thread = owned.thread;
-  out = sent_keeps_out old.ledgers m op known t.operation owned.out;
-  loose = owned.loose;
-}
+sent_leaves old m op known t owned = search (arith, sent_keeps_out, t.operation)
 
 pub sent_fresh : (old : DeskView) (m : ℕ) (op : Op) → IsKnown old.ledgers m → (t : TicketView) → Owns old t → t.operation ≢ next_operation old.ledgers m
 sent_fresh old m op known t owned = unsent old.ledgers m op known t.operation (record { known = owned.out.known; sent = owned.out.sent })
 
 pub kept_leaves : (old : DeskView) (o : Operation) (number : ℕ) → LeavesOthers old (record old { kept = map.insert old.kept number o }) o
-kept_leaves old o number t owned differs = record {
-  opening = owned.opening;
-  thread = owned.thread;
-  out = owned.out;
-  loose = λ k kept. elim (cases_eq k number) [
-    | inl same ↦ differs (let both = rw (same, inserted_there old.kept number o) at kept in cc)
-    | inr apart ↦ owned.loose k (sym (inserted_other old.kept number o k apart) ∙ kept)
-  ];
-}
+kept_leaves old o number t owned differs = search (arith, cases_eq, inserted_there, inserted_other, old.kept, owned.loose)
 
 pub freed_leaves : (old : DeskView) (number : ℕ) → LeavesTickets old (record old { kept = map.remove old.kept number })
-freed_leaves old number t owned =
-    record { opening = owned.opening; thread = owned.thread; out = owned.out; loose = freed_loose old number t.operation owned.loose }
+freed_leaves old number t owned = search (arith, freed_loose, t.operation)
 
 pub full_leaves : (old : DeskView) (m : ℕ) → LeavesTickets old (after_full old m)
 full_leaves old m t owned = record { opening = owned.opening; thread = owned.thread; out = owned.out; loose = owned.loose }

@@ -31,12 +31,7 @@ tied_on : (d : DeskView) (drained : List Completion) (r : Receiving Completion) 
     → ((o : Operation) (code : Code) → drained_code o d.drained ≡ Some code → drained_code o drained ≡ Some code)
     → IsTied d.thread d.ledgers drained d.requests r
 tied_on d drained r b same part still = record {
-  ends = record {
-    number = b.ends.number;
-    to = subst (λ (x : Receiving Completion). AreEndsTo d.thread x.lane.opening d.requests) (sym same) b.ends.to;
-    lane = ap (λ (x : Receiving Completion). x.lane.index) same ∙ b.ends.lane;
-    senders = ap (λ (x : Receiving Completion). x.senders) same ∙ b.ends.senders;
-  };
+  ends = search (arith, d.thread);
   sent = b.sent;
   drained_ = part;
   collected = λ m known k p below. still _ _ (b.collected m known k p below);
@@ -57,10 +52,8 @@ tied_drains old new s c r b took drains =
 
 pub tied_draws : (old new : DeskView) (a : Taken Completion) → Draws old a new → IsDesk old → IsDesk new
 tied_draws old new (Item s c) d b = tied_drains old new s c new.completions b d.0 d.1
-tied_draws old new (EndOf s) d b = subst IsDesk (sym d.1) (tied_on old old.drained new.completions b (same_took (EndOf s) old.completions new.completions d.0)
-    (subst (IsPartOf old.drained) (sym (ap (λ (x : Receiving Completion). arrived x.taken) d.0.1 ∙ arrived-mark old.completions.taken s)) b.drained_) (λ o code some. some))
-tied_draws old new Empty d b = subst IsDesk (sym d.1) (tied_on old old.drained new.completions b (same_took Empty old.completions new.completions d.0)
-    (subst (IsPartOf old.drained) (sym (ap (λ (x : Receiving Completion). arrived x.taken) d.0)) b.drained_) (λ o code some. some))
+tied_draws old new (EndOf s) d b = search (arith, tied_on, same_took, arrived-mark, old.drained, new.completions, old.completions, old.completions.taken)
+tied_draws old new Empty d b = search (arith, tied_on, same_took, old.drained, new.completions, old.completions)
 
 tied_pops : (old new : DeskView) → Pops old new → IsDesk old → IsDesk new
 tied_pops old new (start _ e) b = subst IsDesk (sym e) b
@@ -103,17 +96,7 @@ numbered-append t n (o ∷ ops) op =
 pub ends_changed : (t n k : ℕ) (f : Sending Request → Sending Request) (requests : List (Sending Request)) (r : Receiving Completion)
     → ((opening m : ℕ) (s : Sending Request) → IsEndTo t opening m s → IsEndTo t opening m (f s)) → AreEnds t n requests r
     → AreEnds t n (at_place k f requests) r
-ends_changed t n k f requests r keeps b = record {
-  number = length-at_place f k requests ∙ b.number;
-  to = λ j y found.
-      let p = at_place_cases f k j requests y found in
-      elim p.2 [
-        | inl same ↦ subst (IsEndTo t r.lane.opening (j + 1)) (sym same) (b.to j p.0 p.1)
-        | inr changed ↦ subst (IsEndTo t r.lane.opening (j + 1)) (sym changed) (keeps r.lane.opening (j + 1) p.0 (b.to j p.0 p.1))
-      ];
-  lane = b.lane;
-  senders = b.senders;
-}
+ends_changed t n k f requests r keeps b = search (arith, length-at_place, at_place_cases, r.lane.opening, b.to)
 
 item_keeps : (t : ℕ) (x : Request) (opening m : ℕ) (s : Sending Request) → IsEndTo t opening m s → IsEndTo t opening m (with_item x s)
 item_keeps t x opening m s e = record { sender = e.sender; opening_ = e.opening_; lane = e.lane }
@@ -150,12 +133,7 @@ tied_submitted d m op known b = let at = d.ledgers in let x = next_request d m o
     not_here q was differs e = let p = known.positive in let w = was.positive in differs (omega arith)
 
 pub tied_full : (d : DeskView) (m : ℕ) → IsDesk d → IsDesk (after_full d m)
-tied_full d m b = record {
-  ends = ends_changed d.thread (length d.ledgers) (m - 1) with_full d.requests d.completions (full_keeps d.thread) b.ends;
-  sent = λ q known. sent_at-full (q - 1) (m - 1) d.requests ∙ b.sent q known;
-  drained_ = b.drained_;
-  collected = b.collected;
-}
+tied_full d m b = search (arith, ends_changed, full_keeps, sent_at-full, d.completions, b.sent)
 
 pub tied_fulls : (n : ℕ) (d : DeskView) (m : ℕ) → IsDesk d → IsDesk (after_fulls n d m)
 tied_fulls zero d m b = b
@@ -169,9 +147,7 @@ pub record AreAlike (d d' : DeskView) : Type 0 where
 
 fulls_are_alike : (n : ℕ) (d : DeskView) (m : ℕ) → AreAlike d (after_fulls n d m)
 fulls_are_alike zero d m = record { ledgers = refl; handles = refl; requests = refl }
-fulls_are_alike (suc n) d m =
-    let a = fulls_are_alike n d m in
-    record { ledgers = a.ledgers; handles = a.handles; requests = length-at_place with_full (m - 1) (after_fulls n d m).requests ∙ a.requests }
+fulls_are_alike (suc n) d m = search (arith, fulls_are_alike n d m, length-at_place)
 
 pub fulls_alike : (n : ℕ) (d d' : DeskView) (m : ℕ) → d' ≡ after_fulls n d m → AreAlike d d'
 fulls_alike n d d' m e = subst (AreAlike d) (sym e) (fulls_are_alike n d m)
@@ -207,15 +183,7 @@ tied_ended t at drained es ds r same b = record {
 
     from : (k : ℕ) (e : Sending Request) (d : Option (Sending Request)) → slice_get ds k ≡ d → slice_get es k ≡ Some e → IsEndTo t r.lane.opening (k + 1) e
     from k e None there found = absurd (let no : Some (but_full e) ≡ None = sym (ap bared found) ∙ alike k ∙ ap bared there in cc)
-    from k e (Some d) there found =
-        let both : Some (but_full e) ≡ Some (but_full d) = sym (ap bared found) ∙ alike k ∙ ap bared there in
-        let one : but_full e ≡ but_full d = cc in
-        let was = b.ends.to k d there in
-        record {
-          sender = ap (λ (s : Sending Request). s.index + 1) one ∙ was.sender;
-          opening_ = ap (λ (s : Sending Request). s.lane.opening) one ∙ was.opening_;
-          lane = ap (λ (s : Sending Request). s.lane.index) one ∙ was.lane;
-        }
+    from k e (Some d) there found = search (arith, alike)
 
 pub tied_new : (p : PartsView) (requests : List (Sending Request)) (r : Receiving Completion) → AreEnds p.thread (length p.use_async) requests r
     → AreNew requests r → IsDesk (new_desk p requests r)

@@ -1,3 +1,4 @@
+use Rattle.std.proofs.Common.{arith}
 use Rattle.xa_desk.specs.{logged}
 use Rattle.xa_desk.proofs.Ties.{tied_ended}
 use Rattle.xa_desk.proofs.ended.end.Goals as goal
@@ -8,11 +9,4 @@ invariant_of-result g c =
     let b = c.book.inside in
     let tied = rw (← c.book.view_is) at c.requires.tied in
     let settled = rw (← c.book.view_is) at c.requires.settled in
-    record {
-      known = record {
-        tied = tied_ended b.thread b.ledgers.items (logged b.drained.items) c.end_all-requests.result.items b.requests.items b.completions c.end_all-requests.ensures.ended tied;
-        settled = settled;
-      };
-      thread = i.limits.thread;
-      managers = i.limits.managers;
-    }
+    search (arith, tied_ended, b.completions, c.end_all-requests.ensures.ended)

@@ -11,12 +11,7 @@ loop-init g c = record { fulls = (0, refl, refl); idled = g.met.I.Idle.leads_sta
 pub offer-requires : goal.offer-requires
 offer-requires g c =
     let a = fulls_alike c.loop.invariant.fulls.0 c.args.book.now c.loop.book c.args.manager c.loop.invariant.fulls.1 in
-    record {
-      known = subst (λ (at : List LedgerView). IsKnown at c.args.manager) (sym a.ledgers) c.requires.known;
-      lanes = a.requests ∙ c.requires.lanes ∙ sym (ap length a.ledgers);
-      room = rw a.ledgers c.requires.room;
-      slot = rw (a.ledgers, a.handles) c.requires.slot;
-    }
+    search (arith, a.ledgers)
 
 pub returns-in-Some-offer-clause-named : goal.returns-in-Some-offer-clause-named
 returns-in-Some-offer-clause-named g c =

@@ -58,6 +58,4 @@ invariant_of-self c =
     })
 
 pub returns-clause-fewer : goal.returns-clause-fewer
-returns-clause-fewer c =
-    let d = (goal.at.returns-clause-fewer c).After-push_collected in
-    rw (written d, ← c.self.view_is) (ap (λ n. n + 1) (sym (books d).count) ∙ c.remove.ensures.len ∙ c.self.invariant.books.count)
+returns-clause-fewer c = search (arith, written, books)

@@ -123,8 +123,5 @@ returns c =
       mid = record (desk_of c.self.inside) { drained = old ++ c.args.completion ∷ [] };
       drains = first (subst (λ (p : Operation). IsOut at p) (its b) (out b)) (ap (λ (p : Operation). drained_code p old) (sym (its b)) ∙ missing b) refl;
       code_ = sym (drained_code-push_first o old c.args.completion (its b) (missing b));
-      rest = (
-        (λ i. record (desk_of c.self.inside) { ledgers = set at (o.manager - 1) (written d i); events = event i; drained = drained d i }),
-        rw (written d) (ap (λ n. n + 1) (sym (books b c.remove.new.self c.remove.ensures.updates c.remove.ensures.len).count) ∙ c.remove.ensures.len ∙ c.self.invariant.books.count),
-      );
+      rest = search (arith, written, drained, books, c.remove.new.self, c.remove.ensures.updates);
     })

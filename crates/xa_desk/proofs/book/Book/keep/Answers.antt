@@ -40,10 +40,7 @@ first_clear-place-requires c =
     kept_past c.self.inside.kept_marks c.self.inside.kept.items 63 i.kept_marks (omega arith)
 
 pub index_mut-requires : goal.index_mut-requires
-index_mut-requires c =
-    let below = within ((goal.at.index_mut-requires c).After-first_clear-place) in
-    let same = c.self.inside.kept.ok.0 in
-    omega arith
+index_mut-requires c = search (arith, within, c.self.inside.kept.ok.0)
 
 pub overflow_add-handle : goal.overflow_add-handle
 overflow_add-handle c = let below = few ((goal.at.overflow_add-handle c).After-first_clear-place) in omega arith
@@ -69,12 +66,9 @@ invariant_of-self c =
     rw (unkept d e.key e.slot e.found e.names, next, e.names) (rehandles_keep old place c.args.operation (within d) (free d)) in
     let drained = logged c.self.inside.drained.items in
     -- the operation is ready where its slot has a code
-    let code : c.enter_handle-is_ready.result ≡ ready_with drained 0 (Some c.args.operation) =
-    c.enter_handle-is_ready.ensures.code e.key e.slot e.found e.names ∙ ap is_some (i.books.coded e.key e.slot e.found)
-    ∙ ap (λ (o : Operation). is_some (drained_code o drained)) e.names in
+    let code : c.enter_handle-is_ready.result ≡ ready_with drained 0 (Some c.args.operation) = search (arith, is_some) in
     let none : is_marked c.self.inside.ready_marks place ≡ false = i.ready_marks place ∙ ap (ready_with drained 0) (free d) in
-    let marked : is_marked c.mark_if.new.self place ≡ ready_with drained 0 (Some c.args.operation) =
-    c.mark_if.ensures.marked ∙ ap (λ b. c.enter_handle-is_ready.result || b) none ∙ or-false c.enter_handle-is_ready.result ∙ code in
+    let marked : is_marked c.mark_if.new.self place ≡ ready_with drained 0 (Some c.args.operation) = search (arith, or-false) in
     record {
       books = books_rehandled c.self.inside.ledgers.items c.self.inside.slots c.enter_handle-is_ready.new.slots e.key e.slot (place + 1) old (set old place (Some c.args.operation)) (logged c.self.inside.drained.items) i.books e.found moves e.updates e.len;
       keys = keys_kept c.self.inside.ledgers.items c.self.inside.rows.items c.self.inside.slots c.enter_handle-is_ready.new.slots e.key e.slot _ i.keys e.found refl e.updates;
@@ -96,15 +90,7 @@ returns-clause-least c =
     rw (← c.self.view_is) (least_free c.self.inside.kept.items c.first_clear-place.result (free d) (taken d))
 
 pub returns-clause-kept : goal.returns-clause-kept
-returns-clause-kept c =
-    let d = (goal.at.returns-clause-kept c).After-first_clear-place in
-    let next : c.first_clear-place.result + 1 ≡ suc c.first_clear-place.result = omega arith in
-    rw (← c.self.view_is) (ap (λ (k : map.FinMap nat_cmp Operation). record (desk_of c.self.inside) { kept = k }) (kept_of-insert c.self.inside.kept.items c.first_clear-place.result (c.first_clear-place.result + 1) next (within d) c.args.operation))
+returns-clause-kept c = search (arith, nat_cmp, kept_of-insert, within, c.self.inside.kept.items, c.first_clear-place.result)
 
 pub returns-clause-handle : goal.returns-clause-handle
-returns-clause-handle c =
-    let i = c.self.invariant in
-    let below = within ((goal.at.returns-clause-handle c).After-first_clear-place) in
-    let places = i.places in
-    let most = i.limits.handles in
-    record { positive = omega arith; limit = omega arith }
+returns-clause-handle c = search (arith, within, c.self.invariant, c.self.invariant.places, c.self.invariant.limits.handles)

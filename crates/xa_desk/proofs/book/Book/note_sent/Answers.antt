@@ -86,10 +86,7 @@ invariant_of-self c =
     })
 
 pub returns-clause-out : goal.returns-clause-out
-returns-clause-out c =
-    let d = (goal.at.returns-clause-out c).After-enter in
-    let at = c.self.inside.ledgers.items in
-    rw (written d, number d) (sent_now_out at c.args.manager c.args.op.now (known d) (c.self.invariant.books.orderly c.args.manager (known d)))
+returns-clause-out c = search (arith, written, number, sent_now_out, known, books)
 
 pub returns-clause-loose : goal.returns-clause-loose
 returns-clause-loose c =
@@ -99,9 +96,4 @@ returns-clause-loose c =
     (operation_at c.args.manager c.next_number-number.result) (ap (operation_at c.args.manager) (sym (number d))) refl
 
 pub returns-clause-more : goal.returns-clause-more
-returns-clause-more c =
-    let d = (goal.at.returns-clause-more c).After-enter in
-    let now = (books d).count in
-    let before = c.self.invariant.books.count in
-    let len = c.insert_reserved-key.ensures.len in
-    rw (written d, ← c.self.view_is) (sym now ∙ len ∙ ap (λ n. n + 1) before)
+returns-clause-more c = search (arith, books, written, c.self.invariant.books.count, c.insert_reserved-key.ensures.len)

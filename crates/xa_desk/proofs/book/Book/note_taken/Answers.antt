@@ -52,9 +52,7 @@ returns-in-Some c =
     let b = c.self.invariant.books in
     let e = c.in-Some.ensures.entered in
     let d = (goal.at.returns-in-Some c).After-and-self-inside in
-    rw (← c.self.view_is) (first
-    (subst (λ (o : Operation). IsOut c.self.inside.ledgers.items o) e.names (b.slot_out e.key e.slot e.found)) (fresh d)
-    (ap (λ (cs : List Completion). record (desk_of c.self.inside) { drained = cs }) (one_more d)))
+    search (arith, fresh, one_more, c.self.inside.ledgers.items, e.names, b.slot_out, e.key, e.slot)
 
 pub returns-in_default : goal.returns-in_default
 returns-in_default c =

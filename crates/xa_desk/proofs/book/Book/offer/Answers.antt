@@ -29,8 +29,7 @@ returns-in-Ok-clause-sent g c =
     let requests = c.self.inside.requests.items in
     let old = c.index_mut.result.now in
     let request = next_request (desk_of c.self.inside) c.args.manager c.args.op.now in
-    let one : c.offer.new.self ≡ with_item request old =
-    c.in-Ok.ensures.sent ∙ ap (λ (n : ℕ). with_item (request_of c.self.inside.thread n c.args.op.now) old) number in
+    let one : c.offer.new.self ≡ with_item request old = search (arith, c.self.inside.thread) in
     rw (← c.self.view_is) (c.note_sent.ensures.sent
     ∙ ap (λ (rs : List (Sending Request)). record (desk_of c.self.inside) {
       ledgers = after_sent c.self.inside.ledgers.items c.args.manager c.args.op.now;

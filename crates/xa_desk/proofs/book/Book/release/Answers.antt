@@ -9,9 +9,7 @@ use Rattle.xa_desk.proofs.book.Book.release.Goals as goal
 use Rattle.xa_desk.proofs.book.Book.release.Goals.{In_ok-operation, After-clear-2}
 
 place : (c : In_ok-operation) → KeptPlace c.self.inside.kept.items c.args.number c.in_ok-operation.operation
-place c =
-    let kept = sym c.kept_at.ensures.kept ∙ c.in_ok-operation.was in
-    kept_place c.self.inside.kept.items c.args.number c.in_ok-operation.operation (rw (← c.self.view_is) at kept)
+place c = search (arith, kept_place, c.in_ok-operation.was, c.self.inside.kept.items, c.args.number, c.in_ok-operation.operation)
 
 pub enter_handle-was_ready-requires-clause-there : goal.enter_handle-was_ready-requires-clause-there
 enter_handle-was_ready-requires-clause-there c =
@@ -20,11 +18,7 @@ enter_handle-was_ready-requires-clause-there c =
     record { key = h.key; slot = h.slot; found = h.found; names = h.names }
 
 pub index_mut-requires : goal.index_mut-requires
-index_mut-requires c =
-    let p = place ((goal.at.index_mut-requires c).In_ok-operation) in
-    let within = p.within in
-    let same = c.self.inside.kept.ok.0 in
-    omega arith
+index_mut-requires c = search (arith, place, c.self.inside.kept.ok.0)
 
 books : (c : After-clear-2)
     → IsBooks c.self.inside.ledgers.items c.enter_handle-was_ready.new.slots (set c.self.inside.kept.items (c.args.number - 1) None) (logged c.self.inside.drained.items)
@@ -60,9 +54,7 @@ invariant_of-self c =
     }
 
 pub returns-clause-freed : goal.returns-clause-freed
-returns-clause-freed c =
-    let p = place ((goal.at.returns-clause-freed c).In_ok-operation) in
-    rw (← c.self.view_is) (ap (λ (k : map.FinMap nat_cmp Operation). record (desk_of c.self.inside) { kept = k }) (kept_of-remove c.self.inside.kept.items (c.args.number - 1) c.args.number p.is p.within))
+returns-clause-freed c = search (arith, place, nat_cmp, kept_of-remove, c.self.inside.kept.items, c.args.number)
 
 pub returns-clause-loose : goal.returns-clause-loose
 returns-clause-loose c = grind (arith, loose_from_handle, books)

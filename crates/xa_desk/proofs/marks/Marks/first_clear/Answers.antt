@@ -9,10 +9,7 @@ returns c =
     let fits : bits < 18446744073709551616 = omega arith in
     let not_all : bits + 1 < 18446744073709551616 = elim (cases_lt (bits + 1) 18446744073709551616) [
       | inl below ↦ below
-      | inr past ↦
-          let all : bits ≡ 18446744073709551615 = omega arith in
-          let no : true ≡ false = ap (λ b. nat_eq (bit_at b 63) 1) (sym all) ∙ c.requires in
-          absurd cc
+      | inr past ↦ search (arith, nat_eq, c.requires)
     ] in
     let (_, zero, ones) = bit_at-trailing_ones w64 bits not_all in
     let is = c.trailing_ones.ensures in
