@@ -21,11 +21,7 @@ use Rattle.xa_driver.proofs.Staying.{moved_leaves, asked_leaves_open, outstandin
 
 -- a manager with room for a request is one of the desk's
 pub known_with_room : (at : List LedgerView) (m : ℕ) → 1 ≤ room_at at m → IsKnown at m
-known_with_room at m room =
-    by_if (λ n. 1 ≤ n → IsKnown at m) ((m == 0) || nat_lt (length at) m) 0 _ (λ none some. absurd (omega (arith, some))) (λ there some.
-    let parts = or_parts (m == 0) (nat_lt (length at) m) there in
-    let positive = eqb-false m 0 parts.0 in
-    record { positive = omega (arith, positive); within = ltb-false (length at) m parts.1 }) room
+known_with_room at m room = search (arith, nat_lt, or_parts, eqb-false, ltb-false)
 
 -- how much room it has
 pub room_is : (at : List LedgerView) (m : ℕ) → IsKnown at m → room_at at m ≡ (ledger at m).plan - length (ledger at m).sent
@@ -53,12 +49,8 @@ module _ (m : ℕ) (op : Op) (code : Code) (old new : DeskView) (known : IsKnown
       let sent : LedgerView = with_sent a op in
       let mid : List LedgerView = put_ledger old.ledgers m sent in
       let whole : LedgerView = with_collected sent (length a.sent) code in
-      let before : x.before.ledgers ≡ mid =
-      ap (λ (d : DeskView). d.ledgers) x.looks.rest ∙ ap (λ (l : List LedgerView). put_ledger l m (with_sent (ledger l m) op)) (fulls_ledgers n old m) in
-      let written : new.ledgers ≡ put_ledger old.ledgers m whole =
-      ap (λ (d : DeskView). d.ledgers) x.collected ∙ ap (λ (l : List LedgerView). put_ledger l m (with_collected (ledger l m) (length a.sent) code)) before
-      ∙ ap (λ (b : LedgerView). put_ledger mid m (with_collected b (length a.sent) code)) (ledger-put_same old.ledgers m sent known)
-      ∙ set-set old.ledgers (m - 1) sent whole in
+      let before : x.before.ledgers ≡ mid = search (arith, fulls_ledgers) in
+      let written : new.ledgers ≡ put_ledger old.ledgers m whole = search (arith, ledger-put_same, set-set) in
       rw (at_false (learnt_shut a) a whole open_) (put_moved m whole old new known written (record {
         goes_on = goes;
         kept = ap (λ (d : DeskView). d.kept) x.collected ∙ ap (λ (d : DeskView). d.kept) x.looks.rest ∙ fulls_kept n old m;
@@ -104,15 +96,7 @@ alone_start m d = record { others = λ n p q. refl; managers = refl; keeps = kee
 
 -- and it keeps the rest
 pub alone_rest : (m : ℕ) (old new : DeskView) → AsksAlone m old new → KeepsTheRest old new
-alone_rest m old new is =
-    record { keeps = is.keeps; kept = is.all; left = is.left; tickets = tickets_stay old new is.keeps is.left; free = is.free }
+alone_rest m old new is = search (arith, tickets_stay, is.keeps)
 
 pub alone_chain : (m : ℕ) (old mid new : DeskView) → AsksAlone m old mid → AsksAlone m mid new → AsksAlone m old new
-alone_chain m old mid new p q = record {
-  others = λ n low differs. q.others n low differs ∙ p.others n low differs;
-  managers = q.managers ∙ p.managers;
-  keeps = keeps_chain old mid new p.keeps q.keeps;
-  left = outstanding_chain old.ledgers mid.ledgers new.ledgers p.left q.left;
-  free = q.free ∙ p.free;
-  all = λ all. q.all (p.all all);
-}
+alone_chain m old mid new p q = search (arith, keeps_chain, outstanding_chain)

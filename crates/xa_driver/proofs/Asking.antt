@@ -37,13 +37,7 @@ unmoved m a' old new e h =
 -- one ledger was written, and nothing else that counts
 pub put_moved : (m : ℕ) (a' : LedgerView) (old new : DeskView) → IsKnown old.ledgers m → new.ledgers ≡ put_ledger old.ledgers m a' → KeepsDesk old new
     → Moved m a' old new
-put_moved m a' old new known e keeps = record {
-  here = ap (λ l. ledger l m) e ∙ ledger-put_same old.ledgers m a' known;
-  others = λ n p q. ap (λ l. ledger l n) e ∙ ledger-put_other old.ledgers m n a' known.positive p q;
-  managers = ap length e ∙ put_length old.ledgers m a' known;
-  open_ = ap (λ l. outstanding l + open_count (ledger old.ledgers m)) e ∙ put_open old.ledgers m a' known;
-  keeps = keeps;
-}
+put_moved m a' old new known e keeps = search (arith, ledger-put_same, ledger-put_other, put_length, open_count, put_open, old.ledgers, known.positive)
 
 -- a request is sent where its manager isn't learnt to be shut
 abbrev pub sent_by : LedgerView → Option Op → LedgerView

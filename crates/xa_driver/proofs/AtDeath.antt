@@ -30,9 +30,7 @@ use Rattle.xa_log.specs.{LogState}
 put_so : (k : Ask) (t : Option TicketView) (at : List LedgerView) (d : DeskView) (op : Op) → k.op ≡ Some op → HasBegun k t at d
     → PutsLedger (ledger at k.manager) op (ledger d.ledgers k.manager)
 put_so k None at d op is began = withheld (subst (IsUnsent (ledger at k.manager)) is began.0) began.1
-put_so k (Some t) at d op is began =
-    let same : began.op ≡ op = some_same began.op op (sym began.wanted ∙ is) in
-    sent began.open_ (began.sent ∙ ap (with_sent (ledger at k.manager)) same)
+put_so k (Some t) at d op is began = search (arith, some_same, began.op, began.open_)
 
 put_nothing : (k : Ask) (t : Option TicketView) (at : List LedgerView) (d : DeskView) → k.op ≡ None → HasBegun k t at d
     → ledger d.ledgers k.manager ≡ ledger at k.manager
@@ -111,15 +109,8 @@ pub each_obeys : (commit : Bool) (bs : List Branch) (ks js : List Ask) (old mid 
     → SameAsks (map (second_ask commit) ks) js → EachAsk ks old mid → EachAsk js mid late
     → EachBranch (λ b v s e. VotesAndObeys AsksLedger commit b v s e (ledger old b.m) (ledger late b.m)) bs (map code_of ks) (map second_code js) (map (ending_of_ask commit) js)
 each_obeys commit [] [] [] old mid late s r e f = tt
-each_obeys commit (b ∷ bs) (k ∷ ks) (j ∷ js) old mid late s r e f = (
-  record {
-    prepared = ledger mid b.m;
-    prepares = first_trace b k old mid s.0 e.0;
-    obeys = for_trace (second_op commit b.xid (code_of k)) j.code (ledger mid b.m) (ledger late b.m) (second_trace commit b k j mid late s.0 r.0 f.0);
-    ends = ap (λ v. ending_of commit v j.code) r.0.vote;
-  },
-  each_obeys commit bs ks js old mid late s.1 r.1 e.1 f.1,
-)
+each_obeys commit (b ∷ bs) (k ∷ ks) (j ∷ js) old mid late s r e f =
+    search (arith, each_obeys commit bs ks js old mid late s.1 r.1 e.1 f.1, first_trace, for_trace, second_trace, s.0, b.xid, j.code, r.0, s.1, r.1, e.1)
 each_obeys commit _ _ _ old mid late s r e f = absurd (search rules)
 
 -- ---- a round that was sent
@@ -145,19 +136,12 @@ module _ (r : Round) (now : DeskView) (u : IsUnderWay r now) (whole : IsSent r) 
         let votes_are : known.votes.items ≡ map code_of u.done = votes ∙ ap (map code_of) first_are in
         let both = firsts_asked bs u.done u.flying apart in
         let long : length (u.done ++ u.flying) ≡ length bs = sym (ap (λ l. length l) parts_are) ∙ asks_long bs r.asks.items same in
-        record {
-          asked = rw (votes_are, new_is, ← before) (asked_far bs u.done u.flying r.tickets.items r.before.value.ledgers now apart u.answered u.in_flight);
-          counted = ap (λ l. length l) votes_are ∙ length-map u.done code_of ∙ sym both.0 ∙ first_count ∙ ap (min n) (both.1 ∙ long);
-          undecided = undecided;
-          unlogged = refl;
-          endings = none;
-        }
+        search (arith, votes_are, asked_far, length-map, first_count)
 
     pub came_to_answers : (commit : Bool) (ks : List Ask) (old mid new : List LedgerView) → SameAsks (map first_ask bs) ks
         → SameAsks (map (second_ask commit) ks) r.asks.items → EachAsk ks old mid → r.before.value.ledgers ≡ mid → new ≡ now.ledgers
         → HaveTold AsksLedger PutsLedger commit n bs (map code_of ks) (ledger old) (ledger new)
-    came_to_answers commit ks old mid new s same e before new_is =
-        rw new_is (told_far commit bs ks u.done u.flying r.tickets.items n old r.before.value.ledgers now s (rw parts_are at same) (rw (← before) at e) u.answered u.in_flight first_count)
+    came_to_answers commit ks old mid new s same e before new_is = search (arith, told_far, parts_are, first_count)
 
 -- nothing was done at other managers
 pub others_stay : (r : Round) (now : DeskView) → IsUnderWay r now → (bs : List Branch) (old new : List LedgerView)
@@ -174,8 +158,7 @@ record IsFlight (ks : List Ask) (at now : List LedgerView) (o : Operation) : Typ
   there : o.number < length (ledger now o.manager).sent
 
 flight_later : (k : Ask) (ks : List Ask) (at now : List LedgerView) (o : Operation) → IsFlight ks at now o → IsFlight (k ∷ ks) at now o
-flight_later k ks at now o f =
-    record { among = ap (λ b. (k.manager == o.manager) || b) f.among ∙ or-true (k.manager == o.manager); number = f.number; there = f.there }
+flight_later k ks at now o f = search (arith, or-true)
 
 flight_of : (o : Operation) (ks : List Ask) (ts : List (Option TicketView)) (at : List LedgerView) (d : DeskView) → EachBegan ks ts at d → IsAmong o ts
     → IsFlight ks at d.ledgers o
@@ -215,8 +198,7 @@ left_handles r now u bs old new among before left =
         }
 
 pub same_handles : (bs : List Branch) (old new : DeskView) → new.kept ≡ old.kept → LeavesHandles bs old new
-same_handles bs old new same =
-    record { stays = λ k o is. ap (λ m. finmap.get m k) same ∙ is; more = λ k o is. inl (sym (ap (λ m. finmap.get m k) same) ∙ is) }
+same_handles bs old new same = search (arith, rules)
 
 grown_at : (old new : DeskView) → GoesOn old new → (m : ℕ) → 1 ≤ m → length (ledger old.ledgers m).sent ≤ length (ledger new.ledgers m).sent
 grown_at old new on m positive =
@@ -229,17 +211,7 @@ grown_long old new on zero = grown_at old new on 1 (omega arith)
 grown_long old new on (suc m) = grown_at old new on (suc m) (omega arith)
 
 pub later_handles : (bs : List Branch) (old mid new : DeskView) → GoesOn old mid → mid.kept ≡ old.kept → LeavesHandles bs mid new → LeavesHandles bs old new
-later_handles bs old mid new on same h = record {
-  stays = λ k o is. h.stays k o (ap (λ m. finmap.get m k) same ∙ is);
-  more = λ k o is.
-      ⊎_elim (λ (was : finmap.get mid.kept k ≡ Some o). inl (sym (ap (λ m. finmap.get m k) same) ∙ was))
-      (λ (of : IsOfRound bs mid.ledgers new.ledgers o). inr (record {
-        manager = of.manager;
-        later = let a = grown_long old mid on o.manager in let b = of.later in omega (arith, a, b);
-        sent = of.sent;
-      }))
-      (h.more k o is);
-}
+later_handles bs old mid new on same h = search (arith, grown_long, h.stays, mid.kept, mid.ledgers, new.ledgers, h.more)
 
 -- ---- what is left of the desk
 
@@ -259,11 +231,7 @@ pub desk_rest : (bs : List Branch) (old new : DeskView) → KeepsTheRest old new
 desk_rest bs old new rest = record { handles = same_handles bs old new rest.keeps.kept; goes_on = rest.keeps.goes_on; kept = rest.kept }
 
 pub desk_further : (bs : List Branch) (old mid new : DeskView) → KeepsTheRest old mid → LeavesDesk bs mid new → LeavesDesk bs old new
-desk_further bs old mid new rest later = record {
-  handles = later_handles bs old mid new rest.keeps.goes_on rest.keeps.kept later.handles;
-  goes_on = goes_further old mid new rest.keeps.goes_on later.goes_on;
-  kept = λ all. later.kept (rest.kept all);
-}
+desk_further bs old mid new rest later = search (arith, later_handles, goes_further, rest.keeps.goes_on, rest.keeps.kept, later.kept, rest.kept)
 
 pub as_many_managers : (old new : DeskView) → GoesOn old new → length new.ledgers ≡ length old.ledgers
 as_many_managers old new on = sym (length-map new.ledgers plan_of) ∙ ap (λ l. length l) on.plan ∙ length-map old.ledgers plan_of
@@ -272,18 +240,7 @@ as_many_managers old new on = sym (length-map new.ledgers plan_of) ∙ ap (λ l.
 
 pub dies_prepared : (bs : List Branch) (old new : List LedgerView) (log : LogState) (tran : TranName) (p : Prepared) → HasPrepared bs old new p
     → (known : Done) → known ≡ p.known → Dies AsksLedger PutsLedger death.Prepared tran bs (ledger old) (ledger new) log log known
-dies_prepared bs old new log tran p first known same =
-    let ks : List Ask = p.round.asks.items in
-    rw same (record {
-      far = record {
-        asked = rw first.votes (asked_all bs ks old new first.same first.asked.each);
-        counted = ap (λ l. length l) first.votes ∙ length-map ks code_of ∙ asks_long bs ks first.same;
-        undecided = first.undecided;
-        unlogged = refl;
-        endings = first.endings.none;
-      };
-      others = λ m positive none. first.asked.others m positive (among_first bs ks m first.same ∙ none);
-    })
+dies_prepared bs old new log tran p first known same = search (arith, asked_all, length-map, asks_long, among_first)
 
 -- ---- what was decided
 
@@ -320,15 +277,7 @@ module _ (bs : List Branch) (old mid : List LedgerView) (log later : LogState) (
 
   -- nobody was told
   pub dies_decided : (known : Done) → known ≡ d.known → Dies AsksLedger PutsLedger death.Decided p.tran bs (ledger old) (ledger mid) log later known
-  dies_decided known same = rw same (record {
-    far = record {
-      asked = rw votes_are (asked_all bs firsts old mid first.same first.asked.each);
-      counted = ap (λ l. length l) votes_are ∙ length-map firsts code_of ∙ asks_long bs firsts first.same;
-      decided = decided_by d.known refl refl refl;
-      endings = no_endings;
-    };
-    others = λ m positive none. first.asked.others m positive (among_first bs firsts m first.same ∙ none);
-  })
+  dies_decided known same = search (arith, votes_are, asked_all, length-map, asks_long, decided_by, no_endings, among_first)
 
   -- all were told
   pub dies_told : (new : List LedgerView) (t : Told) → HasTold d mid new t → (known : Done) → known ≡ t.known
@@ -345,9 +294,7 @@ module _ (bs : List Branch) (old mid : List LedgerView) (log later : LogState) (
           each = rw (commit_is, (votes ∙ votes_are), endings) (each_obeys d.known.commit bs firsts seconds old mid new first.same again first.asked.each third.asked.each);
           decided = decided_by known commit_is (ap (λ k. k.logged) same ∙ third.logged) votes;
         };
-        others = λ m positive none.
-            third.asked.others m positive (among_second d.known.commit firsts seconds m again ∙ among_first bs firsts m first.same ∙ none)
-            ∙ first.asked.others m positive (among_first bs firsts m first.same ∙ none);
+        others = search (arith, among_second, among_first, third.asked.others);
       }
 
   -- all were told, and some have answered
@@ -356,12 +303,10 @@ module _ (bs : List Branch) (old mid : List LedgerView) (log later : LogState) (
       → (new : List LedgerView) → r.before.value.ledgers ≡ mid → new ≡ now.ledgers → (known : Done) → known ≡ d.known
       → Dies AsksLedger PutsLedger (death.Telling n) p.tran bs (ledger old) (ledger new) log later known
   dies_telling r now u whole n count same new before new_is known is =
-      let again : SameAsks (map (second_ask d.known.commit) firsts) r.asks.items =
-      subst (λ (l : List Ask). SameAsks (map (second_ask d.known.commit) l) r.asks.items) asks_are same in
+      let again : SameAsks (map (second_ask d.known.commit) firsts) r.asks.items = search (arith, asks_are) in
       let among : (m : ℕ) → among_asks r.asks.items m ≡ has_branch_at bs m =
       λ m. among_second d.known.commit firsts r.asks.items m again ∙ among_first bs firsts m first.same in
-      let told : HaveTold AsksLedger PutsLedger d.known.commit n bs (map code_of firsts) (ledger old) (ledger new) =
-      came_to_answers r now u whole bs n count d.known.commit firsts old mid new first.same again first.asked.each before new_is in
+      let told : HaveTold AsksLedger PutsLedger d.known.commit n bs (map code_of firsts) (ledger old) (ledger new) = search (arith, came_to_answers) in
       rw is (record {
         far = record { told = rw votes_are told; decided = decided_by d.known refl refl refl; endings = no_endings };
         others = λ m positive none.

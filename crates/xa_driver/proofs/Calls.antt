@@ -49,11 +49,7 @@ one_more a op code = grind (arith, length-append)
 left_after : (n : ℕ) (at at' : List LedgerView) (js ks : List Ask) → length at' ≡ length at → SameAsks js ks → EachAsk ks at at' → HaveLeft (suc n) at js
     → HaveLeft n at' ks
 left_after n at at' [] [] long s e h = tt
-left_after n at at' (j ∷ js) (k ∷ ks) long s e h =
-    let before : HasLeft (suc n) at k.manager = rw s.0.manager h.0 in
-    let left = before.left in
-    let more = one_more (ledger at k.manager) k.op k.code in
-    (record { known = known_by at at' k.manager long before.known; left = rw e.0.trace (omega (arith, left, more.0, more.1)) }, left_after n at at' js ks long s.1 e.1 h.1)
+left_after n at at' (j ∷ js) (k ∷ ks) long s e h = search (arith, left_after n at at' js ks long s.1 e.1 h.1, one_more, known_by, s.1, e.1)
 left_after n at at' _ _ long s e h = absurd s
 
 pub first_can : (at : List LedgerView) (bs : List Branch) → HaveRoom at bs → AllCanAsk (map first_ask bs) at
@@ -86,9 +82,7 @@ answered_some a op code h = grind arith
 -- the Prepare of a branch
 pub first_trace : (b : Branch) (k : Ask) (old mid : List LedgerView) → IsSameAsk (first_ask b) k
     → AskTrace k.op k.code (ledger old k.manager) (ledger mid k.manager) → AskTrace (Some (Prepare b.xid)) (Some (code_of k)) (ledger old b.m) (ledger mid b.m)
-first_trace b k old mid s one =
-    let x = rw (s.op, s.manager) at one in
-    rw (answered_some (ledger old b.m) (Prepare b.xid) k.code x.answered) at x
+first_trace b k old mid s one = search (arith, answered_some, k.code)
 
 -- its second request
 pub second_is : (commit : Bool) (b : Branch) (k j : Ask) → IsSameAsk (first_ask b) k → IsSameAsk (second_ask commit k) j
@@ -164,9 +158,7 @@ call_by done bs ks js ls old mid late new log log' t s one r two q three votes e
       course = record {
         seconds = map second_code js;
         each = rw (votes, endings) (each_branch done.commit bs ks js ls old mid late new s r q one.each two.each three.each);
-        others = λ m p n.
-            three.others m p (among_third js ls m q ∙ among_second done.commit ks js m r ∙ among_first bs ks m s ∙ n)
-            ∙ two.others m p (among_second done.commit ks js m r ∙ among_first bs ks m s ∙ n) ∙ one.others m p (among_first bs ks m s ∙ n);
+        others = search (arith, among_third, among_second, among_first, three.others, done.commit, two.others, one.others);
         decision = decision ∙ ap (λ vs. decision_of vs done.logged) (sym votes);
         logs = rw (votes, ← yes_is bs ks s) logs;
       };

@@ -1,4 +1,5 @@
 -- Branches that are resolved one after another, and managers one after another.
+use Rattle.std.proofs.Common.{rules}
 use Rattle.xa_base.proofs.{◌≡◌, ◌≢◌, ℕ, zero, suc, ◌+◌, ◌-◌, ◌*◌, ◌≤◌, ◌==◌, ◌||◌, if◌then◌else◌, List, [], ◌∷◌, ◌++◌, length, append-nil, sym, refl, ap, ◌∙◌}
 use Rattle.xa_base.proofs.{subst, arith, inl, inr, nat_lt, flat_map, range_with_len, cases_eq, eq-eqb, ne_eqb, range_more, at_true, at_false}
 use Rattle.std.specs.List.{sum_by}

@@ -1,4 +1,5 @@
 -- Requests in flight: what sending and collecting one leaves of the others.
+use Rattle.std.proofs.Common.{rules}
 use Rattle.xa_base.proofs.{list_any-append, ◌≡◌, ◌≢◌, ℕ, ◌+◌, ◌<◌, ◌≤◌, false, ◌==◌, Option, None, Some, List, [], ◌∷◌, ◌++◌, length, refl, sym, ap, ◌∙◌, subst}
 use Rattle.xa_base.proofs.{arith, length-append, eqb-false, ne_eqb, or_parts, at_false, at_true}
 use Rattle.std.specs.FinMap as finmap
@@ -51,33 +52,12 @@ can_at (a ∷ js) k bs at c = can_at js k bs at c.1
 
 owns_stays : (t : TicketView) (d d' : DeskView) → ledger d'.ledgers t.operation.manager ≡ ledger d.ledgers t.operation.manager
     → length d'.ledgers ≡ length d.ledgers → KeepsDesk d d' → Owns d t → Owns d' t
-owns_stays t d d' same managers keeps o = record {
-  opening = o.opening ∙ sym (ap (λ (s : DeskSeat). s.lane.opening) keeps.goes_on.seat);
-  thread = o.thread ∙ sym (ap (λ (s : DeskSeat). s.thread) keeps.goes_on.seat);
-  out = record {
-    known = known_by d.ledgers d'.ledgers t.operation.manager managers o.out.known;
-    sent = subst (λ (a : LedgerView). t.operation.number < length a.sent) (sym same) o.out.sent;
-    open_ = ap (λ (a : LedgerView). is_collected a t.operation.number) same ∙ o.out.open_;
-  };
-  loose = λ q e. o.loose q (ap (λ m. finmap.get m q) (sym keeps.kept) ∙ e);
-}
+owns_stays t d d' same managers keeps o = search (arith, known_by, d.ledgers, d'.ledgers, t.operation.manager, o.loose)
 
 one_stays : (k : Ask) (r : Option TicketView) (at : List LedgerView) (d d' : DeskView) (m : ℕ) (a' : LedgerView) → 1 ≤ k.manager → k.manager ≢ m
     → Moved m a' d d' → HasBegun k r at d → HasBegun k r at d'
 one_stays k None at d d' m a' p differs moved h = (h.0, moved.others k.manager p differs ∙ h.1)
-one_stays k (Some t) at d d' m a' p differs moved h =
-    let names : t.operation.manager ≡ k.manager = ap (λ o. o.manager) h.operation in
-    let stays : ledger d'.ledgers k.manager ≡ ledger d.ledgers k.manager = moved.others k.manager p differs in
-    let same : ledger d'.ledgers t.operation.manager ≡ ledger d.ledgers t.operation.manager =
-    ap (ledger d'.ledgers) names ∙ stays ∙ ap (ledger d.ledgers) (sym names) in
-    record {
-      op = h.op;
-      wanted = h.wanted;
-      open_ = h.open_;
-      operation = h.operation;
-      owned = owns_stays t d d' same moved.managers moved.keeps h.owned;
-      sent = stays ∙ h.sent;
-    }
+one_stays k (Some t) at d d' m a' p differs moved h = search (arith, owns_stays)
 
 pub begun_stays : (lo : ℕ) (ks : List Ask) (rs : List (Option TicketView)) (at : List LedgerView) (d d' : DeskView) (m : ℕ) (a' : LedgerView) → AreRising lo ks
     → among_asks ks m ≡ false → Moved m a' d d' → EachBegan ks rs at d → EachBegan ks rs at d'
@@ -110,8 +90,7 @@ asked_more (j ∷ ks) k at at' h one = (h.0, asked_more ks k at at' h.1 one)
 -- the first request to a manager that nothing was sent to yet
 pub begins_flight : (k : Ask) (r : Option TicketView) (d0 d d' : DeskView) → ledger d.ledgers k.manager ≡ ledger d0.ledgers k.manager
     → IsKnown d.ledgers k.manager → BeginsAsk k d d' r → HasBegun k r d0.ledgers d'
-begins_flight k None d0 d d' same known b =
-    (subst (λ (a : LedgerView). IsUnsent a k.op) same b.1, ap (λ (e : DeskView). ledger e.ledgers k.manager) b.0 ∙ same)
+begins_flight k None d0 d d' same known b = search (arith, rules)
 begins_flight k (Some t) d0 d d' same known b = record {
   op = b.op;
   wanted = b.wanted;
@@ -146,15 +125,5 @@ pub end_answers : (k : Ask) (r : Option TicketView) (code : Option Code) (at : L
     → ledger d'.ledgers k.manager ≡ collected_of (ledger d.ledgers k.manager) r code
     → AskTrace k.op code (ledger at k.manager) (ledger d'.ledgers k.manager)
 unfolding collected_of
-end_answers k None code at d d' h e is =
-    subst (λ (c : Option Code). AskTrace k.op c (ledger at k.manager) (ledger d'.ledgers k.manager)) (sym e.1) (unsent_trace k k.op (ledger at k.manager) (ledger d'.ledgers k.manager) h.0 (is ∙ h.1))
-end_answers k (Some t) code at d d' h e is =
-    let a : LedgerView = ledger at k.manager in
-    let number : t.operation.number ≡ length a.sent = ap (λ o. o.number) h.operation in
-    let sent : ledger d.ledgers k.manager ≡ with_sent a h.op = h.sent in
-    let all : ledger d'.ledgers k.manager ≡ with_collected (with_sent a h.op) (length a.sent) e.0 =
-    is ∙ ap (collected_of (ledger d.ledgers k.manager) (Some t)) e.1.0 ∙ (λ i. with_collected (sent i) (number i) e.0) in
-    subst (λ (o : Option Op). AskTrace o code a (ledger d'.ledgers k.manager)) (sym h.wanted) (subst (λ (c : Option Code). AskTrace (Some h.op) c a (ledger d'.ledgers k.manager)) (sym e.1.0) (record {
-      answered = λ shut. let z = h.open_ in cc;
-      trace = all ∙ sym (at_false (learnt_shut a) _ _ h.open_);
-    }))
+end_answers k None code at d d' h e is = search (arith, unsent_trace, k.op, d'.ledgers, h.0)
+end_answers k (Some t) code at d d' h e is = search (arith, collected_of, at_false, k.manager, h.operation, d.ledgers, h.sent, d'.ledgers, h.open_)

@@ -1,4 +1,5 @@
 -- For which managers a commit idles, one round after the other.
+use Rattle.std.proofs.Common.{rules}
 use Rattle.xa_base.proofs.{◌≡◌, ℕ, zero, suc, ◌+◌, ◌≤◌, ◌<◌, length, length-append, length-set, arith, ◌==◌, ◌||◌, true, false, Option, None, Some, List, []}
 use Rattle.xa_base.proofs.{◌∷◌, ◌++◌, refl, sym, ap, ◌∙◌, subst, Bool, MatchOption, map, slice_get, eq-eqb, or-true}
 use Rattle.std.specs.Prelude.{IfNone, OnSome}
@@ -150,14 +151,6 @@ pub collect_reaches : (r new : Round) (desk now : DeskView) (b : Bool) (n : ℕ)
     → (n + 1 ≤ new.collected) × IsSent new × (length new.asks.items ≡ length r.asks.items)
 collect_reaches r new desk now b n step all so_far below =
     elim (r.tickets.items) as (λ l. r.tickets.items ≡ l → MatchOption (slice_get l 0) ((b ≡ false) × Stays r new desk now) (λ t. (b ≡ true) × Collects t r new desk now) → (n + 1 ≤ new.collected) × IsSent new × (length new.asks.items ≡ length r.asks.items)) [
-      | [] ↦ λ e still.
-          let none = ap (λ l. length l) e in
-          let same : new.collected ≡ r.collected = ap (λ (q : Round). q.collected) still.1.round in
-          (omega (arith, none, same, all, below), subst IsSent (sym still.1.round) all, ap (λ (q : Round). length q.asks.items) still.1.round)
-      | t ∷ ts ↦ λ e one.
-          let x = ap (λ l. length l) one.1.tickets in
-          let y = one.1.collected in
-          let long : length new.asks.items ≡ length r.asks.items =
-          ap (λ l. length l) one.1.asks ∙ length-set r.asks.items r.collected (coded one.1.ask one.1.code) in
-          (omega (arith, y, so_far), omega (arith, x, y, long, all), long)
+      | [] ↦ search (arith, rules)
+      | t ∷ ts ↦ search (arith, length-set, r.asks.items, r.collected)
     ] refl step

@@ -27,8 +27,7 @@ pub one_more_remade : (f : Ask → Ask) (n : ℕ) (ks now : List Ask) (k d : Ask
     → set now n k ≡ partly f (n + 1) ks
 one_more_remade f n ks now k d within is made =
     let one : suc n ≡ n + 1 = omega arith in
-    (λ i. set (is i) n (made i)) ∙ (λ i. set (partly f n ks) n (f (get_or (is i) n d))) ∙ ap (λ q. set (partly f n ks) n (f q)) (partly_rest f n ks d)
-    ∙ one_remade f n ks d within ∙ ap (λ m. partly f m ks) one
+    search (arith, partly_rest, one_remade)
 
 pub all_remade : (f : Ask → Ask) (n : ℕ) (ks : List Ask) → length ks ≤ n → partly f n ks ≡ map f ks
 all_remade f zero [] all = refl
@@ -52,17 +51,10 @@ module _ (f : Ask → Ask) (same : (k : Ask) → (f k).manager ≡ k.manager) wh
     as_long = ap (λ l. length l) is ∙ length-map r.asks.items f
 
     pub remade_rest : r'.tickets ≡ r.tickets → IsAtRest r → IsAtRest r'
-    remade_rest tickets rest = record {
-      rising = subst (AreRising 0) (sym is) (remade_rising 0 r.asks.items rest.rising);
-      tickets = ap (λ q. q.items) tickets ∙ rest.tickets;
-      room = let a = ap (λ q. deque_capacity q) tickets in let b = as_long in let room = rest.room in omega (arith, a, b, room);
-    }
+    remade_rest tickets rest = search (arith, remade_rising, as_long, rest.room)
 
     pub remade_may : (desk : DeskView) → MayAsk r desk → MayAsk r' desk
-    remade_may desk may = record {
-      can = subst (λ (l : List Ask). AllCanAsk l desk.ledgers) (sym is) (remade_can desk.ledgers r.asks.items may.can);
-      free = let b = as_long in let free = may.free in omega (arith, b, free);
-    }
+    remade_may desk may = search (arith, remade_can, as_long, desk.ledgers, may.free)
 
     pub remade_endings : (known : Done) → HasRoomForEndings r known → HasRoomForEndings r' known
     remade_endings known endings = record { none = endings.none; room = let b = as_long in let room = endings.room in omega (arith, b, room) }

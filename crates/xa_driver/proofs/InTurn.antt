@@ -1,4 +1,5 @@
 -- What was resolved in turn was, whatever of each request is looked at.
+use Rattle.std.proofs.Common.{arith}
 use Rattle.xa_base.proofs.{ℕ, List, ap}
 use Rattle.xa_words.specs.{Op}
 use Rattle.xa_words.specs.declared.code.Code.{Code}

@@ -22,13 +22,7 @@ leaves_same a = record { sent = λ n within fresh. within; open_ = λ n fresh. f
 
 -- a request that is sent and collected leaves what is outstanding
 leaves_answered : (a : LedgerView) (op : Op) (code : Code) → Leaves a (with_collected (with_sent a op) (length a.sent) code)
-leaves_answered a op code = record {
-  sent = λ n within fresh.
-      let parts = or_parts (is_collected a n) (nat_eq n (length a.sent) || false) (sym (is_collected-push (with_sent a op) (length a.sent) code n) ∙ fresh) in
-      let differs = eqb-false n (length a.sent) (or_parts (nat_eq n (length a.sent)) false parts.1).0 in
-      omega (arith, within, differs, length-append a.sent (op ∷ []));
-  open_ = λ n fresh. (or_parts (is_collected a n) (nat_eq n (length a.sent) || false) (sym (is_collected-push (with_sent a op) (length a.sent) code n) ∙ fresh)).0;
-}
+leaves_answered a op code = search (arith, or_parts, nat_eq, is_collected-push, eqb-false, length-append, a.sent)
 
 either_leaves : (a b : LedgerView) (shut : Bool) → Leaves a b → Leaves a (if shut then a else b)
 either_leaves a b true leaves = leaves_same a
@@ -42,16 +36,8 @@ asked_leaves a (Some op) (Some code) = either_leaves a _ (learnt_shut a) (leaves
 out_asked : (ks : List Ask) (at at' : List LedgerView) → Asks ks at at' → (o : Operation) → IsOut at' o → IsOut at o
 out_asked ks at at' is o out =
     let leaves = asks_at Leaves asked_leaves ks at at' o.manager out.known.positive is in
-    record {
-      known = record { positive = out.known.positive; within = subst (λ n. o.manager ≤ n) is.managers out.known.within };
-      sent = leaves.sent o.number out.sent out.open_;
-      open_ = leaves.open_ o.number out.open_;
-    }
+    search (arith, is.managers, leaves.sent, o.number, out.sent, leaves.open_)
 
 -- leave what is kept
 pub asks_keep : (ks : List Ask) (old new : DeskView) → Asks ks old.ledgers new.ledgers → KeepsDesk old new → AllKept old → AllKept new
-asks_keep ks old new is keeps all = record {
-  each = λ o out.
-      let k = all.each o (out_asked ks old.ledgers new.ledgers is o out) in
-      (k.0, ap (λ m. finmap.get m k.0) keeps.kept ∙ k.1);
-}
+asks_keep ks old new is keeps all = search (arith, out_asked, all.each, old.ledgers, new.ledgers)

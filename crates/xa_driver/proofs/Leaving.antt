@@ -1,4 +1,5 @@
 -- A round that is left in the middle: what is in flight is kept under handles, and so is all that is outstanding.
+use Rattle.std.proofs.Common.{rules}
 use Rattle.xa_base.proofs.{list_any-append, or_from, cases_eq, cases_Bool, ◌⊎◌, ◌≡◌, ℕ, ◌==◌, ◌||◌, ◌≤◌, inl, inr, ⊎_elim, false, true, Option, Some, None}
 use Rattle.xa_base.proofs.{List, [], ◌∷◌, ◌++◌, length, refl, sym, ap, ◌∙◌, subst, arith, length-append, eqb-true, some_same, inserted_other, inserted_there}
 use Rattle.std.specs.FinMap as map
@@ -54,9 +55,7 @@ begun_owned lo (k ∷ ks) (Some t ∷ rs) at d rising began =
 begun_owned lo _ _ at d rising began = absurd began
 
 pub flights_owned : (r : Round) (now : DeskView) → IsUnderWay r now → OwnsAll now r.tickets.items
-flights_owned r now u =
-    let up = rising_rest 0 u.done (u.flying ++ u.rest) (subst (AreRising 0) u.parts u.rising) in
-    begun_owned up.0 u.flying r.tickets.items r.before.value.ledgers now (rising_first_part up.0 u.flying u.rest up.1) u.in_flight
+flights_owned r now u = search (arith, rising_rest, begun_owned, rising_first_part, u.done, u.parts, u.flying, r.tickets.items, r.before.value.ledgers, u.rest)
 
 -- ---- one more is kept
 
@@ -91,14 +90,11 @@ pub last_more : (r : Option TicketView) (rs all : List (Option TicketView)) → 
 last_more r rs all last o among = last o (among_more o r rs among)
 
 pub nothing_left : (rs : List (Option TicketView)) (d : DeskView) → LeavesInFlight rs d d
-nothing_left rs d =
-    record { lists = refl; events = refl; stays = λ k o is. is; only = λ k o is. inl is; others = λ t owned other. owned }
+nothing_left rs d = search (arith, rules)
 
 kept_stays : (d d' : DeskView) (r : Option TicketView) → Keeps d d' r → LeavesKept d d'
 kept_stays d d' None same k o is = ap (λ (e : DeskView). map.get e.kept k) same ∙ is
-kept_stays d d' (Some t) (n, (free, made)) k o is =
-    ap (λ (e : DeskView). map.get e.kept k) made
-    ∙ inserted_other d.kept n t.operation k (λ same. let no : None ≡ Some o = sym free ∙ ap (map.get d.kept) (sym same) ∙ is in cc) ∙ is
+kept_stays d d' (Some t) (n, (free, made)) k o is = search (arith, inserted_other, d.kept, t.operation)
 
 -- nothing else is
 kept_only : (d d' : DeskView) (r : Option TicketView) (rs : List (Option TicketView)) → Keeps d d' r → (k : ℕ) (o : Operation)
@@ -112,14 +108,7 @@ other_owned d d' (Some q) rs all last leaves t owned other = leaves t owned (λ 
 
 pub left_more : (all : List (Option TicketView)) (d0 d d' : DeskView) (r : Option TicketView) (rs : List (Option TicketView)) → IsLast (r ∷ rs) all
     → LeavesInFlight all d0 d → Keeps d d' r → LeavesOwned d d' r → LeavesInFlight all d0 d'
-left_more all d0 d d' r rs last left kept owned = record {
-  lists = lists_kept d d' r kept ∙ left.lists;
-  events = events_kept d d' r kept ∙ left.events;
-  stays = λ k o is. kept_stays d d' r kept k o (left.stays k o is);
-  only = λ k o is.
-      ⊎_elim (λ (before : map.get d.kept k ≡ Some o). left.only k o before) (λ (among : IsAmong o (r ∷ rs)). inr (last o among)) (kept_only d d' r rs kept k o is);
-  others = λ t mine other. other_owned d d' r rs all last owned t (left.others t mine other) other;
-}
+left_more all d0 d d' r rs last left kept owned = search (arith, lists_kept, events_kept, kept_stays, kept_only, other_owned)
 
 pub all_kept : (d : DeskView) → AllKeptBut [] d → AllKept d
 all_kept d but = record { each = λ o out. ⊎_elim (λ (k : (k : ℕ) × (map.get d.kept k ≡ Some o)). k) (λ (no : IsAmong o []). absurd no) (but o out) }

@@ -1,5 +1,6 @@
 -- What a commit and a resolve keep of the states that they ask over, and what they ask over one kind of states they ask
 -- over another, where each of their requests does.
+use Rattle.std.proofs.Common.{arith}
 use Rattle.xa_base.proofs.{◌≡◌, ℕ, Bool, true, false, List, [], ◌∷◌, Option, Some, None, refl, sym, ap, subst, Contains, Contains-append_left}
 use Rattle.std.proofs.lemmas.List.Elements.{Contains-push}
 use Rattle.xa_base.specs.{Chain}
@@ -48,8 +49,7 @@ module _ {D : Type 0} (A : Asking D) (P : Op → Type 0) (Q : D → Type 0) (on 
       (told : IsAskedFor P (second_op commit b.xid vote)) (forgot : IsAskedFor P (third_op b.xid second)) where
     -- from its vote on
     pub rest_by : Q is.prepared → Q new
-    rest_by q =
-        for_by (third_op b.xid second) is.third is.decided new forgot is.forgets (for_by (second_op commit b.xid vote) second is.prepared is.decided told is.obeys q)
+    rest_by q = search (arith, for_by)
 
     pub branch_by : P (Prepare b.xid) → Q old → Q new
     branch_by asks q = rest_by (on old is.prepared (Prepare b.xid) vote asks is.prepares q)
@@ -60,8 +60,7 @@ module _ {D : Type 0} (A : Asking D) (P : Op → Type 0) (Q : D → Type 0) (on 
   if_by true op d e so asked q = on d e op asked.0 (so refl) asked.1 q
 
   pub outcome_by : (records : Records) (m : ℕ) (o : Outcome) (d e : D) → Asks P records m o → ResolvesBranch A records m o d e → Q d → Q e
-  outcome_by records m o d e so is q =
-      if_by (is_decided o.code) (Forget o.xid) is.decided e (so.forgets is.manager) is.forgets (on d is.decided (outcome_op o.commit o.xid) o.code (so.ends is.manager is.decision) is.obeys q)
+  outcome_by records m o d e so is q = search (arith, if_by, is.decided, so.forgets, is.forgets, o.commit, o.code, so.ends, is.manager, is.obeys)
 
   pub outcomes_by : (records : Records) (m : ℕ) (d : D) (os : List Outcome) (e : D) → ((o : Outcome) → Contains os o → Asks P records m o)
       → Chain (ResolvesBranch A records m) d os e → Q d → Q e
@@ -124,13 +123,7 @@ module _ {D E : Type 0} (A : Asking D) (B : Asking E) (f : D → E) (Q P : D →
     outcome_back o d e is p = back d is.decided _ o.code is.obeys (if_back (is_decided o.code) (Forget o.xid) is.decided e is.forgets p)
 
     outcome_mapped : (o : Outcome) (d e : D) → ResolvesBranch A records m o d e → Q d → P e → ResolvesBranch B records m o (f d) (f e)
-    outcome_mapped o d e is q p = record {
-      manager = is.manager;
-      decision = is.decision;
-      decided = f is.decided;
-      obeys = step d is.decided _ o.code is.obeys q (if_back (is_decided o.code) (Forget o.xid) is.decided e is.forgets p);
-      forgets = if_mapped (is_decided o.code) (Forget o.xid) is.decided e is.forgets (on d is.decided _ o.code is.obeys q) p;
-    }
+    outcome_mapped o d e is q p = search (arith, if_back, if_mapped, is.decided, o.code, is.obeys, is.forgets)
 
     all_on : (d : D) (os : List Outcome) (e : D) → Chain (ResolvesBranch A records m) d os e → Q d → Q e
     all_on d os e chain q = outcomes_by A Any Q (λ d e op c so asked q. on d e op c asked q) records m d os e (λ o there. anything records m o) chain q
@@ -147,10 +140,4 @@ module _ {D E : Type 0} (A : Asking D) (B : Asking E) (f : D → E) (Q P : D →
     pub resolves_mapped : (xids : List XidName) (os : List Outcome) (d e : D) → ResolvesAt A records m xids os d e → Q d → P e
         → ResolvesAt B records m xids os (f d) (f e)
     resolves_mapped [] os d e is q p = (is.0, ap f is.1)
-    resolves_mapped (x ∷ xs) os d e is q p = record {
-      opened = f is.opened;
-      code = is.code;
-      opens = step d is.opened OpenRm is.code is.opens q (all_back is.opened os e is.each p);
-      each = all_mapped is.opened os e is.each (on d is.opened OpenRm is.code is.opens q) p;
-      xids_are = is.xids_are;
-    }
+    resolves_mapped (x ∷ xs) os d e is q p = search (arith, all_back, all_mapped, is.opened, is.code, is.opens, is.each)

@@ -1,4 +1,5 @@
 -- The stages of a commit make a call.
+use Rattle.std.proofs.Common.{rules}
 use Rattle.xa_base.proofs.{◌≡◌, Bool, None, List, length, map, vec_capacity, sym, ap, ◌∙◌, subst, arith}
 use Rattle.xa_words.specs.{TranName}
 use Rattle.xa_words.specs.declared.code.Code.{Code}
@@ -27,21 +28,13 @@ module _ (bs : List Branch) (old mid late new : List LedgerView) (log later : Lo
   seconds_are = subst (λ (l : List Ask). SameAsks (map (second_ask d.known.commit) l) seconds) asks_are third.same
 
   pub stages_call : (done : Done) → HasForgotten t late new done → IsTraceOfCommit p.tran bs old new log later done
-  stages_call done last =
-      let commit_is : d.known.commit ≡ done.commit = sym (ap (λ k. k.commit) last.known ∙ third.commit) in
-      let logged_is : d.known.logged ≡ done.logged = sym (ap (λ k. k.logged) last.known ∙ third.logged) in
-      call_by done bs firsts seconds last.thirds old mid late new log later p.tran first.same first.asked (subst (λ c. SameAsks (map (second_ask c) firsts) seconds) commit_is seconds_are) third.asked last.same last.asked
-      (ap (λ k. k.votes.items) last.known ∙ ap (λ v. v.items) third.votes ∙ ap (λ v. v.items) second.votes ∙ first.votes) (ap (λ k. k.endings.items) last.known ∙ third.endings ∙ ap (λ c. map (ending_of_ask c) seconds) commit_is)
-      (sym commit_is ∙ second.decision ∙ (λ i. decision_of (first.votes i) (logged_is i))) (subst (λ g. Logs p.tran (yes_asked firsts) (map code_of firsts) g log later) logged_is (subst (λ vs. Logs p.tran (yes_asked firsts) vs d.known.logged log later) first.votes second.logs))
+  stages_call done last = search (arith, call_by, seconds_are, last.thirds, last.same)
 
 -- what the log is asked by the votes of the first stage, it is asked by those of the commit
 pub for_log : (bs : List Branch) (old new : List LedgerView) (p : Prepared) (P : TranName → List Bool → List Code → Type 0) (t : TranName) (votes : List Code)
     → HasPrepared bs old new p → p.tran ≡ t → p.known.votes.items ≡ votes → P p.tran (yes_asked p.round.asks.items) p.known.votes.items
     → P t (yes_of bs votes) votes
-for_log bs old new p P t votes first same votes_are h =
-    let firsts : List Ask = p.round.asks.items in
-    let yes_are : yes_asked firsts ≡ yes_of bs votes = yes_is bs firsts first.same ∙ ap (yes_of bs) (sym first.votes ∙ votes_are) in
-    subst (λ u. P u (yes_of bs votes) votes) same (subst (λ ys. P p.tran ys votes) yes_are (subst (P p.tran (yes_asked firsts)) votes_are h))
+for_log bs old new p P t votes first same votes_are h = search (arith, yes_is, p.round.asks.items, p.tran)
 
 -- ---- when the next may be done, with nothing in between
 
@@ -57,10 +50,7 @@ may_tell bs desk new start log later p d may first second rest =
     let long : length ks ≡ length bs = asks_long bs ks first.same in
     record {
       rest = subst IsAtRest same first.rest;
-      endings = record {
-        none = ap (λ v. v.items) second.endings ∙ first.endings.none;
-        room = let a = ap (λ r. length r.asks.items) same in let b = ap vec_capacity second.endings in let room = first.endings.room in omega (arith, a, b, room);
-      };
+      endings = search (arith, vec_capacity, second.endings, first.endings.room);
       may = subst (λ (r : Round). MayAsk r new) same (record {
         can = next_can desk.ledgers new.ledgers bs ks first.asked.managers first.same first.asked.each may.room;
         free = let handles = rest.keeps.goes_on.handles in let enough = may.free in let free = rest.free in omega (arith, long, handles, enough, free);
@@ -91,13 +81,4 @@ may_forget bs desk mid new start log later p d t may first second third rest res
 -- it asks of the log only that it has no record yet
 pub may_still : (bs : List Branch) (desk : DeskView) (start log : LogState) (tran : TranName) → MayCommit desk start bs → IsTranOf bs tran
     → record_of log tran ≡ None → MayCommit desk log bs
-may_still bs desk start log tran may of_tran absent = record {
-  some = may.some;
-  most = may.most;
-  rising = may.rising;
-  room = may.room;
-  free = may.free;
-  tran = tran;
-  one = of_tran;
-  absent = absent;
-}
+may_still bs desk start log tran may of_tran absent = search (arith, rules)

@@ -1,4 +1,5 @@
 -- The order of what a round sends and collects.
+use Rattle.std.proofs.Common.{rules}
 use Rattle.xa_base.proofs.{none_of, ◌≡◌, ◌≤◌, ℕ, Bool, true, false, List, [], ◌∷◌, ◌++◌, length, drop, Option, None, Some, refl, sym, ap, ◌∙◌, subst}
 use Rattle.xa_base.proofs.{append_assoc, append-nil, arith, not, if◌then◌else◌, MatchOption, map-append, length-append}
 use Rattle.std.proofs.Common.{ap₂}
@@ -26,8 +27,7 @@ sends_none ts d = record { more = []; events = sym (append-nil d.events); ticket
 
 sends_ticket : (k : Ask) (ts ts' : List (Option TicketView)) (old new : DeskView) (r : Option TicketView) → BeginsAsk k old new r → ts' ≡ ts ++ r ∷ []
     → SendsMore ts ts' old new
-sends_ticket k ts ts' old new None began is =
-    subst (λ l. SendsMore ts l old new) (sym is) (subst (λ (d : DeskView). SendsMore ts (ts ++ None ∷ []) old d) (sym began.0) (sends_none ts old))
+sends_ticket k ts ts' old new None began is = search (arith, sends_none)
 sends_ticket k ts ts' old new (Some t) began is = record {
   more = t.operation ∷ [];
   events = began.event ∙ ap (λ (u : TicketView). old.events ++ Sent u.operation ∷ []) (sym began.ticket);
@@ -42,9 +42,7 @@ sends_stay ts d = record { more = []; events = sym (append-nil d.events); ticket
 pub step_sends : (next : Option Ask) (result : Bool) (old new : Round) (desk now : DeskView)
     → MatchOption next ((result ≡ false) × Stays old new desk now) (λ k. (result ≡ true) × Sends k old new desk now)
     → SendsMore old.tickets.items new.tickets.items desk now
-step_sends None result old new desk now (is, stays) =
-    subst (λ (r : Round). SendsMore old.tickets.items r.tickets.items desk now) (sym stays.round)
-    (subst (λ (d : DeskView). SendsMore old.tickets.items old.tickets.items desk d) (sym stays.still) (sends_stay old.tickets.items desk))
+step_sends None result old new desk now (is, stays) = search (arith, sends_stay, old.tickets.items)
 step_sends (Some k) result old new desk now (is, sends) = sends_ticket k old.tickets.items new.tickets.items desk now sends.ticket sends.began sends.tickets
 
 -- and it leaves what was collected, and what is asked
@@ -54,13 +52,7 @@ pub step_sends_keeps : (next : Option Ask) (result : Bool) (old new : Round) (de
 step_sends_keeps next result old new desk now h = grind arith
 
 pub sends_on : (ts us vs : List (Option TicketView)) (a b c : DeskView) → SendsMore ts us a b → SendsMore us vs b c → SendsMore ts vs a c
-sends_on ts us vs a b c first later = record {
-  more = first.more ++ later.more;
-  events =
-      later.events ∙ ap (λ l. l ++ sendings later.more) first.events ∙ append_assoc a.events (sendings first.more) (sendings later.more)
-      ∙ ap (λ l. a.events ++ l) (sym (map-append (λ (o : Operation). Sent o) first.more later.more));
-  tickets = later.tickets ∙ ap (λ l. l ++ later.more) first.tickets ∙ append_assoc (operations_of ts) first.more later.more;
-}
+sends_on ts us vs a b c first later = search (arith, append_assoc, map-append, a.events, first.more)
 
 -- ---- one more collected
 
@@ -69,8 +61,7 @@ collected_event old new o c is = ap (λ (d : DeskView). d.events) is.collected �
 
 collects_ticket : (k : Ask) (ts ts' : List (Option TicketView)) (old new : DeskView) (r : Option TicketView) (code : Option Code) → Ends k old new r code
     → ts ≡ r ∷ ts' → CollectsFirst ts ts' old new
-collects_ticket k ts ts' old new None code ended is =
-    record { first = []; events = ap (λ (d : DeskView). d.events) ended.0 ∙ sym (append-nil old.events); tickets = ap operations_of is }
+collects_ticket k ts ts' old new None code ended is = search (arith, append-nil)
 collects_ticket k ts ts' old new (Some t) code (c, (coded, one)) is =
     record { first = t.operation ∷ []; events = collected_event old new t.operation c one; tickets = ap operations_of is }
 
@@ -80,18 +71,14 @@ collects_nothing ts d = record { first = []; events = sym (append-nil d.events);
 pub step_collects : (next : Option (Option TicketView)) (result : Bool) (old new : Round) (desk now : DeskView)
     → MatchOption next ((result ≡ false) × Stays old new desk now) (λ t. (result ≡ true) × Collects t old new desk now)
     → CollectsFirst old.tickets.items new.tickets.items desk now
-step_collects None result old new desk now (is, stays) =
-    subst (λ (r : Round). CollectsFirst old.tickets.items r.tickets.items desk now) (sym stays.round)
-    (subst (λ (d : DeskView). CollectsFirst old.tickets.items old.tickets.items desk d) (sym stays.still) (collects_nothing old.tickets.items desk))
+step_collects None result old new desk now (is, stays) = search (arith, collects_nothing, old.tickets.items)
 step_collects (Some t) result old new desk now (is, collects) =
     collects_ticket collects.ask old.tickets.items new.tickets.items desk now t collects.code collects.ended collects.tickets
 
 pub collects_on : (ts us vs : List (Option TicketView)) (a b c : DeskView) → CollectsFirst ts us a b → CollectsFirst us vs b c → CollectsFirst ts vs a c
 collects_on ts us vs a b c before later = record {
   first = before.first ++ later.first;
-  events =
-      later.events ∙ ap (λ l. l ++ collections later.first) before.events ∙ append_assoc a.events (collections before.first) (collections later.first)
-      ∙ ap (λ l. a.events ++ l) (sym (map-append (λ (o : Operation). Collected o) before.first later.first));
+  events = search (arith, append_assoc, map-append, a.events, before.first);
   tickets = before.tickets ∙ ap (λ l. before.first ++ l) later.tickets ∙ sym (append_assoc before.first later.first (operations_of vs));
 }
 
@@ -145,9 +132,7 @@ finished_in_order first sent last old mid new sends same before under_way all co
     sym sends.tickets ∙ collects.tickets ∙ ap (λ l. collects.first ++ l) (none_in_flight last new ended none) ∙ append-nil collects.first in
     record {
       more = sends.more;
-      events =
-          collects.events ∙ ap (λ l. l ++ collections collects.first) sends.events ∙ append_assoc old.events (sendings sends.more) (collections collects.first)
-          ∙ ap (λ l. old.events ++ (sendings sends.more ++ collections l)) (sym gone);
+      events = search (arith, append_assoc, old.events);
       all = sym sends.tickets ∙ all_in_flight sent mid under_way all
           ∙ ap₂ (λ n l. sent_of (drop n l) sent.before.value.ledgers) same.1 (ap (λ v. v.items) same.0)
           ∙ ap (λ b. sent_of (drop first.collected first.asks.items) b.value.ledgers) before;
@@ -160,8 +145,7 @@ pub far_in_order : (first sent last : Round) (old mid new : DeskView) → SendsM
 far_in_order first sent last old mid new sends same before under_way all none collects =
     let no_tickets : first.tickets.items ≡ [] = none_of first.tickets.items (omega (arith, none)) in
     let none_collected : first.collected ≡ 0 = omega (arith, none) in
-    let more : sends.more ≡ operations_of sent.tickets.items =
-    sym (sends.tickets ∙ ap (λ l. operations_of l ++ sends.more) no_tickets) in
+    let more : sends.more ≡ operations_of sent.tickets.items = search (arith, rules) in
     record {
       first = collects.first;
       rest = operations_of last.tickets.items;
@@ -169,21 +153,13 @@ far_in_order first sent last old mid new sends same before under_way all none co
           ∙ ap₂ (λ n l. sent_of (drop n l) sent.before.value.ledgers) (same.1 ∙ none_collected) (ap (λ v. v.items) same.0)
           ∙ ap (λ b. sent_of first.asks.items b.value.ledgers) before)
           ∙ collects.tickets;
-      events =
-          collects.events ∙ ap (λ l. l ++ collections collects.first) sends.events ∙ append_assoc old.events (sendings sends.more) (collections collects.first)
-          ∙ ap (λ l. old.events ++ (sendings l ++ collections collects.first)) (more ∙ collects.tickets);
+      events = search (arith, append_assoc, old.events);
     }
 
 -- of a round of which nothing was sent, that is all of it
 pub whole_in_order : (r : Round) (js : List Ask) (old new : DeskView) → SendsThenCollects r old new → sent_count r ≡ 0 → r.before.value ≡ old
     → SameAsks js r.asks.items → GoesAsRound js old new
-whole_in_order r js old new is none before same =
-    let no_tickets : r.tickets.items ≡ [] = none_of r.tickets.items (omega (arith, none)) in
-    let first : r.collected ≡ 0 = omega (arith, none) in
-    let more : is.more ≡ sent_of js old.ledgers =
-    ap (λ l. operations_of l ++ is.more) (sym no_tickets) ∙ is.all ∙ ap (λ n. sent_of (drop n r.asks.items) r.before.value.ledgers) first
-    ∙ ap (λ (d : DeskView). sent_of r.asks.items d.ledgers) before ∙ same_sent js r.asks.items old.ledgers same in
-    is.events ∙ ap (λ l. old.events ++ (sendings is.more ++ collections (operations_of l ++ is.more))) no_tickets ∙ ap (λ l. old.events ++ round_of l) more
+whole_in_order r js old new is none before same = search (arith, none_of, same_sent, r.tickets.items, r.asks.items, old.ledgers)
 
 -- and of the same requests, whatever they were answered
 pub same_in_order : (js ks : List Ask) (old new : DeskView) → SameAsks js ks → GoesAsRound js old new → GoesAsRound ks old new

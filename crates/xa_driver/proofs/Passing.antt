@@ -1,4 +1,5 @@
 -- Branches of a round that are asked nothing.
+use Rattle.std.proofs.Common.{rules}
 use Rattle.xa_base.proofs.{◌≡◌, ◌≢◌, ℕ, ◌+◌, ◌<◌, get_or, true, false, Option, None, Some, List, [], ◌∷◌, length, length-append, refl, sym, ap, ◌∙◌, subst}
 use Rattle.xa_base.proofs.{arith, Bool, MatchOption, slice_get, slice_get-get_or, slice_get_within}
 use Rattle.std.specs.Prelude.{is_none}
@@ -40,8 +41,7 @@ none_passed step r desk x u = record { under_way = u; passed = starts r refl; de
 passed_on : {I : Type 0} {step : Ask → Round → Round → Type 0} {old r new : Round} {first desk now : DeskView} {x y z : I} → Passed step old r first desk x y
     → IsUnderWay new now → Passes step old new → now ≡ desk → z ≡ y → new.before ≡ r.before
     → ((js : List Ask) → SameAsks js r.asks.items → SameAsks js new.asks.items) → Passed step old new first now x z
-passed_on i u more desk_is idle_is before same =
-    record { under_way = u; passed = more; desk_is = desk_is ∙ i.desk_is; idle_is = idle_is ∙ i.idle_is; before = before ∙ i.before; same = λ js s. same js (i.same js s) }
+passed_on i u more desk_is idle_is before same = search (arith, i.same)
 
 -- a step after them, as seen from the first
 pub step_is : {X I : Type 0} {step : Ask → Round → Round → Type 0} {old r : Round} {first desk : DeskView} {x y : I} → Passed step old r first desk x y
@@ -50,8 +50,7 @@ step_is i o P Q h = subst (λ (d : DeskView). MatchOption o (P d) (λ k. Q k d))
 
 pub idles_is : {X I : Type 0} {step : Ask → Round → Round → Type 0} {old r : Round} {first desk : DeskView} {x y : I} → Passed step old r first desk x y
     → (o : Option X) (z : I) (Q : X → DeskView → I → Type 0) → MatchOption o (z ≡ y) (λ k. Q k desk y) → MatchOption o (z ≡ x) (λ k. Q k first x)
-idles_is {I = I} {desk = desk} {x = x} i o z Q h =
-    subst (λ (d : DeskView). MatchOption o (z ≡ x) (λ k. Q k d x)) i.desk_is (subst (λ (w : I). MatchOption o (z ≡ w) (λ k. Q k desk w)) i.idle_is h)
+idles_is {I = I} {desk = desk} {x = x} i o z Q h = search (arith, i.desk_is, i.idle_is)
 
 pub send_passes : {I : Type 0} (by : ℕ → I → I → Type 0) (first : DeskView) (old r new : Round) (desk now : DeskView) (w x y : I) (b : Bool)
     → Passed (SendsNothing first) old r first desk w x → is_passed (next_ask r) ≡ true
@@ -66,8 +65,7 @@ send_passes by first old r new desk now w x y b i unasked step idly u before sam
       | Some k ↦ λ e p s idly.
           let none = none_asked k.op p in
           let still : now ≡ desk = begins_nothing k s.1.ticket desk now none s.1.began in
-          let here : Sends k r new first first =
-          subst (λ (d : DeskView). Sends k r new d d) i.desk_is (subst (λ (d : DeskView). Sends k r new desk d) still s.1) in
+          let here : Sends k r new first first = search (arith, i.desk_is) in
           let long = ap (λ l. length l) s.1.tickets in
           let more = length-append r.tickets.items (s.1.ticket ∷ []) in
           let count = s.1.collected in (
@@ -102,8 +100,7 @@ collect_passes by first old r new desk now w x y b i unasked step idly u before 
           let one : Collects None r new desk now = subst (λ (o : Option TicketView). Collects o r new desk now) nothing s.1 in
           let idle_is : y ≡ x = subst (λ (o : Option TicketView). IdlesToCollect by o desk now x y) nothing idly in
           let still : now ≡ desk = one.ended.0 in
-          let here : Collects None r new first first =
-          subst (λ (d : DeskView). Collects None r new d d) i.desk_is (subst (λ (d : DeskView). Collects None r new desk d) still one) in
+          let here : Collects None r new first first = search (arith, rules) in
           let next : next_collected r ≡ Some k = ap (λ l. asked_first l r) e ∙ there in
           (passed_on i u (passes k r new i.passed none (next, here)) still idle_is before same, let long = ap (λ l. length l) one.tickets in omega (arith, long))
     ] refl unasked step idly

@@ -22,12 +22,7 @@ pub record IsOpen (n : ℕ) (a : LedgerView) : Type 0 where
 pub asked_leaves_open : (a : LedgerView) (op : Option Op) (code : Option Code) (n : ℕ) → IsOpen n a → IsOpen n (asked a op code)
 asked_leaves_open a None code n h = h
 asked_leaves_open a (Some op) None n h = h
-asked_leaves_open a (Some op) (Some c) n h =
-    by_if (IsOpen n) (learnt_shut a) _ _ (λ _. h) (λ _. record {
-      sent = let z = h.sent in omega (arith, length-append a.sent (op ∷ []));
-      open_ = is_collected-push (with_sent a op) (length a.sent) c n
-          ∙ or_from _ _ h.open_ (or_from _ _ (ne_eqb n (length a.sent) (λ e. let z = h.sent in absurd (omega (arith, e)))) refl);
-    })
+asked_leaves_open a (Some op) (Some c) n h = search (arith, length-append, is_collected-push, or_from, ne_eqb, h.sent, a.sent, h.open_)
 
 pub asks_leave_outstanding : (ks : List Ask) (at at' : List LedgerView) → Asks ks at at' → LeavesOutstanding at at'
 asks_leave_outstanding ks at at' asks o out =
@@ -40,29 +35,16 @@ outstanding_chain a b c p q o out = q o (p o out)
 
 -- a desk that keeps what is kept leaves the tickets of what is outstanding
 pub tickets_stay : (old new : DeskView) → KeepsDesk old new → LeavesOutstanding old.ledgers new.ledgers → LeavesTickets old new
-tickets_stay old new keeps out t owned = record {
-  opening = owned.opening ∙ sym (ap (λ (s : DeskSeat). s.lane.opening) keeps.goes_on.seat);
-  thread = owned.thread ∙ sym (ap (λ (s : DeskSeat). s.thread) keeps.goes_on.seat);
-  out = out t.operation owned.out;
-  loose = λ k is. owned.loose k (ap (λ m. finmap.get m k) (sym keeps.kept) ∙ is);
-}
+tickets_stay old new keeps out t owned = search (arith, t.operation, owned.loose)
 
 -- a request to one manager that leaves what is open there leaves what is outstanding
 pub moved_leaves : (m : ℕ) (a' : LedgerView) (old new : DeskView) → Moved m a' old new → ((n : ℕ) → IsOpen n (ledger old.ledgers m) → IsOpen n a')
     → LeavesOutstanding old.ledgers new.ledgers
-moved_leaves m a' old new moved leaves o out =
-    let was : IsOpen o.number (ledger old.ledgers o.manager) = record { sent = out.sent; open_ = out.open_ } in
-    let now : IsOpen o.number (ledger new.ledgers o.manager) = elim (cases_eq o.manager m) [
-      | inl same ↦ rw (same, moved.here) (leaves o.number (rw same at was))
-      | inr apart ↦ rw (moved.others o.manager out.known.positive apart) was
-    ] in
-    record { known = known_by old.ledgers new.ledgers o.manager moved.managers out.known; sent = now.sent; open_ = now.open_ }
+moved_leaves m a' old new moved leaves o out = search (arith, cases_eq, known_by)
 
 -- requests that were collected leave the rest of the desk
 pub rest_kept : (ks : List Ask) (old new : DeskView) → Asks ks old.ledgers new.ledgers → KeepsDesk old new → KeepsTheRest old new
-rest_kept ks old new asks keeps =
-    let left : LeavesOutstanding old.ledgers new.ledgers = asks_leave_outstanding ks old.ledgers new.ledgers asks in
-    record { keeps = keeps; kept = asks_keep ks old new asks keeps; left = left; tickets = tickets_stay old new keeps left; free = as_many_open ks old.ledgers new.ledgers asks }
+rest_kept ks old new asks keeps = search (arith, asks_leave_outstanding, asks_keep, tickets_stay, as_many_open)
 
 -- a desk that is as it was keeps all
 pub rest_same : (old new : DeskView) → new ≡ old → KeepsTheRest old new
@@ -75,10 +57,4 @@ rest_same old new same = subst (KeepsTheRest old) (sym same) (record {
 })
 
 pub rest_chain : (a b c : DeskView) → KeepsTheRest a b → KeepsTheRest b c → KeepsTheRest a c
-rest_chain a b c p q = record {
-  keeps = keeps_chain a b c p.keeps q.keeps;
-  kept = λ all. q.kept (p.kept all);
-  left = outstanding_chain a.ledgers b.ledgers c.ledgers p.left q.left;
-  tickets = λ t owned. q.tickets t (p.tickets t owned);
-  free = q.free ∙ p.free;
-}
+rest_chain a b c p q = search (arith, keeps_chain, outstanding_chain, p.keeps, q.kept, p.kept, a.ledgers, b.ledgers, c.ledgers, p.left, q.tickets, p.tickets)

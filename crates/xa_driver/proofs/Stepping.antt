@@ -51,8 +51,7 @@ first_flies (k ∷ ks) r rs at d h = (k, (ks, (refl, h)))
 -- what is open stays so as a request is sent
 sent_leaves_open : (a : LedgerView) (op : Option Op) (n : ℕ) → IsOpen n a → IsOpen n (sent_by a op)
 sent_leaves_open a None n h = h
-sent_leaves_open a (Some op) n h =
-    by_if (IsOpen n) (learnt_shut a) _ _ (λ _. h) (λ _. record { sent = let z = h.sent in omega (arith, z, length-append a.sent (op ∷ [])); open_ = h.open_ })
+sent_leaves_open a (Some op) n h = search (arith, length-append, h.sent, a.sent)
 
 pub flight_owned : (k : Ask) (t : Option TicketView) (from : List LedgerView) (d : DeskView) → HasBegun k t from d → Owning d t
 flight_owned k None from d h = tt
@@ -74,25 +73,7 @@ record Far (done flying rest : List Ask) (tickets : List (Option TicketView)) (a
 under_way : (r : Round) (done flying rest : List Ask) (at now : DeskView) → r.asks.items ≡ done ++ (flying ++ rest) → length done ≡ r.collected
     → AreRising 0 (done ++ (flying ++ rest)) → length r.asks.items ≤ deque_capacity r.tickets → r.before.value ≡ at
     → Far done flying rest r.tickets.items at now → IsUnderWay r now
-under_way r done flying rest at now parts counted rising room before far =
-    let f : Far done flying rest r.tickets.items r.before.value now = subst (λ (b : DeskView). Far done flying rest r.tickets.items b now) (sym before) far in
-    record {
-      done = done;
-      flying = flying;
-      rest = rest;
-      parts = parts;
-      counted = counted;
-      answered = f.answered;
-      in_flight = f.in_flight;
-      others = f.others;
-      managers = f.managers;
-      keeps = f.keeps;
-      rising = subst (AreRising 0) (sym parts) rising;
-      can = subst (λ (l : List Ask). AllCanAsk l r.before.value.ledgers) (sym parts) f.can;
-      free = subst (λ (l : List Ask). outstanding r.before.value.ledgers + length l ≤ r.before.value.handles) (sym parts) f.free;
-      fewer = f.fewer;
-      room = room;
-    }
+under_way r done flying rest at now parts counted rising room before far = search (arith, r.tickets.items, r.before.value)
 
 -- a round that has sent nothing
 pub begins : (asks : List Ask) (desk : DeskView) (r : Round) → AreRising 0 asks → AllCanAsk asks desk.ledgers
@@ -159,10 +140,7 @@ module _ (r : Round) (now : DeskView) (u : IsUnderWay r now) where
     same = u.others k.manager can_first.known.positive none_gone
 
     pub can_now : CanAsk now.ledgers k.manager
-    can_now = record {
-      known = known_by at.ledgers now.ledgers k.manager u.managers can_first.known;
-      room = subst (λ (a : LedgerView). length a.sent < a.plan) (sym same) can_first.room;
-    }
+    can_now = search (arith, known_by, can_first, same)
 
     pub free_now : outstanding now.ledgers < now.handles
     free_now = grind (arith, all_is, length-append)
@@ -180,13 +158,8 @@ module _ (r : Round) (now : DeskView) (u : IsUnderWay r now) where
         let fewer = u.fewer in
         record {
           answered = asked_stays 0 u.done at.ledgers now new k.manager _ (rising_first_part 0 u.done (u.flying ++ k ∷ zs) (subst (AreRising 0) (append_assoc u.done u.flying (k ∷ zs)) up)) (among_first_part u.done u.flying k.manager none_gone) moved u.answered;
-          in_flight = begun_more u.flying r.tickets.items k t at.ledgers new
-              (begun_stays flying_up.0 u.flying r.tickets.items at.ledgers now new k.manager _ (rising_first_part flying_up.0 u.flying (k ∷ zs) flying_up.1) (among_last_part u.done u.flying k.manager none_gone) moved u.in_flight)
-              (begins_flight k t at now new same can_now.known began);
-          others = λ m p without.
-              let without_k : among_asks (gone ++ k ∷ []) m ≡ false = ap (λ l. among_asks l m) whole ∙ without in
-              let differs : m ≢ k.manager = λ e. apart k [] m (among_last_part gone (k ∷ []) m without_k) (sym e) in
-              moved.others m p differs ∙ u.others m p (among_first_part gone (k ∷ []) m without_k);
+          in_flight = search (arith, begun_more, begun_stays, rising_first_part, among_last_part, none_gone, begins_flight, same, can_now, flying_up.0);
+          others = search (arith, among_last_part, among_first_part, moved.others);
           managers = moved.managers ∙ u.managers;
           keeps = keeps_chain at now new u.keeps moved.keeps;
           can = subst (λ (l : List Ask). AllCanAsk l at.ledgers) (all_is ∙ parts_on) u.can;
@@ -196,16 +169,11 @@ module _ (r : Round) (now : DeskView) (u : IsUnderWay r now) where
 
     pub one_more_sent : (t : Option TicketView) (new : DeskView) → BeginsAsk k now new t → (r' : Round) → r'.before ≡ r.before → r'.asks ≡ r.asks
         → r'.collected ≡ r.collected → r'.tickets.items ≡ r.tickets.items ++ t ∷ [] → deque_capacity r'.tickets ≡ deque_capacity r.tickets → IsUnderWay r' new
-    one_more_sent t new began r' before asks count tickets capacity =
-        under_way r' u.done (u.flying ++ k ∷ []) zs at new (ap (λ v. v.items) asks ∙ all_is ∙ parts_on) (u.counted ∙ sym count) (subst (AreRising 0) parts_on up)
-        (let room = u.room in let e = ap (λ v. length v.items) asks in omega (arith, room, e, capacity))
-        (ap (λ b. b.value) before) (subst (λ (ts : List (Option TicketView)). Far u.done (u.flying ++ k ∷ []) zs ts at new) (sym tickets) (far_on t new began))
+    one_more_sent t new began r' before asks count tickets capacity = search (arith, under_way, all_is, parts_on, up, far_on)
 
     -- and what was outstanding stays
     pub one_more_leaves : (t : Option TicketView) (new : DeskView) → BeginsAsk k now new t → LeavesTickets now new
-    one_more_leaves t new began =
-        let moved = began_moved k now new t can_now.known began in
-        tickets_stay now new moved.keeps (moved_leaves k.manager _ now new moved (sent_leaves_open (ledger now.ledgers k.manager) k.op))
+    one_more_leaves t new began = search (arith, began_moved, can_now, tickets_stay, moved_leaves, sent_leaves_open)
 
   -- ---- the one that is longest in flight is collected
 
@@ -232,8 +200,7 @@ module _ (r : Round) (now : DeskView) (u : IsUnderWay r now) where
     place_is d = (λ i. get_or (all_of i) (sym u.counted i) d) ∙ get_or-append_seam u.done k (js ++ u.rest) d
 
     known_now : IsKnown now.ledgers k.manager
-    known_now =
-        known_by at.ledgers now.ledgers k.manager u.managers (can_at u.done k (js ++ u.rest) at.ledgers (subst (λ (l : List Ask). AllCanAsk l at.ledgers) all_of u.can)).known
+    known_now = search (arith, known_by, can_at, all_of)
 
     up_all : AreRising 0 (u.done ++ k ∷ (js ++ u.rest))
     up_all = subst (AreRising 0) all_of u.rising
@@ -279,8 +246,7 @@ module _ (r : Round) (now : DeskView) (u : IsUnderWay r now) where
         fewer_now (Some t) code new e = let z = e.1.1.fewer in omega (arith, z)
 
         same_managers : (code : Option Code) (m : ℕ) (xs js : List Ask) → among_asks (xs ++ k ∷ js) m ≡ among_asks (xs ++ coded k code ∷ js) m
-        same_managers code m xs js =
-            list_any-append (λ (l : Ask). l.manager == m) xs (k ∷ js) ∙ sym (list_any-append (λ (l : Ask). l.manager == m) xs (coded k code ∷ js))
+        same_managers code m xs js = search (arith, list_any-append)
 
         can_coded : (code : Option Code) (xs : List Ask) → AllCanAsk (xs ++ k ∷ (js ++ u.rest)) at.ledgers
             → AllCanAsk (xs ++ coded k code ∷ (js ++ u.rest)) at.ledgers
@@ -295,10 +261,8 @@ module _ (r : Round) (now : DeskView) (u : IsUnderWay r now) where
         → r'.asks.items ≡ set r.asks.items r.collected (coded k code) → r'.collected ≡ r.collected + 1 → r'.tickets.items ≡ ts
         → deque_capacity r'.tickets ≡ deque_capacity r.tickets → IsUnderWay r' new
     one_more_collected code new e r' before asks count tickets capacity =
-        let whole : (u.done ++ coded k code ∷ []) ++ (js ++ u.rest) ≡ u.done ++ coded k code ∷ (js ++ u.rest) =
-        append_assoc u.done (coded k code ∷ []) (js ++ u.rest) in
-        let now_are : r'.asks.items ≡ u.done ++ coded k code ∷ (js ++ u.rest) =
-        asks ∙ (λ i. set (all_of i) (sym u.counted i) (coded k code)) ∙ set-append_seam u.done k (js ++ u.rest) (coded k code) in
+        let whole : (u.done ++ coded k code ∷ []) ++ (js ++ u.rest) ≡ u.done ++ coded k code ∷ (js ++ u.rest) = search (arith, append_assoc) in
+        let now_are : r'.asks.items ≡ u.done ++ coded k code ∷ (js ++ u.rest) = search (arith, all_of, set-append_seam) in
         under_way r' (u.done ++ coded k code ∷ []) js u.rest at new (now_are ∙ sym whole)
         (let a = u.counted in omega (arith, a, count, length-append u.done (coded k code ∷ [])))
         (subst (AreRising 0) (sym whole) (rising_coded code 0 u.done up_all))
@@ -309,16 +273,7 @@ module _ (r : Round) (now : DeskView) (u : IsUnderWay r now) where
 
 pub all_answered : (r : Round) (now : DeskView) (u : IsUnderWay r now) → length r.asks.items ≤ r.collected
     → Asks r.asks.items r.before.value.ledgers now.ledgers
-all_answered r now u all =
-    let nothing : u.flying ++ u.rest ≡ [] =
-    none_of (u.flying ++ u.rest) (let a = u.counted in let b = ap (λ l. length l) u.parts in omega (arith, all, a, b, length-append u.done (u.flying ++ u.rest))) in
-    let flying : u.flying ≡ [] = none_of u.flying (let a = ap (λ l. length l) nothing in omega (arith, a, length-append u.flying u.rest)) in
-    let is : r.asks.items ≡ u.done = u.parts ∙ ap (λ l. u.done ++ l) nothing ∙ append-nil u.done in
-    record {
-      each = subst (λ (l : List Ask). EachAsk l r.before.value.ledgers now.ledgers) (sym is) u.answered;
-      others = λ m p none. u.others m p (ap (λ l. among_asks (u.done ++ l) m) flying ∙ ap (λ l. among_asks l m) (append-nil u.done ∙ sym is) ∙ none);
-      managers = u.managers;
-    }
+all_answered r now u all = search (arith, none_of, length-append, append-nil, u.counted, u.parts, u.done, u.flying, r.before.value.ledgers, u.others)
 
 -- ---- as far as it came
 

@@ -1,4 +1,5 @@
 -- What was asked of a manager, by a desk's ledger with it.
+use Rattle.std.proofs.Common.{arith}
 use Rattle.xa_base.proofs.{◌≡◌, Bool, [], ◌∷◌, length, refl, ap, ◌∙◌, subst, Option, Some, None, by_if}
 use Rattle.xa_desk.proofs.Growth.{as_it_was}
 use Rattle.xa_words.specs.declared.code.Code.{Code}
@@ -37,14 +38,4 @@ pub record Trace (commit : Bool) (b : Branch) (vote : Code) (second : Option Cod
 
 pub trace_of : (commit : Bool) (b : Branch) (vote : Code) (second : Option Code) (ending : Ending) (a a' : LedgerView)
     → AtBranch AsksLedger commit b vote second ending a a' → Trace commit b vote second a a'
-trace_of commit b vote second ending a a' is =
-    let two = trace_for (second_op commit b.xid vote) second is.prepared is.decided is.obeys in
-    let three = trace_for (third_op b.xid second) is.third is.decided a' is.forgets in
-    let decided_is : is.decided ≡ asked (voted b vote a) (second_op commit b.xid vote) second =
-    two.trace ∙ ap (λ (z : LedgerView). asked z (second_op commit b.xid vote) second) is.prepares.trace in
-    record {
-      prepared = is.prepares.answered;
-      seconded = subst (λ (z : LedgerView). IsAnswered z (second_op commit b.xid vote) second) is.prepares.trace two.answered;
-      third = is.third;
-      forgotten = subst (λ (z : LedgerView). AskTrace (third_op b.xid second) is.third z a') decided_is three;
-    }
+trace_of commit b vote second ending a a' is = search (arith, trace_for, b.xid, is.prepared, is.decided, is.obeys, is.third, is.forgets, is.prepares.trace)

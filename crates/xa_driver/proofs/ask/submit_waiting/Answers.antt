@@ -16,18 +16,13 @@ second_fails false b holds fails = cc
 
 -- what can be asked of a manager that isn't learnt to be shut isn't refused where a handle is free
 reached : (d : DeskView) (m : ℕ) → IsKnown d.ledgers m → learnt_shut (ledger d.ledgers m) ≡ false → reach_refusal d m ≡ None
-reached d m known open_ =
-    ap (λ b. if not b then Some NoSuchManager else (if learnt_shut (ledger d.ledgers m) then Some Shut else None)) (known_true d.ledgers m known)
-    ∙ ap (λ b. if b then Some Shut else None) open_
+reached d m known open_ = search (arith, known_true, d.ledgers)
 
 has_handle : (d : DeskView) → outstanding d.ledgers < d.handles → handle_refusal d ≡ None
 has_handle d free = let few : nat_le d.handles (outstanding d.ledgers) ≡ false = grind (arith, free) in ap (λ b. if b then Some TooMany else None) few
 
 has_room : (d : DeskView) (m : ℕ) → CanAsk d.ledgers m → spent_refusal d m ≡ None
-has_room d m can =
-    let room = can.room in
-    let left : (ledger d.ledgers m).plan - length (ledger d.ledgers m).sent == 0 ≡ false = grind (arith, room) in
-    rw (room_is d.ledgers m can.known, left)
+has_room d m can = search (arith, room_is, can.room, d.ledgers)
 
 allowed : (d : DeskView) (m : ℕ) → CanAsk d.ledgers m → learnt_shut (ledger d.ledgers m) ≡ false → outstanding d.ledgers < d.handles → submit_refusal d m ≡ None
 allowed d m can open_ free = λ i. option_or (reached d m can.known open_ i) (option_or (has_handle d free i) (has_room d m can i))
@@ -41,12 +36,7 @@ another why full (inr (inr (inr e))) = cc
 -- so it isn't while nothing is sent
 never_refused : (first now : DeskView) (m : ℕ) → CanAsk first.ledgers m → outstanding first.ledgers < first.handles → now.ledgers ≡ first.ledgers
     → KeepsDesk first now → false ≡ (is_known first.ledgers m && learnt_shut (ledger first.ledgers m)) → submit_refusal now m ≡ None
-never_refused first now m can free unsent keeps open_ =
-    let handles = keeps.goes_on.handles in
-    let out = ap outstanding unsent in
-    let still : learnt_shut (ledger first.ledgers m) ≡ false =
-    second_fails (is_known first.ledgers m) (learnt_shut (ledger first.ledgers m)) (known_true first.ledgers m can.known) (sym open_) in
-    allowed now m (subst (λ (l : List LedgerView). CanAsk l m) (sym unsent) can) (ap (λ l. learnt_shut (ledger l m)) unsent ∙ still) (omega (arith, free, handles, out))
+never_refused first now m can free unsent keeps open_ = search (arith, second_fails, known_true, allowed, keeps.goes_on.handles, first.ledgers)
 
 pub loop-preserved : goal.loop-preserved
 loop-preserved g c =
@@ -62,10 +52,7 @@ loop-preserved g c =
       finite = search rules;
       unsent = ap (λ (d : DeskView). d.ledgers) full ∙ c.loop.invariant.unsent;
       quiet = ap (λ (d : DeskView). d.events) full ∙ c.loop.invariant.quiet;
-      keeps = record {
-        goes_on = c.desks_go_on.ensures.further _ _ _ before.goes_on c.in-Err.ensures.goes_on;
-        kept = ap (λ (d : DeskView). d.kept) full ∙ before.kept;
-      };
+      keeps = search (arith, c.desks_go_on.ensures.further, before.goes_on);
       waits = (suc n, full ∙ ap (λ (d : DeskView). after_full d m) is, (c.loop.idle, idly, c.idle.ensures));
       idled = search rules;
     }
@@ -78,6 +65,4 @@ unreachable-requires g c =
     another c.in-Err.why (c.in-Err.ensures.full none).0 c.in-NoSuchManager.is
 
 pub returns-in-Ok-clause-waited : goal.returns-in-Ok-clause-waited
-returns-in-Ok-clause-waited g c =
-    let (n, is, idly) = c.loop.invariant.waits in
-    (n, (c.in-Ok.ensures.sent ∙ ap (λ (d : DeskView). submitted d c.args.manager c.args.op.now) is, idly))
+returns-in-Ok-clause-waited g c = search (arith, c.loop.invariant.waits, c.args.manager)

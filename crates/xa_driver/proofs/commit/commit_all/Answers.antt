@@ -1,3 +1,4 @@
+use Rattle.std.proofs.Common.{rules}
 use Rattle.xa_base.proofs.{arith, ◌≡◌, ap, sym, ◌∙◌, subst, map, List, Bool}
 use Rattle.xa_driver.specs.{AppendsOnce, IsUnknown, Ask, SameAsks, first_ask, second_ask, third_ask, Done, Prepared, IsAtRest}
 use Rattle.xa_driver.proofs.Idling.{all_idle}
@@ -68,8 +69,7 @@ returns-in-Ok-clause-appends g c t all =
     let first = c.in_ok-prepared.ensures.prepared in
     let told = c.tell-told.ensures.told in
     let known = c.forget.ensures.forgot.known in
-    let votes : p.known.votes.items ≡ c.forget.result.votes.items =
-    sym (ap (λ k. k.votes.items) known ∙ ap (λ v. v.items) told.votes ∙ ap (λ v. v.items) c.in-Ok.ensures.decided.votes) in
+    let votes : p.known.votes.items ≡ c.forget.result.votes.items = search (arith, rules) in
     let logged : c.in-Ok.decided.known.logged ≡ c.forget.result.logged = sym (ap (λ k. k.logged) known ∙ told.logged) in
     for_log _ _ _ p (λ u ys vs. AppendsOnce g.L.DecisionLog.appends u ys vs c.forget.result.logged c.args.log.now c.decide.new.log) t c.forget.result.votes.items first
     (one_tran c.args.branches.now p.tran t c.requires.may.some first.tran all) votes (rw logged at c.in-Ok.ensures.appends)
@@ -92,8 +92,7 @@ returns-in-Ok-clause-rounds g c =
       seconds = c.tell-told.result.round.asks.items;
       thirds = f.thirds;
       first_same = p.same;
-      second_same = subst (λ (l : List Ask). SameAsks (map (second_ask c.forget.result.commit) l) c.tell-told.result.round.asks.items) same
-          (subst (λ (b : Bool). SameAsks (map (second_ask b) asked) c.tell-told.result.round.asks.items) decided t.same);
+      second_same = search (arith, rules);
       third_same = f.same;
       first = record { asked = p.asked; ordered = same_in_order (map first_ask c.args.branches.now) firsts c.args.desk.now c.prepare_all.new.desk p.same c.in_ok-prepared.ensures.ordered };
       second = record { asked = t.asked; ordered = same_in_order (map (second_ask d.known.commit) asked) c.tell-told.result.round.asks.items c.prepare_all.new.desk c.tell-told.new.desk t.same c.tell-told.ensures.ordered };

@@ -161,5 +161,4 @@ pub returns-in-Err-clause-kept : goal.returns-in-Err-clause-kept
 returns-in-Err-clause-kept g c = (kept_undecided g c).kept
 
 pub returns-in-Err-clause-waited : goal.returns-in-Err-clause-waited
-returns-in-Err-clause-waited g c =
-    first_idles g.I.Idle.leads_by c.args.branches.now _ _ _ c.in_ok-preparing.ensures.preparing.same c.finish-prepared.ensures.waited
+returns-in-Err-clause-waited g c = search (arith, first_idles, c.in_ok-preparing.ensures.preparing.same)

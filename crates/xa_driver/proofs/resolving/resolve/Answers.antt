@@ -51,13 +51,7 @@ loop-before-preserved g c =
       waits =
           next n (n + 1) c.loop-before.outcomes.items more c.resolve_at.new.outcomes.items (c.loop-before.desk, c.loop-before.idle) (c.resolve_at.new.desk, c.resolve_at.new.idle) i.waits refl
           (subst (λ l. ResolvesAt (AsksAndWaits g.I.Idle.leads_by (n + 1)) (g.L.DecisionRecords.records c.args.log.now) (n + 1) l more (c.loop-before.desk, c.loop-before.idle) (c.resolve_at.new.desk, c.resolve_at.new.idle)) c.left.ensures waits) items;
-      many =
-          let all = ap (λ l. length l) items in
-          let parts = length-append c.loop-before.outcomes.items more in
-          let there = ap (λ l. length l) c.left.ensures in
-          let so_many = i.many in
-          let next_one = left_more z n in
-          omega (arith, all, parts, there, so_many, as_many, next_one);
+      many = search (arith, length-append, left_more, c.loop-before.outcomes.items, c.left.ensures, i.many);
       space = let space = i.space in let same = c.resolve_at.ensures.space in omega (arith, space, same);
       managers = alone.managers ∙ i.managers;
       rest = rest_chain c.args.desk.now c.loop-before.desk c.resolve_at.new.desk i.rest (alone_rest _ c.loop-before.desk c.resolve_at.new.desk alone);

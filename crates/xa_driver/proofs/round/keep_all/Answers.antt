@@ -5,14 +5,7 @@ use Rattle.xa_driver.proofs.Leaving.{IsLast, all_kept, kept_one_more, last_more,
 use Rattle.xa_driver.proofs.round.keep_all.Goals as goal
 
 pub loop-place-init : goal.loop-place-init
-loop-place-init c = record {
-  owned = c.requires;
-  kept = λ but. but;
-  left = nothing_left c.args.tickets.now.items c.args.desk.now;
-  goes_on = c.desks_go_on.ensures.same c.args.desk.now;
-  last = λ o among. among;
-  counted = omega arith;
-}
+loop-place-init c = search (arith, nothing_left, c.args.tickets.now.items, c.desks_go_on.ensures.same)
 
 pub loop-place-preserved : goal.loop-place-preserved
 loop-place-preserved c =

@@ -22,8 +22,7 @@ answers-preserved g c =
     let e = c.collect_place.ensures in
     let asks = c.args.self.now.asks.items in
     let r = c.answers.self in
-    let some : length r.tickets.items ≢ 0 =
-    λ n. eqb-false _ 0 (sym c.is_empty.ensures ∙ c.if-not-is_empty.true) (let b = r.tickets.ok.0 in omega (arith, b, n)) in
+    let some : length r.tickets.items ≢ 0 = search (arith, eqb-false, r.tickets.ok.0) in
     let one : OneCollected r c.collect_place.new.self =
     one_collected r c.collect_place.new.self c.answers.desk c.collect_place.new.desk c.collect_place.result e.collects i.all some in
     let b : Bool = is_passed (next_collected r) in

@@ -1,3 +1,4 @@
+use Rattle.std.proofs.Common.{arith}
 use Rattle.xa_base.proofs.{◌≡◌, refl, sym, ap, ◌∙◌, subst, Some, set, slice_get, slice_get-get_or}
 use Rattle.xa_driver.specs.{Ask, IsSameAsk, coded, next_ticket}
 use Rattle.xa_driver.proofs.Gathering.{same_set}
@@ -22,8 +23,7 @@ returns g c =
     let is_mut : c.index_mut.result.now ≡ one.0 = c.index_mut.ensures.value ∙ place_is r desk c.requires t ts first c.index_mut.result.now in
     let entered = ap (set r.asks.items r.collected) c.enter.ensures in
     record {
-      under_way = one_more_collected r desk c.requires t ts first c.end-code.result c.end-code.new.desk (rw is at e.ended) _ refl
-          (entered ∙ ap (λ (k : Ask). set r.asks.items r.collected (coded k c.end-code.result)) is_mut) refl refl c.in-Some.ensures.capacity;
+      under_way = search (arith, one_more_collected, c.requires, c.end-code.result, c.end-code.new.desk, r.asks.items, r.collected);
       collects = matched_some _ _ (next_ticket r) t (ap (λ l. slice_get l 0) first) (
         refl,
         record {
@@ -40,7 +40,6 @@ returns g c =
       );
       waited = matched_some _ _ (next_ticket r) t (ap (λ l. slice_get l 0) first) e.waited;
       before = refl;
-      same = λ js s. same_set js r.asks.items r.collected c.index_mut.result.now _ c.index_mut.ensures.value
-          (subst (IsSameAsk c.index_mut.result.now) (sym c.enter.ensures) (record { manager = refl; xid = refl; vote = refl; op = refl })) s;
+      same = search (arith, same_set, r.asks.items, r.collected, c.index_mut.result.now);
       idled = e.idled;
     }

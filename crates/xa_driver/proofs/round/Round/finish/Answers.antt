@@ -1,3 +1,4 @@
+use Rattle.std.proofs.Common.{arith}
 use Rattle.xa_base.proofs.{subst, ap, ◌∙◌}
 use Rattle.xa_desk.specs.DeskView.{DeskView}
 use Rattle.xa_driver.specs.{KeepsTheRest}

@@ -9,10 +9,7 @@ begin-ticket-requires g c =
     let count : r.collected + c.len.result ≡ sent_count r = let a = c.len.ensures in let b = r.tickets.ok.0 in omega (arith, a, b) in
     let within : r.collected + c.len.result < length r.asks.items = let a = c.if-place-len.false in
     let b = c.len-2.ensures in let d = r.asks.ok.0 in omega (arith, a, b, d) in
-    record {
-      can = can_now r c.args.desk.now c.requires (r.collected + c.len.result) count c.index.result.now within c.index.ensures;
-      free = free_now r c.args.desk.now c.requires (r.collected + c.len.result) count c.index.result.now within c.index.ensures;
-    }
+    search (arith, can_now, free_now, c.args.desk.now, c.requires, c.index.result.now)
 
 pub returns : goal.returns
 returns g c =
@@ -24,8 +21,7 @@ returns g c =
     let count : place ≡ sent_count r = let a = c.len.ensures in let b = r.tickets.ok.0 in omega (arith, a, b) in
     let within : place < length r.asks.items = let a = c.if-place-len.false in
     let b = c.len-2.ensures in let d = r.asks.ok.0 in omega (arith, a, b, d) in
-    let next : next_ask r ≡ Some k =
-    ap (λ n. slice_get r.asks.items n) (sym count) ∙ slice_get-get_or r.asks.items place k within ∙ ap (λ q. Some q) (sym c.index.ensures) in
+    let next : next_ask r ≡ Some k = search (arith, slice_get, slice_get-get_or, r.asks.items) in
     record {
       under_way = one_more_sent r desk c.requires place count k within c.index.ensures c.begin-ticket.result c.begin-ticket.new.desk began _ refl refl refl c.push_back_reserved.ensures.items c.push_back_reserved.ensures.capacity;
       sends = matched_some _ _ (next_ask r) k next (

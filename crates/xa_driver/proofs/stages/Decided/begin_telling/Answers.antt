@@ -1,3 +1,4 @@
+use Rattle.std.proofs.Common.{arith}
 use Rattle.xa_base.proofs.{◌∙◌, refl, subst, sym, map}
 use Rattle.xa_driver.specs.{Ask, SameAsks, second_ask}
 use Rattle.xa_driver.proofs.Gathering.{same_itself}
@@ -18,9 +19,4 @@ returns-clause-telling c =
     let is =
     c.again.ensures.asks_are
     ∙ lent (second_ask c.args.self.known.commit) (λ k. refl) r.asks.len r.asks.items c.as_mut_slice.result.now c.second_round.new.asks _ r.asks.ok.0 c.second_round.ensures c.as_mut_slice.ensures.value in
-    record {
-      before = c.again.ensures.before;
-      same = subst (SameAsks (map (second_ask c.args.self.known.commit) r.asks.items)) (sym is) (same_itself (map (second_ask c.args.self.known.commit) r.asks.items));
-      endings = remade_endings (second_ask c.args.self.known.commit) (λ k. refl) r c.again.new.self is c.args.self.known c.requires.endings;
-      known = refl;
-    }
+    search (arith, same_itself, remade_endings, c.again.new.self, c.args.self.known)

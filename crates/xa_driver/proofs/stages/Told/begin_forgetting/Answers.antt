@@ -1,3 +1,4 @@
+use Rattle.std.proofs.Common.{arith}
 use Rattle.xa_base.proofs.{◌∙◌, refl, subst, sym, map}
 use Rattle.xa_driver.specs.{Ask, SameAsks, third_ask}
 use Rattle.xa_driver.proofs.Gathering.{same_itself}
@@ -18,8 +19,4 @@ returns-clause-forgetting c =
     let is =
     c.again.ensures.asks_are
     ∙ lent third_ask (λ k. refl) r.asks.len r.asks.items c.as_mut_slice.result.now c.third_round.new.asks _ r.asks.ok.0 c.third_round.ensures c.as_mut_slice.ensures.value in
-    record {
-      before = c.again.ensures.before;
-      same = subst (SameAsks (map third_ask r.asks.items)) (sym is) (same_itself (map third_ask r.asks.items));
-      known = refl;
-    }
+    search (arith, same_itself)
