@@ -64,9 +64,6 @@ goes_further a b c p q = record {
 
 -- ---- sending
 
-abbrev seat_of : Sending Request → EndSeat
-seat_of s = end_seat s
-
 -- the ledger that is put has the plan of the one that stood there
 put_plans : (at : List LedgerView) (m : ℕ) (a : LedgerView) → plan_of a ≡ plan_of (ledger at m) → plans (put_ledger at m a) ≡ plans at
 put_plans at m a same = map-set_same plan_of at (m - 1) a no_ledger same

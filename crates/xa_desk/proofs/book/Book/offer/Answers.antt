@@ -5,9 +5,6 @@ use Rattle.xa_desk.specs.{desk_of, after_sent, next_operation, logged, Sent, nex
 use Rattle.xa_lane.proofs.Senders.{at_place-set}
 use Rattle.xa_desk.proofs.book.Book.offer.Goals as goal
 
-abbrev request_of : ℕ → ℕ → Op → Request
-request_of t n op = record { thread = t; number = n; op = op }
-
 pub returns-in-Err-clause-full : goal.returns-in-Err-clause-full
 returns-in-Err-clause-full g c =
     let lanes = rw (← c.self.view_is) at c.requires.lanes in
