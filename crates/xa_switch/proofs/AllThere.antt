@@ -1,12 +1,12 @@
 -- In a settled opening every manager is there.
 use Rattle.xa_base.proofs.{◌≡◌, ℕ, zero, ◌-◌, ◌≤◌, true, false, ◌==◌, List, [], ◌∷◌, length, map, refl, sym, ap, ◌∙◌, subst, arith, cond, option_map, Some}
-use Rattle.xa_base.proofs.{None, ⊎_elim, Contains, list_any, eqb-true, length-map, slice_get_within, All-contains}
+use Rattle.xa_base.proofs.{None, inl, inr, not_both, Contains, eqb-true, length-map, slice_get_within, All-contains}
 use Rattle.xa_desk.specs.LedgerView.{LedgerView}
-use Rattle.xa_desk.specs.{EndedView, IsEnded}
+use Rattle.xa_desk.specs.{EndedView}
 use Rattle.xa_worker.specs.{Served}
 use Rattle.xa_switch.specs.{has_worker, ManagerPart, ReadyPart, find_manager, settling, manager_part, ready_part, IsWhole, managers_in, parts_of, find_ready}
 use Rattle.xa_switch.proofs.Lists.{searched}
-use Rattle.xa_switch.proofs.Pieces.{Joint, a_worker, sends_at, worker_number}
+use Rattle.xa_switch.proofs.Pieces.{Joint, a_worker, known_at}
 use Rattle.xa_base.specs.{IsUpTo}
 
 pub parts_ready : (ws : List Served) → parts_of (map ready_part ws) ≡ map manager_part ws
@@ -16,11 +16,10 @@ parts_ready (w ∷ ws) = ap (λ l. manager_part w ∷ l) (parts_ready ws)
 -- a manager is found with its memory
 pub find_parts : (m : ℕ) (cs : List ReadyPart) → find_manager m (parts_of cs) ≡ option_map (λ (c : ReadyPart). c.part) (find_ready m cs)
 find_parts m [] = refl
-find_parts m (c ∷ cs) =
-    elim (c.part.number == m) as (λ b. cond b (Some c.part) (find_manager m (parts_of cs)) ≡ option_map (λ (r : ReadyPart). r.part) (cond b (Some c) (find_ready m cs))) [
-      | true ↦ refl
-      | false ↦ find_parts m cs
-    ]
+find_parts m (c ∷ cs) = elim (c.part.number == m) as (λ b. cond b (Some c.part) (find_manager m (parts_of cs)) ≡ option_map (λ (r : ReadyPart). r.part) (cond b (Some c) (find_ready m cs))) [
+  | true ↦ refl
+  | false ↦ find_parts m cs
+]
 
 module _ (d : EndedView) (ds : List EndedView) (ws : List Served) (j : Joint (d ∷ ds) ws) where
   first : Contains (d ∷ ds) d
@@ -29,39 +28,29 @@ module _ (d : EndedView) (ds : List EndedView) (ws : List Served) (j : Joint (d 
   counted : managers_in (settling (d ∷ ds) ws) ≡ length d.ledgers
   counted = length-map d.ledgers (λ (a : LedgerView). a.carries_async)
 
-  some : 1 ≤ length d.ledgers
-  some =
-      let w = a_worker (d ∷ ds) ws j.all in
-      let e = sends_at (d ∷ ds) ws j.all d w.0 first w.1 in
-      let below = slice_get_within d.requests (w.0.number - 1) e.0 e.1 in
-      let known : IsEnded d = All-contains IsEnded (d ∷ ds) d j.desks first in
-      let many = known.tied.ends.number in
-      omega (arith, below, many)
+  -- a worker's number is up to the number of the first desk's ledgers
+  numbered : (w : Served) → Contains ws w → IsUpTo (length d.ledgers) w.number
+  numbered w cw = let known = known_at (d ∷ ds) ws j d w first cw in (known.positive, known.within)
 
   there : (m : ℕ) → 1 ≤ m → m ≤ length d.ledgers → (p : ManagerPart) × (find_manager m (map manager_part ws) ≡ Some p)
   there m positive below =
       let has : has_worker m ws ≡ true = j.all.whole.workers 0 d (omega arith) m positive below in
-      ⊎_elim (λ (x : (v : Served) × Contains ws v × ((v.number == m) ≡ true) × (find_manager m (map manager_part ws) ≡ Some (manager_part v))). (manager_part x.0, x.3))
-      (λ (x : (find_manager m (map manager_part ws) ≡ None) × (list_any (λ (v : Served). v.number == m) ws ≡ false)). let none = x.1 in cc)
-      (searched manager_part (λ (q : ManagerPart). q.number == m) ws)
+      elim (searched manager_part (λ (q : ManagerPart). q.number == m) ws) [ inl x ↦ (manager_part x.0, x.3) | inr x ↦ let none = x.1 in cc ]
 
   only : (m : ℕ) (p : ManagerPart) → find_manager m (map manager_part ws) ≡ Some p → IsUpTo (length d.ledgers) m
-  only m p found =
-      ⊎_elim
-      (λ (x : (v : Served) × Contains ws v × ((v.number == m) ≡ true) × (find_manager m (map manager_part ws) ≡ Some (manager_part v))).
-      let number = eqb-true x.0.number m x.2 in
-      let e = sends_at (d ∷ ds) ws j.all d x.0 first x.1 in
-      let below = slice_get_within d.requests (x.0.number - 1) e.0 e.1 in
-      let known : IsEnded d = All-contains IsEnded (d ∷ ds) d j.desks first in
-      let many = known.tied.ends.number in
-      let positive = worker_number (d ∷ ds) ws j.all x.0 x.1 in
-      (omega (arith, number, positive), omega (arith, number, below, many, positive)))
-      (λ (x : (find_manager m (map manager_part ws) ≡ None) × (list_any (λ (v : Served). v.number == m) ws ≡ false)). absurd (let e : None ≡ Some p = sym x.0 ∙ found in cc))
-      (searched manager_part (λ (q : ManagerPart). q.number == m) ws)
+  only m p found = elim (searched manager_part (λ (q : ManagerPart). q.number == m) ws) [
+    | inl x ↦ subst (IsUpTo (length d.ledgers)) (eqb-true x.0.number m x.2) (numbered x.0 x.1)
+    | inr x ↦ absurd (not_both _ p x.0 found)
+  ]
 
   whole : IsWhole (settling (d ∷ ds) ws)
   whole = record {
-    few = let most = j.few_managers 0 d (omega arith) in let one = some in let n = counted in (omega (arith, one, n), omega (arith, most, n));
+    few =
+        let w = a_worker (d ∷ ds) ws j.all in
+        let most = j.few_managers 0 d (omega arith) in
+        let (low, high) = numbered w.0 w.1 in
+        let n = counted in
+        (omega (arith, low, high, n), omega (arith, most, n));
     there = λ m positive below. let n = counted in there m positive (omega (arith, below, n));
     only = λ m p found. subst (λ n. IsUpTo n m) (sym counted) (only m p found);
   }

@@ -1,18 +1,10 @@
 -- Rows that are dealt into columns.
 use Rattle.xa_base.proofs.{◌≡◌, ℕ, zero, suc, ◌+◌, ◌<◌, ◌≤◌, List, [], ◌∷◌, ◌++◌, length, map, set, get_or, slice_get, drop, refl, sym, ap, ◌∙◌, subst, arith}
 use Rattle.xa_base.proofs.{length-append, ◌⊎◌, ⊎_elim, inl, inr, Some, All, get_or-map as get_or-map', length-map, option_map, into_iter_items, into_iter_len}
-use Rattle.xa_base.proofs.{slice_get_within, slice_get-map, slice_get-get_or}
+use Rattle.xa_base.proofs.{slice_get_within, slice_get-map, slice_get-get_or, got_push, map-append, All-map, all_unmapped}
 use Rattle.std.proofs.lemmas.List.{map-set}
-use Rattle.std.proofs.Math.ListN.{get_or-map}
-use Rattle.std.proofs.Math.Seq.{map-set_same}
 use Rattle.std.specs.declared.vec.IntoIter.{IntoIter}
 use Rattle.xa_switch.specs.{put_row, Each, AreLanes}
-
-pub no_element : {X : Type 0} (k : ℕ) (x : X) → slice_get [] k ≡ Some x → ⊥
-no_element k x e = cc
-
-nothing_left : {X : Type 0} (x : X) (ys : List X) → [] ≡ x ∷ ys → ⊥
-nothing_left x ys e = cc
 
 module _ {X : Type 0} where
   pub put_none : (C : List (List X)) → put_row C [] ≡ C
@@ -25,39 +17,14 @@ module _ {X : Type 0} where
   put_row_more (c ∷ cs) [] x h = ap (λ l. (c ++ x ∷ []) ∷ l) (put_none cs)
   put_row_more (c ∷ cs) (y ∷ Y) x h = ap (λ l. (c ++ y ∷ []) ∷ l) (put_row_more cs Y x (omega arith))
 
-  pub put_row_at : (C : List (List X)) (Y : List X) (d : List X) → get_or (put_row C Y) (length Y) d ≡ get_or C (length Y) d
-  put_row_at [] Y d = refl
-  put_row_at (c ∷ cs) [] d = refl
-  put_row_at (c ∷ cs) (y ∷ Y) d = put_row_at cs Y d
-
-  module _ {V : Type 0} (items : V → List X) (cap : V → ℕ) (C₀ C : List V) (Y : List X) (d : V) (dealt : map items C ≡ put_row (map items C₀) Y)
-      (caps : map cap C ≡ map cap C₀) where
-    same_items : items (get_or C (length Y) d) ≡ items (get_or C₀ (length Y) d)
-    same_items =
-        sym (get_or-map items C (length Y) d) ∙ ap (λ l. get_or l (length Y) (items d)) dealt ∙ put_row_at (map items C₀) Y (items d)
-        ∙ get_or-map items C₀ (length Y) d
-
-    same_cap : cap (get_or C (length Y) d) ≡ cap (get_or C₀ (length Y) d)
-    same_cap = sym (get_or-map cap C (length Y) d) ∙ ap (λ l. get_or l (length Y) (cap d)) caps ∙ get_or-map cap C₀ (length Y) d
-
-    -- a column that no element of this row was dealt to yet has room
-    pub room_there : length Y < length C₀ → All (λ c. length (items c) < cap c) C₀ → length (items (get_or C (length Y) d)) < cap (get_or C (length Y) d)
-    room_there below room =
-        let a = ap length same_items in
-        let b = same_cap in
-        let h = room (length Y) d below in
-        omega (arith, a, b, h)
-
-    pub dealt_more : (x : X) (c : V) → length Y < length C₀ → items c ≡ items (get_or C (length Y) d) ++ x ∷ []
-        → map items (set C (length Y) c) ≡ put_row (map items C₀) (Y ++ x ∷ [])
-    dealt_more x c below e =
-        let m = length-map C₀ items in
-        map-set items C (length Y) c
-        ∙ (λ i. set (dealt i) (length Y) ((e ∙ ap (λ l. l ++ x ∷ []) (same_items ∙ sym (get_or-map' items C₀ (length Y) d [] below))) i))
-        ∙ sym (put_row_more (map items C₀) Y x (omega (arith, m)))
-
-    pub cap_more : (c : V) → cap c ≡ cap (get_or C (length Y) d) → map cap (set C (length Y) c) ≡ map cap C₀
-    cap_more c e = map-set_same cap C (length Y) c d e ∙ caps
+  -- one element more of a row, at the end of a column that no element of the row was dealt to
+  pub dealt_more : {V : Type 0} (items : V → List X) (C₀ C : List V) (Y : List X) (d : V) → map items C ≡ put_row (map items C₀) Y → (x : X) (c : V)
+      → length Y < length C₀ → items c ≡ items (get_or C₀ (length Y) d) ++ x ∷ [] → map items (set C (length Y) c) ≡ put_row (map items C₀) (Y ++ x ∷ [])
+  dealt_more items C₀ C Y d dealt x c below e =
+      let m = length-map C₀ items in
+      map-set items C (length Y) c
+      ∙ (λ i. set (dealt i) (length Y) ((e ∙ ap (λ l. l ++ x ∷ []) (sym (get_or-map' items C₀ (length Y) d [] below))) i))
+      ∙ sym (put_row_more (map items C₀) Y x (omega (arith, m)))
 
 pub length_put : {X : Type 0} (C : List (List X)) (row : List X) → length (put_row C row) ≡ length C
 length_put [] row = refl
@@ -66,24 +33,18 @@ length_put (c ∷ cs) (y ∷ row) = ap suc (length_put cs row)
 
 -- ---- elements by their places
 
-pub snoc_cases : {X : Type 0} (xs : List X) (x : X) (k : ℕ) (y : X) → slice_get (xs ++ x ∷ []) k ≡ Some y
-    → (slice_get xs k ≡ Some y) ⊎ ((k ≡ length xs) × (x ≡ y))
-snoc_cases [] x zero y e = let f : x ≡ y = cc in inr (refl, f)
-snoc_cases [] x (suc k) y e = cc
-snoc_cases (z ∷ xs) x zero y e = inl e
-snoc_cases (z ∷ xs) x (suc k) y e =
-    ⊎_elim (λ (h : slice_get xs k ≡ Some y). inl h) (λ (h : (k ≡ length xs) × (x ≡ y)). inr (ap suc h.0, h.1)) (snoc_cases xs x k y e)
-
 pub each_push : {X : Type 0} (P : ℕ → X → Type 0) (xs : List X) (x : X) → Each P xs → P (length xs) x → Each P (xs ++ x ∷ [])
-each_push P xs x each last k y e =
-    ⊎_elim (λ (h : slice_get xs k ≡ Some y). each k y h)
-    (λ (h : (k ≡ length xs) × (x ≡ y)). subst (λ n. P n y) (sym h.0) (subst (P (length xs)) h.1 last))
-    (snoc_cases xs x k y e)
+each_push P xs x each last k y e = elim (got_push xs x k y e) [ inl before ↦ each k y before | inr here ↦ rw (here.0, here.1) last ]
+
+-- one element more, of those that a function makes
+pub each_more : {A B : Type 0} (P : ℕ → B → Type 0) (f : A → B) (xs : List A) (x : A) → Each P (map f xs) → P (length xs) (f x) → Each P (map f (xs ++ x ∷ []))
+each_more P f xs x before here =
+    subst (Each P) (sym (map-append f xs (x ∷ []))) (each_push P (map f xs) (f x) before (subst (λ n. P n (f x)) (sym (length-map xs f)) here))
 
 -- what a column is after a row
 pub put_cases : {X : Type 0} (C : List (List X)) (row : List X) (k : ℕ) (c' : List X) → length row ≡ length C → slice_get (put_row C row) k ≡ Some c'
     → (c : List X) × (x : X) × (slice_get C k ≡ Some c) × (slice_get row k ≡ Some x) × (c' ≡ c ++ x ∷ [])
-put_cases [] row k c' e at = absurd (no_element k c' at)
+put_cases [] row k c' e at = cc
 put_cases (c ∷ cs) [] k c' e at = absurd (omega (arith, e))
 put_cases (c ∷ cs) (x ∷ row) zero c' e at = let f : (c ++ x ∷ []) ≡ c' = cc in (c, x, refl, refl, sym f)
 put_cases (c ∷ cs) (x ∷ row) (suc k) c' e at = put_cases cs row k c' (omega (arith, e)) at
@@ -109,18 +70,16 @@ module _ {S R : Type 0} (IsReceiver : ℕ → R → Type 0) (IsSender : ℕ → 
         dealt = λ k j c' s q at at_s at_r.
             let p = put_cases C row k c' full at in
             let before = is.deep k p.0 p.2 in
-            ⊎_elim
-            (λ (x : slice_get p.0 j ≡ Some s).
-            ⊎_elim (λ (y : slice_get rs j ≡ Some q). is.dealt k j p.0 s q p.2 x y)
-            (λ (y : (j ≡ length rs) × (r ≡ q)). absurd (let low = slice_get_within p.0 j s x in let e = y.0 in omega (arith, low, before, count, e)))
-            (snoc_cases rs r j q at_r))
-            (λ (x : (j ≡ length p.0) × (p.1 ≡ s)).
-            ⊎_elim (λ (y : slice_get rs j ≡ Some q). absurd (let low = slice_get_within rs j q y in let e = x.0 in omega (arith, low, before, count, e)))
-            (λ (y : (j ≡ length rs) × (r ≡ q)).
-            let place : j ≡ lanes = y.0 ∙ count in
-            subst (λ n. IsSender k n s q) (sym place) (subst (IsSender k lanes s) y.1 (subst (λ z. IsSender k lanes z r) x.1 (each k p.1 p.3))))
-            (snoc_cases rs r j q at_r))
-            (snoc_cases p.0 p.1 j s (ap (λ l. slice_get l j) (sym p.4) ∙ at_s));
+            elim (got_push p.0 p.1 j s (ap (λ l. slice_get l j) (sym p.4) ∙ at_s)) [
+              | inl x ↦ elim (got_push rs r j q at_r) [
+                | inl y ↦ is.dealt k j p.0 s q p.2 x y
+                | inr y ↦ absurd (let low = slice_get_within p.0 j s x in let e = y.0 in omega (arith, low, before, count, e))
+              ]
+              | inr x ↦ elim (got_push rs r j q at_r) [
+                | inl y ↦ absurd (let low = slice_get_within rs j q y in let e = x.0 in omega (arith, low, before, count, e))
+                | inr y ↦ let place : j ≡ lanes = y.0 ∙ count in rw (place, x.1, y.1) (each k p.1 p.3)
+              ]
+            ];
       }
 
 -- ---- columns with room
@@ -138,20 +97,14 @@ module _ {X V : Type 0} (items : V → List X) (cap : V → ℕ) where
 
 -- columns whose capacities stay keep their room
 pub room_stays : {V : Type 0} (cap : V → ℕ) (C D : List V) (most : ℕ) → map cap D ≡ map cap C → All (λ c. most ≤ cap c) C → All (λ c. most ≤ cap c) D
-room_stays cap C D most same room k d within =
-    let many = ap length same in
-    let many_d = length-map D cap in
-    let many_c = length-map C cap in
-    let here = room k d (omega (arith, within, many, many_d, many_c)) in
-    let is : cap (get_or D k d) ≡ cap (get_or C k d) = sym (get_or-map cap D k d) ∙ ap (λ l. get_or l k (cap d)) same ∙ get_or-map cap C k d in
-    omega (arith, here, is)
+room_stays cap C D most same room = all_unmapped cap (λ n. most ≤ n) D (subst (All (λ n. most ≤ n)) (sym same) (All-map (λ n. most ≤ n) cap C room))
 
 -- ---- a list that is taken from its front
 
 -- what is left behind k elements begins with element k
 pub next_left : {X : Type 0} (xs ys : List X) (k : ℕ) (x : X) → drop k xs ≡ x ∷ ys → (slice_get xs k ≡ Some x) × (drop (k + 1) xs ≡ ys)
-next_left [] ys zero x e = absurd (nothing_left x ys e)
-next_left [] ys (suc k) x e = absurd (nothing_left x ys e)
+next_left [] ys zero x e = cc
+next_left [] ys (suc k) x e = cc
 next_left (z ∷ zs) ys zero x e = let f : z ≡ x = cc in let g : zs ≡ ys = cc in (ap Some f, g)
 next_left (z ∷ zs) ys (suc k) x e =
     let rest = next_left zs ys k x e in

@@ -4,7 +4,6 @@ use Rattle.xa_base.proofs.{arith, length-append, vec_capacity, Some, All, AllPai
 use Rattle.xa_base.proofs.{length-map, map-append, All-push, next_place, taken_next}
 use Rattle.std.specs.declared.vec.IntoIter.{IntoIter}
 use Rattle.std.proofs.lemmas.List.{map-set}
-use Rattle.std.proofs.Math.ListN.{get_or-map}
 use Rattle.xa_switch.specs.{put_row, dealt, column, HasTaken, HasRoom, TakesIn, Gathered}
 use Rattle.xa_switch.proofs.Dealing.{length_put, room_stays}
 use Rattle.xa_switch.proofs.Lists.{In, in_front, in_back}
@@ -76,17 +75,14 @@ module _ {X : Type 0} where
   dealt_short C (row ∷ rows) n k h = let r = dealt_short (put_row C row) rows (n + 1) k (put_short C row n k h) in omega (arith, r)
 
   -- columns with room for as many as there are rows have room for one row more
-  pub room_for_row : {V : Type 0} (items : V → List X) (cap : V → ℕ) (C₀ C : List V) (rows : List (List X)) (m n : ℕ)
-      → map items C ≡ dealt (replicate m []) rows → map cap C ≡ map cap C₀ → All (λ c. n ≤ cap c) C₀ → length rows < n
-      → All (λ c. length (items c) < cap c) C
-  room_for_row items cap C₀ C rows m n dealt_is caps room few k d below =
-      let many : length C ≡ length C₀ = sym (length-map C cap) ∙ ap length caps ∙ length-map C₀ cap in
+  pub room_for_row : {V : Type 0} (items : V → List X) (cap : V → ℕ) (C : List V) (rows : List (List X)) (m n : ℕ)
+      → map items C ≡ dealt (replicate m []) rows → All (λ c. n ≤ cap c) C → length rows < n → All (λ c. length (items c) < cap c) C
+  room_for_row items cap C rows m n dealt_is room few k d below =
       let short = dealt_short (replicate m []) rows 0 k (subst (λ l. length l ≤ 0) (sym (column_none m k)) (omega arith)) in
       let here : length (items (get_or C k d)) ≡ length (column (dealt (replicate m []) rows) k) =
       ap length (sym (get_or-map' items C k d [] below) ∙ ap (λ l. get_or l k []) dealt_is) in
-      let cap_is : cap (get_or C k d) ≡ cap (get_or C₀ k d) = sym (get_or-map cap C k d) ∙ ap (λ l. get_or l k (cap d)) caps ∙ get_or-map cap C₀ k d in
-      let deep = room k d (omega (arith, many)) in
-      omega (arith, short, here, cap_is, deep, few)
+      let deep = room k d below in
+      omega (arith, short, here, deep, few)
 
 module _ {V X : Type 0} (items : V → List X) where
   -- a list of which another was replaced
@@ -104,8 +100,8 @@ pub record Gathers {E R P X Z : Type 0} (f : X → List E) (g : X → ℕ × R) 
   pub counted : into_iter_len it ≡ length (into_iter_items it)
   pub taken : HasTaken (length xs) (map f Y) (map g Y) (map h Y) r
 
-module _ {E R P X Z : Type 0} (f : X → List E) (g : X → ℕ × R) (h : X → P) (xs Y : List X) (it it' : IntoIter X Z) (x : X) (r : Gathered E R P)
-    (so : Gathers f g h xs Y it r) (next : into_iter_items it ≡ x ∷ into_iter_items it') where
+module _ {E R P X Z : Type 0} {f : X → List E} {g : X → ℕ × R} {h : X → P} {xs Y : List X} {it : IntoIter X Z} {r : Gathered E R P}
+    (so : Gathers f g h xs Y it r) (it' : IntoIter X Z) (x : X) (next : into_iter_items it ≡ x ∷ into_iter_items it') where
   -- there is room for one more
   pub room_left : HasRoom r
   room_left =
@@ -114,7 +110,7 @@ module _ {E R P X Z : Type 0} (f : X → List E) (g : X → ℕ × R) (h : X →
       let few : length Y < length xs = omega (arith, given, more, length-append Y (into_iter_items it)) in
       let taken = so.taken in
       record {
-        columns = room_for_row (λ c. c.items) (λ c. vec_capacity c) r.columns.items r.columns.items (map f Y) 8 (length xs) taken.columns refl taken.deep
+        columns = room_for_row (λ c. c.items) (λ c. vec_capacity c) r.columns.items (map f Y) 8 (length xs) taken.columns taken.deep
             (let l = length-map Y f in omega (arith, l, few));
         lanes = let l = length-map Y g in let e = ap length taken.lanes in let c = taken.lanes_room in omega (arith, l, e, c, few);
         parts = let l = length-map Y h in let e = ap length taken.parts in let c = taken.parts_room in omega (arith, l, e, c, few);

@@ -9,7 +9,7 @@ use Rattle.xa_tables.proofs.Reopening.{new_opens, accounts_new}
 use Rattle.xa_worker.specs.{Entry, requests, codes_in}
 use Rattle.xa_switch.specs.{ManagerPart, FollowsTables, IsSettled, find_manager, journal_in, value_in, IsOpenedWith, IsSumOver, fate_in, first_of, history}
 use Rattle.xa_switch.specs.Settling.{Settling}
-use Rattle.xa_switch.proofs.Lists.{found}
+use Rattle.xa_switch.proofs.Lists.{found, some_of}
 
 -- entries with the codes of their places
 coded_by : (J : List Entry) (T : Tables) → codes_in J ≡ codes (requests J) T → J ≡ coded (requests J) T
@@ -25,11 +25,9 @@ follows_part s m p e h =
     let f : FollowsTables p = All-contains FollowsTables s.managers p h.tables (found (λ q. q.number == m) s.managers p e).0 in
     record {
       opened = f.opened;
-      codes = ap journal_in e ∙ coded_by p.journal p.first f.coded ∙ sym (ap (λ (o : Option ManagerPart). coded (requests (journal_in o)) p.first) e);
-      fates = λ x g. ap (fate_in x g) e ∙ sym (ap (λ (o : Option ManagerPart). fate x g (requests (journal_in o)) p.first) e);
-      values = λ k.
-          ap (value_in k) e ∙ ap (λ (T : Tables). finmap.get T.values k) f.left
-          ∙ sym (ap (λ (o : Option ManagerPart). finmap.get (tables_after (requests (journal_in o)) p.first).values k) e);
+      codes = rw e (coded_by p.journal p.first f.coded);
+      fates = λ x g. rw e;
+      values = λ k. rw e (ap (λ (T : Tables). finmap.get T.values k) f.left);
     }
 
 follows_in : (s : Settling) (m : ℕ) (o : Option ManagerPart) → find_manager m s.managers ≡ o → IsSettled s → (T : Tables) × IsOpenedWith s m T
@@ -37,10 +35,9 @@ follows_in s m None e h = (
   opening [],
   record {
     opened = new_opens (opening []) (accounts_new []);
-    codes = ap journal_in e ∙ sym (ap (λ (o : Option ManagerPart). coded (requests (journal_in o)) (opening [])) e);
-    fates = λ x g. ap (fate_in x g) e ∙ sym (ap (λ (o : Option ManagerPart). fate x g (requests (journal_in o)) (opening [])) e);
-    values = λ k. ap (value_in k) e
-        ∙ sym (ap (λ (o : Option ManagerPart). finmap.get (tables_after (requests (journal_in o)) (opening [])).values k) e ∙ finmap.get-empty key_cmp k);
+    codes = rw e;
+    fates = λ x g. rw e;
+    values = λ k. rw e (sym (finmap.get-empty key_cmp k));
   },
 )
 follows_in s m (Some p) e h = (p.first, follows_part s m p e h)
@@ -50,11 +47,7 @@ follows s m h = follows_in s m (find_manager m s.managers) refl h
 
 -- there is one that began with these
 pub begun : (s : Settling) (m : ℕ) (T : Tables) → first_of s m ≡ Some T → (p : ManagerPart) × (find_manager m s.managers ≡ Some p) × (p.first ≡ T)
-begun s m T =
-    elim (find_manager m s.managers) as (λ o. find_manager m s.managers ≡ o → option_map (λ (q : ManagerPart). q.first) o ≡ Some T → (p : ManagerPart) × (find_manager m s.managers ≡ Some p) × (p.first ≡ T)) [
-      | None ↦ λ e f. cc
-      | Some p ↦ λ e f. (p, e, same_Some p.first T f)
-    ] refl
+begun s m T = some_of (λ (q : ManagerPart). q.first) (find_manager m s.managers) T
 
 pub follows_first : (s : Settling) (m : ℕ) (T : Tables) → IsSettled s → first_of s m ≡ Some T → IsOpenedWith s m T
 follows_first s m T h is =

@@ -12,9 +12,7 @@ pub mod Mixing
 pub mod Ledgers
 pub mod Journaled
 pub mod OfPlans
-mod NewlyKept
 pub mod Worth
 mod AllThere
-mod Planned
-mod Scanning
+mod NewManagers
 mod Retaken

@@ -1,40 +1,15 @@
 -- Desks and workers of one opening.
 use Rattle.xa_base.proofs.{◌≡◌, ℕ, suc, ◌+◌, ◌≤◌, List, [], ◌∷◌, length, slice_get, refl, sym, ap, ◌∙◌, subst, arith, map, Some, All, length-map}
-use Rattle.xa_base.proofs.{slice_get_within, All-map, got, all_from, was_mapped}
-use Rattle.xa_switch.specs.{Each, AreLanes, AreNewLanes, IsRequestSender, IsCompletionSender, desk_parts, worker_parts, DesksFit, WorkersFit, IsDeskOf}
-use Rattle.xa_switch.specs.{IsWorkerOf, IsLaidOut, IsNewDesk, IsNewWorker, ShareNewLanes, AreOfOneOpening, Setup, setup, manager_room, new_manager}
+use Rattle.xa_base.proofs.{slice_get_within, All-map, got, got_map, all_from, all_at}
+use Rattle.xa_switch.specs.{Each, AreLanes, IsRequestSender, IsCompletionSender, desk_parts, worker_parts, DesksFit, WorkersFit, IsDeskOf}
+use Rattle.xa_switch.specs.{IsWorkerOf, IsLaidOut, IsNewDesk, IsNewWorker, ShareNewLanes, AreOfOneOpening, Setup, setup, new_manager}
 use Rattle.xa_switch.specs.{completion_room, Layout}
 use Rattle.xa_words.specs.{Request, Completion}
 use Rattle.xa_lane.specs.{Sending, Receiving}
 use Rattle.xa_desk.specs.DeskView.{DeskView}
 use Rattle.xa_desk.specs.{PartsView, new_desk}
 use Rattle.xa_worker.specs.{Answering, Reserved, Asking, WorkerView, new_worker}
-use Rattle.xa_tables.specs.Tables.{Tables}
 use Rattle.xa_tables.specs.{Managed, IsOpening}
-
--- an element of the list that a function makes
-pub mapped : {X Y : Type 0} (f : X → Y) (xs : List X) (k : ℕ) (y : Y) → slice_get (map f xs) k ≡ Some y → (x : X) × (slice_get xs k ≡ Some x) × (y ≡ f x)
-mapped f xs k y e = let was = was_mapped f xs k y e in (was.0, was.1, sym was.2)
-
--- the lanes of requests, by rising manager, and the lanes of completions, by rising thread
-abbrev AreRequestLanes : ℕ → ℕ → ℕ → ℕ → List (List (Sending Request)) → List (Receiving Request) → Type 0
-AreRequestLanes opening threads managers queue columns rs = AreNewLanes opening 0 threads managers queue columns rs
-
-abbrev AreCompletionLanes : ℕ → ℕ → ℕ → ℕ → List (List (Sending Completion)) → List (Receiving Completion) → Type 0
-AreCompletionLanes opening threads managers room columns rs = AreNewLanes opening 1 managers threads room columns rs
-
--- lanes, and desks and workers made of their ends
-pub record Ends (p : Setup) (deskparts : List PartsView) (workerparts : List Reserved) (managed : List Managed) (asks : List (List (Sending Request))) (takes : List Asking) (answers : List (List Answering)) (hears : List (Receiving Completion)) : Type 0 where
-  pub threads : length deskparts ≡ p.numbers.threads
-  pub managers : length workerparts ≡ p.managers
-  pub flags : length p.use_async ≡ p.managers
-  pub tables : length p.first ≡ p.managers
-  pub begins : All IsOpening p.first
-  pub desk_parts_ : Each (λ k x. x ≡ desk_parts p.numbers p.use_async (k + 1)) deskparts
-  pub worker_parts_ : Each (λ k x. x ≡ worker_parts p.numbers (k + 1)) workerparts
-  pub managed_ : managed ≡ map (new_manager p.numbers) p.first
-  pub requests : AreRequestLanes p.numbers.opening p.numbers.threads (p.managers) p.numbers.queue asks takes
-  pub completions : AreCompletionLanes p.numbers.opening p.numbers.threads (p.managers) (completion_room p.numbers p.managers) answers hears
 
 -- each sender of a column has its receiver
 its_receiver : {S R : Type 0} {IsReceiver : ℕ → R → Type 0} {IsSender : ℕ → ℕ → S → R → Type 0} {senders lanes : ℕ} {C : List (List S)} {rs : List R}
@@ -47,9 +22,20 @@ its_receiver {rs = rs} are k c at j s at_s =
     let r = got rs j (omega (arith, low, deep, many)) in
     (r.0, are.dealt k j c s r.0 at at_s r.1)
 
-module _ (p : Setup) (deskparts : List PartsView) (workerparts : List Reserved) (managed : List Managed) (asks : List (List (Sending Request)))
-    (takes : List Asking) (answers : List (List Answering)) (hears : List (Receiving Completion))
-    (is : Ends p deskparts workerparts managed asks takes answers hears) where
+-- what was laid out, with its managers
+module _ (l : Layout) (xs : List Managed) (is : IsLaidOut l) (many : length xs ≡ length l.use_async.items)
+    (new : All (λ x. x ≡ new_manager l.numbers x.tables) xs) (begins : All (λ x. IsOpening x.tables) xs) where
+  -- what it was laid out for
+  abbrev pub p : Setup
+  p = setup l.numbers l.use_async.items (map (λ x. x.tables) xs)
+
+  -- the ends of the lanes of requests, and of completions
+  abbrev pub asks : List (List (Sending Request))
+  asks = map (λ c. c.items) l.requests.columns.items
+
+  abbrev pub answers : List (List Answering)
+  answers = map (λ c. c.items) l.completions.columns.items
+
   -- the senders of thread t + 1 are on the lanes to each manager
   request_senders : (t : ℕ) (c : List (Sending Request)) → slice_get asks t ≡ Some c → Each (IsRequestSender p.numbers.opening p.numbers.queue t) c
   request_senders t c at m s at_s = (its_receiver is.requests t c at m s at_s).1.0
@@ -58,18 +44,16 @@ module _ (p : Setup) (deskparts : List PartsView) (workerparts : List Reserved) 
       → Each (IsCompletionSender p.numbers.opening (completion_room p.numbers p.managers) m) c
   completion_senders m c at t s at_s = (its_receiver is.completions m c at t s at_s).1.0
 
-  -- a manager's room and threads are the plan's
-  managed_is : (m : ℕ) (x : Managed) → slice_get managed m ≡ Some x → (x.threads ≡ p.numbers.threads) × (x.room ≡ manager_room p.numbers)
-  managed_is m x at =
-      let plan = mapped (new_manager p.numbers) p.first m x (ap (λ l. slice_get l m) (sym is.managed_) ∙ at) in
-      (ap (λ y. y.threads) plan.2, ap (λ y. y.room) plan.2)
+  -- a manager has the room and the threads of the layout
+  new_at : (m : ℕ) (x : Managed) → slice_get xs m ≡ Some x → x ≡ new_manager l.numbers x.tables
+  new_at m x at = all_at (λ (y : Managed). y ≡ new_manager l.numbers y.tables) xs m x new at
 
   -- what goes together fits together: a desk
-  pub desks_fit : DesksFit deskparts asks hears
+  pub desks_fit : DesksFit l.desk_parts.items asks l.completions.receivers.items
   desks_fit t part c r at_part at_c at_r =
       let same = is.desk_parts_ t part at_part in
       let thread : part.thread ≡ t + 1 = ap (λ x. x.thread) same in
-      let managers : length part.use_async ≡ p.managers = ap (λ x. length x.use_async) same ∙ is.flags in
+      let managers : length part.use_async ≡ p.managers = ap (λ x. length x.use_async) same in
       let senders = request_senders t c at_c in
       let receiver = is.completions.receivers t r at_r in
       let opening : r.lane.opening ≡ p.numbers.opening = ap (λ x. x.lane.opening) receiver in (
@@ -89,30 +73,23 @@ module _ (p : Setup) (deskparts : List PartsView) (workerparts : List Reserved) 
         },
       )
 
-  -- a worker with its manager
-  manager_fits : p.numbers.threads ≤ 8 → (m : ℕ) (part : Reserved) (x : Managed) → slice_get workerparts m ≡ Some part → slice_get managed m ≡ Some x
-      → (x.room ≡ part.room) × (x.threads ≤ 8)
-  manager_fits low m part x at_part at_x =
-      let of = managed_is m x at_x in
-      let threads = of.0 in
-      (of.1 ∙ sym (ap (λ y. y.room) (is.worker_parts_ m part at_part)), omega (arith, threads, low))
+  -- a worker with its manager, the lane of its requests and its senders of completions
+  pub workers_fit : WorkersFit l.worker_parts.items xs l.requests.receivers.items answers
+  workers_fit = record {
+    memory = λ m part x at_part at_x.
+        let low = is.limits.threads.1 in
+        let threads : x.threads ≡ l.numbers.threads = ap (λ (y : Managed). y.threads) (new_at m x at_x) in
+        (ap (λ (y : Managed). y.room) (new_at m x at_x) ∙ sym (ap (λ (y : Reserved). y.room) (is.worker_parts_ m part at_part)), omega (arith, threads, low));
+    requests = λ m x r at_x at_r.
+        let receiver = is.requests.receivers m r at_r in
+        (ap (λ y. y.senders) receiver ∙ sym (ap (λ (y : Managed). y.threads) (new_at m x at_x)), ap (λ y. y.taken) receiver);
+    completions = λ m x c at_x at_c. (
+      is.completions.deep m c at_c ∙ sym (ap (λ (y : Managed). y.threads) (new_at m x at_x)),
+      all_from (λ s. s.sent ≡ []) c (λ t s at_s. ap (λ y. y.sent) (completion_senders m c at_c t s at_s)),
+    );
+  }
 
-  -- a manager with the lane of its requests
-  requests_fit : (m : ℕ) (x : Managed) (r : Asking) → slice_get managed m ≡ Some x → slice_get takes m ≡ Some r → (r.senders ≡ x.threads) × (r.taken ≡ [])
-  requests_fit m x r at_x at_r =
-      let receiver = is.requests.receivers m r at_r in
-      (ap (λ y. y.senders) receiver ∙ sym (managed_is m x at_x).0, ap (λ y. y.taken) receiver)
-
-  -- a manager with its senders of completions
-  completions_fit : (m : ℕ) (x : Managed) (c : List Answering) → slice_get managed m ≡ Some x → slice_get answers m ≡ Some c
-      → (length c ≡ x.threads) × All (λ s. s.sent ≡ []) c
-  completions_fit m x c at_x at_c =
-      (is.completions.deep m c at_c ∙ sym (managed_is m x at_x).0, all_from (λ s. s.sent ≡ []) c (λ t s at_s. ap (λ y. y.sent) (completion_senders m c at_c t s at_s)))
-
-  pub workers_fit : p.numbers.threads ≤ 8 → WorkersFit workerparts managed takes answers
-  workers_fit low = record { memory = manager_fits low; requests = requests_fit; completions = completions_fit }
-
-  new_desk_is : (t : ℕ) (d : DeskView) → IsDeskOf deskparts asks hears t d → IsNewDesk p t d
+  new_desk_is : (t : ℕ) (d : DeskView) → IsDeskOf l.desk_parts.items asks l.completions.receivers.items t d → IsNewDesk p t d
   new_desk_is t d of =
       subst (λ x. IsNewDesk p t x) (sym of.made)
       (record {
@@ -122,25 +99,24 @@ module _ (p : Setup) (deskparts : List PartsView) (workerparts : List Reserved) 
         completions = is.completions.receivers t of.completions of.completions_at;
       })
 
-  new_worker_is : (m : ℕ) (w : WorkerView) → IsWorkerOf workerparts managed takes answers m w → IsNewWorker p m w
+  new_worker_is : (m : ℕ) (w : WorkerView) → IsWorkerOf l.worker_parts.items xs l.requests.receivers.items answers m w → IsNewWorker p m w
   new_worker_is m w of =
-      let plan = mapped (new_manager p.numbers) p.first m of.manager (ap (λ l. slice_get l m) (sym is.managed_) ∙ of.manager_at) in
       subst (λ x. IsNewWorker p m x) (sym of.made)
       (record {
-        first = plan.0;
-        begins = plan.1;
+        first = of.manager.tables;
+        begins = got_map (λ (x : Managed). x.tables) xs m of.manager of.manager_at;
         made = ap (λ x. new_worker x.number of.manager of.requests of.senders) (is.worker_parts_ m of.part of.part_at)
-            ∙ ap (λ x. new_worker (m + 1) x of.requests of.senders) plan.2;
+            ∙ ap (λ x. new_worker (m + 1) x of.requests of.senders) (new_at m of.manager of.manager_at);
         threads = is.completions.deep m of.senders of.senders_at;
         requests = is.requests.receivers m of.requests of.requests_at;
         completions = completion_senders m of.senders of.senders_at;
       })
 
-  together_are : (t m : ℕ) (d : DeskView) (w : WorkerView) → IsDeskOf deskparts asks hears t d → IsWorkerOf workerparts managed takes answers m w
+  together_are : (t m : ℕ) (d : DeskView) (w : WorkerView) → IsDeskOf l.desk_parts.items asks l.completions.receivers.items t d → IsWorkerOf l.worker_parts.items xs l.requests.receivers.items answers m w
       → ShareNewLanes t m d w
   together_are t m d w of_d of_w =
-      let t_low = slice_get_within deskparts t of_d.part of_d.part_at in
-      let m_low = slice_get_within workerparts m of_w.part of_w.part_at in
+      let t_low = slice_get_within l.desk_parts.items t of_d.part of_d.part_at in
+      let m_low = slice_get_within l.worker_parts.items m of_w.part of_w.part_at in
       let t_many = is.threads in
       let m_many = is.managers in
       let asks_deep = is.requests.deep t of_d.requests of_d.requests_at in
@@ -158,39 +134,15 @@ module _ (p : Setup) (deskparts : List PartsView) (workerparts : List Reserved) 
         answered = (is.completions.dealt m t of_w.senders a.0 of_d.completions of_w.senders_at a.1 of_d.completions_at).1;
       }))
 
-  pub one_opening : (ds : List DeskView) (ws : List WorkerView) → length ds ≡ length deskparts → length ws ≡ length workerparts
-      → Each (IsDeskOf deskparts asks hears) ds → Each (IsWorkerOf workerparts managed takes answers) ws → AreOfOneOpening p ds ws
+  pub one_opening : (ds : List DeskView) (ws : List WorkerView) → length ds ≡ length l.desk_parts.items → length ws ≡ length l.worker_parts.items
+      → Each (IsDeskOf l.desk_parts.items asks l.completions.receivers.items) ds → Each (IsWorkerOf l.worker_parts.items xs l.requests.receivers.items answers) ws → AreOfOneOpening p ds ws
   one_opening ds ws many_d many_w desks workers = record {
     threads = many_d ∙ is.threads;
     managers = many_w ∙ is.managers;
+    flags = refl;
+    tables = length-map xs (λ (x : Managed). x.tables) ∙ many;
     desks = λ t d at. new_desk_is t d (desks t d at);
     workers = λ m w at. new_worker_is m w (workers m w at);
     together = λ t m d w at_d at_w. together_are t m d w (desks t d at_d) (workers m w at_w);
-    begins = is.begins;
-    flags = is.flags;
-    tables = is.tables;
+    begins = All-map IsOpening (λ (x : Managed). x.tables) xs begins;
   }
-
--- what was laid out, with the managers
-mapped_whole : (f : Tables → Managed) (xs : List Managed) → All (λ x. x ≡ f x.tables) xs → xs ≡ map f (map (λ x. x.tables) xs)
-mapped_whole f [] h = refl
-mapped_whole f (x ∷ xs) h = λ i. h 0 x (omega arith) i ∷ mapped_whole f xs (λ k d lt. h (suc k) d (omega arith)) i
-
-all_first : (xs : List Managed) → All (λ x. IsOpening x.tables) xs → All IsOpening (map (λ x. x.tables) xs)
-all_first xs h = All-map IsOpening (λ (x : Managed). x.tables) xs h
-
-pub ends_of : (l : Layout) (managers : List Managed) → IsLaidOut l → length managers ≡ length l.use_async.items
-    → All (λ m. m ≡ new_manager l.numbers m.tables) managers → All (λ m. IsOpening m.tables) managers
-    → Ends (setup l.numbers l.use_async.items (map (λ (m : Managed). m.tables) managers)) l.desk_parts.items l.worker_parts.items managers (map (λ c. c.items) l.requests.columns.items) l.requests.receivers.items (map (λ c. c.items) l.completions.columns.items) l.completions.receivers.items
-ends_of l managers is many new begins = record {
-  threads = is.threads;
-  managers = is.managers;
-  flags = refl;
-  tables = length-map managers (λ (m : Managed). m.tables) ∙ many;
-  begins = all_first managers begins;
-  desk_parts_ = is.desk_parts_;
-  worker_parts_ = is.worker_parts_;
-  managed_ = mapped_whole (new_manager l.numbers) managers new;
-  requests = is.requests;
-  completions = is.completions;
-}

@@ -1,5 +1,5 @@
 -- Desks and workers that are left out, that are taken in another order, and that are of several openings.
-use Rattle.xa_base.proofs.{◌≡◌, ◌≢◌, ℕ, suc, ◌<◌, ◌≤◌, List, [], ◌∷◌, ◌++◌, length, length-append, map, get_or, sym, refl, ap, ◌∙◌, subst, ⊎_elim, arith, All}
+use Rattle.xa_base.proofs.{◌≡◌, ◌≢◌, ℕ, suc, ◌<◌, ◌≤◌, List, [], ◌∷◌, ◌++◌, length, length-append, map, get_or, sym, refl, ap, ◌∙◌, subst, inl, inr, arith, All}
 use Rattle.xa_base.proofs.{AllPairs, cases_lt, cases_eq, All-append, all_left, all_unmapped, all_right}
 use Rattle.std.specs.List.{swap}
 use Rattle.std.proofs.lemmas.List.{get_or_append_left}
@@ -21,13 +21,13 @@ abbrev Came : ℕ → ℕ → ℕ → ℕ → Type 0
 Came a b p s = (p ≡ a → s ≡ b) × (p ≡ b → s ≡ a) × ((p ≡ a → ⊥) → (p ≡ b → ⊥) → s ≡ p)
 
 came : {X : Type 0} (f g : ℕ → X) (a b n : ℕ) → Swapped f g a b → a < n → b < n → (p : ℕ) → p < n → (s : ℕ) × (s < n) × (g p ≡ f s) × Came a b p s
-came f g a b n sw la lb p lp = ⊎_elim
-    (λ ea. (b, lb, ap g ea ∙ sw.0, ((λ _. refl), (λ eb. omega arith), (λ u v. absurd (u ea)))))
-    (λ na. ⊎_elim
-    (λ eb. (a, la, ap g eb ∙ sw.1, ((λ e. absurd (na e)), (λ _. refl), (λ u v. absurd (v eb)))))
-    (λ nb. (p, lp, sw.2 p na nb, ((λ e. absurd (na e)), (λ e. absurd (nb e)), (λ u v. refl))))
-    (cases_eq p b))
-    (cases_eq p a)
+came f g a b n sw la lb p lp = elim (cases_eq p a) [
+  | inl ea ↦ (b, lb, ap g ea ∙ sw.0, ((λ _. refl), (λ eb. omega arith), (λ u v. absurd (u ea))))
+  | inr na ↦ elim (cases_eq p b) [
+    | inl eb ↦ (a, la, ap g eb ∙ sw.1, ((λ e. absurd (na e)), (λ _. refl), (λ u v. absurd (v eb))))
+    | inr nb ↦ (p, lp, sw.2 p na nb, ((λ e. absurd (na e)), (λ e. absurd (nb e)), (λ u v. refl)))
+  ]
+]
 
 -- two places have what stood at two places
 came_apart : (a b i k s t : ℕ) → (i ≡ k → ⊥) → Came a b i s → Came a b k t → s ≡ t → ⊥
@@ -36,7 +36,7 @@ came_apart a b i k s t ne (p, q, r) (x, y, z) e = grind arith
 module _ {X : Type 0} (R : X → X → Type 0) (flips : (x y : X) → R x y → R y x) where
   pairs_either : (xs : List X) (s t : ℕ) (d : X) → AllPairs R xs → (s ≡ t → ⊥) → s < length xs → t < length xs → R (get_or xs s d) (get_or xs t d)
   pairs_either xs s t d h ne ls lt =
-      ⊎_elim (λ (l : s < t). h s t d l lt) (λ (l : t ≤ s). flips (get_or xs t d) (get_or xs s d) (h t s d (omega (arith, l, ne)) ls)) (cases_lt s t)
+      elim (cases_lt s t) [ inl l ↦ h s t d l lt | inr l ↦ flips (get_or xs t d) (get_or xs s d) (h t s d (omega (arith, l, ne)) ls) ]
 
   pairs_swapped : (xs : List X) (a b : ℕ) → a < length xs → b < length xs → AllPairs R xs → AllPairs R (swap xs a b)
   pairs_swapped xs a b la lb h i k d lt below =
@@ -52,17 +52,11 @@ module _ {X : Type 0} (R : X → X → Type 0) (flips : (x y : X) → R x y → 
 all_some : {X : Type 0} (P : X → Type 0) (xs ys : List X) → AreSomeOf xs ys → All P ys → All P xs
 all_some P xs ys s h = all_left P xs s.0 (All-permutation P ys (xs ++ s.0) s.1 h)
 
-desks_flip : (a b : DeskSeat) → AreApartDesks a b → AreApartDesks b a
-desks_flip a b h e same = h (sym e) (sym same)
-
-workers_flip : (a b : WorkerSeat) → AreApartWorkers a b → AreApartWorkers b a
-workers_flip a b h e same = h (sym e) (sym same)
-
 pub some_come : (ds ds' : List DeskSeat) (ws ws' : List WorkerSeat) → AreSomeOf ds' ds → AreSomeOf ws' ws → ComeFromOpenings ds ws → ComeFromOpenings ds' ws'
 some_come ds ds' ws ws' some_ds some_ws h = record {
   together = all_some (λ d. All (AreTogether d) ws') ds' ds some_ds (λ k d below. all_some (AreTogether (get_or ds k d)) ws' ws some_ws (h.together k d below));
-  desks_apart = pairs_some AreApartDesks desks_flip ds' ds some_ds h.desks_apart;
-  workers_apart = pairs_some AreApartWorkers workers_flip ws' ws some_ws h.workers_apart;
+  desks_apart = pairs_some AreApartDesks (λ a b h e same. h (sym e) (sym same)) ds' ds some_ds h.desks_apart;
+  workers_apart = pairs_some AreApartWorkers (λ a b h e same. h (sym e) (sym same)) ws' ws some_ws h.workers_apart;
   opened = all_some (λ w. IsOpening w.first) ws' ws some_ws h.opened;
 }
 

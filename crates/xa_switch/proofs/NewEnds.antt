@@ -1,8 +1,8 @@
 -- The ends of new lanes.
-use Rattle.xa_base.proofs.{◌≡◌, ℕ, zero, suc, ◌+◌, List, [], ◌∷◌, ◌++◌, length, slice_get, refl, sym, ap, ◌∙◌, arith, length-append, ⊎_elim, Some}
+use Rattle.xa_base.proofs.{◌≡◌, ℕ, zero, suc, ◌+◌, List, [], ◌∷◌, ◌++◌, length, slice_get, refl, sym, ap, ◌∙◌, arith, length-append, inl, inr, Some, got_push}
 use Rattle.xa_switch.specs.{put_row, lane_to, IsNewReceiver, IsNewPair, AreNewLanes}
 use Rattle.xa_lane.specs.{LaneName, QueueId, Sending, Receiving, new_sender, new_senders, new_receiver}
-use Rattle.xa_switch.proofs.Dealing.{no_element, snoc_cases, more_lanes}
+use Rattle.xa_switch.proofs.Dealing.{more_lanes}
 
 pub length_senders : (T : Type 0) (lane : LaneName) (line : QueueId) (capacity n : ℕ) → length (new_senders {T = T} lane line capacity n) ≡ n
 length_senders T lane line capacity zero = refl
@@ -13,12 +13,11 @@ length_senders T lane line capacity (suc n) =
 module _ {T : Type 0} where
   pub sender_at : (lane : LaneName) (line : QueueId) (capacity n k : ℕ) (s : Sending T) → slice_get (new_senders lane line capacity n) k ≡ Some s
       → s ≡ new_sender lane line capacity k
-  sender_at lane line capacity zero k s e = absurd (no_element k s e)
-  sender_at lane line capacity (suc n) k s e =
-      ⊎_elim (λ (h : slice_get (new_senders lane line capacity n) k ≡ Some s). sender_at lane line capacity n k s h)
-      (λ (h : (k ≡ length (new_senders {T = T} lane line capacity n)) × (new_sender lane line capacity n ≡ s)).
-      sym h.1 ∙ ap (λ i. new_sender lane line capacity i) (sym (h.0 ∙ length_senders T lane line capacity n)))
-      (snoc_cases (new_senders lane line capacity n) (new_sender lane line capacity n) k s e)
+  sender_at lane line capacity zero k s e = cc
+  sender_at lane line capacity (suc n) k s e = elim (got_push (new_senders lane line capacity n) (new_sender lane line capacity n) k s e) [
+    | inl before ↦ sender_at lane line capacity n k s before
+    | inr last ↦ last.1 ∙ ap (λ i. new_sender lane line capacity i) (sym (last.0 ∙ length_senders T lane line capacity n))
+  ]
 
   -- lanes with one more
   pub one_more_lane : (opening kind senders lanes room : ℕ) (C : List (List (Sending T))) (rs : List (Receiving T)) (row : List (Sending T)) (r : Receiving T)

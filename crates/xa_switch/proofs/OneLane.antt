@@ -1,7 +1,8 @@
 -- What the closed lanes of a desk and a worker say of the two.
 use Rattle.xa_base.proofs.{◌≡◌, ℕ, zero, suc, ◌+◌, ◌<◌, ◌≤◌, Bool, true, false, ◌==◌, ◌&&◌, cond, List, [], ◌∷◌, ◌++◌, map, slice_get, option_map, sym, refl}
 use Rattle.xa_base.proofs.{ap, ◌∙◌, subst, ⊎_elim, inl, inr, arith, eq-eqb, ne_eqb, Option, Some, None, All, Contains, filter, eqb-true, slice_get-map}
-use Rattle.xa_base.proofs.{All-contains}
+use Rattle.xa_base.proofs.{All-contains, and_parts, same_Some}
+use Rattle.std.proofs.lemmas.Bool.{cond_both}
 use Rattle.std.proofs.lemmas.List.Folds.{Any-from_list_any}
 use Rattle.xa_words.specs.declared.code.Code.{Code}
 use Rattle.xa_words.specs.{Op, Request, Completion}
@@ -13,15 +14,10 @@ use Rattle.xa_switch.specs.{answers, IsClosed}
 use Rattle.xa_switch.proofs.Lists.{In, in_front, in_map, place_of}
 
 -- what the end at a place has sent
-pub asked_there : (ss : List (Sending Request)) (k : ℕ) (e : Sending Request) → slice_get ss k ≡ Some e → sent_at k ss ≡ e.sent
-asked_there [] k e at = cc
-asked_there (s ∷ ss) zero e at = let f : s ≡ e = cc in ap (λ (x : Sending Request). x.sent) f
-asked_there (s ∷ ss) (suc k) e at = asked_there ss k e at
-
-pub answered_there : (ss : List Answering) (k : ℕ) (e : Answering) → slice_get ss k ≡ Some e → sent_at k ss ≡ e.sent
-answered_there [] k e at = cc
-answered_there (s ∷ ss) zero e at = let f : s ≡ e = cc in ap (λ (x : Answering). x.sent) f
-answered_there (s ∷ ss) (suc k) e at = answered_there ss k e at
+pub sent_there : {T : Type 0} (ss : List (Sending T)) (k : ℕ) (e : Sending T) → slice_get ss k ≡ Some e → sent_at k ss ≡ e.sent
+sent_there [] k e at = cc
+sent_there {T} (s ∷ ss) zero e at = let f : s ≡ e = cc in ap (λ (x : Sending T). x.sent) f
+sent_there (s ∷ ss) (suc k) e at = sent_there ss k e at
 
 module _ {T : Type 0} (r : Receiving T) (ends : List (Sending T)) (h : IsClosed r ends) where
   -- once its end mark was taken, all that an end sent was
@@ -43,14 +39,12 @@ module _ {T : Type 0} (r : Receiving T) (ends : List (Sending T)) (h : IsClosed 
 -- ---- what was taken
 
 module _ {T : Type 0} where
-  none_of_step : (p from : ℕ) (i : Option T) (ys : List (Option T)) → (from == p) ≡ false → somes ys ≡ [] → somes (cond (from == p) (i ∷ ys) ys) ≡ []
-  none_of_step p from i ys e h = ap (λ b. somes (cond b (i ∷ ys) ys)) e ∙ h
-
   -- of a number that no sender has nothing was taken
   pub none_of : (n p : ℕ) (xs : List (Parcel T)) → All (λ x. x.from < n) xs → n ≤ p → received p xs ≡ []
   none_of n p [] h le = refl
   none_of n p (x ∷ xs) h le =
-      none_of_step p x.from x.item (of_sender p xs) (ne_eqb x.from p (λ e. let low = h 0 x (omega arith) in omega (arith, low, e, le))) (none_of n p xs (λ k d lt. h (suc k) d (omega arith)) le)
+      ap (λ b. somes (cond b (x.item ∷ of_sender p xs) (of_sender p xs))) (ne_eqb x.from p (λ e. let low = h 0 x (omega arith) in omega (arith, low, e, le)))
+      ∙ none_of n p xs (λ k d lt. h (suc k) d (omega arith)) le
 
   in_received_step : (y : T) (i : Option T) (from : ℕ) (zs : List (Option T)) (rest : ℕ → List (Option T)) (n : ℕ) → from < n
       → (In y (somes zs) → (p : ℕ) × (p < n) × In y (somes (rest p))) → In y (somes (i ∷ zs))
@@ -70,21 +64,16 @@ module _ {T : Type 0} where
 
 -- ---- what was drained
 
-drained_step : (m n : ℕ) (code : Code) (c : Completion) (cs : List Completion) (b : Bool) (b' : Bool) → (m == c.manager) ≡ b → (n == c.number) ≡ b'
-    → (drained_code (record { manager = m; number = n }) cs ≡ Some code → In (record { manager = m; number = n; code = code }) cs)
-    → cond (b && b') (Some c.code) (drained_code (record { manager = m; number = n }) cs) ≡ Some code
-    → In (record { manager = m; number = n; code = code }) (c ∷ cs)
-drained_step m n code c cs true true e f h at =
-    let g : c.code ≡ code = cc in
-    inl (λ i. record { manager = sym (eqb-true m c.manager e) i; number = sym (eqb-true n c.number f) i; code = g i })
-drained_step m n code c cs true false e f h at = inr (h at)
-drained_step m n code c cs false b' e f h at = inr (h at)
-
 -- the completion whose code was drained for an operation
 pub in_drained : (m n : ℕ) (code : Code) (cs : List Completion) → drained_code (record { manager = m; number = n }) cs ≡ Some code
     → In (record { manager = m; number = n; code = code }) cs
 in_drained m n code [] at = cc
-in_drained m n code (c ∷ cs) at = drained_step m n code c cs (m == c.manager) (n == c.number) refl refl (in_drained m n code cs) at
+in_drained m n code (c ∷ cs) at = cond_both ((m == c.manager) && (n == c.number)) (Some c.code) (drained_code (record { manager = m; number = n }) cs)
+    (λ o. o ≡ Some code → In (record { manager = m; number = n; code = code }) (c ∷ cs))
+    (λ e is.
+    let (its, own) = and_parts (m == c.manager) (n == c.number) e in
+    inl (λ i. record { manager = sym (eqb-true m c.manager its) i; number = sym (eqb-true n c.number own) i; code = same_Some c.code code is i }))
+    (λ e is. inr (in_drained m n code cs is)) at
 
 in_last : {A : Type 0} (c y : A) (xs ys : List A) → (In c xs → In c ys) → In c (xs ++ y ∷ []) → In c (ys ++ y ∷ [])
 in_last c y [] [] f h = h
@@ -100,16 +89,16 @@ in_part c _ _ (without_last xs ys zs y p e) h = subst (In c) (sym e) (in_front c
 
 -- ---- what was answered
 
-numbers_step : (t : ℕ) (b : Bool) (r : Request) (c : Code) (J : List Entry) (H : List Request)
-    → map (λ (e : Entry). e.0.number) J ≡ map (λ (r : Request). r.number) H
-    → map (λ (e : Entry). e.0.number) (cond b ((r, c) ∷ J) J) ≡ map (λ (r : Request). r.number) (cond b (r ∷ H) H)
-numbers_step t true r c J H e = ap (λ l. r.number ∷ l) e
-numbers_step t false r c J H e = e
-
 entries_numbers : (t : ℕ) (J : List Entry)
     → map (λ (e : Entry). e.0.number) (filter (λ e. e.0.thread == t) J) ≡ map (λ (r : Request). r.number) (of_thread t (requests J))
 entries_numbers t [] = refl
-entries_numbers t (x ∷ J) = numbers_step t (x.0.thread == t) x.0 x.1 (filter (λ e. e.0.thread == t) J) (of_thread t (requests J)) (entries_numbers t J)
+entries_numbers t (x ∷ J) =
+    let E = filter (λ (e : Entry). e.0.thread == t) J in
+    let H = of_thread t (requests J) in
+    elim (x.0.thread == t) as (λ b. map (λ (e : Entry). e.0.number) (cond b (x ∷ E) E) ≡ map (λ (r : Request). r.number) (cond b (x.0 ∷ H) H)) [
+      | true ↦ ap (λ l. x.0.number ∷ l) (entries_numbers t J)
+      | false ↦ entries_numbers t J
+    ]
 
 number_at : (t n : ℕ) (ops : List Op) (k v : ℕ) → slice_get (map (λ (r : Request). r.number) (numbered t n ops)) k ≡ Some v → v ≡ n + k
 number_at t n [] k v e = cc

@@ -1,6 +1,7 @@
 -- What is known of desks and workers that are all there, and of one opening.
 use Rattle.xa_base.proofs.{◌≡◌, ℕ, ◌+◌, ◌-◌, ◌<◌, ◌≤◌, ◌==◌, List, [], ◌∷◌, length, map, filter, replicate, get_or, slice_get, sym, refl, ap, ◌∙◌, subst, arith}
 use Rattle.xa_base.proofs.{Some, All, Contains, slice_get_within, All-contains, was_mapped}
+use Rattle.std.proofs.lemmas.List.Elements.{Contains-get_or}
 use Rattle.xa_words.specs.declared.code.Code.{Code}
 use Rattle.xa_words.specs.{Request, Completion}
 use Rattle.xa_lane.specs.{Sending}
@@ -10,9 +11,9 @@ use Rattle.xa_worker.specs.{Entry, requests, completion_of, Answering, Served, I
 use Rattle.xa_switch.specs.{Agree, answers, EndSeat, WorkerSeat, end_seat, seat_of_ended, seat_of_done, ShareLanes, AreTogether, AreApartDesks, AreApartWorkers}
 use Rattle.xa_switch.specs.{ComeFromOpenings, desk_seats, worker_seats, desk_opening, worker_opening, first_opening, AreOfOne, HasDesks, HasWorkers, AreAll}
 use Rattle.xa_switch.specs.{dealt, column, IsClosed, desk_lane, worker_lane}
-use Rattle.xa_switch.proofs.Lists.{In, contains_map, contains_place}
+use Rattle.xa_switch.proofs.Lists.{In, contains_map}
 use Rattle.xa_switch.proofs.Sides.{HasEnd, Sides, AreLanesOf, each_end, own_end, end_in, lanes_closable, lanes_places, lanes_apart}
-use Rattle.xa_switch.proofs.OneLane.{Answers, asked_there, answered_there, taken_whole, in_drained, in_part, placed, drawn_law}
+use Rattle.xa_switch.proofs.OneLane.{Answers, sent_there, taken_whole, in_drained, in_part, placed, drawn_law}
 
 -- desks and workers that are all there, and of one opening
 pub record Whole (ds : List EndedView) (ws : List Served) : Type 0 where
@@ -32,7 +33,7 @@ pub record Joint (ds : List EndedView) (ws : List Served) : Type 0 where
 -- a worker's manager was opened
 pub workers_opened : (ds : List EndedView) (ws : List Served) → Whole ds ws → All (λ w. IsOpening w.first) ws
 workers_opened ds ws h k w below =
-    All-contains (λ (s : WorkerSeat). IsOpening s.first) (worker_seats ws) (seat_of_done (get_or ws k w)) h.from.opened (contains_map seat_of_done ws (get_or ws k w) (contains_place ws k w below))
+    All-contains (λ (s : WorkerSeat). IsOpening s.first) (worker_seats ws) (seat_of_done (get_or ws k w)) h.from.opened (contains_map seat_of_done ws (get_or ws k w) (Contains-get_or ws k w below))
 
 some_of : {X : Type 0} (xs : List X) → 0 < length xs → (x : X) × Contains xs x
 some_of [] h = absurd (omega arith)
@@ -85,7 +86,7 @@ module _ (ds : List EndedView) (ws : List Served) (h : Whole ds ws) where
   desk_number d cd = let e = (sends_at d a_worker.0 cd a_worker.1).3 in omega (arith, e)
 
   pub workers_numbered : All (λ w. 1 ≤ w.number) ws
-  workers_numbered k d below = worker_number (get_or ws k d) (contains_place ws k d below)
+  workers_numbered k d below = worker_number (get_or ws k d) (Contains-get_or ws k d below)
 
 module _ (ds : List EndedView) (ws : List Served) (j : Joint ds ws) where
   desk_known : (d : EndedView) → Contains ds d → IsEnded d
@@ -94,23 +95,30 @@ module _ (ds : List EndedView) (ws : List Served) (j : Joint ds ws) where
   worker_known : (w : Served) → Contains ws w → IsServed w
   worker_known w c = All-contains IsServed ws w j.workers c
 
-  -- a worker's place is below 8, and so is a desk's
-  pub worker_place : (w : Served) → Contains ws w → w.number - 1 < 8
-  worker_place w cw =
-      let d = a_desk ds ws j.all in
-      let e = sends_at ds ws j.all d.0 w d.1 cw in
-      let below = slice_get_within d.0.requests (w.number - 1) e.0 e.1 in
-      let many = (desk_known d.0 d.1).tied.ends.number in
-      let few = All-contains (λ (d : EndedView). length d.ledgers ≤ 8) ds d.0 j.few_managers d.1 in
-      omega (arith, below, few, many)
+  -- a desk has a ledger with each manager
+  pub known_at : (d : EndedView) (w : Served) → Contains ds d → Contains ws w → IsKnown d.ledgers w.number
+  known_at d w cd cw =
+      let own = sends_at ds ws j.all d w cd cw in
+      let below = slice_get_within d.requests (w.number - 1) own.0 own.1 in
+      let many = (desk_known d cd).tied.ends.number in
+      let seated = worker_number ds ws j.all w cw in
+      record { positive = seated; within = omega (arith, below, many, seated) }
 
-  pub desk_place : (d : EndedView) → Contains ds d → d.thread - 1 < 8
+  -- a worker's place is below 8, and so is a desk's
+  worker_place : (w : Served) → Contains ws w → w.number - 1 < 8
+  worker_place w cw =
+      let (d, cd) = a_desk ds ws j.all in
+      let known = known_at d w cd cw in
+      let few = All-contains (λ (d : EndedView). length d.ledgers ≤ 8) ds d j.few_managers cd in
+      omega (arith, known.positive, known.within, few)
+
+  desk_place : (d : EndedView) → Contains ds d → d.thread - 1 < 8
   desk_place d cd =
-      let w = a_worker ds ws j.all in
-      let e = answers_at ds ws j.all d w.0 cd w.1 in
-      let below = slice_get_within w.0.ends (d.thread - 1) e.0 e.1 in
-      let many = (worker_known w.0 w.1).lanes in
-      let few = All-contains (λ (w : Served). w.manager.threads ≤ 8) ws w.0 j.few_threads w.1 in
+      let (w, cw) = a_worker ds ws j.all in
+      let e = answers_at ds ws j.all d w cd cw in
+      let below = slice_get_within w.ends (d.thread - 1) e.0 e.1 in
+      let many = (worker_known w cw).lanes in
+      let few = All-contains (λ (w : Served). w.manager.threads ≤ 8) ws w j.few_threads cw in
       omega (arith, below, few, many)
 
   -- ---- the lanes of requests, and of completions
@@ -143,7 +151,7 @@ module _ (ds : List EndedView) (ws : List Served) (j : Joint ds ws) where
   answered d w cd cw e at =
       let seated = desk_number ds ws j.all d cd in
       let t : d.thread - 1 + 1 ≡ d.thread = omega (arith, seated) in
-      sym (answered_there w.ends (d.thread - 1) e at) ∙ (worker_known w cw).sent (d.thread - 1)
+      sym (sent_there w.ends (d.thread - 1) e at) ∙ (worker_known w cw).sent (d.thread - 1)
       ∙ ap (λ t. map (completion_of w.number) (entries_of t w.journal)) t
 
   completion_answers : (d : EndedView) → Contains ds d → All Answers (column (completion_columns ws) (d.thread - 1))
@@ -152,14 +160,6 @@ module _ (ds : List EndedView) (ws : List Served) (j : Joint ds ws) where
       (entries_of d.thread w.journal, answered d w cd cw e at ∙ ap (λ m. map (completion_of m) (entries_of d.thread w.journal)) (sym index)))
 
   -- ---- a desk and a worker whose lanes were closed
-
-  pub known_at : (d : EndedView) (w : Served) → Contains ds d → Contains ws w → IsKnown d.ledgers w.number
-  known_at d w cd cw =
-      let own = sends_at ds ws j.all d w cd cw in
-      let below = slice_get_within d.requests (w.number - 1) own.0 own.1 in
-      let many = (desk_known d cd).tied.ends.number in
-      let seated = worker_number ds ws j.all w cw in
-      record { positive = seated; within = omega (arith, below, many, seated) }
 
   module _ (d : EndedView) (w : Served) (cd : Contains ds d) (cw : Contains ws w) where
     -- the journal has of the thread what it sent
@@ -176,7 +176,7 @@ module _ (ds : List EndedView) (ws : List Served) (j : Joint ds ws) where
         ap (λ t. of_thread t (requests w.journal)) (sym own.3)
         ∙ All-contains IsOrdered ws w j.ordered cw e.index
         ∙ taken_whole w.receiver (column (request_columns ds) (w.number - 1)) hs e (end_in request_side d w cd cw e own.1) ((worker_known w cw).ended e.index below)
-        ∙ sym (asked_there d.requests (w.number - 1) e own.1)
+        ∙ sym (sent_there d.requests (w.number - 1) e own.1)
         ∙ (desk_known d cd).tied.sent w.number (known_at d w cd cw)
 
     -- what was collected is what the journal answers

@@ -1,10 +1,12 @@
--- The desks and workers of an opening come from it.
-use Rattle.xa_base.proofs.{◌≡◌, ℕ, ◌+◌, ◌-◌, List, map, slice_get, option_map, sym, ap, ◌∙◌, subst, arith, Some, All, All-append, slice_get-map}
-use Rattle.xa_base.proofs.{slice_get-get_or, contains_at, All-contains}
+-- The desks and workers of an opening come from it, and at its desks nothing is outstanding.
+use Rattle.xa_base.proofs.{◌≡◌, ℕ, ◌+◌, ◌-◌, List, [], length, map, get_or, slice_get, option_map, sym, ap, ◌∙◌, subst, arith, Some, All, All-append, slice_get-map}
+use Rattle.xa_base.proofs.{slice_get-get_or, contains_at, All-contains, All-map}
 use Rattle.xa_words.specs.{Request, Completion}
 use Rattle.xa_tables.specs.{IsOpening}
 use Rattle.xa_lane.specs.{Sending, Receiving}
 use Rattle.xa_desk.specs.DeskView.{DeskView}
+use Rattle.xa_desk.specs.{ledger, AllKept}
+use Rattle.xa_desk.proofs.Fresh.{fresh_sent}
 use Rattle.xa_worker.specs.{Answering, WorkerView}
 use Rattle.xa_switch.specs.{Setup, IsNewDesk, IsNewWorker, ShareNewLanes, AreOfOneOpening, DeskSeat, WorkerSeat, openings_of, end_seat, seat_of_desk}
 use Rattle.xa_switch.specs.{seat_of_worker, ShareLanes, AreTogether, AreApartDesks, AreApartWorkers, ComeFromOpenings}
@@ -53,17 +55,13 @@ module _ (p : Setup) (ds : List DeskView) (ws : List WorkerView) (h : AreOfOneOp
     together =
         all_map seat_of_desk (λ s. All (AreTogether s) (map seat_of_worker ws)) ds
         (λ d cd. all_map seat_of_worker (AreTogether (seat_of_desk d)) ws (λ w cw same. share cd.0 cw.0 d w (get_contained ds d cd) (get_contained ws w cw)));
-    desks_apart =
-        pairs_map seat_of_desk AreApartDesks ds
-        (λ a b ca cb i k lt below d ea eb same e.
-        let x = thread_at i a (slice_get-get_or ds i d (omega (arith, lt, below)) ∙ ap Some ea) in
-        let y = thread_at k b (slice_get-get_or ds k d below ∙ ap Some eb) in
+    desks_apart = pairs_map seat_of_desk AreApartDesks ds (λ i k d lt below same e.
+        let x = thread_at i (get_or ds i d) (slice_get-get_or ds i d (omega (arith, lt, below))) in
+        let y = thread_at k (get_or ds k d) (slice_get-get_or ds k d below) in
         omega (arith, x, y, e, lt));
-    workers_apart =
-        pairs_map seat_of_worker AreApartWorkers ws
-        (λ a b ca cb i k lt below d ea eb same e.
-        let x = number_at i a (slice_get-get_or ws i d (omega (arith, lt, below)) ∙ ap Some ea) in
-        let y = number_at k b (slice_get-get_or ws k d below ∙ ap Some eb) in
+    workers_apart = pairs_map seat_of_worker AreApartWorkers ws (λ i k d lt below same e.
+        let x = number_at i (get_or ws i d) (slice_get-get_or ws i d (omega (arith, lt, below))) in
+        let y = number_at k (get_or ws k d) (slice_get-get_or ws k d below) in
         omega (arith, x, y, e, lt));
     opened = all_map seat_of_worker (λ (s : WorkerSeat). IsOpening s.first) ws (λ w cw. opened_at cw.0 w (get_contained ws w cw));
   }
@@ -71,11 +69,21 @@ module _ (p : Setup) (ds : List DeskView) (ws : List WorkerView) (h : AreOfOneOp
   pub numbered : All (λ n. n ≡ p.numbers.opening) (openings_of (map seat_of_desk ds) (map seat_of_worker ws))
   numbered =
       All-append (λ n. n ≡ p.numbers.opening) (map (λ (s : DeskSeat). s.lane.opening) (map seat_of_desk ds)) (map (λ (s : WorkerSeat). s.lane.opening) (map seat_of_worker ws))
-      (all_map (λ (s : DeskSeat). s.lane.opening) (λ n. n ≡ p.numbers.opening) (map seat_of_desk ds)
-      (λ s cs. All-contains (λ (s : DeskSeat). s.lane.opening ≡ p.numbers.opening) (map seat_of_desk ds) s
+      (All-map (λ n. n ≡ p.numbers.opening) (λ (s : DeskSeat). s.lane.opening) (map seat_of_desk ds)
       (all_map seat_of_desk (λ (s : DeskSeat). s.lane.opening ≡ p.numbers.opening) ds
-      (λ d cd. let D : IsNewDesk p cd.0 d = h.desks cd.0 d (get_contained ds d cd) in ap (λ (r : Receiving Completion). r.lane.opening) D.completions)) cs))
-      (all_map (λ (s : WorkerSeat). s.lane.opening) (λ n. n ≡ p.numbers.opening) (map seat_of_worker ws)
-      (λ s cs. All-contains (λ (s : WorkerSeat). s.lane.opening ≡ p.numbers.opening) (map seat_of_worker ws) s
+      (λ d cd. ap (λ (r : Receiving Completion). r.lane.opening) (h.desks cd.0 d (get_contained ds d cd)).completions)))
+      (All-map (λ n. n ≡ p.numbers.opening) (λ (s : WorkerSeat). s.lane.opening) (map seat_of_worker ws)
       (all_map seat_of_worker (λ (s : WorkerSeat). s.lane.opening ≡ p.numbers.opening) ws
-      (λ w cw. let W : IsNewWorker p cw.0 w = h.workers cw.0 w (get_contained ws w cw) in ap (λ (r : Receiving Request). r.lane.opening) W.requests)) cs))
+      (λ w cw. ap (λ (r : Receiving Request). r.lane.opening) (h.workers cw.0 w (get_contained ws w cw)).requests)))
+
+  -- at a desk of an opening nothing is outstanding
+  pub kept : All AllKept ds
+  kept k d below = record {
+    each = λ o out.
+        let is : IsNewDesk p k (get_or ds k d) = h.desks k (get_or ds k d) (slice_get-get_or ds k d below) in
+        let none : (ledger (get_or ds k d).ledgers o.manager).sent ≡ [] =
+        ap (λ (x : DeskView). (ledger x.ledgers o.manager).sent) is.made ∙ fresh_sent p.numbers.requests p.use_async (o.manager - 1) in
+        let sent = out.sent in
+        let size = ap (λ l. length l) none in
+        absurd (omega (arith, sent, size));
+  }

@@ -1,6 +1,7 @@
 -- The lanes that the pieces of one side have ends of: the desks of the lanes of requests, the workers of those of completions.
 use Rattle.xa_base.proofs.{◌≡◌, ◌≢◌, ℕ, ◌+◌, ◌-◌, ◌<◌, ◌≤◌, true, ◌==◌, List, [], length, map, replicate, get_or, slice_get, option_map, sym, ap, ◌∙◌, subst}
 use Rattle.xa_base.proofs.{arith, eq-eqb, Some, All, AllPairs, Contains, list_any, eqb-true, All-nil, All-contains, slice_get-map, contains_at, was_mapped}
+use Rattle.std.proofs.lemmas.List.Elements.{Contains-get_or}
 use Rattle.std.proofs.lemmas.List.Folds.{Any-from_list_any, list_any_at}
 use Rattle.xa_lane.specs.{Sending, Receiving, IsWhole}
 use Rattle.xa_switch.specs.{dealt, column, IsClosable}
@@ -72,11 +73,9 @@ pub lanes_apart : {Y S T : Type 0} (seat : Y → S) (R : S → S → Type 0) (op
     → AllPairs R (map seat ys) → All (λ y. opening y ≡ first) ys → ((y : Y) → Contains ys y → 1 ≤ number y)
     → AllPairs (λ (a b : ℕ × Receiving T). a.0 ≢ b.0) (map (λ y. (number y - 1, lane y)) ys)
 lanes_apart {Y} {S} {T} seat R opening number lane apart first ys pairs one positive =
-    pairs_map (λ y. (number y - 1, lane y)) (λ (a b : ℕ × Receiving T). a.0 ≢ b.0) ys (λ a b ca cb i k lt below d ea eb e.
-    let together : opening a ≡ opening b =
-    All-contains (λ y. opening y ≡ first) ys a one ca ∙ sym (All-contains (λ y. opening y ≡ first) ys b one cb) in
-    let low = positive a ca in
-    let high = positive b cb in
-    let same : number a ≡ number b = omega (arith, low, high, e) in
-    apart (get_or ys i d) (get_or ys k d) (pairs_at seat R ys pairs i k lt below d) (ap opening ea ∙ together ∙ sym (ap opening eb))
-    (ap number ea ∙ same ∙ sym (ap number eb)))
+    pairs_map (λ y. (number y - 1, lane y)) (λ (a b : ℕ × Receiving T). a.0 ≢ b.0) ys (λ i k d lt below e.
+    let first_below : i < length ys = omega (arith, lt, below) in
+    let low = positive (get_or ys i d) (Contains-get_or ys i d first_below) in
+    let high = positive (get_or ys k d) (Contains-get_or ys k d below) in
+    let same : number (get_or ys i d) ≡ number (get_or ys k d) = omega (arith, low, high, e) in
+    apart (get_or ys i d) (get_or ys k d) (pairs_at seat R ys pairs i k d lt below) (one i d first_below ∙ sym (one k d below)) same)

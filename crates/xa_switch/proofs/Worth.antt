@@ -1,8 +1,8 @@
 -- What all accounts are worth together is what was declared and what the threads have moved.
-use Rattle.xa_base.proofs.{ℤ, pos, ◌+ℤ◌, option_map, unwrap_or, All, ◌≡◌, ℕ, zero, suc, ◌+◌, ◌-◌, ◌<◌, ◌≤◌, ◌==◌, true, false, cond, if◌then◌else◌, List, []}
+use Rattle.xa_base.proofs.{ℤ, pos, ◌+ℤ◌, option_map, unwrap_or, All, ◌≡◌, ℕ, zero, suc, Bool, filter, All-nil, All-cons, ◌+◌, ◌-◌, ◌<◌, ◌≤◌, ◌==◌, true, false, cond, if◌then◌else◌, List, []}
 use Rattle.xa_base.proofs.{◌∷◌, length, map, get_or, slice_get, sym, refl, ap, ◌∙◌, arith, Some, None, Contains, range_with_len, eqb-true, eqb-false}
-use Rattle.xa_base.proofs.{length-range_with_len, get_or-range_with_len, slice_get-map, +ℤ_idl as none_plus, +ℤ_idr as plus_none, total_same, total_alike}
-use Rattle.xa_base.proofs.{total_both, total_nothing, total_across, contains_at, range_all, got, All-contains}
+use Rattle.xa_base.proofs.{length-range_with_len, get_or-range_with_len, +ℤ_idl as none_plus, +ℤ_idr as plus_none, total_same, total_alike}
+use Rattle.xa_base.proofs.{total_both, total_nothing, total_across, contains_at, range_all, got, got_map, All-contains, inl, inr, cases_eq, eq-eqb, ne_eqb}
 use Rattle.std.specs.FinMap as finmap
 use Rattle.std.proofs.lemmas.List.Sorted.{IsPermutation-sym, Contains-permutation}
 use Rattle.xa_switch.specs.{ManagerPlan, Plan, IsSoundManager, IsOfPlan, ThreadPart, IsSettled, find_thread, ledgers_in, value, sent, IsOpenedWith, first_of}
@@ -24,17 +24,14 @@ use Rattle.xa_switch.proofs.Journaled.{follows_first}
 none_counted : (k : ℕ) (v : ℤ) (a n : ℕ) → k < a → total (λ t. if k == t then v else pos 0) (range_with_len a n) ≡ pos 0
 none_counted k v a zero lt = refl
 none_counted k v a (suc n) lt =
-    let other : (k == a) ≡ false =
-    elim (k == a) as (λ b. (k == a) ≡ b → b ≡ false) [ true ↦ λ e. let same = eqb-true k a e in absurd (omega (arith, same)) | false ↦ λ e. refl ] refl in
-    (λ i. (if other i then v else pos 0) +ℤ none_counted k v (a + 1) n (omega arith) i)
+    let other = ne_eqb k a (λ e. omega (arith, e, lt)) in (λ i. (if other i then v else pos 0) +ℤ none_counted k v (a + 1) n (omega arith) i)
 
 one_counted : (k : ℕ) (v : ℤ) (a n : ℕ) → a ≤ k → k < a + n → total (λ t. if k == t then v else pos 0) (range_with_len a n) ≡ v
 one_counted k v a zero from below = absurd (omega arith)
-one_counted k v a (suc n) from below =
-    elim (k == a) as (λ b. (k == a) ≡ b → (if b then v else pos 0) +ℤ total (λ t. if k == t then v else pos 0) (range_with_len (a + 1) n) ≡ v) [
-      | true ↦ λ e. let same = eqb-true k a e in ap (λ s. v +ℤ s) (none_counted k v (a + 1) n (omega (arith, same))) ∙ plus_none v
-      | false ↦ λ e. let apart = eqb-false k a e in none_plus _ ∙ one_counted k v (a + 1) n (omega (arith, apart)) (omega arith)
-    ] refl
+one_counted k v a (suc n) from below = elim (cases_eq k a) [
+  | inl same ↦ rw (eq-eqb k a same) (ap (λ s. v +ℤ s) (none_counted k v (a + 1) n (omega (arith, same))) ∙ plus_none v)
+  | inr apart ↦ rw (ne_eqb k a apart) (none_plus _ ∙ one_counted k v (a + 1) n (omega (arith, apart)) (omega arith))
+]
 
 -- ---- a history, thread by thread
 
@@ -52,13 +49,13 @@ split_moved accounts ts (r ∷ h) T placed =
     (λ i. first i +ℤ split_moved accounts ts h T1 (λ k d lt. placed (suc k) d (omega arith)) i)
     ∙ sym (total_both (λ t. if is_of t r then v else pos 0) (λ t. moved accounts (is_of t) h T1) ts)
 
--- a thread without requests in a history has none at any place
-none_there : (t : ℕ) (h : History) → of_thread t h ≡ [] → (k : ℕ) (d : Request) → k < length h → ((get_or h k d).thread == t) ≡ false
-none_there t [] e k d lt = absurd (omega arith)
-none_there t (r ∷ h) e k d lt =
-    elim (r.thread == t) as (λ b. (r.thread == t) ≡ b → cond b (r ∷ of_thread t h) (of_thread t h) ≡ [] → ((get_or (r ∷ h) k d).thread == t) ≡ false) [
+-- where a filter lets nothing through, each fails
+all_fail : {A : Type 0} (p : A → Bool) (xs : List A) → filter p xs ≡ [] → All (λ x. p x ≡ false) xs
+all_fail p [] e = All-nil (λ x. p x ≡ false)
+all_fail {A} p (x ∷ xs) e =
+    elim (p x) as (λ b. p x ≡ b → cond b (x ∷ filter p xs) (filter p xs) ≡ [] → All (λ (y : A). p y ≡ false) (x ∷ xs)) [
       | true ↦ λ own f. cc
-      | false ↦ λ other f. elim k as (λ j. j < suc (length h) → ((get_or (r ∷ h) j d).thread == t) ≡ false) [ zero ↦ λ l. other | suc j ↦ λ l. none_there t h f j d (omega arith) ] lt
+      | false ↦ λ other f. All-cons (λ (y : A). p y ≡ false) x xs other (all_fail p xs f)
     ] refl e
 
 module _ (p : Plan) (s : Settling) (settled : IsSettled s) (of_plan : IsOfPlan p s) where
@@ -73,7 +70,7 @@ module _ (p : Plan) (s : Settling) (settled : IsSettled s) (of_plan : IsOfPlan p
       elim (find_thread t s.threads) as (λ o. find_thread t s.threads ≡ o → (1 ≤ t) × (t < 1 + p.threads)) [
         | None ↦ λ none.
             let nothing : of_thread t (history s m) ≡ [] = (settled.agree t m).carried ∙ ap (numbered t 0) (unknown_sends t m none positive) in
-            let apart : ((get_or (history s m) k d).thread == t) ≡ false = none_there t (history s m) nothing k d lt in
+            let apart : ((get_or (history s m) k d).thread == t) ≡ false = all_fail (λ (r : Request). r.thread == t) (history s m) nothing k d lt in
             absurd (eqb-false _ t apart is)
         | Some part ↦ λ at.
             let there = found (λ (q : ThreadPart). q.thread == t) s.threads part at in
@@ -96,9 +93,7 @@ module _ (p : Plan) (s : Settling) (settled : IsSettled s) (of_plan : IsOfPlan p
   first_is m positive below =
       let (plan, planned) = got p.managers.items (m - 1) (omega (arith, positive, below)) in
       let number : m - 1 + 1 ≡ m = omega (arith, positive) in
-      let begins : slice_get (map (λ (q : ManagerPlan). opening q.accounts.items) p.managers.items) (m - 1) ≡ Some (opening plan.accounts.items) =
-      slice_get-map (λ (q : ManagerPlan). opening q.accounts.items) p.managers.items (m - 1)
-      ∙ ap (option_map (λ (q : ManagerPlan). opening q.accounts.items)) planned in
+      let begins = got_map (λ (q : ManagerPlan). opening q.accounts.items) p.managers.items (m - 1) plan planned in
       ap (first_of s) (sym number) ∙ of_plan.opened (m - 1) (opening plan.accounts.items) begins ∙ ap (λ o. Some (opening (accounts_in o))) (sym planned)
 
   pub opened_with : (m : ℕ) → 1 ≤ m → m ≤ length p.managers.items → IsOpenedWith s m (opening (accounts_of p m))

@@ -1,14 +1,12 @@
 use Rattle.xa_base.proofs.{◌≡◌, ℕ, ◌+◌, ◌-◌, ◌<◌, refl, Some, None, length, map, sym, ap, ◌∙◌, arith, option_map, slice_get, range_with_len}
-use Rattle.xa_base.proofs.{length-range_with_len, get_or-range_with_len, slice_get-map, slice_get-get_or}
+use Rattle.xa_base.proofs.{length-range_with_len, get_or-range_with_len, slice_get-get_or, got_map}
 use Rattle.xa_switch.specs.{ManagerPart, find_manager, first_of, managers_in, reopened_at}
+use Rattle.xa_switch.proofs.Journaled.{begun}
 use Rattle.xa_switch.proofs.laws.reopened_openings_go_on_from_what_was_left.Goals as goal
 
 pub returns : goal.returns
 returns c s next again m T whole of first =
-    let there = elim (find_manager m s.managers) as (λ o. find_manager m s.managers ≡ o → option_map (λ (p : ManagerPart). p.first) o ≡ Some T → (p : ManagerPart) × (find_manager m s.managers ≡ Some p)) [
-      | None ↦ λ e f. cc
-      | Some p ↦ λ e f. (p, e)
-    ] refl first in
+    let there = begun s m T first in
     let within = whole.only m there.0 there.1 in
     let low = within.0 in
     let high = within.1 in
@@ -18,6 +16,6 @@ returns c s next again m T whole of first =
     slice_get-get_or (range_with_len 1 n) (m - 1) m below
     ∙ ap (λ k. Some k) (let e = get_or-range_with_len 1 n (m - 1) m (omega (arith, low, high)) in omega (arith, e, low)) in
     let given : slice_get (map (reopened_at s.managers) (range_with_len 1 n)) (m - 1) ≡ Some (reopened_at s.managers m) =
-    slice_get-map (reopened_at s.managers) (range_with_len 1 n) (m - 1) ∙ ap (option_map (reopened_at s.managers)) number in
+    got_map (reopened_at s.managers) (range_with_len 1 n) (m - 1) m number in
     let same : m - 1 + 1 ≡ m = omega (arith, low) in
     ap (first_of next) (sym same) ∙ of.opened (m - 1) (reopened_at s.managers m) given

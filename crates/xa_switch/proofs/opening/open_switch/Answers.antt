@@ -1,6 +1,10 @@
-use Rattle.xa_base.proofs.{rules, length, sym, ap, ◌∙◌, subst, All, err_from_is_err_and}
-use Rattle.xa_switch.specs.{Setup, IsWithinLimits, IsSoundManager, numbers_of, use_async, AreOfOneOpening}
-use Rattle.xa_switch.proofs.Planned.{all_new, all_begin, setup_is}
+use Rattle.xa_base.proofs.{◌≡◌, ℕ, List, map, None, rules, length, length-map, sym, ap, ◌∙◌, subst, All, err_from_is_err_and}
+use Rattle.xa_tables.specs.{Managed, opening}
+use Rattle.xa_tables.specs.Tables.{Tables}
+use Rattle.xa_tables.proofs.Reopening.{new_opens, accounts_new}
+use Rattle.xa_switch.specs.{Setup, IsWithinLimits, IsSoundManager, Plan, ManagerPlan, numbers_of, use_async, AreOfOneOpening, manager_room, new_manager, opened_by}
+use Rattle.xa_switch.specs.declared.plan.Again.{Again}
+use Rattle.xa_switch.proofs.NewManagers.{all_new, all_begin, tables_are}
 use Rattle.xa_switch.proofs.opening.open_switch.Goals as goal
 
 pub returns-in_err-managers-clause-bad : goal.returns-in_err-managers-clause-bad
@@ -11,19 +15,36 @@ returns-in_err-managers-clause-bad g c =
     let is = c.deref.ensures.value in
     rw (p.1, p.2) (λ e sound. bad.0 e (subst (λ l. All IsSoundManager l) (sym is) sound.accounts), λ never. bad.1 (λ all. never (record { limits = limits; accounts = subst (λ l. All IsSoundManager l) is all })))
 
+-- the tables that a manager begins with
+abbrev begun : ManagerPlan → Tables
+begun m = opening m.accounts.items
+
+-- each manager has the numbers that were laid out
+made : (p : Plan) (n own : Again) (room : ℕ) (given : List ManagerPlan) (ms : List Managed) → n ≡ own → own ≡ numbers_of p → room ≡ manager_room own
+    → given ≡ p.managers.items → ms ≡ map (opened_by p.threads room) given → ms ≡ map (λ m. new_manager n (begun m)) p.managers.items
+made p n own room given ms laid owns roomy gives opens =
+    let threads = sym (ap (λ (a : Again). a.threads) (laid ∙ owns)) in
+    let rooms = roomy ∙ sym (ap manager_room laid) in
+    opens ∙ (λ i. map (λ (m : ManagerPlan). record { tables = begun m; threads = threads i; room = rooms i; reserved = None }) (gives i))
+
 pub put_together-requires-clause-new : goal.put_together-requires-clause-new
 put_together-requires-clause-new g c =
-    all_new c.args.plan.now _ _ c.in_ok-layout.ensures.numbers c.numbers-numbers.ensures _ c.manager_room-room.ensures.room _ c.deref.ensures.value _
-    c.in_ok-managers.ensures.opened
+    all_new c.in_ok-layout.layout.numbers begun c.args.plan.now.managers.items _
+    (made c.args.plan.now _ _ _ _ _ c.in_ok-layout.ensures.numbers c.numbers-numbers.ensures c.manager_room-room.ensures.room c.deref.ensures.value c.in_ok-managers.ensures.opened)
 
 pub put_together-requires-clause-begins : goal.put_together-requires-clause-begins
 put_together-requires-clause-begins g c =
-    all_begin c.args.plan.now _ _ c.in_ok-layout.ensures.numbers c.numbers-numbers.ensures _ c.manager_room-room.ensures.room _ c.deref.ensures.value _
-    c.in_ok-managers.ensures.opened
+    all_begin c.in_ok-layout.layout.numbers begun c.args.plan.now.managers.items _
+    (made c.args.plan.now _ _ _ _ _ c.in_ok-layout.ensures.numbers c.numbers-numbers.ensures c.manager_room-room.ensures.room c.deref.ensures.value c.in_ok-managers.ensures.opened)
+    (λ m. new_opens (begun m) (accounts_new m.accounts.items))
 
 pub returns-clause-opened : goal.returns-clause-opened
 returns-clause-opened g c =
+    let plans : List ManagerPlan = c.args.plan.now.managers.items in
+    let numbers = c.in_ok-layout.ensures.numbers ∙ c.numbers-numbers.ensures in
     let flags = c.in_ok-layout.ensures.flags ∙ c.in_ok-use_async.ensures ∙ ap (λ l. use_async l) c.deref-2.ensures.value in
+    let first = tables_are c.in_ok-layout.layout.numbers begun plans _
+    (made c.args.plan.now _ _ _ _ _ c.in_ok-layout.ensures.numbers c.numbers-numbers.ensures c.manager_room-room.ensures.room c.deref.ensures.value c.in_ok-managers.ensures.opened) in
     subst (λ (s : Setup). AreOfOneOpening s c.put_together.result.0.items c.put_together.result.1.items)
-    (setup_is c.args.plan.now _ _ c.in_ok-layout.ensures.numbers c.numbers-numbers.ensures _ c.manager_room-room.ensures.room _ c.deref.ensures.value _
-    c.in_ok-managers.ensures.opened c.in_ok-layout.layout.use_async.items flags) c.put_together.ensures
+    (λ i. record { numbers = numbers i; managers = (ap length flags ∙ length-map plans (λ (m : ManagerPlan). m.use_async)) i; use_async = flags i; first = first i })
+    c.put_together.ensures

@@ -1,8 +1,10 @@
 use Rattle.xa_base.proofs.{◌≡◌, Bool, true, false, ℕ, ◌+◌, ◌<◌, List, [], ◌∷◌, ◌++◌, length, cond, Result, Ok, Err, get_or, take, refl, sym, ap, ◌∙◌, subst}
-use Rattle.xa_base.proofs.{arith, All, take_more, take_all, All-push}
+use Rattle.xa_base.proofs.{arith, All, take_all}
 use Rattle.std.proofs.Common.{is_ok, is_err}
+use Rattle.std.proofs.lemmas.Bool.{both_ways, true_from_ne_false}
 use Rattle.std.proofs.lemmas.List.{map_more}
-use Rattle.xa_switch.specs.{IsSoundManager, opened_by, ManagerPlan}
+use Rattle.std.proofs.lemmas.List.Elements.{All-more}
+use Rattle.xa_switch.specs.{IsSoundManager, opened_by}
 use Rattle.xa_switch.proofs.opening.managers.open_managers.Goals as goal
 use Rattle.xa_switch.proofs.opening.managers.open_managers.Goals.{in-Ok+then-is_short, in-Ok+else-is_short, in-Err-NoMemory}
 
@@ -10,21 +12,15 @@ fits : {T E : Type 0} (r : Result T E) → is_err r ≡ false → is_ok r ≡ tr
 fits (Ok x) e = refl
 fits (Err x) e = absurd (cc)
 
--- one manager more
-sound_more : (xs : List ManagerPlan) (i : ℕ) (x : ManagerPlan) → i < length xs → x ≡ get_or xs i x → All IsSoundManager (take i xs) → IsSoundManager x
-    → All IsSoundManager (take (i + 1) xs)
-sound_more xs i x low is before here =
-    subst (λ l. All IsSoundManager l) (sym (take_more xs i x low)) (All-push IsSoundManager (take i xs) (get_or xs i x) before (subst IsSoundManager is here))
-
 -- what can't fail to be true is true
 holds : (b : Bool) → ((b ≡ true → ⊥) → ⊥) → b ≡ true
-holds true never = refl
-holds false never = absurd (never (λ e. absurd (cc)))
+holds b never = true_from_ne_false b (λ f. never (both_ways b f))
 
 pub loop-plan-preserved : goal.loop-plan-preserved
 loop-plan-preserved c = record {
   sound =
-      let more = sound_more c.args.managers.now c.loop-plan.plan-index c.plan-item.result (omega arith) c.plan-item.is c.loop-plan.invariant.sound in
+      let more : IsSoundManager c.plan-item.result → All IsSoundManager (take (c.loop-plan.plan-index + 1) c.args.managers.now) = λ here.
+      All-more IsSoundManager c.args.managers.now c.loop-plan.plan-index c.plan-item.result (omega arith) c.loop-plan.invariant.sound (subst IsSoundManager c.plan-item.is here) in
       elim c.match-open_manager.branch [
         | in-Ok+then-is_short w ↦ more w.in-Ok.ensures.sound
         | in-Ok+else-is_short w ↦ more w.in-Ok.ensures.sound

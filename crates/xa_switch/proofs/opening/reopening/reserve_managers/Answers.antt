@@ -1,11 +1,12 @@
-use Rattle.xa_base.proofs.{◌≡◌, Some, ap, ◌∙◌, subst, arith, All, length-set, take_all}
+use Rattle.xa_base.proofs.{◌≡◌, Some, ap, ◌∙◌, subst, sym, arith, take, All, length-set, take_all, All-push}
+use Rattle.std.proofs.lemmas.List.{take_more_set}
+use Rattle.std.proofs.Math.Seq.{map-set_same}
 use Rattle.xa_switch.specs.{ReadyPart}
-use Rattle.xa_switch.proofs.Retaken.{set_alike, all_set_more}
 use Rattle.xa_switch.proofs.opening.reopening.reserve_managers.Goals as goal
 
 pub returns-in_err-reserve-clause-parts : goal.returns-in_err-reserve-clause-parts
 returns-in_err-reserve-clause-parts c =
-    set_alike (λ (r : ReadyPart). r.part) c.loop-place.managers.items c.loop-place.place c.reserve.new.self c.index_mut.result.now (c.in_err-reserve.ensures.part ∙ ap (λ (r : ReadyPart). r.part) c.index_mut.ensures.value)
+    map-set_same (λ (r : ReadyPart). r.part) c.loop-place.managers.items c.loop-place.place c.reserve.new.self c.index_mut.result.now (c.in_err-reserve.ensures.part ∙ ap (λ (r : ReadyPart). r.part) c.index_mut.ensures.value)
     ∙ c.loop-place.invariant.parts
 
 pub loop-place-preserved : goal.loop-place-preserved
@@ -13,12 +14,13 @@ loop-place-preserved c =
     let managers = c.loop-place.managers.items in
     let i = c.loop-place.place in
     let after : ReadyPart = c.reserve.new.self in
+    let Has = λ (r : ReadyPart). r.reserved ≡ Some (c.args.threads, c.args.room) in
     record {
       parts =
-          set_alike (λ (r : ReadyPart). r.part) managers i after c.index_mut.result.now (c.in_ok-reserve.ensures.part ∙ ap (λ (r : ReadyPart). r.part) c.index_mut.ensures.value)
+          map-set_same (λ (r : ReadyPart). r.part) managers i after c.index_mut.result.now (c.in_ok-reserve.ensures.part ∙ ap (λ (r : ReadyPart). r.part) c.index_mut.ensures.value)
           ∙ c.loop-place.invariant.parts;
       many = length-set managers i after ∙ c.loop-place.invariant.many;
-      reserved = all_set_more (λ (r : ReadyPart). r.reserved ≡ Some (c.args.threads, c.args.room)) managers i after c.loop-place.invariant.reserved c.in_ok-reserve.ensures.reserved;
+      reserved = subst (All Has) (sym (take_more_set managers i after (omega arith))) (All-push Has (take i managers) after c.loop-place.invariant.reserved c.in_ok-reserve.ensures.reserved);
     }
 
 pub returns-clause-reserved : goal.returns-clause-reserved

@@ -1,7 +1,7 @@
 use Rattle.xa_base.proofs.{◌≡◌, ◌+◌, Some, [], ◌∷◌, option_map, length, length-append, map, sym, ap, ◌∙◌, subst, arith}
 use Rattle.xa_tables.specs.{AreLeft, reopened}
 use Rattle.xa_switch.specs.{Each, find_manager, last_in, parts_of, reopened_at}
-use Rattle.xa_switch.proofs.Scanning.{each_more}
+use Rattle.xa_switch.proofs.Dealing.{each_more}
 use Rattle.xa_switch.proofs.opening.scans.left_of.Goals as goal
 
 pub loop-before-preserved : goal.loop-before-preserved
