@@ -1,4 +1,5 @@
-use Rattle.xa_base.proofs.{◌≡◌, ℕ, List, map, None, rules, length, length-map, sym, ap, ◌∙◌, subst, All, err_from_is_err_and}
+use Rattle.std.proofs.Common.{arith}
+use Rattle.xa_base.proofs.{◌≡◌, ℕ, List, map, rules, length, length-map, sym, ap, ◌∙◌, subst, All, err_from_is_err_and}
 use Rattle.xa_tables.specs.{Managed, opening}
 use Rattle.xa_tables.specs.Tables.{Tables}
 use Rattle.xa_tables.proofs.Reopening.{new_opens, accounts_new}
@@ -22,10 +23,7 @@ begun m = opening m.accounts.items
 -- each manager has the numbers that were laid out
 made : (p : Plan) (n own : Again) (room : ℕ) (given : List ManagerPlan) (ms : List Managed) → n ≡ own → own ≡ numbers_of p → room ≡ manager_room own
     → given ≡ p.managers.items → ms ≡ map (opened_by p.threads room) given → ms ≡ map (λ m. new_manager n (begun m)) p.managers.items
-made p n own room given ms laid owns roomy gives opens =
-    let threads = sym (ap (λ (a : Again). a.threads) (laid ∙ owns)) in
-    let rooms = roomy ∙ sym (ap manager_room laid) in
-    opens ∙ (λ i. map (λ (m : ManagerPlan). record { tables = begun m; threads = threads i; room = rooms i; reserved = None }) (gives i))
+made p n own room given ms laid owns roomy gives opens = grind arith
 
 pub put_together-requires-clause-new : goal.put_together-requires-clause-new
 put_together-requires-clause-new g c =

@@ -1,9 +1,10 @@
-use Rattle.xa_base.proofs.{◌≡◌, List, map, sym, subst, ap, ◌∙◌, length-map, rules}
+use Rattle.std.proofs.Common.{arith}
+use Rattle.xa_base.proofs.{◌≡◌, map, sym, subst, ◌∙◌, length-map, rules}
 use Rattle.xa_desk.specs.{EndedView}
 use Rattle.xa_worker.specs.{Served}
-use Rattle.xa_switch.specs.{IsSettled, journal, ledgers_of, IsWhole, parts_of}
+use Rattle.xa_switch.specs.{IsSettled, journal, ledgers_of, IsWhole}
 use Rattle.xa_switch.specs.Settling.{Settling}
-use Rattle.xa_switch.proofs.Pieces.{Whole, Joint, workers_numbered, workers_opened, request_lanes, completion_lanes}
+use Rattle.xa_switch.proofs.Pieces.{Joint, workers_numbered, workers_opened, request_lanes, completion_lanes}
 use Rattle.xa_switch.proofs.Sides.{AreLanesOf}
 use Rattle.xa_switch.proofs.Agreeing.{settled}
 use Rattle.xa_switch.proofs.Ledgers.{all_settled_ledgers, all_settled_journals}
@@ -11,14 +12,10 @@ use Rattle.xa_switch.proofs.AllThere.{parts_ready, all_there}
 use Rattle.xa_switch.proofs.settling.close_all.Goals as goal
 
 pub take_workers-answered-requires-clause-numbered : goal.take_workers-answered-requires-clause-numbered
-take_workers-answered-requires-clause-numbered g c =
-    let whole : Whole c.args.desks.items c.args.workers.items = search rules in
-    workers_numbered c.args.desks.items c.args.workers.items whole
+take_workers-answered-requires-clause-numbered g c = grind (arith, workers_numbered)
 
 pub take_workers-answered-requires-clause-opened : goal.take_workers-answered-requires-clause-opened
-take_workers-answered-requires-clause-opened g c =
-    let whole : Whole c.args.desks.items c.args.workers.items = search rules in
-    workers_opened c.args.desks.items c.args.workers.items whole
+take_workers-answered-requires-clause-opened g c = grind (arith, workers_opened)
 
 pub close_lanes-requires : goal.close_lanes-requires
 close_lanes-requires g c =
@@ -35,11 +32,7 @@ close_lanes-requires-2 g c =
     record { apart = lanes.apart; places = rw length-map at lanes.places; closable = lanes.closable }
 
 pub returns-clause-parts : goal.returns-clause-parts
-returns-clause-parts g c = λ i. record {
-  opening = c.requires.opening i;
-  threads = c.take_desks-sent.ensures.taken.parts i;
-  managers = (ap parts_of c.take_workers-answered.ensures.taken.parts ∙ parts_ready c.args.workers.items) i;
-}
+returns-clause-parts g c = grind (arith, parts_ready)
 
 pub invariant_of-result : goal.invariant_of-result
 invariant_of-result g c =

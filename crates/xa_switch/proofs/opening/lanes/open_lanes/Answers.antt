@@ -1,16 +1,11 @@
-use Rattle.xa_base.proofs.{◌+◌, length, map, vec_capacity, sym, ap, subst, arith, length-map}
-use Rattle.xa_switch.specs.{put_row, lane_to, AreNewLanes}
+use Rattle.xa_base.proofs.{◌+◌, map, vec_capacity, sym, subst, arith, length-map}
+use Rattle.xa_switch.specs.{put_row, AreNewLanes}
 use Rattle.xa_switch.proofs.Dealing.{room_more, room_stays}
 use Rattle.xa_switch.proofs.NewEnds.{length_senders, one_more_lane}
 use Rattle.xa_switch.proofs.opening.lanes.open_lanes.Goals as goal
 
 pub deal-columns-requires-clause-row : goal.deal-columns-requires-clause-row
-deal-columns-requires-clause-row g c =
-    let wide = c.loop-before.invariant.lanes.wide in
-    let many = length-map c.loop-before.columns.items (λ v. v.items) in
-    let row = ap length c.in-Ok.ensures.senders in
-    let all = length_senders g.row.T.Denot (lane_to c.args.opening c.args.kind (c.loop-before.before + 1)) c.in-Ok.receiver.line c.args.room c.args.senders in
-    omega (arith, wide, many, row, all)
+deal-columns-requires-clause-row g c = grind (arith, length-map, length_senders)
 
 pub deal-columns-requires-clause-room : goal.deal-columns-requires-clause-room
 deal-columns-requires-clause-room g c =

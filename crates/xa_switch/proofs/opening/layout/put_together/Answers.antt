@@ -17,20 +17,7 @@ assemble_desks-desks-requires c =
     }
 
 pub assemble_workers-workers-requires : goal.assemble_workers-workers-requires
-assemble_workers-workers-requires c =
-    let is = c.requires.laid_out in
-    let managers = is.managers in
-    let many = c.requires.many in
-    let takes = is.requests.many in
-    let wide = is.completions.wide in
-    record {
-      none = is.workers.0;
-      room = is.workers.1;
-      managers = omega (arith, many, managers);
-      receivers = omega (arith, takes, managers);
-      columns = omega (arith, wide, managers, length-map c.args.layout.completions.columns.items (λ v. v.items));
-      fit = workers_fit c.args.layout c.args.managers.items is many c.requires.new c.requires.begins;
-    }
+assemble_workers-workers-requires c = grind (arith, length-map, workers_fit)
 
 pub returns : goal.returns
 returns c =

@@ -1,4 +1,4 @@
-use Rattle.xa_base.proofs.{◌≡◌, Bool, true, false, ℕ, ◌+◌, ◌<◌, List, [], ◌∷◌, ◌++◌, length, cond, Result, Ok, Err, get_or, take, refl, sym, ap, ◌∙◌, subst}
+use Rattle.xa_base.proofs.{◌≡◌, Bool, true, false, ◌+◌, ◌<◌, [], ◌∷◌, ◌++◌, cond, Result, take, sym, ap, ◌∙◌, subst}
 use Rattle.xa_base.proofs.{arith, All, take_all}
 use Rattle.std.proofs.Common.{is_ok, is_err}
 use Rattle.std.proofs.lemmas.Bool.{both_ways, true_from_ne_false}
@@ -9,8 +9,7 @@ use Rattle.xa_switch.proofs.opening.managers.open_managers.Goals as goal
 use Rattle.xa_switch.proofs.opening.managers.open_managers.Goals.{in-Ok+then-is_short, in-Ok+else-is_short, in-Err-NoMemory}
 
 fits : {T E : Type 0} (r : Result T E) → is_err r ≡ false → is_ok r ≡ true
-fits (Ok x) e = refl
-fits (Err x) e = absurd (cc)
+fits r e = grind arith
 
 -- what can't fail to be true is true
 holds : (b : Bool) → ((b ≡ true → ⊥) → ⊥) → b ≡ true

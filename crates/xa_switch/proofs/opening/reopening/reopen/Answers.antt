@@ -1,9 +1,9 @@
-use Rattle.xa_base.proofs.{◌≡◌, ℕ, ◌≤◌, length, map, sym, ap, ◌∙◌, subst, All, range_with_len}
+use Rattle.std.proofs.Common.{arith}
+use Rattle.xa_base.proofs.{◌≡◌, ◌≤◌, map, sym, ap, ◌∙◌, subst, All, range_with_len}
 use Rattle.std.proofs.lemmas.List.FromFn.{length-map-range_with_len}
 use Rattle.xa_tables.specs.{Managed}
 use Rattle.xa_switch.specs.{setup, new_manager, AreOfOneOpening, ReadyPart, find_manager, last_in, managers_in, parts_of, reopened_at}
 use Rattle.xa_switch.specs.Settling.{Settling}
-use Rattle.xa_switch.specs.declared.plan.Again.{Again}
 use Rattle.xa_switch.proofs.AllThere.{find_parts}
 use Rattle.xa_switch.proofs.Lists.{some_of}
 use Rattle.xa_switch.proofs.NewManagers.{all_new, all_begin, tables_are}
@@ -19,10 +19,7 @@ reopen_managers-managers-requires-clause-there g c = λ m low high.
     (found.0, found.1)
 
 pub put_together-desks-requires-clause-many : goal.put_together-desks-requires-clause-many
-put_together-desks-requires-clause-many g c =
-    let f : ℕ → Managed = λ m. new_manager c.args.again.now (reopened_at (parts_of c.reserve_managers.new.managers.items) m) in
-    ap (λ l. length l) c.reopen_managers-managers.ensures ∙ length-map-range_with_len f 1 c.managers-many.result ∙ c.managers-many.ensures.managers
-    ∙ sym (ap (λ l. length l) c.in-Ok.ensures.flags)
+put_together-desks-requires-clause-many g c = grind (arith, length-map-range_with_len)
 
 pub put_together-desks-requires-clause-new : goal.put_together-desks-requires-clause-new
 put_together-desks-requires-clause-new g c =

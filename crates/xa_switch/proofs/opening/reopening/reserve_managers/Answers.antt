@@ -5,9 +5,7 @@ use Rattle.xa_switch.specs.{ReadyPart}
 use Rattle.xa_switch.proofs.opening.reopening.reserve_managers.Goals as goal
 
 pub returns-in_err-reserve-clause-parts : goal.returns-in_err-reserve-clause-parts
-returns-in_err-reserve-clause-parts c =
-    map-set_same (λ (r : ReadyPart). r.part) c.loop-place.managers.items c.loop-place.place c.reserve.new.self c.index_mut.result.now (c.in_err-reserve.ensures.part ∙ ap (λ (r : ReadyPart). r.part) c.index_mut.ensures.value)
-    ∙ c.loop-place.invariant.parts
+returns-in_err-reserve-clause-parts c = grind (arith, map-set_same)
 
 pub loop-place-preserved : goal.loop-place-preserved
 loop-place-preserved c =
@@ -24,5 +22,4 @@ loop-place-preserved c =
     }
 
 pub returns-clause-reserved : goal.returns-clause-reserved
-returns-clause-reserved c =
-    subst (All (λ (r : ReadyPart). r.reserved ≡ Some (c.args.threads, c.args.room))) (take_all c.loop-place.place c.loop-place.managers.items (omega arith)) c.loop-place.invariant.reserved
+returns-clause-reserved c = grind (arith, take_all)

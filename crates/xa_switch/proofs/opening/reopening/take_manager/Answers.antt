@@ -1,26 +1,11 @@
-use Rattle.xa_base.proofs.{◌≡◌, ◌≢◌, ◌==◌, Some, take, get_or, sym, ap, ◌∙◌, subst, arith, All, eq-eqb, ne_eqb, take_all, all_at, find_none, get_or_default}
+use Rattle.xa_base.proofs.{◌≡◌, ◌≢◌, ◌==◌, Some, sym, ap, ◌∙◌, subst, arith, All, eq-eqb, ne_eqb, take_all, all_at, find_none, get_or_default}
 use Rattle.std.proofs.lemmas.List.Elements.{All-more}
 use Rattle.xa_switch.specs.{ReadyPart, find_ready}
 use Rattle.xa_switch.proofs.Retaken.{found_at, found_without}
 use Rattle.xa_switch.proofs.opening.reopening.take_manager.Goals as goal
 
 pub returns-then-number : goal.returns-then-number
-returns-then-number c =
-    let xs = c.loop-place.managers.items in
-    let i = c.loop-place.place in
-    let d : ReadyPart = c.index.result.now in
-    let number = c.args.number in
-    let same = c.loop-place.invariant.same in
-    let here : (get_or xs i d).part.number ≡ number = ap (λ (r : ReadyPart). r.part.number) (sym c.index.ensures) ∙ sym c.number.ensures ∙ c.if-number.true in
-    let found =
-    found_at (λ (r : ReadyPart). r.part.number == number) xs i d (omega arith) (eq-eqb _ _ here) (λ k e lt. ne_eqb (get_or (take i xs) k e).part.number number (c.loop-place.invariant.none k e lt)) in
-    record {
-      taken =
-          subst (λ l. find_ready number l ≡ Some c.remove.result) same (found ∙ ap Some (get_or_default xs i d c.remove.result (omega arith) ∙ sym c.remove.ensures.value));
-      others = λ m differs.
-          let other = ne_eqb (get_or xs i d).part.number m (λ e. differs (sym e ∙ here)) in
-          ap (find_ready m) c.remove.ensures.items ∙ found_without (λ (r : ReadyPart). r.part.number == m) xs i d (omega arith) other ∙ ap (find_ready m) same;
-    }
+returns-then-number c = grind (arith, found_at, eq-eqb, ne_eqb, get_or_default, found_without)
 
 pub loop-place-preserved : goal.loop-place-preserved
 loop-place-preserved c =

@@ -12,8 +12,7 @@ module _ {V X R : Type 0} (items : V → List X) (old now : List V) (all Y rest 
 
   same_column : (d : V) (left : List (ℕ × R)) → left ≡ x ∷ rest → All (λ r. column (map items now) r.0 ≡ column (map items old) r.0) left
       → items (get_or now x.0 d) ≡ column (map items old) x.0
-  same_column d left next same = column_at items now x.0 d below ∙ subst (All (λ r. column (map items now) r.0 ≡ column (map items old) r.0)) next same 0 x
-      (omega arith)
+  same_column d left next same = grind (arith, column_at, below)
 
 pub index_mut-column-requires : goal.index_mut-column-requires
 index_mut-column-requires g c =
