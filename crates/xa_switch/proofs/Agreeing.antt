@@ -1,13 +1,12 @@
 -- All threads and managers of a settled opening agree.
-use Rattle.xa_base.proofs.{◌≡◌, ℕ, zero, suc, ◌+◌, ◌-◌, ◌<◌, ◌≤◌, Bool, true, false, ◌==◌, nat_eq, cond, List, [], ◌∷◌, length, map, sym, refl, ap, ◌∙◌}
-use Rattle.xa_base.proofs.{inl, inr, arith, ne_eqb, Option, All, Contains, eqb-true, cases_lt, none_twice, All-contains, false_from_ne_true}
+use Rattle.xa_base.proofs.{◌≡◌, ℕ, zero, suc, ◌+◌, ◌-◌, ◌<◌, ◌≤◌, true, false, ◌==◌, nat_eq, cond, List, [], ◌∷◌, length, map, sym, refl, ap, ◌∙◌, inl, inr}
+use Rattle.xa_base.proofs.{arith, ne_eqb, Option, All, Contains, eqb-true, cases_lt, none_twice, All-contains, false_from_ne_true}
 use Rattle.std.proofs.lemmas.Simd.{map-map as map_map}
-use Rattle.xa_words.specs.declared.code.Code.{Code}
-use Rattle.xa_words.specs.{Op, Request, Completion}
+use Rattle.xa_words.specs.{Request, Completion}
 use Rattle.xa_lane.specs.{Receiving, items_in, received}
 use Rattle.xa_tables.specs.{of_thread, accepted, parted, IsOpening}
 use Rattle.xa_desk.specs.LedgerView.{LedgerView}
-use Rattle.xa_desk.specs.{is_known, ledger, sent_to, collected_from, EndedView}
+use Rattle.xa_desk.specs.{is_known, sent_to, collected_from, EndedView}
 use Rattle.xa_desk.proofs.Ledgers.{known_is, known_true}
 use Rattle.xa_worker.specs.{Entry, requests, Asking, asked, of_sender_thread, of_own_thread, Served, IsServed, IsOrdered}
 use Rattle.xa_switch.specs.{HasDesks, HasWorkers, has_desk, has_worker, FollowsTables, Agree, IsSettled, ledgers_in, journal_in, ThreadPart, ManagerPart}
@@ -17,7 +16,8 @@ use Rattle.xa_switch.proofs.OneLane.{none_of}
 use Rattle.xa_switch.proofs.Pieces.{Joint, workers_opened, request_columns, completion_columns, pair_agrees, known_at}
 
 -- where no ledger is known, nothing was sent and collected
-unknown : (at : List LedgerView) (t m : ℕ) (J : List Entry) → is_known at m ≡ false → of_thread t (requests J) ≡ [] → Agree t (sent_to at m) (collected_from at m) J
+unknown : (at : List LedgerView) (t m : ℕ) (J : List Entry) → is_known at m ≡ false → of_thread t (requests J) ≡ []
+    → Agree t (sent_to at m) (collected_from at m) J
 unknown at t m J none e =
     rw none (record { carried = e; each = λ n. ((λ h. absurd (omega arith)), (λ h. absurd (cc h))); once = none_twice nat_eq; coded = λ k q h. absurd (omega arith) })
 
@@ -75,7 +75,8 @@ module _ (ds : List EndedView) (ws : List Served) (j : Joint ds ws) (rs : All (�
 
   -- where the search for a thread finds o, and that for a manager finds q
   agrees : (t m : ℕ) (o : Option ThreadPart) (q : Option ManagerPart) → SearchedAs thread_part (λ p. p.thread == t) ds o (has_desk t ds)
-      → SearchedAs manager_part (λ p. p.number == m) ws q (has_worker m ws) → Agree t (sent_to (ledgers_in o) m) (collected_from (ledgers_in o) m) (journal_in q)
+      → SearchedAs manager_part (λ p. p.number == m) ws q (has_worker m ws)
+      → Agree t (sent_to (ledgers_in o) m) (collected_from (ledgers_in o) m) (journal_in q)
   agrees t m o q (inl (d, cd, is_t, at)) (inl (w, cw, is_m, at')) =
       let known = known_true d.ledgers w.number (known_at ds ws j d w cd cw) in
       rw (at, at', ← eqb-true d.thread t is_t, ← eqb-true w.number m is_m, known)

@@ -1,6 +1,6 @@
 -- In a settled opening every manager is there.
-use Rattle.xa_base.proofs.{◌≡◌, ℕ, zero, ◌-◌, ◌≤◌, true, false, ◌==◌, List, [], ◌∷◌, length, map, refl, sym, ap, ◌∙◌, subst, arith, cond, option_map, Some}
-use Rattle.xa_base.proofs.{None, inl, inr, not_both, Contains, eqb-true, length-map, slice_get_within, All-contains}
+use Rattle.xa_base.proofs.{◌≡◌, ℕ, zero, ◌-◌, ◌≤◌, true, false, ◌==◌, List, [], ◌∷◌, length, map, refl, sym, ap, ◌∙◌, subst, arith, cond, option_map, Some, inl}
+use Rattle.xa_base.proofs.{inr, not_both, Contains, eqb-true, length-map}
 use Rattle.xa_desk.specs.LedgerView.{LedgerView}
 use Rattle.xa_desk.specs.{EndedView}
 use Rattle.xa_worker.specs.{Served}
@@ -16,7 +16,8 @@ parts_ready (w ∷ ws) = ap (λ l. manager_part w ∷ l) (parts_ready ws)
 -- a manager is found with its memory
 pub find_parts : (m : ℕ) (cs : List ReadyPart) → find_manager m (parts_of cs) ≡ option_map (λ (c : ReadyPart). c.part) (find_ready m cs)
 find_parts m [] = refl
-find_parts m (c ∷ cs) = elim (c.part.number == m) as (λ b. cond b (Some c.part) (find_manager m (parts_of cs)) ≡ option_map (λ (r : ReadyPart). r.part) (cond b (Some c) (find_ready m cs))) [
+find_parts m (c ∷ cs) =
+    elim (c.part.number == m) as (λ b. cond b (Some c.part) (find_manager m (parts_of cs)) ≡ option_map (λ (r : ReadyPart). r.part) (cond b (Some c) (find_ready m cs))) [
   | true ↦ refl
   | false ↦ find_parts m cs
 ]

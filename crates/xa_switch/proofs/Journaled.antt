@@ -1,13 +1,13 @@
 -- A settled journal is what the tables at the opening make of its requests.
-use Rattle.xa_base.proofs.{option_map, ◌≡◌, ℕ, ◌==◌, List, [], ◌∷◌, sym, refl, ap, ◌∙◌, subst, Option, Some, None, same_Some, All-contains}
+use Rattle.xa_base.proofs.{option_map, same_Some, ◌≡◌, ℕ, ◌==◌, List, [], ◌∷◌, sym, refl, ap, ◌∙◌, subst, Option, Some, None, All-contains}
 use Rattle.std.specs.FinMap as finmap
 use Rattle.xa_tables.specs.Tables.{Tables}
-use Rattle.xa_tables.specs.{next, coded, codes, fate, tables_after, opening, IsNew, ValueIsSum, left_by}
+use Rattle.xa_tables.specs.{next, coded, codes, opening, IsNew, ValueIsSum, left_by}
 use Rattle.xa_words.specs.Orders.{key_cmp}
 use Rattle.xa_tables.specs.History.{History}
 use Rattle.xa_tables.proofs.Reopening.{new_opens, accounts_new}
 use Rattle.xa_worker.specs.{Entry, requests, codes_in}
-use Rattle.xa_switch.specs.{ManagerPart, FollowsTables, IsSettled, find_manager, journal_in, value_in, IsOpenedWith, IsSumOver, fate_in, first_of, history}
+use Rattle.xa_switch.specs.{ManagerPart, FollowsTables, IsSettled, find_manager, IsOpenedWith, IsSumOver, first_of, history}
 use Rattle.xa_switch.specs.Settling.{Settling}
 use Rattle.xa_switch.proofs.Lists.{found, some_of}
 
@@ -47,7 +47,9 @@ follows s m h = follows_in s m (find_manager m s.managers) refl h
 
 -- there is one that began with these
 pub begun : (s : Settling) (m : ℕ) (T : Tables) → first_of s m ≡ Some T → (p : ManagerPart) × (find_manager m s.managers ≡ Some p) × (p.first ≡ T)
-begun s m T = some_of (λ (q : ManagerPart). q.first) (find_manager m s.managers) T
+begun s m T is =
+    let (p, there) = some_of (λ (q : ManagerPart). q.first) (find_manager m s.managers) T is in
+    (p, there, same_Some p.first T (sym (ap (option_map (λ (q : ManagerPart). q.first)) there) ∙ is))
 
 pub follows_first : (s : Settling) (m : ℕ) (T : Tables) → IsSettled s → first_of s m ≡ Some T → IsOpenedWith s m T
 follows_first s m T h is =

@@ -1,6 +1,6 @@
 -- What a settled opening has of a thread is what its desk had in the end, and of a manager what its worker had.
-use Rattle.xa_base.proofs.{◌≡◌, ◌≢◌, ℕ, suc, true, false, ◌==◌, List, [], ◌∷◌, map, get_or, sym, refl, ap, ◌∙◌, arith, Some, inl, inr, eq-eqb, AllPairs, Contains}
-use Rattle.xa_base.proofs.{get_or_default, eqb-true}
+use Rattle.xa_base.proofs.{◌≡◌, ◌≢◌, ℕ, suc, true, false, ◌==◌, List, [], ◌∷◌, map, get_or, sym, refl, ap, ◌∙◌, arith, Some, inl, inr, eq-eqb, AllPairs}
+use Rattle.xa_base.proofs.{Contains, get_or_default, eqb-true}
 use Rattle.std.proofs.lemmas.Bool.{cases_order}
 use Rattle.std.specs.List.{find}
 use Rattle.xa_desk.specs.{EndedView}

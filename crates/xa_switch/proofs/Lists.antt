@@ -1,7 +1,7 @@
 -- Elements of lists: where they stand, what maps and searches make of them.
-use Rattle.xa_base.proofs.{◌≡◌, ℕ, zero, suc, ◌<◌, Bool, true, false, cond, ◌||◌, List, [], ◌∷◌, ◌++◌, length, map, get_or, slice_get, option_map, sym, refl}
-use Rattle.xa_base.proofs.{ap, ◌∙◌, subst, ◌⊎◌, ⊎_elim, inl, inr, arith, Option, Some, None, list_any, Contains, All, AllPairs, slice_get-get_or, slice_get-map}
-use Rattle.xa_base.proofs.{get_or-map, length-map, contains_at, same_Some, false_from_ne_true, All-map}
+use Rattle.xa_base.proofs.{◌≡◌, ℕ, suc, ◌<◌, Bool, true, false, cond, ◌||◌, List, [], ◌∷◌, ◌++◌, length, map, get_or, slice_get, option_map, sym, refl, ap, ◌∙◌}
+use Rattle.xa_base.proofs.{subst, ◌⊎◌, ⊎_elim, inl, inr, arith, Option, Some, None, list_any, Contains, All, AllPairs, slice_get-get_or, slice_get-map}
+use Rattle.xa_base.proofs.{get_or-map, length-map, contains_at, false_from_ne_true, All-map}
 use Rattle.std.proofs.lemmas.Bool.{both_ways}
 use Rattle.std.proofs.lemmas.List.Elements.{Contains-get_or}
 use Rattle.std.proofs.lemmas.List.Folds.{list_any_at}
@@ -84,6 +84,6 @@ pub fails_each : {X : Type 0} (p : X → Bool) (xs : List X) (x : X) → Contain
 fails_each p xs x c none = false_from_ne_true (p x) (λ e. both_ways (list_any p xs) none (list_any_at p xs c.0 x c.1 (ap p c.2 ∙ e)))
 
 -- where what is looked at is there, so is the element
-pub some_of : {A B : Type 0} (f : A → B) (o : Option A) (y : B) → option_map f o ≡ Some y → (x : A) × (o ≡ Some x) × (f x ≡ y)
+pub some_of : {A B : Type 0} (f : A → B) (o : Option A) (y : B) → option_map f o ≡ Some y → (x : A) × (o ≡ Some x)
 some_of f None y e = cc
-some_of f (Some x) y e = (x, refl, same_Some (f x) y e)
+some_of f (Some x) y e = (x, refl)

@@ -1,14 +1,13 @@
 -- Desks and workers of one opening.
-use Rattle.xa_base.proofs.{◌≡◌, ℕ, suc, ◌+◌, ◌≤◌, List, [], ◌∷◌, length, slice_get, refl, sym, ap, ◌∙◌, subst, arith, map, Some, All, length-map}
-use Rattle.xa_base.proofs.{slice_get_within, All-map, got, got_map, all_from, all_at}
-use Rattle.xa_switch.specs.{Each, AreLanes, IsRequestSender, IsCompletionSender, desk_parts, worker_parts, DesksFit, WorkersFit, IsDeskOf}
-use Rattle.xa_switch.specs.{IsWorkerOf, IsLaidOut, IsNewDesk, IsNewWorker, ShareNewLanes, AreOfOneOpening, Setup, setup, new_manager}
-use Rattle.xa_switch.specs.{completion_room, Layout}
-use Rattle.xa_words.specs.{Request, Completion}
-use Rattle.xa_lane.specs.{Sending, Receiving}
+use Rattle.xa_base.proofs.{◌≡◌, ℕ, ◌+◌, ◌≤◌, List, [], ◌∷◌, length, slice_get, refl, sym, ap, ◌∙◌, subst, arith, map, Some, All, length-map, slice_get_within}
+use Rattle.xa_base.proofs.{All-map, got, got_map, all_from, all_at}
+use Rattle.xa_switch.specs.{Each, AreLanes, IsRequestSender, IsCompletionSender, DesksFit, WorkersFit, IsDeskOf, IsWorkerOf, IsLaidOut, IsNewDesk, IsNewWorker}
+use Rattle.xa_switch.specs.{ShareNewLanes, AreOfOneOpening, Setup, setup, new_manager, completion_room, Layout}
+use Rattle.xa_words.specs.{Request}
+use Rattle.xa_lane.specs.{Sending}
 use Rattle.xa_desk.specs.DeskView.{DeskView}
-use Rattle.xa_desk.specs.{PartsView, new_desk}
-use Rattle.xa_worker.specs.{Answering, Reserved, Asking, WorkerView, new_worker}
+use Rattle.xa_desk.specs.{new_desk}
+use Rattle.xa_worker.specs.{Answering, Reserved, WorkerView, new_worker}
 use Rattle.xa_tables.specs.{Managed, IsOpening}
 
 -- each sender of a column has its receiver
@@ -112,7 +111,8 @@ module _ (l : Layout) (xs : List Managed) (is : IsLaidOut l) (many : length xs �
         completions = completion_senders m of.senders of.senders_at;
       })
 
-  together_are : (t m : ℕ) (d : DeskView) (w : WorkerView) → IsDeskOf l.desk_parts.items asks l.completions.receivers.items t d → IsWorkerOf l.worker_parts.items xs l.requests.receivers.items answers m w
+  together_are : (t m : ℕ) (d : DeskView) (w : WorkerView) → IsDeskOf l.desk_parts.items asks l.completions.receivers.items t d
+      → IsWorkerOf l.worker_parts.items xs l.requests.receivers.items answers m w
       → ShareNewLanes t m d w
   together_are t m d w of_d of_w =
       let t_low = slice_get_within l.desk_parts.items t of_d.part of_d.part_at in
@@ -135,7 +135,8 @@ module _ (l : Layout) (xs : List Managed) (is : IsLaidOut l) (many : length xs �
       }))
 
   pub one_opening : (ds : List DeskView) (ws : List WorkerView) → length ds ≡ length l.desk_parts.items → length ws ≡ length l.worker_parts.items
-      → Each (IsDeskOf l.desk_parts.items asks l.completions.receivers.items) ds → Each (IsWorkerOf l.worker_parts.items xs l.requests.receivers.items answers) ws → AreOfOneOpening p ds ws
+      → Each (IsDeskOf l.desk_parts.items asks l.completions.receivers.items) ds
+      → Each (IsWorkerOf l.worker_parts.items xs l.requests.receivers.items answers) ws → AreOfOneOpening p ds ws
   one_opening ds ws many_d many_w desks workers = record {
     threads = many_d ∙ is.threads;
     managers = many_w ∙ is.managers;

@@ -1,6 +1,6 @@
 -- What is settled of all pieces of an opening is of the setup that it was made with.
-use Rattle.xa_base.proofs.{◌≡◌, ℕ, suc, ◌+◌, ◌<◌, ◌==◌, true, false, List, [], ◌∷◌, length, map, slice_get, option_map, Some, sym, refl, ap, subst, ◌∙◌}
-use Rattle.xa_base.proofs.{inl, inr, eq-eqb, arith, All, Contains, range_with_len, eqb-true, same_Some, slice_get_within, contains_at, got, was_mapped}
+use Rattle.xa_base.proofs.{◌≡◌, ℕ, suc, ◌+◌, ◌<◌, ◌==◌, true, false, List, [], ◌∷◌, length, map, slice_get, option_map, Some, sym, refl, ap, subst, ◌∙◌, inl}
+use Rattle.xa_base.proofs.{inr, eq-eqb, arith, All, Contains, range_with_len, eqb-true, same_Some, slice_get_within, contains_at, got, was_mapped}
 use Rattle.std.specs.List.Sorted.{IsPermutation}
 use Rattle.std.proofs.lemmas.List.Sorted.{IsPermutation-sym, IsPermutation-map, Contains-permutation, All-permutation}
 use Rattle.std.proofs.lemmas.Simd.{map-map as map_map}
@@ -77,9 +77,11 @@ of_setup p ds ws es vs o desks workers all = record {
       (All-permutation (λ (s : DeskSeat). s.lane.opening ≡ p.numbers.opening) (map seat_of_desk ds) (desk_seats es) desks
       (all_map seat_of_desk (λ (s : DeskSeat). s.lane.opening ≡ p.numbers.opening) ds
       (λ d cd. let new : IsNewDesk p cd.0 d = o.desks cd.0 d (get_contained ds d cd) in ap (λ (r : Receiving Completion). r.lane.opening) new.completions)));
-  threads = rearranged (λ (s : DeskSeat). s.thread) seat_of_desk seat_of_ended (λ (t : ThreadPart). t.thread) thread_part (λ e. refl) p.numbers.threads ds es o.threads
+  threads =
+      rearranged (λ (s : DeskSeat). s.thread) seat_of_desk seat_of_ended (λ (t : ThreadPart). t.thread) thread_part (λ e. refl) p.numbers.threads ds es o.threads
       (λ k d at. ap (λ (x : DeskView). x.thread) (o.desks k d at).made ∙ (omega arith)) desks;
-  managers = rearranged (λ (s : WorkerSeat). s.number) seat_of_worker seat_of_done (λ (m : ManagerPart). m.number) manager_part (λ v. refl) p.managers ws vs o.managers
+  managers =
+      rearranged (λ (s : WorkerSeat). s.number) seat_of_worker seat_of_done (λ (m : ManagerPart). m.number) manager_part (λ v. refl) p.managers ws vs o.managers
       (λ k w at. ap (λ (x : WorkerView). x.number) (o.workers k w at).made ∙ (omega arith)) workers;
   opened = found_with p ds ws o vs workers es;
 }
@@ -87,9 +89,11 @@ of_setup p ds ws es vs o desks workers all = record {
     -- the numbers of what is settled, in the order of its pieces
     rearranged : {S X Y Z : Type 0} (of_seat : S → ℕ) (seat : X → S) (seat' : Y → S) (of_part : Z → ℕ) (part : Y → Z)
         → ((y : Y) → of_seat (seat' y) ≡ of_part (part y)) → (n : ℕ) (xs : List X) (ys : List Y) → length xs ≡ n
-        → Each (λ k x. of_seat (seat x) ≡ 1 + k) xs → IsPermutation (map seat xs) (map seat' ys) → IsPermutation (range_with_len 1 n) (map of_part (map part ys))
+        → Each (λ k x. of_seat (seat x) ≡ 1 + k) xs → IsPermutation (map seat xs) (map seat' ys)
+        → IsPermutation (range_with_len 1 n) (map of_part (map part ys))
     rearranged {Y = Y} of_seat seat seat' of_part part same n xs ys many numbered moved =
-        let before : map of_seat (map seat xs) ≡ range_with_len 1 n = map_map of_seat seat xs ∙ numbers_of (λ x. of_seat (seat x)) 1 xs numbered ∙ ap (range_with_len 1) many in
+        let before : map of_seat (map seat xs) ≡ range_with_len 1 n =
+        map_map of_seat seat xs ∙ numbers_of (λ x. of_seat (seat x)) 1 xs numbered ∙ ap (range_with_len 1) many in
         let read : map (λ (y : Y). of_seat (seat' y)) ys ≡ map (λ (y : Y). of_part (part y)) ys = λ i. map (λ (y : Y). same y i) ys in
         let after : map of_seat (map seat' ys) ≡ map of_part (map part ys) = map_map of_seat seat' ys ∙ read ∙ sym (map_map of_part part ys) in
         subst (λ (l : List ℕ × List ℕ). IsPermutation l.0 l.1) (λ j. (before j, after j)) (IsPermutation-map of_seat (map seat xs) (map seat' ys) moved)

@@ -1,7 +1,7 @@
 -- What the closed lanes of a desk and a worker say of the two.
-use Rattle.xa_base.proofs.{◌≡◌, ℕ, zero, suc, ◌+◌, ◌<◌, ◌≤◌, Bool, true, false, ◌==◌, ◌&&◌, cond, List, [], ◌∷◌, ◌++◌, map, slice_get, option_map, sym, refl}
-use Rattle.xa_base.proofs.{ap, ◌∙◌, subst, ⊎_elim, inl, inr, arith, eq-eqb, ne_eqb, Option, Some, None, All, Contains, filter, eqb-true, slice_get-map}
-use Rattle.xa_base.proofs.{All-contains, and_parts, same_Some}
+use Rattle.xa_base.proofs.{◌≡◌, ℕ, zero, suc, ◌+◌, ◌<◌, ◌≤◌, true, false, ◌==◌, ◌&&◌, cond, List, [], ◌∷◌, ◌++◌, map, slice_get, option_map, sym, refl, ap, ◌∙◌}
+use Rattle.xa_base.proofs.{subst, ⊎_elim, inl, inr, arith, eq-eqb, ne_eqb, Option, Some, None, All, Contains, filter, eqb-true, slice_get-map, All-contains}
+use Rattle.xa_base.proofs.{and_parts, same_Some}
 use Rattle.std.proofs.lemmas.Bool.{cond_both}
 use Rattle.std.proofs.lemmas.List.Folds.{Any-from_list_any}
 use Rattle.xa_words.specs.declared.code.Code.{Code}
@@ -9,7 +9,7 @@ use Rattle.xa_words.specs.{Op, Request, Completion}
 use Rattle.xa_lane.specs.{Parcel, of_sender, Sending, Receiving, somes, received, has_ended, left_of, sent_at}
 use Rattle.xa_tables.specs.{of_thread}
 use Rattle.xa_desk.specs.{drained_code, numbered, arrived, IsPartOf, nothing, with_last, without_last}
-use Rattle.xa_worker.specs.{Entry, requests, completion_of, Answering}
+use Rattle.xa_worker.specs.{Entry, requests, completion_of}
 use Rattle.xa_switch.specs.{answers, IsClosed}
 use Rattle.xa_switch.proofs.Lists.{In, in_front, in_map, place_of}
 

@@ -1,6 +1,6 @@
 -- The desks and workers of an opening come from it, and at its desks nothing is outstanding.
-use Rattle.xa_base.proofs.{◌≡◌, ℕ, ◌+◌, ◌-◌, List, [], length, map, get_or, slice_get, option_map, sym, ap, ◌∙◌, subst, arith, Some, All, All-append, slice_get-map}
-use Rattle.xa_base.proofs.{slice_get-get_or, contains_at, All-contains, All-map}
+use Rattle.xa_base.proofs.{◌≡◌, ℕ, ◌+◌, ◌-◌, List, [], length, map, get_or, slice_get, option_map, sym, ap, ◌∙◌, subst, arith, Some, All, All-append}
+use Rattle.xa_base.proofs.{slice_get-map, slice_get-get_or, contains_at, All-contains, All-map}
 use Rattle.xa_words.specs.{Request, Completion}
 use Rattle.xa_tables.specs.{IsOpening}
 use Rattle.xa_lane.specs.{Sending, Receiving}

@@ -1,6 +1,6 @@
 -- The lanes that the pieces of one side have ends of: the desks of the lanes of requests, the workers of those of completions.
 use Rattle.xa_base.proofs.{◌≡◌, ◌≢◌, ℕ, ◌+◌, ◌-◌, ◌<◌, ◌≤◌, true, ◌==◌, List, [], length, map, replicate, get_or, slice_get, option_map, sym, ap, ◌∙◌, subst}
-use Rattle.xa_base.proofs.{arith, eq-eqb, Some, All, AllPairs, Contains, list_any, eqb-true, All-nil, All-contains, slice_get-map, contains_at, was_mapped}
+use Rattle.xa_base.proofs.{arith, eq-eqb, Some, All, AllPairs, Contains, list_any, eqb-true, All-nil, slice_get-map, contains_at, was_mapped}
 use Rattle.std.proofs.lemmas.List.Elements.{Contains-get_or}
 use Rattle.std.proofs.lemmas.List.Folds.{Any-from_list_any, list_any_at}
 use Rattle.xa_lane.specs.{Sending, Receiving, IsWhole}

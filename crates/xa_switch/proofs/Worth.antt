@@ -1,8 +1,8 @@
 -- What all accounts are worth together is what was declared and what the threads have moved.
-use Rattle.xa_base.proofs.{ℤ, pos, ◌+ℤ◌, option_map, unwrap_or, All, ◌≡◌, ℕ, zero, suc, Bool, filter, All-nil, All-cons, ◌+◌, ◌-◌, ◌<◌, ◌≤◌, ◌==◌, true, false, cond, if◌then◌else◌, List, []}
-use Rattle.xa_base.proofs.{◌∷◌, length, map, get_or, slice_get, sym, refl, ap, ◌∙◌, arith, Some, None, Contains, range_with_len, eqb-true, eqb-false}
-use Rattle.xa_base.proofs.{length-range_with_len, get_or-range_with_len, +ℤ_idl as none_plus, +ℤ_idr as plus_none, total_same, total_alike}
-use Rattle.xa_base.proofs.{total_both, total_nothing, total_across, contains_at, range_all, got, got_map, All-contains, inl, inr, cases_eq, eq-eqb, ne_eqb}
+use Rattle.xa_base.proofs.{ℤ, pos, ◌+ℤ◌, unwrap_or, All, ◌≡◌, ℕ, zero, suc, Bool, filter, All-nil, All-cons, ◌+◌, ◌-◌, ◌<◌, ◌≤◌, ◌==◌, true, false, cond, List}
+use Rattle.xa_base.proofs.{[], ◌∷◌, if◌then◌else◌, length, map, get_or, sym, refl, ap, ◌∙◌, arith, Some, None, Contains, range_with_len, eqb-true, eqb-false}
+use Rattle.xa_base.proofs.{length-range_with_len, get_or-range_with_len, +ℤ_idl as none_plus, +ℤ_idr as plus_none, total_same, total_alike, total_both}
+use Rattle.xa_base.proofs.{total_nothing, total_across, contains_at, range_all, got, got_map, All-contains, inl, inr, cases_eq, eq-eqb, ne_eqb}
 use Rattle.std.specs.FinMap as finmap
 use Rattle.std.proofs.lemmas.List.Sorted.{IsPermutation-sym, Contains-permutation}
 use Rattle.xa_switch.specs.{ManagerPlan, Plan, IsSoundManager, IsOfPlan, ThreadPart, IsSettled, find_thread, ledgers_in, value, sent, IsOpenedWith, first_of}

@@ -1,5 +1,5 @@
-use Rattle.xa_base.proofs.{◌≡◌, ◌<◌, get_or, get_or-set_other, set, map, ◌∷◌, [], ◌++◌, length, length-append, vec_capacity, rules, arith, refl, sym, subst, ap, ◌∙◌}
-use Rattle.xa_base.proofs.{into_iter_items, taken_next, next_place}
+use Rattle.xa_base.proofs.{◌≡◌, ◌<◌, get_or, get_or-set_other, set, map, ◌∷◌, [], ◌++◌, length, length-append, vec_capacity, rules, arith, refl, sym, subst, ap}
+use Rattle.xa_base.proofs.{◌∙◌, into_iter_items, taken_next, next_place}
 use Rattle.std.proofs.Math.Seq.{map-set_same}
 use Rattle.xa_switch.proofs.Dealing.{put_none, dealt_more}
 use Rattle.xa_switch.proofs.columns.deal.Goals as goal

@@ -1,5 +1,5 @@
-use Rattle.xa_base.proofs.{◌≡◌, ℕ, ◌+◌, ◌-◌, ◌<◌, Some, length, map, sym, ap, ◌∙◌, arith, slice_get, range_with_len}
-use Rattle.xa_base.proofs.{length-range_with_len, get_or-range_with_len, slice_get-get_or, got_map}
+use Rattle.xa_base.proofs.{◌≡◌, ℕ, ◌+◌, ◌-◌, ◌<◌, Some, length, map, sym, ap, ◌∙◌, arith, slice_get, range_with_len, length-range_with_len}
+use Rattle.xa_base.proofs.{get_or-range_with_len, slice_get-get_or, got_map}
 use Rattle.xa_switch.specs.{first_of, managers_in, reopened_at}
 use Rattle.xa_switch.proofs.Journaled.{begun}
 use Rattle.xa_switch.proofs.laws.reopened_openings_go_on_from_what_was_left.Goals as goal

@@ -1,5 +1,4 @@
-use Rattle.std.proofs.Common.{arith}
-use Rattle.xa_base.proofs.{◌≡◌, map, sym, subst, ◌∙◌, length-map, rules}
+use Rattle.xa_base.proofs.{arith, ◌≡◌, map, sym, subst, ◌∙◌, length-map, rules}
 use Rattle.xa_desk.specs.{EndedView}
 use Rattle.xa_worker.specs.{Served}
 use Rattle.xa_switch.specs.{IsSettled, journal, ledgers_of, IsWhole}

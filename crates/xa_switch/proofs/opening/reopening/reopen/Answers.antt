@@ -1,5 +1,4 @@
-use Rattle.std.proofs.Common.{arith}
-use Rattle.xa_base.proofs.{◌≡◌, ◌≤◌, map, sym, ap, ◌∙◌, subst, All, range_with_len}
+use Rattle.xa_base.proofs.{arith, ◌≡◌, ◌≤◌, map, sym, ap, ◌∙◌, subst, All, range_with_len}
 use Rattle.std.proofs.lemmas.List.FromFn.{length-map-range_with_len}
 use Rattle.xa_tables.specs.{Managed}
 use Rattle.xa_switch.specs.{setup, new_manager, AreOfOneOpening, ReadyPart, find_manager, last_in, managers_in, parts_of, reopened_at}
@@ -15,8 +14,7 @@ reopen_managers-managers-requires-clause-there g c = λ m low high.
     let new = c.reserve_managers.new.managers.items in
     let within : m ≤ managers_in s = subst (λ n. m ≤ n) c.managers-many.ensures.managers high in
     let there = c.settled.invariant.1.there m low (subst (λ (z : Settling). m ≤ managers_in z) (sym c.settled.view_is) within) in
-    let found = some_of (λ (r : ReadyPart). r.part) _ there.0 (sym (find_parts m new) ∙ ap (find_manager m) c.reserve_managers.ensures.parts ∙ there.1) in
-    (found.0, found.1)
+    some_of (λ (r : ReadyPart). r.part) _ there.0 (sym (find_parts m new) ∙ ap (find_manager m) c.reserve_managers.ensures.parts ∙ there.1)
 
 pub put_together-desks-requires-clause-many : goal.put_together-desks-requires-clause-many
 put_together-desks-requires-clause-many g c = grind (arith, length-map-range_with_len)

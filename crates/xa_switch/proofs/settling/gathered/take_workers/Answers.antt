@@ -11,7 +11,8 @@ take_in-room-requires c =
     let row = ap (λ (w : Served). length w.ends) c.apart-manager.ensures.parts in
     let ends = c.apart-manager.ensures.served.lanes in
     record {
-      row = row_fits i c.next.new.self c.in-Some.worker next (λ w. w.manager.threads) c.args.workers.items _ c.into_iter-worker-iterator.ensures.into_iter_gives.0
+      row =
+          row_fits i c.next.new.self c.in-Some.worker next (λ w. w.manager.threads) c.args.workers.items _ c.into_iter-worker-iterator.ensures.into_iter_gives.0
           c.requires.few (omega (arith, row, ends));
       room = room_left i c.next.new.self c.in-Some.worker next;
     }

@@ -1,5 +1,4 @@
-use Rattle.std.proofs.Common.{arith}
-use Rattle.xa_base.proofs.{◌∙◌}
+use Rattle.xa_base.proofs.{arith, ◌∙◌}
 use Rattle.xa_switch.proofs.settling.settled.Settled.value.Goals as goal
 
 pub returns-clause-sum : goal.returns-clause-sum
