@@ -59,7 +59,7 @@ module _ {C : Type 0} (works : C → DeskView → C → DeskView → Type 0) whe
     workers = all.workers;
     limits = all.limits;
     opened = all.opened;
-    gone = subst (λ (es : List EndedView). Pairwise HasGone (map (λ (t : Member C). t.desk) all.members) es) (sym all.desks_are) (members_gone further all.members all.ran);
+    gone = rw all.desks_are (members_gone further all.members all.ran);
     served = all.served;
   }
 
@@ -71,9 +71,7 @@ module _ {C : Type 0} (works : C → DeskView → C → DeskView → Type 0) whe
     members = members o.jobs.items worked;
     workers = o.workers.items;
     limits = is.limits;
-    opened =
-        subst (λ (ds : List DeskView). AreOfOneOpening p ds o.workers.items)
-        (sym (read_given (λ t. t.desk) (λ a. a.desk) (λ a w. refl) o.jobs.items worked ran.as_many)) is.opened;
+    opened = rw (read_given (λ t. t.desk) (λ a. a.desk) (λ a w. refl) o.jobs.items worked ran.as_many) is.opened;
     clients_are = sym (read_given (λ t. t.client) (λ a. a.client) (λ a w. refl) o.jobs.items worked ran.as_many);
     ran = all_ran o.jobs.items worked ran;
     attended_are = attended ∙ sym (read_come (λ t. t.attended) (λ w. w.attended) (λ a w. refl) o.jobs.items worked ran.as_many);
@@ -84,11 +82,9 @@ module _ {C : Type 0} (works : C → DeskView → C → DeskView → Type 0) whe
 -- an opening with the same clients, desks and workers is opened so too
 pub still_opened : {C : Type 0} (p : Setup) (old new : Opened C) → new.jobs.items ≡ old.jobs.items → new.workers.items ≡ old.workers.items → new.room ≡ old.room
     → IsOpened p old → IsOpened p new
-still_opened {C} p old new jobs workers room is = record {
+still_opened p old new jobs workers room is = record {
   limits = is.limits;
-  opened =
-      subst (λ (ws : List WorkerView). AreOfOneOpening p (map (λ a. a.desk) new.jobs.items) ws) (sym workers)
-      (subst (λ (js : List (ClientJob C)). AreOfOneOpening p (map (λ a. a.desk) js) old.workers.items) (sym jobs) is.opened);
-  ready = subst (λ (js : List (ClientJob C)). All IsReady js) (sym jobs) is.ready;
-  room = subst (HasRoomFor (length new.jobs.items)) (sym room) (subst (λ (js : List (ClientJob C)). HasRoomFor (length js) old.room) (sym jobs) is.room);
+  opened = rw (jobs, workers) is.opened;
+  ready = rw jobs is.ready;
+  room = rw (jobs, room) is.room;
 }

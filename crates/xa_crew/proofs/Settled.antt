@@ -1,6 +1,7 @@
 -- The pieces of an opening are all there, and come from it.
 use Rattle.xa_base.proofs.{◌≡◌, ℕ, ◌+◌, ◌-◌, ◌<◌, ◌≤◌, true, ◌==◌, List, [], ◌∷◌, length, map, Some, sym, refl, ap, ◌∙◌, subst, arith, slice_get, eq-eqb}
-use Rattle.xa_base.proofs.{length-map, slice_get_within, got, all_from, any_at, map_alike}
+use Rattle.xa_base.proofs.{length-map, slice_get_within, got, all_from, any_at, map_alike, list_any}
+use Rattle.xa_base.specs.{Pairwise}
 use Rattle.std.specs.List.Sorted.{IsPermutation}
 use Rattle.std.proofs.lemmas.List.Sorted.{IsPermutation-refl}
 use Rattle.xa_desk.specs.LedgerView.{LedgerView}
@@ -8,12 +9,29 @@ use Rattle.xa_desk.specs.DeskView.{DeskView}
 use Rattle.xa_desk.specs.{EndedView, Ends, GoesOut, new_ledgers}
 use Rattle.xa_worker.specs.{WorkerView, Served}
 use Rattle.xa_switch.specs.{Setup, IsNewDesk, IsNewWorker, DeskSeat, WorkerSeat, ComeFromOpenings, seat_of_desk, seat_of_ended, seat_of_worker, seat_of_done}
-use Rattle.xa_switch.specs.{desk_seats, worker_seats, desk_opening, worker_opening, first_opening, AreOfOne, AreAll, HasDesks, HasWorkers, has_desk, has_worker}
+use Rattle.xa_switch.specs.{desk_seats, worker_seats, desk_opening, worker_opening, first_opening, AreOfOne, AreAll, HasDesks, HasWorkers}
 use Rattle.xa_crew.specs.{HasGone, HasServed, ArePiecesOf}
 
 -- desks that end have their seats and their ledgers
 abbrev pub GoOut : Type 0
 GoOut = (d : DeskView) (e : EndedView) → Ends d e → GoesOut d e
+
+-- what stands at the same place of the first list
+partner : {A B : Type 0} (P : A → B → Type 0) (xs : List A) (ys : List B) → Pairwise P xs ys → (k : ℕ) (y : B) → slice_get ys k ≡ Some y
+    → (x : A) × (slice_get xs k ≡ Some x) × P x y
+partner P xs ys all k y at =
+    let within = slice_get_within ys k y at in
+    let many = all.as_many in
+    let (x, there) = got xs k (omega (arith, within, many)) in
+    (x, there, all.each k x y there at)
+
+-- of pieces with rising numbers each is there
+has_number : {A : Type 0} (number : A → ℕ) (xs : List A) → ((k : ℕ) (x : A) → slice_get xs k ≡ Some x → number x ≡ k + 1)
+    → (n : ℕ) → 1 ≤ n → n ≤ length xs → list_any (λ x. number x == n) xs ≡ true
+has_number number xs numbers n low high =
+    let (x, at) = got xs (n - 1) (omega (arith, low, high)) in
+    let own = numbers (n - 1) x at in
+    any_at (λ y. number y == n) xs (n - 1) x at (eq-eqb (number x) n (omega (arith, own, low)))
 
 module _ (out : GoOut) where
   gone_seat : (d : DeskView) (e : EndedView) → HasGone d e → seat_of_ended e ≡ seat_of_desk d
@@ -48,18 +66,10 @@ module _ (out : GoOut) (p : Setup) (ended : List EndedView) (done : List Served)
 
   -- the opened desk of an ended one, and the opened worker of one that has run
   desk_of : (k : ℕ) (e : EndedView) → slice_get ended k ≡ Some e → (d : DeskView) × IsNewDesk p k d × HasGone d e
-  desk_of k e at =
-      let within = slice_get_within ended k e at in
-      let many = r.gone.as_many in
-      let d = got r.desks k (omega (arith, within, many)) in
-      (d.0, r.opened.desks k d.0 d.1, r.gone.each k d.0 e d.1 at)
+  desk_of k e at = let (d, there, gone) = partner HasGone r.desks ended r.gone k e at in (d, r.opened.desks k d there, gone)
 
   worker_of : (k : ℕ) (d : Served) → slice_get done k ≡ Some d → (w : WorkerView) × IsNewWorker p k w × HasServed w d
-  worker_of k d at =
-      let within = slice_get_within done k d at in
-      let many = r.served.as_many in
-      let w = got r.workers k (omega (arith, within, many)) in
-      (w.0, r.opened.workers k w.0 w.1, r.served.each k w.0 d w.1 at)
+  worker_of k d at = let (w, there, served) = partner HasServed r.workers done r.served k d at in (w, r.opened.workers k w there, served)
 
   ended_thread : (k : ℕ) (e : EndedView) → slice_get ended k ≡ Some e → e.thread ≡ k + 1
   ended_thread k e at = let d = desk_of k e at in ap (λ (x : DeskSeat). x.thread) (gone_seat out d.0 e d.2) ∙ ap (λ (x : DeskView). x.thread) d.1.made
@@ -102,18 +112,6 @@ module _ (out : GoOut) (p : Setup) (ended : List EndedView) (done : List Served)
       first_is [] ds n some is = absurd (omega (arith, some))
       first_is (e ∷ es) ds n some is = is 0 e refl
 
-  has_ended : (t : ℕ) → 1 ≤ t → t ≤ length ended → has_desk t ended ≡ true
-  has_ended t low high =
-      let e = got ended (t - 1) (omega (arith, low, high)) in
-      let thread = ended_thread (t - 1) e.0 e.1 in
-      any_at (λ (d : EndedView). d.thread == t) ended (t - 1) e.0 e.1 (eq-eqb e.0.thread t (omega (arith, thread, low)))
-
-  has_done : (m : ℕ) → 1 ≤ m → m ≤ length done → has_worker m done ≡ true
-  has_done m low high =
-      let d = got done (m - 1) (omega (arith, low, high)) in
-      let number = done_number (m - 1) d.0 d.1 in
-      any_at (λ (w : Served). w.number == m) done (m - 1) d.0 d.1 (eq-eqb d.0.number m (omega (arith, number, low)))
-
   ended_ledgers : (k : ℕ) (e : EndedView) → slice_get ended k ≡ Some e → length e.ledgers ≡ p.managers
   ended_ledgers k e at =
       let d = desk_of k e at in
@@ -128,6 +126,6 @@ module _ (out : GoOut) (p : Setup) (ended : List EndedView) (done : List Served)
   all_pieces = record {
     some_desk = some_ended;
     some_worker = some_done;
-    workers = all_from (λ d. HasWorkers (length d.ledgers) done) ended (λ k e at m low high. let many = many_done in let ledgers = ended_ledgers k e at in has_done m low (omega (arith, high, many, ledgers)));
-    desks = all_from (λ w. HasDesks w.manager.threads ended) done (λ k d at t low high. let many = many_ended in let threads = done_threads k d at in has_ended t low (omega (arith, high, many, threads)));
+    workers = all_from (λ d. HasWorkers (length d.ledgers) done) ended (λ k e at m low high. let many = many_done in let ledgers = ended_ledgers k e at in has_number (λ (w : Served). w.number) done done_number m low (omega (arith, high, many, ledgers)));
+    desks = all_from (λ w. HasDesks w.manager.threads ended) done (λ k d at t low high. let many = many_ended in let threads = done_threads k d at in has_number (λ (d : EndedView). d.thread) ended ended_thread t low (omega (arith, high, many, threads)));
   }

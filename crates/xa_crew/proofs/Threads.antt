@@ -116,9 +116,9 @@ module _ {J D : Type 0} (comes_to : J → D → Type 0) where
       subst runs (sym (comes.each k job (Err back) there at)) (all_at runs jobs k job all there)
 
 -- there is room for all that came of so many jobs, where there was before they were started
-pub room_for_all : {J D : Type 0} (comes_to : J → D → Type 0) (jobs : List J) (many : ℕ) (h : Hands J D) (c : Came J D) → HasRoom many h → many ≡ length jobs
+pub room_for_all : {J D : Type 0} (comes_to : J → D → Type 0) {jobs : List J} {many : ℕ} {h : Hands J D} {c : Came J D} → HasRoom many h → many ≡ length jobs
     → c.done ≡ h.done → c.back ≡ h.back → Pairwise (Comes comes_to) jobs c.came.items → HasRoomForAll c
-room_for_all {J} {D} comes_to jobs many h c room counted done back comes =
+room_for_all {J} {D} comes_to room counted done back comes =
     let done_room = ap (λ (v : Vec D Global). vec_capacity v) done in
     let back_room = ap (λ (v : Vec J Global). vec_capacity v) back in
     let for_done = room.done in

@@ -1,5 +1,5 @@
 -- How workers go on as they take turns, and then run.
-use Rattle.xa_base.proofs.{◌≡◌, ℕ, ◌+◌, ◌-◌, ◌<◌, ◌≤◌, ⊎_elim, List, length, Some, sym, refl, ap, ◌∙◌, subst, arith, slice_get, slice_set, cases_eq, length-set}
+use Rattle.xa_base.proofs.{◌≡◌, ℕ, ◌+◌, ◌-◌, ◌<◌, ◌≤◌, inl, inr, List, length, Some, sym, refl, ap, ◌∙◌, subst, arith, slice_get, slice_set, cases_eq, length-set}
 use Rattle.xa_base.proofs.{slice_get_within, some_same, got_set, set_there, map_alike, through}
 use Rattle.xa_worker.specs.{Step, seat_of_worker, WorkerView, SameWorker, IsTied, Served, Stepped}
 use Rattle.xa_worker.proofs.Ties.{extends-chain, stepped-extends}
@@ -23,12 +23,10 @@ pub one_goes_on : (ws : List WorkerView) (i : ℕ) (x y : WorkerView) → slice_
 one_goes_on ws i x y at goes = all_of ws (slice_set ws i y) (record {
   as_many = length-set ws i y;
   each = λ k w w' at_w at_w'.
-      ⊎_elim
-      (λ (h : (k ≡ i) × (w' ≡ y)).
-      let same : w ≡ x = some_same w x (sym at_w ∙ ap (λ n. slice_get ws n) h.0 ∙ at) in
-      subst (λ (v : WorkerView). WorkerGoesOn v w') (sym same) (subst (λ (v : WorkerView). WorkerGoesOn x v) (sym h.1) goes))
-      (λ (h : slice_get ws k ≡ Some w'). subst (λ (v : WorkerView). WorkerGoesOn w v) (some_same w w' (sym at_w ∙ h)) (goes_nowhere w))
-      (got_set ws i y k w' (slice_get_within ws i x at) at_w');
+      elim (got_set ws i y k w' (slice_get_within ws i x at) at_w') [
+        | inl h ↦ rw (some_same w x (sym at_w ∙ ap (slice_get ws) h.0 ∙ at), h.1) goes
+        | inr h ↦ subst (WorkerGoesOn w) (some_same w w' (sym at_w ∙ h)) (goes_nowhere w)
+      ];
 })
 
 pub turn_goes : (m : ℕ) (s : Step) (old new : List WorkerView) → TakesTurn m s old new → AllGoOn old new
@@ -50,19 +48,19 @@ pub one_more_turned : (n : ℕ) (old ws : List WorkerView) (x y : WorkerView)
 one_more_turned n old ws x y h at had = record {
   as_many = length-set ws n y ∙ h.as_many;
   turned = λ k w w' below at_w at_w'.
-      ⊎_elim
-      (λ (same : k ≡ n).
-      let was : w ≡ x = some_same w x (sym at_w ∙ h.left k x (omega (arith, same)) (ap (slice_get ws) same ∙ at)) in
-      let is : w' ≡ y = some_same w' y (sym at_w' ∙ ap (slice_get (slice_set ws n y)) same ∙ set_there ws n y (slice_get_within ws n x at)) in
-      subst (λ (p : WorkerView × WorkerView). HadSomeTurn p.0 p.1) (λ j. (sym was j, sym is j)) had)
-      (λ (other : k ≡ n → ⊥). h.turned k w w' (omega (arith, below, other)) at_w (stays k w' other at_w'))
-      (cases_eq k n);
+      elim (cases_eq k n) [
+        | inl same ↦
+            let was : w ≡ x = some_same w x (sym at_w ∙ h.left k x (omega (arith, same)) (ap (slice_get ws) same ∙ at)) in
+            let is : w' ≡ y = some_same w' y (sym at_w' ∙ ap (slice_get (slice_set ws n y)) same ∙ set_there ws n y (slice_get_within ws n x at)) in
+            rw (was, is) had
+        | inr other ↦ h.turned k w w' (omega (arith, below, other)) at_w (stays k w' other at_w')
+      ];
   left = λ k w le at_w. h.left k w (omega (arith, le)) (stays k w (λ same. omega (arith, le, same)) at_w);
 }
   where
     stays : (k : ℕ) (w : WorkerView) → (k ≡ n → ⊥) → slice_get (slice_set ws n y) k ≡ Some w → slice_get ws k ≡ Some w
     stays k w other at_w =
-        ⊎_elim (λ (here : (k ≡ n) × (w ≡ y)). absurd (other here.0)) (λ (e : slice_get ws k ≡ Some w). e) (got_set ws n y k w (slice_get_within ws n x at) at_w)
+        elim (got_set ws n y k w (slice_get_within ws n x at) at_w) [ inl here ↦ absurd (other here.0) | inr e ↦ e ]
 
 pub all_turned : (n : ℕ) (old new : List WorkerView) → length old ≤ n → HaveTurned n old new → Pairwise HadSomeTurn old new
 all_turned n old new many h = record {

@@ -4,19 +4,18 @@ use Rattle.xa_crew.proofs.hands.do_all.Goals as goal
 
 pub done-requires-clause-room : goal.done-requires-clause-room
 done-requires-clause-room g c =
-    let comes = c.join-came.ensures.came c.args.jobs.items c.start-all.ensures.started in
-    room_for_all g.J.Job.comes_to c.args.jobs.items c.len.result c.in-Ok-Ok-Ok.hands c.join-came.result c.in-Ok-Ok-Ok.ensures'
-    (let many = c.len.ensures in omega (arith, many))
-    (c.join-came.ensures.done ∙ c.start-all.ensures.done) (c.join-came.ensures.back ∙ c.start-all.ensures.back) comes
+    let many = c.len.ensures in
+    room_for_all g.J.Job.comes_to c.in-Ok-Ok-Ok.ensures' (omega (arith, many)) (c.join-came.ensures.done ∙ c.start-all.ensures.done)
+    (c.join-came.ensures.back ∙ c.start-all.ensures.back) (c.join-came.ensures.came c.args.jobs.items c.start-all.ensures.started)
 
 pub done-requires-clause-ready : goal.done-requires-clause-ready
 done-requires-clause-ready g c = (c.args.jobs.items, c.requires.jobs, c.join-came.ensures.came c.args.jobs.items c.start-all.ensures.started)
 
 pub done-requires-in-Some-clause-room : goal.done-requires-in-Some-clause-room
 done-requires-in-Some-clause-room g c =
-    let comes = c.join-others_came.ensures.came c.args.others.items c.start-all_others.ensures.started in
-    room_for_all g.K.Job.comes_to c.args.others.items c.len-2.result c.in-Ok-Ok-Ok.other_hands c.join-others_came.result c.in-Ok-Ok-Ok.ensures''
-    (let many = c.len-2.ensures in omega (arith, many)) (c.join-others_came.ensures.done ∙ c.start-all_others.ensures.done) (c.join-others_came.ensures.back ∙ c.start-all_others.ensures.back) comes
+    let many = c.len-2.ensures in
+    room_for_all g.K.Job.comes_to c.in-Ok-Ok-Ok.ensures'' (omega (arith, many)) (c.join-others_came.ensures.done ∙ c.start-all_others.ensures.done)
+    (c.join-others_came.ensures.back ∙ c.start-all_others.ensures.back) (c.join-others_came.ensures.came c.args.others.items c.start-all_others.ensures.started)
 
 pub done-requires-in-Some-clause-ready : goal.done-requires-in-Some-clause-ready
 done-requires-in-Some-clause-ready g c =
@@ -30,21 +29,16 @@ returns-in-Some-clause-others g c =
     c.done-in-Some.ensures c.args.others.items (c.join-others_came.ensures.came c.args.others.items c.start-all_others.ensures.started)
 
 pub back-requires : goal.back-requires
-back-requires g c = record {
-  room =
-      let comes = c.join-came.ensures.came c.args.jobs.items c.start-all.ensures.started in
-      room_for_all g.J.Job.comes_to c.args.jobs.items c.len.result c.in-Ok-Ok-Ok.hands c.join-came.result c.in-Ok-Ok-Ok.ensures'
-      (let many = c.len.ensures in omega (arith, many))
-      (c.join-came.ensures.done ∙ c.start-all.ensures.done) (c.join-came.ensures.back ∙ c.start-all.ensures.back) comes;
-}
+back-requires g c =
+    let many = c.len.ensures in
+    record { room = room_for_all g.J.Job.comes_to c.in-Ok-Ok-Ok.ensures' (omega (arith, many)) (c.join-came.ensures.done ∙ c.start-all.ensures.done)
+    (c.join-came.ensures.back ∙ c.start-all.ensures.back) (c.join-came.ensures.came c.args.jobs.items c.start-all.ensures.started) }
 
 pub back-requires-in-None : goal.back-requires-in-None
-back-requires-in-None g c = record {
-  room =
-      let comes = c.join-others_came.ensures.came c.args.others.items c.start-all_others.ensures.started in
-      room_for_all g.K.Job.comes_to c.args.others.items c.len-2.result c.in-Ok-Ok-Ok.other_hands c.join-others_came.result c.in-Ok-Ok-Ok.ensures''
-      (let many = c.len-2.ensures in omega (arith, many)) (c.join-others_came.ensures.done ∙ c.start-all_others.ensures.done) (c.join-others_came.ensures.back ∙ c.start-all_others.ensures.back) comes;
-}
+back-requires-in-None g c =
+    let many = c.len-2.ensures in
+    record { room = room_for_all g.K.Job.comes_to c.in-Ok-Ok-Ok.ensures'' (omega (arith, many)) (c.join-others_came.ensures.done ∙ c.start-all_others.ensures.done)
+    (c.join-others_came.ensures.back ∙ c.start-all_others.ensures.back) (c.join-others_came.ensures.came c.args.others.items c.start-all_others.ensures.started) }
 
 pub returns-clause-back : goal.returns-clause-back
 returns-clause-back g c = (

@@ -12,8 +12,7 @@ loop-one-preserved g c =
     let one = c.in-Some.one in
     record {
       so_far = taken_next first _ (into_iter_items c.next.new.self) _ one c.in-Some.ensures.steps.0 i.so_far;
-      back =
-          subst (Pairwise (IsBackAs comes_to) (first ++ one ∷ [])) (sym c.push_reserved.ensures.items)
+      back = rw c.push_reserved.ensures.items
           (push_side (IsBackAs comes_to) first c.loop-one.back.items one c.in-Err.job i.back (λ job comes. subst (Comes comes_to job) c.in-Err.is comes));
       counted = let before = i.counted in let size = ap length c.in-Some.ensures.steps.0 in let len = c.in-Some.ensures.steps.1 in omega (arith, before, size, len);
       room = c.push_reserved.ensures.capacity ∙ i.room;

@@ -13,8 +13,7 @@ loop-one-preserved-in-Ok g c =
     let one = c.in-Some.one in
     record {
       so_far = taken_next first _ (into_iter_items c.next.new.self) _ one c.in-Some.ensures.steps.0 i.so_far;
-      done =
-          subst (Pairwise (IsDoneAs comes_to) (first ++ one ∷ [])) (sym c.push_reserved.ensures.items)
+      done = rw c.push_reserved.ensures.items
           (push_side (IsDoneAs comes_to) first c.loop-one.done.items one c.in-Ok.one i.done (λ job comes. subst (Comes comes_to job) c.in-Ok.is comes));
       counted = let before = i.counted in let size = ap length c.in-Some.ensures.steps.0 in let len = c.in-Some.ensures.steps.1 in omega (arith, before, size, len);
       room = c.push_reserved.ensures.capacity ∙ i.room;
@@ -38,9 +37,7 @@ loop-one-preserved g c =
     let one = c.in-Some.one in
     record {
       so_far = taken_next first _ (into_iter_items c.next.new.self) _ one c.in-Some.ensures.steps.0 i.so_far;
-      done =
-          subst (Pairwise (IsDoneAs comes_to) (first ++ one ∷ [])) (sym c.push_reserved-in-Err.ensures.items)
-          (push_side (IsDoneAs comes_to) first c.loop-one.done.items one c.run.result i.done
+      done = rw c.push_reserved-in-Err.ensures.items (push_side (IsDoneAs comes_to) first c.loop-one.done.items one c.run.result i.done
           (λ job comes. subst (λ j. comes_to j c.run.result) (subst (Comes comes_to job) c.in-Err.is comes) c.run.ensures));
       counted = let before = i.counted in let size = ap length c.in-Some.ensures.steps.0 in let len = c.in-Some.ensures.steps.1 in omega (arith, before, size, len);
       room = c.push_reserved-in-Err.ensures.capacity ∙ i.room;

@@ -13,8 +13,7 @@ loop-hand-preserved g c =
     record {
       so_far = taken_next first _ (into_iter_items c.next.new.self) _ hand c.in-Some.ensures.steps.0 i.so_far;
       counted = let before = i.counted in let size = ap length c.in-Some.ensures.steps.0 in let len = c.in-Some.ensures.steps.1 in omega (arith, before, size, len);
-      brought =
-          subst (Pairwise (Brings comes_to) (first ++ hand ∷ [])) (sym c.push_reserved.ensures.items)
+      brought = rw c.push_reserved.ensures.items
           (push_side (Brings comes_to) first c.loop-hand.came.items hand c.join.result i.brought (λ job at. subst (λ j. Comes comes_to j c.join.result) at c.join.ensures));
       room = c.push_reserved.ensures.capacity ∙ i.room;
     }

@@ -21,8 +21,7 @@ loop-job-preserved-then-not-all g c =
     let job = c.in-Some.job in
     record {
       so_far = taken_next c.loop-job.yielded _ (into_iter_items c.next.new.self) _ job c.in-Some.ensures.steps.0 i.so_far;
-      started =
-          subst (AreAtFirst g.J.Job.comes_to (c.loop-job.yielded ++ job ∷ []) c.loop-job.self.hands.items) (sym c.push_reserved.ensures.items)
+      started = rw c.push_reserved.ensures.items
           (one_more_other g.J.Job.comes_to c.loop-job.yielded c.loop-job.self.hands.items c.loop-job.self.others.items job (Err job) i.started refl);
       all = λ all. cc;
       hands = i.hands;
@@ -38,8 +37,7 @@ loop-job-preserved-in-Ok g c =
     let job = c.in-Some.job in
     record {
       so_far = taken_next c.loop-job.yielded _ (into_iter_items c.next.new.self) _ job c.in-Some.ensures.steps.0 i.so_far;
-      started =
-          subst (λ hs. AreAtFirst g.J.Job.comes_to (c.loop-job.yielded ++ job ∷ []) hs c.loop-job.self.others.items) (sym c.push_reserved-in-Ok.ensures.items)
+      started = rw c.push_reserved-in-Ok.ensures.items
           (one_more_at g.J.Job.comes_to c.loop-job.yielded c.loop-job.self.hands.items c.loop-job.self.others.items job c.in-Ok.hand (i.all c.if-not-all.false) i.started
           c.in-Ok.ensures.started);
       all = i.all;

@@ -14,24 +14,16 @@ settle_run-requires g c =
     let served = all_served c.args.self.workers.items left c.run-workers.result.items goes c.run-workers.ensures.served in
     (p, clients_of c.args.self, all_have_run g.C.Client.works c.args.self is c.attend_all-worked.ensures.worked c.apart-clients.ensures.clients c.apart-clients.ensures.desks served)
 
-pub returns-clause-ran : goal.returns-clause-ran
-returns-clause-ran g c =
-    IfOk-weaker c.settle_run.result _ _
-    (λ r settles p is.
+pub returns : goal.returns
+returns g c =
     let left = c.attend_all-worked.new.idle in
     let goes = subst (λ (ws : List WorkerView). AllGoOn ws left) c.new-turns.ensures c.attend_all-worked.ensures.idled in
     let served = all_served c.args.self.workers.items left c.run-workers.result.items goes c.run-workers.ensures.served in
-    settles p (clients_of c.args.self)
-    (all_have_run g.C.Client.works c.args.self is c.attend_all-worked.ensures.worked c.apart-clients.ensures.clients c.apart-clients.ensures.desks served))
-    c.settle_run.ensures.run
-
-pub returns-clause-unsettled : goal.returns-clause-unsettled
-returns-clause-unsettled g c =
-    IfErr-weaker c.settle_run.result _ _
-    (λ r back p is.
-    let left = c.attend_all-worked.new.idle in
-    let goes = subst (λ (ws : List WorkerView). AllGoOn ws left) c.new-turns.ensures c.attend_all-worked.ensures.idled in
-    let served = all_served c.args.self.workers.items left c.run-workers.result.items goes c.run-workers.ensures.served in
-    back p (clients_of c.args.self)
-    (all_have_run g.C.Client.works c.args.self is c.attend_all-worked.ensures.worked c.apart-clients.ensures.clients c.apart-clients.ensures.desks served))
-    c.settle_run.ensures.back
+    record {
+      ran = IfOk-weaker c.settle_run.result _ _ (λ r settles p is. settles p (clients_of c.args.self)
+          (all_have_run g.C.Client.works c.args.self is c.attend_all-worked.ensures.worked c.apart-clients.ensures.clients c.apart-clients.ensures.desks served))
+          c.settle_run.ensures.run;
+      unsettled = IfErr-weaker c.settle_run.result _ _ (λ r back p is. back p (clients_of c.args.self)
+          (all_have_run g.C.Client.works c.args.self is c.attend_all-worked.ensures.worked c.apart-clients.ensures.clients c.apart-clients.ensures.desks served))
+          c.settle_run.ensures.back;
+    }

@@ -1,6 +1,7 @@
 use Rattle.xa_base.proofs.{◌≡◌, ◌++◌, List, length, map, sym, ap, ◌∙◌, arith, append-nil, into_iter_items, map_alike, none_of, push_side, taken_next}
 use Rattle.xa_worker.specs.{seat_of_worker, seat_of_done, WorkerView}
 use Rattle.xa_crew.specs.{HasServed}
+use Rattle.xa_crew.proofs.Threads.{gone_through}
 use Rattle.xa_crew.proofs.turns.Turns.run.Goals as goal
 
 pub loop-worker-preserved : goal.loop-worker-preserved
@@ -12,11 +13,7 @@ loop-worker-preserved g c =
       so_far = taken_next first _ (into_iter_items c.next.new.self) _ w c.in-Some.ensures.steps.0 i.so_far;
       served = rw c.push_reserved.ensures.items (push_side HasServed first c.loop-worker.done.items w c.run.result i.served
           (record { same = c.run.ensures.same; served = c.run.ensures.served; seat = c.run.ensures.seat }));
-      counted =
-          let before = i.counted in
-          let size = ap length c.in-Some.ensures.steps.0 in
-          let len = c.in-Some.ensures.steps.1 in
-          omega (arith, before, size, len);
+      counted = let before = i.counted in let size = ap length c.in-Some.ensures.steps.0 in let len = c.in-Some.ensures.steps.1 in omega (arith, before, size, len);
       room = c.push_reserved.ensures.capacity ∙ i.room;
     }
 
@@ -24,8 +21,6 @@ pub returns-clause-seats : goal.returns-clause-seats
 returns-clause-seats g c =
     let i = c.loop-worker.invariant in
     let first = c.loop-worker.yielded in
-    let rest = into_iter_items c.loop-worker.worker-iterator in
-    let none = none_of rest (let counted = i.counted in let left = c.in-None.ensures.steps.0 in omega (arith, counted, left)) in
-    let all : first ≡ c.args.self = sym (append-nil first) ∙ ap (λ l. first ++ l) (sym none) ∙ i.so_far in
+    let all = gone_through first (into_iter_items c.loop-worker.worker-iterator) c.args.self _ i.counted c.in-None.ensures.steps.0 i.so_far in
     map_alike HasServed seat_of_worker seat_of_done (λ w d is. is.seat) first c.loop-worker.done.items i.served
     ∙ ap (λ (l : List WorkerView). map seat_of_worker l) all
