@@ -1,14 +1,10 @@
-use Rattle.xa_base.proofs.{List, subst, sym}
+use Rattle.xa_base.proofs.{arith, subst, sym}
 use Rattle.xa_switch.specs.{reopening}
-use Rattle.xa_crew.specs.{AreGiven, clients_of}
+use Rattle.xa_crew.specs.{AreGiven}
 use Rattle.xa_crew.proofs.again.run_clients_again.Goals as goal
 
 pub returns-in-Ok-run-clause-ran : goal.returns-in-Ok-run-clause-ran
-returns-in-Ok-run-clause-ran g c = record {
-  given = clients_of c.in-Ok.opened;
-  are_given = c.in-Ok.ensures.given;
-  run = c.in-Ok-run.ensures.ran (reopening c.args.settled c.args.again.now) c.in-Ok.ensures.opened;
-}
+returns-in-Ok-run-clause-ran g c = grind arith
 
 pub returns-in-Err-Unstarted-clause-unstarted : goal.returns-in-Err-Unstarted-clause-unstarted
 returns-in-Err-Unstarted-clause-unstarted g c =
@@ -18,10 +14,4 @@ returns-in-Err-Unstarted-clause-unstarted g c =
     )
 
 pub returns-in-Err-Unsettled-clause-unsettled : goal.returns-in-Err-Unsettled-clause-unsettled
-returns-in-Err-Unsettled-clause-unsettled g c =
-    let have_run = rw c.in-Err-Unsettled.field-0-is at c.in-Err-Unsettled.ensures.unsettled in
-    record {
-      given = clients_of c.in-Ok.opened;
-      are_given = c.in-Ok.ensures.given;
-      run = have_run (reopening c.args.settled c.args.again.now) c.in-Ok.ensures.opened;
-    }
+returns-in-Err-Unsettled-clause-unsettled g c = grind arith

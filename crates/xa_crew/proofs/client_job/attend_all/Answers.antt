@@ -1,14 +1,9 @@
-use Rattle.xa_base.proofs.{◌++◌, [], length, sym, ap, ◌∙◌, refl, rules, into_iter_items, all_at, next_there, none_side, push_side, taken_next}
+use Rattle.xa_base.proofs.{arith, ◌++◌, [], length, sym, ap, ◌∙◌, into_iter_items, all_at, next_there, none_side, push_side, taken_next}
 use Rattle.xa_crew.specs.{HasWorked, IsReady}
 use Rattle.xa_crew.proofs.client_job.attend_all.Goals as goal
 
 pub loop-job-init : goal.loop-job-init
-loop-job-init g c = record {
-  so_far = search rules;
-  worked = none_side (HasWorked g.C.Client.works) [] _ refl c.requires.none;
-  room = refl;
-  idled = g.met.I.Idle.leads_start _;
-}
+loop-job-init g c = grind (arith, none_side)
 
 pub attend-requires : goal.attend-requires
 attend-requires g c =

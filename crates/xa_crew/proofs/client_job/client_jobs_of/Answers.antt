@@ -7,12 +7,7 @@ use Rattle.xa_crew.proofs.client_job.client_jobs_of.Goals as goal
 -- what is read of the jobs, and what is left for the others, once there is one more
 read_more : {A B : Type 0} (f : A → B) (before after : List A) (one : A) (old rest all : List B) → after ≡ before ++ one ∷ [] → old ≡ f one ∷ rest
     → map f before ++ old ≡ all → map f after ++ rest ≡ all
-read_more f before after one old rest all pushed next so_far =
-    ap (λ l. map f l ++ rest) pushed
-    ∙ ap (λ l. l ++ rest) (map-append f before (one ∷ []))
-    ∙ append_assoc (map f before) (f one ∷ []) rest
-    ∙ ap (λ l. map f before ++ l) (sym next)
-    ∙ so_far
+read_more f before after one old rest all pushed next so_far = grind (arith, map-append, append_assoc)
 
 pub loop-client-preserved : goal.loop-client-preserved
 loop-client-preserved g c =

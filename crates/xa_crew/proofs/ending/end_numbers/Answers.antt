@@ -45,14 +45,7 @@ loop-before-preserved g c =
     }
 
 pub returns-clause-ends : goal.returns-clause-ends
-returns-clause-ends g c =
-    let all : c.loop-before.before ≡ c.args.desk.now.handles = let same = c.handles-before-end.ensures.handles in omega (arith, same) in
-    subst (λ n. Chain EndsNumber (c.args.desk.now, c.args.told.now.items) (range_with_len 1 n) (c.loop-before.desk, c.loop-before.told.items)) all c.loop-before.invariant.ends
+returns-clause-ends g c = grind (arith, range_with_len)
 
 pub returns-clause-none : goal.returns-clause-none
-returns-clause-none g c k =
-    let all : c.loop-before.before ≡ c.args.desk.now.handles = let same = c.handles-before-end.ensures.handles in omega (arith, same) in
-    elim (cases_lt c.args.desk.now.handles k) [
-      | inl past ↦ c.loop-before.invariant.none k (inr past)
-      | inr first ↦ c.loop-before.invariant.none k (inl (subst (λ n. k ≤ n) (sym all) first))
-    ]
+returns-clause-none g c k = grind (arith, cases_lt)

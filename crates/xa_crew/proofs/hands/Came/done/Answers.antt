@@ -1,5 +1,4 @@
-use Rattle.xa_base.proofs.{◌≡◌, ◌++◌, ◌∷◌, [], List, length, sym, ap, ◌∙◌, subst, refl, arith, Some, into_iter_items, all_at, got, next_there, push_side}
-use Rattle.xa_base.proofs.{taken_next}
+use Rattle.xa_base.proofs.{◌≡◌, ◌++◌, ◌∷◌, [], length, sym, ap, ◌∙◌, subst, arith, Some, into_iter_items, next_there, push_side, taken_next}
 use Rattle.xa_base.specs.{Pairwise}
 use Rattle.xa_crew.specs.{Comes}
 use Rattle.xa_crew.proofs.Threads.{IsDoneAs, all_done, can_run, gone_through}

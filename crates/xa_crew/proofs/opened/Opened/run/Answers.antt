@@ -1,4 +1,4 @@
-use Rattle.xa_base.proofs.{List, map, refl, ap, sym, ◌∙◌, subst, side_of}
+use Rattle.xa_base.proofs.{arith, List, ◌∙◌, subst, side_of}
 use Rattle.xa_worker.specs.{WorkerView}
 use Rattle.xa_base.specs.{Pairwise}
 use Rattle.xa_crew.specs.{clients_of, HasServed}
@@ -33,7 +33,4 @@ returns-in-Ok-do_all-clause-unsettled g c p is =
     (all_have_run g.C.Client.works c.args.self is c.in-Ok-do_all.ensures.jobs c.apart-clients.ensures.clients c.apart-clients.ensures.desks served)
 
 pub returns-clause-unstarted : goal.returns-clause-unstarted
-returns-clause-unstarted g c =
-    let (jobs, worker_jobs) = c.in-Err.ensures.back in
-    let workers = c.workers_of.ensures ∙ ap (λ l. map (λ s. s.worker) l) worker_jobs ∙ c.worker_jobs_of-worker_jobs.ensures in
-    (ap (λ l. map (λ a. a.client) l) jobs, λ p is. still_opened p c.args.self _ jobs workers refl is)
+returns-clause-unstarted g c = grind (arith, still_opened)
