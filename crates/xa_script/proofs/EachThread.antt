@@ -1,7 +1,7 @@
 -- What each thread's lines come to, in a run of all lines.
-use Rattle.xa_base.proofs.{◌≡◌, ◌≢◌, ℕ, ◌+◌, ◌-◌, ◌≤◌, zero, suc, true, false, cond, List, [], ◌∷◌, ◌++◌, Some, None, sym, refl, ap, ◌∙◌, subst, inl, inr}
-use Rattle.xa_base.proofs.{arith, append-nil, append_assoc, map, slice_get, slice_set, All, if◌then◌else◌, flat_map, cases_eq, eq-eqb, ne_eqb, map-append}
-use Rattle.xa_base.proofs.{filter-append, All-head, All-tail, flat_push, none_side, push_side, some_same, all_left, all_mid}
+use Rattle.xa_base.proofs.{◌≡◌, ◌≢◌, ℕ, ◌+◌, ◌-◌, ◌≤◌, zero, suc, Bool, true, false, cond, filter, List, [], ◌∷◌, ◌++◌, Some, None, sym, refl, ap, ◌∙◌, subst}
+use Rattle.xa_base.proofs.{inl, inr, arith, append-nil, append_assoc, map, slice_get, slice_set, All, if◌then◌else◌, flat_map, cases_eq, eq-eqb, ne_eqb}
+use Rattle.xa_base.proofs.{map-append, filter-append, slice_get_within, set_there, flat_push, none_side, push_side, some_same, all_left, all_mid}
 use Rattle.std.specs.Prelude.{filter_map}
 use Rattle.std.proofs.lemmas.List.Elements.{filter_map-append}
 use Rattle.xa_desk.specs.{EndedView}
@@ -19,11 +19,6 @@ use Rattle.xa_telling.proofs.Tasks.{AreOf}
 
 -- ---- lists
 
-set_there : {A : Type 0} (xs : List A) (i : ℕ) (x y : A) → slice_get xs i ≡ Some x → slice_get (slice_set xs i y) i ≡ Some y
-set_there [] i x y e = absurd (cc)
-set_there (z ∷ xs) zero x y e = refl
-set_there (z ∷ xs) (suc i) x y e = set_there xs i x y e
-
 set_elsewhere : {A : Type 0} (xs : List A) (i k : ℕ) (y : A) → k ≢ i → slice_get (slice_set xs i y) k ≡ slice_get xs k
 set_elsewhere [] i k y differs = refl
 set_elsewhere (x ∷ xs) zero zero y differs = absurd (differs refl)
@@ -31,24 +26,17 @@ set_elsewhere (x ∷ xs) zero (suc k) y differs = refl
 set_elsewhere (x ∷ xs) (suc i) zero y differs = refl
 set_elsewhere (x ∷ xs) (suc i) (suc k) y differs = set_elsewhere xs i k y (λ e. differs (ap suc e))
 
-not_nil : {A : Type 0} (x : A) (xs : List A) → x ∷ xs ≡ [] → ⊥
-not_nil x xs e = cc
-
-left_nil : {A : Type 0} (xs ys : List A) → xs ++ ys ≡ [] → xs ≡ []
-left_nil [] ys e = refl
-left_nil (x ∷ xs) ys e = absurd (not_nil x (xs ++ ys) e)
-
-right_nil : {A : Type 0} (xs ys : List A) → xs ++ ys ≡ [] → ys ≡ []
-right_nil [] ys e = e
-right_nil (x ∷ xs) ys e = absurd (not_nil x (xs ++ ys) e)
+nil_parts : {A : Type 0} (xs ys : List A) → xs ++ ys ≡ [] → (xs ≡ []) × (ys ≡ [])
+nil_parts [] ys e = (refl, e)
+nil_parts (x ∷ xs) ys e = cc
 
 -- ---- the answers to a thread
 
 to_pushed : (t : ℕ) (answers : List Told) (a : Told) → is_to t a ≡ true → answers_to t (answers ++ a ∷ []) ≡ answers_to t answers ++ a ∷ []
 to_pushed t answers a e = filter-append (is_to t) answers (a ∷ []) ∙ ap (λ b. answers_to t answers ++ cond b (a ∷ []) []) e
 
-to_passed : (t : ℕ) (answers : List Told) (a : Told) → is_to t a ≡ false → answers_to t (answers ++ a ∷ []) ≡ answers_to t answers
-to_passed t answers a e = filter-append (is_to t) answers (a ∷ []) ∙ ap (λ b. answers_to t answers ++ cond b (a ∷ []) []) e ∙ append-nil (answers_to t answers)
+pub passed : (p : Told → Bool) (xs : List Told) (a : Told) → p a ≡ false → filter p (xs ++ a ∷ []) ≡ filter p xs
+passed p xs a e = filter-append p xs (a ∷ []) ∙ ap (λ b. filter p xs ++ cond b (a ∷ []) []) e ∙ append-nil (filter p xs)
 
 -- what is told as a desk ends is no answer to a line
 pub ended_tell : (t u : ℕ) (outstanding : List (ℕ × Code)) → answers_to t (all_ended u outstanding) ≡ []
@@ -104,9 +92,8 @@ done_went k d p xs now last a is told low w =
           record {
             last = is.after;
             at = ap (λ l. slice_get l k) is.rest ∙ ap (λ i. slice_get (slice_set now.stage.sessions i is.after) k) place
-                ∙ set_there now.stage.sessions k w.last is.after w.at;
-            runs =
-                subst (λ (tasks : List ScriptTask). Chain HasDone (d, []) tasks (is.after, answers_to (k + 1) last.answers)) (sym (tasks_pushed (k + 1) xs p own))
+                ∙ set_there now.stage.sessions k is.after (slice_get_within now.stage.sessions k w.last w.at);
+            runs = rw (tasks_pushed (k + 1) xs p own)
                 (more (tasks_of (k + 1) xs) p (state w.last (answers_to (k + 1) now.answers)) (state is.after (answers_to (k + 1) last.answers)) w.runs
                 (record { answer = is.answer; does = subst (λ (b : Session). Does p.action b is.after is.answer) was is.does; told = answers ∙ ap (λ q. answers_to (k + 1) now.answers ++ q ∷ []) is.told }));
           }
@@ -116,9 +103,7 @@ done_went k d p xs now last a is told low w =
           record {
             last = w.last;
             at = ap (λ l. slice_get l k) is.rest ∙ set_elsewhere now.stage.sessions (p.thread - 1) k is.after other ∙ w.at;
-            runs =
-                subst (λ (tasks : List ScriptTask). Chain HasDone (d, []) tasks (w.last, answers_to (k + 1) last.answers)) (sym (tasks_passed (k + 1) xs p differs))
-                (subst (λ (l : List Told). Chain HasDone (d, []) (tasks_of (k + 1) xs) (w.last, l)) (sym (ap (answers_to (k + 1)) told ∙ to_passed (k + 1) now.answers a to)) w.runs);
+            runs = rw (tasks_passed (k + 1) xs p differs, told, passed (is_to (k + 1)) now.answers a to) w.runs;
           }
     ]
 
@@ -127,9 +112,7 @@ turned_went : (k : ℕ) (d : Session) (line m : ℕ) (xs : List ScriptStep) (now
 turned_went k d line m xs now last a is told w = record {
   last = w.last;
   at = ap (λ l. slice_get l k) is.rest ∙ w.at;
-  runs =
-      subst (λ (tasks : List ScriptTask). Chain HasDone (d, []) tasks (w.last, answers_to (k + 1) last.answers)) (sym (tasks_turned (k + 1) xs line m))
-      (subst (λ (l : List Told). Chain HasDone (d, []) (tasks_of (k + 1) xs) (w.last, l)) (sym (ap (answers_to (k + 1)) told ∙ to_passed (k + 1) now.answers a (ap (is_to (k + 1)) is.told))) w.runs);
+  runs = rw (tasks_turned (k + 1) xs line m, told, passed (is_to (k + 1)) now.answers a (ap (is_to (k + 1)) is.told)) w.runs;
 }
 
 step_went : (k : ℕ) (d : Session) (threads managers : ℕ) (x : ScriptStep) (xs : List ScriptStep) (now last : TurnsAt) → HasStepped x now last
@@ -137,10 +120,6 @@ step_went : (k : ℕ) (d : Session) (threads managers : ℕ) (x : ScriptStep) (x
 step_went k d threads managers (step.Task p) xs now last is fits w = done_went k d p xs now last is.line is.steps is.told fits.0.0 w
 step_went k d threads managers (step.Reopen line) xs now last is fits w = absurd is.steps
 step_went k d threads managers (step.Turn line m) xs now last is fits w = turned_went k d line m xs now last is.line is.steps is.told w
-
-all_last : {A : Type 0} (P : A → Type 0) (xs : List A) (x : A) → All P (xs ++ x ∷ []) → P x
-all_last P [] x all = All-head P x [] all
-all_last P (y ∷ xs) x all = all_last P xs x (All-tail P y (xs ++ x ∷ []) all)
 
 pub run_went : (k : ℕ) (d : Session) (threads managers : ℕ) (first : TurnsAt) → slice_get first.stage.sessions k ≡ Some d → first.answers ≡ []
     → (steps : List ScriptStep) (now : TurnsAt) → Chain HasStepped first steps now → All (Fits threads managers) steps → Went k d steps now
@@ -150,26 +129,25 @@ run_went k d threads managers first at fresh steps now (none xs last e f) all = 
   runs = none (tasks_of (k + 1) xs) (d, answers_to (k + 1) last.answers) (ap (tasks_of (k + 1)) e) (ap (λ (l : List Told). state d (answers_to (k + 1) l)) (ap (λ (c : TurnsAt). c.answers) f ∙ fresh));
 }
 run_went k d threads managers first at fresh steps now (more xs x mid last before is) all =
-    step_went k d threads managers x xs mid last is (all_last (Fits threads managers) xs x all) (run_went k d threads managers first at fresh xs mid before (all_left (Fits threads managers) xs (x ∷ []) all))
+    step_went k d threads managers x xs mid last is (all_mid (Fits threads managers) xs [] x all) (run_went k d threads managers first at fresh xs mid before (all_left (Fits threads managers) xs (x ∷ []) all))
 
 -- a thread without tasks has no answers
 step_silent : (t : ℕ) (x : ScriptStep) (now last : TurnsAt) → HasStepped x now last → tasks_of t (x ∷ []) ≡ []
     → answers_to t last.answers ≡ answers_to t now.answers
 step_silent t (step.Reopen line) now last is e = absurd is.steps
-step_silent t (step.Turn line m) now last is e = ap (answers_to t) is.told ∙ to_passed t now.answers is.line (ap (is_to t) is.steps.told)
+step_silent t (step.Turn line m) now last is e = ap (answers_to t) is.told ∙ passed (is_to t) now.answers is.line (ap (is_to t) is.steps.told)
 step_silent t (step.Task p) now last is e =
     elim (cases_eq (p.thread) t) [
-      | inl own ↦ absurd (not_nil p [] (sym (tasks_pushed t [] p own) ∙ e))
-      | inr differs ↦ ap (answers_to t) is.told ∙ to_passed t now.answers is.line (ap (is_to t) is.steps.told ∙ ne_eqb p.thread t differs)
+      | inl own ↦ let never : p ∷ [] ≡ [] = sym (tasks_pushed t [] p own) ∙ e in cc
+      | inr differs ↦ ap (answers_to t) is.told ∙ passed (is_to t) now.answers is.line (ap (is_to t) is.steps.told ∙ ne_eqb p.thread t differs)
     ]
 
 pub run_silent : (t : ℕ) (first : TurnsAt) → first.answers ≡ [] → (steps : List ScriptStep) (now : TurnsAt) → Chain HasStepped first steps now
     → tasks_of t steps ≡ [] → answers_to t now.answers ≡ []
 run_silent t first fresh steps now (none xs last e f) silent = ap (answers_to t) (ap (λ (c : TurnsAt). c.answers) f ∙ fresh)
 run_silent t first fresh steps now (more xs x mid last before is) silent =
-    let parts = sym (filter_map-append (task_of t) xs (x ∷ [])) ∙ silent in
-    step_silent t x mid last is (right_nil (tasks_of t xs) (tasks_of t (x ∷ [])) parts)
-    ∙ run_silent t first fresh xs mid before (left_nil (tasks_of t xs) (tasks_of t (x ∷ [])) parts)
+    let (others, own) = nil_parts (tasks_of t xs) (tasks_of t (x ∷ [])) (sym (filter_map-append (task_of t) xs (x ∷ [])) ∙ silent) in
+    step_silent t x mid last is own ∙ run_silent t first fresh xs mid before others
 
 -- ---- desks that end one after the other
 
@@ -206,7 +184,7 @@ closes first start sessions now (more xs x mid last before is) =
     record {
       endings = h.endings ++ one ∷ [];
       sessions_are = map-append (λ (z : Ending). z.0) h.endings (one ∷ []) ∙ ap (λ l. l ++ x ∷ []) h.sessions_are;
-      ended = subst (λ (l : List EndedView). Pairwise EndedAs (h.endings ++ one ∷ []) l) (sym is.ended) (push_side EndedAs h.endings mid.ended one is.view h.ended is.ends);
+      ended = rw is.ended (push_side EndedAs h.endings mid.ended one is.view h.ended is.ends);
       told =
           is.told
           ∙ ap (λ l. l ++ all_ended x.desk.thread is.outstanding) h.told
@@ -232,7 +210,7 @@ pub told_none : (t u : ℕ) → u ≢ t → (first : State) → first.1 ≡ [] �
 told_none t u differs first start tasks last (none xs l e f) own = ap (answers_to t) (ap (λ (s : State). s.1) f ∙ start)
 told_none t u differs first start tasks last (more xs x now l before is) own =
     ap (answers_to t) is.told
-    ∙ to_passed t now.1 (told_of x is.answer) (ne_eqb x.thread t (λ e. differs (sym (all_mid (λ (p : ScriptTask). p.thread ≡ u) xs [] x own) ∙ e)))
+    ∙ passed (is_to t) now.1 (told_of x is.answer) (ne_eqb x.thread t (λ e. differs (sym (all_mid (λ (p : ScriptTask). p.thread ≡ u) xs [] x own) ∙ e)))
     ∙ told_none t u differs first start xs now before (all_left (λ (p : ScriptTask). p.thread ≡ u) xs (x ∷ []) own)
 
 abbrev pub told : Member ScriptThread → List Told

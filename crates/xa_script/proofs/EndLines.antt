@@ -1,5 +1,5 @@
 -- The lines of what was outstanding, among all answers.
-use Rattle.xa_base.proofs.{◌≡◌, ◌≢◌, ℕ, ◌==◌, false, cond, List, [], ◌∷◌, ◌++◌, refl, ap, ◌∙◌, append-nil, eq-eqb, eqb-true, false_from_ne_true, filter-append}
+use Rattle.xa_base.proofs.{◌≡◌, ◌≢◌, ℕ, ◌==◌, false, cond, List, [], ◌∷◌, ◌++◌, refl, ap, ◌∙◌, eq-eqb, eqb-true, false_from_ne_true}
 use Rattle.xa_base.specs.{Chain}
 use Rattle.xa_base.specs.Lists.Chain.{none, more}
 use Rattle.xa_words.specs.declared.code.Code.{Code}
@@ -9,6 +9,7 @@ use Rattle.xa_transcript.specs.{Told, ended, all_ended}
 use Rattle.xa_session.specs.{Session, HasDone, told_of}
 use Rattle.xa_telling.specs.{is_end_of, ends_of}
 use Rattle.xa_script.specs.{TurnsAt, HasStepped}
+use Rattle.xa_script.proofs.EachThread.{passed}
 
 -- ---- the lines of a thread's end
 
@@ -26,18 +27,12 @@ ends_other t u differs (x ∷ outstanding) =
 
 -- ---- no answer to a line is one of them
 
-pushed : (t : ℕ) (answers : List Told) (a : Told) → is_end_of t a ≡ false → ends_of t (answers ++ a ∷ []) ≡ ends_of t answers
-pushed t answers a e =
-    filter-append (is_end_of t) answers (a ∷ [])
-    ∙ ap (λ b. ends_of t answers ++ cond b (a ∷ []) []) e
-    ∙ append-nil (ends_of t answers)
-
 -- of the tasks of a thread
 pub tasks_no_end : (t : ℕ) (first : Session × List Told) → first.1 ≡ [] → (tasks : List ScriptTask) (last : Session × List Told)
     → Chain HasDone first tasks last → ends_of t last.1 ≡ []
 tasks_no_end t first start tasks last (none xs l e f) = ap (ends_of t) (ap (λ (s : Session × List Told). s.1) f ∙ start)
 tasks_no_end t first start tasks last (more xs x now l before is) =
-    ap (ends_of t) is.told ∙ pushed t now.1 (told_of x is.answer) refl ∙ tasks_no_end t first start xs now before
+    ap (ends_of t) is.told ∙ passed (is_end_of t) now.1 (told_of x is.answer) refl ∙ tasks_no_end t first start xs now before
 
 step_no_end : (t : ℕ) (x : ScriptStep) (now last : TurnsAt) (is : HasStepped x now last) → is_end_of t is.line ≡ false
 step_no_end t (step.Task p) now last is = ap (is_end_of t) is.steps.told
@@ -49,4 +44,4 @@ pub steps_no_end : (t : ℕ) (first : TurnsAt) → first.answers ≡ [] → (ste
     → ends_of t now.answers ≡ []
 steps_no_end t first start steps now (none xs last e f) = ap (ends_of t) (ap (λ (c : TurnsAt). c.answers) f ∙ start)
 steps_no_end t first start steps now (more xs x mid last before is) =
-    ap (ends_of t) is.told ∙ pushed t mid.answers is.line (step_no_end t x mid last is) ∙ steps_no_end t first start xs mid before
+    ap (ends_of t) is.told ∙ passed (is_end_of t) mid.answers is.line (step_no_end t x mid last is) ∙ steps_no_end t first start xs mid before

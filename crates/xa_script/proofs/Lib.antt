@@ -1,4 +1,3 @@
-pub mod Results
 pub mod WorkersOn
 pub mod Kept
 pub mod Faults

@@ -1,15 +1,13 @@
 -- What the threads of a script came to as a crew.
 use Rattle.xa_base.proofs.{◌≡◌, ◌+◌, ◌<◌, ℕ, zero, suc, List, [], ◌∷◌, ◌++◌, Some, length, map, false, refl, ap, ◌∙◌, sym, subst, arith, All, slice_get}
-use Rattle.xa_base.proofs.{option_map, flat_map, range_with_len, slice_index_or, length-map, slice_get-map, slice_get_within, slice_get-get_or, all_at}
-use Rattle.xa_base.proofs.{some_same}
-use Rattle.std.proofs.lemmas.List.FromFn.{length-map-range_with_len, get_or-map-range_with_len}
+use Rattle.xa_base.proofs.{flat_map, range_with_len, got_map, slice_get_within, slice_get-get_or, all_at, some_same, length-range_with_len}
+use Rattle.xa_base.proofs.{get_or-range_with_len}
+use Rattle.std.proofs.lemmas.List.Folds.{flat_map-map}
 use Rattle.xa_base.specs.{Chain, Pairwise}
-use Rattle.xa_scan.specs.{ScanView}
 use Rattle.xa_transcript.specs.{opened, Told}
 use Rattle.xa_worker.specs.{WorkerView}
-use Rattle.xa_grammar.specs.{ScriptTask, tasks_of, threads_of}
+use Rattle.xa_grammar.specs.{tasks_of, threads_of}
 use Rattle.xa_grammar.specs.Content.{Content}
-use Rattle.xa_log.specs.{LosingLog}
 use Rattle.xa_crew.specs.{Attended, Member, HasRun}
 use Rattle.xa_session.specs.{ScriptThread, Session, session_of, log_of, HasDone, IsNew, Works}
 use Rattle.xa_telling.specs.{AreOpened}
@@ -17,36 +15,20 @@ use Rattle.xa_telling.proofs.Opened.{opened_thread}
 use Rattle.xa_script.specs.{told_by, HasWorked}
 
 -- the numbers from 1 on
-length_range : (n : ℕ) → length (range_with_len 1 n) ≡ n
-length_range n = sym (length-map (range_with_len 1 n) (λ k. k)) ∙ length-map-range_with_len (λ (k : ℕ). k) 1 n
-
 number_there : (n k : ℕ) → k < n → slice_get (range_with_len 1 n) k ≡ Some (k + 1)
 number_there n k below =
-    let size = length_range n in
-    let within : k < length (range_with_len 1 n) = omega (arith, below, size) in
-    slice_get-get_or (range_with_len 1 n) k (k + 1) within ∙ ap (λ (x : ℕ). Some x) (same n k below)
-  where
-    map_same : (xs : List ℕ) → map (λ (k : ℕ). k) xs ≡ xs
-    map_same [] = refl
-    map_same (x ∷ xs) = ap (λ l. x ∷ l) (map_same xs)
-
-    same : (n k : ℕ) → k < n → slice_index_or (range_with_len 1 n) k (k + 1) ≡ k + 1
-    same n k below =
-        ap (λ l. slice_index_or l k (k + 1)) (sym (map_same (range_with_len 1 n)))
-        ∙ get_or-map-range_with_len (λ (k : ℕ). k) 1 n k (k + 1) (k + 1) below (omega arith)
+    let size = length-range_with_len 1 n in
+    let own = get_or-range_with_len 1 n k (k + 1) below in
+    slice_get-get_or (range_with_len 1 n) k (k + 1) (omega (arith, below, size)) ∙ ap (λ (x : ℕ). Some x) (omega (arith, own))
 
 -- as many threads as the script has
 pub as_many_new : (s : Content) (threads : List ScriptThread) → Pairwise (IsNew s) (range_with_len 1 (threads_of s)) threads → length threads ≡ threads_of s
-as_many_new s threads new = new.as_many ∙ length_range (threads_of s)
+as_many_new s threads new = new.as_many ∙ length-range_with_len 1 (threads_of s)
 
 -- the answers of all members
 pub members_tell : (ms : List (Member ScriptThread)) (clients : List (Attended ScriptThread)) → clients ≡ map (λ t. t.attended) ms
     → flat_map told_by clients ≡ flat_map (λ t. told_by t.attended) ms
-members_tell ms clients are = ap (flat_map told_by) are ∙ all_tell ms
-  where
-    all_tell : (ms : List (Member ScriptThread)) → flat_map told_by (map (λ t. t.attended) ms) ≡ flat_map (λ t. told_by t.attended) ms
-    all_tell [] = refl
-    all_tell (m ∷ ms) = ap (λ l. told_by m.attended ++ l) (all_tell ms)
+members_tell ms clients are = ap (flat_map told_by) are ∙ flat_map-map told_by (λ (t : Member ScriptThread). t.attended) ms
 
 -- a member that was new and to which no memory was refused
 one_worked : (s : Content) (t : ℕ) (m : Member ScriptThread) → m.desk.thread ≡ t → IsNew s t m.client → HasRun Works m → m.attended.client.wants_memory ≡ false
@@ -62,11 +44,7 @@ one_worked s t m number new ran done =
       y,
       record {
         own = ran.worked.own ∙ new.own ∙ sym number;
-        runs =
-            subst (λ (z : ScanView). Chain HasDone (session_of m.desk (log_of s m.desk.thread) z, []) (tasks_of m.desk.thread s.steps) last) new.scan
-            (subst (λ (l : LosingLog). Chain HasDone (session_of m.desk l x.scan, []) (tasks_of m.desk.thread s.steps) last) log
-            (subst (λ (l : List Told). Chain HasDone (session_of m.desk x.log x.scan, l) (tasks_of m.desk.thread s.steps) last) new.told
-            (subst (λ (l : List ScriptTask). Chain HasDone (session_of m.desk x.log x.scan, x.told) l last) tasks runs)));
+        runs = rw (log, tasks, new.scan, new.told) at runs;
         ends = ran.ends;
       },
     )
@@ -93,13 +71,10 @@ pub members_worked : (s : Content) (ms : List (Member ScriptThread)) (workers : 
     → (left : List Session) × Pairwise (HasWorked s s.steps) ms left
 members_worked s ms workers are_opened threads new are ran clients attended done =
     chosen (HasWorked s s.steps) ms (λ k m at.
-    let client_at : slice_get threads k ≡ Some m.client =
-    ap (λ l. slice_get l k) are ∙ slice_get-map (λ (t : Member ScriptThread). t.client) ms k ∙ ap (option_map (λ (t : Member ScriptThread). t.client)) at in
+    let client_at : slice_get threads k ≡ Some m.client = ap (λ l. slice_get l k) are ∙ got_map (λ (t : Member ScriptThread). t.client) ms k m at in
     let attended_at : slice_get clients k ≡ Some m.attended =
-    ap (λ l. slice_get l k) attended ∙ slice_get-map (λ (t : Member ScriptThread). t.attended) ms k
-    ∙ ap (option_map (λ (t : Member ScriptThread). t.attended)) at in
-    let desk_at : slice_get (map (λ (t : Member ScriptThread). t.desk) ms) k ≡ Some m.desk =
-    slice_get-map (λ (t : Member ScriptThread). t.desk) ms k ∙ ap (option_map (λ (t : Member ScriptThread). t.desk)) at in
+    ap (λ l. slice_get l k) attended ∙ got_map (λ (t : Member ScriptThread). t.attended) ms k m at in
+    let desk_at = got_map (λ (t : Member ScriptThread). t.desk) ms k m at in
     let within = slice_get_within threads k m.client client_at in
     let many = as_many_new s threads new in
     let below : k < threads_of s = omega (arith, within, many) in

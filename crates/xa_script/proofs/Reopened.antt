@@ -10,8 +10,8 @@ use Rattle.xa_switch.specs.Settling.{Settling}
 use Rattle.xa_scan.specs.{ScanView, no_scan}
 use Rattle.xa_grammar.specs.Content.{Content}
 use Rattle.xa_grammar.specs.{threads_of}
-use Rattle.xa_session.specs.{Session, session_of, sessions_again}
-use Rattle.xa_telling.specs.{AreNumbersOf, IsSetupOf, Beginning, Opening, Leaves}
+use Rattle.xa_session.specs.{Session, new_session, session_of, sessions_again}
+use Rattle.xa_telling.specs.{AreNumbersOf, IsSetupOf, Beginning, BeginsAs, beginning, Opening, Leaves}
 use Rattle.xa_telling.proofs.Opened.{opened_threads}
 use Rattle.xa_telling.proofs.Told.{log_left, log_there}
 use Rattle.xa_telling.proofs.Again.{again_setup, may_reopen, next_beginning, leaves}
@@ -35,6 +35,14 @@ again_at (d ∷ ds) (l ∷ ls) [] k x at = absurd (cc)
 again_at (d ∷ ds) (l ∷ ls) (z ∷ zs) zero x at =
     let same : session_of d (reopened l) z ≡ x = some_same _ x at in (l, refl, ap (λ (y : Session). y.log) (sym same), ap (λ (y : Session). Some y.scan) same)
 again_at (d ∷ ds) (l ∷ ls) (z ∷ zs) (suc k) x at = again_at ds ls zs k x at
+
+-- at first each begins with a log without a record and without scans
+pub begin_so : {A : Type 0} (s : Content) (desk : A → DeskView) (xs : List A) (k : ℕ) (x : Session)
+    → slice_get (map (λ a. new_session s (desk a)) xs) k ≡ Some x
+    → BeginsAs (beginning s) (k + 1) x
+begin_so {A} s desk xs k x at =
+    let m = was_mapped (λ (a : A). new_session s (desk a)) xs k x at in
+    subst (BeginsAs (beginning s) (k + 1)) m.2 (record { log = refl; known = refl; scan = refl })
 
 -- ---- the scans of thread t
 
@@ -67,10 +75,10 @@ module _ (s : Content) (b : Beginning) (o : Opening) (left : List Session) (h : 
 
   module _ (desks : List DeskView) (workers : List WorkerView) (zs : List ScanView) (logs : List LosingLog) (logs_are : logs ≡ map (λ x. x.log) left)
       (opened : AreOfOneOpening (reopening settled again) desks workers) (scans : AreScansOf settled again.threads zs) where
-    abbrev pub next : Beginning
+    abbrev next : Beginning
     next = next_beginning s b o.steps o.answers h.sessions left h.workers h.ended h.done h.ran (scans_in zs)
 
-    pub follows : (line : ℕ) → Follows mode.Turns s (record { opening = o; line = line }) b next
+    follows : (line : ℕ) → Follows mode.Turns s (record { opening = o; line = line }) b next
     follows line = record {
       left = left;
       comes = h;
@@ -92,7 +100,7 @@ module _ (s : Content) (b : Beginning) (o : Opening) (left : List Session) (h : 
     many_scans : length zs ≡ length desks
     many_scans = scans.threads_ ∙ numbers.threads ∙ sym many_desks
 
-    pub open_again : IsOpen s next (sessions_again desks logs zs) workers
+    open_again : IsOpen s next (sessions_again desks logs zs) workers
     open_again = record {
       opened = record {
         setup = reopening settled again;
@@ -109,3 +117,8 @@ module _ (s : Content) (b : Beginning) (o : Opening) (left : List Session) (h : 
             scan = scan_there zs k x.scan there.3 ∙ ap (scans_in zs) place;
           };
     }
+
+    -- so it goes on
+    pub goes_on : (b' : Beginning) × ((line : ℕ) → Follows mode.Turns s (record { opening = o; line = line }) b b') × (b'.opening ≡ suc b.opening)
+        × IsOpen s b' (sessions_again desks logs zs) workers
+    goes_on = (next, follows, refl, open_again)

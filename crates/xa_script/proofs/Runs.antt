@@ -1,6 +1,6 @@
 -- What the threads and the managers of a run have come to, in turns and in threads.
-use Rattle.xa_base.proofs.{◌≡◌, ◌≢◌, ℕ, ◌+◌, List, [], length, map, Some, sym, refl, ◌∙◌, ap, subst, arith, ◌++◌, append-nil, slice_get, option_map, All}
-use Rattle.xa_base.proofs.{flat_map, length-map, filter-append, slice_get-map, slice_get_within, was_mapped, flat_one, flat_none, some_same, got}
+use Rattle.xa_base.proofs.{◌≡◌, ◌≢◌, ℕ, ◌+◌, List, [], length, map, Some, sym, refl, ◌∙◌, ap, subst, arith, ◌++◌, append-nil, slice_get, All, flat_map}
+use Rattle.xa_base.proofs.{length-map, filter-append, got_map, slice_get_within, was_mapped, flat_one, flat_none, some_same, got}
 use Rattle.xa_desk.specs.{EndedView, DeskSeat}
 use Rattle.xa_worker.specs.{WorkerView, Served}
 use Rattle.xa_grammar.specs.{ScriptTask, ScriptStep, tasks_of, Fits, threads_of, managers_of}
@@ -37,7 +37,7 @@ module _ (s : Content) (b : Beginning) (steps : List ScriptStep) (sessions : Lis
   thread_at : (k : ℕ) (x : Session) → slice_get sessions k ≡ Some x → x.desk.thread ≡ k + 1
   thread_at k x at =
       opened_thread s b.opening b.tables (map (λ (x : Session). x.desk) sessions) workers opened k x.desk
-      (slice_get-map (λ (x : Session). x.desk) sessions k ∙ ap (option_map (λ (x : Session). x.desk)) at)
+      (got_map (λ (x : Session). x.desk) sessions k x at)
 
   module _ (left : List Session) (ended : List EndedView) (done : List Served) (answers : List Told)
       (runs : InTurns steps sessions left workers ended done answers) where
@@ -58,10 +58,7 @@ module _ (s : Content) (b : Beginning) (steps : List ScriptStep) (sessions : Lis
 
     -- what stands at a place of the endings
     session_at : (k : ℕ) (z : Ending) → slice_get ended_all.endings k ≡ Some z → slice_get runs.ran.stage.sessions k ≡ Some z.0
-    session_at k z at =
-        ap (λ l. slice_get l k) (sym ended_all.sessions_are)
-        ∙ slice_get-map (λ (y : Ending). y.0) ended_all.endings k
-        ∙ ap (option_map (λ (y : Ending). y.0)) at
+    session_at k z at = ap (λ l. slice_get l k) (sym ended_all.sessions_are) ∙ got_map (λ (y : Ending). y.0) ended_all.endings k z at
 
     -- the thread at place k is of number k + 1
     ending_number : (k : ℕ) (z : Ending) → slice_get ended_all.endings k ≡ Some z → z.0.desk.thread ≡ k + 1
@@ -148,9 +145,7 @@ module _ (s : Content) (b : Beginning) (steps : List ScriptStep) (sessions : Lis
 
     -- what a run in turns has come to
     pub turns_ran : Ran s b steps answers sessions left workers ended done
-    turns_ran =
-        subst (λ (l : List Told). Ran s b steps l sessions left workers ended done) (sym runs.answered)
-        (subst (λ (l : List EndedView). Ran s b steps runs.closed.answers sessions left workers l done) (sym runs.ended_are) all_come)
+    turns_ran = rw (runs.answered, runs.ended_are) all_come
 
   -- ---- in threads
 
@@ -160,9 +155,7 @@ module _ (s : Content) (b : Beginning) (steps : List ScriptStep) (sessions : Lis
     threads = runs.threads
 
     member_at : (k : ℕ) (x : Member ScriptThread) → slice_get threads k ≡ Some x → slice_get sessions k ≡ Some (new_session s x.desk)
-    member_at k x at =
-        ap (λ l. slice_get l k) runs.sessions_are ∙ slice_get-map (λ (t : Member ScriptThread). new_session s t.desk) threads k
-        ∙ ap (option_map (λ (t : Member ScriptThread). new_session s t.desk)) at
+    member_at k x at = ap (λ l. slice_get l k) runs.sessions_are ∙ got_map (λ (t : Member ScriptThread). new_session s t.desk) threads k x at
 
     -- the thread at place k is of number k + 1
     number_at : (k : ℕ) (x : Member ScriptThread) → slice_get threads k ≡ Some x → x.desk.thread ≡ k + 1
@@ -213,7 +206,7 @@ module _ (s : Content) (b : Beginning) (steps : List ScriptStep) (sessions : Lis
         let found = was_mapped (λ (t : Member ScriptThread). new_session s t.desk) threads k x at in
         let m = found.0 in
         let same_end : m.ended ≡ e =
-        some_same (m.ended) e (sym (slice_get-map (λ (t : Member ScriptThread). t.ended) threads k ∙ ap (option_map (λ (t : Member ScriptThread). t.ended)) found.1) ∙ at_e) in
+        some_same (m.ended) e (sym (got_map (λ (t : Member ScriptThread). t.ended) threads k m found.1) ∙ at_e) in
         let has : HasWorked s steps m y = runs.worked.each k m y found.1 at_y in
         let own = number_at k m found.1 in
         let t = m.desk.thread in
@@ -222,7 +215,7 @@ module _ (s : Content) (b : Beginning) (steps : List ScriptStep) (sessions : Lis
         ∙ ends_silent t m.attended.client.thread m.attended.client.told m.attended.outstanding.items
         ∙ told_all t (new_session s m.desk, []) refl (tasks_of t steps) (y, m.attended.client.told) has.runs (tasks_are_of t steps) in
         let comes : Comes steps (flat_map told threads) (new_session s m.desk) y m.ended = record {
-          runs = subst (λ (l : List Told). Chain HasDone (new_session s m.desk, []) (tasks_of t steps) (y, l)) (sym all_told) has.runs;
+          runs = rw all_told has.runs;
           outstanding = m.attended.outstanding.items;
           ends = has.ends;
           told = ends_here k m found.1;
@@ -249,6 +242,4 @@ module _ (s : Content) (b : Beginning) (steps : List ScriptStep) (sessions : Lis
 
     -- what a run in threads has come to
     pub threads_ran : Ran s b steps answers sessions left workers ended done
-    threads_ran =
-        subst (λ (l : List Told). Ran s b steps l sessions left workers ended done) (sym runs.answered)
-        (subst (λ (l : List EndedView). Ran s b steps (flat_map told threads) sessions left workers l done) (sym runs.ended_are) all_there)
+    threads_ran = rw (runs.answered, runs.ended_are) all_there

@@ -8,12 +8,13 @@ use Rattle.xa_grammar.specs.{Fits, threads_of, managers_of, AreOfOne}
 use Rattle.xa_crew.specs.{Member, IsRun}
 use Rattle.xa_transcript.specs.{Told, opened}
 use Rattle.xa_session.specs.{Session, ScriptThread, Works, new_session}
-use Rattle.xa_telling.specs.{Former, beginning, AreOpened, BeginsAs}
+use Rattle.xa_telling.specs.{Former, beginning, AreOpened}
 use Rattle.xa_telling.proofs.Opened.{map_map, planned_setup}
 use Rattle.xa_script.specs.InThreads.{InThreads}
 use Rattle.xa_script.specs.{told_by}
 use Rattle.xa_script.proofs.Runs.{threads_ran}
 use Rattle.xa_script.proofs.Members.{members_worked, members_tell, as_many_new}
+use Rattle.xa_script.proofs.Reopened.{begin_so}
 use Rattle.xa_script.proofs.in_threads.run.Goals as goal
 
 pub run_clients-requires-clause-clients : goal.run_clients-requires-clause-clients
@@ -23,13 +24,6 @@ run_clients-requires-clause-clients g c κs within =
 pub run_clients-requires-clause-paces : goal.run_clients-requires-clause-paces
 run_clients-requires-clause-paces g c κs within =
     let few = c.in_ok-plan.ensures.sound.limits.managers.1 in let eight = c.requires.paces in omega (arith, few, eight)
-
--- each begins with a log without a record and without scans
-begin_so : (s : Content) (ms : List (Member ScriptThread)) (k : ℕ) (x : Session)
-    → slice_get (map (λ (t : Member ScriptThread). new_session s t.desk) ms) k ≡ Some x → BeginsAs (beginning s) (k + 1) x
-begin_so s ms k x at =
-    let m = was_mapped (λ (t : Member ScriptThread). new_session s t.desk) ms k x at in
-    subst (BeginsAs (beginning s) (k + 1)) m.2 (record { log = refl; known = refl; scan = refl })
 
 pub returns-in-Ok : goal.returns-in-Ok
 returns-in-Ok g c =
@@ -71,7 +65,7 @@ returns-in-Ok g c =
           ended = ended;
           done = r.done;
           runs = runs;
-          ran = threads_ran s (beginning s) s.steps sessions r.workers all_opened (begin_so s r.members) fits worked.0 ended r.done answers runs;
+          ran = threads_ran s (beginning s) s.steps sessions r.workers all_opened (begin_so s (λ (t : Member ScriptThread). t.desk) r.members) fits worked.0 ended r.done answers runs;
           settles = r.settles;
           number = r.of_setup.opening ∙ c.in_ok-plan.ensures.plan.numbers.opening_;
           agree = r.agrees;

@@ -1,6 +1,6 @@
 use Rattle.xa_base.proofs.{[], ◌∙◌}
 use Rattle.xa_command.specs.declared.mode.Mode.TheVariants as mode
-use Rattle.xa_script.proofs.Results.{on_ok}
+use Rattle.std.proofs.lemmas.Result.{on_ok_weaker}
 use Rattle.xa_script.proofs.in_threads.run_threads.Goals as goal
 
 pub show-requires : goal.show-requires
@@ -11,4 +11,4 @@ show-requires g c =
 pub returns-clause-ok : goal.returns-clause-ok
 returns-clause-ok g c =
     let (answers, last, are, outcome, same) = c.in_ok-lines.ensures in
-    on_ok c.show.result _ _ (λ written. written mode.Threads answers [] last (c.deref.ensures.value ∙ are) outcome same) c.show.ensures.ok
+    on_ok_weaker c.show.result (λ written. written mode.Threads answers [] last (c.deref.ensures.value ∙ are) outcome same) c.show.ensures.ok

@@ -14,8 +14,7 @@ loop-before-preserved c =
     let threads = c.loop-before.threads.items in
     let one = c.in_ok-new.field-0 in
     record {
-      new = subst (λ (l : List ScriptThread). Pairwise new (range_with_len 1 (n + 1)) l) (sym c.in_ok-push.ensures.items)
-          (subst (λ (l : List ℕ). Pairwise new l (threads ++ one ∷ [])) (sym (range_more n)) (push_side new (range_with_len 1 n) threads (n + 1) one c.loop-before.invariant.new c.in_ok-new.ensures));
+      new = rw (c.in_ok-push.ensures.items, range_more n) (push_side new (range_with_len 1 n) threads (n + 1) one c.loop-before.invariant.new c.in_ok-new.ensures);
     }
 
 pub returns : goal.returns

@@ -1,30 +1,16 @@
 use Rattle.xa_base.proofs.{◌≡◌, ℕ, ◌+◌, List, [], ◌∷◌, ◌++◌, take, refl, sym, ap, ◌∙◌, subst, arith, take_all}
 use Rattle.xa_base.specs.{IsUpTo}
 use Rattle.xa_grammar.proofs.Taken.{take_next}
-use Rattle.xa_worker.specs.{WorkerView}
 use Rattle.xa_grammar.specs.declared.step.Step.TheVariants as step
 use Rattle.xa_grammar.specs.{ScriptStep, Fits, IsOfScript, threads_of, managers_of}
 use Rattle.xa_grammar.specs.Content.{Content}
 use Rattle.xa_transcript.specs.{Told}
-use Rattle.xa_transcript.specs.declared.answer.Told.TheVariants as told
-use Rattle.xa_session.specs.{Session}
 use Rattle.xa_script.specs.{Runner, IsOutcome, HasReached}
 use Rattle.xa_command.specs.declared.mode.Mode.TheVariants as mode
 use Rattle.xa_script.proofs.Reached.{begun, reached_threads, reached_managers, stepped, ended_so, reopened, outcome_so}
 use Rattle.xa_script.proofs.in_turns.run.Goals as goal
 use Rattle.xa_script.proofs.in_turns.run.Goals.{in-Task+in_ok-call-in-Task+in_ok-tell-in-Task, in-Turn+in_ok-tell-in-Turn}
 use Rattle.xa_script.proofs.in_turns.run.Goals.{in-Reopen+in_ok-closed-in-Reopen+in_ok-tell-in-Reopen+in_ok-runner-in-Reopen}
-
--- the same lines, number and answers
-reached_as : (s : Content) (lines lines' : List ScriptStep) (r : Runner) (opening : ℕ) (sessions : List Session) (workers : List WorkerView) (answers answers' : List Told)
-    → lines' ≡ lines → r.opening ≡ opening → r.sessions.items ≡ sessions → r.turns ≡ workers → answers' ≡ answers
-    → HasReached s lines opening sessions workers answers → HasReached s lines' r.opening r.sessions.items r.turns answers'
-reached_as s lines lines' r opening sessions workers answers answers' same_lines number same_sessions same_workers same_answers is =
-    subst (λ (l : List ScriptStep). HasReached s l r.opening r.sessions.items r.turns answers') (sym same_lines)
-    (subst (λ (n : ℕ). HasReached s lines n r.sessions.items r.turns answers') (sym number)
-    (subst (λ (l : List Session). HasReached s lines opening l r.turns answers') (sym same_sessions)
-    (subst (λ (l : List WorkerView). HasReached s lines opening sessions l answers') (sym same_workers)
-    (subst (λ (l : List Told). HasReached s lines opening sessions workers l) (sym same_answers) is))))
 
 pub loop-place-init : goal.loop-place-init
 loop-place-init g c =
@@ -77,48 +63,34 @@ loop-place-preserved g c =
     let fits : Fits (threads_of s) (managers_of s) p = c.step.ensures.of in
     elim c.match-step.branch [
       | in-Task+in_ok-call-in-Task+in_ok-tell-in-Task w ↦
-          let t = w.in-Task.task in
-          let a = w.in_ok-call-in-Task.field-0 in
           let new = w.call.new.self in
-          let number : c.match-step.runner.opening ≡ r.opening = ap (λ (x : Runner). x.opening) w.runner-is ∙ w.in_ok-call-in-Task.ensures.number in
+          let number = w.in_ok-call-in-Task.ensures.number in
           record {
-            reached =
-                reached_as s (lines ++ step.Task t ∷ []) (take (k + 1) steps) c.match-step.runner r.opening new.sessions.items new.turns (answers ++ a ∷ []) c.match-step.transcript
-                (longer ∙ ap (λ q. lines ++ q ∷ []) w.in-Task.is) number (ap (λ (x : Runner). x.sessions.items) w.runner-is) (ap (λ (x : Runner). x.turns) w.runner-is)
-                (w.transcript-is ∙ w.in_ok-tell-in-Task.ensures.told)
-                (stepped s lines r.opening r.sessions.items r.turns answers h (step.Task t) a new.sessions.items new.turns refl (subst (Fits (threads_of s) (managers_of s)) w.in-Task.is fits) w.in_ok-call-in-Task.ensures.calls);
-            few = omega (arith, number, few);
+            reached = rw (longer, w.in-Task.is, w.runner-is, number, w.transcript-is, w.in_ok-tell-in-Task.ensures.told)
+                (stepped s lines r.opening r.sessions.items r.turns answers h (step.Task w.in-Task.task) w.in_ok-call-in-Task.field-0 new.sessions.items new.turns refl (subst (Fits (threads_of s) (managers_of s)) w.in-Task.is fits) w.in_ok-call-in-Task.ensures.calls);
+            few = let same = ap (λ (x : Runner). x.opening) w.runner-is in omega (arith, same, number, few);
           }
       | in-Turn+in_ok-tell-in-Turn w ↦
-          let x = step.Turn w.in-Turn.line w.in-Turn.manager in
-          let a = w.turn.result in
           let new = w.turn.new.self in
-          let number : c.match-step.runner.opening ≡ r.opening = ap (λ (x : Runner). x.opening) w.runner-is ∙ w.turn.ensures.number in
+          let number = w.turn.ensures.number in
           record {
-            reached =
-                reached_as s (lines ++ x ∷ []) (take (k + 1) steps) c.match-step.runner r.opening new.sessions.items new.turns (answers ++ a ∷ []) c.match-step.transcript
-                (longer ∙ ap (λ q. lines ++ q ∷ []) w.in-Turn.is) number (ap (λ (x : Runner). x.sessions.items) w.runner-is) (ap (λ (x : Runner). x.turns) w.runner-is)
-                (w.transcript-is ∙ w.in_ok-tell-in-Turn.ensures.told)
-                (stepped s lines r.opening r.sessions.items r.turns answers h x a new.sessions.items new.turns refl (subst (Fits (threads_of s) (managers_of s)) w.in-Turn.is fits) w.turn.ensures.turns);
-            few = omega (arith, number, few);
+            reached = rw (longer, w.in-Turn.is, w.runner-is, number, w.transcript-is, w.in_ok-tell-in-Turn.ensures.told)
+                (stepped s lines r.opening r.sessions.items r.turns answers h (step.Turn w.in-Turn.line w.in-Turn.manager) w.turn.result new.sessions.items new.turns refl (subst (Fits (threads_of s) (managers_of s)) w.in-Turn.is fits) w.turn.ensures.turns);
+            few = let same = ap (λ (x : Runner). x.opening) w.runner-is in omega (arith, same, number, few);
           }
       | in-Reopen+in_ok-closed-in-Reopen+in_ok-tell-in-Reopen+in_ok-runner-in-Reopen w ↦
           let line = w.in-Reopen.line in
-          let closed = w.in_ok-closed-in-Reopen.closed in
+          let settled = w.in_ok-closed-in-Reopen.closed.settled in
           let x = w.in_ok-closed-in-Reopen.ensures.closed s h.begins h.own h.told h.goes in
           let own = w.in_ok-closed-in-Reopen.ensures.number in
           let new = w.in_ok-runner-in-Reopen.runner in
           let y =
-          w.in_ok-runner-in-Reopen.ensures.opened h.begins (ended_so s lines r.opening r.sessions.items r.turns answers h x.0 closed.settled) line x.2 refl (own ∙ h.number) in
+          w.in_ok-runner-in-Reopen.ensures.opened h.begins (ended_so s lines r.opening r.sessions.items r.turns answers h x.0 settled) line x.2 refl (own ∙ h.number) in
           let number = w.in_ok-runner-in-Reopen.ensures.number in
-          let same = ap (λ (x : Runner). x.opening) w.runner-is in
           record {
-            reached =
-                reached_as s (lines ++ step.Reopen line ∷ []) (take (k + 1) steps) c.match-step.runner new.opening new.sessions.items new.turns ((answers ++ x.0) ++ told.Reopened line ∷ []) c.match-step.transcript
-                (longer ∙ ap (λ q. lines ++ q ∷ []) w.in-Reopen.is) same (ap (λ (x : Runner). x.sessions.items) w.runner-is) (ap (λ (x : Runner). x.turns) w.runner-is)
-                (w.transcript-is ∙ w.in_ok-tell-in-Reopen.ensures.told ∙ ap (λ l. l ++ told.Reopened line ∷ []) x.1)
-                (reopened s lines r.opening r.sessions.items r.turns answers h x.0 closed.settled line y.0 y.1 new.opening new.sessions.items new.turns y.2 y.3);
-            few = omega (arith, same, number, own, few);
+            reached = rw (longer, w.in-Reopen.is, w.runner-is, w.transcript-is, w.in_ok-tell-in-Reopen.ensures.told, x.1)
+                (reopened s lines r.opening r.sessions.items r.turns answers h x.0 settled line y.0 y.1 new.opening new.sessions.items new.turns y.2 y.3);
+            few = let same = ap (λ (x : Runner). x.opening) w.runner-is in omega (arith, same, number, own, few);
           }
     ]
 

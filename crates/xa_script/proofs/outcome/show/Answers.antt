@@ -7,7 +7,7 @@ use Rattle.xa_transcript.specs.{Told, lines_text, text, values_text, opened_afte
 use Rattle.xa_telling.specs.{Opening, Former, settled_over}
 use Rattle.xa_command.specs.{Mode}
 use Rattle.xa_script.specs.{IsOutcome, Writes}
-use Rattle.xa_script.proofs.Results.{on_ok}
+use Rattle.std.proofs.lemmas.Result.{on_ok_weaker}
 use Rattle.xa_script.proofs.Tellings.{managers_so, run_tells}
 use Rattle.xa_script.proofs.outcome.show.Goals as goal
 
@@ -27,8 +27,7 @@ returns-clause-ok g c =
     let contents = g.W.Write.contents in
     let old = contents c.args.writer.now in
     let new = contents c.write_transcript.new.writer in
-    on_ok c.write_transcript.result (Appends old new (lines ++ values_text c.deref.result.now)) ((m : Mode) (answers : List Told) (before : List Former) (last : Opening) → lines ≡ lines_text answers → IsOutcome m s answers before last → last.settled ≡ settled → Writes m s old new)
-    (λ written m answers before last are outcome same.
+    on_ok_weaker c.write_transcript.result (λ written m answers before last are outcome same.
     let former : List Settling = map (λ (f : Former). f.opening.settled) before in
     let managers = subst (λ (x : Settling). AreOfScript s (opened_after s former) x.managers) same (managers_so m s answers before last outcome) in
     let shown : AreValues s (settled_over before last) values =

@@ -1,10 +1,10 @@
-use Rattle.xa_base.proofs.{◌≡◌, suc, ◌+◌, List, sym, subst, arith}
+use Rattle.xa_base.proofs.{◌≡◌, suc, ◌+◌, List, sym, ◌∙◌, subst, arith}
 use Rattle.xa_worker.specs.{WorkerView}
 use Rattle.xa_grammar.specs.Content.{Content}
 use Rattle.xa_session.specs.{Session}
 use Rattle.xa_telling.specs.{AreNumbersOf}
 use Rattle.xa_script.specs.{IsOpen}
-use Rattle.xa_script.proofs.Reopened.{next, follows, open_again}
+use Rattle.xa_script.proofs.Reopened.{goes_on}
 use Rattle.xa_script.proofs.in_turns.Closed.reopen.Goals as goal
 
 pub returns-clause-opened : goal.returns-clause-opened
@@ -17,12 +17,11 @@ returns-clause-opened g c = λ b o line closed same number.
     let zs = c.in-Ok.opened.2.items in
     let logs = c.args.self.logs.items in
     let next_number : c.args.self.opening + 1 ≡ suc b.opening = omega (arith, number) in
-    let numbers : AreNumbersOf s (suc b.opening) again = subst (λ n. AreNumbersOf s n again) next_number c.again_of-again.ensures in (
-      next s b o closed.left closed.comes settled same again numbers desks workers zs logs closed.logs_are c.in-Ok.ensures.opened c.in-Ok.ensures.scans,
-      follows s b o closed.left closed.comes settled same again numbers desks workers zs logs closed.logs_are c.in-Ok.ensures.opened c.in-Ok.ensures.scans line,
-      numbers.opening_,
-      subst
-          (λ (p : List Session × List WorkerView). IsOpen s (next s b o closed.left closed.comes settled same again numbers desks workers zs logs closed.logs_are c.in-Ok.ensures.opened c.in-Ok.ensures.scans) p.0 p.1)
-          (λ i. (sym c.in_ok-sessions.ensures i, sym c.new.ensures i))
-          (open_again s b o closed.left closed.comes settled same again numbers desks workers zs logs closed.logs_are c.in-Ok.ensures.opened c.in-Ok.ensures.scans),
+    let numbers : AreNumbersOf s (suc b.opening) again = subst (λ n. AreNumbersOf s n again) next_number c.again_of-again.ensures in
+    let (b', follows, follow_number, is_open) =
+    goes_on s b o closed.left closed.comes settled same again numbers desks workers zs logs closed.logs_are c.in-Ok.ensures.opened c.in-Ok.ensures.scans in (
+      b',
+      follows line,
+      numbers.opening_ ∙ sym follow_number,
+      subst (λ (p : List Session × List WorkerView). IsOpen s b' p.0 p.1) (λ i. (sym c.in_ok-sessions.ensures i, sym c.new.ensures i)) is_open,
     )

@@ -1,21 +1,15 @@
-use Rattle.xa_base.proofs.{◌≡◌, ℕ, ◌+◌, List, [], ◌∷◌, map, Some, refl, sym, ap, subst, slice_get, was_mapped}
+use Rattle.xa_base.proofs.{List, map, sym, ◌∙◌, subst}
+use Rattle.std.proofs.lemmas.List.{map-id}
 use Rattle.xa_desk.specs.DeskView.{DeskView}
 use Rattle.xa_worker.specs.{WorkerView}
 use Rattle.xa_switch.specs.{planned, AreOfOneOpening}
 use Rattle.xa_grammar.specs.Content.{Content}
-use Rattle.xa_session.specs.{Session, new_session, new_sessions}
-use Rattle.xa_telling.specs.{beginning, BeginsAs}
-use Rattle.xa_telling.proofs.Opened.{planned_setup}
+use Rattle.xa_session.specs.{Session, new_session}
+use Rattle.xa_telling.specs.{beginning}
+use Rattle.xa_telling.proofs.Opened.{map_map, planned_setup}
 use Rattle.xa_script.specs.{IsOpen}
+use Rattle.xa_script.proofs.Reopened.{begin_so}
 use Rattle.xa_script.proofs.in_turns.Runner.open.Goals as goal
-
-desks_of_new : (s : Content) (desks : List DeskView) → map (λ (x : Session). x.desk) (new_sessions s desks) ≡ desks
-desks_of_new s [] = refl
-desks_of_new s (d ∷ desks) = ap (λ l. d ∷ l) (desks_of_new s desks)
-
-begin_so : (s : Content) (desks : List DeskView) (k : ℕ) (x : Session) → slice_get (new_sessions s desks) k ≡ Some x → BeginsAs (beginning s) (k + 1) x
-begin_so s desks k x at =
-    let d = was_mapped (new_session s) desks k x at in subst (BeginsAs (beginning s) (k + 1)) d.2 (record { log = refl; known = refl; scan = refl })
 
 pub returns-clause-opened : goal.returns-clause-opened
 returns-clause-opened g c =
@@ -28,7 +22,7 @@ returns-clause-opened g c =
       opened = record {
         setup = planned p;
         said = planned_setup s p c.in_ok-plan.ensures.plan c.in_ok-plan.ensures.sound;
-        opened = subst (λ (ds : List DeskView). AreOfOneOpening (planned p) ds workers) (sym (desks_of_new s desks)) c.in-Ok.ensures.opened;
+        opened = subst (λ (ds : List DeskView). AreOfOneOpening (planned p) ds workers) (sym (map_map (λ (x : Session). x.desk) (new_session s) desks ∙ map-id desks)) c.in-Ok.ensures.opened;
       };
-      begins = begin_so s desks;
+      begins = begin_so s (λ d. d) desks;
     })
