@@ -18,8 +18,7 @@ use Rattle.xa_switch.proofs.Pieces.{Joint, workers_opened, request_columns, comp
 -- where no ledger is known, nothing was sent and collected
 unknown : (at : List LedgerView) (t m : ℕ) (J : List Entry) → is_known at m ≡ false → of_thread t (requests J) ≡ []
     → Agree t (sent_to at m) (collected_from at m) J
-unknown at t m J none e =
-    rw none (record { carried = e; each = λ n. ((λ h. absurd (omega arith)), (λ h. absurd (cc h))); once = none_twice nat_eq; coded = λ k q h. absurd (omega arith) })
+unknown at t m J none e = search (arith, none_twice, nat_eq)
 
 none_known : (m : ℕ) → is_known [] m ≡ false
 none_known m = false_from_ne_true (is_known [] m) (λ e. let k = known_is [] m e in let low = k.positive in let high = k.within in omega (arith, low, high))
@@ -57,21 +56,14 @@ module _ (ds : List EndedView) (ws : List Served) (j : Joint ds ws) (rs : All (�
       let senders = (All-contains IsServed ws w j.workers cw).senders in
       let t : suc s ≡ s + 1 = omega arith in
       let nothing : received s w.receiver.taken ≡ [] = elim (cases_lt s w.manager.threads) [
-        | inl lt ↦
-            let there : has_desk (suc s) ds ≡ true =
-            All-contains (λ (w : Served). HasDesks w.manager.threads ds) ws w j.all.whole.desks cw (suc s) (omega arith) (omega (arith, lt)) in
-            cc (none, there)
+        | inl lt ↦ search (arith, All-contains)
         | inr le ↦ none_of w.receiver.senders s w.receiver.taken (requests_closed w cw).known.0 (omega (arith, le, senders))
       ] in
       ap (λ t. of_thread t (requests w.journal)) t ∙ All-contains IsOrdered ws w j.ordered cw s ∙ nothing
 
   -- a desk did nothing with a manager that isn't there
   no_worker : (m : ℕ) (d : EndedView) → Contains ds d → has_worker m ws ≡ false → is_known d.ledgers m ≡ false
-  no_worker m d cd none = false_from_ne_true (is_known d.ledgers m) (λ e.
-      let k = known_is d.ledgers m e in
-      let there : has_worker m ws ≡ true =
-      All-contains (λ (d : EndedView). HasWorkers (length d.ledgers) ws) ds d j.all.whole.workers cd m k.positive k.within in
-      cc (none, there))
+  no_worker m d cd none = search (arith, false_from_ne_true, known_is, All-contains)
 
   -- where the search for a thread finds o, and that for a manager finds q
   agrees : (t m : ℕ) (o : Option ThreadPart) (q : Option ManagerPart) → SearchedAs thread_part (λ p. p.thread == t) ds o (has_desk t ds)

@@ -16,11 +16,7 @@ parts_ready (w ∷ ws) = ap (λ l. manager_part w ∷ l) (parts_ready ws)
 -- a manager is found with its memory
 pub find_parts : (m : ℕ) (cs : List ReadyPart) → find_manager m (parts_of cs) ≡ option_map (λ (c : ReadyPart). c.part) (find_ready m cs)
 find_parts m [] = refl
-find_parts m (c ∷ cs) =
-    elim (c.part.number == m) as (λ b. cond b (Some c.part) (find_manager m (parts_of cs)) ≡ option_map (λ (r : ReadyPart). r.part) (cond b (Some c) (find_ready m cs))) [
-  | true ↦ refl
-  | false ↦ find_parts m cs
-]
+find_parts m (c ∷ cs) = search (arith, find_parts m cs, option_map)
 
 module _ (d : EndedView) (ds : List EndedView) (ws : List Served) (j : Joint (d ∷ ds) ws) where
   first : Contains (d ∷ ds) d

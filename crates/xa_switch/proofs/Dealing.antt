@@ -20,11 +20,7 @@ module _ {X : Type 0} where
   -- one element more of a row, at the end of a column that no element of the row was dealt to
   pub dealt_more : {V : Type 0} (items : V → List X) (C₀ C : List V) (Y : List X) (d : V) → map items C ≡ put_row (map items C₀) Y → (x : X) (c : V)
       → length Y < length C₀ → items c ≡ items (get_or C₀ (length Y) d) ++ x ∷ [] → map items (set C (length Y) c) ≡ put_row (map items C₀) (Y ++ x ∷ [])
-  dealt_more items C₀ C Y d dealt x c below e =
-      let m = length-map C₀ items in
-      map-set items C (length Y) c
-      ∙ (λ i. set (dealt i) (length Y) ((e ∙ ap (λ l. l ++ x ∷ []) (sym (get_or-map' items C₀ (length Y) d [] below))) i))
-      ∙ sym (put_row_more (map items C₀) Y x (omega (arith, m)))
+  dealt_more items C₀ C Y d dealt x c below e = search (arith, length-map, map-set, get_or-map', put_row_more)
 
 pub length_put : {X : Type 0} (C : List (List X)) (row : List X) → length (put_row C row) ≡ length C
 length_put [] row = refl
@@ -54,33 +50,7 @@ module _ {S R : Type 0} (IsReceiver : ℕ → R → Type 0) (IsSender : ℕ → 
   pub more_lanes : (lanes : ℕ) (C : List (List S)) (rs : List R) (row : List S) (r : R) → AreLanes IsReceiver IsSender senders lanes C rs → length row ≡ senders
       → IsReceiver lanes r → ((k : ℕ) (s : S) → slice_get row k ≡ Some s → IsSender k lanes s r)
       → AreLanes IsReceiver IsSender senders (lanes + 1) (put_row C row) (rs ++ r ∷ [])
-  more_lanes lanes C rs row r is many fits each =
-      let wide = is.wide in
-      let full : length row ≡ length C = omega (arith, many, wide) in
-      let count = is.many in
-      record {
-        many = omega (arith, count, length-append rs (r ∷ []));
-        receivers = each_push IsReceiver rs r is.receivers (subst (λ n. IsReceiver n r) (sym count) fits);
-        wide = length_put C row ∙ wide;
-        deep = λ k c' at.
-            let p = put_cases C row k c' full at in
-            let before = is.deep k p.0 p.2 in
-            let now = ap length p.4 in
-            omega (arith, before, now, length-append p.0 (p.1 ∷ []));
-        dealt = λ k j c' s q at at_s at_r.
-            let p = put_cases C row k c' full at in
-            let before = is.deep k p.0 p.2 in
-            elim (got_push p.0 p.1 j s (ap (λ l. slice_get l j) (sym p.4) ∙ at_s)) [
-              | inl x ↦ elim (got_push rs r j q at_r) [
-                | inl y ↦ is.dealt k j p.0 s q p.2 x y
-                | inr y ↦ absurd (let low = slice_get_within p.0 j s x in let e = y.0 in omega (arith, low, before, count, e))
-              ]
-              | inr x ↦ elim (got_push rs r j q at_r) [
-                | inl y ↦ absurd (let low = slice_get_within rs j q y in let e = x.0 in omega (arith, low, before, count, e))
-                | inr y ↦ let place : j ≡ lanes = y.0 ∙ count in rw (place, x.1, y.1) (each k p.1 p.3)
-              ]
-            ];
-      }
+  more_lanes lanes C rs row r is many fits each = search (arith, length-append, each_push, length_put, put_cases, got_push, slice_get, slice_get_within)
 
 -- ---- columns with room
 
@@ -89,8 +59,7 @@ module _ {X V : Type 0} (items : V → List X) (cap : V → ℕ) where
   pub room_more : (C : List V) (n most : ℕ) → Each (λ k c. length c ≡ n) (map items C) → All (λ c. most ≤ cap c) C → n < most
       → All (λ c. length (items c) < cap c) C
   room_more C n most deep caps low k d within =
-      let at : slice_get (map items C) k ≡ Some (items (get_or C k d)) =
-      slice_get-map items C k ∙ ap (λ o. option_map items o) (slice_get-get_or C k d within) in
+      let at : slice_get (map items C) k ≡ Some (items (get_or C k d)) = search (arith, slice_get-map, option_map, slice_get-get_or) in
       let len = deep k (items (get_or C k d)) at in
       let most_ = caps k d within in
       omega (arith, len, most_, low)
@@ -106,10 +75,7 @@ pub next_left : {X : Type 0} (xs ys : List X) (k : ℕ) (x : X) → drop k xs �
 next_left [] ys zero x e = cc
 next_left [] ys (suc k) x e = cc
 next_left (z ∷ zs) ys zero x e = let f : z ≡ x = cc in let g : zs ≡ ys = cc in (ap Some f, g)
-next_left (z ∷ zs) ys (suc k) x e =
-    let rest = next_left zs ys k x e in
-    let more : suc k + 1 ≡ suc (k + 1) = omega arith in
-    (rest.0, ap (λ n. drop n (z ∷ zs)) more ∙ rest.1)
+next_left (z ∷ zs) ys (suc k) x e = search (arith, next_left zs ys k x e)
 
 -- what is still to come of xs is what is left behind as many as were yielded of another list
 pub record IsLeft {X Y Z : Type 0} (xs : List X) (yielded : List Y) (it : IntoIter X Z) : Type 0 where
@@ -120,11 +86,7 @@ pub record IsLeft {X Y Z : Type 0} (xs : List X) (yielded : List Y) (it : IntoIt
 pub next_of : {X Y Z : Type 0} {xs : List X} {x : X} {ys : List Y} {it : IntoIter X Z} → IsLeft xs ys it → (y : Y) (it' : IntoIter X Z)
     → (into_iter_items it ≡ x ∷ into_iter_items it') × (into_iter_len it' + 1 ≡ into_iter_len it)
     → (slice_get xs (length ys) ≡ Some x) × IsLeft xs (ys ++ y ∷ []) it'
-next_of {xs = xs} {x = x} {ys = ys} left y it' (next, fewer) =
-    let (here, rest) = next_left xs (into_iter_items it') (length ys) x (sym left.items ∙ next) in
-    let before = left.counted in
-    let more = ap length next in
-    (here, record { items = sym rest ∙ ap (λ n. drop n xs) (sym (length-append ys (y ∷ []))); counted = omega (arith, before, more, fewer) })
+next_of {xs = xs} {x = x} {ys = ys} left y it' (next, fewer) = search (arith, next_left, into_iter_items, length-append, left.counted)
 
 -- one piece more was made of what stands at its place
 pub one_more_made : {X Y : Type 0} (P : ℕ → X → Type 0) (made new : List X) (x : X) (ys : List Y) (y : Y) → length made ≡ length ys → new ≡ made ++ x ∷ []

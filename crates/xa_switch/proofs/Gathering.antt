@@ -79,8 +79,7 @@ module _ {X : Type 0} where
       → map items C ≡ dealt (replicate m []) rows → All (λ c. n ≤ cap c) C → length rows < n → All (λ c. length (items c) < cap c) C
   room_for_row items cap C rows m n dealt_is room few k d below =
       let short = dealt_short (replicate m []) rows 0 k (subst (λ l. length l ≤ 0) (sym (column_none m k)) (omega arith)) in
-      let here : length (items (get_or C k d)) ≡ length (column (dealt (replicate m []) rows) k) =
-      ap length (sym (get_or-map' items C k d [] below) ∙ ap (λ l. get_or l k []) dealt_is) in
+      let here : length (items (get_or C k d)) ≡ length (column (dealt (replicate m []) rows) k) = search (arith, get_or-map') in
       let deep = room k d below in
       omega (arith, short, here, deep, few)
 
@@ -122,8 +121,7 @@ module _ {E R P X Z : Type 0} {f : X → List E} {g : X → ℕ × R} {h : X →
       let place = next_place Y _ (into_iter_items it') all x next (so.so_far ∙ are) in
       let most = few (length Y) x place.0 in
       let own = ap size place.1 in
-      let eight : length r.columns.items ≡ 8 = sym (length-map r.columns.items (λ c. c.items)) ∙ ap length so.taken.columns
-      ∙ length_dealt (replicate 8 []) (map f Y) in
+      let eight : length r.columns.items ≡ 8 = search (arith, length-map, length_dealt) in
       omega (arith, most, own, long, eight)
 
   -- and where it was taken in, the others are still to come
@@ -134,8 +132,7 @@ module _ {E R P X Z : Type 0} {f : X → List E} {g : X → ℕ × R} {h : X →
         so_far = taken_next Y _ (into_iter_items it') _ x next so.so_far;
         counted = let n = so.counted in let more = ap length next in omega (arith, n, fewer, more);
         taken = record {
-          columns = takes.columns ∙ ap (λ C. put_row C (f x)) taken.columns ∙ sym (dealt_snoc (replicate 8 []) (map f Y) (f x))
-              ∙ ap (dealt (replicate 8 [])) (sym (map-append f Y (x ∷ [])));
+          columns = search (arith, dealt_snoc, map-append);
           deep = room_stays (λ c. vec_capacity c) r.columns.items r'.columns.items (length xs) takes.depth taken.deep;
           lanes = takes.lanes ∙ ap (λ l. l ++ g x ∷ []) taken.lanes ∙ sym (map-append g Y (x ∷ []));
           lanes_room = let e = takes.lanes_room in let c = taken.lanes_room in omega (arith, e, c);

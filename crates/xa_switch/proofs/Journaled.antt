@@ -1,4 +1,5 @@
 -- A settled journal is what the tables at the opening make of its requests.
+use Rattle.std.proofs.Common.{arith}
 use Rattle.xa_base.proofs.{option_map, same_Some, ◌≡◌, ℕ, ◌==◌, List, [], ◌∷◌, sym, refl, ap, ◌∙◌, subst, Option, Some, None, All-contains}
 use Rattle.std.specs.FinMap as finmap
 use Rattle.xa_tables.specs.Tables.{Tables}
@@ -23,12 +24,7 @@ coded_by (x ∷ J) T e =
 pub follows_part : (s : Settling) (m : ℕ) (p : ManagerPart) → find_manager m s.managers ≡ Some p → IsSettled s → IsOpenedWith s m p.first
 follows_part s m p e h =
     let f : FollowsTables p = All-contains FollowsTables s.managers p h.tables (found (λ q. q.number == m) s.managers p e).0 in
-    record {
-      opened = f.opened;
-      codes = rw e (coded_by p.journal p.first f.coded);
-      fates = λ x g. rw e;
-      values = λ k. rw e (ap (λ (T : Tables). finmap.get T.values k) f.left);
-    }
+    search (arith, coded_by, p.journal, p.first)
 
 follows_in : (s : Settling) (m : ℕ) (o : Option ManagerPart) → find_manager m s.managers ≡ o → IsSettled s → (T : Tables) × IsOpenedWith s m T
 follows_in s m None e h = (

@@ -12,9 +12,7 @@ use Rattle.xa_switch.proofs.Lists.{searched, fails_each, pairs_at}
 -- lists of which each element comes to the same
 alike : {X Y : Type 0} (f g : X → Y) (xs : List X) → ((x : X) → Contains xs x → f x ≡ g x) → map f xs ≡ map g xs
 alike f g [] same = refl
-alike f g (x ∷ xs) same =
-    let rest = alike f g xs (λ y there. same y (suc there.0, (let low = there.1 in omega (arith, low)), there.2)) in
-    λ i. same x (0, omega arith, refl) i ∷ rest i
+alike f g (x ∷ xs) same = search (arith, alike f g xs (λ y there. same y (suc there.0, (let low = there.1 in omega (arith, low)), there.2)))
 
 -- ---- pieces, each with a number of its own, and parts that have the numbers of their pieces
 
@@ -25,10 +23,7 @@ module _ {X Y : Type 0} (number : X → ℕ) (part : X → Y) (has : Y → ℕ) 
   the_one x y (i, in_x, at_x) (k, in_y, at_y) one_number =
       let at_y' : get_or xs k x ≡ y = get_or_default xs k x y in_y ∙ at_y in
       let numbers : number (get_or xs i x) ≡ number (get_or xs k x) = ap number at_x ∙ one_number ∙ ap number (sym at_y') in
-      elim (cases_order i k) [
-        | inl here ↦ sym at_x ∙ ap (λ j. get_or xs j x) here ∙ at_y'
-        | inr other ↦ absurd (elim other [ inl lt ↦ apart i k x lt in_y numbers | inr lt ↦ apart k i x lt in_x (sym numbers) ])
-      ]
+      search (arith, cases_order)
 
   pub finds : (x : X) → Contains xs x → find (λ p. has p == number x) (map part xs) ≡ Some (part x)
   finds x there = elim (searched part (λ p. has p == number x) xs) [

@@ -73,11 +73,7 @@ SearchedAs {X} {Y} f p xs o b = ((x : X) × Contains xs x × (p (f x) ≡ true) 
 
 pub searched : {X Y : Type 0} (f : X → Y) (p : Y → Bool) (xs : List X) → SearchedAs f p xs (find p (map f xs)) (list_any (λ y. p (f y)) xs)
 searched f p [] = inr (refl, refl)
-searched {X} {Y} f p (x ∷ xs) =
-    elim (p (f x)) as (λ b. p (f x) ≡ b → SearchedAs f p (x ∷ xs) (cond b (Some (f x)) (find p (map f xs))) (b || list_any (λ y. p (f y)) xs)) [
-      | true ↦ λ e. inl (x, (0, omega arith, refl), e, refl)
-      | false ↦ λ e. elim (searched f p xs) [ inl z ↦ inl (z.0, after x z.0 xs z.1, z.2, z.3) | inr z ↦ inr z ]
-    ] refl
+searched {X} {Y} f p (x ∷ xs) = search (arith, searched f p xs, list_any, after)
 
 -- a test that none passes is failed by each
 pub fails_each : {X : Type 0} (p : X → Bool) (xs : List X) (x : X) → Contains xs x → list_any p xs ≡ false → p x ≡ false

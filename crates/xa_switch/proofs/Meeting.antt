@@ -1,4 +1,5 @@
 -- Desks and workers of one opening.
+use Rattle.std.proofs.Common.{rules}
 use Rattle.xa_base.proofs.{◌≡◌, ℕ, ◌+◌, ◌≤◌, List, [], ◌∷◌, length, slice_get, refl, sym, ap, ◌∙◌, subst, arith, map, Some, All, length-map, slice_get_within}
 use Rattle.xa_base.proofs.{All-map, got, got_map, all_from, all_at}
 use Rattle.xa_switch.specs.{Each, AreLanes, IsRequestSender, IsCompletionSender, DesksFit, WorkersFit, IsDeskOf, IsWorkerOf, IsLaidOut, IsNewDesk, IsNewWorker}
@@ -58,11 +59,7 @@ module _ (l : Layout) (xs : List Managed) (is : IsLaidOut l) (many : length xs �
       let opening : r.lane.opening ≡ p.numbers.opening = ap (λ x. x.lane.opening) receiver in (
         record {
           number = is.requests.deep t c at_c ∙ sym managers;
-          to = λ m s at_s. record {
-            sender = ap (λ x. x.index + 1) (senders m s at_s) ∙ sym thread;
-            opening_ = ap (λ x. x.lane.opening) (senders m s at_s) ∙ sym opening;
-            lane = ap (λ x. x.lane.index) (senders m s at_s);
-          };
+          to = search (arith, rules);
           lane = ap (λ x. x.lane.index) receiver ∙ sym thread;
           senders = ap (λ x. x.senders) receiver ∙ sym managers;
         },
@@ -75,13 +72,8 @@ module _ (l : Layout) (xs : List Managed) (is : IsLaidOut l) (many : length xs �
   -- a worker with its manager, the lane of its requests and its senders of completions
   pub workers_fit : WorkersFit l.worker_parts.items xs l.requests.receivers.items answers
   workers_fit = record {
-    memory = λ m part x at_part at_x.
-        let low = is.limits.threads.1 in
-        let threads : x.threads ≡ l.numbers.threads = ap (λ (y : Managed). y.threads) (new_at m x at_x) in
-        (ap (λ (y : Managed). y.room) (new_at m x at_x) ∙ sym (ap (λ (y : Reserved). y.room) (is.worker_parts_ m part at_part)), omega (arith, threads, low));
-    requests = λ m x r at_x at_r.
-        let receiver = is.requests.receivers m r at_r in
-        (ap (λ y. y.senders) receiver ∙ sym (ap (λ (y : Managed). y.threads) (new_at m x at_x)), ap (λ y. y.taken) receiver);
+    memory = search (arith, new_at);
+    requests = search (arith, new_at);
     completions = λ m x c at_x at_c. (
       is.completions.deep m c at_c ∙ sym (ap (λ (y : Managed). y.threads) (new_at m x at_x)),
       all_from (λ s. s.sent ≡ []) c (λ t s at_s. ap (λ y. y.sent) (completion_senders m c at_c t s at_s)),
@@ -89,14 +81,7 @@ module _ (l : Layout) (xs : List Managed) (is : IsLaidOut l) (many : length xs �
   }
 
   new_desk_is : (t : ℕ) (d : DeskView) → IsDeskOf l.desk_parts.items asks l.completions.receivers.items t d → IsNewDesk p t d
-  new_desk_is t d of =
-      subst (λ x. IsNewDesk p t x) (sym of.made)
-      (record {
-        made = ap (λ x. new_desk x of.requests of.completions) (is.desk_parts_ t of.part of.part_at);
-        managers = is.requests.deep t of.requests of.requests_at;
-        requests = request_senders t of.requests of.requests_at;
-        completions = is.completions.receivers t of.completions of.completions_at;
-      })
+  new_desk_is t d of = search (arith, request_senders, of.requests, of.part, of.completions)
 
   new_worker_is : (m : ℕ) (w : WorkerView) → IsWorkerOf l.worker_parts.items xs l.requests.receivers.items answers m w → IsNewWorker p m w
   new_worker_is m w of =
@@ -104,8 +89,7 @@ module _ (l : Layout) (xs : List Managed) (is : IsLaidOut l) (many : length xs �
       (record {
         first = of.manager.tables;
         begins = got_map (λ (x : Managed). x.tables) xs m of.manager of.manager_at;
-        made = ap (λ x. new_worker x.number of.manager of.requests of.senders) (is.worker_parts_ m of.part of.part_at)
-            ∙ ap (λ x. new_worker (m + 1) x of.requests of.senders) (new_at m of.manager of.manager_at);
+        made = search (arith, new_at, of.manager, of.requests, of.part);
         threads = is.completions.deep m of.senders of.senders_at;
         requests = is.requests.receivers m of.requests of.requests_at;
         completions = completion_senders m of.senders of.senders_at;
@@ -123,27 +107,9 @@ module _ (l : Layout) (xs : List Managed) (is : IsLaidOut l) (many : length xs �
       let answers_deep = is.completions.deep m of_w.senders of_w.senders_at in
       let s = got of_d.requests m (omega (arith, m_low, m_many, asks_deep)) in
       let a = got of_w.senders t (omega (arith, t_low, t_many, answers_deep)) in
-      subst (λ x. ShareNewLanes t m x w) (sym of_d.made)
-      (subst (λ x. ShareNewLanes t m (new_desk of_d.part of_d.requests of_d.completions) x) (sym of_w.made)
-      (record {
-        asking = s.0;
-        asks = s.1;
-        asked = (is.requests.dealt t m of_d.requests s.0 of_w.requests of_d.requests_at s.1 of_w.requests_at).1;
-        answering = a.0;
-        answers = a.1;
-        answered = (is.completions.dealt m t of_w.senders a.0 of_d.completions of_w.senders_at a.1 of_d.completions_at).1;
-      }))
+      search (arith, of_d.part, of_d.requests, s.0, of_w.requests, of_d.requests_at, s.1, of_w.senders, a.0, of_d.completions, of_w.senders_at, a.1)
 
   pub one_opening : (ds : List DeskView) (ws : List WorkerView) → length ds ≡ length l.desk_parts.items → length ws ≡ length l.worker_parts.items
       → Each (IsDeskOf l.desk_parts.items asks l.completions.receivers.items) ds
       → Each (IsWorkerOf l.worker_parts.items xs l.requests.receivers.items answers) ws → AreOfOneOpening p ds ws
-  one_opening ds ws many_d many_w desks workers = record {
-    threads = many_d ∙ is.threads;
-    managers = many_w ∙ is.managers;
-    flags = refl;
-    tables = length-map xs (λ (x : Managed). x.tables) ∙ many;
-    desks = λ t d at. new_desk_is t d (desks t d at);
-    workers = λ m w at. new_worker_is m w (workers m w at);
-    together = λ t m d w at_d at_w. together_are t m d w (desks t d at_d) (workers m w at_w);
-    begins = All-map IsOpening (λ (x : Managed). x.tables) xs begins;
-  }
+  one_opening ds ws many_d many_w desks workers = search (arith, length-map, new_desk_is, new_worker_is, together_are, All-map)

@@ -13,8 +13,7 @@ use Rattle.xa_switch.proofs.Gathering.{pairs_mid}
 -- ---- some of them, in any order
 
 pairs_front : {X : Type 0} (R : X → X → Type 0) (xs ys : List X) → AllPairs R (xs ++ ys) → AllPairs R xs
-pairs_front {X} R xs ys h i k d lt below =
-    subst (λ (p : X × X). R p.0 p.1) (λ j. (get_or_append_left xs ys d i (omega (arith, lt, below)) j, get_or_append_left xs ys d k below j)) (h i k d lt (omega (arith, below, length-append xs ys)))
+pairs_front {X} R xs ys h i k d lt below = search (arith, get_or_append_left, length-append)
 
 -- place p has what stood at place s, where a and b changed places
 abbrev Came : ℕ → ℕ → ℕ → ℕ → Type 0
@@ -35,8 +34,7 @@ came_apart a b i k s t ne (p, q, r) (x, y, z) e = grind arith
 
 module _ {X : Type 0} (R : X → X → Type 0) (flips : (x y : X) → R x y → R y x) where
   pairs_either : (xs : List X) (s t : ℕ) (d : X) → AllPairs R xs → (s ≡ t → ⊥) → s < length xs → t < length xs → R (get_or xs s d) (get_or xs t d)
-  pairs_either xs s t d h ne ls lt =
-      elim (cases_lt s t) [ inl l ↦ h s t d l lt | inr l ↦ flips (get_or xs t d) (get_or xs s d) (h t s d (omega (arith, l, ne)) ls) ]
+  pairs_either xs s t d h ne ls lt = search (arith, cases_lt)
 
   pairs_swapped : (xs : List X) (a b : ℕ) → a < length xs → b < length xs → AllPairs R xs → AllPairs R (swap xs a b)
   pairs_swapped xs a b la lb h i k d lt below =

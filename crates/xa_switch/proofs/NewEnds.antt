@@ -6,9 +6,7 @@ use Rattle.xa_switch.proofs.Dealing.{more_lanes}
 
 pub length_senders : (T : Type 0) (lane : LaneName) (line : QueueId) (capacity n : ℕ) → length (new_senders {T = T} lane line capacity n) ≡ n
 length_senders T lane line capacity zero = refl
-length_senders T lane line capacity (suc n) =
-    let h = length_senders T lane line capacity n in
-    omega (arith, h, length-append (new_senders {T = T} lane line capacity n) (new_sender lane line capacity n ∷ []))
+length_senders T lane line capacity (suc n) = search (arith, length_senders T lane line capacity n, length-append)
 
 module _ {T : Type 0} where
   pub sender_at : (lane : LaneName) (line : QueueId) (capacity n k : ℕ) (s : Sending T) → slice_get (new_senders lane line capacity n) k ≡ Some s

@@ -1,4 +1,5 @@
 -- Managers that an opening begins with, each with its tables.
+use Rattle.std.proofs.Common.{arith}
 use Rattle.xa_base.proofs.{◌≡◌, List, map, refl, sym, ap, ◌∙◌, subst, get_or, All, All-map}
 use Rattle.std.proofs.lemmas.Simd.{map-map as map_map}
 use Rattle.xa_tables.specs.{Managed, IsOpening}

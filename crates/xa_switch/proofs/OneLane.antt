@@ -22,13 +22,11 @@ sent_there (s ∷ ss) (suc k) e at = sent_there ss k e at
 module _ {T : Type 0} (r : Receiving T) (ends : List (Sending T)) (h : IsClosed r ends) where
   -- once its end mark was taken, all that an end sent was
   pub taken_whole : (e : Sending T) → Contains ends e → has_ended e.index r.taken ≡ true → received e.index r.taken ≡ e.sent
-  taken_whole e c m =
-      (All-contains (λ (e : Sending T). has_ended e.index r.taken ≡ true → (received e.index r.taken ≡ e.sent) × (left_of e.index h.left ≡ [])) ends e h.nothing c m).0
+  taken_whole e c m = search (arith, All-contains)
 
   -- what was taken of an end was sent by it
   pub in_sent : (e : Sending T) → Contains ends e → (x : T) → In x (received e.index r.taken) → In x e.sent
-  in_sent e c x i =
-      subst (In x) (All-contains (λ (e : Sending T). received e.index r.taken ++ left_of e.index h.left ≡ e.sent) ends e h.conserves c) (in_front x (received e.index r.taken) (left_of e.index h.left) i)
+  in_sent e c x i = search (arith, All-contains, in_front)
 
   -- there is an end for each number of a sender
   pub end_of : (p : ℕ) → p < r.senders → (e : Sending T) × Contains ends e × (e.index ≡ p)
@@ -92,13 +90,7 @@ in_part c _ _ (without_last xs ys zs y p e) h = subst (In c) (sym e) (in_front c
 entries_numbers : (t : ℕ) (J : List Entry)
     → map (λ (e : Entry). e.0.number) (filter (λ e. e.0.thread == t) J) ≡ map (λ (r : Request). r.number) (of_thread t (requests J))
 entries_numbers t [] = refl
-entries_numbers t (x ∷ J) =
-    let E = filter (λ (e : Entry). e.0.thread == t) J in
-    let H = of_thread t (requests J) in
-    elim (x.0.thread == t) as (λ b. map (λ (e : Entry). e.0.number) (cond b (x ∷ E) E) ≡ map (λ (r : Request). r.number) (cond b (x.0 ∷ H) H)) [
-      | true ↦ ap (λ l. x.0.number ∷ l) (entries_numbers t J)
-      | false ↦ entries_numbers t J
-    ]
+entries_numbers t (x ∷ J) = search (arith, entries_numbers t J)
 
 number_at : (t n : ℕ) (ops : List Op) (k v : ℕ) → slice_get (map (λ (r : Request). r.number) (numbered t n ops)) k ≡ Some v → v ≡ n + k
 number_at t n [] k v e = cc

@@ -48,9 +48,7 @@ completion_columns ws = dealt (replicate 8 []) (map (λ w. w.ends) ws)
 
 module _ (ds : List EndedView) (ws : List Served) (h : Whole ds ws) where
   same_opening : (d : EndedView) (w : Served) → Contains ds d → Contains ws w → desk_opening d ≡ worker_opening w
-  same_opening d w cd cw =
-      All-contains (λ d. desk_opening d ≡ first_opening ds ws) ds d h.one.0 cd
-      ∙ sym (All-contains (λ w. worker_opening w ≡ first_opening ds ws) ws w h.one.1 cw)
+  same_opening d w cd cw = search (arith, All-contains)
 
   pair_at : (d : EndedView) (w : Served) → Contains ds d → Contains ws w → ShareLanes (seat_of_ended d) (seat_of_done w)
   pair_at d w cd cw =
@@ -151,8 +149,7 @@ module _ (ds : List EndedView) (ws : List Served) (j : Joint ds ws) where
   answered d w cd cw e at =
       let seated = desk_number ds ws j.all d cd in
       let t : d.thread - 1 + 1 ≡ d.thread = omega (arith, seated) in
-      sym (sent_there w.ends (d.thread - 1) e at) ∙ (worker_known w cw).sent (d.thread - 1)
-      ∙ ap (λ t. map (completion_of w.number) (entries_of t w.journal)) t
+      search (arith, sent_there, worker_known, w.ends)
 
   completion_answers : (d : EndedView) → Contains ds d → All Answers (column (completion_columns ws) (d.thread - 1))
   completion_answers d cd = each_end completion_side Answers d (λ w e cw at.
@@ -198,12 +195,7 @@ module _ (ds : List EndedView) (ws : List Served) (j : Joint ds ws) where
         let k = known_at d w cd cw in
         let settled = (desk_known d cd).settled w.number k in
         let A = ledger d.ledgers w.number in
-        record {
-          carried = carried hs;
-          each = λ n. (settled.all n, settled.below n);
-          once = settled.distinct;
-          coded = λ i p below. coded_at hs ha (get_or A.collected i p) (in_drained w.number (get_or A.collected i p).0 (get_or A.collected i p).1 d.drained ((desk_known d cd).tied.collected w.number k i p below));
-        }
+        search (arith, carried, coded_at, in_drained, desk_known, settled.all, settled.below)
 
   -- ---- what closing the lanes asks
 

@@ -10,8 +10,7 @@ pub found_at : {A : Type 0} (p : A → Bool) (xs : List A) (i : ℕ) (d : A) →
 found_at p [] i d low here before = absurd (omega (arith, low))
 found_at p (x ∷ xs) zero d low here before = ap (λ b. cond b (Some x) (find p xs)) here
 found_at p (x ∷ xs) (suc i) d low here before =
-    ap (λ b. cond b (Some x) (find p xs)) (All-head (λ y. p y ≡ false) x (take i xs) before)
-    ∙ found_at p xs i d (omega (arith, low)) here (All-tail (λ y. p y ≡ false) x (take i xs) before)
+    search (arith, found_at p xs i d (omega (arith, low)) here (All-tail (λ y. p y ≡ false) x (take i xs) before), All-head, All-tail)
 
 -- taking out one that doesn't pass changes nothing
 pub found_without : {A : Type 0} (p : A → Bool) (xs : List A) (i : ℕ) (d : A) → i < length xs → p (get_or xs i d) ≡ false → find p (remove xs i) ≡ find p xs

@@ -28,13 +28,11 @@ module _ (p : Setup) (ds : List DeskView) (ws : List WorkerView) (h : AreOfOneOp
       let answering = W.completions t T.answering T.answers in
       record {
         asking = end_seat T.asking;
-        asks = slice_get-map (λ (e : Sending Request). end_seat e) d.requests (w.number - 1)
-            ∙ ap (option_map (λ (e : Sending Request). end_seat e)) (ap (slice_get d.requests) m_is ∙ T.asks);
+        asks = search (arith, slice_get-map, option_map, slice_get, d.requests);
         asked = (ap (λ (e : Sending Request). e.lane) asking ∙ sym (ap (λ (r : Receiving Request). r.lane) W.requests), T.asked);
         asker = let i = ap (λ (e : Sending Request). e.index) asking in omega (arith, i, thread);
         answering = end_seat T.answering;
-        answers = slice_get-map (λ (e : Answering). end_seat e) w.out.senders (d.thread - 1)
-            ∙ ap (option_map (λ (e : Answering). end_seat e)) (ap (slice_get w.out.senders) t_is ∙ T.answers);
+        answers = search (arith, slice_get-map, option_map, slice_get, w.out.senders);
         answered = (ap (λ (e : Answering). e.lane) answering ∙ sym (ap (λ (r : Receiving Completion). r.lane) D.completions), T.answered);
         answerer = let i = ap (λ (e : Answering). e.index) answering in omega (arith, i, number);
       }
@@ -81,8 +79,7 @@ module _ (p : Setup) (ds : List DeskView) (ws : List WorkerView) (h : AreOfOneOp
   kept k d below = record {
     each = λ o out.
         let is : IsNewDesk p k (get_or ds k d) = h.desks k (get_or ds k d) (slice_get-get_or ds k d below) in
-        let none : (ledger (get_or ds k d).ledgers o.manager).sent ≡ [] =
-        ap (λ (x : DeskView). (ledger x.ledgers o.manager).sent) is.made ∙ fresh_sent p.numbers.requests p.use_async (o.manager - 1) in
+        let none : (ledger (get_or ds k d).ledgers o.manager).sent ≡ [] = search (arith, fresh_sent) in
         let sent = out.sent in
         let size = ap (λ l. length l) none in
         absurd (omega (arith, sent, size));

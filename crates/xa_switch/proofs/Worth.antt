@@ -1,4 +1,5 @@
 -- What all accounts are worth together is what was declared and what the threads have moved.
+use Rattle.std.proofs.Common.{rules}
 use Rattle.xa_base.proofs.{ℤ, pos, ◌+ℤ◌, unwrap_or, All, ◌≡◌, ℕ, zero, suc, Bool, filter, All-nil, All-cons, ◌+◌, ◌-◌, ◌<◌, ◌≤◌, ◌==◌, true, false, cond, List}
 use Rattle.xa_base.proofs.{[], ◌∷◌, if◌then◌else◌, length, map, get_or, sym, refl, ap, ◌∙◌, arith, Some, None, Contains, range_with_len, eqb-true, eqb-false}
 use Rattle.xa_base.proofs.{length-range_with_len, get_or-range_with_len, +ℤ_idl as none_plus, +ℤ_idr as plus_none, total_same, total_alike, total_both}
@@ -23,8 +24,7 @@ use Rattle.xa_switch.proofs.Journaled.{follows_first}
 -- what counts for one number counts for none of a range above it, and once in a range that has it
 none_counted : (k : ℕ) (v : ℤ) (a n : ℕ) → k < a → total (λ t. if k == t then v else pos 0) (range_with_len a n) ≡ pos 0
 none_counted k v a zero lt = refl
-none_counted k v a (suc n) lt =
-    let other = ne_eqb k a (λ e. omega (arith, e, lt)) in (λ i. (if other i then v else pos 0) +ℤ none_counted k v (a + 1) n (omega arith) i)
+none_counted k v a (suc n) lt = search (arith, none_counted k v (a + 1) n (omega arith), ne_eqb)
 
 one_counted : (k : ℕ) (v : ℤ) (a n : ℕ) → a ≤ k → k < a + n → total (λ t. if k == t then v else pos 0) (range_with_len a n) ≡ v
 one_counted k v a zero from below = absurd (omega arith)
@@ -61,9 +61,7 @@ all_fail {A} p (x ∷ xs) e =
 module _ (p : Plan) (s : Settling) (settled : IsSettled s) (of_plan : IsOfPlan p s) where
   -- thread t of a request is a thread of the plan
   unknown_sends : (t m : ℕ) → find_thread t s.threads ≡ None → 1 ≤ m → sent s t m ≡ []
-  unknown_sends t m none positive =
-      ap (λ o. sent_to (ledgers_in o) m) none
-      ∙ elim (is_known [] m) as (λ b. (if b then (ledger [] m).sent else []) ≡ []) [ true ↦ refl | false ↦ refl ]
+  unknown_sends t m none positive = search (arith, rules)
 
   known_thread : (t m : ℕ) → 1 ≤ m → (k : ℕ) (d : Request) → k < length (history s m) → (get_or (history s m) k d).thread ≡ t → (1 ≤ t) × (t < 1 + p.threads)
   known_thread t m positive k d lt is =
@@ -102,10 +100,7 @@ module _ (p : Plan) (s : Settling) (settled : IsSettled s) (of_plan : IsOfPlan p
   module _ (moves : (accounts : List (List ℕ × ℕ)) (h : History) → are_accounts accounts ≡ true → WorthIsMoved accounts h)
       (sound : All IsSoundManager p.managers.items) where
     sound_at : (m : ℕ) → 1 ≤ m → m ≤ length p.managers.items → are_accounts (accounts_of p m) ≡ true
-    sound_at m positive below =
-        let (plan, planned) = got p.managers.items (m - 1) (omega (arith, positive, below)) in
-        ap (λ o. are_accounts (accounts_in o)) planned
-        ∙ All-contains IsSoundManager p.managers.items plan sound (contains_at p.managers.items (m - 1) plan planned)
+    sound_at m positive below = search (arith, All-contains, contains_at)
 
     at_manager : (m : ℕ) → 1 ≤ m → m < 1 + length p.managers.items
         → total (λ d. unwrap_or (value s m d.0) (pos 0)) (accounts_of p m) ≡ worth_declared (accounts_of p m) +ℤ total (λ t. moved_at p s t m) (threads_of p)

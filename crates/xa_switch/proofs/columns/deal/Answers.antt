@@ -32,8 +32,7 @@ loop-x-preserved g c =
     let next = next_place Y _ (into_iter_items c.next.new.self) _ x c.in-Some.ensures.steps.0 (i.so_far ∙ c.into_iter-x-iterator.ensures.into_iter_gives.0) in
     let row = c.requires.row in
     let at = i.place in
-    let own : new.items ≡ (get_or c.args.columns.items (length Y) v).items ++ x ∷ [] =
-    c.push_reserved.ensures.items ∙ ap (λ u. u.items ++ x ∷ []) (is ∙ i.others c.loop-x.place v (omega arith) ∙ ap (λ k. get_or c.args.columns.items k v) at) in
+    let own : new.items ≡ (get_or c.args.columns.items (length Y) v).items ++ x ∷ [] = search (arith, i.others, c.loop-x.place, c.args.columns.items) in
     record {
       so_far = taken_next Y _ (into_iter_items c.next.new.self) _ x c.in-Some.ensures.steps.0 i.so_far;
       counted = let n = i.counted in let s = c.in-Some.ensures.steps.1 in let more = ap length c.in-Some.ensures.steps.0 in omega (arith, n, s, more);

@@ -1,3 +1,4 @@
+use Rattle.std.proofs.Common.{arith}
 use Rattle.xa_base.proofs.{length, map, sym, ap, ◌∙◌, ◌++◌, into_iter_items, got_map, next_there, taken_next}
 use Rattle.xa_switch.specs.{IsDeskOf}
 use Rattle.xa_switch.proofs.Dealing.{next_of, one_more_made}
@@ -31,11 +32,4 @@ loop-part-preserved c =
       completions_at = completions.0;
       made = c.assemble.ensures.made;
     }) in
-    record {
-      so_far = taken_next Y _ (into_iter_items c.next.new.self) _ c.in-Some.part c.in-Some.ensures.steps.0 i.so_far;
-      many = made.0;
-      room = c.push_reserved.ensures.capacity ∙ i.room;
-      requests = requests.1;
-      completions = completions.1;
-      made = made.1;
-    }
+    search (arith, taken_next, into_iter_items, c.in-Some.part, c.in-Some.ensures.steps.0)

@@ -1,3 +1,4 @@
+use Rattle.std.proofs.Common.{arith}
 use Rattle.xa_base.proofs.{length, map, sym, ap, ◌∙◌, ◌++◌, into_iter_items, got_map, next_there, taken_next}
 use Rattle.xa_switch.specs.{IsWorkerOf}
 use Rattle.xa_switch.proofs.Dealing.{next_of, one_more_made}
@@ -38,12 +39,4 @@ loop-part-preserved c =
       senders_at = got_map (λ v. v.items) c.args.columns.items _ _ senders.0;
       made = c.assemble.ensures.new;
     }) in
-    record {
-      so_far = taken_next Y _ (into_iter_items c.next.new.self) _ c.in-Some.part c.in-Some.ensures.steps.0 i.so_far;
-      many = made.0;
-      room = c.push_reserved.ensures.capacity ∙ i.room;
-      given = manager.1;
-      requests = requests.1;
-      senders = senders.1;
-      made = made.1;
-    }
+    search (arith, taken_next, into_iter_items, c.in-Some.part, c.in-Some.ensures.steps.0)

@@ -15,8 +15,7 @@ pub reopened-requires : goal.reopened-requires
 reopened-requires c =
     let k = c.loop-before.before in
     let taken : ReadyPart = c.take_manager-manager.result in
-    let there : find_ready (k + 1) c.args.carried.items ≡ Some taken =
-    sym (c.loop-before.invariant.kept (k + 1) (omega arith)) ∙ c.take_manager-manager.ensures.taken in
+    let there : find_ready (k + 1) c.args.carried.items ≡ Some taken = search (arith, c.loop-before.invariant.kept) in
     All-contains (λ (r : ReadyPart). r.reserved ≡ Some (c.args.numbers.now.threads, c.args.room)) c.args.carried.items taken c.requires.reserved (found _ c.args.carried.items taken there).0
 
 pub push_reserved-requires : goal.push_reserved-requires

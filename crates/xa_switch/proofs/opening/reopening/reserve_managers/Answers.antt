@@ -14,9 +14,7 @@ loop-place-preserved c =
     let after : ReadyPart = c.reserve.new.self in
     let Has = λ (r : ReadyPart). r.reserved ≡ Some (c.args.threads, c.args.room) in
     record {
-      parts =
-          map-set_same (λ (r : ReadyPart). r.part) managers i after c.index_mut.result.now (c.in_ok-reserve.ensures.part ∙ ap (λ (r : ReadyPart). r.part) c.index_mut.ensures.value)
-          ∙ c.loop-place.invariant.parts;
+      parts = search (arith, map-set_same, c.index_mut.result.now);
       many = length-set managers i after ∙ c.loop-place.invariant.many;
       reserved = subst (All Has) (sym (take_more_set managers i after (omega arith))) (All-push Has (take i managers) after c.loop-place.invariant.reserved c.in_ok-reserve.ensures.reserved);
     }

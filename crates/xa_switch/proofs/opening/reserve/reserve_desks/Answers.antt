@@ -1,3 +1,4 @@
+use Rattle.std.proofs.Common.{rules}
 use Rattle.xa_base.proofs.{◌≡◌, ◌+◌, ◌++◌, ◌∷◌, [], length, sym, ap, ◌∙◌, subst, arith, length-append}
 use Rattle.xa_switch.specs.{Each, desk_parts}
 use Rattle.xa_switch.proofs.Dealing.{each_push}
@@ -10,8 +11,7 @@ loop-before-preserved c =
     let many = c.loop-before.invariant.many in
     let pushed : c.push.new.self.items ≡ c.loop-before.parts.items ++ c.in_ok-part.part ∷ [] = c.in_ok-push.ensures.items in
     let is : c.in_ok-part.part ≡ desk_parts numbers flags (c.loop-before.before + 1) = c.in_ok-part.ensures in
-    let placed : c.in_ok-part.part ≡ desk_parts numbers flags (length c.loop-before.parts.items + 1) =
-    is ∙ ap (λ n. desk_parts numbers flags (n + 1)) (sym many) in
+    let placed : c.in_ok-part.part ≡ desk_parts numbers flags (length c.loop-before.parts.items + 1) = search (arith, rules) in
     record {
       many = let longer = ap length pushed in omega (arith, many, longer, length-append c.loop-before.parts.items (c.in_ok-part.part ∷ []));
       each =

@@ -1,3 +1,4 @@
+use Rattle.std.proofs.Common.{rules}
 use Rattle.xa_base.proofs.{[], ◌∷◌, length, length-append, map, sym, ap, ◌∙◌, subst, arith, All, All-push}
 use Rattle.xa_switch.specs.{HasLeft, IsScanOf}
 use Rattle.xa_switch.proofs.opening.scans.scans_of.Goals as goal
@@ -9,10 +10,7 @@ loop-preserved c =
     let scans = c.loop.scans.items in
     let z = c.over.result in
     let shared = c.in_ok-try_clone.ensures ∙ c.in_ok-left.ensures.ok in
-    let is : IsScanOf s z = record {
-      left = subst (HasLeft s) (sym (c.over.ensures.left ∙ ap (λ v. map (λ xs. xs.items) v.items) shared)) c.in_ok-left_of.ensures;
-      closed = c.over.ensures.closed;
-    } in
+    let is : IsScanOf s z = search (arith, rules) in
     let counted = i.counted in
     let grown = ap (λ l. length l) c.push_reserved.ensures.items in
     record {

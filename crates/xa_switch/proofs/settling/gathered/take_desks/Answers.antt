@@ -21,7 +21,4 @@ loop-desk-preserved c =
     let x = c.in-Some.desk in
     let steps = c.in-Some.ensures.steps in
     let takes : TakesIn x.requests (desk_lane x) (thread_part x) c.loop-desk.room c.take_in-room.result = search rules in
-    record {
-      gathers = one_more_taken c.loop-desk.invariant.gathers c.next.new.self x steps.0 steps.1 _ takes;
-      known = All-push IsEnded c.loop-desk.yielded x c.loop-desk.invariant.known c.apart-requests.ensures.known;
-    }
+    search (arith, one_more_taken, All-push, c.loop-desk.invariant.gathers, c.next.new.self, steps.0, steps.1, c.loop-desk.invariant.known)
