@@ -3,7 +3,7 @@ use Rattle.xa_base.proofs.{◌≡◌, ℕ, Bool, true, false, ℤ, sym, refl, ap
 use Rattle.xa_words.specs.Code.{number_of}
 use Rattle.xa_words.specs.declared.code.Code.{Code}
 use Rattle.xa_words.specs.{Done, Op}
-use Rattle.xa_desk.specs.{Refused, NoSuchManager, Shut, TooMany, Spent, Full, call_refusal}
+use Rattle.xa_desk.specs.{Refused, NoSuchManager, call_refusal}
 use Rattle.xa_desk.specs.DeskView.{DeskView}
 use Rattle.xa_calls.specs.{code_of, Puts}
 use Rattle.xa_calls.specs.Putting.Puts.{refused, full, kept, answered}
@@ -16,10 +16,7 @@ use Rattle.xa_work.proofs.Handles.{only_done, not_done}
 -- the reason of a desk isn't XA_OK
 reason_no : (why : Refused) → (of_z w32 (number_of (code_of why)) == 0) ≡ false
 reason_no NoSuchManager = refl
-reason_no Shut = refl
-reason_no TooMany = refl
-reason_no Spent = refl
-reason_no Full = refl
+reason_no why = refl
 
 refusal_no : (o : Option Refused) (c : Code) → option_map code_of o ≡ Some c → (of_z w32 (number_of c) == 0) ≡ false
 refusal_no None c e = cc

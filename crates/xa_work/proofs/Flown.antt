@@ -1,16 +1,15 @@
 -- The work for branches in flight that was all done: what was put to each manager, and what was collected.
-use Rattle.xa_base.proofs.{◌≡◌, ◌≢◌, ℕ, suc, ◌+◌, ◌-◌, ◌≤◌, Bool, true, false, cond, ◌==◌, List, [], ◌∷◌, ◌++◌, length, map, filter, length-append}
-use Rattle.xa_base.proofs.{append_assoc, sym, refl, ap, ◌∙◌, subst, arith, eq-eqb, All, list_any, range_with_len, eqb-true, or_parts, append-nil, length-set}
+use Rattle.xa_base.proofs.{◌≡◌, ℕ, suc, ◌+◌, ◌≤◌, Bool, true, false, cond, ◌==◌, List, [], ◌∷◌, ◌++◌, length, map, filter, length-append}
+use Rattle.xa_base.proofs.{append_assoc, sym, refl, ap, ◌∙◌, subst, arith, eq-eqb, All, list_any, range_with_len, eqb-true, or_parts, append-nil}
 use Rattle.xa_base.proofs.{map-append, All-head, All-tail, filter-append, list_any-append, all_left, all_right, range_suc}
 use Rattle.xa_base.specs.{Chain}
 use Rattle.xa_base.specs.Lists.Chain.{none, more}
 use Rattle.xa_words.specs.{Done, Op}
-use Rattle.xa_desk.specs.{Operation, with_sent, with_collected, IsKnown, ledger, put_ledger, next_operation}
+use Rattle.xa_desk.specs.{Operation, with_sent, with_collected, IsKnown, ledger, next_operation}
 use Rattle.xa_desk.specs.LedgerView.{LedgerView}
 use Rattle.xa_desk.specs.DeskView.{DeskView}
-use Rattle.xa_desk.proofs.Ledgers.{ledger-put_same, ledger-put_other}
 use Rattle.xa_work.specs.{PutsAtLast, PutsOp, Put}
-use Rattle.xa_work.proofs.Worked.{AreCollected, AreKept, Flights, IsKey, is_put, kept_push, key_of, known_on}
+use Rattle.xa_work.proofs.Worked.{AreCollected, AreKept, Block, Flights, IsKey, block_one, is_put, kept_push, key_of, known_on}
 
 -- ---- lists
 
@@ -22,20 +21,6 @@ passed : {X : Type 0} (p : X → Bool) (xs : List X) (x : X) → p x ≡ false �
 passed p xs x e = filter-append p xs (x ∷ []) ∙ ap (λ c. filter p xs ++ cond c (x ∷ []) []) e ∙ append-nil (filter p xs)
 
 -- ---- one manager's ledger
-
--- the ledger with manager m was changed so, and the others stayed
-record Changes (m : ℕ) (f : LedgerView → LedgerView) (at at' : List LedgerView) : Type 0 where
-  here : IsKnown at m → ledger at' m ≡ f (ledger at m)
-  others : (n : ℕ) → 1 ≤ n → n ≢ m → ledger at' n ≡ ledger at n
-  many : length at' ≡ length at
-
-changes : (m : ℕ) (f : LedgerView → LedgerView) (at at' : List LedgerView) → 1 ≤ m → at' ≡ put_ledger at m (f (ledger at m)) → Changes m f at at'
-changes m f at at' up is =
-    subst (λ (l : List LedgerView). Changes m f at l) (sym is) (record {
-      here = λ known. ledger-put_same at m (f (ledger at m)) known;
-      others = λ n low differs. ledger-put_other at m n (f (ledger at m)) up low differs;
-      many = length-set at (m - 1) (f (ledger at m));
-    })
 
 -- these were sent, one after the other
 abbrev pub sent_all : LedgerView → List Op → LedgerView
@@ -110,16 +95,16 @@ module _ (ps : List Put) (fs : Flights) (old mid new : DeskView) (w : Flown ps f
   known_mid : IsKnown mid.ledgers p.flight.manager
   known_mid = known_on p.flight.manager old.ledgers mid.ledgers w.many known
 
-  step : Changes p.flight.manager (λ a. with_sent a p.op) mid.ledgers new.ledgers
+  step : Block p.flight.manager (with_sent (ledger mid.ledgers p.flight.manager) p.op) mid.ledgers new.ledgers
   step =
-      changes p.flight.manager (λ a. with_sent a p.op) mid.ledgers new.ledgers known.positive
+      block_one p.flight.manager (λ a. with_sent a p.op) mid.ledgers new.ledgers known_mid
       (is_put p.flight.manager p.op p.flight.handle (key_of p.flight.handle) mid new key.is key.positive put).ledgers
 
   here_more : (m : ℕ) → IsKnown old.ledgers m → ledger new.ledgers m ≡ sent_all (ledger old.ledgers m) (ops_to m (ps ++ p ∷ []))
   here_more m known_m =
       elim (p.flight.manager == m) as (λ c. (p.flight.manager == m) ≡ c → ledger new.ledgers m ≡ sent_all (ledger old.ledgers m) (ops_to m (ps ++ p ∷ []))) [
         | true ↦ λ e.
-            subst (λ k. ledger new.ledgers k ≡ with_sent (ledger mid.ledgers k) p.op) (eqb-true p.flight.manager m e) (step.here known_mid)
+            subst (λ k. ledger new.ledgers k ≡ with_sent (ledger mid.ledgers k) p.op) (eqb-true p.flight.manager m e) step.here
             ∙ ap (λ a. with_sent a p.op) (w.here m known_m) ∙ sym (sent_push (ledger old.ledgers m) (ops_to m ps) p.op)
             ∙ ap (sent_all (ledger old.ledgers m)) (sym (map-append (λ (q : Put). q.op) (to_manager m ps) (p ∷ [])))
             ∙ ap (λ (l : List Put). sent_all (ledger old.ledgers m) (map (λ (q : Put). q.op) l)) (sym (pushed (λ (q : Put). q.flight.manager == m) ps p e))
@@ -203,14 +188,14 @@ pub all_got : (fs : Flights) (at at' : List LedgerView) → All (λ (f : ℕ × 
 all_got [] at at' known same m positive = ap (λ (l : List LedgerView). ledger l m) same
 all_got (f ∷ fs) at at' known (mid, is, rest) m positive =
     let its = All-head (λ (g : ℕ × Operation). IsKnown at g.1.manager) f fs known in
-    let step = changes f.1.manager (λ a. with_collected a f.1.number Done) at mid its.positive is in
+    let step = block_one f.1.manager (λ a. with_collected a f.1.number Done) at mid its is in
     let on : All (λ (g : ℕ × Operation). IsKnown mid g.1.manager) fs =
     (λ k g within. known_on _ at mid step.many (All-tail (λ (g : ℕ × Operation). IsKnown at g.1.manager) f fs known k g within)) in
     let later = all_got fs mid at' on rest m positive in
     elim (f.1.manager == m) as (λ c. (f.1.manager == m) ≡ c → ledger at' m ≡ got_all (ledger at m) (numbers_at m (f ∷ fs))) [
       | true ↦ λ e.
           later
-          ∙ ap (λ a. got_all a (numbers_at m fs)) (subst (λ k. ledger mid k ≡ with_collected (ledger at k) f.1.number Done) (eqb-true f.1.manager m e) (step.here its))
+          ∙ ap (λ a. got_all a (numbers_at m fs)) (subst (λ k. ledger mid k ≡ with_collected (ledger at k) f.1.number Done) (eqb-true f.1.manager m e) step.here)
           ∙ ap (λ c. got_all (ledger at m) (map (λ (g : ℕ × Operation). g.1.number) (cond c (f ∷ filter (λ (g : ℕ × Operation). g.1.manager == m) fs) (filter (λ (g : ℕ × Operation). g.1.manager == m) fs)))) (sym e)
       | false ↦ λ e.
           later ∙ ap (λ a. got_all a (numbers_at m fs)) (step.others m positive (λ same. let there = eq-eqb f.1.manager m (sym same) in cc))

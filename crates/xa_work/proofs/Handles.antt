@@ -6,7 +6,7 @@ use Rattle.std.specs.FinMap as map
 use Rattle.xa_words.specs.Code.{number_of}
 use Rattle.xa_words.specs.declared.code.Code.{Code}
 use Rattle.xa_words.specs.{Done, Async, Inval, Op}
-use Rattle.xa_desk.specs.{Refused, NoSuchManager, Shut, TooMany, Spent, Full, Operation, IsHandle, ledger, after_sent, after_collected, next_operation}
+use Rattle.xa_desk.specs.{Refused, NoSuchManager, Operation, IsHandle, ledger, after_sent, after_collected, next_operation}
 use Rattle.xa_desk.specs.{reach_refusal, submit_refusal}
 use Rattle.xa_desk.specs.LedgerView.{LedgerView}
 use Rattle.xa_desk.specs.DeskView.{DeskView}
@@ -31,10 +31,7 @@ IsCode z = (m : ℕ) (op : Op) (old new : DeskView) → IsTurnedAway m op z old 
 -- a reason of a desk is none
 reason_is : (why : Refused) → IsCode (number_of (code_of why))
 reason_is NoSuchManager = λ m op old new same. same
-reason_is Shut = λ m op old new same. same
-reason_is TooMany = λ m op old new same. same
-reason_is Spent = λ m op old new same. same
-reason_is Full = λ m op old new same. same
+reason_is why = λ m op old new same. same
 
 reason_of : (o : Option Refused) (c : Code) → option_map code_of o ≡ Some c → IsCode (number_of c)
 reason_of None c e = cc
@@ -88,13 +85,12 @@ turned_later m op answer old mid new s p =
 
 -- so what it did later it did at first
 pub put_later : (m : ℕ) (op : Op) (answer : ℤ) (old mid new : DeskView) → StaysSo old mid → PutsOp m op answer mid new → PutsOp m op answer old new
-put_later m op (pos zero) old mid new s p = turned_later m op (pos zero) old mid new s p
 put_later m op (pos (suc k)) old mid new s p = record {
   free = ap (λ (h : map.FinMap nat_cmp Operation). map.get h (suc k)) (sym s.kept) ∙ p.free;
   ledgers = p.ledgers ∙ ap (λ (l : List LedgerView). after_sent l m op) s.ledgers;
   kept = p.kept ∙ (λ i. map.insert (s.kept i) (suc k) (next_operation (s.ledgers i) m));
 }
-put_later m op (negsuc k) old mid new s p = turned_later m op (negsuc k) old mid new s p
+put_later m op answer old mid new s p = turned_later m op answer old mid new s p
 
 -- ---- its completion
 

@@ -103,7 +103,7 @@ all_among bs = all_from (IsAmong bs) bs (λ k b at. (k, at))
 pub worked_for : (cs : List Change) (bs : List Branch) (old new : List LedgerView) → HaveWorked cs bs old new → HaveSent (IsFor bs) old new
 worked_for cs bs old new w =
     branches_sent (IsFor bs) bs old new
-    (all_from (SentAt (IsFor bs) old new) bs (λ k b at.
+    (all_from (SentAt (λ c. IsFor bs) old new) bs (λ k b at.
     let its : HasWorked cs b (ledger old b.m) (ledger new b.m) = all_at (λ (c : Branch). HasWorked cs c (ledger old c.m) (ledger new c.m)) bs k b w.each at in
     record { more = ops_of cs b; sent = its.sent; each = ops_for cs bs b (k, at); collected = (_, its.collected) }))
     w.others

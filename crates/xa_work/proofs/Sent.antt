@@ -1,7 +1,6 @@
 -- Which requests were sent since: what is done one after the other, and what a request or a collection adds.
-use Rattle.xa_base.proofs.{◌≡◌, ℕ, zero, suc, Bool, false, ℤ, pos, List, [], ◌∷◌, ◌++◌, length, append_assoc, sym, refl, ap, ◌∙◌, subst, Option, None, Some}
+use Rattle.xa_base.proofs.{◌≡◌, ℕ, suc, Bool, false, ℤ, pos, List, [], ◌∷◌, ◌++◌, length, append_assoc, sym, refl, ap, ◌∙◌, subst, Option, None, Some}
 use Rattle.xa_base.proofs.{append-nil, All-nil, All-cons, All-append, All-weaker, same_begins, begins_on, by_if}
-use Rattle.std.proofs.Common.{negsuc}
 use Rattle.xa_words.specs.declared.code.Code.{Code}
 use Rattle.xa_words.specs.{Op}
 use Rattle.xa_desk.specs.{Operation, learnt_shut, with_sent, with_collected, ledger, after_sent, after_collected, next_operation, submitted, after_fulls}
@@ -67,9 +66,8 @@ pub stayed : (P : Op → Type 0) (old new : DeskView) → StaysSo old new → Ha
 stayed P old new s = have_none P old.ledgers new.ledgers s.ledgers
 
 pub put_sent : (P : Op → Type 0) (m : ℕ) (op : Op) (z : ℤ) (old new : DeskView) → P op → PutsOp m op z old new → HaveSent P old.ledgers new.ledgers
-put_sent P m op (pos zero) old new so away = stayed P old new away.stays
 put_sent P m op (pos (suc k)) old new so p = subst (HaveSent P old.ledgers) (sym p.ledgers) (one_sent P old.ledgers m op so)
-put_sent P m op (negsuc k) old new so away = stayed P old new away.stays
+put_sent P m op z old new so away = stayed P old new away.stays
 
 pub got_sent : (P : Op → Type 0) (k : ℕ) (c : Code) (old new : DeskView) → IsCollected k c old new → HaveSent P old.ledgers new.ledgers
 got_sent P k c old new i = subst (HaveSent P old.ledgers) (sym i.ledgers) (one_collected P old.ledgers i.operation c)

@@ -1,18 +1,19 @@
 -- What a commit sent: one that was made, one that came to no decision, or one whose coordinator died.
 use Rattle.xa_base.proofs.{◌≡◌, ◌≤◌, ℕ, zero, suc, Bool, true, false, ◌||◌, ◌==◌, Option, Some, None, List, [], ◌∷◌, map, refl, sym, ◌∙◌, subst, All, eqb-true}
-use Rattle.xa_base.proofs.{All-nil, All-cons, All-head, All-tail, same_begins, some_same}
-use Rattle.xa_words.specs.{TranName, Death, Op, Prepare}
+use Rattle.xa_base.proofs.{All-nil, All-cons, All-head, All-tail, same_begins, some_same, by_if}
+use Rattle.xa_words.specs.{XidName, TranName, Death, Op, Commit, Forget, Prepare, Rollback}
 use Rattle.xa_words.specs.declared.code.Code.{Code}
 use Rattle.xa_words.specs.declared.death.Death.TheVariants as death
+use Rattle.xa_tables.specs.{is_rolled_back}
 use Rattle.xa_desk.specs.LedgerView.{LedgerView}
-use Rattle.xa_desk.specs.DeskView.{DeskView}
 use Rattle.xa_desk.specs.{ledger}
-use Rattle.xa_driver.specs.{Branch, Done, Ending, Ask, EachAsk, SameAsks, AsksFor, AtBranch, CameTo, HaveAsked, HaveTold, PutsLedger, Tells, VotesAndObeys}
-use Rattle.xa_driver.specs.{to_come, withheld, second_op, third_op, AsksLedger, first_ask, HasVoted, EachBranch, IsTraceOfCommit, has_branch_at}
+use Rattle.xa_driver.specs.{Branch, Done, Ending, Ask, code_of, AsksFor, AtBranch, CameTo, HaveAsked, HaveTold, PutsLedger, Tells, VotesAndHears, VotesAndObeys}
+use Rattle.xa_driver.specs.{is_read, is_yes, is_decided, is_out_of_reach, to_come, withheld, second_op, third_op, AsksLedger, HasVoted, EachBranch, IsTraceOfCommit, has_branch_at}
 use Rattle.xa_driver.specs.Deaths.{sent}
 use Rattle.xa_log.specs.{LogState}
+use Rattle.xa_driver.proofs.AtDeath.{asked_all}
 use Rattle.xa_driver.proofs.Calls.{among_first}
-use Rattle.xa_work.specs.{HasSent, HaveSent, IsDeath}
+use Rattle.xa_work.specs.{HasSent, HaveSent}
 use Rattle.xa_work.proofs.Sent.{none_sent, sent_on, asked_sent}
 
 -- ---- one request
@@ -42,127 +43,163 @@ told_sent P (suc k) (Some op) a a' so h = answered_sent P op h.0 a a' (so op ref
 -- ---- all branches
 
 -- what was sent to the branch's manager
-abbrev pub SentAt : (Op → Type 0) → List LedgerView → List LedgerView → Branch → Type 0
-SentAt P old new b = HasSent P (ledger old b.m) (ledger new b.m)
+abbrev pub SentAt : (Branch → Op → Type 0) → List LedgerView → List LedgerView → Branch → Type 0
+SentAt P old new b = HasSent (P b) (ledger old b.m) (ledger new b.m)
 
 -- at no other manager anything was done
 abbrev pub StaysElsewhere : List Branch → List LedgerView → List LedgerView → Type 0
 StaysElsewhere bs old new = (m : ℕ) → 1 ≤ m → has_branch_at bs m ≡ false → ledger new m ≡ ledger old m
 
-there_sent : (P : Op → Type 0) (bs : List Branch) (old new : List LedgerView) (m : ℕ) → All (SentAt P old new) bs → has_branch_at bs m ≡ true
+there_sent : (P : Op → Type 0) (bs : List Branch) (old new : List LedgerView) (m : ℕ) → All (SentAt (λ b. P) old new) bs → has_branch_at bs m ≡ true
     → HasSent P (ledger old m) (ledger new m)
 there_sent P [] old new m each there = cc
 there_sent P (b ∷ bs) old new m each there =
     elim (b.m == m) as (λ c. (b.m == m) ≡ c → (c || has_branch_at bs m) ≡ true → HasSent P (ledger old m) (ledger new m)) [
-      | true ↦ λ here _. subst (λ n. HasSent P (ledger old n) (ledger new n)) (eqb-true b.m m here) (All-head (SentAt P old new) b bs each)
-      | false ↦ λ _ rest. there_sent P bs old new m (All-tail (SentAt P old new) b bs each) rest
+      | true ↦ λ here _. subst (λ n. HasSent P (ledger old n) (ledger new n)) (eqb-true b.m m here) (All-head (SentAt (λ c. P) old new) b bs each)
+      | false ↦ λ _ rest. there_sent P bs old new m (All-tail (SentAt (λ c. P) old new) b bs each) rest
     ] refl there
 
-pub branches_sent : (P : Op → Type 0) (bs : List Branch) (old new : List LedgerView) → All (SentAt P old new) bs → StaysElsewhere bs old new
+pub branches_sent : (P : Op → Type 0) (bs : List Branch) (old new : List LedgerView) → All (SentAt (λ b. P) old new) bs → StaysElsewhere bs old new
     → HaveSent P old new
 branches_sent P bs old new each others = λ m positive. elim (has_branch_at bs m) as (λ b. has_branch_at bs m ≡ b → HasSent P (ledger old m) (ledger new m)) [
   | true ↦ λ there. there_sent P bs old new m each there
   | false ↦ λ elsewhere. subst (HasSent P (ledger old m)) (sym (others m positive elsewhere)) (none_sent P (ledger old m))
 ] refl
 
+-- ---- a branch that voted
+
+-- the branch was asked to prepare, with its vote, and what was sent after that is so
+pub record VotedSo (P : Op → Type 0) (b : Branch) (vote : Code) (a a' : LedgerView) : Type 0 where
+  pub prepared : LedgerView
+  pub asks : AsksLedger a (Prepare b.xid) prepared vote
+  pub after : HasSent P prepared a'
+
+voted_all : (P : Op → Type 0) (b : Branch) (v : Code) (a a' : LedgerView) → P (Prepare b.xid) → VotedSo P b v a a' → HasSent P a a'
+voted_all P b v a a' so z = sent_on P a z.prepared a' (answered_sent P (Prepare b.xid) v a z.prepared so z.asks) z.after
+
+-- ---- what a branch may be asked for
+
+-- what a commit may ask for of the branch is so
+pub record MayAsk (P : Op → Type 0) (x : XidName) : Type 0 where
+  pub first : P (Prepare x)
+  pub commit : P (Commit x false)
+  pub rollback : P (Rollback x)
+  pub forget : P (Forget x)
+
+second_so : (P : Op → Type 0) (x : XidName) → MayAsk P x → (commit : Bool) (v : Code) (o : Op) → second_op commit x v ≡ Some o → P o
+second_so P x may true v o =
+    by_if (λ (s : Option Op). s ≡ Some o → P o) (is_yes v) (Some (Commit x false)) None (λ _ is. subst P (some_same (Commit x false) o is) may.commit) (λ _ is. cc)
+second_so P x may false v o =
+    by_if (λ (s : Option Op). s ≡ Some o → P o) (is_read v || (is_rolled_back v || is_out_of_reach v)) None (Some (Rollback x))
+    (λ _ is. cc) (λ _ is. subst P (some_same (Rollback x) o is) may.rollback)
+
+third_so : (P : Op → Type 0) (x : XidName) → MayAsk P x → (s : Option Code) (o : Op) → third_op x s ≡ Some o → P o
+third_so P x may None o is = cc
+third_so P x may (Some c) o is =
+    by_if (λ (s : Option Op). s ≡ Some o → P o) (is_decided c) (Some (Forget x)) None (λ _ same. subst P (some_same (Forget x) o same) may.forget) (λ _ same. cc) is
+
+module _ (P : Op → Type 0) (commit : Bool) (b : Branch) (v : Code) (a a' : LedgerView) (may : MayAsk P b.xid) where
+  pub heard_so : (k : ℕ) → VotesAndHears AsksLedger PutsLedger commit k b v a a' → VotedSo P b v a a'
+  heard_so k h = record {
+    prepared = h.prepared;
+    asks = h.prepares;
+    after = told_sent P k (second_op commit b.xid v) h.prepared a' (second_so P b.xid may commit v) h.tells;
+  }
+
+  pub obeyed_so : (s : Option Code) (e : Ending) → VotesAndObeys AsksLedger commit b v s e a a' → VotedSo P b v a a'
+  obeyed_so s e h = record {
+    prepared = h.prepared;
+    asks = h.prepares;
+    after = obeyed_sent P (second_op commit b.xid v) s h.prepared a' (second_so P b.xid may commit v) h.obeys;
+  }
+
+  pub made_so : (s : Option Code) (e : Ending) → AtBranch AsksLedger commit b v s e a a' → VotedSo P b v a a'
+  made_so s e h = record {
+    prepared = h.prepared;
+    asks = h.prepares;
+    after =
+        sent_on P h.prepared h.decided a' (obeyed_sent P (second_op commit b.xid v) s h.prepared h.decided (second_so P b.xid may commit v) h.obeys)
+        (obeyed_sent P (third_op b.xid s) h.third h.decided a' (third_so P b.xid may s) h.forgets);
+  }
+
 -- ---- which requests these are
 
-module _ (P : Op → Type 0) (Q : Branch → Type 0) (firsts : (b : Branch) → Q b → P (Prepare b.xid)) (old new : List LedgerView) where
-  asked_each : (bs : List Branch) (vs : List Code) → All Q bs → HaveAsked AsksLedger PutsLedger bs vs (ledger old) (ledger new) → All (SentAt P old new) bs
-  asked_each [] [] so h = All-nil (SentAt P old new)
+module _ (P : Branch → Op → Type 0) (Q : Branch → Type 0) (firsts : (b : Branch) → Q b → P b (Prepare b.xid)) (old new : List LedgerView) where
+  abbrev Sent : Branch → Type 0
+  Sent = SentAt P old new
+
+  asked_each : (bs : List Branch) (vs : List Code) → All Q bs → HaveAsked AsksLedger PutsLedger bs vs (ledger old) (ledger new) → All Sent bs
+  asked_each [] [] so h = All-nil Sent
   asked_each [] (v ∷ vs) so h = absurd h
   asked_each (b ∷ bs) [] so h =
-      All-cons (SentAt P old new) b bs (put_sent P (Prepare b.xid) (ledger old b.m) (ledger new b.m) (firsts b (All-head Q b bs so)) h.0)
+      All-cons Sent b bs (put_sent (P b) (Prepare b.xid) (ledger old b.m) (ledger new b.m) (firsts b (All-head Q b bs so)) h.0)
       (asked_each bs [] (All-tail Q b bs so) h.1)
   asked_each (b ∷ bs) (v ∷ vs) so h =
-      All-cons (SentAt P old new) b bs (answered_sent P (Prepare b.xid) v (ledger old b.m) (ledger new b.m) (firsts b (All-head Q b bs so)) h.0)
+      All-cons Sent b bs (answered_sent (P b) (Prepare b.xid) v (ledger old b.m) (ledger new b.m) (firsts b (All-head Q b bs so)) h.0)
       (asked_each bs vs (All-tail Q b bs so) h.1)
 
-  voted_each : (bs : List Branch) (ks : List Ask) → All Q bs → SameAsks (map first_ask bs) ks → EachAsk ks old new → All (SentAt P old new) bs
-  voted_each [] ks so same each = All-nil (SentAt P old new)
-  voted_each (b ∷ bs) [] so same each = absurd same
-  voted_each (b ∷ bs) (k ∷ ks) so same each =
-      let first : (o : Op) → k.op ≡ Some o → P o = λ o is. subst P (some_same (Prepare b.xid) o (sym same.0.op ∙ is)) (firsts b (All-head Q b bs so)) in
-      All-cons (SentAt P old new) b bs
-      (subst (λ n. HasSent P (ledger old n) (ledger new n)) same.0.manager (subst (HasSent P (ledger old k.manager)) (sym each.0.trace) (asked_sent P (ledger old k.manager) k.op k.code first)))
-      (voted_each bs ks (All-tail Q b bs so) same.1 each.1)
-
   -- what a commit sent that came to no decision
+  pub voted_each : (bs : List Branch) (votes : List Code) → All Q bs → HasVoted bs old new votes → All Sent bs
+  voted_each bs votes so h =
+      let ks : List Ask = h.stage.round.asks.items in
+      asked_each bs (map code_of ks) so (asked_all bs ks old new h.prepared.same h.prepared.asked.each)
+
+module _ (P : Branch → Op → Type 0) (Q : Branch → Type 0) (may : (b : Branch) → Q b → MayAsk (P b) b.xid) (old new : List LedgerView) where
+  abbrev AllSent : List Branch → Type 0
+  AllSent bs = All (SentAt P old new) bs
+
+  abbrev Voted : Branch → Code → Type 0
+  Voted b v = VotedSo (P b) b v (ledger old b.m) (ledger new b.m)
+
+  one_more_voted : (b : Branch) (bs : List Branch) (v : Code) → Q b → Voted b v → AllSent bs → AllSent (b ∷ bs)
+  one_more_voted b bs v so voted = All-cons (SentAt P old new) b bs (voted_all (P b) b v (ledger old b.m) (ledger new b.m) (may b so).first voted)
+
+  voting_each : (R : Branch → Code → Option Code → Ending → Type 0) → ((b : Branch) (v : Code) (s : Option Code) (e : Ending) → Q b → R b v s e → Voted b v)
+      → (bs : List Branch) (vs : List Code) (ss : List (Option Code)) (es : List Ending) → All Q bs → EachBranch R bs vs ss es → AllSent bs
+  voting_each R voted [] [] [] [] so h = All-nil (SentAt P old new)
+  voting_each R voted (b ∷ bs) (v ∷ vs) (s ∷ ss) (e ∷ es) so h =
+      let its : Q b = All-head Q b bs so in
+      one_more_voted b bs v its (voted b v s e its h.0) (voting_each R voted bs vs ss es (All-tail Q b bs so) h.1)
+  voting_each R voted bs vs ss es so h = absurd h
+
+  told_each : (commit : Bool) (k : ℕ) (bs : List Branch) (vs : List Code) → All Q bs
+      → HaveTold AsksLedger PutsLedger commit k bs vs (ledger old) (ledger new) → AllSent bs
+  told_each commit k [] [] so h = All-nil (SentAt P old new)
+  told_each commit k (b ∷ bs) (v ∷ vs) so h =
+      let its : Q b = All-head Q b bs so in
+      one_more_voted b bs v its (heard_so (P b) commit b v (ledger old b.m) (ledger new b.m) (may b its) k h.0)
+      (told_each commit (to_come (second_op commit b.xid v) k) bs vs (All-tail Q b bs so) h.1)
+  told_each commit k bs vs so h = absurd h
+
+  -- what a commit sent whose coordinator died
+  pub came_each : (at : Death) (tran : TranName) (bs : List Branch) (log later : LogState) (known : Done) → All Q bs
+      → CameTo AsksLedger PutsLedger at tran bs (ledger old) (ledger new) log later known → AllSent bs
+  came_each (death.Telling k) tran bs log later known so far = told_each known.commit k bs known.votes.items so far.told
+  came_each death.Told tran bs log later known so far =
+      voting_each (λ b v s e. VotesAndObeys AsksLedger known.commit b v s e (ledger old b.m) (ledger new b.m))
+      (λ b v s e its. obeyed_so (P b) known.commit b v (ledger old b.m) (ledger new b.m) (may b its) s e)
+      bs known.votes.items far.seconds known.endings.items so far.each
+  came_each at tran bs log later known so far = asked_each P Q (λ b its. (may b its).first) old new bs known.votes.items so far.asked
+
+  -- and one that was made
+  pub made_each : (tran : TranName) (bs : List Branch) (log later : LogState) (d : Done) → All Q bs → IsTraceOfCommit tran bs old new log later d → AllSent bs
+  made_each tran bs log later d so made =
+      voting_each (λ b v s e. AtBranch AsksLedger d.commit b v s e (ledger old b.m) (ledger new b.m))
+      (λ b v s e its. made_so (P b) d.commit b v (ledger old b.m) (ledger new b.m) (may b its) s e)
+      bs d.votes.items made.course.seconds d.endings.items so made.course.each
+
+-- ---- at all managers
+
+pub voted_elsewhere : (bs : List Branch) (old new : List LedgerView) (votes : List Code) → HasVoted bs old new votes → StaysElsewhere bs old new
+voted_elsewhere bs old new votes h =
+    λ m positive none. h.prepared.asked.others m positive (among_first bs h.stage.round.asks.items m h.prepared.same ∙ none)
+
+module _ (P : Op → Type 0) (Q : Branch → Type 0) (firsts : (b : Branch) → Q b → P (Prepare b.xid)) (old new : List LedgerView) where
   pub voted_sent : (bs : List Branch) (votes : List Code) → All Q bs → HasVoted bs old new votes → HaveSent P old new
   voted_sent bs votes so h =
-      let ks : List Ask = h.stage.round.asks.items in
-      branches_sent P bs old new (voted_each bs ks so h.prepared.same h.prepared.asked.each)
-      (λ m positive none. h.prepared.asked.others m positive (among_first bs ks m h.prepared.same ∙ none))
+      branches_sent P bs old new (voted_each (λ b. P) Q firsts old new bs votes so h) (voted_elsewhere bs old new votes h)
 
-  -- what it sent before any branch was told a decision
+  -- what was sent before any branch was told a decision
   pub untold_sent : (bs : List Branch) (votes : List Code) → All Q bs → HaveAsked AsksLedger PutsLedger bs votes (ledger old) (ledger new)
       → StaysElsewhere bs old new → HaveSent P old new
-  untold_sent bs votes so h others = branches_sent P bs old new (asked_each bs votes so h) others
-
-  module _ (seconds : (b : Branch) → Q b → (commit : Bool) (v : Code) (o : Op) → second_op commit b.xid v ≡ Some o → P o) where
-    told_each : (commit : Bool) (k : ℕ) (bs : List Branch) (vs : List Code) → All Q bs
-        → HaveTold AsksLedger PutsLedger commit k bs vs (ledger old) (ledger new) → All (SentAt P old new) bs
-    told_each commit k [] [] so h = All-nil (SentAt P old new)
-    told_each commit k [] (v ∷ vs) so h = absurd h
-    told_each commit k (b ∷ bs) [] so h = absurd h
-    told_each commit k (b ∷ bs) (v ∷ vs) so h =
-        let its : Q b = All-head Q b bs so in
-        All-cons (SentAt P old new) b bs
-        (sent_on P (ledger old b.m) h.0.prepared (ledger new b.m) (answered_sent P (Prepare b.xid) v (ledger old b.m) h.0.prepared (firsts b its) h.0.prepares)
-        (told_sent P k (second_op commit b.xid v) h.0.prepared (ledger new b.m) (seconds b its commit v) h.0.tells))
-        (told_each commit (to_come (second_op commit b.xid v) k) bs vs (All-tail Q b bs so) h.1)
-
-    ended_each : (commit : Bool) (bs : List Branch) (vs : List Code) (ss : List (Option Code)) (es : List Ending) → All Q bs
-        → EachBranch (λ b v s e. VotesAndObeys AsksLedger commit b v s e (ledger old b.m) (ledger new b.m)) bs vs ss es → All (SentAt P old new) bs
-    ended_each commit [] [] [] [] so h = All-nil (SentAt P old new)
-    ended_each commit (b ∷ bs) (v ∷ vs) (s ∷ ss) (e ∷ es) so h =
-        let its : Q b = All-head Q b bs so in
-        All-cons (SentAt P old new) b bs
-        (sent_on P (ledger old b.m) h.0.prepared (ledger new b.m) (answered_sent P (Prepare b.xid) v (ledger old b.m) h.0.prepared (firsts b its) h.0.prepares)
-        (obeyed_sent P (second_op commit b.xid v) s h.0.prepared (ledger new b.m) (seconds b its commit v) h.0.obeys))
-        (ended_each commit bs vs ss es (All-tail Q b bs so) h.1)
-    ended_each commit bs vs ss es so h = absurd h
-
-    came_each : (at : Death) (tran : TranName) (bs : List Branch) (log later : LogState) (known : Done) → All Q bs
-        → CameTo AsksLedger PutsLedger at tran bs (ledger old) (ledger new) log later known → All (SentAt P old new) bs
-    came_each (death.Preparing k) tran bs log later known so far = asked_each bs known.votes.items so far.asked
-    came_each death.Prepared tran bs log later known so far = asked_each bs known.votes.items so far.asked
-    came_each death.Decided tran bs log later known so far = asked_each bs known.votes.items so far.asked
-    came_each (death.Telling k) tran bs log later known so far = told_each known.commit k bs known.votes.items so far.told
-    came_each death.Told tran bs log later known so far = ended_each known.commit bs known.votes.items far.seconds known.endings.items so far.each
-
--- what a commit sent whose coordinator died
-pub died_sent : (P : Op → Type 0) (Q : Branch → Type 0) → ((b : Branch) → Q b → P (Prepare b.xid))
-    → ((b : Branch) → Q b → (commit : Bool) (v : Code) (o : Op) → second_op commit b.xid v ≡ Some o → P o)
-    → (at : Death) (bs : List Branch) (desk : DeskView) (new : List LedgerView) (log later : LogState) (known : Done) → All Q bs
-    → IsDeath at bs desk new log later known → HaveSent P desk.ledgers new
-died_sent P Q firsts seconds at bs desk new log later known so died =
-    branches_sent P bs desk.ledgers new (came_each P Q firsts desk.ledgers new seconds at died.may.tran bs log later known so died.dies.far) died.dies.others
-
--- ---- a commit that was made
-
-at_branch_sent : (P : Op → Type 0) (commit : Bool) (b : Branch) (v : Code) (s : Option Code) (e : Ending) (a a' : LedgerView) → P (Prepare b.xid)
-    → ((o : Op) → second_op commit b.xid v ≡ Some o → P o) → ((o : Op) → third_op b.xid s ≡ Some o → P o) → AtBranch AsksLedger commit b v s e a a'
-    → HasSent P a a'
-at_branch_sent P commit b v s e a a' first seconds thirds is =
-    sent_on P a is.prepared a' (answered_sent P (Prepare b.xid) v a is.prepared first is.prepares)
-    (sent_on P is.prepared is.decided a' (obeyed_sent P (second_op commit b.xid v) s is.prepared is.decided seconds is.obeys)
-    (obeyed_sent P (third_op b.xid s) is.third is.decided a' thirds is.forgets))
-
-module _ (P : Op → Type 0) (Q : Branch → Type 0) (firsts : (b : Branch) → Q b → P (Prepare b.xid))
-    (seconds : (b : Branch) → Q b → (commit : Bool) (v : Code) (o : Op) → second_op commit b.xid v ≡ Some o → P o)
-    (thirds : (b : Branch) → Q b → (s : Option Code) (o : Op) → third_op b.xid s ≡ Some o → P o) (old new : List LedgerView) where
-  made_each : (commit : Bool) (bs : List Branch) (vs : List Code) (ss : List (Option Code)) (es : List Ending) → All Q bs
-      → EachBranch (λ b v s e. AtBranch AsksLedger commit b v s e (ledger old b.m) (ledger new b.m)) bs vs ss es → All (SentAt P old new) bs
-  made_each commit [] [] [] [] so h = All-nil (SentAt P old new)
-  made_each commit (b ∷ bs) (v ∷ vs) (s ∷ ss) (e ∷ es) so h =
-      let its : Q b = All-head Q b bs so in
-      All-cons (SentAt P old new) b bs
-      (at_branch_sent P commit b v s e (ledger old b.m) (ledger new b.m) (firsts b its) (seconds b its commit v) (thirds b its s) h.0)
-      (made_each commit bs vs ss es (All-tail Q b bs so) h.1)
-  made_each commit bs vs ss es so h = absurd h
-
-  pub made_sent : (tran : TranName) (bs : List Branch) (log later : LogState) (d : Done) → All Q bs → IsTraceOfCommit tran bs old new log later d
-      → HaveSent P old new
-  made_sent tran bs log later d so made =
-      branches_sent P bs old new (made_each d.commit bs d.votes.items made.course.seconds d.endings.items so made.course.each) made.course.others
+  untold_sent bs votes so h others = branches_sent P bs old new (asked_each (λ b. P) Q firsts old new bs votes so h) others

@@ -31,11 +31,11 @@ pub record Block (m : ℕ) (b : LedgerView) (at at' : List LedgerView) : Type 0 
 pub known_on : (m : ℕ) (at at' : List LedgerView) → length at' ≡ length at → IsKnown at m → IsKnown at' m
 known_on m at at' many known = record { positive = known.positive; within = let h = known.within in omega (arith, h, many) }
 
-pub block_start : (m : ℕ) (at : List LedgerView) → Block m (ledger at m) at at
+block_start : (m : ℕ) (at : List LedgerView) → Block m (ledger at m) at at
 block_start m at = record { here = refl; others = λ n p q. refl; many = refl }
 
 -- and then to what a change makes of it
-pub block_on : (m : ℕ) (b : LedgerView) (change : LedgerView → LedgerView) (at at' at'' : List LedgerView) → IsKnown at m → Block m b at at'
+block_on : (m : ℕ) (b : LedgerView) (change : LedgerView → LedgerView) (at at' at'' : List LedgerView) → IsKnown at m → Block m b at at'
     → at'' ≡ put_ledger at' m (change (ledger at' m)) → Block m (change b) at at''
 block_on m b change at at' at'' known z is =
     let known' : IsKnown at' m = known_on m at at' z.many known in
@@ -45,6 +45,10 @@ block_on m b change at at' at'' known z is =
       others = λ n p q. ledger-put_other at' m n (change (ledger at' m)) positive p q ∙ z.others n p q;
       many = length-set at' (m - 1) (change (ledger at' m)) ∙ z.many;
     })
+
+pub block_one : (m : ℕ) (change : LedgerView → LedgerView) (at at' : List LedgerView) → IsKnown at m → at' ≡ put_ledger at m (change (ledger at m))
+    → Block m (change (ledger at m)) at at'
+block_one m change at at' known is = block_on m (ledger at m) change at at at' known (block_start m at) is
 
 -- ---- a branch's work in turn
 

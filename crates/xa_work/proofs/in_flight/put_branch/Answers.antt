@@ -36,53 +36,45 @@ loop-change-preserved g c =
     let first : List Flight = c.args.flights.now.items in
     let so_far = c.loop-change.invariant in
     let below = c.loop-change-test.true in
-    record {
-      goes_on = elim c.if-change-branch.branch [
-        | then-change-branch w ↦ subst (GoesOn old) (sym w.desk-is) (c.desks_go_on.ensures.further _ _ _ so_far.goes_on w.put-then-change-branch.ensures.goes_on)
-        | else-change-branch w ↦ subst (GoesOn old) (sym w.desk-is) so_far.goes_on
-      ];
-      kept = elim c.if-change-branch.branch [
-        | then-change-branch w ↦ λ h. subst AllKept (sym w.desk-is) (w.put-then-change-branch.ensures.kept (so_far.kept h))
-        | else-change-branch w ↦ λ h. subst AllKept (sym w.desk-is) (so_far.kept h)
-      ];
-      idled = elim c.if-change-branch.branch [
-        | then-change-branch w ↦
-            subst (g.I.Idle.leads c.args.idle.now) (sym w.idle-is) (c.idles_go_on.ensures.further _ _ _ so_far.idled w.put-then-change-branch.ensures.idled)
-        | else-change-branch w ↦ subst (g.I.Idle.leads c.args.idle.now) (sym w.idle-is) so_far.idled
-      ];
-      puts = elim c.if-change-branch.branch [
-        | then-change-branch w ↦
-            let one = w.put-then-change-branch in
-            let items = ap (λ (v : Vec Flight Global). v.items) w.flights-is ∙ w.push_reserved-then-change-branch.ensures.items in
-            subst (λ (d : DeskView). Adds (at_of b.m (begun_of (take (i + 1) cs) b)) first c.if-change-branch.flights.items old d) (sym w.desk-is)
-            (subst (λ os. Adds (at_of b.m os) first c.if-change-branch.flights.items old one.new.desk) (sym (begun_here cs i x b below c.change-item.is w.if-change-branch.true))
-            (adds_one b.m (begun_of (take i cs) b) (Add x.key x.delta) one.result _ _ _ _ _ _ so_far.puts one.ensures.manager one.ensures.puts items))
-        | else-change-branch w ↦
-            subst (λ (d : DeskView). Adds (at_of b.m (begun_of (take (i + 1) cs) b)) first c.if-change-branch.flights.items old d) (sym w.desk-is)
-            (subst (λ (v : Vec Flight Global). Adds (at_of b.m (begun_of (take (i + 1) cs) b)) first v.items old c.loop-change.desk) (sym w.flights-is)
-            (subst (λ os. Adds (at_of b.m os) first c.loop-change.flights.items old c.loop-change.desk)
-            (sym (begun_elsewhere cs i x b below c.change-item.is w.if-change-branch.false)) so_far.puts))
-      ];
-      room = elim c.if-change-branch.branch [
-        | then-change-branch w ↦ ap vec_capacity w.flights-is ∙ w.push_reserved-then-change-branch.ensures.capacity ∙ so_far.room
-        | else-change-branch w ↦ ap vec_capacity w.flights-is ∙ so_far.room
-      ];
-      left =
-          let fits = so_far.left in
-          elim c.if-change-branch.branch [
-            | then-change-branch w ↦
-                let push = w.push_reserved-then-change-branch in
-                let room = push.ensures.capacity in
-                let grown = ap length push.ensures.items ∙ length-append c.loop-change.flights.items (w.put-then-change-branch.result ∷ []) in
-                let rest = left_here cs i x b.m below c.change-item.is w.if-change-branch.true in
+    let fits = so_far.left in
+    elim c.if-change-branch.branch [
+      | then-change-branch w ↦
+          let one = w.put-then-change-branch in
+          let push = w.push_reserved-then-change-branch in
+          let room = push.ensures.capacity in
+          let grown = ap length push.ensures.items ∙ length-append c.loop-change.flights.items (one.result ∷ []) in
+          let rest = left_here cs i x b.m below c.change-item.is w.if-change-branch.true in
+          record {
+            goes_on = subst (GoesOn old) (sym w.desk-is) (c.desks_go_on.ensures.further _ _ _ so_far.goes_on one.ensures.goes_on);
+            kept = λ h. subst AllKept (sym w.desk-is) (one.ensures.kept (so_far.kept h));
+            idled = subst (g.I.Idle.leads c.args.idle.now) (sym w.idle-is) (c.idles_go_on.ensures.further _ _ _ so_far.idled one.ensures.idled);
+            puts =
+                subst (λ (d : DeskView). Adds (at_of b.m (begun_of (take (i + 1) cs) b)) first c.if-change-branch.flights.items old d) (sym w.desk-is)
+                (subst (λ os. Adds (at_of b.m os) first c.if-change-branch.flights.items old one.new.desk) (sym (begun_here cs i x b below c.change-item.is w.if-change-branch.true))
+                (adds_one b.m (begun_of (take i cs) b) (Add x.key x.delta) one.result _ _ _ _ _ _ so_far.puts one.ensures.manager one.ensures.puts
+                (ap (λ (v : Vec Flight Global). v.items) w.flights-is ∙ push.ensures.items)));
+            room = ap vec_capacity w.flights-is ∙ room ∙ so_far.room;
+            left =
                 subst (λ (v : Vec Flight Global). length v.items + length (changes_at (drop (i + 1) cs) b.m) + 1 ≤ vec_capacity v) (sym w.flights-is)
-                (omega (arith, room, grown, rest, fits))
-            | else-change-branch w ↦
-                let rest = left_elsewhere cs i x b.m below c.change-item.is w.if-change-branch.false in
+                (omega (arith, room, grown, rest, fits));
+          }
+      | else-change-branch w ↦
+          let rest = left_elsewhere cs i x b.m below c.change-item.is w.if-change-branch.false in
+          record {
+            goes_on = subst (GoesOn old) (sym w.desk-is) so_far.goes_on;
+            kept = λ h. subst AllKept (sym w.desk-is) (so_far.kept h);
+            idled = subst (g.I.Idle.leads c.args.idle.now) (sym w.idle-is) so_far.idled;
+            puts =
+                subst (λ (d : DeskView). Adds (at_of b.m (begun_of (take (i + 1) cs) b)) first c.if-change-branch.flights.items old d) (sym w.desk-is)
+                (subst (λ (v : Vec Flight Global). Adds (at_of b.m (begun_of (take (i + 1) cs) b)) first v.items old c.loop-change.desk) (sym w.flights-is)
+                (subst (λ os. Adds (at_of b.m os) first c.loop-change.flights.items old c.loop-change.desk)
+                (sym (begun_elsewhere cs i x b below c.change-item.is w.if-change-branch.false)) so_far.puts));
+            room = ap vec_capacity w.flights-is ∙ so_far.room;
+            left =
                 subst (λ (v : Vec Flight Global). length v.items + length (changes_at (drop (i + 1) cs) b.m) + 1 ≤ vec_capacity v) (sym w.flights-is)
-                (omega (arith, rest, fits))
-          ];
-    }
+                (omega (arith, rest, fits));
+          }
+    ]
 
 pub returns-clause-puts : goal.returns-clause-puts
 returns-clause-puts g c =

@@ -25,33 +25,29 @@ loop-change-preserved g c =
     let old = c.args.desk.now in
     let so_far = c.loop-change.invariant in
     let below = c.loop-change-test.true in
-    record {
-      goes_on = elim c.if-change-branch.branch [
-        | then-change-branch w ↦ subst (GoesOn old) (sym w.desk-is) (c.desks_go_on.ensures.further _ _ _ so_far.goes_on w.ask-all-then-change-branch.ensures.goes_on)
-        | else-change-branch w ↦ subst (GoesOn old) (sym w.desk-is) so_far.goes_on
-      ];
-      kept = elim c.if-change-branch.branch [
-        | then-change-branch w ↦ λ h. subst AllKept (sym w.desk-is) (w.ask-all-then-change-branch.ensures.kept (so_far.kept h))
-        | else-change-branch w ↦ λ h. subst AllKept (sym w.desk-is) (so_far.kept h)
-      ];
-      idled = elim c.if-change-branch.branch [
-        | then-change-branch w ↦
-            subst (g.I.Idle.leads c.args.idle.now) (sym w.idle-is) (c.idles_go_on.ensures.further _ _ _ so_far.idled w.ask-all-then-change-branch.ensures.idled)
-        | else-change-branch w ↦ subst (g.I.Idle.leads c.args.idle.now) (sym w.idle-is) so_far.idled
-      ];
-      calls = elim c.if-change-branch.branch [
-        | then-change-branch w ↦
-            let one = w.ask-all-then-change-branch in
-            subst (λ ok. CallsOps b.m (begun_of (take (i + 1) cs) b) ok old c.if-change-branch.desk) (sym w.all-is)
-            (subst (λ (d : DeskView). CallsOps b.m (begun_of (take (i + 1) cs) b) (c.loop-change.all && one.result) old d) (sym w.desk-is)
-            (subst (λ os. CallsOps b.m os (c.loop-change.all && one.result) old one.new.desk) (sym (begun_here cs i x b below c.change-item.is w.if-change-branch.true))
-            (calls_more b.m _ (Add x.key x.delta) c.loop-change.all one.result _ _ _ so_far.calls one.ensures.calls)))
-        | else-change-branch w ↦
-            subst (λ ok. CallsOps b.m (begun_of (take (i + 1) cs) b) ok old c.if-change-branch.desk) (sym w.all-is)
-            (subst (λ (d : DeskView). CallsOps b.m (begun_of (take (i + 1) cs) b) c.loop-change.all old d) (sym w.desk-is)
-            (subst (λ os. CallsOps b.m os c.loop-change.all old c.loop-change.desk) (sym (begun_elsewhere cs i x b below c.change-item.is w.if-change-branch.false)) so_far.calls))
-      ];
-    }
+    elim c.if-change-branch.branch [
+      | then-change-branch w ↦
+          let one = w.ask-all-then-change-branch in
+          record {
+            goes_on = subst (GoesOn old) (sym w.desk-is) (c.desks_go_on.ensures.further _ _ _ so_far.goes_on one.ensures.goes_on);
+            kept = λ h. subst AllKept (sym w.desk-is) (one.ensures.kept (so_far.kept h));
+            idled = subst (g.I.Idle.leads c.args.idle.now) (sym w.idle-is) (c.idles_go_on.ensures.further _ _ _ so_far.idled one.ensures.idled);
+            calls =
+                subst (λ ok. CallsOps b.m (begun_of (take (i + 1) cs) b) ok old c.if-change-branch.desk) (sym w.all-is)
+                (subst (λ (d : DeskView). CallsOps b.m (begun_of (take (i + 1) cs) b) (c.loop-change.all && one.result) old d) (sym w.desk-is)
+                (subst (λ os. CallsOps b.m os (c.loop-change.all && one.result) old one.new.desk) (sym (begun_here cs i x b below c.change-item.is w.if-change-branch.true))
+                (calls_more b.m _ (Add x.key x.delta) c.loop-change.all one.result _ _ _ so_far.calls one.ensures.calls)));
+          }
+      | else-change-branch w ↦ record {
+          goes_on = subst (GoesOn old) (sym w.desk-is) so_far.goes_on;
+          kept = λ h. subst AllKept (sym w.desk-is) (so_far.kept h);
+          idled = subst (g.I.Idle.leads c.args.idle.now) (sym w.idle-is) so_far.idled;
+          calls =
+              subst (λ ok. CallsOps b.m (begun_of (take (i + 1) cs) b) ok old c.if-change-branch.desk) (sym w.all-is)
+              (subst (λ (d : DeskView). CallsOps b.m (begun_of (take (i + 1) cs) b) c.loop-change.all old d) (sym w.desk-is)
+              (subst (λ os. CallsOps b.m os c.loop-change.all old c.loop-change.desk) (sym (begun_elsewhere cs i x b below c.change-item.is w.if-change-branch.false)) so_far.calls));
+        }
+    ]
 
 pub returns-clause-calls : goal.returns-clause-calls
 returns-clause-calls g c =

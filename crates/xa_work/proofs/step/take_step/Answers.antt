@@ -19,20 +19,9 @@ flags_of false = 0
 abbrev Takes : XidName → Step → Bool → ℕ → DeskView → DeskView → ℤ → Type 0
 Takes x s a m d e z = Puts d m (record { op = op_of x s; asynchronous = a }) e z
 
-start_takes : (x : XidName) (a : Bool) (f m : ℕ) (d e : DeskView) (z : ℤ) → f ≡ flags_of a → Calls (asked_of call.Start (Some x) f) d m e z
-    → Takes x Start a m d e z
-start_takes x true f m d e z is calls = subst (λ n. Calls (asked_of call.Start (Some x) n) d m e z) is calls
-start_takes x false f m d e z is calls = subst (λ n. Calls (asked_of call.Start (Some x) n) d m e z) is calls
-
-add_takes : (x : XidName) (k : Key) (v : Delta) (a : Bool) (f m : ℕ) (d e : DeskView) (z : ℤ) → f ≡ flags_of a → Calls (native (rm.Add k v) f) d m e z
-    → Takes x (Add k v) a m d e z
-add_takes x k v true f m d e z is calls = subst (λ n. Calls (native (rm.Add k v) n) d m e z) is calls
-add_takes x k v false f m d e z is calls = subst (λ n. Calls (native (rm.Add k v) n) d m e z) is calls
-
-end_takes : (x : XidName) (a : Bool) (f m : ℕ) (d e : DeskView) (z : ℤ) → f ≡ flags_of a → Calls (asked_of call.End (Some x) (bit_or f TMSUCCESS)) d m e z
-    → Takes x End a m d e z
-end_takes x true f m d e z is calls = subst (λ n. Calls (asked_of call.End (Some x) (bit_or n TMSUCCESS)) d m e z) is calls
-end_takes x false f m d e z is calls = subst (λ n. Calls (asked_of call.End (Some x) (bit_or n TMSUCCESS)) d m e z) is calls
+by_flags : (P : ℕ → Type 0) (Q : Bool → Type 0) → (P TMASYNC → Q true) → (P 0 → Q false) → (a : Bool) (f : ℕ) → f ≡ flags_of a → P f → Q a
+by_flags P Q one two true f is p = one (subst P is p)
+by_flags P Q one two false f is p = two (subst P is p)
 
 -- so the step that was asked for, and the answer as it is returned
 taken : (x : XidName) (s t : Step) (a : Bool) (m : ℕ) (d e : DeskView) (z w : ℤ) → s ≡ t → w ≡ z → Takes x t a m d e z → Takes x s a m d e w
@@ -47,7 +36,8 @@ returns-in-Start-clause-puts g c =
       | then-asynchronous w ↦ w.flags-is ∙ ap flags_of (sym w.if-asynchronous.true)
       | else-asynchronous w ↦ w.flags-is ∙ ap flags_of (sym w.if-asynchronous.false)
     ] in
-    taken b.xid c.args.step.now Start a b.m _ _ z _ c.in-Start.is (to_z-of_z w32 z (omega (arith, ints))) (start_takes b.xid a _ b.m _ _ z flags c.xa_call.ensures.calls)
+    taken b.xid c.args.step.now Start a b.m _ _ z _ c.in-Start.is (to_z-of_z w32 z (omega (arith, ints)))
+    (by_flags (λ f. Calls (asked_of call.Start (Some b.xid) f) c.args.desk.now b.m c.xa_call.new.desk z) (λ q. Takes b.xid Start q b.m c.args.desk.now c.xa_call.new.desk z) (λ p. p) (λ p. p) a _ flags c.xa_call.ensures.calls)
 
 pub returns-in-Add-clause-puts : goal.returns-in-Add-clause-puts
 returns-in-Add-clause-puts g c =
@@ -60,7 +50,8 @@ returns-in-Add-clause-puts g c =
       | then-asynchronous w ↦ w.flags-is ∙ ap flags_of (sym w.if-asynchronous.true)
       | else-asynchronous w ↦ w.flags-is ∙ ap flags_of (sym w.if-asynchronous.false)
     ] in
-    taken b.xid c.args.step.now (Add k v) a b.m _ _ z _ c.in-Add.is (to_z-of_z w32 z (omega (arith, ints))) (add_takes b.xid k v a _ b.m _ _ z flags c.native.ensures.calls)
+    taken b.xid c.args.step.now (Add k v) a b.m _ _ z _ c.in-Add.is (to_z-of_z w32 z (omega (arith, ints)))
+    (by_flags (λ f. Calls (native (rm.Add k v) f) c.args.desk.now b.m c.native.new.desk z) (λ q. Takes b.xid (Add k v) q b.m c.args.desk.now c.native.new.desk z) (λ p. p) (λ p. p) a _ flags c.native.ensures.calls)
 
 pub returns-in-End-clause-puts : goal.returns-in-End-clause-puts
 returns-in-End-clause-puts g c =
@@ -71,4 +62,6 @@ returns-in-End-clause-puts g c =
       | then-asynchronous w ↦ w.flags-is ∙ ap flags_of (sym w.if-asynchronous.true)
       | else-asynchronous w ↦ w.flags-is ∙ ap flags_of (sym w.if-asynchronous.false)
     ] in
-    taken b.xid c.args.step.now End a b.m _ _ z _ c.in-End.is (to_z-of_z w32 z (omega (arith, ints))) (end_takes b.xid a _ b.m _ _ z flags c.xa_call-in-End.ensures.calls)
+    taken b.xid c.args.step.now End a b.m _ _ z _ c.in-End.is (to_z-of_z w32 z (omega (arith, ints)))
+    (by_flags (λ f. Calls (asked_of call.End (Some b.xid) (bit_or f TMSUCCESS)) c.args.desk.now b.m c.xa_call-in-End.new.desk z) (λ q. Takes b.xid End q b.m c.args.desk.now c.xa_call-in-End.new.desk z) (λ p. p) (λ p. p) a _ flags
+    c.xa_call-in-End.ensures.calls)
