@@ -1,6 +1,6 @@
 -- A leg that worked has added its delta by the place of its branch's Prepare.
 use Rattle.xa_base.proofs.{ℤ, pos, if◌then◌else◌, ◌≡◌, ◌≢◌, ℕ, suc, ◌+◌, true, false, ◌&&◌, ◌==◌, cond, List, [], ◌∷◌, ◌++◌, length, length-append}
-use Rattle.xa_base.proofs.{append_assoc, get_or, slice_get, sym, refl, ap, ◌∙◌, subst, arith, Some, eq-eqb, All, ne_eqb, All-tail, filter-append, some_same}
+use Rattle.xa_base.proofs.{append_assoc, get_or, slice_get, sym, refl, ap, ◌∙◌, subst, arith, Some, ◌≤◌, eq-eqb, All, ne_eqb, All-head, All-tail, filter-append, some_same}
 use Rattle.xa_base.proofs.{all_left, all_right}
 use Rattle.xa_words.specs.{XidName, Done, Op, Start, Add, End, Fresh, Success, Request}
 use Rattle.xa_words.specs.declared.code.Code.{Code}
@@ -8,14 +8,19 @@ use Rattle.xa_tables.specs.Tables.{Tables}
 use Rattle.xa_tables.specs.{next, of_thread, tables_after, coded, IsOpening, names, NamesNowhere, request, LeavesAtWork, DoesWork, AddsAsItWorks, added_by_now}
 use Rattle.xa_tables.specs.History.{History}
 use Rattle.xa_tables.proofs.Unnamed.{tables_after-append}
-use Rattle.xa_desk.specs.{numbered}
+use Rattle.xa_base.specs.{Begins}
+use Rattle.xa_desk.specs.LedgerView.{LedgerView}
+use Rattle.xa_desk.specs.{ledger, numbered}
 use Rattle.xa_worker.specs.{Entry}
 use Rattle.xa_switch.specs.Settling.{Settling}
-use Rattle.xa_switch.specs.{IsSettled, sent, journal, answers, IsOpenedWith, history}
+use Rattle.xa_switch.specs.{IsSettled, sent, journal, answers, IsOpenedWith, history, ledgers_of}
 use Rattle.xa_atomicity.specs.{taken_before, IsBetween}
 use Rattle.xa_atomicity.proofs.Requests.{all_earlier}
+use Rattle.xa_atomicity.proofs.Settled.{by_ledger}
 use Rattle.xa_atomicity.proofs.Placing.{request_of, Parted, part, all_others, answer_at, numbered_both}
 use Rattle.xa_driver.proofs.Ledgers.{numbered_length}
+use Rattle.xa_bank.specs.{Leg}
+use Rattle.xa_bank.proofs.Legs.{LegWorked}
 use Rattle.xa_bank.proofs.Told.{NamedWithin}
 
 -- ---- what was taken before a request of the thread
@@ -87,6 +92,23 @@ code_is t before after r T entries a c is own count got =
     let e : Some (r.number, (next r.thread r.op (tables_after before T)).1) ≡ Some (a, c) =
     sym (answer_at t before after r T a own count) ∙ sym (ap (λ (l : List Entry). slice_get (answers t l) a) is) ∙ got in
     ap (λ (q : ℕ × Code). q.1) (some_same (r.number, (next r.thread r.op (tables_after before T)).1) (a, c) e)
+
+-- what a leg's work was answered, that was collected with XA_OK
+pub work_answered : (s : Settling) → IsSettled s → (t m : ℕ) → 1 ≤ m → (leg : Leg) (account : List ℕ) (a0 a1 : LedgerView) → LegWorked leg account a0 a1
+    → Begins a1.collected (ledger (ledgers_of s t) m).collected
+    → (slice_get (answers t (journal s m)) (length a0.sent) ≡ Some (length a0.sent, Done))
+    × (slice_get (answers t (journal s m)) (length a0.sent + 1) ≡ Some (length a0.sent + 1, Done))
+work_answered s settled t m positive leg account a0 a1 its since =
+    let P : ℕ × Code → Type 0 = λ q. slice_get (answers t (journal s m)) q.0 ≡ Some q in
+    let n : ℕ = length a0.sent in
+    let rest : List (ℕ × Code) = (n + 2, Done) ∷ since.0 in
+    let all : All P ((n, Done) ∷ (n + 1, Done) ∷ rest) =
+    all_right P a0.collected ((n, Done) ∷ (n + 1, Done) ∷ rest)
+    (subst (All P)
+    (by_ledger (ledgers_of s t) m (λ (a : LedgerView). a.collected) positive refl ∙ since.1 ∙ ap (λ l. l ++ since.0) its.collected
+    ∙ append_assoc a0.collected ((n, Done) ∷ (n + 1, Done) ∷ (n + 2, Done) ∷ []) since.0)
+    (settled.agree t m).coded) in
+    (All-head P (n, Done) ((n + 1, Done) ∷ rest) all, All-head P (n + 1, Done) rest (All-tail P (n, Done) ((n + 1, Done) ∷ rest) all))
 
 -- ---- a leg's work
 

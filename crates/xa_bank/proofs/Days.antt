@@ -1,6 +1,6 @@
 -- A day whose transfers end whole conserves what all accounts are worth together.
-use Rattle.xa_base.proofs.{ℤ, pos, ◌+ℤ◌, All, ◌≡◌, ℕ, ◌+◌, ◌-◌, ◌^◌, ◌<◌, ◌≤◌, ◌⊎◌, ⊎_elim, Bool, List, length, subst, inl, inr, arith, false, list_any, ints}
-use Rattle.xa_base.proofs.{cases_lt, all_at, all_right, total_nothing}
+use Rattle.xa_base.proofs.{ℤ, pos, ◌+ℤ◌, All, ◌≡◌, ℕ, ◌+◌, ◌-◌, ◌^◌, ◌<◌, ◌≤◌, Bool, List, length, subst, inl, inr, arith, false, list_any, ints}
+use Rattle.xa_base.proofs.{all_at, all_right, total_nothing}
 use Rattle.xa_base.specs.{total}
 use Rattle.xa_words.specs.{TranName, XidName}
 use Rattle.xa_tables.specs.Tables.{Tables}
@@ -15,7 +15,7 @@ use Rattle.xa_atomicity.specs.{OnlyTransfers, held_in_doubt, is_in_doubt}
 use Rattle.xa_log.specs.{IsReadAs, LogState}
 use Rattle.xa_crew.specs.{Attended, IsRun}
 use Rattle.xa_bank.specs.{Teller, EndsWhole, HasMade, IsUndoubted, Works}
-use Rattle.xa_bank.proofs.Members.{MemberAt, member_at, nobody_else}
+use Rattle.xa_bank.proofs.Members.{MemberAt, member_at, nobody_else, of_threads}
 use Rattle.xa_bank.proofs.Only.{all_told, only_transfers}
 use Rattle.xa_bank.proofs.Told.{IsTold}
 
@@ -57,19 +57,8 @@ module _ {L : Type 0} (state : L → LogState) (knows : L → Type 0) (loses : T
         all_told (reads k z) s (k + 1) z.member.client.transfers.items z.member.client.habits made.more z.member.desk z.left (state z.member.client.log) (state z.member.attended.client.log) z.thread z.nothing made.makes z.end,
       )
 
-  nobody : (u : ℕ) → (u < 1) ⊎ (p.threads < u) → IsTold s u
-  nobody u outside = inr (nobody_else (Works state knows loses) (planned p) tellers attended s r u outside)
-
   told : (u : ℕ) → IsTold s u
-  told u =
-      ⊎_elim (λ (zero_ : u < 1). nobody u (inl zero_))
-      (λ (positive : 1 ≤ u).
-      ⊎_elim (λ (past : p.threads < u). nobody u (inr past))
-      (λ (below : u ≤ p.threads).
-      let number : u - 1 + 1 ≡ u = omega (arith, positive) in
-      subst (IsTold s) number (told_at (u - 1) (omega (arith, positive, below))))
-      (cases_lt p.threads u))
-      (cases_lt u 1)
+  told = of_threads (IsTold s) p.threads (λ u outside. inr (nobody_else (Works state knows loses) (planned p) tellers attended s r u outside)) told_at
 
   only_at : (adds : (t n : ℕ) (x : XidName) (k : List ℕ) (d : ℤ) (h : History) (T : Tables) → IsOpening T → AddsAsItWorks t n x k d T h)
       (undoubted : (p : Plan) (s : Settling) (t : ℕ) (old : List LedgerView) (bs : List Branch) (d : Done) → list_any is_in_doubt d.endings.items ≡ false → held_in_doubt p s t old bs d ≡ pos 0)

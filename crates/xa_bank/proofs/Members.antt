@@ -1,6 +1,6 @@
 -- The members of a run: each worked from a desk that had sent nothing, the end of its desk sent nothing more, and no
 -- other thread sent anything.
-use Rattle.xa_base.proofs.{◌≡◌, ◌≢◌, ℕ, ◌+◌, ◌-◌, ◌<◌, ◌⊎◌, ⊎_elim, List, [], length, map, slice_get, sym, ap, ◌∙◌, subst, arith, Option, Some, None}
+use Rattle.xa_base.proofs.{cases_lt, inl, inr, ◌≤◌, ◌≡◌, ◌≢◌, ℕ, ◌+◌, ◌-◌, ◌<◌, ◌⊎◌, ⊎_elim, List, [], length, map, slice_get, sym, ap, ◌∙◌, subst, arith, Option, Some, None}
 use Rattle.xa_base.proofs.{length-map, slice_get_within, got_map, got, all_at, was_mapped, find_numbered, find_none}
 use Rattle.xa_base.specs.{Chain}
 use Rattle.xa_base.specs.Lists.Chain.{none, more}
@@ -47,6 +47,20 @@ nothing_sent p k d is = λ m positive.
 
 pub goes_thread : (old new : DeskView) → GoesOn old new → new.thread ≡ old.thread
 goes_thread old new goes = ap (λ (q : DeskSeat). q.thread) goes.seat
+
+-- ---- all threads
+
+-- what holds of every thread: of the first so many, and of the others
+pub of_threads : (P : ℕ → Type 0) (count : ℕ) → ((u : ℕ) → (u < 1) ⊎ (count < u) → P u) → ((k : ℕ) → k < count → P (k + 1)) → (u : ℕ) → P u
+of_threads P count others each u =
+    ⊎_elim (λ (none : u < 1). others u (inl none))
+    (λ (some : 1 ≤ u).
+    ⊎_elim (λ (past : count < u). others u (inr past))
+    (λ (within : u ≤ count).
+    let number : u - 1 + 1 ≡ u = omega (arith, some) in
+    subst P number (each (u - 1) (omega (arith, some, within))))
+    (cases_lt count u))
+    (cases_lt u 1)
 
 -- ---- the members
 

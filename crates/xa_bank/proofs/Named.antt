@@ -9,7 +9,7 @@ use Rattle.xa_tables.specs.{names}
 use Rattle.xa_desk.specs.LedgerView.{LedgerView}
 use Rattle.xa_desk.specs.DeskView.{DeskView}
 use Rattle.xa_log.specs.{LogState}
-use Rattle.xa_work.specs.{WorkOutcome, HaveSent, IsFor, NamesOnly, ComesOfCommit, HaveWorked}
+use Rattle.xa_work.specs.{WorkOutcome, HaveSent, IsFor, IsOpenRm, NamesOnly, ComesOfCommit, HaveWorked}
 use Rattle.xa_work.specs.Units.Transacts.{commits, refused}
 use Rattle.xa_work.proofs.Comes.{comes_named}
 use Rattle.xa_work.proofs.Named.{worked_for}
@@ -80,18 +80,20 @@ legs_are t n tr one two (paid_first small rising paid pays) = let at_one = paid.
 abbrev pub Is : ℕ → ℕ → Type 0
 Is n k = k ≡ n
 
+-- one of two branches
+pub either_named : (P : XidName → Type 0) (a b x : XidName) → P a → P b → (xid_eq a x || (xid_eq b x || false)) ≡ true → P x
+either_named P a b x one two e = elim (xid_eq a x) as (λ c. xid_eq a x ≡ c → (c || (xid_eq b x || false)) ≡ true → P x) [
+  | true ↦ λ same _. subst P ((Decides-xid_eq a x).0 same) one
+  | false ↦ λ _ other. elim (xid_eq b x) as (λ c. xid_eq b x ≡ c → (c || false) ≡ true → P x) [
+    | true ↦ λ same _. subst P ((Decides-xid_eq b x).0 same) two
+    | false ↦ λ _ never. cc
+  ] refl other
+] refl e
+
 -- a request that names no other branch than the legs' names the transfer
 pub only_names : (t n : ℕ) (one two : Leg) → LegsOf t n one two → (op : Op) → NamesOnly (branches_of one two) op → Names t (Is n) op
-only_names t n one two legs op only = record { each = λ x e. (n, (refl, its x (only x e))) }
-  where
-    its : (x : XidName) → (xid_eq one.branch.xid x || (xid_eq two.branch.xid x || false)) ≡ true → IsOf t n x
-    its x e = elim (xid_eq one.branch.xid x) as (λ b. xid_eq one.branch.xid x ≡ b → (b || (xid_eq two.branch.xid x || false)) ≡ true → IsOf t n x) [
-      | true ↦ λ same _. subst (IsOf t n) ((Decides-xid_eq one.branch.xid x).0 same) legs.first
-      | false ↦ λ _ other. elim (xid_eq two.branch.xid x) as (λ b. xid_eq two.branch.xid x ≡ b → (b || false) ≡ true → IsOf t n x) [
-        | true ↦ λ same _. subst (IsOf t n) ((Decides-xid_eq two.branch.xid x).0 same) legs.second
-        | false ↦ λ _ never. cc
-      ] refl other
-    ] refl e
+only_names t n one two legs op only =
+    record { each = λ x e. (n, (refl, either_named (IsOf t n) one.branch.xid two.branch.xid x legs.first legs.second (only x e))) }
 
 for_names : (t n : ℕ) (one two : Leg) → LegsOf t n one two → (op : Op) → IsFor (branches_of one two) op → Names t (Is n) op
 for_names t n one two legs op for_it = only_names t n one two legs op for_it.named
@@ -130,9 +132,15 @@ pub shut_sent : (store : Option ℕ) (old new : DeskView) → MayShut store old 
 shut_sent None old new same = have_none IsShut old.ledgers new.ledgers (ap (λ (d : DeskView). d.ledgers) same)
 shut_sent (Some m) old new shuts = call_sent IsShut m Shut shuts.0 old new refl shuts.1
 
--- it names no branch
+-- a request that names no branch
+pub unnaming : (t : ℕ) (P : ℕ → Type 0) (op : Op) → ((x : XidName) → names x op ≡ false) → Names t P op
+unnaming t P op none = record { each = λ x e. let z : false ≡ true = sym (none x) ∙ e in cc }
+
 pub shut_names : (t : ℕ) (P : ℕ → Type 0) (op : Op) → IsShut op → Names t P op
-shut_names t P op is = record { each = λ x e. let z : false ≡ true = sym (ap (λ o. names x o) is) ∙ e in cc }
+shut_names t P op is = unnaming t P op (λ x. ap (names x) is)
+
+pub opens_names : (t : ℕ) (P : ℕ → Type 0) (op : Op) → IsOpenRm op → Names t P op
+opens_names t P op is = unnaming t P op (λ x. ap (names x) is)
 
 pub next_names : {R : LogState → Type 0} (t n : ℕ) (tr : Transfer) (habits : Habits) (o : WorkOutcome) (old new : DeskView) (log later : LogState)
     → MakesNext t n tr habits o old new log later R → HaveSent (Names t (Is n)) old.ledgers new.ledgers
@@ -145,12 +153,16 @@ next_names t n tr habits o old new log later next =
 abbrev pub IsFrom : ℕ → ℕ → Type 0
 IsFrom n k = n ≤ k
 
+-- where no transfer was made nothing was done
+pub none_made : (R : LogState → Type 0) (t : ℕ) (habits : Habits) (n : ℕ) (trs : List Transfer) (old new : DeskView) (log later : LogState)
+    → MakesEach t habits n trs [] old new log later R → (new ≡ old) × (later ≡ log)
+none_made R t habits n [] old new log later h = h
+none_made R t habits n (tr ∷ trs) old new log later h = h
+
 pub transfers_name : (R : LogState → Type 0) (t : ℕ) (habits : Habits) (n : ℕ) (trs : List Transfer) (os : List WorkOutcome) (old new : DeskView) (log later : LogState)
     → MakesEach t habits n trs os old new log later R → HaveSent (Names t (IsFrom n)) old.ledgers new.ledgers
-transfers_name R t habits n [] [] old new log later (same, unlogged) =
-    have_none (Names t (IsFrom n)) old.ledgers new.ledgers (ap (λ (d : DeskView). d.ledgers) same)
-transfers_name R t habits n (tr ∷ trs) [] old new log later (same, unlogged) =
-    have_none (Names t (IsFrom n)) old.ledgers new.ledgers (ap (λ (d : DeskView). d.ledgers) same)
+transfers_name R t habits n trs [] old new log later h =
+    have_none (Names t (IsFrom n)) old.ledgers new.ledgers (ap (λ (d : DeskView). d.ledgers) (none_made R t habits n trs old new log later h).0)
 transfers_name R t habits n (tr ∷ trs) (o ∷ os) old new log later (mid, now, makes, rest) =
     have_on (Names t (IsFrom n)) old.ledgers mid.ledgers new.ledgers
     (have_as (Names t (Is n)) (Names t (IsFrom n)) (names_as t (Is n) (IsFrom n) (λ k e. omega (arith, e))) old.ledgers mid.ledgers (next_names t n tr habits o old mid log now makes))

@@ -1,18 +1,17 @@
 -- A teller's thread makes only transfers.
-use Rattle.xa_base.proofs.{ℤ, pos, ◌+ℤ◌, ◌≡◌, ℕ, suc, ◌+◌, ◌-◌, ◌^◌, ◌<◌, ◌≤◌, ⊎_elim, true, false, ◌||◌, List, [], ◌∷◌, ◌++◌, length, length-append}
-use Rattle.xa_base.proofs.{append_assoc, slice_get, sym, refl, ap, ◌∙◌, subst, arith, None, Option, Some, All, list_any, ints, cases_lt, All-nil, All-cons}
-use Rattle.xa_base.proofs.{All-head, All-tail, All-append, All-weaker, all_right}
-use Rattle.xa_words.specs.{XidName, Done as Ok_, Death, Op}
-use Rattle.xa_words.specs.declared.code.Code.{Code}
+use Rattle.xa_base.proofs.{ℤ, pos, ◌+ℤ◌, ◌≡◌, ℕ, suc, ◌+◌, ◌-◌, ◌^◌, ◌<◌, ◌≤◌, ⊎_elim, false, ◌||◌, List, [], ◌∷◌, ◌++◌, length, length-append}
+use Rattle.xa_base.proofs.{append_assoc, sym, refl, ap, ◌∙◌, subst, arith, None, Option, All, list_any, ints, cases_lt, All-nil, All-cons}
+use Rattle.xa_base.proofs.{All-head, All-tail, All-weaker}
+use Rattle.xa_words.specs.{XidName, Death, Op}
 use Rattle.xa_words.specs.declared.death.Death.TheVariants as death
 use Rattle.xa_tables.specs.Tables.{Tables}
-use Rattle.xa_tables.specs.{opening, IsOpening, names, AddsAsItWorks}
+use Rattle.xa_tables.specs.{opening, IsOpening, AddsAsItWorks}
 use Rattle.xa_tables.specs.History.{History}
 use Rattle.xa_desk.specs.LedgerView.{LedgerView}
 use Rattle.xa_desk.specs.DeskView.{DeskView}
 use Rattle.xa_desk.specs.{ledger, HaveGrown}
 use Rattle.xa_desk.proofs.Ledgers.{past_end}
-use Rattle.xa_switch.specs.{Plan, IsSettled, sent, journal, answers, IsOpenedWith, history, ledgers_of, accounts_of}
+use Rattle.xa_switch.specs.{Plan, IsSettled, sent, IsOpenedWith, history, ledgers_of, accounts_of}
 use Rattle.xa_switch.specs.Settling.{Settling}
 use Rattle.xa_driver.specs.{Branch, Done, is_commit, NoCommitWasSent, HaveAsked, PutsLedger, AsksLedger, IsCommit}
 use Rattle.xa_log.specs.{LogState}
@@ -29,10 +28,10 @@ use Rattle.xa_bank.specs.{Leg, Transfer, Habits, death_in, shut_before, IsClearA
 use Rattle.xa_bank.specs.{with_legs, without_legs}
 use Rattle.xa_bank.proofs.Deaths.{told_made}
 use Rattle.xa_bank.proofs.Legs.{LegWorked, leg_work, legs_worked}
-use Rattle.xa_bank.proofs.Named.{Is, IsFrom, IsOf, IsShut, LegsOf, Names, comes_names, legs_are, names_as, next_names, shut_names, shut_sent, transfers_name}
-use Rattle.xa_bank.proofs.Named.{work_names}
-use Rattle.xa_bank.proofs.Told.{IsAny, IsBelow, IsTold, NamedWithin, named_within, only_these}
-use Rattle.xa_bank.proofs.Adds.{leg_adds}
+use Rattle.xa_bank.proofs.Named.{Is, IsFrom, IsOf, IsShut, LegsOf, Names, comes_names, legs_are, names_as, next_names, none_made, opens_names}
+use Rattle.xa_bank.proofs.Named.{shut_names, shut_sent, transfers_name, work_names}
+use Rattle.xa_bank.proofs.Told.{Earlier, IsAny, IsBelow, IsTold, earlier_on, NamedWithin, named_within, only_these}
+use Rattle.xa_bank.proofs.Adds.{leg_adds, work_answered}
 
 -- ---- what was sent since
 
@@ -78,27 +77,15 @@ module _ (adds : (t n : ℕ) (x : XidName) (k : List ℕ) (d : ℤ) (h : History
   abbrev final : List LedgerView
   final = ledgers_of s t
 
-  -- what was sent by now names branches of transfers before this one
-  abbrev Earlier : ℕ → List LedgerView → Type 0
-  Earlier n at = (m : ℕ) → 1 ≤ m → All (Names t (IsBelow n)) (ledger at m).sent
-
-  -- and from now on those of transfers with numbers from this one on
+  -- what is sent from now on names branches of transfers with numbers from this one on
   abbrev Later : ℕ → List LedgerView → Type 0
   Later n at = HaveSent (Names t (IsFrom n)) at final
-
-  earlier_on : (n : ℕ) (old new : List LedgerView) → Earlier n old → HaveSent (Names t (Is n)) old new → Earlier (n + 1) new
-  earlier_on n old new before h = λ m positive.
-      let z = h m positive in
-      subst (All (Names t (IsBelow (n + 1)))) (sym z.sent)
-      (All-append (Names t (IsBelow (n + 1))) (ledger old m).sent z.more
-      (All-weaker (Names t (IsBelow n)) (Names t (IsBelow (n + 1))) (names_as t (IsBelow n) (IsBelow (n + 1)) (λ k lt. omega (arith, lt))) (ledger old m).sent (before m positive))
-      (All-weaker (Names t (Is n)) (Names t (IsBelow (n + 1))) (names_as t (Is n) (IsBelow (n + 1)) (λ k e. omega (arith, e))) z.more z.each))
 
   -- ---- a transfer that was decided
 
   module _ (n : ℕ) (account : List ℕ) (one two : Leg) (legs : LegsOf t n one two) (old : List LedgerView) (desk : DeskView) (new : List LedgerView)
       (log later_log : LogState) (d : Done)
-      (work : HaveWorked (changes_of one two account) (branches_of one two) old desk.ledgers) (made : IsCommit (branches_of one two) desk new log later_log d) (before : Earlier n old) (after : Later (n + 1) new) where
+      (work : HaveWorked (changes_of one two account) (branches_of one two) old desk.ledgers) (made : IsCommit (branches_of one two) desk new log later_log d) (before : Earlier t n old) (after : Later (n + 1) new) where
     worked_names : HaveSent (Names t (Is n)) old desk.ledgers
     worked_names = work_names t n one two account old desk.ledgers legs work
 
@@ -147,14 +134,6 @@ module _ (adds : (t n : ℕ) (x : XidName) (k : List ℕ) (d : ℤ) (h : History
       parted : sent s t m ≡ (pre ++ leg_work leg account) ++ since.more
       parted = all_sent ∙ since.sent ∙ ap (λ l. l ++ since.more) its.sent
 
-      answered : All (λ (q : ℕ × Code). slice_get (answers t (journal s m)) q.0 ≡ Some q) ((length pre, Ok_) ∷ (length pre + 1, Ok_) ∷ (length pre + 2, Ok_) ∷ since.collected.0)
-      answered =
-          all_right (λ (q : ℕ × Code). slice_get (answers t (journal s m)) q.0 ≡ Some q) (ledger old m).collected ((length pre, Ok_) ∷ (length pre + 1, Ok_) ∷ (length pre + 2, Ok_) ∷ since.collected.0)
-          (subst (All (λ (q : ℕ × Code). slice_get (answers t (journal s m)) q.0 ≡ Some q))
-          (by_ledger final m (λ (a : LedgerView). a.collected) positive refl ∙ since.collected.1 ∙ ap (λ l. l ++ since.collected.0) its.collected
-          ∙ append_assoc (ledger old m).collected ((length pre, Ok_) ∷ (length pre + 1, Ok_) ∷ (length pre + 2, Ok_) ∷ []) since.collected.0)
-          (settled.agree t m).coded)
-
       many : length (ledger desk.ledgers m).sent ≡ length pre + 3
       many = ap length its.sent ∙ length-append pre (leg_work leg account)
 
@@ -167,11 +146,9 @@ module _ (adds : (t n : ℕ) (x : XidName) (k : List ℕ) (d : ℤ) (h : History
 
       added : added_before p s t desk.ledgers leg.branch ≡ leg.delta
       added =
-          leg_adds s settled t m (length (ledger new m).sent) (opening (accounts_of p m)) (opens_with m positive there) leg.branch.xid account leg.delta pre since.more (length (ledger desk.ledgers m).sent) many parted alone
-          (All-head (λ (q : ℕ × Code). slice_get (answers t (journal s m)) q.0 ≡ Some q) (length pre, Ok_) ((length pre + 1, Ok_) ∷ (length pre + 2, Ok_) ∷ since.collected.0) answered)
-          (All-head (λ (q : ℕ × Code). slice_get (answers t (journal s m)) q.0 ≡ Some q) (length pre + 1, Ok_) ((length pre + 2, Ok_) ∷ since.collected.0)
-          (All-tail (λ (q : ℕ × Code). slice_get (answers t (journal s m)) q.0 ≡ Some q) (length pre, Ok_) ((length pre + 1, Ok_) ∷ (length pre + 2, Ok_) ∷ since.collected.0) answered))
-          adds
+          let answered = work_answered s settled t m positive leg account (ledger old m) (ledger desk.ledgers m) its since.collected in
+          leg_adds s settled t m (length (ledger new m).sent) (opening (accounts_of p m)) (opens_with m positive there) leg.branch.xid account leg.delta pre since.more
+          (length (ledger desk.ledgers m).sent) many parted alone answered.0 answered.1 adds
 
     both_worked : LegWorked one account (ledger old one.branch.m) (ledger desk.ledgers one.branch.m) × LegWorked two account (ledger old two.branch.m) (ledger desk.ledgers two.branch.m)
     both_worked = legs_worked one two account legs.apart old desk.ledgers work
@@ -217,9 +194,6 @@ module _ (adds : (t n : ℕ) (x : XidName) (k : List ℕ) (d : ℤ) (h : History
   abbrev IsAnyBranch : Branch → Type 0
   IsAnyBranch b = Unit {0}
 
-  any_two : (one two : Leg) → All IsAnyBranch (branches_of one two)
-  any_two one two = All-cons IsAnyBranch one.branch (two.branch ∷ []) tt (All-cons IsAnyBranch two.branch [] tt (All-nil IsAnyBranch))
-
   only_worked : (account : List ℕ) (one two : Leg) (old at : List LedgerView) → HaveWorked (changes_of one two account) (branches_of one two) old at
       → OnlyTransfers p s t old (pos 0)
       → OnlyTransfers p s t at (pos 0)
@@ -233,23 +207,19 @@ module _ (adds : (t n : ℕ) (x : XidName) (k : List ℕ) (d : ℤ) (h : History
       → OnlyTransfers p s t new (pos 0)
   only_untold account one two at old desk new log later known work died asked only =
       only_quiet desk.ledgers new
-      (untold_sent IsNone IsAnyBranch (λ b _. refl) desk.ledgers new (branches_of one two) known.votes.items (any_two one two) asked died.dies.others)
+      (untold_sent IsNone IsAnyBranch (λ b _. refl) desk.ledgers new (branches_of one two) known.votes.items (λ k b lt. tt) asked died.dies.others)
       (only_worked account one two old desk.ledgers work only)
 
   only_died : (n : ℕ) (account : List ℕ) (one two : Leg) (legs : LegsOf t n one two) (at : Death) (old : List LedgerView) (desk : DeskView) (new : List LedgerView) (log later : LogState) (known : Done)
       → HaveWorked (changes_of one two account) (branches_of one two) old desk.ledgers
-      → IsDeath at (branches_of one two) desk new log later known → IsClearAt at known.endings.items → Earlier n old → Later (n + 1) new
+      → IsDeath at (branches_of one two) desk new log later known → IsClearAt at known.endings.items → Earlier t n old → Later (n + 1) new
       → OnlyTransfers p s t old (pos 0) → OnlyTransfers p s t new (pos 0)
-  only_died n account one two legs (death.Preparing k) old desk new log later known work died clear before after only =
-      only_untold account one two (death.Preparing k) old desk new log later known work died died.dies.far.asked only
-  only_died n account one two legs death.Prepared old desk new log later known work died clear before after only =
-      only_untold account one two death.Prepared old desk new log later known work died died.dies.far.asked only
-  only_died n account one two legs death.Decided old desk new log later known work died clear before after only =
-      only_untold account one two death.Decided old desk new log later known work died died.dies.far.asked only
   only_died n account one two legs (death.Telling k) old desk new log later known work died clear before after only = absurd clear
   only_died n account one two legs death.Told old desk new log later known work died clear before after only =
       let made = told_made (branches_of one two) desk new log later known died clear.1 in
       only_decided n account one two legs old desk new log later known work made before after clear.0 only
+  only_died n account one two legs at old desk new log later known work died clear before after only =
+      only_untold account one two at old desk new log later known work died died.dies.far.asked only
 
   -- ---- any transfer
 
@@ -259,7 +229,7 @@ module _ (adds : (t n : ℕ) (x : XidName) (k : List ℕ) (d : ℤ) (h : History
 
   only_commit : (n : ℕ) (account : List ℕ) (one two : Leg) (legs : LegsOf t n one two) (dies : Option Death) (o : WorkOutcome) (old : List LedgerView) (desk : DeskView) (new : List LedgerView) (log later : LogState)
       → HaveWorked (changes_of one two account) (branches_of one two) old desk.ledgers
-      → ComesOfCommit (branches_of one two) dies o desk new log later → IsUndoubted o → Earlier n old → Later (n + 1) new
+      → ComesOfCommit (branches_of one two) dies o desk new log later → IsUndoubted o → Earlier t n old → Later (n + 1) new
       → OnlyTransfers p s t old (pos 0) → OnlyTransfers p s t new (pos 0)
   only_commit n account one two legs dies o old desk new log later work (in_full d none is made) fine before after only =
       only_decided n account one two legs old desk new log later d work made before after (subst IsUndoubted is fine) only
@@ -267,11 +237,11 @@ module _ (adds : (t n : ℕ) (x : XidName) (k : List ℕ) (d : ℤ) (h : History
       only_died n account one two legs at old desk new log later known work died (subst IsUndoubted is fine) before after only
   only_commit n account one two legs dies o old desk new log later work (undecided votes decides is may voted wanted) fine before after only =
       only_quiet desk.ledgers new
-      (voted_sent IsNone IsAnyBranch (λ b _. refl) desk.ledgers new (branches_of one two) votes.items (any_two one two) voted)
+      (voted_sent IsNone IsAnyBranch (λ b _. refl) desk.ledgers new (branches_of one two) votes.items (λ k b lt. tt) voted)
       (only_worked account one two old desk.ledgers work only)
 
   only_one : {R : LogState → Type 0} (n : ℕ) (tr : Transfer) (habits : Habits) (o : WorkOutcome) (old new : DeskView) (log later : LogState)
-      → Makes t n tr habits o old new log later R → IsUndoubted o → Earlier n old.ledgers → Later (n + 1) new.ledgers → OnlyTransfers p s t old.ledgers (pos 0)
+      → Makes t n tr habits o old new log later R → IsUndoubted o → Earlier t n old.ledgers → Later (n + 1) new.ledgers → OnlyTransfers p s t old.ledgers (pos 0)
       → OnlyTransfers p s t new.ledgers (pos 0)
   only_one n tr habits o old new log later (with_legs one two left legs (commits desk begins known work comes) kept read) fine before after only =
       only_commit n tr.account one two (legs_are t n tr one two legs) (death_in habits n) o old.ledgers desk new.ledgers log left work comes fine before after only
@@ -281,40 +251,32 @@ module _ (adds : (t n : ℕ) (x : XidName) (k : List ℕ) (d : ℤ) (h : History
       subst (λ (q : DeskView). OnlyTransfers p s t q.ledgers (pos 0)) (sym same) only
 
   only_next : {R : LogState → Type 0} (n : ℕ) (tr : Transfer) (habits : Habits) (o : WorkOutcome) (old new : DeskView) (log later : LogState)
-      → MakesNext t n tr habits o old new log later R → IsUndoubted o → Earlier n old.ledgers → Later (n + 1) new.ledgers
+      → MakesNext t n tr habits o old new log later R → IsUndoubted o → Earlier t n old.ledgers → Later (n + 1) new.ledgers
       → OnlyTransfers p s t old.ledgers (pos 0)
       → OnlyTransfers p s t new.ledgers (pos 0)
   only_next n tr habits o old new log later next fine before after only =
       let shuts : HaveSent IsShut old.ledgers next.shut.ledgers = shut_sent (shut_before habits n) old next.shut next.shuts in
       only_one n tr habits o next.shut new log later next.makes fine
-      (λ m positive.
-      let z = shuts m positive in
-      subst (All (Names t (IsBelow n))) (sym z.sent)
-      (All-append (Names t (IsBelow n)) (ledger old.ledgers m).sent z.more (before m positive) (All-weaker IsShut (Names t (IsBelow n)) (shut_names t (IsBelow n)) z.more z.each)))
+      (earlier_on t n n IsShut old.ledgers next.shut.ledgers (omega arith) (shut_names t (IsBelow n)) before shuts)
       after
       (only_quiet old.ledgers next.shut.ledgers (have_as IsShut IsNone (λ op is. ap is_commit is) old.ledgers next.shut.ledgers shuts) only)
 
   only_each : (R : LogState → Type 0) (habits : Habits) (n : ℕ) (trs : List Transfer) (os : List WorkOutcome) (old new : DeskView) (log later : LogState)
-      → MakesEach t habits n trs os old new log later R → All IsUndoubted os → Earlier n old.ledgers → Later (n + length trs) new.ledgers
+      → MakesEach t habits n trs os old new log later R → All IsUndoubted os → Earlier t n old.ledgers → Later (n + length trs) new.ledgers
       → OnlyTransfers p s t old.ledgers (pos 0)
       → OnlyTransfers p s t new.ledgers (pos 0)
-  only_each R habits n [] [] old new log later (same, unlogged) fine before after only =
-      subst (λ (q : DeskView). OnlyTransfers p s t q.ledgers (pos 0)) (sym same) only
-  only_each R habits n (tr ∷ trs) [] old new log later (same, unlogged) fine before after only =
-      subst (λ (q : DeskView). OnlyTransfers p s t q.ledgers (pos 0)) (sym same) only
+  only_each R habits n trs [] old new log later h fine before after only =
+      subst (λ (q : DeskView). OnlyTransfers p s t q.ledgers (pos 0)) (sym (none_made R t habits n trs old new log later h).0) only
   only_each R habits n (tr ∷ trs) (o ∷ os) old new log later (mid, now, makes, rest) fine before after only =
       let later_on : Later (n + 1) mid.ledgers =
       have_on (Names t (IsFrom (n + 1))) mid.ledgers new.ledgers final (transfers_name R t habits (n + 1) trs os mid new now later rest)
       (have_as (Names t (IsFrom (n + suc (length trs)))) (Names t (IsFrom (n + 1))) (names_as t (IsFrom (n + suc (length trs))) (IsFrom (n + 1)) (λ k le. omega (arith, le))) new.ledgers final after) in
-      only_each R habits (n + 1) trs os mid new now later rest (All-tail IsUndoubted o os fine) (earlier_on n old.ledgers mid.ledgers before (next_names t n tr habits o old mid log now makes))
+      only_each R habits (n + 1) trs os mid new now later rest (All-tail IsUndoubted o os fine) (earlier_on t n (n + 1) (Names t (Is n)) old.ledgers mid.ledgers (omega arith) (names_as t (Is n) (IsBelow (n + 1)) (λ k e. omega (arith, e))) before (next_names t n tr habits o old mid log now makes))
       (subst (λ k. Later k new.ledgers) (let e : n + suc (length trs) ≡ n + 1 + length trs = omega arith in e) after)
       (only_next n tr habits o old mid log now makes (All-head IsUndoubted o os fine) before later_on only)
   only_each R habits n [] (o ∷ os) old new log later h fine before after only = absurd h
 
   -- ---- all that the thread did
-
-  opens_name : (n : ℕ) (op : Op) → IsOpenRm op → Names t (IsBelow n) op
-  opens_name n op is = record { each = λ x e. let z : false ≡ true = sym (ap (λ o. names x o) is) ∙ e in cc }
 
   pub only_transfers : (R : LogState → Type 0) (trs : List Transfer) (habits : Habits) (os : List WorkOutcome) (begun last : DeskView) (log later : LogState)
       → begun.thread ≡ t → NothingWasSent begun.ledgers → MakesAll trs habits os begun last log later R → All IsUndoubted os
@@ -325,17 +287,14 @@ module _ (adds : (t n : ℕ) (x : XidName) (k : List ℕ) (d : ℤ) (h : History
       subst (λ u. MakesEach u habits habits.first trs os opening_ last log later R) thread all.makes in
       let quiet : HaveSent IsNone begun.ledgers opening_.ledgers =
       have_as IsOpenRm IsNone (λ op is. ap is_commit is) begun.ledgers opening_.ledgers all.opens in
-      let before : Earlier habits.first opening_.ledgers = λ m positive.
+      let before : Earlier t habits.first opening_.ledgers = λ m positive.
       let z = all.opens m positive in
-      subst (All (Names t (IsBelow habits.first))) (sym (z.sent ∙ ap (λ l. l ++ z.more) (nothing m positive))) (All-weaker IsOpenRm (Names t (IsBelow habits.first)) (opens_name habits.first) z.more z.each) in
+      subst (All (Names t (IsBelow habits.first))) (sym (z.sent ∙ ap (λ l. l ++ z.more) (nothing m positive))) (All-weaker IsOpenRm (Names t (IsBelow habits.first)) (opens_names t (IsBelow habits.first)) z.more z.each) in
       only_quiet last.ledgers final (have_as (λ op. ⊥) IsNone (λ op never. absurd never) last.ledgers final end)
       (only_each R habits habits.first trs os opening_ last log later makes fine before (have_as (λ op. ⊥) (Names t (IsFrom (habits.first + length trs))) (λ op never. absurd never) last.ledgers final end)
       (only_quiet begun.ledgers opening_.ledgers quiet (opened begun.ledgers nothing)))
 
 -- ---- what such a thread names
-
-opens_any : (t : ℕ) (op : Op) → IsOpenRm op → Names t IsAny op
-opens_any t op is = record { each = λ x e. let z : false ≡ true = sym (ap (λ o. names x o) is) ∙ e in cc }
 
 pub all_told : (R : LogState → Type 0) (s : Settling) (t : ℕ) (trs : List Transfer) (habits : Habits) (os : List WorkOutcome) (begun last : DeskView) (log later : LogState)
     → begun.thread ≡ t → NothingWasSent begun.ledgers → MakesAll trs habits os begun last log later R
@@ -346,7 +305,7 @@ all_told R s t trs habits os begun last log later thread nothing all end m posit
     subst (λ u. MakesEach u habits habits.first trs os all.opened last log later R) thread all.makes in
     let z =
     have_on (Names t IsAny) begun.ledgers last.ledgers final
-    (have_on (Names t IsAny) begun.ledgers all.opened.ledgers last.ledgers (have_as IsOpenRm (Names t IsAny) (opens_any t) begun.ledgers all.opened.ledgers all.opens)
+    (have_on (Names t IsAny) begun.ledgers all.opened.ledgers last.ledgers (have_as IsOpenRm (Names t IsAny) (opens_names t IsAny) begun.ledgers all.opened.ledgers all.opens)
     (have_as (Names t (IsFrom habits.first)) (Names t IsAny) (names_as t (IsFrom habits.first) IsAny (λ k e. tt)) all.opened.ledgers last.ledgers (transfers_name R t habits habits.first trs os all.opened last log later makes)))
     (have_as (λ op. ⊥) (Names t IsAny) (λ op never. absurd never) last.ledgers final end) m positive in
     subst (All (Names t IsAny)) (sym (by_ledger final m (λ (a : LedgerView). a.sent) positive refl ∙ z.sent ∙ ap (λ l. l ++ z.more) (nothing m positive))) z.each

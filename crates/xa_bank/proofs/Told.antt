@@ -1,17 +1,19 @@
 -- Which requests of a settled journal name a branch: those of its own transfer, where each thread's requests name only the
 -- branches of its own transfers.
 use Rattle.xa_base.proofs.{◌≡◌, ◌≢◌, ℕ, suc, ◌+◌, ◌^◌, ◌<◌, ◌≤◌, ◌⊎◌, ⊎_elim, true, false, ◌==◌, cond, List, [], ◌∷◌, ◌++◌, length, get_or, sym, refl, ap, ◌∙◌}
-use Rattle.xa_base.proofs.{subst, arith, eq-eqb, All, cases_eq, eqb-false, All-nil, All-cons, All-head, All-tail, all_right}
+use Rattle.xa_base.proofs.{subst, arith, eq-eqb, All, cases_eq, eqb-false, All-nil, All-cons, All-head, All-tail, All-append, All-weaker, all_right}
 use Rattle.xa_words.specs.{XidName, Op, Request}
 use Rattle.xa_tables.specs.History.{History}
 use Rattle.xa_tables.specs.{of_thread, names}
-use Rattle.xa_desk.specs.{numbered}
+use Rattle.xa_desk.specs.LedgerView.{LedgerView}
+use Rattle.xa_desk.specs.{ledger, numbered}
 use Rattle.xa_switch.specs.Settling.{Settling}
 use Rattle.xa_switch.specs.{IsSettled, sent, history}
 use Rattle.xa_atomicity.specs.{IsBetween, OnlyTheseName}
 use Rattle.xa_atomicity.proofs.Placing.{request_of}
 use Rattle.xa_atomicity.proofs.Requests.{all_later}
-use Rattle.xa_bank.proofs.Named.{IsOf, Names, one_transfer, IsFrom}
+use Rattle.xa_work.specs.{HaveSent}
+use Rattle.xa_bank.proofs.Named.{IsOf, Names, names_as, one_transfer, IsFrom}
 
 -- ---- requests by their numbers
 
@@ -77,6 +79,19 @@ IsAny n = Unit {0}
 
 abbrev pub IsBelow : ℕ → ℕ → Type 0
 IsBelow n k = k < n
+
+-- what was sent by now names branches of transfers before this one
+abbrev pub Earlier : ℕ → ℕ → List LedgerView → Type 0
+Earlier t n at = (m : ℕ) → 1 ≤ m → All (Names t (IsBelow n)) (ledger at m).sent
+
+pub earlier_on : (t n k : ℕ) (Q : Op → Type 0) (old new : List LedgerView) → n ≤ k → ((op : Op) → Q op → Names t (IsBelow k) op) → Earlier t n old
+    → HaveSent Q old new → Earlier t k new
+earlier_on t n k Q old new upto also before h m up =
+    let z = h m up in
+    subst (All (Names t (IsBelow k))) (sym z.sent)
+    (All-append (Names t (IsBelow k)) (ledger old m).sent z.more
+    (All-weaker (Names t (IsBelow n)) (Names t (IsBelow k)) (names_as t (IsBelow n) (IsBelow k) (λ i lt. omega (arith, lt, upto))) (ledger old m).sent (before m up))
+    (All-weaker Q (Names t (IsBelow k)) also z.more z.each))
 
 -- the thread names only branches of its transfers, or it is none, and sent nothing
 abbrev pub IsTold : Settling → ℕ → Type 0

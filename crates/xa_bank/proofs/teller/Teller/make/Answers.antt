@@ -121,7 +121,7 @@ returns-clause-makes g c =
     elim c.if-self.branch [
       | then-self w ↦
           subst (λ (l : g.row.L.Denot). IfLost (λ votes. l ≡ left) o) (sym (ap (λ (u : Teller g.row.L.Denot). u.log) w.self-is)) w.forget_made.ensures.lost
-      | else-self w ↦ if_so (λ votes. kept ≡ left) o (λ votes. ap (λ (u : Teller g.row.L.Denot). u.log) w.self-is)
+      | else-self w ↦ if_so (λ votes. kept ≡ left) o (λ _ votes. ap (λ (u : Teller g.row.L.Denot). u.log) w.self-is)
     ] in
     record {
       shut = c.shut.new.desk;

@@ -5,14 +5,13 @@ use Rattle.std.proofs.Common.{length-take}
 use Rattle.xa_desk.specs.DeskView.{DeskView}
 use Rattle.xa_desk.specs.{DeskSeat}
 use Rattle.xa_log.specs.{IsReadAs, LogState}
-use Rattle.xa_work.specs.{WorkOutcome, Decided, Died, Refused, Undecided, IsOpenRm, LeavesKnown, has_died, is_last}
+use Rattle.xa_work.specs.{WorkOutcome, Undecided, IsOpenRm, LeavesKnown, has_died, is_last}
 use Rattle.xa_work.specs.Units.ComesOfCommit.{cut_short, in_full, undecided}
-use Rattle.xa_work.specs.Units.IsRefused.{barred, unbegun, undone}
 use Rattle.xa_work.specs.Units.Transacts.{commits, refused}
 use Rattle.xa_work.proofs.Sent.{have_none}
 use Rattle.xa_bank.specs.{Habits, Teller, Transfer, death_in, death_if_at, ended, lived, unknown, Makes, MakesEach, MakesNext, with_legs, without_legs}
 use Rattle.xa_bank.proofs.Named.{makes_more, makes_none}
-use Rattle.xa_bank.proofs.LostRecords.{each_any}
+use Rattle.xa_bank.proofs.LostRecords.{each_any, refused_so}
 use Rattle.xa_bank.proofs.teller.Teller.make_all.Goals as goal
 
 -- a transfer more, where others may follow that aren't made
@@ -37,10 +36,8 @@ grown xs more o ys zs is told = is ∙ ap (λ l. l ++ o ∷ []) told ∙ append_
 
 -- after an outcome that isn't the last the log is known
 still_known : (Knows : Type 0) (o : WorkOutcome) → is_last o ≡ false → LeavesKnown Knows o → Knows
-still_known Knows (Decided done) lives known = known
-still_known Knows (Refused why) lives known = known
-still_known Knows (Died at known_) lives known = known
 still_known Knows (Undecided votes) lives known = cc
+still_known Knows o lives known = known
 
 pub returns-then-not-is_known-clause-made : goal.returns-then-not-is_known-clause-made
 returns-then-not-is_known-clause-made g c = record {
@@ -161,19 +158,14 @@ lives_on t n tr habits o old new log later (with_legs one two left legs (commits
     let nowhere : death_in habits n ≡ None = ap (λ d. death_if_at d (n - habits.first)) never in cc
 lives_on t n tr habits o old new log later (with_legs one two left legs (commits worked begins known_ work (undecided votes decides is may voted wanted)) kept read) never =
     ap has_died is
-lives_on t n tr habits o old new log later (with_legs one two left legs (refused same (unbegun is may none) sent) kept read) never = ap has_died is
-lives_on t n tr habits o old new log later (with_legs one two left legs (refused same (undone tried is may known_ tries gives_up) sent) kept read) never =
-    ap has_died is
-lives_on t n tr habits o old new log later (with_legs one two left legs (refused same (barred tried is may known_ tries may_not gives_up) sent) kept read) never =
-    ap has_died is
+lives_on t n tr habits o old new log later (with_legs one two left legs (refused same why sent) kept read) never =
+    ap has_died (refused_so _ _ o old new log _ why).1
 lives_on t n tr habits o old new log later (without_legs is none same unlogged) never = ap has_died is
 
 -- so its last transfer is one that its log has lost
 last_is_lost : (Knows : Type 0) (o : WorkOutcome) → is_last o ≡ true → has_died o ≡ false → LeavesKnown Knows o → Knows → ⊥
-last_is_lost Knows (Decided done) last lives known = cc
-last_is_lost Knows (Refused why) last lives known = cc
-last_is_lost Knows (Died at known_) last lives known = cc
 last_is_lost Knows (Undecided votes) last lives known = known
+last_is_lost Knows o last lives known = cc
 
 pub returns-then-last-clause-each : goal.returns-then-last-clause-each
 returns-then-last-clause-each g c never known knows =
