@@ -1,12 +1,14 @@
 -- What a commit came to that was made, or whose coordinator died: whether its log has the record is what was told, where the
 -- first branch isn't read only.
 use Rattle.xa_base.proofs.{is_some, if◌then◌else◌, ◌≡◌, ◌≢◌, ℕ, zero, Bool, true, false, not, ◌&&◌, ◌||◌, cond, Option, None, Some, List, [], ◌∷◌, ◌++◌, length}
-use Rattle.xa_base.proofs.{append_assoc, sym, refl, ap, ◌∙◌, subst, arith, inl, inr, Contains, eq_by_cmp, is_eq, tied_itself, get-insert, or-true, and_parts}
+use Rattle.xa_base.proofs.{append_assoc, sym, refl, ap, ◌∙◌, subst, arith, inl, inr, All, Contains, eq_by_cmp, is_eq, tied_itself, get-insert, or-true, and_parts}
 use Rattle.xa_base.proofs.{Contains-append_right, is_equal}
 use Rattle.std.specs.FinMap as map
-use Rattle.xa_words.specs.{TranName, tran_of, Done, RdOnly, RmFail, Death, Op, Prepare}
+use Rattle.xa_words.specs.{XidName, TranName, tran_of, Done, RdOnly, RmFail, Death, Op, Prepare}
+use Rattle.xa_words.proofs.Xids.{xid_self}
 use Rattle.xa_words.specs.declared.code.Code.{Code}
 use Rattle.xa_words.specs.declared.death.Death.TheVariants as death
+use Rattle.xa_tables.specs.{names, is_heur}
 use Rattle.xa_desk.specs.LedgerView.{LedgerView}
 use Rattle.xa_desk.specs.{learnt_shut, with_collected, with_sent, ledger}
 use Rattle.xa_desk.specs.DeskView.{DeskView}
@@ -21,8 +23,30 @@ use Rattle.xa_atomicity.proofs.Staged.{nothing_between, undecided_is_cut}
 use Rattle.xa_work.specs.{WorkOutcome, HasSent, ComesOfCommit, IfLost}
 use Rattle.xa_work.specs.Units.ComesOfCommit.{cut_short, in_full, undecided}
 use Rattle.xa_work.proofs.Sent.{none_sent}
+use Rattle.xa_work.proofs.Voted.{MayAsk, SentAt, StaysElsewhere, VotedSo, came_each, heard_so, made_each, made_so, obeyed_so, voted_each, voted_elsewhere}
 use Rattle.xa_bank_days.specs.{is_applied}
-use Rattle.xa_bank_days.proofs.Obeyed.{Obeys, ObeysAll, after_heard, after_obeyed, after_vote, died_obeys, made_obeys, voted_obeys}
+
+-- ---- what it sent
+
+-- the request names the branch, and is no decision of its manager's own
+abbrev pub Obeys : XidName → Op → Type 0
+Obeys x op = (names x op ≡ true) × (is_heur op ≡ false)
+
+may_obey : (b : Branch) → MayAsk (Obeys b.xid) b.xid
+may_obey b = record {
+  first = (xid_self b.xid, refl);
+  commit = (xid_self b.xid, refl);
+  rollback = (xid_self b.xid, refl);
+  forget = (xid_self b.xid, refl);
+}
+
+-- to a branch's manager such requests, and to the others nothing
+abbrev pub ObeysAt : List LedgerView → List LedgerView → Branch → Type 0
+ObeysAt old new = SentAt (λ b. Obeys b.xid) old new
+
+pub record ObeysAll (bs : List Branch) (old new : List LedgerView) : Type 0 where
+  pub each : All (ObeysAt old new) bs
+  pub others : StaysElsewhere bs old new
 
 -- ---- the record
 
@@ -85,40 +109,32 @@ reads b a d a' asks after =
           (Contains-append_right a.collected ((length a.sent, RdOnly) ∷ took.0) (length a.sent, RdOnly) (zero, omega arith, refl));
     }
 
--- the first of the branches was asked to prepare, with its vote, and what it was told after it
-record FirstAsked (b : Branch) (vs : List Code) (a a' : LedgerView) : Type 0 where
+-- the first of the branches voted so, and what it was told after that
+record FirstVoted (b : Branch) (vs : List Code) (a a' : LedgerView) : Type 0 where
   vote : Code
   others : List Code
   votes : vs ≡ vote ∷ others
-  prepared : LedgerView
-  asks : AsksLedger a (Prepare b.xid) prepared vote
-  after : HasSent (Obeys b.xid) prepared a'
+  voted : VotedSo (Obeys b.xid) b vote a a'
 
 module _ (old new : List LedgerView) (b : Branch) (bs : List Branch) where
   abbrev First : List Code → Type 0
-  First vs = FirstAsked b vs (ledger old b.m) (ledger new b.m)
-
-  made_first : (commit : Bool) (vs : List Code) (ss : List (Option Code)) (es : List Ending)
-      → EachBranch (λ c v s e. AtBranch AsksLedger commit c v s e (ledger old c.m) (ledger new c.m)) (b ∷ bs) vs ss es → First vs
-  made_first commit (v ∷ vs) (s ∷ ss) (e ∷ es) h =
-      record { vote = v; others = vs; votes = refl; prepared = h.0.prepared; asks = h.0.prepares; after = after_vote commit b v s e (ledger old b.m) (ledger new b.m) h.0 }
-  made_first commit vs ss es h = absurd h
+  First vs = FirstVoted b vs (ledger old b.m) (ledger new b.m)
 
   asked_first : (vs : List Code) → length vs ≡ length (b ∷ bs) → HaveAsked AsksLedger PutsLedger (b ∷ bs) vs (ledger old) (ledger new) → First vs
   asked_first [] many h = absurd (omega (arith, many))
   asked_first (v ∷ vs) many h =
-      record { vote = v; others = vs; votes = refl; prepared = ledger new b.m; asks = h.0; after = none_sent (Obeys b.xid) (ledger new b.m) }
+      record { vote = v; others = vs; votes = refl; voted = record { prepared = ledger new b.m; asks = h.0; after = none_sent (Obeys b.xid) (ledger new b.m) } }
 
   told_first : (commit : Bool) (k : ℕ) (vs : List Code) → HaveTold AsksLedger PutsLedger commit k (b ∷ bs) vs (ledger old) (ledger new) → First vs
   told_first commit k [] h = absurd h
   told_first commit k (v ∷ vs) h =
-      record { vote = v; others = vs; votes = refl; prepared = h.0.prepared; asks = h.0.prepares; after = after_heard commit k b v (ledger old b.m) (ledger new b.m) h.0 }
+      record { vote = v; others = vs; votes = refl; voted = heard_so (Obeys b.xid) commit b v (ledger old b.m) (ledger new b.m) (may_obey b) k h.0 }
 
-  ended_first : (commit : Bool) (vs : List Code) (ss : List (Option Code)) (es : List Ending)
-      → EachBranch (λ c v s e. VotesAndObeys AsksLedger commit c v s e (ledger old c.m) (ledger new c.m)) (b ∷ bs) vs ss es → First vs
-  ended_first commit (v ∷ vs) (s ∷ ss) (e ∷ es) h =
-      record { vote = v; others = vs; votes = refl; prepared = h.0.prepared; asks = h.0.prepares; after = after_obeyed commit b v s e (ledger old b.m) (ledger new b.m) h.0 }
-  ended_first commit vs ss es h = absurd h
+  voting_first : (R : Branch → Code → Option Code → Ending → Type 0)
+      → ((v : Code) (s : Option Code) (e : Ending) → R b v s e → VotedSo (Obeys b.xid) b v (ledger old b.m) (ledger new b.m))
+      → (vs : List Code) (ss : List (Option Code)) (es : List Ending) → EachBranch R (b ∷ bs) vs ss es → First vs
+  voting_first R voted (v ∷ vs) (s ∷ ss) (e ∷ es) h = record { vote = v; others = vs; votes = refl; voted = voted v s e h.0 }
+  voting_first R voted vs ss es h = absurd h
 
 -- where it isn't read only, and no vote is against, there is one to commit
 some_yes : (v : Code) (vs : List Code) → (v ≡ RdOnly → ⊥) → decides_commit (v ∷ vs) ≡ true → has_yes (v ∷ vs) ≡ true
@@ -126,9 +142,9 @@ some_yes Done vs reads decides = refl
 some_yes RdOnly vs reads decides = absurd (reads refl)
 some_yes v vs reads decides = cc
 
-some_decided : (b : Branch) (vs : List Code) (a a' : LedgerView) → FirstAsked b vs a a' → (OnlyReads b a a' → ⊥) → decides_commit vs ≡ true → has_yes vs ≡ true
+some_decided : (b : Branch) (vs : List Code) (a a' : LedgerView) → FirstVoted b vs a a' → (OnlyReads b a a' → ⊥) → decides_commit vs ≡ true → has_yes vs ≡ true
 some_decided b vs a a' z never decides =
-    let votes : z.vote ≡ RdOnly → ⊥ = λ is. never (reads b a z.prepared a' (subst (λ v. AsksLedger a (Prepare b.xid) z.prepared v) is z.asks) z.after) in
+    let votes : z.vote ≡ RdOnly → ⊥ = λ is. never (reads b a z.voted.prepared a' (subst (λ v. AsksLedger a (Prepare b.xid) z.voted.prepared v) is z.voted.asks) z.voted.after) in
     subst (λ l. has_yes l ≡ true) (sym z.votes) (some_yes z.vote z.others votes (subst (λ l. decides_commit l ≡ true) z.votes decides))
 
 -- then it was decided to commit exactly where the log has the record
@@ -163,7 +179,7 @@ module _ (one two : Branch) (desk : DeskView) (new : List LedgerView) (log later
   abbrev bs : List Branch
   bs = one ∷ two ∷ []
 
-  by_votes : (votes : List Code) (logged commit : Bool) → FirstAsked one votes (ledger desk.ledgers one.m) (ledger new one.m)
+  by_votes : (votes : List Code) (logged commit : Bool) → FirstVoted one votes (ledger desk.ledgers one.m) (ledger new one.m)
       → commit ≡ decision_of votes logged → Logs tran (yes_of bs votes) votes logged log later → is_recorded later tran ≡ commit
   by_votes votes logged commit first decision logs =
       logged_is tran (yes_of bs votes) votes logged log later absent logs
@@ -176,8 +192,6 @@ module _ (one two : Branch) (desk : DeskView) (new : List LedgerView) (log later
 
     came_commit : (at : Death) → CameTo AsksLedger PutsLedger at tran bs (ledger desk.ledgers) (ledger new) log later known
         → is_recorded later tran ≡ known.commit
-    came_commit (death.Preparing k) far = undecided_commit far.undecided.commit far.unlogged
-    came_commit death.Prepared far = undecided_commit far.undecided.commit far.unlogged
     came_commit death.Decided far =
         by_votes known.votes.items known.logged known.commit (asked_first desk.ledgers new one (two ∷ []) known.votes.items far.counted far.asked) far.decided.decision
         far.decided.logs
@@ -186,7 +200,12 @@ module _ (one two : Branch) (desk : DeskView) (new : List LedgerView) (log later
         far.decided.logs
     came_commit death.Told far =
         by_votes known.votes.items known.logged known.commit
-        (ended_first desk.ledgers new one (two ∷ []) known.commit known.votes.items far.seconds known.endings.items far.each) far.decided.decision far.decided.logs
+        (voting_first desk.ledgers new one (two ∷ [])
+        (λ b v s e. VotesAndObeys AsksLedger known.commit b v s e (ledger desk.ledgers b.m) (ledger new b.m))
+        (λ v s e. obeyed_so (Obeys one.xid) known.commit one v (ledger desk.ledgers one.m) (ledger new one.m) (may_obey one) s e)
+        known.votes.items far.seconds known.endings.items far.each)
+        far.decided.decision far.decided.logs
+    came_commit at far = undecided_commit far.undecided.commit far.unlogged
 
 module _ (tran : TranName) (bs : List Branch) (old new : ℕ → LedgerView) (log later : LogState) (known : Made) where
   decided_others : (t : TranName) → t ≢ tran → IsDecidedBy tran bs log later known → record_of later t ≡ record_of log t
@@ -196,14 +215,16 @@ module _ (tran : TranName) (bs : List Branch) (old new : ℕ → LedgerView) (lo
       → record_of later t ≡ record_of log t
   came_others (death.Preparing k) t other far = ap (λ (l : LogState). record_of l t) far.unlogged
   came_others death.Prepared t other far = ap (λ (l : LogState). record_of l t) far.unlogged
-  came_others death.Decided t other far = decided_others t other far.decided
-  came_others (death.Telling k) t other far = decided_others t other far.decided
-  came_others death.Told t other far = decided_others t other far.decided
+  came_others at t other far = decided_others t other far.decided
 
 -- what the log was read as, where nobody knew whether it has the record of these branches, and what was found
 pub record IsReadSo (bs : List Branch) (tran : TranName) (log later : LogState) (found : Bool) (votes : List Code) : Type 0 where
   pub either : (t : TranName) → IsTranOf bs t → IsEither log later t (yes_of bs votes)
   pub found_ : is_recorded later tran ≡ found
+
+-- nothing is asked of a branch
+abbrev IsAny : Branch → Type 0
+IsAny b = Unit {0}
 
 pub has_come : (one two : Branch) (at : Option Death) (found : Bool) (o : WorkOutcome) (desk : DeskView) (new : List LedgerView) (log later : LogState)
     → ComesOfCommit (one ∷ two ∷ []) at o desk new log later → IfLost (IsReadSo (one ∷ two ∷ []) (tran_of one.xid) log later found) o
@@ -214,13 +235,19 @@ has_come one two at found o desk new log later (in_full d none is made) read =
     record {
       endings = d.endings.items;
       cut = finished_law (one ∷ two ∷ []) desk new log later d made;
-      obeys = made_obeys (one ∷ two ∷ []) desk new log later d made;
+      obeys = record {
+        each =
+            made_each (λ b. Obeys b.xid) IsAny (λ b _. may_obey b) desk.ledgers new made.may.tran (one ∷ two ∷ []) log later d (λ k b lt. tt) made.trace;
+        others = made.trace.course.others;
+      };
       others = λ t other. others_stay made.may.tran t managers d.votes.items d.logged log later (λ e. other (e ∙ sym first)) made.trace.course.logs;
       applied = λ never.
           ap (is_recorded later) first
           ∙ by_votes one two desk new log later made.may.tran made.may.absent never d.votes.items d.logged d.commit
-          (made_first desk.ledgers new one (two ∷ []) d.commit d.votes.items made.trace.course.seconds d.endings.items made.trace.course.each) made.trace.course.decision
-          made.trace.course.logs
+          (voting_first desk.ledgers new one (two ∷ []) (λ b v s e. AtBranch AsksLedger d.commit b v s e (ledger desk.ledgers b.m) (ledger new b.m))
+          (λ v s e. made_so (Obeys one.xid) d.commit one v (ledger desk.ledgers one.m) (ledger new one.m) (may_obey one) s e)
+          d.votes.items made.trace.course.seconds d.endings.items made.trace.course.each)
+          made.trace.course.decision made.trace.course.logs
           ∙ ap (is_applied found) (sym is);
     }
 has_come one two at found o desk new log later (cut_short point known_ some is died) read =
@@ -228,7 +255,12 @@ has_come one two at found o desk new log later (cut_short point known_ some is d
     record {
       endings = known_.endings.items;
       cut = died_is_cut point died.may.tran (one ∷ two ∷ []) desk new log later known_ died.may died.may.one died.dies died.managers;
-      obeys = died_obeys point (one ∷ two ∷ []) desk new log later known_ died;
+      obeys = record {
+        each =
+            came_each (λ b. Obeys b.xid) IsAny (λ b _. may_obey b) desk.ledgers new point died.may.tran (one ∷ two ∷ []) log later known_ (λ k b lt. tt)
+            died.dies.far;
+        others = died.dies.others;
+      };
       others = λ t other.
           came_others died.may.tran (one ∷ two ∷ []) (ledger desk.ledgers) (ledger new) log later known_ point t (λ e. other (e ∙ sym first)) died.dies.far;
       applied = λ never.
@@ -246,7 +278,10 @@ has_come one two at found o desk new log later (undecided votes decides is may v
     record {
       endings = [];
       cut = undecided_is_cut bs desk new new log later votes.items may.tran may voted (nothing_between bs new) may.one wanted either;
-      obeys = voted_obeys bs desk.ledgers new votes.items voted;
+      obeys = record {
+        each = voted_each (λ b. Obeys b.xid) IsAny (λ b _. (may_obey b).first) desk.ledgers new bs votes.items (λ k b lt. tt) voted;
+        others = voted_elsewhere bs desk.ledgers new votes.items voted;
+      };
       others = λ t other. either_others may.tran t managers log later (λ e. other (e ∙ sym first)) either;
       applied = λ never. so.found_ ∙ ap (is_applied found) (sym is);
     }

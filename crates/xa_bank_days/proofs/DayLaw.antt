@@ -10,30 +10,24 @@ use Rattle.xa_tables.specs.Tables.{Tables}
 use Rattle.xa_tables.specs.History.{History}
 use Rattle.xa_tables.proofs.Reopening.{as_left}
 use Rattle.xa_tables.proofs.Unnamed.{unnamed_on}
-use Rattle.xa_desk.specs.{ledger}
-use Rattle.xa_switch.specs.declared.plan.Again.{Again}
-use Rattle.xa_switch.specs.Settling.{Settling}
-use Rattle.xa_switch.specs.{IsSettled, reopened_at, first_of, history, ledgers_of}
+use Rattle.xa_switch.specs.{IsSettled, reopened_at, first_of, history}
 use Rattle.xa_switch.proofs.Journaled.{follows_first}
 use Rattle.xa_log.specs.{LogState, Records, record_in}
 use Rattle.xa_driver.specs.{Outcome, is_commit, is_to_commit, names as names_manager, outcome_op}
-use Rattle.xa_driver.proofs.Mapped.{Asks}
-use Rattle.xa_atomicity.specs.{IsUseIn, Opening, ResolveCall, resolves}
+use Rattle.xa_atomicity.specs.{Opening}
 use Rattle.xa_atomicity.proofs.Later.{ends_with}
-use Rattle.xa_atomicity.proofs.Naming.{named_so, named_tran}
-use Rattle.xa_atomicity.proofs.NextOpening.{scan_of}
-use Rattle.xa_atomicity.proofs.Resolves.{outcome_left}
 use Rattle.xa_days.specs.{Leg, counted, CommitsAmong, IsSettledDay}
 use Rattle.xa_tables.proofs.Law.{opening_free}
 use Rattle.xa_days.proofs.InARow.{settled_law}
 use Rattle.xa_words.proofs.Xids.{xid_self}
 use Rattle.xa_bank.specs.{Teller}
-use Rattle.xa_bank_days.specs.{AreReadBack, AreToldAll, BeginsWith, IsDawn, IsDayOf, IsResolvedBy, all_told, balances_at, balances_of, records_of, all_applied}
-use Rattle.xa_bank_days.proofs.Logs.{NoLogs, OneLogMore}
+use Rattle.xa_bank_days.specs.{all_told, balances_at, balances_of, all_applied}
 use Rattle.xa_bank_days.proofs.Made.{Noted}
-use Rattle.xa_bank_days.proofs.Out.{BranchesComeOut, day, night, only_one}
+use Rattle.xa_bank_days.proofs.DawnLaw.{named_in_night, outcome_was_left}
+use Rattle.xa_bank_days.proofs.Out.{day, night}
 use Rattle.xa_bank_days.proofs.Shares.{all_applied_is}
-use Rattle.xa_bank_days.proofs.Together.{DayAt, all_noted, found_before, whole}
+use Rattle.xa_bank_days.proofs.Together.{DayAt, Laws, all_noted, found_before, whole}
+use Rattle.xa_bank_days.proofs.Went.{DayAndNight}
 
 -- a Commit, or a heuristic one, names a branch
 record NamesOne (op : Op) : Type 0 where
@@ -92,29 +86,22 @@ no_mark : (o : Option (List Bool)) (m : ℕ) → names_manager o m ≡ true → 
 no_mark None m e is = cc
 no_mark (Some set) m e is = cc
 
-module _ (L : Type 0) (state : L → LogState) (knows : L → Type 0) (loses : TranName → List Bool → L → L → Type 0)
-    (outs : BranchesComeOut)
-    (none_law : NoLogs)
-    (more_law : OneLogMore)
-    (s : Settling) (again : Again) (q : ResolveCall) (next : Settling) (olds news : List (Teller L)) (logs : List L) (founds : List Bool) (stores n : ℕ) (tables : ℕ → Tables)
-    (is_day : IsDayOf state knows loses s olds news) (begins : BeginsWith s stores tables) (many : length olds < 2 ^ 32) (told_all : AreToldAll n olds news)
-    (back : AreReadBack state knows loses 1 news logs founds) (known : All knows logs)
-    (dawn : IsDawn state stores n tables (map (λ t. t.log) olds))
-    (resolved : IsResolvedBy (records_of state logs) s again q next) (m : ℕ) (up : IsUpTo stores m) (j : List ℕ) where
+module _ (laws : Laws) {L : Type 0} {state : L → LogState} {knows : L → Type 0} {loses : TranName → List Bool → L → L → Type 0}
+    (d : DayAndNight state knows loses) (many : length d.olds < 2 ^ 32) (m : ℕ) (up : IsUpTo d.stores m) (j : List ℕ) where
+  open d use {s, again, q, next, olds, news, logs, founds, tables, is_day, begins, dawn, resolved}
+
   abbrev T : Tables
   T = tables m
 
   low : IsUpTo MOST_MANAGERS m
   low = let high = up.1 in let most = begins.few in (up.0, omega (arith, high, most))
 
-  pub all : DayAt L state knows loses outs none_law more_law s again q next olds news logs founds stores n tables is_day begins many told_all back known dawn resolved m up j 0 founds news
-  all =
-      whole L state knows loses outs none_law more_law s again q next olds news logs founds stores n tables is_day begins many told_all back known dawn resolved m up j
+  pub all : DayAt laws d many m up j 0 founds news
+  all = whole laws d many m up j
 
   pub noted : All (λ r. Noted q.records all.legs r.op) (history s m)
   unfolding all
-  noted =
-      all_noted L state knows loses outs none_law more_law s again q next olds news logs founds stores n tables is_day begins many told_all back known dawn resolved m up j
+  noted = all_noted laws d many m up j
 
   opened : IsOpening T
   opened = (follows_first s m T is_day.settled (begins.there m up)).opened
@@ -129,7 +116,7 @@ module _ (L : Type 0) (state : L → LogState) (knows : L → Type 0) (loses : T
   -- a branch that the opening had before the day has no record
   pub before_none : (x : XidName) → exists (tables m) x ≡ true → record_in q.records (tran_of x) ≡ None
   before_none x there =
-      found_before L state knows loses outs none_law more_law s again q next olds news logs founds stores n tables is_day begins many told_all back known dawn resolved m up j (tran_of x)
+      found_before laws d many m up j (tran_of x)
       (λ t k some within from named.
       let below = dawn.fresh m x up there t k some (let e = length-map olds (λ (t : Teller L). t.log) in omega (arith, within, e)) named in
       omega (arith, below, from))
@@ -152,16 +139,10 @@ module _ (L : Type 0) (state : L → LogState) (knows : L → Type 0) (loses : T
   -- ---- what is committed
 
   day_among : CommitsAmong (map (λ g. g.xid) all.legs) (history s m)
-  day_among k d lt commits = noted_commit q.records all.legs (get_or (history s m) k d).op (noted k d lt) commits
+  day_among k r lt commits = noted_commit q.records all.legs (get_or (history s m) k r).op (noted k r lt) commits
 
   next_first : first_of next m ≡ Some (reopened_at s.managers m)
   next_first = resolved.continues m (tables m) (begins.there m up)
-
-  -- an outcome of the night's resolve there is of a branch that was left
-  pub outcome_leg : (o : Outcome) → Contains q.outcomes o → o.m ≡ m → is_left (reopened_at s.managers m) o.xid ≡ true
-  outcome_leg o among own =
-      sym ((scan_of s next again q.scan resolved.of_setup resolved.scanned m (reopened_at s.managers m) next_first).each o.xid)
-      ∙ outcome_left q.scan q.records q.old q.new q.outcomes resolved.made.made m low (ledger (ledgers_of next q.thread) m) (resolved.made.grown.each m low.0) o among own
 
   abbrev IsAmong : Op → Type 0
   IsAmong op = is_commit op ≡ true → list_any (λ y. names y op) (map (λ (g : Leg). g.xid) all.legs) ≡ true
@@ -169,21 +150,14 @@ module _ (L : Type 0) (state : L → LogState) (knows : L → Type 0) (loses : T
   outcome_among : (o : Outcome) → Contains q.outcomes o → o.m ≡ m → (b : Bool) → b ≡ is_to_commit q.records m o.xid → IsAmong (outcome_op b o.xid)
   outcome_among o among own true is commits =
       named_leg all.legs o.xid (Commit o.xid false) (xid_self o.xid)
-      (left_leg o.xid (outcome_leg o among own) (no_mark (record_in q.records (tran_of o.xid)) m (sym is)))
+      (left_leg o.xid (outcome_was_left resolved m low (reopened_at s.managers m) next_first o among own) (no_mark (record_in q.records (tran_of o.xid)) m (sym is)))
   outcome_among o among own false is commits = cc
 
-  asks_among : (r : ResolveCall) → Contains (resolves q ∷ []) (resolves r) → (o : Outcome) → Contains r.outcomes o → Asks IsAmong r.records m o
-  asks_among r there o among =
-      let same : q ≡ r = only_one q r there in
-      subst (λ (p : ResolveCall). (o : Outcome) → Contains p.outcomes o → Asks IsAmong p.records m o) same
-      (λ p its. record { ends = λ own is. outcome_among p its own p.commit is; forgets = λ own is commits. cc }) o among
-
   night_among : CommitsAmong (map (λ g. g.xid) all.legs) (history next m)
-  night_among k d lt commits =
-      let op : Op = (get_or (history next m) k d).op in
-      let z = commits_one op commits in
-      named_so next resolved.settled m low IsAmong (tran_of z.branch) (resolves q ∷ []) (λ e. cc)
-      (All-cons (IsUseIn next) (resolves q) [] resolved.made (All-nil (IsUseIn next))) asks_among (resolved.only (tran_of z.branch) m) k d lt (named_tran z.branch op z.named) commits
+  night_among k r lt commits =
+      let z = commits_one (get_or (history next m) k r).op commits in
+      named_in_night resolved m low (reopened_at s.managers m) next_first IsAmong z.branch (λ e. cc)
+      (λ o among. record { ends = λ own is. outcome_among o among own o.commit is; forgets = λ own is commits. cc }) k r lt z.named commits
 
   settled_day : IsSettledDay ((j, 0) ∷ []) m (tables m) (day s) (night next q ∷ []) all.legs
   settled_day = record {
@@ -191,7 +165,7 @@ module _ (L : Type 0) (state : L → LogState) (knows : L → Type 0) (loses : T
     among =
         All-cons (CommitsAmong (map (λ (g : Leg). g.xid) all.legs)) (history s m) (history next m ∷ []) day_among
         (All-cons (CommitsAmong (map (λ (g : Leg). g.xid) all.legs)) (history next m) [] night_among (All-nil (CommitsAmong (map (λ (g : Leg). g.xid) all.legs))));
-    each = all.outs_;
+    each = all.outs;
   }
 
   pub day_law : is_declared (tables m) j ≡ true → balances_at next m j ≡ all_applied (all_told founds news) (balances_of tables) m j

@@ -1,6 +1,6 @@
 -- An opening of a plan in which nobody does anything: each store is left with what it opened with.
-use Rattle.xa_base.proofs.{◌≡◌, ℕ, ◌+◌, ◌-◌, ◌<◌, ◌≤◌, ⊎_elim, List, [], ◌∷◌, ◌++◌, append-nil, length, map, Option, Some, inl, inr, sym, refl, ap, ◌∙◌, subst}
-use Rattle.xa_base.proofs.{arith, ◌==◌, Contains, range_with_len, cases_lt, eqb-true, All-contains, length-range_with_len, get_or-range_with_len, got, got_map}
+use Rattle.xa_base.proofs.{◌≡◌, ℕ, ◌+◌, ◌-◌, ◌<◌, ◌≤◌, List, [], ◌∷◌, ◌++◌, append-nil, length, map, Option, Some, sym, refl, ap, ◌∙◌, subst}
+use Rattle.xa_base.proofs.{arith, ◌==◌, Contains, range_with_len, eqb-true, All-contains, length-range_with_len, get_or-range_with_len, got, got_map}
 use Rattle.std.proofs.lemmas.List.Sorted.{IsPermutation-sym, Contains-permutation}
 use Rattle.xa_base.specs.{IsUpTo}
 use Rattle.xa_words.specs.{Op}
@@ -18,7 +18,7 @@ use Rattle.xa_switch.proofs.Journaled.{begun}
 use Rattle.xa_switch.proofs.Lists.{contains_map, found}
 use Rattle.xa_atomicity.proofs.Settled.{by_ledger}
 use Rattle.xa_crew.specs.{Attended, IsRun}
-use Rattle.xa_bank.proofs.Members.{member_at, nobody_else}
+use Rattle.xa_bank.proofs.Members.{member_at, nobody_else, of_threads}
 use Rattle.xa_bank_days.proofs.Nightly.{never_none}
 
 -- a history without a request of any thread
@@ -44,14 +44,8 @@ module _ {C : Type 0} (p : Plan) (clients : List C) (attended : List (Attended C
 
   nothing : (t m : ℕ) → 1 ≤ m → sent s t m ≡ []
   nothing t m positive =
-      ⊎_elim (λ (zero_ : t < 1). nobody_else Idles (planned p) clients attended s r t (inl zero_) m)
-      (λ (there : 1 ≤ t).
-      ⊎_elim (λ (past : p.threads < t). nobody_else Idles (planned p) clients attended s r t (inr past) m)
-      (λ (below : t ≤ p.threads).
-      let number : t - 1 + 1 ≡ t = omega (arith, there) in
-      subst (λ u. sent s u m ≡ []) number (nothing_at (t - 1) m (omega (arith, there, below)) positive))
-      (cases_lt p.threads t))
-      (cases_lt t 1)
+      of_threads (λ u. sent s u m ≡ []) p.threads (λ u outside. nobody_else Idles (planned p) clients attended s r u outside m)
+      (λ k below. nothing_at k m below positive) t
 
   untouched : (m : ℕ) → 1 ≤ m → history s m ≡ []
   untouched m positive = no_requests (history s m) (λ t. (r.agrees.agree t m).carried ∙ ap (numbered t 0) (nothing t m positive))

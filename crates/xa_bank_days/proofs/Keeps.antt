@@ -2,24 +2,26 @@
 use Rattle.xa_base.proofs.{pos, if◌then◌else◌, ◌≡◌, ℕ, zero, suc, ◌+◌, ◌^◌, ◌<◌, ◌≤◌, ◌⊎◌, ⊎_elim, true, false, List, [], ◌∷◌, length, sym, refl, ap, ◌∙◌}
 use Rattle.xa_base.proofs.{subst, arith, inl, inr, eq_by_cmp, is_eq, tied_itself, cases_lt, is_equal}
 use Rattle.xa_words.specs.{TranName, tran_of}
+use Rattle.xa_words.specs.declared.code.Code.{Code}
 use Rattle.xa_desk.specs.DeskView.{DeskView}
 use Rattle.xa_log.specs.{LogState, record_of, tran_cmp}
 use Rattle.xa_atomicity.specs.{is_recorded}
 use Rattle.xa_log.proofs.Transactions.{tran_cmp_total, tran_cmp-IsAntisymmetric}
 use Rattle.xa_work.specs.{WorkOutcome, IfLost, is_last}
 use Rattle.xa_work.specs.Units.Transacts.{commits, refused}
-use Rattle.xa_bank.specs.{Habits, Transfer, death_in, Makes, MakesEach, branches_of, forgotten, gtrid_of, with_legs, without_legs}
-use Rattle.xa_bank.proofs.Named.{legs_are, one_transfer}
+use Rattle.xa_bank.specs.{Habits, Transfer, is_undecided, death_in, Makes, MakesEach, branches_of, forgotten, gtrid_of, with_legs, without_legs}
+use Rattle.xa_bank.proofs.Named.{legs_are, none_made, one_transfer}
 use Rattle.xa_bank.proofs.LostRecords.{if_both, if_so, none_lost}
 use Rattle.xa_bank_days.specs.{IsNamed}
 use Rattle.xa_bank_days.proofs.Come.{IsReadSo, has_come}
 
 -- ---- numbers
 
--- a transaction is of one transfer of the thread
-pub one_number : (t n k : ℕ) (gtrid : List ℕ) → t < 2 ^ 32 → IsNamed t n gtrid → IsNamed t k gtrid → k ≡ n
-one_number t n k gtrid low one two =
-    (one_transfer t n t k (record { format = pos 0; gtrid = gtrid; bqual = [] }) low low (record { small = one.small; gtrid = one.gtrid_ }) (record { small = two.small; gtrid = two.gtrid_ })).1
+-- a transaction is of one transfer of one thread
+pub named_once : (t u n k : ℕ) (gtrid : List ℕ) → t < 2 ^ 32 → u < 2 ^ 32 → IsNamed t n gtrid → IsNamed u k gtrid → (u ≡ t) × (k ≡ n)
+named_once t u n k gtrid low high one two =
+    one_transfer t n u k (record { format = pos 0; gtrid = gtrid; bqual = [] }) low high (record { small = one.small; gtrid = one.gtrid_ })
+    (record { small = two.small; gtrid = two.gtrid_ })
 
 -- it is of a transfer or not
 named_or_not : (t n : ℕ) (tran : TranName) → IsNamed t n tran.gtrid ⊎ (IsNamed t n tran.gtrid → ⊥)
@@ -70,13 +72,9 @@ pub left_is : (habits : Habits) (o : WorkOutcome) → habits.forgets ≡ false �
     → later ≡ (if habits.forgets then forgotten tran o left else left) → later ≡ left
 left_is habits o keeps tran left later kept = kept ∙ ap (λ b. if b then forgotten tran o left else left) keeps
 
--- where nobody knows of a transfer whether its record was made, the log is read so after it
-abbrev pub Reads : (LogState → Type 0) → WorkOutcome → LogState → Type 0
-Reads R o later = IfLost (λ votes. R later) o
-
 module _ (R : LogState → Type 0) (t n : ℕ) (tr : Transfer) (habits : Habits) (o : WorkOutcome) (keeps : habits.forgets ≡ false) where
   -- the records of other transactions stay
-  pub makes_keeps : (old new : DeskView) (log later : LogState) → Makes t n tr habits o old new log later R → Reads R o later
+  pub makes_keeps : (old new : DeskView) (log later : LogState) → Makes t n tr habits o old new log later R → IfLost (λ votes. R later) o
       → (tran : TranName) → (IsNamed t n tran.gtrid → ⊥) → record_of later tran ≡ record_of log tran
   makes_keeps old new log later (with_legs one two left legs (commits worked begins known_ work comes) kept read) may tran other =
       let of_one = (legs_are t n tr one two legs).first in
@@ -101,31 +99,30 @@ rest_known o [] h = tt
 rest_known o (p ∷ os) h = h.1
 
 module _ (R : LogState → Type 0) (t : ℕ) (habits : Habits) (keeps : habits.forgets ≡ false) where
-  -- so the log is read so after each
-  pub reads_each : (n : ℕ) (trs : List Transfer) (o : WorkOutcome) (os : List WorkOutcome) (mid new : DeskView) (now later : LogState)
-      → MakesEach t habits n trs os mid new now later R → AreKnown (o ∷ os) → R later → Reads R o now
-  reads_each n [] o [] mid new now later (same, unlogged) known may = if_so (λ votes. R now) o (λ votes. subst R unlogged may)
-  reads_each n (tr ∷ trs) o [] mid new now later (same, unlogged) known may = if_so (λ votes. R now) o (λ votes. subst R unlogged may)
-  reads_each n trs o (p ∷ os) mid new now later h known may = none_lost (λ votes. R now) o known.0
+  -- where nobody knows of a transfer whether its record was made, no other was made after it
+  pub lost_last : (P : List Code → Type 0) (n : ℕ) (trs : List Transfer) (o : WorkOutcome) (os : List WorkOutcome) (mid new : DeskView) (now later : LogState)
+      → MakesEach t habits n trs os mid new now later R → AreKnown (o ∷ os)
+      → (os ≡ [] → later ≡ now → is_undecided o ≡ true → (votes : List Code) → P votes) → IfLost P o
+  lost_last P n trs o [] mid new now later h known so = if_so P o (so refl (none_made R t habits n trs mid new now later h).1)
+  lost_last P n trs o (p ∷ os) mid new now later h known so = none_lost P o known.0
 
   -- the records of other transactions than these transfers' stay
   pub each_keeps : (n : ℕ) (trs : List Transfer) (os : List WorkOutcome) (old new : DeskView) (log later : LogState)
       → MakesEach t habits n trs os old new log later R
       → AreKnown os → R later → (tran : TranName) → ((k : ℕ) → n ≤ k → k < n + length os → IsNamed t k tran.gtrid → ⊥)
       → record_of later tran ≡ record_of log tran
-  each_keeps n [] [] old new log later (same, unlogged) known may tran others = ap (λ (l : LogState). record_of l tran) unlogged
-  each_keeps n (tr ∷ trs) [] old new log later (same, unlogged) known may tran others = ap (λ (l : LogState). record_of l tran) unlogged
+  each_keeps n trs [] old new log later h known may tran others =
+      ap (λ (l : LogState). record_of l tran) (none_made R t habits n trs old new log later h).1
   each_keeps n (tr ∷ trs) (o ∷ os) old new log later (mid, now, makes, rest) known may tran others =
       each_keeps (n + 1) trs os mid new now later rest (rest_known o os known) may tran (λ k from below. others k (omega (arith, from)) (omega (arith, below)))
       ∙ makes_keeps R t n tr habits o keeps
-      makes.shut mid log now makes.makes (reads_each (n + 1) trs o os mid new now later rest known may) tran (others n (omega arith) (omega arith))
+      makes.shut mid log now makes.makes (lost_last (λ votes. R now) (n + 1) trs o os mid new now later rest known (λ _ unlogged _ votes. subst R unlogged may)) tran (others n (omega arith) (omega arith))
   each_keeps n [] (o ∷ os) old new log later h known may tran others = absurd h
 
   -- no more were made than there are
   pub made_most : (n : ℕ) (trs : List Transfer) (os : List WorkOutcome) (old new : DeskView) (log later : LogState)
       → MakesEach t habits n trs os old new log later R
       → length os ≤ length trs
-  made_most n [] [] old new log later h = omega arith
-  made_most n (tr ∷ trs) [] old new log later h = omega arith
+  made_most n trs [] old new log later h = omega arith
   made_most n (tr ∷ trs) (o ∷ os) old new log later (mid, now, makes, rest) = let z = made_most (n + 1) trs os mid new now later rest in omega (arith, z)
   made_most n [] (o ∷ os) old new log later h = absurd h

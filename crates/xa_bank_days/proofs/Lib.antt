@@ -1,4 +1,3 @@
-pub mod Obeyed
 pub mod Fewer
 pub mod OneLeg
 pub mod Come

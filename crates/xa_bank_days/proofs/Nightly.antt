@@ -1,6 +1,6 @@
 -- The one client of a night resolves what was left, and nothing else was done in its opening.
 use Rattle.xa_base.proofs.{Err, IfOk, Ok, Result, ◌≡◌, ◌≢◌, ℕ, zero, suc, ◌+◌, ◌<◌, ◌≤◌, ◌⊎◌, ⊎_elim, true, false, Some, List, [], ◌∷◌, ◌++◌, length}
-use Rattle.xa_base.proofs.{length-append, map, get_or, slice_get, inl, inr, append-nil, sym, refl, ap, ◌∙◌, subst, arith, All, cases_eq, cases_lt, length-map}
+use Rattle.xa_base.proofs.{length-append, map, get_or, slice_get, inl, inr, append-nil, sym, refl, ap, ◌∙◌, subst, arith, All, cases_eq, cases_lt}
 use Rattle.xa_base.proofs.{All-nil, All-head, All-contains, same_Some as some_same, all_at, got_map}
 use Rattle.std.specs.Prelude.{IfErr}
 use Rattle.std.proofs.lemmas.List.Elements.{Contains-get_or}
@@ -23,11 +23,12 @@ use Rattle.xa_atomicity.proofs.Requests.{all_earlier, own_all}
 use Rattle.xa_atomicity.proofs.Resolves.{outcome_at, resolve_sends}
 use Rattle.xa_atomicity.proofs.Settled.{by_ledger}
 use Rattle.xa_atomicity.proofs.Voting.{learnt_on}
-use Rattle.xa_crew.specs.{WithScan, Attended, IsRunAgain, WorksWithScan, Member}
+use Rattle.xa_crew.specs.{WithScan, Attended, IsRunAgain, WorksWithScan}
 use Rattle.xa_work.specs.{HasSent}
 use Rattle.xa_bank.specs.{Teller}
 use Rattle.xa_bank.proofs.Members.{MemberAt, Never, member_at, nobody_else}
 use Rattle.xa_bank_days.specs.{Resolver, IsResolvedBy, records_of, Unresolved, Excuses, HasRoomToResolve, IsNight, IsUntouched, ResolvesBy, unused}
+use Rattle.xa_bank_days.proofs.DayWorked.{many_attended}
 use Rattle.xa_bank_days.proofs.ManyDays.{if_err}
 use Rattle.xa_bank_days.proofs.Rooms.{left_on, room_to_resolve}
 use Rattle.xa_bank_days.proofs.Reached.{InNight, IsReached, all_reached, answered_open, ends_in_night, none_shut}
@@ -178,10 +179,7 @@ module _ {L : Type 0} (state : L → LogState) (knows : L → Type 0) (s : Settl
     }
 
     many : length attended ≡ 1
-    many =
-        ap (λ (l : List (Attended (WithScan (Resolver L)))). length l) z.run.attended_are
-        ∙ length-map z.run.members (λ (t : Member (WithScan (Resolver L))). t.attended)
-        ∙ sym (length-map z.run.members (λ (t : Member (WithScan (Resolver L))). t.desk)) ∙ z.run.opened.threads ∙ one
+    many = many_attended (ResolvesBy state knows) s again (r ∷ []) attended next z ∙ one
 
     module _ (a : Attended (WithScan (Resolver L))) (front : List (Attended (WithScan (Resolver L)))) (is : attended ≡ front ++ a ∷ []) where
       it : at.member.attended ≡ a

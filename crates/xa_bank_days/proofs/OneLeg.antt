@@ -2,9 +2,8 @@
 -- asked to prepare, and that it isn't read only.
 use Rattle.xa_base.proofs.{pos, if◌then◌else◌, ◌&&◌, ◌≡◌, ◌≢◌, ℕ, suc, ◌+◌, ◌^◌, ◌<◌, ◌≤◌, ⊎_elim, true, false, ◌==◌, cond, List, [], ◌∷◌, ◌++◌, length}
 use Rattle.xa_base.proofs.{length-append, append_assoc, get_or, slice_get, sym, refl, ap, ◌∙◌, subst, arith, Option, None, Some, option_map, All, Contains}
-use Rattle.xa_base.proofs.{cases_lt, eqb-false, All-nil, All-cons, All-head, All-tail, All-contains, all_right, begins_on}
-use Rattle.xa_base.specs.{Begins}
-use Rattle.xa_words.specs.{XidName, key_eq, Done, RdOnly, Op, Start, Add, End, Prepare, Fresh, Success, Request}
+use Rattle.xa_base.proofs.{cases_lt, eqb-false, All-nil, All-cons, All-head, All-tail, All-contains, begins_on}
+use Rattle.xa_words.specs.{XidName, key_eq, RdOnly, Op, Start, Add, End, Prepare, Fresh, Success, Request}
 use Rattle.xa_words.specs.declared.code.Code.{Code}
 use Rattle.xa_tables.specs.Tables.{Tables}
 use Rattle.xa_tables.specs.{next, of_thread, tables_after, coded, names, is_heur, DoesWork, held_by}
@@ -29,8 +28,8 @@ use Rattle.xa_work.specs.{HasSent}
 use Rattle.xa_bank.proofs.Named.{IsOf, Names, Is, IsFrom}
 use Rattle.xa_bank.proofs.Told.{IsBelow, IsTold, NamedWithin, named_within}
 use Rattle.xa_bank.proofs.Legs.{AnyLeg, LegWorked, leg_work}
-use Rattle.xa_bank.proofs.Adds.{work_done}
-use Rattle.xa_bank_days.proofs.Obeyed.{Obeys}
+use Rattle.xa_bank.proofs.Adds.{work_answered, work_done}
+use Rattle.xa_bank_days.proofs.Come.{Obeys}
 
 -- ---- what was taken before a request of the thread
 
@@ -65,10 +64,21 @@ begins (Some p) took = (p.first, refl)
 
 -- ---- the leg
 
-module _ (s : Settling) (settled : IsSettled s) (told : (u : ℕ) → IsTold s u) (t n : ℕ) (low : t < 2 ^ 32) (leg : AnyLeg) (account : List ℕ)
-    (of_it : IsOf t n leg.branch.xid) (positive : 1 ≤ leg.branch.m) (a0 a1 a2 : LedgerView) (its : LegWorked leg account a0 a1)
-    (obeyed : HasSent (Obeys leg.branch.xid) a1 a2) (segment : HasSent (Names t (Is n)) a0 a2)
-    (rest : HasSent (Names t (IsFrom (n + 1))) a2 (ledger (ledgers_of s t) leg.branch.m)) (earlier : All (Names t (IsBelow n)) a0.sent) where
+-- A leg of thread t's transfer of number n: its work took its store's ledger to a1, and its commit took that to a2. What the
+-- thread sent before is of its earlier transfers, and what it sent after it of later ones.
+pub record LegAt (s : Settling) (t n : ℕ) (account : List ℕ) (leg : AnyLeg) (a0 a1 a2 : LedgerView) : Type 0 where
+  pub of_it : IsOf t n leg.branch.xid
+  pub positive : 1 ≤ leg.branch.m
+  pub its : LegWorked leg account a0 a1
+  pub obeyed : HasSent (Obeys leg.branch.xid) a1 a2
+  pub segment : HasSent (Names t (Is n)) a0 a2
+  pub rest : HasSent (Names t (IsFrom (n + 1))) a2 (ledger (ledgers_of s t) leg.branch.m)
+  pub earlier : All (Names t (IsBelow n)) a0.sent
+
+module _ {s : Settling} (settled : IsSettled s) (told : (u : ℕ) → IsTold s u) {t n : ℕ} (low : t < 2 ^ 32) {account : List ℕ} {leg : AnyLeg}
+    {a0 a1 a2 : LedgerView} (here : LegAt s t n account leg a0 a1 a2) where
+  open here use {of_it, positive, its, obeyed, segment, rest, earlier}
+
   abbrev m : ℕ
   m = leg.branch.m
 
@@ -180,24 +190,12 @@ module _ (s : Settling) (settled : IsSettled s) (told : (u : ℕ) → IsTold s u
     all_answered : All IsAnswer final.collected
     all_answered = subst (All IsAnswer) (by_ledger (ledgers_of s t) m (λ (a : LedgerView). a.collected) positive refl) (settled.agree t m).coded
 
-    since : Begins a1.collected final.collected
-    since = begins_on a1.collected a2.collected final.collected obeyed.collected rest.collected
-
-    answered : All IsAnswer ((length a0.sent, Done) ∷ (length a0.sent + 1, Done) ∷ (length a0.sent + 2, Done) ∷ since.0)
-    answered =
-        all_right IsAnswer a0.collected ((length a0.sent, Done) ∷ (length a0.sent + 1, Done) ∷ (length a0.sent + 2, Done) ∷ since.0)
-        (subst (All IsAnswer)
-        (since.1 ∙ ap (λ l. l ++ since.0) its.collected
-        ∙ append_assoc a0.collected ((length a0.sent, Done) ∷ (length a0.sent + 1, Done) ∷ (length a0.sent + 2, Done) ∷ []) since.0)
-        all_answered)
-
     work : DoesWork t (length a0.sent) x account leg.delta T (taken_before t (length a1.sent) H)
     work =
+        let answered =
+        work_answered s settled t m positive leg account a0 a1 its (begins_on a1.collected a2.collected final.collected obeyed.collected rest.collected) in
         work_done s settled t m (length a2.sent) T with_T x account leg.delta a0.sent (obeyed.more ++ rest.more) (length a1.sent) size1
-        (after_work ∙ sym (append_assoc a0.sent W (obeyed.more ++ rest.more))) named
-        (All-head IsAnswer (length a0.sent, Done) ((length a0.sent + 1, Done) ∷ (length a0.sent + 2, Done) ∷ since.0) answered)
-        (All-head IsAnswer (length a0.sent + 1, Done) ((length a0.sent + 2, Done) ∷ since.0)
-        (All-tail IsAnswer (length a0.sent, Done) ((length a0.sent + 1, Done) ∷ (length a0.sent + 2, Done) ∷ since.0) answered))
+        (after_work ∙ sym (append_assoc a0.sent W (obeyed.more ++ rest.more))) named answered.0 answered.1
 
     pub held : (j : List ℕ) (v : ℕ)
         → held_by ((j, v) ∷ []) x (tables_after (taken_before t (length a1.sent) H) T) ≡ (if key_eq j account then leg.delta else pos 0)

@@ -1,12 +1,12 @@
 -- The room of a night's desk for what it takes to resolve, and why nothing was resolved.
 use Rattle.std.specs.Prelude.{IfErr}
 use Rattle.xa_base.proofs.{Ok, Err, Result, nat_lt, ◌≡◌, ℕ, zero, suc, ◌-◌, ◌<◌, ◌≤◌, ◌==◌, ◌||◌, ⊎_elim, Bool, List, [], ◌∷◌, length, sym, refl, ap, ◌∙◌}
-use Rattle.xa_base.proofs.{subst, arith, slice_index_or, cases_lt, ne_eqb, or_from, at_false}
+use Rattle.xa_base.proofs.{subst, arith, slice_index_or, cases_lt, ne_eqb, or_from, at_false, length-map}
 use Rattle.std.proofs.lemmas.Bool.{le-ltb}
 use Rattle.xa_base.specs.{IsUpTo}
 use Rattle.xa_words.specs.{XidName}
 use Rattle.xa_desk.specs.LedgerView.{LedgerView}
-use Rattle.xa_desk.specs.{new_ledgers, ledger, no_ledger, room_at}
+use Rattle.xa_desk.specs.{new_ledger, new_ledgers, ledger, no_ledger, room_at}
 use Rattle.xa_desk.specs.DeskView.{DeskView}
 use Rattle.xa_desk.proofs.Fresh.{fresh_sent}
 use Rattle.xa_switch.specs.declared.plan.Again.{Again}
@@ -22,15 +22,11 @@ fresh_plan n [] i low = absurd (omega (arith, low))
 fresh_plan n (b ∷ flags) zero low = refl
 fresh_plan n (b ∷ flags) (suc i) low = fresh_plan n flags i (omega (arith, low))
 
-many_ledgers : (n : ℕ) (flags : List Bool) → length (new_ledgers n flags) ≡ length flags
-many_ledgers n [] = refl
-many_ledgers n (b ∷ flags) = ap suc (many_ledgers n flags)
-
 fresh_room : (n : ℕ) (flags : List Bool) (m : ℕ) → IsUpTo (length flags) m → room_at (new_ledgers n flags) m ≡ n
 fresh_room n flags zero up = let low = up.0 in absurd (omega (arith, low))
 fresh_room n flags (suc i) up =
     let high = up.1 in
-    let many = many_ledgers n flags in
+    let many = length-map flags (λ carries. new_ledger carries n) in
     let at : List LedgerView = new_ledgers n flags in
     let plan : (ledger at (suc i)).plan ≡ n = fresh_plan n flags (suc i - 1) (omega (arith, high)) in
     let none : length (ledger at (suc i)).sent ≡ 0 = ap (λ l. length l) (fresh_sent n flags (suc i - 1)) in

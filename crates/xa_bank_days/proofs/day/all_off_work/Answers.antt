@@ -1,10 +1,10 @@
-use Rattle.xa_base.proofs.{rules, ◌≡◌, ℕ, ◌+◌, Bool, List, [], ◌∷◌, ◌++◌, length, length-append, map, append_assoc, append-nil, sym, ap, ◌∙◌, subst, arith}
-use Rattle.xa_base.proofs.{length-map, map-append, into_iter_items, into_iter_len, none_of}
+use Rattle.xa_base.proofs.{rules, ◌≡◌, ℕ, ◌+◌, Bool, List, [], ◌∷◌, ◌++◌, length, length-append, map, append_assoc, sym, ap, ◌∙◌, subst, arith}
+use Rattle.xa_base.proofs.{length-map, map-append, into_iter_items, into_iter_len}
 use Rattle.xa_crew.specs.{WithScan, Attended}
 use Rattle.xa_bank.specs.{Teller, ReadsBack}
 use Rattle.xa_bank_days.specs.{ForEach}
 use Rattle.xa_bank_days.proofs.Back.{one_back_more}
-use Rattle.xa_bank_days.proofs.Turned.{one_fewer}
+use Rattle.xa_bank_days.proofs.Turned.{all_taken, one_fewer}
 use Rattle.xa_bank_days.proofs.day.all_off_work.Goals as goal
 
 pub loop-attended-preserved : goal.loop-attended-preserved
@@ -58,11 +58,9 @@ loop-attended-preserved g c =
 pub returns : goal.returns
 returns g c =
     let i = c.loop-attended.invariant in
-    let none : into_iter_items c.loop-attended.attended-iterator ≡ [] =
-    none_of (into_iter_items c.loop-attended.attended-iterator) (sym i.all_counted ∙ c.in-None.ensures.steps.0) in
-    let whole : c.loop-attended.yielded ≡ c.args.clients.items =
-    sym (append-nil c.loop-attended.yielded) ∙ ap (λ (l : List (Attended (WithScan (Teller g.row.L.Denot)))). c.loop-attended.yielded ++ l) (sym none)
-    ∙ i.so_far in
+    let whole =
+    all_taken c.loop-attended.yielded (into_iter_items c.loop-attended.attended-iterator) c.args.clients.items (into_iter_len c.loop-attended.attended-iterator) i.so_far
+    i.all_counted c.in-None.ensures.steps.0 in
     record {
       logs =
           subst (λ (l : List (Attended (WithScan (Teller g.row.L.Denot)))). ForEach (ReadsBack g.L.DecisionLog.state g.L.DecisionRecords.knows g.L.DecisionLog.loses g.L.ReopenLog.reopens) 1

@@ -1,10 +1,10 @@
-use Rattle.xa_base.proofs.{Err, IfOk, Ok, Result, ◌≡◌, Bool, true, false, if◌then◌else◌, sym, ap, ◌∙◌, refl, subst, All}
+use Rattle.xa_base.proofs.{Err, Ok, Result, ◌≡◌, Bool, true, false, if◌then◌else◌, sym, ap, ◌∙◌, refl, subst, All}
 use Rattle.std.specs.Prelude.{IfErr}
 use Rattle.xa_switch.specs.declared.plan.Again.{Again}
 use Rattle.xa_switch.specs.{MayReopen}
 use Rattle.xa_driver.specs.{Resolved}
-use Rattle.xa_bank_days.specs.{Unresolved, BadNumbers, NoMemory, NoRoom, TellerWantsMemory, UnknownLog, next_numbers, Excuses, HasRoomToResolve, IsNight}
-use Rattle.xa_bank_days.specs.{IsUnsettledNight, IsUntouched, unopened}
+use Rattle.xa_bank_days.specs.{Unresolved, BadNumbers, TellerWantsMemory, next_numbers, Excuses, HasRoomToResolve, IsNight}
+use Rattle.xa_bank_days.specs.{IsUntouched, unopened}
 use Rattle.xa_bank_days.proofs.DayWorked.{same_stores}
 use Rattle.xa_bank_days.proofs.ManyDays.{if_ok}
 use Rattle.xa_bank_days.proofs.day.pass_night.Goals as goal
@@ -28,10 +28,8 @@ not_wanting wants doesnt = let z : true ≡ false = sym wants ∙ doesnt in cc
 -- why a night resolved nothing is why nothing was resolved of its day
 day_excuse : {Good : Type 0} (Wants Known Room : Type 0) → Good → (why : Unresolved) → Excuses ⊥ Known Room Good why → Excuses Wants Known Room (Unit {0}) why
 day_excuse Wants Known Room good TellerWantsMemory e = absurd e
-day_excuse Wants Known Room good UnknownLog e = e
-day_excuse Wants Known Room good NoRoom e = e
 day_excuse Wants Known Room good BadNumbers e = absurd (e good)
-day_excuse Wants Known Room good NoMemory e = tt
+day_excuse Wants Known Room good why e = e
 
 -- two facts of an error
 err_each : {P Q S : Unresolved → Type 0} (r : Result Resolved Unresolved) → ((e : Unresolved) → P e → Q e → S e) → IfErr r P → IfErr r Q → IfErr r S

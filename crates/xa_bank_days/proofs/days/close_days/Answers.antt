@@ -1,10 +1,10 @@
 use Rattle.std.specs.Prelude.{IsTrue}
-use Rattle.xa_base.proofs.{◌≡◌, true, false, List, Vec, [], ◌∷◌, ◌++◌, append_assoc, append-nil, sym, ap, ◌∙◌, subst, rules, arith, refl, Global}
-use Rattle.xa_base.proofs.{into_iter_items, into_iter_len, none_of}
+use Rattle.xa_base.proofs.{◌≡◌, true, false, List, Vec, [], ◌∷◌, ◌++◌, append_assoc, sym, ap, ◌∙◌, subst, rules, arith, refl, Global}
+use Rattle.xa_base.proofs.{into_iter_items, into_iter_len}
 use Rattle.std.proofs.lemmas.Grind.{common_steps}
 use Rattle.xa_bank_days.specs.{Closed, Errands, early, whole, at_day, at_once, AreClosed}
 use Rattle.xa_bank_days.proofs.ManyDays.{closed_day, one_day_more}
-use Rattle.xa_bank_days.proofs.Turned.{one_fewer}
+use Rattle.xa_bank_days.proofs.Turned.{all_taken, one_fewer}
 use Rattle.xa_bank_days.proofs.days.close_days.Goals as goal
 
 pub loop-errands-preserved : goal.loop-errands-preserved
@@ -46,10 +46,9 @@ returns-in-Err-clause-stopped g c =
 pub returns-clause-ended : goal.returns-clause-ended
 returns-clause-ended g c =
     let i = c.loop-errands.invariant in
-    let none : into_iter_items c.loop-errands.errands-iterator ≡ [] =
-    none_of (into_iter_items c.loop-errands.errands-iterator) (sym i.all_counted ∙ c.in-None.ensures.steps.0) in
-    let all : c.loop-errands.yielded ≡ c.args.days.items =
-    sym (append-nil c.loop-errands.yielded) ∙ ap (λ (l : List (Vec Errands Global)). c.loop-errands.yielded ++ l) (sym none) ∙ i.so_far in
+    let all =
+    all_taken c.loop-errands.yielded (into_iter_items c.loop-errands.errands-iterator) c.args.days.items (into_iter_len c.loop-errands.errands-iterator) i.so_far i.all_counted
+    c.in-None.ensures.steps.0 in
     whole (subst (λ (l : List (Vec Errands Global)). AreClosed g.L.DecisionLog.state g.L.DecisionRecords.knows g.L.DecisionLog.loses g.L.ReopenLog.reopens c.args.bank l c.loop-errands.closed.items c.loop-errands.bank) all i.closed)
 
 pub returns-in_default-clause-stopped : goal.returns-in_default-clause-stopped

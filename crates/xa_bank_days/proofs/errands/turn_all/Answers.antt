@@ -3,7 +3,7 @@ use Rattle.xa_base.proofs.{All-nil, All-cons, All-append, into_iter_items, into_
 use Rattle.std.proofs.lemmas.Grind.{common_steps}
 use Rattle.xa_bank.specs.{Teller}
 use Rattle.xa_bank_days.specs.{Errands, habits_on}
-use Rattle.xa_bank_days.proofs.Turned.{moved_map, one_fewer, pushed_map}
+use Rattle.xa_bank_days.proofs.Turned.{all_taken, moved_map, one_fewer, pushed_map}
 use Rattle.xa_bank_days.proofs.errands.turn_all.Goals as goal
 
 one_less : (y e n : ℕ) (rest more : List Errands) (x : Errands) → y + length rest ≡ n → rest ≡ x ∷ more → e ≡ y + 1 → e + length more ≡ n
@@ -35,10 +35,9 @@ loop-teller-preserved g c =
 pub returns : goal.returns
 returns g c =
     let i = c.loop-teller.invariant in
-    let none : into_iter_items c.loop-teller.teller-iterator ≡ [] =
-    none_of (into_iter_items c.loop-teller.teller-iterator) (sym i.all_counted ∙ c.in-None.ensures.steps.0) in
-    let whole : c.loop-teller.yielded ≡ c.args.tellers.items =
-    sym (append-nil c.loop-teller.yielded) ∙ ap (λ (l : List (Teller g.row.L.Denot)). c.loop-teller.yielded ++ l) (sym none) ∙ i.so_far in
+    let whole =
+    all_taken c.loop-teller.yielded (into_iter_items c.loop-teller.teller-iterator) c.args.tellers.items (into_iter_len c.loop-teller.teller-iterator) i.so_far i.all_counted
+    c.in-None.ensures.steps.0 in
     let many = ap (λ (l : List (Teller g.row.L.Denot)). length l) whole in
     let rest : into_iter_items c.loop-teller.errands ≡ [] =
     none_of (into_iter_items c.loop-teller.errands) (let a = c.requires.as_many in let b = i.left in omega (arith, many, a, b)) in

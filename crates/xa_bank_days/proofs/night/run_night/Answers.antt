@@ -1,8 +1,7 @@
-use Rattle.xa_base.proofs.{Err, IfOk, Result, ◌≡◌, List, [], ◌∷◌, ◌++◌, subst, sym, ap, ◌∙◌, refl, All}
+use Rattle.xa_base.proofs.{Err, Result, ◌≡◌, List, [], ◌∷◌, ◌++◌, subst, ap, ◌∙◌, refl}
 use Rattle.std.specs.Prelude.{IfErr}
 use Rattle.xa_crew.specs.{AgainFault, Unsettled, WithScan, Ran, HasRunAgain, IfUnsettled, IsRunAgain}
-use Rattle.xa_switch.specs.{MayReopen}
-use Rattle.xa_bank_days.specs.{Resolver, NoMemory, Excuses, HasRoomToResolve, IsNight, ResolvesBy}
+use Rattle.xa_bank_days.specs.{Resolver, NoMemory, ResolvesBy}
 use Rattle.xa_bank_days.proofs.Nightly.{left_law, night_law, tellers_law, untouched_law}
 use Rattle.xa_bank_days.proofs.night.run_night.Goals as goal
 

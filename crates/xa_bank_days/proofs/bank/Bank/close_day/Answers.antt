@@ -1,7 +1,7 @@
 use Rattle.xa_base.proofs.{◌≡◌, ℕ, true, Vec, ap, refl, sym, subst, arith, List, length, ◌∙◌, Global, All}
 use Rattle.xa_switch.specs.declared.plan.Again.{Again}
 use Rattle.xa_bank.specs.{Teller}
-use Rattle.xa_bank_days.specs.{Bank, Errands, HasRoom, day_numbers, next_numbers, night_numbers, Excuses, HasPassed, HasRoomToResolve, IsNight}
+use Rattle.xa_bank_days.specs.{Bank, Closed, Errands, HasRoom, next_numbers, night_numbers, Excuses, HasPassed, HasRoomToResolve, IsNight}
 use Rattle.xa_bank_days.specs.{IsUnsettledNight}
 use Rattle.xa_bank_days.proofs.DayWorked.{is_day_of, same_length, worked_day}
 use Rattle.xa_bank_days.proofs.ManyDays.{if_err, if_ok}
@@ -26,47 +26,36 @@ work_day-requires-clause-room g c κs within =
 pub numbers_are : {many threads : ℕ} (first day : Again) → threads ≡ many → day ≡ next_numbers first threads → day ≡ next_numbers first many
 numbers_are first day e of_day = of_day ∙ ap (next_numbers first) e
 
-abbrev pub returns-in-Ok-pass_night-clause-worked : goal.returns-in-Ok-pass_night-clause-worked
-returns-in-Ok-pass_night-clause-worked g c =
-    let day = c.in-Ok-work_day.day in
-    let passed = c.in-Ok-pass_night.ensures.passed in
-    let many = c.in-Some.ensures.threads ∙ ap (λ (l : List Errands). length l) c.deref.ensures.value in
-    let numbers = numbers_are c.args.self.again c.next_numbers-again.result many c.next_numbers-again.ensures.numbers in
-    let at =
-    subst (λ (q : Again). HasPassed g.L.DecisionLog.state g.L.DecisionRecords.knows day.settled q (next_numbers q 1) day.evening.tellers day.wanting c.in-Ok-pass_night.again c.in-Ok-pass_night.night) numbers passed in
-    worked_day g.L.DecisionLog.state g.L.DecisionRecords.knows g.L.DecisionLog.loses g.L.ReopenLog.reopens c.args.self _ c.args.errands.items _ c.turn_all-tellers.result.items day c.deref.ensures.value
-    c.turn_all-tellers.ensures c.in-Some.ensures.few c.in-Ok-work_day.ensures.worked refl refl _ at.stays at.numbers at.tellers_ c.in-Some.ensures.later c.in-Some.ensures.next
-
-pub returns-in-Ok-pass_night-clause-closed : goal.returns-in-Ok-pass_night-clause-closed
-returns-in-Ok-pass_night-clause-closed g c =
+pub returns-in-Ok-pass_night : goal.returns-in-Ok-pass_night
+returns-in-Ok-pass_night g c =
     let day = c.in-Ok-work_day.day in
     let n = c.in-Ok-pass_night.night in
+    let closed : Closed = record { outcomes = day.evening.outcomes; found = day.evening.found; resolved = n.resolved } in
+    let after : Bank g.row.L.Denot = record { tellers = n.tellers; settled = n.settled; again = c.in-Ok-pass_night.again; next = c.in-Some.next } in
     let many = c.in-Some.ensures.threads ∙ ap (λ (l : List Errands). length l) c.deref.ensures.value in
     let numbers = numbers_are c.args.self.again c.next_numbers-again.result many c.next_numbers-again.ensures.numbers in
     let at =
     subst (λ (q : Again). HasPassed g.L.DecisionLog.state g.L.DecisionRecords.knows day.settled q (next_numbers q 1) day.evening.tellers day.wanting c.in-Ok-pass_night.again n) numbers c.in-Ok-pass_night.ensures.passed in
-    if_ok n.resolved (λ z (wants, numbers_, is_night, stores). record {
-      is_worked = returns-in-Ok-pass_night-clause-worked g c;
-      wants = wants;
-      night = subst (λ (q : Again). IsNight g.L.DecisionLog.state g.L.DecisionRecords.knows day.evening.tellers.items day.settled q z.outcomes.items n.settled) (sym numbers_) is_night;
-      stores = stores;
-    }) at.closed
-
-pub returns-in-Ok-pass_night-clause-unresolved : goal.returns-in-Ok-pass_night-clause-unresolved
-returns-in-Ok-pass_night-clause-unresolved g c =
-    let day = c.in-Ok-work_day.day in
-    let n = c.in-Ok-pass_night.night in
-    let many = c.in-Some.ensures.threads ∙ ap (λ (l : List Errands). length l) c.deref.ensures.value in
-    let numbers = numbers_are c.args.self.again c.next_numbers-again.result many c.next_numbers-again.ensures.numbers in
-    let at =
-    subst (λ (q : Again). HasPassed g.L.DecisionLog.state g.L.DecisionRecords.knows day.settled q (next_numbers q 1) day.evening.tellers day.wanting c.in-Ok-pass_night.again n) numbers c.in-Ok-pass_night.ensures.passed in
-    if_err n.resolved (λ why (excuse, untouched). record {
-      is_worked = returns-in-Ok-pass_night-clause-worked g c;
-      excuse =
-          subst (λ (ts : Vec (Teller g.row.L.Denot) Global). Excuses (day.wanting ≡ true) (All (λ t. g.L.DecisionRecords.knows t.log) ts.items) (HasRoomToResolve day.settled (night_numbers c.args.self c.args.errands.items)) (Unit {0}) why)
-          (sym at.tellers_) excuse;
-      untouched = untouched;
-    }) at.left
+    let worked =
+    worked_day g.L.DecisionLog.state g.L.DecisionRecords.knows g.L.DecisionLog.loses g.L.ReopenLog.reopens c.args.self _ c.args.errands.items closed c.turn_all-tellers.result.items day c.deref.ensures.value
+    c.turn_all-tellers.ensures c.in-Some.ensures.few c.in-Ok-work_day.ensures.worked refl refl after at.stays at.numbers at.tellers_ c.in-Some.ensures.later c.in-Some.ensures.next in
+    record {
+      worked = worked;
+      closed = if_ok n.resolved (λ z (wants, numbers_, is_night, stores). record {
+        is_worked = worked;
+        wants = wants;
+        night = subst (λ (q : Again). IsNight g.L.DecisionLog.state g.L.DecisionRecords.knows day.evening.tellers.items day.settled q z.outcomes.items n.settled) (sym numbers_) is_night;
+        stores = stores;
+      }) at.closed;
+      unresolved = if_err n.resolved (λ why (excuse, untouched). record {
+        is_worked = worked;
+        excuse =
+            subst (λ (ts : Vec (Teller g.row.L.Denot) Global). Excuses (day.wanting ≡ true) (All (λ t. g.L.DecisionRecords.knows t.log) ts.items) (HasRoomToResolve day.settled (night_numbers c.args.self c.args.errands.items)) (Unit {0}) why)
+            (sym at.tellers_) excuse;
+        untouched = untouched;
+      }) at.left;
+      stopped = tt;
+    }
 
 pub returns-in-Err-pass_night-clause-stopped : goal.returns-in-Err-pass_night-clause-stopped
 returns-in-Err-pass_night-clause-stopped g c =
