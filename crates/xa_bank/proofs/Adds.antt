@@ -1,7 +1,7 @@
 -- A leg that worked has added its delta by the place of its branch's Prepare.
 use Rattle.xa_base.proofs.{ℤ, pos, if◌then◌else◌, ◌≡◌, ◌≢◌, ℕ, suc, ◌+◌, true, false, ◌&&◌, ◌==◌, cond, List, [], ◌∷◌, ◌++◌, length, length-append}
-use Rattle.xa_base.proofs.{append_assoc, get_or, slice_get, sym, refl, ap, ◌∙◌, subst, arith, Some, ◌≤◌, eq-eqb, All, ne_eqb, All-head, All-tail, filter-append, some_same}
-use Rattle.xa_base.proofs.{all_left, all_right}
+use Rattle.xa_base.proofs.{append_assoc, get_or, slice_get, sym, refl, ap, ◌∙◌, subst, arith, Some, ◌≤◌, eq-eqb, All, ne_eqb, All-head, All-tail, filter-append}
+use Rattle.xa_base.proofs.{some_same, all_left, all_right}
 use Rattle.xa_words.specs.{XidName, Done, Op, Start, Add, End, Fresh, Success, Request}
 use Rattle.xa_words.specs.declared.code.Code.{Code}
 use Rattle.xa_tables.specs.Tables.{Tables}
@@ -88,10 +88,7 @@ taken t (q ∷ h) n ops more last is e =
 code_is : (t : ℕ) (before after : History) (r : Request) (T : Tables) (entries : List Entry) (a : ℕ) (c : Code) → entries ≡ coded (before ++ r ∷ after) T
     → r.thread ≡ t → length (of_thread t before) ≡ a
     → slice_get (answers t entries) a ≡ Some (a, c) → (next r.thread r.op (tables_after before T)).1 ≡ c
-code_is t before after r T entries a c is own count got =
-    let e : Some (r.number, (next r.thread r.op (tables_after before T)).1) ≡ Some (a, c) =
-    sym (answer_at t before after r T a own count) ∙ sym (ap (λ (l : List Entry). slice_get (answers t l) a) is) ∙ got in
-    ap (λ (q : ℕ × Code). q.1) (some_same (r.number, (next r.thread r.op (tables_after before T)).1) (a, c) e)
+code_is t before after r T entries a c is own count got = grind (arith, own, answer_at, slice_get, some_same)
 
 -- what a leg's work was answered, that was collected with XA_OK
 pub work_answered : (s : Settling) → IsSettled s → (t m : ℕ) → 1 ≤ m → (leg : Leg) (account : List ℕ) (a0 a1 : LedgerView) → LegWorked leg account a0 a1
@@ -145,10 +142,7 @@ module _ (s : Settling) (settled : IsSettled s) (t m b : ℕ) (T : Tables) (with
   P = taken_before t last H
 
   three : (n : ℕ) → n ≡ length pre → numbered t n work ≡ r1 ∷ r2 ∷ r3 ∷ []
-  three n e =
-      let e2 : suc n ≡ length pre + 1 = omega (arith, e) in
-      let e3 : suc (suc n) ≡ length pre + 2 = omega (arith, e) in
-      λ i. request t (e i) (Start x Fresh) ∷ request t (e2 i) (Add k d) ∷ request t (e3 i) (End x Success) ∷ []
+  three n e = grind arith
 
   own : of_thread t P ≡ numbered t 0 pre ++ r1 ∷ r2 ∷ r3 ∷ []
   own = all_taken.own ∙ numbered_both t 0 pre work ∙ ap (λ l. numbered t 0 pre ++ l) (three (0 + length pre) (omega arith))
@@ -204,21 +198,10 @@ module _ (s : Settling) (settled : IsSettled s) (t m b : ℕ) (T : Tables) (with
       (ap length first.earlier ∙ numbered_length t 0 pre) started
 
   whole2 : H ≡ (first.before ++ r1 ∷ second.before) ++ r2 ∷ (second.after ++ all_taken.rest)
-  whole2 =
-      whole
-      ∙ ap (λ l. first.before ++ r1 ∷ l) (ap (λ l. l ++ all_taken.rest) second.place ∙ append_assoc second.before (r2 ∷ second.after) all_taken.rest)
-      ∙ sym (append_assoc first.before (r1 ∷ second.before) (r2 ∷ (second.after ++ all_taken.rest)))
+  whole2 = grind (arith, whole, first, all_taken, second, append_assoc)
 
   count2 : length (of_thread t (first.before ++ r1 ∷ second.before)) ≡ length pre + 1
-  count2 =
-      let parts : of_thread t (first.before ++ r1 ∷ second.before) ≡ numbered t 0 pre ++ r1 ∷ [] =
-      filter-append (λ (q : Request). q.thread == t) first.before (r1 ∷ second.before)
-      ∙ ap (λ c. of_thread t first.before ++ cond c (r1 ∷ of_thread t second.before) (of_thread t second.before)) (eq-eqb t t refl)
-      ∙ (λ i. first.earlier i ++ r1 ∷ second.earlier i) in
-      let size = length-append (numbered t 0 pre) (r1 ∷ []) in
-      let number = numbered_length t 0 pre in
-      let all = ap length parts in
-      omega (arith, all, size, number)
+  count2 = grind (arith, first, second, filter-append, eq-eqb, length-append, numbered_length)
 
   adds : (next t (Add k d) (tables_after second.before (next t (Start x Fresh) (tables_after first.before T)).0)).1 ≡ Done
   adds =

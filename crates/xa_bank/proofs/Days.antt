@@ -1,6 +1,6 @@
 -- A day whose transfers end whole conserves what all accounts are worth together.
-use Rattle.xa_base.proofs.{ℤ, pos, ◌+ℤ◌, All, ◌≡◌, ℕ, ◌+◌, ◌-◌, ◌^◌, ◌<◌, ◌≤◌, Bool, List, length, subst, inl, inr, arith, false, list_any, ints}
-use Rattle.xa_base.proofs.{all_at, all_right, total_nothing}
+use Rattle.xa_base.proofs.{ℤ, pos, ◌+ℤ◌, All, ◌≡◌, ℕ, ◌+◌, ◌-◌, ◌^◌, ◌<◌, ◌≤◌, Bool, List, length, subst, inl, inr, arith, false, list_any, ints, all_at}
+use Rattle.xa_base.proofs.{all_right, total_nothing}
 use Rattle.xa_base.specs.{total}
 use Rattle.xa_words.specs.{TranName, XidName}
 use Rattle.xa_tables.specs.Tables.{Tables}

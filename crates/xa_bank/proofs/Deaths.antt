@@ -1,7 +1,7 @@
 -- A commit whose coordinator died once all branches were told was made, where no ending tells a decision of a store's own.
-use Rattle.xa_base.proofs.{◌≡◌, Bool, true, false, ◌||◌, Option, Some, None, List, [], ◌∷◌, refl, sym, ap, ◌∙◌, subst, list_any, or_parts, by_if, at_true}
+use Rattle.xa_base.proofs.{arith, ◌≡◌, Bool, true, false, ◌||◌, Option, Some, None, List, [], ◌∷◌, refl, sym, ap, ◌∙◌, subst, list_any, or_parts, at_true}
 use Rattle.xa_base.proofs.{at_false}
-use Rattle.xa_words.specs.{XidName, HeurRb, HeurCom, Op, Forget}
+use Rattle.xa_words.specs.{XidName, Op}
 use Rattle.xa_words.specs.declared.code.Code.{Code}
 use Rattle.xa_words.specs.declared.death.Death.TheVariants as death
 use Rattle.xa_tables.specs.{is_rolled_back}
@@ -16,46 +16,29 @@ use Rattle.xa_work.specs.{IsDeath}
 
 -- a decision that a store keeps is told by the ending
 yes_heuristic : (commit : Bool) (c : Code) → is_decided c ≡ true → yes_ending commit (Some c) ≡ Heuristic c
-yes_heuristic commit HeurRb e = refl
-yes_heuristic commit HeurCom e = refl
-yes_heuristic commit c e = cc
+yes_heuristic commit c e = grind arith
 
 no_heuristic : (vote c : Code) → is_decided c ≡ true → no_ending vote (Some c) ≡ Heuristic c
-no_heuristic vote HeurRb e = refl
-no_heuristic vote HeurCom e = refl
-no_heuristic vote c e = cc
+no_heuristic vote c e = grind arith
 
 -- the branch is gone, or out of reach
 abbrev is_quiet : Code → Bool
 is_quiet vote = is_read vote || (is_rolled_back vote || is_out_of_reach vote)
 
 quiet_unasked : (commit : Bool) (x : XidName) (vote : Code) → is_yes vote ≡ false → is_quiet vote ≡ true → second_op commit x vote ≡ None
-quiet_unasked true x vote yes_ quiet = at_false (is_yes vote) _ _ yes_
-quiet_unasked false x vote yes_ quiet = at_true (is_quiet vote) _ _ quiet
+quiet_unasked commit x vote yes_ quiet = grind (arith, at_false, at_true)
 
 unanswered : (a a' : LedgerView) (c : Code) → AsksFor AsksLedger None (Some c) a a' → ⊥
 unanswered a a' c h = let e = h.0 in cc
 
 told_heuristic : (commit : Bool) (x : XidName) (vote c : Code) (a a' : LedgerView) → is_decided c ≡ true
     → AsksFor AsksLedger (second_op commit x vote) (Some c) a a' → is_heuristic (ending_of commit vote (Some c)) ≡ true
-told_heuristic commit x vote c a a' kept obeys =
-    elim (is_yes vote) as (λ b. is_yes vote ≡ b → is_heuristic (ending_of commit vote (Some c)) ≡ true) [
-      | true ↦ λ yes_. ap is_heuristic (at_true (is_yes vote) _ _ yes_ ∙ yes_heuristic commit c kept)
-      | false ↦ λ yes_. elim (is_quiet vote) as (λ b. is_quiet vote ≡ b → is_heuristic (ending_of commit vote (Some c)) ≡ true) [
-        | true ↦ λ quiet. absurd (unanswered a a' c (subst (λ (o : Option Op). AsksFor AsksLedger o (Some c) a a') (quiet_unasked commit x vote yes_ quiet) obeys))
-        | false ↦ λ quiet.
-            let one = or_parts (is_read vote) (is_rolled_back vote || is_out_of_reach vote) quiet in
-            let two = or_parts (is_rolled_back vote) (is_out_of_reach vote) one.1 in
-            ap is_heuristic (at_false (is_yes vote) _ _ yes_ ∙ at_false (is_read vote) _ _ one.0 ∙ at_false (is_rolled_back vote) _ _ two.0 ∙ at_false (is_out_of_reach vote) _ _ two.1 ∙ no_heuristic vote c kept)
-      ] refl
-    ] refl
+told_heuristic commit x vote c a a' kept obeys = grind (arith, at_true, yes_heuristic, unanswered, quiet_unasked, or_parts, at_false, no_heuristic)
 
 -- so where no ending tells one, nobody is to forget
 none_forgets : (commit : Bool) (x : XidName) (vote : Code) (second : Option Code) (a a' : LedgerView)
     → AsksFor AsksLedger (second_op commit x vote) second a a' → is_heuristic (ending_of commit vote second) ≡ false → third_op x second ≡ None
-none_forgets commit x vote None a a' obeys cool = refl
-none_forgets commit x vote (Some c) a a' obeys cool =
-    by_if (λ (o : Option Op). o ≡ None) (is_decided c) (Some (Forget x)) None (λ kept. let z : true ≡ false = sym (told_heuristic commit x vote c a a' kept obeys) ∙ cool in cc) (λ _. refl)
+none_forgets commit x vote second a a' obeys cool = grind (arith, told_heuristic)
 
 branch_made : (commit : Bool) (b : Branch) (v : Code) (s : Option Code) (e : Ending) (a a' : LedgerView) → VotesAndObeys AsksLedger commit b v s e a a'
     → is_heuristic e ≡ false → AtBranch AsksLedger commit b v s e a a'

@@ -1,6 +1,5 @@
 -- The work of a transfer's two legs: each has one addition.
-use Rattle.xa_base.proofs.{◌≡◌, ◌≢◌, ℕ, ◌+◌, true, false, ◌==◌, cond, List, [], ◌∷◌, ◌++◌, length, map, sym, refl, ap, ◌∙◌, arith, eq-eqb, range_with_len}
-use Rattle.xa_base.proofs.{ne_eqb, all_at}
+use Rattle.xa_base.proofs.{◌≡◌, ◌≢◌, ℕ, ◌+◌, List, [], ◌∷◌, ◌++◌, length, map, refl, ap, ◌∙◌, arith, eq-eqb, range_with_len, ne_eqb, all_at}
 use Rattle.xa_words.specs.{Done as Ok_, Op, Start, Add, End, Fresh, Success}
 use Rattle.xa_driver.specs.{Branch}
 use Rattle.xa_desk.specs.LedgerView.{LedgerView}
@@ -38,16 +37,10 @@ one_change leg k cs a a' one its =
 
 module _ (one two : Leg) (k : List ℕ) (apart : one.branch.m ≢ two.branch.m) where
   first_change : changes_at (changes_of one two k) one.branch.m ≡ change_of one k ∷ []
-  first_change =
-      let here : (one.branch.m == one.branch.m) ≡ true = eq-eqb one.branch.m one.branch.m refl in
-      let there : (two.branch.m == one.branch.m) ≡ false = ne_eqb two.branch.m one.branch.m (λ e. apart (sym e)) in
-      λ i. cond (here i) (change_of one k ∷ cond (there i) (change_of two k ∷ []) []) (cond (there i) (change_of two k ∷ []) [])
+  first_change = grind (arith, eq-eqb, ne_eqb)
 
   second_change : changes_at (changes_of one two k) two.branch.m ≡ change_of two k ∷ []
-  second_change =
-      let there : (one.branch.m == two.branch.m) ≡ false = ne_eqb one.branch.m two.branch.m apart in
-      let here : (two.branch.m == two.branch.m) ≡ true = eq-eqb two.branch.m two.branch.m refl in
-      λ i. cond (there i) (change_of one k ∷ cond (here i) (change_of two k ∷ []) []) (cond (here i) (change_of two k ∷ []) [])
+  second_change = grind (arith, ne_eqb, eq-eqb)
 
   -- both legs worked
   pub legs_worked : (old new : List LedgerView) → HaveWorked (changes_of one two k) (branches_of one two) old new

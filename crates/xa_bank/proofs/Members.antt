@@ -1,13 +1,13 @@
 -- The members of a run: each worked from a desk that had sent nothing, the end of its desk sent nothing more, and no
 -- other thread sent anything.
-use Rattle.xa_base.proofs.{cases_lt, inl, inr, ◌≤◌, ◌≡◌, ◌≢◌, ℕ, ◌+◌, ◌-◌, ◌<◌, ◌⊎◌, ⊎_elim, List, [], length, map, slice_get, sym, ap, ◌∙◌, subst, arith, Option, Some, None}
-use Rattle.xa_base.proofs.{length-map, slice_get_within, got_map, got, all_at, was_mapped, find_numbered, find_none}
+use Rattle.xa_base.proofs.{cases_lt, inl, inr, ◌≤◌, ◌≡◌, ◌≢◌, ℕ, ◌+◌, ◌-◌, ◌<◌, ◌⊎◌, ⊎_elim, List, [], length, map, slice_get, sym, ap, ◌∙◌, subst, arith}
+use Rattle.xa_base.proofs.{Option, Some, None, length-map, slice_get_within, got_map, got, all_at, was_mapped, find_numbered, find_none}
 use Rattle.xa_base.specs.{Chain}
 use Rattle.xa_base.specs.Lists.Chain.{none, more}
 use Rattle.xa_words.specs.{Op}
 use Rattle.xa_desk.specs.LedgerView.{LedgerView}
 use Rattle.xa_desk.specs.DeskView.{DeskView}
-use Rattle.xa_desk.specs.{ledger, after_collected, sent_to, EndedView, DeskSeat}
+use Rattle.xa_desk.specs.{ledger, after_collected, sent_to, DeskSeat}
 use Rattle.xa_desk.specs.GoesOn.{GoesOn}
 use Rattle.xa_desk.proofs.Fresh.{fresh_sent}
 use Rattle.xa_desk.proofs.Ledgers.{nobody_sent}
@@ -102,13 +102,7 @@ module _ {C : Type 0} (works : C → DeskView → C → DeskView → Type 0) (p 
   threads_are = ap (λ (q : Settling). q.threads) r.settles
 
   numbered_ : (k : ℕ) (q : ThreadPart) → slice_get parts k ≡ Some q → q.thread ≡ 0 + k + 1
-  numbered_ k q at =
-      let e = was_mapped thread_part (map (λ (t : Member C). t.ended) r.members) k q at in
-      let mb = was_mapped (λ (t : Member C). t.ended) r.members k e.0 e.1 in
-      let thread : mb.0.ended.thread ≡ k + 1 = ended_thread k mb.0 mb.1 in
-      let first : q.thread ≡ e.0.thread = sym (ap (λ (z : ThreadPart). z.thread) e.2) in
-      let second : e.0.thread ≡ mb.0.ended.thread = sym (ap (λ (z : EndedView). z.thread) mb.2) in
-      omega (arith, thread, first, second)
+  numbered_ k q at = grind (arith, was_mapped, ended_thread)
 
   ledgers_are : (k : ℕ) (mb : Member C) → slice_get r.members k ≡ Some mb → ledgers_of s (0 + k + 1) ≡ mb.ended.ledgers
   ledgers_are k mb at =
@@ -147,10 +141,4 @@ module _ {C : Type 0} (works : C → DeskView → C → DeskView → Type 0) (p 
       ap (λ (o : Option ThreadPart). sent_to (ledgers_in o) m) none ∙ nobody_sent m
 
   pub nobody_else : (t : ℕ) → (t < 1) ⊎ (p.numbers.threads < t) → (m : ℕ) → sent s t m ≡ []
-  nobody_else t outside =
-      nobody t (λ k q at same.
-      let e = numbered_ k q at in
-      let within = slice_get_within parts k q at in
-      let count = many_members in
-      let size : length parts ≡ length r.members = length-map (map (λ (t : Member C). t.ended) r.members) _ ∙ length-map r.members _ in
-      ⊎_elim (λ (zero_ : t < 1). absurd (omega (arith, zero_, e, same))) (λ (past : p.numbers.threads < t). absurd (omega (arith, past, e, same, within, count, size))) outside)
+  nobody_else t outside = grind (arith, nobody, numbered_, slice_get_within, many_members, length-map)

@@ -1,8 +1,7 @@
 -- Which branches a teller's requests name: those of its own transfers, each in its own time.
-use Rattle.xa_base.proofs.{◌≡◌, ◌≢◌, ℕ, suc, ◌+◌, ◌*◌, ◌^◌, ◌<◌, ◌≤◌, true, false, ◌||◌, List, [], ◌∷◌, ◌++◌, length, sym, refl, ap, ◌∙◌, subst, arith, Option}
-use Rattle.xa_base.proofs.{Some, None, ℤ, pos, ◌+ℤ◌, w64, ints}
+use Rattle.xa_base.proofs.{◌≡◌, ◌≢◌, ℕ, suc, ◌+◌, ◌^◌, ◌<◌, ◌≤◌, true, false, ◌||◌, List, [], ◌∷◌, ◌++◌, length, sym, refl, ap, ◌∙◌, subst, arith, Option, Some}
+use Rattle.xa_base.proofs.{None, ℤ, pos, ◌+ℤ◌, ints}
 use Rattle.std.specs.Prelude.{neg_ℤ}
-use Rattle.std.specs.Int.{from_be_bytes}
 use Rattle.std.proofs.lemmas.Nat.{from_be_bytes-to_be_bytes_8}
 use Rattle.xa_words.specs.{XidName, xid_eq, Decides-xid_eq, tran_of, Death, Op, Shut}
 use Rattle.xa_tables.specs.{names}
@@ -26,15 +25,7 @@ pub record IsOf (t n : ℕ) (x : XidName) : Type 0 where
 
 -- a transfer has one thread and one number
 pub one_transfer : (t n u k : ℕ) (x : XidName) → t < 2 ^ 32 → u < 2 ^ 32 → IsOf t n x → IsOf u k x → (u ≡ t) × (k ≡ n)
-one_transfer t n u k x low high one two =
-    let small = one.small in
-    let small' = two.small in
-    let first : t * 2 ^ 32 + n < 2 ^ 64 = omega (arith, low, small) in
-    let second : u * 2 ^ 32 + k < 2 ^ 64 = omega (arith, high, small') in
-    let same : t * 2 ^ 32 + n ≡ u * 2 ^ 32 + k =
-    sym (from_be_bytes-to_be_bytes_8 (t * 2 ^ 32 + n) first) ∙ ap (from_be_bytes w64) (sym one.gtrid ∙ two.gtrid)
-    ∙ from_be_bytes-to_be_bytes_8 (u * 2 ^ 32 + k) second in
-    (omega (arith, same, small, small'), omega (arith, same, small, small'))
+one_transfer t n u k x low high one two = grind (arith, from_be_bytes-to_be_bytes_8)
 
 -- the request names only branches of thread t's transfers with numbers that pass
 pub record Names (t : ℕ) (passes : ℕ → Type 0) (op : Op) : Type 0 where

@@ -1,7 +1,6 @@
 -- A teller's thread makes only transfers.
-use Rattle.xa_base.proofs.{ℤ, pos, ◌+ℤ◌, ◌≡◌, ℕ, suc, ◌+◌, ◌-◌, ◌^◌, ◌<◌, ◌≤◌, ⊎_elim, false, ◌||◌, List, [], ◌∷◌, ◌++◌, length, length-append}
-use Rattle.xa_base.proofs.{append_assoc, sym, refl, ap, ◌∙◌, subst, arith, None, Option, All, list_any, ints, cases_lt, All-nil, All-cons}
-use Rattle.xa_base.proofs.{All-head, All-tail, All-weaker}
+use Rattle.xa_base.proofs.{ℤ, pos, ◌+ℤ◌, ◌≡◌, ℕ, suc, ◌+◌, ◌^◌, ◌<◌, ◌≤◌, false, ◌||◌, List, [], ◌∷◌, ◌++◌, length, length-append, append_assoc, sym, refl, ap}
+use Rattle.xa_base.proofs.{◌∙◌, subst, arith, None, Option, All, list_any, ints, cases_lt, All-nil, All-cons, All-head, All-tail, All-weaker}
 use Rattle.xa_words.specs.{XidName, Death, Op}
 use Rattle.xa_words.specs.declared.death.Death.TheVariants as death
 use Rattle.xa_tables.specs.Tables.{Tables}
@@ -28,8 +27,8 @@ use Rattle.xa_bank.specs.{Leg, Transfer, Habits, death_in, shut_before, IsClearA
 use Rattle.xa_bank.specs.{with_legs, without_legs}
 use Rattle.xa_bank.proofs.Deaths.{told_made}
 use Rattle.xa_bank.proofs.Legs.{LegWorked, leg_work, legs_worked}
-use Rattle.xa_bank.proofs.Named.{Is, IsFrom, IsOf, IsShut, LegsOf, Names, comes_names, legs_are, names_as, next_names, none_made, opens_names}
-use Rattle.xa_bank.proofs.Named.{shut_names, shut_sent, transfers_name, work_names}
+use Rattle.xa_bank.proofs.Named.{Is, IsFrom, IsOf, IsShut, LegsOf, Names, comes_names, legs_are, names_as, next_names, none_made, opens_names, shut_names}
+use Rattle.xa_bank.proofs.Named.{shut_sent, transfers_name, work_names}
 use Rattle.xa_bank.proofs.Told.{Earlier, IsAny, IsBelow, IsTold, earlier_on, NamedWithin, named_within, only_these}
 use Rattle.xa_bank.proofs.Adds.{leg_adds, work_answered}
 
@@ -51,13 +50,7 @@ no_commit old new h = λ m positive. let z = h m positive in record { more = z.m
 
 -- a manager to which something was sent is known
 known_by : (at : List LedgerView) (m : ℕ) → 0 < length (ledger at m).sent → m ≤ length at
-known_by at m some =
-    ⊎_elim
-    (λ (past : length at < m).
-    let none : length (ledger at m).sent ≡ 0 = ap (λ (a : LedgerView). length a.sent) (past_end at (m - 1) (omega (arith, past))) in
-    absurd (omega (arith, some, none)))
-    (λ (below : m ≤ length at). below)
-    (cases_lt (length at) m)
+known_by at m some = grind (arith, past_end, cases_lt)
 
 add_nothing : (a b : ℤ) → a +ℤ b ≡ pos 0 → a +ℤ (b +ℤ pos 0) ≡ pos 0
 add_nothing a b e = omega (arith, ints, e)
@@ -170,9 +163,7 @@ module _ (adds : (t n : ℕ) (x : XidName) (k : List ℕ) (d : ℤ) (h : History
     }
 
     zero_sum : added_by_all p s t desk.ledgers (branches_of one two) ≡ pos 0
-    zero_sum =
-        (λ i. added one legs.first first_up both_worked.0 i +ℤ (added two legs.second second_up both_worked.1 i +ℤ pos 0))
-        ∙ add_nothing one.delta two.delta legs.sum
+    zero_sum = grind (arith, added, first_up, both_worked, second_up, add_nothing)
 
     worked_quietly : HaveSent IsNone old desk.ledgers
     worked_quietly = quiet_work account one two old desk.ledgers work
@@ -241,7 +232,8 @@ module _ (adds : (t n : ℕ) (x : XidName) (k : List ℕ) (d : ℤ) (h : History
       (only_worked account one two old desk.ledgers work only)
 
   only_one : {R : LogState → Type 0} (n : ℕ) (tr : Transfer) (habits : Habits) (o : WorkOutcome) (old new : DeskView) (log later : LogState)
-      → Makes t n tr habits o old new log later R → IsUndoubted o → Earlier t n old.ledgers → Later (n + 1) new.ledgers → OnlyTransfers p s t old.ledgers (pos 0)
+      → Makes t n tr habits o old new log later R → IsUndoubted o → Earlier t n old.ledgers → Later (n + 1) new.ledgers
+      → OnlyTransfers p s t old.ledgers (pos 0)
       → OnlyTransfers p s t new.ledgers (pos 0)
   only_one n tr habits o old new log later (with_legs one two left legs (commits desk begins known work comes) kept read) fine before after only =
       only_commit n tr.account one two (legs_are t n tr one two legs) (death_in habits n) o old.ledgers desk new.ledgers log left work comes fine before after only

@@ -1,9 +1,9 @@
 -- What comes of a synchronous call.
-use Rattle.xa_base.proofs.{◌≡◌, ℕ, Bool, true, false, ℤ, sym, refl, ap, ◌∙◌, subst, Option, Some, None, w32, of_z, ◌==◌, option_map}
+use Rattle.xa_base.proofs.{arith, ◌≡◌, ℕ, Bool, true, false, ℤ, sym, refl, ap, ◌∙◌, subst, Option, Some, w32, of_z, ◌==◌, option_map}
 use Rattle.xa_words.specs.Code.{number_of}
 use Rattle.xa_words.specs.declared.code.Code.{Code}
 use Rattle.xa_words.specs.{Done, Op}
-use Rattle.xa_desk.specs.{Refused, NoSuchManager, call_refusal}
+use Rattle.xa_desk.specs.{Refused, call_refusal}
 use Rattle.xa_desk.specs.DeskView.{DeskView}
 use Rattle.xa_calls.specs.{code_of, Puts}
 use Rattle.xa_calls.specs.Putting.Puts.{refused, full, kept, answered}
@@ -15,12 +15,10 @@ use Rattle.xa_work.proofs.Handles.{only_done, not_done}
 
 -- the reason of a desk isn't XA_OK
 reason_no : (why : Refused) → (of_z w32 (number_of (code_of why)) == 0) ≡ false
-reason_no NoSuchManager = refl
-reason_no why = refl
+reason_no why = grind arith
 
 refusal_no : (o : Option Refused) (c : Code) → option_map code_of o ≡ Some c → (of_z w32 (number_of c) == 0) ≡ false
-refusal_no None c e = cc
-refusal_no (Some why) c e = let same : code_of why ≡ c = cc in subst (λ d. (of_z w32 (number_of d) == 0) ≡ false) same (reason_no why)
+refusal_no o c e = grind (arith, of_z, reason_no)
 
 -- what comes of a call, by whether its answer was 0
 pub call_by : (m : ℕ) (op : Op) (answer : ℤ) (old new : DeskView) → Puts old m (record { op = op; asynchronous = false }) new answer
@@ -47,6 +45,4 @@ op_sent P m op ok old new so (uncalled c why unsaid is) = have_none P old.ledger
 -- ---- a call that was answered XA_OK
 
 pub is_called : (m : ℕ) (op : Op) (ok : Bool) (old new : DeskView) → CallsOp m op ok old new → ok ≡ true → new.ledgers ≡ after_called old.ledgers m op Done
-is_called m op ok old new (called said is) e = is
-is_called m op ok old new (failed c other unsaid is) e = cc
-is_called m op ok old new (uncalled c why unsaid is) e = cc
+is_called m op ok old new h e = grind arith

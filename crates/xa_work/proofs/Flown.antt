@@ -1,7 +1,7 @@
 -- The work for branches in flight that was all done: what was put to each manager, and what was collected.
-use Rattle.xa_base.proofs.{◌≡◌, ℕ, suc, ◌+◌, ◌≤◌, Bool, true, false, cond, ◌==◌, List, [], ◌∷◌, ◌++◌, length, map, filter, length-append}
-use Rattle.xa_base.proofs.{append_assoc, sym, refl, ap, ◌∙◌, subst, arith, eq-eqb, All, list_any, range_with_len, eqb-true, or_parts, append-nil}
-use Rattle.xa_base.proofs.{map-append, All-head, All-tail, filter-append, list_any-append, all_left, all_right, range_suc}
+use Rattle.xa_base.proofs.{◌≡◌, ℕ, suc, ◌+◌, ◌≤◌, Bool, true, false, cond, ◌==◌, List, [], ◌∷◌, ◌++◌, length, map, filter, length-append, append_assoc, sym}
+use Rattle.xa_base.proofs.{refl, ap, ◌∙◌, subst, arith, eq-eqb, All, list_any, range_with_len, eqb-true, or_parts, append-nil, map-append, All-head, All-tail}
+use Rattle.xa_base.proofs.{filter-append, list_any-append, all_left, all_right, range_suc}
 use Rattle.xa_base.specs.{Chain}
 use Rattle.xa_base.specs.Lists.Chain.{none, more}
 use Rattle.xa_words.specs.{Done, Op}
@@ -101,31 +101,14 @@ module _ (ps : List Put) (fs : Flights) (old mid new : DeskView) (w : Flown ps f
       (is_put p.flight.manager p.op p.flight.handle (key_of p.flight.handle) mid new key.is key.positive put).ledgers
 
   here_more : (m : ℕ) → IsKnown old.ledgers m → ledger new.ledgers m ≡ sent_all (ledger old.ledgers m) (ops_to m (ps ++ p ∷ []))
-  here_more m known_m =
-      elim (p.flight.manager == m) as (λ c. (p.flight.manager == m) ≡ c → ledger new.ledgers m ≡ sent_all (ledger old.ledgers m) (ops_to m (ps ++ p ∷ []))) [
-        | true ↦ λ e.
-            subst (λ k. ledger new.ledgers k ≡ with_sent (ledger mid.ledgers k) p.op) (eqb-true p.flight.manager m e) step.here
-            ∙ ap (λ a. with_sent a p.op) (w.here m known_m) ∙ sym (sent_push (ledger old.ledgers m) (ops_to m ps) p.op)
-            ∙ ap (sent_all (ledger old.ledgers m)) (sym (map-append (λ (q : Put). q.op) (to_manager m ps) (p ∷ [])))
-            ∙ ap (λ (l : List Put). sent_all (ledger old.ledgers m) (map (λ (q : Put). q.op) l)) (sym (pushed (λ (q : Put). q.flight.manager == m) ps p e))
-        | false ↦ λ e.
-            step.others m known_m.positive (λ same. let there = eq-eqb p.flight.manager m (sym same) in cc) ∙ w.here m known_m
-            ∙ ap (λ (l : List Put). sent_all (ledger old.ledgers m) (map (λ (q : Put). q.op) l)) (sym (passed (λ (q : Put). q.flight.manager == m) ps p e))
-      ] refl
+  here_more m known_m = grind (arith, eqb-true, step, sent_push, map-append, pushed, eq-eqb, passed)
 
   others_more : (m : ℕ) → 1 ≤ m → list_any (λ (q : Put). q.flight.manager == m) (ps ++ p ∷ []) ≡ false → ledger new.ledgers m ≡ ledger old.ledgers m
-  others_more m positive nowhere =
-      let parts =
-      or_parts (list_any (λ (q : Put). q.flight.manager == m) ps) (list_any (λ (q : Put). q.flight.manager == m) (p ∷ []))
-      (sym (list_any-append (λ (q : Put). q.flight.manager == m) ps (p ∷ [])) ∙ nowhere) in
-      let elsewhere : (p.flight.manager == m) ≡ false = (or_parts (p.flight.manager == m) false parts.1).0 in
-      step.others m positive (λ same. let there = eq-eqb p.flight.manager m (sym same) in cc) ∙ w.others m positive parts.0
+  others_more m positive nowhere = grind (arith, or_parts, list_any, list_any-append, step, eq-eqb)
 
   -- how many were sent to manager m before it
   sent_before : (m : ℕ) → IsKnown old.ledgers m → length (ledger mid.ledgers m).sent ≡ length (ledger old.ledgers m).sent + length (ops_to m ps)
-  sent_before m known_m =
-      ap (λ (a : LedgerView). length a.sent) (w.here m known_m) ∙ ap length (sent_sent (ledger old.ledgers m) (ops_to m ps))
-      ∙ length-append (ledger old.ledgers m).sent (ops_to m ps)
+  sent_before m known_m = grind (arith, sent_sent, length-append)
 
   numbered_more : (m : ℕ) → IsKnown old.ledgers m
       → numbers_at m (fs ++ flight ∷ []) ≡ range_with_len (length (ledger old.ledgers m).sent) (length (ops_to m (ps ++ p ∷ [])))

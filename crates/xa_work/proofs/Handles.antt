@@ -1,13 +1,11 @@
 -- What comes of a call that its flags make asynchronous, and of collecting by its handle.
 use Rattle.xa_base.proofs.{◌≡◌, ◌≢◌, ℕ, zero, suc, ◌<◌, ℤ, pos, Bool, true, false, Option, Some, None, option_map, if◌then◌else◌, Result, Err, IfOk, refl, sym}
 use Rattle.xa_base.proofs.{ap, ◌∙◌, subst, inl, inr, arith, w32, of_z, ◌==◌, List, option_or, nat_cmp}
-use Rattle.std.specs.Prelude.{negsuc}
 use Rattle.std.specs.FinMap as map
 use Rattle.xa_words.specs.Code.{number_of}
 use Rattle.xa_words.specs.declared.code.Code.{Code}
 use Rattle.xa_words.specs.{Done, Async, Inval, Op}
-use Rattle.xa_desk.specs.{Refused, NoSuchManager, Operation, IsHandle, ledger, after_sent, after_collected, next_operation}
-use Rattle.xa_desk.specs.{reach_refusal, submit_refusal}
+use Rattle.xa_desk.specs.{Refused, NoSuchManager, Operation, IsHandle, ledger, after_sent, after_collected, next_operation, reach_refusal, submit_refusal}
 use Rattle.xa_desk.specs.LedgerView.{LedgerView}
 use Rattle.xa_desk.specs.DeskView.{DeskView}
 use Rattle.xa_calls.specs.{code_of, async_refusal, put_refusal, Puts, CompletesAt, CompletesOne, HasCompleted, Tells, CollectsRedeemed, may_complete, number_in}
@@ -110,8 +108,7 @@ pub record Completed (m : ℕ) (handle : ℤ) (old new : DeskView) (retval answe
   pub never : answer ≢ pos 0 → IsNoHandle m handle old × StaysSo old new
 
 number_is : (z : ℤ) (k : ℕ) → number_in z ≡ Some k → z ≡ pos k
-number_is (pos n) k e = let same : n ≡ k = cc in ap pos same
-number_is (negsuc n) k e = cc
+number_is z k e = grind arith
 
 refuses : (m : ℕ) (handle : ℤ) (old new : DeskView) (handle' retval retval' answer : ℤ) (result : Result (ℕ × Code) Code) → IsNoHandle m handle old
     → result ≡ Err Inval → new ≡ old → Tells result handle retval handle' retval' answer → Completed m handle old new retval' answer
@@ -146,8 +143,7 @@ completed handle retval m old new handle' retval' answer h =
 
 -- only XA_OK is 0
 pub only_done : (c : Code) → (of_z w32 (number_of c) == 0) ≡ true → c ≡ Done
-only_done Done e = refl
-only_done c e = cc
+only_done c e = grind arith
 
 pub not_done : (c : Code) → (of_z w32 (number_of c) == 0) ≡ false → c ≢ Done
 not_done c e = λ same. let z : true ≡ false = subst (λ d. (of_z w32 (number_of d) == 0) ≡ false) same e in cc

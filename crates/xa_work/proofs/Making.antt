@@ -1,7 +1,7 @@
 -- How the requests of a unit of work are made, one more after those before.
-use Rattle.xa_base.proofs.{◌≡◌, ◌≢◌, ℕ, suc, ◌+◌, ◌<◌, ◌≤◌, Bool, true, false, ◌&&◌, ◌==◌, cond, List, [], ◌∷◌, ◌++◌, length, map, take, drop, subst}
-use Rattle.xa_base.proofs.{append_assoc, length-append, arith, eq-eqb, sym, refl, ap, ◌∙◌, slice_index_or, list_all, range_with_len, ne_eqb, append-nil}
-use Rattle.xa_base.proofs.{length-map, map-append, take_all, take-append-drop, flat_push, one_more, range_more}
+use Rattle.xa_base.proofs.{◌≡◌, ◌≢◌, ℕ, suc, ◌+◌, ◌<◌, ◌≤◌, Bool, true, ◌&&◌, ◌==◌, cond, List, [], ◌∷◌, ◌++◌, length, map, take, drop, subst, append_assoc}
+use Rattle.xa_base.proofs.{length-append, arith, eq-eqb, sym, refl, ap, ◌∙◌, slice_index_or, list_all, range_with_len, ne_eqb, append-nil, length-map}
+use Rattle.xa_base.proofs.{map-append, take_all, take-append-drop, flat_push, one_more, range_more}
 use Rattle.std.proofs.Common.{drop-cons}
 use Rattle.std.proofs.lemmas.List.Elements.{filter_more}
 use Rattle.std.proofs.lemmas.List.Folds.{list_all-append}
@@ -14,8 +14,7 @@ use Rattle.xa_work.specs.{Flight, Change, CallsOp, CollectsOp, PutsAtLast, Calle
 use Rattle.xa_work.specs.{requests_at, requests_of, steps_in}
 
 and_true : (a : Bool) → a ≡ (a && true)
-and_true true = refl
-and_true false = refl
+and_true a = grind arith
 
 -- where all so far and one more are
 all_more : {X : Type 0} (p : X → Bool) (xs : List X) (x : X) (ok : Bool) → ok ≡ list_all p xs → (ok && p x) ≡ list_all p (xs ++ x ∷ [])
@@ -51,9 +50,7 @@ chain_append R first xs mid ys last before (more zs z now a rest step) =
 
 -- what is left, and its first
 pub at_drop : {X : Type 0} (xs : List X) (i : ℕ) (x : X) → i < length xs → x ≡ slice_index_or xs i x → drop i xs ≡ x ∷ drop (i + 1) xs
-at_drop xs i x below is =
-    let next_one : suc i ≡ i + 1 = omega arith in
-    drop-cons xs i x below ∙ ap (λ y. y ∷ drop (suc i) xs) (sym is) ∙ ap (λ n. x ∷ drop n xs) next_one
+at_drop xs i x below is = grind (arith, drop-cons)
 
 -- ---- in turn
 
@@ -140,11 +137,7 @@ first_requests cs bs i b below is = ap (requests_of cs) (one_more bs i b below i
 
 -- how many a branch's are
 pub steps_are : (cs : List Change) (b : Branch) → length (ops_of cs b) ≡ steps_in cs b.m
-steps_are cs b =
-    let changes : List Op = map (λ (c : Change). Add c.key c.delta) (changes_at cs b.m) in
-    let size : length changes ≡ length (changes_at cs b.m) = length-map (changes_at cs b.m) (λ (c : Change). Add c.key c.delta) in
-    let ended : length (changes ++ End b.xid Success ∷ []) ≡ length changes + 1 = length-append changes (End b.xid Success ∷ []) in
-    omega (arith, size, ended)
+steps_are cs b = grind (arith, length-map, length-append)
 
 -- ---- requests put after others
 
@@ -176,15 +169,11 @@ adds_one m ops o f before now later old mid new x same put is = record {
 -- how many changes are left, with this one
 pub left_here : (cs : List Change) (i : ℕ) (c : Change) (m : ℕ) → i < length cs → c ≡ slice_index_or cs i c → c.m ≡ m
     → length (changes_at (drop i cs) m) ≡ suc (length (changes_at (drop (i + 1) cs) m))
-left_here cs i c m below is e =
-    ap (λ l. length (changes_at l m)) (at_drop cs i c below is)
-    ∙ ap (λ b. length (cond b (c ∷ changes_at (drop (i + 1) cs) m) (changes_at (drop (i + 1) cs) m))) (eq-eqb c.m m e)
+left_here cs i c m below is e = grind (arith, at_drop, eq-eqb)
 
 pub left_elsewhere : (cs : List Change) (i : ℕ) (c : Change) (m : ℕ) → i < length cs → c ≡ slice_index_or cs i c → c.m ≢ m
     → length (changes_at (drop i cs) m) ≡ length (changes_at (drop (i + 1) cs) m)
-left_elsewhere cs i c m below is e =
-    ap (λ l. length (changes_at l m)) (at_drop cs i c below is)
-    ∙ ap (λ b. length (cond b (c ∷ changes_at (drop (i + 1) cs) m) (changes_at (drop (i + 1) cs) m))) (ne_eqb c.m m e)
+left_elsewhere cs i c m below is e = grind (arith, at_drop, ne_eqb)
 
 -- the requests of all branches, after those of the first
 pub puts_append : (one two : List (ℕ × Op)) (fs gs : List Flight) (old mid new : DeskView) → PutsRequests one fs old mid → PutsRequests two gs mid new
@@ -198,15 +187,12 @@ puts_append one two fs gs old mid new x y = record {
 
 -- each request has an answer
 pub puts_length : (wanted : List (ℕ × Op)) (fs : List Flight) (old new : DeskView) → PutsRequests wanted fs old new → length fs ≡ length wanted
-puts_length wanted fs old new x =
-    sym (ap length x.flights_are) ∙ length-map x.puts (λ (p : Put). p.flight) ∙ sym (length-map x.puts (λ (p : Put). (p.flight.manager, p.op)))
-    ∙ ap length x.wanted_are
+puts_length wanted fs old new x = grind (arith, length-map)
 
 -- how many are left, with those of this branch
 pub requests_left : (cs : List Change) (bs : List Branch) (i : ℕ) (b : Branch) → i < length bs → b ≡ slice_index_or bs i b
     → length (requests_of cs (drop i bs)) ≡ length (requests_at cs b) + length (requests_of cs (drop (i + 1) bs))
-requests_left cs bs i b below is =
-    ap (λ l. length (requests_of cs l)) (at_drop bs i b below is) ∙ length-append (requests_at cs b) (requests_of cs (drop (i + 1) bs))
+requests_left cs bs i b below is = grind (arith, at_drop, length-append)
 
 -- ---- opening
 

@@ -1,5 +1,5 @@
 -- Which requests were sent since: what is done one after the other, and what a request or a collection adds.
-use Rattle.xa_base.proofs.{◌≡◌, ℕ, suc, Bool, false, ℤ, pos, List, [], ◌∷◌, ◌++◌, length, append_assoc, sym, refl, ap, ◌∙◌, subst, Option, None, Some}
+use Rattle.xa_base.proofs.{arith, ◌≡◌, ℕ, suc, Bool, false, ℤ, pos, List, [], ◌∷◌, ◌++◌, length, append_assoc, sym, refl, ap, ◌∙◌, subst, Option, None, Some}
 use Rattle.xa_base.proofs.{append-nil, All-nil, All-cons, All-append, All-weaker, same_begins, begins_on, by_if}
 use Rattle.xa_words.specs.declared.code.Code.{Code}
 use Rattle.xa_words.specs.{Op}
@@ -80,10 +80,7 @@ collect_sent P m handle ok old new (nothing unsaid none s) = stayed P old new s
 -- what a synchronous call that was answered did to the ledgers
 pub answered_ledgers : (m : ℕ) (op : Op) (n : ℕ) (c : Code) (old new : DeskView)
     → Collects (submitted (after_fulls n old m) m op) new (next_operation old.ledgers m) c → new.ledgers ≡ after_called old.ledgers m op c
-answered_ledgers m op n c old new collects =
-    let sending : collects.before.ledgers ≡ after_sent old.ledgers m op =
-    ap (λ (d : DeskView). d.ledgers) collects.looks.rest ∙ ap (λ (l : List LedgerView). after_sent l m op) (fulls_ledgers n old m) in
-    ap (λ (d : DeskView). d.ledgers) collects.collected ∙ ap (λ (l : List LedgerView). after_collected l (next_operation old.ledgers m) c) sending
+answered_ledgers m op n c old new collects = grind (arith, fulls_ledgers)
 
 pub call_adds : (P : Op → Type 0) (m : ℕ) (op : Op) (c : Code) (at : List LedgerView) → P op → HaveSent P at (after_called at m op c)
 call_adds P m op c at so =

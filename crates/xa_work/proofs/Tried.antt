@@ -1,7 +1,7 @@
 -- Where all of the work answered XA_OK, all of it was done.
 use Rattle.xa_base.proofs.{◌≡◌, ◌≢◌, ℕ, zero, suc, ◌<◌, ◌≤◌, Bool, true, false, cond, ◌||◌, ◌==◌, List, [], ◌∷◌, ◌++◌, length, map, filter, sym, refl, ap, ◌∙◌}
-use Rattle.xa_base.proofs.{subst, arith, eq-eqb, Some, ⊎_elim, slice_get, All, list_any, range_with_len, cases_lt, ne_eqb, or_parts, All-nil, All-cons}
-use Rattle.xa_base.proofs.{All-head, All-tail, All-append, All-map, list_any-append, all_at, all_from, all_unmapped, flat_one, some_same}
+use Rattle.xa_base.proofs.{subst, arith, eq-eqb, Some, slice_get, All, list_any, range_with_len, cases_lt, ne_eqb, or_parts, All-nil, All-cons, All-head}
+use Rattle.xa_base.proofs.{All-tail, All-append, All-map, list_any-append, all_at, all_from, all_unmapped, flat_one, some_same}
 use Rattle.std.proofs.lemmas.List.Sums.{AllPass-from_list_all}
 use Rattle.std.proofs.lemmas.Simd.{map-map as map_map}
 use Rattle.xa_words.specs.{Done, Op}
@@ -18,12 +18,7 @@ use Rattle.xa_work.proofs.Flown.{Flown, all_flown, all_got, got_all, got_collect
 
 filter_mapped : {X Y : Type 0} (f : X → Y) (q : Y → Bool) (xs : List X) → filter q (map f xs) ≡ map f (filter (λ x. q (f x)) xs)
 filter_mapped f q [] = refl
-filter_mapped f q (x ∷ xs) =
-    let rest = filter_mapped f q xs in
-    elim (q (f x)) as (λ c. cond c (f x ∷ filter q (map f xs)) (filter q (map f xs)) ≡ map f (cond c (x ∷ filter (λ y. q (f y)) xs) (filter (λ y. q (f y)) xs))) [
-      | true ↦ ap (λ l. f x ∷ l) rest
-      | false ↦ rest
-    ]
+filter_mapped f q (x ∷ xs) = grind (arith, filter_mapped f q xs)
 
 any_mapped : {X Y : Type 0} (f : X → Y) (q : Y → Bool) (xs : List X) → list_any q (map f xs) ≡ list_any (λ x. q (f x)) xs
 any_mapped f q [] = refl
@@ -52,9 +47,7 @@ rising_order low (x ∷ bs) (suc j) (suc k) c b up before at_c at_b = rising_ord
 -- two of them are at two managers
 rising_apart : (low : ℕ) (bs : List Branch) (j k : ℕ) (c b : Branch) → AreBranchesRising low bs → j ≢ k → slice_get bs j ≡ Some c → slice_get bs k ≡ Some b
     → c.m ≢ b.m
-rising_apart low bs j k c b up apart at_c at_b =
-    ⊎_elim (λ (before : j < k). let lt = rising_order low bs j k c b up before at_c at_b in λ same. omega (arith, lt, same))
-    (λ (after : k ≤ j). let lt = rising_order low bs k j b c up (omega (arith, after, apart)) at_b at_c in λ same. omega (arith, lt, same)) (cases_lt j k)
+rising_apart low bs j k c b up apart at_c at_b = grind (arith, rising_order, cases_lt)
 
 pub room_known : (at : List LedgerView) (bs : List Branch) → HaveRoom at bs → All (λ (b : Branch). IsKnown at b.m) bs
 room_known at [] room = All-nil (λ (b : Branch). IsKnown at b.m)
@@ -67,14 +60,11 @@ ForManager m r = r.0 == m
 
 all_pass : (m n : ℕ) (os : List Op) → (m == n) ≡ true → filter (ForManager n) (map (λ o. (m, o)) os) ≡ map (λ o. (m, o)) os
 all_pass m n [] e = refl
-all_pass m n (o ∷ os) e =
-    ap (λ c. cond c ((m, o) ∷ filter (ForManager n) (map (λ o. (m, o)) os)) (filter (ForManager n) (map (λ o. (m, o)) os))) e
-    ∙ ap (λ l. (m, o) ∷ l) (all_pass m n os e)
+all_pass m n (o ∷ os) e = grind (arith, all_pass m n os e)
 
 none_pass : (m n : ℕ) (os : List Op) → (m == n) ≡ false → filter (ForManager n) (map (λ o. (m, o)) os) ≡ []
 none_pass m n [] e = refl
-none_pass m n (o ∷ os) e =
-    ap (λ c. cond c ((m, o) ∷ filter (ForManager n) (map (λ o. (m, o)) os)) (filter (ForManager n) (map (λ o. (m, o)) os))) e ∙ none_pass m n os e
+none_pass m n (o ∷ os) e = grind (arith, none_pass m n os e)
 
 none_named : (m n : ℕ) (os : List Op) → (m == n) ≡ false → list_any (ForManager n) (map (λ o. (m, o)) os) ≡ false
 none_named m n [] e = refl
@@ -158,9 +148,7 @@ module _ (cs : List Change) (bs : List Branch) (old new : DeskView) (up : AreBra
       (λ k p within. known_on _ old.ledgers t.begun.ledgers w.many (put_known k p within))))
 
   at_end : (m : ℕ) → 1 ≤ m → ledger new.ledgers m ≡ got_all (ledger t.begun.ledgers m) (numbers_at m flown.0)
-  at_end m positive =
-      let kept = all_kept fs old t.begun w.kept in
-      all_got fs t.begun.ledgers new.ledgers fs_known (all_collected fs t.begun new kept.0 kept.1 taken) m positive
+  at_end m positive = grind (arith, all_kept, all_got, fs_known, all_collected, taken)
 
   -- the branch's requests were put to its manager, and no others
   own_ops : (k : ℕ) (b : Branch) → slice_get bs k ≡ Some b → ops_to b.m puts ≡ ops_of cs b

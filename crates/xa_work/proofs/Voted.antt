@@ -8,7 +8,8 @@ use Rattle.xa_tables.specs.{is_rolled_back}
 use Rattle.xa_desk.specs.LedgerView.{LedgerView}
 use Rattle.xa_desk.specs.{ledger}
 use Rattle.xa_driver.specs.{Branch, Done, Ending, Ask, code_of, AsksFor, AtBranch, CameTo, HaveAsked, HaveTold, PutsLedger, Tells, VotesAndHears, VotesAndObeys}
-use Rattle.xa_driver.specs.{is_read, is_yes, is_decided, is_out_of_reach, to_come, withheld, second_op, third_op, AsksLedger, HasVoted, EachBranch, IsTraceOfCommit, has_branch_at}
+use Rattle.xa_driver.specs.{is_read, is_yes, is_decided, is_out_of_reach, to_come, withheld, second_op, third_op, AsksLedger, HasVoted, EachBranch}
+use Rattle.xa_driver.specs.{IsTraceOfCommit, has_branch_at}
 use Rattle.xa_driver.specs.Deaths.{sent}
 use Rattle.xa_log.specs.{LogState}
 use Rattle.xa_driver.proofs.AtDeath.{asked_all}

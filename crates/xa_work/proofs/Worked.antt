@@ -1,5 +1,5 @@
 -- The work for branches that was all done: what it sent to each manager, and what was collected.
-use Rattle.xa_base.proofs.{◌≡◌, ◌≢◌, ℕ, zero, suc, ◌+◌, ◌-◌, ◌<◌, ◌≤◌, Bool, true, false, ◌||◌, ◌==◌, ℤ, pos, List, [], ◌∷◌, ◌++◌, length, map, length-append}
+use Rattle.xa_base.proofs.{◌≡◌, ◌≢◌, ℕ, zero, suc, ◌-◌, ◌<◌, ◌≤◌, Bool, true, false, ◌||◌, ◌==◌, ℤ, pos, List, [], ◌∷◌, ◌++◌, length, map, length-append}
 use Rattle.xa_base.proofs.{append_assoc, sym, refl, ap, ◌∙◌, subst, arith, eq-eqb, Some, None, get_or, All, range_with_len, nat_cmp, ne_eqb, or_parts}
 use Rattle.xa_base.proofs.{append-nil, length-set, map-append, All-nil, All-cons, All-head, All-push, All-tail, All-weaker, all_left, all_right, inserted_there}
 use Rattle.xa_base.proofs.{inserted_other, removed_other, not_both}
@@ -75,10 +75,7 @@ called_sent a (o ∷ os) = called_sent (with_called a o) os ∙ append_assoc a.s
 
 called_collected : (a : LedgerView) (os : List Op) → (called_all a os).collected ≡ a.collected ++ done_from (length a.sent) (length os)
 called_collected a [] = sym (append-nil a.collected)
-called_collected a (o ∷ os) =
-    let next_one : length (a.sent ++ o ∷ []) ≡ length a.sent + 1 = length-append a.sent (o ∷ []) in
-    called_collected (with_called a o) os ∙ append_assoc a.collected ((length a.sent, Done) ∷ []) (done_from (length (a.sent ++ o ∷ [])) (length os))
-    ∙ ap (λ n. a.collected ++ (length a.sent, Done) ∷ done_from n (length os)) next_one
+called_collected a (o ∷ os) = grind (arith, called_collected (with_called a o) os, length-append, append_assoc)
 
 block_called : (m : ℕ) (b : LedgerView) (op : Op) (at at' at'' : List LedgerView) → IsKnown at m → Block m b at at' → at'' ≡ after_called at' m op Done
     → Block m (with_called b op) at at''
@@ -118,21 +115,11 @@ Between low high b = (low < b.m) × (b.m < high)
 pub rising_parts : (low : ℕ) (bs : List Branch) (b : Branch) → AreBranchesRising low (bs ++ b ∷ [])
     → AreBranchesRising low bs × (low < b.m) × All (Between low b.m) bs
 rising_parts low [] b h = (tt, h.0, All-nil (Between low b.m))
-rising_parts low (c ∷ bs) b h =
-    let up = h.0 in
-    let z = rising_parts c.m bs b h.1 in
-    let on = z.1 in (
-      (up, z.0),
-      omega (arith, up, on),
-      All-cons (Between low b.m) c bs (up, on) (All-weaker (Between c.m b.m) (Between low b.m) (λ d p. let past = p.0 in (omega (arith, up, past), p.1)) bs z.2),
-    )
+rising_parts low (c ∷ bs) b h = grind (arith, rising_parts c.m bs b h.1, All-cons, All-weaker)
 
 pub not_there : (bs : List Branch) (m : ℕ) → All (λ (c : Branch). c.m ≢ m) bs → has_branch_at bs m ≡ false
 not_there [] m apart = refl
-not_there (c ∷ bs) m apart =
-    let here : (c.m == m) ≡ false = ne_eqb c.m m (All-head (λ (d : Branch). d.m ≢ m) c bs apart) in
-    let rest : has_branch_at bs m ≡ false = not_there bs m (All-tail (λ (d : Branch). d.m ≢ m) c bs apart) in
-    λ i. here i || rest i
+not_there (c ∷ bs) m apart = grind (arith, not_there bs m (All-tail (λ (d : Branch). d.m ≢ m) c bs apart), ne_eqb, All-head, All-tail)
 
 pub nowhere : (bs : List Branch) (b : Branch) (m : ℕ) → has_branch_at (bs ++ b ∷ []) m ≡ false → (has_branch_at bs m ≡ false) × (m ≢ b.m)
 nowhere [] b m h =
@@ -173,10 +160,7 @@ one_works cs bs b x at now at' positive below w its z =
 module _ (cs : List Change) where
   pub branches_called : (old : DeskView) (bs : List Branch) (new : DeskView) → Chain (λ b d e. CallsBranch cs b true d e) old bs new → AreBranchesRising 0 bs
       → All (λ (b : Branch). IsKnown old.ledgers b.m) bs → HaveWorked cs bs old.ledgers new.ledgers × (length new.ledgers ≡ length old.ledgers)
-  branches_called old bs new (none xs last e f) up known =
-      subst (λ (ys : List Branch). HaveWorked cs ys old.ledgers new.ledgers × (length new.ledgers ≡ length old.ledgers)) (sym e)
-      (subst (λ (d : DeskView). HaveWorked cs [] old.ledgers d.ledgers × (length d.ledgers ≡ length old.ledgers)) (sym f)
-      (record { each = All-nil (λ (b : Branch). HasWorked cs b (ledger old.ledgers b.m) (ledger old.ledgers b.m)); others = λ m positive elsewhere. refl }, refl))
+  branches_called old bs new (none xs last e f) up known = grind (arith, All-nil)
   branches_called old bs new (more xs b now last before is) up known =
       let parts = rising_parts 0 xs b up in
       let z = branches_called old xs now before parts.0 (all_left (λ (c : Branch). IsKnown old.ledgers c.m) xs (b ∷ []) known) in

@@ -1,4 +1,4 @@
-use Rattle.xa_base.proofs.{[], refl}
+use Rattle.xa_base.proofs.{arith, [], refl}
 use Rattle.xa_base.specs.Lists.Chain.{none}
 use Rattle.xa_words.specs.{TMFAIL}
 use Rattle.xa_words.specs.declared.flags.Call.TheVariants as call
@@ -15,12 +15,7 @@ loop-branch-init g c = record {
 }
 
 pub loop-branch-preserved : goal.loop-branch-preserved
-loop-branch-preserved g c = record {
-  goes_on = c.desks_go_on.ensures.further _ _ _ c.loop-branch.invariant.goes_on c.fail.ensures.goes_on;
-  kept = λ h. c.fail.ensures.kept (c.loop-branch.invariant.kept h);
-  idled = c.idles_go_on.ensures.further _ _ _ c.loop-branch.invariant.idled c.fail.ensures.idled;
-  ends = chain_more (Asks call.End TMFAIL) c.args.branches.now _ c.branch-item.result _ _ _ c.loop-branch-test.true c.branch-item.is c.loop-branch.invariant.ends c.fail.ensures.asks;
-}
+loop-branch-preserved g c = grind (arith, chain_more)
 
 pub loop-branch-2-init : goal.loop-branch-2-init
 loop-branch-2-init g c = record {

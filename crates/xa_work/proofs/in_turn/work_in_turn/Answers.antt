@@ -1,7 +1,7 @@
-use Rattle.xa_base.proofs.{◌≡◌, ◌+◌, true, false, [], drop, refl, subst, take}
+use Rattle.xa_base.proofs.{arith, ◌≡◌, ◌+◌, true, false, [], drop, refl, subst, take}
 use Rattle.xa_base.specs.Lists.Chain.{none}
 use Rattle.xa_work.specs.{CallsBranch}
-use Rattle.xa_work.specs.Works.CallsBranches.{completed, stopped}
+use Rattle.xa_work.specs.Works.CallsBranches.{stopped}
 use Rattle.xa_work.proofs.Making.{chain_all, chain_more, parted}
 use Rattle.xa_work.proofs.in_turn.work_in_turn.Goals as goal
 
@@ -37,5 +37,4 @@ returns-then-not-work_on-clause-calls g c =
     (subst (λ ok. CallsBranch cs b ok c.loop-branch.desk c.work_on.new.desk) not_all c.work_on.ensures.calls)
 
 pub returns-clause-calls : goal.returns-clause-calls
-returns-clause-calls g c =
-    completed refl (chain_all (λ b d e. CallsBranch c.args.changes.now b true d e) c.args.branches.now _ _ _ c.loop-branch-test.false c.loop-branch.invariant.calls)
+returns-clause-calls g c = grind (arith, chain_all)

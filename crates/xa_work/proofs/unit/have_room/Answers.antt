@@ -1,4 +1,4 @@
-use Rattle.xa_base.proofs.{rules, ◌≤◌, ◌+◌, arith, subst, sym, take, take_all, All-push, one_more}
+use Rattle.xa_base.proofs.{◌≤◌, ◌+◌, arith, subst, sym, take, take_all, All-push, one_more}
 use Rattle.xa_desk.specs.{room_at}
 use Rattle.xa_driver.specs.{Branch}
 use Rattle.xa_work.specs.{AFTERWARDS, HaveRoomToWork, steps_in}
@@ -16,7 +16,4 @@ loop-branch-preserved c =
     (All-push (λ (d : Branch). steps_in cs d.m + AFTERWARDS ≤ room_at at d.m) (take i bs) b c.loop-branch.invariant fits)
 
 pub returns : goal.returns
-returns c =
-    let all =
-    subst (HaveRoomToWork c.args.desk.now.ledgers c.args.changes.now) (take_all _ c.args.branches.now c.loop-branch-test.false) c.loop-branch.invariant in
-    ((λ _. all), (λ _. search rules))
+returns c = grind (arith, take_all)

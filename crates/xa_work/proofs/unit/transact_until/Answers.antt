@@ -1,7 +1,7 @@
-use Rattle.xa_base.proofs.{◌≡◌, true, false, refl, subst}
+use Rattle.xa_base.proofs.{arith, ◌≡◌, true, false, refl, subst}
 use Rattle.xa_desk.specs.DeskView.{DeskView}
 use Rattle.xa_work.specs.{IsFor, NamesOnly, IsRefused, GivesUp, Tries}
-use Rattle.xa_work.specs.Units.IsRefused.{barred, unbegun, undone}
+use Rattle.xa_work.specs.Units.IsRefused.{barred, undone}
 use Rattle.xa_work.specs.Units.Transacts.{commits, refused}
 use Rattle.xa_work.proofs.Comes.{comes_named}
 use Rattle.xa_work.proofs.Named.{all_among, gives_up_sent, tries_sent}
@@ -11,10 +11,7 @@ use Rattle.xa_work.proofs.unit.transact_until.Goals as goal
 use Rattle.xa_work.proofs.unit.transact_until.Goals.{then-not-worked-via-then-not-worked, then-not-worked-via-else-not-worked+then-not-may_commit}
 
 pub returns-then-not-may_begin-clause-transacts : goal.returns-then-not-may_begin-clause-transacts
-returns-then-not-may_begin-clause-transacts g c =
-    let bs = c.args.branches.now in
-    refused refl (unbegun refl (λ may known. let yes_ : c.may_begin.result ≡ true = c.may_begin.ensures.1 (may, known) in let no_ : c.may_begin.result ≡ false = c.if-not-may_begin.true in cc) refl)
-    (have_none (IsFor bs) _ _ refl)
+returns-then-not-may_begin-clause-transacts g c = grind (arith, have_none)
 
 pub returns-then-not-worked-clause-transacts : goal.returns-then-not-worked-clause-transacts
 returns-then-not-worked-clause-transacts g c =

@@ -1,4 +1,4 @@
-use Rattle.xa_base.proofs.{rules, ◌≡◌, ℕ, ◌+◌, ◌-◌, ◌<◌, ◌≤◌, Vec, true, false, ◌||◌, List, [], ◌∷◌, ◌++◌, length, length-append, append-nil, None, take, drop}
+use Rattle.xa_base.proofs.{rules, ◌≡◌, ℕ, ◌+◌, ◌<◌, ◌≤◌, Vec, true, false, ◌||◌, List, [], ◌∷◌, ◌++◌, length, length-append, append-nil, None, take, drop}
 use Rattle.xa_base.proofs.{append_assoc, sym, refl, ap, ◌∙◌, subst, arith, Global, list_any, slice_index_or, take_all, take-append-drop, list_any-append}
 use Rattle.xa_base.proofs.{one_more}
 use Rattle.std.proofs.Common.{length-take}
@@ -6,10 +6,8 @@ use Rattle.xa_desk.specs.DeskView.{DeskView}
 use Rattle.xa_desk.specs.{DeskSeat}
 use Rattle.xa_log.specs.{IsReadAs, LogState}
 use Rattle.xa_work.specs.{WorkOutcome, Undecided, IsOpenRm, LeavesKnown, has_died, is_last}
-use Rattle.xa_work.specs.Units.ComesOfCommit.{cut_short, in_full, undecided}
-use Rattle.xa_work.specs.Units.Transacts.{commits, refused}
 use Rattle.xa_work.proofs.Sent.{have_none}
-use Rattle.xa_bank.specs.{Habits, Teller, Transfer, death_in, death_if_at, ended, lived, unknown, Makes, MakesEach, MakesNext, with_legs, without_legs}
+use Rattle.xa_bank.specs.{Habits, Teller, Transfer, ended, lived, unknown, Makes, MakesEach, MakesNext}
 use Rattle.xa_bank.proofs.Named.{makes_more, makes_none}
 use Rattle.xa_bank.proofs.LostRecords.{each_any, refused_so}
 use Rattle.xa_bank.proofs.teller.Teller.make_all.Goals as goal
@@ -152,26 +150,14 @@ returns-then-last-clause-made g c =
 -- a teller that isn't to die doesn't
 lives_on : {R : LogState → Type 0} (t n : ℕ) (tr : Transfer) (habits : Habits) (o : WorkOutcome) (old new : DeskView) (log later : LogState)
     → Makes t n tr habits o old new log later R → habits.death ≡ None → has_died o ≡ false
-lives_on t n tr habits o old new log later (with_legs one two left legs (commits worked begins known_ work (in_full done none is made)) kept read) never =
-    ap has_died is
-lives_on t n tr habits o old new log later (with_legs one two left legs (commits worked begins known_ work (cut_short at known some is dies)) kept read) never =
-    let nowhere : death_in habits n ≡ None = ap (λ d. death_if_at d (n - habits.first)) never in cc
-lives_on t n tr habits o old new log later (with_legs one two left legs (commits worked begins known_ work (undecided votes decides is may voted wanted)) kept read) never =
-    ap has_died is
-lives_on t n tr habits o old new log later (with_legs one two left legs (refused same why sent) kept read) never =
-    ap has_died (refused_so _ _ o old new log _ why).1
-lives_on t n tr habits o old new log later (without_legs is none same unlogged) never = ap has_died is
+lives_on t n tr habits o old new log later h never = grind (arith, refused_so)
 
 -- so its last transfer is one that its log has lost
 last_is_lost : (Knows : Type 0) (o : WorkOutcome) → is_last o ≡ true → has_died o ≡ false → LeavesKnown Knows o → Knows → ⊥
-last_is_lost Knows (Undecided votes) last lives known = known
-last_is_lost Knows o last lives known = cc
+last_is_lost Knows o last lives known = grind arith
 
 pub returns-then-last-clause-each : goal.returns-then-last-clause-each
-returns-then-last-clause-each g c never known knows =
-    let o : WorkOutcome = c.in_ok-outcome.outcome in
-    let lives = lives_on _ _ _ _ o _ _ _ _ c.in_ok-outcome.ensures.makes.makes (ap (λ (h : Habits). h.death) c.loop-place.invariant.habits ∙ never) in
-    absurd (last_is_lost (g.L.DecisionRecords.knows c.make.new.self.log) o (sym c.is_last-last.ensures ∙ c.if-last.true) lives c.in_ok-outcome.ensures.known knows)
+returns-then-last-clause-each g c never known knows = grind (arith, lives_on, last_is_lost)
 
 pub returns-clause-made : goal.returns-clause-made
 returns-clause-made g c =
