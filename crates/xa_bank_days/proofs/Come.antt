@@ -1,8 +1,8 @@
 -- What a commit came to that was made, or whose coordinator died: whether its log has the record is what was told, where the
 -- first branch isn't read only.
 use Rattle.xa_base.proofs.{is_some, if◌then◌else◌, ◌≡◌, ◌≢◌, ℕ, zero, Bool, true, false, not, ◌&&◌, ◌||◌, cond, Option, None, Some, List, [], ◌∷◌, ◌++◌, length}
-use Rattle.xa_base.proofs.{append_assoc, sym, refl, ap, ◌∙◌, subst, arith, inl, inr, All, Contains, eq_by_cmp, is_eq, tied_itself, get-insert, or-true, and_parts}
-use Rattle.xa_base.proofs.{Contains-append_right, is_equal}
+use Rattle.xa_base.proofs.{append_assoc, sym, refl, ap, ◌∙◌, subst, arith, inl, inr, All, Contains, eq_by_cmp, is_eq, tied_itself, get-insert, or-true}
+use Rattle.xa_base.proofs.{and_parts, Contains-append_right, is_equal}
 use Rattle.std.specs.FinMap as map
 use Rattle.xa_words.specs.{XidName, TranName, tran_of, Done, RdOnly, RmFail, Death, Op, Prepare}
 use Rattle.xa_words.proofs.Xids.{xid_self}
@@ -144,7 +144,8 @@ some_yes v vs reads decides = cc
 
 some_decided : (b : Branch) (vs : List Code) (a a' : LedgerView) → FirstVoted b vs a a' → (OnlyReads b a a' → ⊥) → decides_commit vs ≡ true → has_yes vs ≡ true
 some_decided b vs a a' z never decides =
-    let votes : z.vote ≡ RdOnly → ⊥ = λ is. never (reads b a z.voted.prepared a' (subst (λ v. AsksLedger a (Prepare b.xid) z.voted.prepared v) is z.voted.asks) z.voted.after) in
+    let votes : z.vote ≡ RdOnly → ⊥ =
+    λ is. never (reads b a z.voted.prepared a' (subst (λ v. AsksLedger a (Prepare b.xid) z.voted.prepared v) is z.voted.asks) z.voted.after) in
     subst (λ l. has_yes l ≡ true) (sym z.votes) (some_yes z.vote z.others votes (subst (λ l. decides_commit l ≡ true) z.votes decides))
 
 -- then it was decided to commit exactly where the log has the record

@@ -1,7 +1,7 @@
 -- After a night that told of each branch XA_OK the next day may begin: no store has a branch, and the logs have records of earlier
 -- transfers alone.
-use Rattle.xa_base.proofs.{is_some, ◌≡◌, ℕ, ◌+◌, ◌<◌, ◌≤◌, ⊎_elim, Bool, true, false, None, Some, List, [], ◌∷◌, length, get_or, slice_get, sym, refl, ap}
-use Rattle.xa_base.proofs.{◌∙◌, subst, arith, All, Contains, All-nil, All-cons, All-contains, all_at, got_map, by_bool}
+use Rattle.xa_base.proofs.{is_some, ◌≡◌, ℕ, ◌+◌, ◌<◌, ◌≤◌, ⊎_elim, Bool, true, false, None, Some, List, [], ◌∷◌, length, get_or, slice_get, sym, refl, ap, ◌∙◌}
+use Rattle.xa_base.proofs.{subst, arith, All, Contains, All-nil, All-cons, All-contains, all_at, got_map, by_bool}
 use Rattle.xa_base.specs.{MOST_MANAGERS, IsUpTo}
 use Rattle.xa_words.specs.{XidName, Decides-xid_eq, TranName, tran_of, Op, OpenRm}
 use Rattle.xa_tables.specs.Tables.{Tables}

@@ -1,6 +1,6 @@
 -- An opening of a plan in which nobody does anything: each store is left with what it opened with.
-use Rattle.xa_base.proofs.{◌≡◌, ℕ, ◌+◌, ◌-◌, ◌<◌, ◌≤◌, List, [], ◌∷◌, ◌++◌, append-nil, length, map, Option, Some, sym, refl, ap, ◌∙◌, subst}
-use Rattle.xa_base.proofs.{arith, ◌==◌, Contains, range_with_len, eqb-true, All-contains, length-range_with_len, get_or-range_with_len, got, got_map}
+use Rattle.xa_base.proofs.{◌≡◌, ℕ, ◌+◌, ◌-◌, ◌<◌, ◌≤◌, List, [], ◌∷◌, ◌++◌, append-nil, length, map, Option, Some, sym, refl, ap, ◌∙◌, subst, arith, ◌==◌}
+use Rattle.xa_base.proofs.{Contains, range_with_len, eqb-true, All-contains, length-range_with_len, get_or-range_with_len, got, got_map}
 use Rattle.std.proofs.lemmas.List.Sorted.{IsPermutation-sym, Contains-permutation}
 use Rattle.xa_base.specs.{IsUpTo}
 use Rattle.xa_words.specs.{Op}

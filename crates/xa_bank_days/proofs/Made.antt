@@ -1,7 +1,6 @@
 -- What one transfer comes to at one store, for one account: the legs that it has there, and what else was sent.
 use Rattle.xa_base.proofs.{arith, ℤ, pos, if◌then◌else◌, ◌≡◌, ◌≢◌, ℕ, ◌+◌, ◌^◌, ◌<◌, ◌≤◌, ◌⊎◌, Bool, true, false, ◌||◌, ◌==◌, None, Some, List, [], ◌∷◌, sym}
-use Rattle.xa_base.proofs.{refl, ap, ◌∙◌, subst, inl, inr, list_any, cases_eq, ne_eqb, All-nil, All-cons}
-use Rattle.xa_base.proofs.{Contains}
+use Rattle.xa_base.proofs.{refl, ap, ◌∙◌, subst, inl, inr, list_any, cases_eq, ne_eqb, All-nil, All-cons, Contains}
 use Rattle.xa_words.proofs.Xids.{xid_self}
 use Rattle.xa_words.specs.{XidName, xid_eq, Decides-xid_eq, TranName, tran_of, Op, Start, Add, End, Prepare, Commit, Rollback, Forget, Heur, Fresh, Success}
 use Rattle.xa_tables.specs.Tables.{Tables}
@@ -23,8 +22,7 @@ use Rattle.xa_work.specs.Units.Transacts.{commits, refused}
 use Rattle.xa_work.proofs.Sent.{none_sent, sent_on, sent_as, have_on}
 use Rattle.xa_bank.specs.{Habits, Transfer, death_in, shut_before, AreLegs, Makes, MakesNext, branches_of, changes_of, tran_named, with_legs, without_legs}
 use Rattle.xa_bank.proofs.Legs.{AnyLeg, leg_work}
-use Rattle.xa_bank.proofs.Named.{IsOf, Is, IsFrom, IsShut, LegsOf, Names, comes_names, either_named, legs_are, shut_names, shut_sent}
-use Rattle.xa_bank.proofs.Named.{work_names}
+use Rattle.xa_bank.proofs.Named.{IsOf, Is, IsFrom, IsShut, LegsOf, Names, comes_names, either_named, legs_are, shut_names, shut_sent, work_names}
 use Rattle.xa_bank.proofs.LostRecords.{if_both}
 use Rattle.xa_bank.proofs.Told.{Earlier, IsBelow, earlier_on}
 use Rattle.xa_bank_days.specs.{IsNamed, is_applied, share}
@@ -94,7 +92,8 @@ module _ {s : Settling} {again : Again} {q : ResolveCall} {next : Settling} (sce
   -- nothing was sent there
   nothing_at : (n : ℕ) (tr : Transfer) (was : Bool) (old new : List LedgerView) → pos 0 ≡ (if was then share tr m j else pos 0)
       → ledger new m ≡ ledger old m → TransferAt n tr was (ledger old m) (ledger new m)
-  nothing_at n tr was old new sum same = no_legs sum (subst (HasSent (Noted q.records []) (ledger old m)) (sym same) (none_sent (Noted q.records []) (ledger old m)))
+  nothing_at n tr was old new sum same =
+      no_legs sum (subst (HasSent (Noted q.records []) (ledger old m)) (sym same) (none_sent (Noted q.records []) (ledger old m)))
 
   -- ---- a transfer that came to a commit
 
@@ -229,7 +228,8 @@ module _ {s : Settling} {again : Again} {q : ResolveCall} {next : Settling} (sce
         → TransferAt n tr (is_applied is_found o) (ledger old.ledgers m) (ledger new.ledgers m)
     next_at old new log later makes so after earlier found =
         let shuts : HaveSent IsShut old.ledgers makes.shut.ledgers = shut_sent (shut_before habits n) old makes.shut makes.shuts in
-        let z = makes_at makes.shut new log later makes.makes so after (earlier_on t n n IsShut old.ledgers makes.shut.ledgers (omega arith) (shut_names t (IsBelow n)) earlier shuts) found in
+        let z =
+        makes_at makes.shut new log later makes.makes so after (earlier_on t n n IsShut old.ledgers makes.shut.ledgers (omega arith) (shut_names t (IsBelow n)) earlier shuts) found in
         let P : Op → Type 0 = Noted q.records z.legs in
         legs_as z (λ x its. its) (λ noted.
         sent_on P (ledger old.ledgers m) (ledger makes.shut.ledgers m) (ledger new.ledgers m)

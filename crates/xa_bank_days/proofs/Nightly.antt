@@ -1,7 +1,7 @@
 -- The one client of a night resolves what was left, and nothing else was done in its opening.
 use Rattle.xa_base.proofs.{Err, IfOk, Ok, Result, ◌≡◌, ◌≢◌, ℕ, zero, suc, ◌+◌, ◌<◌, ◌≤◌, ◌⊎◌, ⊎_elim, true, false, Some, List, [], ◌∷◌, ◌++◌, length}
-use Rattle.xa_base.proofs.{length-append, map, get_or, slice_get, inl, inr, append-nil, sym, refl, ap, ◌∙◌, subst, arith, All, cases_eq, cases_lt}
-use Rattle.xa_base.proofs.{All-nil, All-head, All-contains, same_Some as some_same, all_at, got_map}
+use Rattle.xa_base.proofs.{length-append, map, get_or, slice_get, inl, inr, append-nil, sym, refl, ap, ◌∙◌, subst, arith, All, cases_eq, cases_lt, All-nil}
+use Rattle.xa_base.proofs.{All-head, All-contains, same_Some as some_same, all_at, got_map}
 use Rattle.std.specs.Prelude.{IfErr}
 use Rattle.std.proofs.lemmas.List.Elements.{Contains-get_or}
 use Rattle.xa_base.specs.{MOST_MANAGERS, IsUpTo}

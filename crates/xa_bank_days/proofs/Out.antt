@@ -14,8 +14,8 @@ use Rattle.xa_switch.specs.Settling.{Settling}
 use Rattle.xa_switch.specs.{IsSettled, first_of, history, ledgers_of}
 use Rattle.xa_log.specs.{LogState, Records, record_in, record_of}
 use Rattle.xa_driver.specs.{Branch, Outcome, is_to_commit as is_marked, names as names_manager, IsTranOf}
-use Rattle.xa_atomicity.specs.{is_recorded, OnlyTheseOrDecisionsName, AskedAreLeft, IsResolvedAfter, WasAsked, CutCall, IsOutcomeOf, IsUseIn}
-use Rattle.xa_atomicity.specs.{OnlyResolves, Opening, ResolveCall, cut_call, cuts, resolves, with_use}
+use Rattle.xa_atomicity.specs.{is_recorded, OnlyTheseOrDecisionsName, AskedAreLeft, IsResolvedAfter, WasAsked, CutCall, IsOutcomeOf, IsUseIn, OnlyResolves}
+use Rattle.xa_atomicity.specs.{Opening, ResolveCall, cut_call, cuts, resolves, with_use}
 use Rattle.xa_atomicity.proofs.NextOpening.{next_resolved_after, one_of}
 use Rattle.xa_days.specs.{IsMarkedNowhere, Leg, IsItsOwn, leg_of, OnlyRead, ComesOutByTheLog}
 use Rattle.xa_days.proofs.Legs.{after_seam}

@@ -1,7 +1,6 @@
 -- What all transfers of one teller come to at one store, for one account.
-use Rattle.xa_base.proofs.{◌≡◌, ℕ, ◌+◌, ◌^◌, ◌<◌, ◌≤◌, ⊎_elim, Bool, true, false, ◌||◌, None, List, [], ◌∷◌, ◌++◌, length, sym}
-use Rattle.xa_base.proofs.{refl, ap, ◌∙◌, subst, arith, inl, inr, list_any, or-true}
-use Rattle.xa_base.proofs.{list_any-append}
+use Rattle.xa_base.proofs.{◌≡◌, ℕ, ◌+◌, ◌^◌, ◌<◌, ◌≤◌, ⊎_elim, Bool, true, false, ◌||◌, None, List, [], ◌∷◌, ◌++◌, length, sym, refl, ap, ◌∙◌, subst, arith}
+use Rattle.xa_base.proofs.{inl, inr, list_any, or-true, list_any-append}
 use Rattle.xa_base.specs.{total}
 use Rattle.xa_words.specs.{XidName, xid_eq, TranName, tran_of, Op}
 use Rattle.xa_tables.specs.Tables.{Tables}

@@ -1,7 +1,7 @@
 -- What the transfers of all tellers come to at one store, for one account.
-use Rattle.xa_base.proofs.{is_some, Vec, ◌≡◌, ℕ, zero, suc, ◌+◌, ◌^◌, ◌<◌, ◌≤◌, Bool, true, Option, None, Some, List, [], ◌∷◌}
-use Rattle.xa_base.proofs.{◌++◌, length, get_or, map, slice_get, sym, refl, ap, ◌∙◌, subst, arith, inl, inr, All, length-map}
-use Rattle.xa_base.proofs.{slice_get_within, Global, All-nil, All-weaker, got, got_map, some_same, was_mapped}
+use Rattle.xa_base.proofs.{is_some, Vec, ◌≡◌, ℕ, zero, suc, ◌+◌, ◌^◌, ◌<◌, ◌≤◌, Bool, true, Option, None, Some, List, [], ◌∷◌, ◌++◌, length, get_or, map}
+use Rattle.xa_base.proofs.{slice_get, sym, refl, ap, ◌∙◌, subst, arith, inl, inr, All, length-map, slice_get_within, Global, All-nil, All-weaker, got, got_map}
+use Rattle.xa_base.proofs.{some_same, was_mapped}
 use Rattle.xa_base.specs.{MOST_MANAGERS, IsUpTo, total}
 use Rattle.xa_words.specs.{XidName, TranName, Op}
 use Rattle.xa_tables.specs.{state_of, names}
@@ -19,8 +19,7 @@ use Rattle.xa_bank.specs.{Teller, Transfer}
 use Rattle.xa_bank.proofs.Members.{of_threads}
 use Rattle.xa_bank.proofs.Named.{IsOf, Names, one_transfer, opens_names}
 use Rattle.xa_bank.proofs.Told.{IsBelow, IsTold}
-use Rattle.xa_bank_days.specs.{IsNamed, all_told, records_of}
-use Rattle.xa_bank_days.specs.{told as told_of}
+use Rattle.xa_bank_days.specs.{IsNamed, all_told, records_of, told as told_of}
 use Rattle.xa_bank_days.proofs.Keeps.{each_keeps, named_once}
 use Rattle.xa_bank_days.proofs.Logs.{NoLogs, OneLogMore, one_in_all, same_in_all}
 use Rattle.xa_bank_days.proofs.Made.{CameOut, IsStore, Noted, noted_none}
@@ -96,7 +95,8 @@ module _ (laws : Laws) {L : Type 0} {state : L → LogState} {knows : L → Type
       let l = was_mapped (λ (log : L). (state log).records) logs u r there in
       let o = owner d u l.0 l.1 in
       let other : (e : ℕ) → IsNamed (u + 1) e tran.gtrid → ⊥ = λ e its.
-      let same = (named_once (i + 1) (u + 1) k e tran.gtrid (low_at i old z.old_at) (low_at u o.old o.place.old_at) named its).0 in apart (omega (arith, same)) in
+      let same = (named_once (i + 1) (u + 1) k e tran.gtrid (low_at i old z.old_at) (low_at u o.old o.place.old_at) named its).0 in
+      apart (omega (arith, same)) in
       ap (λ (p : Records). record_in p tran) (sym (ap (λ (log : L). (state log).records) o.log_is ∙ l.2)) ∙ log_keeps u o.old o.place tran (λ e _. other e)
       ∙ old_none u o.old tran o.place.old_at (λ e _. other e))
 
@@ -194,7 +194,8 @@ module _ (laws : Laws) {L : Type 0} {state : L → LogState} {knows : L → Type
       let same = (one_transfer (i + 1) k u e x (omega (arith, high)) (omega (arith, high, upto)) its others).0 in omega (arith, same, above))
       (λ one more k lt. noted_at head.legs tail.legs one more k lt))
     where
-      noted_at : (xs ys : List Leg) → All (Noted q.records xs) (sent s (i + 1) m) → ((k : ℕ) → k < length ns → All (Noted q.records ys) (sent s (i + 1 + k + 1) m))
+      noted_at : (xs ys : List Leg) → All (Noted q.records xs) (sent s (i + 1) m)
+          → ((k : ℕ) → k < length ns → All (Noted q.records ys) (sent s (i + 1 + k + 1) m))
           → (k : ℕ) → k < suc (length ns) → All (Noted q.records (xs ++ ys)) (sent s (i + k + 1) m)
       noted_at xs ys one more zero lt =
           subst (λ t. All (Noted q.records (xs ++ ys)) (sent s t m)) (let e : i + 1 ≡ i + 0 + 1 = omega arith in e)

@@ -1,5 +1,5 @@
-use Rattle.xa_base.proofs.{rules, ◌≡◌, ℕ, ◌+◌, Bool, List, [], ◌∷◌, ◌++◌, length, length-append, map, append_assoc, sym, ap, ◌∙◌, subst, arith}
-use Rattle.xa_base.proofs.{length-map, map-append, into_iter_items, into_iter_len}
+use Rattle.xa_base.proofs.{rules, ◌≡◌, ℕ, ◌+◌, Bool, List, [], ◌∷◌, ◌++◌, length, length-append, map, append_assoc, sym, ap, ◌∙◌, subst, arith, length-map}
+use Rattle.xa_base.proofs.{map-append, into_iter_items, into_iter_len}
 use Rattle.xa_crew.specs.{WithScan, Attended}
 use Rattle.xa_bank.specs.{Teller, ReadsBack}
 use Rattle.xa_bank_days.specs.{ForEach}

@@ -3,8 +3,7 @@ use Rattle.std.specs.Prelude.{IfErr}
 use Rattle.xa_switch.specs.declared.plan.Again.{Again}
 use Rattle.xa_switch.specs.{MayReopen}
 use Rattle.xa_driver.specs.{Resolved}
-use Rattle.xa_bank_days.specs.{Unresolved, BadNumbers, TellerWantsMemory, next_numbers, Excuses, HasRoomToResolve, IsNight}
-use Rattle.xa_bank_days.specs.{IsUntouched, unopened}
+use Rattle.xa_bank_days.specs.{Unresolved, BadNumbers, TellerWantsMemory, next_numbers, Excuses, HasRoomToResolve, IsNight, IsUntouched, unopened}
 use Rattle.xa_bank_days.proofs.DayWorked.{same_stores}
 use Rattle.xa_bank_days.proofs.ManyDays.{if_ok}
 use Rattle.xa_bank_days.proofs.day.pass_night.Goals as goal

@@ -1,6 +1,6 @@
 use Rattle.std.specs.Prelude.{IsTrue}
-use Rattle.xa_base.proofs.{◌≡◌, true, false, List, Vec, [], ◌∷◌, ◌++◌, append_assoc, sym, ap, ◌∙◌, subst, rules, arith, refl, Global}
-use Rattle.xa_base.proofs.{into_iter_items, into_iter_len}
+use Rattle.xa_base.proofs.{◌≡◌, true, false, List, Vec, [], ◌∷◌, ◌++◌, append_assoc, sym, ap, ◌∙◌, subst, rules, arith, refl, Global, into_iter_items}
+use Rattle.xa_base.proofs.{into_iter_len}
 use Rattle.std.proofs.lemmas.Grind.{common_steps}
 use Rattle.xa_bank_days.specs.{Closed, Errands, early, whole, at_day, at_once, AreClosed}
 use Rattle.xa_bank_days.proofs.ManyDays.{closed_day, one_day_more}
