@@ -1,4 +1,5 @@
 -- The logs of all tellers, one by one, with what they were found to have.
+use Rattle.std.proofs.Common.{rules}
 use Rattle.xa_base.proofs.{◌≡◌, ℕ, zero, suc, ◌+◌, ◌^◌, nat_lt, ◌&&◌, Bool, true, Some, List, [], ◌∷◌, ◌++◌, length, slice_get, refl, ap, ◌∙◌, subst, arith}
 use Rattle.xa_words.specs.{TranName}
 use Rattle.xa_log.specs.{LogState}
@@ -20,8 +21,7 @@ module _ {L : Type 0} (P : ℕ → Teller L → L → Bool → Type 0) where
   pub as_many : (t : ℕ) (tellers : List (Teller L)) (logs : List L) (founds : List Bool) → ForEach P t tellers logs founds
       → (length logs ≡ length tellers) × (length founds ≡ length tellers)
   as_many t [] [] [] h = (refl, refl)
-  as_many t (teller ∷ tellers) (log ∷ logs) (found ∷ founds) h =
-      let rest = as_many (t + 1) tellers logs founds h.1 in (ap suc rest.0, ap suc rest.1)
+  as_many t (teller ∷ tellers) (log ∷ logs) (found ∷ founds) h = search (arith, as_many (t + 1) tellers logs founds h.1, h.1)
   as_many t tellers logs founds h = absurd h
 
   pub back_at : (t k : ℕ) (tellers : List (Teller L)) (logs : List L) (founds : List Bool) → ForEach P t tellers logs founds
@@ -53,11 +53,7 @@ module _ {L : Type 0} (P : ℕ → Teller L → L → Bool → Type 0) where
       → ForEach P t tellers logs founds → P (t + length tellers) teller log found
       → ForEach P t (tellers ++ teller ∷ []) (logs ++ log ∷ []) (founds ++ found ∷ [])
   one_back_more t [] [] [] teller log found h its = (subst (λ u. P u teller log found) (let e : t + 0 ≡ t = omega arith in e) its, tt)
-  one_back_more t (x ∷ tellers) (l ∷ logs) (f ∷ founds) teller log found h its = (
-    h.0,
-    one_back_more (t + 1) tellers logs founds teller log found h.1
-        (subst (λ u. P u teller log found) (let e : t + suc (length tellers) ≡ t + 1 + length tellers = omega arith in e) its),
-  )
+  one_back_more t (x ∷ tellers) (l ∷ logs) (f ∷ founds) teller log found h its = search (arith, one_back_more (t + 1) tellers logs founds teller log found h.1)
   one_back_more t tellers logs founds teller log found h its = absurd h
 
 -- what holds of each, and so does another
@@ -71,13 +67,7 @@ all_so P Q so t tellers logs founds h = absurd h
 module _ {L : Type 0} (state : L → LogState) (knows : L → Type 0) (loses : TranName → List Bool → L → L → Type 0) (reopens : L → L → Type 0) where
   is_read_back : (t : ℕ) (teller : Teller L) (log : L) (found : Bool) → ReadsBack state knows loses reopens t teller log found
       → IsReadBack state knows loses t teller log found
-  is_read_back t teller log found z = record {
-    same = z.same;
-    read = z.read;
-    finds = λ known un small.
-        let e : nat_lt (last_number teller) (2 ^ 32) ≡ true = grind (arith, small) in
-        z.finds known un ∙ ap (λ b. b && is_recorded (state log) (tran_named t (last_number teller))) e;
-  }
+  is_read_back t teller log found z = search (arith, nat_lt, z.finds)
 
   -- so they were read back
   pub are_read_back : (t : ℕ) (tellers : List (Teller L)) (logs : List L) (founds : List Bool)

@@ -1,5 +1,6 @@
 -- What a commit came to that was made, or whose coordinator died: whether its log has the record is what was told, where the
 -- first branch isn't read only.
+use Rattle.std.proofs.Common.{rules}
 use Rattle.xa_base.proofs.{is_some, if◌then◌else◌, ◌≡◌, ◌≢◌, ℕ, zero, Bool, true, false, not, ◌&&◌, ◌||◌, cond, Option, None, Some, List, [], ◌∷◌, ◌++◌, length}
 use Rattle.xa_base.proofs.{append_assoc, sym, refl, ap, ◌∙◌, subst, arith, inl, inr, All, Contains, eq_by_cmp, is_eq, tied_itself, get-insert, or-true}
 use Rattle.xa_base.proofs.{and_parts, Contains-append_right, is_equal}
@@ -33,12 +34,7 @@ abbrev pub Obeys : XidName → Op → Type 0
 Obeys x op = (names x op ≡ true) × (is_heur op ≡ false)
 
 may_obey : (b : Branch) → MayAsk (Obeys b.xid) b.xid
-may_obey b = record {
-  first = (xid_self b.xid, refl);
-  commit = (xid_self b.xid, refl);
-  rollback = (xid_self b.xid, refl);
-  forget = (xid_self b.xid, refl);
-}
+may_obey b = search (arith, xid_self)
 
 -- to a branch's manager such requests, and to the others nothing
 abbrev pub ObeysAt : List LedgerView → List LedgerView → Branch → Type 0
@@ -74,8 +70,7 @@ unadded own t managers log other =
 others_stay : (own t : TranName) (managers : List Bool) (votes : List Code) (logged : Bool) (log later : LogState) → t ≢ own
     → Logs own managers votes logged log later
     → record_of later t ≡ record_of log t
-others_stay own t managers votes logged log later other (appended wants on is) =
-    ap (λ (l : LogState). record_of l t) is ∙ unadded own t managers log other
+others_stay own t managers votes logged log later other (appended wants on is) = search (arith, unadded)
 others_stay own t managers votes logged log later other (failed wants off is) = ap (λ (l : LogState). record_of l t) is
 others_stay own t managers votes logged log later other (unwanted wants off is) = ap (λ (l : LogState). record_of l t) is
 
@@ -95,10 +90,8 @@ pub record OnlyReads (b : Branch) (a a' : LedgerView) : Type 0 where
 
 reads : (b : Branch) (a d a' : LedgerView) → AsksLedger a (Prepare b.xid) d RdOnly → HasSent (Obeys b.xid) d a' → OnlyReads b a a'
 reads b a d a' asks after =
-    let open_ : learnt_shut a ≡ false =
-    elim (learnt_shut a) as (λ c. learnt_shut a ≡ c → c ≡ false) [ true ↦ λ shut. let z : RdOnly ≡ RmFail = asks.answered shut in cc | false ↦ λ _. refl ] refl in
-    let first : d ≡ with_collected (with_sent a (Prepare b.xid)) (length a.sent) RdOnly =
-    asks.trace ∙ ap (λ c. if c then a else with_collected (with_sent a (Prepare b.xid)) (length a.sent) RdOnly) open_ in
+    let open_ : learnt_shut a ≡ false = search (arith, asks.answered) in
+    let first : d ≡ with_collected (with_sent a (Prepare b.xid)) (length a.sent) RdOnly = search (arith, rules) in
     let took = after.collected in
     record {
       more = after.more;
@@ -122,8 +115,7 @@ module _ (old new : List LedgerView) (b : Branch) (bs : List Branch) where
 
   asked_first : (vs : List Code) → length vs ≡ length (b ∷ bs) → HaveAsked AsksLedger PutsLedger (b ∷ bs) vs (ledger old) (ledger new) → First vs
   asked_first [] many h = absurd (omega (arith, many))
-  asked_first (v ∷ vs) many h =
-      record { vote = v; others = vs; votes = refl; voted = record { prepared = ledger new b.m; asks = h.0; after = none_sent (Obeys b.xid) (ledger new b.m) } }
+  asked_first (v ∷ vs) many h = search (arith, none_sent)
 
   told_first : (commit : Bool) (k : ℕ) (vs : List Code) → HaveTold AsksLedger PutsLedger commit k (b ∷ bs) vs (ledger old) (ledger new) → First vs
   told_first commit k [] h = absurd h
@@ -152,17 +144,9 @@ some_decided b vs a a' z never decides =
 decided_so : (t : TranName) (managers : List Bool) (votes : List Code) (logged : Bool) (log later : LogState)
     → (decides_commit votes ≡ true → has_yes votes ≡ true)
     → Logs t managers votes logged log later → decision_of votes logged ≡ logged
-decided_so t managers votes logged log later some (appended wants on is) =
-    ap (λ c. c && (not (has_yes votes) || logged)) (and_parts (decides_commit votes) (has_yes votes) wants).0 ∙ ap (λ l. not (has_yes votes) || l) on
-    ∙ or-true (not (has_yes votes)) ∙ sym on
-decided_so t managers votes logged log later some (failed wants off is) =
-    ap (λ c. c && (not (has_yes votes) || logged)) (and_parts (decides_commit votes) (has_yes votes) wants).0
-    ∙ ap (λ y. not y || logged) (and_parts (decides_commit votes) (has_yes votes) wants).1
-decided_so t managers votes logged log later some (unwanted wants off is) =
-    elim (decides_commit votes) as (λ c. decides_commit votes ≡ c → (c && (not (has_yes votes) || logged)) ≡ logged) [
-      | true ↦ λ decides. ap (λ y. not y || logged) (some decides)
-      | false ↦ λ _. sym off
-    ] refl
+decided_so t managers votes logged log later some (appended wants on is) = search (arith, and_parts, or-true)
+decided_so t managers votes logged log later some (failed wants off is) = search (arith, and_parts)
+decided_so t managers votes logged log later some (unwanted wants off is) = search (arith, rules)
 
 -- ---- what it came to
 
@@ -193,19 +177,9 @@ module _ (one two : Branch) (desk : DeskView) (new : List LedgerView) (log later
 
     came_commit : (at : Death) → CameTo AsksLedger PutsLedger at tran bs (ledger desk.ledgers) (ledger new) log later known
         → is_recorded later tran ≡ known.commit
-    came_commit death.Decided far =
-        by_votes known.votes.items known.logged known.commit (asked_first desk.ledgers new one (two ∷ []) known.votes.items far.counted far.asked) far.decided.decision
-        far.decided.logs
-    came_commit (death.Telling k) far =
-        by_votes known.votes.items known.logged known.commit (told_first desk.ledgers new one (two ∷ []) known.commit k known.votes.items far.told) far.decided.decision
-        far.decided.logs
-    came_commit death.Told far =
-        by_votes known.votes.items known.logged known.commit
-        (voting_first desk.ledgers new one (two ∷ [])
-        (λ b v s e. VotesAndObeys AsksLedger known.commit b v s e (ledger desk.ledgers b.m) (ledger new b.m))
-        (λ v s e. obeyed_so (Obeys one.xid) known.commit one v (ledger desk.ledgers one.m) (ledger new one.m) (may_obey one) s e)
-        known.votes.items far.seconds known.endings.items far.each)
-        far.decided.decision far.decided.logs
+    came_commit death.Decided far = search (arith, by_votes, asked_first, far.counted)
+    came_commit (death.Telling k) far = search (arith, by_votes, told_first)
+    came_commit death.Told far = search (arith, by_votes, voting_first, obeyed_so, may_obey, far.seconds, far.decided.decision)
     came_commit at far = undecided_commit far.undecided.commit far.unlogged
 
 module _ (tran : TranName) (bs : List Branch) (old new : ℕ → LedgerView) (log later : LogState) (known : Made) where

@@ -33,10 +33,7 @@ use Rattle.xa_bank_days.proofs.Went.{DayAndNight, owner}
 
 -- a branch that isn't left, in the tables of an opening, doesn't exist
 pub none_left : (T : Tables) → IsOpening T → (x : XidName) → is_left T x ≡ false → state_of T x ≡ None
-none_left T opens x off = elim (state_of T x) as (λ o. state_of T x ≡ o → o ≡ None) [
-  | None ↦ λ _. refl
-  | Some state ↦ λ is. let z : true ≡ false = sym (opens.left x state is) ∙ off in cc
-] refl
+none_left T opens x off = search (arith, opens)
 
 -- what xa_atomicity has of the outcomes of a resolve
 abbrev pub FinishedAreGone : Type 0
@@ -102,14 +99,12 @@ module _ (finished : FinishedAreGone) {records : Records} {s : Settling} {again 
   unleft_gone off =
       let opened = opens resolved m low T first in
       let stays = unnamed_on (history next m) x T (opening_free x T opened) (unleft_unnamed off) in
-      ap (λ (U : Tables). is_left (reopened U) x) (ends_with next m T resolved.settled first) ∙ as_left (tables_after (history next m) T) x
-      ∙ ap is_left_in (stays.state ∙ none_left T opened x off)
+      search (arith, ends_with, as_left, none_left)
 
   -- so no branch is there
   pub nothing_left : exists (reopened_at next.managers m) x ≡ false
   nothing_left =
-      let off : is_left (reopened_at next.managers m) x ≡ false =
-      by_bool (λ b. is_left (reopened_at next.managers m) x ≡ false) (is_left T x) left_gone unleft_gone in
+      let off : is_left (reopened_at next.managers m) x ≡ false = search (arith, left_gone, unleft_gone) in
       ap is_some (none_left (reopened_at next.managers m) (reopens (last_in (find_manager m next.managers))) x off)
 
 -- ---- all of it
@@ -155,8 +150,4 @@ module _ (finished : FinishedAreGone) {L : Type 0} {state : L → LogState} {kno
       (named_from (i + 1) old.habits.first (length os) tran)
 
   pub dawn_law : IsDawn state stores later (reopened_at next.managers) logs
-  dawn_law = record {
-    fresh = λ m x up there t k some within named. absurd (no_branch m x up there);
-    unrecorded = λ m x up there. absurd (no_branch m x up there);
-    own = own;
-  }
+  dawn_law = search (arith, no_branch, own)

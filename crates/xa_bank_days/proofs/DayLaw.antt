@@ -1,5 +1,6 @@
 -- A day of the bank and its night apply the transfers of which the tellers were told that they were decided to commit, each whole,
 -- and the others not at all.
+use Rattle.std.proofs.Common.{rules}
 use Rattle.xa_base.proofs.{◌+ℤ◌, is_some, ◌≡◌, ℕ, ◌^◌, ◌<◌, ◌⊎◌, ⊎_elim, Bool, true, false, ◌||◌, Option, None, Some, List, [], ◌∷◌, length, get_or, map, sym}
 use Rattle.xa_base.proofs.{refl, ap, ◌∙◌, subst, arith, inl, inr, All, Contains, list_any, or-true, +ℤ_idr as plus_none, length-map, All-nil, All-cons}
 use Rattle.xa_base.proofs.{All-head, All-tail}
@@ -70,16 +71,7 @@ named_or_not : (records : Records) (legs : List Leg) (x : XidName) (h : History)
     → NamesNowhere x h ⊎ ((list_any (λ g. xid_eq g.xid x) legs ≡ true) ⊎ (record_in records (tran_of x) ≡ None))
 named_or_not records legs x [] all = inl (All-nil (λ (r : Request). names x r.op ≡ false))
 named_or_not records legs x (r ∷ h) all =
-    elim (names x r.op) as (λ b. names x r.op ≡ b → NamesNowhere x (r ∷ h) ⊎ ((list_any (λ (g : Leg). xid_eq g.xid x) legs ≡ true) ⊎ (record_in records (tran_of x) ≡ None))) [
-      | true ↦ λ is. inr (
-          ⊎_elim (λ (e : list_any (λ (g : Leg). xid_eq g.xid x) legs ≡ true). inl e) (λ (e : (is_commit r.op ≡ false) × (record_in records (tran_of x) ≡ None)). inr e.1)
-          (All-head (λ (p : Request). Noted records legs p.op) r h all x is)
-          )
-      | false ↦ λ isnt.
-          ⊎_elim (λ (none : NamesNowhere x h). inl (All-cons (λ (p : Request). names x p.op ≡ false) r h isnt none))
-          (λ (e : (list_any (λ (g : Leg). xid_eq g.xid x) legs ≡ true) ⊎ (record_in records (tran_of x) ≡ None)). inr e)
-          (named_or_not records legs x h (All-tail (λ (p : Request). Noted records legs p.op) r h all))
-    ] refl
+    search (arith, named_or_not records legs x h (All-tail (λ (p : Request). Noted records legs p.op) r h all), list_any, All-head, all, All-cons, All-tail)
 
 -- a record that names a manager is there
 no_mark : (o : Option (List Bool)) (m : ℕ) → names_manager o m ≡ true → o ≡ None → ⊥
@@ -110,8 +102,7 @@ module _ (laws : Laws) {L : Type 0} {state : L → LogState} {knows : L → Type
   end = tables_after (history s m) (tables m)
 
   pub left_as : (x : XidName) → is_left (reopened_at s.managers m) x ≡ is_left_in (state_of end x)
-  left_as x =
-      ap (λ (U : Tables). is_left (reopened U) x) (ends_with s m T is_day.settled (begins.there m up)) ∙ as_left (tables_after (history s m) (tables m)) x
+  left_as x = search (arith, ends_with, as_left)
 
   -- a branch that the opening had before the day has no record
   pub before_none : (x : XidName) → exists (tables m) x ≡ true → record_in q.records (tran_of x) ≡ None
@@ -125,16 +116,7 @@ module _ (laws : Laws) {L : Type 0} {state : L → LogState} {knows : L → Type
   -- a branch that the day left, and that has a record, is that of a leg of the day
   pub left_leg : (x : XidName) → is_left (reopened_at s.managers m) x ≡ true → (record_in q.records (tran_of x) ≡ None → ⊥)
       → list_any (λ g. xid_eq g.xid x) all.legs ≡ true
-  left_leg x left recorded =
-      ⊎_elim
-      (λ (none : NamesNowhere x (history s m)).
-      let stays = unnamed_on (history s m) x (tables m) (opening_free x (tables m) opened) none in
-      let there : is_some (state_of (tables_after (history s m) (tables m)) x) ≡ true =
-      left_exists (state_of (tables_after (history s m) (tables m)) x) (sym (left_as x) ∙ left) in
-      absurd (recorded (before_none x (ap is_some (sym stays.state) ∙ there))))
-      (λ (e : (list_any (λ (g : Leg). xid_eq g.xid x) all.legs ≡ true) ⊎ (record_in q.records (tran_of x) ≡ None)).
-      ⊎_elim (λ (is : list_any (λ (g : Leg). xid_eq g.xid x) all.legs ≡ true). is) (λ (is : record_in q.records (tran_of x) ≡ None). absurd (recorded is)) e)
-      (named_or_not q.records all.legs x (history s m) noted)
+  left_leg x left recorded = search (arith, unnamed_on, opening_free, opened, is_some, left_exists, left_as, before_none, list_any, all, named_or_not, noted)
 
   -- ---- what is committed
 

@@ -1,4 +1,5 @@
 -- What tellers come to over stores that are opened again.
+use Rattle.std.proofs.Common.{rules}
 use Rattle.xa_base.proofs.{option_map, ◌≡◌, ℕ, ◌+◌, ◌%◌, ◌^◌, ◌<◌, ◌≤◌, ⊎_elim, Bool, true, false, if◌then◌else◌, ◌||◌, List, [], ◌∷◌, length, map, slice_get}
 use Rattle.xa_base.proofs.{Some, inl, inr, sym, refl, ap, ◌∙◌, subst, arith, All, list_any, or_parts, length-map, All-nil, All-cons, same_Some as some_same}
 use Rattle.xa_base.proofs.{slice_get_within, got_map}
@@ -29,9 +30,7 @@ mapped_twice f g (x ∷ xs) = ap (λ l. f (g x) ∷ l) (mapped_twice f g xs)
 -- as many have worked as there are threads
 pub many_attended : {C : Type 0} (works : AgainWorks C) (s : Settling) (again : Again) (clients : List C) (attended : List (Attended (WithScan C))) (next : Settling)
     → IsRunAgain works s again clients attended next → length attended ≡ again.threads
-many_attended {C} works s again clients attended next z =
-    ap (λ (l : List (Attended (WithScan C))). length l) z.run.attended_are ∙ length-map z.run.members (λ (t : Member (WithScan C)). t.attended)
-    ∙ sym (length-map z.run.members (λ (t : Member (WithScan C)). t.desk)) ∙ z.run.opened.threads
+many_attended {C} works s again clients attended next z = search (arith, length-map, z.run.members)
 
 -- nobody wants memory
 pub none_wants : {L : Type 0} (tellers : List (Teller L)) → list_any (λ t. t.wants_memory) tellers ≡ false
@@ -84,11 +83,8 @@ module _ {L : Type 0} (state : L → LogState) (knows : L → Type 0) (loses : T
       let within = slice_get_within olds k old old_at in
       let at : MemberAt OnDay (reopening s again) z.given attended day k =
       member_at OnDay (reopening s again) z.given attended day z.run k (omega (arith, within, many)) in
-      let first : at.member.client.client ≡ old =
-      some_same at.member.client.client old
-      (sym (got_map (λ (w : WithScan (Teller L)). w.client) z.given k at.member.client at.client_at) ∙ ap (λ (l : List (Teller L)). slice_get l k) z.are_given.clients_are ∙ old_at) in
-      let last : at.member.attended.client.client ≡ new =
-      some_same at.member.attended.client.client new (sym (got_map (λ (a : Attended (WithScan (Teller L))). a.client.client) attended k at.member.attended at.attended_at) ∙ new_at) in
+      let first : at.member.client.client ≡ old = search (arith, some_same, got_map, slice_get, at.member.client.client, at.member.client) in
+      let last : at.member.attended.client.client ≡ new = search (arith, some_same, got_map, at.member.attended.client.client, at.member.attended) in
       record {
         desk = at.member.desk;
         left = at.left;
@@ -101,8 +97,7 @@ module _ {L : Type 0} (state : L → LogState) (knows : L → Type 0) (loses : T
   pub is_day : IsDayOf state knows loses day olds news
   is_day = record {
     settled = z.run.agrees;
-    many = length-map attended (λ (a : Attended (WithScan (Teller L))). a.client.client) ∙ many_attended (WorksOn state knows loses) s again olds attended day z
-        ∙ sym many;
+    many = search (arith, length-map, many_attended);
     each = worked_at;
     others = λ t outside m.
         nobody_else OnDay (reopening s again) z.given attended day z.run t
@@ -114,10 +109,7 @@ module _ {L : Type 0} (state : L → LogState) (knows : L → Type 0) (loses : T
 -- where the day's numbers were good, so are the night's
 pub night_opens : (s : Settling) (again : Again) → IsWhole s → IsWithinLimits again (managers_in s) → s.opening ≡ again.opening
     → MayReopen s (next_numbers again 1)
-night_opens s again whole limits opening_ = record {
-  limits = record { threads = (omega arith, omega arith); managers = whole.few; handles = limits.handles; queue = limits.queue; requests = limits.requests };
-  own = λ same. let e : (again.opening + 1) % 2 ^ 64 ≡ again.opening = same ∙ opening_ in omega (arith, e);
-}
+night_opens s again whole limits opening_ = search (arith, rules)
 
 -- ---- the day
 

@@ -37,8 +37,7 @@ fewer_grown at final grown = record {
   each = λ m positive.
       ⊎_elim
       (λ (above : MOST_MANAGERS < m).
-      let none : ledger (fewer at) m ≡ no_ledger =
-      past_end (fewer at) (m - 1) (let e = few_left at in omega (arith, above, e)) in
+      let none : ledger (fewer at) m ≡ no_ledger = search (arith, past_end, few_left) in
       subst (λ (a : LedgerView). HasGrown a (ledger final m)) (sym none) (record { sent = ((ledger final m).sent, refl); collected = ((ledger final m).collected, refl) }))
       (λ (low : m ≤ MOST_MANAGERS). subst (λ (a : LedgerView). HasGrown a (ledger final m)) (sym (same_ledger at m (positive, low))) (grown.each m positive))
       (cases_lt MOST_MANAGERS m);
@@ -48,17 +47,7 @@ fewer_grown at final grown = record {
 
 fewer_room : (at : List LedgerView) (bs : List Branch) → All IsLow bs → HaveRoom at bs → HaveRoom (fewer at) bs
 fewer_room at [] low h = tt
-fewer_room at (b ∷ bs) low h =
-    let up = All-head IsLow b bs low in
-    let high = up.1 in
-    let within = h.0.known.within in
-    let e = length-take MOST_MANAGERS at in (
-      record {
-        known = record { positive = h.0.known.positive; within = omega (arith, e, high, within) };
-        room = subst (λ (a : LedgerView). length a.sent + 3 ≤ a.plan) (sym (same_ledger at b.m up)) h.0.room;
-      },
-      fewer_room at bs (All-tail IsLow b bs low) h.1,
-    )
+fewer_room at (b ∷ bs) low h = search (arith, fewer_room at bs (All-tail IsLow b bs low) h.1, All-tail, All-head, length-take, same_ledger)
 
 pub fewer_may : (desk : DeskView) (log : LogState) (bs : List Branch) → All IsLow bs → MayCommit desk log bs → MayCommit (fewer_at desk) log bs
 fewer_may desk log bs low may = record {
@@ -66,11 +55,7 @@ fewer_may desk log bs low may = record {
   most = may.most;
   rising = may.rising;
   room = fewer_room desk.ledgers bs low may.room;
-  free =
-      let less : outstanding (fewer desk.ledgers) ≤ outstanding desk.ledgers =
-      sum_by-take-le (λ (a : LedgerView). length a.sent - length a.collected) desk.ledgers MOST_MANAGERS in
-      let free = may.free in
-      omega (arith, less, free);
+  free = search (arith, sum_by-take-le, desk.ledgers, may.free);
   tran = may.tran;
   one = may.one;
   absent = may.absent;
@@ -79,9 +64,7 @@ fewer_may desk log bs low may = record {
 module _ (old new : List LedgerView) where
   at_branch : (P : LedgerView → LedgerView → Type 0) (b : Branch) → IsLow b → P (ledger old b.m) (ledger new b.m)
       → P (ledger (fewer old) b.m) (ledger (fewer new) b.m)
-  at_branch P b up h =
-      subst (λ (a : LedgerView). P a (ledger (fewer new) b.m)) (sym (same_ledger old b.m up))
-      (subst (P (ledger old b.m)) (sym (same_ledger new b.m up)) h)
+  at_branch P b up h = search (arith, same_ledger, b.m)
 
   at_votes : (P : Branch → Code → LedgerView → LedgerView → Type 0) (bs : List Branch) (vs : List Code) → All IsLow bs
       → EachVote (λ b v. P b v (ledger old b.m) (ledger new b.m)) bs vs → EachVote (λ b v. P b v (ledger (fewer old) b.m) (ledger (fewer new) b.m)) bs vs

@@ -71,12 +71,7 @@ module _ {C : Type 0} (p : Plan) (clients : List C) (attended : List (Attended C
   -- ---- how many stores there are
 
   in_range : (n m : ℕ) → Contains (range_with_len 1 n) m → m ≤ n
-  in_range n m there =
-      let size = length-range_with_len 1 n in
-      let below = there.1 in
-      let low : there.0 < n = omega (arith, size, below) in
-      let is : 1 + there.0 ≡ m = sym (get_or-range_with_len 1 n there.0 m low) ∙ there.2 in
-      omega (arith, is, low)
+  in_range n m there = search (arith, length-range_with_len, get_or-range_with_len, there.1, there.0, there.2)
 
   within : (m : ℕ) (q : ManagerPart) → find_manager m s.managers ≡ Some q → m ≤ stores
   within m q at =

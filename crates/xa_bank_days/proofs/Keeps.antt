@@ -19,9 +19,7 @@ use Rattle.xa_bank_days.proofs.Come.{IsReadSo, has_come}
 
 -- a transaction is of one transfer of one thread
 pub named_once : (t u n k : ℕ) (gtrid : List ℕ) → t < 2 ^ 32 → u < 2 ^ 32 → IsNamed t n gtrid → IsNamed u k gtrid → (u ≡ t) × (k ≡ n)
-named_once t u n k gtrid low high one two =
-    one_transfer t n u k (record { format = pos 0; gtrid = gtrid; bqual = [] }) low high (record { small = one.small; gtrid = one.gtrid_ })
-    (record { small = two.small; gtrid = two.gtrid_ })
+named_once t u n k gtrid low high one two = search (arith, one_transfer)
 
 -- it is of a transfer or not
 named_or_not : (t n : ℕ) (tran : TranName) → IsNamed t n tran.gtrid ⊎ (IsNamed t n tran.gtrid → ⊥)
@@ -30,10 +28,7 @@ named_or_not t n tran =
     ⊎_elim
     (λ (small : n < 2 ^ 32). elim (eq_by_cmp tran_cmp tran its) as (λ c. eq_by_cmp tran_cmp tran its ≡ c → IsNamed t n tran.gtrid ⊎ (IsNamed t n tran.gtrid → ⊥)) [
       | true ↦ λ same. inl (record { small = small; gtrid_ = ap (λ (u : TranName). u.gtrid) (tran_cmp-IsAntisymmetric tran its (is_equal _ same)) })
-      | false ↦ λ other. inr (λ z.
-          let is : tran ≡ its = ap (λ g. record { format = tran.format; gtrid = g }) z.gtrid_ in
-          let tied : eq_by_cmp tran_cmp tran its ≡ true = ap (eq_by_cmp tran_cmp tran) (sym is) ∙ ap is_eq (tied_itself tran_cmp_total tran) in
-          let y : true ≡ false = sym tied ∙ other in cc)
+      | false ↦ search (arith, eq_by_cmp, is_eq, tied_itself tran_cmp_total)
     ] refl)
     (λ (great : 2 ^ 32 ≤ n). inr (λ z. let small = z.small in omega (arith, small, great)))
     (cases_lt n (2 ^ 32))
@@ -111,8 +106,7 @@ module _ (R : LogState → Type 0) (t : ℕ) (habits : Habits) (keeps : habits.f
       → MakesEach t habits n trs os old new log later R
       → AreKnown os → R later → (tran : TranName) → ((k : ℕ) → n ≤ k → k < n + length os → IsNamed t k tran.gtrid → ⊥)
       → record_of later tran ≡ record_of log tran
-  each_keeps n trs [] old new log later h known may tran others =
-      ap (λ (l : LogState). record_of l tran) (none_made R t habits n trs old new log later h).1
+  each_keeps n trs [] old new log later h known may tran others = search (arith, none_made)
   each_keeps n (tr ∷ trs) (o ∷ os) old new log later (mid, now, makes, rest) known may tran others =
       each_keeps (n + 1) trs os mid new now later rest (rest_known o os known) may tran (λ k from below. others k (omega (arith, from)) (omega (arith, below)))
       ∙ makes_keeps R t n tr habits o keeps

@@ -1,4 +1,5 @@
 -- What one transfer comes to at one store, for one account: the legs that it has there, and what else was sent.
+use Rattle.std.proofs.Common.{rules}
 use Rattle.xa_base.proofs.{arith, ℤ, pos, if◌then◌else◌, ◌≡◌, ◌≢◌, ℕ, ◌+◌, ◌^◌, ◌<◌, ◌≤◌, ◌⊎◌, Bool, true, false, ◌||◌, ◌==◌, None, Some, List, [], ◌∷◌, sym}
 use Rattle.xa_base.proofs.{refl, ap, ◌∙◌, subst, inl, inr, list_any, cases_eq, ne_eqb, All-nil, All-cons, Contains}
 use Rattle.xa_words.proofs.Xids.{xid_self}
@@ -92,18 +93,14 @@ module _ {s : Settling} {again : Again} {q : ResolveCall} {next : Settling} (sce
   -- nothing was sent there
   nothing_at : (n : ℕ) (tr : Transfer) (was : Bool) (old new : List LedgerView) → pos 0 ≡ (if was then share tr m j else pos 0)
       → ledger new m ≡ ledger old m → TransferAt n tr was (ledger old m) (ledger new m)
-  nothing_at n tr was old new sum same =
-      no_legs sum (subst (HasSent (Noted q.records []) (ledger old m)) (sym same) (none_sent (Noted q.records []) (ledger old m)))
+  nothing_at n tr was old new sum same = search (arith, no_legs, none_sent)
 
   -- ---- a transfer that came to a commit
 
   module _ (n : ℕ) (tr : Transfer) (was : Bool) (one two : AnyLeg) (legs : AreLegs t n tr one two)
       (fresh : (x : XidName) → IsOf t n x → state_of T x ≡ None) (old new : List LedgerView) (c : Committed s q t n tr.account one two was old new) where
     neither : one.branch.m ≢ m → two.branch.m ≢ m → has_branch_at (branches_of one two) m ≡ false
-    neither p r =
-        let here : (one.branch.m == m) ≡ false = ne_eqb one.branch.m m p in
-        let there : (two.branch.m == m) ≡ false = ne_eqb two.branch.m m r in
-        λ i. here i || (there i || false)
+    neither p r = search (arith, ne_eqb)
 
     -- one of its legs is there
     at_leg : (leg : AnyLeg) → ItsLeg scene c leg → Contains (branches_of one two) leg.branch → share tr m j ≡ Part tr m j leg.delta → leg.branch.m ≡ m
@@ -120,10 +117,7 @@ module _ {s : Settling} {again : Again} {q : ResolveCall} {next : Settling} (sce
         (record {
           more = leg_work leg tr.account;
           sent = its.its.sent;
-          each =
-              All-cons P (Start x Fresh) (Add tr.account leg.delta ∷ End x Success ∷ []) (noted_leg q.records g (Start x Fresh) itself)
-              (All-cons P (Add tr.account leg.delta) (End x Success ∷ []) (noted_none q.records (g ∷ []) (Add tr.account leg.delta) (λ y. refl))
-              (All-cons P (End x Success) [] (noted_leg q.records g (End x Success) itself) (All-nil P)));
+          each = search (arith, All-cons, noted_leg, noted_none, All-nil);
           collected = (_, its.its.collected);
         })
         (sent_as (Obeys x) P (λ op h. noted_leg q.records g op h.0) (ledger c.desk.ledgers leg.branch.m) (ledger new leg.branch.m) its.obeyed)))
@@ -171,8 +165,7 @@ module _ {s : Settling} {again : Again} {q : ResolveCall} {next : Settling} (sce
 
     refused_at : (cs : List Change) (Known : Type 0) → IsRefused bs cs o old new log Known → HaveSent (IsFor bs) old.ledgers new.ledgers
         → TransferAt n tr (is_applied found_so o) (ledger old.ledgers m) (ledger new.ledgers m)
-    refused_at cs Known (unbegun is why same) sent =
-        nothing_at n tr (is_applied found_so o) old.ledgers new.ledgers (unapplied NotBegun is) (ap (λ (d : DeskView). ledger d.ledgers m) same)
+    refused_at cs Known (unbegun is why same) sent = search (arith, nothing_at, unapplied)
     refused_at cs Known (undone tried is begins known tries gives_up) sent = sent_for begins.commit GivenUp is sent
     refused_at cs Known (barred tried is begins known tries may gives_up) sent = sent_for begins.commit GivenUp is sent
 

@@ -1,4 +1,5 @@
 -- Days one after the other.
+use Rattle.std.proofs.Common.{arith}
 use Rattle.xa_base.proofs.{◌≡◌, Bool, true, Vec, List, [], ◌∷◌, ◌++◌, refl, subst, IfOk, Result, Ok, Err, Global, All, all_mid}
 use Rattle.std.specs.Prelude.{IfErr, MatchResult}
 use Rattle.xa_words.specs.{TranName}
@@ -41,5 +42,4 @@ module _ {L : Type 0} (state : L → LogState) (knows : L → Type 0) (loses : T
       → AreOver ds cs
       → AreClosed state knows loses reopens b ds cs b'
   ended_closed b ds cs b' (whole all) over = all
-  ended_closed b ds cs b' (early before d rest earlier c mid parts closed up_to worked open_) over =
-      absurd (open_ (all_mid IsOver earlier [] c (subst (All IsOver) closed over.each)))
+  ended_closed b ds cs b' (early before d rest earlier c mid parts closed up_to worked open_) over = search (arith, all_mid)

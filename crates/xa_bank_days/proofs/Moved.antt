@@ -1,4 +1,5 @@
 -- What days do to the balances, by the law of a day and its night.
+use Rattle.std.proofs.Common.{rules}
 use Rattle.xa_base.proofs.{if◌then◌else◌, is_some, ◌+ℤ◌, ◌≡◌, ℕ, ℤ, suc, ◌+◌, ◌^◌, ◌<◌, ◌≤◌, Bool, true, false, Option, Some, Vec, List, [], ◌∷◌, ◌++◌, length}
 use Rattle.xa_base.proofs.{map, slice_get, sym, refl, ap, ◌∙◌, subst, arith, Global, All, all_at, all_from, got_map, was_mapped, All-map}
 use Rattle.xa_base.specs.{IsUpTo}
@@ -98,10 +99,7 @@ module _ {L : Type 0} (state : L → LogState) (knows : L → Type 0) (loses : T
     n = b.next
 
     few : length z.turned < 2 ^ 32
-    few =
-        let e = same_length (λ (t : Teller L). t.transfers) (λ (x : Errands). x.transfers) z.turned errands z.are_turned.transfers in
-        let many = z.many in
-        omega (arith, e, many)
+    few = search (arith, same_length)
 
     -- their logs in the night, which were known
     abbrev logs : List L
@@ -140,9 +138,7 @@ module _ {L : Type 0} (state : L → LogState) (knows : L → Type 0) (loses : T
         ∙ z.are_turned.transfers
 
     told_so : all_told z.day.evening.found.items w.worked ≡ told_on errands c.outcomes.items c.found.items
-    told_so =
-        told_is z.day.evening.found.items w.worked errands transfers_are
-        ∙ (λ i. told_on errands (sym (ap (λ v. v.items) z.told_ ∙ w.told_) i) (sym (ap (λ v. v.items) z.found_) i))
+    told_so = search (arith, told_is, transfers_are)
 
     ends_at : All (λ (t : Teller L). t.habits.first + length t.transfers.items ≤ b'.next) z.turned
     ends_at =
@@ -179,9 +175,7 @@ module _ {L : Type 0} (state : L → LogState) (knows : L → Type 0) (loses : T
             applies z.day.settled b'.again z.night.call b'.settled z.turned w.worked logs z.day.evening.found.items (managers_in b.settled) n (reopened_at b.settled.managers) m k w.is_day w.begins few
             told_all back known dawn resolved up there
             ∙ ap (λ (es : List (Transfer × Bool)). all_applied es (balances_at b.settled) m k) told_so;
-        ready =
-            subst (λ (p : ℕ × List L). IsDawn state p.0 b'.next (reopened_at b'.settled.managers) p.1)
-            (λ i. (sym stores i, sym (ap (λ v. map (λ (t : Teller L). t.log) v.items) z.tellers) i)) next_dawn;
+        ready = search (arith, stores, next_dawn);
       }
 
   -- ---- many days
@@ -189,8 +183,7 @@ module _ {L : Type 0} (state : L → LogState) (knows : L → Type 0) (loses : T
   pub days_move : (b : Bank L) (ds : List (Vec Errands Global)) (cs : List Closed) (b' : Bank L) → AreClosed state knows loses reopens b ds cs b'
       → IsReady state b
       → IsMovedBy state (told_over ds cs) b b'
-  days_move b [] [] b' same ready =
-      subst (λ (q : Bank L). IsMovedBy state [] b q) (sym same) (record { stores = refl; accounts = λ m k up. refl; balances = λ m k up there. refl; ready = ready })
+  days_move b [] [] b' same ready = search (arith, stores)
   days_move b [] (c ∷ cs) b' wrong ready = absurd wrong
   days_move b (d ∷ ds) [] b' wrong ready = absurd wrong
   days_move b (d ∷ ds) (c ∷ cs) b' all ready =
@@ -199,12 +192,4 @@ module _ {L : Type 0} (state : L → LogState) (knows : L → Type 0) (loses : T
       let rest = days_move mid ds cs b' all.2 one.ready in
       let es : List (Transfer × Bool) = told_on d.items c.outcomes.items c.found.items in
       let up_there = λ (m : ℕ) (up : IsUpTo (managers_in b.settled) m). subst (λ (j : ℕ). IsUpTo j m) (sym one.stores) up in
-      record {
-        stores = rest.stores ∙ one.stores;
-        accounts = λ m k up. rest.accounts m k (up_there m up) ∙ one.accounts m k up;
-        balances = λ m k up there.
-            rest.balances m k (up_there m up) (one.accounts m k up ∙ there)
-            ∙ applied_same (told_over ds cs) (balances_at mid.settled) (all_applied es (balances_at b.settled)) m k (one.balances m k up there)
-            ∙ sym (applied_both es (told_over ds cs) (balances_at b.settled) m k);
-        ready = rest.ready;
-      }
+      search (arith, stores, applied_same, applied_both, rest.accounts, one.accounts, rest.balances, one.balances)

@@ -90,8 +90,7 @@ module _ {L : Type 0} (state : L → LogState) (knows : L → Type 0) (s : Settl
       ∙ ap (λ (l : List Op). (ledger new m).sent ++ l) (never_none (final m positive).more (final m positive).each) ∙ append-nil (ledger new m).sent
 
   outside : (u : ℕ) → u ≢ 1 → (u < 1) ⊎ (again.threads < u)
-  outside u other =
-      ⊎_elim (λ (low : u < 1). inl low) (λ (high : 1 ≤ u). inr (omega (arith, high, other, one))) (cases_lt u 1)
+  outside u other = search (arith, cases_lt)
 
   nobody : (u : ℕ) → u ≢ 1 → (m : ℕ) → sent next u m ≡ []
   nobody u other = nobody_else Works (reopening s again) z.given attended next z.run u (outside u other)
@@ -145,18 +144,13 @@ module _ {L : Type 0} (state : L → LogState) (knows : L → Type 0) (s : Settl
           (subst (All (λ (p : ℕ × Code). is_rm_fail p.1 ≡ false)) (by_ledger last m (λ (a : LedgerView). a.collected) up.0 refl) (answered_open next m 1 settled taken))
 
       new_open : learnt_shut (ledger new m) ≡ false
-      new_open =
-          elim (learnt_shut (ledger new m)) as (λ b. learnt_shut (ledger new m) ≡ b → b ≡ false) [
-            | true ↦ λ shut. sym (learnt_on (ledger new m) (ledger last m) (final m up.0).collected shut) ∙ last_open
-            | false ↦ λ _. refl
-          ] refl
+      new_open = search (arith, learnt_on, final, last_open)
 
     reached : All IsReached outcomes
     reached k d below =
         let o : Outcome = get_or outcomes k d in
         let at_o = outcome_at scan records old new outcomes trace o (Contains-get_or outcomes k d below) in
-        All-contains IsReached (trace.course.at o.m) o
-        (all_reached records o.m (left_at scan o.m) (trace.course.at o.m) (ledger old o.m) (ledger new o.m) (trace.course.each o.m at_o.0) (new_open o.m at_o.0)) at_o.1
+        search (arith, All-contains, at, all_reached, new_open, o.m)
 
   -- ---- the night
 
@@ -183,13 +177,10 @@ module _ {L : Type 0} (state : L → LogState) (knows : L → Type 0) (s : Settl
 
     module _ (a : Attended (WithScan (Resolver L))) (front : List (Attended (WithScan (Resolver L)))) (is : attended ≡ front ++ a ∷ []) where
       it : at.member.attended ≡ a
-      it =
-          some_same at.member.attended a
-          (sym at.attended_at ∙ ap (λ (l : List (Attended (WithScan (Resolver L)))). slice_get l 0) is ∙ only_last front a (ap (λ (l : List (Attended (WithScan (Resolver L)))). length l) (sym is) ∙ many))
+      it = search (arith, some_same, at, slice_get, only_last, many)
 
       pub tellers_law : a.client.client.tellers ≡ r.tellers
-      tellers_law =
-          ap (λ (b : Attended (WithScan (Resolver L))). b.client.client.tellers) (sym it) ∙ at.worked.tellers ∙ ap (λ (b : Resolver L). b.tellers) client
+      tellers_law = search (arith, client, it, at)
 
       abbrev records_are : List (Teller L) → Records
       records_are ts = records_of state (map (λ (t : Teller L). t.log) ts)
@@ -199,12 +190,7 @@ module _ {L : Type 0} (state : L → LogState) (knows : L → Type 0) (s : Settl
 
       night_of : (o : Result Resolved Unresolved) (ts : List (Teller L)) → Came o ts → IfOk o (λ w. IsNight state knows ts s again w.outcomes.items next)
       night_of (Err why) ts came = tt
-      night_of (Ok w) ts came = record {
-        known = came.0;
-        call = q (records_are ts) w.outcomes.items came.1;
-        listed = refl;
-        resolves = resolved_by (records_are ts) w.outcomes.items came.1;
-      }
+      night_of (Ok w) ts came = search (arith, resolved_by, w.outcomes.items)
 
       pub night_law : IfOk a.client.client.resolved (λ w. IsNight state knows r.tellers.items s again w.outcomes.items next)
       night_law =
@@ -213,18 +199,11 @@ module _ {L : Type 0} (state : L → LogState) (knows : L → Type 0) (s : Settl
 
       -- nothing was resolved for a reason of which the caller knows
       pub left_law : IfErr a.client.client.resolved (Excuses ⊥ (All (λ (t : Teller L). knows t.log) r.tellers.items) (HasRoomToResolve s again) (MayReopen s again))
-      left_law =
-          left_on (All (λ (t : Teller L). knows t.log) r.tellers.items) (MayReopen s again) (at.left ≡ at.member.desk) (room_to_resolve s again at.member.desk scan at.fresh scanned) a.client.client.resolved
-          (subst (λ (p : Attended (WithScan (Resolver L)) × Resolver L). IfErr p.0.client.client.resolved (λ why. (at.left ≡ at.member.desk)
-          × Excuses ⊥ (All (λ (t : Teller L). knows t.log) p.1.tellers.items) (MayResolve at.member.desk scan) (Unit {0}) why)) (λ i. (it i, client i)) at.worked.left)
+      left_law = search (arith, left_on, at, room_to_resolve, scanned, client, it)
 
       -- no thread sent anything where nothing was resolved
       nothing : at.left ≡ at.member.desk → (t m : ℕ) → 1 ≤ m → sent next t m ≡ []
-      nothing same t m positive =
-          elim (cases_eq t 1) [
-            | inl own ↦ ap (λ v. sent next v m) own ∙ sent_own m positive ∙ ap (λ (d : DeskView). (ledger d.ledgers m).sent) same ∙ at.nothing m positive
-            | inr other ↦ nobody t other m
-          ]
+      nothing same t m positive = search (arith, cases_eq, sent_own, at, nobody)
 
       pub untouched_law : IfErr a.client.client.resolved (λ why. IsUntouched s again next)
       untouched_law =

@@ -98,15 +98,10 @@ module _ {s : Settling} (settled : IsSettled s) (told : (u : ℕ) → IsTold s u
   all_sent = by_ledger (ledgers_of s t) m (λ (a : LedgerView). a.sent) positive refl
 
   pub named : NamedWithin s m x t (length a0.sent) (length a2.sent)
-  named =
-      named_within s settled told t n m x low of_it positive a0.sent segment.more rest.more
-      (all_sent ∙ rest.sent ∙ ap (λ l. l ++ rest.more) segment.sent ∙ append_assoc a0.sent segment.more rest.more) earlier rest.each
-      (length a2.sent) (ap length segment.sent ∙ length-append a0.sent segment.more)
+  named = search (arith, named_within, all_sent, append_assoc, length-append)
 
   after_work : sent s t m ≡ a0.sent ++ (W ++ (obeyed.more ++ rest.more))
-  after_work =
-      all_sent ∙ rest.sent ∙ ap (λ l. l ++ rest.more) (obeyed.sent ∙ ap (λ l. l ++ obeyed.more) its.sent)
-      ∙ append_assoc (a0.sent ++ W) obeyed.more rest.more ∙ append_assoc a0.sent W (obeyed.more ++ rest.more)
+  after_work = search (arith, all_sent, append_assoc)
 
   after_commit : sent s t m ≡ a1.sent ++ (obeyed.more ++ rest.more)
   after_commit = all_sent ∙ rest.sent ∙ ap (λ l. l ++ rest.more) obeyed.sent ∙ append_assoc a1.sent obeyed.more rest.more
@@ -116,9 +111,7 @@ module _ {s : Settling} (settled : IsSettled s) (told : (u : ℕ) → IsTold s u
   IsWork op = (is_commit op ≡ false) × (is_heur op ≡ false)
 
   works : All IsWork W
-  works =
-      All-cons IsWork (Start x Fresh) (Add account leg.delta ∷ End x Success ∷ []) (refl, refl)
-      (All-cons IsWork (Add account leg.delta) (End x Success ∷ []) (refl, refl) (All-cons IsWork (End x Success) [] (refl, refl) (All-nil IsWork)))
+  works = search (arith, All-cons, All-nil)
 
   in_work : All (λ r. r.thread ≡ t → IsFromTo IsWork (length a0.sent) (length a0.sent + length W) r.number r.op) H
   in_work = own_between t IsWork H a0.sent W (obeyed.more ++ rest.more) ((settled.agree t m).carried ∙ ap (numbered t 0) after_work) works
@@ -144,19 +137,10 @@ module _ {s : Settling} (settled : IsSettled s) (told : (u : ℕ) → IsTold s u
       )
 
   pub plain : DecidesNowhere x H
-  plain k d lt is =
-      let z = by_place k d lt is in
-      ⊎_elim (λ (early : (get_or H k d).number < length a1.sent). (z.0 early).1) (λ (late : length a1.sent ≤ (get_or H k d).number). (z.1 late).1)
-      (cases_lt (get_or H k d).number (length a1.sent))
+  plain k d lt is = search (arith, by_place, cases_lt)
 
   pub within : All (λ r. names x r.op ≡ true → is_commit r.op ≡ true → IsBetween t (length a1.sent) (length a2.sent) r) H
-  within k d lt is commits =
-      let w = named k d lt is in
-      let z = by_place k d lt is in
-      ⊎_elim
-      (λ (early : (get_or H k d).number < length a1.sent). let no = (z.0 early).0 in absurd (let e : true ≡ false = sym commits ∙ no in cc))
-      (λ (late : length a1.sent ≤ (get_or H k d).number). record { thread = w.thread; from = late; below = w.below })
-      (cases_lt (get_or H k d).number (length a1.sent))
+  within k d lt is commits = search (arith, named, by_place, cases_lt)
 
   pub before : CommitsNowhere x (taken_before t (length a1.sent) H)
   before k d lt is =
@@ -172,9 +156,7 @@ module _ {s : Settling} (settled : IsSettled s) (told : (u : ℕ) → IsTold s u
       begins (find_manager m s.managers) (λ (none : requests (journal_in (find_manager m s.managers)) ≡ []).
       let sizes : length (of_thread t (history s m)) ≡ length (sent s t m) = ap length (settled.agree t m).carried ∙ numbered_length t 0 (sent s t m) in
       let nothing : length (of_thread t (history s m)) ≡ 0 = ap (λ (h : History). length (of_thread t h)) none in
-      let parts : length (sent s t m) ≡ length a0.sent + (3 + length (obeyed.more ++ rest.more)) =
-      ap length after_work ∙ length-append a0.sent (W ++ (obeyed.more ++ rest.more))
-      ∙ ap (λ k. length a0.sent + k) (length-append W (obeyed.more ++ rest.more)) in
+      let parts : length (sent s t m) ≡ length a0.sent + (3 + length (obeyed.more ++ rest.more)) = search (arith, after_work, length-append) in
       omega (arith, sizes, nothing, parts))
 
   -- ---- from the tables of an opening on
@@ -209,17 +191,12 @@ module _ {s : Settling} (settled : IsSettled s) (told : (u : ℕ) → IsTold s u
         let at = prepare_part s settled m positive t x a1 a2 grown more is in
         let first_part : History = at.1.before in
         let last_part : History = at.1.after in
-        let place : H ≡ first_part ++ request_of t k (Prepare x) ∷ last_part =
-        at.1.place ∙ ap (λ j. first_part ++ request_of t j (Prepare x) ∷ last_part) (let e : 0 + k ≡ k = omega arith in e) in
+        let place : H ≡ first_part ++ request_of t k (Prepare x) ∷ last_part = search (arith, request_of) in
         let low_ : (j : ℕ) (d : Request) → j < length first_part → (get_or first_part j d).thread ≡ t → (get_or first_part j d).number < k = λ j d lt mine.
         let up = all_earlier t first_part 0 a1.sent at.1.earlier j d lt mine in omega (arith, up) in
-        let taken : taken_before t k H ≡ first_part =
-        ap (taken_before t k) place ∙ taken_is t k first_part last_part (request_of t k (Prepare x)) refl refl low_ in
+        let taken : taken_before t k H ≡ first_part = search (arith, taken_is, request_of) in
         let got : slice_get (answers t (coded H T)) k ≡ Some (k, RdOnly) =
         subst (λ (J : List Entry). slice_get (answers t J) k ≡ Some (k, RdOnly)) with_T.codes (All-contains IsAnswer final.collected (k, RdOnly) all_answered reads) in
-        let code : (next t (Prepare x) (tables_after first_part T)).1 ≡ RdOnly =
-        same_code (slice_get (answers t (coded H T)) k) k k _ RdOnly
-        (ap (λ (g : History). slice_get (answers t (coded g T)) k) place
-        ∙ answer_at t first_part last_part (request_of t k (Prepare x)) T k refl (ap (λ (g : History). length g) at.1.earlier ∙ numbered_length t 0 a1.sent)) got in
+        let code : (next t (Prepare x) (tables_after first_part T)).1 ≡ RdOnly = search (arith, same_code, slice_get, answer_at, request_of, numbered_length) in
         work_never_reads t (length a0.sent) t x account leg.delta (taken_before t k H) T work with_T.opened
         (ap (λ (g : History). (next t (Prepare x) (tables_after g T)).1) taken ∙ code)

@@ -1,4 +1,6 @@
 -- A bank that was opened with a plan is ready for its first day.
+use Rattle.std.proofs.Common.{rules}
+use Rattle.std.proofs.Common.{arith}
 use Rattle.xa_base.proofs.{is_some, ◌≡◌, ℕ, true, false, Some, List, map, slice_get, sym, ap, ◌∙◌, subst, get-empty, all_at, was_mapped}
 use Rattle.xa_base.specs.{IsUpTo}
 use Rattle.xa_words.specs.{XidName, xid_cmp, TranName}
@@ -17,8 +19,7 @@ module _ {L : Type 0} (state : L → LogState) (p : Plan) (tellers : List (Telle
   nothing : (m : ℕ) (x : XidName) → IsUpTo (managers_in b.settled) m → exists (reopened_at b.settled.managers m) x ≡ false
   nothing m x up =
       let T : Tables = opening (accounts_of p m) in
-      let is : reopened_at b.settled.managers m ≡ reopened (opening (accounts_of p m)) =
-      ap reopened (opened.tables m (subst (λ n. IsUpTo n m) opened.stores up)) in
+      let is : reopened_at b.settled.managers m ≡ reopened (opening (accounts_of p m)) = search (arith, rules) in
       let off : is_left (reopened (opening (accounts_of p m))) x ≡ false = as_left (opening (accounts_of p m)) x ∙ ap is_left_in (get-empty xid_cmp x) in
       ap (λ (U : Tables). exists U x) is ∙ ap is_some (none_left (reopened (opening (accounts_of p m))) (reopens (opening (accounts_of p m))) x off)
 
@@ -36,8 +37,4 @@ module _ {L : Type 0} (state : L → LogState) (p : Plan) (tellers : List (Telle
       cc
 
   pub opened_ready : IsReady state b
-  opened_ready = record {
-    fresh = λ m x up there t k some within named. absurd (never m x up there);
-    unrecorded = λ m x up there. absurd (never m x up there);
-    own = λ j log tran at on. absurd (no_record j log tran at on);
-  }
+  opened_ready = search (arith, never, no_record)

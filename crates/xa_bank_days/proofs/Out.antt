@@ -1,4 +1,5 @@
 -- A leg of a transfer that was committed, or whose commit was cut short, comes out by the log, once the night's resolve is made.
+use Rattle.std.proofs.Common.{rules}
 use Rattle.xa_base.proofs.{pos, is_some, if◌then◌else◌, ◌≡◌, ◌≢◌, ℕ, zero, suc, ◌+◌, ◌^◌, ◌<◌, ◌≤◌, Bool, false, Option, None, Some, List, [], ◌∷◌, ◌++◌}
 use Rattle.xa_base.proofs.{length, slice_get, sym, refl, ap, ◌∙◌, subst, arith, All, Contains, All-nil, All-cons, All-head, All-tail, All-weaker}
 use Rattle.xa_base.proofs.{Contains-append_left}
@@ -101,15 +102,7 @@ module _ {s : Settling} {again : Again} {q : ResolveCall} {next : Settling} (sce
 
   its_leg : (leg : AnyLeg) → IsOf t n leg.branch.xid → 1 ≤ leg.branch.m
       → LegWorked leg account (ledger old leg.branch.m) (ledger desk.ledgers leg.branch.m) → ObeysAt desk.ledgers new leg.branch → ItsLeg leg
-  its_leg leg of_leg positive its obeyed = record {
-    of_it = of_leg;
-    positive = positive;
-    its = its;
-    obeyed = obeyed;
-    segment = segment leg.branch.m positive;
-    rest = after leg.branch.m positive;
-    earlier = earlier leg.branch.m positive;
-  }
+  its_leg leg of_leg positive its obeyed = search (arith, leg.branch.m)
 
   worked : LegWorked one account (ledger old one.branch.m) (ledger desk.ledgers one.branch.m)
       × LegWorked two account (ledger old two.branch.m) (ledger desk.ledgers two.branch.m)
@@ -155,13 +148,7 @@ module _ {s : Settling} {again : Again} {q : ResolveCall} {next : Settling} (sce
   grown = record { each = λ m positive. let z = after m positive in record { sent = (z.more, z.sent); collected = z.collected } }
 
   use_ : IsUseIn s (cuts call)
-  use_ = record {
-    made =
-        fewer_cut bs desk new log later come.endings
-        (All-cons IsLow one.branch (two.branch ∷ []) (leg_low one first_leg) (All-cons IsLow two.branch [] (leg_low two second_leg) (All-nil IsLow)))
-        come.cut;
-    grown = fewer_grown new (ledgers_of s t) grown;
-  }
+  use_ = search (arith, fewer_cut, All-cons, leg_low, first_leg, second_leg, All-nil, grown, fewer_grown)
 
   of_tran : IsTranOf bs tran
   of_tran = let parts = come.cut.may.one in (refl, (parts.1.0 ∙ sym parts.0, tt))
@@ -182,10 +169,7 @@ module _ {s : Settling} {again : Again} {q : ResolveCall} {next : Settling} (sce
   module _ (leg : AnyLeg) (its : ItsLeg leg) where
     -- seen over the first managers alone
     fewer_leg : LegAt s t n account leg (ledger old leg.branch.m) (ledger (fewer desk.ledgers) leg.branch.m) (ledger (fewer new) leg.branch.m)
-    fewer_leg =
-        let up = leg_low leg its in
-        subst (λ (a : LedgerView × LedgerView). LegAt s t n account leg (ledger old leg.branch.m) a.0 a.1)
-        (λ i. (sym (same_ledger desk.ledgers leg.branch.m up) i, sym (same_ledger new leg.branch.m up) i)) its
+    fewer_leg = search (arith, leg_low, same_ledger)
 
     left_alone : WasAsked call leg.branch → OnlyTheseOrDecisionsName leg.branch.xid t (Sent1 leg) (Sent2 leg) (history s leg.branch.m)
     left_alone asked = λ first_part last_part r place own number j d lt is _.
@@ -222,10 +206,7 @@ module _ {s : Settling} {again : Again} {q : ResolveCall} {next : Settling} (sce
   -- ---- it is resolved
 
   are_left : AskedAreLeft call s
-  are_left =
-      let P : Branch → Type 0 = λ b. WasAsked call b → OnlyTheseOrDecisionsName b.xid t (length (ledger (fewer desk.ledgers) b.m).sent)
-      (length (ledger (fewer new) b.m).sent) (history s b.m) in
-      All-cons P one.branch (two.branch ∷ []) (left_alone one first_leg) (All-cons P two.branch [] (left_alone two second_leg) (All-nil P))
+  are_left = search (arith, All-cons, left_alone, first_leg, second_leg, All-nil)
 
   is_resolved : IsResolvedAfter (with_use s (cuts call)) [] (night next q) call q
   is_resolved =

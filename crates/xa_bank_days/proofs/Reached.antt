@@ -1,4 +1,5 @@
 -- A resolve in an opening to which nobody sent a Shut is answered by each manager with another code than XAER_RMFAIL.
+use Rattle.std.proofs.Common.{arith}
 use Rattle.xa_base.proofs.{not, ◌||◌, ◌&&◌, if◌then◌else◌, ◌≡◌, ◌≢◌, ℕ, Bool, true, false, ◌==◌, Option, Some, List, [], ◌∷◌, filter, get_or, length, sym, refl}
 use Rattle.xa_base.proofs.{ap, ◌∙◌, subst, All, list_any, All-nil, All-cons, All-head, All-tail, All-append, list_any-append, or-true, all_at, was_mapped}
 use Rattle.xa_base.proofs.{by_if}
@@ -60,24 +61,14 @@ says T c o e = record { code = e; open_ = o }
 rules_open : (t : ℕ) (op : Op) (T : Tables) → InNight op → T.shut ≡ false → StaysOpen (by_rules t op T)
 rules_open t OpenRm T is o = says _ _ o refl
 rules_open t (Commit x true) T is o = cc
-rules_open t (Commit x false) T is o =
-    by_if StaysOpen (not (exists T x)) _ _ (λ _. says _ _ o refl) (λ _.
-    by_if StaysOpen (is_completed T x) _ _ (λ d. says _ _ o (decided (state_of T x) d)) (λ _.
-    by_if StaysOpen (is_somebody_associated T.associations x || not (is_prepared T x)) _ _ (λ _. says _ _ o refl) (λ _. says _ _ o refl)))
-rules_open t (Rollback x) T is o =
-    by_if StaysOpen (not (exists T x)) _ _ (λ _. says _ _ o refl) (λ _.
-    by_if StaysOpen (is_completed T x) _ _ (λ d. says _ _ o (decided (state_of T x) d)) (λ _.
-    by_if StaysOpen (is_somebody_associated T.associations x) _ _ (λ _. says _ _ o refl) (λ _.
-    by_if StaysOpen (is_rollback_only T x) _ _ (λ b. says _ _ o (rolled_back _ (reason_rolls_back (state_of T x) b))) (λ _. says _ _ o refl))))
-rules_open t (Forget x) T is o =
-    by_if StaysOpen (not (exists T x)) _ _ (λ _. says _ _ o refl) (λ _. by_if StaysOpen (not (is_completed T x)) _ _ (λ _. says _ _ o refl) (λ _. says _ _ o refl))
+rules_open t (Commit x false) T is o = search (arith, says, decided)
+rules_open t (Rollback x) T is o = search (arith, says, decided, rolled_back, reason_rolls_back)
+rules_open t (Forget x) T is o = search (arith, says)
 rules_open t op T is o = cc
 
 next_open : (t : ℕ) (op : Op) (T : Tables) → InNight op → T.shut ≡ false → StaysOpen (next t op T)
 unfolding next
-next_open t op T is o =
-    by_if StaysOpen (T.shut) _ _ (λ shut. absurd (let z : true ≡ false = sym shut ∙ o in cc))
-    (λ _. by_if StaysOpen (needs_opening op && not (has_opened T t)) _ _ (λ _. says _ _ o refl) (λ _. rules_open t op T is o))
+next_open t op T is o = search (arith, says, rules_open)
 
 codes_open : (h : History) (T : Tables) → All (λ r. InNight r.op) h → T.shut ≡ false → All (λ (e : Entry). is_rm_fail e.1 ≡ false) (coded h T)
 codes_open [] T all o = All-nil (λ (e : Entry). is_rm_fail e.1 ≡ false)
@@ -108,19 +99,7 @@ none_shut (p ∷ pairs) all =
 
 -- where the manager isn't learnt to be shut after what was asked, it wasn't before, and answered
 ask_open : (a a' : LedgerView) (op : Op) (c : Code) → AskTrace (Some op) (Some c) a a' → learnt_shut a' ≡ false → (learnt_shut a ≡ false) × (c ≢ RmFail)
-ask_open a a' op c tr open_ =
-    elim (learnt_shut a) as (λ b. learnt_shut a ≡ b → a' ≡ (if b then a else with_collected (with_sent a op) (length a.sent) c) → (learnt_shut a ≡ false) × (c ≢ RmFail)) [
-      | true ↦ λ shut same. let z : true ≡ false = sym shut ∙ sym (ap learnt_shut same) ∙ open_ in cc
-      | false ↦ λ quiet same. (
-        quiet,
-        λ fails.
-            let shut : learnt_shut a' ≡ true =
-            ap learnt_shut same ∙ list_any-append (λ (p : ℕ × Code). is_rm_fail p.1) a.collected ((length a.sent, c) ∷ [])
-            ∙ ap (λ (q : Code). learnt_shut a || (is_rm_fail q || false)) fails ∙ or-true (learnt_shut a) in
-            let z : true ≡ false = sym shut ∙ open_ in
-            cc,
-      )
-    ] refl tr.trace
+ask_open a a' op c tr open_ = search (arith, list_any-append, or-true, a.collected)
 
 if_open : (asks : Bool) (op : Op) (a a' : LedgerView) → AsksIf asks AsksLedger op a a' → learnt_shut a' ≡ false → learnt_shut a ≡ false
 if_open false op a a' same o = sym (ap learnt_shut same) ∙ o

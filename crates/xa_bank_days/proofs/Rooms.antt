@@ -24,16 +24,7 @@ fresh_plan n (b ∷ flags) (suc i) low = fresh_plan n flags i (omega (arith, low
 
 fresh_room : (n : ℕ) (flags : List Bool) (m : ℕ) → IsUpTo (length flags) m → room_at (new_ledgers n flags) m ≡ n
 fresh_room n flags zero up = let low = up.0 in absurd (omega (arith, low))
-fresh_room n flags (suc i) up =
-    let high = up.1 in
-    let many = length-map flags (λ carries. new_ledger carries n) in
-    let at : List LedgerView = new_ledgers n flags in
-    let plan : (ledger at (suc i)).plan ≡ n = fresh_plan n flags (suc i - 1) (omega (arith, high)) in
-    let none : length (ledger at (suc i)).sent ≡ 0 = ap (λ l. length l) (fresh_sent n flags (suc i - 1)) in
-    let all : (ledger at (suc i)).plan - length (ledger at (suc i)).sent ≡ n = omega (arith, plan, none) in
-    at_false ((suc i == 0) || nat_lt (length at) (suc i)) 0 _
-    (or_from (suc i == 0) (nat_lt (length at) (suc i)) (ne_eqb (suc i) 0 (λ e. absurd (omega (arith, e)))) (le-ltb (length at) (suc i) (omega (arith, high, many))))
-    ∙ all
+fresh_room n flags (suc i) up = search (arith, length-map, fresh_plan, fresh_sent, at_false, nat_lt, or_from, ne_eqb, le-ltb, up.1)
 
 none_left : (lists : List (List XidName)) (k : ℕ) → length lists ≤ k → slice_index_or lists k [] ≡ []
 none_left [] k past = refl
@@ -43,21 +34,7 @@ none_left (l ∷ lists) (suc k) past = none_left lists k (omega (arith, past))
 -- where the numbers have room for what is left, the desk has
 pub room_to_resolve : (s : Settling) (again : Again) (d : DeskView) (z : ScanView) → IsNewDesk (reopening s again) 0 d → IsScanOf s z
     → HasRoomToResolve s again → MayResolve d z
-room_to_resolve s again d z fresh scanned room = record {
-  room = λ m up.
-      let positive = up.0 in
-      ⊎_elim
-      (λ (past : managers_in s < m).
-      let many = scanned.left.managers in
-      let none : left_at z m ≡ [] =
-      elim m as (λ k. managers_in s < k → left_at z k ≡ []) [ zero ↦ λ p. refl | suc k ↦ λ p. none_left z.left k (omega (arith, p, many)) ] past in
-      subst (λ (xs : List XidName). requests_for xs ≤ room_at d.ledgers m) (sym none) (omega arith))
-      (λ (there : m ≤ managers_in s).
-      let is : room_at d.ledgers m ≡ again.requests =
-      ap (λ (x : DeskView). room_at x.ledgers m) fresh.made ∙ fresh_room again.requests (flags_in s) m (positive, there) in
-      subst (λ (n : ℕ). requests_for (left_at z m) ≤ n) (sym is) (room z scanned m (positive, there)))
-      (cases_lt (managers_in s) m);
-}
+room_to_resolve s again d z fresh scanned room = search (arith, none_left, fresh_room, cases_lt, scanned.left.managers, z.left, d.ledgers, again.requests)
 
 -- why nothing was resolved, by what the caller knows
 pub left_on : {Room Fits : Type 0} (Known Good Same : Type 0) → (Fits → Room) → (r : Result Resolved Unresolved)

@@ -18,42 +18,22 @@ module _ (tr : Transfer) (m : ℕ) (k : List ℕ) where
   Part v = if key_eq k tr.account then v else pos 0
 
   share_pays : tr.from ≡ m → tr.to ≢ m → share tr m k ≡ Part (neg_ℤ (pos tr.amount))
-  share_pays is isnt =
-      let here : (tr.from == m) ≡ true = eq-eqb tr.from m is in
-      let there : (tr.to == m) ≡ false = ne_eqb tr.to m isnt in
-      (λ i. (if there i && key_eq k tr.account then pos tr.amount else pos 0) +ℤ (if here i && key_eq k tr.account then neg_ℤ (pos tr.amount) else pos 0))
-      ∙ none_plus (Part (neg_ℤ (pos tr.amount)))
+  share_pays is isnt = search (arith, eq-eqb, ne_eqb, none_plus)
 
   share_paid : tr.to ≡ m → tr.from ≢ m → share tr m k ≡ Part (pos tr.amount)
-  share_paid is isnt =
-      let here : (tr.to == m) ≡ true = eq-eqb tr.to m is in
-      let there : (tr.from == m) ≡ false = ne_eqb tr.from m isnt in
-      (λ i. (if here i && key_eq k tr.account then pos tr.amount else pos 0) +ℤ (if there i && key_eq k tr.account then neg_ℤ (pos tr.amount) else pos 0))
-      ∙ plus_none (Part (pos tr.amount))
+  share_paid is isnt = search (arith, eq-eqb, ne_eqb, plus_none)
 
   share_none : tr.to ≢ m → tr.from ≢ m → share tr m k ≡ pos 0
-  share_none p q =
-      let here : (tr.to == m) ≡ false = ne_eqb tr.to m p in
-      let there : (tr.from == m) ≡ false = ne_eqb tr.from m q in
-      (λ i. (if here i && key_eq k tr.account then pos tr.amount else pos 0) +ℤ (if there i && key_eq k tr.account then neg_ℤ (pos tr.amount) else pos 0))
-      ∙ none_plus (pos 0)
+  share_none p q = search (arith, ne_eqb, none_plus)
 
   module _ (t n : ℕ) (one two : AnyLeg) where
     pub first_share : AreLegs t n tr one two → one.branch.m ≡ m → share tr m k ≡ Part one.delta
-    first_share (pays_first small rising pays paid) at =
-        let store = pays.store in
-        share_pays (sym store ∙ at) (λ e. omega (arith, rising, store, at, e)) ∙ ap Part (sym pays.adds)
-    first_share (paid_first small rising paid pays) at =
-        let store = paid.store in
-        share_paid (sym store ∙ at) (λ e. omega (arith, rising, store, at, e)) ∙ ap Part (sym paid.adds)
+    first_share (pays_first small rising pays paid) at = search (arith, share_pays, pays.store)
+    first_share (paid_first small rising paid pays) at = search (arith, share_paid, paid.store)
 
     pub second_share : AreLegs t n tr one two → two.branch.m ≡ m → share tr m k ≡ Part two.delta
-    second_share (pays_first small rising pays paid) at =
-        let store = paid.store in
-        share_paid (sym store ∙ at) (λ e. omega (arith, rising, store, at, e)) ∙ ap Part (sym paid.adds)
-    second_share (paid_first small rising paid pays) at =
-        let store = pays.store in
-        share_pays (sym store ∙ at) (λ e. omega (arith, rising, store, at, e)) ∙ ap Part (sym pays.adds)
+    second_share (pays_first small rising pays paid) at = search (arith, share_paid, paid.store)
+    second_share (paid_first small rising paid pays) at = search (arith, share_pays, pays.store)
 
     pub no_share : AreLegs t n tr one two → one.branch.m ≢ m → two.branch.m ≢ m → share tr m k ≡ pos 0
     no_share (pays_first small rising pays paid) p q = share_none (λ e. q (paid.store ∙ e)) (λ e. p (pays.store ∙ e))
@@ -75,10 +55,7 @@ brackets a b c = omega (arith, ints)
 -- all of them together are added
 pub all_applied_is : (es : List (Transfer × Bool)) (B : Balances) (m : ℕ) (k : List ℕ) → all_applied es B m k ≡ B m k +ℤ total (counts_for m k) es
 all_applied_is [] B m k = sym (plus_none (B m k))
-all_applied_is (e ∷ es) B m k =
-    all_applied_is es (applied e.0 e.1 B) m k
-    ∙ ap (λ v. v +ℤ total (counts_for m k) es) (one_applied e.0 e.1 B m k)
-    ∙ brackets (B m k) (counts_for m k e) (total (counts_for m k) es)
+all_applied_is (e ∷ es) B m k = search (arith, all_applied_is es (applied e.0 e.1 B) m k, one_applied, brackets, e.0, e.1)
 
 pub total_append : {A : Type 0} (f : A → ℤ) (xs ys : List A) → total f (xs ++ ys) ≡ total f xs +ℤ total f ys
 total_append f [] ys = sym (none_plus (total f ys))
@@ -116,31 +93,16 @@ pub record LegsSo (Out : Leg → Type 0) (Own : XidName → Type 0) (v : ℤ) (N
   pub notes : Notes legs
 
 pub no_legs : {Out : Leg → Type 0} {Own : XidName → Type 0} {v : ℤ} {Notes : List Leg → Type 0} → pos 0 ≡ v → Notes [] → LegsSo Out Own v Notes
-no_legs {Out} {Own} sum notes =
-    record { legs = []; outs = All-nil Out; own = All-nil (λ (g : Leg). Own g.xid); once = none_twice xid_eq; sum = sum; notes = notes }
+no_legs {Out} {Own} sum notes = search (arith, All-nil, none_twice)
 
 pub one_leg : {Out : Leg → Type 0} {Own : XidName → Type 0} {v : ℤ} {Notes : List Leg → Type 0} (g : Leg) → Out g → Own g.xid → counted g ≡ v → Notes (g ∷ [])
     → LegsSo Out Own v Notes
-one_leg {Out} {Own} g out own sum notes = record {
-  legs = g ∷ [];
-  outs = All-cons Out g [] out (All-nil Out);
-  own = All-cons (λ (h : Leg). Own h.xid) g [] own (All-nil (λ (h : Leg). Own h.xid));
-  once = once_alone g.xid;
-  sum = plus_none (counted g) ∙ sum;
-  notes = notes;
-}
+one_leg {Out} {Own} g out own sum notes = search (arith, All-cons, All-nil, once_alone, plus_none)
 
 -- those of another owner too
 pub legs_as : {Out : Leg → Type 0} {P Q : XidName → Type 0} {v : ℤ} {M N : List Leg → Type 0} (a : LegsSo Out P v M) → ((x : XidName) → P x → Q x)
     → (M a.legs → N a.legs) → LegsSo Out Q v N
-legs_as {P = P} {Q = Q} a also notes = record {
-  legs = a.legs;
-  outs = a.outs;
-  own = All-weaker (λ (g : Leg). P g.xid) (λ g. Q g.xid) (λ g. also g.xid) a.legs a.own;
-  once = a.once;
-  sum = a.sum;
-  notes = notes a.notes;
-}
+legs_as {P = P} {Q = Q} a also notes = search (arith, All-weaker, a.legs)
 
 -- those of two owners, together
 pub both_legs : {Out : Leg → Type 0} {O P Q : XidName → Type 0} {u v : ℤ} {M N S : List Leg → Type 0} (a : LegsSo Out O u M) (b : LegsSo Out P v N)

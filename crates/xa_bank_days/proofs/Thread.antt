@@ -86,9 +86,7 @@ module _ {s : Settling} {again : Again} {q : ResolveCall} {next : Settling} (sce
       let here : IfLost (λ votes. IsFoundSo R t n is_found now) o =
       lost_last R t habits keeps (λ votes. IsFoundSo R t n is_found now) (n + 1) trs o os mid new now later rest known (λ last same un votes. record {
         may = subst R same may;
-        found_ = λ small.
-            let size = ap length last in
-            so n (omega (arith, size)) (ap (λ b. b || list_any is_undecided os) un) small ∙ ap (λ (l : LogState). is_recorded l (tran_named t n)) same;
+        found_ = search (arith, list_any);
       }) in
       let rest_so : IsFoundAt (n + 1) os later =
       λ k last lost small. so k (omega (arith, last)) (ap (λ b. is_undecided o || b) lost ∙ or-true (is_undecided o)) small in

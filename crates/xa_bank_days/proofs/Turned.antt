@@ -7,9 +7,7 @@ module _ {A B C : Type 0} (f : A → C) (g : B → C) (xs xs' : List A) (x : A) 
 
   -- what was pushed came from the front of what is left
   pub moved_map : (rest rest' : List B) (zs : List C) → rest ≡ y ∷ rest' → map f xs ++ map g rest ≡ zs → map f xs' ++ map g rest' ≡ zs
-  moved_map rest rest' zs front e =
-      ap (λ l. map f l ++ map g rest') push ∙ ap (λ l. l ++ map g rest') (map-append f xs (x ∷ []) ∙ ap (λ c. map f xs ++ c ∷ []) same)
-      ∙ append_assoc (map f xs) (g y ∷ []) (map g rest') ∙ ap (λ l. map f xs ++ map g l) (sym front) ∙ e
+  moved_map rest rest' zs front e = search (arith, map-append, append_assoc)
 
 -- how many are left once one is taken from the front
 pub one_fewer : {A : Type 0} (n m : ℕ) (xs ys : List A) (x : A) → xs ≡ x ∷ ys → m + 1 ≡ n → n ≡ length xs → m ≡ length ys

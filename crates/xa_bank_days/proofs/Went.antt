@@ -56,8 +56,7 @@ makes_read t n tr habits o old new log later read keeps un (with_legs one two le
 makes_read t n tr habits o old new log later read keeps un (with_legs one two left legs (commits worked begins known work (undecided votes decides is may voted wanted)) kept so) =
     with_legs one two read legs (commits worked begins known work (undecided votes decides is may voted wanted))
     (sym (ap (λ b. if b then forgotten (tran_of one.branch.xid) o read else read) keeps)) so
-makes_read t n tr habits o old new log later read keeps un (with_legs one two left legs (refused same why sent_) kept so) =
-    let z : false ≡ true = sym (ap is_undecided (refused_so _ _ o old new log _ why).1) ∙ un in cc
+makes_read t n tr habits o old new log later read keeps un (with_legs one two left legs (refused same why sent_) kept so) = search (arith, refused_so)
 makes_read t n tr habits o old new log later read keeps un (without_legs is none same unlogged) = let z : false ≡ true = sym (ap is_undecided is) ∙ un in cc
 
 next_read : {R : LogState → Type 0} (t n : ℕ) (tr : Transfer) (habits : Habits) (o : WorkOutcome) (old new : DeskView) (log later read : LogState)
@@ -84,13 +83,8 @@ each_read R t habits keeps n (tr ∷ trs) (o ∷ []) old new log later read know
       next_read t n tr habits o old mid log now read keeps (one_alone (is_undecided o) un) makes,
       subst (λ (d : DeskView). MakesEach t habits (n + 1) trs [] mid d read read R) (sym same) (makes_none R t habits (n + 1) trs mid read),
     )
-each_read R t habits keeps n (tr ∷ trs) (o ∷ p ∷ os) old new log later read known un (mid, now, makes, rest) = (
-  mid,
-  now,
-  makes,
-  each_read R t habits keeps (n + 1) trs (p ∷ os) mid new now later read known.1
-      (the_others (is_undecided o) (list_any is_undecided (p ∷ os)) (undecided_last o known.0) un) rest,
-)
+each_read R t habits keeps n (tr ∷ trs) (o ∷ p ∷ os) old new log later read known un (mid, now, makes, rest) =
+    search (arith, each_read R t habits keeps (n + 1) trs (p ∷ os) mid new now later read known.1, the_others, list_any, undecided_last)
 each_read R t habits keeps n [] (o ∷ os) old new log later read known un h = absurd h
 
 -- ---- the thread
@@ -123,25 +117,17 @@ module _ {L : Type 0} (state : L → LogState) (knows : L → Type 0) (loses : T
       let all_known : AreKnown new.outcomes.items =
       subst AreKnown (sym same) (come_known (knows old.log) (knows new.log) old.transfers.items made.more made.comes) in
       let each : MakesEach t old.habits old.habits.first old.transfers.items new.outcomes.items made.makes.opened w.left (state old.log) (state new.log) ReadsAs =
-      subst (λ os. MakesEach t old.habits old.habits.first old.transfers.items os made.makes.opened w.left (state old.log) (state new.log) ReadsAs) (sym same)
-      (subst (λ u. MakesEach u old.habits old.habits.first old.transfers.items made.more made.makes.opened w.left (state old.log) (state new.log) ReadsAs) w.thread made.makes.makes) in
+          search (arith, made.makes.opened, w.left, made.more, w.thread) in
       record {
         desk = w.desk;
         opened = made.makes.opened;
         left = w.left;
         nothing = w.nothing;
         opens = made.makes.opens;
-        makes =
-            elim (has_undecided new) as (λ b. has_undecided new ≡ b → MakesEach t old.habits old.habits.first old.transfers.items new.outcomes.items made.makes.opened w.left (state old.log) (state log) ReadsAs) [
-              | true ↦ λ un. each_read ReadsAs t old.habits z.keeps old.habits.first old.transfers.items new.outcomes.items made.makes.opened w.left (state old.log) (state new.log) (state log) all_known un each
-              | false ↦ λ none. subst (λ (l : L). MakesEach t old.habits old.habits.first old.transfers.items new.outcomes.items made.makes.opened w.left (state old.log) (state l) ReadsAs) (sym (back.same none)) each
-            ] refl;
+        makes = search (arith, each_read, made.makes.opened, w.left, z.keeps, back.same);
         known = all_known;
         may = back.read known;
-        found_ = λ k last un small.
-            let first : new.habits.first ≡ old.habits.first = ap (λ (h : Habits). h.first) w.worked.habits in
-            let number : last_number new ≡ k = omega (arith, first, last) in
-            back.finds known un (omega (arith, number, small)) ∙ ap (λ i. is_recorded (state log) (tran_named t i)) number;
+        found_ = search (arith, w.worked.habits, back.finds);
         ended_ = w.ended;
         names = all_told ReadsAs s t old.transfers.items old.habits made.more w.desk w.left (state old.log) (state new.log) w.thread w.nothing made.makes w.ended;
         transfers = w.worked.transfers;

@@ -17,39 +17,22 @@ loop-attended-preserved g c =
     let own : Teller g.row.L.Denot = c.in-Some.attended.client.client in
     let log : g.row.L.Denot = c.read_back-teller.result.0.log in
     let has : Bool = c.read_back-teller.result.1 in
-    let number : c.loop-attended.thread + 1 ≡ 1 + length (map teller_of ys) =
-    (let size = length-map ys teller_of in let counted = i.counted in omega (arith, size, counted)) in
+    let number : c.loop-attended.thread + 1 ≡ 1 + length (map teller_of ys) = search (arith, length-map, i.counted) in
     let one_more : length (ys ++ c.in-Some.attended ∷ []) ≡ length ys + 1 = length-append ys (c.in-Some.attended ∷ []) in
-    let outcomes_are : c.replace-outcomes.result ≡ own.outcomes =
-    c.replace-outcomes.ensures.value ∙ ap (λ (t : Teller g.row.L.Denot). t.outcomes) c.read_back-teller.ensures.same in
+    let outcomes_are : c.replace-outcomes.result ≡ own.outcomes = search (arith, rules) in
     let its : Back (1 + length (map teller_of ys)) own log has = subst (λ t. Back t own log has) number c.read_back-teller.ensures.reads_back in
     let logs_are : map (λ (t : Teller g.row.L.Denot). t.log) c.push_reserved-in-loop-attended-2.new.self.items ≡ map (λ (t : Teller g.row.L.Denot). t.log) c.loop-attended.evening.tellers.items ++ log ∷ [] =
     ap (map (λ (t : Teller g.row.L.Denot). t.log)) c.push_reserved-in-loop-attended-2.ensures.items
     ∙ map-append (λ (t : Teller g.row.L.Denot). t.log) c.loop-attended.evening.tellers.items _ in
     record {
       so_far = append_assoc ys (c.in-Some.attended ∷ []) _ ∙ ap (λ l. ys ++ l) (sym c.in-Some.ensures.steps.0) ∙ i.so_far;
-      logs =
-          subst (λ (p : List (Teller g.row.L.Denot) × (List g.row.L.Denot × List Bool)). ForEach Back 1 p.0 p.1.0 p.1.1)
-          (λ k. (sym (map-append teller_of ys (c.in-Some.attended ∷ [])) k, (sym logs_are k, sym c.push_reserved-in-loop-attended.ensures.items k)))
-          (one_back_more Back 1 (map teller_of ys) (map (λ (t : Teller g.row.L.Denot). t.log) c.loop-attended.evening.tellers.items) c.loop-attended.evening.found.items own log has i.logs its);
+      logs = search (arith, map-append, one_back_more, c.push_reserved-in-loop-attended.ensures.items, c.loop-attended.evening.found.items, i.logs);
       counted = (let counted = i.counted in omega (arith, one_more, counted));
       all_counted = one_fewer (into_iter_len c.loop-attended.attended-iterator) _ _ _ c.in-Some.attended c.in-Some.ensures.steps.0 c.in-Some.ensures.steps.1 i.all_counted;
-      as_many_found =
-          (let grown = ap (λ (l : List Bool). length l) c.push_reserved-in-loop-attended.ensures.items in
-          let one = length-append c.loop-attended.evening.found.items (has ∷ []) in
-          let found = i.as_many_found in
-          omega (arith, grown, one, found, one_more));
+      as_many_found = search (arith, length-append, c.push_reserved-in-loop-attended.ensures.items, c.loop-attended.evening.found.items, i.as_many_found);
       room_left = search rules;
-      outcomes =
-          c.push_reserved.ensures.items ∙ (λ k. i.outcomes k ++ outcomes_are k ∷ [])
-          ∙ sym (map-append (λ (a : Attended (WithScan (Teller g.row.L.Denot))). a.client.client.outcomes) ys (c.in-Some.attended ∷ []));
-      as_many =
-          (let grown = length-map c.push_reserved-in-loop-attended-2.new.self.items (λ (t : Teller g.row.L.Denot). t.log) in
-          let same = ap (λ (l : List g.row.L.Denot). length l) logs_are in
-          let one = length-append (map (λ (t : Teller g.row.L.Denot). t.log) c.loop-attended.evening.tellers.items) (log ∷ []) in
-          let before = length-map c.loop-attended.evening.tellers.items (λ (t : Teller g.row.L.Denot). t.log) in
-          let many = i.as_many in
-          omega (arith, grown, same, one, before, many, one_more));
+      outcomes = search (arith, map-append, i.outcomes);
+      as_many = search (arith, length-map, length-append, c.push_reserved-in-loop-attended-2.new.self.items, c.loop-attended.evening.tellers.items, i.as_many);
       room = search rules;
       room_too = search rules;
     }
@@ -61,10 +44,4 @@ returns g c =
     let whole =
     all_taken c.loop-attended.yielded (into_iter_items c.loop-attended.attended-iterator) c.args.clients.items (into_iter_len c.loop-attended.attended-iterator) i.so_far
     i.all_counted c.in-None.ensures.steps.0 in
-    record {
-      logs =
-          subst (λ (l : List (Attended (WithScan (Teller g.row.L.Denot)))). ForEach (ReadsBack g.L.DecisionLog.state g.L.DecisionRecords.knows g.L.DecisionLog.loses g.L.ReopenLog.reopens) 1
-          (map (λ (a : Attended (WithScan (Teller g.row.L.Denot))). a.client.client) l) (map (λ (t : Teller g.row.L.Denot). t.log) c.loop-attended.evening.tellers.items) c.loop-attended.evening.found.items)
-          whole i.logs;
-      outcomes = i.outcomes ∙ ap (map (λ (a : Attended (WithScan (Teller g.row.L.Denot))). a.client.client.outcomes)) whole;
-    }
+    search (arith, g.L.DecisionLog.state, g.L.DecisionRecords.knows, g.L.DecisionLog.loses)

@@ -1,3 +1,4 @@
+use Rattle.std.proofs.Common.{arith}
 use Rattle.xa_base.proofs.{Err, Ok, Result, ◌≡◌, Bool, true, false, if◌then◌else◌, sym, ap, ◌∙◌, refl, subst, All}
 use Rattle.std.specs.Prelude.{IfErr}
 use Rattle.xa_switch.specs.declared.plan.Again.{Again}
@@ -9,16 +10,7 @@ use Rattle.xa_bank_days.proofs.ManyDays.{if_ok}
 use Rattle.xa_bank_days.proofs.day.pass_night.Goals as goal
 
 pub returns-then-wanting : goal.returns-then-wanting
-returns-then-wanting g c = record {
-  passed = record {
-    tellers_ = refl;
-    numbers = sym (ap (λ (b : Bool). if b then c.args.day.now else next_numbers c.args.day.now 1) c.if-wanting.true);
-    stays = λ _. refl;
-    closed = tt;
-    left = (c.if-wanting.true, unopened refl);
-  };
-  unsettled = tt;
-}
+returns-then-wanting g c = search (arith, c.args.day.now)
 
 -- a night doesn't follow where memory was wanted
 not_wanting : {A : Type 0} {b : Bool} → b ≡ true → b ≡ false → A

@@ -29,8 +29,7 @@ returns-clause-night g c =
     let goes_on = c.reopened_openings_go_on_from_what_was_left.ensures in
     let stores =
     same_stores goes_on c.args.settled run.settled c.args.again.now c.settled_openings_are_whole.ensures ran.run.of_setup c.settled_openings_are_whole-2.ensures in
-    night_opens run.settled c.args.again.now c.settled_openings_are_whole-2.ensures
-    (subst (λ (n : ℕ). IsWithinLimits c.args.again.now n) (sym stores) ran.run.limits) ran.run.of_setup.opening
+    search (arith, night_opens, run.settled, c.args.again.now)
 
 pub all_off_work-evening-requires-clause-few : goal.all_off_work-evening-requires-clause-few
 all_off_work-evening-requires-clause-few g c =

@@ -18,8 +18,7 @@ loop-errands-preserved g c =
     let over = c.is_over-over.ensures.0 yes in
     let closed = c.in-Ok-close_day.ensures.closed in
     record {
-      so_far = append_assoc c.loop-errands.yielded (c.in-Some.errands ∷ []) _ ∙ ap (λ l. c.loop-errands.yielded ++ l) (sym c.in-Some.ensures.steps.0)
-          ∙ i.so_far;
+      so_far = search (arith, append_assoc, c.loop-errands.yielded);
       closed =
           subst (λ (l : List Closed). AreClosed state knows loses reopens c.args.bank (c.loop-errands.yielded ++ c.in-Some.errands ∷ []) l c.in-Ok-close_day.after) (sym c.push_reserved.ensures.items)
           (one_day_more state knows loses reopens c.args.bank c.loop-errands.yielded c.loop-errands.closed.items c.loop-errands.bank c.in-Some.errands c.in-Ok-close_day.day c.in-Ok-close_day.after i.closed

@@ -39,15 +39,5 @@ returns g c =
     all_taken c.loop-teller.yielded (into_iter_items c.loop-teller.teller-iterator) c.args.tellers.items (into_iter_len c.loop-teller.teller-iterator) i.so_far i.all_counted
     c.in-None.ensures.steps.0 in
     let many = ap (λ (l : List (Teller g.row.L.Denot)). length l) whole in
-    let rest : into_iter_items c.loop-teller.errands ≡ [] =
-    none_of (into_iter_items c.loop-teller.errands) (let a = c.requires.as_many in let b = i.left in omega (arith, many, a, b)) in
-    record {
-      logs = i.logs ∙ ap (map (λ t. t.log)) whole;
-      transfers =
-          sym (append-nil (map (λ t. t.transfers) c.loop-teller.turned.items))
-          ∙ ap (λ (l : List Errands). map (λ t. t.transfers) c.loop-teller.turned.items ++ map (λ e. e.transfers) l) (sym rest) ∙ i.transfers;
-      habits =
-          sym (append-nil (map (λ t. t.habits) c.loop-teller.turned.items))
-          ∙ ap (λ (l : List Errands). map (λ t. t.habits) c.loop-teller.turned.items ++ map (habits_on c.args.first) l) (sym rest) ∙ i.habits;
-      none = i.none;
-    }
+    let rest : into_iter_items c.loop-teller.errands ≡ [] = search (arith, none_of, into_iter_items, c.requires.as_many, i.left) in
+    search (arith, append-nil)

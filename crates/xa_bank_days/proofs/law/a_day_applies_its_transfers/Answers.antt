@@ -1,3 +1,4 @@
+use Rattle.std.proofs.Common.{arith}
 use Rattle.xa_bank_days.proofs.DawnLaw.{dawn_law}
 use Rattle.xa_bank_days.proofs.DayLaw.{day_law}
 use Rattle.xa_bank_days.proofs.law.a_day_applies_its_transfers.Goals as goal

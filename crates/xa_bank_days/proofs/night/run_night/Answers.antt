@@ -1,3 +1,4 @@
+use Rattle.std.proofs.Common.{arith, rules}
 use Rattle.xa_base.proofs.{Err, Result, ◌≡◌, List, [], ◌∷◌, ◌++◌, subst, ap, ◌∙◌, refl}
 use Rattle.std.specs.Prelude.{IfErr}
 use Rattle.xa_crew.specs.{AgainFault, Unsettled, WithScan, Ran, HasRunAgain, IfUnsettled, IsRunAgain}
@@ -13,8 +14,7 @@ returns-in-Some g c =
     let again = c.args.again.now in
     let r : Resolver g.row.L.Denot = record { alloc = c.args.alloc; tellers = c.args.tellers; resolved = Err NoMemory } in
     let run = c.in-Ok-run_clients_again_in_turns.run' in
-    let given : c.push_reserved.new.self.items ≡ r ∷ [] =
-    c.push_reserved.ensures.items ∙ ap (λ (l : List (Resolver g.row.L.Denot)). l ++ r ∷ []) c.in-Ok.ensures.items in
+    let given : c.push_reserved.new.self.items ≡ r ∷ [] = search (arith, rules) in
     let ran =
     subst (λ (rs : List (Resolver g.row.L.Denot)). IsRunAgain (ResolvesBy state knows) s again rs run.clients.items run.settled) given c.in-Ok-run_clients_again_in_turns.ensures.ran in
     let is : run.clients.items ≡ c.pop.new.self.items ++ c.in-Some.attended ∷ [] = c.in-Some.ensures.items in
@@ -39,6 +39,5 @@ returns-in-Err-Unsettled-clause-unsettled g c =
     let P : List (Resolver g.row.L.Denot) → Ran (WithScan (Resolver g.row.L.Denot)) → Type 0 =
     HasRunAgain (ResolvesBy g.L.DecisionLog.state g.L.DecisionRecords.knows) c.args.settled c.args.again.now in
     let is : c.run_clients_again_in_turns.result ≡ Err (Unsettled c.in-Err-Unsettled.ran) = cc in
-    let given : c.push_reserved.new.self.items ≡ r ∷ [] =
-    c.push_reserved.ensures.items ∙ ap (λ (l : List (Resolver g.row.L.Denot)). l ++ r ∷ []) c.in-Ok.ensures.items in
+    let given : c.push_reserved.new.self.items ≡ r ∷ [] = search (arith, rules) in
     (r, refl, subst (λ rs. P rs c.in-Err-Unsettled.ran) given (of_unsettled (P c.push_reserved.new.self.items) c.run_clients_again_in_turns.result c.in-Err-Unsettled.ran is c.run_clients_again_in_turns.ensures.unsettled))

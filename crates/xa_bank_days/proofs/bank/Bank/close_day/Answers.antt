@@ -7,19 +7,10 @@ use Rattle.xa_bank_days.proofs.ManyDays.{if_err, if_ok}
 use Rattle.xa_bank_days.proofs.bank.Bank.close_day.Goals as goal
 
 pub work_day-requires-clause-tellers : goal.work_day-requires-clause-tellers
-work_day-requires-clause-tellers g c κs within =
-    let e = same_length (λ t. t.transfers) (λ e. e.transfers) _ _ c.turn_all-tellers.ensures.transfers in
-    let a = ap (λ (l : List Errands). length l) c.deref.ensures.value in
-    let b = c.in-Some.ensures.threads in
-    let d = c.next_numbers-again.ensures.threads in
-    omega (arith, e, a, b, d)
+work_day-requires-clause-tellers g c κs within = search (arith, same_length)
 
 pub work_day-requires-clause-room : goal.work_day-requires-clause-room
-work_day-requires-clause-room g c κs within =
-    let e = same_length (λ t. t.transfers) (λ e. e.transfers) _ _ c.turn_all-tellers.ensures.transfers in
-    let a = ap (λ (l : List Errands). length l) c.deref.ensures.value in
-    let b = c.in-Some.ensures.threads in
-    subst (λ n. HasRoom n c.in-Ok.evening) (omega (arith, e, a, b)) c.in-Ok.ensures.room
+work_day-requires-clause-room g c κs within = search (arith, same_length)
 
 -- the numbers of the day
 pub numbers_are : {many threads : ℕ} (first day : Again) → threads ≡ many → day ≡ next_numbers first threads → day ≡ next_numbers first many
@@ -48,9 +39,7 @@ returns-in-Ok-pass_night g c =
       }) at.closed;
       unresolved = if_err n.resolved (λ why (excuse, untouched). record {
         is_worked = worked;
-        excuse =
-            subst (λ (ts : Vec (Teller g.row.L.Denot) Global). Excuses (day.wanting ≡ true) (All (λ t. g.L.DecisionRecords.knows t.log) ts.items) (HasRoomToResolve day.settled (night_numbers c.args.self c.args.errands.items)) (Unit {0}) why)
-            (sym at.tellers_) excuse;
+        excuse = search (arith, g.L.DecisionRecords.knows, day.settled, c.args.self);
         untouched = untouched;
       }) at.left;
       stopped = tt;
