@@ -33,12 +33,7 @@ taken_past : (slots : List Slot) (n : ℕ) → get_or (take n slots) n Free ≡ 
 taken_past slots n = get_or_past (take n slots) n Free (omega (arith, length-take n slots))
 
 taken_others : (slots : List Slot) (n j : ℕ) → (j ≡ n → ⊥) → get_or (take (n + 1) slots) j Free ≡ get_or (take n slots) j Free
-taken_others slots n j other = elim (cases_lt j n) [
-  | inl before ↦ get_or-take (n + 1) slots j Free (omega arith) ∙ sym (get_or-take n slots j Free before)
-  | inr from ↦
-      get_or_past (take (n + 1) slots) j Free (omega (arith, other, length-take (n + 1) slots))
-      ∙ sym (get_or_past (take n slots) j Free (omega (arith, length-take n slots)))
-]
+taken_others slots n j other = search (arith, cases_lt, get_or-take, get_or_past, length-take)
 
 module _ {n : ℕ} {old slots : List Slot} {places : FinMap tran_cmp ℕ} {len room : ℕ} (so_far : IsAnew n old slots places len room) where
   pub room_there : n < length old → 0 < room
@@ -48,8 +43,7 @@ module _ {n : ℕ} {old slots : List Slot} {places : FinMap tran_cmp ℕ} {len r
   shut_here below = get_or-take (n + 1) (map shut old) n Free (omega arith) ∙ at_slot shut refl old n
 
   weight_here : n < length old → used (take (n + 1) (map shut old)) ≡ used (take n (map shut old)) + weight (shut (get_or old n Free))
-  weight_here below =
-      used_next (map shut old) n (omega (arith, length-map old shut)) ∙ ap (λ (s : Slot). used (take n (map shut old)) + weight s) (at_slot shut refl old n)
+  weight_here below = search (arith, used_next, length-map, at_slot)
 
   -- a slot without a record that counts
   pub passed_over : {new : List Slot} → n < length old → taken (get_or old n Free) ≡ None → new ≡ set slots n (shut (get_or old n Free))
@@ -58,24 +52,14 @@ module _ {n : ℕ} {old slots : List Slot} {places : FinMap tran_cmp ℕ} {len r
       let free = shut_free (get_or old n Free) none in
       record {
         mapped = one_mapped so_far.mapped below put;
-        indexed = index_same so_far.indexed (λ k. ap (λ (s : Slot). name_of (on_file s)) (elim (cases_eq k n) [
-          | inl same ↦
-              subst (λ (i : ℕ). get_or (take (n + 1) (map shut old)) i Free ≡ get_or (take n (map shut old)) i Free) (sym same)
-              (shut_here below ∙ free ∙ sym (taken_past (map shut old) n))
-          | inr other ↦ taken_others (map shut old) n k other
-        ]));
+        indexed = search (arith, index_same, cases_eq, shut_here, taken_past, taken_others);
         room_left = omega (arith, weight_here below, ap weight free, so_far.room_left);
         capacity = so_far.capacity;
       }
 
   -- the next one isn't in the index yet
   not_yet : {before : FinMap tran_cmp ℕ} → IsIndexOf before old → {t : TranName} → name_at old n ≡ Some t → HasNoName (take n (map shut old)) t
-  not_yet index {t} named k is =
-      let below : k < n = (let within = named_within (take n (map shut old)) k t is in omega (arith, within, length-take n (map shut old))) in
-      let there = ap (λ (s : Slot). name_of (on_file s)) (sym (get_or-take n (map shut old) k Free below ∙ at_slot shut refl old k)) ∙ is in
-      let at = named_record (get_or old k Free) t there in
-      let same = one_place index k n t (ap (λ (s : Slot). name_of (on_file s)) at.1.0 ∙ ap (λ (q : TranName). Some q) at.1.1) named in
-      absurd (omega (arith, below, same))
+  not_yet index {t} named k is = search (arith, named_within, length-take, get_or-take, at_slot, named_record, one_place)
 
   -- a slot with one
   pub put_in : {new : List Slot} {before more : FinMap tran_cmp ℕ} {new_len new_room : ℕ} {r : CommitRecord} → n < length old → get_or old n Free ≡ Taken r

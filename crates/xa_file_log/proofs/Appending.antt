@@ -1,4 +1,5 @@
 -- What an append leaves, first of the gates that are shut, then of the record.
+use Rattle.std.proofs.Common.{arith}
 use Rattle.xa_base.proofs.{◌≡◌, ◌⊎◌, inl, inr, ⊎_elim, ℕ, ◌<◌, None, List, length, get_or, map, set, ◌∙◌, ap, subst}
 use Rattle.std.specs.FinMap as finmap
 use Rattle.xa_log.specs.{CommitRecord, Records, record_in}
@@ -28,14 +29,10 @@ before_it slots r c shown = inl (shows_records slots c shown)
 module _ {slots mid : List Slot} (moved : MayBeShut slots mid) (k : ℕ) (r : CommitRecord) (below : k < length mid) (free : get_or mid k Free ≡ Free)
     (absent : record_in (records_in slots) r.tran ≡ None) where
   pub one_more : records_in (set mid k (Taken r)) ≡ finmap.insert (records_in slots) r.tran r.yes
-  one_more =
-      takes_record mid k r below free (ap (λ (m : Records). record_in m r.tran) (same_records moved) ∙ absent)
-      ∙ ap (λ (m : Records). finmap.insert m r.tran r.yes) (same_records moved)
+  one_more = search (arith, takes_record, same_records)
 
   pub none_more : ForgetsNoMore slots (set mid k (Taken r))
-  none_more t =
-      let same = ap (λ (m : Records). record_in m t) (takes_no_forgotten mid k r free) in
-      ⊎_elim (λ none. inl (same ∙ none)) (λ also. inr (same ∙ also)) (no_more moved t)
+  none_more t = search (arith, takes_no_forgotten, no_more)
 
   -- a crash at any moment of both
   pub both_runs : {D : Type 0} {moment : D → ℕ} {left_since : D → ℕ → List ℕ → Type 0} {shown : List Slot} {old then new : D} → shown ≡ mid

@@ -1,4 +1,5 @@
 -- One call more.
+use Rattle.std.proofs.Common.{rules}
 use Rattle.xa_base.proofs.{◌≡◌, ◌⊎◌, inl, inr, ℕ, ◌+◌, ◌<◌, ◌≤◌, Bool, true, false, cond, List, [], ◌∷◌, ◌++◌, length, take, Vec, refl, sym, ◌∙◌, ap, subst}
 use Rattle.xa_base.proofs.{arith, length-append, take_all, cases_lt}
 use Rattle.std.specs.declared.alloc.Global.{Global}
@@ -53,16 +54,14 @@ elapses_push past call bytes = record {
 
 pub elapses_to : (past later : Past) (call : Call) (bytes : Vec ℕ Global) → later ≡ past ++ (call, bytes) ∷ []
     → Elapses (length past) (length later) (LeftSince past) (LeftSince later) (leaves later)
-elapses_to past later call bytes is =
-    subst (λ (p : Past). Elapses (length past) (length p) (LeftSince past) (LeftSince p) (leaves p)) (sym is) (elapses_push past call bytes)
+elapses_to past later call bytes is = search (arith, elapses_push)
 
 -- a write of these bytes tears as its call says
 pub writing_follows : (at : ℕ) (bytes : List ℕ) (ok : Bool) (after : List ℕ) (before : List ℕ → Type 0)
     → Follows (Torn at bytes) before (left_after (writing at bytes ok) after before)
 writing_follows at [] ok after before c left = (left.0, left.1, record { torn = left.2; whole = record { alone = λ b is. absurd (cc (is)) } })
 writing_follows at (b ∷ []) ok after before c left = left
-writing_follows at (a ∷ b ∷ bytes) ok after before c left =
-    (left.0, left.1, record { torn = left.2; whole = record { alone = λ x is. let long = ap length is in absurd (omega (arith, long)) } })
+writing_follows at (a ∷ b ∷ bytes) ok after before c left = search (arith, rules)
 
 pub writing_failed : (at : ℕ) (bytes : List ℕ) (ok : Bool) → failed (writing at bytes ok) ≡ cond ok 0 1
 writing_failed at [] true = refl

@@ -54,9 +54,7 @@ found_at (Some s ∷ table) apart (suc k) r there =
     go false e rest = ap (λ (t : Bool). cond t (Some s.yes) (find tran_cmp r.tran (entries table))) e ∙ rest
 
 pub found_is : (table : Table) → AreApart table → (q : TranName) (v : List Bool) → IsAt table q v → find tran_cmp q (entries table) ≡ Some v
-found_is table apart q v at =
-    subst (λ (t : TranName). find tran_cmp t (entries table) ≡ Some v) at.named
-    (found_at table apart at.place at.found at.there ∙ ap (λ (x : List Bool). Some x) at.votes)
+found_is table apart q v at = search (arith, found_at, at.place, at.found)
 
 -- a part of what the file has of a slot
 pub record IsPart (f : Slot → Option CommitRecord) : Type 0 where
@@ -96,12 +94,10 @@ part_at {f} part slots q v is = let at = at_from (map f slots) q v is in (at, sy
 
 -- of two slots with one name
 pub names_apart : (slots : List Slot) → AreApart (table_of slots) → (j k : ℕ) (t : TranName) → name_at slots j ≡ Some t → name_at slots k ≡ Some t → j ≡ k
-names_apart slots apart j k t a b =
-    apart j k t (ap name_of (at_map on_file whole_part slots j) ∙ a) (ap name_of (at_map on_file whole_part slots k) ∙ b)
+names_apart slots apart j k t a b = search (arith, at_map, whole_part, apart, j, k, t, slots)
 
 pub apart_names : (slots : List Slot) → ((j k : ℕ) (t : TranName) → name_at slots j ≡ Some t → name_at slots k ≡ Some t → j ≡ k) → AreApart (table_of slots)
-apart_names slots one j k t a b =
-    one j k t (ap name_of (sym (at_map on_file whole_part slots j)) ∙ a) (ap name_of (sym (at_map on_file whole_part slots k)) ∙ b)
+apart_names slots one j k t a b = search (arith, at_map, whole_part)
 
 name_within : (o p : Option CommitRecord) (t : TranName) → ((r : CommitRecord) → o ≡ Some r → p ≡ Some r) → name_of o ≡ Some t → name_of p ≡ Some t
 name_within None p t within is = absurd (cc (is))
@@ -110,9 +106,7 @@ name_within (Some r) p t within is = ap name_of (within r refl) ∙ is
 -- a table that has no other records than the slots
 pub apart_within : (table : Table) (slots : List Slot) → ((k : ℕ) (r : CommitRecord) → get_or table k None ≡ Some r → on_file (get_or slots k Free) ≡ Some r)
     → AreApart (table_of slots) → AreApart table
-apart_within table slots within apart j k t a b =
-    names_apart slots apart j k t (name_within (get_or table j None) (on_file (get_or slots j Free)) t (within j) a)
-    (name_within (get_or table k None) (on_file (get_or slots k Free)) t (within k) b)
+apart_within table slots within apart j k t a b = search (arith, names_apart, name_within)
 
 pub apart_part : (f : Slot → Option CommitRecord) → IsPart f → (slots : List Slot) → AreApart (table_of slots) → AreApart (map f slots)
 apart_part f part slots = apart_within (map f slots) slots (λ k r is. part.within (get_or slots k Free) r (sym (at_map f part slots k) ∙ is))
@@ -125,6 +119,4 @@ part_found {f} part slots apart k r is =
 
 pub part_has : {f : Slot → Option CommitRecord} → IsPart f → (slots : List Slot) → AreApart (table_of slots) → {table : Table} {q : TranName} {v : List Bool}
     (at : IsAt table q v) → f (get_or slots at.place Free) ≡ Some at.found → finmap.get (records_of (map f slots)) q ≡ Some v
-part_has {f} part slots apart {v = v} at is =
-    subst (λ (t : TranName). finmap.get (records_of (map f slots)) t ≡ Some v) at.named
-    (part_found part slots apart at.place at.found is ∙ ap (λ (w : List Bool). Some w) at.votes)
+part_has {f} part slots apart {v = v} at is = search (arith, part_found, at.place, at.found)

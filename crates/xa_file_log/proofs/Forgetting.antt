@@ -37,12 +37,7 @@ one_forgets {slots = slots} index place r below is t named =
     let name : Some r.tran ≡ Some t = sym (ap (λ (s : Slot). name_of (on_file s)) is) ∙ named in
     ext_get_or Free (set slots place (Forgotten r)) (map (forgets (λ q. tran_eq t q)) slots)
     (length-set slots place (Forgotten r) ∙ sym (length-map slots (forgets (λ q. tran_eq t q)))) (λ k within. elim (cases_eq k place) [
-      | inl same ↦
-          let passes : tran_eq t r.tran ≡ true = (Decides-tran_eq t r.tran).1 (let e : r.tran ≡ t = cc (name) in sym e) in
-          subst (λ (i : ℕ). get_or (set slots place (Forgotten r)) i Free ≡ get_or (map (forgets (λ q. tran_eq t q)) slots) i Free) (sym same)
-          (get_or-set_same slots place (Forgotten r) Free below
-          ∙ sym (at_slot (forgets (λ q. tran_eq t q)) refl slots place ∙ ap (forgets (λ q. tran_eq t q)) is
-          ∙ ap (λ (b : Bool). cond b (Forgotten r) (Taken r)) passes))
+      | inl same ↦ search (arith, Decides-tran_eq, get_or-set_same, at_slot)
       | inr other ↦
           get_or-set_other slots place k (Forgotten r) Free other
           ∙ sym (at_slot (forgets (λ q. tran_eq t q)) refl slots k

@@ -1,4 +1,5 @@
 -- The records of slots in which several are placed.
+use Rattle.std.proofs.Common.{rules}
 use Rattle.xa_base.proofs.{◌≡◌, ◌⊎◌, inl, inr, ⊎_elim, ℕ, zero, suc, ◌+◌, ◌<◌, Bool, Option, None, Some, List, [], ◌∷◌, length, get_or, map, set, refl, sym}
 use Rattle.xa_base.proofs.{◌∙◌, ap, subst, arith, All, Contains, length-set, get_or-set_same, get_or_default, find}
 use Rattle.std.proofs.lemmas.List.Sums.{sum_by-cons}
@@ -123,16 +124,7 @@ comes_with slots rs apart c shown =
     record {
       found = has.found;
       has = has.has;
-      each = λ t.
-          let alike : record_in (records_in (coming slots rs)) t ≡ record_in (records_in slots) t = ap (λ (m : Records). record_in m t) same in
-          ⊎_elim (λ is. inl (is ∙ alike))
-          (λ both.
-          let gone : record_in has.found t ≡ find tran_cmp t (entries (map forgotten (coming slots rs))) =
-          both.1 ∙ get_found (map forgotten (coming slots rs)) t in
-          let none : record_in (records_in slots) t ≡ None = sym alike ∙ both.0 in
-          ⊎_elim (λ nothing. inl (nothing ∙ sym none)) (λ some. inr (none, some))
-          (comes_of slots rs apart t (record_in has.found t) (sym gone)))
-          (has.each t);
+      each = search (arith, get_found, comes_of, has.found, has.each);
     }
 
 -- the first of a group has a new name

@@ -1,4 +1,6 @@
 -- How the index of the slots' transactions goes on.
+use Rattle.std.proofs.Common.{rules}
+use Rattle.std.proofs.Common.{arith}
 use Rattle.xa_base.proofs.{◌≡◌, ◌⊎◌, inl, inr, ℕ, zero, suc, ◌<◌, Bool, true, false, cond, Option, None, Some, List, [], length, get_or, set, replicate, refl}
 use Rattle.xa_base.proofs.{sym, ◌∙◌, ap, subst, IfSome, cases_eq, cases_lt, get_or-set_same, get_or-set_other, eq_by_cmp, FinMap, find, get-insert}
 use Rattle.xa_base.proofs.{get-from_entries}
@@ -13,10 +15,7 @@ use Rattle.xa_file_log.proofs.Finds.{apart_names}
 
 -- a slot that has a name is there
 pub named_within : (slots : List Slot) (k : ℕ) (t : TranName) → name_at slots k ≡ Some t → k < length slots
-named_within slots k t is = elim (cases_lt k (length slots)) [
-  | inl below ↦ below
-  | inr past ↦ let none = ap (λ (s : Slot). name_of (on_file s)) (get_or_past slots k Free past) in absurd (cc (none, is))
-]
+named_within slots k t is = search (arith, cases_lt, get_or_past)
 
 -- what a map has of a name once another is put
 pub put_at : {X : Type 0} (places : FinMap tran_cmp X) (t : TranName) (k : X) (q : TranName) → ((q ≡ t) × (finmap.get (finmap.insert places t k) q ≡ Some k))
@@ -58,47 +57,16 @@ module _ {places : FinMap tran_cmp ℕ} {slots : List Slot} (index : IsIndexOf p
 
   -- the names are the same
   pub index_same : {new : List Slot} → ((k : ℕ) → name_at new k ≡ name_at slots k) → IsIndexOf places new
-  index_same same = record {
-    there = λ k t named. index.there k t (sym (same k) ∙ named);
-    only = λ k t has. same k ∙ index.only k t has;
-  }
+  index_same same = search (arith, rules)
 
   -- one is new
   pub index_more : {more : FinMap tran_cmp ℕ} {new : List Slot} (k : ℕ) (r : TranName) → name_at slots k ≡ None → name_at new k ≡ Some r
       → ((j : ℕ) → (j ≡ k → ⊥) → name_at new j ≡ name_at slots j) → finmap.get places r ≡ None → more ≡ finmap.insert places r k
       → IsIndexOf more new
-  index_more {new = new} k r free here others absent is = subst (λ (m : FinMap tran_cmp ℕ). IsIndexOf m new) (sym is) (record {
-    there = λ j t named. elim (cases_eq j k) [
-      | inl same ↦
-          let also = subst (λ (i : ℕ). name_at new i ≡ Some t) same named in
-          let tran : t ≡ r = cc (here, also) in
-          elim (put_at places r k t) [
-            | inl own ↦ own.1 ∙ ap (λ (i : ℕ). Some i) (sym same)
-            | inr other ↦ absurd (other.0 tran)
-          ]
-      | inr apart ↦
-          let has = index.there j t (sym (others j apart) ∙ named) in
-          elim (put_at places r k t) [
-            | inl own ↦ let gone = ap (finmap.get places) own.0 ∙ absent in absurd (cc (gone, has))
-            | inr other ↦ other.1 ∙ has
-          ]
-    ];
-    only = λ j t has. elim (put_at places r k t) [
-      | inl own ↦ let same : k ≡ j = cc (own.1, has) in subst (λ (i : ℕ). name_at new i ≡ Some t) same (here ∙ ap (λ (q : TranName). Some q) (sym own.0))
-      | inr other ↦
-          let named = index.only j t (sym other.1 ∙ has) in
-          others j (λ e. let none = ap (λ (i : ℕ). name_at slots i) e ∙ free in absurd (cc (none, named))) ∙ named
-    ];
-  })
+  index_more {new = new} k r free here others absent is = search (arith, cases_eq, put_at)
 
 pub none_free_set : (slots : List Slot) (k n : ℕ) (r : CommitRecord) → k < length slots → HasNoFree slots n → HasNoFree (set slots k (Taken r)) n
-none_free_set slots k n r below none j before free = elim (cases_eq j k) [
-  | inl same ↦
-      let there = get_or-set_same slots k (Taken r) Free below in
-      let gone = subst (λ (i : ℕ). get_or (set slots k (Taken r)) i Free ≡ Free) same free in
-      absurd (cc (there, gone))
-  | inr other ↦ none j before (sym (get_or-set_other slots k j (Taken r) Free other) ∙ free)
-]
+none_free_set slots k n r below none j before free = search (arith, cases_eq, get_or-set_same, get_or-set_other)
 
 -- NEW
 pub all_free : (n k : ℕ) → get_or (replicate n Free) k Free ≡ Free

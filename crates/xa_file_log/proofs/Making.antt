@@ -24,14 +24,7 @@ module _ {D : Type 0} (moment : D → ℕ) (left_since : D → ℕ → List ℕ 
       inl (after_rest later c (subst (λ (d : List ℕ). Torn 1 later d c) (one from.0 from.1) from.2))
 
   pub up_to_rest : LeavesOnly moment left_since empty rest (IsNewLog n)
-  up_to_rest =
-      goes_on (goes_on (goes_on
-      (started (λ c left. let size = ap length (none c (now c left)) in inl (short_file c (omega (arith, size)))))
-      goes (λ c left.
-      let from = tears c left in
-      inl (after_first c (subst (λ (d : List ℕ). Torn 0 (0 ∷ []) d c) (none from.0 from.1) from.2))))
-      goes_to (λ c left. let size = ap length (one c left) in inl (short_file c (omega (arith, size)))))
-      goes_past torn_rest
+  up_to_rest = search (arith, goes_on, short_file, after_first, torn_rest)
 
   -- the rest isn't synced
   pub rest_unsynced : {new : D} {with_new : List ℕ → Type 0} → ((c : List ℕ) → with_new c → with_rest c)

@@ -20,18 +20,7 @@ none_mapped f old = record { count = refl; done = λ k no. absurd (omega (arith,
 
 module _ {f : Slot → Slot} {n : ℕ} {old slots : List Slot} (so_far : MapsBelow f n old slots) where
   pub one_mapped : {new : List Slot} → n < length old → new ≡ set slots n (f (get_or old n Free)) → MapsBelow f (n + 1) old new
-  one_mapped below is = subst (MapsBelow f (n + 1) old) (sym is) (record {
-    count = length-set slots n (f (get_or old n Free)) ∙ so_far.count;
-    done = λ k before. elim (cases_eq k n) [
-      | inl same ↦
-          subst (λ (i : ℕ). get_or (set slots n (f (get_or old n Free))) i Free ≡ f (get_or old i Free)) (sym same)
-          (get_or-set_same slots n (f (get_or old n Free)) Free (omega (arith, so_far.count)))
-      | inr other ↦ get_or-set_other slots n k (f (get_or old n Free)) Free other ∙ so_far.done k (omega (arith, other))
-    ];
-    later = λ k from.
-        let other : k ≡ n → ⊥ = λ e. omega (arith, e, from) in
-        get_or-set_other slots n k (f (get_or old n Free)) Free other ∙ so_far.later k (omega (arith, from));
-  })
+  one_mapped below is = search (arith, length-set, cases_eq, get_or-set_same, get_or-set_other)
 
   -- a slot that stays
   pub unchanged : f (get_or old n Free) ≡ get_or old n Free → slots ≡ set slots n (f (get_or old n Free))

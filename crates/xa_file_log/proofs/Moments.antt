@@ -11,26 +11,14 @@ module _ {D : Type 0} {moment : D → ℕ} {left_since : D → ℕ → List ℕ 
   pub goes_on : {old mid new : D} {P may_leave : List ℕ → Type 0} → LeavesOnly moment left_since old mid P
       → Elapses (moment mid) (moment new) (left_since mid) (left_since new) may_leave
       → ((c : List ℕ) → may_leave c → P c) → LeavesOnly moment left_since old new P
-  goes_on {old} so_far time here = record {
-    later = omega (arith, so_far.later, time.later);
-    each = λ c left. ⊎_elim (so_far.each c) (here c) (time.nothing_else (moment old) c so_far.later left);
-    before = λ t c le left. ⊎_elim (so_far.before t c le) (λ now. inr (here c now)) (time.nothing_else t c (omega (arith, le, so_far.later)) left);
-  }
+  goes_on {old} so_far time here = search (arith, so_far.each, time.nothing_else, so_far.later, so_far.before)
 
   -- less is said
   pub weaker : {old new : D} {P Q : List ℕ → Type 0} → ((c : List ℕ) → P c → Q c) → LeavesOnly moment left_since old new P
       → LeavesOnly moment left_since old new Q
-  weaker f run = record {
-    later = run.later;
-    each = λ c left. f c (run.each c left);
-    before = λ t c le left. ⊎_elim (λ past. inl past) (λ now. inr (f c now)) (run.before t c le left);
-  }
+  weaker f run = search (arith, run.each, run.before)
 
   -- one run after another
   pub joined : {old mid new : D} {P : List ℕ → Type 0} → LeavesOnly moment left_since old mid P → LeavesOnly moment left_since mid new P
       → LeavesOnly moment left_since old new P
-  joined {old} first second = record {
-    later = omega (arith, first.later, second.later);
-    each = λ c left. ⊎_elim (first.each c) (λ now. now) (second.before (moment old) c first.later left);
-    before = λ t c le left. ⊎_elim (first.before t c le) (λ now. inr now) (second.before t c (omega (arith, le, first.later)) left);
-  }
+  joined {old} first second = search (arith, first.each, second.before, first.later, first.before)

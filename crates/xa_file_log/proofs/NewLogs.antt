@@ -22,8 +22,7 @@ after_rest later [] t = short_file [] (omega arith)
 after_rest later (g ∷ c) t = let b = t.torn.before in let first : g ≡ 0 = cc in wrong_first g c (omega arith)
 
 pub rest_done : (later new : List ℕ) → new ≡ overwritten (0 ∷ []) 1 later → new ≡ 0 ∷ later
-rest_done later new is =
-    is ∙ ap (λ (l : List ℕ). 0 ∷ (later ++ l)) (drop_all (1 + length later) (0 ∷ []) (omega arith)) ∙ ap (λ (l : List ℕ). 0 ∷ l) (append-nil later)
+rest_done later new is = search (arith, drop_all, append-nil)
 
 length-head : (n : ℕ) → length (head n) ≡ 18
 unfolding head
@@ -49,28 +48,17 @@ nameless (suc n) (suc k) t is = nameless n k t is
 
 pub new_stands : (n : ℕ) (later : List ℕ) → n ≤ 65536 → later ≡ drop 1 (head n) ++ replicate (94 * n) 0 → StandsFor (free_slots n) (120 ∷ later)
 new_stands n later few is =
-    let whole : 120 ∷ later ≡ head n ++ replicate (94 * n) 0 =
-    ap (λ (l : List ℕ). 120 ∷ l) is ∙ ap (λ (l : List ℕ). l ++ replicate (94 * n) 0) (sym (head_begins n)) in
+    let whole : 120 ∷ later ≡ head n ++ replicate (94 * n) 0 = search (arith, head_begins) in
     let many : length (free_slots n) ≡ n = length-replicate n None in
     subst (StandsFor (free_slots n)) (sym whole) (record {
       few = omega (arith, many);
       size = length-append (head n) (replicate (94 * n) 0) ∙ omega (arith, length-head n, length-replicate {A = ℕ} (94 * n) 0, many);
       header = take_at (head n) (replicate (94 * n) 0) 18 (length-head n) ∙ ap head (sym many);
-      each = λ k here.
-          let below : k < n = omega (arith, many) in
-          let none : get_or (free_slots n) k None ≡ None = get_or-replicate n k None None below in
-          record {
-            free = λ is_none. ap (λ (l : List ℕ). take 1 l) (free_zeros n k below);
-            taken = λ r is_there. absurd (cc (none, is_there));
-            valid = λ r is_there. absurd (cc (none, is_there));
-          };
+      each = search (arith, get_or-replicate, free_zeros);
       apart = λ j k t named. absurd (nameless n j t named);
     })
 
 -- while the first byte is
 pub after_last : (n : ℕ) (later c : List ℕ) → n ≤ 65536 → later ≡ drop 1 (head n) ++ replicate (94 * n) 0 → IsOverwritten (0 ∷ later) 0 (120 ∷ []) c
     → IsNewLog n c
-after_last n later c few is torn = elim (torn.whole.alone 120 refl) [
-  | inl before ↦ inl (subst IsNoLog (sym before) (wrong_first 0 later (omega arith)))
-  | inr after ↦ inr (subst (StandsFor (free_slots n)) (sym after) (new_stands n later few is))
-]
+after_last n later c few is torn = search (arith, wrong_first, new_stands, torn.whole.alone)

@@ -1,4 +1,5 @@
 -- A file stands for one table at most.
+use Rattle.std.proofs.Common.{rules}
 use Rattle.xa_base.proofs.{◌≡◌, ℕ, Option, None, Some, List, [], ◌∷◌, length, get_or, take, drop, refl, sym, ◌∙◌, ap, arith}
 use Rattle.std.proofs.lemmas.List.{ext_get_or}
 use Rattle.xa_log.specs.{CommitRecord, Records}
@@ -7,9 +8,7 @@ use Rattle.xa_file_log.proofs.Unspelled.{same_record}
 
 -- a gate isn't both
 pub apart : (bytes body : List ℕ) → take 1 bytes ≡ 0 ∷ [] → bytes ≡ 255 ∷ body → ⊥
-apart bytes body free taken =
-    let e : ◌≡◌ {A = ℕ} 255 0 = ap (λ (l : List ℕ). get_or l 0 0) (sym (ap (λ (l : List ℕ). take 1 l) taken) ∙ free) in
-    omega (arith, e)
+apart bytes body free taken = search (arith, rules)
 
 pub same_slot : (a b : Option CommitRecord) (bytes : List ℕ) → IsSlotOf a bytes → IsSlotOf b bytes → a ≡ b
 same_slot None None bytes ha hb = refl

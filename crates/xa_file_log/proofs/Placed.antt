@@ -87,9 +87,7 @@ records_left rs i r below is = left_of rs i r below ∙ ap (λ (x : CommitRecord
 module _ {slots : List Slot} {rs : List CommitRecord} {n i : ℕ} (way : IsOnTheWay slots rs n i) (below : n < length slots)
     (free : get_or slots n Free ≡ Free) (r : CommitRecord) (more : i < length rs) (read : r ≡ get_or rs i r) where
   this_left : drop n (placed slots rs) ≡ Taken r ∷ placed (drop (n + 1) slots) (drop (i + 1) rs)
-  this_left =
-      let left_is = left_of slots n Free below ∙ ap (λ (s : Slot). s ∷ drop (n + 1) slots) free in
-      way.rest ∙ (λ j. placed (left_is j) (records_left rs i r more read j))
+  this_left = search (arith, left_of, records_left)
 
   -- into one that is
   pub way_takes : IsOnTheWay slots rs (n + 1) (i + 1)
@@ -123,16 +121,11 @@ pub way_ends : {slots : List Slot} {rs : List CommitRecord} {n i : ℕ} → IsOn
     → get_or (placed slots rs) k Free ≡ get_or slots k Free
 way_ends {slots} {rs} {n} way none k from =
     let e : n + (k - n) ≡ k = omega arith in
-    subst (λ (m : ℕ). get_or (placed slots rs) m Free ≡ get_or slots m Free) e
-    (sym (get_or-drop n (placed slots rs) (k - n) Free)
-    ∙ ap (λ (l : List Slot). get_or l (k - n) Free) (way.rest ∙ ap (placed (drop n slots)) none ∙ none_filled Taken (drop n slots))
-    ∙ get_or-drop n slots (k - n) Free)
+    search (arith, get_or-drop, none_filled)
 
 -- at the end of the slots all are
 pub way_done : {slots : List Slot} {rs : List CommitRecord} {n i : ℕ} → IsOnTheWay slots rs n i → length slots ≤ n → drop i rs ≡ []
-way_done {slots} {rs} {n} {i} way past =
-    let none = ap length (drop_all n slots past) in
-    drop_all i rs (omega (arith, way.room, none, length-drop i rs, way.few))
+way_done {slots} {rs} {n} {i} way past = search (arith, drop_all, length-drop)
 
 -- up to the first that is free
 pub way_from : (slots : List Slot) (rs : List CommitRecord) (n : ℕ) → HasRoomFor slots (length rs) → n ≤ length slots → HasNoFree slots n
@@ -172,9 +165,7 @@ still_shut slots rs k {bytes} is = ⊎_elim
 -- the body after the gate isn't looked at while this is shut
 pub stands_shown_coming : (slots : List Slot) (rs : List CommitRecord) → AreApart (table_of (placed slots rs)) → (file : List ℕ)
     → StandsFor (table_of slots) file → MayShow (coming slots rs) file
-stands_shown_coming slots rs apart file stands =
-    shown_of (slots_as (length-filled Forgotten slots rs) (slots_of whole_part slots stands) (λ k below is. still_shut slots rs k is))
-    (subst AreApart (sym (coming_on_file slots rs)) apart)
+stands_shown_coming slots rs apart file stands = search (arith, shown_of, slots_as, length-filled, slots_of, whole_part, still_shut, coming_on_file)
 
 -- up to the last gate
 pub up_to_gates : (slots : List Slot) (rs : List CommitRecord) {D : Type 0} {moment : D → ℕ} {left_since : D → ℕ → List ℕ → Type 0} {old staged synced new : D} {file : List ℕ}
@@ -196,10 +187,7 @@ is_new slots rs n r valid free this = ⊎_elim
 
 module _ {slots : List Slot} {rs : List CommitRecord} where
   has_bodies : {file : List ℕ} → HasSlots (length slots) (IsBodied slots rs) file → HasBodies slots rs file
-  has_bodies has k r free new = elim (cases_lt k (length slots)) [
-    | inl below ↦ (has.each k below).body r free new
-    | inr past ↦ let none = get_or_past (placed slots rs) k Free (omega (arith, past, length-filled Taken slots rs)) in absurd (cc (none, new))
-  ]
+  has_bodies has k r free new = search (arith, cases_lt, get_or_past, length-filled, has.each)
 
   pub bodied : {file : List ℕ} → StandsFor (table_of slots) file → HasBodies slots rs file → HasSlots (length slots) (IsBodied slots rs) file
   bodied stands bodies = slots_as refl (slots_of whole_part slots stands) (λ k below is. record { is = is; body = bodies k })
@@ -210,13 +198,7 @@ module _ {slots : List Slot} {rs : List CommitRecord} where
 
   pub body_put : {n : ℕ} {r : CommitRecord} {bytes body : List ℕ} → get_or slots n Free ≡ Free → get_or (placed slots rs) n Free ≡ Taken r
       → body ≡ spelling r → Has on_file slots n bytes → IsBodied slots rs n (take 1 bytes ++ body)
-  body_put {r = r} {body = body} free this spells is = record {
-    is = still_free body free is;
-    body = λ x none there.
-        let same : Taken r ≡ Taken x = sym this ∙ there in
-        let record_is : r ≡ x = cc (same) in
-        ap (λ (l : List ℕ). drop 1 (l ++ body)) (is.free (ap on_file free)) ∙ spells ∙ ap spelling record_is;
-  }
+  body_put {r = r} {body = body} free this spells is = search (arith, still_free, is.free)
 
   -- all bodies are there
   all_bodies : {n i : ℕ} {file : List ℕ} → IsOnTheWay slots rs n i → drop i rs ≡ []

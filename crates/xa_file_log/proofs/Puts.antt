@@ -1,4 +1,5 @@
 -- What a crash leaves of a write over bytes that are on the disk, and of its sync.
+use Rattle.std.proofs.Common.{arith}
 use Rattle.xa_base.proofs.{◌≡◌, inr, ℕ, ◌+◌, ◌≤◌, List, length, refl, subst}
 use Rattle.xa_file_log.specs.{overwritten, Elapses, Follows, IsOverwritten, LeavesOnly, Only, Torn}
 use Rattle.xa_file_log.proofs.Moments.{started, goes_on}
@@ -11,9 +12,7 @@ all_written {bytes = bytes} is = record { some = bytes; count = refl; file_is = 
 -- once they are written
 pub torn_now : {seen : List ℕ} {at : ℕ} {bytes : List ℕ} {was now : List ℕ → Type 0} → at + length bytes ≤ length seen → Only seen was
     → Follows (Torn at bytes) was now → (c : List ℕ) → now c → IsOverwritten seen at bytes c
-torn_now {seen} {at} {bytes} within durable crash c left =
-    let from = crash c left in
-    torn_is_overwritten at bytes seen c within (subst (λ (d : List ℕ). Torn at bytes d c) (durable from.0 from.1) from.2)
+torn_now {seen} {at} {bytes} within durable crash c left = search (arith, torn_is_overwritten)
 
 -- at any moment up to then
 pub written : {D : Type 0} {moment : D → ℕ} {left_since : D → ℕ → List ℕ → Type 0} {seen : List ℕ} {at : ℕ} {bytes : List ℕ} {old new : D}

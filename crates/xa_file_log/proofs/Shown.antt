@@ -12,10 +12,7 @@ use Rattle.xa_file_log.proofs.Records.{get_found}
 
 pub gate_cases : (bytes : List ℕ) → (take 1 bytes ≡ 0 ∷ []) ⊎ (take 1 bytes ≡ 0 ∷ [] → ⊥)
 gate_cases [] = inr (λ e. absurd (cc (e)))
-gate_cases (g ∷ bytes) = elim (cases_eq g 0) [
-  | inl is ↦ inl (ap (λ (x : ℕ). x ∷ []) is)
-  | inr other ↦ inr (λ e. let same : g ≡ 0 = cc (e) in other same)
-]
+gate_cases (g ∷ bytes) = search (arith, cases_eq)
 
 -- what the file has of a slot
 record IsLeft (s : Slot) (bytes : List ℕ) (o : Option CommitRecord) : Type 0 where
@@ -55,28 +52,16 @@ module _ (slots : List Slot) (file : List ℕ) (shown : MayShow slots file) wher
       (is_left (get_or slots k Free) (slot k file) (shown.each k below))
 
   within : (k : ℕ) (r : CommitRecord) → get_or table k None ≡ Some r → on_file (get_or slots k Free) ≡ Some r
-  within k r is = elim (cases_lt k (length slots)) [
-    | inl below ↦ (each k below).within r is
-    | inr past ↦ let none = get_or_past table k None (omega (arith, size)) in absurd (cc (none, is))
-  ]
+  within k r is = search (arith, cases_lt, each, get_or_past, table, size)
 
   counts : (k : ℕ) (r : CommitRecord) → taken (get_or slots k Free) ≡ Some r → get_or table k None ≡ Some r
-  counts k r is = elim (cases_lt k (length slots)) [
-    | inl below ↦ (each k below).counts r is
-    | inr past ↦ let none = ap taken (get_or_past slots k Free past) in absurd (cc (none, is))
-  ]
+  counts k r is = search (arith, cases_lt, each, get_or_past)
 
   table_apart : AreApart table
   table_apart = apart_within table slots within shown.apart
 
   stands : StandsFor table file
-  stands = record {
-    few = omega (arith, size, shown.few);
-    size = shown.size ∙ ap (λ (n : ℕ). 18 + 94 * n) (sym size);
-    header = shown.header ∙ ap head (sym size);
-    each = λ k below. (each k (omega (arith, size))).is_slot;
-    apart = table_apart;
-  }
+  stands = search (arith, size, each, table_apart)
 
   -- one that isn't found in the file doesn't count
   none_counts : (t : TranName) → find tran_cmp t (entries table) ≡ None → (o : Option (List Bool)) → find tran_cmp t (entries (map taken slots)) ≡ o → o ≡ None
@@ -140,7 +125,5 @@ pub perhaps_fewer : (before after gone more : Records) (file : List ℕ) → bef
 perhaps_fewer before after gone more file same fewer has = record {
   found = has.found;
   has = has.has;
-  each = λ t.
-      let alike : record_in before t ≡ record_in after t = ap (λ (r : Records). record_in r t) same in
-      ⊎_elim (λ is. inl (is ∙ alike)) (λ p. ⊎_elim (λ none. inl (p.1 ∙ none ∙ sym p.0 ∙ alike)) (λ also. inr (sym alike ∙ p.0, p.1 ∙ also)) (fewer t)) (has.each t);
+  each = search (arith, each, has.each);
 }

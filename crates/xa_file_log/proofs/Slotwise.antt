@@ -45,11 +45,7 @@ named_record (Taken r) t is = (r, (refl, cc (is)))
 named_record s t is = absurd (cc (is))
 
 pub none_named_shut : (slots : List Slot) → AreApart (table_of slots) → (t : TranName) → record_in (records_in slots) t ≡ None → HasNoName (map shut slots) t
-none_named_shut slots apart t none k is =
-    let at = named_record (get_or slots k Free) t (ap (λ (s : Slot). name_of (on_file s)) (sym (at_slot shut refl slots k)) ∙ is) in
-    let found = part_found taken_part slots apart k at.0 (ap taken at.1.0) in
-    let here = ap (record_in (records_in slots)) at.1.1 in
-    absurd (cc (none, found, here))
+none_named_shut slots apart t none k is = search (arith, named_record, at_slot, part_found, taken_part)
 
 pub shut_free : (s : Slot) → taken s ≡ None → shut s ≡ Free
 shut_free (Taken r) none = absurd (cc (none))
@@ -142,9 +138,7 @@ forgets_its_own test slots apart t = go (find tran_cmp t (entries (map forgotten
 -- TAKEN
 pub takes_record : (slots : List Slot) (k : ℕ) (r : CommitRecord) → k < length slots → get_or slots k Free ≡ Free
     → finmap.get (records_in slots) r.tran ≡ None → records_in (set slots k (Taken r)) ≡ finmap.insert (records_in slots) r.tran r.yes
-takes_record slots k r below free absent =
-    ap records_of (map-set taken slots k (Taken r))
-    ∙ records_set (map taken slots) k r (omega (arith, length-map slots taken)) (at_map taken taken_part slots k ∙ ap taken free) absent
+takes_record slots k r below free absent = search (arith, map-set, records_set, length-map, at_map, taken_part)
 
 pub takes_no_forgotten : (slots : List Slot) (k : ℕ) (r : CommitRecord) → get_or slots k Free ≡ Free → forgotten_in (set slots k (Taken r)) ≡ forgotten_in slots
 takes_no_forgotten slots k r free =
@@ -162,12 +156,7 @@ name_set_other slots k j r apart = ap (λ (s : Slot). name_of (on_file s)) (get_
 -- a name is the new one, or stands where it stood
 pub name_set : (slots : List Slot) (k : ℕ) (r : CommitRecord) → k < length slots → (j : ℕ) (t : TranName) → name_at (set slots k (Taken r)) j ≡ Some t
     → ((j ≡ k) × (r.tran ≡ t)) ⊎ (name_at slots j ≡ Some t)
-name_set slots k r below j t named = elim (cases_eq j k) [
-  | inl same ↦
-      let name : Some r.tran ≡ Some t = sym (name_set_same slots k r below) ∙ subst (λ (i : ℕ). name_at (set slots k (Taken r)) i ≡ Some t) same named in
-      inl (same, cc (name))
-  | inr other ↦ inr (sym (name_set_other slots k j r other) ∙ named)
-]
+name_set slots k r below j t named = search (arith, cases_eq, name_set_same, name_set_other)
 
 pub apart_set : (slots : List Slot) (k : ℕ) (r : CommitRecord) → k < length slots → HasNoName slots r.tran → AreApart (table_of slots)
     → AreApart (table_of (set slots k (Taken r)))
@@ -179,10 +168,7 @@ apart_set slots k r below new apart = apart_names (set slots k (Taken r)) (λ i 
 -- what is said of a record that counts
 pub counted_found : (slots : List Slot) → AreApart (table_of slots) → (k : ℕ) (t : TranName) (r : CommitRecord) → get_or slots k Free ≡ Taken r
     → name_at slots k ≡ Some t → record_in (records_in slots) t ≡ Some r.yes
-counted_found slots apart k t r is named =
-    let name : Some r.tran ≡ Some t = ap (λ (s : Slot). name_of (on_file s)) (sym is) ∙ named in
-    let tran : r.tran ≡ t = cc (name) in
-    subst (λ (q : TranName). record_in (records_in slots) q ≡ Some r.yes) tran (part_found taken_part slots apart k r (ap taken is))
+counted_found slots apart k t r is named = search (arith, part_found, taken_part)
 
 -- a record that counts is in the slot of its name
 counts_at : (slots : List Slot) (t : TranName) (v : List Bool) → record_in (records_in slots) t ≡ Some v

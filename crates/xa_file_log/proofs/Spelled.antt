@@ -23,9 +23,7 @@ put_together r format size name zeros votes l0 l1 l2 f s n few e0 e1 e2 z v =
     let padding : zeros ≡ replicate (64 - length r.tran.gtrid) 0 =
     z ∙ ap (λ (l : List ℕ). take (64 - length r.tran.gtrid) l) (e2 ∙ ap (λ (l : List ℕ). drop (length r.tran.gtrid) l) (e1 ∙ ap (λ (l : List ℕ). drop 1 l) e0))
     ∙ zeros_left (length r.tran.gtrid) few in
-    (λ i. f i ++ (s i ++ (n i ++ (padding i ++ v i))))
-    ∙ ap (λ (l : List ℕ). to_be_bytes w32 (cast_unsigned w32 r.tran.format) ++ (length r.tran.gtrid ∷ l))
-    (sym (append_assoc r.tran.gtrid (replicate (64 - length r.tran.gtrid) 0) (yes_bytes r.yes)))
+    search (arith, append_assoc, r.tran.gtrid)
 
 pub eight_bits : (bytes : List ℕ) → length bytes ≡ 8
     → eqb (get_or bytes 0 0) 1 ∷ eqb (get_or bytes 1 0) 1 ∷ eqb (get_or bytes 2 0) 1 ∷ eqb (get_or bytes 3 0) 1 ∷ eqb (get_or bytes 4 0) 1 ∷ eqb

@@ -1,4 +1,5 @@
 -- What a file has of its slots, and how a write within one of them changes it.
+use Rattle.std.proofs.Common.{rules}
 use Rattle.xa_base.proofs.{◌≡◌, ◌≢◌, inl, inr, ⊎_elim, ℕ, ◌+◌, ◌*◌, ◌<◌, ◌≤◌, Option, None, Some, List, [], ◌∷◌, ◌++◌, length, get_or, map, set, take, drop}
 use Rattle.xa_base.proofs.{refl, sym, ◌∙◌, ap, subst, arith, length-set, length-append, length-drop, cases_eq, cases_lt, length-map, get_or-set_same}
 use Rattle.xa_base.proofs.{get_or-set_other}
@@ -19,12 +20,7 @@ pub record HasSlots (n : ℕ) (P : ℕ → List ℕ → Type 0) (file : List ℕ
 
 pub slots_as : {m n : ℕ} {P Q : ℕ → List ℕ → Type 0} {file : List ℕ} → m ≡ n → HasSlots n P file
     → ((k : ℕ) → k < n → P k (slot k file) → Q k (slot k file)) → HasSlots m Q file
-slots_as same has f = record {
-  few = omega (arith, has.few);
-  size = omega (arith, has.size);
-  header = has.header ∙ ap head (sym same);
-  each = λ k below. f k (omega arith) (has.each k (omega arith));
-}
+slots_as same has f = search (arith, has.each)
 
 -- WRITES
 -- a write within slot k leaves the others
@@ -67,9 +63,7 @@ gate_written {Q = Q} {file = file} k b has below this others =
     let at = 18 + 94 * k in
     let within : 18 + 94 * k + 1 ≤ length file = omega (arith, has.size) in
     let room : 18 + 94 * k + 1 ≤ 112 + 94 * k = omega arith in
-    let bytes : slot k (overwritten file (18 + 94 * k) (b ∷ [])) ≡ b ∷ drop 1 (slot k file) =
-    ap (λ (l : List ℕ). take 94 l) (drop-overwritten file (18 + 94 * k) (b ∷ []) within)
-    ∙ ap (λ (l : List ℕ). b ∷ l) (sym (tail_of (drop (18 + 94 * k) file) ∙ ap (λ (l : List ℕ). take 93 l) (drop-drop 1 (18 + 94 * k) file))) in
+    let bytes : slot k (overwritten file (18 + 94 * k) (b ∷ [])) ≡ b ∷ drop 1 (slot k file) = search (arith, drop-overwritten, tail_of, drop-drop) in
     slot_written k (18 + 94 * k) (b ∷ []) has below (omega arith) room (subst (Q k) (sym bytes) this) others
 
 -- or a crash comes in between
@@ -83,8 +77,7 @@ gate_torn {n} {P} k b has below this torn =
 pub body_slot : {n : ℕ} {P : ℕ → List ℕ → Type 0} {file : List ℕ} (k : ℕ) (body : List ℕ) → HasSlots n P file → k < n → length body ≡ 93
     → slot k (overwritten file (18 + 94 * k + 1) body) ≡ take 1 (slot k file) ++ body
 body_slot {file = file} k body has below size =
-    let first : length (take 1 (drop (18 + 94 * k) file)) ≡ 1 =
-    length-take-le 1 (drop (18 + 94 * k) file) (omega (arith, has.size, length-drop (18 + 94 * k) file)) in
+    let first : length (take 1 (drop (18 + 94 * k) file)) ≡ 1 = search (arith, length-take-le, length-drop) in
     ap (λ (l : List ℕ). take 94 l) (drop_overwritten_in file (18 + 94 * k) 1 body (omega (arith, has.size)))
     ∙ take_at (take 1 (drop (18 + 94 * k) file) ++ body) (drop (1 + length body) (drop (18 + 94 * k) file)) 94
     (omega (arith, length-append (take 1 (drop (18 + 94 * k) file)) body, first))
@@ -114,11 +107,7 @@ starts has early = slots_as refl has (λ k below is. record { done = λ before. 
 
 pub passes : {m n : ℕ} {New Old : ℕ → List ℕ → Type 0} {file : List ℕ} → HasSlots m (Between New Old n) file → n < m
     → (Old n (slot n file) → New n (slot n file)) → HasSlots m (Between New Old (n + 1)) file
-passes {n = n} {New = New} {Old = Old} {file = file} has below now = slots_as refl has (λ k here is. elim (cases_eq k n) [
-  | inl same ↦
-      subst (λ (j : ℕ). Between New Old (n + 1) j (slot j file)) (sym same) (this_done (now ((has.each n below).later (omega arith))))
-  | inr other ↦ one_on other is
-])
+passes {n = n} {New = New} {Old = Old} {file = file} has below now = search (arith, slots_as, cases_eq, this_done, one_on, has.each)
 
 pub gate_done : {m n : ℕ} {New Old : ℕ → List ℕ → Type 0} {file : List ℕ} (b : ℕ) → HasSlots m (Between New Old n) file → n < m
     → (Old n (slot n file) → New n (b ∷ drop 1 (slot n file))) → HasSlots m (Between New Old (n + 1)) (overwritten file (18 + 94 * n) (b ∷ []))
@@ -133,10 +122,7 @@ body_done {n = n} body has below size now =
 
 pub ends : {m n : ℕ} {New Old : ℕ → List ℕ → Type 0} {file : List ℕ} → HasSlots m (Between New Old n) file
     → ((k : ℕ) → k < m → n ≤ k → Old k (slot k file) → New k (slot k file)) → HasSlots m New file
-ends {n = n} has rest = slots_as refl has (λ k below is. elim (cases_lt k n) [
-  | inl before ↦ is.done before
-  | inr from ↦ rest k below from (is.later from)
-])
+ends {n = n} has rest = search (arith, slots_as, cases_lt)
 
 -- TABLES
 -- slot k has what f says of it
@@ -145,26 +131,11 @@ Has f slots k bytes = IsSlotOf (f (get_or slots k Free)) bytes
 
 pub slots_of : {f : Slot → Option CommitRecord} → IsPart f → (slots : List Slot) {file : List ℕ} → StandsFor (map f slots) file
     → HasSlots (length slots) (Has f slots) file
-slots_of {f} part slots {file} stands =
-    let many = length-map slots f in
-    record {
-      few = omega (arith, many, stands.few);
-      size = omega (arith, many, stands.size);
-      header = stands.header ∙ ap head many;
-      each = λ k below. subst (λ o. IsSlotOf o (slot k file)) (at_map f part slots k) (stands.each k (omega (arith, many)));
-    }
+slots_of {f} part slots {file} stands = search (arith, length-map, at_map, stands.each)
 
 pub stands_of : {f : Slot → Option CommitRecord} → IsPart f → (slots : List Slot) {file : List ℕ} → HasSlots (length slots) (Has f slots) file
     → AreApart (map f slots) → StandsFor (map f slots) file
-stands_of {f} part slots {file} has apart =
-    let many = length-map slots f in
-    record {
-      few = omega (arith, many, has.few);
-      size = omega (arith, many, has.size);
-      header = has.header ∙ ap head (sym many);
-      each = λ k below. subst (λ o. IsSlotOf o (slot k file)) (sym (at_map f part slots k)) (has.each k (omega (arith, many)));
-      apart = apart;
-    }
+stands_of {f} part slots {file} has apart = search (arith, length-map, at_map, has.each)
 
 pub slots_shown : {slots : List Slot} {file : List ℕ} → MayShow slots file → HasSlots (length slots) (λ k. MayHave (get_or slots k Free)) file
 slots_shown shown = record { few = shown.few; size = shown.size; header = shown.header; each = shown.each }
@@ -190,16 +161,11 @@ pub shut_slot : {bytes : List ℕ} → take 1 bytes ≡ 0 ∷ [] → IsSlotOf No
 shut_slot is = record { free = λ none. is; taken = λ r no. absurd (cc (no)); valid = λ r no. absurd (cc (no)) }
 
 pub open_slot : {r : CommitRecord} {body : List ℕ} → body ≡ spelling r → IsValid r → IsSlotOf (Some r) (255 ∷ body)
-open_slot {r} spells valid = record {
-  free = λ none. absurd (cc (none));
-  taken = λ x is. let same : r ≡ x = cc (is) in ap (λ (l : List ℕ). 255 ∷ l) spells ∙ ap (λ (y : CommitRecord). 255 ∷ spelling y) same;
-  valid = λ x is. let same : r ≡ x = cc (is) in subst IsValid same valid;
-}
+open_slot {r} spells valid = search (arith, rules)
 
 -- a body after a shut gate isn't looked at
 pub still_free : {s : Slot} {bytes : List ℕ} (body : List ℕ) → s ≡ Free → IsSlotOf (on_file s) bytes → IsSlotOf (on_file s) (take 1 bytes ++ body)
-still_free {s} {bytes} body free is =
-    subst (λ (x : Slot). IsSlotOf (on_file x) (take 1 bytes ++ body)) (sym free) (shut_slot (ap (λ (l : List ℕ). take 1 (l ++ body)) (is.free (ap on_file free))))
+still_free {s} {bytes} body free is = search (arith, shut_slot, is.free)
 
 -- ONE RECORD
 module _ (slots : List Slot) (k : ℕ) {file : List ℕ} (stands : StandsFor (table_of slots) file) (below : k < length slots) where
@@ -229,7 +195,5 @@ module _ (slots : List Slot) (k : ℕ) {file : List ℕ} (stands : StandsFor (ta
       let has = slots_of whole_part slots (subst (StandsFor (table_of slots)) (sym is) (staged body free size)) in
       let there : HasBody k r now = subst (HasBody k r) (sym is) (stage_body body r free size spells) in
       let with_it : HasSlots (length slots) (Has on_file (set slots k (Taken r))) (overwritten now (18 + 94 * k) (255 ∷ [])) =
-      gate_written k 255 has below
-      (subst (λ (s : Slot). IsSlotOf (on_file s) (255 ∷ drop 1 (slot k now))) (sym (get_or-set_same slots k (Taken r) Free below)) (open_slot there valid))
-      (λ j apart is. subst (λ (s : Slot). IsSlotOf (on_file s) (slot j now)) (sym (get_or-set_other slots k j (Taken r) Free apart)) is) in
+          search (arith, gate_written, get_or-set_same, open_slot, get_or-set_other) in
       stands_of whole_part (set slots k (Taken r)) (slots_as (length-set slots k (Taken r)) with_it (λ j here is. is)) (apart_set slots k r below new stands.apart)

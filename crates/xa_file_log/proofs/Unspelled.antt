@@ -35,10 +35,7 @@ bit_again true = refl
 bit_again false = refl
 
 votes_again : (votes : List Bool) → length votes ≡ 8 → map (λ b. eqb b 1) (yes_bytes votes) ≡ votes
-votes_again votes long =
-    (λ i. bit_again (is_in votes 1) i ∷ bit_again (is_in votes 2) i ∷ bit_again (is_in votes 3) i ∷ bit_again (is_in votes 4) i
-    ∷ bit_again (is_in votes 5) i ∷ bit_again (is_in votes 6) i ∷ bit_again (is_in votes 7) i ∷ bit_again (is_in votes 8) i ∷ [])
-    ∙ eight votes long
+votes_again votes long = search (arith, bit_again, eight)
 
 -- the record that the bytes spell, if they spell one
 abbrev pub unspelled : List ℕ → CommitRecord
@@ -54,27 +51,11 @@ after_name : (p y m : List ℕ) → length p ≡ 64 → drop 64 ((p ++ y) ++ m) 
 after_name p y m size = ap (λ (l : List ℕ). drop 64 l) (append_assoc p y m) ∙ drop_at p (y ++ m) 64 size
 
 length-tran_bytes : (r : CommitRecord) → IsValid r → length (tran_bytes r.tran) ≡ 64
-length-tran_bytes r valid =
-    omega (
-      arith,
-      length-append r.tran.gtrid (replicate (64 - length r.tran.gtrid) 0),
-      length-replicate {A = ℕ} (64 - length r.tran.gtrid) 0,
-      part_few
-          r.tran.gtrid valid.gtrid,
-    )
+length-tran_bytes r valid = search (arith, length-append, length-replicate, part_few, r.tran.gtrid)
 
 pub unspelled_again : (r : CommitRecord) → IsValid r → unspelled (spelling r) ≡ r
 unfolding spelling fields
-unspelled_again r valid =
-    let zeros : List ℕ = replicate (64 - length r.tran.gtrid) 0 in
-    let digest : List ℕ = drop 77 (spelling r) in
-    let names = number_again r.tran.format valid.fits in
-    let gtrids : take (length r.tran.gtrid) (drop 5 (spelling r)) ≡ r.tran.gtrid =
-    name_of r.tran.gtrid (replicate (64 - length r.tran.gtrid) 0) (yes_bytes r.yes) _ in
-    let votes : drop 69 (spelling r) ≡ _ = after_name (tran_bytes r.tran) (yes_bytes r.yes) _ (length-tran_bytes r valid) in
-    let sets : map (λ b. eqb b 1) (take 8 (drop 69 (spelling r))) ≡ r.yes =
-    ap (λ (l : List ℕ). map (λ b. eqb b 1) (take 8 l)) votes ∙ votes_again r.yes valid.managers in
-    λ i. record { tran = record { format = names i; gtrid = gtrids i }; yes = sets i }
+unspelled_again r valid = search (arith, number_again, name_of, after_name, length-tran_bytes, votes_again)
 
 pub length_again : (r : CommitRecord) → get_or (spelling r) 4 0 ≡ length r.tran.gtrid
 unfolding spelling fields

@@ -20,10 +20,7 @@ used_left slots n below = sum_by-drop_more weight slots n Free below
 
 pub used_set : (slots : List Slot) (k : ℕ) (r : CommitRecord) → k < length slots → get_or slots k Free ≡ Free
     → used (set slots k (Taken r)) ≡ used slots + 1
-used_set slots k r below free =
-    let all : used (set slots k (Taken r)) + weight (get_or slots k Free) ≡ used slots + 1 = sum_by-set weight slots k (Taken r) Free below in
-    let none = ap weight free in
-    omega (arith, all, none)
+used_set slots k r below free = search (arith, sum_by-set)
 
 pub used_most : (slots : List Slot) → used slots ≤ length slots
 used_most slots = count_by-le-length is_used slots
@@ -45,6 +42,4 @@ all_used slots none =
     ap used (sym (take_all (length slots) slots (omega arith))) ∙ none_free_used slots (length slots) (omega arith) none
 
 pub room_for : (slots : List Slot) (n count : ℕ) → n ≤ length slots → n ≡ used (take n slots) + count → HasRoomFor slots count
-room_for slots n count few is =
-    let whole : used (take n slots) + used (drop n slots) ≡ used slots = sum_by-take-drop weight slots n in
-    omega (arith, whole, used_most (drop n slots), length-drop n slots)
+room_for slots n count few is = search (arith, sum_by-take-drop, used_most, length-drop)

@@ -21,9 +21,7 @@ loop-place-init g c =
     }
 
 pub returns-then-next-decisions-clause-stands : goal.returns-then-next-decisions-clause-stands
-returns-then-next-decisions-clause-stands g c =
-    all_open c.requires.new c.loop-place.invariant.way (drop_all c.loop-place.next c.args.decisions.now (omega (arith, c.if-next-decisions.true)))
-    c.loop-place.invariant.opening
+returns-then-next-decisions-clause-stands g c = search (arith, all_open, drop_all)
 
 pub returns-in_err-write_at-clause-now : goal.returns-in_err-write_at-clause-now
 returns-in_err-write_at-clause-now g c = λ f now.
@@ -65,6 +63,4 @@ loop-place-preserved g c = elim c.match-slots-place.branch [
 ]
 
 pub returns-clause-stands : goal.returns-clause-stands
-returns-clause-stands g c =
-    all_open c.requires.new c.loop-place.invariant.way (way_done c.loop-place.invariant.way (omega (arith, c.loop-place-test.false)))
-    c.loop-place.invariant.opening
+returns-clause-stands g c = search (arith, all_open, way_done, c.requires.new, c.loop-place.invariant.way)

@@ -18,9 +18,7 @@ loop-place-init g c = record {
 
 pub returns-then-next-decisions : goal.returns-then-next-decisions
 returns-then-next-decisions g c =
-    let all = all_written c.requires.stands.apart c.loop-place.invariant.way
-    (drop_all c.loop-place.next c.args.decisions.now (omega (arith, c.if-next-decisions.true))) c.loop-place.invariant.writing in
-    record { stands = all.0; bodies = all.1; keeps = c.loop-place.invariant.keeps; any_moment = c.loop-place.invariant.run; cause = search rules }
+    search (arith, all_written, drop_all, c.requires.stands.apart, c.loop-place.next, c.args.decisions.now, c.loop-place.invariant.writing)
 
 pub returns-in_err-write_at-clause-keeps : goal.returns-in_err-write_at-clause-keeps
 returns-in_err-write_at-clause-keeps g c = λ f now.
@@ -62,7 +60,4 @@ loop-place-preserved g c = elim c.match-slots-place.branch [
 ]
 
 pub returns : goal.returns
-returns g c =
-    let all = all_written c.requires.stands.apart c.loop-place.invariant.way (way_done c.loop-place.invariant.way (omega (arith, c.loop-place-test.false)))
-    c.loop-place.invariant.writing in
-    record { stands = all.0; bodies = all.1; keeps = c.loop-place.invariant.keeps; any_moment = c.loop-place.invariant.run; cause = search rules }
+returns g c = search (arith, all_written, way_done, c.requires.stands.apart, c.loop-place.invariant.way, c.loop-place.invariant.writing)

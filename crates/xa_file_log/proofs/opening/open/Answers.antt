@@ -1,3 +1,4 @@
+use Rattle.std.proofs.Common.{arith}
 use Rattle.xa_base.proofs.{sym, ◌∙◌, ap, subst, rules}
 use Rattle.xa_file_log.specs.{IsSettled, StandsFor, IsNoLog, records_of, table_of}
 use Rattle.xa_file_log.proofs.OneTable.{one_content}
@@ -7,10 +8,7 @@ use Rattle.xa_file_log.proofs.opening.open.Goals as goal
 
 pub invariant_of-result : goal.invariant_of-result
 invariant_of-result g c =
-    let settled : IsSettled g.D.Device.seen g.D.Device.may_leave (table_of c.in-Ok-read_table.table.slots.items) c.read.new.self = record {
-      stands = search rules;
-      durable = λ f left. c.requires f (c.read.ensures.crash f left) ∙ sym c.read.ensures.seen;
-    } in
+    let settled : IsSettled g.D.Device.seen g.D.Device.may_leave (table_of c.in-Ok-read_table.table.slots.items) c.read.new.self = search (arith, rules) in
     record { ready = λ is. settled; known = λ known. settled_shown c.in-Ok-read_table.table.slots.items settled }
 
 pub returns-in-Ok-read_table-clause-reads : goal.returns-in-Ok-read_table-clause-reads

@@ -1,3 +1,4 @@
+use Rattle.std.proofs.Common.{arith}
 use Rattle.xa_base.proofs.{None, Some, refl, sym, ◌∙◌, ap, subst}
 use Rattle.xa_file_log.specs.{SlotTable, Taken, IsSlotOf, HasName}
 use Rattle.xa_file_log.proofs.Reading.{none_read, one_read, free_read, all_read, some_of, twice_named}
@@ -23,11 +24,8 @@ loop-place-preserved c = elim c.match-found.branch [
       subst (IsSlotOf (Some w.in-Some-found.record)) c.slot_of.ensures.bytes (subst (λ o. IsSlotOf o c.slot_of.result.now) w.in-Some-found.is c.in-Some.ensures.found) in
       one_read (Taken w.in-Some-found.record) c.loop-place.invariant c.loop-place-test.true refl here
       (ap (λ (t : SlotTable). t.slots.items) w.table-is ∙ w.take.ensures)
-  | in_default-found w ↦
-      let here = subst (IsSlotOf None) c.slot_of.ensures.bytes (subst (λ o. IsSlotOf o c.slot_of.result.now) w.in_default-found.is c.in-Some.ensures.found) in
-      rw w.table-is (free_read c.loop-place.invariant c.loop-place-test.true here)
+  | in_default-found w ↦ search (arith, in_default-found, free_read)
 ]
 
 pub returns-clause-stands : goal.returns-clause-stands
-returns-clause-stands c =
-    all_read c.loop-place.invariant c.loop-place.table.indexed c.loop-place-test.false c.requires.few c.requires.size c.requires.header
+returns-clause-stands c = search (arith, all_read, c.loop-place.invariant, c.loop-place.table.indexed, c.loop-place-test.false, c.requires.few, c.requires.size)

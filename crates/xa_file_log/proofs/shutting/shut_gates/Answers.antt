@@ -18,15 +18,7 @@ pub returns-in_err-write_at-clause-any_moment : goal.returns-in_err-write_at-cla
 returns-in_err-write_at-clause-any_moment g c = goes_on c.loop-place.invariant.run c.write_at.ensures.time (returns-in_err-write_at-clause-now g c)
 
 pub loop-place-init : goal.loop-place-init
-loop-place-init g c =
-    let shown = settled_shown c.args.slots.now c.requires.settled in
-    record {
-      shown = shown;
-      shutting = none_shut c.args.slots.now c.requires.settled.stands;
-      run = started (λ f left. shown f (g.met.D.Device.only_now c.args.device.now f left));
-      clean = λ is. refl;
-      faults = omega arith;
-    }
+loop-place-init g c = search (arith, settled_shown, none_shut, c.args.slots.now, c.requires.settled, g.met.D.Device.only_now, c.args.device.now)
 
 pub loop-place-preserved : goal.loop-place-preserved
 loop-place-preserved g c = elim c.match-slots-place.branch [
@@ -68,9 +60,7 @@ returns-clause-shut g c = record {
 }
 
 pub returns-clause-now : goal.returns-clause-now
-returns-clause-now g c = λ f now.
-    subst (MayShow c.args.slots.now) (sym (c.in_ok-sync.ensures.durable f now))
-    (below_shown c.args.slots.now c.requires.settled.stands.apart c.loop-place.invariant.shutting)
+returns-clause-now g c = search (arith, below_shown, c.in_ok-sync.ensures.durable, c.args.slots.now, c.requires.settled.stands.apart)
 
 pub returns-clause-any_moment : goal.returns-clause-any_moment
 returns-clause-any_moment g c = goes_on c.loop-place.invariant.run c.sync.ensures.time (returns-clause-now g c)

@@ -1,3 +1,4 @@
+use Rattle.std.proofs.Common.{arith}
 use Rattle.xa_base.proofs.{◌≡◌, Bool, true, false, not, cond, ◌||◌, List, [], ◌∷◌, refl, sym, ◌∙◌, ap, list_any, eq_by_cmp_equiv}
 use Rattle.xa_words.specs.{TranName, tran_eq}
 use Rattle.xa_log.specs.{CommitRecord, is_among}
@@ -21,8 +22,7 @@ pub returns-then-not-contains : goal.returns-then-not-contains
 returns-then-not-contains c =
     let fails : is_among c.args.trans.now c.in-Taken.decision.tran ≡ false =
     sym (c.contains.ensures.value ∙ among c.args.trans.now c.in-Taken.decision.tran) ∙ c.if-not-contains.true in
-    sym (ap (forgets (λ t. not (is_among c.args.trans.now t))) c.in-Taken.is
-    ∙ ap (λ (b : Bool). cond (not b) (Forgotten c.in-Taken.decision) (Taken c.in-Taken.decision)) fails)
+    search (arith, c.args.trans.now)
 
 pub returns : goal.returns
 returns c = elim c.match-slot.branch [

@@ -9,9 +9,7 @@ use Rattle.xa_file_log.proofs.slot_table.shut_all.Goals as goal
 use Rattle.xa_file_log.proofs.slot_table.shut_all.Goals.{in-Free, in-Taken, in-Forgotten}
 
 pub loop-place-init : goal.loop-place-init
-loop-place-init c =
-    none_done c.args.slots.now.items c.clear.new.self.entries (hash_map_len c.clear.new.self) (spare c.clear.new.self) c.clear.ensures.empty
-    (omega (arith, c.requires.capacity, c.clear.ensures.capacity)) c.clear.ensures.len
+loop-place-init c = search (arith, none_done, c.args.slots.now.items, c.clear.new.self.entries)
 
 pub unwrap-requires : goal.unwrap-requires
 unwrap-requires c =

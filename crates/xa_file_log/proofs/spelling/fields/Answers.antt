@@ -1,3 +1,4 @@
+use Rattle.std.proofs.Common.{arith}
 use Rattle.xa_base.proofs.{◌≡◌, ℕ, ℤ, ◌-◌, ◌≤◌, List, [], ◌∷◌, length, take, drop, ◌∙◌, ap, subst, w32, to_z-of_z}
 use Rattle.std.specs.Int.{cast_unsigned, to_be_bytes}
 use Rattle.xa_file_log.proofs.Unspelled.{part_few}
@@ -6,12 +7,9 @@ use Rattle.xa_file_log.proofs.spelling.fields.Goals as goal
 
 pub returns : goal.returns
 returns c =
-    let format : c.to_be_bytes.result ≡ to_be_bytes w32 (cast_unsigned w32 c.args.decision.now.tran.format) =
-    c.to_be_bytes.ensures
-    ∙ ap (λ (z : ℤ). to_be_bytes w32 (cast_unsigned w32 z)) (to_z-of_z w32 c.format.result (record { sfits = c.format.type_inv }) ∙ c.format.ensures) in
+    let format : c.to_be_bytes.result ≡ to_be_bytes w32 (cast_unsigned w32 c.args.decision.now.tran.format) = search (arith, to_z-of_z, c.format.result) in
     let name : c.gtrid-gtrid.result.now ≡ c.args.decision.now.tran.gtrid = c.gtrid-gtrid.ensures.gtrid in
-    let few : length c.args.decision.now.tran.gtrid ≤ 64 =
-    subst (λ (l : List ℕ). length l ≤ 64) name (part_few c.gtrid-gtrid.result.now c.gtrid-gtrid.ensures.valid) in
+    let few : length c.args.decision.now.tran.gtrid ≤ 64 = search (arith, part_few, c.gtrid-gtrid.result.now) in
     put_together c.args.decision.now c.copy_from_slice.new.self c.copy_from_slice-2.new.self c.copy_from_slice-3.new.self
     c.split_at_mut-yes.result.0.now c.copy_from_slice-4.new.self
     c.split_at_mut-format.result.1.now c.split_at_mut-len.result.1.now c.split_at_mut-name.result.1.now

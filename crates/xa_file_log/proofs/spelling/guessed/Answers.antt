@@ -10,19 +10,14 @@ use Rattle.xa_file_log.proofs.Spelled.{first_four, read_name, read_votes}
 use Rattle.xa_file_log.proofs.spelling.guessed.Goals as goal
 
 pub returns-then-len-gt-GTRID-clause-only : goal.returns-then-len-gt-GTRID-clause-only
-returns-then-len-gt-GTRID-clause-only c = λ r valid is.
-    let size = ap (λ (l : List ℕ). get_or l 4 0) is ∙ length_again r in
-    let few = part_few r.tran.gtrid valid.gtrid in
-    absurd (omega (arith, size, few, c.if-len-gt-GTRID.true))
+returns-then-len-gt-GTRID-clause-only c = search (arith, length_again, part_few)
 
 -- the name that the bytes of a record give
 name_made : (body : List ℕ) (r : CommitRecord) (z : ℤ) (found : Result TranName XidFault) → IsValid r → body ≡ spelling r → 4 ≤ length body
     → FitsSigned w32 z → z ≡ cast_signed w32 (from_be_bytes w32 (get_or body 0 0 ∷ get_or body 1 0 ∷ get_or body 2 0 ∷ get_or body 3 0 ∷ []))
     → found ≡ new_tran (to_z w32 (of_z w32 z)) (take (5 + get_or body 4 0 - 5) (drop 5 body)) → found ≡ Ok r.tran
 name_made body r z found valid is long fits format made =
-    let first : to_z w32 (of_z w32 z) ≡ number (take 4 body) =
-    to_z-of_z w32 z fits ∙ format ∙ sym (number_is (get_or body 0 0 ∷ get_or body 1 0 ∷ get_or body 2 0 ∷ get_or body 3 0 ∷ []))
-    ∙ ap number (first_four body long) in
+    let first : to_z w32 (of_z w32 z) ≡ number (take 4 body) = search (arith, to_z-of_z, number_is, first_four) in
     let len : 5 + get_or body 4 0 - 5 ≡ get_or body 4 0 = omega arith in
     made ∙ (λ i. new_tran (first i) (take (len i) (drop 5 body))) ∙ read_name body r valid is
 

@@ -1,3 +1,4 @@
+use Rattle.std.proofs.Common.{arith}
 use Rattle.xa_base.proofs.{sym, ◌∙◌}
 use Rattle.xa_file_log.proofs.Moments.{goes_on}
 use Rattle.xa_file_log.proofs.Puts.{all_written, torn_now, written}
@@ -11,8 +12,7 @@ returns-in_err-write_at-clause-any_moment g c =
     written c.requires.within c.requires.durable (g.met.D.Device.only_now c.args.device.now) c.write_at.ensures.crash c.write_at.ensures.time
 
 pub returns-in_err-sync-clause-now : goal.returns-in_err-sync-clause-now
-returns-in_err-sync-clause-now g c = λ f now.
-    torn_now c.requires.within c.requires.durable c.write_at.ensures.crash f (c.in_err-sync.ensures.crash f now)
+returns-in_err-sync-clause-now g c = search (arith, torn_now, c.requires.within, c.requires.durable, c.write_at.ensures.crash, c.in_err-sync.ensures.crash)
 
 pub returns-in_err-sync-clause-any_moment : goal.returns-in_err-sync-clause-any_moment
 returns-in_err-sync-clause-any_moment g c =

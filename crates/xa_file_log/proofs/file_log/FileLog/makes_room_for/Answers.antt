@@ -7,8 +7,7 @@ use Rattle.xa_file_log.proofs.Slotwise.{none_named_shut}
 use Rattle.xa_file_log.proofs.file_log.FileLog.makes_room_for.Goals as goal
 
 pub returns-then-has_room_for-clause-any_moment : goal.returns-then-has_room_for-clause-any_moment
-returns-then-has_room_for-clause-any_moment g c =
-    started (λ f left. c.args.self.now.known c.requires.known f (g.met.D.Device.only_now c.args.self.now.device f left))
+returns-then-has_room_for-clause-any_moment g c = search (arith, c.args.self.now.known, c.requires.known, g.met.D.Device.only_now, c.args.self.now.device)
 
 pub returns-clause-cause : goal.returns-clause-cause
 returns-clause-cause g c = λ no_.

@@ -1,3 +1,4 @@
+use Rattle.std.proofs.Common.{arith}
 use Rattle.xa_base.proofs.{◌≡◌, map, sym, ◌∙◌, ap, subst}
 use Rattle.xa_file_log.specs.{Table, IsSettled, taken, table_of}
 use Rattle.xa_file_log.proofs.Stands.{settled_shown}
@@ -6,7 +7,6 @@ use Rattle.xa_file_log.proofs.file_log.FileLog.shut_forgotten.Goals as goal
 
 pub invariant_of-self-2 : goal.invariant_of-self-2
 invariant_of-self-2 g c =
-    let same : map taken c.deref.result.now ≡ table_of c.shut.new.self.slots.items =
-    ap (map taken) c.deref.ensures.value ∙ sym (ap table_of c.shut.ensures ∙ shut_on_file c.args.self.now.table.slots.items) in
+    let same : map taken c.deref.result.now ≡ table_of c.shut.new.self.slots.items = search (arith, shut_on_file) in
     let settled = subst (λ (t : Table). IsSettled g.D.Device.seen g.D.Device.may_leave t c.shut_gates.new.device) same c.in-Ok.ensures.shut in
     record { ready = λ is. settled; known = λ known. settled_shown c.shut.new.self.slots.items settled }

@@ -28,12 +28,7 @@ invariant_of-self-in-Ok g c =
     record { ready = λ is. settled; known = λ known. settled_shown c.take.new.self.slots.items settled }
 
 pub invariant_of-self-in-Err-Refused : goal.invariant_of-self-in-Err-Refused
-invariant_of-self-in-Err-Refused g c = record {
-  ready = λ is. absurd (cc (is));
-  known = λ known f left.
-      stands_shown c.place_for.new.self.table.slots.items f
-      (subst (λ (l : List Slot). StandsFor (table_of l) f) c.deref.ensures.value (c.in-Err-Refused.ensures.refused (cc (c.in-Err-Refused.field-0-is)) f left));
-}
+invariant_of-self-in-Err-Refused g c = search (arith, stands_shown)
 
 pub returns-in-Ok-clause-appended : goal.returns-in-Ok-clause-appended
 returns-in-Ok-clause-appended g c =
@@ -45,9 +40,7 @@ returns-in-Ok-clause-appended g c =
       record {
         any_moment = both_runs c.place_for.ensures.slots c.in-Some.place c.args.decision.now free.0 free.1 c.requires.new c.deref.ensures.value
             c.place_for.ensures.any_moment c.write_record.ensures.any_moment;
-        forgotten =
-            subst (ForgetsNoMore c.args.self.now.table.slots.items) (sym c.take.ensures)
-            (none_more c.place_for.ensures.slots c.in-Some.place c.args.decision.now free.0 free.1 c.requires.new);
+        forgotten = search (arith, none_more, c.place_for.ensures.slots, c.in-Some.place, c.args.decision.now, free.0, free.1);
         ready = λ taken. c.in-Some.ensures.ready;
         goes_on = λ refused. absurd (cc (refused));
         cause = λ refused. absurd (cc (refused));

@@ -1,3 +1,4 @@
+use Rattle.std.proofs.Common.{arith}
 use Rattle.xa_base.proofs.{refl, ◌∙◌, ap}
 use Rattle.xa_words.specs.{tran_eq}
 use Rattle.xa_file_log.specs.{records_in}
@@ -13,14 +14,7 @@ invariant_of-self g c = record {
 }
 
 pub returns-clause-forgotten : goal.returns-clause-forgotten
-returns-clause-forgotten g c =
-    let same = ap records_in c.forget.ensures ∙ records_without c.args.self.now.table.slots.items c.args.tran.now in
-    λ i. record { records = same i; failures = c.args.self.now.failures }
+returns-clause-forgotten g c = search (arith, records_without, c.args.self.now.table.slots.items, c.args.tran.now)
 
 pub returns-clause-forgets : goal.returns-clause-forgets
-returns-clause-forgets g c = record {
-  condition = refl;
-  device = refl;
-  forgotten = λ t.
-      rw c.forget.ensures (forgets_its_own (λ t. tran_eq c.args.tran.now t) c.args.self.now.table.slots.items (index_apart c.args.self.now.table.indexed) t);
-}
+returns-clause-forgets g c = search (arith, forgets_its_own, index_apart, c.forget.ensures, c.args.tran.now, c.args.self.now.table.slots.items)

@@ -1,3 +1,4 @@
+use Rattle.std.proofs.Common.{arith}
 use Rattle.xa_base.proofs.{refl, ◌∙◌, ap, not}
 use Rattle.xa_log.specs.{is_among}
 use Rattle.xa_file_log.specs.{records_in}
@@ -13,14 +14,7 @@ invariant_of-self g c = record {
 }
 
 pub returns-clause-kept : goal.returns-clause-kept
-returns-clause-kept g c =
-    let same = ap records_in c.keep_only.ensures ∙ records_only c.args.self.now.table.slots.items c.args.trans.now in
-    λ i. record { records = same i; failures = c.args.self.now.failures }
+returns-clause-kept g c = search (arith, records_only, c.args.self.now.table.slots.items, c.args.trans.now)
 
 pub returns-clause-forgets : goal.returns-clause-forgets
-returns-clause-forgets g c = record {
-  condition = refl;
-  device = refl;
-  forgotten = λ t.
-      rw c.keep_only.ensures (forgets_its_own (λ t. not (is_among c.args.trans.now t)) c.args.self.now.table.slots.items (index_apart c.args.self.now.table.indexed) t);
-}
+returns-clause-forgets g c = search (arith, forgets_its_own, index_apart, c.keep_only.ensures, c.args.trans.now, c.args.self.now.table.slots.items)

@@ -48,19 +48,10 @@ write_records-requires-clause-new g c =
     subst (λ (l : List Slot). AreNewNames l c.args.decisions.now) (sym c.deref.ensures.value) together.apart
 
 pub invariant_of-self-in-Ok : goal.invariant_of-self-in-Ok
-invariant_of-self-in-Ok g c =
-    let same = ap (λ (l : List Slot). table_of (placed l c.args.decisions.now)) c.deref.ensures.value ∙ sym (ap table_of c.take_all.ensures) in
-    let settled = subst (λ t. IsSettled g.D.Device.seen g.D.Device.may_leave t c.write_records.new.device) same c.in-Ok.ensures.logged in
-    record { ready = λ is. settled; known = λ known. settled_shown c.take_all.new.self.slots.items settled }
+invariant_of-self-in-Ok g c = search (arith, settled_shown, g.D.Device.seen, g.D.Device.may_leave, c.in-Ok.ensures.logged, c.take_all.new.self.slots.items)
 
 pub invariant_of-self-in-Err-Refused : goal.invariant_of-self-in-Err-Refused
-invariant_of-self-in-Err-Refused g c = record {
-  ready = λ is. absurd (cc (is));
-  known = λ known f left.
-      stands_shown c.makes_room_for.new.self.table.slots.items f
-      (subst (λ (l : List Slot). StandsFor (table_of l) f) c.deref.ensures.value
-      (c.in-Err-Refused.ensures.refused (cc (c.in-Err-Refused.field-0-is)) f left));
-}
+invariant_of-self-in-Err-Refused g c = search (arith, stands_shown, c.makes_room_for.new.self.table.slots.items, c.in-Err-Refused.ensures.refused)
 
 pub returns-in-Ok-clause-appended : goal.returns-in-Ok-clause-appended
 returns-in-Ok-clause-appended g c =
@@ -72,13 +63,9 @@ returns-in-Ok-clause-appended g c =
       λ i. record { records = records i; failures = failures i },
       λ lost. absurd (cc (lost, c.makes_room_for.ensures.ready c.if-not-makes_room_for.false)),
       record {
-        any_moment =
-            group_runs c.makes_room_for.ensures.slots (index_apart c.makes_room_for.new.self.table.indexed) c.deref.ensures.value
-            c.makes_room_for.ensures.any_moment c.write_records.ensures.any_moment;
+        any_moment = search (arith, group_runs, index_apart, c.makes_room_for.ensures.slots, c.makes_room_for.ensures.any_moment);
         nothing = λ none. absurd (let test = (Decides-eqb (length c.args.decisions.now) 0).1 none in cc (test, c.is_empty.ensures, c.if-is_empty.false));
-        forgotten =
-            subst (ForgetsNoMore c.args.self.now.table.slots.items) (sym c.take_all.ensures)
-            (none_more_forgotten c.makes_room_for.ensures.slots c.args.decisions.now);
+        forgotten = search (arith, none_more_forgotten, c.makes_room_for.ensures.slots);
         goes_on = ⊎_elim (λ same. inl same) (λ failed. absurd (cc (failed.0, c.if-not-makes_room_for.false))) c.makes_room_for.ensures.goes_on;
         cause = λ refused. absurd (cc (refused));
       },
@@ -92,9 +79,7 @@ returns-in-Err-Refused-clause-refused g c = λ it.
       λ i. record { records = same i; failures = (c.makes_room_for.ensures.failures i + 1) % 2 ^ 64 },
       λ lost. absurd (cc (lost)),
       record {
-        any_moment =
-            group_runs c.makes_room_for.ensures.slots (index_apart c.makes_room_for.new.self.table.indexed) c.deref.ensures.value
-            c.makes_room_for.ensures.any_moment c.write_records.ensures.any_moment;
+        any_moment = search (arith, group_runs, index_apart, c.makes_room_for.ensures.slots, c.makes_room_for.ensures.any_moment);
         nothing = λ none. absurd (let test = (Decides-eqb (length c.args.decisions.now) 0).1 none in cc (test, c.is_empty.ensures, c.if-is_empty.false));
         forgotten = no_more c.makes_room_for.ensures.slots;
         goes_on = inr (refl, failed);
@@ -103,12 +88,4 @@ returns-in-Err-Refused-clause-refused g c = λ it.
     )
 
 pub returns-in-Err-Unknown-clause-unknown : goal.returns-in-Err-Unknown-clause-unknown
-returns-in-Err-Unknown-clause-unknown g c = λ it. (
-  λ known. known refl,
-  record {
-    any_moment =
-        group_runs c.makes_room_for.ensures.slots (index_apart c.makes_room_for.new.self.table.indexed) c.deref.ensures.value
-        c.makes_room_for.ensures.any_moment c.write_records.ensures.any_moment;
-    cause = omega (arith, c.makes_room_for.ensures.faults, c.in-Err-Unknown.ensures.cause refl);
-  },
-)
+returns-in-Err-Unknown-clause-unknown g c = search (arith, group_runs, index_apart)

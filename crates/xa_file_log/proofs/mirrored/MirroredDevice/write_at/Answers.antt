@@ -13,10 +13,7 @@ pub returns-then-ok-clause-time : goal.returns-then-ok-clause-time
 returns-then-ok-clause-time g c = elapses_to c.args.self.now.past.items c.and-self.result.items _ _ c.and-self.ensures
 
 pub returns-then-ok-clause-cause : goal.returns-then-ok-clause-cause
-returns-then-ok-clause-cause g c =
-    let made = c.and-self.ensures ∙ ap (λ (e : Call). c.args.self.now.past.items ++ (e, c.write_both-ok.new.copy) ∷ []) c.call_of.ensures in
-    let count = failures_to c.args.self.now.past.items c.and-self.result.items _ _ made in
-    record { later = omega (arith, count); failed = λ never. cc }
+returns-then-ok-clause-cause g c = search (arith, failures_to, c.call_of.ensures, c.args.self.now.past.items, c.and-self.result.items)
 
 pub returns-else-ok-clause-crash : goal.returns-else-ok-clause-crash
 returns-else-ok-clause-crash g c = λ f left.

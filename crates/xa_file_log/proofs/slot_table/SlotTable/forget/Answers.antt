@@ -1,3 +1,4 @@
+use Rattle.std.proofs.Common.{arith}
 use Rattle.xa_base.proofs.{◌≡◌, ℕ, Some, get_or, sym, ◌∙◌, ap, subst, spare, get_or_default}
 use Rattle.std.specs.HashMap.{hash_map_len}
 use Rattle.xa_words.specs.{TranName, tran_eq}

@@ -6,19 +6,13 @@ use Rattle.xa_file_log.proofs.Placed.{records_left, none_filled}
 use Rattle.xa_file_log.proofs.slot_table.SlotTable.take_all.Goals as goal
 
 pub returns-in_default : goal.returns-in_default
-returns-in_default c =
-    let full = all_used c.loop-decision.self.slots.items c.in_default.ensures.none in
-    let many = length-drop c.loop-decision.decision-index c.args.decisions.now in
-    absurd (omega (arith, full, many, c.loop-decision.invariant.room, c.loop-decision-test.true))
+returns-in_default c = search (arith, all_used, length-drop)
 
 pub take-requires-clause-new : goal.take-requires-clause-new
 take-requires-clause-new c =
     let left = records_left c.args.decisions.now c.loop-decision.decision-index c.decision-item.result c.loop-decision-test.true c.decision-item.is in
     let same = ap (placed c.loop-decision.self.slots.items) (sym left) ∙ c.loop-decision.invariant.rest in
-    subst (λ (l : List Slot). HasNoName l c.decision-item.result.tran) (sym c.free_place.ensures.slots)
-    (first_is_new c.loop-decision.self.slots.items c.decision-item.result (drop (c.loop-decision.decision-index + 1) c.args.decisions.now) c.in-Some.place
-    c.in-Some.ensures.free.0 c.in-Some.ensures.free.1 c.in-Some.ensures.first
-    (subst (λ (l : List Slot). AreApart (table_of l)) (sym same) c.requires.new))
+    search (arith, first_is_new, c.loop-decision.self.slots.items, c.decision-item.result, c.in-Some.ensures.free.0, c.in-Some.ensures.free.1)
 
 pub loop-decision-preserved : goal.loop-decision-preserved
 loop-decision-preserved c =
@@ -28,16 +22,7 @@ loop-decision-preserved c =
     c.in-Some.ensures.free.1 in
     let many = ap length is ∙ length-set c.loop-decision.self.slots.items c.in-Some.place (Taken c.decision-item.result) in
     let fewer = ap length left in
-    record {
-      rest = ap (λ (l : List Slot). placed l (drop (c.loop-decision.decision-index + 1) c.args.decisions.now)) is
-          ∙ sym (placed_first c.loop-decision.self.slots.items c.in-Some.place c.decision-item.result
-          (drop (c.loop-decision.decision-index + 1) c.args.decisions.now) c.in-Some.ensures.free.0 c.in-Some.ensures.free.1 c.in-Some.ensures.first)
-          ∙ ap (placed c.loop-decision.self.slots.items) (sym left) ∙ c.loop-decision.invariant.rest;
-      room = omega (arith, more, many, fewer, c.loop-decision.invariant.room);
-    }
+    search (arith, placed_first, c.loop-decision.self.slots.items, c.in-Some.place, c.in-Some.ensures.free.0, c.in-Some.ensures.free.1)
 
 pub returns : goal.returns
-returns c =
-    sym (none_filled Taken c.loop-decision.self.slots.items)
-    ∙ ap (placed c.loop-decision.self.slots.items) (sym (drop_all c.loop-decision.decision-index c.args.decisions.now c.loop-decision-test.false))
-    ∙ c.loop-decision.invariant.rest
+returns c = search (arith, none_filled, drop_all, c.loop-decision.decision-index, c.args.decisions.now)
