@@ -94,7 +94,7 @@ part_at {f} part slots q v is = let at = at_from (map f slots) q v is in (at, sy
 
 -- of two slots with one name
 pub names_apart : (slots : List Slot) → AreApart (table_of slots) → (j k : ℕ) (t : TranName) → name_at slots j ≡ Some t → name_at slots k ≡ Some t → j ≡ k
-names_apart slots apart j k t a b = search (arith, at_map, whole_part, apart, j, k, t, slots)
+names_apart slots apart j k t a b = search (arith, at_map, whole_part, apart, t)
 
 pub apart_names : (slots : List Slot) → ((j k : ℕ) (t : TranName) → name_at slots j ≡ Some t → name_at slots k ≡ Some t → j ≡ k) → AreApart (table_of slots)
 apart_names slots one j k t a b = search (arith, at_map, whole_part)

@@ -17,4 +17,9 @@ pub returns-clause-forgotten : goal.returns-clause-forgotten
 returns-clause-forgotten g c = search (arith, records_without, c.args.self.now.table.slots.items, c.args.tran.now)
 
 pub returns-clause-forgets : goal.returns-clause-forgets
-returns-clause-forgets g c = search (arith, forgets_its_own, index_apart, c.forget.ensures, c.args.tran.now, c.args.self.now.table.slots.items)
+returns-clause-forgets g c = record {
+  condition = refl;
+  device = refl;
+  forgotten = λ t.
+      rw c.forget.ensures (forgets_its_own (λ t. tran_eq c.args.tran.now t) c.args.self.now.table.slots.items (index_apart c.args.self.now.table.indexed) t);
+}

@@ -17,4 +17,4 @@ pub returns-clause-kept : goal.returns-clause-kept
 returns-clause-kept g c = search (arith, records_only, c.args.self.now.table.slots.items, c.args.trans.now)
 
 pub returns-clause-forgets : goal.returns-clause-forgets
-returns-clause-forgets g c = search (arith, forgets_its_own, index_apart, c.keep_only.ensures, c.args.trans.now, c.args.self.now.table.slots.items)
+returns-clause-forgets g c = search (arith, forgets_its_own, index_apart, c.keep_only.ensures)

@@ -48,7 +48,10 @@ write_records-requires-clause-new g c =
     subst (λ (l : List Slot). AreNewNames l c.args.decisions.now) (sym c.deref.ensures.value) together.apart
 
 pub invariant_of-self-in-Ok : goal.invariant_of-self-in-Ok
-invariant_of-self-in-Ok g c = search (arith, settled_shown, g.D.Device.seen, g.D.Device.may_leave, c.in-Ok.ensures.logged, c.take_all.new.self.slots.items)
+invariant_of-self-in-Ok g c =
+    let same = ap (λ (l : List Slot). table_of (placed l c.args.decisions.now)) c.deref.ensures.value ∙ sym (ap table_of c.take_all.ensures) in
+    let settled = subst (λ t. IsSettled g.D.Device.seen g.D.Device.may_leave t c.write_records.new.device) same c.in-Ok.ensures.logged in
+    record { ready = λ is. settled; known = λ known. settled_shown c.take_all.new.self.slots.items settled }
 
 pub invariant_of-self-in-Err-Refused : goal.invariant_of-self-in-Err-Refused
 invariant_of-self-in-Err-Refused g c = search (arith, stands_shown, c.makes_room_for.new.self.table.slots.items, c.in-Err-Refused.ensures.refused)
@@ -88,4 +91,12 @@ returns-in-Err-Refused-clause-refused g c = λ it.
     )
 
 pub returns-in-Err-Unknown-clause-unknown : goal.returns-in-Err-Unknown-clause-unknown
-returns-in-Err-Unknown-clause-unknown g c = search (arith, group_runs, index_apart)
+returns-in-Err-Unknown-clause-unknown g c = λ it. (
+  λ known. known refl,
+  record {
+    any_moment =
+        group_runs c.makes_room_for.ensures.slots (index_apart c.makes_room_for.new.self.table.indexed) c.deref.ensures.value
+        c.makes_room_for.ensures.any_moment c.write_records.ensures.any_moment;
+    cause = omega (arith, c.makes_room_for.ensures.faults, c.in-Err-Unknown.ensures.cause refl);
+  },
+)

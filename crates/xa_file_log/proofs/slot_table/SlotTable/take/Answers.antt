@@ -31,7 +31,7 @@ invariant_of-self c =
           (λ j apart. name_set_other c.args.self.now.slots.items c.args.place j c.args.decision apart) absent
           (one_put tran_eq tran_cmp_total tran_cmp-IsAntisymmetric tran_eq-by_cmp c.args.self.now.places.entries c.insert-put.new.self.entries
           c.args.decision.tran c.args.place updates.0);
-      none_before = search (arith, none_free_set, c.args.self.now.slots.items, c.args.place, c.args.self.now.first, c.args.decision);
+      none_before = search (arith, none_free_set, c.args.decision);
       room = omega (arith, many, more, c.insert-put.ensures.spare, c.args.self.now.room);
       capacity = omega (arith, many, longer, c.insert-put.ensures.spare, c.args.self.now.capacity);
     }

@@ -12,7 +12,10 @@ pub take-requires-clause-new : goal.take-requires-clause-new
 take-requires-clause-new c =
     let left = records_left c.args.decisions.now c.loop-decision.decision-index c.decision-item.result c.loop-decision-test.true c.decision-item.is in
     let same = ap (placed c.loop-decision.self.slots.items) (sym left) ∙ c.loop-decision.invariant.rest in
-    search (arith, first_is_new, c.loop-decision.self.slots.items, c.decision-item.result, c.in-Some.ensures.free.0, c.in-Some.ensures.free.1)
+    subst (λ (l : List Slot). HasNoName l c.decision-item.result.tran) (sym c.free_place.ensures.slots)
+    (first_is_new c.loop-decision.self.slots.items c.decision-item.result (drop (c.loop-decision.decision-index + 1) c.args.decisions.now) c.in-Some.place
+    c.in-Some.ensures.free.0 c.in-Some.ensures.free.1 c.in-Some.ensures.first
+    (subst (λ (l : List Slot). AreApart (table_of l)) (sym same) c.requires.new))
 
 pub loop-decision-preserved : goal.loop-decision-preserved
 loop-decision-preserved c =
