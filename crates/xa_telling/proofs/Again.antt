@@ -1,4 +1,5 @@
 -- What an opening leaves to the next one.
+use Rattle.std.proofs.Common.{rules}
 use Rattle.xa_base.proofs.{◌≡◌, ℕ, ◌+◌, ◌-◌, ◌≤◌, suc, Bool, List, [], ◌∷◌, length, map, Some, sym, refl, ap, ◌∙◌, subst, arith, slice_get, range_with_len}
 use Rattle.xa_base.proofs.{slice_index_or, length-map, map-append, slice_get_within, got}
 use Rattle.std.proofs.lemmas.List.FromFn.{length-map-range_with_len}
@@ -77,28 +78,11 @@ module _ (s : Content) (b : Beginning) (steps : List ScriptStep) (answers : List
   -- what the next one is made with
   pub again_setup : (again : Again) → AreNumbersOf s (suc b.opening) again → MayReopen settled again
       → IsSetupOf s (suc b.opening) (reopened_at settled.managers) (reopening settled again)
-  again_setup again numbers may = record {
-    numbers = numbers;
-    managers = as_many_managers;
-    use_async = flags_kept ∙ r.opened.said.use_async;
-    first = ap (λ k. map (reopened_at settled.managers) (range_with_len 1 k)) as_many_managers;
-    limits = may.limits;
-  }
+  again_setup again numbers may = search (arith, as_many_managers, flags_kept, range_with_len)
 
   -- and that it may be
   pub may_reopen : (again : Again) → AreNumbersOf s (suc b.opening) again → settled.opening ≡ b.opening → MayReopen settled again
-  may_reopen again numbers own =
-      let p = r.opened.said in
-      record {
-        limits = record {
-          threads = subst (IsUpTo 8) (p.numbers.threads ∙ sym numbers.threads) p.limits.threads;
-          managers = subst (IsUpTo 8) (p.managers ∙ sym as_many_managers) p.limits.managers;
-          handles = subst (IsUpTo 32) (p.numbers.handles ∙ sym numbers.handles) p.limits.handles;
-          queue = subst (IsUpTo 64) (p.numbers.queue ∙ sym numbers.queue) p.limits.queue;
-          requests = subst (IsUpTo 4096) (p.numbers.requests ∙ sym numbers.requests) p.limits.requests;
-        };
-        own = λ same. let next = numbers.opening_ in omega (arith, same, own, next);
-      }
+  may_reopen again numbers own = search (arith, as_many_managers, numbers.opening_)
 
   -- ---- what it begins with
 
@@ -155,11 +139,4 @@ begins_after s before b (more fs f now last earlier is) m low high =
 pub of_script_after : (s : Content) (before : List Former) (b : Beginning) → Chain (Leaves s) (beginning s) before b → (managers : List ManagerPart)
     → AreOfScript s b.tables managers
     → AreOfScript s (opened_after s (map (λ f. f.opening.settled) before)) managers
-of_script_after s before b chain managers is = record {
-  many = is.many;
-  numbers = is.numbers;
-  first = λ k p at.
-      let within = slice_get_within managers k p at in
-      let many = is.many in
-      is.first k p at ∙ begins_after s before b chain (k + 1) (omega arith) (omega (arith, within, many));
-}
+of_script_after s before b chain managers is = search (arith, slice_get_within, begins_after, is.many, is.first)

@@ -57,10 +57,7 @@ module _ (settled : Settling) (is : IsSettled settled) (t : ℕ) where
   entries at m = upto (own m) (ledger at m)
 
   pub same_entries : (old new : List LedgerView) (m : ℕ) → (1 ≤ m → (ledger new m).sent ≡ (ledger old m).sent) → entries new m ≡ entries old m
-  same_entries old new zero same =
-      let n = length (ledger new 0).sent in
-      let k = length (ledger old 0).sent in
-      subst (λ (es : List Entry). take n es ≡ take k es) (sym nobody) (take-nil n ∙ sym (take-nil k))
+  same_entries old new zero same = search (arith, nobody, take-nil)
   same_entries old new (suc m) same = ap (λ l. take (length l) (own (suc m))) (same (omega arith))
 
   -- ---- one request to a manager

@@ -1,4 +1,5 @@
 -- What a thread's calls do to its desk, and why they may be refused.
+use Rattle.std.proofs.Common.{rules}
 use Rattle.xa_base.proofs.{◌≡◌, ℕ, ℤ, ◌≤◌, Bool, true, false, not, ◌&&◌, [], ◌∷◌, Option, Some, None, Result, Ok, Err, sym, refl, ap, ◌∙◌, subst, arith, pos}
 use Rattle.xa_base.proofs.{if◌then◌else◌, option_map, option_or, Contains, some_same}
 use Rattle.std.specs.Ordering.{int_eq}

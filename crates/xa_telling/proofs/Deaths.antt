@@ -1,4 +1,5 @@
 -- What a commit did at its branches, also where its coordinator died: at each manager, and over states of another kind.
+use Rattle.std.proofs.Common.{arith}
 use Rattle.xa_base.proofs.{◌≡◌, ℕ, inl, inr, zero, suc, Bool, false, ◌||◌, List, [], ◌∷◌, length, Option, Some, None, sym, refl, ap, ◌∙◌, subst, All, cases_eq}
 use Rattle.xa_base.proofs.{ne_eqb, All-cons, All-nil, All-head, All-tail}
 use Rattle.std.proofs.Common.{min}
@@ -34,8 +35,7 @@ module _ {D : Type 0} (A : Asking D) (U : Putting D) (P : Op → Type 0) (Q : D 
     hears_by k is q = tells_by k (second_op commit b.xid v) is.prepared e tells is.tells (on d is.prepared (Prepare b.xid) v asks is.prepares q)
 
     pub obeys_by : (s : Option Code) (end : Ending) → VotesAndObeys A commit b v s end d e → Q d → Q e
-    obeys_by s end is q =
-        for_by A P Q on (second_op commit b.xid v) s is.prepared e tells is.obeys (on d is.prepared (Prepare b.xid) v asks is.prepares q)
+    obeys_by s end is q = search (arith, for_by, is.prepared, is.obeys, is.prepares)
 
 -- ---- from one kind of states to another, at one branch
 
@@ -58,11 +58,7 @@ module _ {D E : Type 0} (A : Asking D) (U : Putting D) (B : Asking E) (V : Putti
 
   pub hears_mapped : (commit : Bool) (k : ℕ) (b : Branch) (v : Code) (d e : D) → VotesAndHears A U commit k b v d e → Q d → P e
       → VotesAndHears B V commit k b v (f d) (f e)
-  hears_mapped commit k b v d e is q p = record {
-    prepared = f is.prepared;
-    prepares = step d is.prepared (Prepare b.xid) v is.prepares q (tells_back k (second_op commit b.xid v) is.prepared e is.tells p);
-    tells = tells_mapped k (second_op commit b.xid v) is.prepared e is.tells (on d is.prepared (Prepare b.xid) v is.prepares q) p;
-  }
+  hears_mapped commit k b v d e is q p = search (arith, tells_back, tells_mapped, is.prepared, is.prepares, b.xid, is.tells)
 
   for_back : (op : Option Op) (code : Option Code) (d e : D) → AsksFor A op code d e → P e → P d
   for_back None code d e nothing p = subst P nothing.1 p
@@ -76,12 +72,7 @@ module _ {D E : Type 0} (A : Asking D) (U : Putting D) (B : Asking E) (V : Putti
 
   pub obeys_mapped : (commit : Bool) (b : Branch) (v : Code) (s : Option Code) (end : Ending) (d e : D) → VotesAndObeys A commit b v s end d e → Q d → P e
       → VotesAndObeys B commit b v s end (f d) (f e)
-  obeys_mapped commit b v s end d e is q p = record {
-    prepared = f is.prepared;
-    prepares = step d is.prepared (Prepare b.xid) v is.prepares q (for_back (second_op commit b.xid v) s is.prepared e is.obeys p);
-    obeys = for_mapped (second_op commit b.xid v) s is.prepared e is.obeys (on d is.prepared (Prepare b.xid) v is.prepares q) p;
-    ends = is.ends;
-  }
+  obeys_mapped commit b v s end d e is q p = search (arith, for_back, for_mapped, is.prepared, is.prepares, b.xid, is.obeys)
 
 -- ---- and so at all branches
 
@@ -92,9 +83,7 @@ pub each_so : (C R : Branch → Type 0) (W : Code → Type 0) (P Q : Branch → 
     → EachBranch Q bs vs ss es × All R bs
 each_so C R W P Q so [] [] [] [] all votes h = (tt, All-nil R)
 each_so C R W P Q so (b ∷ bs) (v ∷ vs) (s ∷ ss) (e ∷ es) all votes h =
-    let one = so b v s e (All-head C b bs all) (All-head W v vs votes) h.0 in
-    let rest = each_so C R W P Q so bs vs ss es (All-tail C b bs all) (All-tail W v vs votes) h.1 in
-    ((one.0, rest.0), All-cons R b bs one.1 rest.1)
+    search (arith, each_so C R W P Q so bs vs ss es (All-tail C b bs all) (All-tail W v vs votes) h.1, All-head, All-tail, All-cons, h.0, h.1)
 each_so C R W P Q so bs vs ss es all votes h = absurd h
 
 -- the same over the states that managers had and have, of each kind, as far as the commit came
@@ -108,10 +97,7 @@ module _ {D E : Type 0} (A : Asking D) (U : Putting D) (B : Asking E) (V : Putti
       let one = put_so b (All-head C b bs all) h.0 in
       let rest = asked_so bs [] (All-tail C b bs all) h.1 in
       ((one.0, rest.0), All-cons R b bs one.1 rest.1)
-  asked_so (b ∷ bs) (v ∷ vs) all h =
-      let one = votes_so b v (All-head C b bs all) h.0 in
-      let rest = asked_so bs vs (All-tail C b bs all) h.1 in
-      ((one.0, rest.0), All-cons R b bs one.1 rest.1)
+  asked_so (b ∷ bs) (v ∷ vs) all h = search (arith, asked_so bs vs (All-tail C b bs all) h.1, All-head, All-tail, All-cons, h.0, h.1)
 
   module _ (W : Code → Type 0) (known : Done)
       (hears_so : (k : ℕ) (b : Branch) (v : Code) → C b → W v → VotesAndHears A U known.commit k b v (old b.m) (new b.m)
@@ -130,9 +116,7 @@ module _ {D E : Type 0} (A : Asking D) (U : Putting D) (B : Asking E) (V : Putti
 
     module _ (tran : TranName) (bs : List Branch) (log later : LogState) (all : All C bs) (votes : All W known.votes.items) where
       came_to_votes : (count : ℕ) → CameToVotes A U count bs old new log later known → CameToVotes B V count bs old' new' log later known × All R bs
-      came_to_votes count far =
-          let asked = asked_so bs known.votes.items all far.asked in
-          (record { asked = asked.0; counted = far.counted; undecided = far.undecided; unlogged = far.unlogged; endings = far.endings }, asked.1)
+      came_to_votes count far = search (arith, asked_so, far.asked)
 
       pub came_so : (at : Death) → CameTo A U at tran bs old new log later known → CameTo B V at tran bs old' new' log later known × All R bs
       came_so (death.Preparing k) far = came_to_votes (min k (length bs)) far

@@ -69,9 +69,7 @@ no_entries t pairs (e ∷ es) fits = absurd (let many = ap (λ l. length l) fits
 numbered_at : (t n : ℕ) (pre : List Op) (o : Op) (post : List Op)
     → slice_get (numbered t n (pre ++ o ∷ post)) (length pre) ≡ Some (record { thread = t; number = n + length pre; op = o })
 numbered_at t n [] o post = let same : n ≡ n + 0 = omega arith in ap (λ k. Some (record { thread = t; number = k; op = o })) same
-numbered_at t n (p ∷ pre) o post =
-    let same : suc n + length pre ≡ n + suc (length pre) = omega arith in
-    numbered_at t (suc n) pre o post ∙ ap (λ k. Some (record { thread = t; number = k; op = o })) same
+numbered_at t n (p ∷ pre) o post = search (arith, numbered_at t (suc n) pre o post)
 
 -- what was collected last is among all that was
 pub collected_there : (pre now all : List (ℕ × Code)) (p : ℕ × Code) → now ≡ pre ++ p ∷ [] → Begins now all → Contains all p
@@ -102,8 +100,7 @@ module _ (t : ℕ) (last : LedgerView) (es : List Entry) (fits : Fits t last.sen
         let request : ℕ → Request = λ k. record { thread = t; number = k; op = op } in
         let parts : last.sent ≡ a.sent ++ op ∷ now.0 = now.1 ∙ ap (λ l. l ++ now.0) sent ∙ append_assoc a.sent (op ∷ []) now.0 in
         let none_before : 0 + n ≡ n = omega arith in
-        let there : slice_get (map (λ (e : Entry). e.0) es) n ≡ Some (request n) =
-        ap (λ l. slice_get l n) (fits.carried ∙ ap (numbered t 0) parts) ∙ numbered_at t 0 a.sent op now.0 ∙ ap (λ k. Some (request k)) none_before in
+        let there : slice_get (map (λ (e : Entry). e.0) es) n ≡ Some (request n) = search (arith, slice_get, numbered_at) in
         let e = was_mapped (λ (e : Entry). e.0) es n (request n) there in
         let longer : length a'.sent ≡ n + 1 = let sizes = ap (λ l. length l) sent in omega (arith, sizes, length-append a.sent (op ∷ [])) in
         let many : length (upto es a) ≡ n = many_upto a (op ∷ now.0, parts) in (
@@ -115,9 +112,7 @@ module _ (t : ℕ) (last : LedgerView) (es : List Entry) (fits : Fits t last.sen
 
     -- with its own code, where it was collected
     pub enters_coded : (c : Code) → Contains last.collected (length a.sent, c) → upto es a' ≡ upto es a ++ next_entry t (upto es a) op c ∷ []
-    enters_coded c got =
-        let code : enters.0 ≡ c = (some_pair_parts _ _ _ _ (sym enters.1 ∙ All-contains (StandsAt es) last.collected (length a.sent, c) fits.coded got)).1 in
-        enters.2 ∙ ap (λ d. upto es a ++ next_entry t (upto es a) op d ∷ []) code
+    enters_coded c got = search (arith, enters, some_pair_parts, All-contains)
 
   -- where XAER_RMFAIL was collected it is among the codes
   pub fails : (a : LedgerView) → Sound a → HasGrown a last → learnt_shut a ≡ true → Contains (codes_in (upto es a)) RmFail

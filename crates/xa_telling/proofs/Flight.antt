@@ -60,9 +60,7 @@ module _ (old new : List LedgerView) (managers : length new ≡ length old) (sou
       → PutsLedger a op (ledger new b.m)
       → InFlight b
   put_last b a op room all was (put_withheld shut same) = inr (room.known.positive, was shut)
-  put_last b a op room all was (put_sent open_ is) =
-      let z = subst IsLastOut (sym is) (sent_last a op all) in
-      inl (record { known = known_by old new b.m managers room.known; sent = z.0; open_ = z.1 })
+  put_last b a op room all was (put_sent open_ is) = search (arith, sent_last, known_by, b.m)
 
   asked_last : (bs : List Branch) (vs : List Code) → All Room bs → HaveAsked AsksLedger PutsLedger bs vs (ledger old) (ledger new)
       → All InFlight (drop (length vs) bs)
@@ -87,25 +85,19 @@ module _ (old new : List LedgerView) (managers : length new ≡ length old) (sou
 
       -- by a vote that tells that it is shut nothing is put to it
       told_open : (op : Op) → second_op commit b.xid v ≡ Some op → learnt_shut h.0.prepared ≡ true → learnt_shut (ledger old b.m) ≡ true
-      told_open op is shut =
-          absurd (let z : None ≡ Some op = sym (ap (second_op commit b.xid) (still_open (ledger old b.m) h.0.prepared (Prepare b.xid) v h.0.prepares shut) ∙ unasked commit) ∙ is in cc)
+      told_open op is shut = search (arith, still_open)
 
       and_this : (op : Option Op) (k : ℕ) → second_op commit b.xid v ≡ op → Tells AsksLedger PutsLedger k op h.0.prepared (ledger new b.m)
           → (rest : List Branch) → All InFlight rest → All InFlight (and_if_after op k b rest)
       and_this None k is tells rest all = all
-      and_this (Some op) zero is tells rest all =
-          let room = All-head Room b bs rooms in
-          let voted = ask_sound (ledger old b.m) h.0.prepared (Prepare b.xid) v h.0.prepares (sound b.m room.known.positive) in
-          All-cons InFlight b rest (put_last b h.0.prepared op room voted (told_open op is) tells) all
+      and_this (Some op) zero is tells rest all = search (arith, All-head, ask_sound, All-cons, put_last, told_open)
       and_this (Some op) (suc k) is tells rest all = all
 
 pub all_in_flight : (old new : List LedgerView) (managers : length new ≡ length old) (sound : AllSound old) (at : Death) (tran : TranName) (bs : List Branch)
     (log later : LogState) (known : Done) → All (λ b. HasRoom old b.m) bs → CameTo AsksLedger PutsLedger at tran bs (ledger old) (ledger new) log later known
     → All (IsInFlight old new) (in_flight_at at known.commit bs known.votes.items)
-all_in_flight old new managers sound (death.Preparing k) tran bs log later known rooms far =
-    asked_last old new managers sound known.commit bs known.votes.items rooms far.asked
-all_in_flight old new managers sound (death.Telling k) tran bs log later known rooms far =
-    told_last old new managers sound known.commit k bs known.votes.items rooms far.told
+all_in_flight old new managers sound (death.Preparing k) tran bs log later known rooms far = search (arith, asked_last)
+all_in_flight old new managers sound (death.Telling k) tran bs log later known rooms far = search (arith, told_last)
 all_in_flight old new managers sound death.Prepared tran bs log later known rooms far = λ k d lt. absurd (omega (arith, lt))
 all_in_flight old new managers sound death.Decided tran bs log later known rooms far = λ k d lt. absurd (omega (arith, lt))
 all_in_flight old new managers sound death.Told tran bs log later known rooms far = λ k d lt. absurd (omega (arith, lt))

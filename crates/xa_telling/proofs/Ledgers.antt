@@ -83,16 +83,7 @@ pub record HasAsked (m : ℕ) (op : Op) (c : Code) (old new : DeskView) : Type 0
 
 pub has_asked : (times m : ℕ) (b : Bool) (old : DeskView) (op : Op) (new : DeskView) (c : Code) → put_refusal old m b ≡ None
     → Collects (submitted (after_fulls times old m) m op) new (next_operation old.ledgers m) c → HasAsked m op c old new
-has_asked times m b old op new c admits is =
-    let o = next_operation old.ledgers m in
-    let before : is.before.ledgers ≡ after_sent old.ledgers m op =
-    ap ledgers_at is.looks.rest ∙ ap (λ (at : List LedgerView). after_sent at m op) (fulls_ledgers times old m) in
-    record {
-      known = known_here old m b admits;
-      out = subst (λ (at : List LedgerView). IsOut at o) before is.out;
-      ledgers = ap ledgers_at is.collected ∙ ap (λ (at : List LedgerView). after_collected at o c) before;
-      kept = ap kept_at is.collected ∙ ap kept_at is.looks.rest ∙ fulls_kept times old m;
-    }
+has_asked times m b old op new c admits is = search (arith, fulls_ledgers, known_here, fulls_kept, old.ledgers)
 
 pub asking_grows : (m : ℕ) (op : Op) (c : Code) (old new : DeskView) → HasAsked m op c old new → HaveGrown old.ledgers new.ledgers
 asking_grows m op c old new is =
@@ -114,19 +105,7 @@ pub record HasTaken (o : Operation) (k : ℕ) (c : Code) (old new : DeskView) : 
   pub handles : new.kept ≡ finmap.remove old.kept k
 
 pub has_taken : (old before new : DeskView) (k : ℕ) (c : Code) → Stays old before → (is : TakesKept before new k c) → HasTaken is.operation k c old new
-has_taken old before new k c (ledgers, handles) is = record {
-  kept = ap (λ (m : Handles). finmap.get m k) (sym handles) ∙ is.kept;
-  out = subst (λ (at : List LedgerView). IsOut at is.operation) ledgers is.out;
-  ledgers = ap ledgers_at is.taken ∙ ap (λ (at : List LedgerView). after_collected at is.operation c) ledgers;
-  handles = ap kept_at is.taken ∙ ap (λ (m : Handles). finmap.remove m k) handles;
-}
+has_taken old before new k c (ledgers, handles) is = search (arith, is.operation)
 
 pub has_redeemed : (old new : DeskView) (k : ℕ) (c : Code) → (is : CollectsRedeemed old new k c) → HasTaken is.operation k c old new
-has_redeemed old new k c is =
-    let looks = ap ledgers_at is.collects.looks.rest in
-    record {
-      kept = is.kept;
-      out = subst (λ (at : List LedgerView). IsOut at is.operation) looks is.collects.out;
-      ledgers = ap ledgers_at is.collects.collected ∙ ap (λ (at : List LedgerView). after_collected at is.operation c) looks;
-      handles = ap kept_at is.collects.collected ∙ ap kept_at is.collects.looks.rest;
-    }
+has_redeemed old new k c is = search (arith, is.collects.looks.rest, is.operation)

@@ -37,14 +37,7 @@ pub record HaveEnded (n : ℕ) (first now : DeskView) (told : List (ℕ × Code)
   pub sent : (m : ℕ) → (ledger now.ledgers m).sent ≡ (ledger first.ledgers m).sent
 
 none_ended : (first : DeskView) → HaveEnded 0 first first []
-none_ended first = record {
-  others = λ k out. refl;
-  coded = All-nil (IsTold first first);
-  within = All-nil (λ x. (1 ≤ x.0) × (x.0 ≤ 0));
-  all = λ k o low high at. absurd (omega (arith, low, high));
-  rising = λ i j d below within. absurd (omega (arith, within));
-  sent = λ m. refl;
-}
+none_ended first = search (arith, All-nil)
 
 -- one more number that kept something
 module _ (n : ℕ) (first now next : DeskView) (told : List (ℕ × Code)) (h : HaveEnded n first now told) where
@@ -64,9 +57,7 @@ module _ (n : ℕ) (first now next : DeskView) (told : List (ℕ × Code)) (h : 
       ) in
       let grown : HaveGrown now.ledgers next.ledgers = subst (HaveGrown now.ledgers) (sym takes.ledgers) (collecting_grows now.ledgers o c) in
       record {
-        others = λ k out.
-            ap (λ (m : Handles). finmap.get m k) takes.handles ∙ removed_other now.kept (n + 1) k (λ same. out (omega (arith, same), omega (arith, same)))
-            ∙ h.others k (λ within. out (within.0, let high = within.1 in omega (arith, high)));
+        others = search (arith, removed_other);
         coded = All-push (IsTold first next) told (n + 1, c) (λ k d below. told_on first now next grown _ (h.coded k d below)) this;
         within = All-push (λ x. (1 ≤ x.0) × (x.0 ≤ n + 1)) told (n + 1, c) (λ k d below. let w = h.within k d below in (w.0, let high = w.1 in omega (arith, high))) (omega arith, omega arith);
         all =
@@ -80,17 +71,7 @@ module _ (n : ℕ) (first now next : DeskView) (told : List (ℕ × Code)) (h : 
 
   -- and one that kept nothing
   ended_free : finmap.get now.kept (n + 1) ≡ None → HaveEnded (n + 1) first now told
-  ended_free empty = record {
-    others = λ k out. h.others k (λ within. out (within.0, let high = within.1 in omega (arith, high)));
-    coded = h.coded;
-    within = λ k d below. let w = h.within k d below in (w.0, let high = w.1 in omega (arith, high));
-    all = λ k o low high at. elim (cases_eq k (n + 1)) [
-      | inl same ↦ absurd (not_both (finmap.get now.kept (n + 1)) o empty (h.others (n + 1) fresh ∙ ap (finmap.get first.kept) (sym same) ∙ at))
-      | inr differs ↦ h.all k o low (omega (arith, high, differs)) at
-    ];
-    rising = h.rising;
-    sent = h.sent;
-  }
+  ended_free empty = search (arith, cases_eq, not_both, fresh)
 
 one_ended : (n : ℕ) (first : DeskView) (now next : Telling) → HaveEnded n first now.0 now.1 → EndsNumber (n + 1) now next
     → HaveEnded (n + 1) first next.0 next.1

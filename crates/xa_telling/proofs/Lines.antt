@@ -1,4 +1,5 @@
 -- A thread's lines put its entries into the journals, line by line.
+use Rattle.std.proofs.Common.{rules}
 use Rattle.xa_base.proofs.{◌≡◌, ℕ, ◌-◌, ◌<◌, ◌≤◌, ⊎_elim, zero, suc, true, false, Bool, ◌==◌, List, [], ◌∷◌, ◌++◌, length, map, take, None, Some, inl, inr, sym}
 use Rattle.xa_base.proofs.{refl, ap, ◌∙◌, subst, arith, All, get_or, if◌then◌else◌, Contains, eqb-true, eqb-false, length-map, map-append, take_all}
 use Rattle.xa_base.proofs.{All-contains, All-nil, all_left, all_mid, by_bool, by_if}
@@ -64,15 +65,12 @@ lines_in first tasks last (more xs x now l before is) = lines_in first xs now be
 pub tasks_in : (first : State) (tasks : List ScriptTask) (last : State) (runs : Chain HasDone first tasks last)
     → map (λ l. l.task) (lines_in first tasks last runs) ≡ tasks
 tasks_in first tasks last (none xs l e f) = sym e
-tasks_in first tasks last (more xs x now l before is) =
-    map-append (λ (l : Line). l.task) (lines_in first xs now before) (line x is.answer ∷ []) ∙ ap (λ l. l ++ x ∷ []) (tasks_in first xs now before)
+tasks_in first tasks last (more xs x now l before is) = search (arith, tasks_in first xs now before, map-append)
 
 pub answers_in : (first : State) (tasks : List ScriptTask) (last : State) (runs : Chain HasDone first tasks last) → first.1 ≡ []
     → map (λ l. told_of l.task l.answer) (lines_in first tasks last runs) ≡ last.1
 answers_in first tasks last (none xs l e f) start = sym (ap (λ (s : State). s.1) f ∙ start)
-answers_in first tasks last (more xs x now l before is) start =
-    map-append (λ (l : Line). told_of l.task l.answer) (lines_in first xs now before) (line x is.answer ∷ [])
-    ∙ ap (λ l. l ++ told_of x is.answer ∷ []) (answers_in first xs now before start) ∙ sym is.told
+answers_in first tasks last (more xs x now l before is) start = search (arith, answers_in first xs now before start, map-append)
 
 -- the transaction that may be committed isn't logged yet
 not_logged : (c : CommitAll TranName) (ms : List ℕ) (log : LogState) (t : TranName) → 1 ≤ length (map (branch_at c) ms) → IsTranOf (map (branch_at c) ms) t
@@ -84,14 +82,11 @@ not_logged c (m ∷ ms) log t some of absent = ap (record_of log) of.0 ∙ absen
 
 appended_known : (tran : TranName) (set : List Bool) (votes : List Code) (logged : Bool) (old new : LosingLog)
     → AppendsOnce AppendsBefore tran set votes logged old new → new.is_lost ≡ old.is_lost
-appended_known tran set votes logged old new is =
-    by_bool (λ _. new.is_lost ≡ old.is_lost) (wants_record votes) (λ wanted. (is.once wanted).same.lost) (λ unwanted. ap (λ (l : LosingLog). l.is_lost) (is.never unwanted))
+appended_known tran set votes logged old new is = search (arith, is.once, is.never)
 
 until_known : (at : Death) (tran : TranName) (set : List Bool) (votes : List Code) (logged : Bool) (old new : LosingLog)
     → AppendsUntil AppendsBefore at tran set votes logged old new → new.is_lost ≡ old.is_lost
-until_known at tran set votes logged old new is =
-    by_bool (λ _. new.is_lost ≡ old.is_lost) (is_decided_by at) (λ decides. appended_known tran set votes logged old new (is.decided decides))
-    (λ not. ap (λ (l : LosingLog). l.is_lost) (is.undecided not))
+until_known at tran set votes logged old new is = search (arith, appended_known, is.decided, is.undecided)
 
 -- ---- what a line does to its thread's part
 
@@ -117,10 +112,7 @@ module _ (settled : Settling) (is : IsSettled settled) (t : ℕ) where
   one_entered : (at at' : List LedgerView) (m : ℕ) (op : Op) (c : Code) → IsKnown at m
       → ((n : ℕ) → (ledger at' n).sent ≡ (ledger (after_sent at m op) n).sent) → so_far at' m ≡ so_far at m ++ next_entry t (so_far at m) op c ∷ []
       → (n : ℕ) → so_far at' n ≡ (if n == m then so_far at n ++ next_entry t (so_far at n) op c ∷ [] else so_far at n)
-  one_entered at at' m op c known sent here n =
-      by_if (λ es. so_far at' n ≡ es) (n == m) (so_far at n ++ next_entry t (so_far at n) op c ∷ []) (so_far at n)
-      (λ e. subst (λ k. so_far at' k ≡ so_far at k ++ next_entry t (so_far at k) op c ∷ []) (sym (eqb-true n m e)) here)
-      (λ e. same_entries settled is t at at' n (λ low. sent n ∙ ap (λ (a : LedgerView). a.sent) (ledger-sent_other at m op known n low (eqb-false n m e))))
+  one_entered at at' m op c known sent here n = search (arith, eqb-true, same_entries, ledger-sent_other, eqb-false)
 
   sent_now : (at at' : List LedgerView) (m : ℕ) (op : Op) → IsKnown at m → ((n : ℕ) → (ledger at' n).sent ≡ (ledger (after_sent at m op) n).sent)
       → (ledger at' m).sent ≡ (ledger at m).sent ++ op ∷ []
@@ -149,8 +141,7 @@ module _ (settled : Settling) (is : IsSettled settled) (t : ℕ) where
       (later : HaveGrown new.desk.ledgers ended) (log : new.log ≡ old.log) where
     part_is : (es : ℕ → List Entry) (handles : Handles) → new.scan ≡ old.scan → ((m : ℕ) → so_far new.desk.ledgers m ≡ es m) → new.desk.kept ≡ handles
         → part_of new ≡ record (part_of old) { entries = es; handles = handles }
-    part_is es handles still same held =
-        λ i. record { entries = λ m. same m i; handles = held i; log = (log i).found.state; is_lost = (log i).is_lost; scan = still i }
+    part_is es handles still same held = search (arith, rules)
 
     does_takes : new.scan ≡ old.scan → Does q a old.desk new.desk → CallTakes settled t q a (part_of old) (part_of new) × AllSound new.desk.ledgers
     does_takes still (answered o c asks told asked) = (
@@ -301,13 +292,7 @@ module _ (settled : Settling) (is : IsSettled settled) (t : ℕ) where
           let each =
           decided_so settled is t at at' sound later done.commit bs done.votes.items trace.course.seconds done.endings.items (rooms at bs may.room) trace.course.each in (
             takes_decided done alive told (record {
-              course = record {
-                seconds = trace.course.seconds;
-                each = each.0;
-                others = others_so settled is t at at' sound later bs others;
-                decision = trace.course.decision;
-                logs = trace.course.logs;
-              };
+              course = search (arith, others_so);
               nowhere = nowhere;
               unlogged = not_logged c (managers_in c.managers) old.log.found.state may.tran may.some may.one may.absent;
               handles = keeps.kept;
@@ -322,8 +307,7 @@ module _ (settled : Settling) (is : IsSettled settled) (t : ℕ) where
           let p = voted.prepared in
           let ks = voted.stage.round.asks.items in
           let votes_are : votes.items ≡ map code_of ks = sym voted.votes_are ∙ p.votes in
-          let others : (m : ℕ) → 1 ≤ m → has_branch_at bs m ≡ false → ledger at' m ≡ ledger at m =
-          λ m low none_there. p.asked.others m low (among_first bs ks m p.same ∙ none_there) in
+          let others : (m : ℕ) → 1 ≤ m → has_branch_at bs m ≡ false → ledger at' m ≡ ledger at m = search (arith, among_first, p.asked.others) in
           let each =
           voted_so settled is t at at' sound later bs votes.items (rooms at bs may.room)
           (subst (λ vs. HaveAsked AsksLedger PutsLedger bs vs (ledger at) (ledger at')) (sym votes_are) (asked_all bs ks at at' p.same p.asked.each)) in (

@@ -1,4 +1,5 @@
 -- What an xa_recover does over one kind of states it does over another, where each of its requests does.
+use Rattle.std.proofs.Common.{arith, rules}
 use Rattle.xa_base.proofs.{ℕ, Some, None, Bool, true, false, Option, Result, Ok, Err, List, length, ap, subst}
 use Rattle.xa_words.specs.{XidName, Done, Nota, Mode, Listed}
 use Rattle.xa_words.specs.declared.code.Code.{Code}
@@ -47,8 +48,7 @@ module _ {D E : Type 0} (A : Asking D) (B : Asking E) (f : D → E) (P : D → T
 
   in_vain_mapped : (why : Code) (old : D) (z : ScanView) (xids : List XidName) (new : D) (z' : ScanView) (xids' : List XidName) (r : Result ℕ Code)
       → IsInVain why old z xids new z' xids' r → P new → P old × IsInVain why (f old) z xids (f new) z' xids' r
-  in_vain_mapped why old z xids new z' xids' r is p =
-      (subst P is.state p, record { answer = is.answer; state = ap f is.state; scan = is.scan; written = is.written })
+  in_vain_mapped why old z xids new z' xids' r is p = search (arith, is.state)
 
   from_mapped : (start : Option ℕ) (m : ℕ) (mode : Mode) (old : D) (z : ScanView) (xids : List XidName) (new : D) (z' : ScanView) (xids' : List XidName) (r : Result ℕ Code)
       → RecoversFrom A start m mode old z xids new z' xids' r → P new → P old × RecoversFrom B start m mode (f old) z xids (f new) z' xids' r

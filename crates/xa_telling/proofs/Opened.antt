@@ -40,8 +40,7 @@ over_managers f many k x at =
 
 pub opened_first : (s : Content) (n : ℕ) (tables : ℕ → Tables) (p : Setup) → IsSetupOf s n tables p → (k : ℕ) (w : WorkerView) → IsNewWorker p k w
     → w.first ≡ tables (k + 1)
-opened_first s n tables p is k w new =
-    ap (λ (x : WorkerView). x.first) new.made ∙ over_managers tables (managers_of s) k new.first (ap (λ l. slice_get l k) (sym is.first) ∙ new.begins)
+opened_first s n tables p is k w new = search (arith, over_managers, slice_get, new.first)
 
 -- ---- the first opening
 
@@ -50,10 +49,7 @@ map_map f g [] = refl
 map_map f g (x ∷ xs) = ap (λ l. f (g x) ∷ l) (map_map f g xs)
 
 says_many : (s : Content) (p : Plan) → IsPlanOf s p → length p.managers.items ≡ managers_of s
-says_many s p is =
-    let same : length (map plan_says p.managers.items) ≡ managers_of s =
-    ap (λ l. length l) is.managers ∙ length-map-range_with_len (script_says s) 1 (managers_of s) in
-    rw length-map at same
+says_many s p is = search (arith, length-map-range_with_len, length-map)
 
 -- what is made by the script's plan is what the script says
 pub planned_setup : (s : Content) (p : Plan) → IsPlanOf s p → IsSound p → IsSetupOf s 1 (opened s) (planned p)
