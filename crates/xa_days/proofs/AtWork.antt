@@ -1,4 +1,5 @@
 -- The law: a branch whose work one thread did holds of each account what that thread added to it.
+use Rattle.std.proofs.Common.{arith}
 use Rattle.xa_base.proofs.{◌≡◌, ◌≢◌, ℕ, ◌+◌, ◌==◌, ℤ, pos, ◌+ℤ◌, true, false, cond, not, if◌then◌else◌, Option, None, Some, is_some, unwrap_or, List, [], ◌∷◌}
 use Rattle.xa_base.proofs.{◌++◌, refl, sym, ap, ◌∙◌, option_map, All, eqb-true, eqb-false, get-insert, All-nil, All-cons, All-head, All-tail, All-append}
 use Rattle.xa_base.proofs.{All-weaker, +ℤ_idl as none_plus, +ℤ_idr as plus_none, at_false, by_if}
@@ -31,8 +32,7 @@ SameSums x T T' = (j : List ℕ) → map.get T'.sums (x, j) ≡ map.get T.sums (
 leaves_sums : (x : XidName) (T : Tables) {l : Option Association} {op : Op} {a : Answer} → Moves T l op a → ending (fate_of x op a.1) ≡ None
     → ((k : List ℕ) (d : ℤ) → op ≡ Add k d → is_association_with l x ≡ false) → SameSums x T a.0
 leaves_sums x T (Still l op a sums values shares moved endings) n quiet j = ap (λ m. map.get m (x, j)) sums
-leaves_sums x T (Ended l op a y commits sums values shares moved endings) n quiet j =
-    ap (λ m. map.get m (x, j)) sums ∙ get_without T.sums y x j ∙ at_false (xid_eq x y) None _ (not_ended x y commits (sym (endings x) ∙ n))
+leaves_sums x T (Ended l op a y commits sums values shares moved endings) n quiet j = search (arith, get_without, at_false, not_ended)
 leaves_sums x T (Added own d l known alone) n quiet j =
     get_added T.sums l.xid x own j _ (λ same _.
     let is : xid_eq l.xid x ≡ true = (Decides-xid_eq l.xid x).1 (sym same) in
@@ -78,12 +78,7 @@ record HasBegun (t : ℕ) (x : XidName) (T T' : Tables) : Type 0 where
 
 begun_with : (t : ℕ) (x : XidName) (T : Tables) → (next t (Start x Fresh) T).1 ≡ Done → HasBegun t x T (next t (Start x Fresh) T).0
 unfolding next
-begun_with t x T =
-    let P : Answer → Type 0 = λ a. a.1 ≡ Done → HasBegun t x T a.0 in
-    by_if P (T.shut) _ _ (λ _ e. cc) (λ _.
-    by_if P (not (has_opened T t)) _ _ (λ _ e. cc) (λ _.
-    by_if P (has_association T t) _ _ (λ _ e. cc) (λ _.
-    by_if P (exists T x) _ _ (λ _ e. cc) (λ none e. record { absent = none; own = own_put T.associations t (association x Associated) }))))
+begun_with t x T = search (arith, own_put)
 
 -- what it holds of each account once d is added to one of them, where it held nothing
 put_alone : (x : XidName) (k : List ℕ) (d : ℤ) (T : Tables) → ((j : List ℕ) → map.get T.sums (x, j) ≡ None) → (j : List ℕ)
@@ -103,15 +98,7 @@ put_alone x k d T none j =
 added_alone : (t : ℕ) (x : XidName) (k : List ℕ) (d : ℤ) (T : Tables) → branch_of T t ≡ x → ((j : List ℕ) → map.get T.sums (x, j) ≡ None)
     → (next t (Add k d) T).1 ≡ Done → (j : List ℕ) → sum_of (next t (Add k d) T).0.sums x j ≡ (if key_eq j k then d else pos 0)
 unfolding next
-added_alone t x k d T own none =
-    let P : Answer → Type 0 = λ a. a.1 ≡ Done → (j : List ℕ) → sum_of a.0.sums x j ≡ (if key_eq j k then d else pos 0) in
-    by_if P (T.shut) _ _ (λ _ e. cc) (λ _.
-    by_if P (not (has_opened T t)) _ _ (λ _ e. cc) (λ _.
-    by_if P (not (is_at_work T t)) _ _ (λ _ e. cc) (λ _.
-    by_if P (not (is_declared T k)) _ _ (λ _ e. cc) (λ _.
-    by_if P (is_rollback_only T (branch_of T t)) _ _ (λ reason e. absurd (not_done T (branch_of T t) reason e)) (λ _.
-    by_if P (has_other_touched T.sums (branch_of T t) k) _ _ (λ _ e. cc) (λ _ e j.
-    ap (λ y. sum_of (added y k d T).sums x j) own ∙ put_alone x k d T none j))))))
+added_alone t x k d T own none = search (arith, not_done, put_alone)
 
 -- ---- the work
 
@@ -132,8 +119,7 @@ work_held t n x k d h T w opened j v =
     let only1 : OnlyOne t x T1 = λ u apart. nobody_is x T1 first.apart u in
     let begins = begun_with t x T1 w.starts in
     let unprepared : is_prepared T x ≡ false = absent_unprepared (state_of T x) (ap is_some (sym first.state) ∙ begins.absent) in
-    let quiet : ending (fate_of x (Start x Fresh) (next t (Start x Fresh) T1).1) ≡ None =
-    ap (λ c. ending (fate_of x (Start x Fresh) c)) w.starts ∙ quiet_named x x (Some Live) refl in
+    let quiet : ending (fate_of x (Start x Fresh) (next t (Start x Fresh) T1).1) ≡ None = search (arith, quiet_named) in
     let started : SameSums x T1 T2 = leaves_sums x T1 (moves_of t (Start x Fresh) T1) quiet (λ l e is. cc) in
     let begun = left_at_work t x w.begun T2 (own_request t x (Start x Fresh) T1 only1) w.at_work in
     let none : (l : List ℕ) → map.get T3.sums (x, l) ≡ None = λ l. begun.sums l ∙ started l ∙ first.sums l ∙ opened.sums x l unprepared in
@@ -144,11 +130,8 @@ work_held t n x k d h T w opened j v =
     let rest3 : History = request t (n + 2) (End x Success) ∷ w.after in
     let rest2 : History = request t (n + 1) (Add k d) ∷ (w.added ++ rest3) in
     let rest1 : History = request t n (Start x Fresh) ∷ (w.begun ++ rest2) in
-    let last : tables_after h T ≡ tables_after w.after T6 =
-    ap (λ g. tables_after g T) w.place ∙ tables_after-append w.before rest1 T ∙ tables_after-append w.begun rest2 T2 ∙ tables_after-append w.added rest3 T4 in
-    ap (held_by ((j, v) ∷ []) x) last ∙ plus_none _
-    ∙ ap (λ o. unwrap_or o (pos 0)) (done.sums j ∙ ends j ∙ ending_work.sums j)
-    ∙ added_alone t x k d T3 own none w.adds j
+    let last : tables_after h T ≡ tables_after w.after T6 = search (arith, tables_after-append, w.before, w.begun, w.added) in
+    search (arith, plus_none, unwrap_or, added_alone, done.sums, ending_work.sums, w.adds)
 
 -- ---- its vote
 
@@ -175,8 +158,7 @@ work_never_reads t n u x k d h T w opened e =
     let rest3 : History = ends ∷ w.after in
     let rest2 : History = request t (n + 1) (Add k d) ∷ (w.added ++ rest3) in
     let rest1 : History = request t n (Start x Fresh) ∷ (w.begun ++ rest2) in
-    let last : tables_after h T ≡ tables_after (w.added ++ rest3) T4 =
-    ap (λ g. tables_after g T) w.place ∙ tables_after-append w.before rest1 T ∙ tables_after-append w.begun rest2 T2 in
+    let last : tables_after h T ≡ tables_after (w.added ++ rest3) T4 = search (arith, tables_after-append, w.before, w.begun) in
     let P : Request → Type 0 = λ q. (c : Code) → ending (fate_of x q.op c) ≡ None in
     let unnamed : (q : Request) → names x q.op ≡ false → P q = λ q m c. ap ending (unnamed_fate x q.op c m) in
     let none : All P (w.added ++ rest3) =

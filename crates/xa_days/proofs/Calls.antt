@@ -53,10 +53,7 @@ pub resolves_commit_nothing : (m : ℕ) (x : XidName) (o : Opening) → IsUpTo M
     → CommitsNowhere x (history_of o.settled m)
 resolves_commit_nothing m x o up kept only marked =
     let all = named_so o.settled kept.settled m up (λ op. names x op ≡ true → is_commit op ≡ false) (tran_of x) o.uses (λ n. cc) kept.uses (λ q there r among. record {
-      ends = λ manager is n.
-          let same : r.xid ≡ x = outcome_named r.commit r.xid x n in
-          let off : r.commit ≡ false = is ∙ ap (is_to_commit q.records m) same ∙ marked q there in
-          ap (λ b. is_commit (outcome_op b r.xid)) off;
+      ends = search (arith, outcome_named);
       forgets = λ _ _ n. refl;
     }) (only m) in
     λ k d lt n. all k d lt (named_tran x (get_or (history_of o.settled m) k d).op n) n
@@ -131,8 +128,7 @@ module _ (law : Tabled) (s : Settling) (k : CutCall) (b : Branch) (T : Tables) (
       sent_at k.branches k.desk.ledgers k.new b (All-contains (CameAt made.may.tran k.branches k.desk.ledgers k.new k.log k.later k.endings) k.branches b (each_came made.may.rising made.far) there) voted.asked
 
   only : OnlyTheseOrDecisionsName x t n (length a'.sent) H
-  only =
-      All-contains (λ (c : Branch). WasAsked k c → OnlyTheseOrDecisionsName c.xid t (length (ledger k.desk.ledgers c.m).sent) (length (ledger k.new c.m).sent) (history_of s c.m)) k.branches b own there voted.asked
+  only = search (arith, All-contains)
 
   opened : IsOpenedWith s m T
   opened = follows_first s m T settled first

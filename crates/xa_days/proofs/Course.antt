@@ -1,4 +1,5 @@
 -- The laws of one branch: one that nothing commits moves nothing, and one that votes to commit moves what it held where it is committed.
+use Rattle.std.proofs.Common.{rules}
 use Rattle.xa_base.proofs.{All-cons, All-head, All-tail, ◌≡◌, ◌≢◌, ℕ, ℤ, pos, ◌+ℤ◌, Bool, true, false, cond, not, ◌||◌, if◌then◌else◌, Option, None, Some}
 use Rattle.xa_base.proofs.{is_some, List, [], ◌∷◌, ◌++◌, unwrap_or, refl, All, cons_option, sym, ap, ◌∙◌, subst, arith, +ℤ_idl as none_plus}
 use Rattle.xa_base.proofs.{+ℤ_idr as plus_none, total_same, by_if, at_true, at_false}
@@ -47,8 +48,7 @@ pub still_over : (accounts : Accounts) (x : XidName) (hs : List History) (T : Ta
     → moved_over accounts (is_for x) hs T ≡ pos 0
 still_over accounts x [] T quiet = refl
 still_over accounts x (h ∷ hs) T quiet =
-    λ i. still_on accounts x h T (All-head (CommitsNowhere x) h hs quiet) i
-    +ℤ still_over accounts x hs (reopened (tables_after h T)) (All-tail (CommitsNowhere x) h hs quiet) i
+    search (arith, still_over accounts x hs (reopened (tables_after h T)) (All-tail (CommitsNowhere x) h hs quiet), still_on, All-head, All-tail)
 
 -- ---- a branch that is gone
 
@@ -77,24 +77,9 @@ module _ (accounts : Accounts) (t : ℕ) (x : XidName) (T : Tables) (gone : IsGo
   gone_told : (op : Op) → names x op ≡ true → tells_outcome op ≡ true → Stay op (next t op T)
   unfolding next
   gone_told (Commit y true) n o = cc
-  gone_told (Commit y false) n o =
-      let P : Answer → Type 0 = Stay (Commit y false) in
-      let same : not (exists T y) ≡ true = ap (λ z. not (exists T z)) ((Decides-xid_eq y x).0 n) ∙ unknown in
-      by_if P (T.shut) _ _ (λ _. refused (Commit y false) RmFail (named_none x y) refl) (λ _.
-      by_if P (not (has_opened T t)) _ _ (λ _. refused (Commit y false) Proto (named_none x y) refl) (λ _.
-      by_if P (not (exists T y)) _ _ (λ _. refused (Commit y false) Nota (named_none x y) refl) (λ there. let z : true ≡ false = sym same ∙ there in cc)))
-  gone_told (Rollback y) n o =
-      let P : Answer → Type 0 = Stay (Rollback y) in
-      let same : not (exists T y) ≡ true = ap (λ z. not (exists T z)) ((Decides-xid_eq y x).0 n) ∙ unknown in
-      by_if P (T.shut) _ _ (λ _. refused (Rollback y) RmFail (named_none x y) refl) (λ _.
-      by_if P (not (has_opened T t)) _ _ (λ _. refused (Rollback y) Proto (named_none x y) refl) (λ _.
-      by_if P (not (exists T y)) _ _ (λ _. refused (Rollback y) Nota (named_none x y) refl) (λ there. let z : true ≡ false = sym same ∙ there in cc)))
-  gone_told (Forget y) n o =
-      let P : Answer → Type 0 = Stay (Forget y) in
-      let same : not (exists T y) ≡ true = ap (λ z. not (exists T z)) ((Decides-xid_eq y x).0 n) ∙ unknown in
-      by_if P (T.shut) _ _ (λ _. refused (Forget y) RmFail refl refl) (λ _.
-      by_if P (not (has_opened T t)) _ _ (λ _. refused (Forget y) Proto refl refl) (λ _.
-      by_if P (not (exists T y)) _ _ (λ _. refused (Forget y) Nota refl refl) (λ there. let z : true ≡ false = sym same ∙ there in cc)))
+  gone_told (Commit y false) n o = search (arith, Decides-xid_eq, unknown, refused, named_none)
+  gone_told (Rollback y) n o = search (arith, Decides-xid_eq, unknown, refused, named_none)
+  gone_told (Forget y) n o = search (arith, Decides-xid_eq, unknown, refused)
   gone_told op n o = cc
 
   gone_step : (op : Op) → (names x op ≡ true → tells_outcome op ≡ true) → Stay op (next t op T)
@@ -152,8 +137,7 @@ gone_over accounts x f (h ∷ hs) T ended gone told =
     let one = gone_on accounts x h T gone (All-head (OnlyTold x) h hs told) in
     let T1 : Tables = reopened (tables_after h T) in
     let rest = gone_over accounts x f hs T1 ended (gone_reopened x (tables_after h T) one.gone) (All-tail (OnlyTold x) h hs told) in
-    let fate_now : reopened_fate (fate x f h T) ≡ f =
-    ap reopened_fate (late_leave_fates x f h T ∙ ap (last_or f) one.quiet) ∙ at_false (is_live f) RolledBack f ended in
+    let fate_now : reopened_fate (fate x f h T) ≡ f = search (arith, late_leave_fates, at_false) in
     record { same = ap (λ g. fate_left x g hs T1) fate_now ∙ rest.same; still = λ i. one.still i +ℤ rest.still i }
 
 -- ---- a branch that waits for its outcome
@@ -224,9 +208,7 @@ module _ (accounts : Accounts) (t : ℕ) (x : XidName) (sum : ℤ) (T : Tables) 
             StillWaits (record {
               prepared = stays.state ∙ waits.prepared;
               apart = stays.apart;
-              holds =
-                  total_same (λ d. sum_of (next t op T).0.sums x d.0) (λ d. sum_of T.sums x d.0) accounts (λ d. ap (λ q. unwrap_or q (pos 0)) (stays.sums d.0))
-                  ∙ waits.holds;
+              holds = search (arith, total_same, unwrap_or, stays.sums);
             }) (unnamed_fate x op _ n) (at_false (names x op) _ _ n)
       ] refl
 
@@ -257,15 +239,7 @@ course_on accounts x sum (r ∷ h) T waits told =
 -- ---- over openings
 
 waits_reopened : (accounts : Accounts) (x : XidName) (sum : ℤ) (T : Tables) → Waits accounts x sum T → Waits accounts x sum (reopened T)
-waits_reopened accounts x sum T waits =
-    let state : state_of (reopened T) x ≡ Some S3 = state_reopened T x ∙ ap (λ o. cond (is_left_in o) o None) waits.prepared in
-    record {
-      prepared = state;
-      apart = unassociated x T (voted_rests (state_of (reopened T) x) (ap is_S3 state));
-      holds =
-          total_same (λ d. sum_of (reopened T).sums x d.0) (λ d. sum_of T.sums x d.0) accounts (λ d. ap (λ q. unwrap_or q (pos 0)) (sums_reopened T x d.0 ∙ ap (λ o. cond (is_S3 o) (finmap.get T.sums (x, d.0)) None) waits.prepared))
-          ∙ waits.holds;
-    }
+waits_reopened accounts x sum T waits = search (arith, state_reopened, unassociated, voted_rests, sums_reopened, waits.prepared)
 
 -- it moves what it holds where it is committed, and nobody else decided it
 record CourseOver (accounts : Accounts) (x : XidName) (sum : ℤ) (hs : List History) (T : Tables) : Type 0 where
@@ -301,9 +275,7 @@ course_over accounts x sum (h ∷ hs) T waits told =
 
 pub left_law : (accounts : Accounts) (x : XidName) (hs : List History) (T : Tables) → IsOpening T → IsPrepared x T → All (OnlyTold x) hs
     → MovesWhereCommitted accounts x (held_by accounts x T) InDoubt hs T
-left_law accounts x hs T o p told =
-    let apart = nobody_rests T (opening_sound T o) x (voted_rests (state_of T x) (ap is_S3 p)) in
-    (course_over accounts x (held_by accounts x T) hs T (record { prepared = p; apart = apart; holds = refl }) told).moves
+left_law accounts x hs T o p told = search (arith, nobody_rests, opening_sound, voted_rests, course_over)
 
 -- ---- from before its Prepare on
 
@@ -311,10 +283,7 @@ left_law accounts x hs T o p told =
 fate_from : (x : XidName) (f : Fate) (before : History) (r : Request) (after : History) (T : Tables)
     → fate_of x r.op (next r.thread r.op (tables_after before T)).1 ≡ Some InDoubt
     → fate_in x f (coded (before ++ r ∷ after) T) ≡ fate_in x InDoubt (coded after (next r.thread r.op (tables_after before T)).0)
-fate_from x f before r after T e =
-    let later : List Fate = fates_in x (coded after (next r.thread r.op (tables_after before T)).0) in
-    ap (last_or f) (fates_both x before (r ∷ after) T ∙ ap (λ o. fates_in x (coded before T) ++ cons_option o later) e)
-    ∙ last_both f (fates_in x (coded before T)) (InDoubt ∷ later)
+fate_from x f before r after T e = search (arith, fates_both, cons_option, last_both, r.thread, r.op)
 
 undecided : (d : Option HeuristicDecision) → [] ≡ fates_when d → state_when d ≡ S3
 undecided None e = refl
@@ -354,17 +323,13 @@ has_voted accounts x f h T votes o =
     let B : Tables = tables_after before T in
     let U : Tables = tables_voted x h T votes in
     let sum : ℤ = held_by accounts x B in
-    let now : fate_of x ask.op (next ask.thread ask.op B).1 ≡ Some InDoubt =
-    (λ i. fate_of x (votes.asks i) (votes.agrees i)) ∙ at_true (xid_eq x x) _ None ((Decides-xid_eq x x).1 refl) in
+    let now : fate_of x ask.op (next ask.thread ask.op B).1 ≡ Some InDoubt = search (arith, at_true, Decides-xid_eq, votes.asks, votes.agrees) in
     let quiet : moved_for accounts x ask.op (next ask.thread ask.op B).1 B ≡ pos 0 = still_for accounts x ask.op _ B (ap is_commit votes.asks) in
     subst (λ (g : History). HasVoted accounts x f sum g after T U) (sym votes.parts) (record {
       waits = voted_at accounts x before ask.thread ask.op T o votes.asks votes.agrees;
       tables = tables_after-append before (ask ∷ after) T;
-      fates =
-          late_leave_fates x f (before ++ ask ∷ after) T ∙ fate_from x f before ask after T now ∙ sym (late_leave_fates x InDoubt after U);
-      moves =
-          moved_both accounts (is_for x) before (ask ∷ after) T
-          ∙ (λ i. still_on accounts x before T votes.uncommitted i +ℤ (quiet i +ℤ moved accounts (is_for x) after U)) ∙ none_plus _ ∙ none_plus _;
+      fates = search (arith, late_leave_fates, fate_from);
+      moves = search (arith, moved_both, still_on, none_plus, votes.uncommitted);
     })
 
 module _ (accounts : Accounts) (x : XidName) (f : Fate) (h : History) (later : List History) (T : Tables) (votes : Votes x h T) (o : IsOpening T)
@@ -382,9 +347,7 @@ module _ (accounts : Accounts) (x : XidName) (f : Fate) (h : History) (later : L
   same_fate = λ i. fate_left x (reopened_fate (v.fates i)) later (reopened (v.tables i))
 
   pub voted_law : MovesWhereCommitted accounts x (voted_sum accounts x h T votes) f (h ∷ later) T
-  voted_law =
-      (λ i. v.moves i +ℤ moved_over accounts (is_for x) later (reopened (v.tables i))) ∙ over.moves
-      ∙ ap (λ g. due g (voted_sum accounts x h T votes)) (sym same_fate)
+  voted_law = search (arith, v, over, same_fate)
 
   pub undecided_law : is_undecided (fate_left x f (h ∷ later) T) ≡ true
   undecided_law = ap is_undecided same_fate ∙ over.plain

@@ -94,15 +94,13 @@ worth_over accounts (h ∷ hs) T known =
 
 pub branches_law : (accounts : Accounts) (xs : List XidName) (hs : List History) (T : Tables) → DeclareEach accounts T → IsDistinct xid_eq xs
     → All (CommitsAmong xs) hs → WorthIsOfBranches accounts xs hs T
-branches_law accounts xs hs T known distinct among =
-    worth_over accounts hs T known ∙ ap (λ v. worth accounts T +ℤ v) (parted_over accounts xs hs T distinct among)
+branches_law accounts xs hs T known distinct among = search (arith, worth_over, parted_over)
 
 -- ---- a day
 
 counts : (accounts : Accounts) (T : Tables) (h : History) (later : List History) (g : Leg) → IsOpening T → ComesOut accounts T h later g
     → moved_over accounts (is_for g.xid) (h ∷ later) T ≡ counted g
-counts accounts T h later g o (voted votes told recorded sum) =
-    voted_law accounts g.xid Absent h later T votes o told ∙ (λ i. if recorded i then sym sum i else pos 0)
+counts accounts T h later g o (voted votes told recorded sum) = search (arith, voted_law, g.xid)
 counts accounts T h later g o (unasked still nothing) = still_over accounts g.xid (h ∷ later) T still ∙ sym nothing
 
 total_of : (f : XidName → ℤ) (gs : List Leg) → total f (map (λ g. g.xid) gs) ≡ total (λ g. f g.xid) gs

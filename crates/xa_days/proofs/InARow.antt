@@ -77,17 +77,7 @@ module _ (m : ℕ) (x : XidName) (o : Opening) (later : List Opening) (T : Table
 
   -- what became of it is its fate after all of them
   became_end : end ≡ reopened_fate (became (branch_at m x) Absent o later)
-  became_end =
-      let now : Fate = settled_fate o.settled m x Absent in
-      let plain : is_undecided end ≡ true = undecided_law [] x Absent (history o.settled m) (histories m later) T votes opened.opened told in
-      elim (is_in_doubt now) as (λ b. is_in_doubt now ≡ b → end ≡ reopened_fate (if b then fate_through m x now later else now)) [
-        | true ↦ λ _. makes m x Absent o later T settled row first
-        | false ↦ λ known.
-            let stays : end ≡ now =
-            ended_law [] x Absent (history o.settled m) (histories m later) T votes opened.opened told (ap is_in_doubt (sym (opened.fates x Absent)) ∙ known)
-            ∙ sym (opened.fates x Absent) in
-            stays ∙ sym (undecided_stays now (ap is_undecided (sym stays) ∙ plain))
-      ] refl
+  became_end = search (arith, undecided_law, opened, makes, ended_law, undecided_stays)
 
   ends_by : (recorded : Bool) (known : Ending) → state_of T x ≡ None → EndsAs recorded o later (branch_at m x) known → is_committed end ≡ recorded
   ends_by recorded known fresh ends =
@@ -126,12 +116,7 @@ settled_law accounts m T o later legs settled row first known day =
 found : (accounts : List (List ℕ × ℕ)) → All (λ d. is_some (find key_cmp d.0 (map (λ e. (e.0, pos e.1)) accounts)) ≡ true) accounts
 found [] k d lt = absurd (omega arith)
 found (d ∷ ds) zero e lt = ap (λ b. is_some (cond b (Some (pos d.1)) (find key_cmp d.0 (map (λ e. (e.0, pos e.1)) ds)))) (key_self d.0)
-found (d ∷ ds) (suc k) e lt =
-    let q : List ℕ = (get_or ds k e).0 in
-    elim (same_key q d.0) as (λ b. is_some (cond b (Some (pos d.1)) (find key_cmp q (map (λ e. (e.0, pos e.1)) ds))) ≡ true) [
-      | true ↦ refl
-      | false ↦ found ds k e (omega arith)
-    ]
+found (d ∷ ds) (suc k) e lt = search (arith, found ds k e (omega arith), same_key, is_some)
 
 opens_with : (accounts : List (List ℕ × ℕ)) → DeclareEach accounts (opening accounts)
 opens_with accounts k d lt =

@@ -62,11 +62,7 @@ module _ (s : Settling) (k : CutCall) (use_ : IsUseIn s (cuts k)) (b : Branch) (
   collected_so P v for h =
       let open_ : learnt_shut a ≡ false = false_from_ne_true (learnt_shut a) (λ shut. both_ways (is_no v) for (ap is_no (h.prepared shut))) in
       let grown : HasGrown a' (ledger (ledgers_of s k.thread) b.m) = use_.grown.each b.m positive in
-      record {
-        asked = prepare_there P b v a a' open_ h;
-        voted = vote_there P b v a a' (ledger (ledgers_of s k.thread) b.m).collected open_ h grown.collected;
-        open_ = open_;
-      }
+      search (arith, prepare_there, vote_there)
 
   none_sent : (v : Code) → learnt_shut a ≡ false → HasVoted (NoCommit b.xid) b v a a' → HasSentNone (is_commit_of b.xid) a a'
   none_sent v open_ h = record {
@@ -107,10 +103,7 @@ module _ (s : Settling) (k : CutCall) (use_ : IsUseIn s (cuts k)) (t : TranName)
 
   for_so : (votes : List Code) (logged : Bool) → Logs made.may.tran (yes_of k.branches votes) votes logged k.log k.later → (b : Branch) (v : Code)
       → IsVoteOf k.branches votes b v → is_no v ≡ false
-  for_so votes logged logs b v vote =
-      let none =
-      not-true _ (and_parts (decides_commit votes) _ (decided_so made.may.tran k.log k.later made.may.absent votes logged (yes_of k.branches votes) logs there)).0 in
-      All-contains (λ w. is_no w ≡ false) votes v (none_all is_no votes none) vote.among
+  for_so votes logged logs b v vote = search (arith, not-true, and_parts, decided_so, made, there, All-contains, none_all)
 
   at_branch : (b : Branch) → 1 ≤ b.m → CameAt made.may.tran k.branches k.desk.ledgers k.new k.log k.later k.endings b → AgreedOrRead k s b
   at_branch b positive (at_asking same h) =
