@@ -61,8 +61,7 @@ module _ (P : Op → Type 0) where
       elsewhere (suc m) none = others (suc m) (omega arith) none
 
   adds_one : (t : ℕ) (old new : List Entry) (op : Op) (c : Code) → P op → new ≡ old ++ next_entry t old op c ∷ [] → Adds old new
-  adds_one t old new op c so is =
-      (next_entry t old op c ∷ [], is, All-cons (λ (e : Entry). P e.0.op) (next_entry t old op c) [] so (All-nil (λ (e : Entry). P e.0.op)))
+  adds_one t old new op c so is = search (arith, All-cons, All-nil)
 
   -- what is asked, one request after another
   carries_adds : (t : ℕ) (old new : List Entry) (op : Op) (c : Code) → P op → CarriesOut t old op new c → Adds old new
@@ -201,8 +200,7 @@ module _ (P : Op → Type 0) where
         subst (λ (x : Part). Adds (old.entries m) (x.entries m)) (sym is) (either_adds t q.manager o c (old.entries m) (λ here. so here o (ap op_in asks)))
     call_adds settled t q a old new so (refused c is told same) = adds_none (old.entries m) (new.entries m) (ap (λ (x : Part). x.entries m) same)
     call_adds settled t q a old new so (lists n asks is) = listing_adds t q n a old new is
-    call_adds settled t q a old new so (completes r k c asks there code told same) =
-        adds_none (old.entries m) (new.entries m) (ap (λ (x : Part). x.entries m) same)
+    call_adds settled t q a old new so (completes r k c asks there code told same) = search (arith, adds_none, old.entries, new.entries)
 
     -- ---- a line
 
@@ -215,8 +213,7 @@ module _ (P : Op → Type 0) where
     pub takes_add : (settled : Settling) (x : ScriptAction) (t : ℕ) (a : Answer) (old new : Part) → TaskSo old.scan x → Takes settled x t a old new
         → Adds (old.entries m) (new.entries m)
     takes_add settled (action.Call q) t a old new so is = call_adds settled t q a old new so is
-    takes_add settled (action.CommitAll c) t a old new so (takes_none told same) =
-        adds_none (old.entries m) (new.entries m) (ap (λ (x : Part). x.entries m) same)
+    takes_add settled (action.CommitAll c) t a old new so (takes_none told same) = search (arith, adds_none, old.entries, new.entries)
     takes_add settled (action.CommitAll c) t a old new so (decided done alive told is) = decides_adds m t c done old new (so done.commit) is
     takes_add settled (action.CommitAll c) t a old new so (undecided votes comes told is) =
         loses_adds m t c votes.items old new (λ k d lt. (so false k d lt).prepares) is
@@ -228,8 +225,7 @@ module _ (P : Op → Type 0) where
 -- anything may be asked
 pub any_task : (m : ℕ) (z : ScanView) (x : ScriptAction) → TaskSo Any (λ x. tt) m z x
 any_task m z (action.Call q) = λ here o asks. tt
-any_task m z (action.CommitAll c) =
-    λ commit k d lt. record { prepares = λ here. tt; obeys = λ here v. any_asked (second_op commit _ v); forgets = λ here s. any_asked (third_op _ s) }
+any_task m z (action.CommitAll c) = search (arith, any_asked)
 any_task m z action.Resolve = (tt, λ k d lt. (λ commit. tt, tt))
 
 pub takes_adds : (settled : Settling) (x : ScriptAction) (t : ℕ) (a : Answer) (old new : Part) → Takes settled x t a old new → (m : ℕ)

@@ -42,12 +42,7 @@ or_false false = refl
 
 entered_more : (old : List Entry) (e : Entry)
     → entered (old ++ e ∷ []) ≡ record { number = suc (length old); shut = list_any is_rm_fail (codes_in old) || is_rm_fail e.1 }
-entered_more old e =
-    let number : length (old ++ e ∷ []) ≡ suc (length old) = omega (arith, length-append old (e ∷ [])) in
-    let shut : list_any is_rm_fail (codes_in (old ++ e ∷ [])) ≡ (list_any is_rm_fail (codes_in old) || is_rm_fail e.1) =
-    ap (list_any is_rm_fail) (map-append (λ (d : Entry). d.1) old (e ∷ [])) ∙ list_any-append is_rm_fail (codes_in old) (e.1 ∷ [])
-    ∙ ap (λ b. list_any is_rm_fail (codes_in old) || b) (or_false (is_rm_fail e.1)) in
-    λ i. record { number = number i; shut = shut i }
+entered_more old e = search (arith, length-append, list_any, map-append, list_any-append, or_false)
 
 -- ---- lists of ops
 
@@ -85,10 +80,7 @@ module _ (law : Tabled) (t : ℕ) (T : Tables) (opening : IsOpening T) (J : List
       (ap (λ (l : List Entry). slice_get (answers t l) n) (sym follows) ∙ slice_get-map pair_of es n ∙ ap (option_map pair_of) at)
 
   asked_so : (old new : List Entry) (op : Op) (c : Code) → CarriesOut t old op new c → Unit {0} → Begins new es → AsksIn t T H (entered old) op (entered new) c
-  asked_so old new op c (carried is) q grown =
-      let e : Entry = next_entry t old op c in
-      let place : es ≡ old ++ e ∷ grown.0 = grown.1 ∙ ap (λ l. l ++ grown.0) is ∙ append_assoc old (e ∷ []) grown.0 in
-      asks (entry_stands old grown.0 op c place) (λ shut. fails_on H T (λ d. d.0.thread == t) old e grown.0 (ap (entries_of t) (sym follows) ∙ place) (fail_there (codes_in old) shut)) (ap entered is ∙ entered_more old e)
+  asked_so old new op c (carried is) q grown = search (arith, append_assoc, entry_stands, fails_on, fail_there, entered_more, grown.0)
   asked_so old new op c (withheld fails shut same) q grown = withholds (there_fails (codes_in old) shut) fails (ap entered same)
 
   began : (old new : List Entry) (op : Op) (c : Code) → CarriesOut t old op new c → Begins new es → Begins old es

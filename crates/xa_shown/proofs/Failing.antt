@@ -50,40 +50,21 @@ rules_tell t Shut T = says _ _ refl
 rules_tell t OpenRm T = says _ _ refl
 rules_tell t CloseRm T = cases (not (has_opened T t)) _ _ (says _ _ refl) (cases (has_association T t) _ _ (says _ _ refl) (says _ _ refl))
 rules_tell t (Start x Fresh) T = cases (has_association T t) _ _ (says _ _ refl) (cases (exists T x) _ _ (says _ _ refl) (says _ _ refl))
-rules_tell t (Start x Join) T =
-    cases (has_association T t) _ _ (says _ _ refl) (cases (not (exists T x)) _ _ (says _ _ refl) (cases (is_prepared T x || is_completed T x) _ _ (says _ _ refl)
-    (cases (is_rollback_only T x) _ _ (says _ _ (reason_tells (state_of T x))) (says _ _ refl))))
-rules_tell t (Start x Resume) T =
-    cases (is_associated T t x && is_suspended T t) _ _ (says _ _ refl) (cases (not (exists T x)) _ _ (says _ _ refl) (says _ _ refl))
-rules_tell t (Add k d) T =
-    cases (not (is_at_work T t)) _ _ (says _ _ refl) (cases (not (is_declared T k)) _ _ (says _ _ refl) (cases (is_rollback_only T (branch_of T t)) _ _ (says _ _ (reason_tells (state_of T (branch_of T t))))
-    (cases (has_other_touched T.sums (branch_of T t) k) _ _ (says _ _ refl) (says _ _ refl))))
-rules_tell t (End x how) T =
-    cases (not (is_associated T t x) && not (exists T x)) _ _ (says _ _ refl) (cases (not (is_associated T t x)) _ _ (says _ _ refl) (cases (is_suspend how && is_suspended T t) _ _ (says _ _ refl)
-    (cases (is_rollback_only T x) _ _ (says _ _ (reason_tells (state_of T x))) (cases (is_suspend how) _ _ (says _ _ refl) (cases (is_fail how) _ _ (says _ _ refl)
-    (cases (is_somebody_associated (dissociated t T).associations x) _ _ (says _ _ refl) (says _ _ refl)))))))
-rules_tell t (Prepare x) T =
-    cases (not (exists T x)) _ _ (says _ _ refl) (cases (is_somebody_associated T.associations x || (is_prepared T x || (is_rollback_only T x || is_completed T x))) _ _ (says _ _ refl)
-    (cases (not (has_touched T.sums x)) _ _ (says _ _ refl) (cases (is_broken T.values T.sums x) _ _ (says _ _ refl) (says _ _ refl))))
-rules_tell t (Commit x one_phase) T =
-    cases one_phase _ _
-    (cases (not (exists T x)) _ _ (says _ _ refl) (cases (is_somebody_associated T.associations x || not (is_idle T x)) _ _ (says _ _ refl) (cases (is_broken T.values T.sums x) _ _ (says _ _ refl) (says _ _ refl))))
-    (cases (not (exists T x)) _ _ (says _ _ refl) (cases (is_completed T x) _ _ (says _ _ (decision_tells (state_of T x)))
-    (cases (is_somebody_associated T.associations x || not (is_prepared T x)) _ _ (says _ _ refl) (says _ _ refl))))
-rules_tell t (Rollback x) T =
-    cases (not (exists T x)) _ _ (says _ _ refl) (cases (is_completed T x) _ _ (says _ _ (decision_tells (state_of T x)))
-    (cases (is_somebody_associated T.associations x) _ _ (says _ _ refl) (cases (is_rollback_only T x) _ _ (says _ _ (reason_tells (state_of T x))) (says _ _ refl))))
+rules_tell t (Start x Join) T = search (arith, cases, says, reason_tells)
+rules_tell t (Start x Resume) T = search (arith, cases, says)
+rules_tell t (Add k d) T = search (arith, cases, says, reason_tells)
+rules_tell t (End x how) T = search (arith, cases, says, reason_tells)
+rules_tell t (Prepare x) T = search (arith, cases, says)
+rules_tell t (Commit x one_phase) T = search (arith, cases, says, decision_tells)
+rules_tell t (Rollback x) T = search (arith, cases, says, decision_tells, reason_tells)
 rules_tell t (Forget x) T = cases (not (exists T x)) _ _ (says _ _ refl) (cases (not (is_completed T x)) _ _ (says _ _ refl) (says _ _ refl))
 rules_tell t (Listed None) T = says _ _ refl
 rules_tell t (Listed (Some x)) T = cases (is_left T x) _ _ (says _ _ refl) (says _ _ refl)
-rules_tell t (Heur x commits) T =
-    cases (not (exists T x)) _ _ (says _ _ refl) (cases (not (is_prepared T x)) _ _ (says _ _ refl) (cases commits _ _ (says _ _ refl) (says _ _ refl)))
+rules_tell t (Heur x commits) T = search (arith, cases, says)
 
 open_tells : (t : ℕ) (op : Op) (T : Tables) → T.shut ≡ false → Tells (next t op T)
 unfolding next
-open_tells t op T open_ =
-    by_if Tells (T.shut) _ _ (λ s. absurd (let z : true ≡ false = sym s ∙ open_ in cc))
-    (λ _. cases (needs_opening op && not (has_opened T t)) _ _ (says T Proto refl) (rules_tell t op T))
+open_tells t op T open_ = search (arith, cases, says, rules_tell)
 
 -- so the code comes from a manager that is shut
 pub shut_so : (t : ℕ) (op : Op) (T : Tables) → (next t op T).1 ≡ RmFail → T.shut ≡ true

@@ -1,4 +1,5 @@
 -- Lines that don't name a branch put nothing into the journals that does.
+use Rattle.std.proofs.Common.{arith}
 use Rattle.xa_atomicity.proofs.Requests.{none_all}
 use Rattle.xa_base.proofs.{◌≡◌, ◌≢◌, ℕ, zero, suc, ◌⊎◌, ⊎_elim, inl, inr, Bool, true, false, ◌==◌, ◌&&◌, List, [], ◌∷◌, Option, Some, None, sym, refl, ap, ◌∙◌}
 use Rattle.xa_base.proofs.{if◌then◌else◌, All, Result, Ok, Err, get_or, eq-eqb, or_parts, list_any, slice_index_or, all_mid, all_left}
@@ -90,9 +91,7 @@ either_ok false true x y w a e = inr cc
 either_ok false false x y w a e = absurd (cc)
 
 op_native : (r : RmOp) (f : ℕ) (o : Op) → op_in (wanted (native r f) (λ asked. asked.op) (λ asked. asked.asynchronous)) ≡ Some o → rm_op r ≡ o
-op_native r f o e =
-    let a = wanted_is (native r f) (λ asked. asked.op) (λ asked. asked.asynchronous) o e in
-    ⊎_elim (λ h. along _ a.0 h (λ asked. asked.op) ∙ a.2) (λ h. along _ a.0 h (λ asked. asked.op) ∙ a.2) (either_ok (f == 0) (f == TMASYNC) _ _ _ a.0 a.1)
+op_native r f o e = search (arith, wanted_is, along, either_ok)
 
 -- ---- what a task puts into the journals
 
@@ -105,8 +104,7 @@ by_call : (a : ScriptCalling) (m f : ℕ) (b : Branch) (o : Op) → op_in (wante
 by_call (calling.Xa c None) m f b o e same quiet = let w = op_asked c None f o e in op_of_none c b.xid w.0 o w.1
 by_call (calling.Xa c (Some x)) m f b o e same quiet =
     let w = op_asked c (Some x) f o e in op_of_names c x b.xid w.0 o w.1 (apart b m x same (or_parts ((m == b.m) && xid_eq x b.xid) false quiet).0)
-by_call (calling.Heur x commits) m f b o e same quiet =
-    ap (names b.xid) (sym (op_native (rm.Heur x commits) f o e)) ∙ apart b m x same (or_parts ((m == b.m) && xid_eq x b.xid) false quiet).0
+by_call (calling.Heur x commits) m f b o e same quiet = search (arith, op_native, apart, or_parts)
 by_call (calling.Add k d) m f b o e same quiet = ap (names b.xid) (sym (op_native (rm.Add k d) f o e))
 by_call calling.Shut m f b o e same quiet = ap (names b.xid) (sym (op_native rm.Shut f o e))
 by_call (calling.Complete h) m f b o e same quiet = absurd (cc)
@@ -122,8 +120,7 @@ recovers_leave : (asking : Asking Part) (m : ℕ) (mode : Mode) (place : ℕ) (o
     → Recovers asking m mode place old z xids new z' xids' r → z'.left ≡ z.left
 recovers_leave asking m mode place old z xids new z' xids' r (unreached why asked never same kept_so) = ap (λ (y : ScanView). y.left) same
 recovers_leave asking m mode place old z xids new z' xids' r (stopped mid found why asked scans same writes) = ap (λ (y : ScanView). y.left) same
-recovers_leave asking m mode place old z xids new z' xids' r (found_some mid found looked asked scans stands writes) =
-    ap (λ (y : ScanView). y.left) stands ∙ stands_left z m _
+recovers_leave asking m mode place old z xids new z' xids' r (found_some mid found looked asked scans stands writes) = search (arith, stands_left)
 
 from_leave : (asking : Asking Part) (start : Option ℕ) (m : ℕ) (mode : Mode) (old : Part) (z : ScanView) (xids : List XidName) (new : Part) (z' : ScanView) (xids' : List XidName) (r : Result ℕ Code)
     → RecoversFrom asking start m mode old z xids new z' xids' r → z'.left ≡ z.left
@@ -172,22 +169,8 @@ module _ (settled : Settling) (b : Branch) where
   -- what doesn't name the branch asks its manager for nothing that does
   task_unnamed : (z : ScanView) (x : ScriptAction) → names_it z b x ≡ false → TaskSo (Unnamed b.xid) (λ x. refl) b.m z x
   task_unnamed z (action.Call q) quiet = λ here o asks. by_call q.call q.manager q.flags b o asks here quiet
-  task_unnamed z (action.CommitAll c) quiet = λ commit k d lt.
-      let x : XidName = (get_or (branches_of c) k d).xid in
-      let other : (get_or (branches_of c) k d).m ≡ b.m → xid_eq x b.xid ≡ false =
-      λ here. apart b (get_or (branches_of c) k d).m x here (none_all (λ (d : Branch). (d.m == b.m) && xid_eq d.xid b.xid) (branches_of c) quiet k d lt) in
-      record {
-        prepares = other;
-        obeys = λ here v. second_unnamed b.xid x (differs_so b.xid x (other here)) commit v;
-        forgets = λ here s. third_unnamed b.xid x (differs_so b.xid x (other here)) s;
-      }
-  task_unnamed z action.Resolve quiet = (
-    refl,
-    λ k d lt.
-        let x : XidName = get_or (left_at z b.m) k d in
-        let other : xid_eq x b.xid ≡ false = none_all (λ y. xid_eq y b.xid) (left_at z b.m) quiet k d lt in
-        (λ commit. outcome_unnamed b.xid x (differs_so b.xid x other) commit, other),
-  )
+  task_unnamed z (action.CommitAll c) quiet = search (arith, apart, none_all, second_unnamed, differs_so, third_unnamed)
+  task_unnamed z action.Resolve quiet = search (arith, none_all, outcome_unnamed, differs_so)
 
   -- a thread's scans have as left what they had at first
   abbrev Same : ScanView → Part → Type 0
@@ -211,8 +194,7 @@ module _ (settled : Settling) (b : Branch) where
   -- so lines that don't name it
   pub lines_unnamed : (z : ScanView) (first : Part) (ls : List Line) (last : Part) → Chain (TakesPart settled) first ls last → Same z first
       → All (λ l. names_it z b l.task.action ≡ false) ls → Quiet (first.entries b.m) (last.entries b.m)
-  lines_unnamed z first ls last (no_step xs end e f) same quiet =
-      adds_none (Unnamed b.xid) (first.entries b.m) (end.entries b.m) (ap (λ (p : Part). p.entries b.m) f)
+  lines_unnamed z first ls last (no_step xs end e f) same quiet = search (arith, adds_none, first.entries, end.entries)
   lines_unnamed z first ls last (one_step xs x now end before step) same quiet =
       adds_both (Unnamed b.xid) (first.entries b.m) (now.entries b.m) (end.entries b.m)
       (lines_unnamed z first xs now before same (all_left (λ (l : Line). names_it z b l.task.action ≡ false) xs (x ∷ []) quiet))

@@ -1,4 +1,5 @@
 -- All branches of a commit: what the line shows of them became of them.
+use Rattle.std.proofs.Common.{arith, rules}
 use Rattle.xa_atomicity.specs.{OnlyTheseName, OnlyTheseOrDecisionsName, AreLeftAlone, AreLeftOrDecided, EachOutcome, is_rolled_back, is_in_doubt, is_heuristic}
 use Rattle.xa_atomicity.specs.{is_left, is_read_only, KeepsItsVote, TellsTheFate, Shares}
 use Rattle.xa_atomicity.specs.Outcomes.{is_committed}
@@ -137,12 +138,10 @@ module _ (law : Tabled) (opens : (s : Settling) (m : ℕ) → IsSettled s → (T
         (voted_with (λ v. is_no v ≡ false) FatedHere bs done.votes.items done.endings.items (none_all is_no done.votes.items (unopposed_so commit)) all);
     aborted = λ aborts. no_ending_is FatedHere is_committed (λ b v e h. out_so done.commit aborts b v e h.1) bs done.votes.items done.endings.items all;
     votes = record {
-      each =
-          outcome_map FatedHere (λ b v e. KeepsItsVote s t b (length (old.entries b.m)) v e) (λ b v e h. h.0.keeps) bs done.votes.items done.endings.items all;
+      each = search (arith, outcome_map);
     };
     fates = record {
-      each =
-          outcome_map FatedHere (λ b v e. TellsTheFate s t b (length (old.entries b.m)) e) (λ b v e h. h.0.tells) bs done.votes.items done.endings.items all;
+      each = search (arith, outcome_map);
     };
   }
 
@@ -168,8 +167,7 @@ module _ (law : Tabled) (opens : (s : Settling) (m : ℕ) → IsSettled s → (T
   pub counts_by : each CountedHere → CountsAsShown s t bs old done
   counts_by all = record {
     counts = record {
-      each =
-          outcome_map CountedHere (λ b v e. Shares s t b (length (old.entries b.m)) (is_committed e)) (λ b v e h T with_T. (h.0.counted T with_T).counted) bs done.votes.items done.endings.items all;
+      each = search (arith, outcome_map);
     };
     whole = λ certain. elim (cases_Bool (done.commit)) [ inl commit ↦ all_count all commit certain | inr aborts ↦ none_counts all aborts ];
   }
@@ -202,8 +200,7 @@ module _ (law : Tabled) (opens : (s : Settling) (m : ℕ) → IsSettled s → (T
   -- what they count for
   module _ (alone : AreLeftAlone s t (branches_of c) (entered_so_far old) (entered_so_far new)) where
     pub left_or_decided : AreLeftOrDecided s t (branches_of c) (entered_so_far old) (entered_so_far new)
-    left_or_decided =
-        record { each = λ k d lt before after r place own number j e low named other. alone.each k d lt before after r place own number j e low named }
+    left_or_decided = search (arith, rules)
 
     pub counts_as_shown : CountsAsShown s t (branches_of c) old done
     counts_as_shown =
@@ -215,11 +212,8 @@ module _ (law : Tabled) (opens : (s : Settling) (m : ℕ) → IsSettled s → (T
 
 chain_steps : (settled : Settling) (first : Part) (ls : List Line) (last : Part) → Chain (TakesPart settled) first ls last
     → All (λ l. (old : Part) × (new : Part) × TakesPart settled l old new) ls
-chain_steps settled first ls last (none xs end e f) =
-    subst (All (λ l. (old : Part) × (new : Part) × TakesPart settled l old new)) (sym e) (All-nil (λ l. (old : Part) × (new : Part) × TakesPart settled l old new))
-chain_steps settled first ls last (more xs x now end before step) =
-    All-append (λ l. (old : Part) × (new : Part) × TakesPart settled l old new) xs (x ∷ []) (chain_steps settled first xs now before)
-    (All-cons (λ l. (old : Part) × (new : Part) × TakesPart settled l old new) x [] (now, end, step) (All-nil (λ l. (old : Part) × (new : Part) × TakesPart settled l old new)))
+chain_steps settled first ls last (none xs end e f) = search (arith, All-nil)
+chain_steps settled first ls last (more xs x now end before step) = search (arith, chain_steps settled first xs now before, All-append, All-cons, All-nil)
 
 pub all_one_outcome : (steps : List ScriptStep) (answers : List Told) (settled : Settling) (t : ℕ) (first : Part) (told : AreCarriedOut steps answers settled t first)
     → All ShowsOneOutcome told.lines

@@ -69,11 +69,9 @@ one_entered settled t q a old new (answered r c asks told is) o asked ok =
     let same : r ≡ o = cc in
     let code : c ≡ Done = done_is c (let e : shown (number_of c) ≡ shown (pos 0) = sym told ∙ ok in cc) in
     let m = q.manager in
-    let here : new.entries m ≡ old.entries m ++ next_entry t (old.entries m) r c ∷ [] =
-    ap (λ (x : Part). x.entries m) is ∙ at_true (m == m) (old.entries m ++ next_entry t (old.entries m) r c ∷ []) (old.entries m) (eq-eqb m m refl) in
+    let here : new.entries m ≡ old.entries m ++ next_entry t (old.entries m) r c ∷ [] = search (arith, at_true, eq-eqb, old.entries) in
     subst (λ (d : Code). HasEntry t o d (new.entries m)) code (subst (λ (r : Op). HasEntry t r c (new.entries m)) same (entered t r c (old.entries m) (new.entries m) here))
-one_entered settled t q a old new (refused c is told same) o asked ok =
-    absurd (no_refusal c (subst (λ r. IsRefusal r c) asked is) (done_is c (let e : shown (number_of c) ≡ shown (pos 0) = sym told ∙ ok in cc)))
+one_entered settled t q a old new (refused c is told same) o asked ok = search (arith, no_refusal, done_is)
 one_entered settled t q a old new (kept r c k asks low told free is) o asked ok = absurd (let e : handle_for r ≡ code_of o = sym asks ∙ asked in cc)
 one_entered settled t q a old new (lists n asks is) o asked ok = absurd (let e : listing n ≡ code_of o = sym asks ∙ asked in cc)
 one_entered settled t q a old new (completes r k c asks there code told same) o asked ok = absurd (let e : completion ≡ code_of o = sym asks ∙ asked in cc)
@@ -99,23 +97,17 @@ done_so c e = absurd (cc)
 -- its second request, to commit, was answered XA_OK
 committed_done : (s : Option Code) → yes_ending true s ≡ Committed → s ≡ Some Done
 committed_done None e = absurd (cc)
-committed_done (Some c) e =
-    by_if (λ w. w ≡ Committed → Some c ≡ Some Done) (is_done c) _ _ (λ done _. ap (λ (d : Code). Some d) (done_so c done)) (λ _.
-    by_if (λ w. w ≡ Committed → Some c ≡ Some Done) (is_rm_fail c) _ _ (λ _ e. absurd (cc)) (λ _.
-    by_if (λ w. w ≡ Committed → Some c ≡ Some Done) (is_heuristic c) _ _ (λ _ e. absurd (cc)) (λ _ e. absurd (cc)))) e
+committed_done (Some c) e = search (arith, done_so)
 
 branch_commits : (t : ℕ) (commit : Bool) (b : Branch) (v : Code) (s : Option Code) (e : Ending) (old new : List Entry)
     → AtBranch (CarriesOut t) commit b v s e old new → e ≡ Committed → HasEntry t (Commit b.xid false) Done new
 branch_commits t commit b v s e old new is told =
     let shown : is_committed (ending_of commit v s) ≡ true = ap is_committed (sym is.ends ∙ told) in
-    let voted : is_yes v ≡ true =
-    true_from_ne_false (is_yes v) (λ against. both_ways (is_committed (ending_of commit v s)) (unvoted commit v s against) shown) in
-    let commits : commit ≡ true =
-    true_from_ne_false commit (λ off. both_ways (is_committed (ending_of commit v s)) (ap (λ c. is_committed (ending_of c v s)) off ∙ uncommitted v s) shown) in
+    let voted : is_yes v ≡ true = search (arith, true_from_ne_false, both_ways) in
+    let commits : commit ≡ true = search (arith, true_from_ne_false, both_ways) in
     let heard : s ≡ Some Done = committed_done s (sym (at_true (is_yes v) _ _ voted) ∙ ap (λ c. ending_of c v s) (sym commits) ∙ sym is.ends ∙ told) in
     let op : second_op commit b.xid v ≡ Some (Commit b.xid false) = ap (λ c. second_op c b.xid v) commits ∙ at_true (is_yes v) _ None voted in
-    let obeyed : CarriesOut t is.prepared (Commit b.xid false) is.decided Done =
-    subst (λ (o : Option Op). AsksFor (CarriesOut t) o (Some Done) is.prepared is.decided) op (subst (λ (c : Option Code). AsksFor (CarriesOut t) (second_op commit b.xid v) c is.prepared is.decided) heard is.obeys) in
+    let obeyed : CarriesOut t is.prepared (Commit b.xid false) is.decided Done = search (arith, is.prepared, b.xid) in
     for_by (CarriesOut t) Any (HasEntry t (Commit b.xid false) Done) (stays_there t t (Commit b.xid false) Done) (third_op b.xid s) is.third is.decided new (any_asked (third_op b.xid s)) is.forgets
     (carried_out t (Commit b.xid false) Done is.prepared is.decided obeyed refl)
 
@@ -184,8 +176,7 @@ in_filter : {A : Type 0} (p : A → Bool) (xs : List A) (x : A) → Contains (fi
 in_filter p xs x there = All-contains (Contains xs) (filter p xs) x (All-filter p (Contains xs) xs (All-contains_itself xs)) there
 
 in_journal : (settled : Settling) (t m u : ℕ) (o : Op) (c : Code) → HasEntry u o c (entries_of t (journal settled m)) → IsInJournal settled m u o c
-in_journal settled t m u o c has =
-    (has.0, in_filter (λ (e : Entry). e.0.thread == t) (journal settled m) (entry (record { thread = u; number = has.0; op = o }) c) has.1)
+in_journal settled t m u o c has = search (arith, in_filter)
 
 -- what a commit has come to
 pub decided_so : (settled : Settling) (l : Line) (c : CommitAll TranName) (done : Outcome) (old new : Part) → ShowsCommit l c done → TakesPart settled l old new

@@ -130,8 +130,7 @@ ByRecord commit recorded v = is_yes v ≡ true → commit ≡ recorded
 
 by_record : (tran : TranName) (bs : List Branch) (log later : LogState) (known : Outcome) → record_of log tran ≡ None → IsDecidedBy tran bs log later known
     → All (ByRecord known.commit (is_recorded later tran)) known.votes.items
-by_record tran bs log later known absent is k d lt y =
-    is.decision ∙ recorded_is tran _ known.votes.items known.logged log later absent (yes_there known.votes.items k d lt y) is.logs
+by_record tran bs log later known absent is k d lt y = search (arith, recorded_is, yes_there, y, known.votes.items, known.logged)
 
 ended_fate : (commit : Bool) → told_fate (if commit then Committed else RolledBack) ≡ Some (ended_as commit)
 ended_fate true = refl
@@ -178,17 +177,10 @@ module _ (law : Tabled) (opens : (s : Settling) (m : ℕ) → IsSettled s → (T
 
   -- its vote is what was added first
   vote_is : (v : Code) (mid : List Entry) → mid ≡ old.entries b.m ++ own_entry v ∷ [] → Begins mid (new.entries b.m) → HasAgreed t b old new → v ≡ Done
-  vote_is v mid is more agreed =
-      let place : new.entries b.m ≡ old.entries b.m ++ own_entry v ∷ more.0 =
-      more.1 ∙ ap (λ l. l ++ more.0) is ∙ append_assoc (old.entries b.m) (own_entry v ∷ []) more.0 in
-      let there : slice_get (new.entries b.m) n ≡ Some (own_entry v) = next_there (new.entries b.m) (old.entries b.m) more.0 (own_entry v) (sym place) in
-      ap (λ (e : Entry). e.1) (some_same (own_entry v) (own_entry Done) (sym there ∙ agreed))
+  vote_is v mid is more agreed = search (arith, append_assoc, slice_get, next_there, some_same, more.0)
 
   none_added : new.entries b.m ≡ old.entries b.m → HasAgreed t b old new → ⊥
-  none_added same agreed =
-      let past : slice_get (new.entries b.m) n ≡ None = ap (λ l. slice_get l n) same ∙ slice_get_past (old.entries b.m) n (let z : n ≤ n = omega arith in z) in
-      let z : None ≡ Some (own_entry Done) = sym past ∙ agreed in
-      cc
+  none_added same agreed = search (arith, slice_get, slice_get_past)
 
   -- which alone was put to its manager
   record IsAlone : Type 0 where
@@ -224,10 +216,7 @@ module _ (law : Tabled) (opens : (s : Settling) (m : ℕ) → IsSettled s → (T
 
         by_vote : CarriesOut t (old.entries b.m) (Prepare b.xid) is.prepared v → v ≡ Done
         by_vote (carried entered_so) = vote_is v is.prepared entered_so (after (second_op commit b.xid v) z is.obeys) agreed
-        by_vote (withheld fails has same) =
-            let silent =
-            subst (λ (o : Option Op). AsksFor (CarriesOut t) o z is.prepared (new.entries b.m)) (ap (second_op commit b.xid) fails ∙ unasked commit) is.obeys in
-            absurd (none_added (silent.1 ∙ same) agreed)
+        by_vote (withheld fails has same) = search (arith, unasked, none_added)
 
     -- what it went through in its manager's history
     course_in : InHistory law opens s t settled commit (entered_so_far old) (entered_so_far new) b v z e
@@ -251,8 +240,7 @@ module _ (law : Tabled) (opens : (s : Settling) (m : ℕ) → IsSettled s → (T
         also : (d : HeuristicDecision) → settled_fate s b.m b.xid before ≡ decided_fate d → (U : Tables) (with_U : IsOpenedWith s b.m U)
             → IsSoOrDecided (site_of law s settled t b.m U with_U) b.xid n last only (fate b.xid before (history_of s b.m) U) (fate b.xid before (history_of s b.m) U ≡ history.InDoubt)
             → IsDecidedAfter b.xid t n U (history_of s b.m)
-        also d is_d U with_U (is_so g) =
-            absurd (let w : true ≡ false = ap is_unknown (sym g ∙ sym (with_U.fates b.xid before) ∙ is_d) ∙ decided_known d in cc)
+        also d is_d U with_U (is_so g) = search (arith, decided_known, with_U.fates)
         also d is_d U with_U (is_decided_so d' g after) = after
 
         by_first : IsSoOrDecided (site_of law s settled t b.m first.first first.opened) b.xid n last only (fate b.xid before (history_of s b.m) first.first) (fate b.xid before (history_of s b.m) first.first ≡ history.InDoubt)

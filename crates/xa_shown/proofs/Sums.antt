@@ -1,4 +1,5 @@
 -- What is shown of a key is its value at the first opening and what the journals have added to it.
+use Rattle.std.proofs.Common.{arith}
 use Rattle.xa_base.proofs.{◌≡◌, ℕ, ◌≤◌, List, map, Option, None, Some, option_map, refl, sym, ap, ◌∙◌, get_or, pos, ◌+ℤ◌, All, all_unmapped, some_same, All-map}
 use Rattle.std.specs.FinMap as finmap
 use Rattle.std.proofs.lemmas.List.Sorted.{All-permutation}
@@ -27,8 +28,7 @@ module _ (opens : (s : Settling) (m : ℕ) (T : Tables) → IsSettled s → firs
   opened_so : (s : Content) (before : List Former) (b : Beginning) (o : Opening) → Chain (Leaves s) (beginning s) before b → TellsOf s b o → (m : ℕ) → 1 ≤ m
       → m ≤ managers_of s
       → IsOpenedWith o.settled m (opened_after s (map (λ f. f.opening.settled) before) m)
-  opened_so s before b o former tells m low high =
-      opens o.settled m _ tells.agree (first_is s b.tables o.settled tells.managers m low high ∙ ap (λ T. Some T) (begins_after s before b former m low high))
+  opened_so s before b o former tells m low high = search (arith, first_is, begins_after, o.settled, tells.agree, b.tables, tells.managers)
 
   pub sums_of_shares : (s : Content) (answers : List Told) (values : List Declared) (before : List Former) (last : Opening) → IsScript s
       → Tells s answers values before last → All (IsSumOfShares s before last) values

@@ -1,4 +1,5 @@
 -- What a commit that came to no end left, by the line that shows it: it goes by the record.
+use Rattle.std.proofs.Common.{arith}
 use Rattle.xa_base.proofs.{⊎_elim, ◌≡◌, ℕ, inl, inr, Bool, true, false, ◌&&◌, List, [], Option, None, get_or, sym, refl, ap, ◌∙◌, subst, Global, Vec, ◌⊎◌, All}
 use Rattle.xa_base.proofs.{is_some, not, list_any, or-true, and_parts, list_any_none}
 use Rattle.xa_words.specs.{TranName, Death, Op}
@@ -32,8 +33,7 @@ use Rattle.xa_shown.proofs.Shown.{none_against}
 
 taken : (settled : Settling) (l : Line) (c : CommitAll TranName) (a : Answer) (old new : Part) → l.answer ≡ a → TakesPart settled l old new
     → (x : ScriptAction) → l.task.action ≡ x → Takes settled x l.task.thread a old new
-taken settled l c a old new tells takes x asks =
-    subst (λ (b : Answer). Takes settled x l.task.thread b old new) tells (subst (λ (y : ScriptAction). Takes settled y l.task.thread l.answer old new) asks takes)
+taken settled l c a old new tells takes x asks = search (arith, l.task.thread, l.answer)
 
 pub stopped_so : (settled : Settling) (l : Line) (c : CommitAll TranName) (at : Death) (known : Outcome) (old new : Part) → ShowsDeath l c at known
     → TakesPart settled l old new → StopsAt l.task.thread c at known old new
@@ -65,8 +65,7 @@ IsNoRollback op = is_rollback op ≡ false
 
 -- without a record the transaction isn't recorded
 unrecorded : (tran : TranName) (log later : LogState) → record_of log tran ≡ None → later ≡ log → is_recorded later tran ≡ true → ⊥
-unrecorded tran log later absent same on =
-    let z : false ≡ true = sym (ap (λ (l : LogState). is_some (record_of l tran)) same ∙ ap is_some absent) ∙ on in cc
+unrecorded tran log later absent same on = search (arith, is_some)
 
 module _ (tran : TranName) (bs : List Branch) (log later : LogState) (known : Outcome) (absent : record_of log tran ≡ None) where
   votes_by : IsDecidedBy tran bs log later known → is_recorded later tran ≡ false → All (NotToCommit known.commit) known.votes.items
@@ -88,15 +87,12 @@ module _ (tran : TranName) (bs : List Branch) (log later : LogState) (known : Ou
     -- where there is none, it was decided to abort, or no branch voted to commit
     pub votes_fit : (at : Death) → CameTo A U at tran bs old new log later known → is_recorded later tran ≡ false
         → All (NotToCommit known.commit) known.votes.items
-    votes_fit at far off =
-        ⊎_elim (λ (z : (known.commit ≡ false) × (later ≡ log)). λ k d lt. inl z.0) (λ (is : IsDecidedBy tran bs log later known). votes_by is off) (far_so at far)
+    votes_fit at far off = search (arith, votes_by, far_so)
 
     -- where there is one, it was decided to commit
     pub decision_so : (at : Death) → CameTo A U at tran bs old new log later known → is_recorded later tran ≡ true
         → (known.commit ≡ true) × (decision_of known.votes.items known.logged ≡ true)
-    decision_so at far on =
-        ⊎_elim (λ (z : (known.commit ≡ false) × (later ≡ log)). absurd (unrecorded tran log later absent z.1 on))
-        (λ (is : IsDecidedBy tran bs log later known). (is.decision ∙ commits_by is on, commits_by is on)) (far_so at far)
+    decision_so at far on = search (arith, unrecorded, commits_by, far_so)
 
 -- ---- endings
 

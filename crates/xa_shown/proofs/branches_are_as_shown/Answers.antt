@@ -1,3 +1,4 @@
+use Rattle.std.proofs.Common.{arith}
 use Rattle.xa_shown.proofs.Alone.{left_alone}
 use Rattle.xa_shown.proofs.Outcomes.{shown_so, counts_so}
 use Rattle.xa_telling.specs.{part_at}
@@ -5,12 +6,10 @@ use Rattle.xa_shown.proofs.Placed.{places}
 use Rattle.xa_shown.proofs.branches_are_as_shown.Goals as goal
 
 pub returns-clause-decisions : goal.returns-clause-decisions
-returns-clause-decisions c =
-    shown_so c.tables_keep_to_their_laws.ensures c.settled_journals_follow_the_tables.ensures.some
+returns-clause-decisions c = search (arith, shown_so, c.tables_keep_to_their_laws.ensures)
 
 pub returns-clause-journals : goal.returns-clause-journals
-returns-clause-journals c =
-    counts_so c.tables_keep_to_their_laws.ensures c.settled_journals_follow_the_tables.ensures.some
+returns-clause-journals c = search (arith, counts_so, c.tables_keep_to_their_laws.ensures)
 
 pub returns-clause-lines : goal.returns-clause-lines
 returns-clause-lines c = λ s b o tells commit done before l after is shows named.
