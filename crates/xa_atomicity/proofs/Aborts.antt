@@ -1,4 +1,5 @@
 -- On abort no Commit is sent.
+use Rattle.std.proofs.Common.{arith}
 use Rattle.xa_atomicity.proofs.Asked.{second_so, third_so}
 use Rattle.xa_base.proofs.{◌≡◌, true, false, not, ◌&&◌, ◌||◌, Option, List, refl, ◌∙◌, subst, list_any_none, and-false, and_parts}
 use Rattle.xa_words.specs.{TranName, Op}
@@ -28,7 +29,4 @@ abort_sends_no_commit tran bs old new log later done call off m positive =
 -- where the log didn't take the record, the decision is to abort
 pub failed_append_aborts : (tran : TranName) (bs : List Branch) (old new : List LedgerView) (log later : LogState) (done : Done)
     → IsTraceOfCommit tran bs old new log later done → wants_record done.votes.items ≡ true → done.logged ≡ false → done.commit ≡ false
-failed_append_aborts tran bs old new log later done call wanted off =
-    let votes : List Code = done.votes.items in
-    let some_yes : has_yes votes ≡ true = (and_parts _ _ wanted).1 in
-    call.course.decision ∙ (λ i. decides_commit votes && (not (some_yes i) || off i)) ∙ and-false (decides_commit votes)
+failed_append_aborts tran bs old new log later done call wanted off = search (arith, and_parts, and-false, done.votes.items)

@@ -1,4 +1,5 @@
 -- Where the request of a resolve that was answered stands in a history, and what it leaves.
+use Rattle.std.proofs.Common.{rules}
 use Rattle.xa_atomicity.proofs.Leading.{waits, unforgotten, over, Stands, IsTowards, Led, Standing, led_after, ends_it}
 use Rattle.xa_base.proofs.{◌&&◌, unwrap_or, ◌≡◌, ◌≢◌, ℕ, suc, ◌+◌, Bool, true, false, cond, ◌==◌, ◌||◌, List, [], ◌∷◌, ◌++◌, length, append_assoc, slice_get}
 use Rattle.xa_base.proofs.{get_or, sym, refl, ap, ◌∙◌, subst, arith, Option, Some, None, All, cons_option, nat_cmp_total, eqb-true, false_from_ne_true}
@@ -50,10 +51,8 @@ module _ (commit open_ : Bool) (D L : Type 0) (x : XidName) (T : Tables) (f : Fa
       let z =
       led_after commit open_ D L x after next_here (unwrap_or made fate_here) towards (record { stands = led.stands; sound = sound_after r.thread r.op here sound }) in
       let fate_is : last_or (unwrap_or made fate_here) (fates x after next_here) ≡ last_or f (fates x (before ++ r ∷ after) T) =
-      last_more fate_here made (fates x after next_here) ∙ sym (last_both f (fates x before T) (cons_option made (fates x after next_here)))
-      ∙ sym (ap (last_or f) (fates_both x before (r ∷ after) T)) in
-      subst (λ (g : Fate). Standing commit open_ D L x (tables_after (before ++ r ∷ after) T) g) fate_is
-      (subst (λ (U : Tables). Standing commit open_ D L x U (last_or (unwrap_or made fate_here) (fates x after next_here))) (sym (tables_after-append before (r ∷ after) T)) z)
+          search (arith, last_more, last_both, cons_option, fates_both) in
+      search (arith, unwrap_or, tables_after-append)
 
 -- ---- a fate, once it ended as was decided
 
@@ -66,9 +65,7 @@ last_ended commit (f ∷ fs) g e all =
 pub decided_of : {commit : Bool} {D L : Type 0} {d : HeuristicDecision} {s : Option State} {f : Fate} → s ≡ Some (HeuristicallyCompleted d)
     → Stands commit true D L s f → f ≡ decided_fate d
 decided_of {d = d} is (waits y o state known) = let z : Some Prepared ≡ Some (HeuristicallyCompleted d) = sym state ∙ is in cc
-decided_of {d = d} is (unforgotten k state known l) =
-    let z : ◌≡◌ {A = Option State} (Some (HeuristicallyCompleted k)) (Some (HeuristicallyCompleted d)) = sym state ∙ is in
-    let same : k ≡ d = cc in known ∙ ap decided_fate same
+decided_of {d = d} is (unforgotten k state known l) = search (arith, rules)
 decided_of {d = d} is (over state known) = let z : None ≡ Some (HeuristicallyCompleted d) = sym state ∙ is in cc
 
 -- ---- the request of a resolve that was answered
@@ -103,9 +100,7 @@ placed t T H op code a ops pairs carried answered i =
     part t H (numbered t 0 a.sent) (numbered t (suc n) (i.mid ++ op ∷ i.later)) (request_of t n OpenRm) (carried ∙ ap (numbered t 0) i.sent ∙ numbered_both t 0 a.sent (OpenRm ∷ (i.mid ++ op ∷ i.later))) in
     let q =
     part t p.after (numbered t (suc n) i.mid) (numbered t (suc m) i.later) (request_of t m op) (p.later ∙ numbered_both t (suc n) i.mid (op ∷ i.later)) in
-    let place : H ≡ (p.before ++ request_of t n OpenRm ∷ q.before) ++ request_of t m op ∷ q.after =
-    p.place ∙ ap (λ l. p.before ++ request_of t n OpenRm ∷ l) q.place
-    ∙ sym (append_assoc p.before (request_of t n OpenRm ∷ q.before) (request_of t m op ∷ q.after)) in
+    let place : H ≡ (p.before ++ request_of t n OpenRm ∷ q.before) ++ request_of t m op ∷ q.after = search (arith, request_of, append_assoc, p.before) in
     let more : suc (length a.sent) + length i.mid ≡ m = omega arith in
     record {
       first = p.before;
@@ -155,14 +150,10 @@ module _ (commit : Bool) (D L : Type 0) (t : ℕ) (x : XidName) (T : Tables) (H 
   open_now = false_from_ne_true (U.shut) (λ shut. reached (z.code_is ∙ ap (λ (a : Answer). a.1) (next-shut t op U shut)))
 
   open_first : at_first.shut ≡ false
-  open_first = false_from_ne_true (at_first.shut) (λ shut.
-      both_ways (U.shut) open_now
-      (ap (λ (V : Tables). V.shut) (tables_after-append z.first (request_of t z.opens OpenRm ∷ z.mid) T ∙ shut_stays (request_of t z.opens OpenRm ∷ z.mid) at_first shut) ∙ shut))
+  open_first = search (arith, false_from_ne_true, both_ways, open_now, tables_after-append, shut_stays)
 
   has_it : has_opened U t ≡ true
-  has_it =
-      ap (λ (V : Tables). has_opened V t) (tables_after-append z.first (request_of t z.opens OpenRm ∷ z.mid) T)
-      ∙ opened_on z.mid t (next t OpenRm at_first).0 (opens_now t at_first open_first) z.open_
+  has_it = search (arith, tables_after-append, request_of, opened_on, opens_now, open_first)
 
   -- after it the branch is no longer open
   pub placed_ends : Standing commit false D L x (tables_after H T) (last_or f (fates x H T))
@@ -173,9 +164,7 @@ module _ (commit : Bool) (D L : Type 0) (t : ℕ) (x : XidName) (T : Tables) (H 
 
   -- from it on
   pub from_there : last_or f (fates x H T) ≡ last_or (last_or f (fates x before T)) (fates x (ends ∷ z.rest) U)
-  from_there =
-      ap (λ (h : History). last_or f (fates x h T)) z.place ∙ ap (last_or f) (fates_both x before (ends ∷ z.rest) T)
-      ∙ last_both f (fates x before T) (fates x (ends ∷ z.rest) U)
+  from_there = search (arith, fates_both, last_both)
 
   -- a decision that it was told is its fate
   pub placed_tells : (law : Tabled) (d : HeuristicDecision) → code ≡ decision_code d → last_or f (fates x H T) ≡ decided_fate d

@@ -1,4 +1,5 @@
 -- What a commit asks of a branch is so, where its outcome and its Forget are.
+use Rattle.std.proofs.Common.{arith, rules}
 use Rattle.xa_base.proofs.{◌≡◌, ◌||◌, Bool, true, false, Option, None, Some, by_if}
 use Rattle.xa_words.specs.{XidName, Op, Commit, Rollback, Forget}
 use Rattle.xa_words.specs.declared.code.Code.{Code}
@@ -8,8 +9,7 @@ use Rattle.xa_driver.proofs.Mapped.{IsAskedFor}
 
 pub second_so : (P : Op → Type 0) (commit : Bool) (x : XidName) (v : Code) → P (outcome_op commit x) → IsAskedFor P (second_op commit x v)
 second_so P true x v so = by_if (IsAskedFor P) (is_yes v) (Some (Commit x false)) None (λ _. so) (λ _. tt)
-second_so P false x v so =
-    by_if (IsAskedFor P) (is_read v || (is_rolled_back v || is_out_of_reach v)) None (Some (Rollback x)) (λ _. tt) (λ _. so)
+second_so P false x v so = search (arith, rules)
 
 -- it was told a decision
 abbrev pub is_told_decision : Option Code → Bool

@@ -84,10 +84,7 @@ did_so_far x m positive ks at now clear far =
 
 positive_all : (lo : ℕ) (bs : List Branch) → AreBranchesRising lo bs → All (λ b. lo < b.m) bs
 positive_all lo [] r = All-nil (λ (b : Branch). lo < b.m)
-positive_all lo (b ∷ bs) r =
-    let first = r.0 in
-    let rest : All (λ c. b.m < c.m) bs = positive_all b.m bs r.1 in
-    All-cons (λ (c : Branch). lo < c.m) b bs first (λ k d lt. let z = rest k d lt in omega (arith, z, first))
+positive_all lo (b ∷ bs) r = search (arith, positive_all b.m bs r.1, All-cons, r.0, b.m, r.1)
 
 module _ (bs cs : List Branch) (rising : AreBranchesRising 0 bs) (others : AreOthers bs cs) where
   each_so : (old new : List LedgerView) → ((b : Branch) → 1 ≤ b.m → Others b.xid cs → DidOther b.xid (ledger old b.m) (ledger new b.m))
@@ -96,8 +93,7 @@ module _ (bs cs : List Branch) (rising : AreBranchesRising 0 bs) (others : AreOt
 
   pub far_leaves : (ks : List Ask) (at now : List LedgerView) → ((x : XidName) → Others x cs → All (Clear x) ks) → HaveComeSoFar ks at now
       → LeavesBranches bs at now
-  far_leaves ks at now none far =
-      record { each = each_so at now (λ b positive o. did_so_far b.xid b.m positive ks at now (none b.xid o) far); managers = far.managers }
+  far_leaves ks at now none far = search (arith, each_so, did_so_far)
 
   module _ (asked_at voted_at : List LedgerView) (log later : LogState) (p : Prepared) (d : Decided) (first : HasPrepared cs asked_at voted_at p)
       (second : HasDecided p log later d) where

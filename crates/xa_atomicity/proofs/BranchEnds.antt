@@ -1,4 +1,5 @@
 -- How a branch ends that voted to commit, over openings one after another, by what it stands at as the first of them ends.
+use Rattle.std.proofs.Common.{arith}
 use Rattle.xa_base.proofs.{ℤ, pos, ◌⊎◌, ◌≡◌, ◌≢◌, ℕ, inl, inr, ⊎_elim, Bool, true, false, if◌then◌else◌, List, [], ◌∷◌, ◌++◌, sym, ap, ◌∙◌, subst, Some, All}
 use Rattle.xa_base.proofs.{Contains, All-head, All-tail, some_same}
 use Rattle.xa_base.specs.{MOST_MANAGERS, IsUpTo}
@@ -123,9 +124,7 @@ module _ (law : Tabled) (first : (s : Settling) (m : ℕ) (T : Tables) → IsSet
     -- where it was prepared as the first opening ended, it isn't in the end
     rests_so : is_prepared (tables_left o m) b.xid ≡ true → is_prepared (tables_left (last_of o later) m) b.xid ≡ false
     rests_so prepared =
-        let unknown : is_unknown F ≡ true =
-        sym (law.kept H b.xid g T with_T.opened (law.first b.xid T)).prepared
-        ∙ ap (λ (U : Tables). is_prepared U b.xid) (sym (ends_with s m T kept_o.settled begins)) ∙ prepared in
+        let unknown : is_unknown F ≡ true = search (arith, with_T, ends_with, kept_o) in
         let z = left_in_doubt commit W L F e (at_end L).comes unknown in (last_walk (walks z.0 z.1 z.2)).1
 
     branch_ends : EndsAs commit o later b e

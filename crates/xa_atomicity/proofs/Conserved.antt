@@ -59,8 +59,7 @@ over_branches g (b ∷ bs) lo (suc n) r none beyond =
       | true ↦ λ e.
           let same : b.m ≡ lo + 1 = eqb-true b.m (lo + 1) e in
           let later : AreBranchesRising (lo + 1) bs = subst (λ k. AreBranchesRising k bs) same r.1 in
-          let others : (m : ℕ) → lo + 1 < m → has_branch_at bs m ≡ false → g m ≡ pos 0 = λ m lt f.
-          none m (omega (arith, lt)) (or_from (b.m == m) (has_branch_at bs m) (ne_eqb b.m m (λ at. omega (arith, at, same, lt))) f) in
+          let others : (m : ℕ) → lo + 1 < m → has_branch_at bs m ≡ false → g m ≡ pos 0 = search (arith, or_from, ne_eqb, b.m) in
           λ i. g (sym same i) +ℤ over_branches g bs (lo + 1) n later others (λ m lt. beyond m (omega (arith, lt))) i
       | false ↦ λ e.
           let apart = eqb-false b.m (lo + 1) e in
@@ -76,10 +75,7 @@ module _ (law : Tabled) (opens : (s : Settling) (m : ℕ) → IsSettled s → (T
     (holds : (accounts : List (List ℕ × ℕ)) (x : XidName) (h : History) → are_accounts accounts ≡ true → HoldsItsAdditions accounts x h)
     (p : Plan) (s : Settling) (settled : IsSettled s) (opens_with : (m : ℕ) → 1 ≤ m → m ≤ length p.managers.items → IsOpenedWith s m (opening (accounts_of p m))) (sound : All IsSoundManager p.managers.items) (t : ℕ) where
   sound_at : (m : ℕ) → 1 ≤ m → m ≤ length p.managers.items → are_accounts (accounts_of p m) ≡ true
-  sound_at m positive below =
-      let (plan, planned) = got p.managers.items (m - 1) (omega (arith, positive, below)) in
-      ap (λ o. are_accounts (accounts_in o)) planned
-      ∙ All-contains IsSoundManager p.managers.items plan sound (contains_at p.managers.items (m - 1) plan planned)
+  sound_at m positive below = search (arith, All-contains, contains_at)
 
   -- what the thread's requests with numbers from a to below b moved at manager m
   abbrev moved_in : ℕ → ℕ → ℕ → ℤ
@@ -113,17 +109,14 @@ module _ (law : Tabled) (opens : (s : Settling) (m : ℕ) → IsSettled s → (T
 
   -- where nothing was sent nothing was moved
   none_within : (m k : ℕ) → moved_in m k k ≡ pos 0
-  none_within m k =
-      moved_none (accounts_of p m) (is_within t k k) (history s m) (opening (accounts_of p m)) (λ j d lt. outside t k k (get_or (history s m) j d) (λ own. cases_lt (get_or (history s m) j d).number k))
+  none_within m k = search (arith, moved_none, is_within, cases_lt)
 
   -- a manager that isn't there has no accounts
   no_accounts : (m : ℕ) → length p.managers.items < m → accounts_of p m ≡ []
   no_accounts m past = ap accounts_in (slice_get_past p.managers.items (m - 1) (omega (arith, past)))
 
   no_moves : (m a b : ℕ) → length p.managers.items < m → moved_in m a b ≡ pos 0
-  no_moves m a b past =
-      ap (λ l. moved l (is_within t a b) (history s m) (opening (accounts_of p m))) (no_accounts m past)
-      ∙ moved_nothing (is_within t a b) (history s m) (opening (accounts_of p m))
+  no_moves m a b past = search (arith, is_within, no_accounts, moved_nothing)
 
   -- ---- a commit of several branches
 
@@ -144,9 +137,7 @@ module _ (law : Tabled) (opens : (s : Settling) (m : ℕ) → IsSettled s → (T
     held_is b good = holds (accounts_of p b.m) b.xid (taken_before t (count old b.m) (history s b.m)) good
 
     nothing_added : (b : Branch) → length p.managers.items < b.m → added b ≡ pos 0
-    nothing_added b past =
-        sym (held_is b (ap are_accounts (no_accounts b.m past)))
-        ∙ ap (λ l. held_by l b.xid (tables_after (taken_before t (count old b.m) (history s b.m)) (opening (accounts_of p b.m)))) (no_accounts b.m past)
+    nothing_added b past = search (arith, held_is, no_accounts, b.m, b.xid)
 
     either_none : (c : Bool) (v : ℤ) → v ≡ pos 0 → pos 0 ≡ (if c then v else pos 0)
     either_none true v e = sym e
@@ -306,5 +297,4 @@ no_doubt f (b ∷ bs) (e ∷ es) none =
 
 pub decided_law : (p : Plan) (s : Settling) (t : ℕ) (old : List LedgerView) (bs : List Branch) (d : Done) → list_any is_in_doubt d.endings.items ≡ false
     → held_in_doubt p s t old bs d ≡ pos 0
-decided_law p s t old bs d none =
-    elim (has_committed d) as (λ c. (if c then total_in_doubt (added_before p s t old) bs d.endings.items else pos 0) ≡ pos 0) [ true ↦ no_doubt (added_before p s t old) bs d.endings.items none | false ↦ refl ]
+decided_law p s t old bs d none = search (arith, no_doubt, d.endings.items)

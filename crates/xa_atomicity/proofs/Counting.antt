@@ -1,4 +1,5 @@
 -- What the additions of a branch that voted to commit count for, over openings one after another.
+use Rattle.std.proofs.Common.{arith}
 use Rattle.xa_base.proofs.{◌≡◌, ℕ, Bool, true, false, if◌then◌else◌, List, [], ◌∷◌, ◌++◌, sym, refl, ap, ◌∙◌, subst, Option, Some, All, All-head, All-tail}
 use Rattle.xa_base.proofs.{all_left}
 use Rattle.xa_base.specs.{MOST_MANAGERS, IsUpTo}
@@ -48,11 +49,7 @@ ending_so commit W L s f e (leaves why left st) known = by_standing st
 pub counts_so : (commit : Bool) (W L : Type 0) (s : Option State) (f through : Fate) (e : Ending) (after : Bool) → Comes commit W L s f e
     → (is_unknown f ≡ true → after ≡ is_committed through)
     → commits_or after (history.InDoubt ∷ once f) ≡ is_committed (if is_unknown f then through else f)
-counts_so commit W L s f through e after comes later =
-    elim (is_unknown f) as (λ b. is_unknown f ≡ b → commits_or after (if b then [] else f ∷ []) ≡ is_committed (if b then through else f)) [
-      | true ↦ λ unknown. later unknown
-      | false ↦ λ known. ap (λ o. or_later o after) (ending_so commit W L s f e comes known)
-    ] refl
+counts_so commit W L s f through e after comes later = search (arith, commits_or, ending_so)
 
 -- ---- through the later openings
 
@@ -125,7 +122,6 @@ module _ (law : Tabled) (first : (s : Settling) (m : ℕ) (T : Tables) → IsSet
       let with_T1 : IsOpenedWith p.settled m T1 = first p.settled m T1 w.0.kept.settled w.0.begins in
       let towards_accepted : All (λ (r : Request). IsTowards commit L x r.op) (accepted H1) =
       all_left (λ (r : Request). IsTowards commit L x r.op) (accepted H1) (first_shut H1 ++ late H1) (subst (All (λ (r : Request). IsTowards commit L x r.op)) (parted H1) w.0.towards) in
-      let all : All (IsEnded commit) (fates x (accepted H1) T1) =
-      led_fates commit true D L x (accepted H1) T1 g towards_accepted (stands_first law first commit D L m up x p T1 g w.0) in
+      let all : All (IsEnded commit) (fates x (accepted H1) T1) = search (arith, led_fates, stands_first) in
       let rest : Through ps (settled_fate p.settled m x g) (tables_after H1 T1) = walk_counts ps (tables_after H1 T1) (settled_fate p.settled m x g) w.1 in
       (waiting p ps f g T T1 refl refl all (with_T1.fates x g) rest, done p ps f g T T1 refl refl all (with_T1.fates x g) rest)

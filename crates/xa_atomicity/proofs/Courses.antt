@@ -1,4 +1,5 @@
 -- The courses that a branch of a commit may take, by the places of its requests in its manager's settled history.
+use Rattle.std.proofs.Common.{rules}
 use Rattle.xa_atomicity.proofs.Sites.{asks, withholds, Site, StandsIn, Sent, AsksIn, only_op, Second}
 use Rattle.xa_base.proofs.{cases_lt, cases_Bool, ◌≤◌, ⊎_elim, get_or, ◌≡◌, ℕ, ◌∷◌, ◌++◌, suc, ◌+◌, ◌<◌, Bool, true, false, ◌||◌, if◌then◌else◌, sym, refl, ap}
 use Rattle.xa_base.proofs.{◌∙◌, subst, arith, Option, Some, None, inl, inr, ◌⊎◌, All, or-true, all_after, by_if, at_false, at_true}
@@ -140,9 +141,7 @@ module _ {t : ℕ} {T : Tables} {H : History} (s : Site t T H) (x : XidName) (ol
   module _ (op : Op) (c : Code) (two : Sent) (number : two.number ≡ suc (suc n)) (second : StandsIn t (suc n) op c T H) where
     -- nothing was
     no_third : new ≡ two → Sends s x n last vote op c
-    no_third is =
-        let long : last ≡ suc (suc n) = ap (λ (z : Sent). z.number) is ∙ number in
-        record { first = first; second = second; more = omega (arith, long); forgets = λ k d lt own up less. absurd (omega (arith, up, less, long)) }
+    no_third is = search (arith, rules)
 
     -- one was
     a_third : (d : Code) → StandsIn t two.number (Forget x) d T H → new.number ≡ suc two.number → Sends s x n last vote op c
@@ -177,10 +176,7 @@ module _ {t : ℕ} {T : Tables} {H : History} (s : Site t T H) (x : XidName) (ol
   module _ (hears : old.shut ≡ true → vote ≡ RmFail) where
     -- a yes vote: the manager wasn't heard to be shut
     open_still : is_yes vote ≡ true → (old.shut || is_rm_fail vote) ≡ true → ⊥
-    open_still y e = elim (cases_Bool (old.shut)) [
-      | inl shut ↦ let z : false ≡ true = sym (ap is_yes (hears shut)) ∙ y in cc
-      | inr not_shut ↦ let z : false ≡ true = (λ i. sym not_shut i || is_rm_fail (sym (yes_is vote y) i)) ∙ e in cc
-    ]
+    open_still y e = search (arith, cases_Bool, yes_is)
 
     agrees : (commit : Bool) (second : Option Code) → is_yes vote ≡ true → Goes (Some (if commit then Commit x false else Rollback x)) second
         → Ends commit (yes_ending commit second)
@@ -201,8 +197,7 @@ module _ {t : ℕ} {T : Tables} {H : History} (s : Site t T H) (x : XidName) (ol
     still_there true second y r k o g =
         let g' : Goes None second = subst (λ (p : Option Op). Goes p second) (at_false (is_yes vote) _ None y) g in
         subst (λ z. Ends true (no_ending vote z)) (sym g'.obeys.0) (Stays vote y (sends_one (alone second g')))
-    still_there false second y r k o g =
-        refuses false second y r (subst (λ (p : Option Op). Goes p second) (at_false (is_read vote || (is_rolled_back vote || is_out_of_reach vote)) None _ (λ i. r i || (k i || o i))) g)
+    still_there false second y r k o g = search (arith, refuses, at_false)
 
     sent_course : (commit : Bool) (second : Option Code) → Goes (second_op commit x vote) second → Ends commit (ending_of commit vote second)
     sent_course commit second g =
@@ -234,10 +229,8 @@ module _ {t : ℕ} {T : Tables} {H : History} (s : Site t T H) (x : XidName) (co
 -- in a whole commit, or where nobody told it to forget
 pub course_of : {t : ℕ} {T : Tables} {H : History} (s : Site t T H) (b : Branch) (commit : Bool) (vote : Code) (second : Option Code) (ending : Ending) (old new : Sent)
     → AtBranch (AsksIn t T H) commit b vote second ending old new → Course s b.xid old.number new.number vote commit ending
-course_of s b commit vote second ending old new is =
-    subst (Course s b.xid old.number new.number vote commit) (sym is.ends) (course_by s b.xid commit vote second old is.prepared is.decided new is.obeys (inr (is.third, is.forgets)) is.prepares)
+course_of s b commit vote second ending old new is = search (arith, course_by, b.xid, old.number, new.number, is.prepared, is.decided, is.obeys)
 
 pub course_obeyed : {t : ℕ} {T : Tables} {H : History} (s : Site t T H) (b : Branch) (commit : Bool) (vote : Code) (second : Option Code) (ending : Ending) (old new : Sent)
     → VotesAndObeys (AsksIn t T H) commit b vote second ending old new → Course s b.xid old.number new.number vote commit ending
-course_obeyed s b commit vote second ending old new is =
-    subst (Course s b.xid old.number new.number vote commit) (sym is.ends) (course_by s b.xid commit vote second old is.prepared new new is.obeys (inl refl) is.prepares)
+course_obeyed s b commit vote second ending old new is = search (arith, course_by, b.xid, old.number, new.number, is.prepared, is.obeys)

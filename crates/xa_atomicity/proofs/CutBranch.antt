@@ -1,4 +1,5 @@
 -- What a branch stands at as the opening ends in which its commit was cut short.
+use Rattle.std.proofs.Common.{rules}
 use Rattle.xa_atomicity.proofs.CutVotes.{vote_there, HasVoted, ended_voted, first_is, forget_sends, other_sends, prepare_sent, told_voted}
 use Rattle.xa_atomicity.proofs.Voting.{ends, leaves, tells, AtEnd, Comes, once, tells_so, told_decided}
 use Rattle.xa_atomicity.proofs.Leading.{waits, unforgotten, over, IsTowards, Stands, ends_towards}
@@ -85,9 +86,7 @@ asked_only commit L b a a' z first = begun z.asks
 -- it was asked, so the manager wasn't learnt to be shut
 pub open_so : (commit : Bool) (L : Type 0) (b : Branch) (v : Code) (a a' : LedgerView) → HasVoted (IsTowards commit L b.xid) b v a a'
     → slice_get a'.sent (length a.sent) ≡ Some (Prepare b.xid) → learnt_shut a ≡ false
-open_so commit L b v a a' h first =
-    false_from_ne_true (learnt_shut a) (λ shut.
-    unprepared commit L b.xid a a' (subst (λ (l : LedgerView). Sends (IsTowards commit L b.xid) l a') (at_true (learnt_shut a) _ _ shut) h.rest) first)
+open_so commit L b v a a' h first = search (arith, false_from_ne_true, unprepared, at_true, b.xid)
 
 pub voted_only : (commit : Bool) (L : Type 0) (b : Branch) (v : Code) (a a' : LedgerView) → HasVoted (IsTowards commit L b.xid) b v a a' → learnt_shut a ≡ false
     → HasSentOnly commit L b.xid a a'
@@ -116,8 +115,7 @@ told_voted_so commit L b v a a' = told_voted (IsTowards commit L b.xid) commit b
 
 pub ended_voted_so : (commit : Bool) (L : Type 0) (b : Branch) (v : Code) (s : Option Code) (a a' : LedgerView) → (is_told_decision s ≡ true → L)
     → IsEnded commit b v s a a' → HasVoted (IsTowards commit L b.xid) b v a a'
-ended_voted_so commit L b v s a a' may =
-    ended_voted (IsTowards commit L b.xid) commit b v a a' (other_towards commit L b.xid) (second_towards commit L b.xid v) s (third_towards commit L b.xid s may)
+ended_voted_so commit L b v s a a' may = search (arith, ended_voted, other_towards, second_towards, third_towards, b.xid)
 
 -- The second request of a branch was sent after others, and was told a code.
 pub record WasTold (commit : Bool) (x : XidName) (c : Code) (a a' : LedgerView) : Type 0 where
@@ -136,22 +134,17 @@ was_told commit b v c a a' z open_ agreed decided =
     let Q : Op → Type 0 = IsTowards commit (Unit {0}) x in
     let wanted : second_op commit x v ≡ Some op = ap (second_op commit x) agreed ∙ yes_wanted commit x in
     let refused : learnt_shut z.start ≡ true → c ≡ RmFail = subst (λ o. IsAnswered z.start o (Some c)) wanted z.seconded in
-    let open_now : learnt_shut z.start ≡ false =
-    false_from_ne_true (learnt_shut z.start) (λ shut. both_ways (is_decided c) (ap is_decided (refused shut)) decided) in
+    let open_now : learnt_shut z.start ≡ false = search (arith, false_from_ne_true, both_ways) in
     let two : LedgerView = with_collected (with_sent z.start op) (length z.start.sent) c in
-    let is_two : asked z.start (second_op commit x v) (Some c) ≡ two =
-    ap (λ o. asked z.start o (Some c)) wanted ∙ at_false (learnt_shut z.start) _ _ open_now in
+    let is_two : asked z.start (second_op commit x v) (Some c) ≡ two = search (arith, rules) in
     let last : Sends Q two a' =
     subst (λ (l : LedgerView). Sends Q l a') is_two (forget_sends Q commit b v a a' (other_towards commit (Unit {0}) x) (second_towards commit (Unit {0}) x v) (Some c) (third_towards commit (Unit {0}) x (Some c) (λ _. tt)) z) in
-    let first : z.start.sent ≡ a.sent ++ Prepare x ∷ z.between.more =
-    z.between.sent ∙ ap (λ (l : LedgerView). l.sent ++ z.between.more) (first_is b v a open_) ∙ append_assoc a.sent (Prepare x ∷ []) z.between.more in
-    let number : length z.start.sent ≡ suc (length a.sent) + length z.between.more =
-    ap (λ l. length l) first ∙ (let e = length-append a.sent (Prepare x ∷ z.between.more) in omega (arith, e)) in
+    let first : z.start.sent ≡ a.sent ++ Prepare x ∷ z.between.more = search (arith, first_is, append_assoc, a.sent) in
+    let number : length z.start.sent ≡ suc (length a.sent) + length z.between.more = search (arith, length-append, a.sent) in
     record {
       gap = z.between.more;
       rest = last.more;
-      sent = last.sent ∙ append_assoc z.start.sent (op ∷ []) last.more ∙ ap (λ l. l ++ op ∷ last.more) first
-          ∙ append_assoc a.sent (Prepare x ∷ z.between.more) (op ∷ last.more);
+      sent = search (arith, append_assoc, z.start.sent, a.sent);
       all = All-append Q z.between.more (op ∷ last.more) (λ k d lt. other_towards commit (Unit {0}) x (get_or z.between.more k d) (z.between.others k d lt)) (All-cons Q op last.more (ends_towards commit (Unit {0}) x x) last.all);
       earlier = z.start.collected;
       collected = subst (λ k. Begins (z.start.collected ++ (k, c) ∷ []) a'.collected) number last.collected;
@@ -228,9 +221,7 @@ module _ {t : ℕ} {T : Tables} {H : History} (s : Site t T H) (x : XidName) (a 
     second : StandsIn t k op c T H
     second =
         let Q : ℕ × Code → Type 0 = λ p. slice_get (answers t (coded H T)) p.0 ≡ Some p in
-        let sends : s.ops ≡ (a.sent ++ P ∷ z.gap) ++ op ∷ (z.rest ++ grown.0) =
-        grown.1 ∙ ap (λ l. l ++ grown.0) (z.sent ∙ sym (append_assoc a.sent (P ∷ z.gap) (op ∷ z.rest)))
-        ∙ append_assoc (a.sent ++ P ∷ z.gap) (op ∷ z.rest) grown.0 in
+        let sends : s.ops ≡ (a.sent ++ P ∷ z.gap) ++ op ∷ (z.rest ++ grown.0) = search (arith, append_assoc) in
         let many : length (a.sent ++ P ∷ z.gap) ≡ k = let e = length-append a.sent (P ∷ z.gap) in omega (arith, e) in
         let all = begins_on (z.earlier ++ (k, c) ∷ []) a'.collected pairs z.collected begins in
         stands_by s k op c ((λ i. slice_get (sends i) (sym many i)) ∙ at_seam (a.sent ++ P ∷ z.gap) op (z.rest ++ grown.0)) (all_mid Q z.earlier all.0 (k, c) (subst (All Q) (all.1 ∙ append_assoc z.earlier ((k, c) ∷ []) all.0) answered))
@@ -255,10 +246,7 @@ module _ {t : ℕ} {T : Tables} {H : History} (s : Site t T H) (x : XidName) (a 
           (record { stands = unforgotten d is_told.state refl (inl refl); sound = run_sound second.before T (opening_sound T s.opening) })).0 (is_decided_so (decided_fate d) d refl)
 
       told_fate_is : (g : Fate) → IsFateOf x g T → fate x g H T ≡ decided_fate d
-      told_fate_is g fits =
-          s.law.leaves H x g T
-          ∙ ap (last_or g) (ap (λ (h : History). fates x h T) second.place ∙ fates_both x second.before rest T ∙ ap (λ l. fates x second.before T ++ l) silent ∙ append-nil (fates x second.before T))
-          ∙ sym (s.law.leaves second.before x g T) ∙ (s.law.kept second.before x g T s.opening fits).decided d is_told.state
+      told_fate_is g fits = search (arith, second, fates_both, silent, append-nil, is_told)
 
     -- and its ending tells so
     pub told_end : is_decided c ≡ true → (L : Type 0) (g : Fate) → IsFateOf x g T → AtEnd commit (Unit {0}) L x (fate x g H T) H T (yes_ending commit (Some c))

@@ -1,4 +1,5 @@
 -- What a commit sent that was cut short: by the record no Commit, or no Rollback.
+use Rattle.std.proofs.Common.{arith}
 use Rattle.xa_base.proofs.{All-contains, All-head, All-tail, ◌&&◌, is_some, ◌⊎◌, ◌≡◌, ℕ, ◌≤◌, Bool, true, false, ◌==◌, ◌||◌, List, [], ◌∷◌, map, get_or, inl}
 use Rattle.xa_base.proofs.{inr, sym, refl, ap, ◌∙◌, subst, Some, None, All, eqb-true, list_any_none, all_unmapped, by_if, by_bool}
 use Rattle.xa_atomicity.proofs.CutVotes.{CameAt, IsVoteOf, each_came, at_asking, at_forgetting, at_telling, HasVoted, begun_sends, ended_voted, other_sends}
@@ -94,14 +95,11 @@ module _ (tran : TranName) (log later : LogState) (absent : record_of log tran �
     (logs : Logs tran managers votes logged log later) where
   -- where there is no record, it was decided to abort, or no branch voted to commit
   pub undecided_so : is_recorded later tran ≡ false → All (λ v. (decision_of votes logged ≡ false) ⊎ (is_yes v ≡ false)) votes
-  undecided_so off =
-      by_bool (λ _. All (NotToCommit (decision_of votes logged)) votes) (has_yes votes)
-      (λ some j d lt. inl (recorded_is tran managers votes logged log later absent some logs ∙ off)) (λ none j d lt. inr (none_all is_yes votes none j d lt))
+  undecided_so off = search (arith, recorded_is, logs, none_all)
 
   -- where there is one, it was decided to commit
   pub decided_so : is_recorded later tran ≡ true → decision_of votes logged ≡ true
-  decided_so on =
-      true_from_ne_false (decision_of votes logged) (λ off. both_ways (is_recorded later tran) (ap is_some (none_on_abort tran managers votes logged log later absent logs off)) on)
+  decided_so on = search (arith, true_from_ne_false, both_ways, is_some, none_on_abort, logs)
 
 module _ (bs : List Branch) (desk : DeskView) (new : List LedgerView) (log later : LogState) (es : List Ending) (k : IsCut bs desk new log later es)
     (t : TranName) (of_t : IsTranOf bs t) where

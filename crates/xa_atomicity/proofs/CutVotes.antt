@@ -78,8 +78,7 @@ first_is b v a open_ = at_false (learnt_shut a) _ _ open_
 -- its Prepare was sent, unless the manager is learnt to be shut
 pub prepare_sent : (P : Op → Type 0) (b : Branch) (v : Code) (a a' : LedgerView) → learnt_shut a ≡ false → (h : HasVoted P b v a a')
     → a'.sent ≡ a.sent ++ Prepare b.xid ∷ h.rest.more
-prepare_sent P b v a a' open_ h =
-    h.rest.sent ∙ ap (λ (l : LedgerView). l.sent ++ h.rest.more) (first_is b v a open_) ∙ append_assoc a.sent (Prepare b.xid ∷ []) h.rest.more
+prepare_sent P b v a a' open_ h = search (arith, first_is, append_assoc, a.sent)
 
 pub prepare_there : (P : Op → Type 0) (b : Branch) (v : Code) (a a' : LedgerView) → learnt_shut a ≡ false → HasVoted P b v a a'
     → slice_get a'.sent (length a.sent) ≡ Some (Prepare b.xid)
@@ -89,8 +88,7 @@ prepare_there P b v a a' open_ h = ap (λ l. slice_get l (length a.sent)) (prepa
 pub vote_there : (P : Op → Type 0) (b : Branch) (v : Code) (a a' : LedgerView) (pairs : List (ℕ × Code)) → learnt_shut a ≡ false → HasVoted P b v a a'
     → Begins a'.collected pairs → Contains pairs (length a.sent, v)
 vote_there P b v a a' pairs open_ h begins =
-    let took : Begins (a.collected ++ (length a.sent, v) ∷ []) a'.collected =
-    subst (λ (l : LedgerView). Begins l.collected a'.collected) (first_is b v a open_) h.rest.collected in
+    let took : Begins (a.collected ++ (length a.sent, v) ∷ []) a'.collected = search (arith, first_is) in
     let all = begins_on (a.collected ++ (length a.sent, v) ∷ []) a'.collected pairs took begins in
     subst (λ (l : List (ℕ × Code)). Contains l (length a.sent, v)) (sym (all.1 ∙ append_assoc a.collected ((length a.sent, v) ∷ []) all.0))
     (Contains-append_right a.collected ((length a.sent, v) ∷ all.0) (length a.sent, v) (zero, omega arith, refl))
@@ -116,8 +114,7 @@ Votes old new b v = HasVoted Any b v (ledger old b.m) (ledger new b.m)
 
 told_votes : (commit : Bool) (old new : List LedgerView) (bs : List Branch) (vs : List Code)
     → EachVote (λ b v. IsTold commit b v (ledger old b.m) (ledger new b.m)) bs vs → EachVote (Votes old new) bs vs
-told_votes commit old new =
-    vote_map (λ b v. IsTold commit b v (ledger old b.m) (ledger new b.m)) (Votes old new) (λ b v z. told_voted Any commit b v (ledger old b.m) (ledger new b.m) (λ op _. tt) (any_asked (second_op commit b.xid v)) z)
+told_votes commit old new = search (arith, vote_map, told_voted, any_asked)
 
 abbrev pub Ended : Bool → List LedgerView → List LedgerView → Branch → Code → Option Code → Ending → Type 0
 Ended commit old new b v s e = IsEnded commit b v s (ledger old b.m) (ledger new b.m) × (e ≡ ending_of commit v s)
@@ -129,12 +126,7 @@ pub known_each : (P : Branch → Code → Option Code → Ending → Type 0) (A 
     → EachBranch (λ b v z e. P b v z e × (known b.m ≡ e) × (is_yes v ≡ true → A)) bs vs zs es
 known_each P A known lo [] [] [] [] rising same some h = tt
 known_each P A known lo (b ∷ bs) (v ∷ vs) (z ∷ zs) (e ∷ es) rising same some h =
-    let lower = rising.0 in (
-      (h.0, sym (same b.m lower) ∙ ap (λ c. unwrap_or (if c then Some e else ending_at b.m bs es) InDoubt) (eq-eqb b.m b.m refl), λ y. some (ap (λ c. c || has_yes vs) y)),
-      known_each P A known b.m bs vs zs es rising.1
-          (λ n above. ap (λ c. unwrap_or (if c then Some e else ending_at n bs es) InDoubt) (sym (ne_eqb b.m n (λ q. absurd (omega (arith, q, above))))) ∙ same n (omega (arith, lower, above)))
-          (λ y. some (ap (λ c. is_yes v || c) y ∙ or-true (is_yes v))) h.1,
-    )
+    search (arith, known_each P A known b.m bs vs zs es rising.1, unwrap_or, eq-eqb, ne_eqb, or-true, rising.0, b.m)
 known_each P A known lo bs vs zs es rising same some h = absurd h
 
 -- ---- one branch, by how far the commit came
@@ -227,9 +219,7 @@ finished_law bs desk new log later d made = record {
 pub none_of : (P : Branch → Code → Type 0) (t : TranName) (m : ℕ) → ((b : Branch) (v : Code) → tran_of b.xid ≡ t → b.m ≡ m → P b v → is_yes v ≡ false)
     → (bs : List Branch) (vs : List Code) → IsTranOf bs t → EachVote P bs vs → voted_yes m bs vs ≡ false
 none_of P t m against [] [] tran h = refl
-none_of P t m against (b ∷ bs) (v ∷ vs) tran h =
-    or_from ((b.m == m) && is_yes v) (voted_yes m bs vs) (by_bool (λ c. (c && is_yes v) ≡ false) (b.m == m) (λ same. against b v tran.0 (eqb-true b.m m same) h.0) (λ _. refl))
-    (none_of P t m against bs vs tran.1 h.1)
+none_of P t m against (b ∷ bs) (v ∷ vs) tran h = search (arith, none_of P t m against bs vs tran.1 h.1, or_from, eqb-true, tran.0, b.m, tran.1)
 none_of P t m against bs vs tran h = absurd h
 
 -- where the desk has learnt that the manager is shut

@@ -59,9 +59,7 @@ module _ (old new : List LedgerView) where
 
   all_asked : (bs : List Branch) (vs : List Code) → HaveAsked AsksLedger PutsLedger bs vs (ledger old) (ledger new) → All Asked bs
   all_asked [] vs h = All-nil Asked
-  all_asked (b ∷ bs) [] h =
-      All-cons Asked b bs (record { left = ledger new b.m; asks = puts_begun (ledger old b.m) (ledger new b.m) _ h.0; after = did_nothing b.xid (ledger new b.m) })
-      (all_asked bs [] h.1)
+  all_asked (b ∷ bs) [] h = search (arith, all_asked bs, All-cons, puts_begun, did_nothing, b.xid)
   all_asked (b ∷ bs) (v ∷ vs) h =
       All-cons Asked b bs (record { left = ledger new b.m; asks = collected (Some v) h.0; after = did_nothing b.xid (ledger new b.m) }) (all_asked bs vs h.1)
 
@@ -92,16 +90,14 @@ module _ (old new : List LedgerView) where
       → EachBranch (λ b v s e. VotesAndObeys AsksLedger commit b v s e (ledger old b.m) (ledger new b.m)) bs vs ss es
       → EachBranch (Ended commit old new) bs vs ss es
   all_ended commit [] [] [] [] h = tt
-  all_ended commit (b ∷ bs) (v ∷ vs) (s ∷ ss) (e ∷ es) h =
-      ((obeys_ended commit b v s e (ledger old b.m) (ledger new b.m) h.0, h.0.ends), all_ended commit bs vs ss es h.1)
+  all_ended commit (b ∷ bs) (v ∷ vs) (s ∷ ss) (e ∷ es) h = search (arith, all_ended commit bs vs ss es h.1, obeys_ended)
   all_ended commit bs vs ss es h = absurd h
 
 -- ---- the death
 
 came_so_far : (at : Death) (tran : TranName) (bs : List Branch) (old new : List LedgerView) (log later : LogState) (known : Done)
     → Dies AsksLedger PutsLedger at tran bs (ledger old) (ledger new) log later known → CameSoFar tran bs old new log later known.endings.items
-came_so_far (death.Preparing k) tran bs old new log later known d =
-    asking d.far.unlogged d.far.endings (all_asked old new bs known.votes.items d.far.asked)
+came_so_far (death.Preparing k) tran bs old new log later known d = search (arith, all_asked, d.far.unlogged, d.far.endings, known.votes.items)
 came_so_far death.Prepared tran bs old new log later known d = asking d.far.unlogged d.far.endings (all_asked old new bs known.votes.items d.far.asked)
 came_so_far death.Decided tran bs old new log later known d =
     telling known.votes.items known.logged d.far.decided.logs d.far.endings

@@ -1,4 +1,5 @@
 -- How a branch ends, by its fate at the end of the first opening and through the later ones.
+use Rattle.std.proofs.Common.{arith}
 use Rattle.xa_base.proofs.{some_same, ◌⊎◌, ◌≡◌, inl, inr, ⊎_elim, Bool, true, false, if◌then◌else◌, sym, refl, ap, ◌∙◌, subst, Option, Some, at_false, at_true}
 use Rattle.xa_atomicity.proofs.Voting.{ends, tells, leaves, Comes}
 use Rattle.xa_atomicity.proofs.Leading.{waits, unforgotten, over, IsOver, Stands}
@@ -105,14 +106,10 @@ module _ (commit : Bool) (L : Type 0) (Listed : HeuristicDecision → Type 0) (f
   now known end = subst End (sym (at_false (is_unknown f) later f known)) end
 
   unknown_ends : is_unknown f ≡ true → Through → End at_last
-  unknown_ends unknown w =
-      subst End (sym (at_true (is_unknown f) later f unknown))
-      (⊎_elim (λ (z : (f ≡ history.InDoubt) × (later ≡ ended_as commit)). inl z.1) (λ (z : (d : HeuristicDecision) × ((later ≡ decided_fate d) × L)). inr (z.0, (z.1.0, inr (w.which z.0 z.1.0 z.1.1)))) w.over_then)
+  unknown_ends unknown w = search (arith, at_true, w.which)
 
   decided_listed : (d : HeuristicDecision) → f ≡ decided_fate d → Through → Listed d
-  decided_listed d g w =
-      ⊎_elim (λ (z : (f ≡ history.InDoubt) × (later ≡ ended_as commit)). let no_doubt : true ≡ false = sym (ap is_unknown z.0) ∙ is_decided_so f d g in cc)
-      (λ (z : (k : HeuristicDecision) × ((later ≡ decided_fate k) × L)). w.which d (w.after d g) z.1.1) w.over_then
+  decided_listed d g w = search (arith, is_decided_so, w.which, w.after)
 
   left_end : {s : Option State} → is_left_in s ≡ true → Stands commit true (f ≡ history.InDoubt) L s f → Through → End at_last
   left_end left (waits y open_ state g) w = unknown_ends (ap is_unknown g) w

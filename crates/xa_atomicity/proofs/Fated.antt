@@ -1,4 +1,5 @@
 -- What became of a branch that nobody else named, but for heuristic decisions, over the settled history of its manager.
+use Rattle.std.proofs.Common.{rules}
 use Rattle.xa_atomicity.proofs.Courses.{Unreached, Reads, Breaks, Stays, Agrees, Refuses, yes_is, read_is, Sends, SendsOne, Course, rest_forgets}
 use Rattle.xa_atomicity.specs.{OnlyTheseName, IsBetween, OnlyTheseOrDecisionsName, IsAfterShut, IsDecidedAfter, told_fate, is_left, is_in_doubt, is_heuristic}
 use Rattle.xa_base.proofs.{all_mid, all_left, all_after, some_same, by_bool, by_if, at_true, ◌⊎◌, ◌≡◌, ◌≢◌, ℕ, suc, ◌+◌, ◌<◌, inl, inr, Bool, true, false, ◌||◌}
@@ -94,20 +95,7 @@ decided_in t n x T H before after place g h split heur d made =
     let named = named_by x p.request.op _ (decided_fate d) p.fate_here in
     let Q : Request → Type 0 = λ q. names x q.op ≡ true → is_heur q.op ≡ true in
     let by_itself = all_mid Q p.before p.after p.request (subst (All Q) p.place heur) named in
-    record {
-      before = before;
-      request = request_of t n (Prepare x);
-      between = p.before;
-      decision = p.request;
-      after = p.after ++ h;
-      place = place ∙ ap (λ l. before ++ request_of t n (Prepare x) ∷ l) (split ∙ ap (λ l. l ++ h) p.place ∙ append_assoc p.before (p.request ∷ p.after) h);
-      thread = refl;
-      number = refl;
-      named = named;
-      decides = by_itself;
-      carried_out = ap (λ (U : Tables). (next p.request.thread p.request.op U).1) (tables_after-append before (request_of t n (Prepare x) ∷ p.before) T)
-          ∙ carried_out_by x p.request.op _ (decided_fate d) by_itself p.fate_here;
-    }
+    search (arith, request_of, append_assoc, tables_after-append, carried_out_by, p.before, p.request.thread, p.request.op)
 
 -- a request for the outcome that is told a decision makes nothing of the branch
 pub outcome_quiet : (commit : Bool) (x : XidName) (d : HeuristicDecision) → fate_of x (outcome_op commit x) (decision_code d) ≡ None
@@ -142,22 +130,13 @@ module _ {t : ℕ} {T : Tables} {H : History} (site : Site t T H) (x : XidName) 
   ended before after r f place e known only_after =
       let there : Tables = (next r.thread r.op (tables_after before T)).0 in
       let so_far : fate x f0 (before ++ r ∷ []) T ≡ f = site.law.leaves (before ++ r ∷ []) x f0 T ∙ fate_is x before [] r T f0 f e refl in
-      let unprepared : is_prepared there x ≡ false =
-      ap (λ (U : Tables). is_prepared U x) (sym (tables_after-append before (r ∷ []) T)) ∙ (site.law.kept (before ++ r ∷ []) x f0 T site.opening fits).prepared
-      ∙ ap is_unknown so_far ∙ known in
+      let unprepared : is_prepared there x ≡ false = search (arith, tables_after-append) in
       site.law.leaves H x f0 T ∙ ap (λ (h : History). fate_in x f0 (coded h T)) place
       ∙ fate_is x before after r T f0 f e (site.law.undecided after x there unprepared only_after)
 
   -- a vote that doesn't agree, and an ending that tells nothing, or what became of it
   no_vote : (e : Ending) → is_yes vote ≡ false → is_in_doubt e ≡ false → ((f : Fate) → told_fate e ≡ Some f → fate x f0 H T ≡ f) → Goal e
-  no_vote e y sure told = record {
-    reached = λ agreed. let z : true ≡ false = sym agreed ∙ y in cc;
-    shut = λ agreed d. let z : true ≡ false = sym agreed ∙ y in cc;
-    decided = λ agreed d. let z : true ≡ false = sym agreed ∙ y in cc;
-    named = λ agreed d. let z : true ≡ false = sym agreed ∙ y in cc;
-    told = told;
-    doubt = λ d. let z : true ≡ false = sym d ∙ sure in cc;
-  }
+  no_vote e y sure told = search (arith, rules)
 
   -- ---- the Prepare alone was sent
 
@@ -176,8 +155,7 @@ module _ {t : ℕ} {T : Tables} {H : History} (site : Site t T H) (x : XidName) 
     voted_so : (e : Ending) (f : Fate) → is_yes vote ≡ false → is_in_doubt e ≡ false → told_fate e ≡ Some f → prepare_fate vote ≡ Some f → is_unknown f ≡ false
         → Goal e
     voted_so e f y sure named makes known =
-        let own : fate_of x P (next t P (tables_after alone.before T)).1 ≡ Some f =
-        ap (fate_of x P) (sym alone.code) ∙ at_true (xid_eq x x) _ None (xid_self x) ∙ makes in
+        let own : fate_of x P (next t P (tables_after alone.before T)).1 ≡ Some f = search (arith, at_true, xid_self) in
         no_vote e y sure (λ g is. ended alone.before alone.after (request_of t n P) f alone.place own known decides_after ∙ (let s : Some f ≡ Some g = sym named ∙ is in cc))
 
     broken_code : is_rolled_back vote ≡ true → vote ≡ RbIntegrity
@@ -226,11 +204,8 @@ module _ {t : ℕ} {T : Tables} {H : History} (site : Site t T H) (x : XidName) 
     told_by d none is =
         let U : Tables = tables_after all_before T in
         let unprepared : is_prepared (next t op U).0 x ≡ false = ap (λ (V : Tables). is_prepared V x) is.unchanged ∙ ap is_S3 is.state in
-        let quiet : fates x (S ∷ s.rest) U ≡ [] =
-        λ i. cons_option ((ap (fate_of x op) (sym code_there) ∙ none) i) (site.law.undecided s.rest x (next t op U).0 unprepared decides_rest i) in
-        site.law.leaves H x f0 T ∙ ap (λ (h : History). fate_in x f0 (coded h T)) s.place
-        ∙ ap (last_or f0) (fates_both x all_before (S ∷ s.rest) T ∙ ap (λ l. fates x all_before T ++ l) quiet ∙ append-nil (fates x all_before T))
-        ∙ sym (site.law.leaves all_before x f0 T) ∙ (site.law.kept all_before x f0 T site.opening fits).decided d is.state
+        let quiet : fates x (S ∷ s.rest) U ≡ [] = search (arith, cons_option, code_there, decides_rest) in
+        search (arith, fates_both, append-nil)
 
     -- ---- after a yes vote
 
@@ -249,23 +224,10 @@ module _ {t : ℕ} {T : Tables} {H : History} (site : Site t T H) (x : XidName) 
           ∙ (λ i. w.fates i ++ site.law.silent (S ∷ s.rest) x there closed i) ∙ append-nil (fates_when w.decision)
 
       after_shut : there.shut ≡ true → IsAfterShut t (n + 1) H
-      after_shut e = record {
-        before = all_before;
-        after = s.rest;
-        request = S;
-        place = s.place;
-        thread = refl;
-        number = let q : suc n ≡ n + 1 = omega arith in q;
-        shut = sym (site.law.shuts all_before T site.opening) ∙ ap (λ (U : Tables). U.shut) s.there_is ∙ e;
-      }
+      after_shut e = search (arith, rules)
 
       first_fate : (fs : List Fate) → fates x f.after now ≡ fs → fate x f0 H T ≡ last_or history.InDoubt fs
-      first_fate fs made =
-          let own : fate_of x P (next t P (tables_after f.before T)).1 ≡ Some history.InDoubt =
-          ap (fate_of x P) (sym f.code ∙ agreed) ∙ at_true (xid_eq x x) _ None (xid_self x) in
-          site.law.leaves H x f0 T ∙ ap (λ (h : History). fate_in x f0 (coded h T)) f.place
-          ∙ ap (last_or f0) (fates_both x f.before (request_of t n P ∷ f.after) T ∙ (λ i. fates x f.before T ++ cons_option (own i) (made i)))
-          ∙ last_both f0 (fates x f.before T) (history.InDoubt ∷ fs)
+      first_fate fs made = search (arith, at_true, xid_self, fates_both, request_of, cons_option, last_both)
 
       in_doubt : there.shut ≡ true
           → (fate x f0 H T ≡ history.InDoubt) ⊎ ((d : HeuristicDecision) × ((fate x f0 H T ≡ decided_fate d) × IsDecidedAfter x t n T H))
@@ -313,14 +275,7 @@ module _ {t : ℕ} {T : Tables} {H : History} (site : Site t T H) (x : XidName) 
           decided_goal d made is =
               let fate_is_so : fate x f0 H T ≡ decided_fate d =
               told_by d (ap (fate_of x op) is ∙ by_decision d) (tells d (tables_after all_before T) (sym code_there ∙ is)) in
-              record {
-                reached = λ _. refl;
-                shut = λ _ q. cc;
-                decided = λ _ _. decided_between d made;
-                named = λ _ _. (d, named_it d);
-                told = λ h i. fate_is_so ∙ some_same (decided_fate d) h (sym (named_it d) ∙ i);
-                doubt = λ q. cc;
-              }
+              search (arith, decided_between, named_it, some_same)
 
           by_answer : (o : Option HeuristicDecision) → fates x s.mid now ≡ fates_when o → c ≡ answer_when o → Goal (Ends e c)
           by_answer None made is = done_goal is
@@ -364,11 +319,8 @@ branch_told {t} {T} {H} site x n last commit vote ending course f0 fits only = b
 
     by_course : (e : Ending) → Course site x n last vote commit e → Told t x f0 T H n vote e
     by_course _ (Unreached same code) = no_vote site x f0 fits n last vote only (Left RmFail) (ap is_yes code) refl (λ f e. cc)
-    by_course _ (Reads r z) =
-        voted_so site x f0 fits n last vote only z ReadOnly history.ReadOnly (read_not r) refl refl (ap prepare_fate (read_is vote r)) refl
-    by_course _ (Breaks k z) =
-        let code : vote ≡ RbIntegrity = broken_code site x f0 fits n last vote only z k in
-        voted_so site x f0 fits n last vote only z RolledBack history.RolledBack (ap is_yes code) refl refl (ap prepare_fate code) refl
+    by_course _ (Reads r z) = search (arith, voted_so, read_is)
+    by_course _ (Breaks k z) = search (arith, broken_code, voted_so)
     by_course _ (Stays c y z) = no_vote site x f0 fits n last vote only (Left c) y refl (λ f e. cc)
     by_course _ (Agrees c y z) = by_decision commit c y z
     by_course _ (Refuses c y r z) = refused site x f0 fits n last vote only c y z

@@ -1,4 +1,5 @@
 -- A branch whose end was told isn't left to the next opening.
+use Rattle.std.proofs.Common.{arith}
 use Rattle.xa_atomicity.proofs.Voting.{ended_known}
 use Rattle.xa_atomicity.proofs.EndsByFate.{decided_apart, read_apart}
 use Rattle.xa_base.proofs.{◌≡◌, ℕ, Bool, true, false, [], ◌∷◌, List, ap, sym, subst, refl, ◌∙◌, Option, None, Some, option_map, All, list_all, get-empty}
@@ -30,8 +31,7 @@ ended_is_over commit = record { known = ended_known commit; plain = λ d e. deci
 -- tables that tell it have nothing left
 not_left : (x : XidName) (f : Fate) (T : Tables) → IsFateOf x f T → IsOver f → (o : Option State) → state_of T x ≡ o
     → is_left_in o ≡ false
-not_left x f T fits over (Some Prepared) is =
-    let z : true ≡ false = sym (ap is_S3 is) ∙ fits.prepared ∙ over.known in cc
+not_left x f T fits over (Some Prepared) is = search (arith, over.known)
 not_left x f T fits over (Some (HeuristicallyCompleted d)) is = absurd (over.plain d (fits.decided d is))
 not_left x f T fits over o is = refl
 
@@ -51,8 +51,7 @@ module _ (law : Tabled) (first : (s : Settling) (m : ℕ) (T : Tables) → IsSet
       let with_T = first s m T settled begins in
       let fits = law.kept H x G T with_T.opened (law.first x T) in
       let is : fate x G H T ≡ f = sym (with_T.fates x G) ∙ ends T begins in
-      ap (λ (U : Tables). is_left (reopened U) x) (ends_with s m T settled begins) ∙ as_left end x
-      ∙ not_left x f end (subst (λ g. IsFateOf x g end) is fits) over (state_of end x) refl
+      search (arith, ends_with, as_left, not_left)
 
   gone : (m : ℕ) (x : XidName) (f : Fate) → IsOver f → Ends m x f → is_left (reopened_at s.managers m) x ≡ false
   gone m x f over ends =
@@ -91,10 +90,7 @@ module _ (law : Tabled) (first : (s : Settling) (m : ℕ) (T : Tables) → IsSet
   pub none_left : (t : ℕ) (from : ℕ → ℕ) (bs : List Branch) (done : Done)
       → EachOutcome (λ b v e. TellsTheFate s t b (from b.m) e) bs done.votes.items done.endings.items
       → is_acknowledged done ≡ true → HasLeft bs s → ⊥
-  none_left t from bs done h is left =
-      let z : IsGone left.branch =
-      All-contains IsGone bs left.branch (all_gone t from bs done.votes.items done.endings.items h is) left.among in
-      let no : true ≡ false = sym left.left ∙ z in cc
+  none_left t from bs done h is left = search (arith, All-contains, all_gone, left.branch, done.votes.items, done.endings.items, left.among)
 
   -- ---- of an outcome that was answered XA_OK
 

@@ -1,4 +1,5 @@
 -- What a branch that voted to commit stands at, where requests that lead it and heuristic decisions name it.
+use Rattle.std.proofs.Common.{rules}
 use Rattle.std.proofs.lemmas.Bool.{both_ways}
 use Rattle.xa_base.proofs.{by_bool, at_true, unwrap_or, ◌⊎◌, ◌≡◌, ℕ, inl, inr, ⊎_elim, Bool, true, false, if◌then◌else◌, List, [], ◌∷◌, ◌++◌, sym, refl, ap}
 use Rattle.xa_base.proofs.{◌∙◌, subst, arith, Option, Some, None, All, cons_option, All-head, All-tail}
@@ -37,26 +38,18 @@ decided_known decision.Rollback = refl
 -- it leads the branch, or doesn't name it; or it is a decision of it
 by_guide : (P : Type 0) (commit : Bool) (L : Type 0) (x : XidName) (op : Op) → IsGuided commit L x op → (IsTowards commit L x op → P)
     → (names x op ≡ true → is_heur op ≡ true → P) → P
-by_guide P commit L x op guide leads decides =
-    by_bool (λ _. P) (is_heur op) (λ heur. by_bool (λ _. P) (names x op) (λ named. decides named heur) (λ other. leads (λ named. absurd (both_ways (names x op) other named))))
-    (λ plain. leads (λ named. guide named plain))
+by_guide P commit L x op guide leads decides = search (arith, both_ways)
 
 module _ (commit : Bool) (D L : Type 0) (x : XidName) where
   by_decision : (f : Fate) (T : Tables) (op : Op) (a : Answer) → Stands commit true D L (state_of T x) f → Decides x op T a → IsGuidedTo commit D L x f op a
-  by_decision f T op a st (Nothing same none) = record {
-    stands = subst (λ (o : Option Fate). Stands commit true D L (state_of a.0 x) (unwrap_or o f)) (sym none) (subst (λ (U : Tables). Stands commit true D L (state_of U x) f) (sym same) st);
-    makes = inl none;
-  }
+  by_decision f T op a st (Nothing same none) = search (arith, unwrap_or, a.0)
   by_decision f T op a st (Completes d voted state opened told) = record {
     stands = unforgotten d state (ap (λ (o : Option Fate). unwrap_or o f) told) (inl refl);
     makes = inr (decided_fate d, (told, decided_known d));
   }
 
   by_leading : (f : Fate) (op : Op) (a : Answer) → Led commit true D L x op f a → IsGuidedTo commit D L x f op a
-  by_leading f op a led = record {
-    stands = led.stands;
-    makes = ⊎_elim (λ (e : fate_of x op a.1 ≡ None). inl e) (λ (e : fate_of x op a.1 ≡ Some (ended_as commit)). inr (ended_as commit, (e, ended_known commit))) led.makes;
-  }
+  by_leading f op a led = search (arith, ended_known)
 
   pub guided : (f : Fate) (T : Tables) → Stands commit true D L (state_of T x) f → Sound T → (t : ℕ) (op : Op) → IsGuided commit L x op
       → IsGuidedTo commit D L x f op (next t op T)
@@ -91,8 +84,7 @@ module _ (x : XidName) (T : Tables) (sound : Sound T) (past : IsPast (state_of T
   Quiet op a = fate_of x op a.1 ≡ None
 
   unprepared : is_prepared T x ≡ false
-  unprepared =
-      ⊎_elim (λ (e : state_of T x ≡ None). ap is_S3 e) (λ (e : (d : HeuristicDecision) × (state_of T x ≡ Some (HeuristicallyCompleted d))). ap is_S3 e.1) past
+  unprepared = search (arith, rules)
 
   heur_quiet : (op : Op) (a : Answer) → Decides x op T a → Quiet op a
   heur_quiet op a (Nothing same none) = none
@@ -111,10 +103,7 @@ module _ (x : XidName) (T : Tables) (sound : Sound T) (past : IsPast (state_of T
   ends_no_more commit s (over e (inr z)) = decided_apart z.0 commit (sym z.1.0)
 
   led_quiet : (commit : Bool) (op : Op) (f : Fate) (a : Answer) → Led commit true ⊥ (Unit {0}) x op f a → Quiet op a
-  led_quiet commit op f a led =
-      ⊎_elim (λ (none : fate_of x op a.1 ≡ None). none)
-      (λ (some : fate_of x op a.1 ≡ Some (ended_as commit)).
-      absurd (ends_no_more commit (state_of a.0 x) (subst (λ (o : Option Fate). Stands commit true ⊥ (Unit {0}) (state_of a.0 x) (unwrap_or o f)) some led.stands))) led.makes
+  led_quiet commit op f a led = search (arith, ends_no_more, unwrap_or, a.0)
 
   leads_any : (commit : Bool) (L : Type 0) (op : Op) → Leads commit L op → Leads commit (Unit {0}) op
   leads_any commit L (Commit y one_phase) l = l
@@ -137,13 +126,7 @@ module _ (commit : Bool) (D L : Type 0) (x : XidName) where
   one_more : (f : Fate) (o : Option Fate) (fs : List Fate) → (is_unknown f ≡ false → o ≡ None)
       → (o ≡ None) ⊎ ((g : Fate) × ((o ≡ Some g) × (is_unknown g ≡ false))) → Once (unwrap_or o f) fs → Once f (cons_option o fs)
   one_more f o fs silent (inl none) rest = subst (λ (p : Option Fate). Once (unwrap_or p f) fs → Once f (cons_option p fs)) (sym none) (λ r. r) rest
-  one_more f o fs silent (inr made) rest =
-      let g : Fate = made.0 in
-      subst (λ (p : Option Fate). Once (unwrap_or p f) fs → Once f (cons_option p fs)) (sym made.1.0)
-      (λ r. let nothing : fs ≡ [] = r.0 made.1.1 in (
-        λ known. let z : None ≡ Some g = sym (silent known) ∙ made.1.0 in cc,
-        λ _. ap (λ l. g ∷ l) nothing ∙ sym (ap (λ b. if b then [] else g ∷ []) made.1.1) ∙ sym (ap (λ l. once (last_or g l)) nothing),
-      )) rest
+  one_more f o fs silent (inr made) rest = search (arith, unwrap_or, cons_option, made.0, made.1.1, made.1.0)
 
   pub fates_once : (h : History) (T : Tables) (f : Fate) → All (λ r. IsGuided commit L x r.op) h → Standing commit true D L x T f → Once f (fates x h T)
   fates_once [] T f guide s = (λ _. refl, λ unknown. sym (ap (λ b. if b then [] else f ∷ []) unknown))
@@ -189,9 +172,7 @@ module _ (law : Tabled) (commit : Bool) (D L : Type 0) (t n : ℕ) (x : XidName)
 
   -- the Prepare made it be in doubt
   pub fates_are : fates x H T ≡ fates x before T ++ history.InDoubt ∷ fates x after now
-  fates_are =
-      ap (λ (h : History). fates x h T) place ∙ fates_both x before (request_of t n P ∷ after) T
-      ∙ ap (λ o. fates x before T ++ cons_option o (fates x after now)) voted_now
+  fates_are = search (arith, fates_both, request_of, cons_option, voted_now)
 
   pub fate_any : (f : Fate) → last_or f (fates x H T) ≡ last_or history.InDoubt (fates x after now)
   fate_any f = ap (last_or f) fates_are ∙ last_both f (fates x before T) (history.InDoubt ∷ fates x after now)
@@ -208,7 +189,6 @@ module _ (law : Tabled) (commit : Bool) (D L : Type 0) (t n : ℕ) (x : XidName)
   -- and so what the Prepare and what is after it make of it
   pub fates_from : D → (f : Fate) → fates x (request_of t n P ∷ after) U ≡ history.InDoubt ∷ once (fate x f H T)
   fates_from doubt f =
-      let st : Standing commit true D L x now history.InDoubt =
-      record { stands = waits doubt refl prepared refl; sound = sound_after t P U (run_sound before T (opening_sound T opening)) } in
+      let st : Standing commit true D L x now history.InDoubt = search (arith, prepared, sound_after, run_sound, opening_sound) in
       ap (λ o. cons_option o (fates x after now)) voted_now
       ∙ ap (λ l. history.InDoubt ∷ l) ((fates_once commit D L x after now history.InDoubt guide st).1 refl ∙ ap once (sym (law.leaves H x f T ∙ fate_any f)))

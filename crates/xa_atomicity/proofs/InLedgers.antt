@@ -49,14 +49,7 @@ module _ {t : ℕ} {T : Tables} {H : History} (s : Site t T H) (pairs : List (�
       or_none false = refl
 
   asks_so : (a a' : LedgerView) (op : Op) (c : Code) → AsksLedger a op a' c → Unit {0} → Has a' → AsksIn t T H (heard a) op (heard a') c
-  asks_so a a' op c is q has =
-      elim (learnt_shut a) as (λ l. learnt_shut a ≡ l → AsksIn t T H (heard a) op (heard a') c) [
-        | true ↦ λ shut. withholds shut (is.answered shut) (ap heard (is.trace ∙ at_true (learnt_shut a) _ _ shut))
-        | false ↦ λ open_.
-            let whole : LedgerView = with_collected (with_sent a op) (length a.sent) c in
-            let trace : a' ≡ whole = is.trace ∙ at_false (learnt_shut a) _ _ open_ in
-            asks (sent_stands a op c (subst Has trace has)) (λ shut. absurd (let z : true ≡ false = sym shut ∙ open_ in cc)) (ap heard trace ∙ heard_after a op c)
-      ] refl
+  asks_so a a' op c is q has = search (arith, at_true, at_false, sent_stands, heard_after, is.answered)
 
   has_before : (a a' : LedgerView) (op : Op) (c : Code) → AsksLedger a op a' c → Has a' → Has a
   has_before a a' op c is has =

@@ -183,8 +183,7 @@ module _ (law : Tabled) (first : (s : Settling) (m : ℕ) (T : Tables) → IsSet
   walk (p ∷ ps) o T f kept_o begins kept row only marks lists st =
       let V : Tables = tables_after (history_of o.settled m) T in
       let kept_p : IsKept p = All-head IsKept p ps kept in
-      let begins_p : first_of p.settled m ≡ Some (reopened V) =
-      row.0 m T begins ∙ ap (λ (U : Tables). Some (reopened U)) (ends_with o.settled m T kept_o.settled begins) in
+      let begins_p : first_of p.settled m ≡ Some (reopened V) = search (arith, ends_with, row.0, o.settled, kept_o.settled) in
       let marks_p : All (FindsMark commit (tran_of x) m) p.uses = all_left (FindsMark commit (tran_of x) m) p.uses (uses_of ps) marks in
       let lists_p : Lists p = λ q among. lists q (Contains-append_left p.uses (uses_of ps) (resolves q) among) in
       let towards = opening_towards p kept_p (All-head (OnlyResolves (tran_of x)) p ps only) marks_p lists_p in

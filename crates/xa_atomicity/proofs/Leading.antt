@@ -1,4 +1,5 @@
 -- What a branch that voted to commit stands at, where nothing but resolves names it.
+use Rattle.std.proofs.Common.{arith}
 use Rattle.xa_base.proofs.{◌⊎◌, ◌&&◌, not, cond, is_some, unwrap_or, ◌≡◌, ◌≢◌, ℕ, inl, inr, ⊎_elim, Bool, true, false, ◌||◌, if◌then◌else◌, [], ◌∷◌, sym, refl}
 use Rattle.xa_base.proofs.{ap, ◌∙◌, subst, Option, Some, None, All, cons_option, not-false, or_from, All-nil, All-cons, All-head, All-tail, and-false, by_if}
 use Rattle.xa_base.proofs.{at_false, at_true}
@@ -116,11 +117,7 @@ module _ (commit open_ : Bool) (D L : Type 0) (x : XidName) (f : Fate) (T : Tabl
   forgets l h (over e g) = over refl g
 
   forgetting : L → Led commit open_ D L x (Forget x) f (forget x T)
-  forgetting l =
-      let P : Answer → Type 0 = Led commit open_ D L x (Forget x) f in
-      by_if P (not (exists T x)) _ _ (λ _. same (Forget x) Nota refl) (λ _.
-      by_if P (not (is_completed T x)) _ _ (λ _. same (Forget x) Proto refl) (λ e.
-      record { stands = subst (λ (o : Option State). Stands commit open_ D L o f) (sym (gone_state T x)) (forgets l (not-false _ e) st); makes = inl refl }))
+  forgetting l = search (arith, same, gone_state, forgets, not-false)
 
   unless_refused : (t : ℕ) (op : Op) → Led commit open_ D L x op f (by_rules t op T) → Led commit open_ D L x op f (next t op T)
   unfolding next
@@ -177,18 +174,14 @@ led_fates commit open_ D L x (r ∷ h) T f towards s =
     let led = step_led commit open_ D L x f T s.stands s.sound r.thread r.op (All-head P r h towards) in
     let rest : All Q (fates x h T1) =
     led_fates commit open_ D L x h T1 (unwrap_or o f) (All-tail P r h towards) (record { stands = led.stands; sound = sound_after r.thread r.op T s.sound }) in
-    ⊎_elim (λ (e : o ≡ None). subst (λ (p : Option Fate). All Q (cons_option p (fates x h T1))) (sym e) rest)
-    (λ (e : o ≡ Some (ended_as commit)). subst (λ (p : Option Fate). All Q (cons_option p (fates x h T1))) (sym e) (All-cons Q (ended_as commit) (fates x h T1) refl rest))
-    led.makes
+    search (arith, cons_option, All-cons)
 
 -- ---- the request that ends it
 
 -- a thread that has it open is answered by the rules, unless it is shut
 asked_now : (t : ℕ) (op : Op) (T : Tables) → T.shut ≡ false → has_opened T t ≡ true → next t op T ≡ by_rules t op T
 unfolding next
-asked_now t op T open_ has =
-    at_false (T.shut) _ _ open_
-    ∙ at_false (needs_opening op && not (has_opened T t)) _ _ (ap (λ b. needs_opening op && not b) has ∙ and-false (needs_opening op))
+asked_now t op T open_ has = search (arith, at_false, and-false)
 
 pub ends_towards : (commit : Bool) (L : Type 0) (x y : XidName) → IsTowards commit L x (outcome_op commit y)
 ends_towards true L x y n = (refl, refl)
@@ -200,28 +193,18 @@ module _ (commit : Bool) (D L : Type 0) (x : XidName) (f : Fate) (T : Tables) (s
   prepared_ends : D → state_of T x ≡ Some Prepared → (b : Bool) → b ≡ commit
       → Led commit false D L x (outcome_op b x) f (next t (outcome_op b x) T)
   prepared_ends y e true is =
-      let free : is_somebody_associated T.associations x ≡ false =
-      nobody_rests T sound x (λ w. let z : standing (state_of T x) ≡ standing (Some Prepared) = ap standing e in cc) in
-      let answer : next t (Commit x false) T ≡ (gone x (committed x T), Done) =
-      asked_now t (Commit x false) T open_ has ∙ at_false (not (exists T x)) _ _ (ap (λ s. not (is_some s)) e) ∙ at_false (is_completed T x) _ _ (ap is_S5 e)
-      ∙ at_false (is_somebody_associated T.associations x || not (is_prepared T x)) _ _ (or_from _ _ free (ap (λ s. not (is_S3 s)) e)) in
+      let free : is_somebody_associated T.associations x ≡ false = search (arith, nobody_rests) in
+      let answer : next t (Commit x false) T ≡ (gone x (committed x T), Done) = search (arith, asked_now, at_false, is_some, or_from) in
       subst (Led commit false D L x (Commit x false) f) (sym answer) (gone_so commit false D L x f (Commit x false) Done (committed x T) y (named_self x (Some history.Committed) ∙ ap (λ c. Some (ended_as c)) is))
   prepared_ends y e false is =
-      let free : is_somebody_associated T.associations x ≡ false =
-      nobody_rests T sound x (λ w. let z : standing (state_of T x) ≡ standing (Some Prepared) = ap standing e in cc) in
-      let answer : next t (Rollback x) T ≡ (gone x T, Done) =
-      asked_now t (Rollback x) T open_ has ∙ at_false (not (exists T x)) _ _ (ap (λ s. not (is_some s)) e) ∙ at_false (is_completed T x) _ _ (ap is_S5 e)
-      ∙ at_false (is_somebody_associated T.associations x) _ _ free ∙ at_false (is_rollback_only T x) _ _ (ap is_S4 e) in
+      let free : is_somebody_associated T.associations x ≡ false = search (arith, nobody_rests) in
+      let answer : next t (Rollback x) T ≡ (gone x T, Done) = search (arith, asked_now, at_false, is_some) in
       subst (Led commit false D L x (Rollback x) f) (sym answer) (gone_so commit false D L x f (Rollback x) Done T y (named_self x (Some history.RolledBack) ∙ ap (λ c. Some (ended_as c)) is))
 
   -- one that was decided tells so
   decided_tells : (d : HeuristicDecision) → state_of T x ≡ Some (HeuristicallyCompleted d) → (b : Bool) → (next t (outcome_op b x) T).1 ≡ decision_code d
-  decided_tells d e true =
-      ap (λ (a : Answer). a.1) (asked_now t (Commit x false) T open_ has ∙ at_false (not (exists T x)) _ _ (ap (λ s. not (is_some s)) e) ∙ at_true (is_completed T x) _ _ (ap is_S5 e))
-      ∙ ap decision_in e
-  decided_tells d e false =
-      ap (λ (a : Answer). a.1) (asked_now t (Rollback x) T open_ has ∙ at_false (not (exists T x)) _ _ (ap (λ s. not (is_some s)) e) ∙ at_true (is_completed T x) _ _ (ap is_S5 e))
-      ∙ ap decision_in e
+  decided_tells d e true = search (arith, asked_now, at_false, is_some, at_true)
+  decided_tells d e false = search (arith, asked_now, at_false, is_some, at_true)
 
   -- where what is told is listed, it is no longer open
   pub ends_it : Stands commit true D L (state_of T x) f → ((d : HeuristicDecision) → (next t (outcome_op commit x) T).1 ≡ decision_code d → L)

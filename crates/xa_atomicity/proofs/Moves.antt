@@ -1,4 +1,5 @@
 -- What the requests of one thread with numbers in a range move, in a history.
+use Rattle.std.proofs.Common.{rules}
 use Rattle.xa_base.proofs.{by_if, by_bool, false_from_ne_true, and_parts, eqb-true, le-leb, ℤ, pos, ◌+ℤ◌, nat_le, if◌then◌else◌, ◌≡◌, ℕ, suc, ◌<◌, ◌≤◌, Bool}
 use Rattle.xa_base.proofs.{true, false, ◌==◌, ◌&&◌, ◌⊎◌, ⊎_elim, List, [], ◌∷◌, ◌++◌, length, get_or, sym, refl, ap, ◌∙◌, arith, eq-eqb, All, ints, and-false}
 use Rattle.xa_base.proofs.{+ℤ_idl as none_plus, +ℤ_idr as plus_none}
@@ -22,18 +23,11 @@ Accounts = List (List ℕ × ℕ)
 
 -- a request whose number is outside
 pub outside : (t first last : ℕ) (r : Request) → (r.thread ≡ t → (r.number < first) ⊎ (last ≤ r.number)) → is_within t first last r ≡ false
-outside t first last r h =
-    by_bool (λ b. (b && (nat_le first r.number && nat_le (suc r.number) last)) ≡ false) (r.thread == t) (λ e.
-    ⊎_elim (λ (lt : r.number < first). and_left _ _ (lt-leb first r.number lt)) (λ (le : last ≤ r.number). and_right _ _ (lt-leb (suc r.number) last (omega (arith, le)))) (h (eqb-true r.thread t e)))
-    (λ _. refl)
+outside t first last r h = search (arith, nat_le, and_left, lt-leb, and_right, eqb-true, r.number, r.thread)
 
 -- and one whose number is inside
 pub inside : (t first last : ℕ) (r : Request) → r.thread ≡ t → first ≤ r.number → r.number < last → is_within t first last r ≡ true
-inside t first last r own from below =
-    let thread : (r.thread == t) ≡ true = eq-eqb r.thread t own in
-    let lower : nat_le first r.number ≡ true = le-leb first r.number from in
-    let upper : nat_le (suc r.number) last ≡ true = le-leb (suc r.number) last (omega (arith, below)) in
-    λ i. thread i && (lower i && upper i)
+inside t first last r own from below = search (arith, eq-eqb, nat_le, le-leb, r.thread, r.number)
 
 -- ---- histories
 
@@ -90,32 +84,14 @@ moved_nothing passes h T = moved_still [] passes h T (λ k d lt e. no_worth (get
 pub moved_at : (accounts : Accounts) (passes : Request → Bool) (before after : History) (r : Request) (T : Tables) → All (λ q. passes q ≡ false) before
     → passes r ≡ true → All (λ q. passes q ≡ false) after
     → moved accounts passes (before ++ r ∷ after) T ≡ moved_by accounts r.op (next r.thread r.op (tables_after before T)).1 (tables_after before T)
-moved_at accounts passes before after r T none here later =
-    let U : Tables = tables_after before T in
-    let v : ℤ = moved_by accounts r.op (next r.thread r.op U).1 U in
-    moved_both accounts passes before (r ∷ after) T
-    ∙ (λ i. moved_none accounts passes before T none i +ℤ ((if here i then v else pos 0) +ℤ moved_none accounts passes after (next r.thread r.op U).0 later i))
-    ∙ none_plus _ ∙ plus_none v
+moved_at accounts passes before after r T none here later = search (arith, moved_both, moved_none, none_plus, plus_none, r.op, r.thread)
 
 -- ---- ranges of numbers
 
 either_range : (own : Bool) (a b : ℕ) (n : ℕ) (v : ℤ) → a ≤ b → (if own && (nat_le 0 n && nat_le (suc n) b) then v else pos 0)
     ≡ (if own && (nat_le 0 n && nat_le (suc n) a) then v else pos 0) +ℤ (if own && (nat_le a n && nat_le (suc n) b) then v else pos 0)
 either_range false a b n v le = refl
-either_range true a b n v le =
-    let from : nat_le 0 n ≡ true = le-leb 0 n (omega arith) in
-    ap (λ q. if q && nat_le (suc n) b then v else pos 0) from
-    ∙ elim (nat_le a n) as (λ q. nat_le a n ≡ q → (if nat_le (suc n) b then v else pos 0) ≡ (if nat_le (suc n) a then v else pos 0) +ℤ (if q && nat_le (suc n) b then v else pos 0)) [
-      | true ↦ λ e.
-          let below : nat_le (suc n) a ≡ false = lt-leb (suc n) a (let up = leb-true a n e in omega (arith, up)) in
-          sym (ap (λ q. (if q then v else pos 0) +ℤ (if nat_le (suc n) b then v else pos 0)) below ∙ none_plus _)
-      | false ↦ λ e.
-          let up : suc n ≤ a = leb-false a n e in
-          let here : nat_le (suc n) a ≡ true = le-leb (suc n) a up in
-          let there : nat_le (suc n) b ≡ true = le-leb (suc n) b (omega (arith, up, le)) in
-          ap (λ q. if q then v else pos 0) there ∙ sym (ap (λ q. (if q then v else pos 0) +ℤ pos 0) here ∙ plus_none v)
-    ] refl
-    ∙ ap (λ q. (if q && nat_le (suc n) a then v else pos 0) +ℤ (if nat_le a n && nat_le (suc n) b then v else pos 0)) (sym from)
+either_range true a b n v le = search (arith, nat_le, le-leb, lt-leb, leb-true, none_plus, leb-false, plus_none)
 
 -- a range of numbers from 0 on may be parted
 pub moved_parted : (accounts : Accounts) (t a b : ℕ) (h : History) (T : Tables) → a ≤ b
@@ -134,22 +110,14 @@ moved_parted accounts t a b (r ∷ h) T le =
 
 -- what a request within them is
 pub within_parts : (t first last : ℕ) (r : Request) → is_within t first last r ≡ true → (r.thread ≡ t) × (first ≤ r.number) × (r.number < last)
-within_parts t first last r e =
-    let own = and_parts (r.thread == t) _ e in
-    let range = and_parts (nat_le first r.number) _ own.1 in
-    let from = leb-true first r.number range.0 in
-    let below = leb-true (suc r.number) last range.1 in
-    (eqb-true r.thread t own.0, from, omega (arith, below))
+within_parts t first last r e = search (arith, and_parts, nat_le, leb-true, eqb-true, r.number, r.thread)
 
 module _ (t : ℕ) where
   -- what was taken before a request of the thread
   pub taken_is : (n : ℕ) (before after : History) (r : Request) → r.thread ≡ t → r.number ≡ n
       → ((k : ℕ) (d : Request) → k < length before → (get_or before k d).thread ≡ t → (get_or before k d).number < n)
       → taken_before t n (before ++ r ∷ after) ≡ before
-  taken_is n [] after r own number below =
-      let here : (r.thread == t) ≡ true = eq-eqb r.thread t own in
-      let there : (r.number == n) ≡ true = eq-eqb r.number n number in
-      λ i. if here i && there i then [] else r ∷ taken_before t n after
+  taken_is n [] after r own number below = search (arith, eq-eqb)
   taken_is n (q ∷ before) after r own number below =
       let other : ((q.thread == t) && (q.number == n)) ≡ false = false_from_ne_true ((q.thread == t) && (q.number == n)) (λ e.
       let own = and_parts (q.thread == t) (q.number == n) e in

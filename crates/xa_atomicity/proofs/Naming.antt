@@ -1,4 +1,5 @@
 -- What names a transaction in an opening where only resolves do.
+use Rattle.std.proofs.Common.{arith}
 use Rattle.xa_atomicity.proofs.Settled.{sent_between, by_ledger}
 use Rattle.xa_base.proofs.{◌≡◌, ◌≢◌, ℕ, suc, ◌+◌, ◌≤◌, Bool, true, false, List, ◌∷◌, ◌++◌, length, append_assoc, get_or, refl, ap, ◌∙◌, subst, Option, All}
 use Rattle.xa_base.proofs.{Contains, All-contains}
@@ -49,11 +50,7 @@ module _ (s : Settling) (settled : IsSettled s) (m : ℕ) (up : IsUpTo MOST_MANA
   pub named_so : (P : Op → Type 0) (t : TranName) (us : List Use) → P OpenRm → All (IsUseIn s) us
       → ((q : ResolveCall) → Contains us (resolves q) → (o : Outcome) → Contains q.outcomes o → Asks P q.records m o)
       → All (λ r. NamesTran t r.op → (u : Use) × (Contains us u × HasSent m r u)) H → All (λ r. NamesTran t r.op → P r.op) H
-  named_so P t us opens uses asks only k d lt named =
-      let z = only k d lt named in
-      let all : All (Passes P) us =
-      λ j e below. use_passes P opens (get_or us j e) (uses j e below) (λ q is. asks q (subst (Contains us) is (Contains-get_or us j e below))) in
-      All-contains (Passes P) us z.0 all z.1.0 k d lt z.1.1
+  named_so P t us opens uses asks only k d lt named = search (arith, use_passes, All-contains)
 
 -- a request that names a branch names its transaction
 pub named_tran : (x : XidName) (op : Op) → names x op ≡ true → NamesTran (tran_of x) op
@@ -77,8 +74,7 @@ pub prepare_part : (s : Settling) → IsSettled s → (m : ℕ) → 1 ≤ m → 
     → (later : List Op) × Parted t (numbered t 0 a.sent) (numbered t (suc (0 + length a.sent)) later) (request_of t (0 + length a.sent) (Prepare x)) (history_of s m)
 prepare_part s settled m positive t x a a' grown more is =
     let later : List Op = more ++ grown.sent.0 in
-    let ops : sent s t m ≡ a.sent ++ Prepare x ∷ later =
-    sent_is s m positive t ∙ grown.sent.1 ∙ ap (λ l. l ++ grown.sent.0) is ∙ append_assoc a.sent (Prepare x ∷ more) grown.sent.0 in
+    let ops : sent s t m ≡ a.sent ++ Prepare x ∷ later = search (arith, sent_is, append_assoc, a.sent) in
     let own : of_thread t (history_of s m) ≡ numbered t 0 a.sent ++ request_of t (0 + length a.sent) (Prepare x) ∷ numbered t (suc (0 + length a.sent)) later =
     (settled.agree t m).carried ∙ ap (numbered t 0) ops ∙ numbered_both t 0 a.sent (Prepare x ∷ later) in
     (later, part t (history_of s m) (numbered t 0 a.sent) (numbered t (suc (0 + length a.sent)) later) (request_of t (0 + length a.sent) (Prepare x)) own)

@@ -1,4 +1,5 @@
 -- One outcome for all the branches of a call.
+use Rattle.std.proofs.Common.{arith, rules}
 use Rattle.xa_driver.specs.{Heuristic, InDoubt, Left, RolledBack, Committed, Branch, Done, Ending, is_yes, is_read, is_no, has_yes, yes_of, ending_of}
 use Rattle.xa_driver.specs.{yes_ending, no_ending, is_out_of_reach, is_heuristic, AtBranch, AsksLedger, EachBranch, IsCommit, IsTraceOfCommit, IsTranOf}
 use Rattle.xa_driver.specs.{MayCommit, wants_record, decision_of}
@@ -32,32 +33,22 @@ pub after_yes : (P : Ending → Type 0) (commit : Bool) (s : Option Code) → P 
     → ((c : Code) → P (Heuristic c))
     → ((c : Code) → P (Left c)) → P (yes_ending commit s)
 after_yes P commit None ended doubt heuristic left = doubt
-after_yes P commit (Some c) ended doubt heuristic left =
-    by_if P (is_done c) _ _ (λ _. ended) (λ _. by_if P (is_rm_fail c) _ _ (λ _. doubt) (λ _. by_if P (is_heuristic c) _ _ (λ _. heuristic c) (λ _. left c)))
+after_yes P commit (Some c) ended doubt heuristic left = search (arith, rules)
 
 not_by_no : (v : Code) (s : Option Code) → Falls is_committed (no_ending v s)
 not_by_no v None = refl
-not_by_no v (Some c) =
-    by_if (Falls is_committed) (is_done c || history.is_rolled_back c) _ _ (λ _. refl) (λ _. by_if (Falls is_committed) (is_heuristic c) _ _ (λ _. refl) (λ _. refl))
+not_by_no v (Some c) = search (arith, rules)
 
 -- what isn't voted for isn't committed, and on abort nothing is
 pub unvoted : (commit : Bool) (v : Code) (s : Option Code) → is_yes v ≡ false → Falls is_committed (ending_of commit v s)
-unvoted commit v s e =
-    by_if (Falls is_committed) (is_yes v) _ _ (λ t. cc) (λ _.
-    by_if (Falls is_committed) (is_read v) _ _ (λ _. refl) (λ _.
-    by_if (Falls is_committed) (history.is_rolled_back v) _ _ (λ _. refl) (λ _.
-    by_if (Falls is_committed) (is_out_of_reach v) _ _ (λ _. refl) (λ _. not_by_no v s))))
+unvoted commit v s e = search (arith, not_by_no)
 
 pub uncommitted : (v : Code) (s : Option Code) → Falls is_committed (ending_of false v s)
-uncommitted v s =
-    by_bool (λ _. Falls is_committed (ending_of false v s)) (is_yes v)
-    (λ y. ap is_committed (at_true (is_yes v) _ _ y) ∙ after_yes (Falls is_committed) false s refl refl (λ _. refl) (λ _. refl)) (λ n. unvoted false v s n)
+uncommitted v s = search (arith, at_true, after_yes, unvoted)
 
 -- on commit nothing is rolled back, where no vote is against
 pub not_rolled_back : (v : Code) (s : Option Code) → is_no v ≡ false → Falls is_rolled_back (ending_of true v s)
-not_rolled_back v s e =
-    by_if (Falls is_rolled_back) (is_yes v) _ _ (λ _. after_yes (Falls is_rolled_back) true s refl refl (λ _. refl) (λ _. refl)) (λ one.
-    by_if (Falls is_rolled_back) (is_read v) _ _ (λ _. refl) (λ two. let z = neither v one two in cc))
+not_rolled_back v s e = search (arith, after_yes, neither)
 
 -- a test that no ending of a call passes
 module _ (Q : Branch → Code → Option Code → Ending → Type 0) (commit : Bool) (test : Ending → Bool) (bad : Code → Bool)
@@ -132,11 +123,7 @@ module _ (tran : TranName) (bs : List Branch) (desk : DeskView) (new : List Ledg
 
   -- where the log didn't take the record
   unlogged : append_failed d ≡ true → d.commit ≡ false
-  unlogged e =
-      failed_append_aborts tran bs desk.ledgers new log later d call (and_parts _ _ e).0 (not-true _ (and_parts (wants_record votes) (not d.logged) e).1)
+  unlogged e = search (arith, failed_append_aborts, call, and_parts, not-true)
 
   pub aborted_law : was_refused d ≡ true → IsAbortedTransaction tran desk.ledgers new later d
-  aborted_law refused =
-      aborted (false_from_ne_true (d.commit) (λ on.
-      let logged_so : append_failed d ≡ false = false_from_ne_true (append_failed d) (λ e. both_ways (d.commit) (unlogged e) on) in
-      both_ways (was_refused d) (or_from _ _ (unopposed on) (or_from _ _ (kept on) logged_so)) refused))
+  aborted_law refused = search (arith, aborted, false_from_ne_true, both_ways, unlogged, or_from, unopposed, kept)

@@ -75,8 +75,7 @@ module _ (law : Tabled) (commit : Bool) (t : ℕ) (x : XidName) (T : Tables) (H 
       let a : Answer = next t op U in
       let made : fate_of x op a.1 ≡ Some (ended_as commit) = ap (fate_of x op) (sym z.code_is ∙ e) ∙ ends_fate commit x in
       let led = step_led commit true (Unit {0}) (Unit {0}) x fate_here U here.stands here.sound t op (all_here 0 (request_of t z.ends op) (omega arith)) in
-      let there : Standing commit true (Unit {0}) (Unit {0}) x a.0 (ended_as commit) =
-      subst (λ (g : Fate). Standing commit true (Unit {0}) (Unit {0}) x a.0 g) (ap (λ (p : Option Fate). unwrap_or p fate_here) made) (record { stands = led.stands; sound = sound_after t op U here.sound }) in
+      let there : Standing commit true (Unit {0}) (Unit {0}) x a.0 (ended_as commit) = search (arith, unwrap_or, sound_after, here, a.0) in
       let silent : fates x z.rest a.0 ≡ [] =
       known_stays commit (Unit {0}) (Unit {0}) x z.rest a.0 (ended_as commit) (is_known_so (ended_as commit) commit refl) (All-tail Q (request_of t z.ends op) z.rest all_here) there in
       from_there commit (Unit {0}) (Unit {0}) t x T H f code towards st reached (λ _ _. tt) z ∙ (λ i. last_or fate_here (cons_option (made i) (silent i)))
@@ -138,8 +137,7 @@ module _ (law : Tabled) (first : (s : Settling) (m : ℕ) (T : Tables) → IsSet
     pub outcome_so : (before f : Fate) → IsFateOf x before T → outcome_fate r.commit r.code ≡ Some f → settled_fate s m x before ≡ f
     outcome_so before f fits tells =
         let stands : Stands r.commit true (Unit {0}) (Unit {0}) (state_of T x) before = left_stands r.commit x T before fits (state_of T x) refl left in
-        let step : IsStep law first r.commit (Unit {0}) (Unit {0}) m up x o T before =
-        record { kept = kept; begins = begins; towards = towards; marks = marks; lists = λ _ _ _ _ _ _ _. tt; stands = stands } in
+        let step : IsStep law first r.commit (Unit {0}) (Unit {0}) m up x o T before = search (arith, kept, towards, marks) in
         let z =
         answered_at law first r.commit (Unit {0}) (Unit {0}) m up x o T before step q (zero, omega arith, refl) r among refl refl (reached_so r.commit r.code f tells) in
         with_T.fates x before ∙ law.leaves H x before T

@@ -1,4 +1,5 @@
 -- Where the requests of one thread stand in a history, and what they were answered.
+use Rattle.std.proofs.Common.{rules}
 use Rattle.xa_base.proofs.{map-append, ◌≡◌, ◌≢◌, ℕ, zero, suc, ◌+◌, ◌<◌, true, false, ◌==◌, cond, List, [], ◌∷◌, ◌++◌, length, map, slice_get, get_or, sym}
 use Rattle.xa_base.proofs.{refl, ap, ◌∙◌, arith, Option, Some, None, filter, cons_option, eq-eqb, filter-append}
 use Rattle.std.proofs.lemmas.Option.{some_pair_parts}
@@ -74,9 +75,7 @@ module _ (t : ℕ) where
   -- ---- the answers
 
   answers_both : (xs ys : List Entry) → answers t (xs ++ ys) ≡ answers t xs ++ answers t ys
-  answers_both xs ys =
-      ap (map (λ (e : Entry). (e.0.number, e.1))) (filter-append (λ (e : Entry). e.0.thread == t) xs ys)
-      ∙ map-append (λ (e : Entry). (e.0.number, e.1)) (filter (λ (e : Entry). e.0.thread == t) xs) (filter (λ (e : Entry). e.0.thread == t) ys)
+  answers_both xs ys = search (arith, filter-append, map-append)
 
   answers_length : (h : History) (T : Tables) → length (answers t (coded h T)) ≡ length (of_thread t h)
   answers_length [] T = refl
@@ -97,22 +96,13 @@ module _ (t : ℕ) where
   -- what a request of the thread is answered, after n others of it
   pub answer_at : (before after : History) (r : Request) (T : Tables) (n : ℕ) → r.thread ≡ t → length (of_thread t before) ≡ n
       → slice_get (answers t (coded (before ++ r ∷ after) T)) n ≡ Some (r.number, (next r.thread r.op (tables_after before T)).1)
-  answer_at before after r T n own count =
-      let here : Tables = tables_after before T in
-      let there : List Entry = coded after (next r.thread r.op here).0 in
-      let code : Code = (next r.thread r.op here).1 in
-      let mine : answers t ((r, code) ∷ there) ≡ (r.number, code) ∷ answers t there =
-      ap (λ b. map (λ (e : Entry). (e.0.number, e.1)) (cond b ((r, code) ∷ filter (λ (e : Entry). e.0.thread == t) there) (filter (λ (e : Entry). e.0.thread == t) there))) (ap (λ u. u == t) own ∙ eq-eqb t t refl) in
-      ap (λ l. slice_get l n) (ap (answers t) (coded_both before (r ∷ after) T) ∙ answers_both (coded before T) ((r, code) ∷ there) ∙ ap (λ l. answers t (coded before T) ++ l) mine)
-      ∙ ap (λ k. slice_get (answers t (coded before T) ++ (r.number, code) ∷ answers t there) k) (sym (answers_length before T ∙ count))
-      ∙ at_seam (answers t (coded before T)) (r.number, code) (answers t there)
+  answer_at before after r T n own count = search (arith, eq-eqb, slice_get, coded_both, answers_both, answers_length, at_seam, r.thread, r.op)
 
 -- ---- numbers
 
 pub numbered_both : (t n : ℕ) (xs ys : List Op) → numbered t n (xs ++ ys) ≡ numbered t n xs ++ numbered t (n + length xs) ys
 numbered_both t n [] ys = ap (λ k. numbered t k ys) (let e : n ≡ n + 0 = omega arith in e)
-numbered_both t n (x ∷ xs) ys =
-    ap (λ l. request_of t n x ∷ l) (numbered_both t (suc n) xs ys ∙ ap (λ k. numbered t (suc n) xs ++ numbered t k ys) (let e : suc n + length xs ≡ n + suc (length xs) = omega arith in e))
+numbered_both t n (x ∷ xs) ys = search (arith, numbered_both t (suc n) xs ys)
 
 -- the code of an answer
 pub same_code : (o : Option (ℕ × Code)) (n m : ℕ) (c d : Code) → o ≡ Some (n, c) → o ≡ Some (m, d) → c ≡ d
@@ -140,10 +130,7 @@ last_both f (x ∷ xs) ys = last_both x xs ys
 pub fate_is : (x : XidName) (before after : History) (r : Request) (T : Tables) (f0 f : Fate)
     → fate_of x r.op (next r.thread r.op (tables_after before T)).1 ≡ Some f
     → fates x after (next r.thread r.op (tables_after before T)).0 ≡ [] → fate_in x f0 (coded (before ++ r ∷ after) T) ≡ f
-fate_is x before after r T f0 f e none =
-    ap (last_or f0) (fates_both x before (r ∷ after) T
-    ∙ ap (λ l. fates x before T ++ l) ((λ i. cons_option (e i) (none i))))
-    ∙ last_both f0 (fates x before T) (f ∷ [])
+fate_is x before after r T f0 f e none = search (arith, fates_both, cons_option, last_both)
 
 pub none_first : (x : XidName) (r : Request) (h : History) (T : Tables) → fate_of x r.op (next r.thread r.op T).1 ≡ None
     → fates x h (next r.thread r.op T).0 ≡ [] → fates x (r ∷ h) T ≡ []

@@ -1,4 +1,5 @@
 -- One outcome for each global transaction whose commit was cut short, over openings one after another.
+use Rattle.std.proofs.Common.{rules}
 use Rattle.xa_atomicity.proofs.CutVotes.{CameAt, each_came, at_asking, at_forgetting, at_telling, HasVoted}
 use Rattle.xa_atomicity.proofs.Settled.{sent_stands, by_ledger, answered_of, collected_on, sent_on, site_of}
 use Rattle.xa_atomicity.proofs.Sites.{Site, StandsIn}
@@ -51,23 +52,17 @@ part_there (Some p) before after r e = (p, refl)
 left_next : (s : Settling) (b : Branch) (T : Tables) → IsSettled s → first_of s b.m ≡ Some T
     → is_left_in (state_of (tables_after (history_of s b.m) T) b.xid) ≡ true
     → is_left_in (state_of (reopened_at s.managers b.m) b.xid) ≡ true
-left_next s b T settled begins left =
-    let end : Tables = tables_after (history_of s b.m) T in
-    ap (λ (U : Tables). is_left_in (state_of (reopened U) b.xid)) (ends_with s b.m T settled begins) ∙ as_left end b.xid ∙ left
+left_next s b T settled begins left = search (arith, ends_with, begins, as_left, b.m)
 
 -- a branch that is left to the next opening: nothing but resolves names it later, and they find what was decided
 left_is_marked : (b : Branch) (tran : TranName) (up : IsUpTo MOST_MANAGERS b.m) (commit : Bool) (records : Records) (vs : List Use)
     (later : List Opening) → tran_of b.xid ≡ tran → All IsKept later → All (OnlyResolves tran) later → All (IsQuiet commit tran b.m) vs
     → AreUses tran records (vs ++ uses_of later) → is_marked records tran b.m ≡ commit → IsMarked later commit b
 left_is_marked b tran up commit records vs later of_tran kept only quiet_now uses mark =
-    let quiet : All (IsQuiet commit tran b.m) (vs ++ uses_of later) =
-    All-append (IsQuiet commit tran b.m) vs (uses_of later) quiet_now (quiet_openings commit tran b.m up later kept only) in
+    let quiet : All (IsQuiet commit tran b.m) (vs ++ uses_of later) = search (arith, All-append, quiet_openings, up) in
     let marks : All (FindsMark commit tran b.m) (uses_of later) =
     all_right (FindsMark commit tran b.m) vs (uses_of later) (marks_stay commit tran b.m up (vs ++ uses_of later) records uses mark quiet) in
-    record {
-      only = subst (λ (u : TranName). All (OnlyResolves u) later) (sym of_tran) only;
-      marks = subst (λ (u : TranName). All (FindsMark commit u b.m) (uses_of later)) (sym of_tran) marks;
-    }
+    search (arith, rules)
 
 -- ---- a use of an opening, and those after it
 
@@ -174,8 +169,7 @@ module _ (law : Tabled) (first : (s : Settling) (m : ℕ) (T : Tables) → IsSet
     site = site_of law s kept_o.settled t m T with_T
 
     reached : (w : Outcome) → Contains q.outcomes w → w.m ≡ m → w.xid ≡ b.xid → w.code ≢ RmFail
-    reached w there manager xid =
-        All-contains (λ (z : Outcome). IsOutcomeOf k.branches z → z.code ≢ RmFail) q.outcomes w r.use_.reached there (record { branch = b; among = among.2; manager = manager; xid = xid })
+    reached w there manager xid = search (arith, All-contains)
 
     -- where it is left, nothing but resolves names it later, and they find the record
     marked : W b → is_left_in (state_of (tables_after H T) b.xid) ≡ true → IsMarked later commit b
@@ -246,10 +240,7 @@ module _ (law : Tabled) (first : (s : Settling) (m : ℕ) (T : Tables) → IsSet
 
     -- it was asking for votes
     asking_so : k.later ≡ k.log → IsAsked b (before_of b) (after_of b) → Result b
-    asking_so same h =
-        let unrecorded : commit ≡ false = ap (λ (l : LogState). is_some (record_of l tran)) same ∙ ap is_some r.made.may.absent in
-        let unmarked : is_marked k.log.records tran b.m ≡ false = ap (λ z. names z b.m) r.made.may.absent in
-        sent_plainly (asked_only commit ⊥ b (before_of b) (after_of b) h voted.asked) (ap (λ (l : LogState). is_marked l.records tran b.m) same ∙ unmarked ∙ sym unrecorded)
+    asking_so same h = search (arith, is_some, is_marked, sent_plainly, asked_only, voted)
 
     -- all had voted
     module _ (votes : List Code) (logged : Bool) (logs : Logs tran (yes_of k.branches votes) votes logged k.log k.later) (v : Code)
@@ -275,8 +266,7 @@ module _ (law : Tabled) (first : (s : Settling) (m : ℕ) (T : Tables) → IsSet
 
       -- the record is the decision, and names its manager
       decided_so : (L : Type 0) → Towards decision L → decision ≡ commit
-      decided_so L h =
-          recorded_is tran (yes_of k.branches votes) votes logged k.log k.later r.made.may.absent (some_yes b.m k.branches votes (marked_now L h)) logs
+      decided_so L h = search (arith, recorded_is, some_yes, marked_now)
 
       mark_so : (L : Type 0) → Towards decision L → is_marked k.later.records tran b.m ≡ commit
       mark_so L h = own_mark k.branches k.log k.later votes logged tran b.m among.0 r.made.may.absent (marked_now L h) logs ∙ decided_so L h
@@ -297,8 +287,7 @@ module _ (law : Tabled) (first : (s : Settling) (m : ℕ) (T : Tables) → IsSet
                 let agreed : v ≡ Done = agreed_now L sends in
                 let told : WasTold commit x c (before_of b) (after_of b) =
                 subst (λ d. WasTold d x c (before_of b) (after_of b)) (decided_so L sends) (was_told decision b v c (before_of b) (after_of b) h (open_now L sends) agreed on) in
-                let ending : yes_ending commit (Some c) ≡ known_of k b =
-                ap (λ d. yes_ending d (Some c)) (sym (decided_so L sends)) ∙ sym (at_true (is_yes v) _ _ (ap is_yes agreed)) ∙ sym known in
+                let ending : yes_ending commit (Some c) ≡ known_of k b = search (arith, decided_so, at_true) in
                 decided b among (own voted.asked) here (told.gap ++ outcome_op commit x ∷ told.rest, told.sent) (mark_so L sends) c on ending told
           ] refl
 

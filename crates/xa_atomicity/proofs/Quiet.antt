@@ -1,4 +1,5 @@
 -- That no later use of the log marks a manager of a transaction that was decided to abort.
+use Rattle.std.proofs.Common.{arith}
 use Rattle.xa_driver.specs.{voted_yes, IsTranOf}
 use Rattle.xa_words.specs.declared.code.Code.{Code}
 use Rattle.xa_base.proofs.{◌≡◌, ℕ, Bool, true, List, [], ◌∷◌, get_or, subst, false, All, All-nil, All-append, All-head, All-tail}
@@ -15,8 +16,7 @@ use Rattle.xa_atomicity.proofs.Voting.{learnt_on}
 -- what is shown of a commit that was cut short is shown of any
 pub of_commit : (s : Settling) (P Q : CutCall → Type 0) → ((k : CutCall) → IsUseIn s (cuts k) → P k → Q k) → (u : Use) → IsUseIn s u → OfCommit P u
     → OfCommit Q u
-of_commit s P Q so (commits c) use_ p =
-    so (as_cut c) (record { made = finished_law c.branches c.desk c.new c.log c.later c.done use_.made; grown = use_.grown }) p
+of_commit s P Q so (commits c) use_ p = search (arith, finished_law, c.desk, c.log, c.later, c.done)
 of_commit s P Q so (cuts k) use_ p = so k use_ p
 of_commit s P Q so (resolves q) use_ p = tt
 
@@ -56,5 +56,4 @@ module _ (mark : Bool) (t : TranName) (m : ℕ) (up : IsUpTo MOST_MANAGERS m) wh
 
   -- after one that nobody commits again in its opening
   pub quiet_alone : (s : Settling) (vs : List Use) → All (IsUseIn s) vs → All (IsOfAnother t) vs → All (IsQuiet mark t m) vs
-  quiet_alone s vs uses alone j d lt =
-      quiet_so s (λ k. IsTranOf k.branches t → ⊥) (λ k w other tran vs each. absurd (other tran)) (get_or vs j d) (uses j d lt) (alone j d lt)
+  quiet_alone s vs uses alone j d lt = search (arith, quiet_so)

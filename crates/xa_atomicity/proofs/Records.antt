@@ -1,4 +1,5 @@
 -- What the log has of a transaction stays what its commit left.
+use Rattle.std.proofs.Common.{arith}
 use Rattle.std.proofs.Math.Bool.{and-true}
 use Rattle.xa_base.proofs.{and-false, cond, not, if◌then◌else◌, is_some, ◌≡◌, ℕ, Bool, true, false, ◌==◌, ◌&&◌, ◌||◌, List, [], ◌∷◌, sym, refl, ap, ◌∙◌, Some}
 use Rattle.xa_base.proofs.{None, ⊎_elim, All, get-insert, eq_by_cmp, is_eq, tied_itself, All-nil, All-cons, All-head, All-tail, and_parts, is_equal, at_false}
@@ -50,28 +51,18 @@ record_left t managers votes logged log later absent (appended wants on is) =
     ap (λ (l : LogState). record_of l t) is ∙ get-insert tran_cmp_total log.records t managers t
     ∙ at_true (eq_by_cmp tran_cmp t t) _ _ (ap is_eq (tied_itself tran_cmp_total t))
     ∙ sym (at_true (decision_of votes logged && has_yes votes) _ _ (λ i. (w.0 i && (not (w.1 i) || on i)) && w.1 i))
-record_left t managers votes logged log later absent (failed wants off is) =
-    let w = and_parts (decides_commit votes) (has_yes votes) wants in
-    ap (λ (l : LogState). record_of l t) is ∙ absent
-    ∙ sym (at_false (decision_of votes logged && has_yes votes) _ _ (λ i. (w.0 i && (not (w.1 i) || off i)) && w.1 i))
-record_left t managers votes logged log later absent (unwanted wants off is) =
-    ap (λ (l : LogState). record_of l t) is ∙ absent
-    ∙ sym (at_false (decision_of votes logged && has_yes votes) _ _ (⊎_elim (λ (e : decides_commit votes ≡ false). (λ i. (e i && (not (has_yes votes) || logged)) && has_yes votes))
-    (λ (e : has_yes votes ≡ false). and_right (decision_of votes logged) (has_yes votes) e) (and_cases (decides_commit votes) (has_yes votes) wants)))
+record_left t managers votes logged log later absent (failed wants off is) = search (arith, and_parts, at_false)
+record_left t managers votes logged log later absent (unwanted wants off is) = search (arith, at_false, and_right, and_cases)
 
 -- where it was decided to abort it leaves none
 pub none_on_abort : (t : TranName) (managers : List Bool) (votes : List Code) (logged : Bool) (log later : LogState) → record_of log t ≡ None
     → Logs t managers votes logged log later → decision_of votes logged ≡ false → record_of later t ≡ None
-none_on_abort t managers votes logged log later absent logs off =
-    record_left t managers votes logged log later absent logs
-    ∙ at_false (decision_of votes logged && has_yes votes) _ _ (and_left (decision_of votes logged) (has_yes votes) off)
+none_on_abort t managers votes logged log later absent logs off = search (arith, record_left, at_false, and_left)
 
 -- where some vote is to commit, the record is the decision
 pub record_so : (t : TranName) (managers : List Bool) (votes : List Code) (logged : Bool) (log later : LogState) → record_of log t ≡ None
     → Logs t managers votes logged log later → has_yes votes ≡ true → record_of later t ≡ (if decision_of votes logged then Some managers else None)
-record_so t managers votes logged log later absent logs some =
-    record_left t managers votes logged log later absent logs
-    ∙ ap (λ b. if b then Some managers else None) (ap (λ y. decision_of votes logged && y) some ∙ and-true (decision_of votes logged))
+record_so t managers votes logged log later absent logs some = search (arith, record_left, and-true)
 
 pub recorded_is : (t : TranName) (managers : List Bool) (votes : List Code) (logged : Bool) (log later : LogState) → record_of log t ≡ None
     → has_yes votes ≡ true → Logs t managers votes logged log later → decision_of votes logged ≡ is_recorded later t
@@ -117,8 +108,7 @@ module _ (mark : Bool) (t : TranName) (m : ℕ) (up : IsUpTo MOST_MANAGERS m) wh
   pub logs_keep : (bs : List Branch) (vs : List Code) (logged : Bool) (log later : LogState) (own : TranName) → map.get log.records own ≡ None
       → (own ≡ t → mark ≡ false → voted_yes m bs vs ≡ false) → is_marked log.records t m ≡ mark
       → Logs own (yes_of bs vs) vs logged log later → is_marked later.records t m ≡ mark
-  logs_keep bs vs logged log later own absent quiet e (appended wants on is) =
-      ap (λ (l : LogState). is_marked l.records t m) is ∙ inserted bs vs log own absent quiet e
+  logs_keep bs vs logged log later own absent quiet e (appended wants on is) = search (arith, inserted)
   logs_keep bs vs logged log later own absent quiet e (failed wants off is) = ap (λ (l : LogState). is_marked l.records t m) is ∙ e
   logs_keep bs vs logged log later own absent quiet e (unwanted wants off is) = ap (λ (l : LogState). is_marked l.records t m) is ∙ e
 

@@ -1,4 +1,5 @@
 -- What is known of the requests of one thread in a history, by what it sent.
+use Rattle.std.proofs.Common.{rules}
 use Rattle.xa_base.proofs.{Bool, false, ◌≡◌, ◌≢◌, ℕ, zero, suc, ◌+◌, ◌<◌, ◌≤◌, true, ◌==◌, List, [], ◌∷◌, ◌++◌, length, length-append, slice_get, sym, refl, ap}
 use Rattle.xa_base.proofs.{◌∙◌, subst, arith, Some, or_parts, eqb-false, ne_eqb, eq-eqb, list_any, All, cond, All-nil, All-cons, All-head, All-tail}
 use Rattle.xa_base.proofs.{filter-append, all_mid, some_same, slice_get_within}
@@ -32,8 +33,7 @@ of_ops t Q (q ∷ h) n ops e known =
                 let head : q ≡ request_of t n op = cc in
                 let tail : of_thread t h ≡ numbered t (suc n) rest = cc in
                 let number : n + 0 ≡ q.number = let z = ap (λ (p : Request). p.number) head in omega (arith, z) in
-                let here : Q q.number q.op =
-                subst (λ k. Q k q.op) number (subst (λ o. Q (n + 0) o) (sym (ap (λ (p : Request). p.op) head)) (known 0 op refl)) in
+                let here : Q q.number q.op = search (arith, rules) in
                 All-cons P q h (λ _. here) (of_ops t Q h (suc n) rest tail (λ k o at. subst (λ j. Q j o) (let z : n + suc k ≡ suc n + k = omega arith in z) (known (suc k) o at)))
           ] known
     ] refl e
@@ -91,18 +91,10 @@ pub code_there : (t : ℕ) (H : History) (T : Tables) (pairs earlier others : Li
 code_there t H T pairs earlier others n code answered collected before after op place count =
     let P : ℕ × Code → Type 0 = λ p. slice_get (answers t (coded H T)) p.0 ≡ Some p in
     let got : slice_get (answers t (coded H T)) n ≡ Some (n, code) = all_mid P earlier others (n, code) (subst (All P) collected answered) in
-    let is : slice_get (answers t (coded H T)) n ≡ Some (n, (next t op (tables_after before T)).1) =
-    ap (λ (h : History). slice_get (answers t (coded h T)) n) place ∙ answer_at t before after (request_of t n op) T n refl count in
+    let is : slice_get (answers t (coded H T)) n ≡ Some (n, (next t op (tables_after before T)).1) = search (arith, slice_get, answer_at, request_of) in
     same_code _ n n code _ got is
 
 -- how many of the thread's stand before the second of two of its requests
 pub count_two : (t n : ℕ) (op : Op) (before mid : History) (xs ys : List Op) → of_thread t before ≡ numbered t 0 xs → of_thread t mid ≡ numbered t (suc n) ys
     → length (of_thread t (before ++ request_of t n op ∷ mid)) ≡ suc (length xs) + length ys
-count_two t n op before mid xs ys first second =
-    let r : Request = request_of t n op in
-    let own : length (of_thread t (r ∷ mid)) ≡ suc (length (of_thread t mid)) =
-    ap (λ b. length (cond b (r ∷ of_thread t mid) (of_thread t mid))) (eq-eqb t t refl) in
-    let one : length (of_thread t before) ≡ length xs = ap (λ (h : History). length h) first ∙ numbered_length t 0 xs in
-    let two : length (of_thread t mid) ≡ length ys = ap (λ (h : History). length h) second ∙ numbered_length t (suc n) ys in
-    ap (λ (h : History). length h) (filter-append (λ (q : Request). q.thread == t) before (r ∷ mid))
-    ∙ (let all = length-append (of_thread t before) (of_thread t (r ∷ mid)) in omega (arith, all, own, one, two))
+count_two t n op before mid xs ys first second = search (arith, request_of, eq-eqb, numbered_length, filter-append, length-append)

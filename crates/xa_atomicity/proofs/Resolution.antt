@@ -1,5 +1,6 @@
 -- One outcome for each global transaction, over openings one after another: a commit that came to its end is one that was
 -- cut short after it.
+use Rattle.std.proofs.Common.{arith}
 use Rattle.xa_atomicity.proofs.CutVotes.{known_each, prepare_there, vote_there, HasVoted, any_voted, ended_so, finished_law, shut_unless}
 use Rattle.xa_base.proofs.{by_bool, ◌≡◌, ℕ, ◌≤◌, Bool, true, false, List, [], ◌∷◌, ◌++◌, length, sym, refl, ap, ◌∙◌, subst, Option, Some, All, Contains}
 use Rattle.xa_base.proofs.{All-head}
@@ -120,10 +121,7 @@ module _ (law : Tabled) (first : (s : Settling) (m : ℕ) (T : Tables) → IsSet
 
   -- where a branch voted to commit, the record is the decision
   by_record : has_yes c.done.votes.items ≡ true → is_recorded c.later cut.may.tran ≡ c.done.commit
-  by_record some =
-      ap (is_recorded c.later) (one_tran c.branches cut.may.tran tran made.may.some cut.may.one made.may.one)
-      ∙ sym (recorded_is tran (yes_of c.branches c.done.votes.items) c.done.votes.items c.done.logged c.log c.later made.may.absent some made.trace.course.logs)
-      ∙ sym made.trace.course.decision
+  by_record some = search (arith, one_tran, recorded_is)
 
   abbrev Known : Branch → Code → Option Code → Ending → Type 0
   Known b v z e = Traced c.done.commit c.desk.ledgers c.new b v z e × (known_of k b ≡ e) × (is_yes v ≡ true → has_yes c.done.votes.items ≡ true)

@@ -43,8 +43,7 @@ module _ (P : Op → Type 0) where
   pub asked_sends : (a : LedgerView) (op : Option Op) (code : Option Code) → IsAskedFor P op → Sends P a (asked a op code)
   asked_sends a None code so = stays a
   asked_sends a (Some op) None so = stays a
-  asked_sends a (Some op) (Some code) so =
-      by_if (Sends P a) (learnt_shut a) _ _ (λ _. stays a) (λ _. record { more = op ∷ []; sent = refl; all = All-cons P op [] so (All-nil P); collected = ((length a.sent, code) ∷ [], refl) })
+  asked_sends a (Some op) (Some code) so = search (arith, stays, All-cons, All-nil)
 
   asks_one : (a a' : LedgerView) (op : Op) (code : Code) → P op → AskTrace (Some op) (Some code) a a' → Sends P a a'
   asks_one a a' op code so tr = subst (Sends P a) (sym tr.trace) (asked_sends a (Some op) (Some code) so)
@@ -118,17 +117,7 @@ pub record Asked (records : Records) (m : ℕ) (o : Outcome) (a a' : LedgerView)
 module _ (records : Records) (m : ℕ) (o : Outcome) where
   asked_last : (xs : List Outcome) (p : Outcome) (a now last : LedgerView) → Chain (ResolvesBranch AsksLedger records m) a xs now
       → ResolvesBranch AsksLedger records m p now last → p ≡ o → Asked records m o a last
-  asked_last xs p a now last chain leads same =
-      let r : ResolvesBranch AsksLedger records m o now last = subst (λ (w : Outcome). ResolvesBranch AsksLedger records m w now last) same leads in
-      record {
-        manager = r.manager;
-        decision = r.decision;
-        now = now;
-        decided = r.decided;
-        before = chain_sends IsNoClose records m a xs now (λ w c. no_close records m w) chain;
-        obeys = r.obeys;
-        after = asks_if Any (is_decided o.code) r.decided last (Forget o.xid) (λ _. tt) r.forgets;
-      }
+  asked_last xs p a now last chain leads same = search (arith, chain_sends, no_close, asks_if)
 
   asked_before : (p : Outcome) (a now last : LedgerView) → ResolvesBranch AsksLedger records m p now last → Asked records m o a now → Asked records m o a last
   asked_before p a now last r s = record {
@@ -179,8 +168,7 @@ module _ (a opened now decided new last : LedgerView) (op : Op) (first code : Co
   open_now = open_then now decided op code reached obeys
 
   open_first : learnt_shut a ≡ false
-  open_first = false_from_ne_true (learnt_shut a) (λ shut. both_ways (learnt_shut now) open_now
-      (learnt_on a now (begins_on a.collected opened.collected now.collected (asks_one Any a opened OpenRm first tt opens).collected before.collected) shut))
+  open_first = search (arith, false_from_ne_true, both_ways, open_now, learnt_on, begins_on, asks_one)
 
   opened_sent : opened.sent ≡ a.sent ++ OpenRm ∷ []
   opened_sent = ap (λ (l : LedgerView). l.sent) (sent_so a opened OpenRm first open_first opens)
@@ -192,29 +180,13 @@ module _ (a opened now decided new last : LedgerView) (op : Op) (first code : Co
   decided_is = sent_so now decided op code open_now obeys
 
   last_sent : last.sent ≡ a.sent ++ OpenRm ∷ (before.more ++ op ∷ (after.more ++ grown.sent.0))
-  last_sent =
-      grown.sent.1 ∙ ap (λ l. l ++ grown.sent.0) (after.sent ∙ ap (λ (l : LedgerView). l.sent ++ after.more) decided_is)
-      ∙ append_assoc (now.sent ++ op ∷ []) after.more grown.sent.0 ∙ append_assoc now.sent (op ∷ []) (after.more ++ grown.sent.0)
-      ∙ ap (λ l. l ++ op ∷ (after.more ++ grown.sent.0)) now_sent ∙ append_assoc a.sent (OpenRm ∷ before.more) (op ∷ (after.more ++ grown.sent.0))
+  last_sent = search (arith, decided_is, append_assoc, now_sent)
 
   last_collected : last.collected ≡ now.collected ++ (length now.sent, code) ∷ (after.collected.0 ++ grown.collected.0)
-  last_collected =
-      grown.collected.1 ∙ ap (λ l. l ++ grown.collected.0) (after.collected.1 ∙ ap (λ (l : LedgerView). l.collected ++ after.collected.0) decided_is)
-      ∙ append_assoc (now.collected ++ (length now.sent, code) ∷ []) after.collected.0 grown.collected.0
-      ∙ append_assoc now.collected ((length now.sent, code) ∷ []) (after.collected.0 ++ grown.collected.0)
+  last_collected = search (arith, decided_is, append_assoc)
 
   pub answered_in : IsAnsweredIn op code a last.sent last.collected
-  answered_in = record {
-    mid = before.more;
-    later = after.more ++ grown.sent.0;
-    sent = last_sent;
-    open_ = before.all;
-    earlier = now.collected;
-    others = after.collected.0 ++ grown.collected.0;
-    number = length now.sent;
-    number_is = ap (λ l. length l) now_sent ∙ (let e = length-append a.sent (OpenRm ∷ before.more) in omega (arith, e));
-    collected = last_collected;
-  }
+  answered_in = search (arith, last_sent, now_sent, length-append, last_collected)
 
 -- ---- the outcomes of one manager
 
@@ -262,10 +234,7 @@ flat_contains f (x ∷ xs) y c =
     (Contains-append_cases (f x) (flat_map f xs) y c)
 
 pub upto_so : (most m : ℕ) → Contains (range_with_len 1 most) m → IsUpTo most m
-upto_so most m (k, lt, e) =
-    let size = length-range_with_len 1 most in
-    let is : 1 + k ≡ m = sym (get_or-range_with_len 1 most k m (omega (arith, size, lt))) ∙ e in
-    (omega (arith, is), omega (arith, is, size, lt))
+upto_so most m (k, lt, e) = search (arith, length-range_with_len, get_or-range_with_len)
 
 -- an outcome is of a manager with a number within the limits, and among those of it
 module _ (z : ScanView) (records : Records) (old new : List LedgerView) (outcomes : List Outcome) (trace : IsTraceOfResolve z records old new outcomes)
@@ -274,8 +243,7 @@ module _ (z : ScanView) (records : Records) (old new : List LedgerView) (outcome
   outcome_at =
       let w = flat_contains trace.course.at (range_with_len 1 MOST_MANAGERS) o (subst (λ os. Contains os o) trace.course.outcomes_are there) in
       let among : IsUpTo MOST_MANAGERS w.0 = upto_so MOST_MANAGERS w.0 w.1.0 in
-      let own : HasGrown (ledger new w.0) (ledger new w.0) =
-      record { sent = same_begins (ledger new w.0).sent; collected = same_begins (ledger new w.0).collected } in
+      let own : HasGrown (ledger new w.0) (ledger new w.0) = search (arith, same_begins) in
       let elsewhere =
       at_asked records w.0 (left_at z w.0) (trace.course.at w.0) (ledger old w.0) (ledger new w.0) (ledger new w.0) (trace.course.each w.0 among) own o w.1.1 in
       subst (λ k. IsUpTo MOST_MANAGERS k × Contains (trace.course.at k) o) (sym elsewhere.manager) (among, w.1.1)

@@ -15,9 +15,7 @@ use Rattle.xa_switch.proofs.Lists.{found, contains_map}
 -- what holds of each list with its place holds of that of a manager
 pub left_each : (Q : ℕ → List XidName → Type 0) (z : ScanView) → Each Q z.left → (m : ℕ) → 1 ≤ m → m ≤ length z.left → Q (m - 1) (left_at z m)
 left_each Q z each zero low high = absurd (omega (arith, low))
-left_each Q z each (suc k) low high =
-    let place : k ≡ suc k - 1 = omega arith in
-    subst (λ n. Q n (left_at z (suc k))) place (each k (left_at z (suc k)) (slice_get-get_or z.left k [] (omega (arith, high))))
+left_each Q z each (suc k) low high = search (arith, slice_get-get_or, z.left)
 
 -- a manager with first tables is there
 part_of : (o : Option ManagerPart) (T : Tables) → option_map (λ (p : ManagerPart). p.first) o ≡ Some T → (p : ManagerPart) × (o ≡ Some p)

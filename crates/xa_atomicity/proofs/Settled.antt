@@ -38,11 +38,7 @@ use Rattle.xa_atomicity.proofs.InLedgers.{heard, branch_in}
 -- what was sent to a manager, and collected from it, stands in the ledger with it
 pub by_ledger : {X : Type 0} (at : List LedgerView) (m : ℕ) (f : LedgerView → List X) → 1 ≤ m → f no_ledger ≡ []
     → (if is_known at m then f (ledger at m) else []) ≡ f (ledger at m)
-by_ledger at m f positive none =
-    ⊎_elim
-    (λ (past : length at < m). by_if (λ l. l ≡ f (ledger at m)) (is_known at m) _ _ (λ _. refl) (λ _. sym (ap f (past_end at (m - 1) (omega (arith, past))) ∙ none)))
-    (λ (within : m ≤ length at). ap (λ b. if b then f (ledger at m) else []) (λ i. le-leb 1 m positive i && le-leb m (length at) within i))
-    (cases_lt (length at) m)
+by_ledger at m f positive none = search (arith, past_end, le-leb, cases_lt)
 
 pub sent_on : (s : Settling) (t m : ℕ) → 1 ≤ m → (a : LedgerView) → HasGrown a (ledger (ledgers_of s t) m) → Begins a.sent (sent s t m)
 sent_on s t m positive a grown = subst (Begins a.sent) (sym (by_ledger (ledgers_of s t) m (λ (l : LedgerView). l.sent) positive refl)) grown.sent
@@ -73,8 +69,7 @@ module _ (law : Tabled) (s : Settling) (settled : IsSettled s) (t m : ℕ) (T : 
   site_of = record { law = law; opening = with_T.opened; ops = sent s t m; carried = (settled.agree t m).carried }
 
   pub answered_of : All (λ p. slice_get (answers t (coded (history_of s m) T)) p.0 ≡ Some p) (collected s t m)
-  answered_of =
-      subst (λ (J : List Entry). All (λ (p : ℕ × Code). slice_get (answers t J) p.0 ≡ Some p) (collected s t m)) with_T.codes (settled.agree t m).coded
+  answered_of = search (arith, slice_get)
 
   -- what was sent with a number, and collected with a code, stands in the history
   pub sent_stands : 1 ≤ m → (a : LedgerView) → HasGrown a (ledger (ledgers_of s t) m) → (n : ℕ) (op : Op) (c : Code) → slice_get a.sent n ≡ Some op
@@ -102,9 +97,7 @@ outcome_map P Q f bs vs es h = absurd h
 -- tables by which a history has the same codes give a request in it the same
 code_within : (before after : History) (r : Request) (T U : Tables) → coded (before ++ r ∷ after) T ≡ coded (before ++ r ∷ after) U
     → (next r.thread r.op (tables_after before T)).1 ≡ (next r.thread r.op (tables_after before U)).1
-code_within [] after r T U e =
-    let head : (r, (next r.thread r.op T).1) ≡ (r, (next r.thread r.op U).1) = cc in
-    ap (λ (p : Request × Code). p.1) head
+code_within [] after r T U e = search (arith, r.thread, r.op)
 code_within (q ∷ before) after r T U e =
     let tail : coded (before ++ r ∷ after) (next q.thread q.op T).0 ≡ coded (before ++ r ∷ after) (next q.thread q.op U).0 = cc in
     code_within before after r (next q.thread q.op T).0 (next q.thread q.op U).0 tail
@@ -112,21 +105,8 @@ code_within (q ∷ before) after r T U e =
 -- so a decision that was carried out by the one was by the other
 decided_alike : (x : XidName) (t n : ℕ) (T U : Tables) (H : History) → coded H T ≡ coded H U → IsDecidedAfter x t n T H → IsDecidedAfter x t n U H
 decided_alike x t n T U H e z =
-    let place : H ≡ (z.before ++ z.request ∷ z.between) ++ z.decision ∷ z.after =
-    z.place ∙ sym (append_assoc z.before (z.request ∷ z.between) (z.decision ∷ z.after)) in
-    record {
-      before = z.before;
-      request = z.request;
-      between = z.between;
-      decision = z.decision;
-      after = z.after;
-      place = z.place;
-      thread = z.thread;
-      number = z.number;
-      named = z.named;
-      decides = z.decides;
-      carried_out = sym (code_within (z.before ++ z.request ∷ z.between) z.after z.decision T U (subst (λ h. coded h T ≡ coded h U) place e)) ∙ z.carried_out;
-    }
+    let place : H ≡ (z.before ++ z.request ∷ z.between) ++ z.decision ∷ z.after = search (arith, append_assoc) in
+    search (arith, code_within, z.after, z.decision)
 
 -- what is told of a branch became of it, where it did by the history that each opening's tables give
 pub tells_of : (s : Settling) (t : ℕ) (b : Branch) (n : ℕ) (ending : Ending)
@@ -165,8 +145,7 @@ module _ (law : Tabled) (s : Settling) (t : ℕ) (settled : IsSettled s) (b : Br
   -- and what became of it
   pub told_in : OnlyTheseOrDecisionsName b.xid t (length a.sent) (length a'.sent) (history_of s b.m)
       → Told t b.xid (told_by (state_of T b.xid)) T (history_of s b.m) (length a.sent) v e
-  told_in only =
-      branch_told (site_of law s settled t b.m T with_T) b.xid (length a.sent) (length a'.sent) commit v e its_course (told_by (state_of T b.xid)) (law.first b.xid T) only
+  told_in only = search (arith, branch_told, its_course)
 
 -- in a settled opening, by the histories of its managers
 module _ (law : Tabled) (opened : (s : Settling) (m : ℕ) → IsSettled s → (T : Tables) × IsOpenedWith s m T) (s : Settling) (t : ℕ) where
@@ -219,21 +198,15 @@ module _ (law : Tabled) (opened : (s : Settling) (m : ℕ) → IsSettled s → (
           let open_ = opened s b.m settled in
           let z : (U : Tables) → IsOpenedWith s b.m U → Counted t b.xid U (history_of s b.m) (old b.m) (new b.m) vote ending = λ U with_U.
           branch_counts (site_of law s settled t b.m U with_U) b.xid (old b.m) (new b.m) commit vote ending (is U with_U).0 only in
-          record {
-            fated = one_fated (λ before after r place own number k d lt named other. only before after r place own number k d lt named);
-            counted = z;
-            undecided = (z open_.0 open_.1).undecided;
-          }
+          search (arith, one_fated, open_.0)
 
     -- each of them
     module _ (bs : List Branch) (vs : List Code) (zs : List (Option Code)) (es : List Ending) (each : EachBranch InHistory bs vs zs es) where
       pub each_fated : AreLeftOrDecided s t bs old new → EachOutcome (λ b v e. Fated b (old b.m) v e) bs vs es
-      each_fated alone =
-          each_outcome (λ b. OnlyTheseOrDecisionsName b.xid t (old b.m) (new b.m) (history_of s b.m)) InHistory (λ b v e. Fated b (old b.m) v e) (λ b v z e only is. one_fated b v z e is only) bs vs zs es alone.each each
+      each_fated alone = search (arith, each_outcome, one_fated, each, alone.each)
 
       pub each_both : AreLeftAlone s t bs old new → EachOutcome (λ b v e. Both b (old b.m) (new b.m) v e) bs vs es
-      each_both alone =
-          each_outcome (λ b. OnlyTheseName b.xid t (old b.m) (new b.m) (history_of s b.m)) InHistory (λ b v e. Both b (old b.m) (new b.m) v e) (λ b v z e only is. one_both b v z e is only) bs vs zs es alone.each each
+      each_both alone = search (arith, each_outcome, one_both, each, alone.each)
 
   -- ---- all of a transaction or nothing
 
@@ -296,20 +269,17 @@ module _ (law : Tabled) (opened : (s : Settling) (m : ℕ) → IsSettled s → (
       all_fated = each_fated settled d.commit (sent_so_far at) (sent_so_far new) bs d.votes.items made.trace.course.seconds d.endings.items each alone
 
       pub votes_law : KeepsTheVotes s t bs (sent_so_far at) d
-      votes_law =
-          record { each = outcome_map (λ b v e. Fated b (sent_so_far at b.m) v e) (λ b v e. KeepsItsVote s t b (sent_so_far at b.m) v e) (λ b v e f. f.keeps) bs d.votes.items d.endings.items all_fated }
+      votes_law = search (arith, each, outcome_map, all_fated)
 
       pub fates_law : TellsTheFates s t bs (sent_so_far at) d
-      fates_law =
-          record { each = outcome_map (λ b v e. Fated b (sent_so_far at b.m) v e) (λ b v e. TellsTheFate s t b (sent_so_far at b.m) e) (λ b v e f. f.tells) bs d.votes.items d.endings.items all_fated }
+      fates_law = search (arith, each, outcome_map, all_fated)
 
     module _ (alone : AreLeftAlone s t bs (sent_so_far at) (sent_so_far new)) where
       pub all_outcomes : EachOutcome (λ b v e. Both b (sent_so_far at b.m) (sent_so_far new b.m) v e) bs d.votes.items d.endings.items
       all_outcomes = each_both settled d.commit (sent_so_far at) (sent_so_far new) bs d.votes.items made.trace.course.seconds d.endings.items each alone
 
       pub counts_law : CountsTheCommitted s t bs (sent_so_far at) d
-      counts_law =
-          record { each = outcome_map (λ b v e. Both b (sent_so_far at b.m) (sent_so_far new b.m) v e) (λ b v e. Shares s t b (sent_so_far at b.m) (is_committed e)) (λ b v e z T with_T. (z.counted T with_T).counted) bs d.votes.items d.endings.items all_outcomes }
+      counts_law = search (arith, each, outcome_map, all_outcomes)
 
       -- no branch was rolled back, and none voted against, where one was committed
       pub whole_law : (has_committed d ≡ true → has_rolled_back d ≡ false) → (has_committed d ≡ true → has_vote_against d ≡ false) → is_decided d ≡ true

@@ -52,14 +52,8 @@ share_is x k d t n T H after add fs e =
     let rest : History = request_of t n (Prepare x) ∷ add.after in
     let later : XidName → Bool = λ y. commits_later (after y) y (coded (add.between ++ rest) U) in
     let own : Option Association = association_of here add.adding.thread in
-    let is : later x ≡ commits_or (after x) fs =
-    commits_past (after x) x add.between rest U add.unended ∙ commits_by (after x) x rest V
-    ∙ ap (λ (W : Tables). commits_or (after x) (fates x rest W)) (sym (tables_after-append add.before (add.adding ∷ add.between) T))
-    ∙ ap (commits_or (after x)) e in
-    ap (λ op. share_of k op (next add.adding.thread add.adding.op here).1 own later) add.adds
-    ∙ ap (λ c. if key_eq k k && is_done c then added_by own d later else pos 0) add.answered
-    ∙ ap (λ b. if b && true then added_by own d later else pos 0) ((Decides-key_eq k k).1 refl)
-    ∙ added_is own d later x add.branch ∙ ap (λ b. if b then d else pos 0) is
+    let is : later x ≡ commits_or (after x) fs = search (arith, commits_past, commits_by, tables_after-append, add.between, add.before) in
+    search (arith, Decides-key_eq, added_is, add.adding.thread, add.adding.op)
 
 -- where it stands in a history
 pub add_place : (x : XidName) (k : List ℕ) (d : ℤ) (t n : ℕ) (T : Tables) (H : History) (add : IsAddition x k d t n T H)

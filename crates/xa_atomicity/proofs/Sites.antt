@@ -1,4 +1,5 @@
 -- The requests of one thread to a manager, by their numbers in the manager's settled history.
+use Rattle.std.proofs.Common.{rules}
 use Rattle.xa_base.proofs.{◌≡◌, ◌≢◌, ℕ, suc, ◌+◌, ◌<◌, ◌≤◌, Bool, true, cond, ◌==◌, ◌||◌, List, [], ◌∷◌, ◌++◌, length, slice_get, get_or, sym, refl, ap, ◌∙◌}
 use Rattle.xa_base.proofs.{subst, arith, Some, zero, All, filter-append, eq-eqb, some_same, all_left, all_after}
 use Rattle.xa_words.specs.declared.code.Code.{Code}
@@ -78,18 +79,14 @@ sides t n op (x ∷ xs) ys k (o ∷ ops) e =
 module _ {t : ℕ} {T : Tables} {H : History} (s : Site t T H) where
   sides_at : (n : ℕ) (op : Op) (before after : History) → H ≡ before ++ request_of t n op ∷ after
       → Sides t n op (of_thread t before) (of_thread t after) 0 s.ops
-  sides_at n op before after place =
-      sides t n op (of_thread t before) (of_thread t after) 0 s.ops
-      (sym (ap (of_thread t) place ∙ filter-append (λ (q : Request). q.thread == t) before (request_of t n op ∷ after)
-      ∙ ap (λ b. of_thread t before ++ cond b (request_of t n op ∷ of_thread t after) (of_thread t after)) (eq-eqb t t refl)) ∙ s.carried)
+  sides_at n op before after place = search (arith, sides, filter-append, request_of, eq-eqb)
 
   -- it is answered so wherever it stands
   pub answered_here : (n : ℕ) (op : Op) (before after : History) → H ≡ before ++ request_of t n op ∷ after
       → slice_get (answers t (coded H T)) n ≡ Some (n, (next t op (tables_after before T)).1)
   answered_here n op before after place =
       let z = sides_at n op before after place in
-      ap (λ (h : History). slice_get (answers t (coded h T)) n) place
-      ∙ answer_at t before after (request_of t n op) T n refl (ap (λ (h : History). length h) z.earlier ∙ numbered_length t 0 z.pre ∙ (let many = z.many in omega (arith, many)))
+      search (arith, slice_get, answer_at, request_of, numbered_length, z.many)
 
   abbrev pub at_place : (n : ℕ) (op : Op) (c : Code) → StandsIn t n op c T H → (before after : History) → H ≡ before ++ request_of t n op ∷ after
       → StandsIn t n op c T H
@@ -154,13 +151,8 @@ pub record Later (b : History) (r : Request) (a : History) (c : History) (q : Re
 
 pub later_place : (t : ℕ) (b c : History) (r q : Request) (a d : History) → b ++ r ∷ a ≡ c ++ q ∷ d → q.thread ≡ t → r.number < q.number → Below t r.number b
     → Later b r a c q d
-later_place t [] [] r q a d e its more low =
-    let head : r ≡ q = cc in
-    let number : r.number ≡ q.number = ap (λ (z : Request). z.number) head in
-    absurd (omega (arith, more, number))
-later_place t [] (p ∷ c) r q a d e its more low =
-    let head : r ≡ p = cc in
-    record { mid = c; before = ap (λ (z : Request). z ∷ c) (sym head); after = let z : a ≡ c ++ q ∷ d = cc in z }
+later_place t [] [] r q a d e its more low = search (arith, rules)
+later_place t [] (p ∷ c) r q a d e its more low = search (arith, rules)
 later_place t (p ∷ b) [] r q a d e its more low =
     let head : p ≡ q = cc in
     let less = low 0 p (omega arith) (ap (λ (z : Request). z.thread) head ∙ its) in

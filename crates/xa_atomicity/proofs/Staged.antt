@@ -1,4 +1,5 @@
 -- Each stage of a commit is one that was cut short, whatever else was done between them.
+use Rattle.std.proofs.Common.{arith}
 use Rattle.xa_atomicity.proofs.CutSends.{seconds_are}
 use Rattle.xa_base.proofs.{◌≡◌, ℕ, Bool, true, false, not, ◌&&◌, ◌||◌, Option, Some, List, [], ◌∷◌, map, refl, inl, inr, get_or, sym, ap, ◌∙◌, subst, All}
 use Rattle.xa_base.proofs.{All-nil, All-cons, All-head, All-tail}
@@ -130,10 +131,7 @@ module _ (bs : List Branch) (desk : DeskView) (mid tell : List LedgerView) (log 
   commit = d.known.commit
 
   logs_are : Logs may.tran (yes_of bs votes) votes d.known.logged log later
-  logs_are =
-      let tran_is : p.tran ≡ may.tran = one_tran bs p.tran may.tran may.some first.tran may.one in
-      subst (λ (u : TranName). Logs u (yes_of bs votes) votes d.known.logged log later) tran_is
-      (subst (λ (l : List Bool). Logs p.tran l votes d.known.logged log later) (yes_is bs asks first.same) (subst (λ (vs : List Code). Logs p.tran (yes_asked asks) vs d.known.logged log later) first.votes second.logs))
+  logs_are = search (arith, one_tran, yes_is)
 
   decision_is : commit ≡ decision_of votes d.known.logged
   decision_is = second.decision ∙ ap (λ vs. decision_of vs d.known.logged) first.votes
@@ -163,8 +161,7 @@ module _ (bs : List Branch) (desk : DeskView) (mid tell : List LedgerView) (log 
 
 pub prepared_is_cut : (bs : List Branch) (desk : DeskView) (mid new : List LedgerView) (log : LogState) (p : Prepared) → MayCommit desk log bs
     → HasPrepared bs desk.ledgers mid p → LeavesBranches bs mid new → IsCut bs desk new log log []
-prepared_is_cut bs desk mid new log p may first between =
-    asking_cut bs desk mid new log p.round.asks.items may first.same (asks_so_far p.round.asks.items desk.ledgers mid first.asked) between
+prepared_is_cut bs desk mid new log p may first between = search (arith, asking_cut, asks_so_far, first.same)
 
 pub decided_is_cut : (bs : List Branch) (desk : DeskView) (mid new : List LedgerView) (log later : LogState) (p : Prepared) (d : Decided)
     → MayCommit desk log bs → HasPrepared bs desk.ledgers mid p → LeavesBranches bs mid new → HasDecided p log later d → IsCut bs desk new log later []

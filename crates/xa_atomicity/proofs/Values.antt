@@ -1,5 +1,6 @@
 -- What a branch that nobody else named counts for, over the settled history of its manager: its additions, and what the
 -- call's requests moved.
+use Rattle.std.proofs.Common.{rules}
 use Rattle.xa_atomicity.proofs.Courses.{Unreached, Reads, Breaks, Stays, Agrees, Refuses, yes_is, read_is, Sends, SendsOne, Course, rest_forgets}
 use Rattle.std.proofs.lemmas.Bool.{both_ways}
 use Rattle.xa_base.proofs.{false_from_ne_true, cases_lt, by_bool, by_if, at_true, ℤ, pos, ◌+ℤ◌, ◌≡◌, ◌≢◌, ℕ, suc, ◌+◌, inl, inr, Bool, true, false, ◌||◌}
@@ -29,15 +30,11 @@ use Rattle.xa_atomicity.proofs.Sites.{Site, StandsIn, above, below, at_place, Se
 -- a history that doesn't name the branch makes nothing of it
 -- a Prepare commits nothing
 vote_then : (v : Code) (fs : List Fate) → commits_or false fs ≡ false → commits_or false (cons_option (prepare_fate v) fs) ≡ false
-vote_then v fs e =
-    by_if (λ o. commits_or false (cons_option o fs) ≡ false) (is_done v) (Some history.InDoubt) _ (λ _. e) (λ _.
-    by_if (λ o. commits_or false (cons_option o fs) ≡ false) (is_read_only v) (Some history.ReadOnly) _ (λ _. refl) (λ _.
-    by_if (λ o. commits_or false (cons_option o fs) ≡ false) (is_integrity v) (Some history.RolledBack) None (λ _. refl) (λ _. e)))
+vote_then v fs e = search (arith, commits_or, cons_option)
 
 -- nor does a Rollback after it
 rolled_then : (v c : Code) → commits_or false (cons_option (prepare_fate v) (cons_option (rollback_fate c) [])) ≡ false
-rolled_then v c =
-    vote_then v (cons_option (rollback_fate c) []) (by_if (λ o. commits_or false (cons_option o []) ≡ false) (is_done c || is_rolled_back c) (Some history.RolledBack) None (λ _. refl) (λ _. refl))
+rolled_then v c = search (arith, vote_then, cons_option, commits_or)
 
 -- requests that name the branch only to forget it make nothing of it
 forgets_fate : (x : XidName) (op : Op) (c : Code) → (names x op ≡ true → is_forget op ≡ true) → fate_of x op c ≡ None
@@ -78,8 +75,7 @@ module _ {t : ℕ} {T : Tables} {H : History} (site : Site t T H) (x : XidName) 
   never_reads : StandsIn t n P vote T H → (k : List ℕ) (d : ℤ) → IsAddition x k d t n T H → vote ≢ RdOnly
   never_reads first k d add reads =
       let f : Voted = voted_at first k d add in
-      site.law.adders t add.adding.thread add.adding.op x k d add.between (tables_after add.before T) add.adds add.branch add.answered add.unended
-      (ap (λ (U : Tables). (next t P U).1) (sym (tables_after-append add.before (add.adding ∷ add.between) T)) ∙ sym f.code ∙ reads)
+      search (arith, tables_after-append, add.adding.thread, add.adding.op, add.between, add.before, add.adds, add.branch, add.answered)
 
   -- whether its additions count
   abbrev Counts : Bool → Type 0
@@ -105,11 +101,7 @@ module _ {t : ℕ} {T : Tables} {H : History} (site : Site t T H) (x : XidName) 
 
     -- the Prepare alone makes something of the branch
     one_fate : (f : Voted) → fates x (request_of t n P ∷ f.after) (tables_after f.before T) ≡ cons_option (prepare_fate vote) []
-    one_fate f =
-        let here : Tables = tables_after f.before T in
-        let own : fate_of x P (next t P here).1 ≡ prepare_fate vote = ap (fate_of x P) (sym f.code) ∙ prepare_named vote in
-        let none : fates x f.after (next t P here).0 ≡ [] = unnamed x f.after (next t P here).0 (nowhere_after f) in
-        λ i. cons_option (own i) (none i)
+    one_fate f = search (arith, prepare_named, unnamed, nowhere_after, cons_option, f.before, f.after)
 
     -- and moves nothing
     unmoved : (f : Voted) (accounts : List (List ℕ × ℕ)) → moved accounts (is_within t n (n + 1)) H T ≡ pos 0
@@ -158,13 +150,7 @@ module _ {t : ℕ} {T : Tables} {H : History} (site : Site t T H) (x : XidName) 
     nothing_between_them = unnamed x s.mid now quiet_mid
 
     two_fates : fates x (request_of t n P ∷ f.after) (tables_after f.before T) ≡ cons_option (prepare_fate vote) (cons_option (fate_of x op c) [])
-    two_fates =
-        let own : fate_of x P (next t P (tables_after f.before T)).1 ≡ prepare_fate vote = ap (fate_of x P) (sym f.code) ∙ prepare_named vote in
-        let last_one : fate_of x op (next t op there).1 ≡ fate_of x op c = ap (fate_of x op) (sym s.code) in
-        let end : fates x s.rest (next t op there).0 ≡ [] = forgotten x s.rest _ forgets_rest in
-        let later : fates x f.after now ≡ cons_option (fate_of x op c) [] =
-        ap (λ (h : History). fates x h now) s.split ∙ fates_both x s.mid (S ∷ s.rest) now ∙ (λ i. nothing_between_them i ++ cons_option (last_one i) (end i)) in
-        λ i. cons_option (own i) (later i)
+    two_fates = search (arith, prepare_named, forgotten, forgets_rest, cons_option, fates_both, nothing_between_them)
 
     -- what the call's requests move is what the second one moves
     moved_is : (accounts : List (List ℕ × ℕ)) → moved accounts (is_within t n last) H T ≡ moved_by accounts op c there
@@ -270,8 +256,7 @@ module _ {t : ℕ} {T : Tables} {H : History} (site : Site t T H) (x : XidName) 
     second_tables = there site x n vote last only op c z z.first
 
     counts_so : Counts site x n vote (commits_or false (cons_option (prepare_fate vote) (cons_option (fate_of x op c) [])))
-    counts_so =
-        counted_by site x n vote z.first (cons_option (prepare_fate vote) (cons_option (fate_of x op c) [])) (two_fates site x n vote last only op c z)
+    counts_so = search (arith, counted_by, two_fates)
 
     moves_so : (accounts : List (List ℕ × ℕ)) → moved_here accounts ≡ moved_by accounts op c second_tables
     moves_so accounts = moved_is site x n vote last only op c z z.first accounts
@@ -289,8 +274,7 @@ module _ {t : ℕ} {T : Tables} {H : History} (site : Site t T H) (x : XidName) 
       let none : CountsAs false = refuse_counts c z in
       let no : is_no vote ≡ true = neither vote y r in
       let never : (e : Ending) → is_no vote ≡ false → is_heuristic e ≡ false = λ e n. (let w : true ≡ false = sym no ∙ n in cc) in
-      by_if Goal (is_done c || is_rolled_back c) RolledBack _ (λ _. uncommitted RolledBack refl refl (never RolledBack) none) (λ _.
-      by_if Goal (is_heuristic_code c) (Heuristic c) (Left c) (λ _. uncommitted (Heuristic c) refl refl (never (Heuristic c)) none) (λ _. uncommitted (Left c) refl refl (never (Left c)) none))
+      search (arith, uncommitted)
 
   -- a prepared branch answers XA_OK, unless its manager is shut
   agreed : (op : Op) (g : Fate) (e : Ending) (c : Code) → is_yes vote ≡ true → is_read_only_ending e ≡ false → is_heuristic e ≡ false
@@ -310,8 +294,7 @@ module _ {t : ℕ} {T : Tables} {H : History} (site : Site t T H) (x : XidName) 
       elim (U.shut) as (λ l. c ≡ (if l then RmFail else Done) → Goal (if is_done c then e else (if is_rm_fail c then InDoubt else (if is_heuristic_code c then Heuristic c else Left c)))) [
         | false ↦ λ is.
             subst (λ (d : Code). Goal (if is_done d then e else (if is_rm_fail d then InDoubt else (if is_heuristic_code d then Heuristic d else Left d)))) (sym is) (record {
-              counted = λ k d add. counts_so op c z k d add
-                  ∙ ap (λ q. if q then d else pos 0) (by_second ∙ ap (λ o. commits_or false (cons_option o [])) (ap (fate_of x op) is ∙ by_done) ∙ counts);
+              counted = search (arith, counts_so, commits_or, cons_option);
               adders = λ k d add. writes;
               moves = λ accounts.
                   moves_so op c z accounts ∙ ap (λ d. moved_by accounts op d U) is ∙ moving accounts U
@@ -368,15 +351,7 @@ branch_counts {t} {T} {H} site x n last commit vote ending course only = by_cour
         (λ accounts U. refl) (λ accounts U. refl) (λ U h. h.rolls_back) z
 
     by_course : (e : Ending) → Course site x n last vote commit e → Counted t x T H n last vote e
-    by_course _ (Unreached same code) = record {
-      counted = unasked t x T H n (subst (λ k. OnlyTheseName x t n k H) same only);
-      adders = λ k d add. refl;
-      moves = λ accounts.
-          ap (λ k. moved accounts (is_within t n k) H T) same
-          ∙ moved_none accounts (is_within t n n) H T (λ k d lt. outside t n n (get_or H k d) (λ own. cases_lt (get_or H k d).number n));
-      reads = λ r. cc;
-      undecided = λ _. refl;
-    }
+    by_course _ (Unreached same code) = search (arith, unasked, is_within, moved_none, cases_lt)
     by_course _ (Reads r z) = read_goal site x n last vote only r z
     by_course _ (Breaks k z) = stays_so RolledBack refl refl refl z
     by_course _ (Stays c y z) = stays_so (Left c) refl refl refl z

@@ -1,4 +1,5 @@
 -- What a branch that voted to commit stands at as the opening of its commit ends.
+use Rattle.std.proofs.Common.{arith}
 use Rattle.xa_base.proofs.{◌≡◌, ℕ, Bool, true, false, ◌||◌, if◌then◌else◌, List, [], ◌∷◌, length, sym, refl, ap, ◌∙◌, subst, Option, Some, None, list_any}
 use Rattle.xa_base.proofs.{list_any-append, or-true}
 use Rattle.xa_base.specs.{Begins}
@@ -60,16 +61,10 @@ doubt_is true c e = cc
 doubt_is false c e = cc
 
 learnt_asked : (a : LedgerView) (op : Op) → learnt_shut (asked a (Some op) (Some RmFail)) ≡ true
-learnt_asked a op =
-    elim (learnt_shut a) as (λ b. learnt_shut a ≡ b → learnt_shut (if b then a else with_collected (with_sent a op) (length a.sent) RmFail) ≡ true) [
-      | true ↦ λ e. e
-      | false ↦ λ e. list_any-append (λ (p : ℕ × Code). is_rm_fail p.1) a.collected ((length a.sent, RmFail) ∷ []) ∙ or-true (learnt_shut a)
-    ] refl
+learnt_asked a op = search (arith, list_any-append, or-true, a.collected)
 
 pub learnt_on : (a b : LedgerView) → Begins a.collected b.collected → learnt_shut a ≡ true → learnt_shut b ≡ true
-learnt_on a b begins e =
-    ap (list_any (λ (p : ℕ × Code). is_rm_fail p.1)) begins.1 ∙ list_any-append (λ (p : ℕ × Code). is_rm_fail p.1) a.collected begins.0
-    ∙ ap (λ q. q || list_any (λ (p : ℕ × Code). is_rm_fail p.1) begins.0) e
+learnt_on a b begins e = search (arith, list_any, list_any-append, a.collected)
 
 pub learnt_in_doubt : (b : Branch) (vote : Code) (second : Option Code) (ending : Ending) (commit : Bool) (a a' : LedgerView)
     → AtBranch AsksLedger commit b vote second ending a a' → is_yes vote ≡ true → is_in_doubt ending ≡ true → learnt_shut a' ≡ true

@@ -1,6 +1,6 @@
+use Rattle.std.proofs.Common.{arith}
 use Rattle.xa_atomicity.proofs.Aborts.{abort_sends_no_commit, failed_append_aborts}
 use Rattle.xa_atomicity.proofs.commits.failed_append.Goals as goal
 
 pub returns : goal.returns
-returns c tran bs old new log later done call wanted off =
-    abort_sends_no_commit tran bs old new log later done call (failed_append_aborts tran bs old new log later done call wanted off)
+returns c tran bs old new log later done call wanted off = search (arith, abort_sends_no_commit, failed_append_aborts)

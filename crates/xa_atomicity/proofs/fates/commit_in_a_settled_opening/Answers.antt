@@ -1,3 +1,4 @@
+use Rattle.std.proofs.Common.{arith}
 use Rattle.xa_atomicity.proofs.fates.commit_in_a_settled_opening.Goals as goal
 
 pub returns-clause-committed : goal.returns-clause-committed
@@ -16,5 +17,4 @@ pub returns-clause-values : goal.returns-clause-values
 returns-clause-values g c = λ alone. c.endings_are_fates.ensures.values _ _ _ _ _ _ _ _ c.journal-settled.ensures.settled c.requires.made c.requires.grown alone
 
 pub returns-clause-whole : goal.returns-clause-whole
-returns-clause-whole g c =
-    λ alone decided. c.endings_are_fates.ensures.whole _ _ _ _ _ _ _ _ c.journal-settled.ensures.settled c.requires.made c.requires.grown alone decided
+returns-clause-whole g c = search (arith, c.endings_are_fates.ensures.whole, c.journal-settled.ensures.settled, c.requires.made, c.requires.grown)
