@@ -319,8 +319,11 @@ branch_told {t} {T} {H} site x n last commit vote ending course f0 fits only = b
 
     by_course : (e : Ending) → Course site x n last vote commit e → Told t x f0 T H n vote e
     by_course _ (Unreached same code) = no_vote site x f0 fits n last vote only (Left RmFail) (ap is_yes code) refl (λ f e. cc)
-    by_course _ (Reads r z) = search (arith, voted_so, read_is)
-    by_course _ (Breaks k z) = search (arith, broken_code, voted_so)
+    by_course _ (Reads r z) =
+        voted_so site x f0 fits n last vote only z ReadOnly history.ReadOnly (read_not r) refl refl (ap prepare_fate (read_is vote r)) refl
+    by_course _ (Breaks k z) =
+        let code : vote ≡ RbIntegrity = broken_code site x f0 fits n last vote only z k in
+        voted_so site x f0 fits n last vote only z RolledBack history.RolledBack (ap is_yes code) refl refl (ap prepare_fate code) refl
     by_course _ (Stays c y z) = no_vote site x f0 fits n last vote only (Left c) y refl (λ f e. cc)
     by_course _ (Agrees c y z) = by_decision commit c y z
     by_course _ (Refuses c y r z) = refused site x f0 fits n last vote only c y z

@@ -351,7 +351,15 @@ branch_counts {t} {T} {H} site x n last commit vote ending course only = by_cour
         (λ accounts U. refl) (λ accounts U. refl) (λ U h. h.rolls_back) z
 
     by_course : (e : Ending) → Course site x n last vote commit e → Counted t x T H n last vote e
-    by_course _ (Unreached same code) = search (arith, unasked, is_within, moved_none, cases_lt)
+    by_course _ (Unreached same code) = record {
+      counted = unasked t x T H n (subst (λ k. OnlyTheseName x t n k H) same only);
+      adders = λ k d add. refl;
+      moves = λ accounts.
+          ap (λ k. moved accounts (is_within t n k) H T) same
+          ∙ moved_none accounts (is_within t n n) H T (λ k d lt. outside t n n (get_or H k d) (λ own. cases_lt (get_or H k d).number n));
+      reads = λ r. cc;
+      undecided = λ _. refl;
+    }
     by_course _ (Reads r z) = read_goal site x n last vote only r z
     by_course _ (Breaks k z) = stays_so RolledBack refl refl refl z
     by_course _ (Stays c y z) = stays_so (Left c) refl refl refl z
