@@ -1,11 +1,9 @@
 -- On abort no Commit is sent.
-use Rattle.std.proofs.Common.{arith}
+use Rattle.xa_base.proofs.{arith, ◌≡◌, true, false, Option, List, refl, subst, list_any_none, and-false, and_parts}
 use Rattle.xa_atomicity.proofs.Asked.{second_so, third_so}
-use Rattle.xa_base.proofs.{◌≡◌, true, false, not, ◌&&◌, ◌||◌, Option, List, refl, ◌∙◌, subst, list_any_none, and-false, and_parts}
-use Rattle.xa_words.specs.{TranName, Op}
-use Rattle.xa_words.specs.declared.code.Code.{Code}
-use Rattle.xa_desk.specs.LedgerView.{LedgerView}
-use Rattle.xa_driver.specs.{Branch, Done, decides_commit, has_yes, IsTraceOfCommit, wants_record, AtBranch, AsksLedger, Ending, NoCommitWasSent, is_commit}
+use Rattle.xa_words.specs.{TranName, Op, Code}
+use Rattle.xa_desk.specs.{LedgerView}
+use Rattle.xa_driver.specs.{Branch, Done, IsTraceOfCommit, wants_record, AtBranch, AsksLedger, Ending, NoCommitWasSent, is_commit}
 use Rattle.xa_log.specs.{LogState}
 use Rattle.xa_driver.proofs.Mapped.{branch_by}
 use Rattle.xa_atomicity.proofs.EachManager.{every_manager}

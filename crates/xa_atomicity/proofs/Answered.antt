@@ -1,32 +1,26 @@
 -- Where the request of a resolve that was answered stands in a history, and what it leaves.
-use Rattle.std.proofs.Common.{rules}
+use Rattle.xa_base.proofs.{rules, ◌&&◌, unwrap_or, ◌≡◌, ◌≢◌, ℕ, suc, ◌+◌, Bool, true, false, cond, ◌==◌, ◌||◌, List, [], ◌∷◌, ◌++◌, length, append_assoc}
+use Rattle.xa_base.proofs.{slice_get, get_or, sym, refl, ap, ◌∙◌, subst, arith, Option, Some, None, All, cons_option, nat_cmp_total, eqb-true}
+use Rattle.xa_base.proofs.{false_from_ne_true, All-head, All-tail, by_bool, tied_true, all_left, all_right}
 use Rattle.xa_atomicity.proofs.Leading.{waits, unforgotten, over, Stands, IsTowards, Led, Standing, led_after, ends_it}
-use Rattle.xa_base.proofs.{◌&&◌, unwrap_or, ◌≡◌, ◌≢◌, ℕ, suc, ◌+◌, Bool, true, false, cond, ◌==◌, ◌||◌, List, [], ◌∷◌, ◌++◌, length, append_assoc, slice_get}
-use Rattle.xa_base.proofs.{get_or, sym, refl, ap, ◌∙◌, subst, arith, Option, Some, None, All, cons_option, nat_cmp_total, eqb-true, false_from_ne_true}
-use Rattle.xa_base.proofs.{All-head, All-tail, by_bool, tied_true, all_left, all_right}
 use Rattle.std.specs.FinSet.{contains-insert}
 use Rattle.std.proofs.lemmas.Bool.{and_right, both_ways}
-use Rattle.xa_words.specs.{XidName, RmFail, Op, OpenRm, CloseRm, Request}
-use Rattle.xa_words.specs.declared.code.Code.{Code}
+use Rattle.xa_words.specs.{XidName, RmFail, Op, OpenRm, CloseRm, Request, Code}
 use Rattle.xa_tables.specs.{HeuristicDecision, State, HeuristicallyCompleted, has_opened, decision_code, Answer, next, open_rm, Fate, decided_fate, coded}
-use Rattle.xa_tables.specs.{of_thread, tables_after, fate_of, last_or, is_in_doubt as is_unknown, closes, is_close}
+use Rattle.xa_tables.specs.{of_thread, tables_after, fate_of, last_or, is_in_doubt as is_unknown, closes, is_close, Tables, History}
 use Rattle.xa_tables.specs.declared.state.State.TheVariants.{Prepared}
-use Rattle.xa_tables.specs.Tables.{Tables}
-use Rattle.xa_tables.specs.History.{History}
 use Rattle.xa_tables.proofs.Law.{Sound, sound_after, last_more}
 use Rattle.xa_tables.proofs.Opened.{opened_on}
 use Rattle.xa_tables.proofs.ShutLemmas.{next-shut, shut_stays}
 use Rattle.xa_tables.proofs.Unnamed.{tables_after-append}
-use Rattle.xa_desk.specs.LedgerView.{LedgerView}
-use Rattle.xa_desk.specs.{numbered}
+use Rattle.xa_desk.specs.{LedgerView, numbered}
 use Rattle.xa_switch.specs.{answers}
-use Rattle.xa_atomicity.specs.{ended_as}
+use Rattle.xa_atomicity.specs.{ended_as, Tabled}
 use Rattle.xa_driver.specs.{outcome_op}
 use Rattle.xa_atomicity.proofs.Guided.{decided_known, known_stays}
 use Rattle.xa_atomicity.proofs.Placing.{request_of, part, numbered_both, fates, fates_both, last_both}
 use Rattle.xa_atomicity.proofs.Requests.{own_all, code_there, count_two}
 use Rattle.xa_atomicity.proofs.Resolves.{IsAnsweredIn, IsNoClose}
-use Rattle.xa_atomicity.specs.Tabled.{Tabled}
 use Rattle.xa_atomicity.proofs.Voting.{tells_so}
 
 -- ---- a history, parted at a request
@@ -51,7 +45,7 @@ module _ (commit open_ : Bool) (D L : Type 0) (x : XidName) (T : Tables) (f : Fa
       let z =
       led_after commit open_ D L x after next_here (unwrap_or made fate_here) towards (record { stands = led.stands; sound = sound_after r.thread r.op here sound }) in
       let fate_is : last_or (unwrap_or made fate_here) (fates x after next_here) ≡ last_or f (fates x (before ++ r ∷ after) T) =
-          search (arith, last_more, last_both, cons_option, fates_both) in
+      search (arith, last_more, last_both, cons_option, fates_both) in
       search (arith, unwrap_or, tables_after-append)
 
 -- ---- a fate, once it ended as was decided

@@ -1,10 +1,7 @@
 -- What a commit asks of a branch is so, where its outcome and its Forget are.
-use Rattle.std.proofs.Common.{arith, rules}
-use Rattle.xa_base.proofs.{◌≡◌, ◌||◌, Bool, true, false, Option, None, Some, by_if}
-use Rattle.xa_words.specs.{XidName, Op, Commit, Rollback, Forget}
-use Rattle.xa_words.specs.declared.code.Code.{Code}
-use Rattle.xa_tables.specs.{is_rolled_back}
-use Rattle.xa_driver.specs.{is_read, is_yes, is_decided, is_out_of_reach, second_op, third_op, outcome_op}
+use Rattle.xa_base.proofs.{arith, rules, ◌≡◌, Bool, true, false, Option, None, Some, by_if}
+use Rattle.xa_words.specs.{XidName, Op, Commit, Forget, Code}
+use Rattle.xa_driver.specs.{is_yes, is_decided, second_op, third_op, outcome_op}
 use Rattle.xa_driver.proofs.Mapped.{IsAskedFor}
 
 pub second_so : (P : Op → Type 0) (commit : Bool) (x : XidName) (v : Code) → P (outcome_op commit x) → IsAskedFor P (second_op commit x v)

@@ -4,12 +4,9 @@ use Rattle.xa_base.proofs.{◌≡◌, ◌≢◌, ℕ, ◌<◌, ◌≤◌, Bool, 
 use Rattle.xa_base.proofs.{All, Contains, cases_lt, false_from_ne_true, All-nil, All-cons, All-contains}
 use Rattle.std.proofs.lemmas.List.Elements.{Contains-get_or}
 use Rattle.xa_base.specs.{MOST_MANAGERS}
-use Rattle.xa_words.specs.{XidName, xid_eq, Decides-xid_eq, Op, Prepare}
-use Rattle.xa_words.specs.declared.code.Code.{Code}
+use Rattle.xa_words.specs.{XidName, xid_eq, Decides-xid_eq, Op, Prepare, Code}
 use Rattle.xa_tables.specs.{names}
-use Rattle.xa_desk.specs.LedgerView.{LedgerView}
-use Rattle.xa_desk.specs.DeskView.{DeskView}
-use Rattle.xa_desk.specs.{ledger, HaveGrown}
+use Rattle.xa_desk.specs.{LedgerView, DeskView, ledger, HaveGrown}
 use Rattle.xa_driver.specs.{Branch, Done, Ending, Outcome, Prepared, Decided, Told, Ask, HaveComeSoFar, SameAsks, second_op, third_op, outcome_op, AsksLedger}
 use Rattle.xa_driver.specs.{code_of, first_ask, second_ask, third_ask, HasDecided, HasPrepared, HasTold, AtBranch, AreBranchesRising, IsCommit}
 use Rattle.xa_atomicity.specs.{AreOthers, DidOther, LeavesBranches, IsDone, IsOutcomeOf, ResolveCall, resolves}

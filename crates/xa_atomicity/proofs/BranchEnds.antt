@@ -1,22 +1,17 @@
 -- How a branch ends that voted to commit, over openings one after another, by what it stands at as the first of them ends.
-use Rattle.std.proofs.Common.{arith}
-use Rattle.xa_base.proofs.{ℤ, pos, ◌⊎◌, ◌≡◌, ◌≢◌, ℕ, inl, inr, ⊎_elim, Bool, true, false, if◌then◌else◌, List, [], ◌∷◌, ◌++◌, sym, ap, ◌∙◌, subst, Some, All}
-use Rattle.xa_base.proofs.{Contains, All-head, All-tail, some_same}
+use Rattle.xa_base.proofs.{arith, ℤ, pos, ◌⊎◌, ◌≡◌, ◌≢◌, ℕ, inl, inr, ⊎_elim, Bool, true, false, if◌then◌else◌, List, [], ◌∷◌, ◌++◌, sym, ap, ◌∙◌, subst, Some}
+use Rattle.xa_base.proofs.{All, Contains, All-head, All-tail, some_same}
 use Rattle.xa_base.specs.{MOST_MANAGERS, IsUpTo}
 use Rattle.xa_words.specs.{XidName, tran_of, RmFail, Prepare}
 use Rattle.xa_tables.specs.{HeuristicDecision, state_of, is_left_in, is_prepared, Fate, fate, coded, tables_after, decided_fate, is_in_doubt as is_unknown}
-use Rattle.xa_tables.specs.{IsFateOf, share, AreLeft, commits_over, told_by}
-use Rattle.xa_tables.specs.Tables.{Tables}
-use Rattle.xa_tables.specs.History as history
-use Rattle.xa_tables.specs.History.{History}
-use Rattle.xa_switch.specs.{IsOpenedWith, first_of, history as history_of, settled_fate, IsSettled}
+use Rattle.xa_tables.specs.{IsFateOf, share, AreLeft, commits_over, told_by, Tables, History}
+use Rattle.xa_tables.specs.Histories as history
+use Rattle.xa_switch.specs.{IsOpenedWith, first_of, history as history_of, settled_fate, IsSettled, Settling}
 use Rattle.xa_scan.specs.{left_at}
-use Rattle.xa_switch.specs.Settling.{Settling}
 use Rattle.xa_driver.specs.{Branch, Ending, Outcome, is_decided}
 use Rattle.xa_atomicity.specs.{IsAddition, prepare_of, WasAtFirst, is_heuristic, told_fate, AreInARow, EndsAs, IsKept, IsListed, OnlyResolves, Opening}
 use Rattle.xa_atomicity.specs.{ResolveCall, became, ended_as, fate_through, last_of, resolves, tables_left, uses_of, IsUnlisted, SharesOver, commits_after}
-use Rattle.xa_atomicity.specs.{histories}
-use Rattle.xa_atomicity.specs.Tabled.{Tabled}
+use Rattle.xa_atomicity.specs.{histories, Tabled}
 use Rattle.xa_atomicity.specs.Worth.{is_committed}
 use Rattle.xa_atomicity.proofs.Counting.{committed_so, counts_so, walk_counts}
 use Rattle.xa_atomicity.proofs.Shares.{add_place, commits_or, share_is}

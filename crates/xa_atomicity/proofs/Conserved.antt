@@ -1,32 +1,25 @@
 -- Transfers conserve what all accounts are worth together, but for what branches in doubt hold.
 use Rattle.xa_driver.specs.{is_commit, Branch, Done, Ending, Committed, ReadOnly, RolledBack, InDoubt, Heuristic, Left, is_no, IsCommit, AreBranchesRising}
 use Rattle.xa_driver.specs.{has_branch_at, HasSentNoCommit, NoCommitWasSent}
-use Rattle.xa_atomicity.proofs.Moves.{within_parts, is_within, outside, moved_parted, moved_none, moved_without, moved_alike, moved_nothing}
+use Rattle.xa_atomicity.proofs.Moves.{within_parts, is_within, moved_parted, moved_none, moved_without, moved_alike, moved_nothing}
 use Rattle.xa_atomicity.proofs.Requests.{none_all, all_earlier}
 use Rattle.xa_atomicity.proofs.Settled.{sent_between, Both, all_outcomes, growth_law, by_ledger}
 use Rattle.std.proofs.lemmas.Option.{slice_get_past}
 use Rattle.xa_base.proofs.{ne_eqb, or_from, cases_lt, eqb-true, eqb-false, le-leb, or_parts, ℤ, pos, ◌+ℤ◌, All, nat_le, ◌&&◌, ◌≡◌, ℕ, zero, suc, ◌+◌, ◌-◌, ◌<◌}
 use Rattle.xa_base.proofs.{◌≤◌, ◌==◌, Bool, true, false, if◌then◌else◌, ⊎_elim, List, [], ◌∷◌, length, length-append, get_or, sym, refl, ap, ◌∙◌, subst, arith}
-use Rattle.xa_base.proofs.{list_any, range_with_len, ints, +ℤ_idl as none_plus, +ℤ_idr as plus_none, contains_at, range_all, got, total_alike, total_both}
+use Rattle.xa_base.proofs.{list_any, range_with_len, ints, +ℤ_idl as none_plus, +ℤ_idr as plus_none, contains_at, range_all, total_alike, total_both}
 use Rattle.xa_base.proofs.{total_nothing, All-contains}
 use Rattle.xa_base.specs.{Begins, total}
-use Rattle.xa_words.specs.{XidName, Request}
-use Rattle.xa_words.specs.declared.code.Code.{Code}
-use Rattle.xa_tables.specs.Tables.{Tables}
-use Rattle.xa_tables.specs.{are_accounts, opening, tables_after, moved, held_by, is_of, HoldsItsAdditions}
-use Rattle.xa_tables.specs.History.{History}
-use Rattle.xa_desk.specs.LedgerView.{LedgerView}
-use Rattle.xa_desk.specs.DeskView.{DeskView}
-use Rattle.xa_desk.specs.{ledger, HaveGrown}
+use Rattle.xa_words.specs.{XidName, Request, Code}
+use Rattle.xa_tables.specs.{Tables, are_accounts, opening, tables_after, moved, held_by, is_of, HoldsItsAdditions, History}
+use Rattle.xa_desk.specs.{LedgerView, DeskView, ledger, HaveGrown}
 use Rattle.xa_desk.proofs.Growth.{growing_on, same_lists}
 use Rattle.xa_switch.specs.{Plan, IsSoundManager, IsSettled, sent, IsOpenedWith, ledgers_of, history, threads_of, managers_of, accounts_in, accounts_of}
-use Rattle.xa_switch.specs.{plan_worth, settled_worth, moved_by, WorthIsOfThreads}
-use Rattle.xa_switch.specs.Settling.{Settling}
+use Rattle.xa_switch.specs.{plan_worth, settled_worth, moved_by, WorthIsOfThreads, Settling}
 use Rattle.xa_log.specs.{LogState}
 use Rattle.xa_atomicity.specs.{EachOutcome, AreLeftAlone, has_committed, is_rolled_back, is_in_doubt, is_heuristic, is_left, is_read_only, sent_so_far}
-use Rattle.xa_atomicity.specs.{taken_before, added_before, added_by_all, total_in_doubt, held_in_doubt, OnlyTransfers, opened, worked, committed}
+use Rattle.xa_atomicity.specs.{taken_before, added_before, added_by_all, total_in_doubt, held_in_doubt, OnlyTransfers, opened, worked, committed, Tabled}
 use Rattle.xa_atomicity.specs.Outcomes.{is_committed}
-use Rattle.xa_atomicity.specs.Tabled.{Tabled}
 use Rattle.xa_atomicity.proofs.OneOutcome.{committed_law}
 
 begins_length : {X : Type 0} (xs ys : List X) → Begins xs ys → length xs ≤ length ys

@@ -1,25 +1,21 @@
 -- What the additions of a branch that voted to commit count for, over openings one after another.
-use Rattle.std.proofs.Common.{arith}
-use Rattle.xa_base.proofs.{◌≡◌, ℕ, Bool, true, false, if◌then◌else◌, List, [], ◌∷◌, ◌++◌, sym, refl, ap, ◌∙◌, subst, Option, Some, All, All-head, All-tail}
-use Rattle.xa_base.proofs.{all_left}
+use Rattle.xa_base.proofs.{arith, ◌≡◌, ℕ, Bool, true, false, if◌then◌else◌, List, [], ◌∷◌, ◌++◌, sym, refl, ap, ◌∙◌, subst, Option, Some, All, All-head}
+use Rattle.xa_base.proofs.{All-tail, all_left}
 use Rattle.xa_base.specs.{MOST_MANAGERS, IsUpTo}
 use Rattle.xa_words.specs.{XidName, Request}
 use Rattle.xa_tables.specs.{HeuristicDecision, State, is_left_in, Fate, accepted, coded, commits_later, decided_fate, ending_by, fate, first_shut}
-use Rattle.xa_tables.specs.{is_in_doubt as is_unknown, is_live, last_or, late, or_later, parted, tables_after, commits_over, reopened, reopened_fate}
+use Rattle.xa_tables.specs.{is_in_doubt as is_unknown, is_live, last_or, late, or_later, parted, tables_after, commits_over, reopened, reopened_fate, Tables}
+use Rattle.xa_tables.specs.{History}
 use Rattle.xa_tables.specs.declared.state.HeuristicDecision.TheVariants as decision
-use Rattle.xa_tables.specs.Tables.{Tables}
-use Rattle.xa_tables.specs.History as history
-use Rattle.xa_tables.specs.History.{History}
-use Rattle.xa_switch.specs.{IsOpenedWith, first_of, history as history_of, settled_fate, IsSettled}
-use Rattle.xa_switch.specs.Settling.{Settling}
+use Rattle.xa_tables.specs.Histories as history
+use Rattle.xa_switch.specs.{IsOpenedWith, first_of, history as history_of, settled_fate, IsSettled, Settling}
 use Rattle.xa_driver.specs.{Ending}
-use Rattle.xa_atomicity.specs.{Opening, ended_as, fate_through, histories}
+use Rattle.xa_atomicity.specs.{Opening, ended_as, fate_through, histories, Tabled}
 use Rattle.xa_atomicity.specs.Worth.{is_committed}
 use Rattle.xa_atomicity.proofs.Answered.{last_ended}
 use Rattle.xa_atomicity.proofs.Later.{Walk, stands_first}
 use Rattle.xa_atomicity.proofs.Leading.{IsTowards, Stands, waits, unforgotten, over, as_decided, led_fates}
 use Rattle.xa_atomicity.proofs.Placing.{fates}
-use Rattle.xa_atomicity.specs.Tabled.{Tabled}
 use Rattle.xa_atomicity.proofs.Voting.{Comes, ends, tells, leaves, once}
 use Rattle.xa_atomicity.proofs.Shares.{commits_by, commits_or}
 

@@ -1,15 +1,11 @@
 -- The courses that a branch of a commit may take, by the places of its requests in its manager's settled history.
-use Rattle.std.proofs.Common.{rules}
+use Rattle.xa_base.proofs.{rules, cases_lt, cases_Bool, ◌≤◌, ⊎_elim, get_or, ◌≡◌, ℕ, ◌∷◌, ◌++◌, suc, ◌+◌, ◌<◌, Bool, true, false, ◌||◌, if◌then◌else◌, sym}
+use Rattle.xa_base.proofs.{refl, ap, ◌∙◌, subst, arith, Option, Some, None, inl, inr, ◌⊎◌, All, or-true, all_after, by_if, at_false, at_true}
 use Rattle.xa_atomicity.proofs.Sites.{asks, withholds, Site, StandsIn, Sent, AsksIn, only_op, Second}
-use Rattle.xa_base.proofs.{cases_lt, cases_Bool, ◌≤◌, ⊎_elim, get_or, ◌≡◌, ℕ, ◌∷◌, ◌++◌, suc, ◌+◌, ◌<◌, Bool, true, false, ◌||◌, if◌then◌else◌, sym, refl, ap}
-use Rattle.xa_base.proofs.{◌∙◌, subst, arith, Option, Some, None, inl, inr, ◌⊎◌, All, or-true, all_after, by_if, at_false, at_true}
 use Rattle.xa_driver.specs.{VotesAndObeys, outcome_op, Branch, Ending, ReadOnly, RolledBack, Left, AsksFor, AtBranch, is_yes, is_read, second_op, third_op}
 use Rattle.xa_driver.specs.{ending_of, yes_ending, no_ending, is_out_of_reach, is_decided}
-use Rattle.xa_words.specs.{XidName, Done, RdOnly, RmFail, Op, Prepare, Commit, Rollback, Forget, Request}
-use Rattle.xa_words.specs.declared.code.Code.{Code}
-use Rattle.xa_tables.specs.Tables.{Tables}
-use Rattle.xa_tables.specs.History.{History}
-use Rattle.xa_tables.specs.{is_rolled_back, is_forget, is_heur}
+use Rattle.xa_words.specs.{XidName, Done, RdOnly, RmFail, Op, Prepare, Commit, Rollback, Forget, Request, Code}
+use Rattle.xa_tables.specs.{Tables, History, is_rolled_back, is_forget, is_heur}
 use Rattle.xa_desk.specs.{is_rm_fail}
 use Rattle.xa_atomicity.proofs.Placing.{request_of}
 

@@ -1,27 +1,22 @@
 -- What a branch stands at as the opening ends in which its commit was cut short.
-use Rattle.std.proofs.Common.{rules}
+use Rattle.xa_base.proofs.{rules, false_from_ne_true, ◌≡◌, ℕ, suc, ◌+◌, inl, inr, Bool, true, false, if◌then◌else◌, List, [], ◌∷◌, ◌++◌, length, length-append}
+use Rattle.xa_base.proofs.{append-nil, append_assoc, slice_get, get_or, sym, refl, ap, ◌∙◌, subst, arith, Option, Some, None, All, Contains, All-append}
+use Rattle.xa_base.proofs.{All-cons, All-contains, All-head, begins_on, some_same, all_mid, all_right, all_after, at_true}
 use Rattle.xa_atomicity.proofs.CutVotes.{vote_there, HasVoted, ended_voted, first_is, forget_sends, other_sends, prepare_sent, told_voted}
 use Rattle.xa_atomicity.proofs.Voting.{ends, leaves, tells, AtEnd, Comes, once, tells_so, told_decided}
 use Rattle.xa_atomicity.proofs.Leading.{waits, unforgotten, over, IsTowards, Stands, ends_towards}
 use Rattle.xa_atomicity.proofs.Sites.{Site, StandsIn, above, at_place, below, later_place, stands_by}
 use Rattle.xa_atomicity.proofs.Asked.{is_told_decision, second_so, third_so}
 use Rattle.std.proofs.lemmas.Bool.{both_ways}
-use Rattle.xa_base.proofs.{false_from_ne_true, ◌≡◌, ℕ, suc, ◌+◌, inl, inr, Bool, true, false, if◌then◌else◌, List, [], ◌∷◌, ◌++◌, length, length-append}
-use Rattle.xa_base.proofs.{append-nil, append_assoc, slice_get, get_or, sym, refl, ap, ◌∙◌, subst, arith, Option, Some, None, All, Contains, All-append}
-use Rattle.xa_base.proofs.{All-cons, All-contains, All-head, begins_on, some_same, all_mid, all_right, all_after, at_false, at_true}
 use Rattle.xa_atomicity.proofs.Courses.{yes_wanted}
 use Rattle.xa_base.specs.{Begins}
-use Rattle.xa_words.specs.{XidName, Done, RmFail, Op, Prepare, Request}
-use Rattle.xa_words.specs.declared.code.Code.{Code}
+use Rattle.xa_words.specs.{XidName, Done, RmFail, Op, Prepare, Request, Code}
 use Rattle.xa_words.proofs.Xids.{xid_self}
-use Rattle.xa_tables.specs.{HeuristicDecision, State, is_left_in, decision_code, next, Fate, IsFateOf, coded, decided_fate, fate, is_rolled_back, last_or}
-use Rattle.xa_tables.specs.{of_thread, tables_after, IsTold as IsToldDecision, names}
-use Rattle.xa_tables.specs.Tables.{Tables}
-use Rattle.xa_tables.specs.History as history
-use Rattle.xa_tables.specs.History.{History}
+use Rattle.xa_tables.specs.{HeuristicDecision, State, is_left_in, decision_code, next, Fate, IsFateOf, coded, decided_fate, fate, last_or, tables_after}
+use Rattle.xa_tables.specs.{IsTold as IsToldDecision, names, Tables, History}
+use Rattle.xa_tables.specs.Histories as history
 use Rattle.xa_tables.proofs.Law.{opening_sound, run_sound}
-use Rattle.xa_desk.specs.LedgerView.{LedgerView}
-use Rattle.xa_desk.specs.{learnt_shut, with_sent, with_collected, numbered}
+use Rattle.xa_desk.specs.{LedgerView, learnt_shut, with_sent, with_collected, numbered}
 use Rattle.xa_switch.specs.{answers}
 use Rattle.xa_driver.specs.{Branch, Ending, IsAnswered, IsBegun, asked, collected, in_flight, unasked, is_decided, second_op, third_op, yes_ending, outcome_op}
 use Rattle.xa_atomicity.specs.{IsAsked, IsEnded, IsTold, IsBetween, OnlyTheseOrDecisionsName, told_fate}

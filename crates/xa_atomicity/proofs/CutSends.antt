@@ -1,21 +1,17 @@
 -- What a commit sent that was cut short: by the record no Commit, or no Rollback.
-use Rattle.std.proofs.Common.{arith}
-use Rattle.xa_base.proofs.{All-contains, All-head, All-tail, ◌&&◌, is_some, ◌⊎◌, ◌≡◌, ℕ, ◌≤◌, Bool, true, false, ◌==◌, ◌||◌, List, [], ◌∷◌, map, get_or, inl}
-use Rattle.xa_base.proofs.{inr, sym, refl, ap, ◌∙◌, subst, Some, None, All, eqb-true, list_any_none, all_unmapped, by_if, by_bool}
+use Rattle.xa_base.proofs.{arith, All-contains, All-head, All-tail, ◌&&◌, is_some, ◌⊎◌, ◌≡◌, ℕ, ◌≤◌, Bool, true, false, ◌==◌, ◌||◌, List, [], ◌∷◌, map, get_or}
+use Rattle.xa_base.proofs.{inl, inr, sym, refl, ap, ◌∙◌, subst, Some, None, All, eqb-true, list_any_none, all_unmapped, by_if, by_bool}
 use Rattle.xa_atomicity.proofs.CutVotes.{CameAt, IsVoteOf, each_came, at_asking, at_forgetting, at_telling, HasVoted, begun_sends, ended_voted, other_sends}
 use Rattle.xa_atomicity.proofs.CutVotes.{told_voted}
 use Rattle.xa_driver.specs.{AreBranchesRising, IsTranOf, Logs, decision_of, voted, Branch, Ending, Round, Prepared, Decided, Ask, HaveComeSoFar, IsBegun}
-use Rattle.xa_driver.specs.{SameAsks, among_asks, is_commit, has_yes, is_yes, yes_of, second_op, code_of, second_ask, yes_asked, HasDecided, HasPrepared}
+use Rattle.xa_driver.specs.{SameAsks, among_asks, is_commit, is_yes, yes_of, second_op, code_of, second_ask, yes_asked, HasDecided, HasPrepared}
 use Rattle.xa_atomicity.proofs.Requests.{none_all}
 use Rattle.xa_atomicity.proofs.Records.{recorded_is, none_on_abort}
 use Rattle.xa_atomicity.proofs.Asked.{second_so, third_so}
 use Rattle.std.proofs.lemmas.Bool.{and_left, and_right, true_from_ne_false, both_ways}
-use Rattle.xa_words.specs.{XidName, TranName, Op, Prepare, Commit, Rollback, Forget}
-use Rattle.xa_words.specs.declared.code.Code.{Code}
+use Rattle.xa_words.specs.{XidName, TranName, Op, Prepare, Commit, Rollback, Forget, Code}
 use Rattle.xa_tables.specs.{names}
-use Rattle.xa_desk.specs.LedgerView.{LedgerView}
-use Rattle.xa_desk.specs.DeskView.{DeskView}
-use Rattle.xa_desk.specs.{ledger}
+use Rattle.xa_desk.specs.{LedgerView, DeskView, ledger}
 use Rattle.xa_atomicity.specs.{CameSoFar, GoesByTheRecord, HasSentNone, IsAsked, IsCut, NoneWasToldToCommit, NoneWasToldToRollBack, is_recorded, is_rollback}
 use Rattle.xa_log.specs.{LogState, record_of}
 use Rattle.xa_driver.proofs.Gathering.{carried}

@@ -1,20 +1,17 @@
 -- The votes that a commit got which was cut short, and what it leaves in the log.
-use Rattle.xa_atomicity.specs.{IsAsked, CameSoFar, ending_at, known_at, DidOther, EachVote, IsCut, IsEnded, IsTold, asking, forgetting, telling, IsKept}
-use Rattle.xa_atomicity.specs.{NamesTran, OnlyResolves, Opening}
-use Rattle.xa_base.proofs.{◌==◌, ◌||◌, if◌then◌else◌, ◌+◌, zero, slice_get, ◌<◌, arith, ◌≡◌, ℕ, Bool, true, false, ◌&&◌, List, [], ◌∷◌, ◌++◌, length}
-use Rattle.xa_base.proofs.{append-nil, append_assoc, get_or, sym, refl, ap, ◌∙◌, subst, Option, Some, unwrap_or, or-true, eq-eqb, ne_eqb, false_from_ne_true}
-use Rattle.xa_base.proofs.{or_from, eqb-true, begins_on, all_mid, same_begins, Contains-append_right, All-nil, All-cons, Contains, All, by_bool, at_false}
-use Rattle.xa_driver.specs.{InDoubt, has_yes, voted_yes, yes_of, is_yes, AreBranchesRising, Logs, decision_of, EachBranch, IsCommit, IsTranOf, voted, Branch}
-use Rattle.xa_driver.specs.{Done, Ending, IsAnswered, IsBegun, asked, collected, in_flight, unasked, second_op, third_op, ending_of, AtBranch, AsksLedger}
+use Rattle.xa_atomicity.specs.{IsAsked, CameSoFar, known_at, DidOther, EachVote, IsCut, IsEnded, IsTold, asking, forgetting, telling, IsKept, NamesTran}
+use Rattle.xa_atomicity.specs.{OnlyResolves, Opening}
+use Rattle.xa_base.proofs.{◌==◌, ◌||◌, ◌+◌, zero, slice_get, ◌<◌, arith, ◌≡◌, ℕ, Bool, true, false, ◌&&◌, List, [], ◌∷◌, ◌++◌, length, append-nil, append_assoc}
+use Rattle.xa_base.proofs.{get_or, sym, refl, ap, ◌∙◌, subst, Option, Some, unwrap_or, or-true, eq-eqb, ne_eqb, false_from_ne_true, or_from, eqb-true}
+use Rattle.xa_base.proofs.{begins_on, all_mid, same_begins, Contains-append_right, All-nil, All-cons, Contains, All, at_false}
+use Rattle.xa_driver.specs.{has_yes, voted_yes, yes_of, is_yes, AreBranchesRising, Logs, decision_of, EachBranch, IsCommit, IsTranOf, voted, Branch, Done}
+use Rattle.xa_driver.specs.{Ending, IsAnswered, IsBegun, asked, collected, in_flight, unasked, second_op, third_op, ending_of, AtBranch, AsksLedger}
 use Rattle.std.proofs.lemmas.Bool.{both_ways}
 use Rattle.xa_atomicity.proofs.Placing.{at_seam, request_of}
 use Rattle.xa_base.specs.{MOST_MANAGERS, Begins, IsUpTo}
-use Rattle.xa_words.specs.{XidName, TranName, tran_of, RmFail, Op, Prepare, Request}
-use Rattle.xa_words.specs.declared.code.Code.{Code}
+use Rattle.xa_words.specs.{XidName, TranName, tran_of, RmFail, Op, Prepare, Request, Code}
 use Rattle.xa_tables.specs.{names}
-use Rattle.xa_desk.specs.LedgerView.{LedgerView}
-use Rattle.xa_desk.specs.{learnt_shut, with_sent, with_collected, ledger, HaveGrown}
-use Rattle.xa_desk.specs.DeskView.{DeskView}
+use Rattle.xa_desk.specs.{LedgerView, learnt_shut, with_sent, with_collected, ledger, HaveGrown, DeskView}
 use Rattle.xa_switch.specs.{ledgers_of, history as history_of}
 use Rattle.xa_log.specs.{LogState}
 use Rattle.xa_driver.proofs.Mapped.{Any, IsAskedFor, any_asked}

@@ -1,11 +1,8 @@
 -- A commit whose coordinator died is one that was cut short.
 use Rattle.xa_base.proofs.{◌≡◌, ℕ, zero, suc, Bool, Option, Some, None, List, [], ◌∷◌, arith, length, refl, subst, All, All-nil, All-cons}
-use Rattle.xa_words.specs.{TranName, Death, Op}
-use Rattle.xa_words.specs.declared.code.Code.{Code}
+use Rattle.xa_words.specs.{TranName, Death, Op, Code}
 use Rattle.xa_words.specs.declared.death.Death.TheVariants as death
-use Rattle.xa_desk.specs.LedgerView.{LedgerView}
-use Rattle.xa_desk.specs.DeskView.{DeskView}
-use Rattle.xa_desk.specs.{ledger}
+use Rattle.xa_desk.specs.{LedgerView, DeskView, ledger}
 use Rattle.xa_driver.specs.{Branch, Done, Ending, IsBegun, collected, in_flight, unasked, Dies, HaveAsked, HaveTold, PutsLedger, Tells, VotesAndHears}
 use Rattle.xa_driver.specs.{VotesAndObeys, withheld, second_op, AsksLedger, EachBranch, IsTranOf, MayCommit, decision_of}
 use Rattle.xa_driver.specs.Deaths.{sent}

@@ -1,10 +1,7 @@
 -- What a commit does to a desk's ledger with each manager: that of a branch goes by the branch's trace, any other stays.
-use Rattle.std.proofs.Common.{arith}
 use Rattle.xa_base.proofs.{◌≡◌, ℕ, ◌≤◌, Bool, true, false, ◌||◌, ◌==◌, List, [], ◌∷◌, sym, refl, subst, Option, All, eqb-true, All-head, All-tail}
-use Rattle.xa_words.specs.{TranName}
-use Rattle.xa_words.specs.declared.code.Code.{Code}
-use Rattle.xa_desk.specs.LedgerView.{LedgerView}
-use Rattle.xa_desk.specs.{ledger}
+use Rattle.xa_words.specs.{TranName, Code}
+use Rattle.xa_desk.specs.{LedgerView, ledger}
 use Rattle.xa_driver.specs.{Branch, Done, Ending, AtBranch, AsksLedger, EachBranch, IsTraceOfCommit, has_branch_at}
 use Rattle.xa_log.specs.{LogState}
 

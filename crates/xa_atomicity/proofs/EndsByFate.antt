@@ -1,14 +1,12 @@
 -- How a branch ends, by its fate at the end of the first opening and through the later ones.
-use Rattle.std.proofs.Common.{arith}
-use Rattle.xa_base.proofs.{some_same, ◌⊎◌, ◌≡◌, inl, inr, ⊎_elim, Bool, true, false, if◌then◌else◌, sym, refl, ap, ◌∙◌, subst, Option, Some, at_false, at_true}
+use Rattle.xa_base.proofs.{arith, some_same, ◌⊎◌, ◌≡◌, inl, inr, Bool, true, false, if◌then◌else◌, sym, refl, ap, ◌∙◌, subst, Option, Some, at_false, at_true}
 use Rattle.xa_atomicity.proofs.Voting.{ends, tells, leaves, Comes}
 use Rattle.xa_atomicity.proofs.Leading.{waits, unforgotten, over, IsOver, Stands}
 use Rattle.std.proofs.lemmas.Bool.{both_ways}
-use Rattle.xa_words.specs.declared.code.Code.{Code}
-use Rattle.xa_words.specs.{HeurCom, HeurRb}
+use Rattle.xa_words.specs.{Code, HeurCom, HeurRb}
 use Rattle.xa_tables.specs.{State, HeuristicDecision, is_left_in, decision_code, Fate, decided_fate, is_in_doubt as is_unknown}
 use Rattle.xa_tables.specs.declared.state.HeuristicDecision.TheVariants as decision
-use Rattle.xa_tables.specs.History as history
+use Rattle.xa_tables.specs.Histories as history
 use Rattle.xa_driver.specs.{Ending, Committed, ReadOnly, RolledBack, InDoubt, Heuristic, Left, is_decided}
 use Rattle.xa_atomicity.specs.{is_heuristic, is_in_doubt, is_left, told_fate, ended_as}
 

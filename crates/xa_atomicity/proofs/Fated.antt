@@ -1,24 +1,20 @@
 -- What became of a branch that nobody else named, but for heuristic decisions, over the settled history of its manager.
-use Rattle.std.proofs.Common.{rules}
+use Rattle.xa_base.proofs.{rules, all_mid, all_left, all_after, some_same, by_bool, by_if, at_true, ◌⊎◌, ◌≡◌, ◌≢◌, ℕ, suc, ◌+◌, ◌<◌, inl, inr, Bool, true}
+use Rattle.xa_base.proofs.{false, ◌||◌, if◌then◌else◌, List, [], ◌∷◌, ◌++◌, length, append-nil, append_assoc, get_or, sym, refl, ap, ◌∙◌, subst, arith, Option}
+use Rattle.xa_base.proofs.{Some, None, All, cons_option}
 use Rattle.xa_atomicity.proofs.Courses.{Unreached, Reads, Breaks, Stays, Agrees, Refuses, yes_is, read_is, Sends, SendsOne, Course, rest_forgets}
 use Rattle.xa_atomicity.specs.{OnlyTheseName, IsBetween, OnlyTheseOrDecisionsName, IsAfterShut, IsDecidedAfter, told_fate, is_left, is_in_doubt, is_heuristic}
-use Rattle.xa_base.proofs.{all_mid, all_left, all_after, some_same, by_bool, by_if, at_true, ◌⊎◌, ◌≡◌, ◌≢◌, ℕ, suc, ◌+◌, ◌<◌, inl, inr, Bool, true, false, ◌||◌}
-use Rattle.xa_base.proofs.{if◌then◌else◌, List, [], ◌∷◌, ◌++◌, length, append-nil, append_assoc, get_or, sym, refl, ap, ◌∙◌, subst, arith, Option, Some, None}
-use Rattle.xa_base.proofs.{All, cons_option}
 use Rattle.std.proofs.lemmas.Bool.{both_ways, or_left, true_from_ne_false}
 use Rattle.xa_driver.specs.{outcome_op, Ending, Committed, ReadOnly, RolledBack, InDoubt, Heuristic, Left, is_yes, is_read, yes_ending, no_ending}
 use Rattle.xa_driver.specs.{is_heuristic as is_heuristic_code}
-use Rattle.xa_words.specs.{XidName, xid_eq, Done, RbIntegrity, HeurRb, HeurCom, RmFail, Op, Prepare, Commit, Rollback, Heur, Request}
-use Rattle.xa_words.specs.declared.code.Code.{Code}
+use Rattle.xa_words.specs.{XidName, xid_eq, Done, RbIntegrity, HeurRb, HeurCom, RmFail, Op, Prepare, Commit, Rollback, Heur, Request, Code}
 use Rattle.xa_words.proofs.Xids.{xid_self}
 use Rattle.xa_tables.specs.{HeuristicDecision, is_S3, is_prepared, decision_code, next, Fate, fate, fate_in, fate_of, coded, tables_after, last_or, is_done}
 use Rattle.xa_tables.specs.{is_rolled_back, is_in_doubt as is_unknown, prepare_fate, decided_fate, heur_fate, IsFateOf, names, OnlyDecides, LeavesWaiting}
-use Rattle.xa_tables.specs.{AwaitsTheOutcome, AwaitsAfter, IsTold, is_heur, is_forget, answer_when, fates_when}
+use Rattle.xa_tables.specs.{AwaitsTheOutcome, AwaitsAfter, IsTold, is_heur, is_forget, answer_when, fates_when, Tables, History}
 use Rattle.xa_tables.specs.declared.state.HeuristicDecision.TheVariants as decision
-use Rattle.xa_tables.specs.Tables.{Tables}
 use Rattle.xa_tables.proofs.Unnamed.{tables_after-append, unnamed_fate}
-use Rattle.xa_tables.specs.History as history
-use Rattle.xa_tables.specs.History.{History}
+use Rattle.xa_tables.specs.Histories as history
 use Rattle.xa_desk.specs.{is_rm_fail}
 use Rattle.xa_atomicity.proofs.Placing.{request_of, fates, fates_both, fate_is, last_both}
 use Rattle.xa_atomicity.proofs.Requests.{closes_other}

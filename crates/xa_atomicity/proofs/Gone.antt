@@ -1,23 +1,17 @@
 -- A branch whose end was told isn't left to the next opening.
-use Rattle.std.proofs.Common.{arith}
+use Rattle.xa_base.proofs.{arith, ◌≡◌, ℕ, Bool, true, false, [], ◌∷◌, List, ap, sym, refl, ◌∙◌, Option, None, Some, option_map, All, list_all, get-empty}
+use Rattle.xa_base.proofs.{and_parts, All-contains, All-cons, All-nil}
 use Rattle.xa_atomicity.proofs.Voting.{ended_known}
 use Rattle.xa_atomicity.proofs.EndsByFate.{decided_apart, read_apart}
-use Rattle.xa_base.proofs.{◌≡◌, ℕ, Bool, true, false, [], ◌∷◌, List, ap, sym, subst, refl, ◌∙◌, Option, None, Some, option_map, All, list_all, get-empty}
-use Rattle.xa_base.proofs.{and_parts, All-contains, All-cons, All-nil}
-use Rattle.xa_words.specs.{XidName, xid_cmp, Done as OK}
-use Rattle.xa_words.specs.declared.code.Code.{Code}
-use Rattle.xa_tables.specs.{State, HeuristicallyCompleted, HeuristicDecision, opening, state_of, is_left, is_left_in, is_S3, Fate, IsFateOf, decided_fate, fate}
-use Rattle.xa_tables.specs.{is_done, tables_after, reopened, told_by}
+use Rattle.xa_words.specs.{XidName, xid_cmp, Done as OK, Code}
+use Rattle.xa_tables.specs.{State, HeuristicallyCompleted, HeuristicDecision, opening, state_of, is_left, is_left_in, Fate, IsFateOf, decided_fate, fate}
+use Rattle.xa_tables.specs.{is_done, tables_after, reopened, told_by, Tables, History}
 use Rattle.xa_tables.specs.declared.state.State.TheVariants.{Prepared}
-use Rattle.xa_tables.specs.Tables.{Tables}
-use Rattle.xa_tables.specs.History as history
-use Rattle.xa_tables.specs.History.{History}
+use Rattle.xa_tables.specs.Histories as history
 use Rattle.xa_tables.proofs.Reopening.{as_left}
-use Rattle.xa_switch.specs.{last_in, reopened_at, IsOpenedWith, first_of, history as history_of, settled_fate, ManagerPart, IsSettled, find_manager}
-use Rattle.xa_switch.specs.Settling.{Settling}
+use Rattle.xa_switch.specs.{last_in, reopened_at, IsOpenedWith, first_of, history as history_of, settled_fate, ManagerPart, IsSettled, find_manager, Settling}
 use Rattle.xa_driver.specs.{Branch, Done, Ending, Committed, ReadOnly, Outcome, has_acknowledged, is_acknowledged}
-use Rattle.xa_atomicity.specs.{EachOutcome, TellsTheFate, WasAtFirst, told_fate, HasLeft, TellsTheOutcome, ended_as, outcome_fate}
-use Rattle.xa_atomicity.specs.Tabled.{Tabled}
+use Rattle.xa_atomicity.specs.{EachOutcome, TellsTheFate, WasAtFirst, told_fate, HasLeft, TellsTheOutcome, ended_as, outcome_fate, Tabled}
 use Rattle.xa_atomicity.proofs.Later.{ends_with}
 
 -- a fate after which nothing of the branch is left

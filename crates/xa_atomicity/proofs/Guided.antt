@@ -1,22 +1,18 @@
 -- What a branch that voted to commit stands at, where requests that lead it and heuristic decisions name it.
-use Rattle.std.proofs.Common.{rules}
+use Rattle.xa_base.proofs.{rules, at_true, unwrap_or, ◌⊎◌, ◌≡◌, ℕ, inl, inr, ⊎_elim, Bool, true, false, if◌then◌else◌, List, [], ◌∷◌, ◌++◌, sym, refl, ap, ◌∙◌}
+use Rattle.xa_base.proofs.{subst, arith, Option, Some, None, All, cons_option, All-head, All-tail}
 use Rattle.std.proofs.lemmas.Bool.{both_ways}
-use Rattle.xa_base.proofs.{by_bool, at_true, unwrap_or, ◌⊎◌, ◌≡◌, ℕ, inl, inr, ⊎_elim, Bool, true, false, if◌then◌else◌, List, [], ◌∷◌, ◌++◌, sym, refl, ap}
-use Rattle.xa_base.proofs.{◌∙◌, subst, arith, Option, Some, None, All, cons_option, All-head, All-tail}
 use Rattle.xa_words.specs.{XidName, xid_eq, Done, Op, Prepare, Commit, Rollback, Forget, Request}
 use Rattle.xa_words.proofs.Xids.{xid_self}
-use Rattle.xa_tables.specs.{State, HeuristicallyCompleted, HeuristicDecision, state_of, is_S3, is_prepared, Answer, next, Fate, fate, fate_of, tables_after}
-use Rattle.xa_tables.specs.{last_or, decided_fate, is_in_doubt as is_unknown, IsOpening, names, is_heur, AwaitsAfter, fates_when, state_when}
+use Rattle.xa_tables.specs.{State, HeuristicallyCompleted, HeuristicDecision, state_of, is_prepared, Answer, next, Fate, fate, fate_of, tables_after, last_or}
+use Rattle.xa_tables.specs.{decided_fate, is_in_doubt as is_unknown, IsOpening, names, is_heur, AwaitsAfter, fates_when, state_when, Tables, History}
 use Rattle.xa_tables.specs.declared.state.State.TheVariants.{Prepared}
 use Rattle.xa_tables.specs.declared.state.HeuristicDecision.TheVariants as decision
-use Rattle.xa_tables.specs.Tables.{Tables}
-use Rattle.xa_tables.specs.History as history
-use Rattle.xa_tables.specs.History.{History}
+use Rattle.xa_tables.specs.Histories as history
 use Rattle.xa_tables.proofs.HeuristicLaw.{Decides, Nothing, Completes, decides}
 use Rattle.xa_tables.proofs.Law.{Sound, sound_after, run_sound, opening_sound, last_more}
 use Rattle.xa_tables.proofs.Unnamed.{tables_after-append}
-use Rattle.xa_atomicity.specs.{ended_as}
-use Rattle.xa_atomicity.specs.Tabled.{Tabled}
+use Rattle.xa_atomicity.specs.{ended_as, Tabled}
 use Rattle.xa_atomicity.proofs.EndsByFate.{decided_apart}
 use Rattle.xa_atomicity.proofs.Leading.{Stands, waits, unforgotten, over, Leads, Led, Standing, step_led, IsTowards}
 use Rattle.xa_atomicity.proofs.Placing.{request_of, fates, fates_both, last_both}

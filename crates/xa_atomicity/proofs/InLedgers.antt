@@ -1,19 +1,15 @@
 -- What a branch was asked by a desk's ledgers, in its manager's settled history.
-use Rattle.xa_base.proofs.{◌≡◌, ℕ, suc, Bool, true, false, ◌||◌, List, [], ◌∷◌, ◌++◌, length, length-append, append_assoc, slice_get, sym, refl, ap, ◌∙◌, subst}
+use Rattle.xa_base.proofs.{◌≡◌, ℕ, suc, Bool, true, false, ◌||◌, List, [], ◌∷◌, ◌++◌, length, length-append, append_assoc, slice_get, refl, ap, ◌∙◌, subst}
 use Rattle.xa_base.proofs.{arith, Option, Some, All, list_any-append, all_mid, begins_on, at_false, at_true}
 use Rattle.xa_base.specs.{Begins}
-use Rattle.xa_words.specs.declared.code.Code.{Code}
-use Rattle.xa_words.specs.{Op}
-use Rattle.xa_tables.specs.Tables.{Tables}
-use Rattle.xa_tables.specs.History.{History}
-use Rattle.xa_tables.specs.{coded}
-use Rattle.xa_desk.specs.LedgerView.{LedgerView}
-use Rattle.xa_desk.specs.{is_rm_fail, learnt_shut, with_sent, with_collected}
+use Rattle.xa_words.specs.{Code, Op}
+use Rattle.xa_tables.specs.{Tables, History, coded}
+use Rattle.xa_desk.specs.{LedgerView, is_rm_fail, learnt_shut, with_sent, with_collected}
 use Rattle.xa_switch.specs.{answers}
 use Rattle.xa_driver.specs.{Branch, Ending, AtBranch, AsksLedger}
 use Rattle.xa_driver.proofs.Mapped.{branch_mapped}
 use Rattle.xa_driver.proofs.Traces.{asked_grows}
-use Rattle.xa_atomicity.proofs.Sites.{Site, StandsIn, Sent, AsksIn, asks, withholds, stands_by}
+use Rattle.xa_atomicity.proofs.Sites.{Site, StandsIn, Sent, AsksIn, stands_by}
 use Rattle.xa_atomicity.proofs.Placing.{at_seam}
 
 -- how many requests a ledger has, and whether it has learnt that its manager is shut

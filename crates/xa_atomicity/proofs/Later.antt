@@ -7,23 +7,18 @@ use Rattle.xa_base.proofs.{Option, Some, None, ⊎_elim, All, Contains, All-head
 use Rattle.xa_base.proofs.{all_right}
 use Rattle.std.proofs.lemmas.List.Elements.{Contains-append_cases}
 use Rattle.xa_base.specs.{MOST_MANAGERS, IsUpTo}
-use Rattle.xa_words.specs.{XidName, xid_eq, Decides-xid_eq, tran_of, RmFail, Op}
-use Rattle.xa_words.specs.declared.code.Code.{Code}
+use Rattle.xa_words.specs.{XidName, xid_eq, Decides-xid_eq, tran_of, RmFail, Op, Code}
 use Rattle.xa_tables.specs.{State, HeuristicDecision, state_of, is_S3, is_left_in, is_prepared, decision_code, Fate, coded, decided_fate, of_thread}
-use Rattle.xa_tables.specs.{tables_after, last_or, is_in_doubt as is_unknown, AreLeft, reopened, reopened_fate, names}
+use Rattle.xa_tables.specs.{tables_after, last_or, is_in_doubt as is_unknown, AreLeft, reopened, reopened_fate, names, Tables, History}
 use Rattle.xa_tables.specs.declared.state.HeuristicDecision.TheVariants as decision
-use Rattle.xa_tables.specs.Tables.{Tables}
-use Rattle.xa_tables.specs.History.{History}
 use Rattle.xa_tables.proofs.Law.{opening_sound}
-use Rattle.xa_desk.specs.LedgerView.{LedgerView}
-use Rattle.xa_desk.specs.{ledger, numbered}
+use Rattle.xa_desk.specs.{LedgerView, ledger, numbered}
 use Rattle.xa_worker.specs.{requests}
 use Rattle.xa_switch.specs.{last_in, IsOpenedWith, first_of, history as history_of, ledgers_of, settled_fate, ManagerPart, IsSettled, FollowsTables, answers}
-use Rattle.xa_switch.specs.{find_manager, journal_in}
+use Rattle.xa_switch.specs.{find_manager, journal_in, Settling}
 use Rattle.xa_scan.specs.{left_at}
-use Rattle.xa_switch.specs.Settling.{Settling}
 use Rattle.xa_driver.specs.{Outcome, is_decided, is_to_commit, outcome_op}
-use Rattle.xa_atomicity.specs.{ResolveCall, resolves, IsUseIn, IsKept, Opening, AreInARow, OnlyResolves, uses_of, fate_through, last_of, tables_left}
+use Rattle.xa_atomicity.specs.{ResolveCall, resolves, IsUseIn, IsKept, Opening, AreInARow, OnlyResolves, uses_of, fate_through, last_of, tables_left, Tabled}
 use Rattle.xa_atomicity.proofs.Answered.{Placed, placed, placed_ends, placed_tells}
 use Rattle.xa_atomicity.proofs.Guided.{decided_known, known_stays}
 use Rattle.xa_atomicity.proofs.Naming.{named_so, named_tran, sent_is}
@@ -31,7 +26,6 @@ use Rattle.xa_atomicity.proofs.Placing.{fates}
 use Rattle.xa_atomicity.proofs.Records.{FindsMark}
 use Rattle.xa_atomicity.proofs.Resolves.{IsAnsweredIn, left_has, outcome_asked}
 use Rattle.xa_atomicity.proofs.Settled.{by_ledger, answered_of}
-use Rattle.xa_atomicity.specs.Tabled.{Tabled}
 
 -- ---- one opening
 

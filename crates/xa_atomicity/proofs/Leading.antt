@@ -1,20 +1,16 @@
 -- What a branch that voted to commit stands at, where nothing but resolves names it.
-use Rattle.std.proofs.Common.{arith}
-use Rattle.xa_base.proofs.{◌⊎◌, ◌&&◌, not, cond, is_some, unwrap_or, ◌≡◌, ◌≢◌, ℕ, inl, inr, ⊎_elim, Bool, true, false, ◌||◌, if◌then◌else◌, [], ◌∷◌, sym, refl}
-use Rattle.xa_base.proofs.{ap, ◌∙◌, subst, Option, Some, None, All, cons_option, not-false, or_from, All-nil, All-cons, All-head, All-tail, and-false, by_if}
+use Rattle.xa_base.proofs.{arith, ◌⊎◌, not, cond, is_some, unwrap_or, ◌≡◌, ◌≢◌, ℕ, inl, inr, Bool, true, false, ◌||◌, if◌then◌else◌, [], ◌∷◌, sym, refl, ap}
+use Rattle.xa_base.proofs.{◌∙◌, subst, Option, Some, None, All, cons_option, not-false, or_from, All-nil, All-cons, All-head, All-tail, and-false, by_if}
 use Rattle.xa_base.proofs.{at_false, at_true}
-use Rattle.xa_words.specs.{XidName, xid_eq, Decides-xid_eq, Done, Nota, Proto, RmFail, Op, Commit, Rollback, Forget, Request}
-use Rattle.xa_words.specs.declared.code.Code.{Code}
+use Rattle.xa_words.specs.{XidName, xid_eq, Decides-xid_eq, Done, Nota, Proto, RmFail, Op, Commit, Rollback, Forget, Request, Code}
 use Rattle.xa_words.proofs.Xids.{xid_self}
-use Rattle.xa_tables.specs.{State, HeuristicallyCompleted, HeuristicDecision, has_opened, state_of, exists, is_S3, is_S4, is_S5, is_left_in, is_prepared}
-use Rattle.xa_tables.specs.{is_completed, is_rollback_only, is_somebody_associated, decision_in, decision_of, reason_of, decision_code, Answer, next}
-use Rattle.xa_tables.specs.{needs_opening, by_rules, commit_two, rollback, forget, gone, committed, Fate, tables_after, fate_of, is_done, last_or, decided_fate}
-use Rattle.xa_tables.specs.{reopened, reopened_fate, names}
+use Rattle.xa_tables.specs.{State, HeuristicallyCompleted, HeuristicDecision, has_opened, state_of, exists, is_S5, is_left_in, is_prepared, is_completed}
+use Rattle.xa_tables.specs.{is_rollback_only, is_somebody_associated, decision_of, reason_of, decision_code, Answer, next, by_rules, commit_two, rollback}
+use Rattle.xa_tables.specs.{forget, gone, committed, Fate, tables_after, fate_of, is_done, last_or, decided_fate, reopened, reopened_fate, names, Tables}
+use Rattle.xa_tables.specs.{History}
 use Rattle.xa_tables.specs.declared.state.State.TheVariants.{Prepared}
 use Rattle.xa_tables.specs.declared.state.HeuristicDecision.TheVariants as decision
-use Rattle.xa_tables.specs.Tables.{Tables}
-use Rattle.xa_tables.specs.History as history
-use Rattle.xa_tables.specs.History.{History}
+use Rattle.xa_tables.specs.Histories as history
 use Rattle.xa_tables.proofs.Effects.{error_tells, reason_rolls_back, decision_commits_nothing, decision_rolls_nothing_back}
 use Rattle.xa_tables.proofs.Law.{Sound, Nowhere, AtWork, standing, nobody_rests, get_gone, sound_after, last_more}
 use Rattle.xa_tables.proofs.Reopening.{state_reopened}

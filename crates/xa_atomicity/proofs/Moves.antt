@@ -1,14 +1,10 @@
 -- What the requests of one thread with numbers in a range move, in a history.
-use Rattle.std.proofs.Common.{rules}
-use Rattle.xa_base.proofs.{by_if, by_bool, false_from_ne_true, and_parts, eqb-true, le-leb, ℤ, pos, ◌+ℤ◌, nat_le, if◌then◌else◌, ◌≡◌, ℕ, suc, ◌<◌, ◌≤◌, Bool}
-use Rattle.xa_base.proofs.{true, false, ◌==◌, ◌&&◌, ◌⊎◌, ⊎_elim, List, [], ◌∷◌, ◌++◌, length, get_or, sym, refl, ap, ◌∙◌, arith, eq-eqb, All, ints, and-false}
+use Rattle.xa_base.proofs.{by_if, false_from_ne_true, and_parts, eqb-true, le-leb, ℤ, pos, ◌+ℤ◌, nat_le, if◌then◌else◌, ◌≡◌, ℕ, suc, ◌<◌, ◌≤◌, Bool, true}
+use Rattle.xa_base.proofs.{false, ◌==◌, ◌&&◌, ◌⊎◌, List, [], ◌∷◌, ◌++◌, length, get_or, sym, refl, ap, ◌∙◌, arith, eq-eqb, All, ints, and-false}
 use Rattle.xa_base.proofs.{+ℤ_idl as none_plus, +ℤ_idr as plus_none}
-use Rattle.xa_tables.specs.{Answer, next, tables_after, is_done, moved, moved_by, held_by}
+use Rattle.xa_tables.specs.{Answer, next, tables_after, is_done, moved, moved_by, held_by, Tables, History}
 use Rattle.std.proofs.lemmas.Bool.{and_left, and_right, lt-leb, leb-true, leb-false}
-use Rattle.xa_words.specs.{Op, Commit, Heur, Request}
-use Rattle.xa_words.specs.declared.code.Code.{Code}
-use Rattle.xa_tables.specs.Tables.{Tables}
-use Rattle.xa_tables.specs.History.{History}
+use Rattle.xa_words.specs.{Op, Commit, Heur, Request, Code}
 use Rattle.xa_driver.specs.{is_commit}
 use Rattle.xa_atomicity.specs.{taken_before}
 

@@ -1,18 +1,12 @@
 -- What names a transaction in an opening where only resolves do.
-use Rattle.std.proofs.Common.{arith}
+use Rattle.xa_base.proofs.{arith, ◌≡◌, ◌≢◌, ℕ, suc, ◌+◌, ◌≤◌, Bool, true, false, List, ◌∷◌, ◌++◌, length, append_assoc, refl, ap, ◌∙◌, Option, All, Contains}
+use Rattle.xa_base.proofs.{All-contains}
 use Rattle.xa_atomicity.proofs.Settled.{sent_between, by_ledger}
-use Rattle.xa_base.proofs.{◌≡◌, ◌≢◌, ℕ, suc, ◌+◌, ◌≤◌, Bool, true, false, List, ◌∷◌, ◌++◌, length, append_assoc, get_or, refl, ap, ◌∙◌, subst, Option, All}
-use Rattle.xa_base.proofs.{Contains, All-contains}
-use Rattle.std.proofs.lemmas.List.Elements.{Contains-get_or}
 use Rattle.xa_base.specs.{MOST_MANAGERS, IsUpTo}
-use Rattle.xa_words.specs.{XidName, Decides-xid_eq, TranName, tran_of, Op, OpenRm, Start, End, Prepare, Commit, Rollback, Forget, Heur}
-use Rattle.xa_words.specs.declared.code.Code.{Code}
-use Rattle.xa_tables.specs.History.{History}
-use Rattle.xa_tables.specs.{of_thread, names}
-use Rattle.xa_desk.specs.LedgerView.{LedgerView}
-use Rattle.xa_desk.specs.{ledger, HasGrown, numbered}
-use Rattle.xa_switch.specs.Settling.{Settling}
-use Rattle.xa_switch.specs.{IsSettled, sent, ledgers_of, history as history_of}
+use Rattle.xa_words.specs.{XidName, Decides-xid_eq, TranName, tran_of, Op, OpenRm, Start, End, Prepare, Commit, Rollback, Forget, Heur, Code}
+use Rattle.xa_tables.specs.{History, of_thread, names}
+use Rattle.xa_desk.specs.{LedgerView, ledger, HasGrown, numbered}
+use Rattle.xa_switch.specs.{Settling, IsSettled, sent, ledgers_of, history as history_of}
 use Rattle.xa_driver.specs.{Branch, Ending, Outcome, AsksLedger, outcome_op, AtBranch}
 use Rattle.xa_log.specs.{Records}
 use Rattle.xa_atomicity.specs.{ResolveCall, Use, commits, cuts, resolves, IsUseIn, NamesTran, HasSent}

@@ -3,13 +3,10 @@ use Rattle.xa_base.proofs.{◌≡◌, ◌≢◌, ℕ, ◌≤◌, List, [], ◌�
 use Rattle.xa_base.proofs.{All-tail, All-map}
 use Rattle.xa_base.specs.{MOST_MANAGERS}
 use Rattle.xa_words.specs.{TranName, RmFail}
-use Rattle.xa_tables.specs.Tables.{Tables}
-use Rattle.xa_tables.specs.{AreLeft}
-use Rattle.xa_switch.specs.{reopening, first_of, IsOf, IsScanOf, IsSettled}
+use Rattle.xa_tables.specs.{Tables, AreLeft}
+use Rattle.xa_switch.specs.{reopening, first_of, IsOf, IsScanOf, IsSettled, Settling, Again}
 use Rattle.xa_scan.specs.{ScanView, left_at}
-use Rattle.xa_switch.specs.Settling.{Settling}
-use Rattle.xa_switch.specs.declared.plan.Again.{Again}
-use Rattle.xa_desk.specs.DeskView.{DeskView}
+use Rattle.xa_desk.specs.{DeskView}
 use Rattle.xa_driver.specs.{Branch, IsTranOf}
 use Rattle.xa_log.specs.{LogState, Records, all_records, record_in, record_of}
 use Rattle.xa_atomicity.specs.{AskedAreLeft, IsOfAnother, IsResolvedAfter, CutCall, ResolveCall, Use, cuts, resolves, AreUses, Continues, HasLeft, AreOfAllLogs}

@@ -1,18 +1,12 @@
 -- One outcome for all the branches of a call.
-use Rattle.std.proofs.Common.{arith, rules}
+use Rattle.xa_base.proofs.{arith, rules, ◌≡◌, Bool, true, false, not, ◌||◌, Option, None, Some, List, [], ◌∷◌, refl, if◌then◌else◌, sym, ap, ◌∙◌, subst}
+use Rattle.xa_base.proofs.{list_any, and_parts, or_parts, or_from, not-true, false_from_ne_true, at_true}
 use Rattle.xa_driver.specs.{Heuristic, InDoubt, Left, RolledBack, Committed, Branch, Done, Ending, is_yes, is_read, is_no, has_yes, yes_of, ending_of}
-use Rattle.xa_driver.specs.{yes_ending, no_ending, is_out_of_reach, is_heuristic, AtBranch, AsksLedger, EachBranch, IsCommit, IsTraceOfCommit, IsTranOf}
-use Rattle.xa_driver.specs.{MayCommit, wants_record, decision_of}
-use Rattle.xa_base.proofs.{◌≡◌, Bool, true, false, not, ◌||◌, Option, None, Some, List, [], ◌∷◌, refl, if◌then◌else◌, sym, ap, ◌∙◌, subst, list_any, and_parts}
-use Rattle.xa_base.proofs.{or_parts, or_from, not-true, false_from_ne_true, by_if, by_bool, at_true}
+use Rattle.xa_driver.specs.{yes_ending, no_ending, AtBranch, AsksLedger, EachBranch, IsCommit, IsTraceOfCommit, IsTranOf, MayCommit, decision_of}
 use Rattle.std.proofs.lemmas.Bool.{true_from_ne_false, both_ways}
-use Rattle.xa_words.specs.{TranName}
-use Rattle.xa_words.specs.declared.code.Code.{Code}
-use Rattle.xa_tables.specs.{is_done}
-use Rattle.xa_tables.specs.History as history
-use Rattle.xa_desk.specs.LedgerView.{LedgerView}
-use Rattle.xa_desk.specs.{is_rm_fail, ledger}
-use Rattle.xa_desk.specs.DeskView.{DeskView}
+use Rattle.xa_words.specs.{TranName, Code}
+use Rattle.xa_tables.specs.Histories as history
+use Rattle.xa_desk.specs.{LedgerView, ledger, DeskView}
 use Rattle.xa_log.specs.{LogState, record_of}
 use Rattle.xa_atomicity.specs.Outcomes.{is_committed}
 use Rattle.xa_atomicity.specs.{is_rolled_back, has_committed, has_rolled_back, has_vote_against, append_failed, was_refused, IsCommittedTransaction}

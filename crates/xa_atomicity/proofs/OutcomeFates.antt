@@ -1,28 +1,23 @@
 -- What the outcomes of a resolve tell, where nothing else names the transaction in its opening.
 use Rattle.xa_atomicity.proofs.NextOpening.{kept_with}
 use Rattle.xa_atomicity.proofs.Leading.{waits, unforgotten, IsTowards, Stands, Standing, step_led}
-use Rattle.xa_words.specs.{OpenRm, Op, XidName, xid_eq, tran_of, Done, HeurCom, HeurRb, RmFail, Request}
-use Rattle.xa_base.proofs.{unwrap_or, ◌≡◌, ◌≢◌, ℕ, zero, inl, Bool, true, false, [], ◌∷◌, ◌++◌, get_or, sym, refl, ap, ◌∙◌, subst, arith, Option, Some, None}
-use Rattle.xa_base.proofs.{All, Contains, cons_option, All-nil, All-cons, All-tail, some_same, at_true}
+use Rattle.xa_words.specs.{OpenRm, Op, XidName, xid_eq, tran_of, Done, HeurCom, HeurRb, RmFail, Request, Code}
+use Rattle.xa_base.proofs.{unwrap_or, ◌≡◌, ◌≢◌, ℕ, zero, inl, Bool, true, false, [], ◌∷◌, ◌++◌, get_or, sym, refl, ap, ◌∙◌, arith, Option, Some, None, All}
+use Rattle.xa_base.proofs.{Contains, cons_option, All-nil, All-cons, All-tail, some_same, at_true}
 use Rattle.std.proofs.lemmas.List.Elements.{Contains-get_or}
 use Rattle.xa_base.specs.{MOST_MANAGERS, IsUpTo}
-use Rattle.xa_words.specs.declared.code.Code.{Code}
 use Rattle.xa_words.proofs.Xids.{xid_self}
 use Rattle.xa_tables.specs.{State, HeuristicallyCompleted, HeuristicDecision, state_of, is_left_in, is_S3, decision_code, next, Answer, Fate, IsFateOf, fate_of}
-use Rattle.xa_tables.specs.{tables_after, last_or, decided_fate, AreLeft}
+use Rattle.xa_tables.specs.{tables_after, last_or, decided_fate, AreLeft, Tables, History}
 use Rattle.xa_tables.specs.declared.state.State.TheVariants.{Prepared}
 use Rattle.xa_tables.specs.declared.state.HeuristicDecision.TheVariants as decision
-use Rattle.xa_tables.specs.Tables.{Tables}
-use Rattle.xa_tables.specs.History as history
-use Rattle.xa_tables.specs.History.{History}
+use Rattle.xa_tables.specs.Histories as history
 use Rattle.xa_tables.proofs.Law.{opening_sound, sound_after}
 use Rattle.xa_desk.specs.{ledger}
-use Rattle.xa_switch.specs.{IsOpenedWith, ledgers_of, first_of, history as history_of, settled_fate, IsSettled}
+use Rattle.xa_switch.specs.{IsOpenedWith, ledgers_of, first_of, history as history_of, settled_fate, IsSettled, Settling}
 use Rattle.xa_scan.specs.{left_at}
-use Rattle.xa_switch.specs.Settling.{Settling}
 use Rattle.xa_driver.specs.{Outcome, is_to_commit, outcome_op}
-use Rattle.xa_atomicity.specs.{IsKept, IsUseIn, OnlyResolves, Opening, ResolveCall, ended_as, outcome_fate, resolves, with_use, TellsTheOutcomes}
-use Rattle.xa_atomicity.specs.Tabled.{Tabled}
+use Rattle.xa_atomicity.specs.{IsKept, IsUseIn, OnlyResolves, Opening, ResolveCall, ended_as, outcome_fate, resolves, with_use, TellsTheOutcomes, Tabled}
 use Rattle.xa_atomicity.proofs.Answered.{Placed, from_there, now, placed_tells, from_here}
 use Rattle.xa_atomicity.proofs.EndsByFate.{is_known_so}
 use Rattle.xa_atomicity.proofs.Guided.{known_stays}

@@ -1,13 +1,9 @@
 -- Where the requests of one thread stand in a history, and what they were answered.
-use Rattle.std.proofs.Common.{rules}
 use Rattle.xa_base.proofs.{map-append, ◌≡◌, ◌≢◌, ℕ, zero, suc, ◌+◌, ◌<◌, true, false, ◌==◌, cond, List, [], ◌∷◌, ◌++◌, length, map, slice_get, get_or, sym}
 use Rattle.xa_base.proofs.{refl, ap, ◌∙◌, arith, Option, Some, None, filter, cons_option, eq-eqb, filter-append}
 use Rattle.std.proofs.lemmas.Option.{some_pair_parts}
-use Rattle.xa_words.specs.{XidName, Op, Request}
-use Rattle.xa_words.specs.declared.code.Code.{Code}
-use Rattle.xa_tables.specs.Tables.{Tables}
-use Rattle.xa_tables.specs.{next, Fate, of_thread, tables_after, coded, fate_of, fate_in, fates_in, last_or}
-use Rattle.xa_tables.specs.History.{History}
+use Rattle.xa_words.specs.{XidName, Op, Request, Code}
+use Rattle.xa_tables.specs.{Tables, next, Fate, of_thread, tables_after, coded, fate_of, fate_in, fates_in, last_or, History}
 use Rattle.xa_tables.proofs.WorkLaw.{others_first}
 use Rattle.xa_desk.specs.{numbered}
 use Rattle.xa_worker.specs.{Entry}

@@ -1,32 +1,25 @@
 -- One outcome for each global transaction whose commit was cut short, over openings one after another.
-use Rattle.std.proofs.Common.{rules}
+use Rattle.xa_base.proofs.{rules, option_map, is_some, ◌≡◌, ◌≢◌, ℕ, zero, ◌+◌, Bool, true, false, List, [], ◌∷◌, ◌++◌, length, get_or, sym, refl, ap, ◌∙◌}
+use Rattle.xa_base.proofs.{subst, arith, Option, Some, None, All, Contains, All-nil, All-cons, All-append, All-contains, All-head, All-tail}
+use Rattle.xa_base.proofs.{Contains-append_right, all_after, all_mid, all_right, at_true}
 use Rattle.xa_atomicity.proofs.CutVotes.{CameAt, each_came, at_asking, at_forgetting, at_telling, HasVoted}
 use Rattle.xa_atomicity.proofs.Settled.{sent_stands, by_ledger, answered_of, collected_on, sent_on, site_of}
 use Rattle.xa_atomicity.proofs.Sites.{Site, StandsIn}
-use Rattle.xa_base.proofs.{option_map, is_some, ◌≡◌, ◌≢◌, ℕ, zero, ◌+◌, Bool, true, false, List, [], ◌∷◌, ◌++◌, length, get_or, sym, refl, ap, ◌∙◌, subst}
-use Rattle.xa_base.proofs.{arith, Option, Some, None, All, Contains, All-nil, All-cons, All-append, All-contains, All-head, All-tail, Contains-append_right}
-use Rattle.xa_base.proofs.{all_after, all_mid, all_right, at_true}
 use Rattle.xa_base.specs.{MOST_MANAGERS, Begins, IsUpTo}
-use Rattle.xa_words.specs.{XidName, TranName, tran_of, Done, RmFail, Op, Prepare, Request}
-use Rattle.xa_words.specs.declared.code.Code.{Code}
-use Rattle.xa_tables.specs.Tables.{Tables}
-use Rattle.xa_tables.specs.{state_of, is_left_in, Fate, IsFateOf, coded, fate, tables_after, reopened, told_by}
-use Rattle.xa_tables.specs.History as history
-use Rattle.xa_tables.specs.History.{History}
+use Rattle.xa_words.specs.{XidName, TranName, tran_of, Done, RmFail, Op, Prepare, Request, Code}
+use Rattle.xa_tables.specs.{Tables, state_of, is_left_in, Fate, IsFateOf, coded, fate, tables_after, told_by, History}
+use Rattle.xa_tables.specs.Histories as history
 use Rattle.xa_tables.proofs.Reopening.{as_left}
-use Rattle.xa_desk.specs.LedgerView.{LedgerView}
-use Rattle.xa_desk.specs.{learnt_shut, ledger, HasGrown, HaveGrown}
+use Rattle.xa_desk.specs.{LedgerView, learnt_shut, ledger, HasGrown, HaveGrown}
 use Rattle.xa_worker.specs.{requests}
 use Rattle.xa_switch.specs.{reopened_at, IsOpenedWith, first_of, history as history_of, ledgers_of, ManagerPart, IsSettled, answers, collected, find_manager}
-use Rattle.xa_switch.specs.{journal, journal_in, sent}
-use Rattle.xa_switch.specs.Settling.{Settling}
-use Rattle.xa_driver.specs.{Branch, Outcome, is_yes, voted_yes, yes_of, ending_of, is_decided, yes_ending, names, outcome_op, AreBranchesRising, HaveRoom}
-use Rattle.xa_driver.specs.{IsTranOf, Logs, decision_of}
+use Rattle.xa_switch.specs.{journal, journal_in, sent, Settling}
+use Rattle.xa_driver.specs.{Branch, Outcome, is_yes, voted_yes, yes_of, ending_of, is_decided, yes_ending, outcome_op, AreBranchesRising, HaveRoom, IsTranOf}
+use Rattle.xa_driver.specs.{Logs, decision_of}
 use Rattle.xa_atomicity.specs.{IsAsked, IsCut, IsEnded, is_recorded, OnlyTheseOrDecisionsName, AskedAreLeft, CountsByTheLog, EndsByTheLog, IsResolvedAfter}
-use Rattle.xa_atomicity.specs.{VotedToCommit, WasAsked, known_of, AreUses, CutCall, IsFollowed, IsKept, IsOutcomeOf, IsUseIn, OnlyResolves, Opening}
-use Rattle.xa_atomicity.specs.{ResolveCall, Use, cuts, resolves, uses_of}
-use Rattle.xa_log.specs.{LogState, Records, record_of}
-use Rattle.xa_atomicity.specs.Tabled.{Tabled}
+use Rattle.xa_atomicity.specs.{VotedToCommit, WasAsked, known_of, AreUses, CutCall, IsFollowed, IsKept, IsUseIn, OnlyResolves, Opening, ResolveCall, Use, cuts}
+use Rattle.xa_atomicity.specs.{resolves, uses_of, Tabled}
+use Rattle.xa_log.specs.{Records}
 use Rattle.xa_atomicity.proofs.BranchEnds.{Follows, IsMarked, branch_follows}
 use Rattle.xa_atomicity.proofs.CutBranch.{HasSentOnly, WasTold, asked_only, ended_voted_so, open_so, sent_end, sent_fates, told_end, told_voted_so, vote_is}
 use Rattle.xa_atomicity.proofs.CutBranch.{voted_only, was_told}

@@ -1,14 +1,12 @@
 -- That no later use of the log marks a manager of a transaction that was decided to abort.
-use Rattle.std.proofs.Common.{arith}
+use Rattle.xa_base.proofs.{arith, ◌≡◌, ℕ, Bool, true, List, [], ◌∷◌, get_or, subst, false, All, All-nil, All-append, All-head, All-tail}
 use Rattle.xa_driver.specs.{voted_yes, IsTranOf}
-use Rattle.xa_words.specs.declared.code.Code.{Code}
-use Rattle.xa_base.proofs.{◌≡◌, ℕ, Bool, true, List, [], ◌∷◌, get_or, subst, false, All, All-nil, All-append, All-head, All-tail}
+use Rattle.xa_words.specs.{Code, TranName}
 use Rattle.xa_base.specs.{MOST_MANAGERS, IsUpTo}
-use Rattle.xa_words.specs.{TranName}
 use Rattle.xa_desk.specs.{learnt_shut, ledger}
-use Rattle.xa_switch.specs.Settling.{Settling}
-use Rattle.xa_atomicity.specs.{EachVote, IsOfAnother, CommitCall, CutCall, GoesOnAfter, OfCommit, Use, as_cut, commits, cuts, resolves, Opening, IsByItsThread}
-use Rattle.xa_atomicity.specs.{IsKept, IsUseIn, OnlyResolves, uses_of}
+use Rattle.xa_switch.specs.{Settling}
+use Rattle.xa_atomicity.specs.{EachVote, IsOfAnother, CommitCall, CutCall, GoesOnAfter, OfCommit, Use, commits, cuts, resolves, Opening, IsByItsThread, IsKept}
+use Rattle.xa_atomicity.specs.{IsUseIn, OnlyResolves, uses_of}
 use Rattle.xa_atomicity.proofs.CutVotes.{cut_keeps, finished_law, none_resolved, none_shut, Votes}
 use Rattle.xa_atomicity.proofs.Records.{IsQuiet, is_marked}
 use Rattle.xa_atomicity.proofs.Voting.{learnt_on}

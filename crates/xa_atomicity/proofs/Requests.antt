@@ -1,14 +1,10 @@
 -- What is known of the requests of one thread in a history, by what it sent.
-use Rattle.std.proofs.Common.{rules}
-use Rattle.xa_base.proofs.{Bool, false, ◌≡◌, ◌≢◌, ℕ, zero, suc, ◌+◌, ◌<◌, ◌≤◌, true, ◌==◌, List, [], ◌∷◌, ◌++◌, length, length-append, slice_get, sym, refl, ap}
-use Rattle.xa_base.proofs.{◌∙◌, subst, arith, Some, or_parts, eqb-false, ne_eqb, eq-eqb, list_any, All, cond, All-nil, All-cons, All-head, All-tail}
+use Rattle.xa_base.proofs.{rules, Bool, false, ◌≡◌, ◌≢◌, ℕ, zero, suc, ◌+◌, ◌<◌, ◌≤◌, true, ◌==◌, List, [], ◌∷◌, ◌++◌, length, length-append, slice_get, refl}
+use Rattle.xa_base.proofs.{ap, subst, arith, Some, or_parts, eqb-false, ne_eqb, eq-eqb, list_any, All, cond, All-nil, All-cons, All-head, All-tail}
 use Rattle.xa_base.proofs.{filter-append, all_mid, some_same, slice_get_within}
 use Rattle.std.proofs.lemmas.Bool.{and_right}
-use Rattle.xa_words.specs.declared.code.Code.{Code}
-use Rattle.xa_words.specs.{Op, Request}
-use Rattle.xa_tables.specs.Tables.{Tables}
-use Rattle.xa_tables.specs.{next, coded, of_thread, tables_after, closes, is_close}
-use Rattle.xa_tables.specs.History.{History}
+use Rattle.xa_words.specs.{Code, Op, Request}
+use Rattle.xa_tables.specs.{Tables, next, coded, of_thread, tables_after, closes, is_close, History}
 use Rattle.xa_desk.specs.{numbered}
 use Rattle.xa_switch.specs.{answers}
 use Rattle.xa_atomicity.proofs.Placing.{request_of, answer_at, same_code}

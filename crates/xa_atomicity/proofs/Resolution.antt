@@ -1,23 +1,16 @@
 -- One outcome for each global transaction, over openings one after another: a commit that came to its end is one that was
 -- cut short after it.
-use Rattle.std.proofs.Common.{arith}
+use Rattle.xa_base.proofs.{arith, by_bool, ◌≡◌, ℕ, ◌≤◌, Bool, true, false, List, [], ◌∷◌, ◌++◌, length, sym, refl, subst, Option, Some, All, Contains, All-head}
 use Rattle.xa_atomicity.proofs.CutVotes.{known_each, prepare_there, vote_there, HasVoted, any_voted, ended_so, finished_law, shut_unless}
-use Rattle.xa_base.proofs.{by_bool, ◌≡◌, ℕ, ◌≤◌, Bool, true, false, List, [], ◌∷◌, ◌++◌, length, sym, refl, ap, ◌∙◌, subst, Option, Some, All, Contains}
-use Rattle.xa_base.proofs.{All-head}
 use Rattle.xa_base.specs.{MOST_MANAGERS, IsUpTo}
-use Rattle.xa_words.specs.{TranName}
-use Rattle.xa_words.specs.declared.code.Code.{Code}
-use Rattle.xa_tables.specs.Tables.{Tables}
-use Rattle.xa_tables.specs.{state_of, fate, tables_after, told_by}
-use Rattle.xa_desk.specs.LedgerView.{LedgerView}
-use Rattle.xa_desk.specs.{learnt_shut, ledger}
-use Rattle.xa_switch.specs.{IsOpenedWith, first_of, history as history_of, ledgers_of, IsSettled}
-use Rattle.xa_switch.specs.Settling.{Settling}
-use Rattle.xa_driver.specs.{Branch, Ending, has_yes, is_yes, yes_of, EachBranch, IsCommit}
+use Rattle.xa_words.specs.{TranName, Code}
+use Rattle.xa_tables.specs.{Tables, state_of, fate, tables_after, told_by}
+use Rattle.xa_desk.specs.{LedgerView, learnt_shut, ledger}
+use Rattle.xa_switch.specs.{IsOpenedWith, first_of, history as history_of, ledgers_of, IsSettled, Settling}
+use Rattle.xa_driver.specs.{Branch, Ending, has_yes, is_yes, EachBranch, IsCommit}
 use Rattle.xa_atomicity.specs.{IsCut, is_recorded, known_at, EachOutcome, OnlyTheseOrDecisionsName, is_heuristic, VotedToCommit, known_of, CommitCall, CutCall}
 use Rattle.xa_atomicity.specs.{as_cut, ResolveCall, commits, Opening, EndsAs, EachEnds, IsAllOrNone, all, none, IsKept, IsResolved, IsUseIn, CountsOver}
-use Rattle.xa_atomicity.specs.{CountsAllOrNone, IsUnlisted, SharesOver}
-use Rattle.xa_atomicity.specs.Tabled.{Tabled}
+use Rattle.xa_atomicity.specs.{CountsAllOrNone, IsUnlisted, SharesOver, Tabled}
 use Rattle.xa_atomicity.specs.Worth.{is_committed}
 use Rattle.xa_atomicity.proofs.BranchEnds.{Follows}
 use Rattle.xa_atomicity.proofs.Courses.{yes_is}

@@ -2,20 +2,18 @@
 use Rattle.xa_base.proofs.{length-append, Option, None, ◌≡◌, ◌≢◌, ℕ, zero, suc, ⊎_elim, ◌+◌, ◌-◌, ◌<◌, Bool, true, false, List, [], ◌∷◌, ◌++◌, length}
 use Rattle.xa_base.proofs.{append-nil, append_assoc, get_or, sym, refl, ap, ◌∙◌, subst, arith, Some, false_from_ne_true, map, All, Contains, flat_map, list_any}
 use Rattle.xa_base.proofs.{range_with_len, All-nil, All-cons, All-append, Contains-append_left, Contains-append_right, length-range_with_len}
-use Rattle.xa_base.proofs.{get_or-range_with_len, any_at, contains_at, same_begins, begins_on, was_mapped, at_false, by_if}
+use Rattle.xa_base.proofs.{get_or-range_with_len, any_at, contains_at, same_begins, begins_on, was_mapped, at_false}
 use Rattle.xa_atomicity.proofs.Voting.{learnt_on}
 use Rattle.xa_words.proofs.Xids.{xid_self}
 use Rattle.std.proofs.lemmas.Map.Views.{Contains-from_any}
 use Rattle.std.proofs.lemmas.Bool.{both_ways}
 use Rattle.std.proofs.lemmas.List.Elements.{Contains-append_cases, Contains-push_cases}
 use Rattle.xa_base.specs.{MOST_MANAGERS, Begins, Chain, IsUpTo, none, more}
-use Rattle.xa_words.specs.{XidName, xid_eq, Decides-xid_eq, RmFail, Op, OpenRm, CloseRm, Forget}
-use Rattle.xa_words.specs.declared.code.Code.{Code}
-use Rattle.xa_desk.specs.LedgerView.{LedgerView}
-use Rattle.xa_desk.specs.{learnt_shut, with_sent, with_collected, ledger, HasGrown}
+use Rattle.xa_words.specs.{XidName, xid_eq, Decides-xid_eq, RmFail, Op, OpenRm, CloseRm, Code}
+use Rattle.xa_desk.specs.{LedgerView, learnt_shut, with_sent, with_collected, ledger, HasGrown}
 use Rattle.xa_scan.specs.{ScanView, left_at}
 use Rattle.xa_switch.proofs.Lists.{contains_map, get_contained}
-use Rattle.xa_driver.specs.{Outcome, is_decided, AskTrace, asked, AsksIf, AsksLedger, IsTraceOfResolve, ResolvesAt, ResolvesBranch, is_to_commit, outcome_op}
+use Rattle.xa_driver.specs.{Outcome, AskTrace, asked, AsksIf, AsksLedger, IsTraceOfResolve, ResolvesAt, ResolvesBranch, is_to_commit, outcome_op}
 use Rattle.xa_log.specs.{Records}
 use Rattle.xa_driver.proofs.Mapped.{Any, Asks, IsAskedFor, anything, if_by, outcome_by, outcomes_by, resolves_by}
 

@@ -1,15 +1,12 @@
 -- What the scan of an opening that was opened again has.
 use Rattle.xa_atomicity.proofs.Resolves.{upto_so}
-use Rattle.xa_base.proofs.{◌≡◌, ℕ, zero, suc, ◌+◌, ◌-◌, ◌<◌, ◌≤◌, ◌==◌, List, [], length, map, slice_get, option_map, Option, Some, None, sym, refl, ap, ◌∙◌}
-use Rattle.xa_base.proofs.{subst, arith, Contains, range_with_len, eqb-true, length-range_with_len, get_or-range_with_len, same_Some, slice_get-map}
-use Rattle.xa_base.proofs.{slice_get-get_or}
+use Rattle.xa_base.proofs.{◌≡◌, ℕ, zero, suc, ◌+◌, ◌-◌, ◌<◌, ◌≤◌, ◌==◌, List, length, map, slice_get, option_map, Option, Some, None, sym, refl, ap, ◌∙◌, subst}
+use Rattle.xa_base.proofs.{arith, Contains, range_with_len, eqb-true, length-range_with_len, get_or-range_with_len, same_Some, slice_get-map, slice_get-get_or}
 use Rattle.std.proofs.lemmas.List.Sorted.{IsPermutation-sym, Contains-permutation}
 use Rattle.xa_words.specs.{XidName}
-use Rattle.xa_tables.specs.Tables.{Tables}
-use Rattle.xa_switch.specs.{managers_in, reopened_at, reopening, Each, first_of, IsOf, ManagerPart, find_manager}
+use Rattle.xa_tables.specs.{Tables}
+use Rattle.xa_switch.specs.{managers_in, reopened_at, reopening, Each, first_of, IsOf, ManagerPart, find_manager, Settling, Again}
 use Rattle.xa_scan.specs.{ScanView, left_at}
-use Rattle.xa_switch.specs.Settling.{Settling}
-use Rattle.xa_switch.specs.declared.plan.Again.{Again}
 use Rattle.xa_switch.proofs.Lists.{found, contains_map}
 
 -- what holds of each list with its place holds of that of a manager

@@ -1,22 +1,15 @@
 -- What the branches of a call came to in a settled opening.
 use Rattle.xa_atomicity.proofs.Requests.{IsFromTo, own_between}
-use Rattle.xa_desk.specs.{numbered, ledger, no_ledger, is_known, HasGrown, HaveGrown}
-use Rattle.xa_base.proofs.{length-append, ◌+◌, All-contains, All-head, All-tail, Contains, All, list_any, zero, suc, ◌≡◌, ℕ, ◌-◌, ◌<◌, ◌≤◌, Bool, ◌&&◌}
-use Rattle.xa_base.proofs.{if◌then◌else◌, List, [], ◌∷◌, length, ◌++◌, append_assoc, slice_get, sym, refl, ap, ◌∙◌, subst, arith, Option, Some, ⊎_elim, le-leb}
-use Rattle.xa_base.proofs.{cases_lt, or_parts, not-true, pos, true, false, ◌||◌, ◌⊎◌, or-true, by_if}
+use Rattle.xa_desk.specs.{numbered, ledger, no_ledger, is_known, HasGrown, HaveGrown, LedgerView, DeskView}
+use Rattle.xa_base.proofs.{length-append, ◌+◌, All-contains, All-head, All-tail, Contains, All, list_any, zero, suc, ◌≡◌, ℕ, ◌-◌, ◌≤◌, Bool, if◌then◌else◌}
+use Rattle.xa_base.proofs.{List, [], ◌∷◌, length, ◌++◌, append_assoc, slice_get, sym, refl, ap, ◌∙◌, subst, arith, Option, Some, ⊎_elim, le-leb, cases_lt}
+use Rattle.xa_base.proofs.{or_parts, not-true, pos, true, false, ◌||◌, ◌⊎◌, or-true}
 use Rattle.xa_atomicity.proofs.Sites.{StandsIn, stands_by, Site}
-use Rattle.xa_words.specs.{Op, TranName, Done as Voted, RdOnly, XidName, Request}
+use Rattle.xa_words.specs.{Op, TranName, Done as Voted, RdOnly, XidName, Request, Code}
 use Rattle.xa_atomicity.proofs.Courses.{Course, course_of}
-use Rattle.xa_words.specs.declared.code.Code.{Code}
-use Rattle.xa_tables.specs.{HeuristicDecision, state_of, next, told_by, Fate, IsFateOf, fate, coded, decided_fate, tables_after}
-use Rattle.xa_tables.specs.Tables.{Tables}
-use Rattle.xa_tables.specs.History as history
-use Rattle.xa_tables.specs.History.{History}
-use Rattle.xa_desk.specs.LedgerView.{LedgerView}
-use Rattle.xa_desk.specs.DeskView.{DeskView}
-use Rattle.xa_worker.specs.{Entry}
-use Rattle.xa_switch.specs.Settling.{Settling}
-use Rattle.xa_switch.specs.{IsSettled, sent, collected, answers, IsOpenedWith, ledgers_of, history as history_of}
+use Rattle.xa_tables.specs.{HeuristicDecision, state_of, next, told_by, Fate, IsFateOf, fate, coded, decided_fate, tables_after, Tables, History}
+use Rattle.xa_tables.specs.Histories as history
+use Rattle.xa_switch.specs.{Settling, IsSettled, sent, collected, answers, IsOpenedWith, ledgers_of, history as history_of}
 use Rattle.xa_base.specs.{Begins}
 use Rattle.xa_desk.proofs.Ledgers.{past_end}
 use Rattle.xa_desk.proofs.Growth.{as_it_was, grown_on}
@@ -27,10 +20,9 @@ use Rattle.xa_driver.proofs.Mapped.{any_asked, branch_by}
 use Rattle.xa_driver.proofs.Traces.{asked_grows}
 use Rattle.xa_atomicity.specs.{AreLeftAlone, AreLeftOrDecided, OnlyTheseName, OnlyTheseOrDecisionsName, IsDecidedAfter, KeepsItsVote, TellsTheFate, undecided}
 use Rattle.xa_atomicity.specs.{decided, told_fate, EachOutcome, KeepsTheVotes, TellsTheFates, has_committed, has_rolled_back, has_vote_against, is_rolled_back}
-use Rattle.xa_atomicity.specs.{is_in_doubt, is_heuristic, is_left, is_read_only, sent_so_far, Shares, CountsTheCommitted, HasAllOrNothing, is_decided}
+use Rattle.xa_atomicity.specs.{is_in_doubt, is_heuristic, is_left, is_read_only, sent_so_far, Shares, CountsTheCommitted, HasAllOrNothing, is_decided, Tabled}
 use Rattle.xa_atomicity.specs.Outcomes.{is_committed}
 use Rattle.xa_atomicity.proofs.EachManager.{every_manager}
-use Rattle.xa_atomicity.specs.Tabled.{Tabled}
 use Rattle.xa_atomicity.proofs.Values.{Counted, branch_counts}
 use Rattle.xa_atomicity.proofs.Fated.{Told, branch_told}
 use Rattle.xa_atomicity.proofs.InLedgers.{heard, branch_in}

@@ -1,11 +1,9 @@
 -- The share that a value has of an addition, by the fates that a history makes of its branch.
-use Rattle.xa_base.proofs.{ℤ, pos, option_map, ◌≡◌, ℕ, suc, Bool, true, ◌&&◌, if◌then◌else◌, List, [], ◌∷◌, ◌++◌, append_assoc, sym, refl, ap, ◌∙◌, arith}
-use Rattle.xa_base.proofs.{Option, Some, None, cons_option}
-use Rattle.xa_words.specs.{XidName, key_eq, Decides-key_eq, Prepare}
-use Rattle.xa_tables.specs.{Association, association_of, next, Fate, added_by, coded, commits_later, ending, ending_by, fate_of, is_done, or_later, share}
-use Rattle.xa_tables.specs.{share_of, tables_after, EndsNowhere}
-use Rattle.xa_tables.specs.Tables.{Tables}
-use Rattle.xa_tables.specs.History.{History}
+use Rattle.xa_base.proofs.{ℤ, pos, option_map, ◌≡◌, ℕ, suc, Bool, if◌then◌else◌, List, [], ◌∷◌, ◌++◌, append_assoc, sym, refl, ap, ◌∙◌, arith, Option, Some}
+use Rattle.xa_base.proofs.{None, cons_option}
+use Rattle.xa_words.specs.{XidName, Decides-key_eq, Prepare}
+use Rattle.xa_tables.specs.{Association, association_of, next, Fate, added_by, coded, commits_later, ending, ending_by, fate_of, or_later, share, tables_after}
+use Rattle.xa_tables.specs.{EndsNowhere, Tables, History}
 use Rattle.xa_tables.proofs.Unnamed.{tables_after-append}
 use Rattle.xa_atomicity.specs.{IsAddition, prepare_of}
 use Rattle.xa_atomicity.proofs.Placing.{request_of, fates}

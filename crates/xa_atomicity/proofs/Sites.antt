@@ -1,15 +1,11 @@
 -- The requests of one thread to a manager, by their numbers in the manager's settled history.
-use Rattle.std.proofs.Common.{rules}
-use Rattle.xa_base.proofs.{◌≡◌, ◌≢◌, ℕ, suc, ◌+◌, ◌<◌, ◌≤◌, Bool, true, cond, ◌==◌, ◌||◌, List, [], ◌∷◌, ◌++◌, length, slice_get, get_or, sym, refl, ap, ◌∙◌}
-use Rattle.xa_base.proofs.{subst, arith, Some, zero, All, filter-append, eq-eqb, some_same, all_left, all_after}
-use Rattle.xa_words.specs.declared.code.Code.{Code}
-use Rattle.xa_words.specs.{RmFail, Op, Request}
-use Rattle.xa_tables.specs.Tables.{Tables}
-use Rattle.xa_tables.specs.{next, coded, of_thread, tables_after, IsOpening}
+use Rattle.xa_base.proofs.{rules, ◌≡◌, ◌≢◌, ℕ, suc, ◌+◌, ◌<◌, ◌≤◌, Bool, true, ◌||◌, List, [], ◌∷◌, ◌++◌, length, slice_get, get_or, sym, refl, ap, ◌∙◌, subst}
+use Rattle.xa_base.proofs.{arith, Some, zero, All, filter-append, eq-eqb, some_same, all_left, all_after}
+use Rattle.xa_words.specs.{Code, RmFail, Op, Request}
+use Rattle.xa_tables.specs.{Tables, next, coded, of_thread, tables_after, IsOpening, History}
 use Rattle.xa_tables.proofs.Unnamed.{tables_after-append}
-use Rattle.xa_tables.specs.History.{History}
 use Rattle.xa_desk.specs.{is_rm_fail, numbered}
-use Rattle.xa_atomicity.specs.Tabled.{Tabled}
+use Rattle.xa_atomicity.specs.{Tabled}
 use Rattle.xa_switch.specs.{answers}
 use Rattle.xa_atomicity.proofs.Placing.{request_of, same_code, at_seam, part, answer_at, numbered_both}
 use Rattle.xa_driver.proofs.Ledgers.{numbered_length}

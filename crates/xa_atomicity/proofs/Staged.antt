@@ -1,13 +1,9 @@
 -- Each stage of a commit is one that was cut short, whatever else was done between them.
-use Rattle.std.proofs.Common.{arith}
+use Rattle.xa_base.proofs.{arith, ◌≡◌, ℕ, Bool, true, false, not, ◌&&◌, ◌||◌, Option, Some, List, [], ◌∷◌, map, refl, inl, inr, get_or, sym, ap, ◌∙◌, subst}
+use Rattle.xa_base.proofs.{All, All-nil, All-cons, All-head, All-tail}
 use Rattle.xa_atomicity.proofs.CutSends.{seconds_are}
-use Rattle.xa_base.proofs.{◌≡◌, ℕ, Bool, true, false, not, ◌&&◌, ◌||◌, Option, Some, List, [], ◌∷◌, map, refl, inl, inr, get_or, sym, ap, ◌∙◌, subst, All}
-use Rattle.xa_base.proofs.{All-nil, All-cons, All-head, All-tail}
-use Rattle.xa_words.specs.{TranName, Op, Prepare}
-use Rattle.xa_words.specs.declared.code.Code.{Code}
-use Rattle.xa_desk.specs.LedgerView.{LedgerView}
-use Rattle.xa_desk.specs.DeskView.{DeskView}
-use Rattle.xa_desk.specs.{ledger}
+use Rattle.xa_words.specs.{TranName, Op, Prepare, Code}
+use Rattle.xa_desk.specs.{LedgerView, DeskView, ledger}
 use Rattle.xa_driver.specs.{Branch, Ending, Prepared, Decided, Told, Ask, EachAsk, HaveComeSoFar, IsBegun, SameAsks, collected, unasked, decides_commit}
 use Rattle.xa_driver.specs.{has_yes, yes_of, second_op, third_op, ending_of, code_of, ending_of_ask, first_ask, second_ask, third_ask, yes_asked, HasDecided}
 use Rattle.xa_driver.specs.{HasPrepared, HasTold, HasVoted, EachBranch, IsTranOf, Logs, MayCommit, appended, decision_of, wants_record}

@@ -1,21 +1,17 @@
 -- What a branch that nobody else named counts for, over the settled history of its manager: its additions, and what the
 -- call's requests moved.
-use Rattle.std.proofs.Common.{rules}
 use Rattle.xa_atomicity.proofs.Courses.{Unreached, Reads, Breaks, Stays, Agrees, Refuses, yes_is, read_is, Sends, SendsOne, Course, rest_forgets}
 use Rattle.std.proofs.lemmas.Bool.{both_ways}
-use Rattle.xa_base.proofs.{false_from_ne_true, cases_lt, by_bool, by_if, at_true, ℤ, pos, ◌+ℤ◌, ◌≡◌, ◌≢◌, ℕ, suc, ◌+◌, inl, inr, Bool, true, false, ◌||◌}
-use Rattle.xa_base.proofs.{if◌then◌else◌, List, [], ◌∷◌, ◌++◌, get_or, sym, refl, ap, ◌∙◌, subst, arith, Option, Some, None, All, cons_option}
-use Rattle.xa_base.proofs.{+ℤ_idl as none_plus, +ℤ_idr as plus_none, all_left, all_after}
+use Rattle.xa_base.proofs.{false_from_ne_true, cases_lt, by_bool, at_true, ℤ, pos, ◌+ℤ◌, ◌≡◌, ◌≢◌, ℕ, suc, ◌+◌, inl, inr, Bool, true, false, if◌then◌else◌}
+use Rattle.xa_base.proofs.{List, [], ◌∷◌, ◌++◌, get_or, sym, refl, ap, ◌∙◌, subst, arith, Option, Some, None, All, cons_option, +ℤ_idl as none_plus}
+use Rattle.xa_base.proofs.{+ℤ_idr as plus_none, all_left, all_after}
 use Rattle.xa_atomicity.proofs.OneOutcome.{neither}
-use Rattle.xa_words.specs.{XidName, xid_eq, Done, RdOnly, RmFail, Op, Prepare, Commit, Rollback, Forget, Request}
-use Rattle.xa_words.specs.declared.code.Code.{Code}
+use Rattle.xa_words.specs.{XidName, xid_eq, Done, RdOnly, RmFail, Op, Prepare, Commit, Rollback, Forget, Request, Code}
 use Rattle.xa_words.proofs.Xids.{xid_self}
-use Rattle.xa_tables.specs.{HeuristicDecision, next, Fate, fate_of, tables_after, is_done, is_read_only, is_rolled_back, is_integrity, prepare_fate}
-use Rattle.xa_tables.specs.{rollback_fate, ending, share, moved, moved_by, held_by, names, NamesNowhere, LeavesWaiting, AwaitsTheOutcome, is_forget, fates_when}
-use Rattle.xa_tables.specs.Tables.{Tables}
+use Rattle.xa_tables.specs.{HeuristicDecision, next, Fate, fate_of, tables_after, is_done, prepare_fate, rollback_fate, ending, share, moved, moved_by, held_by}
+use Rattle.xa_tables.specs.{names, NamesNowhere, LeavesWaiting, AwaitsTheOutcome, is_forget, fates_when, Tables, History}
 use Rattle.xa_tables.proofs.Unnamed.{tables_after-append, unnamed_fate}
-use Rattle.xa_tables.specs.History as history
-use Rattle.xa_tables.specs.History.{History}
+use Rattle.xa_tables.specs.Histories as history
 use Rattle.xa_desk.specs.{is_rm_fail}
 use Rattle.xa_driver.specs.{Ending, Committed, ReadOnly, RolledBack, InDoubt, Heuristic, Left, is_yes, is_no, is_read, yes_ending, no_ending}
 use Rattle.xa_driver.specs.{is_heuristic as is_heuristic_code, is_commit}

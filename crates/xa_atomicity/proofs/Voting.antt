@@ -1,21 +1,15 @@
 -- What a branch that voted to commit stands at as the opening of its commit ends.
-use Rattle.std.proofs.Common.{arith}
-use Rattle.xa_base.proofs.{◌≡◌, ℕ, Bool, true, false, ◌||◌, if◌then◌else◌, List, [], ◌∷◌, length, sym, refl, ap, ◌∙◌, subst, Option, Some, None, list_any}
+use Rattle.xa_base.proofs.{arith, ◌≡◌, ℕ, Bool, true, false, if◌then◌else◌, List, [], ◌∷◌, sym, refl, ap, ◌∙◌, subst, Option, Some, None, list_any}
 use Rattle.xa_base.proofs.{list_any-append, or-true}
 use Rattle.xa_base.specs.{Begins}
-use Rattle.xa_words.specs.{XidName, Done, RmFail, Op}
-use Rattle.xa_words.specs.declared.code.Code.{Code}
+use Rattle.xa_words.specs.{XidName, Done, RmFail, Op, Code}
 use Rattle.xa_tables.specs.{State, HeuristicDecision, state_of, is_left_in, decision_code, next, Fate, tables_after, last_or, is_in_doubt as is_unknown}
-use Rattle.xa_tables.specs.{decided_fate, IsTold}
+use Rattle.xa_tables.specs.{decided_fate, IsTold, Tables, History}
 use Rattle.xa_tables.specs.declared.state.HeuristicDecision.TheVariants as decision
-use Rattle.xa_tables.specs.Tables.{Tables}
-use Rattle.xa_tables.specs.History as history
-use Rattle.xa_tables.specs.History.{History}
-use Rattle.xa_desk.specs.LedgerView.{LedgerView}
-use Rattle.xa_desk.specs.{is_rm_fail, learnt_shut, with_sent, with_collected}
+use Rattle.xa_tables.specs.Histories as history
+use Rattle.xa_desk.specs.{LedgerView, learnt_shut}
 use Rattle.xa_driver.specs.{Branch, Ending, asked, IsAnswered, is_yes, ending_of, yes_ending, second_op, third_op, AsksLedger, outcome_op, voted, AtBranch}
-use Rattle.xa_atomicity.specs.{told_fate, is_in_doubt, ended_as}
-use Rattle.xa_atomicity.specs.Tabled.{Tabled}
+use Rattle.xa_atomicity.specs.{told_fate, is_in_doubt, ended_as, Tabled}
 use Rattle.xa_driver.proofs.Traces.{trace_of, asked_grows}
 use Rattle.xa_atomicity.proofs.Courses.{yes_is, yes_wanted}
 use Rattle.xa_atomicity.proofs.Leading.{Stands}

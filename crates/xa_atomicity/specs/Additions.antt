@@ -5,10 +5,10 @@ use Rattle.xa_words.specs.Xid.{XidName}
 use Rattle.xa_words.specs.declared.code.Code.TheVariants as code
 use Rattle.xa_words.specs.declared.request.Op.TheVariants.{Add, Prepare}
 use Rattle.xa_words.specs.declared.request.Request.{Request}
-use Rattle.xa_tables.specs.Tables.{Tables, association_of}
+use Rattle.xa_tables.specs.ManagerTables.{Tables, association_of}
 use Rattle.xa_tables.specs.Next.{next}
-use Rattle.xa_tables.specs.History.{History, EndsNowhere, share, tables_after}
-use Rattle.xa_switch.specs.Settling.{Settling}
+use Rattle.xa_tables.specs.Histories.{History, EndsNowhere, share, tables_after}
+use Rattle.xa_switch.specs.Settled.{Settling}
 use Rattle.xa_switch.specs.Fates.{IsOpenedWith, history}
 use Rattle.xa_driver.specs.declared.branch.Branch.{Branch}
 use Rattle.xa_driver.specs.declared.done.Done.{Done}

@@ -2,13 +2,13 @@
 use Rattle.std.specs.Prelude.{◌≡◌, ℕ, ◌≤◌, ℤ, pos, ◌+ℤ◌, ◌&&◌, ◌==◌, if◌then◌else◌, List, [], ◌∷◌, length}
 use Rattle.xa_base.specs.Sums.{total}
 use Rattle.xa_tables.specs.Managers.{opening}
-use Rattle.xa_tables.specs.History.{History}
+use Rattle.xa_tables.specs.Histories.{History}
 use Rattle.xa_tables.specs.Worth.{added_by_now}
-use Rattle.xa_desk.specs.LedgerView.{LedgerView}
-use Rattle.xa_desk.specs.DeskView.{DeskView, ledger}
+use Rattle.xa_desk.specs.LedgerViews.{LedgerView}
+use Rattle.xa_desk.specs.DeskViews.{DeskView, ledger}
 use Rattle.xa_desk.specs.Growth.{HaveGrown}
 use Rattle.xa_switch.specs.declared.plan.Plan.{Plan}
-use Rattle.xa_switch.specs.Settling.{Settling}
+use Rattle.xa_switch.specs.Settled.{Settling}
 use Rattle.xa_switch.specs.Fates.{history}
 use Rattle.xa_switch.specs.Worth.{accounts_of}
 use Rattle.xa_driver.specs.declared.branch.Branch.{Branch}

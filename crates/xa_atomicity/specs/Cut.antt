@@ -9,8 +9,8 @@ use Rattle.xa_words.specs.declared.code.Code.{Code}
 use Rattle.xa_words.specs.declared.request.Op.{Op}
 use Rattle.xa_words.specs.declared.request.Op.TheVariants.{Prepare, Rollback}
 use Rattle.xa_tables.specs.Prepared.{names}
-use Rattle.xa_desk.specs.LedgerView.{LedgerView}
-use Rattle.xa_desk.specs.DeskView.{DeskView, ledger}
+use Rattle.xa_desk.specs.LedgerViews.{LedgerView}
+use Rattle.xa_desk.specs.DeskViews.{DeskView, ledger}
 use Rattle.xa_driver.specs.declared.branch.Branch.{Branch}
 use Rattle.xa_driver.specs.declared.done.Ending.{Ending}
 use Rattle.xa_driver.specs.declared.done.Ending.TheVariants.{InDoubt}

@@ -1,5 +1,5 @@
 pub mod Cut
-pub mod Tabled
+pub mod LawsOfTables
 pub mod Outcomes
 pub mod Additions
 pub mod Conservation
@@ -28,3 +28,4 @@ pub use Resolution.{tables_left, user, uses_of, with_resolves, with_use}
 pub use Worth.{CountsAllOrNone, CountsOver, IsUnlisted, SharesOver, commits_after, histories}
 pub use Presumed.{AskedAreLeft, CountsByTheLog, EndsByTheLog, IsOfAnother, IsResolvedAfter, VotedToCommit, WasAsked}
 pub use Presumed.{known_of}
+pub use LawsOfTables.{Tabled}

@@ -8,14 +8,14 @@ use Rattle.xa_words.specs.declared.code.Code.{Code}
 use Rattle.xa_words.specs.declared.code.Code.TheVariants.{Done as OK, HeurCom, HeurRb}
 use Rattle.xa_words.specs.declared.request.Request.{Request}
 use Rattle.xa_tables.specs.declared.state.HeuristicDecision.{HeuristicDecision}
-use Rattle.xa_tables.specs.Tables.{Tables}
+use Rattle.xa_tables.specs.ManagerTables.{Tables}
 use Rattle.xa_tables.specs.Next.{next}
-use Rattle.xa_tables.specs.History as history
-use Rattle.xa_tables.specs.History.{History, Fate, IsFateOf, tables_after, decided_fate}
+use Rattle.xa_tables.specs.Histories as history
+use Rattle.xa_tables.specs.Histories.{History, Fate, IsFateOf, tables_after, decided_fate}
 use Rattle.xa_tables.specs.Prepared.{names, is_heur, has_shut}
-use Rattle.xa_desk.specs.LedgerView.{LedgerView}
-use Rattle.xa_desk.specs.DeskView.{ledger}
-use Rattle.xa_switch.specs.Settling.{Settling}
+use Rattle.xa_desk.specs.LedgerViews.{LedgerView}
+use Rattle.xa_desk.specs.DeskViews.{ledger}
+use Rattle.xa_switch.specs.Settled.{Settling}
 use Rattle.xa_switch.specs.Fates.{IsOpenedWith, history as history_of, settled_fate}
 use Rattle.xa_driver.specs.declared.branch.Branch.{Branch}
 use Rattle.xa_driver.specs.declared.done.Done.{Done}

@@ -5,9 +5,9 @@ use Rattle.std.specs.List.{All, Contains}
 use Rattle.xa_words.specs.Tran.{TranName}
 use Rattle.xa_words.specs.declared.code.Code.TheVariants.{Done}
 use Rattle.xa_words.specs.declared.request.Op.TheVariants.{Prepare}
-use Rattle.xa_desk.specs.DeskView.{ledger}
+use Rattle.xa_desk.specs.DeskViews.{ledger}
 use Rattle.xa_switch.specs.Fates.{history as history_of, ledgers_of}
-use Rattle.xa_switch.specs.Settling.{Settling}
+use Rattle.xa_switch.specs.Settled.{Settling}
 use Rattle.xa_driver.specs.declared.branch.Branch.{Branch}
 use Rattle.xa_driver.specs.declared.done.Ending.{Ending}
 use Rattle.xa_atomicity.specs.Cut.{is_recorded, known_at}

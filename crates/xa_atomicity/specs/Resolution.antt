@@ -13,17 +13,17 @@ use Rattle.xa_words.specs.declared.request.Op.TheVariants.{Start, End, Prepare, 
 use Rattle.xa_words.specs.declared.request.Op.TheVariants.{Forget, Heur}
 use Rattle.xa_words.specs.declared.request.Request.{Request}
 use Rattle.xa_tables.specs.declared.state.HeuristicDecision.{HeuristicDecision}
-use Rattle.xa_tables.specs.Tables.{Tables, is_left as is_left_in, is_prepared}
+use Rattle.xa_tables.specs.ManagerTables.{Tables, is_left as is_left_in, is_prepared}
 use Rattle.xa_tables.specs.Reasons.{decision_code}
-use Rattle.xa_tables.specs.History as history
-use Rattle.xa_tables.specs.History.{Fate, IsFateOf, decided_fate, is_in_doubt as is_unknown}
+use Rattle.xa_tables.specs.Histories as history
+use Rattle.xa_tables.specs.Histories.{Fate, IsFateOf, decided_fate, is_in_doubt as is_unknown}
 use Rattle.xa_tables.specs.Openings.{AreLeft, reopened_fate}
-use Rattle.xa_desk.specs.LedgerView.{LedgerView}
-use Rattle.xa_desk.specs.DeskView.{DeskView, ledger}
+use Rattle.xa_desk.specs.LedgerViews.{LedgerView}
+use Rattle.xa_desk.specs.DeskViews.{DeskView, ledger}
 use Rattle.xa_desk.specs.Growth.{HaveGrown}
-use Rattle.xa_switch.specs.Settling.{Settling, IsSettled, find_manager}
+use Rattle.xa_switch.specs.Settled.{Settling, IsSettled, find_manager}
 use Rattle.xa_switch.specs.Fates.{ledgers_of, first_of, history as history_of, settled_fate}
-use Rattle.xa_switch.specs.Again.{last_in, reopened_at}
+use Rattle.xa_switch.specs.Reopening.{last_in, reopened_at}
 use Rattle.xa_scan.specs.Left.{ScanView, left_at}
 use Rattle.xa_driver.specs.declared.branch.Branch.{Branch}
 use Rattle.xa_driver.specs.declared.done.Done.{Done}

@@ -2,11 +2,11 @@
 use Rattle.std.specs.Prelude.{◌≡◌, ℕ, ℤ, pos, Bool, true, false, if◌then◌else◌, Some, List, ◌∷◌, ◌++◌, length, map}
 use Rattle.xa_words.specs.Xid.{XidName}
 use Rattle.xa_tables.specs.declared.state.HeuristicDecision.{HeuristicDecision}
-use Rattle.xa_tables.specs.Tables.{Tables}
-use Rattle.xa_tables.specs.History as history
-use Rattle.xa_tables.specs.History.{History, Fate, IsFateOf, fate, share, tables_after}
+use Rattle.xa_tables.specs.ManagerTables.{Tables}
+use Rattle.xa_tables.specs.Histories as history
+use Rattle.xa_tables.specs.Histories.{History, Fate, IsFateOf, fate, share, tables_after}
 use Rattle.xa_tables.specs.Openings.{commits_over}
-use Rattle.xa_desk.specs.DeskView.{ledger}
+use Rattle.xa_desk.specs.DeskViews.{ledger}
 use Rattle.xa_switch.specs.Fates.{first_of, history as history_of}
 use Rattle.xa_driver.specs.declared.branch.Branch.{Branch}
 use Rattle.xa_atomicity.specs.Additions.{IsAddition, prepare_of}

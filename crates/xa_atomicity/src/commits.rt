@@ -1,8 +1,8 @@
 //! Of one commit alone.
 ghost use Rattle.std.specs.Prelude.{◌≡◌, true, false, List};
 ghost use Rattle.xa_words.specs.Tran.{TranName};
-ghost use Rattle.xa_desk.specs.LedgerView.{LedgerView};
-ghost use Rattle.xa_desk.specs.DeskView.{DeskView};
+ghost use Rattle.xa_desk.specs.LedgerViews.{LedgerView};
+ghost use Rattle.xa_desk.specs.DeskViews.{DeskView};
 ghost use Rattle.xa_desk.specs.Growth.{HaveGrown};
 ghost use Rattle.xa_driver.specs.declared.branch.Branch.{Branch};
 ghost use Rattle.xa_driver.specs.declared.done.Done.{Done};

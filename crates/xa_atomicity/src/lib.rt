@@ -8,7 +8,7 @@
 //! a caller may cite its laws, as xa_bank does.
 #![tactic(auto)]
 
-ghost use Rattle.xa_atomicity.specs.Tabled.{Tabled};
+ghost use Rattle.xa_atomicity.specs.LawsOfTables.{Tabled};
 
 mod commits;
 mod fates;

@@ -4,7 +4,7 @@ ghost use Rattle.std.specs.Prelude.{◌≡◌, ◌≢◌, ◌≤◌, None, List,
 ghost use Rattle.std.specs.Prelude.{◌++◌, length};
 ghost use Rattle.xa_words.specs.Tran.{TranName};
 ghost use Rattle.xa_tables.specs.Prepared.{names};
-ghost use Rattle.xa_switch.specs.Settling.{Settling, IsSettled};
+ghost use Rattle.xa_switch.specs.Settled.{Settling, IsSettled};
 ghost use Rattle.xa_desk.specs.Growth.{HaveGrown};
 ghost use Rattle.xa_switch.specs.Fates.{ledgers_of};
 ghost use Rattle.xa_driver.specs.declared.branch.Branch.{Branch};
@@ -19,7 +19,7 @@ ghost use Rattle.xa_atomicity.specs.Resolution.{IsUseIn, IsOutcomeOf, OnlyResolv
 ghost use Rattle.xa_atomicity.specs.Resolution.{commit_call, commits, cuts, resolve_call, resolves, with_resolves};
 ghost use Rattle.xa_atomicity.specs.Resolution.{with_use};
 ghost use Rattle.xa_driver.specs.Resolving.{IsTraceOfResolve};
-ghost use Rattle.xa_switch.specs.Again.{reopening};
+ghost use Rattle.xa_switch.specs.Reopening.{reopening};
 ghost use Rattle.xa_switch.specs.OfPlans.{IsOf};
 ghost use Rattle.xa_switch.specs.Recovery.{IsScanOf};
 ghost use Rattle.xa_switch.specs.declared.plan.Again.{Again};

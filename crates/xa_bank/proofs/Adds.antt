@@ -2,18 +2,14 @@
 use Rattle.xa_base.proofs.{ℤ, pos, if◌then◌else◌, ◌≡◌, ◌≢◌, ℕ, suc, ◌+◌, true, false, ◌&&◌, ◌==◌, cond, List, [], ◌∷◌, ◌++◌, length, length-append}
 use Rattle.xa_base.proofs.{append_assoc, get_or, slice_get, sym, refl, ap, ◌∙◌, subst, arith, Some, ◌≤◌, eq-eqb, All, ne_eqb, All-head, All-tail, filter-append}
 use Rattle.xa_base.proofs.{some_same, all_left, all_right}
-use Rattle.xa_words.specs.{XidName, Done, Op, Start, Add, End, Fresh, Success, Request}
-use Rattle.xa_words.specs.declared.code.Code.{Code}
-use Rattle.xa_tables.specs.Tables.{Tables}
-use Rattle.xa_tables.specs.{next, of_thread, tables_after, coded, IsOpening, names, NamesNowhere, request, LeavesAtWork, DoesWork, AddsAsItWorks, added_by_now}
-use Rattle.xa_tables.specs.History.{History}
+use Rattle.xa_words.specs.{XidName, Done, Op, Start, Add, End, Fresh, Success, Request, Code}
+use Rattle.xa_tables.specs.{Tables, next, of_thread, tables_after, coded, IsOpening, names, NamesNowhere, request, LeavesAtWork, DoesWork, AddsAsItWorks}
+use Rattle.xa_tables.specs.{added_by_now, History}
 use Rattle.xa_tables.proofs.Unnamed.{tables_after-append}
 use Rattle.xa_base.specs.{Begins}
-use Rattle.xa_desk.specs.LedgerView.{LedgerView}
-use Rattle.xa_desk.specs.{ledger, numbered}
+use Rattle.xa_desk.specs.{LedgerView, ledger, numbered}
 use Rattle.xa_worker.specs.{Entry}
-use Rattle.xa_switch.specs.Settling.{Settling}
-use Rattle.xa_switch.specs.{IsSettled, sent, journal, answers, IsOpenedWith, history, ledgers_of}
+use Rattle.xa_switch.specs.{Settling, IsSettled, sent, journal, answers, IsOpenedWith, history, ledgers_of}
 use Rattle.xa_atomicity.specs.{taken_before, IsBetween}
 use Rattle.xa_atomicity.proofs.Requests.{all_earlier}
 use Rattle.xa_atomicity.proofs.Settled.{by_ledger}

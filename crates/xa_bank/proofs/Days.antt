@@ -3,13 +3,10 @@ use Rattle.xa_base.proofs.{ℤ, pos, ◌+ℤ◌, All, ◌≡◌, ℕ, ◌+◌, �
 use Rattle.xa_base.proofs.{all_right, total_nothing}
 use Rattle.xa_base.specs.{total}
 use Rattle.xa_words.specs.{TranName, XidName}
-use Rattle.xa_tables.specs.Tables.{Tables}
-use Rattle.xa_tables.specs.{opening, IsOpening, AddsAsItWorks}
-use Rattle.xa_tables.specs.History.{History}
-use Rattle.xa_desk.specs.LedgerView.{LedgerView}
+use Rattle.xa_tables.specs.{Tables, opening, IsOpening, AddsAsItWorks, History}
+use Rattle.xa_desk.specs.{LedgerView}
 use Rattle.xa_switch.specs.{Plan, IsOpenedWith, ledgers_of, IsOfPlan, IsSound, IsSoundManager, planned, IsSettled, accounts_of, plan_worth, settled_worth}
-use Rattle.xa_switch.specs.{threads_of}
-use Rattle.xa_switch.specs.Settling.{Settling}
+use Rattle.xa_switch.specs.{threads_of, Settling}
 use Rattle.xa_driver.specs.{Branch, Done}
 use Rattle.xa_atomicity.specs.{OnlyTransfers, held_in_doubt, is_in_doubt}
 use Rattle.xa_log.specs.{IsReadAs, LogState}

@@ -1,13 +1,10 @@
 -- A commit whose coordinator died once all branches were told was made, where no ending tells a decision of a store's own.
 use Rattle.xa_base.proofs.{arith, ◌≡◌, Bool, true, false, ◌||◌, Option, Some, None, List, [], ◌∷◌, refl, sym, ap, ◌∙◌, subst, list_any, or_parts, at_true}
 use Rattle.xa_base.proofs.{at_false}
-use Rattle.xa_words.specs.{XidName, Op}
-use Rattle.xa_words.specs.declared.code.Code.{Code}
+use Rattle.xa_words.specs.{XidName, Op, Code}
 use Rattle.xa_words.specs.declared.death.Death.TheVariants as death
 use Rattle.xa_tables.specs.{is_rolled_back}
-use Rattle.xa_desk.specs.LedgerView.{LedgerView}
-use Rattle.xa_desk.specs.DeskView.{DeskView}
-use Rattle.xa_desk.specs.{ledger}
+use Rattle.xa_desk.specs.{LedgerView, DeskView, ledger}
 use Rattle.xa_driver.specs.{Branch, Done, Ending, Heuristic, AsksFor, AtBranch, VotesAndObeys, is_read, is_yes, second_op, third_op, ending_of, yes_ending}
 use Rattle.xa_driver.specs.{no_ending, is_decided, is_out_of_reach, AsksLedger, EachBranch, IsCommit}
 use Rattle.xa_log.specs.{LogState}

@@ -1,8 +1,7 @@
 -- What a log may be read as matters only to a transfer of which nobody knows whether its record was made.
 use Rattle.xa_base.proofs.{◌≡◌, ℕ, ◌+◌, Bool, true, false, refl, List, [], ◌∷◌, list_any, or_parts}
-use Rattle.xa_words.specs.{TranName}
-use Rattle.xa_words.specs.declared.code.Code.{Code}
-use Rattle.xa_desk.specs.DeskView.{DeskView}
+use Rattle.xa_words.specs.{TranName, Code}
+use Rattle.xa_desk.specs.{DeskView}
 use Rattle.xa_driver.specs.{yes_of, Branch}
 use Rattle.xa_log.specs.{IsReadAs, LogState}
 use Rattle.xa_work.specs.declared.unit.Refusal.{Refusal}

@@ -5,14 +5,10 @@ use Rattle.xa_base.proofs.{Option, Some, None, length-map, slice_get_within, got
 use Rattle.xa_base.specs.{Chain}
 use Rattle.xa_base.specs.Lists.Chain.{none, more}
 use Rattle.xa_words.specs.{Op}
-use Rattle.xa_desk.specs.LedgerView.{LedgerView}
-use Rattle.xa_desk.specs.DeskView.{DeskView}
-use Rattle.xa_desk.specs.{ledger, after_collected, sent_to, DeskSeat}
-use Rattle.xa_desk.specs.GoesOn.{GoesOn}
+use Rattle.xa_desk.specs.{LedgerView, DeskView, ledger, after_collected, sent_to, DeskSeat, GoesOn}
 use Rattle.xa_desk.proofs.Fresh.{fresh_sent}
 use Rattle.xa_desk.proofs.Ledgers.{nobody_sent}
-use Rattle.xa_switch.specs.{thread_part, ledgers_of, IsNewDesk, Setup, ThreadPart, find_thread, ledgers_in, sent}
-use Rattle.xa_switch.specs.Settling.{Settling}
+use Rattle.xa_switch.specs.{thread_part, ledgers_of, IsNewDesk, Setup, ThreadPart, find_thread, ledgers_in, sent, Settling}
 use Rattle.xa_driver.proofs.AtDeath.{as_many_managers}
 use Rattle.xa_atomicity.specs.{NothingWasSent}
 use Rattle.xa_crew.specs.{Attended, Telling, EndsNumber, Member, HasRun, IsRun}

@@ -5,8 +5,7 @@ use Rattle.std.specs.Prelude.{neg_ℤ}
 use Rattle.std.proofs.lemmas.Nat.{from_be_bytes-to_be_bytes_8}
 use Rattle.xa_words.specs.{XidName, xid_eq, Decides-xid_eq, tran_of, Death, Op, Shut}
 use Rattle.xa_tables.specs.{names}
-use Rattle.xa_desk.specs.LedgerView.{LedgerView}
-use Rattle.xa_desk.specs.DeskView.{DeskView}
+use Rattle.xa_desk.specs.{LedgerView, DeskView}
 use Rattle.xa_log.specs.{LogState}
 use Rattle.xa_work.specs.{WorkOutcome, HaveSent, IsFor, IsOpenRm, NamesOnly, ComesOfCommit, HaveWorked}
 use Rattle.xa_work.specs.Units.Transacts.{commits, refused}

@@ -3,15 +3,10 @@ use Rattle.xa_base.proofs.{ℤ, pos, ◌+ℤ◌, ◌≡◌, ℕ, suc, ◌+◌, �
 use Rattle.xa_base.proofs.{◌∙◌, subst, arith, None, Option, All, list_any, ints, cases_lt, All-nil, All-cons, All-head, All-tail, All-weaker}
 use Rattle.xa_words.specs.{XidName, Death, Op}
 use Rattle.xa_words.specs.declared.death.Death.TheVariants as death
-use Rattle.xa_tables.specs.Tables.{Tables}
-use Rattle.xa_tables.specs.{opening, IsOpening, AddsAsItWorks}
-use Rattle.xa_tables.specs.History.{History}
-use Rattle.xa_desk.specs.LedgerView.{LedgerView}
-use Rattle.xa_desk.specs.DeskView.{DeskView}
-use Rattle.xa_desk.specs.{ledger, HaveGrown}
+use Rattle.xa_tables.specs.{Tables, opening, IsOpening, AddsAsItWorks, History}
+use Rattle.xa_desk.specs.{LedgerView, DeskView, ledger, HaveGrown}
 use Rattle.xa_desk.proofs.Ledgers.{past_end}
-use Rattle.xa_switch.specs.{Plan, IsSettled, sent, IsOpenedWith, history, ledgers_of, accounts_of}
-use Rattle.xa_switch.specs.Settling.{Settling}
+use Rattle.xa_switch.specs.{Plan, IsSettled, sent, IsOpenedWith, history, ledgers_of, accounts_of, Settling}
 use Rattle.xa_driver.specs.{Branch, Done, is_commit, NoCommitWasSent, HaveAsked, PutsLedger, AsksLedger, IsCommit}
 use Rattle.xa_log.specs.{LogState}
 use Rattle.xa_atomicity.specs.{AreLeftAlone, OnlyTheseName, is_in_doubt, sent_so_far, added_before, added_by_all, held_in_doubt, NothingWasSent, OnlyTransfers}

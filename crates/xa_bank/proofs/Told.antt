@@ -3,12 +3,9 @@
 use Rattle.xa_base.proofs.{◌≡◌, ◌≢◌, ℕ, suc, ◌+◌, ◌^◌, ◌<◌, ◌≤◌, ◌⊎◌, ⊎_elim, true, false, ◌==◌, cond, List, [], ◌∷◌, ◌++◌, length, get_or, sym, refl, ap, ◌∙◌}
 use Rattle.xa_base.proofs.{subst, arith, eq-eqb, All, cases_eq, eqb-false, All-nil, All-cons, All-head, All-tail, All-append, All-weaker, all_right}
 use Rattle.xa_words.specs.{XidName, Op, Request}
-use Rattle.xa_tables.specs.History.{History}
-use Rattle.xa_tables.specs.{of_thread, names}
-use Rattle.xa_desk.specs.LedgerView.{LedgerView}
-use Rattle.xa_desk.specs.{ledger, numbered}
-use Rattle.xa_switch.specs.Settling.{Settling}
-use Rattle.xa_switch.specs.{IsSettled, sent, history}
+use Rattle.xa_tables.specs.{History, of_thread, names}
+use Rattle.xa_desk.specs.{LedgerView, ledger, numbered}
+use Rattle.xa_switch.specs.{Settling, IsSettled, sent, history}
 use Rattle.xa_atomicity.specs.{IsBetween, OnlyTheseName}
 use Rattle.xa_atomicity.proofs.Placing.{request_of}
 use Rattle.xa_atomicity.proofs.Requests.{all_later}

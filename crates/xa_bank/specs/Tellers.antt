@@ -4,7 +4,7 @@ use Rattle.std.specs.List.{All, list_any}
 use Rattle.xa_words.specs.Tran.{TranName}
 use Rattle.xa_words.specs.declared.death.Death.{Death}
 use Rattle.xa_words.specs.declared.death.Death.TheVariants as death
-use Rattle.xa_desk.specs.DeskView.{DeskView}
+use Rattle.xa_desk.specs.DeskViews.{DeskView}
 use Rattle.xa_scan.specs.Left.{ScanView}
 use Rattle.xa_crew.specs.declared.client_job.Attended.{Attended}
 use Rattle.xa_driver.specs.declared.done.Ending.{Ending}

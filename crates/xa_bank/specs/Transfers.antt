@@ -5,7 +5,7 @@ use Rattle.std.specs.Int.{w64, to_be_bytes}
 use Rattle.xa_words.specs.Tran.{TranName, tran_of}
 use Rattle.xa_words.specs.declared.death.Death.{Death}
 use Rattle.xa_words.specs.declared.request.RmOp.TheVariants.{Shut}
-use Rattle.xa_desk.specs.DeskView.{DeskView}
+use Rattle.xa_desk.specs.DeskViews.{DeskView}
 use Rattle.xa_calls.specs.Asking.{native}
 use Rattle.xa_calls.specs.Putting.{Calls}
 use Rattle.xa_driver.specs.declared.branch.Branch.{Branch}

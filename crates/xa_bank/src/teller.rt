@@ -1,7 +1,7 @@
 //! What a teller does: transfers, one after the other, each as one unit of work.
 ghost use Rattle.std.specs.Prelude.{◌≡◌, ◌+◌, ℤ, ◌≤ℤ◌, neg_ℤ, pos, [], length, false, IfOk, MatchOption, None, OnErr};
 ghost use Rattle.std.specs.Prelude.{◌<◌, ◌^◌, OnOk};
-ghost use Rattle.xa_desk.specs.GoesOn.{GoesOn};
+ghost use Rattle.xa_desk.specs.GoingOn.{GoesOn};
 ghost use Rattle.xa_desk.specs.Kept.{AllKept};
 ghost use Rattle.xa_log.specs.Log.{IsReadAs};
 ghost use Rattle.xa_work.specs.Units.{IfLost, LeavesKnown};

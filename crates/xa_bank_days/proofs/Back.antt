@@ -1,10 +1,8 @@
 -- The logs of all tellers, one by one, with what they were found to have.
-use Rattle.std.proofs.Common.{rules}
-use Rattle.xa_base.proofs.{◌≡◌, ℕ, zero, suc, ◌+◌, ◌^◌, nat_lt, ◌&&◌, Bool, true, Some, List, [], ◌∷◌, ◌++◌, length, slice_get, refl, ap, ◌∙◌, subst, arith}
+use Rattle.xa_base.proofs.{◌≡◌, ℕ, zero, suc, ◌+◌, nat_lt, Bool, Some, List, [], ◌∷◌, ◌++◌, length, slice_get, refl, subst, arith}
 use Rattle.xa_words.specs.{TranName}
 use Rattle.xa_log.specs.{LogState}
-use Rattle.xa_atomicity.specs.{is_recorded}
-use Rattle.xa_bank.specs.{Teller, ReadsBack, last_number, tran_named}
+use Rattle.xa_bank.specs.{Teller, ReadsBack}
 use Rattle.xa_bank_days.specs.{AreReadBack, ForEach, IsReadBack}
 
 module _ {L : Type 0} (P : ℕ → Teller L → L → Bool → Type 0) where

@@ -1,22 +1,18 @@
 -- What a commit came to that was made, or whose coordinator died: whether its log has the record is what was told, where the
 -- first branch isn't read only.
-use Rattle.std.proofs.Common.{rules}
-use Rattle.xa_base.proofs.{is_some, if◌then◌else◌, ◌≡◌, ◌≢◌, ℕ, zero, Bool, true, false, not, ◌&&◌, ◌||◌, cond, Option, None, Some, List, [], ◌∷◌, ◌++◌, length}
-use Rattle.xa_base.proofs.{append_assoc, sym, refl, ap, ◌∙◌, subst, arith, inl, inr, All, Contains, eq_by_cmp, is_eq, tied_itself, get-insert, or-true}
-use Rattle.xa_base.proofs.{and_parts, Contains-append_right, is_equal}
+use Rattle.xa_base.proofs.{rules, is_some, ◌≡◌, ◌≢◌, ℕ, zero, Bool, true, false, cond, Option, None, Some, List, [], ◌∷◌, ◌++◌, length, append_assoc, sym, refl}
+use Rattle.xa_base.proofs.{ap, ◌∙◌, subst, arith, inl, inr, All, Contains, eq_by_cmp, is_eq, tied_itself, get-insert, or-true, and_parts, Contains-append_right}
+use Rattle.xa_base.proofs.{is_equal}
 use Rattle.std.specs.FinMap as map
-use Rattle.xa_words.specs.{XidName, TranName, tran_of, Done, RdOnly, RmFail, Death, Op, Prepare}
+use Rattle.xa_words.specs.{XidName, TranName, tran_of, Done, RdOnly, Death, Op, Prepare, Code}
 use Rattle.xa_words.proofs.Xids.{xid_self}
-use Rattle.xa_words.specs.declared.code.Code.{Code}
 use Rattle.xa_words.specs.declared.death.Death.TheVariants as death
 use Rattle.xa_tables.specs.{names, is_heur}
-use Rattle.xa_desk.specs.LedgerView.{LedgerView}
-use Rattle.xa_desk.specs.{learnt_shut, with_collected, with_sent, ledger}
-use Rattle.xa_desk.specs.DeskView.{DeskView}
+use Rattle.xa_desk.specs.{LedgerView, learnt_shut, with_collected, with_sent, ledger, DeskView}
 use Rattle.xa_log.specs.{IsEither, LogState, record_of, with_record, tran_cmp}
 use Rattle.xa_log.proofs.Transactions.{tran_cmp_total, tran_cmp-IsAntisymmetric}
-use Rattle.xa_driver.specs.{Branch, Done as Made, Ending, AtBranch, CameTo, HaveAsked, HaveTold, IsDecidedBy, PutsLedger, VotesAndObeys, decides_commit}
-use Rattle.xa_driver.specs.{has_yes, yes_of, AsksLedger, EachBranch, IsTranOf, Logs, appended, decision_of, failed, unwanted}
+use Rattle.xa_driver.specs.{Branch, Done as Made, Ending, AtBranch, CameTo, HaveAsked, HaveTold, IsDecidedBy, PutsLedger, decides_commit, has_yes, yes_of}
+use Rattle.xa_driver.specs.{AsksLedger, EachBranch, IsTranOf, Logs, appended, decision_of, failed, unwanted}
 use Rattle.xa_atomicity.specs.{IsCut, is_recorded}
 use Rattle.xa_atomicity.proofs.CutVotes.{finished_law}
 use Rattle.xa_atomicity.proofs.Died.{died_is_cut}

@@ -8,12 +8,10 @@ use Rattle.xa_base.specs.{IsUpTo, total}
 use Rattle.xa_words.specs.{key_eq, Decides-key_eq, key_cmp_total}
 use Rattle.xa_words.specs.Orders.{key_cmp}
 use Rattle.xa_tables.proofs.AccountLemmas.{key_self, same_key}
-use Rattle.xa_tables.specs.{are_accounts, are_apart, opening, is_declared, value_of, worth, worth_declared}
-use Rattle.xa_tables.specs.Tables.{Tables}
+use Rattle.xa_tables.specs.{are_accounts, are_apart, opening, is_declared, value_of, worth, worth_declared, Tables}
 use Rattle.xa_tables.proofs.WorthLaw.{worth_law}
 use Rattle.xa_switch.specs.{ManagerPlan, Plan, last_in, IsSound, IsSoundManager, ManagerPart, find_manager, value, value_in, accounts_in, accounts_of}
-use Rattle.xa_switch.specs.{managers_of, plan_worth, settled_worth}
-use Rattle.xa_switch.specs.Settling.{Settling}
+use Rattle.xa_switch.specs.{managers_of, plan_worth, settled_worth, Settling}
 use Rattle.xa_bank.specs.{Transfer}
 use Rattle.xa_bank_days.specs.{balances_at, all_applied, IsWithin}
 use Rattle.xa_bank_days.proofs.Shares.{all_applied_is, counts_for}

@@ -4,14 +4,11 @@ use Rattle.xa_base.proofs.{is_some, ◌≡◌, ℕ, ◌+◌, ◌<◌, ◌≤◌,
 use Rattle.xa_base.proofs.{subst, arith, All, Contains, All-nil, All-cons, All-contains, all_at, got_map, by_bool}
 use Rattle.xa_base.specs.{MOST_MANAGERS, IsUpTo}
 use Rattle.xa_words.specs.{XidName, Decides-xid_eq, TranName, tran_of, Op, OpenRm}
-use Rattle.xa_tables.specs.Tables.{Tables}
-use Rattle.xa_tables.specs.{exists, is_left, is_left_in, state_of, is_done, tables_after, AreLeft, IsOpening, reopened, NamesNowhere, names}
+use Rattle.xa_tables.specs.{Tables, exists, is_left, state_of, is_done, AreLeft, IsOpening, NamesNowhere, names}
 use Rattle.xa_tables.proofs.Reopening.{as_left, reopens}
 use Rattle.xa_tables.proofs.Unnamed.{unnamed_on}
 use Rattle.xa_desk.specs.{ledger}
-use Rattle.xa_switch.specs.declared.plan.Again.{Again}
-use Rattle.xa_switch.specs.{last_in, reopened_at, IsSettled, find_manager, first_of, history, ledgers_of}
-use Rattle.xa_switch.specs.Settling.{Settling}
+use Rattle.xa_switch.specs.{Again, last_in, reopened_at, IsSettled, find_manager, first_of, history, ledgers_of, Settling}
 use Rattle.xa_scan.specs.{left_at}
 use Rattle.xa_switch.proofs.Journaled.{follows_first}
 use Rattle.xa_log.specs.{IsReadAs, LogState, Records, record_of}

@@ -1,14 +1,11 @@
 -- A day of the bank and its night apply the transfers of which the tellers were told that they were decided to commit, each whole,
 -- and the others not at all.
-use Rattle.std.proofs.Common.{rules}
 use Rattle.xa_base.proofs.{◌+ℤ◌, is_some, ◌≡◌, ℕ, ◌^◌, ◌<◌, ◌⊎◌, ⊎_elim, Bool, true, false, ◌||◌, Option, None, Some, List, [], ◌∷◌, length, get_or, map, sym}
-use Rattle.xa_base.proofs.{refl, ap, ◌∙◌, subst, arith, inl, inr, All, Contains, list_any, or-true, +ℤ_idr as plus_none, length-map, All-nil, All-cons}
-use Rattle.xa_base.proofs.{All-head, All-tail}
+use Rattle.xa_base.proofs.{refl, ap, ◌∙◌, subst, arith, inl, All, Contains, list_any, or-true, +ℤ_idr as plus_none, length-map, All-nil, All-cons, All-head}
+use Rattle.xa_base.proofs.{All-tail}
 use Rattle.xa_base.specs.{MOST_MANAGERS, IsUpTo, total}
 use Rattle.xa_words.specs.{XidName, xid_eq, Decides-xid_eq, TranName, tran_of, Op, Commit, Heur, Request}
-use Rattle.xa_tables.specs.{State, exists, is_declared, is_left, is_left_in, state_of, tables_after, IsOpening, reopened, NamesNowhere, names}
-use Rattle.xa_tables.specs.Tables.{Tables}
-use Rattle.xa_tables.specs.History.{History}
+use Rattle.xa_tables.specs.{State, exists, is_declared, is_left, is_left_in, state_of, tables_after, IsOpening, NamesNowhere, names, Tables, History}
 use Rattle.xa_tables.proofs.Reopening.{as_left}
 use Rattle.xa_tables.proofs.Unnamed.{unnamed_on}
 use Rattle.xa_switch.specs.{IsSettled, reopened_at, first_of, history}

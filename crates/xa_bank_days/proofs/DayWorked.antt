@@ -1,19 +1,16 @@
 -- What tellers come to over stores that are opened again.
-use Rattle.std.proofs.Common.{rules}
-use Rattle.xa_base.proofs.{option_map, ◌≡◌, ℕ, ◌+◌, ◌%◌, ◌^◌, ◌<◌, ◌≤◌, ⊎_elim, Bool, true, false, if◌then◌else◌, ◌||◌, List, [], ◌∷◌, length, map, slice_get}
+use Rattle.xa_base.proofs.{rules, option_map, ◌≡◌, ℕ, ◌+◌, ◌^◌, ◌<◌, ◌≤◌, ⊎_elim, Bool, true, false, if◌then◌else◌, ◌||◌, List, [], ◌∷◌, length, map, slice_get}
 use Rattle.xa_base.proofs.{Some, inl, inr, sym, refl, ap, ◌∙◌, subst, arith, All, list_any, or_parts, length-map, All-nil, All-cons, same_Some as some_same}
 use Rattle.xa_base.proofs.{slice_get_within, got_map}
 use Rattle.xa_base.specs.{IsUpTo}
 use Rattle.xa_words.specs.{TranName}
-use Rattle.xa_tables.specs.Tables.{Tables}
-use Rattle.xa_desk.specs.DeskView.{DeskView}
-use Rattle.xa_switch.specs.declared.plan.Again.{Again}
-use Rattle.xa_switch.specs.{IsWhole, MayReopen, managers_in, reopened_at, reopening, first_of, IsOf, IsWithinLimits, ManagerPart}
-use Rattle.xa_switch.specs.Settling.{Settling}
+use Rattle.xa_tables.specs.{Tables}
+use Rattle.xa_desk.specs.{DeskView}
+use Rattle.xa_switch.specs.{Again, IsWhole, MayReopen, managers_in, reopened_at, reopening, first_of, IsOf, IsWithinLimits, ManagerPart, Settling}
 use Rattle.xa_switch.proofs.Journaled.{begun}
 use Rattle.xa_log.specs.{LogState}
 use Rattle.xa_atomicity.proofs.Scanned.{was_there}
-use Rattle.xa_crew.specs.{WithScan, Attended, AgainWorks, IsRunAgain, WorksWithScan, Member}
+use Rattle.xa_crew.specs.{WithScan, Attended, AgainWorks, IsRunAgain, WorksWithScan}
 use Rattle.xa_bank.specs.{Teller, Works, WorksOn}
 use Rattle.xa_bank.proofs.Members.{MemberAt, member_at, nobody_else}
 use Rattle.xa_bank_days.specs.{Bank, BeginsWith, IsDayOf, WorkedIn, Closed, Errands, Worked, AreTurned, HasWorked, IsDay, IsWorkedDay, day_numbers}

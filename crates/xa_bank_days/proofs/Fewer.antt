@@ -1,18 +1,15 @@
 -- A commit that was cut short, seen over the first managers of its desk alone, of which there are no more than a record has
 -- places for.
-use Rattle.xa_base.proofs.{◌≡◌, ℕ, ◌+◌, ◌-◌, ◌<◌, ◌≤◌, ⊎_elim, List, [], ◌∷◌, length, get_or, take, sym, refl, subst, arith, Option, All, cases_lt, All-head}
+use Rattle.xa_base.proofs.{◌≡◌, ℕ, ◌-◌, ◌<◌, ◌≤◌, ⊎_elim, List, [], ◌∷◌, length, get_or, take, sym, refl, subst, arith, Option, All, cases_lt, All-head}
 use Rattle.xa_base.proofs.{All-tail}
 use Rattle.std.proofs.lemmas.List.{length-take, get_or-take}
 use Rattle.std.proofs.lemmas.List.Sums.{sum_by-take-le}
 use Rattle.xa_base.specs.{MOST_MANAGERS, IsUpTo}
-use Rattle.xa_words.specs.declared.code.Code.{Code}
-use Rattle.xa_desk.specs.LedgerView.{LedgerView}
-use Rattle.xa_desk.specs.DeskView.{DeskView}
-use Rattle.xa_desk.specs.{ledger, no_ledger, outstanding, HasGrown, HaveGrown}
+use Rattle.xa_words.specs.{Code, TranName}
+use Rattle.xa_desk.specs.{LedgerView, DeskView, ledger, no_ledger, HasGrown, HaveGrown}
 use Rattle.xa_desk.proofs.Ledgers.{past_end}
 use Rattle.xa_driver.specs.{Branch, Ending, ending_of, EachBranch, HaveRoom, MayCommit, decision_of}
 use Rattle.xa_log.specs.{LogState}
-use Rattle.xa_words.specs.{TranName}
 use Rattle.xa_atomicity.specs.{CameSoFar, EachVote, IsAsked, IsCut, IsEnded, IsTold, asking, forgetting, telling}
 
 -- the first managers

@@ -4,16 +4,12 @@ use Rattle.xa_base.proofs.{Contains, range_with_len, eqb-true, All-contains, len
 use Rattle.std.proofs.lemmas.List.Sorted.{IsPermutation-sym, Contains-permutation}
 use Rattle.xa_base.specs.{IsUpTo}
 use Rattle.xa_words.specs.{Op}
-use Rattle.xa_tables.specs.History.{History}
-use Rattle.xa_tables.specs.{of_thread, tables_after, opening}
+use Rattle.xa_tables.specs.{History, of_thread, tables_after, opening}
 use Rattle.xa_tables.proofs.WorkLaw.{others_first}
-use Rattle.xa_desk.specs.LedgerView.{LedgerView}
-use Rattle.xa_desk.specs.{numbered, ledger}
-use Rattle.xa_desk.specs.DeskView.{DeskView}
+use Rattle.xa_desk.specs.{LedgerView, numbered, ledger, DeskView}
 use Rattle.xa_worker.specs.{requests}
 use Rattle.xa_switch.specs.{Plan, ManagerPlan, IsWhole, last_in, managers_in, first_of, history, ledgers_of, planned, ManagerPart, FollowsTables, find_manager}
-use Rattle.xa_switch.specs.{journal_in, sent, accounts_in, accounts_of}
-use Rattle.xa_switch.specs.Settling.{Settling}
+use Rattle.xa_switch.specs.{journal_in, sent, accounts_in, accounts_of, Settling}
 use Rattle.xa_switch.proofs.Journaled.{begun}
 use Rattle.xa_switch.proofs.Lists.{contains_map, found}
 use Rattle.xa_atomicity.proofs.Settled.{by_ledger}

@@ -1,9 +1,8 @@
 -- What the log of a teller has after its transfers: what it had of other transactions, and records of these.
-use Rattle.xa_base.proofs.{pos, if◌then◌else◌, ◌≡◌, ℕ, zero, suc, ◌+◌, ◌^◌, ◌<◌, ◌≤◌, ◌⊎◌, ⊎_elim, true, false, List, [], ◌∷◌, length, sym, refl, ap, ◌∙◌}
-use Rattle.xa_base.proofs.{subst, arith, inl, inr, eq_by_cmp, is_eq, tied_itself, cases_lt, is_equal}
-use Rattle.xa_words.specs.{TranName, tran_of}
-use Rattle.xa_words.specs.declared.code.Code.{Code}
-use Rattle.xa_desk.specs.DeskView.{DeskView}
+use Rattle.xa_base.proofs.{if◌then◌else◌, ◌≡◌, ℕ, zero, suc, ◌+◌, ◌^◌, ◌<◌, ◌≤◌, ◌⊎◌, ⊎_elim, true, false, List, [], ◌∷◌, length, refl, ap, ◌∙◌, subst, arith}
+use Rattle.xa_base.proofs.{inl, inr, eq_by_cmp, is_eq, tied_itself, cases_lt, is_equal}
+use Rattle.xa_words.specs.{TranName, tran_of, Code}
+use Rattle.xa_desk.specs.{DeskView}
 use Rattle.xa_log.specs.{LogState, record_of, tran_cmp}
 use Rattle.xa_atomicity.specs.{is_recorded}
 use Rattle.xa_log.proofs.Transactions.{tran_cmp_total, tran_cmp-IsAntisymmetric}

@@ -1,23 +1,17 @@
 -- What one transfer comes to at one store, for one account: the legs that it has there, and what else was sent.
-use Rattle.std.proofs.Common.{rules}
-use Rattle.xa_base.proofs.{arith, ℤ, pos, if◌then◌else◌, ◌≡◌, ◌≢◌, ℕ, ◌+◌, ◌^◌, ◌<◌, ◌≤◌, ◌⊎◌, Bool, true, false, ◌||◌, ◌==◌, None, Some, List, [], ◌∷◌, sym}
-use Rattle.xa_base.proofs.{refl, ap, ◌∙◌, subst, inl, inr, list_any, cases_eq, ne_eqb, All-nil, All-cons, Contains}
+use Rattle.xa_base.proofs.{arith, ℤ, pos, if◌then◌else◌, ◌≡◌, ◌≢◌, ℕ, ◌+◌, ◌^◌, ◌<◌, ◌≤◌, ◌⊎◌, Bool, true, false, ◌||◌, None, Some, List, [], ◌∷◌, sym, refl}
+use Rattle.xa_base.proofs.{ap, ◌∙◌, subst, inl, inr, list_any, cases_eq, ne_eqb, All-nil, All-cons, Contains}
 use Rattle.xa_words.proofs.Xids.{xid_self}
-use Rattle.xa_words.specs.{XidName, xid_eq, Decides-xid_eq, TranName, tran_of, Op, Start, Add, End, Prepare, Commit, Rollback, Forget, Heur, Fresh, Success}
-use Rattle.xa_tables.specs.Tables.{Tables}
-use Rattle.xa_tables.specs.{state_of, names}
-use Rattle.xa_desk.specs.LedgerView.{LedgerView}
-use Rattle.xa_desk.specs.DeskView.{DeskView}
-use Rattle.xa_desk.specs.{ledger}
-use Rattle.xa_switch.specs.declared.plan.Again.{Again}
-use Rattle.xa_switch.specs.Settling.{Settling}
-use Rattle.xa_switch.specs.{first_of, ledgers_of}
+use Rattle.xa_words.specs.{XidName, xid_eq, Decides-xid_eq, TranName, tran_of, Op, Start, End, Prepare, Commit, Rollback, Forget, Heur}
+use Rattle.xa_tables.specs.{Tables, state_of, names}
+use Rattle.xa_desk.specs.{LedgerView, DeskView, ledger}
+use Rattle.xa_switch.specs.{Again, Settling, first_of, ledgers_of}
 use Rattle.xa_log.specs.{LogState, Records, record_in, record_of}
 use Rattle.xa_driver.specs.{Branch, is_commit, MayCommit, has_branch_at}
 use Rattle.xa_atomicity.specs.{is_recorded, ResolveCall}
 use Rattle.xa_days.specs.{Leg, ComesOutByTheLog, leg_of}
 use Rattle.xa_work.specs.declared.unit.Refusal.{Refusal}
-use Rattle.xa_work.specs.{Change, GivenUp, NotBegun, WorkOutcome, Refused, HasSent, HaveSent, IsFor, IfLost, IsRefused}
+use Rattle.xa_work.specs.{Change, GivenUp, WorkOutcome, Refused, HasSent, HaveSent, IsFor, IfLost, IsRefused}
 use Rattle.xa_work.specs.Units.IsRefused.{unbegun, undone, barred}
 use Rattle.xa_work.specs.Units.Transacts.{commits, refused}
 use Rattle.xa_work.proofs.Sent.{none_sent, sent_on, sent_as, have_on}

@@ -1,6 +1,5 @@
 -- Days one after the other.
-use Rattle.std.proofs.Common.{arith}
-use Rattle.xa_base.proofs.{◌≡◌, Bool, true, Vec, List, [], ◌∷◌, ◌++◌, refl, subst, IfOk, Result, Ok, Err, Global, All, all_mid}
+use Rattle.xa_base.proofs.{arith, ◌≡◌, Bool, true, Vec, List, [], ◌∷◌, ◌++◌, refl, subst, IfOk, Result, Ok, Err, Global, All, all_mid}
 use Rattle.std.specs.Prelude.{IfErr, MatchResult}
 use Rattle.xa_words.specs.{TranName}
 use Rattle.xa_tables.specs.{is_done}

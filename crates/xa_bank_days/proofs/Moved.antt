@@ -1,15 +1,11 @@
 -- What days do to the balances, by the law of a day and its night.
-use Rattle.std.proofs.Common.{rules}
 use Rattle.xa_base.proofs.{if◌then◌else◌, is_some, ◌+ℤ◌, ◌≡◌, ℕ, ℤ, suc, ◌+◌, ◌^◌, ◌<◌, ◌≤◌, Bool, true, false, Option, Some, Vec, List, [], ◌∷◌, ◌++◌, length}
 use Rattle.xa_base.proofs.{map, slice_get, sym, refl, ap, ◌∙◌, subst, arith, Global, All, all_at, all_from, got_map, was_mapped, All-map}
 use Rattle.xa_base.specs.{IsUpTo}
 use Rattle.xa_words.specs.{TranName}
-use Rattle.xa_tables.specs.Tables.{Tables}
-use Rattle.xa_tables.specs.{is_declared, is_done}
+use Rattle.xa_tables.specs.{Tables, is_declared, is_done}
 use Rattle.xa_tables.proofs.WorthLaw.{declared_on}
-use Rattle.xa_switch.specs.declared.plan.Again.{Again}
-use Rattle.xa_switch.specs.{last_in, managers_in, reopened_at, first_of, history, ManagerPart, IsSettled, value_in}
-use Rattle.xa_switch.specs.Settling.{Settling}
+use Rattle.xa_switch.specs.{Again, last_in, managers_in, reopened_at, first_of, history, ManagerPart, IsSettled, value_in, Settling}
 use Rattle.xa_switch.proofs.Journaled.{begun, follows_first}
 use Rattle.xa_log.specs.{LogState}
 use Rattle.xa_driver.specs.{Outcome}

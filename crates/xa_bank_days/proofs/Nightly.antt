@@ -1,20 +1,15 @@
 -- The one client of a night resolves what was left, and nothing else was done in its opening.
-use Rattle.xa_base.proofs.{Err, IfOk, Ok, Result, ◌≡◌, ◌≢◌, ℕ, zero, suc, ◌+◌, ◌<◌, ◌≤◌, ◌⊎◌, ⊎_elim, true, false, Some, List, [], ◌∷◌, ◌++◌, length}
-use Rattle.xa_base.proofs.{length-append, map, get_or, slice_get, inl, inr, append-nil, sym, refl, ap, ◌∙◌, subst, arith, All, cases_eq, cases_lt, All-nil}
-use Rattle.xa_base.proofs.{All-head, All-contains, same_Some as some_same, all_at, got_map}
+use Rattle.xa_base.proofs.{Err, IfOk, Ok, Result, ◌≡◌, ◌≢◌, ℕ, zero, suc, ◌+◌, ◌<◌, ◌≤◌, ◌⊎◌, false, Some, List, [], ◌∷◌, ◌++◌, length, length-append, map}
+use Rattle.xa_base.proofs.{get_or, slice_get, inl, inr, append-nil, sym, refl, ap, ◌∙◌, subst, arith, All, cases_eq, cases_lt, All-nil, All-head, All-contains}
+use Rattle.xa_base.proofs.{same_Some as some_same, all_at, got_map}
 use Rattle.std.specs.Prelude.{IfErr}
 use Rattle.std.proofs.lemmas.List.Elements.{Contains-get_or}
 use Rattle.xa_base.specs.{MOST_MANAGERS, IsUpTo}
-use Rattle.xa_words.specs.{TranName, Op, Request}
-use Rattle.xa_words.specs.declared.code.Code.{Code}
-use Rattle.xa_tables.specs.Tables.{Tables}
-use Rattle.xa_desk.specs.LedgerView.{LedgerView}
-use Rattle.xa_desk.specs.{is_rm_fail, learnt_shut, ledger}
-use Rattle.xa_desk.specs.DeskView.{DeskView}
-use Rattle.xa_switch.specs.declared.plan.Again.{Again}
-use Rattle.xa_switch.specs.{IsWhole, MayReopen, reopened_at, reopening, first_of, history, ledgers_of, IsOf, IsScanOf, IsSettled, sent}
-use Rattle.xa_scan.specs.{ScanView, left_at}
-use Rattle.xa_switch.specs.Settling.{Settling}
+use Rattle.xa_words.specs.{TranName, Op, Request, Code}
+use Rattle.xa_tables.specs.{Tables}
+use Rattle.xa_desk.specs.{LedgerView, is_rm_fail, learnt_shut, ledger, DeskView}
+use Rattle.xa_switch.specs.{Again, IsWhole, MayReopen, reopened_at, reopening, first_of, history, ledgers_of, IsOf, IsScanOf, IsSettled, sent, Settling}
+use Rattle.xa_scan.specs.{ScanView}
 use Rattle.xa_log.specs.{LogState, Records}
 use Rattle.xa_driver.specs.{Outcome, Resolved, IsTraceOfResolve, MayResolve}
 use Rattle.xa_driver.proofs.Mapped.{Asks}

@@ -1,18 +1,13 @@
 -- A leg of a transfer whose work was done, of which a commit was made or cut short: who names its branch, what it holds as it is
 -- asked to prepare, and that it isn't read only.
-use Rattle.xa_base.proofs.{pos, if◌then◌else◌, ◌&&◌, ◌≡◌, ◌≢◌, ℕ, suc, ◌+◌, ◌^◌, ◌<◌, ◌≤◌, ⊎_elim, true, false, ◌==◌, cond, List, [], ◌∷◌, ◌++◌, length}
-use Rattle.xa_base.proofs.{length-append, append_assoc, get_or, slice_get, sym, refl, ap, ◌∙◌, subst, arith, Option, None, Some, option_map, All, Contains}
-use Rattle.xa_base.proofs.{cases_lt, eqb-false, All-nil, All-cons, All-head, All-tail, All-contains, begins_on}
-use Rattle.xa_words.specs.{XidName, key_eq, RdOnly, Op, Start, Add, End, Prepare, Fresh, Success, Request}
-use Rattle.xa_words.specs.declared.code.Code.{Code}
-use Rattle.xa_tables.specs.Tables.{Tables}
-use Rattle.xa_tables.specs.{next, of_thread, tables_after, coded, names, is_heur, DoesWork, held_by}
-use Rattle.xa_tables.specs.History.{History}
-use Rattle.xa_desk.specs.LedgerView.{LedgerView}
-use Rattle.xa_desk.specs.{ledger, HasGrown, numbered}
+use Rattle.xa_base.proofs.{pos, if◌then◌else◌, ◌&&◌, ◌≡◌, ◌≢◌, ℕ, suc, ◌+◌, ◌^◌, ◌<◌, ◌≤◌, true, false, ◌==◌, cond, List, [], ◌∷◌, ◌++◌, length, length-append}
+use Rattle.xa_base.proofs.{append_assoc, get_or, slice_get, sym, refl, ap, ◌∙◌, subst, arith, Option, None, Some, option_map, All, Contains, cases_lt}
+use Rattle.xa_base.proofs.{eqb-false, All-nil, All-cons, All-head, All-tail, All-contains, begins_on}
+use Rattle.xa_words.specs.{XidName, key_eq, RdOnly, Op, Prepare, Request, Code}
+use Rattle.xa_tables.specs.{Tables, next, of_thread, tables_after, coded, names, is_heur, DoesWork, held_by, History}
+use Rattle.xa_desk.specs.{LedgerView, ledger, HasGrown, numbered}
 use Rattle.xa_worker.specs.{Entry, requests}
-use Rattle.xa_switch.specs.Settling.{Settling}
-use Rattle.xa_switch.specs.{IsSettled, ManagerPart, find_manager, sent, journal, journal_in, answers, IsOpenedWith, first_of, history, ledgers_of}
+use Rattle.xa_switch.specs.{Settling, IsSettled, ManagerPart, find_manager, sent, journal, journal_in, answers, IsOpenedWith, first_of, history, ledgers_of}
 use Rattle.xa_switch.proofs.Journaled.{follows_first}
 use Rattle.xa_driver.specs.{is_commit}
 use Rattle.xa_driver.proofs.Ledgers.{numbered_length}

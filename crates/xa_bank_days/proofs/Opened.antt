@@ -1,11 +1,8 @@
 -- A bank that was opened with a plan is ready for its first day.
-use Rattle.std.proofs.Common.{rules}
-use Rattle.std.proofs.Common.{arith}
-use Rattle.xa_base.proofs.{is_some, ◌≡◌, ℕ, true, false, Some, List, map, slice_get, sym, ap, ◌∙◌, subst, get-empty, all_at, was_mapped}
+use Rattle.xa_base.proofs.{rules, arith, is_some, ◌≡◌, ℕ, true, false, Some, List, map, slice_get, sym, ap, ◌∙◌, get-empty, all_at, was_mapped}
 use Rattle.xa_base.specs.{IsUpTo}
 use Rattle.xa_words.specs.{XidName, xid_cmp, TranName}
-use Rattle.xa_tables.specs.Tables.{Tables}
-use Rattle.xa_tables.specs.{exists, is_left, is_left_in, opening, reopened}
+use Rattle.xa_tables.specs.{Tables, exists, is_left, is_left_in, opening, reopened}
 use Rattle.xa_tables.proofs.Reopening.{as_left, reopens}
 use Rattle.xa_switch.specs.{Plan, managers_in, reopened_at, accounts_of}
 use Rattle.xa_log.specs.{LogState}

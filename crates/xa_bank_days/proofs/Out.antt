@@ -1,18 +1,12 @@
 -- A leg of a transfer that was committed, or whose commit was cut short, comes out by the log, once the night's resolve is made.
-use Rattle.std.proofs.Common.{rules}
 use Rattle.xa_base.proofs.{pos, is_some, if◌then◌else◌, ◌≡◌, ◌≢◌, ℕ, zero, suc, ◌+◌, ◌^◌, ◌<◌, ◌≤◌, Bool, false, Option, None, Some, List, [], ◌∷◌, ◌++◌}
 use Rattle.xa_base.proofs.{length, slice_get, sym, refl, ap, ◌∙◌, subst, arith, All, Contains, All-nil, All-cons, All-head, All-tail, All-weaker}
 use Rattle.xa_base.proofs.{Contains-append_left}
 use Rattle.xa_base.specs.{MOST_MANAGERS, IsUpTo}
 use Rattle.xa_words.specs.{key_eq, TranName, tran_of, RdOnly, RmFail, Prepare}
-use Rattle.xa_tables.specs.Tables.{Tables}
-use Rattle.xa_tables.specs.{state_of}
-use Rattle.xa_desk.specs.LedgerView.{LedgerView}
-use Rattle.xa_desk.specs.DeskView.{DeskView}
-use Rattle.xa_desk.specs.{ledger, HaveGrown}
-use Rattle.xa_switch.specs.declared.plan.Again.{Again}
-use Rattle.xa_switch.specs.Settling.{Settling}
-use Rattle.xa_switch.specs.{IsSettled, first_of, history, ledgers_of}
+use Rattle.xa_tables.specs.{Tables, state_of}
+use Rattle.xa_desk.specs.{LedgerView, DeskView, ledger, HaveGrown}
+use Rattle.xa_switch.specs.{Again, Settling, IsSettled, first_of, history, ledgers_of}
 use Rattle.xa_log.specs.{LogState, Records, record_in, record_of}
 use Rattle.xa_driver.specs.{Branch, Outcome, is_to_commit as is_marked, names as names_manager, IsTranOf}
 use Rattle.xa_atomicity.specs.{is_recorded, OnlyTheseOrDecisionsName, AskedAreLeft, IsResolvedAfter, WasAsked, CutCall, IsOutcomeOf, IsUseIn, OnlyResolves}

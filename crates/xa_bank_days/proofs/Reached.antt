@@ -1,23 +1,15 @@
 -- A resolve in an opening to which nobody sent a Shut is answered by each manager with another code than XAER_RMFAIL.
-use Rattle.std.proofs.Common.{arith}
-use Rattle.xa_base.proofs.{not, ◌||◌, ◌&&◌, if◌then◌else◌, ◌≡◌, ◌≢◌, ℕ, Bool, true, false, ◌==◌, Option, Some, List, [], ◌∷◌, filter, get_or, length, sym, refl}
-use Rattle.xa_base.proofs.{ap, ◌∙◌, subst, All, list_any, All-nil, All-cons, All-head, All-tail, All-append, list_any-append, or-true, all_at, was_mapped}
-use Rattle.xa_base.proofs.{by_if}
+use Rattle.xa_base.proofs.{arith, not, ◌||◌, ◌≡◌, ◌≢◌, ℕ, Bool, true, false, ◌==◌, Option, Some, List, [], ◌∷◌, filter, get_or, sym, refl, ap, ◌∙◌, subst, All}
+use Rattle.xa_base.proofs.{list_any, All-nil, All-cons, All-head, All-tail, All-append, list_any-append, or-true, all_at, was_mapped}
 use Rattle.std.proofs.lemmas.List.Elements.{All-filter}
 use Rattle.xa_base.specs.{Chain, none, more}
-use Rattle.xa_words.specs.{XidName, RmFail, Op, OpenRm, Commit, Rollback, Forget, Request}
-use Rattle.xa_words.specs.declared.code.Code.{Code}
-use Rattle.xa_tables.specs.{State, HeuristicallyCompleted, has_opened, exists, is_completed, is_prepared, is_rollback_only, is_somebody_associated, is_S5}
-use Rattle.xa_tables.specs.{decision_in, state_of, Answer, next, needs_opening, by_rules, coded, is_rolled_back}
+use Rattle.xa_words.specs.{XidName, RmFail, Op, OpenRm, Commit, Rollback, Forget, Request, Code}
+use Rattle.xa_tables.specs.{State, HeuristicallyCompleted, is_S5, decision_in, Answer, next, by_rules, coded, is_rolled_back, Tables, History}
 use Rattle.xa_tables.specs.declared.state.HeuristicDecision.TheVariants as decision
-use Rattle.xa_tables.specs.Tables.{Tables}
-use Rattle.xa_tables.specs.History.{History}
 use Rattle.xa_tables.proofs.Effects.{reason_rolls_back}
-use Rattle.xa_desk.specs.LedgerView.{LedgerView}
-use Rattle.xa_desk.specs.{is_rm_fail, learnt_shut, with_sent, with_collected}
+use Rattle.xa_desk.specs.{LedgerView, is_rm_fail, learnt_shut}
 use Rattle.xa_worker.specs.{Entry}
-use Rattle.xa_switch.specs.{history, IsSettled, collected, journal}
-use Rattle.xa_switch.specs.Settling.{Settling}
+use Rattle.xa_switch.specs.{history, IsSettled, collected, journal, Settling}
 use Rattle.xa_switch.proofs.Journaled.{follows}
 use Rattle.xa_driver.specs.{Outcome, AskTrace, is_decided, AsksIf, AsksLedger, ResolvesAt, ResolvesBranch, outcome_op}
 use Rattle.xa_log.specs.{Records}

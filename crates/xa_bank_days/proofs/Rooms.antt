@@ -1,19 +1,15 @@
 -- The room of a night's desk for what it takes to resolve, and why nothing was resolved.
 use Rattle.std.specs.Prelude.{IfErr}
-use Rattle.xa_base.proofs.{Ok, Err, Result, nat_lt, ◌≡◌, ℕ, zero, suc, ◌-◌, ◌<◌, ◌≤◌, ◌==◌, ◌||◌, ⊎_elim, Bool, List, [], ◌∷◌, length, sym, refl, ap, ◌∙◌}
-use Rattle.xa_base.proofs.{subst, arith, slice_index_or, cases_lt, ne_eqb, or_from, at_false, length-map}
+use Rattle.xa_base.proofs.{Ok, Err, Result, nat_lt, ◌≡◌, ℕ, zero, suc, ◌-◌, ◌<◌, ◌≤◌, Bool, List, [], ◌∷◌, length, refl, arith, slice_index_or, cases_lt}
+use Rattle.xa_base.proofs.{ne_eqb, or_from, at_false, length-map}
 use Rattle.std.proofs.lemmas.Bool.{le-ltb}
 use Rattle.xa_base.specs.{IsUpTo}
 use Rattle.xa_words.specs.{XidName}
-use Rattle.xa_desk.specs.LedgerView.{LedgerView}
-use Rattle.xa_desk.specs.{new_ledger, new_ledgers, ledger, no_ledger, room_at}
-use Rattle.xa_desk.specs.DeskView.{DeskView}
+use Rattle.xa_desk.specs.{new_ledgers, no_ledger, room_at, DeskView}
 use Rattle.xa_desk.proofs.Fresh.{fresh_sent}
-use Rattle.xa_switch.specs.declared.plan.Again.{Again}
-use Rattle.xa_switch.specs.{flags_in, managers_in, reopening, IsNewDesk, IsScanOf}
-use Rattle.xa_scan.specs.{ScanView, left_at}
-use Rattle.xa_switch.specs.Settling.{Settling}
-use Rattle.xa_driver.specs.{Resolved, MayResolve, requests_for}
+use Rattle.xa_switch.specs.{Again, reopening, IsNewDesk, IsScanOf, Settling}
+use Rattle.xa_scan.specs.{ScanView}
+use Rattle.xa_driver.specs.{Resolved, MayResolve}
 use Rattle.xa_bank_days.specs.{Unresolved, BadNumbers, NoMemory, NoRoom, TellerWantsMemory, UnknownLog, Excuses, HasRoomToResolve}
 
 -- a new ledger has all requests of the plan

@@ -1,5 +1,5 @@
 -- What a transfer is to an account at a store, by its legs; and what many are together.
-use Rattle.xa_base.proofs.{ℤ, pos, ◌+ℤ◌, if◌then◌else◌, ◌&&◌, ◌≡◌, ◌≢◌, ℕ, Bool, true, false, ◌==◌, List, [], ◌∷◌, ◌++◌, sym, refl, ap, ◌∙◌, arith, eq-eqb}
+use Rattle.xa_base.proofs.{ℤ, pos, ◌+ℤ◌, if◌then◌else◌, ◌≡◌, ◌≢◌, ℕ, Bool, true, false, List, [], ◌∷◌, ◌++◌, sym, refl, ap, ◌∙◌, arith, eq-eqb}
 use Rattle.xa_base.proofs.{+ℤ_idl as none_plus, +ℤ_idr as plus_none, ints, ne_eqb, subst, map, get_or, All, All-nil, All-cons, All-head, All-tail, All-append}
 use Rattle.xa_base.proofs.{All-weaker, by_bool, none_twice}
 use Rattle.std.specs.Prelude.{neg_ℤ}

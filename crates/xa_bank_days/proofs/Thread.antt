@@ -3,14 +3,9 @@ use Rattle.xa_base.proofs.{◌≡◌, ℕ, ◌+◌, ◌^◌, ◌<◌, ◌≤◌,
 use Rattle.xa_base.proofs.{inl, inr, list_any, or-true, list_any-append}
 use Rattle.xa_base.specs.{total}
 use Rattle.xa_words.specs.{XidName, xid_eq, TranName, tran_of, Op}
-use Rattle.xa_tables.specs.Tables.{Tables}
-use Rattle.xa_tables.specs.{state_of}
-use Rattle.xa_desk.specs.LedgerView.{LedgerView}
-use Rattle.xa_desk.specs.DeskView.{DeskView}
-use Rattle.xa_desk.specs.{ledger}
-use Rattle.xa_switch.specs.declared.plan.Again.{Again}
-use Rattle.xa_switch.specs.Settling.{Settling}
-use Rattle.xa_switch.specs.{ledgers_of}
+use Rattle.xa_tables.specs.{Tables, state_of}
+use Rattle.xa_desk.specs.{LedgerView, DeskView, ledger}
+use Rattle.xa_switch.specs.{Again, Settling, ledgers_of}
 use Rattle.xa_log.specs.{LogState, Records, record_in, record_of}
 use Rattle.xa_driver.specs.{is_commit}
 use Rattle.xa_atomicity.specs.{is_recorded, ResolveCall}

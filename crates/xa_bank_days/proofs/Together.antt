@@ -4,10 +4,8 @@ use Rattle.xa_base.proofs.{slice_get, sym, refl, ap, ◌∙◌, subst, arith, in
 use Rattle.xa_base.proofs.{some_same, was_mapped}
 use Rattle.xa_base.specs.{MOST_MANAGERS, IsUpTo, total}
 use Rattle.xa_words.specs.{XidName, TranName, Op}
-use Rattle.xa_tables.specs.{state_of, names}
-use Rattle.xa_tables.specs.Tables.{Tables}
-use Rattle.xa_desk.specs.LedgerView.{LedgerView}
-use Rattle.xa_desk.specs.{ledger}
+use Rattle.xa_tables.specs.{state_of, names, Tables}
+use Rattle.xa_desk.specs.{LedgerView, ledger}
 use Rattle.xa_switch.specs.{sent, first_of, history, ledgers_of}
 use Rattle.xa_log.specs.{IsReadAs, LogState, Records, record_in, record_of}
 use Rattle.xa_atomicity.proofs.Requests.{own_all}

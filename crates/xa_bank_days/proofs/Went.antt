@@ -2,18 +2,16 @@
 use Rattle.xa_base.proofs.{if◌then◌else◌, ◌≡◌, ℕ, ◌+◌, ◌^◌, ◌<◌, ◌≤◌, Bool, true, false, ◌||◌, List, [], ◌∷◌, ◌++◌, length, sym, refl, ap, ◌∙◌, subst, arith}
 use Rattle.xa_base.proofs.{All, list_any, or_parts, map, Some, slice_get, slice_get_within, all_at, got, some_same}
 use Rattle.xa_words.specs.{TranName, tran_of}
-use Rattle.xa_tables.specs.Tables.{Tables}
-use Rattle.xa_desk.specs.DeskView.{DeskView}
-use Rattle.xa_switch.specs.declared.plan.Again.{Again}
-use Rattle.xa_switch.specs.Settling.{Settling}
-use Rattle.xa_switch.specs.{sent, ledgers_of}
+use Rattle.xa_tables.specs.{Tables}
+use Rattle.xa_desk.specs.{DeskView}
+use Rattle.xa_switch.specs.{Again, Settling, sent, ledgers_of}
 use Rattle.xa_log.specs.{IsReadAs, LogState}
 use Rattle.xa_atomicity.specs.{NothingWasSent, is_recorded, ResolveCall}
 use Rattle.xa_work.specs.{WorkOutcome, Undecided, HaveSent, IsOpenRm, is_last}
 use Rattle.xa_work.specs.Units.ComesOfCommit.{cut_short, in_full, undecided}
 use Rattle.xa_work.specs.Units.Transacts.{commits, refused}
-use Rattle.xa_bank.specs.{Habits, Teller, Transfer, Comes, HasMade, ended, has_undecided, is_undecided, last_number, lived, unknown, Makes, MakesEach}
-use Rattle.xa_bank.specs.{MakesNext, forgotten, tran_named, with_legs, without_legs}
+use Rattle.xa_bank.specs.{Habits, Teller, Transfer, Comes, HasMade, ended, is_undecided, lived, unknown, Makes, MakesEach, MakesNext, forgotten, tran_named}
+use Rattle.xa_bank.specs.{with_legs, without_legs}
 use Rattle.xa_bank.proofs.Named.{Names, makes_none, none_made}
 use Rattle.xa_bank.proofs.LostRecords.{refused_so}
 use Rattle.xa_bank.proofs.Told.{IsAny}
@@ -117,7 +115,7 @@ module _ {L : Type 0} (state : L → LogState) (knows : L → Type 0) (loses : T
       let all_known : AreKnown new.outcomes.items =
       subst AreKnown (sym same) (come_known (knows old.log) (knows new.log) old.transfers.items made.more made.comes) in
       let each : MakesEach t old.habits old.habits.first old.transfers.items new.outcomes.items made.makes.opened w.left (state old.log) (state new.log) ReadsAs =
-          search (arith, made.makes.opened, w.left, made.more, w.thread) in
+      search (arith, made.makes.opened, w.left, made.more, w.thread) in
       record {
         desk = w.desk;
         opened = made.makes.opened;

@@ -7,14 +7,14 @@ use Rattle.std.specs.Global.{Global}
 use Rattle.xa_base.specs.Lists.{IsUpTo}
 use Rattle.xa_words.specs.Key.{key_eq}
 use Rattle.xa_words.specs.Tran.{TranName}
-use Rattle.xa_tables.specs.Tables.{is_declared}
+use Rattle.xa_tables.specs.ManagerTables.{is_declared}
 use Rattle.xa_tables.specs.Managers.{opening}
-use Rattle.xa_tables.specs.History.{is_done}
+use Rattle.xa_tables.specs.Histories.{is_done}
 use Rattle.xa_switch.specs.declared.plan.Again.{Again}
 use Rattle.xa_switch.specs.declared.plan.Plan.{Plan}
-use Rattle.xa_switch.specs.Again.{last_in, managers_in, reopened_at, reopening}
+use Rattle.xa_switch.specs.Reopening.{last_in, managers_in, reopened_at, reopening}
 use Rattle.xa_switch.specs.Plans.{numbers_of}
-use Rattle.xa_switch.specs.Settling.{Settling, find_manager}
+use Rattle.xa_switch.specs.Settled.{Settling, find_manager}
 use Rattle.xa_switch.specs.Worth.{accounts_of}
 use Rattle.xa_log.specs.Log.{LogState}
 use Rattle.xa_driver.specs.declared.resolved.Outcome.{Outcome}

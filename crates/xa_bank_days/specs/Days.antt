@@ -8,14 +8,14 @@ use Rattle.xa_base.specs.Lists.{IsUpTo}
 use Rattle.xa_words.specs.Xid.{XidName}
 use Rattle.xa_words.specs.Tran.{TranName, tran_of}
 use Rattle.xa_words.specs.declared.code.Code.TheVariants.{RmFail}
-use Rattle.xa_tables.specs.Tables.{Tables, exists, value_of}
-use Rattle.xa_desk.specs.DeskView.{DeskView}
+use Rattle.xa_tables.specs.ManagerTables.{Tables, exists, value_of}
+use Rattle.xa_desk.specs.DeskViews.{DeskView}
 use Rattle.xa_switch.specs.declared.plan.Again.{Again}
-use Rattle.xa_switch.specs.Again.{last_in, reopening}
+use Rattle.xa_switch.specs.Reopening.{last_in, reopening}
 use Rattle.xa_switch.specs.Fates.{first_of, ledgers_of}
 use Rattle.xa_switch.specs.OfPlans.{IsOf}
 use Rattle.xa_switch.specs.Recovery.{IsScanOf}
-use Rattle.xa_switch.specs.Settling.{Settling, IsSettled, find_manager, sent}
+use Rattle.xa_switch.specs.Settled.{Settling, IsSettled, find_manager, sent}
 use Rattle.xa_log.specs.Log.{IsReadAs, LogState, Records, all_records, record_in}
 use Rattle.xa_atomicity.specs.Conservation.{NothingWasSent}
 use Rattle.xa_atomicity.specs.Cut.{is_recorded}

@@ -3,12 +3,12 @@ use Rattle.std.specs.Prelude.{◌≡◌, ℕ, ◌≤◌, Bool, true, false, if�
 use Rattle.std.specs.Global.{Global}
 use Rattle.std.specs.List.{All}
 use Rattle.xa_base.specs.Lists.{IsUpTo}
-use Rattle.xa_desk.specs.DeskView.{DeskView}
+use Rattle.xa_desk.specs.DeskViews.{DeskView}
 use Rattle.xa_switch.specs.declared.plan.Again.{Again}
-use Rattle.xa_switch.specs.Again.{managers_in, reopening}
+use Rattle.xa_switch.specs.Reopening.{managers_in, reopening}
 use Rattle.xa_switch.specs.OfPlans.{IsOf}
 use Rattle.xa_switch.specs.Recovery.{IsScanOf}
-use Rattle.xa_switch.specs.Settling.{Settling, IsSettled, sent}
+use Rattle.xa_switch.specs.Settled.{Settling, IsSettled, sent}
 use Rattle.xa_scan.specs.Left.{ScanView, left_at}
 use Rattle.xa_log.specs.Log.{LogState}
 use Rattle.xa_driver.specs.declared.resolved.Outcome.{Outcome}

@@ -1,7 +1,7 @@
 //! A day of the bank and its night.
 ghost use Rattle.std.specs.Prelude.{◌≡◌, ◌↔◌, ◌^◌, ◌<◌, ◌≤◌, [], length, map, vec_capacity, IfErr, IfOk, IsTrue};
 ghost use Rattle.std.specs.List.{list_any};
-ghost use Rattle.xa_switch.specs.Again.{MayReopen, managers_in};
+ghost use Rattle.xa_switch.specs.Reopening.{MayReopen, managers_in};
 ghost use Rattle.xa_bank.specs.Tellers.{ReadsBack};
 ghost use Rattle.xa_bank_days.specs.Days.{ForEach};
 ghost use Rattle.xa_bank_days.specs.Banks.{HasRoom, HasWorked, IsClosed, IsOver, IsUnresolved, IsWorkedDay, LeavesBank};

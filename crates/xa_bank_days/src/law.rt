@@ -2,13 +2,13 @@
 ghost use Rattle.std.specs.Prelude.{◌≡◌, ℕ, ◌+◌, ◌^◌, ◌<◌, ◌≤◌, Bool, true, List, length, map};
 ghost use Rattle.std.specs.List.{All};
 ghost use Rattle.xa_base.specs.Lists.{IsUpTo};
-ghost use Rattle.xa_tables.specs.Tables.{Tables, is_declared};
-ghost use Rattle.xa_tables.specs.History.{is_done};
+ghost use Rattle.xa_tables.specs.ManagerTables.{Tables, is_declared};
+ghost use Rattle.xa_tables.specs.Histories.{is_done};
 ghost use Rattle.xa_switch.specs.declared.plan.Again.{Again};
 ghost use Rattle.xa_switch.specs.declared.plan.Plan.{Plan};
-ghost use Rattle.xa_switch.specs.Again.{reopened_at};
+ghost use Rattle.xa_switch.specs.Reopening.{reopened_at};
 ghost use Rattle.xa_switch.specs.Plans.{IsSound};
-ghost use Rattle.xa_switch.specs.Settling.{Settling};
+ghost use Rattle.xa_switch.specs.Settled.{Settling};
 ghost use Rattle.xa_switch.specs.Worth.{plan_worth, settled_worth};
 ghost use Rattle.xa_atomicity.specs.Resolution.{ResolveCall};
 ghost use Rattle.xa_bank.specs.declared.teller.Teller.{Teller};

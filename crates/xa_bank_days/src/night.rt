@@ -1,10 +1,10 @@
 //! A night of the bank: what a day left in doubt is resolved by the logs of all tellers.
 ghost use Rattle.std.specs.Prelude.{◌≡◌, IfErr, IfOk, map};
 ghost use Rattle.std.specs.List.{All};
-ghost use Rattle.xa_desk.specs.GoesOn.{GoesOn};
+ghost use Rattle.xa_desk.specs.GoingOn.{GoesOn};
 ghost use Rattle.xa_desk.specs.Kept.{AllKept};
 ghost use Rattle.xa_driver.specs.Resolving.{IsTraceOfResolve, MayResolve};
-ghost use Rattle.xa_switch.specs.Again.{MayReopen};
+ghost use Rattle.xa_switch.specs.Reopening.{MayReopen};
 ghost use Rattle.xa_bank_days.specs.Days.{records_of};
 ghost use Rattle.xa_bank_days.specs.Nights.{Excuses, HasRoomToResolve, IsNight, IsUnsettledNight};
 ghost use Rattle.xa_bank_days.specs.Nights.{IsUntouched};

@@ -1,13 +1,10 @@
 -- What is outstanding stays kept under a number, as a desk calls and collects.
-use Rattle.xa_base.proofs.{◌≡◌, ◌≢◌, ℕ, ℤ, ◌-◌, ⊎_elim, zero, suc, Bool, true, false, List, [], length, arith, Option, Some, None, Result, Ok, Err, sym, refl}
-use Rattle.xa_base.proofs.{ap, ◌∙◌, subst, inl, inr, cases_eq, cases_Bool, nat_cmp, inserted_there, inserted_other, removed_other, not_both}
+use Rattle.xa_base.proofs.{◌≡◌, ◌≢◌, ℕ, ℤ, ⊎_elim, zero, suc, Bool, true, false, List, Option, Some, None, Result, Ok, Err, sym, refl, ap, ◌∙◌, subst, inl, inr}
+use Rattle.xa_base.proofs.{cases_eq, cases_Bool, nat_cmp, inserted_there, inserted_other, removed_other, not_both}
 use Rattle.std.specs.FinMap as finmap
-use Rattle.xa_words.specs.declared.code.Code.{Code}
-use Rattle.xa_words.specs.{Inval, Mode, Op}
-use Rattle.xa_desk.specs.{Operation, IsKnown, IsOut, is_known, ledger, next_operation, outstanding, AllKept, HoldsNone, submitted, after_fulls, EndsQuiet}
-use Rattle.xa_desk.specs.{Collects, TakesKept}
-use Rattle.xa_desk.specs.LedgerView.{LedgerView}
-use Rattle.xa_desk.specs.DeskView.{DeskView}
+use Rattle.xa_words.specs.{Code, Inval, Mode, Op}
+use Rattle.xa_desk.specs.{Operation, IsKnown, IsOut, is_known, next_operation, outstanding, AllKept, HoldsNone, submitted, after_fulls, EndsQuiet, Collects}
+use Rattle.xa_desk.specs.{TakesKept, LedgerView, DeskView}
 use Rattle.xa_desk.proofs.Ledgers.{known_is}
 use Rattle.xa_calls.specs.{put_refusal, Puts, Calls, CompletesOne, CompletesAny, CompletesAt, CompletesBy, CollectsRedeemed, may_complete}
 use Rattle.xa_calls.specs.Putting.Puts.{refused, full, kept, answered}

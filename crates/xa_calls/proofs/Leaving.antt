@@ -1,6 +1,5 @@
 -- What calls leave, one after another.
-use Rattle.xa_desk.specs.DeskView.{DeskView}
-use Rattle.xa_desk.specs.GoesOn.{GoesOn}
+use Rattle.xa_desk.specs.{DeskView, GoesOn}
 use Rattle.xa_calls.specs.{CallLeaves}
 
 module _ {I : Type 0} {leads : I → I → Type 0} where

@@ -1,7 +1,7 @@
 -- What a desk's call answers, by its refusal.
 use Rattle.xa_base.proofs.{◌≡◌, Option, Some, None, Result, Ok, Err, refl, subst, Bool, true, false, not, ◌&&◌, is_some}
 use Rattle.std.proofs.Common.{IsOk}
-use Rattle.xa_words.specs.declared.code.Code.{Code}
+use Rattle.xa_words.specs.{Code}
 use Rattle.xa_desk.specs.{Refused}
 
 -- the refusal of a synchronous request that was answered, and of one that wasn't

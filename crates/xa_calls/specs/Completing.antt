@@ -2,14 +2,14 @@
 use Rattle.std.specs.Prelude.{◌≡◌, ℕ, ℤ, pos, negsuc, Bool, true, false, not, ◌&&◌, ◌||◌, ◌==◌, Option, Some, None}
 use Rattle.std.specs.Prelude.{Result, Ok, Err, IfOk}
 use Rattle.std.specs.FinMap as map
-use Rattle.xa_words.specs.Code.{number_of}
+use Rattle.xa_words.specs.CodeNumbers.{number_of}
 use Rattle.xa_words.specs.Flags.{check_flags}
 use Rattle.xa_words.specs.declared.code.Code.{Code}
 use Rattle.xa_words.specs.declared.code.Code.TheVariants.{Inval, Proto, Retry}
 use Rattle.xa_words.specs.declared.flags.Call.TheVariants as call
 use Rattle.xa_words.specs.declared.flags.Mode.{Mode}
 use Rattle.xa_desk.specs.declared.operation.Operation.{Operation}
-use Rattle.xa_desk.specs.DeskView.{DeskView, is_known, IsHandle, keeps_at, ready_at}
+use Rattle.xa_desk.specs.DeskViews.{DeskView, is_known, IsHandle, keeps_at, ready_at}
 use Rattle.xa_desk.specs.Looks.{EndsQuiet, Collects, CollectsKept, CollectsLeast}
 use Rattle.xa_desk.specs.Waits.{WaitsFor, WaitsForAny}
 

@@ -3,14 +3,14 @@ use Rattle.std.specs.Prelude.{◌≡◌, ℕ, ℤ, pos, Bool, true, false, not, 
 use Rattle.std.specs.Prelude.{option_map, Result, Ok, Err}
 use Rattle.std.specs.FinMap as map
 use Rattle.std.specs.Option.{option_or}
-use Rattle.xa_words.specs.Code.{number_of}
+use Rattle.xa_words.specs.CodeNumbers.{number_of}
 use Rattle.xa_words.specs.declared.code.Code.{Code}
 use Rattle.xa_words.specs.declared.code.Code.TheVariants.{Async, Inval, RmErr, RmFail}
 use Rattle.xa_desk.specs.declared.refused.Refused.{Refused}
 use Rattle.xa_desk.specs.declared.refused.Refused.TheVariants.{NoSuchManager, Shut, TooMany, Spent, Full}
-use Rattle.xa_desk.specs.DeskView.{DeskView, ledger, next_operation, IsLeastFree, reach_refusal, submit_refusal}
-use Rattle.xa_desk.specs.DeskView.{call_refusal}
-use Rattle.xa_desk.specs.GoesOn.{GoesOn}
+use Rattle.xa_desk.specs.DeskViews.{DeskView, ledger, next_operation, IsLeastFree, reach_refusal, submit_refusal}
+use Rattle.xa_desk.specs.DeskViews.{call_refusal}
+use Rattle.xa_desk.specs.GoingOn.{GoesOn}
 use Rattle.xa_desk.specs.Lanes.{submitted, after_full, after_fulls}
 use Rattle.xa_desk.specs.Looks.{Collects}
 use Rattle.xa_desk.specs.Tickets.{LeavesTickets}

@@ -3,7 +3,7 @@ use Rattle.std.specs.Prelude.{◌≡◌, ◌≢◌, ℕ, suc, ◌+◌, ◌<◌, 
 use Rattle.std.specs.Prelude.{if◌then◌else◌, Option, None, Some}
 use Rattle.std.specs.Prelude.{is_some, List, [], ◌∷◌, ◌++◌, length, drop, slice_get, min, Result, Ok, Err}
 use Rattle.xa_words.specs.Xid.{XidName}
-use Rattle.xa_words.specs.Code.{number_of}
+use Rattle.xa_words.specs.CodeNumbers.{number_of}
 use Rattle.xa_words.specs.Flags.{check_flags}
 use Rattle.xa_words.specs.declared.code.Code.{Code}
 use Rattle.xa_words.specs.declared.code.Code.TheVariants.{Done, Nota, Inval}
@@ -11,7 +11,7 @@ use Rattle.xa_words.specs.declared.flags.Call.TheVariants as call
 use Rattle.xa_words.specs.declared.flags.Mode.{Mode}
 use Rattle.xa_words.specs.declared.request.Op.{Op}
 use Rattle.xa_words.specs.declared.request.Op.TheVariants.{Listed}
-use Rattle.xa_desk.specs.DeskView.{DeskView, is_known, next_operation}
+use Rattle.xa_desk.specs.DeskViews.{DeskView, is_known, next_operation}
 use Rattle.xa_desk.specs.Lanes.{submitted, after_fulls}
 use Rattle.xa_desk.specs.Looks.{Collects}
 use Rattle.xa_desk.specs.Waits.{SendsAndWaits}

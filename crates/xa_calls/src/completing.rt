@@ -1,8 +1,8 @@
 //! The call of XA that collects what was put to a manager.
 ghost use Rattle.std.specs.Prelude.{◌≡◌, ◌≢◌, false, pos, IfOk, IsErr, IsTrue};
 ghost use Rattle.xa_words.specs.Flags.{check_flags};
-ghost use Rattle.xa_desk.specs.DeskView.{IsHandle};
-ghost use Rattle.xa_desk.specs.GoesOn.{GoesOn};
+ghost use Rattle.xa_desk.specs.DeskViews.{IsHandle};
+ghost use Rattle.xa_desk.specs.GoingOn.{GoesOn};
 ghost use Rattle.xa_desk.specs.Kept.{AllKept};
 ghost use Rattle.xa_desk.specs.Tickets.{LeavesTickets};
 ghost use Rattle.xa_desk.specs.Waits.{WaitsForAny};

@@ -1,7 +1,7 @@
 //! What the calls of a thread keep.
 ghost use Rattle.std.specs.Prelude.{◌≡◌, ℕ};
 ghost use Rattle.xa_words.specs.declared.code.Code.{Code};
-ghost use Rattle.xa_desk.specs.DeskView.{DeskView, outstanding};
+ghost use Rattle.xa_desk.specs.DeskViews.{DeskView, outstanding};
 ghost use Rattle.xa_desk.specs.Kept.{AllKept, HoldsNone};
 ghost use Rattle.xa_calls.specs.Completing.{CollectsRedeemed};
 

@@ -1,8 +1,8 @@
 //! The calls of XA that put a request to a manager.
 ghost use Rattle.std.specs.Prelude.{◌≡◌, false, true, IfOk, IfErr, Some, None, Ok, Err};
 ghost use Rattle.std.specs.FinMap as map;
-ghost use Rattle.xa_desk.specs.DeskView.{IsLeastFree, IsHandle, next_operation};
-ghost use Rattle.xa_desk.specs.GoesOn.{GoesOn};
+ghost use Rattle.xa_desk.specs.DeskViews.{IsLeastFree, IsHandle, next_operation};
+ghost use Rattle.xa_desk.specs.GoingOn.{GoesOn};
 ghost use Rattle.xa_desk.specs.Kept.{AllKept};
 ghost use Rattle.xa_desk.specs.Lanes.{submitted, after_full};
 ghost use Rattle.xa_desk.specs.Tickets.{LeavesTickets};

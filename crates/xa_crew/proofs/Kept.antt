@@ -1,9 +1,8 @@
 -- What is kept under the numbers of a desk as it ends.
 use Rattle.xa_base.proofs.{◌≡◌, ℕ, List, None, sym, ap, ◌∙◌, subst, nat_cmp, removed_there, removed_none}
 use Rattle.std.specs.FinMap as finmap
-use Rattle.xa_words.specs.declared.code.Code.{Code}
-use Rattle.xa_desk.specs.{Operation, AllKept}
-use Rattle.xa_desk.specs.DeskView.{DeskView}
+use Rattle.xa_words.specs.{Code}
+use Rattle.xa_desk.specs.{Operation, AllKept, DeskView}
 use Rattle.xa_calls.specs.{CollectsRedeemed}
 use Rattle.xa_base.specs.{Chain}
 use Rattle.xa_base.specs.Lists.Chain.{none, more}

@@ -1,12 +1,10 @@
 -- The members of a crew, by what each was given and what it came to.
 use Rattle.xa_base.proofs.{◌≡◌, zero, suc, List, [], ◌∷◌, length, map, refl, sym, ◌∙◌, subst, arith, All, some_same, all_at, tail_side, side_of, side_to}
-use Rattle.xa_desk.specs.DeskView.{DeskView}
-use Rattle.xa_desk.specs.GoesOn.{GoesOn}
-use Rattle.xa_desk.specs.{EndedView}
-use Rattle.xa_switch.specs.{IsWithinLimits, Setup, AreOfOneOpening}
-use Rattle.xa_worker.specs.{WorkerView, Served}
-use Rattle.xa_crew.specs.{ClientJob, Attended, Worked, Ran, HasGone, HasServed, ArePiecesOf, HasRoomFor, IsOpened, clients_of, IsReady, Member, member_of}
-use Rattle.xa_crew.specs.{HasRun, HaveRun, HasRunAll, HasWorked}
+use Rattle.xa_desk.specs.{DeskView, GoesOn, EndedView}
+use Rattle.xa_switch.specs.{Setup}
+use Rattle.xa_worker.specs.{Served}
+use Rattle.xa_crew.specs.{ClientJob, Attended, Worked, Ran, HasGone, HasServed, ArePiecesOf, IsOpened, clients_of, Member, member_of, HasRun, HaveRun}
+use Rattle.xa_crew.specs.{HasRunAll, HasWorked}
 use Rattle.xa_base.specs.{Pairwise}
 use Rattle.xa_crew.specs.declared.opened.Opened.{Opened}
 

@@ -4,9 +4,7 @@ use Rattle.xa_base.proofs.{length-map, slice_get_within, got, all_from, any_at, 
 use Rattle.xa_base.specs.{Pairwise}
 use Rattle.std.specs.List.Sorted.{IsPermutation}
 use Rattle.std.proofs.lemmas.List.Sorted.{IsPermutation-refl}
-use Rattle.xa_desk.specs.LedgerView.{LedgerView}
-use Rattle.xa_desk.specs.DeskView.{DeskView}
-use Rattle.xa_desk.specs.{EndedView, Ends, GoesOut, new_ledgers}
+use Rattle.xa_desk.specs.{LedgerView, DeskView, EndedView, Ends, GoesOut, new_ledgers}
 use Rattle.xa_worker.specs.{WorkerView, Served}
 use Rattle.xa_switch.specs.{Setup, IsNewDesk, IsNewWorker, DeskSeat, WorkerSeat, ComeFromOpenings, seat_of_desk, seat_of_ended, seat_of_worker, seat_of_done}
 use Rattle.xa_switch.specs.{desk_seats, worker_seats, desk_opening, worker_opening, first_opening, AreOfOne, AreAll, HasDesks, HasWorkers}

@@ -1,6 +1,6 @@
 -- Jobs, the threads at the first of them, and what became of all.
-use Rattle.xa_base.proofs.{◌≡◌, ℕ, zero, suc, List, [], ◌∷◌, ◌++◌, ◌≤◌, length, refl, sym, ap, ◌∙◌, subst, arith, append-nil, append_assoc, Some, Result, Ok}
-use Rattle.xa_base.proofs.{Err, slice_get, All, Vec, vec_capacity, Global, slice_get_within, all_at, got, none_of, none_side, push_side, some_same, tail_side}
+use Rattle.xa_base.proofs.{◌≡◌, ℕ, zero, suc, List, [], ◌∷◌, ◌++◌, length, refl, sym, ap, ◌∙◌, subst, arith, append-nil, append_assoc, Some, Result, Err}
+use Rattle.xa_base.proofs.{slice_get, All, Vec, vec_capacity, Global, slice_get_within, all_at, got, none_of, none_side, push_side, some_same, tail_side}
 use Rattle.xa_base.proofs.{through}
 use Rattle.std.specs.declared.thread.PromisedHandle.{PromisedHandle}
 use Rattle.xa_base.specs.{Pairwise}

@@ -1,12 +1,12 @@
 -- A run of clients over an opening that is opened again.
 use Rattle.std.specs.Prelude.{◌≡◌, List, map}
-use Rattle.xa_desk.specs.DeskView.{DeskView}
+use Rattle.xa_desk.specs.DeskViews.{DeskView}
 use Rattle.xa_switch.specs.declared.plan.Again.{Again}
 use Rattle.xa_switch.specs.declared.plan.OpenFault.TheVariants.{BadPlan}
-use Rattle.xa_switch.specs.Again.{reopening}
+use Rattle.xa_switch.specs.Reopening.{reopening}
 use Rattle.xa_switch.specs.Recovery.{AreScansOf}
 use Rattle.xa_scan.specs.Left.{ScanView}
-use Rattle.xa_switch.specs.Settling.{Settling}
+use Rattle.xa_switch.specs.Settled.{Settling}
 use Rattle.xa_crew.specs.declared.again.AgainFault.{AgainFault}
 use Rattle.xa_crew.specs.declared.again.AgainFault.TheVariants.{Unopened, Unsettled, Unstarted}
 use Rattle.xa_crew.specs.declared.again.UnopenedClients.{UnopenedClients}

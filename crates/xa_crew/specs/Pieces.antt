@@ -1,8 +1,8 @@
 -- What the desks and the workers of one opening have come to.
 use Rattle.std.specs.Prelude.{◌≡◌, List}
-use Rattle.xa_desk.specs.DeskView.{DeskView}
+use Rattle.xa_desk.specs.DeskViews.{DeskView}
 use Rattle.xa_desk.specs.Ended.{EndedView, Ends}
-use Rattle.xa_desk.specs.GoesOn.{GoesOn}
+use Rattle.xa_desk.specs.GoingOn.{GoesOn}
 use Rattle.xa_worker.specs.Workers.{WorkerView}
 use Rattle.xa_worker.specs.Done.{Served, IsServed, SameServed}
 use Rattle.xa_switch.specs.Plans.{Setup, IsWithinLimits}

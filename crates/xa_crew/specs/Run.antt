@@ -4,16 +4,16 @@ use Rattle.std.specs.Global.{Global}
 use Rattle.xa_words.specs.declared.code.Code.{Code}
 use Rattle.std.specs.List.{All}
 use Rattle.xa_base.specs.declared.limits.TheConstants.{MOST_HANDLES}
-use Rattle.xa_desk.specs.DeskView.{DeskView}
+use Rattle.xa_desk.specs.DeskViews.{DeskView}
 use Rattle.xa_desk.specs.Ended.{EndedView}
-use Rattle.xa_desk.specs.GoesOn.{GoesOn}
+use Rattle.xa_desk.specs.GoingOn.{GoesOn}
 use Rattle.xa_worker.specs.Workers.{WorkerView}
 use Rattle.xa_worker.specs.Done.{Served}
 use Rattle.xa_switch.specs.declared.plan.OpenFault.{OpenFault}
 use Rattle.xa_switch.specs.declared.plan.OpenFault.TheVariants as open_
 use Rattle.xa_switch.specs.Plans.{Setup, IsWithinLimits}
 use Rattle.xa_switch.specs.OpenedPieces.{AreOfOneOpening}
-use Rattle.xa_switch.specs.Settling.{Settling, IsSettled}
+use Rattle.xa_switch.specs.Settled.{Settling, IsSettled}
 use Rattle.xa_switch.specs.Closing.{settling}
 use Rattle.xa_switch.specs.OfPlans.{IsOf}
 use Rattle.xa_crew.specs.declared.fault.CrewFault.{CrewFault}

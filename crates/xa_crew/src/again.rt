@@ -1,9 +1,9 @@
 //! A run of clients over an opening that is opened again.
 ghost use Rattle.std.specs.Prelude.{◌≡◌, ◌≤◌, ◌↔◌, [], length, map, vec_capacity, IfOk, IfErr, OnOk};
-ghost use Rattle.xa_desk.specs.DeskView.{DeskView};
-ghost use Rattle.xa_desk.specs.GoesOn.{GoesOn};
+ghost use Rattle.xa_desk.specs.DeskViews.{DeskView};
+ghost use Rattle.xa_desk.specs.GoingOn.{GoesOn};
 ghost use Rattle.xa_desk.specs.Kept.{AllKept};
-ghost use Rattle.xa_switch.specs.Again.{MayReopen, managers_in, reopening};
+ghost use Rattle.xa_switch.specs.Reopening.{MayReopen, managers_in, reopening};
 ghost use Rattle.xa_scan.specs.Left.{ScanView};
 ghost use Rattle.xa_crew.specs.Again.{AreGiven, HasRunAgain, IfUnopened, IfUnstarted, IfUnsettled, IsBad, IsRunAgain};
 ghost use Rattle.xa_crew.specs.Opened.{HasSpaceFor, IsOpened, clients_of};

@@ -1,6 +1,6 @@
 //! What a thread of control does.
-ghost use Rattle.xa_desk.specs.DeskView.{DeskView};
-ghost use Rattle.xa_desk.specs.GoesOn.{GoesOn};
+ghost use Rattle.xa_desk.specs.DeskViews.{DeskView};
+ghost use Rattle.xa_desk.specs.GoingOn.{GoesOn};
 ghost use Rattle.xa_desk.specs.Kept.{AllKept};
 
 use std::sync::Wait;

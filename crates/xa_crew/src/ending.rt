@@ -1,7 +1,7 @@
 //! The end of a desk.
 ghost use Rattle.std.specs.Prelude.{◌+◌, ◌<◌, ◌≤◌, ◌≡◌, length, vec_capacity};
 ghost use Rattle.xa_desk.specs.Ended.{Ends};
-ghost use Rattle.xa_desk.specs.GoesOn.{GoesOn};
+ghost use Rattle.xa_desk.specs.GoingOn.{GoesOn};
 ghost use Rattle.xa_desk.specs.Kept.{AllKept, HoldsNone};
 ghost use Rattle.xa_crew.specs.Ending.{EndsNumber, EndsNumbers, EndsDesk};
 

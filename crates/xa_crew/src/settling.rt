@@ -3,7 +3,7 @@ ghost use Rattle.std.specs.Prelude.{◌≡◌, IfErr, IfOk};
 ghost use Rattle.xa_switch.specs.Closing.{settling};
 ghost use Rattle.xa_switch.specs.OfPlans.{IsOf};
 ghost use Rattle.xa_switch.specs.Plans.{Setup};
-ghost use Rattle.xa_switch.specs.Settling.{IsSettled};
+ghost use Rattle.xa_switch.specs.Settled.{IsSettled};
 ghost use Rattle.xa_crew.specs.Pieces.{ArePiecesOf};
 
 use std::alloc::{AllocError, Global};

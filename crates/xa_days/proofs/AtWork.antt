@@ -1,17 +1,12 @@
 -- The law: a branch whose work one thread did holds of each account what that thread added to it.
-use Rattle.std.proofs.Common.{arith}
-use Rattle.xa_base.proofs.{◌≡◌, ◌≢◌, ℕ, ◌+◌, ◌==◌, ℤ, pos, ◌+ℤ◌, true, false, cond, not, if◌then◌else◌, Option, None, Some, is_some, unwrap_or, List, [], ◌∷◌}
+use Rattle.xa_base.proofs.{arith, ◌≡◌, ◌≢◌, ℕ, ◌+◌, ◌==◌, ℤ, pos, ◌+ℤ◌, true, false, cond, if◌then◌else◌, Option, None, Some, is_some, unwrap_or, List, [], ◌∷◌}
 use Rattle.xa_base.proofs.{◌++◌, refl, sym, ap, ◌∙◌, option_map, All, eqb-true, eqb-false, get-insert, All-nil, All-cons, All-head, All-tail, All-append}
-use Rattle.xa_base.proofs.{All-weaker, +ℤ_idl as none_plus, +ℤ_idr as plus_none, at_false, by_if}
+use Rattle.xa_base.proofs.{All-weaker, +ℤ_idl as none_plus, +ℤ_idr as plus_none, at_false}
 use Rattle.std.specs.FinMap as map
-use Rattle.xa_words.specs.{XidName, xid_eq, key_eq, Decides-xid_eq, Decides-key_eq, Done, RdOnly, Op, Start, Add, End, Prepare, Fresh, Success, Request}
-use Rattle.xa_words.specs.declared.code.Code.{Code}
-use Rattle.xa_tables.specs.{Association, Associated, State, association_of, has_association, has_opened, exists, is_S3, is_prepared, is_association_with}
-use Rattle.xa_tables.specs.{is_associated, is_at_work, is_declared, is_rollback_only, has_other_touched, branch_in, branch_of, state_of, sum_of, Answer, next}
-use Rattle.xa_tables.specs.{association, added, EndsNowhere, Live, coded, tables_after, fate_of, ending, IsOpening, names, held_by, request, LeavesAtWork}
-use Rattle.xa_tables.specs.{DoesWork}
-use Rattle.xa_tables.specs.Tables.{Tables}
-use Rattle.xa_tables.specs.History.{History}
+use Rattle.xa_words.specs.{XidName, xid_eq, key_eq, Decides-xid_eq, Decides-key_eq, Done, RdOnly, Op, Start, Add, End, Prepare, Fresh, Success, Request, Code}
+use Rattle.xa_tables.specs.{Association, Associated, State, association_of, exists, is_S3, is_prepared, is_association_with, is_associated, branch_in}
+use Rattle.xa_tables.specs.{branch_of, state_of, sum_of, Answer, next, association, added, EndsNowhere, coded, tables_after, fate_of, ending, IsOpening, names}
+use Rattle.xa_tables.specs.{held_by, request, LeavesAtWork, DoesWork, Tables, History}
 use Rattle.xa_tables.proofs.AccountLemmas.{touch_cmp_total, touch_self}
 use Rattle.xa_tables.proofs.AddedLaw.{added_law, not_ended, reason_not_done as not_done}
 use Rattle.xa_tables.proofs.Effects.{effect_of}

@@ -4,25 +4,19 @@ use Rattle.xa_atomicity.proofs.CutVotes.{CameAt, each_came, at_asking, at_forget
 use Rattle.xa_atomicity.proofs.Requests.{none_all}
 use Rattle.xa_atomicity.proofs.Values.{taken}
 use Rattle.xa_atomicity.proofs.Sites.{Site}
-use Rattle.xa_atomicity.specs.Tabled.{Tabled}
+use Rattle.xa_atomicity.specs.{Tabled, IsCut, HasSentNone, is_commit_of, is_recorded, OnlyTheseOrDecisionsName, AskedAreLeft, VotedToCommit, CutCall, IsKept}
+use Rattle.xa_atomicity.specs.{IsUseIn, OnlyResolves, Opening, cuts}
 use Rattle.std.proofs.lemmas.Bool.{both_ways}
-use Rattle.xa_base.proofs.{false_from_ne_true, not, ◌≡◌, ℕ, ◌≤◌, Bool, true, false, Some, List, [], ◌∷◌, length, get_or, slice_get, sym, refl, ap, ◌∙◌, subst}
-use Rattle.xa_base.proofs.{arith, ◌&&◌, All, Contains, All-nil, All-cons, All-contains, all_after}
+use Rattle.xa_base.proofs.{false_from_ne_true, not, ◌≡◌, ℕ, ◌≤◌, Bool, true, false, Some, List, [], ◌∷◌, length, get_or, slice_get, sym, refl, ap, subst, arith}
+use Rattle.xa_base.proofs.{◌&&◌, All, Contains, All-nil, All-cons, All-contains, all_after}
 use Rattle.xa_base.specs.{MOST_MANAGERS, IsUpTo}
-use Rattle.xa_words.specs.{XidName, Decides-xid_eq, TranName, tran_of, Done, Op, Prepare, Commit, Rollback, Forget, Request}
-use Rattle.xa_words.specs.declared.code.Code.{Code}
-use Rattle.xa_tables.specs.Tables.{Tables}
-use Rattle.xa_tables.specs.History.{History}
-use Rattle.xa_tables.specs.{names, is_heur}
-use Rattle.xa_desk.specs.LedgerView.{LedgerView}
-use Rattle.xa_desk.specs.{ledger, HasGrown}
-use Rattle.xa_switch.specs.{IsOpenedWith, first_of, history as history_of, ledgers_of, IsSettled}
-use Rattle.xa_switch.specs.Settling.{Settling}
+use Rattle.xa_words.specs.{XidName, Decides-xid_eq, TranName, tran_of, Done, Op, Prepare, Commit, Rollback, Forget, Request, Code}
+use Rattle.xa_tables.specs.{Tables, History, names, is_heur}
+use Rattle.xa_desk.specs.{LedgerView, ledger, HasGrown}
+use Rattle.xa_switch.specs.{IsOpenedWith, first_of, history as history_of, ledgers_of, IsSettled, Settling}
 use Rattle.xa_switch.proofs.Journaled.{follows_first}
 use Rattle.xa_log.specs.{LogState}
-use Rattle.xa_driver.specs.{Branch, Ending, is_commit, outcome_op, is_to_commit, AreBranchesRising, decision_of, IsTranOf}
-use Rattle.xa_atomicity.specs.{IsCut, HasSentNone, is_commit_of, is_recorded, OnlyTheseOrDecisionsName, AskedAreLeft, VotedToCommit, WasAsked, CutCall, IsKept}
-use Rattle.xa_atomicity.specs.{IsUseIn, OnlyResolves, Opening, cuts}
+use Rattle.xa_driver.specs.{Branch, Ending, is_commit, outcome_op, AreBranchesRising, decision_of, IsTranOf}
 use Rattle.xa_atomicity.proofs.CutBranch.{HasSentOnly, asked_only, ended_voted_so, guide, open_so, told_voted_so, voted_only}
 use Rattle.xa_atomicity.proofs.CutSends.{unrecorded_law}
 use Rattle.xa_atomicity.proofs.Leading.{IsTowards, Leads}

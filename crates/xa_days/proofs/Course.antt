@@ -1,20 +1,16 @@
 -- The laws of one branch: one that nothing commits moves nothing, and one that votes to commit moves what it held where it is committed.
-use Rattle.std.proofs.Common.{rules}
 use Rattle.xa_base.proofs.{All-cons, All-head, All-tail, ◌≡◌, ◌≢◌, ℕ, ℤ, pos, ◌+ℤ◌, Bool, true, false, cond, not, ◌||◌, if◌then◌else◌, Option, None, Some}
 use Rattle.xa_base.proofs.{is_some, List, [], ◌∷◌, ◌++◌, unwrap_or, refl, All, cons_option, sym, ap, ◌∙◌, subst, arith, +ℤ_idl as none_plus}
 use Rattle.xa_base.proofs.{+ℤ_idr as plus_none, total_same, by_if, at_true, at_false}
 use Rattle.xa_atomicity.proofs.Placing.{fates_both, last_both}
 use Rattle.xa_atomicity.proofs.Moves.{moved_both, moved_without, unmoving}
 use Rattle.std.specs.FinMap as finmap
-use Rattle.xa_words.specs.{XidName, xid_eq, Decides-xid_eq, Done, Nota, Proto, RmFail, Op, Prepare, Commit, Rollback, Forget, Request}
-use Rattle.xa_words.specs.declared.code.Code.{Code}
+use Rattle.xa_words.specs.{XidName, xid_eq, Decides-xid_eq, Done, Op, Prepare, Commit, Rollback, Forget, Request, Code}
 use Rattle.xa_tables.specs.declared.state.State.TheVariants.{Prepared as S3}
-use Rattle.xa_tables.specs.Tables.{Tables}
-use Rattle.xa_tables.specs.{state_of, sum_of, exists, has_opened, is_S3, is_S5, is_left_in, is_somebody_associated, Answer, next, Fate, Live, InDoubt}
-use Rattle.xa_tables.specs.{Committed, RolledBack, fate, fate_in, fates_in, fate_of, coded, ending_by, is_done, is_integrity, is_rolled_back, is_in_doubt}
-use Rattle.xa_tables.specs.{is_live, last_or, tables_after, IsOpening, reopened, reopened_fate, fate_left, HeuristicDecision, names, IsPrepared, state_when}
-use Rattle.xa_tables.specs.{fates_when, held_by, moved, moved_by}
-use Rattle.xa_tables.specs.History.{History}
+use Rattle.xa_tables.specs.{Tables, state_of, exists, is_S3, is_S5, is_left_in, is_somebody_associated, Answer, next, Fate, Live, InDoubt, Committed}
+use Rattle.xa_tables.specs.{RolledBack, fate, fate_in, fates_in, fate_of, coded, ending_by, is_done, is_integrity, is_rolled_back, is_in_doubt, is_live}
+use Rattle.xa_tables.specs.{last_or, tables_after, IsOpening, reopened, reopened_fate, fate_left, HeuristicDecision, names, IsPrepared, state_when, fates_when}
+use Rattle.xa_tables.specs.{held_by, moved, moved_by, History}
 use Rattle.xa_tables.proofs.Effects.{Effect, Stays, Commits, Drops, Forgets, effect_of, named_none}
 use Rattle.xa_tables.proofs.Law.{Nowhere, AtWork, standing, voted_rests, nobody_rests, get_gone, sound_after, run_sound, opening_sound}
 use Rattle.xa_tables.proofs.Unnamed.{unnamed_stays, unnamed_fate, tables_after-append}

@@ -6,11 +6,8 @@ use Rattle.xa_base.proofs.{by_if, at_true}
 use Rattle.std.specs.List.{AllByRecursion}
 use Rattle.std.proofs.lemmas.Map.Keys.{IsDistinct-head, IsDistinct-tail}
 use Rattle.xa_base.specs.{total}
-use Rattle.xa_words.specs.{XidName, xid_eq, Decides-xid_eq, Op, Commit, Heur, Request}
-use Rattle.xa_words.specs.declared.code.Code.{Code}
-use Rattle.xa_tables.specs.Tables.{Tables}
-use Rattle.xa_tables.specs.{next, Absent, tables_after, IsOpening, reopened, left_by, names, worth, moved, moved_by, is_any, DeclareEach}
-use Rattle.xa_tables.specs.History.{History}
+use Rattle.xa_words.specs.{XidName, xid_eq, Decides-xid_eq, Op, Commit, Heur, Request, Code}
+use Rattle.xa_tables.specs.{Tables, next, tables_after, IsOpening, reopened, left_by, names, worth, moved, moved_by, is_any, DeclareEach, History}
 use Rattle.xa_tables.proofs.WorthLaw.{worth_from, declared_on}
 use Rattle.xa_driver.specs.{is_commit}
 use Rattle.xa_days.specs.{moved_over, is_for, CommitsAmong, WorthIsOfBranches, WorthIsRecorded, IsDay, Leg, counted, ComesOut}

@@ -1,16 +1,15 @@
 -- The laws of a day over settled openings: their histories lead to their tables, and to what became of each branch.
-use Rattle.xa_base.proofs.{+ℤ_idr as plus_none, ◌≡◌, ℕ, ℤ, pos, ◌+ℤ◌, Bool, true, false, if◌then◌else◌, None, Some, List, [], ◌∷◌, refl, cond, is_some, map}
-use Rattle.xa_base.proofs.{find, get-from_entries, total_across, total_alike, total_both, total_nothing, All, sym, ap, ◌∙◌, subst, arith, get_or, inl, inr}
-use Rattle.xa_base.proofs.{zero, suc, All-head, All-tail}
+use Rattle.xa_base.proofs.{+ℤ_idr as plus_none, ◌≡◌, ℕ, ℤ, pos, ◌+ℤ◌, Bool, true, false, None, Some, List, [], ◌∷◌, refl, cond, is_some, map, find}
+use Rattle.xa_base.proofs.{get-from_entries, total_across, total_alike, total_both, total_nothing, All, sym, ap, ◌∙◌, subst, arith, get_or, inl, inr, zero, suc}
+use Rattle.xa_base.proofs.{All-head, All-tail}
 use Rattle.xa_base.specs.{total}
 use Rattle.xa_words.specs.Orders.{key_cmp}
 use Rattle.xa_words.specs.{key_cmp_total, XidName}
-use Rattle.xa_tables.specs.{are_accounts, opening, HeuristicDecision, state_of, Fate, Absent, Live, IsFateOf, is_in_doubt, decided_fate, tables_after, reopened}
-use Rattle.xa_tables.specs.{reopened_fate, fate_left, left_by, told_by, worth, DeclareEach, worth_declared}
+use Rattle.xa_tables.specs.{are_accounts, opening, HeuristicDecision, state_of, Fate, Absent, Live, IsFateOf, decided_fate, tables_after, reopened}
+use Rattle.xa_tables.specs.{reopened_fate, fate_left, left_by, told_by, worth, DeclareEach, worth_declared, Tables}
 use Rattle.xa_tables.proofs.AccountLemmas.{key_self, same_key}
 use Rattle.xa_tables.proofs.WorthLaw.{worth_law}
 use Rattle.xa_tables.specs.declared.state.HeuristicDecision.TheVariants as decision
-use Rattle.xa_tables.specs.Tables.{Tables}
 use Rattle.xa_tables.proofs.FatesLaw.{begin_law}
 use Rattle.xa_switch.specs.{IsSettled, IsOpenedWith, first_of, history, settled_fate}
 use Rattle.xa_switch.proofs.Journaled.{follows_first}

@@ -3,20 +3,16 @@ use Rattle.xa_base.proofs.{All-cons, All-contains, All-head, All-tail, if◌then
 use Rattle.xa_base.proofs.{length, get_or, slice_get, sym, refl, ap, ◌∙◌, subst, arith, All, Contains, same_Some as some_same}
 use Rattle.xa_atomicity.proofs.Values.{taken}
 use Rattle.xa_atomicity.proofs.Settled.{sent_stands, site_of}
-use Rattle.xa_atomicity.specs.Tabled.{Tabled}
+use Rattle.xa_atomicity.specs.{Tabled, is_recorded, EndsByTheLog, IsResolvedAfter, VotedToCommit, known_of, CutCall, EndsAs, IsKept, IsUseIn, OnlyResolves}
+use Rattle.xa_atomicity.specs.{Opening, ResolveCall, cuts, histories}
 use Rattle.xa_base.specs.{MOST_MANAGERS, IsUpTo}
 use Rattle.xa_words.specs.{TranName, tran_of, RdOnly, Prepare}
-use Rattle.xa_tables.specs.Tables.{Tables}
-use Rattle.xa_tables.specs.History.{History}
-use Rattle.xa_tables.specs.{tables_after, held_by}
+use Rattle.xa_tables.specs.{Tables, History, tables_after, held_by}
 use Rattle.xa_tables.proofs.WorthLaw.{read_law}
 use Rattle.xa_desk.specs.{ledger}
-use Rattle.xa_switch.specs.{IsOpenedWith, first_of, history as history_of, IsSettled}
-use Rattle.xa_switch.specs.Settling.{Settling}
+use Rattle.xa_switch.specs.{IsOpenedWith, first_of, history as history_of, IsSettled, Settling}
 use Rattle.xa_switch.proofs.Journaled.{follows_first}
 use Rattle.xa_driver.specs.{Branch, IsTranOf}
-use Rattle.xa_atomicity.specs.{is_recorded, EndsByTheLog, IsResolvedAfter, VotedToCommit, known_of, CutCall, EndsAs, IsKept, IsUseIn, OnlyResolves, Opening}
-use Rattle.xa_atomicity.specs.{ResolveCall, cuts, histories}
 use Rattle.xa_atomicity.proofs.Presumed.{use_there}
 use Rattle.xa_days.specs.{IsMarkedNowhere, VotedInCall, OnlyTold, IsItsOwn, asked_sum, leg_of, CommitsNowhere, AgreedOrRead, OnlyRead, agreed, read}
 use Rattle.xa_days.specs.{ComesOutByTheLog}

@@ -6,14 +6,11 @@ use Rattle.xa_atomicity.proofs.Asked.{third_so}
 use Rattle.xa_atomicity.proofs.Requests.{none_all}
 use Rattle.xa_atomicity.proofs.CutVotes.{CameAt, IsVoteOf, each_came, at_asking, at_forgetting, at_telling, prepare_there, vote_there, HasVoted, ended_voted}
 use Rattle.xa_atomicity.proofs.CutVotes.{prepare_sent, told_voted}
-use Rattle.xa_driver.specs.{yes_of, decides_commit, is_no, is_yes, Branch, is_commit, second_op, third_op, IsTranOf, Logs, decision_of}
+use Rattle.xa_driver.specs.{yes_of, is_no, is_yes, Branch, is_commit, second_op, third_op, IsTranOf, Logs, decision_of}
 use Rattle.xa_atomicity.proofs.CutSends.{decided_so}
-use Rattle.xa_words.specs.{XidName, TranName, Done, RdOnly, Op, Forget, Prepare}
-use Rattle.xa_words.specs.declared.code.Code.{Code}
-use Rattle.xa_desk.specs.LedgerView.{LedgerView}
-use Rattle.xa_desk.specs.{learnt_shut, ledger, HasGrown}
-use Rattle.xa_switch.specs.{ledgers_of}
-use Rattle.xa_switch.specs.Settling.{Settling}
+use Rattle.xa_words.specs.{XidName, TranName, Done, RdOnly, Op, Forget, Prepare, Code}
+use Rattle.xa_desk.specs.{LedgerView, learnt_shut, ledger, HasGrown}
+use Rattle.xa_switch.specs.{ledgers_of, Settling}
 use Rattle.xa_log.specs.{LogState, record_of}
 use Rattle.xa_tables.specs.{names}
 use Rattle.xa_driver.proofs.Calls.{one_tran}

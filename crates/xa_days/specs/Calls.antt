@@ -2,12 +2,12 @@
 use Rattle.std.specs.Prelude.{◌≡◌, ℕ, true, false, length}
 use Rattle.std.specs.List.{All, Contains}
 use Rattle.xa_words.specs.Xid.{XidName}
-use Rattle.xa_tables.specs.Tables.{Tables}
-use Rattle.xa_tables.specs.History.{History}
+use Rattle.xa_tables.specs.ManagerTables.{Tables}
+use Rattle.xa_tables.specs.Histories.{History}
 use Rattle.xa_tables.specs.Prepared.{names, is_heur}
-use Rattle.xa_desk.specs.DeskView.{ledger}
+use Rattle.xa_desk.specs.DeskViews.{ledger}
 use Rattle.xa_switch.specs.Fates.{history}
-use Rattle.xa_switch.specs.Settling.{Settling}
+use Rattle.xa_switch.specs.Settled.{Settling}
 use Rattle.xa_driver.specs.declared.branch.Branch.{Branch}
 use Rattle.xa_driver.specs.Commits.{is_commit}
 use Rattle.xa_driver.specs.Resolving.{is_to_commit}

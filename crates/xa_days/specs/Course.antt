@@ -6,9 +6,9 @@ use Rattle.xa_words.specs.declared.code.Code.TheVariants.{Done}
 use Rattle.xa_words.specs.declared.request.Op.{Op}
 use Rattle.xa_words.specs.declared.request.Op.TheVariants.{Prepare, Commit, Rollback, Forget}
 use Rattle.xa_words.specs.declared.request.Request.{Request}
-use Rattle.xa_tables.specs.Tables.{Tables}
+use Rattle.xa_tables.specs.ManagerTables.{Tables}
 use Rattle.xa_tables.specs.Next.{next}
-use Rattle.xa_tables.specs.History.{History, Fate, Committed, RolledBack, is_in_doubt, tables_after}
+use Rattle.xa_tables.specs.Histories.{History, Fate, Committed, RolledBack, is_in_doubt, tables_after}
 use Rattle.xa_tables.specs.Openings.{fate_left}
 use Rattle.xa_tables.specs.Prepared.{names}
 use Rattle.xa_tables.specs.Worth.{held_by}

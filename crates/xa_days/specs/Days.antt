@@ -3,8 +3,8 @@ use Rattle.std.specs.Prelude.{◌≡◌, ℕ, ℤ, pos, ◌+ℤ◌, Bool, if◌t
 use Rattle.std.specs.List.{All, IsDistinct}
 use Rattle.xa_base.specs.Sums.{total}
 use Rattle.xa_words.specs.Xid.{XidName, xid_eq}
-use Rattle.xa_tables.specs.Tables.{Tables}
-use Rattle.xa_tables.specs.History.{History, Absent}
+use Rattle.xa_tables.specs.ManagerTables.{Tables}
+use Rattle.xa_tables.specs.Histories.{History, Absent}
 use Rattle.xa_tables.specs.Openings.{left_by, fate_left}
 use Rattle.xa_tables.specs.Worth.{worth}
 use Rattle.xa_days.specs.Openings.{moved_over, is_for, CommitsNowhere, CommitsAmong}

@@ -2,11 +2,11 @@
 use Rattle.std.specs.Prelude.{◌≡◌, ℕ, ℤ, false, None, List}
 use Rattle.std.specs.List.{All}
 use Rattle.xa_words.specs.Tran.{TranName}
-use Rattle.xa_tables.specs.Tables.{Tables, state_of}
-use Rattle.xa_tables.specs.History.{tables_after}
+use Rattle.xa_tables.specs.ManagerTables.{Tables, state_of}
+use Rattle.xa_tables.specs.Histories.{tables_after}
 use Rattle.xa_tables.specs.Worth.{held_by}
 use Rattle.xa_switch.specs.Fates.{history}
-use Rattle.xa_switch.specs.Settling.{Settling}
+use Rattle.xa_switch.specs.Settled.{Settling}
 use Rattle.xa_driver.specs.declared.branch.Branch.{Branch}
 use Rattle.xa_atomicity.specs.Cut.{is_recorded}
 use Rattle.xa_atomicity.specs.Resolution.{CutCall, OnlyResolves, Opening}

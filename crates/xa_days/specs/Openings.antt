@@ -3,8 +3,8 @@ use Rattle.std.specs.Prelude.{◌≡◌, ℕ, ℤ, pos, ◌+ℤ◌, Bool, true, 
 use Rattle.std.specs.List.{All, list_any}
 use Rattle.xa_words.specs.Xid.{XidName}
 use Rattle.xa_words.specs.declared.request.Request.{Request}
-use Rattle.xa_tables.specs.Tables.{Tables}
-use Rattle.xa_tables.specs.History.{History, tables_after}
+use Rattle.xa_tables.specs.ManagerTables.{Tables}
+use Rattle.xa_tables.specs.Histories.{History, tables_after}
 use Rattle.xa_tables.specs.Openings.{reopened}
 use Rattle.xa_tables.specs.Prepared.{names}
 use Rattle.xa_tables.specs.Worth.{moved}

@@ -2,9 +2,9 @@
 use Rattle.std.specs.Prelude.{length}
 use Rattle.std.specs.List.{Contains}
 use Rattle.xa_words.specs.declared.code.Code.TheVariants.{RdOnly}
-use Rattle.xa_desk.specs.DeskView.{ledger}
+use Rattle.xa_desk.specs.DeskViews.{ledger}
 use Rattle.xa_switch.specs.Fates.{ledgers_of}
-use Rattle.xa_switch.specs.Settling.{Settling}
+use Rattle.xa_switch.specs.Settled.{Settling}
 use Rattle.xa_driver.specs.declared.branch.Branch.{Branch}
 use Rattle.xa_atomicity.specs.Cut.{HasSentNone, is_commit_of}
 use Rattle.xa_atomicity.specs.Presumed.{VotedToCommit, WasAsked}

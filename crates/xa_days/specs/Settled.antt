@@ -4,7 +4,7 @@ use Rattle.std.specs.Prelude.{◌≡◌, ℕ, pos, ◌+ℤ◌, None, List, ◌�
 use Rattle.std.specs.List.{All, IsDistinct}
 use Rattle.xa_base.specs.Sums.{total}
 use Rattle.xa_words.specs.Xid.{XidName, xid_eq}
-use Rattle.xa_tables.specs.Tables.{Tables, state_of}
+use Rattle.xa_tables.specs.ManagerTables.{Tables, state_of}
 use Rattle.xa_tables.specs.Worth.{worth}
 use Rattle.xa_switch.specs.Fates.{history}
 use Rattle.xa_driver.specs.declared.branch.Branch.{Branch}

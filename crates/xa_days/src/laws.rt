@@ -2,8 +2,8 @@
 ghost use Rattle.std.specs.Prelude.{◌≡◌, ℕ, pos, true, false, List, ◌∷◌};
 ghost use Rattle.std.specs.List.{All, IsDistinct};
 ghost use Rattle.xa_words.specs.Xid.{XidName, xid_eq};
-ghost use Rattle.xa_tables.specs.Tables.{Tables};
-ghost use Rattle.xa_tables.specs.History.{History, Fate, InDoubt, fate, is_in_doubt};
+ghost use Rattle.xa_tables.specs.ManagerTables.{Tables};
+ghost use Rattle.xa_tables.specs.Histories.{History, Fate, InDoubt, fate, is_in_doubt};
 ghost use Rattle.xa_tables.specs.Openings.{IsOpening, fate_left};
 ghost use Rattle.xa_tables.specs.Prepared.{IsPrepared};
 ghost use Rattle.xa_tables.specs.Worth.{DeclareEach, held_by};

@@ -4,8 +4,7 @@ use Rattle.slab.specs.Slab.{Slab}
 use Rattle.xa_words.specs.{Request, Completion}
 use Rattle.xa_lane.specs.{Sending, Receiving}
 use Rattle.xa_desk.specs.{Operation, Event, Slot, PartsView, new_ledgers, new_desk, carried, IsBooks, KeysView, no_keys, AreKeys, kept_of, planned_total}
-use Rattle.xa_desk.specs.LedgerView.{LedgerView}
-use Rattle.xa_desk.specs.DeskView.{DeskView}
+use Rattle.xa_desk.specs.{LedgerView, DeskView}
 use Rattle.xa_desk.proofs.Fresh.{books_new, planned-new, kept_of-replicate}
 use Rattle.xa_desk.proofs.KeyRows.{keys_new}
 

@@ -6,11 +6,9 @@ use Rattle.std.proofs.lemmas.List.{get_or_past}
 use Rattle.std.proofs.lemmas.List.Sums.{sum_by-set}
 use Rattle.std.proofs.lemmas.Bool.{and_from}
 use Rattle.slab.specs.Slab.{Slab, get, slab_len, with_value, Updates}
-use Rattle.xa_words.specs.{Op, Completion}
-use Rattle.xa_words.specs.declared.code.Code.{Code}
+use Rattle.xa_words.specs.{Op, Completion, Code}
 use Rattle.xa_desk.specs.{Operation, Slot, with_sent, with_collected, IsKnown, IsSent, IsOut, ledger, no_ledger, after_sent, after_collected, outstanding}
-use Rattle.xa_desk.specs.{names, drained_code, operation_of, HasSlot, IsBooks, ready_weight, ready_count, collected_total}
-use Rattle.xa_desk.specs.LedgerView.{LedgerView}
+use Rattle.xa_desk.specs.{names, drained_code, operation_of, HasSlot, IsBooks, ready_weight, ready_count, collected_total, LedgerView}
 use Rattle.xa_desk.proofs.Ledgers.{same_operation, none_from, sum_by-changed, collected-le-sent, collected-lt-sent, orderly_sent, orderly_collected, sent_now}
 use Rattle.xa_desk.proofs.Ledgers.{ledger-sent_same, ledger-sent_other, sent_keeps_sent, sent_keeps_out, sent_now_out, sent_out_cases, unsent, known_before}
 use Rattle.xa_desk.proofs.Ledgers.{collected_known, collected_out, collected_keeps_out, collected_keeps_sent, ledger-collected_same, ledger-collected_other}

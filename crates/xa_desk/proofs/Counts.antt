@@ -6,11 +6,9 @@ use Rattle.std.proofs.lemmas.List.Sums.{sum_by-set, sum_by-cons, sum_by-le-sum_b
 use Rattle.std.proofs.lemmas.Bool.{cases_order, lt-leb}
 use Rattle.slab.specs.Slab.{Slab, get, slab_len}
 use Rattle.slab.proofs.SlabLemmas.{ContainsKey-within}
-use Rattle.xa_words.specs.declared.code.Code.{Code}
-use Rattle.xa_words.specs.{Completion}
+use Rattle.xa_words.specs.{Code, Completion}
 use Rattle.xa_desk.specs.{Operation, Slot, IsBalanced, is_collected, IsKnown, no_ledger, outstanding, ledger, IsOrderly, IsBooks, HasKept, ready_weight}
-use Rattle.xa_desk.specs.{ready_count, collected_total, planned_total}
-use Rattle.xa_desk.specs.LedgerView.{LedgerView}
+use Rattle.xa_desk.specs.{ready_count, collected_total, planned_total, LedgerView}
 use Rattle.xa_desk.proofs.Ledgers.{collected-le-sent}
 
 sum_by-within : {A : Type 0} (f g h : A → ℕ) (d : A) (xs : List A) → ((i : ℕ) → i < length xs → f (get_or xs i d) + g (get_or xs i d) ≤ h (get_or xs i d))

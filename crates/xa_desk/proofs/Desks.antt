@@ -1,13 +1,10 @@
 -- Which calls a desk doesn't refuse, and that a desk stays one.
-use Rattle.xa_base.proofs.{◌≡◌, ◌≤◌, ◌<◌, ◌+◌, ℕ, Bool, false, not, cond, List, length, Option, Some, None, sym, ◌∙◌, refl, ap, subst, arith, option_or}
-use Rattle.xa_base.proofs.{not-false, and_parts}
-use Rattle.std.proofs.Common.{leb}
+use Rattle.xa_base.proofs.{◌≡◌, ◌≤◌, ◌<◌, ◌+◌, ℕ, Bool, false, not, cond, List, Option, Some, None, sym, ◌∙◌, refl, ap, subst, arith, option_or, not-false}
+use Rattle.xa_base.proofs.{and_parts}
 use Rattle.std.proofs.lemmas.Bool.{leb-true, leb-false}
 use Rattle.xa_words.specs.{Op}
-use Rattle.xa_desk.specs.LedgerView.{LedgerView}
-use Rattle.xa_desk.specs.{learnt_shut, IsKnown, is_known, ledger, outstanding, reach_refusal, spent_refusal, room_refusal, call_refusal, IsDesk, submitted}
-use Rattle.xa_desk.specs.{after_full, after_fulls, NoSuchManager, Shut}
-use Rattle.xa_desk.specs.DeskView.{DeskView}
+use Rattle.xa_desk.specs.{LedgerView, learnt_shut, IsKnown, is_known, ledger, outstanding, reach_refusal, spent_refusal, room_refusal, call_refusal, IsDesk}
+use Rattle.xa_desk.specs.{submitted, after_full, after_fulls, NoSuchManager, Shut, DeskView}
 use Rattle.xa_desk.proofs.Ties.{tied_full, tied_fulls, tied_submitted, fulls_alike}
 
 unless : {A : Type 0} (b : Bool) (x : A) (r : Option A) → None ≡ cond b (Some x) r → (b ≡ false) × (None ≡ r)

@@ -5,9 +5,8 @@ use Rattle.std.specs.List.{IsDistinct}
 use Rattle.std.specs.FinMap as finmap
 use Rattle.std.proofs.lemmas.List.Sums.{sum_by-cons}
 use Rattle.slab.specs.Slab.{Slab, get}
-use Rattle.xa_desk.specs.{Operation, Slot, new_ledger, new_ledgers, no_ledger, ledger, outstanding, IsOrderly, IsBooks, kept_of, planned_total, collected_total}
-use Rattle.xa_desk.specs.{ready_count}
-use Rattle.xa_desk.specs.LedgerView.{LedgerView}
+use Rattle.xa_desk.specs.{Operation, Slot, new_ledgers, no_ledger, ledger, outstanding, IsOrderly, IsBooks, kept_of, planned_total, collected_total}
+use Rattle.xa_desk.specs.{ready_count, LedgerView}
 use Rattle.xa_desk.proofs.KeptPlaces.{get-kept_of, get-kept_of_zero}
 
 -- of nothing was anything sent or collected

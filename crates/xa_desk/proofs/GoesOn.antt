@@ -5,18 +5,14 @@ use Rattle.std.proofs.Common.{IsNone}
 use Rattle.std.proofs.Math.Nat.{min-le_left, min-le_right, le-min}
 use Rattle.std.proofs.Math.Seq.{map-set_same}
 use Rattle.std.specs.FinMap as finmap
-use Rattle.xa_words.specs.declared.code.Code.{Code}
-use Rattle.xa_words.specs.{Op, Request, Completion}
-use Rattle.xa_lane.specs.{Taken, Item, EndOf, Empty, Sending, Receiving, parcel, at_most_counted, counted, with_item, with_full, but_full, EndSeat, end_seat}
+use Rattle.xa_words.specs.{Code, Op, Request, Completion}
+use Rattle.xa_lane.specs.{Taken, Item, EndOf, Empty, Sending, Receiving, parcel, at_most_counted, counted, end_seat}
 use Rattle.xa_lane.proofs.Senders.{map-at_place, map-alike}
-use Rattle.xa_desk.specs.{Operation, with_sent, with_collected, ledger, no_ledger, put_ledger, completed, Event, EndedView, Ends, next_request, submitted}
-use Rattle.xa_desk.specs.{after_full, after_fulls, Drains, first, other, Draws, Pops, start, drawn, EndsQuiet, Collects, CollectsKept, CollectsLeast, TakesKept}
-use Rattle.xa_desk.specs.{GoesOut, plan_of, plans, HaveGrown, TicketView, Owns, IsOut, IsDesk, outstanding, drained_code}
-use Rattle.xa_desk.specs.LedgerView.{LedgerView}
-use Rattle.xa_desk.specs.DeskView.{DeskView}
+use Rattle.xa_desk.specs.{Operation, with_collected, ledger, no_ledger, put_ledger, completed, Event, EndedView, Ends, submitted, after_full, after_fulls}
+use Rattle.xa_desk.specs.{Drains, first, other, Draws, Pops, start, drawn, EndsQuiet, Collects, CollectsKept, CollectsLeast, TakesKept, GoesOut, plan_of, plans}
+use Rattle.xa_desk.specs.{HaveGrown, TicketView, Owns, IsOut, IsDesk, outstanding, drained_code, LedgerView, DeskView, GoesOn}
 use Rattle.xa_desk.specs.Looks.{Looks}
 use Rattle.xa_base.specs.{Begins}
-use Rattle.xa_desk.specs.GoesOn.{GoesOn}
 use Rattle.xa_desk.proofs.Growth.{same_lists, growing_on, sending_grows, collecting_grows}
 use Rattle.xa_desk.proofs.Ledgers.{collected_keeps_out}
 use Rattle.xa_desk.proofs.Ties.{tied_looks, tied_collected}

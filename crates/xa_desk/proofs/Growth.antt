@@ -1,10 +1,7 @@
 -- The lists of a desk only grow.
-use Rattle.std.proofs.Common.{arith}
-use Rattle.xa_base.proofs.{◌≡◌, ℕ, List, [], ◌∷◌, sym, refl, subst, same_begins, begins_on}
-use Rattle.xa_words.specs.declared.code.Code.{Code}
-use Rattle.xa_words.specs.{Op}
-use Rattle.xa_desk.specs.{Operation, with_sent, with_collected, ledger, put_ledger, after_sent, after_collected, HasGrown, HaveGrown}
-use Rattle.xa_desk.specs.LedgerView.{LedgerView}
+use Rattle.xa_base.proofs.{arith, ◌≡◌, ℕ, List, [], ◌∷◌, sym, refl, subst, same_begins, begins_on}
+use Rattle.xa_words.specs.{Code, Op}
+use Rattle.xa_desk.specs.{Operation, with_sent, ledger, put_ledger, after_sent, after_collected, HasGrown, HaveGrown, LedgerView}
 use Rattle.xa_desk.proofs.Ledgers.{put_each}
 
 -- a ledger has grown from itself, and growth goes on

@@ -6,8 +6,7 @@ use Rattle.std.specs.FinMap as map
 use Rattle.std.proofs.lemmas.List.{get_or_past}
 use Rattle.slab.specs.Slab.{Slab, get, entries_from}
 use Rattle.xa_words.specs.{Completion}
-use Rattle.xa_desk.specs.LedgerView.{LedgerView}
-use Rattle.xa_desk.specs.{Slot, Operation, IsLeastFree, kept_of, IsBooks}
+use Rattle.xa_desk.specs.{LedgerView, Slot, Operation, IsLeastFree, kept_of, IsBooks}
 use Rattle.xa_desk.proofs.Books.{Rehandles, same_slot}
 
 find_below : (k q : ℕ) (table : List (Option Operation)) → q < k → map.find nat_cmp q (entries_from k table) ≡ None

@@ -3,11 +3,9 @@ use Rattle.xa_base.proofs.{◌≡◌, ◌≢◌, ℕ, zero, suc, ◌-◌, ◌<�
 use Rattle.xa_base.proofs.{refl, ap, ◌∙◌, inl, inr, arith, slice_get, get_or-set_same, get_or-set_other, length-set, length-replicate, length-map, cases_eq}
 use Rattle.std.proofs.lemmas.List.{get_or-replicate, get_or_read}
 use Rattle.slab.specs.Slab.{Slab, get, Updates}
-use Rattle.xa_words.specs.{Op}
-use Rattle.xa_words.specs.declared.code.Code.{Code}
+use Rattle.xa_words.specs.{Op, Code}
 use Rattle.xa_desk.specs.{Operation, Slot, new_ledger, with_sent, with_collected, IsKnown, IsOut, no_ledger, ledger, after_sent, after_collected, new_ledgers}
-use Rattle.xa_desk.specs.{KeysView, no_keys, with_key, row_of, key_at, AreTold, AreKeys}
-use Rattle.xa_desk.specs.LedgerView.{LedgerView}
+use Rattle.xa_desk.specs.{KeysView, no_keys, with_key, row_of, key_at, AreTold, AreKeys, LedgerView}
 use Rattle.xa_desk.proofs.Ledgers.{same_operation, ledger-sent_same, ledger-sent_other, known_before, put_same, set_each, collected_known, collected_sends}
 use Rattle.xa_desk.proofs.Ledgers.{length-put_ledger, unsent}
 use Rattle.xa_desk.proofs.Books.{found_cases, found_before}

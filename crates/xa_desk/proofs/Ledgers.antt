@@ -1,20 +1,17 @@
 -- What a sending and a collection do to the ledgers.
 use Rattle.xa_base.proofs.{◌≡◌, ◌≢◌, ℕ, zero, suc, ◌+◌, ◌-◌, ◌<◌, ◌≤◌, ◌⊎◌, false, ◌||◌, nat_eq, List, [], ◌∷◌, ◌++◌, length, Option, Some, None, get_or, sym}
 use Rattle.xa_base.proofs.{refl, ap, ◌∙◌, inl, inr, arith, length-append, true, ◌&&◌, nat_le, map-append, length-set, get_or-set_same, set, get_or-set_other}
-use Rattle.xa_base.proofs.{length-map, list_any-append, cases_eq, false_from_ne_true, eqb-true, or_parts, or_from, false≢true, ne_eqb, eqb-false, and_parts}
-use Rattle.xa_base.proofs.{le-leb, cases_lt}
+use Rattle.xa_base.proofs.{length-map, list_any-append, cases_eq, false_from_ne_true, eqb-true, or_parts, or_from, ne_eqb, eqb-false, and_parts, le-leb}
+use Rattle.xa_base.proofs.{cases_lt}
 use Rattle.std.proofs.Common.{sum_by}
-use Rattle.std.specs.Cmp.{nat_eq_equiv}
 use Rattle.std.proofs.lemmas.List.{get_or_read, get_or_past, set_past}
 use Rattle.std.proofs.lemmas.List.Sums.{sum_by-set, sum_by-cons}
 use Rattle.std.proofs.lemmas.Map.Keys.{IsDistinct-push}
 use Rattle.std.proofs.lemmas.Map.Steps.{length-le_from_distinct_below}
 use Rattle.std.proofs.lemmas.Bool.{or_cases, leb-true}
-use Rattle.xa_words.specs.{Op}
-use Rattle.xa_words.specs.declared.code.Code.{Code}
+use Rattle.xa_words.specs.{Op, Code}
 use Rattle.xa_desk.specs.{Operation, numbers, is_collected, with_sent, with_collected, IsKnown, IsSent, IsOut, ledger, put_ledger, no_ledger, after_sent}
-use Rattle.xa_desk.specs.{after_collected, is_known, sent_to, IsOrderly, planned_total}
-use Rattle.xa_desk.specs.LedgerView.{LedgerView}
+use Rattle.xa_desk.specs.{after_collected, is_known, sent_to, IsOrderly, planned_total, LedgerView}
 
 -- an operation is its manager and its number
 pub same_operation : (a b : Operation) → a.manager ≡ b.manager → a.number ≡ b.number → a ≡ b

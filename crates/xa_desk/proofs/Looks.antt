@@ -1,15 +1,12 @@
 -- What takes of the lane of completions leave as it was.
-use Rattle.std.proofs.Common.{rules}
-use Rattle.xa_base.proofs.{arith, ◌≡◌, ◌≢◌, ℕ, List, length, Option, Some, None, IfSome, is_some, true, false, ◌+◌, sym, ◌∙◌, refl, ap, subst, cases_eq}
+use Rattle.xa_base.proofs.{rules, arith, ◌≡◌, ◌≢◌, ℕ, List, length, Option, Some, None, IfSome, is_some, true, false, ◌+◌, sym, ◌∙◌, refl, ap, subst, cases_eq}
 use Rattle.xa_base.proofs.{removed_there, removed_other}
 use Rattle.std.proofs.Common.{OnSome, IsSome}
 use Rattle.std.specs.FinMap as finmap
-use Rattle.xa_words.specs.declared.code.Code.{Code}
-use Rattle.xa_words.specs.{Completion}
+use Rattle.xa_words.specs.{Code, Completion}
 use Rattle.xa_lane.specs.{Taken, Item, EndOf, Empty, Receiving, Took}
-use Rattle.xa_desk.specs.{Its, Operation, IsOut, IsLoose, opening_of, ready_at, ready_with, completed, outstanding, drained_code, operation_of, LeavesTickets}
-use Rattle.xa_desk.specs.{Drains, first, other, Draws, Pops, start, drawn, EndsQuiet, Collects, CollectsLeast, DrawsFor}
-use Rattle.xa_desk.specs.DeskView.{DeskView}
+use Rattle.xa_desk.specs.{Its, Operation, IsOut, IsLoose, ready_at, ready_with, completed, outstanding, drained_code, operation_of, LeavesTickets, Drains}
+use Rattle.xa_desk.specs.{first, other, Draws, Pops, start, drawn, EndsQuiet, Collects, CollectsLeast, DrawsFor, DeskView}
 use Rattle.xa_desk.specs.Looks.{Looks}
 use Rattle.xa_desk.proofs.Books.{drained_code-push_other}
 

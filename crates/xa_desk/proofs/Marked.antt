@@ -8,7 +8,7 @@ use Rattle.slab.specs.Slab.{Slab}
 use Rattle.xa_words.specs.{Completion}
 use Rattle.xa_desk.specs.declared.marks.Marks.{Marks}
 use Rattle.xa_desk.specs.{Operation, Slot, IsLeast, asked_at, ready_with, operation_of, drained_code, IsBooks, HasKept, kept_of, is_marked, AreKept, AreReady}
-use Rattle.xa_desk.specs.LedgerView.{LedgerView}
+use Rattle.xa_desk.specs.{LedgerView}
 use Rattle.xa_desk.proofs.Books.{same_slot, drained_code-push_first, drained_code-push_other}
 use Rattle.xa_desk.proofs.Fresh.{no_operation}
 use Rattle.xa_desk.proofs.KeptPlaces.{get-kept_of, get-kept_of_zero}

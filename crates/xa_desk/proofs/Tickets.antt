@@ -1,11 +1,9 @@
 -- Which tickets are still owned as a desk goes on.
-use Rattle.std.proofs.Common.{arith}
-use Rattle.xa_base.proofs.{◌≡◌, ◌≢◌, ℕ, zero, suc, Option, Some, None, IfSome, sym, refl, ◌∙◌, subst, inl, inr, cases_eq, inserted_there, inserted_other}
+use Rattle.xa_base.proofs.{arith, ◌≡◌, ◌≢◌, ℕ, zero, suc, Option, Some, None, IfSome, sym, refl, ◌∙◌, subst, cases_eq, inserted_there, inserted_other}
 use Rattle.std.specs.FinMap as map
-use Rattle.xa_words.specs.declared.code.Code.{Code}
-use Rattle.xa_words.specs.{Op}
+use Rattle.xa_words.specs.{Code, Op}
 use Rattle.xa_desk.specs.{Operation, TicketView, IsKnown, Owns, next_operation, submitted, after_full, after_fulls, Collects, LeavesTickets, LeavesOthers}
-use Rattle.xa_desk.specs.DeskView.{DeskView}
+use Rattle.xa_desk.specs.{DeskView}
 use Rattle.xa_desk.proofs.Ledgers.{sent_keeps_out, unsent}
 use Rattle.xa_desk.proofs.Looks.{freed_loose}
 use Rattle.xa_desk.proofs.GoesOn.{collects_stays, desk_stays, tried_stays, tried_kept_stays}

@@ -1,14 +1,11 @@
 -- A desk's ledgers go on saying what its ends of lanes do.
 use Rattle.xa_base.proofs.{◌≡◌, ◌≢◌, ℕ, zero, suc, ◌+◌, ◌-◌, ◌<◌, List, [], ◌∷◌, ◌++◌, length, map, Option, Some, None, sym, refl, ap, ◌∙◌, subst, inl, inr}
 use Rattle.xa_base.proofs.{arith, append-nil, All, slice_get, map-append, length-map, All-append, All-cons, All-nil, cases_eq}
-use Rattle.xa_words.specs.{Op, Request, Completion}
-use Rattle.xa_words.specs.declared.code.Code.{Code}
+use Rattle.xa_words.specs.{Op, Request, Completion, Code}
 use Rattle.xa_lane.specs.{Parcel, Taken, Item, EndOf, Empty, Sending, Receiving, parcel, Took, at_place, with_item, with_full, but_full, sent_at}
 use Rattle.xa_desk.specs.{Operation, new_ledger, with_sent, with_collected, IsKnown, ledger, after_collected, drained_code, next_request, submitted, after_full}
-use Rattle.xa_desk.specs.{after_fulls, numbered, arrived, IsPartOf, nothing, with_last, without_last, IsEndTo, AreEndsTo, AreEnds, WasDrained, IsTied, IsDesk}
-use Rattle.xa_desk.specs.{PartsView, AreNew, new_desk, Drains, first, other, Draws, Pops, start, drawn}
-use Rattle.xa_desk.specs.LedgerView.{LedgerView}
-use Rattle.xa_desk.specs.DeskView.{DeskView}
+use Rattle.xa_desk.specs.{after_fulls, numbered, arrived, IsPartOf, nothing, with_last, without_last, IsEndTo, AreEnds, WasDrained, IsTied, IsDesk, PartsView}
+use Rattle.xa_desk.specs.{AreNew, new_desk, Drains, first, other, Draws, Pops, start, drawn, LedgerView, DeskView}
 use Rattle.xa_desk.specs.Looks.{Looks}
 use Rattle.xa_desk.proofs.Ledgers.{same_operation, ledger-sent_same, ledger-sent_other, ledger-collected_same, ledger-collected_other, known_before}
 use Rattle.xa_desk.proofs.Ledgers.{collected_known, collected_sends, length-put_ledger, put_same}

@@ -1,6 +1,5 @@
 -- How waiting calls idle.
-use Rattle.std.proofs.Common.{rules}
-use Rattle.xa_base.proofs.{◌≡◌, ℕ, zero, suc, ◌+◌, List, [], ◌∷◌, ◌++◌, length, refl, subst, arith}
+use Rattle.xa_base.proofs.{rules, ◌≡◌, ℕ, zero, suc, ◌+◌, List, [], ◌∷◌, ◌++◌, length, refl, arith}
 use Rattle.xa_words.specs.{Request}
 use Rattle.xa_lane.specs.{Sending, but_full}
 use Rattle.xa_desk.specs.{MarksEnd, MarkEnds, found_full}

@@ -2,7 +2,7 @@
 use Rattle.std.specs.Prelude.{◌≡◌, ℕ, ◌+◌, ◌*◌, ◌≤◌, [], length, vec_capacity}
 use Rattle.xa_base.specs.declared.limits.TheConstants.{MOST_HANDLES, MOST_MANAGERS, MOST_REQUESTS, MOST_THREADS}
 use Rattle.slab.specs.Slab.{slab_len}
-use Rattle.xa_desk.specs.DeskView.{DeskView}
+use Rattle.xa_desk.specs.DeskViews.{DeskView}
 use Rattle.xa_desk.specs.Slots.{IsBooks, AreKeys, kept_of, logged, planned_total}
 use Rattle.xa_desk.specs.Marks.{AreKept, AreReady}
 use Rattle.xa_desk.specs.declared.keys.TheConstants.{MOST_SLOTS}

@@ -4,8 +4,8 @@ use Rattle.xa_words.specs.declared.request.Request.{Request}
 use Rattle.xa_words.specs.declared.request.Completion.{Completion}
 use Rattle.xa_lane.specs.Ends.{Sending, Receiving}
 use Rattle.xa_lane.specs.Senders.{but_full}
-use Rattle.xa_desk.specs.LedgerView.{LedgerView, IsBalanced}
-use Rattle.xa_desk.specs.DeskView.{DeskView, IsKnown, ledger}
+use Rattle.xa_desk.specs.LedgerViews.{LedgerView, IsBalanced}
+use Rattle.xa_desk.specs.DeskViews.{DeskView, IsKnown, ledger}
 use Rattle.xa_desk.specs.Lanes.{IsTied}
 
 -- the thread, its ledger with each manager, what was drained, its ends of the lanes to the managers, which have sent

@@ -1,8 +1,8 @@
 -- How what a desk sent and collected grows.
 use Rattle.std.specs.Prelude.{ℕ, ◌≤◌, List}
 use Rattle.xa_base.specs.Lists.{Begins}
-use Rattle.xa_desk.specs.LedgerView.{LedgerView}
-use Rattle.xa_desk.specs.DeskView.{ledger}
+use Rattle.xa_desk.specs.LedgerViews.{LedgerView}
+use Rattle.xa_desk.specs.DeskViews.{ledger}
 
 -- the ledger has what it had, in its order, and perhaps more after it
 pub record HasGrown (a a' : LedgerView) : Type 0 where

@@ -2,7 +2,7 @@
 use Rattle.std.specs.Prelude.{◌≡◌, ℕ, None, Some}
 use Rattle.std.specs.FinMap as map
 use Rattle.xa_desk.specs.declared.operation.Operation.{Operation}
-use Rattle.xa_desk.specs.DeskView.{DeskView, IsOut}
+use Rattle.xa_desk.specs.DeskViews.{DeskView, IsOut}
 
 -- each operation that is outstanding is kept under a number
 pub record AllKept (d : DeskView) : Type 0 where

@@ -9,8 +9,8 @@ use Rattle.xa_words.specs.declared.request.Completion.{Completion}
 use Rattle.xa_lane.specs.declared.parcel.Parcel.{Parcel}
 use Rattle.xa_lane.specs.Ends.{Sending, Receiving, somes}
 use Rattle.xa_lane.specs.Senders.{at_place, with_item, with_full, sent_at}
-use Rattle.xa_desk.specs.LedgerView.{LedgerView, new_ledger}
-use Rattle.xa_desk.specs.DeskView.{DeskView, IsKnown, ledger, after_sent, drained_code, next_operation}
+use Rattle.xa_desk.specs.LedgerViews.{LedgerView, new_ledger}
+use Rattle.xa_desk.specs.DeskViews.{DeskView, IsKnown, ledger, after_sent, drained_code, next_operation}
 use Rattle.xa_desk.specs.declared.event.Event.TheVariants.{Sent}
 
 -- ---- sending

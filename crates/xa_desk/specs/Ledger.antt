@@ -1,6 +1,6 @@
 -- How a ledger keeps what contracts see of it.
 use Rattle.std.specs.Prelude.{◌≡◌, ◌≤◌, length, vec_capacity}
-use Rattle.xa_desk.specs.LedgerView.{LedgerView, learnt_shut}
+use Rattle.xa_desk.specs.LedgerViews.{LedgerView, learnt_shut}
 use Rattle.xa_desk.specs.declared.ledger.Ledger.TheInside.{Inside}
 
 -- what contracts see

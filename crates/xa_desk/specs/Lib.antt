@@ -1,5 +1,5 @@
-pub mod LedgerView
-pub mod DeskView
+pub mod LedgerViews
+pub mod DeskViews
 pub mod Kept
 pub mod Looks
 pub mod Ledger
@@ -13,15 +13,16 @@ pub mod Parts
 pub mod EndedParts
 pub mod Seats
 pub mod Growth
-pub mod GoesOn
+pub mod GoingOn
 pub mod Waits
 -- The words of this crate, by its name.
-pub use LedgerView.{IsBalanced, is_collected, is_rm_fail, learnt_shut, new_ledger, numbers, with_collected, with_sent}
-pub use DeskView.{IsHandle, IsKnown, IsLeast, IsLeastFree, IsLoose, IsOut, IsSent, Owns, TicketView, after_collected}
-pub use DeskView.{after_sent, asked_at, call_refusal, collected_from, completed, drained_code, handle_refusal, is_asked}
-pub use DeskView.{is_known, keeps_at, kept_code, ledger, names, next_operation, no_ledger, opening_of, operation_code}
-pub use DeskView.{operation_of, outstanding, put_ledger, reach_refusal, ready_at, ready_with, room_at, room_refusal}
-pub use DeskView.{sent_to, spent_refusal, submit_refusal, ticket_code, ticket_of}
+pub use LedgerViews.{IsBalanced, LedgerView, is_collected, is_rm_fail, learnt_shut, new_ledger, numbers, with_collected}
+pub use LedgerViews.{with_sent}
+pub use DeskViews.{DeskView, IsHandle, IsKnown, IsLeast, IsLeastFree, IsLoose, IsOut, IsSent, Owns, TicketView}
+pub use DeskViews.{after_collected, after_sent, asked_at, call_refusal, collected_from, completed, drained_code}
+pub use DeskViews.{handle_refusal, is_asked, is_known, keeps_at, kept_code, ledger, names, next_operation, no_ledger}
+pub use DeskViews.{opening_of, operation_code, operation_of, outstanding, put_ledger, reach_refusal, ready_at}
+pub use DeskViews.{ready_with, room_at, room_refusal, sent_to, spent_refusal, submit_refusal, ticket_code, ticket_of}
 pub use Kept.{AllKept, HoldsNone}
 pub use Looks.{Collects, CollectsKept, CollectsLeast, CollectsTaken, Drains, Draws, DrawsFor, EndsQuiet, LooksOnce}
 pub use Looks.{Pops, TakesKept, after_quiet, drawn, first, other, start}
@@ -40,7 +41,7 @@ pub use Parts.{AreParts, carried, parts_of}
 pub use EndedParts.{AreEndedParts, ended_of}
 pub use Seats.{DeskSeat, desk_seat, seat_of_desk, seat_of_ended}
 pub use Growth.{HasGrown, HaveGrown}
-pub use GoesOn.{GoesOut, plan_of, plans}
+pub use GoingOn.{GoesOn, GoesOut, plan_of, plans}
 pub use Waits.{Idles, IsMissing, MarkEnds, MarksEnd, NothingIsReady, SendsAndWaits, WaitsFor, WaitsForAny, begins}
 pub use Waits.{found_full, idles}
 pub use declared.event.Event.{Event}

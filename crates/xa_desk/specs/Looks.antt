@@ -9,8 +9,8 @@ use Rattle.xa_lane.specs.Ends.{Took, counted}
 use Rattle.xa_desk.specs.declared.operation.Operation.{Operation}
 use Rattle.xa_desk.specs.declared.found.Found.{Found}
 use Rattle.xa_desk.specs.declared.found.Found.TheVariants.{Nothing, Other, Its}
-use Rattle.xa_desk.specs.DeskView.{DeskView, IsOut, IsLeast, operation_of, completed, drained_code, outstanding}
-use Rattle.xa_desk.specs.DeskView.{ready_at}
+use Rattle.xa_desk.specs.DeskViews.{DeskView, IsOut, IsLeast, operation_of, completed, drained_code, outstanding}
+use Rattle.xa_desk.specs.DeskViews.{ready_at}
 
 -- a completion that was taken is drained where it is the first for an outstanding operation, and else changes nothing
 pub data Drains (old : DeskView) (c : Completion) (new : DeskView) : Type 0 where

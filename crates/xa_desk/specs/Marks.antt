@@ -4,7 +4,7 @@ use Rattle.std.specs.Int.{bit_at}
 use Rattle.xa_words.specs.declared.request.Completion.{Completion}
 use Rattle.xa_desk.specs.declared.marks.Marks.{Marks}
 use Rattle.xa_desk.specs.declared.operation.Operation.{Operation}
-use Rattle.xa_desk.specs.DeskView.{ready_with}
+use Rattle.xa_desk.specs.DeskViews.{ready_with}
 
 -- the place is marked
 abbrev pub is_marked : Marks → ℕ → Bool

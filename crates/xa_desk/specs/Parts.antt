@@ -1,7 +1,7 @@
 -- How the parts of a desk keep what they are made with.
 use Rattle.std.specs.Prelude.{◌≡◌, ◌+◌, ◌≤◌, Bool, List, [], None, length, map, replicate, vec_capacity}
 use Rattle.xa_base.specs.declared.limits.TheConstants.{MOST_MANAGERS, MOST_REQUESTS}
-use Rattle.xa_desk.specs.LedgerView.{LedgerView}
+use Rattle.xa_desk.specs.LedgerViews.{LedgerView}
 use Rattle.xa_desk.specs.Lanes.{PartsView, new_ledgers}
 use Rattle.xa_desk.specs.Slots.{no_keys}
 use Rattle.xa_desk.specs.Book.{IsWithinLimits}

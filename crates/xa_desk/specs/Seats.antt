@@ -5,7 +5,7 @@ use Rattle.xa_words.specs.declared.request.Completion.{Completion}
 use Rattle.xa_lane.specs.declared.name.LaneName.{LaneName}
 use Rattle.xa_lane.specs.Ends.{QueueId, Sending, Receiving}
 use Rattle.xa_lane.specs.Seats.{EndSeat, end_seat}
-use Rattle.xa_desk.specs.DeskView.{DeskView}
+use Rattle.xa_desk.specs.DeskViews.{DeskView}
 use Rattle.xa_desk.specs.Ended.{EndedView}
 
 -- of a desk: its thread, its ends of the lanes to the managers, by rising manager, and its own lane

@@ -9,8 +9,8 @@ use Rattle.xa_words.specs.declared.code.Code.{Code}
 use Rattle.xa_words.specs.declared.request.Completion.{Completion}
 use Rattle.xa_desk.specs.declared.operation.Operation.{Operation}
 use Rattle.xa_desk.specs.declared.slot.Slot.{Slot}
-use Rattle.xa_desk.specs.LedgerView.{LedgerView, numbers, is_collected}
-use Rattle.xa_desk.specs.DeskView.{IsKnown, IsSent, IsOut, ledger, outstanding, drained_code}
+use Rattle.xa_desk.specs.LedgerViews.{LedgerView, numbers, is_collected}
+use Rattle.xa_desk.specs.DeskViews.{IsKnown, IsSent, IsOut, ledger, outstanding, drained_code}
 
 -- a slot has the operation
 pub record HasSlot (s : Slab Slot) (o : Operation) : Type 0 where

@@ -1,7 +1,7 @@
 -- What becomes of the other tickets as a desk goes on.
 use Rattle.std.specs.Prelude.{◌≢◌}
 use Rattle.xa_desk.specs.declared.operation.Operation.{Operation}
-use Rattle.xa_desk.specs.DeskView.{DeskView, TicketView, Owns}
+use Rattle.xa_desk.specs.DeskViews.{DeskView, TicketView, Owns}
 
 -- every ticket that was owned still is
 abbrev pub LeavesTickets : DeskView → DeskView → Type 0

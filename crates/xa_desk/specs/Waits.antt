@@ -6,7 +6,7 @@ use Rattle.xa_words.specs.declared.request.Request.{Request}
 use Rattle.xa_lane.specs.Ends.{Sending, counted}
 use Rattle.xa_lane.specs.Senders.{with_full}
 use Rattle.xa_desk.specs.declared.operation.Operation.{Operation}
-use Rattle.xa_desk.specs.DeskView.{DeskView, next_operation, drained_code, ready_at}
+use Rattle.xa_desk.specs.DeskViews.{DeskView, next_operation, drained_code, ready_at}
 use Rattle.xa_desk.specs.Lanes.{submitted, after_fulls}
 use Rattle.xa_desk.specs.Looks.{LooksOnce, Collects, CollectsLeast}
 

@@ -3,10 +3,10 @@ ghost use Rattle.std.specs.Prelude.{◌≡◌, ℕ, ◌+◌, ◌-◌, ◌<◌, �
 ghost use Rattle.std.specs.Prelude.{is_some, ◌&&◌, true, false, [], ◌∷◌, ◌++◌};
 ghost use Rattle.xa_desk.specs.declared.event.Event.TheVariants.{Sent};
 ghost use Rattle.std.specs.FinMap as map;
-ghost use Rattle.xa_desk.specs.LedgerView.{learnt_shut};
-ghost use Rattle.xa_desk.specs.DeskView.{IsKnown, IsOut, IsLoose, IsHandle, IsLeastFree, ledger, after_sent};
-ghost use Rattle.xa_desk.specs.DeskView.{completed, opening_of, outstanding, drained_code, room_at, is_known};
-ghost use Rattle.xa_desk.specs.DeskView.{next_operation, IsLeast, keeps_at, ready_at};
+ghost use Rattle.xa_desk.specs.LedgerViews.{learnt_shut};
+ghost use Rattle.xa_desk.specs.DeskViews.{IsKnown, IsOut, IsLoose, IsHandle, IsLeastFree, ledger, after_sent};
+ghost use Rattle.xa_desk.specs.DeskViews.{completed, opening_of, outstanding, drained_code, room_at, is_known};
+ghost use Rattle.xa_desk.specs.DeskViews.{next_operation, IsLeast, keeps_at, ready_at};
 ghost use Rattle.xa_desk.specs.Ended.{AreBalanced};
 ghost use Rattle.xa_desk.specs.Lanes.{new_desk};
 ghost use Rattle.xa_desk.specs.Looks.{CollectsTaken, Drains};
@@ -54,7 +54,7 @@ pub(crate) struct Book {
 
 impl Model for Book {
     ghost use Rattle.std.specs.Coded.{codes};
-    ghost use Rattle.xa_desk.specs.DeskView.{DeskView, kept_code};
+    ghost use Rattle.xa_desk.specs.DeskViews.{DeskView, kept_code};
     ghost use Rattle.xa_desk.specs.Book.{desk_of, IsBook};
 
     ghost Value = { DeskView };

@@ -3,12 +3,12 @@ ghost use Rattle.std.specs.Prelude.{◌≡◌, ◌≢◌, ℕ, ◌-◌, ◌<◌,
 ghost use Rattle.std.specs.Prelude.{OnSome, IsTrue, IsSome, IsNone, IsOk, IsErr, Some, None, false, true, option_map};
 ghost use Rattle.std.specs.Prelude.{◌&&◌};
 ghost use Rattle.std.specs.FinMap as map;
-ghost use Rattle.xa_desk.specs.LedgerView.{learnt_shut};
-ghost use Rattle.xa_desk.specs.DeskView.{TicketView, IsKnown, IsHandle, Owns, ledger, outstanding, drained_code};
-ghost use Rattle.xa_desk.specs.DeskView.{ticket_of, next_operation, reach_refusal, submit_refusal, call_refusal};
-ghost use Rattle.xa_desk.specs.DeskView.{IsLeastFree, ready_at, keeps_at, room_at, is_known};
+ghost use Rattle.xa_desk.specs.LedgerViews.{learnt_shut};
+ghost use Rattle.xa_desk.specs.DeskViews.{TicketView, IsKnown, IsHandle, Owns, ledger, outstanding, drained_code};
+ghost use Rattle.xa_desk.specs.DeskViews.{ticket_of, next_operation, reach_refusal, submit_refusal, call_refusal};
+ghost use Rattle.xa_desk.specs.DeskViews.{IsLeastFree, ready_at, keeps_at, room_at, is_known};
 ghost use Rattle.xa_desk.specs.Ended.{Ends, AreBalanced};
-ghost use Rattle.xa_desk.specs.GoesOn.{GoesOn, GoesOut};
+ghost use Rattle.xa_desk.specs.GoingOn.{GoesOn, GoesOut};
 ghost use Rattle.xa_desk.specs.Lanes.{AreEnds, AreNew, IsDesk, new_desk, submitted, after_full, after_fulls};
 ghost use Rattle.xa_desk.specs.Looks.{EndsQuiet, Collects, CollectsKept, CollectsLeast};
 ghost use Rattle.xa_desk.specs.Tickets.{LeavesTickets, LeavesOthers};
@@ -46,7 +46,7 @@ pub struct Desk {
 impl Model for Desk {
     ghost use Rattle.std.specs.Prelude.{◌≤◌};
     ghost use Rattle.std.specs.Coded.{codes};
-    ghost use Rattle.xa_desk.specs.DeskView.{DeskView, kept_code, outstanding};
+    ghost use Rattle.xa_desk.specs.DeskViews.{DeskView, kept_code, outstanding};
     ghost use Rattle.xa_desk.specs.Lanes.{IsDesk};
 
     ghost Value = { DeskView };

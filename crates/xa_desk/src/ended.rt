@@ -1,7 +1,7 @@
 //! What a desk leaves.
 ghost use Rattle.std.specs.Prelude.{◌≡◌, ◌+◌, ◌≤◌, length, map, vec_capacity, []};
 ghost use Rattle.xa_lane.specs.Senders.{but_full};
-ghost use Rattle.xa_desk.specs.DeskView.{outstanding, sent_to, collected_from};
+ghost use Rattle.xa_desk.specs.DeskViews.{outstanding, sent_to, collected_from};
 ghost use Rattle.xa_desk.specs.Ended.{Ends, IsEnded, AreBalanced};
 ghost use Rattle.xa_desk.specs.Lanes.{IsDesk};
 ghost use Rattle.xa_desk.specs.Waits.{MarksEnd, MarkEnds};

@@ -1,6 +1,6 @@
 //! Which of the kept operations are asked for, and which of these have completed.
 ghost use Rattle.std.specs.Prelude.{◌≡◌, ℕ, IfSome, IfNone, IsTrue, true, false};
-ghost use Rattle.xa_desk.specs.DeskView.{IsHandle, IsLeast, keeps_at, ready_at};
+ghost use Rattle.xa_desk.specs.DeskViews.{IsHandle, IsLeast, keeps_at, ready_at};
 ghost use Rattle.xa_desk.specs.Looks.{TakesKept};
 
 use crate::book::Book;

@@ -1,6 +1,6 @@
 //! A desk's ledger with one manager.
 ghost use Rattle.std.specs.Prelude.{◌≡◌, ◌-◌, ◌<◌, ◌≤◌, [], ◌∷◌, ◌++◌, length, IfOk};
-ghost use Rattle.xa_desk.specs.LedgerView.{new_ledger, learnt_shut, with_sent, with_collected};
+ghost use Rattle.xa_desk.specs.LedgerViews.{new_ledger, learnt_shut, with_sent, with_collected};
 ghost use Rattle.xa_desk.specs.Lanes.{new_ledgers};
 
 use std::alloc::{AllocError, Global};
@@ -18,7 +18,7 @@ pub struct Ledger {
 }
 
 impl Model for Ledger {
-    ghost use Rattle.xa_desk.specs.LedgerView.{LedgerView};
+    ghost use Rattle.xa_desk.specs.LedgerViews.{LedgerView};
     ghost use Rattle.xa_desk.specs.Ledger.{ledger_of, IsLedger};
 
     ghost Value = { LedgerView };

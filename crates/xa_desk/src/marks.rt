@@ -1,6 +1,6 @@
 //! Marks on places, a bit for each.
 ghost use Rattle.std.specs.Prelude.{◌≡◌, ◌≢◌, ◌<◌, ◌≤◌, ◌||◌, ℕ, suc, IfSome, IfNone, true, false};
-ghost use Rattle.xa_desk.specs.DeskView.{IsLeast};
+ghost use Rattle.xa_desk.specs.DeskViews.{IsLeast};
 ghost use Rattle.xa_desk.specs.Marks.{is_marked};
 
 /// Which of the places from 0 to 63 are marked.

@@ -11,7 +11,7 @@ pub(crate) struct Operation {
 
 impl Operation {
     ghost use Rattle.std.specs.Prelude.{◌≡◌, ◌↔◌, IsTrue};
-    ghost use Rattle.xa_desk.specs.DeskView.{is_asked};
+    ghost use Rattle.xa_desk.specs.DeskViews.{is_asked};
 
     /// Whether the names are the same.
     #[inline(always)]

@@ -1,8 +1,8 @@
 //! Calls of a book that look at the lane of completions, with and without waiting.
 ghost use Rattle.std.specs.Prelude.{◌≡◌, ℕ, ◌+◌, ◌<◌, ◌≤◌, length, IfSome, OnSome, IsNone, IsTrue, IsSome, None, false};
 ghost use Rattle.xa_lane.specs.Ends.{counted};
-ghost use Rattle.xa_desk.specs.DeskView.{IsHandle, IsKnown, IsOut, IsLoose, ledger, outstanding, next_operation};
-ghost use Rattle.xa_desk.specs.DeskView.{drained_code, ready_at};
+ghost use Rattle.xa_desk.specs.DeskViews.{IsHandle, IsKnown, IsOut, IsLoose, ledger, outstanding, next_operation};
+ghost use Rattle.xa_desk.specs.DeskViews.{drained_code, ready_at};
 ghost use Rattle.xa_desk.specs.Lanes.{submitted, after_fulls};
 ghost use Rattle.xa_desk.specs.Looks.{Looks, EndsQuiet, Collects, CollectsKept, CollectsLeast};
 ghost use Rattle.xa_desk.specs.Waits.{Idles, WaitsFor, WaitsForAny};

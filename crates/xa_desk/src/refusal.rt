@@ -1,6 +1,6 @@
 //! Why a request may not be sent, a full lane aside.
 ghost use Rattle.std.specs.Prelude.{◌≡◌};
-ghost use Rattle.xa_desk.specs.DeskView.{reach_refusal, handle_refusal, spent_refusal, room_refusal, call_refusal};
+ghost use Rattle.xa_desk.specs.DeskViews.{reach_refusal, handle_refusal, spent_refusal, room_refusal, call_refusal};
 
 use crate::desk::Desk;
 use crate::refused::Refused;

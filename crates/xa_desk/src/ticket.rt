@@ -14,7 +14,7 @@ pub struct Ticket {
 }
 
 impl Model for Ticket {
-    ghost use Rattle.xa_desk.specs.DeskView.{TicketView, ticket_code};
+    ghost use Rattle.xa_desk.specs.DeskViews.{TicketView, ticket_code};
 
     ghost Value = { TicketView };
 
@@ -25,7 +25,7 @@ impl Model for Ticket {
 
 impl Ticket {
     ghost use Rattle.std.specs.Prelude.{◌≡◌};
-    ghost use Rattle.xa_desk.specs.DeskView.{ticket_of};
+    ghost use Rattle.xa_desk.specs.DeskViews.{ticket_of};
 
     /// A desk's one ticket of an operation that was just sent, or that isn't kept any more.
     pub(crate) fn new(book: &Book, operation: Operation) -> Ticket

@@ -1,14 +1,10 @@
 -- What one request to a manager does to a desk, which is put and waited for before anything else is done.
-use Rattle.xa_base.proofs.{◌≡◌, ℕ, ◌+◌, ◌-◌, ◌≤◌, ◌==◌, ◌||◌, true, false, Some, None, List, length, refl, sym, ap, ◌∙◌, arith, length-append, nat_lt}
-use Rattle.xa_base.proofs.{option_or, eqb-false, ne_eqb, or_parts, or_from, by_if, at_false}
+use Rattle.xa_base.proofs.{◌≡◌, ℕ, ◌+◌, ◌-◌, ◌≤◌, true, false, Some, None, List, length, refl, sym, ap, ◌∙◌, arith, length-append, nat_lt, option_or, eqb-false}
+use Rattle.xa_base.proofs.{ne_eqb, or_parts, or_from, at_false}
 use Rattle.std.proofs.lemmas.Bool.{ltb-false, le-ltb}
-use Rattle.xa_words.specs.declared.code.Code.{Code}
-use Rattle.xa_words.specs.{Op}
+use Rattle.xa_words.specs.{Code, Op}
 use Rattle.xa_desk.specs.{learnt_shut, with_sent, with_collected, IsKnown, ledger, put_ledger, next_operation, room_at, call_refusal, AllKept, submitted}
-use Rattle.xa_desk.specs.{after_fulls, Collects}
-use Rattle.xa_desk.specs.LedgerView.{LedgerView}
-use Rattle.xa_desk.specs.DeskView.{DeskView}
-use Rattle.xa_desk.specs.GoesOn.{GoesOn}
+use Rattle.xa_desk.specs.{after_fulls, Collects, LedgerView, DeskView, GoesOn}
 use Rattle.xa_desk.proofs.Ledgers.{known_by, ledger-put_same}
 use Rattle.std.proofs.lemmas.List.{set-set}
 use Rattle.xa_calls.proofs.Kept.{answered_keep, fulls_kept, fulls_ledgers}

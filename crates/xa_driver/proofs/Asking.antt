@@ -1,10 +1,8 @@
 -- What a request to one manager does to a desk.
 use Rattle.xa_base.proofs.{arith, ◌≡◌, ◌≢◌, ℕ, ◌+◌, ◌≤◌, if◌then◌else◌, Option, None, Some, length, refl, sym, ap, ◌∙◌, subst, at_false, at_true}
-use Rattle.xa_words.specs.declared.code.Code.{Code}
-use Rattle.xa_words.specs.{Op}
+use Rattle.xa_words.specs.{Code, Op}
 use Rattle.xa_desk.specs.{Operation, learnt_shut, with_sent, with_collected, TicketView, IsKnown, ledger, put_ledger, after_collected, outstanding, Collects}
-use Rattle.xa_desk.specs.LedgerView.{LedgerView}
-use Rattle.xa_desk.specs.DeskView.{DeskView}
+use Rattle.xa_desk.specs.{LedgerView, DeskView}
 use Rattle.xa_desk.proofs.GoesOn.{goes_same, goes_further, goes_collecting}
 use Rattle.xa_desk.proofs.Ledgers.{ledger-put_same, ledger-put_other}
 use Rattle.xa_driver.specs.{Ask, KeepsDesk, IsUnsent, IsSending, BeginsAsk, Ends}

@@ -1,22 +1,18 @@
 -- A commit whose coordinator dies: what was asked of each branch, how far that came, and what is kept of it.
-use Rattle.xa_base.proofs.{list_any-append, none_of, rules, if◌then◌else◌, ◌≡◌, ℕ, zero, suc, ◌==◌, ◌||◌, ◌<◌, ◌≤◌, Bool, true, false, inl, inr, ⊎_elim, Option}
-use Rattle.xa_base.proofs.{Some, None, List, [], ◌∷◌, ◌++◌, length, map, take, refl, sym, ap, ◌∙◌, subst, arith, append-nil, length-append, eq-eqb, length-map}
+use Rattle.xa_base.proofs.{list_any-append, none_of, rules, if◌then◌else◌, ◌≡◌, ℕ, zero, suc, ◌||◌, ◌<◌, ◌≤◌, Bool, true, false, inl, inr, ⊎_elim, Option, Some}
+use Rattle.xa_base.proofs.{None, List, [], ◌∷◌, ◌++◌, length, map, take, refl, sym, ap, ◌∙◌, subst, arith, append-nil, length-append, eq-eqb, length-map}
 use Rattle.xa_base.proofs.{or-true, some_same}
 use Rattle.std.specs.Prelude.{is_none, min}
 use Rattle.std.specs.FinMap as finmap
 use Rattle.std.proofs.Math.Seq.{take-append_seam}
-use Rattle.xa_words.specs.{TranName, Death, Op, Prepare}
-use Rattle.xa_words.specs.declared.code.Code.{Code}
+use Rattle.xa_words.specs.{TranName, Death, Op, Prepare, Code}
 use Rattle.xa_words.specs.declared.death.Death.TheVariants as death
-use Rattle.xa_desk.specs.{Operation, plan_of, AllKept, with_sent, TicketView, ledger}
-use Rattle.xa_desk.specs.GoesOn.{GoesOn}
-use Rattle.xa_desk.specs.LedgerView.{LedgerView}
-use Rattle.xa_desk.specs.DeskView.{DeskView}
+use Rattle.xa_desk.specs.{Operation, plan_of, AllKept, TicketView, ledger, GoesOn, LedgerView, DeskView}
 use Rattle.xa_desk.proofs.GoesOn.{goes_same, goes_further}
 use Rattle.xa_driver.specs.{Branch, Done, Round, Prepared, Decided, Told, Ask, AskTrace, EachAsk, EachBegan, HasBegun, IsUnsent, KeepsTheRest, SameAsks}
 use Rattle.xa_driver.specs.{among_asks, CameToVotes, Dies, HaveAsked, HaveTold, IsDecidedBy, IsOfRound, LeavesDesk, LeavesHandles, PutsLedger, Tells}
-use Rattle.xa_driver.specs.{VotesAndObeys, is_decided_by, to_come, withheld, ending_of, second_op, AsksLedger, code_of, ending_of_ask, first_ask, second_ask}
-use Rattle.xa_driver.specs.{HasDecided, HasPrepared, HasTold, IsUndecided, asked_in, EachBranch, Logs, decision_of, has_branch_at, IsAmong, IsSent, IsUnderWay}
+use Rattle.xa_driver.specs.{VotesAndObeys, is_decided_by, to_come, withheld, second_op, AsksLedger, code_of, ending_of_ask, first_ask, second_ask, HasDecided}
+use Rattle.xa_driver.specs.{HasPrepared, HasTold, IsUndecided, asked_in, EachBranch, Logs, decision_of, has_branch_at, IsAmong, IsSent, IsUnderWay}
 use Rattle.xa_driver.specs.{LeavesInFlight}
 use Rattle.xa_driver.specs.Deaths.{sent}
 use Rattle.xa_driver.proofs.Calls.{among_first, among_second, asks_long, first_trace, second_code, second_is, second_trace}

@@ -2,10 +2,8 @@
 use Rattle.xa_base.proofs.{rules, ◌≡◌, ℕ, ◌+◌, ◌≤◌, Bool, ◌||◌, ◌&&◌, ◌==◌, Option, Some, unwrap_or, List, [], ◌∷◌, ◌++◌, length, map, refl, sym, ap, ◌∙◌}
 use Rattle.xa_base.proofs.{arith, suc, get_or, length-append, take, length-map}
 use Rattle.std.proofs.Math.Seq.{take-append_seam}
-use Rattle.xa_words.specs.{TranName, tran_of, RmFail, Op, Prepare}
-use Rattle.xa_words.specs.declared.code.Code.{Code}
-use Rattle.xa_desk.specs.LedgerView.{LedgerView}
-use Rattle.xa_desk.specs.{ledger, IsKnown}
+use Rattle.xa_words.specs.{TranName, tran_of, RmFail, Op, Prepare, Code}
+use Rattle.xa_desk.specs.{LedgerView, ledger, IsKnown}
 use Rattle.xa_desk.proofs.Ledgers.{known_by}
 use Rattle.xa_driver.specs.{Branch, Done, is_yes, voted_yes, yes_of, second_op, third_op, ending_of, Ask, asked, IsAnswered, AskTrace, EachAsk, among_asks}
 use Rattle.xa_driver.specs.{SameAsks, IsSameAsk, AreRising, AllCanAsk, first_ask, code_of, second_ask, third_ask, ending_of_ask, asked_yes, yes_asked, AtBranch}

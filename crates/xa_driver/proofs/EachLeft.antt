@@ -1,13 +1,11 @@
 -- Branches that are resolved one after another, and managers one after another.
-use Rattle.std.proofs.Common.{rules}
 use Rattle.xa_base.proofs.{◌≡◌, ◌≢◌, ℕ, zero, suc, ◌+◌, ◌-◌, ◌*◌, ◌≤◌, ◌==◌, ◌||◌, if◌then◌else◌, List, [], ◌∷◌, ◌++◌, length, append-nil, sym, refl, ap, ◌∙◌}
 use Rattle.xa_base.proofs.{subst, arith, inl, inr, nat_lt, flat_map, range_with_len, cases_eq, eq-eqb, ne_eqb, range_more, at_true, at_false}
 use Rattle.std.specs.List.{sum_by}
 use Rattle.std.proofs.lemmas.Grind.{flat_map-append}
 use Rattle.std.proofs.lemmas.List.Sums.{sum_by_push}
 use Rattle.xa_words.specs.{XidName}
-use Rattle.xa_desk.specs.LedgerView.{LedgerView}
-use Rattle.xa_desk.specs.{ledger, room_at}
+use Rattle.xa_desk.specs.{LedgerView, ledger, room_at}
 use Rattle.xa_calls.specs.Scans.{Asking}
 use Rattle.xa_scan.specs.{ScanView, left_at}
 use Rattle.xa_driver.specs.{Outcome, AsksLedger, Resolves, ResolvesAt, ResolvesThese, left_in, requests_for}

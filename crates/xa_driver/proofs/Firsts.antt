@@ -3,8 +3,8 @@ use Rattle.xa_base.proofs.{◌⊎◌, if◌then◌else◌, MatchOption, ◌≡�
 use Rattle.xa_base.proofs.{length-set, ap, arith, refl, set, sym, take, ◌∙◌, slice_get}
 use Rattle.std.specs.Prelude.{is_none, min}
 use Rattle.std.proofs.Common.{add-one}
-use Rattle.xa_words.specs.declared.code.Code.{Code}
-use Rattle.xa_desk.specs.DeskView.{DeskView}
+use Rattle.xa_words.specs.{Code}
+use Rattle.xa_desk.specs.{DeskView}
 use Rattle.xa_driver.specs.{Ask, Round, asked_first, asked_in, is_passed, next_collected, Collects, IsSent, Stays, coded, next_ticket}
 
 -- ---- the first of some requests

@@ -1,13 +1,9 @@
 -- Requests in flight: what sending and collecting one leaves of the others.
-use Rattle.std.proofs.Common.{rules}
-use Rattle.xa_base.proofs.{list_any-append, ◌≡◌, ◌≢◌, ℕ, ◌+◌, ◌<◌, ◌≤◌, false, ◌==◌, Option, None, Some, List, [], ◌∷◌, ◌++◌, length, refl, sym, ap, ◌∙◌, subst}
-use Rattle.xa_base.proofs.{arith, length-append, eqb-false, ne_eqb, or_parts, at_false, at_true}
+use Rattle.xa_base.proofs.{rules, list_any-append, ◌≡◌, ◌≢◌, ℕ, ◌+◌, ◌<◌, ◌≤◌, false, ◌==◌, Option, None, Some, List, [], ◌∷◌, ◌++◌, length, refl, sym, ap, ◌∙◌}
+use Rattle.xa_base.proofs.{subst, arith, length-append, eqb-false, ne_eqb, or_parts, at_false, at_true}
 use Rattle.std.specs.FinMap as finmap
-use Rattle.xa_words.specs.declared.code.Code.{Code}
-use Rattle.xa_words.specs.{Op}
-use Rattle.xa_desk.specs.LedgerView.{LedgerView}
-use Rattle.xa_desk.specs.{learnt_shut, is_collected, with_sent, with_collected, TicketView, IsKnown, Owns, ledger, outstanding, DeskSeat}
-use Rattle.xa_desk.specs.DeskView.{DeskView}
+use Rattle.xa_words.specs.{Code, Op}
+use Rattle.xa_desk.specs.{LedgerView, learnt_shut, with_sent, TicketView, IsKnown, Owns, ledger, outstanding, DeskView}
 use Rattle.xa_desk.proofs.Ledgers.{known_by}
 use Rattle.xa_driver.specs.{Ask, AskTrace, EachAsk, among_asks, AreRising, CanAsk, AllCanAsk, KeepsDesk, IsUnsent, unsent_code, BeginsAsk, Ends, HasBegun}
 use Rattle.xa_driver.specs.{EachBegan}

@@ -2,10 +2,8 @@
 use Rattle.xa_base.proofs.{◌≡◌, ℕ, ◌+◌, ◌-◌, ◌<◌, ◌≤◌, true, false, ◌||◌, ◌==◌, Option, None, List, [], ◌∷◌, length, map, refl, ap, ◌∙◌, subst, arith, get_or}
 use Rattle.xa_base.proofs.{set, suc, zero, length-append, All, list_any, All-nil, All-cons, All-head, All-tail, eqb-true, ne_eqb, sym, inl, inr, cases_Bool}
 use Rattle.std.specs.Prelude.{fold}
-use Rattle.xa_words.specs.declared.code.Code.{Code}
-use Rattle.xa_words.specs.{Op}
-use Rattle.xa_desk.specs.LedgerView.{LedgerView}
-use Rattle.xa_desk.specs.{ledger, no_ledger, outstanding}
+use Rattle.xa_words.specs.{Code, Op}
+use Rattle.xa_desk.specs.{LedgerView, ledger, no_ledger, outstanding}
 use Rattle.xa_driver.specs.{Ask, asked, EachAsk, among_asks, SameAsks, IsSameAsk, AreRising}
 use Rattle.xa_driver.specs.Asks.{Asks}
 use Rattle.xa_driver.proofs.Ledgers.{open_count}

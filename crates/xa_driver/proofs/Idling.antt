@@ -1,17 +1,13 @@
 -- For which managers a commit idles, one round after the other.
-use Rattle.std.proofs.Common.{rules}
-use Rattle.xa_base.proofs.{◌≡◌, ℕ, zero, suc, ◌+◌, ◌≤◌, ◌<◌, length, length-append, length-set, arith, ◌==◌, ◌||◌, true, false, Option, None, Some, List, []}
-use Rattle.xa_base.proofs.{◌∷◌, ◌++◌, refl, sym, ap, ◌∙◌, subst, Bool, MatchOption, map, slice_get, eq-eqb, or-true}
+use Rattle.xa_base.proofs.{rules, ◌≡◌, ℕ, zero, suc, ◌+◌, ◌≤◌, ◌<◌, length, length-append, length-set, arith, ◌==◌, ◌||◌, true, false, Option, None, Some, List}
+use Rattle.xa_base.proofs.{[], ◌∷◌, ◌++◌, refl, sym, ap, ◌∙◌, subst, Bool, MatchOption, map, slice_get, eq-eqb, or-true}
 use Rattle.std.specs.Prelude.{IfNone, OnSome}
-use Rattle.xa_words.specs.declared.code.Code.{Code}
-use Rattle.xa_words.specs.{Op}
-use Rattle.xa_desk.specs.{Operation, TicketView, submitted, after_fulls, Idles, WaitsFor, begins, idles, IsMissing}
-use Rattle.xa_desk.specs.LedgerView.{LedgerView}
-use Rattle.xa_desk.specs.DeskView.{DeskView}
+use Rattle.xa_words.specs.{Code, Op}
+use Rattle.xa_desk.specs.{Operation, TicketView, submitted, after_fulls, Idles, WaitsFor, begins, idles, IsMissing, LedgerView, DeskView}
 use Rattle.xa_desk.specs.Waits.{Waits}
 use Rattle.xa_driver.specs.{Round, Ask, HasBegun, SameAsks, among_asks, IdlesAt, IdlesToCollect, IdlesToSend, again, never, unsent, Collects, IsSent}
-use Rattle.xa_driver.specs.{IsUnderWay, Sends, Stays, coded, next_ask, next_ticket, sent_count, first_ask, HasDecided, HasPrepared, HasTold, has_branch_at}
-use Rattle.xa_driver.specs.{Branch, Prepared, Decided, Told}
+use Rattle.xa_driver.specs.{IsUnderWay, Sends, Stays, next_ask, next_ticket, sent_count, first_ask, HasDecided, HasPrepared, HasTold, has_branch_at, Branch}
+use Rattle.xa_driver.specs.{Prepared, Decided, Told}
 use Rattle.xa_driver.specs.Idling.{sent}
 use Rattle.xa_log.specs.{LogState}
 use Rattle.xa_driver.proofs.Calls.{among_first, among_second}

@@ -1,8 +1,6 @@
 -- A round whose requests are remade in place, one after another.
 use Rattle.xa_base.proofs.{length-map, ◌≡◌, ℕ, zero, suc, ◌+◌, ◌<◌, ◌≤◌, List, [], ◌∷◌, ◌++◌, length, take, refl, sym, ap, ◌∙◌, subst, get_or, set, arith, map}
-use Rattle.std.specs.VecDeque.{deque_capacity}
-use Rattle.xa_desk.specs.LedgerView.{LedgerView}
-use Rattle.xa_desk.specs.DeskView.{DeskView}
+use Rattle.xa_desk.specs.{LedgerView, DeskView}
 use Rattle.xa_driver.specs.{Done, Round, Ask, AllCanAsk, AreRising, CanAsk, HasRoomForEndings, IsAtRest, MayAsk}
 use Rattle.xa_driver.proofs.Calls.{seam}
 

@@ -1,8 +1,6 @@
 -- What was resolved in turn was, whatever of each request is looked at.
-use Rattle.std.proofs.Common.{arith}
 use Rattle.xa_base.proofs.{ℕ, List, ap}
-use Rattle.xa_words.specs.{Op}
-use Rattle.xa_words.specs.declared.code.Code.{Code}
+use Rattle.xa_words.specs.{Op, Code}
 use Rattle.xa_calls.specs.Scans.{Asking}
 use Rattle.xa_scan.specs.{ScanView, left_at}
 use Rattle.xa_driver.specs.{Outcome, ResolvesInTurn, begun, next}

@@ -1,12 +1,8 @@
 -- What is outstanding after requests that were collected was outstanding before them.
-use Rattle.xa_base.proofs.{◌≡◌, ℕ, ◌<◌, ◌≤◌, Bool, false, true, ◌||◌, nat_eq, Option, Some, None, List, [], ◌∷◌, length, sym, ap, ◌∙◌, subst, arith}
-use Rattle.xa_base.proofs.{length-append, eqb-false, or_parts, if◌then◌else◌}
+use Rattle.xa_base.proofs.{◌≡◌, ℕ, ◌<◌, Bool, false, true, nat_eq, Option, Some, None, List, length, arith, length-append, eqb-false, or_parts, if◌then◌else◌}
 use Rattle.std.specs.FinMap as finmap
-use Rattle.xa_words.specs.{Op}
-use Rattle.xa_words.specs.declared.code.Code.{Code}
-use Rattle.xa_desk.specs.{Operation, is_collected, learnt_shut, with_sent, with_collected, IsOut, AllKept}
-use Rattle.xa_desk.specs.LedgerView.{LedgerView}
-use Rattle.xa_desk.specs.DeskView.{DeskView}
+use Rattle.xa_words.specs.{Op, Code}
+use Rattle.xa_desk.specs.{Operation, is_collected, learnt_shut, with_sent, with_collected, IsOut, AllKept, LedgerView, DeskView}
 use Rattle.xa_desk.proofs.Ledgers.{is_collected-push}
 use Rattle.xa_driver.specs.{Ask, KeepsDesk, asked}
 use Rattle.xa_driver.specs.Asks.{Asks}

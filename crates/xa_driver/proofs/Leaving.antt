@@ -1,12 +1,10 @@
 -- A round that is left in the middle: what is in flight is kept under handles, and so is all that is outstanding.
-use Rattle.std.proofs.Common.{rules}
-use Rattle.xa_base.proofs.{list_any-append, or_from, cases_eq, cases_Bool, ◌⊎◌, ◌≡◌, ℕ, ◌==◌, ◌||◌, ◌≤◌, inl, inr, ⊎_elim, false, true, Option, Some, None}
-use Rattle.xa_base.proofs.{List, [], ◌∷◌, ◌++◌, length, refl, sym, ap, ◌∙◌, subst, arith, length-append, eqb-true, some_same, inserted_other, inserted_there}
+use Rattle.xa_base.proofs.{rules, list_any-append, or_from, cases_eq, cases_Bool, ◌⊎◌, ◌≡◌, ℕ, ◌==◌, ◌||◌, ◌≤◌, inl, inr, ⊎_elim, false, true, Option, Some}
+use Rattle.xa_base.proofs.{None, List, [], ◌∷◌, ◌++◌, length, refl, sym, ap, ◌∙◌, subst, arith, length-append, eqb-true, some_same, inserted_other}
+use Rattle.xa_base.proofs.{inserted_there}
 use Rattle.std.specs.FinMap as map
 use Rattle.xa_words.specs.{Op}
-use Rattle.xa_desk.specs.{Operation, AllKept, with_sent, TicketView, IsOut, Owns, ledger, LeavesOthers}
-use Rattle.xa_desk.specs.LedgerView.{LedgerView}
-use Rattle.xa_desk.specs.DeskView.{DeskView}
+use Rattle.xa_desk.specs.{Operation, AllKept, with_sent, TicketView, IsOut, Owns, ledger, LeavesOthers, LedgerView, DeskView}
 use Rattle.xa_desk.proofs.Ledgers.{known_by}
 use Rattle.xa_driver.specs.{Round, Ask, AreRising, EachBegan, HasBegun, Keeps, LeavesOwned, Owning, among_asks, AllKeptBut, AreApart, IsAmong, IsUnderWay}
 use Rattle.xa_driver.specs.{LeavesInFlight, LeavesKept, LeavesOtherTickets, OwnsAll}

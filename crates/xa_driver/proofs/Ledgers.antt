@@ -1,8 +1,7 @@
 -- What a change of one ledger does to a desk's ledgers.
 use Rattle.xa_base.proofs.{◌≡◌, ℕ, ◌+◌, ◌-◌, List, length, arith, suc, [], ◌∷◌, refl, length-set}
 use Rattle.std.proofs.lemmas.List.Sums.{sum_by-set}
-use Rattle.xa_desk.specs.LedgerView.{LedgerView}
-use Rattle.xa_desk.specs.{IsKnown, ledger, no_ledger, put_ledger, outstanding, numbered}
+use Rattle.xa_desk.specs.{LedgerView, IsKnown, ledger, no_ledger, put_ledger, outstanding, numbered}
 use Rattle.xa_words.specs.{Op}
 
 -- how many requests of a ledger are outstanding

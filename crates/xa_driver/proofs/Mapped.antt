@@ -1,12 +1,10 @@
 -- What a commit and a resolve keep of the states that they ask over, and what they ask over one kind of states they ask
 -- over another, where each of their requests does.
-use Rattle.std.proofs.Common.{arith}
-use Rattle.xa_base.proofs.{◌≡◌, ℕ, Bool, true, false, List, [], ◌∷◌, Option, Some, None, refl, sym, ap, subst, Contains, Contains-append_left}
+use Rattle.xa_base.proofs.{arith, ◌≡◌, ℕ, Bool, true, false, List, [], ◌∷◌, Option, Some, None, refl, sym, ap, subst, Contains, Contains-append_left}
 use Rattle.std.proofs.lemmas.List.Elements.{Contains-push}
 use Rattle.xa_base.specs.{Chain}
 use Rattle.xa_base.specs.Lists.Chain.{none, more}
-use Rattle.xa_words.specs.{XidName, Op, OpenRm, Prepare, Forget}
-use Rattle.xa_words.specs.declared.code.Code.{Code}
+use Rattle.xa_words.specs.{XidName, Op, OpenRm, Prepare, Forget, Code}
 use Rattle.xa_calls.specs.Scans.{Asking}
 use Rattle.xa_driver.specs.{Branch, Ending, Outcome, AsksFor, AtBranch, second_op, third_op, is_decided, AsksIf, ResolvesBranch, ResolvesAt, is_to_commit}
 use Rattle.xa_driver.specs.{outcome_op}

@@ -1,13 +1,9 @@
 -- The stages of a commit make a call.
-use Rattle.std.proofs.Common.{rules}
-use Rattle.xa_base.proofs.{◌≡◌, Bool, None, List, length, map, vec_capacity, sym, ap, ◌∙◌, subst, arith}
-use Rattle.xa_words.specs.{TranName}
-use Rattle.xa_words.specs.declared.code.Code.{Code}
-use Rattle.xa_desk.specs.LedgerView.{LedgerView}
-use Rattle.xa_desk.specs.DeskView.{DeskView}
-use Rattle.xa_driver.specs.{Branch, Done, Round, Prepared, Decided, Told, Ask, KeepsTheRest, SameAsks, yes_of, code_of, ending_of_ask, second_ask, yes_asked}
-use Rattle.xa_driver.specs.{HasDecided, HasForgotten, HasPrepared, HasTold, MayForget, MayTell, IsTraceOfCommit, IsTranOf, Logs, MayCommit, decision_of}
-use Rattle.xa_driver.specs.{IsAtRest, MayAsk}
+use Rattle.xa_base.proofs.{rules, ◌≡◌, Bool, None, List, length, map, vec_capacity, sym, ap, ◌∙◌, subst, arith}
+use Rattle.xa_words.specs.{TranName, Code}
+use Rattle.xa_desk.specs.{LedgerView, DeskView}
+use Rattle.xa_driver.specs.{Branch, Done, Round, Prepared, Decided, Told, Ask, KeepsTheRest, SameAsks, yes_of, second_ask, yes_asked, HasDecided, HasForgotten}
+use Rattle.xa_driver.specs.{HasPrepared, HasTold, MayForget, MayTell, IsTraceOfCommit, IsTranOf, MayCommit, IsAtRest, MayAsk}
 use Rattle.xa_log.specs.{LogState, record_of}
 use Rattle.xa_driver.proofs.Calls.{asks_long, call_by, last_can, next_can, same_long, seconds_long, yes_is, one_tran}
 

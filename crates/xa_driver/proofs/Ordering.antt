@@ -1,16 +1,12 @@
 -- The order of what a round sends and collects.
-use Rattle.std.proofs.Common.{rules}
-use Rattle.xa_base.proofs.{none_of, ◌≡◌, ◌≤◌, ℕ, Bool, true, false, List, [], ◌∷◌, ◌++◌, length, drop, Option, None, Some, refl, sym, ap, ◌∙◌, subst}
+use Rattle.xa_base.proofs.{rules, none_of, ◌≡◌, ◌≤◌, ℕ, Bool, true, false, List, [], ◌∷◌, ◌++◌, length, drop, Option, None, Some, refl, sym, ap, ◌∙◌}
 use Rattle.xa_base.proofs.{append_assoc, append-nil, arith, not, if◌then◌else◌, MatchOption, map-append, length-append}
 use Rattle.std.proofs.Common.{ap₂}
 use Rattle.std.proofs.Math.Seq.{drop-append_seam}
-use Rattle.xa_words.specs.{Op}
-use Rattle.xa_words.specs.declared.code.Code.{Code}
-use Rattle.xa_desk.specs.{Sent, Collected, Operation, TicketView, ledger, next_operation, Collects as CollectsOne}
-use Rattle.xa_desk.specs.LedgerView.{LedgerView}
-use Rattle.xa_desk.specs.DeskView.{DeskView}
-use Rattle.xa_driver.specs.{Round, Ask, BeginsAsk, EachBegan, Ends, IsUnsent, SameAsks, Collects, IsSent, IsUnderWay, Sends, Stays, sent_count, sendings}
-use Rattle.xa_driver.specs.{collections, round_of, goes_out, sent_of, operations_of, SendsMore, CollectsFirst, SendsThenCollects, GoesAsFar, GoesAsRound}
+use Rattle.xa_words.specs.{Op, Code}
+use Rattle.xa_desk.specs.{Sent, Collected, Operation, TicketView, ledger, next_operation, Collects as CollectsOne, LedgerView, DeskView}
+use Rattle.xa_driver.specs.{Round, Ask, BeginsAsk, EachBegan, Ends, IsUnsent, SameAsks, Collects, IsSent, IsUnderWay, Sends, Stays, sent_count, round_of}
+use Rattle.xa_driver.specs.{goes_out, sent_of, operations_of, SendsMore, CollectsFirst, SendsThenCollects, GoesAsFar, GoesAsRound}
 use Rattle.xa_driver.proofs.Stepping.{as_many}
 
 -- ---- what has a ticket

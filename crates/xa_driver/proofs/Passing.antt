@@ -1,12 +1,9 @@
 -- Branches of a round that are asked nothing.
-use Rattle.std.proofs.Common.{rules}
-use Rattle.xa_base.proofs.{◌≡◌, ◌≢◌, ℕ, ◌+◌, ◌<◌, get_or, true, false, Option, None, Some, List, [], ◌∷◌, length, length-append, refl, sym, ap, ◌∙◌, subst}
-use Rattle.xa_base.proofs.{arith, Bool, MatchOption, slice_get, slice_get-get_or, slice_get_within}
+use Rattle.xa_base.proofs.{rules, ◌≡◌, ◌≢◌, ℕ, ◌+◌, ◌<◌, get_or, true, false, Option, None, Some, List, [], ◌∷◌, length, length-append, refl, sym, ap, ◌∙◌}
+use Rattle.xa_base.proofs.{subst, arith, Bool, MatchOption, slice_get, slice_get-get_or, slice_get_within}
 use Rattle.std.specs.Prelude.{is_none}
 use Rattle.xa_words.specs.{Op}
-use Rattle.xa_desk.specs.LedgerView.{LedgerView}
-use Rattle.xa_desk.specs.DeskView.{DeskView}
-use Rattle.xa_desk.specs.{TicketView}
+use Rattle.xa_desk.specs.{LedgerView, DeskView, TicketView}
 use Rattle.xa_driver.specs.{Round, Ask, BeginsAsk, HasBegun, SameAsks, IdlesToCollect, IdlesToSend, unsent, CollectsNothing, Passes, asked_first, SendsNothing}
 use Rattle.xa_driver.specs.{is_passed, next_collected, passes, starts, Collects, IsUnderWay, Sends, Stays, next_ask, next_ticket, sent_count}
 use Rattle.xa_driver.specs.Idling.{sent}

@@ -1,12 +1,8 @@
 -- What requests to managers leave of the operations that were outstanding before.
-use Rattle.xa_base.proofs.{◌≡◌, ℕ, ◌<◌, false, Option, None, Some, List, [], ◌∷◌, length, refl, sym, ap, ◌∙◌, subst, arith, length-append, ne_eqb, or_from}
-use Rattle.xa_base.proofs.{by_if, inl, inr, cases_eq}
+use Rattle.xa_base.proofs.{◌≡◌, ℕ, ◌<◌, false, Option, None, Some, List, length, refl, sym, subst, arith, length-append, ne_eqb, or_from, cases_eq}
 use Rattle.std.specs.FinMap as finmap
-use Rattle.xa_words.specs.declared.code.Code.{Code}
-use Rattle.xa_words.specs.{Op}
-use Rattle.xa_desk.specs.LedgerView.{LedgerView}
-use Rattle.xa_desk.specs.{learnt_shut, is_collected, with_sent, ledger, DeskSeat, LeavesTickets}
-use Rattle.xa_desk.specs.DeskView.{DeskView}
+use Rattle.xa_words.specs.{Code, Op}
+use Rattle.xa_desk.specs.{LedgerView, is_collected, ledger, LeavesTickets, DeskView}
 use Rattle.xa_desk.proofs.Ledgers.{is_collected-push, known_by}
 use Rattle.xa_driver.specs.{Ask, asked, KeepsDesk, KeepsTheRest, LeavesOutstanding}
 use Rattle.xa_driver.specs.Asks.{Asks}

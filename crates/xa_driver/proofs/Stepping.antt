@@ -1,15 +1,12 @@
 -- One step of a round: a request is sent, or collected; and the end, once all are.
-use Rattle.xa_base.proofs.{list_any-append, none_of, MatchOption, ◌≡◌, ◌≢◌, ℕ, suc, ◌+◌, ◌==◌, ◌<◌, ◌≤◌, Option, None, Some, false, List, [], ◌∷◌, ◌++◌, length}
-use Rattle.xa_base.proofs.{refl, sym, ap, ◌∙◌, subst, arith, get_or, set, append_assoc, append-nil, length-append, slice_get-get_or, slice_get_within, All}
-use Rattle.xa_base.proofs.{slice_get, All-nil, All-cons, by_if}
+use Rattle.xa_base.proofs.{list_any-append, none_of, MatchOption, ◌≡◌, ◌≢◌, ℕ, suc, ◌+◌, ◌<◌, ◌≤◌, Option, None, Some, false, List, [], ◌∷◌, ◌++◌, length, refl}
+use Rattle.xa_base.proofs.{sym, ap, ◌∙◌, subst, arith, get_or, set, append_assoc, append-nil, length-append, slice_get-get_or, slice_get_within, All, slice_get}
+use Rattle.xa_base.proofs.{All-nil, All-cons}
 use Rattle.std.proofs.Math.Seq.{get_or-append_seam, set-append_seam}
 use Rattle.std.proofs.lemmas.Option.{get_or_from_slice_get}
 use Rattle.std.specs.VecDeque.{deque_capacity}
-use Rattle.xa_words.specs.declared.code.Code.{Code}
-use Rattle.xa_words.specs.{Op}
-use Rattle.xa_desk.specs.LedgerView.{LedgerView}
-use Rattle.xa_desk.specs.{learnt_shut, LeavesTickets, TicketView, IsKnown, ledger, outstanding}
-use Rattle.xa_desk.specs.DeskView.{DeskView}
+use Rattle.xa_words.specs.{Code, Op}
+use Rattle.xa_desk.specs.{LedgerView, LeavesTickets, TicketView, IsKnown, ledger, outstanding, DeskView}
 use Rattle.xa_desk.proofs.Ledgers.{known_by}
 use Rattle.xa_driver.specs.{Ask, Round, AllCanAsk, AreRising, AskTrace, BeginsAsk, CanAsk, EachAsk, EachBegan, Ends, HasBegun, HaveComeSoFar, IsBegun}
 use Rattle.xa_driver.specs.{KeepsDesk, Owning, among_asks, collected, in_flight, unasked, Begins, IsUnderWay, coded, sent_count}

@@ -1,11 +1,8 @@
 -- What was asked of a manager, by a desk's ledger with it.
-use Rattle.std.proofs.Common.{arith}
-use Rattle.xa_base.proofs.{◌≡◌, Bool, [], ◌∷◌, length, refl, ap, ◌∙◌, subst, Option, Some, None, by_if}
+use Rattle.xa_base.proofs.{arith, Bool, [], ◌∷◌, length, refl, Option, Some, None, by_if}
 use Rattle.xa_desk.proofs.Growth.{as_it_was}
-use Rattle.xa_words.specs.declared.code.Code.{Code}
-use Rattle.xa_words.specs.{Op, Prepare}
-use Rattle.xa_desk.specs.{HasGrown, learnt_shut}
-use Rattle.xa_desk.specs.LedgerView.{LedgerView}
+use Rattle.xa_words.specs.{Code, Op, Prepare}
+use Rattle.xa_desk.specs.{HasGrown, learnt_shut, LedgerView}
 use Rattle.xa_driver.specs.{Branch, Ending, asked, IsAnswered, AskTrace, AsksFor, AtBranch, second_op, third_op, AsksLedger, voted}
 
 -- ---- one request, if it is wanted

@@ -1,6 +1,6 @@
 -- A commit without a decision.
 use Rattle.xa_base.proofs.{◌≡◌, List, subst, Vec, Global}
-use Rattle.xa_words.specs.declared.code.Code.{Code}
+use Rattle.xa_words.specs.{Code}
 use Rattle.xa_driver.specs.{CommitFault, IfUndecided}
 use Rattle.xa_driver.specs.declared.done.CommitFault.TheVariants as fault
 

@@ -7,12 +7,12 @@ use Rattle.std.specs.FinMap as map
 use Rattle.xa_words.specs.declared.code.Code.{Code}
 use Rattle.xa_words.specs.declared.code.Code.TheVariants.{RmFail}
 use Rattle.xa_words.specs.declared.request.Op.{Op}
-use Rattle.xa_desk.specs.LedgerView.{LedgerView, learnt_shut, with_sent, with_collected}
+use Rattle.xa_desk.specs.LedgerViews.{LedgerView, learnt_shut, with_sent, with_collected}
 use Rattle.xa_desk.specs.declared.event.Event.TheVariants.{Sent}
 use Rattle.xa_desk.specs.declared.operation.Operation.{Operation}
-use Rattle.xa_desk.specs.DeskView.{DeskView, TicketView, IsKnown, IsOut, Owns, ledger, after_sent, next_operation}
-use Rattle.xa_desk.specs.DeskView.{outstanding, ticket_of}
-use Rattle.xa_desk.specs.GoesOn.{GoesOn}
+use Rattle.xa_desk.specs.DeskViews.{DeskView, TicketView, IsKnown, IsOut, Owns, ledger, after_sent, next_operation}
+use Rattle.xa_desk.specs.DeskViews.{outstanding, ticket_of}
+use Rattle.xa_desk.specs.GoingOn.{GoesOn}
 use Rattle.xa_desk.specs.Looks.{Collects}
 use Rattle.xa_desk.specs.Kept.{AllKept}
 use Rattle.xa_desk.specs.Tickets.{LeavesOthers, LeavesTickets}

@@ -9,9 +9,9 @@ use Rattle.xa_words.specs.declared.death.Death.TheVariants as death
 use Rattle.xa_words.specs.declared.request.Op.{Op}
 use Rattle.xa_words.specs.declared.request.Op.TheVariants.{Prepare}
 use Rattle.xa_desk.specs.declared.operation.Operation.{Operation}
-use Rattle.xa_desk.specs.LedgerView.{LedgerView, learnt_shut, with_sent}
-use Rattle.xa_desk.specs.DeskView.{DeskView, ledger}
-use Rattle.xa_desk.specs.GoesOn.{GoesOn}
+use Rattle.xa_desk.specs.LedgerViews.{LedgerView, learnt_shut, with_sent}
+use Rattle.xa_desk.specs.DeskViews.{DeskView, ledger}
+use Rattle.xa_desk.specs.GoingOn.{GoesOn}
 use Rattle.xa_desk.specs.Kept.{AllKept}
 use Rattle.xa_calls.specs.Scans.{Asking}
 use Rattle.xa_driver.specs.declared.branch.Branch.{Branch}

@@ -2,7 +2,7 @@
 use Rattle.std.specs.Prelude.{◌≡◌, ℕ, Bool, true, Option, None, Some}
 use Rattle.xa_words.specs.declared.code.Code.{Code}
 use Rattle.xa_words.specs.declared.request.Op.{Op}
-use Rattle.xa_desk.specs.DeskView.{DeskView, TicketView}
+use Rattle.xa_desk.specs.DeskViews.{DeskView, TicketView}
 use Rattle.xa_desk.specs.Lanes.{submitted, after_fulls}
 use Rattle.xa_desk.specs.Waits.{Idles, WaitsFor}
 use Rattle.xa_driver.specs.Asks.{Ask}

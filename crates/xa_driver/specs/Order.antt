@@ -4,8 +4,8 @@ use Rattle.xa_words.specs.declared.request.Op.{Op}
 use Rattle.xa_desk.specs.declared.event.Event.{Event}
 use Rattle.xa_desk.specs.declared.event.Event.TheVariants.{Sent, Collected}
 use Rattle.xa_desk.specs.declared.operation.Operation.{Operation}
-use Rattle.xa_desk.specs.LedgerView.{LedgerView, learnt_shut}
-use Rattle.xa_desk.specs.DeskView.{DeskView, TicketView, ledger, next_operation}
+use Rattle.xa_desk.specs.LedgerViews.{LedgerView, learnt_shut}
+use Rattle.xa_desk.specs.DeskViews.{DeskView, TicketView, ledger, next_operation}
 use Rattle.xa_driver.specs.declared.branch.Branch.{Branch}
 use Rattle.xa_driver.specs.declared.round.Round.{Round}
 use Rattle.xa_driver.specs.Asks.{Ask, Asks, SameAsks}

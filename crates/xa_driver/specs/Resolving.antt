@@ -11,8 +11,8 @@ use Rattle.xa_words.specs.Tran.{tran_of}
 use Rattle.xa_words.specs.declared.code.Code.{Code}
 use Rattle.xa_words.specs.declared.request.Op.{Op}
 use Rattle.xa_words.specs.declared.request.Op.TheVariants.{OpenRm, Commit, Rollback, Forget}
-use Rattle.xa_desk.specs.LedgerView.{LedgerView}
-use Rattle.xa_desk.specs.DeskView.{DeskView, room_at, ledger, outstanding}
+use Rattle.xa_desk.specs.LedgerViews.{LedgerView}
+use Rattle.xa_desk.specs.DeskViews.{DeskView, room_at, ledger, outstanding}
 use Rattle.xa_desk.specs.Kept.{AllKept}
 use Rattle.xa_calls.specs.Scans.{Asking}
 use Rattle.xa_scan.specs.Left.{ScanView, left_at}

@@ -1,7 +1,7 @@
 -- The stages of a commit: what each has, and when the next may be done.
 use Rattle.std.specs.Prelude.{◌≡◌, ◌≤◌, false, List, [], length, map, take, vec_capacity}
-use Rattle.xa_desk.specs.LedgerView.{LedgerView}
-use Rattle.xa_desk.specs.DeskView.{DeskView}
+use Rattle.xa_desk.specs.LedgerViews.{LedgerView}
+use Rattle.xa_desk.specs.DeskViews.{DeskView}
 use Rattle.xa_driver.specs.declared.branch.Branch.{Branch}
 use Rattle.xa_driver.specs.declared.done.CommitFault.{CommitFault}
 use Rattle.xa_driver.specs.declared.done.CommitFault.TheVariants.{NoMemory, Undecided}

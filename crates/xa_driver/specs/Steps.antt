@@ -2,7 +2,7 @@
 use Rattle.std.specs.Prelude.{◌≡◌, ℕ, suc, Bool, true, false, if◌then◌else◌, Option, None, Some, List, []}
 use Rattle.std.specs.Prelude.{◌∷◌, is_none, MatchOption}
 use Rattle.std.specs.List.{slice_get}
-use Rattle.xa_desk.specs.DeskView.{DeskView, TicketView}
+use Rattle.xa_desk.specs.DeskViews.{DeskView, TicketView}
 use Rattle.xa_driver.specs.Asks.{Ask}
 use Rattle.xa_driver.specs.declared.round.Round.{Round}
 use Rattle.xa_driver.specs.Idling.{IdlesToCollect, IdlesToSend}

@@ -6,7 +6,7 @@ use Rattle.std.specs.FinMap as map
 use Rattle.std.specs.VecDeque.{deque_capacity}
 use Rattle.xa_words.specs.declared.code.Code.{Code}
 use Rattle.xa_desk.specs.declared.operation.Operation.{Operation}
-use Rattle.xa_desk.specs.DeskView.{DeskView, TicketView, IsOut, Owns, ledger, outstanding}
+use Rattle.xa_desk.specs.DeskViews.{DeskView, TicketView, IsOut, Owns, ledger, outstanding}
 use Rattle.xa_desk.specs.Tickets.{LeavesTickets}
 use Rattle.xa_driver.specs.declared.round.Round.{Round}
 use Rattle.xa_driver.specs.Asks.{Ask, AllCanAsk, AreRising, BeginsAsk, EachAsk, EachBegan, Ends, KeepsDesk, LeavesOwned}

@@ -2,9 +2,9 @@
 ghost use Rattle.std.specs.Prelude.{◌≡◌, ◌<◌, ◌++◌, ◌∷◌, [], ℕ, true, false, IfSome, IfNone, OnSome, IsNone, IsSome};
 ghost use Rattle.std.specs.Prelude.{is_none};
 ghost use Rattle.xa_desk.specs.declared.event.Event.TheVariants.{Sent};
-ghost use Rattle.xa_desk.specs.LedgerView.{learnt_shut};
-ghost use Rattle.xa_desk.specs.DeskView.{Owns, ledger, after_sent, next_operation, outstanding, ticket_of};
-ghost use Rattle.xa_desk.specs.GoesOn.{GoesOn};
+ghost use Rattle.xa_desk.specs.LedgerViews.{learnt_shut};
+ghost use Rattle.xa_desk.specs.DeskViews.{Owns, ledger, after_sent, next_operation, outstanding, ticket_of};
+ghost use Rattle.xa_desk.specs.GoingOn.{GoesOn};
 ghost use Rattle.xa_desk.specs.Lanes.{submitted, after_fulls};
 ghost use Rattle.xa_desk.specs.Waits.{Idles};
 ghost use Rattle.xa_driver.specs.Asks.{BeginsAsk, CanAsk, Ends, KeepsDesk, Keeps, LeavesOwned, Owning};

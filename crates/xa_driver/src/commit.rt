@@ -1,7 +1,7 @@
 //! A commit of several branches, in two phases.
 ghost use Rattle.std.specs.Prelude.{◌≡◌, ◌≤◌, map, length, IfOk, IfErr, OnOk, IsErrOf};
 ghost use Rattle.xa_words.specs.Tran.{TranName};
-ghost use Rattle.xa_desk.specs.GoesOn.{GoesOn};
+ghost use Rattle.xa_desk.specs.GoingOn.{GoesOn};
 ghost use Rattle.xa_desk.specs.Kept.{AllKept};
 ghost use Rattle.xa_driver.specs.Asks.{KeepsTheRest};
 ghost use Rattle.xa_driver.specs.Idling.{IdlesAt};

@@ -2,9 +2,9 @@
 ghost use Rattle.std.specs.Prelude.{◌≡◌, ◌≤◌, ℕ, List, length, map, true, IfErr, IfOk, IsErrOf, OnErr, OnOk};
 ghost use Rattle.xa_words.specs.Tran.{TranName};
 ghost use Rattle.xa_words.specs.declared.death.Death.TheVariants as death_at;
-ghost use Rattle.xa_desk.specs.DeskView.{ledger};
-ghost use Rattle.xa_desk.specs.GoesOn.{GoesOn};
-ghost use Rattle.xa_desk.specs.LedgerView.{LedgerView};
+ghost use Rattle.xa_desk.specs.DeskViews.{ledger};
+ghost use Rattle.xa_desk.specs.GoingOn.{GoesOn};
+ghost use Rattle.xa_desk.specs.LedgerViews.{LedgerView};
 ghost use Rattle.xa_desk.specs.Kept.{AllKept};
 ghost use Rattle.xa_driver.specs.declared.branch.Branch.{Branch};
 ghost use Rattle.xa_driver.specs.declared.done.CommitFault.TheVariants.{NoMemory};

@@ -1,8 +1,8 @@
 //! Resolving what a reopening found left, by presumption.
 ghost use Rattle.std.specs.Prelude.{◌≡◌, ◌↔◌, ◌≤◌, ◌+◌, ◌++◌, ℕ, List, length, IfOk, OnErr, IsTrue, vec_capacity};
 ghost use Rattle.xa_base.specs.Lists.{IsUpTo};
-ghost use Rattle.xa_desk.specs.DeskView.{ledger, room_at};
-ghost use Rattle.xa_desk.specs.GoesOn.{GoesOn};
+ghost use Rattle.xa_desk.specs.DeskViews.{ledger, room_at};
+ghost use Rattle.xa_desk.specs.GoingOn.{GoesOn};
 ghost use Rattle.xa_desk.specs.Kept.{AllKept};
 ghost use Rattle.xa_calls.specs.Scans.{Answers};
 ghost use Rattle.xa_scan.specs.Left.{left_at};

@@ -1,8 +1,8 @@
 //! A round of requests to several managers, request by request.
 ghost use Rattle.std.specs.Prelude.{◌≡◌, ◌+◌, ◌≤◌, ◌↔◌, List, [], length, true, false, IfOk, IsTrue, MatchOption};
 ghost use Rattle.std.specs.Prelude.{min, take};
-ghost use Rattle.xa_desk.specs.DeskView.{DeskView, outstanding};
-ghost use Rattle.xa_desk.specs.GoesOn.{GoesOn};
+ghost use Rattle.xa_desk.specs.DeskViews.{DeskView, outstanding};
+ghost use Rattle.xa_desk.specs.GoingOn.{GoesOn};
 ghost use Rattle.xa_desk.specs.Kept.{AllKept};
 ghost use Rattle.xa_driver.specs.Asks.{Ask, AllCanAsk, AreRising, Asks, KeepsTheRest, SameAsks, among_asks};
 ghost use Rattle.xa_driver.specs.Idling.{IdlesAt, IdlesToCollect, IdlesToSend};

@@ -5,8 +5,8 @@
 //! out one by one. A coordinator that dies lets go of the stage that it holds, or leaves the round that it is in. That
 //! takes a call: a program that just drops a stage doesn't compile, so no commit is cut short unawares.
 ghost use Rattle.std.specs.Prelude.{◌≡◌, ◌≤◌, ◌↔◌, List, map, length, IfOk, IfErr, IfSome, IsTrue, OnErr, OnOk, None};
-ghost use Rattle.xa_desk.specs.DeskView.{DeskView};
-ghost use Rattle.xa_desk.specs.GoesOn.{GoesOn};
+ghost use Rattle.xa_desk.specs.DeskViews.{DeskView};
+ghost use Rattle.xa_desk.specs.GoingOn.{GoesOn};
 ghost use Rattle.xa_desk.specs.Kept.{AllKept};
 ghost use Rattle.xa_driver.specs.declared.branch.Branch.{Branch};
 ghost use Rattle.xa_driver.specs.Asks.{KeepsTheRest, among_asks};

@@ -1,11 +1,9 @@
 -- A commit in an opening and a resolve in the one after the next, with nothing else in any.
 use Rattle.xa_base.proofs.{◌≡◌, ◌≢◌, ℕ, ◌≤◌, List, [], ◌∷◌, length, refl, sym, ap, subst, All, All-nil, All-cons}
 use Rattle.xa_words.specs.{TranName, RmFail}
-use Rattle.xa_desk.specs.LedgerView.{LedgerView}
-use Rattle.xa_switch.specs.{reopening, IsOf, IsScanOf, IsSettled}
+use Rattle.xa_desk.specs.{LedgerView}
+use Rattle.xa_switch.specs.{reopening, IsOf, IsScanOf, IsSettled, Settling, Again}
 use Rattle.xa_scan.specs.{ScanView}
-use Rattle.xa_switch.specs.Settling.{Settling}
-use Rattle.xa_switch.specs.declared.plan.Again.{Again}
 use Rattle.xa_driver.specs.{Outcome}
 use Rattle.xa_log.specs.{Records, record_in}
 use Rattle.xa_atomicity.specs.{AreLeftOrDecided, sent_so_far, CommitCall, ResolveCall, Opening, commits, resolve_call, resolves, with_use, Continues}

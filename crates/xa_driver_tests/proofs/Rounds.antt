@@ -1,9 +1,7 @@
 -- A round that goes on is still the round of its stage.
 use Rattle.xa_base.proofs.{◌≡◌, List, map, sym, ap, ◌∙◌, subst}
-use Rattle.xa_desk.specs.LedgerView.{LedgerView}
-use Rattle.xa_desk.specs.DeskView.{DeskView}
+use Rattle.xa_desk.specs.{LedgerView, DeskView, GoesOn}
 use Rattle.xa_driver.specs.{Round, Told, Forgetting, Ask, HaveComeSoFar, SameAsks, third_ask, IsForgetting, IsUnderWay}
-use Rattle.xa_desk.specs.GoesOn.{GoesOn}
 
 -- what a step of a round keeps
 abbrev Steps : Round → Round → Type 0

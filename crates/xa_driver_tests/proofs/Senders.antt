@@ -4,12 +4,10 @@ use Rattle.xa_base.proofs.{None, inl, inr, eq-eqb, sym, refl, ap, ◌∙◌, sub
 use Rattle.xa_base.proofs.{All-nil, slice_get_within, all_right}
 use Rattle.xa_words.specs.{TranName, XidName, Op, Shut, Request}
 use Rattle.xa_tables.specs.{is_heur, names}
-use Rattle.xa_desk.specs.LedgerView.{LedgerView}
-use Rattle.xa_desk.specs.{new_ledger, ledger, no_ledger, sent_to, is_known, EndedView, numbered}
-use Rattle.xa_desk.specs.DeskView.{DeskView}
+use Rattle.xa_desk.specs.{LedgerView, new_ledger, ledger, no_ledger, sent_to, is_known, EndedView, numbered, DeskView}
 use Rattle.xa_worker.specs.{WorkerView}
 use Rattle.xa_switch.specs.{thread_part, history as history_of, ledgers_of, AreOfOneOpening, Setup, ThreadPart, IsSettled, sent, find_thread, ledgers_in}
-use Rattle.xa_switch.specs.Settling.{Settling}
+use Rattle.xa_switch.specs.{Settling}
 use Rattle.xa_driver.specs.{Branch}
 use Rattle.xa_atomicity.specs.{AreLeftOrDecided, OnlyTheseOrDecisionsName, sent_so_far, ResolveCall, resolves, OnlyResolves}
 use Rattle.xa_atomicity.proofs.Placing.{request_of}

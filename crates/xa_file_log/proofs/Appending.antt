@@ -1,6 +1,5 @@
 -- What an append leaves, first of the gates that are shut, then of the record.
-use Rattle.std.proofs.Common.{arith}
-use Rattle.xa_base.proofs.{◌≡◌, ◌⊎◌, inl, inr, ⊎_elim, ℕ, ◌<◌, None, List, length, get_or, map, set, ◌∙◌, ap, subst}
+use Rattle.xa_base.proofs.{arith, ◌≡◌, ◌⊎◌, inl, inr, ⊎_elim, ℕ, ◌<◌, None, List, length, get_or, map, set, ◌∙◌, ap, subst}
 use Rattle.std.specs.FinMap as finmap
 use Rattle.xa_log.specs.{CommitRecord, Records, record_in}
 use Rattle.xa_file_log.specs.{Slot, Free, Taken, HasWithOrWithout, ForgetsNoMore, LeavesOnly, records_of, MayShow, records_in, forgotten_in, shut}

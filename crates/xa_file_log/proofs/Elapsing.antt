@@ -1,7 +1,6 @@
 -- One call more.
-use Rattle.std.proofs.Common.{rules}
-use Rattle.xa_base.proofs.{◌≡◌, ◌⊎◌, inl, inr, ℕ, ◌+◌, ◌<◌, ◌≤◌, Bool, true, false, cond, List, [], ◌∷◌, ◌++◌, length, take, Vec, refl, sym, ◌∙◌, ap, subst}
-use Rattle.xa_base.proofs.{arith, length-append, take_all, cases_lt}
+use Rattle.xa_base.proofs.{rules, ◌≡◌, ◌⊎◌, inl, inr, ℕ, ◌+◌, ◌<◌, ◌≤◌, Bool, true, false, cond, List, [], ◌∷◌, ◌++◌, length, take, Vec, refl, sym, ◌∙◌, ap}
+use Rattle.xa_base.proofs.{subst, arith, length-append, take_all, cases_lt}
 use Rattle.std.specs.declared.alloc.Global.{Global}
 use Rattle.std.proofs.lemmas.List.{take-append-le}
 use Rattle.xa_file_log.specs.{Elapses, Follows, Torn, Past, left_after, left_by, leaves, writing, LeftSince, failed, failures, Call}

@@ -1,7 +1,6 @@
 -- The records of slots in which several are placed.
-use Rattle.std.proofs.Common.{rules}
-use Rattle.xa_base.proofs.{◌≡◌, ◌⊎◌, inl, inr, ⊎_elim, ℕ, zero, suc, ◌+◌, ◌<◌, Bool, Option, None, Some, List, [], ◌∷◌, length, get_or, map, set, refl, sym}
-use Rattle.xa_base.proofs.{◌∙◌, ap, subst, arith, All, Contains, length-set, get_or-set_same, get_or_default, find}
+use Rattle.xa_base.proofs.{rules, ◌≡◌, ◌⊎◌, inl, inr, ⊎_elim, ℕ, zero, suc, ◌+◌, ◌<◌, Bool, Option, None, Some, List, [], ◌∷◌, length, get_or, map, set, refl}
+use Rattle.xa_base.proofs.{sym, ◌∙◌, ap, subst, arith, All, Contains, length-set, get_or-set_same, get_or_default, find}
 use Rattle.std.proofs.lemmas.List.Sums.{sum_by-cons}
 use Rattle.std.specs.FinMap as finmap
 use Rattle.xa_words.specs.{TranName}

@@ -1,9 +1,7 @@
 -- How the index of the slots' transactions goes on.
-use Rattle.std.proofs.Common.{rules}
-use Rattle.std.proofs.Common.{arith}
-use Rattle.xa_base.proofs.{◌≡◌, ◌⊎◌, inl, inr, ℕ, zero, suc, ◌<◌, Bool, true, false, cond, Option, None, Some, List, [], length, get_or, set, replicate, refl}
-use Rattle.xa_base.proofs.{sym, ◌∙◌, ap, subst, IfSome, cases_eq, cases_lt, get_or-set_same, get_or-set_other, eq_by_cmp, FinMap, find, get-insert}
-use Rattle.xa_base.proofs.{get-from_entries}
+use Rattle.xa_base.proofs.{rules, arith, ◌≡◌, ◌⊎◌, inl, inr, ℕ, zero, suc, ◌<◌, Bool, true, false, cond, Option, None, Some, List, [], length, get_or, set}
+use Rattle.xa_base.proofs.{replicate, refl, sym, ◌∙◌, ap, subst, IfSome, cases_eq, cases_lt, get_or-set_same, get_or-set_other, eq_by_cmp, FinMap, find}
+use Rattle.xa_base.proofs.{get-insert, get-from_entries}
 use Rattle.std.specs.Prelude.{IfNone}
 use Rattle.std.proofs.lemmas.List.{get_or_past}
 use Rattle.std.specs.FinMap as finmap

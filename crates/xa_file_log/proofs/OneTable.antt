@@ -1,6 +1,5 @@
 -- A file stands for one table at most.
-use Rattle.std.proofs.Common.{rules}
-use Rattle.xa_base.proofs.{◌≡◌, ℕ, Option, None, Some, List, [], ◌∷◌, length, get_or, take, drop, refl, sym, ◌∙◌, ap, arith}
+use Rattle.xa_base.proofs.{rules, ◌≡◌, ℕ, Option, None, Some, List, [], ◌∷◌, length, get_or, take, drop, refl, sym, ◌∙◌, ap, arith}
 use Rattle.std.proofs.lemmas.List.{ext_get_or}
 use Rattle.xa_log.specs.{CommitRecord, Records}
 use Rattle.xa_file_log.specs.{spelling, Table, slot, IsSlotOf, StandsFor, HasRecords, records_of}

@@ -1,6 +1,5 @@
 -- What a crash leaves of a write over bytes that are on the disk, and of its sync.
-use Rattle.std.proofs.Common.{arith}
-use Rattle.xa_base.proofs.{◌≡◌, inr, ℕ, ◌+◌, ◌≤◌, List, length, refl, subst}
+use Rattle.xa_base.proofs.{arith, ◌≡◌, inr, ℕ, ◌+◌, ◌≤◌, List, length, refl, subst}
 use Rattle.xa_file_log.specs.{overwritten, Elapses, Follows, IsOverwritten, LeavesOnly, Only, Torn}
 use Rattle.xa_file_log.proofs.Moments.{started, goes_on}
 use Rattle.xa_file_log.proofs.Overwrites.{torn_is_overwritten, unwritten}

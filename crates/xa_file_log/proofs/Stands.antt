@@ -1,7 +1,6 @@
 -- What a file has of its slots, and how a write within one of them changes it.
-use Rattle.std.proofs.Common.{rules}
-use Rattle.xa_base.proofs.{◌≡◌, ◌≢◌, inl, inr, ⊎_elim, ℕ, ◌+◌, ◌*◌, ◌<◌, ◌≤◌, Option, None, Some, List, [], ◌∷◌, ◌++◌, length, get_or, map, set, take, drop}
-use Rattle.xa_base.proofs.{refl, sym, ◌∙◌, ap, subst, arith, length-set, length-append, length-drop, cases_eq, cases_lt, length-map, get_or-set_same}
+use Rattle.xa_base.proofs.{rules, ◌≡◌, ◌≢◌, inl, inr, ⊎_elim, ℕ, ◌+◌, ◌*◌, ◌<◌, ◌≤◌, Option, None, Some, List, [], ◌∷◌, ◌++◌, length, get_or, map, set, take}
+use Rattle.xa_base.proofs.{drop, refl, sym, ◌∙◌, ap, subst, arith, length-set, length-append, length-drop, cases_eq, cases_lt, length-map, get_or-set_same}
 use Rattle.xa_base.proofs.{get_or-set_other}
 use Rattle.std.proofs.lemmas.List.{length-take-le, take-take, take_at, drop-drop}
 use Rattle.xa_log.specs.{CommitRecord}
@@ -195,5 +194,5 @@ module _ (slots : List Slot) (k : ℕ) {file : List ℕ} (stands : StandsFor (ta
       let has = slots_of whole_part slots (subst (StandsFor (table_of slots)) (sym is) (staged body free size)) in
       let there : HasBody k r now = subst (HasBody k r) (sym is) (stage_body body r free size spells) in
       let with_it : HasSlots (length slots) (Has on_file (set slots k (Taken r))) (overwritten now (18 + 94 * k) (255 ∷ [])) =
-          search (arith, gate_written, get_or-set_same, open_slot, get_or-set_other) in
+      search (arith, gate_written, get_or-set_same, open_slot, get_or-set_other) in
       stands_of whole_part (set slots k (Taken r)) (slots_as (length-set slots k (Taken r)) with_it (λ j here is. is)) (apart_set slots k r below new stands.apart)

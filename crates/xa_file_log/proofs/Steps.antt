@@ -1,6 +1,5 @@
 -- What a crash leaves in each of the two steps of a record.
-use Rattle.std.proofs.Common.{arith}
-use Rattle.xa_base.proofs.{◌≡◌, ◌⊎◌, inl, inr, ⊎_elim, ℕ, ◌+◌, ◌*◌, ◌<◌, List, [], ◌∷◌, length, get_or, set, refl, subst, sym, ◌∙◌}
+use Rattle.xa_base.proofs.{arith, ◌≡◌, ◌⊎◌, inl, inr, ⊎_elim, ℕ, ◌+◌, ◌*◌, ◌<◌, List, [], ◌∷◌, length, get_or, set, refl, subst, sym, ◌∙◌}
 use Rattle.xa_log.specs.{CommitRecord}
 use Rattle.xa_file_log.specs.{Slot, Free, Taken, overwritten, IsOverwritten, LeavesOnly, spelling, IsValid, StandsFor, table_of, HasNoName}
 use Rattle.xa_file_log.proofs.Moments.{weaker, joined}

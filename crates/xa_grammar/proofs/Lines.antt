@@ -7,8 +7,8 @@ use Rattle.std.specs.Io.BufRead.{ends_with_byte}
 use Rattle.std.proofs.lemmas.List.Folds.{list_all-append, list_all_more}
 use Rattle.xa_grammar.proofs.Splits.{onto_parts}
 use Rattle.xa_grammar.specs.{TooManyLines, LineTooLong, ScriptFault, lines_of, without_return, HasNoEnd, line_of, after_line, script_from, Fails, FailsAt}
+use Rattle.xa_grammar.specs.{Content}
 use Rattle.xa_grammar.specs.declared.fault.ScriptFault.TheVariants as faults
-use Rattle.xa_grammar.specs.Content.{Content}
 
 -- The first byte of bytes without a line feed is none.
 is_no_end : (b : ℕ) (line : List ℕ) → HasNoEnd (b ∷ line) → (b == 10) ≡ false

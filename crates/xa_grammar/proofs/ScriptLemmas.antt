@@ -14,12 +14,11 @@ use Rattle.xa_grammar.specs.{Reason, KeyTwice, TooManyKeys, OutOfRange, BadNumbe
 use Rattle.xa_grammar.specs.{Threads, Managers, Item, is_script_byte, words_of, Word, end_of, number_of, number_in, number_at, ScriptStep, IsScript}
 use Rattle.xa_grammar.specs.{IsOfManager, IsOfLog, IsOfUnknown, IsOfScript, threads_of, managers_of, accounts_of, failing_append, unknown_append, with_count}
 use Rattle.xa_grammar.specs.{with_key, with_failing, with_unknown, with_step, before_actions, count_of, not_set, limit_of, setting_of, logfail_of, is_kept}
-use Rattle.xa_grammar.specs.{logunknown_of, has_key, key_count, declared_of, turn_of, item_of, line_of}
+use Rattle.xa_grammar.specs.{logunknown_of, has_key, key_count, declared_of, turn_of, item_of, line_of, Content}
 use Rattle.xa_grammar.specs.declared.step.Step.TheVariants as step
 use Rattle.xa_grammar.specs.declared.script.Count.{Count}
 use Rattle.xa_grammar.specs.Fields.{◌>>=◌, word_at, key_at}
 use Rattle.xa_base.specs.{IsUpTo}
-use Rattle.xa_grammar.specs.Content.{Content}
 
 -- ---- reading without a fault
 

@@ -15,7 +15,7 @@ use Rattle.xa_grammar.specs.declared.action.TheConstants.{MOST_HANDLE, MOST_COUN
 use Rattle.xa_grammar.specs.declared.commit.TheConstants.{MOST_MANAGER}
 use Rattle.xa_grammar.specs.Fields.{◌>>=◌, Word, word_at, end_of, number_in, number_at, key_at, xid_at, delta_at}
 use Rattle.xa_grammar.specs.Fields.{flags_onto}
-use Rattle.xa_grammar.specs.Content.{Content, threads_of, managers_of}
+use Rattle.xa_grammar.specs.Contents.{Content, threads_of, managers_of}
 use Rattle.xa_grammar.specs.Steps.{ScriptCalling, ScriptCalled, ScriptAction, ScriptTask}
 use Rattle.xa_grammar.specs.Commits.{commit_of}
 

@@ -13,7 +13,7 @@ use Rattle.xa_grammar.specs.declared.step.CommitAll.{CommitAll}
 use Rattle.xa_grammar.specs.declared.named.Named.{Named}
 use Rattle.xa_grammar.specs.declared.commit.TheConstants.{MOST_MANAGER, MOST_ANSWERS}
 use Rattle.xa_grammar.specs.Fields.{◌>>=◌, Word, word_at, end_of, number_in, number_at, tran_at}
-use Rattle.xa_grammar.specs.Content.{Content, managers_of}
+use Rattle.xa_grammar.specs.Contents.{Content, managers_of}
 
 -- ---- where the coordinator dies
 

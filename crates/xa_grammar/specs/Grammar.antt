@@ -17,8 +17,8 @@ use Rattle.xa_grammar.specs.Items.{Item}
 use Rattle.xa_grammar.specs.Items as item
 use Rattle.xa_grammar.specs.Text.{hash, lines_of, words_of, without_return, is_script_byte}
 use Rattle.xa_grammar.specs.Fields.{◌>>=◌, Word, all_digits}
-use Rattle.xa_grammar.specs.Content.{Content, nothing, with_count, with_key, with_sync, with_failing, with_unknown}
-use Rattle.xa_grammar.specs.Content.{with_step}
+use Rattle.xa_grammar.specs.Contents.{Content, nothing, with_count, with_key, with_sync, with_failing, with_unknown}
+use Rattle.xa_grammar.specs.Contents.{with_step}
 use Rattle.xa_grammar.specs.Settings.{setting_of, sync_of, logfail_of, logunknown_of, declared_of}
 use Rattle.xa_grammar.specs.Actions.{task_on, turn_of, reopen_of}
 

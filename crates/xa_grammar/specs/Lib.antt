@@ -3,7 +3,7 @@ pub mod Faults
 pub mod Fields
 pub mod Steps
 pub mod Spelling
-pub mod Content
+pub mod Contents
 pub mod Settings
 pub mod Found
 pub mod Commits
@@ -24,10 +24,10 @@ unfoldable pub use Fields.{delta_at, flags_onto, number_at, tran_at, xid_at}
 pub use Steps.{ActionHas, CallHas, Computes, ScriptAction, ScriptCalled, ScriptCalling, ScriptStep, ScriptTask, StepHas}
 pub use Steps.{action_with, call_with, step_with}
 pub use Spelling.{IsShort, IsShortGtrid, IsShortName, Spells, SpellsName}
-pub use Content.{AreOfOne, AsksForFew, Fits, HasFewXids, IsOfLog, IsOfManager, IsOfScript, IsOfUnknown, IsScript}
-pub use Content.{accounts_of, carries_async, failing_append, handles_of, is_reopen, managers_of, nothing, queue_of}
-pub use Content.{requests_of, task_of, tasks_of, threads_of, unknown_append, with_count, with_failing, with_key}
-pub use Content.{with_setting, with_step, with_sync, with_unknown}
+pub use Contents.{AreOfOne, AsksForFew, Content, Fits, HasFewXids, IsOfLog, IsOfManager, IsOfScript, IsOfUnknown}
+pub use Contents.{IsScript, accounts_of, carries_async, failing_append, handles_of, is_reopen, managers_of, nothing}
+pub use Contents.{queue_of, requests_of, task_of, tasks_of, threads_of, unknown_append, with_count, with_failing}
+pub use Contents.{with_key, with_setting, with_step, with_sync, with_unknown}
 pub use Settings.{before_actions, count_of, fates, has_key, is_kept, key_count, limit_of, new_key, not_set}
 unfoldable pub use Settings.{declared_of, logfail_of, logunknown_of, setting_of, sync_of}
 pub use Found.{Finds, is_same}

@@ -4,7 +4,7 @@ use Rattle.xa_grammar.specs.declared.step.Task.{Task}
 use Rattle.xa_grammar.specs.declared.step.Step.{Step}
 use Rattle.xa_grammar.specs.declared.step.Step.TheVariants as step
 use Rattle.xa_grammar.specs.Steps.{ScriptTask, ScriptStep}
-use Rattle.xa_grammar.specs.Content.{task_of}
+use Rattle.xa_grammar.specs.Contents.{task_of}
 
 -- the task that a step is
 abbrev pub task_in : {X G K : Type 0} → Step X G K → Option (Task X G K)

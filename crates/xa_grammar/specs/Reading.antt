@@ -2,7 +2,7 @@
 use Rattle.std.specs.Prelude.{◌≡◌, ℕ, Bool, true, List, ◌++◌}
 use Rattle.xa_grammar.specs.declared.fault.ScriptFault.{ScriptFault}
 use Rattle.xa_grammar.specs.declared.read.Reading.{Reading}
-use Rattle.xa_grammar.specs.Content.{AreOfOne}
+use Rattle.xa_grammar.specs.Contents.{AreOfOne}
 use Rattle.xa_grammar.specs.Text.{lines_of}
 use Rattle.xa_grammar.specs.Grammar.{Outcome, script_from, script_of, Fails}
 

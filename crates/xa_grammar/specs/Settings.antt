@@ -19,7 +19,7 @@ use Rattle.xa_grammar.specs.declared.script.Declared.{Declared}
 use Rattle.xa_grammar.specs.declared.script.UnknownAppend.{UnknownAppend}
 use Rattle.xa_grammar.specs.Steps.{ScriptStep}
 use Rattle.xa_grammar.specs.Fields.{◌>>=◌, Word, word_at, end_of, number_at, key_at}
-use Rattle.xa_grammar.specs.Content.{Content, threads_of, managers_of}
+use Rattle.xa_grammar.specs.Contents.{Content, threads_of, managers_of}
 
 -- Settings stand before the first action.
 abbrev pub before_actions : List ScriptStep → Result (Unit {0}) Reason

@@ -7,7 +7,7 @@ use Rattle.xa_grammar.specs.declared.fault.LineFault.TheVariants as fault
 use Rattle.xa_grammar.specs.declared.step.Step.TheVariants as step
 use Rattle.xa_grammar.specs.Fields.{◌>>=◌}
 use Rattle.xa_grammar.specs.Steps.{ScriptAction, ScriptTask}
-use Rattle.xa_grammar.specs.Content.{Content}
+use Rattle.xa_grammar.specs.Contents.{Content}
 use Rattle.xa_grammar.specs.Items.{Item}
 use Rattle.xa_grammar.specs.Items as item
 use Rattle.xa_grammar.specs.Grammar.{with_item}

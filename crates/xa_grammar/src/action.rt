@@ -1,7 +1,7 @@
 //! What a thread is told to do.
 ghost use Rattle.std.specs.Prelude.{◌≡◌, ◌≤◌, IfOk};
 ghost use Rattle.xa_base.specs.Lists.{IsUpTo};
-ghost use Rattle.xa_grammar.specs.Content.{AsksForFew, threads_of};
+ghost use Rattle.xa_grammar.specs.Contents.{AsksForFew, threads_of};
 ghost use Rattle.xa_grammar.specs.Fields.{Takes};
 ghost use Rattle.xa_grammar.specs.Actions.{verb_of, calling_at, call_of, action_of, task_on, turn_of, reopen_of};
 ghost use Rattle.xa_grammar.specs.Taking.{Gives, with_item_in, task_item, as_task};

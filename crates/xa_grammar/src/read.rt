@@ -1,7 +1,7 @@
 //! Reading a script to its end.
 ghost use Rattle.std.specs.Prelude.{◌≡◌, ◌≤◌, true, length, IfOk, IfSome};
 ghost use Rattle.xa_grammar.specs.Text.{HasNoEnd};
-ghost use Rattle.xa_grammar.specs.Content.{AreOfOne};
+ghost use Rattle.xa_grammar.specs.Contents.{AreOfOne};
 ghost use Rattle.xa_grammar.specs.Grammar.{Reads, script_of};
 
 use crate::fault::{Reason, ScriptFault};
@@ -35,7 +35,7 @@ impl Reading {
     ghost use Rattle.std.specs.Prelude.{◌≡◌, true, [], ◌∷◌, ◌++◌, OnOk, IfOk, IfErr, IfSome};
     ghost use Rattle.xa_grammar.specs.Text.{line_feed, HasNoEnd};
     ghost use Rattle.xa_grammar.specs.Grammar.{Reads, Fails};
-    ghost use Rattle.xa_grammar.specs.Content.{AreOfOne};
+    ghost use Rattle.xa_grammar.specs.Contents.{AreOfOne};
     ghost use Rattle.xa_grammar.specs.Reading.{goes_on, IsFresh, HasTaken, StaysOne, FailsOn};
 
     fn new(alloc: Global, threads_mode: bool) -> Result<Reading, AllocError>

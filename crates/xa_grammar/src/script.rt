@@ -74,7 +74,7 @@ pub struct Script {
 
 impl Model for Script {
     ghost use Rattle.std.specs.Arc.{arc_value};
-    ghost use Rattle.xa_grammar.specs.Content.{Content, IsScript};
+    ghost use Rattle.xa_grammar.specs.Contents.{Content, IsScript};
 
     ghost Value = { Content };
 
@@ -100,11 +100,12 @@ impl Model for Script {
 impl Script {
     ghost use Rattle.xa_tables.specs.Accounts.{are_accounts};
     ghost use Rattle.std.specs.List.{list_any};
-    ghost use Rattle.xa_grammar.specs.Content.{is_reopen, tasks_of, accounts_of, IsOfManager, IsOfScript, IsScript};
-    ghost use Rattle.xa_grammar.specs.Content.{threads_of, managers_of, handles_of, queue_of, requests_of};
-    ghost use Rattle.xa_grammar.specs.Content.{carries_async, failing_append, nothing, with_count, with_key, with_sync};
-    ghost use Rattle.xa_grammar.specs.Content.{unknown_append, with_failing, with_unknown, with_step};
-    ghost use Rattle.xa_grammar.specs.Content.{HasFewXids};
+    ghost use Rattle.xa_grammar.specs.Contents.{is_reopen, tasks_of, accounts_of, IsOfManager, IsOfScript, IsScript};
+    ghost use Rattle.xa_grammar.specs.Contents.{threads_of, managers_of, handles_of, queue_of, requests_of};
+    ghost use Rattle.xa_grammar.specs.Contents.{carries_async, failing_append, nothing, with_count, with_key};
+    ghost use Rattle.xa_grammar.specs.Contents.{with_sync};
+    ghost use Rattle.xa_grammar.specs.Contents.{unknown_append, with_failing, with_unknown, with_step};
+    ghost use Rattle.xa_grammar.specs.Contents.{HasFewXids};
     ghost use Rattle.xa_grammar.specs.KeptSteps.{task_step, HasSmallThread};
 
     pub(crate) fn new(alloc: Global) -> Result<Script, AllocError>

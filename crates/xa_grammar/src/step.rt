@@ -5,7 +5,7 @@
 //! the script (name.rt).
 ghost use Rattle.std.specs.Prelude.{◌≡◌};
 ghost use Rattle.std.specs.Fn.{FnOnceReturnsAt, FnOnceTakesAt};
-ghost use Rattle.xa_grammar.specs.Content.{is_reopen};
+ghost use Rattle.xa_grammar.specs.Contents.{is_reopen};
 ghost use Rattle.xa_grammar.specs.OwnTasks.{is_own};
 ghost use Rattle.xa_grammar.specs.Steps.{CallHas, ActionHas, StepHas, Computes, call_with, action_with, step_with};
 

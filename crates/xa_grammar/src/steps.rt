@@ -3,7 +3,7 @@
 ghost use Rattle.std.specs.Prelude.{◌≡◌, ◌<◌, ◌^◌, ◌++◌, ◌∷◌, [], ℕ, List, Some, length, slice_get, All, IfOk, OnOk};
 ghost use Rattle.std.specs.Prelude.{OnErr};
 ghost use Rattle.std.specs.List.{list_any};
-ghost use Rattle.xa_grammar.specs.Content.{is_reopen};
+ghost use Rattle.xa_grammar.specs.Contents.{is_reopen};
 ghost use Rattle.xa_grammar.specs.OwnTasks.{own_steps, steps_at};
 ghost use Rattle.xa_grammar.specs.Spelling.{Spells, IsShort};
 ghost use Rattle.xa_grammar.specs.KeptSteps.{name_at, gtrid_at, key_at, IsName, IsGtrid, IsKey, IsNamed, step_at};

@@ -1,7 +1,7 @@
 //! A teller's day: its transfers one after the other, of which it tells as each is made.
 ghost use Rattle.std.specs.Prelude.{◌≡◌, ◌<◌, pos};
 ghost use Rattle.xa_bank.specs.Transfers.{gtrid_of};
-ghost use Rattle.xa_desk.specs.GoesOn.{GoesOn};
+ghost use Rattle.xa_desk.specs.GoingOn.{GoesOn};
 ghost use Rattle.xa_desk.specs.Kept.{AllKept};
 
 use crate::fault::Fault;

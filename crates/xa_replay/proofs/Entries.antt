@@ -1,10 +1,8 @@
 -- Replays that go one entry further.
 use Rattle.xa_base.proofs.{◌≡◌, ℕ, suc, ◌+◌, ◌==◌, Bool, true, false, cond, List, [], ◌∷◌, ◌++◌, map, append-nil, sym, ap, ◌∙◌, arith, filter, range_with_len}
 use Rattle.xa_base.proofs.{map-append, filter-append, range_suc}
-use Rattle.xa_words.specs.declared.code.Code.{Code}
-use Rattle.xa_words.specs.{Request}
-use Rattle.xa_tables.specs.Tables.{Tables}
-use Rattle.xa_tables.specs.{next}
+use Rattle.xa_words.specs.{Code, Request}
+use Rattle.xa_tables.specs.{Tables, next}
 use Rattle.xa_worker.specs.{Entry, Follows, entry_next, requests}
 use Rattle.xa_worker.proofs.Journals.{follows_more}
 use Rattle.xa_replay.specs.{numbers_of}

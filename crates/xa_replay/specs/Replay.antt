@@ -5,9 +5,9 @@ use Rattle.std.specs.FinMap as finmap
 use Rattle.xa_base.specs.Lists.{IsUpTo}
 use Rattle.xa_words.specs.declared.code.Code.TheVariants.{Done}
 use Rattle.xa_words.specs.declared.request.Op.TheVariants.{OpenRm}
-use Rattle.xa_tables.specs.Tables.{Tables}
+use Rattle.xa_tables.specs.ManagerTables.{Tables}
 use Rattle.xa_tables.specs.Managers.{opening}
-use Rattle.xa_tables.specs.History.{of_thread}
+use Rattle.xa_tables.specs.Histories.{of_thread}
 use Rattle.xa_worker.specs.Journal.{Entry, Follows, requests}
 
 -- the numbers of thread t's requests in a journal, in its order

@@ -2,15 +2,11 @@
 use Rattle.xa_base.proofs.{◌≡◌, List, [], ◌++◌, sym, refl, ap, ◌∙◌, append-nil, append_assoc}
 use Rattle.xa_base.specs.{Chain, Pairwise}
 use Rattle.xa_base.specs.Lists.Chain.{none, more}
-use Rattle.xa_desk.specs.DeskView.{DeskView}
-use Rattle.xa_desk.specs.{EndedView}
-use Rattle.xa_desk.specs.GoesOn.{GoesOn}
+use Rattle.xa_desk.specs.{DeskView, EndedView, GoesOn}
 use Rattle.xa_worker.specs.{WorkerView, Served}
-use Rattle.xa_switch.specs.{Setup, IsSettled, settling, IsOf}
-use Rattle.xa_switch.specs.Settling.{Settling}
+use Rattle.xa_switch.specs.{Setup, IsSettled, settling, IsOf, Settling}
 use Rattle.xa_crew.specs.{HasServed, ArePiecesOf}
-use Rattle.xa_grammar.specs.{ScriptStep}
-use Rattle.xa_grammar.specs.Content.{Content}
+use Rattle.xa_grammar.specs.{ScriptStep, Content}
 use Rattle.xa_transcript.specs.{Told, all_ended}
 use Rattle.xa_session.specs.{Session}
 use Rattle.xa_telling.specs.{Beginning, Ran}

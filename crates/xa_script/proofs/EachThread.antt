@@ -11,7 +11,7 @@ use Rattle.xa_session.specs.{Session, Does, ScriptThread, HasDone, told_of}
 use Rattle.xa_transcript.specs.{Told, all_ended}
 use Rattle.xa_base.specs.{Chain, Pairwise}
 use Rattle.xa_base.specs.Lists.Chain.{none, more}
-use Rattle.xa_words.specs.declared.code.Code.{Code}
+use Rattle.xa_words.specs.{Code}
 use Rattle.xa_crew.specs.{EndsDesk, Member}
 use Rattle.xa_script.specs.{told_by, TurnsAt, Closing, HasCalled, HasTurned, HasStepped, HasEndedDesk}
 use Rattle.xa_telling.specs.{is_to, answers_to}

@@ -1,8 +1,8 @@
 -- The lines of what was outstanding, among all answers.
-use Rattle.xa_base.proofs.{◌≡◌, ◌≢◌, ℕ, ◌==◌, false, cond, List, [], ◌∷◌, ◌++◌, refl, ap, ◌∙◌, eq-eqb, eqb-true, false_from_ne_true}
+use Rattle.xa_base.proofs.{◌≡◌, ◌≢◌, ℕ, ◌==◌, false, cond, List, [], ◌∷◌, refl, ap, ◌∙◌, eq-eqb, eqb-true, false_from_ne_true}
 use Rattle.xa_base.specs.{Chain}
 use Rattle.xa_base.specs.Lists.Chain.{none, more}
-use Rattle.xa_words.specs.declared.code.Code.{Code}
+use Rattle.xa_words.specs.{Code}
 use Rattle.xa_grammar.specs.declared.step.Step.TheVariants as step
 use Rattle.xa_grammar.specs.{ScriptTask, ScriptStep}
 use Rattle.xa_transcript.specs.{Told, ended, all_ended}

@@ -5,7 +5,7 @@ use Rattle.xa_grammar.specs.{Reason, script_of}
 use Rattle.xa_grammar.specs.declared.fault.ScriptFault.TheVariants as script
 use Rattle.xa_transcript.specs.declared.writing.RunFault.TheVariants as run
 use Rattle.xa_command.specs.{Mode, AreWords, IsMode}
-use Rattle.xa_script.specs.{Fault, Usage, NoMemory, Script, Run, status_of, has_threads, IsJudged, IsFaulty, FailsBy}
+use Rattle.xa_script.specs.{Fault, NoMemory, Script, Run, status_of, has_threads, IsJudged, IsFaulty, FailsBy}
 
 -- with another status than 4 nothing is shown
 shows_nothing : (fault : Fault) (m : Mode) (bytes before after : Option (List ℕ)) → FailsBy fault m bytes before after → status_of fault < 4 → after ≡ before

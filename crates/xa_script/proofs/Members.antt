@@ -1,13 +1,11 @@
 -- What the threads of a script came to as a crew.
-use Rattle.xa_base.proofs.{◌≡◌, ◌+◌, ◌<◌, ℕ, zero, suc, List, [], ◌∷◌, ◌++◌, Some, length, map, false, refl, ap, ◌∙◌, sym, subst, arith, All, slice_get}
-use Rattle.xa_base.proofs.{flat_map, range_with_len, got_map, slice_get_within, slice_get-get_or, all_at, some_same, length-range_with_len}
-use Rattle.xa_base.proofs.{get_or-range_with_len}
+use Rattle.xa_base.proofs.{◌≡◌, ◌+◌, ◌<◌, ℕ, zero, suc, List, [], ◌∷◌, Some, length, map, false, refl, ap, ◌∙◌, sym, subst, arith, All, slice_get, flat_map}
+use Rattle.xa_base.proofs.{range_with_len, got_map, slice_get_within, slice_get-get_or, all_at, some_same, length-range_with_len, get_or-range_with_len}
 use Rattle.std.proofs.lemmas.List.Folds.{flat_map-map}
 use Rattle.xa_base.specs.{Chain, Pairwise}
 use Rattle.xa_transcript.specs.{opened, Told}
 use Rattle.xa_worker.specs.{WorkerView}
-use Rattle.xa_grammar.specs.{tasks_of, threads_of}
-use Rattle.xa_grammar.specs.Content.{Content}
+use Rattle.xa_grammar.specs.{tasks_of, threads_of, Content}
 use Rattle.xa_crew.specs.{Attended, Member, HasRun}
 use Rattle.xa_session.specs.{ScriptThread, Session, session_of, log_of, HasDone, IsNew, Works}
 use Rattle.xa_telling.specs.{AreOpened}

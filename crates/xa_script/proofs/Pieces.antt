@@ -1,11 +1,8 @@
 -- The desks and the workers of a run in turns are all those of its opening.
 use Rattle.xa_base.proofs.{List, [], map, ◌∙◌, subst, sym, arith, length-map, slice_get_within, got, was_mapped}
-use Rattle.xa_desk.specs.DeskView.{DeskView}
-use Rattle.xa_desk.specs.{EndedView}
-use Rattle.xa_desk.specs.GoesOn.{GoesOn}
+use Rattle.xa_desk.specs.{DeskView, EndedView, GoesOn}
 use Rattle.xa_worker.specs.{WorkerView, Served}
-use Rattle.xa_grammar.specs.{ScriptTask, ScriptStep, tasks_of}
-use Rattle.xa_grammar.specs.Content.{Content}
+use Rattle.xa_grammar.specs.{ScriptTask, ScriptStep, tasks_of, Content}
 use Rattle.xa_base.specs.{Chain}
 use Rattle.xa_base.specs.Lists.Chain.{none, more}
 use Rattle.xa_crew.specs.{HasGone, ArePiecesOf}

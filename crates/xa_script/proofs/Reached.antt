@@ -4,10 +4,9 @@ use Rattle.xa_base.proofs.{All-push, list_any-append, flat_push}
 use Rattle.xa_base.specs.Lists.Chain.{none, more}
 use Rattle.xa_worker.specs.{WorkerView}
 use Rattle.xa_log.specs.{LosingLog}
-use Rattle.xa_switch.specs.Settling.{Settling}
+use Rattle.xa_switch.specs.{Settling}
 use Rattle.xa_grammar.specs.declared.step.Step.TheVariants as step
-use Rattle.xa_grammar.specs.{ScriptStep, Fits, threads_of, managers_of, is_reopen, AreOfOne}
-use Rattle.xa_grammar.specs.Content.{Content}
+use Rattle.xa_grammar.specs.{ScriptStep, Fits, threads_of, managers_of, is_reopen, AreOfOne, Content}
 use Rattle.xa_transcript.specs.{Told, Reopened}
 use Rattle.xa_session.specs.{Session}
 use Rattle.xa_telling.specs.{Beginning, Opening, Former, beginning}

@@ -1,15 +1,12 @@
 -- What an opening begins with that follows another.
 use Rattle.xa_base.proofs.{◌≡◌, ℕ, ◌+◌, ◌≤◌, zero, suc, List, [], ◌∷◌, length, map, Some, sym, refl, ap, ◌∙◌, subst, arith, slice_get, slice_index_or}
 use Rattle.xa_base.proofs.{length-map, slice_get-get_or, slice_get_within, was_mapped, some_same}
-use Rattle.xa_desk.specs.DeskView.{DeskView}
+use Rattle.xa_desk.specs.{DeskView}
 use Rattle.xa_worker.specs.{WorkerView}
 use Rattle.xa_log.specs.{reopened, LosingLog}
-use Rattle.xa_switch.specs.declared.plan.Again.{Again}
-use Rattle.xa_switch.specs.{AreOfOneOpening, IsSettled, settling, IsScanOf, AreScansOf, MayReopen, reopened_at, reopening}
-use Rattle.xa_switch.specs.Settling.{Settling}
+use Rattle.xa_switch.specs.{Again, AreOfOneOpening, IsSettled, settling, IsScanOf, AreScansOf, MayReopen, reopened_at, reopening, Settling}
 use Rattle.xa_scan.specs.{ScanView, no_scan}
-use Rattle.xa_grammar.specs.Content.{Content}
-use Rattle.xa_grammar.specs.{threads_of}
+use Rattle.xa_grammar.specs.{Content, threads_of}
 use Rattle.xa_session.specs.{Session, new_session, session_of, sessions_again}
 use Rattle.xa_telling.specs.{AreNumbersOf, IsSetupOf, Beginning, BeginsAs, beginning, Opening, Leaves}
 use Rattle.xa_telling.proofs.Opened.{opened_threads}

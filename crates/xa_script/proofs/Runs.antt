@@ -3,8 +3,7 @@ use Rattle.xa_base.proofs.{◌≡◌, ◌≢◌, ℕ, ◌+◌, List, [], length,
 use Rattle.xa_base.proofs.{length-map, filter-append, got_map, slice_get_within, was_mapped, flat_one, flat_none, some_same, got}
 use Rattle.xa_desk.specs.{EndedView, DeskSeat}
 use Rattle.xa_worker.specs.{WorkerView, Served}
-use Rattle.xa_grammar.specs.{ScriptTask, ScriptStep, tasks_of, Fits, threads_of, managers_of}
-use Rattle.xa_grammar.specs.Content.{Content}
+use Rattle.xa_grammar.specs.{ScriptTask, ScriptStep, tasks_of, Fits, threads_of, managers_of, Content}
 use Rattle.xa_base.specs.{Chain}
 use Rattle.xa_base.specs.Lists.Chain.{none, more}
 use Rattle.xa_crew.specs.{EndsDesk, Member, all_go_on}

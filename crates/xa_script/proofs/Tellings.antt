@@ -2,10 +2,8 @@
 use Rattle.xa_base.proofs.{List, map, sym, subst}
 use Rattle.xa_base.specs.{Chain}
 use Rattle.xa_base.specs.Lists.Chain.{none, more}
-use Rattle.xa_switch.specs.Settling.{Settling}
-use Rattle.xa_switch.specs.{IsSettled}
-use Rattle.xa_grammar.specs.{Declared}
-use Rattle.xa_grammar.specs.Content.{Content}
+use Rattle.xa_switch.specs.{Settling, IsSettled}
+use Rattle.xa_grammar.specs.{Declared, Content}
 use Rattle.xa_transcript.specs.{Told, opened_after, AreOfScript, AreValues}
 use Rattle.xa_session.specs.{Session}
 use Rattle.xa_telling.specs.{Beginning, Opening, Former, TellsOf, Leaves, Tells, beginning, settled_over}

@@ -5,11 +5,11 @@ use Rattle.xa_base.specs.Lists.{Chain}
 use Rattle.xa_desk.specs.Ended.{EndedView}
 use Rattle.xa_worker.specs.Workers.{WorkerView}
 use Rattle.xa_worker.specs.Done.{Served}
-use Rattle.xa_switch.specs.Settling.{Settling, IsSettled}
+use Rattle.xa_switch.specs.Settled.{Settling, IsSettled}
 use Rattle.xa_switch.specs.Closing.{settling}
 use Rattle.xa_grammar.specs.declared.script.Declared.{Declared}
 use Rattle.xa_grammar.specs.Steps.{ScriptStep}
-use Rattle.xa_grammar.specs.Content.{Content, AreOfOne}
+use Rattle.xa_grammar.specs.Contents.{Content, AreOfOne}
 use Rattle.xa_transcript.specs.declared.answer.Told.{Told}
 use Rattle.xa_session.specs.declared.session.Session.{Session}
 use Rattle.xa_telling.specs.ToldOpenings.{Beginning, Opening, Former, Leaves, Tells, beginning}

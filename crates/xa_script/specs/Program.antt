@@ -4,7 +4,7 @@ use Rattle.std.specs.Prelude.{codes, decimal}
 use Rattle.std.specs.Io.KnownBytes.{Appends}
 use Rattle.xa_grammar.specs.declared.fault.Reason.{Reason}
 use Rattle.xa_grammar.specs.declared.fault.ScriptFault.TheVariants as script
-use Rattle.xa_grammar.specs.Content.{Content}
+use Rattle.xa_grammar.specs.Contents.{Content}
 use Rattle.xa_grammar.specs.Faults.{reason_text}
 use Rattle.xa_grammar.specs.Grammar.{script_of}
 use Rattle.xa_transcript.specs.declared.writing.RunFault.TheVariants as run

@@ -6,7 +6,7 @@ use Rattle.xa_worker.specs.Workers.{WorkerView}
 use Rattle.xa_log.specs.declared.losing.LosingLog.{LosingLog}
 use Rattle.xa_grammar.specs.declared.step.Step.TheVariants as step
 use Rattle.xa_grammar.specs.Steps.{ScriptStep}
-use Rattle.xa_grammar.specs.Content.{Content, Fits, threads_of, managers_of, AreOfOne}
+use Rattle.xa_grammar.specs.Contents.{Content, Fits, threads_of, managers_of, AreOfOne}
 use Rattle.xa_transcript.specs.declared.answer.Told.{Told}
 use Rattle.xa_transcript.specs.declared.answer.Told.TheVariants.{Reopened}
 use Rattle.xa_session.specs.declared.session.Session.{Session}

@@ -1,7 +1,7 @@
 //! The program, over any reader and writers.
 ghost use Rattle.std.specs.Prelude.{◌≡◌, ◌≢◌, ◌⊎◌, ◌<◌, ◌≤◌, length, Err, OnOk, IfErr, IsErrOf, IfSome};
 ghost use Rattle.xa_command.specs.declared.mode.Mode.{Mode};
-ghost use Rattle.xa_grammar.specs.Content.{AreOfOne};
+ghost use Rattle.xa_grammar.specs.Contents.{AreOfOne};
 ghost use Rattle.xa_script.specs.declared.entry.Fault.{Fault};
 ghost use Rattle.xa_command.specs.Words.{AreWords, IsMode};
 ghost use Rattle.xa_script.specs.Outcome.{Writes};

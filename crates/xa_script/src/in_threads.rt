@@ -2,7 +2,7 @@
 ghost use Rattle.std.specs.Prelude.{◌≡◌, ◌++◌, List, [], length, All, IfOk, OnOk, IsErrOf, false};
 ghost use Rattle.std.specs.List.{flat_map, range_with_len};
 ghost use Rattle.xa_base.specs.Lists.{Pairwise};
-ghost use Rattle.xa_grammar.specs.Content.{threads_of, AreOfOne};
+ghost use Rattle.xa_grammar.specs.Contents.{threads_of, AreOfOne};
 ghost use Rattle.xa_telling.specs.ToldOpenings.{Opening};
 ghost use Rattle.xa_transcript.specs.declared.answer.Told.{Told};
 ghost use Rattle.xa_session.specs.ScriptThreads.{IsNew};

@@ -3,7 +3,7 @@ ghost use Rattle.std.specs.Prelude.{◌≡◌, ◌+◌, ◌<◌, ◌++◌, ◌�
 ghost use Rattle.xa_base.specs.Lists.{IsUpTo};
 ghost use Rattle.xa_desk.specs.Kept.{AllKept};
 ghost use Rattle.xa_grammar.specs.Steps.{ScriptStep};
-ghost use Rattle.xa_grammar.specs.Content.{Content};
+ghost use Rattle.xa_grammar.specs.Contents.{Content};
 ghost use Rattle.xa_telling.specs.ToldOpenings.{Beginning, Opening, Former, beginning};
 ghost use Rattle.xa_command.specs.declared.mode.Mode.TheVariants as mode;
 ghost use Rattle.xa_script.specs.InTurns.{stage_of, closing_of, HasCalled, HasEndedDesk, HasTurned, HaveEnded};

@@ -1,7 +1,6 @@
 -- What a commit of a script's line comes to.
 use Rattle.xa_base.proofs.{◌≡◌, ℕ, true, false, List, [], ◌∷◌, Vec, Global, map, refl, sym, subst}
-use Rattle.xa_words.specs.{TranName}
-use Rattle.xa_words.specs.declared.code.Code.{Code}
+use Rattle.xa_words.specs.{TranName, Code}
 use Rattle.xa_driver.specs.{Branch, KeepsTheRest, yes_of, GoesAsRound, first_ask, HasVoted, IsTranOf, IsUnknown}
 use Rattle.xa_log.specs.{LosesTo, LosingLog}
 use Rattle.xa_grammar.specs.{CommitAll}

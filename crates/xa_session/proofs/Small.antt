@@ -1,10 +1,9 @@
 -- What an xa_complete writes is small.
 use Rattle.xa_base.proofs.{◌≡◌, ℕ, ℤ, pos, Result, Ok, Err, IfOk, sym, ap, ◌∙◌, subst, arith, w32, ints}
 use Rattle.std.proofs.Common.{SFits}
-use Rattle.xa_words.specs.Code.{number_of}
-use Rattle.xa_words.specs.declared.code.Code.{Code}
-use Rattle.xa_words.specs.{Done, RdOnly, Retry, HeurMix, HeurRb, HeurCom, HeurHaz, RbRollback, RbCommFail, RbDeadlock, RbIntegrity, RbOther, RbProto, RbTimeout}
-use Rattle.xa_words.specs.{RbTransient, Async, RmErr, Nota, Inval, Proto, RmFail, DupId, Outside}
+use Rattle.xa_words.specs.CodeNumbers.{number_of}
+use Rattle.xa_words.specs.{Code, Done, RdOnly, Retry, HeurMix, HeurRb, HeurCom, HeurHaz, RbRollback, RbCommFail, RbDeadlock, RbIntegrity, RbOther, RbProto}
+use Rattle.xa_words.specs.{RbTimeout, RbTransient, Async, RmErr, Nota, Inval, Proto, RmFail, DupId, Outside}
 use Rattle.xa_desk.specs.{IsHandle}
 use Rattle.xa_transcript.specs.{Answer}
 use Rattle.xa_calls.specs.{Tells}

@@ -2,7 +2,7 @@
 use Rattle.std.specs.Prelude.{◌≡◌, ℕ, ℤ, pos, negsuc, Bool, if◌then◌else◌, List, Vec, length, take}
 use Rattle.std.specs.Global.{Global}
 use Rattle.std.specs.Ordering.{int_eq}
-use Rattle.xa_desk.specs.DeskView.{DeskView}
+use Rattle.xa_desk.specs.DeskViews.{DeskView}
 use Rattle.xa_calls.specs.Asking.{asked_of, native}
 use Rattle.xa_calls.specs.Putting.{Calls, call_waits}
 use Rattle.xa_calls.specs.Completing.{HasCompleted, completion_waits}

@@ -5,7 +5,7 @@ use Rattle.xa_words.specs.declared.code.Code.{Code}
 use Rattle.xa_words.specs.declared.death.Death.{Death}
 use Rattle.xa_words.specs.Tran.{TranName}
 use Rattle.xa_words.specs.ManagerSet.{managers_in}
-use Rattle.xa_desk.specs.DeskView.{ledger, outstanding}
+use Rattle.xa_desk.specs.DeskViews.{ledger, outstanding}
 use Rattle.xa_driver.specs.declared.branch.Branch.{Branch}
 use Rattle.xa_driver.specs.declared.done.Done.{Done}
 use Rattle.xa_driver.specs.Asks.{KeepsDesk}

@@ -1,7 +1,7 @@
 -- What a resolve does to its thread, and what it answers.
 use Rattle.std.specs.Prelude.{◌≡◌, false, Vec}
 use Rattle.std.specs.Global.{Global}
-use Rattle.xa_desk.specs.DeskView.{outstanding}
+use Rattle.xa_desk.specs.DeskViews.{outstanding}
 use Rattle.xa_driver.specs.declared.resolved.Outcome.{Outcome}
 use Rattle.xa_driver.specs.Asks.{KeepsDesk}
 use Rattle.xa_base.specs.declared.limits.TheConstants.{MOST_MANAGERS}

@@ -1,8 +1,8 @@
 -- A thread of a script, and what it comes to with its desk.
 use Rattle.std.specs.Prelude.{◌≡◌, ℕ, false, []}
-use Rattle.xa_desk.specs.DeskView.{DeskView}
+use Rattle.xa_desk.specs.DeskViews.{DeskView}
 use Rattle.xa_scan.specs.Left.{no_scan}
-use Rattle.xa_grammar.specs.Content.{Content, tasks_of}
+use Rattle.xa_grammar.specs.Contents.{Content, tasks_of}
 use Rattle.xa_base.specs.Lists.{Chain}
 use Rattle.xa_session.specs.declared.script_thread.ScriptThread.{ScriptThread}
 use Rattle.xa_session.specs.Sessions.{log_of, session_of, HasDone}

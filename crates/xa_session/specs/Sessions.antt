@@ -1,7 +1,7 @@
 -- A thread of a script, and what its tasks do.
 use Rattle.std.specs.Prelude.{◌≡◌, ℕ, Bool, false, Option, None, Some, IsTrue, unwrap_or, List, [], ◌∷◌, ◌++◌, map, zip}
-use Rattle.xa_desk.specs.DeskView.{DeskView}
-use Rattle.xa_desk.specs.GoesOn.{GoesOn}
+use Rattle.xa_desk.specs.DeskViews.{DeskView}
+use Rattle.xa_desk.specs.GoingOn.{GoesOn}
 use Rattle.xa_desk.specs.Kept.{AllKept}
 use Rattle.xa_scan.specs.Left.{ScanView, no_scan}
 use Rattle.xa_log.specs.Log.{no_records}
@@ -9,7 +9,7 @@ use Rattle.xa_log.specs.Losing.{reopened}
 use Rattle.xa_log.specs.declared.losing.LosingLog.{LosingLog}
 use Rattle.xa_grammar.specs.declared.step.Action.TheVariants.{Call, CommitAll, Resolve}
 use Rattle.xa_grammar.specs.Steps.{ScriptAction, ScriptTask}
-use Rattle.xa_grammar.specs.Content.{Content, failing_append, unknown_append}
+use Rattle.xa_grammar.specs.Contents.{Content, failing_append, unknown_append}
 use Rattle.xa_grammar.specs.declared.script.UnknownAppend.{UnknownAppend}
 use Rattle.xa_transcript.specs.declared.answer.Answer.{Answer}
 use Rattle.xa_transcript.specs.declared.answer.Told.{Told}

@@ -1,6 +1,6 @@
 //! What a script's calls answer over the desk of their thread.
 ghost use Rattle.std.specs.Prelude.{◌≡◌, ◌≤◌, ◌<◌, false, length, take, IfOk, OnErr};
-ghost use Rattle.xa_desk.specs.GoesOn.{GoesOn};
+ghost use Rattle.xa_desk.specs.GoingOn.{GoesOn};
 ghost use Rattle.xa_desk.specs.Kept.{AllKept};
 ghost use Rattle.xa_calls.specs.Asking.{asked_of, native};
 ghost use Rattle.xa_calls.specs.Completing.{completion_waits};

@@ -1,7 +1,7 @@
 //! A commit of several branches by a line of a script.
 ghost use Rattle.std.specs.Prelude.{◌≡◌, false, None, Some, IfOk, OnErr};
 ghost use Rattle.xa_driver.specs.Trace.{MayCommit};
-ghost use Rattle.xa_desk.specs.GoesOn.{GoesOn};
+ghost use Rattle.xa_desk.specs.GoingOn.{GoesOn};
 ghost use Rattle.xa_desk.specs.Kept.{AllKept};
 ghost use Rattle.xa_session.specs.Committing.{branch_at, branches_of, CanCommit, CommitsAll};
 ghost use Rattle.xa_scan.specs.Left.{ScanView};

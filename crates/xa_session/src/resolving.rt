@@ -1,6 +1,6 @@
 //! A resolve by a line of a script.
 ghost use Rattle.std.specs.Prelude.{◌≡◌, IfOk, OnErr};
-ghost use Rattle.xa_desk.specs.GoesOn.{GoesOn};
+ghost use Rattle.xa_desk.specs.GoingOn.{GoesOn};
 ghost use Rattle.xa_desk.specs.Kept.{AllKept};
 ghost use Rattle.xa_session.specs.Resolving.{CanResolve, ResolvesLeft};
 ghost use Rattle.xa_session.specs.Sessions.{session_of};

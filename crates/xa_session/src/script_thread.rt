@@ -1,7 +1,7 @@
 //! A thread of a script as a client of a crew.
 ghost use Rattle.std.specs.Prelude.{◌≡◌, ◌+◌, ◌≤◌, ◌<◌, ◌++◌, ◌∷◌, [], Some, length, false, IfOk, OnOk, slice_get};
 ghost use Rattle.std.specs.Prelude.{vec_capacity};
-ghost use Rattle.xa_desk.specs.GoesOn.{GoesOn};
+ghost use Rattle.xa_desk.specs.GoingOn.{GoesOn};
 ghost use Rattle.xa_desk.specs.Kept.{AllKept};
 ghost use Rattle.xa_base.specs.Lists.{Chain};
 ghost use Rattle.xa_session.specs.Sessions.{log_of, session_of, HasDone};

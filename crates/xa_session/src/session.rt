@@ -1,6 +1,6 @@
 //! A thread of a script: its desk with its decision log.
 ghost use Rattle.std.specs.Prelude.{◌≡◌, IfOk, OnErr};
-ghost use Rattle.xa_desk.specs.GoesOn.{GoesOn};
+ghost use Rattle.xa_desk.specs.GoingOn.{GoesOn};
 ghost use Rattle.xa_desk.specs.Kept.{AllKept};
 ghost use Rattle.xa_session.specs.Sessions.{log_of, session_of, new_session, new_sessions, sessions_again, Does};
 ghost use Rattle.xa_session.specs.Sessions.{MayWait};

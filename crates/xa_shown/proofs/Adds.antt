@@ -3,12 +3,11 @@ use Rattle.xa_base.proofs.{◌≡◌, ℕ, ⊎_elim, zero, suc, ◌<◌, ◌≤�
 use Rattle.xa_base.proofs.{append_assoc, append-nil, if◌then◌else◌, All, map, Contains, cases_lt, eqb-true, All-append, All-cons, All-contains, All-head}
 use Rattle.xa_base.proofs.{All-nil, All-tail, by_if}
 use Rattle.xa_base.specs.{MOST_MANAGERS}
-use Rattle.xa_words.specs.{check_flags, TranName, XidName, Death, Op, OpenRm, Prepare, Forget, Listed}
-use Rattle.xa_words.specs.declared.code.Code.{Code}
+use Rattle.xa_words.specs.{check_flags, TranName, XidName, Death, Op, OpenRm, Prepare, Forget, Listed, Code}
 use Rattle.xa_words.specs.declared.flags.Call.TheVariants as call
 use Rattle.xa_worker.specs.{Entry}
 use Rattle.xa_scan.specs.{ScanView, left_at}
-use Rattle.xa_switch.specs.Settling.{Settling}
+use Rattle.xa_switch.specs.{Settling}
 use Rattle.xa_driver.specs.{Branch, Done as Outcomes, Ending, Outcome, AtBranch, second_op, third_op, ResolvesAt, outcome_op, has_branch_at}
 use Rattle.xa_log.specs.{Records}
 use Rattle.xa_driver.proofs.Mapped.{Any, IsAskedFor, any_asked, branch_by, resolves_by}

@@ -6,15 +6,13 @@ use Rattle.xa_base.proofs.{All-map, All-cons, All-nil, All-head, All-tail, All-a
 use Rattle.xa_base.proofs.{cond, ◌==◌, List, [], ◌∷◌, ◌++◌, length, map, sym, refl, ap, ◌∙◌, subst, arith, get_or, All, filter, cases_eq, eq-eqb, length-map}
 use Rattle.xa_base.proofs.{map-append, all_after, all_unmapped}
 use Rattle.xa_words.specs.{XidName, Op, Request, TranName}
-use Rattle.xa_tables.specs.History.{History}
-use Rattle.xa_tables.specs.{of_thread, names}
+use Rattle.xa_tables.specs.{History, of_thread, names}
 use Rattle.xa_desk.specs.{numbered}
 use Rattle.xa_worker.specs.{Entry, requests}
 use Rattle.xa_switch.specs.{journal, sent}
 use Rattle.xa_driver.specs.{Branch}
 use Rattle.xa_atomicity.specs.{OnlyTheseName, AreLeftAlone}
-use Rattle.xa_grammar.specs.{CommitAll}
-use Rattle.xa_grammar.specs.Content.{Content}
+use Rattle.xa_grammar.specs.{CommitAll, Content}
 use Rattle.xa_session.specs.{branches_of}
 use Rattle.xa_telling.specs.{Part, Line, entries_of, Beginning, Opening, TellsOf, part_at}
 use Rattle.xa_shown.specs.{Place, AreNamedByNoOther, NamesNone, entered_so_far}

@@ -1,21 +1,18 @@
 -- What a thread's entries in a journal have of a commit's branch, as its requests stand in the manager's history.
-use Rattle.xa_base.proofs.{slice_get, option_map, ◌≡◌, ℕ, zero, suc, Bool, true, false, ◌==◌, ◌||◌, List, [], ◌∷◌, ◌++◌, length, map, Option, Some, sym, refl}
-use Rattle.xa_base.proofs.{ap, ◌∙◌, subst, arith, append_assoc, length-append, Contains, list_any, map-append, list_any-append, slice_get-map, begins_on}
+use Rattle.xa_base.proofs.{slice_get, option_map, ◌≡◌, ℕ, zero, suc, Bool, true, false, ◌||◌, List, [], ◌∷◌, ◌++◌, length, map, Option, Some, sym, refl, ap}
+use Rattle.xa_base.proofs.{◌∙◌, subst, arith, append_assoc, length-append, Contains, list_any, map-append, list_any-append, slice_get-map, begins_on}
 use Rattle.xa_base.proofs.{begins_same, next_there}
 use Rattle.std.proofs.lemmas.List.Folds.{Any-from_list_any, list_any-from_Any}
 use Rattle.xa_base.specs.{Begins}
-use Rattle.xa_words.specs.declared.code.Code.{Code}
-use Rattle.xa_words.specs.{RmFail, Op, Prepare, Request}
-use Rattle.xa_tables.specs.Tables.{Tables}
-use Rattle.xa_tables.specs.History.{History}
-use Rattle.xa_tables.specs.{coded, of_thread, IsOpening}
+use Rattle.xa_words.specs.{Code, RmFail, Op, Prepare, Request}
+use Rattle.xa_tables.specs.{Tables, History, coded, of_thread, IsOpening}
 use Rattle.xa_desk.specs.{numbered, is_rm_fail}
 use Rattle.xa_worker.specs.{Entry, codes_in, requests}
 use Rattle.xa_switch.specs.{answers}
 use Rattle.xa_driver.specs.{Branch, Ending, AtBranch, VotesAndObeys}
-use Rattle.xa_atomicity.specs.Tabled.{Tabled}
+use Rattle.xa_atomicity.specs.{Tabled}
 use Rattle.xa_driver.proofs.Mapped.{branch_mapped}
-use Rattle.xa_atomicity.proofs.Sites.{Site, StandsIn, Sent, AsksIn, asks, withholds, stands_by}
+use Rattle.xa_atomicity.proofs.Sites.{Site, StandsIn, Sent, AsksIn, withholds, stands_by}
 use Rattle.xa_telling.specs.{next_entry, entries_of, CarriesOut, CarriesOutSome}
 use Rattle.xa_telling.specs.Commits.CarriesOut.{carried, withheld}
 use Rattle.xa_telling.proofs.Entries.{Fits, is_rm_fail_so, pair_of}

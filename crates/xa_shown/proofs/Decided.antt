@@ -5,11 +5,8 @@ use Rattle.std.proofs.lemmas.Bool.{true_from_ne_false}
 use Rattle.xa_base.proofs.{◌≡◌, ℕ, suc, ◌≤◌, inl, inr, Bool, true, false, if◌then◌else◌, [], ◌∷◌, get_or, sym, refl, ap, ◌∙◌, append-nil, arith, All}
 use Rattle.xa_base.proofs.{cons_option}
 use Rattle.xa_words.specs.{XidName, Done, Op, Prepare}
-use Rattle.xa_tables.specs.{HeuristicDecision, state_of, next, Fate, IsFateOf, coded, decided_fate, fate, fate_in, fate_of, heur_fate, last_or, tables_after}
-use Rattle.xa_tables.specs.{is_heur, names}
-use Rattle.xa_tables.specs.Tables.{Tables}
-use Rattle.xa_tables.specs.History as history
-use Rattle.xa_tables.specs.History.{History}
+use Rattle.xa_tables.specs.{HeuristicDecision, state_of, next, Fate, decided_fate, fate, tables_after, is_heur, names, Tables, History}
+use Rattle.xa_tables.specs.Histories as history
 use Rattle.xa_atomicity.specs.{IsDecidedAfter, OnlyTheseOrDecisionsName, ended_as}
 use Rattle.xa_atomicity.proofs.Guided.{IsGuided, at_last, decided_known, fates_from, voted_now}
 use Rattle.xa_atomicity.proofs.Leading.{Stands, over, unforgotten, waits}

@@ -1,17 +1,12 @@
 -- A manager answers XAER_RMFAIL only where it is shut, and then to all that comes after.
-use Rattle.xa_base.proofs.{if◌then◌else◌, not, ◌||◌, ◌≡◌, ℕ, ◌⊎◌, ⊎_elim, inl, inr, zero, suc, ◌<◌, Bool, true, false, cond, ◌&&◌, List, [], ◌∷◌, ◌++◌, length}
-use Rattle.xa_base.proofs.{length-append, Option, Some, None, sym, refl, ap, ◌∙◌, subst, arith, slice_index_or, All, Contains, filter, all_mid, by_if}
+use Rattle.xa_base.proofs.{if◌then◌else◌, not, ◌≡◌, ℕ, ◌⊎◌, ⊎_elim, inl, inr, zero, suc, ◌<◌, Bool, true, false, cond, List, [], ◌∷◌, ◌++◌, length}
+use Rattle.xa_base.proofs.{length-append, Option, Some, None, sym, refl, ap, ◌∙◌, subst, arith, slice_index_or, All, Contains, filter, all_mid}
 use Rattle.std.proofs.lemmas.List.Elements.{All-filter}
-use Rattle.xa_words.specs.declared.code.Code.{Code}
-use Rattle.xa_words.specs.{Proto, RmFail, Op, OpenRm, CloseRm, Start, Add, End, Prepare, Commit, Rollback, Forget, Heur, Listed, Shut, Fresh, Join, Resume}
-use Rattle.xa_tables.specs.{State, Active, Idle, RollbackOnly, HeuristicallyCompleted, Failed, Transient, has_opened, has_association, is_at_work, is_suspended}
-use Rattle.xa_tables.specs.{is_associated, branch_of, exists, is_idle, is_prepared, is_rollback_only, is_completed, is_left, reason_in, decision_in, state_of}
-use Rattle.xa_tables.specs.{is_somebody_associated, is_declared, has_touched, has_other_touched, is_broken, Answer, next, needs_opening, by_rules, is_suspend}
-use Rattle.xa_tables.specs.{is_fail, dissociated, coded}
+use Rattle.xa_words.specs.{Code, RmFail, Op, OpenRm, CloseRm, Start, Add, End, Prepare, Commit, Rollback, Forget, Heur, Listed, Shut, Fresh, Join, Resume}
+use Rattle.xa_tables.specs.{State, Active, Idle, RollbackOnly, HeuristicallyCompleted, Failed, Transient, has_opened, has_association, exists, is_completed}
+use Rattle.xa_tables.specs.{is_left, reason_in, decision_in, Answer, next, by_rules, coded, Tables, History}
 use Rattle.xa_tables.specs.declared.state.State.TheVariants.{Prepared}
 use Rattle.xa_tables.specs.declared.state.HeuristicDecision.TheVariants as decision
-use Rattle.xa_tables.specs.Tables.{Tables}
-use Rattle.xa_tables.specs.History.{History}
 use Rattle.xa_tables.proofs.ShutLemmas.{next-shut}
 use Rattle.xa_desk.specs.{is_rm_fail}
 use Rattle.xa_worker.specs.{Entry, codes_in}

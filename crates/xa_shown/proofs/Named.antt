@@ -1,12 +1,10 @@
 -- Lines that don't name a branch put nothing into the journals that does.
-use Rattle.std.proofs.Common.{arith}
+use Rattle.xa_base.proofs.{arith, ◌≡◌, ◌≢◌, ℕ, zero, suc, ◌⊎◌, inl, inr, Bool, true, false, ◌==◌, ◌&&◌, List, [], ◌∷◌, Option, Some, None, sym, refl, ap, ◌∙◌}
+use Rattle.xa_base.proofs.{if◌then◌else◌, All, Result, Ok, Err, eq-eqb, or_parts, list_any, slice_index_or, all_mid, all_left}
 use Rattle.xa_atomicity.proofs.Requests.{none_all}
-use Rattle.xa_base.proofs.{◌≡◌, ◌≢◌, ℕ, zero, suc, ◌⊎◌, ⊎_elim, inl, inr, Bool, true, false, ◌==◌, ◌&&◌, List, [], ◌∷◌, Option, Some, None, sym, refl, ap, ◌∙◌}
-use Rattle.xa_base.proofs.{if◌then◌else◌, All, Result, Ok, Err, get_or, eq-eqb, or_parts, list_any, slice_index_or, all_mid, all_left}
 use Rattle.xa_base.specs.{Chain}
 use Rattle.xa_base.specs.Lists.Chain.{none as no_step, more as one_step}
-use Rattle.xa_words.specs.{XidName, xid_eq, check_flags, TMASYNC, Call, Mode, Op, RmOp, Decides-xid_eq}
-use Rattle.xa_words.specs.declared.code.Code.{Code}
+use Rattle.xa_words.specs.{XidName, xid_eq, check_flags, Call, Mode, Op, RmOp, Decides-xid_eq, Code}
 use Rattle.xa_words.specs.declared.flags.Call.TheVariants as call
 use Rattle.xa_words.specs.declared.request.Op.TheVariants as op
 use Rattle.xa_words.specs.declared.request.RmOp.TheVariants as rm
@@ -14,7 +12,7 @@ use Rattle.xa_tables.specs.{names}
 use Rattle.xa_worker.specs.{Entry}
 use Rattle.xa_calls.specs.Asking.{◌>>=◌}
 use Rattle.xa_calls.specs.{op_by, asked_of, native, rm_op, start_of, Recovers, RecoversFrom, RecoversBy}
-use Rattle.xa_switch.specs.Settling.{Settling}
+use Rattle.xa_switch.specs.{Settling}
 use Rattle.xa_calls.specs.Scans.{Asking}
 use Rattle.xa_scan.specs.{ScanView, standing, left_at, place_at}
 use Rattle.xa_calls.specs.Scans.Recovers.{unreached, stopped, told as found_some}
@@ -23,7 +21,6 @@ use Rattle.xa_grammar.specs.declared.step.Calling.TheVariants as calling
 use Rattle.xa_grammar.specs.declared.step.Action.TheVariants as action
 use Rattle.xa_grammar.specs.{ScriptCalling, ScriptCalled, ScriptAction}
 use Rattle.xa_transcript.specs.{Answer}
-use Rattle.xa_session.specs.{branches_of}
 use Rattle.xa_telling.specs.{wanted, wanted_by, Part, Asked, CallTakes, Line, Takes, TakesPart}
 use Rattle.xa_telling.specs.Wants.Wanted.{code_of, handle_for}
 use Rattle.xa_shown.proofs.Adds.{Adds, TaskSo, adds_both, adds_none, op_in, takes_add}

@@ -1,23 +1,18 @@
 -- All branches of a commit: what the line shows of them became of them.
-use Rattle.std.proofs.Common.{arith, rules}
-use Rattle.xa_atomicity.specs.{OnlyTheseName, OnlyTheseOrDecisionsName, AreLeftAlone, AreLeftOrDecided, EachOutcome, is_rolled_back, is_in_doubt, is_heuristic}
-use Rattle.xa_atomicity.specs.{is_left, is_read_only, KeepsItsVote, TellsTheFate, Shares}
-use Rattle.xa_atomicity.specs.Outcomes.{is_committed}
-use Rattle.xa_base.proofs.{◌≡◌, ℕ, inl, inr, Bool, true, false, ◌||◌, List, [], ◌∷◌, length, Option, sym, refl, ap, ◌∙◌, subst, slice_index_or, pos}
+use Rattle.xa_base.proofs.{arith, rules, ◌≡◌, ℕ, inl, inr, Bool, true, false, ◌||◌, List, [], ◌∷◌, length, Option, sym, refl, ap, ◌∙◌, slice_index_or, pos}
 use Rattle.xa_base.proofs.{if◌then◌else◌, All, list_any, cases_Bool, or_parts, All-head, All-tail, All-cons, All-nil, All-append, list_any_none}
-use Rattle.xa_words.specs.declared.code.Code.{Code}
-use Rattle.xa_tables.specs.Tables.{Tables}
-use Rattle.xa_switch.specs.Settling.{Settling}
-use Rattle.xa_switch.specs.{IsSettled, journal, sent, collected, IsOpenedWith, history as history_of}
+use Rattle.xa_atomicity.specs.{OnlyTheseName, OnlyTheseOrDecisionsName, AreLeftAlone, AreLeftOrDecided, EachOutcome, is_rolled_back, is_in_doubt, is_heuristic}
+use Rattle.xa_atomicity.specs.{is_left, is_read_only, Shares, Tabled}
+use Rattle.xa_atomicity.specs.Outcomes.{is_committed}
+use Rattle.xa_words.specs.{Code, TranName}
+use Rattle.xa_tables.specs.{Tables}
+use Rattle.xa_switch.specs.{Settling, IsSettled, journal, sent, collected, IsOpenedWith, history as history_of}
 use Rattle.xa_driver.specs.{Branch, Done as Outcome, Ending, Committed, ReadOnly, InDoubt, Heuristic, is_no, ending_of, AtBranch}
-use Rattle.xa_atomicity.specs.Tabled.{Tabled}
 use Rattle.xa_atomicity.proofs.Courses.{course_of}
 use Rattle.xa_atomicity.proofs.OneOutcome.{not_rolled_back, uncommitted}
 use Rattle.xa_atomicity.proofs.Settled.{Both, Fated, InHistory, one_both, one_fated, outcome_map, each_outcome, site_of}
 use Rattle.xa_session.specs.{branches_of}
-use Rattle.xa_words.specs.{TranName}
-use Rattle.xa_grammar.specs.{CommitAll, ScriptStep}
-use Rattle.xa_grammar.specs.Content.{Content}
+use Rattle.xa_grammar.specs.{CommitAll, ScriptStep, Content}
 use Rattle.xa_transcript.specs.{Told}
 use Rattle.xa_telling.specs.{Part, CarriesOut, Decides, Line, TakesPart, AreCarriedOut, ShowsCommit, entries_of, Beginning, Opening, TellsOf}
 use Rattle.xa_base.specs.{Chain}

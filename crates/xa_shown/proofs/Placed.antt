@@ -3,7 +3,7 @@ use Rattle.xa_base.proofs.{◌≡◌, ℕ, ◌⊎◌, ⊎_elim, inl, inr, List, 
 use Rattle.xa_base.proofs.{snoc_parts}
 use Rattle.xa_base.specs.{Chain}
 use Rattle.xa_base.specs.Lists.Chain.{none, more}
-use Rattle.xa_switch.specs.Settling.{Settling}
+use Rattle.xa_switch.specs.{Settling}
 use Rattle.xa_grammar.specs.{ScriptStep}
 use Rattle.xa_transcript.specs.{Told}
 use Rattle.xa_telling.specs.{Part, Line, TakesPart, AreCarriedOut}

@@ -1,22 +1,19 @@
 -- What a line shows stands in the journals.
 use Rattle.xa_atomicity.proofs.Requests.{none_all}
-use Rattle.xa_atomicity.proofs.OneOutcome.{uncommitted, unvoted}
 use Rattle.xa_atomicity.specs.Outcomes.{is_committed}
-use Rattle.xa_driver.specs.{ending_of, second_op, third_op, yes_ending, is_heuristic, Branch, Done as Outcome, Ending, Committed, is_commit, is_yes, is_no}
-use Rattle.xa_driver.specs.{decides_commit, has_yes, AsksFor, AtBranch, EachBranch, decision_of}
-use Rattle.xa_base.proofs.{by_if, at_true, not-true, and_parts, eq-eqb, ◌≡◌, ℕ, pos, Bool, true, false, ◌==◌, ◌||◌, not, List, [], ◌∷◌, ◌++◌, length, Option}
-use Rattle.xa_base.proofs.{Some, None, sym, refl, ap, ◌∙◌, subst, ⊎_elim, zero, suc, ◌<◌, arith, slice_index_or, get_or, slice_get, All, Contains, filter}
-use Rattle.xa_base.proofs.{list_any, list_any_none, Contains-append_left, All-contains, all_at, some_same}
+use Rattle.xa_driver.specs.{ending_of, second_op, third_op, yes_ending, Branch, Done as Outcome, Ending, Committed, is_commit, is_yes, is_no, decides_commit}
+use Rattle.xa_driver.specs.{has_yes, AtBranch, EachBranch, decision_of}
+use Rattle.xa_base.proofs.{at_true, not-true, and_parts, eq-eqb, ◌≡◌, ℕ, pos, Bool, true, false, ◌||◌, not, List, [], ◌∷◌, ◌++◌, length, Option, Some, None}
+use Rattle.xa_base.proofs.{sym, refl, ap, ◌∙◌, subst, ⊎_elim, zero, suc, ◌<◌, arith, slice_index_or, get_or, slice_get, All, Contains, filter, list_any}
+use Rattle.xa_base.proofs.{list_any_none, Contains-append_left, All-contains, all_at, some_same}
 use Rattle.std.proofs.lemmas.Bool.{both_ways, true_from_ne_false}
 use Rattle.std.proofs.lemmas.List.Elements.{Contains-push, Contains-push_cases, Contains-get_or, All-filter, All-contains_itself}
-use Rattle.xa_words.specs.Code.{number_of}
-use Rattle.xa_words.specs.declared.code.Code.{Code}
-use Rattle.xa_words.specs.{Done, RmErr, Inval, RmFail, Op, Prepare, Commit, TranName}
+use Rattle.xa_words.specs.CodeNumbers.{number_of}
+use Rattle.xa_words.specs.{Code, Done, RmErr, Inval, RmFail, Op, Prepare, Commit, TranName}
 use Rattle.xa_tables.specs.{is_done}
 use Rattle.xa_desk.specs.{is_rm_fail}
 use Rattle.xa_worker.specs.{Entry, entry}
-use Rattle.xa_switch.specs.Settling.{Settling}
-use Rattle.xa_switch.specs.{journal}
+use Rattle.xa_switch.specs.{Settling, journal}
 use Rattle.xa_atomicity.proofs.Aborts.{IsNoCommit}
 use Rattle.xa_atomicity.proofs.Asked.{second_so, third_so}
 use Rattle.xa_driver.proofs.Mapped.{Any, IsAskedFor, any_asked, for_by, rest_by}
@@ -27,7 +24,7 @@ use Rattle.xa_transcript.specs.declared.answer.Answer.TheVariants as answer
 use Rattle.xa_base.specs.{Chain}
 use Rattle.xa_base.specs.Lists.Chain.{none, more}
 use Rattle.xa_session.specs.{branches_of}
-use Rattle.xa_telling.specs.{wanted_in, refusals, IsRefusal, Part, next_entry, CallTakes, CarriesOut, Decides, CommitTakes, Line, Takes, TakesPart, entries_of}
+use Rattle.xa_telling.specs.{wanted_in, refusals, Part, next_entry, CallTakes, CarriesOut, Decides, CommitTakes, Line, Takes, TakesPart, entries_of}
 use Rattle.xa_telling.specs.{AreCarriedOut, IsInJournal, IsCarriedOut, ShowsCommit, AreCommitted, ArePrepared, AddsNoCommit}
 use Rattle.xa_telling.specs.Wants.Wanted.{code_of, handle_for, completion, listing}
 use Rattle.xa_telling.specs.Parts.CallTakes.{answered, kept, refused, completes, lists}

@@ -1,28 +1,24 @@
 -- What became of the branches of a commit that came to no end.
-use Rattle.xa_tables.specs.{is_heur, HeuristicDecision, Fate, decided_fate, fate, is_in_doubt as is_unknown, is_rolled_back as rolls_back}
+use Rattle.xa_tables.specs.{is_heur, HeuristicDecision, Fate, decided_fate, fate, Tables}
 use Rattle.xa_base.proofs.{Global, Vec, slice_get, All, ◌≡◌, ℕ, inl, inr, suc, ◌<◌, ◌≤◌, Bool, true, false, ◌||◌, if◌then◌else◌, List, [], ◌∷◌, ◌++◌, length}
 use Rattle.xa_base.proofs.{length-append, append_assoc, append-nil, Option, zero, Some, None, get_or, sym, refl, ap, ◌∙◌, subst, arith, list_any, or-true}
 use Rattle.xa_base.proofs.{cases_Bool, All-cons, All-nil, All-head, All-tail, begins_same, next_there, some_same}
 use Rattle.std.proofs.lemmas.Bool.{both_ways}
 use Rattle.std.proofs.lemmas.Option.{slice_get_past}
 use Rattle.xa_base.specs.{Begins}
-use Rattle.xa_words.specs.{TranName, Done, RmFail, Death, Op, Prepare}
-use Rattle.xa_words.specs.declared.code.Code.{Code}
+use Rattle.xa_words.specs.{TranName, Done, RmFail, Death, Op, Prepare, Code}
 use Rattle.xa_words.specs.declared.death.Death.TheVariants as death
-use Rattle.xa_tables.specs.Tables.{Tables}
-use Rattle.xa_tables.specs.History as history
+use Rattle.xa_tables.specs.Histories as history
 use Rattle.xa_worker.specs.{Entry}
-use Rattle.xa_switch.specs.Settling.{Settling}
-use Rattle.xa_switch.specs.{IsSettled, collected, journal, sent, IsOpenedWith, history as history_of, settled_fate}
+use Rattle.xa_switch.specs.{Settling, IsSettled, collected, journal, sent, IsOpenedWith, history as history_of, settled_fate}
 use Rattle.xa_calls.specs.Scans.{Asking}
 use Rattle.xa_driver.specs.{Branch, Done as Outcome, Ending, Committed, RolledBack, AsksFor, CameTo, HaveAsked, HaveTold, IsDecidedBy, Tells, VotesAndObeys}
 use Rattle.xa_driver.specs.{to_come, has_yes, is_no, is_yes, ending_of, second_op, EachBranch}
 use Rattle.xa_driver.proofs.Mapped.{Any}
 use Rattle.xa_log.specs.{LogState, record_of}
 use Rattle.xa_atomicity.specs.{is_recorded, AreLeftAlone, AreLeftOrDecided, EachOutcome, IsDecidedAfter, OnlyTheseName, OnlyTheseOrDecisionsName, WasAtFirst}
-use Rattle.xa_atomicity.specs.{is_heuristic, is_in_doubt, is_left, told_fate, ended_as}
+use Rattle.xa_atomicity.specs.{is_heuristic, is_in_doubt, is_left, told_fate, ended_as, Tabled}
 use Rattle.xa_atomicity.specs.Outcomes.IsInDoubtUnlessDecided.{decided as was_decided, undecided}
-use Rattle.xa_atomicity.specs.Tabled.{Tabled}
 use Rattle.xa_atomicity.proofs.Courses.{course_obeyed, own_plain}
 use Rattle.xa_atomicity.proofs.Guided.{decided_known}
 use Rattle.xa_atomicity.proofs.Fated.{none_decides}
@@ -30,11 +26,10 @@ use Rattle.xa_atomicity.proofs.OneOutcome.{after_yes}
 use Rattle.xa_atomicity.proofs.Records.{recorded_is}
 use Rattle.xa_atomicity.proofs.Settled.{Both, Fated, InHistory, each_outcome, one_both, one_fated, outcome_map, site_of}
 use Rattle.xa_atomicity.proofs.Sites.{Sent, AsksIn, asks, withholds, StandsIn}
-use Rattle.xa_grammar.specs.{CommitAll}
+use Rattle.xa_grammar.specs.{CommitAll, Content}
 use Rattle.xa_session.specs.{branches_of, named}
 use Rattle.xa_telling.specs.{Part, next_entry, CarriesOut, CarriesOutSome, LosesSight, StopsAt, Line, entries_of, Beginning, Opening, TellsOf}
 use Rattle.xa_telling.specs.Commits.CarriesOut.{carried, withheld}
-use Rattle.xa_grammar.specs.Content.{Content}
 use Rattle.xa_telling.proofs.Deaths.{asked_so, each_so}
 use Rattle.xa_telling.proofs.Entries.{agreed_fits}
 use Rattle.xa_shown.specs.{Place, entered_so_far, EndByTheRecord, EndsByTheRecord, EndSoOrAreDecided, EndsSoOrIsDecided, HasAgreed, IsAsFarAsShown}

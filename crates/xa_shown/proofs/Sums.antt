@@ -1,16 +1,11 @@
 -- What is shown of a key is its value at the first opening and what the journals have added to it.
-use Rattle.std.proofs.Common.{arith}
-use Rattle.xa_base.proofs.{◌≡◌, ℕ, ◌≤◌, List, map, Option, None, Some, option_map, refl, sym, ap, ◌∙◌, get_or, pos, ◌+ℤ◌, All, all_unmapped, some_same, All-map}
+use Rattle.xa_base.proofs.{arith, ◌≡◌, ℕ, ◌≤◌, List, map, Option, None, Some, option_map, refl, sym, get_or, pos, ◌+ℤ◌, All, all_unmapped, some_same, All-map}
 use Rattle.std.specs.FinMap as finmap
 use Rattle.std.proofs.lemmas.List.Sorted.{All-permutation}
 use Rattle.xa_base.specs.{Chain}
-use Rattle.xa_tables.specs.Tables.{Tables}
-use Rattle.xa_tables.specs.History.{History}
-use Rattle.xa_tables.specs.{Absent, added_over}
-use Rattle.xa_switch.specs.Settling.{Settling}
-use Rattle.xa_switch.specs.{IsSettled, IsOpenedWith, first_of}
-use Rattle.xa_grammar.specs.{Declared, IsScript, managers_of}
-use Rattle.xa_grammar.specs.Content.{Content}
+use Rattle.xa_tables.specs.{Tables, History, Absent, added_over}
+use Rattle.xa_switch.specs.{Settling, IsSettled, IsOpenedWith, first_of}
+use Rattle.xa_grammar.specs.{Declared, IsScript, managers_of, Content}
 use Rattle.xa_transcript.specs.{Told, opened, opened_after, histories, name_of}
 use Rattle.xa_telling.specs.{Beginning, Opening, Former, TellsOf, Leaves, Tells, beginning, settled_over}
 use Rattle.xa_shown.specs.{IsSumOfShares}

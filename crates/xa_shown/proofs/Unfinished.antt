@@ -1,12 +1,10 @@
 -- What a commit that came to no end left, by the line that shows it: it goes by the record.
-use Rattle.std.proofs.Common.{arith}
-use Rattle.xa_base.proofs.{⊎_elim, ◌≡◌, ℕ, inl, inr, Bool, true, false, ◌&&◌, List, [], Option, None, get_or, sym, refl, ap, ◌∙◌, subst, Global, Vec, ◌⊎◌, All}
+use Rattle.xa_base.proofs.{arith, ◌≡◌, ℕ, inl, inr, Bool, true, false, ◌&&◌, List, [], Option, None, get_or, sym, refl, ap, ◌∙◌, subst, Global, Vec, ◌⊎◌, All}
 use Rattle.xa_base.proofs.{is_some, not, list_any, or-true, and_parts, list_any_none}
-use Rattle.xa_words.specs.{TranName, Death, Op}
-use Rattle.xa_words.specs.declared.code.Code.{Code}
+use Rattle.xa_words.specs.{TranName, Death, Op, Code}
 use Rattle.xa_words.specs.declared.death.Death.TheVariants as death
 use Rattle.xa_worker.specs.{Entry}
-use Rattle.xa_switch.specs.Settling.{Settling}
+use Rattle.xa_switch.specs.{Settling}
 use Rattle.xa_calls.specs.Scans.{Asking}
 use Rattle.xa_driver.specs.{Branch, Done as Outcome, Ending, is_commit, CameTo, IsDecidedBy, Putting, VotesAndObeys, decides_commit, has_yes, is_no, EachBranch}
 use Rattle.xa_driver.specs.{decision_of}

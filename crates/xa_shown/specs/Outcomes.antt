@@ -5,9 +5,9 @@ use Rattle.std.specs.List.{list_any}
 use Rattle.std.specs.FinMap as finmap
 use Rattle.xa_base.specs.Lists.{Chain}
 use Rattle.xa_words.specs.Xid.{xid_eq}
-use Rattle.xa_tables.specs.History.{Absent}
+use Rattle.xa_tables.specs.Histories.{Absent}
 use Rattle.xa_tables.specs.Openings.{added_over}
-use Rattle.xa_switch.specs.Settling.{Settling, journal}
+use Rattle.xa_switch.specs.Settled.{Settling, journal}
 use Rattle.xa_switch.specs.Fates.{IsOpenedWith}
 use Rattle.xa_scan.specs.Left.{ScanView, left_at}
 use Rattle.xa_driver.specs.declared.branch.Branch.{Branch}
@@ -22,7 +22,7 @@ use Rattle.xa_grammar.specs.declared.step.CommitAll.{CommitAll}
 use Rattle.xa_grammar.specs.declared.step.Action.TheVariants as action
 use Rattle.xa_grammar.specs.Steps.{ScriptCalling, ScriptAction, ScriptTask, ScriptStep}
 use Rattle.xa_grammar.specs.declared.script.Declared.{Declared}
-use Rattle.xa_grammar.specs.Content.{Content, tasks_of}
+use Rattle.xa_grammar.specs.Contents.{Content, tasks_of}
 use Rattle.xa_transcript.specs.declared.answer.Told.{Told}
 use Rattle.xa_session.specs.Committing.{branches_of}
 use Rattle.xa_telling.specs.Parts.{Part}

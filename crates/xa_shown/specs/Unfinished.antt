@@ -9,11 +9,11 @@ use Rattle.xa_words.specs.declared.code.Code.TheVariants.{Done as OK}
 use Rattle.xa_words.specs.declared.death.Death.{Death}
 use Rattle.xa_words.specs.declared.death.Death.TheVariants.{Preparing, Prepared, Decided, Telling, Told}
 use Rattle.xa_words.specs.declared.request.Op.TheVariants.{Prepare}
-use Rattle.xa_tables.specs.History as history
+use Rattle.xa_tables.specs.Histories as history
 use Rattle.xa_tables.specs.declared.state.HeuristicDecision.{HeuristicDecision}
-use Rattle.xa_tables.specs.History.{Fate, decided_fate}
+use Rattle.xa_tables.specs.Histories.{Fate, decided_fate}
 use Rattle.xa_worker.specs.Journal.{Entry}
-use Rattle.xa_switch.specs.Settling.{Settling}
+use Rattle.xa_switch.specs.Settled.{Settling}
 use Rattle.xa_switch.specs.Fates.{history as history_of, settled_fate}
 use Rattle.xa_driver.specs.declared.branch.Branch.{Branch}
 use Rattle.xa_driver.specs.declared.done.Done.{Done}

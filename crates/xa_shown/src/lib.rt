@@ -7,14 +7,14 @@
 
 ghost use Rattle.std.specs.Prelude.{◌≡◌, ℕ, List, All, Vec, false, [], ◌++◌, ◌∷◌};
 ghost use Rattle.std.specs.Global.{Global};
-ghost use Rattle.xa_switch.specs.Settling.{Settling};
+ghost use Rattle.xa_switch.specs.Settled.{Settling};
 ghost use Rattle.xa_driver.specs.declared.done.Done.{Done};
 ghost use Rattle.xa_words.specs.declared.code.Code.{Code};
 ghost use Rattle.xa_words.specs.declared.death.Death.{Death};
 ghost use Rattle.xa_words.specs.Tran.{TranName};
 ghost use Rattle.xa_grammar.specs.declared.step.CommitAll.{CommitAll};
 ghost use Rattle.xa_grammar.specs.declared.script.Declared.{Declared};
-ghost use Rattle.xa_grammar.specs.Content.{Content, IsScript};
+ghost use Rattle.xa_grammar.specs.Contents.{Content, IsScript};
 ghost use Rattle.xa_transcript.specs.declared.answer.Told.{Told};
 ghost use Rattle.xa_session.specs.Committing.{branches_of, named};
 ghost use Rattle.xa_telling.specs.Parts.{Part};

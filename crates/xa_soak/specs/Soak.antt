@@ -2,7 +2,7 @@
 use Rattle.std.specs.Prelude.{◌≡◌, ℕ, pos, ◌≤◌, List, [], ◌∷◌, length, map, option_map, Option}
 use Rattle.std.specs.List.{All}
 use Rattle.xa_replay.specs.Replay.{Agrees}
-use Rattle.xa_switch.specs.Settling.{Settling, journal, sent, value}
+use Rattle.xa_switch.specs.Settled.{Settling, journal, sent, value}
 
 -- how many requests each of eight threads sent to manager m
 abbrev pub sent_by_all : Settling → ℕ → List ℕ

@@ -1,6 +1,6 @@
 //! What a thread does: calls, completions and commits at random.
 ghost use Rattle.std.specs.Prelude.{◌<◌};
-ghost use Rattle.xa_desk.specs.GoesOn.{GoesOn};
+ghost use Rattle.xa_desk.specs.GoingOn.{GoesOn};
 ghost use Rattle.xa_desk.specs.Kept.{AllKept};
 
 use crate::counts::Counts;

@@ -1,16 +1,15 @@
 -- All threads and managers of a settled opening agree.
-use Rattle.xa_base.proofs.{◌≡◌, ℕ, zero, suc, ◌+◌, ◌-◌, ◌<◌, ◌≤◌, true, false, ◌==◌, nat_eq, cond, List, [], ◌∷◌, length, map, sym, refl, ap, ◌∙◌, inl, inr}
-use Rattle.xa_base.proofs.{arith, ne_eqb, Option, All, Contains, eqb-true, cases_lt, none_twice, All-contains, false_from_ne_true}
+use Rattle.xa_base.proofs.{◌≡◌, ℕ, zero, suc, ◌+◌, ◌-◌, false, ◌==◌, nat_eq, cond, List, [], ◌∷◌, map, sym, refl, ap, ◌∙◌, inl, inr, arith, ne_eqb, Option, All}
+use Rattle.xa_base.proofs.{Contains, eqb-true, cases_lt, none_twice, All-contains, false_from_ne_true}
 use Rattle.std.proofs.lemmas.Simd.{map-map as map_map}
 use Rattle.xa_words.specs.{Request, Completion}
 use Rattle.xa_lane.specs.{Receiving, items_in, received}
 use Rattle.xa_tables.specs.{of_thread, accepted, parted, IsOpening}
-use Rattle.xa_desk.specs.LedgerView.{LedgerView}
-use Rattle.xa_desk.specs.{is_known, sent_to, collected_from, EndedView}
+use Rattle.xa_desk.specs.{LedgerView, is_known, sent_to, collected_from, EndedView}
 use Rattle.xa_desk.proofs.Ledgers.{known_is, known_true}
 use Rattle.xa_worker.specs.{Entry, requests, Asking, asked, of_sender_thread, of_own_thread, Served, IsServed, IsOrdered}
-use Rattle.xa_switch.specs.{HasDesks, HasWorkers, has_desk, has_worker, FollowsTables, Agree, IsSettled, ledgers_in, journal_in, ThreadPart, ManagerPart}
-use Rattle.xa_switch.specs.{column, IsClosed, desk_lane, worker_lane, thread_part, manager_part, taken_by, settling}
+use Rattle.xa_switch.specs.{has_desk, has_worker, FollowsTables, Agree, IsSettled, ledgers_in, journal_in, ThreadPart, ManagerPart, column, IsClosed, desk_lane}
+use Rattle.xa_switch.specs.{worker_lane, thread_part, manager_part, taken_by, settling}
 use Rattle.xa_switch.proofs.Lists.{SearchedAs, all_map, contains_map, searched}
 use Rattle.xa_switch.proofs.OneLane.{none_of}
 use Rattle.xa_switch.proofs.Pieces.{Joint, workers_opened, request_columns, completion_columns, pair_agrees, known_at}

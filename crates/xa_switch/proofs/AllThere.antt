@@ -1,8 +1,7 @@
 -- In a settled opening every manager is there.
-use Rattle.xa_base.proofs.{◌≡◌, ℕ, zero, ◌-◌, ◌≤◌, true, false, ◌==◌, List, [], ◌∷◌, length, map, refl, sym, ap, ◌∙◌, subst, arith, cond, option_map, Some, inl}
-use Rattle.xa_base.proofs.{inr, not_both, Contains, eqb-true, length-map}
-use Rattle.xa_desk.specs.LedgerView.{LedgerView}
-use Rattle.xa_desk.specs.{EndedView}
+use Rattle.xa_base.proofs.{◌≡◌, ℕ, zero, ◌-◌, ◌≤◌, true, ◌==◌, List, [], ◌∷◌, length, map, refl, sym, ap, subst, arith, option_map, Some, inl, inr, not_both}
+use Rattle.xa_base.proofs.{Contains, eqb-true, length-map}
+use Rattle.xa_desk.specs.{LedgerView, EndedView}
 use Rattle.xa_worker.specs.{Served}
 use Rattle.xa_switch.specs.{has_worker, ManagerPart, ReadyPart, find_manager, settling, manager_part, ready_part, IsWhole, managers_in, parts_of, find_ready}
 use Rattle.xa_switch.proofs.Lists.{searched}

@@ -1,6 +1,6 @@
 -- Rows that are dealt into columns.
-use Rattle.xa_base.proofs.{◌≡◌, ℕ, zero, suc, ◌+◌, ◌<◌, ◌≤◌, List, [], ◌∷◌, ◌++◌, length, map, set, get_or, slice_get, drop, refl, sym, ap, ◌∙◌, subst, arith}
-use Rattle.xa_base.proofs.{length-append, ◌⊎◌, inl, inr, Some, All, get_or-map as get_or-map', length-map, option_map, into_iter_items, into_iter_len}
+use Rattle.xa_base.proofs.{◌≡◌, ℕ, zero, suc, ◌+◌, ◌<◌, ◌≤◌, List, [], ◌∷◌, ◌++◌, length, map, set, get_or, slice_get, drop, refl, sym, ap, subst, arith}
+use Rattle.xa_base.proofs.{length-append, inl, inr, Some, All, get_or-map as get_or-map', length-map, option_map, into_iter_items, into_iter_len}
 use Rattle.xa_base.proofs.{slice_get_within, slice_get-map, slice_get-get_or, got_push, map-append, All-map, all_unmapped}
 use Rattle.std.proofs.lemmas.List.{map-set}
 use Rattle.std.specs.declared.vec.IntoIter.{IntoIter}

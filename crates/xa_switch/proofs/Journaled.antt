@@ -1,15 +1,11 @@
 -- A settled journal is what the tables at the opening make of its requests.
-use Rattle.std.proofs.Common.{arith}
-use Rattle.xa_base.proofs.{option_map, same_Some, ◌≡◌, ℕ, ◌==◌, List, [], ◌∷◌, sym, refl, ap, ◌∙◌, subst, Option, Some, None, All-contains}
+use Rattle.xa_base.proofs.{arith, option_map, same_Some, ◌≡◌, ℕ, ◌==◌, List, [], ◌∷◌, sym, refl, ap, ◌∙◌, subst, Option, Some, None, All-contains}
 use Rattle.std.specs.FinMap as finmap
-use Rattle.xa_tables.specs.Tables.{Tables}
-use Rattle.xa_tables.specs.{next, coded, codes, opening, IsNew, ValueIsSum, left_by}
+use Rattle.xa_tables.specs.{Tables, next, coded, codes, opening, IsNew, ValueIsSum, left_by, History}
 use Rattle.xa_words.specs.Orders.{key_cmp}
-use Rattle.xa_tables.specs.History.{History}
 use Rattle.xa_tables.proofs.Reopening.{new_opens, accounts_new}
 use Rattle.xa_worker.specs.{Entry, requests, codes_in}
-use Rattle.xa_switch.specs.{ManagerPart, FollowsTables, IsSettled, find_manager, IsOpenedWith, IsSumOver, first_of, history}
-use Rattle.xa_switch.specs.Settling.{Settling}
+use Rattle.xa_switch.specs.{ManagerPart, FollowsTables, IsSettled, find_manager, IsOpenedWith, IsSumOver, first_of, history, Settling}
 use Rattle.xa_switch.proofs.Lists.{found, some_of}
 
 -- entries with the codes of their places

@@ -1,5 +1,5 @@
 -- Elements of lists: where they stand, what maps and searches make of them.
-use Rattle.xa_base.proofs.{◌≡◌, ℕ, suc, ◌<◌, Bool, true, false, cond, ◌||◌, List, [], ◌∷◌, ◌++◌, length, map, get_or, slice_get, option_map, sym, refl, ap, ◌∙◌}
+use Rattle.xa_base.proofs.{◌≡◌, ℕ, suc, ◌<◌, Bool, true, false, cond, List, [], ◌∷◌, ◌++◌, length, map, get_or, slice_get, option_map, sym, refl, ap, ◌∙◌}
 use Rattle.xa_base.proofs.{subst, ◌⊎◌, ⊎_elim, inl, inr, arith, Option, Some, None, list_any, Contains, All, AllPairs, slice_get-get_or, slice_get-map}
 use Rattle.xa_base.proofs.{get_or-map, length-map, contains_at, false_from_ne_true, All-map}
 use Rattle.std.proofs.lemmas.Bool.{both_ways}

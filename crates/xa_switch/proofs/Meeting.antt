@@ -1,14 +1,12 @@
 -- Desks and workers of one opening.
-use Rattle.std.proofs.Common.{rules}
-use Rattle.xa_base.proofs.{◌≡◌, ℕ, ◌+◌, ◌≤◌, List, [], ◌∷◌, length, slice_get, refl, sym, ap, ◌∙◌, subst, arith, map, Some, All, length-map, slice_get_within}
-use Rattle.xa_base.proofs.{All-map, got, got_map, all_from, all_at}
+use Rattle.xa_base.proofs.{rules, ◌≡◌, ℕ, ◌+◌, List, [], length, slice_get, sym, ap, ◌∙◌, subst, arith, map, Some, All, length-map, slice_get_within, All-map}
+use Rattle.xa_base.proofs.{got, got_map, all_from, all_at}
 use Rattle.xa_switch.specs.{Each, AreLanes, IsRequestSender, IsCompletionSender, DesksFit, WorkersFit, IsDeskOf, IsWorkerOf, IsLaidOut, IsNewDesk, IsNewWorker}
 use Rattle.xa_switch.specs.{ShareNewLanes, AreOfOneOpening, Setup, setup, new_manager, completion_room, Layout}
 use Rattle.xa_words.specs.{Request}
 use Rattle.xa_lane.specs.{Sending}
-use Rattle.xa_desk.specs.DeskView.{DeskView}
-use Rattle.xa_desk.specs.{new_desk}
-use Rattle.xa_worker.specs.{Answering, Reserved, WorkerView, new_worker}
+use Rattle.xa_desk.specs.{DeskView}
+use Rattle.xa_worker.specs.{Answering, WorkerView}
 use Rattle.xa_tables.specs.{Managed, IsOpening}
 
 -- each sender of a column has its receiver

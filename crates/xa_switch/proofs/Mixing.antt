@@ -1,5 +1,5 @@
 -- Desks and workers that are left out, that are taken in another order, and that are of several openings.
-use Rattle.xa_base.proofs.{◌≡◌, ◌≢◌, ℕ, suc, ◌<◌, ◌≤◌, List, [], ◌∷◌, ◌++◌, length, length-append, map, get_or, sym, refl, ap, ◌∙◌, subst, inl, inr, arith, All}
+use Rattle.xa_base.proofs.{◌≡◌, ◌≢◌, ℕ, suc, ◌<◌, List, [], ◌∷◌, ◌++◌, length, length-append, map, get_or, sym, refl, ap, ◌∙◌, subst, inl, inr, arith, All}
 use Rattle.xa_base.proofs.{AllPairs, cases_lt, cases_eq, All-append, all_left, all_unmapped, all_right}
 use Rattle.std.specs.List.{swap}
 use Rattle.std.proofs.lemmas.List.{get_or_append_left}

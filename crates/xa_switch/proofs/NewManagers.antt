@@ -1,11 +1,8 @@
 -- Managers that an opening begins with, each with its tables.
-use Rattle.std.proofs.Common.{arith}
 use Rattle.xa_base.proofs.{◌≡◌, List, map, refl, sym, ap, ◌∙◌, subst, get_or, All, All-map}
 use Rattle.std.proofs.lemmas.Simd.{map-map as map_map}
-use Rattle.xa_tables.specs.{Managed, IsOpening}
-use Rattle.xa_tables.specs.Tables.{Tables}
-use Rattle.xa_switch.specs.{new_manager}
-use Rattle.xa_switch.specs.declared.plan.Again.{Again}
+use Rattle.xa_tables.specs.{Managed, IsOpening, Tables}
+use Rattle.xa_switch.specs.{new_manager, Again}
 
 -- one is made of each of xs, with these numbers
 module _ {A : Type 0} (n : Again) (tables : A → Tables) (xs : List A) (ms : List Managed) (made : ms ≡ map (λ x. new_manager n (tables x)) xs) where

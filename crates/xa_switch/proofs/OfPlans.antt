@@ -4,12 +4,11 @@ use Rattle.xa_base.proofs.{inr, eq-eqb, arith, All, Contains, range_with_len, eq
 use Rattle.std.specs.List.Sorted.{IsPermutation}
 use Rattle.std.proofs.lemmas.List.Sorted.{IsPermutation-sym, IsPermutation-map, Contains-permutation, All-permutation}
 use Rattle.std.proofs.lemmas.Simd.{map-map as map_map}
-use Rattle.xa_desk.specs.DeskView.{DeskView}
-use Rattle.xa_desk.specs.{EndedView}
+use Rattle.xa_desk.specs.{DeskView, EndedView}
 use Rattle.xa_worker.specs.{WorkerView, Served}
 use Rattle.xa_switch.specs.{settling, thread_part, manager_part, Each, IsOf, first_of, Setup, AreOfOneOpening, IsNewDesk, IsNewWorker, DeskSeat, WorkerSeat}
 use Rattle.xa_switch.specs.{desk_seats, worker_seats, seat_of_desk, seat_of_worker, seat_of_ended, seat_of_done, first_opening, AreAll, ThreadPart, ManagerPart}
-use Rattle.xa_tables.specs.Tables.{Tables}
+use Rattle.xa_tables.specs.{Tables}
 use Rattle.xa_words.specs.{Completion}
 use Rattle.xa_lane.specs.{Receiving}
 use Rattle.xa_switch.proofs.Lists.{all_map, contains_map, get_contained, fails_each, searched}

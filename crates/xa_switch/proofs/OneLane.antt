@@ -4,9 +4,8 @@ use Rattle.xa_base.proofs.{subst, ⊎_elim, inl, inr, arith, eq-eqb, ne_eqb, Opt
 use Rattle.xa_base.proofs.{and_parts, same_Some}
 use Rattle.std.proofs.lemmas.Bool.{cond_both}
 use Rattle.std.proofs.lemmas.List.Folds.{Any-from_list_any}
-use Rattle.xa_words.specs.declared.code.Code.{Code}
-use Rattle.xa_words.specs.{Op, Request, Completion}
-use Rattle.xa_lane.specs.{Parcel, of_sender, Sending, Receiving, somes, received, has_ended, left_of, sent_at}
+use Rattle.xa_words.specs.{Code, Op, Request, Completion}
+use Rattle.xa_lane.specs.{Parcel, of_sender, Sending, Receiving, somes, received, has_ended, sent_at}
 use Rattle.xa_tables.specs.{of_thread}
 use Rattle.xa_desk.specs.{drained_code, numbered, arrived, IsPartOf, nothing, with_last, without_last}
 use Rattle.xa_worker.specs.{Entry, requests, completion_of}

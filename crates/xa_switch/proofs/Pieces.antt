@@ -2,8 +2,7 @@
 use Rattle.xa_base.proofs.{◌≡◌, ℕ, ◌+◌, ◌-◌, ◌<◌, ◌≤◌, ◌==◌, List, [], ◌∷◌, length, map, filter, replicate, get_or, slice_get, sym, refl, ap, ◌∙◌, subst, arith}
 use Rattle.xa_base.proofs.{Some, All, Contains, slice_get_within, All-contains, was_mapped}
 use Rattle.std.proofs.lemmas.List.Elements.{Contains-get_or}
-use Rattle.xa_words.specs.declared.code.Code.{Code}
-use Rattle.xa_words.specs.{Request, Completion}
+use Rattle.xa_words.specs.{Code, Request, Completion}
 use Rattle.xa_lane.specs.{Sending}
 use Rattle.xa_tables.specs.{of_thread, IsOpening}
 use Rattle.xa_desk.specs.{IsKnown, ledger, numbered, arrived, EndedView, IsEnded}

@@ -1,6 +1,5 @@
 -- Elements that are taken out of a list.
-use Rattle.xa_base.proofs.{◌≡◌, ℕ, zero, suc, ◌+◌, ◌<◌, Bool, true, false, cond, Some, List, [], ◌∷◌, length, take, get_or, sym, ap, ◌∙◌, arith, All, All-head}
-use Rattle.xa_base.proofs.{All-tail}
+use Rattle.xa_base.proofs.{◌≡◌, ℕ, zero, suc, ◌<◌, Bool, true, false, cond, Some, List, [], ◌∷◌, length, take, get_or, sym, ap, arith, All, All-head, All-tail}
 use Rattle.std.proofs.Common.{remove}
 use Rattle.std.specs.List.{find}
 

@@ -4,8 +4,7 @@ use Rattle.xa_base.proofs.{slice_get-map, slice_get-get_or, contains_at, All-con
 use Rattle.xa_words.specs.{Request, Completion}
 use Rattle.xa_tables.specs.{IsOpening}
 use Rattle.xa_lane.specs.{Sending, Receiving}
-use Rattle.xa_desk.specs.DeskView.{DeskView}
-use Rattle.xa_desk.specs.{ledger, AllKept}
+use Rattle.xa_desk.specs.{DeskView, ledger, AllKept}
 use Rattle.xa_desk.proofs.Fresh.{fresh_sent}
 use Rattle.xa_worker.specs.{Answering, WorkerView}
 use Rattle.xa_switch.specs.{Setup, IsNewDesk, IsNewWorker, ShareNewLanes, AreOfOneOpening, DeskSeat, WorkerSeat, openings_of, end_seat, seat_of_desk}

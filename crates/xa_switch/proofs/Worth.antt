@@ -1,21 +1,17 @@
 -- What all accounts are worth together is what was declared and what the threads have moved.
-use Rattle.std.proofs.Common.{rules}
-use Rattle.xa_base.proofs.{ℤ, pos, ◌+ℤ◌, unwrap_or, All, ◌≡◌, ℕ, zero, suc, Bool, filter, All-nil, All-cons, ◌+◌, ◌-◌, ◌<◌, ◌≤◌, ◌==◌, true, false, cond, List}
-use Rattle.xa_base.proofs.{[], ◌∷◌, if◌then◌else◌, length, map, get_or, sym, refl, ap, ◌∙◌, arith, Some, None, Contains, range_with_len, eqb-true, eqb-false}
-use Rattle.xa_base.proofs.{length-range_with_len, get_or-range_with_len, +ℤ_idl as none_plus, +ℤ_idr as plus_none, total_same, total_alike, total_both}
-use Rattle.xa_base.proofs.{total_nothing, total_across, contains_at, range_all, got, got_map, All-contains, inl, inr, cases_eq, eq-eqb, ne_eqb}
+use Rattle.xa_base.proofs.{rules, ℤ, pos, ◌+ℤ◌, unwrap_or, All, ◌≡◌, ℕ, zero, suc, Bool, filter, All-nil, All-cons, ◌+◌, ◌-◌, ◌<◌, ◌≤◌, ◌==◌, true, false, cond}
+use Rattle.xa_base.proofs.{List, [], ◌∷◌, if◌then◌else◌, length, map, get_or, sym, refl, ap, ◌∙◌, arith, Some, None, Contains, range_with_len, eqb-true}
+use Rattle.xa_base.proofs.{eqb-false, length-range_with_len, get_or-range_with_len, +ℤ_idl as none_plus, +ℤ_idr as plus_none, total_same, total_alike}
+use Rattle.xa_base.proofs.{total_both, total_nothing, total_across, contains_at, range_all, got, got_map, All-contains, inl, inr, cases_eq, eq-eqb, ne_eqb}
 use Rattle.std.specs.FinMap as finmap
 use Rattle.std.proofs.lemmas.List.Sorted.{IsPermutation-sym, Contains-permutation}
-use Rattle.xa_switch.specs.{ManagerPlan, Plan, IsSoundManager, IsOfPlan, ThreadPart, IsSettled, find_thread, ledgers_in, value, sent, IsOpenedWith, first_of}
-use Rattle.xa_switch.specs.{history, threads_of, managers_of, accounts_in, accounts_of, plan_worth, moved_at, WorthIsOfThreads}
+use Rattle.xa_switch.specs.{ManagerPlan, Plan, IsSoundManager, IsOfPlan, ThreadPart, IsSettled, find_thread, value, sent, IsOpenedWith, first_of, history}
+use Rattle.xa_switch.specs.{threads_of, managers_of, accounts_in, accounts_of, plan_worth, moved_at, WorthIsOfThreads, Settling}
 use Rattle.xa_base.specs.{total}
 use Rattle.xa_words.specs.{Request}
-use Rattle.xa_tables.specs.Tables.{Tables}
-use Rattle.xa_tables.specs.{value_of, next, are_accounts, opening, of_thread, tables_after, worth_declared, moved, moved_by as moved_by_request, is_any, is_of}
-use Rattle.xa_tables.specs.{WorthIsMoved}
-use Rattle.xa_tables.specs.History.{History}
-use Rattle.xa_desk.specs.{numbered, sent_to, is_known, ledger}
-use Rattle.xa_switch.specs.Settling.{Settling}
+use Rattle.xa_tables.specs.{Tables, value_of, next, are_accounts, opening, of_thread, tables_after, worth_declared, moved, moved_by as moved_by_request, is_any}
+use Rattle.xa_tables.specs.{is_of, WorthIsMoved, History}
+use Rattle.xa_desk.specs.{numbered}
 use Rattle.xa_switch.proofs.Lists.{found, contains_map}
 use Rattle.xa_switch.proofs.Journaled.{follows_first}
 

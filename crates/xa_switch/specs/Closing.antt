@@ -6,12 +6,12 @@ use Rattle.xa_base.specs.declared.limits.TheConstants.{MOST_SENDERS}
 use Rattle.xa_words.specs.declared.request.Completion.{Completion}
 use Rattle.xa_lane.specs.Ends.{Sending, Receiving}
 use Rattle.xa_lane.specs.Closing.{IsWhole, Conserves, LeavesNothing, AreKnown, items_in}
-use Rattle.xa_tables.specs.History.{History}
+use Rattle.xa_tables.specs.Histories.{History}
 use Rattle.xa_desk.specs.Ended.{EndedView}
 use Rattle.xa_worker.specs.Workers.{Asking}
 use Rattle.xa_worker.specs.Done.{Served}
 use Rattle.xa_switch.specs.Columns.{put_row}
-use Rattle.xa_switch.specs.Settling.{ThreadPart, ManagerPart, ReadyPart, Settling}
+use Rattle.xa_switch.specs.Settled.{ThreadPart, ManagerPart, ReadyPart, Settling}
 use Rattle.xa_switch.specs.Belonging.{first_opening}
 use Rattle.xa_switch.specs.declared.settling.gathered.Gathered.{Gathered}
 

@@ -2,12 +2,12 @@
 use Rattle.std.specs.Prelude.{◌≡◌, ℕ, Option, None, Some, option_map, List, [], ◌∷◌, ◌++◌}
 use Rattle.std.specs.FinMap as finmap
 use Rattle.xa_words.specs.Xid.{XidName}
-use Rattle.xa_tables.specs.Tables.{Tables}
-use Rattle.xa_tables.specs.History.{History, Fate, fate, coded, tables_after}
+use Rattle.xa_tables.specs.ManagerTables.{Tables}
+use Rattle.xa_tables.specs.Histories.{History, Fate, fate, coded, tables_after}
 use Rattle.xa_tables.specs.Openings.{IsOpening, value_over}
-use Rattle.xa_desk.specs.LedgerView.{LedgerView}
+use Rattle.xa_desk.specs.LedgerViews.{LedgerView}
 use Rattle.xa_worker.specs.Journal.{requests}
-use Rattle.xa_switch.specs.Settling.{ManagerPart, Settling, ledgers_in, find_thread, find_manager, journal, value}
+use Rattle.xa_switch.specs.Settled.{ManagerPart, Settling, ledgers_in, find_thread, find_manager, journal, value}
 
 -- what the settled opening has of thread t
 abbrev pub ledgers_of : Settling → ℕ → List LedgerView

@@ -2,13 +2,13 @@ pub mod Plans
 pub mod Columns
 pub mod Lanes
 pub mod OpenedPieces
-pub mod Settling
+pub mod Settled
 pub mod Belonging
 pub mod Closing
 pub mod Fates
 pub mod OfPlans
 pub mod Worth
-pub mod Again
+pub mod Reopening
 pub mod Recovery
 -- The words of this crate, by its name.
 pub use Plans.{IsSound, IsSoundManager, IsUniform, IsWithinLimits, Setup, completion_room, manager_room, new_manager}
@@ -18,8 +18,8 @@ pub use Lanes.{AreNewLanes, IsCompletionEnd, IsCompletionSender, IsNewPair, IsNe
 pub use Lanes.{IsRequestSender, lane_to}
 pub use OpenedPieces.{AreOfOneOpening, DesksFit, IsDeskOf, IsLaidOut, IsNewDesk, IsNewWorker, IsWorkerOf, ShareNewLanes}
 pub use OpenedPieces.{WorkersFit, desk_parts, worker_parts}
-pub use Settling.{Agree, FollowsTables, HasNumber, IsSettled, ManagerPart, ReadyPart, ThreadPart, answers, collected}
-pub use Settling.{find_manager, find_thread, journal, journal_in, ledgers_in, sent, value, value_in}
+pub use Settled.{Agree, FollowsTables, HasNumber, IsSettled, ManagerPart, ReadyPart, Settling, ThreadPart, answers}
+pub use Settled.{collected, find_manager, find_thread, journal, journal_in, ledgers_in, sent, value, value_in}
 pub use Belonging.{AreAll, AreApartDesks, AreApartWorkers, AreOfOne, AreSomeOf, AreTogether, ComeFromOpenings, DeskSeat}
 pub use Belonging.{EndSeat, HasDesks, HasWorkers, IsWhyUnsettled, ShareLanes, WorkerSeat, desk_opening, desk_seats}
 pub use Belonging.{end_seat, first_opening, first_worker_opening, has_desk, has_worker, openings_of, seat_of_desk}
@@ -30,10 +30,11 @@ pub use Fates.{IsOpenedWith, IsSumOver, fate_in, first_of, history, ledgers_of, 
 pub use OfPlans.{IsOf, IsOfPlan}
 pub use Worth.{WorthIsOfThreads, accounts_in, accounts_of, managers_of, moved_at, moved_by, plan_worth, settled_worth}
 pub use Worth.{threads_of}
-pub use Again.{IsWhole, MayReopen, find_ready, first_ledgers, flags_in, last_in, managers_in, parts_of, reopened_at}
-pub use Again.{reopening}
+pub use Reopening.{IsWhole, MayReopen, find_ready, first_ledgers, flags_in, last_in, managers_in, parts_of, reopened_at}
+pub use Reopening.{reopening}
 pub use Recovery.{AreScansOf, HasLeft, IsScanOf}
 pub use declared.opening.layout.Layout.{Layout}
+pub use declared.plan.Again.{Again}
 pub use declared.plan.ManagerPlan.{ManagerPlan}
 pub use declared.plan.Plan.{Plan}
 pub use declared.settling.Why.{Why}

@@ -2,8 +2,8 @@
 use Rattle.std.specs.Prelude.{◌≡◌, ℕ, ◌+◌, map, slice_get, Some}
 use Rattle.std.specs.List.{range_with_len}
 use Rattle.std.specs.List.Sorted.{IsPermutation}
-use Rattle.xa_tables.specs.Tables.{Tables}
-use Rattle.xa_switch.specs.Settling.{Settling}
+use Rattle.xa_tables.specs.ManagerTables.{Tables}
+use Rattle.xa_switch.specs.Settled.{Settling}
 use Rattle.xa_switch.specs.Fates.{first_of}
 use Rattle.xa_switch.specs.Plans.{Setup, planned}
 use Rattle.xa_switch.specs.declared.plan.Plan.{Plan}

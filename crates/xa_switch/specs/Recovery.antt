@@ -2,8 +2,8 @@
 use Rattle.std.specs.Prelude.{◌≡◌, ℕ, ◌+◌, List, length}
 use Rattle.std.specs.List.{All}
 use Rattle.xa_tables.specs.Openings.{AreLeft}
-use Rattle.xa_switch.specs.Settling.{Settling}
-use Rattle.xa_switch.specs.Again.{managers_in, reopened_at}
+use Rattle.xa_switch.specs.Settled.{Settling}
+use Rattle.xa_switch.specs.Reopening.{managers_in, reopened_at}
 use Rattle.xa_scan.specs.Left.{ScanView, NoneOpen}
 use Rattle.xa_switch.specs.Columns.{Each}
 use Rattle.xa_words.specs.Xid.{XidName}

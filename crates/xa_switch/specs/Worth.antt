@@ -6,7 +6,7 @@ use Rattle.xa_tables.specs.Managers.{opening}
 use Rattle.xa_tables.specs.Worth.{worth_declared, moved, is_of}
 use Rattle.xa_switch.specs.declared.plan.Plan.{Plan}
 use Rattle.xa_switch.specs.declared.plan.ManagerPlan.{ManagerPlan}
-use Rattle.xa_switch.specs.Settling.{Settling, value}
+use Rattle.xa_switch.specs.Settled.{Settling, value}
 use Rattle.xa_switch.specs.Fates.{history}
 
 -- the threads and the managers of a plan, by number

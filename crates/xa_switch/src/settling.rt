@@ -1,7 +1,7 @@
 //! How an opening is settled, once its desks have ended and its workers have run.
 ghost use Rattle.std.specs.Prelude.{◌≡◌, ◌≤◌, length, map, IfOk, IfErr, OnOk};
 ghost use Rattle.std.specs.List.{All};
-ghost use Rattle.xa_switch.specs.Settling.{IsSettled, journal};
+ghost use Rattle.xa_switch.specs.Settled.{IsSettled, journal};
 ghost use Rattle.xa_switch.specs.Belonging.{desk_seats, worker_seats, ComeFromOpenings, AreOfOne, AreAll};
 ghost use Rattle.xa_switch.specs.Belonging.{IsWhyUnsettled, first_opening};
 ghost use Rattle.xa_switch.specs.Closing.{settling, HasRoomFor};

@@ -6,11 +6,9 @@ use Rattle.xa_words.specs.{XidName, xid_eq, Decides-xid_eq, Op}
 use Rattle.xa_tables.specs.{State, Active, Idle, RollbackOnly, HeuristicallyCompleted, Failed, Transient, Association, AssociationState, Associated, Suspended}
 use Rattle.xa_tables.specs.{association_of, has_association, is_association_with, is_associated, state_of, is_S1, is_S2, is_S3, is_S4, is_S5, is_left_in}
 use Rattle.xa_tables.specs.{is_rollback_only, is_somebody_associated, Answer, next, association, with_association, associated, dissociated, stated, gone}
-use Rattle.xa_tables.specs.{tables_after, ActiveWhileAssociated, IsOpening}
+use Rattle.xa_tables.specs.{tables_after, ActiveWhileAssociated, IsOpening, Tables, History}
 use Rattle.xa_tables.specs.declared.state.State.TheVariants.{Prepared as S3}
 use Rattle.xa_tables.specs.declared.state.HeuristicDecision.TheVariants as decision
-use Rattle.xa_tables.specs.Tables.{Tables}
-use Rattle.xa_tables.specs.History.{History}
 use Rattle.xa_tables.proofs.Effects.{Effect, Starts, Joins, Resumes, Suspends, Leaves, Fails, Idles, Dooms, Prepares, Commits, Drops, CommitsByItself}
 use Rattle.xa_tables.proofs.Effects.{RollsBackByItself, Forgets, effect_of}
 use Rattle.xa_tables.proofs.Law.{AtWork, standing, where_put, where_gone, nobody_rests, run_sound, opening_sound}

@@ -5,9 +5,7 @@ use Rattle.std.specs.FinMap as map
 use Rattle.xa_words.specs.{XidName, xid_eq, Decides-xid_eq, Done, RdOnly, Op, Add, Prepare}
 use Rattle.xa_tables.specs.{Association, touch_cmp, association_of, has_opened, is_rollback_only, reason_of, state_of, branch_in, has_touched, is_at_work}
 use Rattle.xa_tables.specs.{is_declared, branch_of, has_other_touched, sum_of, sums_without, Answer, next, ending, fate_of, tables_after, EndsNowhere}
-use Rattle.xa_tables.specs.{is_rolled_back}
-use Rattle.xa_tables.specs.Tables.{Tables}
-use Rattle.xa_tables.specs.History.{History}
+use Rattle.xa_tables.specs.{is_rolled_back, Tables, History}
 use Rattle.xa_tables.proofs.Effects.{reason_rolls_back}
 use Rattle.xa_tables.proofs.Moves.{Moves, Still, Ended, Added, moves_of}
 use Rattle.xa_tables.proofs.Law.{swap_xid}

@@ -4,17 +4,16 @@ use Rattle.xa_base.proofs.{or-true, and_parts, or_parts, not-false, by_if}
 use Rattle.std.specs.FinSet as set
 use Rattle.xa_words.specs.{XidName, xid_eq, Done, RdOnly, RbRollback, RbIntegrity, RbTransient, Async, RmErr, Nota, Inval, Proto, RmFail, DupId, Outside, Op}
 use Rattle.xa_words.specs.{OpenRm, CloseRm, Start, Add, End, Prepare, Commit, Rollback, Forget, Heur, Listed, Shut, StartHow, Fresh, Join, Resume, EndHow}
-use Rattle.xa_words.specs.{Success, Suspend, Fail}
-use Rattle.xa_words.specs.declared.code.Code.{Code}
+use Rattle.xa_words.specs.{Success, Suspend, Fail, Code}
 use Rattle.xa_tables.specs.{State, Active, Idle, RollbackOnly, Failed, Transient, Association, has_opened, association_of, has_association, is_T1, branch_in}
 use Rattle.xa_tables.specs.{state_of, exists, is_S4, is_suspended, is_associated, is_idle, is_prepared, is_rollback_only, is_completed, is_left, is_S5}
 use Rattle.xa_tables.specs.{reason_in, reason_of, decision_in, decision_of, is_somebody_associated, is_declared, has_touched, has_other_touched, is_broken}
 use Rattle.xa_tables.specs.{Answer, next, by_rules, open_rm, close_rm, start, add, end, prepare, commit_one, commit_two, rollback, heur, forget, listed}
 use Rattle.xa_tables.specs.{is_suspend, associated, suspended, dissociated, stated, added, gone, completed, committed, shut_down, Fate, ReadOnly, RolledBack}
 use Rattle.xa_tables.specs.{fate_of, if_named, prepare_fate, commit_fate, rollback_fate, ending_by, is_done, is_rolled_back, share_of, names, moved_by, held_by}
+use Rattle.xa_tables.specs.{Tables}
 use Rattle.xa_tables.specs.declared.state.State.TheVariants.{Prepared as S3}
 use Rattle.xa_tables.specs.declared.state.HeuristicDecision.TheVariants as decision
-use Rattle.xa_tables.specs.Tables.{Tables}
 use Rattle.xa_tables.specs.Next.{forgotten}
 
 -- ---- what a code tells

@@ -1,9 +1,7 @@
 -- The law: late requests make nothing of any branch.
 use Rattle.xa_base.proofs.{◌≡◌, refl, cons_option, ap}
 use Rattle.xa_words.specs.{XidName}
-use Rattle.xa_tables.specs.Tables.{Tables}
-use Rattle.xa_tables.specs.{next, Fate, fate, fate_in, fate_of, fates_in, coded, last_or}
-use Rattle.xa_tables.specs.History.{History}
+use Rattle.xa_tables.specs.{Tables, next, Fate, fate, fate_in, fate_of, fates_in, coded, last_or, History}
 use Rattle.xa_tables.proofs.ShutLemmas.{accepted_read, fates_quiet}
 
 pub late_leave_fates : (x : XidName) (f : Fate) (h : History) (T : Tables) → fate x f h T ≡ fate_in x f (coded h T)

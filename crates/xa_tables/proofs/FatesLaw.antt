@@ -3,10 +3,8 @@ use Rattle.xa_base.proofs.{◌≡◌, true, false, cond, if◌then◌else◌, Op
 use Rattle.std.specs.FinMap as map
 use Rattle.xa_words.specs.{XidName, xid_cmp}
 use Rattle.xa_tables.specs.{State, HeuristicDecision, state_of, is_left_in, Fate, Absent, RolledBack, is_live, is_in_doubt, decided_fate, fate, tables_after}
-use Rattle.xa_tables.specs.{accepted, IsFateOf, IsNew, IsOpening, reopened, reopened_fate, left_by, fate_left, told_by, FatesAreTold}
+use Rattle.xa_tables.specs.{accepted, IsFateOf, IsNew, IsOpening, reopened, reopened_fate, left_by, fate_left, told_by, FatesAreTold, Tables, History}
 use Rattle.xa_tables.specs.declared.state.HeuristicDecision.TheVariants as decision
-use Rattle.xa_tables.specs.Tables.{Tables}
-use Rattle.xa_tables.specs.History.{History}
 use Rattle.xa_tables.proofs.ShutLemmas.{after_accepted}
 use Rattle.xa_tables.proofs.Law.{Tells, told_tells, run, opening_sound}
 use Rattle.xa_tables.proofs.Reopening.{state_reopened, reopens, new_opens, left_opens}

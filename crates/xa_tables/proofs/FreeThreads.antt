@@ -4,11 +4,10 @@ use Rattle.xa_base.proofs.{arith, not-false, and-false, nat_cmp_total, tied_fals
 use Rattle.std.specs.FinSet as set
 use Rattle.std.specs.FinMap as map
 use Rattle.std.specs.FinSet.{contains-insert, contains-remove}
-use Rattle.xa_words.specs.{XidName, Done, RbRollback, Op}
-use Rattle.xa_words.specs.declared.code.Code.{Code}
+use Rattle.xa_words.specs.{XidName, Done, RbRollback, Op, Code}
 use Rattle.xa_tables.specs.{Association, has_opened, association_of, has_association, is_association_with, is_associated, Associated, Suspended, Answer, next}
 use Rattle.xa_tables.specs.{needs_opening, association, with_association, dissociated, TablesWithRoom, Keeps, is_free, counted, free_threads, places_taken}
-use Rattle.xa_tables.specs.Tables.{Tables}
+use Rattle.xa_tables.specs.{Tables}
 use Rattle.xa_tables.proofs.SoundLemmas.{by_nat, own_put, other_put, own_removed, other_removed}
 use Rattle.xa_tables.proofs.Effects.{Effect, Opens, Closes, Starts, Joins, Resumes, Suspends, Leaves, Fails, Idles, at_rules}
 

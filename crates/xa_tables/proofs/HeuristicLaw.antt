@@ -2,17 +2,14 @@
 -- completed one tells its decision.
 use Rattle.xa_base.proofs.{◌≡◌, ℕ, Bool, true, false, not, ◌||◌, if◌then◌else◌, Option, None, Some, [], ◌∷◌, refl, arith, sym, ap, ◌∙◌, subst, cons_option}
 use Rattle.xa_base.proofs.{not-false, All-head, All-tail, by_if, at_true}
-use Rattle.xa_words.specs.{XidName, xid_eq, Decides-xid_eq, Done, HeurCom, HeurRb, Op, Commit, Rollback, Forget, Heur, Request}
-use Rattle.xa_words.specs.declared.code.Code.{Code}
+use Rattle.xa_words.specs.{XidName, xid_eq, Decides-xid_eq, Done, HeurCom, HeurRb, Op, Commit, Rollback, Forget, Heur, Request, Code}
 use Rattle.xa_words.proofs.Xids.{xid_self}
 use Rattle.xa_tables.specs.{State, Active, Idle, RollbackOnly, HeuristicallyCompleted, RollbackReason, Failed, HeuristicDecision, state_of, exists, is_S3}
 use Rattle.xa_tables.specs.{is_S4, is_S5, is_prepared, is_completed, decision_in, decision_of, reason_in, reason_code, decision_code, Answer, next, completed}
 use Rattle.xa_tables.specs.{committed, HeurCommitted, HeurRolledBack, fate_of, fates_in, coded, decided_fate, heur_fate, names, is_heur, is_forget, OnlyDecides}
-use Rattle.xa_tables.specs.{IsTold}
+use Rattle.xa_tables.specs.{IsTold, Tables, History}
 use Rattle.xa_tables.specs.declared.state.State.TheVariants.{Prepared as S3}
 use Rattle.xa_tables.specs.declared.state.HeuristicDecision.TheVariants as decision
-use Rattle.xa_tables.specs.Tables.{Tables}
-use Rattle.xa_tables.specs.History.{History}
 use Rattle.xa_tables.proofs.ShutLemmas.{all_quiet, fates_quiet}
 use Rattle.xa_tables.proofs.Effects.{Effect, Starts, Joins, Fails, Idles, Dooms, Prepares, Commits, Drops, CommitsByItself, RollsBackByItself, Forgets}
 use Rattle.xa_tables.proofs.Effects.{effect_of, named_none}

@@ -1,8 +1,7 @@
 -- What a manager keeps of its tables from request to request.
 use Rattle.xa_base.proofs.{ℕ, sym, ap, ◌∙◌, or_from, false_from_ne_true}
 use Rattle.xa_words.specs.{xid_eq, Decides-xid_eq, Op}
-use Rattle.xa_tables.specs.Tables.{Tables}
-use Rattle.xa_tables.specs.{state_of, next, AreAssociationsLive, IsOpening}
+use Rattle.xa_tables.specs.{Tables, state_of, next, AreAssociationsLive, IsOpening}
 use Rattle.xa_tables.proofs.SoundLemmas.{nobody_with}
 use Rattle.xa_tables.proofs.Law.{Sound, standing, works, working, associated_works, sound_after, opening_sound}
 

@@ -1,9 +1,7 @@
 -- The law: what comes after the first Shut is refused and changes nothing.
 use Rattle.xa_base.proofs.{◌≡◌, ℕ, true, false, if◌then◌else◌, [], ◌∷◌, ◌++◌, map, refl, arith, ap, ◌∙◌}
 use Rattle.xa_words.specs.{Done, RmFail, Op, Shut, Request}
-use Rattle.xa_tables.specs.Tables.{Tables}
-use Rattle.xa_tables.specs.{Answer, next, shut_down, codes, is_shut, accepted, first_shut, late, LateAreRefused, LateChangeNothing}
-use Rattle.xa_tables.specs.History.{History}
+use Rattle.xa_tables.specs.{Tables, Answer, next, shut_down, codes, is_shut, accepted, first_shut, late, LateAreRefused, LateChangeNothing, History}
 use Rattle.xa_tables.proofs.Effects.{Effect, effect_of}
 use Rattle.xa_tables.proofs.ShutLemmas.{next-shut, next-Shut, shut_op, after_accepted}
 

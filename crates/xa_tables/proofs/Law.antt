@@ -8,11 +8,9 @@ use Rattle.xa_tables.specs.{State, Active, Idle, RollbackOnly, HeuristicallyComp
 use Rattle.xa_tables.specs.{Associated, Suspended, association_of, state_of, is_S3, is_S5, is_prepared, is_associated, is_somebody_associated, Answer, next}
 use Rattle.xa_tables.specs.{gone, stated, with_association, associated, dissociated, association, Fate, ending_by, InDoubt, Live, Committed, HeurCommitted}
 use Rattle.xa_tables.specs.{HeurRolledBack, Absent, is_in_doubt, is_unfinished, decided_fate, fate_of, fates_in, last_or, if_named, tables_after, coded}
-use Rattle.xa_tables.specs.{IsOpening, told_by}
+use Rattle.xa_tables.specs.{IsOpening, told_by, Tables, History}
 use Rattle.xa_tables.specs.declared.state.State.TheVariants.{Prepared as S3}
 use Rattle.xa_tables.specs.declared.state.HeuristicDecision.TheVariants as decision
-use Rattle.xa_tables.specs.Tables.{Tables}
-use Rattle.xa_tables.specs.History.{History}
 use Rattle.xa_tables.proofs.Effects.{Effect, Stays, Starts, Joins, Resumes, Suspends, Leaves, Fails, Idles, Dooms, Prepares, Commits, Drops, CommitsByItself}
 use Rattle.xa_tables.proofs.Effects.{RollsBackByItself, Forgets, effect_of, named_none}
 pub use Rattle.xa_tables.proofs.SoundLemmas.{swap_xid}

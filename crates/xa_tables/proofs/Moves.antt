@@ -1,10 +1,8 @@
 -- What one request does to sums and values: nothing, a branch ends and has no sums, or a branch adds to a key.
 use Rattle.xa_base.proofs.{◌≡◌, ℕ, ℤ, pos, Bool, true, false, if◌then◌else◌, Option, None, Some, List, refl, sym, ap, ◌∙◌, subst}
-use Rattle.xa_words.specs.{XidName, xid_eq, Done, RbTransient, Op, Add}
-use Rattle.xa_words.specs.declared.code.Code.{Code}
+use Rattle.xa_words.specs.{XidName, xid_eq, Done, RbTransient, Op, Add, Code}
 use Rattle.xa_tables.specs.{Association, association_of, has_other_touched, is_declared, sums_without, Answer, next, added, committed, Fate, Live, InDoubt}
-use Rattle.xa_tables.specs.{Committed, HeurCommitted, HeurRolledBack, fate_of, if_named, share_of, ending, held_by, moved_by}
-use Rattle.xa_tables.specs.Tables.{Tables}
+use Rattle.xa_tables.specs.{Committed, HeurCommitted, HeurRolledBack, fate_of, if_named, share_of, ending, held_by, moved_by, Tables}
 use Rattle.xa_tables.proofs.Effects.{Effect, Stays, Starts, Joins, Resumes, Dooms, Adds, Prepares, Commits, Drops, CommitsByItself, RollsBackByItself}
 use Rattle.xa_tables.proofs.Effects.{effect_of, undone_adds}
 

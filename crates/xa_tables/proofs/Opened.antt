@@ -3,9 +3,7 @@ use Rattle.xa_base.proofs.{◌≡◌, ℕ, true, false, not, ◌&&◌, ◌||◌,
 use Rattle.xa_base.proofs.{eq_by_cmp, nat_cmp_total, All, nat_cmp-IsAntisymmetric, is_equal}
 use Rattle.std.specs.FinSet.{contains-insert, contains-remove}
 use Rattle.xa_words.specs.{Op, Request}
-use Rattle.xa_tables.specs.Tables.{Tables}
-use Rattle.xa_tables.specs.{has_opened, Answer, next, tables_after, is_close, closes}
-use Rattle.xa_tables.specs.History.{History}
+use Rattle.xa_tables.specs.{Tables, has_opened, Answer, next, tables_after, is_close, closes, History}
 use Rattle.xa_tables.proofs.Effects.{Effect, Opens, Closes, effect_of}
 
 another : (t u : ℕ) → (t == u) ≡ false → eq_by_cmp nat_cmp u t ≡ false

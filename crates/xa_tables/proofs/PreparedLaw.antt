@@ -2,13 +2,10 @@
 use Rattle.xa_base.proofs.{◌≡◌, ℕ, true, false, ◌||◌, if◌then◌else◌, None, Some, List, [], ◌∷◌, ◌++◌, refl, sym, ap, ◌∙◌, zero, suc, get_or, arith, All}
 use Rattle.xa_base.proofs.{cons_option, All-head, All-tail, not-false}
 use Rattle.std.specs.FinMap as map
-use Rattle.xa_words.specs.{XidName, Decides-xid_eq, Done, RbIntegrity, RmFail, Op, Prepare, Commit, Rollback, Request}
-use Rattle.xa_words.specs.declared.code.Code.{Code}
+use Rattle.xa_words.specs.{XidName, Decides-xid_eq, Done, RbIntegrity, RmFail, Op, Prepare, Commit, Rollback, Request, Code}
 use Rattle.xa_tables.specs.{HeuristicallyCompleted, HeuristicDecision, has_opened, state_of, is_S3, is_somebody_associated, decision_code, Answer, next}
 use Rattle.xa_tables.specs.{is_shut, is_rolled_back, coded, fates_in, tables_after, IsOpening, names, closes, is_heur, is_forget, NamesNowhere, OnlyDecides}
-use Rattle.xa_tables.specs.{LeavesWaiting, has_shut, IsPrepared, StaysPrepared, AwaitsTheOutcome, AwaitsAfter}
-use Rattle.xa_tables.specs.Tables.{Tables}
-use Rattle.xa_tables.specs.History.{History}
+use Rattle.xa_tables.specs.{LeavesWaiting, has_shut, IsPrepared, StaysPrepared, AwaitsTheOutcome, AwaitsAfter, Tables, History}
 use Rattle.xa_tables.proofs.ShutLemmas.{next-Shut, shut_op, shut_stays}
 use Rattle.xa_tables.proofs.Law.{Sound, Nowhere, AtWork, standing, voted_rests, nobody_rests, get_put, sound_after, run_sound, opening_sound}
 use Rattle.xa_tables.proofs.Unnamed.{unnamed_on, unnamed_stays, unnamed_fate, unnamed_law}

@@ -6,9 +6,7 @@ use Rattle.std.specs.FinMap.{get-retain_keys}
 use Rattle.xa_words.specs.{XidName, xid_cmp, xid_eq, xid_cmp-IsAntisymmetric}
 use Rattle.xa_words.specs.Orders.{key_cmp}
 use Rattle.xa_tables.specs.{State, Touch, touch_cmp, state_of, is_S3, is_left_in, is_left, is_prepared, is_broken, is_within, value_of, ArePreparedSound}
-use Rattle.xa_tables.specs.{opening, tables_after, IsNew, IsOpening, AreLeft, reopened, left_by}
-use Rattle.xa_tables.specs.Tables.{Tables}
-use Rattle.xa_tables.specs.History.{History}
+use Rattle.xa_tables.specs.{opening, tables_after, IsNew, IsOpening, AreLeft, reopened, left_by, Tables, History}
 use Rattle.xa_tables.proofs.AccountLemmas.{touch_cmp_total, touch_cmp-IsAntisymmetric}
 
 pub state_reopened : (T : Tables) (x : XidName) → state_of (reopened T) x ≡ cond (is_left T x) (state_of T x) None

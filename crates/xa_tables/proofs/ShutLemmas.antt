@@ -1,9 +1,7 @@
 -- What the first Shut parts.
 use Rattle.xa_base.proofs.{◌≡◌, ℕ, true, false, if◌then◌else◌, [], ◌∷◌, refl, arith, sym, ap, ◌∙◌, subst, by_bool}
 use Rattle.xa_words.specs.{XidName, Done, RmFail, Op, Shut, Request}
-use Rattle.xa_tables.specs.Tables.{Tables}
-use Rattle.xa_tables.specs.{Answer, next, if_opened, by_rules, shut_down, tables_after, is_shut, accepted, coded, fates_in}
-use Rattle.xa_tables.specs.History.{History}
+use Rattle.xa_tables.specs.{Tables, Answer, next, if_opened, by_rules, shut_down, tables_after, is_shut, accepted, coded, fates_in, History}
 use Rattle.xa_tables.proofs.Effects.{TellsNothing, error_tells}
 
 -- a manager that is shut refuses, and its tables stay

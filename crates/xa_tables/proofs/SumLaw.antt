@@ -3,10 +3,9 @@ use Rattle.xa_base.proofs.{◌≡◌, ℕ, ℤ, pos, ◌+ℤ◌, Bool, true, fal
 use Rattle.xa_base.proofs.{subst, arith, or-false, ints, get-empty, +ℤ_idl as none_plus}
 use Rattle.std.specs.FinMap as map
 use Rattle.xa_words.specs.{XidName}
-use Rattle.xa_tables.specs.Tables.{Tables}
-use Rattle.xa_tables.specs.{touch_cmp, is_prepared, Fate, Absent, is_live, is_in_doubt, is_unfinished, fate, coded, accepted, tables_after, commits_later}
-use Rattle.xa_tables.specs.{added_in, IsFateOf, IsNew, IsOpening, reopened, reopened_fate, left_by, commits_over, added_over, value_over, ValueIsSum}
-use Rattle.xa_tables.specs.History.{History}
+use Rattle.xa_tables.specs.{Tables, touch_cmp, is_prepared, Fate, Absent, is_live, is_in_doubt, is_unfinished, fate, coded, accepted, tables_after}
+use Rattle.xa_tables.specs.{commits_later, added_in, IsFateOf, IsNew, IsOpening, reopened, reopened_fate, left_by, commits_over, added_over, value_over}
+use Rattle.xa_tables.specs.{ValueIsSum, History}
 use Rattle.xa_tables.proofs.ShutLemmas.{after_accepted}
 use Rattle.xa_tables.proofs.Law.{opening_sound}
 use Rattle.xa_tables.proofs.FatesLaw.{first_law, kept_law, reopened_law}

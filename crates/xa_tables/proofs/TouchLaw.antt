@@ -5,11 +5,9 @@ use Rattle.std.proofs.lemmas.Bool.{true_from_ne_false}
 use Rattle.std.specs.FinMap as map
 use Rattle.xa_words.specs.{XidName, xid_eq, Decides-xid_eq, Op}
 use Rattle.xa_tables.specs.{State, Active, Idle, RollbackOnly, HeuristicallyCompleted, HeuristicDecision, Failed, Transient, state_of, is_S3, is_S5}
-use Rattle.xa_tables.specs.{sums_without, Answer, next, stated, gone, completed, tables_after, OnlyUnfinishedTouch, IsOpening}
+use Rattle.xa_tables.specs.{sums_without, Answer, next, stated, gone, completed, tables_after, OnlyUnfinishedTouch, IsOpening, Tables, History}
 use Rattle.xa_tables.specs.declared.state.State.TheVariants.{Prepared as S3}
 use Rattle.xa_tables.specs.declared.state.HeuristicDecision.TheVariants as decision
-use Rattle.xa_tables.specs.Tables.{Tables}
-use Rattle.xa_tables.specs.History.{History}
 use Rattle.xa_tables.proofs.Effects.{Effect, Starts, Joins, Fails, Idles, Dooms, Adds, Prepares, Commits, Drops, CommitsByItself, RollsBackByItself, Forgets}
 use Rattle.xa_tables.proofs.Effects.{effect_of}
 use Rattle.xa_tables.proofs.Law.{Sound, Standing, Nowhere, AtWork, standing, associated_works, where_put, where_gone, completed_nowhere, sound_after}

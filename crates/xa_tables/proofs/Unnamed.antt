@@ -1,13 +1,10 @@
 -- The law: a branch with which nobody is associated stays as it is under every request that doesn't name it.
 use Rattle.xa_base.proofs.{◌≡◌, ◌≢◌, ℕ, false, None, Some, List, [], ◌∷◌, ◌++◌, refl, arith, sym, ◌∙◌, subst, All-head, All-tail, at_false}
 use Rattle.std.specs.FinMap as map
-use Rattle.xa_words.specs.{XidName, xid_eq, Decides-xid_eq, Op, Request}
-use Rattle.xa_words.specs.declared.code.Code.{Code}
+use Rattle.xa_words.specs.{XidName, xid_eq, Decides-xid_eq, Op, Request, Code}
 use Rattle.xa_tables.specs.{Active, Idle, RollbackOnly, Failed, Transient, Association, AssociationState, Associated, Suspended, association_of}
-use Rattle.xa_tables.specs.{is_somebody_associated, Answer, next, gone, association, tables_after, fate_of, names, NamesNowhere, StaysAsItWas}
+use Rattle.xa_tables.specs.{is_somebody_associated, Answer, next, gone, association, tables_after, fate_of, names, NamesNowhere, StaysAsItWas, Tables, History}
 use Rattle.xa_tables.specs.declared.state.State.TheVariants.{Prepared as S3}
-use Rattle.xa_tables.specs.Tables.{Tables}
-use Rattle.xa_tables.specs.History.{History}
 use Rattle.xa_tables.proofs.SoundLemmas.{others_put, others_removed, nobody_joins, nobody_leaves}
 pub use Rattle.xa_tables.proofs.SoundLemmas.{apart_from}
 use Rattle.xa_tables.proofs.Effects.{Effect, Starts, Joins, Resumes, Suspends, Leaves, Fails, Idles, Dooms, Adds, Prepares, Commits, Drops, CommitsByItself}

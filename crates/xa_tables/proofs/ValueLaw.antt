@@ -4,12 +4,9 @@ use Rattle.xa_base.proofs.{sym, ap, ◌∙◌, subst, arith, get-insert, FinMap,
 use Rattle.xa_base.proofs.{none_passes}
 use Rattle.std.specs.FinMap as map
 use Rattle.std.specs.FinMap.{get-retain_keys}
-use Rattle.xa_words.specs.{XidName, xid_eq, Decides-xid_eq, key_cmp_total, key_cmp-IsAntisymmetric, Decides-key_eq, Done, Op, Add, key_eq}
-use Rattle.xa_words.specs.declared.code.Code.{Code}
+use Rattle.xa_words.specs.{XidName, xid_eq, Decides-xid_eq, key_cmp_total, key_cmp-IsAntisymmetric, Decides-key_eq, Done, Op, Add, key_eq, Code}
 use Rattle.xa_tables.specs.{Association, association_of, has_other_touched, Touch, touch_cmp, sum_of, sums_without, Answer, next, committed, coded, accepted}
-use Rattle.xa_tables.specs.{fate_of, tables_after, added_in, share_of, commits_later, ending, or_later, LateAddNothing}
-use Rattle.xa_tables.specs.Tables.{Tables}
-use Rattle.xa_tables.specs.History.{History}
+use Rattle.xa_tables.specs.{fate_of, tables_after, added_in, share_of, commits_later, ending, or_later, LateAddNothing, Tables, History}
 use Rattle.xa_tables.proofs.ShutLemmas.{accepted_read}
 use Rattle.xa_tables.proofs.Moves.{Moves, Still, Ended, Added, moves_of}
 use Rattle.xa_tables.proofs.Law.{swap_xid}

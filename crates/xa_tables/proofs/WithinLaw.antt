@@ -7,12 +7,10 @@ use Rattle.xa_words.specs.{XidName, xid_cmp, xid_eq, key_eq, key_cmp_total, key_
 use Rattle.xa_words.specs.Orders.{key_cmp}
 use Rattle.xa_tables.specs.{State, Active, Idle, RollbackOnly, HeuristicallyCompleted, HeuristicDecision, Failed, Transient, Association, Touch, touch_cmp}
 use Rattle.xa_tables.specs.{association_of, state_of, is_S3, is_within, value_of, sum_of, has_other_touched, is_broken, sums_without, Answer, next, stated}
-use Rattle.xa_tables.specs.{added, gone, completed, committed, are_accounts, opening, tables_after, StaysWithin, IsOpening, reopened, left_by}
+use Rattle.xa_tables.specs.{added, gone, completed, committed, are_accounts, opening, tables_after, StaysWithin, IsOpening, reopened, left_by, Tables, History}
 use Rattle.xa_tables.specs.declared.state.State.TheVariants.{Prepared as S3}
 use Rattle.xa_tables.specs.declared.state.HeuristicDecision.TheVariants as decision
-use Rattle.xa_tables.specs.Tables.{Tables}
 use Rattle.xa_tables.specs.Next.{forgotten}
-use Rattle.xa_tables.specs.History.{History}
 use Rattle.xa_tables.proofs.Reopening.{sums_reopened, reopens, new_opens, accounts_new, left_opens}
 use Rattle.xa_tables.proofs.AccountLemmas.{touch_cmp_total, touch_cmp-IsAntisymmetric, touch_from, within_bounds}
 use Rattle.xa_tables.proofs.Effects.{Effect, Starts, Joins, Fails, Idles, Dooms, Adds, Prepares, Commits, Drops, CommitsByItself, RollsBackByItself, Forgets}

@@ -7,14 +7,12 @@ use Rattle.xa_base.proofs.{by_bool, length-map, get_or-map}
 use Rattle.std.specs.FinMap as finmap
 use Rattle.xa_base.specs.{total}
 use Rattle.xa_words.specs.{XidName, xid_eq, key_eq, key_cmp_total, key_cmp-IsAntisymmetric, Decides-xid_eq, Decides-key_eq, Done, RdOnly, Op, Add, Prepare}
-use Rattle.xa_words.specs.{Request}
+use Rattle.xa_words.specs.{Request, Code}
 use Rattle.xa_words.specs.Orders.{key_cmp}
-use Rattle.xa_words.specs.declared.code.Code.{Code}
 use Rattle.xa_tables.specs.{Association, Touch, touch_cmp, is_declared, value_of, sum_of, sums_without, Answer, next, added, committed, are_accounts, are_apart}
 use Rattle.xa_tables.specs.{opening, fate_of, tables_after, added_by, share_of, is_done, ending, IsOpening, NamesNowhere, worth_declared, worth, held_by}
 use Rattle.xa_tables.specs.{moved_by, moved, is_any, gain, unless_ended, added_by_now, WorthIsMoved, HoldsItsAdditions, DeclareEach, WorthIsMovedFrom, Account}
-use Rattle.xa_tables.specs.Tables.{Tables}
-use Rattle.xa_tables.specs.History.{History}
+use Rattle.xa_tables.specs.{Tables, History}
 use Rattle.xa_tables.proofs.AccountLemmas.{touch_cmp_total, touch_self, value_found, at_own_key}
 use Rattle.xa_tables.proofs.PlaceLemmas.{swapped, account_of, declared_entries, distinct_apart}
 use Rattle.xa_tables.proofs.Moves.{Moves, Still, Ended, Added, moves_of}

@@ -12,7 +12,7 @@ use Rattle.xa_words.specs.Key.{key_eq}
 use Rattle.xa_tables.specs.declared.accounts.Account.{Account}
 use Rattle.xa_tables.specs.declared.accounts.Hold.{Hold}
 use Rattle.xa_tables.specs.declared.state.State.{State}
-use Rattle.xa_tables.specs.Tables.{is_S3, is_within, Touch, touch_cmp, sums_code, values_code}
+use Rattle.xa_tables.specs.ManagerTables.{is_S3, is_within, Touch, touch_cmp, sums_code, values_code}
 
 -- the sums of the branches, the committed values, how many additions were made, and the keys, each at its place
 pub record Holdings : Type 0 where

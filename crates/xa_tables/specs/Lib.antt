@@ -1,12 +1,12 @@
 pub mod Reasons
-pub mod Tables
+pub mod ManagerTables
 pub mod Views
 pub mod Lending
 pub mod Next
 pub mod Accounts
 pub mod Held
 pub mod Managers
-pub mod History
+pub mod Histories
 pub mod Openings
 pub mod Worked
 pub mod Prepared
@@ -14,12 +14,13 @@ pub mod Worth
 pub mod Work
 -- The words of this crate, by its name.
 pub use Reasons.{decision_code, reason_code}
-pub use Tables.{Touch, association_of, associations_code, branch_in, branch_of, decision_in, decision_of, exists}
-pub use Tables.{has_association, has_opened, has_other_touched, has_touched, is_S1, is_S2, is_S3, is_S4, is_S5, is_T1}
-pub use Tables.{is_T2, is_active, is_associated, is_association_with, is_at_work, is_broken, is_completed, is_declared}
-pub use Tables.{is_idle, is_left, is_left_in, is_prepared, is_rollback_only, is_somebody_associated, is_suspended}
-pub use Tables.{is_suspended_state, is_within, no_xid, posted, reason_in, reason_of, set_code, state_of, states_code}
-pub use Tables.{sum_of, sums_code, sums_without, touch_cmp, value_of, values_code}
+pub use ManagerTables.{Tables, Touch, association_of, associations_code, branch_in, branch_of, decision_in, decision_of}
+pub use ManagerTables.{exists, has_association, has_opened, has_other_touched, has_touched, is_S1, is_S2, is_S3, is_S4}
+pub use ManagerTables.{is_S5, is_T1, is_T2, is_active, is_associated, is_association_with, is_at_work, is_broken}
+pub use ManagerTables.{is_completed, is_declared, is_idle, is_left, is_left_in, is_prepared, is_rollback_only}
+pub use ManagerTables.{is_somebody_associated, is_suspended, is_suspended_state, is_within, no_xid, posted, reason_in}
+pub use ManagerTables.{reason_of, set_code, state_of, states_code, sum_of, sums_code, sums_without, touch_cmp, value_of}
+pub use ManagerTables.{values_code}
 pub use Views.{BranchTable, PlaceTable, ThreadTable, association_in, branch_table_code, entries_from, is_thread_with}
 pub use Views.{open_mark, place_table_code, thread_table_code, thread_table_of, with_entry}
 pub use Lending.{HasState, LendsState}
@@ -36,13 +37,13 @@ pub use Accounts.{value_entries, with_hold}
 pub use Held.{AreHeld, is_held, is_held_at, noted, passes_at}
 pub use Managers.{AreAssociationsLive, ArePreparedSound, Keeps, Managed, TablesWithRoom, counted, free_threads, is_free}
 pub use Managers.{managed_code, opening, places_taken, tables_code, tables_of, tables_with_room_code}
-pub use History.{Absent, ActiveWhileAssociated, Committed, EndsNowhere, Fate, HeurCommitted, HeurRolledBack, InDoubt}
-pub use History.{IsFateOf, LateAddNothing, LateAreRefused, LateChangeNothing, Live, OnlyUnfinishedTouch, ReadOnly}
-pub use History.{RolledBack, StaysWithin, accepted, added_by, added_in, carried_out, coded, codes, commit_fate}
-pub use History.{commits_later, decided_fate, ending, ending_by, fate, fate_in, fate_of, fates_in, first_shut}
-pub use History.{heur_fate, if_named, is_done, is_in_doubt, is_integrity, is_live, is_read_only, is_rolled_back}
-pub use History.{is_shut, is_unfinished, last_or, late, of_thread, or_later, parted, prepare_fate, rollback_fate, share}
-pub use History.{share_of, start_fate, tables_after}
+pub use Histories.{Absent, ActiveWhileAssociated, Committed, EndsNowhere, Fate, HeurCommitted, HeurRolledBack, History}
+pub use Histories.{InDoubt, IsFateOf, LateAddNothing, LateAreRefused, LateChangeNothing, Live, OnlyUnfinishedTouch}
+pub use Histories.{ReadOnly, RolledBack, StaysWithin, accepted, added_by, added_in, carried_out, coded, codes}
+pub use Histories.{commit_fate, commits_later, decided_fate, ending, ending_by, fate, fate_in, fate_of, fates_in}
+pub use Histories.{first_shut, heur_fate, if_named, is_done, is_in_doubt, is_integrity, is_live, is_read_only}
+pub use Histories.{is_rolled_back, is_shut, is_unfinished, last_or, late, of_thread, or_later, parted, prepare_fate}
+pub use Histories.{rollback_fate, share, share_of, start_fate, tables_after}
 pub use Openings.{AreLeft, FatesAreTold, IsNew, IsOpening, ValueIsSum, added_over, commits_over, fate_left, fate_over}
 pub use Openings.{left_by, reopened, reopened_fate, told_by, value_over}
 pub use Worked.{begun_again, branch, commits_after, committed_later, decided, decided_then, ended_then, entry, failed}

@@ -11,10 +11,10 @@ use Rattle.xa_words.specs.Xid.{XidName, xid_cmp}
 use Rattle.xa_words.specs.Orders.{key_cmp}
 use Rattle.xa_tables.specs.declared.state.State.{State}
 use Rattle.xa_tables.specs.declared.state.Association.{Association}
-use Rattle.xa_tables.specs.Tables.{Tables, touch_cmp, is_S3, is_broken, exists, is_left}
-use Rattle.xa_tables.specs.Tables.{has_opened, association_of, has_association}
-use Rattle.xa_tables.specs.Tables.{set_code, associations_code, states_code}
-use Rattle.xa_tables.specs.Tables.{sums_code, values_code}
+use Rattle.xa_tables.specs.ManagerTables.{Tables, touch_cmp, is_S3, is_broken, exists, is_left}
+use Rattle.xa_tables.specs.ManagerTables.{has_opened, association_of, has_association}
+use Rattle.xa_tables.specs.ManagerTables.{set_code, associations_code, states_code}
+use Rattle.xa_tables.specs.ManagerTables.{sums_code, values_code}
 use Rattle.xa_tables.specs.Views.{ThreadTable, BranchTable}
 use Rattle.xa_tables.specs.Accounts.{Holdings, declared_values}
 

@@ -24,11 +24,11 @@ use Rattle.xa_tables.specs.declared.state.HeuristicDecision.TheVariants as decis
 use Rattle.xa_tables.specs.declared.state.Association.{Association}
 use Rattle.xa_tables.specs.declared.state.AssociationState.{AssociationState}
 use Rattle.xa_tables.specs.declared.state.AssociationState.TheVariants.{Associated, Suspended}
-use Rattle.xa_tables.specs.Tables.{Tables, has_opened, has_association, is_at_work, is_suspended, is_associated}
-use Rattle.xa_tables.specs.Tables.{branch_of, exists, is_idle, is_prepared, is_rollback_only, reason_of}
-use Rattle.xa_tables.specs.Tables.{is_completed, is_left, decision_of}
-use Rattle.xa_tables.specs.Tables.{is_somebody_associated, is_declared, sum_of, has_touched, has_other_touched}
-use Rattle.xa_tables.specs.Tables.{is_broken, posted, sums_without}
+use Rattle.xa_tables.specs.ManagerTables.{Tables, has_opened, has_association, is_at_work, is_suspended, is_associated}
+use Rattle.xa_tables.specs.ManagerTables.{branch_of, exists, is_idle, is_prepared, is_rollback_only, reason_of}
+use Rattle.xa_tables.specs.ManagerTables.{is_completed, is_left, decision_of}
+use Rattle.xa_tables.specs.ManagerTables.{is_somebody_associated, is_declared, sum_of, has_touched, has_other_touched}
+use Rattle.xa_tables.specs.ManagerTables.{is_broken, posted, sums_without}
 
 -- the tables after a request, and its code
 abbrev pub Answer : Type 0

@@ -9,10 +9,10 @@ use Rattle.xa_words.specs.Xid.{XidName, xid_cmp, xid_eq}
 use Rattle.xa_tables.specs.declared.state.State.{State}
 use Rattle.xa_tables.specs.declared.state.State.TheVariants.{Active, Idle, Prepared, RollbackOnly}
 use Rattle.xa_tables.specs.declared.state.State.TheVariants.{HeuristicallyCompleted}
-use Rattle.xa_tables.specs.Tables.{Tables, state_of, is_left, is_prepared}
-use Rattle.xa_tables.specs.History.{History, Fate, Absent, Live, InDoubt, RolledBack}
-use Rattle.xa_tables.specs.History.{fate, is_live, coded, accepted, tables_after, commits_later, added_in}
-use Rattle.xa_tables.specs.History.{decided_fate, IsFateOf}
+use Rattle.xa_tables.specs.ManagerTables.{Tables, state_of, is_left, is_prepared}
+use Rattle.xa_tables.specs.Histories.{History, Fate, Absent, Live, InDoubt, RolledBack}
+use Rattle.xa_tables.specs.Histories.{fate, is_live, coded, accepted, tables_after, commits_later, added_in}
+use Rattle.xa_tables.specs.Histories.{decided_fate, IsFateOf}
 
 -- ---- the tables that an opening begins with
 

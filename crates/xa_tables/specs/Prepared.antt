@@ -13,10 +13,10 @@ use Rattle.xa_words.specs.declared.request.Request.{Request}
 use Rattle.xa_tables.specs.declared.state.State.{State}
 use Rattle.xa_tables.specs.declared.state.State.TheVariants.{Prepared, HeuristicallyCompleted}
 use Rattle.xa_tables.specs.declared.state.HeuristicDecision.{HeuristicDecision}
-use Rattle.xa_tables.specs.Tables.{Tables, state_of, is_somebody_associated}
+use Rattle.xa_tables.specs.ManagerTables.{Tables, state_of, is_somebody_associated}
 use Rattle.xa_tables.specs.Reasons.{decision_code}
 use Rattle.xa_tables.specs.Next.{Answer, next}
-use Rattle.xa_tables.specs.History.{History, Fate, is_shut, coded, tables_after, fates_in, decided_fate}
+use Rattle.xa_tables.specs.Histories.{History, Fate, is_shut, coded, tables_after, fates_in, decided_fate}
 
 -- the request names the branch; one that only asks whether it is left doesn't
 abbrev pub names : XidName → Op → Bool

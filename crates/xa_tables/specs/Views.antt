@@ -10,7 +10,7 @@ use Rattle.xa_words.specs.Xid.{XidName, xid_cmp}
 use Rattle.xa_tables.specs.declared.state.State.{State}
 use Rattle.xa_tables.specs.declared.threads.Thread.{Thread}
 use Rattle.xa_tables.specs.declared.state.Association.{Association}
-use Rattle.xa_tables.specs.Tables.{is_association_with, states_code, set_code, associations_code}
+use Rattle.xa_tables.specs.ManagerTables.{is_association_with, states_code, set_code, associations_code}
 
 -- the branches that exist, and for how many more there is room
 pub record BranchTable : Type 0 where

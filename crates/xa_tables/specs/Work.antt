@@ -7,9 +7,9 @@ use Rattle.xa_words.specs.declared.request.Op.TheVariants.{Start, Add, End}
 use Rattle.xa_words.specs.declared.request.StartHow.TheVariants.{Fresh}
 use Rattle.xa_words.specs.declared.request.EndHow.TheVariants.{Success}
 use Rattle.xa_words.specs.declared.request.Request.{Request}
-use Rattle.xa_tables.specs.Tables.{Tables}
+use Rattle.xa_tables.specs.ManagerTables.{Tables}
 use Rattle.xa_tables.specs.Next.{next}
-use Rattle.xa_tables.specs.History.{History, of_thread, tables_after}
+use Rattle.xa_tables.specs.Histories.{History, of_thread, tables_after}
 use Rattle.xa_tables.specs.Prepared.{NamesNowhere}
 use Rattle.xa_tables.specs.Worth.{added_by_now}
 

@@ -9,7 +9,7 @@ use Rattle.xa_words.specs.declared.request.StartHow.TheVariants.{Fresh}
 use Rattle.xa_words.specs.declared.request.EndHow.TheVariants.{Success, Fail}
 use Rattle.xa_words.specs.declared.request.Request.{Request}
 use Rattle.xa_tables.specs.declared.state.AssociationState.TheVariants.{Associated}
-use Rattle.xa_tables.specs.History.{Fate, fate_in, is_live, commits_later, share_of, Absent, Live}
+use Rattle.xa_tables.specs.Histories.{Fate, fate_in, is_live, commits_later, share_of, Absent, Live}
 use Rattle.xa_tables.specs.Next.{association}
 use Rattle.xa_tables.specs.Openings.{reopened_fate}
 

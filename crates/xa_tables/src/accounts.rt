@@ -10,8 +10,8 @@ ghost use Rattle.xa_words.specs.Xid.{XidName};
 ghost use Rattle.xa_tables.specs.Accounts.{are_accounts, are_apart, declared_values, is_held_by, is_held_by_other};
 ghost use Rattle.xa_tables.specs.Accounts.{is_broken_by, IsGood, added_to, posted_by, kept_where, key_at};
 ghost use Rattle.xa_tables.specs.Held.{AreHeld, is_held, is_held_at, noted};
-ghost use Rattle.xa_tables.specs.Tables.{is_within, sum_of, has_touched, has_other_touched, is_broken, posted};
-ghost use Rattle.xa_tables.specs.Tables.{sums_without, is_S3};
+ghost use Rattle.xa_tables.specs.ManagerTables.{is_within, sum_of, has_touched, has_other_touched, is_broken, posted};
+ghost use Rattle.xa_tables.specs.ManagerTables.{sums_without, is_S3};
 
 use crate::branches::Branches;
 use crate::places::Places;

@@ -4,7 +4,7 @@ ghost use Rattle.std.specs.FinMap as finmap;
 ghost use Rattle.xa_tables.specs.Next.{shut_down, open_rm, close_rm, start_fresh, start_join};
 ghost use Rattle.xa_tables.specs.Next.{start_resume, add, end, prepare, commit_one, commit_two, rollback, heur, forget};
 ghost use Rattle.xa_tables.specs.Next.{listed, gone};
-ghost use Rattle.xa_tables.specs.Tables.{has_opened};
+ghost use Rattle.xa_tables.specs.ManagerTables.{has_opened};
 ghost use Rattle.xa_tables.specs.Accounts.{are_accounts};
 ghost use Rattle.xa_tables.specs.Managers.{AreAssociationsLive, Keeps, opening, places_taken};
 ghost use Rattle.xa_tables.specs.Openings.{AreLeft, reopened};

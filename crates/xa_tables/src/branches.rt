@@ -7,7 +7,7 @@ ghost use Rattle.std.specs.List.Sorted.{IsSorted};
 ghost use Rattle.std.specs.Option.{option_copied_mut};
 ghost use Rattle.xa_words.specs.Xid.{XidName, xid_cmp, xid_eq};
 ghost use Rattle.xa_tables.specs.Lending.{LendsState};
-ghost use Rattle.xa_tables.specs.Tables.{is_left_in};
+ghost use Rattle.xa_tables.specs.ManagerTables.{is_left_in};
 
 use crate::state::State;
 use std::alloc::{AllocError, Global};

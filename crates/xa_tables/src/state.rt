@@ -1,7 +1,7 @@
 //! What the tables hold of a branch and of a thread.
 ghost use Rattle.std.specs.Prelude.{◌≡◌, Some};
 ghost use Rattle.xa_tables.specs.Reasons.{reason_code, decision_code};
-ghost use Rattle.xa_tables.specs.Tables.{is_suspended_state, is_left_in};
+ghost use Rattle.xa_tables.specs.ManagerTables.{is_suspended_state, is_left_in};
 
 use xa_words::{Code, Xid};
 

@@ -4,7 +4,7 @@ ghost use Rattle.std.specs.FinMap as map;
 ghost use Rattle.std.specs.FinSet as set;
 ghost use Rattle.std.specs.List.{list_any};
 ghost use Rattle.xa_tables.specs.Next.{association};
-ghost use Rattle.xa_tables.specs.Tables.{is_somebody_associated};
+ghost use Rattle.xa_tables.specs.ManagerTables.{is_somebody_associated};
 ghost use Rattle.xa_tables.specs.Views.{is_thread_with};
 
 use crate::state::{Association, AssociationState};

@@ -1,24 +1,18 @@
 -- What an opening leaves to the next one.
-use Rattle.std.proofs.Common.{rules}
-use Rattle.xa_base.proofs.{◌≡◌, ℕ, ◌+◌, ◌-◌, ◌≤◌, suc, Bool, List, [], ◌∷◌, length, map, Some, sym, refl, ap, ◌∙◌, subst, arith, slice_get, range_with_len}
+use Rattle.xa_base.proofs.{◌≡◌, ℕ, ◌-◌, ◌≤◌, suc, Bool, List, [], ◌∷◌, length, map, Some, sym, refl, ap, ◌∙◌, subst, arith, slice_get, range_with_len}
 use Rattle.xa_base.proofs.{slice_index_or, length-map, map-append, slice_get_within, got}
 use Rattle.std.proofs.lemmas.List.FromFn.{length-map-range_with_len}
 use Rattle.std.proofs.lemmas.Option.{get_or_from_slice_get}
 use Rattle.xa_tables.proofs.SumLaw.{left_on}
-use Rattle.xa_base.specs.{Chain, IsUpTo}
+use Rattle.xa_base.specs.{Chain}
 use Rattle.xa_base.specs.Lists.Chain.{none, more}
 use Rattle.xa_tables.specs.{tables_after, reopened, left_by}
-use Rattle.xa_desk.specs.LedgerView.{LedgerView}
-use Rattle.xa_desk.specs.DeskView.{DeskView}
-use Rattle.xa_desk.specs.{new_ledgers, plans, EndedView}
+use Rattle.xa_desk.specs.{LedgerView, DeskView, new_ledgers, plans, EndedView}
 use Rattle.xa_worker.specs.{requests, WorkerView, Served}
-use Rattle.xa_switch.specs.declared.plan.Again.{Again}
-use Rattle.xa_switch.specs.{IsNewDesk, ManagerPart, IsSettled, FollowsTables, journal_in, thread_part, settling, history, IsScanOf, first_ledgers, flags_in}
-use Rattle.xa_switch.specs.{managers_in, last_in, reopened_at, reopening, MayReopen}
-use Rattle.xa_switch.specs.Settling.{Settling}
+use Rattle.xa_switch.specs.{Again, IsNewDesk, ManagerPart, IsSettled, FollowsTables, journal_in, thread_part, settling, history, IsScanOf, first_ledgers}
+use Rattle.xa_switch.specs.{flags_in, managers_in, last_in, reopened_at, reopening, MayReopen, Settling}
 use Rattle.xa_scan.specs.{ScanView}
-use Rattle.xa_grammar.specs.{ScriptTask, ScriptStep, threads_of, managers_of, tasks_of, carries_async}
-use Rattle.xa_grammar.specs.Content.{Content}
+use Rattle.xa_grammar.specs.{ScriptTask, ScriptStep, threads_of, managers_of, tasks_of, carries_async, Content}
 use Rattle.xa_session.specs.{Session, HasDone}
 use Rattle.xa_transcript.specs.{Told, opened, opened_after, histories, AreOfScript}
 use Rattle.xa_telling.specs.{answers_to, AreNumbersOf, IsSetupOf, Comes, Ran, Beginning, Former, Leaves, beginning}

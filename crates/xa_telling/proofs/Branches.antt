@@ -1,17 +1,14 @@
 -- What a commit and a resolve do to a thread's ledgers, they do to its entries in the journals of a settled opening.
-use Rattle.xa_base.proofs.{◌≡◌, ℕ, ◌<◌, ◌≤◌, ⊎_elim, zero, suc, Bool, false, List, [], ◌∷◌, ◌++◌, length, take, Option, Some, sym, refl, ap, ◌∙◌, subst, arith}
-use Rattle.xa_base.proofs.{All, cases_lt, All-cons, All-nil, by_if}
+use Rattle.xa_base.proofs.{◌≡◌, ℕ, ◌<◌, ◌≤◌, ⊎_elim, zero, suc, Bool, false, List, [], ◌∷◌, ◌++◌, length, take, Option, Some, sym, refl, ap, subst, arith, All}
+use Rattle.xa_base.proofs.{cases_lt, All-cons, All-nil, by_if}
 use Rattle.std.proofs.Math.Seq.{take-nil}
 use Rattle.xa_base.specs.{MOST_MANAGERS}
-use Rattle.xa_words.specs.declared.code.Code.{Code}
-use Rattle.xa_words.specs.{RmFail, Death, Op, Prepare, TranName}
-use Rattle.xa_desk.specs.{HasGrown, HaveGrown, learnt_shut, with_sent, with_collected, ledger}
-use Rattle.xa_desk.specs.LedgerView.{LedgerView}
+use Rattle.xa_words.specs.{Code, RmFail, Death, Op, Prepare, TranName}
+use Rattle.xa_desk.specs.{HasGrown, HaveGrown, learnt_shut, with_sent, with_collected, ledger, LedgerView}
 use Rattle.xa_desk.proofs.Growth.{as_it_was, grown_on}
 use Rattle.xa_worker.specs.{Entry}
-use Rattle.xa_switch.specs.{ledgers_of, IsSettled, sent, collected, journal}
+use Rattle.xa_switch.specs.{ledgers_of, IsSettled, sent, collected, journal, Settling}
 use Rattle.xa_scan.specs.{ScanView, left_at}
-use Rattle.xa_switch.specs.Settling.{Settling}
 use Rattle.xa_driver.specs.{Branch, Done, Ending, Outcome, AtBranch, CameTo, HaveAsked, PutsLedger, second_op, third_op, AsksLedger, Resolves, EachBranch}
 use Rattle.xa_driver.specs.{HasRoom, HaveRoom, has_branch_at}
 use Rattle.xa_driver.specs.Deaths.PutsLedger.{sent as put_sent, withheld as put_withheld}

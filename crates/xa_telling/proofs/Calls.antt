@@ -1,15 +1,12 @@
 -- What a thread's calls do to its desk, and why they may be refused.
-use Rattle.std.proofs.Common.{rules}
 use Rattle.xa_base.proofs.{◌≡◌, ℕ, ℤ, ◌≤◌, Bool, true, false, not, ◌&&◌, [], ◌∷◌, Option, Some, None, Result, Ok, Err, sym, refl, ap, ◌∙◌, subst, arith, pos}
 use Rattle.xa_base.proofs.{if◌then◌else◌, option_map, option_or, Contains, some_same}
 use Rattle.std.specs.Ordering.{int_eq}
 use Rattle.std.specs.FinMap as finmap
-use Rattle.xa_words.specs.Code.{number_of}
-use Rattle.xa_words.specs.{has_only, bits_of, go_together, mode_of, Async, Inval, Proto, Retry, RmErr, RmFail, Mode, Op}
-use Rattle.xa_words.specs.declared.code.Code.{Code}
+use Rattle.xa_words.specs.CodeNumbers.{number_of}
+use Rattle.xa_words.specs.{has_only, bits_of, go_together, mode_of, Async, Inval, Proto, Retry, RmErr, RmFail, Mode, Op, Code}
 use Rattle.xa_words.specs.declared.flags.Call.TheVariants as call
-use Rattle.xa_desk.specs.{Operation, Refused, NoSuchManager, Shut, TooMany, Spent, learnt_shut, IsKnown, is_known, ledger, next_operation, after_sent}
-use Rattle.xa_desk.specs.DeskView.{DeskView}
+use Rattle.xa_desk.specs.{Operation, Refused, NoSuchManager, Shut, TooMany, Spent, learnt_shut, IsKnown, is_known, ledger, next_operation, after_sent, DeskView}
 use Rattle.xa_scan.specs.{ScanView}
 use Rattle.xa_calls.specs.{code_of as to_code, put_refusal, Puts, Calls, number_in, CompletesOne, CompletesAny, CompletesAt, CompletesBy, Tells, may_complete}
 use Rattle.xa_calls.specs.Putting.Puts.{refused as put_refused, full, kept as put_kept, answered as put_answered}

@@ -1,10 +1,8 @@
 -- What a commit did at its branches, also where its coordinator died: at each manager, and over states of another kind.
-use Rattle.std.proofs.Common.{arith}
-use Rattle.xa_base.proofs.{◌≡◌, ℕ, inl, inr, zero, suc, Bool, false, ◌||◌, List, [], ◌∷◌, length, Option, Some, None, sym, refl, ap, ◌∙◌, subst, All, cases_eq}
-use Rattle.xa_base.proofs.{ne_eqb, All-cons, All-nil, All-head, All-tail}
+use Rattle.xa_base.proofs.{arith, ◌≡◌, ℕ, inl, inr, zero, suc, Bool, false, ◌||◌, List, [], ◌∷◌, length, Option, Some, None, sym, refl, ap, ◌∙◌, subst, All}
+use Rattle.xa_base.proofs.{cases_eq, ne_eqb, All-cons, All-nil, All-head, All-tail}
 use Rattle.std.proofs.Common.{min}
-use Rattle.xa_words.specs.{TranName, Death, Op, Prepare}
-use Rattle.xa_words.specs.declared.code.Code.{Code}
+use Rattle.xa_words.specs.{TranName, Death, Op, Prepare, Code}
 use Rattle.xa_words.specs.declared.death.Death.TheVariants as death
 use Rattle.xa_calls.specs.Scans.{Asking}
 use Rattle.xa_driver.specs.{Branch, Done, Ending, AsksFor, Putting, HaveAsked, HaveTold, Tells, VotesAndHears, VotesAndObeys, CameTo, CameToVotes, to_come}

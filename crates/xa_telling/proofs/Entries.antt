@@ -7,11 +7,9 @@ use Rattle.std.proofs.lemmas.List.Elements.{Contains-push}
 use Rattle.std.proofs.lemmas.List.Folds.{Any-from_list_any}
 use Rattle.std.proofs.lemmas.Option.{get_or_from_slice_get, some_pair_parts}
 use Rattle.xa_base.specs.{Begins}
-use Rattle.xa_words.specs.declared.code.Code.{Code}
-use Rattle.xa_words.specs.{RmFail, Op, Request}
+use Rattle.xa_words.specs.{Code, RmFail, Op, Request}
 use Rattle.xa_tables.specs.{of_thread}
-use Rattle.xa_desk.specs.LedgerView.{LedgerView}
-use Rattle.xa_desk.specs.{is_rm_fail, learnt_shut, is_known, ledger, sent_to, collected_from, HasGrown, numbered}
+use Rattle.xa_desk.specs.{LedgerView, is_rm_fail, learnt_shut, is_known, ledger, sent_to, collected_from, HasGrown, numbered}
 use Rattle.xa_desk.proofs.Ledgers.{known_true, past_end}
 use Rattle.xa_worker.specs.{Entry, entry, requests, codes_in}
 use Rattle.xa_switch.specs.{Agree}

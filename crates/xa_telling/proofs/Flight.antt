@@ -1,12 +1,10 @@
 -- What a dead coordinator leaves in flight.
-use Rattle.xa_base.proofs.{◌≡◌, ℕ, ◌≤◌, ◌⊎◌, inl, inr, zero, suc, ◌-◌, ◌<◌, Bool, true, false, ◌||◌, List, [], ◌∷◌, ◌++◌, length, map, drop, Option, Some, None}
-use Rattle.xa_base.proofs.{sym, refl, ap, ◌∙◌, subst, arith, length-append, All, nat_eq, ne_eqb, All-cons, All-head, All-map, All-nil, All-tail}
-use Rattle.xa_base.proofs.{list_any-append, list_any_none, by_if}
-use Rattle.xa_words.specs.{TranName, RmFail, Death, Op, Prepare}
-use Rattle.xa_words.specs.declared.code.Code.{Code}
+use Rattle.xa_base.proofs.{◌≡◌, ℕ, ◌≤◌, ◌⊎◌, inr, zero, suc, ◌-◌, ◌<◌, Bool, true, false, ◌||◌, List, [], ◌∷◌, ◌++◌, length, map, drop, Option, Some, None, sym}
+use Rattle.xa_base.proofs.{refl, ap, ◌∙◌, subst, arith, length-append, All, nat_eq, ne_eqb, All-cons, All-head, All-map, All-nil, All-tail, list_any-append}
+use Rattle.xa_base.proofs.{list_any_none, by_if}
+use Rattle.xa_words.specs.{TranName, RmFail, Death, Op, Prepare, Code}
 use Rattle.xa_words.specs.declared.death.Death.TheVariants as death
-use Rattle.xa_desk.specs.LedgerView.{LedgerView}
-use Rattle.xa_desk.specs.{is_collected, is_rm_fail, learnt_shut, with_sent, with_collected, IsOut, ledger}
+use Rattle.xa_desk.specs.{LedgerView, is_collected, is_rm_fail, learnt_shut, with_sent, with_collected, IsOut, ledger}
 use Rattle.xa_desk.proofs.Ledgers.{known_by}
 use Rattle.xa_driver.specs.{Branch, Done, CameTo, HaveAsked, HaveTold, PutsLedger, Tells, to_come, second_op, AsksLedger, HasRoom}
 use Rattle.xa_driver.specs.Deaths.PutsLedger.{sent as put_sent, withheld as put_withheld}

@@ -1,13 +1,9 @@
 -- That each request that was collected was sent, as a thread goes on, and what its calls do to its ledgers and its handles.
-use Rattle.xa_base.proofs.{◌≡◌, ◌<◌, ◌≤◌, ℕ, Bool, List, [], ◌∷◌, length, None, Some, sym, ap, ◌∙◌, refl, subst, arith, length-append, All, nat_cmp, All-push}
-use Rattle.xa_base.proofs.{by_if}
+use Rattle.xa_base.proofs.{◌≡◌, ◌<◌, ◌≤◌, ℕ, Bool, List, [], ◌∷◌, length, None, Some, sym, ap, refl, subst, arith, length-append, All, nat_cmp, All-push, by_if}
 use Rattle.std.specs.FinMap as finmap
-use Rattle.xa_words.specs.declared.code.Code.{Code}
-use Rattle.xa_words.specs.{Op}
+use Rattle.xa_words.specs.{Code, Op}
 use Rattle.xa_desk.specs.{Operation, HaveGrown, learnt_shut, with_sent, with_collected, IsKnown, IsOut, ledger, next_operation, after_sent, after_collected}
-use Rattle.xa_desk.specs.{submitted, after_fulls, Collects, TakesKept}
-use Rattle.xa_desk.specs.LedgerView.{LedgerView}
-use Rattle.xa_desk.specs.DeskView.{DeskView}
+use Rattle.xa_desk.specs.{submitted, after_fulls, Collects, TakesKept, LedgerView, DeskView}
 use Rattle.xa_desk.proofs.Growth.{growing_on, sending_grows, collecting_grows}
 use Rattle.xa_desk.proofs.Ledgers.{put_each}
 use Rattle.xa_calls.specs.{CollectsRedeemed, put_refusal}

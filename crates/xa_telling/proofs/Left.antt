@@ -6,16 +6,14 @@ use Rattle.std.specs.FinMap as finmap
 use Rattle.std.proofs.lemmas.List.Elements.{Contains-push}
 use Rattle.xa_base.specs.{Chain}
 use Rattle.xa_base.specs.Lists.Chain.{none, more}
-use Rattle.xa_words.specs.declared.code.Code.{Code}
-use Rattle.xa_desk.specs.{Operation, ledger, HaveGrown}
-use Rattle.xa_desk.specs.DeskView.{DeskView}
-use Rattle.xa_desk.specs.LedgerView.{LedgerView}
+use Rattle.xa_words.specs.{Code}
+use Rattle.xa_desk.specs.{Operation, ledger, HaveGrown, DeskView, LedgerView}
 use Rattle.xa_desk.proofs.Growth.{collecting_grows}
 use Rattle.xa_desk.proofs.Ledgers.{ledger-collected_same}
 use Rattle.xa_crew.specs.{Telling, EndsNumber}
 use Rattle.xa_crew.specs.Ending.EndsNumber.{kept, free}
 use Rattle.xa_telling.proofs.Entries.{collected_there}
-use Rattle.xa_telling.proofs.Ledgers.{Handles, HasTaken, collecting_sends_none, has_redeemed}
+use Rattle.xa_telling.proofs.Ledgers.{HasTaken, collecting_sends_none, has_redeemed}
 
 -- one of what was told: what was kept under the number at first was collected with this code
 abbrev pub IsTold : DeskView → DeskView → ℕ × Code → Type 0

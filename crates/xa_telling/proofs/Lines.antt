@@ -1,29 +1,24 @@
 -- A thread's lines put its entries into the journals, line by line.
-use Rattle.std.proofs.Common.{rules}
-use Rattle.xa_base.proofs.{◌≡◌, ℕ, ◌-◌, ◌<◌, ◌≤◌, ⊎_elim, zero, suc, true, false, Bool, ◌==◌, List, [], ◌∷◌, ◌++◌, length, map, take, None, Some, inl, inr, sym}
-use Rattle.xa_base.proofs.{refl, ap, ◌∙◌, subst, arith, All, get_or, if◌then◌else◌, Contains, eqb-true, eqb-false, length-map, map-append, take_all}
-use Rattle.xa_base.proofs.{All-contains, All-nil, all_left, all_mid, by_bool, by_if}
+use Rattle.xa_base.proofs.{rules, ◌≡◌, ℕ, ◌-◌, ◌<◌, ◌≤◌, ⊎_elim, zero, suc, true, false, Bool, ◌==◌, List, [], ◌∷◌, ◌++◌, length, map, take, None, Some, inl}
+use Rattle.xa_base.proofs.{inr, sym, refl, ap, ◌∙◌, subst, arith, All, get_or, if◌then◌else◌, Contains, eqb-true, eqb-false, length-map, map-append, take_all}
+use Rattle.xa_base.proofs.{All-contains, All-nil, all_left, all_mid}
 use Rattle.std.specs.FinMap as finmap
 use Rattle.std.proofs.Math.Seq.{take-nil}
 use Rattle.xa_base.specs.{Chain}
 use Rattle.xa_base.specs.Lists.Chain.{none, more}
-use Rattle.xa_words.specs.{check_flags, managers_in, TranName, Death, Op, Listed}
-use Rattle.xa_words.specs.declared.code.Code.{Code}
+use Rattle.xa_words.specs.{check_flags, managers_in, TranName, Death, Op, Listed, Code}
 use Rattle.xa_words.specs.declared.flags.Call.TheVariants as call
-use Rattle.xa_desk.specs.DeskView.{DeskView}
-use Rattle.xa_desk.specs.{IsKnown, IsOut, is_known, ledger, next_operation, after_sent, HaveGrown, AllKept, learnt_shut}
-use Rattle.xa_desk.specs.LedgerView.{LedgerView}
+use Rattle.xa_desk.specs.{DeskView, IsKnown, IsOut, is_known, ledger, next_operation, after_sent, HaveGrown, AllKept, learnt_shut, LedgerView}
 use Rattle.xa_desk.proofs.Growth.{growing_on}
 use Rattle.xa_desk.proofs.Ledgers.{ledger-collected_same, ledger-sent_other, ledger-sent_same}
 use Rattle.xa_worker.specs.{Entry}
 use Rattle.xa_scan.specs.{ScanView}
 use Rattle.xa_calls.specs.{Answers as Reaches}
 use Rattle.xa_calls.specs.Scans.Answers.{refused as unreached, answered as reached}
-use Rattle.xa_switch.specs.Settling.{Settling}
-use Rattle.xa_switch.specs.{IsSettled}
+use Rattle.xa_switch.specs.{Settling, IsSettled}
 use Rattle.xa_log.specs.{LogState, record_of, AppendsBefore, LosingLog}
-use Rattle.xa_driver.specs.{Branch, Done, AppendsUntil, CameTo, HaveAsked, IsOfRound, LeavesHandles, PutsLedger, is_decided_by, AsksLedger, code_of}
-use Rattle.xa_driver.specs.{AppendsOnce, HasRoom, IsTranOf, has_branch_at, wants_record}
+use Rattle.xa_driver.specs.{Branch, Done, AppendsUntil, CameTo, HaveAsked, IsOfRound, LeavesHandles, PutsLedger, AsksLedger, code_of, AppendsOnce, HasRoom}
+use Rattle.xa_driver.specs.{IsTranOf, has_branch_at}
 use Rattle.xa_driver.proofs.AtDeath.{asked_all}
 use Rattle.xa_driver.proofs.Calls.{among_first, asks_long}
 use Rattle.xa_grammar.specs.{CommitAll, ScriptCalled, ScriptAction, ScriptTask}

@@ -1,8 +1,6 @@
 -- What an xa_recover does over one kind of states it does over another, where each of its requests does.
-use Rattle.std.proofs.Common.{arith, rules}
-use Rattle.xa_base.proofs.{ℕ, Some, None, Bool, true, false, Option, Result, Ok, Err, List, length, ap, subst}
-use Rattle.xa_words.specs.{XidName, Done, Nota, Mode, Listed}
-use Rattle.xa_words.specs.declared.code.Code.{Code}
+use Rattle.xa_base.proofs.{arith, ℕ, Some, None, Bool, true, false, Option, Result, Ok, Err, List, length}
+use Rattle.xa_words.specs.{XidName, Done, Nota, Mode, Listed, Code}
 use Rattle.xa_calls.specs.Scans.{Asking, Scans}
 use Rattle.xa_calls.specs.{Looks, begun, finds, passes, filled, ended, stopped, start_of, IsInVain, RecoversFrom, RecoversAt, RecoversBy, Recovers}
 use Rattle.xa_scan.specs.{ScanView, place_at}

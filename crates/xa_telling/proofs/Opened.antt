@@ -2,13 +2,11 @@
 use Rattle.xa_base.proofs.{◌≡◌, ℕ, ◌+◌, Bool, List, [], ◌∷◌, length, map, Some, sym, refl, ap, ◌∙◌, arith, slice_get, range_with_len, slice_index_or}
 use Rattle.xa_base.proofs.{length-map, slice_get_within, slice_get-get_or, some_same}
 use Rattle.std.proofs.lemmas.List.FromFn.{length-map-range_with_len, get_or-map-range_with_len}
-use Rattle.xa_desk.specs.DeskView.{DeskView}
+use Rattle.xa_desk.specs.{DeskView}
 use Rattle.xa_worker.specs.{WorkerView}
-use Rattle.xa_tables.specs.Tables.{Tables}
-use Rattle.xa_tables.specs.{opening}
+use Rattle.xa_tables.specs.{Tables, opening}
 use Rattle.xa_switch.specs.{Plan, Setup, IsSound, planned, IsNewDesk, IsNewWorker}
-use Rattle.xa_grammar.specs.Content.{Content}
-use Rattle.xa_grammar.specs.{threads_of, managers_of}
+use Rattle.xa_grammar.specs.{Content, threads_of, managers_of}
 use Rattle.xa_telling.specs.{IsPlanOf, IsSetupOf, AreOpened, script_says, plan_says}
 use Rattle.xa_transcript.specs.{opened}
 

@@ -1,5 +1,4 @@
 -- The tasks of one thread among the steps of a script.
-use Rattle.std.proofs.Common.{arith}
 use Rattle.xa_base.proofs.{◌≡◌, ◌≢◌, ℕ, ◌≤◌, ◌==◌, List, [], ◌∷◌, ◌++◌, Some, None, sym, refl, ap, ◌∙◌, subst, All, if◌then◌else◌, eqb-true, ne_eqb, All-head}
 use Rattle.xa_base.proofs.{All-tail, All-cons, All-nil, by_bool}
 use Rattle.std.specs.Prelude.{filter_map}

@@ -6,24 +6,20 @@ use Rattle.std.specs.FinMap as finmap
 use Rattle.std.proofs.lemmas.Option.{slice_get_past, slice_get_cases}
 use Rattle.xa_desk.proofs.Fresh.{fresh_sent, fresh_collected}
 use Rattle.xa_desk.proofs.Ledgers.{nobody_sent}
-use Rattle.xa_desk.specs.{HaveGrown, AllKept, ledger, sent_to, EndedView, new_ledgers, Operation}
+use Rattle.xa_desk.specs.{HaveGrown, AllKept, ledger, sent_to, EndedView, new_ledgers, Operation, LedgerView, DeskView}
 use Rattle.xa_switch.specs.{ledgers_of, Setup, IsNewDesk, IsNewWorker, DeskSeat, seat_of_desk, ThreadPart, ManagerPart, IsSettled, find_thread, ledgers_in}
-use Rattle.xa_switch.specs.{sent, collected, journal, thread_part, manager_part, settling}
-use Rattle.xa_desk.specs.LedgerView.{LedgerView}
-use Rattle.xa_desk.specs.DeskView.{DeskView}
+use Rattle.xa_switch.specs.{sent, collected, journal, thread_part, manager_part, settling, Settling}
 use Rattle.xa_worker.specs.{WorkerView, Served}
 use Rattle.xa_crew.specs.{HasServed, EndsDesk}
-use Rattle.xa_switch.specs.Settling.{Settling}
 use Rattle.xa_log.specs.{LogState}
-use Rattle.xa_grammar.specs.{ScriptTask, ScriptStep, tasks_of, threads_of, managers_of}
-use Rattle.xa_grammar.specs.Content.{Content}
+use Rattle.xa_grammar.specs.{ScriptTask, ScriptStep, tasks_of, threads_of, managers_of, Content}
 use Rattle.xa_session.specs.{Session, HasDone}
 use Rattle.xa_transcript.specs.{Told, AreOfScript}
 use Rattle.xa_base.specs.{Chain}
 use Rattle.xa_base.specs.Lists.Chain.{none, more}
 use Rattle.xa_telling.specs.{Comes, Ran, Beginning, TellsOf, part_at, answers_to, entries_of, TakesPart, AreLeft, AreCarriedOut, Part, HasCode, new_part}
 use Rattle.xa_telling.proofs.Left.{HaveEnded, numbers_ended}
-use Rattle.xa_words.specs.declared.code.Code.{Code}
+use Rattle.xa_words.specs.{Code}
 use Rattle.xa_telling.proofs.Opened.{opened_threads, opened_managers, opened_first, opened_thread}
 use Rattle.xa_telling.proofs.Entries.{Fits as Agrees, StandsAt, agreed_fits, no_entries}
 use Rattle.xa_telling.proofs.Branches.{fits, own as own_entries}

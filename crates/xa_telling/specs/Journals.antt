@@ -10,7 +10,7 @@ use Rattle.xa_words.specs.declared.request.Op.{Op}
 use Rattle.xa_words.specs.declared.request.Op.TheVariants.{Prepare, Commit}
 use Rattle.xa_desk.specs.declared.operation.Operation.{Operation}
 use Rattle.xa_worker.specs.Journal.{Entry, entry}
-use Rattle.xa_switch.specs.Settling.{Settling, journal}
+use Rattle.xa_switch.specs.Settled.{Settling, journal}
 use Rattle.xa_scan.specs.Left.{ScanView}
 use Rattle.xa_driver.specs.declared.branch.Branch.{Branch}
 use Rattle.xa_driver.specs.declared.done.Done.{Done as Outcome}
@@ -22,7 +22,7 @@ use Rattle.xa_words.specs.Tran.{TranName}
 use Rattle.xa_grammar.specs.declared.step.CommitAll.{CommitAll}
 use Rattle.xa_grammar.specs.declared.step.Action.TheVariants as action
 use Rattle.xa_grammar.specs.Steps.{ScriptCalled, ScriptAction, ScriptTask, ScriptStep}
-use Rattle.xa_grammar.specs.Content.{tasks_of}
+use Rattle.xa_grammar.specs.Contents.{tasks_of}
 use Rattle.xa_transcript.specs.declared.answer.Answer.{Answer}
 use Rattle.xa_transcript.specs.declared.answer.Told.{Told}
 use Rattle.xa_transcript.specs.declared.answer.Answer.TheVariants as answer

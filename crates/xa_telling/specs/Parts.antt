@@ -5,7 +5,7 @@ use Rattle.std.specs.Prelude.{length, slice_get}
 use Rattle.std.specs.List.{Contains}
 use Rattle.std.specs.Ordering.{nat_cmp}
 use Rattle.std.specs.FinMap as finmap
-use Rattle.xa_words.specs.Code.{number_of}
+use Rattle.xa_words.specs.CodeNumbers.{number_of}
 use Rattle.xa_words.specs.Xid.{XidName}
 use Rattle.xa_words.specs.Flags.{check_flags}
 use Rattle.xa_words.specs.declared.code.Code.{Code}
@@ -13,7 +13,7 @@ use Rattle.xa_words.specs.declared.flags.Call.TheVariants as call
 use Rattle.xa_words.specs.declared.request.Op.{Op}
 use Rattle.xa_desk.specs.declared.operation.Operation.{Operation}
 use Rattle.xa_worker.specs.Journal.{Entry, entry}
-use Rattle.xa_switch.specs.Settling.{Settling, journal, answers}
+use Rattle.xa_switch.specs.Settled.{Settling, journal, answers}
 use Rattle.xa_calls.specs.Scans.{RecoversBy, told_as}
 use Rattle.xa_scan.specs.Left.{ScanView}
 use Rattle.xa_log.specs.Log.{LogState}

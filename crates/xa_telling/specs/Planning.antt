@@ -1,16 +1,16 @@
 -- What a script opens: a desk for each of its threads and a worker for each of its managers.
 use Rattle.std.specs.Prelude.{◌≡◌, ℕ, Bool, List, map}
 use Rattle.std.specs.List.{range_with_len}
-use Rattle.xa_tables.specs.Tables.{Tables}
-use Rattle.xa_desk.specs.DeskView.{DeskView}
+use Rattle.xa_tables.specs.ManagerTables.{Tables}
+use Rattle.xa_desk.specs.DeskViews.{DeskView}
 use Rattle.xa_worker.specs.Workers.{WorkerView}
 use Rattle.xa_switch.specs.declared.plan.Again.{Again}
 use Rattle.xa_switch.specs.declared.plan.Plan.{Plan}
 use Rattle.xa_switch.specs.declared.plan.ManagerPlan.{ManagerPlan}
 use Rattle.xa_switch.specs.Plans.{Setup, IsWithinLimits, numbers_of}
 use Rattle.xa_switch.specs.OpenedPieces.{AreOfOneOpening}
-use Rattle.xa_grammar.specs.Content.{Content, threads_of, managers_of, handles_of, queue_of, requests_of, accounts_of}
-use Rattle.xa_grammar.specs.Content.{carries_async}
+use Rattle.xa_grammar.specs.Contents.{Content, threads_of, managers_of, handles_of, queue_of, requests_of, accounts_of}
+use Rattle.xa_grammar.specs.Contents.{carries_async}
 
 -- The numbers of an opening are the script's.
 pub record AreNumbersOf (s : Content) (opening : ℕ) (n : Again) : Type 0 where

@@ -5,7 +5,7 @@ use Rattle.xa_desk.specs.Ended.{EndedView}
 use Rattle.xa_worker.specs.Workers.{WorkerView}
 use Rattle.xa_worker.specs.Done.{Served}
 use Rattle.xa_grammar.specs.Steps.{ScriptStep}
-use Rattle.xa_grammar.specs.Content.{Content, tasks_of, Fits, threads_of, managers_of}
+use Rattle.xa_grammar.specs.Contents.{Content, tasks_of, Fits, threads_of, managers_of}
 use Rattle.xa_base.specs.Lists.{Chain, Pairwise}
 use Rattle.xa_crew.specs.Ending.{EndsDesk}
 use Rattle.xa_crew.specs.Pieces.{HasServed}

@@ -2,10 +2,10 @@
 use Rattle.std.specs.Prelude.{◌≡◌, ℕ, suc, ◌≤◌, All, List, [], ◌∷◌, ◌++◌, map}
 use Rattle.std.specs.List.{flat_map}
 use Rattle.xa_base.specs.Lists.{Chain}
-use Rattle.xa_tables.specs.Tables.{Tables}
-use Rattle.xa_tables.specs.History.{tables_after}
+use Rattle.xa_tables.specs.ManagerTables.{Tables}
+use Rattle.xa_tables.specs.Histories.{tables_after}
 use Rattle.xa_tables.specs.Openings.{reopened}
-use Rattle.xa_switch.specs.Settling.{Settling, IsSettled}
+use Rattle.xa_switch.specs.Settled.{Settling, IsSettled}
 use Rattle.xa_switch.specs.Fates.{history}
 use Rattle.xa_scan.specs.Left.{ScanView, no_scan}
 use Rattle.xa_switch.specs.Recovery.{IsScanOf}
@@ -13,7 +13,7 @@ use Rattle.xa_log.specs.Log.{LogState, no_records}
 use Rattle.xa_grammar.specs.declared.script.Declared.{Declared}
 use Rattle.xa_grammar.specs.declared.step.Step.TheVariants as step
 use Rattle.xa_grammar.specs.Steps.{ScriptStep}
-use Rattle.xa_grammar.specs.Content.{Content, threads_of, managers_of, AreOfOne}
+use Rattle.xa_grammar.specs.Contents.{Content, threads_of, managers_of, AreOfOne}
 use Rattle.xa_transcript.specs.declared.answer.Told.{Told}
 use Rattle.xa_transcript.specs.declared.answer.Told.TheVariants as told
 use Rattle.xa_telling.specs.Parts.{Part, new_part}

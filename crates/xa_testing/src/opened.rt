@@ -1,6 +1,6 @@
 //! An opening in one thread: its desks, and its workers, which take turns.
 ghost use Rattle.std.specs.Prelude.{IfSome};
-ghost use Rattle.xa_switch.specs.Again.{reopening};
+ghost use Rattle.xa_switch.specs.Reopening.{reopening};
 ghost use Rattle.xa_switch.specs.OpenedPieces.{AreOfOneOpening};
 ghost use Rattle.xa_switch.specs.Plans.{planned};
 ghost use Rattle.xa_switch.specs.Recovery.{AreScansOf};

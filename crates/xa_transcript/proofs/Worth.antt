@@ -6,13 +6,9 @@ use Rattle.std.specs.FinMap as finmap
 use Rattle.std.specs.FinMap.Entries.{is_some-find}
 use Rattle.xa_words.specs.Key.{key_cmp}
 use Rattle.xa_words.specs.{key_eq, key_cmp_total, key_eq-by_cmp, Decides-key_eq}
-use Rattle.xa_tables.specs.Tables.{Tables}
-use Rattle.xa_tables.specs.History.{History}
-use Rattle.xa_tables.specs.{Absent, added_over, value_over}
-use Rattle.xa_grammar.specs.{Declared, accounts_of, managers_of}
-use Rattle.xa_switch.specs.{ManagerPart, find_manager, first_of}
-use Rattle.xa_switch.specs.Settling.{Settling}
-use Rattle.xa_grammar.specs.Content.{Content}
+use Rattle.xa_tables.specs.{Tables, History, Absent, added_over, value_over}
+use Rattle.xa_grammar.specs.{Declared, accounts_of, managers_of, Content}
+use Rattle.xa_switch.specs.{ManagerPart, find_manager, first_of, Settling}
 use Rattle.xa_transcript.specs.{opened, opened_after, AreOfScript, IsWorth}
 
 -- the keys that a manager is opened with

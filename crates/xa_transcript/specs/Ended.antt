@@ -1,6 +1,6 @@
 -- What is told of the end of a thread.
 use Rattle.std.specs.Prelude.{ℕ, List, map}
-use Rattle.xa_words.specs.Code.{number_of}
+use Rattle.xa_words.specs.CodeNumbers.{number_of}
 use Rattle.xa_words.specs.declared.code.Code.{Code}
 use Rattle.xa_transcript.specs.declared.answer.Told.{Told}
 use Rattle.xa_transcript.specs.declared.answer.Told.TheVariants.{Ended}

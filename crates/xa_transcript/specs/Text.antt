@@ -2,7 +2,7 @@
 use Rattle.std.specs.Prelude.{ℕ, ℤ, Bool, true, false, List, ◌++◌, length, codes, decimal}
 use Rattle.std.specs.List.{flat_map}
 use Rattle.std.specs.Fmt.{signed_decimal}
-use Rattle.xa_words.specs.Code.{number_of}
+use Rattle.xa_words.specs.CodeNumbers.{number_of}
 use Rattle.xa_words.specs.declared.code.Code.{Code}
 use Rattle.xa_words.specs.declared.death.Death.{Death}
 use Rattle.xa_words.specs.declared.death.Death.TheVariants as death

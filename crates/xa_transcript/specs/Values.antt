@@ -4,14 +4,14 @@ use Rattle.std.specs.Ordering.{nat_cmp, ordering_then}
 use Rattle.std.specs.declared.cmp.Ordering.{Ordering}
 use Rattle.std.specs.List.Sorted.{IsPermutation, IsSorted}
 use Rattle.xa_words.specs.Key.{key_cmp}
-use Rattle.xa_tables.specs.Tables.{Tables}
-use Rattle.xa_tables.specs.History.{History}
+use Rattle.xa_tables.specs.ManagerTables.{Tables}
+use Rattle.xa_tables.specs.Histories.{History}
 use Rattle.xa_tables.specs.Openings.{left_by, value_over}
 use Rattle.xa_tables.specs.Managers.{opening}
-use Rattle.xa_switch.specs.Settling.{ManagerPart, Settling}
+use Rattle.xa_switch.specs.Settled.{ManagerPart, Settling}
 use Rattle.xa_switch.specs.Fates.{history}
 use Rattle.xa_grammar.specs.declared.script.Declared.{Declared}
-use Rattle.xa_grammar.specs.Content.{Content, managers_of, accounts_of}
+use Rattle.xa_grammar.specs.Contents.{Content, managers_of, accounts_of}
 
 -- The tables of manager m at its first opening.
 abbrev pub opened : Content → ℕ → Tables

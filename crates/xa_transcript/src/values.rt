@@ -1,6 +1,6 @@
 //! The values of the declared keys after a run.
 ghost use Rattle.std.specs.Prelude.{List, [], ◌∷◌, ◌++◌, IfOk};
-ghost use Rattle.xa_switch.specs.Settling.{Settling};
+ghost use Rattle.xa_switch.specs.Settled.{Settling};
 ghost use Rattle.xa_transcript.specs.Values.{opened_after, AreOfScript, AreValues};
 
 use std::alloc::{AllocError, Global};

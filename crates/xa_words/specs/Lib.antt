@@ -1,4 +1,4 @@
-pub mod Code
+pub mod CodeNumbers
 pub mod Xid
 pub mod XidInverse
 pub mod Tran
@@ -29,6 +29,7 @@ pub use Orders.{Decides-key_eq, Decides-xid_eq, key_cmp-IsAntisymmetric, key_cmp
 pub use Orders.{xid_cmp-IsAntisymmetric, xid_cmp_total, xid_eq-by_cmp}
 pub use TranOrders.{Decides-tran_eq}
 pub use ManagerSet.{is_in, managers_in, set_of, with_manager}
+pub use declared.code.Code.{Code}
 pub use declared.code.Code.TheVariants.{Async, Done, DupId, HeurCom, HeurHaz, HeurMix, HeurRb, Inval, Nota, Outside}
 pub use declared.code.Code.TheVariants.{Proto, RbCommFail, RbDeadlock, RbIntegrity, RbOther, RbProto, RbRollback}
 pub use declared.code.Code.TheVariants.{RbTimeout, RbTransient, RdOnly, Retry, RmErr, RmFail}

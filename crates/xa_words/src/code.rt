@@ -53,7 +53,7 @@ pub enum Code {
 }
 
 impl Code {
-    ghost use Rattle.xa_words.specs.Code.{number_of};
+    ghost use Rattle.xa_words.specs.CodeNumbers.{number_of};
 
     /// The number of the code in xa.h.
     pub fn value(self) -> i32

@@ -1,10 +1,8 @@
 -- What comes of a synchronous call.
 use Rattle.xa_base.proofs.{arith, ◌≡◌, ℕ, Bool, true, false, ℤ, sym, refl, ap, ◌∙◌, subst, Option, Some, w32, of_z, ◌==◌, option_map}
-use Rattle.xa_words.specs.Code.{number_of}
-use Rattle.xa_words.specs.declared.code.Code.{Code}
-use Rattle.xa_words.specs.{Done, Op}
-use Rattle.xa_desk.specs.{Refused, call_refusal}
-use Rattle.xa_desk.specs.DeskView.{DeskView}
+use Rattle.xa_words.specs.CodeNumbers.{number_of}
+use Rattle.xa_words.specs.{Code, Done, Op}
+use Rattle.xa_desk.specs.{Refused, call_refusal, DeskView}
 use Rattle.xa_calls.specs.{code_of, Puts}
 use Rattle.xa_calls.specs.Putting.Puts.{refused, full, kept, answered}
 use Rattle.xa_work.specs.{after_called, CallsOp, called, failed, uncalled, HaveSent}

@@ -1,8 +1,7 @@
 -- A commit of a unit of work names its branches alone.
 use Rattle.xa_base.proofs.{◌≡◌, true, Option, List, any_at}
 use Rattle.xa_words.specs.{XidName, xid_eq, Death}
-use Rattle.xa_desk.specs.LedgerView.{LedgerView}
-use Rattle.xa_desk.specs.DeskView.{DeskView}
+use Rattle.xa_desk.specs.{LedgerView, DeskView}
 use Rattle.xa_driver.specs.{Branch}
 use Rattle.xa_log.specs.{LogState}
 use Rattle.xa_work.specs.{WorkOutcome, HaveSent, NamesOnly, ComesOfCommit}

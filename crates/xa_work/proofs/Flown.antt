@@ -5,9 +5,7 @@ use Rattle.xa_base.proofs.{filter-append, list_any-append, all_left, all_right, 
 use Rattle.xa_base.specs.{Chain}
 use Rattle.xa_base.specs.Lists.Chain.{none, more}
 use Rattle.xa_words.specs.{Done, Op}
-use Rattle.xa_desk.specs.{Operation, with_sent, with_collected, IsKnown, ledger, next_operation}
-use Rattle.xa_desk.specs.LedgerView.{LedgerView}
-use Rattle.xa_desk.specs.DeskView.{DeskView}
+use Rattle.xa_desk.specs.{Operation, with_sent, with_collected, IsKnown, ledger, next_operation, LedgerView, DeskView}
 use Rattle.xa_work.specs.{PutsAtLast, PutsOp, Put}
 use Rattle.xa_work.proofs.Worked.{AreCollected, AreKept, Block, Flights, IsKey, block_one, is_put, kept_push, key_of, known_on}
 

@@ -8,7 +8,7 @@ use Rattle.std.proofs.lemmas.List.Folds.{list_all-append}
 use Rattle.xa_base.specs.{Chain}
 use Rattle.xa_base.specs.Lists.Chain.{none, more}
 use Rattle.xa_words.specs.{Op, Add, End, OpenRm, Start, Fresh, Success}
-use Rattle.xa_desk.specs.DeskView.{DeskView}
+use Rattle.xa_desk.specs.{DeskView}
 use Rattle.xa_driver.specs.{Branch}
 use Rattle.xa_work.specs.{Flight, Change, CallsOp, CollectsOp, PutsAtLast, Called, CallsOps, OpensAt, CollectsAll, Got, Put, PutsRequests, changes_at, ops_of}
 use Rattle.xa_work.specs.{requests_at, requests_of, steps_in}

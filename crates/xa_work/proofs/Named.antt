@@ -6,9 +6,7 @@ use Rattle.xa_base.specs.Lists.Chain.{none, more}
 use Rattle.xa_words.specs.{XidName, xid_eq, TMFAIL, Op, Start, Add, End, Rollback, Fresh, Success, Fail}
 use Rattle.xa_words.specs.declared.flags.Call.TheVariants as call
 use Rattle.xa_tables.specs.{names}
-use Rattle.xa_desk.specs.LedgerView.{LedgerView}
-use Rattle.xa_desk.specs.DeskView.{DeskView}
-use Rattle.xa_desk.specs.{ledger}
+use Rattle.xa_desk.specs.{LedgerView, DeskView, ledger}
 use Rattle.xa_driver.specs.{Branch, is_commit}
 use Rattle.xa_work.specs.{Change, CallsOp, CollectsOp, PutsAtLast, HaveSent, IsFor, Asks, Called, CallsBranch, CallsBranches, GivesUp, Got, HasWorked}
 use Rattle.xa_work.specs.{HaveWorked, Put, Tries, TriesInFlight, changes_at, in_flight, in_turn, ops_of, requests_at, requests_of}

@@ -5,9 +5,7 @@ use Rattle.xa_base.proofs.{All-tail, All-append, All-map, list_any-append, all_a
 use Rattle.std.proofs.lemmas.List.Sums.{AllPass-from_list_all}
 use Rattle.std.proofs.lemmas.Simd.{map-map as map_map}
 use Rattle.xa_words.specs.{Done, Op}
-use Rattle.xa_desk.specs.{Operation, IsKnown, ledger}
-use Rattle.xa_desk.specs.LedgerView.{LedgerView}
-use Rattle.xa_desk.specs.DeskView.{DeskView}
+use Rattle.xa_desk.specs.{Operation, IsKnown, ledger, LedgerView, DeskView}
 use Rattle.xa_driver.specs.{Branch, AreBranchesRising, HaveRoom, has_branch_at}
 use Rattle.xa_work.specs.{Flight, Change, Got, HasWorked, HaveWorked, Put, Tries, TriesInFlight, in_flight, in_turn, ops_of, requests_at, requests_of}
 use Rattle.xa_work.specs.Works.CallsBranches.{completed, stopped}

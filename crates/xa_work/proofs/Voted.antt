@@ -1,12 +1,10 @@
 -- What a commit sent: one that was made, one that came to no decision, or one whose coordinator died.
 use Rattle.xa_base.proofs.{◌≡◌, ◌≤◌, ℕ, zero, suc, Bool, true, false, ◌||◌, ◌==◌, Option, Some, None, List, [], ◌∷◌, map, refl, sym, ◌∙◌, subst, All, eqb-true}
 use Rattle.xa_base.proofs.{All-nil, All-cons, All-head, All-tail, same_begins, some_same, by_if}
-use Rattle.xa_words.specs.{XidName, TranName, Death, Op, Commit, Forget, Prepare, Rollback}
-use Rattle.xa_words.specs.declared.code.Code.{Code}
+use Rattle.xa_words.specs.{XidName, TranName, Death, Op, Commit, Forget, Prepare, Rollback, Code}
 use Rattle.xa_words.specs.declared.death.Death.TheVariants as death
 use Rattle.xa_tables.specs.{is_rolled_back}
-use Rattle.xa_desk.specs.LedgerView.{LedgerView}
-use Rattle.xa_desk.specs.{ledger}
+use Rattle.xa_desk.specs.{LedgerView, ledger}
 use Rattle.xa_driver.specs.{Branch, Done, Ending, Ask, code_of, AsksFor, AtBranch, CameTo, HaveAsked, HaveTold, PutsLedger, Tells, VotesAndHears, VotesAndObeys}
 use Rattle.xa_driver.specs.{is_read, is_yes, is_decided, is_out_of_reach, to_come, withheld, second_op, third_op, AsksLedger, HasVoted, EachBranch}
 use Rattle.xa_driver.specs.{IsTraceOfCommit, has_branch_at}

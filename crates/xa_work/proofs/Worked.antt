@@ -8,11 +8,8 @@ use Rattle.std.specs.FinMap as finmap
 use Rattle.std.proofs.lemmas.List.Sums.{AllPass-from_list_all}
 use Rattle.xa_base.specs.{Chain}
 use Rattle.xa_base.specs.Lists.Chain.{none, more}
-use Rattle.xa_words.specs.declared.code.Code.{Code}
-use Rattle.xa_words.specs.{Done, Op}
-use Rattle.xa_desk.specs.{Operation, with_sent, with_collected, IsKnown, ledger, put_ledger, after_sent, after_collected}
-use Rattle.xa_desk.specs.LedgerView.{LedgerView}
-use Rattle.xa_desk.specs.DeskView.{DeskView}
+use Rattle.xa_words.specs.{Code, Done, Op}
+use Rattle.xa_desk.specs.{Operation, with_sent, with_collected, IsKnown, ledger, put_ledger, after_sent, after_collected, LedgerView, DeskView}
 use Rattle.xa_desk.proofs.Ledgers.{ledger-put_same, ledger-put_other}
 use Rattle.xa_driver.specs.{Branch, AreBranchesRising, has_branch_at}
 use Rattle.xa_work.specs.{Change, IsPut, PutsOp, IsCollected, CallsOp, CollectsOp, after_called, done, nothing, Called, CallsBranch, Got, HasWorked, HaveWorked}

@@ -5,15 +5,16 @@ use Rattle.std.specs.Prelude.{List}
 use Rattle.std.specs.FinMap as map
 use Rattle.xa_words.specs.Xid.{XidName}
 use Rattle.xa_words.specs.declared.code.Code.{Code}
-use Rattle.xa_words.specs.Code.{number_of}
+use Rattle.xa_words.specs.CodeNumbers.{number_of}
 use Rattle.xa_words.specs.declared.code.Code.TheVariants.{Async, Done}
 use Rattle.xa_words.specs.declared.request.Op.{Op}
 use Rattle.xa_words.specs.declared.request.Op.TheVariants as ops
 use Rattle.xa_words.specs.declared.request.StartHow.TheVariants.{Fresh}
 use Rattle.xa_words.specs.declared.request.EndHow.TheVariants.{Success}
 use Rattle.xa_desk.specs.declared.operation.Operation.{Operation}
-use Rattle.xa_desk.specs.LedgerView.{LedgerView}
-use Rattle.xa_desk.specs.DeskView.{DeskView, after_sent, after_collected, is_known, ledger, next_operation, outstanding}
+use Rattle.xa_desk.specs.LedgerViews.{LedgerView}
+use Rattle.xa_desk.specs.DeskViews.{DeskView, after_sent, after_collected, is_known, ledger, next_operation}
+use Rattle.xa_desk.specs.DeskViews.{outstanding}
 use Rattle.xa_calls.specs.Completing.{keeps_by, may_complete, number_in}
 use Rattle.xa_calls.specs.Putting.{Puts, put_refusal}
 use Rattle.xa_work.specs.declared.step.Step.{Step}

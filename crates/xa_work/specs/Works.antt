@@ -11,8 +11,8 @@ use Rattle.xa_words.specs.declared.request.Op.{Op}
 use Rattle.xa_words.specs.declared.request.Op.TheVariants.{OpenRm, Start, Add, End}
 use Rattle.xa_words.specs.declared.request.StartHow.TheVariants.{Fresh}
 use Rattle.xa_words.specs.declared.request.EndHow.TheVariants.{Success}
-use Rattle.xa_desk.specs.LedgerView.{LedgerView}
-use Rattle.xa_desk.specs.DeskView.{DeskView, ledger, outstanding}
+use Rattle.xa_desk.specs.LedgerViews.{LedgerView}
+use Rattle.xa_desk.specs.DeskViews.{DeskView, ledger, outstanding}
 use Rattle.xa_calls.specs.Asking.{asked_of}
 use Rattle.xa_calls.specs.Putting.{Calls}
 use Rattle.xa_driver.specs.declared.branch.Branch.{Branch}

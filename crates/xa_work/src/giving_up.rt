@@ -1,7 +1,7 @@
 //! What a unit of work leaves where it comes to no commit.
 ghost use Rattle.std.specs.Prelude.{◌≡◌};
 ghost use Rattle.xa_words.specs.Flags.{TMFAIL};
-ghost use Rattle.xa_desk.specs.GoesOn.{GoesOn};
+ghost use Rattle.xa_desk.specs.GoingOn.{GoesOn};
 ghost use Rattle.xa_desk.specs.Kept.{AllKept};
 ghost use Rattle.xa_work.specs.Works.{Asks, GivesUp};
 

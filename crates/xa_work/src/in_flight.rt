@@ -1,6 +1,6 @@
 //! The work for a transaction by asynchronous calls, all of its requests in flight.
 ghost use Rattle.std.specs.Prelude.{◌≡◌, ◌↔◌, ◌≤◌, ◌+◌, ◌++◌, [], List, IsTrue, length, vec_capacity};
-ghost use Rattle.xa_desk.specs.GoesOn.{GoesOn};
+ghost use Rattle.xa_desk.specs.GoingOn.{GoesOn};
 ghost use Rattle.xa_desk.specs.Kept.{AllKept};
 ghost use Rattle.xa_work.specs.Requests.{CollectsOp, IsFull, PutsAtLast, op_of};
 ghost use Rattle.xa_work.specs.Units.{AreFew};

@@ -1,6 +1,6 @@
 //! The work for a transaction by synchronous calls, one after the other: they take no handle, and any manager takes
 //! them.
-ghost use Rattle.xa_desk.specs.GoesOn.{GoesOn};
+ghost use Rattle.xa_desk.specs.GoingOn.{GoesOn};
 ghost use Rattle.xa_desk.specs.Kept.{AllKept};
 ghost use Rattle.xa_work.specs.Requests.{CallsOp, op_of};
 ghost use Rattle.xa_work.specs.Works.{CallsBranch, CallsBranches};

@@ -1,6 +1,6 @@
 //! How a thread opens its managers.
 ghost use Rattle.xa_words.specs.declared.request.Op.TheVariants.{OpenRm};
-ghost use Rattle.xa_desk.specs.GoesOn.{GoesOn};
+ghost use Rattle.xa_desk.specs.GoingOn.{GoesOn};
 ghost use Rattle.xa_desk.specs.Kept.{AllKept};
 ghost use Rattle.xa_work.specs.Requests.{CallsOp};
 ghost use Rattle.xa_work.specs.Sent.{HaveSent, IsOpenRm};

@@ -1,6 +1,6 @@
 //! The steps of a branch's work.
 ghost use Rattle.std.specs.Prelude.{◌≡◌};
-ghost use Rattle.xa_desk.specs.GoesOn.{GoesOn};
+ghost use Rattle.xa_desk.specs.GoingOn.{GoesOn};
 ghost use Rattle.xa_desk.specs.Kept.{AllKept};
 ghost use Rattle.xa_calls.specs.Putting.{Puts};
 ghost use Rattle.xa_work.specs.Requests.{op_of};

@@ -1,12 +1,12 @@
 //! A unit of work, from its first request to its decision.
 ghost use Rattle.std.specs.Prelude.{◌≡◌, ◌-◌, ◌↔◌, ◌≤◌, true, IfOk, IsTrue, None, OnErr, Some, length};
-ghost use Rattle.xa_desk.specs.GoesOn.{GoesOn};
+ghost use Rattle.xa_desk.specs.GoingOn.{GoesOn};
 ghost use Rattle.xa_desk.specs.Kept.{AllKept};
 ghost use Rattle.xa_driver.specs.Trace.{MayCommit, has_branch_at};
 ghost use Rattle.xa_work.specs.Sent.{HaveSent, NamesOnly};
 ghost use Rattle.xa_work.specs.Units.{AreFew, ComesOfCommit, HaveRoomToWork, IsGivenUp, LeavesKnown, MayBegin};
 ghost use Rattle.std.specs.List.{list_all};
-ghost use Rattle.xa_desk.specs.DeskView.{outstanding};
+ghost use Rattle.xa_desk.specs.DeskViews.{outstanding};
 ghost use Rattle.xa_work.specs.Requests.{carries_async};
 ghost use Rattle.xa_work.specs.Units.{IfLost, Loses, Transacts, has_died, is_last, is_to_commit};
 ghost use Rattle.xa_work.specs.Works.{Tries, are_placed};

@@ -1,6 +1,6 @@
 //! A thread of control whose units of work each move an amount from manager 1 to another.
 ghost use Rattle.std.specs.Prelude.{◌≡◌, length};
-ghost use Rattle.xa_desk.specs.GoesOn.{GoesOn};
+ghost use Rattle.xa_desk.specs.GoingOn.{GoesOn};
 ghost use Rattle.xa_desk.specs.Kept.{AllKept};
 
 use std::alloc::Global;

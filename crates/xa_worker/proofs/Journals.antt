@@ -1,9 +1,7 @@
 -- Journals that grow by an entry.
 use Rattle.xa_base.proofs.{◌≡◌, ℕ, ◌==◌, true, false, cond, List, [], ◌∷◌, ◌++◌, map, refl, sym, ap, ◌∙◌, filter, map-append, filter-append}
 use Rattle.xa_words.specs.{Request}
-use Rattle.xa_tables.specs.Tables.{Tables}
-use Rattle.xa_tables.specs.{next, codes, tables_after}
-use Rattle.xa_tables.specs.History.{History}
+use Rattle.xa_tables.specs.{Tables, next, codes, tables_after, History}
 use Rattle.xa_worker.specs.{Entry, entry_next, tables_next, requests, codes_in, Follows, completion_of, owed}
 
 codes-more : (h : History) (r : Request) (T : Tables) → codes (h ++ r ∷ []) T ≡ codes h T ++ (entry_next r (tables_after h T)).1 ∷ []

@@ -1,7 +1,7 @@
 -- What a pace is told.
 use Rattle.xa_base.proofs.{◌≡◌, List, [], ◌∷◌, ◌++◌, refl, sym, ap, ◌∙◌, subst, append-nil, append_assoc, map-append}
 use Rattle.xa_words.specs.{Request}
-use Rattle.xa_tables.specs.History.{History}
+use Rattle.xa_tables.specs.{History}
 use Rattle.xa_worker.specs.{Entry, requests, IsTold, Paces}
 
 module _ {P : Type 0} (by : Request → P → P → Type 0) where

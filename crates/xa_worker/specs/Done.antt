@@ -1,8 +1,8 @@
 -- What contracts see of a worker that has run.
 use Rattle.std.specs.Prelude.{◌≡◌, ℕ, ◌+◌, ◌<◌, true, List, length, map}
-use Rattle.xa_tables.specs.Tables.{Tables}
+use Rattle.xa_tables.specs.ManagerTables.{Tables}
 use Rattle.xa_tables.specs.Managers.{Managed}
-use Rattle.xa_tables.specs.History.{of_thread}
+use Rattle.xa_tables.specs.Histories.{of_thread}
 use Rattle.xa_lane.specs.Ends.{SameReceiver, received, has_ended}
 use Rattle.xa_lane.specs.Senders.{sent_at}
 use Rattle.xa_worker.specs.Journal.{Entry, Follows, requests, owed}

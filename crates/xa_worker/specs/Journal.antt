@@ -3,10 +3,10 @@ use Rattle.std.specs.Prelude.{◌≡◌, ℕ, ◌-◌, ◌==◌, None, List, map
 use Rattle.xa_words.specs.declared.code.Code.{Code}
 use Rattle.xa_words.specs.declared.request.Request.{Request}
 use Rattle.xa_words.specs.declared.request.Completion.{Completion}
-use Rattle.xa_tables.specs.Tables.{Tables}
+use Rattle.xa_tables.specs.ManagerTables.{Tables}
 use Rattle.xa_tables.specs.Next.{next}
 use Rattle.xa_tables.specs.Managers.{Managed}
-use Rattle.xa_tables.specs.History.{History, codes, tables_after}
+use Rattle.xa_tables.specs.Histories.{History, codes, tables_after}
 
 -- a request, and the code that it was given
 abbrev pub Entry : Type 0

@@ -1,6 +1,6 @@
 -- What a worker keeps, whatever it does.
 use Rattle.std.specs.Prelude.{ℕ, List, map}
-use Rattle.xa_tables.specs.Tables.{Tables}
+use Rattle.xa_tables.specs.ManagerTables.{Tables}
 use Rattle.xa_lane.specs.declared.name.LaneName.{LaneName}
 use Rattle.xa_lane.specs.Ends.{QueueId}
 use Rattle.xa_lane.specs.Seats.{EndSeat, end_seat}

@@ -5,7 +5,7 @@ use Rattle.xa_lane.specs.declared.parcel.Taken.TheVariants.{Item, EndOf, Empty a
 use Rattle.xa_lane.specs.Ends.{Took}
 use Rattle.xa_worker.specs.declared.step.Step.{Step}
 use Rattle.xa_worker.specs.declared.step.Step.TheVariants.{Did, Late, EndSeen, Empty, Blocked}
-use Rattle.xa_tables.specs.History.{History}
+use Rattle.xa_tables.specs.Histories.{History}
 use Rattle.xa_worker.specs.Journal.{Entry, entry_next, applied, completion_of, requests}
 use Rattle.xa_worker.specs.Outgoing.{StillFull, Puts, flushed}
 use Rattle.xa_worker.specs.Workers.{WorkerView, IsUnfit}

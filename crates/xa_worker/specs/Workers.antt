@@ -1,7 +1,7 @@
 -- What contracts see of a worker.
 use Rattle.std.specs.Prelude.{◌≡◌, ◌≢◌, ◌⊎◌, ℕ, ◌+◌, ◌<◌, true, List, [], ◌∷◌, ◌++◌, length, map, Option, Some, None}
 use Rattle.xa_words.specs.declared.request.Request.{Request}
-use Rattle.xa_tables.specs.Tables.{Tables}
+use Rattle.xa_tables.specs.ManagerTables.{Tables}
 use Rattle.xa_tables.specs.Managers.{Managed, opening}
 use Rattle.xa_lane.specs.declared.parcel.Parcel.{Parcel}
 use Rattle.xa_lane.specs.Ends.{Receiving, SameReceiver, has_ended}

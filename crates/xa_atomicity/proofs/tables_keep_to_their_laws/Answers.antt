@@ -1,4 +1,4 @@
-use Rattle.std.proofs.Common.{arith, rules}
+use Rattle.xa_base.proofs.{arith, rules}
 use Rattle.xa_atomicity.proofs.tables_keep_to_their_laws.Goals as goal
 
 pub returns : goal.returns

@@ -3,7 +3,7 @@ ghost use Rattle.std.specs.Prelude.{◌≡◌, ◌+◌, ◌<◌, ◌≤◌, leng
 ghost use Rattle.xa_lane.specs.declared.parcel.Taken.{Taken};
 ghost use Rattle.xa_lane.specs.declared.parcel.Taken.TheVariants.{Empty};
 ghost use Rattle.xa_words.specs.declared.request.Completion.{Completion};
-ghost use Rattle.xa_desk.specs.DeskView.{IsKnown, IsOut, IsLoose, drained_code, ledger, outstanding, next_operation};
+ghost use Rattle.xa_desk.specs.DeskViews.{IsKnown, IsOut, IsLoose, drained_code, ledger, outstanding, next_operation};
 ghost use Rattle.xa_desk.specs.Lanes.{submitted, after_full};
 ghost use Rattle.xa_desk.specs.Looks.{Draws, DrawsFor};
 

@@ -1,7 +1,7 @@
 //! A caller's own functions: what they owe of the desk on every exit follows from what the calls promise, also where
 //! want of memory is passed on, and with no proof file. And two threads that resolve by the logs of all coordinators.
 ghost use Rattle.std.specs.Prelude.{◌≡◌, length};
-ghost use Rattle.xa_desk.specs.GoesOn.{GoesOn};
+ghost use Rattle.xa_desk.specs.GoingOn.{GoesOn};
 ghost use Rattle.xa_desk.specs.Kept.{AllKept};
 
 use std::alloc::Global;

@@ -1,7 +1,7 @@
 //! A crash of two of three managers, in threads: they are shut once the commit's record is made, and hold branches in
 //! doubt. All are opened again, and what was left is resolved by the log. No money is lost or made over both openings.
 ghost use Rattle.std.specs.Prelude.{refl};
-ghost use Rattle.xa_desk.specs.GoesOn.{GoesOn};
+ghost use Rattle.xa_desk.specs.GoingOn.{GoesOn};
 ghost use Rattle.xa_desk.specs.Kept.{AllKept};
 ghost use Rattle.xa_log.specs.Log.{AppendsTo, ForgetsFrom};
 

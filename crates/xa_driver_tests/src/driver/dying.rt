@@ -4,12 +4,12 @@ ghost use Rattle.std.specs.Prelude.{◌≡◌, ◌≤◌, ℕ, ◌∷◌, [], le
 ghost use Rattle.std.specs.List.{All};
 ghost use Rattle.std.proofs.Common.{◌∙◌};
 ghost use Rattle.xa_tables.specs.Prepared.{is_heur};
-ghost use Rattle.xa_desk.specs.DeskView.{ledger};
-ghost use Rattle.xa_desk.specs.GoesOn.{GoesOn};
+ghost use Rattle.xa_desk.specs.DeskViews.{ledger};
+ghost use Rattle.xa_desk.specs.GoingOn.{GoesOn};
 ghost use Rattle.xa_desk.specs.Growth.{HaveGrown};
 ghost use Rattle.xa_switch.specs.Fates.{ledgers_of};
 ghost use Rattle.xa_switch.specs.Belonging.{ComeFromOpenings, seat_of_desk, seat_of_worker};
-ghost use Rattle.xa_switch.specs.Settling.{IsSettled};
+ghost use Rattle.xa_switch.specs.Settled.{IsSettled};
 ghost use Rattle.xa_atomicity.specs.Cut.{IsCut};
 ghost use Rattle.xa_atomicity.specs.Outcomes.{AreLeftOrDecided, sent_so_far};
 ghost use Rattle.xa_atomicity.specs.Presumed.{CountsByTheLog, EndsByTheLog};

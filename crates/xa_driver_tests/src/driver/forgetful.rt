@@ -1,7 +1,7 @@
 //! A log that forgets: a record goes once every branch has acknowledged, and stays while one is in doubt, until what
 //! was left is resolved.
 ghost use Rattle.std.specs.Prelude.{◌≡◌, ◌∷◌, [], ℕ, map};
-ghost use Rattle.xa_desk.specs.DeskView.{ledger};
+ghost use Rattle.xa_desk.specs.DeskViews.{ledger};
 ghost use Rattle.xa_switch.specs.Belonging.{ComeFromOpenings, seat_of_desk, seat_of_worker};
 
 use super::openings::{again, open};

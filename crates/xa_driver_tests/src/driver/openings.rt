@@ -1,15 +1,15 @@
 //! Openings one after another: opened, settled, and opened again for one thread.
 ghost use Rattle.std.specs.Prelude.{◌≡◌, ℕ, List, ◌∷◌, [], map};
-ghost use Rattle.xa_desk.specs.DeskView.{DeskView, ledger};
+ghost use Rattle.xa_desk.specs.DeskViews.{DeskView, ledger};
 ghost use Rattle.xa_worker.specs.Workers.{WorkerView};
 ghost use Rattle.xa_switch.specs.Plans.{Setup};
-ghost use Rattle.xa_switch.specs.Again.{reopening};
+ghost use Rattle.xa_switch.specs.Reopening.{reopening};
 ghost use Rattle.xa_switch.specs.Closing.{settling};
 ghost use Rattle.xa_switch.specs.OfPlans.{IsOf};
 ghost use Rattle.xa_switch.specs.OpenedPieces.{AreOfOneOpening};
 ghost use Rattle.xa_switch.specs.Recovery.{IsScanOf};
 ghost use Rattle.xa_switch.specs.Belonging.{ComeFromOpenings, desk_seats, worker_seats, seat_of_desk, seat_of_worker};
-ghost use Rattle.xa_switch.specs.Settling.{IsSettled};
+ghost use Rattle.xa_switch.specs.Settled.{IsSettled};
 
 use super::Opened;
 use std::alloc::Global;

@@ -1,7 +1,7 @@
 //! Managers that tests step by hand, and a desk over lanes to them.
 ghost use Rattle.std.specs.Prelude.{◌≡◌, ◌≢◌, ◌≤◌, [], length, All};
-ghost use Rattle.xa_desk.specs.DeskView.{TicketView, Owns};
-ghost use Rattle.xa_desk.specs.GoesOn.{GoesOn};
+ghost use Rattle.xa_desk.specs.DeskViews.{TicketView, Owns};
+ghost use Rattle.xa_desk.specs.GoingOn.{GoesOn};
 ghost use Rattle.xa_desk.specs.Lanes.{AreEndsTo, IsEndTo};
 ghost use Rattle.xa_desk.specs.Tickets.{LeavesTickets};
 

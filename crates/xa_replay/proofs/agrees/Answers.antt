@@ -1,5 +1,5 @@
 use Rattle.xa_base.proofs.{subst}
-use Rattle.xa_tables.specs.Tables.{Tables}
+use Rattle.xa_tables.specs.{Tables}
 use Rattle.xa_worker.specs.{Follows}
 use Rattle.xa_replay.proofs.agrees.Goals as goal
 

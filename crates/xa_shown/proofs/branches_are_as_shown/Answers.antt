@@ -1,4 +1,4 @@
-use Rattle.std.proofs.Common.{arith}
+use Rattle.xa_base.proofs.{arith}
 use Rattle.xa_shown.proofs.Alone.{left_alone}
 use Rattle.xa_shown.proofs.Outcomes.{shown_so, counts_so}
 use Rattle.xa_telling.specs.{part_at}

@@ -1,4 +1,4 @@
-use Rattle.std.proofs.Common.{arith}
+use Rattle.xa_base.proofs.{arith}
 use Rattle.xa_shown.proofs.Alone.{left_alone}
 use Rattle.xa_shown.proofs.Placed.{places}
 use Rattle.xa_shown.proofs.Stopped.{place_decided, place_stopped, place_undecided, place_undecided_unless}

@@ -1,4 +1,4 @@
-use Rattle.std.proofs.Common.{arith}
+use Rattle.xa_base.proofs.{arith}
 use Rattle.xa_shown.proofs.Unfinished.{death_by_record, lost_so, stopped_so, undecided_by_record}
 use Rattle.xa_shown.proofs.unfinished_commits_go_by_the_record.Goals as goal
 

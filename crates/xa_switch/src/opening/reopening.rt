@@ -5,8 +5,9 @@ ghost use Rattle.std.specs.List.{All, range_with_len};
 ghost use Rattle.xa_base.specs.Lists.{IsUpTo};
 ghost use Rattle.xa_switch.specs.Plans.{IsWithinLimits, manager_room, new_manager};
 ghost use Rattle.xa_switch.specs.OpenedPieces.{IsLaidOut, AreOfOneOpening};
-ghost use Rattle.xa_switch.specs.Settling.{ReadyPart};
-ghost use Rattle.xa_switch.specs.Again.{reopening, flags_in, managers_in, MayReopen, find_ready, parts_of, reopened_at};
+ghost use Rattle.xa_switch.specs.Settled.{ReadyPart};
+ghost use Rattle.xa_switch.specs.Reopening.{reopening, flags_in, managers_in, MayReopen, find_ready, parts_of};
+ghost use Rattle.xa_switch.specs.Reopening.{reopened_at};
 ghost use Rattle.xa_switch.specs.Recovery.{AreScansOf};
 
 use crate::opening::layout::{Layout, lay_out, put_together};

@@ -2,14 +2,14 @@
 ghost use Rattle.std.specs.Prelude.{◌≡◌, ◌≤◌, ◌++◌, ◌∷◌, [], List, None, Some, option_map, pos, IfOk, IfSome, OnOk};
 ghost use Rattle.std.specs.FinMap as finmap;
 ghost use Rattle.xa_base.specs.Lists.{IsUpTo};
-ghost use Rattle.xa_tables.specs.Tables.{Tables};
-ghost use Rattle.xa_tables.specs.History.{History};
+ghost use Rattle.xa_tables.specs.ManagerTables.{Tables};
+ghost use Rattle.xa_tables.specs.Histories.{History};
 ghost use Rattle.xa_tables.specs.Openings.{IsNew, AreLeft, reopened, left_by, value_over};
-ghost use Rattle.xa_desk.specs.DeskView.{sent_to, collected_from};
-ghost use Rattle.xa_switch.specs.Settling.{IsSettled, ledgers_in, find_thread, find_manager, sent, collected, journal};
-ghost use Rattle.xa_switch.specs.Settling.{value};
+ghost use Rattle.xa_desk.specs.DeskViews.{sent_to, collected_from};
+ghost use Rattle.xa_switch.specs.Settled.{IsSettled, ledgers_in, find_thread, find_manager, sent, collected, journal};
+ghost use Rattle.xa_switch.specs.Settled.{value};
 ghost use Rattle.xa_switch.specs.Fates.{first_of, history};
-ghost use Rattle.xa_switch.specs.Again.{parts_of, find_ready, managers_in};
+ghost use Rattle.xa_switch.specs.Reopening.{parts_of, find_ready, managers_in};
 
 use crate::laws::settled_values_are_sums;
 use std::alloc::{AllocError, Global};
@@ -29,7 +29,7 @@ pub(crate) struct Thread {
 }
 
 impl Model for Thread {
-    ghost use Rattle.xa_switch.specs.Settling.{ThreadPart};
+    ghost use Rattle.xa_switch.specs.Settled.{ThreadPart};
 
     ghost Value = { ThreadPart };
 
@@ -60,7 +60,7 @@ impl Model for Carried {
     ghost use Rattle.xa_tables.specs.Managers.{tables_code};
     ghost use Rattle.xa_tables.specs.Openings.{IsOpening};
     ghost use Rattle.xa_worker.specs.Journal.{Follows};
-    ghost use Rattle.xa_switch.specs.Settling.{ReadyPart};
+    ghost use Rattle.xa_switch.specs.Settled.{ReadyPart};
     ghost use Rattle.xa_switch.specs.Closing.{taken_by};
 
     ghost Value = { ReadyPart };
@@ -141,8 +141,8 @@ impl Model for Settled {
     ghost use Rattle.std.specs.Coded.{codes};
     ghost use Rattle.xa_tables.specs.Managers.{tables_code};
     ghost use Rattle.std.specs.Prelude.{map};
-    ghost use Rattle.xa_switch.specs.Settling.{Settling, IsSettled};
-    ghost use Rattle.xa_switch.specs.Again.{IsWhole, parts_of};
+    ghost use Rattle.xa_switch.specs.Settled.{Settling, IsSettled};
+    ghost use Rattle.xa_switch.specs.Reopening.{IsWhole, parts_of};
 
     ghost Value = { Settling };
 

@@ -1,6 +1,6 @@
 //! Runs of a client over an opening that is opened again: it is lent the scan of what it left prepared.
 ghost use Rattle.std.specs.Prelude.{◌≡◌, length};
-ghost use Rattle.xa_desk.specs.GoesOn.{GoesOn};
+ghost use Rattle.xa_desk.specs.GoingOn.{GoesOn};
 ghost use Rattle.xa_desk.specs.Kept.{AllKept};
 
 use std::alloc::Global;

@@ -1,6 +1,6 @@
 //! A manager that one thread shuts while another one puts requests to it.
 ghost use Rattle.std.specs.Prelude.{◌≡◌};
-ghost use Rattle.xa_desk.specs.GoesOn.{GoesOn};
+ghost use Rattle.xa_desk.specs.GoingOn.{GoesOn};
 ghost use Rattle.xa_desk.specs.Kept.{AllKept};
 
 use super::plan_of;

@@ -3,7 +3,7 @@
 //! The contracts of the helpers show that a caller can know what settling asks: that desks and workers
 //! come from their openings.
 ghost use Rattle.std.specs.Prelude.{◌≡◌, map};
-ghost use Rattle.xa_switch.specs.Settling.{IsSettled};
+ghost use Rattle.xa_switch.specs.Settled.{IsSettled};
 ghost use Rattle.xa_switch.specs.Belonging.{ComeFromOpenings, seat_of_desk, desk_seats, worker_seats};
 
 mod reopening;

@@ -1,6 +1,6 @@
 //! A desk and its workers, in threads of their own, with one worker held.
 ghost use Rattle.std.specs.Prelude.{◌≢◌};
-ghost use Rattle.xa_desk.specs.DeskView.{TicketView, Owns};
+ghost use Rattle.xa_desk.specs.DeskViews.{TicketView, Owns};
 ghost use Rattle.xa_desk.specs.Tickets.{LeavesTickets};
 
 use super::{one_desk, plan_of};

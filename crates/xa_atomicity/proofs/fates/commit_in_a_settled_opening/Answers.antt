@@ -1,4 +1,4 @@
-use Rattle.std.proofs.Common.{arith}
+use Rattle.xa_base.proofs.{arith}
 use Rattle.xa_atomicity.proofs.fates.commit_in_a_settled_opening.Goals as goal
 
 pub returns-clause-committed : goal.returns-clause-committed

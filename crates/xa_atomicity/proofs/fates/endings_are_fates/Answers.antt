@@ -1,4 +1,3 @@
-use Rattle.std.proofs.Common.{arith}
 use Rattle.xa_atomicity.proofs.Settled.{votes_law, fates_law, counts_law, whole_law}
 use Rattle.xa_atomicity.proofs.OneOutcome.{committed_law}
 use Rattle.xa_atomicity.proofs.fates.endings_are_fates.Goals as goal

@@ -1,4 +1,3 @@
-use Rattle.std.proofs.Common.{arith}
 use Rattle.xa_base.proofs.{All-nil, ◌≡◌, []}
 use Rattle.xa_log.specs.{record_in, record_of}
 use Rattle.xa_atomicity.specs.{IsByItsThread, IsUseIn, commits, resolves}

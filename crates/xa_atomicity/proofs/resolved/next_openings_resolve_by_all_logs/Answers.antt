@@ -1,5 +1,4 @@
-use Rattle.std.proofs.Common.{arith}
-use Rattle.xa_base.proofs.{◌++◌, ◌∷◌, get_or}
+use Rattle.xa_base.proofs.{arith}
 use Rattle.xa_atomicity.proofs.NextOpening.{found_in_all, next_resolved_after}
 use Rattle.xa_atomicity.proofs.resolved.next_openings_resolve_by_all_logs.Goals as goal
 

@@ -1,4 +1,3 @@
-use Rattle.std.proofs.Common.{arith}
 use Rattle.xa_atomicity.proofs.Between.{commit_leaves, far_leaves, firsts_clear, forgot_clear, leaves_on, resolve_leaves, told_clear, unnamed_leaves}
 use Rattle.xa_atomicity.proofs.Staged.{asks_so_far, nothing_between}
 use Rattle.xa_atomicity.proofs.stages.others_leave_the_branches.Goals as goal

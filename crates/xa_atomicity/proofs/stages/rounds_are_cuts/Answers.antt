@@ -1,4 +1,3 @@
-use Rattle.std.proofs.Common.{arith}
 use Rattle.xa_driver.proofs.Stepping.{so_far}
 use Rattle.xa_atomicity.proofs.CutSends.{seconds_are}
 use Rattle.xa_atomicity.proofs.Staged.{asking_cut, forgetting_cut, nothing_between, telling_cut}

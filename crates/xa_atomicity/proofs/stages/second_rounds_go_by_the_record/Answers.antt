@@ -1,4 +1,4 @@
-use Rattle.std.proofs.Common.{arith}
+use Rattle.xa_base.proofs.{arith}
 use Rattle.xa_atomicity.proofs.CutSends.{second_round_sends}
 use Rattle.xa_atomicity.proofs.Staged.{asks_so_far}
 use Rattle.xa_atomicity.proofs.stages.second_rounds_go_by_the_record.Goals as goal

@@ -1,4 +1,3 @@
-use Rattle.std.proofs.Common.{arith}
 use Rattle.xa_driver.proofs.Gathering.{same_itself}
 use Rattle.xa_base.proofs.{map}
 use Rattle.xa_driver.specs.{third_ask}

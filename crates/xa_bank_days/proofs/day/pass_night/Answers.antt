@@ -1,10 +1,8 @@
-use Rattle.std.proofs.Common.{arith}
-use Rattle.xa_base.proofs.{Err, Ok, Result, ◌≡◌, Bool, true, false, if◌then◌else◌, sym, ap, ◌∙◌, refl, subst, All}
+use Rattle.xa_base.proofs.{arith, Err, Ok, Result, ◌≡◌, Bool, true, false, if◌then◌else◌, sym, ap, ◌∙◌, subst, All}
 use Rattle.std.specs.Prelude.{IfErr}
-use Rattle.xa_switch.specs.declared.plan.Again.{Again}
-use Rattle.xa_switch.specs.{MayReopen}
+use Rattle.xa_switch.specs.{Again, MayReopen}
 use Rattle.xa_driver.specs.{Resolved}
-use Rattle.xa_bank_days.specs.{Unresolved, BadNumbers, TellerWantsMemory, next_numbers, Excuses, HasRoomToResolve, IsNight, IsUntouched, unopened}
+use Rattle.xa_bank_days.specs.{Unresolved, BadNumbers, TellerWantsMemory, next_numbers, Excuses, HasRoomToResolve, IsNight, IsUntouched}
 use Rattle.xa_bank_days.proofs.DayWorked.{same_stores}
 use Rattle.xa_bank_days.proofs.ManyDays.{if_ok}
 use Rattle.xa_bank_days.proofs.day.pass_night.Goals as goal

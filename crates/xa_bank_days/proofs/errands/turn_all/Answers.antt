@@ -1,5 +1,5 @@
-use Rattle.xa_base.proofs.{◌≡◌, ℕ, ◌+◌, List, [], ◌∷◌, ◌++◌, length, length-append, map, append_assoc, append-nil, sym, ap, ◌∙◌, subst, rules, arith, All}
-use Rattle.xa_base.proofs.{All-nil, All-cons, All-append, into_iter_items, into_iter_len, none_of}
+use Rattle.xa_base.proofs.{◌≡◌, ℕ, ◌+◌, List, [], ◌∷◌, ◌++◌, length, length-append, append_assoc, append-nil, sym, ap, ◌∙◌, subst, rules, arith, All, All-nil}
+use Rattle.xa_base.proofs.{All-cons, All-append, into_iter_items, into_iter_len, none_of}
 use Rattle.std.proofs.lemmas.Grind.{common_steps}
 use Rattle.xa_bank.specs.{Teller}
 use Rattle.xa_bank_days.specs.{Errands, habits_on}

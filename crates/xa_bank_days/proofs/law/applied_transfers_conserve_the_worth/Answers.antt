@@ -1,4 +1,3 @@
-use Rattle.std.proofs.Common.{arith}
 use Rattle.xa_base.proofs.{sym, subst}
 use Rattle.xa_base.specs.{IsUpTo}
 use Rattle.xa_bank_days.proofs.Conserved.{conserved}

@@ -1,5 +1,4 @@
-use Rattle.std.proofs.Common.{arith, rules}
-use Rattle.xa_base.proofs.{Err, Result, ◌≡◌, List, [], ◌∷◌, ◌++◌, subst, ap, ◌∙◌, refl}
+use Rattle.xa_base.proofs.{arith, rules, Err, Result, ◌≡◌, List, [], ◌∷◌, ◌++◌, subst, refl}
 use Rattle.std.specs.Prelude.{IfErr}
 use Rattle.xa_crew.specs.{AgainFault, Unsettled, WithScan, Ran, HasRunAgain, IfUnsettled, IsRunAgain}
 use Rattle.xa_bank_days.specs.{Resolver, NoMemory, ResolvesBy}

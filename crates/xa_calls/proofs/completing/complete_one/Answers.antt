@@ -1,6 +1,5 @@
 use Rattle.xa_base.proofs.{sym, subst, refl}
-use Rattle.xa_desk.specs.DeskView.{DeskView}
-use Rattle.xa_desk.specs.{Collects}
+use Rattle.xa_desk.specs.{DeskView, Collects}
 use Rattle.xa_calls.specs.Completing.CompletesOne.{retry, ready, waited}
 use Rattle.xa_calls.proofs.Leaving.{leaves_all}
 use Rattle.xa_calls.proofs.completing.complete_one.Goals as goal

@@ -1,11 +1,9 @@
 use Rattle.xa_base.proofs.{◌≡◌, ◌≤◌, ℕ, ℤ, true, Option, Some, None, Ok, Err, sym, ap, ◌∙◌, subst, arith, refl, of_z, w32, pos, option_map, to_z-of_z, ints}
 use Rattle.std.proofs.Common.{to_z}
 use Rattle.std.proofs.lemmas.Int.{to_z_pos}
-use Rattle.xa_words.specs.Code.{number_of}
-use Rattle.xa_words.specs.declared.code.Code.{Code}
-use Rattle.xa_words.specs.{Async}
-use Rattle.xa_desk.specs.DeskView.{DeskView}
-use Rattle.xa_desk.specs.{call_refusal, after_full}
+use Rattle.xa_words.specs.CodeNumbers.{number_of}
+use Rattle.xa_words.specs.{Code, Async}
+use Rattle.xa_desk.specs.{DeskView, call_refusal, after_full}
 use Rattle.xa_calls.specs.{Asked, code_of, put_refusal, Puts, full, kept}
 use Rattle.xa_calls.specs.Putting.{refused, answered}
 use Rattle.xa_calls.proofs.Refusals.{no_refusal, its_refusal, later_never_waits, refused_never_waits}

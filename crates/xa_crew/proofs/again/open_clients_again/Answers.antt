@@ -1,4 +1,4 @@
-use Rattle.xa_base.proofs.{arith, ◌∙◌}
+use Rattle.xa_base.proofs.{arith}
 use Rattle.xa_switch.specs.{reopening}
 use Rattle.xa_crew.proofs.again.open_clients_again.Goals as goal
 

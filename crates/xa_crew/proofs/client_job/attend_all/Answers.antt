@@ -1,4 +1,4 @@
-use Rattle.xa_base.proofs.{arith, ◌++◌, [], length, sym, ap, ◌∙◌, into_iter_items, all_at, next_there, none_side, push_side, taken_next}
+use Rattle.xa_base.proofs.{arith, ◌++◌, length, sym, ap, ◌∙◌, into_iter_items, all_at, next_there, none_side, push_side, taken_next}
 use Rattle.xa_crew.specs.{HasWorked, IsReady}
 use Rattle.xa_crew.proofs.client_job.attend_all.Goals as goal
 

@@ -1,5 +1,5 @@
 use Rattle.xa_base.proofs.{◌≡◌, ◌++◌, map, length, vec_capacity, All, into_iter_items, into_iter_len}
-use Rattle.xa_crew.specs.{CanTell, IsReady}
+use Rattle.xa_crew.specs.{IsReady}
 use Rattle.xa_crew.proofs.client_job.client_jobs_of.Given as goal
 
 -- the first clients have the first desks, and room to tell

@@ -1,6 +1,5 @@
 use Rattle.xa_base.proofs.{subst}
-use Rattle.xa_desk.specs.DeskView.{DeskView}
-use Rattle.xa_desk.specs.{Collects}
+use Rattle.xa_desk.specs.{DeskView, Collects}
 use Rattle.xa_calls.specs.{CollectsRedeemed}
 use Rattle.xa_crew.specs.Ending.EndsNumber.{kept}
 use Rattle.xa_crew.proofs.ending.end_number.Goals as goal

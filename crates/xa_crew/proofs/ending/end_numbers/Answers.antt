@@ -1,4 +1,4 @@
-use Rattle.xa_base.proofs.{◌≡◌, ◌+◌, ◌≤◌, ◌<◌, None, sym, refl, subst, arith, inl, inr, ◌∙◌, range_with_len, cases_eq, cases_lt, range_more}
+use Rattle.xa_base.proofs.{◌≡◌, ◌+◌, ◌<◌, None, sym, refl, subst, arith, inl, inr, ◌∙◌, range_with_len, cases_eq, cases_lt, range_more}
 use Rattle.std.specs.FinMap as finmap
 use Rattle.xa_base.specs.{Chain}
 use Rattle.xa_base.specs.Lists.Chain.{none, more}

@@ -1,6 +1,6 @@
 use Rattle.xa_base.proofs.{◌≡◌, ◌⊎◌, ℕ, ◌+◌, ◌<◌, ◌≤◌, length, None, vec_capacity, range_with_len}
 use Rattle.std.specs.FinMap as finmap
-use Rattle.xa_desk.specs.GoesOn.{GoesOn}
+use Rattle.xa_desk.specs.{GoesOn}
 use Rattle.xa_base.specs.{Chain}
 use Rattle.xa_crew.specs.{EndsNumber}
 use Rattle.xa_crew.proofs.ending.end_numbers.Given as goal

@@ -29,8 +29,10 @@ back-requires g c = grind (arith, room_for_all)
 pub back-requires-in-None : goal.back-requires-in-None
 back-requires-in-None g c =
     let many = c.len-2.ensures in
-    record { room = room_for_all g.K.Job.comes_to c.in-Ok-Ok-Ok.ensures'' (omega (arith, many)) (c.join-others_came.ensures.done ∙ c.start-all_others.ensures.done)
-    (c.join-others_came.ensures.back ∙ c.start-all_others.ensures.back) (c.join-others_came.ensures.came c.args.others.items c.start-all_others.ensures.started) }
+    record {
+      room = room_for_all g.K.Job.comes_to c.in-Ok-Ok-Ok.ensures'' (omega (arith, many)) (c.join-others_came.ensures.done ∙ c.start-all_others.ensures.done)
+          (c.join-others_came.ensures.back ∙ c.start-all_others.ensures.back) (c.join-others_came.ensures.came c.args.others.items c.start-all_others.ensures.started);
+    }
 
 pub returns-clause-back : goal.returns-clause-back
 returns-clause-back g c = (

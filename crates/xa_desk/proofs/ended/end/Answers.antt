@@ -1,5 +1,4 @@
-use Rattle.std.proofs.Common.{arith}
-use Rattle.xa_desk.specs.{logged}
+use Rattle.xa_base.proofs.{arith}
 use Rattle.xa_desk.proofs.Ties.{tied_ended}
 use Rattle.xa_desk.proofs.ended.end.Goals as goal
 

@@ -1,4 +1,3 @@
-use Rattle.std.proofs.Common.{arith}
 use Rattle.xa_base.proofs.{suc, refl, ap, ◌∙◌}
 use Rattle.xa_lane.specs.{with_full}
 use Rattle.xa_desk.proofs.ended.end_one.Goals as goal

@@ -1,7 +1,5 @@
-use Rattle.xa_base.proofs.{arith, suc, ◌+◌, List, length, ap, sym, subst, ◌∙◌, refl}
-use Rattle.xa_desk.specs.LedgerView.{LedgerView}
-use Rattle.xa_desk.specs.DeskView.{DeskView}
-use Rattle.xa_desk.specs.{IsKnown, next_operation, outstanding, after_full}
+use Rattle.xa_base.proofs.{arith, suc, ◌+◌, List, ap, ◌∙◌, refl}
+use Rattle.xa_desk.specs.{LedgerView, DeskView, next_operation, outstanding, after_full}
 use Rattle.xa_desk.proofs.Ties.{fulls_alike}
 use Rattle.xa_desk.proofs.pump.send_waiting.Goals as goal
 

@@ -1,5 +1,5 @@
 use Rattle.xa_base.proofs.{arith, refl, ap}
-use Rattle.xa_desk.specs.DeskView.{DeskView}
+use Rattle.xa_desk.specs.{DeskView}
 use Rattle.xa_desk.specs.Waits.Waits.{begins}
 use Rattle.xa_desk.proofs.Looks.{looks_start, collects_from}
 use Rattle.xa_desk.proofs.pump.wait_for.Goals as goal

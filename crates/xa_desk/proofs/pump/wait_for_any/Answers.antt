@@ -1,4 +1,3 @@
-use Rattle.std.proofs.Common.{arith, rules}
 use Rattle.xa_base.proofs.{refl}
 use Rattle.xa_desk.specs.Waits.Waits.{begins, idles}
 use Rattle.xa_desk.proofs.Looks.{looks_start, looks_chain, quiet_looks, least_chain}

@@ -1,9 +1,6 @@
-use Rattle.xa_base.proofs.{◌≡◌, ◌⊎◌, ℕ, suc, ◌<◌, ◌-◌, ◌==◌, true, false, List, length, inl, inr, None, Some, sym, ap, ◌∙◌, subst, arith, rules, Bool, not}
-use Rattle.xa_base.proofs.{◌&&◌, nat_le, if◌then◌else◌, option_or}
-use Rattle.xa_desk.specs.LedgerView.{LedgerView}
+use Rattle.xa_base.proofs.{◌≡◌, ◌⊎◌, ℕ, suc, ◌<◌, ◌-◌, true, false, inl, inr, None, Some, ap, ◌∙◌, arith, rules, Bool, ◌&&◌, nat_le, if◌then◌else◌, option_or}
 use Rattle.xa_desk.specs.{learnt_shut, IsKnown, is_known, ledger, outstanding, reach_refusal, handle_refusal, spent_refusal, submit_refusal, after_full}
-use Rattle.xa_desk.specs.{submitted, Refused, NoSuchManager, Shut, TooMany, Spent, Full}
-use Rattle.xa_desk.specs.DeskView.{DeskView}
+use Rattle.xa_desk.specs.{Refused, NoSuchManager, Shut, TooMany, Spent, Full, DeskView}
 use Rattle.xa_desk.proofs.Ledgers.{known_true}
 use Rattle.xa_driver.specs.{CanAsk, KeepsDesk}
 use Rattle.xa_driver.proofs.Alone.{room_is}

@@ -1,6 +1,5 @@
-use Rattle.std.proofs.Common.{rules}
-use Rattle.xa_base.proofs.{arith, ◌≡◌, ap, sym, ◌∙◌, subst, map, List, Bool}
-use Rattle.xa_driver.specs.{AppendsOnce, IsUnknown, Ask, SameAsks, first_ask, second_ask, third_ask, Done, Prepared, IsAtRest}
+use Rattle.xa_base.proofs.{rules, arith, ◌≡◌, ap, sym, ◌∙◌, subst, map, List}
+use Rattle.xa_driver.specs.{AppendsOnce, IsUnknown, Ask, first_ask, second_ask, third_ask, Done, Prepared, IsAtRest}
 use Rattle.xa_driver.proofs.Idling.{all_idle}
 use Rattle.xa_driver.proofs.Calls.{one_tran}
 use Rattle.xa_driver.proofs.OneCall.{may_decide, may_forget, may_tell, stages_call, for_log}

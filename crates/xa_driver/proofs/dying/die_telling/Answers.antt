@@ -1,4 +1,3 @@
-use Rattle.std.proofs.Common.{arith}
 use Rattle.xa_base.proofs.{◌∙◌, ap, map}
 use Rattle.xa_driver.specs.{second_ask}
 use Rattle.xa_driver.proofs.AtDeath.{desk_left, dies_telling}

@@ -1,4 +1,3 @@
-use Rattle.std.proofs.Common.{arith}
 use Rattle.xa_base.proofs.{◌≡◌, false, None, Some, Ok, refl, sym, ap, ◌∙◌, option_map}
 use Rattle.xa_desk.specs.{call_refusal}
 use Rattle.xa_calls.specs.{code_of, put_refusal}

@@ -1,4 +1,3 @@
-use Rattle.std.proofs.Common.{arith}
 use Rattle.xa_base.proofs.{refl, sym, ◌∙◌}
 use Rattle.xa_desk.specs.{ledger}
 use Rattle.xa_driver.proofs.Alone.{alone_chain}

@@ -1,5 +1,4 @@
-use Rattle.std.proofs.Common.{rules}
-use Rattle.xa_base.proofs.{◌≡◌, inl, ℕ, List, [], length, sym, ◌∙◌, ap, subst, arith}
+use Rattle.xa_base.proofs.{rules, ◌≡◌, inl, ℕ, List, [], length, sym, ◌∙◌, ap, subst, arith}
 use Rattle.std.proofs.Common.{vec_len}
 use Rattle.std.proofs.lemmas.Bool.Decides.{Decides-eqb}
 use Rattle.std.proofs.lemmas.List.{nil_from_length}

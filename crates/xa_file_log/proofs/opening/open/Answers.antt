@@ -1,5 +1,4 @@
-use Rattle.std.proofs.Common.{arith}
-use Rattle.xa_base.proofs.{sym, ◌∙◌, ap, subst, rules}
+use Rattle.xa_base.proofs.{arith, sym, ◌∙◌, ap, subst, rules}
 use Rattle.xa_file_log.specs.{IsSettled, StandsFor, IsNoLog, records_of, table_of}
 use Rattle.xa_file_log.proofs.OneTable.{one_content}
 use Rattle.xa_file_log.proofs.Stands.{settled_shown}

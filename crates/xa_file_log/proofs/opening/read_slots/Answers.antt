@@ -1,5 +1,4 @@
-use Rattle.std.proofs.Common.{arith}
-use Rattle.xa_base.proofs.{None, Some, refl, sym, ◌∙◌, ap, subst}
+use Rattle.xa_base.proofs.{arith, None, Some, refl, sym, ◌∙◌, ap, subst}
 use Rattle.xa_file_log.specs.{SlotTable, Taken, IsSlotOf, HasName}
 use Rattle.xa_file_log.proofs.Reading.{none_read, one_read, free_read, all_read, some_of, twice_named}
 use Rattle.xa_file_log.proofs.opening.read_slots.Goals as goal

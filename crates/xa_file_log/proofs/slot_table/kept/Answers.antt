@@ -1,5 +1,4 @@
-use Rattle.std.proofs.Common.{arith}
-use Rattle.xa_base.proofs.{◌≡◌, Bool, true, false, not, cond, ◌||◌, List, [], ◌∷◌, refl, sym, ◌∙◌, ap, list_any, eq_by_cmp_equiv}
+use Rattle.xa_base.proofs.{arith, ◌≡◌, Bool, true, false, not, cond, ◌||◌, List, [], ◌∷◌, refl, sym, ◌∙◌, ap, list_any, eq_by_cmp_equiv}
 use Rattle.xa_words.specs.{TranName, tran_eq}
 use Rattle.xa_log.specs.{CommitRecord, is_among}
 use Rattle.xa_log.proofs.Transactions.{tran_cmp_total, tran_eq-by_cmp}

@@ -1,5 +1,4 @@
-use Rattle.std.proofs.Common.{arith}
-use Rattle.xa_base.proofs.{◌≡◌, ℕ, ℤ, ◌-◌, ◌≤◌, List, [], ◌∷◌, length, take, drop, ◌∙◌, ap, subst, w32, to_z-of_z}
+use Rattle.xa_base.proofs.{arith, ◌≡◌, ℕ, ℤ, ◌-◌, ◌≤◌, List, [], ◌∷◌, length, take, drop, ◌∙◌, ap, subst, w32, to_z-of_z}
 use Rattle.std.specs.Int.{cast_unsigned, to_be_bytes}
 use Rattle.xa_file_log.proofs.Unspelled.{part_few}
 use Rattle.xa_file_log.proofs.Spelled.{put_together}

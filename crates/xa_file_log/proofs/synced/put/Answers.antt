@@ -1,5 +1,4 @@
-use Rattle.std.proofs.Common.{arith}
-use Rattle.xa_base.proofs.{sym, ◌∙◌}
+use Rattle.xa_base.proofs.{arith, sym, ◌∙◌}
 use Rattle.xa_file_log.proofs.Moments.{goes_on}
 use Rattle.xa_file_log.proofs.Puts.{all_written, torn_now, written}
 use Rattle.xa_file_log.proofs.synced.put.Goals as goal

@@ -1,4 +1,4 @@
-use Rattle.std.proofs.Common.{arith}
+use Rattle.xa_base.proofs.{arith}
 use Rattle.xa_file_log.proofs.Stands.{stage_torn, logged}
 use Rattle.xa_file_log.proofs.Steps.{first_step, both_steps}
 use Rattle.xa_file_log.proofs.writing.write_record.Goals as goal

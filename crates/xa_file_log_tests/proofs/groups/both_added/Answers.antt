@@ -1,4 +1,4 @@
-use Rattle.xa_base.proofs.{◌≡◌, Bool, true, false, cond, None, Some, Option, List, refl, sym, ◌∙◌, ap, is_missing, eq_by_cmp, eq_by_cmp_equiv, get-insert}
+use Rattle.xa_base.proofs.{◌≡◌, Bool, false, cond, Some, sym, ◌∙◌, ap, is_missing, eq_by_cmp, eq_by_cmp_equiv, get-insert}
 use Rattle.std.specs.FinMap as finmap
 use Rattle.xa_log.specs.{tran_cmp}
 use Rattle.xa_log.proofs.Transactions.{tran_cmp_total, tran_eq-by_cmp}

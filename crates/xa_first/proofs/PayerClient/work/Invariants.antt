@@ -1,5 +1,4 @@
-use Rattle.xa_desk.specs.GoesOn.{GoesOn}
-use Rattle.xa_desk.specs.{AllKept}
+use Rattle.xa_desk.specs.{GoesOn, AllKept}
 use Rattle.xa_first.proofs.PayerClient.work.Given as goal
 
 -- what a client owes is met so far

@@ -1,6 +1,6 @@
 use Rattle.std.proofs.Common.{◌≡◌, List, sym, subst, map}
 use Rattle.std.specs.List.{All}
-use Rattle.xa_desk.specs.DeskView.{DeskView}
+use Rattle.xa_desk.specs.{DeskView}
 use Rattle.xa_switch.specs.{planned, ComeFromOpenings, openings_of, seat_of_desk, seat_of_worker}
 use Rattle.xa_growths.proofs.openings.open.Goals as goal
 

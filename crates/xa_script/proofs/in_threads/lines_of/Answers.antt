@@ -1,4 +1,4 @@
-use Rattle.xa_base.proofs.{◌≡◌, false, ◌++◌, ◌∷◌, [], List, sym, ap, ◌∙◌, flat_map, flat_push, into_iter_items, All-push, taken_next}
+use Rattle.xa_base.proofs.{◌≡◌, false, ◌++◌, sym, ap, ◌∙◌, flat_map, flat_push, into_iter_items, All-push, taken_next}
 use Rattle.std.proofs.lemmas.List.Concat.{flat_map-append}
 use Rattle.xa_crew.specs.{Attended}
 use Rattle.xa_session.specs.{ScriptThread}

@@ -1,10 +1,8 @@
-use Rattle.xa_base.proofs.{◌≡◌, ℕ, ◌+◌, List, [], map, Some, refl, sym, ◌∙◌, subst, arith, All, slice_get, flat_map, All-nil, was_mapped}
+use Rattle.xa_base.proofs.{List, [], map, refl, sym, ◌∙◌, subst, arith, All, flat_map, All-nil}
 use Rattle.xa_base.specs.Lists.Chain.{none}
-use Rattle.xa_desk.specs.DeskView.{DeskView}
-use Rattle.xa_desk.specs.{EndedView}
+use Rattle.xa_desk.specs.{DeskView, EndedView}
 use Rattle.xa_switch.specs.{planned}
-use Rattle.xa_grammar.specs.Content.{Content}
-use Rattle.xa_grammar.specs.{Fits, threads_of, managers_of, AreOfOne}
+use Rattle.xa_grammar.specs.{Content, Fits, threads_of, managers_of, AreOfOne}
 use Rattle.xa_crew.specs.{Member, IsRun}
 use Rattle.xa_transcript.specs.{Told, opened}
 use Rattle.xa_session.specs.{Session, ScriptThread, Works, new_session}

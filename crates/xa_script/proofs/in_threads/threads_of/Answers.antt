@@ -1,7 +1,7 @@
-use Rattle.xa_base.proofs.{◌≡◌, ◌+◌, ◌++◌, ◌∷◌, [], List, ℕ, sym, subst, refl, arith, range_with_len, none_side, push_side, range_more}
+use Rattle.xa_base.proofs.{◌≡◌, ◌+◌, ℕ, subst, refl, arith, range_with_len, none_side, push_side, range_more}
 use Rattle.xa_grammar.specs.{threads_of}
 use Rattle.xa_base.specs.{Pairwise}
-use Rattle.xa_session.specs.{ScriptThread, IsNew}
+use Rattle.xa_session.specs.{IsNew}
 use Rattle.xa_script.proofs.in_threads.threads_of.Goals as goal
 
 pub loop-before-init : goal.loop-before-init

@@ -1,9 +1,8 @@
-use Rattle.xa_base.proofs.{◌≡◌, ℕ, ◌+◌, List, [], ◌∷◌, ◌++◌, take, refl, sym, ap, ◌∙◌, subst, arith, take_all}
+use Rattle.xa_base.proofs.{◌≡◌, ◌+◌, List, [], ◌∷◌, ◌++◌, take, refl, sym, ap, ◌∙◌, subst, arith, take_all}
 use Rattle.xa_base.specs.{IsUpTo}
 use Rattle.xa_grammar.proofs.Taken.{take_next}
 use Rattle.xa_grammar.specs.declared.step.Step.TheVariants as step
-use Rattle.xa_grammar.specs.{ScriptStep, Fits, IsOfScript, threads_of, managers_of}
-use Rattle.xa_grammar.specs.Content.{Content}
+use Rattle.xa_grammar.specs.{ScriptStep, Fits, IsOfScript, threads_of, managers_of, Content}
 use Rattle.xa_transcript.specs.{Told}
 use Rattle.xa_script.specs.{Runner, IsOutcome, HasReached}
 use Rattle.xa_command.specs.declared.mode.Mode.TheVariants as mode

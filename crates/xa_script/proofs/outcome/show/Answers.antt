@@ -1,12 +1,9 @@
-use Rattle.xa_base.proofs.{◌≡◌, ℕ, List, [], ◌∷◌, ◌++◌, map, sym, subst}
+use Rattle.xa_base.proofs.{ℕ, List, [], ◌∷◌, ◌++◌, map, sym, subst}
 use Rattle.std.specs.Io.KnownBytes.{Appends}
-use Rattle.xa_switch.specs.Settling.{Settling}
-use Rattle.xa_grammar.specs.{Declared}
-use Rattle.xa_grammar.specs.Content.{Content}
-use Rattle.xa_transcript.specs.{Told, lines_text, text, values_text, opened_after, AreOfScript, AreValues}
-use Rattle.xa_telling.specs.{Opening, Former, settled_over}
-use Rattle.xa_command.specs.{Mode}
-use Rattle.xa_script.specs.{IsOutcome, Writes}
+use Rattle.xa_switch.specs.{Settling}
+use Rattle.xa_grammar.specs.{Declared, Content}
+use Rattle.xa_transcript.specs.{text, values_text, opened_after, AreOfScript, AreValues}
+use Rattle.xa_telling.specs.{Former, settled_over}
 use Rattle.std.proofs.lemmas.Result.{on_ok_weaker}
 use Rattle.xa_script.proofs.Tellings.{managers_so, run_tells}
 use Rattle.xa_script.proofs.outcome.show.Goals as goal

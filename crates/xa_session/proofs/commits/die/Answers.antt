@@ -5,7 +5,7 @@ use Rattle.xa_driver.specs.declared.done.CommitFault.TheVariants as fault
 use Rattle.xa_log.specs.{AppendsBefore}
 use Rattle.xa_driver.proofs.Undecided.{of_votes}
 use Rattle.xa_session.specs.{session_of, CanCommit, CommitsAll, comes_to_decide, named}
-use Rattle.xa_words.specs.declared.code.Code.{Code}
+use Rattle.xa_words.specs.{Code}
 use Rattle.xa_transcript.specs.{Undecided}
 use Rattle.xa_session.specs.Committing.CommitsAll.{died}
 use Rattle.xa_session.proofs.Committed.{all_of_tran, was_lost}

@@ -1,7 +1,6 @@
 use Rattle.xa_base.proofs.{take}
 use Rattle.xa_base.specs.{Chain}
-use Rattle.xa_desk.specs.GoesOn.{GoesOn}
-use Rattle.xa_desk.specs.{AllKept}
+use Rattle.xa_desk.specs.{GoesOn, AllKept}
 use Rattle.xa_session.specs.{session_of, HasDone}
 use Rattle.xa_session.proofs.script_thread.carry_out_all.Given as goal
 

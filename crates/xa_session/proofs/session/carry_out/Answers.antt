@@ -1,13 +1,11 @@
 use Rattle.xa_base.proofs.{◌≡◌, Ok, Err, Result, IfOk, sym, subst}
 use Rattle.std.specs.declared.alloc.AllocError.{AllocError}
-use Rattle.xa_desk.specs.GoesOn.{GoesOn}
-use Rattle.xa_desk.specs.{AllKept}
+use Rattle.xa_desk.specs.{GoesOn, AllKept, DeskView}
 use Rattle.xa_words.specs.{TranName}
 use Rattle.xa_grammar.specs.{CommitAll, ScriptAction}
 use Rattle.xa_grammar.specs.declared.step.Action.TheVariants as action
 use Rattle.xa_scan.specs.{ScanView}
 use Rattle.xa_log.specs.{LosingLog}
-use Rattle.xa_desk.specs.DeskView.{DeskView}
 use Rattle.xa_transcript.specs.{Answer}
 use Rattle.xa_session.specs.{CommitsAll, ResolvesLeft, session_of, Executes, Does, MayWait}
 use Rattle.xa_session.proofs.session.carry_out.Goals as goal

@@ -1,10 +1,8 @@
 use Rattle.xa_base.proofs.{arith, ◌≡◌, ℕ, List, map, rules, length, length-map, sym, ap, ◌∙◌, subst, All, err_from_is_err_and}
-use Rattle.xa_tables.specs.{Managed, opening}
-use Rattle.xa_tables.specs.Tables.{Tables}
+use Rattle.xa_tables.specs.{Managed, opening, Tables}
 use Rattle.xa_tables.proofs.Reopening.{new_opens, accounts_new}
 use Rattle.xa_switch.specs.{Setup, IsWithinLimits, IsSoundManager, Plan, ManagerPlan, numbers_of, use_async, AreOfOneOpening, manager_room, new_manager}
-use Rattle.xa_switch.specs.{opened_by}
-use Rattle.xa_switch.specs.declared.plan.Again.{Again}
+use Rattle.xa_switch.specs.{opened_by, Again}
 use Rattle.xa_switch.proofs.NewManagers.{all_new, all_begin, tables_are}
 use Rattle.xa_switch.proofs.opening.open_switch.Goals as goal
 

@@ -1,8 +1,7 @@
-use Rattle.xa_base.proofs.{arith, ◌≡◌, map, sym, subst, ◌∙◌, length-map, rules}
+use Rattle.xa_base.proofs.{arith, ◌≡◌, map, sym, subst, length-map, rules}
 use Rattle.xa_desk.specs.{EndedView}
 use Rattle.xa_worker.specs.{Served}
-use Rattle.xa_switch.specs.{IsSettled, journal, ledgers_of, IsWhole}
-use Rattle.xa_switch.specs.Settling.{Settling}
+use Rattle.xa_switch.specs.{IsSettled, journal, ledgers_of, IsWhole, Settling}
 use Rattle.xa_switch.proofs.Pieces.{Joint, workers_numbered, workers_opened, request_lanes, completion_lanes}
 use Rattle.xa_switch.proofs.Sides.{AreLanesOf}
 use Rattle.xa_switch.proofs.Agreeing.{settled}

@@ -1,6 +1,6 @@
 //! Openings that are opened again, and what xa_recover lists there.
 ghost use Rattle.std.specs.Prelude.{◌≡◌, map};
-ghost use Rattle.xa_switch.specs.Settling.{IsSettled};
+ghost use Rattle.xa_switch.specs.Settled.{IsSettled};
 ghost use Rattle.xa_switch.specs.Belonging.{ComeFromOpenings, seat_of_desk, seat_of_worker};
 
 use super::turns::Opened;

@@ -3,10 +3,9 @@ use Rattle.xa_base.proofs.{take_all, All-push, one_more}
 use Rattle.std.specs.List.Sorted.{IsPermutation}
 use Rattle.std.proofs.lemmas.List.Sorted.{IsPermutation-map, All-permutation}
 use Rattle.xa_tables.proofs.Reopening.{accounts_new}
-use Rattle.xa_switch.specs.{history}
+use Rattle.xa_switch.specs.{history, Settling}
 use Rattle.xa_grammar.specs.{Declared, IsOfManager, accounts_of}
 use Rattle.xa_tables.specs.{value_over}
-use Rattle.xa_switch.specs.Settling.{Settling}
 use Rattle.xa_transcript.specs.{name_of, opened, opened_after, histories}
 use Rattle.xa_transcript.proofs.Worth.{WorthAfter, told, first_is}
 use Rattle.xa_transcript.proofs.values.values_of.Goals as goal

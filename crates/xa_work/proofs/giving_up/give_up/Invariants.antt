@@ -2,9 +2,7 @@ use Rattle.xa_base.proofs.{take}
 use Rattle.xa_base.specs.{Chain}
 use Rattle.xa_words.specs.{TMFAIL}
 use Rattle.xa_words.specs.declared.flags.Call.TheVariants as call
-use Rattle.xa_desk.specs.GoesOn.{GoesOn}
-use Rattle.xa_desk.specs.{AllKept}
-use Rattle.xa_desk.specs.DeskView.{DeskView}
+use Rattle.xa_desk.specs.{GoesOn, AllKept, DeskView}
 use Rattle.xa_work.specs.{Asks}
 use Rattle.xa_work.proofs.giving_up.give_up.Given as goal
 

@@ -1,6 +1,5 @@
 use Rattle.xa_base.proofs.{take}
-use Rattle.xa_desk.specs.GoesOn.{GoesOn}
-use Rattle.xa_desk.specs.{AllKept}
+use Rattle.xa_desk.specs.{GoesOn, AllKept}
 use Rattle.xa_work.specs.{CollectsAll}
 use Rattle.xa_work.proofs.in_flight.collect_all.Given as goal
 

@@ -1,5 +1,4 @@
-use Rattle.xa_desk.specs.GoesOn.{GoesOn}
-use Rattle.xa_desk.specs.{AllKept}
+use Rattle.xa_desk.specs.{GoesOn, AllKept}
 use Rattle.xa_work.specs.{StaysSo}
 use Rattle.xa_work.proofs.in_flight.put.Given as goal
 

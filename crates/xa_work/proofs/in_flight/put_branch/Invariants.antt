@@ -1,6 +1,5 @@
 use Rattle.xa_base.proofs.{◌≡◌, ◌≤◌, ◌+◌, drop, length, take, vec_capacity}
-use Rattle.xa_desk.specs.GoesOn.{GoesOn}
-use Rattle.xa_desk.specs.{AllKept}
+use Rattle.xa_desk.specs.{GoesOn, AllKept}
 use Rattle.xa_work.specs.{changes_at}
 use Rattle.xa_work.proofs.Making.{Adds, at_of, begun_of}
 use Rattle.xa_work.proofs.in_flight.put_branch.Given as goal

@@ -1,6 +1,5 @@
 use Rattle.xa_base.proofs.{◌≤◌, ◌+◌, drop, length, take, vec_capacity}
-use Rattle.xa_desk.specs.GoesOn.{GoesOn}
-use Rattle.xa_desk.specs.{AllKept}
+use Rattle.xa_desk.specs.{GoesOn, AllKept}
 use Rattle.xa_work.specs.{PutsRequests, requests_of}
 use Rattle.xa_work.proofs.in_flight.work_in_flight.Given as goal
 

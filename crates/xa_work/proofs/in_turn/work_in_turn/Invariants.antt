@@ -1,7 +1,6 @@
 use Rattle.xa_base.proofs.{true, take}
 use Rattle.xa_base.specs.{Chain}
-use Rattle.xa_desk.specs.GoesOn.{GoesOn}
-use Rattle.xa_desk.specs.{AllKept}
+use Rattle.xa_desk.specs.{GoesOn, AllKept}
 use Rattle.xa_work.specs.{CallsBranch}
 use Rattle.xa_work.proofs.in_turn.work_in_turn.Given as goal
 

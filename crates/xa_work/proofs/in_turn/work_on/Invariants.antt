@@ -1,6 +1,5 @@
 use Rattle.xa_base.proofs.{take}
-use Rattle.xa_desk.specs.GoesOn.{GoesOn}
-use Rattle.xa_desk.specs.{AllKept}
+use Rattle.xa_desk.specs.{GoesOn, AllKept}
 use Rattle.xa_work.specs.{CallsOps}
 use Rattle.xa_work.proofs.Making.{begun_of}
 use Rattle.xa_work.proofs.in_turn.work_on.Given as goal

@@ -1,5 +1,4 @@
-use Rattle.xa_desk.specs.GoesOn.{GoesOn}
-use Rattle.xa_desk.specs.{AllKept}
+use Rattle.xa_desk.specs.{GoesOn, AllKept}
 use Rattle.xa_work.specs.{HaveSent, IsOpenRm}
 use Rattle.xa_work.proofs.Making.{OpensFirst}
 use Rattle.xa_work.proofs.opening.open_all.Given as goal

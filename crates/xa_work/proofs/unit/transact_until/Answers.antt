@@ -1,5 +1,5 @@
 use Rattle.xa_base.proofs.{arith, ◌≡◌, true, false, refl, subst}
-use Rattle.xa_desk.specs.DeskView.{DeskView}
+use Rattle.xa_desk.specs.{DeskView}
 use Rattle.xa_work.specs.{IsFor, NamesOnly, IsRefused, GivesUp, Tries}
 use Rattle.xa_work.specs.Units.IsRefused.{barred, undone}
 use Rattle.xa_work.specs.Units.Transacts.{commits, refused}

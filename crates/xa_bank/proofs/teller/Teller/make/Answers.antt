@@ -1,8 +1,6 @@
 use Rattle.xa_base.proofs.{◌≡◌, ℕ, ◌+◌, ◌-◌, Bool, if◌then◌else◌, List, [], ◌∷◌, Option, refl, sym, ap, ◌∙◌, subst, arith}
 use Rattle.xa_words.specs.{TranName, tran_of, Death}
-use Rattle.xa_desk.specs.DeskView.{DeskView}
-use Rattle.xa_desk.specs.GoesOn.{GoesOn}
-use Rattle.xa_desk.specs.{DeskSeat}
+use Rattle.xa_desk.specs.{DeskView, GoesOn, DeskSeat}
 use Rattle.xa_driver.specs.{yes_of, IsTranOf, Branch}
 use Rattle.xa_log.specs.{IsEither, IsReadAs, LogState}
 use Rattle.xa_work.specs.{Change, WorkOutcome, IfLost, IsGivenUp, IsRefused, LeavesKnown, Loses, Transacts}

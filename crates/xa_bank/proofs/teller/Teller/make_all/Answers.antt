@@ -2,8 +2,7 @@ use Rattle.xa_base.proofs.{rules, ◌≡◌, ℕ, ◌+◌, ◌<◌, ◌≤◌, V
 use Rattle.xa_base.proofs.{append_assoc, sym, refl, ap, ◌∙◌, subst, arith, Global, list_any, slice_index_or, take_all, take-append-drop, list_any-append}
 use Rattle.xa_base.proofs.{one_more}
 use Rattle.std.proofs.Common.{length-take}
-use Rattle.xa_desk.specs.DeskView.{DeskView}
-use Rattle.xa_desk.specs.{DeskSeat}
+use Rattle.xa_desk.specs.{DeskView, DeskSeat}
 use Rattle.xa_log.specs.{IsReadAs, LogState}
 use Rattle.xa_work.specs.{WorkOutcome, Undecided, IsOpenRm, LeavesKnown, has_died, is_last}
 use Rattle.xa_work.proofs.Sent.{have_none}

@@ -1,6 +1,5 @@
 use Rattle.xa_base.proofs.{◌≡◌, ◌+◌, false, List, ◌++◌, length, take, list_any}
-use Rattle.xa_desk.specs.GoesOn.{GoesOn}
-use Rattle.xa_desk.specs.{AllKept}
+use Rattle.xa_desk.specs.{GoesOn, AllKept}
 use Rattle.xa_log.specs.{IsReadAs}
 use Rattle.xa_work.specs.{WorkOutcome, is_last}
 use Rattle.xa_bank.specs.{MakesEach}

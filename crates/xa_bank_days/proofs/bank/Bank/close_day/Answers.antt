@@ -1,7 +1,6 @@
-use Rattle.xa_base.proofs.{◌≡◌, ℕ, true, Vec, ap, refl, sym, subst, arith, List, length, ◌∙◌, Global, All}
-use Rattle.xa_switch.specs.declared.plan.Again.{Again}
-use Rattle.xa_bank.specs.{Teller}
-use Rattle.xa_bank_days.specs.{Bank, Closed, Errands, HasRoom, next_numbers, night_numbers, Excuses, HasPassed, HasRoomToResolve, IsNight, IsUnsettledNight}
+use Rattle.xa_base.proofs.{◌≡◌, ℕ, ap, refl, sym, subst, arith, List, length, ◌∙◌}
+use Rattle.xa_switch.specs.{Again}
+use Rattle.xa_bank_days.specs.{Bank, Closed, Errands, next_numbers, HasPassed, IsNight, IsUnsettledNight}
 use Rattle.xa_bank_days.proofs.DayWorked.{is_day_of, same_length, worked_day}
 use Rattle.xa_bank_days.proofs.ManyDays.{if_err, if_ok}
 use Rattle.xa_bank_days.proofs.bank.Bank.close_day.Goals as goal

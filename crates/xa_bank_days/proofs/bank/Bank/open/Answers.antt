@@ -1,4 +1,3 @@
-use Rattle.std.proofs.Common.{arith}
 use Rattle.xa_base.proofs.{refl}
 use Rattle.xa_bank_days.proofs.FirstOpening.{all_stores, tables}
 use Rattle.xa_bank_days.proofs.bank.Bank.open.Goals as goal

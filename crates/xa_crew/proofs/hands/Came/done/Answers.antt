@@ -1,4 +1,4 @@
-use Rattle.xa_base.proofs.{◌≡◌, ◌++◌, ◌∷◌, [], length, sym, ap, ◌∙◌, subst, arith, Some, into_iter_items, next_there, push_side, taken_next}
+use Rattle.xa_base.proofs.{◌++◌, length, sym, ap, ◌∙◌, subst, arith, Some, into_iter_items, next_there, push_side, taken_next}
 use Rattle.xa_base.specs.{Pairwise}
 use Rattle.xa_crew.specs.{Comes}
 use Rattle.xa_crew.proofs.Threads.{IsDoneAs, all_done, can_run, gone_through}

@@ -1,4 +1,4 @@
-use Rattle.xa_base.proofs.{◌≡◌, ◌++◌, ◌∷◌, [], length, ap, ◌∙◌, subst, arith, into_iter_items, push_side, taken_next}
+use Rattle.xa_base.proofs.{◌++◌, length, ap, ◌∙◌, subst, arith, into_iter_items, push_side, taken_next}
 use Rattle.xa_base.specs.{Pairwise}
 use Rattle.xa_crew.specs.{Comes}
 use Rattle.xa_crew.proofs.Threads.{Brings, all_came, gone_through}

@@ -1,4 +1,4 @@
-use Rattle.xa_base.proofs.{arith, ◌≡◌, ◌++◌, ◌∷◌, [], ◌∙◌, into_iter_items, taken_next}
+use Rattle.xa_base.proofs.{arith, into_iter_items, taken_next}
 use Rattle.xa_crew.proofs.Threads.{none_at, one_more_at, one_more_other}
 use Rattle.xa_crew.proofs.hands.Hands.start.Goals as goal
 

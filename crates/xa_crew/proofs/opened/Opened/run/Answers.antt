@@ -1,4 +1,4 @@
-use Rattle.xa_base.proofs.{arith, List, ◌∙◌, subst, side_of}
+use Rattle.xa_base.proofs.{arith, List, subst, side_of}
 use Rattle.xa_worker.specs.{WorkerView}
 use Rattle.xa_base.specs.{Pairwise}
 use Rattle.xa_crew.specs.{clients_of, HasServed}

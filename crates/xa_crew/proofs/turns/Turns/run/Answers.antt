@@ -1,4 +1,4 @@
-use Rattle.xa_base.proofs.{◌≡◌, ◌++◌, List, length, map, ap, ◌∙◌, arith, into_iter_items, map_alike, push_side, taken_next}
+use Rattle.xa_base.proofs.{List, length, map, ap, ◌∙◌, arith, into_iter_items, map_alike, push_side, taken_next}
 use Rattle.xa_worker.specs.{seat_of_worker, seat_of_done, WorkerView}
 use Rattle.xa_crew.specs.{HasServed}
 use Rattle.xa_crew.proofs.Threads.{gone_through}

@@ -1,4 +1,4 @@
-use Rattle.xa_base.proofs.{◌≡◌, ◌+◌, ap, ◌∙◌, sym, refl, subst, arith}
+use Rattle.xa_base.proofs.{◌≡◌, refl, subst, arith}
 use Rattle.xa_desk.specs.{with_collected, IsOut, ledger, after_collected, logged, IsBooks}
 use Rattle.xa_desk.proofs.Ledgers.{ledger-read, room_collected, planned-put, length-put_ledger}
 use Rattle.xa_desk.proofs.Books.{books_collected}

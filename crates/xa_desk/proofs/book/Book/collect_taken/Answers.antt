@@ -1,4 +1,4 @@
-use Rattle.xa_base.proofs.{◌≡◌, ◌≢◌, ◌-◌, ◌+◌, ◌∷◌, ◌++◌, [], None, set, ap, ◌∙◌, sym, refl, subst, arith, length-append, false≢true, map-append}
+use Rattle.xa_base.proofs.{◌≡◌, ◌≢◌, ◌-◌, ◌+◌, ◌∷◌, ◌++◌, [], None, ap, ◌∙◌, sym, refl, subst, arith, length-append, false≢true, map-append}
 use Rattle.slab.specs.Slab.{Slab, slab_len, Updates}
 use Rattle.xa_desk.specs.{Slot, with_collected, Operation, Collected, desk_of, IsOut, ledger, after_collected, operation_of, drained_code, first, AreReady}
 use Rattle.xa_desk.specs.{logged, HasKept, IsBooks}

@@ -1,4 +1,3 @@
-use Rattle.std.proofs.Common.{arith}
 use Rattle.xa_base.proofs.{sym}
 use Rattle.xa_lane.specs.{Item}
 use Rattle.xa_desk.proofs.Looks.{item_drawn}

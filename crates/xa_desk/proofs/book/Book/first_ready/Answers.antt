@@ -1,4 +1,3 @@
-use Rattle.std.proofs.Common.{arith}
 use Rattle.xa_base.proofs.{refl}
 use Rattle.xa_desk.specs.{logged, ready_with}
 use Rattle.xa_desk.proofs.Marked.{marked_least, marked_nowhere}

@@ -1,4 +1,3 @@
-use Rattle.std.proofs.Common.{arith}
 use Rattle.xa_base.proofs.{subst, eqb-true, eq-eqb}
 use Rattle.xa_desk.specs.{Operation, IsOut, logged}
 use Rattle.xa_desk.proofs.KeptPlaces.{loose_handle, loose_from_handle}

@@ -1,7 +1,6 @@
-use Rattle.xa_base.proofs.{◌≡◌, ◌+◌, ℕ, Some, ap, ◌∙◌, sym, refl, arith, length}
+use Rattle.xa_base.proofs.{◌≡◌, ℕ, Some, ap, ◌∙◌, sym, refl, arith, length}
 use Rattle.slab.specs.Slab.{Updates}
-use Rattle.xa_desk.specs.{Operation, with_sent, IsKnown, ledger, after_sent, logged, KeysView, with_key, row_of, IsBooks, AreKeys}
-use Rattle.xa_desk.specs.LedgerView.{LedgerView}
+use Rattle.xa_desk.specs.{Operation, with_sent, IsKnown, ledger, after_sent, logged, KeysView, with_key, row_of, IsBooks, AreKeys, LedgerView}
 use Rattle.xa_desk.proofs.Ledgers.{ledger-read, planned-put, length-put_ledger, sent_now_out}
 use Rattle.xa_desk.proofs.KeptPlaces.{loose_from_handle}
 use Rattle.xa_desk.proofs.Books.{books_sent, fresh_slot}

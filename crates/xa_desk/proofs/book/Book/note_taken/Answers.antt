@@ -1,6 +1,5 @@
-use Rattle.xa_base.proofs.{◌≡◌, List, [], ◌∷◌, ◌++◌, None, refl, ap, ◌∙◌, subst, arith, length-append, map-append}
-use Rattle.xa_words.specs.{Completion}
-use Rattle.xa_desk.specs.{Operation, desk_of, IsOut, operation_of, drained_code, first, other, logged}
+use Rattle.xa_base.proofs.{◌≡◌, [], ◌∷◌, ◌++◌, None, refl, ap, ◌∙◌, arith, length-append, map-append}
+use Rattle.xa_desk.specs.{Operation, operation_of, drained_code, other, logged}
 use Rattle.xa_desk.proofs.Books.{books_drained}
 use Rattle.xa_desk.proofs.Counts.{drained-lt-planned}
 use Rattle.xa_desk.proofs.Marked.{ready_drained}

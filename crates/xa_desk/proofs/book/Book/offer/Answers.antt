@@ -1,5 +1,5 @@
-use Rattle.xa_base.proofs.{◌≡◌, ◌-◌, ◌<◌, ℕ, List, [], ◌∷◌, ◌++◌, length, set, ◌∙◌, ap, arith}
-use Rattle.xa_words.specs.{Op, Request}
+use Rattle.xa_base.proofs.{◌≡◌, ◌-◌, ◌<◌, List, [], ◌∷◌, ◌++◌, length, set, ◌∙◌, ap, arith}
+use Rattle.xa_words.specs.{Request}
 use Rattle.xa_lane.specs.{Sending, with_item, with_full}
 use Rattle.xa_desk.specs.{desk_of, after_sent, next_operation, logged, Sent, next_request}
 use Rattle.xa_lane.proofs.Senders.{at_place-set}

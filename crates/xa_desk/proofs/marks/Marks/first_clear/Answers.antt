@@ -1,5 +1,4 @@
-use Rattle.xa_base.proofs.{◌≡◌, ◌<◌, ◌+◌, w64, ap, sym, ◌∙◌, true, false, inl, inr, arith, nat_eq, cases_lt}
-use Rattle.std.specs.Int.{bit_at}
+use Rattle.xa_base.proofs.{◌<◌, ◌+◌, w64, ap, inl, inr, arith, nat_eq, cases_lt}
 use Rattle.std.proofs.lemmas.Nat.Bits.{bit_at-trailing_ones}
 use Rattle.xa_desk.proofs.marks.Marks.first_clear.Goals as goal
 

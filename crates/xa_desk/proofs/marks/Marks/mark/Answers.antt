@@ -1,5 +1,4 @@
-use Rattle.std.proofs.Common.{arith}
-use Rattle.xa_base.proofs.{w64, ap, nat_eq}
+use Rattle.xa_base.proofs.{arith}
 use Rattle.std.proofs.lemmas.Nat.Bits.{bit_at_set_same, bit_at_set_other}
 use Rattle.xa_desk.proofs.marks.Marks.mark.Goals as goal
 

@@ -1,6 +1,5 @@
-use Rattle.std.proofs.Common.{arith}
-use Rattle.xa_base.proofs.{◌≡◌, length, replicate, sym, ◌∙◌, ap, refl, length-map}
-use Rattle.xa_desk.specs.{new_ledger, new_ledgers, carried, no_keys}
+use Rattle.xa_base.proofs.{arith, ◌≡◌, length, ◌∙◌, ap, length-map}
+use Rattle.xa_desk.specs.{new_ledger, carried}
 use Rattle.xa_desk.proofs.Begins.{carried-new}
 use Rattle.xa_desk.proofs.parts.DeskParts.reserve.Goals as goal
 use Rattle.xa_desk.proofs.parts.DeskParts.reserve.Goals.{In_ok-ends}

@@ -1,6 +1,5 @@
-use Rattle.std.proofs.Common.{arith}
 use Rattle.xa_base.proofs.{subst, ap, ◌∙◌}
-use Rattle.xa_desk.specs.DeskView.{DeskView}
+use Rattle.xa_desk.specs.{DeskView}
 use Rattle.xa_driver.specs.{KeepsTheRest}
 use Rattle.xa_driver.proofs.Gathering.{same_itself}
 use Rattle.xa_driver.proofs.Idling.{round_idles}

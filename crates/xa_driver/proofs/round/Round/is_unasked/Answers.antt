@@ -1,4 +1,4 @@
-use Rattle.xa_base.proofs.{◌≢◌, ◌∙◌, arith, length, sym, eqb-false}
+use Rattle.xa_base.proofs.{◌≢◌, arith, length, eqb-false}
 use Rattle.xa_driver.proofs.Passing.{unasked_is}
 use Rattle.xa_driver.proofs.round.Round.is_unasked.Goals as goal
 

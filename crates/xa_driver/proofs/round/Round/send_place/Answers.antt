@@ -1,4 +1,4 @@
-use Rattle.xa_base.proofs.{◌≡◌, ◌+◌, ◌<◌, length, refl, sym, ap, ◌∙◌, Some, arith, slice_get, slice_get-get_or}
+use Rattle.xa_base.proofs.{◌≡◌, ◌+◌, ◌<◌, length, refl, Some, arith, slice_get, slice_get-get_or}
 use Rattle.xa_driver.specs.{next_ask, sent_count}
 use Rattle.xa_driver.proofs.Stepping.{can_now, free_now, matched_some, one_more_leaves, one_more_sent}
 use Rattle.xa_driver.proofs.round.Round.send_place.Goals as goal

@@ -1,6 +1,5 @@
-use Rattle.std.proofs.Common.{arith}
-use Rattle.xa_base.proofs.{◌∙◌, refl, subst, sym, map}
-use Rattle.xa_driver.specs.{Ask, SameAsks, second_ask}
+use Rattle.xa_base.proofs.{arith, ◌∙◌, refl}
+use Rattle.xa_driver.specs.{Ask, second_ask}
 use Rattle.xa_driver.proofs.Gathering.{same_itself}
 use Rattle.xa_driver.proofs.InPlace.{lent, remade_endings, remade_may, remade_rest}
 use Rattle.xa_driver.proofs.stages.Decided.begin_telling.Goals as goal

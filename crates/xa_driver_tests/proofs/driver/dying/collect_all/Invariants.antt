@@ -1,6 +1,5 @@
 use Rattle.xa_base.proofs.{◌≡◌, ℕ, map}
-use Rattle.xa_desk.specs.{ledger}
-use Rattle.xa_desk.specs.GoesOn.{GoesOn}
+use Rattle.xa_desk.specs.{ledger, GoesOn}
 use Rattle.xa_switch.specs.{seat_of_worker}
 use Rattle.xa_driver_tests.proofs.driver.dying.collect_all.Given as goal
 

@@ -1,6 +1,5 @@
 use Rattle.xa_base.proofs.{◌≡◌, List, sym, ap, ◌∙◌, subst}
-use Rattle.xa_desk.specs.LedgerView.{LedgerView}
-use Rattle.xa_desk.specs.DeskView.{DeskView}
+use Rattle.xa_desk.specs.{LedgerView, DeskView}
 use Rattle.xa_driver.specs.{Branch, Done, Ending, Round, Forgetting, HaveComeSoFar, KeepsTheRest, HasPrepared, IsForgetting}
 use Rattle.xa_atomicity.specs.{IsCut}
 use Rattle.xa_driver_tests.proofs.Rounds.{forgetting_on, left_so_far, went_on}

@@ -1,9 +1,7 @@
 use Rattle.xa_base.proofs.{List}
 use Rattle.std.proofs.lemmas.Result.{IfOk-weaker}
 use Rattle.xa_words.specs.{TranName}
-use Rattle.xa_desk.specs.LedgerView.{LedgerView}
-use Rattle.xa_desk.specs.DeskView.{DeskView}
-use Rattle.xa_desk.specs.{ledger}
+use Rattle.xa_desk.specs.{LedgerView, DeskView, ledger}
 use Rattle.xa_driver.specs.{Branch, Done, Dies, PutsLedger, AsksLedger, IsTranOf}
 use Rattle.xa_atomicity.specs.{IsCut}
 use Rattle.xa_driver_tests.proofs.driver.dying.commit_until_it_dies.Goals as goal

@@ -1,5 +1,5 @@
 use Rattle.xa_base.proofs.{◌≡◌, [], ◌∷◌, sym, ap, subst}
-use Rattle.xa_switch.specs.Settling.{Settling}
+use Rattle.xa_switch.specs.{Settling}
 use Rattle.xa_log.specs.{LogView, Records, record_in}
 use Rattle.xa_atomicity.specs.{CountsByTheLog, EndsByTheLog, CutCall, ResolveCall, cuts, resolves, with_use}
 use Rattle.xa_driver_tests.proofs.driver.dying.die_and_resolve.Goals as goal

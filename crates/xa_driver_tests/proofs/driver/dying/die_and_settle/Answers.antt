@@ -1,11 +1,8 @@
 use Rattle.xa_base.proofs.{◌≡◌, ℕ, true, false, List, [], ◌∷◌, map, sym, ap, subst, ◌∙◌, All, false≢true}
 use Rattle.xa_words.specs.{XidName, Op}
 use Rattle.xa_tables.specs.{is_heur, names}
-use Rattle.xa_desk.specs.LedgerView.{LedgerView}
-use Rattle.xa_desk.specs.DeskView.{DeskView}
-use Rattle.xa_desk.specs.{ledger, HaveGrown}
-use Rattle.xa_switch.specs.{thread_part, ledgers_of, DeskSeat}
-use Rattle.xa_switch.specs.Settling.{Settling}
+use Rattle.xa_desk.specs.{LedgerView, DeskView, ledger, HaveGrown}
+use Rattle.xa_switch.specs.{thread_part, ledgers_of, DeskSeat, Settling}
 use Rattle.xa_driver_tests.proofs.Senders.{first_ledgers, own_of_both}
 use Rattle.xa_driver_tests.proofs.Shutting.{none_only}
 use Rattle.xa_driver_tests.proofs.driver.dying.die_and_settle.Goals as goal

@@ -1,11 +1,8 @@
 use Rattle.xa_base.proofs.{◌≡◌, ℕ, List, [], ◌∷◌, map, sym, ap, subst, ◌∙◌, All}
 use Rattle.xa_words.specs.{Shut}
-use Rattle.xa_desk.specs.LedgerView.{LedgerView}
-use Rattle.xa_desk.specs.DeskView.{DeskView}
-use Rattle.xa_desk.specs.{ledger}
+use Rattle.xa_desk.specs.{LedgerView, DeskView, ledger}
 use Rattle.xa_desk.proofs.Growth.{same_lists}
-use Rattle.xa_switch.specs.{thread_part, DeskSeat}
-use Rattle.xa_switch.specs.Settling.{Settling}
+use Rattle.xa_switch.specs.{thread_part, DeskSeat, Settling}
 use Rattle.xa_driver_tests.proofs.Senders.{grown_of_first, own_of_two}
 use Rattle.xa_driver_tests.proofs.Shutting.{none_shut}
 use Rattle.xa_driver_tests.proofs.driver.resolved.commit_and_crash.Goals as goal

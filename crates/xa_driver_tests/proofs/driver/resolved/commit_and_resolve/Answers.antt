@@ -1,5 +1,5 @@
 use Rattle.xa_base.proofs.{◌≡◌, [], sym, ap, subst}
-use Rattle.xa_switch.specs.Settling.{Settling}
+use Rattle.xa_switch.specs.{Settling}
 use Rattle.xa_log.specs.{LogView, Records, record_in}
 use Rattle.xa_atomicity.specs.{CommitCall, ResolveCall, IsResolved, commits, resolve_call, resolves, with_use}
 use Rattle.xa_driver_tests.proofs.driver.resolved.commit_and_resolve.Goals as goal

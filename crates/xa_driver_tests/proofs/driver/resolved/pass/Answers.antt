@@ -1,8 +1,6 @@
 use Rattle.xa_base.proofs.{◌≡◌, List, [], ◌∷◌, map, refl, sym, ap, subst, ◌∙◌}
-use Rattle.xa_desk.specs.LedgerView.{LedgerView}
-use Rattle.xa_desk.specs.{ledger}
-use Rattle.xa_switch.specs.{reopening, thread_part, DeskSeat, WorkerSeat, ComeFromOpenings, desk_seats, seat_of_desk}
-use Rattle.xa_switch.specs.Settling.{Settling}
+use Rattle.xa_desk.specs.{LedgerView, ledger}
+use Rattle.xa_switch.specs.{reopening, thread_part, DeskSeat, WorkerSeat, ComeFromOpenings, desk_seats, seat_of_desk, Settling}
 use Rattle.xa_driver_tests.proofs.Senders.{nobody_names, nothing_sent}
 use Rattle.xa_driver_tests.proofs.driver.resolved.pass.Goals as goal
 

@@ -1,5 +1,4 @@
-use Rattle.std.proofs.Common.{arith}
-use Rattle.xa_base.proofs.{◌≡◌, map, sym, ◌∙◌, ap, subst}
+use Rattle.xa_base.proofs.{arith, ◌≡◌, map, sym, ◌∙◌, ap, subst}
 use Rattle.xa_file_log.specs.{Table, IsSettled, taken, table_of}
 use Rattle.xa_file_log.proofs.Stands.{settled_shown}
 use Rattle.xa_file_log.proofs.Slotwise.{shut_on_file}

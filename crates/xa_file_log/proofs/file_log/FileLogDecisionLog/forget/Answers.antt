@@ -1,5 +1,4 @@
-use Rattle.std.proofs.Common.{arith}
-use Rattle.xa_base.proofs.{refl, ◌∙◌, ap}
+use Rattle.xa_base.proofs.{arith, refl, ◌∙◌, ap}
 use Rattle.xa_words.specs.{tran_eq}
 use Rattle.xa_file_log.specs.{records_in}
 use Rattle.xa_file_log.proofs.Index.{index_apart}

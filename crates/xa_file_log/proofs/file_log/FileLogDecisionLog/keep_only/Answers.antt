@@ -1,5 +1,4 @@
-use Rattle.std.proofs.Common.{arith}
-use Rattle.xa_base.proofs.{refl, ◌∙◌, ap, not}
+use Rattle.xa_base.proofs.{arith, refl, ◌∙◌, ap, not}
 use Rattle.xa_log.specs.{is_among}
 use Rattle.xa_file_log.specs.{records_in}
 use Rattle.xa_file_log.proofs.Index.{index_apart}

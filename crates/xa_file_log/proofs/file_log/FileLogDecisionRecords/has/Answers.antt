@@ -1,5 +1,4 @@
-use Rattle.std.proofs.Common.{arith}
-use Rattle.xa_base.proofs.{◌≡◌, ℕ, None, get_or, refl, sym, ◌∙◌, subst, get_or_default}
+use Rattle.xa_base.proofs.{arith, ◌≡◌, ℕ, None, get_or, refl, sym, ◌∙◌, subst, get_or_default}
 use Rattle.xa_file_log.specs.{Free, Taken, taken}
 use Rattle.xa_file_log.proofs.Index.{index_apart, one_place}
 use Rattle.xa_file_log.proofs.Slotwise.{counted_found, not_counted}

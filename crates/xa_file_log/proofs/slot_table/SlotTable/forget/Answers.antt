@@ -1,5 +1,4 @@
-use Rattle.std.proofs.Common.{arith}
-use Rattle.xa_base.proofs.{◌≡◌, ℕ, Some, get_or, sym, ◌∙◌, ap, subst, spare, get_or_default}
+use Rattle.xa_base.proofs.{arith, ◌≡◌, ℕ, Some, get_or, sym, ◌∙◌, ap, subst, spare, get_or_default}
 use Rattle.std.specs.HashMap.{hash_map_len}
 use Rattle.xa_words.specs.{TranName, tran_eq}
 use Rattle.xa_file_log.specs.{Slot, Free, Taken, name_of, on_file}

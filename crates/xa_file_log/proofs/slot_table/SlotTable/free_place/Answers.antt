@@ -1,5 +1,4 @@
-use Rattle.std.proofs.Common.{rules}
-use Rattle.xa_base.proofs.{◌≡◌, ◌<◌, List, length, get_or, sym, ◌∙◌, ap, arith, get_or_default}
+use Rattle.xa_base.proofs.{rules, ◌≡◌, ◌<◌, List, length, get_or, sym, ◌∙◌, ap, arith, get_or_default}
 use borrow.Author.Count.{below_more}
 use Rattle.xa_file_log.specs.{Slot, Free}
 use Rattle.xa_file_log.proofs.Mapped.{slot_indexed}

@@ -1,5 +1,4 @@
-use Rattle.std.proofs.Common.{rules}
-use Rattle.xa_base.proofs.{◌<◌, length, get_or, ap, ◌∙◌, arith, get_or_default}
+use Rattle.xa_base.proofs.{rules, ◌<◌, length, get_or, ap, ◌∙◌, arith, get_or_default}
 use Rattle.xa_file_log.specs.{Free}
 use Rattle.xa_file_log.proofs.Used.{weight, weighs, used_next, none_free_used, room_for}
 use Rattle.xa_file_log.proofs.Mapped.{slot_indexed}

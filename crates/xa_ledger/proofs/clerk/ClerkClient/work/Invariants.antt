@@ -1,5 +1,4 @@
-use Rattle.xa_desk.specs.GoesOn.{GoesOn}
-use Rattle.xa_desk.specs.{AllKept}
+use Rattle.xa_desk.specs.{GoesOn, AllKept}
 use Rattle.xa_ledger.proofs.clerk.ClerkClient.work.Given as goal
 
 -- the desk goes on, and what is outstanding there is kept

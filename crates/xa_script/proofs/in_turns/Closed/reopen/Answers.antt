@@ -1,6 +1,6 @@
 use Rattle.xa_base.proofs.{◌≡◌, suc, ◌+◌, List, sym, ◌∙◌, subst, arith}
 use Rattle.xa_worker.specs.{WorkerView}
-use Rattle.xa_grammar.specs.Content.{Content}
+use Rattle.xa_grammar.specs.{Content}
 use Rattle.xa_session.specs.{Session}
 use Rattle.xa_telling.specs.{AreNumbersOf}
 use Rattle.xa_script.specs.{IsOpen}

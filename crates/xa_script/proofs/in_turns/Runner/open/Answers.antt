@@ -1,9 +1,9 @@
-use Rattle.xa_base.proofs.{List, map, sym, ◌∙◌, subst}
+use Rattle.xa_base.proofs.{List, sym, ◌∙◌, subst}
 use Rattle.std.proofs.lemmas.List.{map-id}
-use Rattle.xa_desk.specs.DeskView.{DeskView}
+use Rattle.xa_desk.specs.{DeskView}
 use Rattle.xa_worker.specs.{WorkerView}
 use Rattle.xa_switch.specs.{planned, AreOfOneOpening}
-use Rattle.xa_grammar.specs.Content.{Content}
+use Rattle.xa_grammar.specs.{Content}
 use Rattle.xa_session.specs.{Session, new_session}
 use Rattle.xa_telling.specs.{beginning}
 use Rattle.xa_telling.proofs.Opened.{map_map, planned_setup}

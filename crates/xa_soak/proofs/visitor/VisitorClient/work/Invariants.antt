@@ -1,5 +1,4 @@
-use Rattle.xa_desk.specs.GoesOn.{GoesOn}
-use Rattle.xa_desk.specs.{AllKept}
+use Rattle.xa_desk.specs.{GoesOn, AllKept}
 use Rattle.xa_soak.proofs.visitor.VisitorClient.work.Given as goal
 
 -- the desk goes on and keeps what is outstanding, and the idle has idled

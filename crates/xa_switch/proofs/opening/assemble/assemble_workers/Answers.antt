@@ -1,5 +1,4 @@
-use Rattle.std.proofs.Common.{arith}
-use Rattle.xa_base.proofs.{length, map, sym, ap, ◌∙◌, ◌++◌, into_iter_items, got_map, next_there, taken_next}
+use Rattle.xa_base.proofs.{arith, length, map, sym, ap, ◌∙◌, ◌++◌, into_iter_items, got_map, next_there, taken_next}
 use Rattle.xa_switch.specs.{IsWorkerOf}
 use Rattle.xa_switch.proofs.Dealing.{next_of, one_more_made}
 use Rattle.xa_switch.proofs.opening.assemble.assemble_workers.Goals as goal

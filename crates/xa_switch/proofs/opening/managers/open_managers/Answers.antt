@@ -1,4 +1,4 @@
-use Rattle.xa_base.proofs.{◌≡◌, Bool, true, false, ◌+◌, ◌<◌, [], ◌∷◌, ◌++◌, cond, Result, take, sym, ap, ◌∙◌, subst, arith, All, take_all}
+use Rattle.xa_base.proofs.{◌≡◌, Bool, true, false, ◌+◌, [], ◌∷◌, ◌++◌, cond, Result, take, sym, ap, ◌∙◌, subst, arith, All, take_all}
 use Rattle.std.proofs.Common.{is_ok, is_err}
 use Rattle.std.proofs.lemmas.Bool.{both_ways, true_from_ne_false}
 use Rattle.std.proofs.lemmas.List.{map_more}

@@ -1,8 +1,7 @@
 use Rattle.xa_base.proofs.{arith, ◌≡◌, ◌≤◌, map, sym, ap, ◌∙◌, subst, All, range_with_len}
 use Rattle.std.proofs.lemmas.List.FromFn.{length-map-range_with_len}
 use Rattle.xa_tables.specs.{Managed}
-use Rattle.xa_switch.specs.{setup, new_manager, AreOfOneOpening, ReadyPart, find_manager, last_in, managers_in, parts_of, reopened_at}
-use Rattle.xa_switch.specs.Settling.{Settling}
+use Rattle.xa_switch.specs.{setup, new_manager, AreOfOneOpening, ReadyPart, find_manager, last_in, managers_in, parts_of, reopened_at, Settling}
 use Rattle.xa_switch.proofs.AllThere.{find_parts}
 use Rattle.xa_switch.proofs.Lists.{some_of}
 use Rattle.xa_switch.proofs.NewManagers.{all_new, all_begin, tables_are}

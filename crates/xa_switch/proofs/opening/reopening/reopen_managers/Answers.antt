@@ -1,4 +1,4 @@
-use Rattle.xa_base.proofs.{◌≡◌, ◌+◌, Some, [], ◌∷◌, ◌++◌, option_map, sym, ◌∙◌, arith, range_with_len, map-append, range_more, All-contains}
+use Rattle.xa_base.proofs.{◌≡◌, ◌+◌, Some, option_map, ◌∙◌, arith, range_with_len, map-append, range_more, All-contains}
 use Rattle.std.proofs.lemmas.List.FromFn.{length-map-range_with_len}
 use Rattle.xa_switch.specs.{ReadyPart, find_ready}
 use Rattle.xa_switch.proofs.AllThere.{find_parts}

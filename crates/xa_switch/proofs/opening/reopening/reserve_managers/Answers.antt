@@ -1,4 +1,4 @@
-use Rattle.xa_base.proofs.{◌≡◌, Some, ap, ◌∙◌, subst, sym, arith, take, All, length-set, take_all, All-push}
+use Rattle.xa_base.proofs.{◌≡◌, Some, ◌∙◌, subst, sym, arith, take, All, length-set, take_all, All-push}
 use Rattle.std.proofs.lemmas.List.{take_more_set}
 use Rattle.std.proofs.Math.Seq.{map-set_same}
 use Rattle.xa_switch.specs.{ReadyPart}

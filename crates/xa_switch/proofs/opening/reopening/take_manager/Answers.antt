@@ -1,4 +1,4 @@
-use Rattle.xa_base.proofs.{◌≡◌, ◌≢◌, ◌==◌, Some, sym, ap, ◌∙◌, subst, arith, All, eq-eqb, ne_eqb, take_all, all_at, find_none, get_or_default}
+use Rattle.xa_base.proofs.{◌≡◌, ◌≢◌, Some, sym, ap, ◌∙◌, subst, arith, All, eq-eqb, ne_eqb, take_all, all_at, find_none, get_or_default}
 use Rattle.std.proofs.lemmas.List.Elements.{All-more}
 use Rattle.xa_switch.specs.{ReadyPart, find_ready}
 use Rattle.xa_switch.proofs.Retaken.{found_at, found_without}

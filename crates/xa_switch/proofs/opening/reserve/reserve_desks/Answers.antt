@@ -1,5 +1,4 @@
-use Rattle.std.proofs.Common.{rules}
-use Rattle.xa_base.proofs.{◌≡◌, ◌+◌, ◌++◌, ◌∷◌, [], length, sym, ap, ◌∙◌, subst, arith, length-append}
+use Rattle.xa_base.proofs.{rules, ◌≡◌, ◌+◌, ◌++◌, ◌∷◌, [], length, sym, ap, subst, arith, length-append}
 use Rattle.xa_switch.specs.{Each, desk_parts}
 use Rattle.xa_switch.proofs.Dealing.{each_push}
 use Rattle.xa_switch.proofs.opening.reserve.reserve_desks.Goals as goal

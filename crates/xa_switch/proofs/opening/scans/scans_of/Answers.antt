@@ -1,6 +1,5 @@
-use Rattle.std.proofs.Common.{rules}
-use Rattle.xa_base.proofs.{[], ◌∷◌, length, length-append, map, sym, ap, ◌∙◌, subst, arith, All, All-push}
-use Rattle.xa_switch.specs.{HasLeft, IsScanOf}
+use Rattle.xa_base.proofs.{rules, [], ◌∷◌, length, length-append, sym, ap, ◌∙◌, subst, arith, All, All-push}
+use Rattle.xa_switch.specs.{IsScanOf}
 use Rattle.xa_switch.proofs.opening.scans.scans_of.Goals as goal
 
 pub loop-preserved : goal.loop-preserved

@@ -1,5 +1,4 @@
 use Rattle.xa_base.proofs.{length, rules, arith, ap, All-push}
-use Rattle.xa_desk.specs.{IsEnded}
 use Rattle.xa_switch.specs.{TakesIn, desk_lane, thread_part}
 use Rattle.xa_switch.proofs.Gathering.{room_left, row_fits, one_more_taken}
 use Rattle.xa_switch.proofs.settling.gathered.take_desks.Goals as goal

@@ -1,4 +1,4 @@
-use Rattle.xa_base.proofs.{arith, ◌≡◌, Option, option_map, ◌∙◌}
+use Rattle.xa_base.proofs.{arith, ◌≡◌, Option, option_map}
 use Rattle.xa_switch.specs.{ReadyPart}
 use Rattle.xa_switch.proofs.AllThere.{find_parts}
 use Rattle.xa_switch.proofs.settling.settled.find_carried.Goals as goal

@@ -1,5 +1,4 @@
-use Rattle.xa_desk.specs.GoesOn.{GoesOn}
-use Rattle.xa_desk.specs.{AllKept}
+use Rattle.xa_desk.specs.{GoesOn, AllKept}
 use Rattle.xa_switch_tests.proofs.crew.shut.send_all.Given as goal
 
 -- the desk goes on and keeps what is outstanding, and the idle has idled

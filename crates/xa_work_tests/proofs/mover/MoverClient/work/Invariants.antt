@@ -1,5 +1,4 @@
-use Rattle.xa_desk.specs.GoesOn.{GoesOn}
-use Rattle.xa_desk.specs.{AllKept}
+use Rattle.xa_desk.specs.{GoesOn, AllKept}
 use Rattle.xa_work_tests.proofs.mover.MoverClient.work.Given as goal
 
 -- some units of work were done

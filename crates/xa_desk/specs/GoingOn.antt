@@ -1,8 +1,8 @@
 -- What every call keeps of a desk.
 use Rattle.std.specs.Prelude.{◌≡◌, ℕ, ◌≤◌, Bool, List, map}
 use Rattle.xa_lane.specs.Ends.{at_most_counted}
-use Rattle.xa_desk.specs.LedgerView.{LedgerView}
-use Rattle.xa_desk.specs.DeskView.{DeskView}
+use Rattle.xa_desk.specs.LedgerViews.{LedgerView}
+use Rattle.xa_desk.specs.DeskViews.{DeskView}
 use Rattle.xa_desk.specs.Ended.{EndedView}
 use Rattle.xa_desk.specs.Seats.{seat_of_desk, seat_of_ended}
 use Rattle.xa_base.specs.Lists.{Begins}

@@ -16,7 +16,7 @@ use Rattle.xa_lane.specs.Ends.{Sending, Receiving}
 use Rattle.xa_desk.specs.declared.operation.Operation.{Operation}
 use Rattle.xa_desk.specs.declared.event.Event.{Event}
 use Rattle.xa_desk.specs.declared.event.Event.TheVariants.{Collected}
-use Rattle.xa_desk.specs.LedgerView.{LedgerView, new_ledger, learnt_shut, is_collected, with_sent, with_collected}
+use Rattle.xa_desk.specs.LedgerViews.{LedgerView, new_ledger, learnt_shut, is_collected, with_sent, with_collected}
 use Rattle.xa_desk.specs.declared.refused.Refused.{Refused}
 use Rattle.xa_desk.specs.declared.refused.Refused.TheVariants.{NoSuchManager, Shut, TooMany, Spent}
 

@@ -5,11 +5,11 @@ use Rattle.std.specs.List.{All, IsDistinct, list_any, find}
 use Rattle.std.specs.FinMap as finmap
 use Rattle.xa_words.specs.declared.code.Code.{Code}
 use Rattle.xa_words.specs.declared.request.Op.{Op}
-use Rattle.xa_tables.specs.Tables.{Tables}
-use Rattle.xa_tables.specs.History.{History, of_thread, codes, tables_after, accepted, first_shut, late, carried_out}
+use Rattle.xa_tables.specs.ManagerTables.{Tables}
+use Rattle.xa_tables.specs.Histories.{History, of_thread, codes, tables_after, accepted, first_shut, late, carried_out}
 use Rattle.xa_tables.specs.Openings.{IsOpening}
-use Rattle.xa_desk.specs.LedgerView.{LedgerView}
-use Rattle.xa_desk.specs.DeskView.{sent_to, collected_from}
+use Rattle.xa_desk.specs.LedgerViews.{LedgerView}
+use Rattle.xa_desk.specs.DeskViews.{sent_to, collected_from}
 use Rattle.xa_desk.specs.Lanes.{numbered}
 use Rattle.xa_worker.specs.Journal.{Entry, requests, codes_in}
 

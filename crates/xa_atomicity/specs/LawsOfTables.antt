@@ -6,11 +6,11 @@ use Rattle.xa_words.specs.declared.request.Op.{Op}
 use Rattle.xa_words.specs.declared.request.Op.TheVariants.{Add, Prepare, Commit, Rollback}
 use Rattle.xa_tables.specs.declared.state.Association.{Association}
 use Rattle.xa_tables.specs.declared.state.HeuristicDecision.{HeuristicDecision}
-use Rattle.xa_tables.specs.Tables.{Tables, association_of, state_of, is_prepared}
+use Rattle.xa_tables.specs.ManagerTables.{Tables, association_of, state_of, is_prepared}
 use Rattle.xa_tables.specs.Reasons.{decision_code}
 use Rattle.xa_tables.specs.Next.{next}
-use Rattle.xa_tables.specs.History.{History, Fate, fate, fate_in, fates_in, coded, tables_after, is_rolled_back}
-use Rattle.xa_tables.specs.History.{EndsNowhere, IsFateOf}
+use Rattle.xa_tables.specs.Histories.{History, Fate, fate, fate_in, fates_in, coded, tables_after, is_rolled_back}
+use Rattle.xa_tables.specs.Histories.{EndsNowhere, IsFateOf}
 use Rattle.xa_tables.specs.Openings.{IsOpening, told_by}
 use Rattle.xa_tables.specs.Worth.{held_by}
 use Rattle.xa_tables.specs.Prepared.{NamesNowhere, OnlyDecides, LeavesWaiting, AwaitsAfter, IsTold, has_shut}

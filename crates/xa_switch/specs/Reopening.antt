@@ -4,13 +4,13 @@ use Rattle.std.specs.List.{find, range_with_len}
 use Rattle.std.specs.Prelude.{◌==◌}
 use Rattle.xa_base.specs.declared.limits.TheConstants.{MOST_MANAGERS}
 use Rattle.xa_base.specs.Lists.{IsUpTo}
-use Rattle.xa_tables.specs.Tables.{Tables}
+use Rattle.xa_tables.specs.ManagerTables.{Tables}
 use Rattle.xa_tables.specs.Managers.{opening}
 use Rattle.xa_tables.specs.Openings.{reopened}
-use Rattle.xa_desk.specs.LedgerView.{LedgerView}
+use Rattle.xa_desk.specs.LedgerViews.{LedgerView}
 use Rattle.xa_switch.specs.declared.plan.Again.{Again}
 use Rattle.xa_switch.specs.Plans.{Setup, setup, IsWithinLimits}
-use Rattle.xa_switch.specs.Settling.{ThreadPart, ManagerPart, ReadyPart, Settling, find_manager}
+use Rattle.xa_switch.specs.Settled.{ThreadPart, ManagerPart, ReadyPart, Settling, find_manager}
 
 -- the ledgers of the first thread, one with each manager
 abbrev pub first_ledgers : List ThreadPart → List LedgerView

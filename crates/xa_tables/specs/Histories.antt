@@ -19,8 +19,9 @@ use Rattle.xa_tables.specs.declared.state.Association.{Association}
 use Rattle.xa_tables.specs.declared.state.HeuristicDecision.{HeuristicDecision}
 use Rattle.xa_tables.specs.declared.state.HeuristicDecision.TheVariants as decision
 use Rattle.xa_tables.specs.declared.state.State.TheVariants.{HeuristicallyCompleted}
-use Rattle.xa_tables.specs.Tables.{Tables, association_of, state_of, exists, is_active, is_prepared, is_rollback_only}
-use Rattle.xa_tables.specs.Tables.{is_completed, is_somebody_associated}
+use Rattle.xa_tables.specs.ManagerTables.{Tables, association_of, state_of, exists, is_active, is_prepared}
+use Rattle.xa_tables.specs.ManagerTables.{is_rollback_only}
+use Rattle.xa_tables.specs.ManagerTables.{is_completed, is_somebody_associated}
 use Rattle.xa_tables.specs.Next.{next, shut_down}
 
 -- requests in the order in which they were taken
