@@ -9,7 +9,7 @@ use Rattle.xa_words.specs.declared.flags.Call.TheVariants as call
 use Rattle.xa_words.specs.declared.flags.Mode.{Mode}
 use Rattle.xa_words.specs.declared.request.Op.{Op}
 use Rattle.xa_words.specs.declared.request.Op.TheVariants as op
-use Rattle.xa_calls.specs.declared.asked.Asked.{Asked}
+use Rattle.xa_calls.specs.declared.putting.Asked.{Asked}
 use Rattle.xa_words.specs.declared.request.RmOp.{RmOp}
 use Rattle.xa_words.specs.declared.request.RmOp.TheVariants as rm
 

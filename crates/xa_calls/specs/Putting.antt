@@ -15,7 +15,7 @@ use Rattle.xa_desk.specs.Lanes.{submitted, after_full, after_fulls}
 use Rattle.xa_desk.specs.Looks.{Collects}
 use Rattle.xa_desk.specs.Tickets.{LeavesTickets}
 use Rattle.xa_desk.specs.Waits.{SendsAndWaits}
-use Rattle.xa_calls.specs.declared.asked.Asked.{Asked}
+use Rattle.xa_calls.specs.declared.putting.Asked.{Asked}
 
 -- What a call leaves: its desk has gone on with the tickets that are out, and what was lent has idled on, or stays.
 pub record CallLeaves {I : Type 0} (leads : I → I → Type 0) (old new : DeskView) (before after : I) : Type 0 where

@@ -5,7 +5,7 @@ use Rattle.slab.specs.Slab.{slab_len}
 use Rattle.xa_desk.specs.DeskViews.{DeskView}
 use Rattle.xa_desk.specs.Slots.{IsBooks, AreKeys, kept_of, logged, planned_total}
 use Rattle.xa_desk.specs.Marks.{AreKept, AreReady}
-use Rattle.xa_desk.specs.declared.keys.TheConstants.{MOST_SLOTS}
+use Rattle.xa_desk.specs.declared.operation.TheConstants.{MOST_SLOTS}
 use Rattle.xa_desk.specs.declared.book.Book.TheInside.{Inside}
 
 -- what contracts see

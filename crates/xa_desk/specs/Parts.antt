@@ -5,7 +5,7 @@ use Rattle.xa_desk.specs.LedgerViews.{LedgerView}
 use Rattle.xa_desk.specs.Lanes.{PartsView, new_ledgers}
 use Rattle.xa_desk.specs.Slots.{no_keys}
 use Rattle.xa_desk.specs.Book.{IsWithinLimits}
-use Rattle.xa_desk.specs.declared.keys.TheConstants.{MOST_SLOTS}
+use Rattle.xa_desk.specs.declared.operation.TheConstants.{MOST_SLOTS}
 use Rattle.xa_desk.specs.declared.parts.DeskParts.TheInside.{Inside}
 
 -- of each manager whether it takes asynchronous calls

@@ -8,7 +8,7 @@ use Rattle.slab.specs.Slab.{Slab, get, slab_len, Updates, entries_from}
 use Rattle.xa_words.specs.declared.code.Code.{Code}
 use Rattle.xa_words.specs.declared.request.Completion.{Completion}
 use Rattle.xa_desk.specs.declared.operation.Operation.{Operation}
-use Rattle.xa_desk.specs.declared.slot.Slot.{Slot}
+use Rattle.xa_desk.specs.declared.operation.Slot.{Slot}
 use Rattle.xa_desk.specs.LedgerViews.{LedgerView, numbers, is_collected}
 use Rattle.xa_desk.specs.DeskViews.{IsKnown, IsSent, IsOut, ledger, outstanding, drained_code}
 

@@ -1,30 +1,31 @@
-//! One thread of control's desk over its lanes.
+//! One thread of control's desk over its lanes, and why it refuses a request.
 ghost use Rattle.std.specs.Prelude.{◌≡◌, ◌≢◌, ℕ, ◌-◌, ◌<◌, ◌≤◌, ◌↔◌, length, IfOk, IfErr, IfSome, IfNone, OnOk, OnErr};
 ghost use Rattle.std.specs.Prelude.{OnSome, IsTrue, IsSome, IsNone, IsOk, IsErr, Some, None, false, true, option_map};
 ghost use Rattle.std.specs.Prelude.{◌&&◌};
-ghost use Rattle.std.specs.FinMap as map;
 ghost use Rattle.xa_desk.specs.LedgerViews.{learnt_shut};
 ghost use Rattle.xa_desk.specs.DeskViews.{TicketView, IsKnown, IsHandle, Owns, ledger, outstanding, drained_code};
 ghost use Rattle.xa_desk.specs.DeskViews.{ticket_of, next_operation, reach_refusal, submit_refusal, call_refusal};
-ghost use Rattle.xa_desk.specs.DeskViews.{IsLeastFree, ready_at, keeps_at, room_at, is_known};
+ghost use Rattle.xa_desk.specs.DeskViews.{IsLeastFree, ready_at, keeps_at, room_at, is_known, handle_refusal};
+ghost use Rattle.xa_desk.specs.DeskViews.{spent_refusal, room_refusal};
 ghost use Rattle.xa_desk.specs.Ended.{Ends, AreBalanced};
 ghost use Rattle.xa_desk.specs.GoingOn.{GoesOn, GoesOut};
 ghost use Rattle.xa_desk.specs.Lanes.{AreEnds, AreNew, IsDesk, new_desk, submitted, after_full, after_fulls};
 ghost use Rattle.xa_desk.specs.Looks.{EndsQuiet, Collects, CollectsKept, CollectsLeast};
 ghost use Rattle.xa_desk.specs.Tickets.{LeavesTickets, LeavesOthers};
 ghost use Rattle.xa_desk.specs.Waits.{WaitsFor, WaitsForAny, SendsAndWaits, MarkEnds};
+ghost use Rattle.std.specs.FinMap as map;
 
 use crate::book::Book;
 use crate::ended::{EndedDesk, end};
 use crate::idle::Idle;
 use crate::kept::keeps_any;
+use crate::operation::Ticket;
 use crate::parts::DeskParts;
 use crate::pump::{
     send_waiting, try_collect, try_collect_any, try_collect_kept, wait_for, wait_for_any,
     wait_until,
 };
 use crate::refused::{AnyFault, NothingOutstanding, Refused};
-use crate::ticket::Ticket;
 use std::marker::Model;
 use std::sync::Wait;
 use xa_base::{MOST_HANDLES, MOST_MANAGERS, MOST_THREADS};
@@ -443,5 +444,49 @@ impl Desk {
             return Err(self);
         }
         Ok(end(rt, self.book, idle))
+    }
+}
+
+impl Desk {
+    /// Why nothing may be sent to the manager, handles, planned requests and a full lane aside:
+    /// `NoSuchManager` or `Shut`, the first that holds.
+    pub fn reach_refusal(&self, manager: u32) -> Option<Refused>
+        ensures { result ≡ reach_refusal self.now manager }
+    {
+        if !self.knows(manager) {
+            return Some(Refused::NoSuchManager);
+        }
+        if self.learnt_shut(manager) {
+            return Some(Refused::Shut);
+        }
+        None
+    }
+
+    // Why no operation may be begun that takes a handle.
+    fn handle_refusal(&self) -> Option<Refused>
+        ensures { result ≡ handle_refusal self.now }
+    {
+        (self.free() == 0).then_some(Refused::TooMany)
+    }
+
+    // Why no further request may be sent to the manager.
+    fn spent_refusal(&self, manager: u32) -> Option<Refused>
+        ensures { result ≡ spent_refusal self.now manager }
+    {
+        (self.room(manager) == 0).then_some(Refused::Spent)
+    }
+
+    // Why no asynchronous request may be sent to a manager that is reached: the first reason that holds.
+    pub(crate) fn room_refusal(&self, manager: u32) -> Option<Refused>
+        ensures { result ≡ room_refusal self.now manager }
+    {
+        self.handle_refusal().or(self.spent_refusal(manager))
+    }
+
+    // Why no synchronous request may be sent to the manager: the first reason that holds.
+    pub(crate) fn call_refusal(&self, manager: u32) -> Option<Refused>
+        ensures { result ≡ call_refusal self.now manager }
+    {
+        self.reach_refusal(manager).or(self.spent_refusal(manager))
     }
 }

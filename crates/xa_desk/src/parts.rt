@@ -1,11 +1,9 @@
 //! What a desk is made of.
 ghost use Rattle.std.specs.Prelude.{◌≡◌, ◌+◌, ◌≤◌, [], length, IfOk};
 
-use crate::keys::{Keys, MOST_SLOTS, reserve_keys};
 use crate::ledger::{Ledger, open_ledgers};
-use crate::operation::Operation;
+use crate::operation::{Keys, MOST_SLOTS, Operation, Slot, reserve_keys};
 use crate::places::empty_places;
-use crate::slot::Slot;
 use slab::Slab;
 use std::alloc::{AllocError, Global};
 use std::marker::Model;

@@ -9,9 +9,9 @@ use Rattle.xa_grammar.specs.declared.fault.Reason.{Reason}
 use Rattle.xa_grammar.specs.declared.fault.Reason.TheVariants.{UnknownWord, TurnInThreadsMode, ReopenInThreadsMode}
 use Rattle.xa_grammar.specs.declared.step.Calling.TheVariants as calling
 use Rattle.xa_grammar.specs.declared.step.Action.TheVariants as action
-use Rattle.xa_grammar.specs.declared.action.Verb.{Verb}
-use Rattle.xa_grammar.specs.declared.action.Verb.TheVariants as verb
-use Rattle.xa_grammar.specs.declared.action.TheConstants.{MOST_HANDLE, MOST_COUNT}
+use Rattle.xa_grammar.specs.declared.step.Verb.{Verb}
+use Rattle.xa_grammar.specs.declared.step.Verb.TheVariants as verb
+use Rattle.xa_grammar.specs.declared.step.TheConstants.{MOST_HANDLE, MOST_COUNT}
 use Rattle.xa_grammar.specs.declared.commit.TheConstants.{MOST_MANAGER}
 use Rattle.xa_grammar.specs.Fields.{◌>>=◌, Word, word_at, end_of, number_in, number_at, key_at, xid_at, delta_at}
 use Rattle.xa_grammar.specs.Fields.{flags_onto}

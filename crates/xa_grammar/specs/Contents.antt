@@ -8,7 +8,7 @@ use Rattle.std.specs.List.{list_any}
 use Rattle.xa_base.specs.declared.limits.TheConstants.{MOST_HANDLES, MOST_MANAGERS, MOST_QUEUED, MOST_REQUESTS}
 use Rattle.xa_base.specs.declared.limits.TheConstants.{MOST_THREADS}
 use Rattle.xa_grammar.specs.declared.setting.TheConstants.{MOST_APPENDS}
-use Rattle.xa_grammar.specs.declared.action.TheConstants.{MOST_COUNT}
+use Rattle.xa_grammar.specs.declared.step.TheConstants.{MOST_COUNT}
 use Rattle.xa_base.specs.Lists.{IsUpTo}
 use Rattle.xa_tables.specs.Accounts.{are_accounts}
 use Rattle.xa_grammar.specs.declared.script.Count.{Count}

@@ -4,15 +4,15 @@ use Rattle.std.specs.Prelude.{Some, None, Result, Ok, Err, codes}
 use Rattle.std.specs.List.{list_all}
 use Rattle.std.specs.Map.{lookup}
 use Rattle.std.specs.Str.{bytes_eq}
-use Rattle.xa_grammar.specs.declared.line.TheConstants.{LONGEST_LINE, MOST_LINES}
+use Rattle.xa_grammar.specs.declared.read.TheConstants.{LONGEST_LINE, MOST_LINES}
 use Rattle.xa_grammar.specs.declared.fault.Reason.{Reason}
 use Rattle.xa_grammar.specs.declared.fault.Reason.TheVariants.{LineTooLong, BadByte, TooManyLines, UnknownWord}
 use Rattle.xa_grammar.specs.declared.fault.ScriptFault.{ScriptFault}
 use Rattle.xa_grammar.specs.declared.fault.ScriptFault.TheVariants as faults
 use Rattle.xa_grammar.specs.declared.script.Count.TheVariants.{Threads, Managers, Handles, Queue, Requests}
 use Rattle.xa_grammar.specs.declared.step.Step.TheVariants as steps
-use Rattle.xa_grammar.specs.declared.line.Head.{Head}
-use Rattle.xa_grammar.specs.declared.line.Head.TheVariants as head
+use Rattle.xa_grammar.specs.declared.read.Head.{Head}
+use Rattle.xa_grammar.specs.declared.read.Head.TheVariants as head
 use Rattle.xa_grammar.specs.Items.{Item}
 use Rattle.xa_grammar.specs.Items as item
 use Rattle.xa_grammar.specs.Text.{hash, lines_of, words_of, without_return, is_script_byte}

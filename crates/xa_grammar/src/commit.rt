@@ -3,12 +3,11 @@ ghost use Rattle.std.specs.Prelude.{◌≡◌, ◌≤◌};
 ghost use Rattle.xa_grammar.specs.Commits.{answers_of, once_prepared, once_told, death_at, branches_at, commit_of};
 
 use crate::fault::Reason;
-use crate::field::number_in;
 use crate::name::Gtrid;
 use crate::named::Named;
 use crate::script::Script;
 use crate::step::CommitAll;
-use crate::words::Words;
+use crate::words::{Words, number_in};
 use xa_words::{Death, ManagerSet};
 
 // How large a manager's number may be on a line, whether or not there is such a manager.

@@ -1,9 +1,9 @@
 //! The limits that the format of scripts gives, as numbers, so that a definition which names one doesn't move with the
 //! code.
 ghost use Rattle.std.specs.Prelude.{◌≡◌};
-ghost use Rattle.xa_grammar.specs.declared.action.TheConstants.{MOST_HANDLE, MOST_COUNT};
+ghost use Rattle.xa_grammar.specs.declared.step.TheConstants.{MOST_HANDLE, MOST_COUNT};
 ghost use Rattle.xa_grammar.specs.declared.commit.TheConstants.{MOST_MANAGER, MOST_ANSWERS};
-ghost use Rattle.xa_grammar.specs.declared.line.TheConstants.{LONGEST_LINE, MOST_LINES};
+ghost use Rattle.xa_grammar.specs.declared.read.TheConstants.{LONGEST_LINE, MOST_LINES};
 ghost use Rattle.xa_grammar.specs.declared.setting.TheConstants.{MOST_APPENDS};
 
 /// The constants that the definitions name have these values.

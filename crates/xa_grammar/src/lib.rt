@@ -6,13 +6,10 @@
 //! answers the `Script` that it gives, or its first fault. Nothing is run here.
 #![tactic(auto)]
 
-mod action;
 mod commit;
 mod fault;
-mod field;
 mod keys;
 pub mod laws;
-mod line;
 mod name;
 mod named;
 mod read;
@@ -20,7 +17,6 @@ mod script;
 mod setting;
 mod step;
 mod steps;
-mod tasks;
 mod words;
 
 pub use fault::{Reason, ScriptFault};
@@ -28,4 +24,4 @@ pub use name::{Gtrid, Name};
 pub use read::read_script;
 pub use script::{Declared, Script, UnknownAppend};
 pub use step::{Action, Called, Calling, CommitAll, Step, Task};
-pub use tasks::Tasks;
+pub use steps::Tasks;

@@ -4,10 +4,9 @@ ghost use Rattle.xa_grammar.specs.Settings.{before_actions, count_of, not_set, l
 ghost use Rattle.xa_grammar.specs.Settings.{logfail_of, is_kept, logunknown_of, new_key, declared_of};
 
 use crate::fault::Reason;
-use crate::field::meaning_in;
 use crate::keys::DeclaredKeys;
 use crate::script::{Count, Declared, Script, Settings, UnknownAppend};
-use crate::words::Words;
+use crate::words::{Words, meaning_in};
 use xa_base::{
     MOST_HANDLES, MOST_KEYS, MOST_MANAGERS, MOST_QUEUED, MOST_REQUESTS, MOST_THREADS, MOST_VALUE,
 };

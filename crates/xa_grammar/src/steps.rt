@@ -1,19 +1,21 @@
 //! Steps in a small form: the bytes of their names stand one after the other, and so do the keys of additions. Each
 //! step says where.
 ghost use Rattle.std.specs.Prelude.{◌≡◌, ◌<◌, ◌^◌, ◌++◌, ◌∷◌, [], ℕ, List, Some, length, slice_get, All, IfOk, OnOk};
-ghost use Rattle.std.specs.Prelude.{OnErr};
+ghost use Rattle.std.specs.Prelude.{OnErr, nat_eq};
 ghost use Rattle.std.specs.List.{list_any};
 ghost use Rattle.xa_grammar.specs.Contents.{is_reopen};
-ghost use Rattle.xa_grammar.specs.OwnTasks.{own_steps, steps_at};
+ghost use Rattle.xa_grammar.specs.OwnTasks.{own_steps, steps_at, tasks_in, IsTask};
 ghost use Rattle.xa_grammar.specs.Spelling.{Spells, IsShort};
 ghost use Rattle.xa_grammar.specs.KeptSteps.{name_at, gtrid_at, key_at, IsName, IsGtrid, IsKey, IsNamed, step_at};
 ghost use Rattle.xa_grammar.specs.KeptSteps.{keys_in, kept_from, HasSmallThread, is_kept_of, is_kept_reopen};
+ghost use Rattle.std.specs.Arc.{arc_value};
 
 use crate::name::{Gtrid, Name};
 use crate::step::{Action, Called, Calling, CommitAll, Step, Task};
 use std::alloc::{AllocError, Global};
 use std::clone::Clone;
 use std::marker::Model;
+use std::sync::Arc;
 use xa_words::{Death, Key, ManagerSet};
 
 // Where the bytes of a branch's name stand: those of the gtrid, a dot, and those of the bqual.
@@ -358,5 +360,66 @@ impl Clone for Steps {
             keys: self.keys.clone()?,
             kept: self.kept.clone()?,
         })
+    }
+}
+
+/// The tasks of one thread, in the order of their lines. Contracts see the list of them.
+#[derive(Drop)]
+pub struct Tasks {
+    // Those of all threads.
+    steps: Arc<Steps, Global>,
+    // Where its own stand.
+    places: Vec<usize>,
+}
+
+impl Model for Tasks {
+    ghost use Rattle.std.specs.Prelude.{◌<◌, List, length, All};
+    ghost use Rattle.std.specs.Arc.{arc_value};
+    ghost use Rattle.xa_grammar.specs.Steps.{ScriptTask};
+    ghost use Rattle.xa_grammar.specs.OwnTasks.{tasks_in, steps_at, IsTask};
+
+    ghost Value = { List ScriptTask };
+
+    ghost view = { λ t. tasks_in (steps_at (arc_value t.steps) t.places.items) };
+
+    ghost invariant = { λ t. All IsTask (steps_at (arc_value t.steps) t.places.items)
+        × All (λ k. k < length (arc_value t.steps)) t.places.items };
+}
+
+impl Tasks {
+    /// The tasks that the steps at these places are.
+    pub(crate) fn new(steps: Arc<Steps, Global>, places: Vec<usize>) -> Tasks
+        requires tasks { All IsTask (steps_at (arc_value steps) places.items) }
+        requires within { All (λ k. k < length (arc_value steps)) places.items }
+        ensures { result ≡ tasks_in (steps_at (arc_value steps) places.items) }
+    {
+        Tasks { steps, places }
+    }
+
+    /// How many there are.
+    pub fn len(&self) -> usize
+        ensures { result ≡ length self.now }
+    {
+        self.places.len()
+    }
+
+    /// Whether there is none.
+    pub fn is_empty(&self) -> bool
+        ensures { result ≡ nat_eq (length self.now) 0 }
+    {
+        self.len() == 0
+    }
+
+    /// The task at a place, from 0. Its name's bytes are lent with it.
+    #[inline(always)]
+    pub fn get(&self, place: usize) -> Task<Name<'_>, Gtrid<'_>>
+        requires { place < length self.now }
+        ensures { slice_get self.now place ≡ Some result }
+    {
+        match self.steps.get(self.places[place]) {
+            Step::Task(task) => task,
+            // All steps are tasks.
+            Step::Turn { .. } | Step::Reopen { .. } => unreachable!(),
+        }
     }
 }

@@ -1,4 +1,4 @@
-//! What a script's calls answer over the desk of their thread.
+//! What a thread's tasks answer: its calls, over the desk; commits.rt and resolving.rt have the rest.
 ghost use Rattle.std.specs.Prelude.{◌≡◌, ◌≤◌, ◌<◌, false, length, take, IfOk, OnErr};
 ghost use Rattle.xa_desk.specs.GoingOn.{GoesOn};
 ghost use Rattle.xa_desk.specs.Kept.{AllKept};
@@ -11,15 +11,47 @@ ghost use Rattle.xa_words.specs.Xid.{XidName};
 ghost use Rattle.xa_words.specs.declared.flags.Call.TheVariants as call;
 ghost use Rattle.xa_session.specs.Calling.{completed, HasAnswered, HasCollected, HasListed, IsListed, Answers};
 ghost use Rattle.xa_session.specs.Calling.{calling_waits};
+ghost use Rattle.xa_session.specs.Sessions.{session_of, Does, MayWait};
 
+use crate::commits::commit;
+use crate::resolving::resolve_left;
 use std::alloc::{AllocError, Global};
 use std::sync::Wait;
 use xa_calls::{native, xa_call, xa_complete, xa_recover};
 use xa_desk::{Desk, Idle};
-use xa_grammar::{Called, Calling, Name};
+use xa_grammar::{Action, Called, Calling, Gtrid, Name};
+use xa_log::LosingLog;
 use xa_scan::Scan;
 use xa_transcript::Answer;
 use xa_words::{Call, RmOp, Xid};
+
+/// Does what a task asks for, and gives its answer. It fails only for want of memory, and then nothing is done.
+#[inline(always)]
+pub fn carry_out<R: Wait, I: Idle>(
+    rt: &R,
+    alloc: Global,
+    desk: &mut Desk,
+    log: &mut LosingLog,
+    scan: &mut Scan,
+    action: &Action<Name, Gtrid>,
+    idle: &mut I,
+) -> Result<Answer, AllocError>
+    ensures does { IfOk result (Does action.now (session_of desk.old log.old scan.old)
+        (session_of desk.new log.new scan.new)) }
+    ensures goes_on { GoesOn desk.old desk.new }
+    ensures kept { AllKept desk.old → AllKept desk.new }
+    ensures unsent { OnErr result (desk.new ≡ desk.old) }
+    ensures unlogged { OnErr result (log.new ≡ log.old) }
+    ensures unscanned { OnErr result (scan.new ≡ scan.old) }
+    ensures idled { I.leads idle.old idle.new }
+    ensures prompt { ¬ MayWait action.now (session_of desk.old log.old scan.old) → idle.new ≡ idle.old }
+{
+    match action {
+        Action::Call(called) => answer(rt, alloc, desk, scan, called, idle),
+        Action::CommitAll(asked) => commit(rt, alloc, desk, log, asked, idle),
+        Action::Resolve => resolve_left(rt, alloc, desk, log, scan, idle),
+    }
+}
 
 // The xid of the branch that is called, where there is one.
 #[inline(always)]
@@ -55,9 +87,9 @@ fn xa_called<R: Wait, I: Idle>(
     Answer::Called(answer)
 }
 
-/// What a call answers. It fails only for want of memory, and then nothing is done.
+// What a call answers. It fails only for want of memory, and then nothing is done.
 #[inline(always)]
-pub(crate) fn answer<R: Wait, I: Idle>(
+fn answer<R: Wait, I: Idle>(
     rt: &R,
     alloc: Global,
     desk: &mut Desk,

@@ -13,5 +13,6 @@ mod resolving;
 mod script_thread;
 mod session;
 
+pub use calls::carry_out;
 pub use script_thread::ScriptThread;
-pub use session::{Session, carry_out, sessions_again, sessions_of};
+pub use session::{Session, sessions_again, sessions_of};

@@ -7,7 +7,8 @@ ghost use Rattle.xa_base.specs.Lists.{Chain};
 ghost use Rattle.xa_session.specs.Sessions.{log_of, session_of, HasDone};
 ghost use Rattle.xa_session.specs.ScriptThreads.{IsNew};
 
-use crate::session::{carry_out, log_of};
+use crate::calls::carry_out;
+use crate::session::log_of;
 use std::alloc::{AllocError, Global};
 use std::sync::Wait;
 use xa_crew::Client;

@@ -4,7 +4,6 @@
 
 mod code;
 mod death;
-mod delta;
 mod flags;
 mod key;
 pub mod laws;
@@ -16,13 +15,12 @@ mod xid;
 
 pub use code::Code;
 pub use death::Death;
-pub use delta::Delta;
 pub use flags::{
     Call, Mode, TMASYNC, TMENDRSCAN, TMFAIL, TMJOIN, TMMULTIPLE, TMNOFLAGS, TMNOWAIT, TMONEPHASE,
     TMRESUME, TMSTARTRSCAN, TMSUCCESS, TMSUSPEND, TMUSEASYNC, check_flags,
 };
 pub use key::Key;
 pub use manager_set::ManagerSet;
-pub use request::{Completion, EndHow, Op, Request, RmOp, StartHow};
+pub use request::{Completion, Delta, EndHow, Op, Request, RmOp, StartHow};
 pub use tran::Tran;
 pub use xid::{Xid, XidFault};

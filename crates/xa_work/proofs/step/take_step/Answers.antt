@@ -4,7 +4,7 @@ use Rattle.xa_words.specs.{TMASYNC, TMSUCCESS, XidName}
 use Rattle.xa_words.specs.declared.flags.Call.TheVariants as call
 use Rattle.xa_words.specs.declared.request.RmOp.TheVariants as rm
 use Rattle.xa_words.specs.declared.key.Key.{Key}
-use Rattle.xa_words.specs.declared.delta.Delta.{Delta}
+use Rattle.xa_words.specs.declared.request.Delta.{Delta}
 use Rattle.xa_desk.specs.{DeskView}
 use Rattle.xa_calls.specs.{asked_of, native, Calls, Puts}
 use Rattle.xa_work.specs.{Step, Start, Add, End, op_of}
