@@ -11,4 +11,4 @@ pub use Completing.{completion_waits, is_of, keeps_by, keeps_for, may_complete, 
 pub use Scans.{Answers, AsksAndWaits, HasRecovered, IsInVain, Looks, Recovers, RecoversAndWaits, RecoversAt, RecoversBy}
 pub use Scans.{RecoversFrom, asks, asks_at, begun, end_of, ended, filled, finds, looked_at, passes, room_in, start_of}
 pub use Scans.{stopped, told, told_as, unreached, written}
-pub use declared.asked.Asked.{Asked}
+pub use declared.putting.Asked.{Asked}

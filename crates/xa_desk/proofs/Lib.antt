@@ -11,5 +11,5 @@ pub mod Ties
 pub mod Begins
 pub mod Desks
 pub mod Growth
-pub mod GoesOn
+pub mod GoingOn
 pub mod Waiting

@@ -6,7 +6,7 @@ use Rattle.xa_desk.specs.{Operation, TicketView, IsKnown, Owns, next_operation, 
 use Rattle.xa_desk.specs.{DeskView}
 use Rattle.xa_desk.proofs.Ledgers.{sent_keeps_out, unsent}
 use Rattle.xa_desk.proofs.Looks.{freed_loose}
-use Rattle.xa_desk.proofs.GoesOn.{collects_stays, desk_stays, tried_stays, tried_kept_stays}
+use Rattle.xa_desk.proofs.GoingOn.{collects_stays, desk_stays, tried_stays, tried_kept_stays}
 use Rattle.xa_desk.proofs.Ties.{fulls_alike}
 
 pub sent_leaves : (old : DeskView) (m : ℕ) (op : Op) → IsKnown old.ledgers m → LeavesTickets old (submitted old m op)

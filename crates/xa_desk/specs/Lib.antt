@@ -48,6 +48,6 @@ pub use declared.event.Event.{Event}
 pub use declared.event.Event.TheVariants.{Collected, Sent}
 pub use declared.found.Found.TheVariants.{Its}
 pub use declared.operation.Operation.{Operation}
+pub use declared.operation.Slot.{Slot}
 pub use declared.refused.Refused.{Refused}
 pub use declared.refused.Refused.TheVariants.{Full, NoSuchManager, Shut, Spent, TooMany}
-pub use declared.slot.Slot.{Slot}

@@ -46,7 +46,7 @@ pub fn keeping_leaves_others()
 {}
 
 /// A desk goes on as it is, and one that went on may go on.
-#[tactic(auto, using(crate::proofs::GoesOn::goes_same, crate::proofs::GoesOn::goes_further))]
+#[tactic(auto, using(crate::proofs::GoingOn::goes_same, crate::proofs::GoingOn::goes_further))]
 pub fn desks_go_on()
     ensures same { (d : DeskView) → GoesOn d d }
     ensures further { (old mid new : DeskView) → GoesOn old mid → GoesOn mid new → GoesOn old new }

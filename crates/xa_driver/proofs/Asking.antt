@@ -3,7 +3,7 @@ use Rattle.xa_base.proofs.{arith, ◌≡◌, ◌≢◌, ℕ, ◌+◌, ◌≤◌,
 use Rattle.xa_words.specs.{Code, Op}
 use Rattle.xa_desk.specs.{Operation, learnt_shut, with_sent, with_collected, TicketView, IsKnown, ledger, put_ledger, after_collected, outstanding, Collects}
 use Rattle.xa_desk.specs.{LedgerView, DeskView}
-use Rattle.xa_desk.proofs.GoesOn.{goes_same, goes_further, goes_collecting}
+use Rattle.xa_desk.proofs.GoingOn.{goes_same, goes_further, goes_collecting}
 use Rattle.xa_desk.proofs.Ledgers.{ledger-put_same, ledger-put_other}
 use Rattle.xa_driver.specs.{Ask, KeepsDesk, IsUnsent, IsSending, BeginsAsk, Ends}
 use Rattle.xa_driver.proofs.Ledgers.{open_count, put_length, put_open}

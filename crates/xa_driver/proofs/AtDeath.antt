@@ -8,7 +8,7 @@ use Rattle.std.proofs.Math.Seq.{take-append_seam}
 use Rattle.xa_words.specs.{TranName, Death, Op, Prepare, Code}
 use Rattle.xa_words.specs.declared.death.Death.TheVariants as death
 use Rattle.xa_desk.specs.{Operation, plan_of, AllKept, TicketView, ledger, GoesOn, LedgerView, DeskView}
-use Rattle.xa_desk.proofs.GoesOn.{goes_same, goes_further}
+use Rattle.xa_desk.proofs.GoingOn.{goes_same, goes_further}
 use Rattle.xa_driver.specs.{Branch, Done, Round, Prepared, Decided, Told, Ask, AskTrace, EachAsk, EachBegan, HasBegun, IsUnsent, KeepsTheRest, SameAsks}
 use Rattle.xa_driver.specs.{among_asks, CameToVotes, Dies, HaveAsked, HaveTold, IsDecidedBy, IsOfRound, LeavesDesk, LeavesHandles, PutsLedger, Tells}
 use Rattle.xa_driver.specs.{VotesAndObeys, is_decided_by, to_come, withheld, second_op, AsksLedger, code_of, ending_of_ask, first_ask, second_ask, HasDecided}

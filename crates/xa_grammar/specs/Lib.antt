@@ -49,7 +49,7 @@ pub use declared.fault.Reason.{Reason}
 pub use declared.fault.Reason.TheVariants.{BadBranches, BadByte, BadNumber, KeyTwice, LineTooLong, OutOfRange}
 pub use declared.fault.Reason.TheVariants.{TooManyKeys, TooManyLines, UnknownWord}
 pub use declared.fault.ScriptFault.{ScriptFault}
-pub use declared.line.Head.{Head}
+pub use declared.read.Head.{Head}
 pub use declared.named.Named.{Named}
 pub use declared.script.Count.TheVariants.{Managers, Threads}
 pub use declared.script.Declared.{Declared}

@@ -1,4 +1,4 @@
-use Rattle.xa_desk.proofs.GoesOn.{collects_stays}
+use Rattle.xa_desk.proofs.GoingOn.{collects_stays}
 use Rattle.xa_desk.proofs.laws.collecting_leaves_others.Goals as goal
 
 pub returns : goal.returns

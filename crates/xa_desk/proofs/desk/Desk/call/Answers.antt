@@ -1,7 +1,7 @@
 use Rattle.xa_base.proofs.{◌≡◌, None, sym, subst, arith}
 use Rattle.xa_desk.specs.{call_refusal}
 use Rattle.xa_desk.proofs.Desks.{call_known, called_desk}
-use Rattle.xa_desk.proofs.GoesOn.{goes_called, collects_stays}
+use Rattle.xa_desk.proofs.GoingOn.{goes_called, collects_stays}
 use Rattle.xa_desk.proofs.Tickets.{called_leaves, leaves_seen}
 use Rattle.xa_desk.proofs.desk.Desk.call.Goals as goal
 

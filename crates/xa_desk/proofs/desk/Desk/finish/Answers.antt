@@ -1,4 +1,4 @@
-use Rattle.xa_desk.proofs.GoesOn.{goes_out}
+use Rattle.xa_desk.proofs.GoingOn.{goes_out}
 use Rattle.xa_desk.proofs.desk.Desk.finish.Goals as goal
 
 pub returns-clause-goes_out : goal.returns-clause-goes_out

@@ -1,4 +1,4 @@
-use Rattle.xa_desk.proofs.GoesOn.{goes_submitted, goes_fuller}
+use Rattle.xa_desk.proofs.GoingOn.{goes_submitted, goes_fuller}
 use Rattle.xa_desk.proofs.desk.Desk.submit_reached.Goals as goal
 
 pub returns-in_default-offer-clause-goes_on : goal.returns-in_default-offer-clause-goes_on
