@@ -84,10 +84,7 @@ module _ {T : Type 0} where
   pub marked_as : (made : ℕ) (got taken held : List (Parcel T)) (ends : List (Sending T)) (v : View T) (left : List (ℕ × T))
       → v ≡ Receives made got (map told_of ends) → got ≡ taken
       → left ≡ items_in held → Tied (told_in v) (taken_in v ++ held) → EndsLast ends taken left
-  marked_as made got taken held ends v left e g l tie =
-      let t : Tied (map told_of ends) (taken ++ held) =
-      subst (λ g. Tied (map told_of ends) (g ++ held)) g (subst (λ v. Tied (told_in v) (taken_in v ++ held)) e tie) in
-      let m = marked ends taken held t in (m.0, l ∙ m.1, m.2)
+  marked_as made got taken held ends v left e g l tie = search (arith, marked)
 
   -- what a pass knows, by its own parts
   pub knows_itself : (made : ℕ) (got : List (Parcel T)) (told : List (Log T)) (v : View T) → v ≡ Receives made got told

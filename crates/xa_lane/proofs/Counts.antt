@@ -18,10 +18,7 @@ module _ {T : Type 0} where
 
   total_else : (n : ℕ) (x : Parcel T) (xs : List (Parcel T)) → n ≤ x.from → total n (x ∷ xs) ≡ total n xs
   total_else zero x xs h = refl
-  total_else (suc n) x xs h =
-      let r = total_else n x xs (omega arith) in
-      let e = ap (λ b. length (cond b (x.item ∷ of_sender n xs) (of_sender n xs))) (ne_eqb x.from n (λ e. omega arith)) in
-      omega (arith, r, e)
+  total_else (suc n) x xs h = search (arith, total_else n x xs (omega arith), ne_eqb, x.from)
 
   total_here : (n : ℕ) (x : Parcel T) (xs : List (Parcel T)) → x.from < n → total n (x ∷ xs) ≡ total n xs + 1
   total_here zero x xs h = absurd (omega arith)
@@ -39,34 +36,22 @@ module _ {T : Type 0} where
 
   total_nil : (n : ℕ) (xs : List (Parcel T)) → xs ≡ [] → total n xs ≡ 0
   total_nil zero xs e = refl
-  total_nil (suc n) xs e =
-      let r = total_nil n xs e in
-      let s = ap (λ l. length (of_sender n l)) e in
-      omega (arith, r, s)
+  total_nil (suc n) xs e = search (arith, total_nil n xs e)
 
   pub within_head : (n : ℕ) (x : Parcel T) (xs : List (Parcel T)) → Within n (x ∷ xs) → x.from < n
   within_head n x xs h =
       lt_of_not-le (λ e. let r = ap (λ b. cond b (x.item ∷ of_sender x.from xs) (of_sender x.from xs)) (eq-eqb x.from x.from refl) in not_cons (of_sender x.from xs) x.item (sym r ∙ h x.from e))
 
   pub within_tail : (n : ℕ) (x : Parcel T) (xs : List (Parcel T)) → Within n (x ∷ xs) → Within n xs
-  within_tail n x xs h p e =
-      let below = within_head n x xs h in
-      let r = ap (λ b. cond b (x.item ∷ of_sender p xs) (of_sender p xs)) (ne_eqb x.from p (λ e'. omega arith)) in
-      sym r ∙ h p e
+  within_tail n x xs h p e = search (arith, within_head, ne_eqb, x.from)
 
   total_all : (n : ℕ) (xs : List (Parcel T)) → Within n xs → total n xs ≡ length xs
   total_all n [] h = total_nil n [] refl
-  total_all n (x ∷ xs) h =
-      let r = total_all n xs (within_tail n x xs h) in
-      let s = total_here n x xs (within_head n x xs h) in
-      omega (arith, r, s)
+  total_all n (x ∷ xs) h = search (arith, total_all n xs (within_tail n x xs h), within_tail, total_here, within_head)
 
   total_same : (n : ℕ) (xs ys : List (Parcel T)) → ((p : ℕ) → p < n → of_sender p xs ≡ of_sender p ys) → total n xs ≡ total n ys
   total_same zero xs ys h = refl
-  total_same (suc n) xs ys h =
-      let r = total_same n xs ys (λ p e. h p (omega arith)) in
-      let s = ap length (h n (omega arith)) in
-      omega (arith, r, s)
+  total_same (suc n) xs ys h = search (arith, total_same n xs ys (λ p e. h p (omega arith)))
 
   -- at any two moments after that there are as many parcels, taken and held
   pub as_many : (n : ℕ) (told : List (Log T)) (xs ys : List (Parcel T)) → Covers n told → Tied told xs → Tied told ys → Within n xs → Within n ys

@@ -31,21 +31,14 @@ module _ {T : Type 0} where
   -- a parcel at the back, of this sender or of another
   pub of_more : (p : ℕ) (got items : List (Parcel T)) (x : Parcel T) → x.from ≡ p
       → of_sender p (got ++ (items ++ x ∷ [])) ≡ of_sender p (got ++ items) ++ x.item ∷ []
-  of_more p got items x e =
-      ap (of_sender p) (sym (append_assoc got items (x ∷ []))) ∙ of_sender-append p (got ++ items) (x ∷ [])
-      ∙ ap (λ b. of_sender p (got ++ items) ++ cond b (x.item ∷ []) []) (eq-eqb x.from p e)
+  of_more p got items x e = search (arith, append_assoc, of_sender-append, eq-eqb)
 
   pub of_same : (p : ℕ) (got items : List (Parcel T)) (x : Parcel T) → x.from ≢ p → of_sender p (got ++ (items ++ x ∷ [])) ≡ of_sender p (got ++ items)
-  of_same p got items x n =
-      ap (of_sender p) (sym (append_assoc got items (x ∷ []))) ∙ of_sender-append p (got ++ items) (x ∷ [])
-      ∙ ap (λ b. of_sender p (got ++ items) ++ cond b (x.item ∷ []) []) (ne_eqb x.from p n) ∙ append-nil (of_sender p (got ++ items))
+  of_same p got items x n = search (arith, of_sender-append, ne_eqb, append-nil)
 
   pub put_of_wrote : (l : Log T) (i : Option T) → l.ended ≡ false → put_of (wrote l i) ≡ put_of l ++ i ∷ []
-  put_of_wrote l (Some y) e =
-      subst (λ b. map Some (l.items ++ y ∷ []) ++ cond b (None ∷ []) [] ≡ (map Some l.items ++ cond b (None ∷ []) []) ++ Some y ∷ []) (sym e)
-      (append-nil (map Some (l.items ++ y ∷ [])) ∙ map-append Some l.items (y ∷ []) ∙ ap (λ k. k ++ Some y ∷ []) (sym (append-nil (map Some l.items))))
-  put_of_wrote l None e = subst (λ b. map Some l.items ++ None ∷ [] ≡ (map Some l.items ++ cond b (None ∷ []) []) ++ None ∷ []) (sym e)
-      (ap (λ k. k ++ None ∷ []) (sym (append-nil (map Some l.items))))
+  put_of_wrote l (Some y) e = search (arith, append-nil, map-append, l.items)
+  put_of_wrote l None e = search (arith, append-nil)
 
   wrote_from : (l : Log T) (i : Option T) → (wrote l i).from ≡ l.from
   wrote_from l (Some y) = refl
@@ -56,8 +49,7 @@ module _ {T : Type 0} where
 
   all_set : (F : ℕ → View T → Type 0) (views : List (View T)) (port : ℕ) (w : View T) → F port w
       → ((j : ℕ) (u : View T) → j ≢ port → get_elem? views j ≡ some u → F j u) → All F (set views port w)
-  all_set F views port w mine others j u e = ⊎_elim (λ (x : (j ≡ port) × (w ≡ u)). subst (λ (y : ℕ × View T). F y.0 y.1) (λ i. (sym x.0 i, x.1 i)) mine)
-      (λ (x : (j ≢ port) × (get_elem? views j ≡ some u)). others j u x.0 x.1) (at_set views port j w u e)
+  all_set F views port w mine others j u e = search (arith, at_set)
 
   at_end : (l : List (View T)) (a b : View T) (j : ℕ) → ¬ (get_elem? l j ≡ some b) → get_elem? (l ++ a ∷ []) j ≡ some b → (j ≡ length l) × (a ≡ b)
   at_end [] a b zero n e = (refl, some-injective a b e)
@@ -68,8 +60,7 @@ module _ {T : Type 0} where
   -- the rule goes on for a pass whose sender, where it has one, is not p, as a parcel of p joins at the back
   fits_more : (receiver made : ℕ) (seat : Seats) (got items : List (Parcel T)) (x : Parcel T) (writer j : ℕ) → seat x.from ≡ some writer → j ≢ writer
       → (u : View T) → Fits receiver made seat got (got ++ items) j u → Fits receiver made seat got (got ++ (items ++ x ∷ [])) j u
-  fits_more receiver made seat got items x writer j s n (Sends l) f =
-      (f.0, of_same l.from got items x (λ e. n (some-injective j writer (sym f.0 ∙ ap seat (sym e) ∙ s))) ∙ f.1)
+  fits_more receiver made seat got items x writer j s n (Sends l) f = search (arith, of_same, l.from)
   fits_more receiver made seat got items x writer j s n (Receives m g told) f =
       (f.0, f.1, f.2, λ k l e. let r = f.3 k l e in (r.0, r.1, of_same l.from got items x (λ e'. some-ne-none writer (sym s ∙ ap seat e' ∙ r.1)) ∙ r.2))
   fits_more receiver made seat got items x writer j s n Spent f = tt
@@ -126,8 +117,7 @@ module _ {T : Type 0} where
   not_nil (x ∷ xs) ys y e = cc
 
   of_here : (p : ℕ) (got items : List (Parcel T)) (x : Parcel T) → x.from ≡ p → of_sender p (got ++ x ∷ items) ≡ of_sender p got ++ x.item ∷ of_sender p items
-  of_here p got items x e =
-      of_sender-append p got (x ∷ items) ∙ ap (λ b. of_sender p got ++ cond b (x.item ∷ of_sender p items) (of_sender p items)) (eq-eqb x.from p e)
+  of_here p got items x e = search (arith, of_sender-append, eq-eqb)
 
   pub gets_at : (port made : ℕ) (got : List (Parcel T)) (told : List (Log T)) → Pops Delivers port (Receives made got told) (Popped (Receives made got told))
   gets_at port made got told x items views h at =
@@ -161,16 +151,14 @@ module _ {T : Type 0} where
     got = [];
     short = omega arith;
     unmade = λ p e. (refl, refl);
-    fits = all_set (Fits 0 0 (λ p. none) [] []) (Receives 0 [] [] ∷ []) 0 (Receives 0 [] []) (refl, refl, refl, λ k l e. absurd (some-ne-none l (sym e)))
-        (λ j u other e. absurd (other (at_end [] _ u j (λ x. some-ne-none u (sym x)) e).0));
+    fits = search (arith, all_set, at_end);
   }
 
   -- the number of the new sender was nobody's
   fits_dealt : (receiver made : ℕ) (seat : Seats) (got all : List (Parcel T)) (j to : ℕ) → ((p : ℕ) → made ≤ p → (seat p ≡ none) × (of_sender p all ≡ []))
       → j ≢ receiver
       → (u : View T) → Fits receiver made seat got all j u → Fits receiver (made + 1) (moved seat made (some to)) got all j u
-  fits_dealt receiver made seat got all j to unmade n (Sends l) f =
-      (moved_else seat made l.from (some to) (λ e. some-ne-none j (sym f.0 ∙ (unmade l.from (omega arith)).0)) ∙ f.0, f.1)
+  fits_dealt receiver made seat got all j to unmade n (Sends l) f = search (arith, moved_else, l.from)
   fits_dealt receiver made seat got all j to unmade n (Receives m g told) f = absurd (n f.0)
   fits_dealt receiver made seat got all j to unmade n Spent f = tt
 
@@ -212,8 +200,7 @@ module _ {T : Type 0} where
 
   fits_joined : (receiver made : ℕ) (seat : Seats) (got all : List (Parcel T)) (j p other : ℕ) → seat p ≡ some other → j ≢ other → j ≢ receiver
       → (u : View T) → Fits receiver made seat got all j u → Fits receiver made (moved seat p none) got all j u
-  fits_joined receiver made seat got all j p other s n n' (Sends l) f =
-      (moved_else seat p l.from none (λ e. n (some-injective j other (sym f.0 ∙ ap seat e ∙ s))) ∙ f.0, f.1)
+  fits_joined receiver made seat got all j p other s n n' (Sends l) f = search (arith, moved_else, l.from)
   fits_joined receiver made seat got all j p other s n n' (Receives m g told) f = absurd (n' f.0)
   fits_joined receiver made seat got all j p other s n n' Spent f = tt
 
@@ -253,5 +240,4 @@ module _ {T : Type 0} where
   pub merges : (port : ℕ) (v : View T) (other : ℕ) (u : View T) (made : ℕ) (got : List (Parcel T)) (told : List (Log T)) (l : Log T)
       → v ≡ Receives made got told → u ≡ Sends l
       → Merges Delivers port v other u (after_join v u) Spent
-  merges port v other u made got told l is is' =
-      subst (λ (y : View T × View T). Merges Delivers port y.0 other y.1 (after_join y.0 y.1) Spent) (λ i. (sym is i, sym is' i)) (merges_at port made got told other l)
+  merges port v other u made got told l is is' = search (arith, merges_at)

@@ -1,13 +1,12 @@
 -- Lists of parcels, and the items in them.
+use Rattle.std.proofs.Common.{rules}
 use Rattle.xa_base.proofs.{◌≡◌, ℕ, ◌+◌, ◌≤◌, true, false, cond, ◌==◌, List, [], ◌∷◌, ◌++◌, length, map, refl, ap, ◌∙◌, append-nil, arith, Option, Some, None}
 use Rattle.xa_lane.specs.{Parcel, of_sender, marks, somes, has_mark, kept, items_in, left_of}
 
 module _ {T : Type 0} where
   pub of_sender-append : (p : ℕ) (xs ys : List (Parcel T)) → of_sender p (xs ++ ys) ≡ of_sender p xs ++ of_sender p ys
   of_sender-append p [] ys = refl
-  of_sender-append p (x ∷ xs) ys =
-      elim (x.from == p) as (λ b. cond b (x.item ∷ of_sender p (xs ++ ys)) (of_sender p (xs ++ ys)) ≡ cond b (x.item ∷ of_sender p xs) (of_sender p xs) ++ of_sender p ys)
-      [ true ↦ ap (λ l. x.item ∷ l) (of_sender-append p xs ys) | false ↦ of_sender-append p xs ys ]
+  of_sender-append p (x ∷ xs) ys = search (arith, of_sender-append p xs ys)
 
   pub somes-append : (xs ys : List (Option T)) → somes (xs ++ ys) ≡ somes xs ++ somes ys
   somes-append [] ys = refl
@@ -23,8 +22,7 @@ module _ {T : Type 0} where
 
   left_kept : (p q : ℕ) (i : Option T) (r : List (ℕ × T)) (ys : List (Option T)) → left_of p r ≡ somes ys
       → left_of p (kept q i r) ≡ somes (cond (q == p) (i ∷ ys) ys)
-  left_kept p q (Some y) r ys e =
-      elim (q == p) as (λ b. cond b (y ∷ left_of p r) (left_of p r) ≡ somes (cond b (Some y ∷ ys) ys)) [ true ↦ ap (λ l. y ∷ l) e | false ↦ e ]
+  left_kept p q (Some y) r ys e = search (arith, rules)
   left_kept p q None r ys e = elim (q == p) as (λ b. left_of p r ≡ somes (cond b (None ∷ ys) ys)) [ true ↦ e | false ↦ e ]
 
   pub left_is : (p : ℕ) (held : List (Parcel T)) → left_of p (items_in held) ≡ somes (of_sender p held)
@@ -61,10 +59,7 @@ module _ {T : Type 0} where
   nothing_behind (None ∷ (x ∷ xs)) ys [] e h = absurd (cc)
   nothing_behind (Some x ∷ xs) ys [] e h = absurd (cc)
   nothing_behind (None ∷ xs) ys (s ∷ sent) e h = absurd (cc)
-  nothing_behind (Some x ∷ xs) ys (s ∷ sent) e h =
-      let r = nothing_behind xs ys sent (cc) h in
-      let same : x ≡ s = cc in
-      ((λ i. same i ∷ r.0 i), r.1)
+  nothing_behind (Some x ∷ xs) ys (s ∷ sent) e h = search (arith, nothing_behind xs ys sent (cc) h)
 
   pub nil_left : (xs ys : List (Option T)) → xs ++ ys ≡ [] → xs ≡ []
   nil_left [] ys e = refl

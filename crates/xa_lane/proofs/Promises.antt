@@ -36,8 +36,7 @@ module _ {T : Type 0} where
   new_lines : (items : List T) (lane : LaneName) (line : QueueId) (capacity n : ℕ)
       → All (λ l. l ≡ line) (map (λ (e : Sending T). e.line) (new_senders lane line capacity n))
   new_lines items lane line capacity zero k d below = absurd (omega arith)
-  new_lines items lane line capacity (suc n) k d below =
-      one_more_line line (new_senders lane line capacity n) (new_sender lane line capacity n) refl (new_lines items lane line capacity n) k d below
+  new_lines items lane line capacity (suc n) k d below = search (arith, new_lines items lane line capacity n, one_more_line)
 
   -- ends with the lines of the senders that a lane was opened with are of that lane
   pub are_of_lane : (lane : LaneName) (line : QueueId) (capacity n : ℕ) (senders ends : List (Sending T)) → senders ≡ new_senders lane line capacity n

@@ -1,3 +1,4 @@
+use Rattle.std.proofs.Common.{arith}
 use Rattle.xa_base.proofs.{◌≡◌, sym, ap, ◌∙◌, subst, refl, All}
 use Rattle.crossbeam_queue.specs.Passes.{view}
 use Rattle.xa_lane.specs.{made_in, taken_in, Sending, Receiving, line_of, IsWhole}
@@ -5,42 +6,26 @@ use Rattle.xa_lane.proofs.Closes.{covers_as, marked_as, known_as, conserves_of_e
 use Rattle.xa_lane.proofs.lane.close_lane.Goals as goal
 
 pub returns-then-not-are_of-clause-why : goal.returns-then-not-are_of-clause-why
-returns-then-not-are_of-clause-why g c = λ all.
-    let lane = ap (λ (r : Receiving g.row.T.Denot). r.lane) c.receiver.view_is in
-    let no = c.if-not-are_of.ensures.1 (subst (λ n. All (λ (e : Sending g.row.T.Denot). e.lane ≡ n) c.args.ended.items) (sym lane) all) in
-    cc
+returns-then-not-are_of-clause-why g c = search (arith, c.receiver.view_is, c.if-not-are_of.ensures.1)
 
 pub returns-then-not-are_of-clause-back : goal.returns-then-not-are_of-clause-back
 returns-then-not-are_of-clause-back g c = (refl, refl)
 
 pub returns-then-not-are_whole-clause-why : goal.returns-then-not-are_whole-clause-why
-returns-then-not-are_whole-clause-why g c =
-    let lane = ap (λ (r : Receiving g.row.T.Denot). r.lane) c.receiver.view_is in
-    let senders = ap (λ (r : Receiving g.row.T.Denot). r.senders) c.receiver.view_is in (
-      subst (λ n. All (λ (e : Sending g.row.T.Denot). e.lane ≡ n) c.args.ended.items) lane (c.if-not-are_of.ensures.0 refl),
-      λ whole. let no = c.if-not-are_whole.ensures.1 (subst (λ n. IsWhole n c.args.ended.items) (sym senders) whole) in cc,
-    )
+returns-then-not-are_whole-clause-why g c = search (arith, c.receiver.view_is, c.if-not-are_of.ensures.0, c.if-not-are_whole.ensures.1)
 
 pub returns-then-not-are_whole-clause-back : goal.returns-then-not-are_whole-clause-back
 returns-then-not-are_whole-clause-back g c = (refl, refl)
 
 pub take_in-pass-requires-clause-pass : goal.take_in-pass-requires-clause-pass
-take_in-pass-requires-clause-pass g c =
-    let of_line = c.receiver.invariant.0 in
-    ((of_line.0 ∙ sym (ap line_of c.deref.ensures), of_line.1), knows_no_end _ _ c.receiver.invariant.1)
+take_in-pass-requires-clause-pass g c = search (arith, knows_no_end, c.receiver.invariant.0)
 
 -- each end has the receiver's lane, and so its line
 pub take_in-pass-requires-clause-ended : goal.take_in-pass-requires-clause-ended
-take_in-pass-requires-clause-ended g c = λ k d below.
-    let lane = ap (λ (r : Receiving g.row.T.Denot). r.lane) c.receiver.view_is in
-    let line = ap (λ (r : Receiving g.row.T.Denot). r.line) c.receiver.view_is in
-    c.requires k d below (c.if-not-are_of.ensures.0 refl k d below ∙ lane) ∙ sym line ∙ sym (ap line_of c.deref.ensures)
+take_in-pass-requires-clause-ended g c = search (arith, c.receiver.view_is, c.requires, c.if-not-are_of.ensures.0)
 
 pub drain-requires-clause-pass : goal.drain-requires-clause-pass
-drain-requires-clause-pass g c =
-    let of_line = c.take_in-pass.ensures.pass in
-    let same = ap line_of (c.deref.ensures ∙ sym c.deref-2.ensures) in
-    ((of_line.0 ∙ same, of_line.1), knows_itself _ _ _ _ c.take_in-pass.ensures.knows)
+drain-requires-clause-pass g c = search (arith, knows_itself, c.take_in-pass.ensures.pass)
 
 pub drain-requires-clause-left : goal.drain-requires-clause-left
 drain-requires-clause-left g c = (c.receiver.invariant.3, c.receiver.invariant.4)
@@ -53,12 +38,7 @@ drain-requires-clause-whole g c =
     covers_as _ _ _ _ _ c.take_in-pass.ensures.knows made whole
 
 pub returns-clause-whole : goal.returns-clause-whole
-returns-clause-whole g c =
-    let lane = ap (λ (r : Receiving g.row.T.Denot). r.lane) c.receiver.view_is in
-    let senders = ap (λ (r : Receiving g.row.T.Denot). r.senders) c.receiver.view_is in (
-      subst (λ n. All (λ (e : Sending g.row.T.Denot). e.lane ≡ n) c.args.ended.items) lane (c.if-not-are_of.ensures.0 refl),
-      subst (λ n. IsWhole n c.args.ended.items) senders (c.if-not-are_whole.ensures.0 refl),
-    )
+returns-clause-whole g c = search (arith, c.receiver.view_is, c.if-not-are_of.ensures.0, c.if-not-are_whole.ensures.0)
 
 pub returns-clause-last : goal.returns-clause-last
 returns-clause-last g c =
