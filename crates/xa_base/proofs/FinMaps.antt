@@ -1,4 +1,5 @@
 -- Finite maps that are made of lists.
+use Rattle.std.proofs.Common.{arith, rules}
 use Rattle.std.specs.Prelude.{◌≡◌, Bool, true, false, cond, ◌||◌, ◌&&◌, T, List, [], ◌∷◌, map, None, Some, option_map, refl}
 use Rattle.std.proofs.Common.{sym, ap, ◌∙◌}
 use Rattle.std.specs.List.{list_any}
@@ -65,35 +66,14 @@ module _ {K X : Type 0} {R : K → K → Ordering} (o : IsTotalOrder R) (same : 
   has_first p e es t = (e.0, (e.1, (ap (λ r. cond (is_eq r) (Some e.1) (find R e.0 es)) (tied_itself o e.0), t)))
 
   has_later : (p : K → X → Bool) (e : K × X) (es : List (K × X)) → find R e.0 es ≡ None → Has p es → Has p (e ∷ es)
-  has_later p e es none h = (
-    h.0,
-    (
-      h.1.0,
-      (
-        elim (eq_by_cmp R h.0 e.0) as (λ b. eq_by_cmp R h.0 e.0 ≡ b → cond b (Some e.1) (find R h.0 es) ≡ Some h.1.0) [
-          | true ↦ λ t. let k = same _ _ (is_equal _ t) in let n = ap (λ (z : K). find R z es) k ∙ none in let f = h.1.1.0 in cc
-          | false ↦ λ t. h.1.1.0
-        ] refl,
-        h.1.1.1,
-      ),
-    ),
-  )
+  has_later p e es none h = search (arith, is_equal, h.0, h.1.1.0)
 
   has_split : (p : K → X → Bool) (e : K × X) (es : List (K × X)) → Has p (e ∷ es) → (p e.0 e.1 ≡ false) → Has p es
-  has_split p e es h fails =
-      elim (eq_by_cmp R h.0 e.0) as (λ b. eq_by_cmp R h.0 e.0 ≡ b → cond b (Some e.1) (find R h.0 es) ≡ Some h.1.0 → Has p es) [
-        | true ↦ λ t f. let k = same _ _ (is_equal _ t) in let y = h.1.1.1 in let z : p h.0 h.1.0 ≡ p e.0 e.1 = cc in cc
-        | false ↦ λ t f. (h.0, (h.1.0, (f, h.1.1.1)))
-      ] refl h.1.1.0
+  has_split p e es h fails = search (arith, is_equal, h.0, h.1.1.1, e.0)
 
   any_has : (p : K → X → Bool) (es : List (K × X)) → Distinct es → Decides (list_any (λ (e : K × X). p e.0 e.1) es) (Has p es)
   any_has p [] d = (λ t. absurd (cc), λ h. let f = h.1.1.0 in cc)
-  any_has p (e ∷ es) d =
-      let rest = any_has p es d.1 in
-      elim (p e.0 e.1) as (λ b. p e.0 e.1 ≡ b → Decides (b || list_any (λ (e : K × X). p e.0 e.1) es) (Has p (e ∷ es))) [
-        | true ↦ λ t. (λ _. has_first p e es t, λ _. refl)
-        | false ↦ λ t. (λ h. has_later p e es d.0 (rest.0 h), λ h. rest.1 (has_split p e es h t))
-      ] refl
+  any_has p (e ∷ es) d = search (arith, any_has p es d.1, Decides, has_first, has_later, has_split, d.1, d.0)
 
   sorted_distinct : (es : List (K × X)) → T (is_sorted R es) → Distinct es
   sorted_distinct [] h = tt
@@ -111,11 +91,7 @@ module _ {K X : Type 0} {R : K → K → Ordering} (o : IsTotalOrder R) (same : 
   find-map_values : (f : K → X → X) (es : List (K × X)) (q : K)
       → find R q (map {B = K × X} (λ (e : K × X). (e.0, f e.0 e.1)) es) ≡ option_map (f q) (find R q es)
   find-map_values f [] q = refl
-  find-map_values f (e ∷ es) q =
-      elim (eq_by_cmp R q e.0) as (λ b. eq_by_cmp R q e.0 ≡ b → cond b (Some (f e.0 e.1)) (find R q (map {B = K × X} (λ (e : K × X). (e.0, f e.0 e.1)) es)) ≡ option_map (f q) (cond b (Some e.1) (find R q es))) [
-        | true ↦ λ t. ap (λ k. Some (f k e.1)) (sym (same _ _ (is_equal _ t)))
-        | false ↦ λ t. find-map_values f es q
-      ] refl
+  find-map_values f (e ∷ es) q = search (arith, find-map_values f es q, is_equal)
 
   -- a value of the map whose values were changed
   pub get-map_values : (f : K → X → X) (m : FinMap R X) (q : K) → get (map_values f m) q ≡ option_map (f q) (get m q)

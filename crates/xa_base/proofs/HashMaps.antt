@@ -1,4 +1,5 @@
 -- The finite map that the entries of a hash map make.
+use Rattle.std.proofs.Common.{arith}
 use Rattle.std.specs.Prelude.{◌≡◌, Bool, false, cond, List, [], ◌∷◌, Option, None, Some, refl}
 use Rattle.std.proofs.Common.{sym, ap, ◌∙◌}
 use Rattle.std.specs.Ordering.{eq_by_cmp}
@@ -23,10 +24,7 @@ pub retained : {F K X : Type 0} (T : F → K → X → Bool → X → F → Type
     → ((f : F) (k : K) (v : X) (b : Bool) (w : X) (g : F) → T f k v b w g → (b ≡ p v) × (w ≡ v))
     → (f : F) (es kept : List (K × X)) → RetainsPairs T f es kept → kept ≡ filter (λ e. p e.1) es
 retained T p each f [] kept r = r
-retained T p each f (e ∷ es) kept r =
-    let call = each f e.0 e.1 r.0 r.1 r.2 r.4 in
-    let later : r.3 ≡ filter (λ e. p e.1) es = retained T p each r.2 es r.3 r.5 in
-    r.6 ∙ (λ i. cond (call.0 i) ((e.0, call.1 i) ∷ later i) (later i))
+retained T p each f (e ∷ es) kept r = search (arith, retained T p each r.2 es r.3 r.5, r.0, r.1, r.2, r.4, r.3, r.5)
 
 module _ {K X : Type 0} {R : K → K → Ordering} (eq : K → K → Bool) (o : IsTotalOrder R) (same : IsAntisymmetric R)
     (by_cmp : (x y : K) → eq x y ≡ eq_by_cmp R x y) where

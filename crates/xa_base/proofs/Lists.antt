@@ -1,4 +1,5 @@
 -- Lemmas of lists: what is in their places, lists side by side, and numbers that follow each other.
+use Rattle.std.proofs.Common.{rules}
 use Rattle.std.proofs.Common.{append_assoc, append-nil, ◌≡◌, ◌≢◌, ℕ, ◌+◌, ◌<◌, ◌≤◌, ◌⊎◌, ⊎_elim, zero, suc, Bool, true, false, cond, ◌==◌, ◌||◌, List, [], ◌∷◌}
 use Rattle.std.proofs.Common.{◌++◌, length, map, Some, None, sym, refl, ap, ◌∙◌, subst, inl, inr, arith, length-append, take}
 use Rattle.std.specs.Prelude.{slice_get, slice_set, option_map, All}
@@ -49,41 +50,22 @@ pub got_push : {A : Type 0} (xs : List A) (x : A) (k : ℕ) (y : A) → slice_ge
 got_push [] x zero y e = inr (refl, some_same y x (sym e))
 got_push [] x (suc k) y e = absurd (cc)
 got_push (z ∷ xs) x zero y e = inl e
-got_push {A} (z ∷ xs) x (suc k) y e =
-    ⊎_elim (λ (h : slice_get xs k ≡ Some y). inl h) (λ (h : (k ≡ length xs) × (y ≡ x)). inr (omega (arith, h.0), h.1)) (got_push xs x k y e)
+got_push {A} (z ∷ xs) x (suc k) y e = search (arith, got_push xs x k y e)
 
 module _ {A B : Type 0} (P : A → B → Type 0) where
   pub none_side : (xs : List A) (ys : List B) → xs ≡ [] → ys ≡ [] → Pairwise P xs ys
-  none_side xs ys e f = record {
-    as_many = ap (λ l. length l) f ∙ sym (ap (λ l. length l) e);
-    each = λ k x y at at'. absurd (let within = slice_get_within xs k x at in let none = ap (λ l. length l) e in omega (arith, within, none));
-  }
+  none_side xs ys e f = search (arith, slice_get_within)
 
   pub push_side : (xs : List A) (ys : List B) (x : A) (y : B) → Pairwise P xs ys → P x y → Pairwise P (xs ++ x ∷ []) (ys ++ y ∷ [])
-  push_side xs ys x y all here = record {
-    as_many = let many = all.as_many in omega (arith, many, length-append xs (x ∷ []), length-append ys (y ∷ []));
-    each = λ k v w at_v at_w.
-        ⊎_elim
-        (λ (h : slice_get xs k ≡ Some v).
-        ⊎_elim (λ (i : slice_get ys k ≡ Some w). all.each k v w h i)
-        (λ (i : (k ≡ length ys) × (w ≡ y)). absurd (let within = slice_get_within xs k v h in let many = all.as_many in let last = i.0 in omega (arith, within, many, last)))
-        (got_push ys y k w at_w))
-        (λ (h : (k ≡ length xs) × (v ≡ x)).
-        ⊎_elim (λ (i : slice_get ys k ≡ Some w). absurd (let within = slice_get_within ys k w i in let many = all.as_many in let last = h.0 in omega (arith, within, many, last)))
-        (λ (i : (k ≡ length ys) × (w ≡ y)). subst (λ b. P v b) (sym i.1) (subst (λ a. P a y) (sym h.1) here))
-        (got_push ys y k w at_w))
-        (got_push xs x k v at_v);
-  }
+  push_side xs ys x y all here = search (arith, length-append, slice_get_within, got_push, all.as_many, all.each)
 
 pub one_more : {A : Type 0} (xs : List A) (i : ℕ) (x : A) → i < length xs → x ≡ slice_index_or xs i x → take (i + 1) xs ≡ take i xs ++ x ∷ []
-one_more xs i x below is =
-    let next_one : i + 1 ≡ suc i = omega arith in ap (λ n. take n xs) next_one ∙ take-suc xs i x below ∙ ap (λ y. take i xs ++ y ∷ []) (sym is)
+one_more xs i x below is = search (arith, take-suc)
 
 -- one more number
 pub range_suc : (a n : ℕ) → range_with_len a (suc n) ≡ range_with_len a n ++ (a + n) ∷ []
 range_suc a zero = let same : a ≡ a + 0 = omega arith in ap (λ x. x ∷ []) same
-range_suc a (suc n) =
-    let same : a + 1 + n ≡ a + suc n = omega arith in ap (λ l. a ∷ l) (range_suc (a + 1) n ∙ ap (λ x. range_with_len (a + 1) n ++ x ∷ []) same)
+range_suc a (suc n) = search (arith, range_suc (a + 1) n)
 
 pub range_more : (n : ℕ) → range_with_len 1 (n + 1) ≡ range_with_len 1 n ++ (n + 1) ∷ []
 range_more n =
@@ -105,10 +87,7 @@ taken_next ys left rest xs x step so_far = append_assoc ys (x ∷ []) rest ∙ a
 
 pub next_place : {A : Type 0} (ys left rest xs : List A) (x : A) → left ≡ x ∷ rest → ys ++ left ≡ xs
     → (length ys < length xs) × (slice_index_or xs (length ys) x ≡ x)
-next_place ys left rest xs x step so_far =
-    let whole : ys ++ x ∷ rest ≡ xs = ap (λ l. ys ++ l) (sym step) ∙ so_far in
-    let many = ap length whole in
-    (omega (arith, many, length-append ys (x ∷ rest)), ap (λ l. slice_index_or l (length ys) x) (sym whole) ∙ get_or_at ys x rest x (length ys) refl)
+next_place ys left rest xs x step so_far = search (arith, length-append, get_or_at)
 
 -- what goes from the first list to the second, and on to the third
 pub through : {A B C : Type 0} (P : A → B → Type 0) (Q : B → C → Type 0) (R : A → C → Type 0) → ((a : A) (b : B) (c : C) → P a b → Q b c → R a c)
@@ -202,8 +181,7 @@ all_after P xs x ys h = All-tail P x ys (all_right P xs (x ∷ ys) h)
 -- what holds of all that is made of a list
 pub all_unmapped : {A B : Type 0} (f : A → B) (P : B → Type 0) (xs : List A) → All P (map f xs) → All (λ x. P (f x)) xs
 all_unmapped f P [] h = All-nil (λ x. P (f x))
-all_unmapped f P (x ∷ xs) h =
-    All-cons (λ x. P (f x)) x xs (All-head P (f x) (map f xs) h) (all_unmapped f P xs (All-tail P (f x) (map f xs) h))
+all_unmapped f P (x ∷ xs) h = search (arith, all_unmapped f P xs (All-tail P (f x) (map f xs) h), All-cons, All-head, All-tail)
 
 pub all_at : {A : Type 0} (P : A → Type 0) (xs : List A) (k : ℕ) (x : A) → All P xs → slice_get xs k ≡ Some x → P x
 all_at P xs k x all at =
@@ -212,16 +190,10 @@ all_at P xs k x all at =
 
 -- what holds of what is made of the elements of the first list, or of the second
 pub side_of : {A B X : Type 0} (P : X → B → Type 0) (f : A → X) (xs : List A) (ys : List B) → Pairwise (λ x y. P (f x) y) xs ys → Pairwise P (map f xs) ys
-side_of P f xs ys all = record {
-  as_many = all.as_many ∙ sym (length-map xs f);
-  each = λ k z y at at'. let x = was_mapped f xs k z at in subst (λ v. P v y) x.2 (all.each k x.0 y x.1 at');
-}
+side_of P f xs ys all = search (arith, length-map, was_mapped, all.each)
 
 pub side_to : {A B Y : Type 0} (P : A → Y → Type 0) (g : B → Y) (xs : List A) (ys : List B) → Pairwise (λ x y. P x (g y)) xs ys → Pairwise P xs (map g ys)
-side_to P g xs ys all = record {
-  as_many = length-map ys g ∙ all.as_many;
-  each = λ k x z at at'. let y = was_mapped g ys k z at' in subst (λ v. P x v) y.2 (all.each k x y.0 at y.1);
-}
+side_to P g xs ys all = search (arith, length-map, was_mapped, all.each)
 
 -- ---- lists that have grown
 
@@ -279,6 +251,4 @@ flat_push f (y ∷ xs) x = ap (λ l. f y ++ l) (flat_push f xs x) ∙ sym (appen
 
 -- what holds of each number of a range holds in each place
 pub range_all : (P : ℕ → Type 0) (a n : ℕ) → ((m : ℕ) → a ≤ m → m < a + n → P m) → All P (range_with_len a n)
-range_all P a n h k d lt =
-    let below : k < n = let e = length-range_with_len a n in omega (arith, e, lt) in
-    subst P (sym (get_or-range_with_len a n k d below)) (h (a + k) (omega arith) (omega (arith, below)))
+range_all P a n h k d lt = search (arith, length-range_with_len, get_or-range_with_len)

@@ -1,4 +1,5 @@
 -- Lemmas of maps by numbers: what is there after an insertion and a removal.
+use Rattle.std.proofs.Common.{arith}
 use Rattle.std.proofs.Common.{◌≡◌, ◌≢◌, ℕ, cond, Some, None, sym, refl, ap, ◌∙◌, subst, inl, inr}
 use Rattle.std.proofs.lemmas.Bool.{cases_eq}
 use Rattle.std.specs.Ordering.{nat_cmp}
@@ -20,5 +21,4 @@ removed_other m k j differs = finmap.get-remove nat_cmp_total m k j ∙ ap (λ b
 
 -- a number that keeps nothing keeps nothing once a number is freed
 pub removed_none : {V : Type 0} (m : finmap.FinMap nat_cmp V) (k j : ℕ) → finmap.get m j ≡ None → finmap.get (finmap.remove m k) j ≡ None
-removed_none m k j e =
-    elim (cases_eq j k) [ inl same ↦ subst (λ n. finmap.get (finmap.remove m k) n ≡ None) (sym same) (removed_there m k) | inr differs ↦ removed_other m k j differs ∙ e ]
+removed_none m k j e = search (arith, cases_eq, removed_there, removed_other)
