@@ -10,8 +10,8 @@ use Rattle.xa_tables.specs.{HeuristicDecision, State, HeuristicallyCompleted, ha
 use Rattle.xa_tables.specs.{of_thread, tables_after, fate_of, last_or, is_in_doubt as is_unknown, closes, is_close, Tables, History}
 use Rattle.xa_tables.specs.declared.state.State.TheVariants.{Prepared}
 use Rattle.xa_tables.proofs.Law.{Sound, sound_after, last_more}
-use Rattle.xa_tables.proofs.Opened.{opened_on}
-use Rattle.xa_tables.proofs.ShutLemmas.{next-shut, shut_stays}
+use Rattle.xa_tables.proofs.PreparedLaw.{opened_on}
+use Rattle.xa_tables.proofs.LateLaw.{next-shut, shut_stays}
 use Rattle.xa_tables.proofs.Unnamed.{tables_after-append}
 use Rattle.xa_desk.specs.{LedgerView, numbered}
 use Rattle.xa_switch.specs.{answers}

@@ -9,7 +9,7 @@ use Rattle.xa_tables.specs.{decided_fate, is_in_doubt as is_unknown, IsOpening, 
 use Rattle.xa_tables.specs.declared.state.State.TheVariants.{Prepared}
 use Rattle.xa_tables.specs.declared.state.HeuristicDecision.TheVariants as decision
 use Rattle.xa_tables.specs.Histories as history
-use Rattle.xa_tables.proofs.HeuristicLaw.{Decides, Nothing, Completes, decides}
+use Rattle.xa_tables.proofs.PreparedLaw.{Decides, Nothing, Completes, decides}
 use Rattle.xa_tables.proofs.Law.{Sound, sound_after, run_sound, opening_sound, last_more}
 use Rattle.xa_tables.proofs.Unnamed.{tables_after-append}
 use Rattle.xa_atomicity.specs.{ended_as, Tabled}

@@ -8,11 +8,10 @@ use Rattle.xa_tables.specs.{Association, Associated, State, association_of, exis
 use Rattle.xa_tables.specs.{branch_of, state_of, sum_of, Answer, next, association, added, EndsNowhere, coded, tables_after, fate_of, ending, IsOpening, names}
 use Rattle.xa_tables.specs.{held_by, request, LeavesAtWork, DoesWork, Tables, History}
 use Rattle.xa_tables.proofs.AccountLemmas.{touch_cmp_total, touch_self}
-use Rattle.xa_tables.proofs.AddedLaw.{added_law, not_ended, reason_not_done as not_done}
-use Rattle.xa_tables.proofs.Effects.{effect_of}
+use Rattle.xa_tables.proofs.WorthLaw.{added_law, not_ended, reason_not_done as not_done}
+use Rattle.xa_tables.proofs.Effects.{effect_of, Moves, Still, Ended, Added, moves_of, quiet_named}
 use Rattle.xa_tables.proofs.Law.{opening_free}
 use Rattle.xa_tables.proofs.SoundLemmas.{own_put}
-use Rattle.xa_tables.proofs.Moves.{Moves, Still, Ended, Added, moves_of, quiet_named}
 use Rattle.xa_tables.proofs.Unnamed.{unnamed_fate, unnamed_on, tables_after-append}
 use Rattle.xa_tables.proofs.ValueLaw.{get_without, get_added}
 use Rattle.xa_tables.proofs.WorkLaw.{OnlyOne, nobody_is, others_by, others_first, own_request, stays_apart}

@@ -15,7 +15,7 @@ use Rattle.xa_tables.proofs.Effects.{Effect, Stays, Commits, Drops, Forgets, eff
 use Rattle.xa_tables.proofs.Law.{Nowhere, AtWork, standing, voted_rests, nobody_rests, get_gone, sound_after, run_sound, opening_sound}
 use Rattle.xa_tables.proofs.Unnamed.{unnamed_stays, unnamed_fate, tables_after-append}
 use Rattle.xa_tables.proofs.Reopening.{reopens, state_reopened, sums_reopened}
-use Rattle.xa_tables.proofs.FateLaw.{late_leave_fates}
+use Rattle.xa_tables.proofs.LateLaw.{late_leave_fates}
 use Rattle.xa_tables.proofs.PreparedLaw.{outcome_law}
 use Rattle.xa_tables.proofs.WorthLaw.{kept_law}
 use Rattle.xa_driver.specs.{is_commit}

@@ -10,7 +10,7 @@ use Rattle.xa_tables.specs.{reopened_fate, fate_left, left_by, told_by, worth, D
 use Rattle.xa_tables.proofs.AccountLemmas.{key_self, same_key}
 use Rattle.xa_tables.proofs.WorthLaw.{worth_law}
 use Rattle.xa_tables.specs.declared.state.HeuristicDecision.TheVariants as decision
-use Rattle.xa_tables.proofs.FatesLaw.{begin_law}
+use Rattle.xa_tables.proofs.Reopening.{begin_law}
 use Rattle.xa_switch.specs.{IsSettled, IsOpenedWith, first_of, history, settled_fate}
 use Rattle.xa_switch.proofs.Journaled.{follows_first}
 use Rattle.xa_driver.specs.{Ending}

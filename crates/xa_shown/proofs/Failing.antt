@@ -7,7 +7,7 @@ use Rattle.xa_tables.specs.{State, Active, Idle, RollbackOnly, HeuristicallyComp
 use Rattle.xa_tables.specs.{is_left, reason_in, decision_in, Answer, next, by_rules, coded, Tables, History}
 use Rattle.xa_tables.specs.declared.state.State.TheVariants.{Prepared}
 use Rattle.xa_tables.specs.declared.state.HeuristicDecision.TheVariants as decision
-use Rattle.xa_tables.proofs.ShutLemmas.{next-shut}
+use Rattle.xa_tables.proofs.LateLaw.{next-shut}
 use Rattle.xa_desk.specs.{is_rm_fail}
 use Rattle.xa_worker.specs.{Entry, codes_in}
 

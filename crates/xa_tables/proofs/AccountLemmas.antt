@@ -10,7 +10,6 @@ use Rattle.std.specs.declared.cmp.Ordering.{Ordering}
 use Rattle.std.specs.declared.cmp.Ordering.TheVariants.{Equal}
 use Rattle.std.specs.Cmp.{IsTotalOrder}
 use Rattle.std.proofs.lemmas.Cmp.{then_total, on_total}
-use Rattle.std.specs.FinMap as finmap
 use Rattle.std.specs.FinMap.{IsAntisymmetric}
 use Rattle.xa_words.specs.{XidName, xid_cmp, xid_eq, IsDelta, key_eq, key_cmp_total, key_cmp-IsAntisymmetric, xid_cmp_total, xid_cmp-IsAntisymmetric}
 use Rattle.xa_words.specs.{xid_eq-by_cmp, Decides-xid_eq, Decides-key_eq}
@@ -23,6 +22,7 @@ use Rattle.xa_tables.specs.{Account, Hold, Touch, touch_cmp, is_within, value_of
 use Rattle.xa_tables.specs.{with_hold, hold_entries, value_entries, AreDistinct, AreDistinctEntries, hold_is_of, is_held_by, hold_is_other, hold_breaks}
 use Rattle.xa_tables.specs.{is_broken_by, amount_in, added_to, hold_where, hold_without, kept_where, all_but, amount_of, posted_by}
 use Rattle.xa_tables.proofs.SoundLemmas.{swap_xid}
+use Rattle.std.specs.FinMap as finmap
 
 -- touches are ordered, and no two are tied
 pub touch_cmp_total : IsTotalOrder touch_cmp
@@ -50,9 +50,6 @@ key_from k l t = key_cmp-IsAntisymmetric k l (is_equal _ t)
 pub key_self : (k : List ℕ) → same_key k k ≡ true
 key_self k = ap is_eq (tied_itself key_cmp_total k)
 
-pub touch_from : (p q : Touch) → same_touch p q ≡ true → p ≡ q
-touch_from p q t = touch_cmp-IsAntisymmetric p q (is_equal _ t)
-
 pub touch_self : (p : Touch) → same_touch p p ≡ true
 touch_self p = ap is_eq (tied_itself touch_cmp_total p)
 
@@ -60,7 +57,7 @@ touch_self p = ap is_eq (tied_itself touch_cmp_total p)
 then_is : (a b : Ordering) → is_eq (ordering_then a b) ≡ (is_eq a && is_eq b)
 then_is a b = grind arith
 
-touch_same : (x y : XidName) (k l : List ℕ) → same_touch (x, k) (y, l) ≡ (xid_eq y x && same_key k l)
+pub touch_same : (x y : XidName) (k l : List ℕ) → same_touch (x, k) (y, l) ≡ (xid_eq y x && same_key k l)
 touch_same x y k l = then_is (xid_cmp x y) (key_cmp k l) ∙ ap (λ b. b && same_key k l) (sym (xid_eq-by_cmp x y) ∙ swap_xid x y)
 
 pub key_apart : (k l : List ℕ) → (k ≡ l → ⊥) → same_key k l ≡ false
@@ -146,10 +143,8 @@ any_hold p q [] is = refl
 any_hold p q (a ∷ rest) is =
     let Q : Account → Type 0 = λ c. q c ≡ elim (c.hold) [ None ↦ false | Some l ↦ p (l.xid, c.key) l.amount ] in
     let later = any_hold p q rest (All-tail Q a rest is) in
-    (elim (a.hold) as (λ o. list_any (λ (e : Touch × ℤ). p e.0 e.1) (with_hold a.key o (hold_entries rest)) ≡ (elim o [ None ↦ false | Some l ↦ p (l.xid, a.key) l.amount ] || list_any q rest)) [
-      | None ↦ later
-      | Some l ↦ ap (λ b. p (l.xid, a.key) l.amount || b) later
-    ]) ∙ ap (λ b. b || list_any q rest) (sym (All-head Q a rest is))
+    let here = All-head Q a rest is in
+    grind arith
 
 hold_of_cases : (x : XidName) (a : Account) → is_held_by a x ≡ elim (a.hold) [ None ↦ false | Some l ↦ xid_eq l.xid x ]
 hold_of_cases x a = elim (a.hold) as (λ o. hold_is_of o x ≡ elim o [ None ↦ false | Some l ↦ xid_eq l.xid x ]) [ None ↦ refl | Some l ↦ refl ]
@@ -301,15 +296,10 @@ IsFor x (Some l) = l.xid ≡ x
 at_key_set : (k : List ℕ) (accounts : List Account) (i : ℕ) (b : Account) → AreDistinct accounts → i < length accounts → b.key ≡ (get_or accounts i b).key
     → at_key k (set accounts i b) ≡ cond (same_key k b.key) (Some b) (at_key k accounts)
 at_key_set k [] i b dist h same = absurd (omega arith)
-at_key_set k (c ∷ rest) zero b dist h same =
-    by_bool (λ t. cond t (Some b) (at_key k rest) ≡ cond t (Some b) (cond t (Some c) (at_key k rest))) (same_key k b.key) (λ _. refl) (λ _. refl)
-    ∙ ap (λ q. cond (same_key k b.key) (Some b) (cond (same_key k q) (Some c) (at_key k rest))) same
+at_key_set k (c ∷ rest) zero b dist h same = grind arith
 at_key_set k (c ∷ rest) (suc i) b dist h same =
     let there = at_own_key rest i (get_or rest i b) dist.1 (omega arith) (get_or_default rest i b (get_or rest i b) (omega arith)) in
-    ap (cond (same_key k c.key) (Some c)) (at_key_set k rest i b dist.1 (omega arith) same)
-    ∙ by_bool (λ t. same_key k c.key ≡ t → cond t (Some c) (cond (same_key k b.key) (Some b) (at_key k rest)) ≡ cond (same_key k b.key) (Some b) (cond t (Some c) (at_key k rest))) (same_key k c.key)
-    (λ _ t. sym (ap (λ u. cond u (Some b) (Some c)) (key_apart k b.key (λ is.
-    let none = ap (λ q. at_key q rest) (sym (sym (key_from k c.key t) ∙ is ∙ same)) ∙ lacks_key c.key rest dist.0 in cc)))) (λ _ _. refl) refl
+    grind (arith, (at_key_set k rest i b dist.1 (omega arith) same), key_apart, key_from, lacks_key)
 
 for_other : (x y : XidName) (o : Option Hold) → IsFor x o → xid_eq x y ≡ false → hold_amount y o ≡ None
 for_other x y o h e = grind arith

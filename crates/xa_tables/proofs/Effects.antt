@@ -1,20 +1,20 @@
 -- What one request does to the tables. The rules are walked here alone: a law of all requests is one of their effects.
-use Rattle.xa_base.proofs.{◌≡◌, ℕ, ℤ, pos, Bool, true, false, not, ◌&&◌, ◌||◌, if◌then◌else◌, Option, None, Some, List, refl, arith, ap, ◌∙◌, ◌⊎◌, inl, inr}
-use Rattle.xa_base.proofs.{or-true, and_parts, or_parts, not-false, by_if}
-use Rattle.std.specs.FinSet as set
+use Rattle.xa_base.proofs.{◌≡◌, ℕ, ℤ, pos, Bool, true, false, not, ◌&&◌, ◌||◌, if◌then◌else◌, Option, None, Some, List, refl, arith, ap, ◌∙◌, ◌⊎◌, or-true}
+use Rattle.xa_base.proofs.{not-false, by_if, sym, subst}
 use Rattle.xa_words.specs.{XidName, xid_eq, Done, RdOnly, RbRollback, RbIntegrity, RbTransient, Async, RmErr, Nota, Inval, Proto, RmFail, DupId, Outside, Op}
 use Rattle.xa_words.specs.{OpenRm, CloseRm, Start, Add, End, Prepare, Commit, Rollback, Forget, Heur, Listed, Shut, StartHow, Fresh, Join, Resume, EndHow}
 use Rattle.xa_words.specs.{Success, Suspend, Fail, Code}
-use Rattle.xa_tables.specs.{State, Active, Idle, RollbackOnly, Failed, Transient, Association, has_opened, association_of, has_association, is_T1, branch_in}
-use Rattle.xa_tables.specs.{state_of, exists, is_S4, is_suspended, is_associated, is_idle, is_prepared, is_rollback_only, is_completed, is_left, is_S5}
-use Rattle.xa_tables.specs.{reason_in, reason_of, decision_in, decision_of, is_somebody_associated, is_declared, has_touched, has_other_touched, is_broken}
-use Rattle.xa_tables.specs.{Answer, next, by_rules, open_rm, close_rm, start, add, end, prepare, commit_one, commit_two, rollback, heur, forget, listed}
-use Rattle.xa_tables.specs.{is_suspend, associated, suspended, dissociated, stated, added, gone, completed, committed, shut_down, Fate, ReadOnly, RolledBack}
-use Rattle.xa_tables.specs.{fate_of, if_named, prepare_fate, commit_fate, rollback_fate, ending_by, is_done, is_rolled_back, share_of, names, moved_by, held_by}
-use Rattle.xa_tables.specs.{Tables}
+use Rattle.xa_tables.specs.{State, Active, Idle, RollbackOnly, Failed, Transient, Association, association_of, has_association, is_T1, branch_in, state_of}
+use Rattle.xa_tables.specs.{exists, is_S4, is_suspended, is_associated, is_prepared, is_rollback_only, is_completed, is_left, is_S5, reason_in, reason_of}
+use Rattle.xa_tables.specs.{decision_in, is_somebody_associated, is_declared, has_other_touched, is_broken, Answer, next, by_rules, open_rm, close_rm, start}
+use Rattle.xa_tables.specs.{add, end, prepare, commit_one, commit_two, rollback, heur, forget, listed, is_suspend, associated, suspended, dissociated, stated}
+use Rattle.xa_tables.specs.{added, gone, completed, committed, shut_down, Fate, ReadOnly, RolledBack, fate_of, if_named, prepare_fate, commit_fate}
+use Rattle.xa_tables.specs.{rollback_fate, ending_by, is_done, is_rolled_back, share_of, names, moved_by, held_by, Tables, sums_without, Live, InDoubt}
+use Rattle.xa_tables.specs.{Committed, HeurCommitted, HeurRolledBack, ending}
 use Rattle.xa_tables.specs.declared.state.State.TheVariants.{Prepared as S3}
-use Rattle.xa_tables.specs.declared.state.HeuristicDecision.TheVariants as decision
 use Rattle.xa_tables.specs.Next.{forgotten}
+use Rattle.std.specs.FinSet as set
+use Rattle.xa_tables.specs.declared.state.HeuristicDecision.TheVariants as decision
 
 -- ---- what a code tells
 
@@ -90,16 +90,6 @@ undone_commit c e = grind arith
 not_done : (r : Code) → is_rolled_back r ≡ true → is_done r ≡ false
 not_done r e = grind arith
 
-rollback_drops : (y : XidName) (c : Code) → (is_done c || is_rolled_back c) ≡ true → TellsDropped (Rollback y) y c
-rollback_drops y c e = record {
-  fate = RolledBack;
-  uncommitted = refl;
-  fates = λ x. ap (λ b. if_named x y (if b then Some RolledBack else None)) e;
-  shares = λ k l later. refl;
-  moved = λ accounts T. refl;
-  named = λ x. refl;
-}
-
 -- ---- the effects
 
 -- what a request of thread t that is so answered does to the tables T
@@ -147,25 +137,22 @@ module _ (t : ℕ) (T : Tables) where
   at_if : {op : Op} {p q : Answer} (b : Bool) → (b ≡ true → Effect t T op p) → (b ≡ false → Effect t T op q) → Effect t T op (if b then p else q)
   at_if {op = op} b = by_if (Effect t T op) b _ _
 
+  close_stays : Effect t T CloseRm (T, Done)
+  close_stays = Stays CloseRm Done (record { fates = λ x. refl; shares = λ k l later. refl; moved = λ accounts U. refl })
+
+  join_stays : (y : XidName) (c : Code) → Effect t T (Start y Join) (T, c)
+  join_stays y c = Stays (Start y Join) c (record { fates = λ x. named_none x y; shares = λ k l later. refl; moved = λ accounts U. refl })
+
+  listed_stays : (x : Option XidName) (c : Code) → Effect t T (Listed x) (T, c)
+  listed_stays x c = Stays (Listed x) c (record { fates = λ y. refl; shares = λ k l later. refl; moved = λ accounts U. refl })
+
   at_close : Effect t T CloseRm (close_rm t T)
-  at_close =
-      at_if (not (has_opened T t)) (λ _. Stays CloseRm Done (record { fates = λ x. refl; shares = λ k l later. refl; moved = λ accounts T. refl })) (λ _.
-      at_if (has_association T t) (λ _. refuses refl) (λ _. Closes))
+  at_close = grind (arith, refuses, close_stays, Closes)
 
   at_start : (how : StartHow) (y : XidName) → Effect t T (Start y how) (start how t y T)
-  at_start Fresh y =
-      at_if (has_association T t) (λ _. refuses refl) (λ free.
-      at_if (exists T y) (λ _. refuses refl) (λ _. Starts y free))
-  at_start Join y =
-      at_if (has_association T t) (λ _. refuses refl) (λ free.
-      at_if (not (exists T y)) (λ _. refuses refl) (λ there.
-      at_if (is_left T y) (λ _. refuses refl) (λ unprepared.
-      at_if (is_rollback_only T y)
-      (λ _. Stays (Start y Join) (reason_of T y) (record { fates = λ x. named_none x y; shares = λ k l later. refl; moved = λ accounts T. refl })) (λ _.
-      Joins y free (not-false _ there) unprepared))))
-  at_start Resume y =
-      at_if (is_associated T t y && is_suspended T t) (λ own. Resumes y (and_parts _ _ own).0) (λ _.
-      at_if (not (exists T y)) (λ _. refuses refl) (λ _. refuses refl))
+  at_start Fresh y = grind (arith, refuses, Starts)
+  at_start Join y = grind (arith, refuses, join_stays, Joins)
+  at_start Resume y = grind (arith, refuses, Resumes)
 
   -- the rule of an addition by a thread with this association
   abbrev add_with : Option Association → List ℕ → ℤ → Answer
@@ -206,63 +193,52 @@ module _ (t : ℕ) (T : Tables) where
   at_end Success y =
       at_end_by Success y (if is_somebody_associated (dissociated t T).associations y then (dissociated t T, Done) else (stated y Idle (dissociated t T), Done)) (λ own. at_if (is_somebody_associated (dissociated t T).associations y) (λ left. Leaves y Success Done own (ap (λ b. is_rollback_only T y || b) left ∙ or-true (is_rollback_only T y))) (λ alone. Idles y own alone))
 
+  reads : (y : XidName) → is_somebody_associated T.associations y ≡ false → Effect t T (Prepare y) (gone y T, RdOnly)
+  reads y nobody =
+      Drops (Prepare y) y RdOnly nobody (record { fate = ReadOnly; uncommitted = refl; fates = λ x. refl; shares = λ k l later. refl; moved = λ accounts U. refl; named = λ x. refl })
+
+  breaks : (y : XidName) → is_somebody_associated T.associations y ≡ false → Effect t T (Prepare y) (gone y T, RbIntegrity)
+  breaks y nobody =
+      Drops (Prepare y) y RbIntegrity nobody (record { fate = RolledBack; uncommitted = refl; fates = λ x. refl; shares = λ k l later. refl; moved = λ accounts U. refl; named = λ x. refl })
+
   at_prepare : (y : XidName) → Effect t T (Prepare y) (prepare y T)
-  at_prepare y =
-      at_if (not (exists T y)) (λ _. refuses refl) (λ _.
-      at_if (is_somebody_associated T.associations y || (is_prepared T y || (is_rollback_only T y || is_completed T y))) (λ _. refuses refl) (λ free.
-      let nobody = (or_parts (is_somebody_associated T.associations y) _ free).0 in
-      at_if (not (has_touched T.sums y)) (λ _. Drops (Prepare y) y RdOnly nobody (record { fate = ReadOnly; uncommitted = refl; fates = λ x. refl; shares = λ k l later. refl; moved = λ accounts U. refl; named = λ x. refl })) (λ _.
-      at_if (is_broken T.values T.sums y) (λ _. Drops (Prepare y) y RbIntegrity nobody (record { fate = RolledBack; uncommitted = refl; fates = λ x. refl; shares = λ k l later. refl; moved = λ accounts U. refl; named = λ x. refl })) (λ unbroken. Prepares y nobody unbroken))))
+  at_prepare y = grind (arith, refuses, reads, breaks, Prepares)
+
+  commit_breaks : (y : XidName) → is_somebody_associated T.associations y ≡ false → Effect t T (Commit y true) (gone y T, RbIntegrity)
+  commit_breaks y nobody =
+      Drops (Commit y true) y RbIntegrity nobody (record { fate = RolledBack; uncommitted = refl; fates = λ x. refl; shares = λ k l later. refl; moved = λ accounts U. refl; named = λ x. refl })
+
+  commit_told : (y : XidName) (c : Code) → commit_fate c ≡ None → Effect t T (Commit y false) (T, c)
+  commit_told y c none = Stays (Commit y false) c (record {
+    fates = λ x. ap (if_named x y) none ∙ named_none x y;
+    shares = λ k l later. refl;
+    moved = λ accounts U. ap (λ b. if b then held_by accounts y U else pos 0) (undone_commit c none);
+  })
 
   at_commit : (one_phase : Bool) (y : XidName) → Effect t T (Commit y one_phase) (if one_phase then commit_one y T else commit_two y T)
-  at_commit true y =
-      at_if (not (exists T y)) (λ _. refuses refl) (λ _.
-      at_if (is_somebody_associated T.associations y || not (is_idle T y)) (λ _. refuses refl) (λ free.
-      let nobody = (or_parts (is_somebody_associated T.associations y) _ free).0 in
-      at_if (is_broken T.values T.sums y) (λ _. Drops (Commit y true) y RbIntegrity nobody (record { fate = RolledBack; uncommitted = refl; fates = λ x. refl; shares = λ k l later. refl; moved = λ accounts U. refl; named = λ x. refl })) (λ unbroken. Commits y true nobody (inr unbroken))))
-  at_commit false y =
-      at_if (not (exists T y)) (λ _. refuses refl) (λ _.
-      at_if (is_completed T y) (λ decided.
-      let none = decision_commits_nothing (state_of T y) decided in
-      Stays (Commit y false) (decision_of T y) (record {
-        fates = λ x. ap (if_named x y) none ∙ named_none x y;
-        shares = λ k l later. refl;
-        moved = λ accounts U. ap (λ b. if b then held_by accounts y U else pos 0) (undone_commit (decision_of T y) none);
-      })) (λ _.
-      at_if (is_somebody_associated T.associations y || not (is_prepared T y)) (λ _. refuses refl) (λ free.
-      let parts = or_parts (is_somebody_associated T.associations y) _ free in
-      Commits y false parts.0 (inl (not-false (is_prepared T y) parts.1)))))
+  at_commit true y = grind (arith, refuses, commit_breaks, Commits)
+  at_commit false y = grind (arith, refuses, commit_told, decision_commits_nothing, Commits)
+
+  rollback_told : (y : XidName) (c : Code) → rollback_fate c ≡ None → Effect t T (Rollback y) (T, c)
+  rollback_told y c none =
+      Stays (Rollback y) c (record { fates = λ x. ap (if_named x y) none ∙ named_none x y; shares = λ k l later. refl; moved = λ accounts U. refl })
+
+  rollback_drops : (y : XidName) (c : Code) → is_somebody_associated T.associations y ≡ false → (is_done c || is_rolled_back c) ≡ true
+      → Effect t T (Rollback y) (gone y T, c)
+  rollback_drops y c nobody e =
+      Drops (Rollback y) y c nobody (record { fate = RolledBack; uncommitted = refl; fates = λ x. ap (λ b. if_named x y (if b then Some RolledBack else None)) e; shares = λ k l later. refl; moved = λ accounts U. refl; named = λ x. refl })
 
   at_rollback : (y : XidName) → Effect t T (Rollback y) (rollback y T)
-  at_rollback y =
-      at_if (not (exists T y)) (λ _. refuses refl) (λ _.
-      at_if (is_completed T y) (λ decided. Stays (Rollback y) (decision_of T y) (record {
-        fates = λ x. ap (if_named x y) (decision_rolls_nothing_back (state_of T y) decided) ∙ named_none x y;
-        shares = λ k l later. refl;
-        moved = λ accounts U. refl;
-      })) (λ _.
-      at_if (is_somebody_associated T.associations y) (λ _. refuses refl) (λ nobody.
-      at_if (is_rollback_only T y) (λ doomed. Drops (Rollback y) y (reason_of T y) nobody (rollback_drops y (reason_of T y) (ap (λ b. is_done (reason_of T y) || b) (reason_rolls_back (state_of T y) doomed) ∙ or-true (is_done (reason_of T y))))) (λ _.
-      Drops (Rollback y) y Done nobody (rollback_drops y Done refl)))))
+  at_rollback y = grind (arith, refuses, rollback_told, decision_rolls_nothing_back, rollback_drops, reason_rolls_back)
 
   at_heur : (commits : Bool) (y : XidName) → Effect t T (Heur y commits) (heur y commits T)
-  at_heur true y =
-      at_if (not (exists T y)) (λ _. refuses refl) (λ _.
-      at_if (not (is_prepared T y)) (λ _. refuses refl) (λ voted. CommitsByItself y (not-false (is_prepared T y) voted)))
-  at_heur false y =
-      at_if (not (exists T y)) (λ _. refuses refl) (λ _.
-      at_if (not (is_prepared T y)) (λ _. refuses refl) (λ voted. RollsBackByItself y (not-false (is_prepared T y) voted)))
+  at_heur commits y = grind (arith, refuses, CommitsByItself, RollsBackByItself)
 
   at_forget : (y : XidName) → Effect t T (Forget y) (forget y T)
-  at_forget y =
-      at_if (not (exists T y)) (λ _. refuses refl) (λ _.
-      at_if (not (is_completed T y)) (λ _. refuses refl) (λ decided. Forgets y (not-false (is_completed T y) decided)))
+  at_forget y = grind (arith, refuses, Forgets)
 
   at_listed : (x : Option XidName) → Effect t T (Listed x) (listed x T)
-  at_listed None = Stays (Listed None) Done (record { fates = λ x. refl; shares = λ k l later. refl; moved = λ accounts T. refl })
-  at_listed (Some y) =
-      at_if (is_left T y) (λ _. Stays (Listed (Some y)) Done (record { fates = λ x. refl; shares = λ k l later. refl; moved = λ accounts T. refl }))
-      (λ _. refuses refl)
+  at_listed x = grind (arith, refuses, listed_stays)
 
   pub at_rules : (op : Op) → Effect t T op (by_rules t op T)
   at_rules Shut = Shuts
@@ -282,3 +258,58 @@ module _ (t : ℕ) (T : Tables) where
 pub effect_of : (t : ℕ) (op : Op) (T : Tables) → Effect t T op (next t op T)
 unfolding next
 effect_of t op T = grind (arith, refuses, at_rules)
+
+-- ---- what one request does to sums and values: nothing, a branch ends and has no sums, or a branch adds to a key
+
+pub quiet_named : (x y : XidName) (o : Option Fate) → ending o ≡ None → ending (if_named x y o) ≡ None
+quiet_named x y o e = elim (xid_eq y x) as (λ b. ending (if b then o else None) ≡ None) [ true ↦ e | false ↦ refl ]
+
+pub named_ending : (x y : XidName) (o : Option Fate) → ending (if_named x y o) ≡ (if xid_eq y x then ending o else None)
+named_ending x y o = elim (xid_eq y x) as (λ c. ending (if c then o else None) ≡ (if c then ending o else None)) [ true ↦ refl | false ↦ refl ]
+
+-- the request with this code adds nothing to any key
+abbrev AddsNothing : Op → Code → Type 0
+AddsNothing op c = (k : List ℕ) (l : Option Association) (later : XidName → Bool) → share_of k op c l later ≡ pos 0
+
+-- what a request of a thread with this association that is so answered does to the sums and values of T
+pub data Moves (T : Tables) : Option Association → Op → Answer → Type 0 where
+  -- nothing, and it ends no branch
+  Still : (l : Option Association) (op : Op) (a : Answer) → a.0.sums ≡ T.sums → a.0.values ≡ T.values → AddsNothing op a.1
+      → ((accounts : List (List ℕ × ℕ)) → moved_by accounts op a.1 T ≡ pos 0) → ((x : XidName) → ending (fate_of x op a.1) ≡ None) → Moves T l op a
+  -- y ends, with a commit or without one, and has no sums
+  Ended : (l : Option Association) (op : Op) (a : Answer) (y : XidName) (commits : Bool) → a.0.sums ≡ sums_without T.sums y
+      → a.0.values ≡ (if commits then committed y T else T).values → AddsNothing op a.1
+      → ((accounts : List (List ℕ × ℕ)) → moved_by accounts op a.1 T ≡ (if commits then held_by accounts y T else pos 0))
+      → ((x : XidName) → ending (fate_of x op a.1) ≡ (if xid_eq y x then Some commits else None)) → Moves T l op a
+  -- the thread's branch adds d to a key that no other has touched
+  Added : (own : List ℕ) (d : ℤ) (l : Association) → is_declared T own ≡ true → has_other_touched T.sums l.xid own ≡ false
+      → Moves T (Some l) (Add own d) (added l.xid own d T, Done)
+
+module _ (t : ℕ) (T : Tables) where
+  abbrev Moving : Op → Answer → Type 0
+  Moving op a = Moves T (association_of T t) op a
+
+  by_effect : {op : Op} {a : Answer} → Effect t T op a → Moving op a
+  by_effect (Stays op c tells) = Still _ _ _ refl refl tells.shares (λ accounts. tells.moved accounts T) (λ x. ap ending (tells.fates x))
+  by_effect (Starts y free) = Still _ _ _ refl refl (λ k l later. refl) (λ accounts. refl) (λ x. quiet_named x y (Some Live) refl)
+  by_effect (Joins y free there unprepared) = Still _ _ _ refl refl (λ k l later. refl) (λ accounts. refl) (λ x. quiet_named x y None refl)
+  by_effect (Resumes y own) = Still _ _ _ refl refl (λ k l later. refl) (λ accounts. refl) (λ x. quiet_named x y None refl)
+  by_effect (Dooms own d l mine) = Still _ _ _ refl refl (undone_adds own d RbTransient refl).shares (λ accounts. refl) (λ x. refl)
+  by_effect (Adds own d l mine known alone) =
+      subst (λ (o : Option Association). Moves T o (Add own d) (added l.xid own d T, Done)) (sym mine) (Added own d l known alone)
+  by_effect (Prepares y nobody unbroken) = Still _ _ _ refl refl (λ k l later. refl) (λ accounts. refl) (λ x. quiet_named x y (Some InDoubt) refl)
+  by_effect (Commits y one_phase nobody may) =
+      Ended _ _ _ y true refl refl (λ k l later. refl) (λ accounts. refl) (λ x. named_ending x y (Some Committed))
+  by_effect (Drops op y c nobody tells) =
+      Ended _ _ _ y false refl refl tells.shares (λ accounts. tells.moved accounts T)
+      (λ x. ap ending (tells.fates x) ∙ named_ending x y (Some tells.fate) ∙ ap (λ e. if xid_eq y x then e else None) tells.uncommitted)
+  by_effect (CommitsByItself y voted) =
+      Ended _ _ _ y true refl refl (λ k l later. refl) (λ accounts. refl) (λ x. named_ending x y (Some HeurCommitted))
+  by_effect (RollsBackByItself y voted) =
+      Ended _ _ _ y false refl refl (λ k l later. refl) (λ accounts. refl) (λ x. named_ending x y (Some HeurRolledBack))
+  -- the others change no sum and no value
+  by_effect effect = Still _ _ _ refl refl (λ k l later. refl) (λ accounts. refl) (λ x. refl)
+
+-- each request does one of them
+pub moves_of : (t : ℕ) (op : Op) (T : Tables) → Moves T (association_of T t) op (next t op T)
+moves_of t op T = by_effect t T (effect_of t op T)

@@ -1,21 +1,20 @@
 -- Scans of the places that branches hold, in place of scans of all accounts.
-use Rattle.xa_base.proofs.{◌≡◌, All, ℕ, ℤ, pos, ◌+ℤ◌, zero, suc, ◌+◌, ◌<◌, ◌≤◌, nat_eq, Bool, true, false, not, ◌&&◌, ◌||◌, if◌then◌else◌, List, [], ◌∷◌, ◌++◌}
-use Rattle.xa_base.proofs.{drop, length, map, filter, Option, None, Some, is_some, refl, sym, ap, ◌∙◌, subst, arith, get_or, set, IsDistinct, list_any, FinMap}
-use Rattle.xa_base.proofs.{or-false, eqb-true, eq-eqb, false_from_ne_true, drop_all, get_or_default, get_or-map, get_or-set_other, length-map, length-set}
-use Rattle.xa_base.proofs.{list_any-append, +ℤ_idr as plus_none, none_twice}
+use Rattle.xa_base.proofs.{◌≡◌, All, ℕ, ℤ, pos, ◌+ℤ◌, zero, suc, ◌+◌, ◌<◌, ◌≤◌, nat_eq, Bool, true, false, ◌&&◌, ◌||◌, List, [], ◌∷◌, ◌++◌, drop, length, map}
+use Rattle.xa_base.proofs.{filter, Option, None, Some, is_some, refl, sym, ap, ◌∙◌, subst, arith, get_or, set, IsDistinct, list_any, FinMap, eqb-true, eq-eqb}
+use Rattle.xa_base.proofs.{false_from_ne_true, drop_all, get_or_default, get_or-map, get_or-set_other, length-map, length-set, list_any-append}
+use Rattle.xa_base.proofs.{+ℤ_idr as plus_none, none_twice}
 use Rattle.std.specs.List.{AllByRecursion}
 use Rattle.std.specs.Cmp.{nat_eq_equiv}
-use Rattle.std.proofs.lemmas.Bool.{or_left, or_right}
 use Rattle.std.proofs.lemmas.Grind.{get_or-set_at}
 use Rattle.std.proofs.lemmas.List.{drop_more, length_push, map-set, set-get_or}
 use Rattle.std.proofs.lemmas.List.Folds.{list_any_at, map_fixed}
 use Rattle.std.proofs.lemmas.Map.Keys.{IsDistinct-head, IsDistinct-tail, IsDistinct-cons, IsDistinct-push}
 use Rattle.std.proofs.lemmas.Map.Steps.{length-le_from_distinct_below}
 use Rattle.std.proofs.lemmas.Map.Views.{any-filter_same}
-use Rattle.xa_words.specs.{XidName, xid_eq}
+use Rattle.xa_words.specs.{XidName}
 use Rattle.xa_words.specs.Orders.{key_cmp}
-use Rattle.xa_tables.specs.{Account, Hold, is_within, AreDistinct, AreIndexed, IsGood, hold_is_of, is_held_by, hold_breaks, is_broken_by, hold_where}
-use Rattle.xa_tables.specs.{hold_without, kept_where, all_but, amount_of, added_to, posted_by, passes_at, is_held, is_held_at, AreHeld, noted}
+use Rattle.xa_tables.specs.{Account, Hold, AreDistinct, AreIndexed, IsGood, hold_is_of, is_held_by, hold_breaks, is_broken_by, hold_where, hold_without}
+use Rattle.xa_tables.specs.{kept_where, all_but, amount_of, added_to, posted_by, passes_at, is_held, is_held_at, AreHeld, noted}
 use Rattle.xa_tables.proofs.AccountLemmas.{LetsGo, distinct_changed, passes_none, any_set}
 use Rattle.xa_tables.proofs.PlaceLemmas.{account_of, indexed_map}
 
@@ -52,13 +51,13 @@ passes_set test (c ∷ rest) (suc i) b h = passes_set test rest i b (omega arith
 passes_set_other : (test : Account → Bool) (accounts : List Account) (i j : ℕ) (b : Account) → (j ≡ i → ⊥)
     → passes_at test (set accounts i b) j ≡ passes_at test accounts j
 passes_set_other test [] i j b h = refl
-passes_set_other test (c ∷ rest) zero zero b h = absurd (h refl)
-passes_set_other test (c ∷ rest) zero (suc j) b h = refl
-passes_set_other test (c ∷ rest) (suc i) zero b h = refl
-passes_set_other test (c ∷ rest) (suc i) (suc j) b h = passes_set_other test rest i j b (λ e. h (ap suc e))
+passes_set_other test (c ∷ rest) i j b h = grind (arith, set, (passes_set_other test rest))
 
 pub passes_past : (test : Account → Bool) (accounts : List Account) (i : ℕ) → length accounts ≤ i → passes_at test accounts i ≡ false
 passes_past test accounts i past = false_from_ne_true _ (λ t. let within = passes_within test accounts i t in omega arith)
+
+-- what is read of the account at a place
+pub ruleset read_at = (passes_read, passes_past, get_or_default)
 
 -- one that passes has a place
 any_passes : (test : Account → Bool) (accounts : List Account) → list_any test accounts ≡ true → (i : ℕ) × (passes_at test accounts i ≡ true)
@@ -73,11 +72,7 @@ any_passes test (a ∷ rest) h =
 
 any_at : (test : ℕ → Bool) (held : List ℕ) (i : ℕ) → list_any (nat_eq i) held ≡ true → test i ≡ true → list_any test held ≡ true
 any_at test [] i h t = h
-any_at test (p ∷ ps) i h t =
-    elim (nat_eq i p) as (λ b. nat_eq i p ≡ b → (b || list_any (nat_eq i) ps) ≡ true → (test p || list_any test ps) ≡ true) [
-      | true ↦ λ e f. or_left _ _ (ap test (sym (eqb-true i p e)) ∙ t)
-      | false ↦ λ e f. or_right _ _ (any_at test ps i f t)
-    ] refl h
+any_at test (p ∷ ps) i h t = grind (arith, (any_at test ps i), eqb-true)
 
 -- where none of the places passes, no account does
 pub none_held : (test : Account → Bool) → ((a : Account) → test a ≡ true → is_held a ≡ true) → (held : List ℕ) (accounts : List Account) → AreHeld held accounts
@@ -159,12 +154,10 @@ changing_all f held old now i h past =
 
 -- what is let go stays so
 where_twice : (keep : XidName → Bool) (o : Option Hold) → hold_where keep (hold_where keep o) ≡ hold_where keep o
-where_twice keep None = refl
-where_twice keep (Some l) = grind arith
+where_twice keep o = grind arith
 
 amount_gone : (x : XidName) (o : Option Hold) → amount_of (hold_without o x) x ≡ pos 0
-amount_gone x None = refl
-amount_gone x (Some l) = grind arith
+amount_gone x o = grind arith
 
 pub posted_twice : (x : XidName) (a : Account) → posted_by x (posted_by x a) ≡ posted_by x a
 posted_twice x a =
@@ -176,7 +169,7 @@ kept_twice keep a = λ i. record a { hold = where_twice keep a.hold i }
 
 -- an account that no branch has touched stays as it is
 untouched : (a : Account) → is_held a ≡ false → a.hold ≡ None
-untouched a h = elim (a.hold) as (λ o. is_some o ≡ false → o ≡ None) [ None ↦ λ t. refl | Some l ↦ λ t. let never : ⊥ = cc in absurd never ] h
+untouched a h = grind arith
 
 pub posted_untouched : (x : XidName) (a : Account) → is_held a ≡ false → posted_by x a ≡ a
 posted_untouched x a h =
@@ -188,11 +181,7 @@ kept_untouched keep a h = let none = untouched a h in λ i. record a { hold = (a
 
 -- what x has posted takes no value out of the limits
 posted_whole : (x : XidName) (a : Account) → is_broken_by (posted_by x a) x ≡ false
-posted_whole x a =
-    elim (a.hold) as (λ o. (v : ℤ) → hold_breaks v (hold_without o x) x ≡ false) [
-      | None ↦ λ v. refl
-      | Some l ↦ λ v. elim (xid_eq l.xid x) as (λ b. xid_eq l.xid x ≡ b → hold_breaks v (if not b then Some l else None) x ≡ false) [ true ↦ λ t. refl | false ↦ λ t. ap (λ b. b && not (is_within (v +ℤ l.amount))) t ] refl
-    ] (a.value +ℤ amount_of a.hold x)
+posted_whole x a = grind arith
 
 -- and so the accounts do with one more of them posted
 pub whole_more : (x : XidName) (accounts : List Account) (i : ℕ) (a : Account) → i < length accounts → a ≡ get_or accounts i a
@@ -251,25 +240,18 @@ held_noted held accounts i a b h within e touched =
     let now : is_held_at (set accounts i b) i ≡ true = passes_set is_held accounts i b within ∙ touched in
     let other = λ (q : ℕ) (t : nat_eq q i ≡ false). passes_set_other is_held accounts i q b (λ y. let z = eq-eqb q i y in cc) in
     let here = λ (q : ℕ) (t : nat_eq q i ≡ true). eqb-true q i t in
-    elim (is_held a) as (λ w. is_held a ≡ w → AreHeld (noted held w i) (set accounts i b)) [
-      | true ↦ λ w. record {
-        once = h.once;
-        each = λ q.
-            h.each q ∙ elim (nat_eq q i) as (λ t. nat_eq q i ≡ t → is_held_at accounts q ≡ is_held_at (set accounts i b) q) [
-              | true ↦ λ t. ap (is_held_at accounts) (here q t) ∙ was ∙ w ∙ sym now ∙ ap (is_held_at (set accounts i b)) (sym (here q t))
-              | false ↦ λ t. sym (other q t)
-            ] refl;
-      }
-      | false ↦ λ w. record {
-        once = IsDistinct-push nat_eq_equiv held i h.once (h.each i ∙ was ∙ w);
-        each = λ q.
-            list_any-append (nat_eq q) held (i ∷ [])
-            ∙ elim (nat_eq q i) as (λ t. nat_eq q i ≡ t → (list_any (nat_eq q) held || (t || false)) ≡ is_held_at (set accounts i b) q) [
-              | true ↦ λ t. or_right _ _ refl ∙ sym now ∙ ap (is_held_at (set accounts i b)) (sym (here q t))
-              | false ↦ λ t. or-false _ ∙ h.each q ∙ sym (other q t)
-            ] refl;
-      }
-    ] refl
+    record {
+      once = noted_once (is_held a) (h.each i ∙ was);
+      each = λ q. noted_each (is_held a) q (λ t. ap (is_held_at accounts) (here q t) ∙ was) (λ t. ap (is_held_at (set accounts i b)) (here q t) ∙ now) (other q);
+    }
+  where
+    noted_once : (w : Bool) → list_any (nat_eq i) held ≡ w → IsDistinct nat_eq (noted held w i)
+    noted_once true there = h.once
+    noted_once false there = IsDistinct-push nat_eq_equiv held i h.once there
+
+    noted_each : (w : Bool) (q : ℕ) → (nat_eq q i ≡ true → is_held_at accounts q ≡ w) → (nat_eq q i ≡ true → is_held_at (set accounts i b) q ≡ true)
+        → (nat_eq q i ≡ false → is_held_at (set accounts i b) q ≡ is_held_at accounts q) → list_any (nat_eq q) (noted held w i) ≡ is_held_at (set accounts i b) q
+    noted_each w q before after others = grind (arith, (h.each q), list_any-append)
 
 -- where nobody has touched the account, there is room for its place
 pub note_room : (held : List ℕ) (accounts : List Account) (i : ℕ) (a : Account) (x : XidName) (d : ℤ) → AreHeld held accounts → i < length accounts

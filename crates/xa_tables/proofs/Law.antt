@@ -1,20 +1,19 @@
 -- What the state of a branch tells of its fate, and that nobody is associated with a branch that isn't at work, whatever is requested.
-use Rattle.xa_base.proofs.{◌≡◌, ◌≢◌, ℕ, pos, Bool, true, false, cond, ◌||◌, if◌then◌else◌, Option, None, Some, is_some, unwrap_or, List, [], ◌∷◌, refl, arith}
-use Rattle.xa_base.proofs.{sym, ap, ◌∙◌, subst, get-empty, get-insert, get-remove, nat_cmp, cons_option}
-use Rattle.std.specs.FinMap as map
+use Rattle.xa_base.proofs.{◌≡◌, ◌≢◌, ℕ, true, false, cond, ◌||◌, if◌then◌else◌, Option, None, Some, is_some, unwrap_or, List, [], ◌∷◌, refl, arith, sym, ap}
+use Rattle.xa_base.proofs.{◌∙◌, subst, get-empty, get-insert, get-remove, nat_cmp, cons_option, or_from, false_from_ne_true, by_bool}
 use Rattle.xa_words.specs.{XidName, xid_eq, xid_cmp_total, Decides-xid_eq, xid_eq-by_cmp, Op}
 use Rattle.xa_words.proofs.Xids.{xid_self}
-use Rattle.xa_tables.specs.{State, Active, Idle, RollbackOnly, HeuristicallyCompleted, HeuristicDecision, Failed, Transient, Association, AssociationState}
-use Rattle.xa_tables.specs.{Associated, Suspended, association_of, state_of, is_S3, is_S5, is_prepared, is_associated, is_somebody_associated, Answer, next}
-use Rattle.xa_tables.specs.{gone, stated, with_association, associated, dissociated, association, Fate, ending_by, InDoubt, Live, Committed, HeurCommitted}
-use Rattle.xa_tables.specs.{HeurRolledBack, Absent, is_in_doubt, is_unfinished, decided_fate, fate_of, fates_in, last_or, if_named, tables_after, coded}
-use Rattle.xa_tables.specs.{IsOpening, told_by, Tables, History}
+use Rattle.xa_tables.specs.{State, Active, Idle, RollbackOnly, HeuristicallyCompleted, HeuristicDecision, Association, association_of, state_of, is_S3, is_S5}
+use Rattle.xa_tables.specs.{Failed, Transient, Live, InDoubt, Committed, HeurCommitted, HeurRolledBack, if_named, is_associated, is_somebody_associated, Answer}
+use Rattle.xa_tables.specs.{next, gone, stated, Fate, ending_by, Absent, is_in_doubt, is_unfinished, decided_fate, fate_of, fates_in, last_or, tables_after}
+use Rattle.xa_tables.specs.{coded, IsOpening, told_by, Tables, History, AreAssociationsLive}
 use Rattle.xa_tables.specs.declared.state.State.TheVariants.{Prepared as S3}
-use Rattle.xa_tables.specs.declared.state.HeuristicDecision.TheVariants as decision
-use Rattle.xa_tables.proofs.Effects.{Effect, Stays, Starts, Joins, Resumes, Suspends, Leaves, Fails, Idles, Dooms, Prepares, Commits, Drops, CommitsByItself}
-use Rattle.xa_tables.proofs.Effects.{RollsBackByItself, Forgets, effect_of, named_none}
+use Rattle.xa_tables.proofs.Effects.{Effect, Stays, Joins, Resumes, Fails, Idles, Dooms, Prepares, Commits, Drops, CommitsByItself, Suspends, RollsBackByItself}
+use Rattle.xa_tables.proofs.Effects.{Forgets, effect_of, Starts, named_none}
 pub use Rattle.xa_tables.proofs.SoundLemmas.{swap_xid}
-use Rattle.xa_tables.proofs.SoundLemmas.{Associations, apart_from, nobody_with, nobody_joins, nobody_leaves}
+use Rattle.xa_tables.proofs.SoundLemmas.{apart_from, nobody_with, somebody_put, somebody_own}
+use Rattle.std.specs.FinMap as map
+use Rattle.xa_tables.specs.declared.state.HeuristicDecision.TheVariants as decision
 
 -- ---- what a state tells
 
@@ -28,12 +27,8 @@ pub record Tells (o : Option State) (f : Fate) : Type 0 where
 none_tells : (f : Fate) → is_in_doubt f ≡ false → is_unfinished f ≡ false → Tells None f
 none_tells f sure ended = record { prepared = sym sure; exists = sym (ap (λ b. b || false) ended); decided = λ d e. cc }
 
-same_decision : (c d : HeuristicDecision) → Some (HeuristicallyCompleted c) ≡ Some (HeuristicallyCompleted d) → c ≡ d
-same_decision c d e = cc
-
 pub decided_tells : (d : HeuristicDecision) → Tells (Some (HeuristicallyCompleted d)) (decided_fate d)
-decided_tells decision.Commit = record { prepared = refl; exists = refl; decided = λ d e. ap decided_fate (same_decision decision.Commit d e) }
-decided_tells decision.Rollback = record { prepared = refl; exists = refl; decided = λ d e. ap decided_fate (same_decision decision.Rollback d e) }
+decided_tells d = grind arith
 
 -- each state tells some fate
 pub told_tells : (o : Option State) → Tells o (told_by o)
@@ -64,14 +59,7 @@ working o e = grind arith
 
 -- so all states of work tell the same
 works_tells : (o p : Option State) (f : Fate) → standing o ≡ AtWork → standing p ≡ AtWork → Tells o f → Tells p f
-works_tells o p f at_o at_p h =
-    let was = working o at_o in
-    let is = working p at_p in
-    record {
-      prepared = is.1 ∙ sym was.1 ∙ h.prepared;
-      exists = is.0 ∙ sym was.0 ∙ h.exists ∙ ap (λ b. is_unfinished f || b) (was.2 ∙ sym is.2);
-      decided = λ d e. let z : true ≡ false = sym (ap is_S5 e) ∙ is.2 in cc;
-    }
+works_tells o p f at_o at_p h = grind (arith, working)
 
 -- a branch in S3 or S5
 pub voted_rests : (o : Option State) → is_S3 o ≡ true → standing o ≢ AtWork
@@ -81,8 +69,7 @@ pub completed_nowhere : (o : Option State) → is_S5 o ≡ true → standing o �
 completed_nowhere o e = grind arith
 
 decided_ended : (d : HeuristicDecision) → Tells None (decided_fate d)
-decided_ended decision.Commit = none_tells HeurCommitted refl refl
-decided_ended decision.Rollback = none_tells HeurRolledBack refl refl
+decided_ended d = grind (arith, none_tells)
 
 -- a decision that is forgotten was made
 forgotten_tells : (o : Option State) (f : Fate) → is_S5 o ≡ true → Tells o f → Tells None f
@@ -101,19 +88,6 @@ get_put T y x s = get-insert xid_cmp_total T.states y s x ∙ ap (λ b. cond b (
 
 pub get_gone : (T : Tables) (y x : XidName) → state_of (gone y T) x ≡ (if xid_eq y x then None else state_of T x)
 get_gone T y x = get-remove xid_cmp_total T.states y x ∙ ap (λ b. cond b None (state_of T x)) (sym (xid_eq-by_cmp x y) ∙ swap_xid x y)
-
--- what holds of it, by whether x is y
-where_changed : (T : Tables) (y x : XidName) (o p : Option State) (P : Bool → Option State → Type 0) → p ≡ (if xid_eq y x then o else state_of T x)
-    → (y ≡ x → P true o) → (xid_eq y x ≡ false → P false (state_of T x)) → P (xid_eq y x) p
-where_changed T y x o p P is one other = grind (arith, Decides-xid_eq)
-
-pub where_put : (T : Tables) (y x : XidName) (s : State) (P : Bool → Option State → Type 0) → (y ≡ x → P true (Some s))
-    → (xid_eq y x ≡ false → P false (state_of T x)) → P (xid_eq y x) (state_of (stated y s T) x)
-where_put T y x s P = where_changed T y x (Some s) _ P (get_put T y x s)
-
-pub where_gone : (T : Tables) (y x : XidName) (P : Bool → Option State → Type 0) → (y ≡ x → P true None)
-    → (xid_eq y x ≡ false → P false (state_of T x)) → P (xid_eq y x) (state_of (gone y T) x)
-where_gone T y x P = where_changed T y x None _ P (get_gone T y x)
 
 -- ---- what each request keeps
 
@@ -138,92 +112,67 @@ associated_works T s t l found =
 pub own_works : (T : Tables) → Sound T → (t : ℕ) (y : XidName) → is_associated T t y ≡ true → standing (state_of T y) ≡ AtWork
 own_works T s t y = grind (arith, Decides-xid_eq, associated_works)
 
--- what a step keeps: after it the state of x tells what became of it
-pub record Step (x : XidName) (op : Op) (f : Fate) (a : Answer) : Type 0 where
-  pub sound : Sound a.0
-  pub tells : Tells (state_of a.0 x) (unwrap_or (fate_of x op a.1) f)
+-- what the changes of a branch and of an association leave
+pub ruleset changes = (get_put, get_gone, somebody_put, somebody_own, Decides-xid_eq)
 
-module _ (t : ℕ) (x : XidName) (f : Fate) (T : Tables) (s : Sound T) (h : Tells (state_of T x) f) where
-  -- y is put into a state of work, and the associations become these
-  worked : (y : XidName) (o : State) (m : Associations) → standing (Some o) ≡ AtWork
-      → ((z : XidName) → xid_eq y z ≡ false → is_somebody_associated T.associations z ≡ false → is_somebody_associated m z ≡ false)
-      → Sound (record (stated y o T) { associations = m })
-  worked y o m e stay = record {
-    rests = λ z. where_put T y z o (λ _ p. standing p ≢ AtWork → is_somebody_associated m z ≡ false) (λ _ r. absurd (r e)) (λ other r. stay z other (s.rests z r));
-  }
+module _ (t : ℕ) (T : Tables) (s : Sound T) where
+  sound_by : {op : Op} {a : Answer} → Effect t T op a → Sound a.0
+  sound_by (Resumes y own) = grind (arith, changes, own_works)
+  sound_by (Suspends y own) = grind (arith, changes, own_works)
+  sound_by (Prepares y nobody unbroken) = grind (arith, changes)
+  sound_by (Commits y one_phase nobody may) = grind (arith, changes)
+  sound_by (Drops op y c nobody tells) = grind (arith, changes)
+  sound_by (CommitsByItself y voted) = grind (arith, changes, voted_rests)
+  sound_by (RollsBackByItself y voted) = grind (arith, changes, voted_rests)
+  sound_by (Forgets y is) = grind (arith, changes, completed_nowhere)
+  sound_by effect = grind (arith, changes)
 
-  -- y rests, and nobody is associated with it
-  rested : (y : XidName) (o : State) → is_somebody_associated T.associations y ≡ false → Sound (stated y o T)
-  rested y o nobody = record {
-    rests = λ z. where_put T y z o (λ _ p. standing p ≢ AtWork → is_somebody_associated T.associations z ≡ false) (λ e _. subst (λ w. is_somebody_associated T.associations w ≡ false) e nobody) (λ _. s.rests z);
-  }
+  -- the state of x tells the same, once y has another and is at work as it was
+  alike : (x : XidName) (f : Fate) → Tells (state_of T x) f → (y : XidName) (o p : Option State) → p ≡ (if xid_eq y x then o else state_of T x)
+      → (y ≡ x → Tells o f) → Tells p f
+  alike x f h y o p is here =
+      subst (λ q. Tells q f) (sym is)
+      (by_bool (λ b. Tells (if b then o else state_of T x) f) (xid_eq y x) (λ e. here ((Decides-xid_eq y x).0 e)) (λ _. h))
 
-  -- a prepared branch is decided heuristically
-  decided : (y : XidName) (d : HeuristicDecision) → is_prepared T y ≡ true → Sound (stated y (HeuristicallyCompleted d) T)
-  decided y d voted = rested y (HeuristicallyCompleted d) (s.rests y (voted_rests (state_of T y) voted))
+  works_on : (x : XidName) (f : Fate) → Tells (state_of T x) f → (y : XidName) (o : State) → standing (state_of T y) ≡ AtWork → standing (Some o) ≡ AtWork
+      → Tells (state_of (stated y o T) x) f
+  works_on x f h y o was now =
+      alike x f h y (Some o) _ (get_put T y x o) (λ e. works_tells (state_of T x) (Some o) f (ap (λ z. standing (state_of T z)) (sym e) ∙ was) now h)
 
-  removed : (y : XidName) → is_somebody_associated T.associations y ≡ false → Sound (gone y T)
-  removed y nobody = record {
-    rests = λ z. where_gone T y z (λ _ p. standing p ≢ AtWork → is_somebody_associated T.associations z ≡ false) (λ e _. subst (λ w. is_somebody_associated T.associations w ≡ false) e nobody) (λ _. s.rests z);
-  }
+  -- the state of x, once y has another and its request makes g of it
+  changed : (x : XidName) (f : Fate) → Tells (state_of T x) f → (y : XidName) (o p : Option State) (g : Option Fate)
+      → p ≡ (if xid_eq y x then o else state_of T x) → Tells o (unwrap_or g f) → Tells p (unwrap_or (if_named x y g) f)
+  changed x f h y o p g is here =
+      subst (λ q. Tells q (unwrap_or (if_named x y g) f)) (sym is)
+      (by_bool (λ b. Tells (if b then o else state_of T x) (unwrap_or (if b then g else None) f)) (xid_eq y x) (λ _. here) (λ _. h))
 
-  -- t's own association with y changes, and goes
-  reassociated : (y : XidName) (state : AssociationState) → is_associated T t y ≡ true → Sound (with_association t (association y state) T)
-  reassociated y state own = grind (arith, nobody_joins, Decides-xid_eq, own_works)
+  -- the state of x tells what becomes of it
+  tells_by : (x : XidName) (f : Fate) → Tells (state_of T x) f → {op : Op} {a : Answer} → Effect t T op a
+      → Tells (state_of a.0 x) (unwrap_or (fate_of x op a.1) f)
+  tells_by x f h (Stays op c tells) = subst (λ g. Tells (state_of T x) (unwrap_or g f)) (sym (tells.fates x)) h
+  tells_by x f h (Joins y free there unprepared) =
+      subst (λ g. Tells (state_of (stated y Active T) x) (unwrap_or g f)) (sym (named_none x y)) (works_on x f h y Active (works _ there unprepared) refl)
+  tells_by x f h (Fails y own) = works_on x f h y (RollbackOnly Failed) (own_works T s t y own) refl
+  tells_by x f h (Idles y own alone) = works_on x f h y Idle (own_works T s t y own) refl
+  tells_by x f h (Dooms k d l own) = works_on x f h l.xid (RollbackOnly Transient) (associated_works T s t l own) refl
+  tells_by x f h (Drops op y c nobody tells) =
+      subst (λ g. Tells (state_of (gone y T) x) (unwrap_or g f)) (sym (tells.fates x))
+      (changed x f h y None _ (Some tells.fate) (get_gone T y x) (dropped_tells tells.fate tells.uncommitted))
+  tells_by x f h (Forgets y is) =
+      alike x f h y None _ (get_gone T y x) (λ e. forgotten_tells (state_of T x) f (ap (λ z. is_S5 (state_of T z)) (sym e) ∙ is) h)
+  tells_by x f h (Starts y free) = changed x f h y (Some Active) _ (Some Live) (get_put T y x Active) (told_tells (Some Active))
+  tells_by x f h (Prepares y nobody unbroken) = changed x f h y (Some S3) _ (Some InDoubt) (get_put T y x S3) (told_tells (Some S3))
+  tells_by x f h (Commits y one_phase nobody may) = changed x f h y None _ (Some Committed) (get_gone T y x) (none_tells Committed refl refl)
+  tells_by x f h (CommitsByItself y voted) =
+      let s = HeuristicallyCompleted decision.Commit in changed x f h y (Some s) _ (Some HeurCommitted) (get_put T y x s) (decided_tells decision.Commit)
+  tells_by x f h (RollsBackByItself y voted) =
+      let s = HeuristicallyCompleted decision.Rollback in changed x f h y (Some s) _ (Some HeurRolledBack) (get_put T y x s) (decided_tells decision.Rollback)
+  tells_by x f h (Resumes y own) = subst (λ g. Tells (state_of T x) (unwrap_or g f)) (sym (named_none x y)) h
+  -- the others change no state, and tell nothing
+  tells_by x f h effect = h
 
-  left : Sound (dissociated t T)
-  left = record { rests = λ z r. nobody_leaves z T.associations t (s.rests z r) }
-
-  begun : (y : XidName) → Sound (associated t y (stated y Active T))
-  begun y = worked y Active _ refl (λ z. nobody_joins z T.associations t (association y Associated))
-
-  -- y gets a state, and its request makes g of it
-  named_put : (y : XidName) (o : State) (g : Option Fate) → (y ≡ x → Tells (Some o) (unwrap_or g f))
-      → Tells (state_of (stated y o T) x) (unwrap_or (if_named x y g) f)
-  named_put y o g here = where_put T y x o (λ b p. Tells p (unwrap_or (if b then g else None) f)) here (λ _. h)
-
-  named_gone : (y : XidName) (g : Option Fate) → (y ≡ x → Tells None (unwrap_or g f)) → Tells (state_of (gone y T) x) (unwrap_or (if_named x y g) f)
-  named_gone y g here = where_gone T y x (λ b p. Tells p (unwrap_or (if b then g else None) f)) here (λ _. h)
-
-  -- y goes on working, which the request doesn't tell
-  goes_on : (y : XidName) (o : State) → standing (state_of T y) ≡ AtWork → standing (Some o) ≡ AtWork → Tells (state_of (stated y o T) x) f
-  goes_on y o was is =
-      where_put T y x o (λ _ p. Tells p f) (λ e. works_tells (state_of T x) (Some o) f (ap (λ z. standing (state_of T z)) (sym e) ∙ was) is h) (λ _. h)
-
-  -- the request makes nothing of x
-  silent : {op : Op} {a : Answer} → Sound a.0 → Tells (state_of a.0 x) f → fate_of x op a.1 ≡ None → Step x op f a
-  silent {a = a} sound tells none = record { sound = sound; tells = subst (Tells (state_of a.0 x)) (ap (λ o. unwrap_or o f) (sym none)) tells }
-
-  by_effect : {op : Op} {a : Answer} → Effect t T op a → Step x op f a
-  by_effect (Stays op c tells) = silent s h (tells.fates x)
-  by_effect (Starts y free) = record { sound = begun y; tells = named_put y Active (Some Live) (λ _. told_tells (Some Active)) }
-  by_effect (Joins y free there unprepared) = silent (begun y) (goes_on y Active (works _ there unprepared) refl) (named_none x y)
-  by_effect (Resumes y own) = silent (reassociated y Associated own) h (named_none x y)
-  by_effect (Suspends y own) = silent (reassociated y Suspended own) h refl
-  by_effect (Leaves y how c own why) = silent left h refl
-  by_effect (Fails y own) =
-      silent (worked y (RollbackOnly Failed) _ refl (λ z _. nobody_leaves z T.associations t)) (goes_on y (RollbackOnly Failed) (own_works T s t y own) refl) refl
-  by_effect (Idles y own alone) = silent (worked y Idle _ refl (λ z _. nobody_leaves z T.associations t)) (goes_on y Idle (own_works T s t y own) refl) refl
-  by_effect (Dooms k d l own) =
-      silent (worked l.xid (RollbackOnly Transient) _ refl (λ z _ n. n)) (goes_on l.xid (RollbackOnly Transient) (associated_works T s t l own) refl) refl
-  by_effect (Prepares y nobody unbroken) = record { sound = rested y S3 nobody; tells = named_put y S3 (Some InDoubt) (λ _. told_tells (Some S3)) }
-  by_effect (Commits y one_phase nobody may) =
-      record { sound = record { rests = (removed y nobody).rests }; tells = named_gone y (Some Committed) (λ _. none_tells Committed refl refl) }
-  by_effect (Drops op y c nobody tells) = record {
-    sound = removed y nobody;
-    tells = subst (λ o. Tells (state_of (gone y T) x) (unwrap_or o f)) (sym (tells.fates x)) (named_gone y (Some tells.fate) (λ _. dropped_tells tells.fate tells.uncommitted));
-  }
-  by_effect (CommitsByItself y voted) =
-      record { sound = record { rests = (decided y decision.Commit voted).rests }; tells = named_put y (HeuristicallyCompleted decision.Commit) (Some HeurCommitted) (λ _. decided_tells decision.Commit) }
-  by_effect (RollsBackByItself y voted) =
-      record { sound = record { rests = (decided y decision.Rollback voted).rests }; tells = named_put y (HeuristicallyCompleted decision.Rollback) (Some HeurRolledBack) (λ _. decided_tells decision.Rollback) }
-  by_effect (Forgets y is) =
-      silent (record { rests = (removed y (s.rests y (λ w. let nowhere = completed_nowhere (state_of T y) is in cc))).rests }) (where_gone T y x (λ _ p. Tells p f) (λ e. forgotten_tells (state_of T x) f (ap (λ z. is_S5 (state_of T z)) (sym e) ∙ is) h) (λ _. h)) refl
-  -- the others change no state and no association
-  by_effect effect = record { sound = record { rests = s.rests }; tells = h }
-
-pub step : (t : ℕ) (op : Op) (x : XidName) (f : Fate) (T : Tables) → Sound T → Tells (state_of T x) f → Step x op f (next t op T)
-step t op x f T s h = by_effect t x f T s h (effect_of t op T)
+pub sound_after : (t : ℕ) (op : Op) (T : Tables) → Sound T → Sound (next t op T).0
+sound_after t op T s = sound_by t T s (effect_of t op T)
 
 pub last_more : (f : Fate) (o : Option Fate) (gs : List Fate) → last_or (unwrap_or o f) gs ≡ last_or f (cons_option o gs)
 last_more f o gs = grind arith
@@ -234,13 +183,8 @@ run [] x f T s h = h
 run (r ∷ H) x f T s h =
     let T1 : Tables = (next r.thread r.op T).0 in
     let o : Option Fate = fate_of x r.op (next r.thread r.op T).1 in
-    let a = step r.thread r.op x f T s h in
-    subst (Tells (state_of (tables_after H T1) x)) (last_more f o (fates_in x (coded H T1))) (run H x (unwrap_or o f) T1 a.sound a.tells)
-
-pub sound_after : (t : ℕ) (op : Op) (T : Tables) → Sound T → Sound (next t op T).0
-sound_after t op T s =
-    let x : XidName = record { format = pos 0; gtrid = []; bqual = [] } in
-    (step t op x (told_by (state_of T x)) T s (told_tells (state_of T x))).sound
+    subst (Tells (state_of (tables_after H T1) x)) (last_more f o (fates_in x (coded H T1)))
+    (run H x (unwrap_or o f) T1 (sound_after r.thread r.op T s) (tells_by r.thread T s x f h (effect_of r.thread r.op T)))
 
 pub run_sound : (h : History) (T : Tables) → Sound T → Sound (tables_after h T)
 run_sound [] T s = s
@@ -254,3 +198,21 @@ opening_free x T o =
 
 pub opening_sound : (T : Tables) → IsOpening T → Sound T
 opening_sound T o = record { rests = λ x r. opening_free x T o }
+
+-- ---- the branches of the associations
+
+sound_live : (T : Tables) → Sound T → AreAssociationsLive T
+sound_live T s t l found = let w = working (state_of T l.xid) (associated_works T s t l found) in (w.0, or_from _ _ w.1 w.2)
+
+-- a request leaves each association with a branch that exists and is neither prepared nor completed
+pub live_after : (t : ℕ) (op : Op) (T : Tables) → AreAssociationsLive T → AreAssociationsLive (next t op T).0
+live_after t op T live =
+    let sound : Sound T = record {
+      rests = λ x r. nobody_with x T.associations (λ u l found. false_from_ne_true (xid_eq l.xid x) (λ e.
+          let there = live u l found in r (ap (λ z. standing (state_of T z)) (sym ((Decides-xid_eq l.xid x).0 e)) ∙ works (state_of T l.xid) there.0 there.1)));
+    } in
+    sound_live (next t op T).0 (sound_after t op T sound)
+
+-- and an opening begins with no association
+pub live_opening : (T : Tables) → IsOpening T → AreAssociationsLive T
+live_opening T o = sound_live T (opening_sound T o)

@@ -1,17 +1,17 @@
 -- Where the keys stand among the accounts, and what was declared.
-use Rattle.xa_base.proofs.{◌≡◌, ℕ, pos, zero, suc, ◌+◌, ◌<◌, ◌≤◌, All, Bool, true, false, cond, ◌&&◌, ◌||◌, if◌then◌else◌, nat_le, List, [], ◌∷◌, ◌++◌, length}
-use Rattle.xa_base.proofs.{map, Option, None, Some, is_some, refl, slice_index_or, sym, ap, ◌∙◌, arith, get_or, take, set, ints, or-false, false_from_ne_true}
-use Rattle.xa_base.proofs.{not-true, and_parts, take_more, map-append, length-map, get_or_default, All-map, list_any, list_all, eq_by_cmp_equiv, FinMap, find}
-use Rattle.xa_base.proofs.{from_entries, get-insert}
+use Rattle.xa_base.proofs.{◌≡◌, ℕ, pos, zero, suc, ◌+◌, ◌<◌, ◌≤◌, All, Bool, true, false, cond, nat_le, List, [], ◌∷◌, ◌++◌, length, take_all, map, None, Some}
+use Rattle.xa_base.proofs.{is_some, refl, slice_index_or, sym, ap, ◌∙◌, arith, get_or, take, set, ints, or-false, not-true, and_parts, take_more, map-append}
+use Rattle.xa_base.proofs.{length-map, get_or_default, All-map, list_any, list_all, eq_by_cmp_equiv, FinMap, find, from_entries, get-insert, ◌&&◌, ◌||◌}
+use Rattle.xa_base.proofs.{false_from_ne_true}
 use Rattle.std.proofs.Common.{length-take-le}
 use Rattle.std.proofs.lemmas.Bool.{leb-true, true_from_ne_false}
 use Rattle.std.proofs.lemmas.List.Folds.{list_all_at}
-use Rattle.std.specs.FinMap as finmap
 use Rattle.xa_words.specs.{XidName, key_eq, key_cmp_total, Decides-key_eq, key_eq-by_cmp}
 use Rattle.xa_words.specs.Orders.{key_cmp}
-use Rattle.xa_tables.specs.{Account, AreDistinct, AreIndexed, IsGood, value_entries, hold_entries, place_in, later_place, hold_is_other, is_held_by_other}
-use Rattle.xa_tables.specs.{are_apart, are_accounts, declared_values, keys_of}
+use Rattle.xa_tables.specs.{Account, AreDistinct, AreIndexed, IsGood, value_entries, hold_entries, place_in, later_place, is_held_by_other, are_apart}
+use Rattle.xa_tables.specs.{are_accounts, declared_values, keys_of, hold_is_other}
 use Rattle.xa_tables.proofs.AccountLemmas.{same_key, Lacks, is_other, value_found, at_own_key}
+use Rattle.std.specs.FinMap as finmap
 
 pub swapped : (k l : List ℕ) → key_eq l k ≡ same_key k l
 swapped k l = key_eq-by_cmp l k ∙ (eq_by_cmp_equiv key_cmp_total).symm l k
@@ -19,31 +19,16 @@ swapped k l = key_eq-by_cmp l k ∙ (eq_by_cmp_equiv key_cmp_total).symm l k
 one_here : (b : Bool) (i : ℕ) → later_place None b ≡ Some i → (b ≡ true) × (i ≡ 0)
 one_here b i e = grind arith
 
-nowhere : (b : Bool) → later_place None b ≡ None → b ≡ false
-nowhere b e = grind arith
-
 -- a place is within
 pub place_within : (k : List ℕ) (accounts : List Account) (i : ℕ) → place_in k accounts ≡ Some i → i < length accounts
 place_within k [] i e = let never : ⊥ = cc in absurd never
-place_within k (a ∷ rest) i e =
-    elim (place_in k rest) as (λ o. place_in k rest ≡ o → later_place o (key_eq a.key k) ≡ Some i → i < length (a ∷ rest)) [
-      | Some j ↦ λ p f. let is : suc j ≡ i = cc in let h = place_within k rest j p in omega arith
-      | None ↦ λ p f. let is = (one_here (key_eq a.key k) i f).1 in omega arith
-    ] refl e
+place_within k (a ∷ rest) i e = grind (arith, place_within k rest)
 
 -- the account at a key's place has the key
 pub place_key : (k : List ℕ) (accounts : List Account) (i : ℕ) (a : Account) → place_in k accounts ≡ Some i → a ≡ get_or accounts i a → a.key ≡ k
 place_key k [] i a e h = let never : ⊥ = cc in absurd never
-place_key k (c ∷ rest) zero a e h =
-    elim (place_in k rest) as (λ o. later_place o (key_eq c.key k) ≡ Some zero → a.key ≡ k) [
-      | Some j ↦ λ f. let is : suc j ≡ zero = cc in absurd (omega arith)
-      | None ↦ λ f. ap (λ (w : Account). w.key) h ∙ (Decides-key_eq c.key k).0 (one_here (key_eq c.key k) zero f).0
-    ] e
-place_key k (c ∷ rest) (suc i) a e h =
-    elim (place_in k rest) as (λ o. place_in k rest ≡ o → later_place o (key_eq c.key k) ≡ Some (suc i) → a.key ≡ k) [
-      | Some j ↦ λ p f. let is : suc j ≡ suc i = cc in let same : j ≡ i = omega arith in place_key k rest i a (p ∙ ap (λ n. Some n) same) h
-      | None ↦ λ p f. let is = (one_here (key_eq c.key k) (suc i) f).1 in absurd (omega arith)
-    ] refl e
+place_key k (c ∷ rest) zero a e h = grind (arith, Decides-key_eq)
+place_key k (c ∷ rest) (suc i) a e h = grind (arith, (place_key k rest i a), Decides-key_eq)
 
 -- the key at a place is that of the account there
 pub key_there : (accounts : List Account) (i : ℕ) (a : Account) → i < length accounts → a ≡ get_or accounts i a
@@ -77,7 +62,7 @@ value_at k accounts i a dist there e = grind (arith, find, key_cmp, place_key, v
 
 -- one more account at the end
 place_push : (k : List ℕ) (xs : List Account) (a : Account) → place_in k (xs ++ a ∷ []) ≡ cond (key_eq a.key k) (Some (length xs)) (place_in k xs)
-place_push k [] a = elim (key_eq a.key k) as (λ b. ◌≡◌ {A = Option ℕ} (if b then Some 0 else None) (cond b (Some 0) None)) [ true ↦ refl | false ↦ refl ]
+place_push k [] a = grind arith
 place_push k (c ∷ xs) a = grind (arith, (place_push k xs a))
 
 pub indexed_push : (places : FinMap key_cmp ℕ) (xs : List Account) (a : Account) → AreIndexed places xs
@@ -122,23 +107,13 @@ placed_there (c ∷ rest) (suc i) a dist h e = ap (λ o. later_place o (key_eq c
 -- nobody holds a key without a place
 pub other_none : (k : List ℕ) (x : XidName) (accounts : List Account) → place_in k accounts ≡ None → list_any (λ b. is_other b x k) accounts ≡ false
 other_none k x [] e = refl
-other_none k x (a ∷ rest) e =
-    elim (place_in k rest) as (λ o. place_in k rest ≡ o → later_place o (key_eq a.key k) ≡ None → ((key_eq a.key k && hold_is_other a.hold x) || list_any (λ b. is_other b x k) rest) ≡ false) [
-      | Some j ↦ λ p f. let never : ⊥ = cc in absurd never
-      | None ↦ λ p f.
-          let here : key_eq a.key k ≡ false = nowhere (key_eq a.key k) f in
-          ap (λ b. (b && hold_is_other a.hold x) || list_any (λ b. is_other b x k) rest) here ∙ other_none k x rest p
-    ] refl e
+other_none k x (a ∷ rest) e = grind (arith, other_none k x rest)
 
 -- who holds a key is told by the account at its place
 pub other_at : (k : List ℕ) (x : XidName) (accounts : List Account) (i : ℕ) (a : Account) → AreDistinct accounts → place_in k accounts ≡ Some i
     → a ≡ get_or accounts i a → list_any (λ b. is_other b x k) accounts ≡ is_held_by_other a x
 other_at k x [] i a dist e h = let never : ⊥ = cc in absurd never
-other_at k x (c ∷ rest) zero a dist e h =
-    let same : c.key ≡ k = ap (λ (w : Account). w.key) (sym h) ∙ place_key k (c ∷ rest) zero a e h in
-    let here : key_eq c.key k ≡ true = (Decides-key_eq c.key k).1 same in
-    let none : Lacks k rest = ap (λ z. find key_cmp z (value_entries rest)) (sym same) ∙ dist.0 in
-    (λ i. (here i && hold_is_other (sym h i).hold x) || other_none k x rest (lacks_place k rest none) i) ∙ or-false _
+other_at k x (c ∷ rest) zero a dist e h = grind (arith, place_key, Decides-key_eq, find, key_cmp, lacks_place, other_none, or-false)
 other_at k x (c ∷ rest) (suc i) a dist e h =
     elim (place_in k rest) as (λ o. place_in k rest ≡ o → later_place o (key_eq c.key k) ≡ Some (suc i) → ((key_eq c.key k && hold_is_other c.hold x) || list_any (λ b. is_other b x k) rest) ≡ is_held_by_other a x) [
       | Some j ↦ λ p f.
@@ -172,11 +147,7 @@ holds_declared (d ∷ ds) = holds_declared ds
 
 lacks_declared : (k : List ℕ) (ds : List (List ℕ × ℕ)) → list_any (λ e. key_eq e.0 k) ds ≡ false → Lacks k (map account_of ds)
 lacks_declared k [] h = refl
-lacks_declared k (d ∷ ds) h =
-    elim (key_eq d.0 k) as (λ b. key_eq d.0 k ≡ b → (b || list_any (λ e. key_eq e.0 k) ds) ≡ false → cond (same_key k d.0) (Some (pos d.1)) (find key_cmp k (value_entries (map account_of ds))) ≡ None) [
-      | true ↦ λ t f. cc
-      | false ↦ λ t f. ap (λ b. cond b (Some (pos d.1)) (find key_cmp k (value_entries (map account_of ds)))) (sym (swapped k d.0) ∙ t) ∙ lacks_declared k ds f
-    ] refl h
+lacks_declared k (d ∷ ds) h = grind (arith, (lacks_declared k ds), find, key_cmp, swapped)
 
 pub distinct_apart : (ds : List (List ℕ × ℕ)) → are_apart ds ≡ true → AreDistinct (map account_of ds)
 distinct_apart [] h = tt
@@ -210,3 +181,9 @@ declared_more ds i d within is =
 -- the places that were filled so far
 pub length_declared : (ds : List (List ℕ × ℕ)) (i : ℕ) → i < length ds → length (map account_of (take i ds)) ≡ i
 length_declared ds i within = length-map (take i ds) account_of ∙ length-take-le i ds (omega arith)
+
+-- what the accounts are as an opening begins
+pub ruleset as_declared = (limit_declared, account_of, take_all, from_entries, holds_declared, key_cmp, values_declared)
+
+-- as many keys as accounts
+pub ruleset keys_there = (length-map)

@@ -1,17 +1,166 @@
--- The laws of prepared branches: they stay prepared, and await the outcome; and what a Prepare and a Shut leave.
-use Rattle.xa_base.proofs.{◌≡◌, ℕ, true, false, ◌||◌, if◌then◌else◌, None, Some, List, [], ◌∷◌, ◌++◌, refl, sym, ap, ◌∙◌, zero, suc, get_or, arith, All}
-use Rattle.xa_base.proofs.{cons_option, All-head, All-tail, not-false}
+-- The laws of prepared branches: they stay prepared, and await the outcome; only a prepared branch is decided, and by a manager that isn't shut; only a
+-- completed one tells its decision; and what a Prepare and a Shut leave.
+use Rattle.xa_base.proofs.{◌≡◌, ℕ, true, false, not, ◌&&◌, ◌||◌, ◌==◌, [], ◌∷◌, sym, ap, ◌∙◌, or-true, false_from_ne_true, eq-eqb, All-head, All-tail, nat_cmp}
+use Rattle.xa_base.proofs.{eq_by_cmp, nat_cmp_total, All, nat_cmp-IsAntisymmetric, is_equal, Bool, if◌then◌else◌, Option, None, Some, refl, arith, subst}
+use Rattle.xa_base.proofs.{cons_option, not-false, by_if, at_true, List, ◌++◌, get_or}
+use Rattle.std.specs.FinSet.{contains-insert, contains-remove}
+use Rattle.xa_words.specs.{Op, Request, XidName, xid_eq, Decides-xid_eq, Done, HeurCom, HeurRb, Commit, Rollback, Forget, Heur, Code, RbIntegrity, RmFail}
+use Rattle.xa_words.specs.{Prepare}
+use Rattle.xa_tables.specs.{Tables, has_opened, Answer, next, tables_after, is_close, closes, History, State, HeuristicallyCompleted, RollbackReason}
+use Rattle.xa_tables.specs.{HeuristicDecision, state_of, exists, is_S4, is_S5, is_prepared, is_completed, decision_in, decision_of, reason_in, reason_code}
+use Rattle.xa_tables.specs.{decision_code, completed, committed, HeurCommitted, HeurRolledBack, fate_of, fates_in, coded, decided_fate, heur_fate, names}
+use Rattle.xa_tables.specs.{is_heur, is_forget, OnlyDecides, IsTold, is_S3, is_somebody_associated, is_shut, is_rolled_back, IsOpening, NamesNowhere}
+use Rattle.xa_tables.specs.{LeavesWaiting, has_shut, IsPrepared, StaysPrepared, AwaitsTheOutcome, AwaitsAfter}
+use Rattle.xa_tables.proofs.Effects.{Effect, Opens, Closes, effect_of, Drops, named_none}
+use Rattle.xa_words.proofs.Xids.{xid_self}
+use Rattle.xa_tables.proofs.LateLaw.{all_quiet, fates_quiet, next-Shut, shut_op, shut_stays, stays_open}
+use Rattle.xa_tables.proofs.Law.{get_put, get_gone, Sound, Nowhere, AtWork, standing, voted_rests, nobody_rests, sound_after, run_sound, opening_sound}
+use Rattle.xa_tables.proofs.Unnamed.{unnamed_fate, unnamed_on, unnamed_stays, unnamed_law}
+use Rattle.xa_tables.specs.declared.state.HeuristicDecision.TheVariants as decision
 use Rattle.std.specs.FinMap as map
-use Rattle.xa_words.specs.{XidName, Decides-xid_eq, Done, RbIntegrity, RmFail, Op, Prepare, Commit, Rollback, Request, Code}
-use Rattle.xa_tables.specs.{HeuristicallyCompleted, HeuristicDecision, has_opened, state_of, is_S3, is_somebody_associated, decision_code, Answer, next}
-use Rattle.xa_tables.specs.{is_shut, is_rolled_back, coded, fates_in, tables_after, IsOpening, names, closes, is_heur, is_forget, NamesNowhere, OnlyDecides}
-use Rattle.xa_tables.specs.{LeavesWaiting, has_shut, IsPrepared, StaysPrepared, AwaitsTheOutcome, AwaitsAfter, Tables, History}
-use Rattle.xa_tables.proofs.ShutLemmas.{next-Shut, shut_op, shut_stays}
-use Rattle.xa_tables.proofs.Law.{Sound, Nowhere, AtWork, standing, voted_rests, nobody_rests, get_put, sound_after, run_sound, opening_sound}
-use Rattle.xa_tables.proofs.Unnamed.{unnamed_on, unnamed_stays, unnamed_fate, unnamed_law}
-use Rattle.xa_tables.proofs.HeuristicLaw.{Decides, Nothing, Completes, decides, unprepared_law}
-use Rattle.xa_tables.proofs.Opened.{opened_on}
-use Rattle.xa_tables.proofs.LateLaw.{stays_open}
+
+-- ---- what a heuristic decision does
+
+-- nothing, or the branch was prepared and is completed with a decision, which is its fate
+pub data Decides (x : XidName) (op : Op) (T : Tables) (a : Answer) : Type 0 where
+  Nothing : a.0 ≡ T → fate_of x op a.1 ≡ None → Decides x op T a
+  Completes : (d : HeuristicDecision) → is_prepared T x ≡ true → state_of a.0 x ≡ Some (HeuristicallyCompleted d) → a.0.opened ≡ T.opened
+      → fate_of x op a.1 ≡ Some (decided_fate d) → Decides x op T a
+
+put_here : (T : Tables) (x : XidName) (s : State) → (if xid_eq x x then Some s else state_of T x) ≡ Some s
+put_here T x s = at_true (xid_eq x x) _ _ (xid_self x)
+
+heur_step : (t : ℕ) (x : XidName) (commits : Bool) (T : Tables) → Decides x (Heur x commits) T (next t (Heur x commits) T)
+unfolding next
+heur_step t x commits T =
+    let P : Answer → Type 0 = Decides x (Heur x commits) T in
+    let posted : Tables = record (committed x T) { sums = (completed x decision.Commit (committed x T)).sums } in
+    let dropped : Tables = record T { sums = (completed x decision.Rollback T).sums } in
+    let by_decision : (b : Bool) → commits ≡ b → fate_of x (Heur x commits) Done ≡ Some (if b then HeurCommitted else HeurRolledBack) = λ b e.
+    at_true (xid_eq x x) _ None (xid_self x) ∙ ap (λ c. heur_fate c Done) e in
+    by_if P (T.shut) _ _ (λ _. Nothing refl (named_none x x)) (λ _.
+    by_if P (not (exists T x)) _ _ (λ _. Nothing refl (named_none x x)) (λ _.
+    by_if P (not (is_prepared T x)) _ _ (λ _. Nothing refl (named_none x x)) (λ voted.
+    by_if P commits _ _
+    (λ e. Completes decision.Commit (not-false _ voted) (get_put posted x x (HeuristicallyCompleted decision.Commit) ∙ put_here posted x (HeuristicallyCompleted decision.Commit)) refl (by_decision true e))
+    (λ e. Completes decision.Rollback (not-false _ voted) (get_put dropped x x (HeuristicallyCompleted decision.Rollback) ∙ put_here dropped x (HeuristicallyCompleted decision.Rollback)) refl (by_decision false e)))))
+
+heur_op : (x : XidName) (op : Op) → names x op ≡ true → is_heur op ≡ true → (commits : Bool) × (op ≡ Heur x commits)
+heur_op x op n h = grind (arith, Decides-xid_eq)
+
+pub decides : (t : ℕ) (x : XidName) (op : Op) (T : Tables) → names x op ≡ true → is_heur op ≡ true → Decides x op T (next t op T)
+decides t x op T n h =
+    let z = heur_op x op n h in
+    subst (λ (o : Op). Decides x o T (next t o T)) (sym z.1) (heur_step t x z.0 T)
+
+-- ---- a branch that isn't prepared
+
+module _ (t : ℕ) (x : XidName) (T : Tables) (u : is_prepared T x ≡ false) where
+  -- other requests than those that name it leave it so
+  by_effect : {op : Op} {a : Answer} → Effect t T op a → names x op ≡ false → is_prepared a.0 x ≡ false
+  by_effect (Drops op y c free tells) n = grind (arith, get_gone)
+  by_effect effect n = grind (arith, get_put, get_gone)
+
+  forget_step : is_prepared (next t (Forget x) T).0 x ≡ false
+  unfolding next
+  forget_step = grind (arith, get_gone, at_true, xid_self)
+
+  -- it stays so, and nothing becomes of it
+  record Rests (op : Op) (a : Answer) : Type 0 where
+    unprepared : is_prepared a.0 x ≡ false
+    quiet : fate_of x op a.1 ≡ None
+
+  decided_rests : (op : Op) (a : Answer) → Decides x op T a → Rests op a
+  decided_rests op a h = grind arith
+
+  by_name : (op : Op) → names x op ≡ true → (is_heur op || is_forget op) ≡ true → Rests op (next t op T)
+  by_name (Heur y commits) n h = decided_rests (Heur y commits) _ (decides t x (Heur y commits) T n refl)
+  by_name (Forget y) n h = grind (arith, Decides-xid_eq, forget_step)
+  by_name op n h = cc
+
+  rests : (op : Op) → (names x op ≡ true → (is_heur op || is_forget op) ≡ true) → Rests op (next t op T)
+  rests op only =
+      elim (names x op) as (λ b. names x op ≡ b → Rests op (next t op T)) [
+        | true ↦ λ n. by_name op n (only n)
+        | false ↦ λ n. record { unprepared = by_effect (effect_of t op T) n; quiet = unnamed_fate x op _ n }
+      ] refl
+
+abbrev Only : XidName → Request → Type 0
+Only x r = names x r.op ≡ true → (is_heur r.op || is_forget r.op) ≡ true
+
+pub unprepared_law : (g : History) (x : XidName) (T : Tables) → is_prepared T x ≡ false → OnlyDecides x g → fates_in x (coded g T) ≡ []
+unprepared_law [] x T u only = refl
+unprepared_law (r ∷ g) x T u only =
+    let one = rests r.thread x T u r.op (All-head (Only x) r g only) in
+    let later = unprepared_law g x (next r.thread r.op T).0 one.unprepared (All-tail (Only x) r g only) in
+    λ i. cons_option (one.quiet i) (later i)
+
+-- ---- a manager that is shut
+
+pub quiet_shut : (g : History) (x : XidName) (T : Tables) → T.shut ≡ true → fates_in x (coded g T) ≡ []
+quiet_shut g x T s = all_quiet (λ h U. fates_in x (coded h U)) (fates_quiet x) g T s
+
+-- ---- who is told a decision
+
+abbrev is_told : Code → Bool
+is_told HeurCom = true
+is_told HeurRb = true
+is_told c = false
+
+tells_it : (d : HeuristicDecision) → is_told (decision_code d) ≡ true
+tells_it d = grind arith
+
+same_decision : (c d : HeuristicDecision) → decision_code c ≡ decision_code d → Some (HeuristicallyCompleted c) ≡ Some (HeuristicallyCompleted d)
+same_decision c d e = grind arith
+
+completed_with : (o : Option State) (d : HeuristicDecision) → is_S5 o ≡ true → decision_in o ≡ decision_code d → o ≡ Some (HeuristicallyCompleted d)
+completed_with o d is e = grind (arith, same_decision)
+
+reason_tells_none : (r : RollbackReason) → is_told (reason_code r) ≡ false
+reason_tells_none r = grind arith
+
+reason_is_none : (o : Option State) → is_S4 o ≡ true → is_told (reason_in o) ≡ false
+reason_is_none o is = grind (arith, reason_tells_none)
+
+module _ (t : ℕ) (x : XidName) (d : HeuristicDecision) (T : Tables) where
+  abbrev Told : Answer → Type 0
+  Told a = a.1 ≡ decision_code d → IsTold x d T a
+
+  -- another code tells none
+  no_decision : (a : Answer) → is_told a.1 ≡ false → Told a
+  no_decision a none e = let z : false ≡ true = sym none ∙ ap is_told e ∙ tells_it d in cc
+
+  as_decided : is_completed T x ≡ true → Told (T, decision_of T x)
+  as_decided is e = record { state = completed_with (state_of T x) d is e; unchanged = refl }
+
+  pub commit_tells : Told (next t (Commit x false) T)
+  unfolding next
+  commit_tells = grind (arith, no_decision, as_decided)
+
+  pub rollback_tells : Told (next t (Rollback x) T)
+  unfolding next
+  rollback_tells = grind (arith, no_decision, as_decided, reason_is_none)
+
+-- ---- a thread that has the manager open keeps it open until its own CloseRm
+
+another : (t u : ℕ) → (t == u) ≡ false → eq_by_cmp nat_cmp u t ≡ false
+another t u apart = false_from_ne_true _ (λ e. let same = eq-eqb t u (sym (nat_cmp-IsAntisymmetric u t (is_equal _ e))) in cc)
+
+-- thread u has the manager open, and t's request isn't u's CloseRm
+leaves_open : (t u : ℕ) (T : Tables) {op : Op} {a : Answer} → Effect t T op a → has_opened T u ≡ true → (is_close op && (t == u)) ≡ false
+    → has_opened a.0 u ≡ true
+leaves_open t u T Opens o n = contains-insert nat_cmp_total T.opened t u ∙ ap (λ b. eq_by_cmp nat_cmp u t || b) o ∙ or-true _
+leaves_open t u T Closes o n =
+    contains-remove nat_cmp_total T.opened t u ∙ ap (λ b. not (eq_by_cmp nat_cmp u t) && b) o ∙ ap (λ b. not b && true) (another t u n)
+leaves_open t u T effect o n = o
+
+pub opened_on : (g : History) (t : ℕ) (T : Tables) → has_opened T t ≡ true → All (λ r. closes t r ≡ false) g → has_opened (tables_after g T) t ≡ true
+opened_on [] t T o n = o
+opened_on (r ∷ g) t T o n =
+    let P : Request → Type 0 = λ q. closes t q ≡ false in
+    opened_on g t (next r.thread r.op T).0 (leaves_open r.thread t T (effect_of r.thread r.op T) o (All-head P r g n)) (All-tail P r g n)
+
+-- ---- a prepared branch stays prepared
 
 -- nobody is associated with a prepared branch
 nobody : (x : XidName) (T : Tables) → Sound T → IsPrepared x T → is_somebody_associated T.associations x ≡ false
@@ -30,29 +179,13 @@ module _ (t : ℕ) (x : XidName) (T : Tables) (o : has_opened T t ≡ true) wher
   unless_shut : (a : Answer) (c : Code) → a.1 ≡ c → (if T.shut then (T, RmFail) else a).1 ≡ (if T.shut then RmFail else c)
   unless_shut a c e = elim (T.shut) as (λ b. (if b then (T, RmFail) else a).1 ≡ (if b then RmFail else c)) [ true ↦ refl | false ↦ e ]
 
-  module _ (h : IsPrepared x T) (free : is_somebody_associated T.associations x ≡ false) where
-    commit_done : (next t (Commit x false) T).1 ≡ (if T.shut then RmFail else Done)
-    unfolding next
-    commit_done = unless_shut _ Done (rw (o, h, free))
+  awaits : IsPrepared x T → is_somebody_associated T.associations x ≡ false → AwaitsTheOutcome t x None T
+  unfolding next
+  awaits h free = record { state = h; commits = unless_shut _ Done (rw (o, h, free)); rolls_back = unless_shut _ Done (rw (o, h, free)) }
 
-    rollback_done : (next t (Rollback x) T).1 ≡ (if T.shut then RmFail else Done)
-    unfolding next
-    rollback_done = unless_shut _ Done (rw (o, h, free))
-
-    awaits : AwaitsTheOutcome t x None T
-    awaits = record { state = h; commits = commit_done; rolls_back = rollback_done }
-
-  module _ (d : HeuristicDecision) (h : state_of T x ≡ Some (HeuristicallyCompleted d)) where
-    commit_told : (next t (Commit x false) T).1 ≡ (if T.shut then RmFail else decision_code d)
-    unfolding next
-    commit_told = unless_shut _ (decision_code d) (rw (o, h))
-
-    rollback_told : (next t (Rollback x) T).1 ≡ (if T.shut then RmFail else decision_code d)
-    unfolding next
-    rollback_told = unless_shut _ (decision_code d) (rw (o, h))
-
-    told : AwaitsTheOutcome t x (Some d) T
-    told = record { state = h; commits = commit_told; rolls_back = rollback_told }
+  told : (d : HeuristicDecision) → state_of T x ≡ Some (HeuristicallyCompleted d) → AwaitsTheOutcome t x (Some d) T
+  unfolding next
+  told d h = record { state = h; commits = unless_shut _ (decision_code d) (rw (o, h)); rolls_back = unless_shut _ (decision_code d) (rw (o, h)) }
 
 -- a Prepare that is answered XA_OK leaves the branch prepared, by a thread that has the manager open
 record Holds (t : ℕ) (x : XidName) (T : Tables) (a : Answer) : Type 0 where
@@ -85,11 +218,7 @@ Waiting t x r = (names x r.op ≡ true → is_heur r.op ≡ true) × (closes t r
 
 -- a thread that has the manager open, at one request that isn't its CloseRm
 opened_one : (r : Request) (t : ℕ) (T : Tables) → has_opened T t ≡ true → closes t r ≡ false → has_opened (next r.thread r.op T).0 t ≡ true
-opened_one r t T o n = opened_on (r ∷ []) t T o (All-head-alone r n)
-  where
-    All-head-alone : (r : Request) → closes t r ≡ false → All (λ q. closes t q ≡ false) (r ∷ [])
-    All-head-alone r n zero d lt = n
-    All-head-alone r n (suc k) d lt = absurd (omega arith)
+opened_one r t T o n = leaves_open r.thread t T (effect_of r.thread r.op T) o n
 
 only_decides : (t : ℕ) (x : XidName) (g : History) → LeavesWaiting t x g → OnlyDecides x g
 only_decides t x g n k d lt named = ap (λ b. b || is_forget (get_or g k d).op) ((n k d lt).0 named)

@@ -1,15 +1,18 @@
 -- What a step keeps of the facts on branches in S3, and of who is associated.
 use Rattle.xa_base.proofs.{◌≡◌, ◌≢◌, ℕ, ℤ, Bool, true, false, cond, Option, None, Some, is_some, refl, arith, sym, ap, ◌∙◌, subst, nat_cmp, eq_by_cmp, is_eq}
 use Rattle.xa_base.proofs.{nat_cmp_total, tied_itself, FinMap, get-insert, get-remove, nat_cmp-IsAntisymmetric, is_equal, tied_true, tied_false, none_pass}
-use Rattle.xa_base.proofs.{none_passes}
+use Rattle.xa_base.proofs.{none_passes, ◌||◌, or_from, or_parts, List, get-lookup}
 use Rattle.std.specs.Borrow.{MutBor}
 use Rattle.std.specs.Option.{OnSome}
-use Rattle.std.specs.FinMap as map
 use Rattle.std.specs.FinMap.{same_map}
 use Rattle.std.proofs.lemmas.Bool.Decides.{same_from_decides}
-use Rattle.xa_words.specs.{XidName, xid_cmp, xid_eq, xid_cmp_total, xid_cmp-IsAntisymmetric, Decides-xid_eq}
+use Rattle.xa_words.specs.{XidName, xid_cmp, xid_eq, xid_cmp_total, xid_cmp-IsAntisymmetric, Decides-xid_eq, xid_eq-by_cmp}
 use Rattle.xa_words.specs.Orders.{key_cmp}
-use Rattle.xa_tables.specs.{State, Association, touch_cmp, is_broken, is_somebody_associated, is_S3, is_left_in, BranchTable, HasState, ArePreparedSound}
+use Rattle.xa_tables.specs.{State, Association, touch_cmp, is_broken, is_somebody_associated, is_association_with, is_S3, is_left_in, BranchTable, HasState}
+use Rattle.xa_tables.specs.{ArePreparedSound}
+use Rattle.std.specs.Map.{lookup}
+use Rattle.std.specs.Cmp.{IsEquivalence}
+use Rattle.std.specs.FinMap as map
 
 abbrev pub Associations : Type 0
 Associations = FinMap nat_cmp Association
@@ -62,14 +65,14 @@ put_same states x s is =
     get-insert xid_cmp_total states x s y
     ∙ by_xid y x (λ b. cond b (Some s) (map.get states y) ≡ map.get states y) (λ same. sym (ap (map.get states) same ∙ is)) (λ _. refl))
 
--- the branches b end as n, where s was written through the reference r to the state of x
-module _ {r : Option (MutBor State)} {m : MutBor State} (b n : BranchTable) (x : XidName) (s : State) (lent : r ≡ Some m)
-    (holds : OnSome r (HasState b x s n)) where
-  pub written : n ≡ record b { states = map.insert b.states x s }
-  written = (rw lent at holds).0
+-- the branches b end as n s, where s was written through the reference r to the state of x
+module _ {r : Option (MutBor State)} {m : MutBor State} (b : BranchTable) (x : XidName) (n : State → BranchTable) (lent : r ≡ Some m)
+    (holds : (s : State) → OnSome r (HasState b x s (n s))) where
+  pub written : (s : State) → n s ≡ record b { states = map.insert b.states x s }
+  written s = (rw lent at (holds s)).0
 
-  pub unwritten : Some s ≡ map.get b.states x → n ≡ b
-  unwritten was = (rw lent at holds).1 (sym was)
+  pub unwritten : Some m.now ≡ map.get b.states x → n m.now ≡ b
+  unwritten was = (rw lent at (holds m.now)).1 (sym was)
 
 -- ---- who is associated with a branch
 
@@ -105,15 +108,33 @@ pub nobody_as : (x : XidName) (t : ℕ) (m n : Associations) → ((u : ℕ) → 
     → ((l : Association) → map.get n t ≡ Some l → xid_eq l.xid x ≡ false) → is_somebody_associated m x ≡ false → is_somebody_associated n x ≡ false
 nobody_as x t m n others own nobody = grind (arith, nobody_with, apart_from)
 
--- a thread becomes associated with another branch, and a thread loses its association
-pub nobody_joins : (x : XidName) (m : Associations) (t : ℕ) (l : Association) → xid_eq l.xid x ≡ false
-    → is_somebody_associated m x ≡ false → is_somebody_associated (map.insert m t l) x ≡ false
-nobody_joins x m t l other =
-    nobody_as x t m (map.insert m t l) (λ u. other_put m t u l) (λ k found.
-    let put = own_put m t l in let same : l ≡ k = cc in ap (λ (j : Association). xid_eq j.xid x) (sym same) ∙ other)
+-- somebody is associated with x: t, by its association in m, or another thread, by one of n, in which t has none
+same_false : (b c : Bool) → (b ≡ false → c ≡ false) → (c ≡ false → b ≡ false) → b ≡ c
+same_false b c f g = grind arith
 
-pub nobody_leaves : (x : XidName) (m : Associations) (t : ℕ) → is_somebody_associated m x ≡ false → is_somebody_associated (map.remove m t) x ≡ false
-nobody_leaves x m t = nobody_as x t m (map.remove m t) (other_removed m t) (λ k found. let none = own_removed m t in cc)
+somebody_but : (x : XidName) (t : ℕ) (m n : Associations) → ((u : ℕ) → u ≢ t → map.get n u ≡ map.get m u) → map.get n t ≡ None
+    → is_somebody_associated m x ≡ (is_association_with (map.get m t) x || is_somebody_associated n x)
+somebody_but x t m n others none =
+    same_false _ _
+    (λ e. or_from _ _ (own_apart x m t e) (nobody_as x t m n others (λ l found. let z : None ≡ Some l = sym none ∙ found in cc) e))
+    (λ e.
+    let parts = or_parts (is_association_with (map.get m t) x) _ e in
+    nobody_as x t n m (λ u apart. sym (others u apart)) (λ l found. sym (ap (λ o. is_association_with o x) found) ∙ parts.0) parts.1)
+  where
+    own_apart : (x : XidName) (m : Associations) (t : ℕ) → is_somebody_associated m x ≡ false → is_association_with (map.get m t) x ≡ false
+    own_apart x m t e = grind (arith, apart_from)
+
+pub somebody_put : (x : XidName) (m : Associations) (t : ℕ) (l : Association)
+    → is_somebody_associated (map.insert m t l) x ≡ (xid_eq l.xid x || is_somebody_associated (map.remove m t) x)
+somebody_put x m t l =
+    somebody_but x t (map.insert m t l) (map.remove m t) (λ u apart. other_removed m t u apart ∙ sym (other_put m t u l apart)) (own_removed m t)
+    ∙ ap (λ o. is_association_with o x || is_somebody_associated (map.remove m t) x) (own_put m t l)
+
+-- in a form in which tactics meet the associations without t's first
+pub somebody_own : (x : XidName) (m : Associations) (t : ℕ)
+    → (is_somebody_associated (map.remove m t) x ≡ is_somebody_associated (map.remove m t) x)
+    × (is_somebody_associated m x ≡ (is_association_with (map.get m t) x || is_somebody_associated (map.remove m t) x))
+somebody_own x m t = (refl, somebody_but x t m (map.remove m t) (other_removed m t) (own_removed m t))
 
 -- a branch that is neither prepared nor completed isn't prepared
 pub unvoted : (o : Option State) → is_left_in o ≡ false → is_S3 o ≡ false
@@ -148,3 +169,12 @@ pub sound_others : (states : States) (sums sums' : Sums) (values values' : Value
     → ((y : XidName) → y ≢ x → is_broken values' sums' y ≡ is_broken values sums y) → ArePreparedSound states sums values
     → ArePreparedSound states sums' values'
 sound_others states sums sums' values values' x unvoted others = grind (arith, unvoted, sound_but)
+
+-- ---- xids as keys of hash maps
+
+pub xid_eq_laws : IsEquivalence xid_eq
+xid_eq_laws = record { refl = λ x. (Decides-xid_eq x x).1 refl; symm = swap_xid; congr = λ x y z e. ap (λ w. xid_eq w z) ((Decides-xid_eq x y).0 e) }
+
+-- the state of a branch, as its hash map finds it
+pub state_found : (es : List (XidName × State)) (x : XidName) → map.get (map.from_entries {R = xid_cmp} es) x ≡ lookup (xid_eq x) es
+state_found = get-lookup xid_eq xid_cmp_total xid_cmp-IsAntisymmetric xid_eq-by_cmp

@@ -6,12 +6,11 @@ use Rattle.xa_words.specs.{XidName}
 use Rattle.xa_tables.specs.{Tables, touch_cmp, is_prepared, Fate, Absent, is_live, is_in_doubt, is_unfinished, fate, coded, accepted, tables_after}
 use Rattle.xa_tables.specs.{commits_later, added_in, IsFateOf, IsNew, IsOpening, reopened, reopened_fate, left_by, commits_over, added_over, value_over}
 use Rattle.xa_tables.specs.{ValueIsSum, History}
-use Rattle.xa_tables.proofs.ShutLemmas.{after_accepted}
+use Rattle.xa_tables.proofs.LateLaw.{after_accepted}
 use Rattle.xa_tables.proofs.Law.{opening_sound}
-use Rattle.xa_tables.proofs.FatesLaw.{first_law, kept_law, reopened_law}
+use Rattle.xa_tables.proofs.Reopening.{first_law, kept_law, reopened_law, sums_reopened, reopens, new_opens}
 use Rattle.xa_tables.proofs.ValueLaw.{Held, IsPending, due, plus_zero, Run, value_run, chained}
-use Rattle.xa_tables.proofs.TouchLaw.{Clean, touching, run_clean, opening_clean}
-use Rattle.xa_tables.proofs.Reopening.{sums_reopened, reopens, new_opens}
+use Rattle.xa_tables.proofs.BranchLaws.{Clean, touching, run_clean, opening_clean}
 
 -- ---- a reopening
 

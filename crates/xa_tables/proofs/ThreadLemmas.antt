@@ -1,13 +1,53 @@
--- The maps that the threads make.
-use Rattle.xa_base.proofs.{◌≡◌, ◌≢◌, ℕ, zero, suc, ◌+◌, ◌-◌, ◌<◌, ◌≤◌, Bool, true, false, cond, if◌then◌else◌, List, [], ◌∷◌, length, replicate, Option, None}
-use Rattle.xa_base.proofs.{Some, is_some, refl, sym, ap, ◌∙◌, arith, get_or, set, list_any, nat_cmp, eq_by_cmp, is_eq, nat_cmp_total, tied_itself}
-use Rattle.xa_base.proofs.{eq_by_cmp_equiv, FinMap, find, from_entries, get-from_entries, nat_cmp-IsAntisymmetric, is_equal, put_one, remove_one, same_finds}
-use Rattle.xa_base.proofs.{Distinct, any_entries}
-use Rattle.std.specs.FinMap as map
-use Rattle.std.specs.FinSet as finset
+-- The maps and the sets that the threads make.
+use Rattle.xa_base.proofs.{◌≡◌, ℕ, Bool, cond, not, ◌||◌, ◌&&◌, List, map, Option, None, Some, is_some, arith, sym, ap, ◌∙◌, nat_cmp, eq_by_cmp, nat_cmp_total}
+use Rattle.xa_base.proofs.{find, nat_cmp-IsAntisymmetric, ◌≢◌, zero, suc, ◌+◌, ◌-◌, ◌<◌, ◌≤◌, true, false, if◌then◌else◌, [], ◌∷◌, length, replicate, refl}
+use Rattle.xa_base.proofs.{get_or, set, list_any, is_eq, tied_itself, eq_by_cmp_equiv, FinMap, from_entries, get-from_entries, is_equal, put_one, remove_one}
+use Rattle.xa_base.proofs.{same_finds, Distinct, any_entries}
+use Rattle.std.specs.FinSet.{FinSet, same_set, from_list, contains-insert, contains-remove, contains-from_list}
+use Rattle.std.specs.FinMap.Entries.{is_some-find}
 use Rattle.xa_base.specs.{any_entry}
 use Rattle.xa_tables.specs.{with_entry, entries_from}
-use Rattle.xa_tables.proofs.SetLemmas.{marked, contains-marked, mark_put, mark_removed, mark_same}
+use Rattle.std.specs.FinMap as map
+use Rattle.std.specs.FinSet as finset
+
+abbrev Marks : Type 0
+Marks = List (ℕ × Unit {0})
+
+-- the keys of the entries
+abbrev pub marked : Marks → FinSet nat_cmp
+marked es = from_list (map {B = ℕ} (λ (e : ℕ × Unit {0}). e.0) es)
+
+-- a key is in the set if the list finds it
+pub contains-marked : (es : Marks) (q : ℕ) → finset.contains (marked es) q ≡ is_some (find nat_cmp q es)
+contains-marked es q = contains-from_list nat_cmp_total _ q ∙ sym (is_some-find nat_cmp q es)
+
+some_or : (b : Bool) (x : Option (Unit {0})) → is_some (cond b (Some tt) x) ≡ (b || is_some x)
+some_or b x = grind arith
+
+none_or : (b : Bool) (x : Option (Unit {0})) → is_some (cond b None x) ≡ (not b && is_some x)
+none_or b x = grind arith
+
+-- one key more
+pub mark_put : (es fs : Marks) (k : ℕ) → ((q : ℕ) → find nat_cmp q fs ≡ cond (eq_by_cmp nat_cmp q k) (Some tt) (find nat_cmp q es))
+    → marked fs ≡ finset.insert (marked es) k
+mark_put es fs k h =
+    same_set nat_cmp_total nat_cmp-IsAntisymmetric _ _ (λ q.
+    contains-marked fs q ∙ ap is_some (h q) ∙ some_or _ _ ∙ ap (λ b. eq_by_cmp nat_cmp q k || b) (sym (contains-marked es q))
+    ∙ sym (contains-insert nat_cmp_total (marked es) k q))
+
+-- one key less
+pub mark_removed : (es fs : Marks) (k : ℕ) → ((q : ℕ) → find nat_cmp q fs ≡ cond (eq_by_cmp nat_cmp q k) None (find nat_cmp q es))
+    → marked fs ≡ finset.remove (marked es) k
+mark_removed es fs k h =
+    same_set nat_cmp_total nat_cmp-IsAntisymmetric _ _ (λ q.
+    contains-marked fs q ∙ ap is_some (h q) ∙ none_or _ _ ∙ ap (λ b. not (eq_by_cmp nat_cmp q k) && b) (sym (contains-marked es q))
+    ∙ sym (contains-remove nat_cmp_total (marked es) k q))
+
+-- the same keys
+pub mark_same : (es fs : Marks) → ((q : ℕ) → find nat_cmp q fs ≡ find nat_cmp q es) → marked fs ≡ marked es
+mark_same es fs h = same_set nat_cmp_total nat_cmp-IsAntisymmetric _ _ (λ q. contains-marked fs q ∙ ap is_some (h q) ∙ sym (contains-marked es q))
+
+-- ---- the threads
 
 -- the map with this value at the key, or with none there
 abbrev put_or_removed : {V : Type 0} → FinMap nat_cmp V → ℕ → Option V → FinMap nat_cmp V
@@ -74,9 +114,9 @@ module _ {S X : Type 0} (f : S → Option X) where
   thread_given ss t s None p h e =
       remove_one nat_cmp_total nat_cmp-IsAntisymmetric _ _ t (written ss t s None p h e) (λ q. (eq_by_cmp_equiv nat_cmp_total).symm t q)
 
-  same_set : (ss : List S) (t : ℕ) (s d : S) → 0 < t → t ≤ length ss → f s ≡ f (get_or ss (t - 1) d)
+  same_entries : (ss : List S) (t : ℕ) (s d : S) → 0 < t → t ≤ length ss → f s ≡ f (get_or ss (t - 1) d)
       → (q : ℕ) → find nat_cmp q (entries_from f 1 (set ss (t - 1) s)) ≡ find nat_cmp q (entries_from f 1 ss)
-  same_set ss t s d p h e q = grind (arith, found_set, find, find-look, look-at, same_nat-yes)
+  same_entries ss t s d p h e q = grind (arith, found_set, find, find-look, look-at, same_nat-yes)
 
   find_thread : (ss : List S) (t : ℕ) (d : S) → 0 < t → t ≤ length ss → find nat_cmp t (entries_from f 1 ss) ≡ f (get_or ss (t - 1) d)
   find_thread ss t d p h = find-look t 1 ss ∙ look-at ss (t - 1) 1 t d (omega arith) (omega arith)
@@ -90,7 +130,7 @@ module _ {S X : Type 0} (f : S → Option X) where
   pub thread_same : (ss : List S) (t : ℕ) (s d : S) → 0 < t → t ≤ length ss → f s ≡ f (get_or ss (t - 1) d)
       → from_entries {R = nat_cmp} (entries_from f 1 (set ss (t - 1) s)) ≡ from_entries (entries_from f 1 ss)
   thread_same ss t s d p h e =
-      same_finds nat_cmp_total nat_cmp-IsAntisymmetric _ _ (same_set ss t s d p h e)
+      same_finds nat_cmp_total nat_cmp-IsAntisymmetric _ _ (same_entries ss t s d p h e)
 
   distinct_from : (n : ℕ) (ss : List S) → Distinct nat_cmp_total nat_cmp-IsAntisymmetric (entries_from f n ss)
   distinct_from n [] = tt
@@ -111,6 +151,9 @@ module _ {S X : Type 0} (f : S → Option X) where
   pub any_thread : (p : X → Bool) (ss : List S) → any_entry {R = nat_cmp} (λ t x. p x) (from_entries (entries_from f 1 ss)) ≡ list_any (some_passes p) ss
   any_thread p ss = any_entries nat_cmp_total nat_cmp-IsAntisymmetric (λ t x. p x) (entries_from f 1 ss) (distinct_from 1 ss) ∙ list_any-from p 1 ss
 
+-- where nobody has a mark or an association
+pub ruleset none_free = (marked, from_entries, none_from)
+
 module _ {S : Type 0} (f : S → Option (Unit {0})) where
   -- the same for the set of threads that have a mark
   pub open_given : (ss : List S) (t : ℕ) (s : S) (b : Bool) → 0 < t → t ≤ length ss → f s ≡ (if b then Some tt else None)
@@ -120,7 +163,7 @@ module _ {S : Type 0} (f : S → Option (Unit {0})) where
 
   pub open_same : (ss : List S) (t : ℕ) (s d : S) → 0 < t → t ≤ length ss → f s ≡ f (get_or ss (t - 1) d)
       → marked (entries_from f 1 (set ss (t - 1) s)) ≡ marked (entries_from f 1 ss)
-  open_same ss t s d p h e = mark_same _ _ (same_set f ss t s d p h e)
+  open_same ss t s d p h e = mark_same _ _ (same_entries f ss t s d p h e)
 
   pub contains_thread : (ss : List S) (t : ℕ) (d : S) → 0 < t → t ≤ length ss
       → finset.contains (marked (entries_from f 1 ss)) t ≡ is_some (f (get_or ss (t - 1) d))

@@ -1,16 +1,16 @@
 -- What a history moves of a key's value: the additions whose branches commit.
 use Rattle.xa_base.proofs.{◌≡◌, ◌≢◌, ℕ, ℤ, pos, ◌+ℤ◌, option_map, Bool, true, false, cond, not, ◌&&◌, if◌then◌else◌, Option, None, Some, List, [], ◌∷◌, refl}
-use Rattle.xa_base.proofs.{sym, ap, ◌∙◌, subst, arith, get-insert, FinMap, false_from_ne_true, not-false, +ℤ_idl as none_plus, ints, get-map_values}
-use Rattle.xa_base.proofs.{none_passes}
+use Rattle.xa_base.proofs.{sym, ap, ◌∙◌, subst, arith, get-insert, FinMap, not-false, +ℤ_idl as none_plus, ints, get-map_values, none_passes}
 use Rattle.std.specs.FinMap as map
 use Rattle.std.specs.FinMap.{get-retain_keys}
 use Rattle.xa_words.specs.{XidName, xid_eq, Decides-xid_eq, key_cmp_total, key_cmp-IsAntisymmetric, Decides-key_eq, Done, Op, Add, key_eq, Code}
 use Rattle.xa_tables.specs.{Association, association_of, has_other_touched, Touch, touch_cmp, sum_of, sums_without, Answer, next, committed, coded, accepted}
 use Rattle.xa_tables.specs.{fate_of, tables_after, added_in, share_of, commits_later, ending, or_later, LateAddNothing, Tables, History}
-use Rattle.xa_tables.proofs.ShutLemmas.{accepted_read}
-use Rattle.xa_tables.proofs.Moves.{Moves, Still, Ended, Added, moves_of}
+use Rattle.xa_tables.proofs.LateLaw.{accepted_read}
+use Rattle.xa_tables.proofs.Effects.{Moves, Still, Ended, Added, moves_of}
 use Rattle.xa_tables.proofs.Law.{swap_xid}
-use Rattle.xa_tables.proofs.AccountLemmas.{touch_cmp_total, touch_cmp-IsAntisymmetric, touch_from, touch_self}
+use Rattle.xa_tables.proofs.AccountLemmas.{touch_cmp_total, touch_cmp-IsAntisymmetric, touch_same}
+use Rattle.xa_tables.proofs.PlaceLemmas.{swapped}
 
 -- the branch that has touched the key, and its sum
 abbrev pub Held : Type 0
@@ -51,6 +51,11 @@ get_without sums y x k =
     get-retain_keys sums (λ p. not (xid_eq p.0 y)) (x, k) (λ q e. ap (λ (r : Touch). not (xid_eq r.0 y)) (sym (touch_cmp-IsAntisymmetric (x, k) q e)))
     ∙ elim (xid_eq x y) as (λ b. cond (not b) (map.get sums (x, k)) None ≡ (if b then None else map.get sums (x, k))) [ true ↦ refl | false ↦ refl ]
 
+-- and the values once y is committed
+pub get_committed : (y : XidName) (T : Tables) (k : List ℕ)
+    → map.get (committed y T).values k ≡ option_map (λ v. v +ℤ sum_of T.sums y k) (map.get T.values k)
+get_committed y T k = get-map_values key_cmp_total key_cmp-IsAntisymmetric (λ q v. v +ℤ sum_of T.sums y q) T.values k
+
 -- who has touched the key once y is gone
 left_by : Held → XidName → Held
 left_by None y = None
@@ -73,10 +78,11 @@ unfolding left_by amount_of_held
 due_ended y b None op c later h = elim b as (λ d. pos 0 ≡ (if d then pos 0 else pos 0) +ℤ pos 0) [ true ↦ refl | false ↦ refl ]
 due_ended y b (Some p) op c later h =
     ap (λ o. if or_later o (later p.0) then p.1 else pos 0) (h p.0 ∙ ap (λ e. if e then Some b else None) (swap_xid y p.0))
-    ∙ elim (xid_eq p.0 y) as (λ e. (if or_later (if e then Some b else None) (later p.0) then p.1 else pos 0) ≡ (if b then (if e then p.1 else pos 0) else pos 0) +ℤ due (if e then None else Some p) later) [
-      | true ↦ elim b as (λ d. (if d then p.1 else pos 0) ≡ (if d then p.1 else pos 0) +ℤ pos 0) [ true ↦ omega (arith, ints) | false ↦ refl ]
-      | false ↦ elim b as (λ d. (if later p.0 then p.1 else pos 0) ≡ (if d then pos 0 else pos 0) +ℤ (if later p.0 then p.1 else pos 0)) [ true ↦ omega (arith, ints) | false ↦ omega (arith, ints) ]
-    ]
+    ∙ due_one p (xid_eq p.0 y) b later
+  where
+    due_one : (q : XidName × ℤ) (e d : Bool) (l : XidName → Bool) → (if or_later (if e then Some d else None) (l q.0) then q.1 else pos 0)
+        ≡ (if d then (if e then q.1 else pos 0) else pos 0) +ℤ due (if e then None else Some q) l
+    due_one q e d l = grind arith
 
 add_zero : (d e m s : ℤ) → e ≡ m +ℤ d → s ≡ pos 0 → m +ℤ d ≡ e +ℤ s
 add_zero d e m s h z = omega (arith, ints)
@@ -85,17 +91,22 @@ amount_is : (k : List ℕ) (p : Held) (y : XidName) (sums : FinMap touch_cmp ℤ
 unfolding amount_of_held
 amount_is k p y sums h = grind (arith, Decides-xid_eq)
 
+-- and once y has added to a key
+pub get_add : (sums : FinMap touch_cmp ℤ) (y x : XidName) (own k : List ℕ) (s : ℤ)
+    → map.get (map.insert sums (y, own) s) (x, k) ≡ (if xid_eq y x && key_eq own k then Some s else map.get sums (x, k))
+get_add sums y x own k s =
+    get-insert touch_cmp_total sums (y, own) s (x, k)
+    ∙ ap (λ b. cond b (Some s) (map.get sums (x, k))) (touch_same x y k own ∙ ap (λ b. xid_eq y x && b) (sym (swapped k own)))
+
 pub get_added : (sums : FinMap touch_cmp ℤ) (y x : XidName) (own k : List ℕ) (s : ℤ) → (x ≡ y → k ≡ own → ⊥)
     → map.get (map.insert sums (y, own) s) (x, k) ≡ map.get sums (x, k)
-get_added sums y x own k s apart =
-    get-insert touch_cmp_total sums (y, own) s (x, k)
-    ∙ ap (λ b. cond b (Some s) (map.get sums (x, k))) (false_from_ne_true _ (λ t. let e = touch_from (x, k) (y, own) t in apart (ap (λ (r : Touch). r.0) e) (ap (λ (r : Touch). r.1) e)))
+get_added sums y x own k s apart = grind (arith, get_add, Decides-xid_eq, Decides-key_eq)
 
 pending_other : (k : List ℕ) (p : Held) (y : XidName) (own : List ℕ) (s : ℤ) (sums : FinMap touch_cmp ℤ) → (k ≡ own → ⊥) → IsPending k p sums
     → IsPending k p (map.insert sums (y, own) s)
 pending_other k p y own s sums apart h = grind (arith, get_added)
 
-no_other : (sums : FinMap touch_cmp ℤ) (y x : XidName) (k : List ℕ) (s : ℤ) → has_other_touched sums y k ≡ false → map.get sums (x, k) ≡ Some s → x ≡ y
+pub no_other : (sums : FinMap touch_cmp ℤ) (y x : XidName) (k : List ℕ) (s : ℤ) → has_other_touched sums y k ≡ false → map.get sums (x, k) ≡ Some s → x ≡ y
 no_other sums y x k s none found =
     let t : (key_eq k k && not (xid_eq x y)) ≡ false =
     none_passes touch_cmp_total touch_cmp-IsAntisymmetric (λ (q : Touch) v. key_eq q.1 k && not (xid_eq q.0 y)) sums (x, k) s none found in
@@ -104,11 +115,7 @@ no_other sums y x k s none found =
 
 pending_own : (k : List ℕ) (y : XidName) (s : ℤ) (sums : FinMap touch_cmp ℤ) → has_other_touched sums y k ≡ false
     → IsPending k (Some (y, s)) (map.insert sums (y, k) s)
-pending_own k y s sums none = (
-  get-insert touch_cmp_total sums (y, k) s (y, k) ∙ ap (λ b. cond b (Some s) (map.get sums (y, k))) (touch_self (y, k)),
-  λ x apart. get_added sums y x k k s (λ e _. apart e)
-      ∙ elim (map.get sums (x, k)) as (λ o. map.get sums (x, k) ≡ o → o ≡ None) [ None ↦ λ e. refl | Some v ↦ λ e. absurd (apart (no_other sums y x k v none e)) ] refl,
-)
+pending_own k y s sums none = grind (arith, get_add, no_other, Decides-xid_eq, Decides-key_eq)
 
 due_own : (k : List ℕ) (p : Held) (y : XidName) (sums : FinMap touch_cmp ℤ) (later : XidName → Bool) → IsPending k p sums → has_other_touched sums y k ≡ false
     → due p later ≡ (if later y then sum_of sums y k else pos 0)
@@ -160,9 +167,7 @@ module _ (k : List ℕ) (p : Held) (T : Tables) (h : IsPending k p T.sums) where
     where
       paid : (b : Bool)
           → map.get (if b then committed y T else T).values k ≡ option_map (λ v. v +ℤ (if b then amount_of_held p y else pos 0)) (map.get T.values k)
-      paid true =
-          get-map_values key_cmp_total key_cmp-IsAntisymmetric (λ q v. v +ℤ sum_of T.sums y q) T.values k
-          ∙ ap (λ m. option_map (λ v. v +ℤ m) (map.get T.values k)) (amount_is k p y T.sums h)
+      paid true = get_committed y T k ∙ ap (λ m. option_map (λ v. v +ℤ m) (map.get T.values k)) (amount_is k p y T.sums h)
       paid false = plus_zero _
   by_move (Added own d l known alone) = gained k own d p l T h alone
 

@@ -1,22 +1,20 @@
 -- The law: the value of a declared key stays within the limits, whatever is requested, over any openings.
-use Rattle.xa_base.proofs.{◌≡◌, ◌≢◌, ℕ, ℤ, pos, ◌+ℤ◌, Bool, true, false, cond, not, ◌&&◌, Option, None, Some, option_map, unwrap_or, List, [], ◌∷◌, map, refl}
-use Rattle.xa_base.proofs.{nat_le, list_all, sym, ap, ◌∙◌, subst, le-leb, arith, FinMap, find, get-empty, get-insert, get-from_entries, eq_by_cmp, and_parts}
-use Rattle.xa_base.proofs.{not-false, +ℤ_idr as plus_none, by_bool, none_passes, get-map_values}
+use Rattle.xa_base.proofs.{◌≡◌, ◌≢◌, ℕ, ℤ, pos, ◌+ℤ◌, Bool, true, false, cond, not, ◌&&◌, Option, None, Some, List, [], ◌∷◌, map, refl, option_map, unwrap_or}
+use Rattle.xa_base.proofs.{nat_le, list_all, sym, ap, ◌∙◌, subst, le-leb, arith, FinMap, find, get-empty, get-from_entries, eq_by_cmp, and_parts, not-false}
+use Rattle.xa_base.proofs.{+ℤ_idr as plus_none, by_bool, none_passes}
 use Rattle.std.specs.FinMap as finmap
-use Rattle.xa_words.specs.{XidName, xid_cmp, xid_eq, key_eq, key_cmp_total, key_cmp-IsAntisymmetric, Decides-xid_eq, Decides-key_eq, Op}
+use Rattle.xa_words.specs.{XidName, xid_cmp, xid_eq, key_cmp_total, Decides-xid_eq, Decides-key_eq, Op, key_eq}
 use Rattle.xa_words.specs.Orders.{key_cmp}
-use Rattle.xa_tables.specs.{State, Active, Idle, RollbackOnly, HeuristicallyCompleted, HeuristicDecision, Failed, Transient, Association, Touch, touch_cmp}
-use Rattle.xa_tables.specs.{association_of, state_of, is_S3, is_within, value_of, sum_of, has_other_touched, is_broken, sums_without, Answer, next, stated}
-use Rattle.xa_tables.specs.{added, gone, completed, committed, are_accounts, opening, tables_after, StaysWithin, IsOpening, reopened, left_by, Tables, History}
-use Rattle.xa_tables.specs.declared.state.State.TheVariants.{Prepared as S3}
+use Rattle.xa_tables.specs.{State, HeuristicDecision, Association, touch_cmp, sum_of, association_of, state_of, is_S3, is_within, value_of, has_other_touched}
+use Rattle.xa_tables.specs.{is_broken, sums_without, Answer, next, added, gone, completed, committed, are_accounts, opening, tables_after, StaysWithin}
+use Rattle.xa_tables.specs.{IsOpening, reopened, left_by, Tables, History}
 use Rattle.xa_tables.specs.declared.state.HeuristicDecision.TheVariants as decision
 use Rattle.xa_tables.specs.Next.{forgotten}
 use Rattle.xa_tables.proofs.Reopening.{sums_reopened, reopens, new_opens, accounts_new, left_opens}
-use Rattle.xa_tables.proofs.AccountLemmas.{touch_cmp_total, touch_cmp-IsAntisymmetric, touch_from, within_bounds}
-use Rattle.xa_tables.proofs.Effects.{Effect, Starts, Joins, Fails, Idles, Dooms, Adds, Prepares, Commits, Drops, CommitsByItself, RollsBackByItself, Forgets}
-use Rattle.xa_tables.proofs.Effects.{effect_of}
-use Rattle.xa_tables.proofs.Law.{Sound, standing, where_put, where_gone, associated_works, voted_rests, sound_after, opening_sound}
-use Rattle.xa_tables.proofs.ValueLaw.{get_without, get_added}
+use Rattle.xa_tables.proofs.AccountLemmas.{touch_cmp_total, touch_cmp-IsAntisymmetric, within_bounds}
+use Rattle.xa_tables.proofs.Effects.{Effect, Adds, Prepares, Commits, Drops, CommitsByItself, RollsBackByItself, Forgets, effect_of}
+use Rattle.xa_tables.proofs.Law.{Sound, get_put, associated_works, voted_rests, sound_after, opening_sound, standing, get_gone}
+use Rattle.xa_tables.proofs.ValueLaw.{get_without, get_add, get_committed, no_other, get_added}
 
 -- each sum of x and its key's value are together within the limits
 abbrev Fits : Tables → XidName → Type 0
@@ -35,48 +33,32 @@ unbroken_fits T x unbroken k s at =
     none_passes touch_cmp_total touch_cmp-IsAntisymmetric (λ p r. xid_eq p.0 x && not (is_within (value_of T.values p.1 +ℤ r))) T.sums (x, k) s unbroken at in
     not-false (is_within (value_of T.values k +ℤ s)) (ap (λ b. b && not (is_within (value_of T.values k +ℤ s))) (sym ((Decides-xid_eq x x).1 refl)) ∙ none)
 
--- the values with y's sums are within the limits, and the other prepared branches fit them
-record Posted (T : Tables) (y : XidName) : Type 0 where
-  values : (k : List ℕ) (v : ℤ) → finmap.get (committed y T).values k ≡ Some v → is_within v ≡ true
-  others : (x : XidName) → (is_S3 (state_of T x) ≡ true) × (x ≢ y) → (k : List ℕ) (r : ℤ) → finmap.get (sums_without T.sums y) (x, k) ≡ Some r
-      → is_within (value_of (committed y T).values k +ℤ r) ≡ true
-
-some_same : {u v : ℤ} → Some u ≡ Some v → u ≡ v
-some_same e = cc
+-- a value with what a branch adds to it, if anything
+value_fits : (o q : Option ℤ) (v : ℤ) → option_map (λ u. u +ℤ unwrap_or q (pos 0)) o ≡ Some v → ((u : ℤ) → o ≡ Some u → is_within u ≡ true)
+    → ((u r : ℤ) → o ≡ Some u → q ≡ Some r → is_within (u +ℤ r) ≡ true) → is_within v ≡ true
+value_fits None q v at one both = cc
+value_fits (Some u) None v at one both = let w = one u refl in grind (arith, plus_none)
+value_fits (Some u) (Some r) v at one both = let w = both u r refl refl in grind arith
 
 module _ (t : ℕ) (T : Tables) (s : Sound T) (w : Kept T) where
-  -- y is put into a state; it fits, where that is S3
-  put : (y : XidName) (o : State) → (is_S3 (Some o) ≡ true → Fits T y) → Kept (stated y o T)
-  put y o fits = record {
-    values = w.values;
-    alone = w.alone;
-    prepared = λ x. where_put T y x o (λ _ p. is_S3 p ≡ true → Fits T x) (λ same e. subst (Fits T) same (fits e)) (λ _. w.prepared x);
-  }
-
   -- the branch of a thread's association, which alone has touched the key, adds to it
   adds : (k : List ℕ) (d : ℤ) (l : Association) → association_of T t ≡ Some l → has_other_touched T.sums l.xid k ≡ false → Kept (added l.xid k d T)
   adds k d l own free = record {
     values = w.values;
     alone = λ x y q a b at_x at_y.
-        by_bool (λ c. eq_by_cmp touch_cmp (x, q) (l.xid, k) ≡ c → cond c (Some (sum_of T.sums l.xid k +ℤ d)) (finmap.get T.sums (x, q)) ≡ Some a → x ≡ y) (eq_by_cmp touch_cmp (x, q) (l.xid, k))
-        (λ _ here e. let one = touch_from (x, q) (l.xid, k) here in ap (λ (p : Touch). p.0) one ∙ sym (only y q b (ap (λ (p : Touch). p.1) one) at_y))
-        (λ _ there e.
-        by_bool (λ c. eq_by_cmp touch_cmp (y, q) (l.xid, k) ≡ c → cond c (Some (sum_of T.sums l.xid k +ℤ d)) (finmap.get T.sums (y, q)) ≡ Some b → x ≡ y) (eq_by_cmp touch_cmp (y, q) (l.xid, k))
-        (λ _ here f. let one = touch_from (y, q) (l.xid, k) here in only x q a (ap (λ (p : Touch). p.1) one) at_x ∙ sym (ap (λ (p : Touch). p.0) one))
-        (λ _ _ f. w.alone x y q a b e f) refl (sym (get-insert touch_cmp_total T.sums (l.xid, k) (sum_of T.sums l.xid k +ℤ d) (y, q)) ∙ at_y))
-        refl (sym (get-insert touch_cmp_total T.sums (l.xid, k) (sum_of T.sums l.xid k +ℤ d) (x, q)) ∙ at_x);
-    prepared = λ x is q r at. w.prepared x is q r (sym (get_added T.sums l.xid x k q (sum_of T.sums l.xid k +ℤ d) (λ same _. voted_rests (state_of T x) is (ap (λ z. standing (state_of T z)) same ∙ associated_works T s t l own))) ∙ at);
+        by_bool (λ c. key_eq k q ≡ c → x ≡ y) (key_eq k q) (λ _ t. only x q a t at_x ∙ sym (only y q b t at_y))
+        (λ _ f. w.alone x y q a b (beside x q a f at_x) (beside y q b f at_y)) refl;
+    prepared = λ x is q r at. w.prepared x is q r (sym (get_added T.sums l.xid x k q _ (λ same _. voted_rests (state_of T x) is (ap (λ z. standing (state_of T z)) same ∙ associated_works T s t l own))) ∙ at);
   }
     where
-      -- whoever has touched that key is the branch itself
-      only : (y : XidName) (q : List ℕ) (b : ℤ) → q ≡ k → finmap.get (finmap.insert T.sums (l.xid, k) (sum_of T.sums l.xid k +ℤ d)) (y, q) ≡ Some b → y ≡ l.xid
-      only y q b same at =
-          by_bool (λ c. eq_by_cmp touch_cmp (y, q) (l.xid, k) ≡ c → cond c (Some (sum_of T.sums l.xid k +ℤ d)) (finmap.get T.sums (y, q)) ≡ Some b → y ≡ l.xid) (eq_by_cmp touch_cmp (y, q) (l.xid, k))
-          (λ _ here e. ap (λ (p : Touch). p.0) (touch_from (y, q) (l.xid, k) here))
-          (λ _ _ e.
-          let none = none_passes touch_cmp_total touch_cmp-IsAntisymmetric (λ p r. key_eq p.1 k && not (xid_eq p.0 l.xid)) T.sums (y, q) b free e in
-          (Decides-xid_eq y l.xid).0 (not-false (xid_eq y l.xid) (ap (λ c. c && not (xid_eq y l.xid)) (sym ((Decides-key_eq q k).1 same)) ∙ none)))
-          refl (sym (get-insert touch_cmp_total T.sums (l.xid, k) (sum_of T.sums l.xid k +ℤ d) (y, q)) ∙ at)
+      -- whoever has touched that key is the branch itself, and the other keys are touched as they were
+      only : (x : XidName) (q : List ℕ) (a : ℤ) → key_eq k q ≡ true
+          → finmap.get (finmap.insert T.sums (l.xid, k) (sum_of T.sums l.xid k +ℤ d)) (x, q) ≡ Some a → x ≡ l.xid
+      only x q a t at = grind (arith, get_add, no_other, Decides-xid_eq, Decides-key_eq)
+
+      beside : (x : XidName) (q : List ℕ) (a : ℤ) → key_eq k q ≡ false
+          → finmap.get (finmap.insert T.sums (l.xid, k) (sum_of T.sums l.xid k +ℤ d)) (x, q) ≡ Some a → finmap.get T.sums (x, q) ≡ Some a
+      beside x q a f at = grind (arith, get_add)
 
   -- what was touched by a branch that is left when y is gone
   left : (y x : XidName) (k : List ℕ) (r : ℤ) → finmap.get (sums_without T.sums y) (x, k) ≡ Some r → finmap.get T.sums (x, k) ≡ Some r
@@ -86,14 +68,11 @@ module _ (t : ℕ) (T : Tables) (s : Sound T) (w : Kept T) where
   abbrev Left : XidName → Option State → XidName → Type 0
   Left y o x = is_S3 o ≡ true → (is_S3 (state_of T x) ≡ true) × (x ≢ y)
 
-  other : (y x : XidName) → xid_eq y x ≡ false → Left y (state_of T x) x
-  other y x apart e = (e, λ same. let z = (Decides-xid_eq y x).1 (sym same) in cc)
-
   still : (y x : XidName) → Left y (state_of (gone y T) x) x
-  still y x = where_gone T y x (λ _ o. Left y o x) (λ _ e. cc) (other y x)
+  still y x e = grind (arith, get_gone, Decides-xid_eq)
 
   undecided : (y : XidName) (d : HeuristicDecision) (x : XidName) → Left y (state_of (completed y d T) x) x
-  undecided y d x = where_put T y x (HeuristicallyCompleted d) (λ _ o. Left y o x) (λ _ e. cc) (other y x)
+  undecided y d x e = grind (arith, get_put, Decides-xid_eq)
 
   -- y is gone, and its sums stay
   forgets : (y : XidName) → Kept (forgotten y T)
@@ -103,65 +82,45 @@ module _ (t : ℕ) (T : Tables) (s : Sound T) (w : Kept T) where
   drops : (y : XidName) (m : FinMap xid_cmp State) → ((x : XidName) → Left y (finmap.get m x) x) → Kept (record (gone y T) { states = m })
   drops y m others = grind (arith, left)
 
-  -- y, which fits, is added to the values
-  posts : (y : XidName) → Fits T y → Posted T y
-  posts y fits = record {
-    values = λ k v at. value_fits (finmap.get T.values k) (finmap.get T.sums (y, k)) k v refl refl (sym (valued k) ∙ at);
-    others = λ x old k r at.
-        let own = left y x k r at in
-        let untouched : finmap.get T.sums (y, k) ≡ None = nobody_else x k r own old.1 in
-        subst (λ (v : ℤ). is_within (v +ℤ r) ≡ true)
-        (sym (ap (λ o. unwrap_or o (pos 0)) (valued k) ∙ ap (λ o. unwrap_or (option_map (λ v. v +ℤ unwrap_or o (pos 0)) (finmap.get T.values k)) (pos 0)) untouched ∙ none_more (finmap.get T.values k)))
-        (w.prepared x old.0 k r own);
-  }
-    where
-      valued : (k : List ℕ) → finmap.get (committed y T).values k ≡ option_map (λ v. v +ℤ sum_of T.sums y k) (finmap.get T.values k)
-      valued k = get-map_values key_cmp_total key_cmp-IsAntisymmetric (λ q v. v +ℤ sum_of T.sums y q) T.values k
+  -- once y, which fits, is added to the values, they are within the limits, and another prepared branch fits
+  posted_within : (y : XidName) → Fits T y → (k : List ℕ) (v : ℤ) → finmap.get (committed y T).values k ≡ Some v → is_within v ≡ true
+  posted_within y fits k v at =
+      value_fits (finmap.get T.values k) (finmap.get T.sums (y, k)) v (sym (get_committed y T k) ∙ at) (w.values k)
+      (λ u r here there. ap (λ o. is_within (unwrap_or o (pos 0) +ℤ r)) (sym here) ∙ fits k r there)
 
-      none_more : (o : Option ℤ) → unwrap_or (option_map (λ v. v +ℤ pos 0) o) (pos 0) ≡ unwrap_or o (pos 0)
-      none_more None = refl
-      none_more (Some v) = plus_none v
+  nobody_else : (x y : XidName) (k : List ℕ) (r : ℤ) → finmap.get T.sums (x, k) ≡ Some r → x ≢ y → finmap.get T.sums (y, k) ≡ None
+  nobody_else x y k r own other =
+      elim (finmap.get T.sums (y, k)) as (λ o. finmap.get T.sums (y, k) ≡ o → o ≡ None) [
+        | None ↦ λ _. refl
+        | Some q ↦ λ there. absurd (other (w.alone x y k r q own there))
+      ] refl
 
-      value_fits : (o q : Option ℤ) (k : List ℕ) (v : ℤ) → finmap.get T.values k ≡ o → finmap.get T.sums (y, k) ≡ q
-          → option_map (λ u. u +ℤ sum_of T.sums y k) (finmap.get T.values k) ≡ Some v → is_within v ≡ true
-      value_fits None q k v here there at = let z : None ≡ Some v = sym (ap (option_map (λ u. u +ℤ sum_of T.sums y k)) here) ∙ at in cc
-      value_fits (Some u) None k v here there at =
-          let same : u +ℤ pos 0 ≡ v =
-          some_same (ap (λ (z : ℤ). Some (u +ℤ z)) (sym (ap (λ o. unwrap_or o (pos 0)) there)) ∙ sym (ap (option_map (λ u. u +ℤ sum_of T.sums y k)) here) ∙ at) in
-          subst (λ (z : ℤ). is_within z ≡ true) (sym (plus_none u) ∙ same) (w.values k u here)
-      value_fits (Some u) (Some r) k v here there at =
-          let same : u +ℤ r ≡ v =
-          some_same (ap (λ (z : ℤ). Some (u +ℤ z)) (sym (ap (λ o. unwrap_or o (pos 0)) there)) ∙ sym (ap (option_map (λ u. u +ℤ sum_of T.sums y k)) here) ∙ at) in
-          subst (λ (z : ℤ). is_within z ≡ true) (ap (λ o. unwrap_or o (pos 0) +ℤ r) here ∙ same) (fits k r there)
-
-      nobody_else : (x : XidName) (k : List ℕ) (r : ℤ) → finmap.get T.sums (x, k) ≡ Some r → x ≢ y → finmap.get T.sums (y, k) ≡ None
-      nobody_else x k r own other =
-          elim (finmap.get T.sums (y, k)) as (λ o. finmap.get T.sums (y, k) ≡ o → o ≡ None) [
-            | None ↦ λ _. refl
-            | Some q ↦ λ there. absurd (other (w.alone x y k r q own there))
-          ] refl
+  posted_beside : (y x : XidName) (k : List ℕ) (r : ℤ) → is_S3 (state_of T x) ≡ true → x ≢ y → finmap.get T.sums (x, k) ≡ Some r
+      → finmap.get T.sums (y, k) ≡ None → is_within (value_of (committed y T).values k +ℤ r) ≡ true
+  posted_beside y x k r voted other own none = grind (arith, get_committed, plus_none)
 
   -- y, which fits, is committed
   commits : (y : XidName) (m : FinMap xid_cmp State) → ((x : XidName) → Left y (finmap.get m x) x) → Fits T y
       → Kept (record (gone y (committed y T)) { states = m })
-  commits y m others fits =
-      record { values = (posts y fits).values; alone = (drops y m others).alone; prepared = λ x is. (posts y fits).others x (others x is) }
+  commits y m others fits = record {
+    values = posted_within y fits;
+    alone = (drops y m others).alone;
+    prepared = λ x is k r at.
+        let old = others x is in
+        let own = left y x k r at in
+        posted_beside y x k r old.0 old.1 own (nobody_else x y k r own old.1);
+  }
 
   by_effect : {op : Op} {a : Answer} → Effect t T op a → Kept a.0
-  by_effect (Starts y free) = let p = put y Active (λ e. cc) in record { values = p.values; alone = p.alone; prepared = p.prepared }
-  by_effect (Joins y free there unprepared) = let p = put y Active (λ e. cc) in record { values = p.values; alone = p.alone; prepared = p.prepared }
-  by_effect (Fails y own) = let p = put y (RollbackOnly Failed) (λ e. cc) in record { values = p.values; alone = p.alone; prepared = p.prepared }
-  by_effect (Idles y own alone) = let p = put y Idle (λ e. cc) in record { values = p.values; alone = p.alone; prepared = p.prepared }
-  by_effect (Dooms k d l own) = put l.xid (RollbackOnly Transient) (λ e. cc)
   by_effect (Adds k d l own known free) = adds k d l own free
-  by_effect (Prepares y nobody unbroken) = put y S3 (λ _. unbroken_fits T y unbroken)
+  by_effect (Prepares y nobody unbroken) = grind (arith, get_put, Decides-xid_eq, unbroken_fits)
   by_effect (Commits y one_phase nobody may) = grind (arith, commits, still, unbroken_fits)
   by_effect (Drops op y c nobody tells) = drops y _ (still y)
   by_effect (CommitsByItself y voted) = commits y _ (undecided y decision.Commit) (w.prepared y voted)
   by_effect (RollsBackByItself y voted) = drops y _ (undecided y decision.Rollback)
   by_effect (Forgets y is) = forgets y
   -- the others change no state, no sum and no value
-  by_effect effect = record { values = w.values; alone = w.alone; prepared = w.prepared }
+  by_effect effect = grind (arith, get_put, Decides-xid_eq)
 
 -- ---- after a history
 

@@ -5,8 +5,7 @@ use Rattle.xa_words.specs.{XidName, xid_eq, Decides-xid_eq, Done, Op, Start, Add
 use Rattle.xa_tables.specs.{Association, Associated, association_of, is_association_with, is_associated, is_somebody_associated, Answer, next, association}
 use Rattle.xa_tables.specs.{Live, of_thread, tables_after, fate_of, ending, is_done, added_by, IsOpening, names, NamesNowhere, gain, unless_ended, added_by_now}
 use Rattle.xa_tables.specs.{request, LeavesAtWork, DoesWork, Tables, History}
-use Rattle.xa_tables.proofs.Effects.{Effect, Starts, Joins, Resumes, Suspends, Leaves, Fails, Idles, effect_of}
-use Rattle.xa_tables.proofs.Moves.{quiet_named}
+use Rattle.xa_tables.proofs.Effects.{Effect, effect_of, Starts, quiet_named}
 use Rattle.xa_tables.proofs.SoundLemmas.{own_put, other_put, own_removed, other_removed}
 use Rattle.xa_tables.proofs.Law.{opening_free}
 use Rattle.xa_tables.proofs.Unnamed.{apart_from, unnamed_fate, unnamed_stays, unnamed_on}
@@ -20,14 +19,8 @@ module _ (t : ℕ) (T : Tables) where
 
   -- and its thread becomes associated with no branch that it doesn't name
   pub stays_apart : (x : XidName) {op : Op} {a : Answer} → Effect t T op a → names x op ≡ false → is_associated T t x ≡ false → is_associated a.0 t x ≡ false
-  stays_apart x (Starts y free) n h = ap (λ o. is_association_with o x) (own_put T.associations t _) ∙ n
-  stays_apart x (Joins y free there unprepared) n h = ap (λ o. is_association_with o x) (own_put T.associations t _) ∙ n
-  stays_apart x (Resumes y own) n h = ap (λ o. is_association_with o x) (own_put T.associations t _) ∙ n
-  stays_apart x (Suspends y own) n h = ap (λ o. is_association_with o x) (own_put T.associations t _) ∙ n
-  stays_apart x (Leaves y how c own why) n h = ap (λ o. is_association_with o x) (own_removed T.associations t)
-  stays_apart x (Fails y own) n h = ap (λ o. is_association_with o x) (own_removed T.associations t)
-  stays_apart x (Idles y own alone) n h = ap (λ o. is_association_with o x) (own_removed T.associations t)
-  stays_apart x effect n h = h
+  stays_apart x (Starts y free) n h = grind (arith, own_put)
+  stays_apart x effect n h = grind (arith, own_put, own_removed)
 
 -- ---- what requests add that aren't the branch's
 

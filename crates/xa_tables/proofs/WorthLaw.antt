@@ -1,25 +1,94 @@
--- The laws: commits alone, heuristic ones included, move what the accounts are worth together, by what their branches hold, and a branch holds what it
--- has added.
-use Rattle.xa_base.proofs.{◌≡◌, ℕ, zero, suc, ℤ, pos, ◌+ℤ◌, Bool, true, false, cond, not, ◌&&◌, ◌||◌, if◌then◌else◌, Option, None, Some, is_some, option_map}
-use Rattle.xa_base.proofs.{unwrap_or, List, [], ◌∷◌, ◌<◌, length, map, refl, All, list_any, find, get-empty, get-insert, get-from_entries, sym, ap, ◌∙◌, arith}
-use Rattle.xa_base.proofs.{get_or, ints, and_parts, not-true, or-true, +ℤ_idl as none_plus, total_same, total_alike, total_both, total_nothing, get-map_values}
-use Rattle.xa_base.proofs.{by_bool, length-map, get_or-map}
-use Rattle.std.specs.FinMap as finmap
-use Rattle.xa_base.specs.{total}
-use Rattle.xa_words.specs.{XidName, xid_eq, key_eq, key_cmp_total, key_cmp-IsAntisymmetric, Decides-xid_eq, Decides-key_eq, Done, RdOnly, Op, Add, Prepare}
-use Rattle.xa_words.specs.{Request, Code}
-use Rattle.xa_words.specs.Orders.{key_cmp}
-use Rattle.xa_tables.specs.{Association, Touch, touch_cmp, is_declared, value_of, sum_of, sums_without, Answer, next, added, committed, are_accounts, are_apart}
-use Rattle.xa_tables.specs.{opening, fate_of, tables_after, added_by, share_of, is_done, ending, IsOpening, NamesNowhere, worth_declared, worth, held_by}
-use Rattle.xa_tables.specs.{moved_by, moved, is_any, gain, unless_ended, added_by_now, WorthIsMoved, HoldsItsAdditions, DeclareEach, WorthIsMovedFrom, Account}
-use Rattle.xa_tables.specs.{Tables, History}
-use Rattle.xa_tables.proofs.AccountLemmas.{touch_cmp_total, touch_self, value_found, at_own_key}
-use Rattle.xa_tables.proofs.PlaceLemmas.{swapped, account_of, declared_entries, distinct_apart}
-use Rattle.xa_tables.proofs.Moves.{Moves, Still, Ended, Added, moves_of}
+-- The laws: a branch that has added to a key doesn't vote read-only, unless it was ended in between; commits alone, heuristic ones included, move what
+-- the accounts are worth together, by what their branches hold; and a branch holds what it has added.
+use Rattle.xa_base.proofs.{◌≡◌, ◌≢◌, ℕ, suc, ℤ, Bool, true, false, cond, if◌then◌else◌, Option, None, Some, option_map, is_some, List, [], ◌∷◌, refl, sym, ap}
+use Rattle.xa_base.proofs.{◌∙◌, subst, arith, get-insert, eq_by_cmp, none_passes, zero, pos, ◌+ℤ◌, not, ◌&&◌, ◌||◌, unwrap_or, ◌<◌, length, map, All, list_any}
+use Rattle.xa_base.proofs.{find, get-empty, get-from_entries, get_or, ints, and_parts, not-true, or-true, +ℤ_idl as none_plus, total_same, total_alike}
+use Rattle.xa_base.proofs.{total_both, total_nothing, by_bool, length-map, get_or-map}
+use Rattle.xa_words.specs.{XidName, xid_eq, Decides-xid_eq, Done, RdOnly, Op, Add, Prepare, Decides-key_eq, key_eq, key_cmp_total, Request, Code}
+use Rattle.xa_tables.specs.{Association, touch_cmp, association_of, is_rollback_only, reason_of, state_of, branch_in, has_touched, sums_without, Answer, next}
+use Rattle.xa_tables.specs.{ending, fate_of, tables_after, EndsNowhere, is_rolled_back, Tables, History, is_declared, value_of, sum_of, added, committed}
+use Rattle.xa_tables.specs.{are_accounts, are_apart, opening, added_by, share_of, is_done, IsOpening, NamesNowhere, worth_declared, worth, held_by, moved_by}
+use Rattle.xa_tables.specs.{moved, is_any, gain, unless_ended, added_by_now, WorthIsMoved, HoldsItsAdditions, DeclareEach, WorthIsMovedFrom, Account}
+use Rattle.xa_tables.proofs.Effects.{reason_rolls_back, Moves, Still, Ended, Added, moves_of}
 use Rattle.xa_tables.proofs.Law.{swap_xid}
-use Rattle.xa_tables.proofs.ValueLaw.{get_without, get_added}
-use Rattle.xa_tables.proofs.AddedLaw.{untouched, reads_only}
+use Rattle.xa_tables.proofs.AccountLemmas.{touch_cmp_total, touch_cmp-IsAntisymmetric, value_found, at_own_key}
+use Rattle.xa_tables.proofs.ValueLaw.{get_without, get_add, get_committed}
+use Rattle.xa_base.specs.{total}
+use Rattle.xa_words.specs.Orders.{key_cmp}
+use Rattle.xa_tables.proofs.PlaceLemmas.{swapped, account_of, declared_entries, distinct_apart}
 use Rattle.xa_tables.proofs.PreparedLaw.{sums_kept}
+use Rattle.std.specs.FinMap as finmap
+
+-- x has added to k
+abbrev HasAdded : XidName → List ℕ → Tables → Type 0
+HasAdded x k T = is_some (finmap.get T.sums (x, k)) ≡ true
+
+either : {A : Type 0} (b : Bool) (v : A) (o : Option A) → is_some o ≡ true → is_some (cond b (Some v) o) ≡ true
+either b v o e = grind arith
+
+-- a branch that has touched no key has none
+pub untouched : (x : XidName) (T : Tables) → has_touched T.sums x ≡ false → (k : List ℕ) → finmap.get T.sums (x, k) ≡ None
+untouched x T none k =
+    elim (finmap.get T.sums (x, k)) as (λ o. finmap.get T.sums (x, k) ≡ o → o ≡ None) [
+      | None ↦ λ e. refl
+      | Some v ↦ λ e.
+          let no : xid_eq x x ≡ false = none_passes touch_cmp_total touch_cmp-IsAntisymmetric (λ p s. xid_eq p.0 x) T.sums (x, k) v none e in
+          let yes : xid_eq x x ≡ true = (Decides-xid_eq x x).1 refl in
+          cc
+    ] refl
+
+-- once y is gone, x has added what it had, unless it was y
+left_there : (x y : XidName) (k : List ℕ) (T : Tables) → xid_eq x y ≡ false → HasAdded x k T → is_some (finmap.get (sums_without T.sums y) (x, k)) ≡ true
+left_there x y k T other h = ap is_some (get_without T.sums y x k ∙ ap (λ b. if b then None else finmap.get T.sums (x, k)) other) ∙ h
+
+-- a request that ends y doesn't end x, and so x isn't y
+pub not_ended : (x y : XidName) (b : Bool) → (if xid_eq y x then Some b else None) ≡ None → xid_eq x y ≡ false
+not_ended x y b none = grind (arith, swap_xid)
+
+-- a request that doesn't end the branch leaves what it has added to
+stays : (x : XidName) (k : List ℕ) (T : Tables) {l : Option Association} {op : Op} {a : Answer} → Moves T l op a → HasAdded x k T
+    → ending (fate_of x op a.1) ≡ None → HasAdded x k a.0
+stays x k T (Still l op a sums values shares moved endings) h n = ap (λ m. is_some (finmap.get m (x, k))) sums ∙ h
+stays x k T (Ended l op a y commits sums values shares moved endings) h n =
+    ap (λ m. is_some (finmap.get m (x, k))) sums ∙ left_there x y k T (not_ended x y commits (sym (endings x) ∙ n)) h
+stays x k T (Added own d l known alone) h n =
+    ap is_some (get-insert touch_cmp_total T.sums (l.xid, own) _ (x, k)) ∙ either (eq_by_cmp touch_cmp (x, k) (l.xid, own)) _ (finmap.get T.sums (x, k)) h
+
+stays_on : (g : History) (x : XidName) (k : List ℕ) (T : Tables) → HasAdded x k T → EndsNowhere x g T → HasAdded x k (tables_after g T)
+stays_on [] x k T h n = h
+stays_on (r ∷ g) x k T h n =
+    stays_on g x k (next r.thread r.op T).0 (stays x k T (moves_of r.thread r.op T) h (n 0 (r, (next r.thread r.op T).1) (omega arith)))
+    (λ i e lt. n (suc i) e (omega arith))
+
+-- an addition that is answered XA_OK
+branch_is : (o : Option Association) (x : XidName) → option_map (λ (a : Association). a.xid) o ≡ Some x → branch_in o ≡ x
+branch_is o x e = grind arith
+
+pub reason_not_done : (T : Tables) (y : XidName) → is_rollback_only T y ≡ true → reason_of T y ≡ Done → ⊥
+reason_not_done T y back e = let z : is_rolled_back Done ≡ true = ap is_rolled_back (sym e) ∙ reason_rolls_back (state_of T y) back in cc
+
+has_added : (t : ℕ) (x : XidName) (k : List ℕ) (d : ℤ) (T : Tables) → option_map (λ (a : Association). a.xid) (association_of T t) ≡ Some x
+    → (next t (Add k d) T).1 ≡ Done → HasAdded x k (next t (Add k d) T).0
+unfolding next
+has_added t x k d T own = grind (arith, get_add, reason_not_done, branch_is, Decides-xid_eq, Decides-key_eq)
+
+-- a Prepare that is answered XA_RDONLY is of a branch that touched no key
+pub reads_only : (t : ℕ) (x : XidName) (T : Tables) → (next t (Prepare x) T).1 ≡ RdOnly → has_touched T.sums x ≡ false
+unfolding next
+reads_only t x T = grind arith
+
+pub added_law : (t u : ℕ) (op : Op) (x : XidName) (k : List ℕ) (d : ℤ) (g : History) (T : Tables) → op ≡ Add k d
+    → option_map (λ (a : Association). a.xid) (association_of T u) ≡ Some x
+    → (next u op T).1 ≡ Done → EndsNowhere x g (next u op T).0 → (next t (Prepare x) (tables_after g (next u op T).0)).1 ≢ RdOnly
+added_law t u op x k d g T is own =
+    subst (λ (o : Op). (next u o T).1 ≡ Done → EndsNowhere x g (next u o T).0 → (next t (Prepare x) (tables_after g (next u o T).0)).1 ≢ RdOnly) (sym is) (λ done unended reads.
+    let after : Tables = (next u (Add k d) T).0 in
+    let there : HasAdded x k (tables_after g after) = stays_on g x k after (has_added u x k d T own done) unended in
+    let none : finmap.get (tables_after g after).sums (x, k) ≡ None = untouched x (tables_after g after) (reads_only t x (tables_after g after) reads) k in
+    let z : false ≡ true = sym (ap is_some none) ∙ there in
+    cc)
+
+-- ---- what accounts are worth
 
 abbrev Accounts : Type 0
 Accounts = List (List ℕ × ℕ)
@@ -100,18 +169,7 @@ opening_holds accounts x =
 -- an addition counts for its branch, at its key
 get_sum : (x y : XidName) (own k : List ℕ) (d : ℤ) (T : Tables)
     → sum_of (added y own d T).sums x k ≡ sum_of T.sums x k +ℤ (if xid_eq y x then (if key_eq k own then d else pos 0) else pos 0)
-get_sum x y own k d T =
-    let apart : (x ≡ y → k ≡ own → ⊥) → sum_of (added y own d T).sums x k ≡ sum_of T.sums x k +ℤ pos 0 =
-    λ e. ap (λ o. unwrap_or o (pos 0)) (get_added T.sums y x own k _ e) ∙ plus_none _ in
-    by_bool (λ b. xid_eq y x ≡ b → sum_of (added y own d T).sums x k ≡ sum_of T.sums x k +ℤ (if b then (if key_eq k own then d else pos 0) else pos 0)) (xid_eq y x) (λ _ u.
-    by_bool (λ b. key_eq k own ≡ b → sum_of (added y own d T).sums x k ≡ sum_of T.sums x k +ℤ (if b then d else pos 0)) (key_eq k own) (λ _ t.
-    let v : ℤ = sum_of T.sums y own +ℤ d in
-    let same : ◌≡◌ {A = Touch} (x, k) (y, own) = λ i. (sym ((Decides-xid_eq y x).0 u) i, (Decides-key_eq k own).0 t i) in
-    ap (λ (p : Touch). unwrap_or (finmap.get (added y own d T).sums p) (pos 0)) same
-    ∙ ap (λ o. unwrap_or o (pos 0)) (get-insert touch_cmp_total T.sums (y, own) v (y, own) ∙ ap (λ b. cond b (Some v) (finmap.get T.sums (y, own))) (touch_self (y, own)))
-    ∙ ap (λ (p : Touch). unwrap_or (finmap.get T.sums p) (pos 0) +ℤ d) (sym same))
-    (λ _ t. apart (λ _ e. let z = (Decides-key_eq k own).1 e in cc)) refl)
-    (λ _ u. apart (λ e _. let z = (Decides-xid_eq y x).1 (sym e) in cc)) refl
+get_sum x y own k d T = grind (arith, get_add, Decides-xid_eq, Decides-key_eq, plus_none)
 
 -- what a request that is so answered does to the worth of accounts, and to what branches hold
 record WorthStep (accounts : Accounts) (op : Op) (T : Tables) (a : Answer) : Type 0 where
@@ -144,19 +202,11 @@ module _ (accounts : Accounts) (T : Tables) where
 
   -- the values once y is committed
   paid_value : (y : XidName) (d : List ℕ × ℕ) → is_declared T d.0 ≡ true → value_of (committed y T).values d.0 ≡ value_of T.values d.0 +ℤ sum_of T.sums y d.0
-  paid_value y d known =
-      ap (λ o. unwrap_or o (pos 0)) (get-map_values key_cmp_total key_cmp-IsAntisymmetric (λ q v. v +ℤ sum_of T.sums y q) T.values d.0)
-      ∙ elim (finmap.get T.values d.0) as (λ o. is_some o ≡ true → unwrap_or (option_map (λ v. v +ℤ sum_of T.sums y d.0) o) (pos 0) ≡ unwrap_or o (pos 0) +ℤ sum_of T.sums y d.0) [
-        | None ↦ λ e. cc
-        | Some v ↦ λ e. refl
-      ] known
+  paid_value y d known = grind (arith, get_committed)
 
   -- the keys and the worth once y has ended
   ended_keys : (y : XidName) (commits : Bool) (k : List ℕ) → is_declared (if commits then committed y T else T) k ≡ is_declared T k
-  ended_keys y true k =
-      ap is_some (get-map_values key_cmp_total key_cmp-IsAntisymmetric (λ q v. v +ℤ sum_of T.sums y q) T.values k)
-      ∙ elim (finmap.get T.values k) as (λ o. is_some (option_map (λ v. v +ℤ sum_of T.sums y k) o) ≡ is_some o) [ None ↦ refl | Some v ↦ refl ]
-  ended_keys y false k = refl
+  ended_keys y commits k = grind (arith, get_committed)
 
   ended_worth : (y : XidName) (commits : Bool) → DeclareEach accounts T
       → worth accounts (if commits then committed y T else T) ≡ worth accounts T +ℤ (if commits then held_by accounts y T else pos 0)

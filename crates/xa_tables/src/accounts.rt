@@ -64,6 +64,7 @@ impl Model for Accounts {
 
 impl Accounts {
     /// The keys with their values at the opening; no branch has touched them.
+    #[tactic(auto, using(crate::proofs::PlaceLemmas::as_declared))]
     pub(crate) fn new(alloc: Global, declared: &[(Key, u64)]) -> Result<Accounts, AllocError>
         requires { are_accounts declared.now ≡ true }
         ensures sums { IfOk result (λ a. a.sums ≡ finmap.empty) }
@@ -90,6 +91,7 @@ impl Accounts {
     }
 
     /// The committed value of a key, and `None` where it isn't declared.
+    #[tactic(auto, using(crate::proofs::PlaceLemmas::place_within))]
     pub(crate) fn value(&self, key: &Key) -> Option<u64>
         ensures value { option_map pos result ≡ finmap.get self.now.values key.now }
         ensures bounded { IfSome result (λ v. v ≤ MOST_VALUE) }
@@ -109,6 +111,7 @@ impl Accounts {
     }
 
     /// Whether the branch has touched a key.
+    #[tactic(auto, using(crate::proofs::HeldLemmas::held_alike, crate::proofs::HeldLemmas::touched_held, crate::proofs::AccountLemmas::touched_any))]
     pub(crate) fn has_touched(&self, xid: &Xid) -> bool
         ensures { result ≡ has_touched self.now.sums xid.now }
     {
@@ -118,6 +121,7 @@ impl Accounts {
     }
 
     /// Whether another branch than this has touched the key at a place.
+    #[tactic(auto, using(crate::proofs::PlaceLemmas::keys_there))]
     #[inline(always)]
     pub(crate) fn has_other_touched(&self, xid: &Xid, place: usize) -> bool
         requires { place < length self.now.keys }
@@ -136,6 +140,7 @@ impl Accounts {
     }
 
     /// Adds to the branch's sum at the key at a place.
+    #[tactic(auto, using(crate::proofs::PlaceLemmas::keys_there))]
     #[inline(always)]
     pub(crate) fn add(&mut self, xid: &Xid, place: usize, delta: Delta)
         requires within { place < length self.old.keys }
@@ -266,6 +271,7 @@ fn keep_held(held: &mut Vec<usize>, accounts: &[Account])
 }
 
 // Whether a branch has touched the key at this place.
+#[tactic(auto, using(crate::proofs::HeldLemmas::read_at))]
 fn is_held_at(accounts: &[Account], place: usize) -> bool
     ensures { result ≡ is_held_at accounts.now place }
 {
@@ -353,7 +359,7 @@ fn with_added(account: &Account, adds: u64, xid: &Xid, delta: Delta) -> Account
 }
 
 // Adds to the values what the branch holds, and lets go of it.
-#[tactic(auto, using(crate::proofs::HeldLemmas::held_within))]
+#[tactic(auto, using(crate::proofs::HeldLemmas::held_within, crate::proofs::HeldLemmas::read_at, crate::proofs::AccountLemmas::passes_none))]
 fn post_all(accounts: &mut [Account], held: &[usize], xid: &Xid)
     requires held { AreHeld held.now accounts.old }
     requires whole { list_any (λ a. is_broken_by a xid.now) accounts.old ≡ false }

@@ -45,7 +45,7 @@ impl Branches {
     }
 
     /// The state of a branch, and `None` where it doesn't exist.
-    #[tactic(auto, using(crate::proofs::Xids::state_found))]
+    #[tactic(auto, using(crate::proofs::SoundLemmas::state_found))]
     #[inline(always)]
     pub(crate) fn get(&self, xid: &Xid) -> Option<State>
         ensures { result ≡ map.get self.now.states xid.now }

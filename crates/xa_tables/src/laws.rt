@@ -29,6 +29,7 @@ ghost use Rattle.xa_tables.specs.Worked.{forgotten_later, value_after, ended_the
 
 /// What an opening leaves is what another may begin with, as the first begins with accounts alone; what is left stays
 /// left.
+#[tactic(auto, using(crate::proofs::Reopening::accounts_new, crate::proofs::Reopening::left_opens))]
 pub fn openings_begin_with_what_was_left()
     ensures first { (accounts : List (List ℕ × ℕ)) → IsNew (opening accounts) }
     ensures new { (T : Tables) → IsNew T → IsOpening T }
@@ -40,6 +41,7 @@ pub fn openings_begin_with_what_was_left()
 /// Whatever is requested, the tables tell what became of each branch: it is prepared exactly if it is in doubt, it
 /// exists exactly while it is at work or in doubt or is heuristically completed, and then it ended as was decided. So
 /// it is in an opening, from a fate that its first tables tell, and over any openings one after another.
+#[tactic(auto, using(crate::proofs::Reopening::begin_law, crate::proofs::Reopening::kept_law))]
 pub fn tables_tell_the_fates()
     ensures first { (x : XidName) (T : Tables) → IsFateOf x (told_by (state_of T x)) T }
     ensures kept { (h : History) (x : XidName) (f : Fate) (T : Tables) → IsOpening T → IsFateOf x f T
@@ -51,14 +53,14 @@ pub fn tables_tell_the_fates()
 {}
 
 /// Whatever is requested, a branch that doesn't exist, or is heuristically completed, has touched no key.
-#[tactic(auto, using(crate::proofs::TouchLaw::touch_law))]
+#[tactic(auto, using(crate::proofs::BranchLaws::touch_law))]
 pub fn only_unfinished_branches_have_touched_keys()
     ensures { (h : History) (x : XidName) (T : Tables) → IsOpening T → OnlyUnfinishedTouch x h T }
 {}
 
 /// Whatever is requested, a branch is active exactly while somebody is associated with it, suspended or
 /// not, and it is neither prepared nor rollback-only nor heuristically completed.
-#[tactic(auto, using(crate::proofs::ActiveLaw::active_law))]
+#[tactic(auto, using(crate::proofs::BranchLaws::active_law))]
 pub fn branches_are_active_while_associated()
     ensures { (h : History) (x : XidName) (T : Tables) → IsOpening T → ActiveWhileAssociated x h T }
 {}
@@ -78,7 +80,7 @@ pub fn value_is_sum()
 
 /// A branch that has added to a key isn't read only: its Prepare isn't answered XA_RDONLY, unless it was
 /// ended in between.
-#[tactic(auto, using(crate::proofs::AddedLaw::added_law))]
+#[tactic(auto, using(crate::proofs::WorthLaw::added_law))]
 pub fn adders_never_vote_read_only()
     ensures { (t u : ℕ) (op : Op) (x : XidName) (k : List ℕ) (d : ℤ) (g : History) (T : Tables) → op ≡ Add k d
         → option_map (λ a. a.xid) (association_of T u) ≡ Some x → (next u op T).1 ≡ Done
@@ -139,6 +141,7 @@ pub fn late_requests_add_nothing()
 
 /// The first Shut parts a history into the accepted requests, itself and the late ones. A late request is
 /// refused with XAER_RMFAIL and changes nothing; the accepted ones go as if nothing came after them.
+#[tactic(auto, using(crate::proofs::LateLaw::late_are_refused, crate::proofs::LateLaw::late_change_nothing))]
 pub fn late_requests_are_refused()
     ensures parted { (h : History) → h ≡ accepted h ++ (first_shut h ++ late h) }
     ensures codes { (h : History) (T : Tables) → IsOpening T → LateAreRefused h T }
@@ -146,7 +149,7 @@ pub fn late_requests_are_refused()
 {}
 
 /// They make nothing of any branch, so its fate may be read from the whole history.
-#[tactic(auto, using(crate::proofs::FateLaw::late_leave_fates))]
+#[tactic(auto, using(crate::proofs::LateLaw::late_leave_fates))]
 pub fn late_requests_leave_fates()
     ensures { (h : History) (x : XidName) (f : Fate) (T : Tables) → fate x f h T ≡ fate_in x f (coded h T) }
 {}
@@ -182,14 +185,14 @@ pub fn prepared_branches_await_the_outcome()
 
 /// A branch that isn't prepared isn't decided: heuristic decisions and Forgets make nothing of it, whatever is
 /// requested that doesn't name it.
-#[tactic(auto, using(crate::proofs::HeuristicLaw::unprepared_law))]
+#[tactic(auto, using(crate::proofs::PreparedLaw::unprepared_law))]
 pub fn only_prepared_branches_are_decided()
     ensures { (g : History) (x : XidName) (T : Tables) → is_prepared T x ≡ false → OnlyDecides x g
         → fates_in x (coded g T) ≡ [] }
 {}
 
 /// A manager that is shut makes nothing of any branch.
-#[tactic(auto, using(crate::proofs::HeuristicLaw::quiet_shut))]
+#[tactic(auto, using(crate::proofs::PreparedLaw::quiet_shut))]
 pub fn shut_managers_decide_nothing()
     ensures { (g : History) (x : XidName) (T : Tables) → T.shut ≡ true → fates_in x (coded g T) ≡ [] }
 {}

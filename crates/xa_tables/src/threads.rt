@@ -44,6 +44,7 @@ impl Model for Threads {
 
 impl Threads {
     /// This many threads, none of which has opened or is associated.
+    #[tactic(auto, using(crate::proofs::ThreadLemmas::none_free))]
     pub(crate) fn new(alloc: Global, threads: usize) -> Result<Threads, AllocError>
         ensures nobody { IfOk result (λ t. t.opened ≡ set.empty) }
         ensures free { IfOk result (λ t. t.associations ≡ map.empty) }
@@ -66,6 +67,7 @@ impl Threads {
     }
 
     /// So many threads, for which there is room; none of them has opened or is associated.
+    #[tactic(auto, using(crate::proofs::ThreadLemmas::none_free))]
     pub(crate) fn reset(&mut self, threads: usize)
         requires { threads ≤ self.old.seats }
         ensures nobody { self.new.opened ≡ set.empty }
@@ -87,6 +89,7 @@ impl Threads {
     }
 
     /// From now on the thread has the manager open, or hasn't.
+    #[tactic(auto, using(crate::proofs::ThreadLemmas::thread_same))]
     #[inline(always)]
     pub(crate) fn set_open(&mut self, thread: usize, is_open: bool)
         requires first { 0 < thread }
@@ -100,6 +103,7 @@ impl Threads {
     }
 
     /// The thread's association, if it has one.
+    #[tactic(auto, using(crate::proofs::ThreadLemmas::get_thread))]
     #[inline(always)]
     pub(crate) fn association(&self, thread: usize) -> Option<&Association>
         requires first { 0 < thread }
@@ -110,6 +114,7 @@ impl Threads {
     }
 
     /// From now on the thread is associated with this branch, and with no other.
+    #[tactic(auto, using(crate::proofs::ThreadLemmas::thread_given))]
     #[inline(always)]
     pub(crate) fn associate(&mut self, thread: usize, xid: &Xid, state: AssociationState)
         requires first { 0 < thread }
@@ -123,6 +128,7 @@ impl Threads {
     }
 
     /// From now on the thread has no association.
+    #[tactic(auto, using(crate::proofs::ThreadLemmas::thread_given))]
     #[inline(always)]
     pub(crate) fn dissociate(&mut self, thread: usize)
         requires first { 0 < thread }

@@ -1,15 +1,11 @@
-use Rattle.xa_base.proofs.{◌≡◌, ◌<◌, ◌∙◌, sym, ap, subst, arith, false, length, get_or, set, list_any, get_or_default}
+use Rattle.xa_base.proofs.{◌≡◌, ◌<◌, ◌∙◌, sym, ap, subst, arith, false, length, get_or, set, list_any}
 use Rattle.xa_tables.specs.{Account, is_broken_by, posted_by}
-use Rattle.xa_tables.proofs.AccountLemmas.{passes_none}
 use Rattle.xa_tables.proofs.HeldLemmas.{changing_none, changing_at, changing_all, held_within, posted_untouched, posted_twice, whole_more}
 use Rattle.xa_tables.proofs.accounts.post_all.Goals as goal
 
 pub loop-place-init : goal.loop-place-init
 loop-place-init c =
     (changing_none (posted_by c.args.xid.now) (posted_untouched c.args.xid.now) c.args.held.now c.args.accounts.now c.requires.held, c.requires.whole)
-
-pub post_account-requires : goal.post_account-requires
-post_account-requires c = grind (arith, held_within, get_or_default, passes_none)
 
 pub loop-place-preserved : goal.loop-place-preserved
 loop-place-preserved c =

@@ -1,4 +1,4 @@
-use Rattle.xa_tables.proofs.HeuristicLaw.{commit_tells, rollback_tells}
+use Rattle.xa_tables.proofs.PreparedLaw.{commit_tells, rollback_tells}
 use Rattle.xa_tables.proofs.laws.only_completed_branches_tell_a_decision.Goals as goal
 
 pub returns-clause-commits : goal.returns-clause-commits

@@ -10,20 +10,9 @@ use Rattle.xa_tables.proofs.PlaceLemmas.{key_there, indexed_set}
 use Rattle.xa_tables.proofs.accounts.Accounts.add.Goals as goal
 use Rattle.xa_tables.proofs.accounts.Accounts.add.Goals.{After-index-account}
 
-pub index-account-requires : goal.index-account-requires
-index-account-requires c =
-    let items = c.self.inside.accounts.items in
-    let same = length-map items (λ (a : Account). a.key) in
-    let keys : length (keys_of items) ≡ length c.args.self.now.keys = ap (λ h. length h.keys) c.self.view_is in
-    omega (arith, c.requires.within, c.self.inside.accounts.ok.0)
-
 -- the place is one of the accounts, the account there has its key, and no other branch has touched it
 within : (c : After-index-account) → c.args.place < length c.self.inside.accounts.items
-within c =
-    let items = c.self.inside.accounts.items in
-    let same = length-map items (λ (a : Account). a.key) in
-    let keys : length (keys_of items) ≡ length c.args.self.now.keys = ap (λ h. length h.keys) c.self.view_is in
-    omega (arith, c.requires.within)
+within c = grind (arith, length-map)
 
 keyed : (c : After-index-account) → c.index-account.result.now.key ≡ slice_index_or (keys_of c.self.inside.accounts.items) c.args.place []
 keyed c = sym (key_there c.self.inside.accounts.items c.args.place c.index-account.result.now (within c) c.index-account.ensures)
@@ -32,9 +21,6 @@ mine : (c : After-index-account) → IsFor c.args.xid.now c.index-account.result
 mine c =
     for_place c.self.inside.accounts.items c.args.place c.index-account.result.now c.args.xid.now _ c.self.invariant.0 (within c)
     c.index-account.ensures (keyed c) (ap (λ h. has_other_touched h.sums c.args.xid.now (key_at h c.args.place)) c.self.view_is ∙ c.requires.alone)
-
-pub index_mut-requires : goal.index_mut-requires
-index_mut-requires c = omega (arith, within ((goal.at.index_mut-requires c).After-index-account), c.self.inside.accounts.ok.0)
 
 pub note-requires : goal.note-requires
 note-requires c none =

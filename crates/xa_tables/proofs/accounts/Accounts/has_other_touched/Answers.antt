@@ -4,9 +4,6 @@ use Rattle.xa_tables.proofs.AccountLemmas.{other_any}
 use Rattle.xa_tables.proofs.PlaceLemmas.{other_at, placed_there, key_there}
 use Rattle.xa_tables.proofs.accounts.Accounts.has_other_touched.Goals as goal
 
-pub index-requires : goal.index-requires
-index-requires c = grind (arith, length-map)
-
 pub returns : goal.returns
 returns c =
     let items = c.self.inside.accounts.items in

@@ -1,11 +1,10 @@
-use Rattle.xa_base.proofs.{◌≡◌, ℕ, List, ◌++◌, ◌∷◌, [], sym, ap, ◌∙◌, subst, arith, length, map, None, w64, to_z-of_z, ints, All, get-empty, from_entries}
-use Rattle.xa_base.proofs.{take_all, length-map}
+use Rattle.xa_base.proofs.{◌≡◌, ℕ, List, ◌++◌, ◌∷◌, [], sym, ap, ◌∙◌, subst, arith, length, map, None, w64, to_z-of_z, ints, All, get-empty, take_all}
+use Rattle.xa_base.proofs.{length-map}
 use Rattle.std.specs.FinMap as finmap
 use Rattle.xa_words.specs.Orders.{key_cmp}
 use Rattle.xa_tables.specs.{Account, AreDistinct, AreIndexed, IsGood, AreHeld}
 use Rattle.xa_tables.proofs.HeldLemmas.{held_declared}
-use Rattle.xa_tables.proofs.PlaceLemmas.{account_of, indexed_push, values_declared, holds_declared, distinct_declared, good_declared, limit_declared}
-use Rattle.xa_tables.proofs.PlaceLemmas.{declared_more, length_declared}
+use Rattle.xa_tables.proofs.PlaceLemmas.{account_of, indexed_push, distinct_declared, good_declared, declared_more, length_declared}
 use Rattle.xa_tables.proofs.accounts.Accounts.new.Goals as goal
 
 pub loop-place-init : goal.loop-place-init
@@ -13,9 +12,6 @@ loop-place-init c =
     let none = c.in_ok-accounts.ensures.items in
     let empty = c.in_ok-places.ensures.empty in
     (none, omega (arith, c.in_ok-places.ensures.room), subst (AreIndexed c.in_ok-places.places.places) (sym none) (λ k. ap (λ m. finmap.get m k) empty ∙ get-empty key_cmp k))
-
-pub signed-requires : goal.signed-requires
-signed-requires c = grind (arith, limit_declared)
 
 pub loop-place-preserved : goal.loop-place-preserved
 loop-place-preserved c =
@@ -45,9 +41,3 @@ invariant_of-result c =
       subst (λ (ps : List ℕ). AreHeld ps c.loop-place.accounts.items) (sym c.in_ok-held.ensures.items) (subst (AreHeld []) (sym all) (held_declared ds)),
       omega (arith, ap length all, length-map ds account_of, c.in_ok-held.ensures.capacity),
     )
-
-pub returns-clause-sums : goal.returns-clause-sums
-returns-clause-sums c = grind (arith, account_of, take_all, from_entries, holds_declared)
-
-pub returns-clause-values : goal.returns-clause-values
-returns-clause-values c = grind (arith, account_of, take_all, from_entries, key_cmp, values_declared)

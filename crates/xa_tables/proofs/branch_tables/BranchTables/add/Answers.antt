@@ -11,28 +11,23 @@ unreachable-requires c =
     cc
 
 pub invariant_of-self : goal.invariant_of-self
-invariant_of-self c =
-    rw (unwritten _ _ _ _ c.in-Some-state_mut.is (c.state_mut.follows.holds c.in-Some-state_mut.state.now) c.in-Some-state_mut.ensures.value) c.self.invariant
+invariant_of-self c = rw (unwritten _ _ _ c.in-Some-state_mut.is c.state_mut.follows.holds c.in-Some-state_mut.ensures.value) c.self.invariant
 
 pub returns-in-RollbackOnly : goal.returns-in-RollbackOnly
-returns-in-RollbackOnly c =
-    search (rules, unwritten _ _ _ _ c.in-Some-state_mut.is (c.state_mut.follows.holds c.in-Some-state_mut.state.now) c.in-Some-state_mut.ensures.value)
+returns-in-RollbackOnly c = search (rules, unwritten _ _ _ c.in-Some-state_mut.is c.state_mut.follows.holds c.in-Some-state_mut.ensures.value)
 
 pub invariant_of-self-then-has_other_touched : goal.invariant_of-self-then-has_other_touched
 invariant_of-self-then-has_other_touched c =
-    let now = written _ _ _ _ c.in-Some-state_mut.is (c.state_mut.follows.holds (RollbackOnly Transient)) in
-    sound_put _ _ _ _ _ _ _ _ (ap (λ b. b.states) now) (λ e. cc) (λ y apart. refl) c.self.invariant
+    sound_put _ _ _ _ _ _ _ _ (ap (λ b. b.states) (written _ _ _ c.in-Some-state_mut.is c.state_mut.follows.holds (RollbackOnly Transient))) (λ e. cc) (λ y apart. refl) c.self.invariant
 
 pub returns-then-has_other_touched : goal.returns-then-has_other_touched
-returns-then-has_other_touched c =
-    search (rules, written _ _ _ _ c.in-Some-state_mut.is (c.state_mut.follows.holds (RollbackOnly Transient)))
+returns-then-has_other_touched c = search (rules, written _ _ _ c.in-Some-state_mut.is c.state_mut.follows.holds (RollbackOnly Transient))
 
 pub invariant_of-self-2 : goal.invariant_of-self-2
 invariant_of-self-2 c =
     let live = subst (λ b. AreAssociationsLive b.tables) (sym c.self.view_is) c.requires.live in
-    let same = unwritten _ _ _ _ c.in-Some-state_mut.is (c.state_mut.follows.holds c.in-Some-state_mut.state.now) c.in-Some-state_mut.ensures.value in
+    let same = unwritten _ _ _ c.in-Some-state_mut.is c.state_mut.follows.holds c.in-Some-state_mut.ensures.value in
     rw same (sound_others _ _ _ _ _ _ (unvoted _ (live c.args.t c.in-Some.association.now (sym c.in-Some.ensures)).1) c.add.ensures.others c.self.invariant)
 
 pub returns : goal.returns
-returns c =
-    search (rules, unwritten _ _ _ _ c.in-Some-state_mut.is (c.state_mut.follows.holds c.in-Some-state_mut.state.now) c.in-Some-state_mut.ensures.value)
+returns c = search (rules, unwritten _ _ _ c.in-Some-state_mut.is c.state_mut.follows.holds c.in-Some-state_mut.ensures.value)

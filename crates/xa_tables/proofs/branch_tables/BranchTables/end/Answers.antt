@@ -11,43 +11,34 @@ unreachable-requires c =
     cc
 
 pub invariant_of-self : goal.invariant_of-self
-invariant_of-self c =
-    rw (unwritten _ _ _ _ c.in-Some-state_mut.is (c.state_mut.follows.holds c.in-Some-state_mut.state.now) c.in-Some-state_mut.ensures.value) c.self.invariant
+invariant_of-self c = rw (unwritten _ _ _ c.in-Some-state_mut.is c.state_mut.follows.holds c.in-Some-state_mut.ensures.value) c.self.invariant
 
 pub returns-in-RollbackOnly : goal.returns-in-RollbackOnly
-returns-in-RollbackOnly c =
-    search (rules, unwritten _ _ _ _ c.in-Some-state_mut.is (c.state_mut.follows.holds c.in-Some-state_mut.state.now) c.in-Some-state_mut.ensures.value)
+returns-in-RollbackOnly c = search (rules, unwritten _ _ _ c.in-Some-state_mut.is c.state_mut.follows.holds c.in-Some-state_mut.ensures.value)
 
 pub invariant_of-self-in-Suspend : goal.invariant_of-self-in-Suspend
-invariant_of-self-in-Suspend c =
-    rw (unwritten _ _ _ _ c.in-Some-state_mut.is (c.state_mut.follows.holds c.in-Some-state_mut.state.now) c.in-Some-state_mut.ensures.value) c.self.invariant
+invariant_of-self-in-Suspend c = rw (unwritten _ _ _ c.in-Some-state_mut.is c.state_mut.follows.holds c.in-Some-state_mut.ensures.value) c.self.invariant
 
 pub returns-in-Suspend : goal.returns-in-Suspend
-returns-in-Suspend c =
-    search (rules, unwritten _ _ _ _ c.in-Some-state_mut.is (c.state_mut.follows.holds c.in-Some-state_mut.state.now) c.in-Some-state_mut.ensures.value)
+returns-in-Suspend c = search (rules, unwritten _ _ _ c.in-Some-state_mut.is c.state_mut.follows.holds c.in-Some-state_mut.ensures.value)
 
 pub invariant_of-self-then-is_somebody_associated : goal.invariant_of-self-then-is_somebody_associated
 invariant_of-self-then-is_somebody_associated c =
-    rw (unwritten _ _ _ _ c.in-Some-state_mut.is (c.state_mut.follows.holds c.in-Some-state_mut.state.now) c.in-Some-state_mut.ensures.value) c.self.invariant
+    rw (unwritten _ _ _ c.in-Some-state_mut.is c.state_mut.follows.holds c.in-Some-state_mut.ensures.value) c.self.invariant
 
 pub returns-then-is_somebody_associated : goal.returns-then-is_somebody_associated
-returns-then-is_somebody_associated c =
-    search (rules, unwritten _ _ _ _ c.in-Some-state_mut.is (c.state_mut.follows.holds c.in-Some-state_mut.state.now) c.in-Some-state_mut.ensures.value)
+returns-then-is_somebody_associated c = search (rules, unwritten _ _ _ c.in-Some-state_mut.is c.state_mut.follows.holds c.in-Some-state_mut.ensures.value)
 
 pub invariant_of-self-in-Fail : goal.invariant_of-self-in-Fail
 invariant_of-self-in-Fail c =
-    let now = written _ _ _ _ c.in-Some-state_mut.is (c.state_mut.follows.holds (RollbackOnly Failed)) in
-    sound_put _ _ _ _ _ _ _ _ (ap (λ b. b.states) now) (λ e. cc) (λ y apart. refl) c.self.invariant
+    sound_put _ _ _ _ _ _ _ _ (ap (λ b. b.states) (written _ _ _ c.in-Some-state_mut.is c.state_mut.follows.holds (RollbackOnly Failed))) (λ e. cc) (λ y apart. refl) c.self.invariant
 
 pub returns-in-Fail : goal.returns-in-Fail
-returns-in-Fail c =
-    search (rules, written _ _ _ _ c.in-Some-state_mut.is (c.state_mut.follows.holds (RollbackOnly Failed)))
+returns-in-Fail c = search (rules, written _ _ _ c.in-Some-state_mut.is c.state_mut.follows.holds (RollbackOnly Failed))
 
 pub invariant_of-self-in-Success : goal.invariant_of-self-in-Success
 invariant_of-self-in-Success c =
-    let now = written _ _ _ _ c.in-Some-state_mut.is (c.state_mut.follows.holds Idle) in
-    sound_put _ _ _ _ _ _ _ _ (ap (λ b. b.states) now) (λ e. cc) (λ y apart. refl) c.self.invariant
+    sound_put _ _ _ _ _ _ _ _ (ap (λ b. b.states) (written _ _ _ c.in-Some-state_mut.is c.state_mut.follows.holds Idle)) (λ e. cc) (λ y apart. refl) c.self.invariant
 
 pub returns-else-is_somebody_associated : goal.returns-else-is_somebody_associated
-returns-else-is_somebody_associated c =
-    search (rules, written _ _ _ _ c.in-Some-state_mut.is (c.state_mut.follows.holds Idle))
+returns-else-is_somebody_associated c = search (rules, written _ _ _ c.in-Some-state_mut.is c.state_mut.follows.holds Idle)

@@ -2,7 +2,7 @@ use Rattle.xa_base.proofs.{ap, refl, rules, ◌∙◌, Some, retained, kept_by_v
 use Rattle.std.specs.FinMap as map
 use Rattle.xa_words.specs.{xid_eq, xid_cmp_total, xid_cmp-IsAntisymmetric, xid_eq-by_cmp}
 use Rattle.xa_tables.specs.{is_left_in}
-use Rattle.xa_tables.proofs.Xids.{xid_eq_laws}
+use Rattle.xa_tables.proofs.SoundLemmas.{xid_eq_laws}
 use Rattle.xa_tables.proofs.branches.Branches.retain_left.Goals as goal
 
 pub returns-clause-states : goal.returns-clause-states

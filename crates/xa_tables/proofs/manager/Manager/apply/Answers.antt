@@ -1,6 +1,6 @@
 use Rattle.xa_base.proofs.{◌+◌, ◌*◌, ◌≤◌, rules, sym, ap, subst, arith}
 use Rattle.xa_tables.specs.{Tables, AreAssociationsLive, free_threads, places_taken, Answer}
-use Rattle.xa_tables.proofs.Kept.{live_after}
+use Rattle.xa_tables.proofs.Law.{live_after}
 use Rattle.xa_tables.proofs.FreeThreads.{places_paid}
 use Rattle.xa_tables.proofs.manager.Manager.apply.Goals as goal
 

@@ -1,10 +1,7 @@
 use Rattle.xa_base.proofs.{ap, ◌∙◌, length, ◌≤◌, arith}
 use Rattle.xa_tables.specs.{open_mark}
-use Rattle.xa_tables.proofs.ThreadLemmas.{thread_given, open_same}
+use Rattle.xa_tables.proofs.ThreadLemmas.{open_same}
 use Rattle.xa_tables.proofs.threads.Threads.associate.Goals as goal
-
-pub returns-clause-associations : goal.returns-clause-associations
-returns-clause-associations c = grind (arith, thread_given)
 
 pub returns-clause-opened : goal.returns-clause-opened
 returns-clause-opened c =
