@@ -55,8 +55,11 @@ others_removed states x y apart =
 pub put_here : (states : States) (x : XidName) (s : State) → map.get (map.insert states x s) x ≡ Some s
 put_here states x s = get-insert xid_cmp_total states x s x ∙ ap (λ b. cond b (Some s) (map.get states x)) (xid_tied x x refl)
 
-removed_here : (states : States) (x : XidName) → map.get (map.remove states x) x ≡ None
+pub removed_here : (states : States) (x : XidName) → map.get (map.remove states x) x ≡ None
 removed_here states x = get-remove xid_cmp_total states x x ∙ ap (λ b. cond b None (map.get states x)) (xid_tied x x refl)
+
+-- what becomes of the states where a branch is gone
+pub ruleset removals = (others_removed, removed_here)
 
 -- a branch that is put into the state that it has
 pub put_same : (states : States) (x : XidName) (s : State) → map.get states x ≡ Some s → map.insert states x s ≡ states

@@ -301,6 +301,7 @@ impl BranchTables {
     }
 
     /// `xa_commit` with no flag: two phases.
+    #[tactic(auto, using(crate::proofs::SoundLemmas::removals))]
     pub(crate) fn commit_two(&mut self, xid: &Xid) -> Code
         ensures step { (self.new.tables, result) ≡ commit_two xid.now self.old.tables }
         ensures kept { Keeps 0 self.old self.new }
@@ -320,6 +321,7 @@ impl BranchTables {
     }
 
     /// `xa_commit` with TMONEPHASE.
+    #[tactic(auto, using(crate::proofs::SoundLemmas::removals))]
     pub(crate) fn commit_one(&mut self, xid: &Xid) -> Code
         ensures step { (self.new.tables, result) ≡ commit_one xid.now self.old.tables }
         ensures kept { Keeps 0 self.old self.new }
@@ -382,6 +384,7 @@ impl BranchTables {
     }
 
     /// `xa_forget`.
+    #[tactic(auto, using(crate::proofs::SoundLemmas::removals))]
     pub(crate) fn forget(&mut self, xid: &Xid) -> Code
         ensures step { (self.new.tables, result) ≡ forget xid.now self.old.tables }
         ensures kept { Keeps 0 self.old self.new }
@@ -444,6 +447,7 @@ impl BranchTables {
     }
 
     // The branch is gone, with its sums.
+    #[tactic(auto, using(crate::proofs::SoundLemmas::removals))]
     fn remove(&mut self, xid: &Xid)
         ensures gone { self.new.tables ≡ gone xid.now self.old.tables }
         ensures kept { Keeps 0 self.old self.new }
