@@ -131,6 +131,7 @@ impl Accounts {
     }
 
     /// Whether the branch would take a value out of the limits.
+    #[tactic(auto, using(crate::proofs::HeldLemmas::held_alike))]
     pub(crate) fn is_broken(&self, xid: &Xid) -> bool
         ensures { result ≡ is_broken self.now.values self.now.sums xid.now }
     {
@@ -160,6 +161,7 @@ impl Accounts {
     }
 
     /// Adds the branch's sums to the values; the branch has touched no key any more.
+    #[tactic(auto, using(crate::proofs::HeldLemmas::held_alike))]
     pub(crate) fn post(&mut self, xid: &Xid)
         requires { is_broken self.old.values self.old.sums xid.now ≡ false }
         ensures values { self.new.values ≡ posted self.old.values self.old.sums xid.now }
@@ -173,6 +175,7 @@ impl Accounts {
     }
 
     /// Leaves the values as they are; the branch has touched no key any more.
+    #[tactic(auto, using(crate::proofs::HeldLemmas::held_alike))]
     pub(crate) fn forget(&mut self, xid: &Xid)
         ensures sums { self.new.sums ≡ sums_without self.old.sums xid.now }
         ensures values { self.new.values ≡ self.old.values }
@@ -185,6 +188,7 @@ impl Accounts {
     }
 
     /// Leaves the values as they are; only prepared branches have touched a key any more.
+    #[tactic(auto, using(crate::proofs::HeldLemmas::held_alike))]
     pub(crate) fn retain_prepared(&mut self, branches: &Branches)
         requires { (x : XidName) → is_S3 (finmap.get branches.now.states x) ≡ true
             → is_broken self.old.values self.old.sums x ≡ false }

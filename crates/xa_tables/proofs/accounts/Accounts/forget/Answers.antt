@@ -2,11 +2,8 @@ use Rattle.xa_base.proofs.{arith, ◌≡◌, ◌++◌, refl, ap, ◌∙◌, leng
 use Rattle.xa_words.specs.Orders.{key_cmp}
 use Rattle.xa_tables.specs.{touch_cmp, is_broken, sums_without, value_entries, hold_entries, kept_where, all_but, is_held_at}
 use Rattle.xa_tables.proofs.AccountLemmas.{written_whole, kept_goes, sums_go, values_kept, others_as_were, forgotten_breaks, all_kept}
-use Rattle.xa_tables.proofs.HeldLemmas.{held_alike, accounts_kept}
+use Rattle.xa_tables.proofs.HeldLemmas.{accounts_kept}
 use Rattle.xa_tables.proofs.accounts.Accounts.forget.Goals as goal
-
-pub let_go-requires-clause-held : goal.let_go-requires-clause-held
-let_go-requires-clause-held c = held_alike c.deref.ensures.value c.deref_mut.ensures.value c.self.invariant.3
 
 -- each of the accounts was changed
 all : (c : goal.After-keep_held) → take c.self.inside.accounts.len (c.let_go.new.accounts ++ drop (length c.let_go.new.accounts) c.self.inside.accounts.items)

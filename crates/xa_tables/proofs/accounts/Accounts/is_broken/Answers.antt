@@ -1,11 +1,8 @@
 use Rattle.xa_base.proofs.{rules, sym, ap, ◌∙◌, list_any}
 use Rattle.xa_tables.specs.{is_broken, is_broken_by}
 use Rattle.xa_tables.proofs.AccountLemmas.{broken_any}
-use Rattle.xa_tables.proofs.HeldLemmas.{broken_held, held_alike}
+use Rattle.xa_tables.proofs.HeldLemmas.{broken_held}
 use Rattle.xa_tables.proofs.accounts.Accounts.is_broken.Goals as goal
-
-pub any_at-requires-clause-held : goal.any_at-requires-clause-held
-any_at-requires-clause-held c = held_alike c.deref-2.ensures.value c.deref.ensures.value c.self.invariant.3
 
 pub returns : goal.returns
 returns c =

@@ -2,7 +2,7 @@ use Rattle.xa_base.proofs.{arith, ◌≡◌, ◌++◌, refl, sym, ap, ◌∙◌,
 use Rattle.xa_words.specs.Orders.{key_cmp}
 use Rattle.xa_tables.specs.{touch_cmp, is_broken, sums_without, value_entries, hold_entries, posted_by, is_broken_by, all_but, is_held_at}
 use Rattle.xa_tables.proofs.AccountLemmas.{written_whole, posted_goes, sums_go, values_posted, others_as_were, settled_breaks, all_posted, broken_any}
-use Rattle.xa_tables.proofs.HeldLemmas.{held_alike, accounts_kept}
+use Rattle.xa_tables.proofs.HeldLemmas.{accounts_kept}
 use Rattle.xa_tables.proofs.accounts.Accounts.post.Goals as goal
 
 pub post_all-requires-clause-whole : goal.post_all-requires-clause-whole
@@ -10,9 +10,6 @@ post_all-requires-clause-whole c =
     ap (list_any (λ a. is_broken_by a c.args.xid.now)) c.deref_mut.ensures.value
     ∙ sym (broken_any c.self.inside.accounts.items c.args.xid.now c.self.invariant.0)
     ∙ ap (λ h. is_broken h.values h.sums c.args.xid.now) c.self.view_is ∙ c.requires
-
-pub post_all-requires-clause-held : goal.post_all-requires-clause-held
-post_all-requires-clause-held c = held_alike c.deref.ensures.value c.deref_mut.ensures.value c.self.invariant.3
 
 -- each of the accounts was changed
 all : (c : goal.After-keep_held)

@@ -3,11 +3,8 @@ use Rattle.std.specs.FinMap as finmap
 use Rattle.xa_words.specs.Orders.{key_cmp}
 use Rattle.xa_tables.specs.{is_broken, touch_cmp, hold_entries, kept_where, prepared_in, is_held_at}
 use Rattle.xa_tables.proofs.AccountLemmas.{written_whole, kept_goes, sums_go, values_kept, all_prepared, broken_any}
-use Rattle.xa_tables.proofs.HeldLemmas.{held_alike, accounts_kept}
+use Rattle.xa_tables.proofs.HeldLemmas.{accounts_kept}
 use Rattle.xa_tables.proofs.accounts.Accounts.retain_prepared.Goals as goal
-
-pub let_go-requires-clause-held : goal.let_go-requires-clause-held
-let_go-requires-clause-held c = held_alike c.deref.ensures.value c.deref_mut.ensures.value c.self.invariant.3
 
 -- each of the accounts was changed
 all : (c : goal.After-keep_held) → take c.self.inside.accounts.len (c.let_go.new.accounts ++ drop (length c.let_go.new.accounts) c.self.inside.accounts.items)
