@@ -401,12 +401,7 @@ pub all_added : (n i : ℕ) (a : Account) (x : XidName) (d : ℤ) (accounts : Li
 all_added n i a x d accounts delta h e g k b j =
     let here : IsGood n a = subst (IsGood n) (sym e) (g i a h) in
     let new : IsGood (n + 1) (added_to a x d) = (here.0, here.1, small_added n x d a.hold delta here.2) in
-    elim (nat_eq k i) as (λ t. nat_eq k i ≡ t → IsGood (n + 1) (get_or (set accounts i (added_to a x d)) k b)) [
-      | true ↦ λ t. subst (IsGood (n + 1)) (sym (get_or-set_at accounts i k (added_to a x d) b (eqb-true k i t) h)) new
-      | false ↦ λ t.
-          let old : IsGood n (get_or accounts k b) = g k b (omega (arith, length-set accounts i (added_to a x d))) in
-          subst (IsGood (n + 1)) (sym (get_or-set_other accounts i k (added_to a x d) b (λ y. let z = eq-eqb k i y in cc))) (old.0, old.1, small_more n _ old.2)
-    ] refl
+    search (arith, nat_eq, get_or-set_at, eqb-true, length-set, get_or-set_other, eq-eqb, small_more)
 
 -- a prepared branch keeps the value within the limits, so its sum is that of one addition
 small_prepared : (keep : XidName → Bool) (v : ℤ) (o : Option Hold) → (pos 0 ≤ℤ v) × (v ≤ℤ pos 1000000000000)

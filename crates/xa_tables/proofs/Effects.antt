@@ -1,4 +1,5 @@
 -- What one request does to the tables. The rules are walked here alone: a law of all requests is one of their effects.
+use Rattle.std.proofs.Common.{rules}
 use Rattle.xa_base.proofs.{◌≡◌, ℕ, ℤ, pos, Bool, true, false, not, ◌&&◌, ◌||◌, if◌then◌else◌, Option, None, Some, List, refl, arith, ap, ◌∙◌, ◌⊎◌, or-true}
 use Rattle.xa_base.proofs.{not-false, by_if, sym, subst}
 use Rattle.xa_words.specs.{XidName, xid_eq, Done, RdOnly, RbRollback, RbIntegrity, RbTransient, Async, RmErr, Nota, Inval, Proto, RmFail, DupId, Outside, Op}

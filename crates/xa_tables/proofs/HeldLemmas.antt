@@ -127,15 +127,7 @@ changing_more f twice held old now i place a h within is there e = record {
   same =
       map-set f now place (f a) ∙ ap (set (map f now) place) (twice a ∙ ap f e ∙ sym (get_or-map f now place a (f a) there))
       ∙ set-get_or (map f now) place (f a) ∙ h.same;
-  rest = λ q d inside none.
-      elim (nat_eq q place) as (λ b. nat_eq q place ≡ b → f (get_or (set now place (f a)) q d) ≡ get_or (set now place (f a)) q d) [
-        | true ↦ λ t. subst (λ (w : Account). f w ≡ w) (sym (get_or-set_at now place q (f a) d (eqb-true q place t) there)) (twice a)
-        | false ↦ λ t.
-            let long = length-set now place (f a) in
-            let left : list_any (nat_eq q) (drop i held) ≡ false =
-            ap (list_any (nat_eq q)) (drop_more held i 0 within) ∙ ap (λ b. b || list_any (nat_eq q) (drop (i + 1) held)) (ap (nat_eq q) (sym is) ∙ t) ∙ none in
-            subst (λ (w : Account). f w ≡ w) (sym (get_or-set_other now place q (f a) d (λ y. let z = eq-eqb q place y in cc))) (h.rest q d (omega arith) left)
-      ] refl;
+  rest = search (arith, nat_eq, get_or-set_at, eqb-true, length-set, list_any, drop_more, get_or-set_other, eq-eqb, h.rest);
 }
 
 -- after all of the places f was applied to each account
@@ -149,8 +141,7 @@ changing_at f twice held old now i a b h long changing within is new =
     (changing_more f twice held old now i (get_or held i 0) a changing within refl (omega (arith, inside, long)) is)
 
 pub changing_all : (f : Account → Account) (held : List ℕ) (old now : List Account) (i : ℕ) → IsChanging f held old now i → length held ≤ i → now ≡ map f old
-changing_all f held old now i h past =
-    sym (map_fixed f now (λ q d within. h.rest q d within (ap (list_any (nat_eq q)) (drop_all i held past)))) ∙ h.same
+changing_all f held old now i h past = search (arith, map_fixed, list_any, nat_eq, drop_all, h.rest)
 
 -- what is let go stays so
 where_twice : (keep : XidName → Bool) (o : Option Hold) → hold_where keep (hold_where keep o) ≡ hold_where keep o
@@ -160,9 +151,7 @@ amount_gone : (x : XidName) (o : Option Hold) → amount_of (hold_without o x) x
 amount_gone x o = grind arith
 
 pub posted_twice : (x : XidName) (a : Account) → posted_by x (posted_by x a) ≡ posted_by x a
-posted_twice x a =
-    let v : ℤ = a.value +ℤ amount_of a.hold x in
-    λ i. record { key = a.key; value = (ap (λ s. v +ℤ s) (amount_gone x a.hold) ∙ plus_none v) i; hold = where_twice (all_but x) a.hold i }
+posted_twice x a = search (arith, amount_gone, plus_none, where_twice, a.hold)
 
 pub kept_twice : (keep : XidName → Bool) (a : Account) → kept_where keep (kept_where keep a) ≡ kept_where keep a
 kept_twice keep a = λ i. record a { hold = where_twice keep a.hold i }
@@ -172,9 +161,7 @@ untouched : (a : Account) → is_held a ≡ false → a.hold ≡ None
 untouched a h = grind arith
 
 pub posted_untouched : (x : XidName) (a : Account) → is_held a ≡ false → posted_by x a ≡ a
-posted_untouched x a h =
-    let none = untouched a h in
-    λ i. record { key = a.key; value = (ap (λ o. a.value +ℤ amount_of o x) none ∙ plus_none a.value) i; hold = (ap (λ o. hold_without o x) none ∙ sym none) i }
+posted_untouched x a h = search (arith, untouched, plus_none)
 
 pub kept_untouched : (keep : XidName → Bool) (a : Account) → is_held a ≡ false → kept_where keep a ≡ a
 kept_untouched keep a h = let none = untouched a h in λ i. record a { hold = (ap (hold_where keep) none ∙ sym none) i }
@@ -187,9 +174,7 @@ posted_whole x a = grind arith
 pub whole_more : (x : XidName) (accounts : List Account) (i : ℕ) (a : Account) → i < length accounts → a ≡ get_or accounts i a
     → list_any (λ b. is_broken_by b x) accounts ≡ false
     → list_any (λ b. is_broken_by b x) (set accounts i (posted_by x a)) ≡ false
-whole_more x accounts i a within e whole =
-    any_set (λ b. is_broken_by b x) accounts i a (posted_by x a) within e (posted_whole x a ∙ sym (passes_none (λ b. is_broken_by b x) accounts i a within e whole))
-    ∙ whole
+whole_more x accounts i a within e whole = search (arith, any_set, posted_whole, passes_none)
 
 -- ---- the places that stay
 

@@ -130,9 +130,7 @@ module _ (t : ℕ) (T : Tables) (s : Sound T) where
   -- the state of x tells the same, once y has another and is at work as it was
   alike : (x : XidName) (f : Fate) → Tells (state_of T x) f → (y : XidName) (o p : Option State) → p ≡ (if xid_eq y x then o else state_of T x)
       → (y ≡ x → Tells o f) → Tells p f
-  alike x f h y o p is here =
-      subst (λ q. Tells q f) (sym is)
-      (by_bool (λ b. Tells (if b then o else state_of T x) f) (xid_eq y x) (λ e. here ((Decides-xid_eq y x).0 e)) (λ _. h))
+  alike x f h y o p is here = search (arith, Decides-xid_eq)
 
   works_on : (x : XidName) (f : Fate) → Tells (state_of T x) f → (y : XidName) (o : State) → standing (state_of T y) ≡ AtWork → standing (Some o) ≡ AtWork
       → Tells (state_of (stated y o T) x) f
@@ -142,22 +140,17 @@ module _ (t : ℕ) (T : Tables) (s : Sound T) where
   -- the state of x, once y has another and its request makes g of it
   changed : (x : XidName) (f : Fate) → Tells (state_of T x) f → (y : XidName) (o p : Option State) (g : Option Fate)
       → p ≡ (if xid_eq y x then o else state_of T x) → Tells o (unwrap_or g f) → Tells p (unwrap_or (if_named x y g) f)
-  changed x f h y o p g is here =
-      subst (λ q. Tells q (unwrap_or (if_named x y g) f)) (sym is)
-      (by_bool (λ b. Tells (if b then o else state_of T x) (unwrap_or (if b then g else None) f)) (xid_eq y x) (λ _. here) (λ _. h))
+  changed x f h y o p g is here = search (arith, unwrap_or)
 
   -- the state of x tells what becomes of it
   tells_by : (x : XidName) (f : Fate) → Tells (state_of T x) f → {op : Op} {a : Answer} → Effect t T op a
       → Tells (state_of a.0 x) (unwrap_or (fate_of x op a.1) f)
   tells_by x f h (Stays op c tells) = subst (λ g. Tells (state_of T x) (unwrap_or g f)) (sym (tells.fates x)) h
-  tells_by x f h (Joins y free there unprepared) =
-      subst (λ g. Tells (state_of (stated y Active T) x) (unwrap_or g f)) (sym (named_none x y)) (works_on x f h y Active (works _ there unprepared) refl)
+  tells_by x f h (Joins y free there unprepared) = search (arith, named_none, works_on, works)
   tells_by x f h (Fails y own) = works_on x f h y (RollbackOnly Failed) (own_works T s t y own) refl
   tells_by x f h (Idles y own alone) = works_on x f h y Idle (own_works T s t y own) refl
   tells_by x f h (Dooms k d l own) = works_on x f h l.xid (RollbackOnly Transient) (associated_works T s t l own) refl
-  tells_by x f h (Drops op y c nobody tells) =
-      subst (λ g. Tells (state_of (gone y T) x) (unwrap_or g f)) (sym (tells.fates x))
-      (changed x f h y None _ (Some tells.fate) (get_gone T y x) (dropped_tells tells.fate tells.uncommitted))
+  tells_by x f h (Drops op y c nobody tells) = search (arith, changed, get_gone, dropped_tells, tells.fates)
   tells_by x f h (Forgets y is) =
       alike x f h y None _ (get_gone T y x) (λ e. forgotten_tells (state_of T x) f (ap (λ z. is_S5 (state_of T z)) (sym e) ∙ is) h)
   tells_by x f h (Starts y free) = changed x f h y (Some Active) _ (Some Live) (get_put T y x Active) (told_tells (Some Active))
@@ -207,10 +200,7 @@ sound_live T s t l found = let w = working (state_of T l.xid) (associated_works 
 -- a request leaves each association with a branch that exists and is neither prepared nor completed
 pub live_after : (t : ℕ) (op : Op) (T : Tables) → AreAssociationsLive T → AreAssociationsLive (next t op T).0
 live_after t op T live =
-    let sound : Sound T = record {
-      rests = λ x r. nobody_with x T.associations (λ u l found. false_from_ne_true (xid_eq l.xid x) (λ e.
-          let there = live u l found in r (ap (λ z. standing (state_of T z)) (sym ((Decides-xid_eq l.xid x).0 e)) ∙ works (state_of T l.xid) there.0 there.1)));
-    } in
+    let sound : Sound T = search (arith, nobody_with, false_from_ne_true, Decides-xid_eq, works) in
     sound_live (next t op T).0 (sound_after t op T sound)
 
 -- and an opening begins with no association

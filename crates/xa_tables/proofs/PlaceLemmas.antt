@@ -120,8 +120,7 @@ other_at k x (c ∷ rest) (suc i) a dist e h =
           let is : suc j ≡ suc i = cc in
           let same : j ≡ i = omega arith in
           let there : is_some (find key_cmp k (value_entries rest)) ≡ true = sym (place_some k rest) ∙ ap is_some p in
-          let other : key_eq c.key k ≡ false =
-          false_from_ne_true _ (λ t. let s : c.key ≡ k = (Decides-key_eq c.key k).0 t in let z : is_some (find key_cmp k (value_entries rest)) ≡ false = ap (λ w. is_some (find key_cmp w (value_entries rest))) (sym s) ∙ ap is_some dist.0 in cc) in
+          let other : key_eq c.key k ≡ false = search (arith, false_from_ne_true, Decides-key_eq, is_some, c.key, dist.0) in
           ap (λ b. (b && hold_is_other c.hold x) || list_any (λ b. is_other b x k) rest) other ∙ other_at k x rest i a dist.1 (p ∙ ap (λ n. Some n) same) h
       | None ↦ λ p f. let is = (one_here (key_eq c.key k) (suc i) f).1 in absurd (omega arith)
     ] refl e

@@ -265,17 +265,12 @@ waits_on (r ∷ g) t x T s p o n =
     let on : IsPrepared x T1 → AwaitsAfter t x g T1 = λ voted. waits_on g t x T1 (sound_after r.thread r.op T s) voted still rest in
     elim (names x r.op) as (λ b. names x r.op ≡ b → AwaitsAfter t x (r ∷ g) T) [
       | true ↦ λ named. waits_past r g t x T s still rest on p (decides r.thread x r.op T named (first.0 named))
-      | false ↦ λ unnamed.
-          let later = on ((unnamed_stays r.thread r.op x T (nobody x T s p) unnamed).state ∙ p) in
-          record { decision = later.decision; fates = ap (λ f. cons_option f (fates_in x (coded g T1))) (unnamed_fate x r.op (next r.thread r.op T).1 unnamed) ∙ later.fates; awaits = later.awaits }
+      | false ↦ search (arith, unnamed_stays, nobody, cons_option, unnamed_fate, awaits, r.thread, r.op)
     ] refl
 
 pub outcome_law : (h g : History) (t : ℕ) (x : XidName) (T : Tables) → IsOpening T → (next t (Prepare x) (tables_after h T)).1 ≡ Done → LeavesWaiting t x g
     → AwaitsAfter t x g (next t (Prepare x) (tables_after h T)).0
-outcome_law h g t x T o e n =
-    let s = run_sound h T (opening_sound T o) in
-    let p = prepare_holds t x (tables_after h T) e in
-    waits_on g t x _ (sound_after t (Prepare x) (tables_after h T) s) p.prepared p.opened n
+outcome_law h g t x T o e n = search (arith, run_sound, opening_sound, prepare_holds, waits_on, sound_after)
 
 -- ---- a manager is shut after a Shut alone
 
@@ -283,10 +278,7 @@ shut_from : (h : History) (T : Tables) → T.shut ≡ false → (tables_after h 
 shut_from [] T s = s
 shut_from (r ∷ h) T s =
     elim (is_shut r.op) as (λ b. is_shut r.op ≡ b → (tables_after h (next r.thread r.op T).0).shut ≡ (b || has_shut h)) [
-      | true ↦ λ e.
-          let now : (next r.thread r.op T).0.shut ≡ true =
-          ap (λ (o : Op). (next r.thread o T).0.shut) (shut_op r.op e) ∙ ap (λ (a : Answer). a.0.shut) (next-Shut r.thread T s) in
-          ap (λ (U : Tables). U.shut) (shut_stays h (next r.thread r.op T).0 now) ∙ now
+      | true ↦ search (arith, shut_op, next-Shut, shut_stays, r.thread, r.op)
       | false ↦ λ e. shut_from h (next r.thread r.op T).0 (stays_open r.thread r.op T e ∙ s)
     ] refl
 

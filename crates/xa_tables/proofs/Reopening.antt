@@ -1,4 +1,5 @@
 -- What a reopening leaves, and what the next opening begins with; and the law: the tables tell what became of each branch, over any openings.
+use Rattle.std.proofs.Common.{rules}
 use Rattle.xa_base.proofs.{◌≡◌, ℕ, ℤ, Bool, true, false, cond, not, ◌&&◌, ◌+ℤ◌, Option, None, Some, List, [], ◌∷◌, refl, arith, sym, ap, ◌∙◌, FinMap, get-empty}
 use Rattle.xa_base.proofs.{none_pass, none_passes, if◌then◌else◌, subst}
 use Rattle.std.specs.FinMap.{get-retain_keys}
@@ -133,6 +134,4 @@ pub first_law : (x : XidName) (T : Tables) → IsNew T → IsFateOf x Absent T
 first_law x T n = subst (λ (o : Option State). IsFateOf x (told_by o) T) (ap (λ m. map.get m x) n.states ∙ get-empty xid_cmp x) (begin_law x T)
 
 pub over_law : (before : List History) (h : History) (x : XidName) (T : Tables) → IsNew T → FatesAreTold x before h T
-over_law before h x T n =
-    let o = new_opens T n in
-    kept_law h x (fate_left x Absent before T) (left_by before T) (left_opens before T o) (left_told before x Absent T o (first_law x T n))
+over_law before h x T n = search (arith, new_opens, kept_law, left_opens, left_told, first_law)

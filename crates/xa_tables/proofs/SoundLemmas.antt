@@ -1,4 +1,5 @@
 -- What a step keeps of the facts on branches in S3, and of who is associated.
+use Rattle.std.proofs.Common.{rules}
 use Rattle.xa_base.proofs.{◌≡◌, ◌≢◌, ℕ, ℤ, Bool, true, false, cond, Option, None, Some, is_some, refl, arith, sym, ap, ◌∙◌, subst, nat_cmp, eq_by_cmp, is_eq}
 use Rattle.xa_base.proofs.{nat_cmp_total, tied_itself, FinMap, get-insert, get-remove, nat_cmp-IsAntisymmetric, is_equal, tied_true, tied_false, none_pass}
 use Rattle.xa_base.proofs.{none_passes, ◌||◌, or_from, or_parts, List, get-lookup}

@@ -1,4 +1,5 @@
 -- What a history moves of a key's value: the additions whose branches commit.
+use Rattle.std.proofs.Common.{rules}
 use Rattle.xa_base.proofs.{◌≡◌, ◌≢◌, ℕ, ℤ, pos, ◌+ℤ◌, option_map, Bool, true, false, cond, not, ◌&&◌, if◌then◌else◌, Option, None, Some, List, [], ◌∷◌, refl}
 use Rattle.xa_base.proofs.{sym, ap, ◌∙◌, subst, arith, get-insert, FinMap, not-false, +ℤ_idl as none_plus, ints, get-map_values, none_passes}
 use Rattle.std.specs.FinMap as map

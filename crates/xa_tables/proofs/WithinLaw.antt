@@ -1,4 +1,5 @@
 -- The law: the value of a declared key stays within the limits, whatever is requested, over any openings.
+use Rattle.std.proofs.Common.{rules}
 use Rattle.xa_base.proofs.{◌≡◌, ◌≢◌, ℕ, ℤ, pos, ◌+ℤ◌, Bool, true, false, cond, not, ◌&&◌, Option, None, Some, List, [], ◌∷◌, map, refl, option_map, unwrap_or}
 use Rattle.xa_base.proofs.{nat_le, list_all, sym, ap, ◌∙◌, subst, le-leb, arith, FinMap, find, get-empty, get-from_entries, eq_by_cmp, and_parts, not-false}
 use Rattle.xa_base.proofs.{+ℤ_idr as plus_none, by_bool, none_passes}
@@ -89,11 +90,7 @@ module _ (t : ℕ) (T : Tables) (s : Sound T) (w : Kept T) where
       (λ u r here there. ap (λ o. is_within (unwrap_or o (pos 0) +ℤ r)) (sym here) ∙ fits k r there)
 
   nobody_else : (x y : XidName) (k : List ℕ) (r : ℤ) → finmap.get T.sums (x, k) ≡ Some r → x ≢ y → finmap.get T.sums (y, k) ≡ None
-  nobody_else x y k r own other =
-      elim (finmap.get T.sums (y, k)) as (λ o. finmap.get T.sums (y, k) ≡ o → o ≡ None) [
-        | None ↦ λ _. refl
-        | Some q ↦ λ there. absurd (other (w.alone x y k r q own there))
-      ] refl
+  nobody_else x y k r own other = search (arith, rules)
 
   posted_beside : (y x : XidName) (k : List ℕ) (r : ℤ) → is_S3 (state_of T x) ≡ true → x ≢ y → finmap.get T.sums (x, k) ≡ Some r
       → finmap.get T.sums (y, k) ≡ None → is_within (value_of (committed y T).values k +ℤ r) ≡ true
@@ -102,14 +99,7 @@ module _ (t : ℕ) (T : Tables) (s : Sound T) (w : Kept T) where
   -- y, which fits, is committed
   commits : (y : XidName) (m : FinMap xid_cmp State) → ((x : XidName) → Left y (finmap.get m x) x) → Fits T y
       → Kept (record (gone y (committed y T)) { states = m })
-  commits y m others fits = record {
-    values = posted_within y fits;
-    alone = (drops y m others).alone;
-    prepared = λ x is k r at.
-        let old = others x is in
-        let own = left y x k r at in
-        posted_beside y x k r old.0 old.1 own (nobody_else x y k r own old.1);
-  }
+  commits y m others fits = search (arith, posted_within, drops, left, posted_beside, nobody_else)
 
   by_effect : {op : Op} {a : Answer} → Effect t T op a → Kept a.0
   by_effect (Adds k d l own known free) = adds k d l own free

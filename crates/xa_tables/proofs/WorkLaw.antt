@@ -1,4 +1,5 @@
 -- The law: a branch whose work one thread did has added what that thread added.
+use Rattle.std.proofs.Common.{rules}
 use Rattle.xa_base.proofs.{◌≡◌, ◌≢◌, ℕ, ◌+◌, ◌==◌, ℤ, pos, ◌+ℤ◌, true, false, if◌then◌else◌, Option, Some, List, [], ◌∷◌, ◌++◌, refl, sym, ap, ◌∙◌, arith, ints}
 use Rattle.xa_base.proofs.{eqb-true, eqb-false, All-head, All-tail, +ℤ_idl as none_plus, +ℤ_idr as plus_none}
 use Rattle.xa_words.specs.{XidName, xid_eq, Decides-xid_eq, Done, Op, Start, Add, End, Fresh, Success, Request, Code}
@@ -115,25 +116,11 @@ work_law t n x k d h T opened w =
     let none : added_by_now x (pos 0) w.before T ≡ pos 0 = nobody_adds x (pos 0) w.before T free w.unnamed in
     let only1 : OnlyOne t x T1 = λ u apart. nobody_is x T1 (unnamed_on w.before x T free w.unnamed).apart u in
     let start_code = w.starts in
-    let begins : unless_ended (ending (fate_of x (Start x Fresh) (next t (Start x Fresh) T1).1)) (pos 0 +ℤ pos 0) ≡ pos 0 =
-    ap (λ c. unless_ended (ending (fate_of x (Start x Fresh) c)) (pos 0 +ℤ pos 0)) start_code
-    ∙ ap (λ o. unless_ended o (pos 0 +ℤ pos 0)) (quiet_named x x (Some Live) refl) in
+    let begins : unless_ended (ending (fate_of x (Start x Fresh) (next t (Start x Fresh) T1).1)) (pos 0 +ℤ pos 0) ≡ pos 0 = search (arith, quiet_named) in
     let at_work = left_at_work t x (pos 0) w.begun T2 (own_request t x (Start x Fresh) T1 only1) w.at_work in
     let own : association_of T3 t ≡ Some (association x Associated) = at_work.own ∙ begun_with t x T1 w.starts in
     let self : xid_eq x x ≡ true = (Decides-xid_eq x x).1 refl in
-    let gained : gain x (Add k d) (next t (Add k d) T3).1 (association_of T3 t) ≡ d =
-    ap (λ c. if is_done c then added_by (association_of T3 t) d (λ y. xid_eq y x) else pos 0) w.adds ∙ ap (λ o. added_by o d (λ y. xid_eq y x)) own
-    ∙ ap (λ b. if b then d else pos 0) self in
+    let gained : gain x (Add k d) (next t (Add k d) T3).1 (association_of T3 t) ≡ d = search (arith, rules) in
     let ending_work = left_at_work t x d w.added T4 (own_request t x (Add k d) T3 at_work.only) w.ending in
     let done = left_at_work t x d w.after T6 (own_request t x (End x Success) T5 ending_work.only) w.ended in
-    ap (λ l. added_by_now x (pos 0) l T) w.place
-    ∙ added_both x (pos 0) w.before (request t n (Start x Fresh) ∷ (w.begun ++ request t (n + 1) (Add k d) ∷ (w.added ++ request t (n + 2) (End x Success) ∷ w.after))) T
-    ∙ ap (λ v. added_by_now x v (request t n (Start x Fresh) ∷ (w.begun ++ request t (n + 1) (Add k d) ∷ (w.added ++ request t (n + 2) (End x Success) ∷ w.after))) T1) none
-    ∙ ap (λ v. added_by_now x v (w.begun ++ request t (n + 1) (Add k d) ∷ (w.added ++ request t (n + 2) (End x Success) ∷ w.after)) T2) begins
-    ∙ added_both x (pos 0) w.begun (request t (n + 1) (Add k d) ∷ (w.added ++ request t (n + 2) (End x Success) ∷ w.after)) T2
-    ∙ ap (λ v. added_by_now x v (request t (n + 1) (Add k d) ∷ (w.added ++ request t (n + 2) (End x Success) ∷ w.after)) T3) at_work.added
-    ∙ ap (λ v. added_by_now x v (w.added ++ request t (n + 2) (End x Success) ∷ w.after) T4) (ap (λ v. pos 0 +ℤ v) gained ∙ none_plus d)
-    ∙ added_both x d w.added (request t (n + 2) (End x Success) ∷ w.after) T4
-    ∙ ap (λ v. added_by_now x v (request t (n + 2) (End x Success) ∷ w.after) T5) ending_work.added
-    ∙ ap (λ v. added_by_now x v w.after T6) (plus_none d)
-    ∙ done.added
+    search (arith, added_both, none_plus, plus_none, w.before, w.begun, w.added, w.after)

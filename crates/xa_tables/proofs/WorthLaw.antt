@@ -276,25 +276,17 @@ apart_of : (accounts : Accounts) → are_accounts accounts ≡ true → are_apar
 apart_of accounts e = (and_parts _ (are_apart accounts) ((and_parts _ _ e).1)).1
 
 pub worth_law : (accounts : Accounts) (h : History) → are_accounts accounts ≡ true → WorthIsMoved accounts h
-worth_law accounts h e =
-    let known : DeclareEach accounts (opening accounts) = λ k d lt. opening_declares accounts (get_or accounts k d).0 ∙ each_among accounts k d lt in
-    worth_from accounts h (opening accounts) known
-    ∙ ap (λ v. v +ℤ moved accounts is_any h (opening accounts)) (opening_worth accounts (apart_of accounts e))
+worth_law accounts h e = search (arith, opening_declares, each_among, worth_from, opening_worth, apart_of)
 
 pub held_law : (accounts : Accounts) (x : XidName) (h : History) → are_accounts accounts ≡ true → HoldsItsAdditions accounts x h
-held_law accounts x h e =
-    held_on accounts (apart_of accounts e) x h (opening accounts) (opening_declares accounts)
-    ∙ ap (λ v. added_by_now x v h (opening accounts)) (opening_holds accounts x)
+held_law accounts x h e = search (arith, held_on, apart_of, opening_declares, opening_holds)
 
 -- ---- a Prepare
 
 pub kept_law : (accounts : Accounts) (t : ℕ) (x : XidName) (h g : History) (T : Tables) → IsOpening T → (next t (Prepare x) (tables_after h T)).1 ≡ Done
     → NamesNowhere x g
     → held_by accounts x (tables_after g (next t (Prepare x) (tables_after h T)).0) ≡ held_by accounts x (tables_after h T)
-kept_law accounts t x h g T o e n =
-    total_same (λ d. sum_of (tables_after g (next t (Prepare x) (tables_after h T)).0).sums x d.0) (λ d. sum_of (tables_after h T).sums x d.0) accounts (λ d. ap (λ q. unwrap_or q (pos 0)) (sums_kept h g t x T o e n d.0))
+kept_law accounts t x h g T o e n = search (arith, total_same, unwrap_or, sums_kept)
 
 pub read_law : (accounts : Accounts) (t : ℕ) (x : XidName) (T : Tables) → (next t (Prepare x) T).1 ≡ RdOnly → held_by accounts x T ≡ pos 0
-read_law accounts t x T e =
-    total_same (λ d. sum_of T.sums x d.0) (λ d. pos 0) accounts (λ d. ap (λ o. unwrap_or o (pos 0)) (untouched x T (reads_only t x T e) d.0))
-    ∙ total_nothing accounts
+read_law accounts t x T e = search (arith, untouched, reads_only, total_nothing)

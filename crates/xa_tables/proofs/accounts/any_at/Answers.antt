@@ -1,3 +1,4 @@
+use Rattle.std.proofs.Common.{arith}
 use Rattle.xa_base.proofs.{◌≡◌, ◌∙◌, sym, ap, rules, get_or, list_any, or_from, take_all}
 use Rattle.std.proofs.lemmas.List.Folds.{list_any_at, list_any_more}
 use Rattle.xa_tables.specs.{passes_at}
@@ -9,8 +10,7 @@ returns-then-test g c passes agrees only =
     let a = c.index-accounts-place.result in
     let is : c.test.result ≡ passes a = agrees a c.test.result (search rules) in
     let inside = held_within c.args.held.now c.args.accounts.now c.requires.held c.loop-place.place-index c.loop-place-test.true in
-    sym (list_any_at passes c.args.accounts.now (get_or c.args.held.now c.loop-place.place-index 0) a inside
-    (ap passes (sym c.index-accounts-place.is) ∙ sym is ∙ c.if-test.true))
+    search (arith, list_any_at, c.args.accounts.now, c.args.held.now, c.loop-place.place-index)
 
 pub loop-place-preserved : goal.loop-place-preserved
 loop-place-preserved g c passes agrees =

@@ -14,6 +14,4 @@ loop-place-preserved g c keep agrees =
     c.index-accounts-place.is (c.let_go_of.ensures keep agrees ∙ ap f (sym c.index-accounts-place.is))
 
 pub returns : goal.returns
-returns g c keep agrees =
-    changing_all (kept_where keep) c.args.held.now c.args.accounts.now c.loop-place.accounts c.loop-place.place-index
-    (c.loop-place.invariant keep agrees) c.loop-place-test.false
+returns g c keep agrees = search (arith, changing_all, c.loop-place.invariant)

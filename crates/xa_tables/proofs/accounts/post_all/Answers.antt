@@ -4,8 +4,7 @@ use Rattle.xa_tables.proofs.HeldLemmas.{changing_none, changing_at, changing_all
 use Rattle.xa_tables.proofs.accounts.post_all.Goals as goal
 
 pub loop-place-init : goal.loop-place-init
-loop-place-init c =
-    (changing_none (posted_by c.args.xid.now) (posted_untouched c.args.xid.now) c.args.held.now c.args.accounts.now c.requires.held, c.requires.whole)
+loop-place-init c = search (arith, changing_none, posted_untouched)
 
 pub loop-place-preserved : goal.loop-place-preserved
 loop-place-preserved c =
@@ -23,6 +22,4 @@ loop-place-preserved c =
     )
 
 pub returns : goal.returns
-returns c =
-    changing_all (posted_by c.args.xid.now) c.args.held.now c.args.accounts.now c.loop-place.accounts c.loop-place.place-index c.loop-place.invariant.0
-    c.loop-place-test.false
+returns c = search (arith, changing_all)

@@ -29,9 +29,7 @@ note-requires c none =
     omega (arith, c.self.invariant.4, c.self.inside.held.ok.0)
 
 pub with_added-requires-clause-good : goal.with_added-requires-clause-good
-with_added-requires-clause-good c =
-    let inside = within ((goal.at.with_added-requires-clause-good c).After-index-account) in
-    subst (IsGood c.self.inside.adds) (sym c.index-account.ensures) (c.self.invariant.1 c.args.place c.index-account.result.now inside)
+with_added-requires-clause-good c = search (arith, within, c.self.invariant.1, c.args.place, c.index-account.result.now)
 
 pub invariant_of-self : goal.invariant_of-self
 invariant_of-self c =
@@ -65,14 +63,7 @@ returns-clause-sums c =
     ∙ ap (λ h. finmap.insert h.sums (x, key_at h i) (sum_of h.sums x (key_at h i) +ℤ c.args.delta)) c.self.view_is
 
 pub returns-clause-values : goal.returns-clause-values
-returns-clause-values c =
-    let items = c.self.inside.accounts.items in
-    let at = (goal.at.returns-clause-values c).After-index-account in
-    let i = c.args.place in
-    let a = c.index-account.result.now in
-    ap (λ b. from_entries {R = key_cmp} (value_entries (set items i b))) c.with_added.ensures.added
-    ∙ ap (from_entries {R = key_cmp}) (values_set items i a (added_to a c.args.xid.now c.args.delta) (within at) c.index-account.ensures refl refl)
-    ∙ ap (λ h. h.values) c.self.view_is
+returns-clause-values c = search (arith, from_entries, values_set, within, c.self.inside.accounts.items, c.args.place, c.index-account.result.now)
 
 pub returns-clause-others : goal.returns-clause-others
 returns-clause-others c y apart =

@@ -20,9 +20,7 @@ loop-place-preserved c =
     let d = c.index-declared-place.result in
     let old = c.loop-place.accounts.items in
     let a : Account = account_of d in
-    let pushed : c.push.new.self.items ≡ old ++ a ∷ [] =
-    c.in_ok-push.ensures.items
-    ∙ ap (λ v. old ++ record { key = d.0; value = v; hold = None } ∷ []) (to_z-of_z w64 c.signed.result (omega (arith, ints)) ∙ c.signed.ensures) in
+    let pushed : c.push.new.self.items ≡ old ++ a ∷ [] = search (arith, to_z-of_z, c.signed.result) in
     let place : length old ≡ i = ap length c.loop-place.invariant.0 ∙ length_declared ds i c.loop-place-test.true in (
       pushed ∙ ap (λ as1. as1 ++ a ∷ []) c.loop-place.invariant.0 ∙ sym (declared_more ds i d c.loop-place-test.true c.index-declared-place.is),
       omega (arith, c.loop-place.invariant.1, c.put.ensures.room),

@@ -1,3 +1,4 @@
+use Rattle.std.proofs.Common.{arith}
 use Rattle.xa_base.proofs.{rules, ap}
 use Rattle.xa_tables.specs.{HeuristicallyCompleted, Commit, Rollback}
 use Rattle.xa_tables.proofs.SoundLemmas.{sound_put, written, unwritten}

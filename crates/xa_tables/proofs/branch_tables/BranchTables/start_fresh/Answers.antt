@@ -15,8 +15,4 @@ returns-clause-kept c =
     let made = tables_of c.associate.new.self c.insert.new.self c.self.inside.accounts c.self.inside.is_shut in
     let taken = takes_one t c.args.self.now.tables made (association c.args.xid.now Associated) free
     (c.associate.ensures.associations ∙ ap (λ b. map.insert b.tables.associations t (association c.args.xid.now Associated)) c.self.view_is) in
-    record {
-      threads = c.associate.ensures.threads ∙ ap (λ b. b.threads) c.self.view_is;
-      spare = omega (arith, taken, c.insert.ensures.room, ap (λ b. b.spare) c.self.view_is);
-      adds = omega (arith, ap (λ b. b.adds) c.self.view_is);
-    }
+    search (arith, rules)

@@ -1,3 +1,4 @@
+use Rattle.std.proofs.Common.{arith}
 use Rattle.xa_base.proofs.{rules, refl, ap}
 use Rattle.xa_tables.specs.{Active}
 use Rattle.xa_tables.proofs.SoundLemmas.{sound_put, written, unwritten}

@@ -19,14 +19,10 @@ there o = grind arith
 
 -- before they are sorted: the keys of the entries that are left
 all_left : (c : goal.After-sort_unstable) → c.loop-xid.left.items ≡ keys_of (filter (λ e. is_kept e.1) c.self.inside.states.entries)
-all_left c =
-    sym (ap (λ rest. c.loop-xid.left.items ++ keys_of (filter (λ e. is_kept e.1) rest)) c.in-None.ensures.steps.0 ∙ append-nil c.loop-xid.left.items)
-    ∙ sym c.loop-xid.invariant ∙ search rules
+all_left c = search (arith, append-nil)
 
 pub returns-clause-once : goal.returns-clause-once
-returns-clause-once c =
-    IsDistinct-IsPermutation xid_eq swap_xid _ _ c.sort_unstable.ensures.permutation
-    (subst (IsDistinct xid_eq) (sym (all_left c)) (IsDistinct-keys_filter xid_eq (λ e. is_kept e.1) c.self.inside.states.entries c.iter-xid-items.ensures.unique))
+returns-clause-once c = search (arith, IsDistinct-IsPermutation, swap_xid, all_left, IsDistinct-keys_filter)
 
 pub returns-clause-each : goal.returns-clause-each
 returns-clause-each c x =
