@@ -1,4 +1,5 @@
 -- The managers of a commit are numbers, one word after another.
+use Rattle.std.proofs.Common.{arith}
 use Rattle.xa_base.proofs.{◌≡◌, ◌==◌, ℕ, Bool, true, false, ◌&&◌, ◌||◌, nat_lt, nat_le, if◌then◌else◌, List, [], ◌∷◌, Option, Some, None, Result, Ok, Err, refl}
 use Rattle.xa_base.proofs.{sym, ap, ◌∙◌, and_parts}
 use Rattle.std.specs.Prelude.{codes}
@@ -37,8 +38,7 @@ alike (Err why) f g same = refl
 pub first_number : (count : ℕ) (ws rest : List Word) (m : ℕ) (g : List ℕ → Result (List Bool) Reason) → number_at 0 4294967295 ws ≡ Ok (m, rest)
     → ((ms : List ℕ) → g ms ≡ rising_branches count (m ∷ ms)) → (managers_to_end rest >>= with_death g) ≡ branches_at count ws
 unfolding branches_at managers_at
-first_number count ws rest m g e same =
-    rw e (alike (managers_to_end rest) g (λ ms. rising_branches count (m ∷ ms)) same ∙ sym (on_top (managers_to_end rest) m (rising_branches count)))
+first_number count ws rest m g e same = search (arith, alike, on_top)
 
 -- Or it is a fault.
 pub no_first_number : (count : ℕ) (ws : List Word) (why : Reason) → number_at 0 4294967295 ws ≡ Err why → branches_at count ws ≡ Err why
@@ -50,8 +50,7 @@ pub next_number : (w : Word) (rest : List Word) (m : ℕ) (f g : List ℕ → Re
     → number_in 0 4294967295 w ≡ Ok m → ((ms : List ℕ) → g ms ≡ f (m ∷ ms))
     → (managers_to_end rest >>= with_death g) ≡ (managers_to_end (w ∷ rest) >>= with_death f)
 unfolding managers_to_end
-next_number w rest m f g lives e same =
-    rw (lives, e) (alike (managers_to_end rest) g (λ ms. f (m ∷ ms)) same ∙ sym (on_top (managers_to_end rest) m f))
+next_number w rest m f g lives e same = search (arith, alike, on_top)
 
 -- Or it is a fault.
 pub no_next_number : (w : Word) (rest : List Word) (why : Reason) (f : List ℕ → Result (List Bool) Reason) → bytes_eq w (codes "dies") ≡ false
@@ -93,8 +92,4 @@ if_rising rising set = if rising then Ok set else Err BadBranches
 -- A manager that may come next is one of the set.
 pub taken : (so_far : Named) (m : ℕ) (ms : List ℕ) → (so_far.rising && (nat_lt so_far.last m && nat_le m so_far.count)) ≡ true
     → if_rising (are_rising so_far.count m ms) (set_of (λ k. is_in (with_manager m so_far.managers) k || is_named ms k)) ≡ goes_on so_far (m ∷ ms)
-taken so_far m ms may =
-    let parts = and_parts so_far.rising (nat_lt so_far.last m && nat_le m so_far.count) may in
-    let within = and_parts (nat_lt so_far.last m) (nat_le m so_far.count) parts.1 in
-    ap (if_rising (are_rising so_far.count m ms)) (set_more so_far.managers m ms)
-    ∙ sym (λ i. if_rising (parts.0 i && (within.0 i && (within.1 i && are_rising so_far.count m ms))) (set_of (λ k. is_in so_far.managers k || is_named (m ∷ ms) k)))
+taken so_far m ms may = search (arith, and_parts, nat_lt, nat_le, set_more, so_far.rising, so_far.last, so_far.count, so_far.managers)

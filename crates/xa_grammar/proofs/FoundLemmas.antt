@@ -18,21 +18,11 @@ or_last false false = refl
 
 -- A manager has one key more where the last is its own.
 count_last : (m : ℕ) (keys : List Declared) (d : Declared) → key_count m (keys ++ d ∷ []) ≡ key_count m keys + cond (d.manager == m) 1 0
-count_last m keys d =
-    sum_by-append (λ (e : Declared). cond (e.manager == m) 1 0) keys (d ∷ [])
-    ∙ ap (λ n. key_count m keys + n) (sum_by-cons (λ (e : Declared). cond (e.manager == m) 1 0) d [])
-    ∙ omega arith
+count_last m keys d = search (arith, sum_by-append, sum_by-cons)
 
 one_counted : (m : ℕ) (keys : List Declared) (d : Declared) (counts : List ℕ) → d.manager < length counts → get_or counts m 0 ≡ key_count m keys
     → get_or (slice_set counts d.manager (get_or counts d.manager 0 + 1)) m 0 ≡ key_count m keys + cond (d.manager == m) 1 0
-one_counted m keys d counts lt old =
-    elim (d.manager == m) as (λ b. (d.manager == m) ≡ b → get_or (slice_set counts d.manager (get_or counts d.manager 0 + 1)) m 0 ≡ key_count m keys + cond b 1 0) [
-      | true ↦ λ t. let same : d.manager ≡ m = eqb-true d.manager m t in
-          subst (λ n. get_or (slice_set counts d.manager (get_or counts d.manager 0 + 1)) n 0 ≡ key_count m keys + 1) same
-          (get_or-set_same counts d.manager (get_or counts d.manager 0 + 1) 0 lt ∙ ap (λ n. get_or counts n 0 + 1) same ∙ ap (λ n. n + 1) old)
-      | false ↦ λ f. get_or-set_other counts d.manager m (get_or counts d.manager 0 + 1) 0 (λ same. let t : (d.manager == m) ≡ true = grind (arith, same) in cc)
-          ∙ old ∙ omega arith
-    ] refl
+one_counted m keys d counts lt old = search (arith, slice_set, eqb-true, get_or-set_same, get_or-set_other, d.manager)
 
 -- A key that is put into the set and counted is found.
 pub one_found : (keys : List Declared) (d : Declared) (found now : List (ℕ × List ℕ)) (counts : List ℕ) → Finds keys found counts → d.manager < length counts
@@ -40,8 +30,6 @@ pub one_found : (keys : List Declared) (d : Declared) (found now : List (ℕ × 
     → Finds (keys ++ d ∷ []) now (slice_set counts d.manager (get_or counts d.manager 0 + 1))
 one_found keys d found now counts old lt put =
     record {
-      has = λ m k.
-          put (m, k) ∙ ap (λ b. cond (is_same (d.manager, d.key) (m, k)) true b) (old.has m k) ∙ or_last (is_same (d.manager, d.key) (m, k)) _
-          ∙ sym (list_any-append (λ (e : Declared). (e.manager == m) && key_eq e.key k) keys (d ∷ []));
+      has = search (arith, or_last, list_any-append, old.has);
       count = λ m. one_counted m keys d counts lt (old.count m) ∙ sym (count_last m keys d);
     }

@@ -35,8 +35,7 @@ whole_line (b ∷ line) bytes h = let e : (b == 10) ≡ false = is_no_end b line
 pub last_line : (line : List ℕ) → HasNoEnd line → 0 < length line → lines_of line ≡ line ∷ []
 last_line [] h lt = absurd (omega arith)
 last_line (b ∷ []) h lt = let e : (b == 10) ≡ false = is_no_end b [] h in rw e refl
-last_line (b ∷ c ∷ line) h lt =
-    let e : (b == 10) ≡ false = is_no_end b (c ∷ line) h in rw e (ap (onto_first b) (last_line (c ∷ line) (rest_no_end b (c ∷ line) h) (omega arith)))
+last_line (b ∷ c ∷ line) h lt = search (arith, last_line (c ∷ line) (rest_no_end b (c ∷ line) h) (omega arith), is_no_end, rest_no_end)
 
 -- Bytes without a line feed begin the first line, whatever comes after them.
 first_line : (line bytes : List ℕ) → HasNoEnd line → 0 < length line
@@ -69,11 +68,7 @@ refuses_many mode s n line lines lt = let e : nat_lt 100000 n ≡ true = grind a
 refuses_long : (mode : Bool) (s : Content) (n : ℕ) (line : List ℕ) (lines : List (List ℕ)) → n ≤ 100000 → 513 < length line
     → script_from mode n s (line ∷ lines) ≡ Err (n, LineTooLong)
 unfolding script_from after_line line_of
-refuses_long mode s n line lines le lt =
-    let e : nat_lt 100000 n ≡ false = grind arith in
-    let len : 512 < length (without_return line) = omega (arith, strip_len line) in
-    let f : nat_lt 512 (length (without_return line)) ≡ true = grind (arith, len) in
-    rw (e, f) refl
+refuses_long mode s n line lines le lt = search (arith, nat_lt, strip_len)
 
 -- Two parts without a line feed have none together.
 both_no_end : (line part : List ℕ) → HasNoEnd line → HasNoEnd part → HasNoEnd (line ++ part)
@@ -93,8 +88,7 @@ pub too_long : (mode : Bool) (s : Content) (n : ℕ) (line part bytes : List ℕ
 too_long mode s n line part bytes h e le len =
     let w : List ℕ = line ++ part in
     let p = first_line w bytes (both_no_end line part h e) (omega (arith, len, length-append line part)) in
-    ap (λ x. script_from mode n s (lines_of x)) (sym (append_assoc line part bytes)) ∙ ap (script_from mode n s) p.2
-    ∙ refuses_long mode s n (w ++ p.0) p.1 le (omega (arith, len, length-append line part, length-append w p.0))
+    search (arith, append_assoc, refuses_long, length-append, p.1)
 
 -- A line that is taken: the next line goes on from there.
 pub goes_further : (mode : Bool) (s t : Content) (n : ℕ) (line bytes : List ℕ) → HasNoEnd line → after_line mode s n line ≡ Ok t
@@ -124,15 +118,13 @@ ends_empty mode s n line h = ap (λ (xs : List ℕ). script_from mode n s (lines
 pub ends : (mode : Bool) (s t : Content) (n : ℕ) (line : List ℕ) → HasNoEnd line → 0 < length line → after_line mode s n line ≡ Ok t
     → script_from mode n s (lines_of (line ++ [])) ≡ Ok t
 unfolding script_from
-ends mode s t n line h lt e =
-    ap (λ (xs : List ℕ). script_from mode n s (lines_of xs)) (append-nil line) ∙ ap (script_from mode n s) (last_line line h lt) ∙ rw e refl
+ends mode s t n line h lt e = search (arith, append-nil, last_line)
 
 -- The bytes end in a line without a line feed, which is faulty.
 pub ends_in_fault : (mode : Bool) (e : ScriptFault) (s : Content) (n : ℕ) (line : List ℕ) → HasNoEnd line → 0 < length line
     → FailsAt n e (after_line mode s n line) → Fails e (script_from mode n s (lines_of (line ++ [])))
 unfolding script_from
-ends_in_fault mode (faults.Line k why) s n line h lt f =
-    ap (λ (xs : List ℕ). script_from mode n s (lines_of xs)) (append-nil line) ∙ ap (script_from mode n s) (last_line line h lt) ∙ rw (f.1, f.0) refl
+ends_in_fault mode (faults.Line k why) s n line h lt f = search (arith, append-nil, last_line)
 ends_in_fault mode faults.Read s n line h lt f = tt
 ends_in_fault mode faults.NoMemory s n line h lt f = tt
 
@@ -151,10 +143,7 @@ no_end_before bytes (suc k) le none =
 -- Bytes with a line feed at a place are the line in front of it, the line feed, and what is after it.
 pub cut_at : (bytes : List ℕ) (end : ℕ) → end < length bytes → (slice_index bytes end == 10) ≡ true
     → (take end bytes ++ 10 ∷ []) ++ drop (end + 1) bytes ≡ bytes
-cut_at bytes end lt is =
-    append_assoc (take end bytes) (10 ∷ []) (drop (end + 1) bytes)
-    ∙ ap (λ xs. take end bytes ++ xs) (ap (λ b. b ∷ drop (end + 1) bytes) (sym (eqb-true (slice_index bytes end) 10 is)) ∙ rw add-one (sym (drop-cons bytes end 0 lt)))
-    ∙ take-append-drop end bytes
+cut_at bytes end lt is = search (arith, append_assoc, eqb-true, slice_index, add-one, drop-cons, take-append-drop)
 
 -- Bytes where no line feed stands have none.
 pub no_end : (bytes : List ℕ) → ((k : ℕ) → k < length bytes → ¬ ((slice_index bytes k == 10) ≡ true)) → HasNoEnd bytes

@@ -1,4 +1,5 @@
 -- The bytes of names stay where they stand as more are appended.
+use Rattle.std.proofs.Common.{rules}
 use Rattle.xa_base.proofs.{◌≡◌, ◌==◌, ℕ, pos, ◌+◌, ◌≤◌, Bool, true, false, if◌then◌else◌, List, [], ◌∷◌, ◌++◌, length, take, drop, All, Some, None, is_some}
 use Rattle.xa_base.proofs.{list_any, ◌||◌, refl, sym, ap, ◌∙◌, subst, arith, append-nil, length-append, length-drop, All-nil, All-cons, All-head, All-tail}
 use Rattle.std.proofs.Math.ListN.{get_or-append}
@@ -23,30 +24,19 @@ last_at xs w = ap (take (length w)) (drop-append_seam xs w) ∙ take-length w
 -- ---- what stood there before
 
 bytes_grown : (xs more : List ℕ) (at n : ℕ) → at + n ≤ length xs → bytes_at (xs ++ more) at n ≡ bytes_at xs at n
-bytes_grown xs more at n within =
-    let long = length-drop at xs in
-    ap (take n) (drop-append-le at xs more (omega (arith, within)))
-    ∙ take-append-le n (drop at xs) more (omega (arith, long, within))
+bytes_grown xs more at n within = search (arith, length-drop, drop-append-le, take-append-le)
 
 name_grown : (xs more : List ℕ) (p : Place) → IsName xs p → name_at (xs ++ more) p ≡ name_at xs p
-name_grown xs more p is =
-    let same = bytes_grown xs more p.at (p.gtrid + 1 + p.bqual) is.within in
-    λ i. record { format = pos 1; gtrid = take p.gtrid (same i); bqual = drop (p.gtrid + 1) (same i) }
+name_grown xs more p is = search (arith, bytes_grown, p.at, is.within, p.gtrid)
 
 is_name_grown : (xs more : List ℕ) (p : Place) → IsName xs p → IsName (xs ++ more) p
-is_name_grown xs more p is =
-    let long = length-append xs more in
-    let within = is.within in
-    record { within = omega (arith, long, within); gtrid = is.gtrid; bqual = is.bqual }
+is_name_grown xs more p is = search (arith, length-append, is.within)
 
 gtrid_grown : (xs more : List ℕ) (at len : ℕ) → IsGtrid xs at len → gtrid_at (xs ++ more) at len ≡ gtrid_at xs at len
 gtrid_grown xs more at len is = λ i. record { format = pos 1; gtrid = bytes_grown xs more at len is.within i }
 
 is_gtrid_grown : (xs more : List ℕ) (at len : ℕ) → IsGtrid xs at len → IsGtrid (xs ++ more) at len
-is_gtrid_grown xs more at len is =
-    let longer = length-append xs more in
-    let within = is.within in
-    record { within = omega (arith, longer, within); long = is.long }
+is_gtrid_grown xs more at len is = search (arith, length-append, is.within)
 
 key_grown : (ks others : List (List ℕ)) (p : KeyPlace) → IsKey ks p → key_at (ks ++ others) p ≡ key_at ks p
 key_grown ks others p is = get_or-append ks others [] p.at is
@@ -57,8 +47,7 @@ is_key_grown ks others p is = let longer = length-append ks others in omega (ari
 call_grown : (xs more : List ℕ) (ks others : List (List ℕ)) (c : Calling Place KeyPlace) → CallHas (IsName xs) (IsKey ks) c
     → (call_with (name_at (xs ++ more)) (key_at (ks ++ others)) c ≡ call_with (name_at xs) (key_at ks) c) × CallHas (IsName (xs ++ more)) (IsKey (ks ++ others)) c
 call_grown xs more ks others (calling.Xa c (Some p)) has = (ap (λ (x : XidName). calling.Xa c (Some x)) (name_grown xs more p has), is_name_grown xs more p has)
-call_grown xs more ks others (calling.Heur p commits) has =
-    (ap (λ (x : XidName). calling.Heur x commits) (name_grown xs more p has), is_name_grown xs more p has)
+call_grown xs more ks others (calling.Heur p commits) has = search (arith, name_grown, is_name_grown)
 call_grown xs more ks others (calling.Add k d) has = (ap (λ (q : List ℕ). calling.Add q d) (key_grown ks others k has), is_key_grown ks others k has)
 call_grown xs more ks others c has = (refl, tt)
 
@@ -67,8 +56,7 @@ step_grown : (xs more : List ℕ) (ks others : List (List ℕ)) (p : KeptStep) �
 step_grown xs more ks others (kept.Call t line m flags c) is =
     let (same, still) = call_grown xs more ks others c is in
     (ap (λ (q : ScriptCalling). task_step line t (action.Call (record { manager = m; flags = flags; call = q }))) same, still)
-step_grown xs more ks others (kept.CommitAll t len at line managers death) is =
-    (ap (λ (g : TranName). task_step line t (action.CommitAll (record { tran = g; managers = managers; death = death }))) (gtrid_grown xs more at len is), is_gtrid_grown xs more at len is)
+step_grown xs more ks others (kept.CommitAll t len at line managers death) is = search (arith, gtrid_grown, is_gtrid_grown)
 step_grown xs more ks others (kept.Resolve t line) is = (refl, tt)
 step_grown xs more ks others (kept.Turn line m) is = (refl, tt)
 step_grown xs more ks others (kept.Reopen line) is = (refl, tt)
@@ -84,19 +72,13 @@ name_put xs w x (format, gtrid, bqual) (front, back) =
     let long : length x.gtrid + 1 + length x.bqual ≡ length w = omega (arith, behind, cut, bqual) in
     let size = length-append xs w in
     let whole : bytes_at (xs ++ w) (length xs) (length x.gtrid + 1 + length x.bqual) ≡ w = ap (bytes_at (xs ++ w) (length xs)) long ∙ last_at xs w in
-    let before : take (length x.gtrid) (bytes_at (xs ++ w) (length xs) (length x.gtrid + 1 + length x.bqual)) ≡ x.gtrid =
-    ap (take (length x.gtrid)) whole ∙ front in
-    let after : drop (length x.gtrid + 1) (bytes_at (xs ++ w) (length xs) (length x.gtrid + 1 + length x.bqual)) ≡ x.bqual =
-    ap (drop (length x.gtrid + 1)) whole ∙ back in
+    let before : take (length x.gtrid) (bytes_at (xs ++ w) (length xs) (length x.gtrid + 1 + length x.bqual)) ≡ x.gtrid = search (arith, rules) in
+    let after : drop (length x.gtrid + 1) (bytes_at (xs ++ w) (length xs) (length x.gtrid + 1 + length x.bqual)) ≡ x.bqual = search (arith, rules) in
     (λ i. record { format = sym format i; gtrid = before i; bqual = after i }, record { within = omega (arith, size, long); gtrid = gtrid; bqual = bqual })
 
 gtrid_put : (xs w : List ℕ) (t : TranName) → IsShortGtrid t → w ≡ t.gtrid
     → (gtrid_at (xs ++ w) (length xs) (length t.gtrid) ≡ t) × IsGtrid (xs ++ w) (length xs) (length t.gtrid)
-gtrid_put xs w t (format, short) is =
-    let long : length t.gtrid ≡ length w = ap length (sym is) in
-    let size = length-append xs w in
-    let whole : bytes_at (xs ++ w) (length xs) (length t.gtrid) ≡ t.gtrid = ap (bytes_at (xs ++ w) (length xs)) long ∙ last_at xs w ∙ is in
-    (λ i. record { format = sym format i; gtrid = whole i }, record { within = omega (arith, size, long); long = short })
+gtrid_put xs w t (format, short) is = search (arith, length-append, last_at)
 
 -- and so does its key
 key_put : (ks : List (List ℕ)) (k : List ℕ) → (key_at (ks ++ k ∷ []) (key_place_from (length ks) k) ≡ k) × IsKey (ks ++ k ∷ []) (key_place_from (length ks) k)

@@ -1,4 +1,5 @@
 -- No line that the grammar reads for threads opens the managers again.
+use Rattle.std.proofs.Common.{arith}
 use Rattle.xa_base.proofs.{◌≡◌, ℕ, Bool, true, false, ◌||◌, Option, None, Some, Ok, List, [], ◌∷◌, refl, sym, ap, ◌∙◌, subst, list_any-append}
 use Rattle.xa_grammar.specs.declared.step.Step.TheVariants as step
 use Rattle.xa_grammar.specs.{Head, Item, words_of, without_return, Word, ScriptStep, is_reopen, AreOfOne, with_step, setting_of, sync_of, logfail_of}
@@ -27,11 +28,9 @@ item_one (Some head.Sync) s n w ws i e all = item_made (Keeps s) (sync_of s ws) 
 item_one (Some head.LogFail) s n w ws i e all = item_made (Keeps s) (logfail_of s ws) (λ x. item.LogFail x.0 x.1) i e (λ x t. all)
 item_one (Some head.LogUnknown) s n w ws i e all = item_made (Keeps s) (logunknown_of s ws) (λ x. item.LogUnknown x.0 x.1) i e (λ x t. all)
 item_one (Some head.Key) s n w ws i e all = item_made (Keeps s) (declared_of s ws) item.Key i e (λ d t. all)
-item_one (Some head.Turn) s n w ws i e all = item_made (Keeps s) (turn_of true s ws) (λ m. item.Step (step.Turn n m)) i e
-    (λ m t. one_more s (step.Turn n m) refl all)
+item_one (Some head.Turn) s n w ws i e all = search (arith, item_made, one_more)
 item_one (Some head.Reopen) s n w ws i e all = item_made (Keeps s) (reopen_of true ws) (λ u. item.Step (step.Reopen n)) i e (λ u t. absurd (no_reopen ws u t))
-item_one (Some head.Thread) s n w ws i e all = item_made (Keeps s) (task_on s n w ws) (λ p. item.Step (step.Task p)) i e
-    (λ p t. one_more s (step.Task p) refl all)
+item_one (Some head.Thread) s n w ws i e all = search (arith, item_made, one_more)
 
 words_one : (s : Content) (n : ℕ) (ws : List Word) (i : Item) → item_of true s n ws ≡ Ok i → AreOfOne s.steps → Keeps s i
 words_one s n [] i e all = item_made {A = Unit {0}} (Keeps s) (Ok tt) (λ u. item.Nothing) i e (λ u t. all)
@@ -39,10 +38,7 @@ words_one s n (w ∷ ws) i e all = item_one (head_of w) s n w ws i e all
 
 after_true : (s t : Content) (n : ℕ) (line : List ℕ) → after_line true s n line ≡ Ok t → AreOfOne s.steps → AreOfOne t.steps
 unfolding after_line
-after_true s t n line e all =
-    let i = and_then (line_of true s n (without_return line)) (λ i. Ok (with_item i s)) t e in
-    subst (λ (u : Content). AreOfOne u.steps) (ok_is (with_item i.0 s) t i.1.1)
-    (words_one s n (words_of (without_return line)) i.0 (line_words true s n (without_return line) i.0 i.1.0) all)
+after_true s t n line e all = search (arith, and_then, ok_is, words_one, line_words)
 
 -- so the lines of a script that is read for threads are of one opening
 pub after_one : (mode : Bool) (s t : Content) (n : ℕ) (line : List ℕ) → after_line mode s n line ≡ Ok t → mode ≡ true → AreOfOne s.steps → AreOfOne t.steps

@@ -31,20 +31,12 @@ none_there (q ∷ steps) (suc k) p all at = none_there steps k p (All-tail IsTas
 
 pub own_are_tasks : (t : ℕ) (steps : List ScriptStep) → All IsTask (own_steps t steps)
 own_are_tasks t [] = All-nil IsTask
-own_are_tasks t (step.Task p ∷ steps) =
-    elim (is_own t (step.Task p)) as (λ b. All IsTask (cond b (step.Task p ∷ own_steps t steps) (own_steps t steps))) [
-      | true ↦ All-cons IsTask (step.Task p) (own_steps t steps) refl (own_are_tasks t steps)
-      | false ↦ own_are_tasks t steps
-    ]
+own_are_tasks t (step.Task p ∷ steps) = search (arith, own_are_tasks t steps, All-cons, step.Task)
 own_are_tasks t (p ∷ steps) = own_are_tasks t steps
 
 pub own_tasks : (t : ℕ) (steps : List ScriptStep) → tasks_in (own_steps t steps) ≡ tasks_of t steps
 own_tasks t [] = refl
-own_tasks t (step.Task p ∷ steps) =
-    elim (p.thread == t) as (λ b. tasks_in (cond (is_some (if b then Some p else None)) (step.Task p ∷ own_steps t steps) (own_steps t steps)) ≡ cons_option (if b then Some p else None) (tasks_of t steps)) [
-      | true ↦ ap (λ (l : List ScriptTask). p ∷ l) (own_tasks t steps)
-      | false ↦ own_tasks t steps
-    ]
+own_tasks t (step.Task p ∷ steps) = search (arith, own_tasks t steps, is_some, cons_option, step.Task)
 own_tasks t (p ∷ steps) = own_tasks t steps
 
 -- ---- of steps at places
@@ -84,10 +76,7 @@ as_many_places steps places tasks within = as_many_tasks (steps_at steps places)
 
 pub place_within : (steps : List ScriptStep) (places : List ℕ) (k : ℕ) (tasks : List ScriptTask) → All IsTask (steps_at steps places)
     → All (λ n. n < length steps) places → tasks_in (steps_at steps places) ≡ tasks → k < length tasks → k < length places
-place_within steps places k tasks are within seen less =
-    let many = as_many_places steps places are within in
-    let same = ap length seen in
-    omega (arith, many, same, less)
+place_within steps places k tasks are within seen less = search (arith, as_many_places)
 
 -- one place more
 pub one_place_more : (steps : List ScriptStep) (ks : List ℕ) (k : ℕ) (x : ScriptStep) → slice_get steps k ≡ Some x

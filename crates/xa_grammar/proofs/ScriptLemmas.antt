@@ -56,17 +56,12 @@ are_apart-push [] y apart new = refl
 are_apart-push (d ∷ ds) y apart new =
     let split = no_later d ds y new in
     let none : list_any (λ e. key_eq e.0 d.0) (ds ++ y ∷ []) ≡ list_any (λ e. key_eq e.0 d.0) ds =
-    list_any-append (λ (e : List ℕ × ℕ). key_eq e.0 d.0) ds (y ∷ []) ∙ ap (λ b. list_any (λ e. key_eq e.0 d.0) ds || (b || false)) (other_way d.0 y.0 split.0)
-    ∙ or-false _ in
+        search (arith, list_any-append, list_any, other_way, or-false, d.0, y.0) in
     both_true (ap not none ∙ (and_parts _ _ apart).0) (are_apart-push ds y (and_parts _ _ apart).1 split.1)
 
 are_accounts-push : (ds : List (List ℕ × ℕ)) (y : List ℕ × ℕ) → are_accounts ds ≡ true → length ds < 256 → y.1 ≤ 1000000000000
     → list_any (λ e. key_eq e.0 y.0) ds ≡ false → are_accounts (ds ++ y ∷ []) ≡ true
-are_accounts-push ds y old few small new =
-    let rest : (list_all (λ (d : List ℕ × ℕ). nat_le d.1 1000000000000) ds && are_apart ds) ≡ true = (and_parts _ _ old).1 in
-    both_true (le-leb _ 256 (omega (arith, length-append ds (y ∷ []))))
-    (both_true (list_all-append (λ (d : List ℕ × ℕ). nat_le d.1 1000000000000) ds (y ∷ []) ∙ both_true (and_parts _ _ rest).0 (both_true (le-leb y.1 1000000000000 small) refl))
-    (are_apart-push ds y (and_parts _ _ rest).1 new))
+are_accounts-push ds y old few small new = search (arith, list_all, nat_le, and_parts, le-leb, length-append, list_all-append, are_apart-push)
 
 -- a key that no declaration of the manager has isn't among its accounts
 new_account : (m : ℕ) (k : List ℕ) (keys : List Declared) → has_key m k keys ≡ false → list_any (λ e. key_eq e.0 k) (accounts_of m keys) ≡ false
@@ -141,8 +136,7 @@ failing_kept s t k of small is =
 
 unknown_kept : (s : Content) (t : ℕ) (x : UnknownAppend) → IsUpTo (threads_of s) t → IsUpTo 1000000 x.append → IsScript s → IsScript (with_unknown t x s)
 unknown_kept s t x of small is =
-    let of_unknown : (u : ℕ) → IsOfUnknown (with_unknown t x s) u =
-    λ u. log_set (λ (y : UnknownAppend). IsUpTo 1000000 y.append) (threads_of s) s.unknown t u x of small (is.of_unknown u) in
+    let of_unknown : (u : ℕ) → IsOfUnknown (with_unknown t x s) u = search (arith, log_set, is.of_unknown) in
     assumption
 
 -- the first count of managers has the keys that were declared before it, of the one manager that there was
@@ -158,18 +152,8 @@ more_threads So s n unset low u (Some x) is =
     (is.0, (is.1.0, let one : threads_of s ≡ 1 = ap (λ (c : Option ℕ). unwrap_or c 1) unset in let most : u ≤ threads_of s = is.1.1 in omega arith))
 
 count_kept : (s : Content) (c : Count) (n : ℕ) → s.steps ≡ [] → count_of c s.settings ≡ None → 1 ≤ n → n ≤ limit_of c → IsScript s → IsScript (with_count c n s)
-count_kept s Threads n none unset low high is =
-    let of_logs : (u : ℕ) → IsOfLog (with_count Threads n s) u =
-    λ u. more_threads (IsUpTo 1000000) s n unset low u (failing_append s u) (is.of_logs u) in
-    let of_unknown : (u : ℕ) → IsOfUnknown (with_count Threads n s) u =
-    λ u. more_threads (λ (x : UnknownAppend). IsUpTo 1000000 x.append) s n unset low u (unknown_append s u) (is.of_unknown u) in
-    let of_steps : All (IsOfScript (with_count Threads n s)) s.steps = rw none (All-nil (IsOfScript (with_count Threads n s))) in
-    assumption
-count_kept s Managers n none unset low high is =
-    let of_managers : All (IsOfManager (with_count Managers n s)) s.keys = λ i d l. more_managers s n unset low (slice_index_or s.keys i d)
-    (is.of_managers i d l) in
-    let of_steps : All (IsOfScript (with_count Managers n s)) s.steps = rw none (All-nil (IsOfScript (with_count Managers n s))) in
-    assumption
+count_kept s Threads n none unset low high is = search (arith, more_threads, All-nil)
+count_kept s Managers n none unset low high is = search (arith, more_managers, slice_index_or, All-nil)
 count_kept s c n none unset low high is = assumption
 
 no_steps : (steps : List ScriptStep) (u : Unit {0}) → before_actions steps ≡ Ok u → steps ≡ []
@@ -199,15 +183,7 @@ number_is low high ws x e =
 
 pub setting_kept : (s : Content) (c : Count) (ws : List Word) (n : ℕ) → setting_of s c ws ≡ Ok n → IsScript s → IsScript (with_count c n s)
 unfolding setting_of
-setting_kept s c ws n e =
-    let first = and_then (before_actions s.steps) _ n e in
-    let new = and_then (not_set (count_of c s.settings)) _ n first.1.1 in
-    let number = and_then (number_at 1 (limit_of c) ws) _ n new.1.1 in
-    let last = and_then (end_of number.0.1) _ n number.1.1 in
-    let same : number.0.0 ≡ n = ok_is number.0.0 n last.1.1 in
-    let within = number_is 1 (limit_of c) ws number.0 number.1.0 in
-    subst (λ (z : ℕ). IsScript s → IsScript (with_count c z s)) same
-    (count_kept s c number.0.0 (no_steps s.steps first.0 first.1.0) (unset_yet (count_of c s.settings) new.0 new.1.0) within.0 within.1)
+setting_kept s c ws n e = search (arith, and_then, ok_is, number_is, count_kept, no_steps, unset_yet)
 
 pub logfail_kept : (s : Content) (ws : List Word) (x : ℕ × ℕ) → logfail_of s ws ≡ Ok x → IsScript s → IsScript (with_failing x.0 x.1 s)
 unfolding logfail_of

@@ -38,9 +38,7 @@ word_parts (b ∷ w) line parts h e = let s : is_space b ≡ false = no_space b 
 -- A word that a space or the end follows is the first word.
 pub first_word : (w line : List ℕ) → IsWord w → 0 < length w → starts_blank line ≡ true → words_of (w ++ line) ≡ w ∷ words_of line
 first_word [] line h lt blank = absurd (omega arith)
-first_word (b ∷ w) line h lt blank =
-    let p = blank_parts line blank in
-    ap (filter has_bytes) (word_parts (b ∷ w) line p.0 h p.1) ∙ ap (λ ws. (b ∷ w) ∷ ws) (sym p.2)
+first_word (b ∷ w) line h lt blank = search (arith, blank_parts, word_parts)
 
 -- A byte ahead of parts stands in the first of them.
 pub onto_parts : (b : ℕ) (xss : List (List ℕ)) → (more : List ℕ) × (yss : List (List ℕ)) × (onto_first b xss ≡ (b ∷ more) ∷ yss)

@@ -1,3 +1,4 @@
+use Rattle.std.proofs.Common.{arith}
 use Rattle.xa_base.proofs.{◌∷◌, Ok, Some, None, ◌≡◌, true, false, ap, sym, ◌∙◌, rules, err_from_is_err_and}
 use Rattle.std.specs.Prelude.{codes}
 use Rattle.std.specs.Str.{bytes_eq}
@@ -58,16 +59,7 @@ loop-word-preserved c =
     ∙ c.loop-word.invariant
 
 pub returns-in_err-managers-2 : goal.returns-in_err-managers-2
-returns-in_err-managers-2 c =
-    let p = err_from_is_err_and c.from_residual-in_err-managers-2.result c.from_residual-in_err-managers-2.ensures.1 in
-    rw (p.1, p.2) (ap (λ r. r >>= λ managers. Ok (managers, None)) c.in_err-managers-2.ensures
-    ∙ sym (no_more_numbers (goes_on c.loop-word.named))
-    ∙ ap (λ ws. managers_to_end ws >>= with_death (goes_on c.loop-word.named)) (sym c.in_default.ensures.0)
-    ∙ c.loop-word.invariant)
+returns-in_err-managers-2 c = search (arith, err_from_is_err_and, no_more_numbers, with_death)
 
 pub returns : goal.returns
-returns c =
-    ap (λ r. r >>= λ managers. Ok (managers, None)) c.in_ok-managers-2.ensures
-    ∙ sym (no_more_numbers (goes_on c.loop-word.named))
-    ∙ ap (λ ws. managers_to_end ws >>= with_death (goes_on c.loop-word.named)) (sym c.in_default.ensures.0)
-    ∙ c.loop-word.invariant
+returns c = search (arith, no_more_numbers, with_death)

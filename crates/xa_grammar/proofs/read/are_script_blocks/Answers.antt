@@ -5,9 +5,7 @@ use Rattle.xa_grammar.proofs.Blocks.{block_more, block_bad, block_last}
 use Rattle.xa_grammar.proofs.read.are_script_blocks.Goals as goal
 
 pub returns-then-not-are_script_bytes : goal.returns-then-not-are_script_bytes
-returns-then-not-are_script_bytes c =
-    let bad : list_all is_script_byte (take 8 (drop c.loop-start.start c.args.line.now)) ≡ false = search rules in
-    sym (block_bad is_script_byte c.args.line.now c.loop-start.start 8 bad)
+returns-then-not-are_script_bytes c = search (arith, list_all, block_bad, c.loop-start.start, c.args.line.now)
 
 pub loop-start-preserved : goal.loop-start-preserved
 loop-start-preserved c =
@@ -15,8 +13,4 @@ loop-start-preserved c =
     record { judged = block_more is_script_byte c.args.line.now c.loop-start.start 8 c.loop-start.invariant.judged good; in_range = omega arith }
 
 pub returns : goal.returns
-returns c =
-    let last = length c.args.line.now - 8 in
-    c.are_script_bytes-2.ensures
-    ∙ ap (list_all is_script_byte) (take_rest c.args.line.now last)
-    ∙ sym (block_last is_script_byte c.args.line.now last c.loop-start.start (omega arith) c.loop-start.invariant.judged)
+returns c = search (arith, list_all, take_rest, block_last, c.args.line.now, c.loop-start.start)

@@ -12,8 +12,7 @@ is_false false never = refl
 place : (word : List ℕ) (found : Option ℕ) → IsFirstByte (is_byte 46) word found → unwrap_or found (length word) ≡ position_or_len (λ b. nat_eq b 46) word
 place word None nowhere =
     sym (position_or_len_is (λ b. nat_eq b 46) word (length word) 0 (omega arith) (λ k lt. is_false _ (nowhere k (omega arith) lt)) (λ lt. absurd (omega arith)))
-place word (Some i) (first, dot) =
-    sym (position_or_len_is (λ b. nat_eq b 46) word i 0 (omega (arith, first.high)) (λ k lt. is_false _ (first.before k (omega arith) lt)) (λ lt. dot))
+place word (Some i) (first, dot) = search (arith, position_or_len_is, nat_eq, is_false, first.before)
 
 pub returns-clause-place : goal.returns-clause-place
 returns-clause-place c = c.unwrap_or.ensures ∙ place c.args.word.now c.memchr.result c.memchr.ensures

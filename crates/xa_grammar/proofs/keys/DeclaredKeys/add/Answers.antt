@@ -3,8 +3,7 @@ use Rattle.xa_grammar.proofs.FoundLemmas.{still_found, one_found}
 use Rattle.xa_grammar.proofs.keys.DeclaredKeys.add.Goals as goal
 
 pub invariant_of-self-in_err-push : goal.invariant_of-self-in_err-push
-invariant_of-self-in_err-push c =
-    rw c.in_err-push.ensures.items (still_found _ _ _ _ c.self.invariant c.reserve.ensures.keys.2)
+invariant_of-self-in_err-push c = search (arith, still_found, c.in_err-push.ensures.items, c.self.invariant)
 
 pub invariant_of-self-2 : goal.invariant_of-self-2
 invariant_of-self-2 c =

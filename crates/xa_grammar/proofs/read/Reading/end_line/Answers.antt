@@ -1,3 +1,4 @@
+use Rattle.std.proofs.Common.{arith}
 use Rattle.xa_base.proofs.{◌≡◌, ℕ, List, ◌++◌, ◌+◌, refl, sym, ap, subst, ◌∙◌, Ok, err_from_is_err_and}
 use Rattle.xa_grammar.specs.{lines_of, script_from, after_line, FailsAt}
 use Rattle.xa_grammar.proofs.OneOpening.{after_one}
@@ -14,18 +15,11 @@ returns-in_err-read_line-clause-err c =
     rw (p.1, p.2) (λ bytes. stops_there r.threads_mode fault r.script r.number r.line.items bytes r.no_end fails)
 
 pub returns-clause-ok : goal.returns-clause-ok
-returns-clause-ok c = λ bytes.
-    let r = c.args.self.now in
-    let t = c.read_line.new.script in
-    let taken : after_line r.threads_mode r.script r.number r.line.items ≡ Ok t =
-    ap (after_line r.threads_mode r.script r.number) (sym c.deref.ensures.value) ∙ c.in_ok-read_line.ensures.ok in
-    goes_further r.threads_mode r.script t r.number r.line.items bytes r.no_end taken
-    ∙ ap (λ (xs : List ℕ). script_from r.threads_mode (r.number + 1) t (lines_of (xs ++ bytes))) (sym c.clear.ensures.items)
+returns-clause-ok c = search (arith, goes_further)
 
 pub returns-clause-one : goal.returns-clause-one
 returns-clause-one c =
     let r = c.args.self.now in
     let t = c.read_line.new.script in
-    let taken : after_line r.threads_mode r.script r.number r.line.items ≡ Ok t =
-    ap (after_line r.threads_mode r.script r.number) (sym c.deref.ensures.value) ∙ c.in_ok-read_line.ensures.ok in
+    let taken : after_line r.threads_mode r.script r.number r.line.items ≡ Ok t = search (arith, r.threads_mode, r.script) in
     (refl, λ threads all. after_one r.threads_mode r.script t r.number r.line.items taken threads all)

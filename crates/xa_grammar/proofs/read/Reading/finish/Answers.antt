@@ -9,9 +9,7 @@ some_byte : (n : ℕ) (line : List ℕ) → n ≡ length line → (n == 0) ≡ f
 some_byte n line long some = grind arith
 
 pub returns-then-is_empty-clause-reads : goal.returns-then-is_empty-clause-reads
-returns-then-is_empty-clause-reads c =
-    let r = c.args.self in
-    ends_empty r.threads_mode r.script r.number r.line.items (grind arith)
+returns-then-is_empty-clause-reads c = search (arith, ends_empty)
 
 pub returns-in_err-read_line-clause-reads : goal.returns-in_err-read_line-clause-reads
 returns-in_err-read_line-clause-reads c =
@@ -26,14 +24,8 @@ pub returns-clause-reads : goal.returns-clause-reads
 returns-clause-reads c =
     let r = c.args.self in
     let t = c.read_line.new.script in
-    let taken : after_line r.threads_mode r.script r.number r.line.items ≡ Ok t =
-    ap (after_line r.threads_mode r.script r.number) (sym c.deref.ensures.value) ∙ c.in_ok-read_line.ensures.ok in
+    let taken : after_line r.threads_mode r.script r.number r.line.items ≡ Ok t = search (arith, r.threads_mode, r.script) in
     ends r.threads_mode r.script t r.number r.line.items r.no_end (some_byte _ _ r.line.ok.0 (sym c.if-is_empty.ensures)) taken
 
 pub returns-clause-one : goal.returns-clause-one
-returns-clause-one c = λ threads all.
-    let r = c.args.self in
-    let t = c.read_line.new.script in
-    let taken : after_line r.threads_mode r.script r.number r.line.items ≡ Ok t =
-    ap (after_line r.threads_mode r.script r.number) (sym c.deref.ensures.value) ∙ c.in_ok-read_line.ensures.ok in
-    after_one r.threads_mode r.script t r.number r.line.items taken threads all
+returns-clause-one c = search (arith, after_one)

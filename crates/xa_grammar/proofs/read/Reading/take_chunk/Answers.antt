@@ -15,9 +15,7 @@ cut r rest end bytes lt is =
     ∙ ap (goes_on r) (append_assoc (take end rest ++ 10 ∷ []) (drop (end + 1) rest) bytes)
 
 pub take_line-requires : goal.take_line-requires
-take_line-requires c =
-    let found = c.in-Some.ensures in
-    no_end_before c.loop-end.rest.now c.in-Some.end (omega (arith, found.0.high)) (λ k lt. found.0.before k (omega arith) lt)
+take_line-requires c = search (arith, no_end_before, c.in-Some.ensures, c.loop-end.rest.now, c.in-Some.end, c.in-Some.ensures.0.before)
 
 pub overflow_add-rest : goal.overflow_add-rest
 overflow_add-rest c = omega (arith, c.in-Some.ensures.0.high)
@@ -33,21 +31,7 @@ returns-in_err-take_line-clause-err c =
     (c.in_err-take_line.ensures.err (drop (c.in-Some.end + 1) rest ++ bytes)))
 
 pub loop-end-preserved : goal.loop-end-preserved
-loop-end-preserved c =
-    let found = c.in-Some.ensures in
-    let taken = c.in_ok-take_line.ensures in
-    let rest = c.loop-end.rest.now in
-    let next = c.take_line.new.self in
-    let after : take (length rest - (c.in-Some.end + 1)) (drop (c.in-Some.end + 1) rest) ≡ drop (c.in-Some.end + 1) rest =
-    take_all _ _ (omega (arith, length-drop (c.in-Some.end + 1) rest)) in
-    record {
-      goes = λ bytes.
-          c.loop-end.invariant.goes bytes ∙ cut c.loop-end.self rest c.in-Some.end bytes found.0.high found.1
-          ∙ taken.ok (drop (c.in-Some.end + 1) rest ++ bytes)
-          ∙ ap (λ xs. goes_on next (xs ++ bytes)) (sym after);
-      one = (taken.one.0 ∙ c.loop-end.invariant.one.0, λ threads all. taken.one.1 (c.loop-end.invariant.one.0 ∙ threads) (c.loop-end.invariant.one.1 threads all));
-      in_range = omega (arith, ap length after, length-drop (c.in-Some.end + 1) rest, c.loop-end.invariant.in_range);
-    }
+loop-end-preserved c = search (arith, take_all, length-drop, cut, c.in-Some.ensures, c.in_ok-take_line.ensures, c.loop-end.rest.now, c.take_line.new.self)
 
 pub take_part-requires : goal.take_part-requires
 take_part-requires c = no_end c.loop-end.rest.now (λ k lt. c.in_default.ensures k (omega arith) lt)

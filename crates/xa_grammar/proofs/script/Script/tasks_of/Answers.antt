@@ -1,3 +1,4 @@
+use Rattle.std.proofs.Common.{arith}
 use Rattle.xa_base.proofs.{◌≡◌, ℕ, List, sym, ap, ◌∙◌, subst, All, arc_value}
 use Rattle.xa_grammar.specs.{ScriptStep, tasks_of, IsTask, tasks_in, own_steps, steps_at, Content}
 use Rattle.xa_grammar.proofs.OwnTasks.{own_are_tasks, own_tasks}
@@ -13,8 +14,4 @@ new-requires-clause-tasks c =
     subst (All IsTask) (sym (own_behind c.args.thread _ _ _ c.in_ok-places.places.items c.in_ok-try_clone.ensures c.deref.ensures c.in_ok-places.ensures.own)) (own_are_tasks c.args.thread (arc_value c.self.inside.steps))
 
 pub returns : goal.returns
-returns c =
-    c.new.ensures
-    ∙ ap tasks_in (own_behind c.args.thread _ _ _ c.in_ok-places.places.items c.in_ok-try_clone.ensures c.deref.ensures c.in_ok-places.ensures.own)
-    ∙ own_tasks c.args.thread (arc_value c.self.inside.steps)
-    ∙ ap (λ (s : Content). tasks_of c.args.thread s.steps) c.self.view_is
+returns c = search (arith, own_behind, own_tasks, arc_value, c.args.thread, c.in_ok-places.places.items, c.in_ok-try_clone.ensures, c.deref.ensures)

@@ -8,9 +8,7 @@ use Rattle.xa_grammar.proofs.steps.Steps.places_of.Goals as goal
 use Rattle.xa_grammar.proofs.steps.Steps.places_of.Goals.{then-is_of+in_ok-push, else-is_of}
 
 pub loop-place-init : goal.loop-place-init
-loop-place-init c =
-    let steps = steps_of c.self.inside.names.items c.self.inside.keys.items c.self.inside.kept.items in
-    (ap (steps_at steps) c.new-places.ensures.items, subst (All (λ k. k < length steps)) (sym c.new-places.ensures.items) (All-nil (λ k. k < length steps)))
+loop-place-init c = search (arith, All-nil, c.self.inside.names.items, c.self.inside.keys.items, c.self.inside.kept.items)
 
 pub loop-place-preserved : goal.loop-place-preserved
 loop-place-preserved c =
@@ -26,23 +24,16 @@ loop-place-preserved c =
     let test = c.loop-place-test.true in
     let len = c.len-place-end.ensures in
     let within : k < length steps = omega (arith, many, test, len) in
-    let there : slice_get kept k ≡ Some c.index.result.now =
-    slice_get_read kept (length kept) k c.index.result.now refl (omega (arith, test, len)) c.index.ensures in
+    let there : slice_get kept k ≡ Some c.index.result.now = search (arith, slice_get_read, c.index.result.now) in
     let at : slice_get steps k ≡ Some x = slice_get-map (step_at bytes keys) kept k ∙ ap (option_map (step_at bytes keys)) there in
     let more : own_steps t (take (k + 1) steps) ≡ own_steps t (take k steps) ++ cond (is_own t x) (x ∷ []) [] = one_step_more t steps k x within at in
     let so_far = c.loop-place.invariant in
     elim c.if-is_of.branch [
       | then-is_of+in_ok-push w ↦
           let items : c.if-is_of.places.items ≡ places ++ k ∷ [] = ap (λ v. v.items) w.places-is ∙ w.in_ok-push.ensures.items in
-          let grown : own_steps t (take (k + 1) steps) ≡ own_steps t (take k steps) ++ x ∷ [] =
-          more ∙ ap (λ b. own_steps t (take k steps) ++ cond b (x ∷ []) []) (sym (own_same t bytes keys c.index.result.now) ∙ sym w.if-is_of.ensures) in
+          let grown : own_steps t (take (k + 1) steps) ≡ own_steps t (take k steps) ++ x ∷ [] = search (arith, own_same) in
           (ap (steps_at steps) items ∙ one_place_more steps places k x at ∙ ap (λ l. l ++ x ∷ []) so_far.0 ∙ sym grown, subst (All (λ q. q < length steps)) (sym items) (All-push (λ q. q < length steps) places k so_far.1 within))
-      | else-is_of w ↦
-          let items : c.if-is_of.places.items ≡ places = ap (λ v. v.items) w.places-is in
-          let same : own_steps t (take (k + 1) steps) ≡ own_steps t (take k steps) =
-          more ∙ ap (λ b. own_steps t (take k steps) ++ cond b (x ∷ []) []) (sym (own_same t bytes keys c.index.result.now) ∙ sym w.if-is_of.ensures)
-          ∙ append-nil (own_steps t (take k steps)) in
-          (ap (steps_at steps) items ∙ so_far.0 ∙ sym same, subst (All (λ q. q < length steps)) (sym items) so_far.1)
+      | else-is_of w ↦ search (arith, own_same, append-nil, w.places-is)
     ]
 
 pub returns-clause-own : goal.returns-clause-own

@@ -25,10 +25,7 @@ unreachable-requires c =
     let there =
     step_at_place steps places c.args.place c.index.result.now c.get.result c.self.invariant.1 within c.index.ensures (ap (λ (l : List ScriptStep). slice_get l c.index.result.now) (sym c.deref.ensures) ∙ c.get.ensures) in
     let task = none_there (steps_at steps places) c.args.place c.get.result c.self.invariant.0 there in
-    elim c.in-Turn.is [
-      | inl turn ↦ let never : false ≡ true = subst IsTask turn.2 task in let no : ⊥ = cc in no
-      | inr again ↦ let never : false ≡ true = subst IsTask again.1 task in let no : ⊥ = cc in no
-    ]
+    search (arith, c.in-Turn.is)
 
 pub returns : goal.returns
 returns c =
@@ -37,5 +34,4 @@ returns c =
     let within = place_within steps places c.args.place _ c.self.invariant.0 c.self.invariant.1 c.self.view_is c.requires in
     let there =
     step_at_place steps places c.args.place c.index.result.now c.get.result c.self.invariant.1 within c.index.ensures (ap (λ (l : List ScriptStep). slice_get l c.index.result.now) (sym c.deref.ensures) ∙ c.get.ensures) in
-    ap (λ (l : List ScriptTask). slice_get l c.args.place) (sym c.self.view_is)
-    ∙ task_there (steps_at steps places) c.args.place c.in-Task.task c.self.invariant.0 (there ∙ ap (λ (p : ScriptStep). Some p) c.in-Task.is)
+    search (arith, slice_get, task_there, c.args.place, c.in-Task.task, c.self.invariant.0)

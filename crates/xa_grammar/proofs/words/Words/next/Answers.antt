@@ -15,6 +15,5 @@ returns c =
     let full : 0 < length line = grind arith in
     let begins : starts_blank line ≡ false = starts_full (starts_blank line) line (λ h. ap length (c.without_spaces-line.ensures.word h)) full in
     let some : 0 < length (take n line) = grind (arith, c.word_len.ensures.some begins, c.word_len.ensures.fits) in
-    let parts : words_of line ≡ take n line ∷ words_of (drop n line) =
-    ap words_of (sym (take-append-drop n line)) ∙ first_word (take n line) (drop n line) c.word_len.ensures.word some c.word_len.ensures.stops in
+    let parts : words_of line ≡ take n line ∷ words_of (drop n line) = search (arith, take-append-drop, first_word, c.word_len.ensures.word) in
     sym c.self.view_is ∙ sym c.without_spaces-line.ensures.words ∙ parts ∙ (λ i. sym c.split_at.ensures.front i ∷ words_of (sym c.split_at.ensures.back i))
