@@ -25,8 +25,7 @@ placed_first [] p r rs below free none = absurd (omega arith)
 placed_first (Free ∷ slots) zero r rs below free none = refl
 placed_first (Free ∷ slots) (suc p) r rs below free none = absurd (none 0 (omega arith) refl)
 placed_first (s ∷ slots) zero r rs below free none = absurd (cc (free))
-placed_first (s ∷ slots) (suc p) r rs below free none =
-    ap (λ (l : List Slot). s ∷ l) (placed_first slots p r rs (omega arith) free (λ k before is. none (suc k) (omega arith) is))
+placed_first (s ∷ slots) (suc p) r rs below free none = grind (arith, placed_first slots p r rs (omega arith) free (λ k before is. none (suc k) (omega arith) is))
 
 first_placed : (slots : List Slot) (r : CommitRecord) (rs : List CommitRecord) → used slots < length slots
     → (p : ℕ) × (p < length slots) × (get_or slots p Free ≡ Free) × (placed slots (r ∷ rs) ≡ placed (set slots p (Taken r)) rs)
@@ -177,10 +176,7 @@ all_in {slots} {mid} moved failures {rs} room apart new unnamed =
     grouped rs mid (log_state slots failures) room apart (same_records moved) new unnamed
 
 pub none_more_forgotten : {slots mid : List Slot} → MayBeShut slots mid → (rs : List CommitRecord) → ForgetsNoMore slots (placed mid rs)
-none_more_forgotten {mid = mid} moved rs t =
-    let same : record_in (forgotten_in (placed mid rs)) t ≡ record_in (forgotten_in mid) t =
-    ap (λ (l : Table). record_in (records_of l) t) (placed_forgotten mid rs) in
-    ⊎_elim (λ none. inl (same ∙ none)) (λ also. inr (same ∙ also)) (no_more moved t)
+none_more_forgotten {mid = mid} moved rs t = grind (arith, placed_forgotten, no_more)
 
 pub group_runs : {slots mid : List Slot} {rs : List CommitRecord} {D : Type 0} {moment : D → ℕ} {left_since : D → ℕ → List ℕ → Type 0} {shown : List Slot}
     {old then new : D} → MayBeShut slots mid → AreApart (table_of mid) → shown ≡ mid → LeavesOnly moment left_since old then (MayShow slots)

@@ -1,4 +1,5 @@
 -- Records in the free slots of a file, one after another.
+use Rattle.std.proofs.Common.{rules}
 use Rattle.xa_base.proofs.{◌≡◌, ◌≢◌, ◌⊎◌, inl, inr, ⊎_elim, ℕ, zero, suc, ◌+◌, ◌-◌, ◌*◌, ◌<◌, ◌≤◌, List, [], ◌∷◌, ◌++◌, length, get_or, map, take, drop, refl}
 use Rattle.xa_base.proofs.{sym, ◌∙◌, ap, subst, arith, All, Contains, cases_lt, length-map, length-drop, drop_all}
 use Rattle.std.proofs.Common.{add-one, drop-cons}
@@ -57,9 +58,6 @@ pub record IsOnTheWay (slots : List Slot) (rs : List CommitRecord) (n i : ℕ) :
   pub few : i ≤ length rs
   pub room : used (drop n slots) + length (drop i rs) ≤ length (drop n slots)
   pub rest : drop n (placed slots rs) ≡ placed (drop n slots) (drop i rs)
-
-pub way_begins : (slots : List Slot) (rs : List CommitRecord) → HasRoomFor slots (length rs) → IsOnTheWay slots rs 0 0
-way_begins slots rs room = record { few = omega arith; room = room; rest = refl }
 
 left_of : {X : Type 0} (l : List X) (n : ℕ) (d : X) → n < length l → drop n l ≡ get_or l n d ∷ drop (n + 1) l
 left_of l n d below = rw add-one (drop-cons l n d below)
@@ -130,7 +128,7 @@ way_done {slots} {rs} {n} {i} way past = search (arith, drop_all, length-drop)
 -- up to the first that is free
 pub way_from : (slots : List Slot) (rs : List CommitRecord) (n : ℕ) → HasRoomFor slots (length rs) → n ≤ length slots → HasNoFree slots n
     → IsOnTheWay slots rs n 0
-way_from slots rs zero room few none = way_begins slots rs room
+way_from slots rs zero room few none = search (arith, rules)
 way_from slots rs (suc n) room few none =
     let e : n + 1 ≡ suc n = omega arith in
     subst (λ (m : ℕ). IsOnTheWay slots rs m 0) e
@@ -173,8 +171,7 @@ pub up_to_gates : (slots : List Slot) (rs : List CommitRecord) {D : Type 0} {mom
     → StandsFor (table_of slots) file → Only file may_leave
     → Elapses (moment staged) (moment synced) (left_since staged) (left_since synced) may_leave
     → LeavesOnly moment left_since synced new (MayShow (coming slots rs)) → LeavesOnly moment left_since old new (MayShow (coming slots rs))
-up_to_gates slots rs apart bodies stands durable time gates = joined (goes_on (weaker (stands_shown_coming slots rs apart) bodies) time (λ f now.
-    stands_shown_coming slots rs apart f (subst (StandsFor (table_of slots)) (sym (durable f now)) stands))) gates
+up_to_gates slots rs apart bodies stands durable time gates = grind (arith, goes_on, stands_shown_coming)
 
 is_new : (slots : List Slot) (rs : List CommitRecord) (n : ℕ) (r : CommitRecord) → All IsValid rs → get_or slots n Free ≡ Free
     → get_or (placed slots rs) n Free ≡ Taken r → (get_or (coming slots rs) n Free ≡ Forgotten r) × IsValid r

@@ -36,13 +36,10 @@ pub first_four : (l : List ℕ) → 4 ≤ length l → get_or l 0 0 ∷ get_or l
 first_four (a ∷ b ∷ c ∷ d ∷ l) long = refl
 first_four l long = absurd (let no : ⊥ = omega (arith, long) in no)
 
-valid_name : (r : CommitRecord) → IsValid r → new_tran r.tran.format r.tran.gtrid ≡ Ok r.tran
-valid_name r valid = rw (valid.format, valid.gtrid) refl
-
 -- what is read of a record's bytes
 pub read_name : (body : List ℕ) (r : CommitRecord) → IsValid r → body ≡ spelling r
     → new_tran (number (take 4 body)) (take (get_or body 4 0) (drop 5 body)) ≡ Ok r.tran
-read_name body r valid is = ap (λ (x : CommitRecord). new_tran x.tran.format x.tran.gtrid) (ap unspelled is ∙ unspelled_again r valid) ∙ valid_name r valid
+read_name body r valid is = search (arith, unspelled_again)
 
 pub read_votes : (body : List ℕ) (r : CommitRecord) → IsValid r → body ≡ spelling r → map (λ b. eqb b 1) (take 8 (drop 69 body)) ≡ r.yes
 read_votes body r valid is = ap (λ (x : CommitRecord). x.yes) (ap unspelled is ∙ unspelled_again r valid)

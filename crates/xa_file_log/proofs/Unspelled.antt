@@ -34,18 +34,12 @@ bit_again : (t : Bool) → eqb (cond t 1 0) 1 ≡ t
 bit_again true = refl
 bit_again false = refl
 
-votes_again : (votes : List Bool) → length votes ≡ 8 → map (λ b. eqb b 1) (yes_bytes votes) ≡ votes
-votes_again votes long = search (arith, bit_again, eight)
-
 -- the record that the bytes spell, if they spell one
 abbrev pub unspelled : List ℕ → CommitRecord
 unspelled body = record {
   tran = record { format = number (take 4 body); gtrid = take (get_or body 4 0) (drop 5 body) };
   yes = map (λ b. eqb b 1) (take 8 (drop 69 body));
 }
-
-name_of : (g z y m : List ℕ) → take (length g) (((g ++ z) ++ y) ++ m) ≡ g
-name_of g z y m = ap (λ (l : List ℕ). take (length g) l) (append_assoc (g ++ z) y m ∙ append_assoc g z (y ++ m)) ∙ take_at g (z ++ (y ++ m)) (length g) refl
 
 after_name : (p y m : List ℕ) → length p ≡ 64 → drop 64 ((p ++ y) ++ m) ≡ y ++ m
 after_name p y m size = ap (λ (l : List ℕ). drop 64 l) (append_assoc p y m) ∙ drop_at p (y ++ m) 64 size
@@ -55,7 +49,7 @@ length-tran_bytes r valid = search (arith, length-append, length-replicate, part
 
 pub unspelled_again : (r : CommitRecord) → IsValid r → unspelled (spelling r) ≡ r
 unfolding spelling fields
-unspelled_again r valid = search (arith, number_again, name_of, after_name, length-tran_bytes, votes_again)
+unspelled_again r valid = search (arith, number_again, after_name, length-tran_bytes, bit_again, eight, append_assoc, take_at)
 
 pub length_again : (r : CommitRecord) → get_or (spelling r) 4 0 ≡ length r.tran.gtrid
 unfolding spelling fields

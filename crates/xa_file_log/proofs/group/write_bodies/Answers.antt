@@ -21,10 +21,7 @@ returns-then-next-decisions g c =
     search (arith, all_written, drop_all, c.requires.stands.apart, c.loop-place.next, c.args.decisions.now, c.loop-place.invariant.writing)
 
 pub returns-in_err-write_at-clause-keeps : goal.returns-in_err-write_at-clause-keeps
-returns-in_err-write_at-clause-keeps g c = λ f now.
-    let from = c.write_at.ensures.crash f now in
-    body_torn c.args.slots.now c.loop-place-test.true (get_or_default c.args.slots.now c.loop-place.place Free _ c.loop-place-test.true ∙ c.in-Free.is)
-    c.spelled.ensures.size (c.loop-place.invariant.keeps from.0 from.1) from.2
+returns-in_err-write_at-clause-keeps g c = λ f now. grind (arith, body_torn, get_or_default, c.write_at.ensures.crash)
 
 pub returns-in_err-write_at-clause-any_moment : goal.returns-in_err-write_at-clause-any_moment
 returns-in_err-write_at-clause-any_moment g c = goes_on c.loop-place.invariant.run c.write_at.ensures.time (returns-in_err-write_at-clause-keeps g c)

@@ -1,3 +1,4 @@
+use Rattle.std.proofs.Common.{arith}
 use Rattle.xa_base.proofs.{sym, subst}
 use Rattle.xa_file_log.specs.{StandsFor, table_of, placed}
 use Rattle.xa_file_log.proofs.Moments.{goes_on, weaker}

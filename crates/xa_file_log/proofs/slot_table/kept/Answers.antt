@@ -6,12 +6,9 @@ use Rattle.xa_file_log.specs.{Slot, Taken, Forgotten, forgets}
 use Rattle.xa_file_log.proofs.slot_table.kept.Goals as goal
 use Rattle.xa_file_log.proofs.slot_table.kept.Goals.{in-Taken+else-not-contains, in_default}
 
-turned : (s t : TranName) → tran_eq s t ≡ tran_eq t s
-turned s t = tran_eq-by_cmp s t ∙ (eq_by_cmp_equiv tran_cmp_total).symm s t ∙ sym (tran_eq-by_cmp t s)
-
 among : (ts : List TranName) (t : TranName) → list_any (λ s. tran_eq s t) ts ≡ is_among ts t
 among [] t = refl
-among (s ∷ ts) t = λ i. turned s t i || among ts t i
+among (s ∷ ts) t = search (arith, tran_eq-by_cmp, eq_by_cmp_equiv tran_cmp_total)
 
 others : (ts : List TranName) (s : Slot) → ((r : CommitRecord) → s ≡ Taken r → ⊥) → s ≡ forgets (λ t. not (is_among ts t)) s
 others ts (Taken r) differs = absurd (differs r refl)

@@ -1,3 +1,4 @@
+use Rattle.std.proofs.Common.{arith}
 use Rattle.xa_base.proofs.{◌≡◌, inl, inr, ⊎_elim, None, Some, Option, List, length, map, refl, ap, ◌∙◌, subst}
 use Rattle.std.specs.Prelude.{IfNone}
 use Rattle.xa_file_log.specs.{Slot, HasNoFree, name_at, shut}
@@ -13,9 +14,4 @@ pub returns-clause-cause : goal.returns-clause-cause
 returns-clause-cause g c =
     let shut_now = c.if-not-shut_forgotten.ensures.shut refl in
     let is = shut_now.1 ∙ ap (map shut) c.free_place_for-place.ensures.slots in
-    if_none _ _ (⊎_elim
-    (λ none. inr (inl (full_shut c.args.self.now.table.slots.items (subst (λ (l : List Slot). HasNoFree l (length l)) is none))))
-    (λ at. absurd (none_named_shut c.args.self.now.table.slots.items
-    (index_apart c.args.self.now.table.indexed) c.args.decision.now.tran c.requires.new at.0
-    (subst (λ (l : List Slot). name_at l at.0 ≡ Some c.args.decision.now.tran) is at.1.1))))
-    c.free_place_for.result c.free_place_for.ensures.none
+    grind (arith, if_none, full_shut, none_named_shut, index_apart, c.args.self.now.table.slots.items, c.args.decision.now.tran, c.requires.new, c.free_place_for.result)

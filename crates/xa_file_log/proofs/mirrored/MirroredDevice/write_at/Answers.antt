@@ -25,8 +25,4 @@ pub returns-else-ok-clause-time : goal.returns-else-ok-clause-time
 returns-else-ok-clause-time g c = elapses_to c.args.self.now.past.items c.and-self.result.items _ _ c.and-self.ensures
 
 pub returns-else-ok-clause-cause : goal.returns-else-ok-clause-cause
-returns-else-ok-clause-cause g c =
-    let made = c.and-self.ensures ∙ ap (λ (e : Call). c.args.self.now.past.items ++ (e, c.write_both-ok.new.copy) ∷ []) c.call_of.ensures in
-    let count = failures_to c.args.self.now.past.items c.and-self.result.items _ _ made in
-    let one = writing_failed c.args.at c.args.bytes.now c.write_both-ok.result ∙ ap (λ (b : Bool). cond b 0 1) c.if-ok.false in
-    record { later = omega (arith, count); failed = λ it. omega (arith, count, one) }
+returns-else-ok-clause-cause g c = grind (arith, failures_to, writing_failed)
