@@ -1,4 +1,5 @@
 -- Deeds, one after another.
+use Rattle.std.proofs.Common.{arith}
 use Rattle.xa_base.proofs.{◌≡◌, ℕ, cond, Bool, true, false, List, [], ◌∷◌, ◌++◌, None, Some, refl, sym, ap, ◌∙◌, subst, append_assoc, if◌then◌else◌, is_some}
 use Rattle.xa_base.proofs.{get-insert, eq_by_cmp}
 use Rattle.xa_log.specs.{tran_cmp, LogState, record_of, with_record, with_failure, without_record, AreNew, CommitRecord}
@@ -31,10 +32,7 @@ does_nothing false log = tt
 
 -- spans follow one another
 pub does-chain : (j k l : Bool) (s t u : LogState) (ds es : List Deed) → Does j s ds k t → Does k t es l u → Does j s (ds ++ es) l u
-does-chain true true true s t u ds es a b = (
-  right-append s ds es a.0 (subst (λ x. AreRight x es) a.1 b.0),
-  b.1 ∙ ap (λ x. after x es) a.1 ∙ sym (after-append s ds es),
-)
+does-chain true true true s t u ds es a b = search (arith, right-append, after-append, a.0, a.1)
 does-chain true true false s t u ds es a b = record {
   done = ds ++ b.done;
   rest = b.rest;
@@ -43,13 +41,7 @@ does-chain true true false s t u ds es a b = record {
   unknown = b.unknown;
 }
 does-chain true false true s t u ds es a b = absurd b
-does-chain true false false s t u ds es a b = record {
-  done = a.done;
-  rest = a.rest ++ es;
-  parts = ap (λ xs. xs ++ es) a.parts ∙ append_assoc a.done a.rest es;
-  right = a.right;
-  unknown = unknown-append a.rest es a.unknown b;
-}
+does-chain true false false s t u ds es a b = search (arith, append_assoc, unknown-append, a.done, a.rest, a.unknown)
 does-chain false true l s t u ds es a b = absurd a
 does-chain false false true s t u ds es a b = absurd b
 does-chain false false false s t u ds es a b = unknown-append ds es a b
@@ -94,8 +86,7 @@ new_answered log r rs Unknown right new = absurd right
 -- once one is answered, the others are still new
 pub new_after : (b k : Bool) (log now : LogState) (a : Answered) (rs : List CommitRecord) → (b ≡ true → AreNew log (a.decision ∷ rs))
     → Does b log (Answers a ∷ []) k now → k ≡ true → AreNew now rs
-new_after true true log now a rs new does known =
-    subst (λ x. AreNew x rs) (sym does.1) (new_answered log a.decision rs a.answer does.0.0 (new refl).1)
+new_after true true log now a rs new does known = search (arith, new_answered, a.decision, a.answer, does.0.0)
 new_after true false log now a rs new does known = cc
 new_after false true log now a rs new does known = absurd does
 new_after false false log now a rs new does known = cc

@@ -17,15 +17,8 @@ Items = List (Deed × Unit {0})
 pub settles_more : (ws : List Waiting) (cs : List Answered) (old mid new : Items) (j k l : Bool) (s t u : LogState) (w : Waiting) (a : Answered)
     → Settles ws cs old mid j s k t → deeds_in new ≡ deeds_in mid ++ Answers a ∷ [] → Does k t (Answers a ∷ []) l u → as_waiting a ≡ w
     → Settles (ws ++ w ∷ []) (cs ++ a ∷ []) old new j s l u
-settles_more ws cs old mid new j k l s t u w a settled noted does is = record {
-  deeds = settled.deeds ++ Answers a ∷ [];
-  grown = noted ∙ ap (λ xs. xs ++ Answers a ∷ []) settled.grown ∙ append_assoc (deeds_in old) settled.deeds (Answers a ∷ []);
-  answers = answers-append settled.deeds (Answers a ∷ []) ∙ ap (λ xs. xs ++ a ∷ []) settled.answers;
-  each = map-append as_waiting cs (a ∷ []) ∙ ap (λ xs. xs ++ as_waiting a ∷ []) settled.each ∙ ap (λ x. ws ++ x ∷ []) is;
-  asked = λ p. asked_in-append p settled.deeds (Answers a ∷ [])
-      ∙ (λ i. settled.asked p i ++ (asked_if p (is i).from (Append (is i).decision) ++ [])) ∙ sym (waits_of-append p ws (w ∷ []));
-  does = does-chain j k l s t u settled.deeds (Answers a ∷ []) settled.does does;
-}
+settles_more ws cs old mid new j k l s t u w a settled noted does is =
+    search (arith, append_assoc, answers-append, map-append, asked_in-append, waits_of-append, does-chain, settled.deeds, settled.asked, settled.does)
 
 -- the log has refused them together, and then each was tried
 pub settles_refused : (ws : List Waiting) (cs : List Answered) (old mid new : Items) (l : Bool) (s u : LogState)
@@ -63,27 +56,13 @@ all_unknown (w ∷ ws) = (refl, all_unknown ws)
 pub settles_taken : (ws : List Waiting) (old new : Items) (k : Bool) (s u : LogState) → k ≡ true → AreNew s (records_in ws)
     → u ≡ with_records s (records_in ws) → deeds_in new ≡ deeds_in old ++ map Answers (answer_each Taken ws)
     → Settles ws (answer_each Taken ws) old new k s k u
-settles_taken ws old new true s u known news is noted = record {
-  deeds = map Answers (answer_each Taken ws);
-  grown = noted;
-  answers = answers_alone (answer_each Taken ws);
-  each = each_answered Taken ws;
-  asked = asked_each Taken ws;
-  does = (right_taken s ws news, is ∙ sym (after_taken s ws));
-}
+settles_taken ws old new true s u known news is noted = search (arith, answers_alone, each_answered, asked_each, right_taken, after_taken)
 settles_taken ws old new false s u known news is noted = cc
 
 -- the log was lost with all of them
 pub settles_lost : (ws : List Waiting) (old new : Items) (k : Bool) (s u : LogState) → k ≡ true
     → deeds_in new ≡ deeds_in old ++ map Answers (answer_each Unknown ws) → Settles ws (answer_each Unknown ws) old new k s false u
-settles_lost ws old new true s u known noted = record {
-  deeds = map Answers (answer_each Unknown ws);
-  grown = noted;
-  answers = answers_alone (answer_each Unknown ws);
-  each = each_answered Unknown ws;
-  asked = asked_each Unknown ws;
-  does = record { done = []; rest = map Answers (answer_each Unknown ws); parts = refl; right = tt; unknown = all_unknown ws };
-}
+settles_lost ws old new true s u known noted = search (arith, answers_alone, each_answered, asked_each, all_unknown)
 settles_lost ws old new false s u known noted = cc
 
 -- ---- in the forms in which loops and calls have them
@@ -92,15 +71,11 @@ pub settles_next : (ws ws' : List Waiting) (cs cs' : List Answered) (old mid new
     → ws' ≡ ws ++ w ∷ [] → cs' ≡ cs ++ b ∷ [] → b ≡ a
     → Settles ws cs old mid j s k t → deeds_in new ≡ deeds_in mid ++ Answers a ∷ [] → Does k t (Answers a ∷ []) l u → as_waiting a ≡ w
     → Settles ws' cs' old new j s l u
-settles_next ws ws' cs cs' old mid new j k l s t u w a b more_ws more_cs same settled noted does is =
-    subst (λ xs. Settles xs cs' old new j s l u) (sym more_ws)
-    (subst (λ xs. Settles (ws ++ w ∷ []) xs old new j s l u) (sym (more_cs ∙ ap (λ x. cs ++ x ∷ []) same))
-    (settles_more ws cs old mid new j k l s t u w a settled noted does is))
+settles_next ws ws' cs cs' old mid new j k l s t u w a b more_ws more_cs same settled noted does is = search (arith, settles_more)
 
 pub settles_after_refusal : (ws : List Waiting) (cs : List Answered) (old mid new : Items) (k l : Bool) (s t u : LogState) → k ≡ true → t ≡ with_failure s
     → deeds_in mid ≡ deeds_in old ++ IsRefused ∷ [] → Settles ws cs mid new k t l u → Settles ws cs old new k s l u
-settles_after_refusal ws cs old mid new true l s t u known failed noted settled =
-    settles_refused ws cs old mid new l s u noted (subst (λ x. Settles ws cs mid new true x l u) failed settled)
+settles_after_refusal ws cs old mid new true l s t u known failed noted settled = search (arith, settles_refused)
 settles_after_refusal ws cs old mid new false l s t u known failed noted settled = cc
 
 pub drop_more : (ws : List Waiting) (i : ℕ) (w : Waiting) → i < length ws → w ≡ get_or ws i w → drop i ws ≡ w ∷ drop (i + 1) ws

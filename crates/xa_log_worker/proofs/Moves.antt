@@ -34,48 +34,26 @@ other_lane (suc k) (suc i) (s ∷ ss) y differs = other_lane k i ss y (λ e. dif
 
 pub lane_sent : (ss : Lanes) (x y : Sending Answer) (a : Answered) → a.from < length ss → x ≡ get_or ss a.from x → but_full y ≡ but_full (with_item a.answer x)
     → SentBy (a ∷ []) ss (set ss a.from y)
-lane_sent ss x y a within read sent k =
-    ⊎_elim
-    (λ (e : ((a.from == k) ≡ true) × (a.from ≡ k)).
-    subst (λ j. sent_at j (set ss a.from y) ≡ sent_at j ss ++ a.answer ∷ []) e.1
-    (same_lane a.from ss x y a.answer within read (ap (λ (z : Sending Answer). z.sent) sent))
-    ∙ ap (λ b. sent_at k ss ++ cond b (a.answer ∷ []) nothing) (sym e.0))
-    (λ (e : ((a.from == k) ≡ false) × (a.from ≢ k)).
-    other_lane k a.from ss y (λ q. e.1 (sym q)) ∙ sym (append-nil (sent_at k ss)) ∙ ap (λ b. sent_at k ss ++ cond b (a.answer ∷ []) nothing) (sym e.0))
-    (eqb_tells a.from k)
+lane_sent ss x y a within read sent k = search (arith, same_lane, other_lane, append-nil, eqb_tells, a.from, a.answer)
 
 told-append : (k : ℕ) (cs bs : List Answered) → told_to k (cs ++ bs) ≡ told_to k cs ++ told_to k bs
 told-append k [] bs = refl
-told-append k (a ∷ cs) bs =
-    elim (a.from == k) as (λ b. cond b (a.answer ∷ told_to k (cs ++ bs)) (told_to k (cs ++ bs)) ≡ cond b (a.answer ∷ told_to k cs) (told_to k cs) ++
-    told_to k bs) [
-      | true ↦ ap (λ xs. a.answer ∷ xs) (told-append k cs bs)
-      | false ↦ told-append k cs bs
-    ]
+told-append k (a ∷ cs) bs = search (arith, told-append k cs bs)
 
 pub sent_none : (ss : Lanes) → SentBy [] ss ss
 sent_none ss k = sym (append-nil (sent_at k ss))
 
 pub sent-chain : (cs bs : List Answered) (ss ts us : Lanes) → SentBy cs ss ts → SentBy bs ts us → SentBy (cs ++ bs) ss us
-sent-chain cs bs ss ts us a b k =
-    b k ∙ ap (λ xs. xs ++ told_to k bs) (a k) ∙ append_assoc (sent_at k ss) (told_to k cs) (told_to k bs)
-    ∙ ap (λ xs. sent_at k ss ++ xs) (sym (told-append k cs bs))
+sent-chain cs bs ss ts us a b k = search (arith, append_assoc, told-append)
 
 abbrev Items : Type 0
 Items = List (Deed × Unit {0})
 
 pub moves_none : (items : Items) (k : Bool) (s : LogState) (ss : Lanes) (ws : List Waiting) → Moves items items k s k s ss ss ws ws []
-moves_none items k s ss ws = record {
-  deeds = [];
-  grown = sym (append-nil (deeds_in items));
-  does = does_nothing k s;
-  sent = sent_none ss;
-  asked = λ p. sym (append-nil (waits_of p ws));
-}
+moves_none items k s ss ws = search (arith, append-nil, does_nothing, sent_none)
 
 asked-chain : (ds es w1 w2 w3 q r : List Ask) → ds ++ w2 ≡ w1 ++ q → es ++ w3 ≡ w2 ++ r → (ds ++ es) ++ w3 ≡ w1 ++ (q ++ r)
-asked-chain ds es w1 w2 w3 q r a b =
-    append_assoc ds es w3 ∙ ap (λ xs. ds ++ xs) b ∙ sym (append_assoc ds w2 r) ∙ ap (λ xs. xs ++ r) a ∙ append_assoc w1 q r
+asked-chain ds es w1 w2 w3 q r a b = search (arith, append_assoc)
 
 pub moves-chain : (x y z : Items) (j k l : Bool) (s t u : LogState) (ss ts us : Lanes) (v1 v2 v3 : List Waiting) (qs rs : List (ℕ × Ask))
     → Moves x y j s k t ss ts v1 v2 qs → Moves y z k t l u ts us v2 v3 rs → Moves x z j s l u ss us v1 v3 (qs ++ rs)
@@ -85,10 +63,7 @@ moves-chain x y z j k l s t u ss ts us v1 v2 v3 qs rs a b = record {
   does = does-chain j k l s t u a.deeds b.deeds a.does b.does;
   sent = λ p. sent-chain (answers_in a.deeds) (answers_in b.deeds) ss ts us a.sent b.sent p
       ∙ ap (λ xs. sent_at p ss ++ told_to p xs) (sym (answers-append a.deeds b.deeds));
-  asked = λ p. ap (λ xs. xs ++ waits_of p v3) (asked_in-append p a.deeds b.deeds)
-      ∙ asked-chain (asked_in p a.deeds) (asked_in p b.deeds) (waits_of p v1) (waits_of p v2) (waits_of p v3) (asked_of p qs) (asked_of p rs) (a.asked p)
-      (b.asked p)
-      ∙ ap (λ xs. waits_of p v1 ++ xs) (sym (asked_of-append p qs rs));
+  asked = search (arith, asked_in-append, asked-chain, asked_of-append, a.deeds, a.asked, b.asked);
 }
 
 -- a request, after what made way for it
@@ -100,64 +75,33 @@ moves_then x y z j k l s t u ss ts us v1 v2 v3 from ask same is a b =
 -- a group was settled, and then its answers were sent
 pub moves_settled : (us ws vs : List Waiting) (cs ds : List Answered) (x y : Items) (j k : Bool) (s t : LogState) (ss ts : Lanes) → us ≡ ws → cs ≡ ds → vs ≡ []
     → Settles us ds x y j s k t → SentBy cs ss ts → Moves x y j s k t ss ts ws vs []
-moves_settled us ws vs cs ds x y j k s t ss ts those same none settled sent = record {
-  deeds = settled.deeds;
-  grown = settled.grown;
-  does = settled.does;
-  sent = λ p. sent p ∙ ap (λ xs. sent_at p ss ++ told_to p xs) (same ∙ sym settled.answers);
-  asked = λ p. ap (λ rs. asked_in p settled.deeds ++ waits_of p rs) none ∙ ap (λ xs. xs ++ []) (settled.asked p ∙ ap (waits_of p) those);
-}
+moves_settled us ws vs cs ds x y j k s t ss ts those same none settled sent = search (arith, settled.asked)
 
 -- one deed, of a request, and what it answers
 pub moves_one : (d : Deed) (from : ℕ) (tran : TranName) (ask : Ask) (x y : Items) (j k : Bool) (s t : LogState) (ss ts : Lanes) (ws : List Waiting)
     → deeds_in y ≡ deeds_in x ++ d ∷ [] → Does j s (d ∷ []) k t → SentBy (answers_in (d ∷ [])) ss ts
     → is_clash from tran ws ≡ false → ((p : ℕ) → asked_by p d ≡ asked_if p from ask) → Moves x y j s k t ss ts ws ws ((from, ask) ∷ [])
-moves_one d from tran ask x y j k s t ss ts ws noted does sent apart of = record {
-  deeds = d ∷ [];
-  grown = noted;
-  does = does;
-  sent = sent;
-  asked = λ p. ap (λ xs. xs ++ waits_of p ws) (append-nil (asked_by p d) ∙ of p) ∙ asked_last from tran ask ws apart p
-      ∙ ap (λ xs. waits_of p ws ++ xs) (sym (append-nil (asked_if p from ask)));
-}
+moves_one d from tran ask x y j k s t ss ts ws noted does sent apart of = search (arith, append-nil, asked_last)
 
 -- a record waits now
 pub moves_push : (items : Items) (k : Bool) (s : LogState) (ss : Lanes) (ws vs : List Waiting) (w : Waiting) → vs ≡ ws ++ w ∷ []
     → Moves items items k s k s ss ss ws vs ((w.from, Append w.decision) ∷ [])
-moves_push items k s ss ws vs w is = record {
-  deeds = [];
-  grown = sym (append-nil (deeds_in items));
-  does = does_nothing k s;
-  sent = sent_none ss;
-  asked = λ p. ap (waits_of p) is ∙ waits_of-append p ws (w ∷ []);
-}
+moves_push items k s ss ws vs w is = search (arith, append-nil, does_nothing, sent_none, waits_of-append)
 
 -- ---- with what was taken
 
 pub works_none : (items : Items) (k : Bool) (s : LogState) (ss : Lanes) (ws : List Waiting) (taken taken' : List (Parcel Ask))
     → ((p : ℕ) → received p taken' ≡ received p taken) → Works items items k s k s ss ss ws ws taken taken'
-works_none items k s ss ws taken taken' same = record {
-  requests = [];
-  took = λ p. same p ∙ sym (append-nil (received p taken));
-  moves = moves_none items k s ss ws;
-}
+works_none items k s ss ws taken taken' same = search (arith, append-nil, moves_none)
 
 pub works_one : (x y : Items) (j k : Bool) (s t : LogState) (ss ts : Lanes) (vs ws : List Waiting) (taken taken' : List (Parcel Ask)) (from : ℕ) (ask : Ask)
     → taken' ≡ taken ++ parcel from (Some ask) ∷ [] → Moves x y j s k t ss ts vs ws ((from, ask) ∷ []) → Works x y j s k t ss ts vs ws taken taken'
-works_one x y j k s t ss ts vs ws taken taken' from ask is moves = record {
-  requests = (from, ask) ∷ [];
-  took = λ p. ap (received p) is ∙ received_item taken from ask p;
-  moves = moves;
-}
+works_one x y j k s t ss ts vs ws taken taken' from ask is moves = search (arith, received_item)
 
 pub works-chain : (x y z : Items) (j k l : Bool) (s t u : LogState) (ss ts us : Lanes) (v1 v2 v3 : List Waiting) (t1 t2 t3 : List (Parcel Ask))
     → Works x y j s k t ss ts v1 v2 t1 t2 → Works y z k t l u ts us v2 v3 t2 t3 → Works x z j s l u ss us v1 v3 t1 t3
-works-chain x y z j k l s t u ss ts us v1 v2 v3 t1 t2 t3 a b = record {
-  requests = a.requests ++ b.requests;
-  took = λ p. b.took p ∙ ap (λ xs. xs ++ asked_of p b.requests) (a.took p) ∙ append_assoc (received p t1) (asked_of p a.requests) (asked_of p b.requests)
-      ∙ ap (λ xs. received p t1 ++ xs) (sym (asked_of-append p a.requests b.requests));
-  moves = moves-chain x y z j k l s t u ss ts us v1 v2 v3 a.requests b.requests a.moves b.moves;
-}
+works-chain x y z j k l s t u ss ts us v1 v2 v3 t1 t2 t3 a b =
+    search (arith, append_assoc, asked_of-append, moves-chain, b.took, a.took, a.requests, b.requests, a.moves)
 
 -- with nothing that waits before and after it
 pub steps_closed : (x y z : Items) (j k l : Bool) (s t u : LogState) (ss ts us : Lanes) (v1 v2 v3 : List Waiting) (t1 t2 : List (Parcel Ask)) → v1 ≡ []
@@ -165,24 +109,10 @@ pub steps_closed : (x y z : Items) (j k l : Bool) (s t u : LogState) (ss ts us :
     → Works x y j s k t ss ts v1 v2 t1 t2 → Moves y z k t l u ts us v2 v3 [] → Steps x z j s l u ss us t1 t2
 steps_closed x y z j k l s t u ss ts us v1 v2 v3 t1 t2 first last a b =
     let m = moves-chain x y z j k l s t u ss ts us v1 v2 v3 a.requests [] a.moves b in
-    record {
-      deeds = m.deeds;
-      grown = m.grown;
-      asked = λ p. a.took p
-          ∙ ap (λ xs. received p t1 ++ xs) (sym (sym (append-nil (asked_in p m.deeds)) ∙ ap (λ ws. asked_in p m.deeds ++ waits_of p ws) (sym last) ∙ m.asked p
-          ∙ ap (λ ws. waits_of p ws ++ asked_of p (a.requests ++ [])) first ∙ ap (asked_of p) (append-nil a.requests)));
-      does = m.does;
-      sent = m.sent;
-    }
+    search (arith, append-nil, a.took, m.asked)
 
 pub steps_none : (items : Items) (k : Bool) (s : LogState) (ss : Lanes) (taken : List (Parcel Ask)) → Steps items items k s k s ss ss taken taken
-steps_none items k s ss taken = record {
-  deeds = [];
-  grown = sym (append-nil (deeds_in items));
-  asked = λ p. sym (append-nil (received p taken));
-  does = does_nothing k s;
-  sent = sent_none ss;
-}
+steps_none items k s ss taken = search (arith, append-nil, does_nothing, sent_none)
 
 pub steps-chain : (x y z : Items) (j k l : Bool) (s t u : LogState) (ss ts us : Lanes) (t1 t2 t3 : List (Parcel Ask)) → Steps x y j s k t ss ts t1 t2
     → Steps y z k t l u ts us t2 t3 → Steps x z j s l u ss us t1 t3
@@ -199,10 +129,4 @@ steps-chain x y z j k l s t u ss ts us t1 t2 t3 a b = record {
 -- the end marks answer nothing
 pub steps_ended : (x y z : Items) (j k l : Bool) (s t u : LogState) (ss ts us : Lanes) (t1 t2 t3 : List (Parcel Ask)) → Steps x y j s k t ss ts t1 t2
     → z ≡ y → l ≡ k → u ≡ t → map but_full us ≡ map but_full ts → t3 ≡ t2 → Steps x z j s l u ss us t1 t3
-steps_ended x y z j k l s t u ss ts us t1 t2 t3 a deeds known log lanes taken = record {
-  deeds = a.deeds;
-  grown = ap deeds_in deeds ∙ a.grown;
-  asked = λ p. ap (received p) taken ∙ a.asked p;
-  does = subst (λ b. Does j s a.deeds b u) (sym known) (subst (λ v. Does j s a.deeds k v) (sym log) a.does);
-  sent = λ p. sym (sent_at-but_full p us) ∙ ap (sent_at p) lanes ∙ sent_at-but_full p ts ∙ a.sent p;
-}
+steps_ended x y z j k l s t u ss ts us t1 t2 t3 a deeds known log lanes taken = search (arith, sent_at-but_full, a.asked, a.deeds, a.sent)

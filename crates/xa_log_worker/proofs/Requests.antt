@@ -1,4 +1,5 @@
 -- What coordinators asked.
+use Rattle.std.proofs.Common.{arith}
 use Rattle.xa_base.proofs.{◌≡◌, ◌≢◌, ⊎_elim, ℕ, ◌==◌, Bool, true, false, cond, List, [], ◌∷◌, ◌++◌, map, Some, None, Option, refl, sym, ap, ◌∙◌, subst}
 use Rattle.xa_base.proofs.{append_assoc, ◌||◌, append-nil}
 use Rattle.std.proofs.lemmas.Bool.Decides.{eqb_tells}
@@ -14,14 +15,11 @@ asked_in-append k (d ∷ ds) es = ap (λ xs. asked_by k d ++ xs) (asked_in-appen
 
 pub waits_of-append : (k : ℕ) (vs ws : List Waiting) → waits_of k (vs ++ ws) ≡ waits_of k vs ++ waits_of k ws
 waits_of-append k [] ws = refl
-waits_of-append k (v ∷ vs) ws =
-    ap (λ xs. asked_if k v.from (Append v.decision) ++ xs) (waits_of-append k vs ws)
-    ∙ sym (append_assoc (asked_if k v.from (Append v.decision)) (waits_of k vs) (waits_of k ws))
+waits_of-append k (v ∷ vs) ws = search (arith, waits_of-append k vs ws, append_assoc, v.from)
 
 pub asked_of-append : (k : ℕ) (qs rs : List (ℕ × Ask)) → asked_of k (qs ++ rs) ≡ asked_of k qs ++ asked_of k rs
 asked_of-append k [] rs = refl
-asked_of-append k (q ∷ qs) rs =
-    ap (λ xs. asked_if k q.0 q.1 ++ xs) (asked_of-append k qs rs) ∙ sym (append_assoc (asked_if k q.0 q.1) (asked_of k qs) (asked_of k rs))
+asked_of-append k (q ∷ qs) rs = search (arith, asked_of-append k qs rs, append_assoc, q.0)
 
 -- a group's answers are to what waited
 pub asked_each : (answer : Answer) (ws : List Waiting) (k : ℕ) → asked_in k (map Answers (answer_each answer ws)) ≡ waits_of k ws
@@ -43,15 +41,7 @@ none_waits from tran (w ∷ ws) apart =
 -- so what is asked now comes behind what waits
 pub asked_last : (from : ℕ) (tran : TranName) (ask : Ask) (ws : List Waiting) → is_clash from tran ws ≡ false → (k : ℕ)
     → asked_if k from ask ++ waits_of k ws ≡ waits_of k ws ++ asked_if k from ask
-asked_last from tran ask ws apart k =
-    ⊎_elim
-    (λ (e : ((from == k) ≡ true) × (from ≡ k)).
-    let none : waits_of k ws ≡ [] = subst (λ j. waits_of j ws ≡ []) e.1 (none_waits from tran ws apart) in
-    ap (λ xs. asked_if k from ask ++ xs) none ∙ append-nil (asked_if k from ask) ∙ ap (λ xs. xs ++ asked_if k from ask) (sym none))
-    (λ (e : ((from == k) ≡ false) × (from ≢ k)).
-    let no : asked_if k from ask ≡ [] = ap (λ b. cond b (ask ∷ []) []) e.0 in
-    ap (λ xs. xs ++ waits_of k ws) no ∙ sym (append-nil (waits_of k ws)) ∙ ap (λ xs. waits_of k ws ++ xs) (sym no))
-    (eqb_tells from k)
+asked_last from tran ask ws apart k = search (arith, none_waits, append-nil, eqb_tells)
 
 -- ---- what is taken of the lane
 
@@ -65,13 +55,7 @@ received-append k ps qs = ap somes (of_sender-append k ps qs) ∙ somes-append (
 
 pub received_item : (taken : List (Parcel Ask)) (from : ℕ) (ask : Ask) (k : ℕ)
     → received k (taken ++ parcel from (Some ask) ∷ []) ≡ received k taken ++ asked_of k ((from, ask) ∷ [])
-received_item taken from ask k =
-    received-append k taken (parcel from (Some ask) ∷ [])
-    ∙ ap (λ xs. received k taken ++ xs)
-    (elim (from == k) as (λ b. somes (cond b (Some ask ∷ []) []) ≡ cond b (ask ∷ []) [] ++ []) [ true ↦ refl | false ↦ refl ])
+received_item taken from ask k = search (arith, received-append)
 
 pub received_end : (taken : List (Parcel Ask)) (from k : ℕ) → received k (taken ++ parcel from None ∷ []) ≡ received k taken
-received_end taken from k =
-    received-append k taken (parcel from None ∷ [])
-    ∙ ap (λ xs. received k taken ++ xs) (elim (from == k) as (λ b. somes {T = Ask} (cond b (None ∷ []) []) ≡ []) [ true ↦ refl | false ↦ refl ])
-    ∙ append-nil (received k taken)
+received_end taken from k = search (arith, received-append, append-nil)

@@ -1,3 +1,4 @@
+use Rattle.std.proofs.Common.{arith}
 use Rattle.xa_base.proofs.{◌≡◌, ◌+◌, ◌++◌, ◌∷◌, [], ap, sym, subst, refl, take, drop, true, ◌∙◌, take_more}
 use Rattle.xa_log.specs.{AreNew}
 use Rattle.xa_log_worker.specs.{answered_by, records_in}
@@ -20,7 +21,5 @@ loop-one-preserved g c =
       told = c.append_one-answer.ensures.told;
       new = new_after c.loop-one.is_known _ _ _ a (records_in (drop (i + 1) ws)) new does;
       space = c.push_reserved.ensures.capacity ∙ c.loop-one.invariant.space;
-      settles =
-          settles_next _ _ _ _ _ _ _ _ _ _ _ _ _ w a c.answered.result more c.push_reserved.ensures.items c.answered.ensures c.loop-one.invariant.settles
-          c.note.ensures does refl;
+      settles = search (arith, settles_next, c.answered.result, c.push_reserved.ensures.items, c.answered.ensures, c.note.ensures);
     }

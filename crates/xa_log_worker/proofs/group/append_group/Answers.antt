@@ -1,3 +1,4 @@
+use Rattle.std.proofs.Common.{arith}
 use Rattle.xa_base.proofs.{false, ap, rules, sym, subst, ◌∙◌}
 use Rattle.xa_log.specs.{with_records}
 use Rattle.xa_log_worker.specs.{Settles, records_in}
@@ -5,19 +6,11 @@ use Rattle.xa_log_worker.proofs.Groups.{settles_taken, settles_lost, settles_aft
 use Rattle.xa_log_worker.proofs.group.append_group.Goals as goal
 
 pub append_each-requires-in-Err-Refused-clause-new : goal.append_each-requires-in-Err-Refused-clause-new
-append_each-requires-in-Err-Refused-clause-new g c known =
-    let failed = c.append_all-end.ensures.refused (search rules) in
-    new_failed _ _ (records_in c.args.waiting.now) failed.0 (c.requires.new known)
+append_each-requires-in-Err-Refused-clause-new g c known = search (arith, new_failed, c.append_all-end.ensures.refused, c.requires.new)
 
 pub returns-in-Ok-clause-settles : goal.returns-in-Ok-clause-settles
 returns-in-Ok-clause-settles g c =
-    let known = c.requires.told.1 (c.is_known.ensures.0 c.if-not-is_known.false) in
-    let s = g.L.DecisionLog.state c.args.log.now in
-    let ws = c.args.waiting.now in
-    let u = g.L.DecisionLog.state c.append_all-end.new.self in
-    subst (λ cs. Settles ws cs c.args.deeds.now.items c.answer_all.new.deeds.items c.args.is_known.now s c.args.is_known.now u) (sym c.answer_all.ensures.done)
-    (settles_taken ws c.args.deeds.now.items c.answer_all.new.deeds.items c.args.is_known.now s u known (c.requires.new known)
-    (c.in-Ok.ensures.appended.0 ∙ ap (with_records s) (c.deref.ensures.value ∙ c.copy_records.ensures.copied)) c.answer_all.ensures.deeds)
+    search (arith, settles_taken, c.requires.told.1, c.is_known.ensures.0, g.L.DecisionLog.state, c.args.log.now, c.args.waiting.now, c.append_all-end.new.self)
 
 pub returns-in-Err-Unknown-clause-settles : goal.returns-in-Err-Unknown-clause-settles
 returns-in-Err-Unknown-clause-settles g c =
@@ -26,8 +19,7 @@ returns-in-Err-Unknown-clause-settles g c =
     let ws = c.args.waiting.now in
     let u = g.L.DecisionLog.state c.append_all-end.new.self in
     let d = c.answer_all-in-Err-Unknown in
-    subst (λ cs. Settles ws cs c.args.deeds.now.items d.new.deeds.items c.args.is_known.now s false u) (sym d.ensures.done)
-    (settles_lost ws c.args.deeds.now.items d.new.deeds.items c.args.is_known.now s u known d.ensures.deeds)
+    search (arith, settles_lost, c.args.deeds.now.items, d.new.deeds.items, c.args.is_known.now)
 
 pub returns-in-Err-Refused-clause-settles : goal.returns-in-Err-Refused-clause-settles
 returns-in-Err-Refused-clause-settles g c =

@@ -7,18 +7,7 @@ use Rattle.xa_log_worker.proofs.Openings.{as_many, pushed_all}
 use Rattle.xa_log_worker.proofs.opening.open_parts.Goals as goal
 
 pub loop-sender-init : goal.loop-sender-init
-loop-sender-init g c =
-    let e = c.into_iter-sender-iterator.ensures.into_iter_gives in
-    let f = c.in_ok-senders.ensures.senders in
-    record {
-      so_far = refl;
-      counted = search rules;
-      count = ap length c.in_ok-answers.ensures.items;
-      clients = ap length c.in_ok-clients.ensures.items;
-      sent = search rules;
-      new = search rules;
-      all = as_many Ask _ c.in_ok-senders.asks.line 64 c.args.coordinators _ (e.0 ∙ f);
-    }
+loop-sender-init g c = search (arith, as_many, c.into_iter-sender-iterator.ensures.into_iter_gives, c.in_ok-senders.ensures.senders)
 
 pub loop-sender-preserved : goal.loop-sender-preserved
 loop-sender-preserved g c = record {

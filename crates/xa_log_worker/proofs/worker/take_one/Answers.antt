@@ -1,3 +1,4 @@
+use Rattle.std.proofs.Common.{arith}
 use Rattle.xa_base.proofs.{ap, ◌∙◌}
 use Rattle.xa_lane.specs.{received}
 use Rattle.xa_log_worker.specs.{Asked}
@@ -9,9 +10,7 @@ pub returns-in-Empty-clause-works : goal.returns-in-Empty-clause-works
 returns-in-Empty-clause-works g c = works_none _ _ _ _ _ _ _ (λ p. ap (λ (r : Asked). received p r.taken) c.in-Empty.ensures.took)
 
 pub returns-in-EndOf-clause-works : goal.returns-in-EndOf-clause-works
-returns-in-EndOf-clause-works g c =
-    works_none _ _ _ _ _ _ _ (λ p. ap (λ (r : Asked). received p r.taken) c.in-EndOf.ensures.took.1 ∙ received_end c.args.asks.now.taken c.in-EndOf.from p)
+returns-in-EndOf-clause-works g c = search (arith, works_none, received_end, c.args.asks.now.taken, c.in-EndOf.from)
 
 pub returns-in-Item-clause-works : goal.returns-in-Item-clause-works
-returns-in-Item-clause-works g c =
-    works_one _ _ _ _ _ _ _ _ _ _ _ _ c.in-Item.from c.in-Item.ask (ap (λ (r : Asked). r.taken) c.in-Item.ensures.took.1) c.take_in.ensures.moves
+returns-in-Item-clause-works g c = search (arith, works_one, c.in-Item.from, c.in-Item.ask)

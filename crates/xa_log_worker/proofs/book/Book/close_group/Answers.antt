@@ -1,3 +1,4 @@
+use Rattle.std.proofs.Common.{arith}
 use Rattle.xa_base.proofs.{ap, map, ◌∙◌}
 use Rattle.xa_log_worker.specs.{as_waiting}
 use Rattle.xa_log_worker.proofs.Groups.{answered_places}
@@ -10,6 +11,4 @@ send_all-requires g c =
     (ap (map as_waiting) c.deref-2.ensures.value ∙ c.append_group.ensures.settles.each ∙ c.deref.ensures.value) c.args.self.now.places
 
 pub returns-clause-moves : goal.returns-clause-moves
-returns-clause-moves g c =
-    moves_settled _ _ _ _ _ _ _ _ _ _ _ _ _ c.deref.ensures.value c.deref-2.ensures.value c.clear.ensures.items c.append_group.ensures.settles
-    c.send_all.ensures.sent
+returns-clause-moves g c = search (arith, moves_settled, c.deref.ensures.value, c.deref-2.ensures.value, c.clear.ensures.items)

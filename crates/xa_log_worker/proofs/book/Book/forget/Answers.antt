@@ -1,3 +1,4 @@
+use Rattle.std.proofs.Common.{arith}
 use Rattle.xa_base.proofs.{sym, subst, refl}
 use Rattle.xa_log.specs.{AreNew}
 use Rattle.xa_log_worker.specs.{Forget, records_in}
@@ -8,10 +9,7 @@ use Rattle.xa_log_worker.proofs.News.{new_without}
 use Rattle.xa_log_worker.proofs.book.Book.forget.Goals as goal
 
 pub returns-clause-new : goal.returns-clause-new
-returns-clause-new g c known =
-    let ws = c.args.self.now.waiting.items in
-    subst (λ s. AreNew s (records_in ws)) (sym (c.forget_in.ensures.forgotten known))
-    (new_without (g.L.DecisionLog.state c.args.self.now.log) c.args.tran.now ws (c.requires.new known))
+returns-clause-new g c known = search (arith, new_without)
 
 pub returns-clause-moves : goal.returns-clause-moves
 returns-clause-moves g c =

@@ -1,20 +1,17 @@
+use Rattle.std.proofs.Common.{arith}
 use Rattle.xa_base.proofs.{◌≡◌, false, subst, ap, ◌∙◌}
 use Rattle.xa_log_worker.specs.{is_clash, tran_in}
 use Rattle.xa_log_worker.proofs.Moves.{moves_then}
 use Rattle.xa_log_worker.proofs.book.Book.take_in.Goals as goal
 
 pub admit-requires-clause-apart : goal.admit-requires-clause-apart
-admit-requires-clause-apart g c =
-    subst (λ t. is_clash c.args.from t c.make_way.new.self.waiting.items ≡ false) (c.tran_of.ensures ∙ ap tran_in c.in-Append.is) c.make_way.ensures.apart
+admit-requires-clause-apart g c = search (arith, c.args.from)
 
 pub forget-requires-clause-apart : goal.forget-requires-clause-apart
-forget-requires-clause-apart g c =
-    subst (λ t. is_clash c.args.from t c.make_way.new.self.waiting.items ≡ false) (c.tran_of.ensures ∙ ap tran_in c.in-Forget.is) c.make_way.ensures.apart
+forget-requires-clause-apart g c = search (arith, c.args.from)
 
 pub returns-in-Append-clause-moves : goal.returns-in-Append-clause-moves
-returns-in-Append-clause-moves g c =
-    moves_then _ _ _ _ _ _ _ _ _ _ _ _ _ _ _ _ _ _ c.in-Append.is c.make_way.ensures.moves c.admit.ensures.moves
+returns-in-Append-clause-moves g c = search (arith, moves_then, c.in-Append.is, c.make_way.ensures.moves)
 
 pub returns-in-Forget-clause-moves : goal.returns-in-Forget-clause-moves
-returns-in-Forget-clause-moves g c =
-    moves_then _ _ _ _ _ _ _ _ _ _ _ _ _ _ _ _ _ _ c.in-Forget.is c.make_way.ensures.moves c.forget.ensures.moves
+returns-in-Forget-clause-moves g c = search (arith, moves_then, c.in-Forget.is, c.make_way.ensures.moves)

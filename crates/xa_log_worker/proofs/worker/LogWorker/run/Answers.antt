@@ -1,3 +1,4 @@
+use Rattle.std.proofs.Common.{arith}
 use Rattle.xa_base.proofs.{ap}
 use Rattle.xa_log_worker.specs.{Asked}
 use Rattle.xa_log_worker.proofs.Moves.{steps-chain, steps_none, steps_ended}
@@ -10,6 +11,4 @@ pub loop-preserved : goal.loop-preserved
 loop-preserved g c = steps-chain _ _ _ _ _ _ _ _ _ _ _ _ _ _ _ c.loop.invariant c.step-step.ensures.steps
 
 pub returns-clause-steps : goal.returns-clause-steps
-returns-clause-steps g c =
-    steps_ended _ _ _ _ _ _ _ _ _ _ _ _ _ _ _ c.loop.invariant c.end.ensures.deeds c.end.ensures.log.1 (ap g.L.DecisionLog.state c.end.ensures.log.0)
-    c.end.ensures.answers (ap (λ (r : Asked). r.taken) c.end.ensures.asks)
+returns-clause-steps g c = search (arith, steps_ended, c.loop.invariant, c.end.ensures.deeds, c.end.ensures.log.1, g.L.DecisionLog.state, c.end.ensures.answers)
