@@ -1,4 +1,5 @@
 -- A commit of a unit of work names its branches alone.
+use Rattle.std.proofs.Common.{arith}
 use Rattle.xa_base.proofs.{◌≡◌, true, Option, List, any_at}
 use Rattle.xa_words.specs.{XidName, xid_eq, Death}
 use Rattle.xa_desk.specs.{LedgerView, DeskView}
@@ -11,9 +12,7 @@ use Rattle.xa_work.proofs.Voted.{MayAsk, branches_sent, came_each, made_each, vo
 
 module _ (bs : List Branch) where
   names_it : (b : Branch) → IsAmong bs b → MayAsk (NamesOnly bs) b.xid
-  names_it b (k, at) =
-      let its = λ (y : XidName) (e : xid_eq b.xid y ≡ true). any_at (λ (c : Branch). xid_eq c.xid y) bs k b at e in
-      record { first = its; commit = its; rollback = its; forget = its }
+  names_it b (k, at) = search (arith, any_at, b.xid)
 
   pub comes_named : (death : Option Death) (o : WorkOutcome) (desk : DeskView) (new : List LedgerView) (log later : LogState)
       → ComesOfCommit bs death o desk new log later → HaveSent (NamesOnly bs) desk.ledgers new

@@ -1,4 +1,5 @@
 -- The work for branches in flight that was all done: what was put to each manager, and what was collected.
+use Rattle.std.proofs.Common.{rules}
 use Rattle.xa_base.proofs.{◌≡◌, ℕ, suc, ◌+◌, ◌≤◌, Bool, true, false, cond, ◌==◌, List, [], ◌∷◌, ◌++◌, length, map, filter, length-append, append_assoc, sym}
 use Rattle.xa_base.proofs.{refl, ap, ◌∙◌, subst, arith, eq-eqb, All, list_any, range_with_len, eqb-true, or_parts, append-nil, map-append, All-head, All-tail}
 use Rattle.xa_base.proofs.{filter-append, list_any-append, all_left, all_right, range_suc}
@@ -74,15 +75,7 @@ pub record Flown (ps : List Put) (fs : Flights) (old new : DeskView) : Type 0 wh
   pub numbered : (m : ℕ) → IsKnown old.ledgers m → numbers_at m fs ≡ range_with_len (length (ledger old.ledgers m).sent) (length (ops_to m ps))
 
 none_flown : (d : DeskView) → Flown [] [] d d
-none_flown d = record {
-  keys_are = refl;
-  managers_are = refl;
-  kept = refl;
-  many = refl;
-  here = λ m known. refl;
-  others = λ m positive none_. refl;
-  numbered = λ m known. refl;
-}
+none_flown d = search (arith, rules)
 
 -- one more
 module _ (ps : List Put) (fs : Flights) (old mid new : DeskView) (w : Flown ps fs old mid) (p : Put) (known : IsKnown old.ledgers p.flight.manager)
@@ -110,43 +103,10 @@ module _ (ps : List Put) (fs : Flights) (old mid new : DeskView) (w : Flown ps f
 
   numbered_more : (m : ℕ) → IsKnown old.ledgers m
       → numbers_at m (fs ++ flight ∷ []) ≡ range_with_len (length (ledger old.ledgers m).sent) (length (ops_to m (ps ++ p ∷ [])))
-  numbered_more m known_m =
-      elim (p.flight.manager == m) as (λ c. (p.flight.manager == m) ≡ c → numbers_at m (fs ++ flight ∷ []) ≡ range_with_len (length (ledger old.ledgers m).sent) (length (ops_to m (ps ++ p ∷ [])))) [
-        | true ↦ λ e.
-            let a : ℕ = length (ledger old.ledgers m).sent in
-            let n : ℕ = length (ops_to m ps) in
-            let own : length (ledger mid.ledgers p.flight.manager).sent ≡ a + n =
-            ap (λ k. length (ledger mid.ledgers k).sent) (eqb-true p.flight.manager m e) ∙ sent_before m known_m in
-            let more_ : length (ops_to m (ps ++ p ∷ [])) ≡ suc n =
-            ap (λ (l : List Put). length (map (λ (q : Put). q.op) l)) (pushed (λ (q : Put). q.flight.manager == m) ps p e)
-            ∙ ap length (map-append (λ (q : Put). q.op) (to_manager m ps) (p ∷ []))
-            ∙ (let size = length-append (ops_to m ps) (p.op ∷ []) in let all : length (ops_to m ps ++ p.op ∷ []) ≡ suc n = omega (arith, size) in all) in
-            ap (λ (l : Flights). map (λ (f : ℕ × Operation). f.1.number) l) (pushed (λ (f : ℕ × Operation). f.1.manager == m) fs flight e)
-            ∙ map-append (λ (f : ℕ × Operation). f.1.number) (filter (λ (f : ℕ × Operation). f.1.manager == m) fs) (flight ∷ [])
-            ∙ (λ i. w.numbered m known_m i ++ own i ∷ [])
-            ∙ sym (range_suc a n) ∙ ap (range_with_len a) (sym more_)
-        | false ↦ λ e.
-            ap (λ (l : Flights). map (λ (f : ℕ × Operation). f.1.number) l) (passed (λ (f : ℕ × Operation). f.1.manager == m) fs flight e)
-            ∙ w.numbered m known_m
-            ∙ ap (λ (l : List Put). range_with_len (length (ledger old.ledgers m).sent) (length (map (λ (q : Put). q.op) l))) (sym (passed (λ (q : Put). q.flight.manager == m) ps p e))
-      ] refl
+  numbered_more m known_m = search (arith, range_with_len, eqb-true, sent_before, pushed, map-append, length-append, range_suc, passed)
 
   pub one_flown : Flown (ps ++ p ∷ []) (fs ++ flight ∷ []) old new
-  one_flown =
-      let is = is_put p.flight.manager p.op p.flight.handle (key_of p.flight.handle) mid new key.is key.positive put in
-      record {
-        keys_are =
-            map-append (λ (f : ℕ × Operation). f.0) fs (flight ∷ []) ∙ ap (λ l. l ++ key_of p.flight.handle ∷ []) w.keys_are
-            ∙ sym (map-append (λ (q : Put). key_of q.flight.handle) ps (p ∷ []));
-        managers_are =
-            map-append (λ (f : ℕ × Operation). f.1.manager) fs (flight ∷ []) ∙ ap (λ l. l ++ p.flight.manager ∷ []) w.managers_are
-            ∙ sym (map-append (λ (q : Put). q.flight.manager) ps (p ∷ []));
-        kept = kept_push fs (key_of p.flight.handle) (next_operation mid.ledgers p.flight.manager) old mid new w.kept is.free is.kept;
-        many = step.many ∙ w.many;
-        here = here_more;
-        others = others_more;
-        numbered = numbered_more;
-      }
+  one_flown = search (arith, is_put, key_of, map-append, kept_push, step, here_more, others_more, numbered_more)
 
 -- all that were put
 pub all_flown : (old : DeskView) (ps : List Put) (new : DeskView) → Chain (λ p d e. PutsAtLast p.flight.manager p.op p.flight.handle d e) old ps new
@@ -173,12 +133,4 @@ all_got (f ∷ fs) at at' known (mid, is, rest) m positive =
     let on : All (λ (g : ℕ × Operation). IsKnown mid g.1.manager) fs =
     (λ k g within. known_on _ at mid step.many (All-tail (λ (g : ℕ × Operation). IsKnown at g.1.manager) f fs known k g within)) in
     let later = all_got fs mid at' on rest m positive in
-    elim (f.1.manager == m) as (λ c. (f.1.manager == m) ≡ c → ledger at' m ≡ got_all (ledger at m) (numbers_at m (f ∷ fs))) [
-      | true ↦ λ e.
-          later
-          ∙ ap (λ a. got_all a (numbers_at m fs)) (subst (λ k. ledger mid k ≡ with_collected (ledger at k) f.1.number Done) (eqb-true f.1.manager m e) step.here)
-          ∙ ap (λ c. got_all (ledger at m) (map (λ (g : ℕ × Operation). g.1.number) (cond c (f ∷ filter (λ (g : ℕ × Operation). g.1.manager == m) fs) (filter (λ (g : ℕ × Operation). g.1.manager == m) fs)))) (sym e)
-      | false ↦ λ e.
-          later ∙ ap (λ a. got_all a (numbers_at m fs)) (step.others m positive (λ same. let there = eq-eqb f.1.manager m (sym same) in cc))
-          ∙ ap (λ c. got_all (ledger at m) (map (λ (g : ℕ × Operation). g.1.number) (cond c (f ∷ filter (λ (g : ℕ × Operation). g.1.manager == m) fs) (filter (λ (g : ℕ × Operation). g.1.manager == m) fs)))) (sym e)
-    ] refl
+    search (arith, eqb-true, step, eq-eqb, f.1.number, f.1.manager)

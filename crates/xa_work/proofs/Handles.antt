@@ -58,19 +58,12 @@ put_by m op answer old new (refused c why is same) =
     no_handle m op answer c old new is (refusal_is old m c why) (stays old new same) (refused c why is same)
 put_by m op answer old new (full none now is same) =
     no_handle m op answer Async old new is (λ _ _ _ _ stay. stay) (record { ledgers = ap (λ (d : DeskView). d.ledgers) same; kept = ap (λ (d : DeskView). d.kept) same }) (full none now is same)
-put_by m op answer old new (kept none now k is free same) =
-    subst (λ z. PutsOp m op z old new) (sym is)
-    (elim k as (λ j. k ≡ j → PutsOp m op (pos j) old new) [
-      | zero ↦ λ e. absurd (let positive = free.positive in omega (arith, e, positive))
-      | suc j ↦ λ e. subst (λ q. IsPut m op q old new) e (record { free = free.free; ledgers = ap (λ (d : DeskView). d.ledgers) same; kept = ap (λ (d : DeskView). d.kept) same })
-    ] refl)
+put_by m op answer old new (kept none now k is free same) = search (arith, free.positive)
 put_by m op answer old new (answered none now n c is collects) = cc
 
 -- a call that answers XAER_ASYNC did nothing
 pub full_stays : (m : ℕ) (op : Op) (answer : ℤ) (old new : DeskView) → answer ≡ number_of Async → PutsOp m op answer old new → StaysSo old new
-full_stays m op answer old new is p =
-    let away : IsTurnedAway m op (number_of Async) old new = subst (λ z. PutsOp m op z old new) is p in
-    away.stays
+full_stays m op answer old new is p = search (arith, stays)
 
 pub stays_on : (old mid new : DeskView) → StaysSo old mid → StaysSo mid new → StaysSo old new
 stays_on old mid new p q = record { ledgers = q.ledgers ∙ p.ledgers; kept = q.kept ∙ p.kept }
@@ -81,24 +74,14 @@ turned_later m op answer old mid new s p =
 
 -- so what it did later it did at first
 pub put_later : (m : ℕ) (op : Op) (answer : ℤ) (old mid new : DeskView) → StaysSo old mid → PutsOp m op answer mid new → PutsOp m op answer old new
-put_later m op (pos (suc k)) old mid new s p = record {
-  free = ap (λ (h : map.FinMap nat_cmp Operation). map.get h (suc k)) (sym s.kept) ∙ p.free;
-  ledgers = p.ledgers ∙ ap (λ (l : List LedgerView). after_sent l m op) s.ledgers;
-  kept = p.kept ∙ (λ i. map.insert (s.kept i) (suc k) (next_operation (s.ledgers i) m));
-}
+put_later m op (pos (suc k)) old mid new s p = search (arith, nat_cmp, s.kept, s.ledgers)
 put_later m op answer old mid new s p = turned_later m op answer old mid new s p
 
 -- ---- its completion
 
 -- what was redeemed and collected
 redeemed : (old new : DeskView) (k : ℕ) (c : Code) → CollectsRedeemed old new k c → IsCollected k c old new
-redeemed old new k c r =
-    let rest = r.collects.looks.rest in record {
-      operation = r.operation;
-      was = r.kept;
-      ledgers = ap (λ (d : DeskView). d.ledgers) r.collects.collected ∙ ap (λ (d : DeskView). after_collected d.ledgers r.operation c) rest;
-      kept = ap (λ (d : DeskView). d.kept) r.collects.collected ∙ ap (λ (d : DeskView). d.kept) rest;
-    }
+redeemed old new k c r = search (arith, r.collects.looks.rest, r.operation)
 
 -- what an xa_complete that waits does: where it answers XA_OK what the handle stood for was collected, and else nothing
 pub record Completed (m : ℕ) (handle : ℤ) (old new : DeskView) (retval answer : ℤ) : Type 0 where
@@ -110,34 +93,25 @@ number_is z k e = grind arith
 
 refuses : (m : ℕ) (handle : ℤ) (old new : DeskView) (handle' retval retval' answer : ℤ) (result : Result (ℕ × Code) Code) → IsNoHandle m handle old
     → result ≡ Err Inval → new ≡ old → Tells result handle retval handle' retval' answer → Completed m handle old new retval' answer
-refuses m handle old new handle' retval retval' answer result none is same tells =
-    let told = subst (λ r. Tells r handle retval handle' retval' answer) is tells in
-    record { yes = λ e. let z : number_of Inval ≡ pos 0 = sym told.1.1 ∙ e in cc; never = λ _. (none, stays old new same) }
+refuses m handle old new handle' retval retval' answer result none is same tells = search (arith, stays)
 
 by_one : (handle : ℤ) (m : ℕ) (old new : DeskView) (handle' retval retval' answer : ℤ) (result : Result (ℕ × Code) Code)
     → CompletesOne old (number_in handle) m false new result → IfOk result (λ r. IsHandle r.0) → Tells result handle retval handle' retval' answer
     → Completed m handle old new retval' answer
-by_one handle m old new handle' retval retval' answer result (unknown none is same) numbered tells =
-    refuses m handle old new handle' retval retval' answer result (inr (inr none)) is same tells
+by_one handle m old new handle' retval retval' answer result (unknown none is same) numbered tells = search (arith, refuses)
 by_one handle m old new handle' retval retval' answer result (retry k number keeps nowait is quiet unready) numbered tells = cc
 by_one handle m old new handle' retval retval' answer result (ready k c number keeps nowait is collects) numbered tells = cc
-by_one handle m old new handle' retval retval' answer result (waited k c number keeps wait is collects) numbered tells =
-    let handle_is : IsHandle k = subst (λ (r : Result (ℕ × Code) Code). IfOk r (λ q. IsHandle q.0)) is numbered in
-    let told = subst (λ r. Tells r handle retval handle' retval' answer) is tells in
-    record { yes = λ _. (k, c, number_is handle k number, handle_is.positive, told.1.0, redeemed old new k c collects); never = λ n. absurd (n told.1.1) }
+by_one handle m old new handle' retval retval' answer result (waited k c number keeps wait is collects) numbered tells = search (arith, number_is, redeemed)
 
 by_manager : (there : Bool) (handle : ℤ) (m : ℕ) (old new : DeskView) (handle' retval retval' answer : ℤ) (result : Result (ℕ × Code) Code)
     → may_complete old m false ≡ there → CompletesAt there false false old (number_in handle) m new result → IfOk result (λ r. IsHandle r.0)
     → Tells result handle retval handle' retval' answer → Completed m handle old new retval' answer
-by_manager false handle m old new handle' retval retval' answer result none (is, same) numbered tells =
-    refuses m handle old new handle' retval retval' answer result (inr (inl none)) is same tells
-by_manager true handle m old new handle' retval retval' answer result known one numbered tells =
-    by_one handle m old new handle' retval retval' answer result one numbered tells
+by_manager false handle m old new handle' retval retval' answer result none (is, same) numbered tells = search (arith, refuses)
+by_manager true handle m old new handle' retval retval' answer result known one numbered tells = search (arith, by_one)
 
 pub completed : (handle retval : ℤ) (m : ℕ) (old new : DeskView) (handle' retval' answer : ℤ) → HasCompleted old handle retval m 0 new handle' retval' answer
     → Completed m handle old new retval' answer
-completed handle retval m old new handle' retval' answer h =
-    by_manager (may_complete old m false) handle m old new handle' retval retval' answer h.collected refl h.completes h.numbered h.tells
+completed handle retval m old new handle' retval' answer h = search (arith, by_manager, h.collected, h.completes, h.numbered)
 
 -- only XA_OK is 0
 pub only_done : (c : Code) → (of_z w32 (number_of c) == 0) ≡ true → c ≡ Done

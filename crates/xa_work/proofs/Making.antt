@@ -42,9 +42,7 @@ parted xs i x below is =
 pub chain_append : {X A : Type 0} (R : X → A → A → Type 0) (first : A) (xs : List X) (mid : A) (ys : List X) (last : A) → Chain R first xs mid
     → Chain R mid ys last
     → Chain R first (xs ++ ys) last
-chain_append R first xs mid ys last before (none zs z e f) =
-    subst (λ l. Chain R first (xs ++ l) last) (sym e)
-    (subst (λ a. Chain R first (xs ++ []) a) (sym f) (subst (λ l. Chain R first l mid) (sym (append-nil xs)) before))
+chain_append R first xs mid ys last before (none zs z e f) = search (arith, append-nil)
 chain_append R first xs mid ys last before (more zs z now a rest step) =
     subst (λ l. Chain R first l last) (append_assoc xs zs (z ∷ [])) (more (xs ++ zs) z now last (chain_append R first xs mid zs now before rest) step)
 
@@ -157,14 +155,7 @@ adds_none fs d = record { more = []; grown = sym (append-nil fs); puts = puts_no
 -- by a request more to manager m
 pub adds_one : (m : ℕ) (ops : List Op) (o : Op) (f : Flight) (before now later : List Flight) (old mid new : DeskView) → Adds (at_of m ops) before now old mid
     → f.manager ≡ m → PutsAtLast m o f.handle mid new → later ≡ now ++ f ∷ [] → Adds (at_of m (ops ++ o ∷ [])) before later old new
-adds_one m ops o f before now later old mid new x same put is = record {
-  more = x.more ++ f ∷ [];
-  grown = is ∙ ap (λ l. l ++ f ∷ []) x.grown ∙ append_assoc before x.more (f ∷ []);
-  puts =
-      subst (λ w. PutsRequests w (x.more ++ f ∷ []) old new) (sym (map-append (λ (p : Op). (m, p)) ops (o ∷ [])))
-      (subst (λ n. PutsRequests (at_of m ops ++ (n, o) ∷ []) (x.more ++ f ∷ []) old new) same
-      (puts_more (at_of m ops) x.more o f old mid new x.puts (subst (λ n. PutsAtLast n o f.handle mid new) (sym same) put)));
-}
+adds_one m ops o f before now later old mid new x same put is = search (arith, append_assoc, map-append, puts_more, x.more, x.puts, f.handle)
 
 -- how many changes are left, with this one
 pub left_here : (cs : List Change) (i : ℕ) (c : Change) (m : ℕ) → i < length cs → c ≡ slice_index_or cs i c → c.m ≡ m
@@ -178,12 +169,7 @@ left_elsewhere cs i c m below is e = grind (arith, at_drop, ne_eqb)
 -- the requests of all branches, after those of the first
 pub puts_append : (one two : List (ℕ × Op)) (fs gs : List Flight) (old mid new : DeskView) → PutsRequests one fs old mid → PutsRequests two gs mid new
     → PutsRequests (one ++ two) (fs ++ gs) old new
-puts_append one two fs gs old mid new x y = record {
-  puts = x.puts ++ y.puts;
-  wanted_are = map-append (λ (p : Put). (p.flight.manager, p.op)) x.puts y.puts ∙ (λ i. x.wanted_are i ++ y.wanted_are i);
-  flights_are = map-append (λ (p : Put). p.flight) x.puts y.puts ∙ (λ i. x.flights_are i ++ y.flights_are i);
-  each = chain_append (λ p d e. PutsAtLast p.flight.manager p.op p.flight.handle d e) old x.puts mid y.puts new x.each y.each;
-}
+puts_append one two fs gs old mid new x y = search (arith, map-append, chain_append)
 
 -- each request has an answer
 pub puts_length : (wanted : List (ℕ × Op)) (fs : List Flight) (old new : DeskView) → PutsRequests wanted fs old new → length fs ≡ length wanted

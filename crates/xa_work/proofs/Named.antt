@@ -1,4 +1,5 @@
 -- Which branches the requests of a unit of work name, one after the other.
+use Rattle.std.proofs.Common.{arith}
 use Rattle.xa_base.proofs.{◌≡◌, ℕ, Bool, true, false, List, [], ◌∷◌, ◌++◌, map, Some, refl, sym, ap, subst, slice_get, All, All-nil, All-cons, All-head}
 use Rattle.xa_base.proofs.{All-tail, All-append, All-map, all_at, all_from, all_left, all_right, all_unmapped, any_at}
 use Rattle.xa_base.specs.{Chain}
@@ -34,8 +35,7 @@ IsAmong bs b = (k : ℕ) × (slice_get bs k ≡ Some b)
 
 -- a request that names this branch alone
 is_for : (bs : List Branch) (b : Branch) (o : Op) → IsAmong bs b → is_commit o ≡ false → ((y : XidName) → names y o ≡ true → xid_eq b.xid y ≡ true) → IsFor bs o
-is_for bs b o (k, at) uncommitting named =
-    record { uncommitting = uncommitting; named = λ y e. any_at (λ (c : Branch). xid_eq c.xid y) bs k b at (named y e) }
+is_for bs b o (k, at) uncommitting named = search (arith, any_at)
 
 pub ops_for : (cs : List Change) (bs : List Branch) (b : Branch) → IsAmong bs b → All (IsFor bs) (ops_of cs b)
 ops_for cs bs b among =
@@ -48,9 +48,7 @@ ops_for cs bs b among =
 pub requests_for : (cs : List Change) (bs left : List Branch) → All (IsAmong bs) left → All (λ r. IsFor bs r.1) (requests_of cs left)
 requests_for cs bs [] each = All-nil (λ (r : ℕ × Op). IsFor bs r.1)
 requests_for cs bs (b ∷ left) each =
-    All-append (λ (r : ℕ × Op). IsFor bs r.1) (requests_at cs b) (requests_of cs left)
-    (All-map (λ (r : ℕ × Op). IsFor bs r.1) (λ (o : Op). (b.m, o)) (ops_of cs b) (ops_for cs bs b (All-head (IsAmong bs) b left each)))
-    (requests_for cs bs left (All-tail (IsAmong bs) b left each))
+    search (arith, requests_for cs bs left (All-tail (IsAmong bs) b left each), All-append, All-map, ops_for, All-head, All-tail)
 
 -- ---- the work, and giving it up
 

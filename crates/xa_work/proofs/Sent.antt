@@ -32,9 +32,7 @@ sent_as P Q also a a' h = record { more = h.more; sent = h.sent; each = All-weak
 pub asked_sent : (P : Op → Type 0) (a : LedgerView) (op : Option Op) (code : Option Code) → ((o : Op) → op ≡ Some o → P o) → HasSent P a (asked a op code)
 asked_sent P a None code so = none_sent P a
 asked_sent P a (Some op) None so = none_sent P a
-asked_sent P a (Some op) (Some code) so =
-    by_if (HasSent P a) (learnt_shut a) _ _ (λ _. none_sent P a)
-    (λ _. record { more = op ∷ []; sent = refl; each = All-cons P op [] (so op refl) (All-nil P); collected = ((length a.sent, code) ∷ [], refl) })
+asked_sent P a (Some op) (Some code) so = search (arith, none_sent, All-cons, All-nil)
 
 -- ---- all ledgers
 

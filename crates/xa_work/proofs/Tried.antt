@@ -92,9 +92,7 @@ requests_known : (cs : List Change) (at : List LedgerView) (bs : List Branch) �
     → All (λ (r : ℕ × Op). IsKnown at r.0) (requests_of cs bs)
 requests_known cs at [] known = All-nil (λ (r : ℕ × Op). IsKnown at r.0)
 requests_known cs at (b ∷ bs) known =
-    All-append (λ (r : ℕ × Op). IsKnown at r.0) (requests_at cs b) (requests_of cs bs)
-    (All-map (λ (r : ℕ × Op). IsKnown at r.0) (λ (o : Op). (b.m, o)) (ops_of cs b) (λ k o within. All-head (λ (c : Branch). IsKnown at c.m) b bs known))
-    (requests_known cs at bs (All-tail (λ (c : Branch). IsKnown at c.m) b bs known))
+    search (arith, requests_known cs at bs (All-tail (λ (c : Branch). IsKnown at c.m) b bs known), All-append, All-map, All-head, All-tail)
 
 -- ---- in flight
 
@@ -162,15 +160,7 @@ module _ (cs : List Change) (bs : List Branch) (old new : DeskView) (up : AreBra
       let mid : LedgerView = ledger t.begun.ledgers b.m in
       let last = at_end b.m here.positive in
       let ops = own_ops k b at in
-      record {
-        sent =
-            ap (λ (x : LedgerView). x.sent) last ∙ got_sent mid (numbers_at b.m fs) ∙ ap (λ (x : LedgerView). x.sent) (w.here b.m here)
-            ∙ sent_sent a (ops_to b.m puts) ∙ ap (λ l. a.sent ++ l) ops;
-        collected =
-            ap (λ (x : LedgerView). x.collected) last ∙ got_collected mid (numbers_at b.m fs)
-            ∙ ap (λ l. l ++ map (λ n. (n, Done)) (numbers_at b.m fs)) (ap (λ (x : LedgerView). x.collected) (w.here b.m here) ∙ sent_collected a (ops_to b.m puts))
-            ∙ ap (λ ns. a.collected ++ map (λ n. (n, Done)) ns) (w.numbered b.m here ∙ ap (λ (l : List Op). range_with_len (length a.sent) (length l)) ops);
-      }
+      search (arith, got_sent, numbers_at, sent_sent, ops_to, got_collected, sent_collected, range_with_len, b.m)
 
   no_puts : (m : ℕ) → has_branch_at bs m ≡ false → list_any (λ (p : Put). p.flight.manager == m) puts ≡ false
   no_puts m elsewhere =

@@ -1,4 +1,5 @@
 -- What a commit sent: one that was made, one that came to no decision, or one whose coordinator died.
+use Rattle.std.proofs.Common.{arith}
 use Rattle.xa_base.proofs.{◌≡◌, ◌≤◌, ℕ, zero, suc, Bool, true, false, ◌||◌, ◌==◌, Option, Some, None, List, [], ◌∷◌, map, refl, sym, ◌∙◌, subst, All, eqb-true}
 use Rattle.xa_base.proofs.{All-nil, All-cons, All-head, All-tail, same_begins, some_same, by_if}
 use Rattle.xa_words.specs.{XidName, TranName, Death, Op, Commit, Forget, Prepare, Rollback, Code}
@@ -60,10 +61,7 @@ there_sent P (b ∷ bs) old new m each there =
 
 pub branches_sent : (P : Op → Type 0) (bs : List Branch) (old new : List LedgerView) → All (SentAt (λ b. P) old new) bs → StaysElsewhere bs old new
     → HaveSent P old new
-branches_sent P bs old new each others = λ m positive. elim (has_branch_at bs m) as (λ b. has_branch_at bs m ≡ b → HasSent P (ledger old m) (ledger new m)) [
-  | true ↦ λ there. there_sent P bs old new m each there
-  | false ↦ λ elsewhere. subst (HasSent P (ledger old m)) (sym (others m positive elsewhere)) (none_sent P (ledger old m))
-] refl
+branches_sent P bs old new each others = search (arith, there_sent, none_sent)
 
 -- ---- a branch that voted
 
@@ -86,31 +84,19 @@ pub record MayAsk (P : Op → Type 0) (x : XidName) : Type 0 where
   pub forget : P (Forget x)
 
 second_so : (P : Op → Type 0) (x : XidName) → MayAsk P x → (commit : Bool) (v : Code) (o : Op) → second_op commit x v ≡ Some o → P o
-second_so P x may true v o =
-    by_if (λ (s : Option Op). s ≡ Some o → P o) (is_yes v) (Some (Commit x false)) None (λ _ is. subst P (some_same (Commit x false) o is) may.commit) (λ _ is. cc)
-second_so P x may false v o =
-    by_if (λ (s : Option Op). s ≡ Some o → P o) (is_read v || (is_rolled_back v || is_out_of_reach v)) None (Some (Rollback x))
-    (λ _ is. cc) (λ _ is. subst P (some_same (Rollback x) o is) may.rollback)
+second_so P x may true v o = search (arith, some_same)
+second_so P x may false v o = search (arith, some_same)
 
 third_so : (P : Op → Type 0) (x : XidName) → MayAsk P x → (s : Option Code) (o : Op) → third_op x s ≡ Some o → P o
 third_so P x may None o is = cc
-third_so P x may (Some c) o is =
-    by_if (λ (s : Option Op). s ≡ Some o → P o) (is_decided c) (Some (Forget x)) None (λ _ same. subst P (some_same (Forget x) o same) may.forget) (λ _ same. cc) is
+third_so P x may (Some c) o is = search (arith, some_same)
 
 module _ (P : Op → Type 0) (commit : Bool) (b : Branch) (v : Code) (a a' : LedgerView) (may : MayAsk P b.xid) where
   pub heard_so : (k : ℕ) → VotesAndHears AsksLedger PutsLedger commit k b v a a' → VotedSo P b v a a'
-  heard_so k h = record {
-    prepared = h.prepared;
-    asks = h.prepares;
-    after = told_sent P k (second_op commit b.xid v) h.prepared a' (second_so P b.xid may commit v) h.tells;
-  }
+  heard_so k h = search (arith, told_sent, second_so, h.prepared)
 
   pub obeyed_so : (s : Option Code) (e : Ending) → VotesAndObeys AsksLedger commit b v s e a a' → VotedSo P b v a a'
-  obeyed_so s e h = record {
-    prepared = h.prepared;
-    asks = h.prepares;
-    after = obeyed_sent P (second_op commit b.xid v) s h.prepared a' (second_so P b.xid may commit v) h.obeys;
-  }
+  obeyed_so s e h = search (arith, obeyed_sent, second_so, h.prepared)
 
   pub made_so : (s : Option Code) (e : Ending) → AtBranch AsksLedger commit b v s e a a' → VotedSo P b v a a'
   made_so s e h = record {
@@ -130,18 +116,12 @@ module _ (P : Branch → Op → Type 0) (Q : Branch → Type 0) (firsts : (b : B
   asked_each : (bs : List Branch) (vs : List Code) → All Q bs → HaveAsked AsksLedger PutsLedger bs vs (ledger old) (ledger new) → All Sent bs
   asked_each [] [] so h = All-nil Sent
   asked_each [] (v ∷ vs) so h = absurd h
-  asked_each (b ∷ bs) [] so h =
-      All-cons Sent b bs (put_sent (P b) (Prepare b.xid) (ledger old b.m) (ledger new b.m) (firsts b (All-head Q b bs so)) h.0)
-      (asked_each bs [] (All-tail Q b bs so) h.1)
-  asked_each (b ∷ bs) (v ∷ vs) so h =
-      All-cons Sent b bs (answered_sent (P b) (Prepare b.xid) v (ledger old b.m) (ledger new b.m) (firsts b (All-head Q b bs so)) h.0)
-      (asked_each bs vs (All-tail Q b bs so) h.1)
+  asked_each (b ∷ bs) [] so h = search (arith, asked_each bs, All-cons, put_sent, All-head, All-tail)
+  asked_each (b ∷ bs) (v ∷ vs) so h = search (arith, asked_each bs vs (All-tail Q b bs so) h.1, All-cons, answered_sent, All-head, All-tail)
 
   -- what a commit sent that came to no decision
   pub voted_each : (bs : List Branch) (votes : List Code) → All Q bs → HasVoted bs old new votes → All Sent bs
-  voted_each bs votes so h =
-      let ks : List Ask = h.stage.round.asks.items in
-      asked_each bs (map code_of ks) so (asked_all bs ks old new h.prepared.same h.prepared.asked.each)
+  voted_each bs votes so h = search (arith, asked_each, asked_all, h.stage.round.asks.items, h.prepared.same)
 
 module _ (P : Branch → Op → Type 0) (Q : Branch → Type 0) (may : (b : Branch) → Q b → MayAsk (P b) b.xid) (old new : List LedgerView) where
   abbrev AllSent : List Branch → Type 0
@@ -157,8 +137,7 @@ module _ (P : Branch → Op → Type 0) (Q : Branch → Type 0) (may : (b : Bran
       → (bs : List Branch) (vs : List Code) (ss : List (Option Code)) (es : List Ending) → All Q bs → EachBranch R bs vs ss es → AllSent bs
   voting_each R voted [] [] [] [] so h = All-nil (SentAt P old new)
   voting_each R voted (b ∷ bs) (v ∷ vs) (s ∷ ss) (e ∷ es) so h =
-      let its : Q b = All-head Q b bs so in
-      one_more_voted b bs v its (voted b v s e its h.0) (voting_each R voted bs vs ss es (All-tail Q b bs so) h.1)
+      search (arith, voting_each R voted bs vs ss es (All-tail Q b bs so) h.1, All-head, one_more_voted, All-tail)
   voting_each R voted bs vs ss es so h = absurd h
 
   told_each : (commit : Bool) (k : ℕ) (bs : List Branch) (vs : List Code) → All Q bs
@@ -174,24 +153,17 @@ module _ (P : Branch → Op → Type 0) (Q : Branch → Type 0) (may : (b : Bran
   pub came_each : (at : Death) (tran : TranName) (bs : List Branch) (log later : LogState) (known : Done) → All Q bs
       → CameTo AsksLedger PutsLedger at tran bs (ledger old) (ledger new) log later known → AllSent bs
   came_each (death.Telling k) tran bs log later known so far = told_each known.commit k bs known.votes.items so far.told
-  came_each death.Told tran bs log later known so far =
-      voting_each (λ b v s e. VotesAndObeys AsksLedger known.commit b v s e (ledger old b.m) (ledger new b.m))
-      (λ b v s e its. obeyed_so (P b) known.commit b v (ledger old b.m) (ledger new b.m) (may b its) s e)
-      bs known.votes.items far.seconds known.endings.items so far.each
+  came_each death.Told tran bs log later known so far = search (arith, voting_each, obeyed_so)
   came_each at tran bs log later known so far = asked_each P Q (λ b its. (may b its).first) old new bs known.votes.items so far.asked
 
   -- and one that was made
   pub made_each : (tran : TranName) (bs : List Branch) (log later : LogState) (d : Done) → All Q bs → IsTraceOfCommit tran bs old new log later d → AllSent bs
-  made_each tran bs log later d so made =
-      voting_each (λ b v s e. AtBranch AsksLedger d.commit b v s e (ledger old b.m) (ledger new b.m))
-      (λ b v s e its. made_so (P b) d.commit b v (ledger old b.m) (ledger new b.m) (may b its) s e)
-      bs d.votes.items made.course.seconds d.endings.items so made.course.each
+  made_each tran bs log later d so made = search (arith, voting_each, made_so)
 
 -- ---- at all managers
 
 pub voted_elsewhere : (bs : List Branch) (old new : List LedgerView) (votes : List Code) → HasVoted bs old new votes → StaysElsewhere bs old new
-voted_elsewhere bs old new votes h =
-    λ m positive none. h.prepared.asked.others m positive (among_first bs h.stage.round.asks.items m h.prepared.same ∙ none)
+voted_elsewhere bs old new votes h = search (arith, among_first, h.prepared.asked.others, h.stage.round.asks.items)
 
 module _ (P : Op → Type 0) (Q : Branch → Type 0) (firsts : (b : Branch) → Q b → P (Prepare b.xid)) (old new : List LedgerView) where
   pub voted_sent : (bs : List Branch) (votes : List Code) → All Q bs → HasVoted bs old new votes → HaveSent P old new

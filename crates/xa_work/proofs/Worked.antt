@@ -1,4 +1,5 @@
 -- The work for branches that was all done: what it sent to each manager, and what was collected.
+use Rattle.std.proofs.Common.{rules}
 use Rattle.xa_base.proofs.{◌≡◌, ◌≢◌, ℕ, zero, suc, ◌-◌, ◌<◌, ◌≤◌, Bool, true, false, ◌||◌, ◌==◌, ℤ, pos, List, [], ◌∷◌, ◌++◌, length, map, length-append}
 use Rattle.xa_base.proofs.{append_assoc, sym, refl, ap, ◌∙◌, subst, arith, eq-eqb, Some, None, get_or, All, range_with_len, nat_cmp, ne_eqb, or_parts}
 use Rattle.xa_base.proofs.{append-nil, length-set, map-append, All-nil, All-cons, All-head, All-push, All-tail, All-weaker, all_left, all_right, inserted_there}
@@ -34,14 +35,7 @@ block_start m at = record { here = refl; others = λ n p q. refl; many = refl }
 -- and then to what a change makes of it
 block_on : (m : ℕ) (b : LedgerView) (change : LedgerView → LedgerView) (at at' at'' : List LedgerView) → IsKnown at m → Block m b at at'
     → at'' ≡ put_ledger at' m (change (ledger at' m)) → Block m (change b) at at''
-block_on m b change at at' at'' known z is =
-    let known' : IsKnown at' m = known_on m at at' z.many known in
-    let positive = known.positive in
-    subst (Block m (change b) at) (sym is) (record {
-      here = ledger-put_same at' m (change (ledger at' m)) known' ∙ ap change z.here;
-      others = λ n p q. ledger-put_other at' m n (change (ledger at' m)) positive p q ∙ z.others n p q;
-      many = length-set at' (m - 1) (change (ledger at' m)) ∙ z.many;
-    })
+block_on m b change at at' at'' known z is = search (arith, known_on, ledger-put_same, ledger-put_other, length-set, z.many, known.positive, z.others)
 
 pub block_one : (m : ℕ) (change : LedgerView → LedgerView) (at at' : List LedgerView) → IsKnown at m → at' ≡ put_ledger at m (change (ledger at m))
     → Block m (change (ledger at m)) at at'
@@ -85,17 +79,14 @@ block_called m b op at at' at'' known z is =
 
 calls_block : (m : ℕ) (old : DeskView) (calls : List Called) (new : DeskView) → IsKnown old.ledgers m → Chain (λ c d e. CallsOp m c.op c.ok d e) old calls new
     → All (λ c. c.ok ≡ true) calls → Block m (called_all (ledger old.ledgers m) (map (λ (c : Called). c.op) calls)) old.ledgers new.ledgers
-calls_block m old calls new known (none cs last e f) each =
-    subst (λ (xs : List Called). Block m (called_all (ledger old.ledgers m) (map (λ (c : Called). c.op) xs)) old.ledgers new.ledgers) (sym e)
-    (subst (λ (d : DeskView). Block m (ledger old.ledgers m) old.ledgers d.ledgers) (sym f) (block_start m old.ledgers))
+calls_block m old calls new known (none cs last e f) each = search (arith, block_start, old.ledgers)
 calls_block m old calls new known (more cs c now last before is) each =
     let a : LedgerView = ledger old.ledgers m in
     let os : List Op = map (λ (x : Called). x.op) cs in
     let z : Block m (called_all a os) old.ledgers now.ledgers =
     calls_block m old cs now known before (all_left (λ (x : Called). x.ok ≡ true) cs (c ∷ []) each) in
     let ok : c.ok ≡ true = All-head (λ (x : Called). x.ok ≡ true) c [] (all_right (λ (x : Called). x.ok ≡ true) cs (c ∷ []) each) in
-    subst (λ (b : LedgerView). Block m b old.ledgers new.ledgers) (sym (ap (called_all a) (map-append (λ (x : Called). x.op) cs (c ∷ [])) ∙ called_push a os c.op))
-    (block_called m (called_all a os) c.op old.ledgers now.ledgers new.ledgers known z (is_called m c.op c.ok now new is ok))
+    search (arith, map-append, called_push, block_called, is_called)
 
 branch_block : (cs : List Change) (b : Branch) (old new : DeskView) → IsKnown old.ledgers b.m → CallsBranch cs b true old new
     → Block b.m (called_all (ledger old.ledgers b.m) (ops_of cs b)) old.ledgers new.ledgers
@@ -119,9 +110,7 @@ not_there [] m apart = refl
 not_there (c ∷ bs) m apart = grind (arith, not_there bs m (All-tail (λ (d : Branch). d.m ≢ m) c bs apart), ne_eqb, All-head, All-tail)
 
 pub nowhere : (bs : List Branch) (b : Branch) (m : ℕ) → has_branch_at (bs ++ b ∷ []) m ≡ false → (has_branch_at bs m ≡ false) × (m ≢ b.m)
-nowhere [] b m h =
-    let z : (b.m == m) ≡ false = (or_parts (b.m == m) false h).0 in
-    (refl, λ same. let there : (b.m == m) ≡ true = eq-eqb b.m m (sym same) in cc)
+nowhere [] b m h = search (arith, or_parts, eq-eqb, b.m)
 nowhere (c ∷ bs) b m h =
     let z = or_parts (c.m == m) (has_branch_at (bs ++ b ∷ []) m) h in
     let w = nowhere bs b m z.1 in
@@ -269,9 +258,7 @@ pub record IsKey (handle : ℤ) : Type 0 where
 -- a handle by which XA_OK was collected
 gets : (m : ℕ) (handle : ℤ) (ok : Bool) (old new : DeskView) → CollectsOp m handle ok old new → ok ≡ true
     → IsKey handle × IsCollected (key_of handle) Done old new
-gets m handle ok old new (done k is positive said got) e =
-    let key : key_of handle ≡ k = ap key_of is in
-    (record { is = is ∙ ap pos (sym key); positive = subst (λ n. 0 < n) (sym key) positive }, subst (λ n. IsCollected n Done old new) (sym key) got)
+gets m handle ok old new (done k is positive said got) e = search (arith, rules)
 gets m handle ok old new (undone k c other is unsaid got) e = cc
 gets m handle ok old new (nothing unsaid none_ same) e = cc
 
@@ -281,8 +268,7 @@ keys gots = map (λ (g : Got). key_of g.flight.handle) gots
 
 pub gots_taken : (old : DeskView) (gots : List Got) (new : DeskView) → Chain (λ g d e. CollectsOp g.flight.manager g.flight.handle g.ok d e) old gots new
     → All (λ g. g.ok ≡ true) gots → AreTaken (keys gots) old new × All (λ g. IsKey g.flight.handle) gots
-gots_taken old gots new (none gs last e f) each =
-    subst (λ (xs : List Got). AreTaken (keys xs) old new × All (λ g. IsKey g.flight.handle) xs) (sym e) (f, All-nil (λ (g : Got). IsKey g.flight.handle))
+gots_taken old gots new (none gs last e f) each = search (arith, All-nil)
 gots_taken old gots new (more gs g now last before is) each =
     let z = gots_taken old gs now before (all_left (λ (x : Got). x.ok ≡ true) gs (g ∷ []) each) in
     let ok : g.ok ≡ true = All-head (λ (x : Got). x.ok ≡ true) g [] (all_right (λ (x : Got). x.ok ≡ true) gs (g ∷ []) each) in

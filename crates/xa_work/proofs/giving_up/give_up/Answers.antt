@@ -36,6 +36,4 @@ loop-branch-2-preserved g c = record {
 }
 
 pub returns-clause-gives_up : goal.returns-clause-gives_up
-returns-clause-gives_up g c =
-    let (ended_, ends_, rolls) = c.loop-branch-2.invariant.rolls_back in
-    record { ended = ended_; ends = ends_; rolls_back = chain_all (Asks call.Rollback 0) c.args.branches.now _ _ _ c.loop-branch-2-test.false rolls }
+returns-clause-gives_up g c = search (arith, chain_all, c.loop-branch-2.invariant.rolls_back, c.loop-branch-2-test.false)

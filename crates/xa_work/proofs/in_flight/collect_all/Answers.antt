@@ -1,3 +1,4 @@
+use Rattle.std.proofs.Common.{arith}
 use Rattle.xa_base.proofs.{◌≡◌, ◌<◌, ◌&&◌, ℕ, List, length, pos, sym, subst, ◌∙◌, slice_index_or, slice_get-get_or, one_more, some_same}
 use Rattle.xa_work.specs.{Flight, CollectsAll}
 use Rattle.xa_work.proofs.Making.{collects_more, collects_none}
@@ -8,12 +9,7 @@ itself : (fs : List Flight) (i : ℕ) (d : Flight) → i < length fs → slice_i
 itself fs i d below = some_same _ _ (sym (slice_get-get_or fs i d below) ∙ slice_get-get_or fs i (slice_index_or fs i d) below)
 
 pub loop-flight-init : goal.loop-flight-init
-loop-flight-init g c = record {
-  goes_on = c.desks_go_on.ensures.same _;
-  kept = λ h. h;
-  idled = c.idles_go_on.ensures.same _;
-  collects = collects_none _;
-}
+loop-flight-init g c = search (arith, collects_none, c.desks_go_on.ensures.same, c.idles_go_on.ensures.same)
 
 pub loop-flight-preserved : goal.loop-flight-preserved
 loop-flight-preserved g c =

@@ -52,9 +52,7 @@ loop-change-preserved g c =
                 (adds_one b.m (begun_of (take i cs) b) (Add x.key x.delta) one.result _ _ _ _ _ _ so_far.puts one.ensures.manager one.ensures.puts
                 (ap (λ (v : Vec Flight Global). v.items) w.flights-is ∙ push.ensures.items)));
             room = ap vec_capacity w.flights-is ∙ room ∙ so_far.room;
-            left =
-                subst (λ (v : Vec Flight Global). length v.items + length (changes_at (drop (i + 1) cs) b.m) + 1 ≤ vec_capacity v) (sym w.flights-is)
-                (omega (arith, room, grown, rest, fits));
+            left = search (arith, vec_capacity);
           }
       | else-change-branch w ↦
           let rest = left_elsewhere cs i x b.m below c.change-item.is w.if-change-branch.false in
@@ -62,15 +60,9 @@ loop-change-preserved g c =
             goes_on = subst (GoesOn old) (sym w.desk-is) so_far.goes_on;
             kept = λ h. subst AllKept (sym w.desk-is) (so_far.kept h);
             idled = subst (g.I.Idle.leads c.args.idle.now) (sym w.idle-is) so_far.idled;
-            puts =
-                subst (λ (d : DeskView). Adds (at_of b.m (begun_of (take (i + 1) cs) b)) first c.if-change-branch.flights.items old d) (sym w.desk-is)
-                (subst (λ (v : Vec Flight Global). Adds (at_of b.m (begun_of (take (i + 1) cs) b)) first v.items old c.loop-change.desk) (sym w.flights-is)
-                (subst (λ os. Adds (at_of b.m os) first c.loop-change.flights.items old c.loop-change.desk)
-                (sym (begun_elsewhere cs i x b below c.change-item.is w.if-change-branch.false)) so_far.puts));
+            puts = search (arith, at_of, begun_of, begun_elsewhere, b.m, c.if-change-branch.flights.items, c.loop-change.flights.items, c.change-item.is);
             room = ap vec_capacity w.flights-is ∙ so_far.room;
-            left =
-                subst (λ (v : Vec Flight Global). length v.items + length (changes_at (drop (i + 1) cs) b.m) + 1 ≤ vec_capacity v) (sym w.flights-is)
-                (omega (arith, rest, fits));
+            left = search (arith, vec_capacity);
           }
     ]
 

@@ -47,8 +47,6 @@ returns-clause-tries g c =
     record {
       begun = c.loop-branch.desk;
       flights = c.loop-branch.flights.items;
-      puts =
-          subst (λ bs. PutsRequests (requests_of cs bs) c.loop-branch.flights.items c.args.desk.now c.loop-branch.desk)
-          (take_all c.loop-branch.branch-index c.args.branches.now c.loop-branch-test.false) c.loop-branch.invariant.puts;
+      puts = search (arith, take_all, c.loop-branch.flights.items, c.args.desk.now, c.loop-branch.branch-index, c.args.branches.now);
       collects = subst (λ l. CollectsAll l c.collect_all.result c.loop-branch.desk c.collect_all.new.desk) c.deref.ensures.value c.collect_all.ensures.collects;
     }

@@ -1,3 +1,4 @@
+use Rattle.std.proofs.Common.{arith}
 use Rattle.xa_base.proofs.{◌+◌, ◌&&◌, true, subst, sym, take}
 use Rattle.xa_words.specs.{Add, End, Start, Success, Fresh}
 use Rattle.xa_desk.specs.{GoesOn, AllKept, DeskView}
@@ -36,15 +37,7 @@ loop-change-preserved g c =
                 (subst (λ os. CallsOps b.m os (c.loop-change.all && one.result) old one.new.desk) (sym (begun_here cs i x b below c.change-item.is w.if-change-branch.true))
                 (calls_more b.m _ (Add x.key x.delta) c.loop-change.all one.result _ _ _ so_far.calls one.ensures.calls)));
           }
-      | else-change-branch w ↦ record {
-        goes_on = subst (GoesOn old) (sym w.desk-is) so_far.goes_on;
-        kept = λ h. subst AllKept (sym w.desk-is) (so_far.kept h);
-        idled = subst (g.I.Idle.leads c.args.idle.now) (sym w.idle-is) so_far.idled;
-        calls =
-            subst (λ ok. CallsOps b.m (begun_of (take (i + 1) cs) b) ok old c.if-change-branch.desk) (sym w.all-is)
-            (subst (λ (d : DeskView). CallsOps b.m (begun_of (take (i + 1) cs) b) c.loop-change.all old d) (sym w.desk-is)
-            (subst (λ os. CallsOps b.m os c.loop-change.all old c.loop-change.desk) (sym (begun_elsewhere cs i x b below c.change-item.is w.if-change-branch.false)) so_far.calls));
-      }
+      | else-change-branch w ↦ search (arith, begun_of, begun_elsewhere, so_far.kept, g.I.Idle.leads, b.m, c.loop-change.all, c.change-item.is)
     ]
 
 pub returns-clause-calls : goal.returns-clause-calls

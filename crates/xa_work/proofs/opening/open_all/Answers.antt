@@ -1,3 +1,4 @@
+use Rattle.std.proofs.Common.{arith}
 use Rattle.xa_base.proofs.{◌+◌, refl}
 use Rattle.xa_words.specs.{OpenRm}
 use Rattle.xa_work.specs.{IsOpenRm}
@@ -7,13 +8,7 @@ use Rattle.xa_work.proofs.Sent.{have_none, have_on}
 use Rattle.xa_work.proofs.opening.open_all.Goals as goal
 
 pub loop-before-init : goal.loop-before-init
-loop-before-init g c = record {
-  goes_on = c.desks_go_on.ensures.same _;
-  kept = λ h. h;
-  idled = c.idles_go_on.ensures.same _;
-  opens = opens_none _;
-  sent = have_none IsOpenRm _ _ refl;
-}
+loop-before-init g c = search (arith, opens_none, have_none, c.desks_go_on.ensures.same, c.idles_go_on.ensures.same)
 
 pub loop-before-preserved : goal.loop-before-preserved
 loop-before-preserved g c = record {
