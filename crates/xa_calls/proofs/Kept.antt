@@ -1,4 +1,5 @@
 -- What is outstanding stays kept under a number, as a desk calls and collects.
+use Rattle.std.proofs.Common.{arith, rules}
 use Rattle.xa_base.proofs.{◌≡◌, ◌≢◌, ℕ, ℤ, ⊎_elim, zero, suc, Bool, true, false, List, Option, Some, None, Result, Ok, Err, sym, refl, ap, ◌∙◌, subst, inl, inr}
 use Rattle.xa_base.proofs.{cases_eq, cases_Bool, nat_cmp, inserted_there, inserted_other, removed_other, not_both}
 use Rattle.std.specs.FinMap as finmap
@@ -24,28 +25,15 @@ other_operation o p q e f = cc
 
 -- where the ledgers and what is kept stay
 same_kept : (old new : DeskView) → new.ledgers ≡ old.ledgers → new.kept ≡ old.kept → AllKept old → AllKept new
-same_kept old new ledgers handles all = record {
-  each = λ o out.
-      let k = all.each o (subst (λ (at : List LedgerView). IsOut at o) ledgers out) in
-      (k.0, ap (λ (m : Handles). finmap.get m k.0) handles ∙ k.1);
-}
+same_kept old new ledgers handles all = search (arith, all.each)
 
 pub quiet_same : (old new : DeskView) → EndsQuiet old new → (new.ledgers ≡ old.ledgers) × (new.kept ≡ old.kept)
-quiet_same old new q = (
-  ap (λ (d : DeskView). d.ledgers) q.quiet.1 ∙ ap (λ (d : DeskView). d.ledgers) q.looks.rest,
-  ap (λ (d : DeskView). d.kept) q.quiet.1 ∙ ap (λ (d : DeskView). d.kept) q.looks.rest,
-)
+quiet_same old new q = search (arith, rules)
 
 -- where an operation is collected, and each other one that was outstanding was kept
 collects_keep : (mid new : DeskView) (o : Operation) (c : Code) → Collects mid new o c
     → ((p : Operation) → IsOut mid.ledgers p → p ≢ o → (k : ℕ) × (finmap.get mid.kept k ≡ Some p)) → AllKept new
-collects_keep mid new o c is rest = record {
-  each = λ p out.
-      let ledgers = ap (λ (d : DeskView). d.ledgers) is.collected in
-      let parts = out_collected is.before.ledgers o c is.out.known p (subst (λ (at : List LedgerView). IsOut at p) ledgers out) in
-      let k = rest p (subst (λ (at : List LedgerView). IsOut at p) (ap (λ (d : DeskView). d.ledgers) is.looks.rest) parts.0) parts.1 in
-      (k.0, ap (λ (d : DeskView). finmap.get d.kept k.0) is.collected ∙ ap (λ (d : DeskView). finmap.get d.kept k.0) is.looks.rest ∙ k.1);
-}
+collects_keep mid new o c is rest = search (arith, out_collected, is.collected, is.before.ledgers, is.out.known)
 
 -- an operation that is kept under the number is collected, and the number is free
 freed_kept : (m : Handles) (k : ℕ) (o : Operation) → finmap.get m k ≡ Some o → (p : Operation) → p ≢ o → (j : ℕ) × (finmap.get m j ≡ Some p)
@@ -75,10 +63,7 @@ some_refusal d m false missing e = let f : put_refusal d m false ≡ Some Inval 
 some_refusal d m true missing e = let f : put_refusal d m true ≡ Some Inval = rw missing refl in cc
 
 pub known_here : (d : DeskView) (m : ℕ) (b : Bool) → put_refusal d m b ≡ None → IsKnown d.ledgers m
-known_here d m b e = elim (cases_Bool (is_known d.ledgers m)) [
-  | inl there ↦ known_is d.ledgers m there
-  | inr missing ↦ absurd (some_refusal d m b missing e)
-]
+known_here d m b e = search (arith, cases_Bool, known_is, some_refusal, d.ledgers)
 
 pub fulls_ledgers : (n : ℕ) (d : DeskView) (m : ℕ) → (after_fulls n d m).ledgers ≡ d.ledgers
 fulls_ledgers zero d m = refl
@@ -116,8 +101,7 @@ answered_keep old mid new m op c ledgers handles known is all =
 puts_keep : (old : DeskView) (m : ℕ) (asked : _) (new : DeskView) (n : ℤ) → Puts old m asked new n → AllKept old → AllKept new
 puts_keep old m asked new n (refused c why told e) all = subst AllKept (sym e) all
 puts_keep old m asked new n (full why async told e) all = same_kept old new (ap (λ (d : DeskView). d.ledgers) e) (ap (λ (d : DeskView). d.kept) e) all
-puts_keep old m asked new n (kept why async k told is e) all =
-    subst AllKept (sym e) (inserted_keep old m asked.op k (known_here old m asked.asynchronous why) is.free all)
+puts_keep old m asked new n (kept why async k told is e) all = search (arith, inserted_keep, known_here, asked.op, asked.asynchronous, is.free)
 puts_keep old m asked new n (answered why async times c told is) all =
     answered_keep old (after_fulls times old m) new m asked.op c (fulls_ledgers times old m) (fulls_kept times old m) (known_here old m asked.asynchronous why) is all
 

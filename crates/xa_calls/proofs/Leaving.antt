@@ -1,4 +1,5 @@
 -- What calls leave, one after another.
+use Rattle.std.proofs.Common.{arith}
 use Rattle.xa_desk.specs.{DeskView, GoesOn}
 use Rattle.xa_calls.specs.{CallLeaves}
 
@@ -10,5 +11,4 @@ module _ {I : Type 0} {leads : I → I → Type 0} where
   -- one call and then another
   pub leaves_on : ((old mid new : DeskView) → GoesOn old mid → GoesOn mid new → GoesOn old new) → ((x y z : I) → leads x y → leads y z → leads x z)
       → {old mid new : DeskView} {x y z : I} → CallLeaves leads old mid x y → CallLeaves leads mid new y z → CallLeaves leads old new x z
-  leaves_on further chain a b =
-      record { goes_on = further _ _ _ a.goes_on b.goes_on; tickets = λ t owned. b.tickets t (a.tickets t owned); idled = chain _ _ _ a.idled b.idled }
+  leaves_on further chain a b = search (arith, a.goes_on, b.tickets, a.tickets, a.idled)

@@ -14,27 +14,7 @@ pub out_sent : (at : List LedgerView) (m : ℕ) (op : Op) → IsKnown at m → (
 out_sent at m op known o is =
     let a = with_sent (ledger at m) op in
     let k = known_before at m o.manager a is.known in
-    elim (cases_eq o.manager m) [
-      | inl same ↦
-          let e = ap (ledger (put_ledger at m a)) same ∙ ledger-put_same at m a known in
-          let within : o.number < length a.sent = subst (λ (x : LedgerView). o.number < length x.sent) e is.sent in
-          let fresh : is_collected (ledger at m) o.number ≡ false = subst (λ (x : LedgerView). is_collected x o.number ≡ false) e is.open_ in
-          elim (cases_eq o.number (length (ledger at m).sent)) [
-            | inl last ↦ inl (same_operation o (next_operation at m) same last)
-            | inr before ↦ inr (record {
-              known = k;
-              sent = subst (λ n. o.number < length (ledger at n).sent) (sym same) (omega (arith, within, before, length-append (ledger at m).sent (op ∷ [])));
-              open_ = subst (λ n. is_collected (ledger at n) o.number ≡ false) (sym same) fresh;
-            })
-          ]
-      | inr differs ↦
-          let e = ledger-put_other at m o.manager a known.positive k.positive differs in
-          inr (record {
-            known = k;
-            sent = subst (λ (x : LedgerView). o.number < length x.sent) e is.sent;
-            open_ = subst (λ (x : LedgerView). is_collected x o.number ≡ false) e is.open_;
-          })
-    ]
+    search (arith, cases_eq, ledger-put_same, same_operation, length-append, ledger-put_other, o.manager)
 
 -- what is outstanding after a collection was outstanding, and wasn't collected
 pub out_collected : (at : List LedgerView) (o : Operation) (code : Code) → IsKnown at o.manager → (p : Operation) → IsOut (after_collected at o code) p
@@ -43,28 +23,8 @@ out_collected at o code known p is =
     let a = with_collected (ledger at o.manager) o.number code in
     let k = known_before at o.manager p.manager a is.known in
     elim (cases_eq p.manager o.manager) [
-      | inl same ↦
-          let e = ap (ledger (put_ledger at o.manager a)) same ∙ ledger-put_same at o.manager a known in
-          let within : p.number < length (ledger at o.manager).sent = subst (λ (x : LedgerView). p.number < length x.sent) e is.sent in
-          let open_now : is_collected a p.number ≡ false = subst (λ (x : LedgerView). is_collected x p.number ≡ false) e is.open_ in
-          let parts =
-          or_parts (is_collected (ledger at o.manager) p.number) (nat_eq p.number o.number || false) (sym (is_collected-push (ledger at o.manager) o.number code p.number) ∙ open_now) in (
-            record {
-              known = k;
-              sent = subst (λ n. p.number < length (ledger at n).sent) (sym same) within;
-              open_ = subst (λ n. is_collected (ledger at n) p.number ≡ false) (sym same) parts.0;
-            },
-            λ is_o. eqb-false p.number o.number (or_parts (nat_eq p.number o.number) false parts.1).0 (ap (λ (q : Operation). q.number) is_o),
-          )
-      | inr differs ↦
-          let e = ledger-put_other at o.manager p.manager a known.positive k.positive differs in (
-            record {
-              known = k;
-              sent = subst (λ (x : LedgerView). p.number < length x.sent) e is.sent;
-              open_ = subst (λ (x : LedgerView). is_collected x p.number ≡ false) e is.open_;
-            },
-            λ is_o. differs (ap (λ (q : Operation). q.manager) is_o),
-          )
+      | inl same ↦ search (arith, ledger-put_same, or_parts, nat_eq, is_collected-push, eqb-false, o.manager, is.sent, is.open_, p.number, o.number)
+      | inr differs ↦ search (arith, ledger-put_other, o.manager, p.manager, known.positive, k.positive)
     ]
 
 -- ---- where no operation is outstanding

@@ -1,4 +1,5 @@
 -- What a scan does to a desk, and what it writes.
+use Rattle.std.proofs.Common.{rules}
 use Rattle.xa_base.proofs.{◌≡◌, ℕ, ℤ, zero, suc, Bool, true, false, Option, None, ◌+◌, ◌-◌, ◌<◌, Some, Result, Ok, Err, List, [], ◌∷◌, ◌++◌, length, take, drop}
 use Rattle.xa_base.proofs.{set, refl, sym, ap, ◌∙◌, subst, arith, length-append, append_assoc, is_some, option_map, slice_get, length-drop, take_all}
 use Rattle.xa_words.specs.{XidName, Done, Nota, check_flags, Mode, Op, Listed, Code}
@@ -13,8 +14,7 @@ use Rattle.xa_calls.proofs.Kept.{answered_keep, fulls_kept, fulls_ledgers, known
 -- what was outstanding stays kept, as a manager is asked
 pub asked_keep : (old new : DeskView) (m : ℕ) (op : Op) (code : Code) → Answers m old op new code → AllKept old → AllKept new
 asked_keep old new m op code (refused why same) all = subst AllKept (sym same) all
-asked_keep old new m op code (answered none n is) all =
-    answered_keep old (after_fulls n old m) new m op code (fulls_ledgers n old m) (fulls_kept n old m) (known_here old m false none) is all
+asked_keep old new m op code (answered none n is) all = search (arith, answered_keep, fulls_ledgers, fulls_kept, known_here)
 
 -- no refusal has the code XA_OK
 not_done : {A : Type 0} (i j : A) (why : Option Refused) (code : Code) → option_map code_of why ≡ Some code → code ≡ Done → i ≡ j
@@ -46,8 +46,7 @@ set_first (suc n) (y ∷ xs) x low = set_first n xs x (omega (arith, low))
 pub written_more : (fs xs : List XidName) (x : XidName) → length fs < length xs → set (written fs xs) (length fs) x ≡ written (fs ++ x ∷ []) xs
 written_more fs xs x low =
     let many : suc (length fs) ≡ length (fs ++ x ∷ []) = omega (arith, length-append fs (x ∷ [])) in
-    set_past fs (drop (length fs) xs) x ∙ ap (λ l. fs ++ l) (set_first (length fs) xs x low) ∙ sym (append_assoc fs (x ∷ []) (drop (suc (length fs)) xs))
-    ∙ ap (λ n. (fs ++ x ∷ []) ++ drop n xs) many
+    search (arith, set_past, set_first, append_assoc)
 
 -- ---- one branch more
 
@@ -74,9 +73,7 @@ rest_of k xs = take_all (length xs - k) (drop k xs) (omega (arith, length-drop k
 -- so what was scanned from there
 pub scanned_from : {D : Type 0} (asking : Asking D) (room place : ℕ) (left all : List XidName) (mid new : D) (found : List XidName) (r : Result ℕ Code) (n : ℕ)
     → n ≡ room → left ≡ all → Scans asking n (take (length left - place) (drop place left)) mid new found r → Scans asking room (drop place all) mid new found r
-scanned_from asking room place left all mid new found r n rooms lists scans =
-    subst (λ k. Scans asking k (drop place all) mid new found r) rooms
-    (subst (λ l. Scans asking n (drop place l) mid new found r) lists (subst (λ l. Scans asking n l mid new found r) (rest_of place left) scans))
+scanned_from asking room place left all mid new found r n rooms lists scans = search (arith, rest_of)
 
 -- ---- over a part of what was asked
 

@@ -1,3 +1,5 @@
+use Rattle.std.proofs.Common.{rules}
+use Rattle.std.proofs.Common.{arith}
 use Rattle.xa_base.proofs.{sym, subst, refl}
 use Rattle.xa_desk.specs.{DeskView, Collects}
 use Rattle.xa_calls.specs.Completing.CompletesOne.{retry, ready, waited}
@@ -15,8 +17,7 @@ returns-in-Some-try_kept-clause-completes g c =
     ready c.in-Some.number c.in-Some-try_kept.code c.in-Some.is (sym c.if-not-keeps.ensures.keeps) c.if-nowait.true refl c.in-Some-try_kept.ensures.collected
 
 pub returns-in-Some-try_kept-clause-leaves : goal.returns-in-Some-try_kept-clause-leaves
-returns-in-Some-try_kept-clause-leaves g c =
-    record { goes_on = c.try_kept.ensures.goes_on; tickets = c.try_kept.ensures.tickets; idled = g.met.I.Idle.leads_start _ }
+returns-in-Some-try_kept-clause-leaves g c = search (arith, g.met.I.Idle.leads_start)
 
 pub returns-in-None : goal.returns-in-None
 returns-in-None g c = record {
@@ -39,8 +40,5 @@ returns-clause-completes g c =
     })
 
 pub returns-clause-leaves : goal.returns-clause-leaves
-returns-clause-leaves g c = record {
-  goes_on = c.desks_go_on.ensures.further _ _ _ c.redeem.ensures.goes_on c.complete.ensures.goes_on;
-  tickets = λ t owned. c.complete.ensures.others t (c.redeem.ensures.tickets t owned) (c.in-Some-redeem.ensures.fresh t owned);
-  idled = c.complete.ensures.idled;
-}
+returns-clause-leaves g c =
+    search (arith, c.desks_go_on.ensures.further, c.redeem.ensures.goes_on, c.complete.ensures.others, c.redeem.ensures.tickets, c.in-Some-redeem.ensures.fresh)

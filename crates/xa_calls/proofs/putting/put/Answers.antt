@@ -1,3 +1,4 @@
+use Rattle.std.proofs.Common.{rules}
 use Rattle.xa_base.proofs.{◌≡◌, ◌≤◌, ℕ, ℤ, true, Option, Some, None, Ok, Err, sym, ap, ◌∙◌, subst, arith, refl, of_z, w32, pos, option_map, to_z-of_z, ints}
 use Rattle.std.proofs.Common.{to_z}
 use Rattle.std.proofs.lemmas.Int.{to_z_pos}
@@ -14,8 +15,7 @@ unput : (old : DeskView) (m : ℕ) (asked : Asked) (new : DeskView) (answer : �
     → ((c : Code) → put_refusal old m true ≡ Some c → (code ≡ c) × (new ≡ old)) → (put_refusal old m true ≡ None → (code ≡ Async) × (new ≡ after_full old m))
     → Puts old m asked new answer
 unput old m asked new answer code later told was_refused was_full =
-    let at : (r : Option Code) → put_refusal old m true ≡ r → put_refusal old m asked.asynchronous ≡ r =
-    λ r e. subst (λ b. put_refusal old m b ≡ r) (sym later) e in
+    let at : (r : Option Code) → put_refusal old m true ≡ r → put_refusal old m asked.asynchronous ≡ r = search (arith, rules) in
     elim (put_refusal old m true) as (λ r. put_refusal old m true ≡ r → Puts old m asked new answer) [
       | None ↦ λ e. full (at None e) later (told ∙ ap number_of (was_full e).0) (was_full e).1
       | Some c ↦ λ e. refused c (at (Some c) e) (told ∙ ap number_of (was_refused c e).0) (was_refused c e).1
@@ -62,8 +62,7 @@ pub returns-in-Err-call : goal.returns-in-Err-call
 returns-in-Err-call g c =
     let told : to_z w32 (of_z w32 c.value-in-Err-call.result) ≡ c.value-in-Err-call.result = to_z-of_z w32 c.value-in-Err-call.result (omega (arith, ints)) in
     let why = c.in-Err-call.why in
-    let some : call_refusal c.args.desk.now c.args.manager ≡ Some why =
-    its_refusal (Err why) why _ refl c.in-Err-call.ensures.refused c.in-Err-call.ensures.answered in
+    let some : call_refusal c.args.desk.now c.args.manager ≡ Some why = search (arith, its_refusal, c.in-Err-call.ensures.refused) in
     let its : put_refusal c.args.desk.now c.args.manager c.args.asked.asynchronous ≡ Some (code_of why) = rw c.if-asked.false (ap (option_map code_of) some) in
     record {
       puts = refused (code_of why) its (told ∙ c.value-in-Err-call.ensures ∙ ap number_of c.code_of.ensures) c.in-Err-call.ensures.unchanged;

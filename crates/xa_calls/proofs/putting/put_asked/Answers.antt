@@ -10,7 +10,4 @@ returns-in-Ok-clause-calls g c =
     (subst (λ (z : ℤ). Puts c.args.desk.now c.args.manager c.in-Ok.asked c.put.new.desk z) (sym told) c.put.ensures.puts)
 
 pub returns-in-Ok-clause-waited : goal.returns-in-Ok-clause-waited
-returns-in-Ok-clause-waited g c =
-    let told : to_z w32 (of_z w32 c.put.result) ≡ c.put.result = to_z-of_z w32 c.put.result (omega (arith, ints)) in
-    subst (λ r. CallsAndWaits g.I.Idle.leads_by r c.args.desk.now c.args.manager c.put.new.desk c.args.idle.now c.put.new.idle (to_z w32 (of_z w32 c.put.result))) (sym c.in-Ok.is)
-    (subst (λ (z : ℤ). CallsAndWaits g.I.Idle.leads_by (Ok c.in-Ok.asked) c.args.desk.now c.args.manager c.put.new.desk c.args.idle.now c.put.new.idle z) (sym told) c.put.ensures.waited)
+returns-in-Ok-clause-waited g c = search (arith, to_z, of_z, to_z-of_z)

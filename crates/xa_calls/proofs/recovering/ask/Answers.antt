@@ -1,3 +1,4 @@
+use Rattle.std.proofs.Common.{arith}
 use Rattle.xa_base.proofs.{◌≡◌, false, None, Some, Ok, Err, refl, ap, ◌∙◌, option_map}
 use Rattle.xa_words.specs.{Listed}
 use Rattle.xa_calls.specs.{code_of, put_refusal}
@@ -20,11 +21,4 @@ pub returns-in-Ok-clause-kept : goal.returns-in-Ok-clause-kept
 returns-in-Ok-clause-kept g c = asked_keep _ _ c.args.manager (Listed c.args.xid) c.in-Ok.code (returns-in-Ok-clause-asks g c).answers
 
 pub returns-in-Err-clause-asks : goal.returns-in-Err-clause-asks
-returns-in-Err-clause-asks g c =
-    let some : put_refusal c.args.desk.now c.args.manager false ≡ Some (code_of c.in-Err.why) = ap (option_map code_of)
-    (its_refusal (Err c.in-Err.why) c.in-Err.why _ refl c.in-Err.ensures.refused c.in-Err.ensures.answered) in
-    record {
-      answers = refused (some ∙ ap Some (let told = c.code_of.ensures in cc)) c.in-Err.ensures.unchanged;
-      waits = λ none. absurd (let never : ⊥ = cc in never);
-      stays = λ _. c.in-Err.ensures.idle_stays;
-    }
+returns-in-Err-clause-asks g c = search (arith, option_map, its_refusal)

@@ -26,8 +26,7 @@ returns-in_default g c =
     let i = c.loop-looked.invariant in
     let (found, looks, xids, many) = i.looks in
     let x : XidName = c.index-left-looked.result in
-    let there : slice_get c.args.left.now c.loop-looked.looked ≡ Some x =
-    slice_get-get_or c.args.left.now c.loop-looked.looked x (omega arith) ∙ ap (λ y. Some y) (sym c.index-left-looked.is) in
+    let there : slice_get c.args.left.now c.loop-looked.looked ≡ Some x = search (arith, slice_get-get_or, c.args.left.now, c.loop-looked.looked) in
     let within = i.within in
     let short : length found < c.args.room = omega (arith, many, within) in
     record {

@@ -1,3 +1,4 @@
+use Rattle.std.proofs.Common.{arith}
 use Rattle.xa_base.proofs.{refl, rules}
 use Rattle.xa_calls.proofs.Leaving.{leaves_all}
 use Rattle.xa_calls.proofs.recovering.recover_by.Goals as goal
@@ -12,13 +13,7 @@ pub returns-in_err-mode-clause-prompt : goal.returns-in_err-mode-clause-prompt
 returns-in_err-mode-clause-prompt g c = λ _. refl
 
 pub returns-in-Some : goal.returns-in-Some
-returns-in-Some g c = record {
-  recovers = search rules;
-  bound = c.recover_from.ensures.bound;
-  leaves = c.recover_from.ensures.leaves;
-  kept = c.recover_from.ensures.kept;
-  prompt = search rules;
-}
+returns-in-Some g c = search (arith, rules)
 
 pub returns-in-None : goal.returns-in-None
 returns-in-None g c = record {

@@ -23,10 +23,7 @@ returns-after-mode g c =
     let (found, scans, written, many) = c.in-Ok.ensures.scanned in
     let few = c.in-Ok.ensures.bound in
     let room = c.room_in-room.ensures.told in
-    let end : c.if-mode.end ≡ end_of c.args.mode (place + c.in-Ok.looked) = elim c.if-mode.branch [
-      | then-mode w ↦ w.end-is ∙ sym (at_true c.args.mode.end_scan _ _ w.if-mode.true)
-      | else-mode w ↦ w.end-is ∙ sym (at_false c.args.mode.end_scan _ _ w.if-mode.false)
-    ] in
+    let end : c.if-mode.end ≡ end_of c.args.mode (place + c.in-Ok.looked) = search (arith, then-mode, at_true, else-mode, at_false) in
     record {
       recovers = subst (λ n. Recovers asking m c.args.mode place (c.args.desk.now, c.args.idle.now) c.args.scan.now c.args.xids.now
           (c.look.new.desk, c.look.new.idle) c.stand.new.self c.look.new.xids (Ok n)) (sym many)
