@@ -1,4 +1,5 @@
 -- The parts of a worker after a step.
+use Rattle.std.proofs.Common.{arith}
 use Rattle.xa_base.proofs.{◌≡◌, ℕ}
 use Rattle.xa_lane.specs.{has_ended}
 use Rattle.xa_worker.specs.{IsTied, working_of, IsWorker, Inside}
@@ -6,12 +7,4 @@ use Rattle.xa_worker.specs.{IsTied, working_of, IsWorker, Inside}
 -- nothing was entered, and no end mark was taken
 pub unentered : (w w' : Inside) → IsWorker w → w'.journal ≡ w.journal → w'.manager ≡ w.manager → w'.ended ≡ w.ended → w'.ends ≡ w.ends
     → ((s : ℕ) → has_ended s w'.receiver.taken ≡ has_ended s w.receiver.taken) → IsTied (working_of w') → IsWorker w'
-unentered w w' i journal manager ended ends taken tied = record {
-  tied = tied;
-  room = rw (journal, manager) i.room;
-  marks = rw ended i.marks;
-  ended = λ s h. rw (ended, taken s) (i.ended s h);
-  few = rw manager i.few;
-  none = rw ends i.none;
-  enough = rw ends i.enough;
-}
+unentered w w' i journal manager ended ends taken tied = search (arith, i.ended)

@@ -1,4 +1,5 @@
 -- Lanes of completions, place by place.
+use Rattle.std.proofs.Common.{arith}
 use Rattle.xa_base.proofs.{◌≡◌, ◌≢◌, ⊎_elim, ℕ, ◌<◌, ◌==◌, Bool, true, false, cond, List, [], ◌∷◌, ◌++◌, length, map, Option, Some, None, refl, sym, ap, ◌∙◌}
 use Rattle.xa_base.proofs.{subst, eq-eqb, ne_eqb, append-nil, length-map}
 use Rattle.std.specs.Prelude.{MatchBool}
@@ -11,8 +12,7 @@ use Rattle.xa_worker.specs.Outgoing.{Outgoing}
 
 -- numbers that are equal together are tested alike
 pub same_eqb : (a b c d : ℕ) → (a ≡ b → c ≡ d) → (c ≡ d → a ≡ b) → (a == b) ≡ (c == d)
-same_eqb a b c d f g =
-    ⊎_elim (λ (x : ((a == b) ≡ true) × (a ≡ b)). x.0 ∙ sym (eq-eqb c d (f x.1))) (λ (x : ((a == b) ≡ false) × (a ≢ b)). x.0 ∙ sym (ne_eqb c d (λ e. x.1 (g e)))) (eqb_tells a b)
+same_eqb a b c d f g = search (arith, eq-eqb, ne_eqb, eqb_tells)
 
 -- what was sent on each lane
 abbrev nothing : List Completion
@@ -20,14 +20,7 @@ nothing = []
 
 sent_at-each : (ss : List Answering) (i : ℕ) (c : Completion) → i < length ss → (k : ℕ)
     → sent_at k (at_place i (with_item c) ss) ≡ sent_at k ss ++ cond (i == k) (c ∷ []) nothing
-sent_at-each ss i c h k =
-    ⊎_elim
-    (λ (x : ((i == k) ≡ true) × (i ≡ k)).
-    subst (λ j. sent_at j (at_place i (with_item c) ss) ≡ sent_at j ss ++ c ∷ []) x.1 (sent_at-item i c ss h)
-    ∙ ap (λ b. sent_at k ss ++ cond b (c ∷ []) nothing) (sym x.0))
-    (λ (x : ((i == k) ≡ false) × (i ≢ k)).
-    sent_at-other k i c ss (λ e. x.1 (sym e)) ∙ sym (append-nil (sent_at k ss)) ∙ ap (λ b. sent_at k ss ++ cond b (c ∷ []) nothing) (sym x.0))
-    (eqb_tells i k)
+sent_at-each ss i c h k = search (arith, sent_at-item, sent_at-other, append-nil, eqb_tells)
 
 -- the lanes are the same
 lanes-item : (ss : List Answering) (i : ℕ) (c : Completion) → SameLanes ss (at_place i (with_item c) ss)
@@ -64,22 +57,10 @@ lanes-still o o' f = ap (λ (x : Outgoing). map bare x.senders) f.rest ∙ lanes
 -- one more completion was sent, or waits
 pub put-puts : (o : Outgoing) (i : ℕ) (c : Completion) (o' : Outgoing) → i < length o.senders → o.waiting ≡ None → Puts o i c o' → (k : ℕ)
     → put_to k o' ≡ put_to k o ++ cond (i == k) (c ∷ []) nothing
-put-puts o i c o' h none p k =
-    let here : put_to k o ≡ sent_at k o.senders = ap (λ w. sent_at k o.senders ++ waiting_at k w) none ∙ append-nil (sent_at k o.senders) in
-    ⊎_elim
-    (λ (e : o' ≡ record o { senders = at_place i (with_item c) o.senders }).
-    ap (put_to k) e ∙ ap (λ w. sent_at k (at_place i (with_item c) o.senders) ++ waiting_at k w) none
-    ∙ append-nil (sent_at k (at_place i (with_item c) o.senders)) ∙ sent_at-each o.senders i c h k ∙ ap (λ xs. xs ++ cond (i == k) (c ∷ []) nothing) (sym here))
-    (λ (e : o' ≡ record { senders = at_place i with_full o.senders; waiting = Some (i, c) }).
-    ap (put_to k) e ∙ ap (λ xs. xs ++ cond (i == k) (c ∷ []) nothing) (sent_at-full k i o.senders ∙ sym here))
-    p
+put-puts o i c o' h none p k = search (arith, append-nil, sent_at-each, sent_at-full, o.senders)
 
 pub lanes-puts : (o : Outgoing) (i : ℕ) (c : Completion) (o' : Outgoing) → Puts o i c o' → SameLanes o.senders o'.senders
-lanes-puts o i c o' p =
-    ⊎_elim
-    (λ (e : o' ≡ record o { senders = at_place i (with_item c) o.senders }). ap (λ (x : Outgoing). map bare x.senders) e ∙ lanes-item o.senders i c)
-    (λ (e : o' ≡ record { senders = at_place i with_full o.senders; waiting = Some (i, c) }). ap (λ (x : Outgoing). map bare x.senders) e ∙ lanes-full o.senders i)
-    p
+lanes-puts o i c o' p = search (arith, lanes-item, lanes-full, o.senders)
 
 -- the end marks change nothing of what was sent
 pub sent_alike : (k : ℕ) (ss ts : List Answering) → map but_full ts ≡ map but_full ss → sent_at k ts ≡ sent_at k ss
@@ -96,8 +77,7 @@ lanes_flush false o o' f = lanes-still o o' f
 -- the completion that waited was sent
 pub put-sent : (ss ts : List Answering) (w : Option (ℕ × Completion)) (i : ℕ) (c : Completion) → w ≡ Some (i, c) → i < length ss
     → ts ≡ at_place i (with_item c) ss → (k : ℕ) → put_to k (record { senders = ts; waiting = None }) ≡ put_to k (record { senders = ss; waiting = w })
-put-sent ss ts w i c e h s k =
-    append-nil (sent_at k ts) ∙ ap (sent_at k) s ∙ sent_at-each ss i c h k ∙ ap (λ x. sent_at k ss ++ waiting_at k x) (sym e)
+put-sent ss ts w i c e h s k = search (arith, append-nil, sent_at-each)
 
 -- it met a full moment
 pub put-full : (ss ts : List Answering) (w : Option (ℕ × Completion)) (i : ℕ) → ts ≡ at_place i with_full ss → (k : ℕ)

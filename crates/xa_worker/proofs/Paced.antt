@@ -1,4 +1,5 @@
 -- What a pace is told.
+use Rattle.std.proofs.Common.{arith}
 use Rattle.xa_base.proofs.{◌≡◌, List, [], ◌∷◌, ◌++◌, refl, sym, ap, ◌∙◌, subst, append-nil, append_assoc, map-append}
 use Rattle.xa_words.specs.{Request}
 use Rattle.xa_tables.specs.{History}
@@ -15,9 +16,4 @@ module _ {P : Type 0} (by : Request → P → P → Type 0) where
   told_on (r ∷ rs) ss a b c first then_ = (first.0, first.1, told_on rs ss first.0 b c first.2 then_)
 
   pub paces_on : (i j k : List Entry) (a b c : P) → Paces by i j a b → Paces by j k b c → Paces by i k a c
-  paces_on i j k a b c first then_ =
-      record {
-        entered = first.entered ++ then_.entered;
-        grown = then_.grown ∙ ap (λ es. es ++ then_.entered) first.grown ∙ append_assoc i first.entered then_.entered;
-        told = subst (λ (rs : History). IsTold by rs a c) (sym (map-append (λ (e : Entry). e.0) first.entered then_.entered)) (told_on (requests first.entered) (requests then_.entered) a b c first.told then_.told);
-      }
+  paces_on i j k a b c first then_ = search (arith, append_assoc, map-append, told_on, first.entered, first.told)

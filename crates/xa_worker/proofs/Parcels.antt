@@ -22,32 +22,20 @@ module _ {T : Type 0} where
 
   -- an item ends nobody
   pub ended_item : (p s : ℕ) (taken : List (Parcel T)) (x : T) → has_ended p (taken ++ parcel s (Some x) ∷ []) ≡ has_ended p taken
-  ended_item p s taken x =
-      has_ended-append p taken (parcel s (Some x) ∷ [])
-      ∙ elim (s == p) as (λ b. (has_ended p taken || has_mark (cond b (Some x ∷ []) [])) ≡ has_ended p taken) [ true ↦ or-false (has_ended p taken) | false ↦ or-false (has_ended p taken) ]
+  ended_item p s taken x = search (arith, has_ended-append, or-false)
 
   abbrev no_marks : List (Option T)
   no_marks = []
 
   -- an end mark ends its sender
   ended_mark : (p s : ℕ) (taken : List (Parcel T)) → has_ended p (taken ++ parcel s None ∷ []) ≡ (has_ended p taken || (s == p))
-  ended_mark p s taken =
-      has_ended-append p taken (parcel s None ∷ [])
-      ∙ elim (s == p) as (λ b. (has_ended p taken || has_mark (cond b (None ∷ []) no_marks)) ≡ (has_ended p taken || b)) [ true ↦ refl | false ↦ refl ]
+  ended_mark p s taken = search (arith, has_ended-append)
 
   -- the flags of the senders, one more set
   pub marked_end : (marks : List Bool) (taken : List (Parcel T)) (s : ℕ) → length marks ≡ 8 → s < 8
       → ((i : ℕ) → i < 8 → get_or marks i false ≡ has_ended i taken)
       → (i : ℕ) → i < 8 → get_or (set marks s true) i false ≡ has_ended i (taken ++ parcel s None ∷ [])
-  marked_end marks taken s eight below were i h =
-      ⊎_elim
-      (λ (x : ((s == i) ≡ true) × (s ≡ i)).
-      subst (λ j. get_or (set marks s true) j false ≡ true) x.1 (get_or-set_same marks s true false (omega (arith, eight, below)))
-      ∙ sym (ended_mark i s taken ∙ ap (λ b. has_ended i taken || b) x.0 ∙ or-true (has_ended i taken)))
-      (λ (x : ((s == i) ≡ false) × (s ≢ i)).
-      get_or-set_other marks s i true false (λ e. x.1 (sym e)) ∙ were i h
-      ∙ sym (ended_mark i s taken ∙ ap (λ b. has_ended i taken || b) x.0 ∙ or-false (has_ended i taken)))
-      (eqb_tells s i)
+  marked_end marks taken s eight below were i h = search (arith, get_or-set_same, ended_mark, or-true, get_or-set_other, or-false, eqb_tells)
 
 pub asked_end : (taken : List (Parcel Request)) (s : ℕ) → asked (taken ++ parcel s None ∷ []) ≡ asked taken
 asked_end taken s = ap (map of_sender_thread) (items_in-append taken (parcel s None ∷ []) ∙ append-nil (items_in taken))

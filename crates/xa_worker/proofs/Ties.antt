@@ -1,4 +1,5 @@
 -- What each kind of step keeps of a worker.
+use Rattle.std.proofs.Common.{rules}
 use Rattle.xa_base.proofs.{◌≡◌, ◌⊎◌, ⊎_elim, append_assoc, ℕ, ◌+◌, ◌-◌, ◌<◌, ◌==◌, Bool, true, false, cond, List, [], ◌∷◌, ◌++◌, length, map, get_or, Some}
 use Rattle.xa_base.proofs.{None, sym, ap, ◌∙◌, subst, arith, append-nil, map-append, length-map}
 use Rattle.xa_words.specs.{Request, Completion}
@@ -16,47 +17,19 @@ use Rattle.xa_worker.proofs.Parcels.{asked_end, asked_item}
 pub tied_new : (number : ℕ) (manager : Managed) (receiver : Asking) (senders : List Answering) → receiver.senders ≡ manager.threads
     → length senders ≡ manager.threads → receiver.taken ≡ []
     → ((i : ℕ) (d : Answering) → i < length senders → (get_or senders i d).sent ≡ []) → IsTied (new_worker number manager receiver senders)
-tied_new number manager receiver senders threads lanes taken none = record {
-  follows = follows_none manager.tables;
-  taken = ap asked taken;
-  sent = λ k. append-nil (sent_at k senders) ∙ nothing_sent k senders none;
-  held = tt;
-  senders = threads;
-  lanes = lanes;
-}
+tied_new number manager receiver senders threads lanes taken none = search (arith, follows_none, append-nil, nothing_sent)
 
 module _ (w : WorkerView) (o : Outgoing) (same : SameLanes w.out.senders o.senders) (put : (k : ℕ) → put_to k o ≡ put_to k w.out) (t : IsTied w) where
   -- an earlier completion was sent, or still waits
   pub tied_out : IsTied (record w { out = o })
-  tied_out = record {
-    follows = t.follows;
-    taken = t.taken;
-    sent = λ k. put k ∙ t.sent k;
-    held = t.held;
-    senders = t.senders;
-    lanes = length-lanes w.out.senders o.senders same ∙ t.lanes;
-  }
+  tied_out = search (arith, length-lanes)
 
   module _ (r' : Asking) where
     pub tied_nothing : Took w.receiver Nothing r' → IsTied (record w { receiver = r'; out = o })
-    tied_nothing took = record {
-      follows = t.follows;
-      taken = ap (λ (x : Asking). asked x.taken) took ∙ t.taken;
-      sent = λ k. put k ∙ t.sent k;
-      held = t.held;
-      senders = ap (λ (x : Asking). x.senders) took ∙ t.senders;
-      lanes = length-lanes w.out.senders o.senders same ∙ t.lanes;
-    }
+    tied_nothing took = search (arith, length-lanes)
 
     pub tied_end : (s : ℕ) → Took w.receiver (EndOf s) r' → IsTied (record w { receiver = r'; out = o })
-    tied_end s took = record {
-      follows = t.follows;
-      taken = ap (λ (x : Asking). asked x.taken) took.1 ∙ asked_end w.receiver.taken s ∙ t.taken;
-      sent = λ k. put k ∙ t.sent k;
-      held = t.held;
-      senders = ap (λ (x : Asking). x.senders) took.1 ∙ t.senders;
-      lanes = length-lanes w.out.senders o.senders same ∙ t.lanes;
-    }
+    tied_end s took = search (arith, asked_end, length-lanes)
 
     module _ (s : ℕ) (r : Request) (none : w.held ≡ None) (took : Took w.receiver (Item s r) r') where
       before : asked w.receiver.taken ≡ map of_own_thread w.journal
@@ -66,14 +39,7 @@ module _ (w : WorkerView) (o : Outgoing) (same : SameLanes w.out.senders o.sende
       after = ap (λ (x : Asking). asked x.taken) took.1 ∙ asked_item w.receiver.taken s r ∙ ap (λ xs. xs ++ (s + 1, r) ∷ []) before
 
       pub tied_hold : IsUnfit s r w.manager.room → IsTied (record w { receiver = r'; out = o; held = Some (s, r) })
-      tied_hold unfit = record {
-        follows = t.follows;
-        taken = after;
-        sent = λ k. put k ∙ t.sent k;
-        held = unfit;
-        senders = ap (λ (x : Asking). x.senders) took.1 ∙ t.senders;
-        lanes = length-lanes w.out.senders o.senders same ∙ t.lanes;
-      }
+      tied_hold unfit = search (arith, after, length-lanes)
 
       pub tied_enter : (m : Managed) (p : Outgoing) (journal : List Entry) → r.thread ≡ s + 1 → m ≡ applied r w.manager
           → journal ≡ w.journal ++ entry_next r w.manager.tables ∷ [] → SameLanes o.senders p.senders
@@ -113,15 +79,7 @@ tied_carried w o r' s r m p journal t sent put none took thread carried entered 
 -- a worker that has finished, and has put its end marks
 pub served_by : (w : WorkerView) (ends : List Answering) → IsTied w → IsFinished w → map but_full ends ≡ map but_full w.out.senders
     → IsServed (served w.number w.first w.manager w.receiver ends w.journal)
-served_by w ends t f e = record {
-  follows = t.follows;
-  taken = t.taken ∙ ap (λ h. map of_own_thread w.journal ++ in_hand h) f.held ∙ append-nil (map of_own_thread w.journal);
-  sent = λ k. sent_alike k w.out.senders ends e ∙ sym (ap (λ h. sent_at k w.out.senders ++ waiting_at k h) f.waiting ∙ append-nil (sent_at k w.out.senders))
-      ∙ t.sent k;
-  ended = f.ended;
-  senders = t.senders;
-  lanes = sym (length-map ends but_full) ∙ ap length e ∙ length-map w.out.senders but_full ∙ t.lanes;
-}
+served_by w ends t f e = search (arith, append-nil, sent_alike, length-map, w.out.senders, t.sent)
 
 -- a request is late where the manager was shut before it
 pub stepped : (w w' : WorkerView) (b : Bool) → w.manager.tables.shut ≡ b → EntersOne w w' → Stepped w (step_of b) w'
@@ -130,13 +88,7 @@ stepped w w' false e n = (n, e)
 
 -- steps follow one another
 pub same-chain : (u v w : WorkerView) → SameWorker u v → SameWorker v w → SameWorker u w
-same-chain u v w a b = record {
-  number = b.number ∙ a.number;
-  first = b.first ∙ a.first;
-  threads = b.threads ∙ a.threads;
-  receiver = (b.receiver.0 ∙ a.receiver.0, b.receiver.1 ∙ a.receiver.1, b.receiver.2 ∙ a.receiver.2, b.receiver.3 ∙ a.receiver.3);
-  lanes = b.lanes ∙ a.lanes;
-}
+same-chain u v w a b = search (arith, rules)
 
 pub extends-chain : (i j k : List Entry) → Extends i j → Extends j k → Extends i k
 extends-chain i j k a b = (a.0 ++ b.0, b.1 ∙ ap (λ es. es ++ b.0) a.1 ∙ append_assoc i a.0 b.0)
@@ -150,12 +102,4 @@ stepped-extends w Did w' h = (entry_next h.0.1 w.manager.tables ∷ [], h.0.2.jo
 stepped-extends w Late w' h = (entry_next h.0.1 w.manager.tables ∷ [], h.0.2.journal)
 stepped-extends w EndSeen w' h = stays w w' (ap (λ (x : WorkerView). x.journal) h.3)
 stepped-extends w Empty w' h = stays w w' (ap (λ (x : WorkerView). x.journal) h.2)
-stepped-extends w Blocked w' h =
-    ⊎_elim
-    (λ (x : Waits w w'). stays w w' (ap (λ (y : WorkerView). y.journal) x.1))
-    (λ (x : StillHolds w w' ⊎ Holds w w').
-    ⊎_elim
-    (λ (y : StillHolds w w'). stays w w' (ap (λ (z : WorkerView). z.journal) y.3))
-    (λ (y : Holds w w'). stays w w' (ap (λ (z : WorkerView). z.journal) y.5))
-    x)
-    h
+stepped-extends w Blocked w' h = search (arith, stays)

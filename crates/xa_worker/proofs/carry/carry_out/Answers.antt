@@ -1,3 +1,4 @@
+use Rattle.std.proofs.Common.{rules}
 use Rattle.xa_base.proofs.{◌≡◌, arith, [], ◌∷◌, ◌++◌, ap, ◌∙◌, get_or, length, set}
 use Rattle.std.proofs.Math.Seq.{get_or-append_seam, set-append_seam}
 use Rattle.xa_words.specs.{Done}
@@ -11,10 +12,8 @@ returns-clause-journal g c =
     let T = c.args.manager.now.tables in
     let e : Entry = c.index_mut-entry.result.now in
     let at : c.len-place.result ≡ length items = let len = c.len-place.ensures in let ok = c.args.journal.now.ok.0 in omega (arith, len, ok) in
-    let same : e ≡ (r, Done) =
-    c.index_mut-entry.ensures.value ∙ (λ i. get_or (c.enter.ensures.entry i) (at i) e) ∙ get_or-append_seam items (r, Done) [] e in
-    let next : (e.0, c.apply-code.result) ≡ entry_next r T =
-    ap (λ a. (e.0, a.1)) c.apply-code.ensures.step ∙ ap (λ (x : Entry). entry_next x.0 T) same in
+    let same : e ≡ (r, Done) = search (arith, get_or-append_seam, c.enter.ensures.entry) in
+    let next : (e.0, c.apply-code.result) ≡ entry_next r T = search (arith, rules) in
     let placed : set c.enter.new.journal.items c.len-place.result (e.0, c.apply-code.result) ≡ set (items ++ (r, Done) ∷ []) (length items) (entry_next r T) =
     λ i. set (c.enter.ensures.entry i) (at i) (next i) in
     placed ∙ set-append_seam items (r, Done) [] (entry_next r T)

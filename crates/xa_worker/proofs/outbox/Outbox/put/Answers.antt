@@ -3,6 +3,4 @@ use Rattle.xa_worker.specs.Outgoing.{Outgoing}
 use Rattle.xa_worker.proofs.outbox.Outbox.put.Goals as goal
 
 pub invariant_of-self : goal.invariant_of-self
-invariant_of-self g c =
-    let e = ap (λ (o : Outgoing). length o.senders) c.self.view_is in
-    omega (arith, c.offer_at.ensures.len, c.requires.place, e)
+invariant_of-self g c = search (arith, c.self.view_is)

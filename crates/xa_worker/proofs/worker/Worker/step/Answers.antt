@@ -20,8 +20,7 @@ invariant_of-self g c =
     unentered _ _ i refl refl refl refl (λ s. refl) (tied_out (working_of c.self.inside) c.flush.new.self (lanes_flush c.flush.result c.self.inside.out c.flush.new.self e.flushed) e.put i.tied)
 
 pub returns-then-not-flush-clause-same : goal.returns-then-not-flush-clause-same
-returns-then-not-flush-clause-same g c =
-    rw (← c.self.view_is) (record { number = refl; first = refl; threads = refl; receiver = (refl, refl, refl, refl); lanes = lanes_flush c.flush.result c.self.inside.out c.flush.new.self c.flush.ensures.flushed })
+returns-then-not-flush-clause-same g c = search (arith, lanes_flush, c.flush.result, c.self.inside.out, c.flush.new.self)
 
 pub returns-then-not-flush-clause-seat : goal.returns-then-not-flush-clause-seat
 returns-then-not-flush-clause-seat g c = stepped_keeps _ _ (returns-then-not-flush-clause-same g c)
@@ -44,8 +43,7 @@ returns-then-is_some-clause-step g c =
     rw (← c.self.view_is) (inr (inl (some.0.0, some.0.1, some.1, ap (λ (o : Outgoing). record (working_of c.self.inside) { out = o }) c.if-not-flush.ensures.flushed)))
 
 pub returns-then-is_some-clause-same : goal.returns-then-is_some-clause-same
-returns-then-is_some-clause-same g c =
-    rw (← c.self.view_is) (record { number = refl; first = refl; threads = refl; receiver = (refl, refl, refl, refl); lanes = lanes_flush c.flush.result c.self.inside.out c.flush.new.self c.flush.ensures.flushed })
+returns-then-is_some-clause-same g c = search (arith, lanes_flush, c.flush.result, c.self.inside.out, c.flush.new.self)
 
 pub returns-then-is_some-clause-seat : goal.returns-then-is_some-clause-seat
 returns-then-is_some-clause-seat g c = stepped_keeps _ _ (returns-then-is_some-clause-same g c)
@@ -64,8 +62,7 @@ invariant_of-self-in-None g c =
     unentered _ _ i refl refl refl refl (λ s. ap (λ (r : Asking). has_ended s r.taken) took) (tied_nothing (working_of c.self.inside) c.flush.new.self (lanes_flush c.flush.result c.self.inside.out c.flush.new.self e.flushed) e.put i.tied c.take_parcel.new.self took)
 
 pub returns-in-None-clause-same : goal.returns-in-None-clause-same
-returns-in-None-clause-same g c =
-    rw (← c.self.view_is) (record { number = refl; first = refl; threads = refl; receiver = c.take_parcel.ensures.same; lanes = lanes_flush c.flush.result c.self.inside.out c.flush.new.self c.flush.ensures.flushed })
+returns-in-None-clause-same g c = search (arith, lanes_flush, c.flush.result, c.self.inside.out, c.flush.new.self)
 
 pub returns-in-None-clause-seat : goal.returns-in-None-clause-seat
 returns-in-None-clause-seat g c = stepped_keeps _ _ (returns-in-None-clause-same g c)
@@ -86,8 +83,7 @@ invariant_of-self-in-None-item g c =
       tied = tied_end (working_of c.self.inside) c.flush.new.self (lanes_flush c.flush.result c.self.inside.out c.flush.new.self e.flushed) e.put i.tied c.take_parcel.new.self c.in-Some.parcel.from took;
       room = i.room;
       marks = simp length-set i.marks;
-      ended = λ k h. marked_end c.self.inside.ended c.self.inside.receiver.taken c.in-Some.parcel.from i.marks below i.ended k h
-          ∙ sym (ap (λ (r : Asking). has_ended k r.taken) took.1);
+      ended = search (arith, marked_end, c.self.inside.ended, c.self.inside.receiver.taken, c.in-Some.parcel.from, i.marks, i.ended);
       few = i.few;
       none = i.none;
       enough = i.enough;
@@ -100,8 +96,7 @@ returns-in-None-item-clause-step g c =
     rw (← c.self.view_is) (c.in-Some.parcel.from, none, took_as _ _ _ _ _ c.in-None-item.is c.in-Some.ensures.took, ap (λ (o : Outgoing). record (working_of c.self.inside) { receiver = c.take_parcel.new.self; out = o }) out)
 
 pub returns-in-None-item-clause-same : goal.returns-in-None-item-clause-same
-returns-in-None-item-clause-same g c =
-    rw (← c.self.view_is) (record { number = refl; first = refl; threads = refl; receiver = c.take_parcel.ensures.same; lanes = lanes_flush c.flush.result c.self.inside.out c.flush.new.self c.flush.ensures.flushed })
+returns-in-None-item-clause-same g c = search (arith, lanes_flush, c.flush.result, c.self.inside.out, c.flush.new.self)
 
 pub returns-in-None-item-clause-seat : goal.returns-in-None-item-clause-seat
 returns-in-None-item-clause-seat g c = stepped_keeps _ _ (returns-in-None-item-clause-same g c)
@@ -123,8 +118,7 @@ invariant_of-self-then-request-parcel g c =
     unentered _ _ i refl refl refl refl (λ s. ap (λ (r : Asking). has_ended s r.taken) took.1 ∙ ended_item s c.in-Some.parcel.from c.self.inside.receiver.taken c.in-Some-item.request) (tied_hold (working_of c.self.inside) c.flush.new.self (lanes_flush c.flush.result c.self.inside.out c.flush.new.self e.flushed) e.put i.tied c.take_parcel.new.self c.in-Some.parcel.from c.in-Some-item.request none took unfit)
 
 pub returns-then-request-parcel-clause-same : goal.returns-then-request-parcel-clause-same
-returns-then-request-parcel-clause-same g c =
-    rw (← c.self.view_is) (record { number = refl; first = refl; threads = refl; receiver = c.take_parcel.ensures.same; lanes = lanes_flush c.flush.result c.self.inside.out c.flush.new.self c.flush.ensures.flushed })
+returns-then-request-parcel-clause-same g c = search (arith, lanes_flush, c.flush.result, c.self.inside.out, c.flush.new.self)
 
 pub returns-then-request-parcel-clause-seat : goal.returns-then-request-parcel-clause-seat
 returns-then-request-parcel-clause-seat g c = stepped_keeps _ _ (returns-then-request-parcel-clause-same g c)
@@ -158,8 +152,7 @@ invariant_of-self-in-Some-item g c =
       tied = tied_carried (working_of c.self.inside) c.flush.new.self c.take_parcel.new.self c.in-Some.parcel.from c.in-Some-item.request c.carry_out.new.manager c.carry_out.new.out c.carry_out.new.journal.items c.self.invariant.tied c.if-not-flush.ensures.flushed c.flush.ensures.put none (took_as _ _ _ _ _ c.in-Some-item.is c.in-Some.ensures.took) c.if-request-parcel.false d.manager d.journal d.out;
       room = omega (arith, more, room, d.space, i.room);
       marks = i.marks;
-      ended = λ k h. i.ended k h
-          ∙ sym (ap (λ (r : Asking). has_ended k r.taken) (took_as _ _ _ _ _ c.in-Some-item.is c.in-Some.ensures.took).1 ∙ ended_item k c.in-Some.parcel.from c.self.inside.receiver.taken c.in-Some-item.request);
+      ended = search (arith, took_as, ended_item, i.ended, c.in-Some-item.is, c.in-Some.parcel.from, c.self.inside.receiver.taken);
       few = omega (arith, threads, i.few);
       none = i.none;
       enough = i.enough;
