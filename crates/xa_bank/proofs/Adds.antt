@@ -35,14 +35,7 @@ taken_here t n last q h own number =
 -- it is another one of the thread
 taken_own : (t n last : ℕ) (op : Op) (ops : List Op) (q : Request) (h : History) → (q.thread == t) ≡ true → (q.number == last) ≡ false → q ≡ request_of t n op
     → Taken t (suc n) ops last h → Taken t n (op ∷ ops) last (q ∷ h)
-taken_own t n last op ops q h own number head z =
-    let more : taken_before t last (q ∷ h) ≡ q ∷ taken_before t last h = λ i. if own i && number i then [] else q ∷ taken_before t last h in
-    let X : History = taken_before t last h in
-    record {
-      rest = z.rest;
-      place = ap (λ l. q ∷ l) z.place ∙ sym (ap (λ l. l ++ z.rest) more);
-      own = ap (of_thread t) more ∙ ap (λ b. cond b (q ∷ of_thread t X) (of_thread t X)) own ∙ (λ i. head i ∷ z.own i);
-    }
+taken_own t n last op ops q h own number head z = search (arith, own, z.own)
 
 -- it is of another thread
 taken_other : (t n last : ℕ) (ops : List Op) (q : Request) (h : History) → (q.thread == t) ≡ false → Taken t n ops last h → Taken t n ops last (q ∷ h)
@@ -131,8 +124,7 @@ module _ (s : Settling) (settled : IsSettled s) (t m b : ℕ) (T : Tables) (with
   R q = names x q.op ≡ true → IsBetween t (length pre) b q
 
   all_taken : Taken t 0 (pre ++ work) last H
-  all_taken =
-      taken t H 0 (pre ++ work) rest last (let e = length-append pre work in omega (arith, e, many)) ((settled.agree t m).carried ∙ ap (numbered t 0) split)
+  all_taken = search (arith, taken, length-append)
 
   abbrev P : History
   P = taken_before t last H
@@ -178,10 +170,7 @@ module _ (s : Settling) (settled : IsSettled s) (t m b : ℕ) (T : Tables) (with
       omega (arith, low, from))
 
   quietly : (h : History) → All R h → of_thread t h ≡ [] → LeavesAtWork t x h
-  quietly h all quiet = record {
-    unnamed = λ i q lt. unless_named (get_or h i q) (λ e. all_others t h quiet i q lt (all i q lt e).thread);
-    quiet = quiet;
-  }
+  quietly h all quiet = search (arith, unless_named, all_others)
 
   -- ---- what was answered
 

@@ -39,16 +39,7 @@ none_forgets commit x vote second a a' obeys cool = grind (arith, told_heuristic
 
 branch_made : (commit : Bool) (b : Branch) (v : Code) (s : Option Code) (e : Ending) (a a' : LedgerView) → VotesAndObeys AsksLedger commit b v s e a a'
     → is_heuristic e ≡ false → AtBranch AsksLedger commit b v s e a a'
-branch_made commit b v s e a a' h cool =
-    let none = none_forgets commit b.xid v s h.prepared a' h.obeys (ap is_heuristic (sym h.ends) ∙ cool) in record {
-      prepared = h.prepared;
-      decided = a';
-      third = None;
-      prepares = h.prepares;
-      obeys = h.obeys;
-      forgets = subst (λ (o : Option Op). AsksFor AsksLedger o None a' a') (sym none) (refl, refl);
-      ends = h.ends;
-    }
+branch_made commit b v s e a a' h cool = search (arith, none_forgets, b.xid, h.prepared, h.obeys)
 
 branches_made : (commit : Bool) (old new : List LedgerView) (bs : List Branch) (vs : List Code) (ss : List (Option Code)) (es : List Ending)
     → EachBranch (λ b v s e. VotesAndObeys AsksLedger commit b v s e (ledger old b.m) (ledger new b.m)) bs vs ss es → list_any is_heuristic es ≡ false
@@ -64,14 +55,5 @@ pub told_made : (bs : List Branch) (desk : DeskView) (new : List LedgerView) (lo
     → IsDeath death.Told bs desk new log later known → list_any is_heuristic known.endings.items ≡ false → IsCommit bs desk new log later known
 told_made bs desk new log later known died cool = let far = died.dies.far in record {
   may = died.may;
-  trace = record {
-    course = record {
-      seconds = far.seconds;
-      each = branches_made known.commit desk.ledgers new bs known.votes.items far.seconds known.endings.items far.each cool;
-      others = died.dies.others;
-      decision = far.decided.decision;
-      logs = far.decided.logs;
-    };
-    managers = died.managers;
-  };
+  trace = search (arith, branches_made, known.commit, desk.ledgers, known.votes.items, known.endings.items);
 }

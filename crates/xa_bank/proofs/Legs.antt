@@ -22,17 +22,7 @@ pub record LegWorked (leg : Leg) (k : List ℕ) (a a' : LedgerView) : Type 0 whe
 
 one_change : (leg : Leg) (k : List ℕ) (cs : List Change) (a a' : LedgerView) → changes_at cs leg.branch.m ≡ change_of leg k ∷ []
     → HasWorked cs leg.branch a a' → LegWorked leg k a a'
-one_change leg k cs a a' one its =
-    let ops : ops_of cs leg.branch ≡ leg_work leg k =
-    ap (λ (l : List Change). Start leg.branch.xid Fresh ∷ map (λ (c : Change). Add c.key c.delta) l ++ End leg.branch.xid Success ∷ []) one in
-    let n : ℕ = length a.sent in
-    let third : n + 1 + 1 ≡ n + 2 = omega arith in
-    record {
-      sent = its.sent ∙ ap (λ l. a.sent ++ l) ops;
-      collected =
-          its.collected ∙ ap (λ (l : List Op). a.collected ++ map (λ i. (i, Ok_)) (range_with_len n (length l))) ops
-          ∙ (λ i. a.collected ++ (n, Ok_) ∷ (n + 1, Ok_) ∷ (third i, Ok_) ∷ []);
-    }
+one_change leg k cs a a' one its = search (arith, range_with_len, leg.branch.xid, a.sent)
 
 module _ (one two : Leg) (k : List ℕ) (apart : one.branch.m ≢ two.branch.m) where
   first_change : changes_at (changes_of one two k) one.branch.m ≡ change_of one k ∷ []
@@ -44,12 +34,4 @@ module _ (one two : Leg) (k : List ℕ) (apart : one.branch.m ≢ two.branch.m) 
   -- both legs worked
   pub legs_worked : (old new : List LedgerView) → HaveWorked (changes_of one two k) (branches_of one two) old new
       → LegWorked one k (ledger old one.branch.m) (ledger new one.branch.m) × LegWorked two k (ledger old two.branch.m) (ledger new two.branch.m)
-  legs_worked old new w =
-      let cs : List Change = changes_of one two k in
-      let first : HasWorked cs one.branch (ledger old one.branch.m) (ledger new one.branch.m) =
-      all_at (λ (b : Branch). HasWorked cs b (ledger old b.m) (ledger new b.m)) (branches_of one two) 0 one.branch w.each refl in
-      let second : HasWorked cs two.branch (ledger old two.branch.m) (ledger new two.branch.m) =
-      all_at (λ (b : Branch). HasWorked cs b (ledger old b.m) (ledger new b.m)) (branches_of one two) 1 two.branch w.each refl in (
-        one_change one k cs (ledger old one.branch.m) (ledger new one.branch.m) first_change first,
-        one_change two k cs (ledger old two.branch.m) (ledger new two.branch.m) second_change second,
-      )
+  legs_worked old new w = search (arith, all_at, one_change, first_change, second_change, w.each)

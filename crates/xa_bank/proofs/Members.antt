@@ -22,12 +22,7 @@ abbrev pub Never : Op → Type 0
 Never op = ⊥
 
 number_sent : (k : ℕ) (old new : Telling) → EndsNumber k old new → HaveSent Never old.0.ledgers new.0.ledgers
-number_sent k old new (kept_there c takes told) =
-    let z = takes.collects in
-    let before : z.before.ledgers ≡ old.0.ledgers = ap (λ (d : DeskView). d.ledgers) z.looks.rest in
-    let all : new.0.ledgers ≡ after_collected old.0.ledgers takes.operation c =
-    ap (λ (d : DeskView). d.ledgers) z.collected ∙ ap (λ (l : List LedgerView). after_collected l takes.operation c) before in
-    subst (HaveSent Never old.0.ledgers) (sym all) (one_collected Never old.0.ledgers takes.operation c)
+number_sent k old new (kept_there c takes told) = search (arith, one_collected, takes.collects, takes.collects.looks.rest, old.0.ledgers, takes.operation)
 number_sent k old new (free empty e) = have_none Never old.0.ledgers new.0.ledgers (ap (λ (q : Telling). q.0.ledgers) e)
 
 numbers_sent : (old : Telling) (ks : List ℕ) (new : Telling) → Chain EndsNumber old ks new → HaveSent Never old.0.ledgers new.0.ledgers
@@ -38,8 +33,7 @@ numbers_sent old ks new (more xs x now last before is) =
 -- ---- a desk that was opened
 
 nothing_sent : (p : Setup) (k : ℕ) (d : DeskView) → IsNewDesk p k d → NothingWasSent d.ledgers
-nothing_sent p k d is = λ m positive.
-    ap (λ (x : DeskView). (ledger x.ledgers m).sent) is.made ∙ fresh_sent p.numbers.requests p.use_async (m - 1)
+nothing_sent p k d is = search (arith, fresh_sent, p.numbers.requests, p.use_async)
 
 pub goes_thread : (old new : DeskView) → GoesOn old new → new.thread ≡ old.thread
 goes_thread old new goes = ap (λ (q : DeskSeat). q.thread) goes.seat
@@ -125,10 +119,7 @@ module _ {C : Type 0} (works : C → DeskView → C → DeskView → Type 0) (p 
         nothing = nothing_sent p k mb.desk fresh;
         worked = run.worked;
         end = subst (HaveSent Never run.left.ledgers) (sym last) (numbers_sent (run.left, []) _ (run.ends.emptied, mb.attended.outstanding.items) run.ends.collects);
-        many =
-            ap (λ (l : List LedgerView). length l) last ∙ as_many_managers run.left run.ends.emptied run.ends.goes_on
-            ∙ as_many_managers mb.desk run.left run.goes_on
-            ∙ ap (λ (d : DeskView). length d.ledgers) fresh.made ∙ length-map p.use_async _ ∙ r.opened.flags;
+        many = search (arith, as_many_managers, length-map, run.left, run.ends.emptied, mb.desk);
       }
 
   nobody : (t : ℕ) → ((k : ℕ) (q : ThreadPart) → slice_get parts k ≡ Some q → q.thread ≢ t) → (m : ℕ) → sent s t m ≡ []

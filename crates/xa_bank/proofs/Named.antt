@@ -1,4 +1,5 @@
 -- Which branches a teller's requests name: those of its own transfers, each in its own time.
+use Rattle.std.proofs.Common.{rules}
 use Rattle.xa_base.proofs.{◌≡◌, ◌≢◌, ℕ, suc, ◌+◌, ◌^◌, ◌<◌, ◌≤◌, true, false, ◌||◌, List, [], ◌∷◌, ◌++◌, length, sym, refl, ap, ◌∙◌, subst, arith, Option, Some}
 use Rattle.xa_base.proofs.{None, ℤ, pos, ◌+ℤ◌, ints}
 use Rattle.std.specs.Prelude.{neg_ℤ}
@@ -49,20 +50,8 @@ paid_and_pays : (a b v : ℤ) → a ≡ v → b ≡ neg_ℤ v → a +ℤ b ≡ p
 paid_and_pays a b v e f = omega (arith, ints, e, f)
 
 pub legs_are : (t n : ℕ) (tr : Transfer) (one two : Leg) → AreLegs t n tr one two → LegsOf t n one two
-legs_are t n tr one two (pays_first small rising pays paid) = let at_one = pays.store in let at_two = paid.store in record {
-  first = record { small = small; gtrid = pays.gtrid_ };
-  second = record { small = small; gtrid = paid.gtrid_ };
-  tran = λ i. record { format = pays.format_ i; gtrid = pays.gtrid_ i };
-  apart = λ same. omega (arith, rising, at_one, at_two, same);
-  sum = pays_and_paid one.delta two.delta (pos tr.amount) pays.adds paid.adds;
-}
-legs_are t n tr one two (paid_first small rising paid pays) = let at_one = paid.store in let at_two = pays.store in record {
-  first = record { small = small; gtrid = paid.gtrid_ };
-  second = record { small = small; gtrid = pays.gtrid_ };
-  tran = λ i. record { format = paid.format_ i; gtrid = paid.gtrid_ i };
-  apart = λ same. omega (arith, rising, at_one, at_two, same);
-  sum = paid_and_pays one.delta two.delta (pos tr.amount) paid.adds pays.adds;
-}
+legs_are t n tr one two (pays_first small rising pays paid) = search (arith, pays_and_paid)
+legs_are t n tr one two (paid_first small rising paid pays) = search (arith, paid_and_pays)
 
 -- ---- a transfer
 
@@ -72,13 +61,7 @@ Is n k = k ≡ n
 
 -- one of two branches
 pub either_named : (P : XidName → Type 0) (a b x : XidName) → P a → P b → (xid_eq a x || (xid_eq b x || false)) ≡ true → P x
-either_named P a b x one two e = elim (xid_eq a x) as (λ c. xid_eq a x ≡ c → (c || (xid_eq b x || false)) ≡ true → P x) [
-  | true ↦ λ same _. subst P ((Decides-xid_eq a x).0 same) one
-  | false ↦ λ _ other. elim (xid_eq b x) as (λ c. xid_eq b x ≡ c → (c || false) ≡ true → P x) [
-    | true ↦ λ same _. subst P ((Decides-xid_eq b x).0 same) two
-    | false ↦ λ _ never. cc
-  ] refl other
-] refl e
+either_named P a b x one two e = search (arith, Decides-xid_eq)
 
 -- a request that names no other branch than the legs' names the transfer
 pub only_names : (t n : ℕ) (one two : Leg) → LegsOf t n one two → (op : Op) → NamesOnly (branches_of one two) op → Names t (Is n) op
@@ -110,8 +93,7 @@ transfer_names t n tr habits o old new log later (with_legs one two left legs (c
     (comes_names t n one two (death_in habits n) o worked new.ledgers log left of_it comes)
 transfer_names t n tr habits o old new log later (with_legs one two left legs (refused same why sent) kept read) =
     have_as (IsFor (branches_of one two)) (Names t (Is n)) (for_names t n one two (legs_are t n tr one two legs)) old.ledgers new.ledgers sent
-transfer_names t n tr habits o old new log later (without_legs is none same unlogged) =
-    have_none (Names t (Is n)) old.ledgers new.ledgers (ap (λ (d : DeskView). d.ledgers) same)
+transfer_names t n tr habits o old new log later (without_legs is none same unlogged) = search (arith, have_none, old.ledgers, new.ledgers)
 
 -- ---- a store that is shut
 
@@ -151,8 +133,7 @@ none_made R t habits n (tr ∷ trs) old new log later h = h
 
 pub transfers_name : (R : LogState → Type 0) (t : ℕ) (habits : Habits) (n : ℕ) (trs : List Transfer) (os : List WorkOutcome) (old new : DeskView) (log later : LogState)
     → MakesEach t habits n trs os old new log later R → HaveSent (Names t (IsFrom n)) old.ledgers new.ledgers
-transfers_name R t habits n trs [] old new log later h =
-    have_none (Names t (IsFrom n)) old.ledgers new.ledgers (ap (λ (d : DeskView). d.ledgers) (none_made R t habits n trs old new log later h).0)
+transfers_name R t habits n trs [] old new log later h = search (arith, have_none, none_made, old.ledgers, new.ledgers)
 transfers_name R t habits n (tr ∷ trs) (o ∷ os) old new log later (mid, now, makes, rest) =
     have_on (Names t (IsFrom n)) old.ledgers mid.ledgers new.ledgers
     (have_as (Names t (Is n)) (Names t (IsFrom n)) (names_as t (Is n) (IsFrom n) (λ k e. omega (arith, e))) old.ledgers mid.ledgers (next_names t n tr habits o old mid log now makes))

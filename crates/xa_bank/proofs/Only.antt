@@ -1,4 +1,5 @@
 -- A teller's thread makes only transfers.
+use Rattle.std.proofs.Common.{rules}
 use Rattle.xa_base.proofs.{ℤ, pos, ◌+ℤ◌, ◌≡◌, ℕ, suc, ◌+◌, ◌^◌, ◌<◌, ◌≤◌, false, ◌||◌, List, [], ◌∷◌, ◌++◌, length, length-append, append_assoc, sym, refl, ap}
 use Rattle.xa_base.proofs.{◌∙◌, subst, arith, None, Option, All, list_any, ints, cases_lt, All-nil, All-cons, All-head, All-tail, All-weaker}
 use Rattle.xa_words.specs.{XidName, Death, Op}
@@ -127,8 +128,7 @@ module _ (adds : (t n : ℕ) (x : XidName) (k : List ℕ) (d : ℤ) (h : History
 
       there : m ≤ length p.managers.items
       there =
-          let size : length (ledger final m).sent ≡ length (ledger desk.ledgers m).sent + length since.more =
-          ap length since.sent ∙ length-append (ledger desk.ledgers m).sent since.more in
+          let size : length (ledger final m).sent ≡ length (ledger desk.ledgers m).sent + length since.more = search (arith, since, length-append) in
           let known = known_by final m (let e = many in omega (arith, size, e)) in
           omega (arith, known, managers)
 
@@ -151,11 +151,7 @@ module _ (adds : (t n : ℕ) (x : XidName) (k : List ℕ) (d : ℤ) (h : History
     IsAlone b = OnlyTheseName b.xid t (length (ledger desk.ledgers b.m).sent) (length (ledger new b.m).sent) (history s b.m)
 
     both_alone : AreLeftAlone s t (branches_of one two) (sent_so_far desk.ledgers) (sent_so_far new)
-    both_alone = record {
-      each =
-          All-cons IsAlone one.branch (two.branch ∷ []) (left_alone one legs.first first_up both_worked.0)
-          (All-cons IsAlone two.branch [] (left_alone two legs.second second_up both_worked.1) (All-nil IsAlone));
-    }
+    both_alone = search (arith, All-cons, left_alone, first_up, both_worked, second_up, All-nil)
 
     zero_sum : added_by_all p s t desk.ledgers (branches_of one two) ≡ pos 0
     zero_sum = grind (arith, added, first_up, both_worked, second_up, add_nothing)
@@ -183,8 +179,7 @@ module _ (adds : (t n : ℕ) (x : XidName) (k : List ℕ) (d : ℤ) (h : History
   only_worked : (account : List ℕ) (one two : Leg) (old at : List LedgerView) → HaveWorked (changes_of one two account) (branches_of one two) old at
       → OnlyTransfers p s t old (pos 0)
       → OnlyTransfers p s t at (pos 0)
-  only_worked account one two old at work only =
-      only_quiet old at (quiet_work account one two old at work) only
+  only_worked account one two old at work only = search (arith, only_quiet, quiet_work)
 
   -- before it told any branch
   only_untold : (account : List ℕ) (one two : Leg) (at : Death) (old : List LedgerView) (desk : DeskView) (new : List LedgerView) (log later : LogState) (known : Done)
@@ -204,8 +199,7 @@ module _ (adds : (t n : ℕ) (x : XidName) (k : List ℕ) (d : ℤ) (h : History
   only_died n account one two legs death.Told old desk new log later known work died clear before after only =
       let made = told_made (branches_of one two) desk new log later known died clear.1 in
       only_decided n account one two legs old desk new log later known work made before after clear.0 only
-  only_died n account one two legs at old desk new log later known work died clear before after only =
-      only_untold account one two at old desk new log later known work died died.dies.far.asked only
+  only_died n account one two legs at old desk new log later known work died clear before after only = search (arith, only_untold, died.dies.far.asked)
 
   -- ---- any transfer
 
@@ -234,8 +228,7 @@ module _ (adds : (t n : ℕ) (x : XidName) (k : List ℕ) (d : ℤ) (h : History
       only_commit n tr.account one two (legs_are t n tr one two legs) (death_in habits n) o old.ledgers desk new.ledgers log left work comes fine before after only
   only_one n tr habits o old new log later (with_legs one two left legs (refused unlogged why h) kept read) fine before after only =
       only_quiet_one one two old.ledgers new.ledgers h only
-  only_one n tr habits o old new log later (without_legs is none same unlogged) fine before after only =
-      subst (λ (q : DeskView). OnlyTransfers p s t q.ledgers (pos 0)) (sym same) only
+  only_one n tr habits o old new log later (without_legs is none same unlogged) fine before after only = search (arith, rules)
 
   only_next : {R : LogState → Type 0} (n : ℕ) (tr : Transfer) (habits : Habits) (o : WorkOutcome) (old new : DeskView) (log later : LogState)
       → MakesNext t n tr habits o old new log later R → IsUndoubted o → Earlier t n old.ledgers → Later (n + 1) new.ledgers
@@ -252,8 +245,7 @@ module _ (adds : (t n : ℕ) (x : XidName) (k : List ℕ) (d : ℤ) (h : History
       → MakesEach t habits n trs os old new log later R → All IsUndoubted os → Earlier t n old.ledgers → Later (n + length trs) new.ledgers
       → OnlyTransfers p s t old.ledgers (pos 0)
       → OnlyTransfers p s t new.ledgers (pos 0)
-  only_each R habits n trs [] old new log later h fine before after only =
-      subst (λ (q : DeskView). OnlyTransfers p s t q.ledgers (pos 0)) (sym (none_made R t habits n trs old new log later h).0) only
+  only_each R habits n trs [] old new log later h fine before after only = search (arith, none_made)
   only_each R habits n (tr ∷ trs) (o ∷ os) old new log later (mid, now, makes, rest) fine before after only =
       let later_on : Later (n + 1) mid.ledgers =
       have_on (Names t (IsFrom (n + 1))) mid.ledgers new.ledgers final (transfers_name R t habits (n + 1) trs os mid new now later rest)
@@ -270,10 +262,8 @@ module _ (adds : (t n : ℕ) (x : XidName) (k : List ℕ) (d : ℤ) (h : History
       → HaveSent (λ op. ⊥) last.ledgers final → OnlyTransfers p s t final (pos 0)
   only_transfers R trs habits os begun last log later thread nothing all fine end =
       let opening_ : DeskView = all.opened in
-      let makes : MakesEach t habits habits.first trs os opening_ last log later R =
-      subst (λ u. MakesEach u habits habits.first trs os opening_ last log later R) thread all.makes in
-      let quiet : HaveSent IsNone begun.ledgers opening_.ledgers =
-      have_as IsOpenRm IsNone (λ op is. ap is_commit is) begun.ledgers opening_.ledgers all.opens in
+      let makes : MakesEach t habits habits.first trs os opening_ last log later R = search (arith, habits.first) in
+      let quiet : HaveSent IsNone begun.ledgers opening_.ledgers = search (arith, have_as, begun.ledgers, opening_.ledgers) in
       let before : Earlier t habits.first opening_.ledgers = λ m positive.
       let z = all.opens m positive in
       subst (All (Names t (IsBelow habits.first))) (sym (z.sent ∙ ap (λ l. l ++ z.more) (nothing m positive))) (All-weaker IsOpenRm (Names t (IsBelow habits.first)) (opens_names t (IsBelow habits.first)) z.more z.each) in
@@ -288,8 +278,7 @@ pub all_told : (R : LogState → Type 0) (s : Settling) (t : ℕ) (trs : List Tr
     → HaveSent (λ op. ⊥) last.ledgers (ledgers_of s t) → (m : ℕ) → 1 ≤ m → All (Names t IsAny) (sent s t m)
 all_told R s t trs habits os begun last log later thread nothing all end m positive =
     let final : List LedgerView = ledgers_of s t in
-    let makes : MakesEach t habits habits.first trs os all.opened last log later R =
-    subst (λ u. MakesEach u habits habits.first trs os all.opened last log later R) thread all.makes in
+    let makes : MakesEach t habits habits.first trs os all.opened last log later R = search (arith, habits.first, all.opened) in
     let z =
     have_on (Names t IsAny) begun.ledgers last.ledgers final
     (have_on (Names t IsAny) begun.ledgers all.opened.ledgers last.ledgers (have_as IsOpenRm (Names t IsAny) (opens_names t IsAny) begun.ledgers all.opened.ledgers all.opens)

@@ -1,5 +1,6 @@
 -- Which requests of a settled journal name a branch: those of its own transfer, where each thread's requests name only the
 -- branches of its own transfers.
+use Rattle.std.proofs.Common.{rules}
 use Rattle.xa_base.proofs.{◌≡◌, ◌≢◌, ℕ, suc, ◌+◌, ◌^◌, ◌<◌, ◌≤◌, ◌⊎◌, ⊎_elim, true, false, ◌==◌, cond, List, [], ◌∷◌, ◌++◌, length, get_or, sym, refl, ap, ◌∙◌}
 use Rattle.xa_base.proofs.{subst, arith, eq-eqb, All, cases_eq, eqb-false, All-nil, All-cons, All-head, All-tail, All-append, All-weaker, all_right}
 use Rattle.xa_words.specs.{XidName, Op, Request}

@@ -1,3 +1,4 @@
+use Rattle.std.proofs.Common.{arith}
 use Rattle.xa_base.proofs.{◌≡◌, ℕ, ◌==◌, Bool, true, if◌then◌else◌, None, Option, Some, ap, ◌∙◌, eq-eqb, subst, sym}
 use Rattle.xa_bank.specs.{ShutsAt, store_if_at, MayShut}
 use Rattle.xa_bank.proofs.teller.shut.Goals as goal
@@ -6,6 +7,5 @@ pub returns-then-shuts-place-clause-shuts : goal.returns-then-shuts-place-clause
 returns-then-shuts-place-clause-shuts g c =
     let is : c.args.habits.now.shuts ≡ Some c.in-Some.shuts = cc in
     let here : (c.in-Some.shuts.place == c.args.place) ≡ true = eq-eqb c.in-Some.shuts.place c.args.place c.if-shuts-place.true in
-    let store : store_if_at c.args.habits.now.shuts c.args.place ≡ Some c.in-Some.shuts.store =
-    ap (λ (o : Option ShutsAt). store_if_at o c.args.place) is ∙ ap (λ (b : Bool). if b then Some c.in-Some.shuts.store else None) here in
+    let store : store_if_at c.args.habits.now.shuts c.args.place ≡ Some c.in-Some.shuts.store = search (arith, c.in-Some.shuts.store) in
     subst (λ (o : Option ℕ). MayShut o c.args.desk.now c.native.new.desk) (sym store) (c.native.result, c.native.ensures.calls)

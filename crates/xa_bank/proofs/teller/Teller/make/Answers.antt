@@ -49,10 +49,7 @@ module _ {L : Type 0} (state : L → LogState) (knows : L → Type 0) (loses : T
   -- a log that has lost the record stays so
   kept_read : (kept : L) → IfLost (λ votes. kept ≡ left) o → IsReadEither (IsReadAs state knows loses left) bs (state was) o
       → IsReadEither (IsReadAs state knows loses kept) bs (state was) o
-  kept_read kept =
-      if_both (λ votes. kept ≡ left) (λ votes. (tran : TranName) (read : LogState) → IsTranOf bs tran → IsReadAs state knows loses left read → IsEither (state was) read tran (yes_of bs votes))
-      (λ votes. (tran : TranName) (read : LogState) → IsTranOf bs tran → IsReadAs state knows loses kept read → IsEither (state was) read tran (yes_of bs votes)) o
-      (λ votes same read tran found one may. read tran found one (subst (λ (l : L). IsReadAs state knows loses l found) same may))
+  kept_read kept = search (arith, if_both)
 
   -- what the unit of work came to, and what is kept of its record
   made : Transacts bs (c ∷ c' ∷ []) (death_if_at habits.death place) o shut new (state was) (knows was) (state left) → (knows was → LeavesKnown (knows left) o)
@@ -89,8 +86,7 @@ returns-in_err-outcome-clause-wants g c =
       one = leg_by c.in-Some.legs.0.0 c.in-Some.legs.0.1;
       two = leg_by c.in-Some.legs.1.0 c.in-Some.legs.1.1;
       legs = legs.legs;
-      given_up =
-          subst (λ (cs : List Change). IsGivenUp (c.in-Some.legs.0.0 ∷ c.in-Some.legs.1.0 ∷ []) cs c.shut.new.desk c.transact_until.new.desk log) (λ i. legs.first i ∷ legs.second i ∷ []) c.in_err-outcome.ensures.wants;
+      given_up = search (arith, c.shut.new.desk, c.transact_until.new.desk, legs.first, legs.second);
     })
 
 pub returns-clause-makes : goal.returns-clause-makes
@@ -105,22 +101,8 @@ returns-clause-makes g c =
     let state = g.L.DecisionLog.state in
     let legs =
     subst (λ t. HasLegs t number tr b c.in-Some.legs.0.1 c.in-Some.legs.1.0 c.in-Some.legs.1.1) (own_thread c.thread.ensures.thread c.shut.ensures.goes_on) c.in-Some.ensures in
-    let is : state kept ≡ (if habits.forgets then forgotten (tran_of b.xid) o (state left) else state left) =
-    elim c.if-self.branch [
-      | then-self w ↦
-          ap (λ (u : Teller g.row.L.Denot). state u.log) w.self-is ∙ w.forget_made.ensures.forgotten
-          ∙ ap (λ (t : TranName). forgotten t o (state left)) w.tran.ensures
-          ∙ sym (ap (λ (f : Bool). if f then forgotten (tran_of b.xid) o (state left) else state left) w.if-self.true)
-      | else-self w ↦
-          ap (λ (u : Teller g.row.L.Denot). state u.log) w.self-is
-          ∙ sym (ap (λ (f : Bool). if f then forgotten (tran_of b.xid) o (state left) else state left) w.if-self.false)
-    ] in
-    let same : IfLost (λ votes. kept ≡ left) o =
-    elim c.if-self.branch [
-      | then-self w ↦
-          subst (λ (l : g.row.L.Denot). IfLost (λ votes. l ≡ left) o) (sym (ap (λ (u : Teller g.row.L.Denot). u.log) w.self-is)) w.forget_made.ensures.lost
-      | else-self w ↦ if_so (λ votes. kept ≡ left) o (λ _ votes. ap (λ (u : Teller g.row.L.Denot). u.log) w.self-is)
-    ] in
+    let is : state kept ≡ (if habits.forgets then forgotten (tran_of b.xid) o (state left) else state left) = search (arith, then-self, else-self) in
+    let same : IfLost (λ votes. kept ≡ left) o = search (arith, then-self, else-self, if_so, c.if-self.branch) in
     record {
       shut = c.shut.new.desk;
       shuts = shuts_at habits c.args.place c.args.desk.now c.shut.new.desk c.shut.ensures.shuts;

@@ -16,12 +16,7 @@ one_made : (R : LogState → Type 0) (t place : ℕ) (habits : Habits) (trs : Li
     → place < length trs → length more ≡ place → u ≡ t
     → MakesEach t habits habits.first (take place trs) more old mid log now R → MakesNext u (habits.first + place) tr habits o mid new now later R
     → MakesEach t habits habits.first (take place trs ++ tr ∷ unmade) (more ++ o ∷ []) old new log later R
-one_made R t place habits trs tr unmade more o u old mid new log now later below many same makes made =
-    let size = length-take place trs in
-    let number : habits.first + place ≡ habits.first + length (take place trs) = omega (arith, size, below) in
-    let its : MakesNext t (habits.first + place) tr habits o mid new now later R =
-    subst (λ k. MakesNext k (habits.first + place) tr habits o mid new now later R) same made in
-    makes_more R t habits habits.first (take place trs) more tr unmade o old mid new log now later (omega (arith, many, size, below)) makes (subst (λ n. MakesNext t n tr habits o mid new now later R) number its)
+one_made R t place habits trs tr unmade more o u old mid new log now later below many same makes made = search (arith, length-take, makes_more, habits.first)
 
 still_none : (more : List WorkOutcome) (o : WorkOutcome) → list_any is_last more ≡ false → is_last o ≡ false
     → list_any is_last (more ++ o ∷ []) ≡ false
@@ -87,8 +82,7 @@ loop-place-preserved g c =
     c.loop-place.invariant.habits c.in_ok-outcome.ensures.makes in
     let all =
     one_made reads t place habits trs tr [] more o c.loop-place.desk.thread first c.loop-place.desk c.make.new.desk log (g.L.DecisionLog.state c.loop-place.self.log) later below many same (each_any (IsReadAs g.L.DecisionLog.state g.L.DecisionRecords.knows g.L.DecisionLog.loses c.loop-place.self.log) reads t habits habits.first (take place trs) more first c.loop-place.desk log (g.L.DecisionLog.state c.loop-place.self.log) none makes) makes_next in
-    let taken : take (place + 1) trs ≡ take place trs ++ tr ∷ [] =
-    one_more trs place tr below (subst (λ (v : Vec Transfer Global). tr ≡ slice_index_or v.items place tr) c.loop-place.invariant.transfers c.index.ensures) in
+    let taken : take (place + 1) trs ≡ take place trs ++ tr ∷ [] = search (arith, one_more, slice_index_or, c.loop-place.invariant.transfers) in
     let size : length (more ++ o ∷ []) ≡ length more + 1 = length-append more (o ∷ []) in
     let lives : is_last o ≡ false = sym c.is_last-last.ensures ∙ c.if-last.false in
     record {
@@ -130,8 +124,7 @@ returns-then-last-clause-made g c =
     c.loop-place.invariant.habits c.in_ok-outcome.ensures.makes in
     let all =
     one_made reads t place habits trs tr rest more o c.loop-place.desk.thread first c.loop-place.desk c.make.new.desk log (g.L.DecisionLog.state c.loop-place.self.log) later below many same (each_any (IsReadAs g.L.DecisionLog.state g.L.DecisionRecords.knows g.L.DecisionLog.loses c.loop-place.self.log) reads t habits habits.first (take place trs) more first c.loop-place.desk log (g.L.DecisionLog.state c.loop-place.self.log) none makes) makes_next in
-    let taken : take (place + 1) trs ≡ take place trs ++ tr ∷ [] =
-    one_more trs place tr below (subst (λ (v : Vec Transfer Global). tr ≡ slice_index_or v.items place tr) c.loop-place.invariant.transfers c.index.ensures) in
+    let taken : take (place + 1) trs ≡ take place trs ++ tr ∷ [] = search (arith, one_more, slice_index_or, c.loop-place.invariant.transfers) in
     let parts : take place trs ++ tr ∷ rest ≡ trs =
     sym (append_assoc (take place trs) (tr ∷ []) rest) ∙ ap (λ l. l ++ rest) (sym taken) ∙ take-append-drop (place + 1) trs in
     let whole : more ++ o ∷ [] ≡ more ++ o ∷ [] = refl in
