@@ -1,26 +1,127 @@
--- How a branch ends that voted to commit, over openings one after another, by what it stands at as the first of them ends.
-use Rattle.xa_base.proofs.{arith, ℤ, pos, ◌⊎◌, ◌≡◌, ◌≢◌, ℕ, inl, inr, ⊎_elim, Bool, true, false, if◌then◌else◌, List, [], ◌∷◌, ◌++◌, sym, ap, ◌∙◌, subst, Some}
-use Rattle.xa_base.proofs.{All, Contains, All-head, All-tail, some_same}
-use Rattle.xa_base.specs.{MOST_MANAGERS, IsUpTo}
-use Rattle.xa_words.specs.{XidName, tran_of, RmFail, Prepare}
-use Rattle.xa_tables.specs.{HeuristicDecision, state_of, is_left_in, is_prepared, Fate, fate, coded, tables_after, decided_fate, is_in_doubt as is_unknown}
-use Rattle.xa_tables.specs.{IsFateOf, share, AreLeft, commits_over, told_by, Tables, History}
-use Rattle.xa_tables.specs.Histories as history
-use Rattle.xa_switch.specs.{IsOpenedWith, first_of, history as history_of, settled_fate, IsSettled, Settling}
-use Rattle.xa_scan.specs.{left_at}
-use Rattle.xa_driver.specs.{Branch, Ending, Outcome, is_decided}
-use Rattle.xa_atomicity.specs.{IsAddition, prepare_of, WasAtFirst, is_heuristic, told_fate, AreInARow, EndsAs, IsKept, IsListed, OnlyResolves, Opening}
-use Rattle.xa_atomicity.specs.{ResolveCall, became, ended_as, fate_through, last_of, resolves, tables_left, uses_of, IsUnlisted, SharesOver, commits_after}
-use Rattle.xa_atomicity.specs.{histories, Tabled}
+-- How a branch ends that voted to commit, over openings one after another, by what it stands at as the first of them ends,
+-- and what its additions count for.
+use Rattle.xa_atomicity.proofs.Words.{arith, ◌≡◌, ℕ, Bool, true, false, if◌then◌else◌, List, [], ◌∷◌, ◌++◌, sym, refl, ap, ◌∙◌, subst, Option, Some, All}
+use Rattle.xa_atomicity.proofs.Words.{All-head, All-tail, all_left, MOST_MANAGERS, IsUpTo, XidName, Request, HeuristicDecision, State, is_left_in, Fate}
+use Rattle.xa_atomicity.proofs.Words.{accepted, coded, commits_later, decided_fate, ending_by, fate, first_shut, is_in_doubt as is_unknown, is_live, last_or}
+use Rattle.xa_atomicity.proofs.Words.{late, or_later, parted, tables_after, commits_over, reopened, reopened_fate, Tables, History, IsOpenedWith, first_of}
+use Rattle.xa_atomicity.proofs.Words.{history as history_of, settled_fate, IsSettled, Settling, Ending, Opening, ended_as, fate_through, histories, Tabled, ℤ}
+use Rattle.xa_atomicity.proofs.Words.{pos, ◌⊎◌, ◌≢◌, inl, inr, ⊎_elim, Contains, some_same, tran_of, RmFail, Prepare, state_of, is_prepared, IsFateOf, share}
+use Rattle.xa_atomicity.proofs.Words.{AreLeft, told_by, left_at, Branch, Outcome, is_decided, IsAddition, prepare_of, WasAtFirst, is_heuristic, told_fate}
+use Rattle.xa_atomicity.proofs.Words.{AreInARow, EndsAs, IsKept, IsListed, OnlyResolves, ResolveCall, became, last_of, resolves, tables_left, uses_of}
+use Rattle.xa_atomicity.proofs.Words.{IsUnlisted, SharesOver, commits_after}
 use Rattle.xa_atomicity.specs.Worth.{is_committed}
-use Rattle.xa_atomicity.proofs.Counting.{committed_so, counts_so, walk_counts}
-use Rattle.xa_atomicity.proofs.Shares.{add_place, commits_or, share_is}
-use Rattle.xa_atomicity.proofs.EndsByFate.{Through, End, decided_one, decision_so, ends_so, is_decided_so, is_known_so, untold, left_in_doubt}
-use Rattle.xa_atomicity.proofs.Later.{Walk, ends_with, walk, walk_after, walk_ends, walk_tells}
-use Rattle.xa_atomicity.proofs.Leading.{Stands, IsOver}
-use Rattle.xa_atomicity.proofs.Placing.{request_of, fates}
+use Rattle.xa_tables.specs.declared.state.HeuristicDecision.TheVariants as decision
+use Rattle.xa_tables.specs.Histories as history
+use Rattle.xa_atomicity.proofs.Later.{last_ended, Walk, stands_first, ends_with, walk, walk_after, walk_ends, walk_tells}
+use Rattle.xa_atomicity.proofs.Leading.{IsTowards, Stands, waits, unforgotten, over, as_decided, led_fates, IsOver}
+use Rattle.xa_atomicity.proofs.Sites.{fates, request_of}
+use Rattle.xa_atomicity.proofs.EndsByFate.{Comes, ends, tells, leaves, once, AtEnd, unknown_so, Through, End, decided_one, decision_so, ends_so}
+use Rattle.xa_atomicity.proofs.EndsByFate.{is_decided_so, is_known_so, untold, left_in_doubt}
+use Rattle.xa_atomicity.proofs.Values.{commits_by, commits_or, add_place, share_is}
 use Rattle.xa_atomicity.proofs.Records.{FindsMark}
-use Rattle.xa_atomicity.proofs.Voting.{AtEnd, once, unknown_so}
+
+-- ---- by the fate at the end of the first opening
+
+-- a fate that isn't unknown is how it ended
+ends_by : (f : Fate) (b : Bool) → f ≡ ended_as b → ending_by f ≡ Some (is_committed f)
+ends_by f true e = ap ending_by e ∙ ap (λ g. Some (is_committed g)) (sym e)
+ends_by f false e = ap ending_by e ∙ ap (λ g. Some (is_committed g)) (sym e)
+
+decides_by : (f : Fate) (d : HeuristicDecision) → f ≡ decided_fate d → ending_by f ≡ Some (is_committed f)
+decides_by f decision.Commit e = ap ending_by e ∙ ap (λ g. Some (is_committed g)) (sym e)
+decides_by f decision.Rollback e = ap ending_by e ∙ ap (λ g. Some (is_committed g)) (sym e)
+
+ending_so : (commit : Bool) (W L : Type 0) (s : Option State) (f : Fate) (e : Ending) → Comes commit W L s f e → is_unknown f ≡ false
+    → ending_by f ≡ Some (is_committed f)
+ending_so commit W L s f e (ends g) known = ends_by f commit g
+ending_so commit W L s f e (tells d g h) known = decides_by f d g
+ending_so commit W L s f e (leaves why left st) known = by_standing st
+  where
+    by_standing : Stands commit true (f ≡ history.InDoubt) L s f → ending_by f ≡ Some (is_committed f)
+    by_standing (waits y open_ state g) = let z : true ≡ false = sym (ap is_unknown g) ∙ known in cc
+    by_standing (unforgotten d state g l) = decides_by f d g
+    by_standing (over state g) = let z : true ≡ false = sym left ∙ ap is_left_in state in cc
+
+-- it counts where it was committed
+pub counts_so : (commit : Bool) (W L : Type 0) (s : Option State) (f through : Fate) (e : Ending) (after : Bool) → Comes commit W L s f e
+    → (is_unknown f ≡ true → after ≡ is_committed through)
+    → commits_or after (history.InDoubt ∷ once f) ≡ is_committed (if is_unknown f then through else f)
+counts_so commit W L s f through e after comes later = search (arith, commits_or, ending_so)
+
+-- ---- through the later openings
+
+module _ (commit : Bool) where
+  abbrev IsEnded : Fate → Type 0
+  IsEnded f = f ≡ ended_as commit
+
+  pub committed_so : is_committed (ended_as commit) ≡ commit
+  committed_so = elim commit as (λ b. is_committed (ended_as b) ≡ b) [ true ↦ refl | false ↦ refl ]
+
+  ended_by : ending_by (ended_as commit) ≡ Some commit
+  ended_by = elim commit as (λ b. ending_by (ended_as b) ≡ Some b) [ true ↦ refl | false ↦ refl ]
+
+  -- by the fates of one opening, where it was in doubt, and what is known of the later ones
+  count_list : (fs : List Fate) (g : Fate) (after : Fate → Bool) (through : Fate → Fate) → All IsEnded fs → g ≡ history.InDoubt
+      → (last_or g fs ≡ history.InDoubt → after (last_or g fs) ≡ is_committed (through (last_or g fs)))
+      → (IsEnded (last_or g fs) → IsEnded (through (last_or g fs))) → commits_or (after (last_or g fs)) fs ≡ is_committed (through (last_or g fs))
+  count_list [] g after through all e unknown known = unknown e
+  count_list (f ∷ fs) g after through all e unknown known =
+      let here : IsEnded f = All-head IsEnded f fs all in
+      let there : IsEnded (last_or f fs) = last_ended commit fs f here (All-tail IsEnded f fs all) in
+      ap (λ o. or_later o (commits_or (after (last_or f fs)) fs)) (ap ending_by here ∙ ended_by) ∙ sym (ap is_committed (known there) ∙ committed_so)
+
+module _ (law : Tabled) (first : (s : Settling) (m : ℕ) (T : Tables) → IsSettled s → first_of s m ≡ Some T → IsOpenedWith s m T) (commit : Bool) (D L : Type 0)
+    (m : ℕ) (up : IsUpTo MOST_MANAGERS m) (x : XidName) where
+  abbrev CountsThrough : List Opening → Fate → Tables → Type 0
+  CountsThrough os f T =
+      (f ≡ history.InDoubt → commits_over x f (histories m os) T ≡ is_committed (fate_through m x f os))
+      × (IsEnded commit f → IsEnded commit (fate_through m x f os))
+
+  -- one more opening before them
+  module _ (p : Opening) (ps : List Opening) (f g : Fate) (T T1 : Tables) (tables_are : T1 ≡ reopened T) (fate_is : g ≡ reopened_fate f)
+      (all : All (IsEnded commit) (fates x (accepted (history_of p.settled m)) T1))
+      (settled_is : settled_fate p.settled m x g ≡ fate x g (history_of p.settled m) T1) (rest : CountsThrough ps (settled_fate p.settled m x g) (tables_after (history_of p.settled m) T1)) where
+    abbrev H1 : History
+    H1 = history_of p.settled m
+
+    abbrev fs : List Fate
+    fs = fates x (accepted H1) T1
+
+    abbrev over_them : Fate → Bool
+    over_them h = commits_over x h (histories m ps) (tables_after H1 T1)
+
+    abbrev over_all : Fate → Tables → Bool
+    over_all h W = commits_later (commits_over x (fate x h H1 W) (histories m ps) (tables_after H1 W)) x (coded (accepted H1) W)
+
+    rest_so : CountsThrough ps (last_or g fs) (tables_after H1 T1)
+    rest_so = subst (λ (h : Fate). CountsThrough ps h (tables_after H1 T1)) settled_is rest
+
+    waiting : f ≡ history.InDoubt → commits_over x f (histories m (p ∷ ps)) T ≡ is_committed (fate_through m x (settled_fate p.settled m x g) ps)
+    waiting e =
+        let unknown : g ≡ history.InDoubt = fate_is ∙ ap reopened_fate e in
+        let same : f ≡ g = e ∙ sym unknown in
+        ap (λ b. if b then false else over_all f (reopened T)) (ap is_live e)
+        ∙ (λ i. over_all (same i) (sym tables_are i))
+        ∙ commits_by (over_them (last_or g fs)) x (accepted H1) T1
+        ∙ count_list commit fs g over_them (λ h. fate_through m x h ps) all unknown rest_so.0 rest_so.1
+        ∙ ap (λ h. is_committed (fate_through m x h ps)) (sym settled_is)
+
+    done : IsEnded commit f → IsEnded commit (fate_through m x (settled_fate p.settled m x g) ps)
+    done e = rest.1 (settled_is ∙ last_ended commit fs g (fate_is ∙ ap reopened_fate e ∙ as_decided commit) all)
+
+  -- all of them
+  pub walk_counts : (os : List Opening) (T : Tables) (f : Fate) → Walk law first commit D L m up x os T f → CountsThrough os f T
+  walk_counts [] T f w = (λ e. sym (ap is_committed e), λ e. e)
+  walk_counts (p ∷ ps) T f w =
+      let T1 : Tables = reopened T in
+      let g : Fate = reopened_fate f in
+      let H1 : History = history_of p.settled m in
+      let with_T1 : IsOpenedWith p.settled m T1 = first p.settled m T1 w.0.kept.settled w.0.begins in
+      let towards_accepted : All (λ (r : Request). IsTowards commit L x r.op) (accepted H1) =
+      all_left (λ (r : Request). IsTowards commit L x r.op) (accepted H1) (first_shut H1 ++ late H1) (subst (All (λ (r : Request). IsTowards commit L x r.op)) (parted H1) w.0.towards) in
+      let all : All (IsEnded commit) (fates x (accepted H1) T1) = search (arith, led_fates, stands_first) in
+      let rest : CountsThrough ps (settled_fate p.settled m x g) (tables_after H1 T1) = walk_counts ps (tables_after H1 T1) (settled_fate p.settled m x g) w.1 in
+      (waiting p ps f g T T1 refl refl all (with_T1.fates x g) rest, done p ps f g T T1 refl refl all (with_T1.fates x g) rest)
 
 -- nothing but resolves names the branch later, and they find what was decided
 pub record IsMarked (later : List Opening) (commit : Bool) (b : Branch) : Type 0 where
@@ -38,8 +139,7 @@ module _ (law : Tabled) (first : (s : Settling) (m : ℕ) (T : Tables) → IsSet
   abbrev later : List Opening
   later = between ++ last ∷ []
 
-  abbrev s : Settling
-  s = o.settled
+  open o use {settled as s}
 
   kept_o : IsKept o
   kept_o = All-head IsKept o later kept
@@ -47,8 +147,7 @@ module _ (law : Tabled) (first : (s : Settling) (m : ℕ) (T : Tables) → IsSet
   module _ (commit : Bool) (W : Type 0) (b : Branch) (t n : ℕ) (e : Ending) (up : IsUpTo MOST_MANAGERS b.m) (T : Tables) (begins : first_of s b.m ≡ Some T)
       (at_end : (K : Type 0) → AtEnd commit W K b.xid (fate b.xid (told_by (state_of T b.xid)) (history_of s b.m) T) (history_of s b.m) T e)
       (marked : W → is_left_in (state_of (tables_after (history_of s b.m) T) b.xid) ≡ true → IsMarked (between ++ last ∷ []) commit b) (reached : (r : Outcome) → Contains q.outcomes r → r.m ≡ b.m → r.xid ≡ b.xid → r.code ≢ RmFail) where
-    abbrev m : ℕ
-    m = b.m
+    open b use {m}
 
     abbrev H : History
     H = history_of s m

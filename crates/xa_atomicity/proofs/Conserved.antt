@@ -1,26 +1,22 @@
 -- Transfers conserve what all accounts are worth together, but for what branches in doubt hold.
-use Rattle.xa_driver.specs.{is_commit, Branch, Done, Ending, Committed, ReadOnly, RolledBack, InDoubt, Heuristic, Left, is_no, IsCommit, AreBranchesRising}
-use Rattle.xa_driver.specs.{has_branch_at, HasSentNoCommit, NoCommitWasSent}
-use Rattle.xa_atomicity.proofs.Moves.{within_parts, is_within, moved_parted, moved_none, moved_without, moved_alike, moved_nothing}
-use Rattle.xa_atomicity.proofs.Requests.{none_all, all_earlier}
-use Rattle.xa_atomicity.proofs.Settled.{sent_between, Both, all_outcomes, growth_law, by_ledger}
-use Rattle.std.proofs.lemmas.Option.{slice_get_past}
-use Rattle.xa_base.proofs.{ne_eqb, or_from, cases_lt, eqb-true, eqb-false, le-leb, or_parts, ℤ, pos, ◌+ℤ◌, All, nat_le, ◌&&◌, ◌≡◌, ℕ, zero, suc, ◌+◌, ◌-◌, ◌<◌}
-use Rattle.xa_base.proofs.{◌≤◌, ◌==◌, Bool, true, false, if◌then◌else◌, ⊎_elim, List, [], ◌∷◌, length, length-append, get_or, sym, refl, ap, ◌∙◌, subst, arith}
-use Rattle.xa_base.proofs.{list_any, range_with_len, ints, +ℤ_idl as none_plus, +ℤ_idr as plus_none, contains_at, range_all, total_alike, total_both}
-use Rattle.xa_base.proofs.{total_nothing, All-contains}
-use Rattle.xa_base.specs.{Begins, total}
-use Rattle.xa_words.specs.{XidName, Request, Code}
-use Rattle.xa_tables.specs.{Tables, are_accounts, opening, tables_after, moved, held_by, is_of, HoldsItsAdditions, History}
-use Rattle.xa_desk.specs.{LedgerView, DeskView, ledger, HaveGrown}
-use Rattle.xa_desk.proofs.Growth.{growing_on, same_lists}
-use Rattle.xa_switch.specs.{Plan, IsSoundManager, IsSettled, sent, IsOpenedWith, ledgers_of, history, threads_of, managers_of, accounts_in, accounts_of}
-use Rattle.xa_switch.specs.{plan_worth, settled_worth, moved_by, WorthIsOfThreads, Settling}
-use Rattle.xa_log.specs.{LogState}
-use Rattle.xa_atomicity.specs.{EachOutcome, AreLeftAlone, has_committed, is_rolled_back, is_in_doubt, is_heuristic, is_left, is_read_only, sent_so_far}
-use Rattle.xa_atomicity.specs.{taken_before, added_before, added_by_all, total_in_doubt, held_in_doubt, OnlyTransfers, opened, worked, committed, Tabled}
-use Rattle.xa_atomicity.specs.Outcomes.{is_committed}
-use Rattle.xa_atomicity.proofs.OneOutcome.{committed_law}
+use Rattle.xa_atomicity.proofs.Words.{is_commit, Branch, Ending, Committed, ReadOnly, RolledBack, InDoubt, Heuristic, Left, is_no, IsCommit}
+use Rattle.xa_atomicity.proofs.Words.{AreBranchesRising, has_branch_at, HasSentNoCommit, NoCommitWasSent, slice_get_past, ne_eqb, or_from, cases_lt, eqb-true}
+use Rattle.xa_atomicity.proofs.Words.{eqb-false, le-leb, or_parts, ℤ, pos, ◌+ℤ◌, All, nat_le, ◌&&◌, ◌≡◌, ℕ, zero, suc, ◌+◌, ◌-◌, ◌<◌, ◌≤◌, ◌==◌, Bool, true}
+use Rattle.xa_atomicity.proofs.Words.{false, if◌then◌else◌, ⊎_elim, List, [], ◌∷◌, length, length-append, get_or, sym, refl, ap, ◌∙◌, subst, arith, list_any}
+use Rattle.xa_atomicity.proofs.Words.{range_with_len, ints, +ℤ_idl as none_plus, +ℤ_idr as plus_none, contains_at, range_all, total_alike, total_both}
+use Rattle.xa_atomicity.proofs.Words.{total_nothing, All-contains, Begins, total, XidName, Request, Code, Tables, are_accounts, opening, tables_after, moved}
+use Rattle.xa_atomicity.proofs.Words.{held_by, is_of, HoldsItsAdditions, History, LedgerView, DeskView, ledger, HaveGrown, growing_on, same_lists, Plan}
+use Rattle.xa_atomicity.proofs.Words.{IsSoundManager, IsSettled, sent, IsOpenedWith, ledgers_of, history, threads_of, managers_of, accounts_in, accounts_of}
+use Rattle.xa_atomicity.proofs.Words.{plan_worth, settled_worth, WorthIsOfThreads, Settling, LogState, EachOutcome, AreLeftAlone, has_committed}
+use Rattle.xa_atomicity.proofs.Words.{is_rolled_back, is_heuristic, is_left, is_read_only, sent_so_far, taken_before, added_before, added_by_all}
+use Rattle.xa_atomicity.proofs.Words.{total_in_doubt, held_in_doubt, OnlyTransfers, opened, worked, committed, Tabled, is_committed}
+use Rattle.xa_driver.specs.{Done}
+use Rattle.xa_switch.specs.{moved_by}
+use Rattle.xa_atomicity.specs.{is_in_doubt}
+use Rattle.xa_atomicity.proofs.Values.{within_parts, is_within, moved_parted, moved_none, moved_without, moved_alike, moved_nothing}
+use Rattle.xa_atomicity.proofs.Sites.{none_all, all_earlier}
+use Rattle.xa_atomicity.proofs.Settled.{sent_between, Both, all_outcomes, growth_law, by_ledger, outcome_all}
+use Rattle.xa_atomicity.proofs.OneOutcome.{committed_law, positive_all}
 
 begins_length : {X : Type 0} (xs ys : List X) → Begins xs ys → length xs ≤ length ys
 begins_length xs ys b = let e : length ys ≡ length xs + length b.0 = ap length b.1 ∙ length-append xs b.0 in omega (arith, e)
@@ -82,13 +78,16 @@ module _ (law : Tabled) (opens : (s : Settling) (m : ℕ) → IsSettled s → (T
   abbrev moved_until : List LedgerView → ℤ
   moved_until at = total (λ m. moved_in m 0 (count at m)) (managers_of p)
 
+  -- what agrees at each manager agrees at all
+  all_alike : (f g : ℕ → ℤ) → ((m : ℕ) → 1 ≤ m → f m ≡ g m) → total f (managers_of p) ≡ total g (managers_of p)
+  all_alike f g same = total_alike f g (managers_of p) (range_all (λ m. f m ≡ g m) 1 (length p.managers.items) (λ m positive below. same m positive))
+
   -- what is sent between two moments counts between them
   moved_on : (at later : List LedgerView) → HaveGrown at later
       → moved_until later ≡ moved_until at +ℤ total (λ m. moved_in m (count at m) (count later m)) (managers_of p)
   moved_on at later grown =
-      total_alike (λ m. moved_in m 0 (count later m)) (λ m. moved_in m 0 (count at m) +ℤ moved_in m (count at m) (count later m)) (managers_of p)
-      (range_all (λ m. moved_in m 0 (count later m) ≡ moved_in m 0 (count at m) +ℤ moved_in m (count at m) (count later m)) 1 (length p.managers.items) (λ m positive below.
-      moved_parted (accounts_of p m) t (count at m) (count later m) (history s m) (opening (accounts_of p m)) (begins_length _ _ (grown.each m positive).sent)))
+      all_alike (λ m. moved_in m 0 (count later m)) (λ m. moved_in m 0 (count at m) +ℤ moved_in m (count at m) (count later m)) (λ m positive.
+      moved_parted (accounts_of p m) t (count at m) (count later m) (history s m) (opening (accounts_of p m)) (begins_length _ _ (grown.each m positive).sent))
       ∙ total_both (λ m. moved_in m 0 (count at m)) (λ m. moved_in m (count at m) (count later m)) (managers_of p)
 
   -- requests without a Commit move nothing
@@ -156,12 +155,6 @@ module _ (law : Tabled) (opens : (s : Settling) (m : ℕ) → IsSettled s → (T
         })
         (cases_lt (length p.managers.items) b.m)
 
-    all_moves : (lo : ℕ) (bs : List Branch) (vs : List Code) (es : List Ending) → AreBranchesRising lo bs
-        → EachOutcome (λ b v e. Both law opens s t b (count old b.m) (count new b.m) v e) bs vs es → EachOutcome BranchMoves bs vs es
-    all_moves lo [] [] [] r h = tt
-    all_moves lo (b ∷ bs) (v ∷ vs) (e ∷ es) r h = let up = r.0 in (branch_moves b v e (omega (arith, up)) h.0, all_moves b.m bs vs es r.1 h.1)
-    all_moves lo bs vs es r h = absurd h
-
     abbrev moved_for : List Branch → ℤ
     moved_for bs = total (λ b. moved_in b.m (count old b.m) (count new b.m)) bs
 
@@ -201,14 +194,13 @@ module _ (law : Tabled) (opens : (s : Settling) (m : ℕ) → IsSettled s → (T
   module _ (bs : List Branch) (desk : DeskView) (new : List LedgerView) (log later : LogState) (d : Done) (made : IsCommit bs desk new log later d)
       (grown : HaveGrown new (ledgers_of s t)) (alone : AreLeftAlone s t bs (sent_so_far desk.ledgers) (sent_so_far new))
       (zero_sum : added_by_all p s t desk.ledgers bs ≡ pos 0) where
-    abbrev old : List LedgerView
-    old = desk.ledgers
+    open desk use {ledgers as old}
 
     -- what the call moved, with what is in doubt, is nothing
     call_moves : moved_for old new bs +ℤ held_in_doubt p s t old bs d ≡ pos 0
     call_moves =
         let each =
-        all_moves old new 0 bs d.votes.items d.endings.items made.may.rising (all_outcomes law opens s t bs desk new log later d settled made grown alone) in
+        outcome_all (λ b. 1 ≤ b.m) (λ b v e. Both law opens s t b (count old b.m) (count new b.m) v e) (BranchMoves old new) (branch_moves old new) bs d.votes.items d.endings.items (positive_all 0 bs made.may.rising) (all_outcomes law opens s t bs desk new log later d settled made grown alone) in
         elim (has_committed d) as (λ c. has_committed d ≡ c → moved_for old new bs +ℤ (if c then total_in_doubt (added_before p s t old) bs d.endings.items else pos 0) ≡ pos 0) [
           | true ↦ λ some.
               let whole = committed_law made.may.tran bs desk new log later d made made.may.one some in
@@ -229,13 +221,11 @@ module _ (law : Tabled) (opens : (s : Settling) (m : ℕ) → IsSettled s → (T
   pub thread_law : (at : List LedgerView) (doubt : ℤ) → OnlyTransfers p s t at doubt → HaveGrown at (ledgers_of s t) → moved_until at +ℤ doubt ≡ pos 0
   thread_law _ _ (opened at nothing) grown =
       plus_none _
-      ∙ total_alike (λ m. moved_in m 0 (count at m)) (λ m. pos 0) (managers_of p)
-      (range_all (λ m. moved_in m 0 (count at m) ≡ pos 0) 1 (length p.managers.items) (λ m positive below. ap (λ l. moved_in m 0 (length l)) (nothing m positive) ∙ none_within m 0))
+      ∙ all_alike (λ m. moved_in m 0 (count at m)) (λ m. pos 0) (λ m positive. ap (λ l. moved_in m 0 (length l)) (nothing m positive) ∙ none_within m 0)
       ∙ total_nothing (managers_of p)
   thread_law _ _ (worked at later doubt before growth none) grown =
       let quiet : total (λ m. moved_in m (count at m) (count later m)) (managers_of p) ≡ pos 0 =
-      total_alike (λ m. moved_in m (count at m) (count later m)) (λ m. pos 0) (managers_of p)
-      (range_all (λ m. moved_in m (count at m) (count later m) ≡ pos 0) 1 (length p.managers.items) (λ m positive below. quiet_between at later grown none m positive))
+      all_alike (λ m. moved_in m (count at m) (count later m)) (λ m. pos 0) (quiet_between at later grown none)
       ∙ total_nothing (managers_of p) in
       ap (λ v. v +ℤ doubt) (moved_on at later growth ∙ ap (λ v. moved_until at +ℤ v) quiet ∙ plus_none _)
       ∙ thread_law at doubt before (growing_on at later (ledgers_of s t) growth grown)
@@ -249,8 +239,7 @@ module _ (law : Tabled) (opens : (s : Settling) (m : ℕ) → IsSettled s → (T
   -- in the end its requests are all those of the thread
   whole_thread : moved_by p s t ≡ moved_until (ledgers_of s t)
   whole_thread =
-      total_alike (λ m. moved (accounts_of p m) (is_of t) (history s m) (opening (accounts_of p m))) (λ m. moved_in m 0 (count (ledgers_of s t) m)) (managers_of p)
-      (range_all (λ m. moved (accounts_of p m) (is_of t) (history s m) (opening (accounts_of p m)) ≡ moved_in m 0 (count (ledgers_of s t) m)) 1 (length p.managers.items) (λ m positive below.
+      all_alike (λ m. moved (accounts_of p m) (is_of t) (history s m) (opening (accounts_of p m))) (λ m. moved_in m 0 (count (ledgers_of s t) m)) (λ m positive.
       moved_alike (accounts_of p m) (is_of t) (is_within t 0 (count (ledgers_of s t) m)) (history s m) (opening (accounts_of p m)) (λ k d lt.
       let r : Request = get_or (history s m) k d in
       elim (r.thread == t) as (λ b. (r.thread == t) ≡ b → b ≡ (b && (nat_le 0 r.number && nat_le (suc r.number) (count (ledgers_of s t) m)))) [
@@ -261,7 +250,7 @@ module _ (law : Tabled) (opens : (s : Settling) (m : ℕ) → IsSettled s → (T
             let up : nat_le (suc r.number) (count (ledgers_of s t) m) ≡ true = le-leb (suc r.number) (count (ledgers_of s t) m) (omega (arith, lower, many)) in
             sym (λ i. from i && up i)
         | false ↦ λ e. refl
-      ] refl)))
+      ] refl))
 
   pub conserved_by : (doubt : ℤ) → OnlyTransfers p s t (ledgers_of s t) doubt → moved_by p s t +ℤ doubt ≡ pos 0
   conserved_by doubt only = ap (λ v. v +ℤ doubt) whole_thread ∙ thread_law (ledgers_of s t) doubt only (same_lists (ledgers_of s t) (ledgers_of s t) refl)

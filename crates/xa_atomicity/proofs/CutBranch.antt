@@ -1,31 +1,22 @@
 -- What a branch stands at as the opening ends in which its commit was cut short.
-use Rattle.xa_base.proofs.{rules, false_from_ne_true, ◌≡◌, ℕ, suc, ◌+◌, inl, inr, Bool, true, false, if◌then◌else◌, List, [], ◌∷◌, ◌++◌, length, length-append}
-use Rattle.xa_base.proofs.{append-nil, append_assoc, slice_get, get_or, sym, refl, ap, ◌∙◌, subst, arith, Option, Some, None, All, Contains, All-append}
-use Rattle.xa_base.proofs.{All-cons, All-contains, All-head, begins_on, some_same, all_mid, all_right, all_after, at_true}
-use Rattle.xa_atomicity.proofs.CutVotes.{vote_there, HasVoted, ended_voted, first_is, forget_sends, other_sends, prepare_sent, told_voted}
-use Rattle.xa_atomicity.proofs.Voting.{ends, leaves, tells, AtEnd, Comes, once, tells_so, told_decided}
-use Rattle.xa_atomicity.proofs.Leading.{waits, unforgotten, over, IsTowards, Stands, ends_towards}
-use Rattle.xa_atomicity.proofs.Sites.{Site, StandsIn, above, at_place, below, later_place, stands_by}
-use Rattle.xa_atomicity.proofs.Asked.{is_told_decision, second_so, third_so}
-use Rattle.std.proofs.lemmas.Bool.{both_ways}
-use Rattle.xa_atomicity.proofs.Courses.{yes_wanted}
-use Rattle.xa_base.specs.{Begins}
-use Rattle.xa_words.specs.{XidName, Done, RmFail, Op, Prepare, Request, Code}
-use Rattle.xa_words.proofs.Xids.{xid_self}
-use Rattle.xa_tables.specs.{HeuristicDecision, State, is_left_in, decision_code, next, Fate, IsFateOf, coded, decided_fate, fate, last_or, tables_after}
-use Rattle.xa_tables.specs.{IsTold as IsToldDecision, names, Tables, History}
+use Rattle.xa_atomicity.proofs.Words.{rules, false_from_ne_true, ◌≡◌, ℕ, suc, ◌+◌, inl, inr, Bool, true, false, if◌then◌else◌, List, [], ◌∷◌, ◌++◌, length}
+use Rattle.xa_atomicity.proofs.Words.{length-append, append_assoc, slice_get, get_or, sym, refl, ap, ◌∙◌, subst, arith, Option, Some, None, All, Contains}
+use Rattle.xa_atomicity.proofs.Words.{All-contains, All-head, some_same, all_after, at_true, both_ways, Begins, XidName, Done, RmFail, Op, Prepare, Request}
+use Rattle.xa_atomicity.proofs.Words.{Code, xid_self, HeuristicDecision, State, is_left_in, decision_code, next, Fate, decided_fate, fate, last_or}
+use Rattle.xa_atomicity.proofs.Words.{tables_after, names, Tables, History, LedgerView, learnt_shut, with_sent, with_collected, numbered, Branch, Ending}
+use Rattle.xa_atomicity.proofs.Words.{IsAnswered, IsBegun, asked, collected, in_flight, unasked, is_decided, second_op, third_op, yes_ending, outcome_op}
+use Rattle.xa_atomicity.proofs.Words.{IsAsked, IsEnded, IsTold, IsBetween, OnlyTheseOrDecisionsName, told_fate, IsAskedFor, all_left, any_asked}
+use Rattle.xa_atomicity.proofs.Words.{tables_after-append, ◌<◌, Any}
+use Rattle.std.proofs.lemmas.List.Elements.{Contains-push}
 use Rattle.xa_tables.specs.Histories as history
-use Rattle.xa_tables.proofs.Law.{opening_sound, run_sound}
-use Rattle.xa_desk.specs.{LedgerView, learnt_shut, with_sent, with_collected, numbered}
-use Rattle.xa_switch.specs.{answers}
-use Rattle.xa_driver.specs.{Branch, Ending, IsAnswered, IsBegun, asked, collected, in_flight, unasked, is_decided, second_op, third_op, yes_ending, outcome_op}
-use Rattle.xa_atomicity.specs.{IsAsked, IsEnded, IsTold, IsBetween, OnlyTheseOrDecisionsName, told_fate}
-use Rattle.xa_driver.proofs.Mapped.{IsAskedFor}
-use Rattle.xa_atomicity.proofs.EndsByFate.{decision_so, is_decided_so}
-use Rattle.xa_atomicity.proofs.Guided.{IsGuided, at_last, fate_any, fates_from, fates_once}
-use Rattle.xa_atomicity.proofs.Placing.{fates, fates_both, request_of, same_code, at_seam}
-use Rattle.xa_atomicity.proofs.Requests.{IsFromTo, own_between}
-use Rattle.xa_atomicity.proofs.Resolves.{Sends}
+use Rattle.xa_atomicity.proofs.CutVotes.{vote_there, HasVoted, ended_voted, first_is, forget_sends, other_sends, prepare_sent, told_voted}
+use Rattle.xa_atomicity.proofs.EndsByFate.{ends, leaves, tells, AtEnd, Comes, once, told_decided, decision_so}
+use Rattle.xa_atomicity.proofs.Leading.{waits, unforgotten, over, IsTowards, Stands, ends_towards}
+use Rattle.xa_atomicity.proofs.Sites.{Site, StandsIn, above, at_place, below, later_place, fates, request_of, same_code, at_seam, IsFromTo, own_between}
+use Rattle.xa_atomicity.proofs.OneOutcome.{is_told_decision, second_so, third_so}
+use Rattle.xa_atomicity.proofs.Courses.{yes_wanted}
+use Rattle.xa_atomicity.proofs.Guided.{IsGuided, at_last, fate_any, fates_from, guided_after, stands_now, told_there}
+use Rattle.xa_atomicity.proofs.Resolves.{Sends, contains_on}
 
 -- ---- what was sent
 
@@ -112,37 +103,31 @@ pub ended_voted_so : (commit : Bool) (L : Type 0) (b : Branch) (v : Code) (s : O
     → IsEnded commit b v s a a' → HasVoted (IsTowards commit L b.xid) b v a a'
 ended_voted_so commit L b v s a a' may = search (arith, ended_voted, other_towards, second_towards, third_towards, b.xid)
 
--- The second request of a branch was sent after others, and was told a code.
+-- The second request of a branch was sent after its Prepare, and was told a code.
 pub record WasTold (commit : Bool) (x : XidName) (c : Code) (a a' : LedgerView) : Type 0 where
-  pub gap : List Op
-  pub rest : List Op
-  pub sent : a'.sent ≡ a.sent ++ Prepare x ∷ (gap ++ outcome_op commit x ∷ rest)
-  pub all : All (IsTowards commit (Unit {0}) x) (gap ++ outcome_op commit x ∷ rest)
-  pub earlier : List (ℕ × Code)
-  pub collected : Begins (earlier ++ (suc (length a.sent) + length gap, c) ∷ []) a'.collected
+  pub number : ℕ
+  pub later : length a.sent < number
+  pub sent : slice_get a'.sent number ≡ Some (outcome_op commit x)
+  pub told : Contains a'.collected (number, c)
 
 pub was_told : (commit : Bool) (b : Branch) (v c : Code) (a a' : LedgerView) → IsEnded commit b v (Some c) a a' → learnt_shut a ≡ false → v ≡ Done
     → is_decided c ≡ true → WasTold commit b.xid c a a'
 was_told commit b v c a a' z open_ agreed decided =
     let x : XidName = b.xid in
     let op : Op = outcome_op commit x in
-    let Q : Op → Type 0 = IsTowards commit (Unit {0}) x in
     let wanted : second_op commit x v ≡ Some op = ap (second_op commit x) agreed ∙ yes_wanted commit x in
     let refused : learnt_shut z.start ≡ true → c ≡ RmFail = subst (λ o. IsAnswered z.start o (Some c)) wanted z.seconded in
     let open_now : learnt_shut z.start ≡ false = search (arith, false_from_ne_true, both_ways) in
     let two : LedgerView = with_collected (with_sent z.start op) (length z.start.sent) c in
     let is_two : asked z.start (second_op commit x v) (Some c) ≡ two = search (arith, rules) in
-    let last : Sends Q two a' =
-    subst (λ (l : LedgerView). Sends Q l a') is_two (forget_sends Q commit b v a a' (other_towards commit (Unit {0}) x) (second_towards commit (Unit {0}) x v) (Some c) (third_towards commit (Unit {0}) x (Some c) (λ _. tt)) z) in
+    let last : Sends Any two a' =
+    subst (λ (l : LedgerView). Sends Any l a') is_two (forget_sends Any commit b v a a' (λ _ _. tt) (any_asked (second_op commit x v)) (Some c) (any_asked (third_op x (Some c))) z) in
     let first : z.start.sent ≡ a.sent ++ Prepare x ∷ z.between.more = search (arith, first_is, append_assoc, a.sent) in
-    let number : length z.start.sent ≡ suc (length a.sent) + length z.between.more = search (arith, length-append, a.sent) in
     record {
-      gap = z.between.more;
-      rest = last.more;
-      sent = search (arith, append_assoc, z.start.sent, a.sent);
-      all = All-append Q z.between.more (op ∷ last.more) (λ k d lt. other_towards commit (Unit {0}) x (get_or z.between.more k d) (z.between.others k d lt)) (All-cons Q op last.more (ends_towards commit (Unit {0}) x x) last.all);
-      earlier = z.start.collected;
-      collected = subst (λ k. Begins (z.start.collected ++ (k, c) ∷ []) a'.collected) number last.collected;
+      number = length z.start.sent;
+      later = let e = ap length first in omega (arith, e, length-append a.sent (Prepare x ∷ z.between.more));
+      sent = ap (λ l. slice_get l (length z.start.sent)) (last.sent ∙ append_assoc z.start.sent (op ∷ []) last.more) ∙ at_seam z.start.sent op last.more;
+      told = contains_on two.collected a'.collected (length z.start.sent, c) last.collected (Contains-push z.start.collected (length z.start.sent, c));
     }
 
 -- where nothing that it was sent ends a decision, it ended as was decided, or it was left, in doubt or decided by itself
@@ -201,53 +186,28 @@ module _ {t : ℕ} {T : Tables} {H : History} (s : Site t T H) (x : XidName) (a 
     any = any_so ⊥ h f;
   }
 
-  -- where its second request was told a decision, that is its fate
-  module _ (pairs : List (ℕ × Code)) (answered : All (λ p. slice_get (answers t (coded H T)) p.0 ≡ Some p) pairs) (begins : Begins a'.collected pairs)
-      (f : StandsIn t n P Done T H) (c : Code) (z : WasTold commit x c a a') where
-    abbrev op : Op
-    op = outcome_op commit x
+  -- where its second request was told a decision, that is its fate, and its ending tells so
+  module _ (h : HasSentOnly commit (Unit {0}) x a a') (f : StandsIn t n P Done T H) (k : ℕ) (past : n < k) (c : Code)
+      (second : StandsIn t k (outcome_op commit x) c T H) where
+    told_fate_is : (d : HeuristicDecision) → c ≡ decision_code d → (g : Fate) → fate x g H T ≡ decided_fate d
+    told_fate_is d e g =
+        let Q : Request → Type 0 = λ r. IsGuided commit (Unit {0}) x r.op in
+        let P1 : Request = request_of t n P in
+        let S : Request = request_of t k (outcome_op commit x) in
+        let all = guide (Unit {0}) h Done f in
+        let later = later_place t f.before second.before P1 S f.after second.after (sym f.place ∙ second.place) refl past (below s n P f.before f.after f.place) in
+        let parts = subst (All Q) later.after all in
+        let now : Tables = (next t P (tables_after f.before T)).0 in
+        let code : (next t (outcome_op commit x) (tables_after later.mid now)).1 ≡ decision_code d =
+        sym (second.code ∙ ap (λ (h : History). (next t (outcome_op commit x) (tables_after h T)).1) later.before ∙ ap (λ (U : Tables). (next t (outcome_op commit x) U).1) (tables_after-append f.before (P1 ∷ later.mid) T)) ∙ e in
+        s.law.leaves H x g T ∙ fate_any s.law commit (Unit {0}) (Unit {0}) t n x T H s.opening f.before f.after f.place (sym f.code) all g
+        ∙ told_there s.law commit (Unit {0}) (Unit {0}) t k x now f.after later.mid second.after history.InDoubt later.after
+        (guided_after commit (Unit {0}) (Unit {0}) x later.mid now history.InDoubt (all_left Q later.mid (S ∷ second.after) parts) (stands_now s.law commit (Unit {0}) (Unit {0}) t n x T H s.opening f.before f.after f.place (sym f.code) all tt)) (all_after Q later.mid S second.after parts) d code
 
-    abbrev k : ℕ
-    k = suc n + length z.gap
-
-    abbrev told_only : HasSentOnly commit (Unit {0}) x a a'
-    told_only = record { rest = z.gap ++ op ∷ z.rest; sent = z.sent; all = z.all }
-
-    second : StandsIn t k op c T H
-    second =
-        let Q : ℕ × Code → Type 0 = λ p. slice_get (answers t (coded H T)) p.0 ≡ Some p in
-        let sends : s.ops ≡ (a.sent ++ P ∷ z.gap) ++ op ∷ (z.rest ++ grown.0) = search (arith, append_assoc) in
-        let many : length (a.sent ++ P ∷ z.gap) ≡ k = let e = length-append a.sent (P ∷ z.gap) in omega (arith, e) in
-        let all = begins_on (z.earlier ++ (k, c) ∷ []) a'.collected pairs z.collected begins in
-        stands_by s k op c ((λ i. slice_get (sends i) (sym many i)) ∙ at_seam (a.sent ++ P ∷ z.gap) op (z.rest ++ grown.0)) (all_mid Q z.earlier all.0 (k, c) (subst (All Q) (all.1 ∙ append_assoc z.earlier ((k, c) ∷ []) all.0) answered))
-
-    abbrev there : Tables
-    there = tables_after second.before T
-
-    abbrev rest : History
-    rest = request_of t k op ∷ second.after
-
-    -- nothing more is made of it
-    module _ (d : HeuristicDecision) (e : c ≡ decision_code d) where
-      is_told : IsToldDecision x d there (next t op there)
-      is_told = tells_so s.law commit t x d there (sym second.code ∙ e)
-
-      silent : fates x rest there ≡ []
-      silent =
-          let Q : Request → Type 0 = λ r. IsGuided commit (Unit {0}) x r.op in
-          let later =
-          later_place t f.before second.before (request_of t n P) (request_of t k op) f.after second.after (sym f.place ∙ second.place) refl (omega arith) (below s n P f.before f.after f.place) in
-          (fates_once commit (Unit {0}) (Unit {0}) x rest there (decided_fate d) (all_right Q later.mid rest (subst (All Q) later.after (guide (Unit {0}) told_only Done f)))
-          (record { stands = unforgotten d is_told.state refl (inl refl); sound = run_sound second.before T (opening_sound T s.opening) })).0 (is_decided_so (decided_fate d) d refl)
-
-      told_fate_is : (g : Fate) → IsFateOf x g T → fate x g H T ≡ decided_fate d
-      told_fate_is g fits = search (arith, second, fates_both, silent, append-nil, is_told)
-
-    -- and its ending tells so
-    pub told_end : is_decided c ≡ true → (L : Type 0) (g : Fate) → IsFateOf x g T → AtEnd commit (Unit {0}) L x (fate x g H T) H T (yes_ending commit (Some c))
-    told_end decided L g fits =
+    pub told_end : is_decided c ≡ true → (L : Type 0) (g : Fate) → AtEnd commit (Unit {0}) L x (fate x g H T) H T (yes_ending commit (Some c))
+    told_end decided L g =
         let d = decision_so c decided in
         record {
-          comes = tells d.0 (told_fate_is d.0 d.1 g fits) (ap (λ (q : Code). told_fate (yes_ending commit (Some q))) d.1 ∙ told_decided commit d.0);
-          any = any_so (Unit {0}) told_only f;
+          comes = tells d.0 (told_fate_is d.0 d.1 g) (ap (λ (q : Code). told_fate (yes_ending commit (Some q))) d.1 ∙ told_decided commit d.0);
+          any = any_so (Unit {0}) h f;
         }

@@ -1,24 +1,94 @@
--- The votes that a commit got which was cut short, and what it leaves in the log.
-use Rattle.xa_atomicity.specs.{IsAsked, CameSoFar, known_at, DidOther, EachVote, IsCut, IsEnded, IsTold, asking, forgetting, telling, IsKept, NamesTran}
-use Rattle.xa_atomicity.specs.{OnlyResolves, Opening}
-use Rattle.xa_base.proofs.{◌==◌, ◌||◌, ◌+◌, zero, slice_get, ◌<◌, arith, ◌≡◌, ℕ, Bool, true, false, ◌&&◌, List, [], ◌∷◌, ◌++◌, length, append-nil, append_assoc}
-use Rattle.xa_base.proofs.{get_or, sym, refl, ap, ◌∙◌, subst, Option, Some, unwrap_or, or-true, eq-eqb, ne_eqb, false_from_ne_true, or_from, eqb-true}
-use Rattle.xa_base.proofs.{begins_on, all_mid, same_begins, Contains-append_right, All-nil, All-cons, Contains, All, at_false}
-use Rattle.xa_driver.specs.{has_yes, voted_yes, yes_of, is_yes, AreBranchesRising, Logs, decision_of, EachBranch, IsCommit, IsTranOf, voted, Branch, Done}
-use Rattle.xa_driver.specs.{Ending, IsAnswered, IsBegun, asked, collected, in_flight, unasked, second_op, third_op, ending_of, AtBranch, AsksLedger}
-use Rattle.std.proofs.lemmas.Bool.{both_ways}
-use Rattle.xa_atomicity.proofs.Placing.{at_seam, request_of}
-use Rattle.xa_base.specs.{MOST_MANAGERS, Begins, IsUpTo}
-use Rattle.xa_words.specs.{XidName, TranName, tran_of, RmFail, Op, Prepare, Request, Code}
-use Rattle.xa_tables.specs.{names}
-use Rattle.xa_desk.specs.{LedgerView, learnt_shut, with_sent, with_collected, ledger, HaveGrown, DeskView}
-use Rattle.xa_switch.specs.{ledgers_of, history as history_of}
-use Rattle.xa_log.specs.{LogState}
-use Rattle.xa_driver.proofs.Mapped.{Any, IsAskedFor, any_asked}
-use Rattle.xa_driver.proofs.Traces.{trace_of}
-use Rattle.xa_atomicity.proofs.Naming.{named_so, no_prepare, prepare_part, IsNoPrepare}
+-- What names a transaction in an opening where only resolves do; and the votes that a commit got which was cut short, and
+-- what it leaves in the log.
+use Rattle.xa_atomicity.proofs.Words.{arith, ◌≡◌, ◌≢◌, ℕ, suc, ◌+◌, ◌≤◌, Bool, true, false, List, ◌∷◌, ◌++◌, length, append_assoc, refl, ap, ◌∙◌, Option, All}
+use Rattle.xa_atomicity.proofs.Words.{Contains, All-contains, MOST_MANAGERS, IsUpTo, XidName, Decides-xid_eq, TranName, tran_of, Op, OpenRm, Start, End}
+use Rattle.xa_atomicity.proofs.Words.{Prepare, Commit, Rollback, Forget, Heur, Code, History, of_thread, names, LedgerView, ledger, HasGrown, numbered}
+use Rattle.xa_atomicity.proofs.Words.{Settling, IsSettled, sent, ledgers_of, history as history_of, Branch, Ending, Outcome, AsksLedger, outcome_op, AtBranch}
+use Rattle.xa_atomicity.proofs.Words.{Records, ResolveCall, Use, commits, cuts, resolves, IsUseIn, NamesTran, HasSent, Asks, IsAsked, CameSoFar, known_at}
+use Rattle.xa_atomicity.proofs.Words.{DidOther, EachVote, IsCut, IsEnded, IsTold, asking, forgetting, telling, IsKept, OnlyResolves, Opening, ◌==◌, ◌||◌}
+use Rattle.xa_atomicity.proofs.Words.{zero, slice_get, ◌<◌, ◌&&◌, [], append-nil, get_or, sym, subst, Some, unwrap_or, or-true, eq-eqb, ne_eqb}
+use Rattle.xa_atomicity.proofs.Words.{false_from_ne_true, or_from, eqb-true, begins_on, all_mid, same_begins, Contains-append_right, All-nil, All-cons}
+use Rattle.xa_atomicity.proofs.Words.{at_false, has_yes, voted_yes, yes_of, is_yes, AreBranchesRising, Logs, decision_of, EachBranch, IsCommit, IsTranOf}
+use Rattle.xa_atomicity.proofs.Words.{voted, IsAnswered, IsBegun, asked, collected, in_flight, unasked, second_op, third_op, ending_of, both_ways, Begins}
+use Rattle.xa_atomicity.proofs.Words.{RmFail, Request, learnt_shut, with_sent, with_collected, HaveGrown, DeskView, LogState, Any, IsAskedFor, any_asked}
+use Rattle.xa_atomicity.proofs.Words.{trace_of}
+use Rattle.xa_driver.specs.{Done}
+use Rattle.std.proofs.lemmas.List.Elements.{Contains-push}
+use Rattle.xa_atomicity.proofs.Settled.{sent_between, by_ledger}
+use Rattle.xa_atomicity.proofs.Sites.{Parted, request_of, part, numbered_both, at_seam}
+use Rattle.xa_atomicity.proofs.Resolves.{Sends, resolve_sends, asked_sends, stays, on, contains_on}
 use Rattle.xa_atomicity.proofs.Records.{is_marked, logs_keep}
-use Rattle.xa_atomicity.proofs.Resolves.{Sends, asked_sends, stays, on}
+use Rattle.xa_atomicity.proofs.OneOutcome.{branch_map}
+
+-- what a thread sent to a manager
+pub sent_is : (s : Settling) (m : ℕ) → 1 ≤ m → (t : ℕ) → sent s t m ≡ (ledger (ledgers_of s t) m).sent
+sent_is s m positive t = by_ledger (ledgers_of s t) m (λ (z : LedgerView). z.sent) positive refl
+
+-- ---- what resolves sent
+
+module _ (s : Settling) (settled : IsSettled s) (m : ℕ) (up : IsUpTo MOST_MANAGERS m) where
+  abbrev H : History
+  H = history_of s m
+
+  -- what a use of the log sent to it is so
+  abbrev pub Passes : (Op → Type 0) → Use → Type 0
+  Passes P u = All (λ r. HasSent m r u → P r.op) H
+
+  resolve_passes : (P : Op → Type 0) (q : ResolveCall) → IsUseIn s (resolves q) → P OpenRm → ((o : Outcome) → Contains q.outcomes o → Asks P q.records m o)
+      → Passes P (resolves q)
+  resolve_passes P q use_ opens asks =
+      let z : Sends P (ledger q.old m) (ledger q.new m) = resolve_sends q.scan q.records q.old q.new q.outcomes use_.made P m up opens asks in
+      λ k d lt has. sent_between s settled q.thread m up.0 P (ledger q.old m) (ledger q.new m) z.more z.sent z.all (use_.grown.each m up.0) k d lt has.thread has.from has.below
+
+  use_passes : (P : Op → Type 0) → P OpenRm → (u : Use) → IsUseIn s u
+      → ((q : ResolveCall) → u ≡ resolves q → (o : Outcome) → Contains q.outcomes o → Asks P q.records m o) → Passes P u
+  use_passes P opens (commits c) use_ asks = λ k d lt has. absurd has
+  use_passes P opens (cuts c) use_ asks = λ k d lt has. absurd has
+  use_passes P opens (resolves q) use_ asks = resolve_passes P q use_ opens (asks q refl)
+
+  -- so is each request that names the transaction, where nothing but resolves does
+  pub named_so : (P : Op → Type 0) (t : TranName) (us : List Use) → P OpenRm → All (IsUseIn s) us
+      → ((q : ResolveCall) → Contains us (resolves q) → (o : Outcome) → Contains q.outcomes o → Asks P q.records m o)
+      → All (λ r. NamesTran t r.op → (u : Use) × (Contains us u × HasSent m r u)) H → All (λ r. NamesTran t r.op → P r.op) H
+  named_so P t us opens uses asks only k d lt named = search (arith, use_passes, All-contains)
+
+-- a request that names a branch names its transaction
+pub named_tran : (x : XidName) (op : Op) → names x op ≡ true → NamesTran (tran_of x) op
+named_tran x (Start y how) n = ap tran_of ((Decides-xid_eq y x).0 n)
+named_tran x (End y how) n = ap tran_of ((Decides-xid_eq y x).0 n)
+named_tran x (Prepare y) n = ap tran_of ((Decides-xid_eq y x).0 n)
+named_tran x (Commit y one_phase) n = ap tran_of ((Decides-xid_eq y x).0 n)
+named_tran x (Rollback y) n = ap tran_of ((Decides-xid_eq y x).0 n)
+named_tran x (Forget y) n = ap tran_of ((Decides-xid_eq y x).0 n)
+named_tran x (Heur y by_commit) n = ap tran_of ((Decides-xid_eq y x).0 n)
+named_tran x op n = cc
+
+-- ---- what a commit asks
+
+abbrev pub Traced : Bool → List LedgerView → List LedgerView → Branch → Code → Option Code → Ending → Type 0
+Traced commit old new b v z e = AtBranch AsksLedger commit b v z e (ledger old b.m) (ledger new b.m)
+
+-- where a Prepare that was sent stands in the history
+pub prepare_part : (s : Settling) → IsSettled s → (m : ℕ) → 1 ≤ m → (t : ℕ) (x : XidName) (a a' : LedgerView) → HasGrown a' (ledger (ledgers_of s t) m)
+    → (more : List Op) → a'.sent ≡ a.sent ++ Prepare x ∷ more
+    → (later : List Op) × Parted t (numbered t 0 a.sent) (numbered t (suc (0 + length a.sent)) later) (request_of t (0 + length a.sent) (Prepare x)) (history_of s m)
+prepare_part s settled m positive t x a a' grown more is =
+    let later : List Op = more ++ grown.sent.0 in
+    let ops : sent s t m ≡ a.sent ++ Prepare x ∷ later = search (arith, sent_is, append_assoc, a.sent) in
+    let own : of_thread t (history_of s m) ≡ numbered t 0 a.sent ++ request_of t (0 + length a.sent) (Prepare x) ∷ numbered t (suc (0 + length a.sent)) later =
+    (settled.agree t m).carried ∙ ap (numbered t 0) ops ∙ numbered_both t 0 a.sent (Prepare x ∷ later) in
+    (later, part t (history_of s m) (numbered t 0 a.sent) (numbered t (suc (0 + length a.sent)) later) (request_of t (0 + length a.sent) (Prepare x)) own)
+
+-- what a resolve sends is no Prepare
+abbrev pub IsNoPrepare : Op → Type 0
+IsNoPrepare op = (y : XidName) → op ≢ Prepare y
+
+ends_no_prepare : (commit : Bool) (x : XidName) → IsNoPrepare (outcome_op commit x)
+ends_no_prepare true x y e = cc
+ends_no_prepare false x y e = cc
+
+pub no_prepare : (records : Records) (m : ℕ) (o : Outcome) → Asks IsNoPrepare records m o
+no_prepare records m o = record { ends = λ _ _. ends_no_prepare o.commit o.xid; forgets = λ _ _ y e. cc }
 
 -- ---- what was sent
 
@@ -86,9 +156,7 @@ pub vote_there : (P : Op → Type 0) (b : Branch) (v : Code) (a a' : LedgerView)
     → Begins a'.collected pairs → Contains pairs (length a.sent, v)
 vote_there P b v a a' pairs open_ h begins =
     let took : Begins (a.collected ++ (length a.sent, v) ∷ []) a'.collected = search (arith, first_is) in
-    let all = begins_on (a.collected ++ (length a.sent, v) ∷ []) a'.collected pairs took begins in
-    subst (λ (l : List (ℕ × Code)). Contains l (length a.sent, v)) (sym (all.1 ∙ append_assoc a.collected ((length a.sent, v) ∷ []) all.0))
-    (Contains-append_right a.collected ((length a.sent, v) ∷ all.0) (length a.sent, v) (zero, omega arith, refl))
+    contains_on (a.collected ++ (length a.sent, v) ∷ []) pairs (length a.sent, v) (begins_on _ a'.collected pairs took begins) (Contains-push a.collected (length a.sent, v))
 
 -- ---- all of them
 
@@ -200,16 +268,10 @@ pub finished_law : (bs : List Branch) (desk : DeskView) (new : List LedgerView) 
     → IsCut bs desk new log later d.endings.items
 finished_law bs desk new log later d made = record {
   may = made.may;
-  far = forgetting d.votes.items d.logged made.trace.course.seconds made.trace.course.logs (subst (λ c. EachBranch (Ended c desk.ledgers new) bs d.votes.items made.trace.course.seconds d.endings.items) made.trace.course.decision (each bs d.votes.items made.trace.course.seconds d.endings.items made.trace.course.each));
+  far = forgetting d.votes.items d.logged made.trace.course.seconds made.trace.course.logs (subst (λ c. EachBranch (Ended c desk.ledgers new) bs d.votes.items made.trace.course.seconds d.endings.items) made.trace.course.decision
+      (branch_map (λ b. Unit {0}) (Traced d.commit desk.ledgers new) (Ended d.commit desk.ledgers new) (λ b v s e _ h. (ended_so d.commit b v s e (ledger desk.ledgers b.m) (ledger new b.m) h, h.ends)) bs d.votes.items made.trace.course.seconds d.endings.items (λ k e lt. tt) made.trace.course.each));
   managers = made.trace.managers;
 }
-  where
-    each : (cs : List Branch) (vs : List Code) (ss : List (Option Code)) (es : List Ending)
-        → EachBranch (λ b v s e. AtBranch AsksLedger d.commit b v s e (ledger desk.ledgers b.m) (ledger new b.m)) cs vs ss es
-        → EachBranch (Ended d.commit desk.ledgers new) cs vs ss es
-    each [] [] [] [] h = tt
-    each (b ∷ cs) (v ∷ vs) (s ∷ ss) (e ∷ es) h = ((ended_so d.commit b v s e (ledger desk.ledgers b.m) (ledger new b.m) h.0, h.0.ends), each cs vs ss es h.1)
-    each cs vs ss es h = absurd h
 
 -- ---- where none may be to commit
 

@@ -1,22 +1,16 @@
 -- What a branch that voted to commit stands at, where requests that lead it and heuristic decisions name it.
-use Rattle.xa_base.proofs.{rules, at_true, unwrap_or, ◌⊎◌, ◌≡◌, ℕ, inl, inr, ⊎_elim, Bool, true, false, if◌then◌else◌, List, [], ◌∷◌, ◌++◌, sym, refl, ap, ◌∙◌}
-use Rattle.xa_base.proofs.{subst, arith, Option, Some, None, All, cons_option, All-head, All-tail}
-use Rattle.std.proofs.lemmas.Bool.{both_ways}
-use Rattle.xa_words.specs.{XidName, xid_eq, Done, Op, Prepare, Commit, Rollback, Forget, Request}
-use Rattle.xa_words.proofs.Xids.{xid_self}
-use Rattle.xa_tables.specs.{State, HeuristicallyCompleted, HeuristicDecision, state_of, is_prepared, Answer, next, Fate, fate, fate_of, tables_after, last_or}
-use Rattle.xa_tables.specs.{decided_fate, is_in_doubt as is_unknown, IsOpening, names, is_heur, AwaitsAfter, fates_when, state_when, Tables, History}
-use Rattle.xa_tables.specs.declared.state.State.TheVariants.{Prepared}
+use Rattle.xa_atomicity.proofs.Words.{rules, at_true, unwrap_or, ◌⊎◌, ◌≡◌, ℕ, inl, inr, ⊎_elim, Bool, true, false, if◌then◌else◌, List, [], ◌∷◌, ◌++◌, sym}
+use Rattle.xa_atomicity.proofs.Words.{refl, ap, ◌∙◌, subst, arith, Option, Some, None, All, cons_option, All-head, All-tail, both_ways, XidName, xid_eq, Done}
+use Rattle.xa_atomicity.proofs.Words.{Op, Prepare, Commit, Rollback, Forget, Request, xid_self, State, HeuristicallyCompleted, HeuristicDecision, state_of}
+use Rattle.xa_atomicity.proofs.Words.{is_prepared, Answer, next, Fate, fate, fate_of, tables_after, last_or, decided_fate, is_in_doubt as is_unknown}
+use Rattle.xa_atomicity.proofs.Words.{IsOpening, names, is_heur, AwaitsAfter, fates_when, state_when, Tables, History, Prepared, Sound, sound_after}
+use Rattle.xa_atomicity.proofs.Words.{run_sound, opening_sound, last_more, tables_after-append, ended_as, Tabled, All-cons, decision_code, outcome_op}
+use Rattle.xa_tables.proofs.HeuristicLaw.{Decides, Nothing, Completes, decides}
 use Rattle.xa_tables.specs.declared.state.HeuristicDecision.TheVariants as decision
 use Rattle.xa_tables.specs.Histories as history
-use Rattle.xa_tables.proofs.PreparedLaw.{Decides, Nothing, Completes, decides}
-use Rattle.xa_tables.proofs.Law.{Sound, sound_after, run_sound, opening_sound, last_more}
-use Rattle.xa_tables.proofs.Unnamed.{tables_after-append}
-use Rattle.xa_atomicity.specs.{ended_as, Tabled}
-use Rattle.xa_atomicity.proofs.EndsByFate.{decided_apart}
-use Rattle.xa_atomicity.proofs.Leading.{Stands, waits, unforgotten, over, Leads, Led, Standing, step_led, IsTowards}
-use Rattle.xa_atomicity.proofs.Placing.{request_of, fates, fates_both, last_both}
-use Rattle.xa_atomicity.proofs.Voting.{once, ended_known}
+use Rattle.xa_atomicity.proofs.EndsByFate.{decided_apart, once, ended_known, tells_so}
+use Rattle.xa_atomicity.proofs.Leading.{Stands, waits, unforgotten, over, Leads, Led, Standing, step_led, IsTowards, ends_towards}
+use Rattle.xa_atomicity.proofs.Sites.{request_of, fates, fates_both, last_both}
 
 -- what the branch may be named in: a heuristic decision, or what leads it
 abbrev pub IsGuided : Bool → Type 0 → XidName → Op → Type 0
@@ -140,6 +134,51 @@ pub known_stays : (commit : Bool) (D L : Type 0) (x : XidName) (h : History) (T 
     → All (λ r. IsTowards commit L x r.op) h → Standing commit true D L x T f → fates x h T ≡ []
 known_stays commit D L x h T f known towards s = (fates_once commit D L x h T f (λ k d lt named plain. towards k d lt named) s).0 known
 
+-- ---- a request for the outcome, in its place
+
+-- what stands so and was decided has that fate
+decided_of : {commit : Bool} {D L : Type 0} {d : HeuristicDecision} {s : Option State} {f : Fate} → s ≡ Some (HeuristicallyCompleted d)
+    → Stands commit true D L s f → f ≡ decided_fate d
+decided_of {d = d} is (waits y o state known) = let z : Some Prepared ≡ Some (HeuristicallyCompleted d) = sym state ∙ is in cc
+decided_of {d = d} is (unforgotten k state known l) = search (arith, rules)
+decided_of {d = d} is (over state known) = let z : None ≡ Some (HeuristicallyCompleted d) = sym state ∙ is in cc
+
+-- XA_OK ends it
+ends_fate : (commit : Bool) (x : XidName) → fate_of x (outcome_op commit x) Done ≡ Some (ended_as commit)
+ends_fate true x = at_true (xid_eq x x) _ None (xid_self x)
+ends_fate false x = at_true (xid_eq x x) _ None (xid_self x)
+
+module _ (law : Tabled) (commit : Bool) (D L : Type 0) (t n : ℕ) (x : XidName) (T : Tables) (H before after : History) (f : Fate)
+    (place : H ≡ before ++ request_of t n (outcome_op commit x) ∷ after) (st : Standing commit true D L x (tables_after before T) (last_or f (fates x before T)))
+    (guide : All (λ r. IsGuided commit L x r.op) after) where
+  abbrev own : Request
+  own = request_of t n (outcome_op commit x)
+
+  abbrev told : Answer
+  told = next t (outcome_op commit x) (tables_after before T)
+
+  abbrev here : Fate
+  here = last_or f (fates x before T)
+
+  after_it : last_or f (fates x H T) ≡ last_or here (fates x (own ∷ after) (tables_after before T))
+  after_it = ap (λ (h : History). last_or f (fates x h T)) place ∙ ap (last_or f) (fates_both x before (own ∷ after) T) ∙ last_both f (fates x before T) _
+
+  pub ended_there : told.1 ≡ Done → last_or f (fates x H T) ≡ ended_as commit
+  ended_there e =
+      let made : fate_of x (outcome_op commit x) told.1 ≡ Some (ended_as commit) = ap (fate_of x (outcome_op commit x)) e ∙ ends_fate commit x in
+      let led = step_led commit true D L x here (tables_after before T) st.stands st.sound t (outcome_op commit x) (ends_towards commit L x x) in
+      let stands : Stands commit true D L (state_of told.0 x) (ended_as commit) = subst (λ (o : Option Fate). Stands commit true D L (state_of told.0 x) (unwrap_or o here)) made led.stands in
+      let silent : fates x after told.0 ≡ [] =
+      (fates_once commit D L x after told.0 (ended_as commit) guide (record { stands = stands; sound = sound_after t (outcome_op commit x) (tables_after before T) st.sound })).0 (ended_known commit) in
+      after_it ∙ (λ i. last_or here (cons_option (made i) (silent i)))
+
+  -- a decision that it was told is its fate
+  pub told_there : (d : HeuristicDecision) → told.1 ≡ decision_code d → last_or f (fates x H T) ≡ decided_fate d
+  told_there d e =
+      let is : here ≡ decided_fate d = decided_of (tells_so law commit t x d (tables_after before T) e).state st.stands in
+      let all : All (λ r. IsGuided commit L x r.op) (own ∷ after) = All-cons (λ (r : Request). IsGuided commit L x r.op) own after (λ named _. ends_towards commit L x x named) guide in
+      after_it ∙ ap (last_or here) ((fates_once commit D L x (own ∷ after) (tables_after before T) here all st).0 (ap is_unknown is ∙ decided_known d)) ∙ is
+
 -- ---- from the Prepare on
 
 undecided_yet : (o : Option HeuristicDecision) (s : Option State) → [] ≡ fates_when o → s ≡ Some (state_when o) → s ≡ Some Prepared
@@ -176,15 +215,16 @@ module _ (law : Tabled) (commit : Bool) (D L : Type 0) (t n : ℕ) (x : XidName)
   tables_are : tables_after H T ≡ tables_after after now
   tables_are = ap (λ (h : History). tables_after h T) place ∙ tables_after-append before (request_of t n P ∷ after) T
 
+  pub stands_now : D → Standing commit true D L x now history.InDoubt
+  stands_now doubt = record { stands = waits doubt refl prepared refl; sound = sound_after t P U (run_sound before T (opening_sound T opening)) }
+
   pub at_last : D → (f : Fate) → Standing commit true D L x (tables_after H T) (fate x f H T)
   at_last doubt f =
       subst (λ (g : Fate). Standing commit true D L x (tables_after H T) g) (sym (law.leaves H x f T ∙ fate_any f))
-      (subst (λ (V : Tables). Standing commit true D L x V (last_or history.InDoubt (fates x after now))) (sym tables_are)
-      (guided_after commit D L x after now history.InDoubt guide (record { stands = waits doubt refl prepared refl; sound = sound_after t P U (run_sound before T (opening_sound T opening)) })))
+      (subst (λ (V : Tables). Standing commit true D L x V (last_or history.InDoubt (fates x after now))) (sym tables_are) (guided_after commit D L x after now history.InDoubt guide (stands_now doubt)))
 
   -- and so what the Prepare and what is after it make of it
   pub fates_from : D → (f : Fate) → fates x (request_of t n P ∷ after) U ≡ history.InDoubt ∷ once (fate x f H T)
   fates_from doubt f =
-      let st : Standing commit true D L x now history.InDoubt = search (arith, prepared, sound_after, run_sound, opening_sound) in
       ap (λ o. cons_option o (fates x after now)) voted_now
-      ∙ ap (λ l. history.InDoubt ∷ l) ((fates_once commit D L x after now history.InDoubt guide st).1 refl ∙ ap once (sym (law.leaves H x f T ∙ fate_any f)))
+      ∙ ap (λ l. history.InDoubt ∷ l) ((fates_once commit D L x after now history.InDoubt guide (stands_now doubt)).1 refl ∙ ap once (sym (law.leaves H x f T ∙ fate_any f)))

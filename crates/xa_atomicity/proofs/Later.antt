@@ -1,31 +1,173 @@
--- What becomes of a branch that was left, through the openings up to one with a resolve that reached it.
-use Rattle.std.proofs.lemmas.Bool.{both_ways}
-use Rattle.xa_atomicity.proofs.Leading.{waits, unforgotten, over, IsOver, Stands, IsTowards, Standing, led_after, by_itself, ends_towards, stands_reopened}
-use Rattle.xa_atomicity.proofs.Leading.{is_over}
-use Rattle.xa_base.proofs.{option_map, ◌≡◌, ◌≢◌, ℕ, Bool, true, false, cond, ◌==◌, List, [], ◌∷◌, ◌++◌, slice_get, get_or, sym, refl, ap, ◌∙◌, subst, arith}
-use Rattle.xa_base.proofs.{Option, Some, None, ⊎_elim, All, Contains, All-head, All-tail, All-contains, Contains-append_left, Contains-append_right, all_left}
-use Rattle.xa_base.proofs.{all_right}
-use Rattle.std.proofs.lemmas.List.Elements.{Contains-append_cases}
-use Rattle.xa_base.specs.{MOST_MANAGERS, IsUpTo}
-use Rattle.xa_words.specs.{XidName, xid_eq, Decides-xid_eq, tran_of, RmFail, Op, Code}
-use Rattle.xa_tables.specs.{State, HeuristicDecision, state_of, is_S3, is_left_in, is_prepared, decision_code, Fate, coded, decided_fate, of_thread}
-use Rattle.xa_tables.specs.{tables_after, last_or, is_in_doubt as is_unknown, AreLeft, reopened, reopened_fate, names, Tables, History}
+-- Where the request of a resolve that was answered stands in a history, and what it leaves; and what becomes of a branch
+-- that was left, through the openings up to one with a resolve that reached it.
+use Rattle.xa_atomicity.proofs.Words.{◌&&◌, unwrap_or, ◌≡◌, ◌≢◌, ℕ, suc, ◌+◌, Bool, true, false, cond, ◌==◌, ◌||◌, List, [], ◌∷◌, ◌++◌, length, append_assoc}
+use Rattle.xa_atomicity.proofs.Words.{slice_get, get_or, sym, refl, ap, ◌∙◌, subst, arith, Option, Some, All, cons_option, nat_cmp_total, eqb-true}
+use Rattle.xa_atomicity.proofs.Words.{false_from_ne_true, All-head, All-tail, by_bool, tied_true, all_left, and_right, both_ways, XidName, RmFail, Op, OpenRm}
+use Rattle.xa_atomicity.proofs.Words.{CloseRm, Request, Code, HeuristicDecision, has_opened, decision_code, Answer, next, open_rm, Fate, decided_fate, coded}
+use Rattle.xa_atomicity.proofs.Words.{of_thread, tables_after, fate_of, last_or, closes, is_close, Tables, History, Sound, sound_after, last_more}
+use Rattle.xa_atomicity.proofs.Words.{tables_after-append, LedgerView, numbered, answers, ended_as, Tabled, outcome_op, Contains, all_after, outcome_fate}
+use Rattle.xa_atomicity.proofs.Words.{some_same, Done, HeurCom, HeurRb, option_map, None, ⊎_elim, All-contains, Contains-append_left, Contains-append_right}
+use Rattle.xa_atomicity.proofs.Words.{all_right, Contains-append_cases, MOST_MANAGERS, IsUpTo, xid_eq, Decides-xid_eq, tran_of, State, state_of, is_S3}
+use Rattle.xa_atomicity.proofs.Words.{is_left_in, is_prepared, is_in_doubt as is_unknown, AreLeft, reopened, reopened_fate, names, opening_sound, ledger}
+use Rattle.xa_atomicity.proofs.Words.{requests, last_in, IsOpenedWith, first_of, history as history_of, ledgers_of, settled_fate, ManagerPart, IsSettled}
+use Rattle.xa_atomicity.proofs.Words.{FollowsTables, find_manager, journal_in, Settling, left_at, Outcome, is_decided, is_to_commit, ResolveCall, resolves}
+use Rattle.xa_atomicity.proofs.Words.{IsUseIn, IsKept, Opening, AreInARow, OnlyResolves, uses_of, fate_through, last_of, tables_left}
+use Rattle.std.specs.FinSet.{contains-insert}
+use Rattle.xa_tables.proofs.Opened.{opened_on}
+use Rattle.xa_tables.proofs.ShutLemmas.{next-shut, shut_stays}
 use Rattle.xa_tables.specs.declared.state.HeuristicDecision.TheVariants as decision
-use Rattle.xa_tables.proofs.Law.{opening_sound}
-use Rattle.xa_desk.specs.{LedgerView, ledger, numbered}
-use Rattle.xa_worker.specs.{requests}
-use Rattle.xa_switch.specs.{last_in, IsOpenedWith, first_of, history as history_of, ledgers_of, settled_fate, ManagerPart, IsSettled, FollowsTables, answers}
-use Rattle.xa_switch.specs.{find_manager, journal_in, Settling}
-use Rattle.xa_scan.specs.{left_at}
-use Rattle.xa_driver.specs.{Outcome, is_decided, is_to_commit, outcome_op}
-use Rattle.xa_atomicity.specs.{ResolveCall, resolves, IsUseIn, IsKept, Opening, AreInARow, OnlyResolves, uses_of, fate_through, last_of, tables_left, Tabled}
-use Rattle.xa_atomicity.proofs.Answered.{Placed, placed, placed_ends, placed_tells}
-use Rattle.xa_atomicity.proofs.Guided.{decided_known, known_stays}
-use Rattle.xa_atomicity.proofs.Naming.{named_so, named_tran, sent_is}
-use Rattle.xa_atomicity.proofs.Placing.{fates}
+use Rattle.xa_tables.specs.Histories as history
+use Rattle.xa_atomicity.proofs.Leading.{IsTowards, Led, Standing, led_after, ends_it, waits, unforgotten, over, IsOver, Stands, by_itself, ends_towards}
+use Rattle.xa_atomicity.proofs.Leading.{stands_reopened, is_over}
+use Rattle.xa_atomicity.proofs.Guided.{ended_there, told_there, decided_known, known_stays}
+use Rattle.xa_atomicity.proofs.Sites.{request_of, part, numbered_both, fates, fates_both, last_both, own_all, code_there, count_two}
+use Rattle.xa_atomicity.proofs.Resolves.{IsAnsweredIn, IsNoClose, left_has, outcome_asked}
+use Rattle.xa_atomicity.proofs.CutVotes.{named_so, named_tran, sent_is}
 use Rattle.xa_atomicity.proofs.Records.{FindsMark}
-use Rattle.xa_atomicity.proofs.Resolves.{IsAnsweredIn, left_has, outcome_asked}
 use Rattle.xa_atomicity.proofs.Settled.{by_ledger, answered_of}
+
+-- ---- a history, parted at a request
+
+-- what stands before it, and is left by it, stands after all
+module _ (commit open_ : Bool) (D L : Type 0) (x : XidName) (T : Tables) (f : Fate) (before after : History) (r : Request) where
+  abbrev here : Tables
+  here = tables_after before T
+
+  abbrev fate_here : Fate
+  fate_here = last_or f (fates x before T)
+
+  abbrev next_here : Tables
+  next_here = (next r.thread r.op here).0
+
+  abbrev made : Option Fate
+  made = fate_of x r.op (next r.thread r.op here).1
+
+  stands_after : All (λ q. IsTowards commit L x q.op) after → Sound here → Led commit open_ D L x r.op fate_here (next r.thread r.op here)
+      → Standing commit open_ D L x (tables_after (before ++ r ∷ after) T) (last_or f (fates x (before ++ r ∷ after) T))
+  stands_after towards sound led =
+      let z =
+      led_after commit open_ D L x after next_here (unwrap_or made fate_here) towards (record { stands = led.stands; sound = sound_after r.thread r.op here sound }) in
+      let fate_is : last_or (unwrap_or made fate_here) (fates x after next_here) ≡ last_or f (fates x (before ++ r ∷ after) T) =
+      search (arith, last_more, last_both, cons_option, fates_both) in
+      search (arith, unwrap_or, tables_after-append)
+
+-- ---- a fate, once it ended as was decided
+
+pub last_ended : (commit : Bool) (fs : List Fate) (g : Fate) → g ≡ ended_as commit → All (λ h. h ≡ ended_as commit) fs → last_or g fs ≡ ended_as commit
+last_ended commit [] g e all = e
+last_ended commit (f ∷ fs) g e all =
+    last_ended commit fs f (All-head (λ (h : Fate). h ≡ ended_as commit) f fs all) (All-tail (λ (h : Fate). h ≡ ended_as commit) f fs all)
+
+-- ---- the request of a resolve that was answered
+
+-- it stands in the history after its thread's OpenRm, with no CloseRm of the thread in between
+pub record Placed (t : ℕ) (T : Tables) (H : History) (op : Op) (code : Code) : Type 0 where
+  pub first : History
+  pub opens : ℕ
+  pub mid : History
+  pub ends : ℕ
+  pub rest : History
+  pub place : H ≡ (first ++ request_of t opens OpenRm ∷ mid) ++ request_of t ends op ∷ rest
+  pub open_ : All (λ r. closes t r ≡ false) mid
+  pub code_is : code ≡ (next t op (tables_after (first ++ request_of t opens OpenRm ∷ mid) T)).1
+
+no_closes : (t : ℕ) (h : History) → All (λ r. r.thread ≡ t → IsNoClose r.op) h → All (λ r. closes t r ≡ false) h
+no_closes t h none k d lt =
+    by_bool (λ b. (is_close (get_or h k d).op && b) ≡ false) ((get_or h k d).thread == t) (λ own. closing (get_or h k d).op (none k d lt (eqb-true (get_or h k d).thread t own)))
+    (λ _. and_right (is_close (get_or h k d).op) false refl)
+  where
+    closing : (op : Op) → op ≢ CloseRm → (is_close op && true) ≡ false
+    closing CloseRm n = absurd (n refl)
+    closing op n = refl
+
+pub placed : (t : ℕ) (T : Tables) (H : History) (op : Op) (code : Code) (a : LedgerView) (ops : List Op) (pairs : List (ℕ × Code))
+    → of_thread t H ≡ numbered t 0 ops → All (λ p. slice_get (answers t (coded H T)) p.0 ≡ Some p) pairs
+    → IsAnsweredIn op code a ops pairs → Placed t T H op code
+placed t T H op code a ops pairs carried answered i =
+    let n : ℕ = 0 + length a.sent in
+    let m : ℕ = suc n + length i.mid in
+    let p =
+    part t H (numbered t 0 a.sent) (numbered t (suc n) (i.mid ++ op ∷ i.later)) (request_of t n OpenRm) (carried ∙ ap (numbered t 0) i.sent ∙ numbered_both t 0 a.sent (OpenRm ∷ (i.mid ++ op ∷ i.later))) in
+    let q =
+    part t p.after (numbered t (suc n) i.mid) (numbered t (suc m) i.later) (request_of t m op) (p.later ∙ numbered_both t (suc n) i.mid (op ∷ i.later)) in
+    let place : H ≡ (p.before ++ request_of t n OpenRm ∷ q.before) ++ request_of t m op ∷ q.after = search (arith, request_of, append_assoc, p.before) in
+    let more : suc (length a.sent) + length i.mid ≡ m = omega arith in
+    record {
+      first = p.before;
+      opens = n;
+      mid = q.before;
+      ends = m;
+      rest = q.after;
+      place = place;
+      open_ = no_closes t q.before (own_all t IsNoClose q.before (suc n) i.mid q.earlier i.open_);
+      code_is = code_there t H T pairs m code answered (subst (λ k. Contains pairs (k, code)) more i.told) (p.before ++ request_of t n OpenRm ∷ q.before) q.after op place (count_two t n OpenRm p.before q.before a.sent i.mid p.earlier q.earlier ∙ more);
+    }
+
+-- a thread that asks to open has the manager open, unless it is shut
+opens_now : (t : ℕ) (T : Tables) → T.shut ≡ false → has_opened (next t OpenRm T).0 t ≡ true
+unfolding next
+opens_now t T open_ =
+    ap (λ b. has_opened (cond b (T, RmFail) (open_rm t T)).0 t) open_ ∙ contains-insert nat_cmp_total T.opened t t
+    ∙ ap (λ b. b || has_opened T t) (tied_true t t refl)
+
+module _ (commit : Bool) (D L : Type 0) (t : ℕ) (x : XidName) (T : Tables) (H : History) (f : Fate) (code : Code)
+    (towards : All (λ r. IsTowards commit L x r.op) H) (st : Standing commit true D L x T f) (reached : code ≢ RmFail)
+    (told : (d : HeuristicDecision) → code ≡ decision_code d → L) (z : Placed t T H (outcome_op commit x) code) where
+  abbrev op : Op
+  op = outcome_op commit x
+
+  abbrev before : History
+  before = z.first ++ request_of t z.opens OpenRm ∷ z.mid
+
+  abbrev ends : Request
+  ends = request_of t z.ends op
+
+  abbrev U : Tables
+  U = tables_after before T
+
+  abbrev at_first : Tables
+  at_first = tables_after z.first T
+
+  all_here : All (λ r. IsTowards commit L x r.op) (before ++ ends ∷ z.rest)
+  all_here = subst (All (λ (r : Request). IsTowards commit L x r.op)) z.place towards
+
+  rest_here : All (λ r. IsTowards commit L x r.op) z.rest
+  rest_here = all_after (λ (r : Request). IsTowards commit L x r.op) before ends z.rest all_here
+
+  now : Standing commit true D L x U (last_or f (fates x before T))
+  now =
+      led_after commit true D L x before T f (all_left (λ (r : Request). IsTowards commit L x r.op) before (ends ∷ z.rest) all_here) st
+
+  open_now : U.shut ≡ false
+  open_now = false_from_ne_true (U.shut) (λ shut. reached (z.code_is ∙ ap (λ (a : Answer). a.1) (next-shut t op U shut)))
+
+  open_first : at_first.shut ≡ false
+  open_first = search (arith, false_from_ne_true, both_ways, open_now, tables_after-append, shut_stays)
+
+  has_it : has_opened U t ≡ true
+  has_it = search (arith, tables_after-append, request_of, opened_on, opens_now, open_first)
+
+  -- after it the branch is no longer open
+  pub placed_ends : Standing commit false D L x (tables_after H T) (last_or f (fates x H T))
+  placed_ends =
+      subst (λ (h : History). Standing commit false D L x (tables_after h T) (last_or f (fates x h T))) (sym z.place)
+      (stands_after commit false D L x T f before z.rest ends rest_here now.sound
+      (ends_it commit D L x (last_or f (fates x before T)) U now.sound t open_now has_it now.stands (λ d e. told d (z.code_is ∙ e))))
+
+  -- what it was told is its fate
+  module _ (law : Tabled) where
+    pub placed_tells : (d : HeuristicDecision) → code ≡ decision_code d → last_or f (fates x H T) ≡ decided_fate d
+    placed_tells d e = told_there law commit D L t z.ends x T H before z.rest f z.place now (λ k r lt named _. rest_here k r lt named) d (sym z.code_is ∙ e)
+
+    pub placed_so : (g : Fate) → outcome_fate commit code ≡ Some g → last_or f (fates x H T) ≡ g
+    placed_so g is = by_code code refl is
+      where
+        by_code : (c : Code) → code ≡ c → outcome_fate commit c ≡ Some g → last_or f (fates x H T) ≡ g
+        by_code Done e is =
+            ended_there law commit D L t z.ends x T H before z.rest f z.place now (λ k r lt named _. rest_here k r lt named) (sym z.code_is ∙ e) ∙ some_same (ended_as commit) g is
+        by_code HeurCom e is = placed_tells decision.Commit e ∙ some_same history.HeurCommitted g is
+        by_code HeurRb e is = placed_tells decision.Rollback e ∙ some_same history.HeurRolledBack g is
+        by_code c e is = cc
 
 -- ---- one opening
 
@@ -75,15 +217,6 @@ module _ (law : Tabled) (first : (s : Settling) (m : ℕ) (T : Tables) → IsSet
   fate_so : (o : Opening) (T : Tables) (f : Fate) → IsOpenedWith o.settled m T → settled_fate o.settled m x f ≡ last_or f (fates x (history_of o.settled m) T)
   fate_so o T f with_T = with_T.fates x f ∙ law.leaves (history_of o.settled m) x f T
 
-  -- it stands as it did
-  pub opening_stands : (o : Opening) (T : Tables) (f : Fate) → IsKept o → first_of o.settled m ≡ Some T
-      → All (λ r. IsTowards commit L x r.op) (history_of o.settled m) → Stands commit true D L (state_of T x) f
-      → Stands commit true D L (state_of (tables_after (history_of o.settled m) T) x) (settled_fate o.settled m x f)
-  opening_stands o T f kept begins towards st =
-      let with_T = first o.settled m T kept.settled begins in
-      let z = led_after commit true D L x (history_of o.settled m) T f towards (record { stands = st; sound = opening_sound T with_T.opened }) in
-      subst (λ (g : Fate). Stands commit true D L (state_of (tables_after (history_of o.settled m) T) x) g) (sym (fate_so o T f with_T)) z.stands
-
   decided_so : (c : Code) (d : HeuristicDecision) → c ≡ decision_code d → is_decided c ≡ true
   decided_so c decision.Commit e = ap is_decided e
   decided_so c decision.Rollback e = ap is_decided e
@@ -108,10 +241,13 @@ module _ (law : Tabled) (first : (s : Settling) (m : ℕ) (T : Tables) → IsSet
     pub stands_first : Standing commit true D L x T f
     stands_first = record { stands = w.stands; sound = opening_sound T with_T.opened }
 
+    -- it stands as it did
+    step_stands : Stands commit true D L (state_of (tables_after H T) x) (settled_fate o.settled m x f)
+    step_stands = subst (λ (g : Fate). Stands commit true D L (state_of (tables_after H T) x) g) (sym (fate_so o T f with_T)) (led_after commit true D L x H T f w.towards stands_first).stands
+
     -- an outcome of the branch that was answered has its request in the history
     module _ (q : ResolveCall) (there : Contains o.uses (resolves q)) where
-      abbrev t : ℕ
-      t = q.thread
+      open q use {thread as t}
 
       use_ : IsUseIn o.settled (resolves q)
       use_ = All-contains (IsUseIn o.settled) o.uses (resolves q) w.kept.uses there
@@ -181,10 +317,11 @@ module _ (law : Tabled) (first : (s : Settling) (m : ℕ) (T : Tables) → IsSet
       let marks_p : All (FindsMark commit (tran_of x) m) p.uses = all_left (FindsMark commit (tran_of x) m) p.uses (uses_of ps) marks in
       let lists_p : Lists p = λ q among. lists q (Contains-append_left p.uses (uses_of ps) (resolves q) among) in
       let towards = opening_towards p kept_p (All-head (OnlyResolves (tran_of x)) p ps only) marks_p lists_p in
-      let here : Stands commit true D L (state_of (reopened V) x) (reopened_fate f) = stands_reopened commit true D L x V f st in (
-        record { kept = kept_p; begins = begins_p; towards = towards; marks = marks_p; lists = lists_p; stands = here },
+      let step : IsStep p (reopened V) (reopened_fate f) =
+      record { kept = kept_p; begins = begins_p; towards = towards; marks = marks_p; lists = lists_p; stands = stands_reopened commit true D L x V f st } in (
+        step,
         walk ps p (reopened V) (settled_fate p.settled m x (reopened_fate f)) kept_p begins_p (All-tail IsKept p ps kept) row.1 (All-tail (OnlyResolves (tran_of x)) p ps only) (all_right (FindsMark commit (tran_of x) m) p.uses (uses_of ps) marks)
-            (λ q among. lists q (Contains-append_right p.uses (uses_of ps) (resolves q) among)) (opening_stands p (reopened V) (reopened_fate f) kept_p begins_p towards here),
+            (λ q among. lists q (Contains-append_right p.uses (uses_of ps) (resolves q) among)) (step_stands p (reopened V) (reopened_fate f) step),
       )
 
   -- where a resolve of the last reached all, it is over, and isn't prepared at its end

@@ -1,21 +1,92 @@
--- One outcome for all the branches of a call.
-use Rattle.xa_base.proofs.{arith, rules, ◌≡◌, Bool, true, false, not, ◌||◌, Option, None, Some, List, [], ◌∷◌, refl, if◌then◌else◌, sym, ap, ◌∙◌, subst}
-use Rattle.xa_base.proofs.{list_any, and_parts, or_parts, or_from, not-true, false_from_ne_true, at_true}
-use Rattle.xa_driver.specs.{Heuristic, InDoubt, Left, RolledBack, Committed, Branch, Done, Ending, is_yes, is_read, is_no, has_yes, yes_of, ending_of}
-use Rattle.xa_driver.specs.{yes_ending, no_ending, AtBranch, AsksLedger, EachBranch, IsCommit, IsTraceOfCommit, IsTranOf, MayCommit, decision_of}
-use Rattle.std.proofs.lemmas.Bool.{true_from_ne_false, both_ways}
-use Rattle.xa_words.specs.{TranName, Code}
-use Rattle.xa_tables.specs.Histories as history
-use Rattle.xa_desk.specs.{LedgerView, ledger, DeskView}
-use Rattle.xa_log.specs.{LogState, record_of}
-use Rattle.xa_atomicity.specs.Outcomes.{is_committed}
-use Rattle.xa_atomicity.specs.{is_rolled_back, has_committed, has_rolled_back, has_vote_against, append_failed, was_refused, IsCommittedTransaction}
-use Rattle.xa_atomicity.specs.{IsAbortedTransaction}
-use Rattle.xa_atomicity.proofs.Aborts.{abort_sends_no_commit, failed_append_aborts}
+-- What a commit does to a desk's ledger with each manager, and asks of a branch; and one outcome for all the branches of a
+-- call: on abort no Commit is sent.
+use Rattle.xa_atomicity.proofs.Words.{arith, rules, ◌≡◌, Bool, true, false, Option, None, Some, by_if, XidName, Op, Commit, Forget, Code, is_yes, is_decided}
+use Rattle.xa_atomicity.proofs.Words.{second_op, third_op, outcome_op, IsAskedFor, ℕ, ◌≤◌, ◌||◌, ◌==◌, List, [], ◌∷◌, sym, refl, subst, All, eqb-true}
+use Rattle.xa_atomicity.proofs.Words.{All-head, All-tail, TranName, LedgerView, ledger, Branch, Ending, AtBranch, AsksLedger, EachBranch, IsTraceOfCommit}
+use Rattle.xa_atomicity.proofs.Words.{has_branch_at, LogState, All-cons, All-nil, AreBranchesRising, list_any_none, and-false, and_parts, wants_record}
+use Rattle.xa_atomicity.proofs.Words.{NoCommitWasSent, is_commit, branch_by, not, if◌then◌else◌, ap, ◌∙◌, list_any, or_parts, or_from, not-true}
+use Rattle.xa_atomicity.proofs.Words.{false_from_ne_true, at_true, Heuristic, InDoubt, Left, RolledBack, Committed, is_read, is_no, has_yes, yes_of}
+use Rattle.xa_atomicity.proofs.Words.{ending_of, yes_ending, no_ending, IsCommit, IsTranOf, decision_of, true_from_ne_false, both_ways, DeskView, record_of}
+use Rattle.xa_atomicity.proofs.Words.{is_committed, is_rolled_back, has_committed, has_rolled_back, has_vote_against, append_failed, was_refused}
+use Rattle.xa_atomicity.proofs.Words.{IsCommittedTransaction, IsAbortedTransaction, one_tran}
+use Rattle.xa_driver.specs.{Done}
+use Rattle.xa_atomicity.proofs.Resolves.{Sends, asks_on, stays}
 use Rattle.xa_atomicity.proofs.Records.{none_on_abort, record_so}
-use Rattle.xa_driver.proofs.Calls.{one_tran}
 
-abbrev Falls : (Ending → Bool) → Ending → Type 0
+pub second_so : (P : Op → Type 0) (commit : Bool) (x : XidName) (v : Code) → P (outcome_op commit x) → IsAskedFor P (second_op commit x v)
+second_so P true x v so = by_if (IsAskedFor P) (is_yes v) (Some (Commit x false)) None (λ _. so) (λ _. tt)
+second_so P false x v so = search (arith, rules)
+
+-- it was told a decision
+abbrev pub is_told_decision : Option Code → Bool
+is_told_decision None = false
+is_told_decision (Some c) = is_decided c
+
+pub third_so : (P : Op → Type 0) (x : XidName) (s : Option Code) → (is_told_decision s ≡ true → P (Forget x)) → IsAskedFor P (third_op x s)
+third_so P x None so = tt
+third_so P x (Some c) so = by_if (IsAskedFor P) (is_decided c) (Some (Forget x)) None so (λ _. tt)
+
+-- what is shown of each branch of which C is known follows for each
+pub branch_map : (C : Branch → Type 0) (P Q : Branch → Code → Option Code → Ending → Type 0) → ((b : Branch) (v : Code) (s : Option Code) (e : Ending) → C b → P b v s e → Q b v s e)
+    → (bs : List Branch) (vs : List Code) (ss : List (Option Code)) (es : List Ending) → All C bs → EachBranch P bs vs ss es → EachBranch Q bs vs ss es
+branch_map C P Q f [] [] [] [] all h = tt
+branch_map C P Q f (b ∷ bs) (v ∷ vs) (s ∷ ss) (e ∷ es) all h =
+    (f b v s e (All-head C b bs all) h.0, branch_map C P Q f bs vs ss es (All-tail C b bs all) h.1)
+branch_map C P Q f bs vs ss es all h = absurd h
+
+-- the managers of branches have numbers from 1 on
+pub positive_all : (lo : ℕ) (bs : List Branch) → AreBranchesRising lo bs → All (λ b. 1 ≤ b.m) bs
+positive_all lo [] r = All-nil (λ (b : Branch). 1 ≤ b.m)
+positive_all lo (b ∷ bs) r = All-cons (λ (c : Branch). 1 ≤ c.m) b bs (let up = r.0 in omega (arith, up)) (positive_all b.m bs r.1)
+
+-- P holds of each ledger before and after, if it holds where nothing was done and where the trace was of a branch of which C is known
+module _ (P : LedgerView → LedgerView → Type 0) (stays : (a : LedgerView) → P a a) (C : Branch → Type 0) (commit : Bool) (old new : List LedgerView)
+    (traced : (b : Branch) → C b → (v : Code) (s : Option Code) (e : Ending) (a a' : LedgerView) → AtBranch AsksLedger commit b v s e a a' → P a a') where
+  abbrev AllTraces : List Branch → List Code → List (Option Code) → List Ending → Type 0
+  AllTraces = EachBranch (λ b v s e. AtBranch AsksLedger commit b v s e (ledger old b.m) (ledger new b.m))
+
+  at_branch : (m : ℕ) (bs : List Branch) (vs : List Code) (ss : List (Option Code)) (es : List Ending) → All C bs → AllTraces bs vs ss es
+      → has_branch_at bs m ≡ true → P (ledger old m) (ledger new m)
+  at_branch m [] [] [] [] all h e = cc
+  at_branch m (b ∷ bs) (v ∷ vs) (s ∷ ss) (x ∷ es) all h e =
+      elim (b.m == m) as (λ c. (b.m == m) ≡ c → (c || has_branch_at bs m) ≡ true → P (ledger old m) (ledger new m)) [
+        | true ↦ λ here _. subst (λ (k : ℕ). P (ledger old k) (ledger new k)) (eqb-true b.m m here) (traced b (All-head C b bs all) v s x (ledger old b.m) (ledger new b.m) h.0)
+        | false ↦ λ other e. at_branch m bs vs ss es (All-tail C b bs all) h.1 e
+      ] refl e
+  at_branch m bs vs ss es all h e = absurd h
+
+pub every_manager : (P : LedgerView → LedgerView → Type 0) → ((a : LedgerView) → P a a)
+    → (C : Branch → Type 0) (tran : TranName) (bs : List Branch) (old new : List LedgerView) (log later : LogState) (d : Done)
+    → ((b : Branch) → C b → (v : Code) (s : Option Code) (e : Ending) (a a' : LedgerView) → AtBranch AsksLedger d.commit b v s e a a' → P a a') → All C bs
+    → IsTraceOfCommit tran bs old new log later d
+    → (m : ℕ) → 1 ≤ m → P (ledger old m) (ledger new m)
+every_manager P stays C tran bs old new log later d traced all call m positive =
+    elim (has_branch_at bs m) as (λ b. has_branch_at bs m ≡ b → P (ledger old m) (ledger new m)) [
+      | true ↦ λ e. at_branch P stays C d.commit old new traced m bs d.votes.items call.course.seconds d.endings.items all call.course.each e
+      | false ↦ λ e. subst (P (ledger old m)) (sym (call.course.others m positive e)) (stays (ledger old m))
+    ] refl
+
+abbrev pub IsNoCommit : Op → Type 0
+IsNoCommit op = is_commit op ≡ false
+
+-- on abort no Commit is sent to any manager
+pub abort_sends_no_commit : (tran : TranName) (bs : List Branch) (old new : List LedgerView) (log later : LogState) (done : Done)
+    → IsTraceOfCommit tran bs old new log later done → done.commit ≡ false → NoCommitWasSent old new
+abort_sends_no_commit tran bs old new log later done call off m positive =
+    let z =
+    every_manager (Sends IsNoCommit) (stays IsNoCommit) (λ b. Unit {0}) tran bs old new log later done (λ b _ v s e a a' is. no_commit b v s e a a' (subst (λ c. AtBranch AsksLedger c b v s e a a') off is)) (λ k d lt. tt) call m positive in
+    record { more = z.more; sent = z.sent; none = list_any_none is_commit z.more z.all }
+  where
+    no_commit : (b : Branch) (v : Code) (s : Option Code) (e : Ending) (a a' : LedgerView) → AtBranch AsksLedger false b v s e a a' → Sends IsNoCommit a a'
+    no_commit b v s e a a' is =
+        branch_by AsksLedger IsNoCommit (Sends IsNoCommit a) (λ d z op c so asked q. asks_on IsNoCommit a d z op c so asked q) false b v s e a a' is (second_so IsNoCommit false b.xid v refl) (third_so IsNoCommit b.xid s (λ _. refl)) refl (stays IsNoCommit a)
+
+-- where the log didn't take the record, the decision is to abort
+pub failed_append_aborts : (tran : TranName) (bs : List Branch) (old new : List LedgerView) (log later : LogState) (done : Done)
+    → IsTraceOfCommit tran bs old new log later done → wants_record done.votes.items ≡ true → done.logged ≡ false → done.commit ≡ false
+failed_append_aborts tran bs old new log later done call wanted off = search (arith, and_parts, and-false, done.votes.items)
+
+abbrev pub Falls : (Ending → Bool) → Ending → Type 0
 Falls test e = test e ≡ false
 
 -- a vote is to commit, that the branch only read, or against
@@ -29,13 +100,14 @@ pub after_yes : (P : Ending → Type 0) (commit : Bool) (s : Option Code) → P 
 after_yes P commit None ended doubt heuristic left = doubt
 after_yes P commit (Some c) ended doubt heuristic left = search (arith, rules)
 
-not_by_no : (v : Code) (s : Option Code) → Falls is_committed (no_ending v s)
-not_by_no v None = refl
-not_by_no v (Some c) = search (arith, rules)
+-- and after one against
+pub after_no : (P : Ending → Type 0) (v : Code) (s : Option Code) → P RolledBack → ((c : Code) → P (Heuristic c)) → ((c : Code) → P (Left c)) → P (no_ending v s)
+after_no P v None back heuristic left = left v
+after_no P v (Some c) back heuristic left = search (arith, rules)
 
 -- what isn't voted for isn't committed, and on abort nothing is
 pub unvoted : (commit : Bool) (v : Code) (s : Option Code) → is_yes v ≡ false → Falls is_committed (ending_of commit v s)
-unvoted commit v s e = search (arith, not_by_no)
+unvoted commit v s e = search (arith, after_no)
 
 pub uncommitted : (v : Code) (s : Option Code) → Falls is_committed (ending_of false v s)
 uncommitted v s = search (arith, at_true, after_yes, unvoted)
@@ -65,8 +137,7 @@ any_never (v ∷ vs) = any_never vs
 
 module _ (tran : TranName) (bs : List Branch) (desk : DeskView) (new : List LedgerView) (log later : LogState) (d : Done)
     (made : IsCommit bs desk new log later d) (of_tran : IsTranOf bs tran) where
-  abbrev may : MayCommit desk log bs
-  may = made.may
+  open made use {may}
 
   same_tran_here : may.tran ≡ tran
   same_tran_here = one_tran bs may.tran tran may.some may.one of_tran
@@ -74,13 +145,12 @@ module _ (tran : TranName) (bs : List Branch) (desk : DeskView) (new : List Ledg
   call : IsTraceOfCommit tran bs desk.ledgers new log later d
   call = subst (λ (t : TranName). IsTraceOfCommit t bs desk.ledgers new log later d) same_tran_here made.trace
 
-  abbrev votes : List Code
-  votes = d.votes.items
+  open d use {votes.{items as votes}}
 
-  abbrev Traces : Branch → Code → Option Code → Ending → Type 0
-  Traces b v s e = AtBranch AsksLedger d.commit b v s e (ledger desk.ledgers b.m) (ledger new b.m)
+  abbrev TracedHere : Branch → Code → Option Code → Ending → Type 0
+  TracedHere b v s e = AtBranch AsksLedger d.commit b v s e (ledger desk.ledgers b.m) (ledger new b.m)
 
-  ends : (b : Branch) (v : Code) (s : Option Code) (e : Ending) → Traces b v s e → e ≡ ending_of d.commit v s
+  ends : (b : Branch) (v : Code) (s : Option Code) (e : Ending) → TracedHere b v s e → e ≡ ending_of d.commit v s
   ends b v s e is = is.ends
 
   absent : record_of log tran ≡ None
@@ -89,7 +159,7 @@ module _ (tran : TranName) (bs : List Branch) (desk : DeskView) (new : List Ledg
   -- on abort
   pub aborted : d.commit ≡ false → IsAbortedTransaction tran desk.ledgers new later d
   aborted off = record {
-    uncommitted = none_end Traces d.commit is_committed never ends (λ v s _. ap (λ c. is_committed (ending_of c v s)) off ∙ uncommitted v s) bs votes call.course.seconds d.endings.items call.course.each (any_never votes);
+    uncommitted = none_end TracedHere d.commit is_committed never ends (λ v s _. ap (λ c. is_committed (ending_of c v s)) off ∙ uncommitted v s) bs votes call.course.seconds d.endings.items call.course.each (any_never votes);
     unrecorded = none_on_abort tran (yes_of bs votes) votes d.logged log later absent call.course.logs (sym call.course.decision ∙ off);
     unsent = abort_sends_no_commit tran bs desk.ledgers new log later d call off;
   }
@@ -100,13 +170,13 @@ module _ (tran : TranName) (bs : List Branch) (desk : DeskView) (new : List Ledg
 
   kept : d.commit ≡ true → has_rolled_back d ≡ false
   kept on =
-      none_end Traces d.commit is_rolled_back is_no ends (λ v s e. ap (λ c. is_rolled_back (ending_of c v s)) on ∙ not_rolled_back v s e) bs votes call.course.seconds d.endings.items call.course.each (unopposed on)
+      none_end TracedHere d.commit is_rolled_back is_no ends (λ v s e. ap (λ c. is_rolled_back (ending_of c v s)) on ∙ not_rolled_back v s e) bs votes call.course.seconds d.endings.items call.course.each (unopposed on)
 
   pub committed_law : has_committed d ≡ true → IsCommittedTransaction tran bs later d
   committed_law some =
       let on : d.commit ≡ true = true_from_ne_false (d.commit) (λ off. both_ways (has_committed d) (aborted off).uncommitted some) in
       let some_yes : has_yes votes ≡ true = true_from_ne_false (has_yes votes) (λ e.
-      both_ways (has_committed d) (none_end Traces d.commit is_committed is_yes ends (λ v s n. unvoted d.commit v s n) bs votes call.course.seconds d.endings.items call.course.each e) some) in
+      both_ways (has_committed d) (none_end TracedHere d.commit is_committed is_yes ends (λ v s n. unvoted d.commit v s n) bs votes call.course.seconds d.endings.items call.course.each e) some) in
       record {
         unopposed = unopposed on;
         recorded =

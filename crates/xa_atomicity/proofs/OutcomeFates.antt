@@ -1,31 +1,109 @@
--- What the outcomes of a resolve tell, where nothing else names the transaction in its opening.
-use Rattle.xa_atomicity.proofs.NextOpening.{kept_with}
-use Rattle.xa_atomicity.proofs.Leading.{waits, unforgotten, IsTowards, Stands, Standing, step_led}
-use Rattle.xa_words.specs.{OpenRm, Op, XidName, xid_eq, tran_of, Done, HeurCom, HeurRb, RmFail, Request, Code}
-use Rattle.xa_base.proofs.{unwrap_or, ◌≡◌, ◌≢◌, ℕ, zero, inl, Bool, true, false, [], ◌∷◌, ◌++◌, get_or, sym, refl, ap, ◌∙◌, arith, Option, Some, None, All}
-use Rattle.xa_base.proofs.{Contains, cons_option, All-nil, All-cons, All-tail, some_same, at_true}
-use Rattle.std.proofs.lemmas.List.Elements.{Contains-get_or}
-use Rattle.xa_base.specs.{MOST_MANAGERS, IsUpTo}
-use Rattle.xa_words.proofs.Xids.{xid_self}
-use Rattle.xa_tables.specs.{State, HeuristicallyCompleted, HeuristicDecision, state_of, is_left_in, is_S3, decision_code, next, Answer, Fate, IsFateOf, fate_of}
-use Rattle.xa_tables.specs.{tables_after, last_or, decided_fate, AreLeft, Tables, History}
-use Rattle.xa_tables.specs.declared.state.State.TheVariants.{Prepared}
-use Rattle.xa_tables.specs.declared.state.HeuristicDecision.TheVariants as decision
+-- What the outcomes of a resolve tell, where nothing else names the transaction in its opening; and that a branch whose
+-- end was told isn't left to the next opening.
+use Rattle.xa_atomicity.proofs.Words.{arith, ◌≡◌, ℕ, Bool, true, false, [], ◌∷◌, List, ap, sym, refl, ◌∙◌, Option, None, Some, option_map, All, list_all}
+use Rattle.xa_atomicity.proofs.Words.{get-empty, and_parts, All-contains, All-cons, All-nil, XidName, xid_cmp, Done as OK, Code, State}
+use Rattle.xa_atomicity.proofs.Words.{HeuristicallyCompleted, HeuristicDecision, opening, state_of, is_left_in, Fate, IsFateOf, decided_fate, fate, is_done}
+use Rattle.xa_atomicity.proofs.Words.{tables_after, reopened, told_by, Tables, History, Prepared, as_left, last_in, reopened_at, IsOpenedWith, first_of}
+use Rattle.xa_atomicity.proofs.Words.{history as history_of, settled_fate, ManagerPart, IsSettled, find_manager, Settling, Branch, Ending, Committed}
+use Rattle.xa_atomicity.proofs.Words.{ReadOnly, Outcome, has_acknowledged, is_acknowledged, EachOutcome, TellsTheFate, WasAtFirst, told_fate, HasLeft}
+use Rattle.xa_atomicity.proofs.Words.{TellsTheOutcome, ended_as, outcome_fate, Tabled, tran_of, RmFail, ◌≢◌, zero, inl, get_or, Contains, Contains-get_or}
+use Rattle.xa_atomicity.proofs.Words.{MOST_MANAGERS, IsUpTo, is_S3, AreLeft, opening_sound, ledger, ledgers_of, left_at, is_to_commit, IsKept, IsUseIn}
+use Rattle.xa_atomicity.proofs.Words.{OnlyResolves, Opening, ResolveCall, resolves, with_use, TellsTheOutcomes}
+use Rattle.xa_tables.specs.{is_left}
+use Rattle.xa_driver.specs.{Done}
 use Rattle.xa_tables.specs.Histories as history
-use Rattle.xa_tables.proofs.Law.{opening_sound, sound_after}
-use Rattle.xa_desk.specs.{ledger}
-use Rattle.xa_switch.specs.{IsOpenedWith, ledgers_of, first_of, history as history_of, settled_fate, IsSettled, Settling}
-use Rattle.xa_scan.specs.{left_at}
-use Rattle.xa_driver.specs.{Outcome, is_to_commit, outcome_op}
-use Rattle.xa_atomicity.specs.{IsKept, IsUseIn, OnlyResolves, Opening, ResolveCall, ended_as, outcome_fate, resolves, with_use, TellsTheOutcomes, Tabled}
-use Rattle.xa_atomicity.proofs.Answered.{Placed, from_there, now, placed_tells, from_here}
-use Rattle.xa_atomicity.proofs.EndsByFate.{is_known_so}
-use Rattle.xa_atomicity.proofs.Guided.{known_stays}
-use Rattle.xa_atomicity.proofs.Later.{IsStep, answered_at, opening_towards}
-use Rattle.xa_atomicity.proofs.Placing.{fates, request_of}
+use Rattle.xa_tables.specs.declared.state.HeuristicDecision.TheVariants as decision
+use Rattle.xa_atomicity.proofs.EndsByFate.{ended_known, unknown_so, decided_apart, read_apart}
+use Rattle.xa_atomicity.proofs.Later.{ends_with, IsStep, answered_at, opening_towards, placed_so}
+use Rattle.xa_atomicity.proofs.NextOpening.{kept_with}
+use Rattle.xa_atomicity.proofs.Leading.{waits, unforgotten, IsTowards, Stands}
+use Rattle.xa_atomicity.proofs.Sites.{fates}
 use Rattle.xa_atomicity.proofs.Records.{FindsMark}
 use Rattle.xa_atomicity.proofs.Resolves.{outcome_asked, outcome_left, outcome_upto}
-use Rattle.xa_atomicity.proofs.Voting.{unknown_so}
+
+-- a fate after which nothing of the branch is left
+record IsOver (f : Fate) : Type 0 where
+  known : history.is_in_doubt f ≡ false
+  plain : (d : HeuristicDecision) → f ≡ decided_fate d → ⊥
+
+ended_is_over : (commit : Bool) → IsOver (ended_as commit)
+ended_is_over commit = record { known = ended_known commit; plain = λ d e. decided_apart d commit (sym e) }
+
+-- tables that tell it have nothing left
+not_left : (x : XidName) (f : Fate) (T : Tables) → IsFateOf x f T → IsOver f → (o : Option State) → state_of T x ≡ o
+    → is_left_in o ≡ false
+not_left x f T fits over (Some Prepared) is = search (arith, over.known)
+not_left x f T fits over (Some (HeuristicallyCompleted d)) is = absurd (over.plain d (fits.decided d is))
+not_left x f T fits over o is = refl
+
+module _ (law : Tabled) (first : (s : Settling) (m : ℕ) (T : Tables) → IsSettled s → first_of s m ≡ Some T → IsOpenedWith s m T)
+    (s : Settling) (settled : IsSettled s) where
+  -- what the tables with which its opening began tell of it
+  abbrev Ends : ℕ → XidName → Fate → Type 0
+  Ends m x f =
+      (T : Tables) → first_of s m ≡ Some T → settled_fate s m x (told_by (state_of T x)) ≡ f
+
+  gone_of : (m : ℕ) (x : XidName) (f : Fate) → IsOver f → Ends m x f → (T : Tables) → first_of s m ≡ Some T
+      → is_left (reopened_at s.managers m) x ≡ false
+  gone_of m x f over ends T begins =
+      let H : History = history_of s m in
+      let end : Tables = tables_after H T in
+      let G : Fate = told_by (state_of T x) in
+      let with_T = first s m T settled begins in
+      let fits = law.kept H x G T with_T.opened (law.first x T) in
+      let is : fate x G H T ≡ f = sym (with_T.fates x G) ∙ ends T begins in
+      search (arith, ends_with, as_left, not_left)
+
+  gone : (m : ℕ) (x : XidName) (f : Fate) → IsOver f → Ends m x f → is_left (reopened_at s.managers m) x ≡ false
+  gone m x f over ends =
+      elim (find_manager m s.managers) as (λ o. find_manager m s.managers ≡ o → is_left (reopened_at s.managers m) x ≡ false) [
+        | None ↦ λ none. ap (λ o. is_left (reopened (last_in o)) x) none ∙ as_left (opening []) x ∙ ap is_left_in (get-empty xid_cmp x)
+        | Some p ↦ λ is. gone_of m x f over ends p.first (ap (option_map (λ (q : ManagerPart). q.first)) is)
+      ] refl
+
+  -- ---- of a commit that was acknowledged
+
+  acknowledged_is_over : (e : Ending) → has_acknowledged e ≡ true → (f : Fate) × (told_fate e ≡ Some f) × IsOver f
+  acknowledged_is_over Committed is = (history.Committed, refl, ended_is_over true)
+  acknowledged_is_over ReadOnly is = (history.ReadOnly, refl, record { known = refl; plain = λ d e. read_apart d (sym e) })
+  acknowledged_is_over e is = cc
+
+  abbrev IsGone : Branch → Type 0
+  IsGone b = is_left (reopened_at s.managers b.m) b.xid ≡ false
+
+  gone_acknowledged : (t n : ℕ) (b : Branch) (e : Ending) → TellsTheFate s t b n e → has_acknowledged e ≡ true → IsGone b
+  gone_acknowledged t n b e tells is =
+      let over = acknowledged_is_over e is in
+      gone b.m b.xid over.0 over.2
+      (λ T begins.
+      let was : WasAtFirst s b (told_by (state_of T b.xid)) =
+      record { first = T; opened = first s b.m T settled begins; fits = law.first b.xid T } in
+      tells.told (told_by (state_of T b.xid)) over.0 was over.1)
+
+  all_gone : (t : ℕ) (from : ℕ → ℕ) (bs : List Branch) (vs : List Code) (es : List Ending)
+      → EachOutcome (λ b v e. TellsTheFate s t b (from b.m) e) bs vs es → list_all has_acknowledged es ≡ true → All IsGone bs
+  all_gone t from [] [] [] h is = All-nil IsGone
+  all_gone t from (b ∷ bs) (v ∷ vs) (e ∷ es) h is =
+      let parts = and_parts (has_acknowledged e) (list_all has_acknowledged es) is in
+      All-cons IsGone b bs (gone_acknowledged t (from b.m) b e h.0 parts.0) (all_gone t from bs vs es h.1 parts.1)
+  all_gone t from bs vs es h is = absurd h
+
+  pub none_left : (t : ℕ) (from : ℕ → ℕ) (bs : List Branch) (done : Done)
+      → EachOutcome (λ b v e. TellsTheFate s t b (from b.m) e) bs done.votes.items done.endings.items
+      → is_acknowledged done ≡ true → HasLeft bs s → ⊥
+  none_left t from bs done h is left = search (arith, All-contains, all_gone, left.branch, done.votes.items, done.endings.items, left.among)
+
+  -- ---- of an outcome that was answered XA_OK
+
+  told_done : (commit : Bool) (c : Code) → is_done c ≡ true → outcome_fate commit c ≡ Some (ended_as commit)
+  told_done commit OK is = refl
+  told_done commit c is = cc
+
+  pub gone_finished : (r : Outcome) → is_done r.code ≡ true → TellsTheOutcome s r
+      → is_left (reopened_at s.managers r.m) r.xid ≡ false
+  gone_finished r is tells =
+      gone r.m r.xid (ended_as r.commit) (ended_is_over r.commit)
+      (λ T begins. tells T (told_by (state_of T r.xid)) (ended_as r.commit) begins (law.first r.xid T) (told_done r.commit r.code is))
 
 -- what a branch that was left stands at
 left_stands : (commit : Bool) (x : XidName) (T : Tables) (f : Fate) → IsFateOf x f T → (s : Option State) → state_of T x ≡ s → is_left_in s ≡ true
@@ -33,56 +111,6 @@ left_stands : (commit : Bool) (x : XidName) (T : Tables) (f : Fate) → IsFateOf
 left_stands commit x T f fits (Some Prepared) is left = waits tt refl is (unknown_so f (sym fits.prepared ∙ ap is_S3 is))
 left_stands commit x T f fits (Some (HeuristicallyCompleted d)) is left = unforgotten d is (fits.decided d is) (inl refl)
 left_stands commit x T f fits o is left = cc
-
--- what it is told ends it
-ends_fate : (commit : Bool) (x : XidName) → fate_of x (outcome_op commit x) Done ≡ Some (ended_as commit)
-ends_fate true x = at_true (xid_eq x x) _ None (xid_self x)
-ends_fate false x = at_true (xid_eq x x) _ None (xid_self x)
-
--- ---- one request that was answered
-
-module _ (law : Tabled) (commit : Bool) (t : ℕ) (x : XidName) (T : Tables) (H : History) (f : Fate) (code : Code)
-    (towards : All (λ r. IsTowards commit (Unit {0}) x r.op) H) (st : Standing commit true (Unit {0}) (Unit {0}) x T f) (reached : code ≢ RmFail)
-    (z : Placed t T H (outcome_op commit x) code) where
-  abbrev Q : Request → Type 0
-  Q r = IsTowards commit (Unit {0}) x r.op
-
-  abbrev U : Tables
-  U = tables_after (z.first ++ request_of t z.opens OpenRm ∷ z.mid) T
-
-  abbrev fate_here : Fate
-  fate_here = last_or f (fates x (z.first ++ request_of t z.opens OpenRm ∷ z.mid) T)
-
-  here : Standing commit true (Unit {0}) (Unit {0}) x U fate_here
-  here = now commit (Unit {0}) (Unit {0}) t x T H f code towards st reached (λ _ _. tt) z
-
-  all_here : All Q (request_of t z.ends (outcome_op commit x) ∷ z.rest)
-  all_here = from_here commit (Unit {0}) (Unit {0}) t x T H f code towards st reached (λ _ _. tt) z
-
-  -- a decision that it was told is its fate
-  told_decision : (d : HeuristicDecision) → code ≡ decision_code d → last_or f (fates x H T) ≡ decided_fate d
-  told_decision = placed_tells commit (Unit {0}) (Unit {0}) t x T H f code towards st reached (λ _ _. tt) z law
-
-  -- XA_OK ended it
-  told_done : code ≡ Done → last_or f (fates x H T) ≡ ended_as commit
-  told_done e =
-      let op : Op = outcome_op commit x in
-      let a : Answer = next t op U in
-      let made : fate_of x op a.1 ≡ Some (ended_as commit) = ap (fate_of x op) (sym z.code_is ∙ e) ∙ ends_fate commit x in
-      let led = step_led commit true (Unit {0}) (Unit {0}) x fate_here U here.stands here.sound t op (all_here 0 (request_of t z.ends op) (omega arith)) in
-      let there : Standing commit true (Unit {0}) (Unit {0}) x a.0 (ended_as commit) = search (arith, unwrap_or, sound_after, here, a.0) in
-      let silent : fates x z.rest a.0 ≡ [] =
-      known_stays commit (Unit {0}) (Unit {0}) x z.rest a.0 (ended_as commit) (is_known_so (ended_as commit) commit refl) (All-tail Q (request_of t z.ends op) z.rest all_here) there in
-      from_there commit (Unit {0}) (Unit {0}) t x T H f code towards st reached (λ _ _. tt) z ∙ (λ i. last_or fate_here (cons_option (made i) (silent i)))
-
-  pub told_so : (g : Fate) → outcome_fate commit code ≡ Some g → last_or f (fates x H T) ≡ g
-  told_so g is = by_code code refl is
-    where
-      by_code : (c : Code) → code ≡ c → outcome_fate commit c ≡ Some g → last_or f (fates x H T) ≡ g
-      by_code Done e is = told_done e ∙ some_same (ended_as commit) g is
-      by_code HeurCom e is = told_decision decision.Commit e ∙ some_same history.HeurCommitted g is
-      by_code HeurRb e is = told_decision decision.Rollback e ∙ some_same history.HeurRolledBack g is
-      by_code c e is = cc
 
 reached_so : (commit : Bool) (c : Code) (g : Fate) → outcome_fate commit c ≡ Some g → c ≢ RmFail
 reached_so commit RmFail g is e = cc
@@ -102,11 +130,7 @@ module _ (law : Tabled) (first : (s : Settling) (m : ℕ) (T : Tables) → IsSet
   -- an outcome of a manager that is there tells what became of its branch, where only the resolve names its transaction
   module _ (r : Outcome) (among : Contains q.outcomes r) (up : IsUpTo MOST_MANAGERS r.m) (only : OnlyResolves (tran_of r.xid) o) (T : Tables)
       (begins : first_of s r.m ≡ Some T) where
-    abbrev x : XidName
-    x = r.xid
-
-    abbrev m : ℕ
-    m = r.m
+    open r use {xid as x, m}
 
     abbrev H : History
     H = history_of s m
@@ -136,7 +160,7 @@ module _ (law : Tabled) (first : (s : Settling) (m : ℕ) (T : Tables) → IsSet
         let z =
         answered_at law first r.commit (Unit {0}) (Unit {0}) m up x o T before step q (zero, omega arith, refl) r among refl refl (reached_so r.commit r.code f tells) in
         with_T.fates x before ∙ law.leaves H x before T
-        ∙ told_so law r.commit q.thread x T H before r.code towards (record { stands = stands; sound = opening_sound T with_T.opened }) (reached_so r.commit r.code f tells) z f tells
+        ∙ placed_so r.commit (Unit {0}) (Unit {0}) q.thread x T H before r.code towards (record { stands = stands; sound = opening_sound T with_T.opened }) (reached_so r.commit r.code f tells) (λ _ _. tt) z law f tells
 
   -- so of each
   pub outcomes_law : ((r : Outcome) → Contains q.outcomes r → OnlyResolves (tran_of r.xid) o) → TellsTheOutcomes s q.outcomes

@@ -1,36 +1,75 @@
--- One outcome for each global transaction whose commit was cut short, over openings one after another.
-use Rattle.xa_base.proofs.{rules, option_map, is_some, ◌≡◌, ◌≢◌, ℕ, zero, ◌+◌, Bool, true, false, List, [], ◌∷◌, ◌++◌, length, get_or, sym, refl, ap, ◌∙◌}
-use Rattle.xa_base.proofs.{subst, arith, Option, Some, None, All, Contains, All-nil, All-cons, All-append, All-contains, All-head, All-tail}
-use Rattle.xa_base.proofs.{Contains-append_right, all_after, all_mid, all_right, at_true}
-use Rattle.xa_atomicity.proofs.CutVotes.{CameAt, each_came, at_asking, at_forgetting, at_telling, HasVoted}
-use Rattle.xa_atomicity.proofs.Settled.{sent_stands, by_ledger, answered_of, collected_on, sent_on, site_of}
-use Rattle.xa_atomicity.proofs.Sites.{Site, StandsIn}
-use Rattle.xa_base.specs.{MOST_MANAGERS, Begins, IsUpTo}
-use Rattle.xa_words.specs.{XidName, TranName, tran_of, Done, RmFail, Op, Prepare, Request, Code}
-use Rattle.xa_tables.specs.{Tables, state_of, is_left_in, Fate, IsFateOf, coded, fate, tables_after, told_by, History}
+-- One outcome for each global transaction whose commit was cut short, over openings one after another: no later use of the
+-- log marks a manager of one that was decided to abort.
+use Rattle.xa_atomicity.proofs.Words.{arith, ◌≡◌, ℕ, Bool, true, List, [], ◌∷◌, get_or, subst, false, All, All-nil, All-append, All-head, All-tail, voted_yes}
+use Rattle.xa_atomicity.proofs.Words.{IsTranOf, Code, TranName, MOST_MANAGERS, IsUpTo, learnt_shut, ledger, Settling, EachVote, IsOfAnother, CommitCall}
+use Rattle.xa_atomicity.proofs.Words.{CutCall, GoesOnAfter, OfCommit, Use, commits, cuts, resolves, Opening, IsByItsThread, IsKept, IsUseIn, OnlyResolves}
+use Rattle.xa_atomicity.proofs.Words.{uses_of, rules, option_map, is_some, ◌≢◌, zero, ◌+◌, ◌++◌, length, sym, refl, ap, ◌∙◌, Option, Some, None, Contains}
+use Rattle.xa_atomicity.proofs.Words.{All-cons, All-contains, Contains-append_right, all_after, all_mid, all_right, at_true, Begins, tran_of, Done, RmFail}
+use Rattle.xa_atomicity.proofs.Words.{Op, Prepare, Request, Tables, state_of, is_left_in, Fate, IsFateOf, coded, fate, tables_after, told_by, History}
+use Rattle.xa_atomicity.proofs.Words.{as_left, LedgerView, HasGrown, HaveGrown, requests, reopened_at, IsOpenedWith, first_of, history as history_of}
+use Rattle.xa_atomicity.proofs.Words.{ledgers_of, ManagerPart, IsSettled, answers, find_manager, journal, journal_in, sent, Branch, Outcome, is_yes, yes_of}
+use Rattle.xa_atomicity.proofs.Words.{ending_of, is_decided, yes_ending, outcome_op, AreBranchesRising, HaveRoom, Logs, decision_of, IsAsked, IsCut, IsEnded}
+use Rattle.xa_atomicity.proofs.Words.{is_recorded, OnlyTheseOrDecisionsName, AskedAreLeft, CountsByTheLog, EndsByTheLog, IsResolvedAfter, VotedToCommit}
+use Rattle.xa_atomicity.proofs.Words.{WasAsked, known_of, AreUses, IsFollowed, ResolveCall, Tabled, Records, one_tran}
+use Rattle.xa_switch.specs.{collected}
 use Rattle.xa_tables.specs.Histories as history
-use Rattle.xa_tables.proofs.Reopening.{as_left}
-use Rattle.xa_desk.specs.{LedgerView, learnt_shut, ledger, HasGrown, HaveGrown}
-use Rattle.xa_worker.specs.{requests}
-use Rattle.xa_switch.specs.{reopened_at, IsOpenedWith, first_of, history as history_of, ledgers_of, ManagerPart, IsSettled, answers, collected, find_manager}
-use Rattle.xa_switch.specs.{journal, journal_in, sent, Settling}
-use Rattle.xa_driver.specs.{Branch, Outcome, is_yes, voted_yes, yes_of, ending_of, is_decided, yes_ending, outcome_op, AreBranchesRising, HaveRoom, IsTranOf}
-use Rattle.xa_driver.specs.{Logs, decision_of}
-use Rattle.xa_atomicity.specs.{IsAsked, IsCut, IsEnded, is_recorded, OnlyTheseOrDecisionsName, AskedAreLeft, CountsByTheLog, EndsByTheLog, IsResolvedAfter}
-use Rattle.xa_atomicity.specs.{VotedToCommit, WasAsked, known_of, AreUses, CutCall, IsFollowed, IsKept, IsUseIn, OnlyResolves, Opening, ResolveCall, Use, cuts}
-use Rattle.xa_atomicity.specs.{resolves, uses_of, Tabled}
-use Rattle.xa_log.specs.{Records}
+use Rattle.xa_atomicity.proofs.CutVotes.{cut_keeps, finished_law, none_resolved, none_shut, Votes, CameAt, each_came, at_asking, at_forgetting, at_telling}
+use Rattle.xa_atomicity.proofs.CutVotes.{HasVoted, prepare_part}
+use Rattle.xa_atomicity.proofs.Records.{IsQuiet, is_marked, FindsMark, marks_stay, own_mark, some_yes, recorded_is}
+use Rattle.xa_atomicity.proofs.EndsByFate.{learnt_on, AtEnd, Comes, once}
+use Rattle.xa_atomicity.proofs.Settled.{sent_stands, by_ledger, collected_on, sent_on, site_of}
+use Rattle.xa_atomicity.proofs.Sites.{Site, StandsIn, request_of, fates}
 use Rattle.xa_atomicity.proofs.BranchEnds.{Follows, IsMarked, branch_follows}
 use Rattle.xa_atomicity.proofs.CutBranch.{HasSentOnly, WasTold, asked_only, ended_voted_so, open_so, sent_end, sent_fates, told_end, told_voted_so, vote_is}
 use Rattle.xa_atomicity.proofs.CutBranch.{voted_only, was_told}
 use Rattle.xa_atomicity.proofs.Leading.{IsTowards}
-use Rattle.xa_atomicity.proofs.Naming.{prepare_part}
-use Rattle.xa_driver.proofs.Calls.{one_tran}
-use Rattle.xa_atomicity.proofs.Placing.{request_of, fates}
 use Rattle.xa_atomicity.proofs.Later.{ends_with}
-use Rattle.xa_atomicity.proofs.Quiet.{quiet_alone, quiet_openings}
-use Rattle.xa_atomicity.proofs.Records.{FindsMark, IsQuiet, is_marked, marks_stay, own_mark, some_yes, recorded_is}
-use Rattle.xa_atomicity.proofs.Voting.{AtEnd, Comes, once}
+use Rattle.xa_atomicity.proofs.Resolves.{contains_on}
+
+-- what is shown of a commit that was cut short is shown of any
+pub of_commit : (s : Settling) (P Q : CutCall → Type 0) → ((k : CutCall) → IsUseIn s (cuts k) → P k → Q k) → (u : Use) → IsUseIn s u → OfCommit P u
+    → OfCommit Q u
+of_commit s P Q so (commits c) use_ p = search (arith, finished_law, c.desk, c.log, c.later, c.done)
+of_commit s P Q so (cuts k) use_ p = so k use_ p
+of_commit s P Q so (resolves q) use_ p = tt
+
+any_commit : (u : Use) → OfCommit (λ k. Unit {0}) u
+any_commit (commits c) = tt
+any_commit (cuts k) = tt
+any_commit (resolves q) = tt
+
+module _ (mark : Bool) (t : TranName) (m : ℕ) (up : IsUpTo MOST_MANAGERS m) where
+  abbrev Stays : CutCall → Type 0
+  Stays k = is_marked k.log.records t m ≡ mark → is_marked k.later.records t m ≡ mark
+
+  -- where what is known of a commit makes none of its votes be to commit
+  quiet_so : (s : Settling) (P : CutCall → Type 0)
+      → ((k : CutCall) → IsUseIn s (cuts k) → P k → IsTranOf k.branches t → (vs : List Code) → EachVote (Votes k.desk.ledgers k.new) k.branches vs → voted_yes m k.branches vs ≡ false)
+      → (u : Use) → IsUseIn s u → OfCommit P u → OfCommit Stays u
+  quiet_so s P against = of_commit s P Stays (λ k w p. cut_keeps mark t m up k.branches k.desk k.new k.log k.later k.endings w.made (λ vs each same _.
+      against k w p (subst (IsTranOf k.branches) same w.made.may.one) vs each))
+
+  -- in an opening where nothing but resolves names the transaction
+  quiet_opening : (o : Opening) → IsKept o → OnlyResolves t o → All (IsQuiet mark t m) o.uses
+  quiet_opening o kept only j d lt =
+      quiet_so o.settled (λ k. Unit {0}) (λ k w _ tran vs each. none_resolved o kept t only m up k.thread k.desk.ledgers k.new w.grown k.branches vs tran each) (get_or o.uses j d) (kept.uses j d lt) (any_commit (get_or o.uses j d))
+
+  pub quiet_openings : (os : List Opening) → All IsKept os → All (OnlyResolves t) os → All (IsQuiet mark t m) (uses_of os)
+  quiet_openings [] kept only = All-nil (IsQuiet mark t m)
+  quiet_openings (o ∷ os) kept only =
+      All-append (IsQuiet mark t m) o.uses (uses_of os) (quiet_opening o (All-head IsKept o os kept) (All-head (OnlyResolves t) o os only)) (quiet_openings os (All-tail IsKept o os kept) (All-tail (OnlyResolves t) o os only))
+
+  -- after a commit whose desk has learnt that the manager is shut, in its own opening
+  pub quiet_after : (c : CommitCall) (s : Settling) (vs : List Use) → IsTranOf c.branches t → learnt_shut (ledger c.new m) ≡ true → All (IsUseIn s) vs
+      → All (IsByItsThread c) vs → All (IsQuiet mark t m) vs
+  quiet_after c s vs of_tran learnt uses own j d lt =
+      quiet_so s (λ k. (u : TranName) → IsTranOf c.branches u → IsTranOf k.branches u → GoesOnAfter c k.thread k.desk.ledgers) (λ k w own tran vs each.
+      none_shut k.desk.ledgers k.new t m (learnt_on (ledger c.new m) (ledger k.desk.ledgers m) ((own t of_tran tran).grown.each m up.0).collected learnt) k.branches vs tran each)
+      (get_or vs j d) (uses j d lt) (own j d lt)
+
+  -- after one that nobody commits again in its opening
+  pub quiet_alone : (s : Settling) (vs : List Use) → All (IsUseIn s) vs → All (IsOfAnother t) vs → All (IsQuiet mark t m) vs
+  quiet_alone s vs uses alone j d lt = search (arith, quiet_so)
 
 -- ---- the manager of a branch
 
@@ -89,11 +128,8 @@ module _ (law : Tabled) (first : (s : Settling) (m : ℕ) (T : Tables) → IsSet
   abbrev later : List Opening
   later = between ++ last ∷ []
 
-  abbrev s : Settling
-  s = o.settled
-
-  abbrev t : ℕ
-  t = k.thread
+  open o use {settled as s}
+  open k use {thread as t}
 
   kept_o : IsKept o
   kept_o = All-head IsKept o later r.use_.kept
@@ -101,8 +137,7 @@ module _ (law : Tabled) (first : (s : Settling) (m : ℕ) (T : Tables) → IsSet
   resolve_there : Contains last.uses (resolves q)
   resolve_there = is_used last.uses r.use_.ps r.use_.qs (resolves q) r.use_.resolve_at
 
-  abbrev tran : TranName
-  tran = r.made.may.tran
+  open r use {made.{may.{tran}}}
 
   -- ---- one branch that voted to commit
 
@@ -129,8 +164,7 @@ module _ (law : Tabled) (first : (s : Settling) (m : ℕ) (T : Tables) → IsSet
   module _ (b : Branch) (among : Among b) (only : Only b) (here : V b)
       (prepared : (more : List Op) × ((after_of b).sent ≡ (before_of b).sent ++ Prepare b.xid ∷ more))
       (mark : is_marked k.later.records tran b.m ≡ commit) where
-    abbrev m : ℕ
-    m = b.m
+    open b use {m}
 
     abbrev n : ℕ
     n = length (before_of b).sent
@@ -198,12 +232,13 @@ module _ (law : Tabled) (first : (s : Settling) (m : ℕ) (T : Tables) → IsSet
         (λ g fits. sent_fates site b.xid (before_of b) (after_of b) sent_grows commit only ⊥ h prepared_at g)
 
     -- it was told one
-    decided : (c : Code) → is_decided c ≡ true → yes_ending commit (Some c) ≡ known_of k b → WasTold commit b.xid c (before_of b) (after_of b) → Result b
-    decided c is known z =
-        let h : Sent (Unit {0}) = record { rest = z.gap ++ outcome_op commit b.xid ∷ z.rest; sent = z.sent; all = z.all } in
+    decided : (c : Code) → is_decided c ≡ true → yes_ending commit (Some c) ≡ known_of k b → Sent (Unit {0}) → WasTold commit b.xid c (before_of b) (after_of b)
+        → Result b
+    decided c is known h z =
+        let second =
+        sent_stands law s kept_o.settled t m T with_T up.0 (after_of b) grown z.number (outcome_op commit b.xid) c z.sent (contains_on (after_of b).collected _ (z.number, c) grown.collected z.told) in
         concludes
-        (λ L. subst (AtEnd commit (Unit {0}) L b.xid (fate b.xid G H T) H T) known
-        (told_end site b.xid (before_of b) (after_of b) sent_grows commit only (collected s t m) (answered_of law s kept_o.settled t m T with_T) (collected_on s t m up.0 (after_of b) grown) prepared_at c z is L G (law.first b.xid T)))
+        (λ L. subst (AtEnd commit (Unit {0}) L b.xid (fate b.xid G H T) H T) known (told_end site b.xid (before_of b) (after_of b) sent_grows commit only h prepared_at z.number z.later c second is L G))
         (λ g fits. sent_fates site b.xid (before_of b) (after_of b) sent_grows commit only (Unit {0}) h prepared_at g)
 
   -- ---- all of them, by how far it came
@@ -224,8 +259,7 @@ module _ (law : Tabled) (first : (s : Settling) (m : ℕ) (T : Tables) → IsSet
     voted : VotedToCommit k s b
     voted = r.voted b here
 
-    abbrev x : XidName
-    x = b.xid
+    open b use {xid as x}
 
     -- by what was sent, and where the record is the decision
     sent_plainly : HasSentOnly commit ⊥ x (before_of b) (after_of b) → is_marked k.later.records tran b.m ≡ commit → Result b
@@ -281,7 +315,9 @@ module _ (law : Tabled) (first : (s : Settling) (m : ℕ) (T : Tables) → IsSet
                 let told : WasTold commit x c (before_of b) (after_of b) =
                 subst (λ d. WasTold d x c (before_of b) (after_of b)) (decided_so L sends) (was_told decision b v c (before_of b) (after_of b) h (open_now L sends) agreed on) in
                 let ending : yes_ending commit (Some c) ≡ known_of k b = search (arith, decided_so, at_true) in
-                decided b among (own voted.asked) here (told.gap ++ outcome_op commit x ∷ told.rest, told.sent) (mark_so L sends) c on ending told
+                let only : HasSentOnly commit L x (before_of b) (after_of b) =
+                subst (λ d. HasSentOnly d L x (before_of b) (after_of b)) (decided_so L sends) (voted_only decision L b v (before_of b) (after_of b) sends (open_now L sends)) in
+                decided b among (own voted.asked) here (only.rest, only.sent) (mark_so L sends) c on ending only told
           ] refl
 
     by_came : CameAt tran k.branches k.desk.ledgers k.new k.log k.later k.endings b → Result b
@@ -306,11 +342,8 @@ module _ (law : Tabled) (first : (s : Settling) (m : ℕ) (T : Tables) → IsSet
   cut_use : IsUseIn o.settled (cuts k)
   cut_use = use_there o.settled o.uses r.followed.us r.followed.vs (cuts k) r.followed.use_at kept_first.uses
 
-  abbrev cut_made : IsCut k.branches k.desk k.new k.log k.later k.endings
-  cut_made = cut_use.made
-
-  abbrev cut_tran : TranName
-  cut_tran = cut_made.may.tran
+  open cut_use use {made as cut_made}
+  open cut_made use {may.{tran as cut_tran}}
 
   abbrev followed : Followed o between last (cuts k) k q (VotedToCommit k o.settled) (λ b. Unit {0})
   followed =

@@ -1,17 +1,14 @@
 -- What the log has of a transaction stays what its commit left.
-use Rattle.xa_base.proofs.{arith, and-false, cond, not, if◌then◌else◌, is_some, ◌≡◌, ℕ, Bool, true, false, ◌==◌, ◌&&◌, ◌||◌, List, [], ◌∷◌, sym, refl, ap, ◌∙◌}
-use Rattle.xa_base.proofs.{Some, None, All, get-insert, eq_by_cmp, is_eq, tied_itself, All-nil, All-cons, All-head, All-tail, and_parts, is_equal, at_false}
-use Rattle.xa_base.proofs.{at_true, by_if}
+use Rattle.xa_atomicity.proofs.Words.{arith, and-false, cond, not, if◌then◌else◌, is_some, ◌≡◌, ℕ, Bool, true, false, ◌==◌, ◌&&◌, ◌||◌, List, [], ◌∷◌, sym}
+use Rattle.xa_atomicity.proofs.Words.{refl, ap, ◌∙◌, Some, None, All, get-insert, eq_by_cmp, is_eq, tied_itself, All-nil, All-cons, All-head, All-tail}
+use Rattle.xa_atomicity.proofs.Words.{and_parts, is_equal, at_false, at_true, by_if, is_recorded, Use, commits, cuts, resolves, AreUses, OfCommit, and_left}
+use Rattle.xa_atomicity.proofs.Words.{and_right, and_cases, MOST_MANAGERS, IsUpTo, TranName, Code, Branch, is_yes, decides_commit, has_yes, voted_yes, yes_of}
+use Rattle.xa_atomicity.proofs.Words.{Logs, appended, failed, unwanted, decision_of, LogState, Records, record_of, tran_cmp}
 use Rattle.std.proofs.Math.Bool.{and-true}
-use Rattle.xa_atomicity.specs.{is_recorded, Use, commits, cuts, resolves, AreUses, OfCommit}
-use Rattle.std.specs.FinMap as map
-use Rattle.std.proofs.lemmas.Bool.{and_left, and_right, and_cases}
-use Rattle.xa_base.specs.{MOST_MANAGERS, IsUpTo}
-use Rattle.xa_words.specs.{TranName, Code}
 use Rattle.xa_words.proofs.ManagerSets.{in_set_of}
-use Rattle.xa_driver.specs.{Branch, is_yes, decides_commit, has_yes, voted_yes, yes_of, Logs, appended, failed, unwanted, decision_of, names}
-use Rattle.xa_log.specs.{LogState, Records, record_of, tran_cmp}
+use Rattle.xa_driver.specs.{names}
 use Rattle.xa_log.proofs.Transactions.{tran_cmp_total, tran_cmp-IsAntisymmetric}
+use Rattle.std.specs.FinMap as map
 
 -- the record of the transaction names the manager
 abbrev pub is_marked : Records → TranName → ℕ → Bool

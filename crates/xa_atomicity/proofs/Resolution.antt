@@ -1,37 +1,27 @@
 -- One outcome for each global transaction, over openings one after another: a commit that came to its end is one that was
 -- cut short after it.
-use Rattle.xa_base.proofs.{arith, by_bool, ◌≡◌, ℕ, ◌≤◌, Bool, true, false, List, [], ◌∷◌, ◌++◌, length, sym, refl, subst, Option, Some, All, Contains, All-head}
-use Rattle.xa_atomicity.proofs.CutVotes.{known_each, prepare_there, vote_there, HasVoted, any_voted, ended_so, finished_law, shut_unless}
-use Rattle.xa_base.specs.{MOST_MANAGERS, IsUpTo}
-use Rattle.xa_words.specs.{TranName, Code}
-use Rattle.xa_tables.specs.{Tables, state_of, fate, tables_after, told_by}
-use Rattle.xa_desk.specs.{LedgerView, learnt_shut, ledger}
-use Rattle.xa_switch.specs.{IsOpenedWith, first_of, history as history_of, ledgers_of, IsSettled, Settling}
-use Rattle.xa_driver.specs.{Branch, Ending, has_yes, is_yes, EachBranch, IsCommit}
-use Rattle.xa_atomicity.specs.{IsCut, is_recorded, known_at, EachOutcome, OnlyTheseOrDecisionsName, is_heuristic, VotedToCommit, known_of, CommitCall, CutCall}
-use Rattle.xa_atomicity.specs.{as_cut, ResolveCall, commits, Opening, EndsAs, EachEnds, IsAllOrNone, all, none, IsKept, IsResolved, IsUseIn, CountsOver}
-use Rattle.xa_atomicity.specs.{CountsAllOrNone, IsUnlisted, SharesOver, Tabled}
+use Rattle.xa_atomicity.proofs.Words.{arith, by_bool, ◌≡◌, ℕ, ◌≤◌, Bool, true, false, List, [], ◌∷◌, ◌++◌, length, sym, refl, subst, Option, Some, All}
+use Rattle.xa_atomicity.proofs.Words.{Contains, All-head, MOST_MANAGERS, IsUpTo, Code, Tables, state_of, fate, tables_after, told_by, LedgerView, learnt_shut}
+use Rattle.xa_atomicity.proofs.Words.{ledger, IsOpenedWith, first_of, history as history_of, ledgers_of, IsSettled, Settling, Branch, Ending, has_yes, is_yes}
+use Rattle.xa_atomicity.proofs.Words.{EachBranch, IsCut, is_recorded, known_at, EachOutcome, OnlyTheseOrDecisionsName, is_heuristic, VotedToCommit, known_of}
+use Rattle.xa_atomicity.proofs.Words.{CommitCall, CutCall, as_cut, ResolveCall, commits, Opening, EndsAs, EachEnds, IsAllOrNone, all, none, IsKept}
+use Rattle.xa_atomicity.proofs.Words.{IsResolved, IsUseIn, CountsOver, CountsAllOrNone, IsUnlisted, SharesOver, Tabled, Any, one_tran}
 use Rattle.xa_atomicity.specs.Worth.{is_committed}
+use Rattle.xa_atomicity.proofs.CutVotes.{known_each, prepare_there, vote_there, HasVoted, any_voted, ended_so, finished_law, shut_unless, Traced}
 use Rattle.xa_atomicity.proofs.BranchEnds.{Follows}
 use Rattle.xa_atomicity.proofs.Courses.{yes_is}
-use Rattle.xa_atomicity.proofs.EndsByFate.{doubted}
-use Rattle.xa_driver.proofs.Mapped.{Any}
-use Rattle.xa_atomicity.proofs.Naming.{Traced}
+use Rattle.xa_atomicity.proofs.EndsByFate.{doubted, Comes, learnt_in_doubt}
 use Rattle.xa_atomicity.proofs.OneOutcome.{unopposed, aborted}
-use Rattle.xa_driver.proofs.Calls.{one_tran}
-use Rattle.xa_atomicity.proofs.Presumed.{Followed, among_so, follows, use_there, uses_after}
-use Rattle.xa_atomicity.proofs.Quiet.{quiet_after}
+use Rattle.xa_atomicity.proofs.Presumed.{Followed, among_so, follows, use_there, uses_after, quiet_after}
 use Rattle.xa_atomicity.proofs.Records.{recorded_is}
 use Rattle.xa_atomicity.proofs.Settled.{each_outcome, told_in}
-use Rattle.xa_atomicity.proofs.Voting.{Comes, learnt_in_doubt}
 
 module _ (law : Tabled) (first : (s : Settling) (m : ℕ) (T : Tables) → IsSettled s → first_of s m ≡ Some T → IsOpenedWith s m T)
     (o : Opening) (between : List Opening) (last : Opening) (c : CommitCall) (q : ResolveCall) (r : IsResolved o between last c q) where
   abbrev later : List Opening
   later = between ++ last ∷ []
 
-  abbrev s : Settling
-  s = o.settled
+  open o use {settled as s}
 
   kept_o : IsKept o
   kept_o = All-head IsKept o later r.followed.kept
@@ -39,11 +29,8 @@ module _ (law : Tabled) (first : (s : Settling) (m : ℕ) (T : Tables) → IsSet
   use_ : IsUseIn s (commits c)
   use_ = use_there s o.uses r.followed.us r.followed.vs (commits c) r.followed.use_at kept_o.uses
 
-  abbrev made : IsCommit c.branches c.desk c.new c.log c.later c.done
-  made = use_.made
-
-  abbrev tran : TranName
-  tran = made.may.tran
+  open use_ use {made}
+  open made use {may.{tran}}
 
   abbrev k : CutCall
   k = as_cut c

@@ -1,21 +1,17 @@
 -- What a resolve sent to a manager, and collected from it.
-use Rattle.xa_base.proofs.{length-append, Option, None, ◌≡◌, ◌≢◌, ℕ, zero, suc, ⊎_elim, ◌+◌, ◌-◌, ◌<◌, Bool, true, false, List, [], ◌∷◌, ◌++◌, length}
-use Rattle.xa_base.proofs.{append-nil, append_assoc, get_or, sym, refl, ap, ◌∙◌, subst, arith, Some, false_from_ne_true, map, All, Contains, flat_map, list_any}
-use Rattle.xa_base.proofs.{range_with_len, All-nil, All-cons, All-append, Contains-append_left, Contains-append_right, length-range_with_len}
-use Rattle.xa_base.proofs.{get_or-range_with_len, any_at, contains_at, same_begins, begins_on, was_mapped, at_false}
-use Rattle.xa_atomicity.proofs.Voting.{learnt_on}
-use Rattle.xa_words.proofs.Xids.{xid_self}
+use Rattle.xa_atomicity.proofs.Words.{length-append, Option, None, ◌≡◌, ◌≢◌, ℕ, zero, suc, ⊎_elim, ◌+◌, ◌-◌, ◌<◌, Bool, true, false, List, [], ◌∷◌, ◌++◌}
+use Rattle.xa_atomicity.proofs.Words.{length, append-nil, append_assoc, get_or, sym, refl, ap, ◌∙◌, subst, arith, Some, false_from_ne_true, map, All}
+use Rattle.xa_atomicity.proofs.Words.{Contains, flat_map, list_any, range_with_len, All-nil, All-cons, All-append, Contains-append_left}
+use Rattle.xa_atomicity.proofs.Words.{Contains-append_right, length-range_with_len, get_or-range_with_len, any_at, contains_at, same_begins, begins_on}
+use Rattle.xa_atomicity.proofs.Words.{was_mapped, at_false, xid_self, both_ways, Contains-append_cases, Contains-push_cases, MOST_MANAGERS, Begins, Chain}
+use Rattle.xa_atomicity.proofs.Words.{IsUpTo, more, XidName, xid_eq, Decides-xid_eq, RmFail, Op, OpenRm, CloseRm, Code, LedgerView, learnt_shut, with_sent}
+use Rattle.xa_atomicity.proofs.Words.{with_collected, ledger, HasGrown, ScanView, left_at, contains_map, get_contained, Outcome, AskTrace, asked, AsksIf}
+use Rattle.xa_atomicity.proofs.Words.{AsksLedger, IsTraceOfResolve, ResolvesAt, ResolvesBranch, is_to_commit, outcome_op, Records, Any, Asks, IsAskedFor}
+use Rattle.xa_atomicity.proofs.Words.{anything, if_by, outcome_by, outcomes_by, resolves_by}
 use Rattle.std.proofs.lemmas.Map.Views.{Contains-from_any}
-use Rattle.std.proofs.lemmas.Bool.{both_ways}
-use Rattle.std.proofs.lemmas.List.Elements.{Contains-append_cases, Contains-push_cases}
-use Rattle.xa_base.specs.{MOST_MANAGERS, Begins, Chain, IsUpTo, none, more}
-use Rattle.xa_words.specs.{XidName, xid_eq, Decides-xid_eq, RmFail, Op, OpenRm, CloseRm, Code}
-use Rattle.xa_desk.specs.{LedgerView, learnt_shut, with_sent, with_collected, ledger, HasGrown}
-use Rattle.xa_scan.specs.{ScanView, left_at}
-use Rattle.xa_switch.proofs.Lists.{contains_map, get_contained}
-use Rattle.xa_driver.specs.{Outcome, AskTrace, asked, AsksIf, AsksLedger, IsTraceOfResolve, ResolvesAt, ResolvesBranch, is_to_commit, outcome_op}
-use Rattle.xa_log.specs.{Records}
-use Rattle.xa_driver.proofs.Mapped.{Any, Asks, IsAskedFor, anything, if_by, outcome_by, outcomes_by, resolves_by}
+use Rattle.xa_base.specs.{none}
+use Rattle.std.proofs.lemmas.List.Elements.{Contains-push}
+use Rattle.xa_atomicity.proofs.EndsByFate.{learnt_on}
 
 -- ---- what is sent
 
@@ -145,11 +141,11 @@ pub record IsAnsweredIn (op : Op) (code : Code) (a : LedgerView) (ops : List Op)
   pub later : List Op
   pub sent : ops ≡ a.sent ++ OpenRm ∷ (mid ++ op ∷ later)
   pub open_ : All IsNoClose mid
-  pub earlier : List (ℕ × Code)
-  pub others : List (ℕ × Code)
-  pub number : ℕ
-  pub number_is : number ≡ suc (length a.sent) + length mid
-  pub collected : pairs ≡ earlier ++ (number, code) ∷ others
+  pub told : Contains pairs (suc (length a.sent) + length mid, code)
+
+-- what a list has one that has grown has too
+pub contains_on : {A : Type 0} (xs ys : List A) (x : A) → Begins xs ys → Contains xs x → Contains ys x
+contains_on {A} xs ys x b there = subst (λ (l : List A). Contains l x) (sym b.1) (Contains-append_left xs b.0 x there)
 
 -- what was asked and answered in time was sent
 open_then : (a a' : LedgerView) (op : Op) (code : Code) → code ≢ RmFail → AskTrace (Some op) (Some code) a a' → learnt_shut a ≡ false
@@ -180,11 +176,17 @@ module _ (a opened now decided new last : LedgerView) (op : Op) (first code : Co
   last_sent : last.sent ≡ a.sent ++ OpenRm ∷ (before.more ++ op ∷ (after.more ++ grown.sent.0))
   last_sent = search (arith, decided_is, append_assoc, now_sent)
 
-  last_collected : last.collected ≡ now.collected ++ (length now.sent, code) ∷ (after.collected.0 ++ grown.collected.0)
-  last_collected = search (arith, decided_is, append_assoc)
-
   pub answered_in : IsAnsweredIn op code a last.sent last.collected
-  answered_in = search (arith, last_sent, now_sent, length-append, last_collected)
+  answered_in = record {
+    mid = before.more;
+    later = after.more ++ grown.sent.0;
+    sent = last_sent;
+    open_ = before.all;
+    told =
+        let number : length now.sent ≡ suc (length a.sent) + length before.more = ap length now_sent ∙ (let e = length-append a.sent (OpenRm ∷ before.more) in omega (arith, e)) in
+        contains_on decided.collected last.collected (suc (length a.sent) + length before.more, code) (begins_on _ _ _ after.collected grown.collected)
+        (subst (λ k. Contains decided.collected (k, code)) number (subst (λ (l : LedgerView). Contains l.collected (length now.sent, code)) (sym decided_is) (Contains-push now.collected (length now.sent, code))));
+  }
 
 -- ---- the outcomes of one manager
 

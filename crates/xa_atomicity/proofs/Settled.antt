@@ -1,31 +1,75 @@
--- What the branches of a call came to in a settled opening.
-use Rattle.xa_atomicity.proofs.Requests.{IsFromTo, own_between}
-use Rattle.xa_desk.specs.{numbered, ledger, no_ledger, is_known, HasGrown, HaveGrown, LedgerView, DeskView}
-use Rattle.xa_base.proofs.{length-append, ◌+◌, All-contains, All-head, All-tail, Contains, All, list_any, zero, suc, ◌≡◌, ℕ, ◌-◌, ◌≤◌, Bool, if◌then◌else◌}
-use Rattle.xa_base.proofs.{List, [], ◌∷◌, length, ◌++◌, append_assoc, slice_get, sym, refl, ap, ◌∙◌, subst, arith, Option, Some, ⊎_elim, le-leb, cases_lt}
-use Rattle.xa_base.proofs.{or_parts, not-true, pos, true, false, ◌||◌, ◌⊎◌, or-true}
-use Rattle.xa_atomicity.proofs.Sites.{StandsIn, stands_by, Site}
-use Rattle.xa_words.specs.{Op, TranName, Done as Voted, RdOnly, XidName, Request, Code}
-use Rattle.xa_atomicity.proofs.Courses.{Course, course_of}
-use Rattle.xa_tables.specs.{HeuristicDecision, state_of, next, told_by, Fate, IsFateOf, fate, coded, decided_fate, tables_after, Tables, History}
-use Rattle.xa_tables.specs.Histories as history
-use Rattle.xa_switch.specs.{Settling, IsSettled, sent, collected, answers, IsOpenedWith, ledgers_of, history as history_of}
-use Rattle.xa_base.specs.{Begins}
+-- What the branches of a call came to in a settled opening, where what they were asked by a desk's ledgers stands in their
+-- managers' histories.
+use Rattle.xa_atomicity.proofs.Words.{◌≡◌, ℕ, suc, Bool, true, false, ◌||◌, List, [], ◌∷◌, ◌++◌, length, length-append, append_assoc, slice_get, refl, ap}
+use Rattle.xa_atomicity.proofs.Words.{◌∙◌, subst, arith, Option, Some, All, list_any-append, all_mid, begins_on, at_false, at_true, Begins, Code, Op, Tables}
+use Rattle.xa_atomicity.proofs.Words.{History, coded, LedgerView, is_rm_fail, learnt_shut, with_sent, with_collected, answers, Branch, Ending, AtBranch}
+use Rattle.xa_atomicity.proofs.Words.{AsksLedger, branch_mapped, asked_grows, numbered, ledger, no_ledger, is_known, HasGrown, HaveGrown, DeskView, ◌+◌}
+use Rattle.xa_atomicity.proofs.Words.{All-contains, All-head, All-tail, Contains, list_any, zero, ◌-◌, ◌≤◌, if◌then◌else◌, sym, ⊎_elim, le-leb, cases_lt}
+use Rattle.xa_atomicity.proofs.Words.{or_parts, not-true, pos, ◌⊎◌, or-true, TranName, Done as Voted, RdOnly, XidName, Request, HeuristicDecision, state_of}
+use Rattle.xa_atomicity.proofs.Words.{next, told_by, Fate, IsFateOf, fate, decided_fate, tables_after, Settling, IsSettled, sent, IsOpenedWith, ledgers_of}
+use Rattle.xa_atomicity.proofs.Words.{history as history_of, as_it_was, grown_on, is_yes, is_no, ending_of, second_op, third_op, EachBranch, IsCommit}
+use Rattle.xa_atomicity.proofs.Words.{IsTraceOfCommit, Committed, ReadOnly, RolledBack, InDoubt, Heuristic, Left, LogState, any_asked, branch_by}
+use Rattle.xa_atomicity.proofs.Words.{AreLeftAlone, AreLeftOrDecided, OnlyTheseName, OnlyTheseOrDecisionsName, IsDecidedAfter, KeepsItsVote, TellsTheFate}
+use Rattle.xa_atomicity.proofs.Words.{undecided, decided, told_fate, EachOutcome, KeepsTheVotes, TellsTheFates, has_committed, is_rolled_back, is_heuristic}
+use Rattle.xa_atomicity.proofs.Words.{is_left, is_read_only, sent_so_far, Shares, CountsTheCommitted, HasAllOrNothing, Tabled, is_committed}
+use Rattle.xa_atomicity.proofs.Words.{false_from_ne_true}
+use Rattle.xa_switch.specs.{collected}
 use Rattle.xa_desk.proofs.Ledgers.{past_end}
-use Rattle.xa_desk.proofs.Growth.{as_it_was, grown_on}
-use Rattle.xa_driver.specs.{Branch, Done, Ending, is_yes, is_no, ending_of, second_op, third_op, AsksLedger, EachBranch, IsCommit, IsTraceOfCommit}
-use Rattle.xa_driver.specs.{AreBranchesRising, Committed, ReadOnly, RolledBack, InDoubt, Heuristic, Left, AtBranch}
-use Rattle.xa_log.specs.{LogState}
-use Rattle.xa_driver.proofs.Mapped.{any_asked, branch_by}
-use Rattle.xa_driver.proofs.Traces.{asked_grows}
-use Rattle.xa_atomicity.specs.{AreLeftAlone, AreLeftOrDecided, OnlyTheseName, OnlyTheseOrDecisionsName, IsDecidedAfter, KeepsItsVote, TellsTheFate, undecided}
-use Rattle.xa_atomicity.specs.{decided, told_fate, EachOutcome, KeepsTheVotes, TellsTheFates, has_committed, has_rolled_back, has_vote_against, is_rolled_back}
-use Rattle.xa_atomicity.specs.{is_in_doubt, is_heuristic, is_left, is_read_only, sent_so_far, Shares, CountsTheCommitted, HasAllOrNothing, is_decided, Tabled}
-use Rattle.xa_atomicity.specs.Outcomes.{is_committed}
-use Rattle.xa_atomicity.proofs.EachManager.{every_manager}
+use Rattle.xa_driver.specs.{Done}
+use Rattle.xa_atomicity.specs.{is_in_doubt, is_decided}
+use Rattle.xa_tables.specs.Histories as history
+use Rattle.xa_atomicity.proofs.Sites.{Site, StandsIn, Sent, AsksIn, stands_by, at_seam, IsFromTo, own_between}
+use Rattle.xa_atomicity.proofs.Courses.{Course, course_of, own_plain}
+use Rattle.xa_atomicity.proofs.OneOutcome.{every_manager, branch_map, positive_all, committed_law}
 use Rattle.xa_atomicity.proofs.Values.{Counted, branch_counts}
-use Rattle.xa_atomicity.proofs.Fated.{Told, branch_told}
-use Rattle.xa_atomicity.proofs.InLedgers.{heard, branch_in}
+use Rattle.xa_atomicity.proofs.Fated.{Told, branch_told, none_decides}
+
+-- how many requests a ledger has, and whether it has learnt that its manager is shut
+abbrev pub heard : LedgerView → Sent
+heard a = record { number = length a.sent; shut = learnt_shut a }
+
+-- ---- in the history
+
+module _ {t : ℕ} {T : Tables} {H : History} (s : Site t T H) (pairs : List (ℕ × Code))
+    (answered : All (λ p. slice_get (answers t (coded H T)) p.0 ≡ Some p) pairs) where
+  -- what the thread has sent and collected of what the ledger has
+  record Has (a : LedgerView) : Type 0 where
+    sent : Begins a.sent s.ops
+    collected : Begins a.collected pairs
+
+  stands_in : (a : LedgerView) (op : Op) (c : Code) → Has (with_collected (with_sent a op) (length a.sent) c) → StandsIn t (length a.sent) op c T H
+  stands_in a op c has =
+      let n : ℕ = length a.sent in
+      let there : ℕ × Code → Type 0 = λ p. slice_get (answers t (coded H T)) p.0 ≡ Some p in
+      stands_by s n op c (ap (λ l. slice_get l n) (has.sent.1 ∙ append_assoc a.sent (op ∷ []) has.sent.0) ∙ at_seam a.sent op has.sent.0)
+      (all_mid there a.collected has.collected.0 (n, c) (subst (All there) (has.collected.1 ∙ append_assoc a.collected ((n, c) ∷ []) has.collected.0) answered))
+
+  heard_after : (a : LedgerView) (op : Op) (c : Code)
+      → heard (with_collected (with_sent a op) (length a.sent) c) ≡ record { number = suc (length a.sent); shut = learnt_shut a || is_rm_fail c }
+  heard_after a op c =
+      let number : length (a.sent ++ op ∷ []) ≡ suc (length a.sent) = omega (arith, length-append a.sent (op ∷ [])) in
+      let shut : learnt_shut (with_collected (with_sent a op) (length a.sent) c) ≡ (learnt_shut a || is_rm_fail c) =
+      list_any-append (λ (p : ℕ × Code). is_rm_fail p.1) a.collected ((length a.sent, c) ∷ []) ∙ ap (λ b. learnt_shut a || b) (or_none (is_rm_fail c)) in
+      λ i. record { number = number i; shut = shut i }
+    where
+      or_none : (b : Bool) → (b || false) ≡ b
+      or_none true = refl
+      or_none false = refl
+
+  asks_so : (a a' : LedgerView) (op : Op) (c : Code) → AsksLedger a op a' c → Unit {0} → Has a' → AsksIn t T H (heard a) op (heard a') c
+  asks_so a a' op c is q has = search (arith, at_true, at_false, stands_in, heard_after, is.answered)
+
+  has_before : (a a' : LedgerView) (op : Op) (c : Code) → AsksLedger a op a' c → Has a' → Has a
+  has_before a a' op c is has =
+      let grown = asked_grows a (Some op) (Some c) in
+      let now = subst Has is.trace has in
+      record { sent = begins_on a.sent _ s.ops grown.sent now.sent; collected = begins_on a.collected _ pairs grown.collected now.collected }
+
+  pub branch_in : (b : Branch) (commit : Bool) (vote : Code) (second : Option Code) (ending : Ending) (a a' : LedgerView)
+      → AtBranch AsksLedger commit b vote second ending a a' → Begins a'.sent s.ops → Begins a'.collected pairs
+      → AtBranch (AsksIn t T H) commit b vote second ending (heard a) (heard a')
+  branch_in b commit vote second ending a a' is sent collected =
+      branch_mapped AsksLedger (AsksIn t T H) heard (λ z. Unit {0}) Has (λ d e op c is q. tt) has_before asks_so commit b vote second ending a a' is tt (record { sent = sent; collected = collected })
 
 -- what was sent to a manager, and collected from it, stands in the ledger with it
 pub by_ledger : {X : Type 0} (at : List LedgerView) (m : ℕ) (f : LedgerView → List X) → 1 ≤ m → f no_ledger ≡ []
@@ -72,19 +116,23 @@ module _ (law : Tabled) (s : Settling) (settled : IsSettled s) (t m : ℕ) (T : 
       (All-contains (λ (p : ℕ × Code). slice_get (answers t (coded (history_of s m) T)) p.0 ≡ Some p) (collected s t m) (n, c) answered_of
       (subst (λ (l : List (ℕ × Code)). Contains l (n, c)) (sym (by_ledger (ledgers_of s t) m (λ (l : LedgerView). l.collected) positive refl)) agreed))
 
--- a branch that didn't vote against is left only where it voted yes
-not_left : (commit : Bool) (vote : Code) (second : Option Code) → (is_yes vote ≡ true → is_left (ending_of commit vote second) ≡ false) → is_no vote ≡ false
-    → is_left (ending_of commit vote second) ≡ false
-not_left commit Voted second reached n = reached refl
-not_left commit RdOnly second reached n = refl
-not_left commit vote second reached n = cc
+-- of a branch that didn't vote against a test fails that fails where it voted yes, and where it only read
+unless_against : (test : Ending → Bool) (commit : Bool) (vote : Code) (second : Option Code) → test ReadOnly ≡ false
+    → (is_yes vote ≡ true → test (ending_of commit vote second) ≡ false) → is_no vote ≡ false → test (ending_of commit vote second) ≡ false
+unless_against test commit Voted second reads fails n = fails refl
+unless_against test commit RdOnly second reads fails n = reads
+unless_against test commit vote second reads fails n = cc
 
--- what is shown of each branch follows for each
+-- what is shown of each branch, of which C is known, follows for each
+pub outcome_all : (C : Branch → Type 0) (P Q : Branch → Code → Ending → Type 0) → ((b : Branch) (v : Code) (e : Ending) → C b → P b v e → Q b v e)
+    → (bs : List Branch) (vs : List Code) (es : List Ending) → All C bs → EachOutcome P bs vs es → EachOutcome Q bs vs es
+outcome_all C P Q f [] [] [] all h = tt
+outcome_all C P Q f (b ∷ bs) (v ∷ vs) (e ∷ es) all h = (f b v e (All-head C b bs all) h.0, outcome_all C P Q f bs vs es (All-tail C b bs all) h.1)
+outcome_all C P Q f bs vs es all h = absurd h
+
 pub outcome_map : (P Q : Branch → Code → Ending → Type 0) → ((b : Branch) (v : Code) (e : Ending) → P b v e → Q b v e)
     → (bs : List Branch) (vs : List Code) (es : List Ending) → EachOutcome P bs vs es → EachOutcome Q bs vs es
-outcome_map P Q f [] [] [] h = tt
-outcome_map P Q f (b ∷ bs) (v ∷ vs) (e ∷ es) h = (f b v e h.0, outcome_map P Q f bs vs es h.1)
-outcome_map P Q f bs vs es h = absurd h
+outcome_map P Q f bs vs es = outcome_all (λ b. Unit {0}) P Q (λ b v e _. f b v e) bs vs es (λ k d lt. tt)
 
 -- tables by which a history has the same codes give a request in it the same
 code_within : (before after : History) (r : Request) (T U : Tables) → coded (before ++ r ∷ after) T ≡ coded (before ++ r ∷ after) U
@@ -151,7 +199,7 @@ module _ (law : Tabled) (opened : (s : Settling) (m : ℕ) → IsSettled s → (
   -- and what it counts for, whose requests have the numbers from n to below `last`
   pub record Both (b : Branch) (n last : ℕ) (vote : Code) (ending : Ending) : Type 0 where
     pub fated : Fated b n vote ending
-    pub counted : (T : Tables) → IsOpenedWith s b.m T → Counted t b.xid T (history_of s b.m) n last vote ending
+    pub counted : (T : Tables) → IsOpenedWith s b.m T → Counted t b.xid T (history_of s b.m) n last ending
     pub undecided : is_no vote ≡ false → is_heuristic ending ≡ false
 
   -- ---- branches whose requests have the numbers from those of `old` to below those of `new`
@@ -181,16 +229,24 @@ module _ (law : Tabled) (opened : (s : Settling) (m : ℕ) → IsSettled s → (
           record {
             keeps = record { reached = z.reached; shut = z.shut; decided = λ y h U with_U. (one_voted only U with_U).decided y h };
             tells = tells_of s t b (old b.m) ending (λ before U with_U fits. (one_told only before U with_U fits).told) (λ before U with_U fits. (one_told only before U with_U fits).doubt);
-            unless_no = λ no. ap is_left ends ∙ not_left commit vote second (λ y. sym (ap is_left ends) ∙ z.reached y) no;
+            unless_no = λ no. ap is_left ends ∙ unless_against is_left commit vote second refl (λ y. sym (ap is_left ends) ∙ z.reached y) no;
             named = z.named;
           }
 
       pub one_both : OnlyTheseName b.xid t (old b.m) (new b.m) (history_of s b.m) → Both b (old b.m) (new b.m) vote ending
       one_both only =
           let open_ = opened s b.m settled in
-          let z : (U : Tables) → IsOpenedWith s b.m U → Counted t b.xid U (history_of s b.m) (old b.m) (new b.m) vote ending = λ U with_U.
-          branch_counts (site_of law s settled t b.m U with_U) b.xid (old b.m) (new b.m) commit vote ending (is U with_U).0 only in
-          search (arith, one_fated, open_.0)
+          let weak : OnlyTheseOrDecisionsName b.xid t (old b.m) (new b.m) (history_of s b.m) = λ before after r place own number k d lt named _.
+          only before after r place own number k d lt named in
+          let site = site_of law s settled t b.m open_.0 open_.1 in
+          let ends = (is open_.0 open_.1).1 in
+          let plain : is_yes vote ≡ true → is_heuristic ending ≡ false = λ y. false_from_ne_true (is_heuristic ending) (λ h.
+          none_decides site b.xid (old b.m) (new b.m) only (own_plain site b.xid (old b.m) (new b.m) vote commit ending (is open_.0 open_.1).0) ((one_voted weak open_.0 open_.1).decided y h)) in
+          record {
+            fated = one_fated weak;
+            counted = λ U with_U. branch_counts (site_of law s settled t b.m U with_U) b.xid (old b.m) (new b.m) commit vote ending (is U with_U).0 only;
+            undecided = λ no. ap is_heuristic ends ∙ unless_against is_heuristic commit vote second refl (λ y. sym (ap is_heuristic ends) ∙ plain y) no;
+          }
 
     -- each of them
     module _ (bs : List Branch) (vs : List Code) (zs : List (Option Code)) (es : List Ending) (each : EachBranch InHistory bs vs zs es) where
@@ -236,25 +292,15 @@ module _ (law : Tabled) (opened : (s : Settling) (m : ℕ) → IsSettled s → (
 
   module _ (bs : List Branch) (desk : DeskView) (new : List LedgerView) (log later : LogState) (d : Done)
       (settled : IsSettled s) (made : IsCommit bs desk new log later d) (grown : HaveGrown new (ledgers_of s t)) where
-    abbrev at : List LedgerView
-    at = desk.ledgers
+    open desk use {ledgers as at}
 
     abbrev In : Branch → Code → Option Code → Ending → Type 0
     In = InHistory settled d.commit (sent_so_far at) (sent_so_far new)
 
-    in_histories : (lo : ℕ) (cs : List Branch) (vs : List Code) (zs : List (Option Code)) (es : List Ending) → AreBranchesRising lo cs
-        → EachBranch (λ b v z e. AtBranch AsksLedger d.commit b v z e (ledger at b.m) (ledger new b.m)) cs vs zs es → EachBranch In cs vs zs es
-    in_histories lo [] [] [] [] rising h = tt
-    in_histories lo (b ∷ cs) (v ∷ vs) (z ∷ zs) (e ∷ es) rising h =
-        let up = rising.0 in
-        let positive : 1 ≤ b.m = omega (arith, up) in (
-          λ T with_T. (its_course law s t settled b d.commit v z e (ledger at b.m) (ledger new b.m) positive (grown.each b.m positive) h.0 T with_T, h.0.ends),
-          in_histories b.m cs vs zs es rising.1 h.1,
-        )
-    in_histories lo cs vs zs es rising h = absurd h
-
     each : EachBranch In bs d.votes.items made.trace.course.seconds d.endings.items
-    each = in_histories 0 bs d.votes.items made.trace.course.seconds d.endings.items made.may.rising made.trace.course.each
+    each =
+        branch_map (λ b. 1 ≤ b.m) (λ b v z e. AtBranch AsksLedger d.commit b v z e (ledger at b.m) (ledger new b.m)) In (λ b v z e positive h T with_T.
+        (its_course law s t settled b d.commit v z e (ledger at b.m) (ledger new b.m) positive (grown.each b.m positive) h T with_T, h.ends)) bs d.votes.items made.trace.course.seconds d.endings.items (positive_all 0 bs made.may.rising) made.trace.course.each
 
     module _ (alone : AreLeftOrDecided s t bs (sent_so_far at) (sent_so_far new)) where
       all_fated : EachOutcome (λ b v e. Fated b (sent_so_far at b.m) v e) bs d.votes.items d.endings.items
@@ -274,11 +320,11 @@ module _ (law : Tabled) (opened : (s : Settling) (m : ℕ) → IsSettled s → (
       counts_law = search (arith, each, outcome_map, all_outcomes)
 
       -- no branch was rolled back, and none voted against, where one was committed
-      pub whole_law : (has_committed d ≡ true → has_rolled_back d ≡ false) → (has_committed d ≡ true → has_vote_against d ≡ false) → is_decided d ≡ true
-          → HasAllOrNothing s t bs (sent_so_far at) d
-      whole_law agree unopposed sure =
+      pub whole_law : is_decided d ≡ true → HasAllOrNothing s t bs (sent_so_far at) d
+      whole_law sure =
           let none = or_parts _ _ (not-true _ sure) in
-          record { each = each_whole (has_committed d) (sent_so_far at) (sent_so_far new) bs d.votes.items d.endings.items agree unopposed (λ e. e) none.0 none.1 all_outcomes }
+          let whole = committed_law made.may.tran bs desk new log later d made made.may.one in
+          record { each = each_whole (has_committed d) (sent_so_far at) (sent_so_far new) bs d.votes.items d.endings.items (λ some. (whole some).kept) (λ some. (whole some).unopposed) (λ e. e) none.0 none.1 all_outcomes }
 
 -- ---- a commit only makes the lists grow
 

@@ -1,15 +1,209 @@
--- The requests of one thread to a manager, by their numbers in the manager's settled history.
-use Rattle.xa_base.proofs.{rules, ◌≡◌, ◌≢◌, ℕ, suc, ◌+◌, ◌<◌, ◌≤◌, Bool, true, ◌||◌, List, [], ◌∷◌, ◌++◌, length, slice_get, get_or, sym, refl, ap, ◌∙◌, subst}
-use Rattle.xa_base.proofs.{arith, Some, zero, All, filter-append, eq-eqb, some_same, all_left, all_after}
-use Rattle.xa_words.specs.{Code, RmFail, Op, Request}
-use Rattle.xa_tables.specs.{Tables, next, coded, of_thread, tables_after, IsOpening, History}
-use Rattle.xa_tables.proofs.Unnamed.{tables_after-append}
-use Rattle.xa_desk.specs.{is_rm_fail, numbered}
-use Rattle.xa_atomicity.specs.{Tabled}
-use Rattle.xa_switch.specs.{answers}
-use Rattle.xa_atomicity.proofs.Placing.{request_of, same_code, at_seam, part, answer_at, numbered_both}
-use Rattle.xa_driver.proofs.Ledgers.{numbered_length}
-use Rattle.xa_atomicity.proofs.Requests.{all_earlier, all_later, of_ops}
+-- Where the requests of one thread stand in its manager's settled history, by their numbers, and what they were answered.
+use Rattle.xa_atomicity.proofs.Words.{map-append, ◌≡◌, ◌≢◌, ℕ, zero, suc, ◌+◌, ◌<◌, true, false, ◌==◌, cond, List, [], ◌∷◌, ◌++◌, length, map, slice_get}
+use Rattle.xa_atomicity.proofs.Words.{get_or, sym, refl, ap, ◌∙◌, arith, Option, Some, None, filter, cons_option, eq-eqb, filter-append, some_pair_parts}
+use Rattle.xa_atomicity.proofs.Words.{XidName, Op, Request, Code, Tables, next, Fate, of_thread, tables_after, coded, fate_of, fate_in, fates_in, last_or}
+use Rattle.xa_atomicity.proofs.Words.{History, numbered, Entry, answers, rules, Bool, ◌≤◌, length-append, subst, or_parts, eqb-false, ne_eqb, list_any, All}
+use Rattle.xa_atomicity.proofs.Words.{All-nil, All-cons, slice_get_within, and_right, closes, is_close, numbered_length, All-contains, Contains, ◌-◌, ◌||◌}
+use Rattle.xa_atomicity.proofs.Words.{some_same, all_left, all_after, RmFail, IsOpening, tables_after-append, is_rm_fail, Tabled}
+use Rattle.xa_tables.proofs.WorkLaw.{others_first}
+use Rattle.xa_base.proofs.{all_at}
+use Rattle.std.proofs.lemmas.List.{get_or-append_right, get_or_append_left}
+use Rattle.std.proofs.lemmas.Option.{get_or_from_slice_get}
+
+-- thread t's request of number n
+abbrev pub request_of : ℕ → ℕ → Op → Request
+request_of t n op = record { thread = t; number = n; op = op }
+
+pub at_seam : {A : Type 0} (xs : List A) (y : A) (ys : List A) → slice_get (xs ++ y ∷ ys) (length xs) ≡ Some y
+at_seam [] y ys = refl
+at_seam (x ∷ xs) y ys = at_seam xs y ys
+
+-- ---- a history, parted at a request of the thread
+
+pub record Parted (t : ℕ) (xs ys : History) (r : Request) (h : History) : Type 0 where
+  pub before : History
+  pub after : History
+  pub place : h ≡ before ++ r ∷ after
+  pub earlier : of_thread t before ≡ xs
+  pub later : of_thread t after ≡ ys
+
+module _ (t : ℕ) where
+  part_first : (q : Request) (h : History) (xs ys : History) (r : Request) → (q.thread == t) ≡ true → q ∷ of_thread t h ≡ xs ++ r ∷ ys
+      → ((zs : History) → of_thread t h ≡ zs ++ r ∷ ys → Parted t zs ys r h) → Parted t xs ys r (q ∷ h)
+  part_first q h [] ys r own e on =
+      let head : q ≡ r = cc in
+      let tail : of_thread t h ≡ ys = cc in
+      record { before = []; after = h; place = ap (λ (p : Request). p ∷ h) head; earlier = refl; later = tail }
+  part_first q h (z ∷ zs) ys r own e on =
+      let head : q ≡ z = cc in
+      let tail : of_thread t h ≡ zs ++ r ∷ ys = cc in
+      let p = on zs tail in
+      record {
+        before = q ∷ p.before;
+        after = p.after;
+        place = ap (λ l. q ∷ l) p.place;
+        earlier = ap (λ b. cond b (q ∷ of_thread t p.before) (of_thread t p.before)) own ∙ (λ i. head i ∷ p.earlier i);
+        later = p.later;
+      }
+
+  pub part : (h : History) (xs ys : History) (r : Request) → of_thread t h ≡ xs ++ r ∷ ys → Parted t xs ys r h
+  part [] [] ys r e = cc
+  part [] (x ∷ xs) ys r e = cc
+  part (q ∷ h) xs ys r e =
+      elim (q.thread == t) as (λ b. (q.thread == t) ≡ b → cond b (q ∷ of_thread t h) (of_thread t h) ≡ xs ++ r ∷ ys → Parted t xs ys r (q ∷ h)) [
+        | true ↦ λ own e. part_first q h xs ys r own e (λ zs tail. part h zs ys r tail)
+        | false ↦ λ other e.
+            let p = part h xs ys r e in
+            record {
+              before = q ∷ p.before;
+              after = p.after;
+              place = ap (λ l. q ∷ l) p.place;
+              earlier = ap (λ b. cond b (q ∷ of_thread t p.before) (of_thread t p.before)) other ∙ p.earlier;
+              later = p.later;
+            }
+      ] refl e
+
+  -- nothing of the thread
+  pub all_others : (h : History) → of_thread t h ≡ [] → (k : ℕ) (d : Request) → k < length h → (get_or h k d).thread ≢ t
+  all_others [] e k d lt = absurd (omega arith)
+  all_others (q ∷ h) e zero d lt = (others_first t q h e).0
+  all_others (q ∷ h) e (suc k) d lt = all_others h (others_first t q h e).1 k d (omega arith)
+
+  -- ---- the answers
+
+  answers_both : (xs ys : List Entry) → answers t (xs ++ ys) ≡ answers t xs ++ answers t ys
+  answers_both xs ys = search (arith, filter-append, map-append)
+
+  answers_length : (h : History) (T : Tables) → length (answers t (coded h T)) ≡ length (of_thread t h)
+  answers_length [] T = refl
+  answers_length (r ∷ h) T =
+      let T1 : Tables = (next r.thread r.op T).0 in
+      let own : Entry = (r, (next r.thread r.op T).1) in
+      let told : List Entry → List (ℕ × Code) = λ es. map (λ (e : Entry). (e.0.number, e.1)) es in
+      elim (r.thread == t) as (λ b. length (told (cond b (own ∷ filter (λ (e : Entry). e.0.thread == t) (coded h T1)) (filter (λ (e : Entry). e.0.thread == t) (coded h T1))))
+      ≡ length (cond b (r ∷ of_thread t h) (of_thread t h))) [
+        | true ↦ let z = answers_length h T1 in omega (arith, z)
+        | false ↦ answers_length h T1
+      ]
+
+  pub coded_both : (h g : History) (T : Tables) → coded (h ++ g) T ≡ coded h T ++ coded g (tables_after h T)
+  coded_both [] g T = refl
+  coded_both (r ∷ h) g T = ap (λ l. (r, (next r.thread r.op T).1) ∷ l) (coded_both h g (next r.thread r.op T).0)
+
+  -- what a request of the thread is answered, after n others of it
+  pub answer_at : (before after : History) (r : Request) (T : Tables) (n : ℕ) → r.thread ≡ t → length (of_thread t before) ≡ n
+      → slice_get (answers t (coded (before ++ r ∷ after) T)) n ≡ Some (r.number, (next r.thread r.op (tables_after before T)).1)
+  answer_at before after r T n own count = search (arith, eq-eqb, slice_get, coded_both, answers_both, answers_length, at_seam, r.thread, r.op)
+
+-- ---- numbers
+
+pub numbered_both : (t n : ℕ) (xs ys : List Op) → numbered t n (xs ++ ys) ≡ numbered t n xs ++ numbered t (n + length xs) ys
+numbered_both t n [] ys = ap (λ k. numbered t k ys) (let e : n ≡ n + 0 = omega arith in e)
+numbered_both t n (x ∷ xs) ys = search (arith, numbered_both t (suc n) xs ys)
+
+-- the code of an answer
+pub same_code : (o : Option (ℕ × Code)) (n m : ℕ) (c d : Code) → o ≡ Some (n, c) → o ≡ Some (m, d) → c ≡ d
+same_code o n m c d e f = (some_pair_parts n m c d (sym e ∙ f)).1
+
+-- ---- fates
+
+-- the fates that a history gives x, one by one
+abbrev pub fates : XidName → History → Tables → List Fate
+fates x h T = fates_in x (coded h T)
+
+pub fates_both : (x : XidName) (h g : History) (T : Tables) → fates x (h ++ g) T ≡ fates x h T ++ fates x g (tables_after h T)
+fates_both x [] g T = refl
+fates_both x (r ∷ h) g T =
+    let o : Option Fate = fate_of x r.op (next r.thread r.op T).1 in
+    let T1 : Tables = (next r.thread r.op T).0 in
+    ap (cons_option o) (fates_both x h g T1)
+    ∙ elim o as (λ o. cons_option o (fates x h T1 ++ fates x g (tables_after h T1)) ≡ cons_option o (fates x h T1) ++ fates x g (tables_after h T1)) [ None ↦ refl | Some f ↦ refl ]
+
+pub last_both : (f : Fate) (xs ys : List Fate) → last_or f (xs ++ ys) ≡ last_or (last_or f xs) ys
+last_both f [] ys = refl
+last_both f (x ∷ xs) ys = last_both x xs ys
+
+-- the fate is what a request makes of the branch, where nothing after it makes anything of it
+pub fate_is : (x : XidName) (before after : History) (r : Request) (T : Tables) (f0 f : Fate)
+    → fate_of x r.op (next r.thread r.op (tables_after before T)).1 ≡ Some f
+    → fates x after (next r.thread r.op (tables_after before T)).0 ≡ [] → fate_in x f0 (coded (before ++ r ∷ after) T) ≡ f
+fate_is x before after r T f0 f e none = search (arith, fates_both, cons_option, last_both)
+
+pub none_first : (x : XidName) (r : Request) (h : History) (T : Tables) → fate_of x r.op (next r.thread r.op T).1 ≡ None
+    → fates x h (next r.thread r.op T).0 ≡ [] → fates x (r ∷ h) T ≡ []
+none_first x r h T e f = λ i. cons_option (e i) (f i)
+
+-- a request of another thread doesn't close for this one
+pub closes_other : (t : ℕ) (r : Request) → r.thread ≢ t → closes t r ≡ false
+closes_other t r differs = and_right (is_close r.op) (r.thread == t) (ne_eqb r.thread t differs)
+
+-- what is known of each that was sent, and its number, is known of each of the thread's requests
+pub of_ops : (t : ℕ) (Q : ℕ → Op → Type 0) (h : History) (n : ℕ) (ops : List Op) → of_thread t h ≡ numbered t n ops
+    → ((k : ℕ) (op : Op) → slice_get ops k ≡ Some op → Q (n + k) op) → All (λ r. r.thread ≡ t → Q r.number r.op) h
+of_ops t Q [] n ops e known = All-nil (λ (r : Request). r.thread ≡ t → Q r.number r.op)
+of_ops t Q (q ∷ h) n ops e known =
+    let P : Request → Type 0 = λ r. r.thread ≡ t → Q r.number r.op in
+    elim (q.thread == t) as (λ b. (q.thread == t) ≡ b → cond b (q ∷ of_thread t h) (of_thread t h) ≡ numbered t n ops → All P (q ∷ h)) [
+      | false ↦ λ other e. All-cons P q h (λ own. absurd (eqb-false q.thread t other own)) (of_ops t Q h n ops e known)
+      | true ↦ λ mine.
+          elim ops as (λ o. ((k : ℕ) (op : Op) → slice_get o k ≡ Some op → Q (n + k) op) → q ∷ of_thread t h ≡ numbered t n o → All P (q ∷ h)) [
+            | [] ↦ λ known e. cc
+            | op ∷ rest ↦ λ known e.
+                let head : q ≡ request_of t n op = cc in
+                let tail : of_thread t h ≡ numbered t (suc n) rest = cc in
+                let number : n + 0 ≡ q.number = let z = ap (λ (p : Request). p.number) head in omega (arith, z) in
+                let here : Q q.number q.op = search (arith, rules) in
+                All-cons P q h (λ _. here) (of_ops t Q h (suc n) rest tail (λ k o at. subst (λ j. Q j o) (let z : n + suc k ≡ suc n + k = omega arith in z) (known (suc k) o at)))
+          ] known
+    ] refl e
+
+-- a test that no element passes
+pub none_all : {A : Type 0} (p : A → Bool) (xs : List A) → list_any p xs ≡ false → All (λ x. p x ≡ false) xs
+none_all p [] none = All-nil (λ x. p x ≡ false)
+none_all p (x ∷ xs) none =
+    let parts = or_parts (p x) (list_any p xs) none in All-cons (λ y. p y ≡ false) x xs parts.0 (none_all p xs parts.1)
+
+-- so the numbers of the thread's requests rise, and are below how many there are
+pub all_later : (t : ℕ) (h : History) (n : ℕ) (ops : List Op) → of_thread t h ≡ numbered t n ops → All (λ r. r.thread ≡ t → n ≤ r.number) h
+all_later t h n ops e = of_ops t (λ j op. n ≤ j) h n ops e (λ k op at. omega arith)
+
+pub all_earlier : (t : ℕ) (h : History) (n : ℕ) (ops : List Op) → of_thread t h ≡ numbered t n ops → All (λ r. r.thread ≡ t → r.number < n + length ops) h
+all_earlier t h n ops e = of_ops t (λ j op. j < n + length ops) h n ops e (λ k op at. let within = slice_get_within ops k op at in omega (arith, within))
+
+-- what is known of each that was sent
+pub own_all : (t : ℕ) (P : Op → Type 0) (h : History) (n : ℕ) (ops : List Op) → of_thread t h ≡ numbered t n ops → All P ops
+    → All (λ r. r.thread ≡ t → P r.op) h
+own_all t P h n ops e all = of_ops t (λ k op. P op) h n ops e (λ k op at. all_at P ops k op all at)
+
+-- what is known of each that was sent from one number to another
+abbrev pub IsFromTo : (Op → Type 0) → ℕ → ℕ → ℕ → Op → Type 0
+IsFromTo P from to n op = from ≤ n → n < to → P op
+
+pub own_between : (t : ℕ) (P : Op → Type 0) (h : History) (pre mid post : List Op) → of_thread t h ≡ numbered t 0 (pre ++ (mid ++ post)) → All P mid
+    → All (λ r. r.thread ≡ t → IsFromTo P (length pre) (length pre + length mid) r.number r.op) h
+own_between t P h pre mid post e all =
+    of_ops t (IsFromTo P (length pre) (length pre + length mid)) h 0 (pre ++ (mid ++ post)) e (λ k op at from to.
+    let past : length pre ≤ k = omega (arith, from) in
+    let in_mid : k - length pre < length mid = omega (arith, from, to) in
+    let is : get_or mid (k - length pre) op ≡ op =
+    sym (get_or-append_right pre (mid ++ post) (length pre) k op refl past ∙ get_or_append_left mid post op (k - length pre) in_mid) ∙ get_or_from_slice_get (pre ++ (mid ++ post)) k op op at in
+    subst P is (all (k - length pre) op in_mid))
+
+-- ---- the code of a request
+
+-- it is the one that was collected
+pub code_there : (t : ℕ) (H : History) (T : Tables) (pairs : List (ℕ × Code)) (n : ℕ) (code : Code)
+    → All (λ p. slice_get (answers t (coded H T)) p.0 ≡ Some p) pairs → Contains pairs (n, code)
+    → (before after : History) (op : Op) → H ≡ before ++ request_of t n op ∷ after → length (of_thread t before) ≡ n
+    → code ≡ (next t op (tables_after before T)).1
+code_there t H T pairs n code answered collected before after op place count =
+    let is : slice_get (answers t (coded H T)) n ≡ Some (n, (next t op (tables_after before T)).1) = search (arith, slice_get, answer_at, request_of) in
+    same_code _ n n code _ (All-contains (λ p. slice_get (answers t (coded H T)) p.0 ≡ Some p) pairs (n, code) answered collected) is
+
+-- how many of the thread's stand before the second of two of its requests
+pub count_two : (t n : ℕ) (op : Op) (before mid : History) (xs ys : List Op) → of_thread t before ≡ numbered t 0 xs → of_thread t mid ≡ numbered t (suc n) ys
+    → length (of_thread t (before ++ request_of t n op ∷ mid)) ≡ suc (length xs) + length ys
+count_two t n op before mid xs ys first second = search (arith, request_of, eq-eqb, numbered_length, filter-append, length-append)
 
 -- ---- a thread and a manager of a settled opening
 

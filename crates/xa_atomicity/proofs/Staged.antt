@@ -1,18 +1,119 @@
--- Each stage of a commit is one that was cut short, whatever else was done between them.
-use Rattle.xa_base.proofs.{arith, ◌≡◌, ℕ, Bool, true, false, not, ◌&&◌, ◌||◌, Option, Some, List, [], ◌∷◌, map, refl, inl, inr, get_or, sym, ap, ◌∙◌, subst}
-use Rattle.xa_base.proofs.{All, All-nil, All-cons, All-head, All-tail}
-use Rattle.xa_atomicity.proofs.CutSends.{seconds_are}
-use Rattle.xa_words.specs.{TranName, Op, Prepare, Code}
-use Rattle.xa_desk.specs.{LedgerView, DeskView, ledger}
-use Rattle.xa_driver.specs.{Branch, Ending, Prepared, Decided, Told, Ask, EachAsk, HaveComeSoFar, IsBegun, SameAsks, collected, unasked, decides_commit}
-use Rattle.xa_driver.specs.{has_yes, yes_of, second_op, third_op, ending_of, code_of, ending_of_ask, first_ask, second_ask, third_ask, yes_asked, HasDecided}
-use Rattle.xa_driver.specs.{HasPrepared, HasTold, HasVoted, EachBranch, IsTranOf, Logs, MayCommit, appended, decision_of, wants_record}
+-- Each stage of a commit is one that was cut short, whatever else was done between them; and so is a commit whose
+-- coordinator died.
+use Rattle.xa_atomicity.proofs.Words.{◌≡◌, ℕ, zero, suc, Bool, Option, Some, None, List, [], ◌∷◌, arith, length, refl, subst, All, All-nil, All-cons}
+use Rattle.xa_atomicity.proofs.Words.{TranName, Death, Op, Code, LedgerView, DeskView, ledger, Branch, Ending, IsBegun, collected, in_flight, unasked, Dies}
+use Rattle.xa_atomicity.proofs.Words.{HaveAsked, HaveTold, PutsLedger, Tells, VotesAndHears, VotesAndObeys, withheld, second_op, AsksLedger, EachBranch}
+use Rattle.xa_atomicity.proofs.Words.{IsTranOf, MayCommit, decision_of, one_tran, trace_for, LogState, CameSoFar, DidOther, EachVote, IsAsked, IsCut, IsEnded}
+use Rattle.xa_atomicity.proofs.Words.{IsTold, asking, forgetting, telling, true, false, not, ◌&&◌, ◌||◌, map, inl, inr, get_or, sym, ap, ◌∙◌, All-head}
+use Rattle.xa_atomicity.proofs.Words.{All-tail, Prepare, Decided, Told, Ask, EachAsk, HaveComeSoFar, SameAsks, decides_commit, has_yes, yes_of, third_op}
+use Rattle.xa_atomicity.proofs.Words.{ending_of, code_of, ending_of_ask, first_ask, second_ask, third_ask, yes_asked, HasDecided, HasPrepared, HasTold}
+use Rattle.xa_atomicity.proofs.Words.{HasVoted, Logs, appended, wants_record, LeavesBranches, IsEither, with_record, first_trace, second_code, second_is}
+use Rattle.xa_atomicity.proofs.Words.{second_trace, yes_is, same_itself, rules}
+use Rattle.xa_driver.specs.{Done, Prepared}
+use Rattle.xa_driver.specs.Deaths.{sent}
 use Rattle.xa_driver.specs.Asks.{Asks}
-use Rattle.xa_atomicity.specs.{DidOther, EachVote, IsAsked, IsCut, IsTold, LeavesBranches, asking, forgetting, telling}
-use Rattle.xa_log.specs.{LogState, IsEither, with_record}
-use Rattle.xa_driver.proofs.Calls.{first_trace, second_code, second_is, second_trace, yes_is, one_tran}
+use Rattle.xa_words.specs.declared.death.Death.TheVariants as death
 use Rattle.xa_atomicity.proofs.CutVotes.{Ended, did_nothing}
-use Rattle.xa_driver.proofs.Gathering.{same_itself}
+use Rattle.xa_atomicity.proofs.OneOutcome.{branch_map}
+use Rattle.xa_atomicity.proofs.CutSends.{seconds_are}
+
+-- ---- one request
+
+puts_begun : (a a' : LedgerView) (op : Op) → PutsLedger a op a' → IsBegun (Some op) a a'
+puts_begun a a' op (sent open_ is) = in_flight op refl open_ is
+puts_begun a a' op (withheld shut is) = unasked is
+
+tells_begun : (k : ℕ) (op : Option Op) (a a' : LedgerView) → Tells AsksLedger PutsLedger k op a a' → IsBegun op a a'
+tells_begun k None a a' same = unasked same
+tells_begun zero (Some op) a a' put = puts_begun a a' op put
+tells_begun (suc k) (Some op) a a' answered = collected (Some answered.0) answered.1
+
+-- ---- one branch
+
+hears_told : (commit : Bool) (k : ℕ) (b : Branch) (v : Code) (a a' : LedgerView) → VotesAndHears AsksLedger PutsLedger commit k b v a a'
+    → IsTold commit b v a a'
+hears_told commit k b v a a' h = record {
+  prepared = h.prepares.answered;
+  start = h.prepared;
+  between = subst (λ (x : LedgerView). DidOther b.xid x h.prepared) h.prepares.trace (did_nothing b.xid h.prepared);
+  tells = tells_begun k (second_op commit b.xid v) h.prepared a' h.tells;
+}
+
+obeys_ended : (commit : Bool) (b : Branch) (v : Code) (s : Option Code) (e : Ending) (a a' : LedgerView) → VotesAndObeys AsksLedger commit b v s e a a'
+    → IsEnded commit b v s a a'
+obeys_ended commit b v s e a a' o =
+    let second = trace_for (second_op commit b.xid v) s o.prepared a' o.obeys in
+    record {
+      prepared = o.prepares.answered;
+      start = o.prepared;
+      between = subst (λ (x : LedgerView). DidOther b.xid x o.prepared) o.prepares.trace (did_nothing b.xid o.prepared);
+      seconded = second.answered;
+      told = a';
+      after = subst (λ (x : LedgerView). DidOther b.xid x a') second.trace (did_nothing b.xid a');
+      forgets = unasked refl;
+    }
+
+-- ---- all branches
+
+module _ (old new : List LedgerView) where
+  abbrev Asked : Branch → Type 0
+  Asked b = IsAsked b (ledger old b.m) (ledger new b.m)
+
+  died_asked : (bs : List Branch) (vs : List Code) → HaveAsked AsksLedger PutsLedger bs vs (ledger old) (ledger new) → All Asked bs
+  died_asked [] vs h = All-nil Asked
+  died_asked (b ∷ bs) [] h = search (arith, died_asked bs, All-cons, puts_begun, did_nothing, b.xid)
+  died_asked (b ∷ bs) (v ∷ vs) h =
+      All-cons Asked b bs (record { left = ledger new b.m; asks = collected (Some v) h.0; after = did_nothing b.xid (ledger new b.m) }) (died_asked bs vs h.1)
+
+  -- all have voted, and none was told
+  all_voted : (commit : Bool) (bs : List Branch) (vs : List Code) → length vs ≡ length bs
+      → HaveAsked AsksLedger PutsLedger bs vs (ledger old) (ledger new) → EachVote (λ b v. IsTold commit b v (ledger old b.m) (ledger new b.m)) bs vs
+  all_voted commit [] [] long h = tt
+  all_voted commit [] (v ∷ vs) long h = absurd h
+  all_voted commit (b ∷ bs) [] long h = absurd (omega (arith, long))
+  all_voted commit (b ∷ bs) (v ∷ vs) long h = (
+    record {
+      prepared = h.0.answered;
+      start = ledger new b.m;
+      between = subst (λ (x : LedgerView). DidOther b.xid x (ledger new b.m)) h.0.trace (did_nothing b.xid (ledger new b.m));
+      tells = unasked refl;
+    },
+    all_voted commit bs vs (omega (arith, long)) h.1,
+  )
+
+  died_told : (commit : Bool) (k : ℕ) (bs : List Branch) (vs : List Code) → HaveTold AsksLedger PutsLedger commit k bs vs (ledger old) (ledger new)
+      → EachVote (λ b v. IsTold commit b v (ledger old b.m) (ledger new b.m)) bs vs
+  died_told commit k [] [] h = tt
+  died_told commit k (b ∷ bs) (v ∷ vs) h = (hears_told commit k b v (ledger old b.m) (ledger new b.m) h.0, died_told commit _ bs vs h.1)
+  died_told commit k bs vs h = absurd h
+
+-- ---- the death
+
+came_so_far : (at : Death) (tran : TranName) (bs : List Branch) (old new : List LedgerView) (log later : LogState) (known : Done)
+    → Dies AsksLedger PutsLedger at tran bs (ledger old) (ledger new) log later known → CameSoFar tran bs old new log later known.endings.items
+came_so_far (death.Preparing k) tran bs old new log later known d = search (arith, died_asked, d.far.unlogged, d.far.endings, known.votes.items)
+came_so_far death.Prepared tran bs old new log later known d = asking d.far.unlogged d.far.endings (died_asked old new bs known.votes.items d.far.asked)
+came_so_far death.Decided tran bs old new log later known d =
+    telling known.votes.items known.logged d.far.decided.logs d.far.endings
+    (all_voted old new (decision_of known.votes.items known.logged) bs known.votes.items d.far.counted d.far.asked)
+came_so_far (death.Telling k) tran bs old new log later known d =
+    telling known.votes.items known.logged d.far.decided.logs d.far.endings
+    (subst (λ (c : Bool). EachVote (λ b v. IsTold c b v (ledger old b.m) (ledger new b.m)) bs known.votes.items) d.far.decided.decision
+    (died_told old new known.commit k bs known.votes.items d.far.told))
+came_so_far death.Told tran bs old new log later known d =
+    forgetting known.votes.items known.logged d.far.seconds d.far.decided.logs
+    (subst (λ (c : Bool). EachBranch (Ended c old new) bs known.votes.items d.far.seconds known.endings.items) d.far.decided.decision
+    (branch_map (λ b. Unit {0}) (λ b v s e. VotesAndObeys AsksLedger known.commit b v s e (ledger old b.m) (ledger new b.m)) (Ended known.commit old new) (λ b v s e _ o. (obeys_ended known.commit b v s e (ledger old b.m) (ledger new b.m) o, o.ends)) bs known.votes.items d.far.seconds known.endings.items (λ k d lt. tt) d.far.each))
+
+pub died_is_cut : (at : Death) (tran : TranName) (bs : List Branch) (desk : DeskView) (new : List LedgerView) (log later : LogState) (known : Done)
+    → MayCommit desk log bs → IsTranOf bs tran → Dies AsksLedger PutsLedger at tran bs (ledger desk.ledgers) (ledger new) log later known
+    → length new ≡ length desk.ledgers → IsCut bs desk new log later known.endings.items
+died_is_cut at tran bs desk new log later known may of_tran dies managers = record {
+  may = may;
+  far = subst (λ (t : TranName). CameSoFar t bs desk.ledgers new log later known.endings.items) (one_tran bs tran may.tran may.some of_tran may.one)
+      (came_so_far at tran bs desk.ledgers new log later known dies);
+  managers = managers;
+}
 
 -- ---- one request
 
@@ -52,9 +153,6 @@ module _ (commit : Bool) (old mid tell now : List LedgerView) where
       → All (Other mid tell) bs → All (Begun tell now) js
       → EachVote (λ b v. IsTold commit b v (ledger old b.m) (ledger now b.m)) bs (map code_of ks)
   all_told [] [] js s q e f g = tt
-  all_told [] (k ∷ ks) js s q e f g = absurd s
-  all_told (b ∷ bs) [] js s q e f g = absurd s
-  all_told (b ∷ bs) (k ∷ ks) [] s q e f g = absurd q
   all_told (b ∷ bs) (k ∷ ks) (j ∷ js) s q e f g =
       let x = first_trace b k old mid s.0 e.0 in (
         record {
@@ -65,6 +163,7 @@ module _ (commit : Bool) (old mid tell now : List LedgerView) where
         },
         all_told bs ks js s.1 q.1 e.1 (All-tail (Other mid tell) b bs f) (All-tail (Begun tell now) j js g),
       )
+  all_told _ _ _ s q e f g = absurd (search rules)
 
 module _ (commit : Bool) (old mid tell late start now : List LedgerView) where
   all_ended : (bs : List Branch) (ks js ls : List Ask) → SameAsks (map first_ask bs) ks → SameAsks (map (second_ask commit) ks) js
@@ -72,11 +171,6 @@ module _ (commit : Bool) (old mid tell late start now : List LedgerView) where
       → All (Begun start now) ls
       → EachBranch (Ended commit old now) bs (map code_of ks) (map second_code js) (map (ending_of_ask commit) js)
   all_ended [] [] [] ls s q u e f g h w = tt
-  all_ended [] [] (j ∷ js) ls s q u e f g h w = absurd q
-  all_ended [] (k ∷ ks) js ls s q u e f g h w = absurd s
-  all_ended (b ∷ bs) [] js ls s q u e f g h w = absurd s
-  all_ended (b ∷ bs) (k ∷ ks) [] ls s q u e f g h w = absurd q
-  all_ended (b ∷ bs) (k ∷ ks) (j ∷ js) [] s q u e f g h w = absurd u
   all_ended (b ∷ bs) (k ∷ ks) (j ∷ js) (l ∷ ls) s q u e f g h w =
       let x = first_trace b k old mid s.0 e.0 in
       let y = second_trace commit b k j tell late s.0 q.0 g.0 in
@@ -95,6 +189,7 @@ module _ (commit : Bool) (old mid tell late start now : List LedgerView) where
         ),
         all_ended bs ks js ls s.1 q.1 u.1 e.1 (All-tail (Other mid tell) b bs f) g.1 (All-tail (Other late start) b bs h) (All-tail (Begun start now) l ls w),
       )
+  all_ended _ _ _ _ s q u e f g h w = absurd (search rules)
 
 pub nothing_between : (bs : List Branch) (at : List LedgerView) → LeavesBranches bs at at
 nothing_between bs at = record { each = λ k d lt. did_nothing (get_or bs k d).xid (ledger at (get_or bs k d).m); managers = refl }
@@ -117,14 +212,12 @@ none_so_far ks at = record { each = none_begun ks at; others = λ m positive non
 
 module _ (bs : List Branch) (desk : DeskView) (mid tell : List LedgerView) (log later : LogState) (p : Prepared) (d : Decided) (may : MayCommit desk log bs)
     (first : HasPrepared bs desk.ledgers mid p) (between : LeavesBranches bs mid tell) (second : HasDecided p log later d) where
-  abbrev asks : List Ask
-  asks = p.round.asks.items
+  open p use {round.{asks.{items as asks}}}
 
   abbrev votes : List Code
   votes = map code_of asks
 
-  abbrev commit : Bool
-  commit = d.known.commit
+  open d use {known.{commit}}
 
   logs_are : Logs may.tran (yes_of bs votes) votes d.known.logged log later
   logs_are = search (arith, one_tran, yes_is)

@@ -1,53 +1,233 @@
--- What a branch that nobody else named counts for, over the settled history of its manager: its additions, and what the
--- call's requests moved.
-use Rattle.xa_atomicity.proofs.Courses.{Unreached, Reads, Breaks, Stays, Agrees, Refuses, yes_is, read_is, Sends, SendsOne, Course, rest_forgets}
-use Rattle.std.proofs.lemmas.Bool.{both_ways}
-use Rattle.xa_base.proofs.{false_from_ne_true, cases_lt, by_bool, at_true, ℤ, pos, ◌+ℤ◌, ◌≡◌, ◌≢◌, ℕ, suc, ◌+◌, inl, inr, Bool, true, false, if◌then◌else◌}
-use Rattle.xa_base.proofs.{List, [], ◌∷◌, ◌++◌, get_or, sym, refl, ap, ◌∙◌, subst, arith, Option, Some, None, All, cons_option, +ℤ_idl as none_plus}
-use Rattle.xa_base.proofs.{+ℤ_idr as plus_none, all_left, all_after}
-use Rattle.xa_atomicity.proofs.OneOutcome.{neither}
-use Rattle.xa_words.specs.{XidName, xid_eq, Done, RdOnly, RmFail, Op, Prepare, Commit, Rollback, Forget, Request, Code}
-use Rattle.xa_words.proofs.Xids.{xid_self}
-use Rattle.xa_tables.specs.{HeuristicDecision, next, Fate, fate_of, tables_after, is_done, prepare_fate, rollback_fate, ending, share, moved, moved_by, held_by}
-use Rattle.xa_tables.specs.{names, NamesNowhere, LeavesWaiting, AwaitsTheOutcome, is_forget, fates_when, Tables, History}
-use Rattle.xa_tables.proofs.Unnamed.{tables_after-append, unnamed_fate}
+-- What a branch that nobody else named counts for, over the settled history of its manager: what the requests of one thread
+-- move there, the share that a value has of an addition, by the fates of its branch, and both for a branch of a call.
+use Rattle.xa_atomicity.proofs.Words.{by_if, false_from_ne_true, and_parts, eqb-true, le-leb, ℤ, pos, ◌+ℤ◌, nat_le, if◌then◌else◌, ◌≡◌, ℕ, suc, ◌<◌, ◌≤◌}
+use Rattle.xa_atomicity.proofs.Words.{Bool, true, false, ◌==◌, ◌&&◌, List, [], ◌∷◌, ◌++◌, length, get_or, sym, refl, ap, ◌∙◌, arith, eq-eqb, All, ints}
+use Rattle.xa_atomicity.proofs.Words.{and-false, +ℤ_idl as none_plus, +ℤ_idr as plus_none, Answer, next, tables_after, is_done, moved, moved_by, held_by}
+use Rattle.xa_atomicity.proofs.Words.{Tables, History, lt-leb, leb-true, leb-false, Op, Commit, Heur, Request, Code, is_commit, taken_before, option_map}
+use Rattle.xa_atomicity.proofs.Words.{append_assoc, Option, Some, None, cons_option, XidName, Decides-key_eq, Prepare, Association, association_of, Fate}
+use Rattle.xa_atomicity.proofs.Words.{added_by, coded, commits_later, ending, ending_by, fate_of, or_later, share, EndsNowhere, tables_after-append}
+use Rattle.xa_atomicity.proofs.Words.{IsAddition, prepare_of, both_ways, at_true, ◌≢◌, ◌+◌, subst, all_left, all_after, Done, RdOnly, RmFail, Rollback}
+use Rattle.xa_atomicity.proofs.Words.{Forget, xid_self, names, NamesNowhere, is_forget, unnamed_fate, Ending, ReadOnly, RolledBack, Left, is_yes, yes_ending}
+use Rattle.xa_atomicity.proofs.Words.{no_ending, IsBetween, OnlyTheseName, is_read_only as is_read_only_ending, none_later, is_committed, All-cons}
+use Rattle.xa_atomicity.proofs.Words.{cases_Bool, outcome_op, RbIntegrity, by_bool, Start, xid_eq}
+use Rattle.xa_tables.specs.{commit_fate}
 use Rattle.xa_tables.specs.Histories as history
-use Rattle.xa_desk.specs.{is_rm_fail}
-use Rattle.xa_driver.specs.{Ending, Committed, ReadOnly, RolledBack, InDoubt, Heuristic, Left, is_yes, is_no, is_read, yes_ending, no_ending}
-use Rattle.xa_driver.specs.{is_heuristic as is_heuristic_code, is_commit}
-use Rattle.xa_atomicity.specs.{IsBetween, OnlyTheseName, is_heuristic, is_read_only as is_read_only_ending, IsAddition, none_later, prepare_of, taken_before}
-use Rattle.xa_atomicity.specs.Outcomes.{is_committed}
-use Rattle.xa_atomicity.proofs.Moves.{is_within, inside, outside, moved_both, moved_none, moved_at, moved_without, taken_is, within_parts}
-use Rattle.xa_atomicity.proofs.Placing.{request_of, fates, fates_both, none_first}
-use Rattle.xa_atomicity.proofs.Requests.{closes_other}
-use Rattle.xa_atomicity.proofs.Shares.{add_place, commits_or, share_is}
-use Rattle.xa_atomicity.proofs.Sites.{Site, StandsIn, above, below, at_place, Second, second_of}
+use Rattle.xa_atomicity.proofs.Sites.{request_of, fates, fates_both, none_first, Site, StandsIn, below, at_place, Second, second_of, only_op}
+use Rattle.xa_atomicity.proofs.Courses.{Unreached, Reads, Breaks, Stays, Agrees, Refuses, yes_is, read_is, Sends, SendsOne, Course, rest_forgets, one_own}
+use Rattle.xa_atomicity.proofs.Courses.{two_own}
+use Rattle.xa_atomicity.proofs.OneOutcome.{Falls, after_no, after_yes, uncommitted}
 
--- a history that doesn't name the branch makes nothing of it
--- a Prepare commits nothing
-vote_then : (v : Code) (fs : List Fate) → commits_or false fs ≡ false → commits_or false (cons_option (prepare_fate v) fs) ≡ false
-vote_then v fs e = search (arith, commits_or, cons_option)
+-- a request of thread t with a number from `first` to below `last`
+abbrev pub is_within : ℕ → ℕ → ℕ → Request → Bool
+is_within t first last r = (r.thread == t) && (nat_le first r.number && nat_le (suc r.number) last)
 
--- nor does a Rollback after it
-rolled_then : (v c : Code) → commits_or false (cons_option (prepare_fate v) (cons_option (rollback_fate c) [])) ≡ false
-rolled_then v c = search (arith, vote_then, cons_option, commits_or)
+abbrev Accounts : Type 0
+Accounts = List (List ℕ × ℕ)
 
--- requests that name the branch only to forget it make nothing of it
-forgets_fate : (x : XidName) (op : Op) (c : Code) → (names x op ≡ true → is_forget op ≡ true) → fate_of x op c ≡ None
-forgets_fate x op c f = by_bool (λ _. fate_of x op c ≡ None) (names x op) (λ n. forget_fate op (f n)) (λ n. unnamed_fate x op c n)
+-- ---- numbers
+
+-- a request whose number is inside
+pub inside : (t first last : ℕ) (r : Request) → r.thread ≡ t → first ≤ r.number → r.number < last → is_within t first last r ≡ true
+inside t first last r own from below = search (arith, eq-eqb, nat_le, le-leb, r.thread, r.number)
+
+-- ---- histories
+
+pub moved_both : (accounts : Accounts) (passes : Request → Bool) (h g : History) (T : Tables)
+    → moved accounts passes (h ++ g) T ≡ moved accounts passes h T +ℤ moved accounts passes g (tables_after h T)
+moved_both accounts passes [] g T = sym (none_plus _)
+moved_both accounts passes (r ∷ h) g T =
+    let T1 : Tables = (next r.thread r.op T).0 in
+    regroup (if passes r then moved_by accounts r.op (next r.thread r.op T).1 T else pos 0) (moved accounts passes h T1) (moved accounts passes g (tables_after h T1)) (moved accounts passes (h ++ g) T1) (moved_both accounts passes h g T1)
   where
-    forget_fate : (op : Op) → is_forget op ≡ true → fate_of x op c ≡ None
-    forget_fate (Forget y) e = refl
-    forget_fate op e = cc
+    regroup : (v a b c : ℤ) → c ≡ a +ℤ b → v +ℤ c ≡ (v +ℤ a) +ℤ b
+    regroup v a b c e = omega (arith, ints)
 
-forgotten : (x : XidName) (h : History) (T : Tables) → All (λ r. names x r.op ≡ true → is_forget r.op ≡ true) h → fates x h T ≡ []
-forgotten x [] T n = refl
-forgotten x (r ∷ h) T n =
-    none_first x r h T (forgets_fate x r.op _ (n 0 r (omega arith))) (forgotten x h (next r.thread r.op T).0 (λ k d lt. n (suc k) d (omega arith)))
+-- what is no Commit moves nothing
+pub unmoving : (accounts : Accounts) (op : Op) (c : Code) (T : Tables) → is_commit op ≡ false → moved_by accounts op c T ≡ pos 0
+unmoving accounts (Commit x one_phase) c T e = cc
+unmoving accounts (Heur x commits) c T e = ap (λ b. if b then held_by accounts x T else pos 0) (ap (λ b. is_done c && b) e ∙ and-false (is_done c))
+unmoving accounts op c T e = refl
 
--- nor does one that nowhere names it
+-- where each request that passes moves nothing, all do
+moved_still : (accounts : Accounts) (passes : Request → Bool) (h : History) (T : Tables)
+    → All (λ r. passes r ≡ true → (c : Code) (U : Tables) → moved_by accounts r.op c U ≡ pos 0) h → moved accounts passes h T ≡ pos 0
+moved_still accounts passes [] T still = refl
+moved_still accounts passes (r ∷ h) T still =
+    let a : Answer = next r.thread r.op T in
+    let first : (if passes r then moved_by accounts r.op a.1 T else pos 0) ≡ pos 0 =
+    by_if (λ v. v ≡ pos 0) (passes r) (moved_by accounts r.op a.1 T) (pos 0) (λ e. still 0 r (omega arith) e a.1 T) (λ _. refl) in
+    λ i. first i +ℤ moved_still accounts passes h a.0 (λ k d lt. still (suc k) d (omega arith)) i
+
+pub moved_without : (accounts : Accounts) (passes : Request → Bool) (h : History) (T : Tables) → All (λ r. passes r ≡ true → is_commit r.op ≡ false) h
+    → moved accounts passes h T ≡ pos 0
+moved_without accounts passes h T none = moved_still accounts passes h T (λ k d lt e c U. unmoving accounts (get_or h k d).op c U (none k d lt e))
+
+pub moved_none : (accounts : Accounts) (passes : Request → Bool) (h : History) (T : Tables) → All (λ r. passes r ≡ false) h → moved accounts passes h T ≡ pos 0
+moved_none accounts passes h T none = moved_without accounts passes h T (λ k d lt passed. let z : true ≡ false = sym passed ∙ none k d lt in cc)
+
+-- tests that agree pass the same
+pub moved_alike : (accounts : Accounts) (p q : Request → Bool) (h : History) (T : Tables) → All (λ r. p r ≡ q r) h → moved accounts p h T ≡ moved accounts q h T
+moved_alike accounts p q [] T same = refl
+moved_alike accounts p q (r ∷ h) T same =
+    let T1 : Tables = (next r.thread r.op T).0 in
+    λ i. (if same 0 r (omega arith) i then moved_by accounts r.op (next r.thread r.op T).1 T else pos 0) +ℤ moved_alike accounts p q h T1 (λ k d lt. same (suc k) d (omega arith)) i
+
+-- accounts that aren't there are worth nothing
+pub moved_nothing : (passes : Request → Bool) (h : History) (T : Tables) → moved [] passes h T ≡ pos 0
+moved_nothing passes h T = moved_still [] passes h T (λ k d lt e. no_worth (get_or h k d).op)
+  where
+    no_worth : (op : Op) (c : Code) (U : Tables) → moved_by [] op c U ≡ pos 0
+    no_worth (Commit x one_phase) c U = by_if (λ v. v ≡ pos 0) (is_done c) (pos 0) (pos 0) (λ _. refl) (λ _. refl)
+    no_worth (Heur x commits) c U = by_if (λ v. v ≡ pos 0) (is_done c && commits) (pos 0) (pos 0) (λ _. refl) (λ _. refl)
+    no_worth op c U = refl
+
+-- what no Commit of before or after it adds to
+pub moved_at : (accounts : Accounts) (passes : Request → Bool) (before after : History) (r : Request) (T : Tables)
+    → All (λ q. passes q ≡ true → is_commit q.op ≡ false) before → passes r ≡ true → All (λ q. passes q ≡ true → is_commit q.op ≡ false) after
+    → moved accounts passes (before ++ r ∷ after) T ≡ moved_by accounts r.op (next r.thread r.op (tables_after before T)).1 (tables_after before T)
+moved_at accounts passes before after r T none here later = search (arith, moved_both, moved_without, none_plus, plus_none, r.op, r.thread)
+
+-- ---- ranges of numbers
+
+either_range : (own : Bool) (a b : ℕ) (n : ℕ) (v : ℤ) → a ≤ b → (if own && (nat_le 0 n && nat_le (suc n) b) then v else pos 0)
+    ≡ (if own && (nat_le 0 n && nat_le (suc n) a) then v else pos 0) +ℤ (if own && (nat_le a n && nat_le (suc n) b) then v else pos 0)
+either_range false a b n v le = refl
+either_range true a b n v le = search (arith, nat_le, le-leb, lt-leb, leb-true, none_plus, leb-false, plus_none)
+
+-- a range of numbers from 0 on may be parted
+pub moved_parted : (accounts : Accounts) (t a b : ℕ) (h : History) (T : Tables) → a ≤ b
+    → moved accounts (is_within t 0 b) h T ≡ moved accounts (is_within t 0 a) h T +ℤ moved accounts (is_within t a b) h T
+moved_parted accounts t a b [] T le = refl
+moved_parted accounts t a b (r ∷ h) T le =
+    let T1 : Tables = (next r.thread r.op T).0 in
+    let v : ℤ = moved_by accounts r.op (next r.thread r.op T).1 T in
+    (λ i. either_range (r.thread == t) a b r.number v le i +ℤ moved_parted accounts t a b h T1 le i)
+    ∙ regroup (if is_within t 0 a r then v else pos 0) (if is_within t a b r then v else pos 0) (moved accounts (is_within t 0 a) h T1) (moved accounts (is_within t a b) h T1)
+  where
+    regroup : (u v a b : ℤ) → (u +ℤ v) +ℤ (a +ℤ b) ≡ (u +ℤ a) +ℤ (v +ℤ b)
+    regroup u v a b = omega (arith, ints)
+
+-- ---- numbers of a thread's requests
+
+-- what a request within them is
+pub within_parts : (t first last : ℕ) (r : Request) → is_within t first last r ≡ true → (r.thread ≡ t) × (first ≤ r.number) × (r.number < last)
+within_parts t first last r e = search (arith, and_parts, nat_le, leb-true, eqb-true, r.number, r.thread)
+
+module _ (t : ℕ) where
+  -- what was taken before a request of the thread
+  pub taken_is : (n : ℕ) (before after : History) (r : Request) → r.thread ≡ t → r.number ≡ n
+      → ((k : ℕ) (d : Request) → k < length before → (get_or before k d).thread ≡ t → (get_or before k d).number < n)
+      → taken_before t n (before ++ r ∷ after) ≡ before
+  taken_is n [] after r own number below = search (arith, eq-eqb)
+  taken_is n (q ∷ before) after r own number below =
+      let other : ((q.thread == t) && (q.number == n)) ≡ false = false_from_ne_true ((q.thread == t) && (q.number == n)) (λ e.
+      let own = and_parts (q.thread == t) (q.number == n) e in
+      let lt = below 0 q (omega arith) (eqb-true q.thread t own.0) in let same = eqb-true q.number n own.1 in omega (arith, lt, same)) in
+      (λ i. if other i then [] else q ∷ taken_before t n (before ++ r ∷ after))
+      ∙ ap (λ l. q ∷ l) (taken_is n before after r own number (λ k d lt. below (suc k) d (omega arith)))
+
+-- ---- by the fates that a history makes
+
+-- whether the first of these fates that ends the branch commits it; where none ends it, what comes later
+abbrev pub commits_or : Bool → List Fate → Bool
+commits_or later [] = later
+commits_or later (f ∷ fs) = or_later (ending_by f) (commits_or later fs)
+
+pub commits_by : (later : Bool) (x : XidName) (h : History) (T : Tables) → commits_later later x (coded h T) ≡ commits_or later (fates x h T)
+commits_by later x [] T = refl
+commits_by later x (r ∷ h) T =
+    let T1 : Tables = (next r.thread r.op T).0 in
+    let o : Option Fate = fate_of x r.op (next r.thread r.op T).1 in
+    ap (or_later (ending o)) (commits_by later x h T1)
+    ∙ elim o as (λ o. or_later (ending o) (commits_or later (fates x h T1)) ≡ commits_or later (cons_option o (fates x h T1))) [ None ↦ refl | Some f ↦ refl ]
+
+-- a history that doesn't end the branch decides nothing
+commits_past : (later : Bool) (x : XidName) (h g : History) (T : Tables) → EndsNowhere x h T
+    → commits_later later x (coded (h ++ g) T) ≡ commits_later later x (coded g (tables_after h T))
+commits_past later x [] g T e = refl
+commits_past later x (r ∷ h) g T e =
+    let T1 : Tables = (next r.thread r.op T).0 in
+    ap (λ o. or_later o (commits_later later x (coded (h ++ g) T1))) (e 0 (r, (next r.thread r.op T).1) (omega arith))
+    ∙ commits_past later x h g T1 (λ k d lt. e (suc k) d (omega arith))
+
+-- ---- one addition
+
+added_is : (o : Option Association) (d : ℤ) (later : XidName → Bool) (x : XidName) → option_map (λ (a : Association). a.xid) o ≡ Some x
+    → added_by o d later ≡ (if later x then d else pos 0)
+added_is None d later x e = cc
+added_is (Some a) d later x e = let same : a.xid ≡ x = cc in ap (λ y. if later y then d else pos 0) same
+
+-- its share is decided by what comes from the Prepare on
+pub share_is : (x : XidName) (k : List ℕ) (d : ℤ) (t n : ℕ) (T : Tables) (H : History) (after : XidName → Bool) (add : IsAddition x k d t n T H) (fs : List Fate)
+    → fates x (request_of t n (Prepare x) ∷ add.after) (tables_after (add.before ++ add.adding ∷ add.between) T) ≡ fs
+    → share k after add.adding (add.between ++ prepare_of t n x ∷ add.after) (tables_after add.before T) ≡ (if commits_or (after x) fs then d else pos 0)
+share_is x k d t n T H after add fs e =
+    let here : Tables = tables_after add.before T in
+    let U : Tables = (next add.adding.thread add.adding.op here).0 in
+    let V : Tables = tables_after add.between U in
+    let rest : History = request_of t n (Prepare x) ∷ add.after in
+    let later : XidName → Bool = λ y. commits_later (after y) y (coded (add.between ++ rest) U) in
+    let own : Option Association = association_of here add.adding.thread in
+    let is : later x ≡ commits_or (after x) fs = search (arith, commits_past, commits_by, tables_after-append, add.between, add.before) in
+    search (arith, Decides-key_eq, added_is, add.adding.thread, add.adding.op)
+
+-- where it stands in a history
+pub add_place : (x : XidName) (k : List ℕ) (d : ℤ) (t n : ℕ) (T : Tables) (H : History) (add : IsAddition x k d t n T H)
+    → H ≡ (add.before ++ add.adding ∷ add.between) ++ request_of t n (Prepare x) ∷ add.after
+add_place x k d t n T H add = add.place ∙ sym (append_assoc add.before (add.adding ∷ add.between) (request_of t n (Prepare x) ∷ add.after))
+
+-- where no Commit names the branch none commits it
+commits_none : (x : XidName) (h : History) (T : Tables) → All (λ r. names x r.op ≡ true → is_commit r.op ≡ false) h → commits_or false (fates x h T) ≡ false
+commits_none x [] T none = refl
+commits_none x (r ∷ h) T none =
+    let rest = commits_none x h (next r.thread r.op T).0 (λ k d lt. none (suc k) d (omega (arith, lt))) in
+    one r.op (next r.thread r.op T).1 (fates x h (next r.thread r.op T).0) (none 0 r (omega arith)) rest
+  where
+    plain : (op : Op) (c : Code) (fs : List Fate) → is_commit op ≡ false → commits_or false fs ≡ false → commits_or false (cons_option (fate_of x op c) fs) ≡ false
+    plain (Commit y one_phase) c fs e rest = cc
+    plain (Heur y commits) c fs e rest = search (arith, commits_or, cons_option)
+    plain (Start y how) c fs e rest = search (arith, commits_or, cons_option)
+    plain (Prepare y) c fs e rest = search (arith, commits_or, cons_option)
+    plain (Rollback y) c fs e rest = search (arith, commits_or, cons_option)
+    plain op c fs e rest = rest
+
+    one : (op : Op) (c : Code) (fs : List Fate) → (names x op ≡ true → is_commit op ≡ false) → commits_or false fs ≡ false
+        → commits_or false (cons_option (fate_of x op c) fs) ≡ false
+    one op c fs none rest =
+        by_bool (λ _. commits_or false (cons_option (fate_of x op c) fs) ≡ false) (names x op) (λ n. plain op c fs (none n) rest)
+        (λ n. subst (λ (o : Option Fate). commits_or false (cons_option o fs) ≡ false) (sym (unnamed_fate x op c n)) rest)
+
+-- what nowhere names it makes nothing of it
 unnamed : (x : XidName) (h : History) (T : Tables) → NamesNowhere x h → fates x h T ≡ []
-unnamed x h T n = forgotten x h T (λ k d lt named. absurd (both_ways (names x (get_or h k d).op) (n k d lt) named))
+unnamed x [] T n = refl
+unnamed x (r ∷ h) T n =
+    none_first x r h T (unnamed_fate x r.op _ (n 0 r (omega arith))) (unnamed x h (next r.thread r.op T).0 (λ k d lt. n (suc k) d (omega (arith, lt))))
+
+-- what a Commit of a prepared branch that was answered so does
+commit_counts : (c : Code) (fs : List Fate) → commits_or false fs ≡ false → commits_or false (cons_option (commit_fate c) fs) ≡ is_committed (yes_ending true (Some c))
+commit_counts Done fs none = refl
+commit_counts RbIntegrity fs none = refl
+commit_counts c fs none = none
+
+yes_writes : (commit : Bool) (c : Code) → is_read_only_ending (yes_ending commit (Some c)) ≡ false
+yes_writes commit c = search (arith, after_yes, cases_Bool)
+
+forget_plain : (op : Op) → is_forget op ≡ true → is_commit op ≡ false
+forget_plain (Forget y) e = refl
+forget_plain op e = cc
+
+commit_moves : (c : Code) (v : ℤ) → (if is_done c then v else pos 0) ≡ (if is_committed (yes_ending true (Some c)) then v else pos 0)
+commit_moves Done v = refl
+commit_moves c v = refl
+
+-- what a branch with this vote and this ending counts for, whose requests have the numbers from n to below `last`
+pub record Counted (t : ℕ) (x : XidName) (T : Tables) (H : History) (n last : ℕ) (e : Ending) : Type 0 where
+  pub counted : (k : List ℕ) (d : ℤ) (add : IsAddition x k d t n T H)
+      → share k none_later add.adding (add.between ++ prepare_of t n x ∷ add.after) (tables_after add.before T) ≡ (if is_committed e then d else pos 0)
+  pub adders : (k : List ℕ) (d : ℤ) → IsAddition x k d t n T H → is_read_only_ending e ≡ false
+  pub moves : (accounts : List (List ℕ × ℕ))
+      → moved accounts (is_within t n last) H T ≡ (if is_committed e then held_by accounts x (tables_after (taken_before t n H) T) else pos 0)
+  pub reads : is_read_only_ending e ≡ true → (accounts : List (List ℕ × ℕ)) → held_by accounts x (tables_after (taken_before t n H) T) ≡ pos 0
 
 module _ {t : ℕ} {T : Tables} {H : History} (site : Site t T H) (x : XidName) (n : ℕ) (vote : Code) where
   abbrev P : Op
@@ -60,304 +240,146 @@ module _ {t : ℕ} {T : Tables} {H : History} (site : Site t T H) (x : XidName) 
   pub taken : (f : Voted) → taken_before t n H ≡ f.before
   taken f = ap (taken_before t n) f.place ∙ taken_is t n f.before f.after (request_of t n P) refl refl (below site n P f.before f.after f.place)
 
-  earlier_out : (f : Voted) (last : ℕ) → All (λ q. is_within t n last q ≡ false) f.before
-  earlier_out f last k d lt = outside t n last (get_or f.before k d) (λ own. inl (below site n P f.before f.after f.place k d lt own))
-
-  -- so it stands where an addition that it votes on has it
-  abbrev voted_at : StandsIn t n P vote T H → (k : List ℕ) (d : ℤ) → IsAddition x k d t n T H → Voted
-  voted_at first k d add = at_place site n P vote first (add.before ++ add.adding ∷ add.between) add.after (add_place x k d t n T H add)
-
-  -- and so the vote isn't that of a branch that only read
-  never_reads : StandsIn t n P vote T H → (k : List ℕ) (d : ℤ) → IsAddition x k d t n T H → vote ≢ RdOnly
+  -- the vote on an addition isn't that of a branch that only read
+  never_reads : Voted → (k : List ℕ) (d : ℤ) → IsAddition x k d t n T H → vote ≢ RdOnly
   never_reads first k d add reads =
-      let f : Voted = voted_at first k d add in
+      let f : Voted = at_place site n P vote first (add.before ++ add.adding ∷ add.between) add.after (add_place x k d t n T H add) in
       search (arith, tables_after-append, add.adding.thread, add.adding.op, add.between, add.before, add.adds, add.branch, add.answered)
 
-  -- whether its additions count
-  abbrev Counts : Bool → Type 0
-  Counts b = (k : List ℕ) (d : ℤ) (add : IsAddition x k d t n T H)
-      → share k none_later add.adding (add.between ++ prepare_of t n x ∷ add.after) (tables_after add.before T) ≡ (if b then d else pos 0)
+  module _ (last : ℕ) (only : OnlyTheseName x t n last H) where
+    abbrev Goal : Ending → Type 0
+    Goal e = Counted t x T H n last e
 
-  -- by the fates that the Prepare and what is after it give the branch
-  counted_by : StandsIn t n P vote T H → (fs : List Fate) → ((f : Voted) → fates x (request_of t n P ∷ f.after) (tables_after f.before T) ≡ fs)
-      → Counts (commits_or false fs)
-  counted_by first fs given k d add = share_is x k d t n T H none_later add fs (given (voted_at first k d add))
+    -- what the branch holds at its Prepare
+    abbrev held : List (List ℕ × ℕ) → ℤ
+    held accounts = held_by accounts x (tables_after (taken_before t n H) T)
 
-  -- the fate that a Prepare leaves
-  prepare_named : (c : Code) → fate_of x P c ≡ prepare_fate c
-  prepare_named c = at_true (xid_eq x x) _ None (xid_self x)
+    abbrev Plain : Request → Type 0
+    Plain r = r.thread ≡ t → n ≤ r.number → r.number < last → is_commit r.op ≡ false
 
-  -- ---- the Prepare alone was sent
+    -- where the call sent no Commit of it
+    silent : All Plain H → (e : Ending) → is_committed e ≡ false → ((k : List ℕ) (d : ℤ) → IsAddition x k d t n T H → is_read_only_ending e ≡ false)
+        → (is_read_only_ending e ≡ true → (accounts : List (List ℕ × ℕ)) → held accounts ≡ pos 0) → Goal e
+    silent none e not adders reads = record {
+      counted = λ k d add.
+          let place = add_place x k d t n T H add in
+          let no_commit : All (λ r. names x r.op ≡ true → is_commit r.op ≡ false) (request_of t n P ∷ add.after) =
+          All-cons (λ (r : Request). names x r.op ≡ true → is_commit r.op ≡ false) (request_of t n P) add.after (λ _. refl) (λ j r lt named.
+          let own = only (add.before ++ add.adding ∷ add.between) add.after (request_of t n P) place refl refl j r lt named in
+          all_after Plain (add.before ++ add.adding ∷ add.between) (request_of t n P) add.after (subst (All Plain) place none) j r lt own.thread own.from own.below) in
+          share_is x k d t n T H none_later add _ refl ∙ ap (λ q. if q then d else pos 0) (commits_none x (request_of t n P ∷ add.after) (tables_after (add.before ++ add.adding ∷ add.between) T) no_commit ∙ sym not);
+      adders = adders;
+      moves = λ accounts.
+          moved_without accounts (is_within t n last) H T (λ k d lt passes. let w = within_parts t n last (get_or H k d) passes in none k d lt w.0 w.1 w.2)
+          ∙ ap (λ q. if q then held accounts else pos 0) (sym not);
+      reads = reads;
+    }
 
-  module _ (only : OnlyTheseName x t n (n + 1) H) where
-    nowhere_after : (f : Voted) → NamesNowhere x f.after
-    nowhere_after f k d lt = false_from_ne_true (names x (get_or f.after k d).op) (λ named.
-        let own = only f.before f.after (request_of t n P) f.place refl refl k d lt named in
-        let up = above site n P f.before f.after f.place k d lt own.thread in let down = own.below in omega (arith, up, down))
+    unread : All Plain H → (e : Ending) → is_committed e ≡ false → is_read_only_ending e ≡ false → Goal e
+    unread none e not writes = silent none e not (λ k d add. writes) (λ r. absurd (both_ways (is_read_only_ending e) writes r))
 
-    -- the Prepare alone makes something of the branch
-    one_fate : (f : Voted) → fates x (request_of t n P ∷ f.after) (tables_after f.before T) ≡ cons_option (prepare_fate vote) []
-    one_fate f = search (arith, prepare_named, unnamed, nowhere_after, cons_option, f.before, f.after)
+    -- ---- its Commit
 
-    -- and moves nothing
-    unmoved : (f : Voted) (accounts : List (List ℕ × ℕ)) → moved accounts (is_within t n (n + 1)) H T ≡ pos 0
-    unmoved f accounts =
-        ap (λ (h : History). moved accounts (is_within t n (n + 1)) h T) f.place
-        ∙ moved_at accounts (is_within t n (n + 1)) f.before f.after (request_of t n P) T (earlier_out f (n + 1))
-        (inside t n (n + 1) (request_of t n P) refl (omega arith) (omega arith))
-        (λ k d lt. outside t n (n + 1) (get_or f.after k d) (λ own. let up = above site n P f.before f.after f.place k d lt own in inr (omega (arith, up))))
+    module _ (agreed : vote ≡ Done) (c : Code) (z : Sends site x n last vote (Commit x false) c) where
+      abbrev op : Op
+      op = Commit x false
 
-  -- ---- a second request was sent
+      abbrev W : Request → Bool
+      W = is_within t n last
 
-  module _ (last : ℕ) (only : OnlyTheseName x t n last H) (op : Op) (c : Code) (z : Sends site x n last vote op c) (f : Voted) where
-    abbrev S : Request
-    S = request_of t (suc n) op
+      module _ (f : Voted) where
+        abbrev s : Second site n P vote f op c
+        s = second_of site n P vote f op c z.second
 
-    abbrev s : Second site n P vote f op c
-    s = second_of site n P vote f op c z.second
+        abbrev now : Tables
+        now = (next t P (tables_after f.before T)).0
 
-    abbrev now : Tables
-    now = (next t P (tables_after f.before T)).0
+        only_parts : All (λ q. names x q.op ≡ true → IsBetween t n last q) (s.mid ++ request_of t (suc n) op ∷ s.rest)
+        only_parts = subst (All (λ (q : Request). names x q.op ≡ true → IsBetween t n last q)) s.split (only f.before f.after (request_of t n P) f.place refl refl)
 
-    abbrev there : Tables
-    there = tables_after s.mid now
+        quiet_mid : NamesNowhere x s.mid
+        quiet_mid k d lt = false_from_ne_true (names x (get_or s.mid k d).op) (λ named.
+            s.others k d lt (all_left (λ (q : Request). names x q.op ≡ true → IsBetween t n last q) s.mid (request_of t (suc n) op ∷ s.rest) only_parts k d lt named).thread)
 
-    abbrev all_before : History
-    all_before = f.before ++ request_of t n P ∷ s.mid
+        -- what is sent after it is no Commit
+        rest_plain : All (λ q. q.thread ≡ t → q.number < last → is_commit q.op ≡ false) s.rest
+        rest_plain k d lt own low = forget_plain (get_or s.rest k d).op (rest_forgets site x n last vote op c z f s k d lt own low)
 
-    only_parts : All (λ q. names x q.op ≡ true → IsBetween t n last q) (s.mid ++ S ∷ s.rest)
-    only_parts = subst (All (λ (q : Request). names x q.op ≡ true → IsBetween t n last q)) s.split (only f.before f.after (request_of t n P) f.place refl refl)
+        counts : commits_or false (fates x (request_of t n P ∷ f.after) (tables_after f.before T)) ≡ is_committed (yes_ending true (Some c))
+        counts =
+            let there : Tables = tables_after s.mid now in
+            let left : Tables = (next t op there).0 in
+            let rest_none : commits_or false (fates x s.rest left) ≡ false = commits_none x s.rest left (λ k d lt named.
+            let own = all_after (λ (q : Request). names x q.op ≡ true → IsBetween t n last q) s.mid (request_of t (suc n) op) s.rest only_parts k d lt named in
+            rest_plain k d lt own.thread own.below) in
+            let voted : fate_of x P (next t P (tables_after f.before T)).1 ≡ Some history.InDoubt = ap (fate_of x P) (sym f.code ∙ agreed) ∙ at_true (xid_eq x x) _ None (xid_self x) in
+            let made : fate_of x op (next t op there).1 ≡ commit_fate c = at_true (xid_eq x x) _ None (xid_self x) ∙ ap commit_fate (sym s.code) in
+            let after : fates x f.after now ≡ cons_option (commit_fate c) (fates x s.rest left) =
+            ap (λ (h : History). fates x h now) s.split ∙ fates_both x s.mid (request_of t (suc n) op ∷ s.rest) now ∙ (λ i. unnamed x s.mid now quiet_mid i ++ cons_option (made i) (fates x s.rest left)) in
+            (λ i. commits_or false (cons_option (voted i) (after i))) ∙ commit_counts c (fates x s.rest left) rest_none
 
-    quiet_mid : NamesNowhere x s.mid
-    quiet_mid k d lt = false_from_ne_true (names x (get_or s.mid k d).op) (λ named.
-        s.others k d lt (all_left (λ (q : Request). names x q.op ≡ true → IsBetween t n last q) s.mid (S ∷ s.rest) only_parts k d lt named).thread)
+        -- the call's requests move what it moves, and the branch holds there what it held at its Prepare
+        moves_it : (accounts : List (List ℕ × ℕ)) → moved accounts W H T ≡ (if is_done c then held accounts else pos 0)
+        moves_it accounts =
+            let there : Tables = tables_after s.mid now in
+            let before : History = f.before ++ request_of t n P ∷ s.mid in
+            let keeps : held_by accounts x there ≡ held accounts =
+            site.law.keeps accounts t x f.before s.mid T site.opening (sym f.code ∙ agreed) quiet_mid ∙ ap (λ (h : History). held_by accounts x (tables_after h T)) (sym (taken f)) in
+            ap (λ (h : History). moved accounts W h T) s.place
+            ∙ moved_at accounts W before s.rest (request_of t (suc n) op) T low (inside t n last (request_of t (suc n) op) refl (omega arith) (let more = z.more in omega (arith, more))) high
+            ∙ ap (λ (V : Tables). moved_by accounts op (next t op V).1 V) s.there_is ∙ ap (λ d. moved_by accounts op d there) (sym s.code) ∙ ap (λ v. if is_done c then v else pos 0) keeps
+          where
+            low : All (λ q. W q ≡ true → is_commit q.op ≡ false) (f.before ++ request_of t n P ∷ s.mid)
+            low k d lt passes =
+                let w = within_parts t n last (get_or (f.before ++ request_of t n P ∷ s.mid) k d) passes in
+                let under = below site (suc n) op (f.before ++ request_of t n P ∷ s.mid) s.rest s.place k d lt w.0 in
+                let from = w.1 in
+                let O : Request → Type 0 = λ r. r.thread ≡ t → r.number ≡ n → r.op ≡ P in
+                ap is_commit (all_left O (f.before ++ request_of t n P ∷ s.mid) (request_of t (suc n) op ∷ s.rest) (subst (All O) s.place (only_op site n P vote f)) k d lt w.0 (omega (arith, under, from)))
 
-    waiting : LeavesWaiting t x s.mid
-    waiting k d lt = (λ named. let none = sym named ∙ quiet_mid k d lt in cc, closes_other t (get_or s.mid k d) (s.others k d lt))
+            high : All (λ q. W q ≡ true → is_commit q.op ≡ false) s.rest
+            high k d lt passes = let w = within_parts t n last (get_or s.rest k d) passes in rest_plain k d lt w.0 w.2
 
-    forgets_rest : All (λ q. names x q.op ≡ true → is_forget q.op ≡ true) s.rest
-    forgets_rest k d lt named =
-        let between : IsBetween t n last (get_or s.rest k d) =
-        all_after (λ (q : Request). names x q.op ≡ true → IsBetween t n last q) s.mid S s.rest only_parts k d lt named in
-        rest_forgets site x n last vote op c z f s k d lt between.thread between.below
-
-    -- the two make something of the branch, and nothing else after the Prepare does
-    nothing_between_them : fates x s.mid now ≡ []
-    nothing_between_them = unnamed x s.mid now quiet_mid
-
-    two_fates : fates x (request_of t n P ∷ f.after) (tables_after f.before T) ≡ cons_option (prepare_fate vote) (cons_option (fate_of x op c) [])
-    two_fates = search (arith, prepare_named, forgotten, forgets_rest, cons_option, fates_both, nothing_between_them)
-
-    -- what the call's requests move is what the second one moves
-    moved_is : (accounts : List (List ℕ × ℕ)) → moved accounts (is_within t n last) H T ≡ moved_by accounts op c there
-    moved_is accounts =
-        let W : Request → Bool = is_within t n last in
-        let U : Tables = tables_after all_before T in
-        let low = z.more in
-        let first_part : moved accounts W all_before T ≡ pos 0 =
-        moved_at accounts W f.before s.mid (request_of t n P) T (earlier_out f last) (inside t n last (request_of t n P) refl (omega arith) (omega (arith, low)))
-        (λ k d lt. outside t n last (get_or s.mid k d) (λ own. absurd (s.others k d lt own))) in
-        let here : W S ≡ true = inside t n last S refl (omega arith) (omega (arith, low)) in
-        let forget_part : moved accounts W s.rest (next t op U).0 ≡ pos 0 = moved_without accounts W s.rest (next t op U).0 (λ k d lt passes.
-        let w = within_parts t n last (get_or s.rest k d) passes in
-        no_forget (get_or s.rest k d).op (rest_forgets site x n last vote op c z f s k d lt w.0 w.2)) in
-        ap (λ (h : History). moved accounts W h T) s.place ∙ moved_both accounts W all_before (S ∷ s.rest) T
-        ∙ (λ i. first_part i +ℤ ((if here i then moved_by accounts op (next t op U).1 U else pos 0) +ℤ forget_part i)) ∙ none_plus _ ∙ plus_none _
-        ∙ ap (λ (V : Tables). moved_by accounts op (next t op V).1 V) s.there_is ∙ ap (λ d. moved_by accounts op d there) (sym s.code)
-      where
-        no_forget : (op : Op) → is_forget op ≡ true → is_commit op ≡ false
-        no_forget (Forget y) e = refl
-        no_forget op e = cc
-
-    -- and the branch holds there what it held at its Prepare
-    held_is : vote ≡ Done → (accounts : List (List ℕ × ℕ)) → held_by accounts x there ≡ held_by accounts x (tables_after (taken_before t n H) T)
-    held_is done accounts =
-        site.law.keeps accounts t x f.before s.mid T site.opening (sym f.code ∙ done) quiet_mid
-        ∙ ap (λ (h : History). held_by accounts x (tables_after h T)) (sym (taken f))
-
-    -- after a yes vote the branch awaits the outcome, and no decision of it was carried out
-    awaits : vote ≡ Done → AwaitsTheOutcome t x None there
-    awaits done =
-        let w = site.law.awaits f.before s.mid t x T site.opening (sym f.code ∙ done) waiting in
-        subst (λ o. AwaitsTheOutcome t x o there) (undecided w.decision (sym w.fates ∙ nothing_between_them)) w.awaits
-      where
-        undecided : (o : Option HeuristicDecision) → fates_when o ≡ [] → o ≡ None
-        undecided None e = refl
-        undecided (Some d) e = cc
-
--- ---- what a branch counts for
-
--- a branch with this vote and this ending, whose requests have the numbers from what the ledger `a` has to below `last`
-pub record Counted (t : ℕ) (x : XidName) (T : Tables) (H : History) (n last : ℕ) (vote : Code) (e : Ending) : Type 0 where
-  pub counted : (k : List ℕ) (d : ℤ) (add : IsAddition x k d t n T H)
-      → share k none_later add.adding (add.between ++ prepare_of t n x ∷ add.after) (tables_after add.before T) ≡ (if is_committed e then d else pos 0)
-  pub adders : (k : List ℕ) (d : ℤ) → IsAddition x k d t n T H → is_read_only_ending e ≡ false
-  pub moves : (accounts : List (List ℕ × ℕ))
-      → moved accounts (is_within t n last) H T ≡ (if is_committed e then held_by accounts x (tables_after (taken_before t n H) T) else pos 0)
-  pub reads : is_read_only_ending e ≡ true → (accounts : List (List ℕ × ℕ)) → held_by accounts x (tables_after (taken_before t n H) T) ≡ pos 0
-  pub undecided : is_no vote ≡ false → is_heuristic e ≡ false
-
-module _ {t : ℕ} {T : Tables} {H : History} (site : Site t T H) (x : XidName) (n last : ℕ) (vote : Code) (only : OnlyTheseName x t n last H) where
-  abbrev Goal : Ending → Type 0
-  Goal e = Counted t x T H n last vote e
-
-  -- what the branch holds at its Prepare, and what the call's requests move
-  abbrev held : List (List ℕ × ℕ) → ℤ
-  held accounts = held_by accounts x (tables_after (taken_before t n H) T)
-
-  abbrev moved_here : List (List ℕ × ℕ) → ℤ
-  moved_here accounts = moved accounts (is_within t n last) H T
-
-  -- whether the branch commits after its Prepare, seen from any of its additions, and by what is moved
-  abbrev CountsAs : Bool → Type 0
-  CountsAs b = Counts site x n vote b × ((accounts : List (List ℕ × ℕ)) → moved_here accounts ≡ (if b then held accounts else pos 0))
-
-  -- the Prepare alone was sent
-  only_one : (z : SendsOne site x n last vote) → OnlyTheseName x t n (n + 1) H
-  only_one z = subst (λ k. OnlyTheseName x t n k H) z.limit only
-
-  none_counts : SendsOne site x n last vote → CountsAs false
-  none_counts z = (
-    λ k d add.
-        counted_by site x n vote z.first (cons_option (prepare_fate vote) []) (one_fate site x n vote (only_one z)) k d add
-        ∙ ap (λ q. if q then d else pos 0) (vote_then vote [] refl),
-    λ accounts.
-        ap (λ k. moved accounts (is_within t n k) H T) z.limit
-        ∙ unmoved site x n vote (only_one z) z.first accounts,
-  )
-
-  -- an ending that doesn't commit, and reads nothing
-  uncommitted : (e : Ending) → is_committed e ≡ false → is_read_only_ending e ≡ false → (is_no vote ≡ false → is_heuristic e ≡ false) → CountsAs false → Goal e
-  uncommitted e none writes undecided counts =
-      let so : CountsAs (is_committed e) = subst CountsAs (sym none) counts in
-      record { counted = so.0; adders = λ k d add. writes; moves = so.1; reads = λ r. let z : true ≡ false = sym r ∙ writes in cc; undecided = undecided }
-
-  read_goal : is_read vote ≡ true → SendsOne site x n last vote → Goal ReadOnly
-  read_goal r z =
-      let code : vote ≡ RdOnly = read_is vote r in
-      let f = z.first in
-      record {
-        counted = (none_counts z).0;
-        adders = λ k d add. absurd (never_reads site x n vote f k d add code);
-        moves = (none_counts z).1;
-        reads = λ _ accounts.
-            subst (λ (h : History). held_by accounts x (tables_after h T) ≡ pos 0) (sym (taken site x n vote f)) (site.law.reads accounts t x (tables_after f.before T) (sym f.code ∙ code));
-        undecided = λ _. refl;
-      }
-
-  -- ---- a second request
-
-  module _ (op : Op) (c : Code) (z : Sends site x n last vote op c) where
-    abbrev second_tables : Tables
-    second_tables = there site x n vote last only op c z z.first
-
-    counts_so : Counts site x n vote (commits_or false (cons_option (prepare_fate vote) (cons_option (fate_of x op c) [])))
-    counts_so = search (arith, counted_by, two_fates)
-
-    moves_so : (accounts : List (List ℕ × ℕ)) → moved_here accounts ≡ moved_by accounts op c second_tables
-    moves_so accounts = moved_is site x n vote last only op c z z.first accounts
-
-  refuse_counts : (c : Code) → Sends site x n last vote (Rollback x) c → CountsAs false
-  refuse_counts c z = (
-    λ k d add.
-        counts_so (Rollback x) c z k d add
-        ∙ ap (λ q. if q then d else pos 0) (ap (λ o. commits_or false (cons_option (prepare_fate vote) (cons_option o []))) (at_true (xid_eq x x) (rollback_fate c) None (xid_self x)) ∙ rolled_then vote c),
-    moves_so (Rollback x) c z,
-  )
-
-  refused : (c : Code) → is_yes vote ≡ false → is_read vote ≡ false → Sends site x n last vote (Rollback x) c → Goal (no_ending vote (Some c))
-  refused c y r z =
-      let none : CountsAs false = refuse_counts c z in
-      let no : is_no vote ≡ true = neither vote y r in
-      let never : (e : Ending) → is_no vote ≡ false → is_heuristic e ≡ false = λ e n. (let w : true ≡ false = sym no ∙ n in cc) in
-      search (arith, uncommitted)
-
-  -- a prepared branch answers XA_OK, unless its manager is shut
-  agreed : (op : Op) (g : Fate) (e : Ending) (c : Code) → is_yes vote ≡ true → is_read_only_ending e ≡ false → is_heuristic e ≡ false
-      → fate_of x op Done ≡ Some g → fate_of x op RmFail ≡ None → commits_or false (g ∷ []) ≡ is_committed e
-      → ((accounts : List (List ℕ × ℕ)) (U : Tables) → moved_by accounts op Done U ≡ (if is_committed e then held_by accounts x U else pos 0))
-      → ((accounts : List (List ℕ × ℕ)) (U : Tables) → moved_by accounts op RmFail U ≡ pos 0)
-      → ((U : Tables) → AwaitsTheOutcome t x None U → (next t op U).1 ≡ (if U.shut then RmFail else Done))
-      → Sends site x n last vote op c
-      → Goal (if is_done c then e else (if is_rm_fail c then InDoubt else (if is_heuristic_code c then Heuristic c else Left c)))
-  agreed op g e c y writes plain by_done by_fail counts moving failing answers_so z =
-      let done : vote ≡ Done = yes_is vote y in
-      let U : Tables = second_tables op c z in
-      let code : c ≡ (if U.shut then RmFail else Done) =
-      (second_of site n (Prepare x) vote z.first op c z.second).code ∙ answers_so U (awaits site x n vote last only op c z z.first done) in
-      let by_second : commits_or false (cons_option (prepare_fate vote) (cons_option (fate_of x op c) [])) ≡ commits_or false (cons_option (fate_of x op c) []) =
-      ap (λ v. commits_or false (cons_option (prepare_fate v) (cons_option (fate_of x op c) []))) done in
-      elim (U.shut) as (λ l. c ≡ (if l then RmFail else Done) → Goal (if is_done c then e else (if is_rm_fail c then InDoubt else (if is_heuristic_code c then Heuristic c else Left c)))) [
-        | false ↦ λ is.
-            subst (λ (d : Code). Goal (if is_done d then e else (if is_rm_fail d then InDoubt else (if is_heuristic_code d then Heuristic d else Left d)))) (sym is) (record {
-              counted = search (arith, counts_so, commits_or, cons_option);
-              adders = λ k d add. writes;
-              moves = λ accounts.
-                  moves_so op c z accounts ∙ ap (λ d. moved_by accounts op d U) is ∙ moving accounts U
-                  ∙ ap (λ v. if is_committed e then v else pos 0) (held_is site x n vote last only op c z z.first done accounts);
-              reads = λ r. let w : true ≡ false = sym r ∙ writes in cc;
-              undecided = λ _. plain;
-            })
-        | true ↦ λ is.
-            subst (λ (d : Code). Goal (if is_done d then e else (if is_rm_fail d then InDoubt else (if is_heuristic_code d then Heuristic d else Left d)))) (sym is) (record {
-              counted = λ k d add. counts_so op c z k d add
-                  ∙ ap (λ q. if q then d else pos 0) (by_second ∙ ap (λ o. commits_or false (cons_option o [])) (ap (fate_of x op) is ∙ by_fail));
-              adders = λ k d add. refl;
-              moves = λ accounts. moves_so op c z accounts ∙ ap (λ d. moved_by accounts op d U) is ∙ failing accounts U;
-              reads = λ r. cc;
-              undecided = λ _. refl;
-            })
-      ] code
-
--- ---- a manager that was learnt to be shut
-
--- where nothing was asked, a Prepare of that number commits nothing
-unasked : (t : ℕ) (x : XidName) (T : Tables) (H : History) (n : ℕ) → OnlyTheseName x t n n H → (k : List ℕ) (d : ℤ) (add : IsAddition x k d t n T H)
-    → share k none_later add.adding (add.between ++ prepare_of t n x ∷ add.after) (tables_after add.before T) ≡ pos 0
-unasked t x T H n only k d add =
-    let P : Request = request_of t n (Prepare x) in
-    let there : Tables = tables_after (add.before ++ add.adding ∷ add.between) T in
-    let place : H ≡ (add.before ++ add.adding ∷ add.between) ++ P ∷ add.after = add_place x k d t n T H add in
-    let nowhere : NamesNowhere x add.after = λ j e lt. false_from_ne_true (names x (get_or add.after j e).op) (λ named.
-    let own = only (add.before ++ add.adding ∷ add.between) add.after P place refl refl j e lt named in
-    let up = own.from in let down = own.below in omega (arith, up, down)) in
-    let own : fate_of x (Prepare x) (next t (Prepare x) there).1 ≡ prepare_fate (next t (Prepare x) there).1 = at_true (xid_eq x x) _ None (xid_self x) in
-    let none : fates x add.after (next t (Prepare x) there).0 ≡ [] = unnamed x add.after (next t (Prepare x) there).0 nowhere in
-    share_is x k d t n T H none_later add (cons_option (prepare_fate (next t (Prepare x) there).1) []) (λ i. cons_option (own i) (none i))
-    ∙ ap (λ q. if q then d else pos 0) (vote_then (next t (Prepare x) there).1 [] refl)
+      committing : Goal (yes_ending true (Some c))
+      committing =
+          let writes = yes_writes true c in
+          record {
+            counted = λ k d add.
+                share_is x k d t n T H none_later add _ refl
+                ∙ ap (λ q. if q then d else pos 0) (counts (at_place site n P vote z.first (add.before ++ add.adding ∷ add.between) add.after (add_place x k d t n T H add)));
+            adders = λ k d add. writes;
+            moves = λ accounts. moves_it z.first accounts ∙ commit_moves c (held accounts);
+            reads = λ r. absurd (both_ways (is_read_only_ending (yes_ending true (Some c))) writes r);
+          }
 
 -- what a branch of a commit that nobody else named counts for
 pub branch_counts : {t : ℕ} {T : Tables} {H : History} (site : Site t T H) (x : XidName) (n last : ℕ) (commit : Bool) (vote : Code) (ending : Ending)
-    → Course site x n last vote commit ending → OnlyTheseName x t n last H → Counted t x T H n last vote ending
+    → Course site x n last vote commit ending → OnlyTheseName x t n last H → Counted t x T H n last ending
 branch_counts {t} {T} {H} site x n last commit vote ending course only = by_course ending course
   where
-    stays_so : (e : Ending) → is_committed e ≡ false → is_read_only_ending e ≡ false → is_heuristic e ≡ false → SendsOne site x n last vote
-        → Counted t x T H n last vote e
-    stays_so e uncommitted_so writes plain z =
-        uncommitted site x n last vote only e uncommitted_so writes (λ _. plain) (none_counts site x n last vote only z)
+    one : (e : Ending) → is_committed e ≡ false → is_read_only_ending e ≡ false → SendsOne site x n last vote → Counted t x T H n last e
+    one e not writes z = unread site x n vote last only (one_own site x n last vote (λ op. is_commit op ≡ false) refl z) e not writes
 
-    by_decision : (commit : Bool) (c : Code) → is_yes vote ≡ true
-        → Sends site x n last vote (if commit then Commit x false else Rollback x) c
-        → Counted t x T H n last vote (yes_ending commit (Some c))
-    by_decision true c y z =
-        agreed site x n last vote only (Commit x false) history.Committed Committed c y refl refl (at_true (xid_eq x x) _ None (xid_self x)) (at_true (xid_eq x x) _ None (xid_self x)) refl
-        (λ accounts U. refl) (λ accounts U. refl) (λ U h. h.commits) z
-    by_decision false c y z =
-        agreed site x n last vote only (Rollback x) history.RolledBack RolledBack c y refl refl (at_true (xid_eq x x) _ None (xid_self x)) (at_true (xid_eq x x) _ None (xid_self x)) refl
-        (λ accounts U. refl) (λ accounts U. refl) (λ U h. h.rolls_back) z
+    rolls : (c : Code) (e : Ending) → is_committed e ≡ false → is_read_only_ending e ≡ false → Sends site x n last vote (Rollback x) c
+        → Counted t x T H n last e
+    rolls c e not writes z =
+        unread site x n vote last only (two_own site x n last vote (λ op. is_commit op ≡ false) refl (Rollback x) c refl forget_plain z) e not writes
 
-    by_course : (e : Ending) → Course site x n last vote commit e → Counted t x T H n last vote e
-    by_course _ (Unreached same code) = record {
-      counted = unasked t x T H n (subst (λ k. OnlyTheseName x t n k H) same only);
-      adders = λ k d add. refl;
-      moves = λ accounts.
-          ap (λ k. moved accounts (is_within t n k) H T) same
-          ∙ moved_none accounts (is_within t n n) H T (λ k d lt. outside t n n (get_or H k d) (λ own. cases_lt (get_or H k d).number n));
-      reads = λ r. cc;
-      undecided = λ _. refl;
-    }
-    by_course _ (Reads r z) = read_goal site x n last vote only r z
-    by_course _ (Breaks k z) = stays_so RolledBack refl refl refl z
-    by_course _ (Stays c y z) = stays_so (Left c) refl refl refl z
-    by_course _ (Agrees c y z) = by_decision commit c y z
-    by_course _ (Refuses c y r z) = refused site x n last vote only c y r z
+    agreed : (commit : Bool) (c : Code) → is_yes vote ≡ true → Sends site x n last vote (outcome_op commit x) c
+        → Counted t x T H n last (yes_ending commit (Some c))
+    agreed true c y z = committing site x n vote last only (yes_is vote y) c z
+    agreed false c y z = rolls c (yes_ending false (Some c)) (uncommitted Done (Some c)) (yes_writes false c) z
+
+    by_course : (e : Ending) → Course site x n last vote commit e → Counted t x T H n last e
+    by_course _ (Unreached same code) = unread site x n vote last only (λ k d lt own from low. absurd (omega (arith, same, from, low))) (Left RmFail) refl refl
+    by_course _ (Reads r z) =
+        let f = z.first in
+        let code : vote ≡ RdOnly = read_is vote r in
+        silent site x n vote last only (one_own site x n last vote (λ op. is_commit op ≡ false) refl z) ReadOnly refl (λ k d add. absurd (never_reads site x n vote f k d add code))
+        (λ _ accounts.
+        subst (λ (h : History). held_by accounts x (tables_after h T) ≡ pos 0) (sym (taken site x n vote f)) (site.law.reads accounts t x (tables_after f.before T) (sym f.code ∙ code)))
+    by_course _ (Breaks k z) = one RolledBack refl refl z
+    by_course _ (Stays c y z) = one (Left c) refl refl z
+    by_course _ (Agrees c y z) = agreed commit c y z
+    by_course _ (Refuses c y r z) =
+        rolls c (no_ending vote (Some c)) (after_no (Falls is_committed) vote (Some c) refl (λ _. refl) (λ _. refl)) (after_no (Falls is_read_only_ending) vote (Some c) refl (λ _. refl) (λ _. refl)) z

@@ -48,6 +48,7 @@ pub fn cut_commits_go_by_the_record()
 
 /// Of the second round alone, however far it came: to no manager a Commit was sent where the log has no record of the
 /// transaction, and no Rollback where it has.
+#[tactic(auto, using(crate::proofs::CutSends::second_round_sends, crate::proofs::Staged::asks_so_far))]
 pub fn second_rounds_go_by_the_record()
     ensures told { (bs : List Branch) (start mid old new : List LedgerView) (log later : LogState) (p : Prepared)
         (d : Decided) (t : Told) → HasPrepared bs start mid p → record_of log p.tran ≡ None → HasDecided p log later d

@@ -8,8 +8,8 @@ use Rattle.xa_tables.specs.{History, of_thread, names}
 use Rattle.xa_desk.specs.{LedgerView, ledger, numbered}
 use Rattle.xa_switch.specs.{Settling, IsSettled, sent, history}
 use Rattle.xa_atomicity.specs.{IsBetween, OnlyTheseName}
-use Rattle.xa_atomicity.proofs.Placing.{request_of}
-use Rattle.xa_atomicity.proofs.Requests.{all_later}
+use Rattle.xa_atomicity.proofs.Sites.{request_of}
+use Rattle.xa_atomicity.proofs.Sites.{all_later}
 use Rattle.xa_work.specs.{HaveSent}
 use Rattle.xa_bank.proofs.Named.{IsOf, Names, names_as, one_transfer, IsFrom}
 

@@ -15,7 +15,7 @@ use Rattle.xa_driver.specs.{Branch, Done as Made, Ending, AtBranch, CameTo, Have
 use Rattle.xa_driver.specs.{AsksLedger, EachBranch, IsTranOf, Logs, appended, decision_of, failed, unwanted}
 use Rattle.xa_atomicity.specs.{IsCut, is_recorded}
 use Rattle.xa_atomicity.proofs.CutVotes.{finished_law}
-use Rattle.xa_atomicity.proofs.Died.{died_is_cut}
+use Rattle.xa_atomicity.proofs.Staged.{died_is_cut}
 use Rattle.xa_atomicity.proofs.Staged.{nothing_between, undecided_is_cut}
 use Rattle.xa_work.specs.{WorkOutcome, HasSent, ComesOfCommit, IfLost}
 use Rattle.xa_work.specs.Units.ComesOfCommit.{cut_short, in_full, undecided}

@@ -9,7 +9,7 @@ use Rattle.xa_desk.specs.{DeskView}
 use Rattle.xa_switch.specs.{Again, IsWhole, MayReopen, managers_in, reopened_at, reopening, first_of, IsOf, IsWithinLimits, ManagerPart, Settling}
 use Rattle.xa_switch.proofs.Journaled.{begun}
 use Rattle.xa_log.specs.{LogState}
-use Rattle.xa_atomicity.proofs.Scanned.{was_there}
+use Rattle.xa_atomicity.proofs.NextOpening.{was_there}
 use Rattle.xa_crew.specs.{WithScan, Attended, AgainWorks, IsRunAgain, WorksWithScan}
 use Rattle.xa_bank.specs.{Teller, Works, WorksOn}
 use Rattle.xa_bank.proofs.Members.{MemberAt, member_at, nobody_else}

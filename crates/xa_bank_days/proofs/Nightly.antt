@@ -14,10 +14,10 @@ use Rattle.xa_log.specs.{LogState, Records}
 use Rattle.xa_driver.specs.{Outcome, Resolved, IsTraceOfResolve, MayResolve}
 use Rattle.xa_driver.proofs.Mapped.{Asks}
 use Rattle.xa_atomicity.specs.{IsBetween, OnlyResolves, ResolveCall, resolve_call, resolves, with_use}
-use Rattle.xa_atomicity.proofs.Requests.{all_earlier, own_all}
+use Rattle.xa_atomicity.proofs.Sites.{all_earlier, own_all}
 use Rattle.xa_atomicity.proofs.Resolves.{outcome_at, resolve_sends}
 use Rattle.xa_atomicity.proofs.Settled.{by_ledger}
-use Rattle.xa_atomicity.proofs.Voting.{learnt_on}
+use Rattle.xa_atomicity.proofs.EndsByFate.{learnt_on}
 use Rattle.xa_crew.specs.{WithScan, Attended, IsRunAgain, WorksWithScan}
 use Rattle.xa_work.specs.{HasSent}
 use Rattle.xa_bank.specs.{Teller}

@@ -12,10 +12,10 @@ use Rattle.xa_switch.proofs.Journaled.{follows_first}
 use Rattle.xa_driver.specs.{is_commit}
 use Rattle.xa_driver.proofs.Ledgers.{numbered_length}
 use Rattle.xa_atomicity.specs.{taken_before, IsBetween}
-use Rattle.xa_atomicity.proofs.Moves.{taken_is}
-use Rattle.xa_atomicity.proofs.Naming.{prepare_part}
-use Rattle.xa_atomicity.proofs.Placing.{answer_at, request_of, same_code}
-use Rattle.xa_atomicity.proofs.Requests.{IsFromTo, all_earlier, own_between}
+use Rattle.xa_atomicity.proofs.Values.{taken_is}
+use Rattle.xa_atomicity.proofs.CutVotes.{prepare_part}
+use Rattle.xa_atomicity.proofs.Sites.{answer_at, request_of, same_code}
+use Rattle.xa_atomicity.proofs.Sites.{IsFromTo, all_earlier, own_between}
 use Rattle.xa_atomicity.proofs.Settled.{by_ledger}
 use Rattle.xa_days.specs.{CommitsNowhere, DecidesNowhere}
 use Rattle.xa_days.proofs.AtWork.{work_held, work_never_reads}

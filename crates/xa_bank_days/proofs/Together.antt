@@ -8,7 +8,7 @@ use Rattle.xa_tables.specs.{state_of, names, Tables}
 use Rattle.xa_desk.specs.{LedgerView, ledger}
 use Rattle.xa_switch.specs.{sent, first_of, history, ledgers_of}
 use Rattle.xa_log.specs.{IsReadAs, LogState, Records, record_in, record_of}
-use Rattle.xa_atomicity.proofs.Requests.{own_all}
+use Rattle.xa_atomicity.proofs.Sites.{own_all}
 use Rattle.xa_atomicity.proofs.Settled.{by_ledger}
 use Rattle.xa_days.specs.{Leg}
 use Rattle.xa_work.specs.{HasSent, IsOpenRm}

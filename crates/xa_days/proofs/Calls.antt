@@ -1,7 +1,7 @@
 -- What a commit and a resolve sent, as the histories have it.
 use Rattle.xa_atomicity.proofs.Settled.{sent_between, sent_on, sent_stands, site_of}
 use Rattle.xa_atomicity.proofs.CutVotes.{CameAt, each_came, at_asking, at_forgetting, at_telling, HasVoted}
-use Rattle.xa_atomicity.proofs.Requests.{none_all}
+use Rattle.xa_atomicity.proofs.Sites.{none_all}
 use Rattle.xa_atomicity.proofs.Values.{taken}
 use Rattle.xa_atomicity.proofs.Sites.{Site}
 use Rattle.xa_atomicity.specs.{Tabled, IsCut, HasSentNone, is_commit_of, is_recorded, OnlyTheseOrDecisionsName, AskedAreLeft, VotedToCommit, CutCall, IsKept}
@@ -20,8 +20,8 @@ use Rattle.xa_driver.specs.{Branch, Ending, is_commit, outcome_op, AreBranchesRi
 use Rattle.xa_atomicity.proofs.CutBranch.{HasSentOnly, asked_only, ended_voted_so, guide, open_so, told_voted_so, voted_only}
 use Rattle.xa_atomicity.proofs.CutSends.{unrecorded_law}
 use Rattle.xa_atomicity.proofs.Leading.{IsTowards, Leads}
-use Rattle.xa_atomicity.proofs.Naming.{named_so, named_tran}
-use Rattle.xa_atomicity.proofs.Placing.{request_of}
+use Rattle.xa_atomicity.proofs.CutVotes.{named_so, named_tran}
+use Rattle.xa_atomicity.proofs.Sites.{request_of}
 use Rattle.xa_days.specs.{CommitsNowhere, OnlyTold, tells_outcome, CommitsInCall, DecidesNowhere, IsMarkedNowhere, VotedInCall, taken_till_asked}
 
 -- ---- resolves

@@ -2,8 +2,8 @@
 use Rattle.xa_base.proofs.{All-cons, All-head, All-tail, ◌≡◌, ◌≢◌, ℕ, ℤ, pos, ◌+ℤ◌, Bool, true, false, cond, not, ◌||◌, if◌then◌else◌, Option, None, Some}
 use Rattle.xa_base.proofs.{is_some, List, [], ◌∷◌, ◌++◌, unwrap_or, refl, All, cons_option, sym, ap, ◌∙◌, subst, arith, +ℤ_idl as none_plus}
 use Rattle.xa_base.proofs.{+ℤ_idr as plus_none, total_same, by_if, at_true, at_false}
-use Rattle.xa_atomicity.proofs.Placing.{fates_both, last_both}
-use Rattle.xa_atomicity.proofs.Moves.{moved_both, moved_without, unmoving}
+use Rattle.xa_atomicity.proofs.Sites.{fates_both, last_both}
+use Rattle.xa_atomicity.proofs.Values.{moved_both, moved_without, unmoving}
 use Rattle.std.specs.FinMap as finmap
 use Rattle.xa_words.specs.{XidName, xid_eq, Decides-xid_eq, Done, Op, Prepare, Commit, Rollback, Forget, Request, Code}
 use Rattle.xa_tables.specs.declared.state.State.TheVariants.{Prepared as S3}

@@ -1,5 +1,5 @@
 -- The laws of a day: the branches' shares of what is moved, and what accounts are worth after it.
-use Rattle.xa_atomicity.proofs.Moves.{unmoving}
+use Rattle.xa_atomicity.proofs.Values.{unmoving}
 use Rattle.xa_base.proofs.{◌≡◌, ℤ, pos, ◌+ℤ◌, true, false, ◌||◌, if◌then◌else◌, List, [], ◌∷◌, map, refl, All, IsDistinct, list_any, sym, ap, ◌∙◌, arith}
 use Rattle.xa_base.proofs.{get_or, ints, All-head, All-tail, +ℤ_idl as none_plus, +ℤ_idr as plus_none, total_same, total_alike, total_both, total_nothing}
 use Rattle.xa_base.proofs.{by_if, at_true}

@@ -2,8 +2,8 @@
 use Rattle.std.proofs.lemmas.Bool.{and_right, both_ways}
 use Rattle.xa_base.proofs.{false_from_ne_true, and_parts, not-true, All-contains, All-cons, if◌then◌else◌, ◌&&◌, is_some, ◌≡◌, suc, ◌≤◌, Bool, true, false}
 use Rattle.xa_base.proofs.{◌||◌, Option, List, [], ◌∷◌, length, get_or, sym, refl, ap, ◌∙◌, subst, arith, All, Contains, list_any}
-use Rattle.xa_atomicity.proofs.Asked.{third_so}
-use Rattle.xa_atomicity.proofs.Requests.{none_all}
+use Rattle.xa_atomicity.proofs.OneOutcome.{third_so}
+use Rattle.xa_atomicity.proofs.Sites.{none_all}
 use Rattle.xa_atomicity.proofs.CutVotes.{CameAt, IsVoteOf, each_came, at_asking, at_forgetting, at_telling, prepare_there, vote_there, HasVoted, ended_voted}
 use Rattle.xa_atomicity.proofs.CutVotes.{prepare_sent, told_voted}
 use Rattle.xa_driver.specs.{yes_of, is_no, is_yes, Branch, is_commit, second_op, third_op, IsTranOf, Logs, decision_of}

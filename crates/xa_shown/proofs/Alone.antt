@@ -1,6 +1,6 @@
 -- Where no other line names the branches of a commit, nobody else names them in the journals.
-use Rattle.xa_atomicity.proofs.Placing.{request_of}
-use Rattle.xa_atomicity.proofs.Requests.{all_later}
+use Rattle.xa_atomicity.proofs.Sites.{request_of}
+use Rattle.xa_atomicity.proofs.Sites.{all_later}
 use Rattle.xa_atomicity.proofs.Sites.{sides}
 use Rattle.xa_base.proofs.{All-map, All-cons, All-nil, All-head, All-tail, All-append, filter-append, ◌≡◌, ◌≢◌, ℕ, suc, ◌+◌, ◌<◌, inl, inr, Bool, true, false}
 use Rattle.xa_base.proofs.{cond, ◌==◌, List, [], ◌∷◌, ◌++◌, length, map, sym, refl, ap, ◌∙◌, subst, arith, get_or, All, filter, cases_eq, eq-eqb, length-map}

@@ -10,9 +10,9 @@ use Rattle.xa_tables.specs.Histories as history
 use Rattle.xa_atomicity.specs.{IsDecidedAfter, OnlyTheseOrDecisionsName, ended_as}
 use Rattle.xa_atomicity.proofs.Guided.{IsGuided, at_last, decided_known, fates_from, voted_now}
 use Rattle.xa_atomicity.proofs.Leading.{Stands, over, unforgotten, waits}
-use Rattle.xa_atomicity.proofs.Placing.{request_of, fates}
+use Rattle.xa_atomicity.proofs.Sites.{request_of, fates}
 use Rattle.xa_atomicity.proofs.Sites.{Site, StandsIn, above}
-use Rattle.xa_atomicity.proofs.Voting.{once}
+use Rattle.xa_atomicity.proofs.EndsByFate.{once}
 
 module _ {t : ℕ} {T : Tables} {H : History} (site : Site t T H) (x : XidName) (n last : ℕ) (only : OnlyTheseOrDecisionsName x t n last H) where
   abbrev P : Op

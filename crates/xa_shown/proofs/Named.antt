@@ -1,7 +1,7 @@
 -- Lines that don't name a branch put nothing into the journals that does.
 use Rattle.xa_base.proofs.{arith, ◌≡◌, ◌≢◌, ℕ, zero, suc, ◌⊎◌, inl, inr, Bool, true, false, ◌==◌, ◌&&◌, List, [], ◌∷◌, Option, Some, None, sym, refl, ap, ◌∙◌}
 use Rattle.xa_base.proofs.{if◌then◌else◌, All, Result, Ok, Err, eq-eqb, or_parts, list_any, slice_index_or, all_mid, all_left}
-use Rattle.xa_atomicity.proofs.Requests.{none_all}
+use Rattle.xa_atomicity.proofs.Sites.{none_all}
 use Rattle.xa_base.specs.{Chain}
 use Rattle.xa_base.specs.Lists.Chain.{none as no_step, more as one_step}
 use Rattle.xa_words.specs.{XidName, xid_eq, check_flags, Call, Mode, Op, RmOp, Decides-xid_eq, Code}
@@ -24,7 +24,7 @@ use Rattle.xa_transcript.specs.{Answer}
 use Rattle.xa_telling.specs.{wanted, wanted_by, Part, Asked, CallTakes, Line, Takes, TakesPart}
 use Rattle.xa_telling.specs.Wants.Wanted.{code_of, handle_for}
 use Rattle.xa_shown.proofs.Adds.{Adds, TaskSo, adds_both, adds_none, op_in, takes_add}
-use Rattle.xa_atomicity.proofs.Between.{Unnamed, second_unnamed, outcome_unnamed, third_unnamed}
+use Rattle.xa_atomicity.proofs.CutSends.{Unnamed, second_unnamed, outcome_unnamed, third_unnamed}
 use Rattle.xa_telling.specs.Parts.CallTakes.{answered, kept, refused, completes, lists}
 use Rattle.xa_telling.specs.Commits.CommitTakes.{refused as takes_none, decided, undecided, died}
 use Rattle.xa_telling.specs.Resolves.ResolveTakes.{refused as ends_none, resolved}

@@ -20,7 +20,7 @@ use Rattle.xa_base.specs.Lists.Chain.{none, more}
 use Rattle.xa_shown.specs.{IsOneOutcome, ShowsOneOutcome, Place, IsAsShown, CountsAsShown, entered_so_far}
 use Rattle.xa_telling.proofs.Entries.{agreed_fits}
 use Rattle.xa_shown.proofs.Shown.{decided_so, none_against}
-use Rattle.xa_atomicity.proofs.Requests.{none_all}
+use Rattle.xa_atomicity.proofs.Sites.{none_all}
 use Rattle.xa_shown.proofs.Placed.{chain_adds}
 use Rattle.xa_shown.proofs.Became.{entered, branch_entered}
 use Rattle.xa_shown.proofs.Adds.{Adds}

@@ -1,5 +1,5 @@
 -- What a line shows stands in the journals.
-use Rattle.xa_atomicity.proofs.Requests.{none_all}
+use Rattle.xa_atomicity.proofs.Sites.{none_all}
 use Rattle.xa_atomicity.specs.Outcomes.{is_committed}
 use Rattle.xa_driver.specs.{ending_of, second_op, third_op, yes_ending, Branch, Done as Outcome, Ending, Committed, is_commit, is_yes, is_no, decides_commit}
 use Rattle.xa_driver.specs.{has_yes, AtBranch, EachBranch, decision_of}
@@ -14,8 +14,8 @@ use Rattle.xa_tables.specs.{is_done}
 use Rattle.xa_desk.specs.{is_rm_fail}
 use Rattle.xa_worker.specs.{Entry, entry}
 use Rattle.xa_switch.specs.{Settling, journal}
-use Rattle.xa_atomicity.proofs.Aborts.{IsNoCommit}
-use Rattle.xa_atomicity.proofs.Asked.{second_so, third_so}
+use Rattle.xa_atomicity.proofs.OneOutcome.{IsNoCommit}
+use Rattle.xa_atomicity.proofs.OneOutcome.{second_so, third_so}
 use Rattle.xa_driver.proofs.Mapped.{Any, IsAskedFor, any_asked, for_by, rest_by}
 use Rattle.xa_shown.proofs.Adds.{Adds, adds_none, carries_on, decides_adds, takes_adds}
 use Rattle.xa_grammar.specs.{CommitAll, ScriptCalled, ScriptAction, ScriptStep}

@@ -13,8 +13,8 @@ use Rattle.xa_atomicity.specs.{is_recorded, is_rollback, EachOutcome, is_rolled_
 use Rattle.xa_atomicity.specs.Outcomes.{is_committed}
 use Rattle.xa_atomicity.proofs.CutSends.{NotToCommit, decided_so, no_commit_so, no_rollback_so, undecided_so}
 use Rattle.xa_atomicity.proofs.OneOutcome.{unvoted}
-use Rattle.xa_atomicity.proofs.Requests.{none_all}
-use Rattle.xa_atomicity.proofs.Aborts.{IsNoCommit}
+use Rattle.xa_atomicity.proofs.Sites.{none_all}
+use Rattle.xa_atomicity.proofs.OneOutcome.{IsNoCommit}
 use Rattle.xa_grammar.specs.{CommitAll, ScriptAction}
 use Rattle.xa_transcript.specs.{Answer}
 use Rattle.xa_transcript.specs.declared.answer.Answer.TheVariants as answer

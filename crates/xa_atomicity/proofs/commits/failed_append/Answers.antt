@@ -1,5 +1,5 @@
 use Rattle.xa_base.proofs.{arith}
-use Rattle.xa_atomicity.proofs.Aborts.{abort_sends_no_commit, failed_append_aborts}
+use Rattle.xa_atomicity.proofs.OneOutcome.{abort_sends_no_commit, failed_append_aborts}
 use Rattle.xa_atomicity.proofs.commits.failed_append.Goals as goal
 
 pub returns : goal.returns

@@ -1,6 +1,6 @@
 use Rattle.xa_atomicity.specs.{sent_so_far}
 use Rattle.xa_atomicity.proofs.Settled.{fates_law}
-use Rattle.xa_atomicity.proofs.Gone.{none_left}
+use Rattle.xa_atomicity.proofs.OutcomeFates.{none_left}
 use Rattle.xa_atomicity.proofs.fates.acknowledged_commits_leave_no_branch.Goals as goal
 
 pub returns : goal.returns

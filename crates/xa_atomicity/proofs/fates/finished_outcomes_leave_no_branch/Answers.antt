@@ -1,7 +1,7 @@
 use Rattle.xa_base.proofs.{All-contains}
 use Rattle.xa_atomicity.specs.{TellsTheOutcome}
 use Rattle.xa_atomicity.proofs.OutcomeFates.{outcomes_law}
-use Rattle.xa_atomicity.proofs.Gone.{gone_finished}
+use Rattle.xa_atomicity.proofs.OutcomeFates.{gone_finished}
 use Rattle.xa_atomicity.proofs.fates.finished_outcomes_leave_no_branch.Goals as goal
 
 pub returns : goal.returns

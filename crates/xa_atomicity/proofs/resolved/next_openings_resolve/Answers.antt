@@ -4,17 +4,16 @@ use Rattle.xa_atomicity.specs.{IsByItsThread, IsUseIn, commits, resolves}
 use Rattle.xa_atomicity.proofs.NextOpening.{next_follows, next_resolved_after, one_of}
 use Rattle.xa_atomicity.proofs.resolved.next_openings_resolve.Goals as goal
 
-pub returns-clause-finished : goal.returns-clause-finished
-returns-clause-finished c = λ s next again call q settled made few own last_settled resolved continues of scanned log later reached. record {
-  followed =
-      next_follows s next again (commits call) call.branches call.desk call.later [] q [] settled made few last_settled (one_of (λ r. IsUseIn next (resolves r)) q resolved) continues of scanned
-      (λ left t tran. one_of (λ r. record_in r.records t ≡ record_of call.later t) q (log left t tran)) later reached;
-  its_thread = All-nil (IsByItsThread call);
-  own = own;
+pub returns : goal.returns
+returns c = record {
+  finished = λ s next again call q settled made few own last_settled resolved continues of scanned log later reached. record {
+    followed =
+        next_follows s next again (commits call) call.branches call.desk call.later [] q [] settled made few last_settled (one_of (λ r. IsUseIn next (resolves r)) q resolved) continues of scanned
+        (λ left t tran. one_of (λ r. record_in r.records t ≡ record_of call.later t) q (log left t tran)) later reached;
+    its_thread = All-nil (IsByItsThread call);
+    own = own;
+  };
+  cut = λ s next again k q settled made few own last_settled resolved continues of scanned log later reached.
+      next_resolved_after s next again k [] q [] settled made few own last_settled (one_of (λ r. IsUseIn next (resolves r)) q resolved) continues of scanned
+      (λ left t tran. one_of (λ r. record_in r.records t ≡ record_of k.later t) q (log left t tran)) later reached;
 }
-
-pub returns-clause-cut : goal.returns-clause-cut
-returns-clause-cut c =
-    λ s next again k q settled made few own last_settled resolved continues of scanned log later reached.
-    next_resolved_after s next again k [] q [] settled made few own last_settled (one_of (λ r. IsUseIn next (resolves r)) q resolved) continues of scanned
-    (λ left t tran. one_of (λ r. record_in r.records t ≡ record_of k.later t) q (log left t tran)) later reached

@@ -1,4 +1,4 @@
-use Rattle.xa_atomicity.proofs.Died.{died_is_cut}
+use Rattle.xa_atomicity.proofs.Staged.{died_is_cut}
 use Rattle.xa_atomicity.proofs.stages.deaths_are_cuts.Goals as goal
 
 pub returns : goal.returns

@@ -1,18 +1,12 @@
-use Rattle.xa_driver.proofs.Gathering.{same_itself}
-use Rattle.xa_base.proofs.{map}
-use Rattle.xa_driver.specs.{third_ask}
+use Rattle.xa_atomicity.proofs.Words.{map, same_itself, third_ask}
 use Rattle.xa_atomicity.proofs.Staged.{decided_is_cut, forgetting_cut, none_so_far, prepared_is_cut, undecided_is_cut}
 use Rattle.xa_atomicity.proofs.stages.stages_are_cuts.Goals as goal
 
-pub returns-clause-prepared : goal.returns-clause-prepared
-returns-clause-prepared c = prepared_is_cut
-
-pub returns-clause-decided : goal.returns-clause-decided
-returns-clause-decided c = decided_is_cut
-
-pub returns-clause-told : goal.returns-clause-told
-returns-clause-told c = λ bs desk mid tell late new log later p d t may first between second third after.
-    forgetting_cut bs desk mid tell log later p d may first between second late new t third after new (map third_ask t.round.asks.items) (same_itself (map third_ask t.round.asks.items)) (none_so_far (map third_ask t.round.asks.items) new)
-
-pub returns-clause-undecided : goal.returns-clause-undecided
-returns-clause-undecided c = undecided_is_cut
+pub returns : goal.returns
+returns c = record {
+  prepared = prepared_is_cut;
+  decided = decided_is_cut;
+  undecided = undecided_is_cut;
+  told = λ bs desk mid tell late new log later p d t may first between second third after.
+      forgetting_cut bs desk mid tell log later p d may first between second late new t third after new (map third_ask t.round.asks.items) (same_itself (map third_ask t.round.asks.items)) (none_so_far (map third_ask t.round.asks.items) new);
+}
