@@ -8,15 +8,15 @@ use Rattle.xa_atomicity.proofs.Words.{history as history_of, settled_fate, IsSet
 use Rattle.xa_atomicity.proofs.Words.{pos, ◌⊎◌, ◌≢◌, inl, inr, ⊎_elim, Contains, some_same, tran_of, RmFail, Prepare, state_of, is_prepared, IsFateOf, share}
 use Rattle.xa_atomicity.proofs.Words.{AreLeft, told_by, left_at, Branch, Outcome, is_decided, IsAddition, prepare_of, WasAtFirst, is_heuristic, told_fate}
 use Rattle.xa_atomicity.proofs.Words.{AreInARow, EndsAs, IsKept, IsListed, OnlyResolves, ResolveCall, became, last_of, resolves, tables_left, uses_of}
-use Rattle.xa_atomicity.proofs.Words.{IsUnlisted, SharesOver, commits_after}
+use Rattle.xa_atomicity.proofs.Words.{IsUnlisted, SharesOver, commits_after, at_false, at_true, both_ways}
 use Rattle.xa_atomicity.specs.Worth.{is_committed}
 use Rattle.xa_tables.specs.declared.state.HeuristicDecision.TheVariants as decision
 use Rattle.xa_tables.specs.Histories as history
 use Rattle.xa_atomicity.proofs.Later.{last_ended, Walk, stands_first, ends_with, walk, walk_after, walk_ends, walk_tells}
 use Rattle.xa_atomicity.proofs.Leading.{IsTowards, Stands, waits, unforgotten, over, as_decided, led_fates, IsOver}
 use Rattle.xa_atomicity.proofs.Sites.{fates, request_of}
-use Rattle.xa_atomicity.proofs.EndsByFate.{Comes, ends, tells, leaves, once, AtEnd, unknown_so, Through, End, decided_one, decision_so, ends_so}
-use Rattle.xa_atomicity.proofs.EndsByFate.{is_decided_so, is_known_so, untold, left_in_doubt}
+use Rattle.xa_atomicity.proofs.EndsByFate.{Comes, ends, tells, leaves, once, AtEnd, unknown_so, decided_one, decision_so, is_decided_so, is_known_so, untold}
+use Rattle.xa_atomicity.proofs.EndsByFate.{left_in_doubt}
 use Rattle.xa_atomicity.proofs.Values.{commits_by, commits_or, add_place, share_is}
 use Rattle.xa_atomicity.proofs.Records.{FindsMark}
 
@@ -199,17 +199,43 @@ module _ (law : Tabled) (first : (s : Settling) (m : ℕ) (T : Tables) → IsSet
     last_walk : Walks → IsOver commit D L later_fate × (is_prepared (tables_left (last_of o later) m) b.xid ≡ false)
     last_walk = walk_ends law first commit D L m up b.xid o between last q (tables_after H T) F there scan reached
 
-    through : Walks → Through commit L (λ d. IsListed b d later) F later_fate e
-    through w =
-        record { over_then = (last_walk w).0; which = which w; after = λ d z. walk_after law first commit D L m up b.xid d later (tables_after H T) F w z }
-
+    -- how it ends: as was decided, or heuristically, and then its ending or a resolve tells how
     abbrev Ended : Fate → Type 0
     Ended f = (f ≡ ended_as commit) ⊎ ((d : HeuristicDecision) × ((f ≡ decided_fate d) × ((told_fate e ≡ Some (decided_fate d)) ⊎ IsListed b d later)))
 
+    abbrev at_last : Fate
+    at_last = if is_unknown F then later_fate else F
+
+    known_ends : is_unknown F ≡ false → Ended F → Ended at_last
+    known_ends known end = subst Ended (sym (at_false (is_unknown F) later_fate F known)) end
+
+    -- where it was left it is over in the end, and a decision that it had then stays
+    left_ends : Walks → Stands commit true D L (state_of (tables_after H T) b.xid) F → is_left_in (state_of (tables_after H T) b.xid) ≡ true → Ended at_last
+    left_ends w (waits y open_ state g) left = subst Ended (sym (at_true (is_unknown F) later_fate F (ap is_unknown g))) (by_over (last_walk w).0)
+      where
+        by_over : IsOver commit D L later_fate → Ended later_fate
+        by_over (inl z) = inl z.1
+        by_over (inr z) = inr (z.0, (z.1.0, inr (which w z.0 z.1.0 z.1.1)))
+    left_ends w (unforgotten d state g l) left = known_ends (is_decided_so F d g) (inr (d, (g, inr (by_over (last_walk w).0))))
+      where
+        stays : later_fate ≡ decided_fate d
+        stays = walk_after law first commit D L m up b.xid d later (tables_after H T) F w g
+
+        by_over : IsOver commit D L later_fate → IsListed b d later
+        by_over (inl z) = absurd (both_ways (is_unknown F) (is_decided_so F d g) (ap is_unknown z.0))
+        by_over (inr z) = which w d stays z.1.1
+    left_ends w (over state g) left = let none : true ≡ false = sym left ∙ ap is_left_in state in cc
+
+    ended_last : Ended at_last
+    ended_last = by_comes (at_end L).comes
+      where
+        by_comes : Comes commit W L (state_of (tables_after H T) b.xid) F e → Ended at_last
+        by_comes (ends g) = known_ends (is_known_so F commit g) (inl g)
+        by_comes (tells d g h) = known_ends (is_decided_so F d g) (inr (d, (g, inl h)))
+        by_comes (leaves why left st) = left_ends (walks why left st) st left
+
     ended_so : (before : Fate) → WasAtFirst s b before → Ended (became b before o later)
-    ended_so before was =
-        subst (λ (f : Fate). End commit L (λ d. IsListed b d later) F later_fate e (if is_unknown f then fate_through m b.xid f later else f)) (sym (same_fate before was))
-        (ends_so commit L (λ d. IsListed b d later) F later_fate e W (at_end L).comes (λ why left st. through (walks why left st)))
+    ended_so before was = subst (λ (f : Fate). Ended (if is_unknown f then fate_through m b.xid f later else f)) (sym (same_fate before was)) ended_last
 
     known_so : (f : Fate) → Ended f → is_unknown f ≡ false
     known_so f (inl z) = is_known_so f commit z
@@ -220,9 +246,6 @@ module _ (law : Tabled) (first : (s : Settling) (m : ℕ) (T : Tables) → IsSet
     rests_so prepared =
         let unknown : is_unknown F ≡ true = search (arith, with_T, ends_with, kept_o) in
         let z = left_in_doubt commit W L F e (at_end L).comes unknown in (last_walk (walks z.0 z.1 z.2)).1
-
-    branch_ends : EndsAs commit o later b e
-    branch_ends = record { ends = ended_so; undoubted = λ before was. known_so (became b before o later) (ended_so before was); unprepared = rests_so }
 
     -- ---- what its additions count for
 
@@ -268,4 +291,5 @@ module _ (law : Tabled) (first : (s : Settling) (m : ℕ) (T : Tables) → IsSet
               ⊎_elim (λ (told : told_fate e ≡ Some (decided_fate w.0)). absurd (untold e w.0 plain told)) (λ (listed : IsListed b w.0 later). absurd (unlisted w.0 listed)) w.1.1
 
       pub branch_follows : Follows commit o later t b n e
-      branch_follows = (branch_ends, branch_counts, branch_whole)
+      branch_follows =
+          (record { ends = ended_so; undoubted = λ before was. known_so (became b before o later) (ended_so before was); unprepared = rests_so }, branch_counts, branch_whole)

@@ -4,8 +4,8 @@ use Rattle.xa_atomicity.proofs.Words.{AreBranchesRising, has_branch_at, HasSentN
 use Rattle.xa_atomicity.proofs.Words.{eqb-false, le-leb, or_parts, ℤ, pos, ◌+ℤ◌, All, nat_le, ◌&&◌, ◌≡◌, ℕ, zero, suc, ◌+◌, ◌-◌, ◌<◌, ◌≤◌, ◌==◌, Bool, true}
 use Rattle.xa_atomicity.proofs.Words.{false, if◌then◌else◌, ⊎_elim, List, [], ◌∷◌, length, length-append, get_or, sym, refl, ap, ◌∙◌, subst, arith, list_any}
 use Rattle.xa_atomicity.proofs.Words.{range_with_len, ints, +ℤ_idl as none_plus, +ℤ_idr as plus_none, contains_at, range_all, total_alike, total_both}
-use Rattle.xa_atomicity.proofs.Words.{total_nothing, All-contains, Begins, total, XidName, Request, Code, Tables, are_accounts, opening, tables_after, moved}
-use Rattle.xa_atomicity.proofs.Words.{held_by, is_of, HoldsItsAdditions, History, LedgerView, DeskView, ledger, HaveGrown, growing_on, same_lists, Plan}
+use Rattle.xa_atomicity.proofs.Words.{total_nothing, All-contains, total, XidName, Request, Code, Tables, are_accounts, opening, tables_after, moved, held_by}
+use Rattle.xa_atomicity.proofs.Words.{is_of, HoldsItsAdditions, History, LedgerView, DeskView, ledger, HaveGrown, growing_on, same_lists, Plan}
 use Rattle.xa_atomicity.proofs.Words.{IsSoundManager, IsSettled, sent, IsOpenedWith, ledgers_of, history, threads_of, managers_of, accounts_in, accounts_of}
 use Rattle.xa_atomicity.proofs.Words.{plan_worth, settled_worth, WorthIsOfThreads, Settling, LogState, EachOutcome, AreLeftAlone, has_committed}
 use Rattle.xa_atomicity.proofs.Words.{is_rolled_back, is_heuristic, is_left, is_read_only, sent_so_far, taken_before, added_before, added_by_all}
@@ -13,13 +13,10 @@ use Rattle.xa_atomicity.proofs.Words.{total_in_doubt, held_in_doubt, OnlyTransfe
 use Rattle.xa_driver.specs.{Done}
 use Rattle.xa_switch.specs.{moved_by}
 use Rattle.xa_atomicity.specs.{is_in_doubt}
-use Rattle.xa_atomicity.proofs.Values.{within_parts, is_within, moved_parted, moved_none, moved_without, moved_alike, moved_nothing}
+use Rattle.xa_atomicity.proofs.Values.{within_parts, is_within, moved_parted, moved_without, moved_alike, moved_nothing}
 use Rattle.xa_atomicity.proofs.Sites.{none_all, all_earlier}
 use Rattle.xa_atomicity.proofs.Settled.{sent_between, Both, all_outcomes, growth_law, by_ledger, outcome_all}
 use Rattle.xa_atomicity.proofs.OneOutcome.{committed_law, positive_all}
-
-begins_length : {X : Type 0} (xs ys : List X) → Begins xs ys → length xs ≤ length ys
-begins_length xs ys b = let e : length ys ≡ length xs + length b.0 = ap length b.1 ∙ length-append xs b.0 in omega (arith, e)
 
 -- ---- branches and managers
 
@@ -87,7 +84,7 @@ module _ (law : Tabled) (opens : (s : Settling) (m : ℕ) → IsSettled s → (T
       → moved_until later ≡ moved_until at +ℤ total (λ m. moved_in m (count at m) (count later m)) (managers_of p)
   moved_on at later grown =
       all_alike (λ m. moved_in m 0 (count later m)) (λ m. moved_in m 0 (count at m) +ℤ moved_in m (count at m) (count later m)) (λ m positive.
-      moved_parted (accounts_of p m) t (count at m) (count later m) (history s m) (opening (accounts_of p m)) (begins_length _ _ (grown.each m positive).sent))
+      moved_parted (accounts_of p m) t (count at m) (count later m) (history s m) (opening (accounts_of p m)) (let b = (grown.each m positive).sent in let e = ap length b.1 in omega (arith, e, length-append (ledger at m).sent b.0)))
       ∙ total_both (λ m. moved_in m 0 (count at m)) (λ m. moved_in m (count at m) (count later m)) (managers_of p)
 
   -- requests without a Commit move nothing
@@ -101,7 +98,7 @@ module _ (law : Tabled) (opens : (s : Settling) (m : ℕ) → IsSettled s → (T
 
   -- where nothing was sent nothing was moved
   none_within : (m k : ℕ) → moved_in m k k ≡ pos 0
-  none_within m k = search (arith, moved_none, is_within, cases_lt)
+  none_within m k = moved_without (accounts_of p m) (is_within t k k) (history s m) (opening (accounts_of p m)) (λ j d lt here. let w = within_parts t k k (get_or (history s m) j d) here in let low = w.1 in let high = w.2 in absurd (omega (arith, low, high)))
 
   -- a manager that isn't there has no accounts
   no_accounts : (m : ℕ) → length p.managers.items < m → accounts_of p m ≡ []

@@ -144,64 +144,61 @@ module _ {t : ℕ} {T : Tables} {H : History} (s : Site t T H) (x : XidName) (a 
   abbrev n : ℕ
   n = length a.sent
 
-  abbrev P : Op
-  P = Prepare x
-
   module _ (L : Type 0) (h : HasSentOnly commit L x a a') where
-    ops : s.ops ≡ a.sent ++ P ∷ (h.rest ++ grown.0)
-    ops = grown.1 ∙ ap (λ l. l ++ grown.0) h.sent ∙ append_assoc a.sent (P ∷ h.rest) grown.0
+    ops : s.ops ≡ a.sent ++ Prepare x ∷ (h.rest ++ grown.0)
+    ops = grown.1 ∙ ap (λ l. l ++ grown.0) h.sent ∙ append_assoc a.sent (Prepare x ∷ h.rest) grown.0
 
     abbrev IsLeading : Request → Type 0
-    IsLeading r = r.thread ≡ t → IsFromTo (IsTowards commit L x) (length (a.sent ++ P ∷ [])) (length (a.sent ++ P ∷ []) + length h.rest) r.number r.op
+    IsLeading r = r.thread ≡ t → IsFromTo (IsTowards commit L x) (length (a.sent ++ Prepare x ∷ [])) (length (a.sent ++ Prepare x ∷ []) + length h.rest) r.number r.op
 
     leading : All IsLeading H
     leading =
-        own_between t (IsTowards commit L x) H (a.sent ++ P ∷ []) h.rest grown.0 (s.carried ∙ ap (numbered t 0) (ops ∙ sym (append_assoc a.sent (P ∷ []) (h.rest ++ grown.0)))) h.all
+        own_between t (IsTowards commit L x) H (a.sent ++ Prepare x ∷ []) h.rest grown.0 (s.carried ∙ ap (numbered t 0) (ops ∙ sym (append_assoc a.sent (Prepare x ∷ []) (h.rest ++ grown.0)))) h.all
 
     -- what names the branch after it decides it, or leads it
-    pub guide : (c : Code) (f : StandsIn t n P c T H) → All (λ r. IsGuided commit L x r.op) f.after
+    pub guide : (c : Code) (f : StandsIn t n (Prepare x) c T H) → All (λ r. IsGuided commit L x r.op) f.after
     guide c f k d lt named plain =
-        let between : IsBetween t n (length a'.sent) (get_or f.after k d) = only f.before f.after (request_of t n P) f.place refl refl k d lt named plain in
-        let up = above s n P f.before f.after f.place k d lt between.thread in
+        let between : IsBetween t n (length a'.sent) (get_or f.after k d) = only f.before f.after (request_of t n (Prepare x)) f.place refl refl k d lt named plain in
+        let up = above s n (Prepare x) f.before f.after f.place k d lt between.thread in
         let down = between.below in
-        let first = length-append a.sent (P ∷ []) in
-        let long : length a'.sent ≡ suc (n + length h.rest) = ap (λ l. length l) h.sent ∙ (let e = length-append a.sent (P ∷ h.rest) in omega (arith, e)) in
-        all_after IsLeading f.before (request_of t n P) f.after (subst (All IsLeading) f.place leading) k d lt between.thread (omega (arith, up, first)) (omega (arith, down, long, first)) named
+        let first = length-append a.sent (Prepare x ∷ []) in
+        let long : length a'.sent ≡ suc (n + length h.rest) = ap (λ l. length l) h.sent ∙ (let e = length-append a.sent (Prepare x ∷ h.rest) in omega (arith, e)) in
+        all_after IsLeading f.before (request_of t n (Prepare x)) f.after (subst (All IsLeading) f.place leading) k d lt between.thread (omega (arith, up, first)) (omega (arith, down, long, first)) named
 
     -- whatever its fate was before
-    any_so : StandsIn t n P Done T H → (g k : Fate) → last_or g (fates x H T) ≡ last_or k (fates x H T)
+    any_so : StandsIn t n (Prepare x) Done T H → (g k : Fate) → last_or g (fates x H T) ≡ last_or k (fates x H T)
     any_so f g k =
         fate_any s.law commit (Unit {0}) L t n x T H s.opening f.before f.after f.place (sym f.code) (guide Done f) g
         ∙ sym (fate_any s.law commit (Unit {0}) L t n x T H s.opening f.before f.after f.place (sym f.code) (guide Done f) k)
 
-    pub sent_fates : StandsIn t n P Done T H → (g : Fate) (before after : History) → H ≡ before ++ request_of t n P ∷ after
-        → fates x (request_of t n P ∷ after) (tables_after before T) ≡ history.InDoubt ∷ once (fate x g H T)
+    pub sent_fates : StandsIn t n (Prepare x) Done T H → (g : Fate) (before after : History) → H ≡ before ++ request_of t n (Prepare x) ∷ after
+        → fates x (request_of t n (Prepare x) ∷ after) (tables_after before T) ≡ history.InDoubt ∷ once (fate x g H T)
     sent_fates f g before after place =
-        let there = at_place s n P Done f before after place in
+        let there = at_place s n (Prepare x) Done f before after place in
         fates_from s.law commit (Unit {0}) L t n x T H s.opening before after place (sym there.code) (guide Done there) tt g
 
-  pub sent_end : HasSentOnly commit ⊥ x a a' → StandsIn t n P Done T H → (e : Ending) (L : Type 0) (g : Fate) → AtEnd commit (Unit {0}) L x (fate x g H T) H T e
+  pub sent_end : HasSentOnly commit ⊥ x a a' → StandsIn t n (Prepare x) Done T H → (e : Ending) (L : Type 0) (g : Fate) → AtEnd commit (Unit {0}) L x (fate x g H T) H T e
   sent_end h f e L g = record {
     comes = comes_so commit L _ _ e (at_last s.law commit (Unit {0}) ⊥ t n x T H s.opening f.before f.after f.place (sym f.code) (guide ⊥ h Done f) tt g).stands;
     any = any_so ⊥ h f;
   }
 
   -- where its second request was told a decision, that is its fate, and its ending tells so
-  module _ (h : HasSentOnly commit (Unit {0}) x a a') (f : StandsIn t n P Done T H) (k : ℕ) (past : n < k) (c : Code)
+  module _ (h : HasSentOnly commit (Unit {0}) x a a') (f : StandsIn t n (Prepare x) Done T H) (k : ℕ) (past : n < k) (c : Code)
       (second : StandsIn t k (outcome_op commit x) c T H) where
     told_fate_is : (d : HeuristicDecision) → c ≡ decision_code d → (g : Fate) → fate x g H T ≡ decided_fate d
     told_fate_is d e g =
         let Q : Request → Type 0 = λ r. IsGuided commit (Unit {0}) x r.op in
-        let P1 : Request = request_of t n P in
+        let P1 : Request = request_of t n (Prepare x) in
         let S : Request = request_of t k (outcome_op commit x) in
         let all = guide (Unit {0}) h Done f in
-        let later = later_place t f.before second.before P1 S f.after second.after (sym f.place ∙ second.place) refl past (below s n P f.before f.after f.place) in
+        let later = later_place t f.before second.before P1 S f.after second.after (sym f.place ∙ second.place) refl past (below s n (Prepare x) f.before f.after f.place) in
         let parts = subst (All Q) later.after all in
-        let now : Tables = (next t P (tables_after f.before T)).0 in
+        let now : Tables = (next t (Prepare x) (tables_after f.before T)).0 in
         let code : (next t (outcome_op commit x) (tables_after later.mid now)).1 ≡ decision_code d =
         sym (second.code ∙ ap (λ (h : History). (next t (outcome_op commit x) (tables_after h T)).1) later.before ∙ ap (λ (U : Tables). (next t (outcome_op commit x) U).1) (tables_after-append f.before (P1 ∷ later.mid) T)) ∙ e in
         s.law.leaves H x g T ∙ fate_any s.law commit (Unit {0}) (Unit {0}) t n x T H s.opening f.before f.after f.place (sym f.code) all g
-        ∙ told_there s.law commit (Unit {0}) (Unit {0}) t k x now f.after later.mid second.after history.InDoubt later.after
+        ∙ told_there commit (Unit {0}) (Unit {0}) t k x now f.after later.mid second.after history.InDoubt later.after s.law
         (guided_after commit (Unit {0}) (Unit {0}) x later.mid now history.InDoubt (all_left Q later.mid (S ∷ second.after) parts) (stands_now s.law commit (Unit {0}) (Unit {0}) t n x T H s.opening f.before f.after f.place (sym f.code) all tt)) (all_after Q later.mid S second.after parts) d code
 
     pub told_end : is_decided c ≡ true → (L : Type 0) (g : Fate) → AtEnd commit (Unit {0}) L x (fate x g H T) H T (yes_ending commit (Some c))

@@ -1,22 +1,23 @@
 -- What a commit sent that was cut short: by the record no Commit, or no Rollback. And what leaves the branches of a commit:
 -- nothing, and requests of which none names them.
-use Rattle.xa_atomicity.proofs.Words.{arith, All-contains, All-head, All-tail, ◌&&◌, is_some, ◌⊎◌, ◌≡◌, ℕ, ◌≤◌, Bool, true, false, ◌==◌, ◌||◌, List, [], ◌∷◌}
-use Rattle.xa_atomicity.proofs.Words.{map, get_or, inl, inr, sym, refl, ap, ◌∙◌, subst, Some, None, All, eqb-true, list_any_none, all_unmapped, by_if}
-use Rattle.xa_atomicity.proofs.Words.{by_bool, AreBranchesRising, IsTranOf, Logs, decision_of, voted, Branch, Ending, Round, Decided, Ask, HaveComeSoFar}
-use Rattle.xa_atomicity.proofs.Words.{IsBegun, SameAsks, among_asks, is_commit, is_yes, yes_of, second_op, code_of, second_ask, yes_asked, HasDecided}
-use Rattle.xa_atomicity.proofs.Words.{HasPrepared, and_left, and_right, true_from_ne_false, both_ways, XidName, TranName, Op, Prepare, Commit, Rollback}
-use Rattle.xa_atomicity.proofs.Words.{Forget, Code, names, LedgerView, DeskView, ledger, CameSoFar, GoesByTheRecord, HasSentNone, IsAsked, IsCut}
-use Rattle.xa_atomicity.proofs.Words.{NoneWasToldToCommit, NoneWasToldToRollBack, is_recorded, is_rollback, LogState, record_of, carried, IsAskedFor}
-use Rattle.xa_atomicity.proofs.Words.{one_tran, ◌≢◌, ◌<◌, ◌++◌, length, ⊎_elim, Option, Contains, cases_lt, false_from_ne_true, Contains-get_or}
-use Rattle.xa_atomicity.proofs.Words.{MOST_MANAGERS, xid_eq, Decides-xid_eq, HaveGrown, Outcome, Told, third_op, outcome_op, AsksLedger, first_ask, third_ask}
-use Rattle.xa_atomicity.proofs.Words.{HasTold, AtBranch, IsCommit, AreOthers, DidOther, LeavesBranches, IsDone, IsOutcomeOf, ResolveCall, resolves, branch_by}
+use Rattle.xa_atomicity.proofs.Words.{arith, All-contains, ◌&&◌, is_some, ◌⊎◌, ◌≡◌, ℕ, ◌≤◌, Bool, true, false, ◌==◌, List, map, get_or, inl, inr, sym, refl}
+use Rattle.xa_atomicity.proofs.Words.{ap, ◌∙◌, subst, Some, None, All, eqb-true, list_any_none, all_unmapped, by_if, by_bool, AreBranchesRising, IsTranOf}
+use Rattle.xa_atomicity.proofs.Words.{Logs, decision_of, Branch, Ending, Round, Decided, Ask, HaveComeSoFar, IsBegun, SameAsks, among_asks, is_commit, is_yes}
+use Rattle.xa_atomicity.proofs.Words.{yes_of, second_op, code_of, second_ask, yes_asked, HasDecided, HasPrepared, and_left, and_right, true_from_ne_false}
+use Rattle.xa_atomicity.proofs.Words.{both_ways, XidName, TranName, Op, Prepare, Commit, Rollback, Forget, Code, names, LedgerView, DeskView, ledger}
+use Rattle.xa_atomicity.proofs.Words.{CameSoFar, GoesByTheRecord, HasSentNone, IsCut, NoneWasToldToCommit, NoneWasToldToRollBack, is_recorded, is_rollback}
+use Rattle.xa_atomicity.proofs.Words.{LogState, record_of, carried, IsAskedFor, one_tran, ◌≢◌, ◌<◌, ◌++◌, length, ⊎_elim, Option, Contains, cases_lt}
+use Rattle.xa_atomicity.proofs.Words.{false_from_ne_true, Contains-get_or, MOST_MANAGERS, xid_eq, Decides-xid_eq, HaveGrown, Outcome, Told, third_op}
+use Rattle.xa_atomicity.proofs.Words.{outcome_op, AsksLedger, first_ask, third_ask, HasTold, AtBranch, IsCommit, AreOthers, DidOther, LeavesBranches, IsDone}
+use Rattle.xa_atomicity.proofs.Words.{IsOutcomeOf, ResolveCall, resolves, branch_by}
 use Rattle.xa_driver.specs.{Prepared, Done}
-use Rattle.xa_atomicity.proofs.CutVotes.{CameAt, IsVoteOf, each_came, at_asking, at_forgetting, at_telling, HasVoted, begun_sends, ended_voted, other_sends}
-use Rattle.xa_atomicity.proofs.CutVotes.{told_voted, did_nothing}
+use Rattle.std.proofs.lemmas.List.Folds.{Any-from_list_any}
+use Rattle.xa_atomicity.proofs.CutVotes.{CameAt, IsVoteOf, each_came, at_asking, at_forgetting, at_telling, begun_sends, ended_voted, other_sends, told_voted}
+use Rattle.xa_atomicity.proofs.CutVotes.{did_nothing, all_sent}
 use Rattle.xa_atomicity.proofs.Sites.{none_all}
 use Rattle.xa_atomicity.proofs.Records.{recorded_is, none_on_abort}
 use Rattle.xa_atomicity.proofs.OneOutcome.{second_so, third_so, every_manager, positive_all}
-use Rattle.xa_atomicity.proofs.Resolves.{Sends, on, stays, asked_sends, asks_on, resolve_sends}
+use Rattle.xa_atomicity.proofs.Resolves.{Sends, on, stays, asks_on, resolve_sends}
 
 -- ---- what isn't among what was sent
 
@@ -40,18 +41,6 @@ module _ (bad : Op → Bool) (prepares : (x : XidName) → bad (Prepare x) ≡ f
   none_sent : (b : Branch) → Sends (Good b.xid) (ledger old b.m) (ledger new b.m) → None_ b
   none_sent b z = record { more = z.more; sent = z.sent; none = list_any_none (λ op. names b.xid op && bad op) z.more z.all }
 
-  asked_none : (b : Branch) → IsAsked b (ledger old b.m) (ledger new b.m) → None_ b
-  asked_none b z =
-      none_sent b
-      (on (Good b.xid) (ledger old b.m) z.left (ledger new b.m) (begun_sends (Good b.xid) (Some (Prepare b.xid)) (ledger old b.m) z.left (good_so b.xid (Prepare b.xid) (prepares b.xid)) z.asks)
-      (other_sends (Good b.xid) b.xid z.left (ledger new b.m) (other_good b.xid) z.after))
-
-  voted_none : (b : Branch) (v : Code) → HasVoted (Good b.xid) b v (ledger old b.m) (ledger new b.m) → None_ b
-  voted_none b v h =
-      none_sent b
-      (on (Good b.xid) (ledger old b.m) (voted b v (ledger old b.m)) (ledger new b.m)
-      (asked_sends (Good b.xid) (ledger old b.m) (Some (Prepare b.xid)) (Some v) (good_so b.xid (Prepare b.xid) (prepares b.xid))) h.rest)
-
   none_bad : {tran : TranName} {bs : List Branch} {log later : LogState} {es : List Ending} → AreBranchesRising 0 bs → CameSoFar tran bs old new log later es
       → ((votes : List Code) (logged : Bool) → Logs tran (yes_of bs votes) votes logged log later → All (Ok (decision_of votes logged)) votes) → All None_ bs
   none_bad {tran} {bs} {log} {later} {es} rising far ok j d lt = at_branch (get_or bs j d) (each_came rising far j d lt)
@@ -62,12 +51,15 @@ module _ (bad : Op → Bool) (prepares : (x : XidName) → bad (Prepare x) ≡ f
           good (decision_of votes logged) b.xid v (All-contains (Ok (decision_of votes logged)) votes v (ok votes logged logs) vote.among) (Good b.xid) (good_so b.xid)
 
       at_branch : (b : Branch) → CameAt tran bs old new log later es b → None_ b
-      at_branch b (at_asking same h) = asked_none b h
+      at_branch b (at_asking same h) =
+          none_sent b (on (Good b.xid) (ledger old b.m) h.left (ledger new b.m) (begun_sends (Good b.xid) (Some (Prepare b.xid)) (ledger old b.m) h.left (good_so b.xid (Prepare b.xid) (prepares b.xid)) h.asks)
+          (other_sends (Good b.xid) b.xid h.left (ledger new b.m) (other_good b.xid) h.after))
       at_branch b (at_telling votes logged logs v vote h) =
-          voted_none b v (told_voted (Good b.xid) (decision_of votes logged) b v (ledger old b.m) (ledger new b.m) (other_good b.xid) (second votes logged logs b v vote) h)
+          none_sent b (all_sent (Good b.xid) b v (ledger old b.m) (ledger new b.m) (good_so b.xid (Prepare b.xid) (prepares b.xid))
+          (told_voted (Good b.xid) (decision_of votes logged) b v (ledger old b.m) (ledger new b.m) (other_good b.xid) (second votes logged logs b v vote) h))
       at_branch b (at_forgetting votes logged logs v vote z h known) =
-          voted_none b v
-          (ended_voted (Good b.xid) (decision_of votes logged) b v (ledger old b.m) (ledger new b.m) (other_good b.xid) (second votes logged logs b v vote) z (third_so (Good b.xid) b.xid z (λ _. good_so b.xid (Forget b.xid) (forgets b.xid))) h)
+          none_sent b (all_sent (Good b.xid) b v (ledger old b.m) (ledger new b.m) (good_so b.xid (Prepare b.xid) (prepares b.xid))
+          (ended_voted (Good b.xid) (decision_of votes logged) b v (ledger old b.m) (ledger new b.m) (other_good b.xid) (second votes logged logs b v vote) z (third_so (Good b.xid) b.xid z (λ _. good_so b.xid (Forget b.xid) (forgets b.xid))) h))
 
 -- ---- by the record
 
@@ -121,18 +113,10 @@ pub sends_so_far : (P : Op → Type 0) (m : ℕ) → 1 ≤ m → (ks : List Ask)
 sends_so_far P m positive ks at now good far =
     by_bool (λ _. Sends P (ledger at m) (ledger now m)) (among_asks ks m)
     (λ here.
-    let z =
-    find_ask (λ k. IsBegun k.op (ledger at k.manager) (ledger now k.manager) × IsAskedFor P k.op) ks m (λ k d lt. (far.each k d lt, good k d lt)) here in
-    begun_sends P z.0.op (ledger at m) (ledger now m) z.1.1.1 (subst (λ (n : ℕ). IsBegun z.0.op (ledger at n) (ledger now n)) z.1.0 z.1.1.0))
+    let (k, j, below, at_k, same) = Any-from_list_any (λ (j : Ask). j.manager == m) ks here in
+    let begun : IsBegun j.op (ledger at j.manager) (ledger now j.manager) = All-contains (λ (j : Ask). IsBegun j.op (ledger at j.manager) (ledger now j.manager)) ks j far.each (k, below, at_k) in
+    begun_sends P j.op (ledger at m) (ledger now m) (All-contains (λ (j : Ask). IsAskedFor P j.op) ks j good (k, below, at_k)) (subst (λ (n : ℕ). IsBegun j.op (ledger at n) (ledger now n)) (eqb-true j.manager m same) begun))
     (λ other. subst (Sends P (ledger at m)) (sym (far.others m positive other)) (stays P (ledger at m)))
-  where
-    find_ask : (Q : Ask → Type 0) (js : List Ask) (n : ℕ) → All Q js → among_asks js n ≡ true → (j : Ask) × ((j.manager ≡ n) × Q j)
-    find_ask Q [] n all e = cc
-    find_ask Q (j ∷ js) n all e =
-        elim (j.manager == n) as (λ q. (j.manager == n) ≡ q → (q || among_asks js n) ≡ true → (i : Ask) × ((i.manager ≡ n) × Q i)) [
-          | true ↦ λ here _. (j, (eqb-true j.manager n here, All-head Q j js all))
-          | false ↦ λ _ e. find_ask Q js n (All-tail Q j js all) e
-        ] refl e
 
 -- the second round is of what the first asked
 pub seconds_are : {p : Prepared} {log later : LogState} {d : Decided} (js : List Ask) → HasDecided p log later d

@@ -18,7 +18,7 @@ use Rattle.xa_atomicity.proofs.Settled.{sent_between, by_ledger}
 use Rattle.xa_atomicity.proofs.Sites.{Parted, request_of, part, numbered_both, at_seam}
 use Rattle.xa_atomicity.proofs.Resolves.{Sends, resolve_sends, asked_sends, stays, on, contains_on}
 use Rattle.xa_atomicity.proofs.Records.{is_marked, logs_keep}
-use Rattle.xa_atomicity.proofs.OneOutcome.{branch_map}
+use Rattle.xa_atomicity.proofs.OneOutcome.{branch_map, Traced}
 
 -- what a thread sent to a manager
 pub sent_is : (s : Settling) (m : ℕ) → 1 ≤ m → (t : ℕ) → sent s t m ≡ (ledger (ledgers_of s t) m).sent
@@ -62,11 +62,6 @@ named_tran x (Rollback y) n = ap tran_of ((Decides-xid_eq y x).0 n)
 named_tran x (Forget y) n = ap tran_of ((Decides-xid_eq y x).0 n)
 named_tran x (Heur y by_commit) n = ap tran_of ((Decides-xid_eq y x).0 n)
 named_tran x op n = cc
-
--- ---- what a commit asks
-
-abbrev pub Traced : Bool → List LedgerView → List LedgerView → Branch → Code → Option Code → Ending → Type 0
-Traced commit old new b v z e = AtBranch AsksLedger commit b v z e (ledger old b.m) (ledger new b.m)
 
 -- where a Prepare that was sent stands in the history
 pub prepare_part : (s : Settling) → IsSettled s → (m : ℕ) → 1 ≤ m → (t : ℕ) (x : XidName) (a a' : LedgerView) → HasGrown a' (ledger (ledgers_of s t) m)
@@ -133,6 +128,10 @@ module _ (P : Op → Type 0) where
 
     pub ended_voted : (s : Option Code) → IsAskedFor P (third_op b.xid s) → IsEnded commit b v s a a' → HasVoted P b v a a'
     ended_voted s third z = record { prepared = z.prepared; rest = ended_sends s third z }
+
+  -- its Prepare with the rest
+  pub all_sent : (b : Branch) (v : Code) (a a' : LedgerView) → P (Prepare b.xid) → HasVoted P b v a a' → Sends P a a'
+  all_sent b v a a' so h = on P a (voted b v a) a' (asked_sends P a (Some (Prepare b.xid)) (Some v) so) h.rest
 
 -- ---- a vote that was collected
 

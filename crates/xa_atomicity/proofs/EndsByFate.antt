@@ -4,15 +4,14 @@ use Rattle.xa_atomicity.proofs.Words.{arith, ◌≡◌, ℕ, Bool, true, false, 
 use Rattle.xa_atomicity.proofs.Words.{list_any-append, or-true, Begins, XidName, Done, RmFail, Op, Code, State, HeuristicDecision, state_of, is_left_in}
 use Rattle.xa_atomicity.proofs.Words.{decision_code, next, Fate, tables_after, last_or, is_in_doubt as is_unknown, decided_fate, Tables, History, LedgerView}
 use Rattle.xa_atomicity.proofs.Words.{learnt_shut, Branch, Ending, asked, IsAnswered, is_yes, ending_of, yes_ending, second_op, third_op, AsksLedger}
-use Rattle.xa_atomicity.proofs.Words.{outcome_op, voted, AtBranch, told_fate, ended_as, Tabled, trace_of, asked_grows, some_same, ◌⊎◌, inl, inr, at_false}
-use Rattle.xa_atomicity.proofs.Words.{at_true, both_ways, HeurCom, HeurRb, Committed, ReadOnly, RolledBack, InDoubt, Heuristic, Left, is_decided}
-use Rattle.xa_atomicity.proofs.Words.{is_heuristic, is_left}
+use Rattle.xa_atomicity.proofs.Words.{outcome_op, voted, AtBranch, told_fate, ended_as, Tabled, trace_of, asked_grows, some_same, both_ways, HeurCom, HeurRb}
+use Rattle.xa_atomicity.proofs.Words.{Committed, ReadOnly, RolledBack, InDoubt, Heuristic, Left, is_decided, is_heuristic, is_left}
 use Rattle.xa_tables.specs.{IsTold}
 use Rattle.xa_atomicity.specs.{is_in_doubt}
 use Rattle.xa_tables.specs.declared.state.HeuristicDecision.TheVariants as decision
 use Rattle.xa_tables.specs.Histories as history
 use Rattle.xa_atomicity.proofs.Courses.{yes_is, yes_wanted}
-use Rattle.xa_atomicity.proofs.Leading.{Stands, waits, unforgotten, over, IsOver}
+use Rattle.xa_atomicity.proofs.Leading.{Stands, waits, unforgotten, over}
 use Rattle.xa_atomicity.proofs.Sites.{fates}
 
 -- It ended as was decided, or its ending tells that it was decided heuristically, or it is left; and then W is known.
@@ -82,8 +81,7 @@ learnt_in_doubt b vote second ending commit a a' is y doubt =
 
 -- fates that are known
 pub is_known_so : (f : Fate) (commit : Bool) → f ≡ ended_as commit → is_unknown f ≡ false
-is_known_so f true e = ap is_unknown e
-is_known_so f false e = ap is_unknown e
+is_known_so f commit e = ap is_unknown e ∙ ended_known commit
 
 pub is_decided_so : (f : Fate) (d : HeuristicDecision) → f ≡ decided_fate d → is_unknown f ≡ false
 is_decided_so f decision.Commit e = ap is_unknown e
@@ -155,37 +153,3 @@ pub left_in_doubt : (commit : Bool) (W L : Type 0) {s : Option State} (f : Fate)
 left_in_doubt commit W L f e (ends g) unknown = absurd (both_ways (is_unknown f) (is_known_so f commit g) unknown)
 left_in_doubt commit W L f e (tells d g h) unknown = absurd (both_ways (is_unknown f) (is_decided_so f d g) unknown)
 left_in_doubt commit W L f e (leaves why left st) unknown = (why, left, st)
-
--- how it ends, by its fate at the end of the first opening and through the later ones
-module _ (commit : Bool) (L : Type 0) (Listed : HeuristicDecision → Type 0) (f later : Fate) (e : Ending) where
-  abbrev pub End : Fate → Type 0
-  End g = (g ≡ ended_as commit) ⊎ ((d : HeuristicDecision) × ((g ≡ decided_fate d) × ((told_fate e ≡ Some (decided_fate d)) ⊎ Listed d)))
-
-  -- what is known of the later openings: it is over, which decision was told, and that it stays
-  pub record Through : Type 0 where
-    pub over_then : IsOver commit (f ≡ history.InDoubt) L later
-    pub which : (d : HeuristicDecision) → later ≡ decided_fate d → L → Listed d
-    pub after : (d : HeuristicDecision) → f ≡ decided_fate d → later ≡ decided_fate d
-
-  abbrev pub at_last : Fate
-  at_last = if is_unknown f then later else f
-
-  now : is_unknown f ≡ false → End f → End at_last
-  now known end = subst End (sym (at_false (is_unknown f) later f known)) end
-
-  unknown_ends : is_unknown f ≡ true → Through → End at_last
-  unknown_ends unknown w = search (arith, at_true, w.which)
-
-  decided_listed : (d : HeuristicDecision) → f ≡ decided_fate d → Through → Listed d
-  decided_listed d g w = search (arith, is_decided_so, w.which, w.after)
-
-  left_end : {s : Option State} → is_left_in s ≡ true → Stands commit true (f ≡ history.InDoubt) L s f → Through → End at_last
-  left_end left (waits y open_ state g) w = unknown_ends (ap is_unknown g) w
-  left_end left (unforgotten d state g l) w = now (is_decided_so f d g) (inr (d, (g, inr (decided_listed d g w))))
-  left_end left (over state g) w = let no_state : true ≡ false = sym left ∙ ap is_left_in state in cc
-
-  pub ends_so : (W : Type 0) → {s : Option State} → Comes commit W L s f e
-      → (W → is_left_in s ≡ true → Stands commit true (f ≡ history.InDoubt) L s f → Through) → End at_last
-  ends_so W (ends g) w = now (is_known_so f commit g) (inl g)
-  ends_so W (tells d g h) w = now (is_decided_so f d g) (inr (d, (g, inl h)))
-  ends_so W (leaves why left st) w = left_end left st (w why left st)

@@ -8,7 +8,7 @@ use Rattle.xa_atomicity.proofs.Words.{xid_eq, Done, RbIntegrity, HeurRb, HeurCom
 use Rattle.xa_atomicity.proofs.Words.{HeuristicDecision, is_S3, is_prepared, decision_code, next, Fate, fate, fate_in, fate_of, coded, tables_after, last_or}
 use Rattle.xa_atomicity.proofs.Words.{is_done, is_in_doubt as is_unknown, prepare_fate, decided_fate, heur_fate, IsFateOf, names, OnlyDecides, LeavesWaiting}
 use Rattle.xa_atomicity.proofs.Words.{AwaitsTheOutcome, AwaitsAfter, is_heur, is_forget, answer_when, fates_when, Tables, History, tables_after-append}
-use Rattle.xa_atomicity.proofs.Words.{unnamed_fate, is_rm_fail}
+use Rattle.xa_atomicity.proofs.Words.{unnamed_fate, ended_as}
 use Rattle.xa_atomicity.specs.{is_in_doubt}
 use Rattle.xa_driver.specs.{is_heuristic as is_heuristic_code}
 use Rattle.xa_tables.specs.{is_rolled_back, IsTold}
@@ -16,6 +16,8 @@ use Rattle.xa_tables.specs.declared.state.HeuristicDecision.TheVariants as decis
 use Rattle.xa_tables.specs.Histories as history
 use Rattle.xa_atomicity.proofs.Courses.{Unreached, Reads, Breaks, Stays, Agrees, Refuses, yes_is, read_is, Sends, SendsOne, Course, rest_forgets}
 use Rattle.xa_atomicity.proofs.Sites.{request_of, fates, fates_both, fate_is, last_both, closes_other, Site, above, Second, second_of}
+use Rattle.xa_atomicity.proofs.EndsByFate.{ended_known, tells_so}
+use Rattle.xa_atomicity.proofs.Leading.{ends_fate}
 
 -- ---- who may name the branch
 
@@ -97,6 +99,12 @@ outcome_quiet true x decision.Rollback = at_true (xid_eq x x) _ None (xid_self x
 outcome_quiet false x decision.Commit = at_true (xid_eq x x) _ None (xid_self x)
 outcome_quiet false x decision.Rollback = at_true (xid_eq x x) _ None (xid_self x)
 
+-- what an outcome is answered
+answers_so : (t : ℕ) (x : XidName) (commit : Bool) (o : Option HeuristicDecision) (U : Tables) → AwaitsTheOutcome t x o U
+    → (next t (outcome_op commit x) U).1 ≡ (if U.shut then RmFail else answer_when o)
+answers_so t x true o U h = h.commits
+answers_so t x false o U h = h.rolls_back
+
 -- ---- what became of a branch
 
 -- by its manager's history
@@ -114,9 +122,6 @@ module _ {t : ℕ} {T : Tables} {H : History} (site : Site t T H) (x : XidName) 
   abbrev Goal : Ending → Type 0
   Goal e = Told t x f0 T H n vote e
 
-  abbrev P : Op
-  P = Prepare x
-
   -- a request that gave the branch a fate by which it isn't prepared left it so
   ended : (before after : History) (r : Request) (f : Fate) → H ≡ before ++ r ∷ after → fate_of x r.op (next r.thread r.op (tables_after before T)).1 ≡ Some f
       → is_unknown f ≡ false → OnlyDecides x after → fate x f0 H T ≡ f
@@ -131,6 +136,11 @@ module _ {t : ℕ} {T : Tables} {H : History} (site : Site t T H) (x : XidName) 
   no_vote : (e : Ending) → is_yes vote ≡ false → is_in_doubt e ≡ false → ((f : Fate) → told_fate e ≡ Some f → fate x f0 H T ≡ f) → Goal e
   no_vote e y sure told = search (arith, rules)
 
+  -- an ending as was decided
+  ended_goal : (commit : Bool) → fate x f0 H T ≡ ended_as commit → Goal (if commit then Committed else RolledBack)
+  ended_goal true is = search (arith, some_same)
+  ended_goal false is = search (arith, some_same)
+
   -- ---- the Prepare alone was sent
 
   module _ (z : SendsOne site x n last vote) where
@@ -139,42 +149,42 @@ module _ {t : ℕ} {T : Tables} {H : History} (site : Site t T H) (x : XidName) 
     decides_after : OnlyDecides x alone.after
     decides_after k d lt named =
         or_left (is_heur (get_or alone.after k d).op) (is_forget (get_or alone.after k d).op) (true_from_ne_false (is_heur (get_or alone.after k d).op) (λ h.
-        let between : IsBetween t n last (get_or alone.after k d) = only alone.before alone.after (request_of t n P) alone.place refl refl k d lt named h in
-        let up = above site n P alone.before alone.after alone.place k d lt between.thread in
+        let between : IsBetween t n last (get_or alone.after k d) = only alone.before alone.after (request_of t n (Prepare x)) alone.place refl refl k d lt named h in
+        let up = above site n (Prepare x) alone.before alone.after alone.place k d lt between.thread in
         let down = between.below in let limit = z.limit in omega (arith, up, down, limit)))
 
     -- the vote tells what became of it
     voted_so : (e : Ending) (f : Fate) → is_yes vote ≡ false → is_in_doubt e ≡ false → told_fate e ≡ Some f → prepare_fate vote ≡ Some f → is_unknown f ≡ false
         → Goal e
     voted_so e f y sure named makes known =
-        let own : fate_of x P (next t P (tables_after alone.before T)).1 ≡ Some f = search (arith, at_true, xid_self) in
-        no_vote e y sure (λ g is. ended alone.before alone.after (request_of t n P) f alone.place own known decides_after ∙ (let s : Some f ≡ Some g = sym named ∙ is in cc))
-
-    broken_code : is_rolled_back vote ≡ true → vote ≡ RbIntegrity
-    broken_code back = alone.code ∙ site.law.breaks t x (tables_after alone.before T) (sym (ap is_rolled_back alone.code) ∙ back)
+        let own : fate_of x (Prepare x) (next t (Prepare x) (tables_after alone.before T)).1 ≡ Some f = search (arith, at_true, xid_self) in
+        no_vote e y sure (λ g is. ended alone.before alone.after (request_of t n (Prepare x)) f alone.place own known decides_after ∙ (let s : Some f ≡ Some g = sym named ∙ is in cc))
 
   -- ---- a second request was sent
 
-  module _ (op : Op) (c : Code) (z : Sends site x n last vote op c) where
+  module _ (commit : Bool) (c : Code) (z : Sends site x n last vote (outcome_op commit x) c) where
+    abbrev op : Op
+    op = outcome_op commit x
+
     open z use {first as f}
 
-    abbrev s : Second site n P vote f op c
-    s = second_of site n P vote f op c z.second
+    abbrev s : Second site n (Prepare x) vote f op c
+    s = second_of site n (Prepare x) vote f op c z.second
 
     abbrev S : Request
     S = request_of t (suc n) op
 
     abbrev now : Tables
-    now = (next t P (tables_after f.before T)).0
+    now = (next t (Prepare x) (tables_after f.before T)).0
 
     abbrev there : Tables
     there = tables_after s.mid now
 
     abbrev all_before : History
-    all_before = f.before ++ request_of t n P ∷ s.mid
+    all_before = f.before ++ request_of t n (Prepare x) ∷ s.mid
 
     allowed : All (IsAllowed t x n last) (s.mid ++ S ∷ s.rest)
-    allowed = subst (All (IsAllowed t x n last)) s.split (only f.before f.after (request_of t n P) f.place refl refl)
+    allowed = subst (All (IsAllowed t x n last)) s.split (only f.before f.after (request_of t n (Prepare x)) f.place refl refl)
 
     waiting : LeavesWaiting t x s.mid
     waiting = leaves_waiting t x n last s.mid S s.rest allowed s.others
@@ -229,35 +239,16 @@ module _ {t : ℕ} {T : Tables} {H : History} (site : Site t T H) (x : XidName) 
             | Some d ↦ λ made all. inr (d, (first_fate (decided_fate d ∷ []) all, decided_between d made))
           ] w.fates fs
 
-      abbrev Ends : Ending → Code → Ending
-      Ends e d = if is_done d then e else (if is_rm_fail d then InDoubt else (if is_heuristic_code d then Heuristic d else Left d))
-
       -- what a prepared branch comes to, by the decision
-      outcome : (e : Ending) (g : Fate) → is_in_doubt e ≡ false → is_left e ≡ false → is_heuristic e ≡ false → told_fate e ≡ Some g → is_unknown g ≡ false
-          → fate_of x op Done ≡ Some g
-          → ((d : HeuristicDecision) → fate_of x op (decision_code d) ≡ None)
-          → ((o : Option HeuristicDecision) (U : Tables) → AwaitsTheOutcome t x o U → (next t op U).1 ≡ (if U.shut then RmFail else answer_when o))
-          → ((d : HeuristicDecision) (U : Tables) → (next t op U).1 ≡ decision_code d → IsTold x d U (next t op U)) → Goal (Ends e c)
-      outcome e g sure reached plain named known by_done by_decision answers_so tells =
-          let code : c ≡ (if there.shut then RmFail else answer_when w.decision) = s.code ∙ answers_so w.decision there w.awaits in
-          elim (there.shut) as (λ l. there.shut ≡ l → c ≡ (if l then RmFail else answer_when w.decision) → Goal (Ends e c)) [
+      outcome : Goal (yes_ending commit (Some c))
+      outcome =
+          elim (there.shut) as (λ l. there.shut ≡ l → c ≡ (if l then RmFail else answer_when w.decision) → Goal (yes_ending commit (Some c))) [
             | true ↦ λ closed is.
-                subst (λ (d : Code). Goal (Ends e d)) (sym is)
+                subst (λ (d : Code). Goal (yes_ending commit (Some d))) (sym is)
                 (record { reached = λ _. refl; shut = λ _ _. after_shut closed; decided = λ _ h. cc; named = λ _ h. cc; told = λ h i. cc; doubt = λ _. in_doubt closed })
             | false ↦ λ opened is. by_answer w.decision w.fates is
-          ] refl code
+          ] refl (s.code ∙ answers_so t x commit w.decision there w.awaits)
         where
-          done_goal : c ≡ Done → Goal (Ends e c)
-          done_goal is =
-              subst (λ (d : Code). Goal (Ends e d)) (sym is) (record {
-                reached = λ _. reached;
-                shut = λ _ d. let q : true ≡ false = sym d ∙ sure in cc;
-                decided = λ _ d. let q : true ≡ false = sym d ∙ plain in cc;
-                named = λ _ d. let q : true ≡ false = sym d ∙ plain in cc;
-                told = λ h i. ended_by g (ap (fate_of x op) is ∙ by_done) known ∙ (let q : Some g ≡ Some h = sym named ∙ i in cc);
-                doubt = λ d. let q : true ≡ false = sym d ∙ sure in cc;
-              })
-
           named_it : (d : HeuristicDecision) → told_fate (Heuristic (decision_code d)) ≡ Some (decided_fate d)
           named_it decision.Commit = refl
           named_it decision.Rollback = refl
@@ -265,25 +256,26 @@ module _ {t : ℕ} {T : Tables} {H : History} (site : Site t T H) (x : XidName) 
           decided_goal : (d : HeuristicDecision) → fates x s.mid now ≡ decided_fate d ∷ [] → c ≡ decision_code d → Goal (Heuristic (decision_code d))
           decided_goal d made is =
               let fate_is_so : fate x f0 H T ≡ decided_fate d =
-              told_by d (ap (fate_of x op) is ∙ by_decision d) (tells d (tables_after all_before T) (sym code_there ∙ is)) in
+              told_by d (ap (fate_of x op) is ∙ outcome_quiet commit x d) (tells_so site.law commit t x d (tables_after all_before T) (sym code_there ∙ is)) in
               search (arith, decided_between, named_it, some_same)
 
-          by_answer : (o : Option HeuristicDecision) → fates x s.mid now ≡ fates_when o → c ≡ answer_when o → Goal (Ends e c)
-          by_answer None made is = done_goal is
-          by_answer (Some decision.Commit) made is = subst (λ (d : Code). Goal (Ends e d)) (sym is) (decided_goal decision.Commit made is)
-          by_answer (Some decision.Rollback) made is = subst (λ (d : Code). Goal (Ends e d)) (sym is) (decided_goal decision.Rollback made is)
+          by_answer : (o : Option HeuristicDecision) → fates x s.mid now ≡ fates_when o → c ≡ answer_when o → Goal (yes_ending commit (Some c))
+          by_answer None made is =
+              subst (λ (d : Code). Goal (yes_ending commit (Some d))) (sym is) (ended_goal commit (ended_by (ended_as commit) (ap (fate_of x op) is ∙ ends_fate commit x) (ended_known commit)))
+          by_answer (Some decision.Commit) made is = subst (λ (d : Code). Goal (yes_ending commit (Some d))) (sym is) (decided_goal decision.Commit made is)
+          by_answer (Some decision.Rollback) made is = subst (λ (d : Code). Goal (yes_ending commit (Some d))) (sym is) (decided_goal decision.Rollback made is)
 
   -- ---- after a vote against
 
   refused : (c : Code) → is_yes vote ≡ false → Sends site x n last vote (Rollback x) c → Goal (no_ending vote (Some c))
   refused c y z =
       by_if Goal (is_done c || is_rolled_back c) RolledBack _ (λ back.
-      no_vote RolledBack y refl (λ g is. ended_by (Rollback x) c z history.RolledBack (at_true (xid_eq x x) _ None (xid_self x) ∙ at_true (is_done c || is_rolled_back c) _ None back) refl ∙ (let q : Some history.RolledBack ≡ Some g = is in cc))) (λ _.
+      no_vote RolledBack y refl (λ g is. ended_by false c z history.RolledBack (at_true (xid_eq x x) _ None (xid_self x) ∙ at_true (is_done c || is_rolled_back c) _ None back) refl ∙ (let q : Some history.RolledBack ≡ Some g = is in cc))) (λ _.
       by_if Goal (is_heuristic_code c) (Heuristic c) (Left c) (λ _. no_vote (Heuristic c) y refl (heuristic_told c z)) (λ _. no_vote (Left c) y refl (λ g is. cc)))
     where
       told_with : (d : HeuristicDecision) (c : Code) → c ≡ decision_code d → Sends site x n last vote (Rollback x) c → fate x f0 H T ≡ decided_fate d
       told_with d c is z =
-          told_by (Rollback x) c z d (ap (fate_of x (Rollback x)) is ∙ outcome_quiet false x d) (site.law.rollback_tells t x d _ (sym (code_there (Rollback x) c z) ∙ is))
+          told_by false c z d (ap (fate_of x (Rollback x)) is ∙ outcome_quiet false x d) (site.law.rollback_tells t x d _ (sym (code_there false c z) ∙ is))
 
       heuristic_told : (c : Code) → Sends site x n last vote (Rollback x) c → (g : Fate) → told_fate (Heuristic c) ≡ Some g → fate x f0 H T ≡ g
       heuristic_told HeurCom z g is = told_with decision.Commit HeurCom refl z ∙ (let q : Some history.HeurCommitted ≡ Some g = is in cc)
@@ -298,25 +290,16 @@ branch_told {t} {T} {H} site x n last commit vote ending course f0 fits only = b
     read_not : is_read vote ≡ true → is_yes vote ≡ false
     read_not r = ap is_yes (read_is vote r)
 
-    by_decision : (commit : Bool) (c : Code) → is_yes vote ≡ true
-        → Sends site x n last vote (if commit then Commit x false else Rollback x) c
-        → Told t x f0 T H n vote (yes_ending commit (Some c))
-    by_decision true c y z =
-        outcome site x f0 fits n last vote only (Commit x false) c z (yes_is vote y) Committed history.Committed refl refl refl refl refl (at_true (xid_eq x x) _ None (xid_self x))
-        (outcome_quiet true x) (λ o U h. h.commits) (λ d U. site.law.commit_tells t x d U)
-    by_decision false c y z =
-        outcome site x f0 fits n last vote only (Rollback x) c z (yes_is vote y) RolledBack history.RolledBack refl refl refl refl refl (at_true (xid_eq x x) _ None (xid_self x))
-        (outcome_quiet false x) (λ o U h. h.rolls_back) (λ d U. site.law.rollback_tells t x d U)
-
     by_course : (e : Ending) → Course site x n last vote commit e → Told t x f0 T H n vote e
     by_course _ (Unreached same code) = no_vote site x f0 fits n last vote only (Left RmFail) (ap is_yes code) refl (λ f e. cc)
     by_course _ (Reads r z) =
         voted_so site x f0 fits n last vote only z ReadOnly history.ReadOnly (read_not r) refl refl (ap prepare_fate (read_is vote r)) refl
     by_course _ (Breaks k z) =
-        let code : vote ≡ RbIntegrity = broken_code site x f0 fits n last vote only z k in
+        let f = z.first in
+        let code : vote ≡ RbIntegrity = f.code ∙ site.law.breaks t x (tables_after f.before T) (sym (ap is_rolled_back f.code) ∙ k) in
         voted_so site x f0 fits n last vote only z RolledBack history.RolledBack (ap is_yes code) refl refl (ap prepare_fate code) refl
     by_course _ (Stays c y z) = no_vote site x f0 fits n last vote only (Left c) y refl (λ f e. cc)
-    by_course _ (Agrees c y z) = by_decision commit c y z
+    by_course _ (Agrees c y z) = outcome site x f0 fits n last vote only commit c z (yes_is vote y)
     by_course _ (Refuses c y r z) = refused site x f0 fits n last vote only c y z
 
 -- where nobody else names it, and its thread decides nothing, no decision of it was carried out

@@ -9,7 +9,7 @@ use Rattle.xa_tables.proofs.HeuristicLaw.{Decides, Nothing, Completes, decides}
 use Rattle.xa_tables.specs.declared.state.HeuristicDecision.TheVariants as decision
 use Rattle.xa_tables.specs.Histories as history
 use Rattle.xa_atomicity.proofs.EndsByFate.{decided_apart, once, ended_known, tells_so}
-use Rattle.xa_atomicity.proofs.Leading.{Stands, waits, unforgotten, over, Leads, Led, Standing, step_led, IsTowards, ends_towards}
+use Rattle.xa_atomicity.proofs.Leading.{Stands, waits, unforgotten, over, Leads, Led, Standing, step_led, IsTowards, ends_towards, led_after, ends_fate}
 use Rattle.xa_atomicity.proofs.Sites.{request_of, fates, fates_both, last_both}
 
 -- what the branch may be named in: a heuristic decision, or what leads it
@@ -38,13 +38,10 @@ module _ (commit : Bool) (D L : Type 0) (x : XidName) where
     makes = inr (decided_fate d, (told, decided_known d));
   }
 
-  by_leading : (f : Fate) (op : Op) (a : Answer) → Led commit true D L x op f a → IsGuidedTo commit D L x f op a
-  by_leading f op a led = search (arith, ended_known)
-
   pub guided : (f : Fate) (T : Tables) → Stands commit true D L (state_of T x) f → Sound T → (t : ℕ) (op : Op) → IsGuided commit L x op
       → IsGuidedTo commit D L x f op (next t op T)
   guided f T st sound t op guide =
-      by_guide (IsGuidedTo commit D L x f op (next t op T)) commit L x op guide (λ leads. by_leading f op (next t op T) (step_led commit true D L x f T st sound t op leads))
+      by_guide (IsGuidedTo commit D L x f op (next t op T)) commit L x op guide (λ leads. let led = step_led commit true D L x f T st sound t op leads in search (arith, ended_known))
       (λ named heur. by_decision f T op (next t op T) st (decides t x op T named heur))
 
   pub guided_after : (h : History) (T : Tables) (f : Fate) → All (λ r. IsGuided commit L x r.op) h → Standing commit true D L x T f
@@ -143,14 +140,8 @@ decided_of {d = d} is (waits y o state known) = let z : Some Prepared ≡ Some (
 decided_of {d = d} is (unforgotten k state known l) = search (arith, rules)
 decided_of {d = d} is (over state known) = let z : None ≡ Some (HeuristicallyCompleted d) = sym state ∙ is in cc
 
--- XA_OK ends it
-ends_fate : (commit : Bool) (x : XidName) → fate_of x (outcome_op commit x) Done ≡ Some (ended_as commit)
-ends_fate true x = at_true (xid_eq x x) _ None (xid_self x)
-ends_fate false x = at_true (xid_eq x x) _ None (xid_self x)
-
-module _ (law : Tabled) (commit : Bool) (D L : Type 0) (t n : ℕ) (x : XidName) (T : Tables) (H before after : History) (f : Fate)
-    (place : H ≡ before ++ request_of t n (outcome_op commit x) ∷ after) (st : Standing commit true D L x (tables_after before T) (last_or f (fates x before T)))
-    (guide : All (λ r. IsGuided commit L x r.op) after) where
+module _ (commit : Bool) (D L : Type 0) (t n : ℕ) (x : XidName) (T : Tables) (H before after : History) (f : Fate)
+    (place : H ≡ before ++ request_of t n (outcome_op commit x) ∷ after) where
   abbrev own : Request
   own = request_of t n (outcome_op commit x)
 
@@ -163,21 +154,32 @@ module _ (law : Tabled) (commit : Bool) (D L : Type 0) (t n : ℕ) (x : XidName)
   after_it : last_or f (fates x H T) ≡ last_or here (fates x (own ∷ after) (tables_after before T))
   after_it = ap (λ (h : History). last_or f (fates x h T)) place ∙ ap (last_or f) (fates_both x before (own ∷ after) T) ∙ last_both f (fates x before T) _
 
-  pub ended_there : told.1 ≡ Done → last_or f (fates x H T) ≡ ended_as commit
-  ended_there e =
-      let made : fate_of x (outcome_op commit x) told.1 ≡ Some (ended_as commit) = ap (fate_of x (outcome_op commit x)) e ∙ ends_fate commit x in
-      let led = step_led commit true D L x here (tables_after before T) st.stands st.sound t (outcome_op commit x) (ends_towards commit L x x) in
-      let stands : Stands commit true D L (state_of told.0 x) (ended_as commit) = subst (λ (o : Option Fate). Stands commit true D L (state_of told.0 x) (unwrap_or o here)) made led.stands in
-      let silent : fates x after told.0 ≡ [] =
-      (fates_once commit D L x after told.0 (ended_as commit) guide (record { stands = stands; sound = sound_after t (outcome_op commit x) (tables_after before T) st.sound })).0 (ended_known commit) in
-      after_it ∙ (λ i. last_or here (cons_option (made i) (silent i)))
+  -- what it leaves stands after all
+  pub led_there : Sound (tables_after before T) → (open_ : Bool) → All (λ r. IsTowards commit L x r.op) after → Led commit open_ D L x (outcome_op commit x) here told
+      → Standing commit open_ D L x (tables_after H T) (last_or f (fates x H T))
+  led_there sound open_ towards led =
+      let made : Option Fate = fate_of x (outcome_op commit x) told.1 in
+      let tables_are : tables_after H T ≡ tables_after after told.0 = ap (λ (h : History). tables_after h T) place ∙ tables_after-append before (own ∷ after) T in
+      subst (λ (g : Fate). Standing commit open_ D L x (tables_after H T) g) (last_more here made (fates x after told.0) ∙ sym after_it)
+      (subst (λ (V : Tables). Standing commit open_ D L x V (last_or (unwrap_or made here) (fates x after told.0))) (sym tables_are)
+      (led_after commit open_ D L x after told.0 (unwrap_or made here) towards (record { stands = led.stands; sound = sound_after t (outcome_op commit x) (tables_after before T) sound })))
 
-  -- a decision that it was told is its fate
-  pub told_there : (d : HeuristicDecision) → told.1 ≡ decision_code d → last_or f (fates x H T) ≡ decided_fate d
-  told_there d e =
-      let is : here ≡ decided_fate d = decided_of (tells_so law commit t x d (tables_after before T) e).state st.stands in
-      let all : All (λ r. IsGuided commit L x r.op) (own ∷ after) = All-cons (λ (r : Request). IsGuided commit L x r.op) own after (λ named _. ends_towards commit L x x named) guide in
-      after_it ∙ ap (last_or here) ((fates_once commit D L x (own ∷ after) (tables_after before T) here all st).0 (ap is_unknown is ∙ decided_known d)) ∙ is
+  module _ (law : Tabled) (st : Standing commit true D L x (tables_after before T) (last_or f (fates x before T))) (guide : All (λ r. IsGuided commit L x r.op) after) where
+    pub ended_there : told.1 ≡ Done → last_or f (fates x H T) ≡ ended_as commit
+    ended_there e =
+        let made : fate_of x (outcome_op commit x) told.1 ≡ Some (ended_as commit) = ap (fate_of x (outcome_op commit x)) e ∙ ends_fate commit x in
+        let led = step_led commit true D L x here (tables_after before T) st.stands st.sound t (outcome_op commit x) (ends_towards commit L x x) in
+        let stands : Stands commit true D L (state_of told.0 x) (ended_as commit) = subst (λ (o : Option Fate). Stands commit true D L (state_of told.0 x) (unwrap_or o here)) made led.stands in
+        let silent : fates x after told.0 ≡ [] =
+        (fates_once commit D L x after told.0 (ended_as commit) guide (record { stands = stands; sound = sound_after t (outcome_op commit x) (tables_after before T) st.sound })).0 (ended_known commit) in
+        after_it ∙ (λ i. last_or here (cons_option (made i) (silent i)))
+
+    -- a decision that it was told is its fate
+    pub told_there : (d : HeuristicDecision) → told.1 ≡ decision_code d → last_or f (fates x H T) ≡ decided_fate d
+    told_there d e =
+        let is : here ≡ decided_fate d = decided_of (tells_so law commit t x d (tables_after before T) e).state st.stands in
+        let all : All (λ r. IsGuided commit L x r.op) (own ∷ after) = All-cons (λ (r : Request). IsGuided commit L x r.op) own after (λ named _. ends_towards commit L x x named) guide in
+        after_it ∙ ap (last_or here) ((fates_once commit D L x (own ∷ after) (tables_after before T) here all st).0 (ap is_unknown is ∙ decided_known d)) ∙ is
 
 -- ---- from the Prepare on
 
@@ -188,22 +190,19 @@ undecided_yet (Some d) s e state = cc
 module _ (law : Tabled) (commit : Bool) (D L : Type 0) (t n : ℕ) (x : XidName) (T : Tables) (H : History) (opening : IsOpening T) (before after : History)
     (place : H ≡ before ++ request_of t n (Prepare x) ∷ after)
     (agreed : (next t (Prepare x) (tables_after before T)).1 ≡ Done) (guide : All (λ r. IsGuided commit L x r.op) after) where
-  abbrev P : Op
-  P = Prepare x
-
   abbrev U : Tables
   U = tables_after before T
 
   abbrev now : Tables
-  now = (next t P U).0
+  now = (next t (Prepare x) U).0
 
   prepared : state_of now x ≡ Some Prepared
   prepared =
       let w : AwaitsAfter t x [] now = law.awaits before [] t x T opening agreed (λ k d lt. absurd (omega (arith, lt))) in
       undecided_yet w.decision (state_of now x) w.fates w.awaits.state
 
-  pub voted_now : fate_of x P (next t P U).1 ≡ Some history.InDoubt
-  voted_now = ap (fate_of x P) agreed ∙ at_true (xid_eq x x) _ None (xid_self x)
+  pub voted_now : fate_of x (Prepare x) (next t (Prepare x) U).1 ≡ Some history.InDoubt
+  voted_now = ap (fate_of x (Prepare x)) agreed ∙ at_true (xid_eq x x) _ None (xid_self x)
 
   -- the Prepare made it be in doubt
   pub fates_are : fates x H T ≡ fates x before T ++ history.InDoubt ∷ fates x after now
@@ -213,10 +212,10 @@ module _ (law : Tabled) (commit : Bool) (D L : Type 0) (t n : ℕ) (x : XidName)
   fate_any f = ap (last_or f) fates_are ∙ last_both f (fates x before T) (history.InDoubt ∷ fates x after now)
 
   tables_are : tables_after H T ≡ tables_after after now
-  tables_are = ap (λ (h : History). tables_after h T) place ∙ tables_after-append before (request_of t n P ∷ after) T
+  tables_are = ap (λ (h : History). tables_after h T) place ∙ tables_after-append before (request_of t n (Prepare x) ∷ after) T
 
   pub stands_now : D → Standing commit true D L x now history.InDoubt
-  stands_now doubt = record { stands = waits doubt refl prepared refl; sound = sound_after t P U (run_sound before T (opening_sound T opening)) }
+  stands_now doubt = record { stands = waits doubt refl prepared refl; sound = sound_after t (Prepare x) U (run_sound before T (opening_sound T opening)) }
 
   pub at_last : D → (f : Fate) → Standing commit true D L x (tables_after H T) (fate x f H T)
   at_last doubt f =
@@ -224,7 +223,7 @@ module _ (law : Tabled) (commit : Bool) (D L : Type 0) (t n : ℕ) (x : XidName)
       (subst (λ (V : Tables). Standing commit true D L x V (last_or history.InDoubt (fates x after now))) (sym tables_are) (guided_after commit D L x after now history.InDoubt guide (stands_now doubt)))
 
   -- and so what the Prepare and what is after it make of it
-  pub fates_from : D → (f : Fate) → fates x (request_of t n P ∷ after) U ≡ history.InDoubt ∷ once (fate x f H T)
+  pub fates_from : D → (f : Fate) → fates x (request_of t n (Prepare x) ∷ after) U ≡ history.InDoubt ∷ once (fate x f H T)
   fates_from doubt f =
       ap (λ o. cons_option o (fates x after now)) voted_now
       ∙ ap (λ l. history.InDoubt ∷ l) ((fates_once commit D L x after now history.InDoubt guide (stands_now doubt)).1 refl ∙ ap once (sym (law.leaves H x f T ∙ fate_any f)))

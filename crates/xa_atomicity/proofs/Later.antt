@@ -1,55 +1,30 @@
 -- Where the request of a resolve that was answered stands in a history, and what it leaves; and what becomes of a branch
 -- that was left, through the openings up to one with a resolve that reached it.
-use Rattle.xa_atomicity.proofs.Words.{◌&&◌, unwrap_or, ◌≡◌, ◌≢◌, ℕ, suc, ◌+◌, Bool, true, false, cond, ◌==◌, ◌||◌, List, [], ◌∷◌, ◌++◌, length, append_assoc}
-use Rattle.xa_atomicity.proofs.Words.{slice_get, get_or, sym, refl, ap, ◌∙◌, subst, arith, Option, Some, All, cons_option, nat_cmp_total, eqb-true}
-use Rattle.xa_atomicity.proofs.Words.{false_from_ne_true, All-head, All-tail, by_bool, tied_true, all_left, and_right, both_ways, XidName, RmFail, Op, OpenRm}
-use Rattle.xa_atomicity.proofs.Words.{CloseRm, Request, Code, HeuristicDecision, has_opened, decision_code, Answer, next, open_rm, Fate, decided_fate, coded}
-use Rattle.xa_atomicity.proofs.Words.{of_thread, tables_after, fate_of, last_or, closes, is_close, Tables, History, Sound, sound_after, last_more}
-use Rattle.xa_atomicity.proofs.Words.{tables_after-append, LedgerView, numbered, answers, ended_as, Tabled, outcome_op, Contains, all_after, outcome_fate}
-use Rattle.xa_atomicity.proofs.Words.{some_same, Done, HeurCom, HeurRb, option_map, None, ⊎_elim, All-contains, Contains-append_left, Contains-append_right}
-use Rattle.xa_atomicity.proofs.Words.{all_right, Contains-append_cases, MOST_MANAGERS, IsUpTo, xid_eq, Decides-xid_eq, tran_of, State, state_of, is_S3}
-use Rattle.xa_atomicity.proofs.Words.{is_left_in, is_prepared, is_in_doubt as is_unknown, AreLeft, reopened, reopened_fate, names, opening_sound, ledger}
-use Rattle.xa_atomicity.proofs.Words.{requests, last_in, IsOpenedWith, first_of, history as history_of, ledgers_of, settled_fate, ManagerPart, IsSettled}
-use Rattle.xa_atomicity.proofs.Words.{FollowsTables, find_manager, journal_in, Settling, left_at, Outcome, is_decided, is_to_commit, ResolveCall, resolves}
-use Rattle.xa_atomicity.proofs.Words.{IsUseIn, IsKept, Opening, AreInARow, OnlyResolves, uses_of, fate_through, last_of, tables_left}
+use Rattle.xa_atomicity.proofs.Words.{◌&&◌, ◌≡◌, ◌≢◌, ℕ, suc, ◌+◌, Bool, true, false, cond, ◌==◌, ◌||◌, List, [], ◌∷◌, ◌++◌, length, append_assoc, slice_get}
+use Rattle.xa_atomicity.proofs.Words.{get_or, sym, refl, ap, ◌∙◌, subst, arith, Option, Some, All, nat_cmp_total, eqb-true, false_from_ne_true, All-head}
+use Rattle.xa_atomicity.proofs.Words.{All-tail, by_bool, tied_true, all_left, and_right, both_ways, XidName, RmFail, Op, OpenRm, CloseRm, Request, Code}
+use Rattle.xa_atomicity.proofs.Words.{HeuristicDecision, has_opened, decision_code, Answer, next, open_rm, Fate, decided_fate, coded, of_thread, tables_after}
+use Rattle.xa_atomicity.proofs.Words.{last_or, closes, is_close, Tables, History, tables_after-append, LedgerView, numbered, answers, ended_as, Tabled}
+use Rattle.xa_atomicity.proofs.Words.{outcome_op, Contains, all_after, outcome_fate, some_same, Done, HeurCom, HeurRb, option_map, None, ⊎_elim, All-contains}
+use Rattle.xa_atomicity.proofs.Words.{Contains-append_left, Contains-append_right, all_right, Contains-append_cases, MOST_MANAGERS, IsUpTo, xid_eq}
+use Rattle.xa_atomicity.proofs.Words.{Decides-xid_eq, tran_of, State, state_of, is_S3, is_left_in, is_prepared, is_in_doubt as is_unknown, AreLeft, reopened}
+use Rattle.xa_atomicity.proofs.Words.{reopened_fate, names, opening_sound, ledger, requests, last_in, IsOpenedWith, first_of, history as history_of}
+use Rattle.xa_atomicity.proofs.Words.{ledgers_of, settled_fate, ManagerPart, IsSettled, FollowsTables, find_manager, journal_in, Settling, left_at, Outcome}
+use Rattle.xa_atomicity.proofs.Words.{is_decided, is_to_commit, ResolveCall, resolves, IsUseIn, IsKept, Opening, AreInARow, OnlyResolves, uses_of}
+use Rattle.xa_atomicity.proofs.Words.{fate_through, last_of, tables_left}
 use Rattle.std.specs.FinSet.{contains-insert}
 use Rattle.xa_tables.proofs.Opened.{opened_on}
 use Rattle.xa_tables.proofs.ShutLemmas.{next-shut, shut_stays}
 use Rattle.xa_tables.specs.declared.state.HeuristicDecision.TheVariants as decision
 use Rattle.xa_tables.specs.Histories as history
-use Rattle.xa_atomicity.proofs.Leading.{IsTowards, Led, Standing, led_after, ends_it, waits, unforgotten, over, IsOver, Stands, by_itself, ends_towards}
+use Rattle.xa_atomicity.proofs.Leading.{IsTowards, Standing, led_after, ends_it, waits, unforgotten, over, IsOver, Stands, by_itself, ends_towards}
 use Rattle.xa_atomicity.proofs.Leading.{stands_reopened, is_over}
-use Rattle.xa_atomicity.proofs.Guided.{ended_there, told_there, decided_known, known_stays}
-use Rattle.xa_atomicity.proofs.Sites.{request_of, part, numbered_both, fates, fates_both, last_both, own_all, code_there, count_two}
+use Rattle.xa_atomicity.proofs.Guided.{ended_there, told_there, decided_known, known_stays, led_there}
+use Rattle.xa_atomicity.proofs.Sites.{request_of, part, numbered_both, fates, own_all, code_there, count_two}
 use Rattle.xa_atomicity.proofs.Resolves.{IsAnsweredIn, IsNoClose, left_has, outcome_asked}
 use Rattle.xa_atomicity.proofs.CutVotes.{named_so, named_tran, sent_is}
 use Rattle.xa_atomicity.proofs.Records.{FindsMark}
 use Rattle.xa_atomicity.proofs.Settled.{by_ledger, answered_of}
-
--- ---- a history, parted at a request
-
--- what stands before it, and is left by it, stands after all
-module _ (commit open_ : Bool) (D L : Type 0) (x : XidName) (T : Tables) (f : Fate) (before after : History) (r : Request) where
-  abbrev here : Tables
-  here = tables_after before T
-
-  abbrev fate_here : Fate
-  fate_here = last_or f (fates x before T)
-
-  abbrev next_here : Tables
-  next_here = (next r.thread r.op here).0
-
-  abbrev made : Option Fate
-  made = fate_of x r.op (next r.thread r.op here).1
-
-  stands_after : All (λ q. IsTowards commit L x q.op) after → Sound here → Led commit open_ D L x r.op fate_here (next r.thread r.op here)
-      → Standing commit open_ D L x (tables_after (before ++ r ∷ after) T) (last_or f (fates x (before ++ r ∷ after) T))
-  stands_after towards sound led =
-      let z =
-      led_after commit open_ D L x after next_here (unwrap_or made fate_here) towards (record { stands = led.stands; sound = sound_after r.thread r.op here sound }) in
-      let fate_is : last_or (unwrap_or made fate_here) (fates x after next_here) ≡ last_or f (fates x (before ++ r ∷ after) T) =
-      search (arith, last_more, last_both, cons_option, fates_both) in
-      search (arith, unwrap_or, tables_after-append)
 
 -- ---- a fate, once it ended as was decided
 
@@ -150,21 +125,19 @@ module _ (commit : Bool) (D L : Type 0) (t : ℕ) (x : XidName) (T : Tables) (H 
   -- after it the branch is no longer open
   pub placed_ends : Standing commit false D L x (tables_after H T) (last_or f (fates x H T))
   placed_ends =
-      subst (λ (h : History). Standing commit false D L x (tables_after h T) (last_or f (fates x h T))) (sym z.place)
-      (stands_after commit false D L x T f before z.rest ends rest_here now.sound
-      (ends_it commit D L x (last_or f (fates x before T)) U now.sound t open_now has_it now.stands (λ d e. told d (z.code_is ∙ e))))
+      led_there commit D L t z.ends x T H before z.rest f z.place now.sound false rest_here (ends_it commit D L x (last_or f (fates x before T)) U now.sound t open_now has_it now.stands (λ d e. told d (z.code_is ∙ e)))
 
   -- what it was told is its fate
   module _ (law : Tabled) where
     pub placed_tells : (d : HeuristicDecision) → code ≡ decision_code d → last_or f (fates x H T) ≡ decided_fate d
-    placed_tells d e = told_there law commit D L t z.ends x T H before z.rest f z.place now (λ k r lt named _. rest_here k r lt named) d (sym z.code_is ∙ e)
+    placed_tells d e = told_there commit D L t z.ends x T H before z.rest f z.place law now (λ k r lt named _. rest_here k r lt named) d (sym z.code_is ∙ e)
 
     pub placed_so : (g : Fate) → outcome_fate commit code ≡ Some g → last_or f (fates x H T) ≡ g
     placed_so g is = by_code code refl is
       where
         by_code : (c : Code) → code ≡ c → outcome_fate commit c ≡ Some g → last_or f (fates x H T) ≡ g
         by_code Done e is =
-            ended_there law commit D L t z.ends x T H before z.rest f z.place now (λ k r lt named _. rest_here k r lt named) (sym z.code_is ∙ e) ∙ some_same (ended_as commit) g is
+            ended_there commit D L t z.ends x T H before z.rest f z.place law now (λ k r lt named _. rest_here k r lt named) (sym z.code_is ∙ e) ∙ some_same (ended_as commit) g is
         by_code HeurCom e is = placed_tells decision.Commit e ∙ some_same history.HeurCommitted g is
         by_code HeurRb e is = placed_tells decision.Rollback e ∙ some_same history.HeurRolledBack g is
         by_code c e is = cc
@@ -252,9 +225,6 @@ module _ (law : Tabled) (first : (s : Settling) (m : ℕ) (T : Tables) → IsSet
       use_ : IsUseIn o.settled (resolves q)
       use_ = All-contains (IsUseIn o.settled) o.uses (resolves q) w.kept.uses there
 
-      mark : is_to_commit q.records m x ≡ commit
-      mark = All-contains (FindsMark commit (tran_of x) m) o.uses (resolves q) w.marks there
-
       carried : of_thread t H ≡ numbered t 0 (ledger (ledgers_of o.settled t) m).sent
       carried = (w.kept.settled.agree t m).carried ∙ ap (numbered t 0) (sent_is o.settled m up.0 t)
 
@@ -267,7 +237,7 @@ module _ (law : Tabled) (first : (s : Settling) (m : ℕ) (T : Tables) → IsSet
       answered_at r among own same reached =
           let asked =
           outcome_asked q.scan q.records q.old q.new q.outcomes use_.made m up (ledger (ledgers_of o.settled t) m) (use_.grown.each m up.0) r among own in
-          let decided : r.commit ≡ commit = asked.decision ∙ ap (is_to_commit q.records m) same ∙ mark in
+          let decided : r.commit ≡ commit = asked.decision ∙ ap (is_to_commit q.records m) same ∙ All-contains (FindsMark commit (tran_of x) m) o.uses (resolves q) w.marks there in
           placed t T H (outcome_op commit x) r.code (ledger q.old m) (ledger (ledgers_of o.settled t) m).sent (ledger (ledgers_of o.settled t) m).collected carried answered
           (subst (λ (op : Op). IsAnsweredIn op r.code (ledger q.old m) (ledger (ledgers_of o.settled t) m).sent (ledger (ledgers_of o.settled t) m).collected) (λ i. outcome_op (decided i) (same i)) (asked.answered reached))
 
@@ -352,13 +322,10 @@ module _ (law : Tabled) (first : (s : Settling) (m : ℕ) (T : Tables) → IsSet
       walk_after d os (tables_after (history_of o.settled m) (reopened T)) (settled_fate o.settled m x (reopened_fate f)) w.1 (step_after d o (reopened T) (reopened_fate f) w.0 (ap reopened_fate e ∙ by_itself d))
 
   -- so from the resolve on
-  not_failed : (d : HeuristicDecision) (c : Code) → c ≡ decision_code d → c ≢ RmFail
-  not_failed d c e f = both_ways (is_decided c) (ap is_decided f) (decided_so c d e)
-
   step_tells : (d : HeuristicDecision) (o : Opening) (T : Tables) (f : Fate) → IsStep o T f → (q : ResolveCall) → Contains o.uses (resolves q) → (r : Outcome)
       → Contains q.outcomes r → r.m ≡ m → r.xid ≡ x → r.code ≡ decision_code d → settled_fate o.settled m x f ≡ decided_fate d
   step_tells d o T f w q there r among own same e =
-      let reached : r.code ≢ RmFail = not_failed d r.code e in
+      let reached : r.code ≢ RmFail = λ f. both_ways (is_decided r.code) (ap is_decided f) (decided_so r.code d e) in
       fate_so o T f (first o.settled m T w.kept.settled w.begins)
       ∙ placed_tells commit D L q.thread x T (history_of o.settled m) f r.code w.towards (stands_first o T f w) reached (λ k is. w.lists q there r among own same (decided_so r.code k is)) (answered_at o T f w q there r among own same reached) law d e
 

@@ -168,6 +168,11 @@ led_fates commit open_ D L x (r ∷ h) T f towards s =
 
 -- ---- the request that ends it
 
+-- XA_OK ends it
+pub ends_fate : (commit : Bool) (x : XidName) → fate_of x (outcome_op commit x) Done ≡ Some (ended_as commit)
+ends_fate true x = named_self x (Some history.Committed)
+ends_fate false x = named_self x (Some history.RolledBack)
+
 -- a thread that has it open is answered by the rules, unless it is shut
 asked_now : (t : ℕ) (op : Op) (T : Tables) → T.shut ≡ false → has_opened T t ≡ true → next t op T ≡ by_rules t op T
 unfolding next
@@ -180,16 +185,16 @@ ends_towards false L x y n = refl
 module _ (commit : Bool) (D L : Type 0) (x : XidName) (f : Fate) (T : Tables) (sound : Sound T) (t : ℕ) (open_ : T.shut ≡ false)
     (has : has_opened T t ≡ true) where
   -- one that awaits the outcome
-  prepared_ends : D → state_of T x ≡ Some Prepared → (b : Bool) → b ≡ commit
-      → Led commit false D L x (outcome_op b x) f (next t (outcome_op b x) T)
-  prepared_ends y e true is =
-      let free : is_somebody_associated T.associations x ≡ false = search (arith, nobody_rests) in
-      let answer : next t (Commit x false) T ≡ (gone x (committed x T), Done) = search (arith, asked_now, at_false, is_some, or_from) in
-      subst (Led commit false D L x (Commit x false) f) (sym answer) (gone_so commit false D L x f (Commit x false) Done (committed x T) y (named_self x (Some history.Committed) ∙ ap (λ c. Some (ended_as c)) is))
-  prepared_ends y e false is =
-      let free : is_somebody_associated T.associations x ≡ false = search (arith, nobody_rests) in
-      let answer : next t (Rollback x) T ≡ (gone x T, Done) = search (arith, asked_now, at_false, is_some) in
-      subst (Led commit false D L x (Rollback x) f) (sym answer) (gone_so commit false D L x f (Rollback x) Done T y (named_self x (Some history.RolledBack) ∙ ap (λ c. Some (ended_as c)) is))
+  prepared_ends : D → state_of T x ≡ Some Prepared → Led commit false D L x (outcome_op commit x) f (next t (outcome_op commit x) T)
+  prepared_ends y e =
+      subst (Led commit false D L x (outcome_op commit x) f) (sym (answer commit)) (gone_so commit false D L x f (outcome_op commit x) Done (if commit then committed x T else T) y (ends_fate commit x))
+    where
+      free : is_somebody_associated T.associations x ≡ false
+      free = search (arith, nobody_rests)
+
+      answer : (b : Bool) → next t (outcome_op b x) T ≡ (gone x (if b then committed x T else T), Done)
+      answer true = search (arith, asked_now, at_false, is_some, or_from, free)
+      answer false = search (arith, asked_now, at_false, is_some, free)
 
   -- one that was decided tells so
   decided_tells : (d : HeuristicDecision) → state_of T x ≡ Some (HeuristicallyCompleted d) → (b : Bool) → (next t (outcome_op b x) T).1 ≡ decision_code d
@@ -199,7 +204,7 @@ module _ (commit : Bool) (D L : Type 0) (x : XidName) (f : Fate) (T : Tables) (s
   -- where what is told is listed, it is no longer open
   pub ends_it : Stands commit true D L (state_of T x) f → ((d : HeuristicDecision) → (next t (outcome_op commit x) T).1 ≡ decision_code d → L)
       → Led commit false D L x (outcome_op commit x) f (next t (outcome_op commit x) T)
-  ends_it (waits y o e g) told = prepared_ends y e commit refl
+  ends_it (waits y o e g) told = prepared_ends y e
   ends_it (unforgotten d e g l) told =
       step_led commit false D L x f T (unforgotten d e g (inr (told d (decided_tells d e commit)))) sound t (outcome_op commit x) (ends_towards commit L x x)
   ends_it (over e g) told = step_led commit false D L x f T (over e g) sound t (outcome_op commit x) (ends_towards commit L x x)

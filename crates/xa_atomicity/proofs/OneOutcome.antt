@@ -26,6 +26,10 @@ pub third_so : (P : Op → Type 0) (x : XidName) (s : Option Code) → (is_told_
 third_so P x None so = tt
 third_so P x (Some c) so = by_if (IsAskedFor P) (is_decided c) (Some (Forget x)) None so (λ _. tt)
 
+-- what is asked of a branch by a commit, by a desk's lists
+abbrev pub Traced : Bool → List LedgerView → List LedgerView → Branch → Code → Option Code → Ending → Type 0
+Traced commit old new b v z e = AtBranch AsksLedger commit b v z e (ledger old b.m) (ledger new b.m)
+
 -- what is shown of each branch of which C is known follows for each
 pub branch_map : (C : Branch → Type 0) (P Q : Branch → Code → Option Code → Ending → Type 0) → ((b : Branch) (v : Code) (s : Option Code) (e : Ending) → C b → P b v s e → Q b v s e)
     → (bs : List Branch) (vs : List Code) (ss : List (Option Code)) (es : List Ending) → All C bs → EachBranch P bs vs ss es → EachBranch Q bs vs ss es
@@ -42,10 +46,7 @@ positive_all lo (b ∷ bs) r = All-cons (λ (c : Branch). 1 ≤ c.m) b bs (let u
 -- P holds of each ledger before and after, if it holds where nothing was done and where the trace was of a branch of which C is known
 module _ (P : LedgerView → LedgerView → Type 0) (stays : (a : LedgerView) → P a a) (C : Branch → Type 0) (commit : Bool) (old new : List LedgerView)
     (traced : (b : Branch) → C b → (v : Code) (s : Option Code) (e : Ending) (a a' : LedgerView) → AtBranch AsksLedger commit b v s e a a' → P a a') where
-  abbrev AllTraces : List Branch → List Code → List (Option Code) → List Ending → Type 0
-  AllTraces = EachBranch (λ b v s e. AtBranch AsksLedger commit b v s e (ledger old b.m) (ledger new b.m))
-
-  at_branch : (m : ℕ) (bs : List Branch) (vs : List Code) (ss : List (Option Code)) (es : List Ending) → All C bs → AllTraces bs vs ss es
+  at_branch : (m : ℕ) (bs : List Branch) (vs : List Code) (ss : List (Option Code)) (es : List Ending) → All C bs → EachBranch (Traced commit old new) bs vs ss es
       → has_branch_at bs m ≡ true → P (ledger old m) (ledger new m)
   at_branch m [] [] [] [] all h e = cc
   at_branch m (b ∷ bs) (v ∷ vs) (s ∷ ss) (x ∷ es) all h e =
@@ -147,10 +148,7 @@ module _ (tran : TranName) (bs : List Branch) (desk : DeskView) (new : List Ledg
 
   open d use {votes.{items as votes}}
 
-  abbrev TracedHere : Branch → Code → Option Code → Ending → Type 0
-  TracedHere b v s e = AtBranch AsksLedger d.commit b v s e (ledger desk.ledgers b.m) (ledger new b.m)
-
-  ends : (b : Branch) (v : Code) (s : Option Code) (e : Ending) → TracedHere b v s e → e ≡ ending_of d.commit v s
+  ends : (b : Branch) (v : Code) (s : Option Code) (e : Ending) → Traced d.commit desk.ledgers new b v s e → e ≡ ending_of d.commit v s
   ends b v s e is = is.ends
 
   absent : record_of log tran ≡ None
@@ -159,7 +157,7 @@ module _ (tran : TranName) (bs : List Branch) (desk : DeskView) (new : List Ledg
   -- on abort
   pub aborted : d.commit ≡ false → IsAbortedTransaction tran desk.ledgers new later d
   aborted off = record {
-    uncommitted = none_end TracedHere d.commit is_committed never ends (λ v s _. ap (λ c. is_committed (ending_of c v s)) off ∙ uncommitted v s) bs votes call.course.seconds d.endings.items call.course.each (any_never votes);
+    uncommitted = none_end (Traced d.commit desk.ledgers new) d.commit is_committed never ends (λ v s _. ap (λ c. is_committed (ending_of c v s)) off ∙ uncommitted v s) bs votes call.course.seconds d.endings.items call.course.each (any_never votes);
     unrecorded = none_on_abort tran (yes_of bs votes) votes d.logged log later absent call.course.logs (sym call.course.decision ∙ off);
     unsent = abort_sends_no_commit tran bs desk.ledgers new log later d call off;
   }
@@ -170,13 +168,13 @@ module _ (tran : TranName) (bs : List Branch) (desk : DeskView) (new : List Ledg
 
   kept : d.commit ≡ true → has_rolled_back d ≡ false
   kept on =
-      none_end TracedHere d.commit is_rolled_back is_no ends (λ v s e. ap (λ c. is_rolled_back (ending_of c v s)) on ∙ not_rolled_back v s e) bs votes call.course.seconds d.endings.items call.course.each (unopposed on)
+      none_end (Traced d.commit desk.ledgers new) d.commit is_rolled_back is_no ends (λ v s e. ap (λ c. is_rolled_back (ending_of c v s)) on ∙ not_rolled_back v s e) bs votes call.course.seconds d.endings.items call.course.each (unopposed on)
 
   pub committed_law : has_committed d ≡ true → IsCommittedTransaction tran bs later d
   committed_law some =
       let on : d.commit ≡ true = true_from_ne_false (d.commit) (λ off. both_ways (has_committed d) (aborted off).uncommitted some) in
       let some_yes : has_yes votes ≡ true = true_from_ne_false (has_yes votes) (λ e.
-      both_ways (has_committed d) (none_end TracedHere d.commit is_committed is_yes ends (λ v s n. unvoted d.commit v s n) bs votes call.course.seconds d.endings.items call.course.each e) some) in
+      both_ways (has_committed d) (none_end (Traced d.commit desk.ledgers new) d.commit is_committed is_yes ends (λ v s n. unvoted d.commit v s n) bs votes call.course.seconds d.endings.items call.course.each e) some) in
       record {
         unopposed = unopposed on;
         recorded =

@@ -7,8 +7,8 @@ use Rattle.xa_atomicity.proofs.Words.{tables_after, reopened, told_by, Tables, H
 use Rattle.xa_atomicity.proofs.Words.{history as history_of, settled_fate, ManagerPart, IsSettled, find_manager, Settling, Branch, Ending, Committed}
 use Rattle.xa_atomicity.proofs.Words.{ReadOnly, Outcome, has_acknowledged, is_acknowledged, EachOutcome, TellsTheFate, WasAtFirst, told_fate, HasLeft}
 use Rattle.xa_atomicity.proofs.Words.{TellsTheOutcome, ended_as, outcome_fate, Tabled, tran_of, RmFail, ◌≢◌, zero, inl, get_or, Contains, Contains-get_or}
-use Rattle.xa_atomicity.proofs.Words.{MOST_MANAGERS, IsUpTo, is_S3, AreLeft, opening_sound, ledger, ledgers_of, left_at, is_to_commit, IsKept, IsUseIn}
-use Rattle.xa_atomicity.proofs.Words.{OnlyResolves, Opening, ResolveCall, resolves, with_use, TellsTheOutcomes}
+use Rattle.xa_atomicity.proofs.Words.{MOST_MANAGERS, IsUpTo, is_S3, AreLeft, opening_sound, ledger, ledgers_of, left_at, IsKept, IsUseIn, OnlyResolves}
+use Rattle.xa_atomicity.proofs.Words.{Opening, ResolveCall, resolves, with_use, TellsTheOutcomes}
 use Rattle.xa_tables.specs.{is_left}
 use Rattle.xa_driver.specs.{Done}
 use Rattle.xa_tables.specs.Histories as history
@@ -138,12 +138,8 @@ module _ (law : Tabled) (first : (s : Settling) (m : ℕ) (T : Tables) → IsSet
     with_T : IsOpenedWith s m T
     with_T = first s m T settled begins
 
-    decision_is : r.commit ≡ is_to_commit q.records m x
-    decision_is =
-        (outcome_asked q.scan q.records q.old q.new q.outcomes use_.made m up (ledger (ledgers_of s q.thread) m) (use_.grown.each m up.0) r among refl).decision
-
     marks : All (FindsMark r.commit (tran_of x) m) (resolves q ∷ [])
-    marks = All-cons (FindsMark r.commit (tran_of x) m) (resolves q) [] (sym decision_is) (All-nil (FindsMark r.commit (tran_of x) m))
+    marks = All-cons (FindsMark r.commit (tran_of x) m) (resolves q) [] (sym (outcome_asked q.scan q.records q.old q.new q.outcomes use_.made m up (ledger (ledgers_of s q.thread) m) (use_.grown.each m up.0) r among refl).decision) (All-nil (FindsMark r.commit (tran_of x) m))
 
     towards : All (λ p. IsTowards r.commit (Unit {0}) x p.op) H
     towards = opening_towards law first r.commit (Unit {0}) (Unit {0}) m up x o kept only marks (λ _ _ _ _ _ _ _. tt)

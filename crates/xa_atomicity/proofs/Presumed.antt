@@ -134,9 +134,6 @@ module _ (law : Tabled) (first : (s : Settling) (m : ℕ) (T : Tables) → IsSet
   kept_o : IsKept o
   kept_o = All-head IsKept o later r.use_.kept
 
-  resolve_there : Contains last.uses (resolves q)
-  resolve_there = is_used last.uses r.use_.ps r.use_.qs (resolves q) r.use_.resolve_at
-
   open r use {made.{may.{tran}}}
 
   -- ---- one branch that voted to commit
@@ -213,7 +210,7 @@ module _ (law : Tabled) (first : (s : Settling) (m : ℕ) (T : Tables) → IsSet
         → ((f : Fate) → IsFateOf b.xid f T → (before after : History) → H ≡ before ++ request_of t n (Prepare b.xid) ∷ after → fates b.xid (request_of t n (Prepare b.xid) ∷ after) (tables_after before T) ≡ history.InDoubt ∷ once (fate b.xid f H T))
         → Result b
     concludes at_end makes =
-        branch_follows law first o between last q r.use_.kept r.use_.in_a_row resolve_there r.use_.scan commit (W b) b t n (known_of k b) up T begins
+        branch_follows law first o between last q r.use_.kept r.use_.in_a_row (is_used last.uses r.use_.ps r.use_.qs (resolves q) r.use_.resolve_at) r.use_.scan commit (W b) b t n (known_of k b) up T begins
         (λ L. record { comes = doubt L b here up only T with_T commit (at_end L).comes; any = (at_end L).any }) marked reached makes
 
     abbrev Sent : Type 0 → Type 0

@@ -7,11 +7,11 @@ use Rattle.xa_atomicity.proofs.Words.{EachBranch, IsCut, is_recorded, known_at, 
 use Rattle.xa_atomicity.proofs.Words.{CommitCall, CutCall, as_cut, ResolveCall, commits, Opening, EndsAs, EachEnds, IsAllOrNone, all, none, IsKept}
 use Rattle.xa_atomicity.proofs.Words.{IsResolved, IsUseIn, CountsOver, CountsAllOrNone, IsUnlisted, SharesOver, Tabled, Any, one_tran}
 use Rattle.xa_atomicity.specs.Worth.{is_committed}
-use Rattle.xa_atomicity.proofs.CutVotes.{known_each, prepare_there, vote_there, HasVoted, any_voted, ended_so, finished_law, shut_unless, Traced}
+use Rattle.xa_atomicity.proofs.CutVotes.{known_each, prepare_there, vote_there, HasVoted, any_voted, ended_so, finished_law, shut_unless}
 use Rattle.xa_atomicity.proofs.BranchEnds.{Follows}
 use Rattle.xa_atomicity.proofs.Courses.{yes_is}
 use Rattle.xa_atomicity.proofs.EndsByFate.{doubted, Comes, learnt_in_doubt}
-use Rattle.xa_atomicity.proofs.OneOutcome.{unopposed, aborted}
+use Rattle.xa_atomicity.proofs.OneOutcome.{unopposed, aborted, Traced}
 use Rattle.xa_atomicity.proofs.Presumed.{Followed, among_so, follows, use_there, uses_after, quiet_after}
 use Rattle.xa_atomicity.proofs.Records.{recorded_is}
 use Rattle.xa_atomicity.proofs.Settled.{each_outcome, told_in}

@@ -49,16 +49,9 @@ module _ (P : Op → Type 0) where
   asks_if b a a' op so is = if_by AsksLedger P (Sends P a) (asks_on a) b op a a' so is (stays a)
 
   module _ (records : Records) (m : ℕ) where
-    branch_sends : (o : Outcome) (a a' : LedgerView) → Asks P records m o → ResolvesBranch AsksLedger records m o a a' → Sends P a a'
-    branch_sends o a a' so is = outcome_by AsksLedger P (Sends P a) (asks_on a) records m o a a' so is (stays a)
-
     chain_sends : (a : LedgerView) (os : List Outcome) (a' : LedgerView) → ((o : Outcome) → Contains os o → Asks P records m o)
         → Chain (ResolvesBranch AsksLedger records m) a os a' → Sends P a a'
     chain_sends a os a' so chain = outcomes_by AsksLedger P (Sends P a) (asks_on a) records m a os a' so chain (stays a)
-
-    at_sends : (xs : List XidName) (os : List Outcome) (a a' : LedgerView) → P OpenRm → ((o : Outcome) → Contains os o → Asks P records m o)
-        → ResolvesAt AsksLedger records m xs os a a' → Sends P a a'
-    at_sends xs os a a' opens so is = resolves_by AsksLedger P (Sends P a) (asks_on a) records m xs os a a' opens so is (stays a)
 
 -- ---- the outcomes of one manager are among all
 
@@ -84,7 +77,7 @@ module _ (z : ScanView) (records : Records) (old new : List LedgerView) (outcome
   pub resolve_sends : (P : Op → Type 0) (m : ℕ) → IsUpTo MOST_MANAGERS m → P OpenRm → ((o : Outcome) → Contains outcomes o → Asks P records m o)
       → Sends P (ledger old m) (ledger new m)
   resolve_sends P m up opens so =
-      at_sends P records m (left_at z m) (trace.course.at m) (ledger old m) (ledger new m) opens (λ o c. so o (of_all m up o c)) (trace.course.each m up)
+      resolves_by AsksLedger P (Sends P (ledger old m)) (asks_on P (ledger old m)) records m (left_at z m) (trace.course.at m) (ledger old m) (ledger new m) opens (λ o c. so o (of_all m up o c)) (trace.course.each m up) (stays P (ledger old m))
 
 -- ---- the request of one branch
 
@@ -121,7 +114,7 @@ module _ (records : Records) (m : ℕ) (o : Outcome) where
     decided = s.decided;
     before = s.before;
     obeys = s.obeys;
-    after = on Any s.decided now last s.after (branch_sends Any records m p now last (anything records m p) r);
+    after = outcome_by AsksLedger Any (Sends Any s.decided) (asks_on Any s.decided) records m p now last (anything records m p) r s.after;
   }
 
   none_there : Contains [] o → ⊥
@@ -148,9 +141,6 @@ pub contains_on : {A : Type 0} (xs ys : List A) (x : A) → Begins xs ys → Con
 contains_on {A} xs ys x b there = subst (λ (l : List A). Contains l x) (sym b.1) (Contains-append_left xs b.0 x there)
 
 -- what was asked and answered in time was sent
-open_then : (a a' : LedgerView) (op : Op) (code : Code) → code ≢ RmFail → AskTrace (Some op) (Some code) a a' → learnt_shut a ≡ false
-open_then a a' op code reached tr = false_from_ne_true (learnt_shut a) (λ shut. reached (tr.answered shut))
-
 sent_so : (a a' : LedgerView) (op : Op) (code : Code) → learnt_shut a ≡ false → AskTrace (Some op) (Some code) a a'
     → a' ≡ with_collected (with_sent a op) (length a.sent) code
 sent_so a a' op code open_ tr = tr.trace ∙ at_false (learnt_shut a) _ _ open_
@@ -159,16 +149,13 @@ module _ (a opened now decided new last : LedgerView) (op : Op) (first code : Co
     (before : Sends IsNoClose opened now) (obeys : AskTrace (Some op) (Some code) now decided)
     (after : Sends Any decided new) (grown : HasGrown new last) (reached : code ≢ RmFail) where
   open_now : learnt_shut now ≡ false
-  open_now = open_then now decided op code reached obeys
+  open_now = false_from_ne_true (learnt_shut now) (λ shut. reached (obeys.answered shut))
 
   open_first : learnt_shut a ≡ false
   open_first = search (arith, false_from_ne_true, both_ways, open_now, learnt_on, begins_on, asks_one)
 
-  opened_sent : opened.sent ≡ a.sent ++ OpenRm ∷ []
-  opened_sent = ap (λ (l : LedgerView). l.sent) (sent_so a opened OpenRm first open_first opens)
-
   now_sent : now.sent ≡ a.sent ++ OpenRm ∷ before.more
-  now_sent = before.sent ∙ ap (λ l. l ++ before.more) opened_sent ∙ append_assoc a.sent (OpenRm ∷ []) before.more
+  now_sent = before.sent ∙ ap (λ (l : LedgerView). l.sent ++ before.more) (sent_so a opened OpenRm first open_first opens) ∙ append_assoc a.sent (OpenRm ∷ []) before.more
 
   decided_is : decided ≡ with_collected (with_sent now op) (length now.sent) code
   decided_is = sent_so now decided op code open_now obeys
@@ -217,14 +204,12 @@ has_outcome records m x (y ∷ xs) os a a' h there =
     let w = was_mapped (λ (o : Outcome). o.xid) os c.0 x (get_contained (map (λ (o : Outcome). o.xid) os) x c) in
     (w.0, (contains_at os c.0 w.0 w.1, w.2))
 
-list_there : (x : XidName) (xs : List XidName) → Contains xs x → list_any (xid_eq x) xs ≡ true
-list_there x xs c = any_at (xid_eq x) xs c.0 x (get_contained xs x c) (xid_self x)
-
 at_left : (records : Records) (m : ℕ) (xs : List XidName) (os : List Outcome) (a a' : LedgerView) → ResolvesAt AsksLedger records m xs os a a' → (o : Outcome)
     → Contains os o → list_any (xid_eq o.xid) xs ≡ true
 at_left records m [] os a a' h o there = absurd (none_there records m o (subst (λ ws. Contains ws o) h.0 there))
 at_left records m (x ∷ xs) os a a' h o there =
-    list_there o.xid (x ∷ xs) (subst (λ ys. Contains ys o.xid) h.xids_are (contains_map (λ (w : Outcome). w.xid) os o there))
+    let c : Contains (x ∷ xs) o.xid = subst (λ ys. Contains ys o.xid) h.xids_are (contains_map (λ (w : Outcome). w.xid) os o there) in
+    any_at (xid_eq o.xid) (x ∷ xs) c.0 o.xid (get_contained (x ∷ xs) o.xid c) (xid_self o.xid)
 
 -- an element of lists that are put together is in one of them
 flat_contains : {A B : Type 0} (f : A → List B) (xs : List A) (y : B) → Contains (flat_map f xs) y → (x : A) × (Contains xs x × Contains (f x) y)

@@ -2,21 +2,23 @@
 use Rattle.xa_atomicity.proofs.Words.{map-append, ◌≡◌, ◌≢◌, ℕ, zero, suc, ◌+◌, ◌<◌, true, false, ◌==◌, cond, List, [], ◌∷◌, ◌++◌, length, map, slice_get}
 use Rattle.xa_atomicity.proofs.Words.{get_or, sym, refl, ap, ◌∙◌, arith, Option, Some, None, filter, cons_option, eq-eqb, filter-append, some_pair_parts}
 use Rattle.xa_atomicity.proofs.Words.{XidName, Op, Request, Code, Tables, next, Fate, of_thread, tables_after, coded, fate_of, fate_in, fates_in, last_or}
-use Rattle.xa_atomicity.proofs.Words.{History, numbered, Entry, answers, rules, Bool, ◌≤◌, length-append, subst, or_parts, eqb-false, ne_eqb, list_any, All}
-use Rattle.xa_atomicity.proofs.Words.{All-nil, All-cons, slice_get_within, and_right, closes, is_close, numbered_length, All-contains, Contains, ◌-◌, ◌||◌}
-use Rattle.xa_atomicity.proofs.Words.{some_same, all_left, all_after, RmFail, IsOpening, tables_after-append, is_rm_fail, Tabled}
+use Rattle.xa_atomicity.proofs.Words.{History, numbered, Entry, answers, rules, Bool, ◌≤◌, length-append, subst, eqb-false, ne_eqb, list_any, All, All-nil}
+use Rattle.xa_atomicity.proofs.Words.{All-cons, slice_get_within, and_right, closes, is_close, numbered_length, All-contains, Contains, ◌-◌, ◌||◌, some_same}
+use Rattle.xa_atomicity.proofs.Words.{all_left, all_after, RmFail, IsOpening, tables_after-append, is_rm_fail, Tabled, both_ways, false_from_ne_true}
 use Rattle.xa_tables.proofs.WorkLaw.{others_first}
-use Rattle.xa_base.proofs.{all_at}
-use Rattle.std.proofs.lemmas.List.{get_or-append_right, get_or_append_left}
+use Rattle.xa_base.proofs.{all_at, next_there, take-append-drop, take, drop, slice_get_within}
+use Rattle.std.proofs.lemmas.List.{get_or-append_right, get_or_append_left, length-take-le}
 use Rattle.std.proofs.lemmas.Option.{get_or_from_slice_get}
+use Rattle.std.proofs.lemmas.List.Folds.{list_any_at}
+use Rattle.std.proofs.Common.{drop-cons}
+use Rattle.std.proofs.lemmas.List.Elements.{filter_map-append}
 
 -- thread t's request of number n
 abbrev pub request_of : ℕ → ℕ → Op → Request
 request_of t n op = record { thread = t; number = n; op = op }
 
 pub at_seam : {A : Type 0} (xs : List A) (y : A) (ys : List A) → slice_get (xs ++ y ∷ ys) (length xs) ≡ Some y
-at_seam [] y ys = refl
-at_seam (x ∷ xs) y ys = at_seam xs y ys
+at_seam xs y ys = next_there (xs ++ y ∷ ys) xs ys y refl
 
 -- ---- a history, parted at a request of the thread
 
@@ -112,12 +114,7 @@ abbrev pub fates : XidName → History → Tables → List Fate
 fates x h T = fates_in x (coded h T)
 
 pub fates_both : (x : XidName) (h g : History) (T : Tables) → fates x (h ++ g) T ≡ fates x h T ++ fates x g (tables_after h T)
-fates_both x [] g T = refl
-fates_both x (r ∷ h) g T =
-    let o : Option Fate = fate_of x r.op (next r.thread r.op T).1 in
-    let T1 : Tables = (next r.thread r.op T).0 in
-    ap (cons_option o) (fates_both x h g T1)
-    ∙ elim o as (λ o. cons_option o (fates x h T1 ++ fates x g (tables_after h T1)) ≡ cons_option o (fates x h T1) ++ fates x g (tables_after h T1)) [ None ↦ refl | Some f ↦ refl ]
+fates_both x h g T = ap (fates_in x) (coded_both 0 h g T) ∙ filter_map-append (λ (e : Request × Code). fate_of x e.0.op e.1) (coded h T) (coded g (tables_after h T))
 
 pub last_both : (f : Fate) (xs ys : List Fate) → last_or f (xs ++ ys) ≡ last_or (last_or f xs) ys
 last_both f [] ys = refl
@@ -159,9 +156,7 @@ of_ops t Q (q ∷ h) n ops e known =
 
 -- a test that no element passes
 pub none_all : {A : Type 0} (p : A → Bool) (xs : List A) → list_any p xs ≡ false → All (λ x. p x ≡ false) xs
-none_all p [] none = All-nil (λ x. p x ≡ false)
-none_all p (x ∷ xs) none =
-    let parts = or_parts (p x) (list_any p xs) none in All-cons (λ y. p y ≡ false) x xs parts.0 (none_all p xs parts.1)
+none_all p xs none k d lt = false_from_ne_true (p (get_or xs k d)) (λ e. both_ways (list_any p xs) none (list_any_at p xs k d lt e))
 
 -- so the numbers of the thread's requests rise, and are below how many there are
 pub all_later : (t : ℕ) (h : History) (n : ℕ) (ops : List Op) → of_thread t h ≡ numbered t n ops → All (λ r. r.thread ≡ t → n ≤ r.number) h
@@ -289,30 +284,16 @@ module _ {t : ℕ} {T : Tables} {H : History} (s : Site t T H) where
 
 -- ---- a request by what was sent and what was answered
 
--- a list, parted at an element
-record PartedAt {A : Type 0} (xs : List A) (n : ℕ) (x : A) : Type 0 where
-  pre : List A
-  post : List A
-  whole : xs ≡ pre ++ x ∷ post
-  many : length pre ≡ n
-
-part_list : {A : Type 0} (xs : List A) (n : ℕ) (x : A) → slice_get xs n ≡ Some x → PartedAt xs n x
-part_list [] n x e = absurd (cc)
-part_list (y ∷ xs) zero x e = record { pre = []; post = xs; whole = ap (λ z. z ∷ xs) (some_same y x e); many = refl }
-part_list (y ∷ xs) (suc n) x e =
-    let z = part_list xs n x e in
-    let many = z.many in
-    record { pre = y ∷ z.pre; post = z.post; whole = ap (λ l. y ∷ l) z.whole; many = omega (arith, many) }
-
 -- what was sent with a number, and answered by a code, stands in the history
 pub stands_by : {t : ℕ} {T : Tables} {H : History} (s : Site t T H) (n : ℕ) (op : Op) (c : Code) → slice_get s.ops n ≡ Some op
     → slice_get (answers t (coded H T)) n ≡ Some (n, c) → StandsIn t n op c T H
 stands_by {t} {T} {H} s n op c sent answered =
-    let z = part_list s.ops n op sent in
-    let many = z.many in
-    let number : 0 + length z.pre ≡ n = omega (arith, many) in
+    let below : n < length s.ops = slice_get_within s.ops n op sent in
+    let size : length (take n s.ops) ≡ n = length-take-le n s.ops (omega (arith, below)) in
+    let whole : s.ops ≡ take n s.ops ++ op ∷ drop (suc n) s.ops = sym (take-append-drop n s.ops) ∙ ap (λ l. take n s.ops ++ l) (drop-cons s.ops n op below ∙ ap (λ o. o ∷ drop (suc n) s.ops) (get_or_from_slice_get s.ops n op op sent)) in
+    let number : 0 + length (take n s.ops) ≡ n = omega (arith, size) in
     let p =
-    part t H (numbered t 0 z.pre) (numbered t (suc n) z.post) (request_of t n op) (s.carried ∙ ap (numbered t 0) z.whole ∙ numbered_both t 0 z.pre (op ∷ z.post) ∙ ap (λ k. numbered t 0 z.pre ++ numbered t k (op ∷ z.post)) number) in
+    part t H (numbered t 0 (take n s.ops)) (numbered t (suc n) (drop (suc n) s.ops)) (request_of t n op) (s.carried ∙ ap (numbered t 0) whole ∙ numbered_both t 0 (take n s.ops) (op ∷ drop (suc n) s.ops) ∙ ap (λ k. numbered t 0 (take n s.ops) ++ numbered t k (op ∷ drop (suc n) s.ops)) number) in
     record { before = p.before; after = p.after; place = p.place; code = same_code _ n n c _ answered (answered_here s n op p.before p.after p.place) }
 
 -- ---- two of the thread's requests
@@ -329,9 +310,6 @@ module _ {t : ℕ} {T : Tables} {H : History} (s : Site t T H) (n : ℕ) (op : O
 
   pub above : All (λ r. r.thread ≡ t → n < r.number) after
   above k d lt own = let z = sides_at s n op before after place in let up = all_later t after (suc n) z.post z.later k d lt own in omega (arith, up)
-
-tail_below : (t n : ℕ) (q : Request) (h : History) → Below t n (q ∷ h) → Below t n h
-tail_below t n q h all k d lt = all (suc k) d (omega (arith, lt))
 
 -- one has a higher number, and stands later
 pub record Later (b : History) (r : Request) (a : History) (c : History) (q : Request) (d : History) : Type 0 where
@@ -351,7 +329,7 @@ later_place t (p ∷ b) [] r q a d e its more low =
 later_place t (p ∷ b) (o ∷ c) r q a d e its more low =
     let head : p ≡ o = cc in
     let tail : b ++ r ∷ a ≡ c ++ q ∷ d = cc in
-    let z = later_place t b c r q a d tail its more (tail_below t r.number p b low) in
+    let z = later_place t b c r q a d tail its more (λ k d lt. low (suc k) d (omega (arith, lt))) in
     record { mid = z.mid; before = λ i. sym head i ∷ z.before i; after = z.after }
 
 module _ {t : ℕ} {T : Tables} {H : History} (s : Site t T H) where

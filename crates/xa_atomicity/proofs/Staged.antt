@@ -130,9 +130,6 @@ pub asks_begun : (ks : List Ask) (at now : List LedgerView) → EachAsk ks at no
 asks_begun [] at now e = All-nil (Begun at now)
 asks_begun (k ∷ ks) at now e = All-cons (Begun at now) k ks (collected k.code e.0) (asks_begun ks at now e.1)
 
-none_begun : (ks : List Ask) (at : List LedgerView) → All (Begun at at) ks
-none_begun ks at k d lt = unasked refl
-
 -- ---- all branches
 
 abbrev Other : List LedgerView → List LedgerView → Branch → Type 0
@@ -208,7 +205,7 @@ pub asks_so_far : (ks : List Ask) (at now : List LedgerView) → Asks ks at now 
 asks_so_far ks at now asked = record { each = asks_begun ks at now asked.each; others = asked.others; managers = asked.managers }
 
 pub none_so_far : (ks : List Ask) (at : List LedgerView) → HaveComeSoFar ks at at
-none_so_far ks at = record { each = none_begun ks at; others = λ m positive none. refl; managers = refl }
+none_so_far ks at = record { each = λ k d lt. unasked refl; others = λ m positive none. refl; managers = refl }
 
 module _ (bs : List Branch) (desk : DeskView) (mid tell : List LedgerView) (log later : LogState) (p : Prepared) (d : Decided) (may : MayCommit desk log bs)
     (first : HasPrepared bs desk.ledgers mid p) (between : LeavesBranches bs mid tell) (second : HasDecided p log later d) where

@@ -62,9 +62,6 @@ pub moved_without : (accounts : Accounts) (passes : Request → Bool) (h : Histo
     → moved accounts passes h T ≡ pos 0
 moved_without accounts passes h T none = moved_still accounts passes h T (λ k d lt e c U. unmoving accounts (get_or h k d).op c U (none k d lt e))
 
-pub moved_none : (accounts : Accounts) (passes : Request → Bool) (h : History) (T : Tables) → All (λ r. passes r ≡ false) h → moved accounts passes h T ≡ pos 0
-moved_none accounts passes h T none = moved_without accounts passes h T (λ k d lt passed. let z : true ≡ false = sym passed ∙ none k d lt in cc)
-
 -- tests that agree pass the same
 pub moved_alike : (accounts : Accounts) (p q : Request → Bool) (h : History) (T : Tables) → All (λ r. p r ≡ q r) h → moved accounts p h T ≡ moved accounts q h T
 moved_alike accounts p q [] T same = refl
@@ -230,20 +227,17 @@ pub record Counted (t : ℕ) (x : XidName) (T : Tables) (H : History) (n last : 
   pub reads : is_read_only_ending e ≡ true → (accounts : List (List ℕ × ℕ)) → held_by accounts x (tables_after (taken_before t n H) T) ≡ pos 0
 
 module _ {t : ℕ} {T : Tables} {H : History} (site : Site t T H) (x : XidName) (n : ℕ) (vote : Code) where
-  abbrev P : Op
-  P = Prepare x
-
   abbrev Voted : Type 0
-  Voted = StandsIn t n P vote T H
+  Voted = StandsIn t n (Prepare x) vote T H
 
   -- what was taken before it, and that no request there has its number or a later one
   pub taken : (f : Voted) → taken_before t n H ≡ f.before
-  taken f = ap (taken_before t n) f.place ∙ taken_is t n f.before f.after (request_of t n P) refl refl (below site n P f.before f.after f.place)
+  taken f = ap (taken_before t n) f.place ∙ taken_is t n f.before f.after (request_of t n (Prepare x)) refl refl (below site n (Prepare x) f.before f.after f.place)
 
   -- the vote on an addition isn't that of a branch that only read
   never_reads : Voted → (k : List ℕ) (d : ℤ) → IsAddition x k d t n T H → vote ≢ RdOnly
   never_reads first k d add reads =
-      let f : Voted = at_place site n P vote first (add.before ++ add.adding ∷ add.between) add.after (add_place x k d t n T H add) in
+      let f : Voted = at_place site n (Prepare x) vote first (add.before ++ add.adding ∷ add.between) add.after (add_place x k d t n T H add) in
       search (arith, tables_after-append, add.adding.thread, add.adding.op, add.between, add.before, add.adds, add.branch, add.answered)
 
   module _ (last : ℕ) (only : OnlyTheseName x t n last H) where
@@ -263,11 +257,11 @@ module _ {t : ℕ} {T : Tables} {H : History} (site : Site t T H) (x : XidName) 
     silent none e not adders reads = record {
       counted = λ k d add.
           let place = add_place x k d t n T H add in
-          let no_commit : All (λ r. names x r.op ≡ true → is_commit r.op ≡ false) (request_of t n P ∷ add.after) =
-          All-cons (λ (r : Request). names x r.op ≡ true → is_commit r.op ≡ false) (request_of t n P) add.after (λ _. refl) (λ j r lt named.
-          let own = only (add.before ++ add.adding ∷ add.between) add.after (request_of t n P) place refl refl j r lt named in
-          all_after Plain (add.before ++ add.adding ∷ add.between) (request_of t n P) add.after (subst (All Plain) place none) j r lt own.thread own.from own.below) in
-          share_is x k d t n T H none_later add _ refl ∙ ap (λ q. if q then d else pos 0) (commits_none x (request_of t n P ∷ add.after) (tables_after (add.before ++ add.adding ∷ add.between) T) no_commit ∙ sym not);
+          let no_commit : All (λ r. names x r.op ≡ true → is_commit r.op ≡ false) (request_of t n (Prepare x) ∷ add.after) =
+          All-cons (λ (r : Request). names x r.op ≡ true → is_commit r.op ≡ false) (request_of t n (Prepare x)) add.after (λ _. refl) (λ j r lt named.
+          let own = only (add.before ++ add.adding ∷ add.between) add.after (request_of t n (Prepare x)) place refl refl j r lt named in
+          all_after Plain (add.before ++ add.adding ∷ add.between) (request_of t n (Prepare x)) add.after (subst (All Plain) place none) j r lt own.thread own.from own.below) in
+          share_is x k d t n T H none_later add _ refl ∙ ap (λ q. if q then d else pos 0) (commits_none x (request_of t n (Prepare x) ∷ add.after) (tables_after (add.before ++ add.adding ∷ add.between) T) no_commit ∙ sym not);
       adders = adders;
       moves = λ accounts.
           moved_without accounts (is_within t n last) H T (λ k d lt passes. let w = within_parts t n last (get_or H k d) passes in none k d lt w.0 w.1 w.2)
@@ -281,61 +275,58 @@ module _ {t : ℕ} {T : Tables} {H : History} (site : Site t T H) (x : XidName) 
     -- ---- its Commit
 
     module _ (agreed : vote ≡ Done) (c : Code) (z : Sends site x n last vote (Commit x false) c) where
-      abbrev op : Op
-      op = Commit x false
-
       abbrev W : Request → Bool
       W = is_within t n last
 
       module _ (f : Voted) where
-        abbrev s : Second site n P vote f op c
-        s = second_of site n P vote f op c z.second
+        abbrev s : Second site n (Prepare x) vote f (Commit x false) c
+        s = second_of site n (Prepare x) vote f (Commit x false) c z.second
 
         abbrev now : Tables
-        now = (next t P (tables_after f.before T)).0
+        now = (next t (Prepare x) (tables_after f.before T)).0
 
-        only_parts : All (λ q. names x q.op ≡ true → IsBetween t n last q) (s.mid ++ request_of t (suc n) op ∷ s.rest)
-        only_parts = subst (All (λ (q : Request). names x q.op ≡ true → IsBetween t n last q)) s.split (only f.before f.after (request_of t n P) f.place refl refl)
+        only_parts : All (λ q. names x q.op ≡ true → IsBetween t n last q) (s.mid ++ request_of t (suc n) (Commit x false) ∷ s.rest)
+        only_parts = subst (All (λ (q : Request). names x q.op ≡ true → IsBetween t n last q)) s.split (only f.before f.after (request_of t n (Prepare x)) f.place refl refl)
 
         quiet_mid : NamesNowhere x s.mid
         quiet_mid k d lt = false_from_ne_true (names x (get_or s.mid k d).op) (λ named.
-            s.others k d lt (all_left (λ (q : Request). names x q.op ≡ true → IsBetween t n last q) s.mid (request_of t (suc n) op ∷ s.rest) only_parts k d lt named).thread)
+            s.others k d lt (all_left (λ (q : Request). names x q.op ≡ true → IsBetween t n last q) s.mid (request_of t (suc n) (Commit x false) ∷ s.rest) only_parts k d lt named).thread)
 
         -- what is sent after it is no Commit
         rest_plain : All (λ q. q.thread ≡ t → q.number < last → is_commit q.op ≡ false) s.rest
-        rest_plain k d lt own low = forget_plain (get_or s.rest k d).op (rest_forgets site x n last vote op c z f s k d lt own low)
+        rest_plain k d lt own low = forget_plain (get_or s.rest k d).op (rest_forgets site x n last vote (Commit x false) c z f s k d lt own low)
 
-        counts : commits_or false (fates x (request_of t n P ∷ f.after) (tables_after f.before T)) ≡ is_committed (yes_ending true (Some c))
+        counts : commits_or false (fates x (request_of t n (Prepare x) ∷ f.after) (tables_after f.before T)) ≡ is_committed (yes_ending true (Some c))
         counts =
             let there : Tables = tables_after s.mid now in
-            let left : Tables = (next t op there).0 in
+            let left : Tables = (next t (Commit x false) there).0 in
             let rest_none : commits_or false (fates x s.rest left) ≡ false = commits_none x s.rest left (λ k d lt named.
-            let own = all_after (λ (q : Request). names x q.op ≡ true → IsBetween t n last q) s.mid (request_of t (suc n) op) s.rest only_parts k d lt named in
+            let own = all_after (λ (q : Request). names x q.op ≡ true → IsBetween t n last q) s.mid (request_of t (suc n) (Commit x false)) s.rest only_parts k d lt named in
             rest_plain k d lt own.thread own.below) in
-            let voted : fate_of x P (next t P (tables_after f.before T)).1 ≡ Some history.InDoubt = ap (fate_of x P) (sym f.code ∙ agreed) ∙ at_true (xid_eq x x) _ None (xid_self x) in
-            let made : fate_of x op (next t op there).1 ≡ commit_fate c = at_true (xid_eq x x) _ None (xid_self x) ∙ ap commit_fate (sym s.code) in
+            let voted : fate_of x (Prepare x) (next t (Prepare x) (tables_after f.before T)).1 ≡ Some history.InDoubt = ap (fate_of x (Prepare x)) (sym f.code ∙ agreed) ∙ at_true (xid_eq x x) _ None (xid_self x) in
+            let made : fate_of x (Commit x false) (next t (Commit x false) there).1 ≡ commit_fate c = at_true (xid_eq x x) _ None (xid_self x) ∙ ap commit_fate (sym s.code) in
             let after : fates x f.after now ≡ cons_option (commit_fate c) (fates x s.rest left) =
-            ap (λ (h : History). fates x h now) s.split ∙ fates_both x s.mid (request_of t (suc n) op ∷ s.rest) now ∙ (λ i. unnamed x s.mid now quiet_mid i ++ cons_option (made i) (fates x s.rest left)) in
+            ap (λ (h : History). fates x h now) s.split ∙ fates_both x s.mid (request_of t (suc n) (Commit x false) ∷ s.rest) now ∙ (λ i. unnamed x s.mid now quiet_mid i ++ cons_option (made i) (fates x s.rest left)) in
             (λ i. commits_or false (cons_option (voted i) (after i))) ∙ commit_counts c (fates x s.rest left) rest_none
 
         -- the call's requests move what it moves, and the branch holds there what it held at its Prepare
         moves_it : (accounts : List (List ℕ × ℕ)) → moved accounts W H T ≡ (if is_done c then held accounts else pos 0)
         moves_it accounts =
             let there : Tables = tables_after s.mid now in
-            let before : History = f.before ++ request_of t n P ∷ s.mid in
+            let before : History = f.before ++ request_of t n (Prepare x) ∷ s.mid in
             let keeps : held_by accounts x there ≡ held accounts =
             site.law.keeps accounts t x f.before s.mid T site.opening (sym f.code ∙ agreed) quiet_mid ∙ ap (λ (h : History). held_by accounts x (tables_after h T)) (sym (taken f)) in
             ap (λ (h : History). moved accounts W h T) s.place
-            ∙ moved_at accounts W before s.rest (request_of t (suc n) op) T low (inside t n last (request_of t (suc n) op) refl (omega arith) (let more = z.more in omega (arith, more))) high
-            ∙ ap (λ (V : Tables). moved_by accounts op (next t op V).1 V) s.there_is ∙ ap (λ d. moved_by accounts op d there) (sym s.code) ∙ ap (λ v. if is_done c then v else pos 0) keeps
+            ∙ moved_at accounts W before s.rest (request_of t (suc n) (Commit x false)) T low (inside t n last (request_of t (suc n) (Commit x false)) refl (omega arith) (let more = z.more in omega (arith, more))) high
+            ∙ ap (λ (V : Tables). moved_by accounts (Commit x false) (next t (Commit x false) V).1 V) s.there_is ∙ ap (λ d. moved_by accounts (Commit x false) d there) (sym s.code) ∙ ap (λ v. if is_done c then v else pos 0) keeps
           where
-            low : All (λ q. W q ≡ true → is_commit q.op ≡ false) (f.before ++ request_of t n P ∷ s.mid)
+            low : All (λ q. W q ≡ true → is_commit q.op ≡ false) (f.before ++ request_of t n (Prepare x) ∷ s.mid)
             low k d lt passes =
-                let w = within_parts t n last (get_or (f.before ++ request_of t n P ∷ s.mid) k d) passes in
-                let under = below site (suc n) op (f.before ++ request_of t n P ∷ s.mid) s.rest s.place k d lt w.0 in
+                let w = within_parts t n last (get_or (f.before ++ request_of t n (Prepare x) ∷ s.mid) k d) passes in
+                let under = below site (suc n) (Commit x false) (f.before ++ request_of t n (Prepare x) ∷ s.mid) s.rest s.place k d lt w.0 in
                 let from = w.1 in
-                let O : Request → Type 0 = λ r. r.thread ≡ t → r.number ≡ n → r.op ≡ P in
-                ap is_commit (all_left O (f.before ++ request_of t n P ∷ s.mid) (request_of t (suc n) op ∷ s.rest) (subst (All O) s.place (only_op site n P vote f)) k d lt w.0 (omega (arith, under, from)))
+                let O : Request → Type 0 = λ r. r.thread ≡ t → r.number ≡ n → r.op ≡ (Prepare x) in
+                ap is_commit (all_left O (f.before ++ request_of t n (Prepare x) ∷ s.mid) (request_of t (suc n) (Commit x false) ∷ s.rest) (subst (All O) s.place (only_op site n (Prepare x) vote f)) k d lt w.0 (omega (arith, under, from)))
 
             high : All (λ q. W q ≡ true → is_commit q.op ≡ false) s.rest
             high k d lt passes = let w = within_parts t n last (get_or s.rest k d) passes in rest_plain k d lt w.0 w.2
@@ -346,7 +337,7 @@ module _ {t : ℕ} {T : Tables} {H : History} (site : Site t T H) (x : XidName) 
           record {
             counted = λ k d add.
                 share_is x k d t n T H none_later add _ refl
-                ∙ ap (λ q. if q then d else pos 0) (counts (at_place site n P vote z.first (add.before ++ add.adding ∷ add.between) add.after (add_place x k d t n T H add)));
+                ∙ ap (λ q. if q then d else pos 0) (counts (at_place site n (Prepare x) vote z.first (add.before ++ add.adding ∷ add.between) add.after (add_place x k d t n T H add)));
             adders = λ k d add. writes;
             moves = λ accounts. moves_it z.first accounts ∙ commit_moves c (held accounts);
             reads = λ r. absurd (both_ways (is_read_only_ending (yes_ending true (Some c))) writes r);

@@ -1,5 +1,2 @@
-use Rattle.xa_atomicity.proofs.OutcomeFates.{outcomes_law}
-use Rattle.xa_atomicity.proofs.fates.outcomes_are_fates.Goals as goal
-
-pub returns : goal.returns
-returns c = outcomes_law c.tables_keep_to_their_laws.ensures c.settled_journals_follow_the_tables.ensures.first
+pub returns : Rattle.xa_atomicity.proofs.fates.outcomes_are_fates.Goals.returns
+returns c = Rattle.xa_atomicity.proofs.OutcomeFates.outcomes_law c.tables_keep_to_their_laws.ensures c.settled_journals_follow_the_tables.ensures.first
