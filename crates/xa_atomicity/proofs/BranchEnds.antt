@@ -15,10 +15,10 @@ use Rattle.xa_tables.specs.Histories as history
 use Rattle.xa_atomicity.proofs.Later.{last_ended, Walk, stands_first, ends_with, walk, walk_after, walk_ends, walk_tells}
 use Rattle.xa_atomicity.proofs.Leading.{IsTowards, Stands, waits, unforgotten, over, as_decided, led_fates, IsOver}
 use Rattle.xa_atomicity.proofs.Sites.{fates, request_of}
-use Rattle.xa_atomicity.proofs.EndsByFate.{Comes, ends, tells, leaves, once, AtEnd, unknown_so, decided_one, decision_so, is_decided_so, is_known_so, untold}
-use Rattle.xa_atomicity.proofs.EndsByFate.{left_in_doubt}
+use Rattle.xa_atomicity.proofs.Guided.{Comes, ends, tells, leaves, once, AtEnd, unknown_so, decided_one, decision_so, is_decided_so, is_known_so, untold}
+use Rattle.xa_atomicity.proofs.Guided.{left_in_doubt}
 use Rattle.xa_atomicity.proofs.Values.{commits_by, commits_or, add_place, share_is}
-use Rattle.xa_atomicity.proofs.Records.{FindsMark}
+use Rattle.xa_atomicity.proofs.OneOutcome.{FindsMark}
 
 -- ---- by the fate at the end of the first opening
 
@@ -44,8 +44,7 @@ ending_so commit W L s f e (leaves why left st) known = by_standing st
 
 -- it counts where it was committed
 pub counts_so : (commit : Bool) (W L : Type 0) (s : Option State) (f through : Fate) (e : Ending) (after : Bool) → Comes commit W L s f e
-    → (is_unknown f ≡ true → after ≡ is_committed through)
-    → commits_or after (history.InDoubt ∷ once f) ≡ is_committed (if is_unknown f then through else f)
+    → (is_unknown f ≡ true → after ≡ is_committed through) → commits_or after (history.InDoubt ∷ once f) ≡ is_committed (if is_unknown f then through else f)
 counts_so commit W L s f through e after comes later = search (arith, commits_or, ending_so)
 
 -- ---- through the later openings
@@ -101,8 +100,7 @@ module _ (law : Tabled) (first : (s : Settling) (m : ℕ) (T : Tables) → IsSet
         let unknown : g ≡ history.InDoubt = fate_is ∙ ap reopened_fate e in
         let same : f ≡ g = e ∙ sym unknown in
         ap (λ b. if b then false else over_all f (reopened T)) (ap is_live e)
-        ∙ (λ i. over_all (same i) (sym tables_are i))
-        ∙ commits_by (over_them (last_or g fs)) x (accepted H1) T1
+        ∙ (λ i. over_all (same i) (sym tables_are i)) ∙ commits_by (over_them (last_or g fs)) x (accepted H1) T1
         ∙ count_list commit fs g over_them (λ h. fate_through m x h ps) all unknown rest_so.0 rest_so.1
         ∙ ap (λ h. is_committed (fate_through m x h ps)) (sym settled_is)
 

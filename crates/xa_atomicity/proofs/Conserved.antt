@@ -2,23 +2,20 @@
 use Rattle.xa_atomicity.proofs.Words.{is_commit, Branch, Ending, Committed, ReadOnly, RolledBack, InDoubt, Heuristic, Left, is_no, IsCommit}
 use Rattle.xa_atomicity.proofs.Words.{AreBranchesRising, has_branch_at, HasSentNoCommit, NoCommitWasSent, slice_get_past, ne_eqb, or_from, cases_lt, eqb-true}
 use Rattle.xa_atomicity.proofs.Words.{eqb-false, le-leb, or_parts, ℤ, pos, ◌+ℤ◌, All, nat_le, ◌&&◌, ◌≡◌, ℕ, zero, suc, ◌+◌, ◌-◌, ◌<◌, ◌≤◌, ◌==◌, Bool, true}
-use Rattle.xa_atomicity.proofs.Words.{false, if◌then◌else◌, ⊎_elim, List, [], ◌∷◌, length, length-append, get_or, sym, refl, ap, ◌∙◌, subst, arith, list_any}
+use Rattle.xa_atomicity.proofs.Words.{false, if◌then◌else◌, List, [], ◌∷◌, length, length-append, get_or, sym, refl, ap, ◌∙◌, subst, arith, list_any}
 use Rattle.xa_atomicity.proofs.Words.{range_with_len, ints, +ℤ_idl as none_plus, +ℤ_idr as plus_none, contains_at, range_all, total_alike, total_both}
 use Rattle.xa_atomicity.proofs.Words.{total_nothing, All-contains, total, XidName, Request, Code, Tables, are_accounts, opening, tables_after, moved, held_by}
 use Rattle.xa_atomicity.proofs.Words.{is_of, HoldsItsAdditions, History, LedgerView, DeskView, ledger, HaveGrown, growing_on, same_lists, Plan}
 use Rattle.xa_atomicity.proofs.Words.{IsSoundManager, IsSettled, sent, IsOpenedWith, ledgers_of, history, threads_of, managers_of, accounts_in, accounts_of}
 use Rattle.xa_atomicity.proofs.Words.{plan_worth, settled_worth, WorthIsOfThreads, Settling, LogState, EachOutcome, AreLeftAlone, has_committed}
 use Rattle.xa_atomicity.proofs.Words.{is_rolled_back, is_heuristic, is_left, is_read_only, sent_so_far, taken_before, added_before, added_by_all}
-use Rattle.xa_atomicity.proofs.Words.{total_in_doubt, held_in_doubt, OnlyTransfers, opened, worked, committed, Tabled, is_committed}
+use Rattle.xa_atomicity.proofs.Words.{total_in_doubt, held_in_doubt, OnlyTransfers, opened, worked, committed, Tabled, is_committed, inl, inr, moved_by}
 use Rattle.xa_driver.specs.{Done}
-use Rattle.xa_switch.specs.{moved_by}
 use Rattle.xa_atomicity.specs.{is_in_doubt}
 use Rattle.xa_atomicity.proofs.Values.{within_parts, is_within, moved_parted, moved_without, moved_alike, moved_nothing}
 use Rattle.xa_atomicity.proofs.Sites.{none_all, all_earlier}
 use Rattle.xa_atomicity.proofs.Settled.{sent_between, Both, all_outcomes, growth_law, by_ledger, outcome_all}
 use Rattle.xa_atomicity.proofs.OneOutcome.{committed_law, positive_all}
-
--- ---- branches and managers
 
 -- no branch of rising ones is at a manager before them
 none_before : (lo m : ℕ) (bs : List Branch) → AreBranchesRising lo bs → m ≤ lo → has_branch_at bs m ≡ false
@@ -29,8 +26,7 @@ none_before lo m (b ∷ bs) r le =
 
 -- what counts at the managers of branches alone may be summed over the branches
 over_branches : (g : ℕ → ℤ) (bs : List Branch) (lo n : ℕ) → AreBranchesRising lo bs → ((m : ℕ) → lo < m → has_branch_at bs m ≡ false → g m ≡ pos 0)
-    → ((m : ℕ) → lo + n < m → g m ≡ pos 0)
-    → total g (range_with_len (lo + 1) n) ≡ total (λ b. g b.m) bs
+    → ((m : ℕ) → lo + n < m → g m ≡ pos 0) → total g (range_with_len (lo + 1) n) ≡ total (λ b. g b.m) bs
 over_branches g [] lo zero r none beyond = refl
 over_branches g (b ∷ bs) lo zero r none beyond =
     let up = r.0 in
@@ -117,8 +113,7 @@ module _ (law : Tabled) (opens : (s : Settling) (m : ℕ) → IsSettled s → (T
     record BranchMoves (b : Branch) (vote : Code) (e : Ending) : Type 0 where
       moves : moved_in b.m (count old b.m) (count new b.m) ≡ (if is_committed e then added b else pos 0)
       reads : is_read_only e ≡ true → added b ≡ pos 0
-      unless_no : is_no vote ≡ false → is_left e ≡ false
-      undecided : is_no vote ≡ false → is_heuristic e ≡ false
+      both : Both law opens s t b (count old b.m) (count new b.m) vote e
 
     -- a branch holds at its Prepare what it has added
     held_is : (b : Branch) → are_accounts (accounts_of p b.m) ≡ true
@@ -134,23 +129,18 @@ module _ (law : Tabled) (opens : (s : Settling) (m : ℕ) → IsSettled s → (T
 
     branch_moves : (b : Branch) (vote : Code) (e : Ending) → 1 ≤ b.m → Both law opens s t b (count old b.m) (count new b.m) vote e → BranchMoves b vote e
     branch_moves b vote e positive both =
-        ⊎_elim
-        (λ (past : length p.managers.items < b.m). record {
-          moves = no_moves b.m (count old b.m) (count new b.m) past ∙ either_none (is_committed e) (added b) (nothing_added b past);
-          reads = λ _. nothing_added b past;
-          unless_no = both.fated.unless_no;
-          undecided = both.undecided;
-        })
-        (λ (below : b.m ≤ length p.managers.items).
-        let good = sound_at b.m positive below in
-        let T : Tables = opening (accounts_of p b.m) in
-        record {
-          moves = (both.counted T (opens_with b.m positive below)).moves (accounts_of p b.m) ∙ ap (λ v. if is_committed e then v else pos 0) (held_is b good);
-          reads = λ only_read. sym (held_is b good) ∙ (both.counted T (opens_with b.m positive below)).reads only_read (accounts_of p b.m);
-          unless_no = both.fated.unless_no;
-          undecided = both.undecided;
-        })
-        (cases_lt (length p.managers.items) b.m)
+        elim (cases_lt (length p.managers.items) b.m) [
+          | inl past ↦
+              record { both = both; moves = no_moves b.m (count old b.m) (count new b.m) past ∙ either_none (is_committed e) (added b) (nothing_added b past); reads = λ _. nothing_added b past }
+          | inr below ↦
+              let good = sound_at b.m positive below in
+              let counted = both.counted (opening (accounts_of p b.m)) (opens_with b.m positive below) in
+              record {
+                both = both;
+                moves = counted.moves (accounts_of p b.m) ∙ ap (λ v. if is_committed e then v else pos 0) (held_is b good);
+                reads = λ only_read. sym (held_is b good) ∙ counted.reads only_read (accounts_of p b.m);
+              }
+        ]
 
     abbrev moved_for : List Branch → ℤ
     moved_for bs = total (λ b. moved_in b.m (count old b.m) (count new b.m)) bs
@@ -184,7 +174,7 @@ module _ (law : Tabled) (opens : (s : Settling) (m : ℕ) → IsSettled s → (T
         let votes = or_parts (is_no v) (list_any is_no vs) unopposed in
         let backs = or_parts (is_rolled_back e) (list_any is_rolled_back es) kept in
         regroup (moved_in b.m (count old b.m) (count new b.m)) (moved_for bs) (if is_in_doubt e then added b else pos 0) (total_in_doubt added bs es) (added b) (total added bs)
-        (ap (λ q. q +ℤ (if is_in_doubt e then added b else pos 0)) h.0.moves ∙ moved_or_doubted e (added b) backs.0 (h.0.unless_no votes.0) (h.0.undecided votes.0) h.0.reads)
+        (ap (λ q. q +ℤ (if is_in_doubt e then added b else pos 0)) h.0.moves ∙ moved_or_doubted e (added b) backs.0 (h.0.both.fated.unless_no votes.0) (h.0.both.undecided votes.0) h.0.reads)
         (all_moved bs vs es votes.1 backs.1 h.1)
     all_moved bs vs es unopposed kept h = absurd h
 

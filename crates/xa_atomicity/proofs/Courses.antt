@@ -72,8 +72,7 @@ module _ {t : ℕ} {T : Tables} {H : History} (s : Site t T H) (x : XidName) (n 
 
 -- after its Prepare it is no decision by itself
 pub own_plain : {t : ℕ} {T : Tables} {H : History} (s : Site t T H) (x : XidName) (n last : ℕ) (vote : Code) (commit : Bool) (e : Ending)
-    → Course s x n last vote commit e
-    → All (λ r. r.thread ≡ t → n < r.number → r.number < last → is_heur r.op ≡ false) H
+    → Course s x n last vote commit e → All (λ r. r.thread ≡ t → n < r.number → r.number < last → is_heur r.op ≡ false) H
 own_plain {t} {T} {H} s x n last vote commit e course k d lt own up down = by_course e course k d lt own (omega (arith, up)) down
   where
     forget_plain : (op : Op) → is_forget op ≡ true → is_heur op ≡ false

@@ -6,16 +6,15 @@ use Rattle.xa_atomicity.proofs.Words.{Code, xid_self, HeuristicDecision, State, 
 use Rattle.xa_atomicity.proofs.Words.{tables_after, names, Tables, History, LedgerView, learnt_shut, with_sent, with_collected, numbered, Branch, Ending}
 use Rattle.xa_atomicity.proofs.Words.{IsAnswered, IsBegun, asked, collected, in_flight, unasked, is_decided, second_op, third_op, yes_ending, outcome_op}
 use Rattle.xa_atomicity.proofs.Words.{IsAsked, IsEnded, IsTold, IsBetween, OnlyTheseOrDecisionsName, told_fate, IsAskedFor, all_left, any_asked}
-use Rattle.xa_atomicity.proofs.Words.{tables_after-append, ◌<◌, Any}
-use Rattle.std.proofs.lemmas.List.Elements.{Contains-push}
+use Rattle.xa_atomicity.proofs.Words.{tables_after-append, ◌<◌, Any, Contains-push}
 use Rattle.xa_tables.specs.Histories as history
 use Rattle.xa_atomicity.proofs.CutVotes.{vote_there, HasVoted, ended_voted, first_is, forget_sends, other_sends, prepare_sent, told_voted}
-use Rattle.xa_atomicity.proofs.EndsByFate.{ends, leaves, tells, AtEnd, Comes, once, told_decided, decision_so}
+use Rattle.xa_atomicity.proofs.Guided.{ends, leaves, tells, AtEnd, Comes, once, told_decided, decision_so, IsGuided, at_last, fate_any, fates_from}
+use Rattle.xa_atomicity.proofs.Guided.{guided_after, stands_now, told_there}
 use Rattle.xa_atomicity.proofs.Leading.{waits, unforgotten, over, IsTowards, Stands, ends_towards}
 use Rattle.xa_atomicity.proofs.Sites.{Site, StandsIn, above, at_place, below, later_place, fates, request_of, same_code, at_seam, IsFromTo, own_between}
 use Rattle.xa_atomicity.proofs.OneOutcome.{is_told_decision, second_so, third_so}
 use Rattle.xa_atomicity.proofs.Courses.{yes_wanted}
-use Rattle.xa_atomicity.proofs.Guided.{IsGuided, at_last, fate_any, fates_from, guided_after, stands_now, told_there}
 use Rattle.xa_atomicity.proofs.Resolves.{Sends, contains_on}
 
 -- ---- what was sent

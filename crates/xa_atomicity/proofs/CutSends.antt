@@ -9,14 +9,12 @@ use Rattle.xa_atomicity.proofs.Words.{CameSoFar, GoesByTheRecord, HasSentNone, I
 use Rattle.xa_atomicity.proofs.Words.{LogState, record_of, carried, IsAskedFor, one_tran, ◌≢◌, ◌<◌, ◌++◌, length, ⊎_elim, Option, Contains, cases_lt}
 use Rattle.xa_atomicity.proofs.Words.{false_from_ne_true, Contains-get_or, MOST_MANAGERS, xid_eq, Decides-xid_eq, HaveGrown, Outcome, Told, third_op}
 use Rattle.xa_atomicity.proofs.Words.{outcome_op, AsksLedger, first_ask, third_ask, HasTold, AtBranch, IsCommit, AreOthers, DidOther, LeavesBranches, IsDone}
-use Rattle.xa_atomicity.proofs.Words.{IsOutcomeOf, ResolveCall, resolves, branch_by}
+use Rattle.xa_atomicity.proofs.Words.{IsOutcomeOf, ResolveCall, resolves, branch_by, Any-from_list_any}
 use Rattle.xa_driver.specs.{Prepared, Done}
-use Rattle.std.proofs.lemmas.List.Folds.{Any-from_list_any}
 use Rattle.xa_atomicity.proofs.CutVotes.{CameAt, IsVoteOf, each_came, at_asking, at_forgetting, at_telling, begun_sends, ended_voted, other_sends, told_voted}
 use Rattle.xa_atomicity.proofs.CutVotes.{did_nothing, all_sent}
 use Rattle.xa_atomicity.proofs.Sites.{none_all}
-use Rattle.xa_atomicity.proofs.Records.{recorded_is, none_on_abort}
-use Rattle.xa_atomicity.proofs.OneOutcome.{second_so, third_so, every_manager, positive_all}
+use Rattle.xa_atomicity.proofs.OneOutcome.{recorded_is, none_on_abort, second_so, third_so, every_manager, positive_all}
 use Rattle.xa_atomicity.proofs.Resolves.{Sends, on, stays, asks_on, resolve_sends}
 
 -- ---- what isn't among what was sent

@@ -11,14 +11,12 @@ use Rattle.xa_atomicity.proofs.Words.{false_from_ne_true, or_from, eqb-true, beg
 use Rattle.xa_atomicity.proofs.Words.{at_false, has_yes, voted_yes, yes_of, is_yes, AreBranchesRising, Logs, decision_of, EachBranch, IsCommit, IsTranOf}
 use Rattle.xa_atomicity.proofs.Words.{voted, IsAnswered, IsBegun, asked, collected, in_flight, unasked, second_op, third_op, ending_of, both_ways, Begins}
 use Rattle.xa_atomicity.proofs.Words.{RmFail, Request, learnt_shut, with_sent, with_collected, HaveGrown, DeskView, LogState, Any, IsAskedFor, any_asked}
-use Rattle.xa_atomicity.proofs.Words.{trace_of}
+use Rattle.xa_atomicity.proofs.Words.{trace_of, Contains-push}
 use Rattle.xa_driver.specs.{Done}
-use Rattle.std.proofs.lemmas.List.Elements.{Contains-push}
 use Rattle.xa_atomicity.proofs.Settled.{sent_between, by_ledger}
 use Rattle.xa_atomicity.proofs.Sites.{Parted, request_of, part, numbered_both, at_seam}
 use Rattle.xa_atomicity.proofs.Resolves.{Sends, resolve_sends, asked_sends, stays, on, contains_on}
-use Rattle.xa_atomicity.proofs.Records.{is_marked, logs_keep}
-use Rattle.xa_atomicity.proofs.OneOutcome.{branch_map, Traced}
+use Rattle.xa_atomicity.proofs.OneOutcome.{is_marked, logs_keep, branch_map, Traced}
 
 -- what a thread sent to a manager
 pub sent_is : (s : Settling) (m : ℕ) → 1 ≤ m → (t : ℕ) → sent s t m ≡ (ledger (ledgers_of s t) m).sent
@@ -159,12 +157,6 @@ vote_there P b v a a' pairs open_ h begins =
 
 -- ---- all of them
 
-pub vote_map : (P Q : Branch → Code → Type 0) → ((b : Branch) (v : Code) → P b v → Q b v) → (bs : List Branch) (vs : List Code) → EachVote P bs vs
-    → EachVote Q bs vs
-vote_map P Q f [] [] h = tt
-vote_map P Q f (b ∷ bs) (v ∷ vs) h = (f b v h.0, vote_map P Q f bs vs h.1)
-vote_map P Q f bs vs h = absurd h
-
 pub branch_votes : (P : Branch → Code → Option Code → Ending → Type 0) (Q : Branch → Code → Type 0)
     → ((b : Branch) (v : Code) (s : Option Code) (e : Ending) → P b v s e → Q b v)
     → (bs : List Branch) (vs : List Code) (ss : List (Option Code)) (es : List Ending) → EachBranch P bs vs ss es → EachVote Q bs vs
@@ -176,17 +168,12 @@ branch_votes P Q f bs vs ss es h = absurd h
 abbrev pub Votes : List LedgerView → List LedgerView → Branch → Code → Type 0
 Votes old new b v = HasVoted Any b v (ledger old b.m) (ledger new b.m)
 
-told_votes : (commit : Bool) (old new : List LedgerView) (bs : List Branch) (vs : List Code)
-    → EachVote (λ b v. IsTold commit b v (ledger old b.m) (ledger new b.m)) bs vs → EachVote (Votes old new) bs vs
-told_votes commit old new = search (arith, vote_map, told_voted, any_asked)
-
 abbrev pub Ended : Bool → List LedgerView → List LedgerView → Branch → Code → Option Code → Ending → Type 0
 Ended commit old new b v s e = IsEnded commit b v s (ledger old b.m) (ledger new b.m) × (e ≡ ending_of commit v s)
 
 -- what its coordinator knew of each branch is its ending
 pub known_each : (P : Branch → Code → Option Code → Ending → Type 0) (A : Type 0) (known : ℕ → Ending) (lo : ℕ) (bs : List Branch) (vs : List Code) (zs : List (Option Code)) (es : List Ending)
-    → AreBranchesRising lo bs
-    → ((n : ℕ) → lo < n → known_at n bs es ≡ known n) → (has_yes vs ≡ true → A) → EachBranch P bs vs zs es
+    → AreBranchesRising lo bs → ((n : ℕ) → lo < n → known_at n bs es ≡ known n) → (has_yes vs ≡ true → A) → EachBranch P bs vs zs es
     → EachBranch (λ b v z e. P b v z e × (known b.m ≡ e) × (is_yes v ≡ true → A)) bs vs zs es
 known_each P A known lo [] [] [] [] rising same some h = tt
 known_each P A known lo (b ∷ bs) (v ∷ vs) (z ∷ zs) (e ∷ es) rising same some h =
@@ -274,23 +261,18 @@ finished_law bs desk new log later d made = record {
 
 -- ---- where none may be to commit
 
-pub none_of : (P : Branch → Code → Type 0) (t : TranName) (m : ℕ) → ((b : Branch) (v : Code) → tran_of b.xid ≡ t → b.m ≡ m → P b v → is_yes v ≡ false)
+none_of : (P : Branch → Code → Type 0) (t : TranName) (m : ℕ) → ((b : Branch) (v : Code) → tran_of b.xid ≡ t → b.m ≡ m → P b v → is_yes v ≡ false)
     → (bs : List Branch) (vs : List Code) → IsTranOf bs t → EachVote P bs vs → voted_yes m bs vs ≡ false
 none_of P t m against [] [] tran h = refl
 none_of P t m against (b ∷ bs) (v ∷ vs) tran h = search (arith, none_of P t m against bs vs tran.1 h.1, or_from, eqb-true, tran.0, b.m, tran.1)
 none_of P t m against bs vs tran h = absurd h
-
--- where the desk has learnt that the manager is shut
-pub none_shut : (old new : List LedgerView) (t : TranName) (m : ℕ) → learnt_shut (ledger old m) ≡ true → (bs : List Branch) (vs : List Code) → IsTranOf bs t
-    → EachVote (Votes old new) bs vs → voted_yes m bs vs ≡ false
-none_shut old new t m shut = none_of (Votes old new) t m (λ b v of_tran same h. ap is_yes (h.prepared (ap (λ k. learnt_shut (ledger old k)) same ∙ shut)))
 
 -- where nothing but resolves names the transaction
 module _ (o : Opening) (kept : IsKept o) (t : TranName) (only : OnlyResolves t o) (m : ℕ) (up : IsUpTo MOST_MANAGERS m) where
   no_prepares : All (λ r. NamesTran t r.op → IsNoPrepare r.op) (history_of o.settled m)
   no_prepares = named_so o.settled kept.settled m up IsNoPrepare t o.uses (λ y e. cc) kept.uses (λ q _ p _. no_prepare q.records m p) (only m)
 
-  no_vote : (u : ℕ) (old new : List LedgerView) → HaveGrown new (ledgers_of o.settled u) → (b : Branch) (v : Code) → tran_of b.xid ≡ t → b.m ≡ m
+  pub no_vote : (u : ℕ) (old new : List LedgerView) → HaveGrown new (ledgers_of o.settled u) → (b : Branch) (v : Code) → tran_of b.xid ≡ t → b.m ≡ m
       → Votes old new b v → is_yes v ≡ false
   no_vote u old new grown b v of_tran same h =
       false_from_ne_true (is_yes v) (λ y.
@@ -300,22 +282,19 @@ module _ (o : Opening) (kept : IsKept o) (t : TranName) (only : OnlyResolves t o
       prepare_part o.settled kept.settled m up.0 u b.xid (ledger old m) (ledger new m) (grown.each m up.0) mine.rest.more (prepare_sent Any b v (ledger old m) (ledger new m) open_ mine) in
       all_mid (λ (r : Request). NamesTran t r.op → IsNoPrepare r.op) at.1.before at.1.after (request_of u (0 + length (ledger old m).sent) (Prepare b.xid)) (subst (All (λ (r : Request). NamesTran t r.op → IsNoPrepare r.op)) at.1.place no_prepares) of_tran b.xid refl)
 
-  pub none_resolved : (u : ℕ) (old new : List LedgerView) → HaveGrown new (ledgers_of o.settled u) → (bs : List Branch) (vs : List Code) → IsTranOf bs t
-      → EachVote (Votes old new) bs vs → voted_yes m bs vs ≡ false
-  none_resolved u old new grown = none_of (Votes old new) t m (no_vote u old new grown)
-
--- ---- what it leaves in the log
-
 -- a mark of the transaction stays, where its votes make none
 pub cut_keeps : (mark : Bool) (t : TranName) (m : ℕ) → IsUpTo MOST_MANAGERS m
     → (bs : List Branch) (desk : DeskView) (new : List LedgerView) (log later : LogState) (es : List Ending) (c : IsCut bs desk new log later es)
-    → ((vs : List Code) → EachVote (Votes desk.ledgers new) bs vs → c.may.tran ≡ t → mark ≡ false → voted_yes m bs vs ≡ false)
+    → (c.may.tran ≡ t → (b : Branch) (v : Code) → tran_of b.xid ≡ t → b.m ≡ m → Votes desk.ledgers new b v → is_yes v ≡ false)
     → is_marked log.records t m ≡ mark → is_marked later.records t m ≡ mark
 cut_keeps mark t m up bs desk new log later es c quiet e = so_far c.far
   where
     so_far : CameSoFar c.may.tran bs desk.ledgers new log later es → is_marked later.records t m ≡ mark
     so_far (asking same none each) = ap (λ (l : LogState). is_marked l.records t m) same ∙ e
     so_far (telling votes logged logs none each) =
-        logs_keep mark t m up bs votes logged log later c.may.tran c.may.absent (quiet votes (told_votes (decision_of votes logged) desk.ledgers new bs votes each)) e logs
+        logs_keep mark t m up bs votes logged log later c.may.tran c.may.absent (λ same _.
+        none_of (λ b v. IsTold (decision_of votes logged) b v (ledger desk.ledgers b.m) (ledger new b.m)) t m (λ b v of at h.
+        quiet same b v of at (told_voted Any (decision_of votes logged) b v (ledger desk.ledgers b.m) (ledger new b.m) (λ _ _. tt) (any_asked (second_op (decision_of votes logged) b.xid v)) h)) bs votes (subst (IsTranOf bs) same c.may.one) each) e logs
     so_far (forgetting votes logged seconds logs each) =
-        logs_keep mark t m up bs votes logged log later c.may.tran c.may.absent (quiet votes (ended_votes (decision_of votes logged) desk.ledgers new bs votes seconds es each)) e logs
+        logs_keep mark t m up bs votes logged log later c.may.tran c.may.absent (λ same _.
+        none_of (Votes desk.ledgers new) t m (quiet same) bs votes (subst (IsTranOf bs) same c.may.one) (ended_votes (decision_of votes logged) desk.ledgers new bs votes seconds es each)) e logs

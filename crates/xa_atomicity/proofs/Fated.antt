@@ -16,7 +16,7 @@ use Rattle.xa_tables.specs.declared.state.HeuristicDecision.TheVariants as decis
 use Rattle.xa_tables.specs.Histories as history
 use Rattle.xa_atomicity.proofs.Courses.{Unreached, Reads, Breaks, Stays, Agrees, Refuses, yes_is, read_is, Sends, SendsOne, Course, rest_forgets}
 use Rattle.xa_atomicity.proofs.Sites.{request_of, fates, fates_both, fate_is, last_both, closes_other, Site, above, Second, second_of}
-use Rattle.xa_atomicity.proofs.EndsByFate.{ended_known, tells_so}
+use Rattle.xa_atomicity.proofs.Guided.{ended_known, tells_so}
 use Rattle.xa_atomicity.proofs.Leading.{ends_fate}
 
 -- ---- who may name the branch
@@ -82,8 +82,7 @@ carried_out_by x op c f h is = cc
 
 -- a decision that was carried out after a Prepare, before what is after it
 pub decided_in : (t n : ℕ) (x : XidName) (T : Tables) (H before after : History) → H ≡ before ++ request_of t n (Prepare x) ∷ after → (g h : History)
-    → after ≡ g ++ h
-    → All (λ q. names x q.op ≡ true → is_heur q.op ≡ true) g → (d : HeuristicDecision)
+    → after ≡ g ++ h → All (λ q. names x q.op ≡ true → is_heur q.op ≡ true) g → (d : HeuristicDecision)
     → fates x g (next t (Prepare x) (tables_after before T)).0 ≡ decided_fate d ∷ [] → IsDecidedAfter x t n T H
 decided_in t n x T H before after place g h split heur d made =
     let p = found x (decided_fate d) g (next t (Prepare x) (tables_after before T)).0 made in

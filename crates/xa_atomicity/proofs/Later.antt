@@ -23,11 +23,10 @@ use Rattle.xa_atomicity.proofs.Guided.{ended_there, told_there, decided_known, k
 use Rattle.xa_atomicity.proofs.Sites.{request_of, part, numbered_both, fates, own_all, code_there, count_two}
 use Rattle.xa_atomicity.proofs.Resolves.{IsAnsweredIn, IsNoClose, left_has, outcome_asked}
 use Rattle.xa_atomicity.proofs.CutVotes.{named_so, named_tran, sent_is}
-use Rattle.xa_atomicity.proofs.Records.{FindsMark}
+use Rattle.xa_atomicity.proofs.OneOutcome.{FindsMark}
 use Rattle.xa_atomicity.proofs.Settled.{by_ledger, answered_of}
 
--- ---- a fate, once it ended as was decided
-
+-- a fate, once it ended as was decided
 pub last_ended : (commit : Bool) (fs : List Fate) (g : Fate) → g ≡ ended_as commit → All (λ h. h ≡ ended_as commit) fs → last_or g fs ≡ ended_as commit
 last_ended commit [] g e all = e
 last_ended commit (f ∷ fs) g e all =
@@ -110,8 +109,7 @@ module _ (commit : Bool) (D L : Type 0) (t : ℕ) (x : XidName) (T : Tables) (H 
   rest_here = all_after (λ (r : Request). IsTowards commit L x r.op) before ends z.rest all_here
 
   now : Standing commit true D L x U (last_or f (fates x before T))
-  now =
-      led_after commit true D L x before T f (all_left (λ (r : Request). IsTowards commit L x r.op) before (ends ∷ z.rest) all_here) st
+  now = led_after commit true D L x before T f (all_left (λ (r : Request). IsTowards commit L x r.op) before (ends ∷ z.rest) all_here) st
 
   open_now : U.shut ≡ false
   open_now = false_from_ne_true (U.shut) (λ shut. reached (z.code_is ∙ ap (λ (a : Answer). a.1) (next-shut t op U shut)))

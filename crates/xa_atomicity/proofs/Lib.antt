@@ -8,10 +8,8 @@ pub mod Settled
 pub mod Conserved
 pub mod Leading
 pub mod Resolves
-pub mod Records
 pub mod CutVotes
 pub mod Later
-pub mod EndsByFate
 pub mod Guided
 pub mod CutBranch
 pub mod BranchEnds
@@ -20,4 +18,3 @@ pub mod Resolution
 pub mod CutSends
 pub mod Staged
 pub mod NextOpening
-pub mod OutcomeFates

@@ -1,22 +1,22 @@
 -- One outcome for each global transaction whose commit was cut short, over openings one after another: no later use of the
 -- log marks a manager of one that was decided to abort.
 use Rattle.xa_atomicity.proofs.Words.{arith, ◌≡◌, ℕ, Bool, true, List, [], ◌∷◌, get_or, subst, false, All, All-nil, All-append, All-head, All-tail, voted_yes}
-use Rattle.xa_atomicity.proofs.Words.{IsTranOf, Code, TranName, MOST_MANAGERS, IsUpTo, learnt_shut, ledger, Settling, EachVote, IsOfAnother, CommitCall}
-use Rattle.xa_atomicity.proofs.Words.{CutCall, GoesOnAfter, OfCommit, Use, commits, cuts, resolves, Opening, IsByItsThread, IsKept, IsUseIn, OnlyResolves}
-use Rattle.xa_atomicity.proofs.Words.{uses_of, rules, option_map, is_some, ◌≢◌, zero, ◌+◌, ◌++◌, length, sym, refl, ap, ◌∙◌, Option, Some, None, Contains}
-use Rattle.xa_atomicity.proofs.Words.{All-cons, All-contains, Contains-append_right, all_after, all_mid, all_right, at_true, Begins, tran_of, Done, RmFail}
-use Rattle.xa_atomicity.proofs.Words.{Op, Prepare, Request, Tables, state_of, is_left_in, Fate, IsFateOf, coded, fate, tables_after, told_by, History}
-use Rattle.xa_atomicity.proofs.Words.{as_left, LedgerView, HasGrown, HaveGrown, requests, reopened_at, IsOpenedWith, first_of, history as history_of}
-use Rattle.xa_atomicity.proofs.Words.{ledgers_of, ManagerPart, IsSettled, answers, find_manager, journal, journal_in, sent, Branch, Outcome, is_yes, yes_of}
-use Rattle.xa_atomicity.proofs.Words.{ending_of, is_decided, yes_ending, outcome_op, AreBranchesRising, HaveRoom, Logs, decision_of, IsAsked, IsCut, IsEnded}
-use Rattle.xa_atomicity.proofs.Words.{is_recorded, OnlyTheseOrDecisionsName, AskedAreLeft, CountsByTheLog, EndsByTheLog, IsResolvedAfter, VotedToCommit}
-use Rattle.xa_atomicity.proofs.Words.{WasAsked, known_of, AreUses, IsFollowed, ResolveCall, Tabled, Records, one_tran}
+use Rattle.xa_atomicity.proofs.Words.{IsTranOf, Code, TranName, MOST_MANAGERS, IsUpTo, learnt_shut, ledger, Settling, IsOfAnother, CommitCall, CutCall}
+use Rattle.xa_atomicity.proofs.Words.{GoesOnAfter, OfCommit, Use, commits, cuts, resolves, Opening, IsByItsThread, IsKept, IsUseIn, OnlyResolves, uses_of}
+use Rattle.xa_atomicity.proofs.Words.{rules, option_map, is_some, ◌≢◌, zero, ◌+◌, ◌++◌, length, sym, refl, ap, ◌∙◌, Option, Some, None, Contains, All-cons}
+use Rattle.xa_atomicity.proofs.Words.{All-contains, Contains-append_right, all_after, all_mid, all_right, at_true, Begins, tran_of, Done, RmFail, Op, Prepare}
+use Rattle.xa_atomicity.proofs.Words.{Request, Tables, state_of, is_left_in, Fate, IsFateOf, coded, fate, tables_after, told_by, History, as_left, LedgerView}
+use Rattle.xa_atomicity.proofs.Words.{HasGrown, HaveGrown, requests, reopened_at, IsOpenedWith, first_of, history as history_of, ledgers_of, ManagerPart}
+use Rattle.xa_atomicity.proofs.Words.{IsSettled, answers, find_manager, journal, journal_in, sent, Branch, Outcome, is_yes, yes_of, ending_of, is_decided}
+use Rattle.xa_atomicity.proofs.Words.{yes_ending, outcome_op, AreBranchesRising, HaveRoom, Logs, decision_of, IsAsked, IsCut, IsEnded, is_recorded}
+use Rattle.xa_atomicity.proofs.Words.{OnlyTheseOrDecisionsName, AskedAreLeft, CountsByTheLog, EndsByTheLog, IsResolvedAfter, VotedToCommit, WasAsked}
+use Rattle.xa_atomicity.proofs.Words.{known_of, AreUses, IsFollowed, ResolveCall, Tabled, Records, one_tran}
 use Rattle.xa_switch.specs.{collected}
 use Rattle.xa_tables.specs.Histories as history
-use Rattle.xa_atomicity.proofs.CutVotes.{cut_keeps, finished_law, none_resolved, none_shut, Votes, CameAt, each_came, at_asking, at_forgetting, at_telling}
-use Rattle.xa_atomicity.proofs.CutVotes.{HasVoted, prepare_part}
-use Rattle.xa_atomicity.proofs.Records.{IsQuiet, is_marked, FindsMark, marks_stay, own_mark, some_yes, recorded_is}
-use Rattle.xa_atomicity.proofs.EndsByFate.{learnt_on, AtEnd, Comes, once}
+use Rattle.xa_atomicity.proofs.CutVotes.{cut_keeps, finished_law, Votes, CameAt, each_came, at_asking, at_forgetting, at_telling, HasVoted, prepare_part}
+use Rattle.xa_atomicity.proofs.CutVotes.{no_vote}
+use Rattle.xa_atomicity.proofs.OneOutcome.{IsQuiet, is_marked, FindsMark, marks_stay, own_mark, some_yes, recorded_is}
+use Rattle.xa_atomicity.proofs.Guided.{learnt_on, AtEnd, Comes, once}
 use Rattle.xa_atomicity.proofs.Settled.{sent_stands, by_ledger, collected_on, sent_on, site_of}
 use Rattle.xa_atomicity.proofs.Sites.{Site, StandsIn, request_of, fates}
 use Rattle.xa_atomicity.proofs.BranchEnds.{Follows, IsMarked, branch_follows}
@@ -27,8 +27,7 @@ use Rattle.xa_atomicity.proofs.Later.{ends_with}
 use Rattle.xa_atomicity.proofs.Resolves.{contains_on}
 
 -- what is shown of a commit that was cut short is shown of any
-pub of_commit : (s : Settling) (P Q : CutCall → Type 0) → ((k : CutCall) → IsUseIn s (cuts k) → P k → Q k) → (u : Use) → IsUseIn s u → OfCommit P u
-    → OfCommit Q u
+of_commit : (s : Settling) (P Q : CutCall → Type 0) → ((k : CutCall) → IsUseIn s (cuts k) → P k → Q k) → (u : Use) → IsUseIn s u → OfCommit P u → OfCommit Q u
 of_commit s P Q so (commits c) use_ p = search (arith, finished_law, c.desk, c.log, c.later, c.done)
 of_commit s P Q so (cuts k) use_ p = so k use_ p
 of_commit s P Q so (resolves q) use_ p = tt
@@ -44,15 +43,14 @@ module _ (mark : Bool) (t : TranName) (m : ℕ) (up : IsUpTo MOST_MANAGERS m) wh
 
   -- where what is known of a commit makes none of its votes be to commit
   quiet_so : (s : Settling) (P : CutCall → Type 0)
-      → ((k : CutCall) → IsUseIn s (cuts k) → P k → IsTranOf k.branches t → (vs : List Code) → EachVote (Votes k.desk.ledgers k.new) k.branches vs → voted_yes m k.branches vs ≡ false)
+      → ((k : CutCall) → IsUseIn s (cuts k) → P k → IsTranOf k.branches t → (b : Branch) (v : Code) → tran_of b.xid ≡ t → b.m ≡ m → Votes k.desk.ledgers k.new b v → is_yes v ≡ false)
       → (u : Use) → IsUseIn s u → OfCommit P u → OfCommit Stays u
-  quiet_so s P against = of_commit s P Stays (λ k w p. cut_keeps mark t m up k.branches k.desk k.new k.log k.later k.endings w.made (λ vs each same _.
-      against k w p (subst (IsTranOf k.branches) same w.made.may.one) vs each))
+  quiet_so s P against = of_commit s P Stays (λ k w p. cut_keeps mark t m up k.branches k.desk k.new k.log k.later k.endings w.made (λ same. against k w p (subst (IsTranOf k.branches) same w.made.may.one)))
 
   -- in an opening where nothing but resolves names the transaction
   quiet_opening : (o : Opening) → IsKept o → OnlyResolves t o → All (IsQuiet mark t m) o.uses
   quiet_opening o kept only j d lt =
-      quiet_so o.settled (λ k. Unit {0}) (λ k w _ tran vs each. none_resolved o kept t only m up k.thread k.desk.ledgers k.new w.grown k.branches vs tran each) (get_or o.uses j d) (kept.uses j d lt) (any_commit (get_or o.uses j d))
+      quiet_so o.settled (λ k. Unit {0}) (λ k w _ tran. no_vote o kept t only m up k.thread k.desk.ledgers k.new w.grown) (get_or o.uses j d) (kept.uses j d lt) (any_commit (get_or o.uses j d))
 
   pub quiet_openings : (os : List Opening) → All IsKept os → All (OnlyResolves t) os → All (IsQuiet mark t m) (uses_of os)
   quiet_openings [] kept only = All-nil (IsQuiet mark t m)
@@ -63,13 +61,14 @@ module _ (mark : Bool) (t : TranName) (m : ℕ) (up : IsUpTo MOST_MANAGERS m) wh
   pub quiet_after : (c : CommitCall) (s : Settling) (vs : List Use) → IsTranOf c.branches t → learnt_shut (ledger c.new m) ≡ true → All (IsUseIn s) vs
       → All (IsByItsThread c) vs → All (IsQuiet mark t m) vs
   quiet_after c s vs of_tran learnt uses own j d lt =
-      quiet_so s (λ k. (u : TranName) → IsTranOf c.branches u → IsTranOf k.branches u → GoesOnAfter c k.thread k.desk.ledgers) (λ k w own tran vs each.
-      none_shut k.desk.ledgers k.new t m (learnt_on (ledger c.new m) (ledger k.desk.ledgers m) ((own t of_tran tran).grown.each m up.0).collected learnt) k.branches vs tran each)
+      quiet_so s (λ k. (u : TranName) → IsTranOf c.branches u → IsTranOf k.branches u → GoesOnAfter c k.thread k.desk.ledgers) (λ k w own tran b v _ same h.
+      ap is_yes (h.prepared (ap (λ n. learnt_shut (ledger k.desk.ledgers n)) same ∙ learnt_on (ledger c.new m) (ledger k.desk.ledgers m) ((own t of_tran tran).grown.each m up.0).collected learnt)))
       (get_or vs j d) (uses j d lt) (own j d lt)
 
   -- after one that nobody commits again in its opening
   pub quiet_alone : (s : Settling) (vs : List Use) → All (IsUseIn s) vs → All (IsOfAnother t) vs → All (IsQuiet mark t m) vs
-  quiet_alone s vs uses alone j d lt = search (arith, quiet_so)
+  quiet_alone s vs uses alone j d lt =
+      quiet_so s (λ k. IsTranOf k.branches t → ⊥) (λ k w none tran. absurd (none tran)) (get_or vs j d) (uses j d lt) (alone j d lt)
 
 -- ---- the manager of a branch
 
@@ -82,8 +81,7 @@ part_there (Some p) before after r e = (p, refl)
 
 -- a branch that is left is there as the next opening begins
 left_next : (s : Settling) (b : Branch) (T : Tables) → IsSettled s → first_of s b.m ≡ Some T
-    → is_left_in (state_of (tables_after (history_of s b.m) T) b.xid) ≡ true
-    → is_left_in (state_of (reopened_at s.managers b.m) b.xid) ≡ true
+    → is_left_in (state_of (tables_after (history_of s b.m) T) b.xid) ≡ true → is_left_in (state_of (reopened_at s.managers b.m) b.xid) ≡ true
 left_next s b T settled begins left = search (arith, ends_with, begins, as_left, b.m)
 
 -- a branch that is left to the next opening: nothing but resolves names it later, and they find what was decided

@@ -10,10 +10,9 @@ use Rattle.xa_atomicity.specs.Worth.{is_committed}
 use Rattle.xa_atomicity.proofs.CutVotes.{known_each, prepare_there, vote_there, HasVoted, any_voted, ended_so, finished_law, shut_unless}
 use Rattle.xa_atomicity.proofs.BranchEnds.{Follows}
 use Rattle.xa_atomicity.proofs.Courses.{yes_is}
-use Rattle.xa_atomicity.proofs.EndsByFate.{doubted, Comes, learnt_in_doubt}
-use Rattle.xa_atomicity.proofs.OneOutcome.{unopposed, aborted, Traced}
+use Rattle.xa_atomicity.proofs.Guided.{doubted, Comes, learnt_in_doubt}
+use Rattle.xa_atomicity.proofs.OneOutcome.{unopposed, aborted, Traced, recorded_is}
 use Rattle.xa_atomicity.proofs.Presumed.{Followed, among_so, follows, use_there, uses_after, quiet_after}
-use Rattle.xa_atomicity.proofs.Records.{recorded_is}
 use Rattle.xa_atomicity.proofs.Settled.{each_outcome, told_in}
 
 module _ (law : Tabled) (first : (s : Settling) (m : ℕ) (T : Tables) → IsSettled s → first_of s m ≡ Some T → IsOpenedWith s m T)
@@ -143,8 +142,7 @@ module _ (law : Tabled) (first : (s : Settling) (m : ℕ) (T : Tables) → IsSet
   whole_law =
       record { each = all_yes (λ b e. is_heuristic e ≡ false → IsUnlisted b later → SharesOver o later c.thread b (length (before_of b).sent) (λ f. c.done.commit)) (λ b e z. z.2) }
 
-  -- ---- the decision
-
+  -- the decision
   pub resolved_law : IsAllOrNone c o later
   resolved_law =
       by_bool (λ _. IsAllOrNone c o later) (c.done.commit) (λ on. all on (unopposed tran c.branches c.desk c.new c.log c.later c.done made made.may.one on) all_ends)

@@ -7,11 +7,10 @@ use Rattle.xa_atomicity.proofs.Words.{was_mapped, at_false, xid_self, both_ways,
 use Rattle.xa_atomicity.proofs.Words.{IsUpTo, more, XidName, xid_eq, Decides-xid_eq, RmFail, Op, OpenRm, CloseRm, Code, LedgerView, learnt_shut, with_sent}
 use Rattle.xa_atomicity.proofs.Words.{with_collected, ledger, HasGrown, ScanView, left_at, contains_map, get_contained, Outcome, AskTrace, asked, AsksIf}
 use Rattle.xa_atomicity.proofs.Words.{AsksLedger, IsTraceOfResolve, ResolvesAt, ResolvesBranch, is_to_commit, outcome_op, Records, Any, Asks, IsAskedFor}
-use Rattle.xa_atomicity.proofs.Words.{anything, if_by, outcome_by, outcomes_by, resolves_by}
+use Rattle.xa_atomicity.proofs.Words.{anything, if_by, outcome_by, outcomes_by, resolves_by, Forget, grown_on, is_decided, Contains-push}
 use Rattle.std.proofs.lemmas.Map.Views.{Contains-from_any}
 use Rattle.xa_base.specs.{none}
-use Rattle.std.proofs.lemmas.List.Elements.{Contains-push}
-use Rattle.xa_atomicity.proofs.EndsByFate.{learnt_on}
+use Rattle.xa_atomicity.proofs.Guided.{learnt_on}
 
 -- ---- what is sent
 
@@ -61,17 +60,14 @@ contains_flat f [] x k lt e y c = absurd (omega (arith, lt))
 contains_flat {A} f (z ∷ xs) x zero lt e y c = Contains-append_left (f z) (flat_map f xs) y (subst (λ (w : A). Contains (f w) y) (sym e) c)
 contains_flat f (z ∷ xs) x (suc k) lt e y c = Contains-append_right (f z) (flat_map f xs) y (contains_flat f xs x k (omega (arith, lt)) e y c)
 
-contains_upto : {B : Type 0} (f : ℕ → List B) (most m : ℕ) → IsUpTo most m → (y : B) → Contains (f m) y → Contains (flat_map f (range_with_len 1 most)) y
-contains_upto f most m up y c =
-    let lo = up.0 in
-    let hi = up.1 in
-    let size = length-range_with_len 1 most in
-    let same : 1 + (m - 1) ≡ m = omega (arith, lo) in
-    contains_flat f (range_with_len 1 most) m (m - 1) (omega (arith, lo, hi, size)) (get_or-range_with_len 1 most (m - 1) m (omega (arith, lo, hi)) ∙ same) y c
-
 module _ (z : ScanView) (records : Records) (old new : List LedgerView) (outcomes : List Outcome) (trace : IsTraceOfResolve z records old new outcomes) where
   pub of_all : (m : ℕ) → IsUpTo MOST_MANAGERS m → (o : Outcome) → Contains (trace.course.at m) o → Contains outcomes o
-  of_all m up o c = subst (λ os. Contains os o) (sym trace.course.outcomes_are) (contains_upto trace.course.at MOST_MANAGERS m up o c)
+  of_all m up o c =
+      let lo = up.0 in
+      let hi = up.1 in
+      let same : 1 + (m - 1) ≡ m = omega (arith, lo) in
+      subst (λ os. Contains os o) (sym trace.course.outcomes_are)
+      (contains_flat trace.course.at (range_with_len 1 MOST_MANAGERS) m (m - 1) (omega (arith, lo, hi, length-range_with_len 1 MOST_MANAGERS)) (get_or-range_with_len 1 MOST_MANAGERS (m - 1) m (omega (arith, lo, hi)) ∙ same) o c)
 
   -- what a resolve sends to a manager
   pub resolve_sends : (P : Op → Type 0) (m : ℕ) → IsUpTo MOST_MANAGERS m → P OpenRm → ((o : Outcome) → Contains outcomes o → Asks P records m o)
@@ -91,40 +87,8 @@ ends_open false x e = cc
 no_close : (records : Records) (m : ℕ) (o : Outcome) → Asks IsNoClose records m o
 no_close records m o = record { ends = λ _ _. ends_open o.commit o.xid; forgets = λ _ _ e. cc }
 
--- the branch of the outcome was asked to end: before it and after it others were, and none of these requests closes
-pub record Asked (records : Records) (m : ℕ) (o : Outcome) (a a' : LedgerView) : Type 0 where
-  pub manager : o.m ≡ m
-  pub decision : o.commit ≡ is_to_commit records m o.xid
-  pub now : LedgerView
-  pub decided : LedgerView
-  pub before : Sends IsNoClose a now
-  pub obeys : AskTrace (Some (outcome_op o.commit o.xid)) (Some o.code) now decided
-  pub after : Sends Any decided a'
-
-module _ (records : Records) (m : ℕ) (o : Outcome) where
-  asked_last : (xs : List Outcome) (p : Outcome) (a now last : LedgerView) → Chain (ResolvesBranch AsksLedger records m) a xs now
-      → ResolvesBranch AsksLedger records m p now last → p ≡ o → Asked records m o a last
-  asked_last xs p a now last chain leads same = search (arith, chain_sends, no_close, asks_if)
-
-  asked_before : (p : Outcome) (a now last : LedgerView) → ResolvesBranch AsksLedger records m p now last → Asked records m o a now → Asked records m o a last
-  asked_before p a now last r s = record {
-    manager = s.manager;
-    decision = s.decision;
-    now = s.now;
-    decided = s.decided;
-    before = s.before;
-    obeys = s.obeys;
-    after = outcome_by AsksLedger Any (Sends Any s.decided) (asks_on Any s.decided) records m p now last (anything records m p) r s.after;
-  }
-
-  none_there : Contains [] o → ⊥
-  none_there (k, lt, e) = absurd (omega (arith, lt))
-
-  chain_asked : (a : LedgerView) (os : List Outcome) (a' : LedgerView) → Chain (ResolvesBranch AsksLedger records m) a os a' → Contains os o
-      → Asked records m o a a'
-  chain_asked a _ _ (none xs last e f) there = absurd (none_there (subst (λ ws. Contains ws o) e there))
-  chain_asked a _ _ (more xs p now last chain leads) there =
-      ⊎_elim (λ (c : Contains xs o). asked_before p a now last leads (chain_asked a xs now chain c)) (λ (same : p ≡ o). asked_last xs p a now last chain leads same) (Contains-push_cases xs p o there)
+none_there : {A : Type 0} (x : A) → Contains [] x → ⊥
+none_there x (k, lt, e) = absurd (omega (arith, lt))
 
 -- ---- the lists of one that was asked, and answered
 
@@ -145,9 +109,9 @@ sent_so : (a a' : LedgerView) (op : Op) (code : Code) → learnt_shut a ≡ fals
     → a' ≡ with_collected (with_sent a op) (length a.sent) code
 sent_so a a' op code open_ tr = tr.trace ∙ at_false (learnt_shut a) _ _ open_
 
-module _ (a opened now decided new last : LedgerView) (op : Op) (first code : Code) (opens : AskTrace (Some OpenRm) (Some first) a opened)
+module _ (a opened now decided last : LedgerView) (op : Op) (first code : Code) (opens : AskTrace (Some OpenRm) (Some first) a opened)
     (before : Sends IsNoClose opened now) (obeys : AskTrace (Some op) (Some code) now decided)
-    (after : Sends Any decided new) (grown : HasGrown new last) (reached : code ≢ RmFail) where
+    (grown : HasGrown decided last) (reached : code ≢ RmFail) where
   open_now : learnt_shut now ≡ false
   open_now = false_from_ne_true (learnt_shut now) (λ shut. reached (obeys.answered shut))
 
@@ -160,18 +124,18 @@ module _ (a opened now decided new last : LedgerView) (op : Op) (first code : Co
   decided_is : decided ≡ with_collected (with_sent now op) (length now.sent) code
   decided_is = sent_so now decided op code open_now obeys
 
-  last_sent : last.sent ≡ a.sent ++ OpenRm ∷ (before.more ++ op ∷ (after.more ++ grown.sent.0))
+  last_sent : last.sent ≡ a.sent ++ OpenRm ∷ (before.more ++ op ∷ grown.sent.0)
   last_sent = search (arith, decided_is, append_assoc, now_sent)
 
   pub answered_in : IsAnsweredIn op code a last.sent last.collected
   answered_in = record {
     mid = before.more;
-    later = after.more ++ grown.sent.0;
+    later = grown.sent.0;
     sent = last_sent;
     open_ = before.all;
     told =
         let number : length now.sent ≡ suc (length a.sent) + length before.more = ap length now_sent ∙ (let e = length-append a.sent (OpenRm ∷ before.more) in omega (arith, e)) in
-        contains_on decided.collected last.collected (suc (length a.sent) + length before.more, code) (begins_on _ _ _ after.collected grown.collected)
+        contains_on decided.collected last.collected (suc (length a.sent) + length before.more, code) grown.collected
         (subst (λ k. Contains decided.collected (k, code)) number (subst (λ (l : LedgerView). Contains l.collected (length now.sent, code)) (sym decided_is) (Contains-push now.collected (length now.sent, code))));
   }
 
@@ -183,16 +147,33 @@ pub record IsAsked (records : Records) (m : ℕ) (o : Outcome) (a last : LedgerV
   pub decision : o.commit ≡ is_to_commit records m o.xid
   pub answered : o.code ≢ RmFail → IsAnsweredIn (outcome_op o.commit o.xid) o.code a last.sent last.collected
 
+module _ (records : Records) (m : ℕ) (a opened last : LedgerView) (first : Code) (opens : AskTrace (Some OpenRm) (Some first) a opened) where
+  grows : (c d : LedgerView) → Sends Any c d → HasGrown d last → HasGrown c last
+  grows c d z = grown_on c d last (record { sent = (z.more, z.sent); collected = z.collected })
+
+  one_asked : (p : Outcome) (now next : LedgerView) → Sends IsNoClose opened now → ResolvesBranch AsksLedger records m p now next → HasGrown next last
+      → IsAsked records m p a last
+  one_asked p now next before leads grown = record {
+    manager = leads.manager;
+    decision = leads.decision;
+    answered =
+        answered_in a opened now leads.decided last (outcome_op p.commit p.xid) first p.code opens before leads.obeys
+        (grows leads.decided next (asks_if Any (is_decided p.code) leads.decided next (Forget p.xid) (λ _. tt) leads.forgets) grown);
+  }
+
+  chain_asked : (os : List Outcome) (a' : LedgerView) → Chain (ResolvesBranch AsksLedger records m) opened os a' → HasGrown a' last → (o : Outcome) → Contains os o
+      → IsAsked records m o a last
+  chain_asked _ _ (none xs z e f) grown o there = absurd (none_there o (subst (λ ws. Contains ws o) e there))
+  chain_asked _ _ (more xs p now next chain leads) grown o there =
+      ⊎_elim (λ (c : Contains xs o).
+      chain_asked xs now chain (grows now next (outcome_by AsksLedger Any (Sends Any now) (asks_on Any now) records m p now next (anything records m p) leads (stays Any now)) grown) o c)
+      (λ (same : p ≡ o).
+      subst (λ q. IsAsked records m q a last) same (one_asked p now next (chain_sends IsNoClose records m opened xs now (λ q _. no_close records m q) chain) leads grown)) (Contains-push_cases xs p o there)
+
 at_asked : (records : Records) (m : ℕ) (xs : List XidName) (os : List Outcome) (a a' last : LedgerView) → ResolvesAt AsksLedger records m xs os a a'
     → HasGrown a' last → (o : Outcome) → Contains os o → IsAsked records m o a last
-at_asked records m [] os a a' last h grown o there = absurd (none_there records m o (subst (λ ws. Contains ws o) h.0 there))
-at_asked records m (x ∷ xs) os a a' last h grown o there =
-    let s : Asked records m o h.opened a' = chain_asked records m o h.opened os a' h.each there in
-    record {
-      manager = s.manager;
-      decision = s.decision;
-      answered = λ reached. answered_in a h.opened s.now s.decided a' last (outcome_op o.commit o.xid) h.code o.code h.opens s.before s.obeys s.after grown reached;
-    }
+at_asked records m [] os a a' last h grown o there = absurd (none_there o (subst (λ ws. Contains ws o) h.0 there))
+at_asked records m (x ∷ xs) os a a' last h grown o there = chain_asked records m a h.opened last h.code h.opens os a' h.each grown o there
 
 -- a branch that was left has one
 has_outcome : (records : Records) (m : ℕ) (x : XidName) (xs : List XidName) (os : List Outcome) (a a' : LedgerView) → ResolvesAt AsksLedger records m xs os a a'
@@ -206,7 +187,7 @@ has_outcome records m x (y ∷ xs) os a a' h there =
 
 at_left : (records : Records) (m : ℕ) (xs : List XidName) (os : List Outcome) (a a' : LedgerView) → ResolvesAt AsksLedger records m xs os a a' → (o : Outcome)
     → Contains os o → list_any (xid_eq o.xid) xs ≡ true
-at_left records m [] os a a' h o there = absurd (none_there records m o (subst (λ ws. Contains ws o) h.0 there))
+at_left records m [] os a a' h o there = absurd (none_there o (subst (λ ws. Contains ws o) h.0 there))
 at_left records m (x ∷ xs) os a a' h o there =
     let c : Contains (x ∷ xs) o.xid = subst (λ ys. Contains ys o.xid) h.xids_are (contains_map (λ (w : Outcome). w.xid) os o there) in
     any_at (xid_eq o.xid) (x ∷ xs) c.0 o.xid (get_contained (x ∷ xs) o.xid c) (xid_self o.xid)

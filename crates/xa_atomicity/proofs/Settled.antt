@@ -212,8 +212,7 @@ module _ (law : Tabled) (opened : (s : Settling) (m : ℕ) → IsSettled s → (
 
     module _ (b : Branch) (vote : Code) (second : Option Code) (ending : Ending) (is : InHistory b vote second ending) where
       one_told : OnlyTheseOrDecisionsName b.xid t (old b.m) (new b.m) (history_of s b.m) → (before : Fate) (T : Tables) → IsOpenedWith s b.m T
-          → IsFateOf b.xid before T
-          → Told t b.xid before T (history_of s b.m) (old b.m) vote ending
+          → IsFateOf b.xid before T → Told t b.xid before T (history_of s b.m) (old b.m) vote ending
       one_told only before T with_T fits =
           branch_told (site_of law s settled t b.m T with_T) b.xid (old b.m) (new b.m) commit vote ending (is T with_T).0 before fits only
 
@@ -247,16 +246,6 @@ module _ (law : Tabled) (opened : (s : Settling) (m : ℕ) → IsSettled s → (
             counted = λ U with_U. branch_counts (site_of law s settled t b.m U with_U) b.xid (old b.m) (new b.m) commit vote ending (is U with_U).0 only;
             undecided = λ no. ap is_heuristic ends ∙ unless_against is_heuristic commit vote second refl (λ y. sym (ap is_heuristic ends) ∙ plain y) no;
           }
-
-    -- each of them
-    module _ (bs : List Branch) (vs : List Code) (zs : List (Option Code)) (es : List Ending) (each : EachBranch InHistory bs vs zs es) where
-      pub each_fated : AreLeftOrDecided s t bs old new → EachOutcome (λ b v e. Fated b (old b.m) v e) bs vs es
-      each_fated alone = search (arith, each_outcome, one_fated, each, alone.each)
-
-      pub each_both : AreLeftAlone s t bs old new → EachOutcome (λ b v e. Both b (old b.m) (new b.m) v e) bs vs es
-      each_both alone = search (arith, each_outcome, one_both, each, alone.each)
-
-  -- ---- all of a transaction or nothing
 
   -- an ending of a call that is decided, where one branch or none was committed
   ending_is : (whole : Bool) (e : Ending) → (whole ≡ true → is_rolled_back e ≡ false) → (whole ≡ true → is_heuristic e ≡ false)
@@ -304,7 +293,9 @@ module _ (law : Tabled) (opened : (s : Settling) (m : ℕ) → IsSettled s → (
 
     module _ (alone : AreLeftOrDecided s t bs (sent_so_far at) (sent_so_far new)) where
       all_fated : EachOutcome (λ b v e. Fated b (sent_so_far at b.m) v e) bs d.votes.items d.endings.items
-      all_fated = each_fated settled d.commit (sent_so_far at) (sent_so_far new) bs d.votes.items made.trace.course.seconds d.endings.items each alone
+      all_fated =
+          each_outcome (λ b. OnlyTheseOrDecisionsName b.xid t (sent_so_far at b.m) (sent_so_far new b.m) (history_of s b.m)) In (λ b v e. Fated b (sent_so_far at b.m) v e) (λ b v z e only is.
+          one_fated settled d.commit (sent_so_far at) (sent_so_far new) b v z e is only) bs d.votes.items made.trace.course.seconds d.endings.items alone.each each
 
       pub votes_law : KeepsTheVotes s t bs (sent_so_far at) d
       votes_law = search (arith, each, outcome_map, all_fated)
@@ -314,7 +305,9 @@ module _ (law : Tabled) (opened : (s : Settling) (m : ℕ) → IsSettled s → (
 
     module _ (alone : AreLeftAlone s t bs (sent_so_far at) (sent_so_far new)) where
       pub all_outcomes : EachOutcome (λ b v e. Both b (sent_so_far at b.m) (sent_so_far new b.m) v e) bs d.votes.items d.endings.items
-      all_outcomes = each_both settled d.commit (sent_so_far at) (sent_so_far new) bs d.votes.items made.trace.course.seconds d.endings.items each alone
+      all_outcomes =
+          each_outcome (λ b. OnlyTheseName b.xid t (sent_so_far at b.m) (sent_so_far new b.m) (history_of s b.m)) In (λ b v e. Both b (sent_so_far at b.m) (sent_so_far new b.m) v e) (λ b v z e only is.
+          one_both settled d.commit (sent_so_far at) (sent_so_far new) b v z e is only) bs d.votes.items made.trace.course.seconds d.endings.items alone.each each
 
       pub counts_law : CountsTheCommitted s t bs (sent_so_far at) d
       counts_law = search (arith, each, outcome_map, all_outcomes)
@@ -326,8 +319,7 @@ module _ (law : Tabled) (opened : (s : Settling) (m : ℕ) → IsSettled s → (
           let whole = committed_law made.may.tran bs desk new log later d made made.may.one in
           record { each = each_whole (has_committed d) (sent_so_far at) (sent_so_far new) bs d.votes.items d.endings.items (λ some. (whole some).kept) (λ some. (whole some).unopposed) (λ e. e) none.0 none.1 all_outcomes }
 
--- ---- a commit only makes the lists grow
-
+-- a commit only makes the lists grow
 traced_grows : (commit : Bool) (b : Branch) (v : Code) (z : Option Code) (e : Ending) (a a' : LedgerView) → AtBranch AsksLedger commit b v z e a a'
     → HasGrown a a'
 traced_grows commit b v z e a a' is =

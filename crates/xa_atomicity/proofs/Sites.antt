@@ -3,15 +3,13 @@ use Rattle.xa_atomicity.proofs.Words.{map-append, ◌≡◌, ◌≢◌, ℕ, zer
 use Rattle.xa_atomicity.proofs.Words.{get_or, sym, refl, ap, ◌∙◌, arith, Option, Some, None, filter, cons_option, eq-eqb, filter-append, some_pair_parts}
 use Rattle.xa_atomicity.proofs.Words.{XidName, Op, Request, Code, Tables, next, Fate, of_thread, tables_after, coded, fate_of, fate_in, fates_in, last_or}
 use Rattle.xa_atomicity.proofs.Words.{History, numbered, Entry, answers, rules, Bool, ◌≤◌, length-append, subst, eqb-false, ne_eqb, list_any, All, All-nil}
-use Rattle.xa_atomicity.proofs.Words.{All-cons, slice_get_within, and_right, closes, is_close, numbered_length, All-contains, Contains, ◌-◌, ◌||◌, some_same}
-use Rattle.xa_atomicity.proofs.Words.{all_left, all_after, RmFail, IsOpening, tables_after-append, is_rm_fail, Tabled, both_ways, false_from_ne_true}
+use Rattle.xa_atomicity.proofs.Words.{All-cons, slice_get_within, and_right, closes, is_close, All-contains, Contains, ◌-◌, ◌||◌, some_same, all_left}
+use Rattle.xa_atomicity.proofs.Words.{all_after, RmFail, IsOpening, tables_after-append, is_rm_fail, Tabled, both_ways, false_from_ne_true, all_at}
+use Rattle.xa_atomicity.proofs.Words.{next_there, take-append-drop, take, drop, get_or_from_slice_get, list_any_at, filter_map-append}
+use Rattle.xa_driver.proofs.Ledgers.{numbered_length}
 use Rattle.xa_tables.proofs.WorkLaw.{others_first}
-use Rattle.xa_base.proofs.{all_at, next_there, take-append-drop, take, drop, slice_get_within}
 use Rattle.std.proofs.lemmas.List.{get_or-append_right, get_or_append_left, length-take-le}
-use Rattle.std.proofs.lemmas.Option.{get_or_from_slice_get}
-use Rattle.std.proofs.lemmas.List.Folds.{list_any_at}
 use Rattle.std.proofs.Common.{drop-cons}
-use Rattle.std.proofs.lemmas.List.Elements.{filter_map-append}
 
 -- thread t's request of number n
 abbrev pub request_of : ℕ → ℕ → Op → Request
@@ -97,8 +95,7 @@ module _ (t : ℕ) where
       → slice_get (answers t (coded (before ++ r ∷ after) T)) n ≡ Some (r.number, (next r.thread r.op (tables_after before T)).1)
   answer_at before after r T n own count = search (arith, eq-eqb, slice_get, coded_both, answers_both, answers_length, at_seam, r.thread, r.op)
 
--- ---- numbers
-
+-- numbers
 pub numbered_both : (t n : ℕ) (xs ys : List Op) → numbered t n (xs ++ ys) ≡ numbered t n xs ++ numbered t (n + length xs) ys
 numbered_both t n [] ys = ap (λ k. numbered t k ys) (let e : n ≡ n + 0 = omega arith in e)
 numbered_both t n (x ∷ xs) ys = search (arith, numbered_both t (suc n) xs ys)
@@ -183,8 +180,6 @@ own_between t P h pre mid post e all =
     let is : get_or mid (k - length pre) op ≡ op =
     sym (get_or-append_right pre (mid ++ post) (length pre) k op refl past ∙ get_or_append_left mid post op (k - length pre) in_mid) ∙ get_or_from_slice_get (pre ++ (mid ++ post)) k op op at in
     subst P is (all (k - length pre) op in_mid))
-
--- ---- the code of a request
 
 -- it is the one that was collected
 pub code_there : (t : ℕ) (H : History) (T : Tables) (pairs : List (ℕ × Code)) (n : ℕ) (code : Code)
@@ -282,8 +277,6 @@ module _ {t : ℕ} {T : Tables} {H : History} (s : Site t T H) where
     code = z.code ∙ same_code _ n n _ _ (answered_here n op z.before z.after z.place) (answered_here n op before after place);
   }
 
--- ---- a request by what was sent and what was answered
-
 -- what was sent with a number, and answered by a code, stands in the history
 pub stands_by : {t : ℕ} {T : Tables} {H : History} (s : Site t T H) (n : ℕ) (op : Op) (c : Code) → slice_get s.ops n ≡ Some op
     → slice_get (answers t (coded H T)) n ≡ Some (n, c) → StandsIn t n op c T H
@@ -344,8 +337,7 @@ module _ {t : ℕ} {T : Tables} {H : History} (s : Site t T H) where
 
   -- so there is no other request of that number
   pub only_op : (n : ℕ) (op : Op) (c : Code) → StandsIn t n op c T H → All (λ r. r.thread ≡ t → r.number ≡ n → r.op ≡ op) H
-  only_op n op c f k d lt own number =
-      some_same (get_or H k d).op op (sym (op_of_number k d lt own) ∙ ap (slice_get s.ops) number ∙ op_at n op c f)
+  only_op n op c f k d lt own number = some_same (get_or H k d).op op (sym (op_of_number k d lt own) ∙ ap (slice_get s.ops) number ∙ op_at n op c f)
 
   -- the thread's next request after one: what is between the two is of other threads
   pub record Second (n : ℕ) (op : Op) (c : Code) (f : StandsIn t n op c T H) (then_ : Op) (d : Code) : Type 0 where

@@ -28,8 +28,7 @@ tells_begun k None a a' same = unasked same
 tells_begun zero (Some op) a a' put = puts_begun a a' op put
 tells_begun (suc k) (Some op) a a' answered = collected (Some answered.0) answered.1
 
--- ---- one branch
-
+-- one branch
 hears_told : (commit : Bool) (k : ℕ) (b : Branch) (v : Code) (a a' : LedgerView) → VotesAndHears AsksLedger PutsLedger commit k b v a a'
     → IsTold commit b v a a'
 hears_told commit k b v a a' h = record {
@@ -87,8 +86,7 @@ module _ (old new : List LedgerView) where
   died_told commit k (b ∷ bs) (v ∷ vs) h = (hears_told commit k b v (ledger old b.m) (ledger new b.m) h.0, died_told commit _ bs vs h.1)
   died_told commit k bs vs h = absurd h
 
--- ---- the death
-
+-- the death
 came_so_far : (at : Death) (tran : TranName) (bs : List Branch) (old new : List LedgerView) (log later : LogState) (known : Done)
     → Dies AsksLedger PutsLedger at tran bs (ledger old) (ledger new) log later known → CameSoFar tran bs old new log later known.endings.items
 came_so_far (death.Preparing k) tran bs old new log later known d = search (arith, died_asked, d.far.unlogged, d.far.endings, known.votes.items)
@@ -147,8 +145,7 @@ module _ (old mid now : List LedgerView) where
 
 module _ (commit : Bool) (old mid tell now : List LedgerView) where
   all_told : (bs : List Branch) (ks js : List Ask) → SameAsks (map first_ask bs) ks → SameAsks (map (second_ask commit) ks) js → EachAsk ks old mid
-      → All (Other mid tell) bs → All (Begun tell now) js
-      → EachVote (λ b v. IsTold commit b v (ledger old b.m) (ledger now b.m)) bs (map code_of ks)
+      → All (Other mid tell) bs → All (Begun tell now) js → EachVote (λ b v. IsTold commit b v (ledger old b.m) (ledger now b.m)) bs (map code_of ks)
   all_told [] [] js s q e f g = tt
   all_told (b ∷ bs) (k ∷ ks) (j ∷ js) s q e f g =
       let x = first_trace b k old mid s.0 e.0 in (
@@ -165,8 +162,7 @@ module _ (commit : Bool) (old mid tell now : List LedgerView) where
 module _ (commit : Bool) (old mid tell late start now : List LedgerView) where
   all_ended : (bs : List Branch) (ks js ls : List Ask) → SameAsks (map first_ask bs) ks → SameAsks (map (second_ask commit) ks) js
       → SameAsks (map third_ask js) ls → EachAsk ks old mid → All (Other mid tell) bs → EachAsk js tell late → All (Other late start) bs
-      → All (Begun start now) ls
-      → EachBranch (Ended commit old now) bs (map code_of ks) (map second_code js) (map (ending_of_ask commit) js)
+      → All (Begun start now) ls → EachBranch (Ended commit old now) bs (map code_of ks) (map second_code js) (map (ending_of_ask commit) js)
   all_ended [] [] [] ls s q u e f g h w = tt
   all_ended (b ∷ bs) (k ∷ ks) (j ∷ js) (l ∷ ls) s q u e f g h w =
       let x = first_trace b k old mid s.0 e.0 in
@@ -243,8 +239,7 @@ module _ (bs : List Branch) (desk : DeskView) (mid tell : List LedgerView) (log 
       managers = far.managers ∙ after.managers ∙ third.asked.managers ∙ between.managers ∙ first.asked.managers;
     }
 
--- ---- a stage that is let go
-
+-- a stage that is let go
 pub prepared_is_cut : (bs : List Branch) (desk : DeskView) (mid new : List LedgerView) (log : LogState) (p : Prepared) → MayCommit desk log bs
     → HasPrepared bs desk.ledgers mid p → LeavesBranches bs mid new → IsCut bs desk new log log []
 prepared_is_cut bs desk mid new log p may first between = search (arith, asking_cut, asks_so_far, first.same)

@@ -2,15 +2,15 @@
 -- move there, the share that a value has of an addition, by the fates of its branch, and both for a branch of a call.
 use Rattle.xa_atomicity.proofs.Words.{by_if, false_from_ne_true, and_parts, eqb-true, le-leb, ℤ, pos, ◌+ℤ◌, nat_le, if◌then◌else◌, ◌≡◌, ℕ, suc, ◌<◌, ◌≤◌}
 use Rattle.xa_atomicity.proofs.Words.{Bool, true, false, ◌==◌, ◌&&◌, List, [], ◌∷◌, ◌++◌, length, get_or, sym, refl, ap, ◌∙◌, arith, eq-eqb, All, ints}
-use Rattle.xa_atomicity.proofs.Words.{and-false, +ℤ_idl as none_plus, +ℤ_idr as plus_none, Answer, next, tables_after, is_done, moved, moved_by, held_by}
-use Rattle.xa_atomicity.proofs.Words.{Tables, History, lt-leb, leb-true, leb-false, Op, Commit, Heur, Request, Code, is_commit, taken_before, option_map}
+use Rattle.xa_atomicity.proofs.Words.{and-false, +ℤ_idl as none_plus, +ℤ_idr as plus_none, Answer, next, tables_after, is_done, moved, held_by, Tables}
+use Rattle.xa_atomicity.proofs.Words.{History, lt-leb, leb-true, leb-false, Op, Commit, Heur, Request, Code, is_commit, taken_before, option_map}
 use Rattle.xa_atomicity.proofs.Words.{append_assoc, Option, Some, None, cons_option, XidName, Decides-key_eq, Prepare, Association, association_of, Fate}
 use Rattle.xa_atomicity.proofs.Words.{added_by, coded, commits_later, ending, ending_by, fate_of, or_later, share, EndsNowhere, tables_after-append}
 use Rattle.xa_atomicity.proofs.Words.{IsAddition, prepare_of, both_ways, at_true, ◌≢◌, ◌+◌, subst, all_left, all_after, Done, RdOnly, RmFail, Rollback}
 use Rattle.xa_atomicity.proofs.Words.{Forget, xid_self, names, NamesNowhere, is_forget, unnamed_fate, Ending, ReadOnly, RolledBack, Left, is_yes, yes_ending}
 use Rattle.xa_atomicity.proofs.Words.{no_ending, IsBetween, OnlyTheseName, is_read_only as is_read_only_ending, none_later, is_committed, All-cons}
-use Rattle.xa_atomicity.proofs.Words.{cases_Bool, outcome_op, RbIntegrity, by_bool, Start, xid_eq}
-use Rattle.xa_tables.specs.{commit_fate}
+use Rattle.xa_atomicity.proofs.Words.{cases_Bool, outcome_op, RbIntegrity, by_bool, Start, xid_eq, commit_fate}
+use Rattle.xa_tables.specs.{moved_by}
 use Rattle.xa_tables.specs.Histories as history
 use Rattle.xa_atomicity.proofs.Sites.{request_of, fates, fates_both, none_first, Site, StandsIn, below, at_place, Second, second_of, only_op}
 use Rattle.xa_atomicity.proofs.Courses.{Unreached, Reads, Breaks, Stays, Agrees, Refuses, yes_is, read_is, Sends, SendsOne, Course, rest_forgets, one_own}
@@ -23,8 +23,6 @@ is_within t first last r = (r.thread == t) && (nat_le first r.number && nat_le (
 
 abbrev Accounts : Type 0
 Accounts = List (List ℕ × ℕ)
-
--- ---- numbers
 
 -- a request whose number is inside
 pub inside : (t first last : ℕ) (r : Request) → r.thread ≡ t → first ≤ r.number → r.number < last → is_within t first last r ≡ true
@@ -84,8 +82,7 @@ pub moved_at : (accounts : Accounts) (passes : Request → Bool) (before after :
     → moved accounts passes (before ++ r ∷ after) T ≡ moved_by accounts r.op (next r.thread r.op (tables_after before T)).1 (tables_after before T)
 moved_at accounts passes before after r T none here later = search (arith, moved_both, moved_without, none_plus, plus_none, r.op, r.thread)
 
--- ---- ranges of numbers
-
+-- ranges of numbers
 either_range : (own : Bool) (a b : ℕ) (n : ℕ) (v : ℤ) → a ≤ b → (if own && (nat_le 0 n && nat_le (suc n) b) then v else pos 0)
     ≡ (if own && (nat_le 0 n && nat_le (suc n) a) then v else pos 0) +ℤ (if own && (nat_le a n && nat_le (suc n) b) then v else pos 0)
 either_range false a b n v le = refl
@@ -103,8 +100,6 @@ moved_parted accounts t a b (r ∷ h) T le =
   where
     regroup : (u v a b : ℤ) → (u +ℤ v) +ℤ (a +ℤ b) ≡ (u +ℤ a) +ℤ (v +ℤ b)
     regroup u v a b = omega (arith, ints)
-
--- ---- numbers of a thread's requests
 
 -- what a request within them is
 pub within_parts : (t first last : ℕ) (r : Request) → is_within t first last r ≡ true → (r.thread ≡ t) × (first ≤ r.number) × (r.number < last)
@@ -317,7 +312,8 @@ module _ {t : ℕ} {T : Tables} {H : History} (site : Site t T H) (x : XidName) 
             let keeps : held_by accounts x there ≡ held accounts =
             site.law.keeps accounts t x f.before s.mid T site.opening (sym f.code ∙ agreed) quiet_mid ∙ ap (λ (h : History). held_by accounts x (tables_after h T)) (sym (taken f)) in
             ap (λ (h : History). moved accounts W h T) s.place
-            ∙ moved_at accounts W before s.rest (request_of t (suc n) (Commit x false)) T low (inside t n last (request_of t (suc n) (Commit x false)) refl (omega arith) (let more = z.more in omega (arith, more))) high
+            ∙ moved_at accounts W before s.rest (request_of t (suc n) (Commit x false)) T low (inside t n last (request_of t (suc n) (Commit x false)) refl (omega arith) (let more = z.more in omega (arith, more)))
+            (λ k d lt passes. let w = within_parts t n last (get_or s.rest k d) passes in rest_plain k d lt w.0 w.2)
             ∙ ap (λ (V : Tables). moved_by accounts (Commit x false) (next t (Commit x false) V).1 V) s.there_is ∙ ap (λ d. moved_by accounts (Commit x false) d there) (sym s.code) ∙ ap (λ v. if is_done c then v else pos 0) keeps
           where
             low : All (λ q. W q ≡ true → is_commit q.op ≡ false) (f.before ++ request_of t n (Prepare x) ∷ s.mid)
@@ -327,9 +323,6 @@ module _ {t : ℕ} {T : Tables} {H : History} (site : Site t T H) (x : XidName) 
                 let from = w.1 in
                 let O : Request → Type 0 = λ r. r.thread ≡ t → r.number ≡ n → r.op ≡ (Prepare x) in
                 ap is_commit (all_left O (f.before ++ request_of t n (Prepare x) ∷ s.mid) (request_of t (suc n) (Commit x false) ∷ s.rest) (subst (All O) s.place (only_op site n (Prepare x) vote f)) k d lt w.0 (omega (arith, under, from)))
-
-            high : All (λ q. W q ≡ true → is_commit q.op ≡ false) s.rest
-            high k d lt passes = let w = within_parts t n last (get_or s.rest k d) passes in rest_plain k d lt w.0 w.2
 
       committing : Goal (yes_ending true (Some c))
       committing =

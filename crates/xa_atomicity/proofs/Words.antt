@@ -1,31 +1,32 @@
 -- The words and lemmas of the crates below, and the words of this one, that proofs here name, by one name.
-pub use Rattle.xa_base.proofs.{+ℤ_idl, +ℤ_idr, [], All, All-append, All-cons, All-contains, All-head, All-map, All-nil, All-tail, all_after, all_left}
+pub use Rattle.xa_base.proofs.{+ℤ_idl, +ℤ_idr, [], All, All-append, All-cons, All-contains, All-head, All-map, All-nil, All-tail, all_after, all_at, all_left}
 pub use Rattle.xa_base.proofs.{all_mid, all_right, all_unmapped, and-false, and_parts, any_at, ap, append-nil, append_assoc, arith, at_false, at_true}
 pub use Rattle.xa_base.proofs.{begins_on, Bool, by_bool, by_if, cases_Bool, cases_lt, cond, cons_option, Contains, Contains-append_left}
-pub use Rattle.xa_base.proofs.{Contains-append_right, contains_at, eq-eqb, eq_by_cmp, eqb-false, eqb-true, false, false_from_ne_true, filter, filter-append}
-pub use Rattle.xa_base.proofs.{flat_map, get-empty, get-insert, get_or, get_or-range_with_len, if◌then◌else◌, inl, inr, ints, is_eq, is_equal, is_some}
-pub use Rattle.xa_base.proofs.{le-leb, length, length-append, length-range_with_len, List, list_all, list_any, list_any-append, list_any_none, map}
-pub use Rattle.xa_base.proofs.{map-append, nat_cmp_total, nat_le, ne_eqb, None, not, not-false, not-true, Option, option_map, or-true, or_from, or_parts, pos}
-pub use Rattle.xa_base.proofs.{range_all, range_with_len, refl, rules, same_begins, same_Some, slice_get, slice_get-get_or, slice_get-map, slice_get_within}
-pub use Rattle.xa_base.proofs.{Some, some_same, subst, suc, sym, tied_itself, tied_true, total_alike, total_both, total_nothing, true, unwrap_or, was_mapped}
-pub use Rattle.xa_base.proofs.{zero, ℕ, ℤ, ⊎_elim, ◌&&◌, ◌++◌, ◌+ℤ◌, ◌+◌, ◌-◌, ◌<◌, ◌==◌, ◌||◌, ◌∙◌, ◌∷◌, ◌≡◌, ◌≢◌, ◌≤◌, ◌⊎◌}
+pub use Rattle.xa_base.proofs.{Contains-append_right, contains_at, drop, eq-eqb, eq_by_cmp, eqb-false, eqb-true, false, false_from_ne_true, filter}
+pub use Rattle.xa_base.proofs.{filter-append, flat_map, get-empty, get-insert, get_or, get_or-range_with_len, if◌then◌else◌, inl, inr, ints, is_eq, is_equal}
+pub use Rattle.xa_base.proofs.{is_some, le-leb, length, length-append, length-range_with_len, List, list_all, list_any, list_any-append, list_any_none, map}
+pub use Rattle.xa_base.proofs.{map-append, nat_cmp_total, nat_le, ne_eqb, next_there, None, not, not-false, not-true, Option, option_map, or-true, or_from}
+pub use Rattle.xa_base.proofs.{or_parts, pos, range_all, range_with_len, refl, rules, same_begins, same_Some, slice_get, slice_get-get_or, slice_get-map}
+pub use Rattle.xa_base.proofs.{slice_get_within, Some, some_same, subst, suc, sym, take, take-append-drop, tied_itself, tied_true, total_alike, total_both}
+pub use Rattle.xa_base.proofs.{total_nothing, true, unwrap_or, was_mapped, zero, ℕ, ℤ, ⊎_elim, ◌&&◌, ◌++◌, ◌+ℤ◌, ◌+◌, ◌-◌, ◌<◌, ◌==◌, ◌||◌, ◌∙◌, ◌∷◌, ◌≡◌}
+pub use Rattle.xa_base.proofs.{◌≢◌, ◌≤◌, ◌⊎◌}
 pub use Rattle.xa_base.specs.{Begins, Chain, IsUpTo, more, MOST_MANAGERS, total}
 pub use Rattle.xa_words.specs.{CloseRm, Code, Commit, Death, Decides-key_eq, Decides-xid_eq, Done, End, Forget, Heur, HeurCom, HeurRb, Nota, Op, OpenRm}
 pub use Rattle.xa_words.specs.{Prepare, Proto, RbIntegrity, RdOnly, Request, RmFail, Rollback, Start, tran_of, TranName, xid_cmp, xid_eq, XidName}
 pub use Rattle.xa_tables.specs.{accepted, added_by, Answer, answer_when, are_accounts, AreLeft, Association, association_of, AwaitsAfter, AwaitsTheOutcome}
-pub use Rattle.xa_tables.specs.{by_rules, closes, coded, commit_two, commits_later, commits_over, decided_fate, decision_code, ending, ending_by, EndsNowhere}
-pub use Rattle.xa_tables.specs.{exists, Fate, fate, fate_in, fate_of, fates_in, fates_when, first_shut, forget, gone, has_opened, held_by, heur_fate}
-pub use Rattle.xa_tables.specs.{HeuristicallyCompleted, HeuristicDecision, History, HoldsItsAdditions, is_close, is_completed, is_done, is_forget, is_heur}
-pub use Rattle.xa_tables.specs.{is_in_doubt, is_left_in, is_live, is_of, is_prepared, is_rollback_only, is_S3, is_S5, is_somebody_associated, IsFateOf}
-pub use Rattle.xa_tables.specs.{IsOpening, last_or, late, LeavesWaiting, moved, moved_by, names, NamesNowhere, of_thread, OnlyDecides, open_rm, opening}
-pub use Rattle.xa_tables.specs.{or_later, parted, prepare_fate, reason_of, reopened, reopened_fate, rollback, rollback_fate, share, State, state_of}
-pub use Rattle.xa_tables.specs.{state_when, Tables, tables_after, told_by}
+pub use Rattle.xa_tables.specs.{by_rules, closes, coded, commit_fate, commit_two, commits_later, commits_over, decided_fate, decision_code, ending, ending_by}
+pub use Rattle.xa_tables.specs.{EndsNowhere, exists, Fate, fate, fate_in, fate_of, fates_in, fates_when, first_shut, forget, gone, has_opened, held_by}
+pub use Rattle.xa_tables.specs.{heur_fate, HeuristicallyCompleted, HeuristicDecision, History, HoldsItsAdditions, is_close, is_completed, is_done, is_forget}
+pub use Rattle.xa_tables.specs.{is_heur, is_in_doubt, is_left_in, is_live, is_of, is_prepared, is_rollback_only, is_S3, is_S5, is_somebody_associated}
+pub use Rattle.xa_tables.specs.{IsFateOf, IsOpening, last_or, late, LeavesWaiting, moved, names, NamesNowhere, of_thread, OnlyDecides, open_rm, opening}
+pub use Rattle.xa_tables.specs.{or_later, parted, prepare_fate, reason_of, reopened, reopened_fate, rollback, share, State, state_of, state_when, Tables}
+pub use Rattle.xa_tables.specs.{tables_after, told_by}
 unfoldable pub use Rattle.xa_tables.specs.{next}
 pub use Rattle.xa_desk.specs.{DeskView, HasGrown, HaveGrown, is_known, is_rm_fail, learnt_shut, ledger, LedgerView, no_ledger, numbered, with_collected}
 pub use Rattle.xa_desk.specs.{with_sent}
 pub use Rattle.xa_switch.specs.{accounts_in, accounts_of, Again, answers, Each, find_manager, first_of, FollowsTables, history, IsOf, IsOpenedWith, IsScanOf}
-pub use Rattle.xa_switch.specs.{IsSettled, IsSoundManager, journal, journal_in, last_in, ledgers_of, ManagerPart, managers_in, managers_of, Plan, plan_worth}
-pub use Rattle.xa_switch.specs.{reopened_at, reopening, sent, settled_fate, settled_worth, Settling, threads_of, WorthIsOfThreads}
+pub use Rattle.xa_switch.specs.{IsSettled, IsSoundManager, journal, journal_in, last_in, ledgers_of, ManagerPart, managers_in, managers_of, moved_by, Plan}
+pub use Rattle.xa_switch.specs.{plan_worth, reopened_at, reopening, sent, settled_fate, settled_worth, Settling, threads_of, WorthIsOfThreads}
 pub use Rattle.xa_log.specs.{all_records, IsEither, LogState, record_in, record_of, Records, tran_cmp, with_record}
 pub use Rattle.xa_scan.specs.{left_at, ScanView}
 pub use Rattle.xa_driver.specs.{among_asks, appended, AreBranchesRising, Ask, asked, AsksFor, AsksIf, AsksLedger, AskTrace, AtBranch, Branch, code_of}
@@ -50,13 +51,12 @@ pub use Rattle.xa_atomicity.specs.{outcome_fate, prepare_of, ResolveCall, resolv
 pub use Rattle.xa_atomicity.specs.{telling, TellsTheFate, TellsTheFates, TellsTheOutcome, TellsTheOutcomes, told_fate, total_in_doubt, undecided, Use}
 pub use Rattle.xa_atomicity.specs.{uses_of, VotedToCommit, was_refused, WasAsked, WasAtFirst, with_resolves, with_use, worked}
 pub use Rattle.std.proofs.lemmas.Bool.{and_cases, and_left, and_right, both_ways, leb-false, leb-true, lt-leb, or_left, true_from_ne_false}
-pub use Rattle.std.proofs.lemmas.List.Elements.{Contains-append_cases, Contains-get_or, Contains-push_cases}
-pub use Rattle.std.proofs.lemmas.Option.{slice_get_past, some_pair_parts}
+pub use Rattle.std.proofs.lemmas.List.Elements.{Contains-append_cases, Contains-get_or, Contains-push, Contains-push_cases, filter_map-append}
+pub use Rattle.std.proofs.lemmas.Option.{get_or_from_slice_get, slice_get_past, some_pair_parts}
 pub use Rattle.xa_atomicity.specs.Outcomes.{is_committed}
 pub use Rattle.xa_desk.proofs.Growth.{as_it_was, growing_on, grown_on, same_lists}
 pub use Rattle.xa_driver.proofs.Calls.{first_trace, one_tran, second_code, second_is, second_trace, yes_is}
 pub use Rattle.xa_driver.proofs.Gathering.{carried, same_itself}
-pub use Rattle.xa_driver.proofs.Ledgers.{numbered_length}
 pub use Rattle.xa_driver.proofs.Mapped.{Any, any_asked, anything, Asks, branch_by, branch_mapped, if_by, IsAskedFor, outcome_by, outcomes_by, resolves_by}
 pub use Rattle.xa_driver.proofs.Traces.{asked_grows, trace_for, trace_of}
 pub use Rattle.xa_switch.proofs.Lists.{contains_map, found, get_contained}
@@ -66,3 +66,4 @@ pub use Rattle.xa_tables.proofs.Unnamed.{tables_after-append, unnamed_fate, unna
 pub use Rattle.xa_tables.specs.declared.state.State.TheVariants.{Prepared}
 pub use Rattle.xa_words.proofs.Xids.{xid_self}
 pub use Rattle.xa_worker.specs.{Entry, requests}
+pub use Rattle.std.proofs.lemmas.List.Folds.{Any-from_list_any, list_any_at}

@@ -17,7 +17,7 @@ use Rattle.xa_atomicity.specs.{IsBetween, OnlyResolves, ResolveCall, resolve_cal
 use Rattle.xa_atomicity.proofs.Sites.{all_earlier, own_all}
 use Rattle.xa_atomicity.proofs.Resolves.{outcome_at, resolve_sends}
 use Rattle.xa_atomicity.proofs.Settled.{by_ledger}
-use Rattle.xa_atomicity.proofs.EndsByFate.{learnt_on}
+use Rattle.xa_atomicity.proofs.Guided.{learnt_on}
 use Rattle.xa_crew.specs.{WithScan, Attended, IsRunAgain, WorksWithScan}
 use Rattle.xa_work.specs.{HasSent}
 use Rattle.xa_bank.specs.{Teller}

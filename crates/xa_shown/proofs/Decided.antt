@@ -12,7 +12,7 @@ use Rattle.xa_atomicity.proofs.Guided.{IsGuided, at_last, decided_known, fates_f
 use Rattle.xa_atomicity.proofs.Leading.{Stands, over, unforgotten, waits}
 use Rattle.xa_atomicity.proofs.Sites.{request_of, fates}
 use Rattle.xa_atomicity.proofs.Sites.{Site, StandsIn, above}
-use Rattle.xa_atomicity.proofs.EndsByFate.{once}
+use Rattle.xa_atomicity.proofs.Guided.{once}
 
 module _ {t : ℕ} {T : Tables} {H : History} (site : Site t T H) (x : XidName) (n last : ℕ) (only : OnlyTheseOrDecisionsName x t n last H) where
   abbrev P : Op
