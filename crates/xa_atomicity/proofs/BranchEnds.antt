@@ -150,11 +150,8 @@ module _ (law : Tabled) (first : (s : Settling) (m : ℕ) (T : Tables) → IsSet
     abbrev H : History
     H = history_of s m
 
-    abbrev g : Fate
-    g = told_by (state_of T b.xid)
-
     abbrev F : Fate
-    F = fate b.xid g H T
+    F = fate b.xid (told_by (state_of T b.xid)) H T
 
     -- what a later resolve was told of it
     abbrev L : Type 0
@@ -172,30 +169,27 @@ module _ (law : Tabled) (first : (s : Settling) (m : ℕ) (T : Tables) → IsSet
     same_fate : (before : Fate) → WasAtFirst s b before → settled_fate s m b.xid before ≡ F
     same_fate before was =
         let codes_are : coded H was.first ≡ coded H T = sym was.opened.codes ∙ with_T.codes in
-        was.opened.fates b.xid before ∙ law.leaves H b.xid before was.first ∙ ap (history.fate_in b.xid before) codes_are ∙ (at_end L).any before g
-        ∙ sym (law.leaves H b.xid g T)
-
-    abbrev D : Type 0
-    D = F ≡ history.InDoubt
+        was.opened.fates b.xid before ∙ law.leaves H b.xid before was.first ∙ ap (history.fate_in b.xid before) codes_are ∙ (at_end L).any before (told_by (state_of T b.xid))
+        ∙ sym (law.leaves H b.xid (told_by (state_of T b.xid)) T)
 
     abbrev later_fate : Fate
     later_fate = fate_through m b.xid F later
 
     abbrev Walks : Type 0
-    Walks = Walk law first commit D L m up b.xid later (tables_after H T) F
+    Walks = Walk law first commit (F ≡ history.InDoubt) L m up b.xid later (tables_after H T) F
 
-    walks : W → is_left_in (state_of (tables_after H T) b.xid) ≡ true → Stands commit true D L (state_of (tables_after H T) b.xid) F → Walks
+    walks : W → is_left_in (state_of (tables_after H T) b.xid) ≡ true → Stands commit true (F ≡ history.InDoubt) L (state_of (tables_after H T) b.xid) F → Walks
     walks why left st =
         let w = marked why left in
-        walk law first commit D L m up b.xid later o T F kept_o begins (All-tail IsKept o later kept) row w.only w.marks lists st
+        walk law first commit (F ≡ history.InDoubt) L m up b.xid later o T F kept_o begins (All-tail IsKept o later kept) row w.only w.marks lists st
 
     -- a decision that a resolve was told is its fate in the end, where it is a decision
     which : Walks → (d : HeuristicDecision) → later_fate ≡ decided_fate d → L → IsListed b d later
     which w d is l =
-        subst (λ k. IsListed b k later) (decided_one l.0 d (sym (walk_tells law first commit D L m up b.xid l.0 later (tables_after H T) F w l.1.resolve l.1.made l.1.outcome l.1.listed l.1.manager l.1.xid l.1.code) ∙ is)) l.1
+        subst (λ k. IsListed b k later) (decided_one l.0 d (sym (walk_tells law first commit (F ≡ history.InDoubt) L m up b.xid l.0 later (tables_after H T) F w l.1.resolve l.1.made l.1.outcome l.1.listed l.1.manager l.1.xid l.1.code) ∙ is)) l.1
 
-    last_walk : Walks → IsOver commit D L later_fate × (is_prepared (tables_left (last_of o later) m) b.xid ≡ false)
-    last_walk = walk_ends law first commit D L m up b.xid o between last q (tables_after H T) F there scan reached
+    last_walk : Walks → IsOver commit (F ≡ history.InDoubt) L later_fate × (is_prepared (tables_left (last_of o later) m) b.xid ≡ false)
+    last_walk = walk_ends law first commit (F ≡ history.InDoubt) L m up b.xid o between last q (tables_after H T) F there scan reached
 
     -- how it ends: as was decided, or heuristically, and then its ending or a resolve tells how
     abbrev Ended : Fate → Type 0
@@ -208,18 +202,18 @@ module _ (law : Tabled) (first : (s : Settling) (m : ℕ) (T : Tables) → IsSet
     known_ends known end = subst Ended (sym (at_false (is_unknown F) later_fate F known)) end
 
     -- where it was left it is over in the end, and a decision that it had then stays
-    left_ends : Walks → Stands commit true D L (state_of (tables_after H T) b.xid) F → is_left_in (state_of (tables_after H T) b.xid) ≡ true → Ended at_last
+    left_ends : Walks → Stands commit true (F ≡ history.InDoubt) L (state_of (tables_after H T) b.xid) F → is_left_in (state_of (tables_after H T) b.xid) ≡ true → Ended at_last
     left_ends w (waits y open_ state g) left = subst Ended (sym (at_true (is_unknown F) later_fate F (ap is_unknown g))) (by_over (last_walk w).0)
       where
-        by_over : IsOver commit D L later_fate → Ended later_fate
+        by_over : IsOver commit (F ≡ history.InDoubt) L later_fate → Ended later_fate
         by_over (inl z) = inl z.1
         by_over (inr z) = inr (z.0, (z.1.0, inr (which w z.0 z.1.0 z.1.1)))
     left_ends w (unforgotten d state g l) left = known_ends (is_decided_so F d g) (inr (d, (g, inr (by_over (last_walk w).0))))
       where
         stays : later_fate ≡ decided_fate d
-        stays = walk_after law first commit D L m up b.xid d later (tables_after H T) F w g
+        stays = walk_after law first commit (F ≡ history.InDoubt) L m up b.xid d later (tables_after H T) F w g
 
-        by_over : IsOver commit D L later_fate → IsListed b d later
+        by_over : IsOver commit (F ≡ history.InDoubt) L later_fate → IsListed b d later
         by_over (inl z) = absurd (both_ways (is_unknown F) (is_decided_so F d g) (ap is_unknown z.0))
         by_over (inr z) = which w d stays z.1.1
     left_ends w (over state g) left = let none : true ≡ false = sym left ∙ ap is_left_in state in cc
@@ -251,7 +245,7 @@ module _ (law : Tabled) (first : (s : Settling) (m : ℕ) (T : Tables) → IsSet
     commits_so : is_unknown F ≡ true → commits_over b.xid F (histories m later) (tables_after H T) ≡ is_committed later_fate
     commits_so unknown =
         let z = left_in_doubt commit W L F e (at_end L).comes unknown in
-        (walk_counts law first commit D L m up b.xid later (tables_after H T) F (walks z.0 z.1 z.2)).0 (unknown_so F unknown)
+        (walk_counts law first commit (F ≡ history.InDoubt) L m up b.xid later (tables_after H T) F (walks z.0 z.1 z.2)).0 (unknown_so F unknown)
 
     -- the same, whatever it was before
     abbrev Counts : Fate → Type 0
@@ -260,7 +254,7 @@ module _ (law : Tabled) (first : (s : Settling) (m : ℕ) (T : Tables) → IsSet
 
     fate_counts : (f0 : Fate) → Counts (fate b.xid f0 H T)
     fate_counts f0 =
-        subst Counts (sym (law.leaves H b.xid f0 T ∙ (at_end L).any f0 g ∙ sym (law.leaves H b.xid g T)))
+        subst Counts (sym (law.leaves H b.xid f0 T ∙ (at_end L).any f0 (told_by (state_of T b.xid)) ∙ sym (law.leaves H b.xid (told_by (state_of T b.xid)) T)))
         (counts_so commit W L (state_of (tables_after H T) b.xid) F (fate_through m b.xid F later) e (commits_over b.xid F (histories m later) (tables_after H T)) (at_end L).comes commits_so)
 
     module _ (made : (f : Fate) → IsFateOf b.xid f T → (before after : History) → H ≡ before ++ request_of t n (Prepare b.xid) ∷ after → fates b.xid (request_of t n (Prepare b.xid) ∷ after) (tables_after before T) ≡ history.InDoubt ∷ once (fate b.xid f H T)) where

@@ -1,15 +1,15 @@
 -- Transfers conserve what all accounts are worth together, but for what branches in doubt hold.
 use Rattle.xa_atomicity.proofs.Words.{is_commit, Branch, Ending, Committed, ReadOnly, RolledBack, InDoubt, Heuristic, Left, is_no, IsCommit}
 use Rattle.xa_atomicity.proofs.Words.{AreBranchesRising, has_branch_at, HasSentNoCommit, NoCommitWasSent, slice_get_past, ne_eqb, or_from, cases_lt, eqb-true}
-use Rattle.xa_atomicity.proofs.Words.{eqb-false, le-leb, or_parts, ℤ, pos, ◌+ℤ◌, All, nat_le, ◌&&◌, ◌≡◌, ℕ, zero, suc, ◌+◌, ◌-◌, ◌<◌, ◌≤◌, ◌==◌, Bool, true}
-use Rattle.xa_atomicity.proofs.Words.{false, if◌then◌else◌, List, [], ◌∷◌, length, length-append, get_or, sym, refl, ap, ◌∙◌, subst, arith, list_any}
-use Rattle.xa_atomicity.proofs.Words.{range_with_len, ints, +ℤ_idl as none_plus, +ℤ_idr as plus_none, contains_at, range_all, total_alike, total_both}
-use Rattle.xa_atomicity.proofs.Words.{total_nothing, All-contains, total, XidName, Request, Code, Tables, are_accounts, opening, tables_after, moved, held_by}
-use Rattle.xa_atomicity.proofs.Words.{is_of, HoldsItsAdditions, History, LedgerView, DeskView, ledger, HaveGrown, growing_on, same_lists, Plan}
-use Rattle.xa_atomicity.proofs.Words.{IsSoundManager, IsSettled, sent, IsOpenedWith, ledgers_of, history, threads_of, managers_of, accounts_in, accounts_of}
-use Rattle.xa_atomicity.proofs.Words.{plan_worth, settled_worth, WorthIsOfThreads, Settling, LogState, EachOutcome, AreLeftAlone, has_committed}
-use Rattle.xa_atomicity.proofs.Words.{is_rolled_back, is_heuristic, is_left, is_read_only, sent_so_far, taken_before, added_before, added_by_all}
-use Rattle.xa_atomicity.proofs.Words.{total_in_doubt, held_in_doubt, OnlyTransfers, opened, worked, committed, Tabled, is_committed, inl, inr, moved_by}
+use Rattle.xa_atomicity.proofs.Words.{le-leb, or_parts, ℤ, pos, ◌+ℤ◌, All, nat_le, ◌&&◌, ◌≡◌, ℕ, zero, suc, ◌+◌, ◌-◌, ◌<◌, ◌≤◌, ◌==◌, Bool, true, false}
+use Rattle.xa_atomicity.proofs.Words.{if◌then◌else◌, List, [], ◌∷◌, length, length-append, get_or, sym, refl, ap, ◌∙◌, subst, arith, list_any, range_with_len}
+use Rattle.xa_atomicity.proofs.Words.{ints, +ℤ_idl as none_plus, +ℤ_idr as plus_none, contains_at, range_all, total_alike, total_both, total_nothing}
+use Rattle.xa_atomicity.proofs.Words.{All-contains, total, XidName, Request, Code, Tables, are_accounts, opening, tables_after, moved, held_by, is_of}
+use Rattle.xa_atomicity.proofs.Words.{HoldsItsAdditions, History, LedgerView, DeskView, ledger, HaveGrown, growing_on, same_lists, Plan, IsSoundManager}
+use Rattle.xa_atomicity.proofs.Words.{IsSettled, sent, IsOpenedWith, ledgers_of, history, threads_of, managers_of, accounts_in, accounts_of, plan_worth}
+use Rattle.xa_atomicity.proofs.Words.{settled_worth, WorthIsOfThreads, Settling, LogState, EachOutcome, AreLeftAlone, has_committed, is_rolled_back}
+use Rattle.xa_atomicity.proofs.Words.{is_heuristic, is_left, is_read_only, sent_so_far, taken_before, added_before, added_by_all, total_in_doubt}
+use Rattle.xa_atomicity.proofs.Words.{held_in_doubt, OnlyTransfers, opened, worked, committed, Tabled, is_committed, inl, inr, moved_by, cases_eq}
 use Rattle.xa_driver.specs.{Done}
 use Rattle.xa_atomicity.specs.{is_in_doubt}
 use Rattle.xa_atomicity.proofs.Values.{within_parts, is_within, moved_parted, moved_without, moved_alike, moved_nothing}
@@ -37,19 +37,17 @@ over_branches g [] lo (suc n) r none beyond =
     (λ i. none (lo + 1) (omega arith) refl i +ℤ over_branches g [] (lo + 1) n tt (λ m lt e. none m (omega (arith, lt)) e) (λ m lt. beyond m (omega (arith, lt))) i)
 over_branches g (b ∷ bs) lo (suc n) r none beyond =
     let up = r.0 in
-    elim (b.m == lo + 1) as (λ c. (b.m == lo + 1) ≡ c → g (lo + 1) +ℤ total g (range_with_len (lo + 1 + 1) n) ≡ g b.m +ℤ total (λ c. g c.m) bs) [
-      | true ↦ λ e.
-          let same : b.m ≡ lo + 1 = eqb-true b.m (lo + 1) e in
+    elim (cases_eq b.m (lo + 1)) [
+      | inl same ↦
           let later : AreBranchesRising (lo + 1) bs = subst (λ k. AreBranchesRising k bs) same r.1 in
           let others : (m : ℕ) → lo + 1 < m → has_branch_at bs m ≡ false → g m ≡ pos 0 = search (arith, or_from, ne_eqb, b.m) in
           λ i. g (sym same i) +ℤ over_branches g bs (lo + 1) n later others (λ m lt. beyond m (omega (arith, lt))) i
-      | false ↦ λ e.
-          let apart = eqb-false b.m (lo + 1) e in
+      | inr apart ↦
           let above : lo + 1 < b.m = omega (arith, up, apart) in
           let free : g (lo + 1) ≡ pos 0 = none (lo + 1) (omega arith) (none_before (lo + 1) (lo + 1) (b ∷ bs) (above, r.1) (omega arith)) in
           ap (λ v. v +ℤ total g (range_with_len (lo + 1 + 1) n)) free ∙ none_plus _
           ∙ over_branches g (b ∷ bs) (lo + 1) n (above, r.1) (λ m lt f. none m (omega (arith, lt)) f) (λ m lt. beyond m (omega (arith, lt)))
-    ] refl
+    ]
 
 -- ---- one thread
 

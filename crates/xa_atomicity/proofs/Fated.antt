@@ -223,9 +223,6 @@ module _ {t : ℕ} {T : Tables} {H : History} (site : Site t T H) (x : XidName) 
           ap (λ (h : History). fates x h now) s.split ∙ fates_both x s.mid (S ∷ s.rest) now
           ∙ (λ i. w.fates i ++ site.law.silent (S ∷ s.rest) x there closed i) ∙ append-nil (fates_when w.decision)
 
-      after_shut : there.shut ≡ true → IsAfterShut t (n + 1) H
-      after_shut e = search (arith, rules)
-
       first_fate : (fs : List Fate) → fates x f.after now ≡ fs → fate x f0 H T ≡ last_or history.InDoubt fs
       first_fate fs made = search (arith, at_true, xid_self, fates_both, request_of, cons_option, last_both)
 
@@ -244,7 +241,7 @@ module _ {t : ℕ} {T : Tables} {H : History} (site : Site t T H) (x : XidName) 
           elim (there.shut) as (λ l. there.shut ≡ l → c ≡ (if l then RmFail else answer_when w.decision) → Goal (yes_ending commit (Some c))) [
             | true ↦ λ closed is.
                 subst (λ (d : Code). Goal (yes_ending commit (Some d))) (sym is)
-                (record { reached = λ _. refl; shut = λ _ _. after_shut closed; decided = λ _ h. cc; named = λ _ h. cc; told = λ h i. cc; doubt = λ _. in_doubt closed })
+                (record { reached = λ _. refl; shut = λ _ _. search (arith, rules); decided = λ _ h. cc; named = λ _ h. cc; told = λ h i. cc; doubt = λ _. in_doubt closed })
             | false ↦ λ opened is. by_answer w.decision w.fates is
           ] refl (s.code ∙ answers_so t x commit w.decision there w.awaits)
         where

@@ -87,20 +87,14 @@ opens_now t T open_ =
 module _ (commit : Bool) (D L : Type 0) (t : ℕ) (x : XidName) (T : Tables) (H : History) (f : Fate) (code : Code)
     (towards : All (λ r. IsTowards commit L x r.op) H) (st : Standing commit true D L x T f) (reached : code ≢ RmFail)
     (told : (d : HeuristicDecision) → code ≡ decision_code d → L) (z : Placed t T H (outcome_op commit x) code) where
-  abbrev op : Op
-  op = outcome_op commit x
-
   abbrev before : History
   before = z.first ++ request_of t z.opens OpenRm ∷ z.mid
 
   abbrev ends : Request
-  ends = request_of t z.ends op
+  ends = request_of t z.ends (outcome_op commit x)
 
   abbrev U : Tables
   U = tables_after before T
-
-  abbrev at_first : Tables
-  at_first = tables_after z.first T
 
   all_here : All (λ r. IsTowards commit L x r.op) (before ++ ends ∷ z.rest)
   all_here = subst (All (λ (r : Request). IsTowards commit L x r.op)) z.place towards
@@ -112,9 +106,9 @@ module _ (commit : Bool) (D L : Type 0) (t : ℕ) (x : XidName) (T : Tables) (H 
   now = led_after commit true D L x before T f (all_left (λ (r : Request). IsTowards commit L x r.op) before (ends ∷ z.rest) all_here) st
 
   open_now : U.shut ≡ false
-  open_now = false_from_ne_true (U.shut) (λ shut. reached (z.code_is ∙ ap (λ (a : Answer). a.1) (next-shut t op U shut)))
+  open_now = false_from_ne_true (U.shut) (λ shut. reached (z.code_is ∙ ap (λ (a : Answer). a.1) (next-shut t (outcome_op commit x) U shut)))
 
-  open_first : at_first.shut ≡ false
+  open_first : (tables_after z.first T).shut ≡ false
   open_first = search (arith, false_from_ne_true, both_ways, open_now, tables_after-append, shut_stays)
 
   has_it : has_opened U t ≡ true

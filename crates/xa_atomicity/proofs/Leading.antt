@@ -6,7 +6,7 @@ use Rattle.xa_atomicity.proofs.Words.{Forget, Request, Code, xid_self, State, He
 use Rattle.xa_atomicity.proofs.Words.{is_left_in, is_prepared, is_completed, is_rollback_only, is_somebody_associated, reason_of, decision_code, Answer, next}
 use Rattle.xa_atomicity.proofs.Words.{by_rules, commit_two, rollback, forget, gone, Fate, tables_after, fate_of, is_done, last_or, decided_fate, reopened}
 use Rattle.xa_atomicity.proofs.Words.{reopened_fate, names, Tables, History, Prepared, Sound, Nowhere, AtWork, standing, nobody_rests, get_gone, sound_after}
-use Rattle.xa_atomicity.proofs.Words.{last_more, state_reopened, unnamed_fate, unnamed_stays, ended_as, outcome_op}
+use Rattle.xa_atomicity.proofs.Words.{last_more, state_reopened, unnamed_fate, unnamed_stays, ended_as, outcome_op, or-true}
 use Rattle.xa_tables.specs.{decision_of, committed}
 use Rattle.xa_tables.proofs.Effects.{error_tells, reason_rolls_back, decision_commits_nothing, decision_rolls_nothing_back}
 use Rattle.xa_tables.specs.declared.state.HeuristicDecision.TheVariants as decision
@@ -94,12 +94,8 @@ module _ (commit open_ : Bool) (D L : Type 0) (x : XidName) (f : Fate) (T : Tabl
       by_if P (is_completed T x) _ _ (λ e. same (Rollback x) (decision_of T x) (named_self x _ ∙ decision_rolls_nothing_back (state_of T x) e)) (λ open_now.
       by_if P (is_somebody_associated T.associations x) _ _ (λ _. same (Rollback x) Proto (refuses (Rollback x)).0) (λ _.
       by_if P (is_rollback_only T x) _ _
-      (λ e. gone_so commit open_ D L x f (Rollback x) (reason_of T x) T (undecided there open_now) (named_self x _ ∙ ap (λ b. if is_done (reason_of T x) || b then Some history.RolledBack else None) (reason_rolls_back (state_of T x) e) ∙ either (is_done (reason_of T x)) ∙ ends))
+      (λ e. gone_so commit open_ D L x f (Rollback x) (reason_of T x) T (undecided there open_now) (named_self x _ ∙ ap (λ b. if is_done (reason_of T x) || b then Some history.RolledBack else None) (reason_rolls_back (state_of T x) e) ∙ at_true (is_done (reason_of T x) || true) (Some history.RolledBack) None (or-true (is_done (reason_of T x))) ∙ ends))
       (λ _. gone_so commit open_ D L x f (Rollback x) Done T (undecided there open_now) (named_self x (Some history.RolledBack) ∙ ends)))))
-    where
-      either : (b : Bool) → (if b || true then Some history.RolledBack else None) ≡ Some history.RolledBack
-      either true = refl
-      either false = refl
 
   forgets : L → is_S5 (state_of T x) ≡ true → Stands commit open_ D L (state_of T x) f → Stands commit open_ D L None f
   forgets l h (waits y o e g) = let z : true ≡ false = sym h ∙ ap is_S5 e in cc

@@ -235,14 +235,6 @@ module _ (Q : Branch → Code → Option Code → Ending → Type 0) (commit : B
       or_from _ _ (ap test (ends b v s e h.0) ∙ falls v s (or_parts _ _ n).0) (none_end bs vs ss es h.1 (or_parts _ _ n).1)
   none_end bs vs ss es h n = absurd h
 
-never : Code → Bool
-never v = false
-
-any_never : (vs : List Code) → list_any never vs ≡ false
-unfolding never
-any_never [] = refl
-any_never (v ∷ vs) = any_never vs
-
 module _ (tran : TranName) (bs : List Branch) (desk : DeskView) (new : List LedgerView) (log later : LogState) (d : Done)
     (made : IsCommit bs desk new log later d) (of_tran : IsTranOf bs tran) where
   open made use {may}
@@ -264,7 +256,7 @@ module _ (tran : TranName) (bs : List Branch) (desk : DeskView) (new : List Ledg
   -- on abort
   pub aborted : d.commit ≡ false → IsAbortedTransaction tran desk.ledgers new later d
   aborted off = record {
-    uncommitted = none_end (Traced d.commit desk.ledgers new) d.commit is_committed never ends (λ v s _. ap (λ c. is_committed (ending_of c v s)) off ∙ uncommitted v s) bs votes call.course.seconds d.endings.items call.course.each (any_never votes);
+    uncommitted = none_end (Traced d.commit desk.ledgers new) d.commit is_committed (λ v. false) ends (λ v s _. ap (λ c. is_committed (ending_of c v s)) off ∙ uncommitted v s) bs votes call.course.seconds d.endings.items call.course.each (list_any_none (λ v. false) votes (λ k e lt. refl));
     unrecorded = none_on_abort tran (yes_of bs votes) votes d.logged log later absent call.course.logs (sym call.course.decision ∙ off);
     unsent = abort_sends_no_commit tran bs desk.ledgers new log later d call off;
   }

@@ -328,11 +328,8 @@ module _ (law : Tabled) (first : (s : Settling) (m : ℕ) (T : Tables) → IsSet
 
 module _ (law : Tabled) (first : (s : Settling) (m : ℕ) (T : Tables) → IsSettled s → first_of s m ≡ Some T → IsOpenedWith s m T)
     (o : Opening) (between : List Opening) (last : Opening) (k : CutCall) (q : ResolveCall) (r : IsResolvedAfter o between last k q) where
-  abbrev openings : List Opening
-  openings = between ++ last ∷ []
-
   kept_first : IsKept o
-  kept_first = All-head IsKept o openings r.followed.kept
+  kept_first = All-head IsKept o (between ++ last ∷ []) r.followed.kept
 
   cut_use : IsUseIn o.settled (cuts k)
   cut_use = use_there o.settled o.uses r.followed.us r.followed.vs (cuts k) r.followed.use_at kept_first.uses
@@ -345,13 +342,13 @@ module _ (law : Tabled) (first : (s : Settling) (m : ℕ) (T : Tables) → IsSet
       record { use_ = r.followed; made = cut_made; grown = cut_use.grown; own = r.own; voted = λ b here. here; quiet = λ mark b up _. quiet_alone mark cut_tran b.m up o.settled r.followed.vs (uses_after o.settled o.uses r.followed.us r.followed.vs (cuts k) r.followed.use_at kept_first.uses) (r.alone cut_tran cut_made.may.one) }
 
   each_so : (u : TranName) → IsTranOf k.branches u
-      → All (λ b. VotedToCommit k o.settled b → Follows (is_recorded k.later u) o openings k.thread b (length (ledger k.desk.ledgers b.m).sent) (known_of k b)) k.branches
+      → All (λ b. VotedToCommit k o.settled b → Follows (is_recorded k.later u) o (between ++ last ∷ []) k.thread b (length (ledger k.desk.ledgers b.m).sent) (known_of k b)) k.branches
   each_so u of_u =
-      subst (λ (w : TranName). All (λ b. VotedToCommit k o.settled b → Follows (is_recorded k.later w) o openings k.thread b (length (ledger k.desk.ledgers b.m).sent) (known_of k b)) k.branches)
+      subst (λ (w : TranName). All (λ b. VotedToCommit k o.settled b → Follows (is_recorded k.later w) o (between ++ last ∷ []) k.thread b (length (ledger k.desk.ledgers b.m).sent) (known_of k b)) k.branches)
       (one_tran k.branches cut_tran u cut_made.may.some cut_made.may.one of_u) (follows law first o between last (cuts k) k q (VotedToCommit k o.settled) (λ b. Unit {0}) followed (λ L b here up only T with_T commit comes. comes))
 
-  pub presumed_law : EndsByTheLog k o openings
+  pub presumed_law : EndsByTheLog k o (between ++ last ∷ [])
   presumed_law = record { each = λ u of_u j d lt voted. (each_so u of_u j d lt voted).0 }
 
-  pub presumed_counts : CountsByTheLog k o openings
+  pub presumed_counts : CountsByTheLog k o (between ++ last ∷ [])
   presumed_counts = record { each = λ u of_u j d lt voted plain unlisted. (each_so u of_u j d lt voted).2 plain unlisted }

@@ -12,7 +12,7 @@ use Rattle.xa_atomicity.proofs.Words.{IsTraceOfCommit, Committed, ReadOnly, Roll
 use Rattle.xa_atomicity.proofs.Words.{AreLeftAlone, AreLeftOrDecided, OnlyTheseName, OnlyTheseOrDecisionsName, IsDecidedAfter, KeepsItsVote, TellsTheFate}
 use Rattle.xa_atomicity.proofs.Words.{undecided, decided, told_fate, EachOutcome, KeepsTheVotes, TellsTheFates, has_committed, is_rolled_back, is_heuristic}
 use Rattle.xa_atomicity.proofs.Words.{is_left, is_read_only, sent_so_far, Shares, CountsTheCommitted, HasAllOrNothing, Tabled, is_committed}
-use Rattle.xa_atomicity.proofs.Words.{false_from_ne_true}
+use Rattle.xa_atomicity.proofs.Words.{false_from_ne_true, or-false}
 use Rattle.xa_switch.specs.{collected}
 use Rattle.xa_desk.proofs.Ledgers.{past_end}
 use Rattle.xa_driver.specs.{Done}
@@ -49,12 +49,8 @@ module _ {t : ℕ} {T : Tables} {H : History} (s : Site t T H) (pairs : List (�
   heard_after a op c =
       let number : length (a.sent ++ op ∷ []) ≡ suc (length a.sent) = omega (arith, length-append a.sent (op ∷ [])) in
       let shut : learnt_shut (with_collected (with_sent a op) (length a.sent) c) ≡ (learnt_shut a || is_rm_fail c) =
-      list_any-append (λ (p : ℕ × Code). is_rm_fail p.1) a.collected ((length a.sent, c) ∷ []) ∙ ap (λ b. learnt_shut a || b) (or_none (is_rm_fail c)) in
+      list_any-append (λ (p : ℕ × Code). is_rm_fail p.1) a.collected ((length a.sent, c) ∷ []) ∙ ap (λ b. learnt_shut a || b) (or-false (is_rm_fail c)) in
       λ i. record { number = number i; shut = shut i }
-    where
-      or_none : (b : Bool) → (b || false) ≡ b
-      or_none true = refl
-      or_none false = refl
 
   asks_so : (a a' : LedgerView) (op : Op) (c : Code) → AsksLedger a op a' c → Unit {0} → Has a' → AsksIn t T H (heard a) op (heard a') c
   asks_so a a' op c is q has = search (arith, at_true, at_false, stands_in, heard_after, is.answered)

@@ -121,7 +121,7 @@ Begun at now k = IsBegun k.op (ledger at k.manager) (ledger now k.manager)
 
 begun_at : (k : Ask) (o : Option Op) (m : ℕ) (at now : List LedgerView) → k.op ≡ o → k.manager ≡ m → Begun at now k → IsBegun o (ledger at m) (ledger now m)
 begun_at k o m at now op manager h =
-    subst (λ (z : Option Op). IsBegun z (ledger at m) (ledger now m)) op (subst (λ (n : ℕ). IsBegun k.op (ledger at n) (ledger now n)) manager h)
+    rw (op, manager) at h
 
 -- requests that were collected were done of, and of others nothing was
 pub asks_begun : (ks : List Ask) (at now : List LedgerView) → EachAsk ks at now → All (Begun at now) ks

@@ -270,9 +270,6 @@ module _ {t : ℕ} {T : Tables} {H : History} (site : Site t T H) (x : XidName) 
     -- ---- its Commit
 
     module _ (agreed : vote ≡ Done) (c : Code) (z : Sends site x n last vote (Commit x false) c) where
-      abbrev W : Request → Bool
-      W = is_within t n last
-
       module _ (f : Voted) where
         abbrev s : Second site n (Prepare x) vote f (Commit x false) c
         s = second_of site n (Prepare x) vote f (Commit x false) c z.second
@@ -305,18 +302,18 @@ module _ {t : ℕ} {T : Tables} {H : History} (site : Site t T H) (x : XidName) 
             (λ i. commits_or false (cons_option (voted i) (after i))) ∙ commit_counts c (fates x s.rest left) rest_none
 
         -- the call's requests move what it moves, and the branch holds there what it held at its Prepare
-        moves_it : (accounts : List (List ℕ × ℕ)) → moved accounts W H T ≡ (if is_done c then held accounts else pos 0)
+        moves_it : (accounts : List (List ℕ × ℕ)) → moved accounts (is_within t n last) H T ≡ (if is_done c then held accounts else pos 0)
         moves_it accounts =
             let there : Tables = tables_after s.mid now in
             let before : History = f.before ++ request_of t n (Prepare x) ∷ s.mid in
             let keeps : held_by accounts x there ≡ held accounts =
             site.law.keeps accounts t x f.before s.mid T site.opening (sym f.code ∙ agreed) quiet_mid ∙ ap (λ (h : History). held_by accounts x (tables_after h T)) (sym (taken f)) in
-            ap (λ (h : History). moved accounts W h T) s.place
-            ∙ moved_at accounts W before s.rest (request_of t (suc n) (Commit x false)) T low (inside t n last (request_of t (suc n) (Commit x false)) refl (omega arith) (let more = z.more in omega (arith, more)))
+            ap (λ (h : History). moved accounts (is_within t n last) h T) s.place
+            ∙ moved_at accounts (is_within t n last) before s.rest (request_of t (suc n) (Commit x false)) T low (inside t n last (request_of t (suc n) (Commit x false)) refl (omega arith) (let more = z.more in omega (arith, more)))
             (λ k d lt passes. let w = within_parts t n last (get_or s.rest k d) passes in rest_plain k d lt w.0 w.2)
             ∙ ap (λ (V : Tables). moved_by accounts (Commit x false) (next t (Commit x false) V).1 V) s.there_is ∙ ap (λ d. moved_by accounts (Commit x false) d there) (sym s.code) ∙ ap (λ v. if is_done c then v else pos 0) keeps
           where
-            low : All (λ q. W q ≡ true → is_commit q.op ≡ false) (f.before ++ request_of t n (Prepare x) ∷ s.mid)
+            low : All (λ q. is_within t n last q ≡ true → is_commit q.op ≡ false) (f.before ++ request_of t n (Prepare x) ∷ s.mid)
             low k d lt passes =
                 let w = within_parts t n last (get_or (f.before ++ request_of t n (Prepare x) ∷ s.mid) k d) passes in
                 let under = below site (suc n) (Commit x false) (f.before ++ request_of t n (Prepare x) ∷ s.mid) s.rest s.place k d lt w.0 in

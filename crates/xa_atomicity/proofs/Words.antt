@@ -9,7 +9,7 @@ pub use Rattle.xa_base.proofs.{map-append, nat_cmp_total, nat_le, ne_eqb, next_t
 pub use Rattle.xa_base.proofs.{or_parts, pos, range_all, range_with_len, refl, rules, same_begins, same_Some, slice_get, slice_get-get_or, slice_get-map}
 pub use Rattle.xa_base.proofs.{slice_get_within, Some, some_same, subst, suc, sym, take, take-append-drop, tied_itself, tied_true, total_alike, total_both}
 pub use Rattle.xa_base.proofs.{total_nothing, true, unwrap_or, was_mapped, zero, ℕ, ℤ, ⊎_elim, ◌&&◌, ◌++◌, ◌+ℤ◌, ◌+◌, ◌-◌, ◌<◌, ◌==◌, ◌||◌, ◌∙◌, ◌∷◌, ◌≡◌}
-pub use Rattle.xa_base.proofs.{◌≢◌, ◌≤◌, ◌⊎◌}
+pub use Rattle.xa_base.proofs.{◌≢◌, ◌≤◌, ◌⊎◌, cases_eq, or-false}
 pub use Rattle.xa_base.specs.{Begins, Chain, IsUpTo, more, MOST_MANAGERS, total}
 pub use Rattle.xa_words.specs.{CloseRm, Code, Commit, Death, Decides-key_eq, Decides-xid_eq, Done, End, Forget, Heur, HeurCom, HeurRb, Nota, Op, OpenRm}
 pub use Rattle.xa_words.specs.{Prepare, Proto, RbIntegrity, RdOnly, Request, RmFail, Rollback, Start, tran_of, TranName, xid_cmp, xid_eq, XidName}
