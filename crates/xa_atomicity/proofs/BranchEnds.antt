@@ -104,9 +104,6 @@ module _ (law : Tabled) (first : (s : Settling) (m : ℕ) (T : Tables) → IsSet
         ∙ count_list commit fs g over_them (λ h. fate_through m x h ps) all unknown rest_so.0 rest_so.1
         ∙ ap (λ h. is_committed (fate_through m x h ps)) (sym settled_is)
 
-    done : IsEnded commit f → IsEnded commit (fate_through m x (settled_fate p.settled m x g) ps)
-    done e = rest.1 (settled_is ∙ last_ended commit fs g (fate_is ∙ ap reopened_fate e ∙ as_decided commit) all)
-
   -- all of them
   pub walk_counts : (os : List Opening) (T : Tables) (f : Fate) → Walk law first commit D L m up x os T f → CountsThrough os f T
   walk_counts [] T f w = (λ e. sym (ap is_committed e), λ e. e)
@@ -118,8 +115,11 @@ module _ (law : Tabled) (first : (s : Settling) (m : ℕ) (T : Tables) → IsSet
       let towards_accepted : All (λ (r : Request). IsTowards commit L x r.op) (accepted H1) =
       all_left (λ (r : Request). IsTowards commit L x r.op) (accepted H1) (first_shut H1 ++ late H1) (subst (All (λ (r : Request). IsTowards commit L x r.op)) (parted H1) w.0.towards) in
       let all : All (IsEnded commit) (fates x (accepted H1) T1) = search (arith, led_fates, stands_first) in
-      let rest : CountsThrough ps (settled_fate p.settled m x g) (tables_after H1 T1) = walk_counts ps (tables_after H1 T1) (settled_fate p.settled m x g) w.1 in
-      (waiting p ps f g T T1 refl refl all (with_T1.fates x g) rest, done p ps f g T T1 refl refl all (with_T1.fates x g) rest)
+      let rest : CountsThrough ps (settled_fate p.settled m x g) (tables_after H1 T1) = walk_counts ps (tables_after H1 T1) (settled_fate p.settled m x g) w.1 in (
+        waiting p ps f g T T1 refl refl all (with_T1.fates x g) rest,
+        λ e.
+            rest.1 (with_T1.fates x g ∙ last_ended commit (fates x (accepted H1) T1) g (ap reopened_fate e ∙ as_decided commit) all),
+      )
 
 -- nothing but resolves names the branch later, and they find what was decided
 pub record IsMarked (later : List Opening) (commit : Bool) (b : Branch) : Type 0 where
@@ -186,7 +186,8 @@ module _ (law : Tabled) (first : (s : Settling) (m : ℕ) (T : Tables) → IsSet
     -- a decision that a resolve was told is its fate in the end, where it is a decision
     which : Walks → (d : HeuristicDecision) → later_fate ≡ decided_fate d → L → IsListed b d later
     which w d is l =
-        subst (λ k. IsListed b k later) (decided_one l.0 d (sym (walk_tells law first commit (F ≡ history.InDoubt) L m up b.xid l.0 later (tables_after H T) F w l.1.resolve l.1.made l.1.outcome l.1.listed l.1.manager l.1.xid l.1.code) ∙ is)) l.1
+        subst (λ k. IsListed b k later) (decided_one l.0 d (sym (walk_tells law first commit (F ≡ history.InDoubt) L m up b.xid l.0 later
+        (tables_after H T) F w l.1.resolve l.1.made l.1.outcome l.1.listed l.1.manager l.1.xid l.1.code) ∙ is)) l.1
 
     last_walk : Walks → IsOver commit (F ≡ history.InDoubt) L later_fate × (is_prepared (tables_left (last_of o later) m) b.xid ≡ false)
     last_walk = walk_ends law first commit (F ≡ history.InDoubt) L m up b.xid o between last q (tables_after H T) F there scan reached

@@ -21,29 +21,26 @@ use Rattle.xa_atomicity.proofs.OneOutcome.{committed_law, positive_all}
 none_before : (lo m : ℕ) (bs : List Branch) → AreBranchesRising lo bs → m ≤ lo → has_branch_at bs m ≡ false
 none_before lo m [] r le = refl
 none_before lo m (b ∷ bs) r le =
-    let up = r.0 in
-    or_from (b.m == m) (has_branch_at bs m) (ne_eqb b.m m (λ same. omega (arith, same, up, le))) (none_before b.m m bs r.1 (omega (arith, up, le)))
+    or_from (b.m == m) (has_branch_at bs m) (ne_eqb b.m m (λ same. omega (arith, same, r.0, le))) (none_before b.m m bs r.1 (omega (arith, r.0, le)))
 
 -- what counts at the managers of branches alone may be summed over the branches
 over_branches : (g : ℕ → ℤ) (bs : List Branch) (lo n : ℕ) → AreBranchesRising lo bs → ((m : ℕ) → lo < m → has_branch_at bs m ≡ false → g m ≡ pos 0)
     → ((m : ℕ) → lo + n < m → g m ≡ pos 0) → total g (range_with_len (lo + 1) n) ≡ total (λ b. g b.m) bs
 over_branches g [] lo zero r none beyond = refl
 over_branches g (b ∷ bs) lo zero r none beyond =
-    let up = r.0 in
     let rest : total g (range_with_len (b.m + 1) zero) ≡ total (λ c. g c.m) bs =
-    over_branches g bs b.m zero r.1 (λ m lt _. beyond m (omega (arith, up, lt))) (λ m lt. beyond m (omega (arith, up, lt))) in
-    sym (λ i. beyond b.m (omega (arith, up)) i +ℤ sym rest i)
+    over_branches g bs b.m zero r.1 (λ m lt _. beyond m (omega (arith, r.0, lt))) (λ m lt. beyond m (omega (arith, r.0, lt))) in
+    sym (λ i. beyond b.m (omega (arith, r.0)) i +ℤ sym rest i)
 over_branches g [] lo (suc n) r none beyond =
     (λ i. none (lo + 1) (omega arith) refl i +ℤ over_branches g [] (lo + 1) n tt (λ m lt e. none m (omega (arith, lt)) e) (λ m lt. beyond m (omega (arith, lt))) i)
 over_branches g (b ∷ bs) lo (suc n) r none beyond =
-    let up = r.0 in
     elim (cases_eq b.m (lo + 1)) [
       | inl same ↦
           let later : AreBranchesRising (lo + 1) bs = subst (λ k. AreBranchesRising k bs) same r.1 in
           let others : (m : ℕ) → lo + 1 < m → has_branch_at bs m ≡ false → g m ≡ pos 0 = search (arith, or_from, ne_eqb, b.m) in
           λ i. g (sym same i) +ℤ over_branches g bs (lo + 1) n later others (λ m lt. beyond m (omega (arith, lt))) i
       | inr apart ↦
-          let above : lo + 1 < b.m = omega (arith, up, apart) in
+          let above : lo + 1 < b.m = omega (arith, r.0, apart) in
           let free : g (lo + 1) ≡ pos 0 = none (lo + 1) (omega arith) (none_before (lo + 1) (lo + 1) (b ∷ bs) (above, r.1) (omega arith)) in
           ap (λ v. v +ℤ total g (range_with_len (lo + 1 + 1) n)) free ∙ none_plus _
           ∙ over_branches g (b ∷ bs) (lo + 1) n (above, r.1) (λ m lt f. none m (omega (arith, lt)) f) (λ m lt. beyond m (omega (arith, lt)))
@@ -78,7 +75,8 @@ module _ (law : Tabled) (opens : (s : Settling) (m : ℕ) → IsSettled s → (T
       → moved_until later ≡ moved_until at +ℤ total (λ m. moved_in m (count at m) (count later m)) (managers_of p)
   moved_on at later grown =
       all_alike (λ m. moved_in m 0 (count later m)) (λ m. moved_in m 0 (count at m) +ℤ moved_in m (count at m) (count later m)) (λ m positive.
-      moved_parted (accounts_of p m) t (count at m) (count later m) (history s m) (opening (accounts_of p m)) (let b = (grown.each m positive).sent in let e = ap length b.1 in omega (arith, e, length-append (ledger at m).sent b.0)))
+      moved_parted (accounts_of p m) t (count at m) (count later m) (history s m) (opening (accounts_of p m))
+      (let b = (grown.each m positive).sent in let e = ap length b.1 in omega (arith, e, length-append (ledger at m).sent b.0)))
       ∙ total_both (λ m. moved_in m 0 (count at m)) (λ m. moved_in m (count at m) (count later m)) (managers_of p)
 
   -- requests without a Commit move nothing
@@ -92,7 +90,8 @@ module _ (law : Tabled) (opens : (s : Settling) (m : ℕ) → IsSettled s → (T
 
   -- where nothing was sent nothing was moved
   none_within : (m k : ℕ) → moved_in m k k ≡ pos 0
-  none_within m k = moved_without (accounts_of p m) (is_within t k k) (history s m) (opening (accounts_of p m)) (λ j d lt here. let w = within_parts t k k (get_or (history s m) j d) here in let low = w.1 in let high = w.2 in absurd (omega (arith, low, high)))
+  none_within m k = moved_without (accounts_of p m) (is_within t k k) (history s m) (opening (accounts_of p m))
+      (λ j d lt here. let w = within_parts t k k (get_or (history s m) j d) here in let low = w.1 in let high = w.2 in absurd (omega (arith, low, high)))
 
   -- a manager that isn't there has no accounts
   no_accounts : (m : ℕ) → length p.managers.items < m → accounts_of p m ≡ []
@@ -185,7 +184,9 @@ module _ (law : Tabled) (opens : (s : Settling) (m : ℕ) → IsSettled s → (T
     call_moves : moved_for old new bs +ℤ held_in_doubt p s t old bs d ≡ pos 0
     call_moves =
         let each =
-        outcome_all (λ b. 1 ≤ b.m) (λ b v e. Both law opens s t b (count old b.m) (count new b.m) v e) (BranchMoves old new) (branch_moves old new) bs d.votes.items d.endings.items (positive_all 0 bs made.may.rising) (all_outcomes law opens s t bs desk new log later d settled made grown alone) in
+        outcome_all (λ b. 1 ≤ b.m) (λ b v e. Both law opens s t b (count old b.m) (count new b.m) v e) (BranchMoves old new)
+        (branch_moves old new) bs d.votes.items d.endings.items (positive_all 0 bs made.may.rising)
+        (all_outcomes law opens s t bs desk new log later d settled made grown alone) in
         elim (has_committed d) as (λ c. has_committed d ≡ c → moved_for old new bs +ℤ (if c then total_in_doubt (added_before p s t old) bs d.endings.items else pos 0) ≡ pos 0) [
           | true ↦ λ some.
               let whole = committed_law made.may.tran bs desk new log later d made made.may.one some in

@@ -47,9 +47,8 @@ module _ {t : ℕ} {T : Tables} {H : History} (s : Site t T H) (x : XidName) (n 
 pub rest_forgets : {t : ℕ} {T : Tables} {H : History} (s : Site t T H) (x : XidName) (n last : ℕ) (vote : Code) (op : Op) (c : Code) (z : Sends s x n last vote op c) (f : StandsIn t n (Prepare x) vote T H) (r : Second s n (Prepare x) vote f op c)
     → All (λ q. q.thread ≡ t → q.number < last → is_forget q.op ≡ true) r.rest
 rest_forgets {t} {T} {H} s x n last vote op c z f r k d lt own less =
-    let up = r.later k d lt own in
     all_after (λ (q : Request). q.thread ≡ t → suc n < q.number → q.number < last → is_forget q.op ≡ true) (f.before ++ request_of t n (Prepare x) ∷ r.mid) (request_of t (suc n) op) r.rest
-    (subst (All (λ (q : Request). q.thread ≡ t → suc n < q.number → q.number < last → is_forget q.op ≡ true)) r.place z.forgets) k d lt own (omega (arith, up)) less
+    (subst (All (λ (q : Request). q.thread ≡ t → suc n < q.number → q.number < last → is_forget q.op ≡ true)) r.place z.forgets) k d lt own (omega (arith, r.later k d lt own)) less
 
 -- ---- what the thread sends of it
 
@@ -158,20 +157,18 @@ module _ {t : ℕ} {T : Tables} {H : History} (s : Site t T H) (x : XidName) (co
             → (c : Code) × (z ≡ Some c) × Sends s x n last vote op c
         by_second None o f = absurd o
         by_second (Some c) (withholds shut fails same) f = absurd (open_still shut)
-        by_second (Some c) (asks stands h to) (inl same) =
-            let e = two_is (ap (λ (z : Sent). z.number) to) in
-            let z = ap (λ (z : Sent). z.number) same in
-            (c, refl, record { first = first; second = subst (λ k. StandsIn t k op c T H) number_is stands; more = omega (arith, z, e); forgets = λ k d lt own up less. absurd (omega (arith, up, less, z, e)) })
-        by_second (Some c) (asks stands h to) (inr g) =
-            let e = two_is (ap (λ (z : Sent). z.number) to) in
-            let z = g.3 in (
+        by_second (Some c) (asks stands h to) f =
+            let e = two_is (ap (λ (z : Sent). z.number) to) in (
               c,
               refl,
               record {
                 first = first;
                 second = subst (λ k. StandsIn t k op c T H) number_is stands;
-                more = omega (arith, z, e);
-                forgets = λ k d lt own up less. ap is_forget (only_op s decided.number (Forget x) g.0 g.2 k d lt own (omega (arith, up, less, z, e)));
+                more = elim f as (λ _. n + 1 < last) [ inl same ↦ let z = ap (λ (z : Sent). z.number) same in omega (arith, z, e) | inr g ↦ omega (arith, g.3, e) ];
+                forgets = λ k d lt own up less. elim f as (λ _. is_forget (get_or H k d).op ≡ true) [
+                  | inl same ↦ let z = ap (λ (z : Sent). z.number) same in absurd (omega (arith, up, less, z, e))
+                  | inr g ↦ ap is_forget (only_op s decided.number (Forget x) g.0 g.2 k d lt own (omega (arith, up, less, g.3, e)))
+                ];
               },
             )
 
@@ -183,7 +180,8 @@ module _ {t : ℕ} {T : Tables} {H : History} (s : Site t T H) (x : XidName) (co
         by_if Ends (is_read vote) _ _ (λ r. Reads r (one (none_wanted x vote commit y (ap (λ q. q || (is_rolled_back vote || is_out_of_reach vote)) r)))) (λ r.
         by_if Ends (is_rolled_back vote) _ _ (λ k. Breaks k (one (none_wanted x vote commit y (ap (λ q. is_read vote || (q || is_out_of_reach vote)) k ∙ or-true (is_read vote))))) (λ k.
         by_if Ends (is_out_of_reach vote) _ _ (λ o.
-        Stays vote y (one (none_wanted x vote commit y (ap (λ q. is_read vote || (is_rolled_back vote || q)) o ∙ ap (λ q. is_read vote || q) (or-true (is_rolled_back vote)) ∙ or-true (is_read vote))))) (λ o.
+        Stays vote y (one (none_wanted x vote commit y (ap (λ q. is_read vote || (is_rolled_back vote || q)) o ∙ ap (λ q. is_read vote || q)
+        (or-true (is_rolled_back vote)) ∙ or-true (is_read vote))))) (λ o.
         by_commit commit refl y r k o))))
       where
         by_commit : (b : Bool) → commit ≡ b → is_yes vote ≡ false → is_read vote ≡ false → is_rolled_back vote ≡ false → is_out_of_reach vote ≡ false → Ends (no_ending vote second)

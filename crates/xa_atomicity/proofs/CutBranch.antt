@@ -159,10 +159,9 @@ module _ {t : ℕ} {T : Tables} {H : History} (s : Site t T H) (x : XidName) (a 
     guide c f k d lt named plain =
         let between : IsBetween t n (length a'.sent) (get_or f.after k d) = only f.before f.after (request_of t n (Prepare x)) f.place refl refl k d lt named plain in
         let up = above s n (Prepare x) f.before f.after f.place k d lt between.thread in
-        let down = between.below in
-        let first = length-append a.sent (Prepare x ∷ []) in
         let long : length a'.sent ≡ suc (n + length h.rest) = ap (λ l. length l) h.sent ∙ (let e = length-append a.sent (Prepare x ∷ h.rest) in omega (arith, e)) in
-        all_after IsLeading f.before (request_of t n (Prepare x)) f.after (subst (All IsLeading) f.place leading) k d lt between.thread (omega (arith, up, first)) (omega (arith, down, long, first)) named
+        all_after IsLeading f.before (request_of t n (Prepare x)) f.after (subst (All IsLeading) f.place leading) k d lt between.thread
+        (omega (arith, up, length-append a.sent (Prepare x ∷ []))) (omega (arith, between.below, long, length-append a.sent (Prepare x ∷ []))) named
 
     -- whatever its fate was before
     any_so : StandsIn t n (Prepare x) Done T H → (g k : Fate) → last_or g (fates x H T) ≡ last_or k (fates x H T)
@@ -195,10 +194,13 @@ module _ {t : ℕ} {T : Tables} {H : History} (s : Site t T H) (x : XidName) (a 
         let parts = subst (All Q) later.after all in
         let now : Tables = (next t (Prepare x) (tables_after f.before T)).0 in
         let code : (next t (outcome_op commit x) (tables_after later.mid now)).1 ≡ decision_code d =
-        sym (second.code ∙ ap (λ (h : History). (next t (outcome_op commit x) (tables_after h T)).1) later.before ∙ ap (λ (U : Tables). (next t (outcome_op commit x) U).1) (tables_after-append f.before (P1 ∷ later.mid) T)) ∙ e in
+        sym (second.code ∙ ap (λ (h : History). (next t (outcome_op commit x) (tables_after h T)).1) later.before ∙ ap
+        (λ (U : Tables). (next t (outcome_op commit x) U).1) (tables_after-append f.before (P1 ∷ later.mid) T)) ∙ e in
         s.law.leaves H x g T ∙ fate_any s.law commit (Unit {0}) (Unit {0}) t n x T H s.opening f.before f.after f.place (sym f.code) all g
         ∙ told_there commit (Unit {0}) (Unit {0}) t k x now f.after later.mid second.after history.InDoubt later.after s.law
-        (guided_after commit (Unit {0}) (Unit {0}) x later.mid now history.InDoubt (all_left Q later.mid (S ∷ second.after) parts) (stands_now s.law commit (Unit {0}) (Unit {0}) t n x T H s.opening f.before f.after f.place (sym f.code) all tt)) (all_after Q later.mid S second.after parts) d code
+        (guided_after commit (Unit {0}) (Unit {0}) x later.mid now history.InDoubt (all_left Q later.mid (S ∷ second.after) parts)
+        (stands_now s.law commit (Unit {0}) (Unit {0}) t n x T H s.opening f.before f.after f.place (sym f.code) all tt))
+        (all_after Q later.mid S second.after parts) d code
 
     pub told_end : is_decided c ≡ true → (L : Type 0) (g : Fate) → AtEnd commit (Unit {0}) L x (fate x g H T) H T (yes_ending commit (Some c))
     told_end decided L g =

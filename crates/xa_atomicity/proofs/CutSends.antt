@@ -50,14 +50,16 @@ module _ (bad : Op → Bool) (prepares : (x : XidName) → bad (Prepare x) ≡ f
 
       at_branch : (b : Branch) → CameAt tran bs old new log later es b → None_ b
       at_branch b (at_asking same h) =
-          none_sent b (on (Good b.xid) (ledger old b.m) h.left (ledger new b.m) (begun_sends (Good b.xid) (Some (Prepare b.xid)) (ledger old b.m) h.left (good_so b.xid (Prepare b.xid) (prepares b.xid)) h.asks)
+          none_sent b (on (Good b.xid) (ledger old b.m) h.left (ledger new b.m)
+          (begun_sends (Good b.xid) (Some (Prepare b.xid)) (ledger old b.m) h.left (good_so b.xid (Prepare b.xid) (prepares b.xid)) h.asks)
           (other_sends (Good b.xid) b.xid h.left (ledger new b.m) (other_good b.xid) h.after))
       at_branch b (at_telling votes logged logs v vote h) =
           none_sent b (all_sent (Good b.xid) b v (ledger old b.m) (ledger new b.m) (good_so b.xid (Prepare b.xid) (prepares b.xid))
           (told_voted (Good b.xid) (decision_of votes logged) b v (ledger old b.m) (ledger new b.m) (other_good b.xid) (second votes logged logs b v vote) h))
       at_branch b (at_forgetting votes logged logs v vote z h known) =
           none_sent b (all_sent (Good b.xid) b v (ledger old b.m) (ledger new b.m) (good_so b.xid (Prepare b.xid) (prepares b.xid))
-          (ended_voted (Good b.xid) (decision_of votes logged) b v (ledger old b.m) (ledger new b.m) (other_good b.xid) (second votes logged logs b v vote) z (third_so (Good b.xid) b.xid z (λ _. good_so b.xid (Forget b.xid) (forgets b.xid))) h))
+          (ended_voted (Good b.xid) (decision_of votes logged) b v (ledger old b.m) (ledger new b.m) (other_good b.xid) (second votes logged logs b v vote) z
+          (third_so (Good b.xid) b.xid z (λ _. good_so b.xid (Forget b.xid) (forgets b.xid))) h))
 
 -- ---- by the record
 
@@ -113,7 +115,8 @@ sends_so_far P m positive ks at now good far =
     (λ here.
     let (k, j, below, at_k, same) = Any-from_list_any (λ (j : Ask). j.manager == m) ks here in
     let begun : IsBegun j.op (ledger at j.manager) (ledger now j.manager) = All-contains (λ (j : Ask). IsBegun j.op (ledger at j.manager) (ledger now j.manager)) ks j far.each (k, below, at_k) in
-    begun_sends P j.op (ledger at m) (ledger now m) (All-contains (λ (j : Ask). IsAskedFor P j.op) ks j good (k, below, at_k)) (subst (λ (n : ℕ). IsBegun j.op (ledger at n) (ledger now n)) (eqb-true j.manager m same) begun))
+    begun_sends P j.op (ledger at m) (ledger now m) (All-contains (λ (j : Ask). IsAskedFor P j.op) ks j good (k, below, at_k))
+    (subst (λ (n : ℕ). IsBegun j.op (ledger at n) (ledger now n)) (eqb-true j.manager m same) begun))
     (λ other. subst (Sends P (ledger at m)) (sym (far.others m positive other)) (stays P (ledger at m)))
 
 -- the second round is of what the first asked

@@ -224,10 +224,6 @@ each_came {bs = bs} {old = old} {new = new} {es = es} rising (forgetting votes l
 pub any_voted : (commit : Bool) (b : Branch) (v : Code) (s : Option Code) (a a' : LedgerView) → IsEnded commit b v s a a' → HasVoted Any b v a a'
 any_voted commit b v s a a' = ended_voted Any commit b v a a' (λ op _. tt) (any_asked (second_op commit b.xid v)) s (any_asked (third_op b.xid s))
 
-ended_votes : (commit : Bool) (old new : List LedgerView) (bs : List Branch) (vs : List Code) (ss : List (Option Code)) (es : List Ending)
-    → EachBranch (Ended commit old new) bs vs ss es → EachVote (Votes old new) bs vs
-ended_votes commit old new = branch_votes (Ended commit old new) (Votes old new) (λ b v s e z. any_voted commit b v s (ledger old b.m) (ledger new b.m) z.0)
-
 -- ---- a commit that came to its end
 
 pub did_nothing : (x : XidName) (a : LedgerView) → DidOther x a a
@@ -254,8 +250,14 @@ pub finished_law : (bs : List Branch) (desk : DeskView) (new : List LedgerView) 
     → IsCut bs desk new log later d.endings.items
 finished_law bs desk new log later d made = record {
   may = made.may;
-  far = forgetting d.votes.items d.logged made.trace.course.seconds made.trace.course.logs (subst (λ c. EachBranch (Ended c desk.ledgers new) bs d.votes.items made.trace.course.seconds d.endings.items) made.trace.course.decision
-      (branch_map (λ b. Unit {0}) (Traced d.commit desk.ledgers new) (Ended d.commit desk.ledgers new) (λ b v s e _ h. (ended_so d.commit b v s e (ledger desk.ledgers b.m) (ledger new b.m) h, h.ends)) bs d.votes.items made.trace.course.seconds d.endings.items (λ k e lt. tt) made.trace.course.each));
+  far = forgetting d.votes.items d.logged made.trace.course.seconds made.trace.course.logs
+      (subst (λ c. EachBranch (Ended c desk.ledgers new) bs d.votes.items made.trace.course.seconds d.endings.items) made.trace.course.decision
+      (branch_map (λ b. Unit {0}) (Traced d.commit desk.ledgers new) (Ended d.commit desk.ledgers new)
+      (λ b v s e _ h. (
+        ended_so d.commit b v s e (ledger desk.ledgers b.m)
+            (ledger new b.m) h,
+        h.ends,
+      )) bs d.votes.items made.trace.course.seconds d.endings.items (λ k e lt. tt) made.trace.course.each));
   managers = made.trace.managers;
 }
 
@@ -294,7 +296,10 @@ cut_keeps mark t m up bs desk new log later es c quiet e = so_far c.far
     so_far (telling votes logged logs none each) =
         logs_keep mark t m up bs votes logged log later c.may.tran c.may.absent (λ same _.
         none_of (λ b v. IsTold (decision_of votes logged) b v (ledger desk.ledgers b.m) (ledger new b.m)) t m (λ b v of at h.
-        quiet same b v of at (told_voted Any (decision_of votes logged) b v (ledger desk.ledgers b.m) (ledger new b.m) (λ _ _. tt) (any_asked (second_op (decision_of votes logged) b.xid v)) h)) bs votes (subst (IsTranOf bs) same c.may.one) each) e logs
+        quiet same b v of at (told_voted Any (decision_of votes logged) b v (ledger desk.ledgers b.m) (ledger new b.m) (λ _ _. tt)
+        (any_asked (second_op (decision_of votes logged) b.xid v)) h)) bs votes (subst (IsTranOf bs) same c.may.one) each) e logs
     so_far (forgetting votes logged seconds logs each) =
         logs_keep mark t m up bs votes logged log later c.may.tran c.may.absent (λ same _.
-        none_of (Votes desk.ledgers new) t m (quiet same) bs votes (subst (IsTranOf bs) same c.may.one) (ended_votes (decision_of votes logged) desk.ledgers new bs votes seconds es each)) e logs
+        none_of (Votes desk.ledgers new) t m (quiet same) bs votes (subst (IsTranOf bs) same c.may.one)
+        (branch_votes (Ended (decision_of votes logged) desk.ledgers new) (Votes desk.ledgers new) (λ b v s e z.
+        any_voted (decision_of votes logged) b v s (ledger desk.ledgers b.m) (ledger new b.m) z.0) bs votes seconds es each)) e logs

@@ -266,7 +266,9 @@ module _ {t : ℕ} {T : Tables} {H : History} (site : Site t T H) (x : XidName) 
   refused : (c : Code) → is_yes vote ≡ false → Sends site x n last vote (Rollback x) c → Goal (no_ending vote (Some c))
   refused c y z =
       by_if Goal (is_done c || is_rolled_back c) RolledBack _ (λ back.
-      no_vote RolledBack y refl (λ g is. ended_by false c z history.RolledBack (at_true (xid_eq x x) _ None (xid_self x) ∙ at_true (is_done c || is_rolled_back c) _ None back) refl ∙ (let q : Some history.RolledBack ≡ Some g = is in cc))) (λ _.
+      no_vote RolledBack y refl (λ g is. ended_by false c z history.RolledBack
+      (at_true (xid_eq x x) _ None (xid_self x) ∙ at_true (is_done c || is_rolled_back c) _ None back) refl
+      ∙ (let q : Some history.RolledBack ≡ Some g = is in cc))) (λ _.
       by_if Goal (is_heuristic_code c) (Heuristic c) (Left c) (λ _. no_vote (Heuristic c) y refl (heuristic_told c z)) (λ _. no_vote (Left c) y refl (λ g is. cc)))
     where
       told_with : (d : HeuristicDecision) (c : Code) → c ≡ decision_code d → Sends site x n last vote (Rollback x) c → fate x f0 H T ≡ decided_fate d

@@ -315,7 +315,11 @@ module _ (commit : Bool) (D L : Type 0) (t n : ℕ) (x : XidName) (T : Tables) (
         let led = step_led commit true D L x here (tables_after before T) st.stands st.sound t (outcome_op commit x) (ends_towards commit L x x) in
         let stands : Stands commit true D L (state_of told.0 x) (ended_as commit) = subst (λ (o : Option Fate). Stands commit true D L (state_of told.0 x) (unwrap_or o here)) made led.stands in
         let silent : fates x after told.0 ≡ [] =
-        (fates_once commit D L x after told.0 (ended_as commit) guide (record { stands = stands; sound = sound_after t (outcome_op commit x) (tables_after before T) st.sound })).0 (ended_known commit) in
+        (fates_once commit D L x after told.0 (ended_as commit) guide (record {
+          stands = stands;
+          sound = sound_after t (outcome_op commit x)
+              (tables_after before T) st.sound;
+        })).0 (ended_known commit) in
         after_it ∙ (λ i. last_or here (cons_option (made i) (silent i)))
 
     -- a decision that it was told is its fate
@@ -361,7 +365,9 @@ module _ (law : Tabled) (commit : Bool) (D L : Type 0) (t n : ℕ) (x : XidName)
   pub at_last : D → (f : Fate) → Standing commit true D L x (tables_after H T) (fate x f H T)
   at_last doubt f =
       subst (λ (g : Fate). Standing commit true D L x (tables_after H T) g) (sym (law.leaves H x f T ∙ fate_any f))
-      (subst (λ (V : Tables). Standing commit true D L x V (last_or history.InDoubt (fates x after now))) (sym (ap (λ (h : History). tables_after h T) place ∙ tables_after-append before (request_of t n (Prepare x) ∷ after) T)) (guided_after commit D L x after now history.InDoubt guide (stands_now doubt)))
+      (subst (λ (V : Tables). Standing commit true D L x V (last_or history.InDoubt (fates x after now)))
+      (sym (ap (λ (h : History). tables_after h T) place ∙ tables_after-append before (request_of t n (Prepare x) ∷ after) T))
+      (guided_after commit D L x after now history.InDoubt guide (stands_now doubt)))
 
   -- and so what the Prepare and what is after it make of it
   pub fates_from : D → (f : Fate) → fates x (request_of t n (Prepare x) ∷ after) U ≡ history.InDoubt ∷ once (fate x f H T)

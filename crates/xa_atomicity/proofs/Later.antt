@@ -74,7 +74,8 @@ placed t T H op code a ops pairs carried answered i =
       rest = q.after;
       place = place;
       open_ = no_closes t q.before (own_all t IsNoClose q.before (suc n) i.mid q.earlier i.open_);
-      code_is = code_there t H T pairs m code answered (subst (λ k. Contains pairs (k, code)) more i.told) (p.before ++ request_of t n OpenRm ∷ q.before) q.after op place (count_two t n OpenRm p.before q.before a.sent i.mid p.earlier q.earlier ∙ more);
+      code_is = code_there t H T pairs m code answered (subst (λ k. Contains pairs (k, code)) more i.told)
+          (p.before ++ request_of t n OpenRm ∷ q.before) q.after op place (count_two t n OpenRm p.before q.before a.sent i.mid p.earlier q.earlier ∙ more);
     }
 
 -- a thread that asks to open has the manager open, unless it is shut
@@ -117,7 +118,8 @@ module _ (commit : Bool) (D L : Type 0) (t : ℕ) (x : XidName) (T : Tables) (H 
   -- after it the branch is no longer open
   pub placed_ends : Standing commit false D L x (tables_after H T) (last_or f (fates x H T))
   placed_ends =
-      led_there commit D L t z.ends x T H before z.rest f z.place now.sound false rest_here (ends_it commit D L x (last_or f (fates x before T)) U now.sound t open_now has_it now.stands (λ d e. told d (z.code_is ∙ e)))
+      led_there commit D L t z.ends x T H before z.rest f z.place now.sound false rest_here
+      (ends_it commit D L x (last_or f (fates x before T)) U now.sound t open_now has_it now.stands (λ d e. told d (z.code_is ∙ e)))
 
   -- what it was told is its fate
   module _ (law : Tabled) where

@@ -4,7 +4,7 @@ use Rattle.xa_atomicity.proofs.Words.{refl, ap, ◌∙◌, subst, Option, Some, 
 use Rattle.xa_atomicity.proofs.Words.{and-false, by_if, at_false, at_true, XidName, xid_eq, Decides-xid_eq, Done, Nota, Proto, RmFail, Op, Commit, Rollback}
 use Rattle.xa_atomicity.proofs.Words.{Forget, Request, Code, xid_self, State, HeuristicallyCompleted, HeuristicDecision, has_opened, state_of, exists, is_S5}
 use Rattle.xa_atomicity.proofs.Words.{is_left_in, is_prepared, is_completed, is_rollback_only, is_somebody_associated, reason_of, decision_code, Answer, next}
-use Rattle.xa_atomicity.proofs.Words.{by_rules, commit_two, rollback, forget, gone, Fate, tables_after, fate_of, is_done, last_or, decided_fate, reopened}
+use Rattle.xa_atomicity.proofs.Words.{by_rules, commit_two, rollback, gone, Fate, tables_after, fate_of, is_done, last_or, decided_fate, reopened}
 use Rattle.xa_atomicity.proofs.Words.{reopened_fate, names, Tables, History, Prepared, Sound, Nowhere, AtWork, standing, nobody_rests, get_gone, sound_after}
 use Rattle.xa_atomicity.proofs.Words.{last_more, state_reopened, unnamed_fate, unnamed_stays, ended_as, outcome_op, or-true}
 use Rattle.xa_tables.specs.{decision_of, committed}
@@ -94,16 +94,15 @@ module _ (commit open_ : Bool) (D L : Type 0) (x : XidName) (f : Fate) (T : Tabl
       by_if P (is_completed T x) _ _ (λ e. same (Rollback x) (decision_of T x) (named_self x _ ∙ decision_rolls_nothing_back (state_of T x) e)) (λ open_now.
       by_if P (is_somebody_associated T.associations x) _ _ (λ _. same (Rollback x) Proto (refuses (Rollback x)).0) (λ _.
       by_if P (is_rollback_only T x) _ _
-      (λ e. gone_so commit open_ D L x f (Rollback x) (reason_of T x) T (undecided there open_now) (named_self x _ ∙ ap (λ b. if is_done (reason_of T x) || b then Some history.RolledBack else None) (reason_rolls_back (state_of T x) e) ∙ at_true (is_done (reason_of T x) || true) (Some history.RolledBack) None (or-true (is_done (reason_of T x))) ∙ ends))
+      (λ e. gone_so commit open_ D L x f (Rollback x) (reason_of T x) T (undecided there open_now)
+      (named_self x _ ∙ ap (λ b. if is_done (reason_of T x) || b then Some history.RolledBack else None) (reason_rolls_back (state_of T x) e) ∙ at_true
+      (is_done (reason_of T x) || true) (Some history.RolledBack) None (or-true (is_done (reason_of T x))) ∙ ends))
       (λ _. gone_so commit open_ D L x f (Rollback x) Done T (undecided there open_now) (named_self x (Some history.RolledBack) ∙ ends)))))
 
   forgets : L → is_S5 (state_of T x) ≡ true → Stands commit open_ D L (state_of T x) f → Stands commit open_ D L None f
   forgets l h (waits y o e g) = let z : true ≡ false = sym h ∙ ap is_S5 e in cc
   forgets l h (unforgotten d e g k) = over refl (inr (d, (g, l)))
   forgets l h (over e g) = over refl g
-
-  forgetting : L → Led commit open_ D L x (Forget x) f (forget x T)
-  forgetting l = search (arith, same, gone_state, forgets, not-false)
 
   unless_refused : (t : ℕ) (op : Op) → Led commit open_ D L x op f (by_rules t op T) → Led commit open_ D L x op f (next t op T)
   unfolding next
@@ -119,7 +118,8 @@ module _ (commit open_ : Bool) (D L : Type 0) (x : XidName) (f : Fate) (T : Tabl
   named_led t (Rollback y) n l =
       subst (λ (z : XidName). Led commit open_ D L x (Rollback z) f (next t (Rollback z) T)) (sym ((Decides-xid_eq y x).0 n)) (unless_refused t (Rollback x) (rolling_back l))
   named_led t (Forget y) n l =
-      subst (λ (z : XidName). Led commit open_ D L x (Forget z) f (next t (Forget z) T)) (sym ((Decides-xid_eq y x).0 n)) (unless_refused t (Forget x) (forgetting l))
+      subst (λ (z : XidName). Led commit open_ D L x (Forget z) f (next t (Forget z) T)) (sym ((Decides-xid_eq y x).0 n))
+      (unless_refused t (Forget x) (search (arith, same, gone_state, forgets, not-false)))
   named_led t op n l = absurd l
 
   -- a request that doesn't name it, or leads it
@@ -183,7 +183,8 @@ module _ (commit : Bool) (D L : Type 0) (x : XidName) (f : Fate) (T : Tables) (s
   -- one that awaits the outcome
   prepared_ends : D → state_of T x ≡ Some Prepared → Led commit false D L x (outcome_op commit x) f (next t (outcome_op commit x) T)
   prepared_ends y e =
-      subst (Led commit false D L x (outcome_op commit x) f) (sym (answer commit)) (gone_so commit false D L x f (outcome_op commit x) Done (if commit then committed x T else T) y (ends_fate commit x))
+      subst (Led commit false D L x (outcome_op commit x) f) (sym (answer commit))
+      (gone_so commit false D L x f (outcome_op commit x) Done (if commit then committed x T else T) y (ends_fate commit x))
     where
       free : is_somebody_associated T.associations x ≡ false
       free = search (arith, nobody_rests)

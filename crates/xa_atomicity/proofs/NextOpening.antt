@@ -54,13 +54,11 @@ pub begins_with : (s next : Settling) (again : Again) (m : ℕ) (T : _) → IsOf
 begins_with s next again m T of first =
     let n : ℕ = managers_in s in
     let within = was_there s next again m T of first in
-    let low = within.0 in
-    let high = within.1 in
-    let same : m - 1 + 1 ≡ m = omega (arith, low) in
-    let below : m - 1 < length (range_with_len 1 n) = let size = length-range_with_len 1 n in omega (arith, low, high, size) in
+    let same : m - 1 + 1 ≡ m = omega (arith, within.0) in
+    let below : m - 1 < length (range_with_len 1 n) = let size = length-range_with_len 1 n in omega (arith, within.0, within.1, size) in
     let number : slice_get (range_with_len 1 n) (m - 1) ≡ Some (m - 1 + 1) =
     slice_get-get_or (range_with_len 1 n) (m - 1) m below
-    ∙ ap (λ k. Some k) (let e = get_or-range_with_len 1 n (m - 1) m (omega (arith, low, high)) in omega (arith, e, low)) in
+    ∙ ap (λ k. Some k) (let e = get_or-range_with_len 1 n (m - 1) m (omega (arith, within.0, within.1)) in omega (arith, e, within.0)) in
     let given : slice_get (map (reopened_at s.managers) (range_with_len 1 n)) (m - 1) ≡ Some (reopened_at s.managers (m - 1 + 1)) =
     slice_get-map (reopened_at s.managers) (range_with_len 1 n) (m - 1) ∙ ap (option_map (reopened_at s.managers)) number in
     same_Some _ _ (sym first ∙ ap (first_of next) (sym same) ∙ of.opened (m - 1) (reopened_at s.managers (m - 1 + 1)) given)
@@ -78,9 +76,7 @@ pub scan_of : (s next : Settling) (again : Again) (z : ScanView) → IsOf (reope
 scan_of s next again z of scanned m T first =
     let within = was_there s next again m T of first in
     let low = within.0 in
-    let high = within.1 in
-    let many = scanned.left.managers in
-    rw (begins_with s next again m T of first) (left_each _ z scanned.left.each m low (omega (arith, high, many)))
+    rw (begins_with s next again m T of first) (left_each _ z scanned.left.each m low (omega (arith, within.1, scanned.left.managers)))
 
 -- resolves that find what the log has of the transaction use it so
 pub uses_by : (t : TranName) (records : Records) (qs : List ResolveCall) → All (λ r. record_in r.records t ≡ record_in records t) qs
@@ -248,7 +244,9 @@ module _ (law : Tabled) (first : (s : Settling) (m : ℕ) (T : Tables) → IsSet
     with_T = first s m T settled begins
 
     marks : All (FindsMark r.commit (tran_of x) m) (resolves q ∷ [])
-    marks = All-cons (FindsMark r.commit (tran_of x) m) (resolves q) [] (sym (outcome_asked q.scan q.records q.old q.new q.outcomes use_.made m up (ledger (ledgers_of s q.thread) m) (use_.grown.each m up.0) r among refl).decision) (All-nil (FindsMark r.commit (tran_of x) m))
+    marks = All-cons (FindsMark r.commit (tran_of x) m) (resolves q) []
+        (sym (outcome_asked q.scan q.records q.old q.new q.outcomes use_.made m up (ledger (ledgers_of s q.thread) m)
+        (use_.grown.each m up.0) r among refl).decision) (All-nil (FindsMark r.commit (tran_of x) m))
 
     towards : All (λ p. IsTowards r.commit (Unit {0}) x p.op) H
     towards = opening_towards law first r.commit (Unit {0}) (Unit {0}) m up x o kept only marks (λ _ _ _ _ _ _ _. tt)
@@ -265,7 +263,8 @@ module _ (law : Tabled) (first : (s : Settling) (m : ℕ) (T : Tables) → IsSet
         let z =
         answered_at law first r.commit (Unit {0}) (Unit {0}) m up x o T before step q (zero, omega arith, refl) r among refl refl (reached_so r.commit r.code f tells) in
         with_T.fates x before ∙ law.leaves H x before T
-        ∙ placed_so r.commit (Unit {0}) (Unit {0}) q.thread x T H before r.code towards (record { stands = stands; sound = opening_sound T with_T.opened }) (reached_so r.commit r.code f tells) (λ _ _. tt) z law f tells
+        ∙ placed_so r.commit (Unit {0}) (Unit {0}) q.thread x T H before r.code towards (record { stands = stands; sound = opening_sound T with_T.opened })
+        (reached_so r.commit r.code f tells) (λ _ _. tt) z law f tells
 
   -- so of each
   pub outcomes_law : ((r : Outcome) → Contains q.outcomes r → OnlyResolves (tran_of r.xid) o) → TellsTheOutcomes s q.outcomes

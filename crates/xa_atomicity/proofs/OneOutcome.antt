@@ -99,7 +99,8 @@ module _ (mark : Bool) (t : TranName) (m : ℕ) (up : IsUpTo MOST_MANAGERS m) wh
             let is : own ≡ t = sym (tran_cmp-IsAntisymmetric t own (is_equal _ same)) in
             let unmarked : mark ≡ false = sym e ∙ ap (λ o. names o m) (ap (map.get log.records) (sym is) ∙ absent) in
             ap (λ (k : TranName). is_marked (map.insert log.records own (yes_of bs vs)) k m) (sym is)
-            ∙ ap (λ o. names o m) (get-insert tran_cmp_total log.records own (yes_of bs vs) own ∙ ap (λ c. cond c (Some (yes_of bs vs)) (map.get log.records own)) (ap is_eq (tied_itself tran_cmp_total own)))
+            ∙ ap (λ o. names o m) (get-insert tran_cmp_total log.records own (yes_of bs vs) own ∙ ap
+            (λ c. cond c (Some (yes_of bs vs)) (map.get log.records own)) (ap is_eq (tied_itself tran_cmp_total own)))
             ∙ mark_is m bs vs up ∙ quiet is unmarked ∙ sym unmarked
       ] refl
 
@@ -256,7 +257,9 @@ module _ (tran : TranName) (bs : List Branch) (desk : DeskView) (new : List Ledg
   -- on abort
   pub aborted : d.commit ≡ false → IsAbortedTransaction tran desk.ledgers new later d
   aborted off = record {
-    uncommitted = none_end (Traced d.commit desk.ledgers new) d.commit is_committed (λ v. false) ends (λ v s _. ap (λ c. is_committed (ending_of c v s)) off ∙ uncommitted v s) bs votes call.course.seconds d.endings.items call.course.each (list_any_none (λ v. false) votes (λ k e lt. refl));
+    uncommitted = none_end (Traced d.commit desk.ledgers new) d.commit is_committed (λ v. false) ends
+        (λ v s _. ap (λ c. is_committed (ending_of c v s)) off ∙ uncommitted v s) bs votes call.course.seconds d.endings.items call.course.each
+        (list_any_none (λ v. false) votes (λ k e lt. refl));
     unrecorded = none_on_abort tran (yes_of bs votes) votes d.logged log later absent call.course.logs (sym call.course.decision ∙ off);
     unsent = abort_sends_no_commit tran bs desk.ledgers new log later d call off;
   }
@@ -267,13 +270,16 @@ module _ (tran : TranName) (bs : List Branch) (desk : DeskView) (new : List Ledg
 
   kept : d.commit ≡ true → has_rolled_back d ≡ false
   kept on =
-      none_end (Traced d.commit desk.ledgers new) d.commit is_rolled_back is_no ends (λ v s e. ap (λ c. is_rolled_back (ending_of c v s)) on ∙ not_rolled_back v s e) bs votes call.course.seconds d.endings.items call.course.each (unopposed on)
+      none_end (Traced d.commit desk.ledgers new) d.commit is_rolled_back is_no ends
+      (λ v s e. ap (λ c. is_rolled_back (ending_of c v s)) on ∙ not_rolled_back v s e) bs votes call.course.seconds d.endings.items call.course.each
+      (unopposed on)
 
   pub committed_law : has_committed d ≡ true → IsCommittedTransaction tran bs later d
   committed_law some =
       let on : d.commit ≡ true = true_from_ne_false (d.commit) (λ off. both_ways (has_committed d) (aborted off).uncommitted some) in
       let some_yes : has_yes votes ≡ true = true_from_ne_false (has_yes votes) (λ e.
-      both_ways (has_committed d) (none_end (Traced d.commit desk.ledgers new) d.commit is_committed is_yes ends (λ v s n. unvoted d.commit v s n) bs votes call.course.seconds d.endings.items call.course.each e) some) in
+      both_ways (has_committed d) (none_end (Traced d.commit desk.ledgers new) d.commit is_committed is_yes ends
+      (λ v s n. unvoted d.commit v s n) bs votes call.course.seconds d.endings.items call.course.each e) some) in
       record {
         unopposed = unopposed on;
         recorded =

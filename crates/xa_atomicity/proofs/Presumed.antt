@@ -3,14 +3,14 @@
 use Rattle.xa_atomicity.proofs.Words.{arith, ◌≡◌, ℕ, Bool, true, List, [], ◌∷◌, get_or, subst, false, All, All-nil, All-append, All-head, All-tail, voted_yes}
 use Rattle.xa_atomicity.proofs.Words.{IsTranOf, Code, TranName, MOST_MANAGERS, IsUpTo, learnt_shut, ledger, Settling, IsOfAnother, CommitCall, CutCall}
 use Rattle.xa_atomicity.proofs.Words.{GoesOnAfter, OfCommit, Use, commits, cuts, resolves, Opening, IsByItsThread, IsKept, IsUseIn, OnlyResolves, uses_of}
-use Rattle.xa_atomicity.proofs.Words.{rules, option_map, is_some, ◌≢◌, zero, ◌+◌, ◌++◌, length, sym, refl, ap, ◌∙◌, Option, Some, None, Contains, All-cons}
-use Rattle.xa_atomicity.proofs.Words.{All-contains, Contains-append_right, all_after, all_mid, all_right, at_true, Begins, tran_of, Done, RmFail, Op, Prepare}
+use Rattle.xa_atomicity.proofs.Words.{rules, option_map, is_some, zero, ◌+◌, ◌++◌, length, sym, refl, ap, ◌∙◌, Option, Some, None, Contains, All-cons}
+use Rattle.xa_atomicity.proofs.Words.{All-contains, Contains-append_right, all_after, all_mid, all_right, at_true, Begins, tran_of, Done, Op, Prepare}
 use Rattle.xa_atomicity.proofs.Words.{Request, Tables, state_of, is_left_in, Fate, IsFateOf, coded, fate, tables_after, told_by, History, as_left, LedgerView}
 use Rattle.xa_atomicity.proofs.Words.{HasGrown, HaveGrown, requests, reopened_at, IsOpenedWith, first_of, history as history_of, ledgers_of, ManagerPart}
-use Rattle.xa_atomicity.proofs.Words.{IsSettled, answers, find_manager, journal, journal_in, sent, Branch, Outcome, is_yes, yes_of, ending_of, is_decided}
-use Rattle.xa_atomicity.proofs.Words.{yes_ending, outcome_op, AreBranchesRising, HaveRoom, Logs, decision_of, IsAsked, IsCut, IsEnded, is_recorded}
-use Rattle.xa_atomicity.proofs.Words.{OnlyTheseOrDecisionsName, AskedAreLeft, CountsByTheLog, EndsByTheLog, IsResolvedAfter, VotedToCommit, WasAsked}
-use Rattle.xa_atomicity.proofs.Words.{known_of, AreUses, IsFollowed, ResolveCall, Tabled, Records, one_tran}
+use Rattle.xa_atomicity.proofs.Words.{IsSettled, answers, find_manager, journal, journal_in, sent, Branch, is_yes, yes_of, ending_of, is_decided, yes_ending}
+use Rattle.xa_atomicity.proofs.Words.{outcome_op, AreBranchesRising, HaveRoom, Logs, decision_of, IsCut, IsEnded, is_recorded, OnlyTheseOrDecisionsName}
+use Rattle.xa_atomicity.proofs.Words.{AskedAreLeft, CountsByTheLog, EndsByTheLog, IsResolvedAfter, VotedToCommit, WasAsked, known_of, AreUses, IsFollowed}
+use Rattle.xa_atomicity.proofs.Words.{ResolveCall, Tabled, Records, one_tran}
 use Rattle.xa_switch.specs.{collected}
 use Rattle.xa_tables.specs.Histories as history
 use Rattle.xa_atomicity.proofs.CutVotes.{cut_keeps, finished_law, Votes, CameAt, each_came, at_asking, at_forgetting, at_telling, HasVoted, prepare_part}
@@ -45,7 +45,8 @@ module _ (mark : Bool) (t : TranName) (m : ℕ) (up : IsUpTo MOST_MANAGERS m) wh
   quiet_so : (s : Settling) (P : CutCall → Type 0)
       → ((k : CutCall) → IsUseIn s (cuts k) → P k → IsTranOf k.branches t → (b : Branch) (v : Code) → tran_of b.xid ≡ t → b.m ≡ m → Votes k.desk.ledgers k.new b v → is_yes v ≡ false)
       → (u : Use) → IsUseIn s u → OfCommit P u → OfCommit Stays u
-  quiet_so s P against = of_commit s P Stays (λ k w p. cut_keeps mark t m up k.branches k.desk k.new k.log k.later k.endings w.made (λ same. against k w p (subst (IsTranOf k.branches) same w.made.may.one)))
+  quiet_so s P against = of_commit s P Stays (λ k w p. cut_keeps mark t m up k.branches k.desk k.new k.log k.later k.endings w.made
+      (λ same. against k w p (subst (IsTranOf k.branches) same w.made.may.one)))
 
   -- in an opening where nothing but resolves names the transaction
   quiet_opening : (o : Opening) → IsKept o → OnlyResolves t o → All (IsQuiet mark t m) o.uses
@@ -78,11 +79,6 @@ pub part_there : (o : Option ManagerPart) (before after : History) (r : Request)
 part_there None [] after r e = cc
 part_there None (q ∷ before) after r e = cc
 part_there (Some p) before after r e = (p, refl)
-
--- a branch that is left is there as the next opening begins
-left_next : (s : Settling) (b : Branch) (T : Tables) → IsSettled s → first_of s b.m ≡ Some T
-    → is_left_in (state_of (tables_after (history_of s b.m) T) b.xid) ≡ true → is_left_in (state_of (reopened_at s.managers b.m) b.xid) ≡ true
-left_next s b T settled begins left = search (arith, ends_with, begins, as_left, b.m)
 
 -- a branch that is left to the next opening: nothing but resolves names it later, and they find what was decided
 left_is_marked : (b : Branch) (tran : TranName) (up : IsUpTo MOST_MANAGERS b.m) (commit : Bool) (records : Records) (vs : List Use)
@@ -190,14 +186,11 @@ module _ (law : Tabled) (first : (s : Settling) (m : ℕ) (T : Tables) → IsSet
     abbrev site : Site t T H
     site = site_of law s kept_o.settled t m T with_T
 
-    reached : (w : Outcome) → Contains q.outcomes w → w.m ≡ m → w.xid ≡ b.xid → w.code ≢ RmFail
-    reached w there manager xid = search (arith, All-contains)
-
     -- where it is left, nothing but resolves names it later, and they find the record
     marked : W b → is_left_in (state_of (tables_after H T) b.xid) ≡ true → IsMarked later commit b
     marked why left =
         let one = r.made.may.one in
-        let there = left_next s b T kept_o.settled begins left in
+        let there : is_left_in (state_of (reopened_at s.managers b.m) b.xid) ≡ true = search (arith, ends_with, begins, as_left, kept_o, b.m) in
         left_is_marked b tran up commit k.later.records r.use_.vs later among.1 (All-tail IsKept o later r.use_.kept) (r.use_.later tran one (b.m, (b.xid, (among.1, there))))
         (r.quiet commit b up why) (r.use_.log (record { branch = b; among = among.2; left = there }) tran one) mark
 
@@ -208,8 +201,9 @@ module _ (law : Tabled) (first : (s : Settling) (m : ℕ) (T : Tables) → IsSet
         → ((f : Fate) → IsFateOf b.xid f T → (before after : History) → H ≡ before ++ request_of t n (Prepare b.xid) ∷ after → fates b.xid (request_of t n (Prepare b.xid) ∷ after) (tables_after before T) ≡ history.InDoubt ∷ once (fate b.xid f H T))
         → Result b
     concludes at_end makes =
-        branch_follows law first o between last q r.use_.kept r.use_.in_a_row (is_used last.uses r.use_.ps r.use_.qs (resolves q) r.use_.resolve_at) r.use_.scan commit (W b) b t n (known_of k b) up T begins
-        (λ L. record { comes = doubt L b here up only T with_T commit (at_end L).comes; any = (at_end L).any }) marked reached makes
+        branch_follows law first o between last q r.use_.kept r.use_.in_a_row
+        (is_used last.uses r.use_.ps r.use_.qs (resolves q) r.use_.resolve_at) r.use_.scan commit (W b) b t n (known_of k b) up T begins
+        (λ L. record { comes = doubt L b here up only T with_T commit (at_end L).comes; any = (at_end L).any }) marked (λ w there manager xid. search (arith, All-contains)) makes
 
     abbrev Sent : Type 0 → Type 0
     Sent L = HasSentOnly commit L b.xid (before_of b) (after_of b)
@@ -233,7 +227,8 @@ module _ (law : Tabled) (first : (s : Settling) (m : ℕ) (T : Tables) → IsSet
         let second =
         sent_stands law s kept_o.settled t m T with_T up.0 (after_of b) grown z.number (outcome_op commit b.xid) c z.sent (contains_on (after_of b).collected _ (z.number, c) grown.collected z.told) in
         concludes
-        (λ L. subst (AtEnd commit (Unit {0}) L b.xid (fate b.xid G H T) H T) known (told_end site b.xid (before_of b) (after_of b) sent_grows commit only h prepared_at z.number z.later c second is L G))
+        (λ L. subst (AtEnd commit (Unit {0}) L b.xid (fate b.xid G H T) H T) known
+        (told_end site b.xid (before_of b) (after_of b) sent_grows commit only h prepared_at z.number z.later c second is L G))
         (λ g fits. sent_fates site b.xid (before_of b) (after_of b) sent_grows commit only (Unit {0}) h prepared_at g)
 
   -- ---- all of them, by how far it came
@@ -242,10 +237,8 @@ module _ (law : Tabled) (first : (s : Settling) (m : ℕ) (T : Tables) → IsSet
       → ((b : Branch) → Contains bs b → Contains k.branches b) → All Among bs
   all_among lo [] rising room of_tran there = All-nil Among
   all_among lo (b ∷ bs) rising room of_tran there =
-      let above = rising.0 in
-      let within = room.0.known.within in
-      let few = r.use_.few in
-      All-cons Among b bs ((omega (arith, above), omega (arith, within, few)), of_tran.0, there b (zero, omega arith, refl)) (all_among b.m bs rising.1 room.1 of_tran.1 (λ c at. there c (Contains-append_right (b ∷ []) bs c at)))
+      All-cons Among b bs ((omega (arith, rising.0), omega (arith, room.0.known.within, r.use_.few)), of_tran.0, there b (zero, omega arith, refl))
+      (all_among b.m bs rising.1 room.1 of_tran.1 (λ c at. there c (Contains-append_right (b ∷ []) bs c at)))
 
   pub among_so : All Among k.branches
   among_so = all_among 0 k.branches r.made.may.rising r.made.may.room r.made.may.one (λ b there. there)
@@ -261,9 +254,6 @@ module _ (law : Tabled) (first : (s : Settling) (m : ℕ) (T : Tables) → IsSet
     sent_plainly h mark = plain b among (own voted.asked) here (h.rest, h.sent) mark h
 
     -- it was asking for votes
-    asking_so : k.later ≡ k.log → IsAsked b (before_of b) (after_of b) → Result b
-    asking_so same h = search (arith, is_some, is_marked, sent_plainly, asked_only, voted)
-
     -- all had voted
     module _ (votes : List Code) (logged : Bool) (logs : Logs tran (yes_of k.branches votes) votes logged k.log k.later) (v : Code)
         (yes_so : is_yes v ≡ true → voted_yes b.m k.branches votes ≡ true) where
@@ -316,7 +306,7 @@ module _ (law : Tabled) (first : (s : Settling) (m : ℕ) (T : Tables) → IsSet
           ] refl
 
     by_came : CameAt tran k.branches k.desk.ledgers k.new k.log k.later k.endings b → Result b
-    by_came (at_asking same h) = asking_so same h
+    by_came (at_asking same h) = search (arith, is_some, is_marked, sent_plainly, asked_only, voted)
     by_came (at_telling votes logged logs v vote h) =
         voted_so votes logged logs v vote.marks (told_voted_so (decision_of votes logged) ⊥ b v (before_of b) (after_of b) h)
     by_came (at_forgetting votes logged logs v vote z h known) = told_so votes logged logs v vote.marks z h known
@@ -344,7 +334,8 @@ module _ (law : Tabled) (first : (s : Settling) (m : ℕ) (T : Tables) → IsSet
   each_so : (u : TranName) → IsTranOf k.branches u
       → All (λ b. VotedToCommit k o.settled b → Follows (is_recorded k.later u) o (between ++ last ∷ []) k.thread b (length (ledger k.desk.ledgers b.m).sent) (known_of k b)) k.branches
   each_so u of_u =
-      subst (λ (w : TranName). All (λ b. VotedToCommit k o.settled b → Follows (is_recorded k.later w) o (between ++ last ∷ []) k.thread b (length (ledger k.desk.ledgers b.m).sent) (known_of k b)) k.branches)
+      subst (λ (w : TranName). All (λ b. VotedToCommit k o.settled b → Follows (is_recorded k.later w) o (between ++ last ∷ []) k.thread b
+      (length (ledger k.desk.ledgers b.m).sent) (known_of k b)) k.branches)
       (one_tran k.branches cut_tran u cut_made.may.some cut_made.may.one of_u) (follows law first o between last (cuts k) k q (VotedToCommit k o.settled) (λ b. Unit {0}) followed (λ L b here up only T with_T commit comes. comes))
 
   pub presumed_law : EndsByTheLog k o (between ++ last ∷ [])

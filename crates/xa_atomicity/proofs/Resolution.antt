@@ -1,8 +1,8 @@
 -- One outcome for each global transaction, over openings one after another: a commit that came to its end is one that was
 -- cut short after it.
-use Rattle.xa_atomicity.proofs.Words.{arith, by_bool, ◌≡◌, ℕ, ◌≤◌, Bool, true, false, List, [], ◌∷◌, ◌++◌, length, sym, refl, subst, Option, Some, All}
-use Rattle.xa_atomicity.proofs.Words.{Contains, All-head, MOST_MANAGERS, IsUpTo, Code, Tables, state_of, fate, tables_after, told_by, LedgerView, learnt_shut}
-use Rattle.xa_atomicity.proofs.Words.{ledger, IsOpenedWith, first_of, history as history_of, ledgers_of, IsSettled, Settling, Branch, Ending, has_yes, is_yes}
+use Rattle.xa_atomicity.proofs.Words.{arith, by_bool, ◌≡◌, ℕ, ◌≤◌, Bool, true, false, List, [], ◌∷◌, ◌++◌, length, sym, refl, subst, Option, Some, Contains}
+use Rattle.xa_atomicity.proofs.Words.{All-head, MOST_MANAGERS, IsUpTo, Code, Tables, state_of, fate, tables_after, told_by, LedgerView, learnt_shut, ledger}
+use Rattle.xa_atomicity.proofs.Words.{IsOpenedWith, first_of, history as history_of, ledgers_of, IsSettled, Settling, Branch, Ending, has_yes, is_yes}
 use Rattle.xa_atomicity.proofs.Words.{EachBranch, IsCut, is_recorded, known_at, EachOutcome, OnlyTheseOrDecisionsName, is_heuristic, VotedToCommit, known_of}
 use Rattle.xa_atomicity.proofs.Words.{CommitCall, CutCall, as_cut, ResolveCall, commits, Opening, EndsAs, EachEnds, IsAllOrNone, all, none, IsKept}
 use Rattle.xa_atomicity.proofs.Words.{IsResolved, IsUseIn, CountsOver, CountsAllOrNone, IsUnlisted, SharesOver, Tabled, Any, one_tran}
@@ -117,10 +117,6 @@ module _ (law : Tabled) (first : (s : Settling) (m : ℕ) (T : Tables) → IsSet
   abbrev Goal : Branch → Type 0
   Goal b = IsUpTo MOST_MANAGERS b.m × (Agreed b → FollowsTo (is_recorded c.later cut.may.tran) b (known_of k b))
 
-  goals : All Goal c.branches
-  goals j d lt =
-      ((among_so law first o between last (commits c) k q Agreed Learnt followed doubt j d lt).0, follows law first o between last (commits c) k q Agreed Learnt followed doubt j d lt)
-
   follows_so : (b : Branch) (v : Code) (z : Option Code) (e : Ending) → Goal b → Known b v z e → is_yes v ≡ true → FollowsTo c.done.commit b e
   follows_so b v z e goal is y =
       subst (λ w. FollowsTo w b e) (by_record (is.2 y))
@@ -130,7 +126,13 @@ module _ (law : Tabled) (first : (s : Settling) (m : ℕ) (T : Tables) → IsSet
   all_yes : (Q : Branch → Ending → Type 0) → ((b : Branch) (e : Ending) → FollowsTo c.done.commit b e → Q b e)
       → EachOutcome (λ b v e. is_yes v ≡ true → Q b e) c.branches c.done.votes.items c.done.endings.items
   all_yes Q so =
-      each_outcome Goal Known (λ b v e. is_yes v ≡ true → Q b e) (λ b v z e goal is y. so b e (follows_so b v z e goal is y)) c.branches c.done.votes.items made.trace.course.seconds c.done.endings.items goals known
+      each_outcome Goal Known (λ b v e. is_yes v ≡ true → Q b e) (λ b v z e goal is y. so b e
+      (follows_so b v z e goal is y)) c.branches c.done.votes.items made.trace.course.seconds c.done.endings.items
+      (λ j d lt. (
+        (among_so law first o between last (commits c) k q Agreed Learnt followed doubt j d lt).0,
+        follows law first o between last
+            (commits c) k q Agreed Learnt followed doubt j d lt,
+      )) known
 
   all_ends : EachEnds c o later
   all_ends = all_yes (λ b e. EndsAs c.done.commit o later b e) (λ b e z. z.0)

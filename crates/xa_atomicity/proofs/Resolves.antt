@@ -5,9 +5,9 @@ use Rattle.xa_atomicity.proofs.Words.{Contains, flat_map, list_any, range_with_l
 use Rattle.xa_atomicity.proofs.Words.{Contains-append_right, length-range_with_len, get_or-range_with_len, any_at, contains_at, same_begins, begins_on}
 use Rattle.xa_atomicity.proofs.Words.{was_mapped, at_false, xid_self, both_ways, Contains-append_cases, Contains-push_cases, MOST_MANAGERS, Begins, Chain}
 use Rattle.xa_atomicity.proofs.Words.{IsUpTo, more, XidName, xid_eq, Decides-xid_eq, RmFail, Op, OpenRm, CloseRm, Code, LedgerView, learnt_shut, with_sent}
-use Rattle.xa_atomicity.proofs.Words.{with_collected, ledger, HasGrown, ScanView, left_at, contains_map, get_contained, Outcome, AskTrace, asked, AsksIf}
-use Rattle.xa_atomicity.proofs.Words.{AsksLedger, IsTraceOfResolve, ResolvesAt, ResolvesBranch, is_to_commit, outcome_op, Records, Any, Asks, IsAskedFor}
-use Rattle.xa_atomicity.proofs.Words.{anything, if_by, outcome_by, outcomes_by, resolves_by, Forget, grown_on, is_decided, Contains-push}
+use Rattle.xa_atomicity.proofs.Words.{with_collected, ledger, HasGrown, ScanView, left_at, contains_map, get_contained, Outcome, AskTrace, asked, AsksLedger}
+use Rattle.xa_atomicity.proofs.Words.{IsTraceOfResolve, ResolvesAt, ResolvesBranch, is_to_commit, outcome_op, Records, Any, Asks, IsAskedFor, anything, if_by}
+use Rattle.xa_atomicity.proofs.Words.{outcome_by, outcomes_by, resolves_by, Forget, grown_on, is_decided, Contains-push}
 use Rattle.std.proofs.lemmas.Map.Views.{Contains-from_any}
 use Rattle.xa_base.specs.{none}
 use Rattle.xa_atomicity.proofs.Guided.{learnt_on}
@@ -44,9 +44,6 @@ module _ (P : Op → Type 0) where
   pub asks_on : (old a a' : LedgerView) (op : Op) (code : Code) → P op → AsksLedger a op a' code → Sends P old a → Sends P old a'
   asks_on old a a' op code so asked so_far = on old a a' so_far (asks_one a a' op code so asked)
 
-  asks_if : (b : Bool) (a a' : LedgerView) (op : Op) → (b ≡ true → P op) → AsksIf b AsksLedger op a a' → Sends P a a'
-  asks_if b a a' op so is = if_by AsksLedger P (Sends P a) (asks_on a) b op a a' so is (stays a)
-
   module _ (records : Records) (m : ℕ) where
     chain_sends : (a : LedgerView) (os : List Outcome) (a' : LedgerView) → ((o : Outcome) → Contains os o → Asks P records m o)
         → Chain (ResolvesBranch AsksLedger records m) a os a' → Sends P a a'
@@ -63,17 +60,17 @@ contains_flat f (z ∷ xs) x (suc k) lt e y c = Contains-append_right (f z) (fla
 module _ (z : ScanView) (records : Records) (old new : List LedgerView) (outcomes : List Outcome) (trace : IsTraceOfResolve z records old new outcomes) where
   pub of_all : (m : ℕ) → IsUpTo MOST_MANAGERS m → (o : Outcome) → Contains (trace.course.at m) o → Contains outcomes o
   of_all m up o c =
-      let lo = up.0 in
-      let hi = up.1 in
-      let same : 1 + (m - 1) ≡ m = omega (arith, lo) in
+      let same : 1 + (m - 1) ≡ m = omega (arith, up.0) in
       subst (λ os. Contains os o) (sym trace.course.outcomes_are)
-      (contains_flat trace.course.at (range_with_len 1 MOST_MANAGERS) m (m - 1) (omega (arith, lo, hi, length-range_with_len 1 MOST_MANAGERS)) (get_or-range_with_len 1 MOST_MANAGERS (m - 1) m (omega (arith, lo, hi)) ∙ same) o c)
+      (contains_flat trace.course.at (range_with_len 1 MOST_MANAGERS) m (m - 1) (omega (arith, up.0, up.1, length-range_with_len 1 MOST_MANAGERS))
+      (get_or-range_with_len 1 MOST_MANAGERS (m - 1) m (omega (arith, up.0, up.1)) ∙ same) o c)
 
   -- what a resolve sends to a manager
   pub resolve_sends : (P : Op → Type 0) (m : ℕ) → IsUpTo MOST_MANAGERS m → P OpenRm → ((o : Outcome) → Contains outcomes o → Asks P records m o)
       → Sends P (ledger old m) (ledger new m)
   resolve_sends P m up opens so =
-      resolves_by AsksLedger P (Sends P (ledger old m)) (asks_on P (ledger old m)) records m (left_at z m) (trace.course.at m) (ledger old m) (ledger new m) opens (λ o c. so o (of_all m up o c)) (trace.course.each m up) (stays P (ledger old m))
+      resolves_by AsksLedger P (Sends P (ledger old m)) (asks_on P (ledger old m)) records m (left_at z m) (trace.course.at m) (ledger old m)
+      (ledger new m) opens (λ o c. so o (of_all m up o c)) (trace.course.each m up) (stays P (ledger old m))
 
 -- ---- the request of one branch
 
@@ -83,9 +80,6 @@ IsNoClose op = op ≢ CloseRm
 ends_open : (commit : Bool) (x : XidName) → IsNoClose (outcome_op commit x)
 ends_open true x e = cc
 ends_open false x e = cc
-
-no_close : (records : Records) (m : ℕ) (o : Outcome) → Asks IsNoClose records m o
-no_close records m o = record { ends = λ _ _. ends_open o.commit o.xid; forgets = λ _ _ e. cc }
 
 none_there : {A : Type 0} (x : A) → Contains [] x → ⊥
 none_there x (k, lt, e) = absurd (omega (arith, lt))
@@ -124,19 +118,17 @@ module _ (a opened now decided last : LedgerView) (op : Op) (first code : Code) 
   decided_is : decided ≡ with_collected (with_sent now op) (length now.sent) code
   decided_is = sent_so now decided op code open_now obeys
 
-  last_sent : last.sent ≡ a.sent ++ OpenRm ∷ (before.more ++ op ∷ grown.sent.0)
-  last_sent = search (arith, decided_is, append_assoc, now_sent)
-
   pub answered_in : IsAnsweredIn op code a last.sent last.collected
   answered_in = record {
     mid = before.more;
     later = grown.sent.0;
-    sent = last_sent;
+    sent = search (arith, decided_is, append_assoc, now_sent);
     open_ = before.all;
     told =
         let number : length now.sent ≡ suc (length a.sent) + length before.more = ap length now_sent ∙ (let e = length-append a.sent (OpenRm ∷ before.more) in omega (arith, e)) in
         contains_on decided.collected last.collected (suc (length a.sent) + length before.more, code) grown.collected
-        (subst (λ k. Contains decided.collected (k, code)) number (subst (λ (l : LedgerView). Contains l.collected (length now.sent, code)) (sym decided_is) (Contains-push now.collected (length now.sent, code))));
+        (subst (λ k. Contains decided.collected (k, code)) number (subst (λ (l : LedgerView). Contains l.collected (length now.sent, code)) (sym decided_is)
+        (Contains-push now.collected (length now.sent, code))));
   }
 
 -- ---- the outcomes of one manager
@@ -158,7 +150,8 @@ module _ (records : Records) (m : ℕ) (a opened last : LedgerView) (first : Cod
     decision = leads.decision;
     answered =
         answered_in a opened now leads.decided last (outcome_op p.commit p.xid) first p.code opens before leads.obeys
-        (grows leads.decided next (asks_if Any (is_decided p.code) leads.decided next (Forget p.xid) (λ _. tt) leads.forgets) grown);
+        (grows leads.decided next (if_by AsksLedger Any (Sends Any leads.decided) (asks_on Any leads.decided) (is_decided p.code)
+        (Forget p.xid) leads.decided next (λ _. tt) leads.forgets (stays Any leads.decided)) grown);
   }
 
   chain_asked : (os : List Outcome) (a' : LedgerView) → Chain (ResolvesBranch AsksLedger records m) opened os a' → HasGrown a' last → (o : Outcome) → Contains os o
@@ -168,7 +161,12 @@ module _ (records : Records) (m : ℕ) (a opened last : LedgerView) (first : Cod
       ⊎_elim (λ (c : Contains xs o).
       chain_asked xs now chain (grows now next (outcome_by AsksLedger Any (Sends Any now) (asks_on Any now) records m p now next (anything records m p) leads (stays Any now)) grown) o c)
       (λ (same : p ≡ o).
-      subst (λ q. IsAsked records m q a last) same (one_asked p now next (chain_sends IsNoClose records m opened xs now (λ q _. no_close records m q) chain) leads grown)) (Contains-push_cases xs p o there)
+      subst (λ q. IsAsked records m q a last) same (one_asked p now next
+      (chain_sends IsNoClose records m opened xs now (λ q _. record {
+        ends = λ _ _. ends_open q.commit q.xid;
+        forgets =
+            λ _ _ e. cc;
+      }) chain) leads grown)) (Contains-push_cases xs p o there)
 
 at_asked : (records : Records) (m : ℕ) (xs : List XidName) (os : List Outcome) (a a' last : LedgerView) → ResolvesAt AsksLedger records m xs os a a'
     → HasGrown a' last → (o : Outcome) → Contains os o → IsAsked records m o a last

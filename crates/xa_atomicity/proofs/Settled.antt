@@ -52,9 +52,6 @@ module _ {t : ℕ} {T : Tables} {H : History} (s : Site t T H) (pairs : List (�
       list_any-append (λ (p : ℕ × Code). is_rm_fail p.1) a.collected ((length a.sent, c) ∷ []) ∙ ap (λ b. learnt_shut a || b) (or-false (is_rm_fail c)) in
       λ i. record { number = number i; shut = shut i }
 
-  asks_so : (a a' : LedgerView) (op : Op) (c : Code) → AsksLedger a op a' c → Unit {0} → Has a' → AsksIn t T H (heard a) op (heard a') c
-  asks_so a a' op c is q has = search (arith, at_true, at_false, stands_in, heard_after, is.answered)
-
   has_before : (a a' : LedgerView) (op : Op) (c : Code) → AsksLedger a op a' c → Has a' → Has a
   has_before a a' op c is has =
       let grown = asked_grows a (Some op) (Some c) in
@@ -65,7 +62,8 @@ module _ {t : ℕ} {T : Tables} {H : History} (s : Site t T H) (pairs : List (�
       → AtBranch AsksLedger commit b vote second ending a a' → Begins a'.sent s.ops → Begins a'.collected pairs
       → AtBranch (AsksIn t T H) commit b vote second ending (heard a) (heard a')
   branch_in b commit vote second ending a a' is sent collected =
-      branch_mapped AsksLedger (AsksIn t T H) heard (λ z. Unit {0}) Has (λ d e op c is q. tt) has_before asks_so commit b vote second ending a a' is tt (record { sent = sent; collected = collected })
+      branch_mapped AsksLedger (AsksIn t T H) heard (λ z. Unit {0}) Has (λ d e op c is q. tt) has_before
+      (λ d e op c is q has. search (arith, at_true, at_false, stands_in, heard_after, is.answered)) commit b vote second ending a a' is tt (record { sent = sent; collected = collected })
 
 -- what was sent to a manager, and collected from it, stands in the ledger with it
 pub by_ledger : {X : Type 0} (at : List LedgerView) (m : ℕ) (f : LedgerView → List X) → 1 ≤ m → f no_ledger ≡ []
@@ -284,8 +282,12 @@ module _ (law : Tabled) (opened : (s : Settling) (m : ℕ) → IsSettled s → (
 
     each : EachBranch In bs d.votes.items made.trace.course.seconds d.endings.items
     each =
-        branch_map (λ b. 1 ≤ b.m) (λ b v z e. AtBranch AsksLedger d.commit b v z e (ledger at b.m) (ledger new b.m)) In (λ b v z e positive h T with_T.
-        (its_course law s t settled b d.commit v z e (ledger at b.m) (ledger new b.m) positive (grown.each b.m positive) h T with_T, h.ends)) bs d.votes.items made.trace.course.seconds d.endings.items (positive_all 0 bs made.may.rising) made.trace.course.each
+        branch_map (λ b. 1 ≤ b.m) (λ b v z e. AtBranch AsksLedger d.commit b v z e (ledger at b.m) (ledger new b.m)) In (λ b v z e positive h T with_T. (
+          its_course law s t settled b d.commit v z e (ledger at b.m) (ledger new b.m) positive
+              (grown.each b.m positive) h T with_T,
+          h.ends,
+        )) bs d.votes.items made.trace.course.seconds d.endings.items
+        (positive_all 0 bs made.may.rising) made.trace.course.each
 
     module _ (alone : AreLeftOrDecided s t bs (sent_so_far at) (sent_so_far new)) where
       all_fated : EachOutcome (λ b v e. Fated b (sent_so_far at b.m) v e) bs d.votes.items d.endings.items
@@ -302,7 +304,8 @@ module _ (law : Tabled) (opened : (s : Settling) (m : ℕ) → IsSettled s → (
     module _ (alone : AreLeftAlone s t bs (sent_so_far at) (sent_so_far new)) where
       pub all_outcomes : EachOutcome (λ b v e. Both b (sent_so_far at b.m) (sent_so_far new b.m) v e) bs d.votes.items d.endings.items
       all_outcomes =
-          each_outcome (λ b. OnlyTheseName b.xid t (sent_so_far at b.m) (sent_so_far new b.m) (history_of s b.m)) In (λ b v e. Both b (sent_so_far at b.m) (sent_so_far new b.m) v e) (λ b v z e only is.
+          each_outcome (λ b. OnlyTheseName b.xid t (sent_so_far at b.m) (sent_so_far new b.m) (history_of s b.m)) In
+          (λ b v e. Both b (sent_so_far at b.m) (sent_so_far new b.m) v e) (λ b v z e only is.
           one_both settled d.commit (sent_so_far at) (sent_so_far new) b v z e is only) bs d.votes.items made.trace.course.seconds d.endings.items alone.each each
 
       pub counts_law : CountsTheCommitted s t bs (sent_so_far at) d
@@ -313,7 +316,10 @@ module _ (law : Tabled) (opened : (s : Settling) (m : ℕ) → IsSettled s → (
       whole_law sure =
           let none = or_parts _ _ (not-true _ sure) in
           let whole = committed_law made.may.tran bs desk new log later d made made.may.one in
-          record { each = each_whole (has_committed d) (sent_so_far at) (sent_so_far new) bs d.votes.items d.endings.items (λ some. (whole some).kept) (λ some. (whole some).unopposed) (λ e. e) none.0 none.1 all_outcomes }
+          record {
+            each = each_whole (has_committed d) (sent_so_far at) (sent_so_far new) bs d.votes.items d.endings.items (λ some. (whole some).kept)
+                (λ some. (whole some).unopposed) (λ e. e) none.0 none.1 all_outcomes;
+          }
 
 -- a commit only makes the lists grow
 traced_grows : (commit : Bool) (b : Branch) (v : Code) (z : Option Code) (e : Ending) (a a' : LedgerView) → AtBranch AsksLedger commit b v z e a a'

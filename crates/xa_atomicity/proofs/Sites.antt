@@ -28,6 +28,9 @@ pub record Parted (t : ℕ) (xs ys : History) (r : Request) (h : History) : Type
   pub later : of_thread t after ≡ ys
 
 module _ (t : ℕ) where
+  put : (q : Request) (h xs zs ys : History) (r : Request) (p : Parted t zs ys r h) → of_thread t (q ∷ p.before) ≡ xs → Parted t xs ys r (q ∷ h)
+  put q h xs zs ys r p e = record { before = q ∷ p.before; after = p.after; place = ap (λ l. q ∷ l) p.place; earlier = e; later = p.later }
+
   part_first : (q : Request) (h : History) (xs ys : History) (r : Request) → (q.thread == t) ≡ true → q ∷ of_thread t h ≡ xs ++ r ∷ ys
       → ((zs : History) → of_thread t h ≡ zs ++ r ∷ ys → Parted t zs ys r h) → Parted t xs ys r (q ∷ h)
   part_first q h [] ys r own e on =
@@ -38,13 +41,7 @@ module _ (t : ℕ) where
       let head : q ≡ z = cc in
       let tail : of_thread t h ≡ zs ++ r ∷ ys = cc in
       let p = on zs tail in
-      record {
-        before = q ∷ p.before;
-        after = p.after;
-        place = ap (λ l. q ∷ l) p.place;
-        earlier = ap (λ b. cond b (q ∷ of_thread t p.before) (of_thread t p.before)) own ∙ (λ i. head i ∷ p.earlier i);
-        later = p.later;
-      }
+      put q h (z ∷ zs) zs ys r p (ap (λ b. cond b (q ∷ of_thread t p.before) (of_thread t p.before)) own ∙ (λ i. head i ∷ p.earlier i))
 
   pub part : (h : History) (xs ys : History) (r : Request) → of_thread t h ≡ xs ++ r ∷ ys → Parted t xs ys r h
   part [] [] ys r e = cc
@@ -54,13 +51,7 @@ module _ (t : ℕ) where
         | true ↦ λ own e. part_first q h xs ys r own e (λ zs tail. part h zs ys r tail)
         | false ↦ λ other e.
             let p = part h xs ys r e in
-            record {
-              before = q ∷ p.before;
-              after = p.after;
-              place = ap (λ l. q ∷ l) p.place;
-              earlier = ap (λ b. cond b (q ∷ of_thread t p.before) (of_thread t p.before)) other ∙ p.earlier;
-              later = p.later;
-            }
+            put q h xs xs ys r p (ap (λ b. cond b (q ∷ of_thread t p.before) (of_thread t p.before)) other ∙ p.earlier)
       ] refl e
 
   -- nothing of the thread
@@ -283,10 +274,13 @@ pub stands_by : {t : ℕ} {T : Tables} {H : History} (s : Site t T H) (n : ℕ) 
 stands_by {t} {T} {H} s n op c sent answered =
     let below : n < length s.ops = slice_get_within s.ops n op sent in
     let size : length (take n s.ops) ≡ n = length-take-le n s.ops (omega (arith, below)) in
-    let whole : s.ops ≡ take n s.ops ++ op ∷ drop (suc n) s.ops = sym (take-append-drop n s.ops) ∙ ap (λ l. take n s.ops ++ l) (drop-cons s.ops n op below ∙ ap (λ o. o ∷ drop (suc n) s.ops) (get_or_from_slice_get s.ops n op op sent)) in
+    let whole : s.ops ≡ take n s.ops ++ op ∷ drop (suc n) s.ops = sym (take-append-drop n s.ops) ∙ ap (λ l. take n s.ops ++ l)
+    (drop-cons s.ops n op below ∙ ap (λ o. o ∷ drop (suc n) s.ops) (get_or_from_slice_get s.ops n op op sent)) in
     let number : 0 + length (take n s.ops) ≡ n = omega (arith, size) in
     let p =
-    part t H (numbered t 0 (take n s.ops)) (numbered t (suc n) (drop (suc n) s.ops)) (request_of t n op) (s.carried ∙ ap (numbered t 0) whole ∙ numbered_both t 0 (take n s.ops) (op ∷ drop (suc n) s.ops) ∙ ap (λ k. numbered t 0 (take n s.ops) ++ numbered t k (op ∷ drop (suc n) s.ops)) number) in
+    part t H (numbered t 0 (take n s.ops)) (numbered t (suc n) (drop (suc n) s.ops)) (request_of t n op)
+    (s.carried ∙ ap (numbered t 0) whole ∙ numbered_both t 0 (take n s.ops) (op ∷ drop (suc n) s.ops) ∙ ap
+    (λ k. numbered t 0 (take n s.ops) ++ numbered t k (op ∷ drop (suc n) s.ops)) number) in
     record { before = p.before; after = p.after; place = p.place; code = same_code _ n n c _ answered (answered_here s n op p.before p.after p.place) }
 
 -- ---- two of the thread's requests

@@ -101,7 +101,9 @@ came_so_far (death.Telling k) tran bs old new log later known d =
 came_so_far death.Told tran bs old new log later known d =
     forgetting known.votes.items known.logged d.far.seconds d.far.decided.logs
     (subst (λ (c : Bool). EachBranch (Ended c old new) bs known.votes.items d.far.seconds known.endings.items) d.far.decided.decision
-    (branch_map (λ b. Unit {0}) (λ b v s e. VotesAndObeys AsksLedger known.commit b v s e (ledger old b.m) (ledger new b.m)) (Ended known.commit old new) (λ b v s e _ o. (obeys_ended known.commit b v s e (ledger old b.m) (ledger new b.m) o, o.ends)) bs known.votes.items d.far.seconds known.endings.items (λ k d lt. tt) d.far.each))
+    (branch_map (λ b. Unit {0}) (λ b v s e. VotesAndObeys AsksLedger known.commit b v s e (ledger old b.m) (ledger new b.m)) (Ended known.commit old new)
+    (λ b v s e _ o. (obeys_ended known.commit b v s e (ledger old b.m) (ledger new b.m) o, o.ends)) bs known.votes.items d.far.seconds known.endings.items
+    (λ k d lt. tt) d.far.each))
 
 pub died_is_cut : (at : Death) (tran : TranName) (bs : List Branch) (desk : DeskView) (new : List LedgerView) (log later : LogState) (known : Done)
     → MayCommit desk log bs → IsTranOf bs tran → Dies AsksLedger PutsLedger at tran bs (ledger desk.ledgers) (ledger new) log later known
@@ -120,8 +122,7 @@ abbrev pub Begun : List LedgerView → List LedgerView → Ask → Type 0
 Begun at now k = IsBegun k.op (ledger at k.manager) (ledger now k.manager)
 
 begun_at : (k : Ask) (o : Option Op) (m : ℕ) (at now : List LedgerView) → k.op ≡ o → k.manager ≡ m → Begun at now k → IsBegun o (ledger at m) (ledger now m)
-begun_at k o m at now op manager h =
-    rw (op, manager) at h
+begun_at k o m at now op manager h = rw (op, manager) at h
 
 -- requests that were collected were done of, and of others nothing was
 pub asks_begun : (ks : List Ask) (at now : List LedgerView) → EachAsk ks at now → All (Begun at now) ks

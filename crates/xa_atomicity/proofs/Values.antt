@@ -9,10 +9,10 @@ use Rattle.xa_atomicity.proofs.Words.{added_by, coded, commits_later, ending, en
 use Rattle.xa_atomicity.proofs.Words.{IsAddition, prepare_of, both_ways, at_true, ◌≢◌, ◌+◌, subst, all_left, all_after, Done, RdOnly, RmFail, Rollback}
 use Rattle.xa_atomicity.proofs.Words.{Forget, xid_self, names, NamesNowhere, is_forget, unnamed_fate, Ending, ReadOnly, RolledBack, Left, is_yes, yes_ending}
 use Rattle.xa_atomicity.proofs.Words.{no_ending, IsBetween, OnlyTheseName, is_read_only as is_read_only_ending, none_later, is_committed, All-cons}
-use Rattle.xa_atomicity.proofs.Words.{cases_Bool, outcome_op, RbIntegrity, by_bool, Start, xid_eq, commit_fate}
+use Rattle.xa_atomicity.proofs.Words.{cases_Bool, outcome_op, RbIntegrity, by_bool, Start, xid_eq, commit_fate, All-append}
 use Rattle.xa_tables.specs.{moved_by}
 use Rattle.xa_tables.specs.Histories as history
-use Rattle.xa_atomicity.proofs.Sites.{request_of, fates, fates_both, none_first, Site, StandsIn, below, at_place, Second, second_of, only_op}
+use Rattle.xa_atomicity.proofs.Sites.{request_of, fates, fates_both, none_first, Site, StandsIn, below, at_place, Second, second_of}
 use Rattle.xa_atomicity.proofs.Courses.{Unreached, Reads, Breaks, Stays, Agrees, Refuses, yes_is, read_is, Sends, SendsOne, Course, rest_forgets, one_own}
 use Rattle.xa_atomicity.proofs.Courses.{two_own}
 use Rattle.xa_atomicity.proofs.OneOutcome.{Falls, after_no, after_yes, uncommitted}
@@ -256,7 +256,8 @@ module _ {t : ℕ} {T : Tables} {H : History} (site : Site t T H) (x : XidName) 
           All-cons (λ (r : Request). names x r.op ≡ true → is_commit r.op ≡ false) (request_of t n (Prepare x)) add.after (λ _. refl) (λ j r lt named.
           let own = only (add.before ++ add.adding ∷ add.between) add.after (request_of t n (Prepare x)) place refl refl j r lt named in
           all_after Plain (add.before ++ add.adding ∷ add.between) (request_of t n (Prepare x)) add.after (subst (All Plain) place none) j r lt own.thread own.from own.below) in
-          share_is x k d t n T H none_later add _ refl ∙ ap (λ q. if q then d else pos 0) (commits_none x (request_of t n (Prepare x) ∷ add.after) (tables_after (add.before ++ add.adding ∷ add.between) T) no_commit ∙ sym not);
+          share_is x k d t n T H none_later add _ refl ∙ ap (λ q. if q then d else pos 0)
+          (commits_none x (request_of t n (Prepare x) ∷ add.after) (tables_after (add.before ++ add.adding ∷ add.between) T) no_commit ∙ sym not);
       adders = adders;
       moves = λ accounts.
           moved_without accounts (is_within t n last) H T (λ k d lt passes. let w = within_parts t n last (get_or H k d) passes in none k d lt w.0 w.1 w.2)
@@ -295,10 +296,12 @@ module _ {t : ℕ} {T : Tables} {H : History} (site : Site t T H) (x : XidName) 
             let rest_none : commits_or false (fates x s.rest left) ≡ false = commits_none x s.rest left (λ k d lt named.
             let own = all_after (λ (q : Request). names x q.op ≡ true → IsBetween t n last q) s.mid (request_of t (suc n) (Commit x false)) s.rest only_parts k d lt named in
             rest_plain k d lt own.thread own.below) in
-            let voted : fate_of x (Prepare x) (next t (Prepare x) (tables_after f.before T)).1 ≡ Some history.InDoubt = ap (fate_of x (Prepare x)) (sym f.code ∙ agreed) ∙ at_true (xid_eq x x) _ None (xid_self x) in
+            let voted : fate_of x (Prepare x) (next t (Prepare x) (tables_after f.before T)).1 ≡ Some history.InDoubt = ap (fate_of x (Prepare x))
+            (sym f.code ∙ agreed) ∙ at_true (xid_eq x x) _ None (xid_self x) in
             let made : fate_of x (Commit x false) (next t (Commit x false) there).1 ≡ commit_fate c = at_true (xid_eq x x) _ None (xid_self x) ∙ ap commit_fate (sym s.code) in
             let after : fates x f.after now ≡ cons_option (commit_fate c) (fates x s.rest left) =
-            ap (λ (h : History). fates x h now) s.split ∙ fates_both x s.mid (request_of t (suc n) (Commit x false) ∷ s.rest) now ∙ (λ i. unnamed x s.mid now quiet_mid i ++ cons_option (made i) (fates x s.rest left)) in
+            ap (λ (h : History). fates x h now) s.split ∙ fates_both x s.mid (request_of t (suc n) (Commit x false) ∷ s.rest) now
+            ∙ (λ i. unnamed x s.mid now quiet_mid i ++ cons_option (made i) (fates x s.rest left)) in
             (λ i. commits_or false (cons_option (voted i) (after i))) ∙ commit_counts c (fates x s.rest left) rest_none
 
         -- the call's requests move what it moves, and the branch holds there what it held at its Prepare
@@ -309,17 +312,16 @@ module _ {t : ℕ} {T : Tables} {H : History} (site : Site t T H) (x : XidName) 
             let keeps : held_by accounts x there ≡ held accounts =
             site.law.keeps accounts t x f.before s.mid T site.opening (sym f.code ∙ agreed) quiet_mid ∙ ap (λ (h : History). held_by accounts x (tables_after h T)) (sym (taken f)) in
             ap (λ (h : History). moved accounts (is_within t n last) h T) s.place
-            ∙ moved_at accounts (is_within t n last) before s.rest (request_of t (suc n) (Commit x false)) T low (inside t n last (request_of t (suc n) (Commit x false)) refl (omega arith) (let more = z.more in omega (arith, more)))
+            ∙ moved_at accounts (is_within t n last) before s.rest (request_of t (suc n) (Commit x false)) T
+            (All-append (λ (q : Request). is_within t n last q ≡ true → is_commit q.op ≡ false) f.before (request_of t n (Prepare x) ∷ s.mid) (λ k d lt passes.
+            let w = within_parts t n last (get_or f.before k d) passes in
+            absurd (omega (arith, below site n (Prepare x) f.before f.after f.place k d lt w.0, w.1)))
+            (All-cons (λ (q : Request). is_within t n last q ≡ true → is_commit q.op ≡ false) (request_of t n (Prepare x)) s.mid (λ _. refl) (λ k d lt passes.
+            absurd (s.others k d lt (within_parts t n last (get_or s.mid k d) passes).0))))
+            (inside t n last (request_of t (suc n) (Commit x false)) refl (omega arith) (let more = z.more in omega (arith, more)))
             (λ k d lt passes. let w = within_parts t n last (get_or s.rest k d) passes in rest_plain k d lt w.0 w.2)
-            ∙ ap (λ (V : Tables). moved_by accounts (Commit x false) (next t (Commit x false) V).1 V) s.there_is ∙ ap (λ d. moved_by accounts (Commit x false) d there) (sym s.code) ∙ ap (λ v. if is_done c then v else pos 0) keeps
-          where
-            low : All (λ q. is_within t n last q ≡ true → is_commit q.op ≡ false) (f.before ++ request_of t n (Prepare x) ∷ s.mid)
-            low k d lt passes =
-                let w = within_parts t n last (get_or (f.before ++ request_of t n (Prepare x) ∷ s.mid) k d) passes in
-                let under = below site (suc n) (Commit x false) (f.before ++ request_of t n (Prepare x) ∷ s.mid) s.rest s.place k d lt w.0 in
-                let from = w.1 in
-                let O : Request → Type 0 = λ r. r.thread ≡ t → r.number ≡ n → r.op ≡ (Prepare x) in
-                ap is_commit (all_left O (f.before ++ request_of t n (Prepare x) ∷ s.mid) (request_of t (suc n) (Commit x false) ∷ s.rest) (subst (All O) s.place (only_op site n (Prepare x) vote f)) k d lt w.0 (omega (arith, under, from)))
+            ∙ ap (λ (V : Tables). moved_by accounts (Commit x false) (next t (Commit x false) V).1 V) s.there_is ∙ ap
+            (λ d. moved_by accounts (Commit x false) d there) (sym s.code) ∙ ap (λ v. if is_done c then v else pos 0) keeps
 
       committing : Goal (yes_ending true (Some c))
       committing =

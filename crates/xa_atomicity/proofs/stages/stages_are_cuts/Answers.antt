@@ -8,5 +8,6 @@ returns c = record {
   decided = decided_is_cut;
   undecided = undecided_is_cut;
   told = λ bs desk mid tell late new log later p d t may first between second third after.
-      forgetting_cut bs desk mid tell log later p d may first between second late new t third after new (map third_ask t.round.asks.items) (same_itself (map third_ask t.round.asks.items)) (none_so_far (map third_ask t.round.asks.items) new);
+      forgetting_cut bs desk mid tell log later p d may first between second late new t third after new (map third_ask t.round.asks.items)
+      (same_itself (map third_ask t.round.asks.items)) (none_so_far (map third_ask t.round.asks.items) new);
 }
