@@ -115,11 +115,10 @@ module _ (law : Tabled) (first : (s : Settling) (m : ℕ) (T : Tables) → IsSet
       let towards_accepted : All (λ (r : Request). IsTowards commit L x r.op) (accepted H1) =
       all_left (λ (r : Request). IsTowards commit L x r.op) (accepted H1) (first_shut H1 ++ late H1) (subst (All (λ (r : Request). IsTowards commit L x r.op)) (parted H1) w.0.towards) in
       let all : All (IsEnded commit) (fates x (accepted H1) T1) = search (arith, led_fates, stands_first) in
-      let rest : CountsThrough ps (settled_fate p.settled m x g) (tables_after H1 T1) = walk_counts ps (tables_after H1 T1) (settled_fate p.settled m x g) w.1 in (
-        waiting p ps f g T T1 refl refl all (with_T1.fates x g) rest,
-        λ e.
-            rest.1 (with_T1.fates x g ∙ last_ended commit (fates x (accepted H1) T1) g (ap reopened_fate e ∙ as_decided commit) all),
-      )
+      let rest : CountsThrough ps (settled_fate p.settled m x g) (tables_after H1 T1) = walk_counts ps (tables_after H1 T1) (settled_fate p.settled m x g) w.1 in
+      let done : IsEnded commit f → IsEnded commit (fate_through m x (settled_fate p.settled m x g) ps) = λ e.
+      rest.1 (with_T1.fates x g ∙ last_ended commit (fates x (accepted H1) T1) g (ap reopened_fate e ∙ as_decided commit) all) in
+      (waiting p ps f g T T1 refl refl all (with_T1.fates x g) rest, done)
 
 -- nothing but resolves names the branch later, and they find what was decided
 pub record IsMarked (later : List Opening) (commit : Bool) (b : Branch) : Type 0 where

@@ -158,19 +158,17 @@ module _ {t : ℕ} {T : Tables} {H : History} (s : Site t T H) (x : XidName) (co
         by_second None o f = absurd o
         by_second (Some c) (withholds shut fails same) f = absurd (open_still shut)
         by_second (Some c) (asks stands h to) f =
-            let e = two_is (ap (λ (z : Sent). z.number) to) in (
-              c,
-              refl,
-              record {
-                first = first;
-                second = subst (λ k. StandsIn t k op c T H) number_is stands;
-                more = elim f as (λ _. n + 1 < last) [ inl same ↦ let z = ap (λ (z : Sent). z.number) same in omega (arith, z, e) | inr g ↦ omega (arith, g.3, e) ];
-                forgets = λ k d lt own up less. elim f as (λ _. is_forget (get_or H k d).op ≡ true) [
-                  | inl same ↦ let z = ap (λ (z : Sent). z.number) same in absurd (omega (arith, up, less, z, e))
-                  | inr g ↦ ap is_forget (only_op s decided.number (Forget x) g.0 g.2 k d lt own (omega (arith, up, less, g.3, e)))
-                ];
-              },
-            )
+            let e = two_is (ap (λ (z : Sent). z.number) to) in
+            let sends : Sends s x n last vote op c = record {
+              first = first;
+              second = subst (λ k. StandsIn t k op c T H) number_is stands;
+              more = elim f as (λ _. n + 1 < last) [ inl same ↦ let z = ap (λ (z : Sent). z.number) same in omega (arith, z, e) | inr g ↦ omega (arith, g.3, e) ];
+              forgets = λ k d lt own up less. elim f as (λ _. is_forget (get_or H k d).op ≡ true) [
+                | inl same ↦ let z = ap (λ (z : Sent). z.number) same in absurd (omega (arith, up, less, z, e))
+                | inr g ↦ ap is_forget (only_op s decided.number (Forget x) g.0 g.2 k d lt own (omega (arith, up, less, g.3, e)))
+              ];
+            } in
+            (c, refl, sends)
 
     sent_course : Ends (ending_of commit vote second)
     sent_course =

@@ -6,7 +6,7 @@ use Rattle.xa_atomicity.proofs.Words.{Code, xid_self, HeuristicDecision, State, 
 use Rattle.xa_atomicity.proofs.Words.{tables_after, names, Tables, History, LedgerView, learnt_shut, with_sent, with_collected, numbered, Branch, Ending}
 use Rattle.xa_atomicity.proofs.Words.{IsAnswered, IsBegun, asked, collected, in_flight, unasked, is_decided, second_op, third_op, yes_ending, outcome_op}
 use Rattle.xa_atomicity.proofs.Words.{IsAsked, IsEnded, IsTold, IsBetween, OnlyTheseOrDecisionsName, told_fate, IsAskedFor, all_left, any_asked}
-use Rattle.xa_atomicity.proofs.Words.{tables_after-append, ◌<◌, Any, Contains-push}
+use Rattle.xa_atomicity.proofs.Words.{tables_after-append, ◌<◌, Any, Contains-push, slice_get_within}
 use Rattle.xa_tables.specs.Histories as history
 use Rattle.xa_atomicity.proofs.CutVotes.{vote_there, HasVoted, ended_voted, first_is, forget_sends, other_sends, prepare_sent, told_voted}
 use Rattle.xa_atomicity.proofs.Guided.{ends, leaves, tells, AtEnd, Comes, once, told_decided, decision_so, IsGuided, at_last, fate_any, fates_from}
@@ -25,21 +25,18 @@ pub record HasSentOnly (commit : Bool) (L : Type 0) (x : XidName) (a a' : Ledger
   pub sent : a'.sent ≡ a.sent ++ Prepare x ∷ rest
   pub all : All (IsTowards commit L x) rest
 
-first_after : {A : Type 0} (xs ys : List A) → slice_get (xs ++ ys) (length xs) ≡ slice_get ys 0
-first_after [] ys = refl
-first_after (x ∷ xs) ys = first_after xs ys
-
 module _ (commit : Bool) (L : Type 0) (x : XidName) where
   other_towards : (op : Op) → names x op ≡ false → IsTowards commit L x op
   other_towards op other named = let z : true ≡ false = sym named ∙ other in cc
 
   -- what leads it is no Prepare of it
-  not_first : (more : List Op) → All (IsTowards commit L x) more → slice_get more 0 ≡ Some (Prepare x) → ⊥
-  not_first [] all e = cc
-  not_first (op ∷ more) all e = subst (IsTowards commit L x) (some_same op (Prepare x) e) (All-head (IsTowards commit L x) op more all) (xid_self x)
+  not_first : (sent more : List Op) → All (IsTowards commit L x) more → slice_get (sent ++ more) (length sent) ≡ Some (Prepare x) → ⊥
+  not_first sent [] all e = absurd (omega (arith, slice_get_within (sent ++ []) (length sent) (Prepare x) e, length-append sent []))
+  not_first sent (op ∷ more) all e =
+      subst (IsTowards commit L x) (some_same op (Prepare x) (sym (at_seam sent op more) ∙ e)) (All-head (IsTowards commit L x) op more all) (xid_self x)
 
   unprepared : (a a' : LedgerView) → Sends (IsTowards commit L x) a a' → slice_get a'.sent (length a.sent) ≡ Some (Prepare x) → ⊥
-  unprepared a a' z first = not_first z.more z.all (sym (first_after a.sent z.more) ∙ ap (λ l. slice_get l (length a.sent)) (sym z.sent) ∙ first)
+  unprepared a a' z first = not_first a.sent z.more z.all (ap (λ l. slice_get l (length a.sent)) (sym z.sent) ∙ first)
 
   after_prepare : (a left a' : LedgerView) → left.sent ≡ a.sent ++ Prepare x ∷ [] → Sends (IsTowards commit L x) left a' → HasSentOnly commit L x a a'
   after_prepare a left a' is z = record { rest = z.more; sent = z.sent ∙ ap (λ l. l ++ z.more) is ∙ append_assoc a.sent (Prepare x ∷ []) z.more; all = z.all }

@@ -239,8 +239,8 @@ module _ (bs cs : List Branch) (rising : AreBranchesRising 0 bs) (others : AreOt
       → LeavesBranches bs desk.ledgers new
   commit_leaves desk new log later done made = record {
     each = each_so desk.ledgers new (λ b positive o.
-        every_manager (DidOther b.xid) (did_nothing b.xid) (λ c. c.xid ≢ b.xid) made.may.tran cs desk.ledgers new log later done
-        (λ c differs v s e a a' is. did_by b.xid a a' (trace_sends b.xid c.xid differs done.commit c v s e a a' refl is)) o made.trace b.m positive);
+        every_manager (DidOther b.xid) (did_nothing b.xid) (λ c. c.xid ≢ b.xid) desk.ledgers new done
+        (λ c differs v s e a a' is. did_by b.xid a a' (trace_sends b.xid c.xid differs done.commit c v s e a a' refl is)) made.may.tran cs log later o made.trace b.m positive);
     managers = made.trace.managers;
   }
 

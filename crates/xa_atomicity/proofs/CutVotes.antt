@@ -32,17 +32,13 @@ module _ (s : Settling) (settled : IsSettled s) (m : ℕ) (up : IsUpTo MOST_MANA
   abbrev pub Passes : (Op → Type 0) → Use → Type 0
   Passes P u = All (λ r. HasSent m r u → P r.op) H
 
-  resolve_passes : (P : Op → Type 0) (q : ResolveCall) → IsUseIn s (resolves q) → P OpenRm → ((o : Outcome) → Contains q.outcomes o → Asks P q.records m o)
-      → Passes P (resolves q)
-  resolve_passes P q use_ opens asks =
-      let z : Sends P (ledger q.old m) (ledger q.new m) = resolve_sends q.scan q.records q.old q.new q.outcomes use_.made P m up opens asks in
-      λ k d lt has. sent_between s settled q.thread m up.0 P (ledger q.old m) (ledger q.new m) z.more z.sent z.all (use_.grown.each m up.0) k d lt has.thread has.from has.below
-
   use_passes : (P : Op → Type 0) → P OpenRm → (u : Use) → IsUseIn s u
       → ((q : ResolveCall) → u ≡ resolves q → (o : Outcome) → Contains q.outcomes o → Asks P q.records m o) → Passes P u
   use_passes P opens (commits c) use_ asks = λ k d lt has. absurd has
   use_passes P opens (cuts c) use_ asks = λ k d lt has. absurd has
-  use_passes P opens (resolves q) use_ asks = resolve_passes P q use_ opens (asks q refl)
+  use_passes P opens (resolves q) use_ asks = λ k d lt has.
+      let z : Sends P (ledger q.old m) (ledger q.new m) = resolve_sends q.scan q.records q.old q.new q.outcomes use_.made P m up opens (asks q refl) in
+      sent_between s settled q.thread m up.0 P (ledger q.old m) (ledger q.new m) z.more z.sent z.all (use_.grown.each m up.0) k d lt has.thread has.from has.below
 
   -- so is each request that names the transaction, where nothing but resolves does
   pub named_so : (P : Op → Type 0) (t : TranName) (us : List Use) → P OpenRm → All (IsUseIn s) us
@@ -253,11 +249,8 @@ finished_law bs desk new log later d made = record {
   far = forgetting d.votes.items d.logged made.trace.course.seconds made.trace.course.logs
       (subst (λ c. EachBranch (Ended c desk.ledgers new) bs d.votes.items made.trace.course.seconds d.endings.items) made.trace.course.decision
       (branch_map (λ b. Unit {0}) (Traced d.commit desk.ledgers new) (Ended d.commit desk.ledgers new)
-      (λ b v s e _ h. (
-        ended_so d.commit b v s e (ledger desk.ledgers b.m)
-            (ledger new b.m) h,
-        h.ends,
-      )) bs d.votes.items made.trace.course.seconds d.endings.items (λ k e lt. tt) made.trace.course.each));
+      (λ b v s e _ h. (ended_so d.commit b v s e (ledger desk.ledgers b.m) (ledger new b.m) h, h.ends)) bs d.votes.items made.trace.course.seconds d.endings.items
+      (λ k e lt. tt) made.trace.course.each));
   managers = made.trace.managers;
 }
 

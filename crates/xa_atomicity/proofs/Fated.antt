@@ -66,10 +66,6 @@ found x f (r ∷ g) T e =
           record { before = []; request = r; after = g; place = refl; fate_here = is ∙ ap Some same }
     ] refl e
 
--- a request that makes something of the branch names it
-named_by : (x : XidName) (op : Op) (c : Code) (f : Fate) → fate_of x op c ≡ Some f → names x op ≡ true
-named_by x op c f is = true_from_ne_false (names x op) (λ n. let z : None ≡ Some f = sym (unnamed_fate x op c n) ∙ is in cc)
-
 -- a heuristic decision that makes something of it was carried out
 carried_out_by : (x : XidName) (op : Op) (c : Code) (f : Fate) → is_heur op ≡ true → fate_of x op c ≡ Some f → c ≡ Done
 carried_out_by x (Heur y commits) c f h is = heur_done (xid_eq y x) c is
@@ -86,7 +82,8 @@ pub decided_in : (t n : ℕ) (x : XidName) (T : Tables) (H before after : Histor
     → fates x g (next t (Prepare x) (tables_after before T)).0 ≡ decided_fate d ∷ [] → IsDecidedAfter x t n T H
 decided_in t n x T H before after place g h split heur d made =
     let p = found x (decided_fate d) g (next t (Prepare x) (tables_after before T)).0 made in
-    let named = named_by x p.request.op _ (decided_fate d) p.fate_here in
+    let named : names x p.request.op ≡ true = true_from_ne_false (names x p.request.op) (λ n.
+    let none : None ≡ Some (decided_fate d) = sym (unnamed_fate x p.request.op _ n) ∙ p.fate_here in cc) in
     let Q : Request → Type 0 = λ q. names x q.op ≡ true → is_heur q.op ≡ true in
     let by_itself = all_mid Q p.before p.after p.request (subst (All Q) p.place heur) named in
     search (arith, request_of, append_assoc, tables_after-append, carried_out_by, p.before, p.request.thread, p.request.op)

@@ -314,12 +314,9 @@ module _ (commit : Bool) (D L : Type 0) (t n : ℕ) (x : XidName) (T : Tables) (
         let made : fate_of x (outcome_op commit x) told.1 ≡ Some (ended_as commit) = ap (fate_of x (outcome_op commit x)) e ∙ ends_fate commit x in
         let led = step_led commit true D L x here (tables_after before T) st.stands st.sound t (outcome_op commit x) (ends_towards commit L x x) in
         let stands : Stands commit true D L (state_of told.0 x) (ended_as commit) = subst (λ (o : Option Fate). Stands commit true D L (state_of told.0 x) (unwrap_or o here)) made led.stands in
-        let silent : fates x after told.0 ≡ [] =
-        (fates_once commit D L x after told.0 (ended_as commit) guide (record {
-          stands = stands;
-          sound = sound_after t (outcome_op commit x)
-              (tables_after before T) st.sound;
-        })).0 (ended_known commit) in
+        let there : Standing commit true D L x told.0 (ended_as commit) =
+        record { stands = stands; sound = sound_after t (outcome_op commit x) (tables_after before T) st.sound } in
+        let silent : fates x after told.0 ≡ [] = (fates_once commit D L x after told.0 (ended_as commit) guide there).0 (ended_known commit) in
         after_it ∙ (λ i. last_or here (cons_option (made i) (silent i)))
 
     -- a decision that it was told is its fate

@@ -154,9 +154,9 @@ positive_all lo [] r = All-nil (λ (b : Branch). 1 ≤ b.m)
 positive_all lo (b ∷ bs) r = All-cons (λ (c : Branch). 1 ≤ c.m) b bs (let up = r.0 in omega (arith, up)) (positive_all b.m bs r.1)
 
 -- P holds of each ledger before and after, if it holds where nothing was done and where the trace was of a branch of which C is known
-module _ (P : LedgerView → LedgerView → Type 0) (stays : (a : LedgerView) → P a a) (C : Branch → Type 0) (commit : Bool) (old new : List LedgerView)
-    (traced : (b : Branch) → C b → (v : Code) (s : Option Code) (e : Ending) (a a' : LedgerView) → AtBranch AsksLedger commit b v s e a a' → P a a') where
-  at_branch : (m : ℕ) (bs : List Branch) (vs : List Code) (ss : List (Option Code)) (es : List Ending) → All C bs → EachBranch (Traced commit old new) bs vs ss es
+module _ (P : LedgerView → LedgerView → Type 0) (stays : (a : LedgerView) → P a a) (C : Branch → Type 0) (old new : List LedgerView) (d : Done)
+    (traced : (b : Branch) → C b → (v : Code) (s : Option Code) (e : Ending) (a a' : LedgerView) → AtBranch AsksLedger d.commit b v s e a a' → P a a') where
+  at_branch : (m : ℕ) (bs : List Branch) (vs : List Code) (ss : List (Option Code)) (es : List Ending) → All C bs → EachBranch (Traced d.commit old new) bs vs ss es
       → has_branch_at bs m ≡ true → P (ledger old m) (ledger new m)
   at_branch m [] [] [] [] all h e = cc
   at_branch m (b ∷ bs) (v ∷ vs) (s ∷ ss) (x ∷ es) all h e =
@@ -166,15 +166,13 @@ module _ (P : LedgerView → LedgerView → Type 0) (stays : (a : LedgerView) �
       ] refl e
   at_branch m bs vs ss es all h e = absurd h
 
-pub every_manager : (P : LedgerView → LedgerView → Type 0) → ((a : LedgerView) → P a a)
-    → (C : Branch → Type 0) (tran : TranName) (bs : List Branch) (old new : List LedgerView) (log later : LogState) (d : Done)
-    → ((b : Branch) → C b → (v : Code) (s : Option Code) (e : Ending) (a a' : LedgerView) → AtBranch AsksLedger d.commit b v s e a a' → P a a') → All C bs
-    → IsTraceOfCommit tran bs old new log later d → (m : ℕ) → 1 ≤ m → P (ledger old m) (ledger new m)
-every_manager P stays C tran bs old new log later d traced all call m positive =
-    elim (has_branch_at bs m) as (λ b. has_branch_at bs m ≡ b → P (ledger old m) (ledger new m)) [
-      | true ↦ λ e. at_branch P stays C d.commit old new traced m bs d.votes.items call.course.seconds d.endings.items all call.course.each e
-      | false ↦ λ e. subst (P (ledger old m)) (sym (call.course.others m positive e)) (stays (ledger old m))
-    ] refl
+  pub every_manager : (tran : TranName) (bs : List Branch) (log later : LogState) → All C bs → IsTraceOfCommit tran bs old new log later d → (m : ℕ) → 1 ≤ m
+      → P (ledger old m) (ledger new m)
+  every_manager tran bs log later all call m positive =
+      elim (has_branch_at bs m) as (λ b. has_branch_at bs m ≡ b → P (ledger old m) (ledger new m)) [
+        | true ↦ λ e. at_branch m bs d.votes.items call.course.seconds d.endings.items all call.course.each e
+        | false ↦ λ e. subst (P (ledger old m)) (sym (call.course.others m positive e)) (stays (ledger old m))
+      ] refl
 
 abbrev pub IsNoCommit : Op → Type 0
 IsNoCommit op = is_commit op ≡ false
@@ -184,7 +182,7 @@ pub abort_sends_no_commit : (tran : TranName) (bs : List Branch) (old new : List
     → IsTraceOfCommit tran bs old new log later done → done.commit ≡ false → NoCommitWasSent old new
 abort_sends_no_commit tran bs old new log later done call off m positive =
     let z =
-    every_manager (Sends IsNoCommit) (stays IsNoCommit) (λ b. Unit {0}) tran bs old new log later done (λ b _ v s e a a' is. no_commit b v s e a a' (subst (λ c. AtBranch AsksLedger c b v s e a a') off is)) (λ k d lt. tt) call m positive in
+    every_manager (Sends IsNoCommit) (stays IsNoCommit) (λ b. Unit {0}) old new done (λ b _ v s e a a' is. no_commit b v s e a a' (subst (λ c. AtBranch AsksLedger c b v s e a a') off is)) tran bs log later (λ k d lt. tt) call m positive in
     record { more = z.more; sent = z.sent; none = list_any_none is_commit z.more z.all }
   where
     no_commit : (b : Branch) (v : Code) (s : Option Code) (e : Ending) (a a' : LedgerView) → AtBranch AsksLedger false b v s e a a' → Sends IsNoCommit a a'

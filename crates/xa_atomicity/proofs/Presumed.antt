@@ -318,18 +318,15 @@ module _ (law : Tabled) (first : (s : Settling) (m : ℕ) (T : Tables) → IsSet
 
 module _ (law : Tabled) (first : (s : Settling) (m : ℕ) (T : Tables) → IsSettled s → first_of s m ≡ Some T → IsOpenedWith s m T)
     (o : Opening) (between : List Opening) (last : Opening) (k : CutCall) (q : ResolveCall) (r : IsResolvedAfter o between last k q) where
-  kept_first : IsKept o
-  kept_first = All-head IsKept o (between ++ last ∷ []) r.followed.kept
-
   cut_use : IsUseIn o.settled (cuts k)
-  cut_use = use_there o.settled o.uses r.followed.us r.followed.vs (cuts k) r.followed.use_at kept_first.uses
+  cut_use = use_there o.settled o.uses r.followed.us r.followed.vs (cuts k) r.followed.use_at (All-head IsKept o (between ++ last ∷ []) r.followed.kept).uses
 
   open cut_use use {made as cut_made}
   open cut_made use {may.{tran as cut_tran}}
 
   abbrev followed : Followed o between last (cuts k) k q (VotedToCommit k o.settled) (λ b. Unit {0})
   followed =
-      record { use_ = r.followed; made = cut_made; grown = cut_use.grown; own = r.own; voted = λ b here. here; quiet = λ mark b up _. quiet_alone mark cut_tran b.m up o.settled r.followed.vs (uses_after o.settled o.uses r.followed.us r.followed.vs (cuts k) r.followed.use_at kept_first.uses) (r.alone cut_tran cut_made.may.one) }
+      record { use_ = r.followed; made = cut_made; grown = cut_use.grown; own = r.own; voted = λ b here. here; quiet = λ mark b up _. quiet_alone mark cut_tran b.m up o.settled r.followed.vs (uses_after o.settled o.uses r.followed.us r.followed.vs (cuts k) r.followed.use_at (All-head IsKept o (between ++ last ∷ []) r.followed.kept).uses) (r.alone cut_tran cut_made.may.one) }
 
   each_so : (u : TranName) → IsTranOf k.branches u
       → All (λ b. VotedToCommit k o.settled b → Follows (is_recorded k.later u) o (between ++ last ∷ []) k.thread b (length (ledger k.desk.ledgers b.m).sent) (known_of k b)) k.branches

@@ -126,13 +126,10 @@ module _ (law : Tabled) (first : (s : Settling) (m : ℕ) (T : Tables) → IsSet
   all_yes : (Q : Branch → Ending → Type 0) → ((b : Branch) (e : Ending) → FollowsTo c.done.commit b e → Q b e)
       → EachOutcome (λ b v e. is_yes v ≡ true → Q b e) c.branches c.done.votes.items c.done.endings.items
   all_yes Q so =
-      each_outcome Goal Known (λ b v e. is_yes v ≡ true → Q b e) (λ b v z e goal is y. so b e
-      (follows_so b v z e goal is y)) c.branches c.done.votes.items made.trace.course.seconds c.done.endings.items
-      (λ j d lt. (
-        (among_so law first o between last (commits c) k q Agreed Learnt followed doubt j d lt).0,
-        follows law first o between last
-            (commits c) k q Agreed Learnt followed doubt j d lt,
-      )) known
+      let among = among_so law first o between last (commits c) k q Agreed Learnt followed doubt in
+      let all = follows law first o between last (commits c) k q Agreed Learnt followed doubt in
+      each_outcome Goal Known (λ b v e. is_yes v ≡ true → Q b e) (λ b v z e goal is y. so b e (follows_so b v z e goal is y)) c.branches c.done.votes.items
+      made.trace.course.seconds c.done.endings.items (λ j d lt. ((among j d lt).0, all j d lt)) known
 
   all_ends : EachEnds c o later
   all_ends = all_yes (λ b e. EndsAs c.done.commit o later b e) (λ b e z. z.0)

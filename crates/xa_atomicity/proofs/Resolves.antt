@@ -161,12 +161,10 @@ module _ (records : Records) (m : ℕ) (a opened last : LedgerView) (first : Cod
       ⊎_elim (λ (c : Contains xs o).
       chain_asked xs now chain (grows now next (outcome_by AsksLedger Any (Sends Any now) (asks_on Any now) records m p now next (anything records m p) leads (stays Any now)) grown) o c)
       (λ (same : p ≡ o).
-      subst (λ q. IsAsked records m q a last) same (one_asked p now next
-      (chain_sends IsNoClose records m opened xs now (λ q _. record {
-        ends = λ _ _. ends_open q.commit q.xid;
-        forgets =
-            λ _ _ e. cc;
-      }) chain) leads grown)) (Contains-push_cases xs p o there)
+      subst (λ q. IsAsked records m q a last) same
+      (one_asked p now next
+      (chain_sends IsNoClose records m opened xs now (λ q _. record { ends = λ _ _. ends_open q.commit q.xid; forgets = λ _ _ e. cc }) chain) leads grown))
+      (Contains-push_cases xs p o there)
 
 at_asked : (records : Records) (m : ℕ) (xs : List XidName) (os : List Outcome) (a a' last : LedgerView) → ResolvesAt AsksLedger records m xs os a a'
     → HasGrown a' last → (o : Outcome) → Contains os o → IsAsked records m o a last

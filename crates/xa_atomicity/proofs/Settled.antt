@@ -282,12 +282,9 @@ module _ (law : Tabled) (opened : (s : Settling) (m : ℕ) → IsSettled s → (
 
     each : EachBranch In bs d.votes.items made.trace.course.seconds d.endings.items
     each =
-        branch_map (λ b. 1 ≤ b.m) (λ b v z e. AtBranch AsksLedger d.commit b v z e (ledger at b.m) (ledger new b.m)) In (λ b v z e positive h T with_T. (
-          its_course law s t settled b d.commit v z e (ledger at b.m) (ledger new b.m) positive
-              (grown.each b.m positive) h T with_T,
-          h.ends,
-        )) bs d.votes.items made.trace.course.seconds d.endings.items
-        (positive_all 0 bs made.may.rising) made.trace.course.each
+        branch_map (λ b. 1 ≤ b.m) (λ b v z e. AtBranch AsksLedger d.commit b v z e (ledger at b.m) (ledger new b.m)) In (λ b v z e positive h T with_T.
+        (its_course law s t settled b d.commit v z e (ledger at b.m) (ledger new b.m) positive (grown.each b.m positive) h T with_T, h.ends))
+        bs d.votes.items made.trace.course.seconds d.endings.items (positive_all 0 bs made.may.rising) made.trace.course.each
 
     module _ (alone : AreLeftOrDecided s t bs (sent_so_far at) (sent_so_far new)) where
       all_fated : EachOutcome (λ b v e. Fated b (sent_so_far at b.m) v e) bs d.votes.items d.endings.items
@@ -316,10 +313,9 @@ module _ (law : Tabled) (opened : (s : Settling) (m : ℕ) → IsSettled s → (
       whole_law sure =
           let none = or_parts _ _ (not-true _ sure) in
           let whole = committed_law made.may.tran bs desk new log later d made made.may.one in
-          record {
-            each = each_whole (has_committed d) (sent_so_far at) (sent_so_far new) bs d.votes.items d.endings.items (λ some. (whole some).kept)
-                (λ some. (whole some).unopposed) (λ e. e) none.0 none.1 all_outcomes;
-          }
+          let each_so = each_whole (has_committed d) (sent_so_far at) (sent_so_far new) bs d.votes.items d.endings.items (λ some. (whole some).kept)
+          (λ some. (whole some).unopposed) (λ e. e) none.0 none.1 all_outcomes in
+          record { each = each_so }
 
 -- a commit only makes the lists grow
 traced_grows : (commit : Bool) (b : Branch) (v : Code) (z : Option Code) (e : Ending) (a a' : LedgerView) → AtBranch AsksLedger commit b v z e a a'
@@ -331,4 +327,4 @@ traced_grows commit b v z e a a' is =
 pub growth_law : (tran : TranName) (bs : List Branch) (old new : List LedgerView) (log later : LogState) (d : Done)
     → IsTraceOfCommit tran bs old new log later d → HaveGrown old new
 growth_law tran bs old new log later d call =
-    record { each = every_manager HasGrown as_it_was (λ b. Unit {0}) tran bs old new log later d (λ b _. traced_grows d.commit b) (λ k d lt. tt) call }
+    record { each = every_manager HasGrown as_it_was (λ b. Unit {0}) old new d (λ b _. traced_grows d.commit b) tran bs log later (λ k d lt. tt) call }
