@@ -10,7 +10,6 @@ use Rattle.xa_atomicity.proofs.Words.{AreLeft, told_by, left_at, Branch, Outcome
 use Rattle.xa_atomicity.proofs.Words.{AreInARow, EndsAs, IsKept, IsListed, OnlyResolves, ResolveCall, became, last_of, resolves, tables_left, uses_of}
 use Rattle.xa_atomicity.proofs.Words.{IsUnlisted, SharesOver, commits_after, at_false, at_true, both_ways}
 use Rattle.xa_atomicity.specs.Worth.{is_committed}
-use Rattle.xa_tables.specs.declared.state.HeuristicDecision.TheVariants as decision
 use Rattle.xa_tables.specs.Histories as history
 use Rattle.xa_atomicity.proofs.Later.{last_ended, Walk, stands_first, ends_with, walk, walk_after, walk_ends, walk_tells}
 use Rattle.xa_atomicity.proofs.Leading.{IsTowards, Stands, waits, unforgotten, over, as_decided, led_fates, IsOver}
@@ -24,12 +23,10 @@ use Rattle.xa_atomicity.proofs.OneOutcome.{FindsMark}
 
 -- a fate that isn't unknown is how it ended
 ends_by : (f : Fate) (b : Bool) → f ≡ ended_as b → ending_by f ≡ Some (is_committed f)
-ends_by f true e = ap ending_by e ∙ ap (λ g. Some (is_committed g)) (sym e)
-ends_by f false e = ap ending_by e ∙ ap (λ g. Some (is_committed g)) (sym e)
+ends_by f b e = grind arith
 
 decides_by : (f : Fate) (d : HeuristicDecision) → f ≡ decided_fate d → ending_by f ≡ Some (is_committed f)
-decides_by f decision.Commit e = ap ending_by e ∙ ap (λ g. Some (is_committed g)) (sym e)
-decides_by f decision.Rollback e = ap ending_by e ∙ ap (λ g. Some (is_committed g)) (sym e)
+decides_by f d e = grind arith
 
 ending_so : (commit : Bool) (W L : Type 0) (s : Option State) (f : Fate) (e : Ending) → Comes commit W L s f e → is_unknown f ≡ false
     → ending_by f ≡ Some (is_committed f)

@@ -121,8 +121,7 @@ module _ (law : Tabled) (opens : (s : Settling) (m : ℕ) → IsSettled s → (T
     nothing_added b past = search (arith, held_is, no_accounts, b.m, b.xid)
 
     either_none : (c : Bool) (v : ℤ) → v ≡ pos 0 → pos 0 ≡ (if c then v else pos 0)
-    either_none true v e = sym e
-    either_none false v e = refl
+    either_none c v e = grind arith
 
     branch_moves : (b : Branch) (vote : Code) (e : Ending) → 1 ≤ b.m → Both law opens s t b (count old b.m) (count new b.m) vote e → BranchMoves b vote e
     branch_moves b vote e positive both =

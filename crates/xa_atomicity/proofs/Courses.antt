@@ -8,12 +8,10 @@ use Rattle.xa_tables.specs.{is_rolled_back}
 use Rattle.xa_atomicity.proofs.Sites.{asks, withholds, Site, StandsIn, Sent, AsksIn, only_op, Second, request_of}
 
 pub yes_is : (c : Code) → is_yes c ≡ true → c ≡ Done
-yes_is Done e = refl
-yes_is c e = cc
+yes_is c e = grind arith
 
 pub read_is : (c : Code) → is_read c ≡ true → c ≡ RdOnly
-read_is RdOnly e = refl
-read_is c e = cc
+read_is c e = grind arith
 
 -- ---- where the requests of a branch stand
 
@@ -75,12 +73,10 @@ pub own_plain : {t : ℕ} {T : Tables} {H : History} (s : Site t T H) (x : XidNa
 own_plain {t} {T} {H} s x n last vote commit e course k d lt own up down = by_course e course k d lt own (omega (arith, up)) down
   where
     forget_plain : (op : Op) → is_forget op ≡ true → is_heur op ≡ false
-    forget_plain (Forget y) e = refl
-    forget_plain op e = cc
+    forget_plain op e = grind arith
 
     outcome_plain : (b : Bool) → is_heur (outcome_op b x) ≡ false
-    outcome_plain true = refl
-    outcome_plain false = refl
+    outcome_plain b = grind arith
 
     by_course : (e : Ending) → Course s x n last vote commit e → All (λ r. r.thread ≡ t → n ≤ r.number → r.number < last → is_heur r.op ≡ false) H
     by_course _ (Unreached same code) = λ k d lt own up down. absurd (omega (arith, same, up, down))
@@ -94,8 +90,7 @@ own_plain {t} {T} {H} s x n last vote commit e course k d lt own up down = by_co
 
 -- the second request of a yes branch, and of one that is out of reach
 pub yes_wanted : (commit : Bool) (x : XidName) → second_op commit x Done ≡ Some (outcome_op commit x)
-yes_wanted true x = refl
-yes_wanted false x = refl
+yes_wanted commit x = grind arith
 
 none_wanted : (x : XidName) (vote : Code) (commit : Bool) → is_yes vote ≡ false → (is_read vote || (is_rolled_back vote || is_out_of_reach vote)) ≡ true
     → second_op commit x vote ≡ None

@@ -171,8 +171,7 @@ module _ (x y : XidName) (differs : y ≢ x) where
   apart = false_from_ne_true (xid_eq y x) (λ e. differs ((Decides-xid_eq y x).0 e))
 
   pub outcome_unnamed : (commit : Bool) → Unnamed x (outcome_op commit y)
-  outcome_unnamed true = apart
-  outcome_unnamed false = apart
+  outcome_unnamed commit = grind (arith, apart)
 
   pub second_unnamed : (commit : Bool) (v : Code) → IsAskedFor (Unnamed x) (second_op commit y v)
   second_unnamed commit v = second_so (Unnamed x) commit y v (outcome_unnamed commit)

@@ -1,17 +1,16 @@
 -- What names a transaction in an opening where only resolves do; and the votes that a commit got which was cut short, and
 -- what it leaves in the log.
 use Rattle.xa_atomicity.proofs.Words.{arith, ◌≡◌, ◌≢◌, ℕ, suc, ◌+◌, ◌≤◌, Bool, true, false, List, ◌∷◌, ◌++◌, length, append_assoc, refl, ap, ◌∙◌, Option, All}
-use Rattle.xa_atomicity.proofs.Words.{Contains, All-contains, MOST_MANAGERS, IsUpTo, XidName, Decides-xid_eq, TranName, tran_of, Op, OpenRm, Start, End}
-use Rattle.xa_atomicity.proofs.Words.{Prepare, Commit, Rollback, Forget, Heur, Code, History, of_thread, names, LedgerView, ledger, HasGrown, numbered}
-use Rattle.xa_atomicity.proofs.Words.{Settling, IsSettled, sent, ledgers_of, history as history_of, Branch, Ending, Outcome, AsksLedger, outcome_op, AtBranch}
-use Rattle.xa_atomicity.proofs.Words.{Records, ResolveCall, Use, commits, cuts, resolves, IsUseIn, NamesTran, HasSent, Asks, IsAsked, CameSoFar, known_at}
-use Rattle.xa_atomicity.proofs.Words.{DidOther, EachVote, IsCut, IsEnded, IsTold, asking, forgetting, telling, IsKept, OnlyResolves, Opening, ◌==◌, ◌||◌}
-use Rattle.xa_atomicity.proofs.Words.{zero, slice_get, ◌<◌, ◌&&◌, [], append-nil, get_or, sym, subst, Some, unwrap_or, or-true, eq-eqb, ne_eqb}
-use Rattle.xa_atomicity.proofs.Words.{false_from_ne_true, or_from, eqb-true, begins_on, all_mid, same_begins, Contains-append_right, All-nil, All-cons}
-use Rattle.xa_atomicity.proofs.Words.{at_false, has_yes, voted_yes, yes_of, is_yes, AreBranchesRising, Logs, decision_of, EachBranch, IsCommit, IsTranOf}
-use Rattle.xa_atomicity.proofs.Words.{voted, IsAnswered, IsBegun, asked, collected, in_flight, unasked, second_op, third_op, ending_of, both_ways, Begins}
-use Rattle.xa_atomicity.proofs.Words.{RmFail, Request, learnt_shut, with_sent, with_collected, HaveGrown, DeskView, LogState, Any, IsAskedFor, any_asked}
-use Rattle.xa_atomicity.proofs.Words.{trace_of, Contains-push}
+use Rattle.xa_atomicity.proofs.Words.{Contains, All-contains, MOST_MANAGERS, IsUpTo, XidName, Decides-xid_eq, TranName, tran_of, Op, OpenRm, End, Prepare}
+use Rattle.xa_atomicity.proofs.Words.{Code, History, of_thread, names, LedgerView, ledger, HasGrown, numbered, Settling, IsSettled, sent, ledgers_of}
+use Rattle.xa_atomicity.proofs.Words.{history as history_of, Branch, Ending, Outcome, AsksLedger, outcome_op, AtBranch, Records, ResolveCall, Use, commits}
+use Rattle.xa_atomicity.proofs.Words.{cuts, resolves, IsUseIn, NamesTran, HasSent, Asks, IsAsked, CameSoFar, known_at, DidOther, EachVote, IsCut, IsEnded}
+use Rattle.xa_atomicity.proofs.Words.{IsTold, asking, forgetting, telling, IsKept, OnlyResolves, Opening, ◌==◌, ◌||◌, zero, slice_get, ◌<◌, ◌&&◌, []}
+use Rattle.xa_atomicity.proofs.Words.{append-nil, get_or, sym, subst, Some, unwrap_or, or-true, eq-eqb, ne_eqb, false_from_ne_true, or_from, eqb-true}
+use Rattle.xa_atomicity.proofs.Words.{begins_on, all_mid, same_begins, Contains-append_right, All-nil, All-cons, at_false, has_yes, voted_yes, yes_of, is_yes}
+use Rattle.xa_atomicity.proofs.Words.{AreBranchesRising, Logs, decision_of, EachBranch, IsCommit, IsTranOf, voted, IsAnswered, IsBegun, asked, collected}
+use Rattle.xa_atomicity.proofs.Words.{in_flight, unasked, second_op, third_op, ending_of, both_ways, Begins, RmFail, Request, learnt_shut, with_sent}
+use Rattle.xa_atomicity.proofs.Words.{with_collected, HaveGrown, DeskView, LogState, Any, IsAskedFor, any_asked, trace_of, Contains-push}
 use Rattle.xa_driver.specs.{Done}
 use Rattle.xa_atomicity.proofs.Settled.{sent_between, by_ledger}
 use Rattle.xa_atomicity.proofs.Sites.{Parted, request_of, part, numbered_both, at_seam}
@@ -48,14 +47,7 @@ module _ (s : Settling) (settled : IsSettled s) (m : ℕ) (up : IsUpTo MOST_MANA
 
 -- a request that names a branch names its transaction
 pub named_tran : (x : XidName) (op : Op) → names x op ≡ true → NamesTran (tran_of x) op
-named_tran x (Start y how) n = ap tran_of ((Decides-xid_eq y x).0 n)
-named_tran x (End y how) n = ap tran_of ((Decides-xid_eq y x).0 n)
-named_tran x (Prepare y) n = ap tran_of ((Decides-xid_eq y x).0 n)
-named_tran x (Commit y one_phase) n = ap tran_of ((Decides-xid_eq y x).0 n)
-named_tran x (Rollback y) n = ap tran_of ((Decides-xid_eq y x).0 n)
-named_tran x (Forget y) n = ap tran_of ((Decides-xid_eq y x).0 n)
-named_tran x (Heur y by_commit) n = ap tran_of ((Decides-xid_eq y x).0 n)
-named_tran x op n = cc
+named_tran x op n = grind (arith, Decides-xid_eq)
 
 -- where a Prepare that was sent stands in the history
 pub prepare_part : (s : Settling) → IsSettled s → (m : ℕ) → 1 ≤ m → (t : ℕ) (x : XidName) (a a' : LedgerView) → HasGrown a' (ledger (ledgers_of s t) m)
@@ -73,8 +65,7 @@ abbrev pub IsNoPrepare : Op → Type 0
 IsNoPrepare op = (y : XidName) → op ≢ Prepare y
 
 ends_no_prepare : (commit : Bool) (x : XidName) → IsNoPrepare (outcome_op commit x)
-ends_no_prepare true x y e = cc
-ends_no_prepare false x y e = cc
+ends_no_prepare commit x y e = grind arith
 
 pub no_prepare : (records : Records) (m : ℕ) (o : Outcome) → Asks IsNoPrepare records m o
 no_prepare records m o = record { ends = λ _ _. ends_no_prepare o.commit o.xid; forgets = λ _ _ y e. cc }

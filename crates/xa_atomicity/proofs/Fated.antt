@@ -4,9 +4,9 @@ use Rattle.xa_atomicity.proofs.Words.{Bool, true, false, ◌||◌, if◌then◌e
 use Rattle.xa_atomicity.proofs.Words.{◌∙◌, subst, arith, Option, Some, None, All, cons_option, OnlyTheseName, IsBetween, OnlyTheseOrDecisionsName}
 use Rattle.xa_atomicity.proofs.Words.{IsAfterShut, IsDecidedAfter, told_fate, is_left, is_heuristic, both_ways, or_left, true_from_ne_false, outcome_op}
 use Rattle.xa_atomicity.proofs.Words.{Ending, Committed, ReadOnly, RolledBack, InDoubt, Heuristic, Left, is_yes, is_read, yes_ending, no_ending, XidName}
-use Rattle.xa_atomicity.proofs.Words.{xid_eq, Done, RbIntegrity, HeurRb, HeurCom, RmFail, Op, Prepare, Commit, Rollback, Heur, Request, Code, xid_self}
+use Rattle.xa_atomicity.proofs.Words.{xid_eq, Done, RbIntegrity, HeurRb, HeurCom, RmFail, Op, Prepare, Commit, Rollback, Request, Code, xid_self}
 use Rattle.xa_atomicity.proofs.Words.{HeuristicDecision, is_S3, is_prepared, decision_code, next, Fate, fate, fate_in, fate_of, coded, tables_after, last_or}
-use Rattle.xa_atomicity.proofs.Words.{is_done, is_in_doubt as is_unknown, prepare_fate, decided_fate, heur_fate, IsFateOf, names, OnlyDecides, LeavesWaiting}
+use Rattle.xa_atomicity.proofs.Words.{is_done, is_in_doubt as is_unknown, prepare_fate, decided_fate, IsFateOf, names, OnlyDecides, LeavesWaiting}
 use Rattle.xa_atomicity.proofs.Words.{AwaitsTheOutcome, AwaitsAfter, is_heur, is_forget, answer_when, fates_when, Tables, History, tables_after-append}
 use Rattle.xa_atomicity.proofs.Words.{unnamed_fate, ended_as}
 use Rattle.xa_atomicity.specs.{is_in_doubt}
@@ -68,13 +68,7 @@ found x f (r ∷ g) T e =
 
 -- a heuristic decision that makes something of it was carried out
 carried_out_by : (x : XidName) (op : Op) (c : Code) (f : Fate) → is_heur op ≡ true → fate_of x op c ≡ Some f → c ≡ Done
-carried_out_by x (Heur y commits) c f h is = heur_done (xid_eq y x) c is
-  where
-    heur_done : (b : Bool) (c : Code) → (if b then heur_fate commits c else None) ≡ Some f → c ≡ Done
-    heur_done true Done e = refl
-    heur_done true c e = cc
-    heur_done false c e = cc
-carried_out_by x op c f h is = cc
+carried_out_by x op c f h is = grind arith
 
 -- a decision that was carried out after a Prepare, before what is after it
 pub decided_in : (t n : ℕ) (x : XidName) (T : Tables) (H before after : History) → H ≡ before ++ request_of t n (Prepare x) ∷ after → (g h : History)
@@ -90,16 +84,12 @@ decided_in t n x T H before after place g h split heur d made =
 
 -- a request for the outcome that is told a decision makes nothing of the branch
 pub outcome_quiet : (commit : Bool) (x : XidName) (d : HeuristicDecision) → fate_of x (outcome_op commit x) (decision_code d) ≡ None
-outcome_quiet true x decision.Commit = at_true (xid_eq x x) _ None (xid_self x)
-outcome_quiet true x decision.Rollback = at_true (xid_eq x x) _ None (xid_self x)
-outcome_quiet false x decision.Commit = at_true (xid_eq x x) _ None (xid_self x)
-outcome_quiet false x decision.Rollback = at_true (xid_eq x x) _ None (xid_self x)
+outcome_quiet commit x d = grind (arith, at_true, xid_self)
 
 -- what an outcome is answered
 answers_so : (t : ℕ) (x : XidName) (commit : Bool) (o : Option HeuristicDecision) (U : Tables) → AwaitsTheOutcome t x o U
     → (next t (outcome_op commit x) U).1 ≡ (if U.shut then RmFail else answer_when o)
-answers_so t x true o U h = h.commits
-answers_so t x false o U h = h.rolls_back
+answers_so t x commit o U h = grind (arith, h.commits, h.rolls_back)
 
 -- ---- what became of a branch
 
@@ -243,8 +233,7 @@ module _ {t : ℕ} {T : Tables} {H : History} (site : Site t T H) (x : XidName) 
           ] refl (s.code ∙ answers_so t x commit w.decision there w.awaits)
         where
           named_it : (d : HeuristicDecision) → told_fate (Heuristic (decision_code d)) ≡ Some (decided_fate d)
-          named_it decision.Commit = refl
-          named_it decision.Rollback = refl
+          named_it d = grind arith
 
           decided_goal : (d : HeuristicDecision) → fates x s.mid now ≡ decided_fate d ∷ [] → c ≡ decision_code d → Goal (Heuristic (decision_code d))
           decided_goal d made is =

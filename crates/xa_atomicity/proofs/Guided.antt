@@ -4,12 +4,11 @@ use Rattle.xa_atomicity.proofs.Words.{arith, ◌≡◌, ℕ, Bool, true, false, 
 use Rattle.xa_atomicity.proofs.Words.{list_any-append, or-true, Begins, XidName, Done, RmFail, Op, Code, State, HeuristicDecision, state_of, is_left_in}
 use Rattle.xa_atomicity.proofs.Words.{decision_code, next, Fate, tables_after, last_or, is_in_doubt as is_unknown, decided_fate, Tables, History, LedgerView}
 use Rattle.xa_atomicity.proofs.Words.{learnt_shut, Branch, Ending, asked, IsAnswered, is_yes, ending_of, yes_ending, second_op, third_op, AsksLedger}
-use Rattle.xa_atomicity.proofs.Words.{outcome_op, voted, AtBranch, told_fate, ended_as, Tabled, trace_of, asked_grows, some_same, both_ways, HeurCom, HeurRb}
-use Rattle.xa_atomicity.proofs.Words.{Committed, ReadOnly, RolledBack, InDoubt, Heuristic, Left, is_decided, is_heuristic, is_left, rules, at_true, unwrap_or}
-use Rattle.xa_atomicity.proofs.Words.{◌⊎◌, inl, inr, ⊎_elim, ◌++◌, All, cons_option, All-head, All-tail, xid_eq, Prepare, Commit, Rollback, Forget, Request}
-use Rattle.xa_atomicity.proofs.Words.{xid_self, HeuristicallyCompleted, is_prepared, Answer, fate, fate_of, IsOpening, names, is_heur, AwaitsAfter}
-use Rattle.xa_atomicity.proofs.Words.{fates_when, state_when, Prepared, Sound, sound_after, run_sound, opening_sound, last_more, tables_after-append}
-use Rattle.xa_atomicity.proofs.Words.{All-cons}
+use Rattle.xa_atomicity.proofs.Words.{outcome_op, voted, AtBranch, told_fate, ended_as, Tabled, trace_of, asked_grows, both_ways, Committed, ReadOnly}
+use Rattle.xa_atomicity.proofs.Words.{RolledBack, InDoubt, Heuristic, Left, is_decided, is_heuristic, is_left, rules, at_true, unwrap_or, ◌⊎◌, inl, inr}
+use Rattle.xa_atomicity.proofs.Words.{⊎_elim, ◌++◌, All, cons_option, All-head, All-tail, xid_eq, Prepare, Commit, Rollback, Forget, Request, xid_self}
+use Rattle.xa_atomicity.proofs.Words.{HeuristicallyCompleted, is_prepared, Answer, fate, fate_of, IsOpening, names, is_heur, AwaitsAfter, fates_when}
+use Rattle.xa_atomicity.proofs.Words.{state_when, Prepared, Sound, sound_after, run_sound, opening_sound, last_more, tables_after-append, All-cons}
 use Rattle.xa_tables.specs.{IsTold}
 use Rattle.xa_atomicity.specs.{is_in_doubt}
 use Rattle.xa_tables.proofs.HeuristicLaw.{Decides, Nothing, Completes, decides}
@@ -31,20 +30,17 @@ pub record AtEnd (commit : Bool) (W L : Type 0) (x : XidName) (f : Fate) (H : Hi
   pub any : (g h : Fate) → last_or g (fates x H T) ≡ last_or h (fates x H T)
 
 pub unknown_so : (f : Fate) → is_unknown f ≡ true → f ≡ history.InDoubt
-unknown_so history.InDoubt e = refl
-unknown_so f e = cc
+unknown_so f e = grind arith
 
 -- a fate, unless it is unknown
 abbrev pub once : Fate → List Fate
 once f = if is_unknown f then [] else f ∷ []
 
 pub ended_known : (commit : Bool) → is_unknown (ended_as commit) ≡ false
-ended_known true = refl
-ended_known false = refl
+ended_known commit = grind arith
 
 pub told_decided : (commit : Bool) (d : HeuristicDecision) → told_fate (yes_ending commit (Some (decision_code d))) ≡ Some (decided_fate d)
-told_decided commit decision.Commit = refl
-told_decided commit decision.Rollback = refl
+told_decided commit d = grind arith
 
 pub tells_so : (law : Tabled) (commit : Bool) (t : ℕ) (x : XidName) (d : HeuristicDecision) (U : Tables) → (next t (outcome_op commit x) U).1 ≡ decision_code d
     → IsTold x d U (next t (outcome_op commit x) U)
@@ -54,9 +50,7 @@ tells_so law false t x d U e = law.rollback_tells t x d U e
 -- ---- where it is left in doubt the desk has learnt that the manager is shut
 
 doubt_is : (commit : Bool) (c : Code) → is_in_doubt (yes_ending commit (Some c)) ≡ true → c ≡ RmFail
-doubt_is commit RmFail e = refl
-doubt_is true c e = cc
-doubt_is false c e = cc
+doubt_is commit c e = grind arith
 
 learnt_asked : (a : LedgerView) (op : Op) → learnt_shut (asked a (Some op) (Some RmFail)) ≡ true
 learnt_asked a op = search (arith, list_any-append, or-true, a.collected)
@@ -89,40 +83,25 @@ pub is_known_so : (f : Fate) (commit : Bool) → f ≡ ended_as commit → is_un
 is_known_so f commit e = ap is_unknown e ∙ ended_known commit
 
 pub is_decided_so : (f : Fate) (d : HeuristicDecision) → f ≡ decided_fate d → is_unknown f ≡ false
-is_decided_so f decision.Commit e = ap is_unknown e
-is_decided_so f decision.Rollback e = ap is_unknown e
+is_decided_so f d e = grind arith
 
 -- fates that differ, and decisions that are told apart
 pub decided_apart : (d : HeuristicDecision) (commit : Bool) → decided_fate d ≡ ended_as commit → ⊥
-decided_apart decision.Commit true e = cc
-decided_apart decision.Commit false e = cc
-decided_apart decision.Rollback true e = cc
-decided_apart decision.Rollback false e = cc
+decided_apart d commit e = grind arith
 
 pub read_apart : (d : HeuristicDecision) → decided_fate d ≡ history.ReadOnly → ⊥
-read_apart decision.Commit e = cc
-read_apart decision.Rollback e = cc
+read_apart d e = grind arith
 
 pub decided_one : (d k : HeuristicDecision) → decided_fate d ≡ decided_fate k → d ≡ k
-decided_one decision.Commit decision.Commit e = refl
-decided_one decision.Rollback decision.Rollback e = refl
-decided_one decision.Commit decision.Rollback e = cc
-decided_one decision.Rollback decision.Commit e = cc
+decided_one d k e = grind arith
 
 -- the decision that a code tells
 pub decision_so : (c : Code) → is_decided c ≡ true → (d : HeuristicDecision) × (c ≡ decision_code d)
-decision_so HeurCom e = (decision.Commit, refl)
-decision_so HeurRb e = (decision.Rollback, refl)
-decision_so c e = cc
+decision_so c e = grind arith
 
 -- an ending that isn't heuristic tells no decision
 pub untold : (e : Ending) (d : HeuristicDecision) → is_heuristic e ≡ false → told_fate e ≡ Some (decided_fate d) → ⊥
-untold Committed d plain e = decided_apart d true (some_same (decided_fate d) history.Committed (sym e))
-untold ReadOnly d plain e = read_apart d (some_same (decided_fate d) history.ReadOnly (sym e))
-untold RolledBack d plain e = decided_apart d false (some_same (decided_fate d) history.RolledBack (sym e))
-untold InDoubt d plain e = cc
-untold (Heuristic c) d plain e = cc
-untold (Left c) d plain e = cc
+untold e d plain told = grind arith
 
 -- ---- a branch that is left, where its ending tells what became of it
 
@@ -169,8 +148,7 @@ pub record IsGuidedTo (commit : Bool) (D L : Type 0) (x : XidName) (f : Fate) (o
   pub makes : (fate_of x op a.1 ≡ None) ⊎ ((g : Fate) × ((fate_of x op a.1 ≡ Some g) × (is_unknown g ≡ false)))
 
 pub decided_known : (d : HeuristicDecision) → is_unknown (decided_fate d) ≡ false
-decided_known decision.Commit = refl
-decided_known decision.Rollback = refl
+decided_known d = grind arith
 
 -- it leads the branch, or doesn't name it; or it is a decision of it
 by_guide : (P : Type 0) (commit : Bool) (L : Type 0) (x : XidName) (op : Op) → IsGuided commit L x op → (IsTowards commit L x op → P)

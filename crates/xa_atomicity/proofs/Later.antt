@@ -51,8 +51,7 @@ no_closes t h none k d lt =
     (λ _. and_right (is_close (get_or h k d).op) false refl)
   where
     closing : (op : Op) → op ≢ CloseRm → (is_close op && true) ≡ false
-    closing CloseRm n = absurd (n refl)
-    closing op n = refl
+    closing op n = grind arith
 
 pub placed : (t : ℕ) (T : Tables) (H : History) (op : Op) (code : Code) (a : LedgerView) (ops : List Op) (pairs : List (ℕ × Code))
     → of_thread t H ≡ numbered t 0 ops → All (λ p. slice_get (answers t (coded H T)) p.0 ≡ Some p) pairs
@@ -185,8 +184,7 @@ module _ (law : Tabled) (first : (s : Settling) (m : ℕ) (T : Tables) → IsSet
   fate_so o T f with_T = with_T.fates x f ∙ law.leaves (history_of o.settled m) x f T
 
   decided_so : (c : Code) (d : HeuristicDecision) → c ≡ decision_code d → is_decided c ≡ true
-  decided_so c decision.Commit e = ap is_decided e
-  decided_so c decision.Rollback e = ap is_decided e
+  decided_so c d e = grind arith
 
   -- ---- an opening, where the branch has this fate as it begins with these tables
 

@@ -6,10 +6,9 @@ use Rattle.xa_atomicity.proofs.Words.{Forget, Request, Code, xid_self, State, He
 use Rattle.xa_atomicity.proofs.Words.{is_left_in, is_prepared, is_completed, is_rollback_only, is_somebody_associated, reason_of, decision_code, Answer, next}
 use Rattle.xa_atomicity.proofs.Words.{by_rules, commit_two, rollback, gone, Fate, tables_after, fate_of, is_done, last_or, decided_fate, reopened}
 use Rattle.xa_atomicity.proofs.Words.{reopened_fate, names, Tables, History, Prepared, Sound, Nowhere, AtWork, standing, nobody_rests, get_gone, sound_after}
-use Rattle.xa_atomicity.proofs.Words.{last_more, state_reopened, unnamed_fate, unnamed_stays, ended_as, outcome_op, or-true}
+use Rattle.xa_atomicity.proofs.Words.{last_more, state_reopened, unnamed_fate, unnamed_stays, ended_as, outcome_op, or-true, cases_Bool}
 use Rattle.xa_tables.specs.{decision_of, committed}
 use Rattle.xa_tables.proofs.Effects.{error_tells, reason_rolls_back, decision_commits_nothing, decision_rolls_nothing_back}
-use Rattle.xa_tables.specs.declared.state.HeuristicDecision.TheVariants as decision
 use Rattle.xa_tables.specs.Histories as history
 use Rattle.xa_atomicity.proofs.Sites.{fates}
 
@@ -166,8 +165,7 @@ led_fates commit open_ D L x (r ∷ h) T f towards s =
 
 -- XA_OK ends it
 pub ends_fate : (commit : Bool) (x : XidName) → fate_of x (outcome_op commit x) Done ≡ Some (ended_as commit)
-ends_fate true x = named_self x (Some history.Committed)
-ends_fate false x = named_self x (Some history.RolledBack)
+ends_fate commit x = grind (arith, at_true, xid_self)
 
 -- a thread that has it open is answered by the rules, unless it is shut
 asked_now : (t : ℕ) (op : Op) (T : Tables) → T.shut ≡ false → has_opened T t ≡ true → next t op T ≡ by_rules t op T
@@ -175,8 +173,7 @@ unfolding next
 asked_now t op T open_ has = search (arith, at_false, and-false)
 
 pub ends_towards : (commit : Bool) (L : Type 0) (x y : XidName) → IsTowards commit L x (outcome_op commit y)
-ends_towards true L x y n = (refl, refl)
-ends_towards false L x y n = refl
+ends_towards commit L x y n = search (arith, cases_Bool)
 
 module _ (commit : Bool) (D L : Type 0) (x : XidName) (f : Fate) (T : Tables) (sound : Sound T) (t : ℕ) (open_ : T.shut ≡ false)
     (has : has_opened T t ≡ true) where
@@ -212,12 +209,10 @@ left_as : (T : Tables) (x : XidName) (o : Option State) → state_of T x ≡ o �
 left_as T x o e = state_reopened T x ∙ ap (λ s. cond (is_left_in s) s None) e
 
 pub as_decided : (commit : Bool) → reopened_fate (ended_as commit) ≡ ended_as commit
-as_decided true = refl
-as_decided false = refl
+as_decided commit = grind arith
 
 pub by_itself : (d : HeuristicDecision) → reopened_fate (decided_fate d) ≡ decided_fate d
-by_itself decision.Commit = refl
-by_itself decision.Rollback = refl
+by_itself d = grind arith
 
 over_reopened : (commit : Bool) (D L : Type 0) (f : Fate) → IsOver commit D L f → IsOver commit D L (reopened_fate f)
 over_reopened commit D L f (inl z) = inl (z.0, ap reopened_fate z.1 ∙ as_decided commit)

@@ -8,9 +8,9 @@ use Rattle.xa_atomicity.proofs.Words.{All-nil, All-cons, All-head, All-tail, All
 use Rattle.xa_atomicity.proofs.Words.{Branch, IsTranOf, LogState, Records, all_records, record_in, record_of, AskedAreLeft, IsOfAnother, IsResolvedAfter}
 use Rattle.xa_atomicity.proofs.Words.{CutCall, ResolveCall, Use, cuts, resolves, AreUses, Continues, HasLeft, AreOfAllLogs, IsFollowed, IsKept, Opening}
 use Rattle.xa_atomicity.proofs.Words.{IsOutcomeOf, IsUseIn, OnlyResolves, with_resolves, with_use, Bool, true, false, list_all, get-empty, and_parts}
-use Rattle.xa_atomicity.proofs.Words.{All-contains, xid_cmp, Done as OK, Code, State, HeuristicallyCompleted, HeuristicDecision, opening, state_of}
-use Rattle.xa_atomicity.proofs.Words.{is_left_in, Fate, IsFateOf, decided_fate, fate, is_done, tables_after, reopened, told_by, History, Prepared, as_left}
-use Rattle.xa_atomicity.proofs.Words.{last_in, IsOpenedWith, history as history_of, settled_fate, Ending, Committed, ReadOnly, Outcome, has_acknowledged}
+use Rattle.xa_atomicity.proofs.Words.{All-contains, xid_cmp, Code, State, HeuristicallyCompleted, HeuristicDecision, opening, state_of, is_left_in, Fate}
+use Rattle.xa_atomicity.proofs.Words.{IsFateOf, decided_fate, fate, is_done, tables_after, reopened, told_by, History, Prepared, as_left, last_in}
+use Rattle.xa_atomicity.proofs.Words.{IsOpenedWith, history as history_of, settled_fate, Ending, Committed, ReadOnly, Outcome, has_acknowledged}
 use Rattle.xa_atomicity.proofs.Words.{is_acknowledged, EachOutcome, TellsTheFate, WasAtFirst, told_fate, TellsTheOutcome, ended_as, outcome_fate, Tabled}
 use Rattle.xa_atomicity.proofs.Words.{tran_of, inl, get_or, Contains-get_or, IsUpTo, is_S3, opening_sound, ledger, ledgers_of, TellsTheOutcomes}
 use Rattle.xa_atomicity.proofs.Words.{TellsTheFates}
@@ -202,8 +202,7 @@ module _ (law : Tabled) (first : (s : Settling) (m : ℕ) (T : Tables) → IsSet
   -- ---- of an outcome that was answered XA_OK
 
   told_done : (commit : Bool) (c : Code) → is_done c ≡ true → outcome_fate commit c ≡ Some (ended_as commit)
-  told_done commit OK is = refl
-  told_done commit c is = cc
+  told_done commit c is = grind arith
 
   gone_finished : (r : Outcome) → is_done r.code ≡ true → TellsTheOutcome s r → is_left (reopened_at s.managers r.m) r.xid ≡ false
   gone_finished r is tells =
@@ -218,8 +217,7 @@ left_stands commit x T f fits (Some (HeuristicallyCompleted d)) is left = unforg
 left_stands commit x T f fits o is left = cc
 
 reached_so : (commit : Bool) (c : Code) (g : Fate) → outcome_fate commit c ≡ Some g → c ≢ RmFail
-reached_so commit RmFail g is e = cc
-reached_so commit c g is e = let z : outcome_fate commit RmFail ≡ Some g = ap (outcome_fate commit) (sym e) ∙ is in cc
+reached_so commit c g is e = grind arith
 
 -- ---- all of them
 

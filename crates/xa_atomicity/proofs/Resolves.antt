@@ -78,8 +78,7 @@ abbrev pub IsNoClose : Op → Type 0
 IsNoClose op = op ≢ CloseRm
 
 ends_open : (commit : Bool) (x : XidName) → IsNoClose (outcome_op commit x)
-ends_open true x e = cc
-ends_open false x e = cc
+ends_open commit x e = grind arith
 
 none_there : {A : Type 0} (x : A) → Contains [] x → ⊥
 none_there x (k, lt, e) = absurd (omega (arith, lt))

@@ -8,11 +8,10 @@ use Rattle.xa_atomicity.proofs.Words.{All-contains, All-head, All-tail, Contains
 use Rattle.xa_atomicity.proofs.Words.{or_parts, not-true, pos, ◌⊎◌, or-true, TranName, Done as Voted, RdOnly, XidName, Request, HeuristicDecision, state_of}
 use Rattle.xa_atomicity.proofs.Words.{next, told_by, Fate, IsFateOf, fate, decided_fate, tables_after, Settling, IsSettled, sent, IsOpenedWith, ledgers_of}
 use Rattle.xa_atomicity.proofs.Words.{history as history_of, as_it_was, grown_on, is_yes, is_no, ending_of, second_op, third_op, EachBranch, IsCommit}
-use Rattle.xa_atomicity.proofs.Words.{IsTraceOfCommit, Committed, ReadOnly, RolledBack, InDoubt, Heuristic, Left, LogState, any_asked, branch_by}
-use Rattle.xa_atomicity.proofs.Words.{AreLeftAlone, AreLeftOrDecided, OnlyTheseName, OnlyTheseOrDecisionsName, IsDecidedAfter, KeepsItsVote, TellsTheFate}
-use Rattle.xa_atomicity.proofs.Words.{undecided, decided, told_fate, EachOutcome, KeepsTheVotes, TellsTheFates, has_committed, is_rolled_back, is_heuristic}
-use Rattle.xa_atomicity.proofs.Words.{is_left, is_read_only, sent_so_far, Shares, CountsTheCommitted, HasAllOrNothing, Tabled, is_committed}
-use Rattle.xa_atomicity.proofs.Words.{false_from_ne_true, or-false}
+use Rattle.xa_atomicity.proofs.Words.{IsTraceOfCommit, ReadOnly, InDoubt, LogState, any_asked, branch_by, AreLeftAlone, AreLeftOrDecided, OnlyTheseName}
+use Rattle.xa_atomicity.proofs.Words.{OnlyTheseOrDecisionsName, IsDecidedAfter, KeepsItsVote, TellsTheFate, undecided, decided, told_fate, EachOutcome}
+use Rattle.xa_atomicity.proofs.Words.{KeepsTheVotes, TellsTheFates, has_committed, is_rolled_back, is_heuristic, is_left, is_read_only, sent_so_far, Shares}
+use Rattle.xa_atomicity.proofs.Words.{CountsTheCommitted, HasAllOrNothing, Tabled, is_committed, false_from_ne_true, or-false}
 use Rattle.xa_switch.specs.{collected}
 use Rattle.xa_desk.proofs.Ledgers.{past_end}
 use Rattle.xa_driver.specs.{Done}
@@ -244,15 +243,7 @@ module _ (law : Tabled) (opened : (s : Settling) (m : ℕ) → IsSettled s → (
   -- an ending of a call that is decided, where one branch or none was committed
   ending_is : (whole : Bool) (e : Ending) → (whole ≡ true → is_rolled_back e ≡ false) → (whole ≡ true → is_heuristic e ≡ false)
       → (is_committed e ≡ true → whole ≡ true) → is_in_doubt e ≡ false → is_left e ≡ false → is_read_only e ≡ false → is_committed e ≡ whole
-  ending_is true Committed agree plain some doubt left reads = refl
-  ending_is false Committed agree plain some doubt left reads = sym (some refl)
-  ending_is whole ReadOnly agree plain some doubt left reads = cc
-  ending_is true RolledBack agree plain some doubt left reads = let z : true ≡ false = agree refl in cc
-  ending_is false RolledBack agree plain some doubt left reads = refl
-  ending_is true (Heuristic c) agree plain some doubt left reads = let z : true ≡ false = plain refl in cc
-  ending_is false (Heuristic c) agree plain some doubt left reads = refl
-  ending_is whole InDoubt agree plain some doubt left reads = cc
-  ending_is whole (Left c) agree plain some doubt left reads = cc
+  ending_is whole e agree plain some doubt left reads = grind arith
 
   each_whole : (whole : Bool) (from upto : ℕ → ℕ) (bs : List Branch) (vs : List Code) (es : List Ending) → (whole ≡ true → list_any is_rolled_back es ≡ false)
       → (whole ≡ true → list_any is_no vs ≡ false) → (list_any is_committed es ≡ true → whole ≡ true)

@@ -4,11 +4,11 @@ use Rattle.xa_atomicity.proofs.Words.{◌≡◌, ℕ, zero, suc, Bool, Option, S
 use Rattle.xa_atomicity.proofs.Words.{TranName, Death, Op, Code, LedgerView, DeskView, ledger, Branch, Ending, IsBegun, collected, in_flight, unasked, Dies}
 use Rattle.xa_atomicity.proofs.Words.{HaveAsked, HaveTold, PutsLedger, Tells, VotesAndHears, VotesAndObeys, withheld, second_op, AsksLedger, EachBranch}
 use Rattle.xa_atomicity.proofs.Words.{IsTranOf, MayCommit, decision_of, one_tran, trace_for, LogState, CameSoFar, DidOther, EachVote, IsAsked, IsCut, IsEnded}
-use Rattle.xa_atomicity.proofs.Words.{IsTold, asking, forgetting, telling, true, false, not, ◌&&◌, ◌||◌, map, inl, inr, get_or, sym, ap, ◌∙◌, All-head}
-use Rattle.xa_atomicity.proofs.Words.{All-tail, Prepare, Decided, Told, Ask, EachAsk, HaveComeSoFar, SameAsks, decides_commit, has_yes, yes_of, third_op}
-use Rattle.xa_atomicity.proofs.Words.{ending_of, code_of, ending_of_ask, first_ask, second_ask, third_ask, yes_asked, HasDecided, HasPrepared, HasTold}
-use Rattle.xa_atomicity.proofs.Words.{HasVoted, Logs, appended, wants_record, LeavesBranches, IsEither, with_record, first_trace, second_code, second_is}
-use Rattle.xa_atomicity.proofs.Words.{second_trace, yes_is, same_itself, rules}
+use Rattle.xa_atomicity.proofs.Words.{IsTold, asking, forgetting, telling, true, not, ◌&&◌, ◌||◌, map, inl, inr, get_or, sym, ap, ◌∙◌, All-head, All-tail}
+use Rattle.xa_atomicity.proofs.Words.{Prepare, Decided, Told, Ask, EachAsk, HaveComeSoFar, SameAsks, decides_commit, has_yes, yes_of, third_op, ending_of}
+use Rattle.xa_atomicity.proofs.Words.{code_of, ending_of_ask, first_ask, second_ask, third_ask, yes_asked, HasDecided, HasPrepared, HasTold, HasVoted, Logs}
+use Rattle.xa_atomicity.proofs.Words.{appended, wants_record, LeavesBranches, IsEither, with_record, first_trace, second_code, second_is, second_trace}
+use Rattle.xa_atomicity.proofs.Words.{yes_is, same_itself, rules}
 use Rattle.xa_driver.specs.{Done, Prepared}
 use Rattle.xa_driver.specs.Deaths.{sent}
 use Rattle.xa_driver.specs.Asks.{Asks}
@@ -253,9 +253,7 @@ decided_is_cut bs desk mid new log later p d may first between second =
 -- ---- a commit that came to no decision
 
 decides : (a b : Bool) → (a && b) ≡ true → true ≡ (a && (not b || true))
-decides true true e = refl
-decides true false e = cc
-decides false b e = cc
+decides a b e = grind arith
 
 -- the stage that would have come, had the log told that it took the record
 abbrev logged_stage : Prepared → Decided

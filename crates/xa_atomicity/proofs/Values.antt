@@ -7,9 +7,9 @@ use Rattle.xa_atomicity.proofs.Words.{History, lt-leb, leb-true, leb-false, Op, 
 use Rattle.xa_atomicity.proofs.Words.{append_assoc, Option, Some, None, cons_option, XidName, Decides-key_eq, Prepare, Association, association_of, Fate}
 use Rattle.xa_atomicity.proofs.Words.{added_by, coded, commits_later, ending, ending_by, fate_of, or_later, share, EndsNowhere, tables_after-append}
 use Rattle.xa_atomicity.proofs.Words.{IsAddition, prepare_of, both_ways, at_true, ◌≢◌, ◌+◌, subst, all_left, all_after, Done, RdOnly, RmFail, Rollback}
-use Rattle.xa_atomicity.proofs.Words.{Forget, xid_self, names, NamesNowhere, is_forget, unnamed_fate, Ending, ReadOnly, RolledBack, Left, is_yes, yes_ending}
+use Rattle.xa_atomicity.proofs.Words.{xid_self, names, NamesNowhere, is_forget, unnamed_fate, Ending, ReadOnly, RolledBack, Left, is_yes, yes_ending}
 use Rattle.xa_atomicity.proofs.Words.{no_ending, IsBetween, OnlyTheseName, is_read_only as is_read_only_ending, none_later, is_committed, All-cons}
-use Rattle.xa_atomicity.proofs.Words.{cases_Bool, outcome_op, RbIntegrity, by_bool, Start, xid_eq, commit_fate, All-append}
+use Rattle.xa_atomicity.proofs.Words.{cases_Bool, outcome_op, by_bool, xid_eq, commit_fate, All-append}
 use Rattle.xa_tables.specs.{moved_by}
 use Rattle.xa_tables.specs.Histories as history
 use Rattle.xa_atomicity.proofs.Sites.{request_of, fates, fates_both, none_first, Site, StandsIn, below, at_place, Second, second_of}
@@ -42,9 +42,7 @@ moved_both accounts passes (r ∷ h) g T =
 
 -- what is no Commit moves nothing
 pub unmoving : (accounts : Accounts) (op : Op) (c : Code) (T : Tables) → is_commit op ≡ false → moved_by accounts op c T ≡ pos 0
-unmoving accounts (Commit x one_phase) c T e = cc
-unmoving accounts (Heur x commits) c T e = ap (λ b. if b then held_by accounts x T else pos 0) (ap (λ b. is_done c && b) e ∙ and-false (is_done c))
-unmoving accounts op c T e = refl
+unmoving accounts op c T e = grind (arith, and-false)
 
 -- where each request that passes moves nothing, all do
 moved_still : (accounts : Accounts) (passes : Request → Bool) (h : History) (T : Tables)
@@ -176,12 +174,8 @@ commits_none x (r ∷ h) T none =
     one r.op (next r.thread r.op T).1 (fates x h (next r.thread r.op T).0) (none 0 r (omega arith)) rest
   where
     plain : (op : Op) (c : Code) (fs : List Fate) → is_commit op ≡ false → commits_or false fs ≡ false → commits_or false (cons_option (fate_of x op c) fs) ≡ false
-    plain (Commit y one_phase) c fs e rest = cc
-    plain (Heur y commits) c fs e rest = search (arith, commits_or, cons_option)
-    plain (Start y how) c fs e rest = search (arith, commits_or, cons_option)
     plain (Prepare y) c fs e rest = search (arith, commits_or, cons_option)
-    plain (Rollback y) c fs e rest = search (arith, commits_or, cons_option)
-    plain op c fs e rest = rest
+    plain op c fs e rest = search (arith, commits_or, cons_option)
 
     one : (op : Op) (c : Code) (fs : List Fate) → (names x op ≡ true → is_commit op ≡ false) → commits_or false fs ≡ false
         → commits_or false (cons_option (fate_of x op c) fs) ≡ false
@@ -197,20 +191,16 @@ unnamed x (r ∷ h) T n =
 
 -- what a Commit of a prepared branch that was answered so does
 commit_counts : (c : Code) (fs : List Fate) → commits_or false fs ≡ false → commits_or false (cons_option (commit_fate c) fs) ≡ is_committed (yes_ending true (Some c))
-commit_counts Done fs none = refl
-commit_counts RbIntegrity fs none = refl
-commit_counts c fs none = none
+commit_counts c fs none = grind (arith, commits_or, cons_option)
 
 yes_writes : (commit : Bool) (c : Code) → is_read_only_ending (yes_ending commit (Some c)) ≡ false
 yes_writes commit c = search (arith, after_yes, cases_Bool)
 
 forget_plain : (op : Op) → is_forget op ≡ true → is_commit op ≡ false
-forget_plain (Forget y) e = refl
-forget_plain op e = cc
+forget_plain op e = grind arith
 
 commit_moves : (c : Code) (v : ℤ) → (if is_done c then v else pos 0) ≡ (if is_committed (yes_ending true (Some c)) then v else pos 0)
-commit_moves Done v = refl
-commit_moves c v = refl
+commit_moves c v = grind arith
 
 -- what a branch with this vote and this ending counts for, whose requests have the numbers from n to below `last`
 pub record Counted (t : ℕ) (x : XidName) (T : Tables) (H : History) (n last : ℕ) (e : Ending) : Type 0 where
