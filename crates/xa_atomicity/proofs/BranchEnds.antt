@@ -76,7 +76,8 @@ module _ (law : Tabled) (first : (s : Settling) (m : ℕ) (T : Tables) → IsSet
   -- one more opening before them
   module _ (p : Opening) (ps : List Opening) (f g : Fate) (T T1 : Tables) (tables_are : T1 ≡ reopened T) (fate_is : g ≡ reopened_fate f)
       (all : All (IsEnded commit) (fates x (accepted (history_of p.settled m)) T1))
-      (settled_is : settled_fate p.settled m x g ≡ fate x g (history_of p.settled m) T1) (rest : CountsThrough ps (settled_fate p.settled m x g) (tables_after (history_of p.settled m) T1)) where
+      (settled_is : settled_fate p.settled m x g ≡ fate x g (history_of p.settled m) T1)
+      (rest : CountsThrough ps (settled_fate p.settled m x g) (tables_after (history_of p.settled m) T1)) where
     abbrev H1 : History
     H1 = history_of p.settled m
 
@@ -112,7 +113,8 @@ module _ (law : Tabled) (first : (s : Settling) (m : ℕ) (T : Tables) → IsSet
       let towards_accepted : All (λ (r : Request). IsTowards commit L x r.op) (accepted H1) =
       all_left (λ (r : Request). IsTowards commit L x r.op) (accepted H1) (first_shut H1 ++ late H1) (subst (All (λ (r : Request). IsTowards commit L x r.op)) (parted H1) w.0.towards) in
       let all : All (IsEnded commit) (fates x (accepted H1) T1) = search (arith, led_fates, stands_first) in
-      let rest : CountsThrough ps (settled_fate p.settled m x g) (tables_after H1 T1) = walk_counts ps (tables_after H1 T1) (settled_fate p.settled m x g) w.1 in
+      let rest : CountsThrough ps (settled_fate p.settled m x g) (tables_after H1 T1) = walk_counts ps (tables_after H1 T1)
+      (settled_fate p.settled m x g) w.1 in
       let done : IsEnded commit f → IsEnded commit (fate_through m x (settled_fate p.settled m x g) ps) = λ e.
       rest.1 (with_T1.fates x g ∙ last_ended commit (fates x (accepted H1) T1) g (ap reopened_fate e ∙ as_decided commit) all) in
       (waiting p ps f g T T1 refl refl all (with_T1.fates x g) rest, done)
@@ -165,7 +167,8 @@ module _ (law : Tabled) (first : (s : Settling) (m : ℕ) (T : Tables) → IsSet
     same_fate : (before : Fate) → WasAtFirst s b before → settled_fate s m b.xid before ≡ F
     same_fate before was =
         let codes_are : coded H was.first ≡ coded H T = sym was.opened.codes ∙ with_T.codes in
-        was.opened.fates b.xid before ∙ law.leaves H b.xid before was.first ∙ ap (history.fate_in b.xid before) codes_are ∙ (at_end L).any before (told_by (state_of T b.xid))
+        was.opened.fates b.xid before ∙ law.leaves H b.xid before was.first ∙ ap (history.fate_in b.xid before) codes_are
+        ∙ (at_end L).any before (told_by (state_of T b.xid))
         ∙ sym (law.leaves H b.xid (told_by (state_of T b.xid)) T)
 
     abbrev later_fate : Fate
@@ -199,7 +202,8 @@ module _ (law : Tabled) (first : (s : Settling) (m : ℕ) (T : Tables) → IsSet
     known_ends known end = subst Ended (sym (at_false (is_unknown F) later_fate F known)) end
 
     -- where it was left it is over in the end, and a decision that it had then stays
-    left_ends : Walks → Stands commit true (F ≡ history.InDoubt) L (state_of (tables_after H T) b.xid) F → is_left_in (state_of (tables_after H T) b.xid) ≡ true → Ended at_last
+    left_ends : Walks → Stands commit true (F ≡ history.InDoubt) L (state_of (tables_after H T) b.xid) F
+        → is_left_in (state_of (tables_after H T) b.xid) ≡ true → Ended at_last
     left_ends w (waits y open_ state g) left = subst Ended (sym (at_true (is_unknown F) later_fate F (ap is_unknown g))) (by_over (last_walk w).0)
       where
         by_over : IsOver commit (F ≡ history.InDoubt) L later_fate → Ended later_fate

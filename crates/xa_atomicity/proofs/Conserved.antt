@@ -170,7 +170,8 @@ module _ (law : Tabled) (opens : (s : Settling) (m : ℕ) → IsSettled s → (T
         let votes = or_parts (is_no v) (list_any is_no vs) unopposed in
         let backs = or_parts (is_rolled_back e) (list_any is_rolled_back es) kept in
         regroup (moved_in b.m (count old b.m) (count new b.m)) (moved_for bs) (if is_in_doubt e then added b else pos 0) (total_in_doubt added bs es) (added b) (total added bs)
-        (ap (λ q. q +ℤ (if is_in_doubt e then added b else pos 0)) h.0.moves ∙ moved_or_doubted e (added b) backs.0 (h.0.both.fated.unless_no votes.0) (h.0.both.undecided votes.0) h.0.reads)
+        (ap (λ q. q +ℤ (if is_in_doubt e then added b else pos 0)) h.0.moves ∙ moved_or_doubted e (added b) backs.0 (h.0.both.fated.unless_no votes.0)
+        (h.0.both.undecided votes.0) h.0.reads)
         (all_moved bs vs es votes.1 backs.1 h.1)
     all_moved bs vs es unopposed kept h = absurd h
 

@@ -46,7 +46,8 @@ pub rest_forgets : {t : ℕ} {T : Tables} {H : History} (s : Site t T H) (x : Xi
     → All (λ q. q.thread ≡ t → q.number < last → is_forget q.op ≡ true) r.rest
 rest_forgets {t} {T} {H} s x n last vote op c z f r k d lt own less =
     all_after (λ (q : Request). q.thread ≡ t → suc n < q.number → q.number < last → is_forget q.op ≡ true) (f.before ++ request_of t n (Prepare x) ∷ r.mid) (request_of t (suc n) op) r.rest
-    (subst (All (λ (q : Request). q.thread ≡ t → suc n < q.number → q.number < last → is_forget q.op ≡ true)) r.place z.forgets) k d lt own (omega (arith, r.later k d lt own)) less
+    (subst (All (λ (q : Request). q.thread ≡ t → suc n < q.number → q.number < last → is_forget q.op ≡ true)) r.place z.forgets) k d lt own
+    (omega (arith, r.later k d lt own)) less
 
 -- ---- what the thread sends of it
 
@@ -65,7 +66,8 @@ module _ {t : ℕ} {T : Tables} {H : History} (s : Site t T H) (x : XidName) (n 
       ⊎_elim (λ (more : suc n < (get_or H k d).number). forgets (get_or H k d).op (z.forgets k d lt own more down))
       (λ (le : (get_or H k d).number ≤ suc n).
       ⊎_elim (λ (more : n < (get_or H k d).number). subst Q (sym (only_op s (suc n) op c z.second k d lt own (omega (arith, le, more)))) second)
-      (λ (same : (get_or H k d).number ≤ n). first_so z.first k d lt own (omega (arith, up, same))) (cases_lt n (get_or H k d).number)) (cases_lt (suc n) (get_or H k d).number)
+      (λ (same : (get_or H k d).number ≤ n). first_so z.first k d lt own (omega (arith, up, same))) (cases_lt n (get_or H k d).number))
+      (cases_lt (suc n) (get_or H k d).number)
 
 -- after its Prepare it is no decision by itself
 pub own_plain : {t : ℕ} {T : Tables} {H : History} (s : Site t T H) (x : XidName) (n last : ℕ) (vote : Code) (commit : Bool) (e : Ending)
@@ -111,13 +113,15 @@ may_forget t T H x second d new (inl same) = inl same
 may_forget t T H x None d new (inr f) = inl f.1.1
 may_forget t T H x (Some c) d new (inr f) = by_decided (is_decided c) f.0 f.1
   where
-    by_decided : (b : Bool) (third : Option Code) → AsksFor (AsksIn t T H) (if b then Some (Forget x) else None) third d new → MayHaveSent t T H x (Some c) d new
+    by_decided : (b : Bool) (third : Option Code) → AsksFor (AsksIn t T H) (if b then Some (Forget x) else None) third d new
+        → MayHaveSent t T H x (Some c) d new
     by_decided false third f = inl f.1
     by_decided true None f = absurd f
     by_decided true (Some e) (asks stands hears is) = inr (e, (λ no. cc), stands, ap (λ (z : Sent). z.number) is)
     by_decided true (Some e) (withholds shut fails is) = inl is
 
-module _ {t : ℕ} {T : Tables} {H : History} (s : Site t T H) (x : XidName) (commit : Bool) (vote : Code) (second : Option Code) (old prepared decided new : Sent)
+module _ {t : ℕ} {T : Tables} {H : History} (s : Site t T H) (x : XidName) (commit : Bool) (vote : Code) (second : Option Code)
+    (old prepared decided new : Sent)
     (obeys : AsksFor (AsksIn t T H) (second_op commit x vote) second prepared decided) (forgets : MayForget t T H x second decided new) where
   open old use {number as n}
   open new use {number as last}
@@ -129,9 +133,11 @@ module _ {t : ℕ} {T : Tables} {H : History} (s : Site t T H) (x : XidName) (co
   unwanted : second_op commit x vote ≡ None → (second ≡ None) × (new ≡ prepared)
   unwanted e =
       let o = subst (λ (op : Option Op). AsksFor (AsksIn t T H) op second prepared decided) e obeys in
-      elim (may_forget t T H x second decided new forgets) as (λ _. (second ≡ None) × (new ≡ prepared)) [ inl same ↦ (o.0, same ∙ o.1) | inr f ↦ absurd (f.1 o.0) ]
+      elim (may_forget t T H x second decided new forgets) as
+      (λ _. (second ≡ None) × (new ≡ prepared)) [ inl same ↦ (o.0, same ∙ o.1) | inr f ↦ absurd (f.1 o.0) ]
 
-  module _ (first : StandsIn t n (Prepare x) vote T H) (hears : old.shut ≡ true → vote ≡ RmFail) (is : prepared ≡ record { number = suc n; shut = old.shut || is_rm_fail vote }) where
+  module _ (first : StandsIn t n (Prepare x) vote T H) (hears : old.shut ≡ true → vote ≡ RmFail)
+      (is : prepared ≡ record { number = suc n; shut = old.shut || is_rm_fail vote }) where
     number_is : prepared.number ≡ suc n
     number_is = ap (λ (z : Sent). z.number) is
 
@@ -140,7 +146,8 @@ module _ {t : ℕ} {T : Tables} {H : History} (s : Site t T H) (x : XidName) (co
 
     -- one was: its manager wasn't heard to be shut, so it was sent, and then a Forget or nothing
     two : (op : Op) → second_op commit x vote ≡ Some op → is_out_of_reach vote ≡ false → (c : Code) × (second ≡ Some c) × Sends s x n last vote op c
-    two op e reach = by_second second (subst (λ (o : Option Op). AsksFor (AsksIn t T H) o second prepared decided) e obeys) (may_forget t T H x second decided new forgets)
+    two op e reach = by_second second (subst (λ (o : Option Op). AsksFor (AsksIn t T H) o second prepared decided) e obeys)
+        (may_forget t T H x second decided new forgets)
       where
         open_still : prepared.shut ≡ true → ⊥
         open_still shut = search (arith, cases_Bool)
@@ -171,13 +178,15 @@ module _ {t : ℕ} {T : Tables} {H : History} (s : Site t T H) (x : XidName) (co
         let z = two (outcome_op commit x) (ap (second_op commit x) (yes_is vote y) ∙ yes_wanted commit x) (ap is_out_of_reach (yes_is vote y)) in
         subst (λ o. Ends (yes_ending commit o)) (sym z.1) (Agrees z.0 y z.2)) (λ y.
         by_if Ends (is_read vote) _ _ (λ r. Reads r (one (none_wanted x vote commit y (ap (λ q. q || (is_rolled_back vote || is_out_of_reach vote)) r)))) (λ r.
-        by_if Ends (is_rolled_back vote) _ _ (λ k. Breaks k (one (none_wanted x vote commit y (ap (λ q. is_read vote || (q || is_out_of_reach vote)) k ∙ or-true (is_read vote))))) (λ k.
+        by_if Ends (is_rolled_back vote) _ _ (λ k. Breaks k (one
+        (none_wanted x vote commit y (ap (λ q. is_read vote || (q || is_out_of_reach vote)) k ∙ or-true (is_read vote))))) (λ k.
         by_if Ends (is_out_of_reach vote) _ _ (λ o.
         Stays vote y (one (none_wanted x vote commit y (ap (λ q. is_read vote || (is_rolled_back vote || q)) o ∙ ap (λ q. is_read vote || q)
         (or-true (is_rolled_back vote)) ∙ or-true (is_read vote))))) (λ o.
         by_commit commit refl y r k o))))
       where
-        by_commit : (b : Bool) → commit ≡ b → is_yes vote ≡ false → is_read vote ≡ false → is_rolled_back vote ≡ false → is_out_of_reach vote ≡ false → Ends (no_ending vote second)
+        by_commit : (b : Bool) → commit ≡ b → is_yes vote ≡ false → is_read vote ≡ false → is_rolled_back vote ≡ false → is_out_of_reach vote ≡ false
+            → Ends (no_ending vote second)
         by_commit true e y r k o =
             let none : second_op commit x vote ≡ None = ap (λ b. second_op b x vote) e ∙ at_false (is_yes vote) _ None y in
             subst (λ z. Ends (no_ending vote z)) (sym (unwanted none).0) (Stays vote y (one none))

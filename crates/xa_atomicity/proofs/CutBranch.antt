@@ -117,7 +117,8 @@ was_told commit b v c a a' z open_ agreed decided =
     let two : LedgerView = with_collected (with_sent z.start op) (length z.start.sent) c in
     let is_two : asked z.start (second_op commit x v) (Some c) ≡ two = search (arith, rules) in
     let last : Sends Any two a' =
-    subst (λ (l : LedgerView). Sends Any l a') is_two (forget_sends Any commit b v a a' (λ _ _. tt) (any_asked (second_op commit x v)) (Some c) (any_asked (third_op x (Some c))) z) in
+    subst (λ (l : LedgerView). Sends Any l a') is_two (forget_sends Any commit b v a a' (λ _ _. tt) (any_asked (second_op commit x v)) (Some c)
+    (any_asked (third_op x (Some c))) z) in
     let first : z.start.sent ≡ a.sent ++ Prepare x ∷ z.between.more = search (arith, first_is, append_assoc, a.sent) in
     record {
       number = length z.start.sent;
@@ -145,18 +146,22 @@ module _ {t : ℕ} {T : Tables} {H : History} (s : Site t T H) (x : XidName) (a 
     ops = grown.1 ∙ ap (λ l. l ++ grown.0) h.sent ∙ append_assoc a.sent (Prepare x ∷ h.rest) grown.0
 
     abbrev IsLeading : Request → Type 0
-    IsLeading r = r.thread ≡ t → IsFromTo (IsTowards commit L x) (length (a.sent ++ Prepare x ∷ [])) (length (a.sent ++ Prepare x ∷ []) + length h.rest) r.number r.op
+    IsLeading r = r.thread ≡ t → IsFromTo (IsTowards commit L x) (length (a.sent ++ Prepare x ∷ []))
+        (length (a.sent ++ Prepare x ∷ []) + length h.rest) r.number r.op
 
     leading : All IsLeading H
     leading =
-        own_between t (IsTowards commit L x) H (a.sent ++ Prepare x ∷ []) h.rest grown.0 (s.carried ∙ ap (numbered t 0) (ops ∙ sym (append_assoc a.sent (Prepare x ∷ []) (h.rest ++ grown.0)))) h.all
+        own_between t (IsTowards commit L x) H (a.sent ++ Prepare x ∷ []) h.rest grown.0
+        (s.carried ∙ ap (numbered t 0) (ops ∙ sym (append_assoc a.sent (Prepare x ∷ []) (h.rest ++ grown.0)))) h.all
 
     -- what names the branch after it decides it, or leads it
     pub guide : (c : Code) (f : StandsIn t n (Prepare x) c T H) → All (λ r. IsGuided commit L x r.op) f.after
     guide c f k d lt named plain =
-        let between : IsBetween t n (length a'.sent) (get_or f.after k d) = only f.before f.after (request_of t n (Prepare x)) f.place refl refl k d lt named plain in
+        let between : IsBetween t n (length a'.sent) (get_or f.after k d) = only f.before f.after
+        (request_of t n (Prepare x)) f.place refl refl k d lt named plain in
         let up = above s n (Prepare x) f.before f.after f.place k d lt between.thread in
-        let long : length a'.sent ≡ suc (n + length h.rest) = ap (λ l. length l) h.sent ∙ (let e = length-append a.sent (Prepare x ∷ h.rest) in omega (arith, e)) in
+        let long : length a'.sent ≡ suc (n + length h.rest) = ap (λ l. length l) h.sent
+        ∙ (let e = length-append a.sent (Prepare x ∷ h.rest) in omega (arith, e)) in
         all_after IsLeading f.before (request_of t n (Prepare x)) f.after (subst (All IsLeading) f.place leading) k d lt between.thread
         (omega (arith, up, length-append a.sent (Prepare x ∷ []))) (omega (arith, between.below, long, length-append a.sent (Prepare x ∷ []))) named
 
@@ -172,7 +177,8 @@ module _ {t : ℕ} {T : Tables} {H : History} (s : Site t T H) (x : XidName) (a 
         let there = at_place s n (Prepare x) Done f before after place in
         fates_from s.law commit (Unit {0}) L t n x T H s.opening before after place (sym there.code) (guide Done there) tt g
 
-  pub sent_end : HasSentOnly commit ⊥ x a a' → StandsIn t n (Prepare x) Done T H → (e : Ending) (L : Type 0) (g : Fate) → AtEnd commit (Unit {0}) L x (fate x g H T) H T e
+  pub sent_end : HasSentOnly commit ⊥ x a a' → StandsIn t n (Prepare x) Done T H → (e : Ending) (L : Type 0) (g : Fate)
+      → AtEnd commit (Unit {0}) L x (fate x g H T) H T e
   sent_end h f e L g = record {
     comes = comes_so commit L _ _ e (at_last s.law commit (Unit {0}) ⊥ t n x T H s.opening f.before f.after f.place (sym f.code) (guide ⊥ h Done f) tt g).stands;
     any = any_so ⊥ h f;
@@ -187,7 +193,8 @@ module _ {t : ℕ} {T : Tables} {H : History} (s : Site t T H) (x : XidName) (a 
         let P1 : Request = request_of t n (Prepare x) in
         let S : Request = request_of t k (outcome_op commit x) in
         let all = guide (Unit {0}) h Done f in
-        let later = later_place t f.before second.before P1 S f.after second.after (sym f.place ∙ second.place) refl past (below s n (Prepare x) f.before f.after f.place) in
+        let later = later_place t f.before second.before P1 S f.after second.after (sym f.place ∙ second.place) refl past
+        (below s n (Prepare x) f.before f.after f.place) in
         let parts = subst (All Q) later.after all in
         let now : Tables = (next t (Prepare x) (tables_after f.before T)).0 in
         let code : (next t (outcome_op commit x) (tables_after later.mid now)).1 ≡ decision_code d =

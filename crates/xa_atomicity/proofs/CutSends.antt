@@ -114,7 +114,8 @@ sends_so_far P m positive ks at now good far =
     by_bool (λ _. Sends P (ledger at m) (ledger now m)) (among_asks ks m)
     (λ here.
     let (k, j, below, at_k, same) = Any-from_list_any (λ (j : Ask). j.manager == m) ks here in
-    let begun : IsBegun j.op (ledger at j.manager) (ledger now j.manager) = All-contains (λ (j : Ask). IsBegun j.op (ledger at j.manager) (ledger now j.manager)) ks j far.each (k, below, at_k) in
+    let begun : IsBegun j.op (ledger at j.manager) (ledger now j.manager) = All-contains
+    (λ (j : Ask). IsBegun j.op (ledger at j.manager) (ledger now j.manager)) ks j far.each (k, below, at_k) in
     begun_sends P j.op (ledger at m) (ledger now m) (All-contains (λ (j : Ask). IsAskedFor P j.op) ks j good (k, below, at_k))
     (subst (λ (n : ℕ). IsBegun j.op (ledger at n) (ledger now n)) (eqb-true j.manager m same) begun))
     (λ other. subst (Sends P (ledger at m)) (sym (far.others m positive other)) (stays P (ledger at m)))

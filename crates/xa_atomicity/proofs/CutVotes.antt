@@ -1,7 +1,7 @@
 -- What names a transaction in an opening where only resolves do; and the votes that a commit got which was cut short, and
 -- what it leaves in the log.
 use Rattle.xa_atomicity.proofs.Words.{arith, ◌≡◌, ◌≢◌, ℕ, suc, ◌+◌, ◌≤◌, Bool, true, false, List, ◌∷◌, ◌++◌, length, append_assoc, refl, ap, ◌∙◌, Option, All}
-use Rattle.xa_atomicity.proofs.Words.{Contains, All-contains, MOST_MANAGERS, IsUpTo, XidName, Decides-xid_eq, TranName, tran_of, Op, OpenRm, End, Prepare}
+use Rattle.xa_atomicity.proofs.Words.{Contains, All-contains, MOST_MANAGERS, IsUpTo, XidName, Decides-xid_eq, TranName, tran_of, Op, OpenRm, Prepare}
 use Rattle.xa_atomicity.proofs.Words.{Code, History, of_thread, names, LedgerView, ledger, HasGrown, numbered, Settling, IsSettled, sent, ledgers_of}
 use Rattle.xa_atomicity.proofs.Words.{history as history_of, Branch, Ending, Outcome, AsksLedger, outcome_op, AtBranch, Records, ResolveCall, Use, commits}
 use Rattle.xa_atomicity.proofs.Words.{cuts, resolves, IsUseIn, NamesTran, HasSent, Asks, IsAsked, CameSoFar, known_at, DidOther, EachVote, IsCut, IsEnded}
@@ -37,7 +37,8 @@ module _ (s : Settling) (settled : IsSettled s) (m : ℕ) (up : IsUpTo MOST_MANA
   use_passes P opens (cuts c) use_ asks = λ k d lt has. absurd has
   use_passes P opens (resolves q) use_ asks = λ k d lt has.
       let z : Sends P (ledger q.old m) (ledger q.new m) = resolve_sends q.scan q.records q.old q.new q.outcomes use_.made P m up opens (asks q refl) in
-      sent_between s settled q.thread m up.0 P (ledger q.old m) (ledger q.new m) z.more z.sent z.all (use_.grown.each m up.0) k d lt has.thread has.from has.below
+      sent_between s settled q.thread m up.0 P (ledger q.old m) (ledger q.new m) z.more z.sent z.all
+      (use_.grown.each m up.0) k d lt has.thread has.from has.below
 
   -- so is each request that names the transaction, where nothing but resolves does
   pub named_so : (P : Op → Type 0) (t : TranName) (us : List Use) → P OpenRm → All (IsUseIn s) us
@@ -140,7 +141,8 @@ pub vote_there : (P : Op → Type 0) (b : Branch) (v : Code) (a a' : LedgerView)
     → Begins a'.collected pairs → Contains pairs (length a.sent, v)
 vote_there P b v a a' pairs open_ h begins =
     let took : Begins (a.collected ++ (length a.sent, v) ∷ []) a'.collected = search (arith, first_is) in
-    contains_on (a.collected ++ (length a.sent, v) ∷ []) pairs (length a.sent, v) (begins_on _ a'.collected pairs took begins) (Contains-push a.collected (length a.sent, v))
+    contains_on (a.collected ++ (length a.sent, v) ∷ []) pairs (length a.sent, v) (begins_on _ a'.collected pairs took begins)
+    (Contains-push a.collected (length a.sent, v))
 
 -- ---- all of them
 

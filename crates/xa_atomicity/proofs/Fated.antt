@@ -3,8 +3,8 @@ use Rattle.xa_atomicity.proofs.Words.{rules, all_mid, all_left, all_after, some_
 use Rattle.xa_atomicity.proofs.Words.{Bool, true, false, ◌||◌, if◌then◌else◌, List, [], ◌∷◌, ◌++◌, length, append-nil, append_assoc, get_or, sym, refl, ap}
 use Rattle.xa_atomicity.proofs.Words.{◌∙◌, subst, arith, Option, Some, None, All, cons_option, OnlyTheseName, IsBetween, OnlyTheseOrDecisionsName}
 use Rattle.xa_atomicity.proofs.Words.{IsAfterShut, IsDecidedAfter, told_fate, is_left, is_heuristic, both_ways, or_left, true_from_ne_false, outcome_op}
-use Rattle.xa_atomicity.proofs.Words.{Ending, Committed, ReadOnly, RolledBack, InDoubt, Heuristic, Left, is_yes, is_read, yes_ending, no_ending, XidName}
-use Rattle.xa_atomicity.proofs.Words.{xid_eq, Done, RbIntegrity, HeurRb, HeurCom, RmFail, Op, Prepare, Commit, Rollback, Request, Code, xid_self}
+use Rattle.xa_atomicity.proofs.Words.{Ending, Committed, ReadOnly, RolledBack, Heuristic, Left, is_yes, is_read, yes_ending, no_ending, XidName}
+use Rattle.xa_atomicity.proofs.Words.{xid_eq, Done, RbIntegrity, HeurRb, HeurCom, RmFail, Op, Prepare, Rollback, Request, Code, xid_self}
 use Rattle.xa_atomicity.proofs.Words.{HeuristicDecision, is_S3, is_prepared, decision_code, next, Fate, fate, fate_in, fate_of, coded, tables_after, last_or}
 use Rattle.xa_atomicity.proofs.Words.{is_done, is_in_doubt as is_unknown, prepare_fate, decided_fate, IsFateOf, names, OnlyDecides, LeavesWaiting}
 use Rattle.xa_atomicity.proofs.Words.{AwaitsTheOutcome, AwaitsAfter, is_heur, is_forget, answer_when, fates_when, Tables, History, tables_after-append}
@@ -135,7 +135,8 @@ module _ {t : ℕ} {T : Tables} {H : History} (site : Site t T H) (x : XidName) 
     decides_after : OnlyDecides x alone.after
     decides_after k d lt named =
         or_left (is_heur (get_or alone.after k d).op) (is_forget (get_or alone.after k d).op) (true_from_ne_false (is_heur (get_or alone.after k d).op) (λ h.
-        let between : IsBetween t n last (get_or alone.after k d) = only alone.before alone.after (request_of t n (Prepare x)) alone.place refl refl k d lt named h in
+        let between : IsBetween t n last (get_or alone.after k d) = only alone.before alone.after
+        (request_of t n (Prepare x)) alone.place refl refl k d lt named h in
         let up = above site n (Prepare x) alone.before alone.after alone.place k d lt between.thread in
         let down = between.below in let limit = z.limit in omega (arith, up, down, limit)))
 
@@ -144,7 +145,8 @@ module _ {t : ℕ} {T : Tables} {H : History} (site : Site t T H) (x : XidName) 
         → Goal e
     voted_so e f y sure named makes known =
         let own : fate_of x (Prepare x) (next t (Prepare x) (tables_after alone.before T)).1 ≡ Some f = search (arith, at_true, xid_self) in
-        no_vote e y sure (λ g is. ended alone.before alone.after (request_of t n (Prepare x)) f alone.place own known decides_after ∙ (let s : Some f ≡ Some g = sym named ∙ is in cc))
+        no_vote e y sure (λ g is. ended alone.before alone.after (request_of t n (Prepare x)) f alone.place own known decides_after
+        ∙ (let s : Some f ≡ Some g = sym named ∙ is in cc))
 
   -- ---- a second request was sent
 
@@ -243,7 +245,8 @@ module _ {t : ℕ} {T : Tables} {H : History} (site : Site t T H) (x : XidName) 
 
           by_answer : (o : Option HeuristicDecision) → fates x s.mid now ≡ fates_when o → c ≡ answer_when o → Goal (yes_ending commit (Some c))
           by_answer None made is =
-              subst (λ (d : Code). Goal (yes_ending commit (Some d))) (sym is) (ended_goal commit (ended_by (ended_as commit) (ap (fate_of x op) is ∙ ends_fate commit x) (ended_known commit)))
+              subst (λ (d : Code). Goal (yes_ending commit (Some d))) (sym is)
+              (ended_goal commit (ended_by (ended_as commit) (ap (fate_of x op) is ∙ ends_fate commit x) (ended_known commit)))
           by_answer (Some decision.Commit) made is = subst (λ (d : Code). Goal (yes_ending commit (Some d))) (sym is) (decided_goal decision.Commit made is)
           by_answer (Some decision.Rollback) made is = subst (λ (d : Code). Goal (yes_ending commit (Some d))) (sym is) (decided_goal decision.Rollback made is)
 

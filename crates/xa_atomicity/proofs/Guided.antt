@@ -166,7 +166,8 @@ module _ (commit : Bool) (D L : Type 0) (x : XidName) where
   pub guided : (f : Fate) (T : Tables) → Stands commit true D L (state_of T x) f → Sound T → (t : ℕ) (op : Op) → IsGuided commit L x op
       → IsGuidedTo commit D L x f op (next t op T)
   guided f T st sound t op guide =
-      by_guide (IsGuidedTo commit D L x f op (next t op T)) commit L x op guide (λ leads. let led = step_led commit true D L x f T st sound t op leads in search (arith, ended_known))
+      by_guide (IsGuidedTo commit D L x f op (next t op T)) commit L x op guide
+      (λ leads. let led = step_led commit true D L x f T st sound t op leads in search (arith, ended_known))
       (λ named heur. by_decision f T op (next t op T) st (decides t x op T named heur))
 
   pub guided_after : (h : History) (T : Tables) (f : Fate) → All (λ r. IsGuided commit L x r.op) h → Standing commit true D L x T f
@@ -224,7 +225,8 @@ module _ (x : XidName) (T : Tables) (sound : Sound T) (past : IsPast (state_of T
   quiet commit L t op guide =
       let st = stands_so commit in
       by_guide (Quiet op (next t op T)) commit L x op guide
-      (λ leads. let led = step_led commit true ⊥ (Unit {0}) x (decided_fate st.0) T st.1 sound t op (λ n. leads_any commit L op (leads n)) in search (arith, ends_no_more, unwrap_or))
+      (λ leads. let led = step_led commit true ⊥ (Unit {0}) x (decided_fate st.0) T st.1 sound t op
+      (λ n. leads_any commit L op (leads n)) in search (arith, ends_no_more, unwrap_or))
       (λ named heur. heur_quiet op (next t op T) (decides t x op T named heur))
 
 -- one that was in doubt gets at most one fate
@@ -277,21 +279,26 @@ module _ (commit : Bool) (D L : Type 0) (t n : ℕ) (x : XidName) (T : Tables) (
   after_it = ap (λ (h : History). last_or f (fates x h T)) place ∙ ap (last_or f) (fates_both x before (own ∷ after) T) ∙ last_both f (fates x before T) _
 
   -- what it leaves stands after all
-  pub led_there : Sound (tables_after before T) → (open_ : Bool) → All (λ r. IsTowards commit L x r.op) after → Led commit open_ D L x (outcome_op commit x) here told
+  pub led_there : Sound (tables_after before T) → (open_ : Bool) → All (λ r. IsTowards commit L x r.op) after
+      → Led commit open_ D L x (outcome_op commit x) here told
       → Standing commit open_ D L x (tables_after H T) (last_or f (fates x H T))
   led_there sound open_ towards led =
       let made : Option Fate = fate_of x (outcome_op commit x) told.1 in
-      let tables_are : tables_after H T ≡ tables_after after told.0 = ap (λ (h : History). tables_after h T) place ∙ tables_after-append before (own ∷ after) T in
+      let tables_are : tables_after H T ≡ tables_after after told.0 = ap (λ (h : History). tables_after h T) place
+      ∙ tables_after-append before (own ∷ after) T in
       subst (λ (g : Fate). Standing commit open_ D L x (tables_after H T) g) (last_more here made (fates x after told.0) ∙ sym after_it)
       (subst (λ (V : Tables). Standing commit open_ D L x V (last_or (unwrap_or made here) (fates x after told.0))) (sym tables_are)
-      (led_after commit open_ D L x after told.0 (unwrap_or made here) towards (record { stands = led.stands; sound = sound_after t (outcome_op commit x) (tables_after before T) sound })))
+      (led_after commit open_ D L x after told.0 (unwrap_or made here) towards
+      (record { stands = led.stands; sound = sound_after t (outcome_op commit x) (tables_after before T) sound })))
 
-  module _ (law : Tabled) (st : Standing commit true D L x (tables_after before T) (last_or f (fates x before T))) (guide : All (λ r. IsGuided commit L x r.op) after) where
+  module _ (law : Tabled) (st : Standing commit true D L x (tables_after before T) (last_or f (fates x before T)))
+      (guide : All (λ r. IsGuided commit L x r.op) after) where
     pub ended_there : told.1 ≡ Done → last_or f (fates x H T) ≡ ended_as commit
     ended_there e =
         let made : fate_of x (outcome_op commit x) told.1 ≡ Some (ended_as commit) = ap (fate_of x (outcome_op commit x)) e ∙ ends_fate commit x in
         let led = step_led commit true D L x here (tables_after before T) st.stands st.sound t (outcome_op commit x) (ends_towards commit L x x) in
-        let stands : Stands commit true D L (state_of told.0 x) (ended_as commit) = subst (λ (o : Option Fate). Stands commit true D L (state_of told.0 x) (unwrap_or o here)) made led.stands in
+        let stands : Stands commit true D L (state_of told.0 x) (ended_as commit) = subst
+        (λ (o : Option Fate). Stands commit true D L (state_of told.0 x) (unwrap_or o here)) made led.stands in
         let there : Standing commit true D L x told.0 (ended_as commit) =
         record { stands = stands; sound = sound_after t (outcome_op commit x) (tables_after before T) st.sound } in
         let silent : fates x after told.0 ≡ [] = (fates_once commit D L x after told.0 (ended_as commit) guide there).0 (ended_known commit) in
@@ -301,7 +308,8 @@ module _ (commit : Bool) (D L : Type 0) (t n : ℕ) (x : XidName) (T : Tables) (
     pub told_there : (d : HeuristicDecision) → told.1 ≡ decision_code d → last_or f (fates x H T) ≡ decided_fate d
     told_there d e =
         let is : here ≡ decided_fate d = decided_of (tells_so law commit t x d (tables_after before T) e).state st.stands in
-        let all : All (λ r. IsGuided commit L x r.op) (own ∷ after) = All-cons (λ (r : Request). IsGuided commit L x r.op) own after (λ named _. ends_towards commit L x x named) guide in
+        let all : All (λ r. IsGuided commit L x r.op) (own ∷ after) = All-cons (λ (r : Request). IsGuided commit L x r.op) own after
+        (λ named _. ends_towards commit L x x named) guide in
         after_it ∙ ap (last_or here) ((fates_once commit D L x (own ∷ after) (tables_after before T) here all st).0 (ap is_unknown is ∙ decided_known d)) ∙ is
 
 -- ---- from the Prepare on
@@ -348,4 +356,5 @@ module _ (law : Tabled) (commit : Bool) (D L : Type 0) (t n : ℕ) (x : XidName)
   pub fates_from : D → (f : Fate) → fates x (request_of t n (Prepare x) ∷ after) U ≡ history.InDoubt ∷ once (fate x f H T)
   fates_from doubt f =
       ap (λ o. cons_option o (fates x after now)) voted_now
-      ∙ ap (λ l. history.InDoubt ∷ l) ((fates_once commit D L x after now history.InDoubt guide (stands_now doubt)).1 refl ∙ ap once (sym (law.leaves H x f T ∙ fate_any f)))
+      ∙ ap (λ l. history.InDoubt ∷ l) ((fates_once commit D L x after now history.InDoubt guide (stands_now doubt)).1 refl
+      ∙ ap once (sym (law.leaves H x f T ∙ fate_any f)))

@@ -130,7 +130,8 @@ module _ (commit : Bool) (D L : Type 0) (t : ℕ) (x : XidName) (T : Tables) (H 
       where
         by_code : (c : Code) → code ≡ c → outcome_fate commit c ≡ Some g → last_or f (fates x H T) ≡ g
         by_code Done e is =
-            ended_there commit D L t z.ends x T H before z.rest f z.place law now (λ k r lt named _. rest_here k r lt named) (sym z.code_is ∙ e) ∙ some_same (ended_as commit) g is
+            ended_there commit D L t z.ends x T H before z.rest f z.place law now (λ k r lt named _. rest_here k r lt named) (sym z.code_is ∙ e)
+            ∙ some_same (ended_as commit) g is
         by_code HeurCom e is = placed_tells decision.Commit e ∙ some_same history.HeurCommitted g is
         by_code HeurRb e is = placed_tells decision.Rollback e ∙ some_same history.HeurRolledBack g is
         by_code c e is = cc
@@ -208,7 +209,8 @@ module _ (law : Tabled) (first : (s : Settling) (m : ℕ) (T : Tables) → IsSet
 
     -- it stands as it did
     step_stands : Stands commit true D L (state_of (tables_after H T) x) (settled_fate o.settled m x f)
-    step_stands = subst (λ (g : Fate). Stands commit true D L (state_of (tables_after H T) x) g) (sym (fate_so o T f with_T)) (led_after commit true D L x H T f w.towards stands_first).stands
+    step_stands = subst (λ (g : Fate). Stands commit true D L (state_of (tables_after H T) x) g) (sym (fate_so o T f with_T))
+        (led_after commit true D L x H T f w.towards stands_first).stands
 
     -- an outcome of the branch that was answered has its request in the history
     module _ (q : ResolveCall) (there : Contains o.uses (resolves q)) where
@@ -229,7 +231,8 @@ module _ (law : Tabled) (first : (s : Settling) (m : ℕ) (T : Tables) → IsSet
       answered_at r among own same reached =
           let asked =
           outcome_asked q.scan q.records q.old q.new q.outcomes use_.made m up (ledger (ledgers_of o.settled t) m) (use_.grown.each m up.0) r among own in
-          let decided : r.commit ≡ commit = asked.decision ∙ ap (is_to_commit q.records m) same ∙ All-contains (FindsMark commit (tran_of x) m) o.uses (resolves q) w.marks there in
+          let decided : r.commit ≡ commit = asked.decision ∙ ap (is_to_commit q.records m) same
+          ∙ All-contains (FindsMark commit (tran_of x) m) o.uses (resolves q) w.marks there in
           placed t T H (outcome_op commit x) r.code (ledger q.old m) (ledger (ledgers_of o.settled t) m).sent (ledger (ledgers_of o.settled t) m).collected carried answered
           (subst (λ (op : Op). IsAnsweredIn op r.code (ledger q.old m) (ledger (ledgers_of o.settled t) m).sent (ledger (ledgers_of o.settled t) m).collected) (λ i. outcome_op (decided i) (same i)) (asked.answered reached))
 

@@ -18,12 +18,10 @@ use Rattle.std.proofs.lemmas.List.Sorted.{IsPermutation-sym, Contains-permutatio
 use Rattle.xa_tables.specs.{is_left}
 use Rattle.xa_driver.specs.{Done}
 use Rattle.xa_tables.specs.Histories as history
-use Rattle.xa_tables.specs.declared.state.HeuristicDecision.TheVariants as decision
 use Rattle.xa_atomicity.proofs.Resolves.{upto_so, outcome_asked, outcome_left, outcome_upto}
 use Rattle.xa_atomicity.proofs.Guided.{ended_known, unknown_so, decided_apart, read_apart}
 use Rattle.xa_atomicity.proofs.Later.{ends_with, IsStep, answered_at, opening_towards, placed_so}
 use Rattle.xa_atomicity.proofs.Leading.{waits, unforgotten, IsTowards, Stands}
-use Rattle.xa_atomicity.proofs.Sites.{fates}
 use Rattle.xa_atomicity.proofs.OneOutcome.{FindsMark}
 
 -- what holds of each list with its place holds of that of a manager

@@ -142,7 +142,8 @@ abbrev pub Traced : Bool → List LedgerView → List LedgerView → Branch → 
 Traced commit old new b v z e = AtBranch AsksLedger commit b v z e (ledger old b.m) (ledger new b.m)
 
 -- what is shown of each branch of which C is known follows for each
-pub branch_map : (C : Branch → Type 0) (P Q : Branch → Code → Option Code → Ending → Type 0) → ((b : Branch) (v : Code) (s : Option Code) (e : Ending) → C b → P b v s e → Q b v s e)
+pub branch_map : (C : Branch → Type 0) (P Q : Branch → Code → Option Code → Ending → Type 0)
+    → ((b : Branch) (v : Code) (s : Option Code) (e : Ending) → C b → P b v s e → Q b v s e)
     → (bs : List Branch) (vs : List Code) (ss : List (Option Code)) (es : List Ending) → All C bs → EachBranch P bs vs ss es → EachBranch Q bs vs ss es
 branch_map C P Q f [] [] [] [] all h = tt
 branch_map C P Q f (b ∷ bs) (v ∷ vs) (s ∷ ss) (e ∷ es) all h = (f b v s e (All-head C b bs all) h.0, branch_map C P Q f bs vs ss es (All-tail C b bs all) h.1)
@@ -156,7 +157,8 @@ positive_all lo (b ∷ bs) r = All-cons (λ (c : Branch). 1 ≤ c.m) b bs (let u
 -- P holds of each ledger before and after, if it holds where nothing was done and where the trace was of a branch of which C is known
 module _ (P : LedgerView → LedgerView → Type 0) (stays : (a : LedgerView) → P a a) (C : Branch → Type 0) (old new : List LedgerView) (d : Done)
     (traced : (b : Branch) → C b → (v : Code) (s : Option Code) (e : Ending) (a a' : LedgerView) → AtBranch AsksLedger d.commit b v s e a a' → P a a') where
-  at_branch : (m : ℕ) (bs : List Branch) (vs : List Code) (ss : List (Option Code)) (es : List Ending) → All C bs → EachBranch (Traced d.commit old new) bs vs ss es
+  at_branch : (m : ℕ) (bs : List Branch) (vs : List Code) (ss : List (Option Code)) (es : List Ending) → All C bs
+      → EachBranch (Traced d.commit old new) bs vs ss es
       → has_branch_at bs m ≡ true → P (ledger old m) (ledger new m)
   at_branch m [] [] [] [] all h e = cc
   at_branch m (b ∷ bs) (v ∷ vs) (s ∷ ss) (x ∷ es) all h e =
@@ -182,7 +184,9 @@ pub abort_sends_no_commit : (tran : TranName) (bs : List Branch) (old new : List
     → IsTraceOfCommit tran bs old new log later done → done.commit ≡ false → NoCommitWasSent old new
 abort_sends_no_commit tran bs old new log later done call off m positive =
     let z =
-    every_manager (Sends IsNoCommit) (stays IsNoCommit) (λ b. Unit {0}) old new done (λ b _ v s e a a' is. no_commit b v s e a a' (subst (λ c. AtBranch AsksLedger c b v s e a a') off is)) tran bs log later (λ k d lt. tt) call m positive in
+    every_manager (Sends IsNoCommit) (stays IsNoCommit) (λ b. Unit {0}) old new done
+    (λ b _ v s e a a' is. no_commit b v s e a a' (subst (λ c. AtBranch AsksLedger c b v s e a a') off is)) tran bs log later
+    (λ k d lt. tt) call m positive in
     record { more = z.more; sent = z.sent; none = list_any_none is_commit z.more z.all }
   where
     no_commit : (b : Branch) (v : Code) (s : Option Code) (e : Ending) (a a' : LedgerView) → AtBranch AsksLedger false b v s e a a' → Sends IsNoCommit a a'
@@ -208,7 +212,8 @@ after_yes P commit None ended doubt heuristic left = doubt
 after_yes P commit (Some c) ended doubt heuristic left = search (arith, rules)
 
 -- and after one against
-pub after_no : (P : Ending → Type 0) (v : Code) (s : Option Code) → P RolledBack → ((c : Code) → P (Heuristic c)) → ((c : Code) → P (Left c)) → P (no_ending v s)
+pub after_no : (P : Ending → Type 0) (v : Code) (s : Option Code) → P RolledBack → ((c : Code) → P (Heuristic c)) → ((c : Code) → P (Left c))
+    → P (no_ending v s)
 after_no P v None back heuristic left = left v
 after_no P v (Some c) back heuristic left = search (arith, rules)
 

@@ -5,7 +5,7 @@ use Rattle.xa_atomicity.proofs.Words.{IsTranOf, Code, TranName, MOST_MANAGERS, I
 use Rattle.xa_atomicity.proofs.Words.{GoesOnAfter, OfCommit, Use, commits, cuts, resolves, Opening, IsByItsThread, IsKept, IsUseIn, OnlyResolves, uses_of}
 use Rattle.xa_atomicity.proofs.Words.{rules, option_map, is_some, zero, ◌+◌, ◌++◌, length, sym, refl, ap, ◌∙◌, Option, Some, None, Contains, All-cons}
 use Rattle.xa_atomicity.proofs.Words.{All-contains, Contains-append_right, all_after, all_mid, all_right, at_true, Begins, tran_of, Done, Op, Prepare}
-use Rattle.xa_atomicity.proofs.Words.{Request, Tables, state_of, is_left_in, Fate, IsFateOf, coded, fate, tables_after, told_by, History, as_left, LedgerView}
+use Rattle.xa_atomicity.proofs.Words.{Request, Tables, state_of, is_left_in, Fate, IsFateOf, fate, tables_after, told_by, History, as_left, LedgerView}
 use Rattle.xa_atomicity.proofs.Words.{HasGrown, HaveGrown, requests, reopened_at, IsOpenedWith, first_of, history as history_of, ledgers_of, ManagerPart}
 use Rattle.xa_atomicity.proofs.Words.{IsSettled, answers, find_manager, journal, journal_in, sent, Branch, is_yes, yes_of, ending_of, is_decided, yes_ending}
 use Rattle.xa_atomicity.proofs.Words.{outcome_op, AreBranchesRising, HaveRoom, Logs, decision_of, IsCut, IsEnded, is_recorded, OnlyTheseOrDecisionsName}
@@ -43,7 +43,8 @@ module _ (mark : Bool) (t : TranName) (m : ℕ) (up : IsUpTo MOST_MANAGERS m) wh
 
   -- where what is known of a commit makes none of its votes be to commit
   quiet_so : (s : Settling) (P : CutCall → Type 0)
-      → ((k : CutCall) → IsUseIn s (cuts k) → P k → IsTranOf k.branches t → (b : Branch) (v : Code) → tran_of b.xid ≡ t → b.m ≡ m → Votes k.desk.ledgers k.new b v → is_yes v ≡ false)
+      → ((k : CutCall) → IsUseIn s (cuts k) → P k → IsTranOf k.branches t → (b : Branch) (v : Code) → tran_of b.xid ≡ t → b.m ≡ m
+      → Votes k.desk.ledgers k.new b v → is_yes v ≡ false)
       → (u : Use) → IsUseIn s u → OfCommit P u → OfCommit Stays u
   quiet_so s P against = of_commit s P Stays (λ k w p. cut_keeps mark t m up k.branches k.desk k.new k.log k.later k.endings w.made
       (λ same. against k w p (subst (IsTranOf k.branches) same w.made.may.one)))
@@ -51,7 +52,8 @@ module _ (mark : Bool) (t : TranName) (m : ℕ) (up : IsUpTo MOST_MANAGERS m) wh
   -- in an opening where nothing but resolves names the transaction
   quiet_opening : (o : Opening) → IsKept o → OnlyResolves t o → All (IsQuiet mark t m) o.uses
   quiet_opening o kept only j d lt =
-      quiet_so o.settled (λ k. Unit {0}) (λ k w _ tran. no_vote o kept t only m up k.thread k.desk.ledgers k.new w.grown) (get_or o.uses j d) (kept.uses j d lt) (any_commit (get_or o.uses j d))
+      quiet_so o.settled (λ k. Unit {0}) (λ k w _ tran. no_vote o kept t only m up k.thread k.desk.ledgers k.new w.grown) (get_or o.uses j d)
+      (kept.uses j d lt) (any_commit (get_or o.uses j d))
 
   pub quiet_openings : (os : List Opening) → All IsKept os → All (OnlyResolves t) os → All (IsQuiet mark t m) (uses_of os)
   quiet_openings [] kept only = All-nil (IsQuiet mark t m)
@@ -63,7 +65,8 @@ module _ (mark : Bool) (t : TranName) (m : ℕ) (up : IsUpTo MOST_MANAGERS m) wh
       → All (IsByItsThread c) vs → All (IsQuiet mark t m) vs
   quiet_after c s vs of_tran learnt uses own j d lt =
       quiet_so s (λ k. (u : TranName) → IsTranOf c.branches u → IsTranOf k.branches u → GoesOnAfter c k.thread k.desk.ledgers) (λ k w own tran b v _ same h.
-      ap is_yes (h.prepared (ap (λ n. learnt_shut (ledger k.desk.ledgers n)) same ∙ learnt_on (ledger c.new m) (ledger k.desk.ledgers m) ((own t of_tran tran).grown.each m up.0).collected learnt)))
+      ap is_yes (h.prepared (ap (λ n. learnt_shut (ledger k.desk.ledgers n)) same ∙ learnt_on (ledger c.new m) (ledger k.desk.ledgers m)
+      ((own t of_tran tran).grown.each m up.0).collected learnt)))
       (get_or vs j d) (uses j d lt) (own j d lt)
 
   -- after one that nobody commits again in its opening
@@ -203,7 +206,8 @@ module _ (law : Tabled) (first : (s : Settling) (m : ℕ) (T : Tables) → IsSet
     concludes at_end makes =
         branch_follows law first o between last q r.use_.kept r.use_.in_a_row
         (is_used last.uses r.use_.ps r.use_.qs (resolves q) r.use_.resolve_at) r.use_.scan commit (W b) b t n (known_of k b) up T begins
-        (λ L. record { comes = doubt L b here up only T with_T commit (at_end L).comes; any = (at_end L).any }) marked (λ w there manager xid. search (arith, All-contains)) makes
+        (λ L. record { comes = doubt L b here up only T with_T commit (at_end L).comes; any = (at_end L).any }) marked
+        (λ w there manager xid. search (arith, All-contains)) makes
 
     abbrev Sent : Type 0 → Type 0
     Sent L = HasSentOnly commit L b.xid (before_of b) (after_of b)
@@ -225,7 +229,8 @@ module _ (law : Tabled) (first : (s : Settling) (m : ℕ) (T : Tables) → IsSet
         → Result b
     decided c is known h z =
         let second =
-        sent_stands law s kept_o.settled t m T with_T up.0 (after_of b) grown z.number (outcome_op commit b.xid) c z.sent (contains_on (after_of b).collected _ (z.number, c) grown.collected z.told) in
+        sent_stands law s kept_o.settled t m T with_T up.0 (after_of b) grown z.number (outcome_op commit b.xid) c z.sent
+        (contains_on (after_of b).collected _ (z.number, c) grown.collected z.told) in
         concludes
         (λ L. subst (AtEnd commit (Unit {0}) L b.xid (fate b.xid G H T) H T) known
         (told_end site b.xid (before_of b) (after_of b) sent_grows commit only h prepared_at z.number z.later c second is L G))
@@ -301,7 +306,8 @@ module _ (law : Tabled) (first : (s : Settling) (m : ℕ) (T : Tables) → IsSet
                 subst (λ d. WasTold d x c (before_of b) (after_of b)) (decided_so L sends) (was_told decision b v c (before_of b) (after_of b) h (open_now L sends) agreed on) in
                 let ending : yes_ending commit (Some c) ≡ known_of k b = search (arith, decided_so, at_true) in
                 let only : HasSentOnly commit L x (before_of b) (after_of b) =
-                subst (λ d. HasSentOnly d L x (before_of b) (after_of b)) (decided_so L sends) (voted_only decision L b v (before_of b) (after_of b) sends (open_now L sends)) in
+                subst (λ d. HasSentOnly d L x (before_of b) (after_of b)) (decided_so L sends)
+                (voted_only decision L b v (before_of b) (after_of b) sends (open_now L sends)) in
                 decided b among (own voted.asked) here (only.rest, only.sent) (mark_so L sends) c on ending only told
           ] refl
 
@@ -329,7 +335,8 @@ module _ (law : Tabled) (first : (s : Settling) (m : ℕ) (T : Tables) → IsSet
       record { use_ = r.followed; made = cut_made; grown = cut_use.grown; own = r.own; voted = λ b here. here; quiet = λ mark b up _. quiet_alone mark cut_tran b.m up o.settled r.followed.vs (uses_after o.settled o.uses r.followed.us r.followed.vs (cuts k) r.followed.use_at (All-head IsKept o (between ++ last ∷ []) r.followed.kept).uses) (r.alone cut_tran cut_made.may.one) }
 
   each_so : (u : TranName) → IsTranOf k.branches u
-      → All (λ b. VotedToCommit k o.settled b → Follows (is_recorded k.later u) o (between ++ last ∷ []) k.thread b (length (ledger k.desk.ledgers b.m).sent) (known_of k b)) k.branches
+      → All (λ b. VotedToCommit k o.settled b → Follows (is_recorded k.later u) o (between ++ last ∷ []) k.thread b (length (ledger k.desk.ledgers b.m).sent)
+      (known_of k b)) k.branches
   each_so u of_u =
       subst (λ (w : TranName). All (λ b. VotedToCommit k o.settled b → Follows (is_recorded k.later w) o (between ++ last ∷ []) k.thread b
       (length (ledger k.desk.ledgers b.m).sent) (known_of k b)) k.branches)

@@ -112,7 +112,8 @@ module _ (a opened now decided last : LedgerView) (op : Op) (first code : Code) 
   open_first = search (arith, false_from_ne_true, both_ways, open_now, learnt_on, begins_on, asks_one)
 
   now_sent : now.sent ≡ a.sent ++ OpenRm ∷ before.more
-  now_sent = before.sent ∙ ap (λ (l : LedgerView). l.sent ++ before.more) (sent_so a opened OpenRm first open_first opens) ∙ append_assoc a.sent (OpenRm ∷ []) before.more
+  now_sent = before.sent ∙ ap (λ (l : LedgerView). l.sent ++ before.more) (sent_so a opened OpenRm first open_first opens)
+      ∙ append_assoc a.sent (OpenRm ∷ []) before.more
 
   decided_is : decided ≡ with_collected (with_sent now op) (length now.sent) code
   decided_is = sent_so now decided op code open_now obeys
@@ -124,7 +125,8 @@ module _ (a opened now decided last : LedgerView) (op : Op) (first code : Code) 
     sent = search (arith, decided_is, append_assoc, now_sent);
     open_ = before.all;
     told =
-        let number : length now.sent ≡ suc (length a.sent) + length before.more = ap length now_sent ∙ (let e = length-append a.sent (OpenRm ∷ before.more) in omega (arith, e)) in
+        let number : length now.sent ≡ suc (length a.sent) + length before.more = ap length now_sent
+        ∙ (let e = length-append a.sent (OpenRm ∷ before.more) in omega (arith, e)) in
         contains_on decided.collected last.collected (suc (length a.sent) + length before.more, code) grown.collected
         (subst (λ k. Contains decided.collected (k, code)) number (subst (λ (l : LedgerView). Contains l.collected (length now.sent, code)) (sym decided_is)
         (Contains-push now.collected (length now.sent, code))));
@@ -153,12 +155,14 @@ module _ (records : Records) (m : ℕ) (a opened last : LedgerView) (first : Cod
         (Forget p.xid) leads.decided next (λ _. tt) leads.forgets (stays Any leads.decided)) grown);
   }
 
-  chain_asked : (os : List Outcome) (a' : LedgerView) → Chain (ResolvesBranch AsksLedger records m) opened os a' → HasGrown a' last → (o : Outcome) → Contains os o
+  chain_asked : (os : List Outcome) (a' : LedgerView) → Chain (ResolvesBranch AsksLedger records m) opened os a' → HasGrown a' last → (o : Outcome)
+      → Contains os o
       → IsAsked records m o a last
   chain_asked _ _ (none xs z e f) grown o there = absurd (none_there o (subst (λ ws. Contains ws o) e there))
   chain_asked _ _ (more xs p now next chain leads) grown o there =
       ⊎_elim (λ (c : Contains xs o).
-      chain_asked xs now chain (grows now next (outcome_by AsksLedger Any (Sends Any now) (asks_on Any now) records m p now next (anything records m p) leads (stays Any now)) grown) o c)
+      chain_asked xs now chain (grows now next (outcome_by AsksLedger Any (Sends Any now) (asks_on Any now) records m p now next (anything records m p) leads
+      (stays Any now)) grown) o c)
       (λ (same : p ≡ o).
       subst (λ q. IsAsked records m q a last) same
       (one_asked p now next

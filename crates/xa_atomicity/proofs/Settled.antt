@@ -4,11 +4,11 @@ use Rattle.xa_atomicity.proofs.Words.{◌≡◌, ℕ, suc, Bool, true, false, �
 use Rattle.xa_atomicity.proofs.Words.{◌∙◌, subst, arith, Option, Some, All, list_any-append, all_mid, begins_on, at_false, at_true, Begins, Code, Op, Tables}
 use Rattle.xa_atomicity.proofs.Words.{History, coded, LedgerView, is_rm_fail, learnt_shut, with_sent, with_collected, answers, Branch, Ending, AtBranch}
 use Rattle.xa_atomicity.proofs.Words.{AsksLedger, branch_mapped, asked_grows, numbered, ledger, no_ledger, is_known, HasGrown, HaveGrown, DeskView, ◌+◌}
-use Rattle.xa_atomicity.proofs.Words.{All-contains, All-head, All-tail, Contains, list_any, zero, ◌-◌, ◌≤◌, if◌then◌else◌, sym, ⊎_elim, le-leb, cases_lt}
+use Rattle.xa_atomicity.proofs.Words.{All-contains, All-head, All-tail, Contains, list_any, zero, ◌≤◌, if◌then◌else◌, sym, ⊎_elim, le-leb, cases_lt}
 use Rattle.xa_atomicity.proofs.Words.{or_parts, not-true, pos, ◌⊎◌, or-true, TranName, Done as Voted, RdOnly, XidName, Request, HeuristicDecision, state_of}
 use Rattle.xa_atomicity.proofs.Words.{next, told_by, Fate, IsFateOf, fate, decided_fate, tables_after, Settling, IsSettled, sent, IsOpenedWith, ledgers_of}
 use Rattle.xa_atomicity.proofs.Words.{history as history_of, as_it_was, grown_on, is_yes, is_no, ending_of, second_op, third_op, EachBranch, IsCommit}
-use Rattle.xa_atomicity.proofs.Words.{IsTraceOfCommit, ReadOnly, InDoubt, LogState, any_asked, branch_by, AreLeftAlone, AreLeftOrDecided, OnlyTheseName}
+use Rattle.xa_atomicity.proofs.Words.{IsTraceOfCommit, ReadOnly, LogState, any_asked, branch_by, AreLeftAlone, AreLeftOrDecided, OnlyTheseName}
 use Rattle.xa_atomicity.proofs.Words.{OnlyTheseOrDecisionsName, IsDecidedAfter, KeepsItsVote, TellsTheFate, undecided, decided, told_fate, EachOutcome}
 use Rattle.xa_atomicity.proofs.Words.{KeepsTheVotes, TellsTheFates, has_committed, is_rolled_back, is_heuristic, is_left, is_read_only, sent_so_far, Shares}
 use Rattle.xa_atomicity.proofs.Words.{CountsTheCommitted, HasAllOrNothing, Tabled, is_committed, false_from_ne_true, or-false}
@@ -62,7 +62,8 @@ module _ {t : ℕ} {T : Tables} {H : History} (s : Site t T H) (pairs : List (�
       → AtBranch (AsksIn t T H) commit b vote second ending (heard a) (heard a')
   branch_in b commit vote second ending a a' is sent collected =
       branch_mapped AsksLedger (AsksIn t T H) heard (λ z. Unit {0}) Has (λ d e op c is q. tt) has_before
-      (λ d e op c is q has. search (arith, at_true, at_false, stands_in, heard_after, is.answered)) commit b vote second ending a a' is tt (record { sent = sent; collected = collected })
+      (λ d e op c is q has. search (arith, at_true, at_false, stands_in, heard_after, is.answered)) commit b vote second ending a a' is tt
+      (record { sent = sent; collected = collected })
 
 -- what was sent to a manager, and collected from it, stands in the ledger with it
 pub by_ledger : {X : Type 0} (at : List LedgerView) (m : ℕ) (f : LedgerView → List X) → 1 ≤ m → f no_ledger ≡ []
@@ -233,7 +234,8 @@ module _ (law : Tabled) (opened : (s : Settling) (m : ℕ) → IsSettled s → (
           let site = site_of law s settled t b.m open_.0 open_.1 in
           let ends = (is open_.0 open_.1).1 in
           let plain : is_yes vote ≡ true → is_heuristic ending ≡ false = λ y. false_from_ne_true (is_heuristic ending) (λ h.
-          none_decides site b.xid (old b.m) (new b.m) only (own_plain site b.xid (old b.m) (new b.m) vote commit ending (is open_.0 open_.1).0) ((one_voted weak open_.0 open_.1).decided y h)) in
+          none_decides site b.xid (old b.m) (new b.m) only (own_plain site b.xid (old b.m) (new b.m) vote commit ending (is open_.0 open_.1).0)
+          ((one_voted weak open_.0 open_.1).decided y h)) in
           record {
             fated = one_fated weak;
             counted = λ U with_U. branch_counts (site_of law s settled t b.m U with_U) b.xid (old b.m) (new b.m) commit vote ending (is U with_U).0 only;
@@ -280,7 +282,8 @@ module _ (law : Tabled) (opened : (s : Settling) (m : ℕ) → IsSettled s → (
     module _ (alone : AreLeftOrDecided s t bs (sent_so_far at) (sent_so_far new)) where
       all_fated : EachOutcome (λ b v e. Fated b (sent_so_far at b.m) v e) bs d.votes.items d.endings.items
       all_fated =
-          each_outcome (λ b. OnlyTheseOrDecisionsName b.xid t (sent_so_far at b.m) (sent_so_far new b.m) (history_of s b.m)) In (λ b v e. Fated b (sent_so_far at b.m) v e) (λ b v z e only is.
+          each_outcome (λ b. OnlyTheseOrDecisionsName b.xid t (sent_so_far at b.m) (sent_so_far new b.m) (history_of s b.m)) In
+          (λ b v e. Fated b (sent_so_far at b.m) v e) (λ b v z e only is.
           one_fated settled d.commit (sent_so_far at) (sent_so_far new) b v z e is only) bs d.votes.items made.trace.course.seconds d.endings.items alone.each each
 
       pub votes_law : KeepsTheVotes s t bs (sent_so_far at) d

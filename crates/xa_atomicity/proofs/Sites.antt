@@ -102,7 +102,8 @@ abbrev pub fates : XidName → History → Tables → List Fate
 fates x h T = fates_in x (coded h T)
 
 pub fates_both : (x : XidName) (h g : History) (T : Tables) → fates x (h ++ g) T ≡ fates x h T ++ fates x g (tables_after h T)
-fates_both x h g T = ap (fates_in x) (coded_both 0 h g T) ∙ filter_map-append (λ (e : Request × Code). fate_of x e.0.op e.1) (coded h T) (coded g (tables_after h T))
+fates_both x h g T = ap (fates_in x) (coded_both 0 h g T) ∙ filter_map-append (λ (e : Request × Code). fate_of x e.0.op e.1) (coded h T)
+    (coded g (tables_after h T))
 
 pub last_both : (f : Fate) (xs ys : List Fate) → last_or f (xs ++ ys) ≡ last_or (last_or f xs) ys
 last_both f [] ys = refl
@@ -169,7 +170,8 @@ own_between t P h pre mid post e all =
     let past : length pre ≤ k = omega (arith, from) in
     let in_mid : k - length pre < length mid = omega (arith, from, to) in
     let is : get_or mid (k - length pre) op ≡ op =
-    sym (get_or-append_right pre (mid ++ post) (length pre) k op refl past ∙ get_or_append_left mid post op (k - length pre) in_mid) ∙ get_or_from_slice_get (pre ++ (mid ++ post)) k op op at in
+    sym (get_or-append_right pre (mid ++ post) (length pre) k op refl past ∙ get_or_append_left mid post op (k - length pre) in_mid)
+    ∙ get_or_from_slice_get (pre ++ (mid ++ post)) k op op at in
     subst P is (all (k - length pre) op in_mid))
 
 -- it is the one that was collected

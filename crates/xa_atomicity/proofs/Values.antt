@@ -6,7 +6,7 @@ use Rattle.xa_atomicity.proofs.Words.{and-false, +ℤ_idl as none_plus, +ℤ_idr
 use Rattle.xa_atomicity.proofs.Words.{History, lt-leb, leb-true, leb-false, Op, Commit, Heur, Request, Code, is_commit, taken_before, option_map}
 use Rattle.xa_atomicity.proofs.Words.{append_assoc, Option, Some, None, cons_option, XidName, Decides-key_eq, Prepare, Association, association_of, Fate}
 use Rattle.xa_atomicity.proofs.Words.{added_by, coded, commits_later, ending, ending_by, fate_of, or_later, share, EndsNowhere, tables_after-append}
-use Rattle.xa_atomicity.proofs.Words.{IsAddition, prepare_of, both_ways, at_true, ◌≢◌, ◌+◌, subst, all_left, all_after, Done, RdOnly, RmFail, Rollback}
+use Rattle.xa_atomicity.proofs.Words.{IsAddition, prepare_of, both_ways, at_true, ◌≢◌, subst, all_left, all_after, Done, RdOnly, RmFail, Rollback}
 use Rattle.xa_atomicity.proofs.Words.{xid_self, names, NamesNowhere, is_forget, unnamed_fate, Ending, ReadOnly, RolledBack, Left, is_yes, yes_ending}
 use Rattle.xa_atomicity.proofs.Words.{no_ending, IsBetween, OnlyTheseName, is_read_only as is_read_only_ending, none_later, is_committed, All-cons}
 use Rattle.xa_atomicity.proofs.Words.{cases_Bool, outcome_op, by_bool, xid_eq, commit_fate, All-append}
@@ -173,7 +173,8 @@ commits_none x (r ∷ h) T none =
     let rest = commits_none x h (next r.thread r.op T).0 (λ k d lt. none (suc k) d (omega (arith, lt))) in
     one r.op (next r.thread r.op T).1 (fates x h (next r.thread r.op T).0) (none 0 r (omega arith)) rest
   where
-    plain : (op : Op) (c : Code) (fs : List Fate) → is_commit op ≡ false → commits_or false fs ≡ false → commits_or false (cons_option (fate_of x op c) fs) ≡ false
+    plain : (op : Op) (c : Code) (fs : List Fate) → is_commit op ≡ false → commits_or false fs ≡ false
+        → commits_or false (cons_option (fate_of x op c) fs) ≡ false
     plain (Prepare y) c fs e rest = search (arith, commits_or, cons_option)
     plain op c fs e rest = search (arith, commits_or, cons_option)
 
@@ -190,7 +191,8 @@ unnamed x (r ∷ h) T n =
     none_first x r h T (unnamed_fate x r.op _ (n 0 r (omega arith))) (unnamed x h (next r.thread r.op T).0 (λ k d lt. n (suc k) d (omega (arith, lt))))
 
 -- what a Commit of a prepared branch that was answered so does
-commit_counts : (c : Code) (fs : List Fate) → commits_or false fs ≡ false → commits_or false (cons_option (commit_fate c) fs) ≡ is_committed (yes_ending true (Some c))
+commit_counts : (c : Code) (fs : List Fate) → commits_or false fs ≡ false → commits_or false (cons_option (commit_fate c) fs) ≡ is_committed
+    (yes_ending true (Some c))
 commit_counts c fs none = grind (arith, commits_or, cons_option)
 
 yes_writes : (commit : Bool) (c : Code) → is_read_only_ending (yes_ending commit (Some c)) ≡ false
@@ -217,7 +219,8 @@ module _ {t : ℕ} {T : Tables} {H : History} (site : Site t T H) (x : XidName) 
 
   -- what was taken before it, and that no request there has its number or a later one
   pub taken : (f : Voted) → taken_before t n H ≡ f.before
-  taken f = ap (taken_before t n) f.place ∙ taken_is t n f.before f.after (request_of t n (Prepare x)) refl refl (below site n (Prepare x) f.before f.after f.place)
+  taken f = ap (taken_before t n) f.place ∙ taken_is t n f.before f.after (request_of t n (Prepare x)) refl refl
+      (below site n (Prepare x) f.before f.after f.place)
 
   -- the vote on an addition isn't that of a branch that only read
   never_reads : Voted → (k : List ℕ) (d : ℤ) → IsAddition x k d t n T H → vote ≢ RdOnly
@@ -245,7 +248,8 @@ module _ {t : ℕ} {T : Tables} {H : History} (site : Site t T H) (x : XidName) 
           let no_commit : All (λ r. names x r.op ≡ true → is_commit r.op ≡ false) (request_of t n (Prepare x) ∷ add.after) =
           All-cons (λ (r : Request). names x r.op ≡ true → is_commit r.op ≡ false) (request_of t n (Prepare x)) add.after (λ _. refl) (λ j r lt named.
           let own = only (add.before ++ add.adding ∷ add.between) add.after (request_of t n (Prepare x)) place refl refl j r lt named in
-          all_after Plain (add.before ++ add.adding ∷ add.between) (request_of t n (Prepare x)) add.after (subst (All Plain) place none) j r lt own.thread own.from own.below) in
+          all_after Plain (add.before ++ add.adding ∷ add.between) (request_of t n (Prepare x)) add.after
+          (subst (All Plain) place none) j r lt own.thread own.from own.below) in
           share_is x k d t n T H none_later add _ refl ∙ ap (λ q. if q then d else pos 0)
           (commits_none x (request_of t n (Prepare x) ∷ add.after) (tables_after (add.before ++ add.adding ∷ add.between) T) no_commit ∙ sym not);
       adders = adders;
@@ -269,11 +273,13 @@ module _ {t : ℕ} {T : Tables} {H : History} (site : Site t T H) (x : XidName) 
         now = (next t (Prepare x) (tables_after f.before T)).0
 
         only_parts : All (λ q. names x q.op ≡ true → IsBetween t n last q) (s.mid ++ request_of t (suc n) (Commit x false) ∷ s.rest)
-        only_parts = subst (All (λ (q : Request). names x q.op ≡ true → IsBetween t n last q)) s.split (only f.before f.after (request_of t n (Prepare x)) f.place refl refl)
+        only_parts = subst (All (λ (q : Request). names x q.op ≡ true → IsBetween t n last q)) s.split
+            (only f.before f.after (request_of t n (Prepare x)) f.place refl refl)
 
         quiet_mid : NamesNowhere x s.mid
         quiet_mid k d lt = false_from_ne_true (names x (get_or s.mid k d).op) (λ named.
-            s.others k d lt (all_left (λ (q : Request). names x q.op ≡ true → IsBetween t n last q) s.mid (request_of t (suc n) (Commit x false) ∷ s.rest) only_parts k d lt named).thread)
+            s.others k d lt (all_left (λ (q : Request). names x q.op ≡ true → IsBetween t n last q) s.mid
+            (request_of t (suc n) (Commit x false) ∷ s.rest) only_parts k d lt named).thread)
 
         -- what is sent after it is no Commit
         rest_plain : All (λ q. q.thread ≡ t → q.number < last → is_commit q.op ≡ false) s.rest
@@ -284,11 +290,13 @@ module _ {t : ℕ} {T : Tables} {H : History} (site : Site t T H) (x : XidName) 
             let there : Tables = tables_after s.mid now in
             let left : Tables = (next t (Commit x false) there).0 in
             let rest_none : commits_or false (fates x s.rest left) ≡ false = commits_none x s.rest left (λ k d lt named.
-            let own = all_after (λ (q : Request). names x q.op ≡ true → IsBetween t n last q) s.mid (request_of t (suc n) (Commit x false)) s.rest only_parts k d lt named in
+            let own = all_after (λ (q : Request). names x q.op ≡ true → IsBetween t n last q) s.mid
+            (request_of t (suc n) (Commit x false)) s.rest only_parts k d lt named in
             rest_plain k d lt own.thread own.below) in
             let voted : fate_of x (Prepare x) (next t (Prepare x) (tables_after f.before T)).1 ≡ Some history.InDoubt = ap (fate_of x (Prepare x))
             (sym f.code ∙ agreed) ∙ at_true (xid_eq x x) _ None (xid_self x) in
-            let made : fate_of x (Commit x false) (next t (Commit x false) there).1 ≡ commit_fate c = at_true (xid_eq x x) _ None (xid_self x) ∙ ap commit_fate (sym s.code) in
+            let made : fate_of x (Commit x false) (next t (Commit x false) there).1 ≡ commit_fate c = at_true (xid_eq x x) _ None (xid_self x)
+            ∙ ap commit_fate (sym s.code) in
             let after : fates x f.after now ≡ cons_option (commit_fate c) (fates x s.rest left) =
             ap (λ (h : History). fates x h now) s.split ∙ fates_both x s.mid (request_of t (suc n) (Commit x false) ∷ s.rest) now
             ∙ (λ i. unnamed x s.mid now quiet_mid i ++ cons_option (made i) (fates x s.rest left)) in
@@ -300,7 +308,8 @@ module _ {t : ℕ} {T : Tables} {H : History} (site : Site t T H) (x : XidName) 
             let there : Tables = tables_after s.mid now in
             let before : History = f.before ++ request_of t n (Prepare x) ∷ s.mid in
             let keeps : held_by accounts x there ≡ held accounts =
-            site.law.keeps accounts t x f.before s.mid T site.opening (sym f.code ∙ agreed) quiet_mid ∙ ap (λ (h : History). held_by accounts x (tables_after h T)) (sym (taken f)) in
+            site.law.keeps accounts t x f.before s.mid T site.opening (sym f.code ∙ agreed) quiet_mid
+            ∙ ap (λ (h : History). held_by accounts x (tables_after h T)) (sym (taken f)) in
             ap (λ (h : History). moved accounts (is_within t n last) h T) s.place
             ∙ moved_at accounts (is_within t n last) before s.rest (request_of t (suc n) (Commit x false)) T
             (All-append (λ (q : Request). is_within t n last q ≡ true → is_commit q.op ≡ false) f.before (request_of t n (Prepare x) ∷ s.mid) (λ k d lt passes.
@@ -319,7 +328,8 @@ module _ {t : ℕ} {T : Tables} {H : History} (site : Site t T H) (x : XidName) 
           record {
             counted = λ k d add.
                 share_is x k d t n T H none_later add _ refl
-                ∙ ap (λ q. if q then d else pos 0) (counts (at_place site n (Prepare x) vote z.first (add.before ++ add.adding ∷ add.between) add.after (add_place x k d t n T H add)));
+                ∙ ap (λ q. if q then d else pos 0) (counts (at_place site n (Prepare x) vote z.first (add.before ++ add.adding ∷ add.between) add.after
+                (add_place x k d t n T H add)));
             adders = λ k d add. writes;
             moves = λ accounts. moves_it z.first accounts ∙ commit_moves c (held accounts);
             reads = λ r. absurd (both_ways (is_read_only_ending (yes_ending true (Some c))) writes r);
@@ -348,11 +358,14 @@ branch_counts {t} {T} {H} site x n last commit vote ending course only = by_cour
     by_course _ (Reads r z) =
         let f = z.first in
         let code : vote ≡ RdOnly = read_is vote r in
-        silent site x n vote last only (one_own site x n last vote (λ op. is_commit op ≡ false) refl z) ReadOnly refl (λ k d add. absurd (never_reads site x n vote f k d add code))
+        silent site x n vote last only (one_own site x n last vote (λ op. is_commit op ≡ false) refl z) ReadOnly refl
+        (λ k d add. absurd (never_reads site x n vote f k d add code))
         (λ _ accounts.
-        subst (λ (h : History). held_by accounts x (tables_after h T) ≡ pos 0) (sym (taken site x n vote f)) (site.law.reads accounts t x (tables_after f.before T) (sym f.code ∙ code)))
+        subst (λ (h : History). held_by accounts x (tables_after h T) ≡ pos 0) (sym (taken site x n vote f))
+        (site.law.reads accounts t x (tables_after f.before T) (sym f.code ∙ code)))
     by_course _ (Breaks k z) = one RolledBack refl refl z
     by_course _ (Stays c y z) = one (Left c) refl refl z
     by_course _ (Agrees c y z) = agreed commit c y z
     by_course _ (Refuses c y r z) =
-        rolls c (no_ending vote (Some c)) (after_no (Falls is_committed) vote (Some c) refl (λ _. refl) (λ _. refl)) (after_no (Falls is_read_only_ending) vote (Some c) refl (λ _. refl) (λ _. refl)) z
+        rolls c (no_ending vote (Some c)) (after_no (Falls is_committed) vote (Some c) refl (λ _. refl) (λ _. refl))
+        (after_no (Falls is_read_only_ending) vote (Some c) refl (λ _. refl) (λ _. refl)) z
