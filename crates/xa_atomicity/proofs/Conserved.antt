@@ -153,12 +153,7 @@ module _ (law : Tabled) (opens : (s : Settling) (m : ℕ) → IsSettled s → (T
     -- a branch of a committed transaction moved what it added, unless it is in doubt
     moved_or_doubted : (e : Ending) (v : ℤ) → is_rolled_back e ≡ false → is_left e ≡ false → is_heuristic e ≡ false → (is_read_only e ≡ true → v ≡ pos 0)
         → (if is_committed e then v else pos 0) +ℤ (if is_in_doubt e then v else pos 0) ≡ v
-    moved_or_doubted Committed v back left plain reads = plus_none v
-    moved_or_doubted ReadOnly v back left plain reads = sym (reads refl)
-    moved_or_doubted RolledBack v back left plain reads = cc
-    moved_or_doubted InDoubt v back left plain reads = none_plus v
-    moved_or_doubted (Heuristic c) v back left plain reads = cc
-    moved_or_doubted (Left c) v back left plain reads = cc
+    moved_or_doubted e v back left plain reads = grind (arith, none_plus, plus_none)
 
     regroup : (a b c d v w : ℤ) → a +ℤ c ≡ v → b +ℤ d ≡ w → (a +ℤ b) +ℤ (c +ℤ d) ≡ v +ℤ w
     regroup a b c d v w e f = omega (arith, ints)

@@ -315,8 +315,7 @@ module _ (commit : Bool) (D L : Type 0) (t n : ℕ) (x : XidName) (T : Tables) (
 -- ---- from the Prepare on
 
 undecided_yet : (o : Option HeuristicDecision) (s : Option State) → [] ≡ fates_when o → s ≡ Some (state_when o) → s ≡ Some Prepared
-undecided_yet None s e state = state
-undecided_yet (Some d) s e state = cc
+undecided_yet o s e state = grind arith
 
 module _ (law : Tabled) (commit : Bool) (D L : Type 0) (t n : ℕ) (x : XidName) (T : Tables) (H : History) (opening : IsOpening T) (before after : History)
     (place : H ≡ before ++ request_of t n (Prepare x) ∷ after)

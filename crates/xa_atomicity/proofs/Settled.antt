@@ -113,9 +113,7 @@ module _ (law : Tabled) (s : Settling) (settled : IsSettled s) (t m : ℕ) (T : 
 -- of a branch that didn't vote against a test fails that fails where it voted yes, and where it only read
 unless_against : (test : Ending → Bool) (commit : Bool) (vote : Code) (second : Option Code) → test ReadOnly ≡ false
     → (is_yes vote ≡ true → test (ending_of commit vote second) ≡ false) → is_no vote ≡ false → test (ending_of commit vote second) ≡ false
-unless_against test commit Voted second reads fails n = fails refl
-unless_against test commit RdOnly second reads fails n = reads
-unless_against test commit vote second reads fails n = cc
+unless_against test commit vote second reads fails n = grind arith
 
 -- what is shown of each branch, of which C is known, follows for each
 pub outcome_all : (C : Branch → Type 0) (P Q : Branch → Code → Ending → Type 0) → ((b : Branch) (v : Code) (e : Ending) → C b → P b v e → Q b v e)
