@@ -1,12 +1,12 @@
 -- The law: a branch whose work one thread did holds of each account what that thread added to it.
 use Rattle.xa_base.proofs.{arith, ◌≡◌, ◌≢◌, ℕ, ◌+◌, ◌==◌, ℤ, pos, ◌+ℤ◌, true, false, cond, if◌then◌else◌, Option, None, Some, is_some, unwrap_or, List, [], ◌∷◌}
 use Rattle.xa_base.proofs.{◌++◌, refl, sym, ap, ◌∙◌, option_map, All, eqb-true, eqb-false, get-insert, All-nil, All-cons, All-head, All-tail, All-append}
-use Rattle.xa_base.proofs.{All-weaker, +ℤ_idl as none_plus, +ℤ_idr as plus_none, at_false}
+use Rattle.xa_base.proofs.{All-weaker, is_missing, +ℤ_idl as none_plus, +ℤ_idr as plus_none, at_false}
 use Rattle.std.specs.FinMap as map
 use Rattle.xa_words.specs.{XidName, xid_eq, key_eq, Decides-xid_eq, Decides-key_eq, Done, RdOnly, Op, Start, Add, End, Prepare, Fresh, Success, Request, Code}
-use Rattle.xa_tables.specs.{Association, Associated, State, association_of, exists, is_S3, is_prepared, is_association_with, is_associated, branch_in}
-use Rattle.xa_tables.specs.{branch_of, state_of, sum_of, Answer, next, association, added, EndsNowhere, coded, tables_after, fate_of, ending, IsOpening, names}
-use Rattle.xa_tables.specs.{held_by, request, LeavesAtWork, DoesWork, Tables, History}
+use Rattle.xa_tables.specs.{Association, Associated, association_of, exists, is_S3, is_prepared, is_association_with, is_associated, branch_in, branch_of}
+use Rattle.xa_tables.specs.{state_of, sum_of, Answer, next, association, added, EndsNowhere, coded, tables_after, fate_of, ending, IsOpening, names, held_by}
+use Rattle.xa_tables.specs.{request, LeavesAtWork, DoesWork, Tables, History}
 use Rattle.xa_tables.proofs.AccountLemmas.{touch_cmp_total, touch_self}
 use Rattle.xa_tables.proofs.WorthLaw.{added_law, not_ended, reason_not_done as not_done}
 use Rattle.xa_tables.proofs.Effects.{effect_of, Moves, Still, Ended, Added, moves_of, quiet_named}
@@ -96,10 +96,6 @@ added_alone t x k d T own none = search (arith, not_done, put_alone)
 
 -- ---- the work
 
-absent_unprepared : (o : Option State) → is_some o ≡ false → is_S3 o ≡ false
-absent_unprepared None e = refl
-absent_unprepared (Some s) e = cc
-
 pub work_held : (t n : ℕ) (x : XidName) (k : List ℕ) (d : ℤ) (h : History) (T : Tables) → DoesWork t n x k d T h → IsOpening T → (j : List ℕ) (v : ℕ)
     → held_by ((j, v) ∷ []) x (tables_after h T) ≡ (if key_eq j k then d else pos 0)
 work_held t n x k d h T w opened j v =
@@ -112,7 +108,7 @@ work_held t n x k d h T w opened j v =
     let first = unnamed_on w.before x T (opening_free x T opened) w.unnamed in
     let only1 : OnlyOne t x T1 = λ u apart. nobody_is x T1 first.apart u in
     let begins = begun_with t x T1 w.starts in
-    let unprepared : is_prepared T x ≡ false = absent_unprepared (state_of T x) (ap is_some (sym first.state) ∙ begins.absent) in
+    let unprepared : is_prepared T x ≡ false = ap is_S3 (is_missing (state_of T x) (ap is_some (sym first.state) ∙ begins.absent)) in
     let quiet : ending (fate_of x (Start x Fresh) (next t (Start x Fresh) T1).1) ≡ None = search (arith, quiet_named) in
     let started : SameSums x T1 T2 = leaves_sums x T1 (moves_of t (Start x Fresh) T1) quiet (λ l e is. cc) in
     let begun = left_at_work t x w.begun T2 (own_request t x (Start x Fresh) T1 only1) w.at_work in

@@ -30,6 +30,7 @@ use xa_atomicity::tables_keep_to_their_laws;
 /// A branch of a commit that voted to commit, in its settled opening: its Prepare stands in its manager's history with
 /// XA_OK, and from then on it is only told its outcome, if nobody else names it after that, nothing committed it
 /// before, and no manager decides it.
+#[tactic(auto, using(crate::proofs::Legs::voted_in_call))]
 pub fn branches_of_a_commit_vote()
     ensures { (s : Settling) (k : CutCall) (b : Branch) (T : Tables) → IsSettled s → IsUseIn s (cuts k)
         → Contains k.branches b → VotedToCommit k s b → AskedAreLeft k s → first_of s b.m ≡ Some T
@@ -41,6 +42,7 @@ pub fn branches_of_a_commit_vote()
 
 /// Where nothing but resolves names a transaction in an opening, its branches are only told their outcome there; and a
 /// branch is not committed there that no resolve has a record of.
+#[tactic(auto, using(crate::proofs::Legs::resolves_tell, crate::proofs::Legs::resolves_commit_nothing))]
 pub fn resolves_only_tell_outcomes()
     ensures told { (m : ℕ) (x : XidName) (o : Opening) → IsUpTo MOST_MANAGERS m → IsKept o
         → OnlyResolves (tran_of x) o → OnlyTold x (history o.settled m) }
@@ -61,6 +63,7 @@ pub fn branches_that_are_not_told_to_commit_are_not_committed()
 
 /// Where the log has the record of a transaction, all of its branches were asked to prepare, and each voted to commit
 /// or had changed nothing.
+#[tactic(auto, using(crate::proofs::Legs::recorded_law))]
 pub fn recorded_branches_agreed_or_read()
     ensures { (s : Settling) (k : CutCall) (t : TranName) → IsUseIn s (cuts k) → IsTranOf k.branches t
         → is_recorded k.later t ≡ true → All (AgreedOrRead k s) k.branches }

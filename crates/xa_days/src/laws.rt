@@ -13,6 +13,7 @@ ghost use Rattle.xa_days.specs.Days.{WorthIsOfBranches, WorthIsRecorded, IsDay, 
 
 /// A branch that votes to commit moves what it held as it was asked, if a Commit ends it, in its own opening or in a
 /// later one, and else nothing. So does one that an opening finds prepared.
+#[tactic(auto, using(crate::proofs::Course::voted_law, crate::proofs::Course::left_law))]
 pub fn voted_branches_move_what_they_held()
     ensures voted { (accounts : List (List ℕ × ℕ)) (x : XidName) (f : Fate) (h : History) (later : List History)
         (T : Tables) (votes : Votes x h T) → IsOpening T → All (OnlyTold x) later
@@ -24,6 +25,7 @@ pub fn voted_branches_move_what_they_held()
 
 /// No manager has decided such a branch by itself; and once it has ended in the opening in which it voted, that stays
 /// its fate.
+#[tactic(auto, using(crate::proofs::Course::undecided_law, crate::proofs::Course::ended_law))]
 pub fn voted_branches_end_as_they_were_told()
     ensures undecided { (x : XidName) (f : Fate) (h : History) (later : List History) (T : Tables) → Votes x h T
         → IsOpening T → All (OnlyTold x) later → is_undecided (fate_left x f (h ∷ later) T) ≡ true }
@@ -33,6 +35,7 @@ pub fn voted_branches_end_as_they_were_told()
 {}
 
 /// A branch that nothing commits moves nothing.
+#[tactic(auto, using(crate::proofs::Course::still_over))]
 pub fn uncommitted_branches_move_nothing()
     ensures { (accounts : List (List ℕ × ℕ)) (x : XidName) (hs : List History) (T : Tables)
         → All (CommitsNowhere x) hs → moved_over accounts (is_for x) hs T ≡ pos 0 }
@@ -40,6 +43,7 @@ pub fn uncommitted_branches_move_nothing()
 
 /// Over openings one after another the worth of any accounts that are declared moves by what the Commits of each branch
 /// have moved, where they are all of these branches.
+#[tactic(auto, using(crate::proofs::InARow::branches_law))]
 pub fn branches_move_the_worth_over_openings()
     ensures { (accounts : List (List ℕ × ℕ)) (xs : List XidName) (hs : List History) (T : Tables)
         → DeclareEach accounts T → IsDistinct xid_eq xs → All (CommitsAmong xs) hs
@@ -48,6 +52,7 @@ pub fn branches_move_the_worth_over_openings()
 
 /// What accounts are worth after a day, and after the openings that follow it, is what they were worth before and, for
 /// each branch whose transaction was recorded, what it held as it voted.
+#[tactic(auto, using(crate::proofs::InARow::day_law))]
 pub fn recorded_branches_are_what_a_day_moves()
     ensures { (accounts : List (List ℕ × ℕ)) (T : Tables) (h : History) (later : List History) (legs : List Leg)
         → IsOpening T → DeclareEach accounts T → IsDay accounts T h later legs

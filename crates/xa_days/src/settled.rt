@@ -24,6 +24,7 @@ use xa_atomicity::{presumed_transactions_have_one_outcome, tables_keep_to_their_
 /// its first and, for each branch whose transaction was recorded, what it held as it voted. That each ended by its
 /// record is what `presumed_transactions_have_one_outcome` says of the branches of a commit that a resolve follows.
 /// Where the first of them is the first of all, they were worth what was declared.
+#[tactic(auto, using(crate::proofs::InARow::first_law, crate::proofs::InARow::settled_law))]
 pub fn settled_days_are_worth_what_was_recorded()
     ensures any { (accounts : List (List ℕ × ℕ)) (m : ℕ) (T : Tables) (o : Opening) (later : List Opening)
         (legs : List Leg) → All (λ p. IsSettled p.settled) (o ∷ later) → AreInARow o later

@@ -1,4 +1,4 @@
-use Rattle.xa_days.proofs.Calls.{unsent_law, unrecorded_nowhere}
+use Rattle.xa_days.proofs.Legs.{unsent_law, unrecorded_nowhere}
 use Rattle.xa_days.proofs.called.branches_that_are_not_told_to_commit_are_not_committed.Goals as goal
 
 pub returns-clause-unsent : goal.returns-clause-unsent
