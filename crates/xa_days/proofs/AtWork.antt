@@ -117,9 +117,6 @@ work_held t n x k d h T w opened j v =
     let ending_work = left_at_work t x w.added T4 (own_request t x (Add k d) T3 begun.only) w.ending in
     let ends : SameSums x T5 T6 = leaves_sums x T5 (moves_of t (End x Success) T5) refl (λ l e is. cc) in
     let done = left_at_work t x w.after T6 (own_request t x (End x Success) T5 ending_work.only) w.ended in
-    let rest3 : History = request t (n + 2) (End x Success) ∷ w.after in
-    let rest2 : History = request t (n + 1) (Add k d) ∷ (w.added ++ rest3) in
-    let rest1 : History = request t n (Start x Fresh) ∷ (w.begun ++ rest2) in
     let last : tables_after h T ≡ tables_after w.after T6 = search (arith, tables_after-append, w.before, w.begun, w.added) in
     search (arith, plus_none, unwrap_or, added_alone, done.sums, ending_work.sums, w.adds)
 
@@ -146,8 +143,6 @@ work_never_reads t n u x k d h T w opened e =
     let begun = left_at_work t x w.begun T2 (own_request t x (Start x Fresh) T1 only1) w.at_work in
     let ends : Request = request t (n + 2) (End x Success) in
     let rest3 : History = ends ∷ w.after in
-    let rest2 : History = request t (n + 1) (Add k d) ∷ (w.added ++ rest3) in
-    let rest1 : History = request t n (Start x Fresh) ∷ (w.begun ++ rest2) in
     let last : tables_after h T ≡ tables_after (w.added ++ rest3) T4 = search (arith, tables_after-append, w.before, w.begun) in
     let P : Request → Type 0 = λ q. (c : Code) → ending (fate_of x q.op c) ≡ None in
     let unnamed : (q : Request) → names x q.op ≡ false → P q = λ q m c. ap ending (unnamed_fate x q.op c m) in

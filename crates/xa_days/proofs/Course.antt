@@ -73,10 +73,7 @@ module _ (accounts : Accounts) (t : ℕ) (x : XidName) (T : Tables) (gone : IsGo
   gone_told : (op : Op) → names x op ≡ true → tells_outcome op ≡ true → Stay op (next t op T)
   unfolding next
   gone_told (Commit y true) n o = cc
-  gone_told (Commit y false) n o = search (arith, Decides-xid_eq, unknown, refused, named_none)
-  gone_told (Rollback y) n o = search (arith, Decides-xid_eq, unknown, refused, named_none)
-  gone_told (Forget y) n o = search (arith, Decides-xid_eq, unknown, refused)
-  gone_told op n o = cc
+  gone_told op n o = search (arith, Decides-xid_eq, unknown, refused, named_none)
 
   gone_step : (op : Op) → (names x op ≡ true → tells_outcome op ≡ true) → Stay op (next t op T)
   gone_step op told =

@@ -12,7 +12,7 @@ use Rattle.xa_base.proofs.{false_from_ne_true, not, list_any_none, ◌≡◌, �
 use Rattle.xa_base.proofs.{ap, subst, arith, ◌&&◌, All, Contains, All-nil, All-cons, All-contains, all_after, and_parts, not-true, if◌then◌else◌, is_some, suc}
 use Rattle.xa_base.proofs.{Option, ◌∙◌, All-head, All-tail, pos, zero, ◌++◌, same_Some as some_same}
 use Rattle.xa_base.specs.{MOST_MANAGERS, IsUpTo}
-use Rattle.xa_words.specs.{XidName, Decides-xid_eq, TranName, tran_of, Done, Op, Prepare, Commit, Rollback, Forget, Request, Code, RdOnly}
+use Rattle.xa_words.specs.{XidName, Decides-xid_eq, TranName, tran_of, Done, Op, Prepare, Commit, Forget, Request, Code, RdOnly}
 use Rattle.xa_tables.specs.{Tables, History, names, is_heur, tables_after, held_by}
 use Rattle.xa_desk.specs.{LedgerView, ledger, HasGrown, learnt_shut}
 use Rattle.xa_switch.specs.{IsOpenedWith, first_of, history as history_of, ledgers_of, IsSettled, Settling}
@@ -33,9 +33,7 @@ use Rattle.xa_tables.proofs.WorthLaw.{read_law}
 use Rattle.xa_atomicity.proofs.Presumed.{use_there}
 use Rattle.xa_days.specs.Settled.{voted, unasked}
 
--- ---- what a commit and a resolve sent, as the histories have it
-
--- ---- resolves
+-- ---- what a commit and a resolve sent, as the histories have it: resolves
 
 told_either : (commit : Bool) (x : XidName) → tells_outcome (outcome_op commit x) ≡ true
 told_either true x = refl
@@ -90,9 +88,7 @@ module _ (bs : List Branch) (old new : List LedgerView) where
 
 leads_tells : (commit : Bool) (op : Op) → Leads commit (Unit {0}) op → tells_outcome op ≡ true
 leads_tells commit (Commit y one_phase) z = ap not z.0
-leads_tells commit (Rollback y) z = refl
-leads_tells commit (Forget y) z = refl
-leads_tells commit op z = absurd z
+leads_tells commit op z = search arith
 
 -- the manager of one of its branches has a number
 positive_at : (s : Settling) (k : CutCall) (b : Branch) → IsUseIn s (cuts k) → Contains k.branches b → 1 ≤ b.m
@@ -159,9 +155,8 @@ unrecorded_nowhere s k b t settled use_ there of_tran off within =
 
 -- it is one of two
 vote_so : (v : Code) → is_no v ≡ false → v ≡ (if is_yes v then Done else RdOnly)
-vote_so Done for = refl
 vote_so RdOnly for = refl
-vote_so v for = cc
+vote_so v for = search arith
 
 -- ---- what was sent after the vote of a branch that only read
 
@@ -184,29 +179,27 @@ module _ (s : Settling) (k : CutCall) (use_ : IsUseIn s (cuts k)) (b : Branch) (
   abbrev a : LedgerView
   a = ledger k.desk.ledgers b.m
 
-  abbrev a' : LedgerView
-  a' = ledger k.new b.m
-
   -- its vote was collected, as the settled opening has it
   record Collected (v : Code) : Type 0 where
     asked : WasAsked k b
     heard : Contains (ledger (ledgers_of s k.thread) b.m).collected (length a.sent, v)
     open_ : learnt_shut a ≡ false
 
-  collected_so : (P : Op → Type 0) (v : Code) → is_no v ≡ false → HasVoted P b v a a' → Collected v
+  collected_so : (P : Op → Type 0) (v : Code) → is_no v ≡ false → HasVoted P b v a (ledger k.new b.m) → Collected v
   collected_so P v for h =
       let open_ : learnt_shut a ≡ false = false_from_ne_true (learnt_shut a) (λ shut. both_ways (is_no v) for (ap is_no (h.prepared shut))) in
-      let grown : HasGrown a' (ledger (ledgers_of s k.thread) b.m) = use_.grown.each b.m positive in
+      let grown : HasGrown (ledger k.new b.m) (ledger (ledgers_of s k.thread) b.m) = use_.grown.each b.m positive in
       search (arith, prepare_there, vote_there)
 
-  none_sent : (v : Code) → learnt_shut a ≡ false → HasVoted (NoCommit b.xid) b v a a' → HasSentNone (is_commit_of b.xid) a a'
+  none_sent : (v : Code) → learnt_shut a ≡ false → HasVoted (NoCommit b.xid) b v a (ledger k.new b.m) → HasSentNone (is_commit_of b.xid) a (ledger k.new b.m)
   none_sent v open_ h = record {
     more = Prepare b.xid ∷ h.rest.more;
-    sent = prepare_sent (NoCommit b.xid) b v a a' open_ h;
+    sent = prepare_sent (NoCommit b.xid) b v a (ledger k.new b.m) open_ h;
     none = list_any_none (is_commit_of b.xid) (Prepare b.xid ∷ h.rest.more) (All-cons (NoCommit b.xid) (Prepare b.xid) h.rest.more (and_right _ false refl) h.rest.all);
   }
 
-  by_vote : (v : Code) → is_no v ≡ false → HasVoted Any b v a a' → (v ≡ RdOnly → HasVoted (NoCommit b.xid) b v a a') → AgreedOrRead k s b
+  by_vote : (v : Code) → is_no v ≡ false → HasVoted Any b v a (ledger k.new b.m) → (v ≡ RdOnly → HasVoted (NoCommit b.xid) b v a (ledger k.new b.m))
+      → AgreedOrRead k s b
   by_vote v for h quiet =
       let z = collected_so Any v for h in
       elim (is_yes v) as (λ c. is_yes v ≡ c → AgreedOrRead k s b) [
@@ -223,19 +216,16 @@ module _ (s : Settling) (k : CutCall) (use_ : IsUseIn s (cuts k)) (b : Branch) (
 -- ---- all of them
 
 module _ (s : Settling) (k : CutCall) (use_ : IsUseIn s (cuts k)) (t : TranName) (of_tran : IsTranOf k.branches t) (on : is_recorded k.later t ≡ true) where
-  made : IsCut k.branches k.desk k.new k.log k.later k.endings
-  made = use_.made
+  there : is_recorded k.later use_.made.may.tran ≡ true
+  there = ap (is_recorded k.later) (one_tran k.branches use_.made.may.tran t use_.made.may.some use_.made.may.one of_tran) ∙ on
 
-  there : is_recorded k.later made.may.tran ≡ true
-  there = ap (is_recorded k.later) (one_tran k.branches made.may.tran t made.may.some made.may.one of_tran) ∙ on
-
-  for_so : (votes : List Code) (logged : Bool) → Logs made.may.tran (yes_of k.branches votes) votes logged k.log k.later → (b : Branch) (v : Code)
+  for_so : (votes : List Code) (logged : Bool) → Logs use_.made.may.tran (yes_of k.branches votes) votes logged k.log k.later → (b : Branch) (v : Code)
       → IsVoteOf k.branches votes b v → is_no v ≡ false
-  for_so votes logged logs b v vote = search (arith, not-true, and_parts, decided_so, made, there, All-contains, none_all)
+  for_so votes logged logs b v vote = search (arith, not-true, and_parts, decided_so, use_.made, there, All-contains, none_all)
 
-  at_branch : (b : Branch) → 1 ≤ b.m → CameAt made.may.tran k.branches k.desk.ledgers k.new k.log k.later k.endings b → AgreedOrRead k s b
+  at_branch : (b : Branch) → 1 ≤ b.m → CameAt use_.made.may.tran k.branches k.desk.ledgers k.new k.log k.later k.endings b → AgreedOrRead k s b
   at_branch b positive (at_asking same h) =
-      let z : false ≡ true = sym (ap (λ (l : LogState). is_some (record_of l made.may.tran)) same ∙ ap is_some made.may.absent) ∙ there in cc
+      let z : false ≡ true = sym (ap (λ (l : LogState). is_some (record_of l use_.made.may.tran)) same ∙ ap is_some use_.made.may.absent) ∙ there in cc
   at_branch b positive (at_telling votes logged logs v vote h) =
       let c : Bool = decision_of votes logged in
       by_vote s k use_ b positive v (for_so votes logged logs b v vote)
@@ -248,7 +238,8 @@ module _ (s : Settling) (k : CutCall) (use_ : IsUseIn s (cuts k)) (t : TranName)
       (λ is. ended_voted (NoCommit b.xid) c b v (ledger k.desk.ledgers b.m) (ledger k.new b.m) (unnamed_none b.xid) (subst (λ w. IsAskedFor (NoCommit b.xid) (second_op c b.xid w)) (sym is) (untold c b.xid)) z (forgets_none b.xid z) h)
 
   pub recorded_law : All (AgreedOrRead k s) k.branches
-  recorded_law j d lt = at_branch (get_or k.branches j d) (positive_each 0 k.branches made.may.rising j d lt) (each_came made.may.rising made.far j d lt)
+  recorded_law j d lt =
+      at_branch (get_or k.branches j d) (positive_each 0 k.branches use_.made.may.rising j d lt) (each_came use_.made.may.rising use_.made.far j d lt)
 
 -- ---- the branches of a commit come out by the log
 
@@ -320,7 +311,7 @@ module _ (law : Tabled) (accounts : List (List ℕ × ℕ)) (o : Opening) (later
 
 -- ---- by what resolves it
 
-tran_each : (bs : List Branch) (t : TranName) → IsTranOf bs t → All (λ b. tran_of b.xid ≡ t) bs
+pub tran_each : (bs : List Branch) (t : TranName) → IsTranOf bs t → All (λ b. tran_of b.xid ≡ t) bs
 tran_each [] t of_tran k d lt = absurd (omega arith)
 tran_each (b ∷ bs) t of_tran zero d lt = of_tran.0
 tran_each (b ∷ bs) t of_tran (suc k) d lt = tran_each bs t of_tran.1 k d (omega arith)
