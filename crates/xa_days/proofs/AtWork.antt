@@ -94,8 +94,7 @@ added_alone : (t : ℕ) (x : XidName) (k : List ℕ) (d : ℤ) (T : Tables) → 
 unfolding next
 added_alone t x k d T own none = search (arith, not_done, put_alone)
 
--- ---- the work
-
+-- the work
 pub work_held : (t n : ℕ) (x : XidName) (k : List ℕ) (d : ℤ) (h : History) (T : Tables) → DoesWork t n x k d T h → IsOpening T → (j : List ℕ) (v : ℕ)
     → held_by ((j, v) ∷ []) x (tables_after h T) ≡ (if key_eq j k then d else pos 0)
 work_held t n x k d h T w opened j v =

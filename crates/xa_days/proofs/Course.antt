@@ -5,7 +5,7 @@ use Rattle.xa_base.proofs.{+ℤ_idr as plus_none, total_same, by_if, at_true, at
 use Rattle.xa_atomicity.proofs.Sites.{fates_both, last_both}
 use Rattle.xa_atomicity.proofs.Values.{moved_both, moved_without, unmoving}
 use Rattle.std.specs.FinMap as finmap
-use Rattle.xa_words.specs.{XidName, xid_eq, Decides-xid_eq, Done, Op, Prepare, Commit, Rollback, Forget, Request, Code}
+use Rattle.xa_words.specs.{XidName, xid_eq, Decides-xid_eq, Done, Op, Prepare, Commit, Rollback, Request, Code}
 use Rattle.xa_tables.specs.declared.state.State.TheVariants.{Prepared as S3}
 use Rattle.xa_tables.specs.{Tables, state_of, exists, is_S3, is_S5, is_left_in, is_somebody_associated, Answer, next, Fate, Live, InDoubt, Committed}
 use Rattle.xa_tables.specs.{RolledBack, fate, fate_in, fates_in, fate_of, coded, ending_by, is_done, is_integrity, is_rolled_back, is_in_doubt, is_live}
@@ -162,7 +162,6 @@ told_fate x (Commit y one_phase) c f o e =
 told_fate x (Rollback y) c f o e =
     let P : Option Fate → Type 0 = λ g. g ≡ Some f → is_outcome f ≡ true in
     by_if P (xid_eq y x) _ _ (λ _. by_if P (is_done c || is_rolled_back c) _ _ (λ _ e. cc) (λ _ e. cc)) (λ _ e. cc) e
-told_fate x (Forget y) c f o e = cc
 told_fate x op c f o e = cc
 
 outcome_ends : (f : Fate) → is_outcome f ≡ true → is_live f ≡ false

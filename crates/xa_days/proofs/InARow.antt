@@ -1,3 +1,4 @@
+-- The laws of a day: the branches' shares of what is moved, and what accounts are worth after it.
 -- The laws of a day over settled openings: their histories lead to their tables, and to what became of each branch.
 use Rattle.xa_tables.specs.declared.state.HeuristicDecision.TheVariants as decision
 use Rattle.xa_atomicity.proofs.Moves.{unmoving}
@@ -123,8 +124,6 @@ day_law accounts T h later legs o known day =
     (total_of (λ x. moved_over accounts (is_for x) (h ∷ later) T) legs
     ∙ total_alike (λ g. moved_over accounts (is_for g.xid) (h ∷ later) T) counted legs (λ k d lt. counts accounts T h later (get_or legs k d) o (day.each k d lt)))
 
--- ---- the laws of a day over settled openings: their histories lead to their tables, and to what became of each branch
-
 abbrev AllSettled : List Opening → Type 0
 AllSettled os = All (λ o. IsSettled o.settled) os
 
@@ -231,8 +230,7 @@ first_law accounts m o later legs sound settled row first day =
     settled_law accounts m (opening accounts) o later legs settled row first (opens_with accounts) day
     ∙ ap (λ v. v +ℤ total counted legs) (worth_law accounts [] sound ∙ plus_none _)
 
--- ---- all managers
-
+-- all managers
 pub conserved_law : (ms : List ℕ) (accounts : ℕ → List (List ℕ × ℕ)) (first : ℕ → Tables) (o : Opening) (later : List Opening) (legs : ℕ → List Leg)
     (transfers : List CutCall) (share : CutCall → ℕ → ℤ)
     → All (λ m. SettledWorthIsRecorded (accounts m) m (first m) o later (legs m)) ms

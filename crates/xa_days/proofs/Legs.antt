@@ -173,8 +173,7 @@ untold false x = tt
 forgets_none : (x : XidName) (s : Option Code) → IsAskedFor (NoCommit x) (third_op x s)
 forgets_none x s = third_so (NoCommit x) x s (λ _. and_right (names x (Forget x)) false refl)
 
--- ---- one branch
-
+-- one branch
 module _ (s : Settling) (k : CutCall) (use_ : IsUseIn s (cuts k)) (b : Branch) (positive : 1 ≤ b.m) where
   abbrev a : LedgerView
   a = ledger k.desk.ledgers b.m
@@ -213,8 +212,7 @@ module _ (s : Settling) (k : CutCall) (use_ : IsUseIn s (cuts k)) (b : Branch) (
             })
       ] refl
 
--- ---- all of them
-
+-- all of them
 module _ (s : Settling) (k : CutCall) (use_ : IsUseIn s (cuts k)) (t : TranName) (of_tran : IsTranOf k.branches t) (on : is_recorded k.later t ≡ true) where
   there : is_recorded k.later use_.made.may.tran ≡ true
   there = ap (is_recorded k.later) (one_tran k.branches use_.made.may.tran t use_.made.may.some use_.made.may.one of_tran) ∙ on
