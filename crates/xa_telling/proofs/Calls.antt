@@ -20,7 +20,7 @@ use Rattle.xa_transcript.specs.declared.answer.Answer.TheVariants as answer
 use Rattle.xa_session.specs.{HasListed, completed, Answers}
 use Rattle.xa_telling.specs.{Wanted, wanted, wanted_by, wanted_in, refusals, IsRefusal}
 use Rattle.xa_telling.specs.Wants.Wanted.{code_of, handle_for, completion, listing}
-use Rattle.xa_telling.proofs.Ledgers.{kept_at, ledgers_at, Stays, stays_same, HasAsked, has_asked, HasTaken, has_taken, has_redeemed}
+use Rattle.xa_telling.proofs.Entries.{kept_at, ledgers_at, Stays, stays_same, HasAsked, has_asked, HasTaken, has_taken, has_redeemed}
 
 -- What a call does to its desk, if it is no xa_recover.
 pub data Does (q : ScriptCalled) (a : Answer) (old new : DeskView) : Type 0 where
@@ -154,15 +154,11 @@ completes_do q old new a h h' r' n collected e (left why err among bad stays) te
     refused why (subst (λ r. IsRefusal r why) e among)
     (told ∙ ap (λ z. completed h' r' z) t.1.1 ∙ ap (λ b. if b then answer.Completed h' r' else shown (number_of why)) bad) stays
 
--- ---- a call of a line
-
+-- a call of a line
 pub answers_do : (x : ScriptCalling) (q : ScriptCalled) → wanted_by x q.flags ≡ wanted_in q → (old new : DeskView) (z z' : ScanView) (a : Answer)
     → Answers x q old z new z' a → CallDoes q a old z new z'
-answers_do (calling.Xa c x) q e old new z z' a (is, still) = plain still (calls_do q old new a is.answer _ is.calls e is.shown)
-answers_do (calling.Heur x commits) q e old new z z' a (is, still) = plain still (calls_do q old new a is.answer _ is.calls e is.shown)
-answers_do (calling.Add k d) q e old new z z' a (is, still) = plain still (calls_do q old new a is.answer _ is.calls e is.shown)
-answers_do calling.Shut q e old new z z' a (is, still) = plain still (calls_do q old new a is.answer _ is.calls e is.shown)
 answers_do (calling.Recover n) q e old new z z' a is = lists n (sym e) is
 answers_do (calling.Complete h) q e old new z z' a (is, still) =
     plain still (completes_do q old new a h is.handle is.retval is.answer is.completes.collected e
     (by_comes (has_only (bits_of call.Complete) q.flags && go_together call.Complete q.flags) (mode_of q.flags) old (number_in h) q.manager new is.completes.collected is.completes.completes) is.completes.tells is.shown)
+answers_do x q e old new z z' a (is, still) = plain still (calls_do q old new a is.answer _ is.calls e is.shown)

@@ -1,13 +1,9 @@
 pub mod Tasks
-pub mod Ledgers
 pub mod Calls
 pub mod Entries
-pub mod Deaths
 pub mod Branches
-pub mod Flight
 pub mod Mapped
 pub mod Lines
 pub mod Opened
-pub mod Left
 pub mod Told
 pub mod Again

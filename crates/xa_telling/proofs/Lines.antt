@@ -33,13 +33,10 @@ use Rattle.xa_telling.specs.Commits.CommitTakes.{refused as takes_none, decided 
 use Rattle.xa_telling.specs.Parts.Asked.{answered as asked_answered, refused as asked_refused}
 use Rattle.xa_telling.specs.Resolves.ResolveTakes.{refused as ends_none, resolved as ends_left}
 use Rattle.xa_telling.proofs.Branches.{last, own, fits, nobody, same_entries, rooms, decided_so, voted_so, died_so, others_so, all_sound, resolved_so}
-use Rattle.xa_telling.proofs.Branches.{resolved_sound}
+use Rattle.xa_telling.proofs.Branches.{resolved_sound, at_each, all_in_flight}
 use Rattle.xa_telling.proofs.Calls.{CallDoes, plain, lists, Does, answered, kept, refused as call_refused, completes, answers_do, is_refusal}
-use Rattle.xa_telling.proofs.Deaths.{at_each}
-use Rattle.xa_telling.proofs.Entries.{StandsAt, collected_there, enters, enters_coded, fails, many_entries, many_upto, upto}
-use Rattle.xa_telling.proofs.Flight.{all_in_flight}
-use Rattle.xa_telling.proofs.Ledgers.{AllSound, Handles, HasAsked, has_asked, asking_grows, asking_sound, collecting_sends_none, collecting_sound}
-use Rattle.xa_telling.proofs.Ledgers.{sending_sound}
+use Rattle.xa_telling.proofs.Entries.{StandsAt, collected_there, enters, enters_coded, fails, many_entries, many_upto, upto, AllSound, Handles, HasAsked}
+use Rattle.xa_telling.proofs.Entries.{has_asked, asking_grows, asking_sound, collecting_sends_none, collecting_sound, sending_sound}
 use Rattle.xa_telling.proofs.Mapped.{by_mapped}
 use Rattle.xa_telling.proofs.Tasks.{AreOf}
 
@@ -83,8 +80,7 @@ until_known : (at : Death) (tran : TranName) (set : List Bool) (votes : List Cod
     → AppendsUntil AppendsBefore at tran set votes logged old new → new.is_lost ≡ old.is_lost
 until_known at tran set votes logged old new is = search (arith, appended_known, is.decided, is.undecided)
 
--- ---- what a line does to its thread's part
-
+-- what a line does to its thread's part
 module _ (settled : Settling) (is : IsSettled settled) (t : ℕ) where
   abbrev ended : List LedgerView
   ended = last settled is t
@@ -198,8 +194,8 @@ module _ (settled : Settling) (is : IsSettled settled) (t : ℕ) where
     listed_takes n listed =
         let m = q.manager in
         let mapped =
-        by_mapped (Reaches m) (Asked t m) (part_at old.log old.scan) GoesWell (λ d e x c asked well. request_takes m d (Listed x) e c asked well) (is_known old.desk.ledgers m) (check_flags call.Recover q.flags) m
-        old.desk old.scan listed.before new.desk new.scan listed.after listed.recovers.result listed.recovers.recovers ((λ s. s), later) in (
+        by_mapped (Reaches m) (Asked t m) (part_at old.log old.scan) GoesWell (λ d e x c asked well. request_takes m d (Listed x) e c asked well) old.desk old.scan listed.before
+        new.desk new.scan listed.after (is_known old.desk.ledgers m) (check_flags call.Recover q.flags) m listed.recovers.result listed.recovers.recovers ((λ s. s), later) in (
           record {
             there = is_known old.desk.ledgers m;
             asked = part_at old.log old.scan new.desk;
@@ -218,8 +214,7 @@ module _ (settled : Settling) (is : IsSettled settled) (t : ℕ) where
     call_takes_so (plain still does) = does_takes still does
     call_takes_so (lists n asks listed) = let l = listed_takes n listed in (CallTakes.lists n asks l.0, l.1)
 
-  -- ---- a commit, and a resolve
-
+  -- a commit, and a resolve
   module _ (a : Answer) (old new : Session) (sound : AllSound old.desk.ledgers) (was : HaveGrown old.desk.ledgers ended)
       (later : HaveGrown new.desk.ledgers ended) where
     abbrev at : List LedgerView

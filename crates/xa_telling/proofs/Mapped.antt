@@ -2,7 +2,7 @@
 use Rattle.xa_base.proofs.{arith, ℕ, Some, None, Bool, true, false, Option, Result, Ok, Err, List, length}
 use Rattle.xa_words.specs.{XidName, Done, Nota, Mode, Listed, Code}
 use Rattle.xa_calls.specs.Scans.{Asking, Scans}
-use Rattle.xa_calls.specs.{Looks, begun, finds, passes, filled, ended, stopped, start_of, IsInVain, RecoversFrom, RecoversAt, RecoversBy, Recovers}
+use Rattle.xa_calls.specs.{Looks, begun, finds, passes, filled, ended, stopped, start_of, IsInVain, RecoversFrom, RecoversBy, Recovers}
 use Rattle.xa_scan.specs.{ScanView, place_at}
 use Rattle.xa_calls.specs.Scans.Recovers.{unreached, stopped as stopped_at, told}
 
@@ -31,34 +31,30 @@ module _ {D E : Type 0} (A : Asking D) (B : Asking E) (f : D → E) (P : D → T
       let l = looks_mapped room xids old k found d looks s.0 in
       (l.0, stopped k (f d) x why l.1 short there s.1 not_done not_nota)
 
-  recovers_mapped : (m : ℕ) (mode : Mode) (place : ℕ) (old : D) (z : ScanView) (xids : List XidName) (new : D) (z' : ScanView) (xids' : List XidName) (r : Result ℕ Code)
-      → Recovers A m mode place old z xids new z' xids' r → P new → P old × Recovers B m mode place (f old) z xids (f new) z' xids' r
-  recovers_mapped m mode place old z xids new z' xids' r (unreached why asked not_done same unwritten) p =
-      let s = step old new None why asked p in (s.0, unreached why s.1 not_done same unwritten)
-  recovers_mapped m mode place old z xids new z' xids' r (stopped_at mid found why asked scans same writes) p =
-      let l = scans_mapped _ _ mid new found (Err why) scans p in
-      let s = step old mid None Done asked l.0 in
-      (s.0, stopped_at (f mid) found why s.1 l.1 same writes)
-  recovers_mapped m mode place old z xids new z' xids' r (told mid found looked asked scans stands writes) p =
-      let l = scans_mapped _ _ mid new found (Ok looked) scans p in
-      let s = step old mid None Done asked l.0 in
-      (s.0, told (f mid) found looked s.1 l.1 stands writes)
+  module _ (old : D) (z : ScanView) (xids : List XidName) (new : D) (z' : ScanView) (xids' : List XidName) where
+    recovers_mapped : (m : ℕ) (mode : Mode) (place : ℕ) (r : Result ℕ Code) → Recovers A m mode place old z xids new z' xids' r → P new
+        → P old × Recovers B m mode place (f old) z xids (f new) z' xids' r
+    recovers_mapped m mode place r (unreached why asked not_done same unwritten) p =
+        let s = step old new None why asked p in (s.0, unreached why s.1 not_done same unwritten)
+    recovers_mapped m mode place r (stopped_at mid found why asked scans same writes) p =
+        let l = scans_mapped _ _ mid new found (Err why) scans p in
+        let s = step old mid None Done asked l.0 in
+        (s.0, stopped_at (f mid) found why s.1 l.1 same writes)
+    recovers_mapped m mode place r (told mid found looked asked scans stands writes) p =
+        let l = scans_mapped _ _ mid new found (Ok looked) scans p in
+        let s = step old mid None Done asked l.0 in
+        (s.0, told (f mid) found looked s.1 l.1 stands writes)
 
-  in_vain_mapped : (why : Code) (old : D) (z : ScanView) (xids : List XidName) (new : D) (z' : ScanView) (xids' : List XidName) (r : Result ℕ Code)
-      → IsInVain why old z xids new z' xids' r → P new → P old × IsInVain why (f old) z xids (f new) z' xids' r
-  in_vain_mapped why old z xids new z' xids' r is p = search (arith, is.state)
+    in_vain_mapped : (why : Code) (r : Result ℕ Code) → IsInVain why old z xids new z' xids' r → P new → P old × IsInVain why (f old) z xids (f new) z' xids' r
+    in_vain_mapped why r is p = search (arith, is.state)
 
-  from_mapped : (start : Option ℕ) (m : ℕ) (mode : Mode) (old : D) (z : ScanView) (xids : List XidName) (new : D) (z' : ScanView) (xids' : List XidName) (r : Result ℕ Code)
-      → RecoversFrom A start m mode old z xids new z' xids' r → P new → P old × RecoversFrom B start m mode (f old) z xids (f new) z' xids' r
-  from_mapped None m mode old z xids new z' xids' r is p = in_vain_mapped _ old z xids new z' xids' r is p
-  from_mapped (Some place) m mode old z xids new z' xids' r is p = recovers_mapped m mode place old z xids new z' xids' r is p
+    from_mapped : (start : Option ℕ) (m : ℕ) (mode : Mode) (r : Result ℕ Code) → RecoversFrom A start m mode old z xids new z' xids' r → P new
+        → P old × RecoversFrom B start m mode (f old) z xids (f new) z' xids' r
+    from_mapped None m mode r is p = in_vain_mapped _ r is p
+    from_mapped (Some place) m mode r is p = recovers_mapped m mode place r is p
 
-  at_mapped : (there : Bool) (m : ℕ) (mode : Mode) (old : D) (z : ScanView) (xids : List XidName) (new : D) (z' : ScanView) (xids' : List XidName) (r : Result ℕ Code)
-      → RecoversAt A there m mode old z xids new z' xids' r → P new → P old × RecoversAt B there m mode (f old) z xids (f new) z' xids' r
-  at_mapped false m mode old z xids new z' xids' r is p = in_vain_mapped _ old z xids new z' xids' r is p
-  at_mapped true m mode old z xids new z' xids' r is p = from_mapped (start_of mode (place_at z m)) m mode old z xids new z' xids' r is p
-
-  pub by_mapped : (there : Bool) (mode : Result Mode Code) (m : ℕ) (old : D) (z : ScanView) (xids : List XidName) (new : D) (z' : ScanView) (xids' : List XidName) (r : Result ℕ Code)
-      → RecoversBy A there mode m old z xids new z' xids' r → P new → P old × RecoversBy B there mode m (f old) z xids (f new) z' xids' r
-  by_mapped there (Err why) m old z xids new z' xids' r is p = in_vain_mapped why old z xids new z' xids' r is p
-  by_mapped there (Ok mode) m old z xids new z' xids' r is p = at_mapped there m mode old z xids new z' xids' r is p
+    pub by_mapped : (there : Bool) (mode : Result Mode Code) (m : ℕ) (r : Result ℕ Code) → RecoversBy A there mode m old z xids new z' xids' r → P new
+        → P old × RecoversBy B there mode m (f old) z xids (f new) z' xids' r
+    by_mapped there (Err why) m r is p = in_vain_mapped why r is p
+    by_mapped false (Ok mode) m r is p = in_vain_mapped _ r is p
+    by_mapped true (Ok mode) m r is p = from_mapped (start_of mode (place_at z m)) m mode r is p

@@ -1,30 +1,112 @@
+-- What is left outstanding at a desk, by the numbers under which it is kept.
 -- What the threads and the managers of a run tell once they are settled.
-use Rattle.xa_base.proofs.{◌≡◌, ◌≢◌, ℕ, ◌+◌, ◌-◌, ◌<◌, ◌≤◌, ⊎_elim, zero, suc, List, [], length, map, Some, None, option_map, sym, refl, ap, ◌∙◌, subst, arith}
-use Rattle.xa_base.proofs.{Option, inl, inr, false, slice_get, Contains, range_with_len, slice_index_or, nat_cmp, cases_lt, length-map, All-contains, All-nil}
-use Rattle.xa_base.proofs.{slice_get-map, slice_get_within, not_both, got, find_numbered, find_none, was_mapped}
 use Rattle.std.specs.FinMap as finmap
+use Rattle.xa_base.proofs.{◌≡◌, ℕ, ◌+◌, ◌<◌, ◌≤◌, zero, suc, List, [], ◌∷◌, ◌++◌, length, map, Some, None, sym, refl, ap, ◌∙◌, subst, inl, inr, arith}
+use Rattle.xa_base.proofs.{length-append, All, AllPairs, Contains, range_with_len, cases_eq, map-append, All-nil, All-push, Contains-append_left, not_both}
+use Rattle.xa_base.proofs.{pairs_push, range_suc, same_begins, snoc_parts, removed_other, ◌≢◌, ◌-◌, ⊎_elim, option_map, Option, false, slice_get}
+use Rattle.xa_base.proofs.{slice_index_or, nat_cmp, cases_lt, length-map, All-contains, slice_get-map, slice_get_within, got, find_numbered, find_none}
+use Rattle.xa_base.proofs.{was_mapped}
+use Rattle.std.proofs.lemmas.List.Elements.{Contains-push}
+use Rattle.xa_base.specs.{Chain}
+use Rattle.xa_base.specs.Lists.Chain.{none, more}
+use Rattle.xa_words.specs.{Code}
+use Rattle.xa_desk.specs.{Operation, ledger, HaveGrown, DeskView, LedgerView, AllKept, sent_to, EndedView, new_ledgers}
+use Rattle.xa_desk.proofs.Growth.{collecting_grows}
+use Rattle.xa_desk.proofs.Ledgers.{ledger-collected_same, nobody_sent}
+use Rattle.xa_crew.specs.{Telling, EndsNumber, HasServed, EndsDesk}
+use Rattle.xa_crew.specs.Ending.EndsNumber.{kept, free}
+use Rattle.xa_telling.proofs.Entries.{collected_there, Fits as Agrees, StandsAt, agreed_fits, no_entries, HasTaken, collecting_sends_none, has_redeemed}
 use Rattle.std.proofs.lemmas.Option.{slice_get_past, slice_get_cases}
 use Rattle.xa_desk.proofs.Fresh.{fresh_sent, fresh_collected}
-use Rattle.xa_desk.proofs.Ledgers.{nobody_sent}
-use Rattle.xa_desk.specs.{HaveGrown, AllKept, ledger, sent_to, EndedView, new_ledgers, Operation, LedgerView, DeskView}
-use Rattle.xa_switch.specs.{ledgers_of, Setup, IsNewDesk, IsNewWorker, DeskSeat, seat_of_desk, ThreadPart, ManagerPart, IsSettled, find_thread, ledgers_in}
-use Rattle.xa_switch.specs.{sent, collected, journal, thread_part, manager_part, settling, Settling}
+use Rattle.xa_switch.specs.{ledgers_of, IsNewDesk, DeskSeat, seat_of_desk, ThreadPart, ManagerPart, IsSettled, find_thread, ledgers_in, sent, collected}
+use Rattle.xa_switch.specs.{journal, thread_part, manager_part, settling, Settling}
 use Rattle.xa_worker.specs.{WorkerView, Served}
-use Rattle.xa_crew.specs.{HasServed, EndsDesk}
 use Rattle.xa_log.specs.{LogState}
 use Rattle.xa_grammar.specs.{ScriptTask, ScriptStep, tasks_of, threads_of, managers_of, Content}
 use Rattle.xa_session.specs.{Session, HasDone}
 use Rattle.xa_transcript.specs.{Told, AreOfScript}
-use Rattle.xa_base.specs.{Chain}
-use Rattle.xa_base.specs.Lists.Chain.{none, more}
 use Rattle.xa_telling.specs.{Comes, Ran, Beginning, TellsOf, part_at, answers_to, entries_of, TakesPart, AreLeft, AreCarriedOut, Part, HasCode, new_part}
-use Rattle.xa_telling.proofs.Left.{HaveEnded, numbers_ended}
-use Rattle.xa_words.specs.{Code}
 use Rattle.xa_telling.proofs.Opened.{opened_threads, opened_managers, opened_first, opened_thread}
-use Rattle.xa_telling.proofs.Entries.{Fits as Agrees, StandsAt, agreed_fits, no_entries}
 use Rattle.xa_telling.proofs.Branches.{fits, own as own_entries}
 use Rattle.xa_telling.proofs.Lines.{lines_in, tasks_in, answers_in, carried_all}
 use Rattle.xa_telling.proofs.Tasks.{tasks_are_of, no_tasks}
+
+-- one of what was told: what was kept under the number at first was collected with this code
+abbrev pub IsTold : DeskView → DeskView → ℕ × Code → Type 0
+IsTold first now x =
+    (o : Operation) × (finmap.get first.kept x.0 ≡ Some o) × (1 ≤ o.manager) × Contains (ledger now.ledgers o.manager).collected (o.number, x.1)
+
+told_on : (first now next : DeskView) → HaveGrown now.ledgers next.ledgers → (x : ℕ × Code) → IsTold first now x → IsTold first next x
+told_on first now next grown x (o, at, low, there) =
+    let more = (grown.each o.manager low).collected in
+    (o, at, low, subst (λ l. Contains l (o.number, x.1)) (sym more.1) (Contains-append_left (ledger now.ledgers o.manager).collected more.0 (o.number, x.1) there))
+
+-- the numbers from 1 to n were ended, and nothing was sent
+pub record HaveEnded (n : ℕ) (first now : DeskView) (told : List (ℕ × Code)) : Type 0 where
+  pub others : (k : ℕ) → ((1 ≤ k) × (k ≤ n) → ⊥) → finmap.get now.kept k ≡ finmap.get first.kept k
+  pub coded : All (IsTold first now) told
+  pub within : All (λ x. (1 ≤ x.0) × (x.0 ≤ n)) told
+  pub all : (k : ℕ) (o : Operation) → 1 ≤ k → k ≤ n → finmap.get first.kept k ≡ Some o → Contains (map (λ x. x.0) told) k
+  pub rising : AllPairs (λ x y. x.0 < y.0) told
+  pub sent : (m : ℕ) → (ledger now.ledgers m).sent ≡ (ledger first.ledgers m).sent
+
+none_ended : (first : DeskView) → HaveEnded 0 first first []
+none_ended first = search (arith, All-nil)
+
+-- one more number that kept something
+module _ (n : ℕ) (first now next : DeskView) (told : List (ℕ × Code)) (h : HaveEnded n first now told) where
+  fresh : (1 ≤ n + 1) × (n + 1 ≤ n) → ⊥
+  fresh within = let high = within.1 in omega (arith, high)
+
+  ended_kept : (o : Operation) (c : Code) → HasTaken o (n + 1) c now next → HaveEnded (n + 1) first next (told ++ (n + 1, c) ∷ [])
+  ended_kept o c takes =
+      let numbers = map (λ (x : ℕ × Code). x.0) told in
+      let this : IsTold first next (n + 1, c) = (
+        o,
+        sym (h.others (n + 1) fresh) ∙ takes.kept,
+        takes.out.known.positive,
+        collected_there (ledger now.ledgers o.manager).collected (ledger next.ledgers o.manager).collected (ledger next.ledgers o.manager).collected (o.number, c)
+            (ap (λ (l : List LedgerView). (ledger l o.manager).collected) takes.ledgers
+            ∙ ap (λ (a : LedgerView). a.collected) (ledger-collected_same now.ledgers o c takes.out.known o.manager refl)) (same_begins _),
+      ) in
+      let grown : HaveGrown now.ledgers next.ledgers = subst (HaveGrown now.ledgers) (sym takes.ledgers) (collecting_grows now.ledgers o c) in
+      record {
+        others = search (arith, removed_other);
+        coded = All-push (IsTold first next) told (n + 1, c) (λ k d below. told_on first now next grown _ (h.coded k d below)) this;
+        within = All-push (λ x. (1 ≤ x.0) × (x.0 ≤ n + 1)) told (n + 1, c) (λ k d below. let w = h.within k d below in (w.0, let high = w.1 in omega (arith, high))) (omega arith, omega arith);
+        all =
+            λ k p low high at. subst (λ (l : List ℕ). Contains l k) (sym (map-append (λ (x : ℕ × Code). x.0) told ((n + 1, c) ∷ []))) (elim (cases_eq k (n + 1)) [
+              | inl same ↦ subst (Contains (numbers ++ (n + 1) ∷ [])) (sym same) (Contains-push numbers (n + 1))
+              | inr differs ↦ Contains-append_left numbers ((n + 1) ∷ []) k (h.all k p low (omega (arith, high, differs)) at)
+            ]);
+        rising = pairs_push (λ x y. x.0 < y.0) told (n + 1, c) h.rising (λ k d below. let w = h.within k d below in let high = w.1 in omega (arith, high));
+        sent = λ m. ap (λ (l : List LedgerView). (ledger l m).sent) takes.ledgers ∙ collecting_sends_none now.ledgers o c m ∙ h.sent m;
+      }
+
+  -- and one that kept nothing
+  ended_free : finmap.get now.kept (n + 1) ≡ None → HaveEnded (n + 1) first now told
+  ended_free empty = search (arith, cases_eq, not_both, fresh)
+
+one_ended : (n : ℕ) (first : DeskView) (now next : Telling) → HaveEnded n first now.0 now.1 → EndsNumber (n + 1) now next
+    → HaveEnded (n + 1) first next.0 next.1
+one_ended n first now next h (kept c takes pushed) =
+    subst (λ (l : List (ℕ × Code)). HaveEnded (n + 1) first next.0 l) (sym pushed) (ended_kept n first now.0 next.0 now.1 h takes.operation c (has_redeemed now.0 next.0 (n + 1) c takes))
+one_ended n first now next h (free empty same) =
+    subst (λ (x : Telling). HaveEnded (n + 1) first x.0 x.1) (sym same) (ended_free n first now.0 now.0 now.1 h empty)
+
+-- the numbers of a chain
+pub numbers_ended : (first : DeskView) (ks : List ℕ) (last : Telling) → Chain EndsNumber (first, []) ks last → (n : ℕ) → ks ≡ range_with_len 1 n
+    → HaveEnded n first last.0 last.1
+numbers_ended first ks last (none xs l e f) zero same = subst (λ (x : Telling). HaveEnded 0 first x.0 x.1) (sym f) (none_ended first)
+numbers_ended first ks last (none xs l e f) (suc n) same = absurd (let size = ap (λ (l : List ℕ). length l) (sym e ∙ same) in omega (arith, size))
+numbers_ended first ks last (more xs x now l before is) zero same =
+    absurd (let size = ap (λ (l : List ℕ). length l) same in omega (arith, size, length-append xs (x ∷ [])))
+numbers_ended first ks last (more xs x now l before is) (suc n) same =
+    let parts = snoc_parts xs (range_with_len 1 n) x (1 + n) (same ∙ range_suc 1 n) in
+    let number : x ≡ n + 1 = let last_one = parts.1 in omega (arith, last_one) in
+    let next_one : n + 1 ≡ suc n = omega arith in
+    subst (λ k. HaveEnded k first l.0 l.1) next_one
+    (one_ended n first now l (numbers_ended first xs now before n parts.0) (subst (λ k. EndsNumber k now l) number is))
 
 -- where nothing was sent, nothing is outstanding, and so all of it is kept
 unsent_kept : (d : DeskView) → ((m : ℕ) → (ledger d.ledgers m).sent ≡ []) → AllKept d
@@ -35,8 +117,7 @@ unsent_kept d unsent = record {
       absurd (omega (arith, sent, size));
 }
 
--- ---- as a thread goes on
-
+-- as a thread goes on
 runs_go : (first : Session × List Told) (tasks : List ScriptTask) (last : Session × List Told) → Chain HasDone first tasks last
     → seat_of_desk last.0.desk ≡ seat_of_desk first.0.desk
 runs_go first tasks last (none xs l e f) = ap (λ (s : Session × List Told). seat_of_desk s.0.desk) f
@@ -94,9 +175,6 @@ no_log_there b left k past = sym (ap (log_in (b.logs (suc k))) (slice_get_past l
 module _ (s : Content) (b : Beginning) (steps : List ScriptStep) (answers : List Told) (sessions left : List Session) (workers : List WorkerView)
     (ended : List EndedView) (done : List Served)
     (r : Ran s b steps answers sessions left workers ended done) where
-  abbrev setup : Setup
-  setup = r.opened.setup
-
   -- what an ended desk has of its thread and its lane
   comes_thread : (x y : Session) (e : EndedView) → Comes steps answers x y e → e.thread ≡ x.desk.thread
   comes_thread x y e c =
@@ -124,11 +202,8 @@ module _ (s : Content) (b : Beginning) (steps : List ScriptStep) (answers : List
   desk_at : (k : ℕ) (x : Session) → slice_get sessions k ≡ Some x → slice_get (map (λ (x : Session). x.desk) sessions) k ≡ Some x.desk
   desk_at k x at = slice_get-map (λ (x : Session). x.desk) sessions k ∙ ap (option_map (λ (x : Session). x.desk)) at
 
-  pub new_desk_at : (k : ℕ) (x : Session) → slice_get sessions k ≡ Some x → IsNewDesk setup k x.desk
+  pub new_desk_at : (k : ℕ) (x : Session) → slice_get sessions k ≡ Some x → IsNewDesk r.opened.setup k x.desk
   new_desk_at k x at = r.opened.opened.desks k x.desk (desk_at k x at)
-
-  new_worker_at : (k : ℕ) (w : WorkerView) → slice_get workers k ≡ Some w → IsNewWorker setup k w
-  new_worker_at k w at = r.opened.opened.workers k w at
 
   thread_at : (k : ℕ) (x : Session) → slice_get sessions k ≡ Some x → x.desk.thread ≡ k + 1
   thread_at k x at = opened_thread s b.opening b.tables (map (λ (x : Session). x.desk) sessions) workers r.opened k x.desk (desk_at k x at)
@@ -137,7 +212,7 @@ module _ (s : Content) (b : Beginning) (steps : List ScriptStep) (answers : List
   ended_thread k e at = let x = thread_of_ended k e at in comes_thread x.0 x.2 e x.3 ∙ thread_at k x.0 x.1
 
   done_number : (k : ℕ) (d : Served) → slice_get done k ≡ Some d → d.number ≡ k + 1
-  done_number k d at = let w = worker_of k d at in let new = new_worker_at k w.0 w.1 in w.2.same.number ∙ ap (λ (x : WorkerView). x.number) new.made
+  done_number k d at = let w = worker_of k d at in let new = r.opened.opened.workers k w.0 w.1 in w.2.same.number ∙ ap (λ (x : WorkerView). x.number) new.made
 
   -- the managers of the settled opening are the script's
   pub of_script : AreOfScript s b.tables (map manager_part done)
@@ -147,7 +222,8 @@ module _ (s : Content) (b : Beginning) (steps : List ScriptStep) (answers : List
     first = λ k p at.
         let d = was_mapped manager_part done k p at in
         let w = worker_of k d.0 d.1 in
-        ap (λ (x : ManagerPart). x.first) (sym d.2) ∙ w.2.same.first ∙ opened_first s b.opening b.tables setup r.opened.said k w.0 (new_worker_at k w.0 w.1);
+        ap (λ (x : ManagerPart). x.first) (sym d.2) ∙ w.2.same.first
+        ∙ opened_first s b.opening b.tables r.opened.setup r.opened.said k w.0 (r.opened.opened.workers k w.0 w.1);
   }
 
   -- ---- what is carried out
@@ -173,7 +249,7 @@ module _ (s : Content) (b : Beginning) (steps : List ScriptStep) (answers : List
     abbrev settled : Settling
     settled = settling ended done
 
-    made : (k : ℕ) (x : Session) → slice_get sessions k ≡ Some x → x.desk.ledgers ≡ new_ledgers setup.numbers.requests setup.use_async
+    made : (k : ℕ) (x : Session) → slice_get sessions k ≡ Some x → x.desk.ledgers ≡ new_ledgers r.opened.setup.numbers.requests r.opened.setup.use_async
     made k x at = let new = new_desk_at k x at in ap (λ (d : DeskView). d.ledgers) new.made
 
     -- with the log that it has after them
@@ -202,10 +278,10 @@ module _ (s : Content) (b : Beginning) (steps : List ScriptStep) (answers : List
         let left_so = are_left settled is x.desk.thread y.0.desk e.0 c.outstanding c.ends ended_so in
         let new = new_desk_at k x at in
         let fresh : (m : ℕ) → (ledger x.desk.ledgers m).sent ≡ [] = λ m.
-        ap (λ (l : List LedgerView). (ledger l m).sent) (made k x at) ∙ fresh_sent setup.numbers.requests setup.use_async (m - 1) in
+        ap (λ (l : List LedgerView). (ledger l m).sent) (made k x at) ∙ fresh_sent r.opened.setup.numbers.requests r.opened.setup.use_async (m - 1) in
         let chain =
         carried_all settled is x.desk.thread (x, []) fresh
-        (λ m. ap (λ (l : List LedgerView). (ledger l m).collected) (made k x at) ∙ fresh_collected setup.numbers.requests setup.use_async (m - 1)) (ap (λ (d : DeskView). d.kept) new.made)
+        (λ m. ap (λ (l : List LedgerView). (ledger l m).collected) (made k x at) ∙ fresh_collected r.opened.setup.numbers.requests r.opened.setup.use_async (m - 1)) (ap (λ (d : DeskView). d.kept) new.made)
         (unsent_kept x.desk fresh) begins.known
         tasks last c.runs (tasks_are_of x.desk.thread steps) (subst (HaveGrown y.0.desk.ledgers) (sym (ended_so ∙ c.ends.ends.ledgers)) c.ends.goes_on.lists) left_so.1 in
         subst (λ (u : ℕ). (c : AreCarriedOut steps answers settled u (part_at b (suc k))) × (c.log ≡ log_left b left (suc k))) t (
