@@ -1,22 +1,23 @@
--- What a thread's lines add to its entries of a manager's journal, where all that they ask the manager is so.
-use Rattle.xa_base.proofs.{◌≡◌, ℕ, ⊎_elim, zero, suc, ◌<◌, ◌≤◌, Bool, false, ◌==◌, List, [], ◌∷◌, ◌++◌, Option, Some, None, sym, refl, ap, ◌∙◌, subst, arith}
-use Rattle.xa_base.proofs.{append_assoc, append-nil, if◌then◌else◌, All, map, Contains, cases_lt, eqb-true, All-append, All-cons, All-contains, All-head}
-use Rattle.xa_base.proofs.{All-nil, All-tail, by_if}
-use Rattle.xa_base.specs.{MOST_MANAGERS}
-use Rattle.xa_words.specs.{check_flags, TranName, XidName, Death, Op, OpenRm, Prepare, Forget, Listed, Code}
+-- What a thread's lines add to its entries of a manager's journal, the place of each among them, and what the journals add up to.
 use Rattle.xa_words.specs.declared.flags.Call.TheVariants as call
+use Rattle.xa_grammar.specs.declared.step.Action.TheVariants as action
+use Rattle.std.specs.FinMap as finmap
+use Rattle.xa_base.proofs.{◌≡◌, ℕ, ⊎_elim, zero, suc, ◌<◌, ◌≤◌, Bool, false, ◌==◌, List, [], ◌∷◌, ◌++◌, Option, Some, None, sym, refl, ap, ◌∙◌, subst, arith}
+use Rattle.xa_base.proofs.{append_assoc, append-nil, if◌then◌else◌, All, map, Contains, cases_lt, eqb-true, All-append, All-cons, All-contains, All-nil, by_if}
+use Rattle.xa_base.proofs.{◌⊎◌, inl, inr, length, length-append, snoc_parts, option_map, get_or, pos, ◌+ℤ◌, all_unmapped, some_same, All-map}
+use Rattle.xa_base.specs.{MOST_MANAGERS, Chain}
+use Rattle.xa_words.specs.{check_flags, TranName, XidName, Death, Op, OpenRm, Prepare, Forget, Listed, Code}
 use Rattle.xa_worker.specs.{Entry}
 use Rattle.xa_scan.specs.{ScanView, left_at}
-use Rattle.xa_switch.specs.{Settling}
+use Rattle.xa_switch.specs.{journal, Settling, IsSettled, IsOpenedWith, first_of}
 use Rattle.xa_driver.specs.{Branch, Done as Outcomes, Ending, Outcome, AtBranch, second_op, third_op, ResolvesAt, outcome_op, has_branch_at}
 use Rattle.xa_log.specs.{Records}
 use Rattle.xa_driver.proofs.Mapped.{Any, IsAskedFor, any_asked, branch_by, resolves_by}
-use Rattle.xa_grammar.specs.{CommitAll, ScriptCalled, ScriptAction}
-use Rattle.xa_grammar.specs.declared.step.Action.TheVariants as action
-use Rattle.xa_transcript.specs.{Answer}
+use Rattle.xa_grammar.specs.{CommitAll, ScriptCalled, ScriptAction, ScriptStep, Declared, IsScript, managers_of, Content}
+use Rattle.xa_transcript.specs.{Answer, Told, opened, opened_after, histories, name_of}
 use Rattle.xa_session.specs.{branches_of, named}
-use Rattle.xa_telling.specs.{Wanted, wanted_in, Part, next_entry, Asked, Lists, CallTakes, CarriesOut, CarriesOutSome, Decides, LosesSight, StopsAt, EndsLeft}
-use Rattle.xa_telling.specs.{Takes}
+use Rattle.xa_telling.specs.{entries_of, Wanted, wanted_in, Part, next_entry, Asked, Lists, CallTakes, CarriesOut, CarriesOutSome, Decides, LosesSight, StopsAt}
+use Rattle.xa_telling.specs.{EndsLeft, Takes, Line, TakesPart, AreCarriedOut, Beginning, Opening, Former, TellsOf, Leaves, Tells, beginning, settled_over}
 use Rattle.xa_telling.specs.Wants.Wanted.{code_of, handle_for, in_vain, completion, listing}
 use Rattle.xa_telling.specs.Parts.Asked.{answered as asked_answered, refused as asked_refused}
 use Rattle.xa_telling.specs.Parts.CallTakes.{answered, kept, refused, completes, lists}
@@ -24,7 +25,15 @@ use Rattle.xa_telling.specs.Commits.CarriesOut.{carried, withheld}
 use Rattle.xa_telling.specs.Commits.CommitTakes.{refused as takes_none, decided, undecided, died}
 use Rattle.xa_telling.specs.Resolves.ResolveTakes.{refused as ends_none, resolved}
 use Rattle.xa_telling.proofs.Mapped.{by_mapped}
-use Rattle.xa_telling.proofs.Deaths.{asked_so, at_each, came_so, each_so, hears_by, obeys_by}
+use Rattle.xa_telling.proofs.Branches.{asked_so, at_each, came_so, each_so, hears_by, obeys_by}
+use Rattle.xa_base.specs.Lists.Chain.{none as no_step, more as one_step}
+use Rattle.xa_shown.specs.{Place, IsSumOfShares}
+use Rattle.std.proofs.lemmas.List.Sorted.{All-permutation}
+use Rattle.xa_tables.specs.{Tables, History, Absent, added_over}
+use Rattle.xa_transcript.proofs.Worth.{first_is}
+use Rattle.xa_telling.proofs.Again.{begins_after}
+
+-- ---- what a thread's lines add to its entries of a manager's journal, where all that they ask the manager is so
 
 -- the op that a call asks for, if it does
 abbrev pub op_in : Wanted → Option Op
@@ -145,12 +154,8 @@ module _ (P : Op → Type 0) where
   EndsSo x = ((commit : Bool) → P (outcome_op commit x)) × P (Forget x)
 
   outcome_so : (xs : List XidName) (os : List Outcome) → map (λ o. o.xid) os ≡ xs → All EndsSo xs → (o : Outcome) → Contains os o → EndsSo o.xid
-  outcome_so xs os same all o there = All-contains (λ (w : Outcome). EndsSo w.xid) os o (by_map os (subst (All EndsSo) (sym same) all)) there
-    where
-      by_map : (os : List Outcome) → All EndsSo (map (λ o. o.xid) os) → All (λ (w : Outcome). EndsSo w.xid) os
-      by_map [] all = All-nil (λ (w : Outcome). EndsSo w.xid)
-      by_map (w ∷ os) all =
-          All-cons (λ (w : Outcome). EndsSo w.xid) w os (All-head EndsSo w.xid (map (λ o. o.xid) os) all) (by_map os (All-tail EndsSo w.xid (map (λ o. o.xid) os) all))
+  outcome_so xs os same all o there =
+      All-contains (λ (w : Outcome). EndsSo w.xid) os o (all_unmapped (λ (w : Outcome). w.xid) EndsSo os (subst (All EndsSo) (sym same) all)) there
 
   at_adds : (t : ℕ) (records : Records) (m : ℕ) (xs : List XidName) (os : List Outcome) (old new : List Entry) → P OpenRm → All EndsSo xs
       → ResolvesAt (CarriesOut t) records m xs os old new → Adds old new
@@ -168,8 +173,7 @@ module _ (P : Op → Type 0) where
       at_adds t old.log.records (suc m) (left_at old.scan (suc m)) (is.course.at (suc m)) (old.entries (suc m)) (new.entries (suc m)) opens so (is.course.each (suc m) (omega arith, high)))
       (cases_lt MOST_MANAGERS (suc m))
 
-  -- ---- a call
-
+  -- a call
   module _ (listed : (x : Option XidName) → P (Listed x)) (m : ℕ) where
     either_adds : (t n : ℕ) (op : Op) (c : Code) (old : List Entry) → (n ≡ m → P op) → Adds old (if m == n then old ++ next_entry t old op c ∷ [] else old)
     either_adds t n op c old so =
@@ -185,7 +189,7 @@ module _ (P : Op → Type 0) where
         subst (λ (x : Part). Adds (old.entries m) (x.entries m)) (sym is.stands)
         (by_mapped (Asked t q.manager) (λ d o e c. Unit {0}) (λ x. x) (λ (x : Part). Adds (x.entries m) (is.asked.entries m))
         (λ d e x c asked adding. (adds_both (d.entries m) (e.entries m) (is.asked.entries m) (asked_adds t q.manager d (Listed x) e c (listed x) asked) adding, tt))
-        is.there (check_flags call.Recover q.flags) q.manager old old.scan is.before is.asked new.scan is.after is.result is.recovers (adds_none (is.asked.entries m) (is.asked.entries m) refl)).0
+        old old.scan is.before is.asked new.scan is.after is.there (check_flags call.Recover q.flags) q.manager is.result is.recovers (adds_none (is.asked.entries m) (is.asked.entries m) refl)).0
 
     -- what a call asks its manager for is so
     abbrev pub AsksSo : ScriptCalled → Type 0
@@ -230,3 +234,84 @@ any_task m z action.Resolve = (tt, λ k d lt. (λ commit. tt, tt))
 pub takes_adds : (settled : Settling) (x : ScriptAction) (t : ℕ) (a : Answer) (old new : Part) → Takes settled x t a old new → (m : ℕ)
     → Adds Any (old.entries m) (new.entries m)
 takes_adds settled x t a old new is m = takes_add Any (λ x. tt) m settled x t a old new (any_task m old.scan x) is
+
+-- ---- the place of a line among those of its thread
+
+-- a list is empty, or it has a last element
+ends : {X : Type 0} (ys : List X) → (ys ≡ []) ⊎ ((zs : List X) × (z : X) × (ys ≡ zs ++ z ∷ []))
+ends [] = inl refl
+ends {X} (y ∷ ys) =
+    ⊎_elim (λ (e : ys ≡ []). inr ([], y, ap (λ l. y ∷ l) e))
+    (λ (h : (zs : List X) × (z : X) × (ys ≡ zs ++ z ∷ [])). inr (y ∷ h.0, h.1, ap (λ l. y ∷ l) h.2))
+    (ends ys)
+
+module _ {X A : Type 0} (leads : X → A → A → Type 0) (first : A) where
+  -- steps are parted at one of them
+  pub part : (zs : List X) (last : A) → Chain leads first zs last → (xs : List X) (y : X) (ys : List X) → zs ≡ xs ++ y ∷ ys
+      → (old : A) × (new : A) × Chain leads first xs old × leads y old new × Chain leads new ys last
+  part zs last (no_step ws end e f) xs y ys is =
+      let size = ap (λ (l : List X). length l) (sym e ∙ is) in absurd (omega (arith, size, length-append xs (y ∷ ys)))
+  part zs last (one_step ws w now end before step) xs y ys is =
+      ⊎_elim
+      (λ (e : ys ≡ []).
+      let parts = snoc_parts ws xs w y (is ∙ ap (λ (l : List X). xs ++ y ∷ l) e) in
+      (now, end, subst (λ (l : List X). Chain leads first l now) parts.0 before, subst (λ (x : X). leads x now end) parts.1 step, no_step ys end e refl))
+      (λ (h : (zs : List X) × (z : X) × (ys ≡ zs ++ z ∷ [])).
+      let parts = snoc_parts ws (xs ++ y ∷ h.0) w h.1 (is ∙ ap (λ (l : List X). xs ++ y ∷ l) h.2 ∙ sym (append_assoc xs (y ∷ h.0) (h.1 ∷ []))) in
+      let (old, new, earlier, its, later) = part ws now before xs y h.0 parts.0 in
+      let all = one_step h.0 h.1 now end later (subst (λ (x : X). leads x now end) parts.1 step) in
+      (old, new, earlier, its, subst (λ (l : List X). Chain leads new l end) (sym h.2) all))
+      (ends ys)
+
+pub places : (steps : List ScriptStep) (answers : List Told) (settled : Settling) (t : ℕ) (first : Part) (told : AreCarriedOut steps answers settled t first) (before : List Line) (l : Line) (after : List Line)
+    → told.lines ≡ before ++ l ∷ after → (old : Part) × (new : Part) × Place told before l after old new
+places steps answers settled t first told before l after is =
+    let (old, new, earlier, takes, later) = part (TakesPart settled) first told.lines _ told.carried before l after is in
+    (old, new, record { lines = is; earlier = earlier; takes = takes; later = later })
+
+-- what lines put into the journals is only added
+pub chain_adds : (settled : Settling) (first : Part) (ls : List Line) (last : Part) → Chain (TakesPart settled) first ls last → (m : ℕ)
+    → Adds Any (first.entries m) (last.entries m)
+chain_adds settled first ls last (no_step xs end e f) m = adds_none Any (first.entries m) (end.entries m) (ap (λ (p : Part). p.entries m) f)
+chain_adds settled first ls last (one_step xs x now end before step) m =
+    adds_both Any (first.entries m) (now.entries m) (end.entries m) (chain_adds settled first xs now before m) (takes_adds settled x.task.action x.task.thread x.answer now end step m)
+
+-- so what comes after a line
+pub place_adds : {steps : List ScriptStep} {answers : List Told} {settled : Settling} {t : ℕ} {first : Part} {told : AreCarriedOut steps answers settled t first}
+    {before : List Line} {l : Line} {after : List Line} {old new : Part} → Place told before l after old new → (m : ℕ)
+    → Adds Any (new.entries m) (entries_of t (journal settled m))
+place_adds {settled = settled} {after = after} {new = new} place m = chain_adds settled new after _ place.later m
+
+-- ---- what is shown of a key is its value at the first opening and what the journals have added to it
+
+-- what a mapped option has
+was_some : {A B : Type 0} (f : A → B) (o : Option A) (y : B) → option_map f o ≡ Some y → (x : A) × (o ≡ Some x) × (f x ≡ y)
+was_some f None y e = absurd (cc)
+was_some f (Some x) y e = (x, refl, some_same (f x) y e)
+
+module _ (opens : (s : Settling) (m : ℕ) (T : Tables) → IsSettled s → first_of s m ≡ Some T → IsOpenedWith s m T) where
+  -- an opening that follows these
+  opened_so : (s : Content) (before : List Former) (b : Beginning) (o : Opening) → Chain (Leaves s) (beginning s) before b → TellsOf s b o → (m : ℕ) → 1 ≤ m
+      → m ≤ managers_of s
+      → IsOpenedWith o.settled m (opened_after s (map (λ f. f.opening.settled) before) m)
+  opened_so s before b o former tells m low high = search (arith, first_is, begins_after, o.settled, tells.agree, b.tables, tells.managers)
+
+  pub sums_of_shares : (s : Content) (answers : List Told) (values : List Declared) (before : List Former) (last : Opening) → IsScript s
+      → Tells s answers values before last → All (IsSumOfShares s before last) values
+  sums_of_shares s answers values before last is tells j e below =
+      let d : Declared = get_or values j e in
+      let T : Tables = opened s d.manager in
+      let hs : List History = histories (settled_over before last) d.manager in
+      let worth = was_some (λ v. v +ℤ added_over d.key (λ x. Absent) hs T) (finmap.get T.values d.key) (pos d.value) (tells.shown.worth j e below) in
+      let There : ℕ × List ℕ → Type 0 = λ n. (1 ≤ n.0) × (n.0 ≤ managers_of s) in
+      let (low, high) =
+      all_unmapped name_of There values (All-permutation There (map name_of s.keys) (map name_of values) tells.shown.all (All-map There name_of s.keys is.of_managers)) j e below in
+      record {
+        former = λ xs f ys parted.
+            let (old, new, earlier, leaves, later) = part (Leaves s) (beginning s) before tells.begins tells.former xs f ys parted in
+            opened_so s xs old f.opening earlier leaves.tells d.manager low high;
+        latest = opened_so s before tells.begins last tells.former tells.latest d.manager low high;
+        first = worth.0;
+        at_first = worth.1;
+        sum = sym worth.2;
+      }

@@ -1,27 +1,186 @@
+-- Lines that don't name a branch put nothing into the journals that does.
 -- Where no other line names the branches of a commit, nobody else names them in the journals.
-use Rattle.xa_atomicity.proofs.Sites.{request_of}
-use Rattle.xa_atomicity.proofs.Sites.{all_later}
-use Rattle.xa_atomicity.proofs.Sites.{sides}
-use Rattle.xa_base.proofs.{All-map, All-cons, All-nil, All-head, All-tail, All-append, filter-append, ◌≡◌, ◌≢◌, ℕ, suc, ◌+◌, ◌<◌, inl, inr, Bool, true, false}
-use Rattle.xa_base.proofs.{cond, ◌==◌, List, [], ◌∷◌, ◌++◌, length, map, sym, refl, ap, ◌∙◌, subst, arith, get_or, All, filter, cases_eq, eq-eqb, length-map}
-use Rattle.xa_base.proofs.{map-append, all_after, all_unmapped}
-use Rattle.xa_words.specs.{XidName, Op, Request, TranName}
-use Rattle.xa_tables.specs.{History, of_thread, names}
-use Rattle.xa_desk.specs.{numbered}
+use Rattle.xa_words.specs.declared.flags.Call.TheVariants as call
+use Rattle.xa_words.specs.declared.request.Op.TheVariants as op
+use Rattle.xa_words.specs.declared.request.RmOp.TheVariants as rm
+use Rattle.xa_grammar.specs.declared.step.Calling.TheVariants as calling
+use Rattle.xa_grammar.specs.declared.step.Action.TheVariants as action
+use Rattle.xa_base.proofs.{arith, ◌≡◌, ◌≢◌, ℕ, zero, suc, inl, inr, Bool, true, false, ◌==◌, ◌&&◌, List, [], ◌∷◌, Option, Some, None, sym, refl, ap, ◌∙◌}
+use Rattle.xa_base.proofs.{if◌then◌else◌, All, Result, Ok, Err, eq-eqb, or_parts, list_any, slice_index_or, some_same, IfOk, subst, all_mid, all_left, All-map}
+use Rattle.xa_base.proofs.{All-cons, All-nil, All-head, All-tail, All-append, filter-append, ◌+◌, ◌<◌, cond, ◌++◌, length, map, get_or, filter, cases_eq}
+use Rattle.xa_base.proofs.{length-map, map-append, all_after, all_unmapped}
+use Rattle.xa_atomicity.proofs.Requests.{none_all, all_later}
+use Rattle.xa_base.specs.{Chain}
+use Rattle.xa_base.specs.Lists.Chain.{none as no_step, more as one_step}
+use Rattle.xa_words.specs.{XidName, xid_eq, check_flags, Call, Mode, Op, RmOp, Decides-xid_eq, Code, Request, TranName}
+use Rattle.xa_tables.specs.{names, History, of_thread}
 use Rattle.xa_worker.specs.{Entry, requests}
-use Rattle.xa_switch.specs.{journal, sent}
+use Rattle.xa_calls.specs.Asking.{◌>>=◌}
+use Rattle.xa_calls.specs.{Asked as WantedOp, op_by, asked_of, rm_op, start_of, Recovers, RecoversFrom, RecoversBy}
+use Rattle.xa_switch.specs.{Settling, journal, sent}
+use Rattle.xa_calls.specs.Scans.{Asking}
+use Rattle.xa_scan.specs.{ScanView, standing, left_at, place_at}
+use Rattle.xa_calls.specs.Scans.Recovers.{unreached, stopped, told as found_some}
 use Rattle.xa_driver.specs.{Branch}
+use Rattle.xa_grammar.specs.{ScriptCalling, ScriptCalled, ScriptAction, CommitAll, Content}
+use Rattle.xa_transcript.specs.{Answer}
+use Rattle.xa_telling.specs.{in_xa, outside_xa, wanted, wanted_by, Part, Asked, CallTakes, Line, Takes, TakesPart, entries_of, Beginning, Opening, TellsOf}
+use Rattle.xa_telling.specs.{part_at}
+use Rattle.xa_telling.specs.Wants.Wanted.{code_of, handle_for}
+use Rattle.xa_shown.proofs.Adds.{Adds, TaskSo, adds_both, adds_none, op_in, takes_add}
+use Rattle.xa_atomicity.proofs.Between.{Unnamed, second_unnamed, outcome_unnamed, third_unnamed}
+use Rattle.xa_telling.specs.Parts.CallTakes.{answered, kept, refused, completes, lists}
+use Rattle.xa_telling.specs.Commits.CommitTakes.{refused as takes_none, decided, undecided, died}
+use Rattle.xa_telling.specs.Resolves.ResolveTakes.{refused as ends_none, resolved}
+use Rattle.xa_shown.specs.{branches_by, is_among, names_it, Place, AreNamedByNoOther, NamesNone, entered_so_far}
+use Rattle.xa_atomicity.proofs.Placing.{request_of}
+use Rattle.xa_atomicity.proofs.Sites.{sides}
+use Rattle.xa_desk.specs.{numbered}
 use Rattle.xa_atomicity.specs.{OnlyTheseName, AreLeftAlone}
-use Rattle.xa_grammar.specs.{CommitAll, Content}
 use Rattle.xa_session.specs.{branches_of}
-use Rattle.xa_telling.specs.{Part, Line, entries_of, Beginning, Opening, TellsOf, part_at}
-use Rattle.xa_shown.specs.{Place, AreNamedByNoOther, NamesNone, entered_so_far}
 use Rattle.xa_telling.proofs.Entries.{requests_kept}
-use Rattle.xa_base.specs.Lists.Chain.{more as one_step}
-use Rattle.xa_shown.proofs.Named.{AddsUnnamed, lines_unnamed, lines_leave}
 
--- ---- lists
+-- ---- what is added
 
+-- entries are added, and none of them names the branch
+abbrev pub AddsUnnamed : XidName → List Entry → List Entry → Type 0
+AddsUnnamed x = Adds (Unnamed x)
+
+-- ---- a call
+
+-- the op of a call names no branch but the call's own
+op_names : (c : Call) (x : Option XidName) (y : XidName) (m : Mode) → ((z : XidName) → x ≡ Some z → xid_eq z y ≡ false)
+    → IfOk (op_by c x m) (λ o. names y o ≡ false)
+op_names call.OpenRm x y m apart = refl
+op_names call.CloseRm x y m apart = refl
+op_names c None y m apart = tt
+op_names c (Some z) y m apart = search (arith, apart)
+
+-- what holds of an op that is wanted
+wanted_so : (P : Op → Type 0) (r : Result WantedOp Code) (o : Op) → IfOk r (λ a. P a.op)
+    → op_in (wanted r (λ asked. asked.op) (λ asked. asked.asynchronous)) ≡ Some o → P o
+wanted_so P (Ok a) o so e = subst P (one a.asynchronous e) so
+  where
+    one : (b : Bool) → op_in (if b then handle_for a.op else code_of a.op) ≡ Some o → a.op ≡ o
+    one true e = cc
+    one false e = cc
+wanted_so P (Err why) o so e = absurd (cc)
+
+bound : {A B E : Type 0} (P : B → Type 0) (r : Result A E) (f : A → Result B E) → ((a : A) → r ≡ Ok a → IfOk (f a) P) → IfOk (r >>= f) P
+bound P (Ok a) f so = so a refl
+bound P (Err why) f so = tt
+
+xa_names : (c : Call) (x : Option XidName) (f : ℕ) (y : XidName) (o : Op) → ((z : XidName) → x ≡ Some z → xid_eq z y ≡ false) → op_in (in_xa c x f) ≡ Some o
+    → names y o ≡ false
+xa_names c x f y o apart e =
+    let N : Op → Type 0 = λ p. names y p ≡ false in
+    let A : WantedOp → Type 0 = λ a. names y a.op ≡ false in
+    wanted_so N (asked_of c x f) o (bound A (check_flags c f) _ (λ m _. bound A (op_by c x m) _ (λ p is. subst (λ r. IfOk r N) is (op_names c x y m apart)))) e
+
+op_native : (r : RmOp) (f : ℕ) (o : Op) → op_in (outside_xa r f) ≡ Some o → rm_op r ≡ o
+op_native r f o e = search (arith, wanted_so)
+
+-- ---- what a task puts into the journals
+
+-- one branch isn't the other, though both are at one manager
+apart : (b : Branch) (m : ℕ) (x : XidName) → m ≡ b.m → ((m == b.m) && xid_eq x b.xid) ≡ false → xid_eq x b.xid ≡ false
+apart b m x same none = sym (ap (λ q. q && xid_eq x b.xid) (eq-eqb m b.m same)) ∙ none
+
+by_call : (a : ScriptCalling) (m f : ℕ) (b : Branch) (o : Op) → op_in (wanted_by a f) ≡ Some o → m ≡ b.m → is_among b (branches_by m a) ≡ false
+    → names b.xid o ≡ false
+by_call (calling.Xa c None) m f b o e same quiet = xa_names c None f b.xid o (λ z is. absurd (cc)) e
+by_call (calling.Xa c (Some x)) m f b o e same quiet =
+    xa_names c (Some x) f b.xid o (λ z is. ap (λ y. xid_eq y b.xid) (some_same z x (sym is)) ∙ apart b m x same (or_parts ((m == b.m) && xid_eq x b.xid) false quiet).0) e
+by_call (calling.Heur x commits) m f b o e same quiet = search (arith, op_native, apart, or_parts)
+by_call (calling.Add k d) m f b o e same quiet = ap (names b.xid) (sym (op_native (rm.Add k d) f o e))
+by_call calling.Shut m f b o e same quiet = ap (names b.xid) (sym (op_native rm.Shut f o e))
+by_call a m f b o e same quiet = absurd (cc)
+
+-- ---- what a thread's scans have as left
+
+stands_left : (z : ScanView) (m : ℕ) (place : Option ℕ) → (standing z m place).left ≡ z.left
+stands_left z zero place = refl
+stands_left z (suc k) place = refl
+
+module _ (asking : Asking Part) (m : ℕ) (old : Part) (z : ScanView) (xids : List XidName) (new : Part) (z' : ScanView) (xids' : List XidName) where
+  recovers_leave : (mode : Mode) (place : ℕ) (r : Result ℕ Code) → Recovers asking m mode place old z xids new z' xids' r → z'.left ≡ z.left
+  recovers_leave mode place r (unreached why asked never same kept_so) = ap (λ (y : ScanView). y.left) same
+  recovers_leave mode place r (stopped mid found why asked scans same writes) = ap (λ (y : ScanView). y.left) same
+  recovers_leave mode place r (found_some mid found looked asked scans stands writes) = search (arith, stands_left)
+
+  from_leave : (start : Option ℕ) (mode : Mode) (r : Result ℕ Code) → RecoversFrom asking start m mode old z xids new z' xids' r → z'.left ≡ z.left
+  from_leave None mode r is = ap (λ (y : ScanView). y.left) is.scan
+  from_leave (Some place) mode r is = recovers_leave mode place r is
+
+  by_leave : (there : Bool) (mode : Result Mode Code) (r : Result ℕ Code) → RecoversBy asking there mode m old z xids new z' xids' r → z'.left ≡ z.left
+  by_leave there (Err why) r is = ap (λ (y : ScanView). y.left) is.scan
+  by_leave false (Ok mode) r is = ap (λ (y : ScanView). y.left) is.scan
+  by_leave true (Ok mode) r is = from_leave (start_of mode (place_at z m)) mode r is
+
+call_leaves : (settled : Settling) (t : ℕ) (q : ScriptCalled) (a : Answer) (old new : Part) → CallTakes settled t q a old new
+    → new.scan.left ≡ old.scan.left
+call_leaves settled t q a old new (answered o c asks told is) = ap (λ (x : Part). x.scan.left) is
+call_leaves settled t q a old new (kept o c k asks low told free is) = ap (λ (x : Part). x.scan.left) is
+call_leaves settled t q a old new (refused c is told same) = ap (λ (x : Part). x.scan.left) same
+call_leaves settled t q a old new (completes o k c asks there code told same) = ap (λ (x : Part). x.scan.left) same
+call_leaves settled t q a old new (lists n asks is) =
+    by_leave (Asked t q.manager) q.manager old old.scan is.before is.asked new.scan is.after is.there (check_flags call.Recover q.flags) is.result is.recovers
+
+takes_leaves : (settled : Settling) (x : ScriptAction) (t : ℕ) (a : Answer) (old new : Part) → Takes settled x t a old new → new.scan.left ≡ old.scan.left
+takes_leaves settled (action.Call q) t a old new is = call_leaves settled t q a old new is
+takes_leaves settled (action.CommitAll c) t a old new (takes_none told same) = ap (λ (x : Part). x.scan.left) same
+takes_leaves settled (action.CommitAll c) t a old new (decided done alive told is) = ap (λ (y : ScanView). y.left) is.scan
+takes_leaves settled (action.CommitAll c) t a old new (undecided votes comes told is) = ap (λ (y : ScanView). y.left) is.scan
+takes_leaves settled (action.CommitAll c) t a old new (died at known dead told is) = ap (λ (y : ScanView). y.left) is.scan
+takes_leaves settled action.Resolve t a old new (ends_none told same) = ap (λ (x : Part). x.scan.left) same
+takes_leaves settled action.Resolve t a old new (resolved outcomes told is) = ap (λ (y : ScanView). y.left) is.scan
+
+-- line by line
+pub lines_leave : (settled : Settling) (first : Part) (ls : List Line) (last : Part) → Chain (TakesPart settled) first ls last
+    → last.scan.left ≡ first.scan.left
+lines_leave settled first ls last (no_step xs end e f) = ap (λ (p : Part). p.scan.left) f
+lines_leave settled first ls last (one_step xs x now end before step) =
+    takes_leaves settled x.task.action x.task.thread x.answer now end step ∙ lines_leave settled first xs now before
+
+-- another xid
+differs_so : (x y : XidName) → xid_eq y x ≡ false → y ≢ x
+differs_so x y e same = let z : true ≡ false = sym ((Decides-xid_eq y x).1 same) ∙ e in cc
+
+module _ (settled : Settling) (b : Branch) where
+  -- what doesn't name the branch asks its manager for nothing that does
+  task_unnamed : (z : ScanView) (x : ScriptAction) → names_it z b x ≡ false → TaskSo (Unnamed b.xid) (λ x. refl) b.m z x
+  task_unnamed z (action.Call q) quiet = λ here o asks. by_call q.call q.manager q.flags b o asks here quiet
+  task_unnamed z (action.CommitAll c) quiet = search (arith, apart, none_all, second_unnamed, differs_so, third_unnamed)
+  task_unnamed z action.Resolve quiet = search (arith, none_all, outcome_unnamed, differs_so)
+
+  -- a thread's scans have as left what they had at first
+  abbrev Same : ScanView → Part → Type 0
+  Same z p = p.scan.left ≡ z.left
+
+  left_same : (m : ℕ) (y z : ScanView) → y.left ≡ z.left → left_at y m ≡ left_at z m
+  left_same zero y z e = refl
+  left_same (suc k) y z e = ap (λ l. slice_index_or l k []) e
+
+  -- what names it doesn't depend on where the scans stand
+  names_same : (y z : ScanView) (x : ScriptAction) → y.left ≡ z.left → names_it z b x ≡ false → names_it y b x ≡ false
+  names_same y z action.Resolve same quiet = ap (list_any (λ x. xid_eq x b.xid)) (left_same b.m y z same) ∙ quiet
+  names_same y z x same quiet = quiet
+
+  takes_unnamed : (z : ScanView) (x : ScriptAction) (t : ℕ) (a : Answer) (old new : Part) → Takes settled x t a old new → Same z old → names_it z b x ≡ false
+      → (AddsUnnamed b.xid) (old.entries b.m) (new.entries b.m)
+  takes_unnamed z x t a old new takes same quiet =
+      takes_add (Unnamed b.xid) (λ x. refl) b.m settled x t a old new (task_unnamed old.scan x (names_same old.scan z x same quiet)) takes
+
+  -- so lines that don't name it
+  pub lines_unnamed : (z : ScanView) (first : Part) (ls : List Line) (last : Part) → Chain (TakesPart settled) first ls last → Same z first
+      → All (λ l. names_it z b l.task.action ≡ false) ls → (AddsUnnamed b.xid) (first.entries b.m) (last.entries b.m)
+  lines_unnamed z first ls last (no_step xs end e f) same quiet = search (arith, adds_none, first.entries, end.entries)
+  lines_unnamed z first ls last (one_step xs x now end before step) same quiet =
+      adds_both (Unnamed b.xid) (first.entries b.m) (now.entries b.m) (end.entries b.m)
+      (lines_unnamed z first xs now before same (all_left (λ (l : Line). names_it z b l.task.action ≡ false) xs (x ∷ []) quiet))
+      (takes_unnamed z x.task.action x.task.thread x.answer now end step (lines_leave settled first xs now before ∙ same) (all_mid (λ (l : Line). names_it z b l.task.action ≡ false) xs [] x quiet))
+
+-- lists
 all_unfiltered : {A : Type 0} (p : A → Bool) (P : A → Type 0) (xs : List A) → All P (filter p xs) → All (λ x. p x ≡ true → P x) xs
 all_unfiltered p P [] h = All-nil (λ x. p x ≡ true → P x)
 all_unfiltered {A} p P (x ∷ xs) h =
@@ -42,8 +201,7 @@ lower t n (o ∷ ops) (x ∷ xs) ys last e many =
     let number : n ≡ x.number = ap (λ (q : Request). q.number) head in
     All-cons (λ (q : Request). q.number < last) x xs (omega (arith, number, many)) (lower t (suc n) ops xs ys last tail (omega (arith, many)))
 
--- ---- one branch
-
+-- one branch
 module _ (t : ℕ) (x : XidName) (H : History) (ops : List Op) (sent_so : of_thread t H ≡ numbered t 0 ops) (first last : ℕ)
     (own : All (λ (q : Request). names x q.op ≡ true → q.number < last) (of_thread t H)) (others : (u : ℕ) → u ≢ t → All (λ (q : Request). names x q.op ≡ false) (of_thread u H)) where
   only_these : OnlyTheseName x t first last H

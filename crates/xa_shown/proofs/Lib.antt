@@ -1,12 +1,6 @@
 pub mod Adds
 pub mod Shown
-pub mod Placed
-pub mod Failing
 pub mod Became
 pub mod Outcomes
-pub mod Named
 pub mod Alone
-pub mod Sums
-pub mod Unfinished
-pub mod Decided
 pub mod Stopped

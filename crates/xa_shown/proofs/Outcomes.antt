@@ -1,30 +1,38 @@
 -- All branches of a commit: what the line shows of them became of them.
+use Rattle.xa_words.specs.declared.death.Death.TheVariants as death
+use Rattle.xa_transcript.specs.declared.answer.Answer.TheVariants as answer
 use Rattle.xa_base.proofs.{arith, rules, ◌≡◌, ℕ, inl, inr, Bool, true, false, ◌||◌, List, [], ◌∷◌, length, Option, sym, refl, ap, ◌∙◌, slice_index_or, pos}
-use Rattle.xa_base.proofs.{if◌then◌else◌, All, list_any, cases_Bool, or_parts, All-head, All-tail, All-cons, All-nil, All-append, list_any_none}
+use Rattle.xa_base.proofs.{if◌then◌else◌, All, list_any, cases_Bool, or_parts, All-head, All-tail, All-cons, All-nil, All-append, list_any_none, ◌&&◌, None}
+use Rattle.xa_base.proofs.{get_or, subst, Global, Vec, ◌⊎◌, is_some, not, or-true, and_parts}
 use Rattle.xa_atomicity.specs.{OnlyTheseName, OnlyTheseOrDecisionsName, AreLeftAlone, AreLeftOrDecided, EachOutcome, is_rolled_back, is_in_doubt, is_heuristic}
-use Rattle.xa_atomicity.specs.{is_left, is_read_only, Shares, Tabled}
+use Rattle.xa_atomicity.specs.{is_left, is_read_only, Shares, Tabled, is_recorded, is_rollback}
 use Rattle.xa_atomicity.specs.Outcomes.{is_committed}
-use Rattle.xa_words.specs.{Code, TranName}
+use Rattle.xa_words.specs.{Code, TranName, Death, Op}
 use Rattle.xa_tables.specs.{Tables}
-use Rattle.xa_switch.specs.{Settling, IsSettled, journal, sent, collected, IsOpenedWith, history as history_of}
-use Rattle.xa_driver.specs.{Branch, Done as Outcome, Ending, Committed, ReadOnly, InDoubt, Heuristic, is_no, ending_of, AtBranch}
+use Rattle.xa_switch.specs.{Settling, IsSettled, journal, IsOpenedWith, history as history_of}
+use Rattle.xa_driver.specs.{Branch, Done as Outcome, Ending, Committed, Heuristic, is_no, ending_of, AtBranch, is_commit, CameTo, IsDecidedBy, Putting}
+use Rattle.xa_driver.specs.{VotesAndObeys, decides_commit, has_yes, EachBranch, decision_of}
 use Rattle.xa_atomicity.proofs.Courses.{course_of}
-use Rattle.xa_atomicity.proofs.OneOutcome.{not_rolled_back, uncommitted}
+use Rattle.xa_atomicity.proofs.OneOutcome.{not_rolled_back, uncommitted, unvoted}
 use Rattle.xa_atomicity.proofs.Settled.{Both, Fated, InHistory, one_both, one_fated, outcome_map, each_outcome, site_of}
-use Rattle.xa_session.specs.{branches_of}
-use Rattle.xa_grammar.specs.{CommitAll, ScriptStep, Content}
-use Rattle.xa_transcript.specs.{Told}
-use Rattle.xa_telling.specs.{Part, CarriesOut, Decides, Line, TakesPart, AreCarriedOut, ShowsCommit, entries_of, Beginning, Opening, TellsOf}
+use Rattle.xa_session.specs.{branches_of, named}
+use Rattle.xa_grammar.specs.{CommitAll, ScriptStep, ScriptAction}
+use Rattle.xa_transcript.specs.{Told, Answer}
+use Rattle.xa_telling.specs.{Part, CarriesOut, Decides, Line, TakesPart, AreCarriedOut, entries_of, CarriesOutSome, CommitTakes, LosesSight, StopsAt, Takes}
 use Rattle.xa_base.specs.{Chain}
 use Rattle.xa_base.specs.Lists.Chain.{none, more}
-use Rattle.xa_shown.specs.{IsOneOutcome, ShowsOneOutcome, Place, IsAsShown, CountsAsShown, entered_so_far}
-use Rattle.xa_telling.proofs.Entries.{agreed_fits}
+use Rattle.xa_shown.specs.{IsOneOutcome, ShowsOneOutcome, IsAsShown, CountsAsShown, entered_so_far, GoesByTheRecord, ShowsDeath, ShowsUndecided}
 use Rattle.xa_shown.proofs.Shown.{decided_so, none_against}
-use Rattle.xa_atomicity.proofs.Sites.{none_all}
-use Rattle.xa_shown.proofs.Placed.{chain_adds}
+use Rattle.xa_atomicity.proofs.Requests.{none_all}
+use Rattle.xa_shown.proofs.Adds.{Adds, loses_adds, stops_adds}
 use Rattle.xa_shown.proofs.Became.{entered, branch_entered}
-use Rattle.xa_shown.proofs.Adds.{Adds}
 use Rattle.xa_driver.proofs.Mapped.{Any}
+use Rattle.xa_worker.specs.{Entry}
+use Rattle.xa_calls.specs.Scans.{Asking}
+use Rattle.xa_log.specs.{LogState, record_of}
+use Rattle.xa_atomicity.proofs.CutSends.{NotToCommit, decided_so as logged_so, no_commit_so, no_rollback_so, undecided_so}
+use Rattle.xa_atomicity.proofs.Aborts.{IsNoCommit}
+use Rattle.xa_telling.specs.Commits.CommitTakes.{refused as takes_none, decided, undecided, died}
 
 -- ---- lists of outcomes
 
@@ -67,19 +75,15 @@ out_so commit is b v e h = ap is_committed (h.1 ∙ ap (λ c. ending_of c v h.0)
 
 -- what is neither left nor rolled back
 rest_is : (e : Ending) → is_left e ≡ false → is_rolled_back e ≡ false → (is_committed e || (is_read_only e || (is_in_doubt e || is_heuristic e))) ≡ true
-rest_is Committed l r = refl
-rest_is ReadOnly l r = refl
-rest_is InDoubt l r = refl
 rest_is (Heuristic c) l r = refl
-rest_is e l r = absurd (cc)
+rest_is e l r = search arith
 
 certain_is : (e : Ending) → is_left e ≡ false → is_rolled_back e ≡ false → is_in_doubt e ≡ false → is_heuristic e ≡ false → is_read_only e ≡ false
     → is_committed e ≡ true
 certain_is Committed l r d h o = refl
 certain_is e l r d h o = absurd (cc)
 
--- ---- by the line alone
-
+-- by the line alone
 module _ (t : ℕ) (c : CommitAll TranName) (done : Outcome) (old new : Part) (is : Decides t c done old new) where
   abbrev own : List Branch
   own = branches_of c
@@ -101,8 +105,7 @@ module _ (t : ℕ) (c : CommitAll TranName) (done : Outcome) (old new : Part) (i
     uncommitted = λ aborts. no_ending_is (Ends done.commit) is_committed (out_so done.commit aborts) own done.votes.items done.endings.items ends_all;
   }
 
--- ---- one branch
-
+-- one branch
 module _ (law : Tabled) (opens : (s : Settling) (m : ℕ) → IsSettled s → (T : Tables) × IsOpenedWith s m T) (s : Settling) (t : ℕ) (old : Part) where
   -- what became of it
   abbrev pub FatedSo : Bool → Branch → Code → Ending → Type 0
@@ -112,8 +115,7 @@ module _ (law : Tabled) (opens : (s : Settling) (m : ℕ) → IsSettled s → (T
   abbrev pub CountedSo : Part → Bool → Branch → Code → Ending → Type 0
   CountedSo new commit b v e = Both law opens s t b (length (old.entries b.m)) (length (new.entries b.m)) v e × Ends commit b v e
 
--- ---- all of them, by each
-
+-- all of them, by each
 module _ (law : Tabled) (opens : (s : Settling) (m : ℕ) → IsSettled s → (T : Tables) × IsOpenedWith s m T) (s : Settling) (t : ℕ) (bs : List Branch)
     (old new : Part) (done : Outcome) (unopposed_so : done.commit ≡ true → list_any is_no done.votes.items ≡ false) where
   abbrev each : (Branch → Code → Ending → Type 0) → Type 0
@@ -167,8 +169,7 @@ module _ (law : Tabled) (opens : (s : Settling) (m : ℕ) → IsSettled s → (T
     whole = λ certain. elim (cases_Bool (done.commit)) [ inl commit ↦ all_count all commit certain | inr aborts ↦ none_counts all aborts ];
   }
 
--- ---- of a commit that came to its end
-
+-- of a commit that came to its end
 module _ (law : Tabled) (opens : (s : Settling) (m : ℕ) → IsSettled s → (T : Tables) × IsOpenedWith s m T) (s : Settling) (settled : IsSettled s) (t : ℕ)
     (c : CommitAll TranName) (done : Outcome) (old new : Part) (is : Decides t c done old new)
     (grown : (m : ℕ) → Adds Any (new.entries m) (entries_of t (journal s m))) where
@@ -179,10 +180,8 @@ module _ (law : Tabled) (opens : (s : Settling) (m : ℕ) → IsSettled s → (T
   in_history : (b : Branch) (v : Code) (z : Option Code) (e : Ending) → AtBranch (CarriesOut t) done.commit b v z e (old.entries b.m) (new.entries b.m)
       → InHistory law opens s t settled done.commit (entered_so_far old) (entered_so_far new) b v z e
   in_history b v z e at T with_T =
-      let agree = settled.agree t b.m in
       let asked =
-      branch_entered law t T with_T.opened (journal s b.m) with_T.codes (sent s t b.m) (collected s t b.m) (agreed_fits t (sent s t b.m) (collected s t b.m) (journal s b.m) agree) agree.carried
-      done.commit b v z e (old.entries b.m) (new.entries b.m) at ((grown b.m).0, (grown b.m).1) in
+      branch_entered law s settled t b.m T with_T done.commit b v z e (old.entries b.m) (new.entries b.m) at ((grown b.m).0, (grown b.m).1) in
       (course_of (site_of law s settled t b.m T with_T) b done.commit v z e (entered (old.entries b.m)) (entered (new.entries b.m)) asked, at.ends)
 
   -- what became of them
@@ -194,14 +193,16 @@ module _ (law : Tabled) (opens : (s : Settling) (m : ℕ) → IsSettled s → (T
 
   -- what they count for
   module _ (alone : AreLeftAlone s t (branches_of c) (entered_so_far old) (entered_so_far new)) where
-    pub left_or_decided : AreLeftOrDecided s t (branches_of c) (entered_so_far old) (entered_so_far new)
+    left_or_decided : AreLeftOrDecided s t (branches_of c) (entered_so_far old) (entered_so_far new)
     left_or_decided = search (arith, rules)
 
-    pub counts_as_shown : CountsAsShown s t (branches_of c) old done
-    counts_as_shown =
-        counts_by law opens s t bs old new done (unopposed t c done old new is)
-        (each_outcome (λ b. OnlyTheseName b.xid t (length (old.entries b.m)) (length (new.entries b.m)) (history_of s b.m)) (λ b v z e. AtBranch (CarriesOut t) done.commit b v z e (old.entries b.m) (new.entries b.m)) (CountedSo law opens s t old new done.commit)
-        (λ b v z e only at. (one_both law opens s t settled done.commit (entered_so_far old) (entered_so_far new) b v z e (in_history b v z e at) only, (z, at.ends))) bs done.votes.items is.course.seconds done.endings.items alone.each is.course.each)
+    pub counts_as_shown : IsAsShown s t (branches_of c) old done × CountsAsShown s t (branches_of c) old done
+    counts_as_shown = (
+      as_shown left_or_decided,
+      counts_by law opens s t bs old new done (unopposed t c done old new is)
+          (each_outcome (λ b. OnlyTheseName b.xid t (length (old.entries b.m)) (length (new.entries b.m)) (history_of s b.m)) (λ b v z e. AtBranch (CarriesOut t) done.commit b v z e (old.entries b.m) (new.entries b.m)) (CountedSo law opens s t old new done.commit)
+          (λ b v z e only at. (one_both law opens s t settled done.commit (entered_so_far old) (entered_so_far new) b v z e (in_history b v z e at) only, (z, at.ends))) bs done.votes.items is.course.seconds done.endings.items alone.each is.course.each),
+    )
 
 -- ---- line by line
 
@@ -216,20 +217,143 @@ all_one_outcome steps answers settled t first told k d below c done shows =
     let step = chain_steps settled first told.lines _ told.carried k d below in
     one_outcome (slice_index_or told.lines k d).task.thread c done step.0 step.1 (decided_so settled (slice_index_or told.lines k d) c done step.0 step.1 shows step.2)
 
--- a line of its thread
-module _ (law : Tabled) (opens : (s : Settling) (m : ℕ) → IsSettled s → (T : Tables) × IsOpenedWith s m T) (s : Content) (b : Beginning) (o : Opening)
-    (tells : TellsOf s b o) (c : CommitAll TranName) (done : Outcome)
-    (before : List Line) (l : Line) (after : List Line) (old new : Part) (place : Place (tells.carried l.task.thread) before l after old new) (shows : ShowsCommit l c done) where
-  -- whose branches are left alone but for heuristic decisions
-  pub shown_so : AreLeftOrDecided o.settled l.task.thread (branches_of c) (entered_so_far old) (entered_so_far new)
-      → IsAsShown o.settled l.task.thread (branches_of c) old done
-  shown_so alone =
-      as_shown law opens o.settled tells.agree l.task.thread c done old new (decided_so o.settled l c done old new shows place.takes) (λ m. chain_adds o.settled new after _ place.later m) alone
+-- ---- what a commit that came to no end left, by the line that shows it: it goes by the record: what such a line does
 
-  -- or left alone
-  pub counts_so : AreLeftAlone o.settled l.task.thread (branches_of c) (entered_so_far old) (entered_so_far new)
-      → IsAsShown o.settled l.task.thread (branches_of c) old done × CountsAsShown o.settled l.task.thread (branches_of c) old done
-  counts_so alone =
-      let is = decided_so o.settled l c done old new shows place.takes in
-      let grown : (m : ℕ) → Adds Any (new.entries m) (entries_of l.task.thread (journal o.settled m)) = λ m. chain_adds o.settled new after _ place.later m in
-      (shown_so (left_or_decided law opens o.settled tells.agree l.task.thread c done old new is grown alone), counts_as_shown law opens o.settled tells.agree l.task.thread c done old new is grown alone)
+taken : (settled : Settling) (l : Line) (c : CommitAll TranName) (a : Answer) (old new : Part) → l.answer ≡ a → TakesPart settled l old new
+    → (x : ScriptAction) → l.task.action ≡ x → Takes settled x l.task.thread a old new
+taken settled l c a old new tells takes x asks = search (arith, l.task.thread, l.answer)
+
+pub stopped_so : (settled : Settling) (l : Line) (c : CommitAll TranName) (at : Death) (known : Outcome) (old new : Part) → ShowsDeath l c at known
+    → TakesPart settled l old new → StopsAt l.task.thread c at known old new
+stopped_so settled l c at known old new shows takes = of_answer (taken settled l c (answer.Died at known) old new shows.tells takes _ shows.asks)
+  where
+    of_answer : CommitTakes l.task.thread c (answer.Died at known) old new → StopsAt l.task.thread c at known old new
+    of_answer (died at' d dead told is) =
+        let death : at' ≡ at = cc in
+        let outcome : d ≡ known = cc in
+        subst (λ (x : Outcome). StopsAt l.task.thread c at x old new) outcome (subst (λ (x : Death). StopsAt l.task.thread c x d old new) death is)
+    of_answer (takes_none told e) = absurd (cc)
+    of_answer (undecided votes comes told is) = absurd (cc)
+    of_answer (decided d alive told is) = absurd (cc)
+
+pub lost_so : (settled : Settling) (l : Line) (c : CommitAll TranName) (votes : Vec Code Global) (old new : Part) → ShowsUndecided l c votes
+    → TakesPart settled l old new → LosesSight l.task.thread c votes.items old new
+lost_so settled l c votes old new shows takes = of_answer (taken settled l c (answer.Undecided votes) old new shows.tells takes _ shows.asks)
+  where
+    of_answer : CommitTakes l.task.thread c (answer.Undecided votes) old new → LosesSight l.task.thread c votes.items old new
+    of_answer (undecided v comes told is) = let same : v ≡ votes = cc in subst (λ (x : Vec Code Global). LosesSight l.task.thread c x.items old new) same is
+    of_answer (takes_none told e) = absurd (cc)
+    of_answer (decided d alive told is) = absurd (cc)
+    of_answer (died at d dead told is) = absurd (cc)
+
+-- ---- by the record
+
+abbrev IsNoRollback : Op → Type 0
+IsNoRollback op = is_rollback op ≡ false
+
+-- without a record the transaction isn't recorded
+unrecorded : (tran : TranName) (log later : LogState) → record_of log tran ≡ None → later ≡ log → is_recorded later tran ≡ true → ⊥
+unrecorded tran log later absent same on = search (arith, is_some)
+
+module _ (tran : TranName) (bs : List Branch) (log later : LogState) (known : Outcome) (absent : record_of log tran ≡ None) where
+  votes_by : IsDecidedBy tran bs log later known → is_recorded later tran ≡ false → All (NotToCommit known.commit) known.votes.items
+  votes_by is off =
+      subst (λ c. All (NotToCommit c) known.votes.items) (sym is.decision) (undecided_so tran log later absent known.votes.items known.logged _ is.logs off)
+
+  commits_by : IsDecidedBy tran bs log later known → is_recorded later tran ≡ true → decision_of known.votes.items known.logged ≡ true
+  commits_by is on = logged_so tran log later absent known.votes.items known.logged _ is.logs on
+
+  module _ {D : Type 0} (A : Asking D) (U : Putting D) (old new : ℕ → D) where
+    -- nothing was decided, or it was by the votes
+    far_so : (at : Death) → CameTo A U at tran bs old new log later known → ((known.commit ≡ false) × (later ≡ log)) ⊎ IsDecidedBy tran bs log later known
+    far_so (death.Preparing k) far = inl (far.undecided.commit, far.unlogged)
+    far_so death.Prepared far = inl (far.undecided.commit, far.unlogged)
+    far_so at far = inr far.decided
+
+    -- where there is none, it was decided to abort, or no branch voted to commit
+    pub votes_fit : (at : Death) → CameTo A U at tran bs old new log later known → is_recorded later tran ≡ false
+        → All (NotToCommit known.commit) known.votes.items
+    votes_fit at far off = search (arith, votes_by, far_so)
+
+    -- where there is one, it was decided to commit
+    pub decision_so : (at : Death) → CameTo A U at tran bs old new log later known → is_recorded later tran ≡ true
+        → (known.commit ≡ true) × (decision_of known.votes.items known.logged ≡ true)
+    decision_so at far on = search (arith, unrecorded, commits_by, far_so)
+
+-- ---- endings
+
+-- each has its ending
+pub obeyed_ends : {D : Type 0} (A : Asking D) (commit : Bool) (old new : ℕ → D) (bs : List Branch) (vs : List Code) (zs : List (Option Code)) (es : List Ending)
+    → EachBranch (λ b v z e. VotesAndObeys A commit b v z e (old b.m) (new b.m)) bs vs zs es → EachOutcome (Ends commit) bs vs es
+obeyed_ends A commit old new bs vs zs es h =
+    each_outcome (λ b. Unit {0}) (λ b v z e. VotesAndObeys A commit b v z e (old b.m) (new b.m)) (Ends commit) (λ b v z e _ is. (z, is.ends)) bs vs zs es (λ k d lt. tt) h
+
+-- a branch that isn't to be committed isn't shown as committed
+not_shown : (commit : Bool) (b : Branch) (v : Code) (e : Ending) → NotToCommit commit v × Ends commit b v e → is_committed e ≡ false
+not_shown commit b v e (inl aborts, ends) = out_so commit aborts b v e ends
+not_shown commit b v e (inr against, ends) = ap is_committed ends.1 ∙ unvoted commit v ends.0 against
+
+abbrev none_among : (Ending → Bool) → List Ending → Type 0
+none_among p es = list_any p es ≡ false
+
+module _ {D : Type 0} (A : Asking D) (U : Putting D) (tran : TranName) (bs : List Branch) (old new : ℕ → D) (log later : LogState) (known : Outcome)
+    (absent : record_of log tran ≡ None) where
+  -- no ending is known before all were told
+  unless_told : (p : Ending → Bool) → (CameTo A U death.Told tran bs old new log later known → none_among p known.endings.items)
+      → (at : Death) → CameTo A U at tran bs old new log later known → none_among p known.endings.items
+  unless_told p told death.Told far = told far
+  unless_told p told at far = ap (list_any p) far.endings
+
+  endings_out : (at : Death) → CameTo A U at tran bs old new log later known → is_recorded later tran ≡ false → none_among is_committed known.endings.items
+  endings_out at far off = unless_told is_committed (λ far.
+      no_ending_is (λ b v e. NotToCommit known.commit v × Ends known.commit b v e) is_committed (not_shown known.commit) bs known.votes.items known.endings.items
+      (voted_with (NotToCommit known.commit) (Ends known.commit) bs known.votes.items known.endings.items (votes_by tran bs log later known absent far.decided off) (obeyed_ends A known.commit old new bs known.votes.items far.seconds known.endings.items far.each))) at far
+
+  endings_kept : (at : Death) → CameTo A U at tran bs old new log later known → is_recorded later tran ≡ true → none_among is_rolled_back known.endings.items
+  endings_kept at far on = unless_told is_rolled_back (λ far.
+      let decides = commits_by tran bs log later known absent far.decided on in
+      no_ending_is (λ b v e. (is_no v ≡ false) × Ends known.commit b v e) is_rolled_back (kept_so known.commit (far.decided.decision ∙ decides)) bs known.votes.items known.endings.items
+      (voted_with (λ v. is_no v ≡ false) (Ends known.commit) bs known.votes.items known.endings.items (none_all is_no known.votes.items (none_against known.votes.items known.logged decides)) (obeyed_ends A known.commit old new bs known.votes.items far.seconds known.endings.items far.each))) at far
+
+-- ---- the laws
+
+pub death_by_record : (t : ℕ) (c : CommitAll TranName) (at : Death) (known : Outcome) (old new : Part) → StopsAt t c at known old new
+    → GoesByTheRecord (named c) known.votes.items known.endings.items old new
+death_by_record t c at known old new is =
+    let A = CarriesOut t in
+    let U = CarriesOutSome t in
+    let bs : List Branch = branches_of c in
+    let log = old.log in
+    let later = new.log in
+    record {
+      unsent = λ off m.
+          let adds = stops_adds IsNoCommit (NotToCommit known.commit) m t c at known old new (λ k d lt. record {
+            prepares = λ here. refl;
+            obeys = λ here v w. no_commit_so known.commit (get_or bs k d).xid v w IsNoCommit (λ op e. e);
+          }) (votes_fit (named c) bs log later known is.unlogged A U old.entries new.entries at is.course.far off) is in
+          (adds.0, adds.1, list_any_none (λ (e : Entry). is_commit e.0.op) adds.0 adds.2);
+      uncommitted = λ off. endings_out A U (named c) bs old.entries new.entries log later known is.unlogged at is.course.far off;
+      unopposed = λ on.
+          none_against known.votes.items known.logged (decision_so (named c) bs log later known is.unlogged A U old.entries new.entries at is.course.far on).1;
+      kept = λ on m.
+          let adds = stops_adds IsNoRollback (λ v. Unit {0}) m t c at known old new (λ k d lt. record {
+            prepares = λ here. refl;
+            obeys = λ here v w. no_rollback_so known.commit (get_or bs k d).xid v (decision_so (named c) bs log later known is.unlogged A U old.entries new.entries at is.course.far on).0 IsNoRollback (λ op e. e);
+          }) (λ k d lt. tt) is in
+          (adds.0, adds.1, list_any_none (λ (e : Entry). is_rollback e.0.op) adds.0 adds.2);
+      committed = λ on. endings_kept A U (named c) bs old.entries new.entries log later known is.unlogged at is.course.far on;
+    }
+
+pub undecided_by_record : (t : ℕ) (c : CommitAll TranName) (votes : List Code) (old new : Part) → LosesSight t c votes old new
+    → GoesByTheRecord (named c) votes [] old new
+undecided_by_record t c votes old new is = record {
+  unsent = λ off m.
+      let adds = loses_adds IsNoCommit m t c votes old new (λ k d lt here. refl) is in
+      (adds.0, adds.1, list_any_none (λ (e : Entry). is_commit e.0.op) adds.0 adds.2);
+  uncommitted = λ off. refl;
+  unopposed = λ on. none_against votes true ((λ i. (and_parts (decides_commit votes) (has_yes votes) is.wanted).0 i && or-true (not (has_yes votes)) i));
+  kept = λ on m.
+      let adds = loses_adds IsNoRollback m t c votes old new (λ k d lt here. refl) is in
+      (adds.0, adds.1, list_any_none (λ (e : Entry). is_rollback e.0.op) adds.0 adds.2);
+  committed = λ on. refl;
+}

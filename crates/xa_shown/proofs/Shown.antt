@@ -154,15 +154,12 @@ module _ (t : ℕ) (c : CommitAll TranName) (done : Outcome) (old new : Part) (i
 
 -- ---- line by line
 
-no_element : (ls : List Line) (l : Line) → ls ≡ [] → Contains ls l → ⊥
-no_element ls l e there = let size = ap (λ xs. length xs) e in let below = there.1 in omega (arith, size, below)
-
 -- what a line has put into the journals is there after the last line
 module _ (settled : Settling) (l : Line) (Has : (ℕ → List Entry) → Type 0)
     (stays : (old new : ℕ → List Entry) → ((m : ℕ) → Adds Any (old m) (new m)) → Has old → Has new)
     (puts : (old new : Part) → TakesPart settled l old new → Has new.entries) (first : Part) where
   chain_has : (ls : List Line) (p : Part) → Chain (TakesPart settled) first ls p → Contains ls l → Has p.entries
-  chain_has ls p (none xs last e f) there = absurd (no_element xs l e there)
+  chain_has ls p (none xs last e f) there = absurd (let size = ap (λ ys. length ys) e in let below = there.1 in omega (arith, size, below))
   chain_has ls p (more xs x now last before is) there =
       ⊎_elim (λ (h : Contains xs l). stays now.entries last.entries (takes_adds settled x.task.action x.task.thread x.answer now last is) (chain_has xs now before h))
       (λ (h : x ≡ l). puts now last (subst (λ (y : Line). TakesPart settled y now last) h is))
@@ -221,8 +218,7 @@ module _ (steps : List ScriptStep) (answers : List Told) (settled : Settling) (t
       (λ old new takes. commit_prepared u c done old new (decided_so settled l c done old new shows takes) commit j b at) in
       (has.0, has.1, in_journal settled t b.m u (Prepare b.xid) has.0 has.2)
 
--- ---- a commit that aborts
-
+-- a commit that aborts
 pub aborts_commit_none : (t : ℕ) (c : CommitAll TranName) (done : Outcome) (old new : Part) → Decides t c done old new → done.commit ≡ false → (m : ℕ)
     → AddsNoCommit (old.entries m) (new.entries m)
 aborts_commit_none t c done old new is aborts m =

@@ -1,8 +1,8 @@
 -- What became of the branches of a commit that came to no end.
 use Rattle.xa_tables.specs.{is_heur, HeuristicDecision, Fate, decided_fate, fate, Tables}
-use Rattle.xa_base.proofs.{Global, Vec, slice_get, All, ◌≡◌, ℕ, inl, inr, suc, ◌<◌, ◌≤◌, Bool, true, false, ◌||◌, if◌then◌else◌, List, [], ◌∷◌, ◌++◌, length}
-use Rattle.xa_base.proofs.{length-append, append_assoc, append-nil, Option, zero, Some, None, get_or, sym, refl, ap, ◌∙◌, subst, arith, list_any, or-true}
-use Rattle.xa_base.proofs.{cases_Bool, All-cons, All-nil, All-head, All-tail, begins_same, next_there, some_same}
+use Rattle.xa_base.proofs.{slice_get, All, ◌≡◌, ℕ, inl, inr, suc, ◌<◌, ◌≤◌, Bool, true, false, ◌||◌, if◌then◌else◌, List, [], ◌∷◌, ◌++◌, length, length-append}
+use Rattle.xa_base.proofs.{append_assoc, append-nil, Option, zero, Some, None, get_or, sym, refl, ap, ◌∙◌, subst, arith, list_any, or-true, cases_Bool}
+use Rattle.xa_base.proofs.{All-cons, All-nil, All-head, All-tail, begins_same, next_there, some_same}
 use Rattle.std.proofs.lemmas.Bool.{both_ways}
 use Rattle.std.proofs.lemmas.Option.{slice_get_past}
 use Rattle.xa_base.specs.{Begins}
@@ -10,7 +10,7 @@ use Rattle.xa_words.specs.{TranName, Done, RmFail, Death, Op, Prepare, Code}
 use Rattle.xa_words.specs.declared.death.Death.TheVariants as death
 use Rattle.xa_tables.specs.Histories as history
 use Rattle.xa_worker.specs.{Entry}
-use Rattle.xa_switch.specs.{Settling, IsSettled, collected, journal, sent, IsOpenedWith, history as history_of, settled_fate}
+use Rattle.xa_switch.specs.{Settling, IsSettled, journal, IsOpenedWith, history as history_of, settled_fate}
 use Rattle.xa_calls.specs.Scans.{Asking}
 use Rattle.xa_driver.specs.{Branch, Done as Outcome, Ending, Committed, RolledBack, AsksFor, CameTo, HaveAsked, HaveTold, IsDecidedBy, Tells, VotesAndObeys}
 use Rattle.xa_driver.specs.{to_come, has_yes, is_no, is_yes, ending_of, second_op, EachBranch}
@@ -25,28 +25,23 @@ use Rattle.xa_atomicity.proofs.Fated.{none_decides}
 use Rattle.xa_atomicity.proofs.OneOutcome.{after_yes}
 use Rattle.xa_atomicity.proofs.OneOutcome.{recorded_is}
 use Rattle.xa_atomicity.proofs.Settled.{Both, Fated, InHistory, each_outcome, one_both, one_fated, outcome_map, site_of}
-use Rattle.xa_atomicity.proofs.Sites.{Sent, AsksIn, asks, withholds, StandsIn}
-use Rattle.xa_grammar.specs.{CommitAll, Content}
+use Rattle.xa_atomicity.proofs.Sites.{AsksIn, asks, withholds, StandsIn}
+use Rattle.xa_grammar.specs.{CommitAll}
 use Rattle.xa_session.specs.{branches_of, named}
-use Rattle.xa_telling.specs.{Part, next_entry, CarriesOut, CarriesOutSome, LosesSight, StopsAt, Line, entries_of, Beginning, Opening, TellsOf}
+use Rattle.xa_telling.specs.{Part, next_entry, CarriesOut, CarriesOutSome, LosesSight, StopsAt, entries_of}
 use Rattle.xa_telling.specs.Commits.CarriesOut.{carried, withheld}
-use Rattle.xa_telling.proofs.Deaths.{asked_so, each_so}
-use Rattle.xa_telling.proofs.Entries.{agreed_fits}
-use Rattle.xa_shown.specs.{Place, entered_so_far, EndByTheRecord, EndsByTheRecord, EndSoOrAreDecided, EndsSoOrIsDecided, HasAgreed, IsAsFarAsShown}
-use Rattle.xa_shown.specs.{IsAsFarUnlessDecided, ShowsDeath, ShowsUndecided, are_told_by}
+use Rattle.xa_telling.proofs.Branches.{asked_so, each_so}
+use Rattle.xa_shown.specs.{entered_so_far, EndByTheRecord, EndsByTheRecord, EndSoOrAreDecided, EndsSoOrIsDecided, HasAgreed, IsAsFarAsShown}
+use Rattle.xa_shown.specs.{IsAsFarUnlessDecided, are_told_by}
 use Rattle.xa_shown.specs.Unfinished.EndsByTheRecord.{ends, doubts}
 use Rattle.xa_shown.specs.Unfinished.EndsSoOrIsDecided.{decided, ends_so}
 use Rattle.xa_shown.proofs.Adds.{Adds}
-use Rattle.xa_shown.proofs.Became.{carry_begins, entered, obeys_entered, vote_entered}
-use Rattle.xa_shown.proofs.Decided.{IsSoOrDecided, doubt_or_decided}
-use Rattle.xa_shown.proofs.Decided.IsSoOrDecided.{is_decided_so, is_so}
+use Rattle.xa_shown.proofs.Became.{carry_begins, entered, obeys_entered, vote_entered, IsSoOrDecided, doubt_or_decided}
+use Rattle.xa_shown.proofs.Became.IsSoOrDecided.{is_decided_so, is_so}
 use Rattle.xa_shown.proofs.Outcomes.{CountedSo, FatedSo, as_shown_by, counts_by}
-use Rattle.xa_shown.proofs.Placed.{chain_adds}
 use Rattle.xa_shown.proofs.Shown.{none_against}
-use Rattle.xa_shown.proofs.Unfinished.{lost_so, stopped_so}
 
--- ---- what was asked at each branch
-
+-- what was asked at each branch
 module _ (t : ℕ) (old new : ℕ → List Entry) where
   abbrev A : Asking (List Entry)
   A = CarriesOut t
@@ -98,19 +93,15 @@ module _ (t : ℕ) (old new : ℕ → List Entry) where
     Far at = CameTo A (CarriesOutSome t) at tran bs old new log later known
 
     pub untold : (at : Death) → are_told_by at ≡ false → Far at → All (λ b. (v : Code) × CarriesOut t (old b.m) (Prepare b.xid) (new b.m) v) bs
-    untold (death.Preparing k) none far = asked_each bs known.votes.items far.asked
-    untold death.Prepared none far = asked_each bs known.votes.items far.asked
-    untold death.Decided none far = asked_each bs known.votes.items far.asked
     untold (death.Telling k) none far = absurd (cc)
     untold death.Told none far = absurd (cc)
+    untold at none far = asked_each bs known.votes.items far.asked
 
     pub told : (W : Code → Type 0) (at : Death) → are_told_by at ≡ true → (IsDecidedBy tran bs log later known → All W known.votes.items) → Far at
         → All (Heard W known.commit) bs
-    told W (death.Preparing k) some so far = absurd (cc)
-    told W death.Prepared some so far = absurd (cc)
-    told W death.Decided some so far = absurd (cc)
     told W (death.Telling k) some so far = told_each W known.commit k bs known.votes.items (so far.decided) far.told
     told W death.Told some so far = ended_each W known.commit bs known.votes.items far.seconds known.endings.items (so far.decided) far.each
+    told W at some so far = absurd (cc)
 
 -- ---- by the record
 
@@ -131,8 +122,7 @@ ended_fate : (commit : Bool) → told_fate (if commit then Committed else Rolled
 ended_fate true = refl
 ended_fate false = refl
 
--- ---- in a settled opening
-
+-- in a settled opening
 module _ (law : Tabled) (opens : (s : Settling) (m : ℕ) → IsSettled s → (T : Tables) × IsOpenedWith s m T) (s : Settling) (settled : IsSettled s) (t : ℕ)
     (old new : Part) (grown : (m : ℕ) → Adds Any (new.entries m) (entries_of t (journal s m))) (b : Branch) where
   abbrev n : ℕ
@@ -140,30 +130,6 @@ module _ (law : Tabled) (opens : (s : Settling) (m : ℕ) → IsSettled s → (T
 
   abbrev last : ℕ
   last = length (new.entries b.m)
-
-  abbrev was : Sent
-  was = entered (old.entries b.m)
-
-  abbrev now : Sent
-  now = entered (new.entries b.m)
-
-  abbrev begins : Begins (new.entries b.m) (entries_of t (journal s b.m))
-  begins = ((grown b.m).0, (grown b.m).1)
-
-  vote_in : (v : Code) → CarriesOut t (old.entries b.m) (Prepare b.xid) (new.entries b.m) v → (T : Tables) → IsOpenedWith s b.m T
-      → AsksIn t T (history_of s b.m) was (Prepare b.xid) now v
-  vote_in v is T with_T =
-      let agree = settled.agree t b.m in
-      vote_entered law t T with_T.opened (journal s b.m) with_T.codes (sent s t b.m) (collected s t b.m) (agreed_fits t (sent s t b.m) (collected s t b.m) (journal s b.m) agree) agree.carried
-      b v (old.entries b.m) (new.entries b.m) is begins
-
-  obeys_in : (commit : Bool) (v : Code) (z : Option Code) (e : Ending) → VotesAndObeys (CarriesOut t) commit b v z e (old.entries b.m) (new.entries b.m)
-      → (T : Tables) → IsOpenedWith s b.m T
-      → VotesAndObeys (AsksIn t T (history_of s b.m)) commit b v z e was now
-  obeys_in commit v z e is T with_T =
-      let agree = settled.agree t b.m in
-      obeys_entered law t T with_T.opened (journal s b.m) with_T.codes (sent s t b.m) (collected s t b.m) (agreed_fits t (sent s t b.m) (collected s t b.m) (journal s b.m) agree) agree.carried
-      commit b v z e (old.entries b.m) (new.entries b.m) is begins
 
   -- ---- a branch that voted to commit
 
@@ -186,15 +152,15 @@ module _ (law : Tabled) (opens : (s : Settling) (m : ℕ) → IsSettled s → (T
   alone_so v (withheld fails has same) agreed = absurd (none_added same agreed)
   alone_so v (carried is) agreed = record {
     limit = let size = ap (λ l. length l) is in omega (arith, size, length-append (old.entries b.m) (own_entry v ∷ []));
-    stands = λ T with_T. by_place T (vote_is v (new.entries b.m) is ([], sym (append-nil (new.entries b.m))) agreed) (vote_in v (carried is) T with_T);
+    stands = λ T with_T. by_place T (vote_is v (new.entries b.m) is ([], sym (append-nil (new.entries b.m))) agreed) (vote_entered law s settled t b.m T with_T b v (old.entries b.m) (new.entries b.m) (carried is) (((grown b.m).0, (grown b.m).1)));
   }
     where
-      by_place : (T : Tables) → v ≡ Done → AsksIn t T (history_of s b.m) was (Prepare b.xid) now v → StandsIn t n (Prepare b.xid) Done T (history_of s b.m)
+      by_place : (T : Tables) → v ≡ Done → AsksIn t T (history_of s b.m) (entered (old.entries b.m)) (Prepare b.xid) (entered (new.entries b.m)) v
+          → StandsIn t n (Prepare b.xid) Done T (history_of s b.m)
       by_place T done (asks stands hears to) = subst (λ c. StandsIn t n (Prepare b.xid) c T (history_of s b.m)) done stands
       by_place T done (withholds shut fails same) = absurd (let z : Done ≡ RmFail = sym done ∙ fails in cc)
 
-  -- ---- one that was told the decision
-
+  -- one that was told the decision
   module _ (commit : Bool) (v : Code) (z : Option Code) (e : Ending)
       (is : VotesAndObeys (CarriesOut t) commit b v z e (old.entries b.m) (new.entries b.m)) where
     unasked : (commit : Bool) → second_op commit b.xid RmFail ≡ None
@@ -215,10 +181,11 @@ module _ (law : Tabled) (opens : (s : Settling) (m : ℕ) → IsSettled s → (T
 
     -- what it went through in its manager's history
     course_in : InHistory law opens s t settled commit (entered_so_far old) (entered_so_far new) b v z e
-    course_in T with_T = (course_obeyed (site_of law s settled t b.m T with_T) b commit v z e was now (obeys_in commit v z e is T with_T), is.ends)
+    course_in T with_T =
+        let obeys = obeys_entered law s settled t b.m T with_T commit b v z e (old.entries b.m) (new.entries b.m) is (((grown b.m).0, (grown b.m).1)) in
+        (course_obeyed (site_of law s settled t b.m T with_T) b commit v z e (entered (old.entries b.m)) (entered (new.entries b.m)) obeys, is.ends)
 
-  -- ---- where others may decide it heuristically
-
+  -- where others may decide it heuristically
   module _ (only : OnlyTheseOrDecisionsName b.xid t n last (history_of s b.m)) where
     pub doubt_unless_decided : (v : Code) → CarriesOut t (old.entries b.m) (Prepare b.xid) (new.entries b.m) v → HasAgreed t b old new
         → (recorded told_so : Bool) → told_so ≡ false → (before : Fate) → WasAtFirst s b before → EndsSoOrIsDecided s t b n recorded told_so before
@@ -273,8 +240,7 @@ module _ (law : Tabled) (opens : (s : Settling) (m : ℕ) → IsSettled s → (T
           y : is_yes v ≡ true
           y = ap is_yes done
 
-  -- ---- where nobody else names it
-
+  -- where nobody else names it
   module _ (only : OnlyTheseName b.xid t n last (history_of s b.m)) where
     only_or_decisions : OnlyTheseOrDecisionsName b.xid t n last (history_of s b.m)
     only_or_decisions before after r place own number k d lt named other = only before after r place own number k d lt named
@@ -304,8 +270,7 @@ module _ (law : Tabled) (opens : (s : Settling) (m : ℕ) → IsSettled s → (T
       pub counted : Both law opens s t b n last v e
       counted = one_both law opens s t settled commit (entered_so_far old) (entered_so_far new) b v z e (course_in commit v z e is) only
 
--- ---- all of them
-
+-- all of them
 module _ (law : Tabled) (opens : (s : Settling) (m : ℕ) → IsSettled s → (T : Tables) × IsOpenedWith s m T) (s : Settling) (settled : IsSettled s) (t : ℕ)
     (c : CommitAll TranName) (old new : Part) (grown : (m : ℕ) → Adds Any (new.entries m) (entries_of t (journal s m))) where
   abbrev own : List Branch
@@ -334,8 +299,7 @@ module _ (law : Tabled) (opens : (s : Settling) (m : ℕ) → IsSettled s → (T
     unopposed_so : known.commit ≡ true → list_any is_no known.votes.items ≡ false
     unopposed_so commits = none_against known.votes.items known.logged (sym far.decided.decision ∙ commits)
 
-  -- ---- where others may decide them heuristically
-
+  -- where others may decide them heuristically
   module _ (alone : AreLeftOrDecided s t (branches_of c) (entered_so_far old) (entered_so_far new)) where
     pub undecided_unless : (votes : List Code) → LosesSight t c votes old new → EndSoOrAreDecided s t own recorded false old new
     undecided_unless votes is = record {
@@ -359,8 +323,7 @@ module _ (law : Tabled) (opens : (s : Settling) (m : ℕ) → IsSettled s → (T
           (λ b v z e only h. (fated_so law opens s settled t old new grown b only known.commit v z e h, (z, h.ends))) own known.votes.items came.seconds known.endings.items alone.each came.each);
     }
 
-  -- ---- where nobody else names them
-
+  -- where nobody else names them
   module _ (alone : AreLeftAlone s t (branches_of c) (entered_so_far old) (entered_so_far new)) where
     pub undecided_ends : (votes : List Code) → LosesSight t c votes old new → EndByTheRecord s t own recorded false old new
     undecided_ends votes is = record {
@@ -389,39 +352,3 @@ module _ (law : Tabled) (opens : (s : Settling) (m : ℕ) → IsSettled s → (T
             (outcome_map (CountedSo law opens s t old new known.commit) (FatedSo law opens s t old known.commit) (λ b v e h. (h.0.fated, h.1)) own known.votes.items known.endings.items (all_counted whole));
         counts = λ whole. counts_by law opens s t own old new known (unopposed_so at known is whole) (all_counted whole);
       }
-
--- ---- of a line
-
-module _ (law : Tabled) (opens : (s : Settling) (m : ℕ) → IsSettled s → (T : Tables) × IsOpenedWith s m T) (s : Content) (b : Beginning) (o : Opening)
-    (tells : TellsOf s b o) (c : CommitAll TranName) where
-  pub place_stopped : (at : Death) (known : Outcome) (before : List Line) (l : Line) (after : List Line) (old new : Part)
-      → Place (tells.carried l.task.thread) before l after old new → ShowsDeath l c at known
-      → AreLeftAlone o.settled l.task.thread (branches_of c) (entered_so_far old) (entered_so_far new)
-      → IsAsFarAsShown o.settled l.task.thread c at known old new
-  place_stopped at known before l after old new place shows alone =
-      as_far_as_shown law opens o.settled tells.agree l.task.thread c old new (λ m. chain_adds o.settled new after _ place.later m) alone at known
-      (stopped_so o.settled l c at known old new shows place.takes)
-
-  pub place_decided : (at : Death) (known : Outcome) (before : List Line) (l : Line) (after : List Line) (old new : Part)
-      → Place (tells.carried l.task.thread) before l after old new → ShowsDeath l c at known
-      → AreLeftOrDecided o.settled l.task.thread (branches_of c) (entered_so_far old) (entered_so_far new)
-      → IsAsFarUnlessDecided o.settled l.task.thread c at known old new
-  place_decided at known before l after old new place shows alone =
-      as_far_unless law opens o.settled tells.agree l.task.thread c old new (λ m. chain_adds o.settled new after _ place.later m) alone at known
-      (stopped_so o.settled l c at known old new shows place.takes)
-
-  pub place_undecided : (votes : Vec Code Global) (before : List Line) (l : Line) (after : List Line) (old new : Part)
-      → Place (tells.carried l.task.thread) before l after old new → ShowsUndecided l c votes
-      → AreLeftAlone o.settled l.task.thread (branches_of c) (entered_so_far old) (entered_so_far new)
-      → EndByTheRecord o.settled l.task.thread (branches_of c) (is_recorded new.log (named c)) false old new
-  place_undecided votes before l after old new place shows alone =
-      undecided_ends law opens o.settled tells.agree l.task.thread c old new (λ m. chain_adds o.settled new after _ place.later m) alone votes.items
-      (lost_so o.settled l c votes old new shows place.takes)
-
-  pub place_undecided_unless : (votes : Vec Code Global) (before : List Line) (l : Line) (after : List Line) (old new : Part)
-      → Place (tells.carried l.task.thread) before l after old new → ShowsUndecided l c votes
-      → AreLeftOrDecided o.settled l.task.thread (branches_of c) (entered_so_far old) (entered_so_far new)
-      → EndSoOrAreDecided o.settled l.task.thread (branches_of c) (is_recorded new.log (named c)) false old new
-  place_undecided_unless votes before l after old new place shows alone =
-      undecided_unless law opens o.settled tells.agree l.task.thread c old new (λ m. chain_adds o.settled new after _ place.later m) alone votes.items
-      (lost_so o.settled l c votes old new shows place.takes)

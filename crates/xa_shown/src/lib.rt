@@ -35,6 +35,7 @@ use xa_atomicity::tables_keep_to_their_laws;
 use xa_switch::laws::settled_journals_follow_the_tables;
 
 /// Each call without `TMASYNC` that answers XA_OK has its request in its manager's journal, with XA_OK.
+#[tactic(auto, using(crate::proofs::Shown::all_carried_out))]
 pub fn what_answers_ok_is_carried_out()
     ensures { (steps : List ScriptStep) (answers : List Told) (settled : Settling) (t : ℕ) (first : Part)
         (told : AreCarriedOut steps answers settled t first) → All (IsCarriedOut settled) told.lines }
@@ -103,6 +104,7 @@ pub fn branches_are_as_shown()
 
 /// A line of a commit that came to no end goes by the record that its thread's log has after it, or turns out to have.
 /// Its coordinator died (`died`), or nobody knows whether the log has the record (`undecided`).
+#[tactic(auto, using(crate::proofs::Outcomes::death_by_record, crate::proofs::Outcomes::stopped_so, crate::proofs::Outcomes::undecided_by_record, crate::proofs::Outcomes::lost_so))]
 pub fn unfinished_commits_go_by_the_record()
     ensures died { (settled : Settling) (l : Line) (c : CommitAll TranName) (at : Death) (known : Done)
         (old new : Part) → TakesPart settled l old new → ShowsDeath l c at known

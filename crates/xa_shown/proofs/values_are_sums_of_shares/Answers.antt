@@ -1,4 +1,4 @@
-use Rattle.xa_shown.proofs.Sums.{sums_of_shares}
+use Rattle.xa_shown.proofs.Adds.{sums_of_shares}
 use Rattle.xa_shown.proofs.values_are_sums_of_shares.Goals as goal
 
 pub returns : goal.returns
