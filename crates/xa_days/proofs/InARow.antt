@@ -196,15 +196,12 @@ pub settled_law : (accounts : List (List ℕ × ℕ)) (m : ℕ) (T : Tables) (o 
     → SettledWorthIsRecorded accounts m T o later legs
 settled_law accounts m T o later legs settled row first known day =
     ap (worth accounts) (sym (leaves m o later T settled row first))
-    ∙ day_law accounts T (history o.settled m) (histories m later) legs (opened_law.opened) known (record {
+    ∙ day_law accounts T (history o.settled m) (histories m later) legs (follows_first o.settled m T (All-head Settles o later settled) first).opened known (record {
       distinct = day.distinct;
       among = day.among;
       each = λ k d lt. comes_out (get_or legs k d) (day.each k d lt);
     })
   where
-    opened_law : IsOpenedWith o.settled m T
-    opened_law = follows_first o.settled m T (All-head Settles o later settled) first
-
     comes_out : (g : Leg) → ComesOutByTheLog accounts m T o later g → ComesOut accounts T (history o.settled m) (histories m later) g
     comes_out g (voted fresh votes told known ends sum) =
         voted_leg votes told (ends_by m g.xid o later T settled row first votes told g.recorded known fresh ends) sum
