@@ -115,9 +115,6 @@ fail_there : (cs : List Code) → list_any is_rm_fail cs ≡ true → Contains c
 fail_there cs e =
     let (k, c, below, at, fails) = Any-from_list_any is_rm_fail cs e in subst (Contains cs) (is_rm_fail_so c fails) (k, below, at)
 
-there_fails : (cs : List Code) → Contains cs RmFail → list_any is_rm_fail cs ≡ true
-there_fails cs (k, below, at) = list_any-from_Any is_rm_fail cs (k, RmFail, below, at, refl)
-
 entered_more : (old : List Entry) (e : Entry)
     → entered (old ++ e ∷ []) ≡ record { number = suc (length old); shut = list_any is_rm_fail (codes_in old) || is_rm_fail e.1 }
 entered_more old e = search (arith, length-append, list_any, map-append, list_any-append, or-false)
@@ -139,14 +136,12 @@ module _ (law : Tabled) (s : Settling) (settled : IsSettled s) (t m : ℕ) (T : 
   abbrev es : List Entry
   es = entries_of t (journal s m)
 
-  fits : Fits t (sent s t m) (collected s t m) es
-  fits = agreed_fits t (sent s t m) (collected s t m) (journal s m) (settled.agree t m)
-
   -- an entry of the thread stands in the history
   entry_stands : (old rest : List Entry) (op : Op) (c : Code) → es ≡ old ++ next_entry t old op c ∷ rest → StandsIn t (length old) op c T (history_of s m)
   entry_stands old rest op c place =
       let n : ℕ = length old in
       let e : Entry = next_entry t old op c in
+      let fits : Fits t (sent s t m) (collected s t m) es = agreed_fits t (sent s t m) (collected s t m) (journal s m) (settled.agree t m) in
       let at : slice_get es n ≡ Some e = next_there es old rest e (sym place) in
       let request : slice_get (map (λ (d : Entry). d.0) es) n ≡ Some e.0 = slice_get-map (λ (d : Entry). d.0) es n ∙ ap (option_map (λ (d : Entry). d.0)) at in
       stands_by (site_of law s settled t m T with_T) n op c (op_numbered t 0 (sent s t m) n e.0 (ap (λ l. slice_get l n) (sym fits.carried) ∙ request))
@@ -155,7 +150,8 @@ module _ (law : Tabled) (s : Settling) (settled : IsSettled s) (t m : ℕ) (T : 
   asked_so : (old new : List Entry) (op : Op) (c : Code) → CarriesOut t old op new c → Unit {0} → Begins new es
       → AsksIn t T (history_of s m) (entered old) op (entered new) c
   asked_so old new op c (carried is) q grown = search (arith, append_assoc, entry_stands, fails_on, fail_there, entered_more, grown.0)
-  asked_so old new op c (withheld fails shut same) q grown = withholds (there_fails (codes_in old) shut) fails (ap entered same)
+  asked_so old new op c (withheld fails shut same) q grown =
+      withholds (list_any-from_Any is_rm_fail (codes_in old) (shut.0, RmFail, shut.1, shut.2, refl)) fails (ap entered same)
 
   began : (old new : List Entry) (op : Op) (c : Code) → CarriesOut t old op new c → Begins new es → Begins old es
   began old new op c is grown = begins_on old new es (carry_begins t old new op c is) grown

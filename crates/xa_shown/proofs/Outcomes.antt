@@ -193,12 +193,9 @@ module _ (law : Tabled) (opens : (s : Settling) (m : ℕ) → IsSettled s → (T
 
   -- what they count for
   module _ (alone : AreLeftAlone s t (branches_of c) (entered_so_far old) (entered_so_far new)) where
-    left_or_decided : AreLeftOrDecided s t (branches_of c) (entered_so_far old) (entered_so_far new)
-    left_or_decided = search (arith, rules)
-
     pub counts_as_shown : IsAsShown s t (branches_of c) old done × CountsAsShown s t (branches_of c) old done
     counts_as_shown = (
-      as_shown left_or_decided,
+      as_shown (search (arith, rules)),
       counts_by law opens s t bs old new done (unopposed t c done old new is)
           (each_outcome (λ b. OnlyTheseName b.xid t (length (old.entries b.m)) (length (new.entries b.m)) (history_of s b.m)) (λ b v z e. AtBranch (CarriesOut t) done.commit b v z e (old.entries b.m) (new.entries b.m)) (CountedSo law opens s t old new done.commit)
           (λ b v z e only at. (one_both law opens s t settled done.commit (entered_so_far old) (entered_so_far new) b v z e (in_history b v z e at) only, (z, at.ends))) bs done.votes.items is.course.seconds done.endings.items alone.each is.course.each),

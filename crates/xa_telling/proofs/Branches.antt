@@ -237,9 +237,6 @@ rooms at (b ∷ bs) room = All-cons (Room at) b bs room.0 (rooms at bs room.1)
 
 -- ---- a ledger only grows
 
-ask_grows : (a a' : LedgerView) (op : Op) (c : Code) → AsksLedger a op a' c → HasGrown a a'
-ask_grows a a' op c asks = subst (HasGrown a) (sym asks.trace) (asked_grows a (Some op) (Some c))
-
 put_grows : (a a' : LedgerView) (op : Op) → PutsLedger a op a' → HasGrown a a'
 put_grows a a' op (put_sent open_ is) = subst (HasGrown a) (sym is) (record { sent = (op ∷ [], refl); collected = (as_it_was a).collected })
 put_grows a a' op (put_withheld shut same) = subst (HasGrown a) (sym same) (as_it_was a)
@@ -272,7 +269,7 @@ module _ (settled : Settling) (is : IsSettled settled) (t : ℕ) where
     Later a = HasGrown a (ledger last m)
 
     asked_before : (a a' : LedgerView) (op : Op) (c : Code) → AsksLedger a op a' c → Later a' → Later a
-    asked_before a a' op c asks later = grown_on a a' (ledger last m) (ask_grows a a' op c asks) later
+    asked_before a a' op c asks later = grown_on a a' (ledger last m) (subst (HasGrown a) (sym asks.trace) (asked_grows a (Some op) (Some c))) later
 
     put_before : (a a' : LedgerView) (op : Op) → PutsLedger a op a' → Later a' → Later a
     put_before a a' op puts later = grown_on a a' (ledger last m) (put_grows a a' op puts) later

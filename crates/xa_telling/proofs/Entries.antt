@@ -48,16 +48,13 @@ pub put_sound : (a a' : LedgerView) (op : Op) → PutsLedger a op a' → Sound a
 put_sound a a' op (put_sent open_ is) all = subst Sound (sym is) (sent_sound a op all)
 put_sound a a' op (put_withheld shut same) all = subst Sound (sym same) all
 
-abbrev StaysSound : LedgerView → LedgerView → Type 0
-StaysSound a b = Sound a → Sound b
-
 pub sending_sound : (at : List LedgerView) (m : ℕ) (op : Op) → AllSound at → AllSound (after_sent at m op)
 sending_sound at m op all n low =
-    put_each StaysSound (λ a sound. sound) at m (with_sent (ledger at m) op) (sent_sound (ledger at m) op) n (all n low)
+    put_each (λ a b. Sound a → Sound b) (λ a sound. sound) at m (with_sent (ledger at m) op) (sent_sound (ledger at m) op) n (all n low)
 
 pub collecting_sound : (at : List LedgerView) (o : Operation) (c : Code) → IsOut at o → AllSound at → AllSound (after_collected at o c)
 collecting_sound at o c out all n low =
-    put_each StaysSound (λ a sound. sound) at o.manager (with_collected (ledger at o.manager) o.number c)
+    put_each (λ a b. Sound a → Sound b) (λ a sound. sound) at o.manager (with_collected (ledger at o.manager) o.number c)
     (collected_sound (ledger at o.manager) o.number c out.sent) n (all n low)
 
 -- what is collected sends nothing

@@ -46,16 +46,13 @@ pub map_map : {A B C : Type 0} (f : B → C) (g : A → B) (xs : List A) → map
 map_map f g [] = refl
 map_map f g (x ∷ xs) = ap (λ l. f (g x) ∷ l) (map_map f g xs)
 
-says_many : (s : Content) (p : Plan) → IsPlanOf s p → length p.managers.items ≡ managers_of s
-says_many s p is = search (arith, length-map-range_with_len, length-map)
-
 -- what is made by the script's plan is what the script says
 pub planned_setup : (s : Content) (p : Plan) → IsPlanOf s p → IsSound p → IsSetupOf s 1 (opened s) (planned p)
 planned_setup s p is sound =
     let range = range_with_len 1 (managers_of s) in
     record {
       numbers = is.numbers;
-      managers = says_many s p is;
+      managers = search (arith, length-map-range_with_len, length-map);
       use_async =
           sym (map_map (λ (a : Bool × List (List ℕ × ℕ)). a.0) plan_says p.managers.items)
           ∙ ap (map (λ (a : Bool × List (List ℕ × ℕ)). a.0)) is.managers

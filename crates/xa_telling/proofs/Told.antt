@@ -50,9 +50,6 @@ pub record HaveEnded (n : ℕ) (first now : DeskView) (told : List (ℕ × Code)
   pub rising : AllPairs (λ x y. x.0 < y.0) told
   pub sent : (m : ℕ) → (ledger now.ledgers m).sent ≡ (ledger first.ledgers m).sent
 
-none_ended : (first : DeskView) → HaveEnded 0 first first []
-none_ended first = search (arith, All-nil)
-
 -- one more number that kept something
 module _ (n : ℕ) (first now next : DeskView) (told : List (ℕ × Code)) (h : HaveEnded n first now told) where
   fresh : (1 ≤ n + 1) × (n + 1 ≤ n) → ⊥
@@ -97,7 +94,7 @@ one_ended n first now next h (free empty same) =
 -- the numbers of a chain
 pub numbers_ended : (first : DeskView) (ks : List ℕ) (last : Telling) → Chain EndsNumber (first, []) ks last → (n : ℕ) → ks ≡ range_with_len 1 n
     → HaveEnded n first last.0 last.1
-numbers_ended first ks last (none xs l e f) zero same = subst (λ (x : Telling). HaveEnded 0 first x.0 x.1) (sym f) (none_ended first)
+numbers_ended first ks last (none xs l e f) zero same = subst (λ (x : Telling). HaveEnded 0 first x.0 x.1) (sym f) (search (arith, All-nil))
 numbers_ended first ks last (none xs l e f) (suc n) same = absurd (let size = ap (λ (l : List ℕ). length l) (sym e ∙ same) in omega (arith, size))
 numbers_ended first ks last (more xs x now l before is) zero same =
     absurd (let size = ap (λ (l : List ℕ). length l) same in omega (arith, size, length-append xs (x ∷ [])))
@@ -168,9 +165,6 @@ log_left b left (suc k) = log_in (b.logs (suc k)) (slice_get left k)
 
 pub log_there : (b : Beginning) (left : List Session) (k : ℕ) (x : Session) → slice_get left k ≡ Some x → x.log.found.state ≡ log_left b left (suc k)
 log_there b left k x at = sym (ap (log_in (b.logs (suc k))) at)
-
-no_log_there : (b : Beginning) (left : List Session) (k : ℕ) → length left ≤ k → b.logs (suc k) ≡ log_left b left (suc k)
-no_log_there b left k past = sym (ap (log_in (b.logs (suc k))) (slice_get_past left k past))
 
 module _ (s : Content) (b : Beginning) (steps : List ScriptStep) (answers : List Told) (sessions left : List Session) (workers : List WorkerView)
     (ended : List EndedView) (done : List Served)
@@ -343,7 +337,7 @@ module _ (s : Content) (b : Beginning) (steps : List ScriptStep) (answers : List
         (λ (h : (x : Session) × (k < length sessions) × (slice_get sessions k ≡ Some x) × (slice_index_or sessions k x ≡ x)). thread_carried k h.0 h.2)
         (λ (h : (length sessions ≤ k) × (slice_get sessions k ≡ None)).
         other_carried (suc k) (λ j x at same. let within = slice_get_within sessions j x at in let thread = thread_at j x at in let past = h.0 in omega (arith, within, thread, past, same))
-        (let past = h.0 in let as_many = r.many_left in no_log_there b left k (omega (arith, past, as_many))))
+        (let past = h.0 in let as_many = r.many_left in sym (ap (log_in (b.logs (suc k))) (slice_get_past left k (omega (arith, past, as_many))))))
         (slice_get_cases sessions k).1
 
   -- what the answers tell
