@@ -1,19 +1,25 @@
+-- A commit that was cut short, seen over the first managers of its desk alone, of which there are no more than a record has
+-- places for.
 -- What a commit came to that was made, or whose coordinator died: whether its log has the record is what was told, where the
 -- first branch isn't read only.
-use Rattle.xa_base.proofs.{rules, is_some, ◌≡◌, ◌≢◌, ℕ, zero, Bool, true, false, cond, Option, None, Some, List, [], ◌∷◌, ◌++◌, length, append_assoc, sym, refl}
-use Rattle.xa_base.proofs.{ap, ◌∙◌, subst, arith, inl, inr, All, Contains, eq_by_cmp, is_eq, tied_itself, get-insert, or-true, and_parts, Contains-append_right}
-use Rattle.xa_base.proofs.{is_equal}
 use Rattle.std.specs.FinMap as map
-use Rattle.xa_words.specs.{XidName, TranName, tran_of, Done, RdOnly, Death, Op, Prepare, Code}
-use Rattle.xa_words.proofs.Xids.{xid_self}
 use Rattle.xa_words.specs.declared.death.Death.TheVariants as death
+use Rattle.xa_base.proofs.{◌≡◌, ℕ, ◌-◌, ◌<◌, ◌≤◌, ⊎_elim, List, [], ◌∷◌, length, get_or, take, sym, refl, subst, arith, Option, All, cases_lt, All-head}
+use Rattle.xa_base.proofs.{All-tail, rules, is_some, ◌≢◌, zero, Bool, true, false, cond, None, Some, ◌++◌, append_assoc, ap, ◌∙◌, inl, inr, Contains, eq_by_cmp}
+use Rattle.xa_base.proofs.{is_eq, tied_itself, get-insert, or-true, and_parts, Contains-append_right, is_equal}
+use Rattle.std.proofs.lemmas.List.{length-take, get_or-take}
+use Rattle.std.proofs.lemmas.List.Sums.{sum_by-take-le}
+use Rattle.xa_base.specs.{MOST_MANAGERS, IsUpTo}
+use Rattle.xa_words.specs.{Code, TranName, XidName, tran_of, RdOnly, Death, Op, Prepare}
+use Rattle.xa_desk.specs.{LedgerView, DeskView, ledger, no_ledger, HasGrown, HaveGrown, learnt_shut, with_collected, with_sent}
+use Rattle.xa_desk.proofs.Ledgers.{past_end}
+use Rattle.xa_driver.specs.{Branch, Ending, ending_of, EachBranch, HaveRoom, MayCommit, decision_of, Done as Made, AtBranch, CameTo, HaveAsked, HaveTold}
+use Rattle.xa_driver.specs.{IsDecidedBy, PutsLedger, decides_commit, has_yes, yes_of, AsksLedger, IsTranOf, Logs, appended, failed, unwanted}
+use Rattle.xa_log.specs.{LogState, IsEither, record_of, with_record, tran_cmp}
+use Rattle.xa_atomicity.specs.{CameSoFar, EachVote, IsAsked, IsCut, IsEnded, IsTold, asking, forgetting, telling, is_recorded}
+use Rattle.xa_words.proofs.Xids.{xid_self}
 use Rattle.xa_tables.specs.{names, is_heur}
-use Rattle.xa_desk.specs.{LedgerView, learnt_shut, with_collected, with_sent, ledger, DeskView}
-use Rattle.xa_log.specs.{IsEither, LogState, record_of, with_record, tran_cmp}
 use Rattle.xa_log.proofs.Transactions.{tran_cmp_total, tran_cmp-IsAntisymmetric}
-use Rattle.xa_driver.specs.{Branch, Done as Made, Ending, AtBranch, CameTo, HaveAsked, HaveTold, IsDecidedBy, PutsLedger, decides_commit, has_yes, yes_of}
-use Rattle.xa_driver.specs.{AsksLedger, EachBranch, IsTranOf, Logs, appended, decision_of, failed, unwanted}
-use Rattle.xa_atomicity.specs.{IsCut, is_recorded}
 use Rattle.xa_atomicity.proofs.CutVotes.{finished_law}
 use Rattle.xa_atomicity.proofs.Staged.{died_is_cut}
 use Rattle.xa_atomicity.proofs.Staged.{nothing_between, undecided_is_cut}
@@ -23,7 +29,89 @@ use Rattle.xa_work.proofs.Sent.{none_sent}
 use Rattle.xa_work.proofs.Voted.{MayAsk, SentAt, StaysElsewhere, VotedSo, came_each, heard_so, made_each, made_so, obeyed_so, voted_each, voted_elsewhere}
 use Rattle.xa_bank_days.specs.{is_applied}
 
--- ---- what it sent
+-- the first managers
+abbrev pub fewer : List LedgerView → List LedgerView
+fewer at = take MOST_MANAGERS at
+
+abbrev pub fewer_at : DeskView → DeskView
+fewer_at desk = record desk { ledgers = fewer desk.ledgers }
+
+abbrev pub IsLow : Branch → Type 0
+IsLow b = IsUpTo MOST_MANAGERS b.m
+
+pub same_ledger : (at : List LedgerView) (m : ℕ) → IsUpTo MOST_MANAGERS m → ledger (fewer at) m ≡ ledger at m
+same_ledger at m (low, high) = get_or-take MOST_MANAGERS at (m - 1) no_ledger (omega (arith, low, high))
+
+pub few_left : (at : List LedgerView) → length (fewer at) ≤ MOST_MANAGERS
+few_left at = let e = length-take MOST_MANAGERS at in omega (arith, e)
+
+-- what was sent and collected grows all the same
+pub fewer_grown : (at final : List LedgerView) → HaveGrown at final → HaveGrown (fewer at) final
+fewer_grown at final grown = record {
+  each = λ m positive.
+      ⊎_elim
+      (λ (above : MOST_MANAGERS < m).
+      let none : ledger (fewer at) m ≡ no_ledger = search (arith, past_end, few_left) in
+      subst (λ (a : LedgerView). HasGrown a (ledger final m)) (sym none) (record { sent = ((ledger final m).sent, refl); collected = ((ledger final m).collected, refl) }))
+      (λ (low : m ≤ MOST_MANAGERS). subst (λ (a : LedgerView). HasGrown a (ledger final m)) (sym (same_ledger at m (positive, low))) (grown.each m positive))
+      (cases_lt MOST_MANAGERS m);
+}
+
+-- ---- the cut
+
+fewer_room : (at : List LedgerView) (bs : List Branch) → All IsLow bs → HaveRoom at bs → HaveRoom (fewer at) bs
+fewer_room at [] low h = tt
+fewer_room at (b ∷ bs) low h = search (arith, fewer_room at bs (All-tail IsLow b bs low) h.1, All-tail, All-head, length-take, same_ledger)
+
+pub fewer_may : (desk : DeskView) (log : LogState) (bs : List Branch) → All IsLow bs → MayCommit desk log bs → MayCommit (fewer_at desk) log bs
+fewer_may desk log bs low may = record {
+  some = may.some;
+  most = may.most;
+  rising = may.rising;
+  room = fewer_room desk.ledgers bs low may.room;
+  free = search (arith, sum_by-take-le, desk.ledgers, may.free);
+  tran = may.tran;
+  one = may.one;
+  absent = may.absent;
+}
+
+module _ (old new : List LedgerView) where
+  at_branch : (P : LedgerView → LedgerView → Type 0) (b : Branch) → IsLow b → P (ledger old b.m) (ledger new b.m)
+      → P (ledger (fewer old) b.m) (ledger (fewer new) b.m)
+  at_branch P b up h = search (arith, same_ledger, b.m)
+
+  at_votes : (P : Branch → Code → LedgerView → LedgerView → Type 0) (bs : List Branch) (vs : List Code) → All IsLow bs
+      → EachVote (λ b v. P b v (ledger old b.m) (ledger new b.m)) bs vs → EachVote (λ b v. P b v (ledger (fewer old) b.m) (ledger (fewer new) b.m)) bs vs
+  at_votes P [] [] low h = tt
+  at_votes P (b ∷ bs) (v ∷ vs) low h = (at_branch (P b v) b (All-head IsLow b bs low) h.0, at_votes P bs vs (All-tail IsLow b bs low) h.1)
+  at_votes P bs vs low h = absurd h
+
+  at_branches : (P : Branch → Code → Option Code → Ending → LedgerView → LedgerView → Type 0) (bs : List Branch) (vs : List Code) (ss : List (Option Code))
+      (es : List Ending) → All IsLow bs → EachBranch (λ b v s e. P b v s e (ledger old b.m) (ledger new b.m)) bs vs ss es
+      → EachBranch (λ b v s e. P b v s e (ledger (fewer old) b.m) (ledger (fewer new) b.m)) bs vs ss es
+  at_branches P [] [] [] [] low h = tt
+  at_branches P (b ∷ bs) (v ∷ vs) (s ∷ ss) (e ∷ es) low h =
+      (at_branch (P b v s e) b (All-head IsLow b bs low) h.0, at_branches P bs vs ss es (All-tail IsLow b bs low) h.1)
+  at_branches P bs vs ss es low h = absurd h
+
+  fewer_far : (tran : TranName) (bs : List Branch) (log later : LogState) (endings : List Ending) → All IsLow bs
+      → CameSoFar tran bs old new log later endings → CameSoFar tran bs (fewer old) (fewer new) log later endings
+  fewer_far tran bs log later endings low (asking same unknown each) =
+      asking same unknown (λ k d lt. let b : Branch = get_or bs k d in at_branch (IsAsked b) b (low k d lt) (each k d lt))
+  fewer_far tran bs log later endings low (telling votes logged logs unknown each) =
+      telling votes logged logs unknown (at_votes (λ b v a a'. IsTold (decision_of votes logged) b v a a') bs votes low each)
+  fewer_far tran bs log later endings low (forgetting votes logged seconds logs each) =
+      forgetting votes logged seconds logs
+      (at_branches (λ b v s e a a'. IsEnded (decision_of votes logged) b v s a a' × (e ≡ ending_of (decision_of votes logged) v s)) bs votes seconds endings low each)
+
+pub fewer_cut : (bs : List Branch) (desk : DeskView) (new : List LedgerView) (log later : LogState) (endings : List Ending) → All IsLow bs
+    → IsCut bs desk new log later endings → IsCut bs (fewer_at desk) (fewer new) log later endings
+unfolding fewer_may
+fewer_cut bs desk new log later endings low cut = record {
+  may = fewer_may desk log bs low cut.may;
+  far = fewer_far desk.ledgers new cut.may.tran bs log later endings low cut.far;
+  managers = let e = length-take MOST_MANAGERS new in let f = length-take MOST_MANAGERS desk.ledgers in let g = cut.managers in omega (arith, e, f, g);
+}
 
 -- the request names the branch, and is no decision of its manager's own
 abbrev pub Obeys : XidName → Op → Type 0
@@ -35,10 +123,6 @@ may_obey b = search (arith, xid_self)
 -- to a branch's manager such requests, and to the others nothing
 abbrev pub ObeysAt : List LedgerView → List LedgerView → Branch → Type 0
 ObeysAt old new = SentAt (λ b. Obeys b.xid) old new
-
-pub record ObeysAll (bs : List Branch) (old new : List LedgerView) : Type 0 where
-  pub each : All (ObeysAt old new) bs
-  pub others : StaysElsewhere bs old new
 
 -- ---- the record
 
@@ -126,9 +210,8 @@ module _ (old new : List LedgerView) (b : Branch) (bs : List Branch) where
 
 -- where it isn't read only, and no vote is against, there is one to commit
 some_yes : (v : Code) (vs : List Code) → (v ≡ RdOnly → ⊥) → decides_commit (v ∷ vs) ≡ true → has_yes (v ∷ vs) ≡ true
-some_yes Done vs reads decides = refl
 some_yes RdOnly vs reads decides = absurd (reads refl)
-some_yes v vs reads decides = cc
+some_yes v vs reads decides = search arith
 
 some_decided : (b : Branch) (vs : List Code) (a a' : LedgerView) → FirstVoted b vs a a' → (OnlyReads b a a' → ⊥) → decides_commit vs ≡ true → has_yes vs ≡ true
 some_decided b vs a a' z never decides =
@@ -151,7 +234,8 @@ decided_so t managers votes logged log later some (unwanted wants off is) = sear
 pub record HasCome (one two : Branch) (was : Bool) (desk : DeskView) (new : List LedgerView) (log later : LogState) : Type 0 where
   pub endings : List Ending
   pub cut : IsCut (one ∷ two ∷ []) desk new log later endings
-  pub obeys : ObeysAll (one ∷ two ∷ []) desk.ledgers new
+  pub obeys : All (ObeysAt desk.ledgers new) (one ∷ two ∷ [])
+  pub elsewhere : StaysElsewhere (one ∷ two ∷ []) desk.ledgers new
   pub others : (t : TranName) → t ≢ tran_of one.xid → record_of later t ≡ record_of log t
   pub applied : (OnlyReads one (ledger desk.ledgers one.m) (ledger new one.m) → ⊥) → is_recorded later (tran_of one.xid) ≡ was
 
@@ -206,11 +290,8 @@ has_come one two at found o desk new log later (in_full d none is made) read =
     record {
       endings = d.endings.items;
       cut = finished_law (one ∷ two ∷ []) desk new log later d made;
-      obeys = record {
-        each =
-            made_each (λ b. Obeys b.xid) IsAny (λ b _. may_obey b) desk.ledgers new made.may.tran (one ∷ two ∷ []) log later d (λ k b lt. tt) made.trace;
-        others = made.trace.course.others;
-      };
+      obeys = made_each (λ b. Obeys b.xid) IsAny (λ b _. may_obey b) desk.ledgers new made.may.tran (one ∷ two ∷ []) log later d (λ k b lt. tt) made.trace;
+      elsewhere = made.trace.course.others;
       others = λ t other. others_stay made.may.tran t managers d.votes.items d.logged log later (λ e. other (e ∙ sym first)) made.trace.course.logs;
       applied = λ never.
           ap (is_recorded later) first
@@ -226,12 +307,8 @@ has_come one two at found o desk new log later (cut_short point known_ some is d
     record {
       endings = known_.endings.items;
       cut = died_is_cut point died.may.tran (one ∷ two ∷ []) desk new log later known_ died.may died.may.one died.dies died.managers;
-      obeys = record {
-        each =
-            came_each (λ b. Obeys b.xid) IsAny (λ b _. may_obey b) desk.ledgers new point died.may.tran (one ∷ two ∷ []) log later known_ (λ k b lt. tt)
-            died.dies.far;
-        others = died.dies.others;
-      };
+      obeys = came_each (λ b. Obeys b.xid) IsAny (λ b _. may_obey b) desk.ledgers new point died.may.tran (one ∷ two ∷ []) log later known_ (λ k b lt. tt) died.dies.far;
+      elsewhere = died.dies.others;
       others = λ t other.
           came_others died.may.tran (one ∷ two ∷ []) (ledger desk.ledgers) (ledger new) log later known_ point t (λ e. other (e ∙ sym first)) died.dies.far;
       applied = λ never.
@@ -249,10 +326,8 @@ has_come one two at found o desk new log later (undecided votes decides is may v
     record {
       endings = [];
       cut = undecided_is_cut bs desk new new log later votes.items may.tran may voted (nothing_between bs new) may.one wanted either;
-      obeys = record {
-        each = voted_each (λ b. Obeys b.xid) IsAny (λ b _. (may_obey b).first) desk.ledgers new bs votes.items (λ k b lt. tt) voted;
-        others = voted_elsewhere bs desk.ledgers new votes.items voted;
-      };
+      obeys = voted_each (λ b. Obeys b.xid) IsAny (λ b _. (may_obey b).first) desk.ledgers new bs votes.items (λ k b lt. tt) voted;
+      elsewhere = voted_elsewhere bs desk.ledgers new votes.items voted;
       others = λ t other. either_others may.tran t managers log later (λ e. other (e ∙ sym first)) either;
       applied = λ never. so.found_ ∙ ap (is_applied found) (sym is);
     }

@@ -1,20 +1,19 @@
 -- Transfers between accounts that both stores have leave what all accounts are worth together.
-use Rattle.xa_base.proofs.{ℤ, pos, ◌+ℤ◌, is_some, unwrap_or, if◌then◌else◌, ◌&&◌, ◌≡◌, ◌≢◌, ℕ, zero, suc, ◌+◌, ◌-◌, ◌<◌, ◌≤◌, ⊎_elim, Bool, true, false, cond}
-use Rattle.xa_base.proofs.{not, ◌||◌, ◌==◌, Option, None, Some, List, [], ◌∷◌, length, get_or, map, sym, refl, ap, ◌∙◌, subst, arith, eq-eqb, All, list_any}
-use Rattle.xa_base.proofs.{range_with_len, find, get-from_entries, +ℤ_idl as none_plus, +ℤ_idr as plus_none, ints, and_parts, cases_eq, eqb-true, ne_eqb}
-use Rattle.xa_base.proofs.{not-true, or_parts, all_at, got, range_all, total_across, total_alike, total_both, total_nothing, total_same}
+use Rattle.xa_base.proofs.{ℤ, pos, ◌+ℤ◌, unwrap_or, if◌then◌else◌, ◌&&◌, ◌≡◌, ◌≢◌, ℕ, zero, suc, ◌+◌, ◌-◌, ◌<◌, ◌≤◌, ⊎_elim, Bool, true, false, not, ◌||◌, ◌==◌}
+use Rattle.xa_base.proofs.{Option, None, Some, List, [], ◌∷◌, length, get_or, sym, refl, ap, ◌∙◌, subst, arith, eq-eqb, All, list_any, range_with_len}
+use Rattle.xa_base.proofs.{get-from_entries, +ℤ_idl as none_plus, +ℤ_idr as plus_none, ints, and_parts, cases_eq, eqb-true, ne_eqb, not-true, or_parts, all_at}
+use Rattle.xa_base.proofs.{got, range_all, total_across, total_alike, total_both, total_nothing, total_same}
 use Rattle.std.specs.Prelude.{neg_ℤ}
 use Rattle.xa_base.specs.{IsUpTo, total}
 use Rattle.xa_words.specs.{key_eq, Decides-key_eq, key_cmp_total}
-use Rattle.xa_words.specs.Orders.{key_cmp}
-use Rattle.xa_tables.proofs.AccountLemmas.{key_self, same_key}
-use Rattle.xa_tables.specs.{are_accounts, are_apart, opening, is_declared, value_of, worth, worth_declared, Tables}
+use Rattle.xa_days.proofs.InARow.{opens_with}
+use Rattle.xa_tables.specs.{DeclareEach, are_accounts, are_apart, opening, is_declared, value_of, worth, worth_declared, Tables}
 use Rattle.xa_tables.proofs.WorthLaw.{worth_law}
 use Rattle.xa_switch.specs.{ManagerPlan, Plan, last_in, IsSound, IsSoundManager, ManagerPart, find_manager, value, value_in, accounts_in, accounts_of}
 use Rattle.xa_switch.specs.{managers_of, plan_worth, settled_worth, Settling}
 use Rattle.xa_bank.specs.{Transfer}
 use Rattle.xa_bank_days.specs.{balances_at, all_applied, IsWithin}
-use Rattle.xa_bank_days.proofs.Shares.{all_applied_is, counts_for}
+use Rattle.xa_bank_days.proofs.Made.{all_applied_is, counts_for}
 
 -- ---- sums that have one part
 
@@ -60,26 +59,22 @@ once_in_range a (suc n) t v from below =
     ∙ once_in_range (a + 1) n t v (omega (arith, from, other)) (omega (arith, below)))
     (cases_eq t a)
 
--- ---- the plan
-
+-- the plan
 module _ (p : Plan) (sound : IsSound p) where
-  abbrev stores : ℕ
-  stores = length p.managers.items
-
-  sound_at : (m : ℕ) → IsUpTo stores m → are_accounts (accounts_of p m) ≡ true
+  sound_at : (m : ℕ) → IsUpTo (length p.managers.items) m → are_accounts (accounts_of p m) ≡ true
   sound_at m (low, high) =
       let x = got p.managers.items (m - 1) (omega (arith, low, high)) in
       ap (λ (o : Option ManagerPlan). are_accounts (accounts_in o)) x.1 ∙ all_at IsSoundManager p.managers.items (m - 1) x.0 sound.accounts x.1
 
-  apart_at : (m : ℕ) → IsUpTo stores m → are_apart (accounts_of p m) ≡ true
+  apart_at : (m : ℕ) → IsUpTo (length p.managers.items) m → are_apart (accounts_of p m) ≡ true
   apart_at m up = (and_parts _ _ (and_parts _ _ (sound_at m up)).1).1
 
   -- what is added to one account at one store, over all accounts of all stores
-  once_at : (t : ℕ) (k : List ℕ) (v : ℤ) → IsUpTo stores t → list_any (λ d. key_eq d.0 k) (accounts_of p t) ≡ true
+  once_at : (t : ℕ) (k : List ℕ) (v : ℤ) → IsUpTo (length p.managers.items) t → list_any (λ d. key_eq d.0 k) (accounts_of p t) ≡ true
       → total (λ m. total (λ d. if (t == m) && key_eq d.0 k then v else pos 0) (accounts_of p m)) (managers_of p) ≡ v
   once_at t k v up there =
       total_same (λ m. total (λ d. if (t == m) && key_eq d.0 k then v else pos 0) (accounts_of p m)) (λ m. if t == m then v else pos 0) (managers_of p) at_store
-      ∙ once_in_range 1 stores t v up.0 (let high = up.1 in omega (arith, high))
+      ∙ once_in_range 1 (length p.managers.items) t v up.0 (let high = up.1 in omega (arith, high))
     where
       at_store : (m : ℕ) → total (λ d. if (t == m) && key_eq d.0 k then v else pos 0) (accounts_of p m) ≡ (if t == m then v else pos 0)
       at_store m =
@@ -117,17 +112,6 @@ module _ (p : Plan) (sound : IsSound p) where
 
 -- ---- the stores
 
--- each of the accounts is found in the first tables
-found : (accounts : Accounts) → All (λ d. is_some (find key_cmp d.0 (map (λ e. (e.0, pos e.1)) accounts)) ≡ true) accounts
-found [] k d lt = absurd (omega (arith, lt))
-found (d ∷ ds) zero e lt = ap (λ b. is_some (cond b (Some (pos d.1)) (find key_cmp d.0 (map (λ e. (e.0, pos e.1)) ds)))) (key_self d.0)
-found (d ∷ ds) (suc k) e lt =
-    let q : List ℕ = (get_or ds k e).0 in
-    elim (same_key q d.0) as (λ b. is_some (cond b (Some (pos d.1)) (find key_cmp q (map (λ e. (e.0, pos e.1)) ds))) ≡ true) [
-      | true ↦ refl
-      | false ↦ found ds k e (omega (arith, lt))
-    ]
-
 -- what a store has of a key at the end
 value_at : (o : Option ManagerPart) (k : List ℕ) → unwrap_or (value_in k o) (pos 0) ≡ value_of (last_in o).values k
 value_at None k = sym (ap (λ (v : Option ℤ). unwrap_or v (pos 0)) (get-from_entries key_cmp_total [] k))
@@ -137,11 +121,8 @@ module _ (p : Plan) (sound : IsSound p) (es : List (Transfer × Bool)) (within :
     (opens : (m : ℕ) → IsUpTo (length p.managers.items) m → last_in (find_manager m s.managers) ≡ opening (accounts_of p m))
     (moves : (m : ℕ) (k : List ℕ) → IsUpTo (length p.managers.items) m → is_declared (last_in (find_manager m s.managers)) k ≡ true
     → balances_at s' m k ≡ all_applied es (balances_at s) m k) where
-  declared : (m : ℕ) → IsUpTo (length p.managers.items) m → All (λ d. is_declared (last_in (find_manager m s.managers)) d.0 ≡ true) (accounts_of p m)
-  declared m up k d lt =
-      let q : List ℕ = (get_or (accounts_of p m) k d).0 in
-      ap (λ (T : Tables). is_declared T q) (opens m up)
-      ∙ ap is_some (get-from_entries key_cmp_total (map (λ (e : List ℕ × ℕ). (e.0, pos e.1)) (accounts_of p m)) q) ∙ found (accounts_of p m) k d lt
+  declared : (m : ℕ) → IsUpTo (length p.managers.items) m → DeclareEach (accounts_of p m) (last_in (find_manager m s.managers))
+  declared m up = subst (DeclareEach (accounts_of p m)) (sym (opens m up)) (opens_with (accounts_of p m))
 
   -- at one store
   at_store : (m : ℕ) → IsUpTo (length p.managers.items) m

@@ -1,30 +1,146 @@
+-- What a transfer is to an account at a store, by its legs; and what many are together.
 -- What one transfer comes to at one store, for one account: the legs that it has there, and what else was sent.
-use Rattle.xa_base.proofs.{arith, ℤ, pos, if◌then◌else◌, ◌≡◌, ◌≢◌, ℕ, ◌+◌, ◌^◌, ◌<◌, ◌≤◌, ◌⊎◌, Bool, true, false, ◌||◌, None, Some, List, [], ◌∷◌, sym, refl}
-use Rattle.xa_base.proofs.{ap, ◌∙◌, subst, inl, inr, list_any, cases_eq, ne_eqb, All-nil, All-cons, Contains}
+use Rattle.xa_base.proofs.{ℤ, pos, ◌+ℤ◌, if◌then◌else◌, ◌≡◌, ◌≢◌, ℕ, Bool, true, false, List, [], ◌∷◌, ◌++◌, sym, refl, ap, ◌∙◌, arith, eq-eqb}
+use Rattle.xa_base.proofs.{+ℤ_idl as none_plus, +ℤ_idr as plus_none, ints, ne_eqb, subst, map, get_or, All, All-nil, All-cons, All-head, All-tail, All-append}
+use Rattle.xa_base.proofs.{All-weaker, by_bool, none_twice, ◌+◌, ◌^◌, ◌<◌, ◌≤◌, ◌⊎◌, ◌||◌, None, Some, inl, inr, list_any, cases_eq, Contains}
+use Rattle.std.specs.Prelude.{neg_ℤ}
+use Rattle.std.specs.List.{AllByRecursion, IsDistinct}
+use Rattle.xa_base.specs.{total}
+use Rattle.xa_words.specs.{key_eq, XidName, xid_eq, Decides-xid_eq, TranName, tran_of, Op, Start}
+use Rattle.xa_days.specs.{Leg, counted, ComesOutByTheLog, leg_of}
+use Rattle.xa_bank.specs.{Transfer, AreLegs, pays_first, paid_first, Habits, death_in, shut_before, Makes, MakesNext, branches_of, changes_of, tran_named}
+use Rattle.xa_bank.specs.{with_legs, without_legs}
+use Rattle.xa_bank.proofs.Legs.{AnyLeg, leg_work}
+use Rattle.xa_bank_days.specs.{Balances, all_applied, applied, share, IsNamed, is_applied}
 use Rattle.xa_words.proofs.Xids.{xid_self}
-use Rattle.xa_words.specs.{XidName, xid_eq, Decides-xid_eq, TranName, tran_of, Op, Start, End, Prepare, Commit, Rollback, Forget, Heur}
 use Rattle.xa_tables.specs.{Tables, state_of, names}
 use Rattle.xa_desk.specs.{LedgerView, DeskView, ledger}
 use Rattle.xa_switch.specs.{Again, Settling, first_of, ledgers_of}
 use Rattle.xa_log.specs.{LogState, Records, record_in, record_of}
-use Rattle.xa_driver.specs.{Branch, is_commit, MayCommit, has_branch_at}
+use Rattle.xa_driver.specs.{is_commit, MayCommit, has_branch_at}
 use Rattle.xa_atomicity.specs.{is_recorded, ResolveCall}
-use Rattle.xa_days.specs.{Leg, ComesOutByTheLog, leg_of}
 use Rattle.xa_work.specs.declared.unit.Refusal.{Refusal}
 use Rattle.xa_work.specs.{Change, GivenUp, WorkOutcome, Refused, HasSent, HaveSent, IsFor, IfLost, IsRefused}
 use Rattle.xa_work.specs.Units.IsRefused.{unbegun, undone, barred}
 use Rattle.xa_work.specs.Units.Transacts.{commits, refused}
 use Rattle.xa_work.proofs.Sent.{none_sent, sent_on, sent_as, have_on}
-use Rattle.xa_bank.specs.{Habits, Transfer, death_in, shut_before, AreLegs, Makes, MakesNext, branches_of, changes_of, tran_named, with_legs, without_legs}
-use Rattle.xa_bank.proofs.Legs.{AnyLeg, leg_work}
 use Rattle.xa_bank.proofs.Named.{IsOf, Is, IsFrom, IsShut, LegsOf, Names, comes_names, either_named, legs_are, shut_names, shut_sent, work_names}
 use Rattle.xa_bank.proofs.LostRecords.{if_both}
 use Rattle.xa_bank.proofs.Told.{Earlier, IsBelow, earlier_on}
-use Rattle.xa_bank_days.specs.{IsNamed, is_applied, share}
 use Rattle.xa_bank_days.proofs.Come.{IsReadSo, Obeys, has_come}
-use Rattle.xa_bank_days.proofs.Keeps.{left_is}
+use Rattle.xa_bank_days.proofs.Went.{left_is}
 use Rattle.xa_bank_days.proofs.Out.{Committed, IsScene, ItsLeg, call, day, first_leg, night, out_of, second_leg}
-use Rattle.xa_bank_days.proofs.Shares.{LegsSo, Part, first_share, legs_as, no_legs, no_share, one_leg, second_share}
+
+-- one
+module _ (tr : Transfer) (m : ℕ) (k : List ℕ) where
+  abbrev pub Part : ℤ → ℤ
+  Part v = if key_eq k tr.account then v else pos 0
+
+  share_pays : tr.from ≡ m → tr.to ≢ m → share tr m k ≡ Part (neg_ℤ (pos tr.amount))
+  share_pays is isnt = search (arith, eq-eqb, ne_eqb, none_plus)
+
+  share_paid : tr.to ≡ m → tr.from ≢ m → share tr m k ≡ Part (pos tr.amount)
+  share_paid is isnt = search (arith, eq-eqb, ne_eqb, plus_none)
+
+  share_none : tr.to ≢ m → tr.from ≢ m → share tr m k ≡ pos 0
+  share_none p q = search (arith, ne_eqb, none_plus)
+
+  module _ (t n : ℕ) (one two : AnyLeg) where
+    pub first_share : AreLegs t n tr one two → one.branch.m ≡ m → share tr m k ≡ Part one.delta
+    first_share (pays_first small rising pays paid) at = search (arith, share_pays, pays.store)
+    first_share (paid_first small rising paid pays) at = search (arith, share_paid, paid.store)
+
+    pub second_share : AreLegs t n tr one two → two.branch.m ≡ m → share tr m k ≡ Part two.delta
+    second_share (pays_first small rising pays paid) at = search (arith, share_paid, paid.store)
+    second_share (paid_first small rising paid pays) at = search (arith, share_pays, pays.store)
+
+    pub no_share : AreLegs t n tr one two → one.branch.m ≢ m → two.branch.m ≢ m → share tr m k ≡ pos 0
+    no_share (pays_first small rising pays paid) p q = share_none (λ e. q (paid.store ∙ e)) (λ e. p (pays.store ∙ e))
+    no_share (paid_first small rising paid pays) p q = share_none (λ e. p (paid.store ∙ e)) (λ e. q (pays.store ∙ e))
+
+-- ---- many
+
+-- what a transfer counts for, by whether it was applied
+abbrev pub counts_for : ℕ → List ℕ → Transfer × Bool → ℤ
+counts_for m k e = if e.1 then share e.0 m k else pos 0
+
+one_applied : (tr : Transfer) (was : Bool) (B : Balances) (m : ℕ) (k : List ℕ) → applied tr was B m k ≡ B m k +ℤ counts_for m k (tr, was)
+one_applied tr true B m k = refl
+one_applied tr false B m k = sym (plus_none (B m k))
+
+brackets : (a b c : ℤ) → (a +ℤ b) +ℤ c ≡ a +ℤ (b +ℤ c)
+brackets a b c = omega (arith, ints)
+
+-- all of them together are added
+pub all_applied_is : (es : List (Transfer × Bool)) (B : Balances) (m : ℕ) (k : List ℕ) → all_applied es B m k ≡ B m k +ℤ total (counts_for m k) es
+all_applied_is [] B m k = sym (plus_none (B m k))
+all_applied_is (e ∷ es) B m k = search (arith, all_applied_is es (applied e.0 e.1 B) m k, one_applied, brackets, e.0, e.1)
+
+pub total_append : {A : Type 0} (f : A → ℤ) (xs ys : List A) → total f (xs ++ ys) ≡ total f xs +ℤ total f ys
+total_append f [] ys = sym (none_plus (total f ys))
+total_append f (x ∷ xs) ys = ap (λ v. f x +ℤ v) (total_append f xs ys) ∙ sym (brackets (f x) (total f xs) (total f ys))
+
+-- ---- legs that count for them
+
+apart_from : (x : XidName) (xs ys : List Leg) → AllByRecursion (λ y. xid_eq x y ≡ false) (map (λ g. g.xid) xs) → All (λ g. xid_eq x g.xid ≡ false) ys
+    → AllByRecursion (λ y. xid_eq x y ≡ false) (map (λ (g : Leg). g.xid) (xs ++ ys))
+apart_from x [] [] h all = tt
+apart_from x [] (y ∷ ys) h all =
+    (All-head (λ (g : Leg). xid_eq x g.xid ≡ false) y ys all, apart_from x [] ys tt (All-tail (λ (g : Leg). xid_eq x g.xid ≡ false) y ys all))
+apart_from x (z ∷ xs) ys h all = (h.0, apart_from x xs ys h.1 all)
+
+-- those of two lists are of different branches, where none of the one is of one of the other's
+both_once : (xs ys : List Leg) → IsDistinct xid_eq (map (λ g. g.xid) xs) → IsDistinct xid_eq (map (λ g. g.xid) ys)
+    → All (λ f. All (λ g. xid_eq f.xid g.xid ≡ false) ys) xs → IsDistinct xid_eq (map (λ (g : Leg). g.xid) (xs ++ ys))
+unfolding IsDistinct
+both_once [] ys h k apart = k
+both_once (x ∷ xs) ys h k apart =
+    let P : Leg → Type 0 = λ f. All (λ g. xid_eq f.xid g.xid ≡ false) ys in
+    (apart_from x.xid xs ys h.0 (All-head P x xs apart), both_once xs ys h.1 k (All-tail P x xs apart))
+
+once_alone : (x : XidName) → IsDistinct xid_eq (x ∷ [])
+unfolding IsDistinct
+once_alone x = (tt, tt)
+
+-- Legs that came out so, each of one of its owner's branches and no two of the same: what they count for together, and what is noted of them.
+pub record LegsSo (Out : Leg → Type 0) (Own : XidName → Type 0) (v : ℤ) (Notes : List Leg → Type 0) : Type 0 where
+  pub legs : List Leg
+  pub outs : All Out legs
+  pub own : All (λ g. Own g.xid) legs
+  pub once : IsDistinct xid_eq (map (λ g. g.xid) legs)
+  pub sum : total counted legs ≡ v
+  pub notes : Notes legs
+
+pub no_legs : {Out : Leg → Type 0} {Own : XidName → Type 0} {v : ℤ} {Notes : List Leg → Type 0} → pos 0 ≡ v → Notes [] → LegsSo Out Own v Notes
+no_legs {Out} {Own} sum notes = search (arith, All-nil, none_twice)
+
+pub one_leg : {Out : Leg → Type 0} {Own : XidName → Type 0} {v : ℤ} {Notes : List Leg → Type 0} (g : Leg) → Out g → Own g.xid → counted g ≡ v → Notes (g ∷ [])
+    → LegsSo Out Own v Notes
+one_leg {Out} {Own} g out own sum notes = search (arith, All-cons, All-nil, once_alone, plus_none)
+
+-- those of another owner too
+pub legs_as : {Out : Leg → Type 0} {P Q : XidName → Type 0} {v : ℤ} {M N : List Leg → Type 0} (a : LegsSo Out P v M) → ((x : XidName) → P x → Q x)
+    → (M a.legs → N a.legs) → LegsSo Out Q v N
+legs_as {P = P} {Q = Q} a also notes = search (arith, All-weaker, a.legs)
+
+-- those of two owners, together
+pub both_legs : {Out : Leg → Type 0} {O P Q : XidName → Type 0} {u v : ℤ} {M N S : List Leg → Type 0} (a : LegsSo Out O u M) (b : LegsSo Out P v N)
+    → ((x : XidName) → O x → Q x) → ((x : XidName) → P x → Q x) → ((x : XidName) → O x → P x → ⊥) → (M a.legs → N b.legs → S (a.legs ++ b.legs))
+    → LegsSo Out Q (u +ℤ v) S
+both_legs {Out = Out} {O = O} {P = P} {Q = Q} a b here there never notes = record {
+  legs = a.legs ++ b.legs;
+  outs = All-append Out a.legs b.legs a.outs b.outs;
+  own =
+      All-append (λ (g : Leg). Q g.xid) a.legs b.legs (All-weaker (λ (g : Leg). O g.xid) (λ g. Q g.xid) (λ g. here g.xid) a.legs a.own)
+      (All-weaker (λ (g : Leg). P g.xid) (λ g. Q g.xid) (λ g. there g.xid) b.legs b.own);
+  once =
+      both_once a.legs b.legs a.once b.once (λ i f lt k g below. differ (get_or a.legs i f).xid (get_or b.legs k g).xid (a.own i f lt) (b.own k g below));
+  sum = total_append counted a.legs b.legs ∙ (λ i. a.sum i +ℤ b.sum i);
+  notes = notes a.notes b.notes;
+}
+  where
+    differ : (x y : XidName) → O x → P y → xid_eq x y ≡ false
+    differ x y one two = by_bool (λ b. b ≡ false) (xid_eq x y) (λ same. absurd (never y (subst O ((Decides-xid_eq x y).0 same) one) two)) (λ _. refl)
 
 -- The log was read so after thread t's transfer of number n, of which nobody knew whether its record was made, and this was
 -- found.
@@ -40,18 +156,17 @@ both_named z y x e f = (Decides-xid_eq y x).1 (sym ((Decides-xid_eq z y).0 e) �
 -- it names one alone
 pub one_name : (y x : XidName) (op : Op) → names y op ≡ true → names x op ≡ true → xid_eq y x ≡ true
 one_name y x (Start z how) e f = both_named z y x e f
-one_name y x (End z how) e f = both_named z y x e f
-one_name y x (Prepare z) e f = both_named z y x e f
-one_name y x (Commit z one_phase) e f = both_named z y x e f
-one_name y x (Rollback z) e f = both_named z y x e f
-one_name y x (Forget z) e f = both_named z y x e f
-one_name y x (Heur z commit) e f = both_named z y x e f
-one_name y x op e f = cc
+one_name y x op e f = search (arith, both_named)
+
+abbrev pub is_leg : XidName → List Leg → Bool
+is_leg x legs = list_any (λ g. xid_eq g.xid x) legs
+
+abbrev pub HasNoCommit : Records → XidName → Op → Type 0
+HasNoCommit records x op = (is_commit op ≡ false) × (record_in records (tran_of x) ≡ None)
 
 -- each branch that it names is that of one of these legs, or it is no Commit, and these records have nothing of its transaction
 abbrev pub Noted : Records → List Leg → Op → Type 0
-Noted records legs op =
-    (x : XidName) → names x op ≡ true → (list_any (λ g. xid_eq g.xid x) legs ≡ true) ⊎ ((is_commit op ≡ false) × (record_in records (tran_of x) ≡ None))
+Noted records legs op = (x : XidName) → names x op ≡ true → (is_leg x legs ≡ true) ⊎ HasNoCommit records x op
 
 noted_leg : (records : Records) (g : Leg) (op : Op) → names g.xid op ≡ true → Noted records (g ∷ []) op
 noted_leg records g op e x f = inl (ap (λ b. b || false) (one_name g.xid x op e f))
@@ -89,13 +204,9 @@ module _ {s : Settling} {again : Again} {q : ResolveCall} {next : Settling} (sce
       → ledger new m ≡ ledger old m → TransferAt n tr was (ledger old m) (ledger new m)
   nothing_at n tr was old new sum same = search (arith, no_legs, none_sent)
 
-  -- ---- a transfer that came to a commit
-
+  -- a transfer that came to a commit
   module _ (n : ℕ) (tr : Transfer) (was : Bool) (one two : AnyLeg) (legs : AreLegs t n tr one two)
       (fresh : (x : XidName) → IsOf t n x → state_of T x ≡ None) (old new : List LedgerView) (c : Committed s q t n tr.account one two was old new) where
-    neither : one.branch.m ≢ m → two.branch.m ≢ m → has_branch_at (branches_of one two) m ≡ false
-    neither p r = search (arith, ne_eqb)
-
     -- one of its legs is there
     at_leg : (leg : AnyLeg) → ItsLeg scene c leg → Contains (branches_of one two) leg.branch → share tr m j ≡ Part tr m j leg.delta → leg.branch.m ≡ m
         → TransferAt n tr was (ledger old m) (ledger new m)
@@ -122,24 +233,19 @@ module _ {s : Settling} {again : Again} {q : ResolveCall} {next : Settling} (sce
       | inr p ↦ elim (cases_eq two.branch.m m) as (λ _. TransferAt n tr was (ledger old m) (ledger new m)) [
         | inl at ↦ at_leg two (second_leg scene c) (1, omega arith, refl) (second_share tr m j t n one two legs at) at
         | inr r ↦
+            let off : has_branch_at (branches_of one two) m ≡ false = search (arith, ne_eqb) in
             nothing_at n tr was old new (not_applied was (share tr m j) (no_share tr m j t n one two legs p r))
-            (c.come.obeys.others m store.positive (neither p r) ∙ c.work.others m store.positive (neither p r))
+            (c.come.elsewhere m store.positive off ∙ c.work.others m store.positive off)
       ]
     ]
 
-  -- ---- one that was refused
-
+  -- one that was refused
   module _ (n : ℕ) (tr : Transfer) (found_so : Bool) (o : WorkOutcome) (one two : AnyLeg) (legs : AreLegs t n tr one two) (old new : DeskView) (log : LogState)
       (found : (tran : TranName) → IsNamed t n tran.gtrid → record_in q.records tran ≡ record_of log tran) where
-    abbrev bs : List Branch
-    bs = branches_of one two
-
-    its_legs : LegsOf t n one two
-    its_legs = legs_are t n tr one two legs
-
     -- its legs' transaction has no record
-    noted_for : MayCommit old log bs → (op : Op) → IsFor bs op → Noted q.records [] op
+    noted_for : MayCommit old log (branches_of one two) → (op : Op) → IsFor (branches_of one two) op → Noted q.records [] op
     noted_for may op for_it x e =
+        let its_legs : LegsOf t n one two = legs_are t n tr one two legs in
         let of_x : IsOf t n x = either_named (IsOf t n) one.branch.xid two.branch.xid x its_legs.first its_legs.second (for_it.named x e) in
         inr (
           for_it.uncommitting,
@@ -152,27 +258,27 @@ module _ {s : Settling} {again : Again} {q : ResolveCall} {next : Settling} (sce
     unapplied : (why : Refusal) → o ≡ Refused why → pos 0 ≡ (if is_applied found_so o then share tr m j else pos 0)
     unapplied why is = ap (λ (p : WorkOutcome). if is_applied found_so p then share tr m j else pos 0) (sym is)
 
-    sent_for : MayCommit old log bs → (why : Refusal) → o ≡ Refused why → HaveSent (IsFor bs) old.ledgers new.ledgers
+    sent_for : MayCommit old log (branches_of one two) → (why : Refusal) → o ≡ Refused why → HaveSent (IsFor (branches_of one two)) old.ledgers new.ledgers
         → TransferAt n tr (is_applied found_so o) (ledger old.ledgers m) (ledger new.ledgers m)
     sent_for may why is sent =
-        no_legs (unapplied why is) (sent_as (IsFor bs) (Noted q.records []) (noted_for may) (ledger old.ledgers m) (ledger new.ledgers m) (sent m store.positive))
+        no_legs (unapplied why is) (sent_as (IsFor (branches_of one two)) (Noted q.records []) (noted_for may) (ledger old.ledgers m) (ledger new.ledgers m) (sent m store.positive))
 
-    refused_at : (cs : List Change) (Known : Type 0) → IsRefused bs cs o old new log Known → HaveSent (IsFor bs) old.ledgers new.ledgers
+    refused_at : (cs : List Change) (Known : Type 0) → IsRefused (branches_of one two) cs o old new log Known
+        → HaveSent (IsFor (branches_of one two)) old.ledgers new.ledgers
         → TransferAt n tr (is_applied found_so o) (ledger old.ledgers m) (ledger new.ledgers m)
     refused_at cs Known (unbegun is why same) sent = search (arith, nothing_at, unapplied)
     refused_at cs Known (undone tried is begins known tries gives_up) sent = sent_for begins.commit GivenUp is sent
     refused_at cs Known (barred tried is begins known tries may gives_up) sent = sent_for begins.commit GivenUp is sent
 
-  -- ---- whichever it was
-
+  -- whichever it was
   module _ (n : ℕ) (tr : Transfer) (habits : Habits) (o : WorkOutcome) (keeps : habits.forgets ≡ false) (R : LogState → Type 0) (is_found : Bool)
-      (fresh : (x : XidName) → IsOf t n x → state_of T x ≡ None) where
-    makes_at : (old new : DeskView) (log later : LogState) → Makes t n tr habits o old new log later R → IfLost (λ votes. IsFoundSo R t n is_found later) o
-        → HaveSent (Names t (IsFrom (n + 1))) new.ledgers (ledgers_of s t)
-        → Earlier t n old.ledgers
-        → ((tran : TranName) → IsNamed t n tran.gtrid → record_in q.records tran ≡ record_of later tran)
+      (fresh : (x : XidName) → IsOf t n x → state_of T x ≡ None)
+      (new : DeskView) (later : LogState) (so : IfLost (λ votes. IsFoundSo R t n is_found later) o)
+      (after : HaveSent (Names t (IsFrom (n + 1))) new.ledgers (ledgers_of s t))
+      (found : (tran : TranName) → IsNamed t n tran.gtrid → record_in q.records tran ≡ record_of later tran) where
+    makes_at : (old : DeskView) (log : LogState) → Makes t n tr habits o old new log later R → Earlier t n old.ledgers
         → TransferAt n tr (is_applied is_found o) (ledger old.ledgers m) (ledger new.ledgers m)
-    makes_at old new log later (with_legs one two left legs (commits worked begins known_ work comes) kept read) so after earlier found =
+    makes_at old log (with_legs one two left legs (commits worked begins known_ work comes) kept read) earlier =
         let of_legs = legs_are t n tr one two legs in
         let tran : TranName = tran_of one.branch.xid in
         let same : later ≡ left = left_is habits o keeps tran left later kept in
@@ -199,24 +305,20 @@ module _ {s : Settling} {again : Again} {q : ResolveCall} {next : Settling} (sce
               found u (record { small = of_legs.first.small; gtrid_ = ap (λ (v : TranName). v.gtrid) (sym is) ∙ of_legs.first.gtrid })
               ∙ ap (λ (l : LogState). record_of l u) same;
         })
-    makes_at old new log later (with_legs one two left legs (refused same why sent) kept read) so after earlier found =
+    makes_at old log (with_legs one two left legs (refused same why sent) kept read) earlier =
         refused_at n tr is_found o one two legs old new log
         (λ tran is. found tran is ∙ ap (λ (l : LogState). record_of l tran) (left_is habits o keeps (tran_of one.branch.xid) left later kept ∙ same))
         (changes_of one two tr.account) (Unit {0}) why sent
-    makes_at old new log later (without_legs is none same unlogged) so after earlier found =
+    makes_at old log (without_legs is none same unlogged) earlier =
         nothing_at n tr (is_applied is_found o) old.ledgers new.ledgers (ap (λ (p : WorkOutcome). if is_applied is_found p then share tr m j else pos 0) (sym is))
         (ap (λ (d : DeskView). ledger d.ledgers m) same)
 
-    pub next_at : (old new : DeskView) (log later : LogState) → MakesNext t n tr habits o old new log later R
-        → IfLost (λ votes. IsFoundSo R t n is_found later) o
-        → HaveSent (Names t (IsFrom (n + 1))) new.ledgers (ledgers_of s t)
-        → Earlier t n old.ledgers
-        → ((tran : TranName) → IsNamed t n tran.gtrid → record_in q.records tran ≡ record_of later tran)
+    pub next_at : (old : DeskView) (log : LogState) → MakesNext t n tr habits o old new log later R → Earlier t n old.ledgers
         → TransferAt n tr (is_applied is_found o) (ledger old.ledgers m) (ledger new.ledgers m)
-    next_at old new log later makes so after earlier found =
+    next_at old log makes earlier =
         let shuts : HaveSent IsShut old.ledgers makes.shut.ledgers = shut_sent (shut_before habits n) old makes.shut makes.shuts in
         let z =
-        makes_at makes.shut new log later makes.makes so after (earlier_on t n n IsShut old.ledgers makes.shut.ledgers (omega arith) (shut_names t (IsBelow n)) earlier shuts) found in
+        makes_at makes.shut log makes.makes (earlier_on t n n IsShut old.ledgers makes.shut.ledgers (omega arith) (shut_names t (IsBelow n)) earlier shuts) in
         let P : Op → Type 0 = Noted q.records z.legs in
         legs_as z (λ x its. its) (λ noted.
         sent_on P (ledger old.ledgers m) (ledger makes.shut.ledgers m) (ledger new.ledgers m)

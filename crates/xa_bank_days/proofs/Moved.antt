@@ -1,21 +1,163 @@
+-- What tellers come to over stores that are opened again.
 -- What days do to the balances, by the law of a day and its night.
-use Rattle.xa_base.proofs.{if◌then◌else◌, is_some, ◌+ℤ◌, ◌≡◌, ℕ, ℤ, suc, ◌+◌, ◌^◌, ◌<◌, ◌≤◌, Bool, true, false, Option, Some, Vec, List, [], ◌∷◌, ◌++◌, length}
-use Rattle.xa_base.proofs.{map, slice_get, sym, refl, ap, ◌∙◌, subst, arith, Global, All, all_at, all_from, got_map, was_mapped, All-map}
+use Rattle.xa_base.proofs.{rules, option_map, ◌≡◌, ℕ, ◌+◌, ◌^◌, ◌<◌, ◌≤◌, ⊎_elim, Bool, true, if◌then◌else◌, ◌||◌, List, [], ◌∷◌, length, map, slice_get, Some}
+use Rattle.xa_base.proofs.{inl, inr, sym, refl, ap, ◌∙◌, subst, arith, All, list_any, length-map, same_Some as some_same, slice_get_within, got_map, Vec, ◌++◌}
+use Rattle.xa_base.proofs.{IfOk, Result, Ok, Err, Global, all_mid, is_some, ◌+ℤ◌, ℤ, suc, false, Option, all_at, all_from, was_mapped, All-map, all_unmapped}
 use Rattle.xa_base.specs.{IsUpTo}
 use Rattle.xa_words.specs.{TranName}
-use Rattle.xa_tables.specs.{Tables, is_declared, is_done}
-use Rattle.xa_tables.proofs.WorthLaw.{declared_on}
-use Rattle.xa_switch.specs.{Again, last_in, managers_in, reopened_at, first_of, history, ManagerPart, IsSettled, value_in, Settling}
+use Rattle.xa_tables.specs.{Tables, is_done, is_declared}
+use Rattle.xa_switch.specs.{Again, IsWhole, MayReopen, managers_in, reopened_at, reopening, first_of, IsOf, IsWithinLimits, ManagerPart, Settling, last_in}
+use Rattle.xa_switch.specs.{history, IsSettled, value_in}
 use Rattle.xa_switch.proofs.Journaled.{begun, follows_first}
 use Rattle.xa_log.specs.{LogState}
-use Rattle.xa_driver.specs.{Outcome}
-use Rattle.xa_atomicity.specs.{ResolveCall}
-use Rattle.xa_bank.specs.{Habits, Teller, Transfer}
-use Rattle.xa_bank_days.specs.{Bank, Closed, Errands, AreReadBack, AreToldAll, BeginsWith, IsDawn, IsDayOf, IsResolvedBy, all_told, balances_at, balances_of}
-use Rattle.xa_bank_days.specs.{records_of, told, AreClosed, HasWorked, IsClosed, IsMovedBy, IsReady, habits_on, has_account, told_on, told_over, Balances}
-use Rattle.xa_bank_days.specs.{all_applied, applied, share}
-use Rattle.xa_bank_days.proofs.Back.{are_read_back}
-use Rattle.xa_bank_days.proofs.DayWorked.{none_wants, same_length}
+use Rattle.xa_atomicity.proofs.Scanned.{was_there}
+use Rattle.xa_crew.specs.{WithScan, Attended, AgainWorks, IsRunAgain, WorksWithScan}
+use Rattle.xa_bank.specs.{Teller, Works, WorksOn, Habits, Transfer}
+use Rattle.xa_bank.proofs.Members.{MemberAt, member_at, nobody_else}
+use Rattle.xa_bank_days.specs.{DayAndNight, Bank, BeginsWith, IsDayOf, WorkedIn, Closed, Errands, Worked, AreTurned, HasWorked, IsDay, IsWorkedDay, day_numbers}
+use Rattle.xa_bank_days.specs.{next_numbers, night_numbers, Unresolved, AreClosed, AreOver, HasEnded, early as one_not, whole as all_over, IsClosed}
+use Rattle.xa_bank_days.specs.{IsClosedDay, IsOver, AreToldAll, IsDawn, all_told, balances_at, balances_of, told, IsMovedBy, IsReady, habits_on, has_account}
+use Rattle.xa_bank_days.specs.{told_on, told_over, Balances, all_applied, applied, share}
+use Rattle.std.specs.Prelude.{MatchResult}
+use Rattle.xa_driver.specs.{Resolved, Outcome}
+use Rattle.xa_tables.proofs.WorthLaw.{declared_on}
+use Rattle.xa_bank_days.proofs.Went.{are_read_back}
+use Rattle.xa_atomicity.proofs.Requests.{none_all}
+
+-- lists that are mapped to one list are as long
+pub same_length : {A B C : Type 0} (f : A → C) (g : B → C) (xs : List A) (ys : List B) → map f xs ≡ map g ys → length xs ≡ length ys
+same_length f g xs ys e = sym (length-map xs f) ∙ ap (λ l. length l) e ∙ length-map ys g
+
+pub mapped_twice : {A B C : Type 0} (f : B → C) (g : A → B) (xs : List A) → map (λ x. f (g x)) xs ≡ map f (map g xs)
+mapped_twice f g [] = refl
+mapped_twice f g (x ∷ xs) = ap (λ l. f (g x) ∷ l) (mapped_twice f g xs)
+
+-- as many have worked as there are threads
+pub many_attended : {C : Type 0} (works : AgainWorks C) (s : Settling) (again : Again) (clients : List C) (attended : List (Attended (WithScan C))) (next : Settling)
+    → IsRunAgain works s again clients attended next → length attended ≡ again.threads
+many_attended {C} works s again clients attended next z = search (arith, length-map, z.run.members)
+
+-- one of those that are mapped
+pub any_mapped : {A B : Type 0} (f : B → Bool) (g : A → B) (xs : List A) → list_any (λ x. f (g x)) xs ≡ list_any f (map g xs)
+any_mapped f g [] = refl
+any_mapped f g (x ∷ xs) = ap (λ b. f (g x) || b) (any_mapped f g xs)
+
+-- the stores
+module _ (goes_on : (s next : Settling) (again : Again) (m : ℕ) (T : Tables) → IsWhole s → IsOf (reopening s again) next → first_of s m ≡ Some T → first_of next m ≡ Some (reopened_at s.managers m))
+    (s next : Settling) (again : Again) (whole : IsWhole s) (of : IsOf (reopening s again) next) where
+  there : (m : ℕ) → IsUpTo (managers_in s) m → first_of next m ≡ Some (reopened_at s.managers m)
+  there m up =
+      let p = whole.there m up.0 up.1 in
+      goes_on s next again m p.0.first whole of (ap (option_map (λ (q : ManagerPart). q.first)) p.1)
+
+  pub begins_with : BeginsWith next (managers_in s) (reopened_at s.managers)
+  begins_with = record { few = whole.few.1; there = there; only = λ m T first. was_there s next again m T of first }
+
+  -- there are as many
+  pub same_stores : IsWhole next → managers_in next ≡ managers_in s
+  same_stores whole' =
+      let last = whole'.there (managers_in next) whole'.few.0 (omega arith) in
+      let low = (begins_with.only (managers_in next) last.0.first (ap (option_map (λ (q : ManagerPart). q.first)) last.1)).1 in
+      let found = begun next (managers_in s) (reopened_at s.managers (managers_in s)) (there (managers_in s) (whole.few.0, omega arith)) in
+      let high = (whole'.only (managers_in s) found.0 found.1).1 in
+      omega (arith, low, high)
+
+-- the tellers
+module _ {L : Type 0} (state : L → LogState) (knows : L → Type 0) (loses : TranName → List Bool → L → L → Type 0) (s : Settling) (again : Again)
+    (olds : List (Teller L))
+    (attended : List (Attended (WithScan (Teller L)))) (day : Settling) (z : IsRunAgain (WorksOn state knows loses) s again olds attended day)
+    (many : length olds ≡ again.threads) where
+  abbrev news : List (Teller L)
+  news = map (λ (a : Attended (WithScan (Teller L))). a.client.client) attended
+
+  worked_at : (k : ℕ) (old new : Teller L) → slice_get olds k ≡ Some old → slice_get news k ≡ Some new → WorkedIn state knows loses day (k + 1) old new
+  worked_at k old new old_at new_at =
+      let within = slice_get_within olds k old old_at in
+      let at : MemberAt (WorksWithScan (WorksOn state knows loses)) (reopening s again) z.given attended day k =
+      member_at (WorksWithScan (WorksOn state knows loses)) (reopening s again) z.given attended day z.run k (omega (arith, within, many)) in
+      let first : at.member.client.client ≡ old = search (arith, some_same, got_map, slice_get, at.member.client.client, at.member.client) in
+      let last : at.member.attended.client.client ≡ new = search (arith, some_same, got_map, at.member.attended.client.client, at.member.attended) in
+      record {
+        desk = at.member.desk;
+        left = at.left;
+        thread = at.thread;
+        nothing = at.nothing;
+        worked = subst (λ (p : Teller L × Teller L). Works state knows loses p.0 at.member.desk p.1 at.left) (λ i. (first i, last i)) at.worked.works;
+        ended = at.end;
+      }
+
+  pub is_day : IsDayOf state knows loses day olds news
+  is_day = record {
+    settled = z.run.agrees;
+    many = search (arith, length-map, many_attended);
+    each = worked_at;
+    others = λ t outside m.
+        nobody_else (WorksWithScan (WorksOn state knows loses)) (reopening s again) z.given attended day z.run t
+        (⊎_elim (λ (low : t < 1). inl low) (λ (high : length olds < t). inr (omega (arith, high, many))) outside) m;
+  }
+
+-- ---- the night's numbers
+
+-- where the day's numbers were good, so are the night's
+pub night_opens : (s : Settling) (again : Again) → IsWhole s → IsWithinLimits again (managers_in s) → s.opening ≡ again.opening
+    → MayReopen s (next_numbers again 1)
+night_opens s again whole limits opening_ = search (arith, rules)
+
+-- the day
+module _ {L : Type 0} (state : L → LogState) (knows : L → Type 0) (loses : TranName → List Bool → L → L → Type 0) (reopens : L → L → Type 0) (b : Bank L)
+    (given errands : List Errands) (c : Closed) (turned : List (Teller L)) (day : Worked L) (same : given ≡ errands) (are_turned : AreTurned b.next b.tellers.items errands turned)
+    (many : length given < 2 ^ 32) (works : HasWorked state knows loses reopens b.settled turned day) (told : c.outcomes ≡ day.evening.outcomes) (found : c.found ≡ day.evening.found) where
+  abbrev pub is_day_of : IsDay state knows loses reopens b errands c
+  is_day_of = record {
+    turned = turned;
+    are_turned = are_turned;
+    many = let e = ap (λ (l : List Errands). length l) same in omega (arith, e, many);
+    day = day;
+    works = works;
+    told_ = told;
+    found_ = found;
+  }
+
+  abbrev pub worked_day : (b' : Bank L) → (day.wanting ≡ true → b'.settled ≡ day.settled)
+      → b'.again ≡ (if day.wanting then day_numbers b errands else night_numbers b errands) → b'.tellers ≡ day.evening.tellers → b.next ≤ b'.next
+      → All (λ e. b.next + length e.transfers.items ≤ b'.next) given → IsWorkedDay state knows loses reopens b errands c b'
+  worked_day b' stays numbers tellers later next = record {
+    is_day = is_day_of;
+    stays = stays;
+    numbers = numbers;
+    tellers = tellers;
+    later = later;
+    next = subst (All (λ (e : Errands). b.next + length e.transfers.items ≤ b'.next)) same next;
+  }
+
+-- ---- days one after the other
+
+module _ {L : Type 0} (state : L → LogState) (knows : L → Type 0) (loses : TranName → List Bool → L → L → Type 0) (reopens : L → L → Type 0) where
+  -- a day that is over was closed
+  pub closed_day : (b : Bank L) (errands : List Errands) (c : Closed) (b' : Bank L)
+      → IfOk c.resolved (λ z. IsClosed state knows loses reopens b errands c z.outcomes.items b')
+      → IsOver c → IsClosedDay state knows loses reopens b errands c b'
+  closed_day b errands c b' = by c.resolved
+    where
+      by : (o : Result Resolved Unresolved) → IfOk o (λ z. IsClosed state knows loses reopens b errands c z.outcomes.items b')
+          → MatchResult o (λ z. All (λ q. is_done q.code ≡ true) z.outcomes.items) (λ why. ⊥) → IsClosedDay state knows loses reopens b errands c b'
+      by (Err why) closed over = absurd over
+      by (Ok z) closed over = record { outcomes = z.outcomes.items; ended = over; closed = closed }
+
+  -- a day more
+  pub one_day_more : (b : Bank L) (ds : List (Vec Errands Global)) (cs : List Closed) (mid : Bank L) (d : Vec Errands Global) (c : Closed) (last : Bank L)
+      → AreClosed state knows loses reopens b ds cs mid → IsClosedDay state knows loses reopens mid d.items c last
+      → AreClosed state knows loses reopens b (ds ++ d ∷ []) (cs ++ c ∷ []) last
+  one_day_more b [] [] mid d c last same one = (last, subst (λ (q : Bank L). IsClosedDay state knows loses reopens q d.items c last) same one, refl)
+  one_day_more b (x ∷ ds) (y ∷ cs) mid d c last all one = (all.0, all.1, one_day_more all.0 ds cs mid d c last all.2 one)
+  one_day_more b ds cs mid d c last wrong one = absurd wrong
+
+  -- days that are all over were closed
+  pub ended_closed : (b : Bank L) (ds : List (Vec Errands Global)) (cs : List Closed) (b' : Bank L) → HasEnded state knows loses reopens b ds cs b'
+      → AreOver ds cs
+      → AreClosed state knows loses reopens b ds cs b'
+  ended_closed b ds cs b' (all_over all) over = all
+  ended_closed b ds cs b' (one_not before d rest earlier c mid parts closed up_to worked open_) over = search (arith, all_mid)
 
 -- ---- the abstract machine
 
@@ -45,11 +187,10 @@ last_declares s m T k settled first =
 same_map : {A B : Type 0} (f : A → B) (xs ys : List A) → length ys ≡ length xs
     → ((k : ℕ) (x y : A) → slice_get xs k ≡ Some x → slice_get ys k ≡ Some y → f y ≡ f x)
     → map f ys ≡ map f xs
-same_map f [] [] e same = refl
-same_map f [] (y ∷ ys) e same = absurd (omega (arith, e))
-same_map f (x ∷ xs) [] e same = absurd (omega (arith, e))
 same_map f (x ∷ xs) (y ∷ ys) e same =
     (λ i. same 0 x y refl refl i ∷ same_map f xs ys (omega (arith, e)) (λ k u v at there. same (suc k) u v at there) i)
+same_map f [] [] e same = refl
+same_map f xs ys e same = absurd (omega (arith, e))
 
 told_is : {L : Type 0} (founds : List Bool) (news : List (Teller L)) (errands : List Errands)
     → map (λ (t : Teller L). t.transfers) news ≡ map (λ (e : Errands). e.transfers) errands
@@ -64,57 +205,22 @@ told_is {L} (f ∷ founds) (t ∷ news) (x ∷ errands) e =
     let tail : map (λ (u : Teller L). u.transfers) news ≡ map (λ (y : Errands). y.transfers) errands = cc in
     (λ i. told f (head i).items t.outcomes.items ++ told_is founds news errands tail i)
 
--- what holds of all transfers that are a list's holds of the other's
-all_theirs : {A B C : Type 0} (P : C → Type 0) (f : A → C) (g : B → C) (xs : List A) (ys : List B) → map f xs ≡ map g ys → All (λ y. P (g y)) ys
-    → All (λ x. P (f x)) xs
-all_theirs {A} {B} P f g xs ys e all =
-    all_from (λ x. P (f x)) xs (λ k x at.
-    let y = was_mapped g ys k (f x) (ap (λ l. slice_get l k) (sym e) ∙ got_map f xs k x at) in
-    subst P y.2 (all_at (λ z. P (g z)) ys k y.0 all y.1))
-
--- ---- a day
-
+-- a day
 module _ {L : Type 0} (state : L → LogState) (knows : L → Type 0) (loses : TranName → List Bool → L → L → Type 0) (reopens : L → L → Type 0)
-    (applies : (s : Settling) (again : Again) (q : ResolveCall) (next : Settling) (olds news : List (Teller L)) (logs : List L) (founds : List Bool) (stores n : ℕ)
-    (first : ℕ → Tables) (m : ℕ) (account : List ℕ)
-    → IsDayOf state knows loses s olds news → BeginsWith s stores first → length olds < 2 ^ 32 → AreToldAll n olds news
-    → AreReadBack state knows loses 1 news logs founds
-    → All knows logs → IsDawn state stores n first (map (λ t. t.log) olds) → IsResolvedBy (records_of state logs) s again q next → IsUpTo stores m
-    → is_declared (first m) account ≡ true → balances_at next m account ≡ all_applied (all_told founds news) (balances_of first) m account)
-    (dawns : (s : Settling) (again : Again) (q : ResolveCall) (next : Settling) (olds news : List (Teller L)) (logs : List L) (founds : List Bool) (stores n later : ℕ)
-    (first : ℕ → Tables) → IsDayOf state knows loses s olds news → BeginsWith s stores first → AreToldAll n olds news → AreReadBack state knows loses 1 news logs founds
-    → All knows logs → IsDawn state stores n first (map (λ t. t.log) olds) → IsResolvedBy (records_of state logs) s again q next
-    → All (λ r. is_done r.code ≡ true) q.outcomes → n ≤ later
-    → All (λ t. t.habits.first + length t.transfers.items ≤ later) olds → IsDawn state stores later (reopened_at next.managers) logs) where
+    (applies : (d : DayAndNight state knows loses) (m : ℕ) (account : List ℕ) → length d.olds < 2 ^ 32 → IsUpTo d.stores m → is_declared (d.tables m) account ≡ true
+    → balances_at d.next m account ≡ all_applied (all_told d.founds d.news) (balances_of d.tables) m account)
+    (dawns : (d : DayAndNight state knows loses) (later : ℕ) → All (λ r. is_done r.code ≡ true) d.q.outcomes → d.n ≤ later
+    → All (λ t. t.habits.first + length t.transfers.items ≤ later) d.olds → IsDawn state d.stores later (reopened_at d.next.managers) d.logs) where
   module _ (b : Bank L) (errands : List Errands) (c : Closed) (outcomes : List Outcome) (b' : Bank L)
       (z : IsClosed state knows loses reopens b errands c outcomes b') where
-    abbrev w : HasWorked state knows loses reopens b.settled z.turned z.day
-    w = z.works
-
-    abbrev n : ℕ
-    n = b.next
-
-    few : length z.turned < 2 ^ 32
-    few = search (arith, same_length)
-
-    -- their logs in the night, which were known
-    abbrev logs : List L
-    logs = map (λ (t : Teller L). t.log) z.day.evening.tellers.items
-
-    back : AreReadBack state knows loses 1 w.worked logs z.day.evening.found.items
-    back = are_read_back state knows loses reopens 1 w.worked logs z.day.evening.found.items w.logs
-
-    known : All knows logs
-    known = All-map knows (λ (t : Teller L). t.log) z.day.evening.tellers.items z.night.known
-
     -- its habits are those of its errands
-    turned_at : (k : ℕ) (t : Teller L) → slice_get z.turned k ≡ Some t → (t.habits.first ≡ n) × (t.habits.forgets ≡ false)
+    turned_at : (k : ℕ) (t : Teller L) → slice_get z.turned k ≡ Some t → (t.habits.first ≡ b.next) × (t.habits.forgets ≡ false)
     turned_at k t at =
         let e =
-        was_mapped (habits_on n) errands k t.habits (ap (λ l. slice_get l k) (sym z.are_turned.habits) ∙ got_map (λ (u : Teller L). u.habits) z.turned k t at) in
+        was_mapped (habits_on b.next) errands k t.habits (ap (λ l. slice_get l k) (sym z.are_turned.habits) ∙ got_map (λ (u : Teller L). u.habits) z.turned k t at) in
         (sym (ap (λ (h : Habits). h.first) e.2), sym (ap (λ (h : Habits). h.forgets) e.2))
 
-    told_all : AreToldAll n z.turned w.worked
+    told_all : AreToldAll b.next z.turned z.works.worked
     told_all k old new old_at new_at =
         let turned = turned_at k old old_at in
         let first = turned.0 in
@@ -122,70 +228,77 @@ module _ {L : Type 0} (state : L → LogState) (knows : L → Type 0) (loses : T
           begins = all_at (λ (t : Teller L). t.outcomes.items ≡ []) z.turned k old z.are_turned.none old_at;
           counts = omega (arith, first);
           keeps = turned.1;
-          memory = all_at (λ (t : Teller L). t.wants_memory ≡ false) w.worked k new (none_wants w.worked (sym w.wants ∙ z.wants)) new_at;
+          memory = all_at (λ (t : Teller L). t.wants_memory ≡ false) z.works.worked k new (none_all (λ (t : Teller L). t.wants_memory) z.works.worked (sym z.works.wants ∙ z.wants)) new_at;
         }
 
-    resolved : IsResolvedBy (records_of state logs) z.day.settled b'.again z.night.call b'.settled
-    resolved = z.night.resolves
-
-    transfers_are : map (λ (t : Teller L). t.transfers) w.worked ≡ map (λ (e : Errands). e.transfers) errands
+    transfers_are : map (λ (t : Teller L). t.transfers) z.works.worked ≡ map (λ (e : Errands). e.transfers) errands
     transfers_are =
-        same_map (λ (t : Teller L). t.transfers) z.turned w.worked w.is_day.many (λ k old new old_at new_at. (w.is_day.each k old new old_at new_at).worked.transfers)
+        same_map (λ (t : Teller L). t.transfers) z.turned z.works.worked z.works.is_day.many (λ k old new old_at new_at. (z.works.is_day.each k old new old_at new_at).worked.transfers)
         ∙ z.are_turned.transfers
 
-    told_so : all_told z.day.evening.found.items w.worked ≡ told_on errands c.outcomes.items c.found.items
+    told_so : all_told z.day.evening.found.items z.works.worked ≡ told_on errands c.outcomes.items c.found.items
     told_so = search (arith, told_is, transfers_are)
 
     ends_at : All (λ (t : Teller L). t.habits.first + length t.transfers.items ≤ b'.next) z.turned
     ends_at =
+        let P : Vec Transfer Global → Type 0 = λ trs. b.next + length trs.items ≤ b'.next in
         let each =
-        all_theirs (λ (trs : Vec Transfer Global). n + length trs.items ≤ b'.next) (λ (t : Teller L). t.transfers) (λ (e : Errands). e.transfers) z.turned errands z.are_turned.transfers z.next in
+        all_unmapped (λ (t : Teller L). t.transfers) P z.turned (subst (All P) (sym z.are_turned.transfers) (All-map P (λ (e : Errands). e.transfers) errands z.next)) in
         all_from (λ (t : Teller L). t.habits.first + length t.transfers.items ≤ b'.next) z.turned (λ k t at.
         let first = (turned_at k t at).0 in
-        let bound = all_at (λ (u : Teller L). n + length u.transfers.items ≤ b'.next) z.turned k t each at in
+        let bound = all_at (λ (u : Teller L). b.next + length u.transfers.items ≤ b'.next) z.turned k t each at in
         omega (arith, first, bound))
 
-    module _ (ready : IsReady state b) (ended : All (λ (o : Outcome). is_done o.code ≡ true) outcomes) where
-      dawn : IsDawn state (managers_in b.settled) n (reopened_at b.settled.managers) (map (λ (t : Teller L). t.log) z.turned)
-      dawn = subst (IsDawn state (managers_in b.settled) n (reopened_at b.settled.managers)) (sym z.are_turned.logs) ready
+    abbrev both : IsReady state b → DayAndNight state knows loses
+    both ready = record {
+      s = z.day.settled;
+      again = b'.again;
+      q = z.night.call;
+      next = b'.settled;
+      olds = z.turned;
+      news = z.works.worked;
+      logs = map (λ (t : Teller L). t.log) z.day.evening.tellers.items;
+      founds = z.day.evening.found.items;
+      stores = managers_in b.settled;
+      n = b.next;
+      tables = reopened_at b.settled.managers;
+      is_day = z.works.is_day;
+      begins = z.works.begins;
+      told_all = told_all;
+      back = are_read_back state knows loses reopens 1 z.works.worked (map (λ (t : Teller L). t.log) z.day.evening.tellers.items) z.day.evening.found.items z.works.logs;
+      known = All-map knows (λ (t : Teller L). t.log) z.day.evening.tellers.items z.night.known;
+      dawn = subst (IsDawn state (managers_in b.settled) b.next (reopened_at b.settled.managers)) (sym z.are_turned.logs) ready;
+      resolved = z.night.resolves;
+    }
 
-      next_dawn : IsDawn state (managers_in b.settled) b'.next (reopened_at b'.settled.managers) logs
-      next_dawn =
-          dawns z.day.settled b'.again z.night.call b'.settled z.turned w.worked logs z.day.evening.found.items (managers_in b.settled) n b'.next (reopened_at b.settled.managers) w.is_day w.begins
-          told_all back known dawn resolved (subst (All (λ (o : Outcome). is_done o.code ≡ true)) (sym z.night.listed) ended) z.later ends_at
+    pub day_moves : IsReady state b → All (λ (o : Outcome). is_done o.code ≡ true) outcomes
+        → IsMovedBy state (told_on errands c.outcomes.items c.found.items) b b'
+    day_moves ready ended =
+        let stores : managers_in b'.settled ≡ managers_in b.settled = z.stores ∙ z.works.stores in
+        let next_dawn : IsDawn state (managers_in b.settled) b'.next (reopened_at b'.settled.managers) (map (λ (t : Teller L). t.log) z.day.evening.tellers.items) =
+        dawns (both ready) b'.next (subst (All (λ (o : Outcome). is_done o.code ≡ true)) (sym z.night.listed) ended) z.later ends_at in
+        let few : length z.turned < 2 ^ 32 = search (arith, same_length) in
+        record {
+          stores = stores;
+          accounts = λ m k up.
+              let first = z.works.begins.there m up in
+              last_declares b'.settled m (reopened_at z.day.settled.managers m) k z.night.resolves.settled (z.night.resolves.continues m (reopened_at b.settled.managers m) first)
+              ∙ last_declares z.day.settled m (reopened_at b.settled.managers m) k z.works.is_day.settled first;
+          balances = λ m k up there. applies (both ready) m k few up there
+              ∙ ap (λ (es : List (Transfer × Bool)). all_applied es (balances_at b.settled) m k) told_so;
+          ready = search (arith, stores, next_dawn);
+        }
 
-      stores : managers_in b'.settled ≡ managers_in b.settled
-      stores = z.stores ∙ w.stores
-
-      account : (m : ℕ) (k : List ℕ) → IsUpTo (managers_in b.settled) m → has_account b'.settled m k ≡ has_account b.settled m k
-      account m k up =
-          let first = w.begins.there m up in
-          last_declares b'.settled m (reopened_at z.day.settled.managers m) k z.night.resolves.settled (z.night.resolves.continues m (reopened_at b.settled.managers m) first)
-          ∙ last_declares z.day.settled m (reopened_at b.settled.managers m) k w.is_day.settled first
-
-      pub day_moves : IsMovedBy state (told_on errands c.outcomes.items c.found.items) b b'
-      day_moves = record {
-        stores = stores;
-        accounts = account;
-        balances = λ m k up there.
-            applies z.day.settled b'.again z.night.call b'.settled z.turned w.worked logs z.day.evening.found.items (managers_in b.settled) n (reopened_at b.settled.managers) m k w.is_day w.begins few
-            told_all back known dawn resolved up there
-            ∙ ap (λ (es : List (Transfer × Bool)). all_applied es (balances_at b.settled) m k) told_so;
-        ready = search (arith, stores, next_dawn);
-      }
-
-  -- ---- many days
-
+  -- many days
   pub days_move : (b : Bank L) (ds : List (Vec Errands Global)) (cs : List Closed) (b' : Bank L) → AreClosed state knows loses reopens b ds cs b'
       → IsReady state b
       → IsMovedBy state (told_over ds cs) b b'
-  days_move b [] [] b' same ready = search (arith, stores)
-  days_move b [] (c ∷ cs) b' wrong ready = absurd wrong
-  days_move b (d ∷ ds) [] b' wrong ready = absurd wrong
+  days_move b [] [] b' same ready = search arith
   days_move b (d ∷ ds) (c ∷ cs) b' all ready =
       let mid : Bank L = all.0 in
       let one = day_moves b d.items c all.1.outcomes mid all.1.closed ready all.1.ended in
       let rest = days_move mid ds cs b' all.2 one.ready in
       let es : List (Transfer × Bool) = told_on d.items c.outcomes.items c.found.items in
       let up_there = λ (m : ℕ) (up : IsUpTo (managers_in b.settled) m). subst (λ (j : ℕ). IsUpTo j m) (sym one.stores) up in
-      search (arith, stores, applied_same, applied_both, rest.accounts, one.accounts, rest.balances, one.balances)
+      search (arith, rest.stores, one.stores, applied_same, applied_both, rest.accounts, one.accounts, rest.balances, one.balances)
+  days_move b ds cs b' wrong ready = absurd wrong

@@ -1,32 +1,163 @@
+-- A resolve in an opening to which nobody sent a Shut is answered by each manager with another code than XAER_RMFAIL.
 -- The one client of a night resolves what was left, and nothing else was done in its opening.
-use Rattle.xa_base.proofs.{Err, IfOk, Ok, Result, ◌≡◌, ◌≢◌, ℕ, zero, suc, ◌+◌, ◌<◌, ◌≤◌, ◌⊎◌, false, Some, List, [], ◌∷◌, ◌++◌, length, length-append, map}
-use Rattle.xa_base.proofs.{get_or, slice_get, inl, inr, append-nil, sym, refl, ap, ◌∙◌, subst, arith, All, cases_eq, cases_lt, All-nil, All-head, All-contains}
-use Rattle.xa_base.proofs.{same_Some as some_same, all_at, got_map}
+use Rattle.xa_tables.specs.declared.state.HeuristicDecision.TheVariants as decision
+use Rattle.xa_base.proofs.{arith, not, ◌≡◌, ◌≢◌, ℕ, Bool, true, false, ◌==◌, Option, Some, List, [], ◌∷◌, filter, get_or, sym, refl, ap, ◌∙◌, subst, All}
+use Rattle.xa_base.proofs.{All-nil, All-cons, All-head, All-tail, All-append, list_any-append, or-true, all_at, was_mapped, Ok, Err, Result, nat_lt, zero, suc}
+use Rattle.xa_base.proofs.{◌-◌, ◌<◌, ◌≤◌, length, slice_index_or, cases_lt, ne_eqb, or_from, at_false, length-map, IfOk, ◌+◌, ◌++◌, length-append, map}
+use Rattle.xa_base.proofs.{slice_get, inl, inr, append-nil, cases_eq, All-contains, same_Some as some_same, got_map, list_any_none, Contains, range_with_len}
+use Rattle.xa_base.proofs.{eqb-true, length-range_with_len, get_or-range_with_len, got}
+use Rattle.std.proofs.lemmas.List.Elements.{All-filter, Contains-get_or}
+use Rattle.xa_base.specs.{Chain, none as no_step, more as one_step, IsUpTo, MOST_MANAGERS}
+use Rattle.xa_words.specs.{XidName, RmFail, Op, OpenRm, Commit, Rollback, Forget, Request, Code, TranName}
+use Rattle.xa_tables.specs.{State, HeuristicallyCompleted, decision_in, Answer, next, by_rules, coded, is_rolled_back, Tables, History, of_thread, tables_after}
+use Rattle.xa_tables.specs.{opening}
+use Rattle.xa_tables.proofs.Effects.{reason_rolls_back}
+use Rattle.xa_desk.specs.{LedgerView, is_rm_fail, learnt_shut, new_ledgers, no_ledger, room_at, DeskView, ledger, numbered}
+use Rattle.xa_worker.specs.{Entry, requests}
+use Rattle.xa_switch.specs.{history, IsSettled, collected, journal, Settling, Again, reopening, IsNewDesk, IsScanOf, IsWhole, MayReopen, reopened_at, first_of}
+use Rattle.xa_switch.specs.{ledgers_of, IsOf, sent, Plan, ManagerPlan, last_in, managers_in, planned, ManagerPart, FollowsTables, find_manager, journal_in}
+use Rattle.xa_switch.specs.{accounts_in, accounts_of}
+use Rattle.xa_switch.proofs.Journaled.{follows, begun}
+use Rattle.xa_driver.specs.{Outcome, AskTrace, is_decided, AsksIf, AsksLedger, ResolvesAt, ResolvesBranch, outcome_op, Resolved, MayResolve, IsTraceOfResolve}
+use Rattle.xa_log.specs.{Records, LogState}
 use Rattle.std.specs.Prelude.{IfErr}
-use Rattle.std.proofs.lemmas.List.Elements.{Contains-get_or}
-use Rattle.xa_base.specs.{MOST_MANAGERS, IsUpTo}
-use Rattle.xa_words.specs.{TranName, Op, Request, Code}
-use Rattle.xa_tables.specs.{Tables}
-use Rattle.xa_desk.specs.{LedgerView, is_rm_fail, learnt_shut, ledger, DeskView}
-use Rattle.xa_switch.specs.{Again, IsWhole, MayReopen, reopened_at, reopening, first_of, history, ledgers_of, IsOf, IsScanOf, IsSettled, sent, Settling}
+use Rattle.std.proofs.lemmas.Bool.{le-ltb}
+use Rattle.xa_desk.proofs.Fresh.{fresh_sent}
 use Rattle.xa_scan.specs.{ScanView}
-use Rattle.xa_log.specs.{LogState, Records}
-use Rattle.xa_driver.specs.{Outcome, Resolved, IsTraceOfResolve, MayResolve}
+use Rattle.xa_bank_days.specs.{Unresolved, BadNumbers, NoRoom, Excuses, HasRoomToResolve, Resolver, IsResolvedBy, records_of, IsNight, IsUntouched, ResolvesBy}
+use Rattle.xa_bank_days.specs.{unused}
+use Rattle.std.proofs.lemmas.Result.{IfErr-weaker}
 use Rattle.xa_driver.proofs.Mapped.{Asks}
 use Rattle.xa_atomicity.specs.{IsBetween, OnlyResolves, ResolveCall, resolve_call, resolves, with_use}
 use Rattle.xa_atomicity.proofs.Sites.{all_earlier, own_all}
 use Rattle.xa_atomicity.proofs.Resolves.{outcome_at, resolve_sends}
 use Rattle.xa_atomicity.proofs.Settled.{by_ledger}
-use Rattle.xa_atomicity.proofs.Guided.{learnt_on}
-use Rattle.xa_crew.specs.{WithScan, Attended, IsRunAgain, WorksWithScan}
+use Rattle.xa_atomicity.proofs.Voting.{learnt_on}
+use Rattle.xa_crew.specs.{WithScan, Attended, IsRunAgain, WorksWithScan, IsRun}
 use Rattle.xa_work.specs.{HasSent}
 use Rattle.xa_bank.specs.{Teller}
-use Rattle.xa_bank.proofs.Members.{MemberAt, Never, member_at, nobody_else}
-use Rattle.xa_bank_days.specs.{Resolver, IsResolvedBy, records_of, Unresolved, Excuses, HasRoomToResolve, IsNight, IsUntouched, ResolvesBy, unused}
-use Rattle.xa_bank_days.proofs.DayWorked.{many_attended}
-use Rattle.xa_bank_days.proofs.ManyDays.{if_err}
-use Rattle.xa_bank_days.proofs.Rooms.{left_on, room_to_resolve}
-use Rattle.xa_bank_days.proofs.Reached.{InNight, IsReached, all_reached, answered_open, ends_in_night, none_shut}
+use Rattle.xa_bank.proofs.Members.{MemberAt, Never, member_at, nobody_else, of_threads}
+use Rattle.xa_bank_days.proofs.Moved.{many_attended}
+use Rattle.std.proofs.lemmas.List.Sorted.{IsPermutation-sym, Contains-permutation}
+use Rattle.xa_tables.proofs.WorkLaw.{others_first}
+use Rattle.xa_switch.proofs.Lists.{contains_map, found}
+
+-- ---- what a resolve asks for
+
+-- the request opens a manager, tells a branch its outcome, or has one forgotten
+abbrev is_of_night : Op → Bool
+is_of_night OpenRm = true
+is_of_night (Commit x one_phase) = not one_phase
+is_of_night (Rollback x) = true
+is_of_night (Forget x) = true
+is_of_night op = false
+
+abbrev pub InNight : Op → Type 0
+InNight op = is_of_night op ≡ true
+
+pub ends_in_night : (commit : Bool) (x : XidName) → InNight (outcome_op commit x)
+ends_in_night true x = refl
+ends_in_night false x = refl
+
+-- ---- what it is answered
+
+-- the manager isn't shut, and doesn't say so
+record StaysOpen (a : Answer) : Type 0 where
+  code : is_rm_fail a.1 ≡ false
+  open_ : a.0.shut ≡ false
+
+rolled_back : (c : Code) → is_rolled_back c ≡ true → is_rm_fail c ≡ false
+rolled_back RmFail e = cc
+rolled_back c e = refl
+
+decided : (o : Option State) → is_rm_fail (decision_in o) ≡ false
+decided (Some (HeuristicallyCompleted decision.Commit)) = refl
+decided o = refl
+
+says : (T : Tables) (c : Code) → T.shut ≡ false → is_rm_fail c ≡ false → StaysOpen (T, c)
+says T c o e = record { code = e; open_ = o }
+
+rules_open : (t : ℕ) (op : Op) (T : Tables) → InNight op → T.shut ≡ false → StaysOpen (by_rules t op T)
+rules_open t (Commit x true) T is o = cc
+rules_open t op T is o = search (arith, says, decided, rolled_back, reason_rolls_back)
+
+next_open : (t : ℕ) (op : Op) (T : Tables) → InNight op → T.shut ≡ false → StaysOpen (next t op T)
+unfolding next
+next_open t op T is o = search (arith, says, rules_open)
+
+codes_open : (h : History) (T : Tables) → All (λ r. InNight r.op) h → T.shut ≡ false → All (λ (e : Entry). is_rm_fail e.1 ≡ false) (coded h T)
+codes_open [] T all o = All-nil (λ (e : Entry). is_rm_fail e.1 ≡ false)
+codes_open (r ∷ h) T all o =
+    let P : Request → Type 0 = λ q. InNight q.op in
+    let one = next_open r.thread r.op T (All-head P r h all) o in
+    All-cons (λ (e : Entry). is_rm_fail e.1 ≡ false) (r, (next r.thread r.op T).1) (coded h (next r.thread r.op T).0) one.code (codes_open h (next r.thread r.op T).0 (All-tail P r h all) one.open_)
+
+-- so what a thread collected from such a manager
+pub answered_open : (s : Settling) (m t : ℕ) → IsSettled s → All (λ r. InNight r.op) (history s m) → All (λ p. is_rm_fail p.1 ≡ false) (collected s t m)
+answered_open s m t settled all =
+    let P : Entry → Type 0 = λ e. is_rm_fail e.1 ≡ false in
+    let f = follows s m settled in
+    let codes : All P (journal s m) = subst (All P) (sym f.1.codes) (codes_open (history s m) f.0 all f.1.opened.shut) in
+    λ k d below.
+    let p : ℕ × Code = get_or (collected s t m) k d in
+    let e = was_mapped (λ (e : Entry). (e.0.number, e.1)) (filter (λ e. e.0.thread == t) (journal s m)) p.0 p ((settled.agree t m).coded k d below) in
+    sym (ap (λ (q : ℕ × Code). is_rm_fail q.1) e.2)
+    ∙ all_at P (filter (λ e. e.0.thread == t) (journal s m)) p.0 e.0 (All-filter (λ (e : Entry). e.0.thread == t) P (journal s m) codes) e.1
+
+-- ---- what is learnt of a resolve
+
+-- where the manager isn't learnt to be shut after what was asked, it wasn't before, and answered
+ask_open : (a a' : LedgerView) (op : Op) (c : Code) → AskTrace (Some op) (Some c) a a' → learnt_shut a' ≡ false → (learnt_shut a ≡ false) × (c ≢ RmFail)
+ask_open a a' op c tr open_ = search (arith, list_any-append, or-true, a.collected)
+
+if_open : (asks : Bool) (op : Op) (a a' : LedgerView) → AsksIf asks AsksLedger op a a' → learnt_shut a' ≡ false → learnt_shut a ≡ false
+if_open false op a a' same o = sym (ap learnt_shut same) ∙ o
+if_open true op a a' asked o = (ask_open a a' op asked.0 asked.1 o).0
+
+abbrev pub IsReached : Outcome → Type 0
+IsReached o = o.code ≢ RmFail
+
+each_reached : (records : Records) (m : ℕ) (a : LedgerView) (os : List Outcome) (a' : LedgerView) → Chain (ResolvesBranch AsksLedger records m) a os a'
+    → learnt_shut a' ≡ false → All IsReached os
+each_reached records m a _ _ (no_step xs last e f) o = subst (All IsReached) (sym e) (All-nil IsReached)
+each_reached records m a _ _ (one_step xs x now last before is) o =
+    let ends = ask_open now is.decided (outcome_op x.commit x.xid) x.code is.obeys (if_open (is_decided x.code) (Forget x.xid) is.decided last is.forgets o) in
+    All-append IsReached xs (x ∷ []) (each_reached records m a xs now before ends.0) (All-cons IsReached x [] ends.1 (All-nil IsReached))
+
+pub all_reached : (records : Records) (m : ℕ) (xids : List XidName) (os : List Outcome) (a a' : LedgerView) → ResolvesAt AsksLedger records m xids os a a'
+    → learnt_shut a' ≡ false → All IsReached os
+all_reached records m [] os a a' is o = subst (All IsReached) (sym is.0) (All-nil IsReached)
+all_reached records m (x ∷ xs) os a a' is o = each_reached records m is.opened os a' is.each o
+
+-- ---- the room of a night's desk for what it takes to resolve, and why nothing was resolved
+
+-- a new ledger has all requests of the plan
+fresh_plan : (n : ℕ) (flags : List Bool) (i : ℕ) → i < length flags → (slice_index_or (new_ledgers n flags) i no_ledger).plan ≡ n
+fresh_plan n [] i low = absurd (omega (arith, low))
+fresh_plan n (b ∷ flags) zero low = refl
+fresh_plan n (b ∷ flags) (suc i) low = fresh_plan n flags i (omega (arith, low))
+
+fresh_room : (n : ℕ) (flags : List Bool) (m : ℕ) → IsUpTo (length flags) m → room_at (new_ledgers n flags) m ≡ n
+fresh_room n flags zero up = let low = up.0 in absurd (omega (arith, low))
+fresh_room n flags (suc i) up = search (arith, length-map, fresh_plan, fresh_sent, at_false, nat_lt, or_from, ne_eqb, le-ltb, up.1)
+
+none_left : (lists : List (List XidName)) (k : ℕ) → length lists ≤ k → slice_index_or lists k [] ≡ []
+none_left [] k past = refl
+none_left (l ∷ lists) zero past = absurd (omega (arith, past))
+none_left (l ∷ lists) (suc k) past = none_left lists k (omega (arith, past))
+
+-- where the numbers have room for what is left, the desk has
+pub room_to_resolve : (s : Settling) (again : Again) (d : DeskView) (z : ScanView) → IsNewDesk (reopening s again) 0 d → IsScanOf s z
+    → HasRoomToResolve s again → MayResolve d z
+room_to_resolve s again d z fresh scanned room = search (arith, none_left, fresh_room, cases_lt, scanned.left.managers, z.left, d.ledgers, again.requests)
+
+-- why nothing was resolved, by what the caller knows
+pub left_on : {Room Fits : Type 0} (Known Good Same : Type 0) → (Fits → Room) → (r : Result Resolved Unresolved)
+    → IfErr r (λ why. Same × Excuses ⊥ Known Room (Unit {0}) why) → IfErr r (Excuses ⊥ Known Fits Good)
+left_on Known Good Same so (Ok z) h = tt
+left_on Known Good Same so (Err NoRoom) h = λ fits. h.1 (so fits)
+left_on Known Good Same so (Err BadNumbers) h = absurd (h.1 tt)
+left_on Known Good Same so (Err why) h = h.1
 
 pub never_none : (ops : List Op) → All Never ops → ops ≡ []
 never_none [] all = refl
@@ -40,55 +171,33 @@ only_last (w ∷ front) a e = let size = length-append front (a ∷ []) in absur
 module _ {L : Type 0} (state : L → LogState) (knows : L → Type 0) (s : Settling) (again : Again) (r : Resolver L)
     (attended : List (Attended (WithScan (Resolver L)))) (next : Settling)
     (z : IsRunAgain (ResolvesBy state knows) s again (r ∷ []) attended next) (one : again.threads ≡ 1) where
-  abbrev Works : WithScan (Resolver L) → DeskView → WithScan (Resolver L) → DeskView → Type 0
-  Works = WorksWithScan (ResolvesBy state knows)
+  at : MemberAt (WorksWithScan (ResolvesBy state knows)) (reopening s again) z.given attended next 0
+  at = member_at (WorksWithScan (ResolvesBy state knows)) (reopening s again) z.given attended next z.run 0 (omega (arith, one))
 
-  at : MemberAt Works (reopening s again) z.given attended next 0
-  at = member_at Works (reopening s again) z.given attended next z.run 0 (omega (arith, one))
-
-  abbrev mine : Resolver L
-  mine = at.member.client.client
+  open at use {left.{ledgers as new}, member.{client.{client as mine, scan}, desk.{ledgers as old}}}
 
   client : mine ≡ r
   client =
       some_same mine r
       (sym (got_map (λ (w : WithScan (Resolver L)). w.client) z.given 0 at.member.client at.client_at) ∙ ap (λ (l : List (Resolver L)). slice_get l 0) z.are_given.clients_are)
 
-  abbrev scan : ScanView
-  scan = at.member.client.scan
-
   scanned : IsScanOf s scan
   scanned =
       all_at (IsScanOf s) (map (λ (w : WithScan (Resolver L)). w.scan) z.given) 0 scan z.are_given.scans.each
       (got_map (λ (w : WithScan (Resolver L)). w.scan) z.given 0 at.member.client at.client_at)
 
-  abbrev old : List LedgerView
-  old = at.member.desk.ledgers
-
-  abbrev new : List LedgerView
-  new = at.left.ledgers
-
-  abbrev last : List LedgerView
-  last = ledgers_of next 1
-
-  settled : IsSettled next
-  settled = z.run.agrees
-
   -- ---- what was sent
 
-  final : (m : ℕ) → 1 ≤ m → HasSent Never (ledger new m) (ledger last m)
+  final : (m : ℕ) → 1 ≤ m → HasSent Never (ledger new m) (ledger (ledgers_of next 1) m)
   final m positive = at.end m positive
 
   sent_own : (m : ℕ) → 1 ≤ m → sent next 1 m ≡ (ledger new m).sent
   sent_own m positive =
-      by_ledger last m (λ (a : LedgerView). a.sent) positive refl ∙ (final m positive).sent
+      by_ledger (ledgers_of next 1) m (λ (a : LedgerView). a.sent) positive refl ∙ (final m positive).sent
       ∙ ap (λ (l : List Op). (ledger new m).sent ++ l) (never_none (final m positive).more (final m positive).each) ∙ append-nil (ledger new m).sent
 
-  outside : (u : ℕ) → u ≢ 1 → (u < 1) ⊎ (again.threads < u)
-  outside u other = search (arith, cases_lt)
-
   nobody : (u : ℕ) → u ≢ 1 → (m : ℕ) → sent next u m ≡ []
-  nobody u other = nobody_else Works (reopening s again) z.given attended next z.run u (outside u other)
+  nobody u other = nobody_else (WorksWithScan (ResolvesBy state knows)) (reopening s again) z.given attended next z.run u (search (arith, cases_lt))
 
   between : (m : ℕ) (q : Request) → q.thread ≡ 1 → q.number < 0 + length (sent next 1 m)
       → IsBetween 1 (length (ledger old m).sent) (length (ledger new m).sent) q
@@ -107,9 +216,9 @@ module _ {L : Type 0} (state : L → LogState) (knows : L → Type 0) (s : Settl
         let p : Request = get_or (history next m) k d in
         elim (cases_eq p.thread 1) [
           | inl same ↦
-              (resolves q, ((0, omega arith, refl), between m p same (all_earlier 1 (history next m) 0 (sent next 1 m) (settled.agree 1 m).carried k d below same)))
+              (resolves q, ((0, omega arith, refl), between m p same (all_earlier 1 (history next m) 0 (sent next 1 m) (z.run.agrees.agree 1 m).carried k d below same)))
           | inr other ↦
-              let up = all_earlier p.thread (history next m) 0 (sent next p.thread m) (settled.agree p.thread m).carried k d below refl in
+              let up = all_earlier p.thread (history next m) 0 (sent next p.thread m) (z.run.agrees.agree p.thread m).carried k d below refl in
               let none = ap (λ (l : List Op). length l) (nobody p.thread other m) in
               absurd (omega (arith, up, none))
         ]
@@ -131,12 +240,12 @@ module _ {L : Type 0} (state : L → LogState) (knows : L → Type 0) (s : Settl
       taken : All (λ p. InNight p.op) (history next m)
       taken k d below =
           let p : Request = get_or (history next m) k d in
-          own_all p.thread InNight (history next m) 0 (sent next p.thread m) (settled.agree p.thread m).carried (of_night p.thread) k d below refl
+          own_all p.thread InNight (history next m) 0 (sent next p.thread m) (z.run.agrees.agree p.thread m).carried (of_night p.thread) k d below refl
 
-      last_open : learnt_shut (ledger last m) ≡ false
+      last_open : learnt_shut (ledger (ledgers_of next 1) m) ≡ false
       last_open =
-          none_shut (ledger last m).collected
-          (subst (All (λ (p : ℕ × Code). is_rm_fail p.1 ≡ false)) (by_ledger last m (λ (a : LedgerView). a.collected) up.0 refl) (answered_open next m 1 settled taken))
+          list_any_none (λ (p : ℕ × Code). is_rm_fail p.1) (ledger (ledgers_of next 1) m).collected
+          (subst (All (λ (p : ℕ × Code). is_rm_fail p.1 ≡ false)) (by_ledger (ledgers_of next 1) m (λ (a : LedgerView). a.collected) up.0 refl) (answered_open next m 1 z.run.agrees taken))
 
       new_open : learnt_shut (ledger new m) ≡ false
       new_open = search (arith, learnt_on, final, last_open)
@@ -147,14 +256,13 @@ module _ {L : Type 0} (state : L → LogState) (knows : L → Type 0) (s : Settl
         let at_o = outcome_at scan records old new outcomes trace o (Contains-get_or outcomes k d below) in
         search (arith, All-contains, at, all_reached, new_open, o.m)
 
-  -- ---- the night
-
+  -- the night
   module _ (whole : IsWhole s)
       (goes_on : (s next : Settling) (again : Again) (m : ℕ) (T : Tables) → IsWhole s → IsOf (reopening s again) next → first_of s m ≡ Some T → first_of next m ≡ Some (reopened_at s.managers m)) where
     resolved_by : (records : Records) (outcomes : List Outcome) (trace : IsTraceOfResolve scan records old new outcomes)
         → IsResolvedBy records s again (q records outcomes trace) next
     resolved_by records outcomes trace = record {
-      settled = settled;
+      settled = z.run.agrees;
       continues = λ m T first. goes_on s next again m T whole z.run.of_setup first;
       of_setup = z.run.of_setup;
       made = record {
@@ -202,7 +310,79 @@ module _ {L : Type 0} (state : L → LogState) (knows : L → Type 0) (s : Settl
 
       pub untouched_law : IfErr a.client.client.resolved (λ why. IsUntouched s again next)
       untouched_law =
-          if_err a.client.client.resolved
-          (λ why h. unused settled (λ m T first. goes_on s next again m T whole z.run.of_setup first) z.run.of_setup (nothing h.0))
+          IfErr-weaker a.client.client.resolved _ _
+          (λ why h. unused z.run.agrees (λ m T first. goes_on s next again m T whole z.run.of_setup first) z.run.of_setup (nothing h.0))
           (subst (λ (p : Attended (WithScan (Resolver L))). IfErr p.client.client.resolved (λ why. (at.left ≡ at.member.desk)
           × Excuses ⊥ (All (λ (t : Teller L). knows t.log) mine.tellers.items) (MayResolve at.member.desk scan) (Unit {0}) why)) it at.worked.left)
+
+-- ---- an opening of a plan in which nobody does anything: each store is left with what it opened with
+
+-- a history without a request of any thread
+no_requests : (h : History) → ((t : ℕ) → of_thread t h ≡ []) → h ≡ []
+no_requests [] e = refl
+no_requests (r ∷ h) e = absurd ((others_first r.thread r h (e r.thread)).0 refl)
+
+module _ {C : Type 0} (p : Plan) (clients : List C) (attended : List (Attended C)) (s : Settling)
+    (r : IsRun (λ (x : C) (d : DeskView) (x' : C) (d' : DeskView). d' ≡ d) (planned p) clients attended s) (whole : IsWhole s) where
+  abbrev Idles : C → DeskView → C → DeskView → Type 0
+  Idles x d x' d' = d' ≡ d
+
+  abbrev stores : ℕ
+  stores = length p.managers.items
+
+  nothing_at : (k m : ℕ) → k < p.threads → 1 ≤ m → sent s (k + 1) m ≡ []
+  nothing_at k m below positive =
+      let at = member_at Idles (planned p) clients attended s r k below in
+      let end = at.end m positive in
+      by_ledger (ledgers_of s (k + 1)) m (λ (a : LedgerView). a.sent) positive refl ∙ end.sent
+      ∙ ap (λ (l : List Op). (ledger at.left.ledgers m).sent ++ l) (never_none end.more end.each) ∙ append-nil (ledger at.left.ledgers m).sent
+      ∙ ap (λ (d : DeskView). (ledger d.ledgers m).sent) at.worked ∙ at.nothing m positive
+
+  nobody_sent : (t m : ℕ) → 1 ≤ m → sent s t m ≡ []
+  nobody_sent t m positive =
+      of_threads (λ u. sent s u m ≡ []) p.threads (λ u outside. nobody_else Idles (planned p) clients attended s r u outside m)
+      (λ k below. nothing_at k m below positive) t
+
+  untouched : (m : ℕ) → 1 ≤ m → history s m ≡ []
+  untouched m positive = no_requests (history s m) (λ t. (r.agrees.agree t m).carried ∙ ap (numbered t 0) (nobody_sent t m positive))
+
+  first : (m : ℕ) → IsUpTo stores m → first_of s m ≡ Some (opening (accounts_of p m))
+  first m up =
+      let low = up.0 in
+      let high = up.1 in
+      let x = got p.managers.items (m - 1) (omega (arith, low, high)) in
+      let number : m - 1 + 1 ≡ m = omega (arith, low) in
+      ap (first_of s) (sym number)
+      ∙ r.of_setup.opened (m - 1) (opening x.0.accounts.items) (got_map (λ (q : ManagerPlan). opening q.accounts.items) p.managers.items (m - 1) x.0 x.1)
+      ∙ ap (λ (o : Option ManagerPlan). Some (opening (accounts_in o))) (sym x.1)
+
+  pub tables : (m : ℕ) → IsUpTo stores m → last_in (find_manager m s.managers) ≡ opening (accounts_of p m)
+  tables m up =
+      let q = begun s m (opening (accounts_of p m)) (first m up) in
+      let is = found (λ (c : ManagerPart). c.number == m) s.managers q.0 q.1 in
+      let follows : FollowsTables q.0 = All-contains FollowsTables s.managers q.0 r.agrees.tables is.0 in
+      let none : requests q.0.journal ≡ [] = ap (λ (o : Option ManagerPart). requests (journal_in o)) (sym q.1) ∙ untouched m up.0 in
+      ap last_in q.1 ∙ follows.left ∙ ap (λ (h : History). tables_after h q.0.first) none ∙ q.2
+
+  -- ---- how many stores there are
+
+  in_range : (n m : ℕ) → Contains (range_with_len 1 n) m → m ≤ n
+  in_range n m there = search (arith, length-range_with_len, get_or-range_with_len, there.1, there.0, there.2)
+
+  within : (m : ℕ) (q : ManagerPart) → find_manager m s.managers ≡ Some q → m ≤ stores
+  within m q at =
+      let is = found (λ (c : ManagerPart). c.number == m) s.managers q at in
+      let numbers : List ℕ = map (λ (c : ManagerPart). c.number) s.managers in
+      let among : Contains numbers m =
+      subst (Contains numbers) (eqb-true q.number m is.1) (contains_map (λ (c : ManagerPart). c.number) s.managers q is.0) in
+      in_range stores m (Contains-permutation numbers (range_with_len 1 stores) m (IsPermutation-sym _ _ r.of_setup.managers) among)
+
+  pub all_stores : managers_in s ≡ stores
+  all_stores =
+      let last = whole.there (managers_in s) whole.few.0 (omega arith) in
+      let low = within (managers_in s) last.0 last.1 in
+      let most = whole.few.0 in
+      let up : IsUpTo stores stores = (omega (arith, low, most), omega arith) in
+      let q = begun s stores (opening (accounts_of p stores)) (first stores up) in
+      let high = (whole.only stores q.0 q.1).1 in
+      omega (arith, low, high)

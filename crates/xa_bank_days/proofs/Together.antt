@@ -1,34 +1,152 @@
+-- What several logs have that are read as one.
 -- What the transfers of all tellers come to at one store, for one account.
-use Rattle.xa_base.proofs.{is_some, Vec, ◌≡◌, ℕ, zero, suc, ◌+◌, ◌^◌, ◌<◌, ◌≤◌, Bool, true, Option, None, Some, List, [], ◌∷◌, ◌++◌, length, get_or, map}
-use Rattle.xa_base.proofs.{slice_get, sym, refl, ap, ◌∙◌, subst, arith, inl, inr, All, length-map, slice_get_within, Global, All-nil, All-weaker, got, got_map}
-use Rattle.xa_base.proofs.{some_same, was_mapped}
-use Rattle.xa_base.specs.{MOST_MANAGERS, IsUpTo, total}
-use Rattle.xa_words.specs.{XidName, TranName, Op}
-use Rattle.xa_tables.specs.{state_of, names, Tables}
-use Rattle.xa_desk.specs.{LedgerView, ledger}
-use Rattle.xa_switch.specs.{sent, first_of, history, ledgers_of}
-use Rattle.xa_log.specs.{IsReadAs, LogState, Records, record_in, record_of}
-use Rattle.xa_atomicity.proofs.Sites.{own_all}
-use Rattle.xa_atomicity.proofs.Settled.{by_ledger}
+use Rattle.xa_base.proofs.{cases_eq, option_or, ◌≡◌, ◌≢◌, ℕ, zero, suc, Bool, Option, None, Some, List, [], ◌∷◌, length, map, slice_get, sym, refl, ap, ◌∙◌}
+use Rattle.xa_base.proofs.{arith, some_same, ◌+◌, ◌^◌, ◌<◌, ◌≤◌, ⊎_elim, true, false, ◌||◌, ◌++◌, subst, inl, inr, list_any, or-true, list_any-append, Vec}
+use Rattle.xa_base.proofs.{get_or, All, length-map, slice_get_within, Global, All-nil, All-weaker, got, got_map, is_missing, false_from_ne_true}
+use Rattle.xa_words.specs.{TranName, XidName, xid_eq, Op}
+use Rattle.xa_log.specs.{Records, all_records, record_in, LogState, record_of, IsReadAs}
+use Rattle.xa_base.specs.{total, MOST_MANAGERS, IsUpTo}
+use Rattle.xa_tables.specs.{Tables, state_of, names}
+use Rattle.xa_desk.specs.{LedgerView, DeskView, ledger}
+use Rattle.xa_switch.specs.{Again, Settling, ledgers_of, sent, first_of, history}
+use Rattle.xa_atomicity.specs.{is_recorded, ResolveCall}
 use Rattle.xa_days.specs.{Leg}
-use Rattle.xa_work.specs.{HasSent, IsOpenRm}
-use Rattle.xa_work.proofs.Sent.{sent_on, sent_as}
-use Rattle.xa_bank.specs.{Teller, Transfer}
+use Rattle.xa_work.specs.{WorkOutcome, HasSent, HaveSent, IfLost, IsOpenRm}
+use Rattle.xa_work.proofs.Sent.{none_sent, sent_on, sent_as, have_on, have_as}
+use Rattle.xa_bank.specs.{Habits, Transfer, is_undecided, MakesEach, tran_named, Teller}
+use Rattle.xa_bank.proofs.Named.{IsOf, Is, IsFrom, Names, names_as, next_names, none_made, one_transfer, transfers_name, opens_names}
+use Rattle.xa_bank.proofs.Told.{Earlier, IsBelow, earlier_on, IsTold}
+use Rattle.xa_bank_days.specs.{IsNamed, is_applied, told as told_of, DayAndNight, all_told, records_of}
+use Rattle.xa_bank_days.proofs.Went.{AreKnown, each_keeps, lost_last, named_once, rest_known, AtPlace, as_many, at_place, owner}
+use Rattle.xa_bank_days.proofs.Made.{CameOut, HasNoCommit, IsFoundSo, is_leg, IsStore, Noted, NotedSent, TransferAt, next_at, noted_none, LegsSo, both_legs}
+use Rattle.xa_bank_days.proofs.Made.{counts_for, no_legs, legs_as, total_append}
+use Rattle.xa_bank_days.proofs.Out.{IsScene, BranchesComeOut}
+use Rattle.xa_atomicity.proofs.Requests.{own_all}
+use Rattle.xa_atomicity.proofs.Settled.{by_ledger}
 use Rattle.xa_bank.proofs.Members.{of_threads}
-use Rattle.xa_bank.proofs.Named.{IsOf, Names, one_transfer, opens_names}
-use Rattle.xa_bank.proofs.Told.{IsBelow, IsTold}
-use Rattle.xa_bank_days.specs.{IsNamed, all_told, records_of, told as told_of}
-use Rattle.xa_bank_days.proofs.Keeps.{each_keeps, named_once}
-use Rattle.xa_bank_days.proofs.Logs.{NoLogs, OneLogMore, one_in_all, same_in_all}
-use Rattle.xa_bank_days.proofs.Made.{CameOut, IsStore, Noted, noted_none}
-use Rattle.xa_bank_days.proofs.Out.{BranchesComeOut, IsScene}
-use Rattle.xa_bank_days.proofs.Shares.{LegsSo, both_legs, counts_for, legs_as, no_legs, total_append}
-use Rattle.xa_bank_days.proofs.Thread.{TransfersAt, each_at, noted_after, noted_more}
-use Rattle.xa_bank_days.proofs.Went.{AtPlace, DayAndNight, as_many, at_place, owner}
 
-none_unless : {A : Type 0} (o : Option A) → (is_some o ≡ true → ⊥) → o ≡ None
-none_unless None never = refl
-none_unless (Some v) never = absurd (never refl)
+or_none : (o : Option (List Bool)) → option_or o None ≡ o
+or_none None = refl
+or_none (Some v) = refl
+
+-- what xa_log has of several logs: of none, and of one more
+abbrev pub NoLogs : Type 0
+NoLogs = (tran : TranName) → record_in (all_records []) tran ≡ None
+
+abbrev pub OneLogMore : Type 0
+OneLogMore =
+    (first : Records) (others : List Records) (tran : TranName)
+    → record_in (all_records (first ∷ others)) tran ≡ option_or (record_in first tran) (record_in (all_records others) tran)
+
+module _ (none : NoLogs) (more : OneLogMore) (tran : TranName) {L : Type 0} (f : L → Records) where
+  -- what these logs have of it, and what all of them have
+  abbrev own : L → Option (List Bool)
+  own l = record_in (f l) tran
+
+  abbrev in_all : List L → Option (List Bool)
+  in_all ls = record_in (all_records (map f ls)) tran
+
+  none_in_all : (ls : List L) → ((k : ℕ) (l : L) → slice_get ls k ≡ Some l → own l ≡ None) → in_all ls ≡ None
+  none_in_all [] each = none tran
+  none_in_all (l ∷ ls) each = more (f l) (map f ls) tran ∙ ap (λ o. option_or o (in_all ls)) (each 0 l refl) ∙ none_in_all ls (λ k p at. each (suc k) p at)
+
+  -- where one of them alone may have a record of it, they have what that has
+  pub one_in_all : (ls : List L) (i : ℕ) (l : L) → slice_get ls i ≡ Some l → ((k : ℕ) (p : L) → k ≢ i → slice_get ls k ≡ Some p → own p ≡ None)
+      → in_all ls ≡ own l
+  one_in_all [] i l at others = cc
+  one_in_all (p ∷ ls) zero l at others =
+      more (f p) (map f ls) tran ∙ ap (λ o. option_or (own p) o) (none_in_all ls (λ k q there. others (suc k) q (λ e. omega (arith, e)) there))
+      ∙ or_none (own p) ∙ ap own (some_same p l at)
+  one_in_all (p ∷ ls) (suc i) l at others =
+      more (f p) (map f ls) tran ∙ ap (λ o. option_or o (in_all ls)) (others 0 p (λ e. omega (arith, e)) refl)
+      ∙ one_in_all ls i l at (λ k q apart there. others (suc k) q (λ e. apart (omega (arith, e))) there)
+
+  -- as each has it, so have all
+  pub same_in_all : (xs ys : List L) → length xs ≡ length ys
+      → ((k : ℕ) (x y : L) → slice_get xs k ≡ Some x → slice_get ys k ≡ Some y → own x ≡ own y) → in_all xs ≡ in_all ys
+  same_in_all (x ∷ xs) (y ∷ ys) many each =
+      more (f x) (map f xs) tran
+      ∙ (λ i. option_or (each 0 x y refl refl i) (same_in_all xs ys (omega (arith, many)) (λ k p r at there. each (suc k) p r at there) i))
+      ∙ sym (more (f y) (map f ys) tran)
+  same_in_all [] [] many each = refl
+  same_in_all xs ys many each = absurd (omega (arith, many))
+
+-- ---- what all transfers of one teller come to at one store, for one account: notes
+
+noted_among : (records : Records) (legs among : List Leg) (op : Op) → ((x : XidName) → is_leg x legs ≡ true → is_leg x among ≡ true) → Noted records legs op
+    → Noted records among op
+noted_among records legs among op also h x e = ⊎_elim (λ (is : is_leg x legs ≡ true). inl (also x is)) (λ (none : HasNoCommit records x op). inr none) (h x e)
+
+pub noted_more : (records : Records) (legs more : List Leg) (op : Op) → Noted records legs op → Noted records (legs ++ more) op
+noted_more records legs more op =
+    noted_among records legs (legs ++ more) op (λ x is. list_any-append (λ (g : Leg). xid_eq g.xid x) legs more ∙ ap (λ b. b || is_leg x more) is)
+
+pub noted_after : (records : Records) (legs more : List Leg) (op : Op) → Noted records more op → Noted records (legs ++ more) op
+noted_after records legs more op =
+    noted_among records more (legs ++ more) op (λ x is. list_any-append (λ (g : Leg). xid_eq g.xid x) legs more ∙ ap (λ b. is_leg x legs || b) is ∙ or-true (is_leg x legs))
+
+pub noted_both : (records : Records) (legs more : List Leg) (a b c : LedgerView) → HasSent (Noted records legs) a b → HasSent (Noted records more) b c
+    → HasSent (Noted records (legs ++ more)) a c
+noted_both records legs more a b c h k =
+    sent_on (Noted records (legs ++ more)) a b c (sent_as (Noted records legs) (Noted records (legs ++ more)) (noted_more records legs more) a b h)
+    (sent_as (Noted records more) (Noted records (legs ++ more)) (noted_after records legs more) b c k)
+
+module _ {s : Settling} {again : Again} {q : ResolveCall} {next : Settling} (scene : IsScene s again q next) {m : ℕ} {T : Tables} (store : IsStore s m T)
+    (j : List ℕ) (t : ℕ) (low : t < 2 ^ 32) (habits : Habits) (keeps : habits.forgets ≡ false) (R : LogState → Type 0) (is_found : Bool) where
+  -- the branch is of one of these transfers, with numbers from n on, so many
+  abbrev pub IsOneOf : ℕ → ℕ → XidName → Type 0
+  IsOneOf n count x = (k : ℕ) × (n ≤ k) × (k < n + count) × IsOf t k x
+
+  -- what they came to
+  abbrev pub TransfersAt : ℕ → List Transfer → List WorkOutcome → LedgerView → LedgerView → Type 0
+  TransfersAt n trs os a a' = LegsSo (CameOut s q next m T j) (IsOneOf n (length os)) (total (counts_for m j) (told_of is_found trs os)) (NotedSent q a a')
+
+  none_told : (trs : List Transfer) → told_of is_found trs [] ≡ []
+  none_told [] = refl
+  none_told (tr ∷ trs) = refl
+
+  -- what was found is what the log has, as it was read, of the last of these transfers, where nobody knew whether its record
+  -- was made
+  abbrev pub IsFoundAt : ℕ → List WorkOutcome → LogState → Type 0
+  IsFoundAt n os read =
+      (k : ℕ) → k + 1 ≡ n + length os → list_any is_undecided os ≡ true → k < 2 ^ 32 → is_found ≡ is_recorded read (tran_named t k)
+
+  pub each_at : (n : ℕ) (trs : List Transfer) (os : List WorkOutcome) (old new : DeskView) (log later : LogState)
+      → MakesEach t habits n trs os old new log later R
+      → AreKnown os → R later → IsFoundAt n os later → ((k : ℕ) (x : XidName) → n ≤ k → IsOf t k x → state_of T x ≡ None)
+      → HaveSent (λ op. ⊥) new.ledgers (ledgers_of s t)
+      → Earlier t n old.ledgers
+      → ((k : ℕ) (tran : TranName) → n ≤ k → IsNamed t k tran.gtrid → record_in q.records tran ≡ record_of later tran)
+      → TransfersAt n trs os (ledger old.ledgers m) (ledger new.ledgers m)
+  each_at n trs [] old new log later h known may so fresh ended before found =
+      no_legs (sym (ap (total (counts_for m j)) (none_told trs)))
+      (subst (λ (d : DeskView). HasSent (Noted q.records []) (ledger old.ledgers m) (ledger d.ledgers m)) (sym (none_made R t habits n trs old new log later h).0)
+      (none_sent (Noted q.records []) (ledger old.ledgers m)))
+  each_at n (tr ∷ trs) (o ∷ os) old new log later (mid, now, makes, rest) known may so fresh ended before found =
+      let after_it : AreKnown os = rest_known o os known in
+      let here : IfLost (λ votes. IsFoundSo R t n is_found now) o =
+      lost_last R t habits keeps (λ votes. IsFoundSo R t n is_found now) (n + 1) trs o os mid new now later rest known (λ last same un votes. record {
+        may = subst R same may;
+        found_ = search (arith, list_any);
+      }) in
+      let rest_so : IsFoundAt (n + 1) os later =
+      λ k last lost small. so k (omega (arith, last)) (ap (λ b. is_undecided o || b) lost ∙ or-true (is_undecided o)) small in
+      let after : HaveSent (Names t (IsFrom (n + 1))) mid.ledgers (ledgers_of s t) =
+      have_on (Names t (IsFrom (n + 1))) mid.ledgers new.ledgers (ledgers_of s t) (transfers_name R t habits (n + 1) trs os mid new now later rest)
+      (have_as (λ op. ⊥) (Names t (IsFrom (n + 1))) (λ op never. absurd never) new.ledgers (ledgers_of s t) ended) in
+      let kept : (tran : TranName) → IsNamed t n tran.gtrid → record_of later tran ≡ record_of now tran = λ tran is.
+      each_keeps R t habits keeps (n + 1) trs os mid new now later rest after_it may tran (λ k from below is_k. let same = (named_once t t n k tran.gtrid low low is is_k).1 in omega (arith, same, from)) in
+      let head : TransferAt scene store j t low n tr (is_applied is_found o) (ledger old.ledgers m) (ledger mid.ledgers m) =
+      next_at scene store j t low n tr habits o keeps R is_found (λ x. fresh n x (omega arith)) mid now here after
+      (λ tran is. found n tran (omega arith) is ∙ kept tran is) old log makes before in
+      let tail : TransfersAt (n + 1) trs os (ledger mid.ledgers m) (ledger new.ledgers m) =
+      each_at (n + 1) trs os mid new now later rest after_it may rest_so (λ k x from. fresh k x (omega (arith, from))) ended
+      (earlier_on t n (n + 1) (Names t (Is n)) old.ledgers mid.ledgers (omega arith) (names_as t (Is n) (IsBelow (n + 1)) (λ i e. omega (arith, e))) before
+      (next_names t n tr habits o old mid log now makes)) (λ k tran from. found k tran (omega (arith, from))) in
+      both_legs head tail (λ x its. (n, omega arith, omega arith, its)) (λ x (k, from, below, its). (k, omega (arith, from), omega (arith, below), its))
+      (λ x its (k, from, below, other). let same = (one_transfer t n t k x low low its other).1 in omega (arith, same, from))
+      (noted_both q.records head.legs tail.legs (ledger old.ledgers m) (ledger mid.ledgers m) (ledger new.ledgers m))
+  each_at n [] (o ∷ os) old new log later h known may so fresh ended before found = absurd h
 
 -- what was sent to a manager to which nothing had been
 all_sent : (P : Op → Type 0) (a a' : LedgerView) → a.sent ≡ [] → HasSent P a a' → All P a'.sent
@@ -77,45 +195,37 @@ module _ (laws : Laws) {L : Type 0} {state : L → LogState} {knows : L → Type
   old_none : (i : ℕ) (old : Teller L) (tran : TranName) → slice_get olds i ≡ Some old → ((k : ℕ) → k < n → IsNamed (i + 1) k tran.gtrid → ⊥)
       → record_of (state old.log) tran ≡ None
   old_none i old tran at others =
-      none_unless (record_of (state old.log) tran)
-      (λ on. let z = dawn.own i old.log tran (got_map (λ (t : Teller L). t.log) olds i old at) on in others z.0 z.1 z.2)
+      is_missing (record_of (state old.log) tran)
+      (false_from_ne_true _ (λ on. let z = dawn.own i old.log tran (got_map (λ (t : Teller L). t.log) olds i old at) on in others z.0 z.1 z.2))
 
-  abbrev records_in : List L → List Records
-  records_in = map (λ (log : L). (state log).records)
+  abbrev records_in : L → Records
+  records_in log = (state log).records
 
   found_at : (i : ℕ) (old : Teller L) (z : AtPlace d i old) (k : ℕ) (tran : TranName)
       → IsNamed (i + 1) k tran.gtrid → record_in q.records tran ≡ record_of (state z.log) tran
   found_at i old z k tran named =
       ap (λ (r : Records). record_in r tran) resolved.by_
-      ∙ one_in_all laws.none laws.more tran (records_in logs) i (state z.log).records
-      (got_map (λ (log : L). (state log).records) logs i z.log z.log_at)
-      (λ u r apart there.
-      let l = was_mapped (λ (log : L). (state log).records) logs u r there in
-      let o = owner d u l.0 l.1 in
+      ∙ one_in_all laws.none laws.more tran records_in logs i z.log z.log_at (λ u log apart there.
+      let (old', place, log_is) = owner d u log there in
       let other : (e : ℕ) → IsNamed (u + 1) e tran.gtrid → ⊥ = λ e its.
-      let same = (named_once (i + 1) (u + 1) k e tran.gtrid (low_at i old z.old_at) (low_at u o.old o.place.old_at) named its).0 in
+      let same = (named_once (i + 1) (u + 1) k e tran.gtrid (low_at i old z.old_at) (low_at u old' place.old_at) named its).0 in
       apart (omega (arith, same)) in
-      ap (λ (p : Records). record_in p tran) (sym (ap (λ (log : L). (state log).records) o.log_is ∙ l.2)) ∙ log_keeps u o.old o.place tran (λ e _. other e)
-      ∙ old_none u o.old tran o.place.old_at (λ e _. other e))
+      ap (λ (l : L). record_of (state l) tran) (sym log_is) ∙ log_keeps u old' place tran (λ e _. other e)
+      ∙ old_none u old' tran place.old_at (λ e _. other e))
 
   -- a transaction that isn't of any transfer of that day
   pub found_before : (tran : TranName) → ((t k : ℕ) → 1 ≤ t → t ≤ length olds → n ≤ k → IsNamed t k tran.gtrid → ⊥)
       → record_in q.records tran ≡ record_in (records_of state (map (λ t. t.log) olds)) tran
   found_before tran others =
       ap (λ (r : Records). record_in r tran) resolved.by_
-      ∙ same_in_all laws.none laws.more tran (records_in logs) (records_in (map (λ (t : Teller L). t.log) olds))
-      (length-map logs (λ (log : L). (state log).records) ∙ (as_many d).1
-      ∙ sym (length-map (map (λ (t : Teller L). t.log) olds) (λ (log : L). (state log).records) ∙ length-map olds (λ (t : Teller L). t.log)))
-      (λ k x y at at'.
-      let l = was_mapped (λ (log : L). (state log).records) logs k x at in
-      let o = owner d k l.0 l.1 in
-      let b = was_mapped (λ (log : L). (state log).records) (map (λ (t : Teller L). t.log) olds) k y at' in
-      let log_is : o.old.log ≡ b.0 =
-      some_same o.old.log b.0 (sym (got_map (λ (t : Teller L). t.log) olds k o.old o.place.old_at) ∙ b.1) in
-      let within = slice_get_within olds k o.old o.place.old_at in
-      ap (λ (p : Records). record_in p tran) (sym (ap (λ (log : L). (state log).records) o.log_is ∙ l.2))
-      ∙ log_keeps k o.old o.place tran (λ e from is. others (k + 1) e (omega arith) (omega (arith, within)) from is)
-      ∙ ap (λ (p : Records). record_in p tran) (ap (λ (log : L). (state log).records) log_is ∙ b.2))
+      ∙ same_in_all laws.none laws.more tran records_in logs (map (λ (t : Teller L). t.log) olds) ((as_many d).1 ∙ sym (length-map olds (λ (t : Teller L). t.log)))
+      (λ k log old_log at at'.
+      let (old, place, log_is) = owner d k log at in
+      let was : old.log ≡ old_log = some_same old.log old_log (sym (got_map (λ (t : Teller L). t.log) olds k old place.old_at) ∙ at') in
+      let within = slice_get_within olds k old place.old_at in
+      ap (λ (l : L). record_of (state l) tran) (sym log_is)
+      ∙ log_keeps k old place tran (λ e from is. others (k + 1) e (omega arith) (omega (arith, within)) from is)
+      ∙ ap (λ (l : L). record_of (state l) tran) was)
 
   -- ---- one thread
 
@@ -139,10 +249,10 @@ module _ (laws : Laws) {L : Type 0} {state : L → LogState} {knows : L → Type
       let from = z.counts in
       let within = slice_get_within olds i old at in
       let fresh : (k : ℕ) (x : XidName) → old.habits.first ≤ k → IsOf t k x → state_of (tables m) x ≡ None = λ k x above of_x.
-      none_unless (state_of (tables m) x) (λ there.
+      is_missing (state_of (tables m) x) (false_from_ne_true _ (λ there.
       let below =
       dawn.fresh m x up there t k (omega arith) (let e = length-map olds (λ (t : Teller L). t.log) in omega (arith, within, e)) (record { small = of_x.small; gtrid_ = of_x.gtrid }) in
-      omega (arith, below, above, from)) in
+      omega (arith, below, above, from))) in
       let before : (k : ℕ) → 1 ≤ k → All (Names t (IsBelow old.habits.first)) (ledger w.opened.ledgers k).sent = λ k low.
       let y = w.opens k low in
       all_sent (Names t (IsBelow old.habits.first)) (ledger w.desk.ledgers k) (ledger w.opened.ledgers k) (w.nothing k low)
@@ -172,46 +282,46 @@ module _ (laws : Laws) {L : Type 0} {state : L → LogState} {knows : L → Type
   abbrev pub DayAt : ℕ → List Bool → List (Teller L) → Type 0
   DayAt i fs ns =
       LegsSo Out (IsOfSome i (length ns)) (total (counts_for m j) (all_told fs ns))
-      (λ legs. (k : ℕ) → k < length ns → All (Noted q.records legs) (sent s (i + k + 1) m))
+      (λ legs. (u : ℕ) → i < u → u ≤ i + length ns → All (Noted q.records legs) (sent s u m))
 
   day_at : (i : ℕ) (fs : List Bool) (ns : List (Teller L)) → i + length ns < 2 ^ 32 → length fs ≡ length ns
-      → ((k : ℕ) (found : Bool) (new : Teller L) → slice_get fs k ≡ Some found → slice_get ns k ≡ Some new → ThreadAt (i + k + 1) found new)
+      → ((k u : ℕ) (found : Bool) (new : Teller L) → slice_get fs k ≡ Some found → slice_get ns k ≡ Some new → u ≡ i + k + 1 → ThreadAt u found new)
       → DayAt i fs ns
   day_at i [] (new ∷ ns) high sizes each = absurd (omega (arith, sizes))
   day_at i (found ∷ fs) [] high sizes each = absurd (omega (arith, sizes))
-  day_at i [] [] high sizes each = no_legs refl (λ k lt. absurd (omega (arith, lt)))
+  day_at i [] [] high sizes each = no_legs refl (λ u above upto. absurd (omega (arith, above, upto)))
   day_at i (found ∷ fs) (new ∷ ns) high sizes each =
-      let head : ThreadAt (i + 1) found new = subst (λ t. ThreadAt t found new) (let e : i + 0 + 1 ≡ i + 1 = omega arith in e) (each 0 found new refl refl) in
+      let head : ThreadAt (i + 1) found new = each 0 (i + 1) found new refl refl (omega arith) in
       let tail : DayAt (i + 1) fs ns =
-      day_at (i + 1) fs ns (omega (arith, high)) (omega (arith, sizes))
-      (λ k f z f_at at. subst (λ t. ThreadAt t f z) (let e : i + suc k + 1 ≡ i + 1 + k + 1 = omega arith in e) (each (suc k) f z f_at at)) in
-      subst (λ v. LegsSo Out (IsOfSome i (suc (length ns))) v (λ legs. (k : ℕ) → k < suc (length ns) → All (Noted q.records legs) (sent s (i + k + 1) m)))
+      day_at (i + 1) fs ns (omega (arith, high)) (omega (arith, sizes)) (λ k u f z f_at at is. each (suc k) u f z f_at at (omega (arith, is))) in
+      subst (λ v. LegsSo Out (IsOfSome i (suc (length ns))) v (λ legs. (u : ℕ) → i < u → u ≤ i + suc (length ns) → All (Noted q.records legs) (sent s u m)))
       (sym (total_append (counts_for m j) (told_of found new.transfers.items new.outcomes.items) (all_told fs ns)))
       (both_legs head tail (λ x its. (i + 1, omega arith, omega arith, its)) (λ x (u, above, upto, its). (u, omega (arith, above), omega (arith, upto), its))
       (λ x (k, its) (u, above, upto, (e, others)).
       let same = (one_transfer (i + 1) k u e x (omega (arith, high)) (omega (arith, high, upto)) its others).0 in omega (arith, same, above))
-      (λ one more k lt. noted_at head.legs tail.legs one more k lt))
+      (λ one more u above upto. noted_at head.legs tail.legs one more u above upto))
     where
       noted_at : (xs ys : List Leg) → All (Noted q.records xs) (sent s (i + 1) m)
-          → ((k : ℕ) → k < length ns → All (Noted q.records ys) (sent s (i + 1 + k + 1) m))
-          → (k : ℕ) → k < suc (length ns) → All (Noted q.records (xs ++ ys)) (sent s (i + k + 1) m)
-      noted_at xs ys one more zero lt =
-          subst (λ t. All (Noted q.records (xs ++ ys)) (sent s t m)) (let e : i + 1 ≡ i + 0 + 1 = omega arith in e)
-          (All-weaker (Noted q.records xs) (Noted q.records (xs ++ ys)) (noted_more q.records xs ys) (sent s (i + 1) m) one)
-      noted_at xs ys one more (suc k) lt =
-          subst (λ t. All (Noted q.records (xs ++ ys)) (sent s t m)) (let e : i + 1 + k + 1 ≡ i + suc k + 1 = omega arith in e)
-          (All-weaker (Noted q.records ys) (Noted q.records (xs ++ ys)) (noted_after q.records xs ys) (sent s (i + 1 + k + 1) m) (more k (omega (arith, lt))))
+          → ((u : ℕ) → i + 1 < u → u ≤ i + 1 + length ns → All (Noted q.records ys) (sent s u m))
+          → (u : ℕ) → i < u → u ≤ i + suc (length ns) → All (Noted q.records (xs ++ ys)) (sent s u m)
+      noted_at xs ys one more u above upto = elim (cases_eq u (i + 1)) [
+        | inl same ↦
+            subst (λ t. All (Noted q.records (xs ++ ys)) (sent s t m)) (sym same)
+            (All-weaker (Noted q.records xs) (Noted q.records (xs ++ ys)) (noted_more q.records xs ys) (sent s (i + 1) m) one)
+        | inr other ↦
+            All-weaker (Noted q.records ys) (Noted q.records (xs ++ ys)) (noted_after q.records xs ys) (sent s u m) (more u (omega (arith, above, other)) (omega (arith, upto)))
+      ]
 
   pub whole : DayAt 0 founds news
   whole =
       let size = (as_many d).0 in
-      day_at 0 founds news (omega (arith, many, size)) (as_many d).2 (λ k found new f_at at.
+      day_at 0 founds news (omega (arith, many, size)) (as_many d).2 (λ k u found new f_at at is.
       let old = got olds k (let within = slice_get_within news k new at in omega (arith, within, size)) in
       let place = at_place d k old.0 old.1 in
+      let number : k + 1 ≡ u = omega (arith, is) in
       let same : place.new ≡ new = some_same place.new new (sym place.new_at ∙ at) in
       let found_same : place.found ≡ found = some_same place.found found (sym place.found_at ∙ f_at) in
-      subst (λ t. ThreadAt t found new) (let e : k + 1 ≡ 0 + k + 1 = omega arith in e)
-      (subst (λ (p : Bool × Teller L). ThreadAt (k + 1) p.0 p.1) (λ i. (found_same i, same i)) (thread_at k old.0 place)))
+      subst (λ (p : ℕ × Bool × Teller L). ThreadAt p.0 p.1 p.2) (λ i. (number i, found_same i, same i)) (thread_at k old.0 place))
 
   -- each request that the store took
   pub all_noted : All (λ r. Noted q.records whole.legs r.op) (history s m)
@@ -220,6 +330,6 @@ module _ (laws : Laws) {L : Type 0} {state : L → LogState} {knows : L → Type
       let size = (as_many d).0 in
       let own =
       of_threads (λ u. All P (sent s u m)) (length olds) (λ u outside. subst (All P) (sym (is_day.others u outside m)) (All-nil P))
-      (λ i below. subst (λ t. All P (sent s t m)) (let e : 0 + i + 1 ≡ i + 1 = omega arith in e) (whole.notes i (omega (arith, below, size)))) in
+      (λ i below. whole.notes (i + 1) (omega arith) (omega (arith, below, size))) in
       let u : ℕ = (get_or (history s m) k r).thread in
       own_all u P (history s m) 0 (sent s u m) (is_day.settled.agree u m).carried (own u) k r lt refl

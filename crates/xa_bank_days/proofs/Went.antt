@@ -1,24 +1,177 @@
+-- The logs of all tellers, one by one, with what they were found to have.
+-- What the log of a teller has after its transfers: what it had of other transactions, and records of these.
 -- How the thread of a teller went that was told all, and whose log was read back.
-use Rattle.xa_base.proofs.{if◌then◌else◌, ◌≡◌, ℕ, ◌+◌, ◌^◌, ◌<◌, ◌≤◌, Bool, true, false, ◌||◌, List, [], ◌∷◌, ◌++◌, length, sym, refl, ap, ◌∙◌, subst, arith}
-use Rattle.xa_base.proofs.{All, list_any, or_parts, map, Some, slice_get, slice_get_within, all_at, got, some_same}
-use Rattle.xa_words.specs.{TranName, tran_of}
-use Rattle.xa_tables.specs.{Tables}
+use Rattle.xa_base.proofs.{◌≡◌, ℕ, zero, suc, ◌+◌, nat_lt, Bool, Some, List, [], ◌∷◌, ◌++◌, length, slice_get, some_same, refl, subst, arith, or-false}
+use Rattle.xa_base.proofs.{if◌then◌else◌, ◌^◌, ◌<◌, ◌≤◌, ◌⊎◌, ⊎_elim, true, false, ap, ◌∙◌, inl, inr, cases_lt, cases_Bool, ◌||◌, sym, All, list_any, or_parts}
+use Rattle.xa_base.proofs.{slice_get_within, all_at, got}
+use Rattle.xa_words.specs.{TranName, tran_of, Code, key_eq, Decides-key_eq}
+use Rattle.xa_log.specs.{LogState, record_of, IsReadAs}
+use Rattle.xa_bank.specs.{Teller, ReadsBack, Habits, Transfer, is_undecided, death_in, Makes, MakesEach, branches_of, forgotten, gtrid_of, with_legs}
+use Rattle.xa_bank.specs.{without_legs, Comes, HasMade, ended, lived, unknown, MakesNext, tran_named}
+use Rattle.xa_bank_days.specs.{AreReadBack, ForEach, IsReadBack, IsNamed, DayAndNight, IsToldAll, WorkedIn}
 use Rattle.xa_desk.specs.{DeskView}
-use Rattle.xa_switch.specs.{Again, Settling, sent, ledgers_of}
-use Rattle.xa_log.specs.{IsReadAs, LogState}
-use Rattle.xa_atomicity.specs.{NothingWasSent, is_recorded, ResolveCall}
-use Rattle.xa_work.specs.{WorkOutcome, Undecided, HaveSent, IsOpenRm, is_last}
-use Rattle.xa_work.specs.Units.ComesOfCommit.{cut_short, in_full, undecided}
+use Rattle.xa_atomicity.specs.{is_recorded, NothingWasSent}
+use Rattle.xa_work.specs.{WorkOutcome, IfLost, is_last, Undecided, HaveSent, IsOpenRm}
 use Rattle.xa_work.specs.Units.Transacts.{commits, refused}
-use Rattle.xa_bank.specs.{Habits, Teller, Transfer, Comes, HasMade, ended, is_undecided, lived, unknown, Makes, MakesEach, MakesNext, forgotten, tran_named}
-use Rattle.xa_bank.specs.{with_legs, without_legs}
-use Rattle.xa_bank.proofs.Named.{Names, makes_none, none_made}
-use Rattle.xa_bank.proofs.LostRecords.{refused_so}
+use Rattle.xa_bank.proofs.Named.{legs_are, none_made, one_transfer, Names, makes_none}
+use Rattle.xa_bank.proofs.LostRecords.{if_both, if_so, none_lost, refused_so}
+use Rattle.xa_bank_days.proofs.Come.{IsReadSo, has_come}
+use Rattle.xa_switch.specs.{Settling, sent, ledgers_of}
+use Rattle.xa_work.specs.Units.ComesOfCommit.{cut_short, in_full, undecided}
 use Rattle.xa_bank.proofs.Told.{IsAny}
 use Rattle.xa_bank.proofs.Only.{all_told}
-use Rattle.xa_bank_days.specs.{AreReadBack, AreToldAll, BeginsWith, IsDawn, IsDayOf, IsReadBack, IsResolvedBy, IsToldAll, WorkedIn, records_of}
-use Rattle.xa_bank_days.proofs.Back.{as_many as as_many_back, back_at}
-use Rattle.xa_bank_days.proofs.Keeps.{AreKnown}
+
+module _ {L : Type 0} (P : ℕ → Teller L → L → Bool → Type 0) where
+  pub back_many : (t : ℕ) (tellers : List (Teller L)) (logs : List L) (founds : List Bool) → ForEach P t tellers logs founds
+      → (length logs ≡ length tellers) × (length founds ≡ length tellers)
+  back_many t [] [] [] h = (refl, refl)
+  back_many t (teller ∷ tellers) (log ∷ logs) (found ∷ founds) h = search (arith, back_many (t + 1) tellers logs founds h.1, h.1)
+  back_many t tellers logs founds h = absurd h
+
+  -- what holds at place k, of the thread after so many
+  pub back_at : (t k : ℕ) (tellers : List (Teller L)) (logs : List L) (founds : List Bool) → ForEach P t tellers logs founds
+      → (teller : Teller L) → slice_get tellers k ≡ Some teller
+      → (log : L) × (found : Bool) × (slice_get logs k ≡ Some log) × (slice_get founds k ≡ Some found) × P (t + k) teller log found
+  back_at t k [] [] [] h teller at = cc
+  back_at t zero (x ∷ tellers) (log ∷ logs) (found ∷ founds) h teller at =
+      let number : t ≡ t + 0 = omega arith in
+      (log, found, refl, refl, subst (λ (p : ℕ × Teller L). P p.0 p.1 log found) (λ i. (number i, some_same x teller at i)) h.0)
+  back_at t (suc k) (x ∷ tellers) (l ∷ logs) (f ∷ founds) h teller at =
+      let (log, found, log_at, found_at, back) = back_at (t + 1) k tellers logs founds h.1 teller at in
+      let number : t + 1 + k ≡ t + suc k = omega arith in
+      (log, found, log_at, found_at, subst (λ u. P u teller log found) number back)
+  back_at t k tellers logs founds h teller at = absurd h
+
+  -- one more
+  pub one_back_more : (t : ℕ) (tellers : List (Teller L)) (logs : List L) (founds : List Bool) (teller : Teller L) (log : L) (found : Bool)
+      → ForEach P t tellers logs founds → P (t + length tellers) teller log found
+      → ForEach P t (tellers ++ teller ∷ []) (logs ++ log ∷ []) (founds ++ found ∷ [])
+  one_back_more t [] [] [] teller log found h its = (subst (λ u. P u teller log found) (let e : t + 0 ≡ t = omega arith in e) its, tt)
+  one_back_more t (x ∷ tellers) (l ∷ logs) (f ∷ founds) teller log found h its = search (arith, one_back_more (t + 1) tellers logs founds teller log found h.1)
+  one_back_more t tellers logs founds teller log found h its = absurd h
+
+-- what holds of each, and so does another
+all_so : {L : Type 0} (P Q : ℕ → Teller L → L → Bool → Type 0)
+    → ((t : ℕ) (teller : Teller L) (log : L) (found : Bool) → P t teller log found → Q t teller log found)
+    → (t : ℕ) (tellers : List (Teller L)) (logs : List L) (founds : List Bool) → ForEach P t tellers logs founds → ForEach Q t tellers logs founds
+all_so P Q so t [] [] [] h = tt
+all_so P Q so t (x ∷ tellers) (l ∷ logs) (f ∷ founds) h = (so t x l f h.0, all_so P Q so (t + 1) tellers logs founds h.1)
+all_so P Q so t tellers logs founds h = absurd h
+
+module _ {L : Type 0} (state : L → LogState) (knows : L → Type 0) (loses : TranName → List Bool → L → L → Type 0) (reopens : L → L → Type 0) where
+  is_read_back : (t : ℕ) (teller : Teller L) (log : L) (found : Bool) → ReadsBack state knows loses reopens t teller log found
+      → IsReadBack state knows loses t teller log found
+  is_read_back t teller log found z = search (arith, nat_lt, z.finds)
+
+  -- so they were read back
+  pub are_read_back : (t : ℕ) (tellers : List (Teller L)) (logs : List L) (founds : List Bool)
+      → ForEach (ReadsBack state knows loses reopens) t tellers logs founds
+      → AreReadBack state knows loses t tellers logs founds
+  are_read_back = all_so (ReadsBack state knows loses reopens) (IsReadBack state knows loses) is_read_back
+
+-- ---- numbers
+
+-- a transaction is of one transfer of one thread
+pub named_once : (t u n k : ℕ) (gtrid : List ℕ) → t < 2 ^ 32 → u < 2 ^ 32 → IsNamed t n gtrid → IsNamed u k gtrid → (u ≡ t) × (k ≡ n)
+named_once t u n k gtrid low high one two = search (arith, one_transfer)
+
+-- it is of a transfer or not
+named_or_not : (t n : ℕ) (tran : TranName) → IsNamed t n tran.gtrid ⊎ (IsNamed t n tran.gtrid → ⊥)
+named_or_not t n tran = elim (cases_lt n (2 ^ 32)) [
+  | inr great ↦ inr (λ z. let small = z.small in omega (arith, small, great))
+  | inl small ↦ elim (cases_Bool (key_eq tran.gtrid (gtrid_of t n))) [
+    | inl same ↦ inl (record { small = small; gtrid_ = (Decides-key_eq tran.gtrid (gtrid_of t n)).0 same })
+    | inr other ↦ inr (λ z. let same : key_eq tran.gtrid (gtrid_of t n) ≡ true = (Decides-key_eq tran.gtrid (gtrid_of t n)).1 z.gtrid_ in cc)
+  ]
+]
+
+-- or of one of so many
+pub record IsNamedFrom (t n count : ℕ) (gtrid : List ℕ) : Type 0 where
+  pub number : ℕ
+  pub from : n ≤ number
+  pub below : number < n + count
+  pub named : IsNamed t number gtrid
+
+pub named_from : (t n count : ℕ) (tran : TranName)
+    → IsNamedFrom t n count tran.gtrid ⊎ ((k : ℕ) → n ≤ k → k < n + count → IsNamed t k tran.gtrid → ⊥)
+named_from t n zero tran = inr (λ k above below z. omega (arith, above, below))
+named_from t n (suc count) tran =
+    ⊎_elim
+    (λ (here : IsNamed t n tran.gtrid). inl (record { number = n; from = omega arith; below = omega arith; named = here }))
+    (λ (not_here : IsNamed t n tran.gtrid → ⊥).
+    ⊎_elim
+    (λ (z : IsNamedFrom t (n + 1) count tran.gtrid).
+    let above = z.from in
+    let low = z.below in
+    inl (record { number = z.number; from = omega (arith, above); below = omega (arith, low); named = z.named }))
+    (λ (none : (k : ℕ) → n + 1 ≤ k → k < n + 1 + count → IsNamed t k tran.gtrid → ⊥).
+    inr (λ k above below z.
+    ⊎_elim (λ (same : k < n + 1). not_here (subst (λ i. IsNamed t i tran.gtrid) (let e : k ≡ n = omega (arith, same, above) in e) z))
+    (λ (past : n + 1 ≤ k). none k past (omega (arith, below)) z)
+    (cases_lt k (n + 1))))
+    (named_from t (n + 1) count tran))
+    (named_or_not t n tran)
+
+-- ---- the log
+
+-- the log as it left it is as its habits leave it
+pub left_is : (habits : Habits) (o : WorkOutcome) → habits.forgets ≡ false → (tran : TranName) (left later : LogState)
+    → later ≡ (if habits.forgets then forgotten tran o left else left) → later ≡ left
+left_is habits o keeps tran left later kept = kept ∙ ap (λ b. if b then forgotten tran o left else left) keeps
+
+module _ (R : LogState → Type 0) (t n : ℕ) (tr : Transfer) (habits : Habits) (o : WorkOutcome) (keeps : habits.forgets ≡ false) where
+  -- the records of other transactions stay
+  pub makes_keeps : (old new : DeskView) (log later : LogState) → Makes t n tr habits o old new log later R → IfLost (λ votes. R later) o
+      → (tran : TranName) → (IsNamed t n tran.gtrid → ⊥) → record_of later tran ≡ record_of log tran
+  makes_keeps old new log later (with_legs one two left legs (commits worked begins known_ work comes) kept read) may tran other =
+      let of_one = (legs_are t n tr one two legs).first in
+      let same : later ≡ left = left_is habits o keeps (tran_of one.branch.xid) left later kept in
+      ap (λ (l : LogState). record_of l tran) same
+      ∙ (has_come one.branch two.branch (death_in habits n) (is_recorded left (tran_of one.branch.xid)) o worked new.ledgers log left comes
+      (if_both _ (λ votes. R later) (IsReadSo (branches_of one two) (tran_of one.branch.xid) log left (is_recorded left (tran_of one.branch.xid))) o
+      (λ votes either may_. record { either = λ u is. either u left is (subst R same may_); found_ = refl }) read may)).others tran
+      (λ is. other (record { small = of_one.small; gtrid_ = ap (λ (u : TranName). u.gtrid) is ∙ of_one.gtrid }))
+  makes_keeps old new log later (with_legs one two left legs (refused same why sent) kept read) may tran other =
+      ap (λ (l : LogState). record_of l tran) (left_is habits o keeps (tran_of one.branch.xid) left later kept ∙ same)
+  makes_keeps old new log later (without_legs is none same unlogged) may tran other = ap (λ (l : LogState). record_of l tran) unlogged
+
+-- of the last alone nobody may know whether its record was made
+abbrev pub AreKnown : List WorkOutcome → Type 0
+AreKnown [] = Unit {0}
+AreKnown (o ∷ []) = Unit {0}
+AreKnown (o ∷ p ∷ os) = (is_last o ≡ false) × AreKnown (p ∷ os)
+
+pub rest_known : (o : WorkOutcome) (os : List WorkOutcome) → AreKnown (o ∷ os) → AreKnown os
+rest_known o [] h = tt
+rest_known o (p ∷ os) h = h.1
+
+module _ (R : LogState → Type 0) (t : ℕ) (habits : Habits) (keeps : habits.forgets ≡ false) where
+  -- where nobody knows of a transfer whether its record was made, no other was made after it
+  pub lost_last : (P : List Code → Type 0) (n : ℕ) (trs : List Transfer) (o : WorkOutcome) (os : List WorkOutcome) (mid new : DeskView) (now later : LogState)
+      → MakesEach t habits n trs os mid new now later R → AreKnown (o ∷ os)
+      → (os ≡ [] → later ≡ now → is_undecided o ≡ true → (votes : List Code) → P votes) → IfLost P o
+  lost_last P n trs o [] mid new now later h known so = if_so P o (so refl (none_made R t habits n trs mid new now later h).1)
+  lost_last P n trs o (p ∷ os) mid new now later h known so = none_lost P o known.0
+
+  -- the records of other transactions than these transfers' stay
+  pub each_keeps : (n : ℕ) (trs : List Transfer) (os : List WorkOutcome) (old new : DeskView) (log later : LogState)
+      → MakesEach t habits n trs os old new log later R
+      → AreKnown os → R later → (tran : TranName) → ((k : ℕ) → n ≤ k → k < n + length os → IsNamed t k tran.gtrid → ⊥)
+      → record_of later tran ≡ record_of log tran
+  each_keeps n trs [] old new log later h known may tran others = search (arith, none_made)
+  each_keeps n (tr ∷ trs) (o ∷ os) old new log later (mid, now, makes, rest) known may tran others =
+      each_keeps (n + 1) trs os mid new now later rest (rest_known o os known) may tran (λ k from below. others k (omega (arith, from)) (omega (arith, below)))
+      ∙ makes_keeps R t n tr habits o keeps
+      makes.shut mid log now makes.makes (lost_last (λ votes. R now) (n + 1) trs o os mid new now later rest known (λ _ unlogged _ votes. subst R unlogged may)) tran (others n (omega arith) (omega arith))
+  each_keeps n [] (o ∷ os) old new log later h known may tran others = absurd h
+
+  -- no more were made than there are
+  pub made_most : (n : ℕ) (trs : List Transfer) (os : List WorkOutcome) (old new : DeskView) (log later : LogState)
+      → MakesEach t habits n trs os old new log later R
+      → length os ≤ length trs
+  made_most n trs [] old new log later h = omega arith
+  made_most n (tr ∷ trs) (o ∷ os) old new log later (mid, now, makes, rest) = let z = made_most (n + 1) trs os mid new now later rest in omega (arith, z)
+  made_most n [] (o ∷ os) old new log later h = absurd h
 
 -- ---- of the last alone nobody may know whether its record was made
 
@@ -27,9 +180,8 @@ undecided_last (Undecided votes) e = cc
 undecided_last o e = refl
 
 lives_known : (os : List WorkOutcome) → list_any is_last os ≡ false → AreKnown os
-lives_known [] e = tt
-lives_known (o ∷ []) e = tt
 lives_known (o ∷ p ∷ os) e = let parts = or_parts (is_last o) (list_any is_last (p ∷ os)) e in (parts.0, lives_known (p ∷ os) parts.1)
+lives_known os e = search arith
 
 ends_known : (before : List WorkOutcome) (o : WorkOutcome) → list_any is_last before ≡ false → AreKnown (before ++ o ∷ [])
 ends_known [] o e = tt
@@ -62,10 +214,6 @@ next_read : {R : LogState → Type 0} (t n : ℕ) (tr : Transfer) (habits : Habi
 next_read t n tr habits o old new log later read keeps un next =
     record { shut = next.shut; shuts = next.shuts; makes = makes_read t n tr habits o next.shut new log later read keeps un next.makes }
 
-one_alone : (b : Bool) → (b || false) ≡ true → b ≡ true
-one_alone true e = refl
-one_alone false e = cc
-
 the_others : (b c : Bool) → b ≡ false → (b || c) ≡ true → c ≡ true
 the_others true c e f = cc
 the_others false c e f = f
@@ -78,15 +226,14 @@ each_read R t habits keeps n (tr ∷ trs) (o ∷ []) old new log later read know
     let same = (none_made R t habits (n + 1) trs mid new now later rest).0 in (
       mid,
       read,
-      next_read t n tr habits o old mid log now read keeps (one_alone (is_undecided o) un) makes,
+      next_read t n tr habits o old mid log now read keeps (sym (or-false (is_undecided o)) ∙ un) makes,
       subst (λ (d : DeskView). MakesEach t habits (n + 1) trs [] mid d read read R) (sym same) (makes_none R t habits (n + 1) trs mid read),
     )
 each_read R t habits keeps n (tr ∷ trs) (o ∷ p ∷ os) old new log later read known un (mid, now, makes, rest) =
     search (arith, each_read R t habits keeps (n + 1) trs (p ∷ os) mid new now later read known.1, the_others, list_any, undecided_last)
 each_read R t habits keeps n [] (o ∷ os) old new log later read known un h = absurd h
 
--- ---- the thread
-
+-- the thread
 module _ {L : Type 0} (state : L → LogState) (knows : L → Type 0) (loses : TranName → List Bool → L → L → Type 0) (s : Settling) (n t : ℕ)
     (old new : Teller L) (log : L) (found : Bool) where
   abbrev pub ReadsAs : LogState → Type 0
@@ -131,34 +278,12 @@ module _ {L : Type 0} (state : L → LogState) (knows : L → Type 0) (loses : T
         transfers = w.worked.transfers;
       }
 
--- ---- a day and its night
-
--- a day of tellers, what their logs were found to have in the evening, and the night that resolved by them what was left
-pub record DayAndNight {L : Type 0} (state : L → LogState) (knows : L → Type 0) (loses : TranName → List Bool → L → L → Type 0) : Type 0 where
-  pub s : Settling
-  pub again : Again
-  pub q : ResolveCall
-  pub next : Settling
-  pub olds : List (Teller L)
-  pub news : List (Teller L)
-  pub logs : List L
-  pub founds : List Bool
-  pub stores : ℕ
-  pub n : ℕ
-  pub tables : ℕ → Tables
-  pub is_day : IsDayOf state knows loses s olds news
-  pub begins : BeginsWith s stores tables
-  pub told_all : AreToldAll n olds news
-  pub back : AreReadBack state knows loses 1 news logs founds
-  pub known : All knows logs
-  pub dawn : IsDawn state stores n tables (map (λ t. t.log) olds)
-  pub resolved : IsResolvedBy (records_of state logs) s again q next
-
+-- a day and its night
 module _ {L : Type 0} {state : L → LogState} {knows : L → Type 0} {loses : TranName → List Bool → L → L → Type 0} (d : DayAndNight state knows loses) where
   open d use {s, olds, news, logs, founds, n, is_day, told_all, back, known}
 
   pub as_many : (length news ≡ length olds) × (length logs ≡ length olds) × (length founds ≡ length news)
-  as_many = let z = as_many_back (IsReadBack state knows loses) 1 news logs founds back in (is_day.many, z.0 ∙ is_day.many, z.1)
+  as_many = let z = back_many (IsReadBack state knows loses) 1 news logs founds back in (is_day.many, z.0 ∙ is_day.many, z.1)
 
   -- what the teller at a place did, and its log that was read back
   pub record AtPlace (i : ℕ) (old : Teller L) : Type 0 where
@@ -176,32 +301,27 @@ module _ {L : Type 0} {state : L → LogState} {knows : L → Type 0} {loses : T
   at_place i old at =
       let many = as_many.0 in
       let new = got news i (let within = slice_get_within olds i old at in omega (arith, within, many)) in
-      let z = back_at (IsReadBack state knows loses) 1 i news logs founds back new.0 new.1 in
-      let told_so = told_all i old z.teller at z.teller_at in
+      let (log, found, log_at, found_at, read) = back_at (IsReadBack state knows loses) 1 i news logs founds back new.0 new.1 in
+      let number : 1 + i ≡ i + 1 = omega arith in
+      let told_so = told_all i old new.0 at new.1 in
       record {
-        new = z.teller;
-        log = z.log;
-        found = z.found;
+        new = new.0;
+        log = log;
+        found = found;
         old_at = at;
-        new_at = z.teller_at;
-        log_at = z.log_at;
-        found_at = z.found_at;
+        new_at = new.1;
+        log_at = log_at;
+        found_at = found_at;
         all = told_so;
         went =
-            went state knows loses s n (i + 1) old z.teller z.log z.found (is_day.each i old z.teller at z.teller_at) told_so
-            (subst (λ u. IsReadBack state knows loses u z.teller z.log z.found) (let e : 1 + i ≡ i + 1 = omega arith in e) z.back)
-            (all_at knows logs i z.log known z.log_at);
+            went state knows loses s n (i + 1) old new.0 log found (is_day.each i old new.0 at new.1) told_so
+            (subst (λ u. IsReadBack state knows loses u new.0 log found) number read) (all_at knows logs i log known log_at);
       }
 
   -- whose log this is
-  pub record Owner (i : ℕ) (log : L) : Type 0 where
-    pub old : Teller L
-    pub place : AtPlace i old
-    pub log_is : place.log ≡ log
-
-  pub owner : (i : ℕ) (log : L) → slice_get logs i ≡ Some log → Owner i log
+  pub owner : (i : ℕ) (log : L) → slice_get logs i ≡ Some log → (old : Teller L) × (place : AtPlace i old) × (place.log ≡ log)
   owner i log at =
       let many = as_many.1 in
       let old = got olds i (let within = slice_get_within logs i log at in omega (arith, within, many)) in
       let place = at_place i old.0 old.1 in
-      record { old = old.0; place = place; log_is = some_same place.log log (sym place.log_at ∙ at) }
+      (old.0, place, some_same place.log log (sym place.log_at ∙ at))

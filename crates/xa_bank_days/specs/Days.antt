@@ -149,6 +149,28 @@ pub record IsResolvedBy (records : Records) (s : Settling) (again : Again) (q : 
   pub only : (t : TranName) → OnlyResolves t (with_use next (resolves q))
   pub reached : All (λ r. r.code ≢ RmFail) q.outcomes
 
+-- A day of tellers, what their logs were found to have in the evening, and the night that resolved by them what was left.
+pub record DayAndNight {L : Type 0} (state : L → LogState) (knows : L → Type 0)
+    (loses : TranName → List Bool → L → L → Type 0) : Type 0 where
+  pub s : Settling
+  pub again : Again
+  pub q : ResolveCall
+  pub next : Settling
+  pub olds : List (Teller L)
+  pub news : List (Teller L)
+  pub logs : List L
+  pub founds : List Bool
+  pub stores : ℕ
+  pub n : ℕ
+  pub tables : ℕ → Tables
+  pub is_day : IsDayOf state knows loses s olds news
+  pub begins : BeginsWith s stores tables
+  pub told_all : AreToldAll n olds news
+  pub back : AreReadBack state knows loses 1 news logs founds
+  pub known : All knows logs
+  pub dawn : IsDawn state stores n tables (map (λ t. t.log) olds)
+  pub resolved : IsResolvedBy (records_of state logs) s again q next
+
 -- ---- the balances
 
 -- what these tables have, and what a settled opening has in the end

@@ -1,21 +1,17 @@
 //! A day of the bank and its night, and many of them, against the bank as an abstract machine: laws alone.
-ghost use Rattle.std.specs.Prelude.{◌≡◌, ℕ, ◌+◌, ◌^◌, ◌<◌, ◌≤◌, Bool, true, List, length, map};
+ghost use Rattle.std.specs.Prelude.{◌≡◌, ℕ, ◌+◌, ◌^◌, ◌<◌, ◌≤◌, Bool, true, List, length};
 ghost use Rattle.std.specs.List.{All};
 ghost use Rattle.xa_base.specs.Lists.{IsUpTo};
-ghost use Rattle.xa_tables.specs.ManagerTables.{Tables, is_declared};
+ghost use Rattle.xa_tables.specs.ManagerTables.{is_declared};
 ghost use Rattle.xa_tables.specs.Histories.{is_done};
-ghost use Rattle.xa_switch.specs.declared.plan.Again.{Again};
 ghost use Rattle.xa_switch.specs.declared.plan.Plan.{Plan};
 ghost use Rattle.xa_switch.specs.Reopening.{reopened_at};
 ghost use Rattle.xa_switch.specs.Plans.{IsSound};
-ghost use Rattle.xa_switch.specs.Settled.{Settling};
 ghost use Rattle.xa_switch.specs.Worth.{plan_worth, settled_worth};
-ghost use Rattle.xa_atomicity.specs.Resolution.{ResolveCall};
 ghost use Rattle.xa_bank.specs.declared.teller.Teller.{Teller};
 ghost use Rattle.xa_bank.specs.declared.teller.Transfer.{Transfer};
 ghost use Rattle.xa_bank_days.specs.declared.bank.Bank.{Bank};
-ghost use Rattle.xa_bank_days.specs.Days.{AreReadBack, AreToldAll, BeginsWith, IsDawn, IsDayOf, IsResolvedBy, all_told};
-ghost use Rattle.xa_bank_days.specs.Days.{balances_at, balances_of, records_of};
+ghost use Rattle.xa_bank_days.specs.Days.{DayAndNight, IsDawn, all_told, balances_at, balances_of};
 ghost use Rattle.xa_bank_days.specs.Banks.{HaveNoRecord, IsMovedBy, IsOpenedBank, IsReady, IsWithin};
 ghost use Rattle.xa_bank_days.specs.Ledger.{all_applied};
 
@@ -30,21 +26,12 @@ use xa_log::laws::several_logs_are_read_as_one;
 /// record. In the night one resolve, by the logs of all tellers, ends what they left. Where it told XA_OK of each
 /// branch the next day may begin, with any numbers that are past those of the day.
 pub fn a_day_applies_its_transfers<L: DecisionLog>()
-    ensures applied { (s : Settling) (again : Again) (q : ResolveCall) (next : Settling) (olds news : List (Teller L))
-        (logs : List L) (founds : List Bool) (stores n : ℕ) (first : ℕ → Tables) (m : ℕ) (account : List ℕ)
-        → IsDayOf L.state L.knows L.loses s olds news → BeginsWith s stores first → length olds < 2 ^ 32
-        → AreToldAll n olds news → AreReadBack L.state L.knows L.loses 1 news logs founds → All L.knows logs
-        → IsDawn L.state stores n first (map (λ t. t.log) olds) → IsResolvedBy (records_of L.state logs) s again q next
-        → IsUpTo stores m → is_declared (first m) account ≡ true
-        → balances_at next m account ≡ all_applied (all_told founds news) (balances_of first) m account }
-    ensures dawn { (s : Settling) (again : Again) (q : ResolveCall) (next : Settling) (olds news : List (Teller L))
-        (logs : List L) (founds : List Bool) (stores n later : ℕ) (first : ℕ → Tables)
-        → IsDayOf L.state L.knows L.loses s olds news → BeginsWith s stores first → AreToldAll n olds news
-        → AreReadBack L.state L.knows L.loses 1 news logs founds → All L.knows logs
-        → IsDawn L.state stores n first (map (λ t. t.log) olds) → IsResolvedBy (records_of L.state logs) s again q next
-        → All (λ r. is_done r.code ≡ true) q.outcomes → n ≤ later
-        → All (λ t. t.habits.first + length t.transfers.items ≤ later) olds
-        → IsDawn L.state stores later (reopened_at next.managers) logs }
+    ensures applied { (d : DayAndNight L.state L.knows L.loses) (m : ℕ) (account : List ℕ) → length d.olds < 2 ^ 32
+        → IsUpTo d.stores m → is_declared (d.tables m) account ≡ true
+        → balances_at d.next m account ≡ all_applied (all_told d.founds d.news) (balances_of d.tables) m account }
+    ensures dawn { (d : DayAndNight L.state L.knows L.loses) (later : ℕ) → All (λ r. is_done r.code ≡ true) d.q.outcomes
+        → d.n ≤ later → All (λ t. t.habits.first + length t.transfers.items ≤ later) d.olds
+        → IsDawn L.state d.stores later (reopened_at d.next.managers) d.logs }
 {
     branches_come_out_by_the_log();
     several_logs_are_read_as_one();

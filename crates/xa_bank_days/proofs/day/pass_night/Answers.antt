@@ -1,18 +1,14 @@
+use Rattle.std.proofs.lemmas.Result.{IfOk-weaker}
 use Rattle.xa_base.proofs.{arith, Err, Ok, Result, ◌≡◌, Bool, true, false, if◌then◌else◌, sym, ap, ◌∙◌, subst, All}
 use Rattle.std.specs.Prelude.{IfErr}
 use Rattle.xa_switch.specs.{Again, MayReopen}
 use Rattle.xa_driver.specs.{Resolved}
 use Rattle.xa_bank_days.specs.{Unresolved, BadNumbers, TellerWantsMemory, next_numbers, Excuses, HasRoomToResolve, IsNight, IsUntouched}
-use Rattle.xa_bank_days.proofs.DayWorked.{same_stores}
-use Rattle.xa_bank_days.proofs.ManyDays.{if_ok}
+use Rattle.xa_bank_days.proofs.Moved.{same_stores}
 use Rattle.xa_bank_days.proofs.day.pass_night.Goals as goal
 
 pub returns-then-wanting : goal.returns-then-wanting
 returns-then-wanting g c = search (arith, c.args.day.now)
-
--- a night doesn't follow where memory was wanted
-not_wanting : {A : Type 0} {b : Bool} → b ≡ true → b ≡ false → A
-not_wanting wants doesnt = let z : true ≡ false = sym wants ∙ doesnt in cc
 
 -- why a night resolved nothing is why nothing was resolved of its day
 day_excuse : {Good : Type 0} (Wants Known Room : Type 0) → Good → (why : Unresolved) → Excuses ⊥ Known Room Good why → Excuses Wants Known Room (Unit {0}) why
@@ -36,9 +32,9 @@ returns-clause-passed g c =
     record {
       tellers_ = c.in_ok-night.ensures.tellers;
       numbers = numbers ∙ sym (ap (λ (b : Bool). if b then c.args.day.now else night) c.if-wanting.false);
-      stays = λ wants. not_wanting wants c.if-wanting.false;
+      stays = λ wants. absurd (let z : true ≡ false = sym wants ∙ c.if-wanting.false in cc);
       closed =
-          if_ok n.resolved
+          IfOk-weaker n.resolved _ _
           (λ z is_night. (
             c.if-wanting.false,
             numbers,

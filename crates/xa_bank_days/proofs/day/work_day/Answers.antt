@@ -1,6 +1,6 @@
 use Rattle.xa_base.proofs.{map, sym, ap, ◌∙◌, subst, arith, list_any}
 use Rattle.xa_bank_days.specs.{HasRoom}
-use Rattle.xa_bank_days.proofs.DayWorked.{any_mapped, begins_with, is_day, many_attended, mapped_twice, night_opens, same_stores}
+use Rattle.xa_bank_days.proofs.Moved.{any_mapped, begins_with, is_day, many_attended, mapped_twice, night_opens, same_stores}
 use Rattle.xa_bank_days.proofs.day.work_day.Goals as goal
 
 pub returns-clause-worked : goal.returns-clause-worked

@@ -1,4 +1,4 @@
-use Rattle.xa_bank_days.proofs.Opened.{opened_ready}
+use Rattle.xa_bank_days.proofs.DayLaw.{opened_ready}
 use Rattle.xa_bank_days.proofs.law.opened_banks_are_ready.Goals as goal
 
 pub returns : goal.returns

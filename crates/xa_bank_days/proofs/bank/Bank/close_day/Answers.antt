@@ -1,8 +1,8 @@
+use Rattle.std.proofs.lemmas.Result.{IfOk-weaker, IfErr-weaker}
 use Rattle.xa_base.proofs.{◌≡◌, ℕ, ap, refl, sym, subst, arith, List, length, ◌∙◌}
 use Rattle.xa_switch.specs.{Again}
 use Rattle.xa_bank_days.specs.{Bank, Closed, Errands, next_numbers, HasPassed, IsNight, IsUnsettledNight}
-use Rattle.xa_bank_days.proofs.DayWorked.{is_day_of, same_length, worked_day}
-use Rattle.xa_bank_days.proofs.ManyDays.{if_err, if_ok}
+use Rattle.xa_bank_days.proofs.Moved.{is_day_of, same_length, worked_day}
 use Rattle.xa_bank_days.proofs.bank.Bank.close_day.Goals as goal
 
 pub work_day-requires-clause-tellers : goal.work_day-requires-clause-tellers
@@ -30,13 +30,13 @@ returns-in-Ok-pass_night g c =
     c.turn_all-tellers.ensures c.in-Some.ensures.few c.in-Ok-work_day.ensures.worked refl refl after at.stays at.numbers at.tellers_ c.in-Some.ensures.later c.in-Some.ensures.next in
     record {
       worked = worked;
-      closed = if_ok n.resolved (λ z (wants, numbers_, is_night, stores). record {
+      closed = IfOk-weaker n.resolved _ _ (λ z (wants, numbers_, is_night, stores). record {
         is_worked = worked;
         wants = wants;
         night = subst (λ (q : Again). IsNight g.L.DecisionLog.state g.L.DecisionRecords.knows day.evening.tellers.items day.settled q z.outcomes.items n.settled) (sym numbers_) is_night;
         stores = stores;
       }) at.closed;
-      unresolved = if_err n.resolved (λ why (excuse, untouched). record {
+      unresolved = IfErr-weaker n.resolved _ _ (λ why (excuse, untouched). record {
         is_worked = worked;
         excuse = search (arith, g.L.DecisionRecords.knows, day.settled, c.args.self);
         untouched = untouched;

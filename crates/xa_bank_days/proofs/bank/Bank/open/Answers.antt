@@ -1,5 +1,5 @@
 use Rattle.xa_base.proofs.{refl}
-use Rattle.xa_bank_days.proofs.FirstOpening.{all_stores, tables}
+use Rattle.xa_bank_days.proofs.Nightly.{all_stores, tables}
 use Rattle.xa_bank_days.proofs.bank.Bank.open.Goals as goal
 
 pub returns-in-Ok-run_clients_in_turns-clause-opened : goal.returns-in-Ok-run_clients_in_turns-clause-opened

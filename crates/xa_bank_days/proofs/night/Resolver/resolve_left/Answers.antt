@@ -2,7 +2,7 @@ use Rattle.xa_base.proofs.{◌≡◌, true, List, ap, ◌∙◌, map, subst, All
 use Rattle.xa_driver.specs.{IsTraceOfResolve}
 use Rattle.xa_log.specs.{Records, all_records}
 use Rattle.xa_bank.specs.{Teller}
-use Rattle.xa_bank_days.proofs.DayWorked.{mapped_twice}
+use Rattle.xa_bank_days.proofs.Moved.{mapped_twice}
 use Rattle.xa_bank_days.proofs.night.Resolver.resolve_left.Goals as goal
 
 pub returns-in-Ok-clause-came : goal.returns-in-Ok-clause-came
