@@ -1,14 +1,19 @@
 -- How a branch ends that voted to commit, over openings one after another, by what it stands at as the first of them ends,
 -- and what its additions count for.
-use Rattle.xa_atomicity.proofs.Words.{arith, ◌≡◌, ℕ, Bool, true, false, if◌then◌else◌, List, [], ◌∷◌, ◌++◌, sym, refl, ap, ◌∙◌, subst, Option, Some, All}
-use Rattle.xa_atomicity.proofs.Words.{All-head, All-tail, all_left, MOST_MANAGERS, IsUpTo, XidName, Request, HeuristicDecision, State, is_left_in, Fate}
-use Rattle.xa_atomicity.proofs.Words.{accepted, coded, commits_later, decided_fate, ending_by, fate, first_shut, is_in_doubt as is_unknown, is_live, last_or}
-use Rattle.xa_atomicity.proofs.Words.{late, or_later, parted, tables_after, commits_over, reopened, reopened_fate, Tables, History, IsOpenedWith, first_of}
-use Rattle.xa_atomicity.proofs.Words.{history as history_of, settled_fate, IsSettled, Settling, Ending, Opening, ended_as, fate_through, histories, Tabled, ℤ}
-use Rattle.xa_atomicity.proofs.Words.{pos, ◌⊎◌, ◌≢◌, inl, inr, ⊎_elim, Contains, some_same, tran_of, RmFail, Prepare, state_of, is_prepared, IsFateOf, share}
-use Rattle.xa_atomicity.proofs.Words.{AreLeft, told_by, left_at, Branch, Outcome, is_decided, IsAddition, prepare_of, WasAtFirst, is_heuristic, told_fate}
-use Rattle.xa_atomicity.proofs.Words.{AreInARow, EndsAs, IsKept, IsListed, OnlyResolves, ResolveCall, became, last_of, resolves, tables_left, uses_of}
-use Rattle.xa_atomicity.proofs.Words.{IsUnlisted, SharesOver, commits_after, at_false, at_true, both_ways}
+use Rattle.xa_base.proofs.{arith, ◌≡◌, ℕ, Bool, true, false, if◌then◌else◌, List, [], ◌∷◌, ◌++◌, sym, refl, ap, ◌∙◌, subst, Option, Some, All, All-head}
+use Rattle.xa_base.proofs.{All-tail, all_left, ℤ, pos, ◌⊎◌, ◌≢◌, inl, inr, ⊎_elim, Contains, some_same, at_false, at_true}
+use Rattle.xa_base.specs.{MOST_MANAGERS, IsUpTo}
+use Rattle.xa_words.specs.{XidName, Request, tran_of, RmFail, Prepare}
+use Rattle.xa_tables.specs.{HeuristicDecision, State, is_left_in, Fate, accepted, coded, commits_later, decided_fate, ending_by, fate, first_shut}
+use Rattle.xa_tables.specs.{is_in_doubt as is_unknown, is_live, last_or, late, or_later, parted, tables_after, commits_over, reopened, reopened_fate, Tables}
+use Rattle.xa_tables.specs.{History, state_of, is_prepared, IsFateOf, share, AreLeft, told_by}
+use Rattle.xa_switch.specs.{IsOpenedWith, first_of, history as history_of, settled_fate, IsSettled, Settling}
+use Rattle.xa_driver.specs.{Ending, Branch, Outcome, is_decided}
+use Rattle.xa_atomicity.specs.{Opening, ended_as, fate_through, histories, Tabled, IsAddition, prepare_of, WasAtFirst, is_heuristic, told_fate, AreInARow}
+use Rattle.xa_atomicity.specs.{EndsAs, IsKept, IsListed, OnlyResolves, ResolveCall, became, last_of, resolves, tables_left, uses_of, IsUnlisted, SharesOver}
+use Rattle.xa_atomicity.specs.{commits_after}
+use Rattle.xa_scan.specs.{left_at}
+use Rattle.std.proofs.lemmas.Bool.{both_ways}
 use Rattle.xa_atomicity.specs.Worth.{is_committed}
 use Rattle.xa_tables.specs.Histories as history
 use Rattle.xa_atomicity.proofs.Later.{last_ended, Walk, stands_first, ends_with, walk, walk_after, walk_ends, walk_tells}

@@ -1,17 +1,21 @@
 -- Transfers conserve what all accounts are worth together, but for what branches in doubt hold.
-use Rattle.xa_atomicity.proofs.Words.{is_commit, Branch, Ending, Committed, ReadOnly, RolledBack, InDoubt, Heuristic, Left, is_no, IsCommit}
-use Rattle.xa_atomicity.proofs.Words.{AreBranchesRising, has_branch_at, HasSentNoCommit, NoCommitWasSent, slice_get_past, ne_eqb, or_from, cases_lt, eqb-true}
-use Rattle.xa_atomicity.proofs.Words.{le-leb, or_parts, ℤ, pos, ◌+ℤ◌, All, nat_le, ◌&&◌, ◌≡◌, ℕ, zero, suc, ◌+◌, ◌-◌, ◌<◌, ◌≤◌, ◌==◌, Bool, true, false}
-use Rattle.xa_atomicity.proofs.Words.{if◌then◌else◌, List, [], ◌∷◌, length, length-append, get_or, sym, refl, ap, ◌∙◌, subst, arith, list_any, range_with_len}
-use Rattle.xa_atomicity.proofs.Words.{ints, +ℤ_idl as none_plus, +ℤ_idr as plus_none, contains_at, range_all, total_alike, total_both, total_nothing}
-use Rattle.xa_atomicity.proofs.Words.{All-contains, total, XidName, Request, Code, Tables, are_accounts, opening, tables_after, moved, held_by, is_of}
-use Rattle.xa_atomicity.proofs.Words.{HoldsItsAdditions, History, LedgerView, DeskView, ledger, HaveGrown, growing_on, same_lists, Plan, IsSoundManager}
-use Rattle.xa_atomicity.proofs.Words.{IsSettled, sent, IsOpenedWith, ledgers_of, history, threads_of, managers_of, accounts_in, accounts_of, plan_worth}
-use Rattle.xa_atomicity.proofs.Words.{settled_worth, WorthIsOfThreads, Settling, LogState, EachOutcome, AreLeftAlone, has_committed, is_rolled_back}
-use Rattle.xa_atomicity.proofs.Words.{is_heuristic, is_left, is_read_only, sent_so_far, taken_before, added_before, added_by_all, total_in_doubt}
-use Rattle.xa_atomicity.proofs.Words.{held_in_doubt, OnlyTransfers, opened, worked, committed, Tabled, is_committed, inl, inr, moved_by, cases_eq}
-use Rattle.xa_driver.specs.{Done}
-use Rattle.xa_atomicity.specs.{is_in_doubt}
+use Rattle.xa_driver.specs.{Done, is_commit, Branch, Ending, is_no, IsCommit, AreBranchesRising, has_branch_at, HasSentNoCommit, NoCommitWasSent}
+use Rattle.std.proofs.lemmas.Option.{slice_get_past}
+use Rattle.xa_base.proofs.{ne_eqb, or_from, cases_lt, eqb-true, le-leb, or_parts, ℤ, pos, ◌+ℤ◌, All, nat_le, ◌&&◌, ◌≡◌, ℕ, zero, suc, ◌+◌, ◌-◌, ◌<◌, ◌≤◌, ◌==◌}
+use Rattle.xa_base.proofs.{Bool, true, false, if◌then◌else◌, List, [], ◌∷◌, length, length-append, get_or, sym, refl, ap, ◌∙◌, subst, arith, list_any}
+use Rattle.xa_base.proofs.{range_with_len, ints, +ℤ_idl as none_plus, +ℤ_idr as plus_none, contains_at, range_all, total_alike, total_both, total_nothing}
+use Rattle.xa_base.proofs.{All-contains, inl, inr, cases_eq}
+use Rattle.xa_base.specs.{total}
+use Rattle.xa_words.specs.{XidName, Request, Code}
+use Rattle.xa_tables.specs.{Tables, are_accounts, opening, tables_after, moved, held_by, is_of, HoldsItsAdditions, History}
+use Rattle.xa_desk.specs.{LedgerView, DeskView, ledger, HaveGrown}
+use Rattle.xa_desk.proofs.Growth.{growing_on, same_lists}
+use Rattle.xa_switch.specs.{Plan, IsSoundManager, IsSettled, sent, IsOpenedWith, ledgers_of, history, threads_of, managers_of, accounts_in, accounts_of}
+use Rattle.xa_switch.specs.{plan_worth, settled_worth, WorthIsOfThreads, Settling, moved_by}
+use Rattle.xa_log.specs.{LogState}
+use Rattle.xa_atomicity.specs.{is_in_doubt, EachOutcome, AreLeftAlone, has_committed, is_rolled_back, is_heuristic, is_left, is_read_only, sent_so_far}
+use Rattle.xa_atomicity.specs.{taken_before, added_before, added_by_all, total_in_doubt, held_in_doubt, OnlyTransfers, opened, worked, committed, Tabled}
+use Rattle.xa_atomicity.specs.Outcomes.{is_committed}
 use Rattle.xa_atomicity.proofs.Values.{within_parts, is_within, moved_parted, moved_without, moved_alike, moved_nothing}
 use Rattle.xa_atomicity.proofs.Sites.{none_all, all_earlier}
 use Rattle.xa_atomicity.proofs.Settled.{sent_between, Both, all_outcomes, growth_law, by_ledger, outcome_all}

@@ -1,10 +1,11 @@
 -- The courses that a branch of a commit may take, by the places of its requests in its manager's settled history.
-use Rattle.xa_atomicity.proofs.Words.{cases_lt, cases_Bool, ◌≤◌, ⊎_elim, get_or, ◌≡◌, ℕ, ◌∷◌, ◌++◌, suc, ◌+◌, ◌<◌, Bool, true, false, ◌||◌, if◌then◌else◌}
-use Rattle.xa_atomicity.proofs.Words.{sym, refl, ap, ◌∙◌, subst, arith, Option, Some, None, inl, inr, ◌⊎◌, All, or-true, all_after, by_if, at_false, at_true}
-use Rattle.xa_atomicity.proofs.Words.{VotesAndObeys, outcome_op, Branch, Ending, ReadOnly, RolledBack, Left, AsksFor, AtBranch, is_yes, is_read, second_op}
-use Rattle.xa_atomicity.proofs.Words.{third_op, ending_of, yes_ending, no_ending, is_out_of_reach, is_decided, XidName, Done, RdOnly, RmFail, Op, Prepare}
-use Rattle.xa_atomicity.proofs.Words.{Commit, Rollback, Forget, Request, Code, Tables, History, is_forget, is_heur, is_rm_fail, ◌≢◌}
-use Rattle.xa_tables.specs.{is_rolled_back}
+use Rattle.xa_base.proofs.{cases_lt, cases_Bool, ◌≤◌, ⊎_elim, get_or, ◌≡◌, ℕ, ◌∷◌, ◌++◌, suc, ◌+◌, ◌<◌, Bool, true, false, ◌||◌, if◌then◌else◌, sym, refl, ap}
+use Rattle.xa_base.proofs.{◌∙◌, subst, arith, Option, Some, None, inl, inr, ◌⊎◌, All, or-true, all_after, by_if, at_false, at_true, ◌≢◌}
+use Rattle.xa_driver.specs.{VotesAndObeys, outcome_op, Branch, Ending, ReadOnly, RolledBack, Left, AsksFor, AtBranch, is_yes, is_read, second_op, third_op}
+use Rattle.xa_driver.specs.{ending_of, yes_ending, no_ending, is_out_of_reach, is_decided}
+use Rattle.xa_words.specs.{XidName, Done, RdOnly, RmFail, Op, Prepare, Commit, Rollback, Forget, Request, Code}
+use Rattle.xa_tables.specs.{is_rolled_back, Tables, History, is_forget, is_heur}
+use Rattle.xa_desk.specs.{is_rm_fail}
 use Rattle.xa_atomicity.proofs.Sites.{asks, withholds, Site, StandsIn, Sent, AsksIn, only_op, Second, request_of}
 
 pub yes_is : (c : Code) → is_yes c ≡ true → c ≡ Done

@@ -1,12 +1,18 @@
 -- What a branch stands at as the opening ends in which its commit was cut short.
-use Rattle.xa_atomicity.proofs.Words.{rules, false_from_ne_true, ◌≡◌, ℕ, suc, ◌+◌, inl, inr, Bool, true, false, if◌then◌else◌, List, [], ◌∷◌, ◌++◌, length}
-use Rattle.xa_atomicity.proofs.Words.{length-append, append_assoc, slice_get, get_or, sym, refl, ap, ◌∙◌, subst, arith, Option, Some, None, All, Contains}
-use Rattle.xa_atomicity.proofs.Words.{All-contains, All-head, some_same, all_after, at_true, both_ways, Begins, XidName, Done, RmFail, Op, Prepare, Request}
-use Rattle.xa_atomicity.proofs.Words.{Code, xid_self, HeuristicDecision, State, is_left_in, decision_code, next, Fate, decided_fate, fate, last_or}
-use Rattle.xa_atomicity.proofs.Words.{tables_after, names, Tables, History, LedgerView, learnt_shut, with_sent, with_collected, numbered, Branch, Ending}
-use Rattle.xa_atomicity.proofs.Words.{IsAnswered, IsBegun, asked, collected, in_flight, unasked, is_decided, second_op, third_op, yes_ending, outcome_op}
-use Rattle.xa_atomicity.proofs.Words.{IsAsked, IsEnded, IsTold, IsBetween, OnlyTheseOrDecisionsName, told_fate, IsAskedFor, all_left, any_asked}
-use Rattle.xa_atomicity.proofs.Words.{tables_after-append, ◌<◌, Any, Contains-push, slice_get_within}
+use Rattle.xa_base.proofs.{rules, false_from_ne_true, ◌≡◌, ℕ, suc, ◌+◌, inl, inr, Bool, true, false, if◌then◌else◌, List, [], ◌∷◌, ◌++◌, length, length-append}
+use Rattle.xa_base.proofs.{append_assoc, slice_get, get_or, sym, refl, ap, ◌∙◌, subst, arith, Option, Some, None, All, Contains, All-contains, All-head}
+use Rattle.xa_base.proofs.{some_same, all_after, at_true, all_left, ◌<◌, slice_get_within}
+use Rattle.std.proofs.lemmas.Bool.{both_ways}
+use Rattle.xa_base.specs.{Begins}
+use Rattle.xa_words.specs.{XidName, Done, RmFail, Op, Prepare, Request, Code}
+use Rattle.xa_words.proofs.Xids.{xid_self}
+use Rattle.xa_tables.specs.{HeuristicDecision, State, is_left_in, decision_code, next, Fate, decided_fate, fate, last_or, tables_after, names, Tables, History}
+use Rattle.xa_desk.specs.{LedgerView, learnt_shut, with_sent, with_collected, numbered}
+use Rattle.xa_driver.specs.{Branch, Ending, IsAnswered, IsBegun, asked, collected, in_flight, unasked, is_decided, second_op, third_op, yes_ending, outcome_op}
+use Rattle.xa_atomicity.specs.{IsAsked, IsEnded, IsTold, IsBetween, OnlyTheseOrDecisionsName, told_fate}
+use Rattle.xa_driver.proofs.Mapped.{IsAskedFor, any_asked, Any}
+use Rattle.xa_tables.proofs.Unnamed.{tables_after-append}
+use Rattle.std.proofs.lemmas.List.Elements.{Contains-push}
 use Rattle.xa_tables.specs.Histories as history
 use Rattle.xa_atomicity.proofs.CutVotes.{vote_there, HasVoted, ended_voted, first_is, forget_sends, other_sends, prepare_sent, told_voted}
 use Rattle.xa_atomicity.proofs.Guided.{ends, leaves, tells, AtEnd, Comes, once, told_decided, decision_so, IsGuided, at_last, fate_any, fates_from}

@@ -1,16 +1,24 @@
 -- What a commit sent that was cut short: by the record no Commit, or no Rollback. And what leaves the branches of a commit:
 -- nothing, and requests of which none names them.
-use Rattle.xa_atomicity.proofs.Words.{arith, All-contains, ◌&&◌, is_some, ◌⊎◌, ◌≡◌, ℕ, ◌≤◌, Bool, true, false, ◌==◌, List, map, get_or, inl, inr, sym, refl}
-use Rattle.xa_atomicity.proofs.Words.{ap, ◌∙◌, subst, Some, None, All, eqb-true, list_any_none, all_unmapped, by_if, by_bool, AreBranchesRising, IsTranOf}
-use Rattle.xa_atomicity.proofs.Words.{Logs, decision_of, Branch, Ending, Round, Decided, Ask, HaveComeSoFar, IsBegun, SameAsks, among_asks, is_commit, is_yes}
-use Rattle.xa_atomicity.proofs.Words.{yes_of, second_op, code_of, second_ask, yes_asked, HasDecided, HasPrepared, and_left, and_right, true_from_ne_false}
-use Rattle.xa_atomicity.proofs.Words.{both_ways, XidName, TranName, Op, Prepare, Commit, Rollback, Forget, Code, names, LedgerView, DeskView, ledger}
-use Rattle.xa_atomicity.proofs.Words.{CameSoFar, GoesByTheRecord, HasSentNone, IsCut, NoneWasToldToCommit, NoneWasToldToRollBack, is_recorded, is_rollback}
-use Rattle.xa_atomicity.proofs.Words.{LogState, record_of, carried, IsAskedFor, one_tran, ◌≢◌, ◌<◌, ◌++◌, length, ⊎_elim, Option, Contains, cases_lt}
-use Rattle.xa_atomicity.proofs.Words.{false_from_ne_true, Contains-get_or, MOST_MANAGERS, xid_eq, Decides-xid_eq, HaveGrown, Outcome, Told, third_op}
-use Rattle.xa_atomicity.proofs.Words.{outcome_op, AsksLedger, first_ask, third_ask, HasTold, AtBranch, IsCommit, AreOthers, DidOther, LeavesBranches, IsDone}
-use Rattle.xa_atomicity.proofs.Words.{IsOutcomeOf, ResolveCall, resolves, branch_by, Any-from_list_any}
-use Rattle.xa_driver.specs.{Prepared, Done}
+use Rattle.xa_base.proofs.{arith, All-contains, ◌&&◌, is_some, ◌⊎◌, ◌≡◌, ℕ, ◌≤◌, Bool, true, false, ◌==◌, List, map, get_or, inl, inr, sym, refl, ap, ◌∙◌}
+use Rattle.xa_base.proofs.{subst, Some, None, All, eqb-true, list_any_none, all_unmapped, by_if, by_bool, ◌≢◌, ◌<◌, ◌++◌, length, ⊎_elim, Option, Contains}
+use Rattle.xa_base.proofs.{cases_lt, false_from_ne_true}
+use Rattle.xa_driver.specs.{Prepared, Done, AreBranchesRising, IsTranOf, Logs, decision_of, Branch, Ending, Round, Decided, Ask, HaveComeSoFar, IsBegun}
+use Rattle.xa_driver.specs.{SameAsks, among_asks, is_commit, is_yes, yes_of, second_op, code_of, second_ask, yes_asked, HasDecided, HasPrepared, Outcome, Told}
+use Rattle.xa_driver.specs.{third_op, outcome_op, AsksLedger, first_ask, third_ask, HasTold, AtBranch, IsCommit}
+use Rattle.std.proofs.lemmas.Bool.{and_left, and_right, true_from_ne_false, both_ways}
+use Rattle.xa_words.specs.{XidName, TranName, Op, Prepare, Commit, Rollback, Forget, Code, xid_eq, Decides-xid_eq}
+use Rattle.xa_tables.specs.{names}
+use Rattle.xa_desk.specs.{LedgerView, DeskView, ledger, HaveGrown}
+use Rattle.xa_atomicity.specs.{CameSoFar, GoesByTheRecord, HasSentNone, IsCut, NoneWasToldToCommit, NoneWasToldToRollBack, is_recorded, is_rollback, AreOthers}
+use Rattle.xa_atomicity.specs.{DidOther, LeavesBranches, IsDone, IsOutcomeOf, ResolveCall, resolves}
+use Rattle.xa_log.specs.{LogState, record_of}
+use Rattle.xa_driver.proofs.Gathering.{carried}
+use Rattle.xa_driver.proofs.Mapped.{IsAskedFor, branch_by}
+use Rattle.xa_driver.proofs.Calls.{one_tran}
+use Rattle.std.proofs.lemmas.List.Elements.{Contains-get_or}
+use Rattle.xa_base.specs.{MOST_MANAGERS}
+use Rattle.std.proofs.lemmas.List.Folds.{Any-from_list_any}
 use Rattle.xa_atomicity.proofs.CutVotes.{CameAt, IsVoteOf, each_came, at_asking, at_forgetting, at_telling, begun_sends, ended_voted, other_sends, told_voted}
 use Rattle.xa_atomicity.proofs.CutVotes.{did_nothing, all_sent}
 use Rattle.xa_atomicity.proofs.Sites.{none_all}

@@ -1,17 +1,23 @@
 -- What names a transaction in an opening where only resolves do; and the votes that a commit got which was cut short, and
 -- what it leaves in the log.
-use Rattle.xa_atomicity.proofs.Words.{arith, ◌≡◌, ◌≢◌, ℕ, suc, ◌+◌, ◌≤◌, Bool, true, false, List, ◌∷◌, ◌++◌, length, append_assoc, refl, ap, ◌∙◌, Option, All}
-use Rattle.xa_atomicity.proofs.Words.{Contains, All-contains, MOST_MANAGERS, IsUpTo, XidName, Decides-xid_eq, TranName, tran_of, Op, OpenRm, Prepare}
-use Rattle.xa_atomicity.proofs.Words.{Code, History, of_thread, names, LedgerView, ledger, HasGrown, numbered, Settling, IsSettled, sent, ledgers_of}
-use Rattle.xa_atomicity.proofs.Words.{history as history_of, Branch, Ending, Outcome, AsksLedger, outcome_op, AtBranch, Records, ResolveCall, Use, commits}
-use Rattle.xa_atomicity.proofs.Words.{cuts, resolves, IsUseIn, NamesTran, HasSent, Asks, IsAsked, CameSoFar, known_at, DidOther, EachVote, IsCut, IsEnded}
-use Rattle.xa_atomicity.proofs.Words.{IsTold, asking, forgetting, telling, IsKept, OnlyResolves, Opening, ◌==◌, ◌||◌, zero, slice_get, ◌<◌, ◌&&◌, []}
-use Rattle.xa_atomicity.proofs.Words.{append-nil, get_or, sym, subst, Some, unwrap_or, or-true, eq-eqb, ne_eqb, false_from_ne_true, or_from, eqb-true}
-use Rattle.xa_atomicity.proofs.Words.{begins_on, all_mid, same_begins, Contains-append_right, All-nil, All-cons, at_false, has_yes, voted_yes, yes_of, is_yes}
-use Rattle.xa_atomicity.proofs.Words.{AreBranchesRising, Logs, decision_of, EachBranch, IsCommit, IsTranOf, voted, IsAnswered, IsBegun, asked, collected}
-use Rattle.xa_atomicity.proofs.Words.{in_flight, unasked, second_op, third_op, ending_of, both_ways, Begins, RmFail, Request, learnt_shut, with_sent}
-use Rattle.xa_atomicity.proofs.Words.{with_collected, HaveGrown, DeskView, LogState, Any, IsAskedFor, any_asked, trace_of, Contains-push}
-use Rattle.xa_driver.specs.{Done}
+use Rattle.xa_base.proofs.{arith, ◌≡◌, ◌≢◌, ℕ, suc, ◌+◌, ◌≤◌, Bool, true, false, List, ◌∷◌, ◌++◌, length, append_assoc, refl, ap, ◌∙◌, Option, All, Contains}
+use Rattle.xa_base.proofs.{All-contains, ◌==◌, ◌||◌, zero, slice_get, ◌<◌, ◌&&◌, [], append-nil, get_or, sym, subst, Some, unwrap_or, or-true, eq-eqb, ne_eqb}
+use Rattle.xa_base.proofs.{false_from_ne_true, or_from, eqb-true, begins_on, all_mid, same_begins, Contains-append_right, All-nil, All-cons, at_false}
+use Rattle.xa_base.specs.{MOST_MANAGERS, IsUpTo, Begins}
+use Rattle.xa_words.specs.{XidName, Decides-xid_eq, TranName, tran_of, Op, OpenRm, Prepare, Code, RmFail, Request}
+use Rattle.xa_tables.specs.{History, of_thread, names}
+use Rattle.xa_desk.specs.{LedgerView, ledger, HasGrown, numbered, learnt_shut, with_sent, with_collected, HaveGrown, DeskView}
+use Rattle.xa_switch.specs.{Settling, IsSettled, sent, ledgers_of, history as history_of}
+use Rattle.xa_driver.specs.{Done, Branch, Ending, Outcome, AsksLedger, outcome_op, AtBranch, has_yes, voted_yes, yes_of, is_yes, AreBranchesRising, Logs}
+use Rattle.xa_driver.specs.{decision_of, EachBranch, IsCommit, IsTranOf, voted, IsAnswered, IsBegun, asked, collected, in_flight, unasked, second_op, third_op}
+use Rattle.xa_driver.specs.{ending_of}
+use Rattle.xa_log.specs.{Records, LogState}
+use Rattle.xa_atomicity.specs.{ResolveCall, Use, commits, cuts, resolves, IsUseIn, NamesTran, HasSent, IsAsked, CameSoFar, known_at, DidOther, EachVote, IsCut}
+use Rattle.xa_atomicity.specs.{IsEnded, IsTold, asking, forgetting, telling, IsKept, OnlyResolves, Opening}
+use Rattle.xa_driver.proofs.Mapped.{Asks, Any, IsAskedFor, any_asked}
+use Rattle.std.proofs.lemmas.Bool.{both_ways}
+use Rattle.xa_driver.proofs.Traces.{trace_of}
+use Rattle.std.proofs.lemmas.List.Elements.{Contains-push}
 use Rattle.xa_atomicity.proofs.Settled.{sent_between, by_ledger}
 use Rattle.xa_atomicity.proofs.Sites.{Parted, request_of, part, numbered_both, at_seam}
 use Rattle.xa_atomicity.proofs.Resolves.{Sends, resolve_sends, asked_sends, stays, on, contains_on}

@@ -1,17 +1,18 @@
 -- What became of a branch that nobody else named, but for heuristic decisions, over the settled history of its manager.
-use Rattle.xa_atomicity.proofs.Words.{rules, all_mid, all_left, all_after, some_same, by_bool, by_if, at_true, ◌⊎◌, ◌≡◌, ◌≢◌, ℕ, suc, ◌+◌, ◌<◌, inl, inr}
-use Rattle.xa_atomicity.proofs.Words.{Bool, true, false, ◌||◌, if◌then◌else◌, List, [], ◌∷◌, ◌++◌, length, append-nil, append_assoc, get_or, sym, refl, ap}
-use Rattle.xa_atomicity.proofs.Words.{◌∙◌, subst, arith, Option, Some, None, All, cons_option, OnlyTheseName, IsBetween, OnlyTheseOrDecisionsName}
-use Rattle.xa_atomicity.proofs.Words.{IsAfterShut, IsDecidedAfter, told_fate, is_left, is_heuristic, both_ways, or_left, true_from_ne_false, outcome_op}
-use Rattle.xa_atomicity.proofs.Words.{Ending, Committed, ReadOnly, RolledBack, Heuristic, Left, is_yes, is_read, yes_ending, no_ending, XidName}
-use Rattle.xa_atomicity.proofs.Words.{xid_eq, Done, RbIntegrity, HeurRb, HeurCom, RmFail, Op, Prepare, Rollback, Request, Code, xid_self}
-use Rattle.xa_atomicity.proofs.Words.{HeuristicDecision, is_S3, is_prepared, decision_code, next, Fate, fate, fate_in, fate_of, coded, tables_after, last_or}
-use Rattle.xa_atomicity.proofs.Words.{is_done, is_in_doubt as is_unknown, prepare_fate, decided_fate, IsFateOf, names, OnlyDecides, LeavesWaiting}
-use Rattle.xa_atomicity.proofs.Words.{AwaitsTheOutcome, AwaitsAfter, is_heur, is_forget, answer_when, fates_when, Tables, History, tables_after-append}
-use Rattle.xa_atomicity.proofs.Words.{unnamed_fate, ended_as}
-use Rattle.xa_atomicity.specs.{is_in_doubt}
-use Rattle.xa_driver.specs.{is_heuristic as is_heuristic_code}
-use Rattle.xa_tables.specs.{is_rolled_back, IsTold}
+use Rattle.xa_base.proofs.{rules, all_mid, all_left, all_after, some_same, by_bool, by_if, at_true, ◌⊎◌, ◌≡◌, ◌≢◌, ℕ, suc, ◌+◌, ◌<◌, inl, inr, Bool, true}
+use Rattle.xa_base.proofs.{false, ◌||◌, if◌then◌else◌, List, [], ◌∷◌, ◌++◌, length, append-nil, append_assoc, get_or, sym, refl, ap, ◌∙◌, subst, arith, Option}
+use Rattle.xa_base.proofs.{Some, None, All, cons_option}
+use Rattle.xa_atomicity.specs.{is_in_doubt, OnlyTheseName, IsBetween, OnlyTheseOrDecisionsName, IsAfterShut, IsDecidedAfter, told_fate, is_left, is_heuristic}
+use Rattle.xa_atomicity.specs.{ended_as}
+use Rattle.std.proofs.lemmas.Bool.{both_ways, or_left, true_from_ne_false}
+use Rattle.xa_driver.specs.{is_heuristic as is_heuristic_code, outcome_op, Ending, Committed, ReadOnly, RolledBack, Heuristic, Left, is_yes, is_read}
+use Rattle.xa_driver.specs.{yes_ending, no_ending}
+use Rattle.xa_words.specs.{XidName, xid_eq, Done, RbIntegrity, HeurRb, HeurCom, RmFail, Op, Prepare, Rollback, Request, Code}
+use Rattle.xa_words.proofs.Xids.{xid_self}
+use Rattle.xa_tables.specs.{is_rolled_back, IsTold, HeuristicDecision, is_S3, is_prepared, decision_code, next, Fate, fate, fate_in, fate_of, coded}
+use Rattle.xa_tables.specs.{tables_after, last_or, is_done, is_in_doubt as is_unknown, prepare_fate, decided_fate, IsFateOf, names, OnlyDecides, LeavesWaiting}
+use Rattle.xa_tables.specs.{AwaitsTheOutcome, AwaitsAfter, is_heur, is_forget, answer_when, fates_when, Tables, History}
+use Rattle.xa_tables.proofs.Unnamed.{tables_after-append, unnamed_fate}
 use Rattle.xa_tables.specs.declared.state.HeuristicDecision.TheVariants as decision
 use Rattle.xa_tables.specs.Histories as history
 use Rattle.xa_atomicity.proofs.Courses.{Unreached, Reads, Breaks, Stays, Agrees, Refuses, yes_is, read_is, Sends, SendsOne, Course, rest_forgets}

@@ -1,17 +1,23 @@
 -- What a branch that voted to commit stands at as the opening of its commit ends, where requests that lead it and heuristic
 -- decisions name it; and how it ends, by its fate then and through the later openings.
-use Rattle.xa_atomicity.proofs.Words.{arith, ◌≡◌, ℕ, Bool, true, false, if◌then◌else◌, List, [], ◌∷◌, sym, refl, ap, ◌∙◌, subst, Option, Some, None, list_any}
-use Rattle.xa_atomicity.proofs.Words.{list_any-append, or-true, Begins, XidName, Done, RmFail, Op, Code, State, HeuristicDecision, state_of, is_left_in}
-use Rattle.xa_atomicity.proofs.Words.{decision_code, next, Fate, tables_after, last_or, is_in_doubt as is_unknown, decided_fate, Tables, History, LedgerView}
-use Rattle.xa_atomicity.proofs.Words.{learnt_shut, Branch, Ending, asked, IsAnswered, is_yes, ending_of, yes_ending, second_op, third_op, AsksLedger}
-use Rattle.xa_atomicity.proofs.Words.{outcome_op, voted, AtBranch, told_fate, ended_as, Tabled, trace_of, asked_grows, both_ways, Committed, ReadOnly}
-use Rattle.xa_atomicity.proofs.Words.{RolledBack, InDoubt, Heuristic, Left, is_decided, is_heuristic, is_left, rules, at_true, unwrap_or, ◌⊎◌, inl, inr}
-use Rattle.xa_atomicity.proofs.Words.{⊎_elim, ◌++◌, All, cons_option, All-head, All-tail, xid_eq, Prepare, Commit, Rollback, Forget, Request, xid_self}
-use Rattle.xa_atomicity.proofs.Words.{HeuristicallyCompleted, is_prepared, Answer, fate, fate_of, IsOpening, names, is_heur, AwaitsAfter, fates_when}
-use Rattle.xa_atomicity.proofs.Words.{state_when, Prepared, Sound, sound_after, run_sound, opening_sound, last_more, tables_after-append, All-cons}
-use Rattle.xa_tables.specs.{IsTold}
-use Rattle.xa_atomicity.specs.{is_in_doubt}
-use Rattle.xa_tables.proofs.HeuristicLaw.{Decides, Nothing, Completes, decides}
+use Rattle.xa_base.proofs.{arith, ◌≡◌, ℕ, Bool, true, false, if◌then◌else◌, List, [], ◌∷◌, sym, refl, ap, ◌∙◌, subst, Option, Some, None, list_any}
+use Rattle.xa_base.proofs.{list_any-append, or-true, rules, at_true, unwrap_or, ◌⊎◌, inl, inr, ⊎_elim, ◌++◌, All, cons_option, All-head, All-tail, All-cons}
+use Rattle.xa_base.specs.{Begins}
+use Rattle.xa_words.specs.{XidName, Done, RmFail, Op, Code, xid_eq, Prepare, Commit, Rollback, Forget, Request}
+use Rattle.xa_tables.specs.{IsTold, State, HeuristicDecision, state_of, is_left_in, decision_code, next, Fate, tables_after, last_or, is_in_doubt as is_unknown}
+use Rattle.xa_tables.specs.{decided_fate, Tables, History, HeuristicallyCompleted, is_prepared, Answer, fate, fate_of, IsOpening, names, is_heur, AwaitsAfter}
+use Rattle.xa_tables.specs.{fates_when, state_when}
+use Rattle.xa_desk.specs.{LedgerView, learnt_shut}
+use Rattle.xa_driver.specs.{Branch, Ending, asked, IsAnswered, is_yes, ending_of, yes_ending, second_op, third_op, AsksLedger, outcome_op, voted, AtBranch}
+use Rattle.xa_driver.specs.{Committed, ReadOnly, RolledBack, InDoubt, Heuristic, Left, is_decided}
+use Rattle.xa_atomicity.specs.{is_in_doubt, told_fate, ended_as, Tabled, is_heuristic, is_left}
+use Rattle.xa_driver.proofs.Traces.{trace_of, asked_grows}
+use Rattle.std.proofs.lemmas.Bool.{both_ways}
+use Rattle.xa_words.proofs.Xids.{xid_self}
+use Rattle.xa_tables.specs.declared.state.State.TheVariants.{Prepared}
+use Rattle.xa_tables.proofs.Law.{Sound, sound_after, run_sound, opening_sound, last_more}
+use Rattle.xa_tables.proofs.Unnamed.{tables_after-append}
+use Rattle.xa_tables.proofs.PreparedLaw.{Decides, Nothing, Completes, decides}
 use Rattle.xa_tables.specs.declared.state.HeuristicDecision.TheVariants as decision
 use Rattle.xa_tables.specs.Histories as history
 use Rattle.xa_atomicity.proofs.Courses.{yes_is, yes_wanted}

@@ -1,20 +1,29 @@
 -- Where the request of a resolve that was answered stands in a history, and what it leaves; and what becomes of a branch
 -- that was left, through the openings up to one with a resolve that reached it.
-use Rattle.xa_atomicity.proofs.Words.{◌&&◌, ◌≡◌, ◌≢◌, ℕ, suc, ◌+◌, Bool, true, false, cond, ◌==◌, ◌||◌, List, [], ◌∷◌, ◌++◌, length, append_assoc, slice_get}
-use Rattle.xa_atomicity.proofs.Words.{get_or, sym, refl, ap, ◌∙◌, subst, arith, Option, Some, All, nat_cmp_total, eqb-true, false_from_ne_true, All-head}
-use Rattle.xa_atomicity.proofs.Words.{All-tail, by_bool, tied_true, all_left, and_right, both_ways, XidName, RmFail, Op, OpenRm, CloseRm, Request, Code}
-use Rattle.xa_atomicity.proofs.Words.{HeuristicDecision, has_opened, decision_code, Answer, next, open_rm, Fate, decided_fate, coded, of_thread, tables_after}
-use Rattle.xa_atomicity.proofs.Words.{last_or, closes, is_close, Tables, History, tables_after-append, LedgerView, numbered, answers, ended_as, Tabled}
-use Rattle.xa_atomicity.proofs.Words.{outcome_op, Contains, all_after, outcome_fate, some_same, Done, HeurCom, HeurRb, option_map, None, ⊎_elim, All-contains}
-use Rattle.xa_atomicity.proofs.Words.{Contains-append_left, Contains-append_right, all_right, Contains-append_cases, MOST_MANAGERS, IsUpTo, xid_eq}
-use Rattle.xa_atomicity.proofs.Words.{Decides-xid_eq, tran_of, State, state_of, is_S3, is_left_in, is_prepared, is_in_doubt as is_unknown, AreLeft, reopened}
-use Rattle.xa_atomicity.proofs.Words.{reopened_fate, names, opening_sound, ledger, requests, last_in, IsOpenedWith, first_of, history as history_of}
-use Rattle.xa_atomicity.proofs.Words.{ledgers_of, settled_fate, ManagerPart, IsSettled, FollowsTables, find_manager, journal_in, Settling, left_at, Outcome}
-use Rattle.xa_atomicity.proofs.Words.{is_decided, is_to_commit, ResolveCall, resolves, IsUseIn, IsKept, Opening, AreInARow, OnlyResolves, uses_of}
-use Rattle.xa_atomicity.proofs.Words.{fate_through, last_of, tables_left}
+use Rattle.xa_base.proofs.{◌&&◌, ◌≡◌, ◌≢◌, ℕ, suc, ◌+◌, Bool, true, false, cond, ◌==◌, ◌||◌, List, [], ◌∷◌, ◌++◌, length, append_assoc, slice_get, get_or, sym}
+use Rattle.xa_base.proofs.{refl, ap, ◌∙◌, subst, arith, Option, Some, All, nat_cmp_total, eqb-true, false_from_ne_true, All-head, All-tail, by_bool, tied_true}
+use Rattle.xa_base.proofs.{all_left, Contains, all_after, some_same, option_map, None, ⊎_elim, All-contains, Contains-append_left, Contains-append_right}
+use Rattle.xa_base.proofs.{all_right}
+use Rattle.std.proofs.lemmas.Bool.{and_right, both_ways}
+use Rattle.xa_words.specs.{XidName, RmFail, Op, OpenRm, CloseRm, Request, Code, Done, HeurCom, HeurRb, xid_eq, Decides-xid_eq, tran_of}
+use Rattle.xa_tables.specs.{HeuristicDecision, has_opened, decision_code, Answer, next, open_rm, Fate, decided_fate, coded, of_thread, tables_after, last_or}
+use Rattle.xa_tables.specs.{closes, is_close, Tables, History, State, state_of, is_S3, is_left_in, is_prepared, is_in_doubt as is_unknown, AreLeft, reopened}
+use Rattle.xa_tables.specs.{reopened_fate, names}
+use Rattle.xa_tables.proofs.Unnamed.{tables_after-append}
+use Rattle.xa_desk.specs.{LedgerView, numbered, ledger}
+use Rattle.xa_switch.specs.{answers, last_in, IsOpenedWith, first_of, history as history_of, ledgers_of, settled_fate, ManagerPart, IsSettled, FollowsTables}
+use Rattle.xa_switch.specs.{find_manager, journal_in, Settling}
+use Rattle.xa_atomicity.specs.{ended_as, Tabled, outcome_fate, ResolveCall, resolves, IsUseIn, IsKept, Opening, AreInARow, OnlyResolves, uses_of, fate_through}
+use Rattle.xa_atomicity.specs.{last_of, tables_left}
+use Rattle.xa_driver.specs.{outcome_op, Outcome, is_decided, is_to_commit}
+use Rattle.std.proofs.lemmas.List.Elements.{Contains-append_cases}
+use Rattle.xa_base.specs.{MOST_MANAGERS, IsUpTo}
+use Rattle.xa_tables.proofs.Law.{opening_sound}
+use Rattle.xa_worker.specs.{requests}
+use Rattle.xa_scan.specs.{left_at}
 use Rattle.std.specs.FinSet.{contains-insert}
-use Rattle.xa_tables.proofs.Opened.{opened_on}
-use Rattle.xa_tables.proofs.ShutLemmas.{next-shut, shut_stays}
+use Rattle.xa_tables.proofs.PreparedLaw.{opened_on}
+use Rattle.xa_tables.proofs.LateLaw.{next-shut, shut_stays}
 use Rattle.xa_tables.specs.declared.state.HeuristicDecision.TheVariants as decision
 use Rattle.xa_tables.specs.Histories as history
 use Rattle.xa_atomicity.proofs.Leading.{IsTowards, Standing, led_after, ends_it, waits, unforgotten, over, IsOver, Stands, by_itself, ends_towards}

@@ -1,13 +1,18 @@
 -- What a branch that voted to commit stands at, where nothing but resolves names it.
-use Rattle.xa_atomicity.proofs.Words.{arith, ◌⊎◌, not, cond, is_some, unwrap_or, ◌≡◌, ◌≢◌, ℕ, inl, inr, Bool, true, false, ◌||◌, if◌then◌else◌, [], ◌∷◌, sym}
-use Rattle.xa_atomicity.proofs.Words.{refl, ap, ◌∙◌, subst, Option, Some, None, All, cons_option, not-false, or_from, All-nil, All-cons, All-head, All-tail}
-use Rattle.xa_atomicity.proofs.Words.{and-false, by_if, at_false, at_true, XidName, xid_eq, Decides-xid_eq, Done, Nota, Proto, RmFail, Op, Commit, Rollback}
-use Rattle.xa_atomicity.proofs.Words.{Forget, Request, Code, xid_self, State, HeuristicallyCompleted, HeuristicDecision, has_opened, state_of, exists, is_S5}
-use Rattle.xa_atomicity.proofs.Words.{is_left_in, is_prepared, is_completed, is_rollback_only, is_somebody_associated, reason_of, decision_code, Answer, next}
-use Rattle.xa_atomicity.proofs.Words.{by_rules, commit_two, rollback, gone, Fate, tables_after, fate_of, is_done, last_or, decided_fate, reopened}
-use Rattle.xa_atomicity.proofs.Words.{reopened_fate, names, Tables, History, Prepared, Sound, Nowhere, AtWork, standing, nobody_rests, get_gone, sound_after}
-use Rattle.xa_atomicity.proofs.Words.{last_more, state_reopened, unnamed_fate, unnamed_stays, ended_as, outcome_op, or-true, cases_Bool}
-use Rattle.xa_tables.specs.{decision_of, committed}
+use Rattle.xa_base.proofs.{arith, ◌⊎◌, not, cond, is_some, unwrap_or, ◌≡◌, ◌≢◌, ℕ, inl, inr, Bool, true, false, ◌||◌, if◌then◌else◌, [], ◌∷◌, sym, refl, ap}
+use Rattle.xa_base.proofs.{◌∙◌, subst, Option, Some, None, All, cons_option, not-false, or_from, All-nil, All-cons, All-head, All-tail, and-false, by_if}
+use Rattle.xa_base.proofs.{at_false, at_true, or-true, cases_Bool}
+use Rattle.xa_words.specs.{XidName, xid_eq, Decides-xid_eq, Done, Nota, Proto, RmFail, Op, Commit, Rollback, Forget, Request, Code}
+use Rattle.xa_words.proofs.Xids.{xid_self}
+use Rattle.xa_tables.specs.{decision_of, committed, State, HeuristicallyCompleted, HeuristicDecision, has_opened, state_of, exists, is_S5, is_left_in}
+use Rattle.xa_tables.specs.{is_prepared, is_completed, is_rollback_only, is_somebody_associated, reason_of, decision_code, Answer, next, by_rules, commit_two}
+use Rattle.xa_tables.specs.{rollback, gone, Fate, tables_after, fate_of, is_done, last_or, decided_fate, reopened, reopened_fate, names, Tables, History}
+use Rattle.xa_tables.specs.declared.state.State.TheVariants.{Prepared}
+use Rattle.xa_tables.proofs.Law.{Sound, Nowhere, AtWork, standing, nobody_rests, get_gone, sound_after, last_more}
+use Rattle.xa_tables.proofs.Reopening.{state_reopened}
+use Rattle.xa_tables.proofs.Unnamed.{unnamed_fate, unnamed_stays}
+use Rattle.xa_atomicity.specs.{ended_as}
+use Rattle.xa_driver.specs.{outcome_op}
 use Rattle.xa_tables.proofs.Effects.{error_tells, reason_rolls_back, decision_commits_nothing, decision_rolls_nothing_back}
 use Rattle.xa_tables.specs.Histories as history
 use Rattle.xa_atomicity.proofs.Sites.{fates}

@@ -1,4 +1,3 @@
-pub mod Words
 pub mod Sites
 pub mod Courses
 pub mod Values

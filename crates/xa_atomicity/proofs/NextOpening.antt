@@ -1,22 +1,28 @@
 -- A commit in an opening and resolves in the next one, with nothing else in either, where the scan of an opening has what was
 -- left; what the outcomes of a resolve tell; and that a branch whose end was told isn't left to the next opening.
-use Rattle.xa_atomicity.proofs.Words.{◌≡◌, ℕ, zero, suc, ◌+◌, ◌-◌, ◌<◌, ◌≤◌, ◌==◌, List, length, map, slice_get, option_map, Option, Some, None, sym, refl}
-use Rattle.xa_atomicity.proofs.Words.{ap, ◌∙◌, subst, arith, Contains, range_with_len, eqb-true, length-range_with_len, get_or-range_with_len, same_Some}
-use Rattle.xa_atomicity.proofs.Words.{slice_get-map, slice_get-get_or, XidName, Tables, managers_in, reopened_at, reopening, Each, first_of, IsOf}
-use Rattle.xa_atomicity.proofs.Words.{ManagerPart, find_manager, Settling, Again, ScanView, left_at, found, contains_map, ◌≢◌, [], ◌∷◌, ◌++◌, All, map-append}
-use Rattle.xa_atomicity.proofs.Words.{All-nil, All-cons, All-head, All-tail, All-map, MOST_MANAGERS, TranName, RmFail, AreLeft, IsScanOf, IsSettled, DeskView}
-use Rattle.xa_atomicity.proofs.Words.{Branch, IsTranOf, LogState, Records, all_records, record_in, record_of, AskedAreLeft, IsOfAnother, IsResolvedAfter}
-use Rattle.xa_atomicity.proofs.Words.{CutCall, ResolveCall, Use, cuts, resolves, AreUses, Continues, HasLeft, AreOfAllLogs, IsFollowed, IsKept, Opening}
-use Rattle.xa_atomicity.proofs.Words.{IsOutcomeOf, IsUseIn, OnlyResolves, with_resolves, with_use, Bool, true, false, list_all, get-empty, and_parts}
-use Rattle.xa_atomicity.proofs.Words.{All-contains, xid_cmp, Code, State, HeuristicallyCompleted, HeuristicDecision, opening, state_of, is_left_in, Fate}
-use Rattle.xa_atomicity.proofs.Words.{IsFateOf, decided_fate, fate, is_done, tables_after, reopened, told_by, History, Prepared, as_left, last_in}
-use Rattle.xa_atomicity.proofs.Words.{IsOpenedWith, history as history_of, settled_fate, Ending, Committed, ReadOnly, Outcome, has_acknowledged}
-use Rattle.xa_atomicity.proofs.Words.{is_acknowledged, EachOutcome, TellsTheFate, WasAtFirst, told_fate, TellsTheOutcome, ended_as, outcome_fate, Tabled}
-use Rattle.xa_atomicity.proofs.Words.{tran_of, inl, get_or, Contains-get_or, IsUpTo, is_S3, opening_sound, ledger, ledgers_of, TellsTheOutcomes}
-use Rattle.xa_atomicity.proofs.Words.{TellsTheFates}
+use Rattle.xa_base.proofs.{◌≡◌, ℕ, zero, suc, ◌+◌, ◌-◌, ◌<◌, ◌≤◌, ◌==◌, List, length, map, slice_get, option_map, Option, Some, None, sym, refl, ap, ◌∙◌, subst}
+use Rattle.xa_base.proofs.{arith, Contains, range_with_len, eqb-true, length-range_with_len, get_or-range_with_len, same_Some, slice_get-map, slice_get-get_or}
+use Rattle.xa_base.proofs.{◌≢◌, [], ◌∷◌, ◌++◌, All, map-append, All-nil, All-cons, All-head, All-tail, All-map, Bool, true, false, list_all, get-empty}
+use Rattle.xa_base.proofs.{and_parts, All-contains, inl, get_or}
+use Rattle.xa_words.specs.{XidName, TranName, RmFail, xid_cmp, Code, tran_of}
+use Rattle.xa_tables.specs.{is_left, Tables, AreLeft, State, HeuristicallyCompleted, HeuristicDecision, opening, state_of, is_left_in, Fate, IsFateOf}
+use Rattle.xa_tables.specs.{decided_fate, fate, is_done, tables_after, reopened, told_by, History, is_S3}
+use Rattle.xa_switch.specs.{managers_in, reopened_at, reopening, Each, first_of, IsOf, ManagerPart, find_manager, Settling, Again, IsScanOf, IsSettled, last_in}
+use Rattle.xa_switch.specs.{IsOpenedWith, history as history_of, settled_fate, ledgers_of}
+use Rattle.xa_scan.specs.{ScanView, left_at}
+use Rattle.xa_switch.proofs.Lists.{found, contains_map}
+use Rattle.xa_base.specs.{MOST_MANAGERS, IsUpTo}
+use Rattle.xa_desk.specs.{DeskView, ledger}
+use Rattle.xa_driver.specs.{Done, Branch, IsTranOf, Ending, Committed, ReadOnly, Outcome, has_acknowledged, is_acknowledged}
+use Rattle.xa_log.specs.{LogState, Records, all_records, record_in, record_of}
+use Rattle.xa_atomicity.specs.{AskedAreLeft, IsOfAnother, IsResolvedAfter, CutCall, ResolveCall, Use, cuts, resolves, AreUses, Continues, HasLeft, AreOfAllLogs}
+use Rattle.xa_atomicity.specs.{IsFollowed, IsKept, Opening, IsOutcomeOf, IsUseIn, OnlyResolves, with_resolves, with_use, EachOutcome, TellsTheFate, WasAtFirst}
+use Rattle.xa_atomicity.specs.{told_fate, TellsTheOutcome, ended_as, outcome_fate, Tabled, TellsTheOutcomes, TellsTheFates}
+use Rattle.xa_tables.specs.declared.state.State.TheVariants.{Prepared}
+use Rattle.xa_tables.proofs.Reopening.{as_left}
+use Rattle.std.proofs.lemmas.List.Elements.{Contains-get_or}
+use Rattle.xa_tables.proofs.Law.{opening_sound}
 use Rattle.std.proofs.lemmas.List.Sorted.{IsPermutation-sym, Contains-permutation}
-use Rattle.xa_tables.specs.{is_left}
-use Rattle.xa_driver.specs.{Done}
 use Rattle.xa_tables.specs.Histories as history
 use Rattle.xa_atomicity.proofs.Resolves.{upto_so, outcome_asked, outcome_left, outcome_upto}
 use Rattle.xa_atomicity.proofs.Guided.{ended_known, unknown_so, decided_apart, read_apart}

@@ -1,19 +1,24 @@
 -- What the log has of a transaction stays what its commit left; what a commit does to a desk's ledger with each manager, and
 -- asks of a branch; and one outcome for all the branches of a call: on abort no Commit is sent.
-use Rattle.xa_atomicity.proofs.Words.{arith, and-false, cond, not, if◌then◌else◌, is_some, ◌≡◌, ℕ, Bool, true, false, ◌==◌, ◌&&◌, ◌||◌, List, [], ◌∷◌, sym}
-use Rattle.xa_atomicity.proofs.Words.{refl, ap, ◌∙◌, Some, None, All, get-insert, eq_by_cmp, is_eq, tied_itself, All-nil, All-cons, All-head, All-tail}
-use Rattle.xa_atomicity.proofs.Words.{and_parts, is_equal, at_false, at_true, by_if, is_recorded, Use, commits, cuts, resolves, AreUses, OfCommit, and_left}
-use Rattle.xa_atomicity.proofs.Words.{and_right, and_cases, MOST_MANAGERS, IsUpTo, TranName, Code, Branch, is_yes, decides_commit, has_yes, voted_yes, yes_of}
-use Rattle.xa_atomicity.proofs.Words.{Logs, appended, failed, unwanted, decision_of, LogState, Records, record_of, tran_cmp, rules, Option, XidName, Op}
-use Rattle.xa_atomicity.proofs.Words.{Commit, Forget, is_decided, second_op, third_op, outcome_op, IsAskedFor, ◌≤◌, subst, eqb-true, LedgerView, ledger}
-use Rattle.xa_atomicity.proofs.Words.{Ending, AtBranch, AsksLedger, EachBranch, IsTraceOfCommit, has_branch_at, AreBranchesRising, list_any_none}
-use Rattle.xa_atomicity.proofs.Words.{wants_record, NoCommitWasSent, is_commit, branch_by, list_any, or_parts, or_from, not-true, false_from_ne_true}
-use Rattle.xa_atomicity.proofs.Words.{Heuristic, InDoubt, Left, RolledBack, Committed, is_read, is_no, ending_of, yes_ending, no_ending, IsCommit, IsTranOf}
-use Rattle.xa_atomicity.proofs.Words.{true_from_ne_false, both_ways, DeskView, is_committed, is_rolled_back, has_committed, has_rolled_back, has_vote_against}
-use Rattle.xa_atomicity.proofs.Words.{append_failed, was_refused, IsCommittedTransaction, IsAbortedTransaction, one_tran}
+use Rattle.xa_base.proofs.{arith, and-false, cond, not, if◌then◌else◌, is_some, ◌≡◌, ℕ, Bool, true, false, ◌==◌, ◌&&◌, ◌||◌, List, [], ◌∷◌, sym, refl, ap, ◌∙◌}
+use Rattle.xa_base.proofs.{Some, None, All, get-insert, eq_by_cmp, is_eq, tied_itself, All-nil, All-cons, All-head, All-tail, and_parts, is_equal, at_false}
+use Rattle.xa_base.proofs.{at_true, by_if, rules, Option, ◌≤◌, subst, eqb-true, list_any_none, list_any, or_parts, or_from, not-true, false_from_ne_true}
+use Rattle.xa_atomicity.specs.{is_recorded, Use, commits, cuts, resolves, AreUses, OfCommit, is_rolled_back, has_committed, has_rolled_back, has_vote_against}
+use Rattle.xa_atomicity.specs.{append_failed, was_refused, IsCommittedTransaction, IsAbortedTransaction}
+use Rattle.std.proofs.lemmas.Bool.{and_left, and_right, and_cases, true_from_ne_false, both_ways}
+use Rattle.xa_base.specs.{MOST_MANAGERS, IsUpTo}
+use Rattle.xa_words.specs.{TranName, Code, XidName, Op, Commit, Forget}
+use Rattle.xa_driver.specs.{names, Done, Branch, is_yes, decides_commit, has_yes, voted_yes, yes_of, Logs, appended, failed, unwanted, decision_of, is_decided}
+use Rattle.xa_driver.specs.{second_op, third_op, outcome_op, Ending, AtBranch, AsksLedger, EachBranch, IsTraceOfCommit, has_branch_at, AreBranchesRising}
+use Rattle.xa_driver.specs.{wants_record, NoCommitWasSent, is_commit, Heuristic, InDoubt, Left, RolledBack, Committed, is_read, is_no, ending_of, yes_ending}
+use Rattle.xa_driver.specs.{no_ending, IsCommit, IsTranOf}
+use Rattle.xa_log.specs.{LogState, Records, record_of, tran_cmp}
+use Rattle.xa_driver.proofs.Mapped.{IsAskedFor, branch_by}
+use Rattle.xa_desk.specs.{LedgerView, ledger, DeskView}
+use Rattle.xa_atomicity.specs.Outcomes.{is_committed}
+use Rattle.xa_driver.proofs.Calls.{one_tran}
 use Rattle.std.proofs.Math.Bool.{and-true}
 use Rattle.xa_words.proofs.ManagerSets.{in_set_of}
-use Rattle.xa_driver.specs.{names, Done}
 use Rattle.xa_log.proofs.Transactions.{tran_cmp_total, tran_cmp-IsAntisymmetric}
 use Rattle.std.specs.FinMap as map
 use Rattle.xa_atomicity.proofs.Resolves.{Sends, asks_on, stays}

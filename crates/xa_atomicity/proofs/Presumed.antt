@@ -1,17 +1,23 @@
 -- One outcome for each global transaction whose commit was cut short, over openings one after another: no later use of the
 -- log marks a manager of one that was decided to abort.
-use Rattle.xa_atomicity.proofs.Words.{arith, ◌≡◌, ℕ, Bool, true, List, [], ◌∷◌, get_or, subst, false, All, All-nil, All-append, All-head, All-tail, voted_yes}
-use Rattle.xa_atomicity.proofs.Words.{IsTranOf, Code, TranName, MOST_MANAGERS, IsUpTo, learnt_shut, ledger, Settling, IsOfAnother, CommitCall, CutCall}
-use Rattle.xa_atomicity.proofs.Words.{GoesOnAfter, OfCommit, Use, commits, cuts, resolves, Opening, IsByItsThread, IsKept, IsUseIn, OnlyResolves, uses_of}
-use Rattle.xa_atomicity.proofs.Words.{rules, option_map, is_some, zero, ◌+◌, ◌++◌, length, sym, refl, ap, ◌∙◌, Option, Some, None, Contains, All-cons}
-use Rattle.xa_atomicity.proofs.Words.{All-contains, Contains-append_right, all_after, all_mid, all_right, at_true, Begins, tran_of, Done, Op, Prepare}
-use Rattle.xa_atomicity.proofs.Words.{Request, Tables, state_of, is_left_in, Fate, IsFateOf, fate, tables_after, told_by, History, as_left, LedgerView}
-use Rattle.xa_atomicity.proofs.Words.{HasGrown, HaveGrown, requests, reopened_at, IsOpenedWith, first_of, history as history_of, ledgers_of, ManagerPart}
-use Rattle.xa_atomicity.proofs.Words.{IsSettled, answers, find_manager, journal, journal_in, sent, Branch, is_yes, yes_of, ending_of, is_decided, yes_ending}
-use Rattle.xa_atomicity.proofs.Words.{outcome_op, AreBranchesRising, HaveRoom, Logs, decision_of, IsCut, IsEnded, is_recorded, OnlyTheseOrDecisionsName}
-use Rattle.xa_atomicity.proofs.Words.{AskedAreLeft, CountsByTheLog, EndsByTheLog, IsResolvedAfter, VotedToCommit, WasAsked, known_of, AreUses, IsFollowed}
-use Rattle.xa_atomicity.proofs.Words.{ResolveCall, Tabled, Records, one_tran}
-use Rattle.xa_switch.specs.{collected}
+use Rattle.xa_base.proofs.{arith, ◌≡◌, ℕ, Bool, true, List, [], ◌∷◌, get_or, subst, false, All, All-nil, All-append, All-head, All-tail, rules, option_map}
+use Rattle.xa_base.proofs.{is_some, zero, ◌+◌, ◌++◌, length, sym, refl, ap, ◌∙◌, Option, Some, None, Contains, All-cons, All-contains, Contains-append_right}
+use Rattle.xa_base.proofs.{all_after, all_mid, all_right, at_true}
+use Rattle.xa_driver.specs.{voted_yes, IsTranOf, Branch, is_yes, yes_of, ending_of, is_decided, yes_ending, outcome_op, AreBranchesRising, HaveRoom, Logs}
+use Rattle.xa_driver.specs.{decision_of}
+use Rattle.xa_words.specs.{Code, TranName, tran_of, Done, Op, Prepare, Request}
+use Rattle.xa_base.specs.{MOST_MANAGERS, IsUpTo, Begins}
+use Rattle.xa_desk.specs.{learnt_shut, ledger, LedgerView, HasGrown, HaveGrown}
+use Rattle.xa_switch.specs.{collected, Settling, reopened_at, IsOpenedWith, first_of, history as history_of, ledgers_of, ManagerPart, IsSettled, answers}
+use Rattle.xa_switch.specs.{find_manager, journal, journal_in, sent}
+use Rattle.xa_atomicity.specs.{IsOfAnother, CommitCall, CutCall, GoesOnAfter, OfCommit, Use, commits, cuts, resolves, Opening, IsByItsThread, IsKept, IsUseIn}
+use Rattle.xa_atomicity.specs.{OnlyResolves, uses_of, IsCut, IsEnded, is_recorded, OnlyTheseOrDecisionsName, AskedAreLeft, CountsByTheLog, EndsByTheLog}
+use Rattle.xa_atomicity.specs.{IsResolvedAfter, VotedToCommit, WasAsked, known_of, AreUses, IsFollowed, ResolveCall, Tabled}
+use Rattle.xa_tables.specs.{Tables, state_of, is_left_in, Fate, IsFateOf, fate, tables_after, told_by, History}
+use Rattle.xa_tables.proofs.Reopening.{as_left}
+use Rattle.xa_worker.specs.{requests}
+use Rattle.xa_log.specs.{Records}
+use Rattle.xa_driver.proofs.Calls.{one_tran}
 use Rattle.xa_tables.specs.Histories as history
 use Rattle.xa_atomicity.proofs.CutVotes.{cut_keeps, finished_law, Votes, CameAt, each_came, at_asking, at_forgetting, at_telling, HasVoted, prepare_part}
 use Rattle.xa_atomicity.proofs.CutVotes.{no_vote}

@@ -1,11 +1,17 @@
 -- One outcome for each global transaction, over openings one after another: a commit that came to its end is one that was
 -- cut short after it.
-use Rattle.xa_atomicity.proofs.Words.{arith, by_bool, ◌≡◌, ℕ, ◌≤◌, Bool, true, false, List, [], ◌∷◌, ◌++◌, length, sym, refl, subst, Option, Some, Contains}
-use Rattle.xa_atomicity.proofs.Words.{All-head, MOST_MANAGERS, IsUpTo, Code, Tables, state_of, fate, tables_after, told_by, LedgerView, learnt_shut, ledger}
-use Rattle.xa_atomicity.proofs.Words.{IsOpenedWith, first_of, history as history_of, ledgers_of, IsSettled, Settling, Branch, Ending, has_yes, is_yes}
-use Rattle.xa_atomicity.proofs.Words.{EachBranch, IsCut, is_recorded, known_at, EachOutcome, OnlyTheseOrDecisionsName, is_heuristic, VotedToCommit, known_of}
-use Rattle.xa_atomicity.proofs.Words.{CommitCall, CutCall, as_cut, ResolveCall, commits, Opening, EndsAs, EachEnds, IsAllOrNone, all, none, IsKept}
-use Rattle.xa_atomicity.proofs.Words.{IsResolved, IsUseIn, CountsOver, CountsAllOrNone, IsUnlisted, SharesOver, Tabled, Any, one_tran}
+use Rattle.xa_base.proofs.{arith, by_bool, ◌≡◌, ℕ, ◌≤◌, Bool, true, false, List, [], ◌∷◌, ◌++◌, length, sym, refl, subst, Option, Some, Contains, All-head}
+use Rattle.xa_base.specs.{MOST_MANAGERS, IsUpTo}
+use Rattle.xa_words.specs.{Code}
+use Rattle.xa_tables.specs.{Tables, state_of, fate, tables_after, told_by}
+use Rattle.xa_desk.specs.{LedgerView, learnt_shut, ledger}
+use Rattle.xa_switch.specs.{IsOpenedWith, first_of, history as history_of, ledgers_of, IsSettled, Settling}
+use Rattle.xa_driver.specs.{Branch, Ending, has_yes, is_yes, EachBranch}
+use Rattle.xa_atomicity.specs.{IsCut, is_recorded, known_at, EachOutcome, OnlyTheseOrDecisionsName, is_heuristic, VotedToCommit, known_of, CommitCall, CutCall}
+use Rattle.xa_atomicity.specs.{as_cut, ResolveCall, commits, Opening, EndsAs, EachEnds, IsAllOrNone, all, none, IsKept, IsResolved, IsUseIn, CountsOver}
+use Rattle.xa_atomicity.specs.{CountsAllOrNone, IsUnlisted, SharesOver, Tabled}
+use Rattle.xa_driver.proofs.Mapped.{Any}
+use Rattle.xa_driver.proofs.Calls.{one_tran}
 use Rattle.xa_atomicity.specs.Worth.{is_committed}
 use Rattle.xa_atomicity.proofs.CutVotes.{known_each, prepare_there, vote_there, HasVoted, any_voted, ended_so, finished_law, shut_unless}
 use Rattle.xa_atomicity.proofs.BranchEnds.{Follows}

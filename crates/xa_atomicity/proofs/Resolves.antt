@@ -1,15 +1,21 @@
 -- What a resolve sent to a manager, and collected from it.
-use Rattle.xa_atomicity.proofs.Words.{length-append, Option, None, ◌≡◌, ◌≢◌, ℕ, zero, suc, ⊎_elim, ◌+◌, ◌-◌, ◌<◌, Bool, true, false, List, [], ◌∷◌, ◌++◌}
-use Rattle.xa_atomicity.proofs.Words.{length, append-nil, append_assoc, get_or, sym, refl, ap, ◌∙◌, subst, arith, Some, false_from_ne_true, map, All}
-use Rattle.xa_atomicity.proofs.Words.{Contains, flat_map, list_any, range_with_len, All-nil, All-cons, All-append, Contains-append_left}
-use Rattle.xa_atomicity.proofs.Words.{Contains-append_right, length-range_with_len, get_or-range_with_len, any_at, contains_at, same_begins, begins_on}
-use Rattle.xa_atomicity.proofs.Words.{was_mapped, at_false, xid_self, both_ways, Contains-append_cases, Contains-push_cases, MOST_MANAGERS, Begins, Chain}
-use Rattle.xa_atomicity.proofs.Words.{IsUpTo, more, XidName, xid_eq, Decides-xid_eq, RmFail, Op, OpenRm, CloseRm, Code, LedgerView, learnt_shut, with_sent}
-use Rattle.xa_atomicity.proofs.Words.{with_collected, ledger, HasGrown, ScanView, left_at, contains_map, get_contained, Outcome, AskTrace, asked, AsksLedger}
-use Rattle.xa_atomicity.proofs.Words.{IsTraceOfResolve, ResolvesAt, ResolvesBranch, is_to_commit, outcome_op, Records, Any, Asks, IsAskedFor, anything, if_by}
-use Rattle.xa_atomicity.proofs.Words.{outcome_by, outcomes_by, resolves_by, Forget, grown_on, is_decided, Contains-push}
+use Rattle.xa_base.proofs.{length-append, Option, None, ◌≡◌, ◌≢◌, ℕ, zero, suc, ⊎_elim, ◌+◌, ◌-◌, ◌<◌, Bool, true, false, List, [], ◌∷◌, ◌++◌, length}
+use Rattle.xa_base.proofs.{append-nil, append_assoc, get_or, sym, refl, ap, ◌∙◌, subst, arith, Some, false_from_ne_true, map, All, Contains, flat_map, list_any}
+use Rattle.xa_base.proofs.{range_with_len, All-nil, All-cons, All-append, Contains-append_left, Contains-append_right, length-range_with_len}
+use Rattle.xa_base.proofs.{get_or-range_with_len, any_at, contains_at, same_begins, begins_on, was_mapped, at_false}
+use Rattle.xa_words.proofs.Xids.{xid_self}
+use Rattle.std.proofs.lemmas.Bool.{both_ways}
+use Rattle.std.proofs.lemmas.List.Elements.{Contains-append_cases, Contains-push_cases, Contains-push}
+use Rattle.xa_base.specs.{none, MOST_MANAGERS, Begins, Chain, IsUpTo, more}
+use Rattle.xa_words.specs.{XidName, xid_eq, Decides-xid_eq, RmFail, Op, OpenRm, CloseRm, Code, Forget}
+use Rattle.xa_desk.specs.{LedgerView, learnt_shut, with_sent, with_collected, ledger, HasGrown}
+use Rattle.xa_scan.specs.{ScanView, left_at}
+use Rattle.xa_switch.proofs.Lists.{contains_map, get_contained}
+use Rattle.xa_driver.specs.{Outcome, AskTrace, asked, AsksLedger, IsTraceOfResolve, ResolvesAt, ResolvesBranch, is_to_commit, outcome_op, is_decided}
+use Rattle.xa_log.specs.{Records}
+use Rattle.xa_driver.proofs.Mapped.{Any, Asks, IsAskedFor, anything, if_by, outcome_by, outcomes_by, resolves_by}
+use Rattle.xa_desk.proofs.Growth.{grown_on}
 use Rattle.std.proofs.lemmas.Map.Views.{Contains-from_any}
-use Rattle.xa_base.specs.{none}
 use Rattle.xa_atomicity.proofs.Guided.{learnt_on}
 
 -- ---- what is sent

@@ -1,21 +1,25 @@
 -- What the branches of a call came to in a settled opening, where what they were asked by a desk's ledgers stands in their
 -- managers' histories.
-use Rattle.xa_atomicity.proofs.Words.{◌≡◌, ℕ, suc, Bool, true, false, ◌||◌, List, [], ◌∷◌, ◌++◌, length, length-append, append_assoc, slice_get, refl, ap}
-use Rattle.xa_atomicity.proofs.Words.{◌∙◌, subst, arith, Option, Some, All, list_any-append, all_mid, begins_on, at_false, at_true, Begins, Code, Op, Tables}
-use Rattle.xa_atomicity.proofs.Words.{History, coded, LedgerView, is_rm_fail, learnt_shut, with_sent, with_collected, answers, Branch, Ending, AtBranch}
-use Rattle.xa_atomicity.proofs.Words.{AsksLedger, branch_mapped, asked_grows, numbered, ledger, no_ledger, is_known, HasGrown, HaveGrown, DeskView, ◌+◌}
-use Rattle.xa_atomicity.proofs.Words.{All-contains, All-head, All-tail, Contains, list_any, zero, ◌≤◌, if◌then◌else◌, sym, ⊎_elim, le-leb, cases_lt}
-use Rattle.xa_atomicity.proofs.Words.{or_parts, not-true, pos, ◌⊎◌, or-true, TranName, Done as Voted, RdOnly, XidName, Request, HeuristicDecision, state_of}
-use Rattle.xa_atomicity.proofs.Words.{next, told_by, Fate, IsFateOf, fate, decided_fate, tables_after, Settling, IsSettled, sent, IsOpenedWith, ledgers_of}
-use Rattle.xa_atomicity.proofs.Words.{history as history_of, as_it_was, grown_on, is_yes, is_no, ending_of, second_op, third_op, EachBranch, IsCommit}
-use Rattle.xa_atomicity.proofs.Words.{IsTraceOfCommit, ReadOnly, LogState, any_asked, branch_by, AreLeftAlone, AreLeftOrDecided, OnlyTheseName}
-use Rattle.xa_atomicity.proofs.Words.{OnlyTheseOrDecisionsName, IsDecidedAfter, KeepsItsVote, TellsTheFate, undecided, decided, told_fate, EachOutcome}
-use Rattle.xa_atomicity.proofs.Words.{KeepsTheVotes, TellsTheFates, has_committed, is_rolled_back, is_heuristic, is_left, is_read_only, sent_so_far, Shares}
-use Rattle.xa_atomicity.proofs.Words.{CountsTheCommitted, HasAllOrNothing, Tabled, is_committed, false_from_ne_true, or-false}
-use Rattle.xa_switch.specs.{collected}
+use Rattle.xa_base.proofs.{◌≡◌, ℕ, suc, Bool, true, false, ◌||◌, List, [], ◌∷◌, ◌++◌, length, length-append, append_assoc, slice_get, refl, ap, ◌∙◌, subst}
+use Rattle.xa_base.proofs.{arith, Option, Some, All, list_any-append, all_mid, begins_on, at_false, at_true, ◌+◌, All-contains, All-head, All-tail, Contains}
+use Rattle.xa_base.proofs.{list_any, zero, ◌≤◌, if◌then◌else◌, sym, ⊎_elim, le-leb, cases_lt, or_parts, not-true, pos, ◌⊎◌, or-true, false_from_ne_true}
+use Rattle.xa_base.proofs.{or-false}
+use Rattle.xa_base.specs.{Begins}
+use Rattle.xa_words.specs.{Code, Op, TranName, XidName, Request}
+use Rattle.xa_tables.specs.{Tables, History, coded, HeuristicDecision, state_of, next, told_by, Fate, IsFateOf, fate, decided_fate, tables_after}
+use Rattle.xa_desk.specs.{LedgerView, is_rm_fail, learnt_shut, with_sent, with_collected, numbered, ledger, no_ledger, is_known, HasGrown, HaveGrown, DeskView}
+use Rattle.xa_switch.specs.{collected, answers, Settling, IsSettled, sent, IsOpenedWith, ledgers_of, history as history_of}
+use Rattle.xa_driver.specs.{Done, Branch, Ending, AtBranch, AsksLedger, is_yes, is_no, ending_of, second_op, third_op, EachBranch, IsCommit, IsTraceOfCommit}
+use Rattle.xa_driver.specs.{ReadOnly}
+use Rattle.xa_driver.proofs.Mapped.{branch_mapped, any_asked, branch_by}
+use Rattle.xa_driver.proofs.Traces.{asked_grows}
+use Rattle.xa_desk.proofs.Growth.{as_it_was, grown_on}
+use Rattle.xa_log.specs.{LogState}
+use Rattle.xa_atomicity.specs.{is_in_doubt, is_decided, AreLeftAlone, AreLeftOrDecided, OnlyTheseName, OnlyTheseOrDecisionsName, IsDecidedAfter, KeepsItsVote}
+use Rattle.xa_atomicity.specs.{TellsTheFate, undecided, decided, told_fate, EachOutcome, KeepsTheVotes, TellsTheFates, has_committed, is_rolled_back}
+use Rattle.xa_atomicity.specs.{is_heuristic, is_left, is_read_only, sent_so_far, Shares, CountsTheCommitted, HasAllOrNothing, Tabled}
+use Rattle.xa_atomicity.specs.Outcomes.{is_committed}
 use Rattle.xa_desk.proofs.Ledgers.{past_end}
-use Rattle.xa_driver.specs.{Done}
-use Rattle.xa_atomicity.specs.{is_in_doubt, is_decided}
 use Rattle.xa_tables.specs.Histories as history
 use Rattle.xa_atomicity.proofs.Sites.{Site, StandsIn, Sent, AsksIn, stands_by, at_seam, IsFromTo, own_between}
 use Rattle.xa_atomicity.proofs.Courses.{Course, course_of, own_plain}

@@ -1,11 +1,19 @@
 -- Where the requests of one thread stand in its manager's settled history, by their numbers, and what they were answered.
-use Rattle.xa_atomicity.proofs.Words.{map-append, ◌≡◌, ◌≢◌, ℕ, zero, suc, ◌+◌, ◌<◌, true, false, ◌==◌, cond, List, [], ◌∷◌, ◌++◌, length, map, slice_get}
-use Rattle.xa_atomicity.proofs.Words.{get_or, sym, refl, ap, ◌∙◌, arith, Option, Some, None, filter, cons_option, eq-eqb, filter-append, some_pair_parts}
-use Rattle.xa_atomicity.proofs.Words.{XidName, Op, Request, Code, Tables, next, Fate, of_thread, tables_after, coded, fate_of, fate_in, fates_in, last_or}
-use Rattle.xa_atomicity.proofs.Words.{History, numbered, Entry, answers, rules, Bool, ◌≤◌, length-append, subst, eqb-false, ne_eqb, list_any, All, All-nil}
-use Rattle.xa_atomicity.proofs.Words.{All-cons, slice_get_within, and_right, closes, is_close, All-contains, Contains, ◌-◌, ◌||◌, some_same, all_left}
-use Rattle.xa_atomicity.proofs.Words.{all_after, RmFail, IsOpening, tables_after-append, is_rm_fail, Tabled, both_ways, false_from_ne_true, all_at}
-use Rattle.xa_atomicity.proofs.Words.{next_there, take-append-drop, take, drop, get_or_from_slice_get, list_any_at, filter_map-append}
+use Rattle.xa_base.proofs.{map-append, ◌≡◌, ◌≢◌, ℕ, zero, suc, ◌+◌, ◌<◌, true, false, ◌==◌, cond, List, [], ◌∷◌, ◌++◌, length, map, slice_get, get_or, sym}
+use Rattle.xa_base.proofs.{refl, ap, ◌∙◌, arith, Option, Some, None, filter, cons_option, eq-eqb, filter-append, rules, Bool, ◌≤◌, length-append, subst}
+use Rattle.xa_base.proofs.{eqb-false, ne_eqb, list_any, All, All-nil, All-cons, slice_get_within, All-contains, Contains, ◌-◌, ◌||◌, some_same, all_left}
+use Rattle.xa_base.proofs.{all_after, false_from_ne_true, all_at, next_there, take-append-drop, take, drop}
+use Rattle.std.proofs.lemmas.Option.{some_pair_parts, get_or_from_slice_get}
+use Rattle.xa_words.specs.{XidName, Op, Request, Code, RmFail}
+use Rattle.xa_tables.specs.{Tables, next, Fate, of_thread, tables_after, coded, fate_of, fate_in, fates_in, last_or, History, closes, is_close, IsOpening}
+use Rattle.xa_desk.specs.{numbered, is_rm_fail}
+use Rattle.xa_worker.specs.{Entry}
+use Rattle.xa_switch.specs.{answers}
+use Rattle.std.proofs.lemmas.Bool.{and_right, both_ways}
+use Rattle.xa_tables.proofs.Unnamed.{tables_after-append}
+use Rattle.xa_atomicity.specs.{Tabled}
+use Rattle.std.proofs.lemmas.List.Folds.{list_any_at}
+use Rattle.std.proofs.lemmas.List.Elements.{filter_map-append}
 use Rattle.xa_driver.proofs.Ledgers.{numbered_length}
 use Rattle.xa_tables.proofs.WorkLaw.{others_first}
 use Rattle.std.proofs.lemmas.List.{get_or-append_right, get_or_append_left, length-take-le}

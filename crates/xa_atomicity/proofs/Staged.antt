@@ -1,15 +1,18 @@
 -- Each stage of a commit is one that was cut short, whatever else was done between them; and so is a commit whose
 -- coordinator died.
-use Rattle.xa_atomicity.proofs.Words.{◌≡◌, ℕ, zero, suc, Bool, Option, Some, None, List, [], ◌∷◌, arith, length, refl, subst, All, All-nil, All-cons}
-use Rattle.xa_atomicity.proofs.Words.{TranName, Death, Op, Code, LedgerView, DeskView, ledger, Branch, Ending, IsBegun, collected, in_flight, unasked, Dies}
-use Rattle.xa_atomicity.proofs.Words.{HaveAsked, HaveTold, PutsLedger, Tells, VotesAndHears, VotesAndObeys, withheld, second_op, AsksLedger, EachBranch}
-use Rattle.xa_atomicity.proofs.Words.{IsTranOf, MayCommit, decision_of, one_tran, trace_for, LogState, CameSoFar, DidOther, EachVote, IsAsked, IsCut, IsEnded}
-use Rattle.xa_atomicity.proofs.Words.{IsTold, asking, forgetting, telling, true, not, ◌&&◌, ◌||◌, map, inl, inr, get_or, sym, ap, ◌∙◌, All-head, All-tail}
-use Rattle.xa_atomicity.proofs.Words.{Prepare, Decided, Told, Ask, EachAsk, HaveComeSoFar, SameAsks, decides_commit, has_yes, yes_of, third_op, ending_of}
-use Rattle.xa_atomicity.proofs.Words.{code_of, ending_of_ask, first_ask, second_ask, third_ask, yes_asked, HasDecided, HasPrepared, HasTold, HasVoted, Logs}
-use Rattle.xa_atomicity.proofs.Words.{appended, wants_record, LeavesBranches, IsEither, with_record, first_trace, second_code, second_is, second_trace}
-use Rattle.xa_atomicity.proofs.Words.{yes_is, same_itself, rules}
-use Rattle.xa_driver.specs.{Done, Prepared}
+use Rattle.xa_base.proofs.{◌≡◌, ℕ, zero, suc, Bool, Option, Some, None, List, [], ◌∷◌, arith, length, refl, subst, All, All-nil, All-cons, true, not, ◌&&◌}
+use Rattle.xa_base.proofs.{◌||◌, map, inl, inr, get_or, sym, ap, ◌∙◌, All-head, All-tail, rules}
+use Rattle.xa_words.specs.{TranName, Death, Op, Code, Prepare}
+use Rattle.xa_desk.specs.{LedgerView, DeskView, ledger}
+use Rattle.xa_driver.specs.{Done, Prepared, Branch, Ending, IsBegun, collected, in_flight, unasked, Dies, HaveAsked, HaveTold, PutsLedger, Tells, VotesAndHears}
+use Rattle.xa_driver.specs.{VotesAndObeys, withheld, second_op, AsksLedger, EachBranch, IsTranOf, MayCommit, decision_of, Decided, Told, Ask, EachAsk}
+use Rattle.xa_driver.specs.{HaveComeSoFar, SameAsks, decides_commit, has_yes, yes_of, third_op, ending_of, code_of, ending_of_ask, first_ask, second_ask}
+use Rattle.xa_driver.specs.{third_ask, yes_asked, HasDecided, HasPrepared, HasTold, HasVoted, Logs, appended, wants_record}
+use Rattle.xa_driver.proofs.Calls.{one_tran, first_trace, second_code, second_is, second_trace, yes_is}
+use Rattle.xa_driver.proofs.Traces.{trace_for}
+use Rattle.xa_log.specs.{LogState, IsEither, with_record}
+use Rattle.xa_atomicity.specs.{CameSoFar, DidOther, EachVote, IsAsked, IsCut, IsEnded, IsTold, asking, forgetting, telling, LeavesBranches}
+use Rattle.xa_driver.proofs.Gathering.{same_itself}
 use Rattle.xa_driver.specs.Deaths.{sent}
 use Rattle.xa_driver.specs.Asks.{Asks}
 use Rattle.xa_words.specs.declared.death.Death.TheVariants as death

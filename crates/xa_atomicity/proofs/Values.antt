@@ -1,16 +1,18 @@
 -- What a branch that nobody else named counts for, over the settled history of its manager: what the requests of one thread
 -- move there, the share that a value has of an addition, by the fates of its branch, and both for a branch of a call.
-use Rattle.xa_atomicity.proofs.Words.{by_if, false_from_ne_true, and_parts, eqb-true, le-leb, ℤ, pos, ◌+ℤ◌, nat_le, if◌then◌else◌, ◌≡◌, ℕ, suc, ◌<◌, ◌≤◌}
-use Rattle.xa_atomicity.proofs.Words.{Bool, true, false, ◌==◌, ◌&&◌, List, [], ◌∷◌, ◌++◌, length, get_or, sym, refl, ap, ◌∙◌, arith, eq-eqb, All, ints}
-use Rattle.xa_atomicity.proofs.Words.{and-false, +ℤ_idl as none_plus, +ℤ_idr as plus_none, Answer, next, tables_after, is_done, moved, held_by, Tables}
-use Rattle.xa_atomicity.proofs.Words.{History, lt-leb, leb-true, leb-false, Op, Commit, Heur, Request, Code, is_commit, taken_before, option_map}
-use Rattle.xa_atomicity.proofs.Words.{append_assoc, Option, Some, None, cons_option, XidName, Decides-key_eq, Prepare, Association, association_of, Fate}
-use Rattle.xa_atomicity.proofs.Words.{added_by, coded, commits_later, ending, ending_by, fate_of, or_later, share, EndsNowhere, tables_after-append}
-use Rattle.xa_atomicity.proofs.Words.{IsAddition, prepare_of, both_ways, at_true, ◌≢◌, subst, all_left, all_after, Done, RdOnly, RmFail, Rollback}
-use Rattle.xa_atomicity.proofs.Words.{xid_self, names, NamesNowhere, is_forget, unnamed_fate, Ending, ReadOnly, RolledBack, Left, is_yes, yes_ending}
-use Rattle.xa_atomicity.proofs.Words.{no_ending, IsBetween, OnlyTheseName, is_read_only as is_read_only_ending, none_later, is_committed, All-cons}
-use Rattle.xa_atomicity.proofs.Words.{cases_Bool, outcome_op, by_bool, xid_eq, commit_fate, All-append}
-use Rattle.xa_tables.specs.{moved_by}
+use Rattle.xa_base.proofs.{by_if, false_from_ne_true, and_parts, eqb-true, le-leb, ℤ, pos, ◌+ℤ◌, nat_le, if◌then◌else◌, ◌≡◌, ℕ, suc, ◌<◌, ◌≤◌, Bool, true}
+use Rattle.xa_base.proofs.{false, ◌==◌, ◌&&◌, List, [], ◌∷◌, ◌++◌, length, get_or, sym, refl, ap, ◌∙◌, arith, eq-eqb, All, ints, and-false, +ℤ_idl as none_plus}
+use Rattle.xa_base.proofs.{+ℤ_idr as plus_none, option_map, append_assoc, Option, Some, None, cons_option, at_true, ◌≢◌, subst, all_left, all_after, All-cons}
+use Rattle.xa_base.proofs.{cases_Bool, by_bool, All-append}
+use Rattle.xa_tables.specs.{moved_by, Answer, next, tables_after, is_done, moved, held_by, Tables, History, Association, association_of, Fate, added_by, coded}
+use Rattle.xa_tables.specs.{commits_later, ending, ending_by, fate_of, or_later, share, EndsNowhere, names, NamesNowhere, is_forget, commit_fate}
+use Rattle.std.proofs.lemmas.Bool.{lt-leb, leb-true, leb-false, both_ways}
+use Rattle.xa_words.specs.{Op, Commit, Heur, Request, Code, XidName, Decides-key_eq, Prepare, Done, RdOnly, RmFail, Rollback, xid_eq}
+use Rattle.xa_driver.specs.{is_commit, Ending, ReadOnly, RolledBack, Left, is_yes, yes_ending, no_ending, outcome_op}
+use Rattle.xa_atomicity.specs.{taken_before, IsAddition, prepare_of, IsBetween, OnlyTheseName, is_read_only as is_read_only_ending, none_later}
+use Rattle.xa_tables.proofs.Unnamed.{tables_after-append, unnamed_fate}
+use Rattle.xa_words.proofs.Xids.{xid_self}
+use Rattle.xa_atomicity.specs.Outcomes.{is_committed}
 use Rattle.xa_tables.specs.Histories as history
 use Rattle.xa_atomicity.proofs.Sites.{request_of, fates, fates_both, none_first, Site, StandsIn, below, at_place, Second, second_of}
 use Rattle.xa_atomicity.proofs.Courses.{Unreached, Reads, Breaks, Stays, Agrees, Refuses, yes_is, read_is, Sends, SendsOne, Course, rest_forgets, one_own}

@@ -11,9 +11,8 @@ use Rattle.xa_desk.specs.{LedgerView, ledger, numbered}
 use Rattle.xa_worker.specs.{Entry}
 use Rattle.xa_switch.specs.{Settling, IsSettled, sent, journal, answers, IsOpenedWith, history, ledgers_of}
 use Rattle.xa_atomicity.specs.{taken_before, IsBetween}
-use Rattle.xa_atomicity.proofs.Sites.{all_earlier}
+use Rattle.xa_atomicity.proofs.Sites.{all_earlier, request_of, Parted, part, all_others, answer_at, numbered_both}
 use Rattle.xa_atomicity.proofs.Settled.{by_ledger}
-use Rattle.xa_atomicity.proofs.Sites.{request_of, Parted, part, all_others, answer_at, numbered_both}
 use Rattle.xa_driver.proofs.Ledgers.{numbered_length}
 use Rattle.xa_bank.specs.{Leg}
 use Rattle.xa_bank.proofs.Legs.{LegWorked}

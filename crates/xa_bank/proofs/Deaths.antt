@@ -1,7 +1,6 @@
 -- A commit whose coordinator died once all branches were told was made, where no ending tells a decision of a store's own.
-use Rattle.xa_base.proofs.{arith, ◌≡◌, Bool, true, false, ◌||◌, Option, Some, None, List, [], ◌∷◌, refl, sym, ap, ◌∙◌, subst, list_any, or_parts, at_true}
-use Rattle.xa_base.proofs.{at_false}
-use Rattle.xa_words.specs.{XidName, Op, Code}
+use Rattle.xa_base.proofs.{arith, ◌≡◌, Bool, true, false, ◌||◌, Option, Some, None, List, [], ◌∷◌, list_any, or_parts, at_true, at_false}
+use Rattle.xa_words.specs.{XidName, Code}
 use Rattle.xa_words.specs.declared.death.Death.TheVariants as death
 use Rattle.xa_tables.specs.{is_rolled_back}
 use Rattle.xa_desk.specs.{LedgerView, DeskView, ledger}

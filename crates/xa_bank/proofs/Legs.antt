@@ -1,9 +1,8 @@
 -- The work of a transfer's two legs: each has one addition.
-use Rattle.xa_base.proofs.{◌≡◌, ◌≢◌, ℕ, ◌+◌, List, [], ◌∷◌, ◌++◌, length, map, refl, ap, ◌∙◌, arith, eq-eqb, range_with_len, ne_eqb, all_at}
+use Rattle.xa_base.proofs.{◌≡◌, ◌≢◌, ℕ, ◌+◌, List, [], ◌∷◌, ◌++◌, length, arith, eq-eqb, range_with_len, ne_eqb, all_at}
 use Rattle.xa_words.specs.{Done as Ok_, Op, Start, Add, End, Fresh, Success}
-use Rattle.xa_driver.specs.{Branch}
 use Rattle.xa_desk.specs.{LedgerView, ledger}
-use Rattle.xa_work.specs.{Change, HasWorked, HaveWorked, changes_at, ops_of}
+use Rattle.xa_work.specs.{Change, HasWorked, HaveWorked, changes_at}
 use Rattle.xa_bank.specs.{Leg, branches_of, change_of, changes_of}
 
 -- a leg, for laws of other crates

@@ -1,5 +1,4 @@
 -- What a log may be read as matters only to a transfer of which nobody knows whether its record was made.
-use Rattle.std.proofs.Common.{arith}
 use Rattle.xa_base.proofs.{◌≡◌, ℕ, ◌+◌, Bool, true, false, refl, List, [], ◌∷◌, list_any, or_parts}
 use Rattle.xa_words.specs.{TranName, Code}
 use Rattle.xa_desk.specs.{DeskView}

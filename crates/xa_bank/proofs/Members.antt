@@ -5,7 +5,7 @@ use Rattle.xa_base.proofs.{Option, Some, None, length-map, slice_get_within, got
 use Rattle.xa_base.specs.{Chain}
 use Rattle.xa_base.specs.Lists.Chain.{none, more}
 use Rattle.xa_words.specs.{Op}
-use Rattle.xa_desk.specs.{LedgerView, DeskView, ledger, after_collected, sent_to, DeskSeat, GoesOn}
+use Rattle.xa_desk.specs.{DeskView, sent_to, DeskSeat, GoesOn}
 use Rattle.xa_desk.proofs.Fresh.{fresh_sent}
 use Rattle.xa_desk.proofs.Ledgers.{nobody_sent}
 use Rattle.xa_switch.specs.{thread_part, ledgers_of, IsNewDesk, Setup, ThreadPart, find_thread, ledgers_in, sent, Settling}

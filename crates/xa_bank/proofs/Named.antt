@@ -1,5 +1,4 @@
 -- Which branches a teller's requests name: those of its own transfers, each in its own time.
-use Rattle.std.proofs.Common.{rules}
 use Rattle.xa_base.proofs.{◌≡◌, ◌≢◌, ℕ, suc, ◌+◌, ◌^◌, ◌<◌, ◌≤◌, true, false, ◌||◌, List, [], ◌∷◌, ◌++◌, length, sym, refl, ap, ◌∙◌, subst, arith, Option, Some}
 use Rattle.xa_base.proofs.{None, ℤ, pos, ◌+ℤ◌, ints}
 use Rattle.std.specs.Prelude.{neg_ℤ}

@@ -1,7 +1,6 @@
 -- A teller's thread makes only transfers.
-use Rattle.std.proofs.Common.{rules}
-use Rattle.xa_base.proofs.{ℤ, pos, ◌+ℤ◌, ◌≡◌, ℕ, suc, ◌+◌, ◌^◌, ◌<◌, ◌≤◌, false, ◌||◌, List, [], ◌∷◌, ◌++◌, length, length-append, append_assoc, sym, refl, ap}
-use Rattle.xa_base.proofs.{◌∙◌, subst, arith, None, Option, All, list_any, ints, cases_lt, All-nil, All-cons, All-head, All-tail, All-weaker}
+use Rattle.xa_base.proofs.{rules, ℤ, pos, ◌+ℤ◌, ◌≡◌, ℕ, suc, ◌+◌, ◌^◌, ◌<◌, ◌≤◌, false, ◌||◌, List, [], ◌∷◌, ◌++◌, length, length-append, append_assoc, sym}
+use Rattle.xa_base.proofs.{refl, ap, ◌∙◌, subst, arith, None, Option, All, list_any, ints, cases_lt, All-nil, All-cons, All-head, All-tail, All-weaker}
 use Rattle.xa_words.specs.{XidName, Death, Op}
 use Rattle.xa_words.specs.declared.death.Death.TheVariants as death
 use Rattle.xa_tables.specs.{Tables, opening, IsOpening, AddsAsItWorks, History}
@@ -146,9 +145,6 @@ module _ (adds : (t n : ℕ) (x : XidName) (k : List ℕ) (d : ℤ) (h : History
 
     second_up : 1 ≤ two.branch.m
     second_up = let up = made.may.rising.0 in let on = made.may.rising.1.0 in omega (arith, up, on)
-
-    abbrev IsAlone : Branch → Type 0
-    IsAlone b = OnlyTheseName b.xid t (length (ledger desk.ledgers b.m).sent) (length (ledger new b.m).sent) (history s b.m)
 
     both_alone : AreLeftAlone s t (branches_of one two) (sent_so_far desk.ledgers) (sent_so_far new)
     both_alone = search (arith, All-cons, left_alone, first_up, both_worked, second_up, All-nil)

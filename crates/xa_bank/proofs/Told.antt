@@ -1,6 +1,5 @@
 -- Which requests of a settled journal name a branch: those of its own transfer, where each thread's requests name only the
 -- branches of its own transfers.
-use Rattle.std.proofs.Common.{rules}
 use Rattle.xa_base.proofs.{◌≡◌, ◌≢◌, ℕ, suc, ◌+◌, ◌^◌, ◌<◌, ◌≤◌, ◌⊎◌, ⊎_elim, true, false, ◌==◌, cond, List, [], ◌∷◌, ◌++◌, length, get_or, sym, refl, ap, ◌∙◌}
 use Rattle.xa_base.proofs.{subst, arith, eq-eqb, All, cases_eq, eqb-false, All-nil, All-cons, All-head, All-tail, All-append, All-weaker, all_right}
 use Rattle.xa_words.specs.{XidName, Op, Request}
@@ -8,8 +7,7 @@ use Rattle.xa_tables.specs.{History, of_thread, names}
 use Rattle.xa_desk.specs.{LedgerView, ledger, numbered}
 use Rattle.xa_switch.specs.{Settling, IsSettled, sent, history}
 use Rattle.xa_atomicity.specs.{IsBetween, OnlyTheseName}
-use Rattle.xa_atomicity.proofs.Sites.{request_of}
-use Rattle.xa_atomicity.proofs.Sites.{all_later}
+use Rattle.xa_atomicity.proofs.Sites.{request_of, all_later}
 use Rattle.xa_work.specs.{HaveSent}
 use Rattle.xa_bank.proofs.Named.{IsOf, Names, names_as, one_transfer, IsFrom}
 

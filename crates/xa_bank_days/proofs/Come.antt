@@ -21,8 +21,7 @@ use Rattle.xa_words.proofs.Xids.{xid_self}
 use Rattle.xa_tables.specs.{names, is_heur}
 use Rattle.xa_log.proofs.Transactions.{tran_cmp_total, tran_cmp-IsAntisymmetric}
 use Rattle.xa_atomicity.proofs.CutVotes.{finished_law}
-use Rattle.xa_atomicity.proofs.Staged.{died_is_cut}
-use Rattle.xa_atomicity.proofs.Staged.{nothing_between, undecided_is_cut}
+use Rattle.xa_atomicity.proofs.Staged.{died_is_cut, nothing_between, undecided_is_cut}
 use Rattle.xa_work.specs.{WorkOutcome, HasSent, ComesOfCommit, IfLost}
 use Rattle.xa_work.specs.Units.ComesOfCommit.{cut_short, in_full, undecided}
 use Rattle.xa_work.proofs.Sent.{none_sent}

@@ -20,7 +20,7 @@ use Rattle.xa_driver.specs.{Outcome, is_commit, is_to_commit, names as names_man
 use Rattle.xa_driver.proofs.Mapped.{Asks}
 use Rattle.xa_atomicity.specs.{is_recorded, IsUseIn, OnlyResolves, ResolveCall, resolves, with_use, Opening}
 use Rattle.xa_atomicity.proofs.Later.{ends_with}
-use Rattle.xa_atomicity.proofs.Naming.{named_so, named_tran}
+use Rattle.xa_atomicity.proofs.CutVotes.{named_so, named_tran}
 use Rattle.xa_atomicity.proofs.NextOpening.{scan_of}
 use Rattle.xa_atomicity.proofs.Resolves.{left_has, outcome_left}
 use Rattle.xa_work.specs.{WorkOutcome}

@@ -10,7 +10,7 @@ use Rattle.xa_switch.specs.{Again, IsWhole, MayReopen, managers_in, reopened_at,
 use Rattle.xa_switch.specs.{history, IsSettled, value_in}
 use Rattle.xa_switch.proofs.Journaled.{begun, follows_first}
 use Rattle.xa_log.specs.{LogState}
-use Rattle.xa_atomicity.proofs.Scanned.{was_there}
+use Rattle.xa_atomicity.proofs.NextOpening.{was_there}
 use Rattle.xa_crew.specs.{WithScan, Attended, AgainWorks, IsRunAgain, WorksWithScan}
 use Rattle.xa_bank.specs.{Teller, Works, WorksOn, Habits, Transfer}
 use Rattle.xa_bank.proofs.Members.{MemberAt, member_at, nobody_else}
@@ -22,7 +22,7 @@ use Rattle.std.specs.Prelude.{MatchResult}
 use Rattle.xa_driver.specs.{Resolved, Outcome}
 use Rattle.xa_tables.proofs.WorthLaw.{declared_on}
 use Rattle.xa_bank_days.proofs.Went.{are_read_back}
-use Rattle.xa_atomicity.proofs.Requests.{none_all}
+use Rattle.xa_atomicity.proofs.Sites.{none_all}
 
 -- lists that are mapped to one list are as long
 pub same_length : {A B C : Type 0} (f : A → C) (g : B → C) (xs : List A) (ys : List B) → map f xs ≡ map g ys → length xs ≡ length ys

@@ -9,8 +9,8 @@ use Rattle.xa_base.proofs.{eqb-true, length-range_with_len, get_or-range_with_le
 use Rattle.std.proofs.lemmas.List.Elements.{All-filter, Contains-get_or}
 use Rattle.xa_base.specs.{Chain, none as no_step, more as one_step, IsUpTo, MOST_MANAGERS}
 use Rattle.xa_words.specs.{XidName, RmFail, Op, OpenRm, Commit, Rollback, Forget, Request, Code, TranName}
-use Rattle.xa_tables.specs.{State, HeuristicallyCompleted, decision_in, Answer, next, by_rules, coded, is_rolled_back, Tables, History, of_thread, tables_after}
-use Rattle.xa_tables.specs.{opening}
+use Rattle.xa_tables.specs.{State, is_S5, HeuristicallyCompleted, decision_in, Answer, next, by_rules, coded, is_rolled_back, Tables, History, of_thread}
+use Rattle.xa_tables.specs.{tables_after, opening}
 use Rattle.xa_tables.proofs.Effects.{reason_rolls_back}
 use Rattle.xa_desk.specs.{LedgerView, is_rm_fail, learnt_shut, new_ledgers, no_ledger, room_at, DeskView, ledger, numbered}
 use Rattle.xa_worker.specs.{Entry, requests}
@@ -32,7 +32,7 @@ use Rattle.xa_atomicity.specs.{IsBetween, OnlyResolves, ResolveCall, resolve_cal
 use Rattle.xa_atomicity.proofs.Sites.{all_earlier, own_all}
 use Rattle.xa_atomicity.proofs.Resolves.{outcome_at, resolve_sends}
 use Rattle.xa_atomicity.proofs.Settled.{by_ledger}
-use Rattle.xa_atomicity.proofs.Voting.{learnt_on}
+use Rattle.xa_atomicity.proofs.Guided.{learnt_on}
 use Rattle.xa_crew.specs.{WithScan, Attended, IsRunAgain, WorksWithScan, IsRun}
 use Rattle.xa_work.specs.{HasSent}
 use Rattle.xa_bank.specs.{Teller}
@@ -70,9 +70,9 @@ rolled_back : (c : Code) → is_rolled_back c ≡ true → is_rm_fail c ≡ fals
 rolled_back RmFail e = cc
 rolled_back c e = refl
 
-decided : (o : Option State) → is_rm_fail (decision_in o) ≡ false
-decided (Some (HeuristicallyCompleted decision.Commit)) = refl
-decided o = refl
+decided : (o : Option State) → is_S5 o ≡ true → is_rm_fail (decision_in o) ≡ false
+decided (Some (HeuristicallyCompleted decision.Commit)) e = refl
+decided o e = refl
 
 says : (T : Tables) (c : Code) → T.shut ≡ false → is_rm_fail c ≡ false → StaysOpen (T, c)
 says T c o e = record { code = e; open_ = o }

@@ -15,10 +15,9 @@ use Rattle.xa_driver.specs.{is_commit, Branch, Outcome, is_to_commit as is_marke
 use Rattle.xa_driver.proofs.Ledgers.{numbered_length}
 use Rattle.xa_atomicity.specs.{taken_before, IsBetween, is_recorded, OnlyTheseOrDecisionsName, AskedAreLeft, IsResolvedAfter, WasAsked, CutCall, IsOutcomeOf}
 use Rattle.xa_atomicity.specs.{IsUseIn, OnlyResolves, Opening, ResolveCall, cut_call, cuts, resolves, with_use}
-use Rattle.xa_atomicity.proofs.Moves.{taken_is}
-use Rattle.xa_atomicity.proofs.Naming.{prepare_part}
-use Rattle.xa_atomicity.proofs.Placing.{answer_at, request_of, same_code}
-use Rattle.xa_atomicity.proofs.Requests.{IsFromTo, all_earlier, own_between}
+use Rattle.xa_atomicity.proofs.Values.{taken_is}
+use Rattle.xa_atomicity.proofs.CutVotes.{prepare_part}
+use Rattle.xa_atomicity.proofs.Sites.{answer_at, request_of, same_code, IsFromTo, all_earlier, own_between}
 use Rattle.xa_atomicity.proofs.Settled.{by_ledger}
 use Rattle.xa_days.specs.{CommitsNowhere, DecidesNowhere, IsMarkedNowhere, Leg, IsItsOwn, leg_of, OnlyRead, ComesOutByTheLog}
 use Rattle.xa_days.proofs.AtWork.{work_held, work_never_reads}
@@ -32,7 +31,7 @@ use Rattle.xa_base.specs.{MOST_MANAGERS, IsUpTo}
 use Rattle.xa_log.specs.{LogState, Records, record_in, record_of}
 use Rattle.xa_atomicity.proofs.NextOpening.{next_resolved_after, one_of}
 use Rattle.xa_days.proofs.Legs.{after_seam, tran_each}
-use Rattle.xa_days.specs.Settled.{voted, unasked}
+use Rattle.xa_days.specs.SettledDays.{voted, unasked}
 use Rattle.xa_bank.specs.{branches_of, changes_of}
 use Rattle.xa_bank_days.specs.{IsResolvedBy}
 

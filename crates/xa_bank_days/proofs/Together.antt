@@ -21,7 +21,7 @@ use Rattle.xa_bank_days.proofs.Went.{AreKnown, each_keeps, lost_last, named_once
 use Rattle.xa_bank_days.proofs.Made.{CameOut, HasNoCommit, IsFoundSo, is_leg, IsStore, Noted, NotedSent, TransferAt, next_at, noted_none, LegsSo, both_legs}
 use Rattle.xa_bank_days.proofs.Made.{counts_for, no_legs, legs_as, total_append}
 use Rattle.xa_bank_days.proofs.Out.{IsScene, BranchesComeOut}
-use Rattle.xa_atomicity.proofs.Requests.{own_all}
+use Rattle.xa_atomicity.proofs.Sites.{own_all}
 use Rattle.xa_atomicity.proofs.Settled.{by_ledger}
 use Rattle.xa_bank.proofs.Members.{of_threads}
 

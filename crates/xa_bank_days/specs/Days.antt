@@ -149,7 +149,8 @@ pub record IsResolvedBy (records : Records) (s : Settling) (again : Again) (q : 
   pub only : (t : TranName) → OnlyResolves t (with_use next (resolves q))
   pub reached : All (λ r. r.code ≢ RmFail) q.outcomes
 
--- A day of tellers, what their logs were found to have in the evening, and the night that resolved by them what was left.
+-- A day of tellers, what their logs were found to have in the evening, and the night that resolved by them what was
+-- left.
 pub record DayAndNight {L : Type 0} (state : L → LogState) (knows : L → Type 0)
     (loses : TranName → List Bool → L → L → Type 0) : Type 0 where
   pub s : Settling

@@ -1,7 +1,6 @@
 -- What is outstanding stays kept under a number, as a desk calls and collects.
-use Rattle.std.proofs.Common.{arith, rules}
-use Rattle.xa_base.proofs.{◌≡◌, ◌≢◌, ℕ, ℤ, ⊎_elim, zero, suc, Bool, true, false, List, Option, Some, None, Result, Ok, Err, sym, refl, ap, ◌∙◌, subst, inl, inr}
-use Rattle.xa_base.proofs.{cases_eq, cases_Bool, nat_cmp, inserted_there, inserted_other, removed_other, not_both}
+use Rattle.xa_base.proofs.{arith, rules, ◌≡◌, ◌≢◌, ℕ, ℤ, ⊎_elim, zero, suc, Bool, true, false, List, Option, Some, None, Result, Ok, Err, sym, refl, ap, ◌∙◌}
+use Rattle.xa_base.proofs.{subst, inl, inr, cases_eq, cases_Bool, nat_cmp, inserted_there, inserted_other, removed_other, not_both}
 use Rattle.std.specs.FinMap as finmap
 use Rattle.xa_words.specs.{Code, Inval, Mode, Op}
 use Rattle.xa_desk.specs.{Operation, IsKnown, IsOut, is_known, next_operation, outstanding, AllKept, HoldsNone, submitted, after_fulls, EndsQuiet, Collects}

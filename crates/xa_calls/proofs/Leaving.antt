@@ -1,5 +1,5 @@
 -- What calls leave, one after another.
-use Rattle.std.proofs.Common.{arith}
+use Rattle.xa_base.proofs.{arith}
 use Rattle.xa_desk.specs.{DeskView, GoesOn}
 use Rattle.xa_calls.specs.{CallLeaves}
 

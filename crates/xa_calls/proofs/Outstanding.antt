@@ -1,12 +1,12 @@
 -- What is outstanding as operations are sent and collected.
-use Rattle.xa_base.proofs.{◌≡◌, ◌≢◌, ℕ, ◌+◌, ◌-◌, ◌<◌, ◌≤◌, ◌⊎◌, suc, false, true, ◌||◌, nat_eq, List, [], ◌∷◌, length, sym, refl, ap, ◌∙◌, subst, inl, inr}
-use Rattle.xa_base.proofs.{arith, length-append, slice_index_or, length-map, cases_eq, cases_Bool, eqb-false, or_parts}
+use Rattle.xa_base.proofs.{◌≡◌, ◌≢◌, ℕ, ◌+◌, ◌-◌, ◌<◌, ◌≤◌, ◌⊎◌, suc, false, true, nat_eq, List, [], ◌∷◌, length, sym, refl, subst, inl, inr, arith}
+use Rattle.xa_base.proofs.{length-append, slice_index_or, length-map, cases_eq, cases_Bool, eqb-false, or_parts}
 use Rattle.std.proofs.Common.{sum_by}
 use Rattle.std.proofs.lemmas.List.Sums.{sum_by-cons}
 use Rattle.std.proofs.lemmas.Map.Steps.{le-length_from_below}
 use Rattle.xa_words.specs.{Op, Code}
-use Rattle.xa_desk.specs.{Operation, numbers, is_collected, with_sent, with_collected, IsKnown, IsOut, ledger, no_ledger, put_ledger, after_sent}
-use Rattle.xa_desk.specs.{after_collected, next_operation, outstanding, LedgerView}
+use Rattle.xa_desk.specs.{Operation, numbers, is_collected, with_sent, with_collected, IsKnown, IsOut, ledger, no_ledger, after_sent, after_collected}
+use Rattle.xa_desk.specs.{next_operation, outstanding, LedgerView}
 use Rattle.xa_desk.proofs.Ledgers.{same_operation, is_collected-push, ledger-put_same, ledger-put_other, known_before}
 
 -- what is outstanding after a sending is what was sent, or was outstanding before

@@ -1,10 +1,9 @@
 -- What a scan does to a desk, and what it writes.
-use Rattle.std.proofs.Common.{rules}
 use Rattle.xa_base.proofs.{◌≡◌, ℕ, ℤ, zero, suc, Bool, true, false, Option, None, ◌+◌, ◌-◌, ◌<◌, Some, Result, Ok, Err, List, [], ◌∷◌, ◌++◌, length, take, drop}
-use Rattle.xa_base.proofs.{set, refl, sym, ap, ◌∙◌, subst, arith, length-append, append_assoc, is_some, option_map, slice_get, length-drop, take_all}
+use Rattle.xa_base.proofs.{set, refl, sym, ap, subst, arith, length-append, append_assoc, is_some, option_map, slice_get, length-drop, take_all}
 use Rattle.xa_words.specs.{XidName, Done, Nota, check_flags, Mode, Op, Listed, Code}
 use Rattle.xa_words.specs.declared.flags.Call.TheVariants as call
-use Rattle.xa_desk.specs.{Refused, NoSuchManager, Shut, TooMany, Spent, Full, call_refusal, is_known, AllKept, after_fulls, DeskView}
+use Rattle.xa_desk.specs.{Refused, NoSuchManager, Shut, TooMany, Spent, Full, call_refusal, is_known, AllKept, DeskView}
 use Rattle.xa_calls.specs.{code_of, put_refusal, Answers, Looks, begun, finds, passes, filled, ended, stopped, written, start_of, Recovers, unreached, told}
 use Rattle.xa_calls.specs.{IsInVain, RecoversFrom, RecoversBy, HasRecovered, AsksAndWaits, RecoversAndWaits}
 use Rattle.xa_calls.specs.Scans.{Asking, refused, answered, Scans}

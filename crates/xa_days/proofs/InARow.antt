@@ -1,7 +1,7 @@
 -- The laws of a day: the branches' shares of what is moved, and what accounts are worth after it.
 -- The laws of a day over settled openings: their histories lead to their tables, and to what became of each branch.
 use Rattle.xa_tables.specs.declared.state.HeuristicDecision.TheVariants as decision
-use Rattle.xa_atomicity.proofs.Moves.{unmoving}
+use Rattle.xa_atomicity.proofs.Values.{unmoving}
 use Rattle.xa_base.proofs.{◌≡◌, ℤ, pos, ◌+ℤ◌, true, false, ◌||◌, if◌then◌else◌, List, [], ◌∷◌, map, refl, All, IsDistinct, list_any, sym, ap, ◌∙◌, arith}
 use Rattle.xa_base.proofs.{get_or, ints, All-head, All-tail, +ℤ_idl as none_plus, +ℤ_idr as plus_none, total_same, total_alike, total_both, total_nothing}
 use Rattle.xa_base.proofs.{by_if, at_true, ℕ, Bool, None, Some, cond, is_some, find, get-from_entries, total_across, subst, inl, inr, zero, suc}
@@ -19,12 +19,12 @@ use Rattle.xa_days.specs.Days.{voted as voted_leg, unasked as unasked_leg}
 use Rattle.xa_days.proofs.Course.{Accounts, moved_for, still_over, voted_law, ended_law, undecided_law}
 use Rattle.xa_words.specs.Orders.{key_cmp}
 use Rattle.xa_tables.proofs.AccountLemmas.{key_self, same_key}
-use Rattle.xa_tables.proofs.FatesLaw.{begin_law}
+use Rattle.xa_tables.proofs.Reopening.{begin_law}
 use Rattle.xa_switch.specs.{IsSettled, IsOpenedWith, first_of, history, settled_fate}
 use Rattle.xa_switch.proofs.Journaled.{follows_first}
 use Rattle.xa_atomicity.specs.{CutCall, Opening, AreInARow, EndsAs, became, ended_as, fate_through, last_of, tables_left, histories}
 use Rattle.xa_atomicity.proofs.Later.{ends_with}
-use Rattle.xa_days.specs.Settled.{voted, unasked}
+use Rattle.xa_days.specs.SettledDays.{voted, unasked}
 
 -- ---- the shares of branches
 

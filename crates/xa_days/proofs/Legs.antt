@@ -1,16 +1,15 @@
 -- The branches of a commit come out by the log.
 use Rattle.xa_atomicity.proofs.Settled.{sent_between, sent_on, sent_stands, site_of}
 use Rattle.xa_atomicity.proofs.CutVotes.{CameAt, each_came, at_asking, at_forgetting, at_telling, HasVoted, IsVoteOf, prepare_there, vote_there, ended_voted}
-use Rattle.xa_atomicity.proofs.CutVotes.{prepare_sent, told_voted}
-use Rattle.xa_atomicity.proofs.Requests.{none_all}
+use Rattle.xa_atomicity.proofs.CutVotes.{prepare_sent, told_voted, named_so, named_tran}
+use Rattle.xa_atomicity.proofs.Sites.{none_all, Site, request_of}
 use Rattle.xa_atomicity.proofs.Values.{taken}
-use Rattle.xa_atomicity.proofs.Sites.{Site}
 use Rattle.xa_atomicity.specs.{Tabled, IsCut, HasSentNone, is_commit_of, is_recorded, OnlyTheseOrDecisionsName, AskedAreLeft, VotedToCommit, CutCall, IsKept}
 use Rattle.xa_atomicity.specs.{IsUseIn, OnlyResolves, Opening, cuts, WasAsked, EndsByTheLog, IsResolvedAfter, known_of, EndsAs, ResolveCall, histories}
 use Rattle.std.proofs.lemmas.Bool.{both_ways, and_right}
 use Rattle.xa_base.proofs.{false_from_ne_true, not, list_any_none, ◌≡◌, ℕ, ◌≤◌, Bool, true, false, Some, List, [], ◌∷◌, length, get_or, slice_get, sym, refl}
-use Rattle.xa_base.proofs.{ap, subst, arith, ◌&&◌, All, Contains, All-nil, All-cons, All-contains, all_after, and_parts, not-true, if◌then◌else◌, is_some, suc}
-use Rattle.xa_base.proofs.{Option, ◌∙◌, All-head, All-tail, pos, zero, ◌++◌, same_Some as some_same}
+use Rattle.xa_base.proofs.{ap, subst, arith, ◌&&◌, All, Contains, All-cons, All-contains, all_after, and_parts, not-true, if◌then◌else◌, is_some, suc, Option}
+use Rattle.xa_base.proofs.{◌∙◌, All-head, All-tail, pos, zero, ◌++◌, same_Some as some_same}
 use Rattle.xa_base.specs.{MOST_MANAGERS, IsUpTo}
 use Rattle.xa_words.specs.{XidName, Decides-xid_eq, TranName, tran_of, Done, Op, Prepare, Commit, Forget, Request, Code, RdOnly}
 use Rattle.xa_tables.specs.{Tables, History, names, is_heur, tables_after, held_by}
@@ -18,20 +17,18 @@ use Rattle.xa_desk.specs.{LedgerView, ledger, HasGrown, learnt_shut}
 use Rattle.xa_switch.specs.{IsOpenedWith, first_of, history as history_of, ledgers_of, IsSettled, Settling}
 use Rattle.xa_switch.proofs.Journaled.{follows_first}
 use Rattle.xa_log.specs.{LogState, record_of}
-use Rattle.xa_driver.specs.{Branch, Ending, is_commit, outcome_op, AreBranchesRising, decision_of, IsTranOf, yes_of, is_no, is_yes, second_op, third_op, Logs}
+use Rattle.xa_driver.specs.{Branch, Ending, is_commit, outcome_op, decision_of, IsTranOf, yes_of, is_no, is_yes, second_op, third_op, Logs}
 use Rattle.xa_atomicity.proofs.CutBranch.{HasSentOnly, asked_only, ended_voted_so, guide, open_so, told_voted_so, voted_only}
 use Rattle.xa_atomicity.proofs.CutSends.{unrecorded_law, decided_so}
 use Rattle.xa_atomicity.proofs.Leading.{IsTowards, Leads}
-use Rattle.xa_atomicity.proofs.Naming.{named_so, named_tran}
-use Rattle.xa_atomicity.proofs.Placing.{request_of}
 use Rattle.xa_days.specs.{CommitsNowhere, OnlyTold, tells_outcome, CommitsInCall, DecidesNowhere, IsMarkedNowhere, VotedInCall, taken_till_asked, AgreedOrRead}
 use Rattle.xa_days.specs.{agreed, read, IsItsOwn, asked_sum, leg_of, OnlyRead, ComesOutByTheLog}
-use Rattle.xa_atomicity.proofs.Asked.{third_so}
+use Rattle.xa_atomicity.proofs.OneOutcome.{third_so, positive_all}
 use Rattle.xa_driver.proofs.Calls.{one_tran}
 use Rattle.xa_driver.proofs.Mapped.{Any, IsAskedFor, any_asked}
 use Rattle.xa_tables.proofs.WorthLaw.{read_law}
 use Rattle.xa_atomicity.proofs.Presumed.{use_there}
-use Rattle.xa_days.specs.Settled.{voted, unasked}
+use Rattle.xa_days.specs.SettledDays.{voted, unasked}
 
 -- ---- what a commit and a resolve sent, as the histories have it: resolves
 
@@ -63,10 +60,6 @@ resolves_commit_nothing m x o up kept only marked =
 
 -- ---- a commit
 
-pub positive_each : (lo : ℕ) (bs : List Branch) → AreBranchesRising lo bs → All (λ b. 1 ≤ b.m) bs
-positive_each lo [] rising = All-nil (λ (b : Branch). 1 ≤ b.m)
-positive_each lo (b ∷ bs) rising = All-cons (λ (b : Branch). 1 ≤ b.m) b bs (let up = rising.0 in omega (arith, up)) (positive_each b.m bs rising.1)
-
 -- what it sent to a branch's manager after the branch's Prepare leads the branch, or doesn't name it
 module _ (bs : List Branch) (old new : List LedgerView) where
   abbrev Asked : Branch → Type 0
@@ -92,7 +85,7 @@ leads_tells commit op z = search arith
 
 -- the manager of one of its branches has a number
 positive_at : (s : Settling) (k : CutCall) (b : Branch) → IsUseIn s (cuts k) → Contains k.branches b → 1 ≤ b.m
-positive_at s k b use_ there = All-contains (λ (c : Branch). 1 ≤ c.m) k.branches b (positive_each 0 k.branches use_.made.may.rising) there
+positive_at s k b use_ there = All-contains (λ (c : Branch). 1 ≤ c.m) k.branches b (positive_all 0 k.branches use_.made.may.rising) there
 
 pub voted_in_call : (law : Tabled) (s : Settling) (k : CutCall) (b : Branch) (T : Tables) → IsSettled s → IsUseIn s (cuts k) → Contains k.branches b
     → VotedToCommit k s b → AskedAreLeft k s → first_of s b.m ≡ Some T → DecidesNowhere b.xid (history_of s b.m) → CommitsNowhere b.xid (taken_till_asked k s b)
@@ -237,7 +230,7 @@ module _ (s : Settling) (k : CutCall) (use_ : IsUseIn s (cuts k)) (t : TranName)
 
   pub recorded_law : All (AgreedOrRead k s) k.branches
   recorded_law j d lt =
-      at_branch (get_or k.branches j d) (positive_each 0 k.branches use_.made.may.rising j d lt) (each_came use_.made.may.rising use_.made.far j d lt)
+      at_branch (get_or k.branches j d) (positive_all 0 k.branches use_.made.may.rising j d lt) (each_came use_.made.may.rising use_.made.far j d lt)
 
 -- ---- the branches of a commit come out by the log
 

@@ -1,7 +1,7 @@
 pub mod Openings
 pub mod Course
 pub mod Days
-pub mod Settled
+pub mod SettledDays
 pub mod Calls
 pub mod Recorded
 pub mod Legs
@@ -9,7 +9,7 @@ pub mod Legs
 pub use Openings.{CommitsAmong, CommitsNowhere, is_for, moved_over}
 pub use Course.{MovesWhereCommitted, OnlyTold, Votes, is_committed, is_outcome, is_undecided, tells_outcome, voted_sum}
 pub use Days.{ComesOut, IsDay, Leg, WorthIsOfBranches, WorthIsRecorded, counted}
-pub use Settled.{ComesOutByTheLog, IsSettledDay, SettledWorthIsRecorded, branch_at}
+pub use SettledDays.{ComesOutByTheLog, IsSettledDay, SettledWorthIsRecorded, branch_at}
 pub use Calls.{CommitsInCall, DecidesNowhere, IsMarkedNowhere, VotedInCall, taken_till_asked}
 pub use Recorded.{AgreedOrRead, OnlyRead, agreed, read}
 pub use Legs.{IsItsOwn, asked_sum, leg_of}

@@ -16,7 +16,7 @@ ghost use Rattle.xa_atomicity.specs.Presumed.{IsResolvedAfter};
 ghost use Rattle.xa_atomicity.specs.Resolution.{AreInARow, CutCall, Opening, ResolveCall, last_of, tables_left};
 ghost use Rattle.xa_days.specs.Days.{Leg, counted};
 ghost use Rattle.xa_days.specs.Legs.{IsItsOwn, leg_of};
-ghost use Rattle.xa_days.specs.Settled.{ComesOutByTheLog, IsSettledDay, SettledWorthIsRecorded};
+ghost use Rattle.xa_days.specs.SettledDays.{ComesOutByTheLog, IsSettledDay, SettledWorthIsRecorded};
 
 use xa_atomicity::{presumed_transactions_have_one_outcome, tables_keep_to_their_laws};
 

@@ -10,8 +10,7 @@ use Rattle.xa_switch.specs.{thread_part, history as history_of, ledgers_of, AreO
 use Rattle.xa_switch.specs.{Settling}
 use Rattle.xa_driver.specs.{Branch}
 use Rattle.xa_atomicity.specs.{AreLeftOrDecided, OnlyTheseOrDecisionsName, sent_so_far, ResolveCall, resolves, OnlyResolves}
-use Rattle.xa_atomicity.proofs.Sites.{request_of}
-use Rattle.xa_atomicity.proofs.Sites.{of_ops, own_all}
+use Rattle.xa_atomicity.proofs.Sites.{request_of, of_ops, own_all}
 
 -- ---- what threads sent
 

@@ -25,7 +25,8 @@ placed_first [] p r rs below free none = absurd (omega arith)
 placed_first (Free ∷ slots) zero r rs below free none = refl
 placed_first (Free ∷ slots) (suc p) r rs below free none = absurd (none 0 (omega arith) refl)
 placed_first (s ∷ slots) zero r rs below free none = absurd (cc (free))
-placed_first (s ∷ slots) (suc p) r rs below free none = grind (arith, placed_first slots p r rs (omega arith) free (λ k before is. none (suc k) (omega arith) is))
+placed_first (s ∷ slots) (suc p) r rs below free none =
+    grind (arith, placed_first slots p r rs (omega arith) free (λ k before is. none (suc k) (omega arith) is))
 
 first_placed : (slots : List Slot) (r : CommitRecord) (rs : List CommitRecord) → used slots < length slots
     → (p : ℕ) × (p < length slots) × (get_or slots p Free ≡ Free) × (placed slots (r ∷ rs) ≡ placed (set slots p (Taken r)) rs)

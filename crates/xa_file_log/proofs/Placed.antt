@@ -1,7 +1,6 @@
 -- Records in the free slots of a file, one after another.
-use Rattle.std.proofs.Common.{rules}
-use Rattle.xa_base.proofs.{◌≡◌, ◌≢◌, ◌⊎◌, inl, inr, ⊎_elim, ℕ, zero, suc, ◌+◌, ◌-◌, ◌*◌, ◌<◌, ◌≤◌, List, [], ◌∷◌, ◌++◌, length, get_or, map, take, drop, refl}
-use Rattle.xa_base.proofs.{sym, ◌∙◌, ap, subst, arith, All, Contains, cases_lt, length-map, length-drop, drop_all}
+use Rattle.xa_base.proofs.{rules, ◌≡◌, ◌≢◌, ◌⊎◌, inl, inr, ⊎_elim, ℕ, zero, suc, ◌+◌, ◌-◌, ◌*◌, ◌<◌, ◌≤◌, List, [], ◌∷◌, ◌++◌, length, get_or, map, take, drop}
+use Rattle.xa_base.proofs.{refl, sym, ◌∙◌, ap, subst, arith, All, Contains, cases_lt, length-map, length-drop, drop_all}
 use Rattle.std.proofs.Common.{add-one, drop-cons}
 use Rattle.std.proofs.lemmas.List.{get_or-drop, get_or_past, drop-drop}
 use Rattle.xa_log.specs.{CommitRecord}

@@ -1,8 +1,7 @@
 -- What finds the declared keys finds one more.
-use Rattle.xa_base.proofs.{◌≡◌, ℕ, ◌+◌, ◌<◌, ◌==◌, ◌&&◌, ◌||◌, Bool, true, false, cond, List, [], ◌∷◌, ◌++◌, length, get_or, slice_set, refl, sym, ap, ◌∙◌}
-use Rattle.xa_base.proofs.{subst, arith, list_any, eqb-true, get_or-set_same, get_or-set_other, list_any-append}
+use Rattle.xa_base.proofs.{◌≡◌, ℕ, ◌+◌, ◌<◌, ◌==◌, ◌||◌, Bool, true, false, cond, List, [], ◌∷◌, ◌++◌, length, get_or, slice_set, refl, sym, ◌∙◌, arith}
+use Rattle.xa_base.proofs.{list_any, eqb-true, get_or-set_same, get_or-set_other, list_any-append}
 use Rattle.std.proofs.lemmas.List.Sums.{sum_by-append, sum_by-cons}
-use Rattle.xa_words.specs.{key_eq}
 use Rattle.xa_grammar.specs.{Declared, key_count, is_same, Finds}
 
 -- The set may be laid out anew.

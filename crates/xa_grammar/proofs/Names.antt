@@ -1,7 +1,7 @@
 -- The bytes of names stay where they stand as more are appended.
-use Rattle.std.proofs.Common.{rules}
-use Rattle.xa_base.proofs.{◌≡◌, ◌==◌, ℕ, pos, ◌+◌, ◌≤◌, Bool, true, false, if◌then◌else◌, List, [], ◌∷◌, ◌++◌, length, take, drop, All, Some, None, is_some}
-use Rattle.xa_base.proofs.{list_any, ◌||◌, refl, sym, ap, ◌∙◌, subst, arith, append-nil, length-append, length-drop, All-nil, All-cons, All-head, All-tail}
+use Rattle.xa_base.proofs.{rules, ◌≡◌, ◌==◌, ℕ, pos, ◌+◌, ◌≤◌, Bool, true, false, if◌then◌else◌, List, [], ◌∷◌, ◌++◌, length, take, drop, All, Some, None}
+use Rattle.xa_base.proofs.{is_some, list_any, ◌||◌, refl, sym, ap, ◌∙◌, subst, arith, append-nil, length-append, length-drop, All-nil, All-cons, All-head}
+use Rattle.xa_base.proofs.{All-tail}
 use Rattle.std.proofs.Math.ListN.{get_or-append}
 use Rattle.std.proofs.Math.Seq.{drop-append_seam, take-length, get_or-append_seam}
 use Rattle.std.proofs.lemmas.List.{drop-append-le, take-append-le}

@@ -1,9 +1,8 @@
 -- No line that the grammar reads for threads opens the managers again.
-use Rattle.std.proofs.Common.{arith}
-use Rattle.xa_base.proofs.{◌≡◌, ℕ, Bool, true, false, ◌||◌, Option, None, Some, Ok, List, [], ◌∷◌, refl, sym, ap, ◌∙◌, subst, list_any-append}
+use Rattle.xa_base.proofs.{arith, ◌≡◌, ℕ, Bool, true, false, ◌||◌, Option, None, Some, Ok, List, [], ◌∷◌, sym, ap, ◌∙◌, list_any-append}
 use Rattle.xa_grammar.specs.declared.step.Step.TheVariants as step
-use Rattle.xa_grammar.specs.{Head, Item, words_of, without_return, Word, ScriptStep, is_reopen, AreOfOne, with_step, setting_of, sync_of, logfail_of}
-use Rattle.xa_grammar.specs.{logunknown_of, declared_of, task_on, turn_of, reopen_of, head_of, item_by, item_of, line_of, with_item, after_line, Content}
+use Rattle.xa_grammar.specs.{Head, Item, Word, ScriptStep, is_reopen, AreOfOne, with_step, setting_of, sync_of, logfail_of, logunknown_of, declared_of}
+use Rattle.xa_grammar.specs.{reopen_of, head_of, item_by, item_of, with_item, after_line, Content}
 use Rattle.xa_grammar.specs.declared.read.Head.TheVariants as head
 use Rattle.xa_grammar.specs.Items as item
 use Rattle.xa_grammar.proofs.ScriptLemmas.{and_then, ok_is, item_made, line_words}

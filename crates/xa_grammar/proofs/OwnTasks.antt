@@ -1,7 +1,6 @@
 -- The tasks of one thread among the steps.
-use Rattle.xa_base.proofs.{◌≡◌, ◌<◌, ◌+◌, ◌++◌, take, ℕ, zero, suc, true, false, cond, if◌then◌else◌, ◌==◌, List, [], ◌∷◌, length, Option, Some, None, is_some}
-use Rattle.xa_base.proofs.{slice_get, All, cons_option, refl, ap, sym, ◌∙◌, subst, arith, inl, inr, get_or, All-nil, All-cons, All-head, All-tail}
-use Rattle.xa_base.proofs.{filter-append}
+use Rattle.xa_base.proofs.{◌≡◌, ◌<◌, ◌+◌, ◌++◌, take, ℕ, zero, suc, true, false, cond, List, [], ◌∷◌, length, Option, Some, is_some, slice_get, All}
+use Rattle.xa_base.proofs.{cons_option, refl, ap, sym, ◌∙◌, subst, arith, inl, inr, get_or, All-nil, All-cons, All-head, All-tail, filter-append}
 use Rattle.std.proofs.lemmas.Option.{slice_get_cases, slice_get_read}
 use Rattle.std.proofs.lemmas.List.Elements.{filter_map-append}
 use Rattle.xa_grammar.specs.declared.step.Step.TheVariants as step

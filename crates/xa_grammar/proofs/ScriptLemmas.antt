@@ -12,9 +12,9 @@ use Rattle.xa_words.specs.{key_eq, Decides-key_eq}
 use Rattle.xa_tables.specs.{are_accounts, are_apart}
 use Rattle.xa_grammar.specs.{Reason, KeyTwice, TooManyKeys, OutOfRange, BadNumber, UnknownWord, TooManyLines, LineTooLong, BadByte, Declared, UnknownAppend}
 use Rattle.xa_grammar.specs.{Threads, Managers, Item, is_script_byte, words_of, Word, end_of, number_of, number_in, number_at, ScriptStep, IsScript}
-use Rattle.xa_grammar.specs.{IsOfManager, IsOfLog, IsOfUnknown, IsOfScript, threads_of, managers_of, accounts_of, failing_append, unknown_append, with_count}
-use Rattle.xa_grammar.specs.{with_key, with_failing, with_unknown, with_step, before_actions, count_of, not_set, limit_of, setting_of, logfail_of, is_kept}
-use Rattle.xa_grammar.specs.{logunknown_of, has_key, key_count, declared_of, turn_of, item_of, line_of, Content}
+use Rattle.xa_grammar.specs.{IsOfManager, IsOfLog, IsOfUnknown, IsOfScript, threads_of, managers_of, accounts_of, with_count, with_key, with_failing}
+use Rattle.xa_grammar.specs.{with_unknown, with_step, before_actions, count_of, not_set, limit_of, setting_of, logfail_of, is_kept, logunknown_of, has_key}
+use Rattle.xa_grammar.specs.{key_count, declared_of, turn_of, item_of, line_of, Content}
 use Rattle.xa_grammar.specs.declared.step.Step.TheVariants as step
 use Rattle.xa_grammar.specs.declared.script.Count.{Count}
 use Rattle.xa_grammar.specs.Fields.{◌>>=◌, word_at, key_at}
@@ -56,7 +56,7 @@ are_apart-push [] y apart new = refl
 are_apart-push (d ∷ ds) y apart new =
     let split = no_later d ds y new in
     let none : list_any (λ e. key_eq e.0 d.0) (ds ++ y ∷ []) ≡ list_any (λ e. key_eq e.0 d.0) ds =
-        search (arith, list_any-append, list_any, other_way, or-false, d.0, y.0) in
+    search (arith, list_any-append, list_any, other_way, or-false, d.0, y.0) in
     both_true (ap not none ∙ (and_parts _ _ apart).0) (are_apart-push ds y (and_parts _ _ apart).1 split.1)
 
 are_accounts-push : (ds : List (List ℕ × ℕ)) (y : List ℕ × ℕ) → are_accounts ds ≡ true → length ds < 256 → y.1 ≤ 1000000000000

@@ -1,5 +1,5 @@
 -- Words are cut off the front of a line one by one.
-use Rattle.xa_base.proofs.{◌≡◌, ℕ, ◌<◌, Bool, true, false, List, [], ◌∷◌, ◌++◌, length, refl, ap, sym, ◌∙◌, arith, ◌&&◌, not, filter, nat_eq, ◌==◌, list_all}
+use Rattle.xa_base.proofs.{◌≡◌, ℕ, ◌<◌, Bool, true, false, List, [], ◌∷◌, ◌++◌, length, refl, ap, arith, ◌&&◌, not, filter, nat_eq, ◌==◌, list_all}
 use Rattle.std.specs.List.{onto_first, slice_split, starts_with}
 use Rattle.std.proofs.lemmas.Bool.Decides.{nat_tests}
 use Rattle.xa_grammar.specs.{is_space, starts_blank, has_bytes, words_of, IsWord, are_comment}

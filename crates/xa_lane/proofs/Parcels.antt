@@ -1,6 +1,6 @@
 -- Lists of parcels, and the items in them.
-use Rattle.std.proofs.Common.{rules}
-use Rattle.xa_base.proofs.{◌≡◌, ℕ, ◌+◌, ◌≤◌, true, false, cond, ◌==◌, List, [], ◌∷◌, ◌++◌, length, map, refl, ap, ◌∙◌, append-nil, arith, Option, Some, None}
+use Rattle.xa_base.proofs.{rules, ◌≡◌, ℕ, ◌+◌, ◌≤◌, true, false, cond, ◌==◌, List, [], ◌∷◌, ◌++◌, length, map, refl, ap, ◌∙◌, append-nil, arith, Option, Some}
+use Rattle.xa_base.proofs.{None}
 use Rattle.xa_lane.specs.{Parcel, of_sender, marks, somes, has_mark, kept, items_in, left_of}
 
 module _ {T : Type 0} where

@@ -1,7 +1,6 @@
 -- Deeds, one after another.
-use Rattle.std.proofs.Common.{arith}
-use Rattle.xa_base.proofs.{◌≡◌, ℕ, cond, Bool, true, false, List, [], ◌∷◌, ◌++◌, None, Some, refl, sym, ap, ◌∙◌, subst, append_assoc, if◌then◌else◌, is_some}
-use Rattle.xa_base.proofs.{get-insert, eq_by_cmp}
+use Rattle.xa_base.proofs.{arith, ◌≡◌, ℕ, cond, Bool, true, false, List, [], ◌∷◌, ◌++◌, None, Some, refl, sym, ap, ◌∙◌, subst, append_assoc, if◌then◌else◌}
+use Rattle.xa_base.proofs.{is_some, get-insert, eq_by_cmp}
 use Rattle.xa_log.specs.{tran_cmp, LogState, record_of, with_record, with_failure, without_record, AreNew, CommitRecord}
 use Rattle.xa_log.proofs.Transactions.{tran_cmp_total}
 use Rattle.xa_words.specs.{TranName}

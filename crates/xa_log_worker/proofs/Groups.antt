@@ -4,8 +4,8 @@ use Rattle.xa_base.proofs.{arith, map-append, length-map}
 use Rattle.std.proofs.Common.{drop-cons, add-one}
 use Rattle.std.proofs.Math.ListN.{get_or-map}
 use Rattle.xa_log.specs.{LogState, record_of, with_record, with_records, with_failure, AreNew, CommitRecord}
-use Rattle.xa_log_worker.specs.{Answer, Taken, Unknown, Answered, Deed, IsRefused, Waiting, Append, asked_if, after, AreRight, AreUnknown, Does, Settles}
-use Rattle.xa_log_worker.specs.{answers_in, answer_each, as_waiting, deeds_in, records_in}
+use Rattle.xa_log_worker.specs.{Answer, Taken, Unknown, Answered, Deed, IsRefused, Waiting, after, AreRight, AreUnknown, Does, Settles, answers_in, answer_each}
+use Rattle.xa_log_worker.specs.{as_waiting, deeds_in, records_in}
 use Rattle.xa_log_worker.specs.declared.ask.Deed.TheVariants.{Answers}
 use Rattle.xa_log_worker.proofs.Requests.{asked_in-append, waits_of-append, asked_each}
 use Rattle.xa_log_worker.proofs.Deeds.{answers-append, does-chain, new_below}

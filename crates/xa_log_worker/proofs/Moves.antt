@@ -1,12 +1,12 @@
 -- What is sent on the lanes of answers.
-use Rattle.xa_base.proofs.{◌≡◌, ◌≢◌, ⊎_elim, ℕ, zero, suc, ◌<◌, ◌==◌, Bool, true, false, cond, List, [], ◌∷◌, ◌++◌, length, map, get_or, set, refl, sym, ap}
-use Rattle.xa_base.proofs.{◌∙◌, subst, append_assoc, arith, Some, append-nil}
+use Rattle.xa_base.proofs.{◌≡◌, ◌≢◌, ℕ, zero, suc, ◌<◌, Bool, false, List, [], ◌∷◌, ◌++◌, length, map, get_or, set, refl, sym, ap, ◌∙◌, subst, append_assoc}
+use Rattle.xa_base.proofs.{arith, Some, append-nil}
 use Rattle.std.proofs.lemmas.Bool.Decides.{eqb_tells}
 use Rattle.xa_lane.specs.{Sending, parcel, received, sent_at, with_item, but_full, Parcel}
 use Rattle.xa_lane.proofs.Senders.{sent_at-but_full}
 use Rattle.xa_log.specs.{LogState}
-use Rattle.xa_log_worker.specs.{Answer, Answered, Deed, Waiting, Ask, Append, Does, Settles, answers_in, asked_by, asked_if, asked_in, asked_of, waits_of}
-use Rattle.xa_log_worker.specs.{is_clash, deeds_in, Works, Steps, SentBy, told_to}
+use Rattle.xa_log_worker.specs.{Answer, Answered, Deed, Waiting, Ask, Append, Does, Settles, answers_in, asked_by, asked_if, asked_in, is_clash, deeds_in}
+use Rattle.xa_log_worker.specs.{Works, Steps, SentBy, told_to}
 use Rattle.xa_words.specs.{TranName}
 use Rattle.xa_log_worker.proofs.Requests.{asked_in-append, waits_of-append, asked_of-append, asked_last, received_item}
 use Rattle.xa_log_worker.specs.Moves.{Moves}
@@ -14,9 +14,6 @@ use Rattle.xa_log_worker.proofs.Deeds.{answers-append, does_nothing, does-chain}
 
 abbrev Lanes : Type 0
 Lanes = List (Sending Answer)
-
-abbrev nothing : List Answer
-nothing = []
 
 -- one lane has sent one answer more
 same_lane : (i : ℕ) (ss : Lanes) (x y : Sending Answer) (a : Answer) → i < length ss → x ≡ get_or ss i x → y.sent ≡ x.sent ++ a ∷ []

@@ -1,5 +1,4 @@
 -- Records that are new, as requests come.
-use Rattle.std.proofs.Common.{arith}
 use Rattle.xa_base.proofs.{◌≡◌, Bool, true, false, cond, List, [], ◌∷◌, ◌++◌, None, Some, refl, sym, ◌∙◌, ◌||◌, ◌==◌, get-insert, get-remove, eq_by_cmp}
 use Rattle.xa_words.specs.{TranName, tran_eq, Decides-tran_eq}
 use Rattle.xa_log.specs.{LogState, record_of, with_record, without_record, AreNew, tran_cmp}

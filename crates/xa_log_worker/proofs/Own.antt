@@ -1,5 +1,4 @@
 -- The records that a coordinator keeps.
-use Rattle.std.proofs.Common.{arith}
 use Rattle.xa_base.proofs.{◌≡◌, true, false, cond, List, [], ◌∷◌, ◌++◌, map, Bool, Some, None, refl, sym, ap, ◌∙◌, append_assoc, map-append, get-insert}
 use Rattle.xa_base.proofs.{get-remove, eq_by_cmp, is_equal}
 use Rattle.std.specs.FinMap.{get, insert, remove, same_map}

@@ -1,7 +1,6 @@
 -- What coordinators asked.
-use Rattle.std.proofs.Common.{arith}
-use Rattle.xa_base.proofs.{◌≡◌, ◌≢◌, ⊎_elim, ℕ, ◌==◌, Bool, true, false, cond, List, [], ◌∷◌, ◌++◌, map, Some, None, Option, refl, sym, ap, ◌∙◌, subst}
-use Rattle.xa_base.proofs.{append_assoc, ◌||◌, append-nil}
+use Rattle.xa_base.proofs.{arith, ◌≡◌, ℕ, ◌==◌, Bool, true, false, cond, List, [], ◌∷◌, ◌++◌, map, Some, None, Option, refl, sym, ap, ◌∙◌, append_assoc, ◌||◌}
+use Rattle.xa_base.proofs.{append-nil}
 use Rattle.std.proofs.lemmas.Bool.Decides.{eqb_tells}
 use Rattle.xa_words.specs.{TranName, tran_eq}
 use Rattle.xa_lane.specs.{Parcel, of_sender, parcel, received, somes}

@@ -9,7 +9,7 @@ use Rattle.xa_base.proofs.{arith, ◌≡◌, ◌≢◌, ℕ, zero, suc, inl, inr
 use Rattle.xa_base.proofs.{if◌then◌else◌, All, Result, Ok, Err, eq-eqb, or_parts, list_any, slice_index_or, some_same, IfOk, subst, all_mid, all_left, All-map}
 use Rattle.xa_base.proofs.{All-cons, All-nil, All-head, All-tail, All-append, filter-append, ◌+◌, ◌<◌, cond, ◌++◌, length, map, get_or, filter, cases_eq}
 use Rattle.xa_base.proofs.{length-map, map-append, all_after, all_unmapped}
-use Rattle.xa_atomicity.proofs.Requests.{none_all, all_later}
+use Rattle.xa_atomicity.proofs.Sites.{none_all, all_later, request_of, sides}
 use Rattle.xa_base.specs.{Chain}
 use Rattle.xa_base.specs.Lists.Chain.{none as no_step, more as one_step}
 use Rattle.xa_words.specs.{XidName, xid_eq, check_flags, Call, Mode, Op, RmOp, Decides-xid_eq, Code, Request, TranName}
@@ -28,13 +28,11 @@ use Rattle.xa_telling.specs.{in_xa, outside_xa, wanted, wanted_by, Part, Asked, 
 use Rattle.xa_telling.specs.{part_at}
 use Rattle.xa_telling.specs.Wants.Wanted.{code_of, handle_for}
 use Rattle.xa_shown.proofs.Adds.{Adds, TaskSo, adds_both, adds_none, op_in, takes_add}
-use Rattle.xa_atomicity.proofs.Between.{Unnamed, second_unnamed, outcome_unnamed, third_unnamed}
+use Rattle.xa_atomicity.proofs.CutSends.{Unnamed, second_unnamed, outcome_unnamed, third_unnamed}
 use Rattle.xa_telling.specs.Parts.CallTakes.{answered, kept, refused, completes, lists}
 use Rattle.xa_telling.specs.Commits.CommitTakes.{refused as takes_none, decided, undecided, died}
 use Rattle.xa_telling.specs.Resolves.ResolveTakes.{refused as ends_none, resolved}
 use Rattle.xa_shown.specs.{branches_by, is_among, names_it, Place, AreNamedByNoOther, NamesNone, entered_so_far}
-use Rattle.xa_atomicity.proofs.Placing.{request_of}
-use Rattle.xa_atomicity.proofs.Sites.{sides}
 use Rattle.xa_desk.specs.{numbered}
 use Rattle.xa_atomicity.specs.{OnlyTheseName, AreLeftAlone}
 use Rattle.xa_session.specs.{branches_of}

@@ -10,7 +10,7 @@ use Rattle.std.proofs.lemmas.List.Elements.{All-filter}
 use Rattle.xa_words.specs.{Code, RmFail, Op, Start, Prepare, Commit, Listed, Fresh, Request, XidName, Done}
 use Rattle.xa_tables.specs.{State, RollbackOnly, HeuristicallyCompleted, Failed, reason_in, decision_in, Answer, next, by_rules, coded, Tables, History}
 use Rattle.xa_tables.specs.{HeuristicDecision, state_of, Fate, decided_fate, fate, tables_after, is_heur, names}
-use Rattle.xa_tables.proofs.ShutLemmas.{next-shut}
+use Rattle.xa_tables.proofs.LateLaw.{next-shut}
 use Rattle.xa_desk.specs.{is_rm_fail, numbered}
 use Rattle.xa_worker.specs.{Entry, codes_in}
 use Rattle.std.proofs.lemmas.List.Folds.{Any-from_list_any, list_any-from_Any}
@@ -19,7 +19,7 @@ use Rattle.xa_switch.specs.{Settling, IsSettled, IsOpenedWith, answers, collecte
 use Rattle.xa_driver.specs.{Branch, Ending, AtBranch, VotesAndObeys}
 use Rattle.xa_atomicity.specs.{Tabled, IsDecidedAfter, OnlyTheseOrDecisionsName, ended_as}
 use Rattle.xa_driver.proofs.Mapped.{branch_mapped}
-use Rattle.xa_atomicity.proofs.Sites.{StandsIn, Sent, AsksIn, withholds, stands_by, Site, above}
+use Rattle.xa_atomicity.proofs.Sites.{StandsIn, Sent, AsksIn, withholds, stands_by, Site, above, request_of, fates}
 use Rattle.xa_atomicity.proofs.Settled.{site_of}
 use Rattle.xa_telling.specs.{next_entry, entries_of, CarriesOut, CarriesOutSome}
 use Rattle.xa_telling.specs.Commits.CarriesOut.{carried, withheld}
@@ -27,10 +27,8 @@ use Rattle.xa_telling.proofs.Entries.{Fits, agreed_fits, is_rm_fail_so, pair_of}
 use Rattle.xa_telling.proofs.Branches.{obeys_mapped}
 use Rattle.xa_atomicity.proofs.Fated.{decided_in}
 use Rattle.std.proofs.lemmas.Bool.{true_from_ne_false}
-use Rattle.xa_atomicity.proofs.Guided.{IsGuided, at_last, decided_known, fates_from, voted_now}
+use Rattle.xa_atomicity.proofs.Guided.{IsGuided, at_last, decided_known, fates_from, voted_now, once}
 use Rattle.xa_atomicity.proofs.Leading.{Stands, over, unforgotten, waits}
-use Rattle.xa_atomicity.proofs.Placing.{request_of, fates}
-use Rattle.xa_atomicity.proofs.Voting.{once}
 
 -- the code isn't XAER_RMFAIL
 record Tells (a : Answer) : Type 0 where

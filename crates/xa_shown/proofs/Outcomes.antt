@@ -13,7 +13,7 @@ use Rattle.xa_switch.specs.{Settling, IsSettled, journal, IsOpenedWith, history 
 use Rattle.xa_driver.specs.{Branch, Done as Outcome, Ending, Committed, Heuristic, is_no, ending_of, AtBranch, is_commit, CameTo, IsDecidedBy, Putting}
 use Rattle.xa_driver.specs.{VotesAndObeys, decides_commit, has_yes, EachBranch, decision_of}
 use Rattle.xa_atomicity.proofs.Courses.{course_of}
-use Rattle.xa_atomicity.proofs.OneOutcome.{not_rolled_back, uncommitted, unvoted}
+use Rattle.xa_atomicity.proofs.OneOutcome.{not_rolled_back, uncommitted, unvoted, IsNoCommit}
 use Rattle.xa_atomicity.proofs.Settled.{Both, Fated, InHistory, one_both, one_fated, outcome_map, each_outcome, site_of}
 use Rattle.xa_session.specs.{branches_of, named}
 use Rattle.xa_grammar.specs.{CommitAll, ScriptStep, ScriptAction}
@@ -23,7 +23,7 @@ use Rattle.xa_base.specs.{Chain}
 use Rattle.xa_base.specs.Lists.Chain.{none, more}
 use Rattle.xa_shown.specs.{IsOneOutcome, ShowsOneOutcome, IsAsShown, CountsAsShown, entered_so_far, GoesByTheRecord, ShowsDeath, ShowsUndecided}
 use Rattle.xa_shown.proofs.Shown.{decided_so, none_against}
-use Rattle.xa_atomicity.proofs.Requests.{none_all}
+use Rattle.xa_atomicity.proofs.Sites.{none_all}
 use Rattle.xa_shown.proofs.Adds.{Adds, loses_adds, stops_adds}
 use Rattle.xa_shown.proofs.Became.{entered, branch_entered}
 use Rattle.xa_driver.proofs.Mapped.{Any}
@@ -31,7 +31,6 @@ use Rattle.xa_worker.specs.{Entry}
 use Rattle.xa_calls.specs.Scans.{Asking}
 use Rattle.xa_log.specs.{LogState, record_of}
 use Rattle.xa_atomicity.proofs.CutSends.{NotToCommit, decided_so as logged_so, no_commit_so, no_rollback_so, undecided_so}
-use Rattle.xa_atomicity.proofs.Aborts.{IsNoCommit}
 use Rattle.xa_telling.specs.Commits.CommitTakes.{refused as takes_none, decided, undecided, died}
 
 -- ---- lists of outcomes
@@ -354,3 +353,6 @@ undecided_by_record t c votes old new is = record {
       (adds.0, adds.1, list_any_none (λ (e : Entry). is_rollback e.0.op) adds.0 adds.2);
   committed = λ on. refl;
 }
+
+-- a line of a commit that came to no end goes by the record
+pub ruleset by_the_record = (death_by_record, stopped_so, undecided_by_record, lost_so)

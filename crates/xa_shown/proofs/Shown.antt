@@ -14,8 +14,7 @@ use Rattle.xa_tables.specs.{is_done}
 use Rattle.xa_desk.specs.{is_rm_fail}
 use Rattle.xa_worker.specs.{Entry, entry}
 use Rattle.xa_switch.specs.{Settling, journal}
-use Rattle.xa_atomicity.proofs.OneOutcome.{IsNoCommit}
-use Rattle.xa_atomicity.proofs.OneOutcome.{second_so, third_so}
+use Rattle.xa_atomicity.proofs.OneOutcome.{IsNoCommit, second_so, third_so}
 use Rattle.xa_driver.proofs.Mapped.{Any, IsAskedFor, any_asked, for_by, rest_by}
 use Rattle.xa_shown.proofs.Adds.{Adds, adds_none, carries_on, decides_adds, takes_adds}
 use Rattle.xa_grammar.specs.{CommitAll, ScriptCalled, ScriptAction, ScriptStep}

@@ -22,8 +22,7 @@ use Rattle.xa_atomicity.specs.Outcomes.IsInDoubtUnlessDecided.{decided as was_de
 use Rattle.xa_atomicity.proofs.Courses.{course_obeyed, own_plain}
 use Rattle.xa_atomicity.proofs.Guided.{decided_known}
 use Rattle.xa_atomicity.proofs.Fated.{none_decides}
-use Rattle.xa_atomicity.proofs.OneOutcome.{after_yes}
-use Rattle.xa_atomicity.proofs.OneOutcome.{recorded_is}
+use Rattle.xa_atomicity.proofs.OneOutcome.{after_yes, recorded_is}
 use Rattle.xa_atomicity.proofs.Settled.{Both, Fated, InHistory, each_outcome, one_both, one_fated, outcome_map, site_of}
 use Rattle.xa_atomicity.proofs.Sites.{AsksIn, asks, withholds, StandsIn}
 use Rattle.xa_grammar.specs.{CommitAll}

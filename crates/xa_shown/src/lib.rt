@@ -104,7 +104,7 @@ pub fn branches_are_as_shown()
 
 /// A line of a commit that came to no end goes by the record that its thread's log has after it, or turns out to have.
 /// Its coordinator died (`died`), or nobody knows whether the log has the record (`undecided`).
-#[tactic(auto, using(crate::proofs::Outcomes::death_by_record, crate::proofs::Outcomes::stopped_so, crate::proofs::Outcomes::undecided_by_record, crate::proofs::Outcomes::lost_so))]
+#[tactic(auto, using(crate::proofs::Outcomes::by_the_record))]
 pub fn unfinished_commits_go_by_the_record()
     ensures died { (settled : Settling) (l : Line) (c : CommitAll TranName) (at : Death) (known : Done)
         (old new : Part) → TakesPart settled l old new → ShowsDeath l c at known

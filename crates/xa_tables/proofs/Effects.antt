@@ -1,7 +1,6 @@
 -- What one request does to the tables. The rules are walked here alone: a law of all requests is one of their effects.
-use Rattle.std.proofs.Common.{rules}
-use Rattle.xa_base.proofs.{◌≡◌, ℕ, ℤ, pos, Bool, true, false, not, ◌&&◌, ◌||◌, if◌then◌else◌, Option, None, Some, List, refl, arith, ap, ◌∙◌, ◌⊎◌, or-true}
-use Rattle.xa_base.proofs.{not-false, by_if, sym, subst}
+use Rattle.xa_base.proofs.{rules, ◌≡◌, ℕ, ℤ, pos, Bool, true, false, not, ◌&&◌, ◌||◌, if◌then◌else◌, Option, None, Some, List, refl, arith, ap, ◌∙◌, ◌⊎◌}
+use Rattle.xa_base.proofs.{or-true, not-false, by_if, sym, subst}
 use Rattle.xa_words.specs.{XidName, xid_eq, Done, RdOnly, RbRollback, RbIntegrity, RbTransient, Async, RmErr, Nota, Inval, Proto, RmFail, DupId, Outside, Op}
 use Rattle.xa_words.specs.{OpenRm, CloseRm, Start, Add, End, Prepare, Commit, Rollback, Forget, Heur, Listed, Shut, StartHow, Fresh, Join, Resume, EndHow}
 use Rattle.xa_words.specs.{Success, Suspend, Fail, Code}

@@ -15,7 +15,7 @@ use Rattle.xa_words.specs.{XidName}
 use Rattle.xa_words.specs.Orders.{key_cmp}
 use Rattle.xa_tables.specs.{Account, Hold, AreDistinct, AreIndexed, IsGood, hold_is_of, is_held_by, hold_breaks, is_broken_by, hold_where, hold_without}
 use Rattle.xa_tables.specs.{kept_where, all_but, amount_of, added_to, posted_by, passes_at, is_held, is_held_at, AreHeld, noted}
-use Rattle.xa_tables.proofs.AccountLemmas.{LetsGo, distinct_changed, passes_none, any_set}
+use Rattle.xa_tables.proofs.AccountLemmas.{LetsGo, distinct_changed, passes_none, any_set, touched_any}
 use Rattle.xa_tables.proofs.PlaceLemmas.{account_of, indexed_map}
 
 -- ---- the account at a place
@@ -235,7 +235,8 @@ held_noted held accounts i a b h within e touched =
     noted_once false there = IsDistinct-push nat_eq_equiv held i h.once there
 
     noted_each : (w : Bool) (q : ℕ) → (nat_eq q i ≡ true → is_held_at accounts q ≡ w) → (nat_eq q i ≡ true → is_held_at (set accounts i b) q ≡ true)
-        → (nat_eq q i ≡ false → is_held_at (set accounts i b) q ≡ is_held_at accounts q) → list_any (nat_eq q) (noted held w i) ≡ is_held_at (set accounts i b) q
+        → (nat_eq q i ≡ false → is_held_at (set accounts i b) q ≡ is_held_at accounts q)
+        → list_any (nat_eq q) (noted held w i) ≡ is_held_at (set accounts i b) q
     noted_each w q before after others = grind (arith, (h.each q), list_any-append)
 
 -- where nobody has touched the account, there is room for its place
@@ -257,3 +258,9 @@ undeclared (d ∷ ds) (suc i) = undeclared ds i
 -- of what was declared no branch has touched any
 pub held_declared : (ds : List (List ℕ × ℕ)) → AreHeld [] (map account_of ds)
 held_declared ds = record { once = none_twice nat_eq; each = λ q. sym (undeclared ds q) }
+
+-- whether a branch touched a key, by the places that it holds
+pub ruleset touching = (held_alike, touched_held, touched_any)
+
+-- a walk over these places
+pub ruleset walking = (held_within, read_at, passes_none)

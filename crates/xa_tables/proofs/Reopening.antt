@@ -1,7 +1,6 @@
 -- What a reopening leaves, and what the next opening begins with; and the law: the tables tell what became of each branch, over any openings.
-use Rattle.std.proofs.Common.{rules}
-use Rattle.xa_base.proofs.{◌≡◌, ℕ, ℤ, Bool, true, false, cond, not, ◌&&◌, ◌+ℤ◌, Option, None, Some, List, [], ◌∷◌, refl, arith, sym, ap, ◌∙◌, FinMap, get-empty}
-use Rattle.xa_base.proofs.{none_pass, none_passes, if◌then◌else◌, subst}
+use Rattle.xa_base.proofs.{rules, ◌≡◌, ℕ, ℤ, Bool, true, false, cond, not, ◌&&◌, ◌+ℤ◌, Option, None, Some, List, [], ◌∷◌, refl, arith, sym, ap, ◌∙◌, FinMap}
+use Rattle.xa_base.proofs.{get-empty, none_pass, none_passes, if◌then◌else◌, subst}
 use Rattle.std.specs.FinMap.{get-retain_keys}
 use Rattle.xa_words.specs.{XidName, xid_cmp, xid_eq, xid_cmp-IsAntisymmetric}
 use Rattle.xa_words.specs.Orders.{key_cmp}

@@ -1,8 +1,7 @@
 -- What a step keeps of the facts on branches in S3, and of who is associated.
-use Rattle.std.proofs.Common.{rules}
-use Rattle.xa_base.proofs.{◌≡◌, ◌≢◌, ℕ, ℤ, Bool, true, false, cond, Option, None, Some, is_some, refl, arith, sym, ap, ◌∙◌, subst, nat_cmp, eq_by_cmp, is_eq}
-use Rattle.xa_base.proofs.{nat_cmp_total, tied_itself, FinMap, get-insert, get-remove, nat_cmp-IsAntisymmetric, is_equal, tied_true, tied_false, none_pass}
-use Rattle.xa_base.proofs.{none_passes, ◌||◌, or_from, or_parts, List, get-lookup}
+use Rattle.xa_base.proofs.{rules, ◌≡◌, ◌≢◌, ℕ, ℤ, Bool, true, false, cond, Option, None, Some, is_some, refl, arith, sym, ap, ◌∙◌, subst, nat_cmp, eq_by_cmp}
+use Rattle.xa_base.proofs.{is_eq, nat_cmp_total, tied_itself, FinMap, get-insert, get-remove, nat_cmp-IsAntisymmetric, is_equal, tied_true, tied_false}
+use Rattle.xa_base.proofs.{none_pass, none_passes, ◌||◌, or_from, or_parts, List, get-lookup}
 use Rattle.std.specs.Borrow.{MutBor}
 use Rattle.std.specs.Option.{OnSome}
 use Rattle.std.specs.FinMap.{same_map}
@@ -161,12 +160,6 @@ pub sound_put : (states states' : States) (sums sums' : Sums) (values values' : 
     → ((y : XidName) → y ≢ x → is_broken values' sums' y ≡ is_broken values sums y) → ArePreparedSound states sums values
     → ArePreparedSound states' sums' values'
 sound_put states states' sums sums' values values' x s e here others = grind (arith, sound_but, others_put, put_here)
-
--- x is gone
-pub sound_removed : (states states' : States) (sums sums' : Sums) (values values' : Values) (x : XidName) → states' ≡ map.remove states x
-    → ((y : XidName) → y ≢ x → is_broken values' sums' y ≡ is_broken values sums y) → ArePreparedSound states sums values
-    → ArePreparedSound states' sums' values'
-sound_removed states states' sums sums' values values' x e others = grind (arith, sound_but, others_removed, removed_here)
 
 -- x isn't in S3, and stays in its state
 pub sound_others : (states : States) (sums sums' : Sums) (values values' : Values) (x : XidName) → is_S3 (map.get states x) ≡ false

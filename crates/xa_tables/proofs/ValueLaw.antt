@@ -1,7 +1,6 @@
 -- What a history moves of a key's value: the additions whose branches commit.
-use Rattle.std.proofs.Common.{rules}
-use Rattle.xa_base.proofs.{◌≡◌, ◌≢◌, ℕ, ℤ, pos, ◌+ℤ◌, option_map, Bool, true, false, cond, not, ◌&&◌, if◌then◌else◌, Option, None, Some, List, [], ◌∷◌, refl}
-use Rattle.xa_base.proofs.{sym, ap, ◌∙◌, subst, arith, get-insert, FinMap, not-false, +ℤ_idl as none_plus, ints, get-map_values, none_passes}
+use Rattle.xa_base.proofs.{rules, ◌≡◌, ◌≢◌, ℕ, ℤ, pos, ◌+ℤ◌, option_map, Bool, true, false, cond, not, ◌&&◌, if◌then◌else◌, Option, None, Some, List, [], ◌∷◌}
+use Rattle.xa_base.proofs.{refl, sym, ap, ◌∙◌, subst, arith, get-insert, FinMap, not-false, +ℤ_idl as none_plus, ints, get-map_values, none_passes}
 use Rattle.std.specs.FinMap as map
 use Rattle.std.specs.FinMap.{get-retain_keys}
 use Rattle.xa_words.specs.{XidName, xid_eq, Decides-xid_eq, key_cmp_total, key_cmp-IsAntisymmetric, Decides-key_eq, Done, Op, Add, key_eq, Code}

@@ -1,8 +1,7 @@
 -- The law: the value of a declared key stays within the limits, whatever is requested, over any openings.
-use Rattle.std.proofs.Common.{rules}
-use Rattle.xa_base.proofs.{◌≡◌, ◌≢◌, ℕ, ℤ, pos, ◌+ℤ◌, Bool, true, false, cond, not, ◌&&◌, Option, None, Some, List, [], ◌∷◌, map, refl, option_map, unwrap_or}
-use Rattle.xa_base.proofs.{nat_le, list_all, sym, ap, ◌∙◌, subst, le-leb, arith, FinMap, find, get-empty, get-from_entries, eq_by_cmp, and_parts, not-false}
-use Rattle.xa_base.proofs.{+ℤ_idr as plus_none, by_bool, none_passes}
+use Rattle.xa_base.proofs.{rules, ◌≡◌, ◌≢◌, ℕ, ℤ, pos, ◌+ℤ◌, Bool, true, false, cond, not, ◌&&◌, Option, None, Some, List, [], ◌∷◌, map, refl, option_map}
+use Rattle.xa_base.proofs.{unwrap_or, nat_le, list_all, sym, ap, ◌∙◌, subst, le-leb, arith, FinMap, find, get-empty, get-from_entries, eq_by_cmp, and_parts}
+use Rattle.xa_base.proofs.{not-false, +ℤ_idr as plus_none, by_bool, none_passes}
 use Rattle.std.specs.FinMap as finmap
 use Rattle.xa_words.specs.{XidName, xid_cmp, xid_eq, key_cmp_total, Decides-xid_eq, Decides-key_eq, Op, key_eq}
 use Rattle.xa_words.specs.Orders.{key_cmp}

@@ -1,7 +1,6 @@
 -- The law: a branch whose work one thread did has added what that thread added.
-use Rattle.std.proofs.Common.{rules}
-use Rattle.xa_base.proofs.{◌≡◌, ◌≢◌, ℕ, ◌+◌, ◌==◌, ℤ, pos, ◌+ℤ◌, true, false, if◌then◌else◌, Option, Some, List, [], ◌∷◌, ◌++◌, refl, sym, ap, ◌∙◌, arith, ints}
-use Rattle.xa_base.proofs.{eqb-true, eqb-false, All-head, All-tail, +ℤ_idl as none_plus, +ℤ_idr as plus_none}
+use Rattle.xa_base.proofs.{rules, ◌≡◌, ◌≢◌, ℕ, ◌+◌, ◌==◌, ℤ, pos, ◌+ℤ◌, true, false, if◌then◌else◌, Option, Some, List, [], ◌∷◌, ◌++◌, refl, sym, ap, ◌∙◌}
+use Rattle.xa_base.proofs.{arith, ints, eqb-true, eqb-false, All-head, All-tail, +ℤ_idl as none_plus, +ℤ_idr as plus_none}
 use Rattle.xa_words.specs.{XidName, xid_eq, Decides-xid_eq, Done, Op, Start, Add, End, Fresh, Success, Request, Code}
 use Rattle.xa_tables.specs.{Association, Associated, association_of, is_association_with, is_associated, is_somebody_associated, Answer, next, association}
 use Rattle.xa_tables.specs.{Live, of_thread, tables_after, fate_of, ending, is_done, added_by, IsOpening, names, NamesNowhere, gain, unless_ended, added_by_now}

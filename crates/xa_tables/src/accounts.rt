@@ -111,7 +111,7 @@ impl Accounts {
     }
 
     /// Whether the branch has touched a key.
-    #[tactic(auto, using(crate::proofs::HeldLemmas::held_alike, crate::proofs::HeldLemmas::touched_held, crate::proofs::AccountLemmas::touched_any))]
+    #[tactic(auto, using(crate::proofs::HeldLemmas::touching))]
     pub(crate) fn has_touched(&self, xid: &Xid) -> bool
         ensures { result ≡ has_touched self.now.sums xid.now }
     {
@@ -363,7 +363,7 @@ fn with_added(account: &Account, adds: u64, xid: &Xid, delta: Delta) -> Account
 }
 
 // Adds to the values what the branch holds, and lets go of it.
-#[tactic(auto, using(crate::proofs::HeldLemmas::held_within, crate::proofs::HeldLemmas::read_at, crate::proofs::AccountLemmas::passes_none))]
+#[tactic(auto, using(crate::proofs::HeldLemmas::walking))]
 fn post_all(accounts: &mut [Account], held: &[usize], xid: &Xid)
     requires held { AreHeld held.now accounts.old }
     requires whole { list_any (λ a. is_broken_by a xid.now) accounts.old ≡ false }

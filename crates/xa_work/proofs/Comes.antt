@@ -1,7 +1,6 @@
 -- A commit of a unit of work names its branches alone.
-use Rattle.std.proofs.Common.{arith}
-use Rattle.xa_base.proofs.{◌≡◌, true, Option, List, any_at}
-use Rattle.xa_words.specs.{XidName, xid_eq, Death}
+use Rattle.xa_base.proofs.{arith, Option, List, any_at}
+use Rattle.xa_words.specs.{Death}
 use Rattle.xa_desk.specs.{LedgerView, DeskView}
 use Rattle.xa_driver.specs.{Branch}
 use Rattle.xa_log.specs.{LogState}

@@ -1,6 +1,5 @@
 -- The work for branches in flight that was all done: what was put to each manager, and what was collected.
-use Rattle.std.proofs.Common.{rules}
-use Rattle.xa_base.proofs.{◌≡◌, ℕ, suc, ◌+◌, ◌≤◌, Bool, true, false, cond, ◌==◌, List, [], ◌∷◌, ◌++◌, length, map, filter, length-append, append_assoc, sym}
+use Rattle.xa_base.proofs.{rules, ◌≡◌, ℕ, ◌+◌, ◌≤◌, Bool, true, false, cond, ◌==◌, List, [], ◌∷◌, ◌++◌, length, map, filter, length-append, append_assoc, sym}
 use Rattle.xa_base.proofs.{refl, ap, ◌∙◌, subst, arith, eq-eqb, All, list_any, range_with_len, eqb-true, or_parts, append-nil, map-append, All-head, All-tail}
 use Rattle.xa_base.proofs.{filter-append, list_any-append, all_left, all_right, range_suc}
 use Rattle.xa_base.specs.{Chain}

@@ -1,15 +1,14 @@
 -- What comes of a call that its flags make asynchronous, and of collecting by its handle.
-use Rattle.xa_base.proofs.{◌≡◌, ◌≢◌, ℕ, zero, suc, ◌<◌, ℤ, pos, Bool, true, false, Option, Some, None, option_map, if◌then◌else◌, Result, Err, IfOk, refl, sym}
-use Rattle.xa_base.proofs.{ap, ◌∙◌, subst, inl, inr, arith, w32, of_z, ◌==◌, List, option_or, nat_cmp}
+use Rattle.xa_base.proofs.{◌≡◌, ◌≢◌, ℕ, suc, ◌<◌, ℤ, pos, Bool, true, false, Option, Some, None, option_map, if◌then◌else◌, Result, Err, IfOk, refl, sym, ap}
+use Rattle.xa_base.proofs.{◌∙◌, subst, arith, w32, of_z, ◌==◌, option_or, nat_cmp}
 use Rattle.std.specs.FinMap as map
 use Rattle.xa_words.specs.CodeNumbers.{number_of}
 use Rattle.xa_words.specs.{Code, Done, Async, Inval, Op}
-use Rattle.xa_desk.specs.{Refused, NoSuchManager, Operation, IsHandle, ledger, after_sent, after_collected, next_operation, reach_refusal, submit_refusal}
-use Rattle.xa_desk.specs.{LedgerView, DeskView}
+use Rattle.xa_desk.specs.{Refused, NoSuchManager, IsHandle, ledger, reach_refusal, submit_refusal, DeskView}
 use Rattle.xa_calls.specs.{code_of, async_refusal, put_refusal, Puts, CompletesAt, CompletesOne, HasCompleted, Tells, CollectsRedeemed, may_complete, number_in}
 use Rattle.xa_calls.specs.Putting.Puts.{refused, full, kept, answered}
 use Rattle.xa_calls.specs.Completing.CompletesOne.{unknown, retry, ready, waited}
-use Rattle.xa_work.specs.{StaysSo, IsTurnedAway, IsPut, PutsOp, IsNoHandle, IsCollected, CollectsOp, done}
+use Rattle.xa_work.specs.{StaysSo, IsTurnedAway, PutsOp, IsNoHandle, IsCollected, CollectsOp, done}
 use Rattle.xa_work.specs.Requests.{undone}
 
 -- ---- a request

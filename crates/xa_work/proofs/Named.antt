@@ -1,6 +1,5 @@
 -- Which branches the requests of a unit of work name, one after the other.
-use Rattle.std.proofs.Common.{arith}
-use Rattle.xa_base.proofs.{◌≡◌, ℕ, Bool, true, false, List, [], ◌∷◌, ◌++◌, map, Some, refl, sym, ap, subst, slice_get, All, All-nil, All-cons, All-head}
+use Rattle.xa_base.proofs.{arith, ◌≡◌, ℕ, Bool, true, false, List, [], ◌∷◌, ◌++◌, map, Some, refl, sym, ap, subst, slice_get, All, All-nil, All-cons, All-head}
 use Rattle.xa_base.proofs.{All-tail, All-append, All-map, all_at, all_from, all_left, all_right, all_unmapped, any_at}
 use Rattle.xa_base.specs.{Chain}
 use Rattle.xa_base.specs.Lists.Chain.{none, more}
@@ -10,7 +9,7 @@ use Rattle.xa_tables.specs.{names}
 use Rattle.xa_desk.specs.{LedgerView, DeskView, ledger}
 use Rattle.xa_driver.specs.{Branch, is_commit}
 use Rattle.xa_work.specs.{Change, CallsOp, CollectsOp, PutsAtLast, HaveSent, IsFor, Asks, Called, CallsBranch, CallsBranches, GivesUp, Got, HasWorked}
-use Rattle.xa_work.specs.{HaveWorked, Put, Tries, TriesInFlight, changes_at, in_flight, in_turn, ops_of, requests_at, requests_of}
+use Rattle.xa_work.specs.{HaveWorked, Put, Tries, TriesInFlight, changes_at, in_flight, in_turn, ops_of, requests_of}
 use Rattle.xa_work.specs.Works.CallsBranches.{completed, stopped}
 use Rattle.xa_work.proofs.Sent.{call_sent, collect_sent, have_none, have_on, put_sent}
 use Rattle.xa_work.proofs.Called.{op_sent}

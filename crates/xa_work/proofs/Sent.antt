@@ -1,9 +1,9 @@
 -- Which requests were sent since: what is done one after the other, and what a request or a collection adds.
-use Rattle.xa_base.proofs.{arith, ◌≡◌, ℕ, suc, Bool, false, ℤ, pos, List, [], ◌∷◌, ◌++◌, length, append_assoc, sym, refl, ap, ◌∙◌, subst, Option, None, Some}
-use Rattle.xa_base.proofs.{append-nil, All-nil, All-cons, All-append, All-weaker, same_begins, begins_on, by_if}
+use Rattle.xa_base.proofs.{arith, ◌≡◌, ℕ, suc, Bool, false, ℤ, pos, List, [], ◌∷◌, ◌++◌, append_assoc, sym, refl, ap, ◌∙◌, subst, Option, None, Some}
+use Rattle.xa_base.proofs.{append-nil, All-nil, All-cons, All-append, All-weaker, same_begins, begins_on}
 use Rattle.xa_words.specs.{Code, Op}
-use Rattle.xa_desk.specs.{Operation, learnt_shut, with_sent, with_collected, ledger, after_sent, after_collected, next_operation, submitted, after_fulls}
-use Rattle.xa_desk.specs.{Collects, LedgerView, DeskView}
+use Rattle.xa_desk.specs.{Operation, with_sent, with_collected, ledger, after_sent, after_collected, next_operation, submitted, after_fulls, Collects}
+use Rattle.xa_desk.specs.{LedgerView, DeskView}
 use Rattle.xa_desk.proofs.Ledgers.{put_each}
 use Rattle.xa_calls.specs.{Puts}
 use Rattle.xa_calls.specs.Putting.Puts.{refused, full, kept, answered}

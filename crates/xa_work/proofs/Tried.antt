@@ -1,10 +1,10 @@
 -- Where all of the work answered XA_OK, all of it was done.
-use Rattle.xa_base.proofs.{◌≡◌, ◌≢◌, ℕ, zero, suc, ◌<◌, ◌≤◌, Bool, true, false, cond, ◌||◌, ◌==◌, List, [], ◌∷◌, ◌++◌, length, map, filter, sym, refl, ap, ◌∙◌}
-use Rattle.xa_base.proofs.{subst, arith, eq-eqb, Some, slice_get, All, list_any, range_with_len, cases_lt, ne_eqb, or_parts, All-nil, All-cons, All-head}
-use Rattle.xa_base.proofs.{All-tail, All-append, All-map, list_any-append, all_at, all_from, all_unmapped, flat_one, some_same}
+use Rattle.xa_base.proofs.{◌≡◌, ◌≢◌, ℕ, zero, suc, ◌<◌, ◌≤◌, Bool, true, false, cond, ◌||◌, ◌==◌, List, [], ◌∷◌, map, filter, sym, refl, ap, ◌∙◌, subst, arith}
+use Rattle.xa_base.proofs.{eq-eqb, Some, slice_get, All, list_any, range_with_len, cases_lt, ne_eqb, or_parts, All-nil, All-cons, All-head, All-tail}
+use Rattle.xa_base.proofs.{All-append, All-map, list_any-append, all_at, all_from, all_unmapped, flat_one, some_same}
 use Rattle.std.proofs.lemmas.List.Sums.{AllPass-from_list_all}
 use Rattle.std.proofs.lemmas.Simd.{map-map as map_map}
-use Rattle.xa_words.specs.{Done, Op}
+use Rattle.xa_words.specs.{Op}
 use Rattle.xa_desk.specs.{Operation, IsKnown, ledger, LedgerView, DeskView}
 use Rattle.xa_driver.specs.{Branch, AreBranchesRising, HaveRoom, has_branch_at}
 use Rattle.xa_work.specs.{Flight, Change, Got, HasWorked, HaveWorked, Put, Tries, TriesInFlight, in_flight, in_turn, ops_of, requests_at, requests_of}

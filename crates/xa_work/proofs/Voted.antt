@@ -1,14 +1,11 @@
 -- What a commit sent: one that was made, one that came to no decision, or one whose coordinator died.
-use Rattle.std.proofs.Common.{arith}
-use Rattle.xa_base.proofs.{◌≡◌, ◌≤◌, ℕ, zero, suc, Bool, true, false, ◌||◌, ◌==◌, Option, Some, None, List, [], ◌∷◌, map, refl, sym, ◌∙◌, subst, All, eqb-true}
-use Rattle.xa_base.proofs.{All-nil, All-cons, All-head, All-tail, same_begins, some_same, by_if}
+use Rattle.xa_base.proofs.{arith, ◌≡◌, ◌≤◌, ℕ, zero, suc, Bool, true, false, ◌||◌, ◌==◌, Option, Some, None, List, [], ◌∷◌, refl, sym, subst, All, eqb-true}
+use Rattle.xa_base.proofs.{All-nil, All-cons, All-head, All-tail, same_begins, some_same}
 use Rattle.xa_words.specs.{XidName, TranName, Death, Op, Commit, Forget, Prepare, Rollback, Code}
 use Rattle.xa_words.specs.declared.death.Death.TheVariants as death
-use Rattle.xa_tables.specs.{is_rolled_back}
 use Rattle.xa_desk.specs.{LedgerView, ledger}
-use Rattle.xa_driver.specs.{Branch, Done, Ending, Ask, code_of, AsksFor, AtBranch, CameTo, HaveAsked, HaveTold, PutsLedger, Tells, VotesAndHears, VotesAndObeys}
-use Rattle.xa_driver.specs.{is_read, is_yes, is_decided, is_out_of_reach, to_come, withheld, second_op, third_op, AsksLedger, HasVoted, EachBranch}
-use Rattle.xa_driver.specs.{IsTraceOfCommit, has_branch_at}
+use Rattle.xa_driver.specs.{Branch, Done, Ending, AsksFor, AtBranch, CameTo, HaveAsked, HaveTold, PutsLedger, Tells, VotesAndHears, VotesAndObeys, to_come}
+use Rattle.xa_driver.specs.{withheld, second_op, third_op, AsksLedger, HasVoted, EachBranch, IsTraceOfCommit, has_branch_at}
 use Rattle.xa_driver.specs.Deaths.{sent}
 use Rattle.xa_log.specs.{LogState}
 use Rattle.xa_driver.proofs.AtDeath.{asked_all}

@@ -1,6 +1,5 @@
 -- Journals that grow by an entry.
-use Rattle.std.proofs.Common.{arith}
-use Rattle.xa_base.proofs.{◌≡◌, ℕ, ◌==◌, true, false, cond, List, [], ◌∷◌, ◌++◌, map, refl, sym, ap, ◌∙◌, filter, map-append, filter-append}
+use Rattle.xa_base.proofs.{arith, ◌≡◌, ℕ, ◌==◌, true, false, cond, List, [], ◌∷◌, ◌++◌, map, refl, sym, ap, ◌∙◌, filter, map-append, filter-append}
 use Rattle.xa_words.specs.{Request}
 use Rattle.xa_tables.specs.{Tables, next, codes, tables_after, History}
 use Rattle.xa_worker.specs.{Entry, entry_next, tables_next, requests, codes_in, Follows, completion_of, owed}

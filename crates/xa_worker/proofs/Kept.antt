@@ -1,6 +1,5 @@
 -- The parts of a worker after a step.
-use Rattle.std.proofs.Common.{arith}
-use Rattle.xa_base.proofs.{◌≡◌, ℕ}
+use Rattle.xa_base.proofs.{arith, ◌≡◌, ℕ}
 use Rattle.xa_lane.specs.{has_ended}
 use Rattle.xa_worker.specs.{IsTied, working_of, IsWorker, Inside}
 

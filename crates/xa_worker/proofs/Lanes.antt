@@ -1,7 +1,6 @@
 -- Lanes of completions, place by place.
-use Rattle.std.proofs.Common.{arith}
-use Rattle.xa_base.proofs.{◌≡◌, ◌≢◌, ⊎_elim, ℕ, ◌<◌, ◌==◌, Bool, true, false, cond, List, [], ◌∷◌, ◌++◌, length, map, Option, Some, None, refl, sym, ap, ◌∙◌}
-use Rattle.xa_base.proofs.{subst, eq-eqb, ne_eqb, append-nil, length-map}
+use Rattle.xa_base.proofs.{arith, ◌≡◌, ◌≢◌, ⊎_elim, ℕ, ◌<◌, ◌==◌, Bool, true, false, cond, List, [], ◌∷◌, ◌++◌, length, map, Option, Some, None, refl, sym, ap}
+use Rattle.xa_base.proofs.{◌∙◌, subst, eq-eqb, ne_eqb, append-nil, length-map}
 use Rattle.std.specs.Prelude.{MatchBool}
 use Rattle.std.proofs.lemmas.Bool.Decides.{eqb_tells}
 use Rattle.xa_words.specs.{Completion}

@@ -1,6 +1,5 @@
 -- What a pace is told.
-use Rattle.std.proofs.Common.{arith}
-use Rattle.xa_base.proofs.{◌≡◌, List, [], ◌∷◌, ◌++◌, refl, sym, ap, ◌∙◌, subst, append-nil, append_assoc, map-append}
+use Rattle.xa_base.proofs.{arith, ◌≡◌, List, [], ◌∷◌, ◌++◌, refl, sym, ap, ◌∙◌, subst, append-nil, append_assoc, map-append}
 use Rattle.xa_words.specs.{Request}
 use Rattle.xa_tables.specs.{History}
 use Rattle.xa_worker.specs.{Entry, requests, IsTold, Paces}

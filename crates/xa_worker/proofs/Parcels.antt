@@ -24,9 +24,6 @@ module _ {T : Type 0} where
   pub ended_item : (p s : ℕ) (taken : List (Parcel T)) (x : T) → has_ended p (taken ++ parcel s (Some x) ∷ []) ≡ has_ended p taken
   ended_item p s taken x = search (arith, has_ended-append, or-false)
 
-  abbrev no_marks : List (Option T)
-  no_marks = []
-
   -- an end mark ends its sender
   ended_mark : (p s : ℕ) (taken : List (Parcel T)) → has_ended p (taken ++ parcel s None ∷ []) ≡ (has_ended p taken || (s == p))
   ended_mark p s taken = search (arith, has_ended-append)

@@ -1,6 +1,5 @@
 -- Workers keep their seats.
-use Rattle.std.proofs.Common.{arith}
-use Rattle.xa_base.proofs.{◌≡◌, refl}
+use Rattle.xa_base.proofs.{arith, ◌≡◌, refl}
 use Rattle.xa_lane.specs.{bare, end_seat}
 use Rattle.xa_lane.proofs.Senders.{map-alike}
 use Rattle.xa_worker.specs.{Answering, WorkerView, SameWorker, Served, SameServed, seat_of_worker, seat_of_done}

@@ -1,7 +1,6 @@
 -- What each kind of step keeps of a worker.
-use Rattle.std.proofs.Common.{rules}
-use Rattle.xa_base.proofs.{◌≡◌, ◌⊎◌, ⊎_elim, append_assoc, ℕ, ◌+◌, ◌-◌, ◌<◌, ◌==◌, Bool, true, false, cond, List, [], ◌∷◌, ◌++◌, length, map, get_or, Some}
-use Rattle.xa_base.proofs.{None, sym, ap, ◌∙◌, subst, arith, append-nil, map-append, length-map}
+use Rattle.xa_base.proofs.{rules, ◌≡◌, ◌⊎◌, ⊎_elim, append_assoc, ℕ, ◌+◌, ◌-◌, ◌<◌, ◌==◌, Bool, true, false, cond, List, [], ◌∷◌, ◌++◌, length, map, get_or}
+use Rattle.xa_base.proofs.{Some, None, sym, ap, ◌∙◌, subst, arith, append-nil, map-append, length-map}
 use Rattle.xa_words.specs.{Request, Completion}
 use Rattle.xa_tables.specs.{Managed}
 use Rattle.xa_lane.specs.{Item, EndOf, Empty as Nothing, Took, but_full, bare, sent_at}

@@ -1,2 +1,5 @@
-pub returns : Rattle.xa_atomicity.proofs.tables_keep_to_their_laws.Goals.returns
-returns c = search (Rattle.xa_base.proofs.arith, Rattle.xa_base.proofs.rules)
+use Rattle.xa_base.proofs.{arith, rules}
+use Rattle.xa_atomicity.proofs.tables_keep_to_their_laws.Goals as goal
+
+pub returns : goal.returns
+returns c = search (arith, rules)

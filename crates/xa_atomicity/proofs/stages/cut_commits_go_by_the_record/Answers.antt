@@ -1,2 +1,5 @@
-pub returns : Rattle.xa_atomicity.proofs.stages.cut_commits_go_by_the_record.Goals.returns
-returns c = record { unrecorded = Rattle.xa_atomicity.proofs.CutSends.unrecorded_law; recorded = Rattle.xa_atomicity.proofs.CutSends.recorded_law }
+use Rattle.xa_atomicity.proofs.CutSends.{unrecorded_law, recorded_law}
+use Rattle.xa_atomicity.proofs.stages.cut_commits_go_by_the_record.Goals as goal
+
+pub returns : goal.returns
+returns c = record { unrecorded = unrecorded_law; recorded = recorded_law }

@@ -1,6 +1,5 @@
-use Rattle.std.proofs.Common.{arith}
-use Rattle.xa_base.proofs.{◌≡◌, ℕ, ◌==◌, Bool, true, if◌then◌else◌, None, Option, Some, ap, ◌∙◌, eq-eqb, subst, sym}
-use Rattle.xa_bank.specs.{ShutsAt, store_if_at, MayShut}
+use Rattle.xa_base.proofs.{arith, ◌≡◌, ℕ, ◌==◌, true, Option, Some, eq-eqb, subst, sym}
+use Rattle.xa_bank.specs.{store_if_at, MayShut}
 use Rattle.xa_bank.proofs.teller.shut.Goals as goal
 
 pub returns-then-shuts-place-clause-shuts : goal.returns-then-shuts-place-clause-shuts

@@ -1,4 +1,3 @@
-use Rattle.std.proofs.Common.{arith}
 use Rattle.xa_base.proofs.{ap, ◌∙◌, refl, Err}
 use Rattle.xa_calls.specs.Completing.CompletesAny.{retry, least}
 use Rattle.xa_calls.proofs.completing.complete_any.Goals as goal

@@ -1,4 +1,3 @@
-use Rattle.std.proofs.Common.{arith}
 use Rattle.xa_base.proofs.{Bool, true, sym, subst}
 use Rattle.xa_calls.specs.{CompletesAt}
 use Rattle.xa_calls.proofs.completing.complete_in.Goals as goal

@@ -1,6 +1,4 @@
-use Rattle.std.proofs.Common.{rules}
-use Rattle.std.proofs.Common.{arith}
-use Rattle.xa_base.proofs.{sym, subst, refl}
+use Rattle.xa_base.proofs.{arith, sym, subst, refl}
 use Rattle.xa_desk.specs.{DeskView, Collects}
 use Rattle.xa_calls.specs.Completing.CompletesOne.{retry, ready, waited}
 use Rattle.xa_calls.proofs.Leaving.{leaves_all}

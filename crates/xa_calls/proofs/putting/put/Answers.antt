@@ -1,5 +1,4 @@
-use Rattle.std.proofs.Common.{rules}
-use Rattle.xa_base.proofs.{◌≡◌, ◌≤◌, ℕ, ℤ, true, Option, Some, None, Ok, Err, sym, ap, ◌∙◌, subst, arith, refl, of_z, w32, pos, option_map, to_z-of_z, ints}
+use Rattle.xa_base.proofs.{rules, ◌≡◌, ◌≤◌, ℕ, ℤ, true, Option, Some, None, Ok, sym, ap, ◌∙◌, subst, arith, refl, of_z, w32, pos, option_map, to_z-of_z, ints}
 use Rattle.std.proofs.Common.{to_z}
 use Rattle.std.proofs.lemmas.Int.{to_z_pos}
 use Rattle.xa_words.specs.CodeNumbers.{number_of}

@@ -1,5 +1,4 @@
-use Rattle.std.proofs.Common.{arith}
-use Rattle.xa_base.proofs.{◌≡◌, false, None, Some, Ok, Err, refl, ap, ◌∙◌, option_map}
+use Rattle.xa_base.proofs.{arith, ◌≡◌, false, None, Ok, refl, ap, option_map}
 use Rattle.xa_words.specs.{Listed}
 use Rattle.xa_calls.specs.{code_of, put_refusal}
 use Rattle.xa_calls.specs.Scans.{refused, answered}

@@ -1,5 +1,4 @@
-use Rattle.std.proofs.Common.{arith}
-use Rattle.xa_base.proofs.{refl, rules}
+use Rattle.xa_base.proofs.{arith, refl, rules}
 use Rattle.xa_calls.proofs.Leaving.{leaves_all}
 use Rattle.xa_calls.proofs.recovering.recover_by.Goals as goal
 

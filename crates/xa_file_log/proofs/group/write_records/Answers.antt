@@ -1,5 +1,4 @@
-use Rattle.std.proofs.Common.{arith}
-use Rattle.xa_base.proofs.{sym, subst}
+use Rattle.xa_base.proofs.{arith, sym, subst}
 use Rattle.xa_file_log.specs.{StandsFor, table_of, placed}
 use Rattle.xa_file_log.proofs.Moments.{goes_on, weaker}
 use Rattle.xa_file_log.proofs.Placed.{stands_shown_coming, up_to_gates, placed_shown}

@@ -1,5 +1,4 @@
-use Rattle.std.proofs.Common.{arith}
-use Rattle.xa_base.proofs.{◌∷◌, Ok, Some, None, ◌≡◌, true, false, ap, sym, ◌∙◌, rules, err_from_is_err_and}
+use Rattle.xa_base.proofs.{arith, ◌∷◌, Ok, Some, ◌≡◌, true, false, ap, sym, ◌∙◌, rules, err_from_is_err_and}
 use Rattle.std.specs.Prelude.{codes}
 use Rattle.std.specs.Str.{bytes_eq}
 use Rattle.xa_grammar.specs.Fields.{◌>>=◌}

@@ -1,4 +1,4 @@
-use Rattle.xa_base.proofs.{◌≡◌, ◌-◌, true, false, length, take, drop, list_all, rules, arith, sym, ap, ◌∙◌}
+use Rattle.xa_base.proofs.{◌≡◌, ◌-◌, true, take, drop, list_all, rules, arith}
 use Rattle.std.proofs.lemmas.List.{take_rest}
 use Rattle.xa_grammar.specs.{is_script_byte}
 use Rattle.xa_grammar.proofs.Blocks.{block_more, block_bad, block_last}

@@ -1,4 +1,3 @@
-use Rattle.std.proofs.Common.{arith}
 use Rattle.xa_base.proofs.{sym, ◌∙◌}
 use Rattle.xa_grammar.specs.declared.step.Step.TheVariants as step
 use Rattle.xa_grammar.proofs.ScriptLemmas.{setting_kept, logfail_kept, logunknown_kept, declared_kept, step_kept, turn_is}

@@ -1,5 +1,4 @@
-use Rattle.std.proofs.Common.{arith}
-use Rattle.xa_base.proofs.{◌≡◌, sym, ap, ◌∙◌, subst, refl, All}
+use Rattle.xa_base.proofs.{arith, ◌≡◌, sym, ap, ◌∙◌, subst, refl, All}
 use Rattle.crossbeam_queue.specs.Passes.{view}
 use Rattle.xa_lane.specs.{made_in, taken_in, Sending, Receiving, line_of, IsWhole}
 use Rattle.xa_lane.proofs.Closes.{covers_as, marked_as, known_as, conserves_of_ends, leaves_nothing, knows_itself, knows_no_end}

@@ -1,5 +1,4 @@
-use Rattle.std.proofs.Common.{arith}
-use Rattle.xa_base.proofs.{◌≡◌, ◌+◌, ◌++◌, ◌∷◌, [], ap, sym, subst, refl, take, drop, true, ◌∙◌, take_more}
+use Rattle.xa_base.proofs.{arith, ◌≡◌, ◌+◌, ◌++◌, ◌∷◌, [], ap, sym, subst, take, drop, true, ◌∙◌, take_more}
 use Rattle.xa_log.specs.{AreNew}
 use Rattle.xa_log_worker.specs.{answered_by, records_in}
 use Rattle.xa_log_worker.proofs.Deeds.{new_after}

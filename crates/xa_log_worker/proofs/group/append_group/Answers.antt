@@ -1,7 +1,4 @@
-use Rattle.std.proofs.Common.{arith}
-use Rattle.xa_base.proofs.{false, ap, rules, sym, subst, ◌∙◌}
-use Rattle.xa_log.specs.{with_records}
-use Rattle.xa_log_worker.specs.{Settles, records_in}
+use Rattle.xa_base.proofs.{arith, false, rules}
 use Rattle.xa_log_worker.proofs.Groups.{settles_taken, settles_lost, settles_after_refusal, new_failed}
 use Rattle.xa_log_worker.proofs.group.append_group.Goals as goal
 

@@ -1,4 +1,4 @@
-use Rattle.xa_base.proofs.{refl, arith, ◌∙◌}
+use Rattle.xa_base.proofs.{refl, arith}
 use Rattle.xa_log_worker.proofs.Moves.{works-chain, works_none}
 use Rattle.xa_log_worker.proofs.worker.gather.Goals as goal
 

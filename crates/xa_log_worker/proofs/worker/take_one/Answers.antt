@@ -1,5 +1,4 @@
-use Rattle.std.proofs.Common.{arith}
-use Rattle.xa_base.proofs.{ap, ◌∙◌}
+use Rattle.xa_base.proofs.{arith, ap}
 use Rattle.xa_lane.specs.{received}
 use Rattle.xa_log_worker.specs.{Asked}
 use Rattle.xa_log_worker.proofs.Moves.{works_none, works_one}

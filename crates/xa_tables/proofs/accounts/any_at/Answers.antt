@@ -1,5 +1,4 @@
-use Rattle.std.proofs.Common.{arith}
-use Rattle.xa_base.proofs.{◌≡◌, ◌∙◌, sym, ap, rules, get_or, list_any, or_from, take_all}
+use Rattle.xa_base.proofs.{arith, ◌≡◌, ◌∙◌, sym, ap, rules, get_or, list_any, or_from, take_all}
 use Rattle.std.proofs.lemmas.List.Folds.{list_any_at, list_any_more}
 use Rattle.xa_tables.specs.{passes_at}
 use Rattle.xa_tables.proofs.HeldLemmas.{held_within, passes_read, none_held}

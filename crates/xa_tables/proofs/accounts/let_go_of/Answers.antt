@@ -1,5 +1,4 @@
-use Rattle.std.proofs.Common.{arith}
-use Rattle.xa_base.proofs.{◌≡◌, Bool, true, false, Some, None, rules, sym, ap, ◌∙◌, if◌then◌else◌}
+use Rattle.xa_base.proofs.{arith, ◌≡◌, Bool, true, false, Some, None, rules, sym, ap, ◌∙◌, if◌then◌else◌}
 use Rattle.xa_words.specs.{XidName}
 use Rattle.xa_tables.specs.{Account, Hold, hold_where, kept_where}
 use Rattle.xa_tables.proofs.accounts.let_go_of.Goals as goal

@@ -1,5 +1,4 @@
-use Rattle.std.proofs.Common.{arith}
-use Rattle.xa_base.proofs.{◌≡◌, ◌<◌, ◌&&◌, ℕ, List, length, pos, sym, subst, ◌∙◌, slice_index_or, slice_get-get_or, one_more, some_same}
+use Rattle.xa_base.proofs.{arith, ◌≡◌, ◌<◌, ◌&&◌, ℕ, List, length, pos, sym, subst, ◌∙◌, slice_index_or, slice_get-get_or, one_more, some_same}
 use Rattle.xa_work.specs.{Flight, CollectsAll}
 use Rattle.xa_work.proofs.Making.{collects_more, collects_none}
 use Rattle.xa_work.proofs.in_flight.collect_all.Goals as goal

@@ -1,7 +1,7 @@
-use Rattle.xa_base.proofs.{◌+◌, ◌≤◌, List, length, vec_capacity, Vec, [], ◌∷◌, arith, ap, drop, length-append, subst, sym, take, ◌∙◌, Global}
+use Rattle.xa_base.proofs.{◌+◌, List, length, vec_capacity, Vec, [], ◌∷◌, arith, ap, length-append, subst, sym, take, ◌∙◌, Global}
 use Rattle.xa_words.specs.{Add, End, Start, Success, Fresh}
 use Rattle.xa_desk.specs.{GoesOn, AllKept, DeskView}
-use Rattle.xa_work.specs.{Flight, PutsRequests, changes_at}
+use Rattle.xa_work.specs.{Flight, PutsRequests}
 use Rattle.xa_work.proofs.Making.{Adds, adds_none, adds_one, at_of, begun_all, begun_elsewhere, begun_here, begun_of, left_elsewhere, left_here, steps_are}
 use Rattle.xa_work.proofs.in_flight.put_branch.Goals as goal
 use Rattle.xa_work.proofs.in_flight.put_branch.Goals.{then-change-branch, else-change-branch}

@@ -1,5 +1,4 @@
-use Rattle.std.proofs.Common.{arith}
-use Rattle.xa_work.specs.{op_of}
+use Rattle.xa_base.proofs.{arith}
 use Rattle.xa_work.proofs.Called.{call_by}
 use Rattle.xa_work.proofs.in_turn.ask.Goals as goal
 

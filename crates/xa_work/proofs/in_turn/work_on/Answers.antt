@@ -1,5 +1,4 @@
-use Rattle.std.proofs.Common.{arith}
-use Rattle.xa_base.proofs.{◌+◌, ◌&&◌, true, subst, sym, take}
+use Rattle.xa_base.proofs.{arith, ◌+◌, ◌&&◌, true, subst, sym, take}
 use Rattle.xa_words.specs.{Add, End, Start, Success, Fresh}
 use Rattle.xa_desk.specs.{GoesOn, AllKept, DeskView}
 use Rattle.xa_work.specs.{CallsOps}

@@ -1,5 +1,4 @@
-use Rattle.std.proofs.Common.{arith}
-use Rattle.xa_base.proofs.{◌+◌, refl}
+use Rattle.xa_base.proofs.{arith, ◌+◌, refl}
 use Rattle.xa_words.specs.{OpenRm}
 use Rattle.xa_work.specs.{IsOpenRm}
 use Rattle.xa_work.proofs.Called.{op_sent}

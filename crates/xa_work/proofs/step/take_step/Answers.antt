@@ -1,4 +1,4 @@
-use Rattle.xa_base.proofs.{◌≡◌, ℕ, ℤ, Bool, true, false, Some, ap, arith, subst, sym, w32, ◌∙◌, to_z-of_z, ints}
+use Rattle.xa_base.proofs.{◌≡◌, ℕ, ℤ, Bool, true, false, Some, arith, subst, sym, w32, to_z-of_z, ints}
 use Rattle.std.proofs.Common.{bit_or}
 use Rattle.xa_words.specs.{TMASYNC, TMSUCCESS, XidName}
 use Rattle.xa_words.specs.declared.flags.Call.TheVariants as call

@@ -1,4 +1,3 @@
-use Rattle.std.proofs.Common.{arith}
 use Rattle.xa_base.proofs.{◌≡◌, true, None, Some, refl}
 use Rattle.xa_driver.specs.declared.done.CommitFault.TheVariants as fault
 use Rattle.xa_driver.proofs.Undecided.{of_votes}

@@ -1,13 +1,13 @@
-use Rattle.xa_base.proofs.{◌≡◌, ℕ, ◌+◌, ◌-◌, Bool, if◌then◌else◌, List, [], ◌∷◌, Option, refl, sym, ap, ◌∙◌, subst, arith}
+use Rattle.xa_base.proofs.{◌≡◌, ℕ, ◌+◌, ◌-◌, Bool, if◌then◌else◌, List, [], ◌∷◌, Option, refl, ap, ◌∙◌, subst, arith}
 use Rattle.xa_words.specs.{TranName, tran_of, Death}
 use Rattle.xa_desk.specs.{DeskView, GoesOn, DeskSeat}
-use Rattle.xa_driver.specs.{yes_of, IsTranOf, Branch}
-use Rattle.xa_log.specs.{IsEither, IsReadAs, LogState}
-use Rattle.xa_work.specs.{Change, WorkOutcome, IfLost, IsGivenUp, IsRefused, LeavesKnown, Loses, Transacts}
+use Rattle.xa_driver.specs.{Branch}
+use Rattle.xa_log.specs.{IsReadAs, LogState}
+use Rattle.xa_work.specs.{Change, WorkOutcome, IfLost, IsRefused, LeavesKnown, Loses, Transacts}
 use Rattle.xa_work.specs.Units.IsRefused.{barred, unbegun, undone}
 use Rattle.xa_work.specs.Units.Transacts.{commits, refused}
-use Rattle.xa_bank.specs.{Habits, Teller, Transfer, death_if_at, shut_before, store_if_at, HasLegs, IsReadEither, Makes, MayShut, WantsMemory, changes_of}
-use Rattle.xa_bank.specs.{forgotten, leg_by, with_legs, without_legs}
+use Rattle.xa_bank.specs.{Habits, Transfer, death_if_at, shut_before, store_if_at, HasLegs, IsReadEither, Makes, MayShut, WantsMemory, changes_of, forgotten}
+use Rattle.xa_bank.specs.{leg_by, with_legs, without_legs}
 use Rattle.xa_bank.proofs.LostRecords.{if_both, if_so, lost_so}
 use Rattle.xa_bank.proofs.Results.{err_same}
 use Rattle.xa_bank.proofs.teller.Teller.make.Goals as goal

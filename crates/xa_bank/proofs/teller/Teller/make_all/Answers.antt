@@ -1,6 +1,5 @@
-use Rattle.xa_base.proofs.{rules, ◌≡◌, ℕ, ◌+◌, ◌<◌, ◌≤◌, Vec, true, false, ◌||◌, List, [], ◌∷◌, ◌++◌, length, length-append, append-nil, None, take, drop}
-use Rattle.xa_base.proofs.{append_assoc, sym, refl, ap, ◌∙◌, subst, arith, Global, list_any, slice_index_or, take_all, take-append-drop, list_any-append}
-use Rattle.xa_base.proofs.{one_more}
+use Rattle.xa_base.proofs.{rules, ◌≡◌, ℕ, ◌+◌, ◌<◌, ◌≤◌, true, false, ◌||◌, List, [], ◌∷◌, ◌++◌, length, length-append, append-nil, None, take, drop}
+use Rattle.xa_base.proofs.{append_assoc, sym, refl, ap, ◌∙◌, subst, arith, list_any, slice_index_or, take_all, take-append-drop, list_any-append, one_more}
 use Rattle.std.proofs.Common.{length-take}
 use Rattle.xa_desk.specs.{DeskView, DeskSeat}
 use Rattle.xa_log.specs.{IsReadAs, LogState}

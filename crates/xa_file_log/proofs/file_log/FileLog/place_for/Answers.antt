@@ -1,5 +1,4 @@
-use Rattle.std.proofs.Common.{arith}
-use Rattle.xa_base.proofs.{◌≡◌, inl, inr, ⊎_elim, None, Some, Option, List, length, map, refl, ap, ◌∙◌, subst}
+use Rattle.xa_base.proofs.{arith, ◌≡◌, inl, inr, ⊎_elim, None, Some, Option, List, length, map, refl, ap, ◌∙◌, subst}
 use Rattle.std.specs.Prelude.{IfNone}
 use Rattle.xa_file_log.specs.{Slot, HasNoFree, name_at, shut}
 use Rattle.xa_file_log.proofs.Index.{index_apart}

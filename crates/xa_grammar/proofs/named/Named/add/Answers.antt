@@ -1,4 +1,3 @@
-use Rattle.std.proofs.Common.{arith}
 use Rattle.xa_base.proofs.{◌&&◌, ◌||◌, sym, ◌∙◌}
 use Rattle.xa_words.specs.{is_in, set_of}
 use Rattle.xa_grammar.specs.{are_rising, is_named}

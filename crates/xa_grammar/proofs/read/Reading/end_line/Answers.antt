@@ -1,6 +1,5 @@
-use Rattle.std.proofs.Common.{arith}
-use Rattle.xa_base.proofs.{◌≡◌, ℕ, List, ◌++◌, ◌+◌, refl, sym, ap, subst, ◌∙◌, Ok, err_from_is_err_and}
-use Rattle.xa_grammar.specs.{lines_of, script_from, after_line, FailsAt}
+use Rattle.xa_base.proofs.{arith, ◌≡◌, ℕ, List, refl, subst, Ok, err_from_is_err_and}
+use Rattle.xa_grammar.specs.{after_line, FailsAt}
 use Rattle.xa_grammar.proofs.OneOpening.{after_one}
 use Rattle.xa_grammar.proofs.Lines.{goes_further, stops_there}
 use Rattle.xa_grammar.proofs.read.Reading.end_line.Goals as goal

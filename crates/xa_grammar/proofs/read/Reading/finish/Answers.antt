@@ -1,4 +1,4 @@
-use Rattle.xa_base.proofs.{◌≡◌, ◌<◌, ℕ, List, length, false, sym, ap, subst, ◌∙◌, arith, ◌==◌, Ok, err_from_is_err_and}
+use Rattle.xa_base.proofs.{◌≡◌, ◌<◌, ℕ, List, length, false, sym, subst, arith, ◌==◌, Ok, err_from_is_err_and}
 use Rattle.xa_grammar.specs.{after_line, FailsAt}
 use Rattle.xa_grammar.proofs.OneOpening.{after_one}
 use Rattle.xa_grammar.proofs.Lines.{ends_empty, ends, ends_in_fault}

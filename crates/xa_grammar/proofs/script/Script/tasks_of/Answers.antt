@@ -1,6 +1,5 @@
-use Rattle.std.proofs.Common.{arith}
-use Rattle.xa_base.proofs.{◌≡◌, ℕ, List, sym, ap, ◌∙◌, subst, All, arc_value}
-use Rattle.xa_grammar.specs.{ScriptStep, tasks_of, IsTask, tasks_in, own_steps, steps_at, Content}
+use Rattle.xa_base.proofs.{arith, ◌≡◌, ℕ, List, sym, ap, ◌∙◌, subst, All, arc_value}
+use Rattle.xa_grammar.specs.{ScriptStep, IsTask, own_steps, steps_at}
 use Rattle.xa_grammar.proofs.OwnTasks.{own_are_tasks, own_tasks}
 use Rattle.xa_grammar.proofs.script.Script.tasks_of.Goals as goal
 

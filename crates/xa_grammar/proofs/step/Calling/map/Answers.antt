@@ -1,4 +1,3 @@
-use Rattle.std.proofs.Common.{arith}
 use Rattle.xa_base.proofs.{◌≡◌, Option, None, Some, refl, sym, ap, ◌∙◌, MatchOption, option_map}
 use Rattle.std.proofs.Common.{Bor}
 use Rattle.std.specs.Prelude.{IsSomeAnd, option_copied}

@@ -1,4 +1,3 @@
-use Rattle.std.proofs.Common.{arith}
 use Rattle.xa_base.proofs.{ap, ◌∙◌, list_any}
 use Rattle.xa_grammar.specs.{is_reopen, is_kept_reopen}
 use Rattle.xa_grammar.proofs.Names.{any_reopens}

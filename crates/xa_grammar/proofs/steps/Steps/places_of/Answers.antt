@@ -1,5 +1,5 @@
-use Rattle.xa_base.proofs.{◌≡◌, ◌<◌, ◌+◌, ◌++◌, ◌∷◌, [], List, Some, length, slice_get, cond, take, refl, sym, ap, ◌∙◌, subst, arith, append-nil, All}
-use Rattle.xa_base.proofs.{option_map, take_all, length-map, slice_get-map, All-nil, All-push}
+use Rattle.xa_base.proofs.{◌≡◌, ◌<◌, ◌+◌, ◌++◌, ◌∷◌, [], List, Some, length, slice_get, cond, take, sym, ap, ◌∙◌, subst, arith, append-nil, All, option_map}
+use Rattle.xa_base.proofs.{take_all, length-map, slice_get-map, All-nil, All-push}
 use Rattle.std.proofs.lemmas.Option.{slice_get_read}
 use Rattle.xa_grammar.specs.{ScriptStep, step_at, steps_of, is_own, own_steps, steps_at}
 use Rattle.xa_grammar.proofs.Names.{own_same}

@@ -1,4 +1,3 @@
-use Rattle.std.proofs.Common.{arith}
 use Rattle.xa_base.proofs.{◌≡◌, ◌++◌, ◌∷◌, [], List, ℕ, length, rules, sym, ap, ◌∙◌, subst, All, Result, Ok, Err, map-append, All-push}
 use Rattle.std.specs.Prelude.{OnErr}
 use Rattle.xa_grammar.specs.{ScriptStep, Spells, IsShort, KeptStep, IsNamed, step_at, steps_of, keys_in, kept_from}

@@ -1,5 +1,5 @@
-use Rattle.xa_base.proofs.{◌≡◌, ◌<◌, ℕ, List, Some, false, true, inl, inr, length, sym, ap, ◌∙◌, subst, arith, slice_get, arc_value}
-use Rattle.xa_grammar.specs.{ScriptTask, ScriptStep, IsTask, steps_at}
+use Rattle.xa_base.proofs.{◌<◌, ℕ, List, length, sym, ap, ◌∙◌, subst, arith, slice_get, arc_value}
+use Rattle.xa_grammar.specs.{ScriptStep, steps_at}
 use Rattle.xa_grammar.proofs.OwnTasks.{place_within, step_at_place, task_there, none_there}
 use Rattle.xa_grammar.proofs.steps.Tasks.get.Goals as goal
 

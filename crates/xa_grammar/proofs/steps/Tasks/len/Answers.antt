@@ -1,5 +1,4 @@
-use Rattle.std.proofs.Common.{arith}
-use Rattle.xa_base.proofs.{length, sym, ap, ◌∙◌, arc_value}
+use Rattle.xa_base.proofs.{arith, arc_value}
 use Rattle.xa_grammar.proofs.OwnTasks.{as_many_places}
 use Rattle.xa_grammar.proofs.steps.Tasks.len.Goals as goal
 

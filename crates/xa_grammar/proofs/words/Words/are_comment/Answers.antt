@@ -1,6 +1,4 @@
-use Rattle.std.proofs.Common.{arith}
-use Rattle.xa_base.proofs.{ap, ◌∙◌}
-use Rattle.xa_grammar.specs.{are_comment}
+use Rattle.xa_base.proofs.{arith}
 use Rattle.xa_grammar.proofs.Splits.{are_comment_words}
 use Rattle.xa_grammar.proofs.words.Words.are_comment.Goals as goal
 

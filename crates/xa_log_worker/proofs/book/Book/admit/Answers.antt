@@ -1,7 +1,4 @@
-use Rattle.std.proofs.Common.{arith}
-use Rattle.xa_base.proofs.{sym, subst, ap, ◌∙◌, is_missing}
-use Rattle.xa_log.specs.{AreNew, record_in}
-use Rattle.xa_log_worker.specs.{records_in}
+use Rattle.xa_base.proofs.{arith, is_missing}
 use Rattle.xa_log_worker.proofs.Moves.{moves_push}
 use Rattle.xa_log_worker.proofs.News.{new_push}
 use Rattle.xa_log_worker.proofs.book.Book.admit.Goals as goal

@@ -1,5 +1,4 @@
-use Rattle.std.proofs.Common.{arith}
-use Rattle.xa_base.proofs.{ap, map, ◌∙◌}
+use Rattle.xa_base.proofs.{arith, ap, map, ◌∙◌}
 use Rattle.xa_log_worker.specs.{as_waiting}
 use Rattle.xa_log_worker.proofs.Groups.{answered_places}
 use Rattle.xa_log_worker.proofs.Moves.{moves_settled}

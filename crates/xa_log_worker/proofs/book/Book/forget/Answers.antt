@@ -1,7 +1,5 @@
-use Rattle.std.proofs.Common.{arith}
-use Rattle.xa_base.proofs.{sym, subst, refl}
-use Rattle.xa_log.specs.{AreNew}
-use Rattle.xa_log_worker.specs.{Forget, records_in}
+use Rattle.xa_base.proofs.{arith, refl}
+use Rattle.xa_log_worker.specs.{Forget}
 use Rattle.xa_log_worker.specs.declared.ask.Deed.TheVariants.{Forgets}
 use Rattle.xa_log_worker.proofs.Deeds.{does_forget}
 use Rattle.xa_log_worker.proofs.Moves.{moves_one, sent_none}

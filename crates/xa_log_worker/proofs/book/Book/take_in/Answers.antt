@@ -1,6 +1,4 @@
-use Rattle.std.proofs.Common.{arith}
-use Rattle.xa_base.proofs.{◌≡◌, false, subst, ap, ◌∙◌}
-use Rattle.xa_log_worker.specs.{is_clash, tran_in}
+use Rattle.xa_base.proofs.{arith}
 use Rattle.xa_log_worker.proofs.Moves.{moves_then}
 use Rattle.xa_log_worker.proofs.book.Book.take_in.Goals as goal
 

@@ -1,4 +1,3 @@
-use Rattle.std.proofs.Common.{arith}
 use Rattle.xa_base.proofs.{◌≡◌, true, false, [], ◌∷◌, ap, sym, subst, refl, ◌∙◌, is_some, one_removed, get-lookup}
 use Rattle.xa_words.specs.{tran_eq}
 use Rattle.xa_log.specs.{record_in}

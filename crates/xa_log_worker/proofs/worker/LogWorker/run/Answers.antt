@@ -1,6 +1,4 @@
-use Rattle.std.proofs.Common.{arith}
-use Rattle.xa_base.proofs.{ap}
-use Rattle.xa_log_worker.specs.{Asked}
+use Rattle.xa_base.proofs.{arith}
 use Rattle.xa_log_worker.proofs.Moves.{steps-chain, steps_none, steps_ended}
 use Rattle.xa_log_worker.proofs.worker.LogWorker.run.Goals as goal
 

@@ -1,5 +1,4 @@
-use Rattle.std.proofs.Common.{arith}
-use Rattle.xa_base.proofs.{rules, sym, ap, ◌∙◌, list_any}
+use Rattle.xa_base.proofs.{arith, rules, sym, ap, ◌∙◌, list_any}
 use Rattle.xa_tables.specs.{is_broken, is_broken_by}
 use Rattle.xa_tables.proofs.AccountLemmas.{broken_any}
 use Rattle.xa_tables.proofs.HeldLemmas.{broken_held}

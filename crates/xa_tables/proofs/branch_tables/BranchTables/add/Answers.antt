@@ -1,5 +1,4 @@
-use Rattle.std.proofs.Common.{arith}
-use Rattle.xa_base.proofs.{rules, refl, sym, ap, subst, is_some}
+use Rattle.xa_base.proofs.{arith, rules, refl, sym, ap, subst, is_some}
 use Rattle.xa_tables.specs.{AreAssociationsLive, RollbackOnly, Transient}
 use Rattle.xa_tables.proofs.SoundLemmas.{sound_put, sound_others, unvoted, written, unwritten}
 use Rattle.xa_tables.proofs.branch_tables.BranchTables.add.Goals as goal

@@ -1,5 +1,4 @@
-use Rattle.std.proofs.Common.{arith}
-use Rattle.xa_base.proofs.{rules, ap}
+use Rattle.xa_base.proofs.{arith, rules, ap}
 use Rattle.xa_tables.specs.{HeuristicallyCompleted, Commit, Rollback}
 use Rattle.xa_tables.proofs.SoundLemmas.{sound_put, written, unwritten}
 use Rattle.xa_tables.proofs.branch_tables.BranchTables.heur.Goals as goal

@@ -1,5 +1,4 @@
-use Rattle.std.proofs.Common.{arith}
-use Rattle.xa_base.proofs.{rules, refl, sym, ap}
+use Rattle.xa_base.proofs.{arith, rules, refl, sym, ap}
 use Rattle.xa_tables.specs.declared.state.State.TheVariants.{Prepared}
 use Rattle.xa_tables.proofs.SoundLemmas.{sound_put, written, unwritten}
 use Rattle.xa_tables.proofs.branch_tables.BranchTables.prepare.Goals as goal

@@ -1,4 +1,4 @@
-use Rattle.std.proofs.Common.{arith}
+use Rattle.xa_base.proofs.{arith}
 use Rattle.xa_tables.proofs.Reopening.{sound_retained}
 use Rattle.xa_tables.proofs.branch_tables.BranchTables.reopen.Goals as goal
 

@@ -1,5 +1,4 @@
-use Rattle.std.proofs.Common.{arith}
-use Rattle.xa_base.proofs.{◌<◌, length, sym, subst, IfSome}
+use Rattle.xa_base.proofs.{arith, ◌<◌, length, sym, subst, IfSome}
 use Rattle.xa_worker.proofs.Lanes.{put-sent, put-full}
 use Rattle.xa_worker.proofs.outbox.Outbox.flush.Goals as goal
 

@@ -1,5 +1,4 @@
-use Rattle.std.proofs.Common.{arith}
-use Rattle.xa_base.proofs.{map, sym, ap, subst, ◌∙◌, refl, append-nil, []}
+use Rattle.xa_base.proofs.{arith, map, sym, ap, subst, ◌∙◌, refl, append-nil, []}
 use Rattle.xa_lane.specs.{but_full}
 use Rattle.xa_worker.specs.{IsFinished, working_of}
 use Rattle.xa_worker.proofs.Lanes.{lanes_alike}
