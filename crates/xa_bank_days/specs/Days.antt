@@ -150,7 +150,8 @@ pub record IsResolvedBy (records : Records) (s : Settling) (again : Again) (q : 
   pub reached : All (λ r. r.code ≢ RmFail) q.outcomes
 
 -- A day of tellers, what their logs were found to have in the evening, and the night that resolved by them what was
--- left.
+-- left. The day was settled as s and opened again, the resolve is q, and the night was settled as next. The stores
+-- began with these tables, and transfers count from number n on.
 pub record DayAndNight {L : Type 0} (state : L → LogState) (knows : L → Type 0)
     (loses : TranName → List Bool → L → L → Type 0) : Type 0 where
   pub s : Settling
