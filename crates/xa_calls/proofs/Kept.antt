@@ -1,16 +1,71 @@
 -- What is outstanding stays kept under a number, as a desk calls and collects.
-use Rattle.xa_base.proofs.{arith, rules, ◌≡◌, ◌≢◌, ℕ, ℤ, ⊎_elim, zero, suc, Bool, true, false, List, Option, Some, None, Result, Ok, Err, sym, refl, ap, ◌∙◌}
-use Rattle.xa_base.proofs.{subst, inl, inr, cases_eq, cases_Bool, nat_cmp, inserted_there, inserted_other, removed_other, not_both}
-use Rattle.std.specs.FinMap as finmap
-use Rattle.xa_words.specs.{Code, Inval, Mode, Op}
-use Rattle.xa_desk.specs.{Operation, IsKnown, IsOut, is_known, next_operation, outstanding, AllKept, HoldsNone, submitted, after_fulls, EndsQuiet, Collects}
-use Rattle.xa_desk.specs.{TakesKept, LedgerView, DeskView}
-use Rattle.xa_desk.proofs.Ledgers.{known_is}
-use Rattle.xa_calls.specs.{put_refusal, Puts, Calls, CompletesOne, CompletesAny, CompletesAt, CompletesBy, CollectsRedeemed, may_complete}
+use Rattle.xa_base.proofs.{◌≡◌, ◌≢◌, ℕ, ◌+◌, ◌-◌, ◌<◌, ◌≤◌, ◌⊎◌, suc, false, true, nat_eq, List, [], ◌∷◌, length, sym, refl, subst, inl, inr, arith}
+use Rattle.xa_base.proofs.{length-append, slice_index_or, length-map, cases_eq, cases_Bool, eqb-false, or_parts, sum_by, sum_by-cons, rules, ℤ, ⊎_elim, zero}
+use Rattle.xa_base.proofs.{Bool, Option, Some, None, Result, Ok, Err, ap, ◌∙◌, nat_cmp, inserted_there, inserted_other, removed_other, not_both}
+use Rattle.std.proofs.lemmas.Map.Steps.{le-length_from_below}
+use Rattle.xa_words.specs.{Op, Code, Inval, Mode}
+use Rattle.xa_desk.specs.{Operation, numbers, is_collected, with_sent, with_collected, IsKnown, IsOut, ledger, no_ledger, after_sent, after_collected}
+use Rattle.xa_desk.specs.{next_operation, outstanding, LedgerView, is_known, AllKept, HoldsNone, submitted, after_fulls, EndsQuiet, Collects, TakesKept}
+use Rattle.xa_desk.specs.{DeskView, GoesOn}
+use Rattle.xa_desk.proofs.Ledgers.{same_operation, is_collected-push, ledger-put_same, ledger-put_other, known_before, known_is}
+use Rattle.xa_calls.specs.{put_refusal, Puts, Calls, CompletesOne, CompletesAny, CompletesAt, CompletesBy, CollectsRedeemed, may_complete, CallLeaves}
 use Rattle.xa_calls.specs.Putting.Puts.{refused, full, kept, answered}
 use Rattle.xa_calls.specs.Completing.CompletesOne.{unknown, retry as retry_one, ready, waited}
 use Rattle.xa_calls.specs.Completing.CompletesAny.{nothing, retry as retry_any, least}
-use Rattle.xa_calls.proofs.Outstanding.{out_sent, out_collected, none_outstanding}
+use Rattle.std.specs.FinMap as finmap
+
+-- ---- what is outstanding as operations are sent and collected
+
+-- what is outstanding after a sending is what was sent, or was outstanding before
+pub out_sent : (at : List LedgerView) (m : ℕ) (op : Op) → IsKnown at m → (o : Operation) → IsOut (after_sent at m op) o → (o ≡ next_operation at m) ⊎ IsOut at o
+out_sent at m op known o is =
+    let k = known_before at m o.manager (with_sent (ledger at m) op) is.known in
+    search (arith, cases_eq, ledger-put_same, same_operation, length-append, ledger-put_other, o.manager)
+
+-- what is outstanding after a collection was outstanding, and wasn't collected
+pub out_collected : (at : List LedgerView) (o : Operation) (code : Code) → IsKnown at o.manager → (p : Operation) → IsOut (after_collected at o code) p
+    → IsOut at p × (p ≢ o)
+out_collected at o code known p is =
+    let a = with_collected (ledger at o.manager) o.number code in
+    let k = known_before at o.manager p.manager a is.known in
+    elim (cases_eq p.manager o.manager) [
+      | inl same ↦ search (arith, ledger-put_same, or_parts, nat_eq, is_collected-push, eqb-false, o.manager, is.sent, is.open_, p.number, o.number)
+      | inr differs ↦ search (arith, ledger-put_other, o.manager, p.manager, known.positive, k.positive)
+    ]
+
+-- ---- where no operation is outstanding
+
+-- each request was collected
+abbrev AllCollected : LedgerView → Type 0
+AllCollected a = (n : ℕ) → n < length a.sent → is_collected a n ≡ true
+
+nothing_left : (a : LedgerView) → AllCollected a → length a.sent - length a.collected ≡ 0
+nothing_left a all =
+    let many : length a.sent ≤ length (numbers a) = le-length_from_below (numbers a) (length a.sent) all in
+    let enough : length a.sent ≤ length a.collected = rw length-map at many in
+    omega (arith, enough)
+
+abbrev left_of : LedgerView → ℕ
+left_of a = length a.sent - length a.collected
+
+sum_none : (at : List LedgerView) → ((i : ℕ) → i < length at → AllCollected (slice_index_or at i no_ledger)) → sum_by left_of at ≡ 0
+sum_none [] all = refl
+sum_none (a ∷ at) all =
+    let first : left_of a ≡ 0 = nothing_left a (all 0 (omega arith)) in
+    let rest : sum_by left_of at ≡ 0 = sum_none at (λ i below. all (suc i) (omega (arith, below))) in
+    omega (arith, sum_by-cons left_of a at, first, rest)
+
+pub none_outstanding : (at : List LedgerView) → ((o : Operation) → IsOut at o → ⊥) → outstanding at ≡ 0
+none_outstanding at none = sum_none at (λ i below n within.
+    let back : i + 1 - 1 ≡ i = omega arith in
+    elim (cases_Bool (is_collected (slice_index_or at i no_ledger) n)) [
+      | inl yes' ↦ yes'
+      | inr no' ↦ absurd (none (record { manager = i + 1; number = n }) (record {
+        known = record { positive = omega arith; within = omega (arith, below) };
+        sent = subst (λ j. n < length (slice_index_or at j no_ledger).sent) (sym back) within;
+        open_ = subst (λ j. is_collected (slice_index_or at j no_ledger) n ≡ false) (sym back) no';
+      }))
+    ])
 
 -- ---- what is kept under which number
 
@@ -143,3 +198,15 @@ nothing_out d all empty o out = let k = all.each o out in not_both (finmap.get d
 
 pub none_left : (d : DeskView) → AllKept d → HoldsNone d → outstanding d.ledgers ≡ 0
 none_left d all empty = none_outstanding d.ledgers (nothing_out d all empty)
+
+-- ---- what calls leave, one after another
+
+module _ {I : Type 0} {leads : I → I → Type 0} where
+  -- nothing was done
+  pub leaves_all : ((d : DeskView) → GoesOn d d) → ((x : I) → leads x x) → (d : DeskView) (x : I) → CallLeaves leads d d x x
+  leaves_all same stays d x = record { goes_on = same d; tickets = λ t owned. owned; idled = stays x }
+
+  -- one call and then another
+  pub leaves_on : ((old mid new : DeskView) → GoesOn old mid → GoesOn mid new → GoesOn old new) → ((x y z : I) → leads x y → leads y z → leads x z)
+      → {old mid new : DeskView} {x y z : I} → CallLeaves leads old mid x y → CallLeaves leads mid new y z → CallLeaves leads old new x z
+  leaves_on further chain a b = search (arith, a.goes_on, b.tickets, a.tickets, a.idled)

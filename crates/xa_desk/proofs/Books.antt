@@ -1,17 +1,21 @@
--- Each step of a desk keeps its books.
+-- Each step of a desk keeps its books; the map that a table of kept operations is; and a desk that has done nothing.
 use Rattle.xa_base.proofs.{◌≡◌, ◌≢◌, ℕ, suc, ◌+◌, ◌-◌, ◌<◌, ◌⊎◌, true, cond, nat_eq, is_some, List, [], ◌∷◌, ◌++◌, length, Option, Some, None, get_or, sym}
 use Rattle.xa_base.proofs.{refl, ap, ◌∙◌, subst, inl, inr, arith, length-append, get_or-set_same, get_or-set_other, cases_eq, cases_lt, cases_Bool, false≢true}
-use Rattle.xa_base.proofs.{false_from_ne_true, option_or, and_parts, eqb-true, eq-eqb}
-use Rattle.std.proofs.lemmas.List.{get_or_past}
-use Rattle.std.proofs.lemmas.List.Sums.{sum_by-set}
+use Rattle.xa_base.proofs.{false_from_ne_true, option_or, and_parts, eqb-true, eq-eqb, zero, IfSome, set, nat_cmp, nat_cmp_total, eq_by_cmp, tied_true}
+use Rattle.xa_base.proofs.{tied_false, ◌*◌, Bool, replicate, get_or_past, sum_by-set, sum_by-cons, IsSome, get_or-replicate, length-replicate}
 use Rattle.std.proofs.lemmas.Bool.{and_from}
-use Rattle.slab.specs.Slab.{Slab, get, slab_len, with_value, Updates}
+use Rattle.slab.specs.Slab.{Slab, get, slab_len, with_value, Updates, entries_from}
 use Rattle.xa_words.specs.{Op, Completion, Code}
 use Rattle.xa_desk.specs.{Operation, Slot, with_sent, with_collected, IsKnown, IsSent, IsOut, ledger, no_ledger, after_sent, after_collected, outstanding}
-use Rattle.xa_desk.specs.{names, drained_code, operation_of, HasSlot, IsBooks, ready_weight, ready_count, collected_total, LedgerView}
+use Rattle.xa_desk.specs.{names, drained_code, operation_of, HasSlot, IsBooks, ready_weight, ready_count, collected_total, LedgerView, IsLeastFree, kept_of}
+use Rattle.xa_desk.specs.{new_ledgers, IsOrderly, planned_total}
 use Rattle.xa_desk.proofs.Ledgers.{same_operation, none_from, sum_by-changed, collected-le-sent, collected-lt-sent, orderly_sent, orderly_collected, sent_now}
 use Rattle.xa_desk.proofs.Ledgers.{ledger-sent_same, ledger-sent_other, sent_keeps_sent, sent_keeps_out, sent_now_out, sent_out_cases, unsent, known_before}
 use Rattle.xa_desk.proofs.Ledgers.{collected_known, collected_out, collected_keeps_out, collected_keeps_sent, ledger-collected_same, ledger-collected_other}
+use Rattle.std.specs.List.{IsDistinct}
+use Rattle.std.specs.FinMap as map
+
+-- ---- each step of a desk keeps its books
 
 module _ (s t : Slab Slot) (key : ℕ) where
   -- a value found after a change is the new one, or was there
@@ -104,9 +108,6 @@ module _ (o : Operation) where
   drained_code-append [] c = refl
   drained_code-append (d ∷ cs) c = grind (arith, drained_code-append cs c, option_or)
 
-  or_nothing : (x : Option Code) → option_or x None ≡ x
-  or_nothing x = grind arith
-
   names-true : (c : Completion) → names o c ≡ true → o ≡ operation_of c
   names-true c e = grind (arith, nat_eq, and_parts, same_operation, eqb-true)
 
@@ -114,7 +115,7 @@ module _ (o : Operation) where
   names-same c e = grind (arith, and_from, nat_eq, eq-eqb)
 
   pub drained_code-push_other : (cs : List Completion) (c : Completion) → o ≢ operation_of c → drained_code o (cs ++ c ∷ []) ≡ drained_code o cs
-  drained_code-push_other cs c differs = grind (arith, false_from_ne_true, names-true, drained_code-append, option_or, or_nothing)
+  drained_code-push_other cs c differs = grind (arith, false_from_ne_true, names-true, drained_code-append, option_or)
 
   pub drained_code-push_first : (cs : List Completion) (c : Completion) → o ≡ operation_of c → drained_code o cs ≡ None
       → drained_code o (cs ++ c ∷ []) ≡ Some c.code
@@ -133,14 +134,8 @@ module _ (at : List LedgerView) (s t : Slab Slot) (key : ℕ) (slot x : Slot) (t
   pub changed_has : (o : Operation) → IsOut at o → HasSlot t o
   changed_has o out = search (arith, cases_eq, same_slot, found_still)
 
-  changed_back : (k : ℕ) (y : Slot) → get t k ≡ Some y → (z : Slot) × ((get s k ≡ Some z) × (z.operation ≡ y.operation))
-  changed_back k y found = elim (found_cases s t key x u k y found) [
-    | inl new ↦ (slot, (ap (get s) new.0 ∙ there, keeps ∙ ap (λ (z : Slot). z.operation) new.1))
-    | inr old ↦ (y, (old.1, refl))
-  ]
-
   pub changed_one : (j k : ℕ) (y z : Slot) → get t j ≡ Some y → get t k ≡ Some z → y.operation ≡ z.operation → j ≡ k
-  changed_one j k y z fy fz e = grind (arith, changed_back)
+  changed_one j k y z fy fz e = grind (arith, found_cases)
 
   -- another slot has another operation
   pub changed_apart : (k : ℕ) (y : Slot) → k ≢ key → get s k ≡ Some y → y.operation ≢ slot.operation
@@ -302,3 +297,167 @@ module _ (at : List LedgerView) (s t : Slab Slot) (key : ℕ) (slot : Slot) (tab
       books_collected at mid t key coded c.code table (drained ++ c ∷ []) drains now refl loose
       (record { changed = u.changed; others = λ k differs. u.others k differs ∙ sym (others k differs) })
       (len ∙ sym count)
+
+-- ---- the map that a table of kept operations is
+
+find_below : (k q : ℕ) (table : List (Option Operation)) → q < k → map.find nat_cmp q (entries_from k table) ≡ None
+find_below k q [] below = refl
+find_below k q (None ∷ rest) below = find_below (k + 1) q rest (omega arith)
+find_below k q (Some o ∷ rest) below = grind (arith, find_below (k + 1) q rest (omega arith), nat_cmp, tied_false)
+
+find_at : (k j : ℕ) (table : List (Option Operation)) → map.find nat_cmp (k + j) (entries_from k table) ≡ get_or table j None
+find_at k j [] = refl
+find_at k zero (None ∷ rest) = find_below (k + 1) (k + 0) rest (omega arith)
+find_at k (suc j) (None ∷ rest) = let shift : k + suc j ≡ k + 1 + j = omega arith in rw shift (find_at (k + 1) j rest)
+find_at k zero (Some o ∷ rest) = ap (λ b. cond b (Some o) (map.find nat_cmp (k + 0) (entries_from (k + 1) rest))) (tied_true (k + 0) k (omega arith))
+find_at k (suc j) (Some o ∷ rest) = grind (arith, find_at (k + 1) j rest, nat_cmp, tied_false)
+
+pub get-kept_of : (table : List (Option Operation)) (j number : ℕ) → number ≡ suc j → map.get (kept_of table) number ≡ get_or table j None
+get-kept_of table j number e =
+    let shift : suc j ≡ 1 + j = omega arith in
+    rw (e, shift) (map.get-from_entries nat_cmp_total (entries_from 1 table) (1 + j) ∙ find_at 1 j table)
+
+pub get-kept_of_zero : (table : List (Option Operation)) → map.get (kept_of table) 0 ≡ None
+get-kept_of_zero table = map.get-from_entries nat_cmp_total (entries_from 1 table) 0 ∙ find_below 1 0 table (omega arith)
+
+module _ (table : List (Option Operation)) (j number : ℕ) (is : number ≡ suc j) (within : j < length table) where
+  -- a map that is changed at the number alone is that of a table that is changed at the place
+  kept_of-set : (x : Option Operation) (m : map.FinMap nat_cmp Operation)
+      → ((q : ℕ) → map.get m q ≡ cond (eq_by_cmp nat_cmp q number) x (map.get (kept_of table) q)) → kept_of (set table j x) ≡ m
+  kept_of-set x m changed = map.same_map nat_cmp_total map.nat_cmp-IsAntisymmetric _ _ at_each
+    where
+      at_each : (q : ℕ) → map.get (kept_of (set table j x)) q ≡ map.get m q
+      at_each zero =
+          get-kept_of_zero (set table j x)
+          ∙ sym (changed 0 ∙ ap (λ b. cond b x (map.get (kept_of table) 0)) (tied_false 0 number (λ e. absurd (omega arith))) ∙ get-kept_of_zero table)
+      at_each (suc q) = get-kept_of (set table j x) q (suc q) refl ∙ sym (changed (suc q) ∙ elim (cases_eq q j) [
+        | inl same ↦ ap (λ b. cond b x (map.get (kept_of table) (suc q))) (tied_true (suc q) number (omega arith))
+            ∙ sym (rw same (get_or-set_same table j x None within))
+        | inr differs ↦ ap (λ b. cond b x (map.get (kept_of table) (suc q))) (tied_false (suc q) number (λ e. differs (omega arith)))
+            ∙ get-kept_of table q (suc q) refl ∙ sym (get_or-set_other table j q x None differs)
+      ])
+
+  pub kept_of-insert : (o : Operation) → kept_of (set table j (Some o)) ≡ map.insert (kept_of table) number o
+  kept_of-insert o = kept_of-set (Some o) (map.insert (kept_of table) number o) (map.get-insert nat_cmp_total (kept_of table) number o)
+
+  pub kept_of-remove : kept_of (set table j None) ≡ map.remove (kept_of table) number
+  kept_of-remove = kept_of-set None (map.remove (kept_of table) number) (map.get-remove nat_cmp_total (kept_of table) number)
+
+pub get-kept_of_past : (table : List (Option Operation)) (number : ℕ) → length table < number → map.get (kept_of table) number ≡ None
+get-kept_of_past table number past =
+    let is : number ≡ suc (number - 1) = omega arith in
+    get-kept_of table (number - 1) number is ∙ get_or_past table (number - 1) None (omega arith)
+
+-- where the operation of a kept number stands
+pub record KeptPlace (table : List (Option Operation)) (number : ℕ) (o : Operation) : Type 0 where
+  pub is : number ≡ suc (number - 1)
+  pub within : number - 1 < length table
+  pub there : get_or table (number - 1) None ≡ Some o
+
+pub kept_place : (table : List (Option Operation)) (number : ℕ) (o : Operation) → map.get (kept_of table) number ≡ Some o → KeptPlace table number o
+kept_place table zero o e = absurd (let no : None ≡ Some o = sym (get-kept_of_zero table) ∙ e in cc)
+kept_place table (suc j) o e =
+    let is : suc j ≡ suc (suc j - 1) = omega arith in
+    let there : get_or table (suc j - 1) None ≡ Some o = sym (get-kept_of table (suc j - 1) (suc j) is) ∙ e in
+    record { is = is; within = grind (arith, cases_lt, get_or_past); there = there }
+
+module _ (at : List LedgerView) (s : Slab Slot) (key : ℕ) (slot : Slot) (table : List (Option Operation)) (drained : List Completion)
+    (b : IsBooks at s table drained) (there : get s key ≡ Some slot) where
+  -- a slot whose operation no number has isn't kept
+  pub loose_handle : (o : Operation) → slot.operation ≡ o → ((k : ℕ) → map.get (kept_of table) k ≢ Some o) → slot.handle ≡ 0
+  loose_handle o named loose = from slot.handle refl
+    where
+      from : (h : ℕ) → slot.handle ≡ h → slot.handle ≡ 0
+      from zero e = e
+      from (suc n) e = absurd (loose (suc n) (get-kept_of table n (suc n) refl ∙ b.handled key slot n there e ∙ ap Some named))
+
+  -- what a slot's handle is, where its operation is kept
+  pub kept_handle : (number : ℕ) → KeptPlace table number slot.operation → slot.handle ≡ number
+  kept_handle number p =
+      let h = b.tabled (number - 1) slot.operation p.there in
+      let same = same_slot s key h.key slot h.slot there h.found (b.one_slot h.key key h.slot slot h.found there h.names) in
+      sym (ap (λ (z : Slot). z.handle) same) ∙ h.handle ∙ sym p.is
+
+  -- an operation that isn't kept has no number
+  pub loose_from_handle : (o : Operation) → slot.operation ≡ o → slot.handle ≡ 0 → (k : ℕ) → map.get (kept_of table) k ≢ Some o
+  loose_from_handle o named zero_handle k e = grind (arith, kept_place, kept_handle)
+
+pub rehandles_release : (table : List (Option Operation)) (number : ℕ) (o : Operation) → KeptPlace table number o
+    → Rehandles table (set table (number - 1) None) number 0 o
+rehandles_release table number o p = search (arith, get_or-set_same, get_or-set_other)
+
+pub rehandles_keep : (table : List (Option Operation)) (j : ℕ) (o : Operation) → j < length table → get_or table j None ≡ None
+    → Rehandles table (set table j (Some o)) 0 (suc j) o
+rehandles_keep table j o within free = search (arith, get_or-set_same, get_or-set_other)
+
+pub least_free : (table : List (Option Operation)) (j : ℕ) → get_or table j None ≡ None → ((k : ℕ) → k < j → IsSome (get_or table k None))
+    → IsLeastFree (kept_of table) (j + 1)
+least_free table j free taken = record {
+  positive = omega arith;
+  free = get-kept_of table j (j + 1) (omega arith) ∙ free;
+  least = λ k positive below. rw (get-kept_of table (k - 1) k (omega arith)) (taken (k - 1) (omega arith));
+}
+
+pub IfSome_from : {A : Type 0} (x : Option A) (P : A → Type 0) → ((a : A) → x ≡ Some a → P a) → IfSome x P
+IfSome_from None P each = tt
+IfSome_from (Some a) P each = each a refl
+
+-- ---- a desk that has done nothing keeps its books
+
+-- of nothing was anything sent or collected
+pub fresh_sent : (requests : ℕ) (use_async : List Bool) (i : ℕ) → (get_or (new_ledgers requests use_async) i no_ledger).sent ≡ []
+fresh_sent requests [] i = refl
+fresh_sent requests (b ∷ bs) i = grind (arith, fresh_sent requests bs (i - 1))
+
+pub fresh_collected : (requests : ℕ) (use_async : List Bool) (i : ℕ) → (get_or (new_ledgers requests use_async) i no_ledger).collected ≡ []
+fresh_collected requests [] i = refl
+fresh_collected requests (b ∷ bs) i = grind (arith, fresh_collected requests bs (i - 1))
+
+pub nothing_out : (requests : ℕ) (use_async : List Bool) → outstanding (new_ledgers requests use_async) ≡ 0
+nothing_out requests [] = refl
+nothing_out requests (b ∷ bs) = grind (arith, nothing_out requests bs, sum_by-cons)
+
+nothing_collected : (requests : ℕ) (use_async : List Bool) → collected_total (new_ledgers requests use_async) ≡ 0
+nothing_collected requests [] = refl
+nothing_collected requests (b ∷ bs) = grind (arith, nothing_collected requests bs, sum_by-cons)
+
+pub planned-new : (requests : ℕ) (use_async : List Bool) → planned_total (new_ledgers requests use_async) ≡ requests * length use_async
+planned-new requests [] = grind arith
+planned-new requests (b ∷ bs) = search (arith, planned-new requests bs, sum_by-cons)
+
+orderly_empty : (a : LedgerView) → a.sent ≡ [] → a.collected ≡ [] → IsOrderly a
+unfolding IsDistinct
+orderly_empty a s c = record { planned = rw s (omega arith); distinct = rw c no_numbers; below = λ n e. absurd (false≢true (rw c at e)) }
+  where
+    no_numbers : IsDistinct nat_eq []
+    no_numbers = tt
+
+abbrev no_op : Option Operation
+no_op = None
+
+pub no_operation : (n k : ℕ) → get_or (replicate n no_op) k None ≡ None
+no_operation n k = grind (arith, cases_lt, get_or-replicate, get_or_past, length-replicate)
+
+pub kept_of-replicate : (n : ℕ) → kept_of (replicate n None) ≡ map.empty
+kept_of-replicate n = map.same_map nat_cmp_total map.nat_cmp-IsAntisymmetric _ _ (at_each)
+  where
+    at_each : (q : ℕ) → map.get (kept_of (replicate n None)) q ≡ map.get (map.empty {X = Operation} {R = nat_cmp}) q
+    at_each zero = get-kept_of_zero (replicate n None) ∙ sym (map.get-empty nat_cmp 0)
+    at_each (suc q) = get-kept_of (replicate n None) q (suc q) refl ∙ no_operation n q ∙ sym (map.get-empty nat_cmp (suc q))
+
+pub books_new : (requests : ℕ) (use_async : List Bool) (s : Slab Slot) (n : ℕ) → s.slots ≡ [] → IsBooks (new_ledgers requests use_async) s (replicate n None) []
+books_new requests use_async s n empty = record {
+  orderly = λ m known. orderly_empty (ledger (new_ledgers requests use_async) m) (fresh_sent requests use_async (m - 1)) (fresh_collected requests use_async (m - 1));
+  slot_out = λ key slot found. absurd (none key slot found);
+  out_slot = λ o out. let sent : o.number < length (ledger (new_ledgers requests use_async) o.manager).sent = out.sent in let nothing = fresh_sent requests use_async (o.manager - 1) in absurd (let h : o.number < 0 = rw nothing at sent in omega arith);
+  one_slot = λ j k x y fx fy e. absurd (none j x fx);
+  count = rw empty (sym (nothing_out requests use_async));
+  handled = λ key slot k found e. absurd (none key slot found);
+  tabled = λ k o e. let no : None ≡ Some o = sym (no_operation n k) ∙ e in absurd cc;
+  coded = λ key slot found. absurd (none key slot found);
+  drained_sent = λ o code e. let no : None ≡ Some code = e in absurd cc;
+  drained_count = let c : collected_total (new_ledgers requests use_async) ≡ 0 = nothing_collected requests use_async in let r : ready_count s ≡ 0 = rw empty refl in omega arith;
+}
+  where
+    none : (key : ℕ) (slot : Slot) → get s key ≡ Some slot → ⊥
+    none key slot found = let no : None ≡ Some slot = sym (ap (λ slots. get_or slots key None) empty) ∙ found in cc

@@ -1,22 +1,21 @@
--- A desk goes on by its calls.
+-- A desk goes on by its calls, and which tickets are still owned.
 use Rattle.xa_base.proofs.{◌≡◌, ◌≢◌, ℕ, zero, suc, ◌-◌, ◌^◌, ◌≤◌, List, [], ◌∷◌, ◌++◌, length, map, Option, Some, None, IfSome, sym, refl, ap, ◌∙◌, subst}
-use Rattle.xa_base.proofs.{arith, nat_cmp, same_begins, begins_on}
+use Rattle.xa_base.proofs.{arith, nat_cmp, same_begins, begins_on, cases_eq, inserted_there, inserted_other, map-set_same}
 use Rattle.std.proofs.Common.{IsNone}
 use Rattle.std.proofs.Math.Nat.{min-le_left, min-le_right, le-min}
-use Rattle.std.proofs.Math.Seq.{map-set_same}
-use Rattle.std.specs.FinMap as finmap
 use Rattle.xa_words.specs.{Code, Op, Request, Completion}
 use Rattle.xa_lane.specs.{Taken, Item, EndOf, Empty, Sending, Receiving, parcel, at_most_counted, counted, end_seat}
-use Rattle.xa_lane.proofs.Senders.{map-at_place, map-alike}
+use Rattle.xa_lane.proofs.Parcels.{map-at_place, map-alike}
 use Rattle.xa_desk.specs.{Operation, with_collected, ledger, no_ledger, put_ledger, completed, Event, EndedView, Ends, submitted, after_full, after_fulls}
 use Rattle.xa_desk.specs.{Drains, first, other, Draws, Pops, start, drawn, EndsQuiet, Collects, CollectsKept, CollectsLeast, TakesKept, GoesOut, plan_of, plans}
-use Rattle.xa_desk.specs.{HaveGrown, TicketView, Owns, IsOut, IsDesk, outstanding, drained_code, LedgerView, DeskView, GoesOn}
+use Rattle.xa_desk.specs.{HaveGrown, TicketView, Owns, IsOut, IsDesk, outstanding, drained_code, LedgerView, DeskView, GoesOn, IsKnown, next_operation}
+use Rattle.xa_desk.specs.{LeavesTickets, LeavesOthers}
 use Rattle.xa_desk.specs.Looks.{Looks}
 use Rattle.xa_base.specs.{Begins}
-use Rattle.xa_desk.proofs.Growth.{same_lists, growing_on, sending_grows, collecting_grows}
-use Rattle.xa_desk.proofs.Ledgers.{collected_keeps_out}
-use Rattle.xa_desk.proofs.Ties.{tied_looks, tied_collected}
+use Rattle.xa_desk.proofs.Ledgers.{same_lists, growing_on, sending_grows, collecting_grows, collected_keeps_out, sent_keeps_out, unsent}
+use Rattle.xa_desk.proofs.Ties.{tied_looks, tied_collected, fulls_alike}
 use Rattle.xa_desk.proofs.Looks.{looks_outstanding, looking_leaves, quiet_looks, freed_loose}
+use Rattle.std.specs.FinMap as finmap
 
 -- ---- counts of quiet moments
 
@@ -37,12 +36,8 @@ goes_with : (d : DeskView) (requests : List (Sending Request)) (at : List Ledger
     → GoesOn d (record d { requests = requests; ledgers = at; events = events; kept = kept })
 goes_with d requests at events kept ends plan lists = search (arith, same_begins, same_count)
 
--- nothing but what is kept may differ
-pub goes_keeping : (d : DeskView) (kept : finmap.FinMap nat_cmp Operation) → GoesOn d (record d { kept = kept })
-goes_keeping d kept = goes_with d d.requests d.ledgers d.events kept refl refl (same_lists d.ledgers d.ledgers refl)
-
 pub goes_same : (d : DeskView) → GoesOn d d
-goes_same d = goes_keeping d d.kept
+goes_same d = goes_with d d.requests d.ledgers d.events d.kept refl refl (same_lists d.ledgers d.ledgers refl)
 
 pub goes_nowhere : (old new : DeskView) → new ≡ old → GoesOn old new
 goes_nowhere old new e = subst (GoesOn old) (sym e) (goes_same old)
@@ -216,3 +211,58 @@ goes_called n old sent new m op o code e x = search (arith, goes_further, goes_f
 
 pub goes_out : (d : DeskView) (e : EndedView) → Ends d e → GoesOut d e
 goes_out d e h = search (arith, map-alike, same_lists, e.requests, d.requests, h.requests, h.thread, h.completions, d.ledgers, e.ledgers)
+
+-- ---- which tickets are still owned as a desk goes on
+
+pub sent_leaves : (old : DeskView) (m : ℕ) (op : Op) → IsKnown old.ledgers m → LeavesTickets old (submitted old m op)
+sent_leaves old m op known t owned = search (arith, sent_keeps_out, t.operation)
+
+pub sent_fresh : (old : DeskView) (m : ℕ) (op : Op) → IsKnown old.ledgers m → (t : TicketView) → Owns old t → t.operation ≢ next_operation old.ledgers m
+sent_fresh old m op known t owned = unsent old.ledgers m op known t.operation (record { known = owned.out.known; sent = owned.out.sent })
+
+pub kept_leaves : (old : DeskView) (o : Operation) (number : ℕ) → LeavesOthers old (record old { kept = finmap.insert old.kept number o }) o
+kept_leaves old o number t owned differs = search (arith, cases_eq, inserted_there, inserted_other, old.kept, owned.loose)
+
+pub freed_leaves : (old : DeskView) (number : ℕ) → LeavesTickets old (record old { kept = finmap.remove old.kept number })
+freed_leaves old number t owned = search (arith, freed_loose, t.operation)
+
+pub full_leaves : (old : DeskView) (m : ℕ) → LeavesTickets old (after_full old m)
+full_leaves old m t owned = record { opening = owned.opening; thread = owned.thread; out = owned.out; loose = owned.loose }
+
+-- a call collects what it sent itself, which had no ticket before
+pub called_leaves : (n : ℕ) (old sent new : DeskView) (m : ℕ) (op : Op) (o : Operation) (code : Code) → IsKnown old.ledgers m
+    → sent ≡ submitted (after_fulls n old m) m op → o ≡ next_operation old.ledgers m → Collects sent new o code → LeavesTickets old new
+called_leaves n old sent new m op o code known e named x t owned =
+    let full : DeskView = after_fulls n old m in
+    let same : full.ledgers ≡ old.ledgers = (fulls_alike n old full m refl).ledgers in
+    let known_still : IsKnown full.ledgers m = subst (λ at. IsKnown at m) (sym same) known in
+    let still : Owns full t = fulls_leave n old m t owned in
+    let fresh : t.operation ≢ next_operation old.ledgers m = sent_fresh old m op known t owned in
+    let here : Owns sent t = subst (λ (d : DeskView). Owns d t) (sym e) (sent_leaves full m op known_still t still) in
+    (collects_stays sent new o code x).tickets t here (λ same. fresh (same ∙ named))
+  where
+    fulls_leave : (n : ℕ) (old : DeskView) (m : ℕ) → LeavesTickets old (after_fulls n old m)
+    fulls_leave zero old m t owned = owned
+    fulls_leave (suc n) old m t owned = full_leaves (after_fulls n old m) m t (fulls_leave n old m t owned)
+
+pub kept_leaves_by : (old new : DeskView) (o : Operation) (number : ℕ) → new ≡ record old { kept = finmap.insert old.kept number o } → LeavesOthers old new o
+kept_leaves_by old new o number e t owned differs = subst (λ (d : DeskView). Owns d t) (sym e) (kept_leaves old o number t owned differs)
+
+pub released_leaves : (old new : DeskView) (number : ℕ) (r : Option Operation) (o : Operation) → r ≡ Some o
+    → IfSome r (λ _. new ≡ record old { kept = finmap.remove old.kept number }) → LeavesTickets old new
+released_leaves old new number None o is e t owned = absurd (let no : None ≡ Some o = is in cc)
+released_leaves old new number (Some p) o is e t owned = subst (λ (d : DeskView). Owns d t) (sym e) (freed_leaves old number t owned)
+
+-- the same of a desk and an operation that are named otherwise
+pub leaves_seen : (a b new : DeskView) → a ≡ b → LeavesTickets a new → LeavesTickets b new
+leaves_seen a b new e h = subst (λ (d : DeskView). LeavesTickets d new) e h
+
+pub others_seen : (a b new : DeskView) (p o : Operation) → a ≡ b → p ≡ o → LeavesOthers a new p → LeavesOthers b new o
+others_seen a b new p o e named h t owned differs = h t (subst (λ (d : DeskView). Owns d t) (sym e) owned) (λ same. differs (same ∙ named))
+
+-- what a sending leaves, and calls that may find nothing
+pub ruleset sent_rules = (sent_leaves, sent_fresh, full_leaves)
+
+pub ruleset tried_rules = (desk_stays, tried_stays, others_seen)
+
+pub ruleset tried_kept_rules = (desk_stays, tried_kept_stays, leaves_seen)

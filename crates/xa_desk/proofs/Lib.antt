@@ -1,15 +1,6 @@
 pub mod Ledgers
 pub mod Books
-pub mod KeptPlaces
-pub mod Marked
-pub mod Counts
-pub mod Looks
-pub mod Fresh
-pub mod Tickets
 pub mod KeyRows
-pub mod Ties
-pub mod Begins
-pub mod Desks
-pub mod Growth
+pub mod Looks
 pub mod GoingOn
-pub mod Waiting
+pub mod Ties

@@ -1,14 +1,30 @@
--- What takes of the lane of completions leave as it was.
-use Rattle.xa_base.proofs.{rules, arith, ◌≡◌, ◌≢◌, ℕ, List, length, Option, Some, None, IfSome, is_some, true, false, ◌+◌, sym, ◌∙◌, refl, ap, subst, cases_eq}
-use Rattle.xa_base.proofs.{removed_there, removed_other}
-use Rattle.std.proofs.Common.{OnSome, IsSome}
-use Rattle.std.specs.FinMap as finmap
-use Rattle.xa_words.specs.{Code, Completion}
-use Rattle.xa_lane.specs.{Taken, Item, EndOf, Empty, Receiving, Took}
-use Rattle.xa_desk.specs.{Its, Operation, IsOut, IsLoose, ready_at, ready_with, completed, outstanding, drained_code, operation_of, LeavesTickets, Drains}
-use Rattle.xa_desk.specs.{first, other, Draws, Pops, start, drawn, EndsQuiet, Collects, CollectsLeast, DrawsFor, DeskView}
+-- What takes of the lane of completions leave as it was, and how waiting calls idle.
+use Rattle.xa_base.proofs.{rules, ◌≡◌, ℕ, zero, suc, ◌+◌, List, [], ◌∷◌, ◌++◌, length, refl, arith, ◌≢◌, Option, Some, None, IfSome, is_some, true, false, sym}
+use Rattle.xa_base.proofs.{◌∙◌, ap, subst, cases_eq, removed_there, removed_other, OnSome, IsSome}
+use Rattle.xa_words.specs.{Request, Code, Completion}
+use Rattle.xa_lane.specs.{Sending, but_full, Taken, Item, EndOf, Empty, Receiving, Took}
+use Rattle.xa_desk.specs.{MarksEnd, MarkEnds, found_full, Its, Operation, IsOut, IsLoose, ready_at, ready_with, completed, outstanding, drained_code}
+use Rattle.xa_desk.specs.{operation_of, LeavesTickets, Drains, first, other, Draws, Pops, start, drawn, EndsQuiet, Collects, CollectsLeast, DrawsFor, DeskView}
 use Rattle.xa_desk.specs.Looks.{Looks}
 use Rattle.xa_desk.proofs.Books.{drained_code-push_other}
+use Rattle.std.specs.FinMap as finmap
+
+-- ---- how waiting calls idle
+
+module _ {I : Type 0} (by : ℕ → I → I → Type 0) where
+  -- one more end mark was put
+  pub marks_push : (m : ℕ) (ss es : List (Sending Request)) (s e : Sending Request) (a b c : I) (k : ℕ) → k ≡ m + length ss + 1 → MarkEnds by m ss es a b
+      → MarksEnd (by k) s e b c → MarkEnds by m (ss ++ s ∷ []) (es ++ e ∷ []) a c
+  marks_push m [] [] s e a b c k is h mark = search (arith, rules)
+  marks_push m (x ∷ xs) (y ∷ ys) s e a b c k is h mark = (h.0, h.1, marks_push (suc m) xs ys s e h.0 b c k (omega (arith, is)) h.2 mark)
+  marks_push m [] (y ∷ ys) s e a b c k is h mark = absurd h
+  marks_push m (x ∷ xs) [] s e a b c k is h mark = absurd h
+
+pub bare_full : (n : ℕ) (s : Sending Request) → but_full (found_full n s) ≡ but_full s
+bare_full zero s = refl
+bare_full (suc n) s = bare_full n s
+
+-- ---- what takes of the lane of completions leave as it was
 
 -- another operation's completion was taken
 pub still_missing : (old new : DeskView) (c : Completion) (o : Operation) → Drains old c new → o ≢ operation_of c → drained_code o old.drained ≡ None
@@ -42,13 +58,10 @@ same_drains : (old new : DeskView) (r : Receiving Completion) (c : Completion) �
 same_drains old new r c (first out none e) = subst (IsSameFrom old) (sym e) refl
 same_drains old new r c (other never e) = subst (IsSameFrom old) (sym e) refl
 
-drains_same : (old new : DeskView) (c : Completion) → Drains old c new → new.completions ≡ old.completions
-drains_same old new c h = grind arith
-
 -- the completion that a take found was drained
 pub item_drawn : (old new : DeskView) (r : Receiving Completion) (s : ℕ) (c : Completion) → Took old.completions (Item s c) r
     → Drains (record old { completions = r }) c new → Draws old (Item s c) new × (new.completions.quiet ≡ old.completions.quiet)
-item_drawn old new r s c took drains = grind (arith, drains_same)
+item_drawn old new r s c took drains = grind arith
 
 same_then : (old new : DeskView) (drained : List Completion) (then : ℕ)
     → new ≡ record old { drained = drained; drained_then = then; completions = new.completions } → IsSameFrom old new
@@ -124,11 +137,10 @@ collects_found old now new o code l out d =
     let looked = looks_drawn old now d.0 d.1 l d.2 in
     record { before = d.0; looks = looked; out = looks_out old d.0 o looked out; drained = d.4; collected = d.5; fewer = d.6 ∙ looks_outstanding old d.0 looked }
 
-pub ends_quiet_chain : (a b c : DeskView) → Looks a b → EndsQuiet b c → EndsQuiet a c
-ends_quiet_chain a b c l q = record { before = q.before; looks = looks_chain a b q.before l q.looks; quiet = q.quiet }
-
 pub least_chain : (a b c : DeskView) (m number : ℕ) (code : Code) → Looks a b → CollectsLeast b c m number code → CollectsLeast a c m number code
-least_chain a b c m number code l x = record { before = x.before; quiet = ends_quiet_chain a b x.before l x.quiet; least = x.least; takes = x.takes }
+least_chain a b c m number code l x =
+    let q : EndsQuiet a x.before = record { before = x.quiet.before; looks = looks_chain a b x.quiet.before l x.quiet.looks; quiet = x.quiet.quiet } in
+    record { before = x.before; quiet = q; least = x.least; takes = x.takes }
 
 -- what is kept stays kept through takes
 pub looks_kept : (a b : DeskView) (number : ℕ) (o : Operation) → Looks a b → Some o ≡ finmap.get a.kept number → finmap.get b.kept number ≡ Some o

@@ -1,27 +1,24 @@
--- A desk's ledgers go on saying what its ends of lanes do.
+-- A desk's ledgers go on saying what its ends of lanes do, and which calls it doesn't refuse.
 use Rattle.xa_base.proofs.{◌≡◌, ◌≢◌, ℕ, zero, suc, ◌+◌, ◌-◌, ◌<◌, List, [], ◌∷◌, ◌++◌, length, map, Option, Some, None, sym, refl, ap, ◌∙◌, subst, inl, inr}
-use Rattle.xa_base.proofs.{arith, append-nil, All, slice_get, map-append, length-map, All-append, All-cons, All-nil, cases_eq}
+use Rattle.xa_base.proofs.{arith, append-nil, All, slice_get, map-append, length-map, All-append, All-cons, All-nil, cases_eq, ◌≤◌, Bool, false, cond}
+use Rattle.xa_base.proofs.{option_or, not-false, and_parts, leb-true, leb-false}
 use Rattle.xa_words.specs.{Op, Request, Completion, Code}
 use Rattle.xa_lane.specs.{Parcel, Taken, Item, EndOf, Empty, Sending, Receiving, parcel, Took, at_place, with_item, with_full, but_full, sent_at}
 use Rattle.xa_desk.specs.{Operation, new_ledger, with_sent, with_collected, IsKnown, ledger, after_collected, drained_code, next_request, submitted, after_full}
 use Rattle.xa_desk.specs.{after_fulls, numbered, arrived, IsPartOf, nothing, with_last, without_last, IsEndTo, AreEnds, WasDrained, IsTied, IsDesk, PartsView}
-use Rattle.xa_desk.specs.{AreNew, new_desk, Drains, first, other, Draws, Pops, start, drawn, LedgerView, DeskView}
+use Rattle.xa_desk.specs.{AreNew, new_desk, Drains, first, other, Draws, Pops, start, drawn, LedgerView, DeskView, outstanding, reach_refusal, spent_refusal}
+use Rattle.xa_desk.specs.{room_refusal, call_refusal}
 use Rattle.xa_desk.specs.Looks.{Looks}
 use Rattle.xa_desk.proofs.Ledgers.{same_operation, ledger-sent_same, ledger-sent_other, ledger-collected_same, ledger-collected_other, known_before}
 use Rattle.xa_desk.proofs.Ledgers.{collected_known, collected_sends, length-put_ledger, put_same}
 use Rattle.xa_desk.proofs.Looks.{SameEnd, same_took}
-use Rattle.xa_lane.proofs.Senders.{length-at_place, at_place_cases, sent_at-full, sent_at-item, sent_at-other, sent_at-but_full, nothing_sent}
-use Rattle.xa_lane.proofs.Parcels.{somes-append}
-use Rattle.xa_desk.proofs.Books.{drained_code-push_again}
-use Rattle.xa_desk.proofs.Fresh.{fresh_sent, fresh_collected}
+use Rattle.xa_lane.proofs.Parcels.{length-at_place, at_place_cases, sent_at-full, sent_at-item, sent_at-other, sent_at-but_full, nothing_sent, somes-append}
+use Rattle.xa_desk.proofs.Books.{drained_code-push_again, fresh_sent, fresh_collected}
 
 -- ---- what was taken
 
 arrived-item : (taken : List (Parcel Completion)) (s : ℕ) (c : Completion) → arrived (taken ++ parcel s (Some c) ∷ []) ≡ arrived taken ++ c ∷ []
 arrived-item taken s c = grind (arith, map-append, somes-append)
-
-arrived-mark : (taken : List (Parcel Completion)) (s : ℕ) → arrived (taken ++ parcel s None ∷ []) ≡ arrived taken
-arrived-mark taken s = grind (arith, map-append, somes-append, append-nil)
 
 -- a take changes what was taken, and perhaps what was drained
 tied_on : (d : DeskView) (drained : List Completion) (r : Receiving Completion) → IsDesk d → SameEnd d.completions r → IsPartOf drained (arrived r.taken)
@@ -49,7 +46,8 @@ tied_drains old new s c r b took drains =
 
 pub tied_draws : (old new : DeskView) (a : Taken Completion) → Draws old a new → IsDesk old → IsDesk new
 tied_draws old new (Item s c) d b = tied_drains old new s c new.completions b d.0 d.1
-tied_draws old new (EndOf s) d b = search (arith, tied_on, same_took, arrived-mark, old.drained, new.completions, old.completions, old.completions.taken)
+tied_draws old new (EndOf s) d b =
+    search (arith, tied_on, same_took, map-append, somes-append, append-nil, old.drained, new.completions, old.completions, old.completions.taken)
 tied_draws old new Empty d b = search (arith, tied_on, same_took, old.drained, new.completions, old.completions)
 
 tied_pops : (old new : DeskView) → Pops old new → IsDesk old → IsDesk new
@@ -190,3 +188,40 @@ tied_new p requests r ends new = record {
   drained_ = subst (IsPartOf []) (sym (ap arrived new.taken)) nothing;
   collected = λ m known. subst (All (WasDrained [] m)) (sym (fresh_collected p.plan p.use_async (m - 1))) (All-nil (WasDrained [] m));
 }
+
+-- ---- which calls a desk doesn't refuse, and that a desk stays one
+
+unless : {A : Type 0} (b : Bool) (x : A) (r : Option A) → None ≡ cond b (Some x) r → (b ≡ false) × (None ≡ r)
+unless b x r e = grind arith
+
+neither : {A : Type 0} (a b : Option A) → None ≡ option_or a b → (None ≡ a) × (None ≡ b)
+neither a b e = grind arith
+
+reaches : (d : DeskView) (m : ℕ) → None ≡ reach_refusal d m → IsKnown d.ledgers m
+reaches d m e = grind (arith, unless, and_parts, not-false, leb-true)
+
+pub call_known : (d : DeskView) (m : ℕ) → None ≡ call_refusal d m → IsKnown d.ledgers m
+call_known d m e = reaches d m (neither (reach_refusal d m) (spent_refusal d m) e).0
+
+-- what holds of every desk
+abbrev pub Fits : DeskView → Type 0
+Fits d = (outstanding d.ledgers ≤ d.handles) × IsDesk d
+
+pub full_desk : (d d' : DeskView) (m : ℕ) → d' ≡ after_full d m → Fits d → Fits d'
+full_desk d d' m e fits = subst Fits (sym e) (fits.0, tied_full d m fits.1)
+
+pub submitted_desk : (d d' : DeskView) (m : ℕ) (op : Op) → reach_refusal d m ≡ None → None ≡ room_refusal d m
+    → outstanding d'.ledgers ≡ outstanding d.ledgers + 1 → d' ≡ submitted d m op → Fits d → Fits d'
+submitted_desk d d' m op reached allowed more e fits =
+    let free : outstanding d.ledgers < d.handles = grind (arith, neither, leb-false, unless) in
+    let handles : d'.handles ≡ d.handles = ap (λ (x : DeskView). x.handles) e in
+    (omega arith, subst IsDesk (sym e) (tied_submitted d m op (reaches d m (sym reached)) fits.1))
+
+-- the desk between a call's request and its completion
+pub called_desk : (d d' : DeskView) (n m : ℕ) (op : Op) → None ≡ call_refusal d m → d' ≡ submitted (after_fulls n d m) m op → IsDesk d
+    → IsDesk d' × (d'.handles ≡ d.handles)
+called_desk d d' n m op allowed e tied =
+    let alike = fulls_alike n d (after_fulls n d m) m refl in (
+      subst IsDesk (sym e) (tied_submitted (after_fulls n d m) m op (subst (λ at. IsKnown at m) (sym alike.ledgers) (call_known d m allowed)) (tied_fulls n d m tied)),
+      ap (λ (x : DeskView). x.handles) e ∙ alike.handles,
+    )

@@ -34,13 +34,12 @@ pub record IsWithinLimits (t h m : ℕ) : Type 0 where
 pub record IsBook (b : Inside) : Type 0 where
   pub books : IsBooks b.ledgers.items b.slots b.kept.items (logged b.drained.items)
   pub keys : AreKeys b.ledgers.items b.rows.items b.slots
-  pub slots_used : slab_len b.slots ≤ b.handles + 1
-  pub slots_room : (b.handles + 1 ≤ b.slots.capacity) × (b.slots.capacity ≤ MOST_SLOTS)
+  pub slots_room :
+      (slab_len b.slots ≤ b.handles + 1) × (b.handles + 1 ≤ b.slots.capacity) × (b.slots.capacity ≤ MOST_SLOTS)
   pub places : length b.kept.items ≡ b.handles
   pub drained : b.drained_now ≡ length (logged b.drained.items)
   pub planned : planned_total b.ledgers.items ≤ MOST_REQUESTS * MOST_MANAGERS
   pub limits : IsWithinLimits b.thread b.handles (length b.ledgers.items)
-  pub ends : b.ends.items ≡ []
-  pub ends_room : MOST_MANAGERS ≤ vec_capacity b.ends
+  pub ends : (b.ends.items ≡ []) × (MOST_MANAGERS ≤ vec_capacity b.ends)
   pub kept_marks : AreKept b.kept_marks b.kept.items
   pub ready_marks : AreReady b.ready_marks b.kept.items (logged b.drained.items)

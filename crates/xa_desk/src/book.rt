@@ -138,7 +138,7 @@ impl Book {
 
     /// A completion was taken. One that names nothing outstanding, or that isn't the first for its
     /// operation, changes nothing.
-    #[tactic(auto, using(crate::proofs::Marked::number_within))]
+    #[tactic(auto, using(crate::proofs::KeyRows::number_within))]
     #[inline(always)]
     pub(crate) fn note_taken(&mut self, completion: Completion)
         ensures { Drains self.old completion self.new }
@@ -266,7 +266,7 @@ impl Book {
     }
 
     /// Whether an operation is kept.
-    #[tactic(auto, using(crate::proofs::Marked::none_kept))]
+    #[tactic(auto, using(crate::proofs::KeyRows::none_kept))]
     #[inline(always)]
     pub(crate) fn keeps(&self) -> bool
         ensures some { IsTrue result → (k : ℕ) × (keeps_at self.now 0 k ≡ true) }

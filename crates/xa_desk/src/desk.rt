@@ -193,7 +193,7 @@ impl Desk {
 
     /// `submit` to a manager that `reach_refusal` was asked about, and doesn't refuse: only the handles and the
     /// planned requests are still judged.
-    #[tactic(auto, using(crate::proofs::Desks::submitted_desk, crate::proofs::Desks::full_desk))]
+    #[tactic(auto, using(crate::proofs::Ties::submitted_desk, crate::proofs::Ties::full_desk))]
     pub fn submit_reached<R: Wait>(
         &mut self,
         rt: &R,
@@ -277,7 +277,7 @@ impl Desk {
     /// `XA_RETRY` of `xa_complete()` with `TMNOWAIT` (C193, chapter 5).
     ///
     /// It comes back only after a quiet moment at which the completion wasn't drained.
-    #[tactic(auto, using(crate::proofs::Tickets::tried_rules))]
+    #[tactic(auto, using(crate::proofs::GoingOn::tried_rules))]
     pub fn try_complete<R: Wait>(&mut self, rt: &R, ticket: Ticket) -> Result<Code, Ticket>
         requires { Owns self.old ticket }
         ensures collected { IfOk result (Collects self.old self.new ticket.operation) }
@@ -350,7 +350,7 @@ impl Desk {
     ///
     /// `None` comes only after a quiet moment at which the completion wasn't drained; the operation stays
     /// kept under its number.
-    #[tactic(auto, using(crate::proofs::Tickets::tried_kept_rules))]
+    #[tactic(auto, using(crate::proofs::GoingOn::tried_kept_rules))]
     pub fn try_kept<R: Wait>(&mut self, rt: &R, number: u32) -> Option<Code>
         requires { IsSome (map.get self.old.kept number) }
         ensures collected { IfSome result (CollectsKept self.old self.new number) }

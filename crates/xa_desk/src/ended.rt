@@ -154,7 +154,7 @@ pub(crate) fn end<R: Wait, I: Idle>(rt: &R, book: Book, idle: &mut I) -> EndedDe
 }
 
 // Puts the end mark of each lane to a manager.
-#[tactic(auto, using(std::proofs::lemmas::Grind::common_steps, crate::proofs::Waiting::marks_push))]
+#[tactic(auto, using(std::proofs::lemmas::Grind::common_steps, crate::proofs::Looks::marks_push))]
 fn end_all<R: Wait, I: Idle>(
     rt: &R,
     requests: Vec<Sender<Request>>,
@@ -178,7 +178,7 @@ fn end_all<R: Wait, I: Idle>(
 }
 
 // Puts the end mark of the lane to the manager, and idles while it is full.
-#[tactic(auto, using(crate::proofs::Waiting::bare_full))]
+#[tactic(auto, using(crate::proofs::Looks::bare_full))]
 fn end_one<R: Wait, I: Idle>(
     rt: &R,
     sender: Sender<Request>,

@@ -24,7 +24,7 @@ pub fn looking_leaves_tickets()
 
 /// Sending a request leaves every ticket owned, and none of them is of the new operation. A lane that is
 /// full leaves them too.
-#[tactic(auto, using(crate::proofs::Tickets::sent_rules))]
+#[tactic(auto, using(crate::proofs::GoingOn::sent_rules))]
 pub fn sending_leaves_tickets()
     ensures left { (old : DeskView) (m : ℕ) (op : Op) → IsKnown old.ledgers m → LeavesTickets old (submitted old m op) }
     ensures fresh { (old : DeskView) (m : ℕ) (op : Op) → IsKnown old.ledgers m → (t : TicketView) → Owns old t
@@ -33,6 +33,7 @@ pub fn sending_leaves_tickets()
 {}
 
 /// Collecting an operation leaves every other ticket owned.
+#[tactic(auto, using(crate::proofs::GoingOn::collects_stays))]
 pub fn collecting_leaves_others()
     ensures { (old new : DeskView) (o : Operation) (code : Code) → Collects old new o code → LeavesOthers old new o }
 {}
@@ -53,6 +54,7 @@ pub fn desks_go_on()
 {}
 
 /// So may lists that have grown.
+#[tactic(auto, using(crate::proofs::Ledgers::same_lists, crate::proofs::Ledgers::growing_on))]
 pub fn growth_goes_on()
     ensures same { (at : List LedgerView) → HaveGrown at at }
     ensures further { (old mid new : List LedgerView) → HaveGrown old mid → HaveGrown mid new → HaveGrown old new }

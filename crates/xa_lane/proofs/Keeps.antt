@@ -1,7 +1,6 @@
 -- Each step of a lane's queue keeps its rule.
-use Rattle.xa_base.proofs.{◌≡◌, ◌≢◌, ℕ, zero, suc, ◌+◌, ◌<◌, ◌≤◌, true, false, cond, ◌==◌, List, [], ◌∷◌, ◌++◌, length, map, set, sym, refl, ap, ◌∙◌, subst}
-use Rattle.xa_base.proofs.{◌⊎◌, ⊎_elim, inl, inr, append_assoc, append-nil, eq-eqb, ne_eqb, arith, length-append, Option, Some, None, map-append}
-use Rattle.std.proofs.Common.{lt_of_not-le}
+use Rattle.xa_base.proofs.{◌≡◌, ◌≢◌, ℕ, zero, suc, ◌+◌, ◌<◌, ◌≤◌, true, false, cond, ◌==◌, List, [], ◌∷◌, ◌++◌, length, set, sym, refl, ap, ◌∙◌, subst, ◌⊎◌}
+use Rattle.xa_base.proofs.{⊎_elim, inl, inr, append_assoc, append-nil, eq-eqb, ne_eqb, arith, length-append, Option, Some, None, map-append, lt_of_not-le}
 use mathlib.Core.Option.{some, none, some-ne-none, some-injective}
 use mathlib.Core.Option as maybe
 use lib.ListN.{get_elem?}

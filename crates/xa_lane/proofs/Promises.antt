@@ -3,7 +3,7 @@ use Rattle.xa_base.proofs.{◌≡◌, ℕ, zero, suc, ◌≤◌, List, [], ◌�
 use Rattle.std.specs.declared.thread.PromisedHandle.{PromisedHandle}
 use Rattle.std.specs.declared.thread.Promise as Promise
 use Rattle.std.specs.PromisedHandle.{KeepsEach}
-use Rattle.xa_lane.specs.{LaneName, QueueId, Sending, new_sender, new_senders}
+use Rattle.xa_lane.specs.{LaneName, QueueId, Sending, new_senders}
 
 module _ {T P S : Type 0} (g : Promise.Ghosts P T) (shown : T → S) (promised : P → S) (says : (p : P) (r : T) → g.kept_by p r → shown r ≡ promised p) where
   -- each result shows what was promised

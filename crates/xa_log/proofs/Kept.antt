@@ -1,11 +1,8 @@
 -- What a hash map keeps of its entries by their keys, as a finite map.
 use Rattle.xa_base.proofs.{◌≡◌, ◌≤◌, ◌⊎◌, ℕ, Bool, true, cond, List, [], ◌∷◌, None, refl, sym, ap, subst, arith, inl, inr, ◌∙◌, eq_by_cmp, find, from_entries}
-use Rattle.xa_base.proofs.{filter, retain_some, get-lookup, get-from_entries}
+use Rattle.xa_base.proofs.{filter, retain_some, get-lookup, get-from_entries, IsTotalOrder, IsAntisymmetric, lookup}
 use Rattle.std.specs.declared.cmp.Ordering.{Ordering}
-use Rattle.std.specs.Cmp.{IsTotalOrder}
 use Rattle.std.specs.FinMap as map
-use Rattle.std.specs.FinMap.{IsAntisymmetric}
-use Rattle.std.specs.Map.{lookup}
 use Rattle.std.specs.Map.Calls.{RetainsPairs}
 use Rattle.std.proofs.lemmas.Map.Entries.{lookup-filter-keys}
 use Rattle.xa_log.specs.{room_in}
@@ -27,8 +24,7 @@ module _ {K X : Type 0} {R : K → K → Ordering} (eq : K → K → Bool) (o : 
   finds es q = sym (get-from_entries o es q) ∙ get-lookup eq o same by_cmp es q
 
   -- a table that keeps the entries whose keys pass a test
-  pub kept_by_key : (p : K → Bool) (es kept : List (K × X)) → kept ≡ filter (λ e. p e.0) es
-      → from_entries {R = R} kept ≡ map.retain_keys (from_entries es) p
+  pub kept_by_key : (p : K → Bool) (es kept : List (K × X)) → kept ≡ filter (λ e. p e.0) es → from_entries {R = R} kept ≡ map.retain_keys (from_entries es) p
   kept_by_key p es kept is =
       retain_some o same es kept p
       (λ q. finds kept q ∙ ap (lookup (eq q)) is ∙ lookup-filter-keys (eq q) p (p q) (alike p q) es

@@ -1,3 +1,2 @@
 pub mod Transactions
-pub mod SeveralLogs
 pub mod Kept

@@ -1,15 +1,16 @@
--- The order of global transactions is total, and tells all apart as `==` does.
-use Rattle.xa_base.proofs.{◌≡◌, ℤ, ℕ, Bool, List, true, ap, subst, sym, nat_cmp, eq_by_cmp, is_eq, tied_itself, is_equal}
-use Rattle.std.specs.Ordering.{int_cmp}
-use Rattle.std.specs.Bool.{Decides}
-use Rattle.std.specs.Cmp.{IsTotalOrder, int_cmp_total}
-use Rattle.std.specs.Cmp.Lexicographic.{slice_cmp, nat_list_cmp_total}
-use Rattle.std.specs.FinMap.{IsAntisymmetric}
-use Rattle.std.proofs.lemmas.Cmp.{then_total, on_total}
+-- The order of global transactions is total, and what several logs have that are read as one.
+use Rattle.xa_base.proofs.{◌≡◌, ℤ, ℕ, Bool, List, true, ap, subst, sym, nat_cmp, eq_by_cmp, is_eq, tied_itself, is_equal, int_cmp, Decides, IsTotalOrder}
+use Rattle.xa_base.proofs.{slice_cmp, IsAntisymmetric, then_total, on_total, same_from_decides, cond, is_some, false, [], ◌∷◌, ◌++◌, refl, ◌∙◌, Option, Some}
+use Rattle.xa_base.proofs.{None, find, get-from_entries, All, flat_map, option_or, All-head, All-tail}
+use Rattle.std.specs.Cmp.{int_cmp_total}
+use Rattle.std.specs.Cmp.Lexicographic.{nat_list_cmp_total}
 use Rattle.std.proofs.lemmas.Map.Lookups.{exact_pairs, exact_signed, exact_bytes}
-use Rattle.std.proofs.lemmas.Bool.Decides.{same_from_decides}
 use Rattle.xa_words.specs.{TranName, tran_eq, Decides-tran_eq}
-use Rattle.xa_log.specs.{tran_cmp}
+use Rattle.xa_log.specs.{tran_cmp, Records, all_records, record_in}
+use Rattle.std.specs.FinMap.{get-entries}
+use Rattle.std.specs.FinMap as map
+
+-- ---- the order of global transactions is total, and tells all apart as `==` does
 
 pub tran_cmp_total : IsTotalOrder tran_cmp
 tran_cmp_total = then_total (on_total (λ x. x.format) int_cmp_total) (on_total (λ x. x.gtrid) nat_list_cmp_total)
@@ -32,3 +33,56 @@ tran_eq-by_cmp x y = same_from_decides _ _ (Decides-tran_eq x y) (decides_by_cmp
 -- what is said of a name is said of each that is equal to it
 pub tran_alike : (p : TranName → Bool) (q k : TranName) → tran_eq q k ≡ true → p k ≡ p q
 tran_alike p q k t = ap p (sym ((Decides-tran_eq q k).0 t))
+
+-- ---- what several logs have that are read as one
+
+find_both : (q : TranName) (es fs : List (TranName × List Bool)) → find tran_cmp q (es ++ fs) ≡ option_or (find tran_cmp q es) (find tran_cmp q fs)
+find_both q [] fs = refl
+find_both q (e ∷ es) fs =
+    elim (eq_by_cmp tran_cmp q e.0) as (λ b. cond b (Some e.1) (find tran_cmp q (es ++ fs)) ≡ option_or (cond b (Some e.1) (find tran_cmp q es)) (find tran_cmp q fs)) [
+      | true ↦ refl
+      | false ↦ find_both q es fs
+    ]
+
+pub no_log : (t : TranName) → record_in (all_records []) t ≡ None
+no_log t = get-from_entries tran_cmp_total [] t
+
+-- the record of a transaction is that of the first, or else that of the others
+pub more_logs : (r : Records) (rs : List Records) (t : TranName) → record_in (all_records (r ∷ rs)) t ≡ option_or (record_in r t) (record_in (all_records rs) t)
+more_logs r rs t =
+    get-from_entries tran_cmp_total (map.entries r ++ flat_map map.entries rs) t ∙ find_both t (map.entries r) (flat_map map.entries rs)
+    ∙ (λ i. option_or (sym (get-entries r t) i) (sym (get-from_entries tran_cmp_total (flat_map map.entries rs) t) i))
+
+or_none : (a b : Option (List Bool)) → b ≡ None → option_or a b ≡ a
+or_none None b e = e
+or_none (Some x) b e = refl
+
+none_of : (rs : List Records) (t : TranName) → All (λ r. record_in r t ≡ None) rs → record_in (all_records rs) t ≡ None
+none_of [] t none = no_log t
+none_of (r ∷ rs) t none =
+    more_logs r rs t ∙ or_none (record_in r t) (record_in (all_records rs) t) (none_of rs t (All-tail (λ r. record_in r t ≡ None) r rs none))
+    ∙ All-head (λ r. record_in r t ≡ None) r rs none
+
+-- where the others have none of it, it is the one's own
+pub own_log : (before after : List Records) (own : Records) (t : TranName) → All (λ r. record_in r t ≡ None) (before ++ after)
+    → record_in (all_records (before ++ own ∷ after)) t ≡ record_in own t
+own_log [] after own t none = more_logs own after t ∙ or_none (record_in own t) (record_in (all_records after) t) (none_of after t none)
+own_log (r ∷ before) after own t none =
+    more_logs r (before ++ own ∷ after) t
+    ∙ ap (λ o. option_or o (record_in (all_records (before ++ own ∷ after)) t)) (All-head (λ r. record_in r t ≡ None) r (before ++ after) none)
+    ∙ own_log before after own t (All-tail (λ r. record_in r t ≡ None) r (before ++ after) none)
+
+some_first : (a b : Option (List Bool)) → is_some a ≡ true → a ≡ option_or a b
+some_first None b e = cc
+some_first (Some x) b e = refl
+
+none_first : (a b : Option (List Bool)) → is_some a ≡ false → option_or a b ≡ b
+none_first None b e = refl
+none_first (Some x) b e = cc
+
+pub first_counts : (r : Records) (rs : List Records) (t : TranName) → is_some (record_in r t) ≡ true → record_in (all_records (r ∷ rs)) t ≡ record_in r t
+first_counts r rs t e = more_logs r rs t ∙ sym (some_first (record_in r t) (record_in (all_records rs) t) e)
+
+pub others_count : (r : Records) (rs : List Records) (t : TranName) → is_some (record_in r t) ≡ false
+    → record_in (all_records (r ∷ rs)) t ≡ record_in (all_records rs) t
+others_count r rs t e = more_logs r rs t ∙ none_first (record_in r t) (record_in (all_records rs) t) e

@@ -4,7 +4,7 @@ use Rattle.xa_base.proofs.{map-append, filter-append, range_suc}
 use Rattle.xa_words.specs.{Code, Request}
 use Rattle.xa_tables.specs.{Tables, next}
 use Rattle.xa_worker.specs.{Entry, Follows, entry_next, requests}
-use Rattle.xa_worker.proofs.Journals.{follows_more}
+use Rattle.xa_worker.proofs.Ties.{follows_more}
 use Rattle.xa_replay.specs.{numbers_of}
 
 -- one more entry has the code that the tables give

@@ -1,39 +1,17 @@
--- Elements of lists: where they stand, what maps and searches make of them.
-use Rattle.xa_base.proofs.{◌≡◌, ℕ, suc, ◌<◌, Bool, true, false, cond, List, [], ◌∷◌, ◌++◌, length, map, get_or, slice_get, option_map, sym, refl, ap, ◌∙◌}
-use Rattle.xa_base.proofs.{subst, ◌⊎◌, ⊎_elim, inl, inr, arith, Option, Some, None, list_any, Contains, All, AllPairs, slice_get-get_or, slice_get-map}
-use Rattle.xa_base.proofs.{get_or-map, length-map, contains_at, false_from_ne_true, All-map}
-use Rattle.std.proofs.lemmas.Bool.{both_ways}
-use Rattle.std.proofs.lemmas.List.Elements.{Contains-get_or}
-use Rattle.std.proofs.lemmas.List.Folds.{list_any_at}
+-- Elements of lists: where they stand, what maps and searches make of them, and what is taken out.
+use Rattle.xa_base.proofs.{◌≡◌, ℕ, suc, ◌<◌, Bool, true, false, cond, List, [], ◌∷◌, length, map, get_or, slice_get, option_map, sym, refl, ap, ◌∙◌, subst, ◌⊎◌}
+use Rattle.xa_base.proofs.{inr, arith, Option, Some, None, list_any, Contains, All, AllPairs, slice_get-get_or, slice_get-map, get_or-map, length-map}
+use Rattle.xa_base.proofs.{contains_at, false_from_ne_true, All-map, zero, take, All-head, All-tail, both_ways, Contains-get_or, list_any_at, remove}
+use Rattle.xa_base.proofs.{was_mapped}
 use Rattle.std.specs.List.{find}
 
--- y is an element
-abbrev pub In : {X : Type 0} → X → List X → Type 0
-In y [] = ⊥
-In y (x ∷ xs) = (x ≡ y) ⊎ In y xs
-
-pub place_of : {X : Type 0} (y : X) (xs : List X) → In y xs → (k : ℕ) × (slice_get xs k ≡ Some y)
-place_of y [] h = absurd h
-place_of y (x ∷ xs) h = ⊎_elim (λ (e : x ≡ y). (0, ap Some e)) (λ (i : In y xs). let r = place_of y xs i in (suc r.0, r.1)) h
-
-pub in_front : {X : Type 0} (y : X) (xs ys : List X) → In y xs → In y (xs ++ ys)
-in_front y [] ys h = absurd h
-in_front y (x ∷ xs) ys h = ⊎_elim (λ (e : x ≡ y). inl e) (λ (i : In y xs). inr (in_front y xs ys i)) h
-
-pub in_map : {X Y : Type 0} (f : X → Y) (y : Y) (xs : List X) → In y (map f xs) → (x : X) × In x xs × (f x ≡ y)
-in_map f y [] h = absurd h
-in_map f y (x ∷ xs) h = ⊎_elim (λ (e : f x ≡ y). (x, inl refl, e)) (λ (i : In y (map f xs)). let r = in_map f y xs i in (r.0, inr r.1, r.2)) h
-
-pub in_back : {X : Type 0} (y : X) (xs : List X) → In y (xs ++ y ∷ [])
-in_back y [] = inl refl
-in_back y (x ∷ xs) = inr (in_back y xs)
-
-pub contains_in : {X : Type 0} (y : X) (xs : List X) → In y xs → Contains xs y
-contains_in y [] h = absurd h
-contains_in y (x ∷ xs) h = ⊎_elim (λ (e : x ≡ y). (0, omega arith, e)) (λ (i : In y xs). let r = contains_in y xs i in (suc r.0, omega (arith, r.1), r.2)) h
+-- ---- elements of lists: where they stand, what maps and searches make of them
 
 pub get_contained : {X : Type 0} (xs : List X) (x : X) (c : Contains xs x) → slice_get xs c.0 ≡ Some x
 get_contained xs x c = slice_get-get_or xs c.0 x c.1 ∙ ap Some c.2
+
+pub in_map : {X Y : Type 0} (f : X → Y) (y : Y) (xs : List X) → Contains (map f xs) y → (x : X) × Contains xs x × (f x ≡ y)
+in_map f y xs c = let w = was_mapped f xs c.0 y (get_contained (map f xs) y c) in (w.0, contains_at xs c.0 w.0 w.1, w.2)
 
 pub contains_map : {X Y : Type 0} (f : X → Y) (xs : List X) (x : X) → Contains xs x → Contains (map f xs) (f x)
 contains_map f xs x c = contains_at (map f xs) c.0 (f x) (slice_get-map f xs c.0 ∙ ap (option_map f) (get_contained xs x c))
@@ -55,7 +33,7 @@ pairs_at {Y = Y} f R xs h i k d lt below =
     let n = length-map xs f in
     subst (λ (p : Y × Y). R p.0 p.1) (λ j. (get_or-map f xs i d (f d) (omega arith) j, get_or-map f xs k d (f d) below j)) (h i k (f d) lt (omega arith))
 
-after : {X : Type 0} (x y : X) (xs : List X) → Contains xs y → Contains (x ∷ xs) y
+pub after : {X : Type 0} (x y : X) (xs : List X) → Contains xs y → Contains (x ∷ xs) y
 after x y xs c = let lt = c.1 in (suc c.0, omega arith, c.2)
 
 -- what a search finds is an element that passes
@@ -83,3 +61,19 @@ fails_each p xs x c none = false_from_ne_true (p x) (λ e. both_ways (list_any p
 pub some_of : {A B : Type 0} (f : A → B) (o : Option A) (y : B) → option_map f o ≡ Some y → (x : A) × (o ≡ Some x)
 some_of f None y e = cc
 some_of f (Some x) y e = (x, refl)
+
+-- ---- elements that are taken out of a list
+
+-- the element at a place is found, where none before it passes
+pub found_at : {A : Type 0} (p : A → Bool) (xs : List A) (i : ℕ) (d : A) → i < length xs → p (get_or xs i d) ≡ true → All (λ x. p x ≡ false) (take i xs)
+    → find p xs ≡ Some (get_or xs i d)
+found_at p [] i d low here before = absurd (omega (arith, low))
+found_at p (x ∷ xs) zero d low here before = ap (λ b. cond b (Some x) (find p xs)) here
+found_at p (x ∷ xs) (suc i) d low here before =
+    search (arith, found_at p xs i d (omega (arith, low)) here (All-tail (λ y. p y ≡ false) x (take i xs) before), All-head, All-tail)
+
+-- taking out one that doesn't pass changes nothing
+pub found_without : {A : Type 0} (p : A → Bool) (xs : List A) (i : ℕ) (d : A) → i < length xs → p (get_or xs i d) ≡ false → find p (remove xs i) ≡ find p xs
+found_without p [] i d low here = absurd (omega (arith, low))
+found_without p (x ∷ xs) zero d low here = sym (ap (λ b. cond b (Some x) (find p xs)) here)
+found_without p (x ∷ xs) (suc i) d low here = ap (cond (p x) (Some x)) (found_without p xs i d (omega (arith, low)) here)

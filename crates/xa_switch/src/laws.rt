@@ -33,14 +33,14 @@ use crate::settling::settled::Settled;
 use xa_tables::laws::{commits_alone_move_the_worth, value_is_sum};
 
 /// The desks and workers that an opening gives come from it.
-#[tactic(auto, using(crate::proofs::Seated::opened))]
+#[tactic(auto, using(crate::proofs::Meeting::opened))]
 pub fn opened_pieces_come_from_their_opening()
     ensures { (p : Setup) (ds : List DeskView) (ws : List WorkerView) → AreOfOneOpening p ds ws
         → ComeFromOpenings (map seat_of_desk ds) (map seat_of_worker ws) }
 {}
 
 /// They have its number.
-#[tactic(auto, using(crate::proofs::Seated::numbered))]
+#[tactic(auto, using(crate::proofs::Meeting::numbered))]
 pub fn opened_pieces_have_their_number()
     ensures { (p : Setup) (ds : List DeskView) (ws : List WorkerView) → AreOfOneOpening p ds ws
         → All (λ n. n ≡ p.numbers.opening) (openings_of (map seat_of_desk ds) (map seat_of_worker ws)) }
@@ -53,7 +53,7 @@ pub fn some_pieces_come_from_their_openings()
 {}
 
 /// Pieces of several openings may be mixed, since no two openings have one number.
-#[tactic(auto, using(crate::proofs::Mixing::mixed_come))]
+#[tactic(auto, using(crate::proofs::Dealing::mixed_come))]
 pub fn mixed_pieces_come_from_their_openings()
     ensures { (ds others : List DeskSeat) (ws other_ws : List WorkerSeat)
         → All (λ a. All (λ b. a ≢ b) (openings_of others other_ws)) (openings_of ds ws) → ComeFromOpenings ds ws
@@ -95,7 +95,7 @@ pub fn managers_open_with_their_accounts()
 
 /// In a settled opening the values are those that the first opening had, and each accepted addition whose branch
 /// commits later, in its own opening or in another, whichever openings left what its managers began with.
-#[tactic(auto, using(crate::proofs::Journaled::sums))]
+#[tactic(auto, using(crate::proofs::SettledOpenings::sums))]
 pub fn settled_values_are_sums()
     ensures { (s : Settling) (m : ℕ) (before : List History) (T : Tables) → IsSettled s → IsNew T
         → first_of s m ≡ Some (left_by before T) → IsSumOver s m before T }
@@ -105,7 +105,7 @@ pub fn settled_values_are_sums()
 
 /// What all accounts are worth together after the journals is what was declared and what each thread's
 /// Commits have moved.
-#[tactic(auto, using(crate::proofs::Worth::worth_law))]
+#[tactic(auto, using(crate::proofs::SettledOpenings::worth_law))]
 pub fn threads_move_the_worth()
     ensures { (p : Plan) (s : Settling) → IsSettled s → IsOfPlan p s → All IsSoundManager p.managers.items
         → WorthIsOfThreads p s }
@@ -114,7 +114,7 @@ pub fn threads_move_the_worth()
 }
 
 /// At the desks of an opening nothing is outstanding that isn't kept.
-#[tactic(auto, using(crate::proofs::Seated::kept))]
+#[tactic(auto, using(crate::proofs::Meeting::kept))]
 pub fn opened_desks_keep_what_is_outstanding()
     ensures { (p : Setup) (ds : List DeskView) (ws : List WorkerView) → AreOfOneOpening p ds ws → All AllKept ds }
 {}

@@ -3,20 +3,13 @@ use Rattle.xa_base.proofs.{◌≡◌, ◌≢◌, ℕ, ℤ, pos, ◌+ℤ◌, All,
 use Rattle.xa_base.proofs.{◌++◌, take, drop, length, map, Option, None, Some, unwrap_or, option_map, refl, sym, ap, ◌∙◌, subst, arith, get_or, set, list_any}
 use Rattle.xa_base.proofs.{eq_by_cmp, is_eq, tied_itself, FinMap, find, from_entries, get-from_entries, All-map, All-head, All-tail, length-map, get_or_default}
 use Rattle.xa_base.proofs.{get_or-set_other, length-set, take_all, drop_all, append-nil, and-false, eqb-true, eq-eqb, false_from_ne_true, not-false, and_parts}
-use Rattle.xa_base.proofs.{+ℤ_idr as plus_none, by_bool, is_equal, put_one, retain_some, map_some, any_entries, Distinct}
-use Rattle.std.specs.Prelude.{◌≤ℤ◌}
-use Rattle.std.specs.Ordering.{ordering_then}
+use Rattle.xa_base.proofs.{+ℤ_idr as plus_none, by_bool, is_equal, put_one, retain_some, map_some, any_entries, Distinct, ◌≤ℤ◌, ordering_then, IsTotalOrder}
+use Rattle.xa_base.proofs.{then_total, on_total, IsAntisymmetric, get_or-set_at, le_z_yes, list_any_at}
 use Rattle.std.specs.declared.cmp.Ordering.{Ordering}
 use Rattle.std.specs.declared.cmp.Ordering.TheVariants.{Equal}
-use Rattle.std.specs.Cmp.{IsTotalOrder}
-use Rattle.std.proofs.lemmas.Cmp.{then_total, on_total}
-use Rattle.std.specs.FinMap.{IsAntisymmetric}
 use Rattle.xa_words.specs.{XidName, xid_cmp, xid_eq, IsDelta, key_eq, key_cmp_total, key_cmp-IsAntisymmetric, xid_cmp_total, xid_cmp-IsAntisymmetric}
 use Rattle.xa_words.specs.{xid_eq-by_cmp, Decides-xid_eq, Decides-key_eq}
-use Rattle.std.proofs.lemmas.Grind.{get_or-set_at}
 use Rattle.std.proofs.lemmas.Float.{T_from_true}
-use Rattle.std.specs.Int.Signed.{le_z_yes}
-use Rattle.std.proofs.lemmas.List.Folds.{list_any_at}
 use Rattle.xa_words.specs.Orders.{key_cmp}
 use Rattle.xa_tables.specs.{Account, Hold, Touch, touch_cmp, is_within, value_of, sum_of, has_touched, has_other_touched, is_broken, posted, IsSmall, IsGood}
 use Rattle.xa_tables.specs.{with_hold, hold_entries, value_entries, AreDistinct, AreDistinctEntries, hold_is_of, is_held_by, hold_is_other, hold_breaks}
@@ -79,9 +72,6 @@ value_found k (a ∷ rest) = grind (arith, (value_found k rest), find, key_cmp)
 
 lacks_key : (k : List ℕ) (accounts : List Account) → Lacks k accounts → at_key k accounts ≡ None
 lacks_key k accounts h = grind (arith, value_found)
-
-key_lacks : (k : List ℕ) (accounts : List Account) → at_key k accounts ≡ None → Lacks k accounts
-key_lacks k accounts e = value_found k accounts ∙ ap (option_map (λ (a : Account). a.value)) e
 
 -- each account is that of its key
 pub at_own_key : (accounts : List Account) (i : ℕ) (a : Account) → AreDistinct accounts → i < length accounts → a ≡ get_or accounts i a
@@ -209,14 +199,11 @@ at_key_map f keys k (a ∷ rest) = grind (arith, (at_key_map f keys k rest))
 pub distinct_changed : (f : Account → Account) → ((a : Account) → (f a).key ≡ a.key) → (accounts : List Account) → AreDistinct accounts
     → AreDistinct (map f accounts)
 distinct_changed f keys [] h = tt
-distinct_changed f keys (a ∷ rest) h = grind (arith, (distinct_changed f keys rest h.1), key_lacks, at_key_map, lacks_key)
-
-cond_none : (b : Bool) → ◌≡◌ {A = Option ℤ} (cond b None None) None
-cond_none b = grind arith
+distinct_changed f keys (a ∷ rest) h = grind (arith, (distinct_changed f keys rest h.1), value_found, option_map, at_key_map, lacks_key)
 
 kept_amount : (keep : XidName → Bool) (f : Account → Account) → LetsGo keep f → (x : XidName) (o : Option Account)
     → amount_held x (option_map f o) ≡ cond (keep x) (amount_held x o) None
-kept_amount keep f g x o = grind (arith, cond_none, Decides-xid_eq)
+kept_amount keep f g x o = grind (arith, Decides-xid_eq)
 
 -- the values stay
 pub values_kept : (keep : XidName → Bool) (accounts : List Account) → value_entries (map (kept_where keep) accounts) ≡ value_entries accounts
@@ -269,14 +256,10 @@ pub others_as_were : (f : Account → Account) → ((a : Account) → (f a).key 
 others_as_were f keys accounts y h same =
     broken_any (map f accounts) y (distinct_changed f keys accounts h) ∙ each_as_was (λ a. is_broken_by a y) f same accounts ∙ sym (broken_any accounts y h)
 
--- what is written over the whole of a list
-over_whole : (n : ℕ) (xs ys : List Account) → length xs ≡ length ys → length ys ≡ n → take n (xs ++ drop (length xs) ys) ≡ xs
-over_whole n xs ys e h = grind (arith, drop_all, append-nil, take_all)
-
 -- the accounts, each of them changed by f through one slice
 pub written_whole : (f : Account → Account) (n : ℕ) (slice items after : List Account) → after ≡ map f slice → slice ≡ items → length slice ≡ n
     → take n (after ++ drop (length after) items) ≡ map f items
-written_whole f n slice items after done is long = grind (arith, over_whole, length-map)
+written_whole f n slice items after done is long = grind (arith, drop_all, append-nil, take_all, length-map)
 
 -- ---- an addition
 
@@ -327,10 +310,6 @@ sums_added accounts i a x d dist h e for =
     ∙ (λ j. cond (sym (touch_same p.0 x p.1 a.key) j) (Some v) (sym (hold_found accounts dist p.0 p.1) j)))
     ∙ ap (λ s. finmap.insert (from_entries (hold_entries accounts)) (x, a.key) (s +ℤ d)) (sym (sum_is accounts dist x a.key ∙ ap (λ o. unwrap_or (amount_held x o) (pos 0)) at_a ∙ amount_for x a.hold for))
 
--- where no other branch has touched the key
-for_hold : (x : XidName) (o : Option Hold) → hold_is_other o x ≡ false → IsFor x o
-for_hold x o h = grind (arith, Decides-xid_eq, not-false)
-
 pub passes_none : (p : Account → Bool) (accounts : List Account) (i : ℕ) (a : Account) → i < length accounts → a ≡ get_or accounts i a
     → list_any p accounts ≡ false → p a ≡ false
 passes_none p accounts i a h e none = false_from_ne_true (p a) (λ t. let some = list_any_at p accounts i a h (ap p (sym e) ∙ t) in cc)
@@ -339,7 +318,7 @@ passes_none p accounts i a h e none = false_from_ne_true (p a) (λ t. let some =
 pub for_place : (accounts : List Account) (i : ℕ) (a : Account) (x : XidName) (k : List ℕ) → AreDistinct accounts → i < length accounts
     → a ≡ get_or accounts i a → a.key ≡ k
     → has_other_touched (from_entries (hold_entries accounts)) x k ≡ false → IsFor x a.hold
-for_place accounts i a x k dist h e same alone = grind (arith, passes_none, other_any, Decides-key_eq, for_hold)
+for_place accounts i a x k dist h e same alone = grind (arith, passes_none, other_any, Decides-key_eq, Decides-xid_eq, not-false)
 
 pub any_set : (p : Account → Bool) (accounts : List Account) (i : ℕ) (a b : Account) → i < length accounts → a ≡ get_or accounts i a → p b ≡ p a
     → list_any p (set accounts i b) ≡ list_any p accounts

@@ -1,6 +1,6 @@
 -- What one request does to the tables. The rules are walked here alone: a law of all requests is one of their effects.
-use Rattle.xa_base.proofs.{rules, ◌≡◌, ℕ, ℤ, pos, Bool, true, false, not, ◌&&◌, ◌||◌, if◌then◌else◌, Option, None, Some, List, refl, arith, ap, ◌∙◌, ◌⊎◌}
-use Rattle.xa_base.proofs.{or-true, not-false, by_if, sym, subst}
+use Rattle.xa_base.proofs.{◌≡◌, ℕ, ℤ, pos, Bool, true, false, not, ◌&&◌, ◌||◌, if◌then◌else◌, Option, None, Some, List, refl, arith, ap, ◌∙◌, ◌⊎◌, or-true}
+use Rattle.xa_base.proofs.{not-false, by_if, sym, subst}
 use Rattle.xa_words.specs.{XidName, xid_eq, Done, RdOnly, RbRollback, RbIntegrity, RbTransient, Async, RmErr, Nota, Inval, Proto, RmFail, DupId, Outside, Op}
 use Rattle.xa_words.specs.{OpenRm, CloseRm, Start, Add, End, Prepare, Commit, Rollback, Forget, Heur, Listed, Shut, StartHow, Fresh, Join, Resume, EndHow}
 use Rattle.xa_words.specs.{Success, Suspend, Fail, Code}
@@ -8,9 +8,9 @@ use Rattle.xa_tables.specs.{State, Active, Idle, RollbackOnly, Failed, Transient
 use Rattle.xa_tables.specs.{exists, is_S4, is_suspended, is_associated, is_prepared, is_rollback_only, is_completed, is_left, is_S5, reason_in, reason_of}
 use Rattle.xa_tables.specs.{decision_in, is_somebody_associated, is_declared, has_other_touched, is_broken, Answer, next, by_rules, open_rm, close_rm, start}
 use Rattle.xa_tables.specs.{add, end, prepare, commit_one, commit_two, rollback, heur, forget, listed, is_suspend, associated, suspended, dissociated, stated}
-use Rattle.xa_tables.specs.{added, gone, completed, committed, shut_down, Fate, ReadOnly, RolledBack, fate_of, if_named, prepare_fate, commit_fate}
-use Rattle.xa_tables.specs.{rollback_fate, ending_by, is_done, is_rolled_back, share_of, names, moved_by, held_by, Tables, sums_without, Live, InDoubt}
-use Rattle.xa_tables.specs.{Committed, HeurCommitted, HeurRolledBack, ending}
+use Rattle.xa_tables.specs.{added, gone, completed, committed, shut_down, Fate, ReadOnly, RolledBack, fate_of, if_named, commit_fate, rollback_fate, ending_by}
+use Rattle.xa_tables.specs.{is_done, is_rolled_back, share_of, names, moved_by, held_by, Tables, sums_without, Live, InDoubt, Committed, HeurCommitted}
+use Rattle.xa_tables.specs.{HeurRolledBack, ending}
 use Rattle.xa_tables.specs.declared.state.State.TheVariants.{Prepared as S3}
 use Rattle.xa_tables.specs.Next.{forgotten}
 use Rattle.std.specs.FinSet as set
@@ -55,22 +55,9 @@ no_share b z = grind arith
 pub undone_adds : (own : List ℕ) (d : ℤ) (c : Code) → is_done c ≡ false → TellsNothing (Add own d) c
 undone_adds own d c e = grind (arith, no_share)
 
-error_undone : (c : Code) → is_error c ≡ true → is_done c ≡ false
-error_undone c e = grind arith
-
--- no error stands in the table of fates
-error_fates : (c : Code) → is_error c ≡ true → (prepare_fate c ≡ None) × (commit_fate c ≡ None) × (rollback_fate c ≡ None)
-error_fates c e = grind arith
-
-error_fate : (x : XidName) (op : Op) (c : Code) → is_error c ≡ true → fate_of x op c ≡ None
-error_fate x op c e = grind (arith, error_undone, named_none, error_fates)
-
-error_moved : (accounts : List (List ℕ × ℕ)) (T : Tables) (op : Op) (c : Code) → is_error c ≡ true → moved_by accounts op c T ≡ pos 0
-error_moved accounts T op c e = grind (arith, error_undone)
-
 -- an error tells nothing, whatever was requested
 pub error_tells : (op : Op) (c : Code) → is_error c ≡ true → TellsNothing op c
-error_tells op c e = grind (arith, undone_adds, error_undone, error_fate, error_moved)
+error_tells op c e = grind (arith, undone_adds, named_none)
 
 -- the reason of a branch that can only be rolled back is an XA_RB* code
 pub reason_rolls_back : (o : Option State) → is_S4 o ≡ true → is_rolled_back (reason_in o) ≡ true
@@ -298,15 +285,12 @@ module _ (t : ℕ) (T : Tables) where
   by_effect (Adds own d l mine known alone) =
       subst (λ (o : Option Association). Moves T o (Add own d) (added l.xid own d T, Done)) (sym mine) (Added own d l known alone)
   by_effect (Prepares y nobody unbroken) = Still _ _ _ refl refl (λ k l later. refl) (λ accounts. refl) (λ x. quiet_named x y (Some InDoubt) refl)
-  by_effect (Commits y one_phase nobody may) =
-      Ended _ _ _ y true refl refl (λ k l later. refl) (λ accounts. refl) (λ x. named_ending x y (Some Committed))
+  by_effect (Commits y one_phase nobody may) = Ended _ _ _ y true refl refl (λ k l later. refl) (λ accounts. refl) (λ x. named_ending x y (Some Committed))
   by_effect (Drops op y c nobody tells) =
       Ended _ _ _ y false refl refl tells.shares (λ accounts. tells.moved accounts T)
       (λ x. ap ending (tells.fates x) ∙ named_ending x y (Some tells.fate) ∙ ap (λ e. if xid_eq y x then e else None) tells.uncommitted)
-  by_effect (CommitsByItself y voted) =
-      Ended _ _ _ y true refl refl (λ k l later. refl) (λ accounts. refl) (λ x. named_ending x y (Some HeurCommitted))
-  by_effect (RollsBackByItself y voted) =
-      Ended _ _ _ y false refl refl (λ k l later. refl) (λ accounts. refl) (λ x. named_ending x y (Some HeurRolledBack))
+  by_effect (CommitsByItself y voted) = Ended _ _ _ y true refl refl (λ k l later. refl) (λ accounts. refl) (λ x. named_ending x y (Some HeurCommitted))
+  by_effect (RollsBackByItself y voted) = Ended _ _ _ y false refl refl (λ k l later. refl) (λ accounts. refl) (λ x. named_ending x y (Some HeurRolledBack))
   -- the others change no sum and no value
   by_effect effect = Still _ _ _ refl refl (λ k l later. refl) (λ accounts. refl) (λ x. refl)
 

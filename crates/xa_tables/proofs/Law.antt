@@ -1,19 +1,103 @@
--- What the state of a branch tells of its fate, and that nobody is associated with a branch that isn't at work, whatever is requested.
-use Rattle.xa_base.proofs.{◌≡◌, ◌≢◌, ℕ, true, false, cond, ◌||◌, if◌then◌else◌, Option, None, Some, is_some, unwrap_or, List, [], ◌∷◌, refl, arith, sym, ap}
-use Rattle.xa_base.proofs.{◌∙◌, subst, get-empty, get-insert, get-remove, nat_cmp, cons_option, or_from, false_from_ne_true, by_bool}
-use Rattle.xa_words.specs.{XidName, xid_eq, xid_cmp_total, Decides-xid_eq, xid_eq-by_cmp, Op}
+-- What comes after the first Shut, what the state of a branch tells of its fate, and that nobody is associated with a branch that isn't at work.
+use Rattle.xa_base.proofs.{◌≡◌, ℕ, true, false, if◌then◌else◌, [], ◌∷◌, refl, arith, sym, ap, ◌∙◌, subst, by_bool, ◌++◌, map, cons_option, ◌≢◌, cond, ◌||◌}
+use Rattle.xa_base.proofs.{Option, None, Some, is_some, unwrap_or, List, get-empty, get-insert, get-remove, nat_cmp, or_from, false_from_ne_true}
+use Rattle.xa_words.specs.{XidName, Done, RmFail, Op, Shut, Request, xid_eq, xid_cmp_total, Decides-xid_eq, xid_eq-by_cmp}
+use Rattle.xa_tables.specs.{Tables, Answer, next, if_opened, by_rules, shut_down, tables_after, is_shut, accepted, coded, fates_in, History, codes, first_shut}
+use Rattle.xa_tables.specs.{late, LateAreRefused, LateChangeNothing, Fate, fate, fate_in, fate_of, last_or, State, Active, Idle, RollbackOnly}
+use Rattle.xa_tables.specs.{HeuristicallyCompleted, HeuristicDecision, Association, association_of, state_of, is_S3, is_S5, Failed, Transient, Live, InDoubt}
+use Rattle.xa_tables.specs.{Committed, HeurCommitted, HeurRolledBack, if_named, is_associated, is_somebody_associated, gone, stated, ending_by, Absent}
+use Rattle.xa_tables.specs.{is_in_doubt, is_unfinished, decided_fate, IsOpening, told_by, AreAssociationsLive}
+use Rattle.xa_tables.proofs.Effects.{TellsNothing, error_tells, Effect, effect_of, Stays, Joins, Resumes, Fails, Idles, Dooms, Prepares, Commits, Drops}
+use Rattle.xa_tables.proofs.Effects.{CommitsByItself, Suspends, RollsBackByItself, Forgets, Starts, named_none}
 use Rattle.xa_words.proofs.Xids.{xid_self}
-use Rattle.xa_tables.specs.{State, Active, Idle, RollbackOnly, HeuristicallyCompleted, HeuristicDecision, Association, association_of, state_of, is_S3, is_S5}
-use Rattle.xa_tables.specs.{Failed, Transient, Live, InDoubt, Committed, HeurCommitted, HeurRolledBack, if_named, is_associated, is_somebody_associated, Answer}
-use Rattle.xa_tables.specs.{next, gone, stated, Fate, ending_by, Absent, is_in_doubt, is_unfinished, decided_fate, fate_of, fates_in, last_or, tables_after}
-use Rattle.xa_tables.specs.{coded, IsOpening, told_by, Tables, History, AreAssociationsLive}
 use Rattle.xa_tables.specs.declared.state.State.TheVariants.{Prepared as S3}
-use Rattle.xa_tables.proofs.Effects.{Effect, Stays, Joins, Resumes, Fails, Idles, Dooms, Prepares, Commits, Drops, CommitsByItself, Suspends, RollsBackByItself}
-use Rattle.xa_tables.proofs.Effects.{Forgets, effect_of, Starts, named_none}
 pub use Rattle.xa_tables.proofs.SoundLemmas.{swap_xid}
 use Rattle.xa_tables.proofs.SoundLemmas.{apart_from, nobody_with, somebody_put, somebody_own}
 use Rattle.std.specs.FinMap as map
 use Rattle.xa_tables.specs.declared.state.HeuristicDecision.TheVariants as decision
+
+-- ---- the laws: what comes after the first Shut is refused, changes nothing and makes nothing of any branch
+
+-- a manager that is shut refuses, and its tables stay
+pub next-shut : (t : ℕ) (op : Op) (T : Tables) → T.shut ≡ true → next t op T ≡ (T, RmFail)
+unfolding next
+next-shut t op T s = ap (λ b. if b then (T, RmFail) else if_opened t op T (by_rules t op T)) s
+
+pub shut_op : (op : Op) → is_shut op ≡ true → op ≡ Shut
+shut_op op e = grind arith
+
+shut_tells : TellsNothing Shut Done
+shut_tells = record { fates = λ x. refl; shares = λ k l later. refl; moved = λ accounts T. refl }
+
+pub next-Shut : (t : ℕ) (T : Tables) → T.shut ≡ false → next t Shut T ≡ (shut_down T, Done)
+unfolding next
+next-Shut t T s = ap (λ b. if b then (T, RmFail) else (shut_down T, Done)) s
+
+-- what F reads of a history, where it reads nothing of a request that tells nothing
+module _ {A : Type 0} (F : History → Tables → A)
+    (quiet : (r : Request) (h : History) (T : Tables) (a : Answer) → next r.thread r.op T ≡ a → TellsNothing r.op a.1 → F (r ∷ h) T ≡ F h a.0) where
+  -- of a manager that is shut, nothing
+  pub all_quiet : (h : History) (T : Tables) → T.shut ≡ true → F h T ≡ F [] T
+  all_quiet [] T s = refl
+  all_quiet (r ∷ h) T s = quiet r h T (T, RmFail) (next-shut r.thread r.op T s) (error_tells r.op RmFail refl) ∙ all_quiet h T s
+
+  -- and of any manager, the accepted requests alone
+  pub accepted_read : ((T : Tables) → F [] (shut_down T) ≡ F [] T)
+      → ((r : Request) (h : History) (T : Tables) → F (accepted h) (next r.thread r.op T).0 ≡ F h (next r.thread r.op T).0 → F (r ∷ accepted h) T ≡ F (r ∷ h) T)
+      → (h : History) (T : Tables) → F (accepted h) T ≡ F h T
+  accepted_read end more [] T = refl
+  accepted_read end more (r ∷ h) T =
+      by_bool (λ b. is_shut r.op ≡ b → F (if b then [] else r ∷ accepted h) T ≡ F (r ∷ h) T) (is_shut r.op) (λ e _.
+      let is = shut_op r.op e in
+      by_bool (λ _. F [] T ≡ F (r ∷ h) T) (T.shut) (λ s. sym (all_quiet (r ∷ h) T s)) (λ s.
+      sym (quiet r h T (shut_down T, Done) (ap (λ (o : Op). next r.thread o T) is ∙ next-Shut r.thread T s) (subst (λ (o : Op). TellsNothing o Done) (sym is) shut_tells)
+      ∙ all_quiet h (shut_down T) refl ∙ end T))) (λ _ _. more r h T (accepted_read end more h (next r.thread r.op T).0)) refl
+
+-- a manager that is shut leaves its tables
+pub shut_stays : (h : History) (T : Tables) → T.shut ≡ true → tables_after h T ≡ T
+shut_stays = all_quiet tables_after (λ r h T a e tells. ap (λ (b : Answer). tables_after h b.0) e)
+
+-- what a Shut leaves is decided by the accepted requests
+pub after_accepted : {A : Type 0} (view : Tables → A) → ((T : Tables) → view (shut_down T) ≡ view T) → (h : History) (T : Tables)
+    → view (tables_after h T) ≡ view (tables_after (accepted h) T)
+after_accepted view keeps h T =
+    sym (accepted_read (λ g U. view (tables_after g U)) (λ r g U a e tells. ap (λ (b : Answer). view (tables_after g b.0)) e) keeps (λ r g U e. e) h T)
+
+-- nothing becomes of x by a request that tells nothing
+pub fates_quiet : (x : XidName) (r : Request) (h : History) (T : Tables) (a : Answer) → next r.thread r.op T ≡ a → TellsNothing r.op a.1
+    → fates_in x (coded (r ∷ h) T) ≡ fates_in x (coded h a.0)
+fates_quiet x r h T a e tells = grind arith
+
+-- only a Shut shuts
+leaves_open : (t : ℕ) (T : Tables) {op : Op} {a : Answer} → Effect t T op a → is_shut op ≡ false → a.0.shut ≡ T.shut
+leaves_open t T effect e = grind arith
+
+pub stays_open : (t : ℕ) (op : Op) (T : Tables) → is_shut op ≡ false → (next t op T).0.shut ≡ T.shut
+stays_open t op T = leaves_open t T (effect_of t op T)
+
+all_refused : (h : History) (T : Tables) → T.shut ≡ true → codes h T ≡ map (λ (q : Request). RmFail) h
+all_refused [] T s = refl
+all_refused (r ∷ h) T s = ap (λ (a : Answer). a.1 ∷ codes h a.0) (next-shut r.thread r.op T s) ∙ ap (λ cs. RmFail ∷ cs) (all_refused h T s)
+
+from_shut : (t : ℕ) (op : Op) (h : History) (T : Tables) → op ≡ Shut → T.shut ≡ false
+    → (next t op T).1 ∷ codes h (next t op T).0 ≡ Done ∷ map (λ (q : Request). RmFail) h
+from_shut t op h T is s = grind (arith, next-Shut, all_refused)
+
+pub late_are_refused : (h : History) (T : Tables) → T.shut ≡ false → LateAreRefused h T
+late_are_refused [] T s = refl
+late_are_refused (r ∷ h) T s =
+    elim (is_shut r.op) as (λ b. is_shut r.op ≡ b → (next r.thread r.op T).1 ∷ codes h (next r.thread r.op T).0
+    ≡ codes (if b then [] else r ∷ accepted h) T ++ (map (λ (q : Request). Done) (if b then r ∷ [] else first_shut h) ++ map (λ (q : Request). RmFail) (if b then h else late h))) [
+      | true ↦ λ e. from_shut r.thread r.op h T (shut_op r.op e) s
+      | false ↦ λ e. ap (λ cs. (next r.thread r.op T).1 ∷ cs) (late_are_refused h (next r.thread r.op T).0 (stays_open r.thread r.op T e ∙ s))
+    ] refl
+
+pub late_change_nothing : (h : History) (T : Tables) → LateChangeNothing h T
+late_change_nothing h T = after_accepted shut_down (λ _. refl) h T
+
+pub late_leave_fates : (x : XidName) (f : Fate) (h : History) (T : Tables) → fate x f h T ≡ fate_in x f (coded h T)
+late_leave_fates x f h T =
+    ap (last_or f) (accepted_read (λ g U. fates_in x (coded g U)) (fates_quiet x) (λ _. refl) (λ r g U e. ap (cons_option (fate_of x r.op (next r.thread r.op U).1)) e) h T)
 
 -- ---- what a state tells
 
@@ -64,9 +148,6 @@ works_tells o p f at_o at_p h = grind (arith, working)
 -- a branch in S3 or S5
 pub voted_rests : (o : Option State) → is_S3 o ≡ true → standing o ≢ AtWork
 voted_rests o e = grind arith
-
-pub completed_nowhere : (o : Option State) → is_S5 o ≡ true → standing o ≡ Nowhere
-completed_nowhere o e = grind arith
 
 decided_ended : (d : HeuristicDecision) → Tells None (decided_fate d)
 decided_ended d = grind (arith, none_tells)
@@ -124,7 +205,7 @@ module _ (t : ℕ) (T : Tables) (s : Sound T) where
   sound_by (Drops op y c nobody tells) = grind (arith, changes)
   sound_by (CommitsByItself y voted) = grind (arith, changes, voted_rests)
   sound_by (RollsBackByItself y voted) = grind (arith, changes, voted_rests)
-  sound_by (Forgets y is) = grind (arith, changes, completed_nowhere)
+  sound_by (Forgets y is) = grind (arith, changes)
   sound_by effect = grind (arith, changes)
 
   -- the state of x tells the same, once y has another and is at work as it was
@@ -151,8 +232,7 @@ module _ (t : ℕ) (T : Tables) (s : Sound T) where
   tells_by x f h (Idles y own alone) = works_on x f h y Idle (own_works T s t y own) refl
   tells_by x f h (Dooms k d l own) = works_on x f h l.xid (RollbackOnly Transient) (associated_works T s t l own) refl
   tells_by x f h (Drops op y c nobody tells) = search (arith, changed, get_gone, dropped_tells, tells.fates)
-  tells_by x f h (Forgets y is) =
-      alike x f h y None _ (get_gone T y x) (λ e. forgotten_tells (state_of T x) f (ap (λ z. is_S5 (state_of T z)) (sym e) ∙ is) h)
+  tells_by x f h (Forgets y is) = alike x f h y None _ (get_gone T y x) (λ e. forgotten_tells (state_of T x) f (ap (λ z. is_S5 (state_of T z)) (sym e) ∙ is) h)
   tells_by x f h (Starts y free) = changed x f h y (Some Active) _ (Some Live) (get_put T y x Active) (told_tells (Some Active))
   tells_by x f h (Prepares y nobody unbroken) = changed x f h y (Some S3) _ (Some InDoubt) (get_put T y x S3) (told_tells (Some S3))
   tells_by x f h (Commits y one_phase nobody may) = changed x f h y None _ (Some Committed) (get_gone T y x) (none_tells Committed refl refl)

@@ -2,17 +2,9 @@ pub mod ThreadLemmas
 pub mod SoundLemmas
 pub mod AccountLemmas
 pub mod PlaceLemmas
-pub mod HeldLemmas
 pub mod Effects
 pub mod Law
-pub mod FreeThreads
 pub mod ValueLaw
 pub mod WorthLaw
-pub mod WorkLaw
-pub mod LateLaw
-pub mod Unnamed
 pub mod PreparedLaw
-pub mod WithinLaw
 pub mod Reopening
-pub mod SumLaw
-pub mod BranchLaws

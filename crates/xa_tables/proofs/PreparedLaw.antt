@@ -2,20 +2,18 @@
 -- completed one tells its decision; and what a Prepare and a Shut leave.
 use Rattle.xa_base.proofs.{◌≡◌, ℕ, true, false, not, ◌&&◌, ◌||◌, ◌==◌, [], ◌∷◌, sym, ap, ◌∙◌, or-true, false_from_ne_true, eq-eqb, All-head, All-tail, nat_cmp}
 use Rattle.xa_base.proofs.{eq_by_cmp, nat_cmp_total, All, nat_cmp-IsAntisymmetric, is_equal, Bool, if◌then◌else◌, Option, None, Some, refl, arith, subst}
-use Rattle.xa_base.proofs.{cons_option, not-false, by_if, at_true, List, ◌++◌, get_or}
-use Rattle.std.specs.FinSet.{contains-insert, contains-remove}
-use Rattle.xa_words.specs.{Op, Request, XidName, xid_eq, Decides-xid_eq, Done, HeurCom, HeurRb, Commit, Rollback, Forget, Heur, Code, RbIntegrity, RmFail}
-use Rattle.xa_words.specs.{Prepare}
-use Rattle.xa_tables.specs.{Tables, has_opened, Answer, next, tables_after, is_close, closes, History, State, HeuristicallyCompleted, RollbackReason}
-use Rattle.xa_tables.specs.{HeuristicDecision, state_of, exists, is_S4, is_S5, is_prepared, is_completed, decision_in, decision_of, reason_in, reason_code}
-use Rattle.xa_tables.specs.{decision_code, completed, committed, HeurCommitted, HeurRolledBack, fate_of, fates_in, coded, decided_fate, heur_fate, names}
-use Rattle.xa_tables.specs.{is_heur, is_forget, OnlyDecides, IsTold, is_S3, is_somebody_associated, is_shut, is_rolled_back, IsOpening, NamesNowhere}
-use Rattle.xa_tables.specs.{LeavesWaiting, has_shut, IsPrepared, StaysPrepared, AwaitsTheOutcome, AwaitsAfter}
+use Rattle.xa_base.proofs.{cons_option, not-false, by_if, at_true, List, ◌++◌, get_or, contains-insert, contains-remove}
+use Rattle.xa_words.specs.{Op, Request, XidName, xid_eq, Decides-xid_eq, Done, Commit, Rollback, Forget, Heur, Code, RbIntegrity, RmFail, Prepare}
+use Rattle.xa_tables.specs.{Tables, has_opened, Answer, next, tables_after, is_close, closes, History, State, HeuristicallyCompleted, HeuristicDecision}
+use Rattle.xa_tables.specs.{state_of, exists, is_S5, is_prepared, is_completed, decision_in, decision_of, decision_code, completed, committed, HeurCommitted}
+use Rattle.xa_tables.specs.{HeurRolledBack, fate_of, fates_in, coded, decided_fate, heur_fate, names, is_heur, is_forget, OnlyDecides, IsTold, is_S3}
+use Rattle.xa_tables.specs.{is_somebody_associated, is_shut, is_rolled_back, IsOpening, NamesNowhere, LeavesWaiting, has_shut, IsPrepared, StaysPrepared}
+use Rattle.xa_tables.specs.{AwaitsTheOutcome, AwaitsAfter}
 use Rattle.xa_tables.proofs.Effects.{Effect, Opens, Closes, effect_of, Drops, named_none}
 use Rattle.xa_words.proofs.Xids.{xid_self}
-use Rattle.xa_tables.proofs.LateLaw.{all_quiet, fates_quiet, next-Shut, shut_op, shut_stays, stays_open}
-use Rattle.xa_tables.proofs.Law.{get_put, get_gone, Sound, Nowhere, AtWork, standing, voted_rests, nobody_rests, sound_after, run_sound, opening_sound}
-use Rattle.xa_tables.proofs.Unnamed.{unnamed_fate, unnamed_on, unnamed_stays, unnamed_law}
+use Rattle.xa_tables.proofs.Law.{all_quiet, fates_quiet, next-Shut, shut_op, shut_stays, stays_open, get_put, get_gone, Sound, Nowhere, AtWork, standing}
+use Rattle.xa_tables.proofs.Law.{voted_rests, nobody_rests, sound_after, run_sound, opening_sound}
+use Rattle.xa_tables.proofs.ValueLaw.{unnamed_fate, unnamed_on, unnamed_stays, unnamed_law}
 use Rattle.xa_tables.specs.declared.state.HeuristicDecision.TheVariants as decision
 use Rattle.std.specs.FinMap as map
 
@@ -102,44 +100,23 @@ quiet_shut g x T s = all_quiet (λ h U. fates_in x (coded h U)) (fates_quiet x) 
 
 -- ---- who is told a decision
 
-abbrev is_told : Code → Bool
-is_told HeurCom = true
-is_told HeurRb = true
-is_told c = false
-
-tells_it : (d : HeuristicDecision) → is_told (decision_code d) ≡ true
-tells_it d = grind arith
-
-same_decision : (c d : HeuristicDecision) → decision_code c ≡ decision_code d → Some (HeuristicallyCompleted c) ≡ Some (HeuristicallyCompleted d)
-same_decision c d e = grind arith
-
 completed_with : (o : Option State) (d : HeuristicDecision) → is_S5 o ≡ true → decision_in o ≡ decision_code d → o ≡ Some (HeuristicallyCompleted d)
-completed_with o d is e = grind (arith, same_decision)
-
-reason_tells_none : (r : RollbackReason) → is_told (reason_code r) ≡ false
-reason_tells_none r = grind arith
-
-reason_is_none : (o : Option State) → is_S4 o ≡ true → is_told (reason_in o) ≡ false
-reason_is_none o is = grind (arith, reason_tells_none)
+completed_with o d is e = grind arith
 
 module _ (t : ℕ) (x : XidName) (d : HeuristicDecision) (T : Tables) where
   abbrev Told : Answer → Type 0
   Told a = a.1 ≡ decision_code d → IsTold x d T a
-
-  -- another code tells none
-  no_decision : (a : Answer) → is_told a.1 ≡ false → Told a
-  no_decision a none e = let z : false ≡ true = sym none ∙ ap is_told e ∙ tells_it d in cc
 
   as_decided : is_completed T x ≡ true → Told (T, decision_of T x)
   as_decided is e = record { state = completed_with (state_of T x) d is e; unchanged = refl }
 
   pub commit_tells : Told (next t (Commit x false) T)
   unfolding next
-  commit_tells = grind (arith, no_decision, as_decided)
+  commit_tells = grind (arith, as_decided)
 
   pub rollback_tells : Told (next t (Rollback x) T)
   unfolding next
-  rollback_tells = grind (arith, no_decision, as_decided, reason_is_none)
+  rollback_tells = grind (arith, as_decided)
 
 -- ---- a thread that has the manager open keeps it open until its own CloseRm
 
@@ -230,14 +207,13 @@ completed_on : (g : History) (t : ℕ) (x : XidName) (d : HeuristicDecision) (T 
 completed_on [] t x d T s h o n = told t x T o d h
 completed_on (r ∷ g) t x d T s h o n =
     let first = All-head (Waiting t x) r g n in
-    let rest = All-tail (Waiting t x) r g n in
     let stays : state_of (next r.thread r.op T).0 x ≡ Some (HeuristicallyCompleted d) =
     elim (names x r.op) as (λ b. names x r.op ≡ b → state_of (next r.thread r.op T).0 x ≡ Some (HeuristicallyCompleted d)) [
       | true ↦ λ named. by_decision (next r.thread r.op T) (decides r.thread x r.op T named (first.0 named))
       | false ↦ λ unnamed. (unnamed_stays r.thread r.op x T (nobody_rests T s x (λ w. let z : Nowhere ≡ AtWork = sym (ap standing h) ∙ w in cc)) unnamed).state
           ∙ h
     ] refl in
-    completed_on g t x d (next r.thread r.op T).0 (sound_after r.thread r.op T s) stays (opened_one r t T o first.1) rest
+    completed_on g t x d (next r.thread r.op T).0 (sound_after r.thread r.op T s) stays (opened_one r t T o first.1) (All-tail (Waiting t x) r g n)
   where
     by_decision : (a : Answer) → Decides x r.op T a → state_of a.0 x ≡ Some (HeuristicallyCompleted d)
     by_decision a (Nothing same none) = ap (λ (U : Tables). state_of U x) same ∙ h

@@ -1,17 +1,26 @@
--- What a reopening leaves, and what the next opening begins with; and the law: the tables tell what became of each branch, over any openings.
+-- What a reopening leaves, and the laws over any openings: what became of a branch, a key's value, and its limits.
 use Rattle.xa_base.proofs.{rules, ◌≡◌, ℕ, ℤ, Bool, true, false, cond, not, ◌&&◌, ◌+ℤ◌, Option, None, Some, List, [], ◌∷◌, refl, arith, sym, ap, ◌∙◌, FinMap}
-use Rattle.xa_base.proofs.{get-empty, none_pass, none_passes, if◌then◌else◌, subst}
-use Rattle.std.specs.FinMap.{get-retain_keys}
-use Rattle.xa_words.specs.{XidName, xid_cmp, xid_eq, xid_cmp-IsAntisymmetric}
+use Rattle.xa_base.proofs.{get-empty, none_pass, none_passes, if◌then◌else◌, subst, pos, option_map, ◌++◌, or-false, ints, +ℤ_idl as none_plus, ◌≢◌, map}
+use Rattle.xa_base.proofs.{unwrap_or, nat_le, list_all, le-leb, find, get-from_entries, eq_by_cmp, and_parts, not-false, +ℤ_idr as plus_none, by_bool}
+use Rattle.xa_base.proofs.{get-retain_keys}
+use Rattle.xa_words.specs.{XidName, xid_cmp, xid_eq, xid_cmp-IsAntisymmetric, key_cmp_total, Decides-xid_eq, Decides-key_eq, Op, key_eq}
 use Rattle.xa_words.specs.Orders.{key_cmp}
 use Rattle.xa_tables.specs.{State, Touch, touch_cmp, state_of, is_S3, is_left_in, is_left, is_prepared, is_broken, is_within, value_of, ArePreparedSound}
-use Rattle.xa_tables.specs.{opening, tables_after, IsNew, IsOpening, AreLeft, reopened, left_by, Tables, History, HeuristicDecision, Fate, Absent, RolledBack}
-use Rattle.xa_tables.specs.{is_live, is_in_doubt, decided_fate, fate, accepted, IsFateOf, reopened_fate, fate_left, told_by, FatesAreTold}
-use Rattle.xa_tables.proofs.AccountLemmas.{touch_cmp_total, touch_cmp-IsAntisymmetric}
-use Rattle.xa_tables.proofs.LateLaw.{after_accepted}
-use Rattle.xa_tables.proofs.Law.{Tells, told_tells, run, opening_sound}
+use Rattle.xa_tables.specs.{opening, tables_after, IsNew, IsOpening, AreLeft, reopened, left_by, Tables, History, HeuristicDecision, Fate, Absent, is_in_doubt}
+use Rattle.xa_tables.specs.{fate, accepted, IsFateOf, reopened_fate, fate_left, told_by, FatesAreTold, coded, commits_later, added_in, commits_over, added_over}
+use Rattle.xa_tables.specs.{value_over, ValueIsSum, Association, sum_of, association_of, has_other_touched, sums_without, Answer, next, added, gone, completed}
+use Rattle.xa_tables.specs.{committed, are_accounts, StaysWithin}
+use Rattle.xa_tables.proofs.AccountLemmas.{touch_cmp_total, touch_cmp-IsAntisymmetric, within_bounds}
+use Rattle.xa_tables.proofs.Law.{after_accepted, Tells, told_tells, run, opening_sound, Sound, get_put, associated_works, voted_rests, sound_after, standing}
+use Rattle.xa_tables.proofs.Law.{get_gone}
+use Rattle.xa_tables.proofs.ValueLaw.{Held, IsPending, due, plus_zero, Run, value_run, chained, Clean, touching, run_clean, opening_clean, get_without, get_add}
+use Rattle.xa_tables.proofs.ValueLaw.{get_committed, no_other, get_added}
+use Rattle.xa_tables.specs.Next.{forgotten}
+use Rattle.xa_tables.proofs.Effects.{Effect, Adds, Prepares, Commits, Drops, CommitsByItself, RollsBackByItself, Forgets, effect_of}
 use Rattle.std.specs.FinMap as map
 use Rattle.xa_tables.specs.declared.state.HeuristicDecision.TheVariants as decision
+
+-- ---- what a reopening leaves, and what the next opening begins with; and the law: the tables tell what became of each branch, over any openings
 
 pub state_reopened : (T : Tables) (x : XidName) → state_of (reopened T) x ≡ cond (is_left T x) (state_of T x) None
 state_reopened T x = get-retain_keys T.states (λ y. is_left T y) x (λ y e. ap (λ z. is_left T z) (sym (xid_cmp-IsAntisymmetric x y e)))
@@ -30,15 +39,8 @@ prepared_stays o = grind arith
 pub as_left : (T : Tables) (x : XidName) → is_left (reopened T) x ≡ is_left T x
 as_left T x = ap is_left_in (state_reopened T x) ∙ left_stays (state_of T x)
 
-pub as_prepared : (T : Tables) (x : XidName) → is_prepared (reopened T) x ≡ is_prepared T x
-as_prepared T x = ap is_S3 (state_reopened T x) ∙ prepared_stays (state_of T x)
-
--- only what is left stays
-stays_if_left : (b : Bool) (o : Option State) (s : State) → cond b o None ≡ Some s → b ≡ true
-stays_if_left b o s e = grind arith
-
 pub reopens : (T : Tables) → IsOpening (reopened T)
-reopens T = grind (arith, as_left, stays_if_left, state_reopened, sums_reopened, as_prepared)
+reopens T = grind (arith, as_left, state_reopened, sums_reopened, prepared_stays)
 
 -- a first opening is one
 pub new_opens : (T : Tables) → IsNew T → IsOpening T
@@ -100,25 +102,12 @@ kept_law h x f T o w =
 
 -- ---- a reopening
 
-unlive : (f : Fate) → is_live f ≡ false → reopened_fate f ≡ f
-unlive f e = ap (λ b. if b then RolledBack else f) e
-
-unlive_decided : (d : HeuristicDecision) → is_live (decided_fate d) ≡ false
-unlive_decided decision.Commit = refl
-unlive_decided decision.Rollback = refl
-
-in_doubt_waits : (f : Fate) → is_in_doubt f ≡ true → is_live f ≡ false
-in_doubt_waits f e = grind arith
-
--- a branch at work is gone, and was rolled back
-gone : (f : Fate) → is_in_doubt f ≡ false → Tells None (reopened_fate f)
-gone f e = grind arith
-
-reopened_tells : (o : Option State) (f : Fate) → Tells o f → Tells (cond (is_left_in o) o None) (reopened_fate f)
-reopened_tells o f t = grind (arith, unlive, in_doubt_waits, unlive_decided, gone)
+-- a branch at work is gone_tells, and was rolled back
+gone_tells : (f : Fate) → is_in_doubt f ≡ false → Tells None (reopened_fate f)
+gone_tells f e = grind arith
 
 pub reopened_law : (x : XidName) (f : Fate) (T : Tables) → IsFateOf x f T → IsFateOf x (reopened_fate f) (reopened T)
-reopened_law x f T w = grind (arith, tells_told, state_reopened, reopened_tells, state_tells)
+reopened_law x f T w = grind (arith, tells_told, state_reopened, gone_tells, state_tells)
 
 -- ---- any openings
 
@@ -134,3 +123,223 @@ first_law x T n = subst (λ (o : Option State). IsFateOf x (told_by o) T) (ap (�
 
 pub over_law : (before : List History) (h : History) (x : XidName) (T : Tables) → IsNew T → FatesAreTold x before h T
 over_law before h x T n = search (arith, new_opens, kept_law, left_opens, left_told, first_law)
+
+-- ---- a reopening
+
+-- the tables tell the fate of each branch
+abbrev Tell : (XidName → Fate) → Tables → Type 0
+Tell F T = (x : XidName) → IsFateOf x (F x) T
+
+-- the fates after an opening, and as the next begins
+abbrev ended : (XidName → Fate) → History → Tables → XidName → Fate
+ended F h T x = fate x (F x) h T
+
+abbrev begun : (XidName → Fate) → XidName → Fate
+begun F x = reopened_fate (F x)
+
+-- who has touched the key after a reopening
+left_held : Tables → Held → Held
+left_held T None = None
+left_held T (Some p) = if is_prepared T p.0 then Some p else None
+
+pending_left : (k : List ℕ) (p : Held) (T : Tables) → IsPending k p T.sums → IsPending k (left_held T p) (reopened T).sums
+unfolding left_held
+pending_left k None T h = λ x. sums_reopened T x k ∙ elim (is_prepared T x) as (λ b. cond b (map.get T.sums (x, k)) None ≡ None) [ true ↦ h x | false ↦ refl ]
+pending_left k (Some p) T h = grind (arith, sums_reopened)
+
+none_due : (p : Held) → due p (λ x. false) ≡ pos 0
+none_due p = grind arith
+
+-- who commits from the beginning of an opening on, where F has the fates then
+abbrev from_start : (XidName → Fate) → History → List History → Tables → XidName → Bool
+from_start F h hs T x = commits_later (commits_over x (ended F h T x) hs (tables_after h T)) x (coded (accepted h) T)
+
+-- what is due after an opening is due as the next begins
+due_over : (k : List ℕ) (G : XidName → Fate) (g : History) (gs : List History) (T : Tables) (p : Held) → Clean T → Tell G T → IsPending k p T.sums
+    → due p (λ x. commits_over x (G x) (g ∷ gs) T) ≡ due (left_held T p) (from_start (begun G) g gs (reopened T))
+unfolding left_held
+due_over k G g gs T None n s h = refl
+due_over k G g gs T (Some p) n s h = grind (arith, touching, or-false, due)
+
+-- ---- openings one after another
+
+sum_last : (m d e s : ℤ) → m +ℤ d ≡ e +ℤ s → d ≡ pos 0 → m ≡ e +ℤ (s +ℤ pos 0)
+sum_last m d e s h z = omega (arith, ints)
+
+sum_more : (m d d1 e s r : ℤ) → m +ℤ d ≡ e +ℤ s → d ≡ d1 → m +ℤ (d1 +ℤ r) ≡ e +ℤ (s +ℤ r)
+sum_more m d d1 e s r h z = omega (arith, ints)
+
+-- the values after openings, with what is due to the branch that has touched the key as the first of them begins
+values_over : (h : History) (hs : List History) (k : List ℕ) (p : Held) (F : XidName → Fate) (T : Tables) → IsOpening T → Tell F T → IsPending k p T.sums
+    → map.get (left_by (h ∷ hs) T).values k ≡ option_map (λ v. v +ℤ (due p (from_start F h hs T) +ℤ added_over k F (h ∷ hs) T)) (map.get T.values k)
+values_over h [] k p F T o told pending =
+    let B : XidName → Bool = λ (x : XidName). commits_over x (ended F h T x) [] (tables_after h T) in
+    let r : Run k p B (accepted h) T = value_run (accepted h) k p B T pending in
+    after_accepted (λ (U : Tables). map.get U.values k) (λ _. refl) h T ∙ r.values
+    ∙ ap (λ m. option_map (λ v. v +ℤ m) (map.get T.values k)) (sum_last r.moved (due r.held B) (due p (from_start F h [] T)) (added_in k B (accepted h) T) r.owes (none_due r.held))
+values_over h (g ∷ gs) k p F T o told pending =
+    let U : Tables = tables_after h T in
+    let G : XidName → Fate = ended F h T in
+    let B : XidName → Bool = λ (x : XidName). commits_over x (G x) (g ∷ gs) U in
+    let r : Run k p B (accepted h) T = value_run (accepted h) k p B T pending in
+    let here : IsPending k r.held U.sums = subst (IsPending k r.held) (sym (after_accepted (λ (W : Tables). W.sums) (λ _. refl) h T)) r.pending in
+    let clean : Clean U = run_clean h T (opening_sound T o) (opening_clean T o) in
+    let told_now : Tell G U = λ x. kept_law h x (F x) T o (told x) in
+    let more : ℤ = added_over k (begun G) (g ∷ gs) (reopened U) in
+    let rest =
+    values_over g gs k (left_held U r.held) (begun G) (reopened U) (reopens U) (λ x. reopened_law x (G x) U (told_now x)) (pending_left k r.held U here) in
+    rest
+    ∙ ap (option_map (λ v. v +ℤ (due (left_held U r.held) (from_start (begun G) g gs (reopened U)) +ℤ more))) (after_accepted (λ (W : Tables). map.get W.values k) (λ _. refl) h T ∙ r.values)
+    ∙ chained (map.get T.values k) r.moved (due (left_held U r.held) (from_start (begun G) g gs (reopened U)) +ℤ more)
+    ∙ ap (λ m. option_map (λ v. v +ℤ m) (map.get T.values k))
+    (sum_more r.moved (due r.held B) (due (left_held U r.held) (from_start (begun G) g gs (reopened U))) (due p (from_start F h (g ∷ gs) T)) (added_in k B (accepted h) T) more r.owes (due_over k G g gs U r.held clean told_now here))
+
+-- what an opening leaves after the ones before it
+pub left_on : (before : List History) (h : History) (T : Tables) → left_by (before ++ h ∷ []) T ≡ reopened (tables_after h (left_by before T))
+left_on [] h T = refl
+left_on (g ∷ gs) h T = left_on gs h (reopened (tables_after g T))
+
+from_first : (hs : List History) (k : List ℕ) (T : Tables) → IsNew T → map.get (left_by hs T).values k ≡ value_over k hs T
+from_first [] k T o = plus_zero (map.get T.values k)
+from_first (h ∷ hs) k T n =
+    values_over h hs k None (λ x. Absent) T (new_opens T n) (λ x. first_law x T n) (λ x. ap (λ m. map.get m (x, k)) n.sums ∙ get-empty touch_cmp (x, k))
+    ∙ ap (λ d. option_map d (map.get T.values k)) (λ i v. v +ℤ none_plus (added_over k (λ x. Absent) (h ∷ hs) T) i)
+
+pub sum_law : (before : List History) (h : History) (k : List ℕ) (T : Tables) → IsNew T → ValueIsSum k before h T
+sum_law before h k T n = sym (ap (λ (U : Tables). map.get U.values k) (left_on before h T)) ∙ from_first (before ++ h ∷ []) k T n
+
+-- ---- the law: the value of a declared key stays within the limits, whatever is requested, over any openings
+
+-- each sum of x and its key's value are together within the limits
+abbrev Fits : Tables → XidName → Type 0
+Fits T x = (k : List ℕ) (s : ℤ) → map.get T.sums (x, k) ≡ Some s → is_within (value_of T.values k +ℤ s) ≡ true
+
+-- each value is within the limits, no two branches have touched one key, and a prepared branch fits
+pub record Kept (T : Tables) : Type 0 where
+  values : (k : List ℕ) (v : ℤ) → map.get T.values k ≡ Some v → is_within v ≡ true
+  alone : (x y : XidName) (k : List ℕ) (s r : ℤ) → map.get T.sums (x, k) ≡ Some s → map.get T.sums (y, k) ≡ Some r → x ≡ y
+  prepared : (x : XidName) → is_S3 (state_of T x) ≡ true → Fits T x
+
+-- a branch that breaks no limit fits
+unbroken_fits : (T : Tables) (x : XidName) → is_broken T.values T.sums x ≡ false → Fits T x
+unbroken_fits T x unbroken k s at =
+    let none =
+    none_passes touch_cmp_total touch_cmp-IsAntisymmetric (λ p r. xid_eq p.0 x && not (is_within (value_of T.values p.1 +ℤ r))) T.sums (x, k) s unbroken at in
+    not-false (is_within (value_of T.values k +ℤ s)) (ap (λ b. b && not (is_within (value_of T.values k +ℤ s))) (sym ((Decides-xid_eq x x).1 refl)) ∙ none)
+
+-- a value with what a branch adds to it, if anything
+value_fits : (o q : Option ℤ) (v : ℤ) → option_map (λ u. u +ℤ unwrap_or q (pos 0)) o ≡ Some v → ((u : ℤ) → o ≡ Some u → is_within u ≡ true)
+    → ((u r : ℤ) → o ≡ Some u → q ≡ Some r → is_within (u +ℤ r) ≡ true) → is_within v ≡ true
+value_fits None q v at one both = cc
+value_fits (Some u) None v at one both = let w = one u refl in grind (arith, plus_none)
+value_fits (Some u) (Some r) v at one both = let w = both u r refl refl in grind arith
+
+module _ (t : ℕ) (T : Tables) (s : Sound T) (w : Kept T) where
+  -- the branch of a thread's association, which alone has touched the key, adds to it
+  adds : (k : List ℕ) (d : ℤ) (l : Association) → association_of T t ≡ Some l → has_other_touched T.sums l.xid k ≡ false → Kept (added l.xid k d T)
+  adds k d l own free = record {
+    values = w.values;
+    alone = λ x y q a b at_x at_y.
+        by_bool (λ c. key_eq k q ≡ c → x ≡ y) (key_eq k q) (λ _ t. only x q a t at_x ∙ sym (only y q b t at_y))
+        (λ _ f. w.alone x y q a b (beside x q a f at_x) (beside y q b f at_y)) refl;
+    prepared = λ x is q r at. w.prepared x is q r (sym (get_added T.sums l.xid x k q _ (λ same _. voted_rests (state_of T x) is (ap (λ z. standing (state_of T z)) same ∙ associated_works T s t l own))) ∙ at);
+  }
+    where
+      -- whoever has touched that key is the branch itself, and the other keys are touched as they were
+      only : (x : XidName) (q : List ℕ) (a : ℤ) → key_eq k q ≡ true
+          → map.get (map.insert T.sums (l.xid, k) (sum_of T.sums l.xid k +ℤ d)) (x, q) ≡ Some a → x ≡ l.xid
+      only x q a t at = grind (arith, get_add, no_other, Decides-xid_eq, Decides-key_eq)
+
+      beside : (x : XidName) (q : List ℕ) (a : ℤ) → key_eq k q ≡ false
+          → map.get (map.insert T.sums (l.xid, k) (sum_of T.sums l.xid k +ℤ d)) (x, q) ≡ Some a → map.get T.sums (x, q) ≡ Some a
+      beside x q a f at = grind (arith, get_add)
+
+  -- what was touched by a branch that is left when y is gone
+  left : (y x : XidName) (k : List ℕ) (r : ℤ) → map.get (sums_without T.sums y) (x, k) ≡ Some r → map.get T.sums (x, k) ≡ Some r
+  left y x k r at = grind (arith, get_without)
+
+  -- a branch that is prepared when y is gone, or decided, is another one, and was prepared
+  abbrev Left : XidName → Option State → XidName → Type 0
+  Left y o x = is_S3 o ≡ true → (is_S3 (state_of T x) ≡ true) × (x ≢ y)
+
+  still : (y x : XidName) → Left y (state_of (gone y T) x) x
+  still y x e = grind (arith, get_gone, Decides-xid_eq)
+
+  undecided : (y : XidName) (d : HeuristicDecision) (x : XidName) → Left y (state_of (completed y d T) x) x
+  undecided y d x e = grind (arith, get_put, Decides-xid_eq)
+
+  -- y is gone, and its sums stay
+  forgets : (y : XidName) → Kept (forgotten y T)
+  forgets y = record { values = w.values; alone = w.alone; prepared = λ x is. w.prepared x (still y x is).0 }
+
+  -- y has no sums, and isn't prepared any more
+  drops : (y : XidName) (m : FinMap xid_cmp State) → ((x : XidName) → Left y (map.get m x) x) → Kept (record (gone y T) { states = m })
+  drops y m others = grind (arith, left)
+
+  -- once y, which fits, is added to the values, they are within the limits, and another prepared branch fits
+  posted_within : (y : XidName) → Fits T y → (k : List ℕ) (v : ℤ) → map.get (committed y T).values k ≡ Some v → is_within v ≡ true
+  posted_within y fits k v at =
+      value_fits (map.get T.values k) (map.get T.sums (y, k)) v (sym (get_committed y T k) ∙ at) (w.values k)
+      (λ u r here there. ap (λ o. is_within (unwrap_or o (pos 0) +ℤ r)) (sym here) ∙ fits k r there)
+
+  nobody_else : (x y : XidName) (k : List ℕ) (r : ℤ) → map.get T.sums (x, k) ≡ Some r → x ≢ y → map.get T.sums (y, k) ≡ None
+  nobody_else x y k r own other = search (arith, rules)
+
+  posted_beside : (y x : XidName) (k : List ℕ) (r : ℤ) → is_S3 (state_of T x) ≡ true → x ≢ y → map.get T.sums (x, k) ≡ Some r
+      → map.get T.sums (y, k) ≡ None → is_within (value_of (committed y T).values k +ℤ r) ≡ true
+  posted_beside y x k r voted other own none = grind (arith, get_committed, plus_none)
+
+  -- y, which fits, is committed
+  commits : (y : XidName) (m : FinMap xid_cmp State) → ((x : XidName) → Left y (map.get m x) x) → Fits T y
+      → Kept (record (gone y (committed y T)) { states = m })
+  commits y m others fits = search (arith, posted_within, drops, left, posted_beside, nobody_else)
+
+  by_effect : {op : Op} {a : Answer} → Effect t T op a → Kept a.0
+  by_effect (Adds k d l own known free) = adds k d l own free
+  by_effect (Prepares y nobody unbroken) = grind (arith, get_put, Decides-xid_eq, unbroken_fits)
+  by_effect (Commits y one_phase nobody may) = grind (arith, commits, still, unbroken_fits)
+  by_effect (Drops op y c nobody tells) = drops y _ (still y)
+  by_effect (CommitsByItself y voted) = commits y _ (undecided y decision.Commit) (w.prepared y voted)
+  by_effect (RollsBackByItself y voted) = drops y _ (undecided y decision.Rollback)
+  by_effect (Forgets y is) = forgets y
+  -- the others change no state, no sum and no value
+  by_effect effect = grind (arith, get_put, Decides-xid_eq)
+
+-- ---- after a history
+
+run_kept : (h : History) (T : Tables) → Sound T → Kept T → Kept (tables_after h T)
+run_kept [] T s w = w
+run_kept (r ∷ h) T s w = run_kept h (next r.thread r.op T).0 (sound_after r.thread r.op T s) (by_effect r.thread T s w (effect_of r.thread r.op T))
+
+-- a declared value
+declared_within : (accounts : List (List ℕ × ℕ)) → list_all (λ d. nat_le d.1 1000000000000) accounts ≡ true → (k : List ℕ) (v : ℤ)
+    → find key_cmp k (map (λ d. (d.0, pos d.1)) accounts) ≡ Some v → is_within v ≡ true
+declared_within [] all k v at = cc
+declared_within (d ∷ ds) all k v at =
+    let both : (nat_le d.1 1000000000000 ≡ true) × (list_all (λ e. nat_le e.1 1000000000000) ds ≡ true) = and_parts _ _ all in
+    let within : is_within (pos d.1) ≡ true = ap (λ b. b && nat_le d.1 1000000000000) (le-leb 0 d.1 (omega arith)) ∙ both.0 in
+    by_bool (λ b. cond b (Some (pos d.1)) (find key_cmp k (map (λ d. (d.0, pos d.1)) ds)) ≡ Some v → is_within v ≡ true) (eq_by_cmp key_cmp k d.0)
+    (λ _ e. let same : pos d.1 ≡ v = cc in subst (λ (z : ℤ). is_within z ≡ true) same within)
+    (λ _ e. declared_within ds both.1 k v e) at
+
+opening_kept : (accounts : List (List ℕ × ℕ)) → are_accounts accounts ≡ true → Kept (opening accounts)
+opening_kept accounts are = record {
+  values = λ k v at. declared_within accounts (and_parts _ _ (and_parts _ _ are).1).0 k v (sym (get-from_entries key_cmp_total (map (λ d. (d.0, pos d.1)) accounts) k) ∙ at);
+  alone = λ x y k s r at_x at_y. let z : None ≡ Some s = sym (get-empty touch_cmp (x, k)) ∙ at_x in cc;
+  prepared = λ x is k s at. let z : None ≡ Some s = sym (get-empty touch_cmp (x, k)) ∙ at in cc;
+}
+
+pub kept_over : (T : Tables) → Kept T → Kept (reopened T)
+kept_over T w = grind (arith, sums_reopened)
+
+pub kept_by : (before : List History) (T : Tables) → IsOpening T → Kept T → Kept (left_by before T)
+kept_by [] T o w = w
+kept_by (h ∷ hs) T o w =
+    grind (arith, (kept_by hs (reopened (tables_after h T)) (reopens (tables_after h T)) (kept_over (tables_after h T) (run_kept h T (opening_sound T o) w))), reopens, kept_over, run_kept, opening_sound)
+
+pub within_law : (accounts : List (List ℕ × ℕ)) (before : List History) (h : History) (k : List ℕ) → are_accounts accounts ≡ true
+    → StaysWithin k h (left_by before (opening accounts))
+within_law accounts before h k are v at =
+    let new = new_opens (opening accounts) (accounts_new accounts) in
+    let T : Tables = left_by before (opening accounts) in
+    within_bounds v ((run_kept h T (opening_sound T (left_opens before (opening accounts) new)) (kept_by before (opening accounts) new (opening_kept accounts are))).values k v at)

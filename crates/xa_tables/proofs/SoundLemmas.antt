@@ -1,16 +1,10 @@
 -- What a step keeps of the facts on branches in S3, and of who is associated.
-use Rattle.xa_base.proofs.{rules, ◌≡◌, ◌≢◌, ℕ, ℤ, Bool, true, false, cond, Option, None, Some, is_some, refl, arith, sym, ap, ◌∙◌, subst, nat_cmp, eq_by_cmp}
-use Rattle.xa_base.proofs.{is_eq, nat_cmp_total, tied_itself, FinMap, get-insert, get-remove, nat_cmp-IsAntisymmetric, is_equal, tied_true, tied_false}
-use Rattle.xa_base.proofs.{none_pass, none_passes, ◌||◌, or_from, or_parts, List, get-lookup}
-use Rattle.std.specs.Borrow.{MutBor}
-use Rattle.std.specs.Option.{OnSome}
-use Rattle.std.specs.FinMap.{same_map}
-use Rattle.std.proofs.lemmas.Bool.Decides.{same_from_decides}
+use Rattle.xa_base.proofs.{◌≡◌, ◌≢◌, ℕ, ℤ, Bool, true, false, cond, Option, None, Some, is_some, refl, arith, sym, ap, ◌∙◌, subst, nat_cmp, eq_by_cmp, is_eq}
+use Rattle.xa_base.proofs.{nat_cmp_total, tied_itself, FinMap, get-insert, get-remove, nat_cmp-IsAntisymmetric, is_equal, tied_true, tied_false, none_pass}
+use Rattle.xa_base.proofs.{none_passes, ◌||◌, or_from, or_parts, List, get-lookup, same_map, same_from_decides, lookup}
 use Rattle.xa_words.specs.{XidName, xid_cmp, xid_eq, xid_cmp_total, xid_cmp-IsAntisymmetric, Decides-xid_eq, xid_eq-by_cmp}
 use Rattle.xa_words.specs.Orders.{key_cmp}
-use Rattle.xa_tables.specs.{State, Association, touch_cmp, is_broken, is_somebody_associated, is_association_with, is_S3, is_left_in, BranchTable, HasState}
-use Rattle.xa_tables.specs.{ArePreparedSound}
-use Rattle.std.specs.Map.{lookup}
+use Rattle.xa_tables.specs.{State, Association, touch_cmp, is_broken, is_somebody_associated, is_association_with, is_S3, is_left_in, ArePreparedSound}
 use Rattle.std.specs.Cmp.{IsEquivalence}
 use Rattle.std.specs.FinMap as map
 
@@ -67,15 +61,6 @@ put_same states x s is =
     same_map xid_cmp_total xid_cmp-IsAntisymmetric _ _ (λ y.
     get-insert xid_cmp_total states x s y
     ∙ by_xid y x (λ b. cond b (Some s) (map.get states y) ≡ map.get states y) (λ same. sym (ap (map.get states) same ∙ is)) (λ _. refl))
-
--- the branches b end as n s, where s was written through the reference r to the state of x
-module _ {r : Option (MutBor State)} {m : MutBor State} (b : BranchTable) (x : XidName) (n : State → BranchTable) (lent : r ≡ Some m)
-    (holds : (s : State) → OnSome r (HasState b x s (n s))) where
-  pub written : (s : State) → n s ≡ record b { states = map.insert b.states x s }
-  written s = (rw lent at (holds s)).0
-
-  pub unwritten : Some m.now ≡ map.get b.states x → n m.now ≡ b
-  unwritten was = (rw lent at (holds m.now)).1 (sym was)
 
 -- ---- who is associated with a branch
 
@@ -134,8 +119,7 @@ somebody_put x m t l =
     ∙ ap (λ o. is_association_with o x || is_somebody_associated (map.remove m t) x) (own_put m t l)
 
 -- in a form in which tactics meet the associations without t's first
-pub somebody_own : (x : XidName) (m : Associations) (t : ℕ)
-    → (is_somebody_associated (map.remove m t) x ≡ is_somebody_associated (map.remove m t) x)
+pub somebody_own : (x : XidName) (m : Associations) (t : ℕ) → (is_somebody_associated (map.remove m t) x ≡ is_somebody_associated (map.remove m t) x)
     × (is_somebody_associated m x ≡ (is_association_with (map.get m t) x || is_somebody_associated (map.remove m t) x))
 somebody_own x m t = (refl, somebody_but x t m (map.remove m t) (other_removed m t) (own_removed m t))
 

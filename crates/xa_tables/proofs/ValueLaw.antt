@@ -1,16 +1,22 @@
--- What a history moves of a key's value: the additions whose branches commit.
-use Rattle.xa_base.proofs.{rules, ◌≡◌, ◌≢◌, ℕ, ℤ, pos, ◌+ℤ◌, option_map, Bool, true, false, cond, not, ◌&&◌, if◌then◌else◌, Option, None, Some, List, [], ◌∷◌}
-use Rattle.xa_base.proofs.{refl, sym, ap, ◌∙◌, subst, arith, get-insert, FinMap, not-false, +ℤ_idl as none_plus, ints, get-map_values, none_passes}
-use Rattle.std.specs.FinMap as map
-use Rattle.std.specs.FinMap.{get-retain_keys}
-use Rattle.xa_words.specs.{XidName, xid_eq, Decides-xid_eq, key_cmp_total, key_cmp-IsAntisymmetric, Decides-key_eq, Done, Op, Add, key_eq, Code}
+-- What a history moves of a key's value: the additions whose branches commit; which branches have touched a key; and what leaves a branch as it is.
+use Rattle.xa_base.proofs.{◌≡◌, ◌≢◌, ℕ, ℤ, pos, ◌+ℤ◌, option_map, Bool, true, false, cond, not, ◌&&◌, if◌then◌else◌, Option, None, Some, List, [], ◌∷◌, refl}
+use Rattle.xa_base.proofs.{sym, ap, ◌∙◌, subst, arith, get-insert, FinMap, not-false, +ℤ_idl as none_plus, ints, get-map_values, none_passes, is_some}
+use Rattle.xa_base.proofs.{and_parts, not-true, ◌||◌, ◌++◌, All-head, All-tail, at_false, get-retain_keys, true_from_ne_false}
+use Rattle.xa_words.specs.{XidName, xid_eq, Decides-xid_eq, key_cmp_total, key_cmp-IsAntisymmetric, Decides-key_eq, Done, Op, Add, key_eq, Code, Request}
 use Rattle.xa_tables.specs.{Association, association_of, has_other_touched, Touch, touch_cmp, sum_of, sums_without, Answer, next, committed, coded, accepted}
-use Rattle.xa_tables.specs.{fate_of, tables_after, added_in, share_of, commits_later, ending, or_later, LateAddNothing, Tables, History}
-use Rattle.xa_tables.proofs.LateLaw.{accepted_read}
-use Rattle.xa_tables.proofs.Effects.{Moves, Still, Ended, Added, moves_of}
-use Rattle.xa_tables.proofs.Law.{swap_xid}
+use Rattle.xa_tables.specs.{fate_of, tables_after, added_in, share_of, commits_later, ending, or_later, LateAddNothing, Tables, History, State, state_of, is_S3}
+use Rattle.xa_tables.specs.{is_S5, OnlyUnfinishedTouch, IsOpening, is_S1, is_S4, is_somebody_associated, ActiveWhileAssociated, names, NamesNowhere}
+use Rattle.xa_tables.specs.{StaysAsItWas}
+use Rattle.xa_tables.proofs.Law.{accepted_read, swap_xid, Sound, Nowhere, standing, associated_works, sound_after, get_put, get_gone, opening_sound, changes}
+use Rattle.xa_tables.proofs.Law.{opening_free}
+use Rattle.xa_tables.proofs.Effects.{Moves, Still, Ended, Added, moves_of, Effect, Adds, Forgets, effect_of, Starts, Joins, Resumes, Suspends, Leaves, Idles}
+use Rattle.xa_tables.proofs.Effects.{Fails, Prepares, Commits, Drops, CommitsByItself, RollsBackByItself, Dooms}
 use Rattle.xa_tables.proofs.AccountLemmas.{touch_cmp_total, touch_cmp-IsAntisymmetric, touch_same}
 use Rattle.xa_tables.proofs.PlaceLemmas.{swapped}
+pub use Rattle.xa_tables.proofs.SoundLemmas.{apart_from}
+use Rattle.std.specs.FinMap as map
+
+-- ---- what a history moves of a key's value: the additions whose branches commit
 
 -- the branch that has touched the key, and its sum
 abbrev pub Held : Type 0
@@ -52,8 +58,7 @@ get_without sums y x k =
     ∙ elim (xid_eq x y) as (λ b. cond (not b) (map.get sums (x, k)) None ≡ (if b then None else map.get sums (x, k))) [ true ↦ refl | false ↦ refl ]
 
 -- and the values once y is committed
-pub get_committed : (y : XidName) (T : Tables) (k : List ℕ)
-    → map.get (committed y T).values k ≡ option_map (λ v. v +ℤ sum_of T.sums y k) (map.get T.values k)
+pub get_committed : (y : XidName) (T : Tables) (k : List ℕ) → map.get (committed y T).values k ≡ option_map (λ v. v +ℤ sum_of T.sums y k) (map.get T.values k)
 get_committed y T k = get-map_values key_cmp_total key_cmp-IsAntisymmetric (λ q v. v +ℤ sum_of T.sums y q) T.values k
 
 -- who has touched the key once y is gone
@@ -222,3 +227,108 @@ late_law h k after T =
     ∙ ap (λ v. v +ℤ added_in k after g a.0) (tells.shares k l (λ x. commits_later (after x) x (coded g a.0))) ∙ none_plus _)
     (λ _. refl) (λ r g U e i.
     share_of k r.op (next r.thread r.op U).1 (association_of U r.thread) (λ x. commits_accepted (after x) x g (next r.thread r.op U).0 i) +ℤ e i) h T
+
+-- The laws: only a branch that exists and isn't heuristically completed has touched a key; and a branch is active exactly while somebody is associated
+-- with it and it is in none of S3, S4 and S5.
+
+-- a branch that stands nowhere has touched no key
+pub record Clean (T : Tables) : Type 0 where
+  pub none : (x : XidName) → standing (state_of T x) ≡ Nowhere → (k : List ℕ) → map.get T.sums (x, k) ≡ None
+
+module _ (t : ℕ) (T : Tables) (s : Sound T) (w : Clean T) where
+  clean_by : {op : Op} {a : Answer} → Effect t T op a → Clean a.0
+  clean_by (Adds k d l own known alone) = grind (arith, get_add, associated_works, Decides-xid_eq)
+  clean_by (Forgets y is) = grind (arith, get_gone, Decides-xid_eq)
+  clean_by effect = grind (arith, get_put, get_gone, get_without, swap_xid)
+
+pub run_clean : (h : History) (T : Tables) → Sound T → Clean T → Clean (tables_after h T)
+run_clean [] T s w = w
+run_clean (r ∷ h) T s w = run_clean h (next r.thread r.op T).0 (sound_after r.thread r.op T s) (clean_by r.thread T s w (effect_of r.thread r.op T))
+
+unfinished : (o : Option State) → (is_some o && not (is_S5 o)) ≡ false → standing o ≡ Nowhere
+unfinished o e = grind arith
+
+-- a branch that has touched a key exists, and isn't heuristically completed
+pub touching : (T : Tables) → Clean T → (x : XidName) (k : List ℕ) (s : ℤ) → map.get T.sums (x, k) ≡ Some s
+    → (is_some (state_of T x) ≡ true) × (is_S5 (state_of T x) ≡ false)
+touching T n x k s at = grind (arith, and_parts, true_from_ne_false, unfinished, not-true)
+
+nowhere_unprepared : (o : Option State) → standing o ≡ Nowhere → is_S3 o ≡ false
+nowhere_unprepared o e = grind arith
+
+pub opening_clean : (T : Tables) → IsOpening T → Clean T
+opening_clean T o = record { none = λ x nowhere k. o.sums x k (nowhere_unprepared (state_of T x) nowhere) }
+
+pub touch_law : (h : History) (x : XidName) (T : Tables) → IsOpening T → OnlyUnfinishedTouch x h T
+touch_law h x T o e k = (run_clean h T (opening_sound T o) (opening_clean T o)).none x (unfinished (state_of (tables_after h T) x) e) k
+
+-- ---- active branches
+
+-- unless it can only be rolled back, a branch is active exactly while somebody is associated with it
+record WorksWhile (T : Tables) : Type 0 where
+  active : (x : XidName) → is_S4 (state_of T x) ≡ false → is_S1 (state_of T x) ≡ is_somebody_associated T.associations x
+
+works_by : (t : ℕ) (T : Tables) {op : Op} {a : Answer} → WorksWhile T → Effect t T op a → WorksWhile a.0
+works_by t T w (Starts y free) = grind (arith, changes)
+works_by t T w (Joins y free there unprepared) = grind (arith, changes)
+works_by t T w (Resumes y own) = grind (arith, changes)
+works_by t T w (Suspends y own) = grind (arith, changes)
+works_by t T w (Leaves y how c own why) = grind (arith, changes)
+works_by t T w (Idles y own alone) = grind (arith, changes)
+works_by t T w (Fails y own) = grind (arith, changes)
+works_by t T w (Prepares y nobody unbroken) = grind (arith, changes)
+works_by t T w (Commits y one_phase nobody may) = grind (arith, changes)
+works_by t T w (Drops op y c nobody tells) = grind (arith, changes)
+works_by t T w (CommitsByItself y voted) = grind (arith, changes)
+works_by t T w (RollsBackByItself y voted) = grind (arith, changes)
+works_by t T w (Forgets y is) = grind (arith, changes)
+works_by t T w effect = grind (arith, changes)
+
+run_working : (h : History) (T : Tables) → WorksWhile T → WorksWhile (tables_after h T)
+run_working [] T w = w
+run_working (r ∷ h) T w = run_working h (next r.thread r.op T).0 (works_by r.thread T w (effect_of r.thread r.op T))
+
+opening_working : (T : Tables) → IsOpening T → WorksWhile T
+opening_working T o = grind (arith, opening_free)
+
+conclude : (o : Option State) (b : Bool) → (is_S4 o ≡ false → is_S1 o ≡ b) → is_S1 o ≡ (b && not (is_S3 o || (is_S4 o || is_S5 o)))
+conclude o b active = grind arith
+
+pub active_law : (h : History) (x : XidName) (T : Tables) → IsOpening T → ActiveWhileAssociated x h T
+active_law h x T o = conclude _ _ ((run_working h T (opening_working T o)).active x)
+
+-- ---- the law: a branch with which nobody is associated stays as it is under every request that doesn't name it
+
+-- a request that doesn't name x makes nothing of it
+pub unnamed_fate : (x : XidName) (op : Op) (c : Code) → names x op ≡ false → fate_of x op c ≡ None
+unnamed_fate x op c n = grind (arith, at_false)
+
+module _ (t : ℕ) (x : XidName) (T : Tables) (nobody : is_somebody_associated T.associations x ≡ false) where
+  by_effect : {op : Op} {a : Answer} → Effect t T op a → names x op ≡ false → StaysAsItWas x T a.0
+  by_effect (Dooms k d l own) n = grind (arith, changes, apart_from)
+  by_effect (Adds k d l own known alone) n = grind (arith, get_add, apart_from)
+  by_effect (Drops op y c free tells) n = grind (arith, changes, get_without, swap_xid)
+  by_effect effect n = grind (arith, changes, get_without, swap_xid)
+
+pub unnamed_stays : (t : ℕ) (op : Op) (x : XidName) (T : Tables) → is_somebody_associated T.associations x ≡ false → names x op ≡ false
+    → StaysAsItWas x T (next t op T).0
+unnamed_stays t op x T nobody = by_effect t x T nobody (effect_of t op T)
+
+-- the same for the requests of a history
+pub unnamed_on : (g : History) (x : XidName) (T : Tables) → is_somebody_associated T.associations x ≡ false → NamesNowhere x g
+    → StaysAsItWas x T (tables_after g T)
+unnamed_on [] x T nobody n = record { state = refl; sums = λ k. refl; apart = nobody }
+unnamed_on (r ∷ g) x T nobody n =
+    let P : Request → Type 0 = λ q. names x q.op ≡ false in
+    let one = unnamed_stays r.thread r.op x T nobody (All-head P r g n) in
+    let rest = unnamed_on g x (next r.thread r.op T).0 one.apart (All-tail P r g n) in
+    record { state = rest.state ∙ one.state; sums = λ k. rest.sums k ∙ one.sums k; apart = rest.apart }
+
+-- what a history is followed by begins with the tables after it
+pub tables_after-append : (h g : History) (T : Tables) → tables_after (h ++ g) T ≡ tables_after g (tables_after h T)
+tables_after-append [] g T = refl
+tables_after-append (r ∷ h) g T = tables_after-append h g (next r.thread r.op T).0
+
+pub unnamed_law : (h g : History) (x : XidName) (T : Tables) → is_somebody_associated (tables_after h T).associations x ≡ false → NamesNowhere x g
+    → StaysAsItWas x (tables_after h T) (tables_after (h ++ g) T)
+unnamed_law h g x T nobody n = subst (StaysAsItWas x (tables_after h T)) (sym (tables_after-append h g T)) (unnamed_on g x (tables_after h T) nobody n)

@@ -1,5 +1,5 @@
 -- What becomes of the branches once the state of one was changed in place.
-use Rattle.std.specs.Prelude.{◌≡◌, Option, Some, OnSome}
+use Rattle.std.specs.Prelude.{◌≡◌, Option, Some}
 use Rattle.std.specs.Borrow.{LendsSo, MutBor, Fml}
 use Rattle.std.specs.FinMap as map
 use Rattle.xa_words.specs.Xid.{XidName}
@@ -15,4 +15,5 @@ HasState b x s n = (n ≡ record b { states = map.insert b.states x s }) × (map
 -- x ends in the state that was written through r, and where there is no r the branches stay as they are
 abbrev pub LendsState : MutBor BranchTable → XidName → Option (MutBor State) → Fml
 LendsState b x r =
-    LendsSo branches_type.the_row state_type.the_row b r (λ n s. OnSome r (HasState b.now x s n)) (λ n. n ≡ b.now)
+    LendsSo branches_type.the_row state_type.the_row b r
+    (λ n s. (m : MutBor State) → r ≡ Some m → HasState b.now x s n) (λ n. n ≡ b.now)

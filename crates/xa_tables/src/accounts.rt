@@ -111,7 +111,7 @@ impl Accounts {
     }
 
     /// Whether the branch has touched a key.
-    #[tactic(auto, using(crate::proofs::HeldLemmas::touching))]
+    #[tactic(auto, using(crate::proofs::PlaceLemmas::touching))]
     pub(crate) fn has_touched(&self, xid: &Xid) -> bool
         ensures { result ≡ has_touched self.now.sums xid.now }
     {
@@ -131,7 +131,7 @@ impl Accounts {
     }
 
     /// Whether the branch would take a value out of the limits.
-    #[tactic(auto, using(crate::proofs::HeldLemmas::held_alike))]
+    #[tactic(auto, using(crate::proofs::PlaceLemmas::held_alike))]
     pub(crate) fn is_broken(&self, xid: &Xid) -> bool
         ensures { result ≡ is_broken self.now.values self.now.sums xid.now }
     {
@@ -161,7 +161,7 @@ impl Accounts {
     }
 
     /// Adds the branch's sums to the values; the branch has touched no key any more.
-    #[tactic(auto, using(crate::proofs::HeldLemmas::held_alike))]
+    #[tactic(auto, using(crate::proofs::PlaceLemmas::held_alike))]
     pub(crate) fn post(&mut self, xid: &Xid)
         requires { is_broken self.old.values self.old.sums xid.now ≡ false }
         ensures values { self.new.values ≡ posted self.old.values self.old.sums xid.now }
@@ -175,7 +175,7 @@ impl Accounts {
     }
 
     /// Leaves the values as they are; the branch has touched no key any more.
-    #[tactic(auto, using(crate::proofs::HeldLemmas::held_alike))]
+    #[tactic(auto, using(crate::proofs::PlaceLemmas::held_alike))]
     pub(crate) fn forget(&mut self, xid: &Xid)
         ensures sums { self.new.sums ≡ sums_without self.old.sums xid.now }
         ensures values { self.new.values ≡ self.old.values }
@@ -188,7 +188,7 @@ impl Accounts {
     }
 
     /// Leaves the values as they are; only prepared branches have touched a key any more.
-    #[tactic(auto, using(crate::proofs::HeldLemmas::held_alike))]
+    #[tactic(auto, using(crate::proofs::PlaceLemmas::held_alike))]
     pub(crate) fn retain_prepared(&mut self, branches: &Branches)
         requires { (x : XidName) → is_S3 (finmap.get branches.now.states x) ≡ true
             → is_broken self.old.values self.old.sums x ≡ false }
@@ -275,7 +275,7 @@ fn keep_held(held: &mut Vec<usize>, accounts: &[Account])
 }
 
 // Whether a branch has touched the key at this place.
-#[tactic(auto, using(crate::proofs::HeldLemmas::read_at))]
+#[tactic(auto, using(crate::proofs::PlaceLemmas::read_at))]
 fn is_held_at(accounts: &[Account], place: usize) -> bool
     ensures { result ≡ is_held_at accounts.now place }
 {
@@ -286,7 +286,7 @@ fn is_held_at(accounts: &[Account], place: usize) -> bool
 }
 
 // Whether one of these accounts passes a test, which only accounts pass that a branch has touched.
-#[tactic(auto, using(crate::proofs::HeldLemmas::held_within))]
+#[tactic(auto, using(crate::proofs::PlaceLemmas::held_within))]
 fn any_at<F: Fn(&Account) -> bool>(accounts: &[Account], held: &[usize], test: F) -> bool
     requires callable { F.IsAlwaysCallable test }
     requires held { AreHeld held.now accounts.now }
@@ -363,7 +363,7 @@ fn with_added(account: &Account, adds: u64, xid: &Xid, delta: Delta) -> Account
 }
 
 // Adds to the values what the branch holds, and lets go of it.
-#[tactic(auto, using(crate::proofs::HeldLemmas::walking))]
+#[tactic(auto, using(crate::proofs::PlaceLemmas::walking))]
 fn post_all(accounts: &mut [Account], held: &[usize], xid: &Xid)
     requires held { AreHeld held.now accounts.old }
     requires whole { list_any (λ a. is_broken_by a xid.now) accounts.old ≡ false }
@@ -387,7 +387,7 @@ fn post_account(account: &mut Account, xid: &Xid)
 }
 
 // Lets go of what is held by branches that aren't to be kept.
-#[tactic(auto, using(crate::proofs::HeldLemmas::held_within))]
+#[tactic(auto, using(crate::proofs::PlaceLemmas::held_within))]
 fn let_go<F: Fn(&Xid) -> bool>(accounts: &mut [Account], held: &[usize], keeps: F)
     requires callable { F.IsAlwaysCallable keeps }
     requires held { AreHeld held.now accounts.old }

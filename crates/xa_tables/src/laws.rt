@@ -53,14 +53,14 @@ pub fn tables_tell_the_fates()
 {}
 
 /// Whatever is requested, a branch that doesn't exist, or is heuristically completed, has touched no key.
-#[tactic(auto, using(crate::proofs::BranchLaws::touch_law))]
+#[tactic(auto, using(crate::proofs::ValueLaw::touch_law))]
 pub fn only_unfinished_branches_have_touched_keys()
     ensures { (h : History) (x : XidName) (T : Tables) → IsOpening T → OnlyUnfinishedTouch x h T }
 {}
 
 /// Whatever is requested, a branch is active exactly while somebody is associated with it, suspended or
 /// not, and it is neither prepared nor rollback-only nor heuristically completed.
-#[tactic(auto, using(crate::proofs::BranchLaws::active_law))]
+#[tactic(auto, using(crate::proofs::ValueLaw::active_law))]
 pub fn branches_are_active_while_associated()
     ensures { (h : History) (x : XidName) (T : Tables) → IsOpening T → ActiveWhileAssociated x h T }
 {}
@@ -73,7 +73,7 @@ pub fn values_stay_within_the_limits()
 
 /// Whatever is requested, over any openings, the tables' value of a key is its value at the first opening and each
 /// accepted addition whose branch commits later, in its own opening or in another.
-#[tactic(auto, using(crate::proofs::SumLaw::sum_law))]
+#[tactic(auto, using(crate::proofs::Reopening::sum_law))]
 pub fn value_is_sum()
     ensures { (before : List History) (h : History) (k : List ℕ) (T : Tables) → IsNew T → ValueIsSum k before h T }
 {}
@@ -141,7 +141,7 @@ pub fn late_requests_add_nothing()
 
 /// The first Shut parts a history into the accepted requests, itself and the late ones. A late request is
 /// refused with XAER_RMFAIL and changes nothing; the accepted ones go as if nothing came after them.
-#[tactic(auto, using(crate::proofs::LateLaw::late_are_refused, crate::proofs::LateLaw::late_change_nothing))]
+#[tactic(auto, using(crate::proofs::Law::late_are_refused, crate::proofs::Law::late_change_nothing))]
 pub fn late_requests_are_refused()
     ensures parted { (h : History) → h ≡ accepted h ++ (first_shut h ++ late h) }
     ensures codes { (h : History) (T : Tables) → IsOpening T → LateAreRefused h T }
@@ -149,7 +149,7 @@ pub fn late_requests_are_refused()
 {}
 
 /// They make nothing of any branch, so its fate may be read from the whole history.
-#[tactic(auto, using(crate::proofs::LateLaw::late_leave_fates))]
+#[tactic(auto, using(crate::proofs::Law::late_leave_fates))]
 pub fn late_requests_leave_fates()
     ensures { (h : History) (x : XidName) (f : Fate) (T : Tables) → fate x f h T ≡ fate_in x f (coded h T) }
 {}

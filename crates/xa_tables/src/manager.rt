@@ -226,7 +226,7 @@ fn needs_opening(op: &Op) -> bool
 }
 
 // A request that may be asked, by the rules of its group.
-#[tactic(auto, using(crate::proofs::FreeThreads::keeps_more))]
+#[tactic(auto, using(crate::proofs::ThreadLemmas::keeps_more))]
 #[inline(always)]
 fn step_by_rules(tables: &mut BranchTables, t: usize, op: &Op) -> Code
     requires first { 0 < t }
@@ -258,7 +258,7 @@ fn step_by_rules(tables: &mut BranchTables, t: usize, op: &Op) -> Code
 }
 
 // A request to start work on a branch.
-#[tactic(auto, using(crate::proofs::FreeThreads::keeps_more))]
+#[tactic(auto, using(crate::proofs::ThreadLemmas::keeps_more))]
 #[inline(always)]
 fn start(tables: &mut BranchTables, t: usize, xid: &Xid, how: StartHow) -> Code
     requires first { 0 < t }

@@ -44,7 +44,7 @@ impl Model for Threads {
 
 impl Threads {
     /// This many threads, none of which has opened or is associated.
-    #[tactic(auto, using(crate::proofs::ThreadLemmas::none_free))]
+    #[tactic(auto, using(crate::proofs::ThreadLemmas::free_rules))]
     pub(crate) fn new(alloc: Global, threads: usize) -> Result<Threads, AllocError>
         ensures nobody { IfOk result (λ t. t.opened ≡ set.empty) }
         ensures free { IfOk result (λ t. t.associations ≡ map.empty) }
@@ -67,7 +67,7 @@ impl Threads {
     }
 
     /// So many threads, for which there is room; none of them has opened or is associated.
-    #[tactic(auto, using(crate::proofs::ThreadLemmas::none_free))]
+    #[tactic(auto, using(crate::proofs::ThreadLemmas::free_rules))]
     pub(crate) fn reset(&mut self, threads: usize)
         requires { threads ≤ self.old.seats }
         ensures nobody { self.new.opened ≡ set.empty }

@@ -1,13 +1,16 @@
--- Lanes of completions, place by place.
-use Rattle.xa_base.proofs.{arith, ◌≡◌, ◌≢◌, ⊎_elim, ℕ, ◌<◌, ◌==◌, Bool, true, false, cond, List, [], ◌∷◌, ◌++◌, length, map, Option, Some, None, refl, sym, ap}
-use Rattle.xa_base.proofs.{◌∙◌, subst, eq-eqb, ne_eqb, append-nil, length-map}
+-- Lanes of completions, place by place, and what was taken of each sender.
+use Rattle.xa_base.proofs.{arith, ◌≡◌, ℕ, ◌<◌, ◌==◌, Bool, true, false, cond, List, [], ◌∷◌, ◌++◌, length, map, Option, Some, None, refl, sym, ap, ◌∙◌, eq-eqb}
+use Rattle.xa_base.proofs.{ne_eqb, append-nil, length-map, eqb_tells, ◌+◌}
 use Rattle.std.specs.Prelude.{MatchBool}
-use Rattle.std.proofs.lemmas.Bool.Decides.{eqb_tells}
-use Rattle.xa_words.specs.{Completion}
-use Rattle.xa_lane.specs.{at_place, with_item, with_full, but_full, bare, sent_at}
-use Rattle.xa_lane.proofs.Senders.{map-at_place, map-alike, sent_at-item, sent_at-other, sent_at-full, sent_at-but_full}
-use Rattle.xa_worker.specs.{Answering, SameLanes, StillFull, Puts, waiting_at, put_to, flushed}
+use Rattle.xa_words.specs.{Completion, Request}
+use Rattle.xa_lane.specs.{at_place, with_item, with_full, but_full, bare, sent_at, left_of}
+use Rattle.xa_lane.proofs.Parcels.{map-at_place, map-alike, sent_at-item, sent_at-other, sent_at-full, left_is}
+use Rattle.xa_worker.specs.{Answering, SameLanes, StillFull, Puts, waiting_at, put_to, flushed, Entry, requests, of_sender_thread, of_own_thread, Served}
+use Rattle.xa_worker.specs.{IsServed, IsOrdered}
 use Rattle.xa_worker.specs.Outgoing.{Outgoing}
+use Rattle.xa_tables.specs.{of_thread}
+
+-- ---- lanes of completions, place by place
 
 -- numbers that are equal together are tested alike
 pub same_eqb : (a b c d : ℕ) → (a ≡ b → c ≡ d) → (c ≡ d → a ≡ b) → (a == b) ≡ (c == d)
@@ -16,10 +19,6 @@ same_eqb a b c d f g = search (arith, eq-eqb, ne_eqb, eqb_tells)
 -- what was sent on each lane
 abbrev nothing : List Completion
 nothing = []
-
-sent_at-each : (ss : List Answering) (i : ℕ) (c : Completion) → i < length ss → (k : ℕ)
-    → sent_at k (at_place i (with_item c) ss) ≡ sent_at k ss ++ cond (i == k) (c ∷ []) nothing
-sent_at-each ss i c h k = search (arith, sent_at-item, sent_at-other, append-nil, eqb_tells)
 
 -- the lanes are the same
 lanes-item : (ss : List Answering) (i : ℕ) (c : Completion) → SameLanes ss (at_place i (with_item c) ss)
@@ -56,14 +55,10 @@ lanes-still o o' f = ap (λ (x : Outgoing). map bare x.senders) f.rest ∙ lanes
 -- one more completion was sent, or waits
 pub put-puts : (o : Outgoing) (i : ℕ) (c : Completion) (o' : Outgoing) → i < length o.senders → o.waiting ≡ None → Puts o i c o' → (k : ℕ)
     → put_to k o' ≡ put_to k o ++ cond (i == k) (c ∷ []) nothing
-put-puts o i c o' h none p k = search (arith, append-nil, sent_at-each, sent_at-full, o.senders)
+put-puts o i c o' h none p k = search (arith, append-nil, sent_at-item, sent_at-other, eqb_tells, sent_at-full, o.senders)
 
 pub lanes-puts : (o : Outgoing) (i : ℕ) (c : Completion) (o' : Outgoing) → Puts o i c o' → SameLanes o.senders o'.senders
 lanes-puts o i c o' p = search (arith, lanes-item, lanes-full, o.senders)
-
--- the end marks change nothing of what was sent
-pub sent_alike : (k : ℕ) (ss ts : List Answering) → map but_full ts ≡ map but_full ss → sent_at k ts ≡ sent_at k ss
-sent_alike k ss ts e = sym (sent_at-but_full k ts) ∙ ap (sent_at k) e ∙ sent_at-but_full k ss
 
 pub lanes_alike : (ss ts : List Answering) → map but_full ts ≡ map but_full ss → SameLanes ss ts
 lanes_alike ss ts e = map-alike but_full bare (λ s. refl) ts ss e
@@ -73,12 +68,20 @@ pub lanes_flush : (b : Bool) (o o' : Outgoing) → MatchBool b (o' ≡ flushed o
 lanes_flush true o o' e = ap (λ (x : Outgoing). map bare x.senders) e ∙ lanes-flushed o
 lanes_flush false o o' f = lanes-still o o' f
 
--- the completion that waited was sent
-pub put-sent : (ss ts : List Answering) (w : Option (ℕ × Completion)) (i : ℕ) (c : Completion) → w ≡ Some (i, c) → i < length ss
-    → ts ≡ at_place i (with_item c) ss → (k : ℕ) → put_to k (record { senders = ts; waiting = None }) ≡ put_to k (record { senders = ss; waiting = w })
-put-sent ss ts w i c e h s k = search (arith, append-nil, sent_at-each)
-
 -- it met a full moment
 pub put-full : (ss ts : List Answering) (w : Option (ℕ × Completion)) (i : ℕ) → ts ≡ at_place i with_full ss → (k : ℕ)
     → put_to k (record { senders = ts; waiting = w }) ≡ put_to k (record { senders = ss; waiting = w })
 put-full ss ts w i s k = ap (λ x. x ++ waiting_at k w) (ap (sent_at k) s ∙ sent_at-full k i ss)
+
+-- ---- of each thread: what the journal has, and what was taken of its sender
+
+left_numbered : (s : ℕ) (xs : List (ℕ × Request)) → left_of (s + 1) (map of_sender_thread xs) ≡ left_of s xs
+left_numbered s [] = refl
+left_numbered s (x ∷ xs) = search (arith, left_numbered s xs, same_eqb, x.0)
+
+left_threaded : (t : ℕ) (journal : List Entry) → left_of t (map of_own_thread journal) ≡ of_thread t (requests journal)
+left_threaded t [] = refl
+left_threaded t (e ∷ journal) = ap (λ l. cond (e.0.thread == t) (e.0 ∷ l) l) (left_threaded t journal)
+
+pub ordered : (d : Served) → IsServed d → IsOrdered d
+ordered d h s = search (arith, left_threaded, left_numbered, left_is)

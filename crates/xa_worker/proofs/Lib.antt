@@ -1,8 +1,2 @@
 pub mod Lanes
-pub mod Parcels
-pub mod Journals
 pub mod Ties
-pub mod Orders
-pub mod Seated
-pub mod Kept
-pub mod Paced

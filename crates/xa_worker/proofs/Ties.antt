@@ -1,22 +1,100 @@
--- What each kind of step keeps of a worker.
-use Rattle.xa_base.proofs.{rules, ◌≡◌, ◌⊎◌, ⊎_elim, append_assoc, ℕ, ◌+◌, ◌-◌, ◌<◌, ◌==◌, Bool, true, false, cond, List, [], ◌∷◌, ◌++◌, length, map, get_or}
-use Rattle.xa_base.proofs.{Some, None, sym, ap, ◌∙◌, subst, arith, append-nil, map-append, length-map}
+-- What each kind of step keeps of a worker: its journal, its lanes, its seat and its pace.
+use Rattle.xa_lane.proofs.Parcels.{sent_at-but_full, of_sender-append, items_in-append, map-alike, nothing_sent}
+use Rattle.xa_base.proofs.{arith, ◌≡◌, ℕ, ◌==◌, true, false, cond, List, [], ◌∷◌, ◌++◌, map, refl, sym, ap, ◌∙◌, map-append, filter-append, ◌+◌, ◌<◌, Bool}
+use Rattle.xa_base.proofs.{◌||◌, length, get_or, Option, Some, None, subst, set, or-false, or-true, append-nil, get_or-set_same, get_or-set_other, eqb_tells}
+use Rattle.xa_base.proofs.{append_assoc, rules, ◌-◌, length-map}
 use Rattle.xa_words.specs.{Request, Completion}
-use Rattle.xa_tables.specs.{Managed}
-use Rattle.xa_lane.specs.{Item, EndOf, Empty as Nothing, Took, but_full, bare, sent_at}
-use Rattle.xa_worker.specs.{Entry, entry_next, applied, completion_of, owed, Answering, SameLanes, Puts, flushed, waiting_at, put_to, WorkerView, Asking}
-use Rattle.xa_worker.specs.{IsTied, IsUnfit, IsHeldUnfit, IsFinished, SameWorker, Extends, asked, of_own_thread, in_hand, new_worker, Step, Did, Late, EndSeen}
-use Rattle.xa_worker.specs.{Empty, Blocked, EntersOne, Waits, StillHolds, Holds, Stepped, step_of, served, IsServed}
-use Rattle.xa_lane.proofs.Senders.{nothing_sent}
+use Rattle.xa_tables.specs.{Tables, next, codes, tables_after, History, Managed}
+use Rattle.xa_worker.specs.{Entry, entry_next, tables_next, Follows, completion_of, owed, asked, of_sender_thread, IsTied, working_of, IsWorker, Inside}
+use Rattle.xa_worker.specs.{Answering, WorkerView, SameWorker, Served, SameServed, seat_of_worker, seat_of_done, IsTold, Paces, applied, SameLanes, Puts}
+use Rattle.xa_worker.specs.{flushed, put_to, Asking, IsUnfit, IsHeldUnfit, IsFinished, Extends, of_own_thread, in_hand, new_worker, Step, Did, Late, EndSeen}
+use Rattle.xa_worker.specs.{Empty, Blocked, EntersOne, Stepped, step_of, served, IsServed}
+use Rattle.xa_lane.specs.{Parcel, Receiving, Took, taken_of, parcel, has_mark, has_ended, items_in, bare, Item, EndOf, Empty as Nothing, but_full}
 use Rattle.xa_worker.specs.Outgoing.{Outgoing}
-use Rattle.xa_worker.proofs.Journals.{follows_more, follows_none, owed-more}
-use Rattle.xa_worker.proofs.Lanes.{same_eqb, length-lanes, lanes-flushed, none-flushed, lanes-puts, put-puts, sent_alike}
-use Rattle.xa_worker.proofs.Parcels.{asked_end, asked_item}
+use Rattle.xa_worker.proofs.Lanes.{same_eqb, length-lanes, lanes-flushed, none-flushed, lanes-puts, put-puts}
+
+-- ---- journals that grow by an entry
+
+codes-more : (h : History) (r : Request) (T : Tables) → codes (h ++ r ∷ []) T ≡ codes h T ++ (entry_next r (tables_after h T)).1 ∷ []
+codes-more [] r T = refl
+codes-more (x ∷ h) r T = ap (λ cs. (next x.thread x.op T).1 ∷ cs) (codes-more h r (next x.thread x.op T).0)
+
+tables-more : (h : History) (r : Request) (T : Tables) → tables_after (h ++ r ∷ []) T ≡ tables_next r (tables_after h T)
+tables-more [] r T = refl
+tables-more (x ∷ h) r T = tables-more h r (next x.thread x.op T).0
+
+-- one more request, with the code and the tables that come next
+pub follows_more : (first : Tables) (journal after : List Entry) (now then : Tables) (r : Request) → after ≡ journal ++ entry_next r now ∷ []
+    → then ≡ tables_next r now → Follows first journal now → Follows first after then
+follows_more first journal after now then r e n f = search (arith, map-append, codes-more, tables-more)
+
+-- one more answer
+pub owed-more : (m t : ℕ) (journal : List Entry) (e : Entry)
+    → owed m t (journal ++ e ∷ []) ≡ owed m t journal ++ cond (e.0.thread == t) (completion_of m e ∷ []) []
+owed-more m t journal e = search (arith, filter-append, map-append)
+
+-- ---- what was taken of a lane, with one parcel more
+
+module _ {T : Type 0} where
+  -- what was taken of sender s, by what its parcel had
+  pub took_as : (r r' : Receiving T) (s : ℕ) (item known : Option T) → item ≡ known → Took r (taken_of s item) r' → Took r (taken_of s known) r'
+  took_as r r' s item known is took = subst (λ i. Took r (taken_of s i) r') is took
+
+  has_mark-append : (xs ys : List (Option T)) → has_mark (xs ++ ys) ≡ (has_mark xs || has_mark ys)
+  has_mark-append [] ys = refl
+  has_mark-append (Some y ∷ xs) ys = has_mark-append xs ys
+  has_mark-append (None ∷ xs) ys = refl
+
+  -- an item ends nobody
+  pub ended_item : (p s : ℕ) (taken : List (Parcel T)) (x : T) → has_ended p (taken ++ parcel s (Some x) ∷ []) ≡ has_ended p taken
+  ended_item p s taken x = search (arith, of_sender-append, has_mark-append, or-false)
+
+  -- the flags of the senders, one more set
+  pub marked_end : (marks : List Bool) (taken : List (Parcel T)) (s : ℕ) → length marks ≡ 8 → s < 8
+      → ((i : ℕ) → i < 8 → get_or marks i false ≡ has_ended i taken)
+      → (i : ℕ) → i < 8 → get_or (set marks s true) i false ≡ has_ended i (taken ++ parcel s None ∷ [])
+  marked_end marks taken s eight below were i h =
+      search (arith, get_or-set_same, of_sender-append, has_mark-append, or-true, get_or-set_other, or-false, eqb_tells)
+
+pub asked_item : (taken : List (Parcel Request)) (s : ℕ) (r : Request) → asked (taken ++ parcel s (Some r) ∷ []) ≡ asked taken ++ (s + 1, r) ∷ []
+asked_item taken s r = ap (map of_sender_thread) (items_in-append taken (parcel s (Some r) ∷ [])) ∙ map-append of_sender_thread (items_in taken) ((s, r) ∷ [])
+
+-- ---- the parts of a worker after a step
+
+-- nothing was entered, and no end mark was taken
+pub unentered : (w w' : Inside) → IsWorker w → w'.journal ≡ w.journal → w'.manager ≡ w.manager → w'.ended ≡ w.ended → w'.ends ≡ w.ends
+    → ((s : ℕ) → has_ended s w'.receiver.taken ≡ has_ended s w.receiver.taken) → IsTied (working_of w') → IsWorker w'
+unentered w w' i journal manager ended ends taken tied = search (arith, i.ended)
+
+-- ---- workers keep their seats
+
+pub stepped_keeps : (w w' : WorkerView) → SameWorker w w' → seat_of_worker w' ≡ seat_of_worker w
+stepped_keeps w w' h = search (arith, map-alike, w'.out.senders, w.out.senders, h.lanes, h.number, h.first, h.receiver.0, h.receiver.1)
+
+pub served_keeps : (w : WorkerView) (d : Served) → SameServed w d → seat_of_done d ≡ seat_of_worker w
+served_keeps w d h = search (arith, map-alike, d.ends, w.out.senders, h.lanes, h.number, h.first, h.receiver.0, h.receiver.1)
+
+-- ---- what a pace is told
+
+module _ {P : Type 0} (by : Request → P → P → Type 0) where
+  -- a journal that stays tells it of nothing
+  pub unpaced : (journal journal' : List Entry) (p : P) → journal' ≡ journal → Paces by journal journal' p p
+  unpaced journal journal' p same = record { entered = []; grown = same ∙ sym (append-nil journal); told = refl }
+
+  -- the requests of two stretches one after another
+  told_on : (rs ss : History) (a b c : P) → IsTold by rs a b → IsTold by ss b c → IsTold by (rs ++ ss) a c
+  told_on [] ss a b c first then_ = subst (λ x. IsTold by ss x c) first then_
+  told_on (r ∷ rs) ss a b c first then_ = (first.0, first.1, told_on rs ss first.0 b c first.2 then_)
+
+  pub paces_on : (i j k : List Entry) (a b c : P) → Paces by i j a b → Paces by j k b c → Paces by i k a c
+  paces_on i j k a b c first then_ = search (arith, append_assoc, map-append, told_on, first.entered, first.told)
+
+-- ---- what each kind of step keeps of a worker
 
 pub tied_new : (number : ℕ) (manager : Managed) (receiver : Asking) (senders : List Answering) → receiver.senders ≡ manager.threads
     → length senders ≡ manager.threads → receiver.taken ≡ []
     → ((i : ℕ) (d : Answering) → i < length senders → (get_or senders i d).sent ≡ []) → IsTied (new_worker number manager receiver senders)
-tied_new number manager receiver senders threads lanes taken none = search (arith, follows_none, append-nil, nothing_sent)
+tied_new number manager receiver senders threads lanes taken none = search (arith, append-nil, nothing_sent)
 
 module _ (w : WorkerView) (o : Outgoing) (same : SameLanes w.out.senders o.senders) (put : (k : ℕ) → put_to k o ≡ put_to k w.out) (t : IsTied w) where
   -- an earlier completion was sent, or still waits
@@ -28,7 +106,7 @@ module _ (w : WorkerView) (o : Outgoing) (same : SameLanes w.out.senders o.sende
     tied_nothing took = search (arith, length-lanes)
 
     pub tied_end : (s : ℕ) → Took w.receiver (EndOf s) r' → IsTied (record w { receiver = r'; out = o })
-    tied_end s took = search (arith, asked_end, length-lanes)
+    tied_end s took = search (arith, items_in-append, append-nil, length-lanes)
 
     module _ (s : ℕ) (r : Request) (none : w.held ≡ None) (took : Took w.receiver (Item s r) r') where
       before : asked w.receiver.taken ≡ map of_own_thread w.journal
@@ -78,7 +156,7 @@ tied_carried w o r' s r m p journal t sent put none took thread carried entered 
 -- a worker that has finished, and has put its end marks
 pub served_by : (w : WorkerView) (ends : List Answering) → IsTied w → IsFinished w → map but_full ends ≡ map but_full w.out.senders
     → IsServed (served w.number w.first w.manager w.receiver ends w.journal)
-served_by w ends t f e = search (arith, append-nil, sent_alike, length-map, w.out.senders, t.sent)
+served_by w ends t f e = search (arith, append-nil, sent_at-but_full, length-map, w.out.senders, t.sent)
 
 -- a request is late where the manager was shut before it
 pub stepped : (w w' : WorkerView) (b : Bool) → w.manager.tables.shut ≡ b → EntersOne w w' → Stepped w (step_of b) w'

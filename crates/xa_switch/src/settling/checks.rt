@@ -30,6 +30,7 @@ pub(crate) fn are_of_one(desks: &[EndedDesk], workers: &[DoneWorker]) -> bool
         && workers.iter().all(|worker| worker.opening() == opening)
 }
 
+#[tactic(auto, using(xa_base::proofs::ne_eqb, xa_base::proofs::list_any_none))]
 fn has_desk(thread: u32, desks: &[EndedDesk]) -> bool
     ensures there { result ≡ has_desk thread desks.now }
     ensures few { IsTrue result → thread ≤ MOST_SENDERS }

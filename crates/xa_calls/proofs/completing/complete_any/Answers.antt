@@ -7,10 +7,9 @@ returns-in-Ok-clause-completes g c = least c.in-Ok.collected.0 c.in-Ok.collected
 
 pub returns-in-Err-Retry-clause-completes : goal.returns-in-Err-Retry-clause-completes
 returns-in-Err-Retry-clause-completes g c =
-    let e = c.try_complete_any.ensures in
     let is = c.in-Err-Retry.is ∙ ap (λ why. Err why) c.in-Err-Retry.field-0-is in
-    let some = e.retry_some is in
-    retry some.0 some.1 c.if-nowait.true refl (e.retry_quiet is) (e.retry_none is)
+    let some = c.try_complete_any.ensures.retry_some is in
+    retry some.0 some.1 c.if-nowait.true refl (c.try_complete_any.ensures.retry_quiet is) (c.try_complete_any.ensures.retry_none is)
 
 pub returns-in-Ok-complete_any-clause-completes : goal.returns-in-Ok-complete_any-clause-completes
 returns-in-Ok-complete_any-clause-completes g c =

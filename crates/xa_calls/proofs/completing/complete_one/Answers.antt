@@ -1,7 +1,7 @@
 use Rattle.xa_base.proofs.{arith, sym, subst, refl}
 use Rattle.xa_desk.specs.{DeskView, Collects}
 use Rattle.xa_calls.specs.Completing.CompletesOne.{retry, ready, waited}
-use Rattle.xa_calls.proofs.Leaving.{leaves_all}
+use Rattle.xa_calls.proofs.Kept.{leaves_all}
 use Rattle.xa_calls.proofs.completing.complete_one.Goals as goal
 
 pub returns-in_default-clause-leaves : goal.returns-in_default-clause-leaves

@@ -1,6 +1,5 @@
-use Rattle.xa_base.proofs.{rules, ◌≡◌, ◌≤◌, ℕ, ℤ, true, Option, Some, None, Ok, sym, ap, ◌∙◌, subst, arith, refl, of_z, w32, pos, option_map, to_z-of_z, ints}
-use Rattle.std.proofs.Common.{to_z}
-use Rattle.std.proofs.lemmas.Int.{to_z_pos}
+use Rattle.xa_base.proofs.{rules, ◌≡◌, ℕ, ℤ, true, Option, Some, None, Ok, sym, ap, ◌∙◌, subst, arith, refl, of_z, w32, pos, option_map, to_z-of_z, ints, to_z}
+use Rattle.xa_base.proofs.{to_z_pos}
 use Rattle.xa_words.specs.CodeNumbers.{number_of}
 use Rattle.xa_words.specs.{Code, Async}
 use Rattle.xa_desk.specs.{DeskView, call_refusal, after_full}
@@ -34,8 +33,7 @@ returns-in-Err g c =
 pub returns-in-Ok : goal.returns-in-Ok
 returns-in-Ok g c =
     let k = c.in-Ok.handle in
-    let small : k ≤ 32 = c.in-Ok.ensures.handle.limit in
-    let told : to_z w32 k ≡ pos k = to_z_pos w32 k (omega (arith, small)) in
+    let told : to_z w32 k ≡ pos k = to_z_pos w32 k (omega (arith, c.in-Ok.ensures.handle.limit)) in
     record {
       puts = kept (subst (λ b. put_refusal c.args.desk.now c.args.manager b ≡ None)
           (sym c.if-asked.true) c.in-Ok.ensures.put) c.if-asked.true k told c.in-Ok.ensures.kept.0 c.in-Ok.ensures.kept.1;

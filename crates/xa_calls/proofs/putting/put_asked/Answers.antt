@@ -1,5 +1,4 @@
-use Rattle.xa_base.proofs.{◌≡◌, sym, subst, arith, of_z, w32, ℤ, to_z-of_z, ints}
-use Rattle.std.proofs.Common.{to_z}
+use Rattle.xa_base.proofs.{◌≡◌, sym, subst, arith, of_z, w32, ℤ, to_z-of_z, ints, to_z}
 use Rattle.xa_calls.specs.{Puts, Calls}
 use Rattle.xa_calls.proofs.putting.put_asked.Goals as goal
 

@@ -3,7 +3,7 @@ use Rattle.xa_base.proofs.{slice_get-get_or, get_or_default}
 use Rattle.xa_words.specs.{XidName}
 use Rattle.xa_calls.specs.{AsksAndWaits, Looks, begun, filled, ended, stopped}
 use Rattle.xa_calls.proofs.Recovered.{finds_more, passes_more, written_more}
-use Rattle.xa_calls.proofs.Leaving.{leaves_all, leaves_on}
+use Rattle.xa_calls.proofs.Kept.{leaves_all, leaves_on}
 use Rattle.xa_calls.proofs.recovering.look.Goals as goal
 use Rattle.xa_calls.proofs.recovering.look.Goals.{in-Done, in-Nota}
 
@@ -27,8 +27,7 @@ returns-in_default g c =
     let (found, looks, xids, many) = i.looks in
     let x : XidName = c.index-left-looked.result in
     let there : slice_get c.args.left.now c.loop-looked.looked ≡ Some x = search (arith, slice_get-get_or, c.args.left.now, c.loop-looked.looked) in
-    let within = i.within in
-    let short : length found < c.args.room = omega (arith, many, within) in
+    let short : length found < c.args.room = omega (arith, many, i.within) in
     record {
       scanned = (
         found,
@@ -51,26 +50,23 @@ loop-looked-preserved g c =
     let k = c.loop-looked.looked in
     let x : XidName = c.index-left-looked.result in
     let there : slice_get left k ≡ Some x = slice_get-get_or left k x (omega arith) ∙ ap (λ y. Some y) (sym c.index-left-looked.is) in
-    let within = i.within in
-    let room = c.requires in
-    let less : length found < c.args.room = omega (arith, many, within) in
-    let short : length found < length c.args.xids.now = omega (arith, less, room) in
+    let less : length found < c.args.room = omega (arith, many, i.within) in
+    let short : length found < length c.args.xids.now = omega (arith, less, c.requires) in
     let asking = AsksAndWaits g.I.Idle.leads_by c.args.manager in
     let leaves = leaves_on c.desks_go_on.ensures.further g.met.I.Idle.leads_chain i.leaves c.ask.ensures.leaves in
     elim c.match-ask.branch [
       | in-Done w ↦
           let y : XidName = w.index-left-looked-in-Done.result in
           let same : y ≡ x = w.index-left-looked-in-Done.is ∙ get_or_default left k y x (omega arith) ∙ sym c.index-left-looked.is in
-          let number = w.found-is in
           record {
             looks = (
               found ++ x ∷ [],
               finds_more asking c.args.room left _ (c.loop-looked.desk, c.loop-looked.idle) _ k found x _ looks less there c.ask.ensures.asks w.in-Done.is,
               w.xids-is ∙ (λ j. set (xids j) (many j) (same j)) ∙ written_more found c.args.xids.now x short,
-              omega (arith, number, many, length-append found (x ∷ [])),
+              omega (arith, w.found-is, many, length-append found (x ∷ [])),
             );
             many = ap (λ l. length l) w.xids-is ∙ length-set _ _ _ ∙ i.many;
-            within = omega (arith, number, within);
+            within = omega (arith, w.found-is, i.within);
             leaves = leaves;
             kept = λ all. c.ask.ensures.kept (i.kept all);
           }
@@ -82,7 +78,7 @@ loop-looked-preserved g c =
           w.found-is ∙ many,
         );
         many = ap (λ l. length l) w.xids-is ∙ i.many;
-        within = let number = w.found-is in omega (arith, number, within);
+        within = let number = w.found-is in omega (arith, number, i.within);
         leaves = leaves;
         kept = λ all. c.ask.ensures.kept (i.kept all);
       }

@@ -1,5 +1,5 @@
 use Rattle.xa_base.proofs.{arith, refl, rules}
-use Rattle.xa_calls.proofs.Leaving.{leaves_all}
+use Rattle.xa_calls.proofs.Kept.{leaves_all}
 use Rattle.xa_calls.proofs.recovering.recover_by.Goals as goal
 
 pub returns-in_err-mode-clause-leaves : goal.returns-in_err-mode-clause-leaves

@@ -1,6 +1,4 @@
-use Rattle.xa_base.proofs.{arith, of_z, to_z-of_z}
-use Rattle.std.proofs.Common.{to_z}
-use Rattle.std.proofs.lemmas.Int.{to_z_pos}
+use Rattle.xa_base.proofs.{arith, of_z, to_z-of_z, to_z, to_z_pos}
 use Rattle.xa_calls.proofs.Recovered.{recovered_so}
 use Rattle.xa_calls.proofs.recovering.xa_recover.Goals as goal
 

@@ -5,7 +5,6 @@ use Rattle.xa_desk.proofs.ended.end.Goals as goal
 pub invariant_of-result : goal.invariant_of-result
 invariant_of-result g c =
     let i = c.book.invariant in
-    let b = c.book.inside in
     let tied = rw (← c.book.view_is) at c.requires.tied in
     let settled = rw (← c.book.view_is) at c.requires.settled in
-    search (arith, tied_ended, b.completions, c.end_all-requests.ensures.ended)
+    search (arith, tied_ended, c.book.inside.completions, c.end_all-requests.ensures.ended)

@@ -9,12 +9,9 @@ returns-in-Some-clause-collected g c =
     collects_from _ _ _ c.args.operation _ (looks_start _ _ refl) c.requires.out c.in-Some.ensures.code c.in-Some.ensures.ready c.in-Some.ensures.fewer
 
 pub returns-in-Some-clause-waited : goal.returns-in-Some-clause-waited
-returns-in-Some-clause-waited g c = record {
-  now = c.args.book.now;
-  waits = begins _ _ refl refl;
-  found = ap (λ (d : DeskView). d.completions.quiet) c.in-Some.ensures.ready;
-  collects = collects_from _ _ _ c.args.operation _ (looks_start _ _ refl) c.requires.out c.in-Some.ensures.code c.in-Some.ensures.ready c.in-Some.ensures.fewer;
-}
+returns-in-Some-clause-waited g c =
+    let found = ap (λ (d : DeskView). d.completions.quiet) c.in-Some.ensures.ready in
+    record { now = c.args.book.now; waits = begins _ _ refl refl; found = found; collects = returns-in-Some-clause-collected g c }
 
 pub wait_until-requires-clause-missing : goal.wait_until-requires-clause-missing
 wait_until-requires-clause-missing g c = grind arith

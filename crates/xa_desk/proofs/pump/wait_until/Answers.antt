@@ -14,8 +14,7 @@ pub draw_until-requires-clause-loose : goal.draw_until-requires-clause-loose
 draw_until-requires-clause-loose g c = looks_loose _ _ c.args.operation c.loop.invariant.looks c.requires.loose
 
 pub returns-in-Some-draw_until-clause-collected : goal.returns-in-Some-draw_until-clause-collected
-returns-in-Some-draw_until-clause-collected g c =
-    collects_chain _ _ _ c.args.operation _ c.loop.invariant.looks c.in-Some-draw_until.ensures.collected
+returns-in-Some-draw_until-clause-collected g c = collects_chain _ _ _ c.args.operation _ c.loop.invariant.looks c.in-Some-draw_until.ensures.collected
 
 pub returns-in-Some-draw_until-clause-waited : goal.returns-in-Some-draw_until-clause-waited
 returns-in-Some-draw_until-clause-waited g c =

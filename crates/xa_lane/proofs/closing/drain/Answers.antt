@@ -1,9 +1,8 @@
 use Rattle.xa_base.proofs.{◌≡◌, ◌<◌, ◌∷◌, [], ◌++◌, length, Some, sym, ap, ◌∙◌, arith, rules}
 use Rattle.xa_lane.specs.{Parcel, items_in}
 use Rattle.xa_lane.proofs.Keeps.{gets, receiver_learning}
-use Rattle.xa_lane.proofs.Counts.{drained, room_for}
+use Rattle.xa_lane.proofs.Closes.{drained, room_for, closed}
 use Rattle.xa_lane.proofs.Parcels.{one_more, no_more}
-use Rattle.xa_lane.proofs.Closes.{closed}
 use Rattle.xa_lane.proofs.closing.drain.Goals as goal
 
 pub learn_as-requires-clause-rule : goal.learn_as-requires-clause-rule
@@ -24,9 +23,8 @@ loop-preserved-in-Some-Some g c =
     let was = c.loop.invariant.claim in
     let x : Parcel g.row.T.Denot = c.in-Some-Some.field-0 in
     let is : x.item ≡ Some c.in-Some-Some.item = search rules in
-    let same = c.pop_as.ensures.queue in
     record {
-      of_line = (same.0 ∙ c.loop.invariant.of_line.0, same.2 ∙ c.loop.invariant.of_line.1);
+      of_line = (c.pop_as.ensures.queue.0 ∙ c.loop.invariant.of_line.0, c.pop_as.ensures.queue.2 ∙ c.loop.invariant.of_line.1);
       room = let more = c.push_reserved.ensures.capacity in omega (arith, more, c.loop.invariant.room);
       claim = (
         was.0 ++ x ∷ [],
@@ -39,9 +37,8 @@ pub loop-preserved : goal.loop-preserved
 loop-preserved g c =
     let was = c.loop.invariant.claim in
     let x : Parcel g.row.T.Denot = c.in-Some-None.field-0 in
-    let same = c.pop_as.ensures.queue in
     record {
-      of_line = (same.0 ∙ c.loop.invariant.of_line.0, same.2 ∙ c.loop.invariant.of_line.1);
+      of_line = (c.pop_as.ensures.queue.0 ∙ c.loop.invariant.of_line.0, c.pop_as.ensures.queue.2 ∙ c.loop.invariant.of_line.1);
       room = c.loop.invariant.room;
       claim = (was.0 ++ x ∷ [], drained _ _ was.0 _ _ _ x was.1 c.in-Some-None.ensures.rule, was.2 ∙ sym (no_more was.0 x (search rules)));
     }
@@ -49,6 +46,5 @@ loop-preserved g c =
 pub returns-in-None-pop_as : goal.returns-in-None-pop_as
 returns-in-None-pop_as g c =
     let was = c.loop.invariant.claim in
-    let h = c.in-None-pop_as.ensures.rule in
-    let all = closed _ _ was.0 h.1.0 _ _ was.1 h.1.1 h.1.2 in
+    let all = closed _ _ was.0 c.in-None-pop_as.ensures.rule.1.0 _ _ was.1 c.in-None-pop_as.ensures.rule.1.1 c.in-None-pop_as.ensures.rule.1.2 in
     (was.0, was.2, all.0, all.1)

@@ -1,6 +1,6 @@
-use Rattle.xa_base.proofs.{arith, ◌≡◌, sym, ap, ◌∙◌, subst, refl, All}
+use Rattle.xa_base.proofs.{arith, ◌≡◌, ap, ◌∙◌, subst, refl}
 use Rattle.crossbeam_queue.specs.Passes.{view}
-use Rattle.xa_lane.specs.{made_in, taken_in, Sending, Receiving, line_of, IsWhole}
+use Rattle.xa_lane.specs.{made_in, taken_in, Receiving, IsWhole}
 use Rattle.xa_lane.proofs.Closes.{covers_as, marked_as, known_as, conserves_of_ends, leaves_nothing, knows_itself, knows_no_end}
 use Rattle.xa_lane.proofs.lane.close_lane.Goals as goal
 
@@ -41,9 +41,8 @@ returns-clause-whole g c = search (arith, c.receiver.view_is, c.if-not-are_of.en
 
 pub returns-clause-last : goal.returns-clause-last
 returns-clause-last g c =
-    let d = c.drain.ensures in
     let taken : taken_in (view c.receiver.inside.pass) ≡ c.args.receiver.taken = ap (λ (r : Receiving g.row.T.Denot). r.taken) c.receiver.view_is in
-    marked_as _ _ _ d.0 _ _ _ c.take_in-pass.ensures.knows taken d.1 d.2
+    marked_as _ _ _ c.drain.ensures.0 _ _ _ c.take_in-pass.ensures.knows taken c.drain.ensures.1 c.drain.ensures.2
 
 pub returns-clause-conserves : goal.returns-clause-conserves
 returns-clause-conserves g c = conserves_of_ends _ _ _ (returns-clause-last g c)
@@ -53,8 +52,7 @@ returns-clause-nothing g c = leaves_nothing _ _ _ (returns-clause-last g c)
 
 pub returns-clause-known : goal.returns-clause-known
 returns-clause-known g c =
-    let d = c.drain.ensures in
     let senders = ap (λ (r : Receiving g.row.T.Denot). r.senders) c.receiver.view_is in
     let made : made_in (view c.receiver.inside.pass) ≡ c.args.receiver.senders = ap made_in c.receiver.invariant.1 ∙ senders in
     let taken : taken_in (view c.receiver.inside.pass) ≡ c.args.receiver.taken = ap (λ (r : Receiving g.row.T.Denot). r.taken) c.receiver.view_is in
-    known_as _ _ _ _ d.0 _ _ _ c.take_in-pass.ensures.knows made taken d.1 d.3
+    known_as _ _ _ _ c.drain.ensures.0 _ _ _ c.take_in-pass.ensures.knows made taken c.drain.ensures.1 c.drain.ensures.3

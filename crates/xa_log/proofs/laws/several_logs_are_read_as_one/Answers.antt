@@ -1,4 +1,4 @@
-use Rattle.xa_log.proofs.SeveralLogs.{more_logs, no_log, own_log}
+use Rattle.xa_log.proofs.Transactions.{more_logs, no_log, own_log}
 use Rattle.xa_log.proofs.laws.several_logs_are_read_as_one.Goals as goal
 
 pub returns-clause-none : goal.returns-clause-none

@@ -1,4 +1,4 @@
-use Rattle.xa_switch.proofs.Worth.{opened_with}
+use Rattle.xa_switch.proofs.SettledOpenings.{opened_with}
 use Rattle.xa_switch.proofs.laws.managers_open_with_their_accounts.Goals as goal
 
 pub returns : goal.returns

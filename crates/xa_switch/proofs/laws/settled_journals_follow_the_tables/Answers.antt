@@ -1,4 +1,4 @@
-use Rattle.xa_switch.proofs.Journaled.{follows, follows_first}
+use Rattle.xa_switch.proofs.SettledOpenings.{follows, follows_first}
 use Rattle.xa_switch.proofs.laws.settled_journals_follow_the_tables.Goals as goal
 
 pub returns-clause-some : goal.returns-clause-some

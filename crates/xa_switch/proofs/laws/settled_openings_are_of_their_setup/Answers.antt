@@ -1,4 +1,4 @@
-use Rattle.xa_switch.proofs.OfPlans.{of_setup}
+use Rattle.xa_switch.proofs.SettledOpenings.{of_setup}
 use Rattle.xa_switch.proofs.laws.settled_openings_are_of_their_setup.Goals as goal
 
 pub returns : goal.returns

@@ -1,4 +1,4 @@
-use Rattle.xa_switch.proofs.Mixing.{some_come}
+use Rattle.xa_switch.proofs.Dealing.{some_come}
 use Rattle.xa_switch.proofs.laws.some_pieces_come_from_their_openings.Goals as goal
 
 pub returns : goal.returns

@@ -3,7 +3,7 @@ use Rattle.xa_tables.specs.{Managed, opening, Tables}
 use Rattle.xa_tables.proofs.Reopening.{new_opens, accounts_new}
 use Rattle.xa_switch.specs.{Setup, IsWithinLimits, IsSoundManager, Plan, ManagerPlan, numbers_of, use_async, AreOfOneOpening, manager_room, new_manager}
 use Rattle.xa_switch.specs.{opened_by, Again}
-use Rattle.xa_switch.proofs.NewManagers.{all_new, all_begin, tables_are}
+use Rattle.xa_switch.proofs.Meeting.{all_new, all_begin, tables_are}
 use Rattle.xa_switch.proofs.opening.open_switch.Goals as goal
 
 pub returns-in_err-managers-clause-bad : goal.returns-in_err-managers-clause-bad

@@ -2,11 +2,9 @@ use Rattle.xa_base.proofs.{arith, ◌≡◌, map, sym, subst, length-map, rules}
 use Rattle.xa_desk.specs.{EndedView}
 use Rattle.xa_worker.specs.{Served}
 use Rattle.xa_switch.specs.{IsSettled, journal, ledgers_of, IsWhole, Settling}
-use Rattle.xa_switch.proofs.Pieces.{Joint, workers_numbered, workers_opened, request_lanes, completion_lanes}
-use Rattle.xa_switch.proofs.Sides.{AreLanesOf}
-use Rattle.xa_switch.proofs.Agreeing.{settled}
-use Rattle.xa_switch.proofs.Ledgers.{all_settled_ledgers, all_settled_journals}
-use Rattle.xa_switch.proofs.AllThere.{parts_ready, all_there}
+use Rattle.xa_switch.proofs.Pieces.{Joint, workers_numbered, workers_opened, request_lanes, completion_lanes, AreLanesOf}
+use Rattle.xa_switch.proofs.Agreeing.{settled, parts_ready, all_there}
+use Rattle.xa_switch.proofs.SettledOpenings.{all_settled_ledgers, all_settled_journals}
 use Rattle.xa_switch.proofs.settling.close_all.Goals as goal
 
 pub take_workers-answered-requires-clause-numbered : goal.take_workers-answered-requires-clause-numbered

@@ -1,13 +1,12 @@
-use Rattle.xa_base.proofs.{arith, ◌≡◌, ◌∙◌, sym, ap, rules, get_or, list_any, or_from, take_all}
-use Rattle.std.proofs.lemmas.List.Folds.{list_any_at, list_any_more}
+use Rattle.xa_base.proofs.{arith, ◌≡◌, ◌∙◌, sym, ap, rules, get_or, list_any, or_from, take_all, list_any_at}
+use Rattle.std.proofs.lemmas.List.Folds.{list_any_more}
 use Rattle.xa_tables.specs.{passes_at}
-use Rattle.xa_tables.proofs.HeldLemmas.{held_within, passes_read, none_held}
+use Rattle.xa_tables.proofs.PlaceLemmas.{held_within, passes_read, none_held}
 use Rattle.xa_tables.proofs.accounts.any_at.Goals as goal
 
 pub returns-then-test : goal.returns-then-test
 returns-then-test g c passes agrees only =
-    let a = c.index-accounts-place.result in
-    let is : c.test.result ≡ passes a = agrees a c.test.result (search rules) in
+    let is : c.test.result ≡ passes c.index-accounts-place.result = agrees c.index-accounts-place.result c.test.result (search rules) in
     let inside = held_within c.args.held.now c.args.accounts.now c.requires.held c.loop-place.place-index c.loop-place-test.true in
     search (arith, list_any_at, c.args.accounts.now, c.args.held.now, c.loop-place.place-index)
 

@@ -1,5 +1,4 @@
-use Rattle.xa_base.proofs.{◌≡◌, Bool, false, take, list_any}
-use Rattle.std.specs.Fn.{FnReturnsAt}
+use Rattle.xa_base.proofs.{◌≡◌, Bool, false, take, list_any, FnReturnsAt}
 use Rattle.xa_tables.specs.{Account, passes_at}
 use Rattle.xa_tables.proofs.accounts.any_at.Given as goal
 

@@ -1,6 +1,6 @@
 use Rattle.xa_base.proofs.{◌∙◌, sym, ap, arith}
 use Rattle.xa_tables.specs.{kept_where}
-use Rattle.xa_tables.proofs.HeldLemmas.{changing_none, changing_at, changing_all, kept_untouched, kept_twice}
+use Rattle.xa_tables.proofs.PlaceLemmas.{changing_none, changing_at, changing_all, kept_untouched, kept_twice}
 use Rattle.xa_tables.proofs.accounts.let_go.Goals as goal
 
 pub loop-place-init : goal.loop-place-init

@@ -1,8 +1,7 @@
-use Rattle.xa_base.proofs.{◌≡◌, Bool}
-use Rattle.std.specs.Fn.{FnReturnsAt}
+use Rattle.xa_base.proofs.{◌≡◌, Bool, FnReturnsAt}
 use Rattle.xa_words.specs.{XidName}
 use Rattle.xa_tables.specs.{kept_where}
-use Rattle.xa_tables.proofs.HeldLemmas.{IsChanging}
+use Rattle.xa_tables.proofs.PlaceLemmas.{IsChanging}
 use Rattle.xa_tables.proofs.accounts.let_go.Given as goal
 
 abbrev pub invariant-loop-place : goal.invariant-loop-place

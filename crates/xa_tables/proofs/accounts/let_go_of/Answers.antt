@@ -1,4 +1,4 @@
-use Rattle.xa_base.proofs.{arith, ◌≡◌, Bool, true, false, Some, None, rules, sym, ap, ◌∙◌, if◌then◌else◌}
+use Rattle.xa_base.proofs.{◌≡◌, Bool, true, false, Some, None, rules, sym, ap, ◌∙◌, if◌then◌else◌}
 use Rattle.xa_words.specs.{XidName}
 use Rattle.xa_tables.specs.{Account, Hold, hold_where, kept_where}
 use Rattle.xa_tables.proofs.accounts.let_go_of.Goals as goal
@@ -10,13 +10,11 @@ kept_as keep a h b is e = λ i. record a { hold = sym (ap (hold_where keep) is �
 
 pub returns-then-not-keeps : goal.returns-then-not-keeps
 returns-then-not-keeps g c keep agrees =
-    let h = c.in-Some.hold in
-    let is : c.keeps.result ≡ keep h.xid = agrees h.xid c.keeps.result (search rules) in
-    kept_as keep c.args.account.now h false c.in-Some.is (sym is ∙ c.if-not-keeps.true)
+    let is : c.keeps.result ≡ keep c.in-Some.hold.xid = agrees c.in-Some.hold.xid c.keeps.result (search rules) in
+    kept_as keep c.args.account.now c.in-Some.hold false c.in-Some.is (sym is ∙ c.if-not-keeps.true)
 
 pub returns-else-not-keeps : goal.returns-else-not-keeps
 returns-else-not-keeps g c keep agrees =
-    let h = c.in-Some.hold in
     let a = c.args.account.now in
-    let is : c.keeps.result ≡ keep h.xid = agrees h.xid c.keeps.result (search rules) in
-    (λ i. record a { hold = c.in-Some.is i }) ∙ kept_as keep a h true c.in-Some.is (sym is ∙ c.if-not-keeps.false)
+    let is : c.keeps.result ≡ keep c.in-Some.hold.xid = agrees c.in-Some.hold.xid c.keeps.result (search rules) in
+    (λ i. record a { hold = c.in-Some.is i }) ∙ kept_as keep a c.in-Some.hold true c.in-Some.is (sym is ∙ c.if-not-keeps.false)

@@ -1,6 +1,6 @@
 use Rattle.xa_base.proofs.{◌≡◌, ◌<◌, ◌∙◌, sym, ap, subst, arith, false, length, get_or, set, list_any}
 use Rattle.xa_tables.specs.{Account, is_broken_by, posted_by}
-use Rattle.xa_tables.proofs.HeldLemmas.{changing_none, changing_at, changing_all, held_within, posted_untouched, posted_twice, whole_more}
+use Rattle.xa_tables.proofs.PlaceLemmas.{changing_none, changing_at, changing_all, held_within, posted_untouched, posted_twice, whole_more}
 use Rattle.xa_tables.proofs.accounts.post_all.Goals as goal
 
 pub loop-place-init : goal.loop-place-init

@@ -1,6 +1,6 @@
 use Rattle.xa_base.proofs.{◌≡◌, false, list_any}
 use Rattle.xa_tables.specs.{posted_by, is_broken_by}
-use Rattle.xa_tables.proofs.HeldLemmas.{IsChanging}
+use Rattle.xa_tables.proofs.PlaceLemmas.{IsChanging}
 use Rattle.xa_tables.proofs.accounts.post_all.Given as goal
 
 abbrev pub invariant-loop-place : goal.invariant-loop-place

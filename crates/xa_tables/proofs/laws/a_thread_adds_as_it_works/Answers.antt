@@ -1,4 +1,4 @@
-use Rattle.xa_tables.proofs.WorkLaw.{work_law}
+use Rattle.xa_tables.proofs.WorthLaw.{work_law}
 use Rattle.xa_tables.proofs.laws.a_thread_adds_as_it_works.Goals as goal
 
 pub returns : goal.returns

@@ -1,4 +1,4 @@
-use Rattle.xa_tables.proofs.Unnamed.{unnamed_law}
+use Rattle.xa_tables.proofs.ValueLaw.{unnamed_law}
 use Rattle.xa_tables.proofs.laws.unnamed_branches_stay.Goals as goal
 
 pub returns : goal.returns

@@ -1,4 +1,4 @@
-use Rattle.xa_tables.proofs.WithinLaw.{within_law}
+use Rattle.xa_tables.proofs.Reopening.{within_law}
 use Rattle.xa_tables.proofs.laws.values_stay_within_the_limits.Goals as goal
 
 pub returns : goal.returns

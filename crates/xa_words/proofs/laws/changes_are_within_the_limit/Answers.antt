@@ -1,7 +1,5 @@
-use Rattle.xa_base.proofs.{◌≡◌, ℤ, Bool, true, false, refl, pos}
-use Rattle.std.specs.Prelude.{neg_ℤ, int_le, ◌≤ℤ◌}
-use Rattle.std.specs.Bool.{Decides}
-use Rattle.std.specs.Int.Signed.{le_z_yes}
+use Rattle.xa_base.proofs.{◌≡◌, ℤ, Bool, true, false, refl, pos, neg_ℤ, ◌≤ℤ◌, Decides, le_z_yes}
+use Rattle.std.specs.Prelude.{int_le}
 use Rattle.std.proofs.Math.Dec.{T}
 use Rattle.std.proofs.lemmas.Float.{T_from_true}
 use Rattle.std.proofs.lemmas.Bool.Decides.{Decides-and}

@@ -1,5 +1,4 @@
-use Rattle.xa_base.proofs.{◌≡◌, ◌+◌, ◌-◌, length, replicate, ap, ◌∙◌, arith, drop, ℕ}
-use Rattle.std.proofs.lemmas.List.{drop-replicate}
+use Rattle.xa_base.proofs.{◌≡◌, ◌+◌, ◌-◌, length, replicate, ap, ◌∙◌, arith, drop, ℕ, drop-replicate}
 use Rattle.xa_words.proofs.xid.joined.Goals as goal
 
 -- after both parts there are still the zeros

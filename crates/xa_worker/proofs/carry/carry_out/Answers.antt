@@ -1,5 +1,4 @@
-use Rattle.xa_base.proofs.{rules, ◌≡◌, arith, [], ◌∷◌, ◌++◌, ap, ◌∙◌, get_or, length, set}
-use Rattle.std.proofs.Math.Seq.{get_or-append_seam, set-append_seam}
+use Rattle.xa_base.proofs.{rules, ◌≡◌, arith, [], ◌∷◌, ◌++◌, ◌∙◌, length, set, get_or-append_seam, set-append_seam}
 use Rattle.xa_words.specs.{Done}
 use Rattle.xa_worker.specs.{Entry, entry_next}
 use Rattle.xa_worker.proofs.carry.carry_out.Goals as goal

@@ -1,5 +1,5 @@
 use Rattle.xa_lane.specs.{with_item, with_full}
-use Rattle.xa_lane.proofs.Senders.{at_place-became}
+use Rattle.xa_lane.proofs.Parcels.{at_place-became}
 use Rattle.xa_worker.proofs.outbox.offer_at.Goals as goal
 
 pub returns-in-Ok-clause-offered : goal.returns-in-Ok-clause-offered

@@ -1,9 +1,8 @@
 use Rattle.xa_base.proofs.{◌≡◌, refl, subst, arith}
 use Rattle.xa_desk.specs.{with_collected, IsOut, ledger, after_collected, logged, IsBooks}
 use Rattle.xa_desk.proofs.Ledgers.{ledger-read, room_collected, planned-put, length-put_ledger}
-use Rattle.xa_desk.proofs.Books.{books_collected}
+use Rattle.xa_desk.proofs.Books.{books_collected, loose_handle}
 use Rattle.xa_desk.proofs.KeyRows.{keys_collected}
-use Rattle.xa_desk.proofs.KeptPlaces.{loose_handle}
 use Rattle.xa_desk.proofs.book.Book.collect.Goals as goal
 use Rattle.xa_desk.proofs.book.Book.collect.Goals.{After-push_collected}
 
@@ -41,18 +40,16 @@ invariant_of-self c =
     let o = c.args.operation in
     let code = c.in-Some-code.code in
     let len = c.remove.ensures.len in
-    let used = i.slots_used in
+    let used = i.slots_room.0 in
     rw (written d) (record {
       books = books d;
       keys = keys_collected at o code (out d).known c.self.inside.rows.items c.self.inside.slots c.remove.new.self c.in-Some.key i.keys c.remove.ensures.updates;
-      slots_used = omega arith;
-      slots_room = rw c.remove.ensures.capacity i.slots_room;
+      slots_room = (omega arith, rw c.remove.ensures.capacity i.slots_room.1, rw c.remove.ensures.capacity i.slots_room.2);
       places = i.places;
       drained = i.drained;
       planned = rw (planned-put at o.manager (with_collected (ledger at o.manager) o.number code) (out d).known refl) i.planned;
       limits = rw (length-put_ledger at o.manager (with_collected (ledger at o.manager) o.number code)) i.limits;
       ends = i.ends;
-      ends_room = i.ends_room;
       kept_marks = i.kept_marks;
       ready_marks = i.ready_marks;
     })

@@ -2,13 +2,10 @@ use Rattle.xa_base.proofs.{◌≡◌, ◌≢◌, ◌-◌, ◌+◌, ◌∷◌, �
 use Rattle.slab.specs.Slab.{Slab, slab_len, Updates}
 use Rattle.xa_desk.specs.{Slot, with_collected, Operation, Collected, desk_of, IsOut, ledger, after_collected, operation_of, drained_code, first, AreReady}
 use Rattle.xa_desk.specs.{logged, HasKept, IsBooks}
-use Rattle.xa_desk.proofs.Ledgers.{ledger-read, room_collected, planned-put, length-put_ledger}
-use Rattle.xa_desk.proofs.Books.{books_taken, drained_code-push_first}
-use Rattle.xa_desk.proofs.Counts.{drained-lt-planned}
-use Rattle.xa_desk.proofs.KeyRows.{keys_collected}
-use Rattle.xa_desk.proofs.KeptPlaces.{loose_handle}
+use Rattle.xa_desk.proofs.Ledgers.{ledger-read, room_collected, planned-put, length-put_ledger, drained-lt-planned}
+use Rattle.xa_desk.proofs.Books.{books_taken, drained_code-push_first, loose_handle}
+use Rattle.xa_desk.proofs.KeyRows.{keys_collected, ready_drained}
 use Rattle.xa_desk.proofs.Looks.{still_missing}
-use Rattle.xa_desk.proofs.Marked.{ready_drained}
 use Rattle.xa_desk.proofs.book.Book.collect_taken.Goals as goal
 use Rattle.xa_desk.proofs.book.Book.collect_taken.Goals.{In-Some, After-push_collected}
 
@@ -93,20 +90,18 @@ invariant_of-self c =
     let code = c.args.completion.code in
     let known = (out b).known in
     let len = c.remove.ensures.len in
-    let used = i.slots_used in
+    let used = i.slots_room.0 in
     let counted = i.drained in
     let more = drained d in
     rw (written d) (record {
       books = rw more (books b c.remove.new.self c.remove.ensures.updates c.remove.ensures.len);
       keys = keys_collected at o code known c.self.inside.rows.items c.self.inside.slots c.remove.new.self c.in-Some.key i.keys c.remove.ensures.updates;
-      slots_used = omega arith;
-      slots_room = rw c.remove.ensures.capacity i.slots_room;
+      slots_room = (omega arith, rw c.remove.ensures.capacity i.slots_room.1, rw c.remove.ensures.capacity i.slots_room.2);
       places = i.places;
       drained = rw more (omega (arith, length-append (logged c.self.inside.drained.items) (c.args.completion ∷ [])));
       planned = rw (planned-put at o.manager (with_collected (ledger at o.manager) o.number code) known refl) i.planned;
       limits = rw (length-put_ledger at o.manager (with_collected (ledger at o.manager) o.number code)) i.limits;
       ends = i.ends;
-      ends_room = i.ends_room;
       kept_marks = i.kept_marks;
       ready_marks = rw more (marks b);
     })
@@ -117,11 +112,10 @@ returns c =
     let d = (goal.at.returns c).After-push_collected in
     let at = c.self.inside.ledgers.items in
     let old = logged c.self.inside.drained.items in
-    let o = c.args.operation in
-    let event = ap logged c.and-self-inside-2.ensures ∙ map-append (λ p. p.0) c.self.inside.events.items ((Collected o, tt) ∷ []) in
+    let event = ap logged c.and-self-inside-2.ensures ∙ map-append (λ p. p.0) c.self.inside.events.items ((Collected c.args.operation, tt) ∷ []) in
     rw (← c.self.view_is) (record {
       mid = record (desk_of c.self.inside) { drained = old ++ c.args.completion ∷ [] };
       drains = first (subst (λ (p : Operation). IsOut at p) (its b) (out b)) (ap (λ (p : Operation). drained_code p old) (sym (its b)) ∙ missing b) refl;
-      code_ = sym (drained_code-push_first o old c.args.completion (its b) (missing b));
+      code_ = sym (drained_code-push_first c.args.operation old c.args.completion (its b) (missing b));
       rest = search (arith, written, drained, books, c.remove.new.self, c.remove.ensures.updates);
     })

@@ -1,6 +1,6 @@
 use Rattle.xa_base.proofs.{refl}
 use Rattle.xa_desk.specs.{logged, ready_with}
-use Rattle.xa_desk.proofs.Marked.{marked_least, marked_nowhere}
+use Rattle.xa_desk.proofs.KeyRows.{marked_least, marked_nowhere}
 use Rattle.xa_desk.proofs.book.Book.first_ready.Goals as goal
 
 pub returns-clause-found : goal.returns-clause-found

@@ -1,5 +1,5 @@
 use Rattle.xa_base.proofs.{arith}
-use Rattle.xa_desk.proofs.KeptPlaces.{get-kept_of_past, get-kept_of_zero}
+use Rattle.xa_desk.proofs.Books.{get-kept_of_past, get-kept_of_zero}
 use Rattle.xa_desk.proofs.book.Book.handles.Goals as goal
 
 pub returns-clause-limit : goal.returns-clause-limit

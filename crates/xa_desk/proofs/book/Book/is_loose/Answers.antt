@@ -1,6 +1,6 @@
 use Rattle.xa_base.proofs.{subst, eqb-true, eq-eqb}
 use Rattle.xa_desk.specs.{Operation, IsOut, logged}
-use Rattle.xa_desk.proofs.KeptPlaces.{loose_handle, loose_from_handle}
+use Rattle.xa_desk.proofs.Books.{loose_handle, loose_from_handle}
 use Rattle.xa_desk.proofs.book.Book.is_loose.Goals as goal
 
 pub returns-in-Some : goal.returns-in-Some

@@ -1,8 +1,7 @@
-use Rattle.xa_base.proofs.{◌≡◌, arith}
+use Rattle.xa_base.proofs.{◌≡◌, arith, ltb-false}
 use Rattle.slab.specs.Slab.{slab_len}
-use Rattle.std.proofs.lemmas.Bool.{ltb-false}
 use Rattle.xa_desk.specs.{logged}
-use Rattle.xa_desk.proofs.Counts.{nothing_open}
+use Rattle.xa_desk.proofs.Ledgers.{nothing_open}
 use Rattle.xa_desk.proofs.book.Book.is_outstanding.Goals as goal
 
 pub returns-clause-settled : goal.returns-clause-settled

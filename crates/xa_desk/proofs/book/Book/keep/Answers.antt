@@ -1,14 +1,11 @@
 use Rattle.xa_base.proofs.{◌≡◌, ◌<◌, ℕ, suc, ◌+◌, false, Some, None, is_some, get_or, set, sym, ◌∙◌, refl, ap, arith, length, or-false, nat_cmp, length-set}
-use Rattle.xa_base.proofs.{is_missing}
-use Rattle.std.proofs.Common.{IsSome}
+use Rattle.xa_base.proofs.{is_missing, IsSome}
 use Rattle.std.specs.FinMap as map
 use Rattle.slab.specs.Slab.{get}
 use Rattle.xa_desk.specs.{Slot, ready_with, is_marked, HasSlot, logged}
-use Rattle.xa_desk.proofs.Books.{books_rehandled, Rehandles}
-use Rattle.xa_desk.proofs.KeyRows.{keys_kept}
-use Rattle.xa_desk.proofs.KeptPlaces.{loose_handle, rehandles_keep, kept_of-insert, least_free}
-use Rattle.xa_desk.proofs.Counts.{free_place}
-use Rattle.xa_desk.proofs.Marked.{kept_past, clear_within, marks_set}
+use Rattle.xa_desk.proofs.Books.{books_rehandled, Rehandles, loose_handle, rehandles_keep, kept_of-insert, least_free}
+use Rattle.xa_desk.proofs.KeyRows.{keys_kept, kept_past, clear_within, marks_set}
+use Rattle.xa_desk.proofs.Ledgers.{free_place}
 use Rattle.xa_desk.proofs.book.Book.keep.Goals as goal
 use Rattle.xa_desk.proofs.book.Book.keep.Goals.{After-first_clear-place}
 
@@ -34,10 +31,9 @@ few c = grind (arith, within)
 
 pub first_clear-place-requires : goal.first_clear-place-requires
 first_clear-place-requires c =
-    let i = c.self.invariant in
-    let places = i.places in
-    let most = i.limits.handles in
-    kept_past c.self.inside.kept_marks c.self.inside.kept.items 63 i.kept_marks (omega arith)
+    let places = c.self.invariant.places in
+    let most = c.self.invariant.limits.handles in
+    kept_past c.self.inside.kept_marks c.self.inside.kept.items 63 c.self.invariant.kept_marks (omega arith)
 
 pub index_mut-requires : goal.index_mut-requires
 index_mut-requires c = search (arith, within, c.self.inside.kept.ok.0)
@@ -72,14 +68,12 @@ invariant_of-self c =
     record {
       books = books_rehandled c.self.inside.ledgers.items c.self.inside.slots c.enter_handle-is_ready.new.slots e.key e.slot (place + 1) old (set old place (Some c.args.operation)) (logged c.self.inside.drained.items) i.books e.found moves e.updates e.len;
       keys = keys_kept c.self.inside.ledgers.items c.self.inside.rows.items c.self.inside.slots c.enter_handle-is_ready.new.slots e.key e.slot _ i.keys e.found refl e.updates;
-      slots_used = rw e.len i.slots_used;
-      slots_room = rw e.capacity i.slots_room;
+      slots_room = rw (e.len, e.capacity) i.slots_room;
       places = length-set old place (Some c.args.operation) ∙ i.places;
       drained = i.drained;
       planned = i.planned;
       limits = i.limits;
       ends = i.ends;
-      ends_room = i.ends_room;
       kept_marks = marks_set is_some c.self.inside.kept_marks c.mark.new.self old place (Some c.args.operation) (within d) i.kept_marks c.mark.ensures.marked c.mark.ensures.others;
       ready_marks = marks_set (ready_with drained 0) c.self.inside.ready_marks c.mark_if.new.self old place (Some c.args.operation) (within d) i.ready_marks marked c.mark_if.ensures.others;
     }

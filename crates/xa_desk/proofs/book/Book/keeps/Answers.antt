@@ -1,5 +1,5 @@
 use Rattle.xa_base.proofs.{sym, ◌∙◌}
-use Rattle.xa_desk.proofs.Marked.{any_kept}
+use Rattle.xa_desk.proofs.KeyRows.{any_kept}
 use Rattle.xa_desk.proofs.book.Book.keeps.Goals as goal
 
 pub returns-clause-some : goal.returns-clause-some

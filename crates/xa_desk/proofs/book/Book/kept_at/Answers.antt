@@ -1,7 +1,6 @@
-use Rattle.xa_base.proofs.{◌-◌, None, subst, sym, ◌∙◌, arith}
-use Rattle.std.proofs.lemmas.List.{get_or_read}
+use Rattle.xa_base.proofs.{◌-◌, None, subst, sym, ◌∙◌, arith, get_or_read}
 use Rattle.xa_desk.specs.{IsOut, Operation}
-use Rattle.xa_desk.proofs.KeptPlaces.{IfSome_from, get-kept_of, get-kept_of_zero, get-kept_of_past}
+use Rattle.xa_desk.proofs.Books.{IfSome_from, get-kept_of, get-kept_of_zero, get-kept_of_past}
 use Rattle.xa_desk.proofs.book.Book.kept_at.Goals as goal
 
 pub returns-then-number-eq0-clause-kept : goal.returns-then-number-eq0-clause-kept

@@ -2,8 +2,7 @@ use Rattle.xa_base.proofs.{◌≡◌, ℕ, Some, ap, ◌∙◌, sym, refl, arith
 use Rattle.slab.specs.Slab.{Updates}
 use Rattle.xa_desk.specs.{Operation, with_sent, IsKnown, ledger, after_sent, logged, KeysView, with_key, row_of, IsBooks, AreKeys, LedgerView}
 use Rattle.xa_desk.proofs.Ledgers.{ledger-read, planned-put, length-put_ledger, sent_now_out}
-use Rattle.xa_desk.proofs.KeptPlaces.{loose_from_handle}
-use Rattle.xa_desk.proofs.Books.{books_sent, fresh_slot}
+use Rattle.xa_desk.proofs.Books.{loose_from_handle, books_sent, fresh_slot}
 use Rattle.xa_desk.proofs.KeyRows.{entered, keys_sent, row-read}
 use Rattle.xa_desk.proofs.book.Book.note_sent.Goals as goal
 use Rattle.xa_desk.proofs.book.Book.note_sent.Goals.{After-enter}
@@ -22,7 +21,7 @@ enter-requires c =
     let read = row-read c.self.inside.ledgers.items c.self.inside.rows.items m c.index_mut-row.result.now k.number is_known c.index_mut-row.ensures.value in
     let in_range = c.insert_reserved-key.ensures.key_in_range in
     let same = c.insert_reserved-key.ensures.capacity in
-    let few = c.self.invariant.slots_room.1 in
+    let few = c.self.invariant.slots_room.2 in
     record { room = rw read (omega arith); key = omega arith }
 
 known : (c : After-enter) → IsKnown c.self.inside.ledgers.items c.args.manager
@@ -72,14 +71,12 @@ invariant_of-self c =
     rw (written d, entering d) (record {
       books = books d;
       keys = keys d;
-      slots_used = omega arith;
-      slots_room = rw c.insert_reserved-key.ensures.capacity i.slots_room;
+      slots_room = (omega arith, rw c.insert_reserved-key.ensures.capacity i.slots_room.1, rw c.insert_reserved-key.ensures.capacity i.slots_room.2);
       places = i.places;
       drained = i.drained;
       planned = rw (planned-put at m (with_sent (ledger at m) c.args.op.now) (known d) refl) i.planned;
       limits = rw (length-put_ledger at m (with_sent (ledger at m) c.args.op.now)) i.limits;
       ends = i.ends;
-      ends_room = i.ends_room;
       kept_marks = i.kept_marks;
       ready_marks = i.ready_marks;
     })

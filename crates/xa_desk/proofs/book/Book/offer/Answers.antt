@@ -2,7 +2,7 @@ use Rattle.xa_base.proofs.{◌≡◌, ◌-◌, ◌<◌, List, [], ◌∷◌, ◌
 use Rattle.xa_words.specs.{Request}
 use Rattle.xa_lane.specs.{Sending, with_item, with_full}
 use Rattle.xa_desk.specs.{desk_of, after_sent, next_operation, logged, Sent, next_request}
-use Rattle.xa_lane.proofs.Senders.{at_place-set}
+use Rattle.xa_lane.proofs.Parcels.{at_place-set}
 use Rattle.xa_desk.proofs.book.Book.offer.Goals as goal
 
 pub returns-in-Err-clause-full : goal.returns-in-Err-clause-full

@@ -1,10 +1,8 @@
 use Rattle.xa_base.proofs.{◌-◌, None, is_some, set, ◌∙◌, refl, arith, nat_cmp, length-set}
 use Rattle.std.specs.FinMap as map
 use Rattle.xa_desk.specs.{logged, IsBooks, ready_with}
-use Rattle.xa_desk.proofs.Books.{books_rehandled, Rehandles}
-use Rattle.xa_desk.proofs.KeyRows.{keys_kept}
-use Rattle.xa_desk.proofs.KeptPlaces.{kept_place, KeptPlace, kept_handle, rehandles_release, kept_of-remove, loose_from_handle}
-use Rattle.xa_desk.proofs.Marked.{marks_set}
+use Rattle.xa_desk.proofs.Books.{books_rehandled, Rehandles, kept_place, KeptPlace, kept_handle, rehandles_release, kept_of-remove, loose_from_handle}
+use Rattle.xa_desk.proofs.KeyRows.{keys_kept, marks_set}
 use Rattle.xa_desk.proofs.book.Book.release.Goals as goal
 use Rattle.xa_desk.proofs.book.Book.release.Goals.{In_ok-operation, After-clear-2}
 
@@ -41,14 +39,12 @@ invariant_of-self c =
     record {
       books = books c;
       keys = keys_kept c.self.inside.ledgers.items c.self.inside.rows.items c.self.inside.slots c.enter_handle-was_ready.new.slots e.key e.slot _ i.keys e.found refl e.updates;
-      slots_used = rw e.len i.slots_used;
-      slots_room = rw e.capacity i.slots_room;
+      slots_room = rw (e.len, e.capacity) i.slots_room;
       places = length-set c.self.inside.kept.items (c.args.number - 1) None ∙ i.places;
       drained = i.drained;
       planned = i.planned;
       limits = i.limits;
       ends = i.ends;
-      ends_room = i.ends_room;
       kept_marks = marks_set is_some c.self.inside.kept_marks c.clear.new.self c.self.inside.kept.items (c.args.number - 1) None p.within i.kept_marks c.clear.ensures.cleared c.clear.ensures.others;
       ready_marks = marks_set (ready_with (logged c.self.inside.drained.items) 0) c.self.inside.ready_marks c.clear-2.new.self c.self.inside.kept.items (c.args.number - 1) None p.within i.ready_marks c.clear-2.ensures.cleared c.clear-2.ensures.others;
     }

@@ -1,6 +1,6 @@
 use Rattle.xa_base.proofs.{ap, sym, subst, arith}
 use Rattle.xa_desk.specs.{DeskView, outstanding, IsDesk}
-use Rattle.xa_desk.proofs.Fresh.{nothing_out}
+use Rattle.xa_desk.proofs.Books.{nothing_out}
 use Rattle.xa_desk.proofs.Ties.{tied_new}
 use Rattle.xa_desk.proofs.desk.Desk.assemble.Goals as goal
 

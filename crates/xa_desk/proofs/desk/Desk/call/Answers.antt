@@ -1,8 +1,7 @@
 use Rattle.xa_base.proofs.{◌≡◌, None, sym, subst, arith}
 use Rattle.xa_desk.specs.{call_refusal}
-use Rattle.xa_desk.proofs.Desks.{call_known, called_desk}
-use Rattle.xa_desk.proofs.GoingOn.{goes_called, collects_stays}
-use Rattle.xa_desk.proofs.Tickets.{called_leaves, leaves_seen}
+use Rattle.xa_desk.proofs.Ties.{call_known, called_desk}
+use Rattle.xa_desk.proofs.GoingOn.{goes_called, collects_stays, called_leaves, leaves_seen}
 use Rattle.xa_desk.proofs.desk.Desk.call.Goals as goal
 
 -- the slot beyond the handles is free again
@@ -20,11 +19,7 @@ invariant_of-self g c =
     (omega arith, stays.tied called.0)
 
 pub returns-clause-tied : goal.returns-clause-tied
-returns-clause-tied g c =
-    let sent = c.send_waiting-operation.ensures.sent in
-    let called =
-    called_desk _ _ sent.0 c.args.manager c.args.op.now (subst (λ d. None ≡ call_refusal d c.args.manager) (sym c.self.view_is) c.in_default.ensures) sent.1 c.self.invariant.1 in
-    (collects_stays _ _ _ _ c.wait_until.ensures.collected).tied called.0
+returns-clause-tied g c = (invariant_of-self g c).1
 
 pub returns-clause-goes_on : goal.returns-clause-goes_on
 returns-clause-goes_on g c =

@@ -1,4 +1,4 @@
-use Rattle.xa_desk.proofs.Tickets.{kept_leaves_by, others_seen}
+use Rattle.xa_desk.proofs.GoingOn.{kept_leaves_by, others_seen}
 use Rattle.xa_desk.proofs.desk.Desk.keep.Goals as goal
 
 pub returns-clause-others : goal.returns-clause-others

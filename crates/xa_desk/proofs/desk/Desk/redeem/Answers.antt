@@ -1,4 +1,4 @@
-use Rattle.xa_desk.proofs.Tickets.{released_leaves, leaves_seen}
+use Rattle.xa_desk.proofs.GoingOn.{released_leaves, leaves_seen}
 use Rattle.xa_desk.proofs.desk.Desk.redeem.Goals as goal
 
 pub returns-clause-tickets : goal.returns-clause-tickets

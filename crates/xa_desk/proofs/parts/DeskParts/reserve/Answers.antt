@@ -1,6 +1,6 @@
 use Rattle.xa_base.proofs.{arith, ◌≡◌, length, ◌∙◌, ap, length-map}
 use Rattle.xa_desk.specs.{new_ledger, carried}
-use Rattle.xa_desk.proofs.Begins.{carried-new}
+use Rattle.xa_desk.proofs.KeyRows.{carried-new}
 use Rattle.xa_desk.proofs.parts.DeskParts.reserve.Goals as goal
 use Rattle.xa_desk.proofs.parts.DeskParts.reserve.Goals.{In_ok-ends}
 

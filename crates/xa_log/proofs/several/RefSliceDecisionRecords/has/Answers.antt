@@ -1,6 +1,5 @@
-use Rattle.xa_base.proofs.{is_some, ap, sym, ◌∙◌, drop_all}
-use Rattle.std.proofs.lemmas.List.{drop_more}
-use Rattle.xa_log.proofs.SeveralLogs.{first_counts, no_log, others_count}
+use Rattle.xa_base.proofs.{is_some, ap, sym, ◌∙◌, drop_all, drop_more}
+use Rattle.xa_log.proofs.Transactions.{first_counts, no_log, others_count}
 use Rattle.xa_log.proofs.several.RefSliceDecisionRecords.has.Goals as goal
 
 pub returns-then-is_some : goal.returns-then-is_some

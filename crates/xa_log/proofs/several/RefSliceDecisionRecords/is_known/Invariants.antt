@@ -1,5 +1,4 @@
-use Rattle.xa_base.proofs.{drop, All}
-use Rattle.std.specs.Prelude.{◌↔◌}
+use Rattle.xa_base.proofs.{drop, All, ◌↔◌}
 use Rattle.xa_log.proofs.several.RefSliceDecisionRecords.is_known.Given as goal
 
 -- all are known where those are that are left

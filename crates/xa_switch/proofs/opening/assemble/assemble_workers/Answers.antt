@@ -11,11 +11,10 @@ assemble-requires c =
     let manager = next_of i.given c.in-Some.part c.next-in-loop-part.new.self c.in-Some-next.ensures.cases in
     let requests = next_of i.requests c.in-Some.part c.next-in-loop-part-2.new.self c.in-Some-next-2.ensures.cases in
     let senders = next_of i.senders c.in-Some.part c.next-in-loop-part-3.new.self c.in-Some-next-3.ensures.cases in
-    let m = c.in-Some-next.manager in
-    let fit = c.requires.fit.memory (length Y) c.in-Some.part m part manager.0 in
-    let asked = c.requires.fit.requests (length Y) m c.in-Some-next-2.requests manager.0 requests.0 in
+    let fit = c.requires.fit.memory (length Y) c.in-Some.part c.in-Some-next.manager part manager.0 in
+    let asked = c.requires.fit.requests (length Y) c.in-Some-next.manager c.in-Some-next-2.requests manager.0 requests.0 in
     let column = got_map (λ v. v.items) c.args.columns.items _ _ senders.0 in
-    let answered = c.requires.fit.completions (length Y) m c.in-Some-next-3.senders.items manager.0 column in
+    let answered = c.requires.fit.completions (length Y) c.in-Some-next.manager c.in-Some-next-3.senders.items manager.0 column in
     record { room = fit.0; threads = fit.1; requests = asked.0; lanes = answered.0; taken = asked.1; sent = answered.1 }
 
 pub loop-part-preserved : goal.loop-part-preserved

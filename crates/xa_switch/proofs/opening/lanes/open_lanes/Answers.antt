@@ -1,7 +1,6 @@
 use Rattle.xa_base.proofs.{◌+◌, map, vec_capacity, sym, subst, arith, length-map}
 use Rattle.xa_switch.specs.{put_row, AreNewLanes}
-use Rattle.xa_switch.proofs.Dealing.{room_more, room_stays}
-use Rattle.xa_switch.proofs.NewEnds.{length_senders, one_more_lane}
+use Rattle.xa_switch.proofs.Dealing.{room_more, room_stays, length_senders, one_more_lane}
 use Rattle.xa_switch.proofs.opening.lanes.open_lanes.Goals as goal
 
 pub deal-columns-requires-clause-row : goal.deal-columns-requires-clause-row

@@ -5,14 +5,11 @@ use Rattle.xa_switch.proofs.opening.layout.put_together.Goals as goal
 pub assemble_desks-desks-requires : goal.assemble_desks-desks-requires
 assemble_desks-desks-requires c =
     let is = c.requires.laid_out in
-    let threads = is.threads in
-    let wide = is.requests.wide in
-    let hears = is.completions.many in
     record {
       none = is.desks.0;
       room = is.desks.1;
-      columns = omega (arith, wide, threads, length-map c.args.layout.requests.columns.items (λ v. v.items));
-      receivers = omega (arith, hears, threads);
+      columns = omega (arith, is.requests.wide, is.threads, length-map c.args.layout.requests.columns.items (λ v. v.items));
+      receivers = omega (arith, is.completions.many, is.threads);
       fit = desks_fit c.args.layout c.args.managers.items is c.requires.many c.requires.new c.requires.begins;
     }
 

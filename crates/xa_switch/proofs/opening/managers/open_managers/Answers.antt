@@ -1,18 +1,13 @@
-use Rattle.xa_base.proofs.{◌≡◌, Bool, true, false, ◌+◌, [], ◌∷◌, ◌++◌, cond, Result, take, sym, ap, ◌∙◌, subst, arith, All, take_all}
+use Rattle.xa_base.proofs.{◌≡◌, true, false, ◌+◌, [], ◌∷◌, ◌++◌, cond, Result, take, sym, ap, ◌∙◌, subst, arith, All, take_all, both_ways, true_from_ne_false}
+use Rattle.xa_base.proofs.{All-more}
 use Rattle.std.proofs.Common.{is_ok, is_err}
-use Rattle.std.proofs.lemmas.Bool.{both_ways, true_from_ne_false}
 use Rattle.std.proofs.lemmas.List.{map_more}
-use Rattle.std.proofs.lemmas.List.Elements.{All-more}
 use Rattle.xa_switch.specs.{IsSoundManager, opened_by}
 use Rattle.xa_switch.proofs.opening.managers.open_managers.Goals as goal
 use Rattle.xa_switch.proofs.opening.managers.open_managers.Goals.{in-Ok+then-is_short, in-Ok+else-is_short, in-Err-NoMemory}
 
 fits : {T E : Type 0} (r : Result T E) → is_err r ≡ false → is_ok r ≡ true
 fits r e = grind arith
-
--- what can't fail to be true is true
-holds : (b : Bool) → ((b ≡ true → ⊥) → ⊥) → b ≡ true
-holds b never = true_from_ne_false b (λ f. never (both_ways b f))
 
 pub loop-plan-preserved : goal.loop-plan-preserved
 loop-plan-preserved c = record {
@@ -22,7 +17,7 @@ loop-plan-preserved c = record {
       elim c.match-open_manager.branch [
         | in-Ok+then-is_short w ↦ more w.in-Ok.ensures.sound
         | in-Ok+else-is_short w ↦ more w.in-Ok.ensures.sound
-        | in-Err-NoMemory w ↦ more (holds _ (λ no. let e = w.in-Err-NoMemory.ensures.bad.1 no in absurd (cc)))
+        | in-Err-NoMemory w ↦ search (arith, in-Err-NoMemory, w.in-Err-NoMemory.ensures.bad.1, true_from_ne_false, both_ways)
       ];
   opened = λ e.
       elim c.match-open_manager.branch [

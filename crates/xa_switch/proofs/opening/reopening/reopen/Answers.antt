@@ -1,17 +1,15 @@
-use Rattle.xa_base.proofs.{arith, ◌≡◌, ◌≤◌, map, sym, ap, ◌∙◌, subst, All, range_with_len}
-use Rattle.std.proofs.lemmas.List.FromFn.{length-map-range_with_len}
+use Rattle.xa_base.proofs.{arith, ◌≡◌, ◌≤◌, map, sym, ap, ◌∙◌, subst, All, range_with_len, length-map-range_with_len}
 use Rattle.xa_tables.specs.{Managed}
 use Rattle.xa_switch.specs.{setup, new_manager, AreOfOneOpening, ReadyPart, find_manager, last_in, managers_in, parts_of, reopened_at, Settling}
-use Rattle.xa_switch.proofs.AllThere.{find_parts}
+use Rattle.xa_switch.proofs.Agreeing.{find_parts}
 use Rattle.xa_switch.proofs.Lists.{some_of}
-use Rattle.xa_switch.proofs.NewManagers.{all_new, all_begin, tables_are}
+use Rattle.xa_switch.proofs.Meeting.{all_new, all_begin, tables_are}
 use Rattle.xa_switch.proofs.opening.reopening.reopen.Goals as goal
 
 pub reopen_managers-managers-requires-clause-there : goal.reopen_managers-managers-requires-clause-there
 reopen_managers-managers-requires-clause-there g c = λ m low high.
-    let s : Settling = c.args.settled in
     let new = c.reserve_managers.new.managers.items in
-    let within : m ≤ managers_in s = subst (λ n. m ≤ n) c.managers-many.ensures.managers high in
+    let within : m ≤ managers_in c.args.settled = subst (λ n. m ≤ n) c.managers-many.ensures.managers high in
     let there = c.settled.invariant.1.there m low (subst (λ (z : Settling). m ≤ managers_in z) (sym c.settled.view_is) within) in
     some_of (λ (r : ReadyPart). r.part) _ there.0 (sym (find_parts m new) ∙ ap (find_manager m) c.reserve_managers.ensures.parts ∙ there.1)
 

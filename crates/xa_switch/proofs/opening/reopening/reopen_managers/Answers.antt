@@ -1,21 +1,18 @@
-use Rattle.xa_base.proofs.{◌≡◌, ◌+◌, Some, option_map, ◌∙◌, arith, range_with_len, map-append, range_more, All-contains}
-use Rattle.std.proofs.lemmas.List.FromFn.{length-map-range_with_len}
+use Rattle.xa_base.proofs.{◌≡◌, ◌+◌, Some, option_map, ◌∙◌, arith, range_with_len, map-append, range_more, All-contains, length-map-range_with_len}
 use Rattle.xa_switch.specs.{ReadyPart, find_ready}
-use Rattle.xa_switch.proofs.AllThere.{find_parts}
+use Rattle.xa_switch.proofs.Agreeing.{find_parts}
 use Rattle.xa_switch.proofs.Lists.{found}
 use Rattle.xa_switch.proofs.opening.reopening.reopen_managers.Goals as goal
 
 pub take_manager-manager-requires : goal.take_manager-manager-requires
 take_manager-manager-requires c =
-    let k = c.loop-before.before in
-    let there = c.requires.there (k + 1) (omega arith) (omega arith) in
-    (there.0, c.loop-before.invariant.kept (k + 1) (omega arith) ∙ there.1)
+    let there = c.requires.there (c.loop-before.before + 1) (omega arith) (omega arith) in
+    (there.0, c.loop-before.invariant.kept (c.loop-before.before + 1) (omega arith) ∙ there.1)
 
 pub reopened-requires : goal.reopened-requires
 reopened-requires c =
-    let k = c.loop-before.before in
     let taken : ReadyPart = c.take_manager-manager.result in
-    let there : find_ready (k + 1) c.args.carried.items ≡ Some taken = search (arith, c.loop-before.invariant.kept) in
+    let there : find_ready (c.loop-before.before + 1) c.args.carried.items ≡ Some taken = search (arith, c.loop-before.invariant.kept) in
     All-contains (λ (r : ReadyPart). r.reserved ≡ Some (c.args.numbers.now.threads, c.args.room)) c.args.carried.items taken c.requires.reserved (found _ c.args.carried.items taken there).0
 
 pub push_reserved-requires : goal.push_reserved-requires

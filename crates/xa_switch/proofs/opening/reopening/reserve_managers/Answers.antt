@@ -1,6 +1,5 @@
-use Rattle.xa_base.proofs.{◌≡◌, Some, ◌∙◌, subst, sym, arith, take, All, length-set, take_all, All-push}
+use Rattle.xa_base.proofs.{◌≡◌, Some, ◌∙◌, subst, sym, arith, take, All, length-set, take_all, All-push, map-set_same}
 use Rattle.std.proofs.lemmas.List.{take_more_set}
-use Rattle.std.proofs.Math.Seq.{map-set_same}
 use Rattle.xa_switch.specs.{ReadyPart}
 use Rattle.xa_switch.proofs.opening.reopening.reserve_managers.Goals as goal
 

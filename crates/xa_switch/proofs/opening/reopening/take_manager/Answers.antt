@@ -1,7 +1,6 @@
-use Rattle.xa_base.proofs.{◌≡◌, ◌≢◌, Some, sym, ap, ◌∙◌, subst, arith, All, eq-eqb, ne_eqb, take_all, all_at, find_none, get_or_default}
-use Rattle.std.proofs.lemmas.List.Elements.{All-more}
+use Rattle.xa_base.proofs.{◌≡◌, ◌≢◌, Some, sym, ap, ◌∙◌, subst, arith, All, eq-eqb, ne_eqb, take_all, all_at, find_none, get_or_default, All-more}
 use Rattle.xa_switch.specs.{ReadyPart, find_ready}
-use Rattle.xa_switch.proofs.Retaken.{found_at, found_without}
+use Rattle.xa_switch.proofs.Lists.{found_at, found_without}
 use Rattle.xa_switch.proofs.opening.reopening.take_manager.Goals as goal
 
 pub returns-then-number : goal.returns-then-number

@@ -17,10 +17,9 @@ loop-before-preserved c =
     ∙ sym c.find_carried.ensures ∙ ap (option_map (λ m. m.now.part)) c.in-Some.is in
     let here : AreLeft xs.items (reopened_at s.managers (k + 1)) =
     subst (λ o. AreLeft xs.items (reopened (last_in o))) (sym found) (c.openings_begin_with_what_was_left.ensures.left xs.items part.last c.in_ok-left-in-Some.ensures) in
-    let counted = i.counted in
     let grown = ap (λ l. length l) c.push_reserved.ensures.items in
     record {
-      counted = omega (arith, counted, grown, length-append lists (xs ∷ []));
+      counted = omega (arith, i.counted, grown, length-append lists (xs ∷ []));
       room = c.push_reserved.ensures.capacity ∙ i.room;
       each = subst (λ l. Each (λ j l. AreLeft l (reopened_at s.managers (j + 1))) (map (λ x. x.items) l)) (sym c.push_reserved.ensures.items)
           (each_more (λ j l. AreLeft l (reopened_at s.managers (j + 1))) (λ x. x.items) lists xs i.each (subst (λ n. AreLeft xs.items (reopened_at s.managers (n + 1))) (sym i.counted) here));

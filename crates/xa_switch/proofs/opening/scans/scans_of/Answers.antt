@@ -4,16 +4,12 @@ use Rattle.xa_switch.proofs.opening.scans.scans_of.Goals as goal
 
 pub loop-preserved : goal.loop-preserved
 loop-preserved c =
-    let i = c.loop.invariant in
     let s = c.args.settled.now in
-    let scans = c.loop.scans.items in
-    let z = c.over.result in
     let shared = c.in_ok-try_clone.ensures ∙ c.in_ok-left.ensures.ok in
-    let is : IsScanOf s z = search (arith, rules) in
-    let counted = i.counted in
+    let is : IsScanOf s c.over.result = search (arith, rules) in
     let grown = ap (λ l. length l) c.push_reserved.ensures.items in
     record {
-      counted = omega (arith, counted, grown, length-append scans (z ∷ []));
-      room = c.push_reserved.ensures.capacity ∙ i.room;
-      each = subst (All (IsScanOf s)) (sym c.push_reserved.ensures.items) (All-push (IsScanOf s) scans z i.each is);
+      counted = omega (arith, c.loop.invariant.counted, grown, length-append c.loop.scans.items (c.over.result ∷ []));
+      room = c.push_reserved.ensures.capacity ∙ c.loop.invariant.room;
+      each = subst (All (IsScanOf s)) (sym c.push_reserved.ensures.items) (All-push (IsScanOf s) c.loop.scans.items c.over.result c.loop.invariant.each is);
     }

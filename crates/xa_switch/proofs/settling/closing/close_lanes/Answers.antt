@@ -1,7 +1,7 @@
-use Rattle.xa_base.proofs.{◌≡◌, ◌≢◌, ◌<◌, ℕ, suc, List, get_or, ◌∷◌, ◌++◌, length, map, arith, sym, subst, ap, ◌∙◌, All, AllPairs, into_iter_items, length-set}
-use Rattle.xa_base.proofs.{All-push, all_mid, taken_next}
+use Rattle.xa_base.proofs.{get_or-map as get_or-map', ◌≡◌, ◌≢◌, ◌<◌, ℕ, suc, List, get_or, ◌∷◌, ◌++◌, length, map, arith, sym, subst, ap, ◌∙◌, All, AllPairs}
+use Rattle.xa_base.proofs.{into_iter_items, length-set, All-push, all_mid, taken_next}
 use Rattle.xa_switch.specs.{column, IsClosable, IsClosed}
-use Rattle.xa_switch.proofs.Gathering.{pairs_mid, column_kept, column_at}
+use Rattle.xa_switch.proofs.Dealing.{pairs_mid, column_kept}
 use Rattle.xa_switch.proofs.settling.closing.close_lanes.Goals as goal
 
 -- the next receiver's column is there, and as it was
@@ -12,15 +12,14 @@ module _ {V X R : Type 0} (items : V → List X) (old now : List V) (all Y rest 
 
   same_column : (d : V) (left : List (ℕ × R)) → left ≡ x ∷ rest → All (λ r. column (map items now) r.0 ≡ column (map items old) r.0) left
       → items (get_or now x.0 d) ≡ column (map items old) x.0
-  same_column d left next same = grind (arith, column_at, below)
+  same_column d left next same = grind (arith, get_or-map', below)
 
 pub index_mut-column-requires : goal.index_mut-column-requires
 index_mut-column-requires g c =
     let i = c.loop-place.invariant in
     let whole = sym c.into_iter-place-iterator.ensures.into_iter_gives.0 ∙ sym i.so_far ∙ ap (λ l. c.loop-place.yielded ++ l) c.in-Some.ensures.steps.0 in
     let low = below (λ v. v.items) c.args.columns.items _ _ _ _ (c.in-Some.place, c.in-Some.receiver) whole i.many c.requires.places in
-    let ok = c.loop-place.columns.ok in
-    omega (arith, low, ok)
+    omega (arith, low, c.loop-place.columns.ok)
 
 pub close-requires : goal.close-requires
 close-requires g c =

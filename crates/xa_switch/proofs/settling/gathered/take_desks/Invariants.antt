@@ -1,7 +1,7 @@
 use Rattle.xa_base.proofs.{All, into_iter_items}
 use Rattle.xa_desk.specs.{IsEnded}
 use Rattle.xa_switch.specs.{desk_lane, thread_part}
-use Rattle.xa_switch.proofs.Gathering.{Gathers}
+use Rattle.xa_switch.proofs.Dealing.{Gathers}
 use Rattle.xa_switch.proofs.settling.gathered.take_desks.Given as goal
 
 abbrev pub invariant-loop-desk : goal.invariant-loop-desk

@@ -1,12 +1,10 @@
 use Rattle.xa_base.proofs.{◌≡◌, ◌<◌, ℕ, length, ◌≤◌, refl, sym, ap, ◌∙◌, subst, arith, List, ◌+◌, vec_capacity, All, slice_index_or, [], ◌+ℤ◌, set, length-set}
 use Rattle.xa_base.proofs.{length-map, from_entries}
 use Rattle.std.specs.FinMap as finmap
-use Rattle.xa_words.specs.Orders.{key_cmp}
 use Rattle.xa_tables.specs.{Account, touch_cmp, is_broken, has_other_touched, sum_of, AreDistinct, AreIndexed, IsGood, value_entries, hold_entries, added_to}
 use Rattle.xa_tables.specs.{key_at, keys_of, AreHeld}
-use Rattle.xa_tables.proofs.HeldLemmas.{held_noted, note_room}
+use Rattle.xa_tables.proofs.PlaceLemmas.{held_noted, note_room, key_there, indexed_set}
 use Rattle.xa_tables.proofs.AccountLemmas.{IsFor, for_place, values_set, sums_added, others_added, distinct_added, all_added}
-use Rattle.xa_tables.proofs.PlaceLemmas.{key_there, indexed_set}
 use Rattle.xa_tables.proofs.accounts.Accounts.add.Goals as goal
 use Rattle.xa_tables.proofs.accounts.Accounts.add.Goals.{After-index-account}
 
@@ -37,13 +35,12 @@ invariant_of-self c =
     let inside = within ((goal.at.invariant_of-self c).After-index-account) in
     let i = c.args.place in
     let a = c.index-account.result.now in
-    let x = c.args.xid.now in
-    let b : Account = added_to a x c.args.delta in
+    let b : Account = added_to a c.args.xid.now c.args.delta in
     subst (λ (as1 : List Account). AreDistinct as1 × All (IsGood (c.self.inside.adds + 1)) as1 × AreIndexed c.self.inside.places.places as1
     × AreHeld c.note.new.held.items as1 × (length as1 ≤ vec_capacity c.note.new.held))
     (sym (ap (set items i) c.with_added.ensures.added)) (
-      distinct_added items i a x c.args.delta c.self.invariant.0 inside c.index-account.ensures,
-      all_added c.self.inside.adds i a x c.args.delta items c.with_added.ensures.valid inside c.index-account.ensures c.self.invariant.1,
+      distinct_added items i a c.args.xid.now c.args.delta c.self.invariant.0 inside c.index-account.ensures,
+      all_added c.self.inside.adds i a c.args.xid.now c.args.delta items c.with_added.ensures.valid inside c.index-account.ensures c.self.invariant.1,
       indexed_set c.self.inside.places.places items i a b inside c.index-account.ensures refl c.self.invariant.2,
       subst (λ (ps : List ℕ). AreHeld ps (set items i b)) (sym c.note.ensures.places)
           (held_noted c.self.inside.held.items items i a b c.self.invariant.3 inside c.index-account.ensures refl),

@@ -2,7 +2,7 @@ use Rattle.xa_base.proofs.{arith, ◌≡◌, ◌++◌, refl, ap, ◌∙◌, leng
 use Rattle.xa_words.specs.Orders.{key_cmp}
 use Rattle.xa_tables.specs.{touch_cmp, is_broken, sums_without, value_entries, hold_entries, kept_where, all_but, is_held_at}
 use Rattle.xa_tables.proofs.AccountLemmas.{written_whole, kept_goes, sums_go, values_kept, others_as_were, forgotten_breaks, all_kept}
-use Rattle.xa_tables.proofs.HeldLemmas.{accounts_kept}
+use Rattle.xa_tables.proofs.PlaceLemmas.{accounts_kept}
 use Rattle.xa_tables.proofs.accounts.Accounts.forget.Goals as goal
 
 -- each of the accounts was changed

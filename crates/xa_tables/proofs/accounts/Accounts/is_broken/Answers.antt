@@ -1,7 +1,7 @@
-use Rattle.xa_base.proofs.{arith, rules, sym, ap, ◌∙◌, list_any}
+use Rattle.xa_base.proofs.{rules, sym, ap, ◌∙◌, list_any}
 use Rattle.xa_tables.specs.{is_broken, is_broken_by}
 use Rattle.xa_tables.proofs.AccountLemmas.{broken_any}
-use Rattle.xa_tables.proofs.HeldLemmas.{broken_held}
+use Rattle.xa_tables.proofs.PlaceLemmas.{broken_held}
 use Rattle.xa_tables.proofs.accounts.Accounts.is_broken.Goals as goal
 
 pub returns : goal.returns

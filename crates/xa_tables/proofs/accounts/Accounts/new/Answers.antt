@@ -1,10 +1,8 @@
-use Rattle.xa_base.proofs.{◌≡◌, ℕ, List, ◌++◌, ◌∷◌, [], sym, ap, ◌∙◌, subst, arith, length, map, None, w64, to_z-of_z, ints, All, get-empty, take_all}
-use Rattle.xa_base.proofs.{length-map}
+use Rattle.xa_base.proofs.{◌≡◌, ℕ, List, ◌++◌, ◌∷◌, [], sym, ap, ◌∙◌, subst, arith, length, map, to_z-of_z, All, get-empty, take_all, length-map}
 use Rattle.std.specs.FinMap as finmap
 use Rattle.xa_words.specs.Orders.{key_cmp}
 use Rattle.xa_tables.specs.{Account, AreDistinct, AreIndexed, IsGood, AreHeld}
-use Rattle.xa_tables.proofs.HeldLemmas.{held_declared}
-use Rattle.xa_tables.proofs.PlaceLemmas.{account_of, indexed_push, distinct_declared, good_declared, declared_more, length_declared}
+use Rattle.xa_tables.proofs.PlaceLemmas.{held_declared, account_of, indexed_push, distinct_declared, good_declared, declared_more, length_declared}
 use Rattle.xa_tables.proofs.accounts.Accounts.new.Goals as goal
 
 pub loop-place-init : goal.loop-place-init

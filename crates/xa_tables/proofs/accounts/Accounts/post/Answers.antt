@@ -2,7 +2,7 @@ use Rattle.xa_base.proofs.{arith, ◌≡◌, ◌++◌, refl, sym, ap, ◌∙◌,
 use Rattle.xa_words.specs.Orders.{key_cmp}
 use Rattle.xa_tables.specs.{touch_cmp, is_broken, sums_without, value_entries, hold_entries, posted_by, is_broken_by, all_but, is_held_at}
 use Rattle.xa_tables.proofs.AccountLemmas.{written_whole, posted_goes, sums_go, values_posted, others_as_were, settled_breaks, all_posted, broken_any}
-use Rattle.xa_tables.proofs.HeldLemmas.{accounts_kept}
+use Rattle.xa_tables.proofs.PlaceLemmas.{accounts_kept}
 use Rattle.xa_tables.proofs.accounts.Accounts.post.Goals as goal
 
 pub post_all-requires-clause-whole : goal.post_all-requires-clause-whole

@@ -1,4 +1,4 @@
-use Rattle.xa_base.proofs.{arith, sym, ap, ◌∙◌, pos, Some, option_map, get-from_entries}
+use Rattle.xa_base.proofs.{sym, ap, ◌∙◌, pos, Some, option_map, get-from_entries}
 use Rattle.std.specs.FinMap as finmap
 use Rattle.xa_words.specs.{key_cmp_total}
 use Rattle.xa_tables.specs.{value_entries}

@@ -1,6 +1,6 @@
-use Rattle.xa_base.proofs.{arith, rules, refl, sym, ap, subst, is_some}
+use Rattle.xa_base.proofs.{refl, sym, ap, subst, is_some}
 use Rattle.xa_tables.specs.{AreAssociationsLive, RollbackOnly, Transient}
-use Rattle.xa_tables.proofs.SoundLemmas.{sound_put, sound_others, unvoted, written, unwritten}
+use Rattle.xa_tables.proofs.SoundLemmas.{sound_put, sound_others, unvoted}
 use Rattle.xa_tables.proofs.branch_tables.BranchTables.add.Goals as goal
 
 pub unreachable-requires : goal.unreachable-requires
@@ -10,24 +10,12 @@ unreachable-requires c =
     let missing = ap is_some (rw c.in_default-state_mut.is at c.state_mut.ensures.value) in
     cc
 
-pub invariant_of-self : goal.invariant_of-self
-invariant_of-self c = rw (unwritten _ _ _ c.in-Some-state_mut.is c.state_mut.follows.holds c.in-Some-state_mut.ensures.value) c.self.invariant
-
-pub returns-in-RollbackOnly : goal.returns-in-RollbackOnly
-returns-in-RollbackOnly c = search (rules, unwritten _ _ _ c.in-Some-state_mut.is c.state_mut.follows.holds c.in-Some-state_mut.ensures.value)
-
 pub invariant_of-self-then-has_other_touched : goal.invariant_of-self-then-has_other_touched
 invariant_of-self-then-has_other_touched c =
-    sound_put _ _ _ _ _ _ _ _ (ap (λ b. b.states) (written _ _ _ c.in-Some-state_mut.is c.state_mut.follows.holds (RollbackOnly Transient))) (λ e. cc) (λ y apart. refl) c.self.invariant
-
-pub returns-then-has_other_touched : goal.returns-then-has_other_touched
-returns-then-has_other_touched c = search (rules, written _ _ _ c.in-Some-state_mut.is c.state_mut.follows.holds (RollbackOnly Transient))
+    sound_put _ _ _ _ _ _ _ _ (ap (λ b. b.states) (c.state_mut.follows.holds (RollbackOnly Transient) _ c.in-Some-state_mut.is).0) (λ e. cc) (λ y apart. refl) c.self.invariant
 
 pub invariant_of-self-2 : goal.invariant_of-self-2
 invariant_of-self-2 c =
     let live = subst (λ b. AreAssociationsLive b.tables) (sym c.self.view_is) c.requires.live in
-    let same = unwritten _ _ _ c.in-Some-state_mut.is c.state_mut.follows.holds c.in-Some-state_mut.ensures.value in
+    let same = (c.state_mut.follows.holds _ _ c.in-Some-state_mut.is).1 (sym c.in-Some-state_mut.ensures.value) in
     rw same (sound_others _ _ _ _ _ _ (unvoted _ (live c.args.t c.in-Some.association.now (sym c.in-Some.ensures)).1) c.add.ensures.others c.self.invariant)
-
-pub returns : goal.returns
-returns c = search (rules, unwritten _ _ _ c.in-Some-state_mut.is c.state_mut.follows.holds c.in-Some-state_mut.ensures.value)

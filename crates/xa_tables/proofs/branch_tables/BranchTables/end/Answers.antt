@@ -1,6 +1,6 @@
-use Rattle.xa_base.proofs.{arith, rules, refl, sym, ap, subst, is_some}
+use Rattle.xa_base.proofs.{refl, sym, ap, subst, is_some}
 use Rattle.xa_tables.specs.{AreAssociationsLive, Idle, RollbackOnly, Failed}
-use Rattle.xa_tables.proofs.SoundLemmas.{sound_put, there_as, written, unwritten}
+use Rattle.xa_tables.proofs.SoundLemmas.{sound_put, there_as}
 use Rattle.xa_tables.proofs.branch_tables.BranchTables.end.Goals as goal
 
 pub unreachable-requires : goal.unreachable-requires
@@ -10,35 +10,10 @@ unreachable-requires c =
     let missing = ap is_some (rw c.in_default-state_mut.is at c.state_mut.ensures.value) in
     cc
 
-pub invariant_of-self : goal.invariant_of-self
-invariant_of-self c = rw (unwritten _ _ _ c.in-Some-state_mut.is c.state_mut.follows.holds c.in-Some-state_mut.ensures.value) c.self.invariant
-
-pub returns-in-RollbackOnly : goal.returns-in-RollbackOnly
-returns-in-RollbackOnly c = search (rules, unwritten _ _ _ c.in-Some-state_mut.is c.state_mut.follows.holds c.in-Some-state_mut.ensures.value)
-
-pub invariant_of-self-in-Suspend : goal.invariant_of-self-in-Suspend
-invariant_of-self-in-Suspend c = rw (unwritten _ _ _ c.in-Some-state_mut.is c.state_mut.follows.holds c.in-Some-state_mut.ensures.value) c.self.invariant
-
-pub returns-in-Suspend : goal.returns-in-Suspend
-returns-in-Suspend c = search (rules, unwritten _ _ _ c.in-Some-state_mut.is c.state_mut.follows.holds c.in-Some-state_mut.ensures.value)
-
-pub invariant_of-self-then-is_somebody_associated : goal.invariant_of-self-then-is_somebody_associated
-invariant_of-self-then-is_somebody_associated c =
-    rw (unwritten _ _ _ c.in-Some-state_mut.is c.state_mut.follows.holds c.in-Some-state_mut.ensures.value) c.self.invariant
-
-pub returns-then-is_somebody_associated : goal.returns-then-is_somebody_associated
-returns-then-is_somebody_associated c = search (rules, unwritten _ _ _ c.in-Some-state_mut.is c.state_mut.follows.holds c.in-Some-state_mut.ensures.value)
-
 pub invariant_of-self-in-Fail : goal.invariant_of-self-in-Fail
 invariant_of-self-in-Fail c =
-    sound_put _ _ _ _ _ _ _ _ (ap (λ b. b.states) (written _ _ _ c.in-Some-state_mut.is c.state_mut.follows.holds (RollbackOnly Failed))) (λ e. cc) (λ y apart. refl) c.self.invariant
-
-pub returns-in-Fail : goal.returns-in-Fail
-returns-in-Fail c = search (rules, written _ _ _ c.in-Some-state_mut.is c.state_mut.follows.holds (RollbackOnly Failed))
+    sound_put _ _ _ _ _ _ _ _ (ap (λ b. b.states) (c.state_mut.follows.holds (RollbackOnly Failed) _ c.in-Some-state_mut.is).0) (λ e. cc) (λ y apart. refl) c.self.invariant
 
 pub invariant_of-self-in-Success : goal.invariant_of-self-in-Success
 invariant_of-self-in-Success c =
-    sound_put _ _ _ _ _ _ _ _ (ap (λ b. b.states) (written _ _ _ c.in-Some-state_mut.is c.state_mut.follows.holds Idle)) (λ e. cc) (λ y apart. refl) c.self.invariant
-
-pub returns-else-is_somebody_associated : goal.returns-else-is_somebody_associated
-returns-else-is_somebody_associated c = search (rules, written _ _ _ c.in-Some-state_mut.is c.state_mut.follows.holds Idle)
+    sound_put _ _ _ _ _ _ _ _ (ap (λ b. b.states) (c.state_mut.follows.holds Idle _ c.in-Some-state_mut.is).0) (λ e. cc) (λ y apart. refl) c.self.invariant

@@ -1,6 +1,5 @@
-use Rattle.xa_base.proofs.{arith, ◌++◌, ap, append-nil, sym, rules, ◌∙◌, ◌≡◌, Some, Bool, subst, filter, Option, is_some, IsDistinct, list_any, get-lookup}
+use Rattle.xa_base.proofs.{arith, ap, append-nil, sym, ◌∙◌, ◌≡◌, Some, Bool, filter, Option, is_some, list_any, get-lookup, keys_of, lookup}
 use Rattle.std.specs.FinMap as map
-use Rattle.std.specs.Map.{keys_of, lookup}
 use Rattle.std.proofs.lemmas.List.Sorted.{list_any-IsPermutation}
 use Rattle.std.proofs.lemmas.Map.Keys.{IsDistinct-IsPermutation}
 use Rattle.std.proofs.lemmas.Map.Made.{IsDistinct-keys_filter, is_some-lookup}

@@ -1,5 +1,4 @@
-use Rattle.xa_base.proofs.{◌≡◌, ◌++◌, Some, filter}
-use Rattle.std.specs.Map.{keys_of}
+use Rattle.xa_base.proofs.{◌≡◌, ◌++◌, Some, filter, keys_of}
 use Rattle.xa_tables.specs.{is_left_in}
 use Rattle.xa_tables.proofs.branches.Branches.left.Given as goal
 

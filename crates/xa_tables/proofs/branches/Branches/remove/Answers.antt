@@ -1,4 +1,4 @@
-use Rattle.xa_base.proofs.{arith, ap, ◌∙◌, one_removed}
+use Rattle.xa_base.proofs.{ap, ◌∙◌, one_removed}
 use Rattle.std.specs.FinMap as map
 use Rattle.xa_words.specs.{xid_eq, xid_cmp_total, xid_cmp-IsAntisymmetric, xid_eq-by_cmp}
 use Rattle.xa_tables.proofs.branches.Branches.remove.Goals as goal

@@ -1,4 +1,4 @@
-use Rattle.xa_base.proofs.{arith, ap, ◌∙◌, reordered}
+use Rattle.xa_base.proofs.{ap, ◌∙◌, reordered}
 use Rattle.xa_words.specs.{xid_eq, xid_cmp_total, xid_cmp-IsAntisymmetric, xid_eq-by_cmp}
 use Rattle.xa_tables.proofs.branches.Branches.reserve.Goals as goal
 

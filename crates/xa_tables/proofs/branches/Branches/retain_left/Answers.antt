@@ -1,4 +1,4 @@
-use Rattle.xa_base.proofs.{arith, ap, refl, rules, ◌∙◌, Some, retained, kept_by_value}
+use Rattle.xa_base.proofs.{ap, refl, rules, ◌∙◌, Some, retained, kept_by_value}
 use Rattle.std.specs.FinMap as map
 use Rattle.xa_words.specs.{xid_eq, xid_cmp_total, xid_cmp-IsAntisymmetric, xid_eq-by_cmp}
 use Rattle.xa_tables.specs.{is_left_in}

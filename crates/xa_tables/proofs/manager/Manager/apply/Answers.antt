@@ -1,7 +1,7 @@
 use Rattle.xa_base.proofs.{◌+◌, ◌*◌, ◌≤◌, rules, sym, ap, subst, arith}
 use Rattle.xa_tables.specs.{Tables, AreAssociationsLive, free_threads, places_taken, Answer}
 use Rattle.xa_tables.proofs.Law.{live_after}
-use Rattle.xa_tables.proofs.FreeThreads.{places_paid}
+use Rattle.xa_tables.proofs.ThreadLemmas.{places_paid}
 use Rattle.xa_tables.proofs.manager.Manager.apply.Goals as goal
 
 pub invariant_of-self : goal.invariant_of-self

@@ -1,9 +1,8 @@
-use Rattle.xa_base.proofs.{◌≡◌, Some, rules, sym, ap, subst, ◌∙◌, arith, nat_cmp}
+use Rattle.xa_base.proofs.{◌≡◌, Some, rules, sym, ap, subst, ◌∙◌, arith, nat_cmp, contains-empty}
 use Rattle.std.specs.FinSet as set
-use Rattle.std.specs.FinSet.{contains-empty}
 use Rattle.xa_tables.specs.{Tables, AreAssociationsLive}
 use Rattle.xa_tables.proofs.Law.{live_opening}
-use Rattle.xa_tables.proofs.FreeThreads.{none_free}
+use Rattle.xa_tables.proofs.ThreadLemmas.{none_free}
 use Rattle.xa_tables.proofs.Reopening.{reopens}
 use Rattle.xa_tables.proofs.manager.Manager.reopened.Goals as goal
 

@@ -1,4 +1,4 @@
-use Rattle.xa_base.proofs.{arith, ap, sym, ◌∙◌, get-lookup}
+use Rattle.xa_base.proofs.{ap, sym, ◌∙◌, get-lookup}
 use Rattle.std.specs.FinMap as map
 use Rattle.xa_words.specs.{key_eq, key_cmp_total, key_cmp-IsAntisymmetric, key_eq-by_cmp}
 use Rattle.xa_tables.proofs.places.Places.get.Goals as goal

@@ -1,7 +1,5 @@
-use Rattle.std.specs.Cmp.Lexicographic.{slice_cmp}
-use Rattle.xa_base.proofs.{w32, nat_cmp, ◌∙◌, rules, to_z-of_z}
+use Rattle.xa_base.proofs.{slice_cmp, w32, nat_cmp, ◌∙◌, rules, to_z-of_z, int_cmp, ordering_then}
 use Rattle.std.specs.Int.RustNames.{FitsSigned}
-use Rattle.std.specs.Ordering.{int_cmp, ordering_then}
 use Rattle.xa_words.specs.NumberBytes.{number_of}
 use Rattle.xa_words.proofs.XidFields.{fields_are}
 use Rattle.xa_words.proofs.xid.XidOrd.cmp.Goals as goal

@@ -1,6 +1,6 @@
 use Rattle.xa_base.proofs.{subst}
 use Rattle.xa_worker.specs.{IsServed}
-use Rattle.xa_worker.proofs.Orders.{ordered}
+use Rattle.xa_worker.proofs.Lanes.{ordered}
 use Rattle.xa_worker.proofs.done.DoneWorker.apart.Goals as goal
 
 pub returns-clause-ordered : goal.returns-clause-ordered

@@ -1,5 +1,4 @@
-use Rattle.xa_base.proofs.{length, ap, arith}
-use Rattle.xa_worker.specs.Outgoing.{Outgoing}
+use Rattle.xa_base.proofs.{arith}
 use Rattle.xa_worker.proofs.outbox.Outbox.put.Goals as goal
 
 pub invariant_of-self : goal.invariant_of-self

@@ -1,9 +1,8 @@
-use Rattle.xa_base.proofs.{arith, map, sym, ap, subst, ◌∙◌, refl, append-nil, []}
+use Rattle.xa_base.proofs.{map, sym, ap, subst, ◌∙◌, refl, append-nil, []}
 use Rattle.xa_lane.specs.{but_full}
 use Rattle.xa_worker.specs.{IsFinished, working_of}
 use Rattle.xa_worker.proofs.Lanes.{lanes_alike}
-use Rattle.xa_worker.proofs.Seated.{served_keeps}
-use Rattle.xa_worker.proofs.Ties.{served_by}
+use Rattle.xa_worker.proofs.Ties.{served_keeps, served_by}
 use Rattle.xa_worker.proofs.worker.Worker.end.Goals as goal
 
 pub new-requires-clause-served : goal.new-requires-clause-served

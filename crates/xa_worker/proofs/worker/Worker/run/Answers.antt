@@ -1,7 +1,5 @@
 use Rattle.xa_base.proofs.{◌∙◌}
-use Rattle.xa_worker.proofs.Paced.{unpaced, paces_on}
-use Rattle.xa_worker.proofs.Seated.{stepped_keeps}
-use Rattle.xa_worker.proofs.Ties.{same-chain, extends-chain, stepped-extends}
+use Rattle.xa_worker.proofs.Ties.{unpaced, paces_on, stepped_keeps, same-chain, extends-chain, stepped-extends}
 use Rattle.xa_worker.proofs.worker.Worker.run.Goals as goal
 
 pub loop-preserved : goal.loop-preserved

@@ -3,11 +3,8 @@ use Rattle.xa_lane.specs.{has_ended}
 use Rattle.xa_tables.specs.{Managed}
 use Rattle.xa_worker.specs.{completion_of, entry_next, Puts, SameLanes, Asking, IsUnfit, working_of}
 use Rattle.xa_worker.specs.Outgoing.{Outgoing}
-use Rattle.xa_worker.proofs.Kept.{unentered}
+use Rattle.xa_worker.proofs.Ties.{unentered, marked_end, ended_item, took_as, stepped_keeps, tied_out, tied_nothing, tied_end, tied_hold, tied_carried, stepped}
 use Rattle.xa_worker.proofs.Lanes.{lanes_flush, lanes-puts, lanes-chain, length-lanes}
-use Rattle.xa_worker.proofs.Parcels.{marked_end, ended_item, took_as}
-use Rattle.xa_worker.proofs.Seated.{stepped_keeps}
-use Rattle.xa_worker.proofs.Ties.{tied_out, tied_nothing, tied_end, tied_hold, tied_carried, stepped}
 use Rattle.xa_worker.proofs.worker.Worker.step.Goals as goal
 use Rattle.xa_worker.proofs.worker.Worker.step.Goals.{then-request-parcel-via-then-request-parcel, then-request-parcel-via-else-request-parcel+then-room-eq0}
 
@@ -134,11 +131,10 @@ returns-then-request-parcel-clause-tied g c =
 
 pub carry_out-requires-clause-lanes : goal.carry_out-requires-clause-lanes
 carry_out-requires-clause-lanes g c =
-    let i = c.self.invariant in
     let lanes : SameLanes c.self.inside.out.senders c.flush.new.self.senders =
     lanes_flush c.flush.result c.self.inside.out c.flush.new.self c.flush.ensures.flushed in
     let count : length c.flush.new.self.senders ≡ length c.self.inside.out.senders = length-lanes c.self.inside.out.senders c.flush.new.self.senders lanes in
-    omega (arith, count, i.tied.lanes)
+    omega (arith, count, c.self.invariant.tied.lanes)
 
 pub invariant_of-self-in-Some-item : goal.invariant_of-self-in-Some-item
 invariant_of-self-in-Some-item g c =

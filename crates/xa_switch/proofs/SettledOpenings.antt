@@ -1,0 +1,297 @@
+-- What a settled opening has: its journals, its ledgers, the setup that it was made with, and what all accounts are worth.
+use Rattle.xa_base.proofs.{arith, option_map, same_Some, ◌≡◌, ℕ, ◌==◌, List, [], ◌∷◌, sym, refl, ap, ◌∙◌, subst, Option, Some, None, All-contains, ◌≢◌, suc}
+use Rattle.xa_base.proofs.{true, false, map, get_or, inl, inr, eq-eqb, AllPairs, Contains, get_or_default, eqb-true, ◌+◌, ◌<◌, length, slice_get, All}
+use Rattle.xa_base.proofs.{range_with_len, slice_get_within, contains_at, got, was_mapped, rules, ℤ, pos, ◌+ℤ◌, unwrap_or, zero, Bool, filter, All-nil}
+use Rattle.xa_base.proofs.{All-cons, ◌-◌, ◌≤◌, cond, if◌then◌else◌, eqb-false, length-range_with_len, get_or-range_with_len, +ℤ_idl as none_plus}
+use Rattle.xa_base.proofs.{+ℤ_idr as plus_none, total_same, total_alike, total_both, total_nothing, total_across, range_all, got_map, cases_eq, ne_eqb}
+use Rattle.xa_base.proofs.{cases_order, IsPermutation, IsPermutation-sym, IsPermutation-map, Contains-permutation, All-permutation}
+use Rattle.xa_tables.specs.{Tables, next, coded, codes, opening, IsNew, ValueIsSum, left_by, History, value_of, are_accounts, of_thread, tables_after}
+use Rattle.xa_tables.specs.{worth_declared, moved, moved_by as moved_by_request, is_any, is_of, WorthIsMoved}
+use Rattle.xa_words.specs.Orders.{key_cmp}
+use Rattle.xa_tables.proofs.Reopening.{new_opens, accounts_new}
+use Rattle.xa_worker.specs.{Entry, requests, codes_in, Served, WorkerView}
+use Rattle.xa_switch.specs.{ManagerPart, FollowsTables, IsSettled, find_manager, IsOpenedWith, IsSumOver, first_of, history, Settling, AreApartDesks}
+use Rattle.xa_switch.specs.{AreApartWorkers, ComeFromOpenings, AreOfOne, desk_seats, worker_seats, seat_of_ended, seat_of_done, settling, thread_part}
+use Rattle.xa_switch.specs.{manager_part, ledgers_in, journal_in, journal, ledgers_of, Each, IsOf, Setup, AreOfOneOpening, IsNewDesk, IsNewWorker, DeskSeat}
+use Rattle.xa_switch.specs.{WorkerSeat, seat_of_desk, seat_of_worker, first_opening, AreAll, ThreadPart, ManagerPlan, Plan, IsSoundManager, IsOfPlan}
+use Rattle.xa_switch.specs.{find_thread, value, threads_of, managers_of, accounts_in, accounts_of, plan_worth, moved_at, WorthIsOfThreads}
+use Rattle.xa_switch.proofs.Lists.{found, some_of, searched, fails_each, pairs_at, all_map, contains_map, get_contained}
+use Rattle.std.specs.List.{find}
+use Rattle.xa_desk.specs.{EndedView, DeskView, numbered}
+use Rattle.std.proofs.lemmas.Simd.{map-map as map_map}
+use Rattle.xa_words.specs.{Completion, Request}
+use Rattle.xa_lane.specs.{Receiving}
+use Rattle.xa_base.specs.{total}
+use Rattle.std.specs.FinMap as finmap
+
+-- ---- a settled journal is what the tables at the opening make of its requests
+
+-- entries with the codes of their places
+coded_by : (J : List Entry) (T : Tables) → codes_in J ≡ codes (requests J) T → J ≡ coded (requests J) T
+coded_by [] T e = refl
+coded_by (x ∷ J) T e =
+    let first : x.1 ≡ (next x.0.thread x.0.op T).1 = cc in
+    let rest : codes_in J ≡ codes (requests J) (next x.0.thread x.0.op T).0 = cc in
+    λ i. (x.0, first i) ∷ coded_by J (next x.0.thread x.0.op T).0 rest i
+
+-- the tables that a manager began with
+pub follows_part : (s : Settling) (m : ℕ) (p : ManagerPart) → find_manager m s.managers ≡ Some p → IsSettled s → IsOpenedWith s m p.first
+follows_part s m p e h =
+    let f : FollowsTables p = All-contains FollowsTables s.managers p h.tables (found (λ q. q.number == m) s.managers p e).0 in
+    search (arith, coded_by, p.journal, p.first)
+
+follows_in : (s : Settling) (m : ℕ) (o : Option ManagerPart) → find_manager m s.managers ≡ o → IsSettled s → (T : Tables) × IsOpenedWith s m T
+follows_in s m None e h = (
+  opening [],
+  record {
+    opened = new_opens (opening []) (accounts_new []);
+    codes = rw e;
+    fates = λ x g. rw e;
+    values = λ k. rw e (sym (finmap.get-empty key_cmp k));
+  },
+)
+follows_in s m (Some p) e h = (p.first, follows_part s m p e h)
+
+pub follows : (s : Settling) (m : ℕ) → IsSettled s → (T : Tables) × IsOpenedWith s m T
+follows s m h = follows_in s m (find_manager m s.managers) refl h
+
+-- there is one that began with these
+pub begun : (s : Settling) (m : ℕ) (T : Tables) → first_of s m ≡ Some T → (p : ManagerPart) × (find_manager m s.managers ≡ Some p) × (p.first ≡ T)
+begun s m T is =
+    let (p, there) = some_of (λ (q : ManagerPart). q.first) (find_manager m s.managers) T is in
+    (p, there, same_Some p.first T (sym (ap (option_map (λ (q : ManagerPart). q.first)) there) ∙ is))
+
+pub follows_first : (s : Settling) (m : ℕ) (T : Tables) → IsSettled s → first_of s m ≡ Some T → IsOpenedWith s m T
+follows_first s m T h is =
+    let (p, there, first) = begun s m T is in
+    subst (IsOpenedWith s m) first (follows_part s m p there h)
+
+pub sums : ((before : List History) (h : History) (k : List ℕ) (T : Tables) → IsNew T → ValueIsSum k before h T)
+    → (s : Settling) (m : ℕ) (before : List History) (T : Tables) → IsSettled s → IsNew T → first_of s m ≡ Some (left_by before T) → IsSumOver s m before T
+sums law s m before T h new is k = (follows_first s m (left_by before T) h is).values k ∙ law before (history s m) k T new
+
+-- ---- what a settled opening has of a thread is what its desk had in the end, and of a manager what its worker had
+
+-- lists of which each element comes to the same
+alike : {X Y : Type 0} (f g : X → Y) (xs : List X) → ((x : X) → Contains xs x → f x ≡ g x) → map f xs ≡ map g xs
+alike f g [] same = refl
+alike f g (x ∷ xs) same = search (arith, alike f g xs (λ y there. same y (suc there.0, (let low = there.1 in omega (arith, low)), there.2)))
+
+-- ---- pieces, each with a number of its own, and parts that have the numbers of their pieces
+
+module _ {X Y : Type 0} (number : X → ℕ) (part : X → Y) (has : Y → ℕ) (same : (x : X) → has (part x) ≡ number x)
+    (xs : List X) (apart : AllPairs (λ x y. number x ≢ number y) xs) where
+  -- the piece with a number is the one that is found
+  the_one : (x y : X) → Contains xs x → Contains xs y → number x ≡ number y → x ≡ y
+  the_one x y (i, in_x, at_x) (k, in_y, at_y) one_number =
+      let at_y' : get_or xs k x ≡ y = get_or_default xs k x y in_y ∙ at_y in
+      let numbers : number (get_or xs i x) ≡ number (get_or xs k x) = ap number at_x ∙ one_number ∙ ap number (sym at_y') in
+      search (arith, cases_order)
+
+  pub finds : (x : X) → Contains xs x → find (λ p. has p == number x) (map part xs) ≡ Some (part x)
+  finds x there = elim (searched part (λ p. has p == number x) xs) [
+    | inl f ↦ f.3 ∙ ap (λ (y : X). Some (part y)) (the_one f.0 x f.1 there (sym (same f.0) ∙ eqb-true (has (part f.0)) (number x) f.2))
+    | inr f ↦
+        let passes : (has (part x) == number x) ≡ true = eq-eqb (has (part x)) (number x) (same x) in
+        let fails : (has (part x) == number x) ≡ false = fails_each (λ (y : X). has (part y) == number x) xs x there f.1 in
+        cc
+  ]
+
+-- ---- the settled opening has of a thread what its desk had in the end, and of a manager what its worker had
+
+module _ (ds : List EndedView) (ws : List Served) (from : ComeFromOpenings (desk_seats ds) (worker_seats ws)) (one : AreOfOne ds ws) where
+  settled_ledgers : (e : EndedView) → Contains ds e → ledgers_of (settling ds ws) e.thread ≡ e.ledgers
+  settled_ledgers e there = ap ledgers_in (finds (λ (d : EndedView). d.thread) thread_part (λ p. p.thread) (λ d. refl) ds (λ i k d lt below.
+      pairs_at seat_of_ended AreApartDesks ds from.desks_apart i k d lt below (one.0 i d (omega (arith, lt, below)) ∙ sym (one.0 k d below))) e there)
+
+  settled_journal : (v : Served) → Contains ws v → journal (settling ds ws) v.number ≡ v.journal
+  settled_journal v there = ap journal_in (finds (λ (w : Served). w.number) manager_part (λ p. p.number) (λ w. refl) ws (λ i k w lt below.
+      pairs_at seat_of_done AreApartWorkers ws from.workers_apart i k w lt below (one.1 i w (omega (arith, lt, below)) ∙ sym (one.1 k w below))) v there)
+
+  pub all_settled_ledgers : map (λ (e : EndedView). ledgers_of (settling ds ws) e.thread) ds ≡ map (λ (e : EndedView). e.ledgers) ds
+  all_settled_ledgers = alike (λ (e : EndedView). ledgers_of (settling ds ws) e.thread) (λ (e : EndedView). e.ledgers) ds settled_ledgers
+
+  pub all_settled_journals : map (λ (w : Served). journal (settling ds ws) w.number) ws ≡ map (λ (w : Served). w.journal) ws
+  all_settled_journals = alike (λ (w : Served). journal (settling ds ws) w.number) (λ (w : Served). w.journal) ws settled_journal
+
+-- ---- what is settled of all pieces of an opening is of the setup that it was made with
+
+-- a list whose elements have rising numbers
+numbers_of : {X : Type 0} (f : X → ℕ) (a : ℕ) (xs : List X) → Each (λ k x. f x ≡ a + k) xs → map f xs ≡ range_with_len a (length xs)
+numbers_of f a [] each = refl
+numbers_of f a (x ∷ xs) each =
+    let first : f x ≡ a = each 0 x refl ∙ (omega arith) in
+    let others : map f xs ≡ range_with_len (a + 1) (length xs) = numbers_of f (a + 1) xs (λ k y at. each (suc k) y at ∙ (omega arith)) in
+    λ i. first i ∷ others i
+
+-- one of ys has the seat of this one of xs
+counterpart : {X Y S : Type 0} (f : X → S) (g : Y → S) (xs : List X) (ys : List Y) → IsPermutation (map f xs) (map g ys) → (x : X) → Contains xs x
+    → (k : ℕ) × (y : Y) × (slice_get ys k ≡ Some y) × (g y ≡ f x)
+counterpart f g xs ys moved x there =
+    let seat = Contains-permutation (map f xs) (map g ys) (f x) moved (contains_map f xs x there) in
+    let was = was_mapped g ys seat.0 (f x) (get_contained (map g ys) (f x) seat) in
+    (seat.0, was.0, was.1, was.2)
+
+-- the opening has a worker of each manager of its setup, with the setup's tables
+module _ (p : Setup) (ds : List DeskView) (ws : List WorkerView) (o : AreOfOneOpening p ds ws) (vs : List Served)
+    (workers : IsPermutation (map seat_of_worker ws) (worker_seats vs)) where
+  first_opened : (m : ℕ) (T : Tables) → slice_get p.first m ≡ Some T → (v : Served) → Contains vs v → v.number ≡ m + 1 → v.first ≡ T
+  first_opened m T begins v in_v number =
+      let (k, w, at, same) = counterpart seat_of_done seat_of_worker vs ws (IsPermutation-sym _ _ workers) v in_v in
+      let new : IsNewWorker p k w = o.workers k w at in
+      let made : w.number ≡ k + 1 = ap (λ (x : WorkerView). x.number) new.made in
+      let seated : w.number ≡ v.number = ap (λ (s : WorkerSeat). s.number) same in
+      let place : k ≡ m = omega (arith, made, seated, number) in
+      let is : new.first ≡ T = same_Some new.first T (sym new.begins ∙ ap (slice_get p.first) place ∙ begins) in
+      ap (λ (s : WorkerSeat). s.first) (sym same) ∙ ap (λ (x : WorkerView). x.first) new.made ∙ is
+
+  -- it is there
+  settled_worker : (m : ℕ) (T : Tables) → slice_get p.first m ≡ Some T → (v : Served) × Contains vs v × (v.number ≡ m + 1)
+  settled_worker m T begins =
+      let below = slice_get_within p.first m T begins in
+      let (w, at) = got ws m (omega (arith, below, o.managers, o.tables)) in
+      let (k, v, there, same) = counterpart seat_of_worker seat_of_done ws vs workers w (contains_at ws m w at) in
+      (v, contains_at vs k v there, ap (λ (s : WorkerSeat). s.number) same ∙ ap (λ (x : WorkerView). x.number) (o.workers m w at).made)
+
+  found_with : (es : List EndedView) (m : ℕ) (T : Tables) → slice_get p.first m ≡ Some T → first_of (settling es vs) (m + 1) ≡ Some T
+  found_with es m T begins = elim (searched manager_part (λ (q : ManagerPart). q.number == m + 1) vs) [
+    | inl x ↦ ap (option_map (λ (part : ManagerPart). part.first)) x.3 ∙ ap Some (first_opened m T begins x.0 x.1 (eqb-true x.0.number (m + 1) x.2))
+    | inr x ↦
+        let (v, there, number) = settled_worker m T begins in
+        let passes : (v.number == m + 1) ≡ true = eq-eqb v.number (m + 1) number in
+        let fails : (v.number == m + 1) ≡ false = fails_each (λ (v : Served). v.number == m + 1) vs v there x.1 in
+        cc
+  ]
+
+-- a desk that is there has the opening's number
+same_opening : (es : List EndedView) (vs : List Served) (n : ℕ) → 0 < length es → All (λ (s : DeskSeat). s.lane.opening ≡ n) (desk_seats es)
+    → first_opening es vs ≡ n
+same_opening [] vs n some h = absurd (omega arith)
+same_opening (e ∷ es) vs n some h = h 0 (seat_of_ended e) (omega arith)
+
+pub of_setup : (p : Setup) (ds : List DeskView) (ws : List WorkerView) (es : List EndedView) (vs : List Served)
+    → AreOfOneOpening p ds ws → IsPermutation (map seat_of_desk ds) (desk_seats es) → IsPermutation (map seat_of_worker ws) (worker_seats vs) → AreAll es vs
+    → IsOf p (settling es vs)
+of_setup p ds ws es vs o desks workers all = record {
+  opening = same_opening es vs p.numbers.opening all.some_desk
+      (All-permutation (λ (s : DeskSeat). s.lane.opening ≡ p.numbers.opening) (map seat_of_desk ds) (desk_seats es) desks
+      (all_map seat_of_desk (λ (s : DeskSeat). s.lane.opening ≡ p.numbers.opening) ds
+      (λ d cd. let new : IsNewDesk p cd.0 d = o.desks cd.0 d (get_contained ds d cd) in ap (λ (r : Receiving Completion). r.lane.opening) new.completions)));
+  threads =
+      rearranged (λ (s : DeskSeat). s.thread) seat_of_desk seat_of_ended (λ (t : ThreadPart). t.thread) thread_part (λ e. refl) p.numbers.threads ds es o.threads
+      (λ k d at. ap (λ (x : DeskView). x.thread) (o.desks k d at).made ∙ (omega arith)) desks;
+  managers =
+      rearranged (λ (s : WorkerSeat). s.number) seat_of_worker seat_of_done (λ (m : ManagerPart). m.number) manager_part (λ v. refl) p.managers ws vs o.managers
+      (λ k w at. ap (λ (x : WorkerView). x.number) (o.workers k w at).made ∙ (omega arith)) workers;
+  opened = found_with p ds ws o vs workers es;
+}
+  where
+    -- the numbers of what is settled, in the order of its pieces
+    rearranged : {S X Y Z : Type 0} (of_seat : S → ℕ) (seat : X → S) (seat' : Y → S) (of_part : Z → ℕ) (part : Y → Z)
+        → ((y : Y) → of_seat (seat' y) ≡ of_part (part y)) → (n : ℕ) (xs : List X) (ys : List Y) → length xs ≡ n
+        → Each (λ k x. of_seat (seat x) ≡ 1 + k) xs → IsPermutation (map seat xs) (map seat' ys)
+        → IsPermutation (range_with_len 1 n) (map of_part (map part ys))
+    rearranged {Y = Y} of_seat seat seat' of_part part same n xs ys many numbered moved =
+        let before : map of_seat (map seat xs) ≡ range_with_len 1 n =
+        map_map of_seat seat xs ∙ numbers_of (λ x. of_seat (seat x)) 1 xs numbered ∙ ap (range_with_len 1) many in
+        let read : map (λ (y : Y). of_seat (seat' y)) ys ≡ map (λ (y : Y). of_part (part y)) ys = λ i. map (λ (y : Y). same y i) ys in
+        let after : map of_seat (map seat' ys) ≡ map of_part (map part ys) = map_map of_seat seat' ys ∙ read ∙ sym (map_map of_part part ys) in
+        subst (λ (l : List ℕ × List ℕ). IsPermutation l.0 l.1) (λ j. (before j, after j)) (IsPermutation-map of_seat (map seat xs) (map seat' ys) moved)
+
+-- ---- numbers of a range
+
+-- what counts for one number counts for none of a range above it, and once in a range that has it
+none_counted : (k : ℕ) (v : ℤ) (a n : ℕ) → k < a → total (λ t. if k == t then v else pos 0) (range_with_len a n) ≡ pos 0
+none_counted k v a zero lt = refl
+none_counted k v a (suc n) lt = search (arith, none_counted k v (a + 1) n (omega arith), ne_eqb)
+
+one_counted : (k : ℕ) (v : ℤ) (a n : ℕ) → a ≤ k → k < a + n → total (λ t. if k == t then v else pos 0) (range_with_len a n) ≡ v
+one_counted k v a zero from below = absurd (omega arith)
+one_counted k v a (suc n) from below = elim (cases_eq k a) [
+  | inl same ↦ rw (eq-eqb k a same) (ap (λ s. v +ℤ s) (none_counted k v (a + 1) n (omega (arith, same))) ∙ plus_none v)
+  | inr apart ↦ rw (ne_eqb k a apart) (none_plus _ ∙ one_counted k v (a + 1) n (omega (arith, apart)) (omega arith))
+]
+
+-- ---- a history, thread by thread
+
+-- the request is of one of the threads
+abbrev IsPlaced : List ℕ → Request → Type 0
+IsPlaced ts r = (v : ℤ) → total (λ t. if is_of t r then v else pos 0) ts ≡ v
+
+split_moved : (accounts : List (List ℕ × ℕ)) (ts : List ℕ) (h : History) (T : Tables) → All (IsPlaced ts) h
+    → moved accounts is_any h T ≡ total (λ t. moved accounts (is_of t) h T) ts
+split_moved accounts ts [] T placed = sym (total_nothing ts)
+split_moved accounts ts (r ∷ h) T placed =
+    let v : ℤ = moved_by_request accounts r.op (next r.thread r.op T).1 T in
+    let T1 : Tables = (next r.thread r.op T).0 in
+    let first : v ≡ total (λ t. if is_of t r then v else pos 0) ts = sym (placed 0 r (omega arith) v) in
+    (λ i. first i +ℤ split_moved accounts ts h T1 (λ k d lt. placed (suc k) d (omega arith)) i)
+    ∙ sym (total_both (λ t. if is_of t r then v else pos 0) (λ t. moved accounts (is_of t) h T1) ts)
+
+-- where a filter lets nothing through, each fails
+all_fail : {A : Type 0} (p : A → Bool) (xs : List A) → filter p xs ≡ [] → All (λ x. p x ≡ false) xs
+all_fail p [] e = All-nil (λ x. p x ≡ false)
+all_fail {A} p (x ∷ xs) e =
+    elim (p x) as (λ b. p x ≡ b → cond b (x ∷ filter p xs) (filter p xs) ≡ [] → All (λ (y : A). p y ≡ false) (x ∷ xs)) [
+      | true ↦ λ own f. cc
+      | false ↦ λ other f. All-cons (λ (y : A). p y ≡ false) x xs other (all_fail p xs f)
+    ] refl e
+
+module _ (p : Plan) (s : Settling) (settled : IsSettled s) (of_plan : IsOfPlan p s) where
+  known_thread : (t m : ℕ) → 1 ≤ m → (k : ℕ) (d : Request) → k < length (history s m) → (get_or (history s m) k d).thread ≡ t → (1 ≤ t) × (t < 1 + p.threads)
+  known_thread t m positive k d lt is =
+      elim (find_thread t s.threads) as (λ o. find_thread t s.threads ≡ o → (1 ≤ t) × (t < 1 + p.threads)) [
+        | None ↦ λ none.
+            let nothing : of_thread t (history s m) ≡ [] = search (arith, rules) in
+            let apart : ((get_or (history s m) k d).thread == t) ≡ false = all_fail (λ (r : Request). r.thread == t) (history s m) nothing k d lt in
+            absurd (eqb-false _ t apart is)
+        | Some part ↦ λ at.
+            let there = found (λ (q : ThreadPart). q.thread == t) s.threads part at in
+            let number : part.thread ≡ t = eqb-true part.thread t there.1 in
+            let among : Contains (range_with_len 1 p.threads) part.thread =
+            Contains-permutation (map (λ (q : ThreadPart). q.thread) s.threads) (range_with_len 1 p.threads) part.thread (IsPermutation-sym _ _ of_plan.threads) (contains_map (λ (q : ThreadPart). q.thread) s.threads part there.0) in
+            let below : among.0 < p.threads = let e = length-range_with_len 1 p.threads in let l = among.1 in omega (arith, e, l) in
+            let value_is : 1 + among.0 ≡ t = sym (get_or-range_with_len 1 p.threads among.0 part.thread below) ∙ among.2 ∙ number in
+            (omega (arith, value_is), omega (arith, value_is, below))
+      ] refl
+
+  placed : (m : ℕ) → 1 ≤ m → All (IsPlaced (threads_of p)) (history s m)
+  placed m positive k d lt v =
+      let r : Request = get_or (history s m) k d in
+      let within = known_thread r.thread m positive k d lt refl in
+      one_counted r.thread v 1 p.threads within.0 within.1
+
+  -- the tables of a manager of the plan
+  first_is : (m : ℕ) → 1 ≤ m → m ≤ length p.managers.items → first_of s m ≡ Some (opening (accounts_of p m))
+  first_is m positive below =
+      let (plan, planned) = got p.managers.items (m - 1) (omega (arith, positive, below)) in
+      let number : m - 1 + 1 ≡ m = omega (arith, positive) in
+      let begins = got_map (λ (q : ManagerPlan). opening q.accounts.items) p.managers.items (m - 1) plan planned in
+      ap (first_of s) (sym number) ∙ of_plan.opened (m - 1) (opening plan.accounts.items) begins ∙ ap (λ o. Some (opening (accounts_in o))) (sym planned)
+
+  pub opened_with : (m : ℕ) → 1 ≤ m → m ≤ length p.managers.items → IsOpenedWith s m (opening (accounts_of p m))
+  opened_with m positive below = follows_first s m (opening (accounts_of p m)) settled (first_is m positive below)
+
+  module _ (moves : (accounts : List (List ℕ × ℕ)) (h : History) → are_accounts accounts ≡ true → WorthIsMoved accounts h)
+      (sound : All IsSoundManager p.managers.items) where
+    sound_at : (m : ℕ) → 1 ≤ m → m ≤ length p.managers.items → are_accounts (accounts_of p m) ≡ true
+    sound_at m positive below = search (arith, All-contains, contains_at)
+
+    at_manager : (m : ℕ) → 1 ≤ m → m < 1 + length p.managers.items
+        → total (λ d. unwrap_or (value s m d.0) (pos 0)) (accounts_of p m) ≡ worth_declared (accounts_of p m) +ℤ total (λ t. moved_at p s t m) (threads_of p)
+    at_manager m positive below =
+        let accounts : List (List ℕ × ℕ) = accounts_of p m in
+        let T : Tables = opening accounts in
+        let H : History = history s m in
+        let open_ = opened_with m positive (omega (arith, below)) in
+        let is : (k : List ℕ) → value s m k ≡ finmap.get (tables_after H T).values k = open_.values in
+        total_same (λ d. unwrap_or (value s m d.0) (pos 0)) (λ d. value_of (tables_after H T).values d.0) accounts (λ d. ap (λ o. unwrap_or o (pos 0)) (is d.0))
+        ∙ moves accounts H (sound_at m positive (omega (arith, below)))
+        ∙ ap (λ v. worth_declared accounts +ℤ v) (split_moved accounts (threads_of p) H T (placed m positive))
+
+    pub worth_law : WorthIsOfThreads p s
+    worth_law =
+        total_alike (λ m. total (λ d. unwrap_or (value s m d.0) (pos 0)) (accounts_of p m)) (λ m. worth_declared (accounts_of p m) +ℤ total (λ t. moved_at p s t m) (threads_of p)) (managers_of p)
+        (range_all (λ m. total (λ d. unwrap_or (value s m d.0) (pos 0)) (accounts_of p m) ≡ worth_declared (accounts_of p m) +ℤ total (λ t. moved_at p s t m) (threads_of p)) 1 (length p.managers.items) at_manager)
+        ∙ total_both (λ m. worth_declared (accounts_of p m)) (λ m. total (λ t. moved_at p s t m) (threads_of p)) (managers_of p)
+        ∙ ap (λ v. plan_worth p +ℤ v) (total_across (λ m t. moved_at p s t m) (managers_of p) (threads_of p))
