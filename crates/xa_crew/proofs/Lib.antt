@@ -1,5 +1,3 @@
-pub mod Kept
-pub mod Settled
-pub mod Members
+pub mod Pieces
 pub mod Threads
 pub mod WorkersOn

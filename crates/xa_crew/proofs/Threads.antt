@@ -1,7 +1,8 @@
 -- Jobs, the threads at the first of them, and what became of all.
 use Rattle.xa_base.proofs.{◌≡◌, ℕ, zero, suc, List, [], ◌∷◌, ◌++◌, length, refl, sym, ap, ◌∙◌, subst, arith, append-nil, append_assoc, Some, Result, Err}
-use Rattle.xa_base.proofs.{slice_get, All, Vec, vec_capacity, Global, slice_get_within, all_at, got, none_of, none_side, push_side, some_same, tail_side}
-use Rattle.xa_base.proofs.{through}
+use Rattle.xa_base.proofs.{slice_get, All, vec_capacity, slice_get_within, all_at, got, none_of, none_side, push_side, some_same, tail_side, map_alike}
+use Rattle.xa_base.proofs.{taken_next, through}
+use Rattle.std.proofs.lemmas.List.{map-id}
 use Rattle.std.specs.declared.thread.PromisedHandle.{PromisedHandle}
 use Rattle.xa_base.specs.{Pairwise}
 use Rattle.xa_crew.specs.{DoneOf, Came, AreAtFirst, Comes, HasRoom, HasRoomForAll, IsAt}
@@ -9,8 +10,7 @@ use Rattle.xa_crew.specs.declared.hands.Hands.{Hands}
 
 -- what was gone through is all, where nothing is left
 pub gone_through : {A : Type 0} (first rest all : List A) (n : ℕ) → n ≡ length rest → n ≡ 0 → first ++ rest ≡ all → first ≡ all
-gone_through first rest all n counted none so_far =
-    sym (append-nil first) ∙ ap (λ l. first ++ l) (sym (none_of rest (omega (arith, counted, none)))) ∙ so_far
+gone_through first rest all n counted none so_far = search (arith, append-nil, none_of)
 
 -- ---- lists side by side, and others after them
 
@@ -30,10 +30,7 @@ module _ {A B : Type 0} (P : A → B → Type 0) where
 
 -- what is the same on both sides
 pub same_side : {A : Type 0} (xs ys : List A) → Pairwise (λ x y. y ≡ x) xs ys → ys ≡ xs
-same_side [] [] all = refl
-same_side [] (y ∷ ys) all = absurd (let many = all.as_many in omega (arith, many))
-same_side (x ∷ xs) [] all = absurd (let many = all.as_many in omega (arith, many))
-same_side {A} (x ∷ xs) (y ∷ ys) all = λ i. all.each 0 x y refl refl i ∷ same_side xs ys (tail_side (λ (a b : A). b ≡ a) x xs y ys all) i
+same_side {A} xs ys all = sym (map-id ys) ∙ map_alike (λ (x y : A). y ≡ x) (λ x. x) (λ x. x) (λ x y e. e) xs ys all ∙ map-id xs
 
 module _ {J D : Type 0} (comes_to : J → D → Type 0) where
   abbrev Hand : Type 0
@@ -42,16 +39,14 @@ module _ {J D : Type 0} (comes_to : J → D → Type 0) where
   -- ---- starting
 
   pub none_at : (hands : List Hand) (others : List (Result D J)) → hands ≡ [] → others ≡ [] → AreAtFirst comes_to [] hands others
-  none_at hands others e f =
-      record { first = []; rest = []; all = refl; at = none_side IsAt [] hands refl e; came = none_side (Comes comes_to) [] others refl f }
+  none_at hands others e f = search (arith, none_side)
 
   -- one more thread, where no job came to something without one
   pub one_more_at : (jobs : List J) (hands : List Hand) (others : List (Result D J)) (job : J) (hand : Hand) → others ≡ []
       → AreAtFirst comes_to jobs hands others
       → IsAt job hand → AreAtFirst comes_to (jobs ++ job ∷ []) (hands ++ hand ∷ []) others
   one_more_at jobs hands others job hand none so_far is =
-      let many = so_far.came.as_many in
-      let no_rest : so_far.rest ≡ [] = none_of so_far.rest (let zero = ap (λ l. length l) none in omega (arith, many, zero)) in
+      let no_rest : so_far.rest ≡ [] = none_of so_far.rest (let zero = ap (λ l. length l) none in omega (arith, so_far.came.as_many, zero)) in
       record {
         first = so_far.first ++ job ∷ [];
         rest = [];
@@ -111,22 +106,13 @@ module _ {J D : Type 0} (comes_to : J → D → Type 0) where
       → slice_get came k ≡ Some (Err back) → runs back
   can_run runs jobs came k back all comes at =
       let within = slice_get_within came k (Err back) at in
-      let many = comes.as_many in
-      let (job, there) = got jobs k (omega (arith, within, many)) in
+      let (job, there) = got jobs k (omega (arith, within, comes.as_many)) in
       subst runs (sym (comes.each k job (Err back) there at)) (all_at runs jobs k job all there)
 
 -- there is room for all that came of so many jobs, where there was before they were started
 pub room_for_all : {J D : Type 0} (comes_to : J → D → Type 0) {jobs : List J} {many : ℕ} {h : Hands J D} {c : Came J D} → HasRoom many h → many ≡ length jobs
     → c.done ≡ h.done → c.back ≡ h.back → Pairwise (Comes comes_to) jobs c.came.items → HasRoomForAll c
-room_for_all {J} {D} comes_to room counted done back comes =
-    let done_room = ap (λ (v : Vec D Global). vec_capacity v) done in
-    let back_room = ap (λ (v : Vec J Global). vec_capacity v) back in
-    let for_done = room.done in
-    let for_back = room.back in
-    let few = comes.as_many in
-    record {
-      none_done = ap (λ (v : Vec D Global). v.items) done ∙ room.none_done;
-      none_back = ap (λ (v : Vec J Global). v.items) back ∙ room.none_back;
-      done = omega (arith, few, counted, done_room, for_done);
-      back = omega (arith, few, counted, back_room, for_back);
-    }
+room_for_all {J} {D} comes_to room counted done back comes = search (arith, vec_capacity, room.done, room.back, comes.as_many)
+
+-- how jobs get their threads
+pub ruleset start_rules = (none_at, one_more_at, one_more_other, taken_next)

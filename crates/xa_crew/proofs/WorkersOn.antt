@@ -10,8 +10,7 @@ use Rattle.xa_crew.specs.{HasServed, WorkerGoesOn, AllGoOn, HadTurn, HadSomeTurn
 
 pub had_turn : (w : WorkerView) (s : Step) (w' : WorkerView)
     → Stepped w s w' → SameWorker w w' → seat_of_worker w' ≡ seat_of_worker w → IsTied w' → HadTurn s w w'
-had_turn w s w' is same seat tied =
-    record { stepped = is; goes = record { same = same; seat = seat; journal = stepped-extends w s w' is; tied = λ before. tied } }
+had_turn w s w' is same seat tied = search (arith, stepped-extends)
 
 -- ---- one worker of all
 
@@ -63,35 +62,13 @@ one_more_turned n old ws x y h at had = record {
         elim (got_set ws n y k w (slice_get_within ws n x at) at_w) [ inl here ↦ absurd (other here.0) | inr e ↦ e ]
 
 pub all_turned : (n : ℕ) (old new : List WorkerView) → length old ≤ n → HaveTurned n old new → Pairwise HadSomeTurn old new
-all_turned n old new many h = record {
-  as_many = h.as_many;
-  each = λ k w w' at at'. h.turned k w w' (let within = slice_get_within old k w at in omega (arith, within, many)) at at';
-}
+all_turned n old new many h = search (arith, slice_get_within, h.turned)
 
 -- ---- and then they run
 
 -- a worker that went on and then ran
 then_served : (w v : WorkerView) (d : Served) → WorkerGoesOn w v → HasServed v d → HasServed w d
-then_served w v d goes served =
-    let first = goes.same in
-    let later = served.same in
-    record {
-      same = record {
-        number = later.number ∙ first.number;
-        first = later.first ∙ first.first;
-        threads = later.threads ∙ first.threads;
-        receiver = (
-          later.receiver.0 ∙ first.receiver.0,
-          later.receiver.1 ∙ first.receiver.1,
-          later.receiver.2 ∙ first.receiver.2,
-          later.receiver.3 ∙ first.receiver.3,
-        );
-        lanes = later.lanes ∙ first.lanes;
-        journal = extends-chain w.journal v.journal d.journal goes.journal later.journal;
-      };
-      served = served.served;
-      seat = served.seat ∙ goes.seat;
-    }
+then_served w v d goes served = search (arith, extends-chain, goes.same, served.same, w.journal, v.journal, d.journal, goes.journal)
 
 -- and so all of them
 pub all_served : (ws vs : List WorkerView) (done : List Served) → AllGoOn ws vs → Pairwise HasServed vs done → Pairwise HasServed ws done

@@ -94,6 +94,7 @@ impl<J: Job<D> + Send + 'static, D: Drop + Send + 'static> Hands<J, D> {
 
     // Starts a thread for each job, in which it waits for the word, until one can't be started; and says whether all
     // were.
+    #[tactic(auto, using(crate::proofs::Threads::start_rules))]
     fn start<R: Threads + Wait + Copy + Send + 'static>(
         &mut self,
         rt: &R,
@@ -201,6 +202,7 @@ impl<J: Job<D>, D: Drop> Came<J, D> {
 /// Does all jobs of two kinds, each in a thread of its own, or none of them: all threads are started before
 /// any job begins. Where memory is refused, or a thread, no job is done, all threads have ended, and the jobs come back
 /// as they were.
+#[tactic(auto, using(crate::proofs::Threads::room_for_all))]
 pub(crate) fn do_all<
     R: Threads + Wait + Copy + Send + 'static,
     J: Job<D> + Send + 'static,

@@ -1,24 +1,21 @@
 -- A commit whose coordinator dies: what was asked of each branch, how far that came, and what is kept of it.
 use Rattle.xa_base.proofs.{list_any-append, none_of, rules, if◌then◌else◌, ◌≡◌, ℕ, zero, suc, ◌||◌, ◌<◌, ◌≤◌, Bool, true, false, inl, inr, ⊎_elim, Option, Some}
 use Rattle.xa_base.proofs.{None, List, [], ◌∷◌, ◌++◌, length, map, take, refl, sym, ap, ◌∙◌, subst, arith, append-nil, length-append, eq-eqb, length-map}
-use Rattle.xa_base.proofs.{or-true, some_same}
-use Rattle.std.specs.Prelude.{is_none, min}
+use Rattle.xa_base.proofs.{or-true, some_same, is_none, min, take-append_seam}
 use Rattle.std.specs.FinMap as finmap
-use Rattle.std.proofs.Math.Seq.{take-append_seam}
 use Rattle.xa_words.specs.{TranName, Death, Op, Prepare, Code}
 use Rattle.xa_words.specs.declared.death.Death.TheVariants as death
 use Rattle.xa_desk.specs.{Operation, plan_of, AllKept, TicketView, ledger, GoesOn, LedgerView, DeskView}
 use Rattle.xa_desk.proofs.GoingOn.{goes_same, goes_further}
 use Rattle.xa_driver.specs.{Branch, Done, Round, Prepared, Decided, Told, Ask, AskTrace, EachAsk, EachBegan, HasBegun, IsUnsent, KeepsTheRest, SameAsks}
 use Rattle.xa_driver.specs.{among_asks, CameToVotes, Dies, HaveAsked, HaveTold, IsDecidedBy, IsOfRound, LeavesDesk, LeavesHandles, PutsLedger, Tells}
-use Rattle.xa_driver.specs.{VotesAndObeys, is_decided_by, to_come, withheld, second_op, AsksLedger, code_of, ending_of_ask, first_ask, second_ask, HasDecided}
-use Rattle.xa_driver.specs.{HasPrepared, HasTold, IsUndecided, asked_in, EachBranch, Logs, decision_of, has_branch_at, IsAmong, IsSent, IsUnderWay}
-use Rattle.xa_driver.specs.{LeavesInFlight}
+use Rattle.xa_driver.specs.{VotesAndObeys, is_decided_by, to_come, withheld, AsksLedger, code_of, ending_of_ask, first_ask, second_ask, HasDecided, HasPrepared}
+use Rattle.xa_driver.specs.{HasTold, IsUndecided, asked_in, EachBranch, Logs, decision_of, has_branch_at, IsAmong, IsSent, IsUnderWay, LeavesInFlight}
+use Rattle.xa_driver.specs.{IsSameAsk, VotesAndHears}
 use Rattle.xa_driver.specs.Deaths.{sent}
-use Rattle.xa_driver.proofs.Calls.{among_first, among_second, asks_long, first_trace, second_code, second_is, second_trace}
-use Rattle.xa_driver.proofs.OneCall.{seconds_are, for_log}
+use Rattle.xa_driver.proofs.Calls.{among_first, among_second, asks_long, first_trace, second_code, second_is, second_trace, seconds_are, for_log}
 use Rattle.xa_driver.proofs.Stepping.{as_many, so_far}
-use Rattle.xa_driver.proofs.Traces.{for_trace}
+use Rattle.xa_driver.proofs.Requests.{for_trace}
 use Rattle.xa_log.specs.{LogState}
 
 -- ---- a request that is put
@@ -34,7 +31,7 @@ put_nothing k t at d none began = grind arith
 
 -- ---- the first round
 
-pub asked_far : (bs : List Branch) (done flying : List Ask) (ts : List (Option TicketView)) (at : List LedgerView) (d : DeskView)
+asked_far : (bs : List Branch) (done flying : List Ask) (ts : List (Option TicketView)) (at : List LedgerView) (d : DeskView)
     → SameAsks (map first_ask bs) (done ++ flying) → EachAsk done at d.ledgers → EachBegan flying ts at d
     → HaveAsked AsksLedger PutsLedger bs (map code_of done) (ledger at) (ledger d.ledgers)
 asked_far [] [] [] ts at d s e f = tt
@@ -71,33 +68,24 @@ put_step : (n x : ℕ) (op : Option Op) (a a' : LedgerView) → (op ≡ None →
     → 0 ≡ min n (if is_none op then x else suc x) → Tells AsksLedger PutsLedger n op a a' × (0 ≡ min (to_come op n) x)
 put_step n x op a a' same put e = grind arith
 
-pub told_far : (commit : Bool) (bs : List Branch) (ks done flying : List Ask) (ts : List (Option TicketView)) (n : ℕ) (old mid : List LedgerView) (now : DeskView)
+heard : (commit : Bool) (b : Branch) (k j : Ask) (n : ℕ) (old mid now : List LedgerView) → IsSameAsk (first_ask b) k → IsSameAsk (second_ask commit k) j
+    → AskTrace k.op k.code (ledger old k.manager) (ledger mid k.manager) → Tells AsksLedger PutsLedger n j.op (ledger mid j.manager) (ledger now j.manager)
+    → VotesAndHears AsksLedger PutsLedger commit n b (code_of k) (ledger old b.m) (ledger now b.m)
+heard commit b k j n old mid now s r e told =
+    record { prepared = ledger mid b.m; prepares = first_trace b k old mid s e; tells = rw (second_is commit b k j s r, (r.manager ∙ s.manager)) at told }
+
+told_far : (commit : Bool) (bs : List Branch) (ks done flying : List Ask) (ts : List (Option TicketView)) (n : ℕ) (old mid : List LedgerView) (now : DeskView)
     → SameAsks (map first_ask bs) ks → SameAsks (map (second_ask commit) ks) (done ++ flying)
     → EachAsk ks old mid → EachAsk done mid now.ledgers → EachBegan flying ts mid now → asked_in done ≡ min n (asked_in (done ++ flying))
     → HaveTold AsksLedger PutsLedger commit n bs (map code_of ks) (ledger old) (ledger now.ledgers)
 told_far commit [] [] done flying ts n old mid now s r e f g count = tt
-told_far commit (b ∷ bs) (k ∷ ks) [] (j ∷ flying) (t ∷ ts) n old mid now s r e f g count =
-    let op : Option Op = second_op commit b.xid (code_of k) in
-    let op_is : j.op ≡ op = second_is commit b k j s.0 r.0 in
-    let there : j.manager ≡ b.m = r.0.manager ∙ s.0.manager in
-    let step : Tells AsksLedger PutsLedger n op (ledger mid b.m) (ledger now.ledgers b.m) × (0 ≡ min (to_come op n) (asked_in flying)) =
-    put_step n (asked_in flying) op (ledger mid b.m) (ledger now.ledgers b.m)
-    (λ none. subst (λ (m : ℕ). ledger now.ledgers m ≡ ledger mid m) there (put_nothing j t mid now (op_is ∙ none) g.0))
-    (λ o is. subst (λ (m : ℕ). PutsLedger (ledger mid m) o (ledger now.ledgers m)) there (put_so j t mid now o (op_is ∙ is) g.0))
-    (subst (λ o. 0 ≡ min n (if is_none o then asked_in flying else suc (asked_in flying))) op_is count) in (
-      record { prepared = ledger mid b.m; prepares = first_trace b k old mid s.0 e.0; tells = step.0 },
-      told_far commit bs ks [] flying ts (to_come op n) old mid now s.1 r.1 e.1 tt g.1 step.1,
-    )
-told_far commit (b ∷ bs) (k ∷ ks) (j ∷ done) flying ts n old mid now s r e f g count =
-    let op : Option Op = second_op commit b.xid (code_of k) in
-    let op_is : j.op ≡ op = second_is commit b k j s.0 r.0 in
-    let all : List Ask = done ++ flying in
-    let step : Tells AsksLedger PutsLedger n op (ledger mid b.m) (ledger now.ledgers b.m) × (asked_in done ≡ min (to_come op n) (asked_in all)) =
-    answered_step n (asked_in done) (asked_in all) op j.code (ledger mid b.m) (ledger now.ledgers b.m) (second_trace commit b k j mid now.ledgers s.0 r.0 f.0)
-    (subst (λ o. (if is_none o then asked_in done else suc (asked_in done)) ≡ min n (if is_none o then asked_in all else suc (asked_in all))) op_is count) in (
-      record { prepared = ledger mid b.m; prepares = first_trace b k old mid s.0 e.0; tells = step.0 },
-      told_far commit bs ks done flying ts (to_come op n) old mid now s.1 r.1 e.1 f.1 g step.1,
-    )
+told_far commit (b ∷ bs) (k ∷ ks) [] (j ∷ flying) (t ∷ ts) n old mid now (s, ss) (r, rs) (e, es) f (g, gs) count =
+    let step =
+    put_step n (asked_in flying) j.op (ledger mid j.manager) (ledger now.ledgers j.manager) (λ none. put_nothing j t mid now none g) (λ o is. put_so j t mid now o is g) count in
+    (heard commit b k j n old mid now.ledgers s r e step.0, told_far commit bs ks [] flying ts _ old mid now ss rs es tt gs (rw (second_is commit b k j s r) at step.1))
+told_far commit (b ∷ bs) (k ∷ ks) (j ∷ done) flying ts n old mid now (s, ss) (r, rs) (e, es) (f, fs) g count =
+    let step = answered_step n (asked_in done) (asked_in (done ++ flying)) j.op j.code (ledger mid j.manager) (ledger now.ledgers j.manager) f count in
+    (heard commit b k j n old mid now.ledgers s r e step.0, told_far commit bs ks done flying ts _ old mid now ss rs es fs g (rw (second_is commit b k j s r) at step.1))
 told_far commit _ _ _ _ _ n old mid now s r e f g count = absurd (search rules)
 
 -- all of it
@@ -172,35 +160,13 @@ flight_of o _ _ at d began among = absurd (search rules)
 among_middle : (xs ys zs : List Ask) (m : ℕ) → among_asks ys m ≡ true → among_asks (xs ++ (ys ++ zs)) m ≡ true
 among_middle xs ys zs m there = grind (arith, list_any-append, or-true)
 
-pub left_handles : (r : Round) (now : DeskView) → IsUnderWay r now → (bs : List Branch) (old new : DeskView)
-    → ((m : ℕ) → among_asks r.asks.items m ≡ has_branch_at bs m) → r.before.value ≡ old → LeavesInFlight r.tickets.items now new
-    → LeavesHandles bs old new
-left_handles r now u bs old new among before left =
-    let kept_is : now.kept ≡ old.kept = u.keeps.kept ∙ ap (λ (d : DeskView). d.kept) before in
-    record {
-      stays = λ k o is. left.stays k o (ap (λ m. finmap.get m k) kept_is ∙ is);
-      more = λ k o is.
-          ⊎_elim (λ (was : finmap.get now.kept k ≡ Some o). inl (sym (ap (λ m. finmap.get m k) kept_is) ∙ was))
-          (λ (flies : IsAmong o r.tickets.items). inr (of_round o flies)) (left.only k o is);
-    }
-  where
-    of_round : (o : Operation) → IsAmong o r.tickets.items → IsOfRound bs old.ledgers new.ledgers o
-    of_round o flies =
-        let f = flight_of o u.flying r.tickets.items r.before.value.ledgers now u.in_flight flies in
-        record {
-          manager = sym (among o.manager) ∙ ap (λ l. among_asks l o.manager) u.parts ∙ among_middle u.done u.flying u.rest o.manager f.among;
-          later = let n = f.number in let z = ap (λ (d : DeskView). length (ledger d.ledgers o.manager).sent) before in omega (arith, n, z);
-          sent = subst (λ (l : List LedgerView). o.number < length (ledger l o.manager).sent) (sym left.lists) f.there;
-        }
-
 pub same_handles : (bs : List Branch) (old new : DeskView) → new.kept ≡ old.kept → LeavesHandles bs old new
 same_handles bs old new same = search (arith, rules)
 
 grown_at : (old new : DeskView) → GoesOn old new → (m : ℕ) → 1 ≤ m → length (ledger old.ledgers m).sent ≤ length (ledger new.ledgers m).sent
 grown_at old new on m positive =
     let grown = on.lists.each m positive in
-    let long = ap (λ l. length l) grown.sent.1 in
-    omega (arith, long, length-append (ledger old.ledgers m).sent grown.sent.0)
+    omega (arith, ap (λ l. length l) grown.sent.1, length-append (ledger old.ledgers m).sent grown.sent.0)
 
 grown_long : (old new : DeskView) → GoesOn old new → (m : ℕ) → length (ledger old.ledgers m).sent ≤ length (ledger new.ledgers m).sent
 grown_long old new on zero = grown_at old new on 1 (omega arith)
@@ -215,10 +181,27 @@ pub desk_left : (r : Round) (now : DeskView) → IsUnderWay r now → (bs : List
     → ((m : ℕ) → among_asks r.asks.items m ≡ has_branch_at bs m) → r.before.value ≡ old → LeavesInFlight r.tickets.items now new
     → GoesOn now new → (AllKept r.before.value → AllKept new) → LeavesDesk bs old new
 desk_left r now u bs old new among before left on kept = record {
-  handles = left_handles r now u bs old new among before left;
-  goes_on = goes_further old now new (subst (λ (d : DeskView). GoesOn d now) before u.keeps.goes_on) on;
-  kept = subst (λ (d : DeskView). AllKept d → AllKept new) before kept;
+  handles = record {
+    stays = λ k o is. left.stays k o (ap (λ m. finmap.get m k) kept_is ∙ is);
+    more = λ k o is.
+        ⊎_elim (λ (was : finmap.get now.kept k ≡ Some o). inl (sym (ap (λ m. finmap.get m k) kept_is) ∙ was))
+        (λ (flies : IsAmong o r.tickets.items). inr (of_round o flies)) (left.only k o is);
+  };
+  goes_on = goes_further old now new (rw before at u.keeps.goes_on) on;
+  kept = rw before at kept;
 }
+  where
+    kept_is : now.kept ≡ old.kept
+    kept_is = u.keeps.kept ∙ ap (λ (d : DeskView). d.kept) before
+
+    of_round : (o : Operation) → IsAmong o r.tickets.items → IsOfRound bs old.ledgers new.ledgers o
+    of_round o flies =
+        let f = flight_of o u.flying r.tickets.items r.before.value.ledgers now u.in_flight flies in
+        record {
+          manager = sym (among o.manager) ∙ ap (λ l. among_asks l o.manager) u.parts ∙ among_middle u.done u.flying u.rest o.manager f.among;
+          later = let n = f.number in let z = ap (λ (d : DeskView). length (ledger d.ledgers o.manager).sent) before in omega (arith, n, z);
+          sent = rw left.lists f.there;
+        }
 
 pub desk_same : (bs : List Branch) (d : DeskView) → LeavesDesk bs d d
 desk_same bs d = record { handles = same_handles bs d d refl; goes_on = goes_same d; kept = λ all. all }
@@ -268,9 +251,6 @@ module _ (bs : List Branch) (old mid : List LedgerView) (log later : LogState) (
   pub no_endings : d.known.endings.items ≡ []
   no_endings = ap (λ v. v.items) second.endings ∙ first.endings.none
 
-  asks_are : d.round.asks.items ≡ firsts
-  asks_are = ap (λ r. r.asks.items) second.round
-
   -- nobody was told
   pub dies_decided : (known : Done) → known ≡ d.known → Dies AsksLedger PutsLedger death.Decided p.tran bs (ledger old) (ledger mid) log later known
   dies_decided known same = search (arith, votes_are, asked_all, length-map, asks_long, decided_by, no_endings, among_first)
@@ -280,7 +260,7 @@ module _ (bs : List Branch) (old mid : List LedgerView) (log later : LogState) (
       → Dies AsksLedger PutsLedger death.Told p.tran bs (ledger old) (ledger new) log later known
   dies_told new t third known same =
       let seconds : List Ask = t.round.asks.items in
-      let again : SameAsks (map (second_ask d.known.commit) firsts) seconds = seconds_are bs old mid new new log later p d t first second third in
+      let again : SameAsks (map (second_ask d.known.commit) firsts) seconds = seconds_are second third in
       let commit_is : known.commit ≡ d.known.commit = ap (λ k. k.commit) same ∙ third.commit in
       let votes : known.votes.items ≡ d.known.votes.items = ap (λ k. k.votes.items) same ∙ ap (λ v. v.items) third.votes in
       let endings : known.endings.items ≡ map (ending_of_ask d.known.commit) seconds = ap (λ k. k.endings.items) same ∙ third.endings in
@@ -299,7 +279,7 @@ module _ (bs : List Branch) (old mid : List LedgerView) (log later : LogState) (
       → (new : List LedgerView) → r.before.value.ledgers ≡ mid → new ≡ now.ledgers → (known : Done) → known ≡ d.known
       → Dies AsksLedger PutsLedger (death.Telling n) p.tran bs (ledger old) (ledger new) log later known
   dies_telling r now u whole n count same new before new_is known is =
-      let again : SameAsks (map (second_ask d.known.commit) firsts) r.asks.items = search (arith, asks_are) in
+      let again : SameAsks (map (second_ask d.known.commit) firsts) r.asks.items = rw second.round at same in
       let among : (m : ℕ) → among_asks r.asks.items m ≡ has_branch_at bs m =
       λ m. among_second d.known.commit firsts r.asks.items m again ∙ among_first bs firsts m first.same in
       let told : HaveTold AsksLedger PutsLedger d.known.commit n bs (map code_of firsts) (ledger old) (ledger new) = search (arith, came_to_answers) in

@@ -1,17 +1,18 @@
--- The three rounds make a call.
+-- The three rounds make a call, and so do the stages of a commit.
 use Rattle.xa_base.proofs.{rules, ◌≡◌, ℕ, ◌+◌, ◌≤◌, Bool, ◌||◌, ◌&&◌, ◌==◌, Option, Some, unwrap_or, List, [], ◌∷◌, ◌++◌, length, map, refl, sym, ap, ◌∙◌}
-use Rattle.xa_base.proofs.{arith, suc, get_or, length-append, take, length-map}
-use Rattle.std.proofs.Math.Seq.{take-append_seam}
+use Rattle.xa_base.proofs.{arith, suc, get_or, length-append, take, length-map, zero, ◌<◌, subst, set, None, vec_capacity, Vec, Global, take-append_seam}
 use Rattle.xa_words.specs.{TranName, tran_of, RmFail, Op, Prepare, Code}
-use Rattle.xa_desk.specs.{LedgerView, ledger, IsKnown}
+use Rattle.xa_desk.specs.{LedgerView, ledger, DeskView}
 use Rattle.xa_desk.proofs.Ledgers.{known_by}
 use Rattle.xa_driver.specs.{Branch, Done, is_yes, voted_yes, yes_of, second_op, third_op, ending_of, Ask, asked, IsAnswered, AskTrace, EachAsk, among_asks}
 use Rattle.xa_driver.specs.{SameAsks, IsSameAsk, AreRising, AllCanAsk, first_ask, code_of, second_ask, third_ask, ending_of_ask, asked_yes, yes_asked, AtBranch}
-use Rattle.xa_driver.specs.{AsksLedger, EachBranch, has_branch_at, IsTranOf, AreBranchesRising, HaveRoom, Logs, decision_of, IsTraceOfCommit}
-use Rattle.xa_log.specs.{LogState}
+use Rattle.xa_driver.specs.{AsksLedger, EachBranch, has_branch_at, IsTranOf, AreBranchesRising, HaveRoom, Logs, decision_of, IsTraceOfCommit, Round}
+use Rattle.xa_driver.specs.{HasRoomForEndings, IsAtRest, MayAsk, Prepared, Decided, Told, KeepsTheRest, HasDecided, HasForgotten, HasPrepared, HasTold}
+use Rattle.xa_driver.specs.{MayForget, MayTell, MayCommit, CommitFault, IfUndecided}
+use Rattle.xa_log.specs.{LogState, record_of}
 use Rattle.xa_driver.specs.Asks.{Asks}
-use Rattle.xa_driver.proofs.Gathering.{among_mapped, same_among}
-use Rattle.xa_driver.proofs.Traces.{for_trace}
+use Rattle.xa_driver.proofs.Requests.{for_trace, asks_at, Alike, mapped_alike, same_alike, same_itself}
+use Rattle.xa_driver.specs.declared.done.CommitFault.TheVariants as fault
 
 pub first_rising : (lo : ℕ) (bs : List Branch) → AreBranchesRising lo bs → AreRising lo (map first_ask bs)
 first_rising lo [] r = tt
@@ -19,59 +20,60 @@ first_rising lo (b ∷ bs) r = (r.0, first_rising b.m bs r.1)
 
 -- ---- room for more requests
 
--- so many more can be sent to the manager, or to that of each request
-record HasLeft (n : ℕ) (at : List LedgerView) (m : ℕ) : Type 0 where
-  known : IsKnown at m
-  left : length (ledger at m).sent + n ≤ (ledger at m).plan
-
-abbrev HaveLeft : ℕ → List LedgerView → List Ask → Type 0
-HaveLeft n at [] = Unit {0}
-HaveLeft n at (k ∷ ks) = HasLeft n at k.manager × HaveLeft n at ks
-
-first_left : (at : List LedgerView) (bs : List Branch) → HaveRoom at bs → HaveLeft 3 at (map first_ask bs)
-first_left at [] h = tt
-first_left at (b ∷ bs) h = (record { known = h.0.known; left = h.0.room }, first_left at bs h.1)
-
-second_left : (commit : Bool) (n : ℕ) (at : List LedgerView) (ks : List Ask) → HaveLeft n at ks → HaveLeft n at (map (second_ask commit) ks)
-second_left commit n at [] h = tt
-second_left commit n at (k ∷ ks) h = (h.0, second_left commit n at ks h.1)
-
-left_can : (n : ℕ) (at : List LedgerView) (ks : List Ask) → HaveLeft (suc n) at ks → AllCanAsk ks at
-left_can n at [] h = tt
-left_can n at (k ∷ ks) h = (record { known = h.0.known; room = let z = h.0.left in omega arith }, left_can n at ks h.1)
-
 -- a request adds at most one
 one_more : (a : LedgerView) (op : Option Op) (code : Option Code) → (length (asked a op code).sent ≤ length a.sent + 1) × ((asked a op code).plan ≡ a.plan)
 one_more a op code = grind (arith, length-append)
 
-left_after : (n : ℕ) (at at' : List LedgerView) (js ks : List Ask) → length at' ≡ length at → SameAsks js ks → EachAsk ks at at' → HaveLeft (suc n) at js
-    → HaveLeft n at' ks
-left_after n at at' [] [] long s e h = tt
-left_after n at at' (j ∷ js) (k ∷ ks) long s e h = search (arith, left_after n at at' js ks long s.1 e.1 h.1, one_more, known_by, s.1, e.1)
-left_after n at at' _ _ long s e h = absurd s
+-- so many requests more were sent to each manager, at most
+record Grew (n : ℕ) (at now : List LedgerView) : Type 0 where
+  long : length now ≡ length at
+  sent : (m : ℕ) → 1 ≤ m → length (ledger now m).sent ≤ length (ledger at m).sent + n
+  plan : (m : ℕ) → 1 ≤ m → (ledger now m).plan ≡ (ledger at m).plan
+
+grew_on : (n : ℕ) (at mid now : List LedgerView) (ks : List Ask) → Grew n at mid → Asks ks mid now → Grew (suc n) at now
+grew_on n at mid now ks g is = record {
+  long = is.managers ∙ g.long;
+  sent = λ m p. let one = asks_at (λ a a'. length a'.sent ≤ length a.sent + 1) (λ a op code. (one_more a op code).0) ks mid now m p is in
+      let before = g.sent m p in omega (arith, one, before);
+  plan = λ m p. asks_at (λ a a'. a'.plan ≡ a.plan) (λ a op code. (one_more a op code).1) ks mid now m p is ∙ g.plan m p;
+}
+
+not_grown : (at : List LedgerView) → Grew 0 at at
+not_grown at = record { long = refl; sent = λ m p. omega arith; plan = λ m p. refl }
+
+-- so each branch's manager can be asked once more
+room_can : (n : ℕ) (at now : List LedgerView) (bs : List Branch) (ks : List Ask) → n ≤ 2 → Grew n at now → SameAsks (map first_ask bs) ks → HaveRoom at bs
+    → AllCanAsk ks now
+room_can n at now [] [] few g s h = tt
+room_can n at now (b ∷ bs) (k ∷ ks) few g s (here, h) =
+    let sent = g.sent b.m here.known.positive in
+    let plan = g.plan b.m here.known.positive in
+    let room = here.room in
+    (rw s.0.manager (record { known = known_by at now b.m g.long here.known; room = omega (arith, sent, plan, room, few) }), room_can n at now bs ks few g s.1 h)
+room_can n at now _ _ few g s h = absurd s
 
 pub first_can : (at : List LedgerView) (bs : List Branch) → HaveRoom at bs → AllCanAsk (map first_ask bs) at
-first_can at bs h = left_can 2 at (map first_ask bs) (first_left at bs h)
+first_can at bs h = room_can 0 at at bs (map first_ask bs) (omega arith) (not_grown at) (same_itself (map first_ask bs)) h
 
-pub next_can : (old mid : List LedgerView) (bs : List Branch) (ks : List Ask) → length mid ≡ length old → SameAsks (map first_ask bs) ks → EachAsk ks old mid
-    → HaveRoom old bs → AllCanAsk ks mid
-next_can old mid bs ks l s e h = left_can 1 mid ks (left_after 2 old mid (map first_ask bs) ks l s e (first_left old bs h))
-
-pub last_can : (commit : Bool) (old mid late : List LedgerView) (bs : List Branch) (ks js : List Ask) → length mid ≡ length old → length late ≡ length mid
-    → SameAsks (map first_ask bs) ks → SameAsks (map (second_ask commit) ks) js → EachAsk ks old mid → EachAsk js mid late → HaveRoom old bs → AllCanAsk js late
-last_can commit old mid late bs ks js l n s r e f h =
-    left_can 0 late js (left_after 1 mid late (map (second_ask commit) ks) js n r f (second_left commit 2 mid ks (left_after 2 old mid (map first_ask bs) ks l s e (first_left old bs h))))
-
-pub same_long : (js ks : List Ask) → SameAsks js ks → length ks ≡ length js
-same_long [] [] s = refl
-same_long (j ∷ js) (k ∷ ks) s = let z = same_long js ks s.1 in omega arith
-same_long _ _ s = absurd s
+pub next_can : (old mid : List LedgerView) (bs : List Branch) (ks : List Ask) → SameAsks (map first_ask bs) ks → Asks ks old mid → HaveRoom old bs
+    → AllCanAsk ks mid
+next_can old mid bs ks s e h = room_can 1 old mid bs ks (omega arith) (grew_on 0 old old mid ks (not_grown old) e) s h
 
 pub asks_long : (bs : List Branch) (ks : List Ask) → SameAsks (map first_ask bs) ks → length ks ≡ length bs
-asks_long bs ks s = same_long (map first_ask bs) ks s ∙ length-map bs first_ask
+asks_long bs ks s = (same_alike (map first_ask bs) ks s).long ∙ length-map bs first_ask
 
-pub seconds_long : (commit : Bool) (bs : List Branch) (ks : List Ask) → SameAsks (map first_ask bs) ks → length (map (second_ask commit) ks) ≡ length bs
-seconds_long commit bs ks s = length-map ks (second_ask commit) ∙ asks_long bs ks s
+-- the second round's requests are to the managers of the first
+pub second_alike : (commit : Bool) (ks js : List Ask) → SameAsks (map (second_ask commit) ks) js
+    → (length js ≡ length ks) × ((at : List LedgerView) → AllCanAsk ks at → AllCanAsk js at)
+second_alike commit ks js r =
+    let mapped = mapped_alike (second_ask commit) (λ k. refl) ks in
+    let same = same_alike (map (second_ask commit) ks) js r in
+    (same.long ∙ mapped.long, λ at can. same.can at (mapped.can at can))
+
+pub last_can : (commit : Bool) (old mid late : List LedgerView) (bs : List Branch) (ks js : List Ask) → SameAsks (map first_ask bs) ks
+    → SameAsks (map (second_ask commit) ks) js → Asks ks old mid → Asks js mid late → HaveRoom old bs → AllCanAsk js late
+last_can commit old mid late bs ks js s r e f h =
+    (second_alike commit ks js r).1 late (room_can 2 old late bs ks (omega arith) (grew_on 1 old mid late js (grew_on 0 old old mid ks (not_grown old) e) f) s h)
 
 -- a Prepare is answered
 answered_some : (a : LedgerView) (op : Op) (code : Option Code) → IsAnswered a (Some op) code → code ≡ Some (unwrap_or code RmFail)
@@ -123,14 +125,18 @@ each_branch commit (b ∷ bs) (k ∷ ks) (j ∷ js) (l ∷ ls) old mid late new 
     (branch_trace commit b k j l old mid late new s.0 r.0 q.0 e.0 f.0 g.0, each_branch commit bs ks js ls old mid late new s.1 r.1 q.1 e.1 f.1 g.1)
 each_branch commit _ _ _ _ old mid late new s r q e f g = absurd (search rules)
 
+among_branches : (bs : List Branch) (m : ℕ) → among_asks (map first_ask bs) m ≡ has_branch_at bs m
+among_branches [] m = refl
+among_branches (b ∷ bs) m = ap (λ c. (b.m == m) || c) (among_branches bs m)
+
 pub among_first : (bs : List Branch) (ks : List Ask) (m : ℕ) → SameAsks (map first_ask bs) ks → among_asks ks m ≡ has_branch_at bs m
-among_first bs ks m s = same_among (map first_ask bs) ks m s ∙ among_mapped first_ask bs m
+among_first bs ks m s = (same_alike (map first_ask bs) ks s).among m ∙ among_branches bs m
 
 pub among_second : (commit : Bool) (ks js : List Ask) (m : ℕ) → SameAsks (map (second_ask commit) ks) js → among_asks js m ≡ among_asks ks m
-among_second commit ks js m s = same_among (map (second_ask commit) ks) js m s ∙ among_mapped (second_ask commit) ks m
+among_second commit ks js m s = (same_alike (map (second_ask commit) ks) js s).among m ∙ (mapped_alike (second_ask commit) (λ k. refl) ks).among m
 
 pub among_third : (js ls : List Ask) (m : ℕ) → SameAsks (map third_ask js) ls → among_asks ls m ≡ among_asks js m
-among_third js ls m s = same_among (map third_ask js) ls m s ∙ among_mapped third_ask js m
+among_third js ls m s = (same_alike (map third_ask js) ls s).among m ∙ (mapped_alike third_ask (λ k. refl) js).among m
 
 yes_at : (m : ℕ) (bs : List Branch) (ks : List Ask) → SameAsks (map first_ask bs) ks → asked_yes m ks ≡ voted_yes m bs (map code_of ks)
 yes_at m [] [] s = refl
@@ -171,3 +177,132 @@ seam n xs ys e = ap (λ m. take m (xs ++ ys)) e ∙ take-append_seam xs ys
 pub one_tran : (bs : List Branch) (s t : TranName) → 1 ≤ length bs → IsTranOf bs s → IsTranOf bs t → s ≡ t
 one_tran [] s t some e f = absurd (omega arith)
 one_tran (b ∷ bs) s t some e f = sym e.0 ∙ f.0
+
+-- ---- a round whose requests are remade in place, one after another
+
+-- the first n were remade
+abbrev pub partly : (Ask → Ask) → ℕ → List Ask → List Ask
+partly f zero ks = ks
+partly f (suc n) [] = []
+partly f (suc n) (k ∷ ks) = f k ∷ partly f n ks
+
+partly_rest : (f : Ask → Ask) (n : ℕ) (ks : List Ask) (d : Ask) → get_or (partly f n ks) n d ≡ get_or ks n d
+partly_rest f zero ks d = refl
+partly_rest f (suc n) [] d = refl
+partly_rest f (suc n) (k ∷ ks) d = partly_rest f n ks d
+
+one_remade : (f : Ask → Ask) (n : ℕ) (ks : List Ask) (d : Ask) → n < length ks → set (partly f n ks) n (f (get_or ks n d)) ≡ partly f (suc n) ks
+one_remade f n [] d within = absurd (omega (arith, within))
+one_remade f zero (k ∷ ks) d within = refl
+one_remade f (suc n) (k ∷ ks) d within = ap (λ l. f k ∷ l) (one_remade f n ks d (omega (arith, within)))
+
+-- one more is remade
+pub one_more_remade : (f : Ask → Ask) (n : ℕ) (ks now : List Ask) (k d : Ask) → n < length ks → now ≡ partly f n ks → k ≡ f (get_or now n d)
+    → set now n k ≡ partly f (n + 1) ks
+one_more_remade f n ks now k d within is made =
+    let one : suc n ≡ n + 1 = omega arith in
+    search (arith, partly_rest, one_remade)
+
+pub all_remade : (f : Ask → Ask) (n : ℕ) (ks : List Ask) → length ks ≤ n → partly f n ks ≡ map f ks
+all_remade f zero [] all = refl
+all_remade f zero (k ∷ ks) all = absurd (omega (arith, all))
+all_remade f (suc n) [] all = refl
+all_remade f (suc n) (k ∷ ks) all = ap (λ l. f k ∷ l) (all_remade f n ks (omega (arith, all)))
+
+-- ---- the next round, of requests that were remade for the same managers
+
+module _ (f : Ask → Ask) (same : (k : Ask) → (f k).manager ≡ k.manager) (r r' : Round) (is : r'.asks.items ≡ map f r.asks.items) where
+  abbrev alike : Alike r.asks.items (map f r.asks.items)
+  alike = mapped_alike f same r.asks.items
+
+  as_long : length r'.asks.items ≡ length r.asks.items
+  as_long = ap (λ l. length l) is ∙ alike.long
+
+  pub remade_rest : r'.tickets ≡ r.tickets → IsAtRest r → IsAtRest r'
+  remade_rest tickets rest = record {
+    rising = rw is (alike.rising 0 rest.rising);
+    tickets = ap (λ t. t.items) tickets ∙ rest.tickets;
+    room = let room = rest.room in let b = as_long in rw tickets (omega (arith, b, room));
+  }
+
+  pub remade_may : (desk : DeskView) → MayAsk r desk → MayAsk r' desk
+  remade_may desk may = record { can = rw is (alike.can desk.ledgers may.can); free = let free = may.free in let b = as_long in omega (arith, b, free) }
+
+  pub remade_endings : (known : Done) → HasRoomForEndings r known → HasRoomForEndings r' known
+  remade_endings known endings = record { none = endings.none; room = let b = as_long in let room = endings.room in omega (arith, b, room) }
+
+-- a vector that was lent out and remade: it is cut to its length
+pub lent : (f : Ask → Ask) → ((k : Ask) → (f k).manager ≡ k.manager) → (n : ℕ) (asks before after rest : List Ask) → n ≡ length asks → after ≡ map f before
+    → before ≡ asks → take n (after ++ rest) ≡ map f asks
+lent f same n asks before after rest long made value =
+    let is : after ≡ map f asks = made ∙ ap (map f) value in
+    seam n after rest (long ∙ sym (ap (λ l. length l) is ∙ length-map asks f)) ∙ is
+
+-- what the next round has of the one that was remade
+pub ruleset remade_rules = (same_itself, lent, remade_endings)
+
+-- ---- the stages of a commit make a call
+
+pub seconds_are : {mid late : List LedgerView} {log later : LogState} {p : Prepared} {d : Decided} {t : Told} → HasDecided p log later d → HasTold d mid late t
+    → SameAsks (map (second_ask d.known.commit) p.round.asks.items) t.round.asks.items
+seconds_are second third = rw second.round at third.same
+
+pub stages_call : {bs : List Branch} {old mid late new : List LedgerView} {log later : LogState} {p : Prepared} {d : Decided} {t : Told} {done : Done}
+    → HasPrepared bs old mid p → HasDecided p log later d → HasTold d mid late t → HasForgotten t late new done
+    → IsTraceOfCommit p.tran bs old new log later done
+stages_call {p = p} {d = d} {t = t} first second third last =
+    let seconds : SameAsks (map (second_ask d.known.commit) p.round.asks.items) t.round.asks.items = seconds_are second third in
+    search (arith, call_by, seconds, last.thirds, last.same)
+
+-- what the log is asked by the votes of the first stage, it is asked by those of the commit
+pub for_log : (bs : List Branch) (old new : List LedgerView) (p : Prepared) (P : TranName → List Bool → List Code → Type 0) (t : TranName) (votes : List Code)
+    → HasPrepared bs old new p → p.tran ≡ t → p.known.votes.items ≡ votes → P p.tran (yes_asked p.round.asks.items) p.known.votes.items
+    → P t (yes_of bs votes) votes
+for_log bs old new p P t votes first same votes_are h = search (arith, yes_is, p.round.asks.items, p.tran)
+
+-- ---- when the next may be done, with nothing in between
+
+pub may_decide : (bs : List Branch) (desk : DeskView) (new : List LedgerView) (log : LogState) (p : Prepared) → MayCommit desk log bs
+    → HasPrepared bs desk.ledgers new p → record_of log p.tran ≡ None
+may_decide bs desk new log p may first = ap (record_of log) (one_tran bs p.tran may.tran may.some first.tran may.one) ∙ may.absent
+
+pub may_tell : (bs : List Branch) (desk new : DeskView) (start log later : LogState) (p : Prepared) (d : Decided) → MayCommit desk start bs
+    → HasPrepared bs desk.ledgers new.ledgers p → HasDecided p log later d → KeepsTheRest desk new → MayTell d new
+may_tell bs desk new start log later p d may first second rest =
+    let same : p.round ≡ d.round = sym second.round in
+    let long : length p.round.asks.items ≡ length bs = asks_long bs p.round.asks.items first.same in
+    record {
+      rest = subst IsAtRest same first.rest;
+      endings = search (arith, vec_capacity, second.endings, first.endings.room);
+      may = subst (λ (r : Round). MayAsk r new) same (record {
+        can = next_can desk.ledgers new.ledgers bs p.round.asks.items first.same first.asked may.room;
+        free = let handles = rest.keeps.goes_on.handles in let enough = may.free in let free = rest.free in omega (arith, long, handles, enough, free);
+      });
+    }
+
+pub may_forget : (bs : List Branch) (desk mid new : DeskView) (start log later : LogState) (p : Prepared) (d : Decided) (t : Told) → MayCommit desk start bs
+    → HasPrepared bs desk.ledgers mid.ledgers p → HasDecided p log later d → HasTold d mid.ledgers new.ledgers t
+    → KeepsTheRest desk mid → KeepsTheRest mid new → MayForget t new
+may_forget bs desk mid new start log later p d t may first second third rest rest_on =
+    let s = seconds_are second third in
+    record {
+      rest = third.rest;
+      may = record {
+        can = last_can d.known.commit desk.ledgers mid.ledgers new.ledgers bs p.round.asks.items t.round.asks.items first.same s first.asked third.asked may.room;
+        free =
+            let long : length t.round.asks.items ≡ length bs =
+            (second_alike d.known.commit _ t.round.asks.items s).0 ∙ asks_long bs p.round.asks.items first.same in
+            omega (arith, long, rest.keeps.goes_on.handles, rest_on.keeps.goes_on.handles, may.free, rest.free, rest_on.free);
+      };
+    }
+
+-- it asks of the log only that it has no record yet
+pub may_still : (bs : List Branch) (desk : DeskView) (start log : LogState) (tran : TranName) → MayCommit desk start bs → IsTranOf bs tran
+    → record_of log tran ≡ None → MayCommit desk log bs
+may_still bs desk start log tran may of_tran absent = search (arith, rules)
+
+-- ---- a commit without a decision
+
+-- what is said of it is said of its votes
+pub of_votes : (P : List Code → Type 0) (f : CommitFault) (votes : Vec Code Global) → f ≡ fault.Undecided votes → IfUndecided P f → P votes.items
+of_votes P f votes is h = subst (IfUndecided P) is h

@@ -1,15 +1,104 @@
--- Branches that are resolved one after another, and managers one after another.
-use Rattle.xa_base.proofs.{◌≡◌, ◌≢◌, ℕ, zero, suc, ◌+◌, ◌-◌, ◌*◌, ◌≤◌, ◌==◌, ◌||◌, if◌then◌else◌, List, [], ◌∷◌, ◌++◌, length, append-nil, sym, refl, ap, ◌∙◌}
-use Rattle.xa_base.proofs.{subst, arith, inl, inr, nat_lt, flat_map, range_with_len, cases_eq, eq-eqb, ne_eqb, range_more, at_true, at_false}
+-- How what is left is resolved: one request alone, branches one after another, and managers one after another.
+use Rattle.xa_base.proofs.{◌≡◌, ℕ, ◌+◌, ◌-◌, ◌≤◌, true, false, Some, None, List, length, refl, sym, ap, ◌∙◌, arith, length-append, nat_lt, option_or, eqb-false}
+use Rattle.xa_base.proofs.{ne_eqb, or_parts, or_from, at_false, ◌≢◌, zero, suc, ◌*◌, ◌==◌, ◌||◌, if◌then◌else◌, [], ◌∷◌, ◌++◌, append-nil, inl, inr, flat_map}
+use Rattle.xa_base.proofs.{range_with_len, cases_eq, eq-eqb, range_more, at_true, ltb-false, le-ltb, flat_map-append}
+use Rattle.xa_words.specs.{Code, Op, XidName}
+use Rattle.xa_desk.specs.{learnt_shut, with_sent, with_collected, IsKnown, ledger, put_ledger, next_operation, room_at, call_refusal, AllKept, submitted}
+use Rattle.xa_desk.specs.{after_fulls, Collects, LedgerView, DeskView, GoesOn}
+use Rattle.xa_desk.proofs.Ledgers.{known_by, ledger-put_same}
+use Rattle.std.proofs.lemmas.List.{set-set}
+use Rattle.xa_calls.proofs.Kept.{answered_keep, fulls_kept, fulls_ledgers}
+use Rattle.xa_driver.specs.{asked, AsksLedger, AsksAlone, KeepsTheRest, Outcome, Resolves, ResolvesAt, ResolvesThese, left_in, requests_for}
+use Rattle.xa_driver.proofs.Requests.{Moved, put_moved, keeps_start, keeps_chain, open_asked, moved_leaves, outstanding_chain, tickets_stay, asked_leaves}
 use Rattle.std.specs.List.{sum_by}
-use Rattle.std.proofs.lemmas.Grind.{flat_map-append}
 use Rattle.std.proofs.lemmas.List.Sums.{sum_by_push}
-use Rattle.xa_words.specs.{XidName}
-use Rattle.xa_desk.specs.{LedgerView, ledger, room_at}
 use Rattle.xa_calls.specs.Scans.{Asking}
 use Rattle.xa_scan.specs.{ScanView, left_at}
-use Rattle.xa_driver.specs.{Outcome, AsksLedger, Resolves, ResolvesAt, ResolvesThese, left_in, requests_for}
 use Rattle.xa_log.specs.{Records}
+
+-- ---- what isn't refused
+
+-- a manager with room for a request is one of the desk's
+pub known_with_room : (at : List LedgerView) (m : ℕ) → 1 ≤ room_at at m → IsKnown at m
+known_with_room at m room = search (arith, nat_lt, or_parts, eqb-false, ltb-false)
+
+-- how much room it has
+pub room_is : (at : List LedgerView) (m : ℕ) → IsKnown at m → room_at at m ≡ (ledger at m).plan - length (ledger at m).sent
+room_is at m known = grind (arith, at_false, nat_lt, or_from, ne_eqb, le-ltb)
+
+-- a desk that refuses nothing hasn't learnt that the manager is shut
+open_where_answered : (d : DeskView) (m : ℕ) → call_refusal d m ≡ None → learnt_shut (ledger d.ledgers m) ≡ false
+open_where_answered d m none = grind (arith, option_or)
+
+-- ---- what a request leaves
+
+-- a request takes no more than one of those planned
+asked_room : (a : LedgerView) (op : Op) (code : Code)
+    → a.plan - length a.sent ≤ ((asked a (Some op) (Some code)).plan - length (asked a (Some op) (Some code)).sent) + 1
+asked_room a op code = grind (arith, length-append)
+
+module _ (m : ℕ) (op : Op) (code : Code) (old new : DeskView) (known : IsKnown old.ledgers m) where
+  abbrev a : LedgerView
+  a = ledger old.ledgers m
+
+  -- it was put, and its completion was collected
+  pub called_moved : (n : ℕ) → learnt_shut a ≡ false → Collects (submitted (after_fulls n old m) m op) new (next_operation old.ledgers m) code → GoesOn old new
+      → Moved m (asked a (Some op) (Some code)) old new
+  called_moved n open_ x goes =
+      let sent : LedgerView = with_sent a op in
+      let mid : List LedgerView = put_ledger old.ledgers m sent in
+      let whole : LedgerView = with_collected sent (length a.sent) code in
+      let before : x.before.ledgers ≡ mid = search (arith, fulls_ledgers) in
+      let written : new.ledgers ≡ put_ledger old.ledgers m whole = search (arith, ledger-put_same, set-set) in
+      rw (at_false (learnt_shut a) a whole open_) (put_moved m whole old new known written (record {
+        goes_on = goes;
+        kept = ap (λ (d : DeskView). d.kept) x.collected ∙ ap (λ (d : DeskView). d.kept) x.looks.rest ∙ fulls_kept n old m;
+      }))
+
+  -- so it leaves alone all else
+  pub moved_alone : Moved m (asked a (Some op) (Some code)) old new → (AllKept old → AllKept new) → AsksAlone m old new
+  moved_alone is all = record {
+    others = is.others;
+    managers = is.managers;
+    keeps = is.keeps;
+    left = moved_leaves m (asked a (Some op) (Some code)) old new is (λ n. asked_leaves n a (Some op) (Some code));
+    free = let moved = is.open_ in let same = open_asked a (Some op) (Some code) in omega (arith, moved, same);
+    all = all;
+  }
+
+  -- and the manager has room for one less
+  pub moved_room : Moved m (asked a (Some op) (Some code)) old new → room_at old.ledgers m ≤ room_at new.ledgers m + 1
+  moved_room is = grind (arith, room_is, known_by, asked_room)
+
+-- what a call does that was answered
+pub record Called (m : ℕ) (op : Op) (code : Code) (old new : DeskView) : Type 0 where
+  pub asked_ : AsksLedger (ledger old.ledgers m) op (ledger new.ledgers m) code
+  pub alone : AsksAlone m old new
+  pub room : room_at old.ledgers m ≤ room_at new.ledgers m + 1
+
+pub call_answered : (m n : ℕ) (op : Op) (code : Code) (old new : DeskView) → 1 ≤ room_at old.ledgers m → call_refusal old m ≡ None
+    → Collects (submitted (after_fulls n old m) m op) new (next_operation old.ledgers m) code → GoesOn old new → Called m op code old new
+call_answered m n op code old new room none x goes =
+    let known = known_with_room old.ledgers m room in
+    let open_ = open_where_answered old m none in
+    let moved = called_moved m op code old new known n open_ x goes in
+    record {
+      asked_ = record { answered = λ shut. let bad : true ≡ false = sym shut ∙ open_ in cc; trace = moved.here };
+      alone = moved_alone m op code old new known moved (answered_keep old (after_fulls n old m) new m op code (fulls_ledgers n old m) (fulls_kept n old m) known x);
+      room = moved_room m op code old new known moved;
+    }
+
+-- ---- one after another
+
+pub alone_start : (m : ℕ) (d : DeskView) → AsksAlone m d d
+alone_start m d = record { others = λ n p q. refl; managers = refl; keeps = keeps_start d; left = λ o out. out; free = refl; all = λ all. all }
+
+-- and it keeps the rest
+pub alone_rest : (m : ℕ) (old new : DeskView) → AsksAlone m old new → KeepsTheRest old new
+alone_rest m old new is = search (arith, tickets_stay, is.keeps)
+
+pub alone_chain : (m : ℕ) (old mid new : DeskView) → AsksAlone m old mid → AsksAlone m mid new → AsksAlone m old new
+alone_chain m old mid new p q = search (arith, keeps_chain, outstanding_chain)
 
 -- ---- a manager at which some are left
 
@@ -32,17 +121,14 @@ pub left_more : (z : ScanView) (n : ℕ) → left_in z (n + 1) ≡ left_in z n +
 left_more z n = ap (sum_by (λ m. length (left_at z m))) (range_more n) ∙ sum_by_push (λ m. length (left_at z m)) (range_with_len 1 n) (n + 1)
 
 -- no fewer are left at more managers
-left_further : (z : ScanView) (n k : ℕ) → left_in z n ≤ left_in z (n + k)
-left_further z n zero = let same : n + 0 ≡ n = omega arith in let e : left_in z (n + 0) ≡ left_in z n = ap (left_in z) same in omega (arith, e)
-left_further z n (suc k) =
-    let same : n + suc k ≡ (n + k) + 1 = omega arith in
-    let e : left_in z (n + suc k) ≡ left_in z ((n + k) + 1) = ap (left_in z) same in
-    let more = left_more z (n + k) in
-    let before = left_further z n k in
-    omega (arith, e, more, before)
-
 pub left_within : (z : ScanView) (n most : ℕ) → n ≤ most → left_in z n ≤ left_in z most
-left_within z n most low = let same : n + (most - n) ≡ most = omega (arith, low) in subst (λ k. left_in z n ≤ left_in z k) same (left_further z n (most - n))
+left_within z n zero low = let none : n ≡ 0 = omega (arith, low) in rw none (omega arith)
+left_within z n (suc most) low = elim (cases_eq n (suc most)) [
+  | inl same ↦ rw same (omega arith)
+  | inr less ↦
+      let before = left_within z n most (omega (arith, low, less)) in
+      let one : suc most ≡ most + 1 = omega arith in let more = ap (left_in z) one ∙ left_more z most in omega (arith, before, more)
+]
 
 -- the room for a manager goes by its ledger
 pub room_same : (at at' : List LedgerView) (m : ℕ) → length at' ≡ length at → ledger at' m ≡ ledger at m → room_at at' m ≡ room_at at m
@@ -81,9 +167,7 @@ one_more_so_far z records n old mid new outcomes outcomes' more is grown here ot
   each = λ m within. elim (cases_eq m (n + 1)) [
     | inl same ↦ rw (same, at_true ((n + 1) == n + 1) more (is.at (n + 1)) (eq-eqb (n + 1) (n + 1) refl)) (rw (is.others (n + 1) (omega arith)) at here)
     | inr differs ↦
-        let low = within.0 in
-        let high = within.1 in
-        rw (at_false (m == n + 1) more (is.at m) (ne_eqb m (n + 1) differs), others m low differs) (is.each m (low, omega (arith, high, differs)))
+        rw (at_false (m == n + 1) more (is.at m) (ne_eqb m (n + 1) differs), others m within.0 differs) (is.each m (within.0, omega (arith, within.1, differs)))
   ];
   others = λ m above. others m (omega (arith, above)) (λ e. absurd (omega (arith, above, e))) ∙ is.others m (omega (arith, above));
 }

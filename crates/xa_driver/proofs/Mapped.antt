@@ -1,14 +1,15 @@
 -- What a commit and a resolve keep of the states that they ask over, and what they ask over one kind of states they ask
 -- over another, where each of their requests does.
 use Rattle.xa_base.proofs.{arith, ◌≡◌, ℕ, Bool, true, false, List, [], ◌∷◌, Option, Some, None, refl, sym, ap, subst, Contains, Contains-append_left}
-use Rattle.std.proofs.lemmas.List.Elements.{Contains-push}
+use Rattle.xa_base.proofs.{Contains-push}
 use Rattle.xa_base.specs.{Chain}
 use Rattle.xa_base.specs.Lists.Chain.{none, more}
 use Rattle.xa_words.specs.{XidName, Op, OpenRm, Prepare, Forget, Code}
 use Rattle.xa_calls.specs.Scans.{Asking}
 use Rattle.xa_driver.specs.{Branch, Ending, Outcome, AsksFor, AtBranch, second_op, third_op, is_decided, AsksIf, ResolvesBranch, ResolvesAt, is_to_commit}
-use Rattle.xa_driver.specs.{outcome_op}
+use Rattle.xa_driver.specs.{outcome_op, ResolvesInTurn, begun, next}
 use Rattle.xa_log.specs.{Records}
+use Rattle.xa_scan.specs.{ScanView, left_at}
 
 -- ---- what is asked
 
@@ -77,15 +78,12 @@ module _ {D : Type 0} (A : Asking D) (P : Op → Type 0) (Q : D → Type 0) (on 
 module _ {D E : Type 0} (A : Asking D) (B : Asking E) (f : D → E) (Q P : D → Type 0)
     (on : (d e : D) (op : Op) (c : Code) → A d op e c → Q d → Q e) (back : (d e : D) (op : Op) (c : Code) → A d op e c → P e → P d)
     (step : (d e : D) (op : Op) (c : Code) → A d op e c → Q d → P e → B (f d) op (f e) c) where
-  for_on : (op : Option Op) (code : Option Code) (d e : D) → AsksFor A op code d e → Q d → Q e
-  for_on op code d e is q = for_by A Any Q (λ d e op c so asked q. on d e op c asked q) op code d e (any_asked op) is q
-
-  for_back : (op : Option Op) (code : Option Code) (d e : D) → AsksFor A op code d e → P e → P d
+  pub for_back : (op : Option Op) (code : Option Code) (d e : D) → AsksFor A op code d e → P e → P d
   for_back None code d e nothing p = subst P nothing.1 p
   for_back (Some op) None d e nothing p = absurd nothing
   for_back (Some op) (Some c) d e asked p = back d e op c asked p
 
-  for_mapped : (op : Option Op) (code : Option Code) (d e : D) → AsksFor A op code d e → Q d → P e → AsksFor B op code (f d) (f e)
+  pub for_mapped : (op : Option Op) (code : Option Code) (d e : D) → AsksFor A op code d e → Q d → P e → AsksFor B op code (f d) (f e)
   for_mapped None code d e nothing q p = (nothing.0, ap f nothing.1)
   for_mapped (Some op) None d e nothing q p = absurd nothing
   for_mapped (Some op) (Some c) d e asked q p = step d e op c asked q p
@@ -103,7 +101,7 @@ module _ {D E : Type 0} (A : Asking D) (B : Asking E) (f : D → E) (Q P : D →
           third = is.third;
           prepares = step old is.prepared (Prepare b.xid) vote is.prepares q (for_back (second_op commit b.xid vote) second is.prepared is.decided is.obeys p2);
           obeys = for_mapped (second_op commit b.xid vote) second is.prepared is.decided is.obeys q1 p2;
-          forgets = for_mapped (third_op b.xid second) is.third is.decided new is.forgets (for_on (second_op commit b.xid vote) second is.prepared is.decided is.obeys q1) p;
+          forgets = for_mapped (third_op b.xid second) is.third is.decided new is.forgets (for_by A Any Q (λ d e op c _. on d e op c) (second_op commit b.xid vote) second is.prepared is.decided (any_asked _) is.obeys q1) p;
           ends = is.ends;
         }
 
@@ -123,9 +121,6 @@ module _ {D E : Type 0} (A : Asking D) (B : Asking E) (f : D → E) (Q P : D →
     outcome_mapped : (o : Outcome) (d e : D) → ResolvesBranch A records m o d e → Q d → P e → ResolvesBranch B records m o (f d) (f e)
     outcome_mapped o d e is q p = search (arith, if_back, if_mapped, is.decided, o.code, is.obeys, is.forgets)
 
-    all_on : (d : D) (os : List Outcome) (e : D) → Chain (ResolvesBranch A records m) d os e → Q d → Q e
-    all_on d os e chain q = outcomes_by A Any Q (λ d e op c so asked q. on d e op c asked q) records m d os e (λ o there. anything records m o) chain q
-
     all_back : (d : D) (os : List Outcome) (e : D) → Chain (ResolvesBranch A records m) d os e → P e → P d
     all_back d os e (none xs last z same) p = subst P same p
     all_back d os e (more xs o now last before is) p = all_back d xs now before (outcome_back o now last is p)
@@ -133,9 +128,22 @@ module _ {D E : Type 0} (A : Asking D) (B : Asking E) (f : D → E) (Q P : D →
     all_mapped : (d : D) (os : List Outcome) (e : D) → Chain (ResolvesBranch A records m) d os e → Q d → P e → Chain (ResolvesBranch B records m) (f d) os (f e)
     all_mapped d os e (none xs last z same) q p = none xs (f last) z (ap f same)
     all_mapped d os e (more xs o now last before is) q p =
-        more xs o (f now) (f last) (all_mapped d xs now before q (outcome_back o now last is p)) (outcome_mapped o now last is (all_on d xs now before q) p)
+        more xs o (f now) (f last) (all_mapped d xs now before q (outcome_back o now last is p)) (outcome_mapped o now last is (outcomes_by A Any Q (λ d e op c _. on d e op c) records m d xs now (λ o _. anything records m o) before q) p)
 
     pub resolves_mapped : (xids : List XidName) (os : List Outcome) (d e : D) → ResolvesAt A records m xids os d e → Q d → P e
         → ResolvesAt B records m xids os (f d) (f e)
     resolves_mapped [] os d e is q p = (is.0, ap f is.1)
     resolves_mapped (x ∷ xs) os d e is q p = search (arith, all_back, all_mapped, is.opened, is.code, is.opens, is.each)
+
+-- ---- what was resolved in turn was, whatever of each request is looked at
+
+module _ {D E : Type 0} (f : D → E) where
+  pub turns_by : (asking : ℕ → Asking D) (other : ℕ → Asking E)
+      → ((m : ℕ) (d : D) (op : Op) (e : D) (code : Code) → asking m d op e code → other m (f d) op (f e) code)
+      → (records : Records) (z : ScanView) (old : D) (n : ℕ) (os : List Outcome) (new : D)
+      → ResolvesInTurn asking records z old n os new → ResolvesInTurn other records z (f old) n os (f new)
+  turns_by asking other is records z old n os new (begun outcomes last nil same) = begun outcomes (f last) nil (ap f same)
+  turns_by asking other is records z old n os new (next k m xs ys all d e before here r grown) =
+      next k m xs ys all (f d) (f e) (turns_by asking other is records z old k xs d before) here
+      (resolves_mapped (asking m) (other m) f (λ _. Unit) (λ _. Unit) (λ d e op c a q. q) (λ d e op c a p. p) (λ d e op c a q p. is m d op e c a) records m (left_at z m) ys d e r tt tt)
+      grown

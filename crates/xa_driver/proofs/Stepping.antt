@@ -1,21 +1,17 @@
 -- One step of a round: a request is sent, or collected; and the end, once all are.
-use Rattle.xa_base.proofs.{list_any-append, none_of, MatchOption, ◌≡◌, ◌≢◌, ℕ, suc, ◌+◌, ◌<◌, ◌≤◌, Option, None, Some, false, List, [], ◌∷◌, ◌++◌, length, refl}
-use Rattle.xa_base.proofs.{sym, ap, ◌∙◌, subst, arith, get_or, set, append_assoc, append-nil, length-append, slice_get-get_or, slice_get_within, All, slice_get}
-use Rattle.xa_base.proofs.{All-nil, All-cons}
-use Rattle.std.proofs.Math.Seq.{get_or-append_seam, set-append_seam}
-use Rattle.std.proofs.lemmas.Option.{get_or_from_slice_get}
+use Rattle.xa_base.proofs.{list_any-append, none_of, MatchOption, ◌≡◌, ◌≢◌, ℕ, ◌+◌, ◌<◌, ◌≤◌, Option, None, Some, false, List, [], ◌∷◌, ◌++◌, length, refl, sym}
+use Rattle.xa_base.proofs.{ap, ◌∙◌, subst, arith, get_or, set, append_assoc, append-nil, length-append, slice_get-get_or, slice_get_within, All, slice_get}
+use Rattle.xa_base.proofs.{All-nil, All-cons, All-append, get_or-append_seam, set-append_seam, get_or_from_slice_get}
 use Rattle.std.specs.VecDeque.{deque_capacity}
-use Rattle.xa_words.specs.{Code, Op}
+use Rattle.xa_words.specs.{Code}
 use Rattle.xa_desk.specs.{LedgerView, LeavesTickets, TicketView, IsKnown, ledger, outstanding, DeskView}
-use Rattle.xa_desk.proofs.Ledgers.{known_by}
-use Rattle.xa_driver.specs.{Ask, Round, AllCanAsk, AreRising, AskTrace, BeginsAsk, CanAsk, EachAsk, EachBegan, Ends, HasBegun, HaveComeSoFar, IsBegun}
-use Rattle.xa_driver.specs.{KeepsDesk, Owning, among_asks, collected, in_flight, unasked, Begins, IsUnderWay, coded, sent_count}
+use Rattle.xa_desk.proofs.Ledgers.{known_by, sent_keeps_out}
+use Rattle.xa_driver.specs.{Ask, Round, AllCanAsk, AreRising, BeginsAsk, CanAsk, EachAsk, EachBegan, Ends, HasBegun, HaveComeSoFar, IsBegun, Owning, among_asks}
+use Rattle.xa_driver.specs.{collected, in_flight, unasked, Begins, IsUnderWay, coded, sent_count, IsSameAsk, SameAsks}
 use Rattle.xa_driver.specs.Asks.{Asks}
-use Rattle.xa_driver.proofs.Staying.{IsOpen, moved_leaves, tickets_stay}
-use Rattle.xa_driver.proofs.Asking.{Moved, sent_by, collected_of, keeps_chain, keeps_start, began_moved}
-use Rattle.xa_driver.proofs.Gathering.{behind}
-use Rattle.xa_driver.proofs.Flights.{among_first_part, among_last_part, apart, asked_more, asked_stays, begins_flight, begun_more, begun_stays, can_at}
-use Rattle.xa_driver.proofs.Flights.{end_answers, end_moves, rising_apart, rising_first_part, rising_last_part, sent_takes_one}
+use Rattle.xa_driver.proofs.Requests.{tickets_stay, keeps_chain, keeps_start, began_moved, behind, same_alike, same_itself, same_set}
+use Rattle.xa_driver.proofs.Flights.{apart, asked_more, asked_stays, begins_flight, begun_more, begun_stays, can_at, end_answers, end_moves, sent_takes_one}
+use Rattle.xa_driver.proofs.Flights.{among_parts, end_takes_none, rising_parts}
 
 -- ---- places in lists
 
@@ -29,11 +25,6 @@ head_is xs (y ∷ ys) n k e g =
     let there : get_or (xs ++ y ∷ ys) (length xs) k ≡ k = ap (λ m. get_or (xs ++ y ∷ ys) m k) (sym e) ∙ get_or_from_slice_get (xs ++ y ∷ ys) n k k g in
     (ys, ap (λ q. q ∷ ys) (sym (get_or-append_seam xs y ys k) ∙ there))
 
--- the managers of a last part rise too
-pub rising_rest : (lo : ℕ) (xs ys : List Ask) → AreRising lo (xs ++ ys) → (hi : ℕ) × AreRising hi ys
-rising_rest lo [] ys r = (lo, r)
-rising_rest lo (x ∷ xs) ys r = rising_rest x.manager xs ys r.1
-
 pub as_many : (ks : List Ask) (rs : List (Option TicketView)) (at : List LedgerView) (d : DeskView) → EachBegan ks rs at d → length rs ≡ length ks
 as_many [] [] at d h = refl
 as_many (k ∷ ks) (r ∷ rs) at d h = let z = as_many ks rs at d h.1 in omega arith
@@ -45,50 +36,34 @@ pub first_flies : (ks : List Ask) (r : Option TicketView) (rs : List (Option Tic
 first_flies [] r rs at d h = absurd h
 first_flies (k ∷ ks) r rs at d h = (k, (ks, (refl, h)))
 
--- what is open stays so as a request is sent
-sent_leaves_open : (a : LedgerView) (op : Option Op) (n : ℕ) → IsOpen n a → IsOpen n (sent_by a op)
-sent_leaves_open a None n h = h
-sent_leaves_open a (Some op) n h = search (arith, length-append, h.sent, a.sent)
-
 pub flight_owned : (k : Ask) (t : Option TicketView) (from : List LedgerView) (d : DeskView) → HasBegun k t from d → Owning d t
 flight_owned k None from d h = tt
 flight_owned k (Some t) from d h = h.owned
 
--- ---- what is known of a round, apart from the round
-
--- the same of its parts
-record Far (done flying rest : List Ask) (tickets : List (Option TicketView)) (at now : DeskView) : Type 0 where
-  answered : EachAsk done at.ledgers now.ledgers
-  in_flight : EachBegan flying tickets at.ledgers now
-  others : (m : ℕ) → 1 ≤ m → among_asks (done ++ flying) m ≡ false → ledger now.ledgers m ≡ ledger at.ledgers m
-  managers : length now.ledgers ≡ length at.ledgers
-  keeps : KeepsDesk at now
-  can : AllCanAsk (done ++ (flying ++ rest)) at.ledgers
-  free : outstanding at.ledgers + length (done ++ (flying ++ rest)) ≤ at.handles
-  fewer : outstanding now.ledgers ≤ outstanding at.ledgers + (length done + length flying)
-
-under_way : (r : Round) (done flying rest : List Ask) (at now : DeskView) → r.asks.items ≡ done ++ (flying ++ rest) → length done ≡ r.collected
-    → AreRising 0 (done ++ (flying ++ rest)) → length r.asks.items ≤ deque_capacity r.tickets → r.before.value ≡ at
-    → Far done flying rest r.tickets.items at now → IsUnderWay r now
-under_way r done flying rest at now parts counted rising room before far = search (arith, r.tickets.items, r.before.value)
-
 -- a round that has sent nothing
-pub begins : (asks : List Ask) (desk : DeskView) (r : Round) → AreRising 0 asks → AllCanAsk asks desk.ledgers
-    → outstanding desk.ledgers + length asks ≤ desk.handles → r.before.value ≡ desk → r.asks.items ≡ asks → r.collected ≡ 0 → r.tickets.items ≡ []
-    → length r.asks.items ≤ deque_capacity r.tickets → Begins asks desk r
-begins asks desk r rising can free before is count tickets room = record {
-  under_way = under_way r [] [] asks desk desk is (sym count) rising room before (record {
+pub begins : (desk : DeskView) (r : Round) → AreRising 0 r.asks.items → AllCanAsk r.asks.items desk.ledgers
+    → outstanding desk.ledgers + length r.asks.items ≤ desk.handles → r.before.value ≡ desk → r.collected ≡ 0 → r.tickets.items ≡ []
+    → length r.asks.items ≤ deque_capacity r.tickets → Begins r.asks.items desk r
+begins desk r rising can free before count tickets room = record {
+  under_way = record {
+    done = [];
+    flying = [];
+    rest = r.asks.items;
+    parts = refl;
+    counted = sym count;
     answered = tt;
-    in_flight = subst (λ (ts : List (Option TicketView)). EachBegan [] ts desk.ledgers desk) (sym tickets) tt;
-    others = λ m p none. refl;
-    managers = refl;
-    keeps = keeps_start desk;
-    can = can;
-    free = free;
-    fewer = omega arith;
-  });
+    in_flight = rw tickets tt;
+    others = λ m p none. ap (λ (d : DeskView). ledger d.ledgers m) (sym before);
+    managers = ap (λ (d : DeskView). length d.ledgers) (sym before);
+    keeps = rw before (keeps_start desk);
+    rising = rising;
+    can = rw before can;
+    free = rw before free;
+    fewer = rw before (omega arith);
+    room = room;
+  };
   before = before;
-  asks_are = is;
+  asks_are = refl;
   none = let a = ap (λ l. length l) tickets in omega (arith, a, count);
 }
 
@@ -105,11 +80,23 @@ module _ (r : Round) (now : DeskView) (u : IsUnderWay r now) where
   split : r.asks.items ≡ gone ++ u.rest
   split = u.parts ∙ sym (append_assoc u.done u.flying u.rest)
 
-  tickets_are : length r.tickets.items ≡ length u.flying
-  tickets_are = as_many u.flying r.tickets.items at.ledgers now u.in_flight
+  count_is : sent_count r ≡ length gone
+  count_is =
+      let a = u.counted in let b = as_many u.flying r.tickets.items at.ledgers now u.in_flight in omega (arith, a, b, length-append u.done u.flying)
 
-  pub count_is : sent_count r ≡ length gone
-  count_is = let a = u.counted in let b = tickets_are in omega (arith, a, b, length-append u.done u.flying)
+  -- one of its requests: those before it aren't to its manager
+  module _ (js : List Ask) (k : Ask) (ks : List Ask) (all : r.asks.items ≡ js ++ k ∷ ks) where
+    up : AreRising 0 (js ++ k ∷ ks)
+    up = subst (AreRising 0) all u.rising
+
+    can_first : CanAsk at.ledgers k.manager
+    can_first = can_at js k ks at.ledgers (subst (λ (l : List Ask). AllCanAsk l at.ledgers) all u.can)
+
+    known_now : IsKnown now.ledgers k.manager
+    known_now = known_by at.ledgers now.ledgers k.manager u.managers can_first.known
+
+    none_before : among_asks js k.manager ≡ false
+    none_before = let p = rising_parts 0 js (k ∷ ks) up in p.above k.manager p.last.0
 
   -- ---- one more is sent
 
@@ -124,53 +111,54 @@ module _ (r : Round) (now : DeskView) (u : IsUnderWay r now) where
     all_is : r.asks.items ≡ gone ++ k ∷ zs
     all_is = split ∙ ap (λ l. gone ++ l) tail_is.1
 
-    up : AreRising 0 (gone ++ k ∷ zs)
-    up = subst (AreRising 0) all_is u.rising
-
-    can_first : CanAsk at.ledgers k.manager
-    can_first = can_at gone k zs at.ledgers (subst (λ (l : List Ask). AllCanAsk l at.ledgers) all_is u.can)
-
     none_gone : among_asks gone k.manager ≡ false
-    none_gone = rising_apart 0 gone k zs up
+    none_gone = none_before gone k zs all_is
 
     same : ledger now.ledgers k.manager ≡ ledger at.ledgers k.manager
-    same = u.others k.manager can_first.known.positive none_gone
+    same = let can = can_first gone k zs all_is in u.others k.manager can.known.positive none_gone
 
     pub can_now : CanAsk now.ledgers k.manager
-    can_now = search (arith, known_by, can_first, same)
+    can_now = record { known = known_now gone k zs all_is; room = rw same (let can = can_first gone k zs all_is in can.room) }
 
     pub free_now : outstanding now.ledgers < now.handles
     free_now = grind (arith, all_is, length-append)
 
-    parts_on : gone ++ k ∷ zs ≡ u.done ++ ((u.flying ++ k ∷ []) ++ zs)
-    parts_on = append_assoc u.done u.flying (k ∷ zs) ∙ ap (λ l. u.done ++ l) (sym (append_assoc u.flying (k ∷ []) zs))
+    parts_on : r.asks.items ≡ u.done ++ ((u.flying ++ k ∷ []) ++ zs)
+    parts_on = u.parts ∙ ap (λ l. u.done ++ (u.flying ++ l)) tail_is.1 ∙ ap (λ l. u.done ++ l) (sym (append_assoc u.flying (k ∷ []) zs))
 
-    far_on : (t : Option TicketView) (new : DeskView) → BeginsAsk k now new t → Far u.done (u.flying ++ k ∷ []) zs (r.tickets.items ++ t ∷ []) at new
-    far_on t new began =
+    pub one_more_sent : (t : Option TicketView) (new : DeskView) → BeginsAsk k now new t → (r' : Round) → r' ≡ record r { tickets = r'.tickets }
+        → r'.tickets.items ≡ r.tickets.items ++ t ∷ [] → deque_capacity r'.tickets ≡ deque_capacity r.tickets → IsUnderWay r' new
+    one_more_sent t new began r' is tickets capacity =
         let moved = began_moved k now new t can_now.known began in
-        let flying_up = rising_rest 0 u.done (u.flying ++ k ∷ zs) (subst (AreRising 0) (append_assoc u.done u.flying (k ∷ zs)) up) in
-        let whole : gone ++ k ∷ [] ≡ u.done ++ (u.flying ++ k ∷ []) = append_assoc u.done u.flying (k ∷ []) in
+        let first = rising_parts 0 u.done (u.flying ++ k ∷ zs) (subst (AreRising 0) (append_assoc u.done u.flying (k ∷ zs)) (up gone k zs all_is)) in
+        let later = rising_parts first.hi u.flying (k ∷ zs) first.last in
+        let none = among_parts u.done u.flying k.manager none_gone in
         let one = sent_takes_one k t now new can_now.known began in
-        let long : length (u.flying ++ k ∷ []) ≡ length u.flying + 1 = length-append u.flying (k ∷ []) in
-        let fewer = u.fewer in
-        record {
-          answered = asked_stays 0 u.done at.ledgers now new k.manager _ (rising_first_part 0 u.done (u.flying ++ k ∷ zs) (subst (AreRising 0) (append_assoc u.done u.flying (k ∷ zs)) up)) (among_first_part u.done u.flying k.manager none_gone) moved u.answered;
-          in_flight = search (arith, begun_more, begun_stays, rising_first_part, among_last_part, none_gone, begins_flight, same, can_now, flying_up.0);
-          others = search (arith, among_last_part, among_first_part, moved.others);
+        let flying = begun_stays at.ledgers now new k.manager _ moved first.hi u.flying r.tickets.items later.first none.1 u.in_flight in
+        subst (λ (q : Round). IsUnderWay q new) (sym is) (record {
+          done = u.done;
+          flying = u.flying ++ k ∷ [];
+          rest = zs;
+          parts = parts_on;
+          counted = u.counted;
+          answered = asked_stays at.ledgers now new k.manager _ moved 0 u.done first.first none.0 u.answered;
+          in_flight = rw tickets (begun_more u.flying r.tickets.items k t at.ledgers new flying (begins_flight k t at now new same can_now.known began));
+          others = λ m p without.
+              let apart_ = among_parts gone (k ∷ []) m (ap (λ l. among_asks l m) (append_assoc u.done u.flying (k ∷ [])) ∙ without) in
+              moved.others m p (λ q. apart k [] m apart_.1 (sym q)) ∙ u.others m p apart_.0;
           managers = moved.managers ∙ u.managers;
           keeps = keeps_chain at now new u.keeps moved.keeps;
-          can = subst (λ (l : List Ask). AllCanAsk l at.ledgers) (all_is ∙ parts_on) u.can;
-          free = subst (λ (l : List Ask). outstanding at.ledgers + length l ≤ at.handles) (all_is ∙ parts_on) u.free;
-          fewer = omega (arith, one, long, fewer);
-        }
-
-    pub one_more_sent : (t : Option TicketView) (new : DeskView) → BeginsAsk k now new t → (r' : Round) → r'.before ≡ r.before → r'.asks ≡ r.asks
-        → r'.collected ≡ r.collected → r'.tickets.items ≡ r.tickets.items ++ t ∷ [] → deque_capacity r'.tickets ≡ deque_capacity r.tickets → IsUnderWay r' new
-    one_more_sent t new began r' before asks count tickets capacity = search (arith, under_way, all_is, parts_on, up, far_on)
+          rising = u.rising;
+          can = u.can;
+          free = u.free;
+          fewer = omega (arith, one, u.fewer, length-append u.flying (k ∷ []));
+          room = let room = u.room in omega (arith, room, capacity);
+        })
 
     -- and what was outstanding stays
     pub one_more_leaves : (t : Option TicketView) (new : DeskView) → BeginsAsk k now new t → LeavesTickets now new
-    one_more_leaves t new began = search (arith, began_moved, can_now, tickets_stay, moved_leaves, sent_leaves_open)
+    one_more_leaves None new (same_, unsent) = rw same_ (λ t owned. owned)
+    one_more_leaves (Some t) new b = tickets_stay now new b.keeps (rw b.sent (sent_keeps_out now.ledgers k.manager b.op can_now.known))
 
   -- ---- the one that is longest in flight is collected
 
@@ -196,75 +184,48 @@ module _ (r : Round) (now : DeskView) (u : IsUnderWay r now) where
     pub place_is : (d : Ask) → get_or r.asks.items r.collected d ≡ k
     place_is d = (λ i. get_or (all_of i) (sym u.counted i) d) ∙ get_or-append_seam u.done k (js ++ u.rest) d
 
-    known_now : IsKnown now.ledgers k.manager
-    known_now = search (arith, known_by, can_at, all_of)
-
-    up_all : AreRising 0 (u.done ++ k ∷ (js ++ u.rest))
-    up_all = subst (AreRising 0) all_of u.rising
-
-    none_done : among_asks u.done k.manager ≡ false
-    none_done = rising_apart 0 u.done k (js ++ u.rest) up_all
-
-    after_k : AreRising k.manager (js ++ u.rest)
-    after_k = rising_last_part 0 u.done k (js ++ u.rest) up_all
-
-    code_now : (code : Option Code) (new : DeskView) → Ends k now new t code → Far (u.done ++ coded k code ∷ []) js u.rest ts at new
-    code_now code new e =
-        let moved : Moved k.manager (collected_of (ledger now.ledgers k.manager) t code) now new = end_moves k t code at.ledgers now new known_now begun e in
-        let trace : AskTrace k.op code (ledger at.ledgers k.manager) (ledger new.ledgers k.manager) =
-        end_answers k t code at.ledgers now new begun e moved.here in
-        let whole : (u.done ++ coded k code ∷ []) ++ (js ++ u.rest) ≡ u.done ++ coded k code ∷ (js ++ u.rest) =
-        append_assoc u.done (coded k code ∷ []) (js ++ u.rest) in
-        let some : (u.done ++ coded k code ∷ []) ++ js ≡ u.done ++ coded k code ∷ js = append_assoc u.done (coded k code ∷ []) js in
-        let long : length (u.done ++ coded k code ∷ []) ≡ length u.done + 1 = length-append u.done (coded k code ∷ []) in
-        let flew : length u.flying ≡ suc (length js) = ap (λ l. length l) first_one.1.1.0 in
-        let fewer = u.fewer in
-        let not_more = fewer_now t code new e in
-        record {
-          answered = asked_more u.done (coded k code) at.ledgers new.ledgers (asked_stays 0 u.done at.ledgers now new k.manager _ (rising_first_part 0 u.done (k ∷ (js ++ u.rest)) up_all) none_done moved u.answered) trace;
-          in_flight = begun_stays k.manager js ts at.ledgers now new k.manager _ (rising_first_part k.manager js u.rest after_k) (behind k.manager k.manager js (omega arith) (rising_first_part k.manager js u.rest after_k)) moved first_one.1.1.1.1;
+    pub one_more_collected : (code : Option Code) (new : DeskView) → Ends k now new t code → (r' : Round)
+        → r' ≡ record r { asks = r'.asks; collected = r.collected + 1; tickets = r'.tickets } → r'.asks.items ≡ set r.asks.items r.collected (coded k code)
+        → r'.tickets.items ≡ ts → deque_capacity r'.tickets ≡ deque_capacity r.tickets → IsUnderWay r' new
+    one_more_collected code new e r' is asks left capacity =
+        let moved = end_moves k t code at.ledgers now new (known_now u.done k (js ++ u.rest) all_of) begun e in
+        let trace = end_answers k t code at.ledgers now new begun e moved.here in
+        let same : SameAsks r.asks.items r'.asks.items =
+        rw asks (same_set r.asks.items r.asks.items r.collected k (coded k code) (sym (place_is k)) (same_coded code) (same_itself r.asks.items)) in
+        let alike = same_alike r.asks.items r'.asks.items same in
+        let first = rising_parts 0 u.done (k ∷ (js ++ u.rest)) (up u.done k (js ++ u.rest) all_of) in
+        let later = rising_parts k.manager js u.rest first.last.1 in
+        let now_are : r'.asks.items ≡ u.done ++ coded k code ∷ (js ++ u.rest) = search (arith, all_of, set-append_seam) in
+        let grown = length-append u.done (coded k code ∷ []) in
+        subst (λ (q : Round). IsUnderWay q new) (sym is) (record {
+          done = u.done ++ coded k code ∷ [];
+          flying = js;
+          rest = u.rest;
+          parts = now_are ∙ sym (append_assoc u.done (coded k code ∷ []) (js ++ u.rest));
+          counted = let a = u.counted in omega (arith, a, grown);
+          answered = asked_more u.done (coded k code) at.ledgers new.ledgers
+              (asked_stays at.ledgers now new k.manager _ moved 0 u.done first.first (first.above k.manager first.last.0) u.answered) trace;
+          in_flight = rw left (begun_stays at.ledgers now new k.manager _ moved k.manager js ts later.first (behind k.manager k.manager js (omega arith) later.first) first_one.1.1.1.1);
           others = λ m p without.
-              let none : among_asks (u.done ++ k ∷ js) m ≡ false = same_managers code m u.done js ∙ ap (λ l. among_asks l m) (sym some) ∙ without in
-              let differs : m ≢ k.manager = λ q. apart k js m (among_last_part u.done (k ∷ js) m none) (sym q) in
+              let none : among_asks (u.done ++ k ∷ js) m ≡ false = same_managers code m u.done js ∙ without in
+              let differs : m ≢ k.manager = λ q. apart k js m (among_parts u.done (k ∷ js) m none).1 (sym q) in
               moved.others m p differs ∙ u.others m p (ap (λ l. among_asks (u.done ++ l) m) first_one.1.1.0 ∙ none);
           managers = moved.managers ∙ u.managers;
           keeps = keeps_chain at now new u.keeps moved.keeps;
-          can = subst (λ (l : List Ask). AllCanAsk l at.ledgers) (sym whole) (can_coded code u.done (subst (λ (l : List Ask). AllCanAsk l at.ledgers) all_of u.can));
-          free =
-              let free = u.free in
-              let one = ap (λ l. length l) all_of in
-              let two = ap (λ l. length l) whole in
-              omega (arith, free, one, two, length-append u.done (k ∷ (js ++ u.rest)), length-append u.done (coded k code ∷ (js ++ u.rest)));
-          fewer = omega (arith, long, flew, fewer, not_more);
-        }
+          rising = alike.rising 0 u.rising;
+          can = alike.can at.ledgers u.can;
+          free = let free = u.free in omega (arith, free, alike.long);
+          fewer =
+              let fewer = u.fewer in let flew = ap (λ l. length l) first_one.1.1.0 in
+              let no_more = end_takes_none k t code now new e in omega (arith, grown, flew, fewer, no_more);
+          room = let room = u.room in omega (arith, room, alike.long, capacity);
+        })
       where
-        fewer_now : (t : Option TicketView) (code : Option Code) (new : DeskView) → Ends k now new t code → outstanding new.ledgers ≤ outstanding now.ledgers
-        fewer_now None code new e = let z = ap (λ (d : DeskView). outstanding d.ledgers) e.0 in omega (arith, z)
-        fewer_now (Some t) code new e = let z = e.1.1.fewer in omega (arith, z)
+        same_coded : (code : Option Code) → IsSameAsk k (coded k code)
+        same_coded code = record { manager = refl; xid = refl; vote = refl; op = refl }
 
-        same_managers : (code : Option Code) (m : ℕ) (xs js : List Ask) → among_asks (xs ++ k ∷ js) m ≡ among_asks (xs ++ coded k code ∷ js) m
+        same_managers : (code : Option Code) (m : ℕ) (xs js : List Ask) → among_asks (xs ++ k ∷ js) m ≡ among_asks ((xs ++ coded k code ∷ []) ++ js) m
         same_managers code m xs js = search (arith, list_any-append)
-
-        can_coded : (code : Option Code) (xs : List Ask) → AllCanAsk (xs ++ k ∷ (js ++ u.rest)) at.ledgers
-            → AllCanAsk (xs ++ coded k code ∷ (js ++ u.rest)) at.ledgers
-        can_coded code [] h = h
-        can_coded code (x ∷ xs) h = (h.0, can_coded code xs h.1)
-
-    rising_coded : (code : Option Code) (lo : ℕ) (xs : List Ask) → AreRising lo (xs ++ k ∷ (js ++ u.rest)) → AreRising lo (xs ++ coded k code ∷ (js ++ u.rest))
-    rising_coded code lo [] h = h
-    rising_coded code lo (x ∷ xs) h = (h.0, rising_coded code x.manager xs h.1)
-
-    pub one_more_collected : (code : Option Code) (new : DeskView) → Ends k now new t code → (r' : Round) → r'.before ≡ r.before
-        → r'.asks.items ≡ set r.asks.items r.collected (coded k code) → r'.collected ≡ r.collected + 1 → r'.tickets.items ≡ ts
-        → deque_capacity r'.tickets ≡ deque_capacity r.tickets → IsUnderWay r' new
-    one_more_collected code new e r' before asks count tickets capacity =
-        let whole : (u.done ++ coded k code ∷ []) ++ (js ++ u.rest) ≡ u.done ++ coded k code ∷ (js ++ u.rest) = search (arith, append_assoc) in
-        let now_are : r'.asks.items ≡ u.done ++ coded k code ∷ (js ++ u.rest) = search (arith, all_of, set-append_seam) in
-        under_way r' (u.done ++ coded k code ∷ []) js u.rest at new (now_are ∙ sym whole)
-        (let a = u.counted in omega (arith, a, count, length-append u.done (coded k code ∷ [])))
-        (subst (AreRising 0) (sym whole) (rising_coded code 0 u.done up_all))
-        (let room = u.room in let one = ap (λ l. length l) now_are in let two = ap (λ l. length l) all_of in omega (arith, room, one, two, capacity, length-append u.done (k ∷ (js ++ u.rest)), length-append u.done (coded k code ∷ (js ++ u.rest))))
-        (ap (λ b. b.value) before) (subst (λ (l : List (Option TicketView)). Far (u.done ++ coded k code ∷ []) js u.rest l at new) (sym tickets) (code_now code new e))
 
 -- ---- once all are collected
 
@@ -283,33 +244,29 @@ module _ (at : List LedgerView) (d : DeskView) where
   abbrev Begun : Ask → Type 0
   Begun k = IsBegun k.op (ledger at k.manager) (ledger d.ledgers k.manager)
 
-  so_answered : (ks js : List Ask) → EachAsk ks at d.ledgers → All Begun js → All Begun (ks ++ js)
-  so_answered [] ls e h = h
-  so_answered (k ∷ ks) ls e h = All-cons Begun k (ks ++ ls) (collected k.code e.0) (so_answered ks ls e.1 h)
+  so_answered : (ks : List Ask) → EachAsk ks at d.ledgers → All Begun ks
+  so_answered [] e = All-nil Begun
+  so_answered (k ∷ ks) e = All-cons Begun k ks (collected k.code e.0) (so_answered ks e.1)
 
-  so_flying : (ks js : List Ask) (ts : List (Option TicketView)) → EachBegan ks ts at d → All Begun js → All Begun (ks ++ js)
-  so_flying [] ls [] e h = h
-  so_flying (k ∷ ks) ls (t ∷ ts) e h = All-cons Begun k (ks ++ ls) (begun_so k t at d e.0) (so_flying ks ls ts e.1 h)
-  so_flying _ ls _ e h = absurd e
+  so_flying : (ks : List Ask) (ts : List (Option TicketView)) → EachBegan ks ts at d → All Begun ks
+  so_flying [] [] e = All-nil Begun
+  so_flying (k ∷ ks) (t ∷ ts) e = All-cons Begun k ks (begun_so k t at d e.0) (so_flying ks ts e.1)
+  so_flying _ _ e = absurd e
 
-  so_unasked : (gone ks : List Ask) (lo : ℕ) → AreRising lo (gone ++ ks) → ((m : ℕ) → 1 ≤ m → among_asks gone m ≡ false → ledger d.ledgers m ≡ ledger at m)
-      → All Begun ks
-  so_unasked gone [] lo up others = All-nil Begun
-  so_unasked gone (k ∷ ks) lo up others =
-      All-cons Begun k ks (unasked (others k.manager (positive gone lo up) (rising_apart lo gone k ks up)))
-      (so_unasked (gone ++ k ∷ []) ks lo (subst (AreRising lo) (sym (append_assoc gone (k ∷ []) ks)) up) (λ m p none. others m p (among_first_part gone (k ∷ []) m none)))
-    where
-      positive : (gone : List Ask) (lo : ℕ) → AreRising lo (gone ++ k ∷ ks) → 1 ≤ k.manager
-      positive [] lo up = let z = up.0 in omega (arith, z)
-      positive (g ∷ gone) lo up = positive gone g.manager up.1
+  so_unasked : (hi : ℕ) (ks : List Ask) → AreRising hi ks → ((m : ℕ) → hi < m → ledger d.ledgers m ≡ ledger at m) → All Begun ks
+  so_unasked hi [] up others = All-nil Begun
+  so_unasked hi (k ∷ ks) (low, up) others =
+      All-cons Begun k ks (unasked (others k.manager low)) (so_unasked k.manager ks up (λ m above. others m (omega (arith, low, above))))
 
 pub so_far : (r : Round) (now : DeskView) → IsUnderWay r now → HaveComeSoFar r.asks.items r.before.value.ledgers now.ledgers
 so_far r now u =
     let at : List LedgerView = r.before.value.ledgers in
     let split_ : r.asks.items ≡ (u.done ++ u.flying) ++ u.rest = u.parts ∙ sym (append_assoc u.done u.flying u.rest) in
+    let last = rising_parts 0 (u.done ++ u.flying) u.rest (subst (AreRising 0) split_ u.rising) in
+    let unasked_ = so_unasked at now last.hi u.rest last.last (λ m above. u.others m (omega (arith, above)) (last.above m above)) in
     record {
       each = subst (All (Begun at now)) (sym u.parts)
-          (so_answered at now u.done (u.flying ++ u.rest) u.answered (so_flying at now u.flying u.rest r.tickets.items u.in_flight (so_unasked at now (u.done ++ u.flying) u.rest 0 (subst (AreRising 0) split_ u.rising) u.others)));
-      others = λ m p none. u.others m p (among_first_part (u.done ++ u.flying) u.rest m (ap (λ l. among_asks l m) (sym split_) ∙ none));
+          (All-append (Begun at now) u.done (u.flying ++ u.rest) (so_answered at now u.done u.answered) (All-append (Begun at now) u.flying u.rest (so_flying at now u.flying r.tickets.items u.in_flight) unasked_));
+      others = λ m p none. u.others m p (among_parts (u.done ++ u.flying) u.rest m (ap (λ l. among_asks l m) (sym split_) ∙ none)).0;
       managers = u.managers;
     }

@@ -32,6 +32,7 @@ use xa_log::DecisionLog;
 /// with `XA_HEURCOM` or `XA_HEURRB`, is forgotten (`xa_forget()`), all of these in flight together; what that answers
 /// changes no ending. A full lane is idled on and tried again; a manager that is learnt to be shut is sent nothing,
 /// which counts as `XAER_RMFAIL`.
+#[tactic(auto, using(crate::proofs::Requests::rest_chain, crate::proofs::Requests::rest_same))]
 pub fn commit_all<R: Wait, L: DecisionLog, I: Idle>(
     rt: &R,
     alloc: Global,

@@ -44,7 +44,7 @@ fn can_ask_all(desk: &Desk, asks: &[Ask]) -> bool
 }
 
 // Keeps the operations of all these tickets under handles, where they stay until somebody collects them.
-#[tactic(auto, using(crate::proofs::Leaving::first_owned))]
+#[tactic(auto, using(crate::proofs::Flights::first_owned))]
 fn keep_all(desk: &mut Desk, tickets: &mut VecDeque<Option<Ticket>>)
     requires { OwnsAll desk.old tickets.old.items }
     ensures left { LeavesInFlight tickets.old.items desk.old desk.new }
@@ -63,6 +63,7 @@ fn keep_all(desk: &mut Desk, tickets: &mut VecDeque<Option<Ticket>>)
 
 impl Round {
     /// A round of these requests, of which none is sent.
+    #[tactic(auto, using(crate::proofs::Stepping::begins))]
     pub(crate) fn new(alloc: Global, desk: &Desk, asks: Vec<Ask>) -> Result<Round, AllocError>
         requires rising { AreRising 0 asks.items }
         requires can { AllCanAsk asks.items desk.now.ledgers }
@@ -79,6 +80,7 @@ impl Round {
     }
 
     /// The next round, of what the requests have become since the last one.
+    #[tactic(auto, using(crate::proofs::Stepping::begins))]
     pub(crate) fn again(&mut self, desk: &Desk)
         requires rest { IsAtRest self.old }
         requires may { MayAsk self.old desk.now }
@@ -293,6 +295,7 @@ impl Round {
     }
 
     /// Leaves the round as it stands: what is in flight is kept under handles.
+    #[tactic(auto, using(crate::proofs::Flights::flights_owned))]
     pub(crate) fn leave(self, desk: &mut Desk)
         requires { IsUnderWay self desk.old }
         ensures left { LeavesInFlight self.tickets.items desk.old desk.new }

@@ -209,7 +209,7 @@ fn ask_third(ask: &mut Ask)
 }
 
 /// The second round, in place of the first.
-#[tactic(auto, using(crate::proofs::InPlace::one_more_remade, crate::proofs::InPlace::all_remade))]
+#[tactic(auto, using(crate::proofs::Calls::one_more_remade, crate::proofs::Calls::all_remade))]
 pub(crate) fn second_round(asks: &mut [Ask], commit: bool)
     ensures { asks.new ≡ map (second_ask commit) asks.old }
 {
@@ -219,7 +219,7 @@ pub(crate) fn second_round(asks: &mut [Ask], commit: bool)
 }
 
 /// The third round, in place of the second.
-#[tactic(auto, using(crate::proofs::InPlace::one_more_remade, crate::proofs::InPlace::all_remade))]
+#[tactic(auto, using(crate::proofs::Calls::one_more_remade, crate::proofs::Calls::all_remade))]
 pub(crate) fn third_round(asks: &mut [Ask])
     ensures { asks.new ≡ map third_ask asks.old }
 {

@@ -281,6 +281,7 @@ impl Decided {
     }
 
     /// Begins to tell all branches the decision; nothing is sent yet.
+    #[tactic(auto, using(crate::proofs::Calls::remade_rules))]
     pub fn begin_telling(self, desk: &Desk) -> Telling
         requires { MayTell self desk.now }
         ensures telling { IsTelling self desk.now result }
@@ -372,6 +373,7 @@ impl Told {
     }
 
     /// Begins to tell each branch that was decided heuristically to forget it; nothing is sent yet.
+    #[tactic(auto, using(crate::proofs::Calls::remade_rules))]
     pub fn begin_forgetting(self, desk: &Desk) -> Forgetting
         requires { MayForget self desk.now }
         ensures forgetting { IsForgetting self desk.now result }

@@ -1,10 +1,6 @@
 pub mod Sent
-pub mod Handles
-pub mod Called
 pub mod Voted
 pub mod Named
 pub mod Worked
-pub mod Flown
 pub mod Tried
-pub mod Comes
 pub mod Making

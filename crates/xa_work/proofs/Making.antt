@@ -1,14 +1,14 @@
 -- How the requests of a unit of work are made, one more after those before.
 use Rattle.xa_base.proofs.{◌≡◌, ◌≢◌, ℕ, suc, ◌+◌, ◌<◌, ◌≤◌, Bool, true, ◌&&◌, ◌==◌, cond, List, [], ◌∷◌, ◌++◌, length, map, take, drop, subst, append_assoc}
 use Rattle.xa_base.proofs.{length-append, arith, eq-eqb, sym, refl, ap, ◌∙◌, slice_index_or, list_all, range_with_len, ne_eqb, append-nil, length-map}
-use Rattle.xa_base.proofs.{map-append, take_all, take-append-drop, flat_push, one_more, range_more}
-use Rattle.std.proofs.Common.{drop-cons}
+use Rattle.xa_base.proofs.{map-append, take_all, take-append-drop, flat_push, one_more, range_more, All, All-head, all_left, all_right, drop-cons}
+use Rattle.xa_base.proofs.{list_all-append}
 use Rattle.std.proofs.lemmas.List.Elements.{filter_more}
-use Rattle.std.proofs.lemmas.List.Folds.{list_all-append}
 use Rattle.xa_base.specs.{Chain}
 use Rattle.xa_base.specs.Lists.Chain.{none, more}
 use Rattle.xa_words.specs.{Op, Add, End, OpenRm, Start, Fresh, Success}
-use Rattle.xa_desk.specs.{DeskView}
+use Rattle.xa_desk.specs.{DeskView, GoesOn, AllKept}
+use Rattle.xa_desk.proofs.GoingOn.{goes_same, goes_further}
 use Rattle.xa_driver.specs.{Branch}
 use Rattle.xa_work.specs.{Flight, Change, CallsOp, CollectsOp, PutsAtLast, Called, CallsOps, OpensAt, CollectsAll, Got, Put, PutsRequests, changes_at, ops_of}
 use Rattle.xa_work.specs.{requests_at, requests_of, steps_in}
@@ -46,9 +46,34 @@ chain_append R first xs mid ys last before (none zs z e f) = search (arith, appe
 chain_append R first xs mid ys last before (more zs z now a rest step) =
     subst (λ l. Chain R first l last) (append_assoc xs zs (z ∷ [])) (more (xs ++ zs) z now last (chain_append R first xs mid zs now before rest) step)
 
+-- what holds at first, and after each step where it held before, holds at last
+pub chain_kept : {X : Type 0} (R : X → DeskView → DeskView → Type 0) (Q : X → Type 0) (P : List X → DeskView → Type 0) (old : DeskView) → P [] old
+    → ((xs : List X) (x : X) (d e : DeskView) → P xs d → Q x → R x d e → P (xs ++ x ∷ []) e) → (xs : List X) (new : DeskView) → Chain R old xs new → All Q xs
+    → P xs new
+chain_kept R Q P old start step xs new (none ys last nil same) each = rw (nil, same) start
+chain_kept R Q P old start step xs new (more ys y now last before is) each =
+    step ys y now last (chain_kept R Q P old start step ys now before (all_left Q ys (y ∷ []) each)) (All-head Q y [] (all_right Q ys (y ∷ []) each)) is
+
 -- what is left, and its first
 pub at_drop : {X : Type 0} (xs : List X) (i : ℕ) (x : X) → i < length xs → x ≡ slice_index_or xs i x → drop i xs ≡ x ∷ drop (i + 1) xs
 at_drop xs i x below is = grind (arith, drop-cons)
+
+-- ---- what the work so far leaves
+
+-- The desk has gone on, what was outstanding is kept, and what was lent has idled on.
+pub record Leaves {I : Type 0} (leads : I → I → Type 0) (old new : DeskView) (before after : I) : Type 0 where
+  pub goes_on : GoesOn old new
+  pub kept : AllKept old → AllKept new
+  pub idled : leads before after
+
+pub leaves_none : {I : Type 0} {leads : I → I → Type 0} → ((x : I) → leads x x) → (d : DeskView) (x : I) → Leaves leads d d x x
+leaves_none stays d x = record { goes_on = goes_same d; kept = λ h. h; idled = stays x }
+
+-- one step more
+pub leaves_on : {I : Type 0} {leads : I → I → Type 0} {old mid new : DeskView} {x y z : I} → ((x y z : I) → leads x y → leads y z → leads x z)
+    → Leaves leads old mid x y → GoesOn mid new → (AllKept mid → AllKept new) → leads y z → Leaves leads old new x z
+leaves_on {old = old} {mid = mid} {new = new} {x = x} {y = y} {z = z} chain before on keeps idle =
+    record { goes_on = goes_further old mid new before.goes_on on; kept = λ h. keeps (before.kept h); idled = chain x y z before.idled idle }
 
 -- ---- in turn
 

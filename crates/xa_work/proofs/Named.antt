@@ -1,30 +1,31 @@
 -- Which branches the requests of a unit of work name, one after the other.
-use Rattle.xa_base.proofs.{arith, ◌≡◌, ℕ, Bool, true, false, List, [], ◌∷◌, ◌++◌, map, Some, refl, sym, ap, subst, slice_get, All, All-nil, All-cons, All-head}
-use Rattle.xa_base.proofs.{All-tail, All-append, All-map, all_at, all_from, all_left, all_right, all_unmapped, any_at}
+use Rattle.xa_base.proofs.{arith, ◌≡◌, ℕ, Bool, true, false, List, [], ◌∷◌, ◌++◌, map, Some, refl, sym, subst, slice_get, All, All-nil, All-cons, All-head}
+use Rattle.xa_base.proofs.{All-tail, All-append, All-map, all_at, all_from, all_left, all_right, all_unmapped, any_at, Option}
 use Rattle.xa_base.specs.{Chain}
-use Rattle.xa_base.specs.Lists.Chain.{none, more}
-use Rattle.xa_words.specs.{XidName, xid_eq, TMFAIL, Op, Start, Add, End, Rollback, Fresh, Success, Fail}
+use Rattle.xa_base.specs.Lists.Chain.{more}
+use Rattle.xa_words.specs.{XidName, xid_eq, TMFAIL, Op, Start, Add, End, Rollback, Fresh, Success, Fail, Death}
 use Rattle.xa_words.specs.declared.flags.Call.TheVariants as call
 use Rattle.xa_tables.specs.{names}
 use Rattle.xa_desk.specs.{LedgerView, DeskView, ledger}
 use Rattle.xa_driver.specs.{Branch, is_commit}
 use Rattle.xa_work.specs.{Change, CallsOp, CollectsOp, PutsAtLast, HaveSent, IsFor, Asks, Called, CallsBranch, CallsBranches, GivesUp, Got, HasWorked}
-use Rattle.xa_work.specs.{HaveWorked, Put, Tries, TriesInFlight, changes_at, in_flight, in_turn, ops_of, requests_of}
+use Rattle.xa_work.specs.{HaveWorked, Put, Tries, TriesInFlight, changes_at, in_flight, in_turn, ops_of, requests_of, WorkOutcome, NamesOnly, ComesOfCommit}
 use Rattle.xa_work.specs.Works.CallsBranches.{completed, stopped}
-use Rattle.xa_work.proofs.Sent.{call_sent, collect_sent, have_none, have_on, put_sent}
-use Rattle.xa_work.proofs.Called.{op_sent}
-use Rattle.xa_work.proofs.Voted.{SentAt, branches_sent}
+use Rattle.xa_work.proofs.Making.{chain_kept}
+use Rattle.xa_work.proofs.Sent.{call_sent, collect_sent, have_none, have_on, put_sent, op_sent}
+use Rattle.xa_work.proofs.Voted.{SentAt, branches_sent, MayAsk, came_each, made_each, voted_sent}
+use Rattle.xa_log.specs.{LogState}
+use Rattle.xa_work.specs.Units.ComesOfCommit.{cut_short, in_full, undecided}
 
 -- ---- one after the other
 
 -- where each step sent only such requests, all did
-pub chain_sent : {X : Type 0} (P : Op → Type 0) (Q : X → Type 0) (R : X → DeskView → DeskView → Type 0)
+chain_sent : {X : Type 0} (P : Op → Type 0) (Q : X → Type 0) (R : X → DeskView → DeskView → Type 0)
     → ((x : X) (d e : DeskView) → Q x → R x d e → HaveSent P d.ledgers e.ledgers) → (old : DeskView) (xs : List X) (new : DeskView) → Chain R old xs new
     → All Q xs → HaveSent P old.ledgers new.ledgers
-chain_sent P Q R so old xs new (none ys last e f) each = have_none P old.ledgers new.ledgers (ap (λ (d : DeskView). d.ledgers) f)
-chain_sent P Q R so old xs new (more ys y now last before is) each =
-    have_on P old.ledgers now.ledgers new.ledgers (chain_sent P Q R so old ys now before (all_left Q ys (y ∷ []) each))
-    (so y now new (All-head Q y [] (all_right Q ys (y ∷ []) each)) is)
+chain_sent P Q R so old xs new =
+    chain_kept R Q (λ _ (e : DeskView). HaveSent P old.ledgers e.ledgers) old (have_none P old.ledgers old.ledgers refl)
+    (λ ys y d e before its is. have_on P old.ledgers d.ledgers e.ledgers before (so y d e its is)) xs new
 
 -- ---- the requests for these branches
 
@@ -102,3 +103,20 @@ worked_for cs bs old new w =
     let its : HasWorked cs b (ledger old b.m) (ledger new b.m) = all_at (λ (c : Branch). HasWorked cs c (ledger old c.m) (ledger new c.m)) bs k b w.each at in
     record { more = ops_of cs b; sent = its.sent; each = ops_for cs bs b (k, at); collected = (_, its.collected) }))
     w.others
+
+-- ---- a commit of a unit of work names its branches alone
+
+module _ (bs : List Branch) where
+  names_it : (b : Branch) → IsAmong bs b → MayAsk (NamesOnly bs) b.xid
+  names_it b (k, at) = search (arith, any_at, b.xid)
+
+  pub comes_named : (death : Option Death) (o : WorkOutcome) (desk : DeskView) (new : List LedgerView) (log later : LogState)
+      → ComesOfCommit bs death o desk new log later → HaveSent (NamesOnly bs) desk.ledgers new
+  comes_named death o desk new log later (in_full d none_ is made) =
+      branches_sent (NamesOnly bs) bs desk.ledgers new
+      (made_each (λ b. NamesOnly bs) (IsAmong bs) names_it desk.ledgers new made.may.tran bs log later d (all_among bs) made.trace) made.trace.course.others
+  comes_named death o desk new log later (cut_short at known some_ is died) =
+      branches_sent (NamesOnly bs) bs desk.ledgers new
+      (came_each (λ b. NamesOnly bs) (IsAmong bs) names_it desk.ledgers new at died.may.tran bs log later known (all_among bs) died.dies.far) died.dies.others
+  comes_named death o desk new log later (undecided votes decides is may voted wanted) =
+      voted_sent (NamesOnly bs) (IsAmong bs) (λ b its. (names_it b its).first) desk.ledgers new bs votes.items (all_among bs) voted

@@ -21,8 +21,7 @@ put_sent P op a a' so (sent open_ is) =
 put_sent P op a a' so (withheld shut is) = subst (HasSent P a) (sym is) (none_sent P a)
 
 answered_sent : (P : Op → Type 0) (op : Op) (code : Code) (a a' : LedgerView) → P op → AsksLedger a op a' code → HasSent P a a'
-answered_sent P op code a a' so tr =
-    subst (HasSent P a) (sym tr.trace) (asked_sent P a (Some op) (Some code) (λ o is. subst P (some_same op o is) so))
+answered_sent P op code a a' so tr = subst (HasSent P a) (sym tr.trace) (asked_sent P a (Some op) (Some code) (λ o is. subst P (some_same op o is) so))
 
 obeyed_sent : (P : Op → Type 0) (op : Option Op) (code : Option Code) (a a' : LedgerView) → ((o : Op) → op ≡ Some o → P o) → AsksFor AsksLedger op code a a'
     → HasSent P a a'
@@ -164,8 +163,7 @@ voted_elsewhere bs old new votes h = search (arith, among_first, h.prepared.aske
 
 module _ (P : Op → Type 0) (Q : Branch → Type 0) (firsts : (b : Branch) → Q b → P (Prepare b.xid)) (old new : List LedgerView) where
   pub voted_sent : (bs : List Branch) (votes : List Code) → All Q bs → HasVoted bs old new votes → HaveSent P old new
-  voted_sent bs votes so h =
-      branches_sent P bs old new (voted_each (λ b. P) Q firsts old new bs votes so h) (voted_elsewhere bs old new votes h)
+  voted_sent bs votes so h = branches_sent P bs old new (voted_each (λ b. P) Q firsts old new bs votes so h) (voted_elsewhere bs old new votes h)
 
   -- what was sent before any branch was told a decision
   pub untold_sent : (bs : List Branch) (votes : List Code) → All Q bs → HaveAsked AsksLedger PutsLedger bs votes (ledger old) (ledger new)

@@ -1,13 +1,10 @@
 -- The work for branches that was all done: what it sent to each manager, and what was collected.
-use Rattle.xa_base.proofs.{rules, ◌≡◌, ◌≢◌, ℕ, zero, suc, ◌-◌, ◌<◌, ◌≤◌, Bool, true, false, ◌||◌, ◌==◌, ℤ, pos, List, [], ◌∷◌, ◌++◌, length, map, length-append}
+use Rattle.xa_base.proofs.{rules, ◌≡◌, ◌≢◌, ℕ, zero, suc, ◌<◌, ◌≤◌, Bool, true, false, ◌||◌, ◌==◌, ℤ, pos, List, [], ◌∷◌, ◌++◌, length, map, length-append}
 use Rattle.xa_base.proofs.{append_assoc, sym, refl, ap, ◌∙◌, subst, arith, eq-eqb, Some, None, get_or, All, range_with_len, nat_cmp, ne_eqb, or_parts}
-use Rattle.xa_base.proofs.{append-nil, length-set, map-append, All-nil, All-cons, All-head, All-push, All-tail, All-weaker, all_left, all_right, inserted_there}
-use Rattle.xa_base.proofs.{inserted_other, removed_other, not_both}
-use Rattle.std.proofs.Common.{negsuc}
+use Rattle.xa_base.proofs.{append-nil, length-set, map-append, All-nil, All-cons, All-head, All-push, All-tail, All-weaker, inserted_there, inserted_other}
+use Rattle.xa_base.proofs.{removed_other, not_both, negsuc, AllPass-from_list_all}
 use Rattle.std.specs.FinMap as finmap
-use Rattle.std.proofs.lemmas.List.Sums.{AllPass-from_list_all}
 use Rattle.xa_base.specs.{Chain}
-use Rattle.xa_base.specs.Lists.Chain.{none, more}
 use Rattle.xa_words.specs.{Code, Done, Op}
 use Rattle.xa_desk.specs.{Operation, with_sent, with_collected, IsKnown, ledger, put_ledger, after_sent, after_collected, LedgerView, DeskView}
 use Rattle.xa_desk.proofs.Ledgers.{ledger-put_same, ledger-put_other}
@@ -15,7 +12,8 @@ use Rattle.xa_driver.specs.{Branch, AreBranchesRising, has_branch_at}
 use Rattle.xa_work.specs.{Change, IsPut, PutsOp, IsCollected, CallsOp, CollectsOp, after_called, done, nothing, Called, CallsBranch, Got, HasWorked, HaveWorked}
 use Rattle.xa_work.specs.{ops_of}
 use Rattle.xa_work.specs.Requests.{undone}
-use Rattle.xa_work.proofs.Called.{is_called}
+use Rattle.xa_work.proofs.Making.{chain_kept}
+use Rattle.xa_work.proofs.Sent.{is_called}
 
 -- ---- one manager's ledger
 
@@ -76,16 +74,16 @@ block_called m b op at at' at'' known z is =
     block_on m (with_sent b op) (λ l. with_collected l n Done) at (after_sent at' m op) at'' known sent is in
     subst (λ j. Block m (with_collected (with_sent b op) j Done) at at'') (ap (λ (l : LedgerView). length l.sent) z.here) got
 
+one_called : (m : ℕ) (old : DeskView) → IsKnown old.ledgers m → (cs : List Called) (c : Called) (d e : DeskView)
+    → Block m (called_all (ledger old.ledgers m) (map (λ (c : Called). c.op) cs)) old.ledgers d.ledgers → c.ok ≡ true → CallsOp m c.op c.ok d e
+    → Block m (called_all (ledger old.ledgers m) (map (λ (c : Called). c.op) (cs ++ c ∷ []))) old.ledgers e.ledgers
+one_called m old known cs c d e z ok is = search (arith, map-append, called_push, block_called, is_called)
+
 calls_block : (m : ℕ) (old : DeskView) (calls : List Called) (new : DeskView) → IsKnown old.ledgers m → Chain (λ c d e. CallsOp m c.op c.ok d e) old calls new
     → All (λ c. c.ok ≡ true) calls → Block m (called_all (ledger old.ledgers m) (map (λ (c : Called). c.op) calls)) old.ledgers new.ledgers
-calls_block m old calls new known (none cs last e f) each = search (arith, block_start, old.ledgers)
-calls_block m old calls new known (more cs c now last before is) each =
-    let a : LedgerView = ledger old.ledgers m in
-    let os : List Op = map (λ (x : Called). x.op) cs in
-    let z : Block m (called_all a os) old.ledgers now.ledgers =
-    calls_block m old cs now known before (all_left (λ (x : Called). x.ok ≡ true) cs (c ∷ []) each) in
-    let ok : c.ok ≡ true = All-head (λ (x : Called). x.ok ≡ true) c [] (all_right (λ (x : Called). x.ok ≡ true) cs (c ∷ []) each) in
-    search (arith, map-append, called_push, block_called, is_called)
+calls_block m old calls new known =
+    chain_kept (λ c d e. CallsOp m c.op c.ok d e) (λ c. c.ok ≡ true) (λ cs (e : DeskView). Block m (called_all (ledger old.ledgers m) (map (λ (c : Called). c.op) cs)) old.ledgers e.ledgers)
+    old (block_start m old.ledgers) (one_called m old known) calls new
 
 branch_block : (cs : List Change) (b : Branch) (old new : DeskView) → IsKnown old.ledgers b.m → CallsBranch cs b true old new
     → Block b.m (called_all (ledger old.ledgers b.m) (ops_of cs b)) old.ledgers new.ledgers
@@ -142,19 +140,18 @@ one_works cs bs b x at now at' positive below w its z =
       others = λ m up elsewhere. let parts = nowhere bs b m elsewhere in z.others m up parts.1 ∙ w.others m up parts.0;
     }
 
-module _ (cs : List Change) where
-  pub branches_called : (old : DeskView) (bs : List Branch) (new : DeskView) → Chain (λ b d e. CallsBranch cs b true d e) old bs new → AreBranchesRising 0 bs
-      → All (λ (b : Branch). IsKnown old.ledgers b.m) bs → HaveWorked cs bs old.ledgers new.ledgers × (length new.ledgers ≡ length old.ledgers)
-  branches_called old bs new (none xs last e f) up known = grind (arith, All-nil)
-  branches_called old bs new (more xs b now last before is) up known =
-      let parts = rising_parts 0 xs b up in
-      let z = branches_called old xs now before parts.0 (all_left (λ (c : Branch). IsKnown old.ledgers c.m) xs (b ∷ []) known) in
-      let there : IsKnown old.ledgers b.m =
-      All-head (λ (c : Branch). IsKnown old.ledgers c.m) b [] (all_right (λ (c : Branch). IsKnown old.ledgers c.m) xs (b ∷ []) known) in
-      let block = branch_block cs b now new (known_on b.m old.ledgers now.ledgers z.1 there) is in (
-        one_works cs xs b _ old.ledgers now.ledgers new.ledgers there.positive parts.2 z.0 (block_works cs b now.ledgers new.ledgers block) block,
-        block.many ∙ z.1,
-      )
+pub branches_called : (cs : List Change) (old : DeskView) (bs : List Branch) (new : DeskView) → Chain (λ b d e. CallsBranch cs b true d e) old bs new
+    → All (λ (b : Branch). IsKnown old.ledgers b.m) bs → AreBranchesRising 0 bs
+    → HaveWorked cs bs old.ledgers new.ledgers × (length new.ledgers ≡ length old.ledgers)
+branches_called cs old =
+    chain_kept (λ b d e. CallsBranch cs b true d e) (λ (b : Branch). IsKnown old.ledgers b.m)
+    (λ bs (e : DeskView). AreBranchesRising 0 bs → HaveWorked cs bs old.ledgers e.ledgers × (length e.ledgers ≡ length old.ledgers)) old
+    (λ up. (record { each = All-nil _; others = λ m p _. refl }, refl))
+    (λ bs b d e before there is up.
+    let parts = rising_parts 0 bs b up in
+    let z = before parts.0 in
+    let block = branch_block cs b d e (known_on b.m old.ledgers d.ledgers z.1 there) is in
+    (one_works cs bs b _ old.ledgers d.ledgers e.ledgers there.positive parts.2 z.0 (block_works cs b d.ledgers e.ledgers block) block, block.many ∙ z.1))
 
 -- ---- in flight: what is kept under which number
 
@@ -267,11 +264,11 @@ keys gots = map (λ (g : Got). key_of g.flight.handle) gots
 
 pub gots_taken : (old : DeskView) (gots : List Got) (new : DeskView) → Chain (λ g d e. CollectsOp g.flight.manager g.flight.handle g.ok d e) old gots new
     → All (λ g. g.ok ≡ true) gots → AreTaken (keys gots) old new × All (λ g. IsKey g.flight.handle) gots
-gots_taken old gots new (none gs last e f) each = search (arith, All-nil)
-gots_taken old gots new (more gs g now last before is) each =
-    let z = gots_taken old gs now before (all_left (λ (x : Got). x.ok ≡ true) gs (g ∷ []) each) in
-    let ok : g.ok ≡ true = All-head (λ (x : Got). x.ok ≡ true) g [] (all_right (λ (x : Got). x.ok ≡ true) gs (g ∷ []) each) in
-    let w = gets g.flight.manager g.flight.handle g.ok now new is ok in (
-      subst (λ ks. AreTaken ks old new) (sym (map-append (λ (x : Got). key_of x.flight.handle) gs (g ∷ []))) (taken_push (keys gs) (key_of g.flight.handle) old now new z.0 w.1),
+gots_taken old gots new =
+    chain_kept (λ g d e. CollectsOp g.flight.manager g.flight.handle g.ok d e) (λ g. g.ok ≡ true) (λ gs e. AreTaken (keys gs) old e × All (λ g. IsKey g.flight.handle) gs) old
+    (refl, All-nil _)
+    (λ gs g d e z ok is.
+    let w = gets g.flight.manager g.flight.handle g.ok d e is ok in (
+      rw (map-append (λ (x : Got). key_of x.flight.handle) gs (g ∷ [])) (taken_push (keys gs) (key_of g.flight.handle) old d e z.0 w.1),
       All-push (λ (x : Got). IsKey x.flight.handle) gs g z.1 w.0,
-    )
+    )) gots new

@@ -1,18 +1,15 @@
-use Rattle.xa_base.proofs.{◌≡◌, ◌+◌, ◌<◌, None, sym, refl, subst, arith, inl, inr, ◌∙◌, range_with_len, cases_eq, cases_lt, range_more}
+use Rattle.xa_base.proofs.{◌≡◌, ◌+◌, None, sym, refl, subst, arith, inl, inr, ◌∙◌, range_with_len, cases_eq, cases_lt, range_more}
 use Rattle.std.specs.FinMap as finmap
 use Rattle.xa_base.specs.{Chain}
 use Rattle.xa_base.specs.Lists.Chain.{none, more}
 use Rattle.xa_crew.specs.{Telling, EndsNumber}
-use Rattle.xa_crew.proofs.Kept.{number_freed, number_leaves}
+use Rattle.xa_crew.proofs.Pieces.{number_freed, number_leaves}
 use Rattle.xa_crew.proofs.ending.end_numbers.Goals as goal
 
 pub loop-before-init : goal.loop-before-init
 loop-before-init g c = record {
   ends = none (range_with_len 1 0) (c.args.desk.now, c.args.told.now.items) refl refl;
-  none = λ k which. elim which [
-    | inl first ↦ subst (λ j. finmap.get c.args.desk.now.kept j ≡ None) (omega (arith, first)) c.handles-before-end.ensures.zero
-    | inr past ↦ c.handles-before-end.ensures.past k (subst (λ n. n < k) (sym c.handles-before-end.ensures.handles) past)
-  ];
+  none = search (arith, c.args.desk.now.kept, c.handles-before-end.ensures.past);
   goes_on = c.desks_go_on.ensures.same _;
   idled = g.met.I.Idle.leads_start _;
   few = omega arith;

@@ -2,29 +2,16 @@ use Rattle.xa_base.proofs.{◌∙◌, arith}
 use Rattle.xa_crew.proofs.Threads.{room_for_all}
 use Rattle.xa_crew.proofs.hands.do_all.Goals as goal
 
-pub done-requires-clause-room : goal.done-requires-clause-room
-done-requires-clause-room g c = grind (arith, room_for_all)
-
 pub done-requires-clause-ready : goal.done-requires-clause-ready
 done-requires-clause-ready g c = (c.args.jobs.items, c.requires.jobs, c.join-came.ensures.came c.args.jobs.items c.start-all.ensures.started)
 
 pub done-requires-in-Some-clause-room : goal.done-requires-in-Some-clause-room
 done-requires-in-Some-clause-room g c =
-    let many = c.len-2.ensures in
-    room_for_all g.K.Job.comes_to c.in-Ok-Ok-Ok.ensures'' (omega (arith, many)) (c.join-others_came.ensures.done ∙ c.start-all_others.ensures.done)
+    room_for_all g.K.Job.comes_to c.in-Ok-Ok-Ok.ensures'' (omega (arith, c.len-2.ensures)) (c.join-others_came.ensures.done ∙ c.start-all_others.ensures.done)
     (c.join-others_came.ensures.back ∙ c.start-all_others.ensures.back) (c.join-others_came.ensures.came c.args.others.items c.start-all_others.ensures.started)
-
-pub done-requires-in-Some-clause-ready : goal.done-requires-in-Some-clause-ready
-done-requires-in-Some-clause-ready g c = grind arith
 
 pub returns-in-Some-clause-jobs : goal.returns-in-Some-clause-jobs
 returns-in-Some-clause-jobs g c = c.done.ensures c.args.jobs.items (c.join-came.ensures.came c.args.jobs.items c.start-all.ensures.started)
-
-pub returns-in-Some-clause-others : goal.returns-in-Some-clause-others
-returns-in-Some-clause-others g c = grind arith
-
-pub back-requires : goal.back-requires
-back-requires g c = grind (arith, room_for_all)
 
 pub back-requires-in-None : goal.back-requires-in-None
 back-requires-in-None g c =
@@ -35,7 +22,4 @@ back-requires-in-None g c =
     }
 
 pub returns-clause-back : goal.returns-clause-back
-returns-clause-back g c = (
-  c.back.ensures c.args.jobs.items (c.join-came.ensures.came c.args.jobs.items c.start-all.ensures.started),
-  c.back-in-None.ensures c.args.others.items (c.join-others_came.ensures.came c.args.others.items c.start-all_others.ensures.started),
-)
+returns-clause-back g c = search (arith, c.back.ensures, c.join-came.ensures.came, c.back-in-None.ensures, c.join-others_came.ensures.came)

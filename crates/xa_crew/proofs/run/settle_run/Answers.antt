@@ -1,7 +1,7 @@
 use Rattle.xa_base.proofs.{List, ap, ◌∙◌}
 use Rattle.xa_desk.specs.{EndedView}
 use Rattle.xa_switch.specs.{settling}
-use Rattle.xa_crew.proofs.Members.{run_pieces}
+use Rattle.xa_crew.proofs.Pieces.{run_pieces}
 use Rattle.xa_crew.proofs.run.settle_run.Goals as goal
 
 pub settle_pieces-requires : goal.settle_pieces-requires

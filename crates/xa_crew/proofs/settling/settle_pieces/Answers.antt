@@ -1,6 +1,6 @@
 use Rattle.xa_base.proofs.{⊎_elim, ◌≡◌, sym, subst}
 use Rattle.xa_switch.specs.{IsWhyUnsettled, IsOf, Why, Stranger, Missing}
-use Rattle.xa_crew.proofs.Settled.{from_opening, of_one_opening, all_pieces, permuted_desks, permuted_workers}
+use Rattle.xa_crew.proofs.Pieces.{from_opening, of_one_opening, all_pieces, permuted_desks, permuted_workers}
 use Rattle.xa_crew.proofs.settling.settle_pieces.Goals as goal
 
 pub settle-requires : goal.settle-requires

@@ -1,10 +1,8 @@
-use Rattle.xa_base.proofs.{rules, arith, ◌≡◌, ap, sym, ◌∙◌, subst, map, List}
-use Rattle.xa_driver.specs.{AppendsOnce, IsUnknown, Ask, first_ask, second_ask, third_ask, Done, Prepared, IsAtRest}
+use Rattle.xa_base.proofs.{rules, arith, ◌≡◌, ap, sym, ◌∙◌, map, List}
+use Rattle.xa_driver.specs.{AppendsOnce, IsUnknown, Ask, first_ask, second_ask, third_ask, Done, Prepared}
 use Rattle.xa_driver.proofs.Idling.{all_idle}
-use Rattle.xa_driver.proofs.Calls.{one_tran}
-use Rattle.xa_driver.proofs.OneCall.{may_decide, may_forget, may_tell, stages_call, for_log}
+use Rattle.xa_driver.proofs.Calls.{one_tran, may_decide, may_forget, may_tell, stages_call, for_log}
 use Rattle.xa_driver.proofs.Ordering.{same_in_order}
-use Rattle.xa_driver.proofs.Staying.{rest_chain, rest_same}
 use Rattle.xa_driver.proofs.commit.commit_all.Goals as goal
 
 pub decide-requires-clause-new : goal.decide-requires-clause-new
@@ -22,24 +20,11 @@ forget-requires g c =
 
 pub returns-in-Ok-clause-call : goal.returns-in-Ok-clause-call
 returns-in-Ok-clause-call g c t all =
-    let p = c.in_ok-prepared.prepared in
     let first = c.in_ok-prepared.ensures.prepared in
-    let old = g.L.DecisionLog.state c.args.log.now in
-    let new = g.L.DecisionLog.state c.decide.new.log in
-    rw (← one_tran c.args.branches.now p.tran t c.requires.may.some first.tran all) (stages_call c.args.branches.now c.args.desk.now.ledgers c.prepare_all.new.desk.ledgers c.tell-told.new.desk.ledgers c.forget.new.desk.ledgers old new p c.in-Ok.decided c.tell-told.result first c.in-Ok.ensures.decided c.tell-told.ensures.told
-    c.forget.result c.forget.ensures.forgot)
+    rw (← one_tran c.args.branches.now c.in_ok-prepared.prepared.tran t c.requires.may.some first.tran all) (stages_call first c.in-Ok.ensures.decided c.tell-told.ensures.told c.forget.ensures.forgot)
 
 pub returns-in-Ok-clause-made : goal.returns-in-Ok-clause-made
 returns-in-Ok-clause-made g c = record { may = c.requires.may; trace = returns-in-Ok-clause-call g c c.requires.may.tran c.requires.may.one }
-
-pub returns-in-Ok-clause-keeps : goal.returns-in-Ok-clause-keeps
-returns-in-Ok-clause-keeps g c = grind (arith, rest_chain)
-
-pub returns-in_err-prepared-clause-keeps : goal.returns-in_err-prepared-clause-keeps
-returns-in_err-prepared-clause-keeps g c = rest_same c.args.desk.now c.prepare_all.new.desk c.in_err-prepared.ensures.unsent
-
-pub let_go-requires : goal.let_go-requires
-let_go-requires g c = subst (λ (p : Prepared). IsAtRest p.round) (sym c.in-Err.ensures.undecided) c.in_ok-prepared.ensures.prepared.rest
 
 pub returns-in-Err-clause-undecided : goal.returns-in-Err-clause-undecided
 returns-in-Err-clause-undecided g c = record {
@@ -58,18 +43,15 @@ returns-in-Err-clause-unknown g c t all =
 
 pub returns-in-Ok-clause-waited : goal.returns-in-Ok-clause-waited
 returns-in-Ok-clause-waited g c =
-    all_idle g.I.Idle.leads_by c.args.branches.now c.args.desk.now.ledgers c.prepare_all.new.desk.ledgers c.tell-told.new.desk.ledgers c.forget.new.desk.ledgers (g.L.DecisionLog.state c.args.log.now) (g.L.DecisionLog.state c.decide.new.log)
-    c.in_ok-prepared.prepared c.in-Ok.decided c.tell-told.result c.args.idle.now c.prepare_all.new.idle c.tell-told.new.idle c.forget.new.idle c.in_ok-prepared.ensures.prepared c.in-Ok.ensures.decided c.tell-told.ensures.told
-    c.in_ok-prepared.ensures.waited c.tell-told.ensures.waited c.forget.ensures.waited
+    all_idle c.in_ok-prepared.ensures.prepared c.in-Ok.ensures.decided c.tell-told.ensures.told c.in_ok-prepared.ensures.waited c.tell-told.ensures.waited c.forget.ensures.waited
 
 pub returns-in-Ok-clause-appends : goal.returns-in-Ok-clause-appends
 returns-in-Ok-clause-appends g c t all =
     let p = c.in_ok-prepared.prepared in
     let first = c.in_ok-prepared.ensures.prepared in
-    let told = c.tell-told.ensures.told in
     let known = c.forget.ensures.forgot.known in
     let votes : p.known.votes.items ≡ c.forget.result.votes.items = search (arith, rules) in
-    let logged : c.in-Ok.decided.known.logged ≡ c.forget.result.logged = sym (ap (λ k. k.logged) known ∙ told.logged) in
+    let logged : c.in-Ok.decided.known.logged ≡ c.forget.result.logged = sym (ap (λ k. k.logged) known ∙ c.tell-told.ensures.told.logged) in
     for_log _ _ _ p (λ u ys vs. AppendsOnce g.L.DecisionLog.appends u ys vs c.forget.result.logged c.args.log.now c.decide.new.log) t c.forget.result.votes.items first
     (one_tran c.args.branches.now p.tran t c.requires.may.some first.tran all) votes (rw logged at c.in-Ok.ensures.appends)
 
@@ -77,13 +59,12 @@ pub returns-in-Ok-clause-rounds : goal.returns-in-Ok-clause-rounds
 returns-in-Ok-clause-rounds g c =
     let p = c.in_ok-prepared.ensures.prepared in
     let d = c.in-Ok.decided in
-    let h = c.in-Ok.ensures.decided in
     let t = c.tell-told.ensures.told in
     let f = c.forget.ensures.forgot in
     let firsts : List Ask = c.in_ok-prepared.prepared.round.asks.items in
     let decided : d.known.commit ≡ c.forget.result.commit = sym t.commit ∙ ap (λ k. k.commit) (sym f.known) in
     let asked : List Ask = d.round.asks.items in
-    let same : asked ≡ firsts = ap (λ r. r.asks.items) h.round in
+    let same : asked ≡ firsts = ap (λ r. r.asks.items) c.in-Ok.ensures.decided.round in
     record {
       voted = c.prepare_all.new.desk;
       told = c.tell-told.new.desk;
@@ -97,15 +78,3 @@ returns-in-Ok-clause-rounds g c =
       second = record { asked = t.asked; ordered = same_in_order (map (second_ask d.known.commit) asked) c.tell-told.result.round.asks.items c.prepare_all.new.desk c.tell-told.new.desk t.same c.tell-told.ensures.ordered };
       third = record { asked = f.asked; ordered = same_in_order (map third_ask c.tell-told.result.round.asks.items) f.thirds c.tell-told.new.desk c.forget.new.desk f.same c.forget.ensures.ordered };
     }
-
-pub returns-in-Ok-clause-goes_on : goal.returns-in-Ok-clause-goes_on
-returns-in-Ok-clause-goes_on g c = (returns-in-Ok-clause-keeps g c).keeps.goes_on
-
-pub returns-in-Ok-clause-kept : goal.returns-in-Ok-clause-kept
-returns-in-Ok-clause-kept g c = (returns-in-Ok-clause-keeps g c).kept
-
-pub returns-in_err-prepared-clause-goes_on : goal.returns-in_err-prepared-clause-goes_on
-returns-in_err-prepared-clause-goes_on g c = (returns-in_err-prepared-clause-keeps g c).keeps.goes_on
-
-pub returns-in_err-prepared-clause-kept : goal.returns-in_err-prepared-clause-kept
-returns-in_err-prepared-clause-kept g c = (returns-in_err-prepared-clause-keeps g c).kept

@@ -1,9 +1,8 @@
-use Rattle.xa_base.proofs.{arith, ◌≡◌, ◌∙◌, true, false, ap, map, sym}
-use Rattle.xa_driver.specs.{Round, Prepared, KeepsTheRest, among_asks, LeavesDesk, first_ask, has_branch_at, AppendsOnce, IsUnknown}
-use Rattle.xa_driver.proofs.AtDeath.{as_many_managers, decided_later, desk_further, desk_rest, dies_prepared}
-use Rattle.xa_driver.proofs.Calls.{among_first, one_tran}
+use Rattle.xa_base.proofs.{◌≡◌, ◌∙◌, true, false, ap, map, sym}
+use Rattle.xa_driver.specs.{Round, Prepared, among_asks, LeavesDesk, first_ask, AppendsOnce, IsUnknown}
+use Rattle.xa_driver.proofs.AtDeath.{as_many_managers, decided_later, desk_further, dies_prepared}
+use Rattle.xa_driver.proofs.Calls.{among_first, one_tran, for_log, may_decide, may_tell}
 use Rattle.xa_driver.proofs.Idling.{first_idles, idles_chain, idles_start}
-use Rattle.xa_driver.proofs.OneCall.{for_log, may_decide, may_tell}
 use Rattle.xa_driver.proofs.Ordering.{whole_in_order}
 use Rattle.xa_driver.proofs.dying.commit_until.Given as given
 use Rattle.xa_driver.proofs.dying.commit_until.Goals as goal
@@ -11,7 +10,7 @@ use Rattle.xa_driver.proofs.dying.commit_until.Goals as goal
 -- ---- want of memory
 
 pub returns-in_err-preparing-clause-waited : goal.returns-in_err-preparing-clause-waited
-returns-in_err-preparing-clause-waited g c = idles_start g.I.Idle.leads_by _ _
+returns-in_err-preparing-clause-waited g c = idles_start _ _
 
 -- ---- while it asks for votes
 
@@ -32,19 +31,6 @@ returns-in-Prepared-clause-dies g c t of_tran =
     rw c.in-Prepared.is (dies_prepared c.args.branches.now c.args.desk.now.ledgers c.finish-prepared.new.desk.ledgers (g.L.DecisionLog.state c.args.log.now) t c.finish-prepared.result
     (c.finish-prepared.ensures.prepared c.args.branches.now c.args.desk.now c.in_ok-preparing.ensures.preparing) c.let_go.result c.let_go.ensures)
 
-pub returns-in-Prepared-clause-appends : goal.returns-in-Prepared-clause-appends
-returns-in-Prepared-clause-appends g c t of_tran = grind arith
-
-pub returns-in-Prepared-clause-managers : goal.returns-in-Prepared-clause-managers
-returns-in-Prepared-clause-managers g c =
-    (c.finish-prepared.ensures.prepared c.args.branches.now c.args.desk.now c.in_ok-preparing.ensures.preparing).asked.managers
-
-pub returns-in-Prepared-clause-goes_on : goal.returns-in-Prepared-clause-goes_on
-returns-in-Prepared-clause-goes_on g c = (rw c.in_ok-preparing.ensures.preparing.before at c.finish-prepared.ensures.keeps).keeps.goes_on
-
-pub returns-in-Prepared-clause-kept : goal.returns-in-Prepared-clause-kept
-returns-in-Prepared-clause-kept g c = (rw c.in_ok-preparing.ensures.preparing.before at c.finish-prepared.ensures.keeps).kept
-
 -- ---- once it was decided
 
 pub decide-requires-clause-new : goal.decide-requires-clause-new
@@ -58,9 +44,6 @@ die_decided-requires-clause-may g c =
     let first = c.finish-prepared.ensures.prepared c.args.branches.now c.args.desk.now c.in_ok-preparing.ensures.preparing in
     may_tell c.args.branches.now c.args.desk.now c.finish-prepared.new.desk log log (g.L.DecisionLog.state c.decide.new.log) c.finish-prepared.result c.in-Ok.decided c.requires.may first c.in-Ok.ensures.decided
     (rw c.in_ok-preparing.ensures.preparing.before at c.finish-prepared.ensures.keeps)
-
-pub die_decided-requires-clause-later : goal.die_decided-requires-clause-later
-die_decided-requires-clause-later g c = decided_later c.args.death c.in_default.not-Preparing c.in_default-death.not-Prepared
 
 pub returns-in-Ok-clause-dies : goal.returns-in-Ok-clause-dies
 returns-in-Ok-clause-dies g c t of_tran =
@@ -104,11 +87,9 @@ returns-in-Ok-clause-kept g c = (left_decided g c).kept
 
 pub returns-in-Ok-clause-waited : goal.returns-in-Ok-clause-waited
 returns-in-Ok-clause-waited g c =
-    let bs = c.args.branches.now in
-    let first = c.finish-prepared.ensures.prepared bs c.args.desk.now c.in_ok-preparing.ensures.preparing in
-    idles_chain g.I.Idle.leads_by (has_branch_at bs) c.args.idle.now c.finish-prepared.new.idle c.die_decided.new.idle
-    (first_idles g.I.Idle.leads_by bs _ _ _ c.in_ok-preparing.ensures.preparing.same c.finish-prepared.ensures.waited)
-    (first_idles g.I.Idle.leads_by bs _ _ _ first.same (rw c.in-Ok.ensures.decided.round at c.die_decided.ensures.waited))
+    let first = c.finish-prepared.ensures.prepared c.args.branches.now c.args.desk.now c.in_ok-preparing.ensures.preparing in
+    idles_chain (first_idles c.args.branches.now _ _ _ c.in_ok-preparing.ensures.preparing.same c.finish-prepared.ensures.waited)
+    (first_idles c.args.branches.now _ _ _ first.same (rw c.in-Ok.ensures.decided.round at c.die_decided.ensures.waited))
 
 -- ---- where nobody knows whether the log has the record
 
@@ -125,40 +106,13 @@ returns-in-Err-clause-undecided g c = record {
 
 pub returns-in-Err-clause-unknown : goal.returns-in-Err-clause-unknown
 returns-in-Err-clause-unknown g c t of_tran =
-    let bs = c.args.branches.now in
     let p = c.finish-prepared.result in
-    let first = c.finish-prepared.ensures.prepared bs c.args.desk.now c.in_ok-preparing.ensures.preparing in
+    let first = c.finish-prepared.ensures.prepared c.args.branches.now c.args.desk.now c.in_ok-preparing.ensures.preparing in
     for_log _ _ _ p (λ u ys vs. IsUnknown g.L.DecisionRecords.knows g.L.DecisionLog.loses u ys vs c.args.log.now c.decide.new.log) t c.let_go-in-Err.result.votes.items first
-    (one_tran bs p.tran t c.requires.may.some first.tran of_tran)
+    (one_tran c.args.branches.now p.tran t c.requires.may.some first.tran of_tran)
     (ap (λ (q : Prepared). q.known.votes.items) (sym c.in-Err.ensures.undecided) ∙ ap (λ k. k.votes.items) (sym c.let_go-in-Err.ensures)) c.in-Err.ensures.unknown
-
-pub returns-in-Err-clause-later : goal.returns-in-Err-clause-later
-returns-in-Err-clause-later g c = decided_later c.args.death c.in_default.not-Preparing c.in_default-death.not-Prepared
 
 pub returns-in-Err-clause-one_round : goal.returns-in-Err-clause-one_round
 returns-in-Err-clause-one_round g c =
-    let p = c.in_ok-preparing.ensures.preparing in
     whole_in_order c.in_ok-preparing.preparing.round (map first_ask c.args.branches.now) c.args.desk.now c.finish-prepared.new.desk
-    c.finish-prepared.ensures.ordered c.in_ok-preparing.ensures.none p.before p.same
-
--- what is left of the desk
-kept_undecided : (g : given.Over) (c : goal.After-drop-let_go g) → KeepsTheRest c.args.desk.now c.finish-prepared.new.desk
-kept_undecided g c = rw c.in_ok-preparing.ensures.preparing.before at c.finish-prepared.ensures.keeps
-
-pub returns-in-Err-clause-keeps : goal.returns-in-Err-clause-keeps
-returns-in-Err-clause-keeps g c = kept_undecided g c
-
-pub returns-in-Err-clause-managers : goal.returns-in-Err-clause-managers
-returns-in-Err-clause-managers g c = as_many_managers _ _ (kept_undecided g c).keeps.goes_on
-
-pub returns-in-Err-clause-handles : goal.returns-in-Err-clause-handles
-returns-in-Err-clause-handles g c = (desk_rest c.args.branches.now _ _ (kept_undecided g c)).handles
-
-pub returns-in-Err-clause-goes_on : goal.returns-in-Err-clause-goes_on
-returns-in-Err-clause-goes_on g c = (kept_undecided g c).keeps.goes_on
-
-pub returns-in-Err-clause-kept : goal.returns-in-Err-clause-kept
-returns-in-Err-clause-kept g c = (kept_undecided g c).kept
-
-pub returns-in-Err-clause-waited : goal.returns-in-Err-clause-waited
-returns-in-Err-clause-waited g c = search (arith, first_idles, c.in_ok-preparing.ensures.preparing.same)
+    c.finish-prepared.ensures.ordered c.in_ok-preparing.ensures.none c.in_ok-preparing.ensures.preparing.before c.in_ok-preparing.ensures.preparing.same

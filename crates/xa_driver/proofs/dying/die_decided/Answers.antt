@@ -24,16 +24,14 @@ returns-in-Told-clause-dies g c bs old log later p first second =
 
 pub returns-in_default : goal.returns-in_default
 returns-in_default g c =
-    let desk = c.args.desk.now in
-    let known = c.let_go-in_default.result in
     let here = decided_here c.args.death c.requires.later c.in_default.not-Telling c.in_default.not-Told in
     record {
       votes = ap (λ k. k.votes) c.let_go-in_default.ensures;
       logged = ap (λ k. k.logged) c.let_go-in_default.ensures;
       dies = λ bs old log later p first second.
-          subst (λ at. Dies AsksLedger PutsLedger at p.tran bs (ledger old) (ledger desk.ledgers) log later known) (sym here)
-          (dies_decided bs old desk.ledgers log later p c.args.decided first second known c.let_go-in_default.ensures);
-      leaves = λ bs among. desk_same bs desk;
-      waited = idles_start g.I.Idle.leads_by _ _;
+          subst (λ at. Dies AsksLedger PutsLedger at p.tran bs (ledger old) (ledger c.args.desk.now.ledgers) log later c.let_go-in_default.result) (sym here)
+          (dies_decided bs old c.args.desk.now.ledgers log later p c.args.decided first second c.let_go-in_default.result c.let_go-in_default.ensures);
+      leaves = λ bs among. desk_same bs c.args.desk.now;
+      waited = idles_start _ _;
       idled = g.met.I.Idle.leads_start _;
     }

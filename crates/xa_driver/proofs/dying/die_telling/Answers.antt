@@ -1,15 +1,14 @@
 use Rattle.xa_base.proofs.{◌∙◌, ap, map}
 use Rattle.xa_driver.specs.{second_ask}
 use Rattle.xa_driver.proofs.AtDeath.{desk_left, dies_telling}
-use Rattle.xa_driver.proofs.Gathering.{same_among, same_itself}
+use Rattle.xa_driver.proofs.Requests.{same_itself, same_alike}
 use Rattle.xa_driver.proofs.dying.die_telling.Goals as goal
 
 pub returns-clause-dies : goal.returns-clause-dies
 returns-clause-dies g c bs old log later p d first second t =
-    let r = c.begin_to_collect.new.self in
     let now = c.begin_to_collect.new.desk in
     let e = c.begin_to_collect.ensures in
-    dies_telling bs old c.args.desk.now.ledgers log later p d first second r now e.under_way e.all c.args.count e.first
+    dies_telling bs old c.args.desk.now.ledgers log later p d first second c.begin_to_collect.new.self now e.under_way e.all c.args.count e.first
     (e.same (map (second_ask d.known.commit) d.round.asks.items) t.same) c.leave.new.desk.ledgers (ap (λ b. b.value.ledgers) e.before ∙ ap (λ d. d.ledgers) c.requires.begins) c.leave.ensures.left.lists
     c.leave.result (c.leave.ensures.known ∙ t.known)
 
@@ -18,6 +17,5 @@ returns-clause-leaves g c bs among =
     let asks = c.args.telling.round.asks.items in
     let r = c.begin_to_collect.new.self in
     let e = c.begin_to_collect.ensures in
-    let left = c.leave.ensures in
-    desk_left r c.begin_to_collect.new.desk e.under_way bs c.args.desk.now c.leave.new.desk (λ m. same_among asks r.asks.items m (e.same asks (same_itself asks)) ∙ among m)
-    (ap (λ b. b.value) e.before ∙ c.requires.begins) left.left left.goes_on left.kept
+    desk_left r c.begin_to_collect.new.desk e.under_way bs c.args.desk.now c.leave.new.desk (λ m. (same_alike asks r.asks.items (e.same asks (same_itself asks))).among m ∙ among m)
+    (ap (λ b. b.value) e.before ∙ c.requires.begins) c.leave.ensures.left c.leave.ensures.goes_on c.leave.ensures.kept

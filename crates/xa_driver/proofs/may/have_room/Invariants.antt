@@ -1,5 +1,4 @@
-use Rattle.xa_base.proofs.{drop}
-use Rattle.std.specs.Prelude.{◌↔◌}
+use Rattle.xa_base.proofs.{drop, ◌↔◌}
 use Rattle.xa_driver.specs.{HaveRoom}
 use Rattle.xa_driver.proofs.may.have_room.Given as goal
 

@@ -3,7 +3,7 @@ use Rattle.xa_desk.specs.{call_refusal}
 use Rattle.xa_calls.specs.{code_of, put_refusal}
 use Rattle.xa_calls.specs.Scans.{answered}
 use Rattle.xa_calls.proofs.Refusals.{no_refusal}
-use Rattle.xa_driver.proofs.Alone.{call_answered}
+use Rattle.xa_driver.proofs.EachLeft.{call_answered}
 use Rattle.xa_driver.proofs.resolving.ask.Goals as goal
 
 pub returns-in-Ok : goal.returns-in-Ok

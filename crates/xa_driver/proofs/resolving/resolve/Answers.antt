@@ -3,12 +3,12 @@ use Rattle.xa_base.specs.{MOST_MANAGERS}
 use Rattle.xa_desk.specs.{ledger}
 use Rattle.xa_driver.specs.{ResolvesAt, AsksLedger, begun, next}
 use Rattle.xa_calls.specs.{AsksAndWaits, Answers}
-use Rattle.xa_driver.proofs.Alone.{alone_rest}
-use Rattle.xa_driver.proofs.Staying.{rest_same, rest_chain}
-use Rattle.xa_driver.proofs.EachLeft.{SoFar, none_so_far, one_more_so_far, left_more, left_within, room_same}
-use Rattle.xa_driver.proofs.InTurn.{turns_by}
+use Rattle.xa_driver.proofs.EachLeft.{left_more, alone_rest, SoFar, none_so_far, one_more_so_far, left_within, room_same}
+use Rattle.xa_driver.proofs.Requests.{rest_same, rest_chain}
+use Rattle.xa_driver.proofs.Mapped.{turns_by}
 use Rattle.xa_driver.proofs.resolving.resolve.Given as given
 use Rattle.xa_driver.proofs.resolving.resolve.Goals as goal
+use Rattle.xa_driver.proofs.Stepping.{so_far}
 
 pub loop-before-init : goal.loop-before-init
 loop-before-init g c = record {
@@ -26,16 +26,9 @@ resolve_at-requires-clause-room g c = grind (arith, room_same)
 
 pub resolve_at-requires-clause-space : goal.resolve_at-requires-clause-space
 resolve_at-requires-clause-space g c =
-    let i = c.loop-before.invariant in
-    let z = c.args.scan.now in
-    let n = c.loop-before.before in
-    let below = c.loop-before-test.true in
-    let within = left_within z (n + 1) MOST_MANAGERS (omega (arith, below)) in
-    let more = left_more z n in
-    let many = i.many in
-    let space = i.space in
-    let there = ap (λ l. length l) c.left.ensures in
-    omega (arith, within, more, many, space, there)
+    let within = left_within c.args.scan.now (c.loop-before.before + 1) MOST_MANAGERS (omega (arith, c.loop-before-test.true)) in
+    let more = left_more c.args.scan.now c.loop-before.before in
+    omega (arith, within, more, c.loop-before.invariant.many, c.loop-before.invariant.space, ap (λ l. length l) c.left.ensures)
 
 pub loop-before-preserved : goal.loop-before-preserved
 loop-before-preserved g c =
@@ -60,15 +53,6 @@ loop-before-preserved g c =
 
 all_before : (g : given.Over) (c : goal.After-loop-before g) → c.loop-before.before ≡ MOST_MANAGERS
 all_before g c = let done = c.loop-before-test.false in let stop = c.loop-before.auto.before-end in omega (arith, done, stop)
-
-pub returns-clause-trace : goal.returns-clause-trace
-returns-clause-trace g c = record { course = rw (all_before g c) at c.loop-before.invariant.so_far; managers = c.loop-before.invariant.managers }
-
-pub returns-clause-keeps : goal.returns-clause-keeps
-returns-clause-keeps g c = c.loop-before.invariant.rest
-
-pub returns-in_err-outcomes-clause-keeps : goal.returns-in_err-outcomes-clause-keeps
-returns-in_err-outcomes-clause-keeps g c = rest_same c.args.desk.now c.args.desk.now refl
 
 pub returns-clause-waited : goal.returns-clause-waited
 returns-clause-waited g c = rw (all_before g c) at c.loop-before.invariant.waits

@@ -6,20 +6,17 @@ use Rattle.xa_words.specs.{XidName}
 use Rattle.xa_desk.specs.{ledger}
 use Rattle.xa_driver.specs.{Outcome, AsksLedger}
 use Rattle.xa_calls.specs.{AsksAndWaits}
-use Rattle.xa_driver.proofs.Alone.{alone_start, alone_chain}
-use Rattle.xa_driver.proofs.EachLeft.{requests_there, resolves_there}
+use Rattle.xa_driver.proofs.EachLeft.{alone_start, alone_chain, requests_there, resolves_there}
 use Rattle.xa_driver.proofs.resolving.resolve_at.Goals as goal
 
 pub loop-xid-init : goal.loop-xid-init
 loop-xid-init g c =
     let a = ledger c.ask.new.desk.ledgers c.args.manager in
     let some : length c.args.left.now ≢ 0 = eqb-false (length c.args.left.now) 0 (sym c.is_empty.ensures ∙ c.if-is_empty.false) in
-    let room = c.requires.room in
     let requests = requests_there c.args.left.now some in
-    let asked = c.ask.ensures.room in
     record {
       more = ([], sym (append-nil c.args.outcomes.now.items), refl, none [] a refl refl, none [] (c.ask.new.desk, c.ask.new.idle) refl refl);
-      room = omega (arith, room, requests, asked);
+      room = omega (arith, c.requires.room, requests, c.ask.ensures.room);
       space = refl;
       alone = alone_start c.args.manager c.ask.new.desk;
       idled = g.met.I.Idle.leads_start _;
@@ -29,21 +26,17 @@ pub loop-xid-preserved : goal.loop-xid-preserved
 loop-xid-preserved g c =
     let i = c.loop-xid.invariant in
     let o : Outcome = c.resolve_branch-outcome.result in
-    let left : List XidName = c.args.left.now in
     let (before, items, xids, chain, waits) = i.more in
-    let room = i.room in
-    let asked = c.resolve_branch-outcome.ensures.room in
-    let below = c.loop-xid-test.true in
     record {
       more = (
         before ++ o ∷ [],
         c.push_reserved.ensures.items ∙ ap (λ l. l ++ o ∷ []) items ∙ append_assoc c.args.outcomes.now.items before (o ∷ []),
         map_push (λ (p : Outcome). p.xid) before o ∙ (λ j. xids j ++ c.resolve_branch-outcome.ensures.xid j ∷ [])
-            ∙ sym (one_more left c.loop-xid.xid-index c.xid-item.result below c.xid-item.is),
+            ∙ sym (one_more c.args.left.now c.loop-xid.xid-index c.xid-item.result c.loop-xid-test.true c.xid-item.is),
         more before o (ledger c.loop-xid.desk.ledgers c.args.manager) _ chain c.resolve_branch-outcome.ensures.resolves,
         more before o (c.loop-xid.desk, c.loop-xid.idle) _ waits c.resolve_branch-outcome.ensures.waits,
       );
-      room = omega (arith, room, asked, below);
+      room = omega (arith, i.room, c.resolve_branch-outcome.ensures.room, c.loop-xid-test.true);
       space = c.push_reserved.ensures.capacity ∙ i.space;
       alone = alone_chain c.args.manager c.ask.new.desk c.loop-xid.desk c.resolve_branch-outcome.new.desk i.alone c.resolve_branch-outcome.ensures.alone;
       idled = g.met.I.Idle.leads_chain _ _ _ i.idled c.resolve_branch-outcome.ensures.idled;
@@ -53,8 +46,7 @@ pub returns-clause-resolves : goal.returns-clause-resolves
 returns-clause-resolves g c =
     let left : List XidName = c.args.left.now in
     let (os, items, xids, chain, waits) = c.loop-xid.invariant.more in
-    let done = c.loop-xid-test.false in
-    let all : map (λ (o : Outcome). o.xid) os ≡ left = xids ∙ take_all c.loop-xid.xid-index left (omega (arith, done)) in
+    let all : map (λ (o : Outcome). o.xid) os ≡ left = xids ∙ take_all c.loop-xid.xid-index left (omega (arith, c.loop-xid-test.false)) in
     let some : length left ≢ 0 = eqb-false (length left) 0 (sym c.is_empty.ensures ∙ c.if-is_empty.false) in (
       os,
       items,

@@ -1,6 +1,6 @@
 use Rattle.xa_base.proofs.{refl, sym, ◌∙◌}
 use Rattle.xa_desk.specs.{ledger}
-use Rattle.xa_driver.proofs.Alone.{alone_chain}
+use Rattle.xa_driver.proofs.EachLeft.{alone_chain}
 use Rattle.xa_driver.proofs.resolving.resolve_branch.Goals as goal
 use Rattle.xa_driver.proofs.resolving.resolve_branch.Goals.{then-is_decided, else-is_decided}
 

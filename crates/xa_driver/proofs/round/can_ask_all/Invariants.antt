@@ -1,5 +1,4 @@
-use Rattle.xa_base.proofs.{drop}
-use Rattle.std.specs.Prelude.{◌↔◌}
+use Rattle.xa_base.proofs.{drop, ◌↔◌}
 use Rattle.xa_driver.specs.{AllCanAsk}
 use Rattle.xa_driver.proofs.round.can_ask_all.Given as goal
 

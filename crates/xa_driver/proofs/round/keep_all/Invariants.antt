@@ -1,7 +1,7 @@
 use Rattle.xa_base.proofs.{◌≡◌, ◌+◌, length}
 use Rattle.xa_desk.specs.{GoesOn}
 use Rattle.xa_driver.specs.{AllKeptBut, LeavesInFlight, OwnsAll}
-use Rattle.xa_driver.proofs.Leaving.{IsLast}
+use Rattle.xa_driver.proofs.Flights.{IsLast}
 use Rattle.xa_driver.proofs.round.keep_all.Given as goal
 
 -- the tickets of the others are owned

@@ -1,7 +1,7 @@
 use Rattle.xa_base.proofs.{sym, subst, arith, length-map}
 use Rattle.xa_driver.specs.{AreRising}
 use Rattle.xa_driver.proofs.Calls.{first_rising, tran_first}
-use Rattle.xa_driver.proofs.Gathering.{same_itself}
+use Rattle.xa_driver.proofs.Requests.{same_itself}
 use Rattle.xa_driver.proofs.stages.begin_prepare.Goals as goal
 
 pub new-requires-clause-rising : goal.new-requires-clause-rising

@@ -1,6 +1,6 @@
 use Rattle.xa_base.proofs.{arith, ◌≡◌, ◌<◌, ◌&&◌, ℕ, List, length, pos, sym, subst, ◌∙◌, slice_index_or, slice_get-get_or, one_more, some_same}
 use Rattle.xa_work.specs.{Flight, CollectsAll}
-use Rattle.xa_work.proofs.Making.{collects_more, collects_none}
+use Rattle.xa_work.proofs.Making.{collects_more, collects_none, leaves_none, leaves_on}
 use Rattle.xa_work.proofs.in_flight.collect_all.Goals as goal
 
 -- what is there is there by itself
@@ -8,7 +8,7 @@ itself : (fs : List Flight) (i : ℕ) (d : Flight) → i < length fs → slice_i
 itself fs i d below = some_same _ _ (sym (slice_get-get_or fs i d below) ∙ slice_get-get_or fs i (slice_index_or fs i d) below)
 
 pub loop-flight-init : goal.loop-flight-init
-loop-flight-init g c = search (arith, collects_none, c.desks_go_on.ensures.same, c.idles_go_on.ensures.same)
+loop-flight-init g c = search (arith, collects_none, leaves_none, c.idles_go_on.ensures.same)
 
 pub loop-flight-preserved : goal.loop-flight-preserved
 loop-flight-preserved g c =
@@ -17,9 +17,7 @@ loop-flight-preserved g c =
     let none : Flight = record { manager = 0; handle = pos 0 } in
     let below = c.loop-flight-test.true in
     record {
-      goes_on = c.desks_go_on.ensures.further _ _ _ c.loop-flight.invariant.goes_on c.collect-all.ensures.goes_on;
-      kept = λ h. c.collect-all.ensures.kept (c.loop-flight.invariant.kept h);
-      idled = c.idles_go_on.ensures.further _ _ _ c.loop-flight.invariant.idled c.collect-all.ensures.idled;
+      leaves = leaves_on c.idles_go_on.ensures.further c.loop-flight.invariant.leaves c.collect-all.ensures.goes_on c.collect-all.ensures.kept c.collect-all.ensures.idled;
       collects =
           subst (λ l. CollectsAll l (c.loop-flight.all && c.collect-all.result) c.args.desk.now c.collect-all.new.desk) (sym (one_more fs i (slice_index_or fs i none) below (itself fs i none below)))
           (collects_more _ (slice_index_or fs i none) c.loop-flight.all c.collect-all.result _ _ _ c.loop-flight.invariant.collects c.collect-all.ensures.collects);

@@ -1,6 +1,6 @@
 use Rattle.xa_base.proofs.{◌≡◌, true, false, ℤ, arith, subst, sym, w32, to_z-of_z, ints}
 use Rattle.xa_work.specs.{PutsOp, op_of}
-use Rattle.xa_work.proofs.Handles.{full_stays, put_by, put_later, stays_on}
+use Rattle.xa_work.proofs.Sent.{full_stays, put_by, put_later, stays_on}
 use Rattle.xa_work.proofs.in_flight.put.Goals as goal
 
 pub loop-preserved : goal.loop-preserved

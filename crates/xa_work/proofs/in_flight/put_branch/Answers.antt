@@ -1,27 +1,22 @@
-use Rattle.xa_base.proofs.{◌+◌, List, length, vec_capacity, Vec, [], ◌∷◌, arith, ap, length-append, subst, sym, take, ◌∙◌, Global}
+use Rattle.xa_base.proofs.{List, length, vec_capacity, Vec, [], ◌∷◌, arith, ap, length-append, subst, take, ◌∙◌, Global, sym}
 use Rattle.xa_words.specs.{Add, End, Start, Success, Fresh}
-use Rattle.xa_desk.specs.{GoesOn, AllKept, DeskView}
 use Rattle.xa_work.specs.{Flight, PutsRequests}
-use Rattle.xa_work.proofs.Making.{Adds, adds_none, adds_one, at_of, begun_all, begun_elsewhere, begun_here, begun_of, left_elsewhere, left_here, steps_are}
+use Rattle.xa_work.proofs.Making.{adds_none, adds_one, at_of, begun_all, begun_elsewhere, begun_here, begun_of, left_elsewhere, left_here, steps_are, leaves_on}
+use Rattle.xa_work.proofs.Making.{Adds}
 use Rattle.xa_work.proofs.in_flight.put_branch.Goals as goal
 use Rattle.xa_work.proofs.in_flight.put_branch.Goals.{then-change-branch, else-change-branch}
 
 pub loop-change-init : goal.loop-change-init
 loop-change-init g c =
     let b = c.args.branch.now in
-    let room = c.push_reserved.ensures.capacity in
     let grown = ap length c.push_reserved.ensures.items ∙ length-append c.args.flights.now.items (c.put.result ∷ []) in
-    let steps = steps_are c.args.changes.now b in
-    let fits = c.requires in
     record {
-      goes_on = c.put.ensures.goes_on;
-      kept = c.put.ensures.kept;
-      idled = c.put.ensures.idled;
+      leaves = record { goes_on = c.put.ensures.goes_on; kept = c.put.ensures.kept; idled = c.put.ensures.idled };
       puts =
           adds_one b.m [] (Start b.xid Fresh) c.put.result _ _ _ _ _ _ (adds_none c.args.flights.now.items c.args.desk.now) c.put.ensures.manager c.put.ensures.puts
           c.push_reserved.ensures.items;
       room = c.push_reserved.ensures.capacity;
-      left = omega (arith, room, grown, steps, fits);
+      left = omega (arith, c.push_reserved.ensures.capacity, grown, steps_are c.args.changes.now b, c.requires);
     }
 
 pub loop-change-preserved : goal.loop-change-preserved
@@ -38,28 +33,22 @@ loop-change-preserved g c =
     elim c.if-change-branch.branch [
       | then-change-branch w ↦
           let one = w.put-then-change-branch in
-          let push = w.push_reserved-then-change-branch in
-          let room = push.ensures.capacity in
-          let grown = ap length push.ensures.items ∙ length-append c.loop-change.flights.items (one.result ∷ []) in
+          let grown = ap length w.push_reserved-then-change-branch.ensures.items ∙ length-append c.loop-change.flights.items (one.result ∷ []) in
           let rest = left_here cs i x b.m below c.change-item.is w.if-change-branch.true in
           record {
-            goes_on = subst (GoesOn old) (sym w.desk-is) (c.desks_go_on.ensures.further _ _ _ so_far.goes_on one.ensures.goes_on);
-            kept = λ h. subst AllKept (sym w.desk-is) (one.ensures.kept (so_far.kept h));
-            idled = subst (g.I.Idle.leads c.args.idle.now) (sym w.idle-is) (c.idles_go_on.ensures.further _ _ _ so_far.idled one.ensures.idled);
+            leaves = rw (w.desk-is, w.idle-is) (leaves_on c.idles_go_on.ensures.further so_far.leaves one.ensures.goes_on one.ensures.kept one.ensures.idled);
             puts =
-                subst (λ (d : DeskView). Adds (at_of b.m (begun_of (take (i + 1) cs) b)) first c.if-change-branch.flights.items old d) (sym w.desk-is)
+                rw w.desk-is
                 (subst (λ os. Adds (at_of b.m os) first c.if-change-branch.flights.items old one.new.desk) (sym (begun_here cs i x b below c.change-item.is w.if-change-branch.true))
                 (adds_one b.m (begun_of (take i cs) b) (Add x.key x.delta) one.result _ _ _ _ _ _ so_far.puts one.ensures.manager one.ensures.puts
-                (ap (λ (v : Vec Flight Global). v.items) w.flights-is ∙ push.ensures.items)));
-            room = ap vec_capacity w.flights-is ∙ room ∙ so_far.room;
+                (ap (λ (v : Vec Flight Global). v.items) w.flights-is ∙ w.push_reserved-then-change-branch.ensures.items)));
+            room = ap vec_capacity w.flights-is ∙ w.push_reserved-then-change-branch.ensures.capacity ∙ so_far.room;
             left = search (arith, vec_capacity);
           }
       | else-change-branch w ↦
           let rest = left_elsewhere cs i x b.m below c.change-item.is w.if-change-branch.false in
           record {
-            goes_on = subst (GoesOn old) (sym w.desk-is) so_far.goes_on;
-            kept = λ h. subst AllKept (sym w.desk-is) (so_far.kept h);
-            idled = subst (g.I.Idle.leads c.args.idle.now) (sym w.idle-is) so_far.idled;
+            leaves = rw (w.desk-is, w.idle-is) so_far.leaves;
             puts = search (arith, at_of, begun_of, begun_elsewhere, b.m, c.if-change-branch.flights.items, c.loop-change.flights.items, c.change-item.is);
             room = ap vec_capacity w.flights-is ∙ so_far.room;
             left = search (arith, vec_capacity);

@@ -1,44 +1,31 @@
-use Rattle.xa_base.proofs.{◌++◌, [], List, length, ap, arith, length-append, subst, sym, take, ◌∙◌, take_all}
-use Rattle.xa_work.specs.{Flight, CollectsAll, PutsRequests, requests_at, requests_of}
-use Rattle.xa_work.proofs.Making.{first_requests, puts_append, puts_length, puts_none, requests_left}
+use Rattle.xa_base.proofs.{[], length, ap, arith, length-append, subst, sym, ◌∙◌, take_all}
+use Rattle.xa_work.specs.{CollectsAll, PutsRequests, requests_at}
+use Rattle.xa_work.proofs.Making.{first_requests, puts_append, puts_length, puts_none, requests_left, leaves_none, leaves_on}
 use Rattle.xa_work.proofs.in_flight.work_in_flight.Goals as goal
 
 pub loop-branch-init : goal.loop-branch-init
 loop-branch-init g c =
-    let size = ap length c.requires.none in
-    let room = c.requires.room in
     record {
-      goes_on = c.desks_go_on.ensures.same _;
-      kept = λ h. h;
-      idled = c.idles_go_on.ensures.same _;
+      leaves = leaves_none c.idles_go_on.ensures.same _ _;
       puts = subst (λ l. PutsRequests [] l c.args.desk.now c.args.desk.now) (sym c.requires.none) (puts_none c.args.desk.now);
-      room = omega (arith, size, room);
+      room = omega (arith, ap length c.requires.none, c.requires.room);
     }
 
 pub loop-branch-preserved : goal.loop-branch-preserved
 loop-branch-preserved g c =
     let cs = c.args.changes.now in
-    let bs = c.args.branches.now in
-    let i = c.loop-branch.branch-index in
     let b = c.branch-item.result in
-    let below = c.loop-branch-test.true in
     let so_far = c.loop-branch.invariant in
     let (more, grown, puts) = c.put_branch.ensures.puts in
-    let later : List Flight = c.put_branch.new.flights.items in
     let items = ap length grown ∙ length-append c.loop-branch.flights.items more in
     let many = puts_length (requests_at cs b) more _ _ puts in
-    let left = requests_left cs bs i b below c.branch-item.is in
-    let room = so_far.room in
-    let same = c.put_branch.ensures.room in
+    let left = requests_left cs c.args.branches.now c.loop-branch.branch-index b c.loop-branch-test.true c.branch-item.is in
     record {
-      goes_on = c.desks_go_on.ensures.further _ _ _ so_far.goes_on c.put_branch.ensures.goes_on;
-      kept = λ h. c.put_branch.ensures.kept (so_far.kept h);
-      idled = c.idles_go_on.ensures.further _ _ _ so_far.idled c.put_branch.ensures.idled;
+      leaves = leaves_on c.idles_go_on.ensures.further so_far.leaves c.put_branch.ensures.goes_on c.put_branch.ensures.kept c.put_branch.ensures.idled;
       puts =
-          subst (λ w. PutsRequests w later c.args.desk.now c.put_branch.new.desk) (sym (first_requests cs bs i b below c.branch-item.is))
-          (subst (λ l. PutsRequests (requests_of cs (take i bs) ++ requests_at cs b) l c.args.desk.now c.put_branch.new.desk) (sym grown)
-          (puts_append _ (requests_at cs b) c.loop-branch.flights.items more _ _ _ so_far.puts puts));
-      room = omega (arith, items, many, left, room, same);
+          rw (first_requests cs c.args.branches.now c.loop-branch.branch-index b c.loop-branch-test.true c.branch-item.is, grown)
+          (puts_append _ (requests_at cs b) c.loop-branch.flights.items more _ _ _ so_far.puts puts);
+      room = omega (arith, items, many, left, so_far.room, c.put_branch.ensures.room);
     }
 
 pub returns-clause-tries : goal.returns-clause-tries

@@ -1,42 +1,35 @@
-use Rattle.xa_base.proofs.{arith, ◌+◌, ◌&&◌, true, subst, sym, take}
+use Rattle.xa_base.proofs.{arith, ◌&&◌, true, subst}
 use Rattle.xa_words.specs.{Add, End, Start, Success, Fresh}
-use Rattle.xa_desk.specs.{GoesOn, AllKept, DeskView}
 use Rattle.xa_work.specs.{CallsOps}
-use Rattle.xa_work.proofs.Making.{begun_all, begun_elsewhere, begun_here, begun_of, calls_more, calls_none}
+use Rattle.xa_work.proofs.Making.{begun_all, begun_elsewhere, begun_here, begun_of, calls_more, calls_none, leaves_on}
 use Rattle.xa_work.proofs.in_turn.work_on.Goals as goal
 use Rattle.xa_work.proofs.in_turn.work_on.Goals.{then-change-branch, else-change-branch}
 
 pub loop-change-init : goal.loop-change-init
 loop-change-init g c = record {
-  goes_on = c.ask-all.ensures.goes_on;
-  kept = c.ask-all.ensures.kept;
-  idled = c.ask-all.ensures.idled;
+  leaves = record { goes_on = c.ask-all.ensures.goes_on; kept = c.ask-all.ensures.kept; idled = c.ask-all.ensures.idled };
   calls = calls_more _ _ (Start c.args.branch.now.xid Fresh) true c.ask-all.result _ _ _ (calls_none c.args.branch.now.m c.args.desk.now) c.ask-all.ensures.calls;
 }
 
 pub loop-change-preserved : goal.loop-change-preserved
 loop-change-preserved g c =
-    let b = c.args.branch.now in
-    let cs = c.args.changes.now in
     let i = c.loop-change.change-index in
     let x = c.change-item.result in
     let old = c.args.desk.now in
     let so_far = c.loop-change.invariant in
-    let below = c.loop-change-test.true in
     elim c.if-change-branch.branch [
       | then-change-branch w ↦
           let one = w.ask-all-then-change-branch in
           record {
-            goes_on = subst (GoesOn old) (sym w.desk-is) (c.desks_go_on.ensures.further _ _ _ so_far.goes_on one.ensures.goes_on);
-            kept = λ h. subst AllKept (sym w.desk-is) (one.ensures.kept (so_far.kept h));
-            idled = subst (g.I.Idle.leads c.args.idle.now) (sym w.idle-is) (c.idles_go_on.ensures.further _ _ _ so_far.idled one.ensures.idled);
+            leaves = rw (w.desk-is, w.idle-is) (leaves_on c.idles_go_on.ensures.further so_far.leaves one.ensures.goes_on one.ensures.kept one.ensures.idled);
             calls =
-                subst (λ ok. CallsOps b.m (begun_of (take (i + 1) cs) b) ok old c.if-change-branch.desk) (sym w.all-is)
-                (subst (λ (d : DeskView). CallsOps b.m (begun_of (take (i + 1) cs) b) (c.loop-change.all && one.result) old d) (sym w.desk-is)
-                (subst (λ os. CallsOps b.m os (c.loop-change.all && one.result) old one.new.desk) (sym (begun_here cs i x b below c.change-item.is w.if-change-branch.true))
-                (calls_more b.m _ (Add x.key x.delta) c.loop-change.all one.result _ _ _ so_far.calls one.ensures.calls)));
+                rw (w.all-is, w.desk-is, begun_here c.args.changes.now i x c.args.branch.now c.loop-change-test.true c.change-item.is w.if-change-branch.true)
+                (calls_more c.args.branch.now.m _ (Add x.key x.delta) c.loop-change.all one.result _ _ _ so_far.calls one.ensures.calls);
           }
-      | else-change-branch w ↦ search (arith, begun_of, begun_elsewhere, so_far.kept, g.I.Idle.leads, b.m, c.loop-change.all, c.change-item.is)
+      | else-change-branch w ↦ record {
+          leaves = rw (w.desk-is, w.idle-is) so_far.leaves;
+          calls = search (arith, begun_of, begun_elsewhere, c.args.branch.now.m, c.loop-change.all, c.change-item.is);
+        }
     ]
 
 pub returns-clause-calls : goal.returns-clause-calls

@@ -1,5 +1,5 @@
 use Rattle.xa_words.specs.{OpenRm}
-use Rattle.xa_work.proofs.Called.{call_by}
+use Rattle.xa_work.proofs.Sent.{call_by}
 use Rattle.xa_work.proofs.opening.open_one.Goals as goal
 
 pub returns-clause-calls : goal.returns-clause-calls

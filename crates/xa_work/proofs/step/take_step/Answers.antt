@@ -29,30 +29,27 @@ taken x s t a m d e z w is same takes = subst (λ u. Takes x u a m d e w) (sym i
 
 pub returns-in-Start-clause-puts : goal.returns-in-Start-clause-puts
 returns-in-Start-clause-puts g c =
-    let a : Bool = c.args.asynchronous in
     let b = c.args.branch.now in
     let z : ℤ = c.xa_call.result in
-    let flags : c.if-asynchronous.flags ≡ flags_of a = search (arith, then-asynchronous, else-asynchronous, c.if-asynchronous.branch) in
-    taken b.xid c.args.step.now Start a b.m _ _ z _ c.in-Start.is (to_z-of_z w32 z (omega (arith, ints)))
-    (by_flags (λ f. Calls (asked_of call.Start (Some b.xid) f) c.args.desk.now b.m c.xa_call.new.desk z) (λ q. Takes b.xid Start q b.m c.args.desk.now c.xa_call.new.desk z) (λ p. p) (λ p. p) a _ flags c.xa_call.ensures.calls)
+    let flags : c.if-asynchronous.flags ≡ flags_of c.args.asynchronous = search (arith, then-asynchronous, else-asynchronous, c.if-asynchronous.branch) in
+    taken b.xid c.args.step.now Start _ b.m _ _ z _ c.in-Start.is (to_z-of_z w32 z (omega (arith, ints)))
+    (by_flags (λ f. Calls (asked_of call.Start (Some b.xid) f) c.args.desk.now b.m c.xa_call.new.desk z) (λ q. Takes b.xid Start q b.m c.args.desk.now c.xa_call.new.desk z) (λ p. p) (λ p. p) _ _ flags c.xa_call.ensures.calls)
 
 pub returns-in-Add-clause-puts : goal.returns-in-Add-clause-puts
 returns-in-Add-clause-puts g c =
-    let a : Bool = c.args.asynchronous in
     let b = c.args.branch.now in
     let z : ℤ = c.native.result in
     let k : Key = c.in-Add.key in
     let v : Delta = c.in-Add.delta in
-    let flags : c.if-asynchronous.flags ≡ flags_of a = search (arith, then-asynchronous, else-asynchronous, c.if-asynchronous.branch) in
-    taken b.xid c.args.step.now (Add k v) a b.m _ _ z _ c.in-Add.is (to_z-of_z w32 z (omega (arith, ints)))
-    (by_flags (λ f. Calls (native (rm.Add k v) f) c.args.desk.now b.m c.native.new.desk z) (λ q. Takes b.xid (Add k v) q b.m c.args.desk.now c.native.new.desk z) (λ p. p) (λ p. p) a _ flags c.native.ensures.calls)
+    let flags : c.if-asynchronous.flags ≡ flags_of c.args.asynchronous = search (arith, then-asynchronous, else-asynchronous, c.if-asynchronous.branch) in
+    taken b.xid c.args.step.now (Add k v) _ b.m _ _ z _ c.in-Add.is (to_z-of_z w32 z (omega (arith, ints)))
+    (by_flags (λ f. Calls (native (rm.Add k v) f) c.args.desk.now b.m c.native.new.desk z) (λ q. Takes b.xid (Add k v) q b.m c.args.desk.now c.native.new.desk z) (λ p. p) (λ p. p) _ _ flags c.native.ensures.calls)
 
 pub returns-in-End-clause-puts : goal.returns-in-End-clause-puts
 returns-in-End-clause-puts g c =
-    let a : Bool = c.args.asynchronous in
     let b = c.args.branch.now in
     let z : ℤ = c.xa_call-in-End.result in
-    let flags : c.if-asynchronous.flags ≡ flags_of a = search (arith, then-asynchronous, else-asynchronous, c.if-asynchronous.branch) in
-    taken b.xid c.args.step.now End a b.m _ _ z _ c.in-End.is (to_z-of_z w32 z (omega (arith, ints)))
-    (by_flags (λ f. Calls (asked_of call.End (Some b.xid) (bit_or f TMSUCCESS)) c.args.desk.now b.m c.xa_call-in-End.new.desk z) (λ q. Takes b.xid End q b.m c.args.desk.now c.xa_call-in-End.new.desk z) (λ p. p) (λ p. p) a _ flags
-    c.xa_call-in-End.ensures.calls)
+    let new : DeskView = c.xa_call-in-End.new.desk in
+    let flags : c.if-asynchronous.flags ≡ flags_of c.args.asynchronous = search (arith, then-asynchronous, else-asynchronous, c.if-asynchronous.branch) in
+    taken b.xid c.args.step.now End _ b.m _ _ z _ c.in-End.is (to_z-of_z w32 z (omega (arith, ints)))
+    (by_flags (λ f. Calls (asked_of call.End (Some b.xid) (bit_or f TMSUCCESS)) c.args.desk.now b.m new z) (λ q. Takes b.xid End q b.m c.args.desk.now new z) (λ p. p) (λ p. p) _ _ flags c.xa_call-in-End.ensures.calls)

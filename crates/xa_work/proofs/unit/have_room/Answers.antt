@@ -6,14 +6,12 @@ use Rattle.xa_work.proofs.unit.have_room.Goals as goal
 
 pub loop-branch-preserved : goal.loop-branch-preserved
 loop-branch-preserved c =
-    let cs = c.args.changes.now in
-    let at = c.args.desk.now.ledgers in
     let bs = c.args.branches.now in
     let i = c.loop-branch.branch-index in
     let b = c.branch-item.result in
-    let fits : steps_in cs b.m + AFTERWARDS ≤ room_at at b.m = omega arith in
-    subst (HaveRoomToWork at cs) (sym (one_more bs i b c.loop-branch-test.true c.branch-item.is))
-    (All-push (λ (d : Branch). steps_in cs d.m + AFTERWARDS ≤ room_at at d.m) (take i bs) b c.loop-branch.invariant fits)
+    let fits : steps_in c.args.changes.now b.m + AFTERWARDS ≤ room_at c.args.desk.now.ledgers b.m = omega arith in
+    subst (HaveRoomToWork c.args.desk.now.ledgers c.args.changes.now) (sym (one_more bs i b c.loop-branch-test.true c.branch-item.is))
+    (All-push (λ (d : Branch). steps_in c.args.changes.now d.m + AFTERWARDS ≤ room_at c.args.desk.now.ledgers d.m) (take i bs) b c.loop-branch.invariant fits)
 
 pub returns : goal.returns
 returns c = grind (arith, take_all)

@@ -3,8 +3,7 @@ use Rattle.xa_desk.specs.{DeskView}
 use Rattle.xa_work.specs.{IsFor, NamesOnly, IsRefused, GivesUp, Tries}
 use Rattle.xa_work.specs.Units.IsRefused.{barred, undone}
 use Rattle.xa_work.specs.Units.Transacts.{commits, refused}
-use Rattle.xa_work.proofs.Comes.{comes_named}
-use Rattle.xa_work.proofs.Named.{all_among, gives_up_sent, tries_sent}
+use Rattle.xa_work.proofs.Named.{comes_named, all_among, gives_up_sent, tries_sent}
 use Rattle.xa_work.proofs.Sent.{have_as, have_none, have_on}
 use Rattle.xa_work.proofs.Tried.{room_known, tried_works}
 use Rattle.xa_work.proofs.unit.transact_until.Goals as goal
@@ -52,14 +51,12 @@ returns-clause-named g c =
 pub returns-in_default-clause-wants : goal.returns-in_default-clause-wants
 returns-in_default-clause-wants g c =
     let bs = c.args.branches.now in
-    let cs = c.args.changes.now in
-    let tried = c.work-worked.new.desk in
     let begins = c.may_begin.ensures.0 c.if-not-may_begin.false in
     record {
       begins = begins.0;
-      tried = tried;
+      tried = c.work-worked.new.desk;
       may = (c.may_commit.ensures.0 c.if-not-may_commit.false).0;
-      worked = subst (λ ok. Tries cs bs ok c.args.desk.now tried) c.if-not-worked.false c.work-worked.ensures.tries;
+      worked = subst (λ ok. Tries c.args.changes.now bs ok c.args.desk.now c.work-worked.new.desk) c.if-not-worked.false c.work-worked.ensures.tries;
       gives_up = subst (λ (d : DeskView). GivesUp bs d c.give_up-in_default.new.desk) c.in_default.ensures.unsent c.give_up-in_default.ensures.gives_up;
     }
 

@@ -1,5 +1,4 @@
 use Rattle.xa_base.proofs.{length, ap, ◌∙◌, subst, arith, into_iter_items, push_side, taken_next}
-use Rattle.xa_base.specs.{Pairwise}
 use Rattle.xa_crew.specs.{Comes}
 use Rattle.xa_crew.proofs.Threads.{IsBackAs, all_back, gone_through}
 use Rattle.xa_crew.proofs.hands.Came.back.Goals as goal
@@ -22,5 +21,4 @@ pub returns : goal.returns
 returns g c jobs comes =
     let i = c.loop-one.invariant in
     let all = gone_through c.loop-one.yielded (into_iter_items c.loop-one.one-iterator) c.args.self.came.items _ i.counted c.in-None.ensures.steps.0 i.so_far in
-    all_back g.J.Job.comes_to jobs c.args.self.came.items c.loop-one.back.items comes
-    (subst (λ l. Pairwise (IsBackAs g.J.Job.comes_to) l c.loop-one.back.items) all i.back)
+    all_back g.J.Job.comes_to jobs c.args.self.came.items c.loop-one.back.items comes (rw all at i.back)

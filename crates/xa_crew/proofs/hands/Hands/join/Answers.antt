@@ -1,5 +1,4 @@
 use Rattle.xa_base.proofs.{◌++◌, length, ap, ◌∙◌, subst, arith, into_iter_items, push_side, taken_next}
-use Rattle.xa_base.specs.{Pairwise}
 use Rattle.xa_crew.specs.{Comes}
 use Rattle.xa_crew.proofs.Threads.{Brings, all_came, gone_through}
 use Rattle.xa_crew.proofs.hands.Hands.join.Goals as goal
@@ -28,5 +27,4 @@ returns-clause-came g c jobs at =
     gone_through c.loop-hand.yielded (into_iter_items c.loop-hand.hand-iterator) c.args.self.hands.items _ i.counted c.in-None.ensures.steps.0 i.so_far in
     let others =
     gone_through c.loop-other.yielded (into_iter_items c.loop-other.other-iterator) c.args.self.others.items _ j.counted c.in-None-other.ensures.steps.0 j.so_far in
-    all_came comes_to jobs c.args.self.hands.items c.args.self.others.items brought c.loop-other.came.items at
-    (subst (λ l. Pairwise (Brings comes_to) l brought) hands i.brought) (j.came ∙ ap (λ l. brought ++ l) others)
+    all_came comes_to jobs c.args.self.hands.items c.args.self.others.items brought c.loop-other.came.items at (rw hands at i.brought) (j.came ∙ ap (λ l. brought ++ l) others)

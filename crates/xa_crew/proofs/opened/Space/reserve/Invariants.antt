@@ -4,7 +4,4 @@ use Rattle.xa_crew.proofs.opened.Space.reserve.Given as goal
 
 -- there is room to tell of so many desks
 abbrev pub invariant-loop : goal.invariant-loop
-invariant-loop g l = record {
-  many : length l.outstanding.items ≡ l.counter;
-  tell : All CanTell l.outstanding.items;
-}
+invariant-loop g l = record { many : length l.outstanding.items ≡ l.counter; tell : All CanTell l.outstanding.items }

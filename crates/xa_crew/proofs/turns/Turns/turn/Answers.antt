@@ -6,18 +6,15 @@ use Rattle.xa_crew.proofs.turns.Turns.turn.Goals as goal
 
 pub returns-clause-turn : goal.returns-clause-turn
 returns-clause-turn g c =
-    let ws : List WorkerView = c.self.inside.workers.items in
     let i = c.args.manager - 1 in
-    let before : WorkerView = c.index_mut.result.now in
-    let after : WorkerView = c.step.new.self in
     let many = ap (λ (l : List WorkerView). length l) c.self.view_is in
-    let inside : i < length ws = let low = c.requires.0 in let high = c.requires.1 in omega (arith, many, low, high) in
-    subst (λ (l : List WorkerView). TakesTurn c.args.manager c.step.result l (slice_set ws i after)) c.self.view_is
+    let inside : i < length c.self.inside.workers.items = let low = c.requires.0 in let high = c.requires.1 in omega (arith, many, low, high) in
+    subst (λ (l : List WorkerView). TakesTurn c.args.manager c.step.result l (slice_set c.self.inside.workers.items i c.step.new.self)) c.self.view_is
     (record {
-      before = before;
-      after = after;
-      at = slice_get-get_or ws i before inside ∙ ap (λ (w : WorkerView). Some w) (sym c.index_mut.ensures.value);
-      turn = had_turn before c.step.result after c.step.ensures.step c.step.ensures.same c.step.ensures.seat c.step.ensures.tied;
+      before = c.index_mut.result.now;
+      after = c.step.new.self;
+      at = slice_get-get_or c.self.inside.workers.items i c.index_mut.result.now inside ∙ ap (λ (w : WorkerView). Some w) (sym c.index_mut.ensures.value);
+      turn = had_turn c.index_mut.result.now c.step.result c.step.new.self c.step.ensures.step c.step.ensures.same c.step.ensures.seat c.step.ensures.tied;
       rest = refl;
     })
 

@@ -10,18 +10,16 @@ loop-place-init g c = record { turned = none_turned c.self.inside.workers.items;
 
 pub loop-place-preserved : goal.loop-place-preserved
 loop-place-preserved g c =
-    let old = c.self.inside.workers.items in
     let ws = c.loop-place.self-inside.workers.items in
     let i = c.loop-place.place in
     let before = c.index_mut.result.now in
     let after = c.step.new.self in
-    let many = c.loop-place.invariant.turned.as_many in
-    let inside : i < length ws = omega (arith, many) in
+    let inside : i < length ws = omega (arith, c.loop-place.invariant.turned.as_many) in
     let at : slice_get ws i ≡ Some before = slice_get-get_or ws i before inside ∙ ap (λ (w : WorkerView). Some w) (sym c.index_mut.ensures.value) in
     let had = had_turn before c.step.result after c.step.ensures.step c.step.ensures.same c.step.ensures.seat c.step.ensures.tied in
     record {
-      turned = one_more_turned i old ws before after c.loop-place.invariant.turned at (c.step.result, had);
-      on = all_go_on old ws (slice_set ws i after) c.loop-place.invariant.on (one_goes_on ws i before after at had.goes);
+      turned = one_more_turned i c.self.inside.workers.items ws before after c.loop-place.invariant.turned at (c.step.result, had);
+      on = all_go_on c.self.inside.workers.items ws (slice_set ws i after) c.loop-place.invariant.on (one_goes_on ws i before after at had.goes);
     }
 
 pub returns-clause-turns : goal.returns-clause-turns

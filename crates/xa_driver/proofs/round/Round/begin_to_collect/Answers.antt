@@ -1,14 +1,13 @@
-use Rattle.xa_driver.proofs.Gathering.{same_itself}
+use Rattle.xa_driver.proofs.Requests.{same_itself}
 use Rattle.xa_driver.proofs.Idling.{round_idles}
 use Rattle.xa_driver.proofs.Ordering.{far_in_order}
 use Rattle.xa_driver.proofs.round.Round.begin_to_collect.Goals as goal
 
 pub returns-clause-waited : goal.returns-clause-waited
 returns-clause-waited g c =
-    let asks = c.args.self.now.asks.items in
-    round_idles g.I.Idle.leads_by asks c.send_all.new.self.asks.items c.args.idle.now c.send_all.new.idle c.collect_first.new.idle (c.send_all.ensures.same asks (same_itself asks)) c.send_all.ensures.waited c.collect_first.ensures.waited
+    round_idles _ _ (c.send_all.ensures.same _ (same_itself c.args.self.now.asks.items)) c.send_all.ensures.waited c.collect_first.ensures.waited
 
 pub returns-clause-ordered : goal.returns-clause-ordered
 returns-clause-ordered g c =
     far_in_order c.args.self.now c.send_all.new.self c.collect_first.new.self c.args.desk.now c.send_all.new.desk c.collect_first.new.desk c.send_all.ensures.ordered c.send_all.ensures.asks c.send_all.ensures.before
-    c.send_all.ensures.under_way c.send_all.ensures.all c.requires.none c.collect_first.ensures.ordered
+    c.send_all.ensures.under_way c.send_all.ensures.all c.collect_first.ensures.ordered c.requires.none

@@ -1,7 +1,7 @@
 use Rattle.xa_base.proofs.{arith, ◌≡◌, refl, sym, ap, ◌∙◌, Some, set, slice_get, slice_get-get_or}
 use Rattle.xa_driver.specs.{Ask, coded, next_ticket}
-use Rattle.xa_driver.proofs.Gathering.{same_set}
-use Rattle.xa_driver.proofs.Stepping.{first_one, flight_owned, matched_some, one_more_collected, place_is, place_within}
+use Rattle.xa_driver.proofs.Requests.{same_set}
+use Rattle.xa_driver.proofs.Stepping.{flight_owned, matched_some, first_one, one_more_collected, place_is, place_within}
 use Rattle.xa_driver.proofs.round.Round.collect_place.Goals as goal
 
 pub end-code-requires : goal.end-code-requires

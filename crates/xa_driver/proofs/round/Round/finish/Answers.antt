@@ -1,9 +1,8 @@
 use Rattle.xa_base.proofs.{subst, ap, ◌∙◌}
 use Rattle.xa_desk.specs.{DeskView}
 use Rattle.xa_driver.specs.{KeepsTheRest}
-use Rattle.xa_driver.proofs.Gathering.{same_itself}
+use Rattle.xa_driver.proofs.Requests.{same_itself, rest_kept}
 use Rattle.xa_driver.proofs.Idling.{round_idles}
-use Rattle.xa_driver.proofs.Staying.{rest_kept}
 use Rattle.xa_driver.proofs.Ordering.{finished_in_order}
 use Rattle.xa_driver.proofs.Stepping.{all_answered}
 use Rattle.xa_driver.proofs.round.Round.finish.Goals as goal
@@ -17,8 +16,7 @@ returns-clause-keeps g c =
 
 pub returns-clause-waited : goal.returns-clause-waited
 returns-clause-waited g c =
-    let asks = c.args.self.now.asks.items in
-    round_idles g.I.Idle.leads_by asks c.send_all.new.self.asks.items c.args.idle.now c.send_all.new.idle c.collect_all.new.idle (c.send_all.ensures.same asks (same_itself asks)) c.send_all.ensures.waited c.collect_all.ensures.waited
+    round_idles _ _ (c.send_all.ensures.same _ (same_itself c.args.self.now.asks.items)) c.send_all.ensures.waited c.collect_all.ensures.waited
 
 pub returns-clause-ordered : goal.returns-clause-ordered
 returns-clause-ordered g c =

@@ -1,5 +1,5 @@
-use Rattle.xa_base.proofs.{◌<◌, length, ◌∙◌, arith, rules}
-use Rattle.xa_driver.proofs.Gathering.{same_itself}
+use Rattle.xa_base.proofs.{refl, ◌<◌, length, ◌∙◌, arith, rules}
+use Rattle.xa_driver.proofs.Requests.{same_itself}
 use Rattle.xa_driver.proofs.Idling.{idles_start, send_on, send_reaches}
 use Rattle.xa_driver.proofs.Ordering.{sends_on, step_sends, step_sends_keeps, sends_stay}
 use Rattle.xa_driver.proofs.round.Round.send_all.Goals as goal
@@ -21,7 +21,7 @@ loop-place-preserved g c =
       long = search rules;
       before = search rules;
       same = λ js s. e.same js (i.same js s);
-      waited = send_on g.I.Idle.leads_by asks c.loop-place.self c.loop-place.desk c.send_place.new.desk c.args.idle.now c.loop-place.idle c.send_place.new.idle (i.same asks (same_itself asks)) i.waited e.waited;
+      waited = send_on asks c.loop-place.self c.loop-place.desk c.send_place.new.desk c.args.idle.now c.loop-place.idle c.send_place.new.idle _ refl (i.same asks (same_itself asks)) i.waited e.waited;
       asks = (keeps.0 ∙ i.asks.0, keeps.1 ∙ i.asks.1);
       ordered = sends_on _ _ _ _ _ _ i.ordered (step_sends _ _ _ _ _ _ e.sends);
       idled = g.met.I.Idle.leads_chain _ _ _ i.idled e.idled;

@@ -1,6 +1,6 @@
 use Rattle.xa_base.proofs.{◌≡◌, ◌+◌, ◌<◌, length, refl, Some, arith, slice_get, slice_get-get_or}
 use Rattle.xa_driver.specs.{next_ask, sent_count}
-use Rattle.xa_driver.proofs.Stepping.{can_now, free_now, matched_some, one_more_leaves, one_more_sent}
+use Rattle.xa_driver.proofs.Stepping.{matched_some, can_now, free_now, one_more_leaves, one_more_sent}
 use Rattle.xa_driver.proofs.round.Round.send_place.Goals as goal
 
 pub begin-ticket-requires : goal.begin-ticket-requires
@@ -23,7 +23,7 @@ returns g c =
     let b = c.len-2.ensures in let d = r.asks.ok.0 in omega (arith, a, b, d) in
     let next : next_ask r ≡ Some k = search (arith, slice_get, slice_get-get_or, r.asks.items) in
     record {
-      under_way = one_more_sent r desk c.requires place count k within c.index.ensures c.begin-ticket.result c.begin-ticket.new.desk began _ refl refl refl c.push_back_reserved.ensures.items c.push_back_reserved.ensures.capacity;
+      under_way = one_more_sent r desk c.requires place count k within c.index.ensures c.begin-ticket.result c.begin-ticket.new.desk began _ refl c.push_back_reserved.ensures.items c.push_back_reserved.ensures.capacity;
       sends = matched_some _ _ (next_ask r) k next (
         refl,
         record {

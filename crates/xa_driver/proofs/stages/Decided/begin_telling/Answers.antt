@@ -1,7 +1,6 @@
-use Rattle.xa_base.proofs.{arith, ◌∙◌, refl}
+use Rattle.xa_base.proofs.{refl}
 use Rattle.xa_driver.specs.{Ask, second_ask}
-use Rattle.xa_driver.proofs.Gathering.{same_itself}
-use Rattle.xa_driver.proofs.InPlace.{lent, remade_endings, remade_may, remade_rest}
+use Rattle.xa_driver.proofs.Calls.{lent, remade_may, remade_rest}
 use Rattle.xa_driver.proofs.stages.Decided.begin_telling.Goals as goal
 
 pub again-requires : goal.again-requires
@@ -11,11 +10,3 @@ again-requires c =
     let is =
     lent f (λ k. refl) r.asks.len r.asks.items c.as_mut_slice.result.now c.second_round.new.asks _ r.asks.ok.0 c.second_round.ensures c.as_mut_slice.ensures.value in
     record { rest = remade_rest f (λ k. refl) r _ is refl c.requires.rest; may = remade_may f (λ k. refl) r _ is c.args.desk.now c.requires.may }
-
-pub returns-clause-telling : goal.returns-clause-telling
-returns-clause-telling c =
-    let r = c.args.self.round in
-    let is =
-    c.again.ensures.asks_are
-    ∙ lent (second_ask c.args.self.known.commit) (λ k. refl) r.asks.len r.asks.items c.as_mut_slice.result.now c.second_round.new.asks _ r.asks.ok.0 c.second_round.ensures c.as_mut_slice.ensures.value in
-    search (arith, same_itself, remade_endings, c.again.new.self, c.args.self.known)

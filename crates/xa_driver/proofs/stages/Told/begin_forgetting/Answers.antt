@@ -1,7 +1,6 @@
-use Rattle.xa_base.proofs.{arith, ◌∙◌, refl}
+use Rattle.xa_base.proofs.{refl}
 use Rattle.xa_driver.specs.{Ask, third_ask}
-use Rattle.xa_driver.proofs.Gathering.{same_itself}
-use Rattle.xa_driver.proofs.InPlace.{lent, remade_may, remade_rest}
+use Rattle.xa_driver.proofs.Calls.{lent, remade_may, remade_rest}
 use Rattle.xa_driver.proofs.stages.Told.begin_forgetting.Goals as goal
 
 pub again-requires : goal.again-requires
@@ -11,11 +10,3 @@ again-requires c =
     let is =
     lent f (λ k. refl) r.asks.len r.asks.items c.as_mut_slice.result.now c.third_round.new.asks _ r.asks.ok.0 c.third_round.ensures c.as_mut_slice.ensures.value in
     record { rest = remade_rest f (λ k. refl) r _ is refl c.requires.rest; may = remade_may f (λ k. refl) r _ is c.args.desk.now c.requires.may }
-
-pub returns-clause-forgetting : goal.returns-clause-forgetting
-returns-clause-forgetting c =
-    let r = c.args.self.round in
-    let is =
-    c.again.ensures.asks_are
-    ∙ lent third_ask (λ k. refl) r.asks.len r.asks.items c.as_mut_slice.result.now c.third_round.new.asks _ r.asks.ok.0 c.third_round.ensures c.as_mut_slice.ensures.value in
-    search (arith, same_itself)
