@@ -1,23 +1,243 @@
--- The records of slots in which several are placed.
-use Rattle.xa_base.proofs.{rules, ◌≡◌, ◌⊎◌, inl, inr, ⊎_elim, ℕ, zero, suc, ◌+◌, ◌<◌, Bool, Option, None, Some, List, [], ◌∷◌, length, get_or, map, set, refl}
-use Rattle.xa_base.proofs.{sym, ◌∙◌, ap, subst, arith, All, Contains, length-set, get_or-set_same, get_or_default, find}
-use Rattle.std.proofs.lemmas.List.Sums.{sum_by-cons}
-use Rattle.std.specs.FinMap as finmap
+-- Several records in the free slots of a file, one after another.
+use Rattle.xa_base.proofs.{rules, ◌≡◌, ◌≢◌, ◌⊎◌, inl, inr, ⊎_elim, ℕ, zero, suc, ◌+◌, ◌-◌, ◌*◌, ◌<◌, ◌≤◌, List, [], ◌∷◌, ◌++◌, length, get_or, map, take, drop}
+use Rattle.xa_base.proofs.{refl, sym, ◌∙◌, ap, subst, arith, All, Contains, cases_lt, length-map, length-drop, drop_all, Bool, None, Some, set, length-set}
+use Rattle.xa_base.proofs.{get_or-set_same, get_or_default, got, All-contains, Option, get_or_past, drop-drop, drop_more, sum_by-cons, get_or_from_slice_get}
+use Rattle.std.proofs.lemmas.List.{get_or-drop}
+use Rattle.xa_log.specs.{CommitRecord, LogState, Records, record_in, record_of, with_record, with_records, AreNew}
+use Rattle.xa_file_log.specs.{Slot, Free, Taken, Forgotten, Elapses, LeavesOnly, Only, Torn, spelling, IsValid, AreApart, IsSlotOf, StandsFor, on_file}
+use Rattle.xa_file_log.specs.{table_of, filled, placed, coming, used, HasBodies, HasNoFree, HasRoomFor, MayHave, MayShow, HasWithAnyOf, IsOneOf, ForgetsNoMore}
+use Rattle.xa_file_log.specs.{name_of, records_of, taken, records_in, forgotten_in, name_at, HasNoName, forgotten}
 use Rattle.xa_words.specs.{TranName}
-use Rattle.xa_log.specs.{CommitRecord, LogState, Records, record_in, record_of, with_record, with_records, AreNew, tran_cmp}
-use Rattle.xa_file_log.specs.{Slot, Free, Taken, Forgotten, HasWithAnyOf, IsOneOf, ForgetsNoMore, LeavesOnly, Table, name_of, AreApart, entries, records_of}
-use Rattle.xa_file_log.specs.{on_file, taken, forgotten, table_of, records_in, forgotten_in, log_state, placed, coming, used, name_at, HasNoName, HasNoFree}
-use Rattle.xa_file_log.specs.{HasRoomFor, MayShow}
-use Rattle.xa_file_log.proofs.Finds.{forgotten_part, part_at, part_has, names_apart}
-use Rattle.xa_file_log.proofs.Appending.{MayBeShut, same_records, no_more}
-use Rattle.xa_file_log.proofs.Moments.{weaker, joined}
-use Rattle.xa_file_log.proofs.Records.{get_found}
-use Rattle.xa_file_log.proofs.Index.{put_at}
-use Rattle.xa_file_log.proofs.Used.{weight, used_set}
-use Rattle.xa_file_log.proofs.Placed.{new_or_old, none_filled, filled_alike, filled_free}
-use Rattle.xa_file_log.proofs.Shown.{shows_records}
-use Rattle.xa_file_log.proofs.Slotwise.{apart_set, takes_record, name_set}
+use Rattle.xa_file_log.proofs.Tables.{whole_part, forgotten_part, names_apart, apart_set, takes_record, name_set, at_map, none_or_at, part_found}
+use Rattle.xa_file_log.proofs.Places.{weight, weighs, used_left, put_at, used_set}
+use Rattle.xa_file_log.proofs.Stands.{HasSlots, Between, Has, slots_as, gate_torn, ends, slots_of, stands_of, shown_of, surely, open_slot, still_free}
+use Rattle.xa_file_log.proofs.Stands.{stands_shown, stage_torn}
+use Rattle.xa_file_log.proofs.Moments.{goes_on, weaker, joined, torn_is_overwritten}
+use Rattle.xa_file_log.proofs.Appending.{MayBeShut, same_records, no_more, shows_records}
+use Rattle.std.specs.FinMap as finmap
 
+-- PLACED
+-- a slot is free and gets one of the records, or it stays
+abbrev pub NewOrOld : List Slot → List CommitRecord → ℕ → Type 0
+NewOrOld slots rs k =
+    ((r : CommitRecord) × (get_or slots k Free ≡ Free) × (get_or (placed slots rs) k Free ≡ Taken r) × (get_or (coming slots rs) k Free ≡ Forgotten r)
+    × Contains rs r)
+    ⊎ ((get_or (placed slots rs) k Free ≡ get_or slots k Free) × (get_or (coming slots rs) k Free ≡ get_or slots k Free))
+
+pub new_or_old : (slots : List Slot) (rs : List CommitRecord) (k : ℕ) → NewOrOld slots rs k
+new_or_old [] rs k = inr (refl, refl)
+new_or_old (Free ∷ slots) (r ∷ rs) zero = inl (r, refl, refl, refl, (0, omega arith, refl))
+new_or_old (Free ∷ slots) (r ∷ rs) (suc k) =
+    ⊎_elim (λ new. let has = new.4 in inl (new.0, new.1, new.2, new.3, (suc has.0, omega (arith, has.1), has.2))) (λ old. inr old) (new_or_old slots rs k)
+new_or_old (s ∷ slots) rs zero = inr (refl, refl)
+new_or_old (s ∷ slots) rs (suc k) = new_or_old slots rs k
+
+pub length-filled : (f : CommitRecord → Slot) (slots : List Slot) (rs : List CommitRecord) → length (filled f slots rs) ≡ length slots
+length-filled f [] rs = refl
+length-filled f (Free ∷ slots) (r ∷ rs) = ap (λ (n : ℕ). suc n) (length-filled f slots rs)
+length-filled f (s ∷ slots) rs = ap (λ (n : ℕ). suc n) (length-filled f slots rs)
+
+pub filled_alike : {X : Type 0} (g : Slot → X) (e f : CommitRecord → Slot) → ((r : CommitRecord) → g (e r) ≡ g (f r)) → (slots : List Slot)
+    (rs : List CommitRecord) → map g (filled e slots rs) ≡ map g (filled f slots rs)
+filled_alike g e f same [] rs = refl
+filled_alike g e f same (Free ∷ slots) (r ∷ rs) = λ i. same r i ∷ filled_alike g e f same slots rs i
+filled_alike g e f same (s ∷ slots) rs = λ i. g s ∷ filled_alike g e f same slots rs i
+
+-- what a free slot has stays where the new ones have it
+filled_kept : {X : Type 0} (g : Slot → X) (f : CommitRecord → Slot) → ((r : CommitRecord) → g (f r) ≡ g Free) → (slots : List Slot) (rs : List CommitRecord)
+    → map g (filled f slots rs) ≡ map g slots
+filled_kept g f same [] rs = refl
+filled_kept g f same (Free ∷ slots) (r ∷ rs) = λ i. same r i ∷ filled_kept g f same slots rs i
+filled_kept g f same (s ∷ slots) rs = λ i. g s ∷ filled_kept g f same slots rs i
+
+pub none_filled : (f : CommitRecord → Slot) (slots : List Slot) → filled f slots [] ≡ slots
+none_filled f [] = refl
+none_filled f (Free ∷ slots) = ap (λ (l : List Slot). Free ∷ l) (none_filled f slots)
+none_filled f (s ∷ slots) = ap (λ (l : List Slot). s ∷ l) (none_filled f slots)
+
+-- both have the same names
+pub coming_on_file : (slots : List Slot) (rs : List CommitRecord) → table_of (coming slots rs) ≡ table_of (placed slots rs)
+coming_on_file = filled_alike on_file Forgotten Taken (λ r. refl)
+
+-- ON THE WAY: the slots before n are done, and have the first i records
+pub record IsOnTheWay (slots : List Slot) (rs : List CommitRecord) (n i : ℕ) : Type 0 where
+  pub few : i ≤ length rs
+  pub room : used (drop n slots) + length (drop i rs) ≤ length (drop n slots)
+  pub rest : drop n (placed slots rs) ≡ placed (drop n slots) (drop i rs)
+
+-- over a slot that isn't free
+over : (s : Slot) (slots : List Slot) (rs : List CommitRecord) → (s ≡ Free → ⊥) → drop 1 (placed (s ∷ slots) rs) ≡ placed slots rs
+over Free slots rs differs = absurd (differs refl)
+over s slots rs differs = refl
+
+pub way_passes : {slots : List Slot} {rs : List CommitRecord} {n i : ℕ} → IsOnTheWay slots rs n i → n < length slots
+    → (get_or slots n Free ≡ Free → ⊥) → IsOnTheWay slots rs (n + 1) i
+way_passes {slots} {rs} {n} {i} way below differs =
+    let one = weighs (get_or slots n Free) differs in
+    record {
+      few = way.few;
+      room = omega (arith, way.room, used_left slots n below, one, length-drop n slots, length-drop (n + 1) slots);
+      rest = search (arith, drop-drop 1 n (placed slots rs), way.rest, drop_more slots n Free below, over (get_or slots n Free) (drop (n + 1) slots) (drop i rs) differs);
+    }
+
+pub records_left : (rs : List CommitRecord) (i : ℕ) (r : CommitRecord) → i < length rs → r ≡ get_or rs i r → drop i rs ≡ r ∷ drop (i + 1) rs
+records_left rs i r below is = drop_more rs i r below ∙ ap (λ (x : CommitRecord). x ∷ drop (i + 1) rs) (sym is)
+
+module _ {slots : List Slot} {rs : List CommitRecord} {n i : ℕ} (way : IsOnTheWay slots rs n i) (below : n < length slots)
+    (free : get_or slots n Free ≡ Free) (r : CommitRecord) (more : i < length rs) (read : r ≡ get_or rs i r) where
+  this_left : drop n (placed slots rs) ≡ Taken r ∷ placed (drop (n + 1) slots) (drop (i + 1) rs)
+  this_left = search (arith, drop_more, records_left)
+
+  -- into one that is
+  pub way_takes : IsOnTheWay slots rs (n + 1) (i + 1)
+  way_takes =
+      let none = ap weight free in
+      record {
+        few = omega (arith, more);
+        room = omega (arith, way.room, used_left slots n below, none, length-drop n slots, length-drop (n + 1) slots, length-drop i rs, length-drop (i + 1) rs);
+        rest = sym (drop-drop 1 n (placed slots rs)) ∙ ap (λ (l : List Slot). drop 1 l) this_left;
+      }
+
+  pub way_new : get_or (placed slots rs) n Free ≡ Taken r
+  way_new = search (arith, get_or-drop n (placed slots rs) 0 Free, this_left)
+
+pub next_taken : {slots : List Slot} {rs : List CommitRecord} {n i : ℕ} → IsOnTheWay slots rs n i → n < length slots → get_or slots n Free ≡ Free
+    → i ≢ length rs → (r : CommitRecord) × (get_or (placed slots rs) n Free ≡ Taken r) × IsOnTheWay slots rs (n + 1) (i + 1)
+next_taken {rs = rs} {i = i} way below free left =
+    let more : i < length rs = omega (arith, way.few, left) in
+    let at = got rs i more in
+    let read = sym (get_or_from_slice_get rs i at.0 at.0 at.1) in
+    (at.0, way_new way below free at.0 more read, way_takes way below free at.0 more read)
+
+-- once all records are placed
+pub way_ends : {slots : List Slot} {rs : List CommitRecord} {n i : ℕ} → IsOnTheWay slots rs n i → drop i rs ≡ [] → (k : ℕ) → n ≤ k
+    → get_or (placed slots rs) k Free ≡ get_or slots k Free
+way_ends {slots} {rs} {n} way none k from =
+    let e : n + (k - n) ≡ k = omega arith in
+    search (arith, get_or-drop, none_filled)
+
+-- at the end of the slots all are
+pub way_done : {slots : List Slot} {rs : List CommitRecord} {n i : ℕ} → IsOnTheWay slots rs n i → length slots ≤ n → drop i rs ≡ []
+way_done {slots} {rs} {n} {i} way past = search (arith, drop_all, length-drop)
+
+-- up to the first that is free
+pub way_from : (slots : List Slot) (rs : List CommitRecord) (n : ℕ) → HasRoomFor slots (length rs) → n ≤ length slots → HasNoFree slots n
+    → IsOnTheWay slots rs n 0
+way_from slots rs zero room few none = search (arith, rules)
+way_from slots rs (suc n) room few none =
+    let e : n + 1 ≡ suc n = omega arith in
+    subst (λ (m : ℕ). IsOnTheWay slots rs m 0) e
+    (way_passes (way_from slots rs n room (omega arith) (λ k below. none k (omega arith))) (omega arith) (none n (omega arith)))
+
+-- the body of a record that is placed stands in its slot
+abbrev pub HasItsBody : List Slot → List CommitRecord → ℕ → List ℕ → Type 0
+HasItsBody slots rs k bytes = (r : CommitRecord) → get_or slots k Free ≡ Free → get_or (placed slots rs) k Free ≡ Taken r → drop 1 bytes ≡ spelling r
+
+-- with the gates of all free slots shut
+pub record IsBodied (slots : List Slot) (rs : List CommitRecord) (k : ℕ) (bytes : List ℕ) : Type 0 where
+  pub is : Has on_file slots k bytes
+  pub body : HasItsBody slots rs k bytes
+
+-- with some open
+pub record MayCome (slots : List Slot) (rs : List CommitRecord) (k : ℕ) (bytes : List ℕ) : Type 0 where
+  pub may : MayHave (get_or (coming slots rs) k Free) bytes
+  pub body : HasItsBody slots rs k bytes
+
+stays : (slots : List Slot) (rs : List CommitRecord) (k : ℕ) → (get_or slots k Free ≡ Free → ⊥) → get_or (placed slots rs) k Free ≡ get_or slots k Free
+stays slots rs k differs = search (arith, new_or_old)
+
+-- while it isn't known which are
+still_shut : (slots : List Slot) (rs : List CommitRecord) (k : ℕ) {bytes : List ℕ} → Has on_file slots k bytes → MayHave (get_or (coming slots rs) k Free) bytes
+still_shut slots rs k {bytes} is = ⊎_elim
+    (λ new. rw new.3 (record { counts = λ none. absurd (cc (none)); unshut = λ wide. absurd (wide (is.free (ap on_file new.1))) }))
+    (λ old. rw old.1 (surely is)) (new_or_old slots rs k)
+
+-- the body after the gate isn't looked at while this is shut
+pub stands_shown_coming : (slots : List Slot) (rs : List CommitRecord) → AreApart (table_of (placed slots rs)) → (file : List ℕ)
+    → StandsFor (table_of slots) file → MayShow (coming slots rs) file
+stands_shown_coming slots rs apart file stands = search (arith, shown_of, slots_as, length-filled, slots_of, whole_part, still_shut, coming_on_file)
+
+-- up to the last gate
+pub up_to_gates : (slots : List Slot) (rs : List CommitRecord) {D : Type 0} {moment : D → ℕ} {left_since : D → ℕ → List ℕ → Type 0} {old staged synced new : D} {file : List ℕ}
+    {may_leave : List ℕ → Type 0} → AreApart (table_of (placed slots rs)) → LeavesOnly moment left_since old staged (StandsFor (table_of slots))
+    → StandsFor (table_of slots) file → Only file may_leave
+    → Elapses (moment staged) (moment synced) (left_since staged) (left_since synced) may_leave
+    → LeavesOnly moment left_since synced new (MayShow (coming slots rs)) → LeavesOnly moment left_since old new (MayShow (coming slots rs))
+up_to_gates slots rs apart bodies stands durable time gates = grind (arith, goes_on, stands_shown_coming)
+
+is_new : (slots : List Slot) (rs : List CommitRecord) (n : ℕ) (r : CommitRecord) → All IsValid rs → get_or slots n Free ≡ Free
+    → get_or (placed slots rs) n Free ≡ Taken r → (get_or (coming slots rs) n Free ≡ Forgotten r) × IsValid r
+is_new slots rs n r valid free this = search (arith, new_or_old, All-contains, valid)
+
+module _ {slots : List Slot} {rs : List CommitRecord} where
+  has_bodies : {file : List ℕ} → HasSlots (length slots) (IsBodied slots rs) file → HasBodies slots rs file
+  has_bodies has k r free new = search (arith, cases_lt, get_or_past, length-filled, has.each)
+
+  pub bodied : {file : List ℕ} → StandsFor (table_of slots) file → HasBodies slots rs file → HasSlots (length slots) (IsBodied slots rs) file
+  bodied stands bodies = slots_as refl (slots_of whole_part slots stands) (λ k below is. record { is = is; body = bodies k })
+
+  -- a slot that isn't free has none
+  pub has_none : {k : ℕ} {bytes : List ℕ} → (get_or slots k Free ≡ Free → ⊥) → Has on_file slots k bytes → IsBodied slots rs k bytes
+  has_none differs is = record { is = is; body = λ r free. absurd (differs free) }
+
+  pub body_put : {n : ℕ} {r : CommitRecord} {bytes body : List ℕ} → get_or slots n Free ≡ Free → get_or (placed slots rs) n Free ≡ Taken r
+      → body ≡ spelling r → Has on_file slots n bytes → IsBodied slots rs n (take 1 bytes ++ body)
+  body_put {r = r} {body = body} free this spells is = search (arith, still_free, is.free)
+
+  -- all bodies are there
+  pub bodies_written : {n i : ℕ} {file : List ℕ} → AreApart (table_of slots) → IsOnTheWay slots rs n i → drop i rs ≡ []
+      → HasSlots (length slots) (Between (IsBodied slots rs) (Has on_file slots) n) file → StandsFor (table_of slots) file × HasBodies slots rs file
+  bodies_written apart way none so_far =
+      let has =
+      ends so_far (λ k below from is. record { is = is; body = λ r free new. let same = way_ends way none k from ∙ free in absurd (cc (same, new)) }) in
+      (stands_of whole_part slots (slots_as refl has (λ k below is. is.is)) apart, has_bodies has)
+
+  -- OPENING
+  as_placed : {k : ℕ} {bytes : List ℕ} → get_or (placed slots rs) k Free ≡ get_or slots k Free → IsBodied slots rs k bytes
+      → Has on_file (placed slots rs) k bytes
+  as_placed {bytes = bytes} same was = subst (λ (s : Slot). IsSlotOf (on_file s) bytes) (sym same) was.is
+
+  pub not_opened : {k : ℕ} {bytes : List ℕ} → (get_or slots k Free ≡ Free → ⊥) → IsBodied slots rs k bytes → Has on_file (placed slots rs) k bytes
+  not_opened {k} differs was = as_placed (stays slots rs k differs) was
+
+  -- the gates before n are open
+  pub all_open : {n i : ℕ} {file : List ℕ} → AreApart (table_of (placed slots rs)) → IsOnTheWay slots rs n i → drop i rs ≡ []
+      → HasSlots (length slots) (Between (Has on_file (placed slots rs)) (IsBodied slots rs) n) file → StandsFor (table_of (placed slots rs)) file
+  all_open apart way none so_far =
+      stands_of whole_part (placed slots rs)
+      (slots_as (length-filled Taken slots rs) (ends so_far (λ k below from was. as_placed (way_ends way none k from) was)) (λ k below is. is)) apart
+
+  pub comes : {k : ℕ} {bytes : List ℕ} → IsBodied slots rs k bytes → MayCome slots rs k bytes
+  comes {k} was = record { may = still_shut slots rs k was.is; body = was.body }
+
+  pub comes_shown : {file : List ℕ} → AreApart (table_of (placed slots rs)) → HasSlots (length slots) (MayCome slots rs) file → MayShow (coming slots rs) file
+  comes_shown apart has =
+      shown_of (slots_as (length-filled Forgotten slots rs) has (λ k below is. is.may)) (subst AreApart (sym (coming_on_file slots rs)) apart)
+
+  module _ (valid : All IsValid rs) {n : ℕ} {r : CommitRecord} (free : get_or slots n Free ≡ Free) (this : get_or (placed slots rs) n Free ≡ Taken r) where
+    pub gate_opened : {bytes : List ℕ} → IsBodied slots rs n bytes → Has on_file (placed slots rs) n (255 ∷ drop 1 bytes)
+    gate_opened {bytes} was = rw this (open_slot (was.body r free this) (is_new slots rs n r valid free this).1)
+
+    may_open : {bytes : List ℕ} → MayCome slots rs n bytes → MayCome slots rs n (255 ∷ drop 1 bytes)
+    may_open {bytes} was = record {
+      may = rw (is_new slots rs n r valid free this).0 (surely (open_slot (was.body r free this) (is_new slots rs n r valid free this).1));
+      body = was.body;
+    }
+
+    pub opens_torn : {d c : List ℕ} → n < length slots → HasSlots (length slots) (MayCome slots rs) d → Torn (18 + 94 * n) (255 ∷ []) d c
+        → HasSlots (length slots) (MayCome slots rs) c
+    opens_torn below has torn = gate_torn n 255 has below (may_open (has.each n below)) torn
+
+-- while a body is written
+pub body_torn : (slots : List Slot) {n : ℕ} {body d c : List ℕ} → n < length slots → get_or slots n Free ≡ Free → length body ≡ 93
+    → StandsFor (table_of slots) d → Torn (18 + 94 * n + 1) body d c → StandsFor (table_of slots) c
+body_torn slots {n} {body} {d} {c} below free size stands torn =
+    stage_torn slots n stands below free size (torn_is_overwritten (18 + 94 * n + 1) body d c (omega (arith, length-map slots on_file, stands.size)) torn)
+
+pub placed_shown : (slots : List Slot) (rs : List CommitRecord) (file : List ℕ) → StandsFor (table_of (placed slots rs)) file → MayShow (coming slots rs) file
+placed_shown slots rs file stands = stands_shown (coming slots rs) file (subst (λ t. StandsFor t file) (sym (coming_on_file slots rs)) stands)
+
+-- GROUPED
 -- the first record goes into the first free slot
 pub placed_first : (slots : List Slot) (p : ℕ) (r : CommitRecord) (rs : List CommitRecord) → p < length slots → get_or slots p Free ≡ Free → HasNoFree slots p
     → placed slots (r ∷ rs) ≡ placed (set slots p (Taken r)) rs
@@ -35,34 +255,24 @@ first_placed (Free ∷ slots) r rs room = (0, omega arith, refl, refl)
 first_placed (s ∷ slots) r rs room =
     let more : used (s ∷ slots) ≡ weight s + used slots = sum_by-cons weight s slots in
     let at = first_placed slots r rs (omega (arith, more)) in
-    let below = at.1 in
-    (suc at.0, omega (arith, below), at.2, ap (λ (l : List Slot). s ∷ l) at.3)
+    (suc at.0, omega (arith, at.1), at.2, ap (λ (l : List Slot). s ∷ l) at.3)
 
 recorded : (log : LogState) (r : CommitRecord) → record_of (with_record log r.tran r.yes) r.tran ≡ Some r.yes
-recorded log r = elim (put_at log.records r.tran r.yes r.tran) [ inl own ↦ own.1 | inr other ↦ absurd (other.0 refl) ]
-
-recorded_still : (log : LogState) (r : CommitRecord) (t : TranName) (v : List Bool) → record_of log t ≡ Some v
-    → (w : List Bool) × (record_of (with_record log r.tran r.yes) t ≡ Some w)
-recorded_still log r t v has = elim (put_at log.records r.tran r.yes t) [ inl own ↦ (r.yes, own.1) | inr other ↦ (v, other.1 ∙ has) ]
+recorded log r = search (arith, put_at)
 
 -- a new transaction has no record yet
 pub new_none : (log : LogState) (rs : List CommitRecord) (r : CommitRecord) (k : ℕ) → AreNew log rs → k < length rs → get_or rs k r ≡ r
-    → (o : Option (List Bool)) → record_of log r.tran ≡ o → o ≡ None
-new_none log rs r k new below is None found = refl
-new_none log [] r k new below is (Some v) found = absurd (omega arith)
-new_none log (x ∷ rs) r zero new below is (Some v) found =
-    let none = ap (λ (y : CommitRecord). record_of log y.tran) (sym is) ∙ new.0 in absurd (cc (none, found))
-new_none log (x ∷ rs) r (suc k) new below is (Some v) found =
-    let on = recorded_still log x r.tran v found in
-    let none = new_none (with_record log x.tran x.yes) rs r k new.1 (omega arith) is (Some on.0) on.1 in
-    absurd (cc (none))
+    → record_of log r.tran ≡ None
+new_none log [] r k new below is = absurd (omega arith)
+new_none log (x ∷ rs) r zero new below is = ap (λ (y : CommitRecord). record_of log y.tran) (sym is) ∙ new.0
+new_none log (x ∷ rs) r (suc k) new below is = search (arith, new_none (with_record log x.tran x.yes) rs r k new.1 (omega arith) is, put_at, x.tran, new.1)
 
 -- a slot of a recorded transaction leaves the names of new ones
 still_unnamed : (slots : List Slot) (p : ℕ) (x : CommitRecord) (rs : List CommitRecord) (log : LogState) (v : List Bool) → p < length slots
     → record_of log x.tran ≡ Some v → AreNew log rs → All (λ r. HasNoName slots r.tran) rs → All (λ r. HasNoName (set slots p (Taken x)) r.tran) rs
 still_unnamed slots p x rs log v below has new unnamed k d within j named = ⊎_elim
     (λ own.
-    let none = new_none log rs (get_or rs k d) k new within (get_or_default rs k (get_or rs k d) d within) _ refl in
+    let none = new_none log rs (get_or rs k d) k new within (get_or_default rs k (get_or rs k d) d within) in
     let there = ap (record_of log) (sym own.1) ∙ has in
     cc (none, there))
     (λ was. unnamed k d within j was) (name_set slots p x below j (get_or rs k d).tran named)
@@ -79,64 +289,45 @@ grouped [] slots log room apart same new unnamed =
 grouped (r ∷ rs) slots log room apart same new unnamed =
     let at = first_placed slots r rs (omega arith) in
     let more : used (set slots at.0 (Taken r)) ≡ used slots + 1 = used_set slots at.0 r at.1 at.2 in
-    let many = length-set slots at.0 (Taken r) in
     let one : records_in (set slots at.0 (Taken r)) ≡ (with_record log r.tran r.yes).records =
     takes_record slots at.0 r at.1 at.2 (ap (λ (m : Records). record_in m r.tran) same ∙ new.0)
     ∙ ap (λ (m : Records). finmap.insert m r.tran r.yes) same in
-    let rest = grouped rs (set slots at.0 (Taken r)) (with_record log r.tran r.yes) (omega (arith, more, many))
+    let rest = grouped rs (set slots at.0 (Taken r)) (with_record log r.tran r.yes) (omega (arith, more, length-set slots at.0 (Taken r)))
     (apart_set slots at.0 r at.1 (unnamed 0 r (omega arith)) apart) one new.1
     (still_unnamed slots at.0 r rs (with_record log r.tran r.yes) r.yes at.1 (recorded log r) new.1
     (λ k d within. unnamed (suc k) d (omega arith))) in
-    record {
-      apart = subst (λ (l : List Slot). AreApart (table_of l)) (sym at.3) rest.apart;
-      records = ap records_in at.3 ∙ rest.records;
-    }
+    record { apart = rw at.3 rest.apart; records = rw at.3 rest.records }
 
--- none more is forgotten
-placed_forgotten : (slots : List Slot) (rs : List CommitRecord) → map forgotten (placed slots rs) ≡ map forgotten slots
-placed_forgotten slots rs = filled_alike forgotten Taken (λ r. Free) (λ r. refl) slots rs ∙ ap (map forgotten) (filled_free slots rs)
-
-coming_counts : (slots : List Slot) (rs : List CommitRecord) → map taken (coming slots rs) ≡ map taken slots
-coming_counts slots rs = filled_alike taken Forgotten (λ r. Free) (λ r. refl) slots rs ∙ ap (map taken) (filled_free slots rs)
+is_one : {rs : List CommitRecord} {t : TranName} {found : Option (List Bool)} (r : CommitRecord) → Contains rs r → r.tran ≡ t → found ≡ Some r.yes
+    → IsOneOf rs t found
+is_one r one named votes = record { r = r; one = one; named = named; votes = votes }
 
 -- what may come of a transaction is forgotten, or one of the new ones
-comes_of : (slots : List Slot) (rs : List CommitRecord) → AreApart (table_of slots) → (t : TranName) (o : Option (List Bool))
-    → find tran_cmp t (entries (map forgotten (coming slots rs))) ≡ o
-    → (o ≡ None) ⊎ ((o ≡ record_in (forgotten_in slots) t) ⊎ IsOneOf rs t o)
-comes_of slots rs apart t None is = inl refl
-comes_of slots rs apart t (Some v) is =
-    let here = part_at forgotten_part (coming slots rs) t v is in
-    let at = here.0 in
-    inr (⊎_elim
-    (λ new.
-    let both : Some new.0 ≡ Some at.found = sym (ap forgotten (new.2 Forgotten)) ∙ here.1 in
-    let same : new.0 ≡ at.found = cc (both) in
-    inr (record { r = at.found; one = subst (Contains rs) same new.3; named = at.named; votes = ap (λ (w : List Bool). Some w) (sym at.votes) }))
-    (λ old. inl (sym (part_has forgotten_part slots apart at (sym (ap forgotten (old Forgotten)) ∙ here.1))))
-    (new_or_old slots rs at.place))
+comes_of : (slots : List Slot) (rs : List CommitRecord) → AreApart (table_of slots) → (t : TranName)
+    → (record_in (forgotten_in (coming slots rs)) t ≡ None) ⊎ ((record_in (forgotten_in (coming slots rs)) t ≡ record_in (forgotten_in slots) t)
+    ⊎ IsOneOf rs t (record_in (forgotten_in (coming slots rs)) t))
+comes_of slots rs apart t = ⊎_elim (λ none. inl none) (λ at. inr (
+    let here = sym (at_map forgotten forgotten_part (coming slots rs) at.place) ∙ at.there in
+    ⊎_elim
+    (λ new. let same = sym (ap forgotten new.3) ∙ here in inr (is_one at.found (subst (Contains rs) (cc (same)) new.4) at.named at.votes))
+    (λ old. inl (at.votes ∙ sym (part_found forgotten_part slots apart at.place at.found t (sym (ap forgotten old.1) ∙ here) at.named)))
+    (new_or_old slots rs at.place))) (none_or_at (map forgotten (coming slots rs)) t)
 
-pub comes_with : (slots : List Slot) (rs : List CommitRecord) → AreApart (table_of slots) → (c : List ℕ) → MayShow (coming slots rs) c
+comes_with : {slots mid : List Slot} (rs : List CommitRecord) → MayBeShut slots mid → AreApart (table_of mid) → (c : List ℕ) → MayShow (coming mid rs) c
     → HasWithAnyOf (records_in slots) (forgotten_in slots) rs c
-comes_with slots rs apart c shown =
-    let has = shows_records (coming slots rs) c shown in
-    let same : records_in (coming slots rs) ≡ records_in slots = ap records_of (coming_counts slots rs) in
-    record {
-      found = has.found;
-      has = has.has;
-      each = search (arith, get_found, comes_of, has.found, has.each);
-    }
+comes_with {slots} {mid} rs moved apart c shown =
+    let has = shows_records (coming mid rs) c shown in
+    let same : records_in (coming mid rs) ≡ records_in slots = ap records_of (filled_kept taken Forgotten (λ r. refl) mid rs) ∙ same_records moved in
+    record { found = has.found; has = has.has; each = search (arith, no_more moved, comes_of, has.found, has.each) }
 
 -- the first of a group has a new name
 pub first_is_new : (slots : List Slot) (r : CommitRecord) (rs : List CommitRecord) (p : ℕ) → p < length slots → get_or slots p Free ≡ Free
     → HasNoFree slots p → AreApart (table_of (placed slots (r ∷ rs))) → HasNoName slots r.tran
 first_is_new slots r rs p below free none apart k named =
-    let here : name_at (placed slots (r ∷ rs)) k ≡ Some r.tran = ⊎_elim
-    (λ new. absurd (let nameless = ap (λ (s : Slot). name_of (on_file s)) new.1 in cc (nameless, named)))
-    (λ old. ap (λ (s : Slot). name_of (on_file s)) (old Taken) ∙ named) (new_or_old slots (r ∷ rs) k) in
+    let here = stays slots (r ∷ rs) k (λ is. let nameless = ap (λ (s : Slot). name_of (on_file s)) is in absurd (cc (nameless, named))) in
     let set_there = get_or-set_same slots p (Taken r) Free below in
-    let there : get_or (placed (set slots p (Taken r)) rs) p Free ≡ Taken r = ⊎_elim
-    (λ new. absurd (let is = sym set_there ∙ new.1 in cc (is))) (λ old. old Taken ∙ set_there) (new_or_old (set slots p (Taken r)) rs p) in
-    let same : k ≡ p = names_apart (placed slots (r ∷ rs)) apart k p r.tran here
+    let there = stays (set slots p (Taken r)) rs p (λ is. absurd (cc (is, set_there))) ∙ set_there in
+    let same : k ≡ p = names_apart (placed slots (r ∷ rs)) apart k p r.tran (ap (λ (s : Slot). name_of (on_file s)) here ∙ named)
     (ap (λ (l : List Slot). name_at l p) (placed_first slots p r rs below free none) ∙ ap (λ (s : Slot). name_of (on_file s)) there) in
     let nameless = ap (λ (j : ℕ). name_at slots j) same ∙ ap (λ (s : Slot). name_of (on_file s)) free in
     absurd (cc (nameless, named))
@@ -145,39 +336,14 @@ first_is_new slots r rs p below free none apart k named =
 pub before_group : (slots : List Slot) (rs : List CommitRecord) (c : List ℕ) → MayShow slots c → HasWithAnyOf (records_in slots) (forgotten_in slots) rs c
 before_group slots rs c shown =
     let has = shows_records slots c shown in
-    record {
-      found = has.found;
-      has = has.has;
-      each = λ t. ⊎_elim (λ is. inl is) (λ both. inr (both.0, inl both.1)) (has.each t);
-    }
-
--- fewer were forgotten
-pub any_fewer : (before after gone more : Records) (rs : List CommitRecord) (file : List ℕ) → before ≡ after
-    → ((t : TranName) → (record_in gone t ≡ None) ⊎ (record_in gone t ≡ record_in more t))
-    → HasWithAnyOf before gone rs file → HasWithAnyOf after more rs file
-any_fewer before after gone more rs file same fewer has = record {
-  found = has.found;
-  has = has.has;
-  each = λ t.
-      let alike : record_in before t ≡ record_in after t = ap (λ (m : Records). record_in m t) same in
-      ⊎_elim (λ is. inl (is ∙ alike))
-      (λ both. ⊎_elim
-      (λ gone_. ⊎_elim (λ none. inl (gone_ ∙ none ∙ sym both.0 ∙ alike)) (λ also. inr (sym alike ∙ both.0, inl (gone_ ∙ also))) (fewer t))
-      (λ one. inr (sym alike ∙ both.0, inr one)) both.1)
-      (has.each t);
-}
+    record { found = has.found; has = has.has; each = search (arith, has.each) }
 
 pub failures_stay : (log : LogState) (rs : List CommitRecord) → (with_records log rs).failures ≡ log.failures
 failures_stay log [] = refl
 failures_stay log (r ∷ rs) = failures_stay (with_record log r.tran r.yes) rs
 
-pub all_in : {slots mid : List Slot} → MayBeShut slots mid → (failures : ℕ) {rs : List CommitRecord} → HasRoomFor mid (length rs) → AreApart (table_of mid)
-    → AreNew (log_state slots failures) rs → All (λ r. HasNoName mid r.tran) rs → IsGrouped mid (log_state slots failures) rs
-all_in {slots} {mid} moved failures {rs} room apart new unnamed =
-    grouped rs mid (log_state slots failures) room apart (same_records moved) new unnamed
-
 pub none_more_forgotten : {slots mid : List Slot} → MayBeShut slots mid → (rs : List CommitRecord) → ForgetsNoMore slots (placed mid rs)
-none_more_forgotten {mid = mid} moved rs t = grind (arith, placed_forgotten, no_more)
+none_more_forgotten {slots} {mid} moved rs t = search (arith, filled_kept, no_more)
 
 pub group_runs : {slots mid : List Slot} {rs : List CommitRecord} {D : Type 0} {moment : D → ℕ} {left_since : D → ℕ → List ℕ → Type 0} {shown : List Slot}
     {old then new : D} → MayBeShut slots mid → AreApart (table_of mid) → shown ≡ mid → LeavesOnly moment left_since old then (MayShow slots)
@@ -185,5 +351,4 @@ pub group_runs : {slots mid : List Slot} {rs : List CommitRecord} {D : Type 0} {
     → LeavesOnly moment left_since old new (HasWithAnyOf (records_in slots) (forgotten_in slots) rs)
 group_runs {slots} {mid} {rs} moved apart same first second =
     joined (weaker (before_group slots rs) first) (weaker (λ c may.
-    any_fewer (records_in mid) (records_in slots) (forgotten_in mid) (forgotten_in slots) rs c (same_records moved) (no_more moved)
-    (comes_with mid rs apart c (subst (λ (l : List Slot). MayShow (coming l rs) c) same may))) second)
+    comes_with rs moved apart c (subst (λ (l : List Slot). MayShow (coming l rs) c) same may)) second)

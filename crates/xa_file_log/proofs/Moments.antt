@@ -1,7 +1,13 @@
--- How a run of device calls goes on.
-use Rattle.xa_base.proofs.{inl, inr, ⊎_elim, ℕ, List, arith}
-use Rattle.xa_file_log.specs.{Elapses, LeavesOnly}
+-- What a crash leaves at each moment of a run of device calls: of writes, of their syncs, and of the calls that were made.
+use Rattle.xa_base.proofs.{inl, inr, ℕ, List, arith, ◌≡◌, ◌+◌, ◌-◌, ◌≤◌, ◌++◌, length, take, drop, refl, ◌∙◌, ap, subst, append_assoc, length-append}
+use Rattle.xa_base.proofs.{length-drop, take-append-drop, rules, Bool, cond, [], ◌∷◌, Vec, take_all, cases_lt, drop_at, drop-drop, take-append-le, take-take}
+use Rattle.xa_base.proofs.{drop-append-le, drop-take}
+use Rattle.std.proofs.lemmas.List.{length-take-le}
+use Rattle.std.specs.declared.alloc.Global.{Global}
+use Rattle.xa_file_log.specs.{Elapses, LeavesOnly, overwritten, IsOverwritten, Torn, Follows, Only, Past, left_after, left_by, leaves, writing, LeftSince}
+use Rattle.xa_file_log.specs.{failed, failures, Call}
 
+-- MOMENTS
 module _ {D : Type 0} {moment : D → ℕ} {left_since : D → ℕ → List ℕ → Type 0} where
   -- before the first call
   pub started : {old : D} {P : List ℕ → Type 0} → ((c : List ℕ) → left_since old (moment old) c → P c) → LeavesOnly moment left_since old old P
@@ -22,3 +28,111 @@ module _ {D : Type 0} {moment : D → ℕ} {left_since : D → ℕ → List ℕ 
   pub joined : {old mid new : D} {P : List ℕ → Type 0} → LeavesOnly moment left_since old mid P → LeavesOnly moment left_since mid new P
       → LeavesOnly moment left_since old new P
   joined {old} first second = search (arith, first.each, second.before, first.later, first.before)
+
+-- OVERWRITES
+pub torn_is_overwritten : (at : ℕ) (bytes old c : List ℕ) → at + length bytes ≤ length old → Torn at bytes old c → IsOverwritten old at bytes c
+torn_is_overwritten at bytes old c within t =
+    let n = length bytes in
+    let size : length (take n (drop at c)) ≡ n = length-take-le n (drop at c) (omega (arith, length-drop at c, t.torn.no_shorter)) in
+    let rest : drop n (drop at c) ≡ drop (at + n) old = drop-drop n at c ∙ t.torn.after in
+    let whole : c ≡ take at old ++ (take n (drop at c) ++ drop (at + n) old) = search (arith, take-append-drop) in
+    search (arith, append_assoc)
+
+-- nothing was written yet
+pub unwritten : (at : ℕ) (bytes old c : List ℕ) → at + length bytes ≤ length old → c ≡ old → IsOverwritten old at bytes c
+unwritten at bytes old c within same = search (arith, torn_is_overwritten)
+
+module _ (f : List ℕ) (at : ℕ) (bytes : List ℕ) (within : at + length bytes ≤ length f) where
+  grouped : overwritten f at bytes ≡ take at f ++ (bytes ++ drop (at + length bytes) f)
+  grouped = append_assoc (take at f) bytes (drop (at + length bytes) f)
+
+  front_size : length (take at f) ≡ at
+  front_size = length-take-le at f (omega (arith, within))
+
+  pub length-overwritten : length (overwritten f at bytes) ≡ length f
+  length-overwritten = search (arith, grouped, length-append, length-drop, front_size)
+
+  -- what stands before it stays
+  pub take-overwritten : (m : ℕ) → m ≤ at → take m (overwritten f at bytes) ≡ take m f
+  take-overwritten m le = search (arith, front_size, grouped, take-append-le, take-take)
+
+  -- from its place on
+  pub drop-overwritten : drop at (overwritten f at bytes) ≡ bytes ++ drop (at + length bytes) f
+  drop-overwritten = ap (λ (l : List ℕ). drop at l) grouped ∙ drop_at (take at f) (bytes ++ drop (at + length bytes) f) at front_size
+
+  -- what stands after it stays
+  pub drop-overwritten_past : (m : ℕ) → at + length bytes ≤ m → drop m (overwritten f at bytes) ≡ drop m f
+  drop-overwritten_past m past =
+      let n = m - (at + length bytes) in
+      let sum : m ≡ at + length bytes + n = omega arith in
+      let front : length (take at f ++ bytes) ≡ at + length bytes = search (arith, length-append, front_size) in
+      rw (sum, ← drop-drop n (at + length bytes) (overwritten f at bytes), drop_at (take at f ++ bytes) (drop (at + length bytes) f) (at + length bytes) front)
+      (drop-drop n (at + length bytes) f)
+
+-- a part of the file further on, with the write in it
+pub drop_overwritten_in : (f : List ℕ) (m i : ℕ) (bytes : List ℕ) → m + i + length bytes ≤ length f
+    → drop m (overwritten f (m + i) bytes) ≡ overwritten (drop m f) i bytes
+drop_overwritten_in f m i bytes within = search (arith, length-take-le, drop-drop, append_assoc, drop-append-le, drop-take)
+
+-- a part of the file that ends before the write
+pub part-overwritten : (f : List ℕ) (at : ℕ) (bytes : List ℕ) → at + length bytes ≤ length f → (m n : ℕ) → m + n ≤ at
+    → take n (drop m (overwritten f at bytes)) ≡ take n (drop m f)
+part-overwritten f at bytes within m n before =
+    let sum : m + (at - m) ≡ at = omega arith in
+    search (arith, drop_overwritten_in, take-overwritten, length-drop)
+
+-- PUTS
+-- all of them are there
+pub all_written : {seen : List ℕ} {at : ℕ} {bytes c : List ℕ} → c ≡ overwritten seen at bytes → IsOverwritten seen at bytes c
+all_written {bytes = bytes} is = record { some = bytes; count = refl; file_is = is; whole = record { alone = λ b one. inr is } }
+
+-- once they are written
+pub torn_now : {seen : List ℕ} {at : ℕ} {bytes : List ℕ} {was now : List ℕ → Type 0} → at + length bytes ≤ length seen → Only seen was
+    → Follows (Torn at bytes) was now → (c : List ℕ) → now c → IsOverwritten seen at bytes c
+torn_now {seen} {at} {bytes} within durable crash c left = search (arith, torn_is_overwritten)
+
+-- at any moment up to then
+pub written : {D : Type 0} {moment : D → ℕ} {left_since : D → ℕ → List ℕ → Type 0} {seen : List ℕ} {at : ℕ} {bytes : List ℕ} {old new : D}
+    {was now : List ℕ → Type 0} → at + length bytes ≤ length seen → Only seen was → ((c : List ℕ) → left_since old (moment old) c → was c)
+    → Follows (Torn at bytes) was now → Elapses (moment old) (moment new) (left_since old) (left_since new) now
+    → LeavesOnly moment left_since old new (IsOverwritten seen at bytes)
+written {seen = seen} {at = at} {bytes = bytes} within durable only crash time = search (arith, goes_on, started, unwritten, torn_now)
+
+-- ELAPSING
+left_by_push : (before : List ℕ → Type 0) (past : Past) (call : Call) (bytes : Vec ℕ Global) (c : List ℕ) → left_by before (past ++ (call, bytes) ∷ []) c
+    → left_after call bytes.items (left_by before past) c
+left_by_push before [] call bytes c left = left
+left_by_push before (e ∷ past) call bytes c left = left_by_push (left_after e.0 e.1.items before) past call bytes c left
+
+-- what one call more leaves of what there was
+pub leaves_to : (past later : Past) (call : Call) (bytes : Vec ℕ Global) (c : List ℕ) → later ≡ past ++ (call, bytes) ∷ [] → leaves later c
+    → left_after call bytes.items (leaves past) c
+leaves_to past later call bytes c is left = left_by_push (λ _. ⊥) past call bytes c (subst (λ (p : Past). leaves p c) is left)
+
+failures_push : (past : Past) (call : Call) (bytes : Vec ℕ Global) → failures (past ++ (call, bytes) ∷ []) ≡ failed call + failures past
+failures_push [] call bytes = refl
+failures_push (e ∷ past) call bytes = omega (arith, failures_push past call bytes)
+
+pub failures_to : (past later : Past) (call : Call) (bytes : Vec ℕ Global) → later ≡ past ++ (call, bytes) ∷ [] → failures later ≡ failed call + failures past
+failures_to past later call bytes is = ap failures is ∙ failures_push past call bytes
+
+pub elapses_push : (past : Past) (call : Call) (bytes : Vec ℕ Global)
+    → Elapses (length past) (length (past ++ (call, bytes) ∷ [])) (LeftSince past) (LeftSince (past ++ (call, bytes) ∷ []))
+    (leaves (past ++ (call, bytes) ∷ []))
+elapses_push past call bytes = search (arith, length-append, take_all, take-append-le, cases_lt)
+
+pub elapses_to : (past later : Past) (call : Call) (bytes : Vec ℕ Global) → later ≡ past ++ (call, bytes) ∷ []
+    → Elapses (length past) (length later) (LeftSince past) (LeftSince later) (leaves later)
+elapses_to past later call bytes is = search (arith, elapses_push)
+
+-- a write of these bytes tears as its call says
+pub writing_follows : (at : ℕ) (bytes : List ℕ) (ok : Bool) (after : List ℕ) (before : List ℕ → Type 0)
+    → Follows (Torn at bytes) before (left_after (writing at bytes ok) after before)
+writing_follows at [] ok after before c left = (left.0, left.1, record { torn = left.2; whole = record { alone = λ b is. absurd (cc (is)) } })
+writing_follows at (b ∷ []) ok after before c left = left
+writing_follows at (a ∷ b ∷ bytes) ok after before c left = search (arith, rules)
+
+pub writing_failed : (at : ℕ) (bytes : List ℕ) (ok : Bool) → failed (writing at bytes ok) ≡ cond ok 0 1
+writing_failed at [] ok = grind arith
+writing_failed at (b ∷ []) ok = grind arith
+writing_failed at (a ∷ b ∷ bytes) ok = grind arith

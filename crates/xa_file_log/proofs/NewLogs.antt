@@ -1,9 +1,11 @@
 -- What a crash leaves while a log is made.
-use Rattle.xa_base.proofs.{◌≡◌, ◌≢◌, inl, inr, ℕ, zero, suc, ◌+◌, ◌-◌, ◌*◌, ◌<◌, ◌≤◌, None, Some, List, [], ◌∷◌, ◌++◌, length, get_or, take, drop, replicate}
-use Rattle.xa_base.proofs.{refl, sym, ◌∙◌, ap, subst, arith, length-append, append-nil, drop_all, length-replicate}
-use Rattle.std.proofs.lemmas.List.{get_or-replicate, take-replicate, drop-replicate, take_at, drop_at, drop-drop}
-use Rattle.xa_file_log.specs.{overwritten, IsOverwritten, Torn, head, slot, name_of, StandsFor, IsNoLog, IsNewLog, free_slots}
+use Rattle.xa_base.proofs.{◌≡◌, ◌≢◌, inl, ℕ, zero, suc, ◌-◌, ◌*◌, ◌<◌, ◌≤◌, None, Some, List, [], ◌∷◌, ◌++◌, length, get_or, take, drop, replicate, refl, sym}
+use Rattle.xa_base.proofs.{◌∙◌, ap, subst, arith, length-append, append-nil, drop_all, length-replicate, get_or-replicate, take-replicate, drop-replicate}
+use Rattle.xa_base.proofs.{take_at, drop_at, drop-drop}
+use Rattle.xa_file_log.specs.{overwritten, IsOverwritten, Torn, head, slot, name_of, StandsFor, IsNoLog, IsNewLog, free_slots, Elapses, Follows, LeavesOnly}
+use Rattle.xa_file_log.specs.{Only}
 use Rattle.xa_words.specs.{TranName}
+use Rattle.xa_file_log.proofs.Moments.{goes_on, weaker, joined}
 
 pub short_file : (c : List ℕ) → length c ≤ 17 → IsNoLog c
 short_file c short = λ records there. absurd (omega (arith, there.stands.size))
@@ -20,9 +22,6 @@ after_first c t = short_file c (omega (arith, t.torn.no_longer))
 pub after_rest : (later c : List ℕ) → Torn 1 later (0 ∷ []) c → IsNoLog c
 after_rest later [] t = short_file [] (omega arith)
 after_rest later (g ∷ c) t = let b = t.torn.before in let first : g ≡ 0 = cc in wrong_first g c (omega arith)
-
-pub rest_done : (later new : List ℕ) → new ≡ overwritten (0 ∷ []) 1 later → new ≡ 0 ∷ later
-rest_done later new is = search (arith, drop_all, append-nil)
 
 length-head : (n : ℕ) → length (head n) ≡ 18
 unfolding head
@@ -62,3 +61,30 @@ new_stands n later few is =
 pub after_last : (n : ℕ) (later c : List ℕ) → n ≤ 65536 → later ≡ drop 1 (head n) ++ replicate (94 * n) 0 → IsOverwritten (0 ∷ later) 0 (120 ∷ []) c
     → IsNewLog n c
 after_last n later c few is torn = search (arith, wrong_first, new_stands, torn.whole.alone)
+
+pub zero_put : {was now : List ℕ} → was ≡ [] → now ≡ overwritten was 0 (0 ∷ []) → now ≡ 0 ∷ []
+zero_put empty is = is ∙ ap (λ (l : List ℕ). overwritten l 0 (0 ∷ [])) empty
+
+pub rest_put : {first synced all later : List ℕ} → first ≡ 0 ∷ [] → synced ≡ first → all ≡ overwritten synced 1 later → all ≡ 0 ∷ later
+rest_put {later = later} one seen is = is ∙ ap (λ (l : List ℕ). overwritten l 1 later) (seen ∙ one) ∙ search (arith, drop_all, append-nil)
+
+-- a zero is written into the empty file, synced, and the rest is written
+pub up_to_rest : {D : Type 0} {moment : D → ℕ} {left_since : D → ℕ → List ℕ → Type 0} (n : ℕ) {later : List ℕ} {empty rest : D} (zero_written zero_synced : D)
+    {at_first with_zero with_synced with_rest : List ℕ → Type 0} → Only [] at_first → ((c : List ℕ) → left_since empty (moment empty) c → at_first c)
+    → Follows (Torn 0 (0 ∷ [])) at_first with_zero → Elapses (moment empty) (moment zero_written) (left_since empty) (left_since zero_written) with_zero
+    → Only (0 ∷ []) with_synced → Elapses (moment zero_written) (moment zero_synced) (left_since zero_written) (left_since zero_synced) with_synced
+    → Follows (Torn 1 later) with_synced with_rest → Elapses (moment zero_synced) (moment rest) (left_since zero_synced) (left_since rest) with_rest
+    → LeavesOnly moment left_since empty rest (IsNewLog n) × ((c : List ℕ) → with_rest c → IsNewLog n c)
+up_to_rest n {later = later} zero_written zero_synced {with_rest = with_rest} none now tears goes one goes_to tears_rest goes_past =
+    let torn_rest : (c : List ℕ) → with_rest c → IsNewLog n c = λ c left.
+    let from = tears_rest c left in inl (after_rest later c (rw (one from.0 from.1) at from.2)) in
+    (search (arith, goes_on, short_file, after_first, torn_rest), torn_rest)
+
+-- the rest is synced, and the first byte of the head is put
+pub head_put : {D : Type 0} {moment : D → ℕ} {left_since : D → ℕ → List ℕ → Type 0} {n : ℕ} {later file : List ℕ} {empty rest synced new : D}
+    {with_all : List ℕ → Type 0} → LeavesOnly moment left_since empty rest (IsNewLog n) → n ≤ 65536 → later ≡ drop 1 (head n) ++ replicate (94 * n) 0
+    → Only (0 ∷ later) with_all → Elapses (moment rest) (moment synced) (left_since rest) (left_since synced) with_all → file ≡ 0 ∷ later
+    → LeavesOnly moment left_since synced new (IsOverwritten file 0 (120 ∷ [])) → LeavesOnly moment left_since empty new (IsNewLog n)
+head_put {n = n} {later = later} so_far few is all time seen last =
+    joined (goes_on so_far time (λ c left. inl (rw (all c left) (wrong_first 0 later (omega arith)))))
+    (weaker (λ c torn. after_last n later c few is (rw seen at torn)) last)

@@ -1,29 +1,71 @@
--- How the bytes of a record are put together, and how they are read.
-use Rattle.xa_base.proofs.{◌≡◌, ℕ, ◌-◌, ◌≤◌, Option, None, Some, Ok, List, [], ◌∷◌, ◌++◌, length, get_or, map, take, drop, replicate, refl, sym, ◌∙◌, ap, arith}
-use Rattle.xa_base.proofs.{append_assoc, w32}
-use Rattle.std.proofs.Common.{eqb}
-use Rattle.std.specs.Int.{cast_unsigned, to_be_bytes}
-use Rattle.std.proofs.lemmas.List.{take-replicate, drop-replicate, get_or-take}
-use Rattle.xa_words.specs.{new_tran}
+-- How the bytes of a record are put together, and what they tell of it.
+use Rattle.xa_base.proofs.{◌≡◌, ℕ, ℤ, ◌-◌, ◌≤◌, Bool, true, false, cond, List, [], ◌∷◌, ◌++◌, length, get_or, map, take, drop, replicate, refl, sym, ◌∙◌, ap}
+use Rattle.xa_base.proofs.{arith, append_assoc, length-append, w32, to_z-of_z, length-replicate, Option, None, Some, Ok, eqb, FitsSigned, cast_unsigned}
+use Rattle.xa_base.proofs.{cast_signed, to_be_bytes, from_be_bytes, nat_tests, take_at, drop_at, take-replicate, drop-replicate, get_or-take}
+use Rattle.std.proofs.lemmas.Nat.{from_be_bytes-to_be_bytes_4}
+use mir.ValLaws.{of_z_fits}
+use Rattle.xa_words.specs.{is_in, set_of, is_part, tran_bytes, new_tran}
 use Rattle.xa_log.specs.{CommitRecord}
 use Rattle.xa_file_log.specs.{fields, spelling, yes_bytes, IsValid, IsSlotOf}
-use Rattle.xa_file_log.proofs.Unspelled.{number, unspelled, unspelled_again}
+
+pub part_few : (l : List ℕ) → is_part l ≡ true → length l ≤ 64
+part_few l valid = grind (arith, nat_tests)
+
+pub number : List ℕ → ℤ
+number bytes = cast_signed w32 (from_be_bytes w32 bytes)
+
+pub number_is : (bytes : List ℕ) → number bytes ≡ cast_signed w32 (from_be_bytes w32 bytes)
+unfolding number
+number_is bytes = refl
+
+number_again : (z : ℤ) → FitsSigned w32 z → number (to_be_bytes w32 (cast_unsigned w32 z)) ≡ z
+unfolding number
+number_again z f = ap (cast_signed w32) (from_be_bytes-to_be_bytes_4 (cast_unsigned w32 z) (of_z_fits w32 z f).fits) ∙ to_z-of_z w32 z f
+
+-- a list of eight is told by its places
+pub eight : (votes : List Bool) → length votes ≡ 8 → set_of (is_in votes) ≡ votes
+eight (a ∷ b ∷ c ∷ d ∷ e ∷ f ∷ g ∷ h ∷ []) long = refl
+eight votes long = absurd (let no : ⊥ = omega (arith, long) in no)
+
+bit_again : (t : Bool) → eqb (cond t 1 0) 1 ≡ t
+bit_again true = refl
+bit_again false = refl
+
+-- the record that the bytes spell, if they spell one
+abbrev pub unspelled : List ℕ → CommitRecord
+unspelled body = record {
+  tran = record { format = number (take 4 body); gtrid = take (get_or body 4 0) (drop 5 body) };
+  yes = map (λ b. eqb b 1) (take 8 (drop 69 body));
+}
+
+after_name : (p y m : List ℕ) → length p ≡ 64 → drop 64 ((p ++ y) ++ m) ≡ y ++ m
+after_name p y m size = ap (λ (l : List ℕ). drop 64 l) (append_assoc p y m) ∙ drop_at p (y ++ m) 64 size
+
+length-tran_bytes : (r : CommitRecord) → IsValid r → length (tran_bytes r.tran) ≡ 64
+length-tran_bytes r valid = search (arith, length-append, length-replicate, part_few, r.tran.gtrid)
+
+pub unspelled_again : (r : CommitRecord) → IsValid r → unspelled (spelling r) ≡ r
+unfolding spelling fields
+unspelled_again r valid = search (arith, number_again, after_name, length-tran_bytes, bit_again, eight, append_assoc, take_at)
+
+pub length_again : (r : CommitRecord) → get_or (spelling r) 4 0 ≡ length r.tran.gtrid
+unfolding spelling fields
+length_again r = refl
+
+-- a spelling is of one record
+pub same_record : (r s : CommitRecord) → IsValid r → IsValid s → spelling r ≡ spelling s → r ≡ s
+same_record r s vr vs e = sym (unspelled_again r vr) ∙ ap unspelled e ∙ unspelled_again s vs
 
 -- the zeros between the gtrid and the managers
 zeros_left : (g : ℕ) → g ≤ 64 → take (64 - g) (drop g (replicate {A = ℕ} 72 0)) ≡ replicate (64 - g) 0
 zeros_left g few = ap (λ (l : List ℕ). take (64 - g) l) (drop-replicate g 72 0) ∙ take-replicate (64 - g) (72 - g) 0 (omega arith)
 
-pub put_together : (r : CommitRecord) (format size name zeros votes l0 l1 l2 : List ℕ) → format ≡ to_be_bytes w32 (cast_unsigned w32 r.tran.format)
-    → size ≡ length r.tran.gtrid ∷ [] → name ≡ r.tran.gtrid → length r.tran.gtrid ≤ 64
-    → l0 ≡ drop 4 (replicate 77 0) → l1 ≡ drop 1 l0 → l2 ≡ drop (length r.tran.gtrid) l1 → zeros ≡ take (64 - length r.tran.gtrid) l2 → votes ≡ yes_bytes r.yes
-    → format ++ (size ++ (name ++ (zeros ++ votes))) ≡ fields r
+pub put_together : (r : CommitRecord) → length r.tran.gtrid ≤ 64
+    → to_be_bytes w32 (cast_unsigned w32 r.tran.format) ++ ((length r.tran.gtrid ∷ []) ++ (r.tran.gtrid
+    ++ (take (64 - length r.tran.gtrid) (drop (length r.tran.gtrid) (drop 1 (drop 4 (replicate 77 0)))) ++ yes_bytes r.yes)))
+    ≡ fields r
 unfolding fields
-put_together r format size name zeros votes l0 l1 l2 f s n few e0 e1 e2 z v =
-    let g = length r.tran.gtrid in
-    let padding : zeros ≡ replicate (64 - length r.tran.gtrid) 0 =
-    z ∙ ap (λ (l : List ℕ). take (64 - length r.tran.gtrid) l) (e2 ∙ ap (λ (l : List ℕ). drop (length r.tran.gtrid) l) (e1 ∙ ap (λ (l : List ℕ). drop 1 l) e0))
-    ∙ zeros_left (length r.tran.gtrid) few in
-    search (arith, append_assoc, r.tran.gtrid)
+put_together r few = let padding = zeros_left (length r.tran.gtrid) few in search (arith, append_assoc, r.tran.gtrid)
 
 pub eight_bits : (bytes : List ℕ) → length bytes ≡ 8
     → eqb (get_or bytes 0 0) 1 ∷ eqb (get_or bytes 1 0) 1 ∷ eqb (get_or bytes 2 0) 1 ∷ eqb (get_or bytes 3 0) 1 ∷ eqb (get_or bytes 4 0) 1 ∷ eqb
@@ -42,7 +84,7 @@ pub read_name : (body : List ℕ) (r : CommitRecord) → IsValid r → body ≡ 
 read_name body r valid is = search (arith, unspelled_again)
 
 pub read_votes : (body : List ℕ) (r : CommitRecord) → IsValid r → body ≡ spelling r → map (λ b. eqb b 1) (take 8 (drop 69 body)) ≡ r.yes
-read_votes body r valid is = ap (λ (x : CommitRecord). x.yes) (ap unspelled is ∙ unspelled_again r valid)
+read_votes body r valid is = search (arith, unspelled_again)
 
 -- which gates there are
 gate_of : (o : Option CommitRecord) (bytes : List ℕ) → IsSlotOf o bytes → o ≡ None → get_or bytes 0 0 ≡ 0

@@ -1,15 +1,18 @@
--- What a file has of its slots, and how a write within one of them changes it.
+-- What a file has of its slots: as they are written, as gates are shut, and as they are read.
 use Rattle.xa_base.proofs.{rules, ◌≡◌, ◌≢◌, inl, inr, ⊎_elim, ℕ, ◌+◌, ◌*◌, ◌<◌, ◌≤◌, Option, None, Some, List, [], ◌∷◌, ◌++◌, length, get_or, map, set, take}
 use Rattle.xa_base.proofs.{drop, refl, sym, ◌∙◌, ap, subst, arith, length-set, length-append, length-drop, cases_eq, cases_lt, length-map, get_or-set_same}
-use Rattle.xa_base.proofs.{get_or-set_other}
-use Rattle.std.proofs.lemmas.List.{length-take-le, take-take, take_at, drop-drop}
-use Rattle.xa_log.specs.{CommitRecord}
+use Rattle.xa_base.proofs.{get_or-set_other, Bool, replicate, FinMap, length-replicate, take-take, take_at, drop-drop, set-get_or}
+use Rattle.std.proofs.lemmas.List.{length-take-le}
+use Rattle.xa_log.specs.{CommitRecord, tran_cmp}
 use Rattle.xa_file_log.specs.{Slot, Free, Taken, overwritten, IsOverwritten, Torn, spelling, head, IsValid, slot, AreApart, IsSlotOf, StandsFor, IsSettled}
-use Rattle.xa_file_log.specs.{on_file, table_of, HasBody, HasNoName, MayHave, MayShow}
-use Rattle.xa_file_log.proofs.Overwrites.{length-overwritten, take-overwritten, drop-overwritten, drop-overwritten_past, drop_overwritten_in, part-overwritten}
-use Rattle.xa_file_log.proofs.Finds.{IsPart, at_map, whole_part}
-use Rattle.xa_file_log.proofs.Slotwise.{apart_set}
+use Rattle.xa_file_log.specs.{on_file, table_of, HasBody, HasNoName, MayHave, MayShow, Forgotten, taken, forgotten, forgets, name_of, IsNoLog, HasName}
+use Rattle.xa_file_log.specs.{HasNoneForgotten, IsIndexOf}
+use Rattle.xa_words.specs.{TranName}
+use Rattle.xa_file_log.proofs.Moments.{length-overwritten, take-overwritten, drop-overwritten, drop-overwritten_past, drop_overwritten_in, part-overwritten}
+use Rattle.xa_file_log.proofs.Tables.{IsPart, at_map, whole_part, apart_set, at_slot, taken_part, apart_part, forgets_on_file, same_slot}
+use Rattle.xa_file_log.proofs.Places.{index_apart, all_free}
 
+-- STANDS
 -- a file of so many slots, of each of which P says what it is
 pub record HasSlots (n : ℕ) (P : ℕ → List ℕ → Type 0) (file : List ℕ) : Type 0 where
   pub few : n ≤ 65536
@@ -27,10 +30,7 @@ other_slot : (n : ℕ) (file : List ℕ) → length file ≡ 18 + 94 * n → (k 
     → 18 + 94 * k ≤ at → at + length bytes ≤ 112 + 94 * k → slot j (overwritten file at bytes) ≡ slot j file
 other_slot n file size k below j at bytes here apart from to =
     let within : at + length bytes ≤ length file = omega (arith, size) in
-    elim (cases_lt j k) [
-      | inl lt ↦ part-overwritten file at bytes within (18 + 94 * j) 94 (omega arith)
-      | inr ge ↦ ap (λ (l : List ℕ). take 94 l) (drop-overwritten_past file at bytes within (18 + 94 * j) (omega (arith, apart)))
-    ]
+    search (arith, cases_lt j k, part-overwritten file at bytes within (18 + 94 * j) 94, drop-overwritten_past file at bytes within (18 + 94 * j))
 
 slot_written : {n : ℕ} {P Q : ℕ → List ℕ → Type 0} {file : List ℕ} (k at : ℕ) (bytes : List ℕ) → HasSlots n P file → k < n → 18 + 94 * k ≤ at
     → at + length bytes ≤ 112 + 94 * k → Q k (slot k (overwritten file at bytes))
@@ -41,10 +41,7 @@ slot_written {n} {P} {Q} {file} k at bytes has below from to this others =
       few = has.few;
       size = length-overwritten file at bytes within ∙ has.size;
       header = take-overwritten file at bytes within 18 (omega arith) ∙ has.header;
-      each = λ j here. elim (cases_eq j k) [
-        | inl is ↦ subst (λ (i : ℕ). Q i (slot i (overwritten file at bytes))) (sym is) this
-        | inr apart ↦ subst (Q j) (sym (other_slot n file has.size k below j at bytes here apart from to)) (others j apart (has.each j here))
-      ];
+      each = λ j here. search (arith, cases_eq j k, other_slot n file has.size k below j at bytes here, others j, has.each j here);
     }
 
 -- the gate of a slot, and its body
@@ -68,9 +65,8 @@ gate_written {Q = Q} {file = file} k b has below this others =
 -- or a crash comes in between
 pub gate_torn : {n : ℕ} {P : ℕ → List ℕ → Type 0} {d c : List ℕ} (k b : ℕ) → HasSlots n P d → k < n → P k (b ∷ drop 1 (slot k d))
     → Torn (18 + 94 * k) (b ∷ []) d c → HasSlots n P c
-gate_torn {n} {P} k b has below this torn =
-    ⊎_elim (λ before. subst (HasSlots n P) (sym before) has)
-    (λ after. subst (HasSlots n P) (sym after) (gate_written k b has below this (λ j apart is. is))) (torn.whole.alone b refl)
+gate_torn k b has below this torn = ⊎_elim (λ before. rw before has)
+    (λ after. rw after (gate_written k b has below this (λ j apart is. is))) (torn.whole.alone b refl)
 
 -- a body is written
 pub body_slot : {n : ℕ} {P : ℕ → List ℕ → Type 0} {file : List ℕ} (k : ℕ) (body : List ℕ) → HasSlots n P file → k < n → length body ≡ 93
@@ -110,8 +106,7 @@ passes {n = n} {New = New} {Old = Old} {file = file} has below now = search (ari
 
 pub gate_done : {m n : ℕ} {New Old : ℕ → List ℕ → Type 0} {file : List ℕ} (b : ℕ) → HasSlots m (Between New Old n) file → n < m
     → (Old n (slot n file) → New n (b ∷ drop 1 (slot n file))) → HasSlots m (Between New Old (n + 1)) (overwritten file (18 + 94 * n) (b ∷ []))
-gate_done {n = n} b has below now =
-    gate_written n b has below (this_done (now ((has.each n below).later (omega arith)))) (λ j apart is. one_on apart is)
+gate_done {n = n} b has below now = gate_written n b has below (this_done (now ((has.each n below).later (omega arith)))) (λ j apart is. one_on apart is)
 
 pub body_done : {m n : ℕ} {New Old : ℕ → List ℕ → Type 0} {file : List ℕ} (body : List ℕ) → HasSlots m (Between New Old n) file → n < m
     → length body ≡ 93 → (Old n (slot n file) → New n (take 1 (slot n file) ++ body))
@@ -196,3 +191,87 @@ module _ (slots : List Slot) (k : ℕ) {file : List ℕ} (stands : StandsFor (ta
       let with_it : HasSlots (length slots) (Has on_file (set slots k (Taken r))) (overwritten now (18 + 94 * k) (255 ∷ [])) =
       search (arith, gate_written, get_or-set_same, open_slot, get_or-set_other) in
       stands_of whole_part (set slots k (Taken r)) (slots_as (length-set slots k (Taken r)) with_it (λ j here is. is)) (apart_set slots k r below new stands.apart)
+
+-- GATES
+-- the gates before this place are shut, of those that are forgotten
+abbrev pub IsShutBelow : List Slot → ℕ → List ℕ → Type 0
+IsShutBelow slots n = HasSlots (length slots) (Between (Has taken slots) (Has on_file slots) n)
+
+pub none_shut : (slots : List Slot) {file : List ℕ} → StandsFor (table_of slots) file → IsShutBelow slots 0 file
+none_shut slots stands = starts (slots_of whole_part slots stands) (λ k no is. absurd (omega (arith, no)))
+
+pub all_shut : (slots : List Slot) {n : ℕ} {file : List ℕ} → length slots ≤ n → AreApart (table_of slots) → IsShutBelow slots n file
+    → StandsFor (map taken slots) file
+all_shut slots past apart so_far =
+    stands_of taken_part slots (ends so_far (λ k below from is. absurd (omega (arith, past, below, from)))) (apart_part taken taken_part slots apart)
+
+-- one that isn't forgotten, and one that is
+pub counted : (s : Slot) {bytes : List ℕ} → ((r : CommitRecord) → s ≡ Forgotten r → ⊥) → IsSlotOf (on_file s) bytes → IsSlotOf (taken s) bytes
+counted (Forgotten r) differs is = absurd (differs r refl)
+counted s differs is = is
+
+pub shut_done : {s : Slot} {r : CommitRecord} {bytes : List ℕ} → s ≡ Forgotten r → IsSlotOf (taken s) (0 ∷ bytes)
+shut_done {bytes = bytes} is = subst (λ (s : Slot). IsSlotOf (taken s) (0 ∷ bytes)) (sym is) (shut_slot refl)
+
+has_taken : (s : Slot) {bytes : List ℕ} → IsSlotOf (taken s) bytes → MayHave s bytes
+has_taken (Forgotten r) is = record { counts = λ none. absurd (cc (none)); unshut = λ wide. absurd (wide (is.free refl)) }
+has_taken s is = surely is
+
+-- a crash in between
+pub torn_shown : (slots : List Slot) {n : ℕ} {r : CommitRecord} {d c : List ℕ} → n < length slots → get_or slots n Free ≡ Forgotten r → MayShow slots d
+    → Torn (18 + 94 * n) (0 ∷ []) d c → MayShow slots c
+torn_shown slots {n} below is shown torn = shown_of (gate_torn n 0 (slots_shown shown) below (has_taken (get_or slots n Free) (shut_done is)) torn) shown.apart
+
+pub below_shown : (slots : List Slot) {n : ℕ} {file : List ℕ} → AreApart (table_of slots) → IsShutBelow slots n file → MayShow slots file
+below_shown slots {n} apart so_far = shown_of (slots_as refl so_far (λ k below is.
+    search (arith, cases_lt k n, has_taken (get_or slots k Free), surely, is.done, is.later))) apart
+
+-- a record more that is forgotten leaves what the file may show
+may_have_forgotten : (test : TranName → Bool) (s : Slot) (bytes : List ℕ) → MayHave s bytes → MayHave (forgets test s) bytes
+may_have_forgotten test (Taken r) bytes may = search (arith, rules)
+may_have_forgotten test s bytes may = may
+
+pub forgets_shown : (test : TranName → Bool) (slots : List Slot) (file : List ℕ) → MayShow slots file → MayShow (map (forgets test) slots) file
+forgets_shown test slots file shown = shown_of (slots_as (length-map slots (forgets test)) (slots_shown shown) (λ k below may.
+    rw (at_slot (forgets test) refl slots k) (may_have_forgotten test (get_or slots k Free) (slot k file) may))) (rw (forgets_on_file test slots) shown.apart)
+
+-- READING
+-- the slots before this place are read
+pub record IsRead (n count : ℕ) (slots : List Slot) (bytes : List ℕ) : Type 0 where
+  pub size : length slots ≡ count
+  pub each : (k : ℕ) → k < n → IsSlotOf (on_file (get_or slots k Free)) (slot k bytes)
+  pub later : (k : ℕ) → n ≤ k → get_or slots k Free ≡ Free
+  pub none_forgotten : HasNoneForgotten slots
+
+pub none_read : {count : ℕ} {slots : List Slot} (bytes : List ℕ) → slots ≡ replicate count Free → IsRead 0 count slots bytes
+none_read {count} bytes free = search (arith, length-replicate, all_free)
+
+pub one_read : {n count : ℕ} {slots new : List Slot} {bytes : List ℕ} (s : Slot) → IsRead n count slots bytes → n < count → forgotten s ≡ None
+    → IsSlotOf (on_file s) (slot n bytes) → new ≡ set slots n s → IsRead (n + 1) count new bytes
+one_read {n} {count} {slots} {bytes = bytes} s so_far below counts is put = search (arith, get_or-set_same, length-set, cases_eq, get_or-set_other)
+
+pub free_read : {n count : ℕ} {slots : List Slot} {bytes : List ℕ} → IsRead n count slots bytes → n < count → IsSlotOf None (slot n bytes)
+    → IsRead (n + 1) count slots bytes
+free_read {n} {slots = slots} so_far below is = search (arith, one_read, set-get_or, so_far.later)
+
+pub all_read : {n count : ℕ} {slots : List Slot} {bytes : List ℕ} {places : FinMap tran_cmp ℕ} → IsRead n count slots bytes → IsIndexOf places slots → count ≤ n
+    → count ≤ 65536 → length bytes ≡ 18 + 94 * count → take 18 bytes ≡ head count → StandsFor (table_of slots) bytes
+all_read {slots = slots} read index past few size header = stands_of whole_part slots (record {
+  few = omega (arith, read.size, few);
+  size = omega (arith, read.size, size);
+  header = header ∙ ap head (sym read.size);
+  each = λ k below. read.each k (omega (arith, below, read.size));
+}) (index_apart index)
+
+-- a second slot of one transaction
+pub twice_named : (n count : ℕ) (slots : List Slot) (bytes : List ℕ) (r : CommitRecord) → n < count → length bytes ≡ 18 + 94 * count
+    → IsSlotOf (Some r) (slot n bytes) → IsRead n count slots bytes → (k : ℕ) × HasName slots k r.tran → IsNoLog bytes
+twice_named n count slots bytes r below size is read at = λ records there. elim (cases_lt at.0 n) [
+  | inl before ↦
+      let many : length there.table ≡ count = omega (arith, there.stands.size, size) in
+      let here : get_or there.table n None ≡ Some r = search (arith, same_slot) in
+      let other : get_or there.table at.0 None ≡ on_file (get_or slots at.0 Free) = search (arith, same_slot, at.0, read.each) in
+      let same : n ≡ at.0 = there.stands.apart n at.0 r.tran (ap name_of here) (ap name_of other ∙ at.1.1) in
+      absurd (omega (arith, same, before))
+  | inr from ↦ let none = ap (λ (s : Slot). name_of (on_file s)) (read.later at.0 from) in let named = at.1.1 in absurd (cc (none, named))
+]

@@ -3,7 +3,7 @@ pub mod Spelling
 pub mod Slots
 pub mod Memory
 pub mod Appends
-pub mod History
+pub mod Histories
 pub mod HistoryLaws
 -- The words of this crate, by its name.
 pub use Device.{Elapses, Follows, HasCause, IsOverwritten, IsTorn, IsWhole, LeavesOnly, Only, Torn, overwritten}
@@ -17,7 +17,7 @@ pub use Memory.{filled, forgotten_in, is_used, log_state, name_at, on_file, plac
 pub use Memory.{used}
 pub use Appends.{Disk, ForgetsNoMore, HasWithAnyOf, HasWithOrWithout, IsAppend, IsForgetting, IsGroupAppend}
 pub use Appends.{IsGroupLoss, IsLoss, IsOneOf, LogAt}
-pub use History.{LeftSince, Past, failed, failures, leaves, left_after, left_by, writing}
+pub use Histories.{LeftSince, Past, failed, failures, leaves, left_after, left_by, writing}
 pub use HistoryLaws.{now_is_since, only_the_last}
 pub use declared.mirrored.Call.{Call}
 pub use declared.mirrored.Call.TheVariants.{Synced}

@@ -69,6 +69,7 @@ fn kept(slot: &Slot, trans: &[Tran]) -> Slot
 }
 
 // Forgets all records but those of these transactions.
+#[tactic(auto, using(crate::proofs::Places::mapping))]
 fn forget_others(slots: &mut Vec<Slot>, trans: &[Tran])
     ensures { slots.new.items ≡ map (forgets (λ t. not (is_among trans.now t))) slots.old.items }
 {
@@ -100,6 +101,7 @@ impl SlotTable {
     }
 
     /// The first slot that is free.
+    #[tactic(auto, using(xa_base::proofs::get_or_default, crate::proofs::Places::slot_indexed))]
     pub(crate) fn free_place(&mut self) -> Option<usize>
         ensures slots { self.new.slots.items ≡ self.old.slots.items }
         ensures free { IfSome result (λ place. (place < length self.old.slots.items)

@@ -1,11 +1,11 @@
--- Deeds, one after another.
-use Rattle.xa_base.proofs.{arith, ◌≡◌, ℕ, cond, Bool, true, false, List, [], ◌∷◌, ◌++◌, None, Some, refl, sym, ap, ◌∙◌, subst, append_assoc, if◌then◌else◌}
-use Rattle.xa_base.proofs.{is_some, get-insert, eq_by_cmp}
-use Rattle.xa_log.specs.{tran_cmp, LogState, record_of, with_record, with_failure, without_record, AreNew, CommitRecord}
-use Rattle.xa_log.proofs.Transactions.{tran_cmp_total}
-use Rattle.xa_words.specs.{TranName}
+-- Deeds, one after another, and records that are new as requests come.
+use Rattle.xa_base.proofs.{arith, ◌≡◌, ℕ, Bool, true, false, List, [], ◌∷◌, ◌++◌, None, refl, sym, ap, ◌∙◌, subst, append_assoc, if◌then◌else◌, is_some}
+use Rattle.xa_base.proofs.{get-insert, get-remove, or_parts}
+use Rattle.xa_log.specs.{LogState, record_of, with_record, with_failure, without_record, AreNew, CommitRecord}
+use Rattle.xa_log.proofs.Transactions.{tran_cmp_total, decides_by_cmp}
+use Rattle.xa_words.specs.{TranName, tran_eq, Decides-tran_eq}
 use Rattle.xa_log_worker.specs.{Answer, Taken, Refused, Unknown, Answered, Deed, after_deed, after_answer, after, IsRightAnswer, AreRight, AreUnknown, Does}
-use Rattle.xa_log_worker.specs.{answers_in, answer_of}
+use Rattle.xa_log_worker.specs.{answers_in, answer_of, Waiting, is_clash, records_in}
 use Rattle.xa_log_worker.specs.declared.ask.Deed.TheVariants.{Answers, Forgets}
 
 pub after-append : (log : LogState) (ds es : List Deed) → after log (ds ++ es) ≡ after (after log ds) es
@@ -50,13 +50,7 @@ abbrev pub HasNoMore : LogState → LogState → Type 0
 HasNoMore log other = (r : CommitRecord) → record_of other r.tran ≡ None → record_of log r.tran ≡ None
 
 no_more_after : (log other : LogState) (r : CommitRecord) → HasNoMore log other → HasNoMore (with_record log r.tran r.yes) (with_record other r.tran r.yes)
-no_more_after log other r below q none =
-    get-insert tran_cmp_total log.records r.tran r.yes q.tran
-    ∙ (elim (eq_by_cmp tran_cmp q.tran r.tran) as (λ b. cond b (Some r.yes) (record_of other q.tran) ≡ None → cond b (Some r.yes) (record_of log q.tran) ≡
-    None) [
-      | true ↦ λ e. e
-      | false ↦ λ e. below q e
-    ] (sym (get-insert tran_cmp_total other.records r.tran r.yes q.tran) ∙ none))
+no_more_after log other r below q none = search (arith, get-insert tran_cmp_total log.records, get-insert tran_cmp_total other.records, below)
 
 pub new_below : (log other : LogState) (rs : List CommitRecord) → HasNoMore log other → AreNew other rs → AreNew log rs
 new_below log other [] below new = tt
@@ -65,11 +59,7 @@ new_below log other (r ∷ rs) below new =
 
 -- a log has no more records than with one more
 fewer : (log : LogState) (r : CommitRecord) → HasNoMore log (with_record log r.tran r.yes)
-fewer log r q none =
-    elim (eq_by_cmp tran_cmp q.tran r.tran) as (λ b. cond b (Some r.yes) (record_of log q.tran) ≡ None → record_of log q.tran ≡ None) [
-      | true ↦ λ e. cc
-      | false ↦ λ e. e
-    ] (sym (get-insert tran_cmp_total log.records r.tran r.yes q.tran) ∙ none)
+fewer log r q none = search (arith, get-insert tran_cmp_total log.records)
 
 new_still : (log : LogState) (r : CommitRecord) (rs : List CommitRecord) (b : Bool) → AreNew (with_record log r.tran r.yes) rs
     → AreNew (if b then log else with_failure log) rs
@@ -96,3 +86,18 @@ new_after false false log now a rs new does known = cc
 pub does_forget : (b : Bool) (log now : LogState) (from : ℕ) (t : TranName) → (b ≡ true → now ≡ without_record log t) → Does b log (Forgets from t ∷ []) b now
 does_forget true log now from t is = ((tt, tt), is refl)
 does_forget false log now from t is = (tt, tt)
+
+-- another transaction's record changes nothing of one
+still_none : (log : LogState) (t : TranName) (v : List Bool) (q : TranName) → tran_eq t q ≡ false → record_of log q ≡ None
+    → record_of (with_record log t v) q ≡ None
+still_none log t v q differs none = search (arith, get-insert tran_cmp_total log.records, Decides-tran_eq, decides_by_cmp)
+
+-- one record more waits
+pub new_push : (log : LogState) (ws : List Waiting) (w : Waiting) → AreNew log (records_in ws) → record_of log w.decision.tran ≡ None
+    → is_clash w.from w.decision.tran ws ≡ false → AreNew log (records_in (ws ++ w ∷ []))
+new_push log [] w new none clash = (none, tt)
+new_push log (v ∷ ws) w new none clash = search (arith, or_parts, still_none, new_push (with_record log v.decision.tran v.decision.yes) ws w new.1, new.0)
+
+-- one record less
+pub new_without : (log : LogState) (t : TranName) (ws : List Waiting) → AreNew log (records_in ws) → AreNew (without_record log t) (records_in ws)
+new_without log t ws new = new_below (without_record log t) log (records_in ws) (λ r none. search (arith, get-remove tran_cmp_total log.records t r.tran)) new

@@ -85,6 +85,7 @@ fn forget_in<L: GroupLog>(log: &mut L, is_known: bool, tran: &Tran)
 
 impl<L: GroupLog> Book<L> {
     /// Takes a request in. What is to be answered at once is; a record that is new waits for its group.
+    #[tactic(auto, using(crate::proofs::Moves::moves_then))]
     pub(crate) fn take_in<R: Wait>(&mut self, rt: &R, from: usize, ask: &Ask)
         requires place { from < vec_len self.old.answers }
         requires new { self.old.is_known ≡ true → AreNew (L.state self.old.log) (records_in self.old.waiting.items) }
@@ -140,6 +141,7 @@ impl<L: GroupLog> Book<L> {
         }
     }
 
+    #[tactic(auto, using(crate::proofs::Moves::forgetting))]
     fn forget(&mut self, from: usize, tran: &Tran)
         requires apart { is_clash from tran.now self.old.waiting.items ≡ false }
         requires new { self.old.is_known ≡ true → AreNew (L.state self.old.log) (records_in self.old.waiting.items) }

@@ -120,6 +120,7 @@ impl<R: Wait + Copy> DecisionRecords for LogClient<R> {
 
     ghost knows = { λ l. l.is_known ≡ true };
 
+    #[tactic(auto, using(crate::proofs::Own::there))]
     fn has(&self, tran: &Tran) -> Option<ManagerSet> {
         self.records.get(tran).copied()
     }

@@ -127,6 +127,7 @@ fn copy_records(waiting: &[Waiting], group: &mut Vec<CommitRecord>)
 }
 
 /// Appends the records that wait, several by one call of the log. Where it refuses them together, each is tried alone.
+#[tactic(auto, using(crate::proofs::Moves::settling))]
 pub(crate) fn append_group<L: GroupLog>(
     log: &mut L,
     is_known: &mut bool,

@@ -47,6 +47,7 @@ pub struct LogWorker<L: GroupLog> {
 }
 
 // Takes one thing. False where nothing is there.
+#[tactic(auto, using(crate::proofs::Moves::taking))]
 fn take_one<L: GroupLog, R: Wait>(
     rt: &R,
     book: &mut Book<L>,
@@ -77,6 +78,7 @@ fn take_one<L: GroupLog, R: Wait>(
 }
 
 // Takes the requests that wait.
+#[tactic(auto, using(crate::proofs::Moves::works_chain, crate::proofs::Moves::works_none))]
 fn gather<L: GroupLog, R: Wait>(
     rt: &R,
     book: &mut Book<L>,
@@ -145,6 +147,7 @@ impl<L: GroupLog> LogWorker<L> {
     ///
     /// It idles while there is nothing to be done, and between its steps where there are several coordinators, in a
     /// wait for no manager.
+    #[tactic(auto, using(crate::proofs::Moves::stepping))]
     pub fn run<R: Wait, I: Idle>(self, rt: &R, idle: &mut I) -> LogEnds<L>
         ensures steps { Steps self.book.deeds.items result.deeds.items self.book.is_known (L.state self.book.log)
             result.is_known (L.state result.log) self.book.answers.items result.answers.items self.asks.taken

@@ -1,18 +1,16 @@
-use Rattle.xa_base.proofs.{rules, ◌≡◌, inl, ℕ, List, [], length, sym, ◌∙◌, ap, subst, arith}
+use Rattle.xa_base.proofs.{rules, ◌≡◌, ℕ, List, [], sym, ◌∙◌, ap, arith, Decides-eqb}
 use Rattle.std.proofs.Common.{vec_len}
-use Rattle.std.proofs.lemmas.Bool.Decides.{Decides-eqb}
 use Rattle.std.proofs.lemmas.List.{nil_from_length}
 use Rattle.xa_file_log.specs.{StandsFor, IsSettled, IsNewLog, free_slots, table_of}
-use Rattle.xa_file_log.proofs.Anew.{if_ok_at}
 use Rattle.xa_file_log.proofs.Moments.{started, goes_on, joined}
 use Rattle.xa_file_log.proofs.NewLogs.{short_file}
 use Rattle.xa_file_log.proofs.Stands.{settled_shown}
-use Rattle.xa_file_log.proofs.Slotwise.{new_table}
+use Rattle.xa_file_log.proofs.Tables.{new_table}
 use Rattle.xa_file_log.proofs.creating.create.Goals as goal
 
 pub invariant_of-result : goal.invariant_of-result
 invariant_of-result g c =
-    let free = if_ok_at _ c.new-table.result c.in-Ok-Ok.table c.in-Ok-Ok.is-0 c.new-table.ensures in
+    let free = rw c.in-Ok-Ok.is-0 at c.new-table.ensures in
     let same : table_of c.in-Ok-Ok.table.slots.items ≡ free_slots c.args.slots = ap table_of free ∙ new_table c.args.slots in
     let stands : StandsFor (table_of c.in-Ok-Ok.table.slots.items) (g.D.Device.seen c.write_new.new.device) = search (arith, g.D.Device.seen) in
     let settled : IsSettled g.D.Device.seen g.D.Device.may_leave (table_of c.in-Ok-Ok.table.slots.items) c.write_new.new.device = search (arith, rules) in

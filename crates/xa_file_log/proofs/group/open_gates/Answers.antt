@@ -2,10 +2,10 @@ use Rattle.xa_base.proofs.{◌≡◌, ℕ, List, length, get_or, refl, ◌∙◌
 use Rattle.xa_file_log.specs.{Free}
 use Rattle.xa_file_log.proofs.Moments.{started, goes_on}
 use Rattle.xa_file_log.proofs.Stands.{HasSlots, slots_as, starts, passes, gate_done}
-use Rattle.xa_file_log.proofs.Placed.{MayCome, way_from, way_passes, next_taken, way_done, bodied, comes, comes_shown, not_opened, all_open, gate_opened}
-use Rattle.xa_file_log.proofs.Placed.{opens_torn}
-use Rattle.xa_file_log.proofs.group.open_gates.Goals as goal
+use Rattle.xa_file_log.proofs.Grouped.{MayCome, way_from, way_passes, next_taken, way_done, bodied, comes, comes_shown, not_opened, all_open, gate_opened}
+use Rattle.xa_file_log.proofs.Grouped.{opens_torn}
 use Rattle.xa_file_log.proofs.group.open_gates.Goals.{in-Free+in_ok-write_at, in_default}
+use Rattle.xa_file_log.proofs.group.open_gates.Goals as goal
 
 pub loop-place-init : goal.loop-place-init
 loop-place-init g c =
@@ -53,13 +53,7 @@ loop-place-preserved g c = elim c.match-slots-place.branch [
   | in_default w ↦
       let differs : get_or c.args.slots.now c.loop-place.place Free ≡ Free → ⊥ =
       λ e. w.in_default.not-Free (get_or_default c.args.slots.now c.loop-place.place _ Free c.loop-place-test.true ∙ e) in
-      rw (w.next-is, w.device-is) (record {
-        way = way_passes c.loop-place.invariant.way c.loop-place-test.true differs;
-        opening = passes c.loop-place.invariant.opening c.loop-place-test.true (λ was. not_opened differs was);
-        comes = c.loop-place.invariant.comes;
-        run = c.loop-place.invariant.run;
-        faults = c.loop-place.invariant.faults;
-      })
+      rw (w.next-is, w.device-is) (search (arith, way_passes, passes, not_opened, differs, c.loop-place.invariant))
 ]
 
 pub returns-clause-stands : goal.returns-clause-stands

@@ -1,7 +1,7 @@
 use Rattle.xa_base.proofs.{ℕ, ◌≤◌, List, length}
 use Rattle.xa_file_log.specs.{LeavesOnly, MayShow, on_file, placed, coming}
 use Rattle.xa_file_log.proofs.Stands.{HasSlots, Between, Has}
-use Rattle.xa_file_log.proofs.Placed.{IsOnTheWay, IsBodied, MayCome}
+use Rattle.xa_file_log.proofs.Grouped.{IsOnTheWay, IsBodied, MayCome}
 use Rattle.xa_file_log.proofs.group.open_gates.Given as goal
 
 abbrev pub invariant-loop-place : goal.invariant-loop-place

@@ -1,24 +1,19 @@
-use Rattle.xa_base.proofs.{◌≡◌, ℕ, ◌<◌, List, length, get_or, ◌∙◌, arith, rules, get_or_default, drop_all}
+use Rattle.xa_base.proofs.{◌≡◌, ℕ, ◌<◌, List, length, get_or, ◌∙◌, arith, get_or_default, drop_all}
 use Rattle.xa_file_log.specs.{Free, StandsFor, table_of}
-use Rattle.xa_file_log.proofs.Finds.{whole_part}
+use Rattle.xa_file_log.proofs.Tables.{whole_part}
 use Rattle.xa_file_log.proofs.Moments.{started, goes_on}
 use Rattle.xa_file_log.proofs.Stands.{starts, passes, slots_of, body_done}
-use Rattle.xa_file_log.proofs.Placed.{way_from, way_passes, way_takes, way_new, way_done, no_body, body_put, body_torn, all_written}
-use Rattle.xa_file_log.proofs.group.write_bodies.Goals as goal
+use Rattle.xa_file_log.proofs.Grouped.{way_from, way_passes, way_takes, way_new, way_done, has_none, body_put, body_torn, bodies_written}
 use Rattle.xa_file_log.proofs.group.write_bodies.Goals.{in-Free+in_ok-write_at, in_default}
+use Rattle.xa_file_log.proofs.group.write_bodies.Goals as goal
 
 pub loop-place-init : goal.loop-place-init
-loop-place-init g c = record {
-  way = way_from c.args.slots.now c.args.decisions.now c.args.first c.requires.room c.requires.first c.requires.none_before;
-  writing = starts (slots_of whole_part c.args.slots.now c.requires.stands) (λ k before is. no_body (c.requires.none_before k before) is);
-  keeps = c.requires.keeps;
-  run = started (λ f left. c.requires.keeps f (g.met.D.Device.only_now c.args.device.now f left));
-  faults = omega arith;
-}
+loop-place-init g c =
+    search (arith, way_from, starts, slots_of, whole_part, has_none, started, c.requires.none_before, c.requires.keeps, g.met.D.Device.only_now)
 
 pub returns-then-next-decisions : goal.returns-then-next-decisions
 returns-then-next-decisions g c =
-    search (arith, all_written, drop_all, c.requires.stands.apart, c.loop-place.next, c.args.decisions.now, c.loop-place.invariant.writing)
+    search (arith, bodies_written, drop_all, c.requires.stands.apart, c.loop-place.next, c.args.decisions.now, c.loop-place.invariant.writing)
 
 pub returns-in_err-write_at-clause-keeps : goal.returns-in_err-write_at-clause-keeps
 returns-in_err-write_at-clause-keeps g c = λ f now. grind (arith, body_torn, get_or_default, c.write_at.ensures.crash)
@@ -47,14 +42,8 @@ loop-place-preserved g c = elim c.match-slots-place.branch [
   | in_default w ↦
       let differs : get_or c.args.slots.now c.loop-place.place Free ≡ Free → ⊥ =
       λ e. w.in_default.not-Free (get_or_default c.args.slots.now c.loop-place.place _ Free c.loop-place-test.true ∙ e) in
-      rw (w.next-is, w.device-is) (record {
-        way = way_passes c.loop-place.invariant.way c.loop-place-test.true differs;
-        writing = passes c.loop-place.invariant.writing c.loop-place-test.true (λ was. no_body differs was);
-        keeps = c.loop-place.invariant.keeps;
-        run = c.loop-place.invariant.run;
-        faults = c.loop-place.invariant.faults;
-      })
+      rw (w.next-is, w.device-is) (search (arith, way_passes, passes, has_none, differs, c.loop-place.invariant))
 ]
 
 pub returns : goal.returns
-returns g c = search (arith, all_written, way_done, c.requires.stands.apart, c.loop-place.invariant.way, c.loop-place.invariant.writing)
+returns g c = search (arith, bodies_written, way_done, c.requires.stands.apart, c.loop-place.invariant.way, c.loop-place.invariant.writing)

@@ -1,7 +1,7 @@
 use Rattle.xa_base.proofs.{ℕ, ◌≤◌, List, length}
 use Rattle.xa_file_log.specs.{LeavesOnly, StandsFor, on_file, table_of}
 use Rattle.xa_file_log.proofs.Stands.{HasSlots, Between, Has}
-use Rattle.xa_file_log.proofs.Placed.{IsOnTheWay, IsBodied}
+use Rattle.xa_file_log.proofs.Grouped.{IsOnTheWay, IsBodied}
 use Rattle.xa_file_log.proofs.group.write_bodies.Given as goal
 
 abbrev pub invariant-loop-place : goal.invariant-loop-place

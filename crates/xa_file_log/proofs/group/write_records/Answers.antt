@@ -1,7 +1,5 @@
-use Rattle.xa_base.proofs.{arith, sym, subst}
-use Rattle.xa_file_log.specs.{StandsFor, table_of, placed}
 use Rattle.xa_file_log.proofs.Moments.{goes_on, weaker}
-use Rattle.xa_file_log.proofs.Placed.{stands_shown_coming, up_to_gates, placed_shown}
+use Rattle.xa_file_log.proofs.Grouped.{stands_shown_coming, up_to_gates, placed_shown}
 use Rattle.xa_file_log.proofs.group.write_records.Goals as goal
 
 pub returns-in_default-clause-any_moment : goal.returns-in_default-clause-any_moment
@@ -28,6 +26,4 @@ returns-clause-any_moment g c =
     goes_on (up_to_gates c.args.slots.now c.args.decisions.now c.requires.new c.write_bodies.ensures.any_moment c.in-Ok.ensures.stands c.in-Ok-sync.ensures.durable c.sync.ensures.time
     c.open_gates.ensures.any_moment)
     c.sync-2.ensures.time
-    (λ f now. placed_shown c.args.slots.now c.args.decisions.now f
-    (subst (StandsFor (table_of (placed c.args.slots.now c.args.decisions.now))) (sym (c.in-Ok-sync-2.ensures.durable f now))
-    c.in-Ok-open_gates.ensures.stands))
+    (λ f now. rw (c.in-Ok-sync-2.ensures.durable f now) (placed_shown c.args.slots.now c.args.decisions.now _ c.in-Ok-open_gates.ensures.stands))

@@ -1,8 +1,7 @@
-use Rattle.xa_base.proofs.{arith, sym, ◌∙◌, ap, subst, rules}
+use Rattle.xa_base.proofs.{arith, ◌∙◌, ap, subst, rules}
 use Rattle.xa_file_log.specs.{IsSettled, StandsFor, IsNoLog, records_of, table_of}
-use Rattle.xa_file_log.proofs.OneTable.{one_content}
+use Rattle.xa_file_log.proofs.Tables.{one_content, all_count}
 use Rattle.xa_file_log.proofs.Stands.{settled_shown}
-use Rattle.xa_file_log.proofs.Slotwise.{all_count}
 use Rattle.xa_file_log.proofs.opening.open.Goals as goal
 
 pub invariant_of-result : goal.invariant_of-result

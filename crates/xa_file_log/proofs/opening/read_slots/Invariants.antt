@@ -1,4 +1,4 @@
-use Rattle.xa_file_log.proofs.Reading.{IsRead}
+use Rattle.xa_file_log.proofs.Stands.{IsRead}
 use Rattle.xa_file_log.proofs.opening.read_slots.Given as goal
 
 abbrev pub invariant-loop-place : goal.invariant-loop-place

@@ -1,11 +1,9 @@
-use Rattle.xa_base.proofs.{ℕ, List, refl, sym, ◌∙◌, subst, arith, get_or_default}
-use Rattle.xa_log.specs.{CommitRecord}
-use Rattle.xa_file_log.specs.{Free, Forgotten, MayShow}
-use Rattle.xa_file_log.proofs.Moments.{started, goes_on}
-use Rattle.xa_file_log.proofs.Gates.{none_shut, all_shut, passed, one_shut, torn_shown, not_forgotten, below_shown}
-use Rattle.xa_file_log.proofs.Stands.{settled_shown}
-use Rattle.xa_file_log.proofs.shutting.shut_gates.Goals as goal
+use Rattle.xa_base.proofs.{ℕ, List, sym, ◌∙◌, arith, get_or, get_or_default}
+use Rattle.xa_file_log.specs.{Free, MayShow}
+use Rattle.xa_file_log.proofs.Moments.{goes_on}
+use Rattle.xa_file_log.proofs.Stands.{none_shut, all_shut, counted, gate_done, passes, shut_done, torn_shown, below_shown, settled_shown}
 use Rattle.xa_file_log.proofs.shutting.shut_gates.Goals.{in-Forgotten+in_ok-write_at, in_default}
+use Rattle.xa_file_log.proofs.shutting.shut_gates.Goals as goal
 
 pub returns-in_err-write_at-clause-now : goal.returns-in_err-write_at-clause-now
 returns-in_err-write_at-clause-now g c = λ f now.
@@ -30,17 +28,16 @@ loop-place-preserved g c = elim c.match-slots-place.branch [
       torn_shown c.args.slots.now c.loop-place-test.true is (c.loop-place.invariant.shown from.0 from.1) from.2 in
       rw w.device-is (record {
         shown = shown;
-        shutting = rw w.in_ok-write_at.ensures.written (one_shut c.args.slots.now c.loop-place-test.true is c.loop-place.invariant.shutting);
+        shutting = rw w.in_ok-write_at.ensures.written (gate_done 0 c.loop-place.invariant.shutting c.loop-place-test.true (λ was. shut_done is));
         run = goes_on c.loop-place.invariant.run w.write_at.ensures.time shown;
         clean = λ is. absurd (cc (is, w.is_clean-is));
         faults = omega (arith, c.loop-place.invariant.faults, w.write_at.ensures.cause.later);
       })
   | in_default w ↦
-      let none = not_forgotten _ (λ (r : CommitRecord) e.
-      w.in_default.not-Forgotten r (get_or_default c.args.slots.now c.loop-place.place _ Free c.loop-place-test.true ∙ e)) in
       rw w.device-is (record {
         shown = c.loop-place.invariant.shown;
-        shutting = passed c.args.slots.now c.loop-place-test.true none c.loop-place.invariant.shutting;
+        shutting = passes c.loop-place.invariant.shutting c.loop-place-test.true (counted (get_or c.args.slots.now c.loop-place.place Free) (λ r e.
+            w.in_default.not-Forgotten r (get_or_default c.args.slots.now c.loop-place.place _ Free c.loop-place-test.true ∙ e)));
         run = c.loop-place.invariant.run;
         clean = λ is. c.loop-place.invariant.clean (sym w.is_clean-is ∙ is);
         faults = c.loop-place.invariant.faults;

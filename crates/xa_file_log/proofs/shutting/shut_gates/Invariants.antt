@@ -1,6 +1,6 @@
 use Rattle.xa_base.proofs.{◌≡◌, ℕ, ◌≤◌, true, List}
 use Rattle.xa_file_log.specs.{LeavesOnly, MayShow}
-use Rattle.xa_file_log.proofs.Gates.{IsShutBelow}
+use Rattle.xa_file_log.proofs.Stands.{IsShutBelow}
 use Rattle.xa_file_log.proofs.shutting.shut_gates.Given as goal
 
 abbrev pub invariant-loop-place : goal.invariant-loop-place

@@ -1,7 +1,7 @@
 use Rattle.xa_base.proofs.{not}
 use Rattle.xa_log.specs.{is_among}
 use Rattle.xa_file_log.specs.{forgets}
-use Rattle.xa_file_log.proofs.Mapped.{MapsBelow}
+use Rattle.xa_file_log.proofs.Places.{MapsBelow}
 use Rattle.xa_file_log.proofs.slot_table.forget_others.Given as goal
 
 abbrev pub invariant-loop-place : goal.invariant-loop-place

@@ -1,12 +1,10 @@
-use Rattle.xa_base.proofs.{◌≡◌, ◌<◌, length, get_or, set, sym, ◌∙◌, ap, arith, spare, at_ok, get-lookup, one_put}
-use Rattle.std.specs.HashMap.{hash_map_len}
+use Rattle.xa_base.proofs.{◌≡◌, ◌<◌, length, get_or, set, sym, ◌∙◌, ap, arith, at_ok, one_put, hash_map_len}
 use Rattle.xa_words.specs.{tran_eq}
 use Rattle.xa_log.proofs.Transactions.{tran_cmp_total, tran_cmp-IsAntisymmetric, tran_eq-by_cmp}
 use Rattle.xa_file_log.specs.{Slot, Free, Taken, Forgotten, taken, shut}
-use Rattle.xa_file_log.proofs.Anew.{none_done, room_there, passed_over, put_in, all_anew, if_ok_at, longer_by_one}
-use Rattle.xa_file_log.proofs.Mapped.{slot_indexed, unchanged}
-use Rattle.xa_file_log.proofs.slot_table.shut_all.Goals as goal
+use Rattle.xa_file_log.proofs.Places.{none_done, room_there, passed_over, put_in, all_anew, longer_by_one, slot_indexed, unchanged}
 use Rattle.xa_file_log.proofs.slot_table.shut_all.Goals.{in-Free, in-Taken, in-Forgotten}
+use Rattle.xa_file_log.proofs.slot_table.shut_all.Goals as goal
 
 pub loop-place-init : goal.loop-place-init
 loop-place-init c = search (arith, none_done, c.args.slots.now.items, c.clear.new.self.entries)
@@ -33,10 +31,8 @@ loop-place-preserved c =
           rw (w.places-is, w.slots-is) (put_in c.loop-place.invariant below is (unchanged mapped (ap shut is ∙ sym is)) c.requires.indexed
           (λ absent. one_put tran_eq tran_cmp_total tran_cmp-IsAntisymmetric tran_eq-by_cmp c.loop-place.places.entries w.insert-put.new.self.entries
           w.in-Taken.decision.tran c.loop-place.place updates.0)
-          (λ absent. longer_by_one (hash_map_len c.loop-place.places) (hash_map_len w.insert-put.new.self) w.unwrap.result _
-          (if_ok_at _ w.insert-put.result w.unwrap.result w.unwrap.ensures w.insert-put.ensures.old)
-          (sym (get-lookup tran_eq tran_cmp_total tran_cmp-IsAntisymmetric tran_eq-by_cmp c.loop-place.places.entries w.in-Taken.decision.tran) ∙ absent)
-          (if_ok_at _ w.insert-put.result w.unwrap.result w.unwrap.ensures w.insert-put.ensures.len))
+          (λ absent. longer_by_one c.loop-place.places.entries w.in-Taken.decision.tran (hash_map_len c.loop-place.places) (hash_map_len w.insert-put.new.self)
+          w.unwrap.result (rw w.unwrap.ensures at w.insert-put.ensures.old) absent (rw w.unwrap.ensures at w.insert-put.ensures.len))
           w.insert-put.ensures.spare)
       | in-Forgotten w ↦
           let is = was (Forgotten w.in-Forgotten.field-0) w.in-Forgotten.is in

@@ -1,6 +1,5 @@
-use Rattle.xa_base.proofs.{from_entries, spare}
-use Rattle.std.specs.HashMap.{hash_map_len}
-use Rattle.xa_file_log.proofs.Anew.{IsAnew}
+use Rattle.xa_base.proofs.{from_entries, spare, hash_map_len}
+use Rattle.xa_file_log.proofs.Places.{IsAnew}
 use Rattle.xa_file_log.proofs.slot_table.shut_all.Given as goal
 
 abbrev pub invariant-loop-place : goal.invariant-loop-place

@@ -1,12 +1,10 @@
-use Rattle.xa_base.proofs.{◌≡◌, ℕ, ℤ, ◌+◌, ◌-◌, ◌≤◌, Some, Result, Ok, List, [], ◌∷◌, get_or, length, take, drop, of_z, sym, ◌∙◌, ap, arith, w32, to_z-of_z}
-use Rattle.std.proofs.Common.{to_z, FitsSigned}
-use Rattle.std.specs.Int.{cast_signed, from_be_bytes}
+use Rattle.xa_base.proofs.{◌≡◌, ℕ, ℤ, ◌+◌, ◌-◌, ◌≤◌, Some, Result, Ok, List, [], ◌∷◌, get_or, length, take, drop, of_z, ◌∙◌, ap, arith, w32, to_z-of_z, to_z}
+use Rattle.xa_base.proofs.{FitsSigned, cast_signed, from_be_bytes}
 use Rattle.std.specs.Result.{result_ok}
 use Rattle.xa_words.specs.{new_tran, TranName, XidFault}
 use Rattle.xa_log.specs.{CommitRecord}
 use Rattle.xa_file_log.specs.{spelling, IsValid}
-use Rattle.xa_file_log.proofs.Unspelled.{part_few, number, number_is, length_again}
-use Rattle.xa_file_log.proofs.Spelled.{first_four, read_name, read_votes}
+use Rattle.xa_file_log.proofs.Spelled.{part_few, number, number_is, length_again, first_four, read_name, read_votes}
 use Rattle.xa_file_log.proofs.spelling.guessed.Goals as goal
 
 pub returns-then-len-gt-GTRID-clause-only : goal.returns-then-len-gt-GTRID-clause-only

@@ -1,5 +1,4 @@
-use Rattle.xa_base.proofs.{arith, ℕ, List, ◌++◌, ◌∙◌, ap}
-use Rattle.md5.specs.Md5.{md5}
+use Rattle.xa_base.proofs.{arith}
 use Rattle.xa_file_log.specs.{spelling}
 use Rattle.xa_file_log.proofs.spelling.spelled.Goals as goal
 

@@ -1,6 +1,5 @@
 use Rattle.xa_base.proofs.{arith, sym, ◌∙◌}
-use Rattle.xa_file_log.proofs.Moments.{goes_on}
-use Rattle.xa_file_log.proofs.Puts.{all_written, torn_now, written}
+use Rattle.xa_file_log.proofs.Moments.{goes_on, all_written, torn_now, written}
 use Rattle.xa_file_log.proofs.synced.put.Goals as goal
 
 pub returns-in_err-write_at-clause-now : goal.returns-in_err-write_at-clause-now

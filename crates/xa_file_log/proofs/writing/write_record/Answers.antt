@@ -1,6 +1,5 @@
-use Rattle.xa_base.proofs.{arith}
 use Rattle.xa_file_log.proofs.Stands.{stage_torn, logged}
-use Rattle.xa_file_log.proofs.Steps.{first_step, both_steps}
+use Rattle.xa_file_log.proofs.Appending.{first_step, both_steps}
 use Rattle.xa_file_log.proofs.writing.write_record.Goals as goal
 
 pub returns-in_default-clause-refused : goal.returns-in_default-clause-refused

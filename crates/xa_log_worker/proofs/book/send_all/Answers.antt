@@ -1,6 +1,6 @@
 use Rattle.xa_base.proofs.{◌≡◌, ◌+◌, ◌<◌, ◌++◌, ◌∷◌, [], length, set, ap, sym, subst, take, length-set, arith, ◌∙◌, take_more}
 use Rattle.xa_log_worker.specs.{Answered, SentBy}
-use Rattle.xa_log_worker.proofs.Moves.{lane_sent, sent-chain}
+use Rattle.xa_log_worker.proofs.Moves.{lane_sent, sent_chain}
 use Rattle.xa_log_worker.proofs.book.send_all.Goals as goal
 
 pub loop-one-preserved : goal.loop-one-preserved
@@ -16,6 +16,6 @@ loop-one-preserved g c =
       len = length-set lanes a.from c.send.new.sender ∙ c.loop-one.invariant.len;
       sent =
           subst (λ xs. SentBy xs c.args.answers.now.items (set lanes a.from c.send.new.sender)) (sym more)
-          (sent-chain (take i done) (a ∷ []) c.args.answers.now.items lanes (set lanes a.from c.send.new.sender) c.loop-one.invariant.sent
+          (sent_chain (take i done) (a ∷ []) c.args.answers.now.items lanes (set lanes a.from c.send.new.sender) c.loop-one.invariant.sent
           (lane_sent lanes c.index_mut.result.now c.send.new.sender a within c.index_mut.ensures.value c.send.ensures));
     }

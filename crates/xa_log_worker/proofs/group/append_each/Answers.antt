@@ -1,8 +1,8 @@
-use Rattle.xa_base.proofs.{arith, ◌≡◌, ◌+◌, ◌++◌, ◌∷◌, [], ap, sym, subst, take, drop, true, ◌∙◌, take_more}
+use Rattle.xa_base.proofs.{arith, ◌≡◌, ◌+◌, ◌++◌, ◌∷◌, [], ap, sym, subst, take, true, ◌∙◌, take_more}
 use Rattle.xa_log.specs.{AreNew}
 use Rattle.xa_log_worker.specs.{answered_by, records_in}
 use Rattle.xa_log_worker.proofs.Deeds.{new_after}
-use Rattle.xa_log_worker.proofs.Groups.{settles_next, drop_more}
+use Rattle.xa_log_worker.proofs.Moves.{settles_next, drop_more}
 use Rattle.xa_log_worker.proofs.group.append_each.Goals as goal
 
 pub loop-one-preserved : goal.loop-one-preserved
@@ -16,9 +16,4 @@ loop-one-preserved g c =
     let new =
     λ (known : c.loop-one.is_known ≡ true). subst (λ xs. AreNew (g.L.DecisionLog.state c.loop-one.log) (records_in xs))
     (drop_more ws i w c.loop-one-test.true c.one-item.is) (c.loop-one.invariant.new known) in
-    record {
-      told = c.append_one-answer.ensures.told;
-      new = new_after c.loop-one.is_known _ _ _ a (records_in (drop (i + 1) ws)) new does;
-      space = c.push_reserved.ensures.capacity ∙ c.loop-one.invariant.space;
-      settles = search (arith, settles_next, c.answered.result, c.push_reserved.ensures.items, c.answered.ensures, c.note.ensures);
-    }
+    search (arith, new_after, settles_next, c.loop-one.is_known)

@@ -1,9 +1,8 @@
-use Rattle.xa_base.proofs.{◌≡◌, ◌≤◌, [], true, ap, arith, ◌∙◌, spare}
-use Rattle.std.proofs.lemmas.Grind.{common_steps}
+use Rattle.xa_base.proofs.{◌≡◌, ◌≤◌, [], true, ap, arith, ◌∙◌, spare, common_steps}
 use Rattle.xa_log.specs.{no_records}
 use Rattle.xa_log_worker.specs.Asking.{Answers}
 use Rattle.xa_log_worker.specs.{records_of}
-use Rattle.xa_log_worker.proofs.Openings.{as_many, pushed_all}
+use Rattle.xa_log_worker.proofs.Own.{as_many, pushed_all}
 use Rattle.xa_log_worker.proofs.opening.open_parts.Goals as goal
 
 pub loop-sender-init : goal.loop-sender-init

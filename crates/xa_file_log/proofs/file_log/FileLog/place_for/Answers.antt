@@ -1,8 +1,7 @@
-use Rattle.xa_base.proofs.{arith, ◌≡◌, inl, inr, ⊎_elim, None, Some, Option, List, length, map, refl, ap, ◌∙◌, subst}
-use Rattle.std.specs.Prelude.{IfNone}
-use Rattle.xa_file_log.specs.{Slot, HasNoFree, name_at, shut}
-use Rattle.xa_file_log.proofs.Index.{index_apart}
-use Rattle.xa_file_log.proofs.Slotwise.{none_named_shut, full_shut}
+use Rattle.xa_base.proofs.{arith, None, Some, Option, map, refl, ap, ◌∙◌, IfNone}
+use Rattle.xa_file_log.specs.{shut}
+use Rattle.xa_file_log.proofs.Places.{index_apart}
+use Rattle.xa_file_log.proofs.Tables.{none_named_shut, full_shut}
 use Rattle.xa_file_log.proofs.file_log.FileLog.place_for.Goals as goal
 
 if_none : {X : Type 0} (P Q : Type 0) → (P → Q) → (o : Option X) → IfNone o P → IfNone o Q

@@ -1,6 +1,6 @@
-use Rattle.xa_base.proofs.{inl, inr, ◌<◌, ◌+◌, ◌%◌, ◌^◌, List, set, refl, sym, ◌∙◌, ap, subst, arith}
-use Rattle.xa_file_log.specs.{Slot, Taken, StandsFor, IsSettled, ForgetsNoMore, table_of, records_in}
-use Rattle.xa_file_log.proofs.Appending.{same_records, no_more, before_it, one_more, none_more, both_runs}
+use Rattle.xa_base.proofs.{inl, inr, ◌<◌, ◌+◌, ◌%◌, ◌^◌, refl, ◌∙◌, ap, arith}
+use Rattle.xa_file_log.specs.{records_in}
+use Rattle.xa_file_log.proofs.Appending.{same_records, no_more, one_more, none_more, both_runs, shows_records}
 use Rattle.xa_file_log.proofs.Moments.{weaker}
 use Rattle.xa_file_log.proofs.Stands.{stands_shown, settled_shown}
 use Rattle.xa_file_log.proofs.file_log.FileLogDecisionLog.append.Goals as goal
@@ -12,7 +12,7 @@ returns-in_default-clause-refused g c = λ it.
       λ i. record { records = same i; failures = (c.place_for.ensures.failures i + 1) % 2 ^ 64 },
       c.place_for.ensures.known,
       record {
-        any_moment = weaker (before_it c.args.self.now.table.slots.items c.args.decision.now) c.place_for.ensures.any_moment;
+        any_moment = weaker (λ f shown. inl (shows_records c.args.self.now.table.slots.items f shown)) c.place_for.ensures.any_moment;
         forgotten = no_more c.place_for.ensures.slots;
         ready = λ taken. absurd (cc (taken));
         goes_on = λ refused. c.place_for.ensures.goes_on;
@@ -22,9 +22,7 @@ returns-in_default-clause-refused g c = λ it.
 
 pub invariant_of-self-in-Ok : goal.invariant_of-self-in-Ok
 invariant_of-self-in-Ok g c =
-    let same = ap (λ (l : List Slot). table_of (set l c.in-Some.place (Taken c.args.decision.now))) c.deref.ensures.value
-    ∙ sym (ap table_of c.take.ensures) in
-    let settled = subst (λ t. IsSettled g.D.Device.seen g.D.Device.may_leave t c.write_record.new.device) same c.in-Ok.ensures.logged in
+    let settled = rw (c.deref.ensures.value, ← c.take.ensures) at c.in-Ok.ensures.logged in
     record { ready = λ is. settled; known = λ known. settled_shown c.take.new.self.slots.items settled }
 
 pub invariant_of-self-in-Err-Refused : goal.invariant_of-self-in-Err-Refused

@@ -1,9 +1,8 @@
-use Rattle.xa_base.proofs.{arith, refl, ◌∙◌, ap}
+use Rattle.xa_base.proofs.{arith, refl}
 use Rattle.xa_words.specs.{tran_eq}
-use Rattle.xa_file_log.specs.{records_in}
-use Rattle.xa_file_log.proofs.Index.{index_apart}
-use Rattle.xa_file_log.proofs.Gates.{forgets_shown}
-use Rattle.xa_file_log.proofs.Slotwise.{records_without, forgets_on_file, forgets_its_own}
+use Rattle.xa_file_log.proofs.Places.{index_apart}
+use Rattle.xa_file_log.proofs.Stands.{forgets_shown}
+use Rattle.xa_file_log.proofs.Tables.{records_without, forgets_on_file, forgets_its_own}
 use Rattle.xa_file_log.proofs.file_log.FileLogDecisionLog.forget.Goals as goal
 
 pub invariant_of-self : goal.invariant_of-self

@@ -1,9 +1,8 @@
-use Rattle.xa_base.proofs.{arith, refl, ◌∙◌, ap, not}
+use Rattle.xa_base.proofs.{arith, not}
 use Rattle.xa_log.specs.{is_among}
-use Rattle.xa_file_log.specs.{records_in}
-use Rattle.xa_file_log.proofs.Index.{index_apart}
-use Rattle.xa_file_log.proofs.Gates.{forgets_shown}
-use Rattle.xa_file_log.proofs.Slotwise.{records_only, forgets_on_file, forgets_its_own}
+use Rattle.xa_file_log.proofs.Places.{index_apart}
+use Rattle.xa_file_log.proofs.Stands.{forgets_shown}
+use Rattle.xa_file_log.proofs.Tables.{records_only, forgets_on_file, forgets_its_own}
 use Rattle.xa_file_log.proofs.file_log.FileLogDecisionLog.keep_only.Goals as goal
 
 pub invariant_of-self : goal.invariant_of-self

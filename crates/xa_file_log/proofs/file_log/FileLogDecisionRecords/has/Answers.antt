@@ -1,9 +1,7 @@
-use Rattle.xa_base.proofs.{arith, ◌≡◌, ℕ, None, get_or, refl, sym, ◌∙◌, subst, get_or_default}
-use Rattle.xa_file_log.specs.{Free, Taken, taken}
-use Rattle.xa_file_log.proofs.Index.{index_apart, one_place}
-use Rattle.xa_file_log.proofs.Slotwise.{counted_found, not_counted}
-use Rattle.xa_file_log.proofs.Mapped.{slot_indexed}
-use Rattle.xa_file_log.proofs.Forgetting.{not_taken}
+use Rattle.xa_base.proofs.{arith, sym, get_or_default}
+use Rattle.xa_file_log.specs.{Taken}
+use Rattle.xa_file_log.proofs.Places.{index_apart, one_place, slot_indexed, not_taken}
+use Rattle.xa_file_log.proofs.Tables.{counted_found, not_counted}
 use Rattle.xa_file_log.proofs.file_log.FileLogDecisionRecords.has.Goals as goal
 
 pub returns-in_err-place : goal.returns-in_err-place

@@ -1,10 +1,9 @@
-use Rattle.xa_base.proofs.{◌≡◌, inl, inr, ⊎_elim, ◌<◌, ◌+◌, ◌%◌, ◌^◌, List, length, refl, sym, ◌∙◌, ap, subst, arith, none_of}
-use Rattle.std.proofs.lemmas.Bool.Decides.{Decides-eqb}
+use Rattle.xa_base.proofs.{◌≡◌, inl, inr, ⊎_elim, ◌<◌, ◌+◌, ◌%◌, ◌^◌, List, length, refl, sym, ◌∙◌, ap, subst, arith, none_of, Decides-eqb}
 use Rattle.xa_log.specs.{with_records}
-use Rattle.xa_file_log.specs.{Slot, ForgetsNoMore, StandsFor, IsSettled, AreNewNames, log_state, placed, table_of, records_in}
+use Rattle.xa_file_log.specs.{Slot, AreNewNames, log_state, records_in}
 use Rattle.xa_file_log.proofs.Appending.{same_records, no_more}
-use Rattle.xa_file_log.proofs.Grouped.{before_group, failures_stay, all_in, none_more_forgotten, group_runs}
-use Rattle.xa_file_log.proofs.Index.{index_apart}
+use Rattle.xa_file_log.proofs.Grouped.{before_group, failures_stay, none_more_forgotten, group_runs, grouped}
+use Rattle.xa_file_log.proofs.Places.{index_apart}
 use Rattle.xa_file_log.proofs.Moments.{started, weaker}
 use Rattle.xa_file_log.proofs.Stands.{stands_shown, settled_shown}
 use Rattle.xa_file_log.proofs.group_log.FileLogGroupLog.append_all.Goals as goal
@@ -43,14 +42,14 @@ returns-then-not-makes_room_for-clause-refused g c = λ it.
 
 pub write_records-requires-clause-new : goal.write_records-requires-clause-new
 write_records-requires-clause-new g c =
-    let together = all_in c.makes_room_for.ensures.slots c.args.self.now.failures (c.makes_room_for.ensures.room c.if-not-makes_room_for.false)
-    (index_apart c.makes_room_for.new.self.table.indexed) c.requires.new (c.makes_room_for.ensures.unnamed c.if-not-makes_room_for.false) in
+    let together = grouped c.args.decisions.now c.makes_room_for.new.self.table.slots.items (log_state c.args.self.now.table.slots.items c.args.self.now.failures)
+    (c.makes_room_for.ensures.room c.if-not-makes_room_for.false) (index_apart c.makes_room_for.new.self.table.indexed)
+    (same_records c.makes_room_for.ensures.slots) c.requires.new (c.makes_room_for.ensures.unnamed c.if-not-makes_room_for.false) in
     subst (λ (l : List Slot). AreNewNames l c.args.decisions.now) (sym c.deref.ensures.value) together.apart
 
 pub invariant_of-self-in-Ok : goal.invariant_of-self-in-Ok
 invariant_of-self-in-Ok g c =
-    let same = ap (λ (l : List Slot). table_of (placed l c.args.decisions.now)) c.deref.ensures.value ∙ sym (ap table_of c.take_all.ensures) in
-    let settled = subst (λ t. IsSettled g.D.Device.seen g.D.Device.may_leave t c.write_records.new.device) same c.in-Ok.ensures.logged in
+    let settled = rw (c.deref.ensures.value, ← c.take_all.ensures) at c.in-Ok.ensures.logged in
     record { ready = λ is. settled; known = λ known. settled_shown c.take_all.new.self.slots.items settled }
 
 pub invariant_of-self-in-Err-Refused : goal.invariant_of-self-in-Err-Refused
@@ -58,8 +57,9 @@ invariant_of-self-in-Err-Refused g c = search (arith, stands_shown, c.makes_room
 
 pub returns-in-Ok-clause-appended : goal.returns-in-Ok-clause-appended
 returns-in-Ok-clause-appended g c =
-    let together = all_in c.makes_room_for.ensures.slots c.args.self.now.failures (c.makes_room_for.ensures.room c.if-not-makes_room_for.false)
-    (index_apart c.makes_room_for.new.self.table.indexed) c.requires.new (c.makes_room_for.ensures.unnamed c.if-not-makes_room_for.false) in
+    let together = grouped c.args.decisions.now c.makes_room_for.new.self.table.slots.items (log_state c.args.self.now.table.slots.items c.args.self.now.failures)
+    (c.makes_room_for.ensures.room c.if-not-makes_room_for.false) (index_apart c.makes_room_for.new.self.table.indexed)
+    (same_records c.makes_room_for.ensures.slots) c.requires.new (c.makes_room_for.ensures.unnamed c.if-not-makes_room_for.false) in
     let records = ap records_in c.take_all.ensures ∙ together.records in
     let failures = c.makes_room_for.ensures.failures
     ∙ sym (failures_stay (log_state c.args.self.now.table.slots.items c.args.self.now.failures) c.args.decisions.now) in (
@@ -94,9 +94,7 @@ pub returns-in-Err-Unknown-clause-unknown : goal.returns-in-Err-Unknown-clause-u
 returns-in-Err-Unknown-clause-unknown g c = λ it. (
   λ known. known refl,
   record {
-    any_moment =
-        group_runs c.makes_room_for.ensures.slots (index_apart c.makes_room_for.new.self.table.indexed) c.deref.ensures.value
-        c.makes_room_for.ensures.any_moment c.write_records.ensures.any_moment;
+    any_moment = search (arith, group_runs, index_apart, c.makes_room_for.ensures.slots, c.makes_room_for.ensures.any_moment);
     cause = omega (arith, c.makes_room_for.ensures.faults, c.in-Err-Unknown.ensures.cause refl);
   },
 )

@@ -1,6 +1,6 @@
-use Rattle.xa_base.proofs.{[], ◌∷◌, ◌++◌, Bool, cond, ◌∙◌, ap, arith}
+use Rattle.xa_base.proofs.{[], ◌∷◌, ◌++◌, ◌∙◌, ap, arith}
 use Rattle.xa_file_log.specs.{Call}
-use Rattle.xa_file_log.proofs.Elapsing.{leaves_to, elapses_to, failures_to, writing_follows, writing_failed}
+use Rattle.xa_file_log.proofs.Moments.{leaves_to, elapses_to, failures_to, writing_follows, writing_failed}
 use Rattle.xa_file_log.proofs.mirrored.MirroredDevice.write_at.Goals as goal
 
 pub returns-then-ok-clause-crash : goal.returns-then-ok-clause-crash

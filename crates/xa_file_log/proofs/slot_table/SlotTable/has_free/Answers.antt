@@ -1,9 +1,7 @@
-use Rattle.xa_base.proofs.{rules, ◌<◌, length, get_or, ap, ◌∙◌, arith, get_or_default}
-use Rattle.xa_file_log.specs.{Free}
-use Rattle.xa_file_log.proofs.Used.{weight, weighs, used_next, none_free_used, room_for}
-use Rattle.xa_file_log.proofs.Mapped.{slot_indexed}
-use Rattle.xa_file_log.proofs.slot_table.SlotTable.has_free.Goals as goal
+use Rattle.xa_base.proofs.{arith, get_or_default}
+use Rattle.xa_file_log.proofs.Places.{used_next, none_free_used, room_for, slot_indexed}
 use Rattle.xa_file_log.proofs.slot_table.SlotTable.has_free.Goals.{in-Free, in_default}
+use Rattle.xa_file_log.proofs.slot_table.SlotTable.has_free.Goals as goal
 
 pub loop-place-init : goal.loop-place-init
 loop-place-init c = search (arith, none_free_used)

@@ -1,8 +1,7 @@
 use Rattle.xa_base.proofs.{◌+◌, List, length, set, drop, sym, ◌∙◌, ap, subst, arith, length-drop, length-set, drop_all}
 use Rattle.xa_file_log.specs.{Slot, Taken, AreApart, HasNoName, placed, table_of, used}
-use Rattle.xa_file_log.proofs.Grouped.{first_is_new, placed_first}
-use Rattle.xa_file_log.proofs.Used.{used_set, all_used}
-use Rattle.xa_file_log.proofs.Placed.{records_left, none_filled}
+use Rattle.xa_file_log.proofs.Grouped.{first_is_new, placed_first, records_left, none_filled}
+use Rattle.xa_file_log.proofs.Places.{used_set, all_used}
 use Rattle.xa_file_log.proofs.slot_table.SlotTable.take_all.Goals as goal
 
 pub returns-in_default : goal.returns-in_default

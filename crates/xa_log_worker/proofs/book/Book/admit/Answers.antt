@@ -1,6 +1,6 @@
 use Rattle.xa_base.proofs.{arith, is_missing}
 use Rattle.xa_log_worker.proofs.Moves.{moves_push}
-use Rattle.xa_log_worker.proofs.News.{new_push}
+use Rattle.xa_log_worker.proofs.Deeds.{new_push}
 use Rattle.xa_log_worker.proofs.book.Book.admit.Goals as goal
 
 pub returns-else-is_some-clause-new : goal.returns-else-is_some-clause-new

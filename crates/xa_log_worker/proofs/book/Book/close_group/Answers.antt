@@ -1,7 +1,6 @@
 use Rattle.xa_base.proofs.{arith, ap, map, ◌∙◌}
 use Rattle.xa_log_worker.specs.{as_waiting}
-use Rattle.xa_log_worker.proofs.Groups.{answered_places}
-use Rattle.xa_log_worker.proofs.Moves.{moves_settled}
+use Rattle.xa_log_worker.proofs.Moves.{answered_places, moves_settled}
 use Rattle.xa_log_worker.proofs.book.Book.close_group.Goals as goal
 
 pub send_all-requires : goal.send_all-requires
