@@ -1,8 +1,6 @@
 -- The managers of a commit are numbers, one word after another.
 use Rattle.xa_base.proofs.{arith, ◌≡◌, ◌==◌, ℕ, Bool, true, false, ◌&&◌, ◌||◌, nat_lt, nat_le, if◌then◌else◌, List, [], ◌∷◌, Option, Some, None, Result, Ok}
-use Rattle.xa_base.proofs.{Err, refl, ap, and_parts}
-use Rattle.std.specs.Prelude.{codes}
-use Rattle.std.specs.Str.{bytes_eq}
+use Rattle.xa_base.proofs.{Err, refl, ap, and_parts, codes, bytes_eq}
 use Rattle.std.proofs.Math.Bool.{or_assoc}
 use Rattle.xa_words.specs.{Death, is_in, set_of, with_manager}
 use Rattle.xa_grammar.specs.{Reason, BadBranches, Named, Word, number_in, number_at, are_rising, is_named, death_at, managers_to_end, managers_at}
@@ -44,30 +42,29 @@ pub no_first_number : (count : ℕ) (ws : List Word) (why : Reason) → number_a
 unfolding branches_at managers_at
 no_first_number count ws why e = rw e refl
 
--- The next word is a number, and the others go on.
-pub next_number : (w : Word) (rest : List Word) (m : ℕ) (f g : List ℕ → Result (List Bool) Reason) → bytes_eq w (codes "dies") ≡ false
-    → number_in 0 4294967295 w ≡ Ok m → ((ms : List ℕ) → g ms ≡ f (m ∷ ms))
-    → (managers_to_end rest >>= with_death g) ≡ (managers_to_end (w ∷ rest) >>= with_death f)
-unfolding managers_to_end
-next_number w rest m f g lives e same = search (arith, alike, on_top)
+-- The next word of those that are left.
+module _ (words rest : List Word) (w : Word) (f : List ℕ → Result (List Bool) Reason) (all : Result Branches Reason)
+    (so_far : (managers_to_end words >>= with_death f) ≡ all) (next : words ≡ w ∷ rest) where
+  -- It is a number, and the others go on.
+  pub next_number : bytes_eq w (codes "dies") ≡ false → (m : ℕ) (g : List ℕ → Result (List Bool) Reason) → number_in 0 4294967295 w ≡ Ok m
+      → ((ms : List ℕ) → g ms ≡ f (m ∷ ms)) → (managers_to_end rest >>= with_death g) ≡ all
+  unfolding managers_to_end
+  next_number lives m g e same = search (arith, alike, on_top)
 
--- Or it is a fault.
-pub no_next_number : (w : Word) (rest : List Word) (why : Reason) (f : List ℕ → Result (List Bool) Reason) → bytes_eq w (codes "dies") ≡ false
-    → number_in 0 4294967295 w ≡ Err why → (managers_to_end (w ∷ rest) >>= with_death f) ≡ Err why
-unfolding managers_to_end
-no_next_number w rest why f lives e = rw (lives, e) refl
+  -- Or it is a fault.
+  pub no_next_number : bytes_eq w (codes "dies") ≡ false → (why : Reason) → number_in 0 4294967295 w ≡ Err why → Err why ≡ all
+  unfolding managers_to_end
+  no_next_number lives why e = rw (next, lives, e) at so_far
 
--- The next word is `dies`, and the point comes after it.
-pub dies_so : (w : Word) (rest : List Word) (death : Death) (f : List ℕ → Result (List Bool) Reason) → bytes_eq w (codes "dies") ≡ true
-    → death_at rest ≡ Ok death → (managers_to_end (w ∷ rest) >>= with_death f) ≡ (f [] >>= λ managers. Ok (managers, Some death))
-unfolding managers_to_end
-dies_so w rest death f dies e = rw (dies, e) refl
+  -- It is `dies`, and the point comes after it.
+  pub dies_so : bytes_eq w (codes "dies") ≡ true → (death : Death) → death_at rest ≡ Ok death → (f [] >>= λ managers. Ok (managers, Some death)) ≡ all
+  unfolding managers_to_end
+  dies_so dies death e = rw (next, dies, e) at so_far
 
--- Or a fault comes after it.
-pub dies_nowhere : (w : Word) (rest : List Word) (why : Reason) (f : List ℕ → Result (List Bool) Reason) → bytes_eq w (codes "dies") ≡ true
-    → death_at rest ≡ Err why → (managers_to_end (w ∷ rest) >>= with_death f) ≡ Err why
-unfolding managers_to_end
-dies_nowhere w rest why f dies e = rw (dies, e) refl
+  -- Or a fault comes after it.
+  pub dies_nowhere : bytes_eq w (codes "dies") ≡ true → (why : Reason) → death_at rest ≡ Err why → Err why ≡ all
+  unfolding managers_to_end
+  dies_nowhere dies why e = rw (next, dies, e) at so_far
 
 -- No word is left.
 pub no_more_numbers : (f : List ℕ → Result (List Bool) Reason) → (managers_to_end [] >>= with_death f) ≡ (f [] >>= λ managers. Ok (managers, None))

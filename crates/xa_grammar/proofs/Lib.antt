@@ -1,13 +1,4 @@
-pub mod Splits
-pub mod Numbers
 pub mod Lines
-pub mod Bytes
-pub mod Blocks
-pub mod Plain
 pub mod CommitLemmas
-pub mod FoundLemmas
-pub mod ScriptLemmas
-pub mod OneOpening
-pub mod Names
-pub mod Taken
-pub mod OwnTasks
+pub mod Scripts
+pub mod StepLemmas

@@ -69,7 +69,7 @@ fn head_of(word: &[u8]) -> Option<Head>
 }
 
 // Takes the words of the line of this number.
-#[tactic(auto, unfolding(crate::specs::Grammar::item_by))]
+#[tactic(auto, using(crate::proofs::Scripts::kept_rules), unfolding(crate::specs::Grammar::item_by))]
 fn take_words(
     script: &mut Script,
     threads_mode: bool,
@@ -268,6 +268,7 @@ impl Reading {
     }
 
     // Takes a part of a line, whose line feed is still to come.
+    #[tactic(auto, using(crate::proofs::Lines::too_many, crate::proofs::Lines::too_long))]
     fn take_part(&mut self, part: &[u8]) -> Result<(), ScriptFault>
         requires { HasNoEnd part.now }
         ensures ok { OnOk result (HasTaken self.old self.new part.now) }
@@ -289,6 +290,7 @@ impl Reading {
     }
 
     // Takes the line feed after a line that came in parts.
+    #[tactic(auto, using(crate::proofs::Scripts::line_rules))]
     fn end_line(&mut self) -> Result<(), ScriptFault>
         ensures ok { OnOk result (HasTaken self.old self.new (line_feed ∷ [])) }
         ensures err { IfErr result (FailsOn self.old (line_feed ∷ [])) }

@@ -311,6 +311,7 @@ impl Script {
     }
 
     /// Adds what a thread does on the line of this number.
+    #[tactic(auto, using(crate::proofs::Scripts::step_kept))]
     pub(crate) fn add_task(
         &mut self,
         line: u32,

@@ -397,6 +397,7 @@ impl Tasks {
     }
 
     /// How many there are.
+    #[tactic(auto, using(xa_base::proofs::arc_value, crate::proofs::StepLemmas::as_many_places))]
     pub fn len(&self) -> usize
         ensures { result ≡ length self.now }
     {

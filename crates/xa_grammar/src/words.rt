@@ -45,6 +45,7 @@ impl<'a> Words<'a> {
     }
 
     // Whether they are those of a comment. The end of its first word isn't looked for.
+    #[tactic(auto, using(crate::proofs::Lines::are_comment_words))]
     pub(crate) fn are_comment(&self) -> bool
         ensures { result ≡ are_comment self.now }
     {
@@ -139,7 +140,7 @@ fn is_space(b: u8) -> bool
 }
 
 // The line after the spaces at its front.
-#[tactic(auto, using(crate::proofs::Splits::words_of_space, crate::proofs::Plain::plain_rest))]
+#[tactic(auto, using(crate::proofs::Lines::words_of_space, crate::proofs::Lines::plain_rest))]
 fn without_spaces(line: &[u8]) -> &[u8]
     ensures words { words_of result.now ≡ words_of line.now }
     ensures word { starts_blank result.now ≡ true → result.now ≡ [] }
@@ -153,7 +154,7 @@ fn without_spaces(line: &[u8]) -> &[u8]
 }
 
 // How many bytes stand in front of the first space. Of the bytes that a script may have, spaces are the least.
-#[tactic(auto, using(crate::proofs::Plain::no_space, crate::proofs::Plain::plain_blank))]
+#[tactic(auto, using(crate::proofs::Lines::no_space, crate::proofs::Lines::plain_blank))]
 fn word_len(line: &[u8]) -> usize
     requires { IsPlain line.now }
     ensures fits { result ≤ length line.now }

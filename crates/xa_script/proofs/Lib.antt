@@ -1,14 +1,3 @@
-pub mod WorkersOn
-pub mod Kept
-pub mod Faults
-pub mod EachThread
-pub mod EndLines
-pub mod Members
+pub mod EachStep
 pub mod Runs
-pub mod Pieces
-pub mod Tellings
-pub mod Parts
-pub mod Reopened
-pub mod Reached
-pub mod Closed
-pub mod DesksEnd
+pub mod Openings

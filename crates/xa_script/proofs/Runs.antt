@@ -1,31 +1,51 @@
--- What the threads and the managers of a run have come to, in turns and in threads.
-use Rattle.xa_base.proofs.{◌≡◌, ◌≢◌, ℕ, ◌+◌, List, [], length, map, Some, sym, refl, ◌∙◌, ap, subst, arith, ◌++◌, append-nil, slice_get, All, flat_map}
-use Rattle.xa_base.proofs.{length-map, filter-append, got_map, slice_get_within, was_mapped, flat_one, flat_none, some_same, got}
-use Rattle.xa_desk.specs.{EndedView, DeskSeat}
+-- The desks and the workers of a run in turns are all those of its opening.
+use Rattle.xa_command.specs.declared.mode.Mode.TheVariants as mode
+use Rattle.xa_base.proofs.{List, [], map, ◌∙◌, subst, sym, arith, length-map, slice_get_within, got, was_mapped, ◌≡◌, ◌≢◌, ℕ, ◌+◌, length, Some, refl, ap, ◌++◌}
+use Rattle.xa_base.proofs.{append-nil, slice_get, All, flat_map, filter-append, got_map, flat_one, flat_none, some_same, append_assoc}
+use Rattle.xa_desk.specs.{DeskView, EndedView, GoesOn, DeskSeat}
 use Rattle.xa_worker.specs.{WorkerView, Served}
-use Rattle.xa_grammar.specs.{ScriptTask, ScriptStep, tasks_of, Fits, threads_of, managers_of, Content}
-use Rattle.xa_base.specs.{Chain}
+use Rattle.xa_grammar.specs.{ScriptStep, tasks_of, Content, Fits, threads_of, managers_of}
+use Rattle.xa_base.specs.{Chain, Pairwise}
 use Rattle.xa_base.specs.Lists.Chain.{none, more}
-use Rattle.xa_crew.specs.{EndsDesk, Member, all_go_on}
+use Rattle.xa_crew.specs.{HasGone, ArePiecesOf, EndsDesk, Member, HasServed}
 use Rattle.xa_transcript.specs.{Told, all_ended}
-use Rattle.xa_session.specs.{Session, ScriptThread, new_session, HasDone}
-use Rattle.xa_telling.specs.{AreOpened, answers_to, ends_of, is_end_of, is_to, Beginning, BeginsAs, Comes, Ran}
-use Rattle.xa_telling.proofs.Opened.{opened_thread}
-use Rattle.xa_telling.proofs.Tasks.{tasks_are_of}
-use Rattle.xa_script.specs.{HasWorked, TurnsAt, Closing, turns_at, closing_of}
+use Rattle.xa_session.specs.{HasDone, Session, ScriptThread, new_session}
+use Rattle.xa_telling.specs.{Beginning, answers_to, Comes, Ran, AreOpened, ends_of, is_end_of, is_to, BeginsAs}
+use Rattle.xa_telling.proofs.Opened.{opened_thread, along, tasks_are_of}
+use Rattle.xa_script.specs.{HasWorked, TurnsAt, Closing, turns_at, closing_of, HasEndedDesk, HaveEnded, HasCome, Goes}
 use Rattle.xa_script.specs.InThreads.{InThreads}
 use Rattle.xa_script.specs.InTurns.{InTurns}
 use Rattle.xa_crew.proofs.WorkersOn.{all_served}
-use Rattle.xa_script.proofs.WorkersOn.{run_goes, ends_go, run_count}
-use Rattle.xa_script.proofs.EachThread.{Went, run_went, run_silent, Ending, ended_by, Closes, closes, ended_tell, ends_silent, told_all, told_none, told}
-use Rattle.xa_script.proofs.EndLines.{ends_all, ends_other, tasks_no_end, steps_no_end}
+use Rattle.xa_script.proofs.EachStep.{run_goes, ends_go, run_count, Went, run_went, run_silent, Ending, ended_by, Closes, closes, ended_tell, ends_silent}
+use Rattle.xa_script.proofs.EachStep.{told_all, told_none, told, ends_all, ends_other, tasks_no_end, steps_no_end}
+use Rattle.xa_switch.specs.{Setup, IsSettled, settling, IsOf, Settling}
 
--- ---- a thread's number
+module _ (same : (d : DeskView) → GoesOn d d) (further : (old mid new : DeskView) → GoesOn old mid → GoesOn mid new → GoesOn old new) where
+  has_gone : (steps : List ScriptStep) (answers : List Told) (x y : Session) (e : EndedView) → Comes steps answers x y e → HasGone x.desk e
+  has_gone steps answers x y e c = record {
+    last = c.ends.emptied;
+    goes_on = further x.desk y.desk c.ends.emptied (along (λ (z : Session × List Told). GoesOn x.desk z.0.desk) (x, []) _ (y, answers_to x.desk.thread answers) c.runs (λ _ now next is so_far. further x.desk now.0.desk next.0.desk so_far is.does.goes_on) (same x.desk)) c.ends.goes_on;
+    ends = c.ends.ends;
+  }
 
-tasks_thread : (first : Session × List Told) (tasks : List ScriptTask) (last : Session × List Told) → Chain HasDone first tasks last
-    → last.0.desk.thread ≡ first.0.desk.thread
-tasks_thread first tasks last (none xs l e f) = ap (λ (x : Session × List Told). x.0.desk.thread) f
-tasks_thread first tasks last (more xs x now l before is) = ap (λ (p : DeskSeat). p.thread) is.does.goes_on.seat ∙ tasks_thread first xs now before
+  pub pieces_of : (s : Content) (b : Beginning) (steps : List ScriptStep) (answers : List Told) (sessions left : List Session) (workers : List WorkerView) (ended : List EndedView) (done : List Served) (r : Ran s b steps answers sessions left workers ended done)
+      → ArePiecesOf r.opened.setup ended done
+  pieces_of s b steps answers sessions left workers ended done r = record {
+    desks = map (λ (x : Session). x.desk) sessions;
+    workers = workers;
+    limits = r.opened.said.limits;
+    opened = r.opened.opened;
+    gone = record {
+      as_many = r.many_ended ∙ sym (length-map sessions (λ (x : Session). x.desk));
+      each = λ k d e at at_e.
+          let x = was_mapped (λ (x : Session). x.desk) sessions k d at in
+          let y = got left k (omega (arith, slice_get_within ended k e at_e, r.many_ended, r.many_left)) in
+          subst (λ (v : DeskView). HasGone v e) x.2 (has_gone steps answers x.0 y.0 e (r.threads k x.0 y.0 e x.1 y.1 at_e));
+    };
+    served = r.managers;
+  }
+
+-- ---- What the threads and the managers of a run have come to, in turns and in threads
 
 -- ---- in turns
 
@@ -64,20 +84,22 @@ module _ (s : Content) (b : Beginning) (steps : List ScriptStep) (sessions : Lis
     ending_number k z at =
         let there = session_at k z at in
         let within = slice_get_within runs.ran.stage.sessions k z.0 there in
-        let many = many_sessions in
-        let x = got sessions k (omega (arith, within, many)) in
+        let x = got sessions k (omega (arith, within, many_sessions)) in
         let w = went k x.0 x.1 in
         let same : w.last ≡ z.0 = some_same w.last z.0 (sym w.at ∙ there) in
         ap (λ (x : Session). x.desk.thread) (sym same)
-        ∙ tasks_thread (x.0, []) (tasks_of (k + 1) steps) (w.last, answers_to (k + 1) runs.ran.answers) w.runs
+        ∙ along (λ (z : Session × List Told). z.0.desk.thread ≡ x.0.desk.thread) (x.0, []) _ (w.last, answers_to (k + 1) runs.ran.answers) w.runs (λ _ _ _ is same. ap (λ (p : DeskSeat). p.thread) is.does.goes_on.seat ∙ same) refl
         ∙ thread_at k x.0 x.1
 
-    -- the lines of what was outstanding
+    -- the lines of what was outstanding are told as the desks end
+    ends_are : (t : ℕ) → ends_of t runs.closed.answers ≡ ends_of t (flat_map ended_by ended_all.endings)
+    ends_are t =
+        ap (ends_of t) ended_all.told ∙ filter-append (is_end_of t) runs.ran.answers (flat_map ended_by ended_all.endings)
+        ∙ ap (λ l. l ++ ends_of t (flat_map ended_by ended_all.endings)) (steps_no_end t first refl steps runs.ran runs.runs)
+
     ends_told : (k : ℕ) (z : Ending) → slice_get ended_all.endings k ≡ Some z → ends_of (k + 1) runs.closed.answers ≡ all_ended (k + 1) z.1
     ends_told k z at =
-        ap (ends_of (k + 1)) ended_all.told
-        ∙ filter-append (is_end_of (k + 1)) runs.ran.answers (flat_map ended_by ended_all.endings)
-        ∙ ap (λ l. l ++ ends_of (k + 1) (flat_map ended_by ended_all.endings)) (steps_no_end (k + 1) first refl steps runs.ran runs.runs)
+        ends_are (k + 1)
         ∙ flat_one (is_end_of (k + 1)) ended_by ended_all.endings k z at (λ j y differs at_y. ends_other (k + 1) y.0.desk.thread (λ e. let number = ending_number j y at_y in differs (omega (arith, e, number))) y.1)
         ∙ ap (λ (n : ℕ). ends_of (k + 1) (all_ended n z.1)) (ending_number k z at)
         ∙ ends_all (k + 1) z.1
@@ -97,8 +119,7 @@ module _ (s : Content) (b : Beginning) (steps : List ScriptStep) (sessions : Lis
         let w = went k x at in
         let last : w.last ≡ y = some_same w.last y (sym w.at ∙ ap (λ l. slice_get l k) (sym runs.left_are) ∙ at_y) in
         let within = slice_get_within runs.closed.ended k e at_e in
-        let many = ended_all.ended.as_many in
-        let z = got ended_all.endings k (omega (arith, within, many)) in
+        let z = got ended_all.endings k (omega (arith, within, ended_all.ended.as_many)) in
         let same : z.0.0 ≡ w.last = some_same z.0.0 w.last (sym (session_at k z.0 z.1) ∙ w.at) in
         let end : EndsDesk z.0.0.desk [] e z.0.1 = ended_all.ended.each k z.0 e z.1 at_e in
         record {
@@ -107,7 +128,7 @@ module _ (s : Content) (b : Beginning) (steps : List ScriptStep) (sessions : Lis
               (subst (λ (v : Session). Chain HasDone (x, []) (tasks_of (k + 1) steps) (v, answers_to (k + 1) runs.closed.answers)) last
               (subst (λ (l : List Told). Chain HasDone (x, []) (tasks_of (k + 1) steps) (w.last, l)) (sym (answers_told (k + 1))) w.runs));
           outstanding = z.0.1;
-          ends = subst (λ (v : Session). EndsDesk v.desk [] e z.0.1) (same ∙ last) end;
+          ends = rw (same ∙ last) at end;
           told = subst (λ (n : ℕ). ends_of n runs.closed.answers ≡ all_ended n z.0.1) (sym t) (ends_told k z.0 z.1);
         }
 
@@ -116,15 +137,11 @@ module _ (s : Content) (b : Beginning) (steps : List ScriptStep) (sessions : Lis
         → (answers_to t runs.closed.answers ≡ []) × (ends_of t runs.closed.answers ≡ [])
     no_other t none_there silent = (
       answers_told t ∙ run_silent t first refl steps runs.ran runs.runs silent,
-      ap (ends_of t) ended_all.told
-          ∙ filter-append (is_end_of t) runs.ran.answers (flat_map ended_by ended_all.endings)
-          ∙ ap (λ l. l ++ ends_of t (flat_map ended_by ended_all.endings)) (steps_no_end t first refl steps runs.ran runs.runs)
+      ends_are t
           ∙ flat_none (is_end_of t) ended_by ended_all.endings (λ k z at.
           let within = slice_get_within runs.ran.stage.sessions k z.0 (session_at k z at) in
-          let many = many_sessions in
-          let x = got sessions k (omega (arith, within, many)) in
-          let number = thread_at k x.0 x.1 in
-          ends_other t z.0.desk.thread (λ e. none_there k x.0 x.1 (number ∙ sym (ending_number k z at) ∙ e)) z.1),
+          let x = got sessions k (omega (arith, within, many_sessions)) in
+          ends_other t z.0.desk.thread (λ e. none_there k x.0 x.1 ((thread_at k x.0 x.1) ∙ sym (ending_number k z at) ∙ e)) z.1),
     )
 
     all_come : Ran s b steps runs.closed.answers sessions left workers runs.closed.ended done
@@ -137,9 +154,7 @@ module _ (s : Content) (b : Beginning) (steps : List ScriptStep) (sessions : Lis
           ∙ ap (λ (l : List Session). length l) ended_all.sessions_are ∙ many_sessions;
       threads = thread_comes;
       others = no_other;
-      managers =
-          all_served workers runs.closed.workers done
-          (all_go_on workers runs.ran.stage.workers runs.closed.workers (run_goes first steps runs.ran runs.runs) (ends_go closing runs.ran.stage.sessions runs.closed runs.closes)) runs.served;
+      managers = search (arith, all_served, run_goes, ends_go);
     }
 
     -- what a run in turns has come to
@@ -163,9 +178,7 @@ module _ (s : Content) (b : Beginning) (steps : List ScriptStep) (sessions : Lis
     -- what it came to
     worked_at : (k : ℕ) (x : Member ScriptThread) → slice_get threads k ≡ Some x → (y : Session) × (slice_get left k ≡ Some y) × HasWorked s steps x y
     worked_at k x at =
-        let within = slice_get_within threads k x at in
-        let many = runs.worked.as_many in
-        let y = got left k (omega (arith, within, many)) in
+        let y = got left k (omega (arith, slice_get_within threads k x at, runs.worked.as_many)) in
         (y.0, y.1, runs.worked.each k x y.0 at y.1)
 
     -- another thread's answers
@@ -192,9 +205,8 @@ module _ (s : Content) (b : Beginning) (steps : List ScriptStep) (sessions : Lis
         → ends_of x.desk.thread (flat_map told threads) ≡ all_ended x.desk.thread x.attended.outstanding.items
     ends_here k x at =
         let t = x.desk.thread in
-        let own = number_at k x at in
         let has = worked_at k x at in
-        flat_one (is_end_of t) told threads k x at (λ j v differs at_v. ends_elsewhere t j v (λ same. differs (omega (arith, same, own))) at_v)
+        flat_one (is_end_of t) told threads k x at (λ j v differs at_v. ends_elsewhere t j v (λ same. differs (omega (arith, same, number_at k x at))) at_v)
         ∙ ends_by t x has.0 has.2
         ∙ ap (λ (n : ℕ). ends_of t (all_ended n x.attended.outstanding.items)) has.2.own
         ∙ ends_all t x.attended.outstanding.items
@@ -204,8 +216,7 @@ module _ (s : Content) (b : Beginning) (steps : List ScriptStep) (sessions : Lis
     member_comes k x y e at at_y at_e =
         let found = was_mapped (λ (t : Member ScriptThread). new_session s t.desk) threads k x at in
         let m = found.0 in
-        let same_end : m.ended ≡ e =
-        some_same (m.ended) e (sym (got_map (λ (t : Member ScriptThread). t.ended) threads k m found.1) ∙ at_e) in
+        let same_end : m.ended ≡ e = search (arith, some_same, got_map) in
         let has : HasWorked s steps m y = runs.worked.each k m y found.1 at_y in
         let own = number_at k m found.1 in
         let t = m.desk.thread in
@@ -213,12 +224,7 @@ module _ (s : Content) (b : Beginning) (steps : List ScriptStep) (sessions : Lis
         flat_one (is_to t) told threads k m found.1 (λ j v differs at_v. told_elsewhere t j v (λ same. differs (omega (arith, same, own))) at_v)
         ∙ ends_silent t m.attended.client.thread m.attended.client.told m.attended.outstanding.items
         ∙ told_all t (new_session s m.desk, []) refl (tasks_of t steps) (y, m.attended.client.told) has.runs (tasks_are_of t steps) in
-        let comes : Comes steps (flat_map told threads) (new_session s m.desk) y m.ended = record {
-          runs = rw all_told has.runs;
-          outstanding = m.attended.outstanding.items;
-          ends = has.ends;
-          told = ends_here k m found.1;
-        } in
+        let comes : Comes steps (flat_map told threads) (new_session s m.desk) y m.ended = search (arith, all_told, ends_here) in
         subst (λ (v : EndedView). Comes steps (flat_map told threads) x y v) same_end (subst (λ (v : Session). Comes steps (flat_map told threads) v y m.ended) found.2 comes)
 
     all_there : Ran s b steps (flat_map told threads) sessions left workers (map (λ (t : Member ScriptThread). t.ended) threads) done
@@ -242,3 +248,58 @@ module _ (s : Content) (b : Beginning) (steps : List ScriptStep) (sessions : Lis
     -- what a run in threads has come to
     pub threads_ran : Ran s b steps answers sessions left workers ended done
     threads_ran = rw (runs.answered, runs.ended_are) all_there
+
+-- ---- An opening in turns that ends: its answers are its own, whatever stood before them
+
+-- what desks tell as they end comes after any answers
+pub ends_own : (workers : List WorkerView) (all told : List Told) (sessions : List Session) (now : Closing)
+    → Chain HasEndedDesk (closing_of [] workers all) sessions now
+    → (later : List Told) × (now.answers ≡ all ++ later) × Chain HasEndedDesk (closing_of [] workers told) sessions (closing_of now.ended now.workers (told ++ later))
+ends_own workers all told sessions now (none xs last e f) = (
+  [],
+  ap (λ (c : Closing). c.answers) f ∙ sym (append-nil all),
+  none xs (closing_of last.ended last.workers (told ++ [])) e (λ i. closing_of ((f i).ended) ((f i).workers) (append-nil told i)),
+)
+ends_own workers all told sessions now (more xs x mid last before is) =
+    let h = ends_own workers all told xs mid before in
+    let line = all_ended x.desk.thread is.outstanding in (
+      h.0 ++ line,
+      is.told ∙ ap (λ l. l ++ line) h.1 ∙ append_assoc all h.0 line,
+      more xs x (closing_of mid.ended mid.workers (told ++ h.0)) (closing_of last.ended last.workers (told ++ (h.0 ++ line))) h.2
+          (record { view = is.view; outstanding = is.outstanding; ends = is.ends; ended = is.ended; told = sym (append_assoc told h.0 line); turns = is.turns }),
+    )
+
+module _ (s : Content) (b : Beginning) (steps : List ScriptStep) (told : List Told) (sessions : List Session) (workers : List WorkerView)
+    (g : Goes s b steps told sessions workers)
+    (all : List Told) (ended : List EndedView) (workers' : List WorkerView) (all' : List Told) (done : List Served) (closes : HaveEnded (closing_of [] workers all) sessions (closing_of ended workers' all')) (served : Pairwise HasServed workers' done) where
+  -- what is told as the desks end
+  abbrev pub later : List Told
+  later = (ends_own workers all told sessions (closing_of ended workers' all') closes).0
+
+  pub all_told : all' ≡ all ++ later
+  all_told = (ends_own workers all told sessions (closing_of ended workers' all') closes).1
+
+  pub in_turns : InTurns steps g.first sessions g.first_workers ended done (told ++ later)
+  in_turns = search (arith, ends_own)
+
+  pub has_run : Ran s b steps (told ++ later) g.first sessions g.first_workers ended done
+  has_run = turns_ran s b steps g.first g.first_workers g.is_open.opened g.is_open.begins g.fits sessions ended done (told ++ later) in_turns
+
+  -- once it is settled
+  pub comes : ((d : DeskView) → GoesOn d d) → ((old mid new : DeskView) → GoesOn old mid → GoesOn mid new → GoesOn old new) → (settled : Settling)
+      → settled ≡ settling ended done → IsSettled settled → ((p : Setup) → ArePiecesOf p ended done → IsOf p settled)
+      → HasCome mode.Turns s b (record { steps = steps; answers = told ++ later; settled = settled }) sessions
+  comes same further settled settles agree of =
+      let r = has_run in
+      record {
+        sessions = g.first;
+        workers = g.first_workers;
+        ended = ended;
+        done = done;
+        runs = in_turns;
+        ran = r;
+        settles = settles;
+        number = (of r.opened.setup (pieces_of same further s b steps (told ++ later) g.first sessions g.first_workers ended done r)).opening
+            ∙ r.opened.said.numbers.opening_;
+        agree = agree;
+      }

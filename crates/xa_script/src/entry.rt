@@ -139,6 +139,7 @@ fn show<H: Threads + Wait + Copy + Send + 'static, R: Read, W: Write>(
 }
 
 // Judges the words, and only then reads the script and runs it.
+#[tactic(auto, using(std::proofs::lemmas::Result::on_ok_weaker))]
 fn carry_out<H: Threads + Wait + Copy + Send + 'static, R: Read, W: Write>(
     rt: &H,
     alloc: Global,

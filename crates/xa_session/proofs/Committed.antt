@@ -6,7 +6,6 @@ use Rattle.xa_log.specs.{LosesTo, LosingLog}
 use Rattle.xa_grammar.specs.{CommitAll}
 use Rattle.xa_transcript.specs.declared.answer.Answer.TheVariants as answer
 use Rattle.xa_session.specs.{Session, CanCommit, CommitsAll, branch_at, branches_of, comes_to_decide, named}
-use Rattle.xa_session.specs.Committing.CommitsAll.{undecided}
 
 -- all branches of a commit are of its transaction
 pub of_tran : (c : CommitAll TranName) (ms : List ℕ) → IsTranOf (map (branch_at c) ms) (named c)
@@ -24,9 +23,4 @@ pub was_lost : (c : CommitAll TranName) (bs : List Branch) (old new : Session) (
     → GoesAsRound (map first_ask bs) old.desk new.desk → KeepsTheRest old.desk new.desk → new.scan ≡ old.scan
     → CommitsAll c old new (answer.Undecided votes)
 was_lost c bs old new votes is comes can voted unknown round keeps scan =
-    undecided votes comes can
-    (subst (λ (l : List Branch). HasVoted l old.desk.ledgers new.desk.ledgers votes.items) is voted)
-    scan keeps.keeps keeps.free refl
-    (subst (λ (l : List Branch). GoesAsRound (map first_ask l) old.desk new.desk) is round)
-    (subst (λ (l : List Branch). IsUnknown (λ (l : LosingLog). l.is_lost ≡ false) LosesTo (named c) (yes_of l votes.items) votes.items old.log new.log) is
-    (unknown (named c) (all_of_tran c bs is)))
+    CommitsAll.undecided votes comes can (rw is at voted) scan keeps.keeps keeps.free refl (rw is at round) (rw is at (unknown (named c) (all_of_tran c bs is)))

@@ -3,28 +3,23 @@
 use Rattle.xa_words.specs.declared.death.Death.TheVariants as death
 use Rattle.xa_base.proofs.{arith, ◌≡◌, ℕ, inl, inr, zero, suc, Bool, false, ◌||◌, List, [], ◌∷◌, length, Option, Some, None, sym, refl, ap, ◌∙◌, subst, All}
 use Rattle.xa_base.proofs.{cases_eq, ne_eqb, All-cons, All-nil, All-head, All-tail, ◌≤◌, ◌⊎◌, ◌-◌, ◌<◌, true, ◌++◌, map, drop, length-append, nat_eq, or-false}
-use Rattle.xa_base.proofs.{All-map, list_any-append, list_any_none, by_if, ⊎_elim, take, cases_lt}
-use Rattle.std.proofs.Common.{min}
+use Rattle.xa_base.proofs.{All-map, list_any-append, list_any_none, by_if, ⊎_elim, take, cases_lt, min, take-nil}
 use Rattle.xa_words.specs.{TranName, Death, Op, Prepare, Code, RmFail}
 use Rattle.xa_calls.specs.Scans.{Asking}
-use Rattle.xa_driver.specs.{Branch, Done, Ending, AsksFor, Putting, HaveAsked, HaveTold, Tells, VotesAndHears, VotesAndObeys, CameTo, CameToVotes, to_come}
-use Rattle.xa_driver.specs.{second_op, EachBranch, has_branch_at, PutsLedger, AsksLedger, HasRoom, Outcome, AtBranch, third_op, Resolves, HaveRoom}
-use Rattle.xa_driver.proofs.Mapped.{IsAskedFor, for_by, Any, any_asked, anything, branch_by, branch_mapped, resolves_by, resolves_mapped}
+use Rattle.xa_driver.specs.{Branch, Done, Ending, Putting, HaveAsked, HaveTold, Tells, VotesAndHears, VotesAndObeys, CameTo, CameToVotes, to_come, second_op}
+use Rattle.xa_driver.specs.{EachBranch, has_branch_at, PutsLedger, AsksLedger, HasRoom, Outcome, AtBranch, third_op, Resolves, HaveRoom}
+use Rattle.xa_driver.proofs.Mapped.{IsAskedFor, for_back, for_mapped, for_by, Any, any_asked, anything, branch_by, branch_mapped, resolves_by, resolves_mapped}
 use Rattle.xa_log.specs.{LogState, Records}
-use Rattle.xa_desk.specs.{LedgerView, is_collected, is_rm_fail, learnt_shut, with_sent, with_collected, IsOut, ledger, HasGrown, HaveGrown}
-use Rattle.xa_desk.proofs.Ledgers.{known_by}
-use Rattle.xa_driver.specs.Deaths.PutsLedger.{sent as put_sent, withheld as put_withheld}
+use Rattle.xa_desk.specs.{LedgerView, is_collected, learnt_shut, with_sent, with_collected, IsOut, ledger, HasGrown, HaveGrown}
+use Rattle.xa_desk.proofs.Ledgers.{known_by, as_it_was, grown_on}
 use Rattle.xa_telling.specs.{and_if_after, in_flight_at, told_after, CarriesOut, CarriesOutSome, entries_of}
 use Rattle.xa_telling.proofs.Entries.{is_rm_fail_so, AllSound, Sound, ask_sound, Fits, agreed_fits, collected_there, enters, enters_coded, fails, ledger_fits}
 use Rattle.xa_telling.proofs.Entries.{no_entries, upto, put_sound}
-use Rattle.std.proofs.Math.Seq.{take-nil}
 use Rattle.xa_base.specs.{MOST_MANAGERS}
-use Rattle.xa_desk.proofs.Growth.{as_it_was, grown_on}
 use Rattle.xa_worker.specs.{Entry}
 use Rattle.xa_switch.specs.{ledgers_of, IsSettled, sent, collected, journal, Settling}
 use Rattle.xa_scan.specs.{ScanView, left_at}
-use Rattle.xa_driver.proofs.Traces.{asked_grows}
-use Rattle.xa_telling.specs.Commits.CarriesOut.{carried, withheld}
+use Rattle.xa_driver.proofs.Requests.{asked_grows}
 
 -- what holds at the manager of each branch, and of a manager without one
 pub at_each : (P : ℕ → Type 0) (m : ℕ) (bs : List Branch) → All (λ b. b.m ≡ m → P b.m) bs → (has_branch_at bs m ≡ false → P m) → P m
@@ -73,19 +68,10 @@ module _ {D E : Type 0} (A : Asking D) (U : Putting D) (B : Asking E) (V : Putti
       → VotesAndHears B V commit k b v (f d) (f e)
   hears_mapped commit k b v d e is q p = search (arith, tells_back, tells_mapped, is.prepared, is.prepares, b.xid, is.tells)
 
-  for_back : (op : Option Op) (code : Option Code) (d e : D) → AsksFor A op code d e → P e → P d
-  for_back None code d e nothing p = subst P nothing.1 p
-  for_back (Some op) None d e nothing p = absurd nothing
-  for_back (Some op) (Some c) d e asked p = back d e op c asked p
-
-  for_mapped : (op : Option Op) (code : Option Code) (d e : D) → AsksFor A op code d e → Q d → P e → AsksFor B op code (f d) (f e)
-  for_mapped None code d e nothing q p = (nothing.0, ap f nothing.1)
-  for_mapped (Some op) None d e nothing q p = absurd nothing
-  for_mapped (Some op) (Some c) d e asked q p = step d e op c asked q p
-
   pub obeys_mapped : (commit : Bool) (b : Branch) (v : Code) (s : Option Code) (end : Ending) (d e : D) → VotesAndObeys A commit b v s end d e → Q d → P e
       → VotesAndObeys B commit b v s end (f d) (f e)
-  obeys_mapped commit b v s end d e is q p = search (arith, for_back, for_mapped, is.prepared, is.prepares, b.xid, is.obeys)
+  obeys_mapped commit b v s end d e is q p =
+      search (arith, for_back A B f Q P on back step, for_mapped A B f Q P on back step, is.prepared, is.prepares, b.xid, is.obeys)
 
 -- ---- and so at all branches
 
@@ -120,12 +106,11 @@ module _ {D E : Type 0} (A : Asking D) (U : Putting D) (B : Asking E) (V : Putti
     told_so : (k : ℕ) (bs : List Branch) (vs : List Code) → All C bs → All W vs → HaveTold A U known.commit k bs vs old new
         → HaveTold B V known.commit k bs vs old' new' × All R bs
     told_so k [] [] all votes h = (tt, All-nil R)
-    told_so k [] (v ∷ vs) all votes h = absurd h
-    told_so k (b ∷ bs) [] all votes h = absurd h
     told_so k (b ∷ bs) (v ∷ vs) all votes h =
         let one = hears_so k b v (All-head C b bs all) (All-head W v vs votes) h.0 in
         let rest = told_so (to_come (second_op known.commit b.xid v) k) bs vs (All-tail C b bs all) (All-tail W v vs votes) h.1 in
         ((one.0, rest.0), All-cons R b bs one.1 rest.1)
+    told_so k bs vs all votes h = absurd h
 
     module _ (tran : TranName) (bs : List Branch) (log later : LogState) (all : All C bs) (votes : All W known.votes.items) where
       came_to_votes : (count : ℕ) → CameToVotes A U count bs old new log later known → CameToVotes B V count bs old' new' log later known × All R bs
@@ -169,12 +154,7 @@ sent_last a op sound =
 
 -- a manager that wasn't learnt to be shut before a vote, nor by it, isn't after it
 still_open : (a mid : LedgerView) (op : Op) (v : Code) → AsksLedger a op mid v → learnt_shut mid ≡ true → v ≡ RmFail
-still_open a mid op v asks shut =
-    by_if (λ (b : LedgerView). learnt_shut b ≡ true → v ≡ RmFail) (learnt_shut a) a (with_collected (with_sent a op) (length a.sent) v)
-    (λ before _. asks.answered before)
-    (λ open_ after. is_rm_fail_so v (sym (ap (λ q. q || (is_rm_fail v || false)) open_ ∙ or-false (is_rm_fail v))
-    ∙ sym (list_any-append (λ (p : ℕ × Code). is_rm_fail p.1) a.collected ((length a.sent, v) ∷ [])) ∙ after))
-    (subst (λ (b : LedgerView). learnt_shut b ≡ true) asks.trace shut)
+still_open a mid op v asks shut = grind (arith, is_rm_fail_so, or-false, list_any-append, asks.answered, a.collected, asks.trace)
 
 -- ---- the branches
 
@@ -189,8 +169,8 @@ module _ (old new : List LedgerView) (managers : length new ≡ length old) (sou
   put_last : (b : Branch) (a : LedgerView) (op : Op) → Room old b → Sound a → (learnt_shut a ≡ true → learnt_shut (ledger old b.m) ≡ true)
       → PutsLedger a op (ledger new b.m)
       → InFlight b
-  put_last b a op room all was (put_withheld shut same) = inr (room.known.positive, was shut)
-  put_last b a op room all was (put_sent open_ is) = search (arith, sent_last, known_by, b.m)
+  put_last b a op room all was (PutsLedger.withheld shut same) = inr (room.known.positive, was shut)
+  put_last b a op room all was (PutsLedger.sent open_ is) = search (arith, sent_last, known_by, b.m)
 
   asked_last : (bs : List Branch) (vs : List Code) → All (Room old) bs → HaveAsked AsksLedger PutsLedger bs vs (ledger old) (ledger new)
       → All InFlight (drop (length vs) bs)
@@ -238,8 +218,8 @@ rooms at (b ∷ bs) room = All-cons (Room at) b bs room.0 (rooms at bs room.1)
 -- ---- a ledger only grows
 
 put_grows : (a a' : LedgerView) (op : Op) → PutsLedger a op a' → HasGrown a a'
-put_grows a a' op (put_sent open_ is) = subst (HasGrown a) (sym is) (record { sent = (op ∷ [], refl); collected = (as_it_was a).collected })
-put_grows a a' op (put_withheld shut same) = subst (HasGrown a) (sym same) (as_it_was a)
+put_grows a a' op (PutsLedger.sent open_ is) = subst (HasGrown a) (sym is) (record { sent = (op ∷ [], refl); collected = (as_it_was a).collected })
+put_grows a a' op (PutsLedger.withheld shut same) = subst (HasGrown a) (sym same) (as_it_was a)
 
 module _ (settled : Settling) (is : IsSettled settled) (t : ℕ) where
   -- the thread's ledgers at the end, and its entries in each journal
@@ -279,17 +259,17 @@ module _ (settled : Settling) (is : IsSettled settled) (t : ℕ) where
     carries a a' op c asks sound later =
         subst (λ (b : LedgerView). CarriesOut t (upto (own m) a) op (upto (own m) b) c) (sym asks.trace)
         (by_if (λ (b : LedgerView). Later b → CarriesOut t (upto (own m) a) op (upto (own m) b) c) (learnt_shut a) a (with_collected (with_sent a op) (length a.sent) c)
-        (λ shut now. withheld (asks.answered shut) (fails t (ledger last m) (own m) (fits m low) a sound now shut) refl)
-        (λ open_ now. carried (enters_coded t (ledger last m) (own m) (fits m low) a (with_sent a op) op refl now.sent c
+        (λ shut now. CarriesOut.withheld (asks.answered shut) (fails t (ledger last m) (own m) (fits m low) a sound now shut) refl)
+        (λ open_ now. CarriesOut.carried (enters_coded t (ledger last m) (own m) (fits m low) a (with_sent a op) op refl now.sent c
         (collected_there a.collected (a.collected ++ (length a.sent, c) ∷ []) (ledger last m).collected (length a.sent, c) refl now.collected)))
         (subst Later asks.trace later))
 
     -- or sent and not waited for
     carries_some : (a a' : LedgerView) (op : Op) → PutsLedger a op a' → Sound a → Later a' → CarriesOutSome t (upto (own m) a) op (upto (own m) a')
-    carries_some a a' op (put_sent open_ is) sound later =
-        let e = enters t (ledger last m) (own m) (fits m low) a a' op (ap (λ (l : LedgerView). l.sent) is) later.sent in (e.0, carried e.2)
-    carries_some a a' op (put_withheld shut same) sound later =
-        (RmFail, withheld refl (fails t (ledger last m) (own m) (fits m low) a sound (subst Later same later) shut) (ap (upto (own m)) same))
+    carries_some a a' op (PutsLedger.sent open_ is) sound later =
+        let e = enters t (ledger last m) (own m) (fits m low) a a' op (ap (λ (l : LedgerView). l.sent) is) later.sent in (e.0, CarriesOut.carried e.2)
+    carries_some a a' op (PutsLedger.withheld shut same) sound later =
+        (RmFail, CarriesOut.withheld refl (fails t (ledger last m) (own m) (fits m low) a sound (subst Later same later) shut) (ap (upto (own m)) same))
 
   -- a commit, and a resolve
   module _ (old new : List LedgerView) (sound : AllSound old) (later : HaveGrown new last) where
@@ -357,8 +337,7 @@ module _ (settled : Settling) (is : IsSettled settled) (t : ℕ) where
       others_so m low none = ap (upto (own m)) (others m low none)
 
       pub all_sound : All SoundAt bs → AllSound new
-      all_sound each m low =
-          at_each (λ m. Sound (ledger new m)) m bs (λ k d lt here. each k d lt) (λ none. subst Sound (sym (others m low none)) (sound m low))
+      all_sound each m low = at_each (λ m. Sound (ledger new m)) m bs (λ k d lt here. each k d lt) (λ none. subst Sound (sym (others m low none)) (sound m low))
 
     -- a resolve
     module _ (records : Records) (z : ScanView) (outcomes : List Outcome)

@@ -9,9 +9,6 @@ use Rattle.xa_words.specs.declared.flags.Call.TheVariants as call
 use Rattle.xa_desk.specs.{Operation, Refused, NoSuchManager, Shut, TooMany, Spent, learnt_shut, IsKnown, is_known, ledger, next_operation, after_sent, DeskView}
 use Rattle.xa_scan.specs.{ScanView}
 use Rattle.xa_calls.specs.{code_of as to_code, put_refusal, Puts, Calls, number_in, CompletesOne, CompletesAny, CompletesAt, CompletesBy, Tells, may_complete}
-use Rattle.xa_calls.specs.Putting.Puts.{refused as put_refused, full, kept as put_kept, answered as put_answered}
-use Rattle.xa_calls.specs.Completing.CompletesOne.{unknown, retry as retry_one, ready, waited}
-use Rattle.xa_calls.specs.Completing.CompletesAny.{nothing as nothing_kept, retry as retry_any, least}
 use Rattle.xa_calls.proofs.Kept.{quiet_same, known_here}
 use Rattle.xa_grammar.specs.declared.step.Calling.TheVariants as calling
 use Rattle.xa_grammar.specs.{ScriptCalling, ScriptCalled}
@@ -92,16 +89,16 @@ refusal_by false o c is = is
 
 puts_do : (q : ScriptCalled) (old new : DeskView) (a : Answer) (n : ℤ) (asked : _) → Puts old q.manager asked new n
     → asks asked.asynchronous asked.op ≡ wanted_in q → a ≡ shown n → Does q a old new
-puts_do q old new a n asked (put_refused c why of same) e told =
+puts_do q old new a n asked (Puts.refused c why of same) e told =
     refused c (subst (λ r. IsRefusal r c) e (refusal_by asked.asynchronous asked.op c (is_refusal old q.manager asked.asynchronous c why)))
     (told ∙ ap (λ z. shown z) of) (stays_same old new same)
-puts_do q old new a n asked (full why async of same) e told =
+puts_do q old new a n asked (Puts.full why async of same) e told =
     refused Async (subst (λ r. IsRefusal r Async) (ap (λ b. asks b asked.op) (sym async) ∙ e) (3, omega arith, refl)) (told ∙ ap (λ z. shown z) of)
     (ap ledgers_at same, ap kept_at same)
-puts_do q old new a n asked (put_kept why async k of is same) e told =
+puts_do q old new a n asked (Puts.kept why async k of is same) e told =
     kept asked.op k (sym e ∙ ap (λ b. asks b asked.op) async) is.positive (told ∙ ap (λ z. shown z) of) is.free
     (known_here old q.manager asked.asynchronous why) (ap ledgers_at same) (ap kept_at same)
-puts_do q old new a n asked (put_answered why async times c of is) e told =
+puts_do q old new a n asked (Puts.answered why async times c of is) e told =
     answered asked.op c (sym e ∙ ap (λ b. asks b asked.op) async) (told ∙ ap (λ z. shown z) of)
     (has_asked times q.manager asked.asynchronous old asked.op new c why is)
 
@@ -120,17 +117,16 @@ data Comes (old new : DeskView) (collected : Result (ℕ × Code) Code) : Type 0
 
 one_comes : (old : DeskView) (k : Option ℕ) (m : ℕ) (nowait : Bool) (new : DeskView) (r : Result (ℕ × Code) Code) → CompletesOne old k m nowait new r
     → Comes old new r
-one_comes old k m nowait new r (unknown missing told e) = left Inval told (0, omega arith, refl) refl (stays_same old new e)
-one_comes old k m nowait new r (retry_one j is there way told quiet unready) = left Retry told (2, omega arith, refl) refl (quiet_same old new quiet)
-one_comes old k m nowait new r (ready j c is there way told takes) =
-    let looks = takes.looks.rest in
-    took takes.takes.operation j c told (has_taken old takes.before new j c (ap ledgers_at looks, ap kept_at looks) takes.takes)
-one_comes old k m nowait new r (waited j c is there way told takes) = took takes.operation j c told (has_redeemed old new j c takes)
+one_comes old k m nowait new r (CompletesOne.unknown missing told e) = left Inval told (0, omega arith, refl) refl (stays_same old new e)
+one_comes old k m nowait new r (CompletesOne.retry j is there way told quiet unready) = left Retry told (2, omega arith, refl) refl (quiet_same old new quiet)
+one_comes old k m nowait new r (CompletesOne.ready j c is there way told takes) =
+    took takes.takes.operation j c told (has_taken old takes.before new j c (ap ledgers_at takes.looks.rest, ap kept_at takes.looks.rest) takes.takes)
+one_comes old k m nowait new r (CompletesOne.waited j c is there way told takes) = took takes.operation j c told (has_redeemed old new j c takes)
 
 any_comes : (old : DeskView) (m : ℕ) (nowait : Bool) (new : DeskView) (r : Result (ℕ × Code) Code) → CompletesAny old m nowait new r → Comes old new r
-any_comes old m nowait new r (nothing_kept empty told e) = left Proto told (1, omega arith, refl) refl (stays_same old new e)
-any_comes old m nowait new r (retry_any j there way told quiet unready) = left Retry told (2, omega arith, refl) refl (quiet_same old new quiet)
-any_comes old m nowait new r (least j c told takes) =
+any_comes old m nowait new r (CompletesAny.nothing empty told e) = left Proto told (1, omega arith, refl) refl (stays_same old new e)
+any_comes old m nowait new r (CompletesAny.retry j there way told quiet unready) = left Retry told (2, omega arith, refl) refl (quiet_same old new quiet)
+any_comes old m nowait new r (CompletesAny.least j c told takes) =
     took takes.takes.operation j c told (has_taken old takes.before new j c (quiet_same old takes.before takes.quiet) takes.takes)
 
 at_comes : (may multiple nowait : Bool) (old : DeskView) (k : Option ℕ) (m : ℕ) (new : DeskView) (r : Result (ℕ × Code) Code)

@@ -3,25 +3,20 @@ use Rattle.std.specs.FinMap as finmap
 use Rattle.xa_base.proofs.{◌≡◌, ◌<◌, ◌≤◌, ℕ, Bool, List, [], ◌∷◌, length, None, Some, sym, ap, refl, subst, arith, length-append, All, nat_cmp, All-push, by_if}
 use Rattle.xa_base.proofs.{◌+◌, ◌-◌, ⊎_elim, suc, true, false, cond, ◌==◌, ◌++◌, map, take, ◌∙◌, append_assoc, slice_get, if◌then◌else◌, Contains, cases_lt}
 use Rattle.xa_base.proofs.{length-map, All-contains, Contains-append_left, slice_get_within, slice_get-get_or, contains_at, got_map, one_more, was_mapped}
-use Rattle.xa_base.proofs.{by_bool}
+use Rattle.xa_base.proofs.{by_bool, get_or-take, Contains-push, Any-from_list_any, get_or_from_slice_get, some_pair_parts}
 use Rattle.xa_words.specs.{Code, Op, RmFail, Request}
 use Rattle.xa_desk.specs.{Operation, HaveGrown, learnt_shut, with_sent, with_collected, IsKnown, IsOut, ledger, next_operation, after_sent, after_collected}
 use Rattle.xa_desk.specs.{submitted, after_fulls, Collects, TakesKept, LedgerView, DeskView, is_rm_fail, is_known, sent_to, collected_from, HasGrown, numbered}
-use Rattle.xa_desk.proofs.Growth.{growing_on, sending_grows, collecting_grows}
-use Rattle.xa_desk.proofs.Ledgers.{put_each, known_true, past_end}
+use Rattle.xa_desk.proofs.Ledgers.{growing_on, sending_grows, collecting_grows, put_each, known_true, past_end}
 use Rattle.xa_calls.specs.{CollectsRedeemed, put_refusal}
 use Rattle.xa_calls.proofs.Kept.{known_here, fulls_ledgers, fulls_kept}
 use Rattle.xa_driver.specs.{PutsLedger, AsksLedger}
-use Rattle.xa_driver.specs.Deaths.PutsLedger.{sent as put_sent, withheld as put_withheld}
-use Rattle.std.proofs.lemmas.List.{length-take-le, get_or-take}
-use Rattle.std.proofs.lemmas.List.Elements.{Contains-push}
-use Rattle.std.proofs.lemmas.List.Folds.{Any-from_list_any}
-use Rattle.std.proofs.lemmas.Option.{get_or_from_slice_get, some_pair_parts}
+use Rattle.std.proofs.lemmas.List.{length-take-le}
 use Rattle.xa_base.specs.{Begins}
 use Rattle.xa_tables.specs.{of_thread}
 use Rattle.xa_worker.specs.{Entry, entry, requests, codes_in}
 use Rattle.xa_switch.specs.{Agree}
-use Rattle.xa_driver.proofs.Ledgers.{numbered_length}
+use Rattle.xa_driver.proofs.Requests.{numbered_length}
 use Rattle.xa_telling.specs.{next_entry, entries_of}
 
 -- ---- that each request that was collected was sent, as a thread goes on, and what its calls do to its ledgers and its handles
@@ -45,8 +40,8 @@ ask_sound a a' op c asks all =
     (λ _. collected_sound (with_sent a op) (length a.sent) c (omega (arith, length-append a.sent (op ∷ []))) (sent_sound a op all)))
 
 pub put_sound : (a a' : LedgerView) (op : Op) → PutsLedger a op a' → Sound a → Sound a'
-put_sound a a' op (put_sent open_ is) all = subst Sound (sym is) (sent_sound a op all)
-put_sound a a' op (put_withheld shut same) all = subst Sound (sym same) all
+put_sound a a' op (PutsLedger.sent open_ is) all = subst Sound (sym is) (sent_sound a op all)
+put_sound a a' op (PutsLedger.withheld shut same) all = subst Sound (sym same) all
 
 pub sending_sound : (at : List LedgerView) (m : ℕ) (op : Op) → AllSound at → AllSound (after_sent at m op)
 sending_sound at m op all n low =
@@ -59,8 +54,7 @@ collecting_sound at o c out all n low =
 
 -- what is collected sends nothing
 pub collecting_sends_none : (at : List LedgerView) (o : Operation) (c : Code) (m : ℕ) → (ledger (after_collected at o c) m).sent ≡ (ledger at m).sent
-collecting_sends_none at o c m =
-    put_each (λ a b. b.sent ≡ a.sent) (λ a. refl) at o.manager (with_collected (ledger at o.manager) o.number c) refl m
+collecting_sends_none at o c m = put_each (λ a b. b.sent ≡ a.sent) (λ a. refl) at o.manager (with_collected (ledger at o.manager) o.number c) refl m
 
 -- ---- what is done at a desk
 
@@ -219,9 +213,8 @@ module _ (t : ℕ) (last : LedgerView) (es : List Entry) (fits : Fits t last.sen
       let got : Contains last.collected p =
       subst (λ l. Contains l p) (sym grown.collected.1) (Contains-append_left a.collected grown.collected.0 p (k, lt, at)) in
       let e = was_mapped pair_of es p.0 p (All-contains (StandsAt es) last.collected p fits.coded got) in
-      let many = many_upto a grown.sent in
       let among : slice_get (upto es a) p.0 ≡ Some e.0 =
-      slice_get-get_or (upto es a) p.0 e.0 (omega (arith, below, many))
+      slice_get-get_or (upto es a) p.0 e.0 (omega (arith, below, many_upto a grown.sent))
       ∙ ap Some (get_or-take (length a.sent) es p.0 e.0 below ∙ get_or_from_slice_get es p.0 e.0 e.0 e.1) in
       let code : e.0.1 ≡ RmFail = ap (λ (q : ℕ × Code). q.1) e.2 ∙ is_rm_fail_so p.1 failed in
       contains_at (codes_in (upto es a)) p.0 RmFail (got_map (λ (e : Entry). e.1) (upto es a) p.0 e.0 among ∙ ap Some code)

@@ -1,4 +1,3 @@
-pub mod Tasks
 pub mod Calls
 pub mod Entries
 pub mod Branches
@@ -6,4 +5,3 @@ pub mod Mapped
 pub mod Lines
 pub mod Opened
 pub mod Told
-pub mod Again

@@ -1,16 +1,14 @@
 -- A thread's lines put its entries into the journals, line by line.
 use Rattle.xa_base.proofs.{rules, ◌≡◌, ℕ, ◌-◌, ◌<◌, ◌≤◌, ⊎_elim, zero, suc, true, false, Bool, ◌==◌, List, [], ◌∷◌, ◌++◌, length, map, take, None, Some, inl}
 use Rattle.xa_base.proofs.{inr, sym, refl, ap, ◌∙◌, subst, arith, All, get_or, if◌then◌else◌, Contains, eqb-true, eqb-false, length-map, map-append, take_all}
-use Rattle.xa_base.proofs.{All-contains, All-nil, all_left, all_mid}
+use Rattle.xa_base.proofs.{All-contains, All-nil, all_left, all_mid, take-nil}
 use Rattle.std.specs.FinMap as finmap
-use Rattle.std.proofs.Math.Seq.{take-nil}
 use Rattle.xa_base.specs.{Chain}
 use Rattle.xa_base.specs.Lists.Chain.{none, more}
 use Rattle.xa_words.specs.{check_flags, managers_in, TranName, Death, Op, Listed, Code}
 use Rattle.xa_words.specs.declared.flags.Call.TheVariants as call
 use Rattle.xa_desk.specs.{DeskView, IsKnown, IsOut, is_known, ledger, next_operation, after_sent, HaveGrown, AllKept, learnt_shut, LedgerView}
-use Rattle.xa_desk.proofs.Growth.{growing_on}
-use Rattle.xa_desk.proofs.Ledgers.{ledger-collected_same, ledger-sent_other, ledger-sent_same}
+use Rattle.xa_desk.proofs.Ledgers.{growing_on, ledger-collected_same, ledger-sent_other, ledger-sent_same}
 use Rattle.xa_worker.specs.{Entry}
 use Rattle.xa_scan.specs.{ScanView}
 use Rattle.xa_calls.specs.{Answers as Reaches}
@@ -25,20 +23,15 @@ use Rattle.xa_grammar.specs.{CommitAll, ScriptCalled, ScriptAction, ScriptTask}
 use Rattle.xa_grammar.specs.declared.step.Action.TheVariants as action
 use Rattle.xa_transcript.specs.{Answer, Told}
 use Rattle.xa_session.specs.{Session, IsListed, HasListed, named, branch_at, branches_of, CommitsAll, ResolvesLeft, Executes, HasDone, told_of}
-use Rattle.xa_session.specs.Committing.CommitsAll.{refused, decided, undecided, died}
-use Rattle.xa_session.specs.Resolving.ResolvesLeft.{refused as left_refused, resolved as left_resolved}
 use Rattle.xa_telling.specs.{CommitTakes, KeepsInFlight, in_flight_at, Line, Takes, TakesPart, Part, next_entry, new_part, Asked, Lists, CallTakes}
 use Rattle.xa_telling.specs.{ResolveTakes}
-use Rattle.xa_telling.specs.Commits.CommitTakes.{refused as takes_none, decided as takes_decided, undecided as takes_undecided, died as takes_died}
-use Rattle.xa_telling.specs.Parts.Asked.{answered as asked_answered, refused as asked_refused}
-use Rattle.xa_telling.specs.Resolves.ResolveTakes.{refused as ends_none, resolved as ends_left}
 use Rattle.xa_telling.proofs.Branches.{last, own, fits, nobody, same_entries, rooms, decided_so, voted_so, died_so, others_so, all_sound, resolved_so}
 use Rattle.xa_telling.proofs.Branches.{resolved_sound, at_each, all_in_flight}
 use Rattle.xa_telling.proofs.Calls.{CallDoes, plain, lists, Does, answered, kept, refused as call_refused, completes, answers_do, is_refusal}
 use Rattle.xa_telling.proofs.Entries.{StandsAt, collected_there, enters, enters_coded, fails, many_entries, many_upto, upto, AllSound, Handles, HasAsked}
 use Rattle.xa_telling.proofs.Entries.{has_asked, asking_grows, asking_sound, collecting_sends_none, collecting_sound, sending_sound}
 use Rattle.xa_telling.proofs.Mapped.{by_mapped}
-use Rattle.xa_telling.proofs.Tasks.{AreOf}
+use Rattle.xa_telling.proofs.Opened.{AreOf}
 
 -- ---- the lines of a thread
 
@@ -177,11 +170,11 @@ module _ (settled : Settling) (is : IsSettled settled) (t : ℕ) where
     request_takes : (m : ℕ) (d : DeskView) (op : Op) (e : DeskView) (c : Code) → Reaches m d op e c → GoesWell e
         → GoesWell d × Asked t m (part_at old.log old.scan d) op (part_at old.log old.scan e) c
     request_takes m d op e c (unreached why same) well =
-        (subst GoesWell same well, asked_refused (is_refusal d m false c why) (ap (part_at old.log old.scan) same))
+        (subst GoesWell same well, Asked.refused (is_refusal d m false c why) (ap (part_at old.log old.scan) same))
     request_takes m d op e c (reached admits times collects) well =
         let asked = has_asked times m false d op e c admits collects in (
           ((λ s. well.0 (asking_sound m op c d e asked s)), growing_on d.ledgers e.ledgers ended (asking_grows m op c d e asked) well.1),
-          asked_answered (λ i. record {
+          Asked.answered (λ i. record {
             entries = λ n. asked_entered m op c d e asked well.1 n i;
             handles = asked.kept i;
             log = old.log.found.state;
@@ -227,10 +220,10 @@ module _ (settled : Settling) (is : IsSettled settled) (t : ℕ) where
     nowhere = same_entries settled is t at at' 0 (λ low. absurd (omega (arith, low)))
 
     resolve_takes : ResolvesLeft old new a → ResolveTakes t a (part_of old) (part_of new) × AllSound at'
-    resolve_takes (left_refused why told e) = (ends_none told (ap part_of e), subst (λ (x : Session). AllSound x.desk.ledgers) (sym e) sound)
-    resolve_takes (left_resolved outcomes can trace log still keeps as_many told in_turn) =
+    resolve_takes (ResolvesLeft.refused why told e) = (ResolveTakes.refused told (ap part_of e), subst (λ (x : Session). AllSound x.desk.ledgers) (sym e) sound)
+    resolve_takes (ResolvesLeft.resolved outcomes can trace log still keeps as_many told in_turn) =
         let records = old.log.found.state.records in (
-          ends_left outcomes told (record {
+          ResolveTakes.resolved outcomes told (record {
             course = resolved_so settled is t at at' sound later records old.scan outcomes.items trace.course;
             nowhere = nowhere;
             handles = keeps.kept;
@@ -266,22 +259,17 @@ module _ (settled : Settling) (is : IsSettled settled) (t : ℕ) where
             let m = o.manager in
             let low =
             (at_each (HasRoom at) m bs (λ k d lt here. room k d lt) (λ none. absurd (let z : true ≡ false = sym h.manager ∙ none in cc))).known.positive in
-            let first = h.later in
-            let sent = h.sent in
-            let before = many at m low was in
-            let after = many at' m low later in
-            inr (record { manager = h.manager; later = omega (arith, first, before); entered = omega (arith, sent, after) }))
+            inr (record { manager = h.manager; later = omega (arith, h.later, many at m low was); entered = omega (arith, h.sent, many at' m low later) }))
             (leaves.more k o kept_);
       }
 
       commit_takes : CommitsAll c old new a → CommitTakes t c a (part_of old) (part_of new) × AllSound at'
-      commit_takes (refused why told e) = (takes_none told (ap part_of e), subst (λ (x : Session). AllSound x.desk.ledgers) (sym e) sound)
-      commit_takes (decided done alive can trace still keeps as_many told rounds appends) =
+      commit_takes (CommitsAll.refused why told e) = (CommitTakes.refused told (ap part_of e), subst (λ (x : Session). AllSound x.desk.ledgers) (sym e) sound)
+      commit_takes (CommitsAll.decided done alive can trace still keeps as_many told rounds appends) =
           let may = can.may in
-          let others = trace.course.others in
           let each =
           decided_so settled is t at at' sound later done.commit bs done.votes.items trace.course.seconds done.endings.items (rooms at bs may.room) trace.course.each in (
-            takes_decided done alive told (record {
+            CommitTakes.decided done alive told (record {
               course = search (arith, others_so);
               nowhere = nowhere;
               unlogged = not_logged c (managers_in c.managers) old.log.found.state may.tran may.some may.one may.absent;
@@ -290,9 +278,9 @@ module _ (settled : Settling) (is : IsSettled settled) (t : ℕ) where
               known = can.known;
               still_known = appended_known (named c) _ done.votes.items done.logged old.log new.log appends ∙ can.known;
             }),
-            all_sound settled is t at at' sound later bs others each.1,
+            all_sound settled is t at at' sound later bs trace.course.others each.1,
           )
-      commit_takes (undecided votes comes can voted still keeps as_many told round unknown) =
+      commit_takes (CommitsAll.undecided votes comes can voted still keeps as_many told round unknown) =
           let may = can.may in
           let p = voted.prepared in
           let ks = voted.stage.round.asks.items in
@@ -301,7 +289,7 @@ module _ (settled : Settling) (is : IsSettled settled) (t : ℕ) where
           let each =
           voted_so settled is t at at' sound later bs votes.items (rooms at bs may.room)
           (subst (λ vs. HaveAsked AsksLedger PutsLedger bs vs (ledger at) (ledger at')) (sym votes_are) (asked_all bs ks at at' p.same p.asked.each)) in (
-            takes_undecided votes comes told (record {
+            CommitTakes.undecided votes comes told (record {
               asked = each.0;
               counted = ap (λ l. length l) votes_are ∙ length-map ks code_of ∙ asks_long bs ks p.same;
               others = others_so settled is t at at' sound later bs others;
@@ -316,11 +304,11 @@ module _ (settled : Settling) (is : IsSettled settled) (t : ℕ) where
             }),
             all_sound settled is t at at' sound later bs others each.1,
           )
-      commit_takes (died at_ known dead can dies managers still handles told appends) =
+      commit_takes (CommitsAll.died at_ known dead can dies managers still handles told appends) =
           let may = can.may in
           let room = rooms at bs may.room in
           let far = died_so settled is t at at' sound later at_ (named c) bs old.log.found.state new.log.found.state known room dies.far in (
-            takes_died at_ known dead told (record {
+            CommitTakes.died at_ known dead told (record {
               course = record { far = far.0; others = others_so settled is t at at' sound later bs dies.others };
               nowhere = nowhere;
               unlogged = not_logged c (managers_in c.managers) old.log.found.state may.tran may.some may.one may.absent;

@@ -1,14 +1,18 @@
--- What holds of the desks and the workers that a script has opened.
+-- What holds of the desks and the workers that a script has opened, and of its tasks.
+use Rattle.xa_grammar.specs.declared.step.Step.TheVariants as step
 use Rattle.xa_base.proofs.{◌≡◌, ℕ, ◌+◌, Bool, List, [], ◌∷◌, length, map, Some, sym, refl, ap, ◌∙◌, arith, slice_get, range_with_len, slice_index_or}
-use Rattle.xa_base.proofs.{length-map, slice_get_within, slice_get-get_or, some_same}
-use Rattle.std.proofs.lemmas.List.FromFn.{length-map-range_with_len, get_or-map-range_with_len}
+use Rattle.xa_base.proofs.{length-map, slice_get_within, slice_get-get_or, some_same, ◌≢◌, ◌≤◌, ◌==◌, ◌++◌, None, subst, All, if◌then◌else◌, eqb-true, ne_eqb}
+use Rattle.xa_base.proofs.{All-head, All-tail, All-cons, All-nil, by_bool, all_left, all_mid, length-map-range_with_len, get_or-map-range_with_len, filter_map}
+use Rattle.xa_base.proofs.{filter_map-append}
 use Rattle.xa_desk.specs.{DeskView}
 use Rattle.xa_worker.specs.{WorkerView}
 use Rattle.xa_tables.specs.{Tables, opening}
 use Rattle.xa_switch.specs.{Plan, Setup, IsSound, planned, IsNewDesk, IsNewWorker}
-use Rattle.xa_grammar.specs.{Content, threads_of, managers_of}
+use Rattle.xa_grammar.specs.{Content, threads_of, managers_of, ScriptTask, ScriptStep, task_of, tasks_of, Fits}
 use Rattle.xa_telling.specs.{IsPlanOf, IsSetupOf, AreOpened, script_says, plan_says}
 use Rattle.xa_transcript.specs.{opened}
+use Rattle.xa_base.specs.{Chain}
+use Rattle.xa_base.specs.Lists.Chain.{none, more}
 
 -- ---- the desks
 
@@ -32,9 +36,8 @@ pub over_managers : {A : Type 0} (f : ℕ → A) (many k : ℕ) (x : A) → slic
 over_managers f many k x at =
     let list = map f (range_with_len 1 many) in
     let within = slice_get_within list k x at in
-    let size = length-map-range_with_len f 1 many in
     some_same x (slice_index_or list k x) (sym at ∙ slice_get-get_or list k x within)
-    ∙ get_or-map-range_with_len f 1 many k (k + 1) x (omega (arith, within, size)) (omega arith)
+    ∙ get_or-map-range_with_len f 1 many k (k + 1) x (omega (arith, within, length-map-range_with_len f 1 many)) (omega arith)
 
 pub opened_first : (s : Content) (n : ℕ) (tables : ℕ → Tables) (p : Setup) → IsSetupOf s n tables p → (k : ℕ) (w : WorkerView) → IsNewWorker p k w
     → w.first ≡ tables (k + 1)
@@ -63,3 +66,44 @@ planned_setup s p is sound =
           ∙ map_map (λ (a : Bool × List (List ℕ × ℕ)). opening a.1) (script_says s) range;
       limits = sound.limits;
     }
+
+-- ---- what a chain hands on
+
+-- what the first has, and each step hands on, the last has
+module _ {X A : Type 0} {leads : X → A → A → Type 0} where
+  pub along : (P : A → Type 0) (first : A) (xs : List X) (last : A) → Chain leads first xs last → ((x : X) (now next : A) → leads x now next → P now → P next)
+      → P first → P last
+  along P first xs last (none ys l e f) on has = subst P (sym f) has
+  along P first xs last (more ys y now l before is) on has = on y now l is (along P first ys now before on has)
+
+  -- where C holds of each
+  pub along_all : (C : X → Type 0) (P : A → Type 0) (first : A) (xs : List X) (last : A) → Chain leads first xs last → All C xs
+      → ((x : X) (now next : A) → C x → leads x now next → P now → P next) → P first → P last
+  along_all C P first xs last (none ys l e f) all on has = subst P (sym f) has
+  along_all C P first xs last (more ys y now l before is) all on has =
+      on y now l (all_mid C ys [] y all) is (along_all C P first ys now before (all_left C ys (y ∷ []) all) on has)
+
+-- ---- the tasks of one thread
+
+-- each is the thread's own
+abbrev pub AreOf : ℕ → List ScriptTask → Type 0
+AreOf t tasks = All (λ (q : ScriptTask). q.thread ≡ t) tasks
+
+pub tasks_are_of : (t : ℕ) (steps : List ScriptStep) → AreOf t (tasks_of t steps)
+tasks_are_of t [] = All-nil (λ (q : ScriptTask). q.thread ≡ t)
+tasks_are_of t (step.Task p ∷ steps) =
+    subst (AreOf t) (sym (filter_map-append (task_of t) (step.Task p ∷ []) steps))
+    (by_bool (λ b. AreOf t (filter_map (λ (q : ScriptTask). if b then Some q else None) (p ∷ []) ++ tasks_of t steps)) (p.thread == t)
+    (λ own. All-cons (λ (q : ScriptTask). q.thread ≡ t) p (tasks_of t steps) (eqb-true p.thread t own) (tasks_are_of t steps)) (λ _. tasks_are_of t steps))
+tasks_are_of t (s ∷ steps) = tasks_are_of t steps
+
+-- a thread that there isn't has none
+pub no_tasks : (t threads managers : ℕ) (steps : List ScriptStep) → All (Fits threads managers) steps → (1 ≤ t → t ≤ threads → ⊥) → tasks_of t steps ≡ []
+no_tasks t threads managers [] all apart = refl
+no_tasks t threads managers (step.Task p ∷ steps) all apart =
+    let fits : Fits threads managers (step.Task p) = All-head (Fits threads managers) (step.Task p) steps all in
+    let differs : p.thread ≢ t = λ e. apart (subst (λ n. 1 ≤ n) e fits.0.0) (subst (λ n. n ≤ threads) e fits.0.1) in
+    filter_map-append (task_of t) (step.Task p ∷ []) steps
+    ∙ ap (λ b. filter_map (λ (q : ScriptTask). if b then Some q else None) (p ∷ []) ++ tasks_of t steps) (ne_eqb p.thread t differs)
+    ∙ no_tasks t threads managers steps (All-tail (Fits threads managers) (step.Task p) steps all) apart
+no_tasks t threads managers (s ∷ steps) all apart = no_tasks t threads managers steps (All-tail (Fits threads managers) s steps all) apart

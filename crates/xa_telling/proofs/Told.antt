@@ -1,35 +1,36 @@
 -- What is left outstanding at a desk, by the numbers under which it is kept.
--- What the threads and the managers of a run tell once they are settled.
+-- What the threads and the managers of a run tell once they are settled, and what an opening leaves to the next one.
 use Rattle.std.specs.FinMap as finmap
 use Rattle.xa_base.proofs.{◌≡◌, ℕ, ◌+◌, ◌<◌, ◌≤◌, zero, suc, List, [], ◌∷◌, ◌++◌, length, map, Some, None, sym, refl, ap, ◌∙◌, subst, inl, inr, arith}
 use Rattle.xa_base.proofs.{length-append, All, AllPairs, Contains, range_with_len, cases_eq, map-append, All-nil, All-push, Contains-append_left, not_both}
 use Rattle.xa_base.proofs.{pairs_push, range_suc, same_begins, snoc_parts, removed_other, ◌≢◌, ◌-◌, ⊎_elim, option_map, Option, false, slice_get}
 use Rattle.xa_base.proofs.{slice_index_or, nat_cmp, cases_lt, length-map, All-contains, slice_get-map, slice_get_within, got, find_numbered, find_none}
-use Rattle.xa_base.proofs.{was_mapped}
-use Rattle.std.proofs.lemmas.List.Elements.{Contains-push}
+use Rattle.xa_base.proofs.{was_mapped, Bool, all_at, Contains-push, slice_get_past, slice_get_cases, length-map-range_with_len}
 use Rattle.xa_base.specs.{Chain}
 use Rattle.xa_base.specs.Lists.Chain.{none, more}
 use Rattle.xa_words.specs.{Code}
-use Rattle.xa_desk.specs.{Operation, ledger, HaveGrown, DeskView, LedgerView, AllKept, sent_to, EndedView, new_ledgers}
-use Rattle.xa_desk.proofs.Growth.{collecting_grows}
-use Rattle.xa_desk.proofs.Ledgers.{ledger-collected_same, nobody_sent}
+use Rattle.xa_desk.specs.{Operation, ledger, HaveGrown, DeskView, LedgerView, AllKept, sent_to, EndedView, new_ledgers, plans}
+use Rattle.xa_desk.proofs.Ledgers.{collecting_grows, ledger-collected_same, nobody_sent}
 use Rattle.xa_crew.specs.{Telling, EndsNumber, HasServed, EndsDesk}
-use Rattle.xa_crew.specs.Ending.EndsNumber.{kept, free}
 use Rattle.xa_telling.proofs.Entries.{collected_there, Fits as Agrees, StandsAt, agreed_fits, no_entries, HasTaken, collecting_sends_none, has_redeemed}
-use Rattle.std.proofs.lemmas.Option.{slice_get_past, slice_get_cases}
-use Rattle.xa_desk.proofs.Fresh.{fresh_sent, fresh_collected}
+use Rattle.xa_desk.proofs.Books.{fresh_sent, fresh_collected}
 use Rattle.xa_switch.specs.{ledgers_of, IsNewDesk, DeskSeat, seat_of_desk, ThreadPart, ManagerPart, IsSettled, find_thread, ledgers_in, sent, collected}
-use Rattle.xa_switch.specs.{journal, thread_part, manager_part, settling, Settling}
-use Rattle.xa_worker.specs.{WorkerView, Served}
+use Rattle.xa_switch.specs.{journal, thread_part, manager_part, settling, Settling, Again, FollowsTables, journal_in, history, IsScanOf, first_ledgers}
+use Rattle.xa_switch.specs.{flags_in, managers_in, last_in, reopened_at, reopening, MayReopen}
+use Rattle.xa_worker.specs.{WorkerView, Served, requests}
 use Rattle.xa_log.specs.{LogState}
-use Rattle.xa_grammar.specs.{ScriptTask, ScriptStep, tasks_of, threads_of, managers_of, Content}
-use Rattle.xa_session.specs.{Session, HasDone}
-use Rattle.xa_transcript.specs.{Told, AreOfScript}
+use Rattle.xa_grammar.specs.{ScriptStep, tasks_of, threads_of, managers_of, Content, carries_async}
+use Rattle.xa_session.specs.{Session}
+use Rattle.xa_transcript.specs.{Told, AreOfScript, opened, opened_after, histories}
 use Rattle.xa_telling.specs.{Comes, Ran, Beginning, TellsOf, part_at, answers_to, entries_of, TakesPart, AreLeft, AreCarriedOut, Part, HasCode, new_part}
-use Rattle.xa_telling.proofs.Opened.{opened_threads, opened_managers, opened_first, opened_thread}
+use Rattle.xa_telling.specs.{AreNumbersOf, IsSetupOf, Former, Leaves, beginning}
+use Rattle.xa_telling.proofs.Opened.{opened_threads, opened_managers, opened_first, opened_thread, map_map, tasks_are_of, no_tasks, along}
 use Rattle.xa_telling.proofs.Branches.{fits, own as own_entries}
 use Rattle.xa_telling.proofs.Lines.{lines_in, tasks_in, answers_in, carried_all}
-use Rattle.xa_telling.proofs.Tasks.{tasks_are_of, no_tasks}
+use Rattle.xa_tables.proofs.Reopening.{left_on}
+use Rattle.xa_tables.specs.{tables_after, reopened, left_by}
+use Rattle.xa_scan.specs.{ScanView}
+use Rattle.xa_transcript.proofs.Worth.{found_manager}
 
 -- one of what was told: what was kept under the number at first was collected with this code
 abbrev pub IsTold : DeskView → DeskView → ℕ × Code → Type 0
@@ -86,9 +87,9 @@ module _ (n : ℕ) (first now next : DeskView) (told : List (ℕ × Code)) (h : 
 
 one_ended : (n : ℕ) (first : DeskView) (now next : Telling) → HaveEnded n first now.0 now.1 → EndsNumber (n + 1) now next
     → HaveEnded (n + 1) first next.0 next.1
-one_ended n first now next h (kept c takes pushed) =
+one_ended n first now next h (EndsNumber.kept c takes pushed) =
     subst (λ (l : List (ℕ × Code)). HaveEnded (n + 1) first next.0 l) (sym pushed) (ended_kept n first now.0 next.0 now.1 h takes.operation c (has_redeemed now.0 next.0 (n + 1) c takes))
-one_ended n first now next h (free empty same) =
+one_ended n first now next h (EndsNumber.free empty same) =
     subst (λ (x : Telling). HaveEnded (n + 1) first x.0 x.1) (sym same) (ended_free n first now.0 now.0 now.1 h empty)
 
 -- the numbers of a chain
@@ -109,16 +110,9 @@ numbers_ended first ks last (more xs x now l before is) (suc n) same =
 unsent_kept : (d : DeskView) → ((m : ℕ) → (ledger d.ledgers m).sent ≡ []) → AllKept d
 unsent_kept d unsent = record {
   each = λ o out.
-      let sent = out.sent in
       let size : length (ledger d.ledgers o.manager).sent ≡ 0 = ap (λ l. length l) (unsent o.manager) in
-      absurd (omega (arith, sent, size));
+      absurd (omega (arith, out.sent, size));
 }
-
--- as a thread goes on
-runs_go : (first : Session × List Told) (tasks : List ScriptTask) (last : Session × List Told) → Chain HasDone first tasks last
-    → seat_of_desk last.0.desk ≡ seat_of_desk first.0.desk
-runs_go first tasks last (none xs l e f) = ap (λ (s : Session × List Told). seat_of_desk s.0.desk) f
-runs_go first tasks last (more xs x now l before is) = is.does.goes_on.seat ∙ runs_go first xs now before
 
 -- ---- what is left at the end
 
@@ -166,31 +160,45 @@ log_left b left (suc k) = log_in (b.logs (suc k)) (slice_get left k)
 pub log_there : (b : Beginning) (left : List Session) (k : ℕ) (x : Session) → slice_get left k ≡ Some x → x.log.found.state ≡ log_left b left (suc k)
 log_there b left k x at = sym (ap (log_in (b.logs (suc k))) at)
 
+-- ---- flags
+
+-- a desk's flags are those of its plan
+flags_planned : (at : List LedgerView) → map (λ (p : Bool × ℕ). p.0) (plans at) ≡ map (λ (a : LedgerView). a.carries_async) at
+flags_planned at = map_map (λ (p : Bool × ℕ). p.0) _ at
+
+new_flags : (plan : ℕ) (flags : List Bool) → map (λ (a : LedgerView). a.carries_async) (new_ledgers plan flags) ≡ flags
+new_flags plan [] = refl
+new_flags plan (b ∷ flags) = ap (λ l. b ∷ l) (new_flags plan flags)
+
+first_there : (es : List EndedView) (e : EndedView) → slice_get es 0 ≡ Some e → first_ledgers (map thread_part es) ≡ e.ledgers
+first_there [] e at = absurd (cc)
+first_there (d ∷ es) e at = let same : d ≡ e = cc in ap (λ (x : EndedView). x.ledgers) same
+
 module _ (s : Content) (b : Beginning) (steps : List ScriptStep) (answers : List Told) (sessions left : List Session) (workers : List WorkerView)
     (ended : List EndedView) (done : List Served)
     (r : Ran s b steps answers sessions left workers ended done) where
+  abbrev settled : Settling
+  settled = settling ended done
+
   -- what an ended desk has of its thread and its lane
   comes_thread : (x y : Session) (e : EndedView) → Comes steps answers x y e → e.thread ≡ x.desk.thread
   comes_thread x y e c =
       c.ends.ends.thread
-      ∙ ap (λ (x : DeskSeat). x.thread) (c.ends.goes_on.seat ∙ runs_go (x, []) (tasks_of x.desk.thread steps) (y, answers_to x.desk.thread answers) c.runs)
+      ∙ ap (λ (x : DeskSeat). x.thread) (c.ends.goes_on.seat
+      ∙ along (λ (z : Session × List Told). seat_of_desk z.0.desk ≡ seat_of_desk x.desk) (x, []) _ (y, answers_to x.desk.thread answers) c.runs (λ _ _ _ is same. is.does.goes_on.seat ∙ same) refl)
 
   -- the thread of an ended desk, and the opened worker of one that has run
   thread_of_ended : (k : ℕ) (e : EndedView) → slice_get ended k ≡ Some e
       → (x : Session) × (slice_get sessions k ≡ Some x) × (y : Session) × Comes steps answers x y e
   thread_of_ended k e at =
       let within = slice_get_within ended k e at in
-      let many = r.many_ended in
-      let as_many = r.many_left in
-      let x = got sessions k (omega (arith, within, many)) in
-      let y = got left k (omega (arith, within, many, as_many)) in
+      let x = got sessions k (omega (arith, within, r.many_ended)) in
+      let y = got left k (omega (arith, within, r.many_ended, r.many_left)) in
       (x.0, x.1, y.0, r.threads k x.0 y.0 e x.1 y.1 at)
 
   worker_of : (k : ℕ) (d : Served) → slice_get done k ≡ Some d → (w : WorkerView) × (slice_get workers k ≡ Some w) × HasServed w d
   worker_of k d at =
-      let within = slice_get_within done k d at in
-      let many = r.managers.as_many in
-      let w = got workers k (omega (arith, within, many)) in
+      let w = got workers k (omega (arith, slice_get_within done k d at, r.managers.as_many)) in
       (w.0, w.1, r.managers.each k w.0 d w.1 at)
 
   desk_at : (k : ℕ) (x : Session) → slice_get sessions k ≡ Some x → slice_get (map (λ (x : Session). x.desk) sessions) k ≡ Some x.desk
@@ -235,14 +243,10 @@ module _ (s : Content) (b : Beginning) (steps : List ScriptStep) (answers : List
       let e = was_mapped thread_part ended k p at in
       let x = thread_of_ended k e.0 e.1 in
       let there = thread_at k x.0 x.1 in
-      let thread = ended_thread k e.0 e.1 in
       let own = ap (λ (x : ThreadPart). x.thread) e.2 in
-      none_there k x.0 x.1 (omega (arith, there, thread, own, same)))
+      none_there k x.0 x.1 (omega (arith, there, ended_thread k e.0 e.1, own, same)))
 
   module _ (is : IsSettled (settling ended done)) where
-    abbrev settled : Settling
-    settled = settling ended done
-
     made : (k : ℕ) (x : Session) → slice_get sessions k ≡ Some x → x.desk.ledgers ≡ new_ledgers r.opened.setup.numbers.requests r.opened.setup.use_async
     made k x at = let new = new_desk_at k x at in ap (λ (d : DeskView). d.ledgers) new.made
 
@@ -254,10 +258,8 @@ module _ (s : Content) (b : Beginning) (steps : List ScriptStep) (answers : List
     thread_carried : (k : ℕ) (x : Session) → slice_get sessions k ≡ Some x → Carried (suc k)
     thread_carried k x at =
         let within = slice_get_within sessions k x at in
-        let many = r.many_ended in
-        let as_many = r.many_left in
-        let e = got ended k (omega (arith, within, many)) in
-        let y = got left k (omega (arith, within, as_many)) in
+        let e = got ended k (omega (arith, within, r.many_ended)) in
+        let y = got left k (omega (arith, within, r.many_left)) in
         let c : Comes steps answers x y.0 e.0 = r.threads k x y.0 e.0 at y.1 e.1 in
         let own = thread_at k x at in
         let t : x.desk.thread ≡ suc k = omega (arith, own) in
@@ -302,8 +304,7 @@ module _ (s : Content) (b : Beginning) (steps : List ScriptStep) (answers : List
         let many = opened_threads s b.opening b.tables (map (λ (x : Session). x.desk) sessions) workers r.opened in
         let as_many = length-map sessions (λ (x : Session). x.desk) in
         let x = got sessions (t - 1) (omega (arith, low, high, many, as_many)) in
-        let thread = thread_at (t - 1) x.0 x.1 in
-        none_there (t - 1) x.0 x.1 (omega (arith, thread, low))) in (
+        none_there (t - 1) x.0 x.1 (omega (arith, thread_at (t - 1) x.0 x.1, low))) in (
           record {
             lines = [];
             tasks = sym silent;
@@ -343,3 +344,81 @@ module _ (s : Content) (b : Beginning) (steps : List ScriptStep) (answers : List
   -- what the answers tell
   pub tells : IsSettled (settling ended done) → TellsOf s b (record { steps = steps; answers = answers; settled = settling ended done })
   tells is = record { agree = is; managers = of_script; carried = λ t. (all_carried is t).0 }
+
+  -- ---- what it leaves to the next one
+
+  -- the flags are kept
+  flags_kept : flags_in settled ≡ r.opened.setup.use_async
+  flags_kept =
+      let threads = r.opened.said.limits.threads.0 in
+      let as_many = length-map sessions (λ (x : Session). x.desk) in
+      let x = got sessions 0 (omega (arith, threads, r.opened.opened.threads, as_many)) in
+      let y = got left 0 (omega (arith, threads, r.opened.opened.threads, as_many, r.many_left)) in
+      let e = got ended 0 (omega (arith, threads, r.opened.opened.threads, as_many, r.many_ended)) in
+      let c : Comes steps answers x.0 y.0 e.0 = r.threads 0 x.0 y.0 e.0 x.1 y.1 e.1 in
+      let new : IsNewDesk r.opened.setup 0 x.0.desk = new_desk_at 0 x.0 x.1 in
+      let plan : plans e.0.ledgers ≡ plans x.0.desk.ledgers =
+      ap plans c.ends.ends.ledgers ∙ c.ends.goes_on.plan
+      ∙ along (λ (z : Session × List Told). plans z.0.desk.ledgers ≡ plans x.0.desk.ledgers) (x.0, []) _ (y.0, answers_to x.0.desk.thread answers) c.runs (λ _ _ _ is same. is.does.goes_on.plan ∙ same) refl in
+      ap (map (λ (a : LedgerView). a.carries_async)) (first_there ended e.0 e.1)
+      ∙ sym (flags_planned e.0.ledgers) ∙ ap (map (λ (p : Bool × ℕ). p.0)) plan ∙ flags_planned x.0.desk.ledgers
+      ∙ ap (λ (d : DeskView). map (λ (a : LedgerView). a.carries_async) d.ledgers) new.made ∙ new_flags r.opened.setup.numbers.requests r.opened.setup.use_async
+
+  pub as_many_managers : managers_in settled ≡ managers_of s
+  as_many_managers = ap (λ l. length l) (flags_kept ∙ r.opened.said.use_async) ∙ length-map-range_with_len (carries_async s) 1 (managers_of s)
+
+  -- what the next one is made with
+  pub again_setup : (again : Again) → AreNumbersOf s (suc b.opening) again → MayReopen settled again
+      → IsSetupOf s (suc b.opening) (reopened_at settled.managers) (reopening settled again)
+  again_setup again numbers may = search (arith, as_many_managers, flags_kept, range_with_len)
+
+  -- and that it may be
+  pub may_reopen : (again : Again) → AreNumbersOf s (suc b.opening) again → settled.opening ≡ b.opening → MayReopen settled again
+  may_reopen again numbers own = search (arith, as_many_managers, numbers.opening_)
+
+  -- ---- what it begins with
+
+  -- the threads with the logs that are left, and with these scans
+  abbrev pub next_beginning : (ℕ → ScanView) → Beginning
+  next_beginning scans = record { opening = suc b.opening; tables = reopened_at settled.managers; logs = log_left b left; scans = scans }
+
+  -- the tables are those that are left
+  tables_left : IsSettled settled → (m : ℕ) → 1 ≤ m → m ≤ managers_of s
+      → reopened_at settled.managers m ≡ reopened (tables_after (history settled m) (b.tables m))
+  tables_left is m low high =
+      let p = found_manager s b.tables settled.managers of_script m low high in
+      let follows : FollowsTables p.0 = all_at FollowsTables settled.managers (m - 1) p.0 is.tables p.3 in
+      ap (λ o. reopened (last_in o)) p.1
+      ∙ ap reopened (follows.left ∙ (λ i. tables_after (requests (journal_in (sym p.1 i))) (p.2 i)))
+
+  pub leaves : IsSettled settled → (line : ℕ) (scans : ℕ → ScanView) → ((t : ℕ) → 1 ≤ t → t ≤ threads_of s → IsScanOf settled (scans t))
+      → Leaves s (record { opening = record { steps = steps; answers = answers; settled = settled }; line = line }) b (next_beginning scans)
+  unfolding tells
+  leaves is line scans are = record {
+    tells = tells is;
+    opening = refl;
+    tables = tables_left is;
+    logs = λ t. sym (all_carried is t).1;
+    scans = are;
+  }
+
+-- ---- over openings
+
+-- the tables with which an opening begins are those after the openings before it
+pub begins_after : (s : Content) (before : List Former) (b : Beginning) → Chain (Leaves s) (beginning s) before b → (m : ℕ) → 1 ≤ m → m ≤ managers_of s
+    → b.tables m ≡ opened_after s (map (λ f. f.opening.settled) before) m
+begins_after s before b (none fs last e f) m low high =
+    ap (λ (x : Beginning). x.tables m) f ∙ ap (λ (l : List Former). opened_after s (map (λ f. f.opening.settled) l) m) (sym e)
+begins_after s before b (more fs f now last earlier is) m low high =
+    let settled : List Settling = map (λ (g : Former). g.opening.settled) fs in
+    is.tables m low high
+    ∙ ap (λ T. reopened (tables_after (history f.opening.settled m) T)) (begins_after s fs now earlier m low high)
+    ∙ sym (left_on (histories settled m) (history f.opening.settled m) (opened s m))
+    ∙ sym (ap (λ l. left_by l (opened s m)) (map-append (λ (o : Settling). history o m) settled (f.opening.settled ∷ [])))
+    ∙ sym (ap (λ l. opened_after s l m) (map-append (λ (g : Former). g.opening.settled) fs (f ∷ [])))
+
+-- so its managers are those of the script after the openings before it
+pub of_script_after : (s : Content) (before : List Former) (b : Beginning) → Chain (Leaves s) (beginning s) before b → (managers : List ManagerPart)
+    → AreOfScript s b.tables managers
+    → AreOfScript s (opened_after s (map (λ f. f.opening.settled) before)) managers
+of_script_after s before b chain managers is = search (arith, slice_get_within, begins_after, is.many, is.first)

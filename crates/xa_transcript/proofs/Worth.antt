@@ -1,9 +1,8 @@
 -- Each declared key has a value, whatever its manager has carried out.
 use Rattle.xa_base.proofs.{◌≡◌, ℕ, ℤ, ◌+ℤ◌, ◌+◌, ◌-◌, ◌≤◌, zero, suc, pos, ◌<◌, ◌==◌, Bool, true, false, cond, ◌||◌, Option, None, Some, is_some, option_map}
 use Rattle.xa_base.proofs.{List, [], ◌∷◌, ◌++◌, length, map, filter, slice_get, refl, sym, ap, ◌∙◌, arith, list_any, slice_index_or, get-from_entries}
-use Rattle.xa_base.proofs.{eq_by_cmp, or-true, eq-eqb, got, find_numbered}
+use Rattle.xa_base.proofs.{eq_by_cmp, or-true, eq-eqb, got, find_numbered, is_some-find}
 use Rattle.std.specs.FinMap as finmap
-use Rattle.std.specs.FinMap.Entries.{is_some-find}
 use Rattle.xa_words.specs.Key.{key_cmp}
 use Rattle.xa_words.specs.{key_eq, key_cmp_total, key_eq-by_cmp, Decides-key_eq}
 use Rattle.xa_tables.specs.{Tables, History, Absent, added_over, value_over}

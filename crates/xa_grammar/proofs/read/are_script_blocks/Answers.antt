@@ -1,7 +1,6 @@
-use Rattle.xa_base.proofs.{◌≡◌, ◌-◌, true, take, drop, list_all, rules, arith}
-use Rattle.std.proofs.lemmas.List.{take_rest}
+use Rattle.xa_base.proofs.{◌≡◌, ◌-◌, true, take, drop, list_all, rules, arith, take_rest}
 use Rattle.xa_grammar.specs.{is_script_byte}
-use Rattle.xa_grammar.proofs.Blocks.{block_more, block_bad, block_last}
+use Rattle.xa_grammar.proofs.Lines.{block_more, block_bad, block_last}
 use Rattle.xa_grammar.proofs.read.are_script_blocks.Goals as goal
 
 pub returns-then-not-are_script_bytes : goal.returns-then-not-are_script_bytes

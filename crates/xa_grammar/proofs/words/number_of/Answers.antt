@@ -1,6 +1,11 @@
-use Rattle.xa_base.proofs.{◌<◌, arith, length}
-use Rattle.xa_grammar.proofs.Numbers.{digits_fit}
+use Rattle.xa_base.proofs.{ℕ, ◌^◌, ◌<◌, ◌≤◌, arith, length}
+use Rattle.std.proofs.Common.{lit<}
+use Rattle.std.proofs.Math.Nat.{pow-le-pow_right}
 use Rattle.xa_grammar.proofs.words.number_of.Goals as goal
+
+-- A number of at most 18 digits is below 10 ^ 18.
+digits_fit : (v i : ℕ) → v < 10 ^ i → i ≤ 18 → v < 1000000000000000000
+digits_fit v i h le = let p : 10 ^ i ≤ 10 ^ 18 = pow-le-pow_right {n = 10} (lit< tt) le in omega (arith, h, p)
 
 pub overflow_mul-value : goal.overflow_mul-value
 overflow_mul-value c =

@@ -1,5 +1,5 @@
-use Rattle.std.proofs.lemmas.List.{take_rest}
-use Rattle.xa_grammar.proofs.Plain.{plain_rest}
+use Rattle.xa_base.proofs.{take_rest}
+use Rattle.xa_grammar.proofs.Lines.{plain_rest}
 use Rattle.xa_grammar.proofs.words.without_spaces.Goals as goal
 
 pub returns-clause-plain : goal.returns-clause-plain

@@ -1,6 +1,38 @@
-use Rattle.xa_base.proofs.{◌<◌, sym, ◌∙◌, subst, ℕ}
-use Rattle.xa_script.proofs.Faults.{nothing_shown, faulty}
+use Rattle.xa_grammar.specs.declared.fault.ScriptFault.TheVariants as script
+use Rattle.xa_transcript.specs.declared.writing.RunFault.TheVariants as run
+use Rattle.xa_base.proofs.{◌≡◌, ◌⊎◌, inl, inr, ◌<◌, ℕ, List, Option, Some, None, Err, arith, IfSome, sym, ◌∙◌, subst}
+use Rattle.std.specs.Borrow.{Bor}
+use Rattle.xa_grammar.specs.{Reason, script_of}
+use Rattle.xa_command.specs.{Mode, AreWords, IsMode}
+use Rattle.xa_script.specs.{Fault, NoMemory, Script, Run, status_of, has_threads, IsJudged, IsFaulty, FailsBy}
 use Rattle.xa_script.proofs.entry.program.Goals as goal
+
+-- with another status than 4 nothing is shown
+shows_nothing : (fault : Fault) (m : Mode) (bytes before after : Option (List ℕ)) → FailsBy fault m bytes before after → status_of fault < 4 → after ≡ before
+shows_nothing (Script (script.Line n why)) m bytes before after is low = is.0
+shows_nothing (Run run.Write) m bytes before after is low = absurd (omega (arith, low))
+shows_nothing _ m bytes before after is low = is
+
+nothing_shown : (fault : Fault) (words : List (Bor (List ℕ))) (bytes before after : Option (List ℕ)) → (IsJudged fault ⊎ AreWords words)
+    → (IsJudged fault → after ≡ before) → ((m : Mode) → IsMode words m → FailsBy fault m bytes before after) → status_of fault < 4 → after ≡ before
+nothing_shown fault words bytes before after why unread fails low = search (arith, shows_nothing)
+
+some_faulty : (bytes : Option (List ℕ)) (m : Mode) (n : ℕ) (why : Reason) → IfSome bytes (λ b. script_of (has_threads m) b ≡ Err (n, why))
+    → IfSome bytes (IsFaulty m)
+some_faulty None m n why is = tt
+some_faulty (Some b) m n why is = ((n, why), is)
+
+not_judged : (n : ℕ) (why : Reason) → IsJudged (Script (script.Line n why)) → ⊥
+not_judged n why is = elim is [ inl usage ↦ cc | inr memory ↦ cc ]
+
+-- with status 1 a line is faulty
+faulty : (fault : Fault) (words : List (Bor (List ℕ))) (bytes before after : Option (List ℕ)) → (IsJudged fault ⊎ AreWords words)
+    → ((m : Mode) → IsMode words m → FailsBy fault m bytes before after) → status_of fault ≡ 1 → (m : Mode) × IsMode words m × IfSome bytes (IsFaulty m)
+faulty (Script (script.Line n why)) words bytes before after judged fails one =
+    elim judged [ | inl known ↦ absurd (not_judged n why known) | inr are ↦ let is = fails are.0 are.1 in (are.0, are.1, some_faulty bytes are.0 n why is.1) ]
+faulty (Run run.NoMemory) words bytes before after judged fails one = absurd (omega (arith, one))
+faulty (Run run.Write) words bytes before after judged fails one = absurd (omega (arith, one))
+faulty _ words bytes before after judged fails one = absurd (omega (arith, one))
 
 pub returns-in-Err-clause-nothing_shown : goal.returns-in-Err-clause-nothing_shown
 returns-in-Err-clause-nothing_shown g c positive low =
@@ -9,5 +41,4 @@ returns-in-Err-clause-nothing_shown g c positive low =
 
 pub returns-in-Err-clause-faulty : goal.returns-in-Err-clause-faulty
 returns-in-Err-clause-faulty g c one =
-    let e = c.in-Err.ensures in
-    faulty c.in-Err.fault c.args.words.now _ _ _ e.err_words e.err (sym c.status_of.ensures.status ∙ one)
+    faulty c.in-Err.fault c.args.words.now _ _ _ c.in-Err.ensures.err_words c.in-Err.ensures.err (sym c.status_of.ensures.status ∙ one)

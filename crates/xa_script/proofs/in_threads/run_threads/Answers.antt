@@ -1,12 +1,9 @@
-use Rattle.xa_base.proofs.{[], ◌∙◌}
+use Rattle.xa_base.proofs.{arith, [], ◌∙◌, on_ok_weaker}
 use Rattle.xa_command.specs.declared.mode.Mode.TheVariants as mode
-use Rattle.std.proofs.lemmas.Result.{on_ok_weaker}
 use Rattle.xa_script.proofs.in_threads.run_threads.Goals as goal
 
 pub show-requires : goal.show-requires
-show-requires g c =
-    let (answers, last, are, outcome, same) = c.in_ok-lines.ensures in
-    (answers, record { mode = mode.Threads; before = []; last = last; outcome = outcome; settles = same })
+show-requires g c = search (arith, c.in_ok-lines.ensures)
 
 pub returns-clause-ok : goal.returns-clause-ok
 returns-clause-ok g c =

@@ -1,6 +1,4 @@
-use Rattle.xa_base.proofs.{◌≡◌, ◌+◌, ℕ, subst, refl, arith, range_with_len, none_side, push_side, range_more}
-use Rattle.xa_grammar.specs.{threads_of}
-use Rattle.xa_base.specs.{Pairwise}
+use Rattle.xa_base.proofs.{◌+◌, refl, arith, range_with_len, none_side, push_side, range_more}
 use Rattle.xa_session.specs.{IsNew}
 use Rattle.xa_script.proofs.in_threads.threads_of.Goals as goal
 
@@ -18,6 +16,4 @@ loop-before-preserved c =
     }
 
 pub returns : goal.returns
-returns c =
-    let all : c.loop-before.before ≡ threads_of c.args.script.now = let same = c.threads-before-end.ensures.threads in omega (arith, same) in
-    subst (λ (n : ℕ). Pairwise (IsNew c.args.script.now) (range_with_len 1 n) c.loop-before.threads.items) all c.loop-before.invariant.new
+returns c = search (arith, range_with_len, c.threads-before-end.ensures.threads)

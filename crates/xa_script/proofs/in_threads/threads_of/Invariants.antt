@@ -5,6 +5,4 @@ use Rattle.xa_script.proofs.in_threads.threads_of.Given as goal
 
 -- the first threads are there
 abbrev pub invariant-loop-before : goal.invariant-loop-before
-invariant-loop-before l = record {
-  new : Pairwise (IsNew l.script) (range_with_len 1 l.before) l.threads.items;
-}
+invariant-loop-before l = record { new : Pairwise (IsNew l.script) (range_with_len 1 l.before) l.threads.items }

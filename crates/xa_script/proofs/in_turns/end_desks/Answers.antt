@@ -1,19 +1,18 @@
-use Rattle.xa_base.proofs.{◌++◌, ◌∷◌, [], List, length, length-append, sym, ap, ◌∙◌, subst, refl, arith, rules, into_iter_items, next_there, all_at}
+use Rattle.xa_base.proofs.{◌++◌, ◌∷◌, [], List, length, length-append, sym, ap, ◌∙◌, subst, refl, arith, rules, into_iter_items, next_there, all_at, taken_next}
+use Rattle.xa_base.proofs.{map-append}
 use Rattle.xa_desk.specs.{EndedView, AllKept}
-use Rattle.xa_base.specs.Lists.Chain.{none}
+use Rattle.xa_base.specs.Lists.Chain.{none, more}
 use Rattle.xa_log.specs.{LosingLog}
+use Rattle.xa_session.specs.{Session}
 use Rattle.xa_script.specs.{HasEndedDesk, closing_of}
-use Rattle.xa_script.proofs.DesksEnd.{one_more_ended, ended_count}
 use Rattle.xa_script.proofs.in_turns.end_desks.Goals as goal
 
 pub loop-session-init : goal.loop-session-init
 loop-session-init g c =
     record {
-      so_far = record {
-        so_far = search rules;
-        logs_are = c.in_ok-logs.ensures.items;
-        ends = none [] (closing_of c.in_ok-ended.ended.items c.args.turns.now c.args.transcript.now) refl (ap (λ (l : List EndedView). closing_of l c.args.turns.now c.args.transcript.now) c.in_ok-ended.ensures.items);
-      };
+      so_far = search rules;
+      logs_are = c.in_ok-logs.ensures.items;
+      ends = none [] (closing_of c.in_ok-ended.ended.items c.args.turns.now c.args.transcript.now) refl (ap (λ (l : List EndedView). closing_of l c.args.turns.now c.args.transcript.now) c.in_ok-ended.ensures.items);
       many = ap length c.in_ok-ended.ensures.items;
       room = let len = c.len.ensures in let is = c.args.sessions.ok in let room = c.in_ok-ended.ensures.capacity in omega arith;
       room_for_logs = let len = c.len-2.ensures in let is = c.args.sessions.ok in let room = c.in_ok-logs.ensures.capacity in omega arith;
@@ -22,16 +21,10 @@ loop-session-init g c =
 pub end_session-requires : goal.end_session-requires
 end_session-requires g c =
     all_at (λ x. AllKept x.desk) c.args.sessions.items (length c.loop-session.yielded) c.in-Some.session c.requires
-    (next_there c.args.sessions.items c.loop-session.yielded (into_iter_items c.next.new.self) c.in-Some.session (ap (λ l. c.loop-session.yielded ++ l) (sym c.in-Some.ensures.steps.0) ∙ c.loop-session.invariant.so_far.so_far))
+    (next_there c.args.sessions.items c.loop-session.yielded (into_iter_items c.next.new.self) c.in-Some.session (ap (λ l. c.loop-session.yielded ++ l) (sym c.in-Some.ensures.steps.0) ∙ c.loop-session.invariant.so_far))
 
 pub push_reserved-requires : goal.push_reserved-requires
-push_reserved-requires g c =
-    let i = c.loop-session.invariant in
-    let count = ended_count _ _ _ _ _ _ _ _ i.so_far c.in-Some.ensures.steps.0 in
-    let fewer = count.0 in
-    let many = i.many in
-    let room = i.room in
-    omega arith
+push_reserved-requires g c = search (arith, length-append, into_iter_items)
 
 pub loop-session-preserved : goal.loop-session-preserved
 loop-session-preserved g c =
@@ -41,10 +34,12 @@ loop-session-preserved g c =
     let ended : HasEndedDesk d old (closing_of c.push_reserved.new.self.items c.end_session.new.turns c.end_session.new.transcript) =
     subst (λ (l : List EndedView). HasEndedDesk d old (closing_of l c.end_session.new.turns c.end_session.new.transcript)) (sym c.push_reserved.ensures.items) (c.in_ok-end.ensures.ended c.loop-session.ended.items) in
     let logs = c.push_reserved-in-loop-session.ensures.items ∙ ap (λ (x : LosingLog). c.loop-session.logs.items ++ x ∷ []) c.in_ok-end.ensures.log in
-    let more = ap length c.push_reserved.ensures.items in
+    let longer = ap length c.push_reserved.ensures.items in
     let many = i.many in
     record {
-      so_far = one_more_ended _ _ _ _ _ _ _ d _ _ i.so_far c.in-Some.ensures.steps.0 logs ended;
+      so_far = taken_next c.loop-session.yielded _ (into_iter_items c.next.new.self) _ d c.in-Some.ensures.steps.0 i.so_far;
+      logs_are = logs ∙ ap (λ l. l ++ d.log ∷ []) i.logs_are ∙ sym (map-append (λ (x : Session). x.log) c.loop-session.yielded (d ∷ []));
+      ends = more c.loop-session.yielded d old _ i.ends ended;
       many = omega (arith, length-append c.loop-session.ended.items (c.in_ok-end.end ∷ []), length-append c.loop-session.yielded (d ∷ []));
       room = rw c.push_reserved.ensures.capacity i.room;
       room_for_logs = rw c.push_reserved-in-loop-session.ensures.capacity i.room_for_logs;

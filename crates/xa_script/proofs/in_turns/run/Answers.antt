@@ -1,12 +1,12 @@
 use Rattle.xa_base.proofs.{◌≡◌, ◌+◌, List, [], ◌∷◌, ◌++◌, take, refl, sym, ap, ◌∙◌, subst, arith, take_all}
 use Rattle.xa_base.specs.{IsUpTo}
-use Rattle.xa_grammar.proofs.Taken.{take_next}
+use Rattle.xa_grammar.proofs.StepLemmas.{take_next}
 use Rattle.xa_grammar.specs.declared.step.Step.TheVariants as step
-use Rattle.xa_grammar.specs.{ScriptStep, Fits, IsOfScript, threads_of, managers_of, Content}
+use Rattle.xa_grammar.specs.{Fits, IsOfScript, threads_of, managers_of, Content}
 use Rattle.xa_transcript.specs.{Told}
 use Rattle.xa_script.specs.{Runner, IsOutcome, HasReached}
 use Rattle.xa_command.specs.declared.mode.Mode.TheVariants as mode
-use Rattle.xa_script.proofs.Reached.{begun, reached_threads, reached_managers, stepped, ended_so, reopened, outcome_so}
+use Rattle.xa_script.proofs.Openings.{begun, reached_threads, reached_managers, stepped, ended_so, reopened, outcome_so}
 use Rattle.xa_script.proofs.in_turns.run.Goals as goal
 use Rattle.xa_script.proofs.in_turns.run.Goals.{in-Task+in_ok-call-in-Task+in_ok-tell-in-Task, in-Turn+in_ok-tell-in-Turn}
 use Rattle.xa_script.proofs.in_turns.run.Goals.{in-Reopen+in_ok-closed-in-Reopen+in_ok-tell-in-Reopen+in_ok-runner-in-Reopen}
@@ -33,49 +33,37 @@ turn-requires g c =
 
 pub reopen-requires-clause-closed : goal.reopen-requires-clause-closed
 reopen-requires-clause-closed g c =
-    let s : Content = c.args.script.now in
     let h = c.loop-place.invariant.reached in
-    let x = c.in_ok-closed-in-Reopen.ensures.closed s h.begins h.own h.told h.goes in
+    let x = c.in_ok-closed-in-Reopen.ensures.closed c.args.script.now h.begins h.own h.told h.goes in
     (h.begins, record { steps = h.own; answers = h.told ++ x.0; settled = c.in_ok-closed-in-Reopen.closed.settled }, x.2, refl, c.in_ok-closed-in-Reopen.ensures.number ∙ h.number)
 
 pub reopen-requires-clause-few : goal.reopen-requires-clause-few
 reopen-requires-clause-few g c =
-    let number = c.in_ok-closed-in-Reopen.ensures.number in
-    let few = c.loop-place.invariant.few in
-    let within = c.loop-place-test.true in
-    let short = c.len-place-end.ensures.fits in
-    omega (arith, number, few, within, short)
+    search (arith, c.in_ok-closed-in-Reopen.ensures.number, c.loop-place.invariant.few, c.loop-place-test.true, c.len-place-end.ensures.fits)
 
 pub loop-place-preserved : goal.loop-place-preserved
 loop-place-preserved g c =
     let s : Content = c.args.script.now in
-    let steps = s.steps in
-    let k = c.loop-place.place in
     let r = c.loop-place.runner in
     let answers = c.loop-place.transcript in
-    let lines = take k steps in
+    let lines = take c.loop-place.place s.steps in
     let h = c.loop-place.invariant.reached in
-    let few = c.loop-place.invariant.few in
-    let p : ScriptStep = c.step.result in
-    let longer : take (k + 1) steps ≡ lines ++ p ∷ [] =
-    take_next steps k p (let there = c.loop-place-test.true in let all = c.len-place-end.ensures.steps in omega (arith, there, all)) c.step.ensures.step in
-    let fits : Fits (threads_of s) (managers_of s) p = c.step.ensures.of in
+    let longer : take (c.loop-place.place + 1) s.steps ≡ lines ++ c.step.result ∷ [] = take_next s.steps c.loop-place.place c.step.result c.step.ensures.step in
+    let fits : Fits (threads_of s) (managers_of s) c.step.result = c.step.ensures.of in
     elim c.match-step.branch [
       | in-Task+in_ok-call-in-Task+in_ok-tell-in-Task w ↦
           let new = w.call.new.self in
-          let number = w.in_ok-call-in-Task.ensures.number in
           record {
-            reached = rw (longer, w.in-Task.is, w.runner-is, number, w.transcript-is, w.in_ok-tell-in-Task.ensures.told)
+            reached = rw (longer, w.in-Task.is, w.runner-is, w.in_ok-call-in-Task.ensures.number, w.transcript-is, w.in_ok-tell-in-Task.ensures.told)
                 (stepped s lines r.opening r.sessions.items r.turns answers h (step.Task w.in-Task.task) w.in_ok-call-in-Task.field-0 new.sessions.items new.turns refl (subst (Fits (threads_of s) (managers_of s)) w.in-Task.is fits) w.in_ok-call-in-Task.ensures.calls);
-            few = let same = ap (λ (x : Runner). x.opening) w.runner-is in omega (arith, same, number, few);
+            few = let same = ap (λ (x : Runner). x.opening) w.runner-is in omega (arith, same, w.in_ok-call-in-Task.ensures.number, c.loop-place.invariant.few);
           }
       | in-Turn+in_ok-tell-in-Turn w ↦
           let new = w.turn.new.self in
-          let number = w.turn.ensures.number in
           record {
-            reached = rw (longer, w.in-Turn.is, w.runner-is, number, w.transcript-is, w.in_ok-tell-in-Turn.ensures.told)
+            reached = rw (longer, w.in-Turn.is, w.runner-is, w.turn.ensures.number, w.transcript-is, w.in_ok-tell-in-Turn.ensures.told)
                 (stepped s lines r.opening r.sessions.items r.turns answers h (step.Turn w.in-Turn.line w.in-Turn.manager) w.turn.result new.sessions.items new.turns refl (subst (Fits (threads_of s) (managers_of s)) w.in-Turn.is fits) w.turn.ensures.turns);
-            few = let same = ap (λ (x : Runner). x.opening) w.runner-is in omega (arith, same, number, few);
+            few = let same = ap (λ (x : Runner). x.opening) w.runner-is in omega (arith, same, w.turn.ensures.number, c.loop-place.invariant.few);
           }
       | in-Reopen+in_ok-closed-in-Reopen+in_ok-tell-in-Reopen+in_ok-runner-in-Reopen w ↦
           let line = w.in-Reopen.line in
@@ -89,7 +77,7 @@ loop-place-preserved g c =
           record {
             reached = rw (longer, w.in-Reopen.is, w.runner-is, w.transcript-is, w.in_ok-tell-in-Reopen.ensures.told, x.1)
                 (reopened s lines r.opening r.sessions.items r.turns answers h x.0 settled line y.0 y.1 new.opening new.sessions.items new.turns y.2 y.3);
-            few = let same = ap (λ (x : Runner). x.opening) w.runner-is in omega (arith, same, number, own, few);
+            few = let same = ap (λ (x : Runner). x.opening) w.runner-is in omega (arith, same, number, own, c.loop-place.invariant.few);
           }
     ]
 

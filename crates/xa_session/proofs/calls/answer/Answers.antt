@@ -1,4 +1,4 @@
-use Rattle.xa_base.proofs.{ℤ, refl, sym, subst, arith, w32, to_z-of_z, ints}
+use Rattle.xa_base.proofs.{refl, sym, subst, arith, w32, to_z-of_z, ints}
 use Rattle.xa_grammar.specs.{ScriptCalling}
 use Rattle.xa_session.specs.{Answers, HasCollected}
 use Rattle.xa_session.proofs.calls.answer.Goals as goal
@@ -6,6 +6,6 @@ use Rattle.xa_session.proofs.calls.answer.Goals as goal
 pub returns-in-Complete-clause-answers : goal.returns-in-Complete-clause-answers
 returns-in-Complete-clause-answers g c =
     let q = c.args.called.now in
-    let given = to_z-of_z w32 c.in-Complete.handle (omega (arith, ints)) in
-    let has = subst (λ (z : ℤ). HasCollected q c.args.desk.now z c.completed.new.desk c.completed.result) given c.completed.ensures.answers in
+    let has : HasCollected q c.args.desk.now c.in-Complete.handle c.completed.new.desk c.completed.result =
+    rw (to_z-of_z w32 c.in-Complete.handle (omega (arith, ints))) at c.completed.ensures.answers in
     subst (λ (x : ScriptCalling). Answers x q c.args.desk.now c.args.scan.now c.completed.new.desk c.args.scan.now c.completed.result) (sym c.in-Complete.is) (has, refl)

@@ -1,5 +1,4 @@
-use Rattle.xa_base.proofs.{◌≡◌, ℤ, true, false, List, take, pos, refl, sym, ap, ◌∙◌, arith, w32, Vec, Global, to_z-of_z, ints}
-use Rattle.std.proofs.Common.{negsuc}
+use Rattle.xa_base.proofs.{◌≡◌, ℤ, true, false, List, take, pos, refl, sym, ap, ◌∙◌, arith, Vec, Global, to_z-of_z, negsuc}
 use Rattle.std.specs.Prelude.{nat_abs, int_lt}
 use Rattle.xa_words.specs.{XidName}
 use Rattle.xa_transcript.specs.{Recovered}
@@ -13,6 +12,4 @@ listed_so (pos n) z xids v same low is = (v, is ∙ ap (λ y. take (nat_abs y) x
 listed_so (negsuc n) z xids v same low is = absurd (let f : true ≡ false = ap (λ y. int_lt y (pos 0)) (sym same) ∙ low in cc)
 
 pub returns : goal.returns
-returns c =
-    let n = c.args.answer in
-    listed_so n _ c.args.xids.items c.truncate.new.self (to_z-of_z w32 n (omega (arith, ints))) c.if-answer-lt0.false c.truncate.ensures.items
+returns c = search (arith, listed_so, to_z-of_z, c.truncate.new.self, c.if-answer-lt0.false)

@@ -1,5 +1,4 @@
-use Rattle.xa_base.proofs.{◌≡◌, ◌≢◌, ◌≤◌, pos, true, Err, List, ℕ, length, sym, ap, ◌∙◌, arith, ◌&&◌, Bool, le-leb}
-use Rattle.std.proofs.Common.{decimal}
+use Rattle.xa_base.proofs.{◌≡◌, ◌≢◌, ◌≤◌, pos, true, Err, List, ℕ, length, sym, ap, ◌∙◌, arith, ◌&&◌, Bool, le-leb, decimal}
 use Rattle.std.proofs.lemmas.Fmt.{decimal_nonempty}
 use Rattle.xa_words.specs.{XidFault, is_part, xid_of}
 use Rattle.xa_session.proofs.commits.branch_at.Goals as goal

@@ -1,7 +1,7 @@
-use Rattle.xa_base.proofs.{◌<◌, length, List, [], take, sym, subst, refl, arith, take_all}
+use Rattle.xa_base.proofs.{List, [], take, sym, subst, refl, arith, take_all}
 use Rattle.xa_base.specs.{Chain}
 use Rattle.xa_base.specs.Lists.Chain.{none, more}
-use Rattle.xa_grammar.proofs.Taken.{take_next}
+use Rattle.xa_grammar.proofs.StepLemmas.{take_next}
 use Rattle.xa_transcript.specs.{Told}
 use Rattle.xa_session.specs.{Session, session_of, HasDone}
 use Rattle.xa_session.proofs.script_thread.carry_out_all.Goals as goal
@@ -21,22 +21,18 @@ loop-place-preserved g c =
     let p = c.get-task.result in
     let a = c.in_ok-answer.answer in
     let tasks = c.args.tasks.now in
-    let within : n < length tasks = let there = c.loop-place-test.true in let all = c.len-place-end.ensures in omega (arith, there, all) in
     let first : Session × List Told = (session_of c.args.desk.now c.args.log.now c.args.scan.now, c.args.told.now) in
     let old : Session × List Told = (session_of c.loop-place.desk c.loop-place.log c.loop-place.scan, c.loop-place.told) in
     let new : Session × List Told = (session_of c.carry_out.new.desk c.carry_out.new.log c.carry_out.new.scan, c.tell.new.self) in
     record {
-      runs = subst (λ l. Chain HasDone first l new) (sym (take_next tasks n p within c.get-task.ensures)) (more (take n tasks) p old new i.runs (record { answer = a; does = c.in_ok-answer.ensures.does; told = c.in_ok-tell.ensures.told }));
+      runs = subst (λ l. Chain HasDone first l new) (sym (take_next tasks n p c.get-task.ensures)) (more (take n tasks) p old new i.runs (record { answer = a; does = c.in_ok-answer.ensures.does; told = c.in_ok-tell.ensures.told }));
       goes_on = c.desks_go_on.ensures.further c.args.desk.now c.loop-place.desk c.carry_out.new.desk i.goes_on c.carry_out.ensures.goes_on;
       kept = λ all. c.carry_out.ensures.kept (i.kept all);
       idled = c.idles_go_on.ensures.further _ _ _ i.idled c.carry_out.ensures.idled;
     }
 
 pub returns-clause-runs : goal.returns-clause-runs
-returns-clause-runs g c =
-    let first : Session × List Told = (session_of c.args.desk.now c.args.log.now c.args.scan.now, c.args.told.now) in
-    let last : Session × List Told = (session_of c.loop-place.desk c.loop-place.log c.loop-place.scan, c.loop-place.told) in
-    subst (λ l. Chain HasDone first l last) (take_all c.loop-place.place c.args.tasks.now (omega arith)) c.loop-place.invariant.runs
+returns-clause-runs g c = search (arith, take_all, c.args.desk.now, c.args.log.now, c.loop-place.desk, c.loop-place.log, c.loop-place.place, c.args.tasks.now)
 
 pub returns-in_err-tell-clause-kept : goal.returns-in_err-tell-clause-kept
 returns-in_err-tell-clause-kept g c all = c.carry_out.ensures.kept (c.loop-place.invariant.kept all)

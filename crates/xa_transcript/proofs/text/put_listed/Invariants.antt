@@ -1,5 +1,4 @@
-use Rattle.xa_base.proofs.{◌≡◌, ◌++◌, length, take, flat_map}
-use Rattle.std.specs.Prelude.{codes, decimal}
+use Rattle.xa_base.proofs.{◌≡◌, ◌++◌, length, take, flat_map, codes, decimal}
 use Rattle.xa_transcript.specs.{xid_text}
 use Rattle.xa_transcript.proofs.text.put_listed.Given as goal
 

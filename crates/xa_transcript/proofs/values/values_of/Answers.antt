@@ -1,7 +1,5 @@
 use Rattle.xa_base.proofs.{◌≡◌, ◌<◌, sym, ap, ◌∙◌, subst, ◌++◌, ◌∷◌, ◌+◌, [], length, map, take, option_map, pos, slice_index_or, arith, All, map-append}
-use Rattle.xa_base.proofs.{take_all, All-push, one_more}
-use Rattle.std.specs.List.Sorted.{IsPermutation}
-use Rattle.std.proofs.lemmas.List.Sorted.{IsPermutation-map, All-permutation}
+use Rattle.xa_base.proofs.{take_all, All-push, one_more, IsPermutation, IsPermutation-map, All-permutation}
 use Rattle.xa_tables.proofs.Reopening.{accounts_new}
 use Rattle.xa_switch.specs.{history, Settling}
 use Rattle.xa_grammar.specs.{Declared, IsOfManager, accounts_of}

@@ -4,7 +4,4 @@ use Rattle.xa_transcript.proofs.writing.values_text.Given as goal
 
 -- the first values are told
 abbrev pub invariant-loop-value : goal.invariant-loop-value
-invariant-loop-value l = record {
-  line : l.text.line ≡ values_text (take l.value-index l.values);
-  whole : l.text.whole ≡ [];
-}
+invariant-loop-value l = record { line : l.text.line ≡ values_text (take l.value-index l.values); whole : l.text.whole ≡ [] }

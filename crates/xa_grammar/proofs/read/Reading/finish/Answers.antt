@@ -1,6 +1,6 @@
 use Rattle.xa_base.proofs.{◌≡◌, ◌<◌, ℕ, List, length, false, sym, subst, arith, ◌==◌, Ok, err_from_is_err_and}
 use Rattle.xa_grammar.specs.{after_line, FailsAt}
-use Rattle.xa_grammar.proofs.OneOpening.{after_one}
+use Rattle.xa_grammar.proofs.Scripts.{after_one}
 use Rattle.xa_grammar.proofs.Lines.{ends_empty, ends, ends_in_fault}
 use Rattle.xa_grammar.proofs.read.Reading.finish.Goals as goal
 
@@ -23,9 +23,8 @@ returns-in_err-read_line-clause-reads c =
 pub returns-clause-reads : goal.returns-clause-reads
 returns-clause-reads c =
     let r = c.args.self in
-    let t = c.read_line.new.script in
-    let taken : after_line r.threads_mode r.script r.number r.line.items ≡ Ok t = search (arith, r.threads_mode, r.script) in
-    ends r.threads_mode r.script t r.number r.line.items r.no_end (some_byte _ _ r.line.ok.0 (sym c.if-is_empty.ensures)) taken
+    let taken : after_line r.threads_mode r.script r.number r.line.items ≡ Ok c.read_line.new.script = search (arith, r.threads_mode, r.script) in
+    ends r.threads_mode r.script c.read_line.new.script r.number r.line.items r.no_end (some_byte _ _ r.line.ok.0 (sym c.if-is_empty.ensures)) taken
 
 pub returns-clause-one : goal.returns-clause-one
 returns-clause-one c = search (arith, after_one)

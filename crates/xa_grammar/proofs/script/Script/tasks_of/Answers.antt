@@ -1,6 +1,6 @@
 use Rattle.xa_base.proofs.{arith, ◌≡◌, ℕ, List, sym, ap, ◌∙◌, subst, All, arc_value}
 use Rattle.xa_grammar.specs.{ScriptStep, IsTask, own_steps, steps_at}
-use Rattle.xa_grammar.proofs.OwnTasks.{own_are_tasks, own_tasks}
+use Rattle.xa_grammar.proofs.StepLemmas.{own_are_tasks, own_tasks}
 use Rattle.xa_grammar.proofs.script.Script.tasks_of.Goals as goal
 
 -- the same steps behind each pointer

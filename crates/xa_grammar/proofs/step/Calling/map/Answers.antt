@@ -1,5 +1,4 @@
-use Rattle.xa_base.proofs.{◌≡◌, Option, None, Some, refl, sym, ap, ◌∙◌, MatchOption, option_map}
-use Rattle.std.proofs.Common.{Bor}
+use Rattle.xa_base.proofs.{Bor, ◌≡◌, Option, None, Some, refl, sym, ap, ◌∙◌, MatchOption, option_map}
 use Rattle.std.specs.Prelude.{IsSomeAnd, option_copied}
 use Rattle.xa_grammar.specs.declared.step.Calling.TheVariants as calling
 use Rattle.xa_grammar.specs.{call_with}

@@ -1,6 +1,6 @@
 use Rattle.xa_base.proofs.{ap, ◌∙◌, list_any}
 use Rattle.xa_grammar.specs.{is_reopen, is_kept_reopen}
-use Rattle.xa_grammar.proofs.Names.{any_reopens}
+use Rattle.xa_grammar.proofs.StepLemmas.{any_reopens}
 use Rattle.xa_grammar.proofs.steps.Steps.any_reopens.Goals as goal
 
 pub returns : goal.returns

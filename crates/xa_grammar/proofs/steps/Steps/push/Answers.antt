@@ -1,7 +1,6 @@
-use Rattle.xa_base.proofs.{◌≡◌, ◌++◌, ◌∷◌, [], List, ℕ, length, rules, sym, ap, ◌∙◌, subst, All, Result, Ok, Err, map-append, All-push}
-use Rattle.std.specs.Prelude.{OnErr}
+use Rattle.xa_base.proofs.{◌≡◌, ◌++◌, ◌∷◌, [], List, ℕ, length, rules, sym, ap, ◌∙◌, subst, All, Result, Ok, Err, map-append, All-push, OnErr}
 use Rattle.xa_grammar.specs.{ScriptStep, Spells, IsShort, KeptStep, IsNamed, step_at, steps_of, keys_in, kept_from}
-use Rattle.xa_grammar.proofs.Names.{step_put, steps_grown, names_grown}
+use Rattle.xa_grammar.proofs.StepLemmas.{step_put, steps_grown, names_grown}
 use Rattle.xa_grammar.proofs.steps.Steps.push.Goals as goal
 
 -- the step that is kept last has its name among the bytes and its key among the keys, which go on from those of before
@@ -46,13 +45,11 @@ returns-clause-pushed c =
 pub returns-in_err-add_key-clause-same : goal.returns-in_err-add_key-clause-same
 returns-in_err-add_key-clause-same c =
     let kept = c.self.inside.kept.items in
-    let names = c.self.inside.names.items in
-    let grown = names_grown names c.name_in.result.now c.self.inside.keys.items kept c.self.invariant in
+    let grown = names_grown c.self.inside.names.items c.name_in.result.now c.self.inside.keys.items kept c.self.invariant in
     on_err _ _ ((λ i. steps_of (c.in_ok-extend_from_slice.ensures.items i) (c.in_err-add_key.ensures.same i) kept) ∙ grown.0 ∙ c.self.view_is)
 
 pub returns-in_err-push-clause-same : goal.returns-in_err-push-clause-same
 returns-in_err-push-clause-same c =
     let kept = c.self.inside.kept.items in
-    let names = c.self.inside.names.items in
-    let grown = steps_grown names c.name_in.result.now c.self.inside.keys.items (keys_in c.args.step.now) kept c.self.invariant in
+    let grown = steps_grown c.self.inside.names.items c.name_in.result.now c.self.inside.keys.items (keys_in c.args.step.now) kept c.self.invariant in
     on_err _ _ (ap (steps_of c.extend_from_slice.new.self.items c.add_key.new.keys.items) c.in_err-push.ensures.items ∙ (λ i. steps_of (c.in_ok-extend_from_slice.ensures.items i) (c.in_ok-add_key.ensures.added i) kept) ∙ grown.0 ∙ c.self.view_is)

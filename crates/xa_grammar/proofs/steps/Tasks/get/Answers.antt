@@ -1,14 +1,13 @@
-use Rattle.xa_base.proofs.{◌<◌, ℕ, List, length, sym, ap, ◌∙◌, subst, arith, slice_get, arc_value}
-use Rattle.xa_grammar.specs.{ScriptStep, steps_at}
-use Rattle.xa_grammar.proofs.OwnTasks.{place_within, step_at_place, task_there, none_there}
+use Rattle.xa_base.proofs.{◌<◌, ℕ, List, length, sym, ap, ◌∙◌, subst, arith, slice_get, arc_value, all_at}
+use Rattle.xa_grammar.specs.{ScriptStep, IsTask, steps_at}
+use Rattle.xa_grammar.proofs.StepLemmas.{place_within, step_at_place, made_there}
 use Rattle.xa_grammar.proofs.steps.Tasks.get.Goals as goal
 
 pub index-requires : goal.index-requires
 index-requires c =
     let within =
     place_within (arc_value c.self.inside.steps) c.self.inside.places.items c.args.place _ c.self.invariant.0 c.self.invariant.1 c.self.view_is c.requires in
-    let long = c.self.inside.places.ok.0 in
-    omega (arith, within, long)
+    omega (arith, within, c.self.inside.places.ok.0)
 
 pub get-requires : goal.get-requires
 get-requires c =
@@ -24,7 +23,7 @@ unreachable-requires c =
     let within = place_within steps places c.args.place _ c.self.invariant.0 c.self.invariant.1 c.self.view_is c.requires in
     let there =
     step_at_place steps places c.args.place c.index.result.now c.get.result c.self.invariant.1 within c.index.ensures (ap (λ (l : List ScriptStep). slice_get l c.index.result.now) (sym c.deref.ensures) ∙ c.get.ensures) in
-    let task = none_there (steps_at steps places) c.args.place c.get.result c.self.invariant.0 there in
+    let task = all_at IsTask (steps_at steps places) c.args.place c.get.result c.self.invariant.0 there in
     search (arith, c.in-Turn.is)
 
 pub returns : goal.returns
@@ -34,4 +33,4 @@ returns c =
     let within = place_within steps places c.args.place _ c.self.invariant.0 c.self.invariant.1 c.self.view_is c.requires in
     let there =
     step_at_place steps places c.args.place c.index.result.now c.get.result c.self.invariant.1 within c.index.ensures (ap (λ (l : List ScriptStep). slice_get l c.index.result.now) (sym c.deref.ensures) ∙ c.get.ensures) in
-    search (arith, slice_get, task_there, c.args.place, c.in-Task.task, c.self.invariant.0)
+    search (arith, slice_get, made_there, c.args.place, c.get.result, c.self.invariant.0)

@@ -1,6 +1,6 @@
 use Rattle.xa_base.proofs.{◌≡◌, ◌<◌, ◌∷◌, take, drop, length, sym, ap, ◌∙◌, arith, true, false, take-append-drop, refl, List, ℕ, Bool}
 use Rattle.xa_grammar.specs.{words_of, starts_blank}
-use Rattle.xa_grammar.proofs.Splits.{first_word}
+use Rattle.xa_grammar.proofs.Lines.{first_word}
 use Rattle.xa_grammar.proofs.words.Words.next.Goals as goal
 
 -- Where only an empty line starts blank, a line that isn't empty doesn't.

@@ -2,9 +2,8 @@ use Rattle.xa_base.proofs.{[], map, all_unmapped}
 use Rattle.xa_desk.specs.{AllKept}
 use Rattle.xa_session.specs.{Session}
 use Rattle.xa_script.specs.{turns_at}
-use Rattle.xa_script.proofs.Closed.{later, all_told, has_run, comes}
-use Rattle.xa_script.proofs.Kept.{run_keeps}
-use Rattle.xa_script.proofs.Pieces.{pieces_of}
+use Rattle.xa_script.proofs.Runs.{later, all_told, has_run, comes, pieces_of}
+use Rattle.xa_script.proofs.EachStep.{run_keeps}
 use Rattle.xa_script.proofs.in_turns.Runner.close.Goals as goal
 
 pub end_desks-requires : goal.end_desks-requires

@@ -8,7 +8,7 @@ use Rattle.xa_session.specs.{Session, new_session}
 use Rattle.xa_telling.specs.{beginning}
 use Rattle.xa_telling.proofs.Opened.{map_map, planned_setup}
 use Rattle.xa_script.specs.{IsOpen}
-use Rattle.xa_script.proofs.Reopened.{begin_so}
+use Rattle.xa_script.proofs.Openings.{begin_so}
 use Rattle.xa_script.proofs.in_turns.Runner.open.Goals as goal
 
 pub returns-clause-opened : goal.returns-clause-opened

@@ -1,20 +1,26 @@
--- The bytes of names stay where they stand as more are appended.
-use Rattle.xa_base.proofs.{rules, ◌≡◌, ◌==◌, ℕ, pos, ◌+◌, ◌≤◌, Bool, true, false, if◌then◌else◌, List, [], ◌∷◌, ◌++◌, length, take, drop, All, Some, None}
-use Rattle.xa_base.proofs.{is_some, list_any, ◌||◌, refl, sym, ap, ◌∙◌, subst, arith, append-nil, length-append, length-drop, All-nil, All-cons, All-head}
-use Rattle.xa_base.proofs.{All-tail}
-use Rattle.std.proofs.Math.ListN.{get_or-append}
-use Rattle.std.proofs.Math.Seq.{drop-append_seam, take-length, get_or-append_seam}
-use Rattle.std.proofs.lemmas.List.{drop-append-le, take-append-le}
-use Rattle.xa_words.specs.{XidName, TranName}
-use Rattle.xa_grammar.specs.{Calling, Place, KeyPlace, ScriptCalling, ScriptAction, ScriptStep, CallHas, ActionHas, call_with, is_reopen, is_own, SpellsName}
-use Rattle.xa_grammar.specs.{Spells, IsShortName, IsShortGtrid, IsShort, KeptStep, bytes_at, name_at, gtrid_at, IsName, IsGtrid, IsKey, IsNamed, task_step}
-use Rattle.xa_grammar.specs.{step_at, steps_of, is_kept_of, is_kept_reopen, keys_called, keys_given, keys_in, place_from, key_place_from, action_from}
-use Rattle.xa_grammar.specs.{kept_from}
+-- Steps: their names stay where they stand as more are appended, and the tasks of one thread among them.
 use Rattle.xa_grammar.specs.declared.step.Calling.TheVariants as calling
 use Rattle.xa_grammar.specs.declared.step.Action.TheVariants as action
 use Rattle.xa_grammar.specs.declared.step.Step.TheVariants as step
 use Rattle.xa_grammar.specs.declared.steps.Kept.TheVariants as kept
+use Rattle.xa_base.proofs.{◌≡◌, ℕ, ◌+◌, ◌<◌, List, [], ◌∷◌, ◌++◌, length, take, Some, slice_get, sym, ◌∙◌, slice_get-get_or, some_same, one_more, rules, pos}
+use Rattle.xa_base.proofs.{◌≤◌, Bool, true, false, if◌then◌else◌, drop, All, None, is_some, list_any, ◌||◌, refl, ap, subst, arith, append-nil, length-append}
+use Rattle.xa_base.proofs.{length-drop, All-nil, All-cons, All-head, All-tail, zero, suc, cond, Option, cons_option, get_or, filter-append, All-push}
+use Rattle.xa_base.proofs.{All-weaker, is_there, got, slice_get_within, drop-append_seam, get_or-append_seam, drop-append-le, take-append-le, slice_get_read}
+use Rattle.xa_base.proofs.{filter_map-append}
+use Rattle.std.specs.List.{filter_map}
+use Rattle.std.proofs.Math.ListN.{get_or-append}
+use Rattle.std.proofs.Math.Seq.{take-length}
+use Rattle.xa_words.specs.{XidName, TranName}
+use Rattle.xa_grammar.specs.{Calling, Place, KeyPlace, ScriptCalling, ScriptAction, ScriptStep, CallHas, ActionHas, call_with, is_reopen, is_own, SpellsName}
+use Rattle.xa_grammar.specs.{Spells, IsShortName, IsShortGtrid, IsShort, KeptStep, bytes_at, name_at, gtrid_at, IsName, IsGtrid, IsKey, IsNamed, task_step}
+use Rattle.xa_grammar.specs.{step_at, steps_of, is_kept_of, is_kept_reopen, keys_called, keys_given, keys_in, place_from, key_place_from, action_from}
+use Rattle.xa_grammar.specs.{kept_from, ScriptTask, tasks_of, IsTask, own_steps, tasks_in, steps_at}
 use Rattle.xa_grammar.specs.KeptSteps.{key_at}
+
+-- the first steps, and one more
+pub take_next : {A : Type 0} (xs : List A) (i : ℕ) (x : A) → slice_get xs i ≡ Some x → take (i + 1) xs ≡ take i xs ++ x ∷ []
+take_next xs i x at = search (arith, slice_get_within, one_more, some_same, slice_get-get_or)
 
 -- ---- the bytes that were appended last
 
@@ -58,8 +64,7 @@ step_grown xs more ks others (kept.Call t line m flags c) is =
     (ap (λ (q : ScriptCalling). task_step line t (action.Call (record { manager = m; flags = flags; call = q }))) same, still)
 step_grown xs more ks others (kept.CommitAll t len at line managers death) is = search (arith, gtrid_grown, is_gtrid_grown)
 step_grown xs more ks others (kept.Resolve t line) is = (refl, tt)
-step_grown xs more ks others (kept.Turn line m) is = (refl, tt)
-step_grown xs more ks others (kept.Reopen line) is = (refl, tt)
+step_grown xs more ks others p is = (refl, tt)
 
 -- ---- a step whose name is appended
 
@@ -68,8 +73,7 @@ name_put : (xs w : List ℕ) (x : XidName) → IsShortName x → SpellsName w x
     → (name_at (xs ++ w) (place_from (length xs) x) ≡ x) × IsName (xs ++ w) (place_from (length xs) x)
 name_put xs w x (format, gtrid, bqual) (front, back) =
     let behind : length (drop (length x.gtrid + 1) w) ≡ length x.bqual = ap length back in
-    let cut = length-drop (length x.gtrid + 1) w in
-    let long : length x.gtrid + 1 + length x.bqual ≡ length w = omega (arith, behind, cut, bqual) in
+    let long : length x.gtrid + 1 + length x.bqual ≡ length w = omega (arith, behind, length-drop (length x.gtrid + 1) w, bqual) in
     let size = length-append xs w in
     let whole : bytes_at (xs ++ w) (length xs) (length x.gtrid + 1 + length x.bqual) ≡ w = ap (bytes_at (xs ++ w) (length xs)) long ∙ last_at xs w in
     let before : take (length x.gtrid) (bytes_at (xs ++ w) (length xs) (length x.gtrid + 1 + length x.bqual)) ≡ x.gtrid = search (arith, rules) in
@@ -110,8 +114,7 @@ pub step_put : (xs w : List ℕ) (ks : List (List ℕ)) (p : ScriptStep) → IsS
     → let all = xs ++ w in let keys = ks ++ keys_in p in let k = kept_from (length xs) (length ks) p in
     (step_at all keys k ≡ p) × IsNamed all keys k
 step_put xs w ks (step.Task p) short spells = action_put xs w ks p.line p.thread p.action short spells
-step_put xs w ks (step.Turn line m) short spells = (refl, tt)
-step_put xs w ks (step.Reopen line) short spells = (refl, tt)
+step_put xs w ks p short spells = (refl, tt)
 
 -- ---- so steps stay as they are
 pub steps_grown : (xs more : List ℕ) (ks others : List (List ℕ)) (steps : List KeptStep) → All (IsNamed xs ks) steps
@@ -129,11 +132,8 @@ names_grown xs more ks steps all =
     subst (λ (l : List (List ℕ)). (steps_of (xs ++ more) l steps ≡ steps_of xs ks steps) × All (IsNamed (xs ++ more) l) steps) (append-nil ks) (steps_grown xs more ks [] steps all)
 
 reopens_same : (bytes : List ℕ) (keys : List (List ℕ)) (p : KeptStep) → is_kept_reopen p ≡ is_reopen (step_at bytes keys p)
-reopens_same bytes keys (kept.Call t line m flags c) = refl
-reopens_same bytes keys (kept.CommitAll t len at line managers death) = refl
-reopens_same bytes keys (kept.Resolve t line) = refl
-reopens_same bytes keys (kept.Turn line m) = refl
 reopens_same bytes keys (kept.Reopen line) = refl
+reopens_same bytes keys p = refl
 
 pub any_reopens : (bytes : List ℕ) (keys : List (List ℕ)) (steps : List KeptStep)
     → list_any is_kept_reopen steps ≡ list_any is_reopen (steps_of bytes keys steps)
@@ -146,8 +146,69 @@ own_cases false p = refl
 
 -- names don't tell whose a step is
 pub own_same : (t : ℕ) (bytes : List ℕ) (keys : List (List ℕ)) (p : KeptStep) → is_kept_of t p ≡ is_own t (step_at bytes keys p)
-own_same t bytes keys (kept.Call u line m flags c) = own_cases (u == t) _
-own_same t bytes keys (kept.CommitAll u len at line managers death) = own_cases (u == t) _
-own_same t bytes keys (kept.Resolve u line) = own_cases (u == t) _
 own_same t bytes keys (kept.Turn line m) = refl
 own_same t bytes keys (kept.Reopen line) = refl
+own_same t bytes keys p = own_cases _ _
+
+-- ---- the tasks of one thread
+
+-- where something is made of each element of a list
+module _ {A B : Type 0} (f : A → Option B) where
+  abbrev Makes : A → Type 0
+  Makes x = is_some (f x) ≡ true
+
+  as_many_made : (xs : List A) → All Makes xs → length (filter_map f xs) ≡ length xs
+  as_many_made [] all = refl
+  as_many_made (x ∷ xs) all = rw (is_there (f x) (All-head Makes x xs all)).1 (ap suc (as_many_made xs (All-tail Makes x xs all)))
+
+  pub made_there : (xs : List A) (i : ℕ) (x : A) → All Makes xs → slice_get xs i ≡ Some x → slice_get (filter_map f xs) i ≡ f x
+  made_there [] i x all at = absurd cc
+  made_there (y ∷ xs) zero x all at = let made = is_there (f y) (All-head Makes y xs all) in rw made.1 (sym made.1 ∙ ap f (some_same y x at))
+  made_there (y ∷ xs) (suc i) x all at = rw (is_there (f y) (All-head Makes y xs all)).1 (made_there xs i x (All-tail Makes y xs all) at)
+
+pub own_are_tasks : (t : ℕ) (steps : List ScriptStep) → All IsTask (own_steps t steps)
+own_are_tasks t [] = All-nil IsTask
+own_are_tasks t (step.Task p ∷ steps) = search (arith, own_are_tasks t steps, All-cons, step.Task)
+own_are_tasks t (p ∷ steps) = own_are_tasks t steps
+
+pub own_tasks : (t : ℕ) (steps : List ScriptStep) → tasks_in (own_steps t steps) ≡ tasks_of t steps
+own_tasks t [] = refl
+own_tasks t (step.Task p ∷ steps) = search (arith, own_tasks t steps, is_some, cons_option, step.Task)
+own_tasks t (p ∷ steps) = own_tasks t steps
+
+-- ---- of steps at places
+
+places_make : (steps : List ScriptStep) (places : List ℕ) → All (λ k. k < length steps) places → All (Makes (slice_get steps)) places
+places_make steps places within = All-weaker (λ k. k < length steps) (Makes (slice_get steps)) (λ k lt. ap is_some (got steps k lt).1) places within
+
+-- the step at the place that stands at i
+pub step_at_place : (steps : List ScriptStep) (places : List ℕ) (i k : ℕ) (x : ScriptStep) → All (λ k. k < length steps) places → i < length places
+    → k ≡ get_or places i k → slice_get steps k ≡ Some x → slice_get (steps_at steps places) i ≡ Some x
+step_at_place steps places i k x within there is at = search (arith, made_there, slice_get, places_make, slice_get_read)
+
+-- as many tasks as places
+pub as_many_places : (steps : List ScriptStep) (places : List ℕ) → All IsTask (steps_at steps places) → All (λ k. k < length steps) places
+    → length (tasks_in (steps_at steps places)) ≡ length places
+as_many_places steps places tasks within = search (arith, as_many_made, slice_get, places_make)
+
+pub place_within : (steps : List ScriptStep) (places : List ℕ) (k : ℕ) (tasks : List ScriptTask) → All IsTask (steps_at steps places)
+    → All (λ n. n < length steps) places → tasks_in (steps_at steps places) ≡ tasks → k < length tasks → k < length places
+place_within steps places k tasks are within seen less = search (arith, as_many_places)
+
+-- the places of thread t's own among the first k steps
+abbrev pub OwnUpTo : ℕ → List ScriptStep → ℕ → List ℕ → Type 0
+OwnUpTo t steps k places = (steps_at steps places ≡ own_steps t (take k steps)) × All (λ q. q < length steps) places
+
+-- and one more where the next step is its own
+pub own_next : (t : ℕ) (steps : List ScriptStep) (k : ℕ) (places : List ℕ) (x : ScriptStep) → OwnUpTo t steps k places → slice_get steps k ≡ Some x
+    → OwnUpTo t steps (k + 1) (if is_own t x then places ++ k ∷ [] else places)
+own_next t steps k places x (so_far, low) at =
+    by (is_own t x) (ap (own_steps t) (take_next steps k x at) ∙ filter-append (is_own t) (take k steps) (x ∷ []))
+  where
+    by : (b : Bool) → own_steps t (take (k + 1) steps) ≡ own_steps t (take k steps) ++ cond b (x ∷ []) []
+        → OwnUpTo t steps (k + 1) (if b then places ++ k ∷ [] else places)
+    by true more = (
+      filter_map-append (slice_get steps) places (k ∷ []) ∙ (λ i. so_far i ++ cons_option (at i) []) ∙ sym more,
+      All-push (λ q. q < length steps) places k low (slice_get_within steps k x at),
+    )
+    by false more = (so_far ∙ sym (append-nil (own_steps t (take k steps))) ∙ sym more, low)

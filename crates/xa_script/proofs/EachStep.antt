@@ -1,23 +1,73 @@
--- What each thread's lines come to, in a run of all lines.
-use Rattle.xa_base.proofs.{◌≡◌, ◌≢◌, ℕ, ◌+◌, ◌-◌, ◌≤◌, zero, suc, Bool, true, false, cond, filter, List, [], ◌∷◌, ◌++◌, Some, None, sym, refl, ap, ◌∙◌, subst}
-use Rattle.xa_base.proofs.{inl, inr, arith, append-nil, append_assoc, map, slice_get, slice_set, All, if◌then◌else◌, flat_map, cases_eq, eq-eqb, ne_eqb}
-use Rattle.xa_base.proofs.{map-append, filter-append, slice_get_within, set_there, flat_push, none_side, push_side, some_same, all_left, all_mid}
-use Rattle.std.specs.Prelude.{filter_map}
-use Rattle.std.proofs.lemmas.List.Elements.{filter_map-append}
-use Rattle.xa_desk.specs.{EndedView}
+-- What each step of a run keeps, and what comes of a thread by its lines.
 use Rattle.xa_grammar.specs.declared.step.Step.TheVariants as step
-use Rattle.xa_grammar.specs.{ScriptTask, ScriptStep, task_of, tasks_of, Fits}
+use Rattle.xa_base.proofs.{◌≡◌, ◌-◌, List, length, ap, ◌∙◌, subst, sym, length-set, All, all_at, ◌≢◌, ℕ, ◌+◌, ◌≤◌, zero, suc, Bool, true, false, cond, filter}
+use Rattle.xa_base.proofs.{[], ◌∷◌, ◌++◌, Some, refl, inl, inr, arith, append-nil, append_assoc, map, slice_get, slice_set, flat_map, cases_eq, eq-eqb, ne_eqb}
+use Rattle.xa_base.proofs.{All-head, All-tail, All-push, All-nil, map-append, filter-append, slice_get_within, set_there, flat_push, none_side, push_side}
+use Rattle.xa_base.proofs.{some_same, all_left, all_mid, filter_map-append}
+use Rattle.xa_grammar.specs.{ScriptStep, ScriptTask, task_of, tasks_of, Fits}
 use Rattle.xa_session.specs.{Session, Does, ScriptThread, HasDone, told_of}
-use Rattle.xa_transcript.specs.{Told, all_ended}
+use Rattle.xa_transcript.specs.{Answer, Told, all_ended, ended}
 use Rattle.xa_base.specs.{Chain, Pairwise}
 use Rattle.xa_base.specs.Lists.Chain.{none, more}
+use Rattle.xa_crew.specs.{AllGoOn, all_stay, all_go_on, EndsDesk, Member}
+use Rattle.xa_crew.proofs.WorkersOn.{turn_goes}
+use Rattle.xa_script.specs.{Stage, TurnsAt, Steps, HasStepped, Closing, HasEndedDesk, told_by, HasCalled, HasTurned}
+use Rattle.std.proofs.lemmas.List.Elements.{All-set}
+use Rattle.xa_desk.specs.{AllKept, EndedView}
 use Rattle.xa_words.specs.{Code}
-use Rattle.xa_crew.specs.{EndsDesk, Member}
-use Rattle.xa_script.specs.{told_by, TurnsAt, Closing, HasCalled, HasTurned, HasStepped, HasEndedDesk}
-use Rattle.xa_telling.specs.{is_to, answers_to}
-use Rattle.xa_telling.proofs.Tasks.{AreOf}
+use Rattle.xa_telling.specs.{is_to, answers_to, is_end_of, ends_of}
+use Rattle.xa_telling.proofs.Opened.{AreOf, along, along_all}
+
+-- ---- what each step keeps
+
+steps_go : (p : ScriptStep) (old new : Stage) (line : Told) → Steps p old new line → AllGoOn old.workers new.workers
+steps_go (step.Task p) old new line is = is.turns
+steps_go (step.Reopen number) old new line is = absurd is
+steps_go (step.Turn number m) old new line is = turn_goes m is.did old.workers new.workers is.turn
+
+pub run_goes : (old : TurnsAt) (steps : List ScriptStep) (new : TurnsAt) → Chain HasStepped old steps new → AllGoOn old.stage.workers new.stage.workers
+run_goes old steps new runs =
+    along (λ (c : TurnsAt). AllGoOn old.stage.workers c.stage.workers) old steps new runs
+    (λ x now next is go. all_go_on old.stage.workers now.stage.workers next.stage.workers go (steps_go x now.stage next.stage is.line is.steps)) (all_stay old.stage.workers)
+
+pub ends_go : (old : Closing) (sessions : List Session) (new : Closing) → Chain HasEndedDesk old sessions new → AllGoOn old.workers new.workers
+ends_go old sessions new runs =
+    along (λ (c : Closing). AllGoOn old.workers c.workers) old sessions new runs
+    (λ x now next is go. all_go_on old.workers now.workers next.workers go is.turns) (all_stay old.workers)
+
+-- as many threads stay
+steps_count : (p : ScriptStep) (old new : Stage) (line : Told) → Steps p old new line → length new.sessions ≡ length old.sessions
+steps_count (step.Task p) old new line is = ap (λ l. length l) is.rest ∙ length-set old.sessions (p.thread - 1) is.after
+steps_count (step.Reopen number) old new line is = absurd is
+steps_count (step.Turn number m) old new line is = ap (λ l. length l) is.rest
+
+pub run_count : (old : TurnsAt) (steps : List ScriptStep) (new : TurnsAt) → Chain HasStepped old steps new
+    → length new.stage.sessions ≡ length old.stage.sessions
+run_count old steps new runs =
+    along (λ (c : TurnsAt). length c.stage.sessions ≡ length old.stage.sessions) old steps new runs
+    (λ x now next is same. steps_count x now.stage next.stage is.line is.steps ∙ same) refl
+
+-- what is outstanding stays kept
+abbrev pub AreKept : List Session → Type 0
+AreKept sessions = All (λ c. AllKept c.desk) sessions
+
+steps_keep : (p : ScriptStep) (old new : Stage) (line : Told) → Steps p old new line → AreKept old.sessions → AreKept new.sessions
+steps_keep (step.Task p) old new line is all =
+    let here : AllKept is.before.desk = all_at (λ c. AllKept c.desk) old.sessions (p.thread - 1) is.before all is.at in
+    subst AreKept (sym is.rest) (All-set (λ c. AllKept c.desk) old.sessions (p.thread - 1) is.after (is.does.kept here) all)
+steps_keep (step.Reopen number) old new line is all = absurd is
+steps_keep (step.Turn number m) old new line is all = subst AreKept (sym is.rest) all
+
+pub run_keeps : (old : TurnsAt) (steps : List ScriptStep) (new : TurnsAt) → Chain HasStepped old steps new → AreKept old.stage.sessions
+    → AreKept new.stage.sessions
+run_keeps old steps new runs all =
+    along (λ (c : TurnsAt). AreKept c.stage.sessions) old steps new runs (λ x now next is. steps_keep x now.stage next.stage is.line is.steps) all
 
 -- ---- lists
+
+-- a thread as it goes on, and its answers so far
+abbrev State : Type 0
+State = Session × List Told
 
 set_elsewhere : {A : Type 0} (xs : List A) (i k : ℕ) (y : A) → k ≢ i → slice_get (slice_set xs i y) k ≡ slice_get xs k
 set_elsewhere [] i k y differs = refl
@@ -44,31 +94,35 @@ ended_tell t u [] = refl
 ended_tell t u (one ∷ rest) = ended_tell t u rest
 
 pub ends_silent : (t u : ℕ) (answers : List Told) (outstanding : List (ℕ × Code)) → answers_to t (answers ++ all_ended u outstanding) ≡ answers_to t answers
-ends_silent t u answers outstanding =
-    filter-append (is_to t) answers (all_ended u outstanding) ∙ ap (λ l. answers_to t answers ++ l) (ended_tell t u outstanding)
-    ∙ append-nil (answers_to t answers)
+ends_silent t u answers outstanding = search (arith, filter-append, ended_tell, append-nil)
+
+filter_all : (p : Told → Bool) (xs : List Told) → All (λ a. p a ≡ true) xs → filter p xs ≡ xs
+filter_all p [] all = refl
+filter_all p (x ∷ xs) all = λ i. cond (All-head (λ a. p a ≡ true) x xs all i) (x ∷ filter_all p xs (All-tail (λ a. p a ≡ true) x xs all) i) (filter p xs)
+
+filter_none : (p : Told → Bool) (xs : List Told) → All (λ a. p a ≡ false) xs → filter p xs ≡ []
+filter_none p [] all = refl
+filter_none p (x ∷ xs) all = λ i. cond (All-head (λ a. p a ≡ false) x xs all i) (x ∷ filter p xs) (filter_none p xs (All-tail (λ a. p a ≡ false) x xs all) i)
+
+-- what holds of each answer to these tasks holds of all that is told by them
+each_told : (Q : Told → Type 0) (C : ScriptTask → Type 0) → ((x : ScriptTask) (a : Answer) → C x → Q (told_of x a)) → (first : State) → first.1 ≡ []
+    → (tasks : List ScriptTask) (last : State) → Chain HasDone first tasks last → All C tasks → All Q last.1
+each_told Q C so first start tasks last runs all =
+    along_all C (λ (s : State). All Q s.1) first tasks last runs all
+    (λ x now next c is told. subst (All Q) (sym is.told) (All-push Q now.1 (told_of x is.answer) told (so x is.answer c))) (subst (All Q) (sym start) (All-nil Q))
 
 -- ---- the tasks of a thread
 
 tasks_pushed : (t : ℕ) (steps : List ScriptStep) (p : ScriptTask) → p.thread ≡ t → tasks_of t (steps ++ step.Task p ∷ []) ≡ tasks_of t steps ++ p ∷ []
-tasks_pushed t steps p e =
-    filter_map-append (task_of t) steps (step.Task p ∷ [])
-    ∙ ap (λ b. tasks_of t steps ++ filter_map (λ (q : ScriptTask). if b then Some q else None) (p ∷ [])) (eq-eqb (p.thread) t e)
+tasks_pushed t steps p e = search (arith, filter_map-append, eq-eqb)
 
 tasks_passed : (t : ℕ) (steps : List ScriptStep) (p : ScriptTask) → p.thread ≢ t → tasks_of t (steps ++ step.Task p ∷ []) ≡ tasks_of t steps
-tasks_passed t steps p differs =
-    filter_map-append (task_of t) steps (step.Task p ∷ [])
-    ∙ ap (λ b. tasks_of t steps ++ filter_map (λ (q : ScriptTask). if b then Some q else None) (p ∷ [])) (ne_eqb p.thread t differs)
-    ∙ append-nil (tasks_of t steps)
+tasks_passed t steps p differs = search (arith, filter_map-append, ne_eqb, append-nil)
 
 tasks_turned : (t : ℕ) (steps : List ScriptStep) (line m : ℕ) → tasks_of t (steps ++ step.Turn line m ∷ []) ≡ tasks_of t steps
 tasks_turned t steps line m = filter_map-append (task_of t) steps (step.Turn line m ∷ []) ∙ append-nil (tasks_of t steps)
 
 -- ---- a run in turns
-
--- a thread as it goes on, and its answers so far
-abbrev State : Type 0
-State = Session × List Told
 
 -- thread k + 1 has done its tasks
 pub record Went (k : ℕ) (first : Session) (steps : List ScriptStep) (now : TurnsAt) : Type 0 where
@@ -87,8 +141,7 @@ done_went k d p xs now last a is told low w =
           let place : p.thread - 1 ≡ k = omega (arith, own) in
           let was : is.before ≡ w.last = some_same is.before w.last (sym is.at ∙ ap (slice_get now.stage.sessions) place ∙ w.at) in
           let to : is_to (k + 1) a ≡ true = ap (is_to (k + 1)) is.told ∙ eq-eqb (p.thread) (k + 1) own in
-          let answers : answers_to (k + 1) last.answers ≡ answers_to (k + 1) now.answers ++ a ∷ [] =
-          ap (answers_to (k + 1)) told ∙ to_pushed (k + 1) now.answers a to in
+          let answers : answers_to (k + 1) last.answers ≡ answers_to (k + 1) now.answers ++ a ∷ [] = search (arith, to_pushed, now.answers) in
           record {
             last = is.after;
             at = ap (λ l. slice_get l k) is.rest ∙ ap (λ i. slice_get (slice_set now.stage.sessions i is.after) k) place
@@ -172,12 +225,7 @@ pub record Closes (first : Closing) (sessions : List Session) (now : Closing) : 
 
 pub closes : (first : Closing) → first.ended ≡ [] → (sessions : List Session) (now : Closing) → Chain HasEndedDesk first sessions now
     → Closes first sessions now
-closes first start sessions now (none xs last e f) = record {
-  endings = [];
-  sessions_are = sym e;
-  ended = none_side EndedAs [] last.ended refl (ap (λ (c : Closing). c.ended) f ∙ start);
-  told = ap (λ (c : Closing). c.answers) f ∙ sym (append-nil first.answers);
-}
+closes first start sessions now (none xs last e f) = search (arith, none_side, append-nil, last.ended)
 closes first start sessions now (more xs x mid last before is) =
     let h = closes first start xs mid before in
     let one : Ending = (x, is.outstanding) in
@@ -185,11 +233,7 @@ closes first start sessions now (more xs x mid last before is) =
       endings = h.endings ++ one ∷ [];
       sessions_are = map-append (λ (z : Ending). z.0) h.endings (one ∷ []) ∙ ap (λ l. l ++ x ∷ []) h.sessions_are;
       ended = rw is.ended (push_side EndedAs h.endings mid.ended one is.view h.ended is.ends);
-      told =
-          is.told
-          ∙ ap (λ l. l ++ all_ended x.desk.thread is.outstanding) h.told
-          ∙ append_assoc first.answers (flat_map ended_by h.endings) (ended_by one)
-          ∙ ap (λ l. first.answers ++ l) (sym (flat_push ended_by h.endings one));
+      told = search (arith, append_assoc, flat_push, is.told, h.told);
     }
 
 -- ---- a run in threads
@@ -197,21 +241,43 @@ closes first start sessions now (more xs x mid last before is) =
 -- all that a thread was told
 pub told_all : (t : ℕ) (first : State) → first.1 ≡ [] → (tasks : List ScriptTask) (last : State) → Chain HasDone first tasks last → AreOf t tasks
     → answers_to t last.1 ≡ last.1
-told_all t first start tasks last (none xs l e f) own = let empty = ap (λ (s : State). s.1) f ∙ start in ap (answers_to t) empty ∙ sym empty
-told_all t first start tasks last (more xs x now l before is) own =
-    ap (answers_to t) is.told
-    ∙ to_pushed t now.1 (told_of x is.answer) (eq-eqb (x.thread) t (all_mid (λ (p : ScriptTask). p.thread ≡ t) xs [] x own))
-    ∙ ap (λ (k : List Told). k ++ told_of x is.answer ∷ []) (told_all t first start xs now before (all_left (λ (p : ScriptTask). p.thread ≡ t) xs (x ∷ []) own))
-    ∙ sym is.told
+told_all t first start tasks last runs own = search (arith, filter_all, each_told, eq-eqb)
 
 -- another thread is told nothing of it
 pub told_none : (t u : ℕ) → u ≢ t → (first : State) → first.1 ≡ [] → (tasks : List ScriptTask) (last : State) → Chain HasDone first tasks last → AreOf u tasks
     → answers_to t last.1 ≡ []
-told_none t u differs first start tasks last (none xs l e f) own = ap (answers_to t) (ap (λ (s : State). s.1) f ∙ start)
-told_none t u differs first start tasks last (more xs x now l before is) own =
-    ap (answers_to t) is.told
-    ∙ passed (is_to t) now.1 (told_of x is.answer) (ne_eqb x.thread t (λ e. differs (sym (all_mid (λ (p : ScriptTask). p.thread ≡ u) xs [] x own) ∙ e)))
-    ∙ told_none t u differs first start xs now before (all_left (λ (p : ScriptTask). p.thread ≡ u) xs (x ∷ []) own)
+told_none t u differs first start tasks last runs own =
+    filter_none (is_to t) last.1 (each_told (λ a. is_to t a ≡ false) (λ q. q.thread ≡ u) (λ x a same. ne_eqb x.thread t (λ e. differs (sym same ∙ e)))
+    first start tasks last runs own)
 
 abbrev pub told : Member ScriptThread → List Told
 told w = told_by w.attended
+
+-- ---- the lines of what was outstanding
+
+pub ends_all : (t : ℕ) (outstanding : List (ℕ × Code)) → ends_of t (all_ended t outstanding) ≡ all_ended t outstanding
+ends_all t [] = refl
+ends_all t (x ∷ outstanding) = λ i. cond (eq-eqb t t refl i) (ended t x ∷ ends_all t outstanding i) (ends_of t (all_ended t outstanding))
+
+pub ends_other : (t u : ℕ) → u ≢ t → (outstanding : List (ℕ × Code)) → ends_of t (all_ended u outstanding) ≡ []
+ends_other t u differs [] = refl
+ends_other t u differs (x ∷ outstanding) = search (arith, ends_other t u differs outstanding, ne_eqb)
+
+-- ---- no answer to a line is one of them
+
+-- of the tasks of a thread
+pub tasks_no_end : (t : ℕ) (first : State) → first.1 ≡ [] → (tasks : List ScriptTask) (last : State) → Chain HasDone first tasks last → ends_of t last.1 ≡ []
+tasks_no_end t first start tasks last runs =
+    filter_none (is_end_of t) last.1 (each_told (λ a. is_end_of t a ≡ false) (λ q. Unit {0}) (λ x a c. refl) first start tasks last runs (λ k d lt. tt))
+
+step_no_end : (t : ℕ) (x : ScriptStep) (now last : TurnsAt) (is : HasStepped x now last) → is_end_of t is.line ≡ false
+step_no_end t (step.Task p) now last is = ap (is_end_of t) is.steps.told
+step_no_end t (step.Reopen line) now last is = absurd is.steps
+step_no_end t (step.Turn line m) now last is = ap (is_end_of t) is.steps.told
+
+-- and of all steps
+pub steps_no_end : (t : ℕ) (first : TurnsAt) → first.answers ≡ [] → (steps : List ScriptStep) (now : TurnsAt) → Chain HasStepped first steps now
+    → ends_of t now.answers ≡ []
+steps_no_end t first start steps now runs =
+    along (λ (c : TurnsAt). ends_of t c.answers ≡ []) first steps now runs
+    (λ x mid next is none_yet. ap (ends_of t) is.told ∙ passed (is_end_of t) mid.answers is.line (step_no_end t x mid next is) ∙ none_yet) (ap (ends_of t) start)
