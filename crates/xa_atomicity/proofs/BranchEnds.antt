@@ -1,19 +1,18 @@
 -- How a branch ends that voted to commit, over openings one after another, by what it stands at as the first of them ends,
 -- and what its additions count for.
 use Rattle.xa_base.proofs.{arith, ◌≡◌, ℕ, Bool, true, false, if◌then◌else◌, List, [], ◌∷◌, ◌++◌, sym, refl, ap, ◌∙◌, subst, Option, Some, All, All-head}
-use Rattle.xa_base.proofs.{All-tail, all_left, ℤ, pos, ◌⊎◌, ◌≢◌, inl, inr, ⊎_elim, Contains, some_same, at_false, at_true}
+use Rattle.xa_base.proofs.{All-tail, all_left, ℤ, pos, ◌⊎◌, ◌≢◌, inl, inr, ⊎_elim, Contains, some_same, at_false, at_true, both_ways}
 use Rattle.xa_base.specs.{MOST_MANAGERS, IsUpTo}
 use Rattle.xa_words.specs.{XidName, Request, tran_of, RmFail, Prepare}
-use Rattle.xa_tables.specs.{HeuristicDecision, State, is_left_in, Fate, accepted, coded, commits_later, decided_fate, ending_by, fate, first_shut}
-use Rattle.xa_tables.specs.{is_in_doubt as is_unknown, is_live, last_or, late, or_later, parted, tables_after, commits_over, reopened, reopened_fate, Tables}
-use Rattle.xa_tables.specs.{History, state_of, is_prepared, IsFateOf, share, AreLeft, told_by}
+use Rattle.xa_tables.specs.{HeuristicDecision, State, is_left_in, Fate, accepted, coded, commits_later, decided_fate, fate, first_shut}
+use Rattle.xa_tables.specs.{is_in_doubt as is_unknown, is_live, last_or, late, parted, tables_after, commits_over, reopened, reopened_fate, Tables, History}
+use Rattle.xa_tables.specs.{state_of, is_prepared, IsFateOf, share, AreLeft, told_by}
 use Rattle.xa_switch.specs.{IsOpenedWith, first_of, history as history_of, settled_fate, IsSettled, Settling}
 use Rattle.xa_driver.specs.{Ending, Branch, Outcome, is_decided}
 use Rattle.xa_atomicity.specs.{Opening, ended_as, fate_through, histories, Tabled, IsAddition, prepare_of, WasAtFirst, is_heuristic, told_fate, AreInARow}
 use Rattle.xa_atomicity.specs.{EndsAs, IsKept, IsListed, OnlyResolves, ResolveCall, became, last_of, resolves, tables_left, uses_of, IsUnlisted, SharesOver}
 use Rattle.xa_atomicity.specs.{commits_after}
 use Rattle.xa_scan.specs.{left_at}
-use Rattle.std.proofs.lemmas.Bool.{both_ways}
 use Rattle.xa_atomicity.specs.Worth.{is_committed}
 use Rattle.xa_tables.specs.Histories as history
 use Rattle.xa_atomicity.proofs.Later.{last_ended, Walk, stands_first, ends_with, walk, walk_after, walk_ends, walk_tells}
@@ -26,28 +25,10 @@ use Rattle.xa_atomicity.proofs.OneOutcome.{FindsMark}
 
 -- ---- by the fate at the end of the first opening
 
--- a fate that isn't unknown is how it ended
-ends_by : (f : Fate) (b : Bool) → f ≡ ended_as b → ending_by f ≡ Some (is_committed f)
-ends_by f b e = grind arith
-
-decides_by : (f : Fate) (d : HeuristicDecision) → f ≡ decided_fate d → ending_by f ≡ Some (is_committed f)
-decides_by f d e = grind arith
-
-ending_so : (commit : Bool) (W L : Type 0) (s : Option State) (f : Fate) (e : Ending) → Comes commit W L s f e → is_unknown f ≡ false
-    → ending_by f ≡ Some (is_committed f)
-ending_so commit W L s f e (ends g) known = ends_by f commit g
-ending_so commit W L s f e (tells d g h) known = decides_by f d g
-ending_so commit W L s f e (leaves why left st) known = by_standing st
-  where
-    by_standing : Stands commit true (f ≡ history.InDoubt) L s f → ending_by f ≡ Some (is_committed f)
-    by_standing (waits y open_ state g) = let z : true ≡ false = sym (ap is_unknown g) ∙ known in cc
-    by_standing (unforgotten d state g l) = decides_by f d g
-    by_standing (over state g) = let z : true ≡ false = sym left ∙ ap is_left_in state in cc
-
 -- it counts where it was committed
 pub counts_so : (commit : Bool) (W L : Type 0) (s : Option State) (f through : Fate) (e : Ending) (after : Bool) → Comes commit W L s f e
     → (is_unknown f ≡ true → after ≡ is_committed through) → commits_or after (history.InDoubt ∷ once f) ≡ is_committed (if is_unknown f then through else f)
-counts_so commit W L s f through e after comes later = search (arith, commits_or, ending_so)
+counts_so commit W L s f through e after comes later = search (arith, commits_or)
 
 -- ---- through the later openings
 
@@ -56,10 +37,7 @@ module _ (commit : Bool) where
   IsEnded f = f ≡ ended_as commit
 
   pub committed_so : is_committed (ended_as commit) ≡ commit
-  committed_so = elim commit as (λ b. is_committed (ended_as b) ≡ b) [ true ↦ refl | false ↦ refl ]
-
-  ended_by : ending_by (ended_as commit) ≡ Some commit
-  ended_by = elim commit as (λ b. ending_by (ended_as b) ≡ Some b) [ true ↦ refl | false ↦ refl ]
+  committed_so = grind arith
 
   -- by the fates of one opening, where it was in doubt, and what is known of the later ones
   count_list : (fs : List Fate) (g : Fate) (after : Fate → Bool) (through : Fate → Fate) → All IsEnded fs → g ≡ history.InDoubt
@@ -69,7 +47,7 @@ module _ (commit : Bool) where
   count_list (f ∷ fs) g after through all e unknown known =
       let here : IsEnded f = All-head IsEnded f fs all in
       let there : IsEnded (last_or f fs) = last_ended commit fs f here (All-tail IsEnded f fs all) in
-      ap (λ o. or_later o (commits_or (after (last_or f fs)) fs)) (ap ending_by here ∙ ended_by) ∙ sym (ap is_committed (known there) ∙ committed_so)
+      search (arith, commits_or, committed_so)
 
 module _ (law : Tabled) (first : (s : Settling) (m : ℕ) (T : Tables) → IsSettled s → first_of s m ≡ Some T → IsOpenedWith s m T) (commit : Bool) (D L : Type 0)
     (m : ℕ) (up : IsUpTo MOST_MANAGERS m) (x : XidName) where
@@ -236,8 +214,7 @@ module _ (law : Tabled) (first : (s : Settling) (m : ℕ) (T : Tables) → IsSet
     ended_so before was = subst (λ (f : Fate). Ended (if is_unknown f then fate_through m b.xid f later else f)) (sym (same_fate before was)) ended_last
 
     known_so : (f : Fate) → Ended f → is_unknown f ≡ false
-    known_so f (inl z) = is_known_so f commit z
-    known_so f (inr z) = is_decided_so f z.0 z.1.0
+    known_so f end = search (arith, is_known_so, is_decided_so)
 
     -- where it was prepared as the first opening ended, it isn't in the end
     rests_so : is_prepared (tables_left o m) b.xid ≡ true → is_prepared (tables_left (last_of o later) m) b.xid ≡ false
@@ -289,5 +266,4 @@ module _ (law : Tabled) (first : (s : Settling) (m : ℕ) (T : Tables) → IsSet
               ⊎_elim (λ (told : told_fate e ≡ Some (decided_fate w.0)). absurd (untold e w.0 plain told)) (λ (listed : IsListed b w.0 later). absurd (unlisted w.0 listed)) w.1.1
 
       pub branch_follows : Follows commit o later t b n e
-      branch_follows =
-          (record { ends = ended_so; undoubted = λ before was. known_so (became b before o later) (ended_so before was); unprepared = rests_so }, branch_counts, branch_whole)
+      branch_follows = search (arith, ended_so, known_so, rests_so, branch_counts, branch_whole)

@@ -1,15 +1,14 @@
 -- Transfers conserve what all accounts are worth together, but for what branches in doubt hold.
 use Rattle.xa_driver.specs.{Done, is_commit, Branch, Ending, is_no, IsCommit, AreBranchesRising, has_branch_at, HasSentNoCommit, NoCommitWasSent}
-use Rattle.std.proofs.lemmas.Option.{slice_get_past}
-use Rattle.xa_base.proofs.{ne_eqb, or_from, cases_lt, eqb-true, le-leb, or_parts, ℤ, pos, ◌+ℤ◌, All, nat_le, ◌&&◌, ◌≡◌, ℕ, zero, suc, ◌+◌, ◌-◌, ◌<◌, ◌≤◌, ◌==◌}
-use Rattle.xa_base.proofs.{Bool, true, false, if◌then◌else◌, List, [], ◌∷◌, length, length-append, get_or, sym, refl, ap, ◌∙◌, subst, arith, list_any}
+use Rattle.xa_base.proofs.{slice_get_past, ne_eqb, or_from, cases_lt, eqb-true, le-leb, or_parts, ℤ, pos, ◌+ℤ◌, All, nat_le, ◌≡◌, ℕ, zero, suc, ◌+◌, ◌-◌, ◌<◌}
+use Rattle.xa_base.proofs.{◌≤◌, true, false, if◌then◌else◌, List, [], ◌∷◌, length, length-append, get_or, sym, refl, ap, ◌∙◌, subst, arith, list_any}
 use Rattle.xa_base.proofs.{range_with_len, ints, +ℤ_idl as none_plus, +ℤ_idr as plus_none, contains_at, range_all, total_alike, total_both, total_nothing}
 use Rattle.xa_base.proofs.{All-contains, inl, inr, cases_eq}
 use Rattle.xa_base.specs.{total}
 use Rattle.xa_words.specs.{XidName, Request, Code}
 use Rattle.xa_tables.specs.{Tables, are_accounts, opening, tables_after, moved, held_by, is_of, HoldsItsAdditions, History}
 use Rattle.xa_desk.specs.{LedgerView, DeskView, ledger, HaveGrown}
-use Rattle.xa_desk.proofs.Growth.{growing_on, same_lists}
+use Rattle.xa_desk.proofs.Ledgers.{growing_on, same_lists}
 use Rattle.xa_switch.specs.{Plan, IsSoundManager, IsSettled, sent, IsOpenedWith, ledgers_of, history, threads_of, managers_of, accounts_in, accounts_of}
 use Rattle.xa_switch.specs.{plan_worth, settled_worth, WorthIsOfThreads, Settling, moved_by}
 use Rattle.xa_log.specs.{LogState}
@@ -24,8 +23,7 @@ use Rattle.xa_atomicity.proofs.OneOutcome.{committed_law, positive_all}
 -- no branch of rising ones is at a manager before them
 none_before : (lo m : ℕ) (bs : List Branch) → AreBranchesRising lo bs → m ≤ lo → has_branch_at bs m ≡ false
 none_before lo m [] r le = refl
-none_before lo m (b ∷ bs) r le =
-    or_from (b.m == m) (has_branch_at bs m) (ne_eqb b.m m (λ same. omega (arith, same, r.0, le))) (none_before b.m m bs r.1 (omega (arith, r.0, le)))
+none_before lo m (b ∷ bs) r le = search (arith, none_before b.m m bs r.1 (omega (arith, r.0, le)), or_from, ne_eqb, b.m, r.1)
 
 -- what counts at the managers of branches alone may be summed over the branches
 over_branches : (g : ℕ → ℤ) (bs : List Branch) (lo n : ℕ) → AreBranchesRising lo bs → ((m : ℕ) → lo < m → has_branch_at bs m ≡ false → g m ≡ pos 0)
@@ -46,8 +44,7 @@ over_branches g (b ∷ bs) lo (suc n) r none beyond =
       | inr apart ↦
           let above : lo + 1 < b.m = omega (arith, r.0, apart) in
           let free : g (lo + 1) ≡ pos 0 = none (lo + 1) (omega arith) (none_before (lo + 1) (lo + 1) (b ∷ bs) (above, r.1) (omega arith)) in
-          ap (λ v. v +ℤ total g (range_with_len (lo + 1 + 1) n)) free ∙ none_plus _
-          ∙ over_branches g (b ∷ bs) (lo + 1) n (above, r.1) (λ m lt f. none m (omega (arith, lt)) f) (λ m lt. beyond m (omega (arith, lt)))
+          omega (arith, ints, free, over_branches g (b ∷ bs) (lo + 1) n (above, r.1) (λ m lt f. none m (omega (arith, lt)) f) (λ m lt. beyond m (omega (arith, lt))))
     ]
 
 -- ---- one thread
@@ -94,8 +91,7 @@ module _ (law : Tabled) (opens : (s : Settling) (m : ℕ) → IsSettled s → (T
 
   -- where nothing was sent nothing was moved
   none_within : (m k : ℕ) → moved_in m k k ≡ pos 0
-  none_within m k = moved_without (accounts_of p m) (is_within t k k) (history s m) (opening (accounts_of p m))
-      (λ j d lt here. let w = within_parts t k k (get_or (history s m) j d) here in let low = w.1 in let high = w.2 in absurd (omega (arith, low, high)))
+  none_within m k = search (arith, moved_without, is_within, within_parts)
 
   -- a manager that isn't there has no accounts
   no_accounts : (m : ℕ) → length p.managers.items < m → accounts_of p m ≡ []
@@ -121,17 +117,10 @@ module _ (law : Tabled) (opens : (s : Settling) (m : ℕ) → IsSettled s → (T
         → held_by (accounts_of p b.m) b.xid (tables_after (taken_before t (count old b.m) (history s b.m)) (opening (accounts_of p b.m))) ≡ added b
     held_is b good = holds (accounts_of p b.m) b.xid (taken_before t (count old b.m) (history s b.m)) good
 
-    nothing_added : (b : Branch) → length p.managers.items < b.m → added b ≡ pos 0
-    nothing_added b past = search (arith, held_is, no_accounts, b.m, b.xid)
-
-    either_none : (c : Bool) (v : ℤ) → v ≡ pos 0 → pos 0 ≡ (if c then v else pos 0)
-    either_none c v e = grind arith
-
     branch_moves : (b : Branch) (vote : Code) (e : Ending) → 1 ≤ b.m → Both law opens s t b (count old b.m) (count new b.m) vote e → BranchMoves b vote e
     branch_moves b vote e positive both =
         elim (cases_lt (length p.managers.items) b.m) [
-          | inl past ↦
-              record { both = both; moves = no_moves b.m (count old b.m) (count new b.m) past ∙ either_none (is_committed e) (added b) (nothing_added b past); reads = λ _. nothing_added b past }
+          | inl past ↦ search (arith, no_moves, held_is, no_accounts, b.m, b.xid)
           | inr below ↦
               let good = sound_at b.m positive below in
               let counted = both.counted (opening (accounts_of p b.m)) (opens_with b.m positive below) in
@@ -159,19 +148,14 @@ module _ (law : Tabled) (opens : (s : Settling) (m : ℕ) → IsSettled s → (T
         → (if is_committed e then v else pos 0) +ℤ (if is_in_doubt e then v else pos 0) ≡ v
     moved_or_doubted e v back left plain reads = grind (arith, none_plus, plus_none)
 
-    regroup : (a b c d v w : ℤ) → a +ℤ c ≡ v → b +ℤ d ≡ w → (a +ℤ b) +ℤ (c +ℤ d) ≡ v +ℤ w
-    regroup a b c d v w e f = omega (arith, ints)
-
     all_moved : (bs : List Branch) (vs : List Code) (es : List Ending) → list_any is_no vs ≡ false → list_any is_rolled_back es ≡ false
         → EachOutcome BranchMoves bs vs es → moved_for bs +ℤ total_in_doubt added bs es ≡ total added bs
     all_moved [] [] [] unopposed kept h = refl
     all_moved (b ∷ bs) (v ∷ vs) (e ∷ es) unopposed kept h =
         let votes = or_parts (is_no v) (list_any is_no vs) unopposed in
         let backs = or_parts (is_rolled_back e) (list_any is_rolled_back es) kept in
-        regroup (moved_in b.m (count old b.m) (count new b.m)) (moved_for bs) (if is_in_doubt e then added b else pos 0) (total_in_doubt added bs es) (added b) (total added bs)
-        (ap (λ q. q +ℤ (if is_in_doubt e then added b else pos 0)) h.0.moves ∙ moved_or_doubted e (added b) backs.0 (h.0.both.fated.unless_no votes.0)
-        (h.0.both.undecided votes.0) h.0.reads)
-        (all_moved bs vs es votes.1 backs.1 h.1)
+        let here = moved_or_doubted e (added b) backs.0 (h.0.both.fated.unless_no votes.0) (h.0.both.undecided votes.0) h.0.reads in
+        omega (arith, ints, here, h.0.moves, all_moved bs vs es votes.1 backs.1 h.1)
     all_moved bs vs es unopposed kept h = absurd h
 
   module _ (bs : List Branch) (desk : DeskView) (new : List LedgerView) (log later : LogState) (d : Done) (made : IsCommit bs desk new log later d)
@@ -200,9 +184,6 @@ module _ (law : Tabled) (opens : (s : Settling) (m : ℕ) → IsSettled s → (T
         (λ m positive none. ap (λ (l : LedgerView). moved_in m (count old m) (length l.sent)) (made.trace.course.others m (omega (arith, positive)) none) ∙ none_within m (count old m))
         (λ m past. no_moves m (count old m) (count new m) (omega (arith, past)))
 
-  add_up : (u v w d e : ℤ) → v ≡ u +ℤ w → w +ℤ e ≡ pos 0 → u +ℤ d ≡ pos 0 → v +ℤ (d +ℤ e) ≡ pos 0
-  add_up u v w d e f g h = omega (arith, ints)
-
   pub thread_law : (at : List LedgerView) (doubt : ℤ) → OnlyTransfers p s t at doubt → HaveGrown at (ledgers_of s t) → moved_until at +ℤ doubt ≡ pos 0
   thread_law _ _ (opened at nothing) grown =
       plus_none _
@@ -212,14 +193,11 @@ module _ (law : Tabled) (opens : (s : Settling) (m : ℕ) → IsSettled s → (T
       let quiet : total (λ m. moved_in m (count at m) (count later m)) (managers_of p) ≡ pos 0 =
       all_alike (λ m. moved_in m (count at m) (count later m)) (λ m. pos 0) (quiet_between at later grown none)
       ∙ total_nothing (managers_of p) in
-      ap (λ v. v +ℤ doubt) (moved_on at later growth ∙ ap (λ v. moved_until at +ℤ v) quiet ∙ plus_none _)
-      ∙ thread_law at doubt before (growing_on at later (ledgers_of s t) growth grown)
+      omega (arith, ints, moved_on at later growth, quiet, thread_law at doubt before (growing_on at later (ledgers_of s t) growth grown))
   thread_law _ _ (committed bs desk new log later d doubt before made alone zero_sum) grown =
       let growth : HaveGrown desk.ledgers new = growth_law made.may.tran bs desk.ledgers new log later d made.trace in
-      add_up (moved_until desk.ledgers) (moved_until new) (total (λ m. moved_in m (count desk.ledgers m) (count new m)) (managers_of p)) doubt (held_in_doubt p s t desk.ledgers bs d)
-      (moved_on desk.ledgers new growth)
-      (ap (λ v. v +ℤ held_in_doubt p s t desk.ledgers bs d) (at_managers bs desk new log later d made grown alone zero_sum) ∙ call_moves bs desk new log later d made grown alone zero_sum)
-      (thread_law desk.ledgers doubt before (growing_on desk.ledgers new (ledgers_of s t) growth grown))
+      let before_it = thread_law desk.ledgers doubt before (growing_on desk.ledgers new (ledgers_of s t) growth grown) in
+      omega (arith, ints, moved_on desk.ledgers new growth, at_managers bs desk new log later d made grown alone zero_sum, call_moves bs desk new log later d made grown alone zero_sum, before_it)
 
   -- in the end its requests are all those of the thread
   whole_thread : moved_by p s t ≡ moved_until (ledgers_of s t)
@@ -227,15 +205,9 @@ module _ (law : Tabled) (opens : (s : Settling) (m : ℕ) → IsSettled s → (T
       all_alike (λ m. moved (accounts_of p m) (is_of t) (history s m) (opening (accounts_of p m))) (λ m. moved_in m 0 (count (ledgers_of s t) m)) (λ m positive.
       moved_alike (accounts_of p m) (is_of t) (is_within t 0 (count (ledgers_of s t) m)) (history s m) (opening (accounts_of p m)) (λ k d lt.
       let r : Request = get_or (history s m) k d in
-      elim (r.thread == t) as (λ b. (r.thread == t) ≡ b → b ≡ (b && (nat_le 0 r.number && nat_le (suc r.number) (count (ledgers_of s t) m)))) [
-        | true ↦ λ e.
-            let lower = all_earlier t (history s m) 0 (sent s t m) (settled.agree t m).carried k d lt (eqb-true r.thread t e) in
-            let many : length (sent s t m) ≡ count (ledgers_of s t) m = ap length (by_ledger (ledgers_of s t) m (λ (z : LedgerView). z.sent) positive refl) in
-            let from : nat_le 0 r.number ≡ true = le-leb 0 r.number (omega arith) in
-            let up : nat_le (suc r.number) (count (ledgers_of s t) m) ≡ true = le-leb (suc r.number) (count (ledgers_of s t) m) (omega (arith, lower, many)) in
-            sym (λ i. from i && up i)
-        | false ↦ λ e. refl
-      ] refl))
+      let lower = all_earlier t (history s m) 0 (sent s t m) (settled.agree t m).carried k d lt in
+      let many : length (sent s t m) ≡ count (ledgers_of s t) m = ap length (by_ledger (ledgers_of s t) m (λ (z : LedgerView). z.sent) positive refl) in
+      grind (arith, lower, many, eqb-true, le-leb, nat_le)))
 
   pub conserved_by : (doubt : ℤ) → OnlyTransfers p s t (ledgers_of s t) doubt → moved_by p s t +ℤ doubt ≡ pos 0
   conserved_by doubt only = ap (λ v. v +ℤ doubt) whole_thread ∙ thread_law (ledgers_of s t) doubt only (same_lists (ledgers_of s t) (ledgers_of s t) refl)
@@ -249,18 +221,14 @@ conserved_law p s doubt worth each =
     sym (total_both (moved_by p s) doubt (threads_of p))
     ∙ total_alike (λ t. moved_by p s t +ℤ doubt t) (λ t. pos 0) (threads_of p) (range_all (λ t. moved_by p s t +ℤ doubt t ≡ pos 0) 1 p.threads (λ t positive below. each t positive (omega (arith, below))))
     ∙ total_nothing (threads_of p) in
-    settle_up (plan_worth p) (total (moved_by p s) (threads_of p)) (total doubt (threads_of p)) (settled_worth p s) worth none
-  where
-    settle_up : (a b c d : ℤ) → d ≡ a +ℤ b → b +ℤ c ≡ pos 0 → d +ℤ c ≡ a
-    settle_up a b c d e f = omega (arith, ints)
+    omega (arith, ints, worth, none)
 
 -- where no branch is in doubt nothing is missing
 no_doubt : (f : Branch → ℤ) (bs : List Branch) (es : List Ending) → list_any is_in_doubt es ≡ false → total_in_doubt f bs es ≡ pos 0
-no_doubt f [] es none = refl
-no_doubt f (b ∷ bs) [] none = refl
 no_doubt f (b ∷ bs) (e ∷ es) none =
     let parts = or_parts (is_in_doubt e) (list_any is_in_doubt es) none in
     λ i. (if parts.0 i then f b else pos 0) +ℤ no_doubt f bs es parts.1 i
+no_doubt f bs es none = refl
 
 pub decided_law : (p : Plan) (s : Settling) (t : ℕ) (old : List LedgerView) (bs : List Branch) (d : Done) → list_any is_in_doubt d.endings.items ≡ false
     → held_in_doubt p s t old bs d ≡ pos 0

@@ -78,15 +78,12 @@ own_plain {t} {T} {H} s x n last vote commit e course k d lt own up down = by_co
     forget_plain : (op : Op) → is_forget op ≡ true → is_heur op ≡ false
     forget_plain op e = grind arith
 
-    outcome_plain : (b : Bool) → is_heur (outcome_op b x) ≡ false
-    outcome_plain b = grind arith
-
     by_course : (e : Ending) → Course s x n last vote commit e → All (λ r. r.thread ≡ t → n ≤ r.number → r.number < last → is_heur r.op ≡ false) H
     by_course _ (Unreached same code) = λ k d lt own up down. absurd (omega (arith, same, up, down))
     by_course _ (Reads r z) = one_own s x n last vote (λ op. is_heur op ≡ false) refl z
     by_course _ (Breaks k z) = one_own s x n last vote (λ op. is_heur op ≡ false) refl z
     by_course _ (Stays c y z) = one_own s x n last vote (λ op. is_heur op ≡ false) refl z
-    by_course _ (Agrees c y z) = two_own s x n last vote (λ op. is_heur op ≡ false) refl (outcome_op commit x) c (outcome_plain commit) forget_plain z
+    by_course _ (Agrees c y z) = two_own s x n last vote (λ op. is_heur op ≡ false) refl (outcome_op commit x) c (grind arith) forget_plain z
     by_course _ (Refuses c y r z) = two_own s x n last vote (λ op. is_heur op ≡ false) refl (Rollback x) c refl forget_plain z
 
 -- ---- the course, by what the branch was asked
@@ -97,8 +94,7 @@ yes_wanted commit x = grind arith
 
 none_wanted : (x : XidName) (vote : Code) (commit : Bool) → is_yes vote ≡ false → (is_read vote || (is_rolled_back vote || is_out_of_reach vote)) ≡ true
     → second_op commit x vote ≡ None
-none_wanted x vote true y e = at_false (is_yes vote) _ None y
-none_wanted x vote false y e = at_true (is_read vote || (is_rolled_back vote || is_out_of_reach vote)) None _ e
+none_wanted x vote commit y e = search (arith, at_false, at_true)
 
 -- after the second request nothing was asked, or a Forget as it is wanted
 abbrev MayForget : (t : ℕ) → Tables → History → XidName → Option Code → Sent → Sent → Type 0
@@ -132,10 +128,7 @@ module _ {t : ℕ} {T : Tables} {H : History} (s : Site t T H) (x : XidName) (co
 
   -- no second request was wanted
   unwanted : second_op commit x vote ≡ None → (second ≡ None) × (new ≡ prepared)
-  unwanted e =
-      let o = subst (λ (op : Option Op). AsksFor (AsksIn t T H) op second prepared decided) e obeys in
-      elim (may_forget t T H x second decided new forgets) as
-      (λ _. (second ≡ None) × (new ≡ prepared)) [ inl same ↦ (o.0, same ∙ o.1) | inr f ↦ absurd (f.1 o.0) ]
+  unwanted e = search (arith, may_forget)
 
   module _ (first : StandsIn t n (Prepare x) vote T H) (hears : old.shut ≡ true → vote ≡ RmFail)
       (is : prepared ≡ record { number = suc n; shut = old.shut || is_rm_fail vote }) where
@@ -153,15 +146,12 @@ module _ {t : ℕ} {T : Tables} {H : History} (s : Site t T H) (x : XidName) (co
         open_still : prepared.shut ≡ true → ⊥
         open_still shut = search (arith, cases_Bool)
 
-        two_is : decided.number ≡ suc prepared.number → decided.number ≡ suc (suc n)
-        two_is e = e ∙ ap suc number_is
-
         by_second : (z : Option Code) → AsksFor (AsksIn t T H) (Some op) z prepared decided → MayHaveSent t T H x z decided new
             → (c : Code) × (z ≡ Some c) × Sends s x n last vote op c
         by_second None o f = absurd o
         by_second (Some c) (withholds shut fails same) f = absurd (open_still shut)
         by_second (Some c) (asks stands h to) f =
-            let e = two_is (ap (λ (z : Sent). z.number) to) in
+            let e = (ap (λ (z : Sent). z.number) to) ∙ ap suc number_is in
             let sends : Sends s x n last vote op c = record {
               first = first;
               second = subst (λ k. StandsIn t k op c T H) number_is stands;

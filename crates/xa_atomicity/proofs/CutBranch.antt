@@ -1,24 +1,22 @@
 -- What a branch stands at as the opening ends in which its commit was cut short.
-use Rattle.xa_base.proofs.{rules, false_from_ne_true, ◌≡◌, ℕ, suc, ◌+◌, inl, inr, Bool, true, false, if◌then◌else◌, List, [], ◌∷◌, ◌++◌, length, length-append}
+use Rattle.xa_base.proofs.{rules, false_from_ne_true, ◌≡◌, ℕ, inl, inr, Bool, true, false, if◌then◌else◌, List, [], ◌∷◌, ◌++◌, length, length-append}
 use Rattle.xa_base.proofs.{append_assoc, slice_get, get_or, sym, refl, ap, ◌∙◌, subst, arith, Option, Some, None, All, Contains, All-contains, All-head}
-use Rattle.xa_base.proofs.{some_same, all_after, at_true, all_left, ◌<◌, slice_get_within}
-use Rattle.std.proofs.lemmas.Bool.{both_ways}
+use Rattle.xa_base.proofs.{some_same, all_after, at_true, all_left, ◌<◌, slice_get_within, both_ways, Contains-push}
 use Rattle.xa_base.specs.{Begins}
 use Rattle.xa_words.specs.{XidName, Done, RmFail, Op, Prepare, Request, Code}
 use Rattle.xa_words.proofs.Xids.{xid_self}
 use Rattle.xa_tables.specs.{HeuristicDecision, State, is_left_in, decision_code, next, Fate, decided_fate, fate, last_or, tables_after, names, Tables, History}
-use Rattle.xa_desk.specs.{LedgerView, learnt_shut, with_sent, with_collected, numbered}
+use Rattle.xa_desk.specs.{LedgerView, learnt_shut, with_sent, with_collected}
 use Rattle.xa_driver.specs.{Branch, Ending, IsAnswered, IsBegun, asked, collected, in_flight, unasked, is_decided, second_op, third_op, yes_ending, outcome_op}
 use Rattle.xa_atomicity.specs.{IsAsked, IsEnded, IsTold, IsBetween, OnlyTheseOrDecisionsName, told_fate}
 use Rattle.xa_driver.proofs.Mapped.{IsAskedFor, any_asked, Any}
-use Rattle.xa_tables.proofs.Unnamed.{tables_after-append}
-use Rattle.std.proofs.lemmas.List.Elements.{Contains-push}
+use Rattle.xa_tables.proofs.ValueLaw.{tables_after-append}
 use Rattle.xa_tables.specs.Histories as history
 use Rattle.xa_atomicity.proofs.CutVotes.{vote_there, HasVoted, ended_voted, first_is, forget_sends, other_sends, prepare_sent, told_voted}
 use Rattle.xa_atomicity.proofs.Guided.{ends, leaves, tells, AtEnd, Comes, once, told_decided, decision_so, IsGuided, at_last, fate_any, fates_from}
 use Rattle.xa_atomicity.proofs.Guided.{guided_after, stands_now, told_there}
 use Rattle.xa_atomicity.proofs.Leading.{waits, unforgotten, over, IsTowards, Stands, ends_towards}
-use Rattle.xa_atomicity.proofs.Sites.{Site, StandsIn, above, at_place, below, later_place, fates, request_of, same_code, at_seam, IsFromTo, own_between}
+use Rattle.xa_atomicity.proofs.Sites.{Site, StandsIn, above, at_place, below, later_place, fates, request_of, same_code, at_seam, IsFromTo, own_sent}
 use Rattle.xa_atomicity.proofs.OneOutcome.{is_told_decision, second_so, third_so}
 use Rattle.xa_atomicity.proofs.Courses.{yes_wanted}
 use Rattle.xa_atomicity.proofs.Resolves.{Sends, contains_on}
@@ -38,8 +36,7 @@ module _ (commit : Bool) (L : Type 0) (x : XidName) where
   -- what leads it is no Prepare of it
   not_first : (sent more : List Op) → All (IsTowards commit L x) more → slice_get (sent ++ more) (length sent) ≡ Some (Prepare x) → ⊥
   not_first sent [] all e = absurd (omega (arith, slice_get_within (sent ++ []) (length sent) (Prepare x) e, length-append sent []))
-  not_first sent (op ∷ more) all e =
-      subst (IsTowards commit L x) (some_same op (Prepare x) (sym (at_seam sent op more) ∙ e)) (All-head (IsTowards commit L x) op more all) (xid_self x)
+  not_first sent (op ∷ more) all e = search (arith, some_same, at_seam, All-head, xid_self)
 
   unprepared : (a a' : LedgerView) → Sends (IsTowards commit L x) a a' → slice_get a'.sent (length a.sent) ≡ Some (Prepare x) → ⊥
   unprepared a a' z first = not_first a.sent z.more z.all (ap (λ l. slice_get l (length a.sent)) (sym z.sent) ∙ first)
@@ -93,17 +90,13 @@ vote_is P b v w a a' entries pairs h open_ begins answered agreed =
 second_towards : (commit : Bool) (L : Type 0) (x : XidName) (v : Code) → IsAskedFor (IsTowards commit L x) (second_op commit x v)
 second_towards commit L x v = second_so (IsTowards commit L x) commit x v (ends_towards commit L x x)
 
-third_towards : (commit : Bool) (L : Type 0) (x : XidName) (s : Option Code) → (is_told_decision s ≡ true → L)
-    → IsAskedFor (IsTowards commit L x) (third_op x s)
-third_towards commit L x s may = third_so (IsTowards commit L x) x s (λ e _. may e)
-
 pub told_voted_so : (commit : Bool) (L : Type 0) (b : Branch) (v : Code) (a a' : LedgerView) → IsTold commit b v a a'
     → HasVoted (IsTowards commit L b.xid) b v a a'
 told_voted_so commit L b v a a' = told_voted (IsTowards commit L b.xid) commit b v a a' (other_towards commit L b.xid) (second_towards commit L b.xid v)
 
 pub ended_voted_so : (commit : Bool) (L : Type 0) (b : Branch) (v : Code) (s : Option Code) (a a' : LedgerView) → (is_told_decision s ≡ true → L)
     → IsEnded commit b v s a a' → HasVoted (IsTowards commit L b.xid) b v a a'
-ended_voted_so commit L b v s a a' may = search (arith, ended_voted, other_towards, second_towards, third_towards, b.xid)
+ended_voted_so commit L b v s a a' may = search (arith, ended_voted, other_towards, second_towards, third_so, b.xid)
 
 -- The second request of a branch was sent after its Prepare, and was told a code.
 pub record WasTold (commit : Bool) (x : XidName) (c : Code) (a a' : LedgerView) : Type 0 where
@@ -148,17 +141,8 @@ module _ {t : ℕ} {T : Tables} {H : History} (s : Site t T H) (x : XidName) (a 
   n = length a.sent
 
   module _ (L : Type 0) (h : HasSentOnly commit L x a a') where
-    ops : s.ops ≡ a.sent ++ Prepare x ∷ (h.rest ++ grown.0)
-    ops = grown.1 ∙ ap (λ l. l ++ grown.0) h.sent ∙ append_assoc a.sent (Prepare x ∷ h.rest) grown.0
-
     abbrev IsLeading : Request → Type 0
-    IsLeading r = r.thread ≡ t → IsFromTo (IsTowards commit L x) (length (a.sent ++ Prepare x ∷ []))
-        (length (a.sent ++ Prepare x ∷ []) + length h.rest) r.number r.op
-
-    leading : All IsLeading H
-    leading =
-        own_between t (IsTowards commit L x) H (a.sent ++ Prepare x ∷ []) h.rest grown.0
-        (s.carried ∙ ap (numbered t 0) (ops ∙ sym (append_assoc a.sent (Prepare x ∷ []) (h.rest ++ grown.0)))) h.all
+    IsLeading r = r.thread ≡ t → IsFromTo (IsTowards commit L x) (length (a.sent ++ Prepare x ∷ [])) (length a'.sent) r.number r.op
 
     -- what names the branch after it decides it, or leads it
     pub guide : (c : Code) (f : StandsIn t n (Prepare x) c T H) → All (λ r. IsGuided commit L x r.op) f.after
@@ -166,10 +150,10 @@ module _ {t : ℕ} {T : Tables} {H : History} (s : Site t T H) (x : XidName) (a 
         let between : IsBetween t n (length a'.sent) (get_or f.after k d) = only f.before f.after
         (request_of t n (Prepare x)) f.place refl refl k d lt named plain in
         let up = above s n (Prepare x) f.before f.after f.place k d lt between.thread in
-        let long : length a'.sent ≡ suc (n + length h.rest) = ap (λ l. length l) h.sent
-        ∙ (let e = length-append a.sent (Prepare x ∷ h.rest) in omega (arith, e)) in
+        let leading : All IsLeading H = own_sent t (IsTowards commit L x) H s.ops (a.sent ++ Prepare x ∷ []) a'.sent h.rest s.carried grown
+        (h.sent ∙ sym (append_assoc a.sent (Prepare x ∷ []) h.rest)) h.all in
         all_after IsLeading f.before (request_of t n (Prepare x)) f.after (subst (All IsLeading) f.place leading) k d lt between.thread
-        (omega (arith, up, length-append a.sent (Prepare x ∷ []))) (omega (arith, between.below, long, length-append a.sent (Prepare x ∷ []))) named
+        (omega (arith, up, length-append a.sent (Prepare x ∷ []))) between.below named
 
     -- whatever its fate was before
     any_so : StandsIn t n (Prepare x) Done T H → (g k : Fate) → last_or g (fates x H T) ≡ last_or k (fates x H T)

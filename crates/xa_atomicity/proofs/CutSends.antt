@@ -1,24 +1,21 @@
 -- What a commit sent that was cut short: by the record no Commit, or no Rollback. And what leaves the branches of a commit:
 -- nothing, and requests of which none names them.
-use Rattle.xa_base.proofs.{arith, All-contains, ◌&&◌, is_some, ◌⊎◌, ◌≡◌, ℕ, ◌≤◌, Bool, true, false, ◌==◌, List, map, get_or, inl, inr, sym, refl, ap, ◌∙◌}
-use Rattle.xa_base.proofs.{subst, Some, None, All, eqb-true, list_any_none, all_unmapped, by_if, by_bool, ◌≢◌, ◌<◌, ◌++◌, length, ⊎_elim, Option, Contains}
-use Rattle.xa_base.proofs.{cases_lt, false_from_ne_true}
+use Rattle.xa_base.proofs.{arith, All-contains, ◌&&◌, is_some, ◌⊎◌, ◌≡◌, ℕ, ◌≤◌, Bool, true, false, ◌==◌, List, map, get_or, sym, refl, ap, ◌∙◌, subst, Some}
+use Rattle.xa_base.proofs.{None, All, eqb-true, list_any_none, all_unmapped, by_bool, ◌≢◌, ◌<◌, ◌++◌, length, ⊎_elim, Option, Contains, cases_lt}
+use Rattle.xa_base.proofs.{false_from_ne_true, and_left, and_right, true_from_ne_false, both_ways, Contains-get_or, Any-from_list_any}
 use Rattle.xa_driver.specs.{Prepared, Done, AreBranchesRising, IsTranOf, Logs, decision_of, Branch, Ending, Round, Decided, Ask, HaveComeSoFar, IsBegun}
 use Rattle.xa_driver.specs.{SameAsks, among_asks, is_commit, is_yes, yes_of, second_op, code_of, second_ask, yes_asked, HasDecided, HasPrepared, Outcome, Told}
 use Rattle.xa_driver.specs.{third_op, outcome_op, AsksLedger, first_ask, third_ask, HasTold, AtBranch, IsCommit}
-use Rattle.std.proofs.lemmas.Bool.{and_left, and_right, true_from_ne_false, both_ways}
-use Rattle.xa_words.specs.{XidName, TranName, Op, Prepare, Commit, Rollback, Forget, Code, xid_eq, Decides-xid_eq}
+use Rattle.xa_words.specs.{XidName, TranName, Op, Prepare, Forget, Code, xid_eq, Decides-xid_eq}
 use Rattle.xa_tables.specs.{names}
 use Rattle.xa_desk.specs.{LedgerView, DeskView, ledger, HaveGrown}
 use Rattle.xa_atomicity.specs.{CameSoFar, GoesByTheRecord, HasSentNone, IsCut, NoneWasToldToCommit, NoneWasToldToRollBack, is_recorded, is_rollback, AreOthers}
 use Rattle.xa_atomicity.specs.{DidOther, LeavesBranches, IsDone, IsOutcomeOf, ResolveCall, resolves}
 use Rattle.xa_log.specs.{LogState, record_of}
-use Rattle.xa_driver.proofs.Gathering.{carried}
+use Rattle.xa_driver.proofs.Requests.{carried}
 use Rattle.xa_driver.proofs.Mapped.{IsAskedFor, branch_by}
 use Rattle.xa_driver.proofs.Calls.{one_tran}
-use Rattle.std.proofs.lemmas.List.Elements.{Contains-get_or}
 use Rattle.xa_base.specs.{MOST_MANAGERS}
-use Rattle.std.proofs.lemmas.List.Folds.{Any-from_list_any}
 use Rattle.xa_atomicity.proofs.CutVotes.{CameAt, IsVoteOf, each_came, at_asking, at_forgetting, at_telling, begun_sends, ended_voted, other_sends, told_voted}
 use Rattle.xa_atomicity.proofs.CutVotes.{did_nothing, all_sent}
 use Rattle.xa_atomicity.proofs.Sites.{none_all}
@@ -77,14 +74,11 @@ NotToCommit commit v = (commit ≡ false) ⊎ (is_yes v ≡ false)
 
 pub no_commit_so : (commit : Bool) (x : XidName) (v : Code) → NotToCommit commit v → (P : Op → Type 0) → ((op : Op) → is_commit op ≡ false → P op)
     → IsAskedFor P (second_op commit x v)
-no_commit_so false x v h P so = second_so P false x v (so (Rollback x) refl)
-no_commit_so true x v (inl e) P so = cc
-no_commit_so true x v (inr e) P so = by_if (IsAskedFor P) (is_yes v) (Some (Commit x false)) None (λ y. absurd (both_ways (is_yes v) e y)) (λ _. tt)
+no_commit_so commit x v h P so = search (arith, second_so, both_ways)
 
 pub no_rollback_so : (commit : Bool) (x : XidName) (v : Code) → commit ≡ true → (P : Op → Type 0) → ((op : Op) → is_rollback op ≡ false → P op)
     → IsAskedFor P (second_op commit x v)
-no_rollback_so true x v h P so = second_so P true x v (so (Commit x false) refl)
-no_rollback_so false x v h P so = cc
+no_rollback_so commit x v h P so = search (arith, second_so)
 
 module _ (tran : TranName) (log later : LogState) (absent : record_of log tran ≡ None) (votes : List Code) (logged : Bool) (managers : List Bool)
     (logs : Logs tran managers votes logged log later) where

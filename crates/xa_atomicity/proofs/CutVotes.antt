@@ -3,6 +3,7 @@
 use Rattle.xa_base.proofs.{arith, ◌≡◌, ◌≢◌, ℕ, suc, ◌+◌, ◌≤◌, Bool, true, false, List, ◌∷◌, ◌++◌, length, append_assoc, refl, ap, ◌∙◌, Option, All, Contains}
 use Rattle.xa_base.proofs.{All-contains, ◌==◌, ◌||◌, zero, slice_get, ◌<◌, ◌&&◌, [], append-nil, get_or, sym, subst, Some, unwrap_or, or-true, eq-eqb, ne_eqb}
 use Rattle.xa_base.proofs.{false_from_ne_true, or_from, eqb-true, begins_on, all_mid, same_begins, Contains-append_right, All-nil, All-cons, at_false}
+use Rattle.xa_base.proofs.{both_ways, Contains-push}
 use Rattle.xa_base.specs.{MOST_MANAGERS, IsUpTo, Begins}
 use Rattle.xa_words.specs.{XidName, Decides-xid_eq, TranName, tran_of, Op, OpenRm, Prepare, Code, RmFail, Request}
 use Rattle.xa_tables.specs.{History, of_thread, names}
@@ -12,12 +13,10 @@ use Rattle.xa_driver.specs.{Done, Branch, Ending, Outcome, AsksLedger, outcome_o
 use Rattle.xa_driver.specs.{decision_of, EachBranch, IsCommit, IsTranOf, voted, IsAnswered, IsBegun, asked, collected, in_flight, unasked, second_op, third_op}
 use Rattle.xa_driver.specs.{ending_of}
 use Rattle.xa_log.specs.{Records, LogState}
-use Rattle.xa_atomicity.specs.{ResolveCall, Use, commits, cuts, resolves, IsUseIn, NamesTran, HasSent, IsAsked, CameSoFar, known_at, DidOther, EachVote, IsCut}
-use Rattle.xa_atomicity.specs.{IsEnded, IsTold, asking, forgetting, telling, IsKept, OnlyResolves, Opening}
+use Rattle.xa_atomicity.specs.{ResolveCall, Use, resolves, IsUseIn, NamesTran, HasSent, IsAsked, CameSoFar, known_at, DidOther, EachVote, IsCut, IsEnded}
+use Rattle.xa_atomicity.specs.{IsTold, asking, forgetting, telling, IsKept, OnlyResolves, Opening}
 use Rattle.xa_driver.proofs.Mapped.{Asks, Any, IsAskedFor, any_asked}
-use Rattle.std.proofs.lemmas.Bool.{both_ways}
-use Rattle.xa_driver.proofs.Traces.{trace_of}
-use Rattle.std.proofs.lemmas.List.Elements.{Contains-push}
+use Rattle.xa_driver.proofs.Requests.{trace_of}
 use Rattle.xa_atomicity.proofs.Settled.{sent_between, by_ledger}
 use Rattle.xa_atomicity.proofs.Sites.{Parted, request_of, part, numbered_both, at_seam}
 use Rattle.xa_atomicity.proofs.Resolves.{Sends, resolve_sends, asked_sends, stays, on, contains_on}
@@ -39,12 +38,11 @@ module _ (s : Settling) (settled : IsSettled s) (m : ℕ) (up : IsUpTo MOST_MANA
 
   use_passes : (P : Op → Type 0) → P OpenRm → (u : Use) → IsUseIn s u
       → ((q : ResolveCall) → u ≡ resolves q → (o : Outcome) → Contains q.outcomes o → Asks P q.records m o) → Passes P u
-  use_passes P opens (commits c) use_ asks = λ k d lt has. absurd has
-  use_passes P opens (cuts c) use_ asks = λ k d lt has. absurd has
   use_passes P opens (resolves q) use_ asks = λ k d lt has.
       let z : Sends P (ledger q.old m) (ledger q.new m) = resolve_sends q.scan q.records q.old q.new q.outcomes use_.made P m up opens (asks q refl) in
       sent_between s settled q.thread m up.0 P (ledger q.old m) (ledger q.new m) z.more z.sent z.all
       (use_.grown.each m up.0) k d lt has.thread has.from has.below
+  use_passes P opens u use_ asks = λ k d lt has. absurd has
 
   -- so is each request that names the transaction, where nothing but resolves does
   pub named_so : (P : Op → Type 0) (t : TranName) (us : List Use) → P OpenRm → All (IsUseIn s) us

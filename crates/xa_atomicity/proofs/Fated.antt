@@ -1,23 +1,23 @@
 -- What became of a branch that nobody else named, but for heuristic decisions, over the settled history of its manager.
 use Rattle.xa_base.proofs.{rules, all_mid, all_left, all_after, some_same, by_bool, by_if, at_true, ◌⊎◌, ◌≡◌, ◌≢◌, ℕ, suc, ◌+◌, ◌<◌, inl, inr, Bool, true}
 use Rattle.xa_base.proofs.{false, ◌||◌, if◌then◌else◌, List, [], ◌∷◌, ◌++◌, length, append-nil, append_assoc, get_or, sym, refl, ap, ◌∙◌, subst, arith, Option}
-use Rattle.xa_base.proofs.{Some, None, All, cons_option}
+use Rattle.xa_base.proofs.{Some, None, All, cons_option, both_ways, true_from_ne_false}
 use Rattle.xa_atomicity.specs.{is_in_doubt, OnlyTheseName, IsBetween, OnlyTheseOrDecisionsName, IsAfterShut, IsDecidedAfter, told_fate, is_left, is_heuristic}
 use Rattle.xa_atomicity.specs.{ended_as}
-use Rattle.std.proofs.lemmas.Bool.{both_ways, or_left, true_from_ne_false}
+use Rattle.std.proofs.lemmas.Bool.{or_left}
 use Rattle.xa_driver.specs.{is_heuristic as is_heuristic_code, outcome_op, Ending, Committed, ReadOnly, RolledBack, Heuristic, Left, is_yes, is_read}
 use Rattle.xa_driver.specs.{yes_ending, no_ending}
 use Rattle.xa_words.specs.{XidName, xid_eq, Done, RbIntegrity, HeurRb, HeurCom, RmFail, Op, Prepare, Rollback, Request, Code}
 use Rattle.xa_words.proofs.Xids.{xid_self}
 use Rattle.xa_tables.specs.{is_rolled_back, IsTold, HeuristicDecision, is_S3, is_prepared, decision_code, next, Fate, fate, fate_in, fate_of, coded}
 use Rattle.xa_tables.specs.{tables_after, last_or, is_done, is_in_doubt as is_unknown, prepare_fate, decided_fate, IsFateOf, names, OnlyDecides, LeavesWaiting}
-use Rattle.xa_tables.specs.{AwaitsTheOutcome, AwaitsAfter, is_heur, is_forget, answer_when, fates_when, Tables, History}
-use Rattle.xa_tables.proofs.Unnamed.{tables_after-append, unnamed_fate}
+use Rattle.xa_tables.specs.{AwaitsAfter, is_heur, is_forget, answer_when, fates_when, Tables, History}
+use Rattle.xa_tables.proofs.ValueLaw.{tables_after-append, unnamed_fate}
 use Rattle.xa_tables.specs.declared.state.HeuristicDecision.TheVariants as decision
 use Rattle.xa_tables.specs.Histories as history
 use Rattle.xa_atomicity.proofs.Courses.{Unreached, Reads, Breaks, Stays, Agrees, Refuses, yes_is, read_is, Sends, SendsOne, Course, rest_forgets}
 use Rattle.xa_atomicity.proofs.Sites.{request_of, fates, fates_both, fate_is, last_both, closes_other, Site, above, Second, second_of}
-use Rattle.xa_atomicity.proofs.Guided.{ended_known, tells_so}
+use Rattle.xa_atomicity.proofs.Guided.{is_known_so, tells_so, told_decided}
 use Rattle.xa_atomicity.proofs.Leading.{ends_fate}
 
 -- ---- who may name the branch
@@ -67,10 +67,6 @@ found x f (r ∷ g) T e =
           record { before = []; request = r; after = g; place = refl; fate_here = is ∙ ap Some same }
     ] refl e
 
--- a heuristic decision that makes something of it was carried out
-carried_out_by : (x : XidName) (op : Op) (c : Code) (f : Fate) → is_heur op ≡ true → fate_of x op c ≡ Some f → c ≡ Done
-carried_out_by x op c f h is = grind arith
-
 -- a decision that was carried out after a Prepare, before what is after it
 pub decided_in : (t n : ℕ) (x : XidName) (T : Tables) (H before after : History) → H ≡ before ++ request_of t n (Prepare x) ∷ after → (g h : History)
     → after ≡ g ++ h → All (λ q. names x q.op ≡ true → is_heur q.op ≡ true) g → (d : HeuristicDecision)
@@ -81,16 +77,11 @@ decided_in t n x T H before after place g h split heur d made =
     let none : None ≡ Some (decided_fate d) = sym (unnamed_fate x p.request.op _ n) ∙ p.fate_here in cc) in
     let Q : Request → Type 0 = λ q. names x q.op ≡ true → is_heur q.op ≡ true in
     let by_itself = all_mid Q p.before p.after p.request (subst (All Q) p.place heur) named in
-    search (arith, request_of, append_assoc, tables_after-append, carried_out_by, p.before, p.request.thread, p.request.op)
+    search (arith, request_of, append_assoc, tables_after-append, p.before, p.request.thread, p.request.op)
 
 -- a request for the outcome that is told a decision makes nothing of the branch
 pub outcome_quiet : (commit : Bool) (x : XidName) (d : HeuristicDecision) → fate_of x (outcome_op commit x) (decision_code d) ≡ None
 outcome_quiet commit x d = grind (arith, at_true, xid_self)
-
--- what an outcome is answered
-answers_so : (t : ℕ) (x : XidName) (commit : Bool) (o : Option HeuristicDecision) (U : Tables) → AwaitsTheOutcome t x o U
-    → (next t (outcome_op commit x) U).1 ≡ (if U.shut then RmFail else answer_when o)
-answers_so t x commit o U h = grind (arith, h.commits, h.rolls_back)
 
 -- ---- what became of a branch
 
@@ -125,8 +116,7 @@ module _ {t : ℕ} {T : Tables} {H : History} (site : Site t T H) (x : XidName) 
 
   -- an ending as was decided
   ended_goal : (commit : Bool) → fate x f0 H T ≡ ended_as commit → Goal (if commit then Committed else RolledBack)
-  ended_goal true is = search (arith, some_same)
-  ended_goal false is = search (arith, some_same)
+  ended_goal commit is = search (arith, some_same)
 
   -- ---- the Prepare alone was sent
 
@@ -136,8 +126,7 @@ module _ {t : ℕ} {T : Tables} {H : History} (site : Site t T H) (x : XidName) 
     decides_after : OnlyDecides x alone.after
     decides_after k d lt named =
         or_left (is_heur (get_or alone.after k d).op) (is_forget (get_or alone.after k d).op) (true_from_ne_false (is_heur (get_or alone.after k d).op) (λ h.
-        let between : IsBetween t n last (get_or alone.after k d) = only alone.before alone.after
-        (request_of t n (Prepare x)) alone.place refl refl k d lt named h in
+        let between : IsBetween t n last (get_or alone.after k d) = search (arith, request_of) in
         let up = above site n (Prepare x) alone.before alone.after alone.place k d lt between.thread in
         let down = between.below in let limit = z.limit in omega (arith, up, down, limit)))
 
@@ -219,11 +208,10 @@ module _ {t : ℕ} {T : Tables} {H : History} (site : Site t T H) (x : XidName) 
       in_doubt : there.shut ≡ true
           → (fate x f0 H T ≡ history.InDoubt) ⊎ ((d : HeuristicDecision) × ((fate x f0 H T ≡ decided_fate d) × IsDecidedAfter x t n T H))
       in_doubt closed =
-          let fs = at_shut closed in
           elim (w.decision) as (λ o. fates x s.mid now ≡ fates_when o → fates x f.after now ≡ fates_when o → (fate x f0 H T ≡ history.InDoubt) ⊎ ((d : HeuristicDecision) × ((fate x f0 H T ≡ decided_fate d) × IsDecidedAfter x t n T H))) [
             | None ↦ λ made all. inl (first_fate [] all)
             | Some d ↦ λ made all. inr (d, (first_fate (decided_fate d ∷ []) all, decided_between d made))
-          ] w.fates fs
+          ] w.fates (at_shut closed)
 
       -- what a prepared branch comes to, by the decision
       outcome : Goal (yes_ending commit (Some c))
@@ -233,23 +221,16 @@ module _ {t : ℕ} {T : Tables} {H : History} (site : Site t T H) (x : XidName) 
                 subst (λ (d : Code). Goal (yes_ending commit (Some d))) (sym is)
                 (record { reached = λ _. refl; shut = λ _ _. search (arith, rules); decided = λ _ h. cc; named = λ _ h. cc; told = λ h i. cc; doubt = λ _. in_doubt closed })
             | false ↦ λ opened is. by_answer w.decision w.fates is
-          ] refl (s.code ∙ answers_so t x commit w.decision there w.awaits)
+          ] refl (s.code ∙ (grind (arith, w.awaits.commits, w.awaits.rolls_back, w.awaits)))
         where
-          named_it : (d : HeuristicDecision) → told_fate (Heuristic (decision_code d)) ≡ Some (decided_fate d)
-          named_it d = grind arith
-
-          decided_goal : (d : HeuristicDecision) → fates x s.mid now ≡ decided_fate d ∷ [] → c ≡ decision_code d → Goal (Heuristic (decision_code d))
-          decided_goal d made is =
-              let fate_is_so : fate x f0 H T ≡ decided_fate d =
-              told_by d (ap (fate_of x op) is ∙ outcome_quiet commit x d) (tells_so site.law commit t x d (tables_after all_before T) (sym code_there ∙ is)) in
-              search (arith, decided_between, named_it, some_same)
-
           by_answer : (o : Option HeuristicDecision) → fates x s.mid now ≡ fates_when o → c ≡ answer_when o → Goal (yes_ending commit (Some c))
           by_answer None made is =
               subst (λ (d : Code). Goal (yes_ending commit (Some d))) (sym is)
-              (ended_goal commit (ended_by (ended_as commit) (ap (fate_of x op) is ∙ ends_fate commit x) (ended_known commit)))
-          by_answer (Some decision.Commit) made is = subst (λ (d : Code). Goal (yes_ending commit (Some d))) (sym is) (decided_goal decision.Commit made is)
-          by_answer (Some decision.Rollback) made is = subst (λ (d : Code). Goal (yes_ending commit (Some d))) (sym is) (decided_goal decision.Rollback made is)
+              (ended_goal commit (ended_by (ended_as commit) (ap (fate_of x op) is ∙ ends_fate commit x) (is_known_so (ended_as commit) commit refl)))
+          by_answer (Some d) made is =
+              let fate_is_so : fate x f0 H T ≡ decided_fate d =
+              told_by d (ap (fate_of x op) is ∙ outcome_quiet commit x d) (tells_so site.law commit t x d (tables_after all_before T) (sym code_there ∙ is)) in
+              search (arith, decided_between, told_decided, some_same)
 
   -- ---- after a vote against
 
@@ -283,8 +264,7 @@ branch_told {t} {T} {H} site x n last commit vote ending course f0 fits only = b
     by_course _ (Reads r z) =
         voted_so site x f0 fits n last vote only z ReadOnly history.ReadOnly (read_not r) refl refl (ap prepare_fate (read_is vote r)) refl
     by_course _ (Breaks k z) =
-        let f = z.first in
-        let code : vote ≡ RbIntegrity = f.code ∙ site.law.breaks t x (tables_after f.before T) (sym (ap is_rolled_back f.code) ∙ k) in
+        let code : vote ≡ RbIntegrity = z.first.code ∙ site.law.breaks t x (tables_after z.first.before T) (sym (ap is_rolled_back z.first.code) ∙ k) in
         voted_so site x f0 fits n last vote only z RolledBack history.RolledBack (ap is_yes code) refl refl (ap prepare_fate code) refl
     by_course _ (Stays c y z) = no_vote site x f0 fits n last vote only (Left c) y refl (λ f e. cc)
     by_course _ (Agrees c y z) = outcome site x f0 fits n last vote only commit c z (yes_is vote y)

@@ -1,22 +1,20 @@
 -- What a branch that voted to commit stands at as the opening of its commit ends, where requests that lead it and heuristic
 -- decisions name it; and how it ends, by its fate then and through the later openings.
 use Rattle.xa_base.proofs.{arith, ◌≡◌, ℕ, Bool, true, false, if◌then◌else◌, List, [], ◌∷◌, sym, refl, ap, ◌∙◌, subst, Option, Some, None, list_any}
-use Rattle.xa_base.proofs.{list_any-append, or-true, rules, at_true, unwrap_or, ◌⊎◌, inl, inr, ⊎_elim, ◌++◌, All, cons_option, All-head, All-tail, All-cons}
+use Rattle.xa_base.proofs.{list_any-append, or-true, rules, at_true, unwrap_or, ◌⊎◌, inl, inr, ◌++◌, All, cons_option, All-head, All-tail, All-cons, both_ways}
 use Rattle.xa_base.specs.{Begins}
-use Rattle.xa_words.specs.{XidName, Done, RmFail, Op, Code, xid_eq, Prepare, Commit, Rollback, Forget, Request}
+use Rattle.xa_words.specs.{XidName, Done, Op, Code, xid_eq, Prepare, Request}
 use Rattle.xa_tables.specs.{IsTold, State, HeuristicDecision, state_of, is_left_in, decision_code, next, Fate, tables_after, last_or, is_in_doubt as is_unknown}
-use Rattle.xa_tables.specs.{decided_fate, Tables, History, HeuristicallyCompleted, is_prepared, Answer, fate, fate_of, IsOpening, names, is_heur, AwaitsAfter}
-use Rattle.xa_tables.specs.{fates_when, state_when}
+use Rattle.xa_tables.specs.{decided_fate, Tables, History, HeuristicallyCompleted, Answer, fate, fate_of, IsOpening, names, is_heur, AwaitsAfter}
 use Rattle.xa_desk.specs.{LedgerView, learnt_shut}
-use Rattle.xa_driver.specs.{Branch, Ending, asked, IsAnswered, is_yes, ending_of, yes_ending, second_op, third_op, AsksLedger, outcome_op, voted, AtBranch}
-use Rattle.xa_driver.specs.{Committed, ReadOnly, RolledBack, InDoubt, Heuristic, Left, is_decided}
+use Rattle.xa_driver.specs.{Branch, Ending, is_yes, yes_ending, AsksLedger, outcome_op, voted, AtBranch, Committed, ReadOnly, RolledBack, InDoubt, Heuristic}
+use Rattle.xa_driver.specs.{Left, is_decided}
 use Rattle.xa_atomicity.specs.{is_in_doubt, told_fate, ended_as, Tabled, is_heuristic, is_left}
-use Rattle.xa_driver.proofs.Traces.{trace_of, asked_grows}
-use Rattle.std.proofs.lemmas.Bool.{both_ways}
+use Rattle.xa_driver.proofs.Requests.{trace_of, asked_grows}
 use Rattle.xa_words.proofs.Xids.{xid_self}
 use Rattle.xa_tables.specs.declared.state.State.TheVariants.{Prepared}
 use Rattle.xa_tables.proofs.Law.{Sound, sound_after, run_sound, opening_sound, last_more}
-use Rattle.xa_tables.proofs.Unnamed.{tables_after-append}
+use Rattle.xa_tables.proofs.ValueLaw.{tables_after-append}
 use Rattle.xa_tables.proofs.PreparedLaw.{Decides, Nothing, Completes, decides}
 use Rattle.xa_tables.specs.declared.state.HeuristicDecision.TheVariants as decision
 use Rattle.xa_tables.specs.Histories as history
@@ -42,9 +40,6 @@ unknown_so f e = grind arith
 abbrev pub once : Fate → List Fate
 once f = if is_unknown f then [] else f ∷ []
 
-pub ended_known : (commit : Bool) → is_unknown (ended_as commit) ≡ false
-ended_known commit = grind arith
-
 pub told_decided : (commit : Bool) (d : HeuristicDecision) → told_fate (yes_ending commit (Some (decision_code d))) ≡ Some (decided_fate d)
 told_decided commit d = grind arith
 
@@ -55,38 +50,17 @@ tells_so law false t x d U e = law.rollback_tells t x d U e
 
 -- ---- where it is left in doubt the desk has learnt that the manager is shut
 
-doubt_is : (commit : Bool) (c : Code) → is_in_doubt (yes_ending commit (Some c)) ≡ true → c ≡ RmFail
-doubt_is commit c e = grind arith
-
-learnt_asked : (a : LedgerView) (op : Op) → learnt_shut (asked a (Some op) (Some RmFail)) ≡ true
-learnt_asked a op = search (arith, list_any-append, or-true, a.collected)
-
 pub learnt_on : (a b : LedgerView) → Begins a.collected b.collected → learnt_shut a ≡ true → learnt_shut b ≡ true
 learnt_on a b begins e = search (arith, list_any, list_any-append, a.collected)
 
 pub learnt_in_doubt : (b : Branch) (vote : Code) (second : Option Code) (ending : Ending) (commit : Bool) (a a' : LedgerView)
     → AtBranch AsksLedger commit b vote second ending a a' → is_yes vote ≡ true → is_in_doubt ending ≡ true → learnt_shut a' ≡ true
 learnt_in_doubt b vote second ending commit a a' is y doubt =
-    let tr = trace_of commit b vote second ending a a' is in
-    let agreed : vote ≡ Done = yes_is vote y in
-    let wanted : second_op commit b.xid vote ≡ Some (outcome_op commit b.xid) = ap (second_op commit b.xid) agreed ∙ yes_wanted commit b.xid in
-    let late : LedgerView = asked (voted b vote a) (second_op commit b.xid vote) second in
-    let asked_so : learnt_shut (asked (voted b vote a) (Some (outcome_op commit b.xid)) second) ≡ true =
-    by_second second (subst (λ o. IsAnswered (voted b vote a) o second) wanted tr.seconded) (sym (ap (λ v. is_in_doubt (ending_of commit v second)) agreed) ∙ sym (ap is_in_doubt is.ends) ∙ doubt) in
-    let now : learnt_shut late ≡ true = ap (λ o. learnt_shut (asked (voted b vote a) o second)) wanted ∙ asked_so in
-    ap learnt_shut tr.forgotten.trace
-    ∙ learnt_on late (asked late (third_op b.xid second) tr.third) (asked_grows late (third_op b.xid second) tr.third).collected now
-  where
-    by_second : (z : Option Code) → IsAnswered (voted b vote a) (Some (outcome_op commit b.xid)) z → is_in_doubt (yes_ending commit z) ≡ true
-        → learnt_shut (asked (voted b vote a) (Some (outcome_op commit b.xid)) z) ≡ true
-    by_second None got e = absurd got
-    by_second (Some c) got e =
-        ap (λ (d : Code). learnt_shut (asked (voted b vote a) (Some (outcome_op commit b.xid)) (Some d))) (doubt_is commit c e)
-        ∙ learnt_asked (voted b vote a) (outcome_op commit b.xid)
+    search (arith, trace_of, yes_is, yes_wanted, learnt_on, asked_grows, list_any-append, or-true, b.xid)
 
 -- fates that are known
 pub is_known_so : (f : Fate) (commit : Bool) → f ≡ ended_as commit → is_unknown f ≡ false
-is_known_so f commit e = ap is_unknown e ∙ ended_known commit
+is_known_so f commit e = grind arith
 
 pub is_decided_so : (f : Fate) (d : HeuristicDecision) → f ≡ decided_fate d → is_unknown f ≡ false
 is_decided_so f d e = grind arith
@@ -114,9 +88,7 @@ untold e d plain told = grind arith
 -- its fate is unknown, or that of a decision
 left_fate : (commit : Bool) (L : Type 0) {s : Option State} (f g : Fate) → is_left_in s ≡ true → Stands commit true (f ≡ history.InDoubt) L s f
     → is_unknown g ≡ false → ((d : HeuristicDecision) → decided_fate d ≡ g → ⊥) → f ≡ g → ⊥
-left_fate commit L f g left (waits y open_ state e) known apart same = let z : true ≡ false = sym (ap is_unknown e) ∙ ap is_unknown same ∙ known in cc
-left_fate commit L f g left (unforgotten d state e l) known apart same = apart d (sym e ∙ same)
-left_fate commit L f g left (over state e) known apart same = let z : true ≡ false = sym left ∙ ap is_left_in state in cc
+left_fate commit L f g left st known apart same = search (arith, apart)
 
 -- so it is in doubt, or was decided
 pub doubted : (commit : Bool) (W L : Type 0) {s : Option State} (f : Fate) (e : Ending) → ((g : Fate) → told_fate e ≡ Some g → f ≡ g) → is_left e ≡ false
@@ -140,9 +112,7 @@ doubted commit W L {s} f e told reached named why (leaves _ left st) = by_ending
 -- one that is in doubt is left
 pub left_in_doubt : (commit : Bool) (W L : Type 0) {s : Option State} (f : Fate) (e : Ending) → Comes commit W L s f e → is_unknown f ≡ true
     → W × (is_left_in s ≡ true) × Stands commit true (f ≡ history.InDoubt) L s f
-left_in_doubt commit W L f e (ends g) unknown = absurd (both_ways (is_unknown f) (is_known_so f commit g) unknown)
-left_in_doubt commit W L f e (tells d g h) unknown = absurd (both_ways (is_unknown f) (is_decided_so f d g) unknown)
-left_in_doubt commit W L f e (leaves why left st) unknown = (why, left, st)
+left_in_doubt commit W L f e comes unknown = search (arith, both_ways, is_known_so, is_decided_so)
 
 -- what the branch may be named in: a heuristic decision, or what leads it
 abbrev pub IsGuided : Bool → Type 0 → XidName → Op → Type 0
@@ -173,7 +143,7 @@ module _ (commit : Bool) (D L : Type 0) (x : XidName) where
       → IsGuidedTo commit D L x f op (next t op T)
   guided f T st sound t op guide =
       by_guide (IsGuidedTo commit D L x f op (next t op T)) commit L x op guide
-      (λ leads. let led = step_led commit true D L x f T st sound t op leads in search (arith, ended_known))
+      (λ leads. let led = step_led commit true D L x f T st sound t op leads in search (arith, is_known_so))
       (λ named heur. by_decision f T op (next t op T) st (decides t x op T named heur))
 
   pub guided_after : (h : History) (T : Tables) (f : Fate) → All (λ r. IsGuided commit L x r.op) h → Standing commit true D L x T f
@@ -194,45 +164,25 @@ abbrev IsPast : Option State → Type 0
 IsPast s = (s ≡ None) ⊎ ((d : HeuristicDecision) × (s ≡ Some (HeuristicallyCompleted d)))
 
 past_so : (commit : Bool) (D L : Type 0) (s : Option State) (f : Fate) → is_unknown f ≡ false → Stands commit true D L s f → IsPast s
-past_so commit D L s f known (waits y o e g) = let z : true ≡ false = sym (ap is_unknown g) ∙ known in cc
-past_so commit D L s f known (unforgotten d e g l) = inr (d, e)
-past_so commit D L s f known (over e g) = inl e
+past_so commit D L s f known st = search (arith, rules)
 
 module _ (x : XidName) (T : Tables) (sound : Sound T) (past : IsPast (state_of T x)) where
   abbrev Quiet : Op → Answer → Type 0
   Quiet op a = fate_of x op a.1 ≡ None
 
-  unprepared : is_prepared T x ≡ false
-  unprepared = search (arith, rules)
-
   heur_quiet : (op : Op) (a : Answer) → Decides x op T a → Quiet op a
-  heur_quiet op a (Nothing same none) = none
-  heur_quiet op a (Completes d voted state opened told) = let z : true ≡ false = sym voted ∙ unprepared in cc
+  heur_quiet op a by = search (arith, rules)
 
   -- it stands as one that was decided, and ends no more
   stands_so : (commit : Bool) → (d : HeuristicDecision) × Stands commit true ⊥ (Unit {0}) (state_of T x) (decided_fate d)
-  stands_so commit =
-      ⊎_elim (λ (e : state_of T x ≡ None). (decision.Commit, over e (inr (decision.Commit, (refl, tt)))))
-      (λ (e : (d : HeuristicDecision) × (state_of T x ≡ Some (HeuristicallyCompleted d))). (e.0, unforgotten e.0 e.1 refl (inl refl))) past
-
-  ends_no_more : (commit : Bool) (s : Option State) → Stands commit true ⊥ (Unit {0}) s (ended_as commit) → ⊥
-  ends_no_more commit s (waits never o e g) = never
-  ends_no_more commit s (unforgotten d e g l) = decided_apart d commit (sym g)
-  ends_no_more commit s (over e (inl z)) = z.0
-  ends_no_more commit s (over e (inr z)) = decided_apart z.0 commit (sym z.1.0)
-
-  leads_any : (commit : Bool) (L : Type 0) (op : Op) → Leads commit L op → Leads commit (Unit {0}) op
-  leads_any commit L (Commit y one_phase) l = l
-  leads_any commit L (Rollback y) l = l
-  leads_any commit L (Forget y) l = tt
-  leads_any commit L op l = absurd l
+  stands_so commit = elim past [ inl e ↦ (decision.Commit, over e (inr (decision.Commit, (refl, tt)))) | inr e ↦ (e.0, unforgotten e.0 e.1 refl (inl refl)) ]
 
   quiet : (commit : Bool) (L : Type 0) (t : ℕ) (op : Op) → IsGuided commit L x op → Quiet op (next t op T)
   quiet commit L t op guide =
       let st = stands_so commit in
       by_guide (Quiet op (next t op T)) commit L x op guide
       (λ leads. let led = step_led commit true ⊥ (Unit {0}) x (decided_fate st.0) T st.1 sound t op
-      (λ n. leads_any commit L op (leads n)) in search (arith, ends_no_more, unwrap_or))
+      (λ n. (search (arith, rules, leads n))) in search (arith, decided_apart, unwrap_or))
       (λ named heur. heur_quiet op (next t op T) (decides t x op T named heur))
 
 -- one that was in doubt gets at most one fate
@@ -242,8 +192,7 @@ module _ (commit : Bool) (D L : Type 0) (x : XidName) where
 
   one_more : (f : Fate) (o : Option Fate) (fs : List Fate) → (is_unknown f ≡ false → o ≡ None)
       → (o ≡ None) ⊎ ((g : Fate) × ((o ≡ Some g) × (is_unknown g ≡ false))) → Once (unwrap_or o f) fs → Once f (cons_option o fs)
-  one_more f o fs silent (inl none) rest = subst (λ (p : Option Fate). Once (unwrap_or p f) fs → Once f (cons_option p fs)) (sym none) (λ r. r) rest
-  one_more f o fs silent (inr made) rest = search (arith, unwrap_or, cons_option, made.0, made.1.1, made.1.0)
+  one_more f o fs silent made rest = search (arith, unwrap_or, cons_option)
 
   pub fates_once : (h : History) (T : Tables) (f : Fate) → All (λ r. IsGuided commit L x r.op) h → Standing commit true D L x T f → Once f (fates x h T)
   fates_once [] T f guide s = (λ _. refl, λ unknown. sym (ap (λ b. if b then [] else f ∷ []) unknown))
@@ -266,9 +215,7 @@ known_stays commit D L x h T f known towards s = (fates_once commit D L x h T f 
 -- what stands so and was decided has that fate
 decided_of : {commit : Bool} {D L : Type 0} {d : HeuristicDecision} {s : Option State} {f : Fate} → s ≡ Some (HeuristicallyCompleted d)
     → Stands commit true D L s f → f ≡ decided_fate d
-decided_of {d = d} is (waits y o state known) = let z : Some Prepared ≡ Some (HeuristicallyCompleted d) = sym state ∙ is in cc
-decided_of {d = d} is (unforgotten k state known l) = search (arith, rules)
-decided_of {d = d} is (over state known) = let z : None ≡ Some (HeuristicallyCompleted d) = sym state ∙ is in cc
+decided_of {d = d} is st = search (arith, rules)
 
 module _ (commit : Bool) (D L : Type 0) (t n : ℕ) (x : XidName) (T : Tables) (H before after : History) (f : Fate)
     (place : H ≡ before ++ request_of t n (outcome_op commit x) ∷ after) where
@@ -303,25 +250,20 @@ module _ (commit : Bool) (D L : Type 0) (t n : ℕ) (x : XidName) (T : Tables) (
     ended_there e =
         let made : fate_of x (outcome_op commit x) told.1 ≡ Some (ended_as commit) = ap (fate_of x (outcome_op commit x)) e ∙ ends_fate commit x in
         let led = step_led commit true D L x here (tables_after before T) st.stands st.sound t (outcome_op commit x) (ends_towards commit L x x) in
-        let stands : Stands commit true D L (state_of told.0 x) (ended_as commit) = subst
-        (λ (o : Option Fate). Stands commit true D L (state_of told.0 x) (unwrap_or o here)) made led.stands in
-        let there : Standing commit true D L x told.0 (ended_as commit) =
-        record { stands = stands; sound = sound_after t (outcome_op commit x) (tables_after before T) st.sound } in
-        let silent : fates x after told.0 ≡ [] = (fates_once commit D L x after told.0 (ended_as commit) guide there).0 (ended_known commit) in
+        let stands : Stands commit true D L (state_of told.0 x) (ended_as commit) = search (arith, unwrap_or) in
+        let there : Standing commit true D L x told.0 (ended_as commit) = search (arith, sound_after) in
+        let silent : fates x after told.0 ≡ [] =
+        (fates_once commit D L x after told.0 (ended_as commit) guide there).0 (is_known_so (ended_as commit) commit refl) in
         after_it ∙ (λ i. last_or here (cons_option (made i) (silent i)))
 
     -- a decision that it was told is its fate
     pub told_there : (d : HeuristicDecision) → told.1 ≡ decision_code d → last_or f (fates x H T) ≡ decided_fate d
     told_there d e =
         let is : here ≡ decided_fate d = decided_of (tells_so law commit t x d (tables_after before T) e).state st.stands in
-        let all : All (λ r. IsGuided commit L x r.op) (own ∷ after) = All-cons (λ (r : Request). IsGuided commit L x r.op) own after
-        (λ named _. ends_towards commit L x x named) guide in
+        let all : All (λ r. IsGuided commit L x r.op) (own ∷ after) = search (arith, All-cons, ends_towards) in
         after_it ∙ ap (last_or here) ((fates_once commit D L x (own ∷ after) (tables_after before T) here all st).0 (ap is_unknown is ∙ decided_known d)) ∙ is
 
 -- ---- from the Prepare on
-
-undecided_yet : (o : Option HeuristicDecision) (s : Option State) → [] ≡ fates_when o → s ≡ Some (state_when o) → s ≡ Some Prepared
-undecided_yet o s e state = grind arith
 
 module _ (law : Tabled) (commit : Bool) (D L : Type 0) (t n : ℕ) (x : XidName) (T : Tables) (H : History) (opening : IsOpening T) (before after : History)
     (place : H ≡ before ++ request_of t n (Prepare x) ∷ after)
@@ -335,17 +277,13 @@ module _ (law : Tabled) (commit : Bool) (D L : Type 0) (t n : ℕ) (x : XidName)
   prepared : state_of now x ≡ Some Prepared
   prepared =
       let w : AwaitsAfter t x [] now = law.awaits before [] t x T opening agreed (λ k d lt. absurd (omega (arith, lt))) in
-      undecided_yet w.decision (state_of now x) w.fates w.awaits.state
+      search (arith, w.decision, w.fates)
 
   pub voted_now : fate_of x (Prepare x) (next t (Prepare x) U).1 ≡ Some history.InDoubt
   voted_now = ap (fate_of x (Prepare x)) agreed ∙ at_true (xid_eq x x) _ None (xid_self x)
 
-  -- the Prepare made it be in doubt
-  pub fates_are : fates x H T ≡ fates x before T ++ history.InDoubt ∷ fates x after now
-  fates_are = search (arith, fates_both, request_of, cons_option, voted_now)
-
   pub fate_any : (f : Fate) → last_or f (fates x H T) ≡ last_or history.InDoubt (fates x after now)
-  fate_any f = ap (last_or f) fates_are ∙ last_both f (fates x before T) (history.InDoubt ∷ fates x after now)
+  fate_any f = search (arith, last_both, fates_both, request_of, cons_option, voted_now)
 
   pub stands_now : D → Standing commit true D L x now history.InDoubt
   stands_now doubt = record { stands = waits doubt refl prepared refl; sound = sound_after t (Prepare x) U (run_sound before T (opening_sound T opening)) }

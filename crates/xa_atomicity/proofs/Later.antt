@@ -1,31 +1,25 @@
 -- Where the request of a resolve that was answered stands in a history, and what it leaves; and what becomes of a branch
 -- that was left, through the openings up to one with a resolve that reached it.
-use Rattle.xa_base.proofs.{◌&&◌, ◌≡◌, ◌≢◌, ℕ, suc, ◌+◌, Bool, true, false, cond, ◌==◌, ◌||◌, List, [], ◌∷◌, ◌++◌, length, append_assoc, slice_get, get_or, sym}
-use Rattle.xa_base.proofs.{refl, ap, ◌∙◌, subst, arith, Option, Some, All, nat_cmp_total, eqb-true, false_from_ne_true, All-head, All-tail, by_bool, tied_true}
-use Rattle.xa_base.proofs.{all_left, Contains, all_after, some_same, option_map, None, ⊎_elim, All-contains, Contains-append_left, Contains-append_right}
-use Rattle.xa_base.proofs.{all_right}
-use Rattle.std.proofs.lemmas.Bool.{and_right, both_ways}
-use Rattle.xa_words.specs.{XidName, RmFail, Op, OpenRm, CloseRm, Request, Code, Done, HeurCom, HeurRb, xid_eq, Decides-xid_eq, tran_of}
+use Rattle.xa_base.proofs.{◌≡◌, ◌≢◌, ℕ, suc, ◌+◌, Bool, true, false, cond, ◌==◌, ◌||◌, List, [], ◌∷◌, ◌++◌, length, append_assoc, slice_get, get_or, sym, refl}
+use Rattle.xa_base.proofs.{ap, ◌∙◌, subst, arith, Option, Some, All, nat_cmp_total, eqb-true, false_from_ne_true, All-head, All-tail, tied_true, all_left}
+use Rattle.xa_base.proofs.{Contains, all_after, some_same, option_map, None, ⊎_elim, All-contains, Contains-append_left, Contains-append_right, rules}
+use Rattle.xa_base.proofs.{all_right, and_right, both_ways, Contains-append_cases, contains-insert}
+use Rattle.xa_words.specs.{XidName, RmFail, Op, OpenRm, Request, Code, Done, xid_eq, Decides-xid_eq, tran_of}
 use Rattle.xa_tables.specs.{HeuristicDecision, has_opened, decision_code, Answer, next, open_rm, Fate, decided_fate, coded, of_thread, tables_after, last_or}
-use Rattle.xa_tables.specs.{closes, is_close, Tables, History, State, state_of, is_S3, is_left_in, is_prepared, is_in_doubt as is_unknown, AreLeft, reopened}
-use Rattle.xa_tables.specs.{reopened_fate, names}
-use Rattle.xa_tables.proofs.Unnamed.{tables_after-append}
+use Rattle.xa_tables.specs.{closes, Tables, History, state_of, is_left_in, is_prepared, is_in_doubt as is_unknown, AreLeft, reopened, reopened_fate, names}
+use Rattle.xa_tables.proofs.ValueLaw.{tables_after-append}
 use Rattle.xa_desk.specs.{LedgerView, numbered, ledger}
 use Rattle.xa_switch.specs.{answers, last_in, IsOpenedWith, first_of, history as history_of, ledgers_of, settled_fate, ManagerPart, IsSettled, FollowsTables}
 use Rattle.xa_switch.specs.{find_manager, journal_in, Settling}
 use Rattle.xa_atomicity.specs.{ended_as, Tabled, outcome_fate, ResolveCall, resolves, IsUseIn, IsKept, Opening, AreInARow, OnlyResolves, uses_of, fate_through}
 use Rattle.xa_atomicity.specs.{last_of, tables_left}
 use Rattle.xa_driver.specs.{outcome_op, Outcome, is_decided, is_to_commit}
-use Rattle.std.proofs.lemmas.List.Elements.{Contains-append_cases}
 use Rattle.xa_base.specs.{MOST_MANAGERS, IsUpTo}
-use Rattle.xa_tables.proofs.Law.{opening_sound}
+use Rattle.xa_tables.proofs.Law.{opening_sound, next-shut, shut_stays}
 use Rattle.xa_worker.specs.{requests}
 use Rattle.xa_scan.specs.{left_at}
-use Rattle.std.specs.FinSet.{contains-insert}
 use Rattle.xa_tables.proofs.PreparedLaw.{opened_on}
-use Rattle.xa_tables.proofs.LateLaw.{next-shut, shut_stays}
 use Rattle.xa_tables.specs.declared.state.HeuristicDecision.TheVariants as decision
-use Rattle.xa_tables.specs.Histories as history
 use Rattle.xa_atomicity.proofs.Leading.{IsTowards, Standing, led_after, ends_it, waits, unforgotten, over, IsOver, Stands, by_itself, ends_towards}
 use Rattle.xa_atomicity.proofs.Leading.{stands_reopened, is_over}
 use Rattle.xa_atomicity.proofs.Guided.{ended_there, told_there, decided_known, known_stays, led_there}
@@ -55,12 +49,7 @@ pub record Placed (t : ℕ) (T : Tables) (H : History) (op : Op) (code : Code) :
   pub code_is : code ≡ (next t op (tables_after (first ++ request_of t opens OpenRm ∷ mid) T)).1
 
 no_closes : (t : ℕ) (h : History) → All (λ r. r.thread ≡ t → IsNoClose r.op) h → All (λ r. closes t r ≡ false) h
-no_closes t h none k d lt =
-    by_bool (λ b. (is_close (get_or h k d).op && b) ≡ false) ((get_or h k d).thread == t) (λ own. closing (get_or h k d).op (none k d lt (eqb-true (get_or h k d).thread t own)))
-    (λ _. and_right (is_close (get_or h k d).op) false refl)
-  where
-    closing : (op : Op) → op ≢ CloseRm → (is_close op && true) ≡ false
-    closing op n = grind arith
+no_closes t h none k d lt = grind (arith, none, eqb-true, and_right)
 
 pub placed : (t : ℕ) (T : Tables) (H : History) (op : Op) (code : Code) (a : LedgerView) (ops : List Op) (pairs : List (ℕ × Code))
     → of_thread t H ≡ numbered t 0 ops → All (λ p. slice_get (answers t (coded H T)) p.0 ≡ Some p) pairs
@@ -141,9 +130,7 @@ module _ (commit : Bool) (D L : Type 0) (t : ℕ) (x : XidName) (T : Tables) (H 
         by_code Done e is =
             ended_there commit D L t z.ends x T H before z.rest f z.place law now (λ k r lt named _. rest_here k r lt named) (sym z.code_is ∙ e)
             ∙ some_same (ended_as commit) g is
-        by_code HeurCom e is = placed_tells decision.Commit e ∙ some_same history.HeurCommitted g is
-        by_code HeurRb e is = placed_tells decision.Rollback e ∙ some_same history.HeurRolledBack g is
-        by_code c e is = cc
+        by_code c e is = search (arith, placed_tells decision.Commit, placed_tells decision.Rollback, some_same)
 
 -- ---- one opening
 
@@ -240,10 +227,8 @@ module _ (law : Tabled) (first : (s : Settling) (m : ℕ) (T : Tables) → IsSet
       answered_at r among own same reached =
           let asked =
           outcome_asked q.scan q.records q.old q.new q.outcomes use_.made m up (ledger (ledgers_of o.settled t) m) (use_.grown.each m up.0) r among own in
-          let decided : r.commit ≡ commit = asked.decision ∙ ap (is_to_commit q.records m) same
-          ∙ All-contains (FindsMark commit (tran_of x) m) o.uses (resolves q) w.marks there in
-          placed t T H (outcome_op commit x) r.code (ledger q.old m) (ledger (ledgers_of o.settled t) m).sent (ledger (ledgers_of o.settled t) m).collected carried answered
-          (subst (λ (op : Op). IsAnsweredIn op r.code (ledger q.old m) (ledger (ledgers_of o.settled t) m).sent (ledger (ledgers_of o.settled t) m).collected) (λ i. outcome_op (decided i) (same i)) (asked.answered reached))
+          let decided : r.commit ≡ commit = search (arith, All-contains) in
+          search (arith, placed, carried, answered, r.code, asked.answered)
 
       -- where it was left, and the resolve reached all, it is no longer open
       module _ (scan : AreLeft (left_at q.scan m) T) (reached : (r : Outcome) → Contains q.outcomes r → r.m ≡ m → r.xid ≡ x → r.code ≢ RmFail) where
@@ -261,12 +246,7 @@ module _ (law : Tabled) (first : (s : Settling) (m : ℕ) (T : Tables) → IsSet
 
         -- so it isn't prepared any more
         pub step_rests : is_prepared (tables_after H T) x ≡ false
-        step_rests = rests_so (by_standing w.stands).stands
-          where
-            rests_so : {s : Option State} {g : Fate} → Stands commit false D L s g → is_S3 s ≡ false
-            rests_so (waits y open_ e g) = cc
-            rests_so (unforgotten d e g l) = ap is_S3 e
-            rests_so (over e g) = ap is_S3 e
+        step_rests = let stands = (by_standing w.stands).stands in search (arith, rules)
 
         pub step_ends : IsOver commit D L (settled_fate o.settled m x f)
         step_ends =

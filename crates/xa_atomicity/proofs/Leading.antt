@@ -1,6 +1,6 @@
 -- What a branch that voted to commit stands at, where nothing but resolves names it.
-use Rattle.xa_base.proofs.{arith, ◌⊎◌, not, cond, is_some, unwrap_or, ◌≡◌, ◌≢◌, ℕ, inl, inr, Bool, true, false, ◌||◌, if◌then◌else◌, [], ◌∷◌, sym, refl, ap}
-use Rattle.xa_base.proofs.{◌∙◌, subst, Option, Some, None, All, cons_option, not-false, or_from, All-nil, All-cons, All-head, All-tail, and-false, by_if}
+use Rattle.xa_base.proofs.{rules, arith, ◌⊎◌, not, cond, is_some, unwrap_or, ◌≡◌, ◌≢◌, ℕ, inl, inr, Bool, true, false, ◌||◌, if◌then◌else◌, [], ◌∷◌, sym, refl}
+use Rattle.xa_base.proofs.{ap, ◌∙◌, subst, Option, Some, None, All, cons_option, not-false, or_from, All-nil, All-cons, All-head, All-tail, and-false, by_if}
 use Rattle.xa_base.proofs.{at_false, at_true, or-true, cases_Bool}
 use Rattle.xa_words.specs.{XidName, xid_eq, Decides-xid_eq, Done, Nota, Proto, RmFail, Op, Commit, Rollback, Forget, Request, Code}
 use Rattle.xa_words.proofs.Xids.{xid_self}
@@ -8,9 +8,9 @@ use Rattle.xa_tables.specs.{decision_of, committed, State, HeuristicallyComplete
 use Rattle.xa_tables.specs.{is_prepared, is_completed, is_rollback_only, is_somebody_associated, reason_of, decision_code, Answer, next, by_rules, commit_two}
 use Rattle.xa_tables.specs.{rollback, gone, Fate, tables_after, fate_of, is_done, last_or, decided_fate, reopened, reopened_fate, names, Tables, History}
 use Rattle.xa_tables.specs.declared.state.State.TheVariants.{Prepared}
-use Rattle.xa_tables.proofs.Law.{Sound, Nowhere, AtWork, standing, nobody_rests, get_gone, sound_after, last_more}
+use Rattle.xa_tables.proofs.Law.{Sound, AtWork, standing, nobody_rests, get_gone, sound_after, last_more}
 use Rattle.xa_tables.proofs.Reopening.{state_reopened}
-use Rattle.xa_tables.proofs.Unnamed.{unnamed_fate, unnamed_stays}
+use Rattle.xa_tables.proofs.ValueLaw.{unnamed_fate, unnamed_stays}
 use Rattle.xa_atomicity.specs.{ended_as}
 use Rattle.xa_driver.specs.{outcome_op}
 use Rattle.xa_tables.proofs.Effects.{error_tells, reason_rolls_back, decision_commits_nothing, decision_rolls_nothing_back}
@@ -56,9 +56,7 @@ gone_state T x = get_gone T x x ∙ at_true (xid_eq x x) None _ (xid_self x)
 
 -- a branch that stands so isn't at work, so nobody is associated with it
 rests : (commit open_ : Bool) (D L : Type 0) (s : Option State) (f : Fate) → Stands commit open_ D L s f → standing s ≢ AtWork
-rests commit open_ D L s f (waits y o e g) w = let z : standing s ≡ standing (Some Prepared) = ap standing e in cc
-rests commit open_ D L s f (unforgotten d e g l) w = let z : standing s ≡ Nowhere = ap standing e in cc
-rests commit open_ D L s f (over e g) w = let z : standing s ≡ Nowhere = ap standing e in cc
+rests commit open_ D L s f st w = search (arith, rules)
 
 -- it is gone, and ended as was decided
 gone_so : (commit open_ : Bool) (D L : Type 0) (x : XidName) (f : Fate) (op : Op) (c : Code) (T : Tables) → D → fate_of x op c ≡ Some (ended_as commit)
@@ -75,12 +73,7 @@ module _ (commit open_ : Bool) (D L : Type 0) (x : XidName) (f : Fate) (T : Tabl
 
   -- one that is there and isn't completed awaits the outcome
   undecided : not (exists T x) ≡ false → is_completed T x ≡ false → D
-  undecided there open_now = by_standing st
-    where
-      by_standing : Stands commit open_ D L (state_of T x) f → D
-      by_standing (waits y o e g) = y
-      by_standing (unforgotten d e g l) = let z : true ≡ false = sym (ap is_S5 e) ∙ open_now in cc
-      by_standing (over e g) = let z : true ≡ false = sym (ap (λ s. not (is_some s)) e) ∙ there in cc
+  undecided there open_now = search (arith, st)
 
   committing : commit ≡ true → Led commit open_ D L x (Commit x false) f (commit_two x T)
   committing is =
@@ -104,9 +97,7 @@ module _ (commit open_ : Bool) (D L : Type 0) (x : XidName) (f : Fate) (T : Tabl
       (λ _. gone_so commit open_ D L x f (Rollback x) Done T (undecided there open_now) (named_self x (Some history.RolledBack) ∙ ends)))))
 
   forgets : L → is_S5 (state_of T x) ≡ true → Stands commit open_ D L (state_of T x) f → Stands commit open_ D L None f
-  forgets l h (waits y o e g) = let z : true ≡ false = sym h ∙ ap is_S5 e in cc
-  forgets l h (unforgotten d e g k) = over refl (inr (d, (g, l)))
-  forgets l h (over e g) = over refl g
+  forgets l h st = search (arith, rules)
 
   unless_refused : (t : ℕ) (op : Op) → Led commit open_ D L x op f (by_rules t op T) → Led commit open_ D L x op f (next t op T)
   unfolding next
@@ -192,13 +183,11 @@ module _ (commit : Bool) (D L : Type 0) (x : XidName) (f : Fate) (T : Tables) (s
       free = search (arith, nobody_rests)
 
       answer : (b : Bool) → next t (outcome_op b x) T ≡ (gone x (if b then committed x T else T), Done)
-      answer true = search (arith, asked_now, at_false, is_some, or_from, free)
-      answer false = search (arith, asked_now, at_false, is_some, free)
+      answer b = search (arith, asked_now, at_false, is_some, or_from)
 
   -- one that was decided tells so
   decided_tells : (d : HeuristicDecision) → state_of T x ≡ Some (HeuristicallyCompleted d) → (b : Bool) → (next t (outcome_op b x) T).1 ≡ decision_code d
-  decided_tells d e true = search (arith, asked_now, at_false, is_some, at_true)
-  decided_tells d e false = search (arith, asked_now, at_false, is_some, at_true)
+  decided_tells d e b = search (arith, asked_now, at_false, is_some, at_true)
 
   -- where what is told is listed, it is no longer open
   pub ends_it : Stands commit true D L (state_of T x) f → ((d : HeuristicDecision) → (next t (outcome_op commit x) T).1 ≡ decision_code d → L)
@@ -220,8 +209,7 @@ pub by_itself : (d : HeuristicDecision) → reopened_fate (decided_fate d) ≡ d
 by_itself d = grind arith
 
 over_reopened : (commit : Bool) (D L : Type 0) (f : Fate) → IsOver commit D L f → IsOver commit D L (reopened_fate f)
-over_reopened commit D L f (inl z) = inl (z.0, ap reopened_fate z.1 ∙ as_decided commit)
-over_reopened commit D L f (inr z) = inr (z.0, (ap reopened_fate z.1.0 ∙ by_itself z.0, z.1.1))
+over_reopened commit D L f z = search (arith, as_decided, by_itself)
 
 -- leaves the branch as it stands
 pub stands_reopened : (commit open_ : Bool) (D L : Type 0) (x : XidName) (T : Tables) (f : Fate) → Stands commit open_ D L (state_of T x) f
@@ -232,7 +220,4 @@ stands_reopened commit open_ D L x T f (over e g) = over (left_as T x _ e) (over
 
 -- a branch that is no longer open is over
 pub is_over : (commit : Bool) (D L : Type 0) (s : Option State) (f : Fate) → Stands commit false D L s f → IsOver commit D L f
-is_over commit D L s f (waits y o e g) = cc
-is_over commit D L s f (unforgotten d e g (inl o)) = cc
-is_over commit D L s f (unforgotten d e g (inr l)) = inr (d, (g, l))
-is_over commit D L s f (over e g) = g
+is_over commit D L s f st = search (arith, rules)

@@ -3,7 +3,7 @@
 use Rattle.xa_base.proofs.{◌≡◌, ℕ, zero, suc, ◌+◌, ◌-◌, ◌<◌, ◌≤◌, ◌==◌, List, length, map, slice_get, option_map, Option, Some, None, sym, refl, ap, ◌∙◌, subst}
 use Rattle.xa_base.proofs.{arith, Contains, range_with_len, eqb-true, length-range_with_len, get_or-range_with_len, same_Some, slice_get-map, slice_get-get_or}
 use Rattle.xa_base.proofs.{◌≢◌, [], ◌∷◌, ◌++◌, All, map-append, All-nil, All-cons, All-head, All-tail, All-map, Bool, true, false, list_all, get-empty}
-use Rattle.xa_base.proofs.{and_parts, All-contains, inl, get_or}
+use Rattle.xa_base.proofs.{and_parts, All-contains, inl, get_or, Contains-get_or, IsPermutation-sym, Contains-permutation}
 use Rattle.xa_words.specs.{XidName, TranName, RmFail, xid_cmp, Code, tran_of}
 use Rattle.xa_tables.specs.{is_left, Tables, AreLeft, State, HeuristicallyCompleted, HeuristicDecision, opening, state_of, is_left_in, Fate, IsFateOf}
 use Rattle.xa_tables.specs.{decided_fate, fate, is_done, tables_after, reopened, told_by, History, is_S3}
@@ -20,12 +20,10 @@ use Rattle.xa_atomicity.specs.{IsFollowed, IsKept, Opening, IsOutcomeOf, IsUseIn
 use Rattle.xa_atomicity.specs.{told_fate, TellsTheOutcome, ended_as, outcome_fate, Tabled, TellsTheOutcomes, TellsTheFates}
 use Rattle.xa_tables.specs.declared.state.State.TheVariants.{Prepared}
 use Rattle.xa_tables.proofs.Reopening.{as_left}
-use Rattle.std.proofs.lemmas.List.Elements.{Contains-get_or}
 use Rattle.xa_tables.proofs.Law.{opening_sound}
-use Rattle.std.proofs.lemmas.List.Sorted.{IsPermutation-sym, Contains-permutation}
 use Rattle.xa_tables.specs.Histories as history
 use Rattle.xa_atomicity.proofs.Resolves.{upto_so, outcome_asked, outcome_left, outcome_upto}
-use Rattle.xa_atomicity.proofs.Guided.{ended_known, unknown_so, decided_apart, read_apart}
+use Rattle.xa_atomicity.proofs.Guided.{is_known_so, unknown_so, decided_apart, read_apart}
 use Rattle.xa_atomicity.proofs.Later.{ends_with, IsStep, answered_at, opening_towards, placed_so}
 use Rattle.xa_atomicity.proofs.Leading.{waits, unforgotten, IsTowards, Stands}
 use Rattle.xa_atomicity.proofs.OneOutcome.{FindsMark}
@@ -79,8 +77,7 @@ pub scan_of : (s next : Settling) (again : Again) (z : ScanView) → IsOf (reope
     → first_of next m ≡ Some T → AreLeft (left_at z m) T
 scan_of s next again z of scanned m T first =
     let within = was_there s next again m T of first in
-    let low = within.0 in
-    rw (begins_with s next again m T of first) (left_each _ z scanned.left.each m low (omega (arith, within.1, scanned.left.managers)))
+    rw (begins_with s next again m T of first) (left_each _ z scanned.left.each m within.0 (omega (arith, within.1, scanned.left.managers)))
 
 -- resolves that find what the log has of the transaction use it so
 pub uses_by : (t : TranName) (records : Records) (qs : List ResolveCall) → All (λ r. record_in r.records t ≡ record_in records t) qs
@@ -142,13 +139,7 @@ record IsOver (f : Fate) : Type 0 where
   plain : (d : HeuristicDecision) → f ≡ decided_fate d → ⊥
 
 ended_is_over : (commit : Bool) → IsOver (ended_as commit)
-ended_is_over commit = record { known = ended_known commit; plain = λ d e. decided_apart d commit (sym e) }
-
--- tables that tell it have nothing left
-not_left : (x : XidName) (f : Fate) (T : Tables) → IsFateOf x f T → IsOver f → (o : Option State) → state_of T x ≡ o → is_left_in o ≡ false
-not_left x f T fits over (Some Prepared) is = search (arith, over.known)
-not_left x f T fits over (Some (HeuristicallyCompleted d)) is = absurd (over.plain d (fits.decided d is))
-not_left x f T fits over o is = refl
+ended_is_over commit = record { known = is_known_so (ended_as commit) commit refl; plain = λ d e. decided_apart d commit (sym e) }
 
 module _ (law : Tabled) (first : (s : Settling) (m : ℕ) (T : Tables) → IsSettled s → first_of s m ≡ Some T → IsOpenedWith s m T)
     (s : Settling) (settled : IsSettled s) where
@@ -164,7 +155,7 @@ module _ (law : Tabled) (first : (s : Settling) (m : ℕ) (T : Tables) → IsSet
       let with_T = first s m T settled begins in
       let fits = law.kept H x G T with_T.opened (law.first x T) in
       let is : fate x G H T ≡ f = sym (with_T.fates x G) ∙ ends T begins in
-      search (arith, ends_with, as_left, not_left)
+      search (arith, ends_with, as_left)
 
   gone : (m : ℕ) (x : XidName) (f : Fate) → IsOver f → Ends m x f → is_left (reopened_at s.managers m) x ≡ false
   gone m x f over ends =
@@ -205,13 +196,10 @@ module _ (law : Tabled) (first : (s : Settling) (m : ℕ) (T : Tables) → IsSet
 
   -- ---- of an outcome that was answered XA_OK
 
-  told_done : (commit : Bool) (c : Code) → is_done c ≡ true → outcome_fate commit c ≡ Some (ended_as commit)
-  told_done commit c is = grind arith
-
   gone_finished : (r : Outcome) → is_done r.code ≡ true → TellsTheOutcome s r → is_left (reopened_at s.managers r.m) r.xid ≡ false
   gone_finished r is tells =
       gone r.m r.xid (ended_as r.commit) (ended_is_over r.commit)
-      (λ T begins. tells T (told_by (state_of T r.xid)) (ended_as r.commit) begins (law.first r.xid T) (told_done r.commit r.code is))
+      (λ T begins. tells T (told_by (state_of T r.xid)) (ended_as r.commit) begins (law.first r.xid T) (grind arith))
 
 -- what a branch that was left stands at
 left_stands : (commit : Bool) (x : XidName) (T : Tables) (f : Fate) → IsFateOf x f T → (s : Option State) → state_of T x ≡ s → is_left_in s ≡ true

@@ -3,11 +3,12 @@
 use Rattle.xa_base.proofs.{arith, and-false, cond, not, if◌then◌else◌, is_some, ◌≡◌, ℕ, Bool, true, false, ◌==◌, ◌&&◌, ◌||◌, List, [], ◌∷◌, sym, refl, ap, ◌∙◌}
 use Rattle.xa_base.proofs.{Some, None, All, get-insert, eq_by_cmp, is_eq, tied_itself, All-nil, All-cons, All-head, All-tail, and_parts, is_equal, at_false}
 use Rattle.xa_base.proofs.{at_true, by_if, rules, Option, ◌≤◌, subst, eqb-true, list_any_none, list_any, or_parts, or_from, not-true, false_from_ne_true}
+use Rattle.xa_base.proofs.{and_left, and_right, true_from_ne_false, both_ways}
 use Rattle.xa_atomicity.specs.{is_recorded, Use, commits, cuts, resolves, AreUses, OfCommit, is_rolled_back, has_committed, has_rolled_back, has_vote_against}
-use Rattle.xa_atomicity.specs.{append_failed, was_refused, IsCommittedTransaction, IsAbortedTransaction}
-use Rattle.std.proofs.lemmas.Bool.{and_left, and_right, and_cases, true_from_ne_false, both_ways}
+use Rattle.xa_atomicity.specs.{was_refused, IsCommittedTransaction, IsAbortedTransaction}
+use Rattle.std.proofs.lemmas.Bool.{and_cases}
 use Rattle.xa_base.specs.{MOST_MANAGERS, IsUpTo}
-use Rattle.xa_words.specs.{TranName, Code, XidName, Op, Commit, Forget}
+use Rattle.xa_words.specs.{TranName, Code, XidName, Op, Forget}
 use Rattle.xa_driver.specs.{names, Done, Branch, is_yes, decides_commit, has_yes, voted_yes, yes_of, Logs, appended, failed, unwanted, decision_of, is_decided}
 use Rattle.xa_driver.specs.{second_op, third_op, outcome_op, Ending, AtBranch, AsksLedger, EachBranch, IsTraceOfCommit, has_branch_at, AreBranchesRising}
 use Rattle.xa_driver.specs.{wants_record, NoCommitWasSent, is_commit, Heuristic, InDoubt, Left, RolledBack, Committed, is_read, is_no, ending_of, yes_ending}
@@ -35,13 +36,12 @@ mark_is m bs vs up = in_set_of (λ k. voted_yes k bs vs) m up
 
 -- where a branch voted to commit some vote is
 pub some_yes : (m : ℕ) (bs : List Branch) (vs : List Code) → voted_yes m bs vs ≡ true → has_yes vs ≡ true
-some_yes m [] vs e = cc
-some_yes m (b ∷ bs) [] e = cc
 some_yes m (b ∷ bs) (v ∷ vs) e =
     elim (is_yes v) as (λ y. ((b.m == m) && y) || voted_yes m bs vs ≡ true → (y || has_yes vs) ≡ true) [
       | true ↦ λ _. refl
       | false ↦ λ e. some_yes m bs vs (sym (ap (λ q. q || voted_yes m bs vs) (and-false (b.m == m))) ∙ e)
     ] e
+some_yes m bs vs e = cc
 
 -- ---- what a decision leaves
 
@@ -112,9 +112,7 @@ module _ (mark : Bool) (t : TranName) (m : ℕ) (up : IsUpTo MOST_MANAGERS m) wh
   pub logs_keep : (bs : List Branch) (vs : List Code) (logged : Bool) (log later : LogState) (own : TranName) → map.get log.records own ≡ None
       → (own ≡ t → mark ≡ false → voted_yes m bs vs ≡ false) → is_marked log.records t m ≡ mark
       → Logs own (yes_of bs vs) vs logged log later → is_marked later.records t m ≡ mark
-  logs_keep bs vs logged log later own absent quiet e (appended wants on is) = search (arith, inserted)
-  logs_keep bs vs logged log later own absent quiet e (failed wants off is) = ap (λ (l : LogState). is_marked l.records t m) is ∙ e
-  logs_keep bs vs logged log later own absent quiet e (unwanted wants off is) = ap (λ (l : LogState). is_marked l.records t m) is ∙ e
+  logs_keep bs vs logged log later own absent quiet e logs = search (arith, inserted)
 
   -- from use to use
   pub marks_stay : (us : List Use) (records : Records) → AreUses t records us → is_marked records t m ≡ mark → All (IsQuiet mark t m) us
@@ -130,8 +128,7 @@ module _ (mark : Bool) (t : TranName) (m : ℕ) (up : IsUpTo MOST_MANAGERS m) wh
       All-cons (FindsMark mark t m) (resolves q) us (ap (λ o. names o m) h.0 ∙ e) (marks_stay us records h.1 e (All-tail (IsQuiet mark t m) (resolves q) us quiet))
 
 pub second_so : (P : Op → Type 0) (commit : Bool) (x : XidName) (v : Code) → P (outcome_op commit x) → IsAskedFor P (second_op commit x v)
-second_so P true x v so = by_if (IsAskedFor P) (is_yes v) (Some (Commit x false)) None (λ _. so) (λ _. tt)
-second_so P false x v so = search (arith, rules)
+second_so P commit x v so = search (arith, rules)
 
 -- it was told a decision
 abbrev pub is_told_decision : Option Code → Bool
@@ -139,8 +136,7 @@ is_told_decision None = false
 is_told_decision (Some c) = is_decided c
 
 pub third_so : (P : Op → Type 0) (x : XidName) (s : Option Code) → (is_told_decision s ≡ true → P (Forget x)) → IsAskedFor P (third_op x s)
-third_so P x None so = tt
-third_so P x (Some c) so = by_if (IsAskedFor P) (is_decided c) (Some (Forget x)) None so (λ _. tt)
+third_so P x s so = search (arith, rules)
 
 -- what is asked of a branch by a commit, by a desk's lists
 abbrev pub Traced : Bool → List LedgerView → List LedgerView → Branch → Code → Option Code → Ending → Type 0
@@ -213,14 +209,12 @@ neither v against unread = λ i. not (against i || unread i)
 -- what holds of each ending that a branch may have after a vote to commit
 pub after_yes : (P : Ending → Type 0) (commit : Bool) (s : Option Code) → P (if commit then Committed else RolledBack) → P InDoubt
     → ((c : Code) → P (Heuristic c)) → ((c : Code) → P (Left c)) → P (yes_ending commit s)
-after_yes P commit None ended doubt heuristic left = doubt
-after_yes P commit (Some c) ended doubt heuristic left = search (arith, rules)
+after_yes P commit s ended doubt heuristic left = search (arith, rules)
 
 -- and after one against
 pub after_no : (P : Ending → Type 0) (v : Code) (s : Option Code) → P RolledBack → ((c : Code) → P (Heuristic c)) → ((c : Code) → P (Left c))
     → P (no_ending v s)
-after_no P v None back heuristic left = left v
-after_no P v (Some c) back heuristic left = search (arith, rules)
+after_no P v s back heuristic left = search (arith, rules)
 
 -- what isn't voted for isn't committed, and on abort nothing is
 pub unvoted : (commit : Bool) (v : Code) (s : Option Code) → is_yes v ≡ false → Falls is_committed (ending_of commit v s)
@@ -296,9 +290,5 @@ module _ (tran : TranName) (bs : List Branch) (desk : DeskView) (new : List Ledg
         kept = kept on;
       }
 
-  -- where the log didn't take the record
-  unlogged : append_failed d ≡ true → d.commit ≡ false
-  unlogged e = search (arith, failed_append_aborts, call, and_parts, not-true)
-
   pub aborted_law : was_refused d ≡ true → IsAbortedTransaction tran desk.ledgers new later d
-  aborted_law refused = search (arith, aborted, false_from_ne_true, both_ways, unlogged, or_from, unopposed, kept)
+  aborted_law refused = search (arith, aborted, false_from_ne_true, both_ways, or_from, unopposed, kept, failed_append_aborts, call, and_parts, not-true)

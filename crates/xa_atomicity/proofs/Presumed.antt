@@ -10,7 +10,7 @@ use Rattle.xa_base.specs.{MOST_MANAGERS, IsUpTo, Begins}
 use Rattle.xa_desk.specs.{learnt_shut, ledger, LedgerView, HasGrown, HaveGrown}
 use Rattle.xa_switch.specs.{collected, Settling, reopened_at, IsOpenedWith, first_of, history as history_of, ledgers_of, ManagerPart, IsSettled, answers}
 use Rattle.xa_switch.specs.{find_manager, journal, journal_in, sent}
-use Rattle.xa_atomicity.specs.{IsOfAnother, CommitCall, CutCall, GoesOnAfter, OfCommit, Use, commits, cuts, resolves, Opening, IsByItsThread, IsKept, IsUseIn}
+use Rattle.xa_atomicity.specs.{IsOfAnother, CommitCall, CutCall, GoesOnAfter, OfCommit, Use, cuts, resolves, Opening, IsByItsThread, IsKept, IsUseIn}
 use Rattle.xa_atomicity.specs.{OnlyResolves, uses_of, IsCut, IsEnded, is_recorded, OnlyTheseOrDecisionsName, AskedAreLeft, CountsByTheLog, EndsByTheLog}
 use Rattle.xa_atomicity.specs.{IsResolvedAfter, VotedToCommit, WasAsked, known_of, AreUses, IsFollowed, ResolveCall, Tabled}
 use Rattle.xa_tables.specs.{Tables, state_of, is_left_in, Fate, IsFateOf, fate, tables_after, told_by, History}
@@ -34,14 +34,10 @@ use Rattle.xa_atomicity.proofs.Resolves.{contains_on}
 
 -- what is shown of a commit that was cut short is shown of any
 of_commit : (s : Settling) (P Q : CutCall → Type 0) → ((k : CutCall) → IsUseIn s (cuts k) → P k → Q k) → (u : Use) → IsUseIn s u → OfCommit P u → OfCommit Q u
-of_commit s P Q so (commits c) use_ p = search (arith, finished_law, c.desk, c.log, c.later, c.done)
-of_commit s P Q so (cuts k) use_ p = so k use_ p
-of_commit s P Q so (resolves q) use_ p = tt
+of_commit s P Q so u use_ p = search (arith, finished_law)
 
 any_commit : (u : Use) → OfCommit (λ k. Unit {0}) u
-any_commit (commits c) = tt
-any_commit (cuts k) = tt
-any_commit (resolves q) = tt
+any_commit u = search (arith, rules)
 
 module _ (mark : Bool) (t : TranName) (m : ℕ) (up : IsUpTo MOST_MANAGERS m) where
   abbrev Stays : CutCall → Type 0
@@ -77,8 +73,7 @@ module _ (mark : Bool) (t : TranName) (m : ℕ) (up : IsUpTo MOST_MANAGERS m) wh
 
   -- after one that nobody commits again in its opening
   pub quiet_alone : (s : Settling) (vs : List Use) → All (IsUseIn s) vs → All (IsOfAnother t) vs → All (IsQuiet mark t m) vs
-  quiet_alone s vs uses alone j d lt =
-      quiet_so s (λ k. IsTranOf k.branches t → ⊥) (λ k w none tran. absurd (none tran)) (get_or vs j d) (uses j d lt) (alone j d lt)
+  quiet_alone s vs uses alone j d lt = search (arith, quiet_so)
 
 -- ---- the manager of a branch
 

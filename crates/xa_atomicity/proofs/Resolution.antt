@@ -104,10 +104,6 @@ module _ (law : Tabled) (first : (s : Settling) (m : ℕ) (T : Tables) → IsSet
 
   -- ---- each branch
 
-  -- where a branch voted to commit, the record is the decision
-  by_record : has_yes c.done.votes.items ≡ true → is_recorded c.later cut.may.tran ≡ c.done.commit
-  by_record some = search (arith, one_tran, recorded_is)
-
   abbrev Known : Branch → Code → Option Code → Ending → Type 0
   Known b v z e = Traced c.done.commit c.desk.ledgers c.new b v z e × (known_of k b ≡ e) × (is_yes v ≡ true → has_yes c.done.votes.items ≡ true)
 
@@ -125,7 +121,7 @@ module _ (law : Tabled) (first : (s : Settling) (m : ℕ) (T : Tables) → IsSet
 
   follows_so : (b : Branch) (v : Code) (z : Option Code) (e : Ending) → Goal b → Known b v z e → is_yes v ≡ true → FollowsTo c.done.commit b e
   follows_so b v z e goal is y =
-      subst (λ w. FollowsTo w b e) (by_record (is.2 y))
+      subst (λ w. FollowsTo w b e) ((search (arith, one_tran, recorded_is, is.2 y)))
       (subst (FollowsTo (is_recorded c.later cut.may.tran) b) is.1
       (goal.1 (record { vote = v; second = z; ending = e; traced = is.0; agreed = y; known = is.1; voted = voted_so b goal.0.0 v z e is.0 y })))
 

@@ -1,11 +1,10 @@
 -- What a resolve sent to a manager, and collected from it.
-use Rattle.xa_base.proofs.{length-append, Option, None, ◌≡◌, ◌≢◌, ℕ, zero, suc, ⊎_elim, ◌+◌, ◌-◌, ◌<◌, Bool, true, false, List, [], ◌∷◌, ◌++◌, length}
-use Rattle.xa_base.proofs.{append-nil, append_assoc, get_or, sym, refl, ap, ◌∙◌, subst, arith, Some, false_from_ne_true, map, All, Contains, flat_map, list_any}
+use Rattle.xa_base.proofs.{length-append, Option, ◌≡◌, ◌≢◌, ℕ, zero, suc, ⊎_elim, ◌+◌, ◌-◌, ◌<◌, Bool, true, false, List, [], ◌∷◌, ◌++◌, length, append-nil}
+use Rattle.xa_base.proofs.{append_assoc, get_or, sym, refl, ap, ◌∙◌, subst, arith, Some, false_from_ne_true, map, All, Contains, flat_map, list_any}
 use Rattle.xa_base.proofs.{range_with_len, All-nil, All-cons, All-append, Contains-append_left, Contains-append_right, length-range_with_len}
-use Rattle.xa_base.proofs.{get_or-range_with_len, any_at, contains_at, same_begins, begins_on, was_mapped, at_false}
+use Rattle.xa_base.proofs.{get_or-range_with_len, any_at, contains_at, same_begins, begins_on, was_mapped, at_false, both_ways, Contains-append_cases}
+use Rattle.xa_base.proofs.{Contains-push_cases, Contains-push}
 use Rattle.xa_words.proofs.Xids.{xid_self}
-use Rattle.std.proofs.lemmas.Bool.{both_ways}
-use Rattle.std.proofs.lemmas.List.Elements.{Contains-append_cases, Contains-push_cases, Contains-push}
 use Rattle.xa_base.specs.{none, MOST_MANAGERS, Begins, Chain, IsUpTo, more}
 use Rattle.xa_words.specs.{XidName, xid_eq, Decides-xid_eq, RmFail, Op, OpenRm, CloseRm, Code, Forget}
 use Rattle.xa_desk.specs.{LedgerView, learnt_shut, with_sent, with_collected, ledger, HasGrown}
@@ -14,7 +13,7 @@ use Rattle.xa_switch.proofs.Lists.{contains_map, get_contained}
 use Rattle.xa_driver.specs.{Outcome, AskTrace, asked, AsksLedger, IsTraceOfResolve, ResolvesAt, ResolvesBranch, is_to_commit, outcome_op, is_decided}
 use Rattle.xa_log.specs.{Records}
 use Rattle.xa_driver.proofs.Mapped.{Any, Asks, IsAskedFor, anything, if_by, outcome_by, outcomes_by, resolves_by}
-use Rattle.xa_desk.proofs.Growth.{grown_on}
+use Rattle.xa_desk.proofs.Ledgers.{grown_on}
 use Rattle.std.proofs.lemmas.Map.Views.{Contains-from_any}
 use Rattle.xa_atomicity.proofs.Guided.{learnt_on}
 
@@ -40,9 +39,7 @@ module _ (P : Op → Type 0) where
   }
 
   pub asked_sends : (a : LedgerView) (op : Option Op) (code : Option Code) → IsAskedFor P op → Sends P a (asked a op code)
-  asked_sends a None code so = stays a
-  asked_sends a (Some op) None so = stays a
-  asked_sends a (Some op) (Some code) so = search (arith, stays, All-cons, All-nil)
+  asked_sends a op code so = search (arith, stays, All-cons, All-nil)
 
   asks_one : (a a' : LedgerView) (op : Op) (code : Code) → P op → AskTrace (Some op) (Some code) a a' → Sends P a a'
   asks_one a a' op code so tr = subst (Sends P a) (sym tr.trace) (asked_sends a (Some op) (Some code) so)
@@ -114,12 +111,8 @@ module _ (a opened now decided last : LedgerView) (op : Op) (first code : Code) 
   open_now : learnt_shut now ≡ false
   open_now = false_from_ne_true (learnt_shut now) (λ shut. reached (obeys.answered shut))
 
-  open_first : learnt_shut a ≡ false
-  open_first = search (arith, false_from_ne_true, both_ways, open_now, learnt_on, begins_on, asks_one)
-
   now_sent : now.sent ≡ a.sent ++ OpenRm ∷ before.more
-  now_sent = before.sent ∙ ap (λ (l : LedgerView). l.sent ++ before.more) (sent_so a opened OpenRm first open_first opens)
-      ∙ append_assoc a.sent (OpenRm ∷ []) before.more
+  now_sent = search (arith, sent_so, append_assoc, false_from_ne_true, both_ways, open_now, learnt_on, begins_on, asks_one)
 
   decided_is : decided ≡ with_collected (with_sent now op) (length now.sent) code
   decided_is = sent_so now decided op code open_now obeys

@@ -1,27 +1,24 @@
 -- What the branches of a call came to in a settled opening, where what they were asked by a desk's ledgers stands in their
 -- managers' histories.
-use Rattle.xa_base.proofs.{◌≡◌, ℕ, suc, Bool, true, false, ◌||◌, List, [], ◌∷◌, ◌++◌, length, length-append, append_assoc, slice_get, refl, ap, ◌∙◌, subst}
-use Rattle.xa_base.proofs.{arith, Option, Some, All, list_any-append, all_mid, begins_on, at_false, at_true, ◌+◌, All-contains, All-head, All-tail, Contains}
-use Rattle.xa_base.proofs.{list_any, zero, ◌≤◌, if◌then◌else◌, sym, ⊎_elim, le-leb, cases_lt, or_parts, not-true, pos, ◌⊎◌, or-true, false_from_ne_true}
-use Rattle.xa_base.proofs.{or-false}
+use Rattle.xa_base.proofs.{inl, inr, ◌≡◌, ℕ, suc, Bool, true, false, ◌||◌, List, [], ◌∷◌, ◌++◌, length, length-append, append_assoc, slice_get, refl, ap, ◌∙◌}
+use Rattle.xa_base.proofs.{subst, arith, Option, Some, All, list_any-append, all_mid, begins_on, at_false, at_true, All-contains, All-head, All-tail, Contains}
+use Rattle.xa_base.proofs.{list_any, zero, ◌≤◌, if◌then◌else◌, sym, le-leb, cases_lt, or_parts, not-true, pos, or-true, false_from_ne_true, or-false}
 use Rattle.xa_base.specs.{Begins}
 use Rattle.xa_words.specs.{Code, Op, TranName, XidName, Request}
-use Rattle.xa_tables.specs.{Tables, History, coded, HeuristicDecision, state_of, next, told_by, Fate, IsFateOf, fate, decided_fate, tables_after}
-use Rattle.xa_desk.specs.{LedgerView, is_rm_fail, learnt_shut, with_sent, with_collected, numbered, ledger, no_ledger, is_known, HasGrown, HaveGrown, DeskView}
+use Rattle.xa_tables.specs.{Tables, History, coded, HeuristicDecision, state_of, next, told_by, Fate, IsFateOf, decided_fate, tables_after}
+use Rattle.xa_desk.specs.{LedgerView, learnt_shut, with_sent, with_collected, ledger, no_ledger, is_known, HasGrown, HaveGrown, DeskView}
 use Rattle.xa_switch.specs.{collected, answers, Settling, IsSettled, sent, IsOpenedWith, ledgers_of, history as history_of}
 use Rattle.xa_driver.specs.{Done, Branch, Ending, AtBranch, AsksLedger, is_yes, is_no, ending_of, second_op, third_op, EachBranch, IsCommit, IsTraceOfCommit}
 use Rattle.xa_driver.specs.{ReadOnly}
 use Rattle.xa_driver.proofs.Mapped.{branch_mapped, any_asked, branch_by}
-use Rattle.xa_driver.proofs.Traces.{asked_grows}
-use Rattle.xa_desk.proofs.Growth.{as_it_was, grown_on}
+use Rattle.xa_driver.proofs.Requests.{asked_grows}
+use Rattle.xa_desk.proofs.Ledgers.{as_it_was, grown_on, past_end}
 use Rattle.xa_log.specs.{LogState}
 use Rattle.xa_atomicity.specs.{is_in_doubt, is_decided, AreLeftAlone, AreLeftOrDecided, OnlyTheseName, OnlyTheseOrDecisionsName, IsDecidedAfter, KeepsItsVote}
 use Rattle.xa_atomicity.specs.{TellsTheFate, undecided, decided, told_fate, EachOutcome, KeepsTheVotes, TellsTheFates, has_committed, is_rolled_back}
 use Rattle.xa_atomicity.specs.{is_heuristic, is_left, is_read_only, sent_so_far, Shares, CountsTheCommitted, HasAllOrNothing, Tabled}
 use Rattle.xa_atomicity.specs.Outcomes.{is_committed}
-use Rattle.xa_desk.proofs.Ledgers.{past_end}
-use Rattle.xa_tables.specs.Histories as history
-use Rattle.xa_atomicity.proofs.Sites.{Site, StandsIn, Sent, AsksIn, stands_by, at_seam, IsFromTo, own_between}
+use Rattle.xa_atomicity.proofs.Sites.{Site, StandsIn, Sent, AsksIn, stands_by, at_seam, IsFromTo, own_sent}
 use Rattle.xa_atomicity.proofs.Courses.{Course, course_of, own_plain}
 use Rattle.xa_atomicity.proofs.OneOutcome.{every_manager, branch_map, positive_all, committed_law}
 use Rattle.xa_atomicity.proofs.Values.{Counted, branch_counts}
@@ -47,14 +44,6 @@ module _ {t : ℕ} {T : Tables} {H : History} (s : Site t T H) (pairs : List (�
       stands_by s n op c (ap (λ l. slice_get l n) (has.sent.1 ∙ append_assoc a.sent (op ∷ []) has.sent.0) ∙ at_seam a.sent op has.sent.0)
       (all_mid there a.collected has.collected.0 (n, c) (subst (All there) (has.collected.1 ∙ append_assoc a.collected ((n, c) ∷ []) has.collected.0) answered))
 
-  heard_after : (a : LedgerView) (op : Op) (c : Code)
-      → heard (with_collected (with_sent a op) (length a.sent) c) ≡ record { number = suc (length a.sent); shut = learnt_shut a || is_rm_fail c }
-  heard_after a op c =
-      let number : length (a.sent ++ op ∷ []) ≡ suc (length a.sent) = omega (arith, length-append a.sent (op ∷ [])) in
-      let shut : learnt_shut (with_collected (with_sent a op) (length a.sent) c) ≡ (learnt_shut a || is_rm_fail c) =
-      list_any-append (λ (p : ℕ × Code). is_rm_fail p.1) a.collected ((length a.sent, c) ∷ []) ∙ ap (λ b. learnt_shut a || b) (or-false (is_rm_fail c)) in
-      λ i. record { number = number i; shut = shut i }
-
   has_before : (a a' : LedgerView) (op : Op) (c : Code) → AsksLedger a op a' c → Has a' → Has a
   has_before a a' op c is has =
       let grown = asked_grows a (Some op) (Some c) in
@@ -66,7 +55,7 @@ module _ {t : ℕ} {T : Tables} {H : History} (s : Site t T H) (pairs : List (�
       → AtBranch (AsksIn t T H) commit b vote second ending (heard a) (heard a')
   branch_in b commit vote second ending a a' is sent collected =
       branch_mapped AsksLedger (AsksIn t T H) heard (λ z. Unit {0}) Has (λ d e op c is q. tt) has_before
-      (λ d e op c is q has. search (arith, at_true, at_false, stands_in, heard_after, is.answered)) commit b vote second ending a a' is tt
+      (λ d e op c is q has. search (arith, at_true, at_false, stands_in, is.answered, length-append, list_any-append, or-false)) commit b vote second ending a a' is tt
       (record { sent = sent; collected = collected })
 
 -- what was sent to a manager, and collected from it, stands in the ledger with it
@@ -82,11 +71,7 @@ pub sent_between : (s : Settling) → IsSettled s → (t m : ℕ) → 1 ≤ m �
     → All P more
     → HasGrown a' (ledger (ledgers_of s t) m) → All (λ r. r.thread ≡ t → IsFromTo P (length a.sent) (length a'.sent) r.number r.op) (history_of s m)
 sent_between s settled t m positive P a a' more is all grown =
-    let rest = sent_on s t m positive a' grown in
-    let ops : sent s t m ≡ a.sent ++ (more ++ rest.0) = rest.1 ∙ ap (λ l. l ++ rest.0) is ∙ append_assoc a.sent more rest.0 in
-    let size : length a.sent + length more ≡ length a'.sent = sym (length-append a.sent more) ∙ sym (ap (λ l. length l) is) in
-    subst (λ k. All (λ r. r.thread ≡ t → IsFromTo P (length a.sent) k r.number r.op) (history_of s m)) size
-    (own_between t P (history_of s m) a.sent more rest.0 ((settled.agree t m).carried ∙ ap (numbered t 0) ops) all)
+    own_sent t P (history_of s m) (sent s t m) a.sent a'.sent more (settled.agree t m).carried (sent_on s t m positive a' grown) is all
 
 pub collected_on : (s : Settling) (t m : ℕ) → 1 ≤ m → (a : LedgerView) → HasGrown a (ledger (ledgers_of s t) m) → Begins a.collected (collected s t m)
 collected_on s t m positive a grown =
@@ -143,22 +128,6 @@ decided_alike : (x : XidName) (t n : ℕ) (T U : Tables) (H : History) → coded
 decided_alike x t n T U H e z =
     let place : H ≡ (z.before ++ z.request ∷ z.between) ++ z.decision ∷ z.after = search (arith, append_assoc) in
     search (arith, code_within, z.after, z.decision)
-
--- what is told of a branch became of it, where it did by the history that each opening's tables give
-pub tells_of : (s : Settling) (t : ℕ) (b : Branch) (n : ℕ) (ending : Ending)
-    → ((before : Fate) (T : Tables) → IsOpenedWith s b.m T → IsFateOf b.xid before T → (f : Fate) → told_fate ending ≡ Some f → fate b.xid before (history_of s b.m) T ≡ f)
-    → ((before : Fate) (T : Tables) → IsOpenedWith s b.m T → IsFateOf b.xid before T → is_in_doubt ending ≡ true
-    → (fate b.xid before (history_of s b.m) T ≡ history.InDoubt) ⊎ ((d : HeuristicDecision) × ((fate b.xid before (history_of s b.m) T ≡ decided_fate d) × IsDecidedAfter b.xid t n T (history_of s b.m))))
-    → TellsTheFate s t b n ending
-tells_of s t b n ending told doubt = record {
-  told = λ before f was e. was.opened.fates b.xid before ∙ told before was.first was.opened was.fits f e;
-  doubt = λ before was unknown.
-      ⊎_elim
-      (λ (none : fate b.xid before (history_of s b.m) was.first ≡ history.InDoubt). undecided (was.opened.fates b.xid before ∙ none))
-      (λ (some : (d : HeuristicDecision) × ((fate b.xid before (history_of s b.m) was.first ≡ decided_fate d) × IsDecidedAfter b.xid t n was.first (history_of s b.m))).
-      decided some.0 (was.opened.fates b.xid before ∙ some.1.0) (λ U with_U. decided_alike b.xid t n was.first U (history_of s b.m) (sym was.opened.codes ∙ with_U.codes) some.1.1))
-      (doubt before was.first was.opened was.fits unknown);
-}
 
 -- branch by branch, without the second codes
 pub each_outcome : (C : Branch → Type 0) (P : Branch → Code → Option Code → Ending → Type 0) (Q : Branch → Code → Ending → Type 0)
@@ -223,7 +192,13 @@ module _ (law : Tabled) (opened : (s : Settling) (m : ℕ) → IsSettled s → (
           let ends = (is open_.0 open_.1).1 in
           record {
             keeps = record { reached = z.reached; shut = z.shut; decided = λ y h U with_U. (one_voted only U with_U).decided y h };
-            tells = tells_of s t b (old b.m) ending (λ before U with_U fits. (one_told only before U with_U fits).told) (λ before U with_U fits. (one_told only before U with_U fits).doubt);
+            tells = record {
+              told = λ before f was e. was.opened.fates b.xid before ∙ (one_told only before was.first was.opened was.fits).told f e;
+              doubt = λ before was unknown. elim ((one_told only before was.first was.opened was.fits).doubt unknown) [
+                | inl none ↦ undecided (was.opened.fates b.xid before ∙ none)
+                | inr some ↦ decided some.0 (was.opened.fates b.xid before ∙ some.1.0) (λ U with_U. decided_alike b.xid t (old b.m) was.first U (history_of s b.m) (sym was.opened.codes ∙ with_U.codes) some.1.1)
+              ];
+            };
             unless_no = λ no. ap is_left ends ∙ unless_against is_left commit vote second refl (λ y. sym (ap is_left ends) ∙ z.reached y) no;
             named = z.named;
           }

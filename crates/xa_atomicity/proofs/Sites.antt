@@ -1,23 +1,19 @@
 -- Where the requests of one thread stand in its manager's settled history, by their numbers, and what they were answered.
-use Rattle.xa_base.proofs.{map-append, ◌≡◌, ◌≢◌, ℕ, zero, suc, ◌+◌, ◌<◌, true, false, ◌==◌, cond, List, [], ◌∷◌, ◌++◌, length, map, slice_get, get_or, sym}
-use Rattle.xa_base.proofs.{refl, ap, ◌∙◌, arith, Option, Some, None, filter, cons_option, eq-eqb, filter-append, rules, Bool, ◌≤◌, length-append, subst}
-use Rattle.xa_base.proofs.{eqb-false, ne_eqb, list_any, All, All-nil, All-cons, slice_get_within, All-contains, Contains, ◌-◌, ◌||◌, some_same, all_left}
-use Rattle.xa_base.proofs.{all_after, false_from_ne_true, all_at, next_there, take-append-drop, take, drop}
-use Rattle.std.proofs.lemmas.Option.{some_pair_parts, get_or_from_slice_get}
+use Rattle.xa_base.proofs.{map-append, ◌≡◌, ◌≢◌, ℕ, suc, ◌+◌, ◌<◌, true, false, ◌==◌, cond, List, [], ◌∷◌, ◌++◌, length, map, slice_get, get_or, sym, refl, ap}
+use Rattle.xa_base.proofs.{◌∙◌, arith, Option, Some, None, filter, cons_option, eq-eqb, filter-append, rules, Bool, ◌≤◌, length-append, subst, eqb-false}
+use Rattle.xa_base.proofs.{ne_eqb, list_any, All, All-nil, All-cons, slice_get_within, All-contains, Contains, ◌-◌, ◌||◌, some_same, all_left, all_after}
+use Rattle.xa_base.proofs.{false_from_ne_true, all_at, next_there, take-append-drop, take, drop, some_pair_parts, get_or_from_slice_get, and_right, both_ways}
+use Rattle.xa_base.proofs.{list_any_at, filter_map-append, get_or_append_left, drop-cons, append_assoc}
+use Rattle.xa_base.specs.{Begins}
 use Rattle.xa_words.specs.{XidName, Op, Request, Code, RmFail}
 use Rattle.xa_tables.specs.{Tables, next, Fate, of_thread, tables_after, coded, fate_of, fate_in, fates_in, last_or, History, closes, is_close, IsOpening}
 use Rattle.xa_desk.specs.{numbered, is_rm_fail}
 use Rattle.xa_worker.specs.{Entry}
 use Rattle.xa_switch.specs.{answers}
-use Rattle.std.proofs.lemmas.Bool.{and_right, both_ways}
-use Rattle.xa_tables.proofs.Unnamed.{tables_after-append}
+use Rattle.xa_tables.proofs.ValueLaw.{tables_after-append}
 use Rattle.xa_atomicity.specs.{Tabled}
-use Rattle.std.proofs.lemmas.List.Folds.{list_any_at}
-use Rattle.std.proofs.lemmas.List.Elements.{filter_map-append}
-use Rattle.xa_driver.proofs.Ledgers.{numbered_length}
-use Rattle.xa_tables.proofs.WorkLaw.{others_first}
-use Rattle.std.proofs.lemmas.List.{get_or-append_right, get_or_append_left, length-take-le}
-use Rattle.std.proofs.Common.{drop-cons}
+use Rattle.xa_driver.proofs.Requests.{numbered_length}
+use Rattle.std.proofs.lemmas.List.{get_or-append_right, length-take-le}
 
 -- thread t's request of number n
 abbrev pub request_of : ℕ → ℕ → Op → Request
@@ -62,16 +58,7 @@ module _ (t : ℕ) where
             put q h xs xs ys r p (ap (λ b. cond b (q ∷ of_thread t p.before) (of_thread t p.before)) other ∙ p.earlier)
       ] refl e
 
-  -- nothing of the thread
-  pub all_others : (h : History) → of_thread t h ≡ [] → (k : ℕ) (d : Request) → k < length h → (get_or h k d).thread ≢ t
-  all_others [] e k d lt = absurd (omega arith)
-  all_others (q ∷ h) e zero d lt = (others_first t q h e).0
-  all_others (q ∷ h) e (suc k) d lt = all_others h (others_first t q h e).1 k d (omega arith)
-
   -- ---- the answers
-
-  answers_both : (xs ys : List Entry) → answers t (xs ++ ys) ≡ answers t xs ++ answers t ys
-  answers_both xs ys = search (arith, filter-append, map-append)
 
   answers_length : (h : History) (T : Tables) → length (answers t (coded h T)) ≡ length (of_thread t h)
   answers_length [] T = refl
@@ -92,7 +79,7 @@ module _ (t : ℕ) where
   -- what a request of the thread is answered, after n others of it
   pub answer_at : (before after : History) (r : Request) (T : Tables) (n : ℕ) → r.thread ≡ t → length (of_thread t before) ≡ n
       → slice_get (answers t (coded (before ++ r ∷ after) T)) n ≡ Some (r.number, (next r.thread r.op (tables_after before T)).1)
-  answer_at before after r T n own count = search (arith, eq-eqb, slice_get, coded_both, answers_both, answers_length, at_seam, r.thread, r.op)
+  answer_at before after r T n own count = search (arith, eq-eqb, slice_get, coded_both, filter-append, map-append, answers_length, at_seam, r.thread, r.op)
 
 -- numbers
 pub numbered_both : (t n : ℕ) (xs ys : List Op) → numbered t n (xs ++ ys) ≡ numbered t n xs ++ numbered t (n + length xs) ys
@@ -110,8 +97,7 @@ abbrev pub fates : XidName → History → Tables → List Fate
 fates x h T = fates_in x (coded h T)
 
 pub fates_both : (x : XidName) (h g : History) (T : Tables) → fates x (h ++ g) T ≡ fates x h T ++ fates x g (tables_after h T)
-fates_both x h g T = ap (fates_in x) (coded_both 0 h g T) ∙ filter_map-append (λ (e : Request × Code). fate_of x e.0.op e.1) (coded h T)
-    (coded g (tables_after h T))
+fates_both x h g T = search (arith, coded_both, filter_map-append)
 
 pub last_both : (f : Fate) (xs ys : List Fate) → last_or f (xs ++ ys) ≡ last_or (last_or f xs) ys
 last_both f [] ys = refl
@@ -155,6 +141,10 @@ of_ops t Q (q ∷ h) n ops e known =
 pub none_all : {A : Type 0} (p : A → Bool) (xs : List A) → list_any p xs ≡ false → All (λ x. p x ≡ false) xs
 none_all p xs none k d lt = false_from_ne_true (p (get_or xs k d)) (λ e. both_ways (list_any p xs) none (list_any_at p xs k d lt e))
 
+-- nothing of the thread
+pub all_others : (t : ℕ) (h : History) → of_thread t h ≡ [] → (k : ℕ) (d : Request) → k < length h → (get_or h k d).thread ≢ t
+all_others t h e = of_ops t (λ _ _. ⊥) h 0 [] e (λ k op at. cc)
+
 -- so the numbers of the thread's requests rise, and are below how many there are
 pub all_later : (t : ℕ) (h : History) (n : ℕ) (ops : List Op) → of_thread t h ≡ numbered t n ops → All (λ r. r.thread ≡ t → n ≤ r.number) h
 all_later t h n ops e = of_ops t (λ j op. n ≤ j) h n ops e (λ k op at. omega arith)
@@ -171,25 +161,31 @@ own_all t P h n ops e all = of_ops t (λ k op. P op) h n ops e (λ k op at. all_
 abbrev pub IsFromTo : (Op → Type 0) → ℕ → ℕ → ℕ → Op → Type 0
 IsFromTo P from to n op = from ≤ n → n < to → P op
 
+pub own_sent : (t : ℕ) (P : Op → Type 0) (h : History) (ops old new more : List Op) → of_thread t h ≡ numbered t 0 ops → Begins new ops → new ≡ old ++ more
+    → All P more → All (λ r. r.thread ≡ t → IsFromTo P (length old) (length new) r.number r.op) h
+own_sent t P h ops old new more e begins is all =
+    of_ops t (IsFromTo P (length old) (length new)) h 0 ops e (λ k op at from to.
+    let past : length old ≤ k = omega (arith, from) in
+    let within : k - length old < length more = let size = ap length is in omega (arith, from, to, size, length-append old more) in
+    let there : slice_get (old ++ (more ++ begins.0)) k ≡ Some op =
+    ap (λ l. slice_get l k) (sym (begins.1 ∙ ap (λ l. l ++ begins.0) is ∙ append_assoc old more begins.0)) ∙ at in
+    let is : get_or more (k - length old) op ≡ op =
+    sym (get_or-append_right old (more ++ begins.0) (length old) k op refl past ∙ get_or_append_left more begins.0 op (k - length old) within)
+    ∙ get_or_from_slice_get (old ++ (more ++ begins.0)) k op op there in
+    subst P is (all (k - length old) op within))
+
 pub own_between : (t : ℕ) (P : Op → Type 0) (h : History) (pre mid post : List Op) → of_thread t h ≡ numbered t 0 (pre ++ (mid ++ post)) → All P mid
     → All (λ r. r.thread ≡ t → IsFromTo P (length pre) (length pre + length mid) r.number r.op) h
 own_between t P h pre mid post e all =
-    of_ops t (IsFromTo P (length pre) (length pre + length mid)) h 0 (pre ++ (mid ++ post)) e (λ k op at from to.
-    let past : length pre ≤ k = omega (arith, from) in
-    let in_mid : k - length pre < length mid = omega (arith, from, to) in
-    let is : get_or mid (k - length pre) op ≡ op =
-    sym (get_or-append_right pre (mid ++ post) (length pre) k op refl past ∙ get_or_append_left mid post op (k - length pre) in_mid)
-    ∙ get_or_from_slice_get (pre ++ (mid ++ post)) k op op at in
-    subst P is (all (k - length pre) op in_mid))
+    subst (λ k. All (λ r. r.thread ≡ t → IsFromTo P (length pre) k r.number r.op) h) (length-append pre mid)
+    (own_sent t P h (pre ++ (mid ++ post)) pre (pre ++ mid) mid e (post, sym (append_assoc pre mid post)) refl all)
 
 -- it is the one that was collected
 pub code_there : (t : ℕ) (H : History) (T : Tables) (pairs : List (ℕ × Code)) (n : ℕ) (code : Code)
     → All (λ p. slice_get (answers t (coded H T)) p.0 ≡ Some p) pairs → Contains pairs (n, code)
     → (before after : History) (op : Op) → H ≡ before ++ request_of t n op ∷ after → length (of_thread t before) ≡ n
     → code ≡ (next t op (tables_after before T)).1
-code_there t H T pairs n code answered collected before after op place count =
-    let is : slice_get (answers t (coded H T)) n ≡ Some (n, (next t op (tables_after before T)).1) = search (arith, slice_get, answer_at, request_of) in
-    same_code _ n n code _ (All-contains (λ p. slice_get (answers t (coded H T)) p.0 ≡ Some p) pairs (n, code) answered collected) is
+code_there t H T pairs n code answered collected before after op place count = search (arith, slice_get, answer_at, same_code, All-contains)
 
 -- how many of the thread's stand before the second of two of its requests
 pub count_two : (t n : ℕ) (op : Op) (before mid : History) (xs ys : List Op) → of_thread t before ≡ numbered t 0 xs → of_thread t mid ≡ numbered t (suc n) ys
@@ -236,7 +232,6 @@ pub record Sides (t n : ℕ) (op : Op) (xs ys : History) (k : ℕ) (ops : List O
   pub sent : ops ≡ pre ++ op ∷ post
 
 pub sides : (t n : ℕ) (op : Op) (xs ys : History) (k : ℕ) (ops : List Op) → xs ++ request_of t n op ∷ ys ≡ numbered t k ops → Sides t n op xs ys k ops
-sides t n op [] ys k [] e = cc
 sides t n op [] ys k (o ∷ ops) e =
     let head : request_of t n op ≡ request_of t k o = cc in
     let tail : ys ≡ numbered t (suc k) ops = cc in
@@ -249,13 +244,12 @@ sides t n op [] ys k (o ∷ ops) e =
       later = tail ∙ ap (λ j. numbered t (suc j) ops) (sym number);
       sent = ap (λ (r : Request). r.op ∷ ops) (sym head);
     }
-sides t n op (x ∷ xs) ys k [] e = cc
 sides t n op (x ∷ xs) ys k (o ∷ ops) e =
     let head : x ≡ request_of t k o = cc in
     let tail : xs ++ request_of t n op ∷ ys ≡ numbered t (suc k) ops = cc in
     let z = sides t n op xs ys (suc k) ops tail in
-    let many = z.many in
-    record { pre = o ∷ z.pre; post = z.post; earlier = λ i. head i ∷ z.earlier i; many = omega (arith, many); later = z.later; sent = ap (λ l. o ∷ l) z.sent }
+    record { pre = o ∷ z.pre; post = z.post; earlier = λ i. head i ∷ z.earlier i; many = omega (arith, z.many); later = z.later; sent = ap (λ l. o ∷ l) z.sent }
+sides t n op xs ys k ops e = cc
 
 module _ {t : ℕ} {T : Tables} {H : History} (s : Site t T H) where
   sides_at : (n : ℕ) (op : Op) (before after : History) → H ≡ before ++ request_of t n op ∷ after
@@ -266,8 +260,7 @@ module _ {t : ℕ} {T : Tables} {H : History} (s : Site t T H) where
   pub answered_here : (n : ℕ) (op : Op) (before after : History) → H ≡ before ++ request_of t n op ∷ after
       → slice_get (answers t (coded H T)) n ≡ Some (n, (next t op (tables_after before T)).1)
   answered_here n op before after place =
-      let z = sides_at n op before after place in
-      search (arith, slice_get, answer_at, request_of, numbered_length, z.many)
+      search (arith, slice_get, answer_at, request_of, numbered_length, (sides_at n op before after place).many)
 
   abbrev pub at_place : (n : ℕ) (op : Op) (c : Code) → StandsIn t n op c T H → (before after : History) → H ≡ before ++ request_of t n op ∷ after
       → StandsIn t n op c T H

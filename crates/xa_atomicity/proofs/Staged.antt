@@ -1,18 +1,17 @@
 -- Each stage of a commit is one that was cut short, whatever else was done between them; and so is a commit whose
 -- coordinator died.
-use Rattle.xa_base.proofs.{◌≡◌, ℕ, zero, suc, Bool, Option, Some, None, List, [], ◌∷◌, arith, length, refl, subst, All, All-nil, All-cons, true, not, ◌&&◌}
-use Rattle.xa_base.proofs.{◌||◌, map, inl, inr, get_or, sym, ap, ◌∙◌, All-head, All-tail, rules}
+use Rattle.xa_base.proofs.{◌≡◌, ℕ, zero, suc, Bool, Option, Some, None, List, [], ◌∷◌, arith, length, refl, subst, All, All-nil, All-cons, true, map, inl, inr}
+use Rattle.xa_base.proofs.{get_or, sym, ap, ◌∙◌, All-head, All-tail, rules}
 use Rattle.xa_words.specs.{TranName, Death, Op, Code, Prepare}
 use Rattle.xa_desk.specs.{LedgerView, DeskView, ledger}
 use Rattle.xa_driver.specs.{Done, Prepared, Branch, Ending, IsBegun, collected, in_flight, unasked, Dies, HaveAsked, HaveTold, PutsLedger, Tells, VotesAndHears}
 use Rattle.xa_driver.specs.{VotesAndObeys, withheld, second_op, AsksLedger, EachBranch, IsTranOf, MayCommit, decision_of, Decided, Told, Ask, EachAsk}
-use Rattle.xa_driver.specs.{HaveComeSoFar, SameAsks, decides_commit, has_yes, yes_of, third_op, ending_of, code_of, ending_of_ask, first_ask, second_ask}
-use Rattle.xa_driver.specs.{third_ask, yes_asked, HasDecided, HasPrepared, HasTold, HasVoted, Logs, appended, wants_record}
+use Rattle.xa_driver.specs.{HaveComeSoFar, SameAsks, yes_of, third_op, ending_of, code_of, ending_of_ask, first_ask, second_ask, third_ask, yes_asked}
+use Rattle.xa_driver.specs.{HasDecided, HasPrepared, HasTold, HasVoted, Logs, appended, wants_record}
 use Rattle.xa_driver.proofs.Calls.{one_tran, first_trace, second_code, second_is, second_trace, yes_is}
-use Rattle.xa_driver.proofs.Traces.{trace_for}
+use Rattle.xa_driver.proofs.Requests.{trace_for, same_itself}
 use Rattle.xa_log.specs.{LogState, IsEither, with_record}
 use Rattle.xa_atomicity.specs.{CameSoFar, DidOther, EachVote, IsAsked, IsCut, IsEnded, IsTold, asking, forgetting, telling, LeavesBranches}
-use Rattle.xa_driver.proofs.Gathering.{same_itself}
 use Rattle.xa_driver.specs.Deaths.{sent}
 use Rattle.xa_driver.specs.Asks.{Asks}
 use Rattle.xa_words.specs.declared.death.Death.TheVariants as death
@@ -255,9 +254,6 @@ decided_is_cut bs desk mid new log later p d may first between second =
 
 -- ---- a commit that came to no decision
 
-decides : (a b : Bool) → (a && b) ≡ true → true ≡ (a && (not b || true))
-decides a b e = grind arith
-
 -- the stage that would have come, had the log told that it took the record
 abbrev logged_stage : Prepared → Decided
 logged_stage p = record { round = p.round; known = record p.known { commit = true; logged = true } }
@@ -279,7 +275,7 @@ undecided_is_cut bs desk mid new log later votes tran may voted between of_tran 
             round = refl;
             votes = refl;
             endings = refl;
-            decision = decides (decides_commit p.known.votes.items) (has_yes p.known.votes.items) wants;
+            decision = search (arith, rules);
             logs = appended wants refl (added ∙ (λ i. with_record log (tran_is i) (yes_are i)));
           })
     ]

@@ -2,15 +2,14 @@
 -- move there, the share that a value has of an addition, by the fates of its branch, and both for a branch of a call.
 use Rattle.xa_base.proofs.{by_if, false_from_ne_true, and_parts, eqb-true, le-leb, ℤ, pos, ◌+ℤ◌, nat_le, if◌then◌else◌, ◌≡◌, ℕ, suc, ◌<◌, ◌≤◌, Bool, true}
 use Rattle.xa_base.proofs.{false, ◌==◌, ◌&&◌, List, [], ◌∷◌, ◌++◌, length, get_or, sym, refl, ap, ◌∙◌, arith, eq-eqb, All, ints, and-false, +ℤ_idl as none_plus}
-use Rattle.xa_base.proofs.{+ℤ_idr as plus_none, option_map, append_assoc, Option, Some, None, cons_option, at_true, ◌≢◌, subst, all_left, all_after, All-cons}
-use Rattle.xa_base.proofs.{cases_Bool, by_bool, All-append}
-use Rattle.xa_tables.specs.{moved_by, Answer, next, tables_after, is_done, moved, held_by, Tables, History, Association, association_of, Fate, added_by, coded}
+use Rattle.xa_base.proofs.{+ℤ_idr as plus_none, append_assoc, Option, Some, None, cons_option, at_true, ◌≢◌, subst, all_left, all_after, All-cons, cases_Bool}
+use Rattle.xa_base.proofs.{by_bool, All-append, lt-leb, leb-true, leb-false, both_ways}
+use Rattle.xa_tables.specs.{moved_by, Answer, next, tables_after, is_done, moved, held_by, Tables, History, Association, association_of, Fate, coded}
 use Rattle.xa_tables.specs.{commits_later, ending, ending_by, fate_of, or_later, share, EndsNowhere, names, NamesNowhere, is_forget, commit_fate}
-use Rattle.std.proofs.lemmas.Bool.{lt-leb, leb-true, leb-false, both_ways}
-use Rattle.xa_words.specs.{Op, Commit, Heur, Request, Code, XidName, Decides-key_eq, Prepare, Done, RdOnly, RmFail, Rollback, xid_eq}
+use Rattle.xa_words.specs.{Op, Commit, Request, Code, XidName, Decides-key_eq, Prepare, Done, RdOnly, RmFail, Rollback, xid_eq}
 use Rattle.xa_driver.specs.{is_commit, Ending, ReadOnly, RolledBack, Left, is_yes, yes_ending, no_ending, outcome_op}
 use Rattle.xa_atomicity.specs.{taken_before, IsAddition, prepare_of, IsBetween, OnlyTheseName, is_read_only as is_read_only_ending, none_later}
-use Rattle.xa_tables.proofs.Unnamed.{tables_after-append, unnamed_fate}
+use Rattle.xa_tables.proofs.ValueLaw.{tables_after-append, unnamed_fate}
 use Rattle.xa_words.proofs.Xids.{xid_self}
 use Rattle.xa_atomicity.specs.Outcomes.{is_committed}
 use Rattle.xa_tables.specs.Histories as history
@@ -37,10 +36,7 @@ pub moved_both : (accounts : Accounts) (passes : Request → Bool) (h g : Histor
 moved_both accounts passes [] g T = sym (none_plus _)
 moved_both accounts passes (r ∷ h) g T =
     let T1 : Tables = (next r.thread r.op T).0 in
-    regroup (if passes r then moved_by accounts r.op (next r.thread r.op T).1 T else pos 0) (moved accounts passes h T1) (moved accounts passes g (tables_after h T1)) (moved accounts passes (h ++ g) T1) (moved_both accounts passes h g T1)
-  where
-    regroup : (v a b c : ℤ) → c ≡ a +ℤ b → v +ℤ c ≡ (v +ℤ a) +ℤ b
-    regroup v a b c e = omega (arith, ints)
+    omega (arith, ints, moved_both accounts passes h g T1)
 
 -- what is no Commit moves nothing
 pub unmoving : (accounts : Accounts) (op : Op) (c : Code) (T : Tables) → is_commit op ≡ false → moved_by accounts op c T ≡ pos 0
@@ -69,12 +65,7 @@ moved_alike accounts p q (r ∷ h) T same =
 
 -- accounts that aren't there are worth nothing
 pub moved_nothing : (passes : Request → Bool) (h : History) (T : Tables) → moved [] passes h T ≡ pos 0
-moved_nothing passes h T = moved_still [] passes h T (λ k d lt e. no_worth (get_or h k d).op)
-  where
-    no_worth : (op : Op) (c : Code) (U : Tables) → moved_by [] op c U ≡ pos 0
-    no_worth (Commit x one_phase) c U = by_if (λ v. v ≡ pos 0) (is_done c) (pos 0) (pos 0) (λ _. refl) (λ _. refl)
-    no_worth (Heur x commits) c U = by_if (λ v. v ≡ pos 0) (is_done c && commits) (pos 0) (pos 0) (λ _. refl) (λ _. refl)
-    no_worth op c U = refl
+moved_nothing passes h T = search (arith, moved_still)
 
 -- what no Commit of before or after it adds to
 pub moved_at : (accounts : Accounts) (passes : Request → Bool) (before after : History) (r : Request) (T : Tables)
@@ -85,8 +76,7 @@ moved_at accounts passes before after r T none here later = search (arith, moved
 -- ranges of numbers
 either_range : (own : Bool) (a b : ℕ) (n : ℕ) (v : ℤ) → a ≤ b → (if own && (nat_le 0 n && nat_le (suc n) b) then v else pos 0)
     ≡ (if own && (nat_le 0 n && nat_le (suc n) a) then v else pos 0) +ℤ (if own && (nat_le a n && nat_le (suc n) b) then v else pos 0)
-either_range false a b n v le = refl
-either_range true a b n v le = search (arith, nat_le, le-leb, lt-leb, leb-true, none_plus, leb-false, plus_none)
+either_range own a b n v le = search (arith, nat_le, le-leb, lt-leb, leb-true, none_plus, leb-false, plus_none)
 
 -- a range of numbers from 0 on may be parted
 pub moved_parted : (accounts : Accounts) (t a b : ℕ) (h : History) (T : Tables) → a ≤ b
@@ -95,11 +85,7 @@ moved_parted accounts t a b [] T le = refl
 moved_parted accounts t a b (r ∷ h) T le =
     let T1 : Tables = (next r.thread r.op T).0 in
     let v : ℤ = moved_by accounts r.op (next r.thread r.op T).1 T in
-    (λ i. either_range (r.thread == t) a b r.number v le i +ℤ moved_parted accounts t a b h T1 le i)
-    ∙ regroup (if is_within t 0 a r then v else pos 0) (if is_within t a b r then v else pos 0) (moved accounts (is_within t 0 a) h T1) (moved accounts (is_within t a b) h T1)
-  where
-    regroup : (u v a b : ℤ) → (u +ℤ v) +ℤ (a +ℤ b) ≡ (u +ℤ a) +ℤ (v +ℤ b)
-    regroup u v a b = omega (arith, ints)
+    omega (arith, ints, either_range (r.thread == t) a b r.number v le, moved_parted accounts t a b h T1 le)
 
 -- what a request within them is
 pub within_parts : (t first last : ℕ) (r : Request) → is_within t first last r ≡ true → (r.thread ≡ t) × (first ≤ r.number) × (r.number < last)
@@ -130,8 +116,7 @@ commits_by later x [] T = refl
 commits_by later x (r ∷ h) T =
     let T1 : Tables = (next r.thread r.op T).0 in
     let o : Option Fate = fate_of x r.op (next r.thread r.op T).1 in
-    ap (or_later (ending o)) (commits_by later x h T1)
-    ∙ elim o as (λ o. or_later (ending o) (commits_or later (fates x h T1)) ≡ commits_or later (cons_option o (fates x h T1))) [ None ↦ refl | Some f ↦ refl ]
+    grind (arith, commits_by later x h T1, commits_or, cons_option)
 
 -- a history that doesn't end the branch decides nothing
 commits_past : (later : Bool) (x : XidName) (h g : History) (T : Tables) → EndsNowhere x h T
@@ -143,11 +128,6 @@ commits_past later x (r ∷ h) g T e =
     ∙ commits_past later x h g T1 (λ k d lt. e (suc k) d (omega arith))
 
 -- ---- one addition
-
-added_is : (o : Option Association) (d : ℤ) (later : XidName → Bool) (x : XidName) → option_map (λ (a : Association). a.xid) o ≡ Some x
-    → added_by o d later ≡ (if later x then d else pos 0)
-added_is None d later x e = cc
-added_is (Some a) d later x e = let same : a.xid ≡ x = cc in ap (λ y. if later y then d else pos 0) same
 
 -- its share is decided by what comes from the Prepare on
 pub share_is : (x : XidName) (k : List ℕ) (d : ℤ) (t n : ℕ) (T : Tables) (H : History) (after : XidName → Bool) (add : IsAddition x k d t n T H) (fs : List Fate)
@@ -161,7 +141,7 @@ share_is x k d t n T H after add fs e =
     let later : XidName → Bool = λ y. commits_later (after y) y (coded (add.between ++ rest) U) in
     let own : Option Association = association_of here add.adding.thread in
     let is : later x ≡ commits_or (after x) fs = search (arith, commits_past, commits_by, tables_after-append, add.between, add.before) in
-    search (arith, Decides-key_eq, added_is, add.adding.thread, add.adding.op)
+    search (arith, Decides-key_eq, add.adding.thread, add.adding.op)
 
 -- where it stands in a history
 pub add_place : (x : XidName) (k : List ℕ) (d : ℤ) (t n : ℕ) (T : Tables) (H : History) (add : IsAddition x k d t n T H)
@@ -192,19 +172,11 @@ unnamed x [] T n = refl
 unnamed x (r ∷ h) T n =
     none_first x r h T (unnamed_fate x r.op _ (n 0 r (omega arith))) (unnamed x h (next r.thread r.op T).0 (λ k d lt. n (suc k) d (omega (arith, lt))))
 
--- what a Commit of a prepared branch that was answered so does
-commit_counts : (c : Code) (fs : List Fate) → commits_or false fs ≡ false → commits_or false (cons_option (commit_fate c) fs) ≡ is_committed
-    (yes_ending true (Some c))
-commit_counts c fs none = grind (arith, commits_or, cons_option)
-
 yes_writes : (commit : Bool) (c : Code) → is_read_only_ending (yes_ending commit (Some c)) ≡ false
 yes_writes commit c = search (arith, after_yes, cases_Bool)
 
 forget_plain : (op : Op) → is_forget op ≡ true → is_commit op ≡ false
 forget_plain op e = grind arith
-
-commit_moves : (c : Code) (v : ℤ) → (if is_done c then v else pos 0) ≡ (if is_committed (yes_ending true (Some c)) then v else pos 0)
-commit_moves c v = grind arith
 
 -- what a branch with this vote and this ending counts for, whose requests have the numbers from n to below `last`
 pub record Counted (t : ℕ) (x : XidName) (T : Tables) (H : History) (n last : ℕ) (e : Ending) : Type 0 where
@@ -275,8 +247,7 @@ module _ {t : ℕ} {T : Tables} {H : History} (site : Site t T H) (x : XidName) 
         now = (next t (Prepare x) (tables_after f.before T)).0
 
         only_parts : All (λ q. names x q.op ≡ true → IsBetween t n last q) (s.mid ++ request_of t (suc n) (Commit x false) ∷ s.rest)
-        only_parts = subst (All (λ (q : Request). names x q.op ≡ true → IsBetween t n last q)) s.split
-            (only f.before f.after (request_of t n (Prepare x)) f.place refl refl)
+        only_parts = search (arith, request_of)
 
         quiet_mid : NamesNowhere x s.mid
         quiet_mid k d lt = false_from_ne_true (names x (get_or s.mid k d).op) (λ named.
@@ -302,7 +273,7 @@ module _ {t : ℕ} {T : Tables} {H : History} (site : Site t T H) (x : XidName) 
             let after : fates x f.after now ≡ cons_option (commit_fate c) (fates x s.rest left) =
             ap (λ (h : History). fates x h now) s.split ∙ fates_both x s.mid (request_of t (suc n) (Commit x false) ∷ s.rest) now
             ∙ (λ i. unnamed x s.mid now quiet_mid i ++ cons_option (made i) (fates x s.rest left)) in
-            (λ i. commits_or false (cons_option (voted i) (after i))) ∙ commit_counts c (fates x s.rest left) rest_none
+            (λ i. commits_or false (cons_option (voted i) (after i))) ∙ (grind (arith, commits_or, cons_option))
 
         -- the call's requests move what it moves, and the branch holds there what it held at its Prepare
         moves_it : (accounts : List (List ℕ × ℕ)) → moved accounts (is_within t n last) H T ≡ (if is_done c then held accounts else pos 0)
@@ -333,7 +304,7 @@ module _ {t : ℕ} {T : Tables} {H : History} (site : Site t T H) (x : XidName) 
                 ∙ ap (λ q. if q then d else pos 0) (counts (at_place site n (Prepare x) vote z.first (add.before ++ add.adding ∷ add.between) add.after
                 (add_place x k d t n T H add)));
             adders = λ k d add. writes;
-            moves = λ accounts. moves_it z.first accounts ∙ commit_moves c (held accounts);
+            moves = search (arith, moves_it);
             reads = λ r. absurd (both_ways (is_read_only_ending (yes_ending true (Some c))) writes r);
           }
 

@@ -1,10 +1,4 @@
-pub mod Results
 pub mod Legs
-pub mod Deaths
-pub mod Named
-pub mod Told
-pub mod Adds
 pub mod Only
-pub mod Members
+pub mod Named
 pub mod Days
-pub mod LostRecords

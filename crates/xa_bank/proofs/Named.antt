@@ -1,19 +1,25 @@
--- Which branches a teller's requests name: those of its own transfers, each in its own time.
+-- Which branches a teller's requests name, and which requests of a settled journal name a branch: those of its own transfers.
 use Rattle.xa_base.proofs.{◌≡◌, ◌≢◌, ℕ, suc, ◌+◌, ◌^◌, ◌<◌, ◌≤◌, true, false, ◌||◌, List, [], ◌∷◌, ◌++◌, length, sym, refl, ap, ◌∙◌, subst, arith, Option, Some}
-use Rattle.xa_base.proofs.{None, ℤ, pos, ◌+ℤ◌, ints}
-use Rattle.std.specs.Prelude.{neg_ℤ}
+use Rattle.xa_base.proofs.{None, ℤ, pos, ◌+ℤ◌, ints, neg_ℤ, ◌⊎◌, ⊎_elim, get_or, eq-eqb, All, cases_eq, All-nil, cases_lt, filter-append, append_assoc}
+use Rattle.xa_base.proofs.{append-nil, length-append, All-tail, All-append, All-weaker, all_right, Bool, list_any, or_parts}
 use Rattle.std.proofs.lemmas.Nat.{from_be_bytes-to_be_bytes_8}
-use Rattle.xa_words.specs.{XidName, xid_eq, Decides-xid_eq, tran_of, Death, Op, Shut}
-use Rattle.xa_tables.specs.{names}
-use Rattle.xa_desk.specs.{LedgerView, DeskView}
-use Rattle.xa_log.specs.{LogState}
-use Rattle.xa_work.specs.{WorkOutcome, HaveSent, IsFor, IsOpenRm, NamesOnly, ComesOfCommit, HaveWorked}
+use Rattle.xa_words.specs.{XidName, xid_eq, Decides-xid_eq, tran_of, Death, Op, Shut, Request, TranName, Code}
+use Rattle.xa_tables.specs.{names, History, of_thread}
+use Rattle.xa_desk.specs.{LedgerView, DeskView, ledger, numbered}
+use Rattle.xa_log.specs.{LogState, IsReadAs}
+use Rattle.xa_work.specs.{WorkOutcome, HaveSent, IsFor, IsOpenRm, NamesOnly, ComesOfCommit, HaveWorked, Change, GivenUp, NotBegun, Refused, Undecided, IfLost}
+use Rattle.xa_work.specs.{IsRefused, LeavesKnown, Loses, is_last}
 use Rattle.xa_work.specs.Units.Transacts.{commits, refused}
-use Rattle.xa_work.proofs.Comes.{comes_named}
-use Rattle.xa_work.proofs.Named.{worked_for}
+use Rattle.xa_work.proofs.Named.{comes_named, worked_for}
 use Rattle.xa_work.proofs.Sent.{call_sent, have_as, have_none, have_on}
 use Rattle.xa_bank.specs.{Habits, Leg, Transfer, death_in, shut_before, AreLegs, Makes, MakesEach, MakesNext, MayShut, branches_of, changes_of, gtrid_of}
-use Rattle.xa_bank.specs.{paid_first, pays_first, tran_named, with_legs, without_legs}
+use Rattle.xa_bank.specs.{paid_first, pays_first, tran_named, with_legs, without_legs, is_undecided, IsReadEither}
+use Rattle.xa_switch.specs.{Settling, IsSettled, sent, history}
+use Rattle.xa_atomicity.specs.{IsBetween, OnlyTheseName}
+use Rattle.xa_atomicity.proofs.Sites.{request_of, all_earlier, all_later, own_all, own_between, sides}
+use Rattle.xa_driver.specs.{yes_of, Branch}
+use Rattle.xa_work.specs.declared.unit.Refusal.{Refusal}
+use Rattle.xa_work.specs.Units.IsRefused.{barred, unbegun, undone}
 
 -- ---- names of transfers
 
@@ -161,3 +167,152 @@ makes_more R t habits n (r ∷ trs) (p ∷ os) tr unmade o old mid new log now l
 )
 makes_more R t habits n (r ∷ trs) [] tr unmade o old mid new log now later many h makes = absurd (omega (arith, many))
 makes_more R t habits n [] (p ∷ os) tr unmade o old mid new log now later many h makes = absurd h
+
+-- Which requests of a settled journal name a branch: those of its own transfer, where each thread's requests name only the
+-- branches of its own transfers.
+
+-- ---- requests by their numbers
+
+-- after a request of the thread its numbers are greater
+later_numbers : (t : ℕ) (before after : History) (r : Request) (n : ℕ) (ops : List Op) → of_thread t (before ++ r ∷ after) ≡ numbered t n ops → r.thread ≡ t
+    → All (λ q. q.thread ≡ t → r.number < q.number) after
+later_numbers t before after r n ops e own k d lt mine =
+    let z = sides t r.number r.op (of_thread t before) (of_thread t after) n ops (search (arith, filter-append, request_of, eq-eqb)) in
+    let up = all_later t after (suc r.number) z.post z.later k d lt mine in
+    omega (arith, up)
+
+-- ---- a branch of one transfer
+
+-- any number
+abbrev pub IsAny : ℕ → Type 0
+IsAny n = Unit {0}
+
+abbrev pub IsBelow : ℕ → ℕ → Type 0
+IsBelow n k = k < n
+
+-- what was sent by now names branches of transfers before this one
+abbrev pub Earlier : ℕ → ℕ → List LedgerView → Type 0
+Earlier t n at = (m : ℕ) → 1 ≤ m → All (Names t (IsBelow n)) (ledger at m).sent
+
+pub earlier_on : (t n k : ℕ) (Q : Op → Type 0) (old new : List LedgerView) → n ≤ k → ((op : Op) → Q op → Names t (IsBelow k) op) → Earlier t n old
+    → HaveSent Q old new → Earlier t k new
+earlier_on t n k Q old new upto also before h m up =
+    let z = h m up in
+    subst (All (Names t (IsBelow k))) (sym z.sent)
+    (All-append (Names t (IsBelow k)) (ledger old m).sent z.more
+    (All-weaker (Names t (IsBelow n)) (Names t (IsBelow k)) (names_as t (IsBelow n) (IsBelow k) (λ i lt. omega (arith, lt, upto))) (ledger old m).sent (before m up))
+    (All-weaker Q (Names t (IsBelow k)) also z.more z.each))
+
+-- the thread names only branches of its transfers, or it is none, and sent nothing
+abbrev pub IsTold : Settling → ℕ → Type 0
+IsTold s u = ((u < 2 ^ 32) × ((m : ℕ) → 1 ≤ m → All (Names u IsAny) (sent s u m))) ⊎ ((m : ℕ) → sent s u m ≡ [])
+
+-- in a journal the branch is named by its own thread alone, with numbers from a to below b
+abbrev pub NamedWithin : Settling → ℕ → XidName → ℕ → ℕ → ℕ → Type 0
+NamedWithin s m x t a b = All (λ q. names x q.op ≡ true → IsBetween t a b q) (history s m)
+
+module _ (s : Settling) (settled : IsSettled s) (told : (u : ℕ) → IsTold s u) (t n m : ℕ) (x : XidName) (low : t < 2 ^ 32) (of_it : IsOf t n x)
+    (positive : 1 ≤ m) where
+  abbrev Unnamed : Op → Type 0
+  Unnamed op = names x op ≡ true → ⊥
+
+  -- another thread doesn't name it
+  by_others : (u : ℕ) → u ≢ t → All Unnamed (sent s u m)
+  by_others u other =
+      ⊎_elim
+      (λ (is : (u < 2 ^ 32) × ((m : ℕ) → 1 ≤ m → All (Names u IsAny) (sent s u m))).
+      All-weaker (Names u IsAny) Unnamed (λ op h named. let z = h.each x named in other (one_transfer t n u z.0 x low is.0 of_it z.1.1).0) (sent s u m) (is.1 m positive))
+      (λ (none : (m : ℕ) → sent s u m ≡ []). subst (All Unnamed) (sym (none m)) (All-nil Unnamed))
+      (told u)
+
+  -- nor does what names transfers of other numbers
+  of_another : (P : ℕ → Type 0) → (P n → ⊥) → (ops : List Op) → All (Names t P) ops → All Unnamed ops
+  of_another P never ops =
+      All-weaker (Names t P) Unnamed (λ op h named. let z = h.each x named in never (subst P (one_transfer t n t z.0 x low low of_it z.1.1).1 z.1.0)) ops
+
+  module _ (pre mid post : List Op) (split : sent s t m ≡ pre ++ (mid ++ post)) (earlier : All (Names t (IsBelow n)) pre)
+      (later : All (Names t (IsFrom (n + 1))) post) where
+    pub named_within : (b : ℕ) → b ≡ length pre + length mid → NamedWithin s m x t (length pre) b
+    named_within b is k d lt named =
+        let q : Request = get_or (history s m) k d in
+        let carried = (settled.agree q.thread m).carried in
+        ⊎_elim
+        (λ (own : q.thread ≡ t).
+        let taken : of_thread t (history s m) ≡ numbered t 0 (sent s t m) = (settled.agree t m).carried in
+        let last : sent s t m ≡ (pre ++ mid) ++ (post ++ []) = search (arith, append_assoc, append-nil) in
+        let early =
+        own_between t Unnamed (history s m) [] pre (mid ++ post) (taken ∙ ap (numbered t 0) split) (of_another (IsBelow n) (λ lt. omega (arith, lt)) pre earlier) k d lt own in
+        let late =
+        own_between t Unnamed (history s m) (pre ++ mid) post [] (taken ∙ ap (numbered t 0) last) (of_another (IsFrom (n + 1)) (λ le. omega (arith, le)) post later) k d lt own in
+        let high = all_earlier t (history s m) 0 (sent s t m) taken k d lt own in
+        let size : length (sent s t m) ≡ length (pre ++ mid) + length post = search (arith, length-append) in
+        let both = length-append pre mid in
+        record {
+          thread = own;
+          from = ⊎_elim (λ (under : q.number < length pre). absurd (early (omega arith) (omega (arith, under)) named)) (λ (up : length pre ≤ q.number). up) (cases_lt q.number (length pre));
+          below = ⊎_elim (λ (under : q.number < b). under) (λ (up : b ≤ q.number). absurd (late (omega (arith, up, is, both)) (omega (arith, high, size)) named)) (cases_lt q.number b);
+        })
+        (λ (other : q.thread ≢ t). absurd (own_all q.thread Unnamed (history s m) 0 (sent s q.thread m) carried (by_others q.thread other) k d lt refl named))
+        (cases_eq q.thread t)
+
+-- so after a request of its thread nobody but the thread itself names it
+pub only_these : (s : Settling) (settled : IsSettled s) (t m a first last : ℕ) (x : XidName) → NamedWithin s m x t a last
+    → OnlyTheseName x t first last (history s m)
+only_these s settled t m a first last x named before after r place own number =
+    let all : All (λ q. names x q.op ≡ true → IsBetween t a last q) (before ++ r ∷ after) =
+    subst (All (λ q. names x q.op ≡ true → IsBetween t a last q)) place named in
+    let rest =
+    All-tail (λ q. names x q.op ≡ true → IsBetween t a last q) r after (all_right (λ q. names x q.op ≡ true → IsBetween t a last q) before (r ∷ after) all) in
+    λ k d lt is.
+    let z = rest k d lt is in
+    let up = later_numbers t before after r 0 (sent s t m) (sym (ap (of_thread t) place) ∙ (settled.agree t m).carried) own k d lt z.thread in
+    record { thread = z.thread; from = omega (arith, up, number); below = z.below }
+
+-- ---- what a log may be read as matters only to a transfer of which nobody knows whether its record was made
+
+-- what holds where the record is lost
+pub if_so : (P : List Code → Type 0) (o : WorkOutcome) → (is_undecided o ≡ true → (votes : List Code) → P votes) → IfLost P o
+if_so P (Undecided votes) all = all refl votes.items
+if_so P o all = tt
+
+pub if_both : (P Q S : List Code → Type 0) (o : WorkOutcome) → ((votes : List Code) → P votes → Q votes → S votes) → IfLost P o → IfLost Q o → IfLost S o
+if_both P Q S (Undecided votes) also h k = also votes.items h k
+if_both P Q S o also h k = tt
+
+-- where others follow, none is lost
+pub none_lost : (P : List Code → Type 0) (o : WorkOutcome) → is_last o ≡ false → IfLost P o
+none_lost P (Undecided votes) e = cc
+none_lost P o e = tt
+
+-- what a log that has lost the record may be read as
+pub lost_so : {L : Type 0} (state : L → LogState) (knows : L → Type 0) (loses : TranName → List Bool → L → L → Type 0) (bs : List Branch) (old new : L)
+    (o : WorkOutcome) → IfLost (Loses loses bs old new) o → LeavesKnown (knows new) o
+    → IsReadEither (IsReadAs state knows loses new) bs (state old) o
+lost_so state knows loses bs old new (Undecided votes) lost known = λ tran read one may. may.lost known old tran (yes_of bs votes.items) (lost tran one)
+lost_so state knows loses bs old new o lost known = tt
+
+-- what was refused came to no more
+pub refused_so : (bs : List Branch) (cs : List Change) (o : WorkOutcome) (old new : DeskView) (log : LogState) (Known : Type 0)
+    → IsRefused bs cs o old new log Known → (why : Refusal) × (o ≡ Refused why)
+refused_so bs cs o old new log Known (unbegun is may same) = (NotBegun, is)
+refused_so bs cs o old new log Known (undone tried is may known tries gives_up) = (GivenUp, is)
+refused_so bs cs o old new log Known (barred tried is may known tries may_not gives_up) = (GivenUp, is)
+
+pub makes_any : {R S : LogState → Type 0} (t n : ℕ) (tr : Transfer) (habits : Habits) (o : WorkOutcome) (old new : DeskView) (log later : LogState)
+    → is_last o ≡ false → Makes t n tr habits o old new log later R → Makes t n tr habits o old new log later S
+makes_any t n tr habits o old new log later goes_on (with_legs one two left legs made kept read) = with_legs one two left legs made kept (none_lost _ o goes_on)
+makes_any t n tr habits o old new log later goes_on (without_legs is none same unlogged) = without_legs is none same unlogged
+
+pub next_any : {R S : LogState → Type 0} (t n : ℕ) (tr : Transfer) (habits : Habits) (o : WorkOutcome) (old new : DeskView) (log later : LogState)
+    → is_last o ≡ false → MakesNext t n tr habits o old new log later R → MakesNext t n tr habits o old new log later S
+next_any t n tr habits o old new log later goes_on next =
+    record { shut = next.shut; shuts = next.shuts; makes = makes_any t n tr habits o next.shut new log later goes_on next.makes }
+
+pub each_any : (R S : LogState → Type 0) (t : ℕ) (habits : Habits) (n : ℕ) (trs : List Transfer) (os : List WorkOutcome) (old new : DeskView) (log later : LogState)
+    → list_any is_last os ≡ false → MakesEach t habits n trs os old new log later R → MakesEach t habits n trs os old new log later S
+each_any R S t habits n [] [] old new log later none h = h
+each_any R S t habits n (tr ∷ trs) [] old new log later none h = h
+each_any R S t habits n (tr ∷ trs) (o ∷ os) old new log later none (mid, now, makes, rest) =
+    let parts = or_parts (is_last o) (list_any is_last os) none in
+    (mid, now, next_any t n tr habits o old mid log now parts.0 makes, each_any R S t habits (n + 1) trs os mid new now later parts.1 rest)
+each_any R S t habits n [] (o ∷ os) old new log later none h = absurd h

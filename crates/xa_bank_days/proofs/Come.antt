@@ -6,8 +6,8 @@ use Rattle.std.specs.FinMap as map
 use Rattle.xa_words.specs.declared.death.Death.TheVariants as death
 use Rattle.xa_base.proofs.{◌≡◌, ℕ, ◌-◌, ◌<◌, ◌≤◌, ⊎_elim, List, [], ◌∷◌, length, get_or, take, sym, refl, subst, arith, Option, All, cases_lt, All-head}
 use Rattle.xa_base.proofs.{All-tail, rules, is_some, ◌≢◌, zero, Bool, true, false, cond, None, Some, ◌++◌, append_assoc, ap, ◌∙◌, inl, inr, Contains, eq_by_cmp}
-use Rattle.xa_base.proofs.{is_eq, tied_itself, get-insert, or-true, and_parts, Contains-append_right, is_equal}
-use Rattle.std.proofs.lemmas.List.{length-take, get_or-take}
+use Rattle.xa_base.proofs.{is_eq, tied_itself, get-insert, or-true, and_parts, Contains-append_right, is_equal, get_or-take}
+use Rattle.std.proofs.lemmas.List.{length-take}
 use Rattle.std.proofs.lemmas.List.Sums.{sum_by-take-le}
 use Rattle.xa_base.specs.{MOST_MANAGERS, IsUpTo}
 use Rattle.xa_words.specs.{Code, TranName, XidName, tran_of, RdOnly, Death, Op, Prepare}
@@ -21,6 +21,7 @@ use Rattle.xa_words.proofs.Xids.{xid_self}
 use Rattle.xa_tables.specs.{names, is_heur}
 use Rattle.xa_log.proofs.Transactions.{tran_cmp_total, tran_cmp-IsAntisymmetric}
 use Rattle.xa_atomicity.proofs.CutVotes.{finished_law}
+use Rattle.xa_atomicity.proofs.OneOutcome.{branch_map}
 use Rattle.xa_atomicity.proofs.Staged.{died_is_cut, nothing_between, undecided_is_cut}
 use Rattle.xa_work.specs.{WorkOutcome, HasSent, ComesOfCommit, IfLost}
 use Rattle.xa_work.specs.Units.ComesOfCommit.{cut_short, in_full, undecided}
@@ -85,14 +86,6 @@ module _ (old new : List LedgerView) where
   at_votes P (b ∷ bs) (v ∷ vs) low h = (at_branch (P b v) b (All-head IsLow b bs low) h.0, at_votes P bs vs (All-tail IsLow b bs low) h.1)
   at_votes P bs vs low h = absurd h
 
-  at_branches : (P : Branch → Code → Option Code → Ending → LedgerView → LedgerView → Type 0) (bs : List Branch) (vs : List Code) (ss : List (Option Code))
-      (es : List Ending) → All IsLow bs → EachBranch (λ b v s e. P b v s e (ledger old b.m) (ledger new b.m)) bs vs ss es
-      → EachBranch (λ b v s e. P b v s e (ledger (fewer old) b.m) (ledger (fewer new) b.m)) bs vs ss es
-  at_branches P [] [] [] [] low h = tt
-  at_branches P (b ∷ bs) (v ∷ vs) (s ∷ ss) (e ∷ es) low h =
-      (at_branch (P b v s e) b (All-head IsLow b bs low) h.0, at_branches P bs vs ss es (All-tail IsLow b bs low) h.1)
-  at_branches P bs vs ss es low h = absurd h
-
   fewer_far : (tran : TranName) (bs : List Branch) (log later : LogState) (endings : List Ending) → All IsLow bs
       → CameSoFar tran bs old new log later endings → CameSoFar tran bs (fewer old) (fewer new) log later endings
   fewer_far tran bs log later endings low (asking same unknown each) =
@@ -101,7 +94,8 @@ module _ (old new : List LedgerView) where
       telling votes logged logs unknown (at_votes (λ b v a a'. IsTold (decision_of votes logged) b v a a') bs votes low each)
   fewer_far tran bs log later endings low (forgetting votes logged seconds logs each) =
       forgetting votes logged seconds logs
-      (at_branches (λ b v s e a a'. IsEnded (decision_of votes logged) b v s a a' × (e ≡ ending_of (decision_of votes logged) v s)) bs votes seconds endings low each)
+      (branch_map IsLow (λ b v s e. IsEnded (decision_of votes logged) b v s (ledger old b.m) (ledger new b.m) × (e ≡ ending_of (decision_of votes logged) v s)) _
+      (λ b v s e up h. at_branch (λ a a'. IsEnded (decision_of votes logged) b v s a a' × (e ≡ ending_of (decision_of votes logged) v s)) b up h) bs votes seconds endings low each)
 
 pub fewer_cut : (bs : List Branch) (desk : DeskView) (new : List LedgerView) (log later : LogState) (endings : List Ending) → All IsLow bs
     → IsCut bs desk new log later endings → IsCut bs (fewer_at desk) (fewer new) log later endings
@@ -265,8 +259,7 @@ module _ (tran : TranName) (bs : List Branch) (old new : ℕ → LedgerView) (lo
   decided_others : (t : TranName) → t ≢ tran → IsDecidedBy tran bs log later known → record_of later t ≡ record_of log t
   decided_others t other decided = others_stay tran t (yes_of bs known.votes.items) known.votes.items known.logged log later other decided.logs
 
-  came_others : (at : Death) (t : TranName) → t ≢ tran → CameTo AsksLedger PutsLedger at tran bs old new log later known
-      → record_of later t ≡ record_of log t
+  came_others : (at : Death) (t : TranName) → t ≢ tran → CameTo AsksLedger PutsLedger at tran bs old new log later known → record_of later t ≡ record_of log t
   came_others (death.Preparing k) t other far = ap (λ (l : LogState). record_of l t) far.unlogged
   came_others death.Prepared t other far = ap (λ (l : LogState). record_of l t) far.unlogged
   came_others at t other far = decided_others t other far.decided
@@ -284,16 +277,15 @@ pub has_come : (one two : Branch) (at : Option Death) (found : Bool) (o : WorkOu
     → ComesOfCommit (one ∷ two ∷ []) at o desk new log later → IfLost (IsReadSo (one ∷ two ∷ []) (tran_of one.xid) log later found) o
     → HasCome one two (is_applied found o) desk new log later
 has_come one two at found o desk new log later (in_full d none is made) read =
-    let first : tran_of one.xid ≡ made.may.tran = made.may.one.0 in
     let managers : List Bool = yes_of (one ∷ two ∷ []) d.votes.items in
     record {
       endings = d.endings.items;
       cut = finished_law (one ∷ two ∷ []) desk new log later d made;
       obeys = made_each (λ b. Obeys b.xid) IsAny (λ b _. may_obey b) desk.ledgers new made.may.tran (one ∷ two ∷ []) log later d (λ k b lt. tt) made.trace;
       elsewhere = made.trace.course.others;
-      others = λ t other. others_stay made.may.tran t managers d.votes.items d.logged log later (λ e. other (e ∙ sym first)) made.trace.course.logs;
+      others = λ t other. others_stay made.may.tran t managers d.votes.items d.logged log later (λ e. other (e ∙ sym made.may.one.0)) made.trace.course.logs;
       applied = λ never.
-          ap (is_recorded later) first
+          ap (is_recorded later) made.may.one.0
           ∙ by_votes one two desk new log later made.may.tran made.may.absent never d.votes.items d.logged d.commit
           (voting_first desk.ledgers new one (two ∷ []) (λ b v s e. AtBranch AsksLedger d.commit b v s e (ledger desk.ledgers b.m) (ledger new b.m))
           (λ v s e. made_so (Obeys one.xid) d.commit one v (ledger desk.ledgers one.m) (ledger new one.m) (may_obey one) s e)
@@ -319,7 +311,6 @@ has_come one two at found o desk new log later (undecided votes decides is may v
     let bs : List Branch = one ∷ two ∷ [] in
     let so : IsReadSo bs (tran_of one.xid) log later found votes.items =
     subst (IfLost (IsReadSo bs (tran_of one.xid) log later found)) is read in
-    let first : tran_of one.xid ≡ may.tran = may.one.0 in
     let managers : List Bool = yes_of bs votes.items in
     let either : IsEither log later may.tran managers = so.either may.tran may.one in
     record {
@@ -327,6 +318,6 @@ has_come one two at found o desk new log later (undecided votes decides is may v
       cut = undecided_is_cut bs desk new new log later votes.items may.tran may voted (nothing_between bs new) may.one wanted either;
       obeys = voted_each (λ b. Obeys b.xid) IsAny (λ b _. (may_obey b).first) desk.ledgers new bs votes.items (λ k b lt. tt) voted;
       elsewhere = voted_elsewhere bs desk.ledgers new votes.items voted;
-      others = λ t other. either_others may.tran t managers log later (λ e. other (e ∙ sym first)) either;
+      others = λ t other. either_others may.tran t managers log later (λ e. other (e ∙ sym may.one.0)) either;
       applied = λ never. so.found_ ∙ ap (is_applied found) (sym is);
     }

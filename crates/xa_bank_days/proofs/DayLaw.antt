@@ -3,18 +3,19 @@
 -- A day of the bank and its night apply the transfers of which the tellers were told that they were decided to commit, each whole,
 -- and the others not at all.
 use Rattle.xa_base.proofs.{is_some, ◌≡◌, ℕ, ◌+◌, ◌<◌, ◌≤◌, ⊎_elim, Bool, true, false, None, Some, List, [], ◌∷◌, length, get_or, slice_get, sym, refl, ap, ◌∙◌}
-use Rattle.xa_base.proofs.{subst, arith, All, Contains, All-nil, All-cons, All-contains, all_at, got_map, by_bool, ◌+ℤ◌, ◌^◌, ◌⊎◌, ◌||◌, Option, map, inl}
-use Rattle.xa_base.proofs.{list_any, or-true, +ℤ_idr as plus_none, length-map, All-head, All-tail, rules, get-empty, was_mapped}
+use Rattle.xa_base.proofs.{subst, arith, All, Contains, All-nil, All-cons, All-contains, all_at, got_map, by_bool, ◌+ℤ◌, ◌^◌, ◌⊎◌, map, inl, list_any}
+use Rattle.xa_base.proofs.{+ℤ_idr as plus_none, length-map, All-head, All-tail, rules, get-empty, was_mapped, Any-from_list_any, list_any_at}
+use Rattle.xa_bank_days.proofs.Moved.{any_mapped}
 use Rattle.xa_base.specs.{MOST_MANAGERS, IsUpTo, total}
 use Rattle.xa_words.specs.{XidName, Decides-xid_eq, TranName, tran_of, Op, OpenRm, xid_eq, Commit, Heur, Request, xid_cmp}
-use Rattle.xa_tables.specs.{Tables, exists, is_left, state_of, is_done, AreLeft, IsOpening, NamesNowhere, names, State, is_declared, is_left_in, tables_after}
-use Rattle.xa_tables.specs.{History, opening, reopened}
+use Rattle.xa_tables.specs.{Tables, exists, is_left, state_of, is_done, AreLeft, IsOpening, NamesNowhere, names, is_declared, is_left_in, tables_after, History}
+use Rattle.xa_tables.specs.{opening, reopened}
 use Rattle.xa_tables.proofs.Reopening.{as_left, reopens}
-use Rattle.xa_tables.proofs.Unnamed.{unnamed_on}
+use Rattle.xa_tables.proofs.ValueLaw.{unnamed_on}
 use Rattle.xa_desk.specs.{ledger}
 use Rattle.xa_switch.specs.{Again, last_in, reopened_at, IsSettled, find_manager, first_of, history, ledgers_of, Settling, Plan, managers_in, accounts_of}
 use Rattle.xa_scan.specs.{left_at}
-use Rattle.xa_switch.proofs.Journaled.{follows_first}
+use Rattle.xa_switch.proofs.SettledOpenings.{follows_first}
 use Rattle.xa_log.specs.{IsReadAs, LogState, Records, record_of, record_in}
 use Rattle.xa_driver.specs.{Outcome, is_commit, is_to_commit, names as names_manager, outcome_op}
 use Rattle.xa_driver.proofs.Mapped.{Asks}
@@ -113,9 +114,9 @@ module _ (finished : FinishedAreGone) {records : Records} {s : Settling} {again 
 -- ---- all of it
 
 module _ (finished : FinishedAreGone) {L : Type 0} {state : L → LogState} {knows : L → Type 0} {loses : TranName → List Bool → L → L → Type 0}
-    (d : DayAndNight state knows loses) (done : All (λ r. is_done r.code ≡ true) d.q.outcomes) (later : ℕ) (counts_on : d.n ≤ later)
+    (d : DayAndNight state knows loses) (done : All (λ r. is_done r.code ≡ true) d.resolve.outcomes) (later : ℕ) (counts_on : d.first ≤ later)
     (past : All (λ t. t.habits.first + length t.transfers.items ≤ later) d.olds) where
-  open d use {s, next, olds, logs, stores, n, tables, begins, dawn, resolved}
+  open d use {day as s, next, olds, logs, stores, first as n, tables, begins, dawn, resolved}
 
   no_branch : (m : ℕ) (x : XidName) → IsUpTo stores m → exists (reopened_at next.managers m) x ≡ true → ⊥
   no_branch m x up there =
@@ -138,15 +139,13 @@ module _ (finished : FinishedAreGone) {L : Type 0} {state : L → LogState} {kno
       let bound = all_at (λ (t : Teller L). t.habits.first + length t.transfers.items ≤ later) olds i old past place.old_at in
       ⊎_elim
       (λ (its : IsNamedFrom (i + 1) old.habits.first (length os) tran.gtrid).
-      let below = its.below in
-      (its.number, omega (arith, below, made, bound), its.named))
+      (its.number, omega (arith, its.below, made, bound), its.named))
       (λ (others : (k : ℕ) → old.habits.first ≤ k → k < old.habits.first + length os → IsNamed (i + 1) k tran.gtrid → ⊥).
       let same : record_of read tran ≡ record_of (state old.log) tran =
       each_keeps R (i + 1) old.habits z.keeps old.habits.first old.transfers.items os w.opened w.left (state old.log) read w.makes w.known w.may tran others in
       let before : is_recorded (state old.log) tran ≡ true = ap is_some (sym same) ∙ ap (λ (l : L). is_recorded (state l) tran) log_is ∙ on in
       let y = dawn.own i old.log tran (got_map (λ (t : Teller L). t.log) olds i old place.old_at) before in
-      let below = y.1 in
-      (y.0, omega (arith, below, counts_on), y.2))
+      (y.0, omega (arith, y.1, counts_on), y.2))
       (named_from (i + 1) old.habits.first (length os) tran)
 
   pub dawn_law : IsDawn state stores later (reopened_at next.managers) logs
@@ -165,12 +164,10 @@ commits_one op e = cc
 -- so it is of one of these legs that has that branch
 named_leg : (legs : List Leg) (x : XidName) (op : Op) → names x op ≡ true → list_any (λ g. xid_eq g.xid x) legs ≡ true
     → list_any (λ y. names y op) (map (λ g. g.xid) legs) ≡ true
-named_leg [] x op named e = cc
-named_leg (g ∷ legs) x op named e =
-    elim (xid_eq g.xid x) as (λ b. xid_eq g.xid x ≡ b → (b || list_any (λ (h : Leg). xid_eq h.xid x) legs) ≡ true → (names g.xid op || list_any (λ y. names y op) (map (λ (h : Leg). h.xid) legs)) ≡ true) [
-      | true ↦ λ same _. ap (λ b. b || list_any (λ y. names y op) (map (λ (h : Leg). h.xid) legs)) (subst (λ y. names y op ≡ true) (sym ((Decides-xid_eq g.xid x).0 same)) named)
-      | false ↦ λ _ rest. ap (λ b. names g.xid op || b) (named_leg legs x op named rest) ∙ or-true (names g.xid op)
-    ] refl e
+named_leg legs x op named e =
+    let (k, g, below, at, same) = Any-from_list_any (λ (g : Leg). xid_eq g.xid x) legs e in
+    sym (any_mapped (λ y. names y op) (λ (g : Leg). g.xid) legs)
+    ∙ list_any_at (λ (g : Leg). names g.xid op) legs k g below (ap (λ (f : Leg). names f.xid op) at ∙ ap (λ y. names y op) ((Decides-xid_eq g.xid x).0 same) ∙ named)
 
 noted_commit : (records : Records) (legs : List Leg) (op : Op) → Noted records legs op → is_commit op ≡ true
     → list_any (λ y. names y op) (map (λ g. g.xid) legs) ≡ true
@@ -183,11 +180,6 @@ noted_commit records legs op noted commits =
 
 -- ---- a branch at an opening
 
--- a branch that is left exists
-pub left_exists : (o : Option State) → is_left_in o ≡ true → is_some o ≡ true
-left_exists None e = cc
-left_exists (Some state) e = refl
-
 -- what a history doesn't name by one of its requests it names nowhere, and what it names is noted
 named_or_not : (records : Records) (legs : List Leg) (x : XidName) (h : History) → All (λ r. Noted records legs r.op) h
     → NamesNowhere x h ⊎ ((list_any (λ g. xid_eq g.xid x) legs ≡ true) ⊎ (record_in records (tran_of x) ≡ None))
@@ -195,14 +187,9 @@ named_or_not records legs x [] all = inl (All-nil (λ (r : Request). names x r.o
 named_or_not records legs x (r ∷ h) all =
     search (arith, named_or_not records legs x h (All-tail (λ (p : Request). Noted records legs p.op) r h all), list_any, All-head, all, All-cons, All-tail)
 
--- a record that names a manager is there
-no_mark : (o : Option (List Bool)) (m : ℕ) → names_manager o m ≡ true → o ≡ None → ⊥
-no_mark None m e is = cc
-no_mark (Some set) m e is = cc
-
 module _ (laws : Laws) {L : Type 0} {state : L → LogState} {knows : L → Type 0} {loses : TranName → List Bool → L → L → Type 0}
     (d : DayAndNight state knows loses) (many : length d.olds < 2 ^ 32) (m : ℕ) (up : IsUpTo d.stores m) (j : List ℕ) where
-  open d use {s, again, q, next, olds, news, logs, founds, tables, is_day, begins, dawn, resolved}
+  open d use {day as s, again, resolve as q, next, olds, news, logs, founds, tables, is_day, begins, dawn, resolved}
 
   abbrev T : Tables
   T = tables m
@@ -235,7 +222,7 @@ module _ (laws : Laws) {L : Type 0} {state : L → LogState} {knows : L → Type
   -- a branch that the day left, and that has a record, is that of a leg of the day
   pub left_leg : (x : XidName) → is_left (reopened_at s.managers m) x ≡ true → (record_in q.records (tran_of x) ≡ None → ⊥)
       → list_any (λ g. xid_eq g.xid x) all.legs ≡ true
-  left_leg x left recorded = search (arith, unnamed_on, opening_free, opened, is_some, left_exists, left_as, before_none, list_any, all, named_or_not, noted)
+  left_leg x left recorded = search (arith, unnamed_on, opening_free, opened, is_some, left_as, before_none, list_any, all, named_or_not, noted)
 
   -- ---- what is committed
 
@@ -251,7 +238,7 @@ module _ (laws : Laws) {L : Type 0} {state : L → LogState} {knows : L → Type
   outcome_among : (o : Outcome) → Contains q.outcomes o → o.m ≡ m → (b : Bool) → b ≡ is_to_commit q.records m o.xid → IsAmong (outcome_op b o.xid)
   outcome_among o among own true is commits =
       named_leg all.legs o.xid (Commit o.xid false) (xid_self o.xid)
-      (left_leg o.xid (outcome_was_left resolved m low (reopened_at s.managers m) next_first o among own) (no_mark (record_in q.records (tran_of o.xid)) m (sym is)))
+      (left_leg o.xid (outcome_was_left resolved m low (reopened_at s.managers m) next_first o among own) (λ none. let z : false ≡ true = sym (ap (λ r. names_manager r m) none) ∙ sym is in cc))
   outcome_among o among own false is commits = cc
 
   night_among : CommitsAmong (map (λ g. g.xid) all.legs) (history next m)

@@ -5,6 +5,4 @@ pub mod Went
 pub mod Together
 pub mod DayLaw
 pub mod Nightly
-pub mod Turned
 pub mod Moved
-pub mod Conserved

@@ -1,23 +1,22 @@
 -- What tellers come to over stores that are opened again.
 -- What days do to the balances, by the law of a day and its night.
-use Rattle.xa_base.proofs.{rules, option_map, ◌≡◌, ℕ, ◌+◌, ◌^◌, ◌<◌, ◌≤◌, ⊎_elim, Bool, true, if◌then◌else◌, ◌||◌, List, [], ◌∷◌, length, map, slice_get, Some}
-use Rattle.xa_base.proofs.{inl, inr, sym, refl, ap, ◌∙◌, subst, arith, All, list_any, length-map, same_Some as some_same, slice_get_within, got_map, Vec, ◌++◌}
-use Rattle.xa_base.proofs.{IfOk, Result, Ok, Err, Global, all_mid, is_some, ◌+ℤ◌, ℤ, suc, false, Option, all_at, all_from, was_mapped, All-map, all_unmapped}
+use Rattle.xa_base.proofs.{option_map, ◌≡◌, ℕ, ◌+◌, ◌^◌, ◌<◌, ◌≤◌, ⊎_elim, Bool, true, if◌then◌else◌, ◌||◌, List, [], ◌∷◌, length, map, slice_get, Some, inl}
+use Rattle.xa_base.proofs.{inr, sym, refl, ap, ◌∙◌, subst, arith, All, list_any, length-map, same_Some as some_same, slice_get_within, got_map, Vec, ◌++◌, IfOk}
+use Rattle.xa_base.proofs.{Result, Ok, Err, Global, all_mid, is_some, ◌+ℤ◌, ℤ, suc, false, Option, all_at, all_from, was_mapped, All-map, all_unmapped}
 use Rattle.xa_base.specs.{IsUpTo}
 use Rattle.xa_words.specs.{TranName}
 use Rattle.xa_tables.specs.{Tables, is_done, is_declared}
-use Rattle.xa_switch.specs.{Again, IsWhole, MayReopen, managers_in, reopened_at, reopening, first_of, IsOf, IsWithinLimits, ManagerPart, Settling, last_in}
-use Rattle.xa_switch.specs.{history, IsSettled, value_in}
-use Rattle.xa_switch.proofs.Journaled.{begun, follows_first}
+use Rattle.xa_switch.specs.{Again, IsWhole, managers_in, reopened_at, reopening, first_of, IsOf, ManagerPart, Settling, last_in, history, IsSettled, value_in}
+use Rattle.xa_switch.proofs.SettledOpenings.{begun, follows_first}
 use Rattle.xa_log.specs.{LogState}
 use Rattle.xa_atomicity.proofs.NextOpening.{was_there}
 use Rattle.xa_crew.specs.{WithScan, Attended, AgainWorks, IsRunAgain, WorksWithScan}
 use Rattle.xa_bank.specs.{Teller, Works, WorksOn, Habits, Transfer}
-use Rattle.xa_bank.proofs.Members.{MemberAt, member_at, nobody_else}
+use Rattle.xa_bank.proofs.Days.{MemberAt, member_at, nobody_else}
 use Rattle.xa_bank_days.specs.{DayAndNight, Bank, BeginsWith, IsDayOf, WorkedIn, Closed, Errands, Worked, AreTurned, HasWorked, IsDay, IsWorkedDay, day_numbers}
-use Rattle.xa_bank_days.specs.{next_numbers, night_numbers, Unresolved, AreClosed, AreOver, HasEnded, early as one_not, whole as all_over, IsClosed}
-use Rattle.xa_bank_days.specs.{IsClosedDay, IsOver, AreToldAll, IsDawn, all_told, balances_at, balances_of, told, IsMovedBy, IsReady, habits_on, has_account}
-use Rattle.xa_bank_days.specs.{told_on, told_over, Balances, all_applied, applied, share}
+use Rattle.xa_bank_days.specs.{night_numbers, Unresolved, AreClosed, AreOver, HasEnded, early as one_not, whole as all_over, IsClosed, IsClosedDay, IsOver}
+use Rattle.xa_bank_days.specs.{AreToldAll, IsDawn, all_told, balances_at, balances_of, told, IsMovedBy, IsReady, habits_on, has_account, told_on, told_over}
+use Rattle.xa_bank_days.specs.{Balances, all_applied, applied, share}
 use Rattle.std.specs.Prelude.{MatchResult}
 use Rattle.xa_driver.specs.{Resolved, Outcome}
 use Rattle.xa_tables.proofs.WorthLaw.{declared_on}
@@ -98,11 +97,6 @@ module _ {L : Type 0} (state : L → LogState) (knows : L → Type 0) (loses : T
 
 -- ---- the night's numbers
 
--- where the day's numbers were good, so are the night's
-pub night_opens : (s : Settling) (again : Again) → IsWhole s → IsWithinLimits again (managers_in s) → s.opening ≡ again.opening
-    → MayReopen s (next_numbers again 1)
-night_opens s again whole limits opening_ = search (arith, rules)
-
 -- the day
 module _ {L : Type 0} (state : L → LogState) (knows : L → Type 0) (loses : TranName → List Bool → L → L → Type 0) (reopens : L → L → Type 0) (b : Bank L)
     (given errands : List Errands) (c : Closed) (turned : List (Teller L)) (day : Worked L) (same : given ≡ errands) (are_turned : AreTurned b.next b.tellers.items errands turned)
@@ -164,8 +158,7 @@ module _ {L : Type 0} (state : L → LogState) (knows : L → Type 0) (loses : T
 -- what is applied to an account goes by what it had
 applied_same : (es : List (Transfer × Bool)) (B C : Balances) (m : ℕ) (k : List ℕ) → B m k ≡ C m k → all_applied es B m k ≡ all_applied es C m k
 applied_same [] B C m k e = e
-applied_same (x ∷ es) B C m k e =
-    applied_same es (applied x.0 x.1 B) (applied x.0 x.1 C) m k (ap (λ (v : ℤ). if x.1 then v +ℤ share x.0 m k else v) e)
+applied_same (x ∷ es) B C m k e = applied_same es (applied x.0 x.1 B) (applied x.0 x.1 C) m k (ap (λ (v : ℤ). if x.1 then v +ℤ share x.0 m k else v) e)
 
 applied_both : (es more : List (Transfer × Bool)) (B : Balances) (m : ℕ) (k : List ℕ) → all_applied (es ++ more) B m k ≡ all_applied more (all_applied es B) m k
 applied_both [] more B m k = refl
@@ -177,9 +170,8 @@ applied_both (x ∷ es) more B m k = applied_both es more (applied x.0 x.1 B) m 
 last_declares : (s : Settling) (m : ℕ) (T : Tables) (k : List ℕ) → IsSettled s → first_of s m ≡ Some T → has_account s m k ≡ is_declared T k
 last_declares s m T k settled first =
     let p = begun s m T first in
-    let opened = follows_first s m T settled first in
     ap (λ (o : Option ManagerPart). is_declared (last_in o) k) p.1
-    ∙ ap is_some (sym (ap (value_in k) p.1) ∙ opened.values k) ∙ declared_on (history s m) k T
+    ∙ ap is_some (sym (ap (value_in k) p.1) ∙ (follows_first s m T settled first).values k) ∙ declared_on (history s m) k T
 
 -- ---- lists of tellers
 
@@ -187,8 +179,7 @@ last_declares s m T k settled first =
 same_map : {A B : Type 0} (f : A → B) (xs ys : List A) → length ys ≡ length xs
     → ((k : ℕ) (x y : A) → slice_get xs k ≡ Some x → slice_get ys k ≡ Some y → f y ≡ f x)
     → map f ys ≡ map f xs
-same_map f (x ∷ xs) (y ∷ ys) e same =
-    (λ i. same 0 x y refl refl i ∷ same_map f xs ys (omega (arith, e)) (λ k u v at there. same (suc k) u v at there) i)
+same_map f (x ∷ xs) (y ∷ ys) e same = (λ i. same 0 x y refl refl i ∷ same_map f xs ys (omega (arith, e)) (λ k u v at there. same (suc k) u v at there) i)
 same_map f [] [] e same = refl
 same_map f xs ys e same = absurd (omega (arith, e))
 
@@ -209,7 +200,7 @@ told_is {L} (f ∷ founds) (t ∷ news) (x ∷ errands) e =
 module _ {L : Type 0} (state : L → LogState) (knows : L → Type 0) (loses : TranName → List Bool → L → L → Type 0) (reopens : L → L → Type 0)
     (applies : (d : DayAndNight state knows loses) (m : ℕ) (account : List ℕ) → length d.olds < 2 ^ 32 → IsUpTo d.stores m → is_declared (d.tables m) account ≡ true
     → balances_at d.next m account ≡ all_applied (all_told d.founds d.news) (balances_of d.tables) m account)
-    (dawns : (d : DayAndNight state knows loses) (later : ℕ) → All (λ r. is_done r.code ≡ true) d.q.outcomes → d.n ≤ later
+    (dawns : (d : DayAndNight state knows loses) (later : ℕ) → All (λ r. is_done r.code ≡ true) d.resolve.outcomes → d.first ≤ later
     → All (λ t. t.habits.first + length t.transfers.items ≤ later) d.olds → IsDawn state d.stores later (reopened_at d.next.managers) d.logs) where
   module _ (b : Bank L) (errands : List Errands) (c : Closed) (outcomes : List Outcome) (b' : Bank L)
       (z : IsClosed state knows loses reopens b errands c outcomes b') where
@@ -223,10 +214,9 @@ module _ {L : Type 0} (state : L → LogState) (knows : L → Type 0) (loses : T
     told_all : AreToldAll b.next z.turned z.works.worked
     told_all k old new old_at new_at =
         let turned = turned_at k old old_at in
-        let first = turned.0 in
         record {
           begins = all_at (λ (t : Teller L). t.outcomes.items ≡ []) z.turned k old z.are_turned.none old_at;
-          counts = omega (arith, first);
+          counts = omega (arith, turned.0);
           keeps = turned.1;
           memory = all_at (λ (t : Teller L). t.wants_memory ≡ false) z.works.worked k new (none_all (λ (t : Teller L). t.wants_memory) z.works.worked (sym z.works.wants ∙ z.wants)) new_at;
         }
@@ -245,22 +235,21 @@ module _ {L : Type 0} (state : L → LogState) (knows : L → Type 0) (loses : T
         let each =
         all_unmapped (λ (t : Teller L). t.transfers) P z.turned (subst (All P) (sym z.are_turned.transfers) (All-map P (λ (e : Errands). e.transfers) errands z.next)) in
         all_from (λ (t : Teller L). t.habits.first + length t.transfers.items ≤ b'.next) z.turned (λ k t at.
-        let first = (turned_at k t at).0 in
         let bound = all_at (λ (u : Teller L). b.next + length u.transfers.items ≤ b'.next) z.turned k t each at in
-        omega (arith, first, bound))
+        omega (arith, (turned_at k t at).0, bound))
 
     abbrev both : IsReady state b → DayAndNight state knows loses
     both ready = record {
-      s = z.day.settled;
+      day = z.day.settled;
       again = b'.again;
-      q = z.night.call;
+      resolve = z.night.call;
       next = b'.settled;
       olds = z.turned;
       news = z.works.worked;
       logs = map (λ (t : Teller L). t.log) z.day.evening.tellers.items;
       founds = z.day.evening.found.items;
       stores = managers_in b.settled;
-      n = b.next;
+      first = b.next;
       tables = reopened_at b.settled.managers;
       is_day = z.works.is_day;
       begins = z.works.begins;
@@ -295,9 +284,8 @@ module _ {L : Type 0} (state : L → LogState) (knows : L → Type 0) (loses : T
       → IsMovedBy state (told_over ds cs) b b'
   days_move b [] [] b' same ready = search arith
   days_move b (d ∷ ds) (c ∷ cs) b' all ready =
-      let mid : Bank L = all.0 in
-      let one = day_moves b d.items c all.1.outcomes mid all.1.closed ready all.1.ended in
-      let rest = days_move mid ds cs b' all.2 one.ready in
+      let one = day_moves b d.items c all.1.outcomes all.0 all.1.closed ready all.1.ended in
+      let rest = days_move all.0 ds cs b' all.2 one.ready in
       let es : List (Transfer × Bool) = told_on d.items c.outcomes.items c.found.items in
       let up_there = λ (m : ℕ) (up : IsUpTo (managers_in b.settled) m). subst (λ (j : ℕ). IsUpTo j m) (sym one.stores) up in
       search (arith, rest.stores, one.stores, applied_same, applied_both, rest.accounts, one.accounts, rest.balances, one.balances)

@@ -5,28 +5,24 @@ use Rattle.xa_base.proofs.{arith, not, ◌≡◌, ◌≢◌, ℕ, Bool, true, fa
 use Rattle.xa_base.proofs.{All-nil, All-cons, All-head, All-tail, All-append, list_any-append, or-true, all_at, was_mapped, Ok, Err, Result, nat_lt, zero, suc}
 use Rattle.xa_base.proofs.{◌-◌, ◌<◌, ◌≤◌, length, slice_index_or, cases_lt, ne_eqb, or_from, at_false, length-map, IfOk, ◌+◌, ◌++◌, length-append, map}
 use Rattle.xa_base.proofs.{slice_get, inl, inr, append-nil, cases_eq, All-contains, same_Some as some_same, got_map, list_any_none, Contains, range_with_len}
-use Rattle.xa_base.proofs.{eqb-true, length-range_with_len, get_or-range_with_len, got}
-use Rattle.std.proofs.lemmas.List.Elements.{All-filter, Contains-get_or}
+use Rattle.xa_base.proofs.{eqb-true, length-range_with_len, get_or-range_with_len, got, All-filter, Contains-get_or, IfErr, le-ltb, IfErr-weaker}
+use Rattle.xa_base.proofs.{IsPermutation-sym, Contains-permutation}
 use Rattle.xa_base.specs.{Chain, none as no_step, more as one_step, IsUpTo, MOST_MANAGERS}
 use Rattle.xa_words.specs.{XidName, RmFail, Op, OpenRm, Commit, Rollback, Forget, Request, Code, TranName}
-use Rattle.xa_tables.specs.{State, is_S5, HeuristicallyCompleted, decision_in, Answer, next, by_rules, coded, is_rolled_back, Tables, History, of_thread}
-use Rattle.xa_tables.specs.{tables_after, opening}
+use Rattle.xa_tables.specs.{State, is_S5, HeuristicallyCompleted, decision_in, Answer, next, coded, is_rolled_back, Tables, History, of_thread, tables_after}
+use Rattle.xa_tables.specs.{opening}
 use Rattle.xa_tables.proofs.Effects.{reason_rolls_back}
 use Rattle.xa_desk.specs.{LedgerView, is_rm_fail, learnt_shut, new_ledgers, no_ledger, room_at, DeskView, ledger, numbered}
 use Rattle.xa_worker.specs.{Entry, requests}
-use Rattle.xa_switch.specs.{history, IsSettled, collected, journal, Settling, Again, reopening, IsNewDesk, IsScanOf, IsWhole, MayReopen, reopened_at, first_of}
-use Rattle.xa_switch.specs.{ledgers_of, IsOf, sent, Plan, ManagerPlan, last_in, managers_in, planned, ManagerPart, FollowsTables, find_manager, journal_in}
-use Rattle.xa_switch.specs.{accounts_in, accounts_of}
-use Rattle.xa_switch.proofs.Journaled.{follows, begun}
-use Rattle.xa_driver.specs.{Outcome, AskTrace, is_decided, AsksIf, AsksLedger, ResolvesAt, ResolvesBranch, outcome_op, Resolved, MayResolve, IsTraceOfResolve}
+use Rattle.xa_switch.specs.{history, IsSettled, collected, journal, Settling, Again, reopening, IsScanOf, IsWhole, MayReopen, reopened_at, first_of, ledgers_of}
+use Rattle.xa_switch.specs.{IsOf, sent, Plan, ManagerPlan, last_in, managers_in, planned, ManagerPart, FollowsTables, find_manager, journal_in, accounts_in}
+use Rattle.xa_switch.specs.{accounts_of}
+use Rattle.xa_switch.proofs.SettledOpenings.{follows, begun}
+use Rattle.xa_driver.specs.{Outcome, AskTrace, is_decided, AsksIf, AsksLedger, ResolvesBranch, outcome_op, Resolved, MayResolve, IsTraceOfResolve}
 use Rattle.xa_log.specs.{Records, LogState}
-use Rattle.std.specs.Prelude.{IfErr}
-use Rattle.std.proofs.lemmas.Bool.{le-ltb}
-use Rattle.xa_desk.proofs.Fresh.{fresh_sent}
-use Rattle.xa_scan.specs.{ScanView}
+use Rattle.xa_desk.proofs.Books.{fresh_sent}
 use Rattle.xa_bank_days.specs.{Unresolved, BadNumbers, NoRoom, Excuses, HasRoomToResolve, Resolver, IsResolvedBy, records_of, IsNight, IsUntouched, ResolvesBy}
 use Rattle.xa_bank_days.specs.{unused}
-use Rattle.std.proofs.lemmas.Result.{IfErr-weaker}
 use Rattle.xa_driver.proofs.Mapped.{Asks}
 use Rattle.xa_atomicity.specs.{IsBetween, OnlyResolves, ResolveCall, resolve_call, resolves, with_use}
 use Rattle.xa_atomicity.proofs.Sites.{all_earlier, own_all}
@@ -36,10 +32,9 @@ use Rattle.xa_atomicity.proofs.Guided.{learnt_on}
 use Rattle.xa_crew.specs.{WithScan, Attended, IsRunAgain, WorksWithScan, IsRun}
 use Rattle.xa_work.specs.{HasSent}
 use Rattle.xa_bank.specs.{Teller}
-use Rattle.xa_bank.proofs.Members.{MemberAt, Never, member_at, nobody_else, of_threads}
+use Rattle.xa_bank.proofs.Days.{MemberAt, Never, member_at, nobody_else, of_threads}
 use Rattle.xa_bank_days.proofs.Moved.{many_attended}
-use Rattle.std.proofs.lemmas.List.Sorted.{IsPermutation-sym, Contains-permutation}
-use Rattle.xa_tables.proofs.WorkLaw.{others_first}
+use Rattle.xa_tables.proofs.WorthLaw.{others_first}
 use Rattle.xa_switch.proofs.Lists.{contains_map, found}
 
 -- ---- what a resolve asks for
@@ -77,13 +72,9 @@ decided o e = refl
 says : (T : Tables) (c : Code) → T.shut ≡ false → is_rm_fail c ≡ false → StaysOpen (T, c)
 says T c o e = record { code = e; open_ = o }
 
-rules_open : (t : ℕ) (op : Op) (T : Tables) → InNight op → T.shut ≡ false → StaysOpen (by_rules t op T)
-rules_open t (Commit x true) T is o = cc
-rules_open t op T is o = search (arith, says, decided, rolled_back, reason_rolls_back)
-
 next_open : (t : ℕ) (op : Op) (T : Tables) → InNight op → T.shut ≡ false → StaysOpen (next t op T)
 unfolding next
-next_open t op T is o = search (arith, says, rules_open)
+next_open t op T is o = search (arith, says, decided, rolled_back, reason_rolls_back)
 
 codes_open : (h : History) (T : Tables) → All (λ r. InNight r.op) h → T.shut ≡ false → All (λ (e : Entry). is_rm_fail e.1 ≡ false) (coded h T)
 codes_open [] T all o = All-nil (λ (e : Entry). is_rm_fail e.1 ≡ false)
@@ -124,11 +115,6 @@ each_reached records m a _ _ (one_step xs x now last before is) o =
     let ends = ask_open now is.decided (outcome_op x.commit x.xid) x.code is.obeys (if_open (is_decided x.code) (Forget x.xid) is.decided last is.forgets o) in
     All-append IsReached xs (x ∷ []) (each_reached records m a xs now before ends.0) (All-cons IsReached x [] ends.1 (All-nil IsReached))
 
-pub all_reached : (records : Records) (m : ℕ) (xids : List XidName) (os : List Outcome) (a a' : LedgerView) → ResolvesAt AsksLedger records m xids os a a'
-    → learnt_shut a' ≡ false → All IsReached os
-all_reached records m [] os a a' is o = subst (All IsReached) (sym is.0) (All-nil IsReached)
-all_reached records m (x ∷ xs) os a a' is o = each_reached records m is.opened os a' is.each o
-
 -- ---- the room of a night's desk for what it takes to resolve, and why nothing was resolved
 
 -- a new ledger has all requests of the plan
@@ -145,11 +131,6 @@ none_left : (lists : List (List XidName)) (k : ℕ) → length lists ≤ k → s
 none_left [] k past = refl
 none_left (l ∷ lists) zero past = absurd (omega (arith, past))
 none_left (l ∷ lists) (suc k) past = none_left lists k (omega (arith, past))
-
--- where the numbers have room for what is left, the desk has
-pub room_to_resolve : (s : Settling) (again : Again) (d : DeskView) (z : ScanView) → IsNewDesk (reopening s again) 0 d → IsScanOf s z
-    → HasRoomToResolve s again → MayResolve d z
-room_to_resolve s again d z fresh scanned room = search (arith, none_left, fresh_room, cases_lt, scanned.left.managers, z.left, d.ledgers, again.requests)
 
 -- why nothing was resolved, by what the caller knows
 pub left_on : {Room Fits : Type 0} (Known Good Same : Type 0) → (Fits → Room) → (r : Result Resolved Unresolved)
@@ -254,7 +235,7 @@ module _ {L : Type 0} (state : L → LogState) (knows : L → Type 0) (s : Settl
     reached k d below =
         let o : Outcome = get_or outcomes k d in
         let at_o = outcome_at scan records old new outcomes trace o (Contains-get_or outcomes k d below) in
-        search (arith, All-contains, at, all_reached, new_open, o.m)
+        search (arith, All-contains, at, All-nil, each_reached, new_open, o.m)
 
   -- the night
   module _ (whole : IsWhole s)
@@ -302,7 +283,7 @@ module _ {L : Type 0} (state : L → LogState) (knows : L → Type 0) (s : Settl
 
       -- nothing was resolved for a reason of which the caller knows
       pub left_law : IfErr a.client.client.resolved (Excuses ⊥ (All (λ (t : Teller L). knows t.log) r.tellers.items) (HasRoomToResolve s again) (MayReopen s again))
-      left_law = search (arith, left_on, at, room_to_resolve, scanned, client, it)
+      left_law = search (arith, left_on, at, none_left, fresh_room, cases_lt, scanned, client, it)
 
       -- no thread sent anything where nothing was resolved
       nothing : at.left ≡ at.member.desk → (t m : ℕ) → 1 ≤ m → sent next t m ≡ []
@@ -348,10 +329,8 @@ module _ {C : Type 0} (p : Plan) (clients : List C) (attended : List (Attended C
 
   first : (m : ℕ) → IsUpTo stores m → first_of s m ≡ Some (opening (accounts_of p m))
   first m up =
-      let low = up.0 in
-      let high = up.1 in
-      let x = got p.managers.items (m - 1) (omega (arith, low, high)) in
-      let number : m - 1 + 1 ≡ m = omega (arith, low) in
+      let x = got p.managers.items (m - 1) (omega (arith, up.0, up.1)) in
+      let number : m - 1 + 1 ≡ m = omega (arith, up.0) in
       ap (first_of s) (sym number)
       ∙ r.of_setup.opened (m - 1) (opening x.0.accounts.items) (got_map (λ (q : ManagerPlan). opening q.accounts.items) p.managers.items (m - 1) x.0 x.1)
       ∙ ap (λ (o : Option ManagerPlan). Some (opening (accounts_in o))) (sym x.1)
@@ -381,8 +360,6 @@ module _ {C : Type 0} (p : Plan) (clients : List C) (attended : List (Attended C
   all_stores =
       let last = whole.there (managers_in s) whole.few.0 (omega arith) in
       let low = within (managers_in s) last.0 last.1 in
-      let most = whole.few.0 in
-      let up : IsUpTo stores stores = (omega (arith, low, most), omega arith) in
+      let up : IsUpTo stores stores = (omega (arith, low, whole.few.0), omega arith) in
       let q = begun s stores (opening (accounts_of p stores)) (first stores up) in
-      let high = (whole.only stores q.0 q.1).1 in
-      omega (arith, low, high)
+      omega (arith, low, (whole.only stores q.0 q.1).1)

@@ -1,18 +1,18 @@
 -- A leg of a transfer whose work was done, of which a commit was made or cut short: who names its branch, what it holds as it is
 -- asked to prepare, and that it isn't read only.
 -- A leg of a transfer that was committed, or whose commit was cut short, comes out by the log, once the night's resolve is made.
-use Rattle.xa_base.proofs.{pos, if◌then◌else◌, ◌&&◌, ◌≡◌, ◌≢◌, ℕ, suc, ◌+◌, ◌^◌, ◌<◌, ◌≤◌, true, false, ◌==◌, cond, List, [], ◌∷◌, ◌++◌, length, length-append}
-use Rattle.xa_base.proofs.{append_assoc, get_or, slice_get, sym, refl, ap, ◌∙◌, subst, arith, Option, None, Some, option_map, All, Contains, cases_lt}
-use Rattle.xa_base.proofs.{eqb-false, All-nil, All-cons, All-head, All-tail, All-contains, begins_on, is_some, zero, Bool, All-weaker, Contains-append_left}
+use Rattle.xa_base.proofs.{pos, if◌then◌else◌, ◌≡◌, ◌≢◌, ℕ, suc, ◌+◌, ◌^◌, ◌<◌, ◌≤◌, true, false, List, [], ◌∷◌, ◌++◌, length, length-append, all_left}
+use Rattle.xa_base.proofs.{append_assoc, get_or, slice_get, sym, refl, ap, ◌∙◌, subst, arith, Option, None, Some, option_map, All, Contains, cases_lt, All-nil}
+use Rattle.xa_base.proofs.{All-cons, All-head, All-tail, All-contains, begins_on, is_some, zero, Bool, All-weaker, Contains-append_left}
 use Rattle.xa_words.specs.{key_eq, RdOnly, Op, Prepare, Request, Code, TranName, tran_of, RmFail}
 use Rattle.xa_tables.specs.{Tables, next, of_thread, tables_after, coded, names, is_heur, DoesWork, held_by, History, state_of}
 use Rattle.xa_desk.specs.{LedgerView, ledger, HasGrown, numbered, DeskView, HaveGrown}
 use Rattle.xa_worker.specs.{Entry, requests}
 use Rattle.xa_switch.specs.{Settling, IsSettled, ManagerPart, find_manager, sent, journal, journal_in, answers, IsOpenedWith, first_of, history, ledgers_of}
 use Rattle.xa_switch.specs.{Again}
-use Rattle.xa_switch.proofs.Journaled.{follows_first}
+use Rattle.xa_switch.proofs.SettledOpenings.{follows_first}
 use Rattle.xa_driver.specs.{is_commit, Branch, Outcome, is_to_commit as is_marked, names as names_manager, IsTranOf}
-use Rattle.xa_driver.proofs.Ledgers.{numbered_length}
+use Rattle.xa_driver.proofs.Requests.{numbered_length}
 use Rattle.xa_atomicity.specs.{taken_before, IsBetween, is_recorded, OnlyTheseOrDecisionsName, AskedAreLeft, IsResolvedAfter, WasAsked, CutCall, IsOutcomeOf}
 use Rattle.xa_atomicity.specs.{IsUseIn, OnlyResolves, Opening, ResolveCall, cut_call, cuts, resolves, with_use}
 use Rattle.xa_atomicity.proofs.Values.{taken_is}
@@ -22,10 +22,8 @@ use Rattle.xa_atomicity.proofs.Settled.{by_ledger}
 use Rattle.xa_days.specs.{CommitsNowhere, DecidesNowhere, IsMarkedNowhere, Leg, IsItsOwn, leg_of, OnlyRead, ComesOutByTheLog}
 use Rattle.xa_days.proofs.AtWork.{work_held, work_never_reads}
 use Rattle.xa_work.specs.{HasSent, HaveSent, HaveWorked}
-use Rattle.xa_bank.proofs.Named.{IsOf, Names, Is, IsFrom, LegsOf}
-use Rattle.xa_bank.proofs.Told.{IsBelow, IsTold, NamedWithin, named_within, Earlier, only_these}
-use Rattle.xa_bank.proofs.Legs.{AnyLeg, LegWorked, leg_work, legs_worked}
-use Rattle.xa_bank.proofs.Adds.{work_answered, work_done}
+use Rattle.xa_bank.proofs.Named.{IsOf, Names, Is, IsFrom, LegsOf, IsBelow, IsTold, NamedWithin, named_within, Earlier, only_these}
+use Rattle.xa_bank.proofs.Legs.{AnyLeg, LegWorked, leg_work, legs_worked, work_answered, work_done, taken}
 use Rattle.xa_bank_days.proofs.Come.{Obeys, HasCome, ObeysAt, OnlyReads, IsLow, few_left, fewer, fewer_at, fewer_cut, fewer_grown, same_ledger}
 use Rattle.xa_base.specs.{MOST_MANAGERS, IsUpTo}
 use Rattle.xa_log.specs.{LogState, Records, record_in, record_of}
@@ -34,32 +32,6 @@ use Rattle.xa_days.proofs.Legs.{after_seam, tran_each}
 use Rattle.xa_days.specs.SettledDays.{voted, unasked}
 use Rattle.xa_bank.specs.{branches_of, changes_of}
 use Rattle.xa_bank_days.specs.{IsResolvedBy}
-
--- ---- what was taken before a request of the thread
-
-taken_all : (t n : ℕ) (P : Request → Type 0) (h : History) (k : ℕ) (ops : List Op) → of_thread t h ≡ numbered t k ops → k ≤ n → All P h
-    → All (λ r. P r × (r.thread ≡ t → r.number < n)) (taken_before t n h)
-taken_all t n P [] k ops e below all = All-nil (λ (r : Request). P r × (r.thread ≡ t → r.number < n))
-taken_all t n P (q ∷ h) k ops e below all =
-    let Q : Request → Type 0 = λ r. P r × (r.thread ≡ t → r.number < n) in
-    elim (q.thread == t) as (λ b. (q.thread == t) ≡ b → cond b (q ∷ of_thread t h) (of_thread t h) ≡ numbered t k ops → All Q (if b && (q.number == n) then [] else q ∷ taken_before t n h)) [
-      | false ↦ λ other e.
-          All-cons Q q (taken_before t n h) (All-head P q h all, λ own. absurd (eqb-false q.thread t other own)) (taken_all t n P h k ops e below (All-tail P q h all))
-      | true ↦ λ own. elim ops as (λ o. q ∷ of_thread t h ≡ numbered t k o → All Q (if q.number == n then [] else q ∷ taken_before t n h)) [
-        | [] ↦ λ e. cc
-        | op ∷ rest ↦ λ e.
-            let head : q ≡ request_of t k op = cc in
-            let tail : of_thread t h ≡ numbered t (suc k) rest = cc in
-            let number : q.number ≡ k = ap (λ (r : Request). r.number) head in
-            elim (q.number == n) as (λ b. (q.number == n) ≡ b → All Q (if b then [] else q ∷ taken_before t n h)) [
-              | true ↦ λ there. All-nil Q
-              | false ↦ λ another.
-                  let apart : q.number ≢ n = eqb-false q.number n another in
-                  All-cons Q q (taken_before t n h) (All-head P q h all, λ _. omega (arith, number, below, apart))
-                  (taken_all t n P h (suc k) rest tail (omega (arith, number, below, apart)) (All-tail P q h all))
-            ] refl
-      ]
-    ] refl e
 
 -- a manager that took something began with tables
 begins : (o : Option ManagerPart) → (requests (journal_in o) ≡ [] → ⊥) → (T : Tables) × (option_map (λ (p : ManagerPart). p.first) o ≡ Some T)
@@ -129,9 +101,8 @@ module _ {s : Settling} (settled : IsSettled s) (told : (u : ℕ) → IsTold s u
       × (length a1.sent ≤ (get_or H k d).number → Obeys x (get_or H k d).op)
   by_place k d lt is =
       let z = named k d lt is in
-      let from = z.from in
       let below = z.below in (
-        λ early. in_work k d lt z.thread from (let e = size1 in omega (arith, early, e)),
+        λ early. in_work k d lt z.thread z.from (let e = size1 in omega (arith, early, e)),
         λ late. in_commit k d lt z.thread late (let e = size2 in omega (arith, below, e)),
       )
 
@@ -145,9 +116,10 @@ module _ {s : Settling} (settled : IsSettled s) (told : (u : ℕ) → IsTold s u
   before k d lt is =
       let P : Request → Type 0 = λ r. names x r.op ≡ true → (r.thread ≡ t) × (r.number < length a1.sent → is_commit r.op ≡ false) in
       let all : All P H = λ j e within_ named_. ((named j e within_ named_).thread, λ early. ((by_place j e within_ named_).0 early).0) in
-      let z = taken_all t (length a1.sent) P H 0 (sent s t m) (settled.agree t m).carried (omega arith) all k d lt in
-      let w = z.0 is in
-      w.1 (z.1 w.0)
+      let z = taken t H 0 a1.sent (obeyed.more ++ rest.more) (length a1.sent) (omega arith) ((settled.agree t m).carried ∙ ap (numbered t 0) after_commit) in
+      let w = all_left P (taken_before t (length a1.sent) H) z.rest (subst (All P) z.place all) k d lt is in
+      let early = all_earlier t (taken_before t (length a1.sent) H) 0 a1.sent z.own k d lt w.0 in
+      w.1 (omega (arith, early))
 
   -- its store is there, since it took its requests
   pub there : (T : Tables) × (first_of s m ≡ Some T)
@@ -188,8 +160,7 @@ module _ {s : Settling} (settled : IsSettled s) (told : (u : ℕ) → IsTold s u
         let grown : HasGrown a2 final = record { sent = (rest.more, rest.sent); collected = rest.collected } in
         let at = prepare_part s settled m positive t x a1 a2 grown more is in
         let first_part : History = at.1.before in
-        let last_part : History = at.1.after in
-        let place : H ≡ first_part ++ request_of t k (Prepare x) ∷ last_part = search (arith, request_of) in
+        let place : H ≡ first_part ++ request_of t k (Prepare x) ∷ at.1.after = search (arith, request_of) in
         let low_ : (j : ℕ) (d : Request) → j < length first_part → (get_or first_part j d).thread ≡ t → (get_or first_part j d).number < k = λ j d lt mine.
         let up = all_earlier t first_part 0 a1.sent at.1.earlier j d lt mine in omega (arith, up) in
         let taken : taken_before t k H ≡ first_part = search (arith, taken_is, request_of) in
@@ -274,15 +245,13 @@ module _ {s : Settling} {again : Again} {q : ResolveCall} {next : Settling} (sce
 
   pub first_leg : ItsLeg one
   first_leg =
-      let up = come.cut.may.rising.0 in
-      its_leg one of_it.first (omega (arith, up)) (legs_worked one two account of_it.apart old desk.ledgers work).0
+      its_leg one of_it.first (omega (arith, come.cut.may.rising.0)) (legs_worked one two account of_it.apart old desk.ledgers work).0
       (All-head (ObeysAt desk.ledgers new) one.branch (two.branch ∷ []) come.obeys)
 
   pub second_leg : ItsLeg two
   second_leg =
-      let up = come.cut.may.rising.0 in
       let on = come.cut.may.rising.1.0 in
-      its_leg two of_it.second (omega (arith, up, on)) (legs_worked one two account of_it.apart old desk.ledgers work).1
+      its_leg two of_it.second (omega (arith, come.cut.may.rising.0, on)) (legs_worked one two account of_it.apart old desk.ledgers work).1
       (All-head (ObeysAt desk.ledgers new) two.branch [] (All-tail (ObeysAt desk.ledgers new) one.branch (two.branch ∷ []) come.obeys))
 
   leg_low : (leg : AnyLeg) → ItsLeg leg → IsLow leg.branch

@@ -14,8 +14,8 @@ use Rattle.xa_days.specs.{Leg}
 use Rattle.xa_work.specs.{WorkOutcome, HasSent, HaveSent, IfLost, IsOpenRm}
 use Rattle.xa_work.proofs.Sent.{none_sent, sent_on, sent_as, have_on, have_as}
 use Rattle.xa_bank.specs.{Habits, Transfer, is_undecided, MakesEach, tran_named, Teller}
-use Rattle.xa_bank.proofs.Named.{IsOf, Is, IsFrom, Names, names_as, next_names, none_made, one_transfer, transfers_name, opens_names}
-use Rattle.xa_bank.proofs.Told.{Earlier, IsBelow, earlier_on, IsTold}
+use Rattle.xa_bank.proofs.Named.{IsOf, Is, IsFrom, Names, names_as, next_names, none_made, one_transfer, transfers_name, opens_names, Earlier, IsBelow}
+use Rattle.xa_bank.proofs.Named.{earlier_on, IsTold}
 use Rattle.xa_bank_days.specs.{IsNamed, is_applied, told as told_of, DayAndNight, all_told, records_of}
 use Rattle.xa_bank_days.proofs.Went.{AreKnown, each_keeps, lost_last, named_once, rest_known, AtPlace, as_many, at_place, owner}
 use Rattle.xa_bank_days.proofs.Made.{CameOut, HasNoCommit, IsFoundSo, is_leg, IsStore, Noted, NotedSent, TransferAt, next_at, noted_none, LegsSo, both_legs}
@@ -23,7 +23,7 @@ use Rattle.xa_bank_days.proofs.Made.{counts_for, no_legs, legs_as, total_append}
 use Rattle.xa_bank_days.proofs.Out.{IsScene, BranchesComeOut}
 use Rattle.xa_atomicity.proofs.Sites.{own_all}
 use Rattle.xa_atomicity.proofs.Settled.{by_ledger}
-use Rattle.xa_bank.proofs.Members.{of_threads}
+use Rattle.xa_bank.proofs.Days.{of_threads}
 
 or_none : (o : Option (List Bool)) → option_or o None ≡ o
 or_none None = refl
@@ -108,8 +108,7 @@ module _ {s : Settling} {again : Again} {q : ResolveCall} {next : Settling} (sce
   -- what was found is what the log has, as it was read, of the last of these transfers, where nobody knew whether its record
   -- was made
   abbrev pub IsFoundAt : ℕ → List WorkOutcome → LogState → Type 0
-  IsFoundAt n os read =
-      (k : ℕ) → k + 1 ≡ n + length os → list_any is_undecided os ≡ true → k < 2 ^ 32 → is_found ≡ is_recorded read (tran_named t k)
+  IsFoundAt n os read = (k : ℕ) → k + 1 ≡ n + length os → list_any is_undecided os ≡ true → k < 2 ^ 32 → is_found ≡ is_recorded read (tran_named t k)
 
   pub each_at : (n : ℕ) (trs : List Transfer) (os : List WorkOutcome) (old new : DeskView) (log later : LogState)
       → MakesEach t habits n trs os old new log later R
@@ -160,7 +159,7 @@ pub record Laws : Type 0 where
 
 module _ (laws : Laws) {L : Type 0} {state : L → LogState} {knows : L → Type 0} {loses : TranName → List Bool → L → L → Type 0}
     (d : DayAndNight state knows loses) (many : length d.olds < 2 ^ 32) (m : ℕ) (up : IsUpTo d.stores m) (j : List ℕ) where
-  open d use {s, again, q, next, olds, news, logs, founds, n, tables, is_day, begins, dawn, resolved}
+  open d use {day as s, again, resolve as q, next, olds, news, logs, founds, first as n, tables, is_day, begins, dawn, resolved}
 
   store : IsStore s m (tables m)
   store = record { positive = up.0; first = begins.there m up }
@@ -187,9 +186,8 @@ module _ (laws : Laws) {L : Type 0} {state : L → LogState} {knows : L → Type
       → ((k : ℕ) → n ≤ k → IsNamed (i + 1) k tran.gtrid → ⊥) → record_of (state z.log) tran ≡ record_of (state old.log) tran
   log_keeps i old z tran others =
       let w = z.went in
-      let from = z.all.counts in
       each_keeps (IsReadAs state knows loses z.new.log) (i + 1) old.habits z.all.keeps old.habits.first old.transfers.items z.new.outcomes.items w.opened w.left (state old.log) (state z.log)
-      w.makes w.known w.may tran (λ k above _. others k (omega (arith, above, from)))
+      w.makes w.known w.may tran (λ k above _. others k (omega (arith, above, z.all.counts)))
 
   -- what a thread's log had before the day is of its own earlier transfers
   old_none : (i : ℕ) (old : Teller L) (tran : TranName) → slice_get olds i ≡ Some old → ((k : ℕ) → k < n → IsNamed (i + 1) k tran.gtrid → ⊥)
@@ -246,13 +244,12 @@ module _ (laws : Laws) {L : Type 0} {state : L → LogState} {knows : L → Type
       let z = place.all in
       let w = place.went in
       let R : LogState → Type 0 = IsReadAs state knows loses new.log in
-      let from = z.counts in
       let within = slice_get_within olds i old at in
       let fresh : (k : ℕ) (x : XidName) → old.habits.first ≤ k → IsOf t k x → state_of (tables m) x ≡ None = λ k x above of_x.
       is_missing (state_of (tables m) x) (false_from_ne_true _ (λ there.
       let below =
       dawn.fresh m x up there t k (omega arith) (let e = length-map olds (λ (t : Teller L). t.log) in omega (arith, within, e)) (record { small = of_x.small; gtrid_ = of_x.gtrid }) in
-      omega (arith, below, above, from))) in
+      omega (arith, below, above, z.counts))) in
       let before : (k : ℕ) → 1 ≤ k → All (Names t (IsBelow old.habits.first)) (ledger w.opened.ledgers k).sent = λ k low.
       let y = w.opens k low in
       all_sent (Names t (IsBelow old.habits.first)) (ledger w.desk.ledgers k) (ledger w.opened.ledgers k) (w.nothing k low)
@@ -327,9 +324,8 @@ module _ (laws : Laws) {L : Type 0} {state : L → LogState} {knows : L → Type
   pub all_noted : All (λ r. Noted q.records whole.legs r.op) (history s m)
   all_noted k r lt =
       let P : Op → Type 0 = Noted q.records whole.legs in
-      let size = (as_many d).0 in
       let own =
       of_threads (λ u. All P (sent s u m)) (length olds) (λ u outside. subst (All P) (sym (is_day.others u outside m)) (All-nil P))
-      (λ i below. whole.notes (i + 1) (omega arith) (omega (arith, below, size))) in
+      (λ i below. whole.notes (i + 1) (omega arith) (omega (arith, below, (as_many d).0))) in
       let u : ℕ = (get_or (history s m) k r).thread in
       own_all u P (history s m) 0 (sent s u m) (is_day.settled.agree u m).carried (own u) k r lt refl

@@ -1,9 +1,7 @@
--- The logs of all tellers, one by one, with what they were found to have.
--- What the log of a teller has after its transfers: what it had of other transactions, and records of these.
--- How the thread of a teller went that was told all, and whose log was read back.
-use Rattle.xa_base.proofs.{◌≡◌, ℕ, zero, suc, ◌+◌, nat_lt, Bool, Some, List, [], ◌∷◌, ◌++◌, length, slice_get, some_same, refl, subst, arith, or-false}
-use Rattle.xa_base.proofs.{if◌then◌else◌, ◌^◌, ◌<◌, ◌≤◌, ◌⊎◌, ⊎_elim, true, false, ap, ◌∙◌, inl, inr, cases_lt, cases_Bool, ◌||◌, sym, All, list_any, or_parts}
-use Rattle.xa_base.proofs.{slice_get_within, all_at, got}
+-- The logs of all tellers: what they have after their transfers, of these and of others, and how a thread went whose log was read back.
+use Rattle.xa_base.proofs.{◌≡◌, ℕ, ◌+◌, List, [], ◌∷◌, ◌++◌, length, map, append_assoc, append-nil, sym, ap, ◌∙◌, arith, map-append, none_of, zero, suc, nat_lt}
+use Rattle.xa_base.proofs.{Bool, Some, slice_get, some_same, refl, subst, or-false, if◌then◌else◌, ◌^◌, ◌<◌, ◌≤◌, ◌⊎◌, ⊎_elim, true, false, inl, inr, cases_lt}
+use Rattle.xa_base.proofs.{cases_Bool, ◌||◌, All, list_any, or_parts, slice_get_within, all_at, got}
 use Rattle.xa_words.specs.{TranName, tran_of, Code, key_eq, Decides-key_eq}
 use Rattle.xa_log.specs.{LogState, record_of, IsReadAs}
 use Rattle.xa_bank.specs.{Teller, ReadsBack, Habits, Transfer, is_undecided, death_in, Makes, MakesEach, branches_of, forgotten, gtrid_of, with_legs}
@@ -13,13 +11,31 @@ use Rattle.xa_desk.specs.{DeskView}
 use Rattle.xa_atomicity.specs.{is_recorded, NothingWasSent}
 use Rattle.xa_work.specs.{WorkOutcome, IfLost, is_last, Undecided, HaveSent, IsOpenRm}
 use Rattle.xa_work.specs.Units.Transacts.{commits, refused}
-use Rattle.xa_bank.proofs.Named.{legs_are, none_made, one_transfer, Names, makes_none}
-use Rattle.xa_bank.proofs.LostRecords.{if_both, if_so, none_lost, refused_so}
+use Rattle.xa_bank.proofs.Named.{legs_are, none_made, one_transfer, Names, makes_none, IsAny, if_both, if_so, none_lost, refused_so}
 use Rattle.xa_bank_days.proofs.Come.{IsReadSo, has_come}
 use Rattle.xa_switch.specs.{Settling, sent, ledgers_of}
 use Rattle.xa_work.specs.Units.ComesOfCommit.{cut_short, in_full, undecided}
-use Rattle.xa_bank.proofs.Told.{IsAny}
 use Rattle.xa_bank.proofs.Only.{all_told}
+
+-- ---- lists to which elements are pushed one by one, by what each has of another list's
+
+module _ {A B C : Type 0} (f : A → C) (g : B → C) (xs xs' : List A) (x : A) (push : xs' ≡ xs ++ x ∷ []) (y : B) (same : f x ≡ g y) where
+  pub pushed_map : (ys : List B) → map f xs ≡ map g ys → map f xs' ≡ map g (ys ++ y ∷ [])
+  pushed_map ys e = ap (map f) push ∙ map-append f xs (x ∷ []) ∙ (λ i. e i ++ same i ∷ []) ∙ sym (map-append g ys (y ∷ []))
+
+  -- what was pushed came from the front of what is left
+  pub moved_map : (rest rest' : List B) (zs : List C) → rest ≡ y ∷ rest' → map f xs ++ map g rest ≡ zs → map f xs' ++ map g rest' ≡ zs
+  moved_map rest rest' zs front e = search (arith, map-append, append_assoc)
+
+-- how many are left once one is taken from the front
+pub one_fewer : {A : Type 0} (n m : ℕ) (xs ys : List A) (x : A) → xs ≡ x ∷ ys → m + 1 ≡ n → n ≡ length xs → m ≡ length ys
+one_fewer n m xs ys x front next all = let size = ap (λ l. length l) front in omega (arith, size, next, all)
+
+-- what was taken is all, once nothing is left
+pub all_taken : {A : Type 0} (done rest all : List A) (n : ℕ) → done ++ rest ≡ all → n ≡ length rest → n ≡ 0 → done ≡ all
+all_taken done rest all n so_far counted none = sym (append-nil done) ∙ ap (λ l. done ++ l) (sym (none_of rest (sym counted ∙ none))) ∙ so_far
+
+-- ---- the logs of all tellers, one by one, with what they were found to have
 
 module _ {L : Type 0} (P : ℕ → Teller L → L → Bool → Type 0) where
   pub back_many : (t : ℕ) (tellers : List (Teller L)) (logs : List L) (founds : List Bool) → ForEach P t tellers logs founds
@@ -92,8 +108,7 @@ pub record IsNamedFrom (t n count : ℕ) (gtrid : List ℕ) : Type 0 where
   pub below : number < n + count
   pub named : IsNamed t number gtrid
 
-pub named_from : (t n count : ℕ) (tran : TranName)
-    → IsNamedFrom t n count tran.gtrid ⊎ ((k : ℕ) → n ≤ k → k < n + count → IsNamed t k tran.gtrid → ⊥)
+pub named_from : (t n count : ℕ) (tran : TranName) → IsNamedFrom t n count tran.gtrid ⊎ ((k : ℕ) → n ≤ k → k < n + count → IsNamed t k tran.gtrid → ⊥)
 named_from t n zero tran = inr (λ k above below z. omega (arith, above, below))
 named_from t n (suc count) tran =
     ⊎_elim
@@ -102,8 +117,7 @@ named_from t n (suc count) tran =
     ⊎_elim
     (λ (z : IsNamedFrom t (n + 1) count tran.gtrid).
     let above = z.from in
-    let low = z.below in
-    inl (record { number = z.number; from = omega (arith, above); below = omega (arith, low); named = z.named }))
+    inl (record { number = z.number; from = omega (arith, above); below = omega (arith, z.below); named = z.named }))
     (λ (none : (k : ℕ) → n + 1 ≤ k → k < n + 1 + count → IsNamed t k tran.gtrid → ⊥).
     inr (λ k above below z.
     ⊎_elim (λ (same : k < n + 1). not_here (subst (λ i. IsNamed t i tran.gtrid) (let e : k ≡ n = omega (arith, same, above) in e) z))
@@ -280,7 +294,7 @@ module _ {L : Type 0} (state : L → LogState) (knows : L → Type 0) (loses : T
 
 -- a day and its night
 module _ {L : Type 0} {state : L → LogState} {knows : L → Type 0} {loses : TranName → List Bool → L → L → Type 0} (d : DayAndNight state knows loses) where
-  open d use {s, olds, news, logs, founds, n, is_day, told_all, back, known}
+  open d use {day as s, olds, news, logs, founds, first as n, is_day, told_all, back, known}
 
   pub as_many : (length news ≡ length olds) × (length logs ≡ length olds) × (length founds ≡ length news)
   as_many = let z = back_many (IsReadBack state knows loses) 1 news logs founds back in (is_day.many, z.0 ∙ is_day.many, z.1)
@@ -299,8 +313,7 @@ module _ {L : Type 0} {state : L → LogState} {knows : L → Type 0} {loses : T
 
   pub at_place : (i : ℕ) (old : Teller L) → slice_get olds i ≡ Some old → AtPlace i old
   at_place i old at =
-      let many = as_many.0 in
-      let new = got news i (let within = slice_get_within olds i old at in omega (arith, within, many)) in
+      let new = got news i (let within = slice_get_within olds i old at in omega (arith, within, as_many.0)) in
       let (log, found, log_at, found_at, read) = back_at (IsReadBack state knows loses) 1 i news logs founds back new.0 new.1 in
       let number : 1 + i ≡ i + 1 = omega arith in
       let told_so = told_all i old new.0 at new.1 in
@@ -321,7 +334,6 @@ module _ {L : Type 0} {state : L → LogState} {knows : L → Type 0} {loses : T
   -- whose log this is
   pub owner : (i : ℕ) (log : L) → slice_get logs i ≡ Some log → (old : Teller L) × (place : AtPlace i old) × (place.log ≡ log)
   owner i log at =
-      let many = as_many.1 in
-      let old = got olds i (let within = slice_get_within logs i log at in omega (arith, within, many)) in
+      let old = got olds i (let within = slice_get_within logs i log at in omega (arith, within, as_many.1)) in
       let place = at_place i old.0 old.1 in
       (old.0, place, some_same place.log log (sym place.log_at ∙ at))

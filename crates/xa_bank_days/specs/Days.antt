@@ -150,28 +150,28 @@ pub record IsResolvedBy (records : Records) (s : Settling) (again : Again) (q : 
   pub reached : All (λ r. r.code ≢ RmFail) q.outcomes
 
 -- A day of tellers, what their logs were found to have in the evening, and the night that resolved by them what was
--- left. The day was settled as s and opened again, the resolve is q, and the night was settled as next. The stores
--- began with these tables, and transfers count from number n on.
+-- left. The day was settled and opened again, and the night was settled as `next`. The stores began with these tables,
+-- and transfers count from number `first` on.
 pub record DayAndNight {L : Type 0} (state : L → LogState) (knows : L → Type 0)
     (loses : TranName → List Bool → L → L → Type 0) : Type 0 where
-  pub s : Settling
+  pub day : Settling
   pub again : Again
-  pub q : ResolveCall
+  pub resolve : ResolveCall
   pub next : Settling
   pub olds : List (Teller L)
   pub news : List (Teller L)
   pub logs : List L
   pub founds : List Bool
   pub stores : ℕ
-  pub n : ℕ
+  pub first : ℕ
   pub tables : ℕ → Tables
-  pub is_day : IsDayOf state knows loses s olds news
-  pub begins : BeginsWith s stores tables
-  pub told_all : AreToldAll n olds news
+  pub is_day : IsDayOf state knows loses day olds news
+  pub begins : BeginsWith day stores tables
+  pub told_all : AreToldAll first olds news
   pub back : AreReadBack state knows loses 1 news logs founds
   pub known : All knows logs
-  pub dawn : IsDawn state stores n tables (map (λ t. t.log) olds)
-  pub resolved : IsResolvedBy (records_of state logs) s again q next
+  pub dawn : IsDawn state stores first tables (map (λ t. t.log) olds)
+  pub resolved : IsResolvedBy (records_of state logs) day again resolve next
 
 -- ---- the balances
 

@@ -58,6 +58,7 @@ pub(crate) fn next_numbers(again: &Again, threads: u32) -> Again
 impl<L: DecisionLog + Drop> Bank<L> {
     /// Opens the stores of a plan for these tellers, who have nothing to do yet: each account has what the plan
     /// declares. With a fault the tellers come back.
+    #[tactic(auto, using(crate::proofs::Nightly::all_stores, crate::proofs::Nightly::tables))]
     pub fn open<R: Wait>(
         rt: &R,
         alloc: Global,

@@ -29,8 +29,9 @@ pub fn a_day_applies_its_transfers<L: DecisionLog>()
     ensures applied { (d : DayAndNight L.state L.knows L.loses) (m : ℕ) (account : List ℕ) → length d.olds < 2 ^ 32
         → IsUpTo d.stores m → is_declared (d.tables m) account ≡ true
         → balances_at d.next m account ≡ all_applied (all_told d.founds d.news) (balances_of d.tables) m account }
-    ensures dawn { (d : DayAndNight L.state L.knows L.loses) (later : ℕ) → All (λ r. is_done r.code ≡ true) d.q.outcomes
-        → d.n ≤ later → All (λ t. t.habits.first + length t.transfers.items ≤ later) d.olds
+    ensures dawn { (d : DayAndNight L.state L.knows L.loses) (later : ℕ)
+        → All (λ r. is_done r.code ≡ true) d.resolve.outcomes → d.first ≤ later
+        → All (λ t. t.habits.first + length t.transfers.items ≤ later) d.olds
         → IsDawn L.state d.stores later (reopened_at d.next.managers) d.logs }
 {
     branches_come_out_by_the_log();

@@ -8,13 +8,11 @@ use Rattle.xa_tables.specs.{Association, Associated, association_of, exists, is_
 use Rattle.xa_tables.specs.{state_of, sum_of, Answer, next, association, added, EndsNowhere, coded, tables_after, fate_of, ending, IsOpening, names, held_by}
 use Rattle.xa_tables.specs.{request, LeavesAtWork, DoesWork, Tables, History}
 use Rattle.xa_tables.proofs.AccountLemmas.{touch_cmp_total, touch_self}
-use Rattle.xa_tables.proofs.WorthLaw.{added_law, not_ended, reason_not_done as not_done}
+use Rattle.xa_tables.proofs.WorthLaw.{added_law, not_ended, reason_not_done as not_done, OnlyOne, nobody_is, others_by, others_first, own_request, stays_apart}
 use Rattle.xa_tables.proofs.Effects.{effect_of, Moves, Still, Ended, Added, moves_of, quiet_named}
 use Rattle.xa_tables.proofs.Law.{opening_free}
 use Rattle.xa_tables.proofs.SoundLemmas.{own_put}
-use Rattle.xa_tables.proofs.Unnamed.{unnamed_fate, unnamed_on, tables_after-append}
-use Rattle.xa_tables.proofs.ValueLaw.{get_without, get_added}
-use Rattle.xa_tables.proofs.WorkLaw.{OnlyOne, nobody_is, others_by, others_first, own_request, stays_apart}
+use Rattle.xa_tables.proofs.ValueLaw.{unnamed_fate, unnamed_on, tables_after-append, get_without, get_added}
 
 -- ---- sums
 

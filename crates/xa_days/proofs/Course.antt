@@ -12,10 +12,9 @@ use Rattle.xa_tables.specs.{RolledBack, fate, fate_in, fates_in, fate_of, coded,
 use Rattle.xa_tables.specs.{last_or, tables_after, IsOpening, reopened, reopened_fate, fate_left, HeuristicDecision, names, IsPrepared, state_when, fates_when}
 use Rattle.xa_tables.specs.{held_by, moved, moved_by, History}
 use Rattle.xa_tables.proofs.Effects.{Effect, Stays, Commits, Drops, Forgets, effect_of, named_none}
-use Rattle.xa_tables.proofs.Law.{Nowhere, AtWork, standing, voted_rests, nobody_rests, get_gone, sound_after, run_sound, opening_sound}
-use Rattle.xa_tables.proofs.Unnamed.{unnamed_stays, unnamed_fate, tables_after-append}
+use Rattle.xa_tables.proofs.Law.{Nowhere, AtWork, standing, voted_rests, nobody_rests, get_gone, sound_after, run_sound, opening_sound, late_leave_fates}
+use Rattle.xa_tables.proofs.ValueLaw.{unnamed_stays, unnamed_fate, tables_after-append}
 use Rattle.xa_tables.proofs.Reopening.{reopens, state_reopened, sums_reopened}
-use Rattle.xa_tables.proofs.LateLaw.{late_leave_fates}
 use Rattle.xa_tables.proofs.PreparedLaw.{outcome_law}
 use Rattle.xa_tables.proofs.WorthLaw.{kept_law}
 use Rattle.xa_driver.specs.{is_commit}
@@ -40,8 +39,7 @@ still_for accounts x op c T quiet = ap (λ v. if names x op then v else pos 0) (
 pub still_on : (accounts : Accounts) (x : XidName) (h : History) (T : Tables) → CommitsNowhere x h → moved accounts (is_for x) h T ≡ pos 0
 still_on accounts x = moved_without accounts (is_for x)
 
-pub still_over : (accounts : Accounts) (x : XidName) (hs : List History) (T : Tables) → All (CommitsNowhere x) hs
-    → moved_over accounts (is_for x) hs T ≡ pos 0
+pub still_over : (accounts : Accounts) (x : XidName) (hs : List History) (T : Tables) → All (CommitsNowhere x) hs → moved_over accounts (is_for x) hs T ≡ pos 0
 still_over accounts x [] T quiet = refl
 still_over accounts x (h ∷ hs) T quiet =
     search (arith, still_over accounts x hs (reopened (tables_after h T)) (All-tail (CommitsNowhere x) h hs quiet), still_on, All-head, All-tail)
@@ -102,11 +100,7 @@ gone_on accounts x [] T gone told = record { gone = gone; quiet = refl; still = 
 gone_on accounts x (r ∷ h) T gone told =
     let one = gone_step accounts r.thread x T gone r.op (All-head (Told x) r h told) in
     let rest = gone_on accounts x h (next r.thread r.op T).0 one.gone (All-tail (Told x) r h told) in
-    record {
-      gone = rest.gone;
-      quiet = λ i. cons_option (one.quiet i) (rest.quiet i);
-      still = λ i. one.still i +ℤ rest.still i;
-    }
+    record { gone = rest.gone; quiet = λ i. cons_option (one.quiet i) (rest.quiet i); still = λ i. one.still i +ℤ rest.still i }
 
 -- ---- a reopening
 
@@ -147,8 +141,7 @@ due f sum = if is_committed f then sum else pos 0
 -- what a request does to it
 data Meets (accounts : Accounts) (x : XidName) (sum : ℤ) (op : Op) (T : Tables) (a : Answer) : Type 0 where
   StillWaits : Waits accounts x sum a.0 → fate_of x op a.1 ≡ None → moved_for accounts x op a.1 T ≡ pos 0 → Meets accounts x sum op T a
-  Ends : (f : Fate) → is_outcome f ≡ true → fate_of x op a.1 ≡ Some f → IsGone x a.0 → moved_for accounts x op a.1 T ≡ due f sum
-      → Meets accounts x sum op T a
+  Ends : (f : Fate) → is_outcome f ≡ true → fate_of x op a.1 ≡ Some f → IsGone x a.0 → moved_for accounts x op a.1 T ≡ due f sum → Meets accounts x sum op T a
 
 dropped_fate : (f : Fate) → ending_by f ≡ Some false → is_committed f ≡ false
 dropped_fate Committed e = cc
@@ -250,10 +243,7 @@ course_over accounts x sum (h ∷ hs) T waits told =
       | WaitsOn later none still ↦
           let on = course_over accounts x sum hs T1 (waits_reopened accounts x sum (tables_after h T) later) rest in
           let same : fate_left x InDoubt hs T1 ≡ fate_left x InDoubt (h ∷ hs) T = ap (λ g. fate_left x (reopened_fate g) hs T1) (sym (fate_after [] none)) in
-          record {
-            moves = (λ i. still i +ℤ on.moves i) ∙ none_plus _ ∙ ap (λ g. due g sum) same;
-            plain = ap is_undecided (sym same) ∙ on.plain;
-          }
+          record { moves = (λ i. still i +ℤ on.moves i) ∙ none_plus _ ∙ ap (λ g. due g sum) same; plain = ap is_undecided (sym same) ∙ on.plain }
       | Ended f ended fates gone moves ↦
           let on = gone_over accounts x f hs T1 (outcome_ends f ended) (gone_reopened x (tables_after h T) gone) rest in
           let same : fate_left x InDoubt (h ∷ hs) T ≡ f =
@@ -309,17 +299,15 @@ tables_voted x h T votes = (next votes.ask.thread votes.ask.op (tables_after vot
 has_voted : (accounts : Accounts) (x : XidName) (f : Fate) (h : History) (T : Tables) (votes : Votes x h T) → IsOpening T
     → HasVoted accounts x f (voted_sum accounts x h T votes) h votes.after T (tables_voted x h T votes)
 has_voted accounts x f h T votes o =
-    let before : History = votes.before in
     let ask : Request = votes.ask in
-    let after : History = votes.after in
-    let B : Tables = tables_after before T in
+    let B : Tables = tables_after votes.before T in
     let U : Tables = tables_voted x h T votes in
     let sum : ℤ = held_by accounts x B in
     let now : fate_of x ask.op (next ask.thread ask.op B).1 ≡ Some InDoubt = search (arith, at_true, Decides-xid_eq, votes.asks, votes.agrees) in
     let quiet : moved_for accounts x ask.op (next ask.thread ask.op B).1 B ≡ pos 0 = still_for accounts x ask.op _ B (ap is_commit votes.asks) in
-    subst (λ (g : History). HasVoted accounts x f sum g after T U) (sym votes.parts) (record {
-      waits = voted_at accounts x before ask.thread ask.op T o votes.asks votes.agrees;
-      tables = tables_after-append before (ask ∷ after) T;
+    subst (λ (g : History). HasVoted accounts x f sum g votes.after T U) (sym votes.parts) (record {
+      waits = voted_at accounts x votes.before ask.thread ask.op T o votes.asks votes.agrees;
+      tables = tables_after-append votes.before (ask ∷ votes.after) T;
       fates = search (arith, late_leave_fates, fate_from);
       moves = search (arith, moved_both, still_on, none_plus, votes.uncommitted);
     })

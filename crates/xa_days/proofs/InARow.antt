@@ -4,9 +4,8 @@ use Rattle.xa_tables.specs.declared.state.HeuristicDecision.TheVariants as decis
 use Rattle.xa_atomicity.proofs.Values.{unmoving}
 use Rattle.xa_base.proofs.{◌≡◌, ℤ, pos, ◌+ℤ◌, true, false, ◌||◌, if◌then◌else◌, List, [], ◌∷◌, map, refl, All, IsDistinct, list_any, sym, ap, ◌∙◌, arith}
 use Rattle.xa_base.proofs.{get_or, ints, All-head, All-tail, +ℤ_idl as none_plus, +ℤ_idr as plus_none, total_same, total_alike, total_both, total_nothing}
-use Rattle.xa_base.proofs.{by_if, at_true, ℕ, Bool, None, Some, cond, is_some, find, get-from_entries, total_across, subst, inl, inr, zero, suc}
-use Rattle.std.specs.List.{AllByRecursion}
-use Rattle.std.proofs.lemmas.Map.Keys.{IsDistinct-head, IsDistinct-tail}
+use Rattle.xa_base.proofs.{by_if, at_true, ℕ, Bool, None, Some, cond, is_some, find, get-from_entries, total_across, subst, inl, inr, zero, suc, AllByRecursion}
+use Rattle.xa_base.proofs.{IsDistinct-head, IsDistinct-tail}
 use Rattle.xa_base.specs.{total}
 use Rattle.xa_words.specs.{XidName, xid_eq, Decides-xid_eq, Op, Commit, Heur, Request, Code, key_cmp_total}
 use Rattle.xa_tables.specs.{Tables, next, tables_after, IsOpening, reopened, left_by, names, worth, moved, moved_by, is_any, DeclareEach, History, are_accounts}
@@ -21,7 +20,7 @@ use Rattle.xa_words.specs.Orders.{key_cmp}
 use Rattle.xa_tables.proofs.AccountLemmas.{key_self, same_key}
 use Rattle.xa_tables.proofs.Reopening.{begin_law}
 use Rattle.xa_switch.specs.{IsSettled, IsOpenedWith, first_of, history, settled_fate}
-use Rattle.xa_switch.proofs.Journaled.{follows_first}
+use Rattle.xa_switch.proofs.SettledOpenings.{follows_first}
 use Rattle.xa_atomicity.specs.{CutCall, Opening, AreInARow, EndsAs, became, ended_as, fate_through, last_of, tables_left, histories}
 use Rattle.xa_atomicity.proofs.Later.{ends_with}
 use Rattle.xa_days.specs.SettledDays.{voted, unasked}
@@ -216,8 +215,7 @@ found (d ∷ ds) zero e lt = ap (λ b. is_some (cond b (Some (pos d.1)) (find ke
 found (d ∷ ds) (suc k) e lt = search (arith, found ds k e (omega arith), same_key, is_some)
 
 pub opens_with : (accounts : List (List ℕ × ℕ)) → DeclareEach accounts (opening accounts)
-opens_with accounts k d lt =
-    ap is_some (get-from_entries key_cmp_total (map (λ e. (e.0, pos e.1)) accounts) (get_or accounts k d).0) ∙ found accounts k d lt
+opens_with accounts k d lt = ap is_some (get-from_entries key_cmp_total (map (λ e. (e.0, pos e.1)) accounts) (get_or accounts k d).0) ∙ found accounts k d lt
 
 pub first_law : (accounts : List (List ℕ × ℕ)) (m : ℕ) (o : Opening) (later : List Opening) (legs : List Leg) → are_accounts accounts ≡ true
     → AllSettled (o ∷ later) → AreInARow o later → first_of o.settled m ≡ Some (opening accounts)

@@ -6,16 +6,15 @@ use Rattle.xa_atomicity.proofs.Sites.{none_all, Site, request_of}
 use Rattle.xa_atomicity.proofs.Values.{taken}
 use Rattle.xa_atomicity.specs.{Tabled, IsCut, HasSentNone, is_commit_of, is_recorded, OnlyTheseOrDecisionsName, AskedAreLeft, VotedToCommit, CutCall, IsKept}
 use Rattle.xa_atomicity.specs.{IsUseIn, OnlyResolves, Opening, cuts, WasAsked, EndsByTheLog, IsResolvedAfter, known_of, EndsAs, ResolveCall, histories}
-use Rattle.std.proofs.lemmas.Bool.{both_ways, and_right}
-use Rattle.xa_base.proofs.{false_from_ne_true, not, list_any_none, ◌≡◌, ℕ, ◌≤◌, Bool, true, false, Some, List, [], ◌∷◌, length, get_or, slice_get, sym, refl}
-use Rattle.xa_base.proofs.{ap, subst, arith, ◌&&◌, All, Contains, All-cons, All-contains, all_after, and_parts, not-true, if◌then◌else◌, is_some, suc, Option}
-use Rattle.xa_base.proofs.{◌∙◌, All-head, All-tail, pos, zero, ◌++◌, same_Some as some_same}
+use Rattle.xa_base.proofs.{both_ways, and_right, false_from_ne_true, not, list_any_none, ◌≡◌, ℕ, ◌≤◌, Bool, true, false, Some, List, [], ◌∷◌, length, get_or}
+use Rattle.xa_base.proofs.{slice_get, sym, refl, ap, subst, arith, ◌&&◌, All, Contains, All-cons, All-contains, all_after, and_parts, not-true, if◌then◌else◌}
+use Rattle.xa_base.proofs.{is_some, suc, Option, ◌∙◌, All-head, All-tail, pos, zero, ◌++◌, same_Some as some_same}
 use Rattle.xa_base.specs.{MOST_MANAGERS, IsUpTo}
 use Rattle.xa_words.specs.{XidName, Decides-xid_eq, TranName, tran_of, Done, Op, Prepare, Commit, Forget, Request, Code, RdOnly}
 use Rattle.xa_tables.specs.{Tables, History, names, is_heur, tables_after, held_by}
 use Rattle.xa_desk.specs.{LedgerView, ledger, HasGrown, learnt_shut}
 use Rattle.xa_switch.specs.{IsOpenedWith, first_of, history as history_of, ledgers_of, IsSettled, Settling}
-use Rattle.xa_switch.proofs.Journaled.{follows_first}
+use Rattle.xa_switch.proofs.SettledOpenings.{follows_first}
 use Rattle.xa_log.specs.{LogState, record_of}
 use Rattle.xa_driver.specs.{Branch, Ending, is_commit, outcome_op, decision_of, IsTranOf, yes_of, is_no, is_yes, second_op, third_op, Logs}
 use Rattle.xa_atomicity.proofs.CutBranch.{HasSentOnly, asked_only, ended_voted_so, guide, open_so, told_voted_so, voted_only}
@@ -36,8 +35,7 @@ told_either : (commit : Bool) (x : XidName) → tells_outcome (outcome_op commit
 told_either true x = refl
 told_either false x = refl
 
-pub resolves_tell : (m : ℕ) (x : XidName) (o : Opening) → IsUpTo MOST_MANAGERS m → IsKept o → OnlyResolves (tran_of x) o
-    → OnlyTold x (history_of o.settled m)
+pub resolves_tell : (m : ℕ) (x : XidName) (o : Opening) → IsUpTo MOST_MANAGERS m → IsKept o → OnlyResolves (tran_of x) o → OnlyTold x (history_of o.settled m)
 resolves_tell m x o up kept only =
     let all = named_so o.settled kept.settled m up (λ op. names x op ≡ true → tells_outcome op ≡ true) (tran_of x) o.uses (λ n. cc) kept.uses (λ q there r among. record {
       ends = λ _ _ n. told_either r.commit r.xid;

@@ -4,7 +4,7 @@ use Rattle.xa_grammar.specs.declared.step.Action.TheVariants as action
 use Rattle.std.specs.FinMap as finmap
 use Rattle.xa_base.proofs.{◌≡◌, ℕ, ⊎_elim, zero, suc, ◌<◌, ◌≤◌, Bool, false, ◌==◌, List, [], ◌∷◌, ◌++◌, Option, Some, None, sym, refl, ap, ◌∙◌, subst, arith}
 use Rattle.xa_base.proofs.{append_assoc, append-nil, if◌then◌else◌, All, map, Contains, cases_lt, eqb-true, All-append, All-cons, All-contains, All-nil, by_if}
-use Rattle.xa_base.proofs.{◌⊎◌, inl, inr, length, length-append, snoc_parts, option_map, get_or, pos, ◌+ℤ◌, all_unmapped, some_same, All-map}
+use Rattle.xa_base.proofs.{◌⊎◌, inl, inr, length, length-append, snoc_parts, option_map, get_or, pos, ◌+ℤ◌, all_unmapped, some_same, All-map, All-permutation}
 use Rattle.xa_base.specs.{MOST_MANAGERS, Chain}
 use Rattle.xa_words.specs.{check_flags, TranName, XidName, Death, Op, OpenRm, Prepare, Forget, Listed, Code}
 use Rattle.xa_worker.specs.{Entry}
@@ -28,10 +28,9 @@ use Rattle.xa_telling.proofs.Mapped.{by_mapped}
 use Rattle.xa_telling.proofs.Branches.{asked_so, at_each, came_so, each_so, hears_by, obeys_by}
 use Rattle.xa_base.specs.Lists.Chain.{none as no_step, more as one_step}
 use Rattle.xa_shown.specs.{Place, IsSumOfShares}
-use Rattle.std.proofs.lemmas.List.Sorted.{All-permutation}
 use Rattle.xa_tables.specs.{Tables, History, Absent, added_over}
 use Rattle.xa_transcript.proofs.Worth.{first_is}
-use Rattle.xa_telling.proofs.Again.{begins_after}
+use Rattle.xa_telling.proofs.Told.{begins_after}
 
 -- ---- what a thread's lines add to its entries of a manager's journal, where all that they ask the manager is so
 
@@ -52,11 +51,7 @@ module _ (P : Op → Type 0) where
   adds_none old new e = ([], e ∙ sym (append-nil old), All-nil (λ (e : Entry). P e.0.op))
 
   pub adds_both : (old mid new : List Entry) → Adds old mid → Adds mid new → Adds old new
-  adds_both old mid new a b = (
-    a.0 ++ b.0,
-    b.1 ∙ ap (λ es. es ++ b.0) a.1 ∙ append_assoc old a.0 b.0,
-    All-append (λ (e : Entry). P e.0.op) a.0 b.0 a.2 b.2,
-  )
+  adds_both old mid new a b = ( a.0 ++ b.0, b.1 ∙ ap (λ es. es ++ b.0) a.1 ∙ append_assoc old a.0 b.0, All-append (λ (e : Entry). P e.0.op) a.0 b.0 a.2 b.2, )
 
   -- what is added at the branches, where nothing is without one
   adds_at : (bs : List Branch) (old new : Part) → new.entries 0 ≡ old.entries 0 → ((m : ℕ) → 1 ≤ m → has_branch_at bs m ≡ false → new.entries m ≡ old.entries m)

@@ -115,8 +115,7 @@ module _ (asking : Asking Part) (m : ℕ) (old : Part) (z : ScanView) (xids : Li
   by_leave false (Ok mode) r is = ap (λ (y : ScanView). y.left) is.scan
   by_leave true (Ok mode) r is = from_leave (start_of mode (place_at z m)) mode r is
 
-call_leaves : (settled : Settling) (t : ℕ) (q : ScriptCalled) (a : Answer) (old new : Part) → CallTakes settled t q a old new
-    → new.scan.left ≡ old.scan.left
+call_leaves : (settled : Settling) (t : ℕ) (q : ScriptCalled) (a : Answer) (old new : Part) → CallTakes settled t q a old new → new.scan.left ≡ old.scan.left
 call_leaves settled t q a old new (answered o c asks told is) = ap (λ (x : Part). x.scan.left) is
 call_leaves settled t q a old new (kept o c k asks low told free is) = ap (λ (x : Part). x.scan.left) is
 call_leaves settled t q a old new (refused c is told same) = ap (λ (x : Part). x.scan.left) same

@@ -5,15 +5,14 @@ use Rattle.xa_tables.specs.Histories as history
 use Rattle.xa_base.proofs.{if◌then◌else◌, ◌≡◌, ℕ, ◌⊎◌, ⊎_elim, inl, inr, zero, suc, ◌<◌, Bool, true, false, cond, List, [], ◌∷◌, ◌++◌, length, length-append}
 use Rattle.xa_base.proofs.{Option, Some, None, sym, refl, ap, ◌∙◌, subst, arith, slice_index_or, All, Contains, filter, all_mid, slice_get, option_map, ◌||◌}
 use Rattle.xa_base.proofs.{map, append_assoc, list_any, map-append, list_any-append, or-false, slice_get-map, begins_on, begins_same, next_there, ◌≤◌, get_or}
-use Rattle.xa_base.proofs.{append-nil, cons_option}
-use Rattle.std.proofs.lemmas.List.Elements.{All-filter}
+use Rattle.xa_base.proofs.{append-nil, cons_option, All-filter, Any-from_list_any, true_from_ne_false}
 use Rattle.xa_words.specs.{Code, RmFail, Op, Start, Prepare, Commit, Listed, Fresh, Request, XidName, Done}
 use Rattle.xa_tables.specs.{State, RollbackOnly, HeuristicallyCompleted, Failed, reason_in, decision_in, Answer, next, by_rules, coded, Tables, History}
 use Rattle.xa_tables.specs.{HeuristicDecision, state_of, Fate, decided_fate, fate, tables_after, is_heur, names}
-use Rattle.xa_tables.proofs.LateLaw.{next-shut}
+use Rattle.xa_tables.proofs.Law.{next-shut}
 use Rattle.xa_desk.specs.{is_rm_fail, numbered}
 use Rattle.xa_worker.specs.{Entry, codes_in}
-use Rattle.std.proofs.lemmas.List.Folds.{Any-from_list_any, list_any-from_Any}
+use Rattle.std.proofs.lemmas.List.Folds.{list_any-from_Any}
 use Rattle.xa_base.specs.{Begins}
 use Rattle.xa_switch.specs.{Settling, IsSettled, IsOpenedWith, answers, collected, history as history_of, journal, sent}
 use Rattle.xa_driver.specs.{Branch, Ending, AtBranch, VotesAndObeys}
@@ -26,7 +25,6 @@ use Rattle.xa_telling.specs.Commits.CarriesOut.{carried, withheld}
 use Rattle.xa_telling.proofs.Entries.{Fits, agreed_fits, is_rm_fail_so, pair_of}
 use Rattle.xa_telling.proofs.Branches.{obeys_mapped}
 use Rattle.xa_atomicity.proofs.Fated.{decided_in}
-use Rattle.std.proofs.lemmas.Bool.{true_from_ne_false}
 use Rattle.xa_atomicity.proofs.Guided.{IsGuided, at_last, decided_known, fates_from, voted_now, once}
 use Rattle.xa_atomicity.proofs.Leading.{Stands, over, unforgotten, waits}
 

@@ -133,12 +133,8 @@ module _ (law : Tabled) (opens : (s : Settling) (m : ℕ) → IsSettled s → (T
         (λ b v e h. rest_is e (h.1.0.unless_no h.0) (kept_so done.commit commit b v e (h.0, h.1.1))) bs done.votes.items done.endings.items
         (voted_with (λ v. is_no v ≡ false) FatedHere bs done.votes.items done.endings.items (none_all is_no done.votes.items (unopposed_so commit)) all);
     aborted = λ aborts. no_ending_is FatedHere is_committed (λ b v e h. out_so done.commit aborts b v e h.1) bs done.votes.items done.endings.items all;
-    votes = record {
-      each = search (arith, outcome_map);
-    };
-    fates = record {
-      each = search (arith, outcome_map);
-    };
+    votes = record { each = search (arith, outcome_map) };
+    fates = record { each = search (arith, outcome_map) };
   }
 
   all_count : each CountedHere → done.commit ≡ true → list_any is_in_doubt done.endings.items ≡ false
@@ -162,9 +158,7 @@ module _ (law : Tabled) (opens : (s : Settling) (m : ℕ) → IsSettled s → (T
 
   pub counts_by : each CountedHere → CountsAsShown s t bs old done
   counts_by all = record {
-    counts = record {
-      each = search (arith, outcome_map);
-    };
+    counts = record { each = search (arith, outcome_map) };
     whole = λ certain. elim (cases_Bool (done.commit)) [ inl commit ↦ all_count all commit certain | inr aborts ↦ none_counts all aborts ];
   }
 

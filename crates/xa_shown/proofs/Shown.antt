@@ -5,9 +5,9 @@ use Rattle.xa_driver.specs.{ending_of, second_op, third_op, yes_ending, Branch, 
 use Rattle.xa_driver.specs.{has_yes, AtBranch, EachBranch, decision_of}
 use Rattle.xa_base.proofs.{at_true, not-true, and_parts, eq-eqb, ◌≡◌, ℕ, pos, Bool, true, false, ◌||◌, not, List, [], ◌∷◌, ◌++◌, length, Option, Some, None}
 use Rattle.xa_base.proofs.{sym, refl, ap, ◌∙◌, subst, ⊎_elim, zero, suc, ◌<◌, arith, slice_index_or, get_or, slice_get, All, Contains, filter, list_any}
-use Rattle.xa_base.proofs.{list_any_none, Contains-append_left, All-contains, all_at, some_same}
-use Rattle.std.proofs.lemmas.Bool.{both_ways, true_from_ne_false}
-use Rattle.std.proofs.lemmas.List.Elements.{Contains-push, Contains-push_cases, Contains-get_or, All-filter, All-contains_itself}
+use Rattle.xa_base.proofs.{list_any_none, Contains-append_left, All-contains, all_at, some_same, both_ways, true_from_ne_false, Contains-push}
+use Rattle.xa_base.proofs.{Contains-push_cases, Contains-get_or, All-filter}
+use Rattle.std.proofs.lemmas.List.Elements.{All-contains_itself}
 use Rattle.xa_words.specs.CodeNumbers.{number_of}
 use Rattle.xa_words.specs.{Code, Done, RmErr, Inval, RmFail, Op, Prepare, Commit, TranName}
 use Rattle.xa_tables.specs.{is_done}

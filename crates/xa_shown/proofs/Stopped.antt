@@ -2,9 +2,7 @@
 use Rattle.xa_tables.specs.{is_heur, HeuristicDecision, Fate, decided_fate, fate, Tables}
 use Rattle.xa_base.proofs.{slice_get, All, ◌≡◌, ℕ, inl, inr, suc, ◌<◌, ◌≤◌, Bool, true, false, ◌||◌, if◌then◌else◌, List, [], ◌∷◌, ◌++◌, length, length-append}
 use Rattle.xa_base.proofs.{append_assoc, append-nil, Option, zero, Some, None, get_or, sym, refl, ap, ◌∙◌, subst, arith, list_any, or-true, cases_Bool}
-use Rattle.xa_base.proofs.{All-cons, All-nil, All-head, All-tail, begins_same, next_there, some_same}
-use Rattle.std.proofs.lemmas.Bool.{both_ways}
-use Rattle.std.proofs.lemmas.Option.{slice_get_past}
+use Rattle.xa_base.proofs.{All-cons, All-nil, All-head, All-tail, begins_same, next_there, some_same, both_ways, slice_get_past}
 use Rattle.xa_base.specs.{Begins}
 use Rattle.xa_words.specs.{TranName, Done, RmFail, Death, Op, Prepare, Code}
 use Rattle.xa_words.specs.declared.death.Death.TheVariants as death

@@ -1,6 +1,6 @@
+use Rattle.xa_base.proofs.{arith}
 use Rattle.xa_atomicity.proofs.Resolution.{counted_law, whole_law}
 use Rattle.xa_atomicity.proofs.resolved.resolved_transactions_count_where_committed.Goals as goal
 
 pub returns : goal.returns
-returns c =
-    record { counts = counted_law c.tables_keep_to_their_laws.ensures c.settled_journals_follow_the_tables.ensures.first; whole = whole_law c.tables_keep_to_their_laws.ensures c.settled_journals_follow_the_tables.ensures.first }
+returns c = search (arith, counted_law, whole_law, c.tables_keep_to_their_laws.ensures)

@@ -1,5 +1,5 @@
 use Rattle.xa_base.proofs.{map}
-use Rattle.xa_driver.proofs.Gathering.{same_itself}
+use Rattle.xa_driver.proofs.Requests.{same_itself}
 use Rattle.xa_driver.specs.{third_ask}
 use Rattle.xa_atomicity.proofs.Staged.{decided_is_cut, forgetting_cut, none_so_far, prepared_is_cut, undecided_is_cut}
 use Rattle.xa_atomicity.proofs.stages.stages_are_cuts.Goals as goal

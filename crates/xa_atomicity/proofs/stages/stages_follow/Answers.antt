@@ -1,4 +1,4 @@
-use Rattle.xa_driver.proofs.OneCall.{may_decide, may_forget, may_still, may_tell}
+use Rattle.xa_driver.proofs.Calls.{may_decide, may_forget, may_still, may_tell}
 use Rattle.xa_atomicity.proofs.stages.stages_follow.Goals as goal
 
 pub returns : goal.returns

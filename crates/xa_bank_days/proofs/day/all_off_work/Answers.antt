@@ -2,8 +2,7 @@ use Rattle.xa_base.proofs.{rules, ◌≡◌, ℕ, ◌+◌, Bool, List, [], ◌�
 use Rattle.xa_base.proofs.{map-append, into_iter_items, into_iter_len}
 use Rattle.xa_crew.specs.{WithScan, Attended}
 use Rattle.xa_bank.specs.{Teller, ReadsBack}
-use Rattle.xa_bank_days.proofs.Went.{one_back_more}
-use Rattle.xa_bank_days.proofs.Turned.{all_taken, one_fewer}
+use Rattle.xa_bank_days.proofs.Went.{one_back_more, all_taken, one_fewer}
 use Rattle.xa_bank_days.proofs.day.all_off_work.Goals as goal
 
 pub loop-attended-preserved : goal.loop-attended-preserved

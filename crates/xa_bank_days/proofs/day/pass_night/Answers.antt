@@ -1,6 +1,4 @@
-use Rattle.std.proofs.lemmas.Result.{IfOk-weaker}
-use Rattle.xa_base.proofs.{arith, Err, Ok, Result, ◌≡◌, Bool, true, false, if◌then◌else◌, sym, ap, ◌∙◌, subst, All}
-use Rattle.std.specs.Prelude.{IfErr}
+use Rattle.xa_base.proofs.{IfOk-weaker, arith, Err, Ok, Result, ◌≡◌, Bool, true, false, if◌then◌else◌, sym, ap, ◌∙◌, subst, All, IfErr}
 use Rattle.xa_switch.specs.{Again, MayReopen}
 use Rattle.xa_driver.specs.{Resolved}
 use Rattle.xa_bank_days.specs.{Unresolved, BadNumbers, TellerWantsMemory, next_numbers, Excuses, HasRoomToResolve, IsNight, IsUntouched}
@@ -25,10 +23,9 @@ pub returns-clause-passed : goal.returns-clause-passed
 returns-clause-passed g c =
     let n = c.in_ok-night.night in
     let s = c.args.settled in
-    let ts = c.args.tellers in
     let night : Again = next_numbers c.args.day.now 1 in
     let numbers = c.next_numbers-again.ensures.numbers in
-    let Known = All (λ t. g.L.DecisionRecords.knows t.log) ts.items in
+    let Known = All (λ t. g.L.DecisionRecords.knows t.log) c.args.tellers.items in
     record {
       tellers_ = c.in_ok-night.ensures.tellers;
       numbers = numbers ∙ sym (ap (λ (b : Bool). if b then c.args.day.now else night) c.if-wanting.false);
@@ -38,7 +35,7 @@ returns-clause-passed g c =
           (λ z is_night. (
             c.if-wanting.false,
             numbers,
-            subst (λ (q : Again). IsNight g.L.DecisionLog.state g.L.DecisionRecords.knows ts.items s q z.outcomes.items n.settled) numbers is_night,
+            subst (λ (q : Again). IsNight g.L.DecisionLog.state g.L.DecisionRecords.knows c.args.tellers.items s q z.outcomes.items n.settled) numbers is_night,
             same_stores c.reopened_openings_go_on_from_what_was_left.ensures s n.settled c.next_numbers-again.result c.settled_openings_are_whole.ensures is_night.resolves.of_setup c.settled_openings_are_whole-2.ensures,
           )) c.in_ok-night.ensures.night;
       left =

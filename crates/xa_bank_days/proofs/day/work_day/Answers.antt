@@ -1,6 +1,6 @@
 use Rattle.xa_base.proofs.{map, sym, ap, ◌∙◌, subst, arith, list_any}
 use Rattle.xa_bank_days.specs.{HasRoom}
-use Rattle.xa_bank_days.proofs.Moved.{any_mapped, begins_with, is_day, many_attended, mapped_twice, night_opens, same_stores}
+use Rattle.xa_bank_days.proofs.Moved.{any_mapped, begins_with, is_day, many_attended, mapped_twice, same_stores}
 use Rattle.xa_bank_days.proofs.day.work_day.Goals as goal
 
 pub returns-clause-worked : goal.returns-clause-worked
@@ -28,15 +28,13 @@ returns-clause-night g c =
     let goes_on = c.reopened_openings_go_on_from_what_was_left.ensures in
     let stores =
     same_stores goes_on c.args.settled run.settled c.args.again.now c.settled_openings_are_whole.ensures ran.run.of_setup c.settled_openings_are_whole-2.ensures in
-    search (arith, night_opens, run.settled, c.args.again.now)
+    search (arith, run.settled, c.args.again.now)
 
 pub all_off_work-evening-requires-clause-few : goal.all_off_work-evening-requires-clause-few
 all_off_work-evening-requires-clause-few g c =
     let many =
     many_attended _ c.args.settled c.args.again.now c.args.tellers.items c.in_ok-clients.field-0.clients.items c.in_ok-clients.field-0.settled c.in_ok-clients.ensures.ran in
-    let threads = c.requires.tellers in
-    let few = c.requires.few in
-    omega (arith, many, threads, few)
+    omega (arith, many, c.requires.tellers, c.requires.few)
 
 pub all_off_work-evening-requires-clause-room : goal.all_off_work-evening-requires-clause-room
 all_off_work-evening-requires-clause-room g c =

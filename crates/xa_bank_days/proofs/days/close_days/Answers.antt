@@ -1,10 +1,9 @@
 use Rattle.std.specs.Prelude.{IsTrue}
 use Rattle.xa_base.proofs.{◌≡◌, true, false, List, Vec, [], ◌∷◌, ◌++◌, append_assoc, sym, ap, ◌∙◌, subst, rules, arith, refl, Global, into_iter_items}
-use Rattle.xa_base.proofs.{into_iter_len}
-use Rattle.std.proofs.lemmas.Grind.{common_steps}
+use Rattle.xa_base.proofs.{into_iter_len, common_steps}
 use Rattle.xa_bank_days.specs.{Closed, Errands, early, whole, at_day, at_once, AreClosed}
 use Rattle.xa_bank_days.proofs.Moved.{closed_day, one_day_more}
-use Rattle.xa_bank_days.proofs.Turned.{all_taken, one_fewer}
+use Rattle.xa_bank_days.proofs.Went.{all_taken, one_fewer}
 use Rattle.xa_bank_days.proofs.days.close_days.Goals as goal
 
 pub loop-errands-preserved : goal.loop-errands-preserved

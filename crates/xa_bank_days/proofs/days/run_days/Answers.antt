@@ -1,4 +1,4 @@
-use Rattle.std.proofs.lemmas.Result.{IfOk-weaker}
+use Rattle.xa_base.proofs.{IfOk-weaker}
 use Rattle.xa_bank_days.proofs.Moved.{ended_closed, days_move}
 use Rattle.xa_bank_days.proofs.days.run_days.Goals as goal
 

@@ -1,9 +1,8 @@
 use Rattle.xa_base.proofs.{◌≡◌, ℕ, ◌+◌, List, [], ◌∷◌, ◌++◌, length, length-append, append_assoc, append-nil, sym, ap, ◌∙◌, subst, rules, arith, All, All-nil}
-use Rattle.xa_base.proofs.{All-cons, All-append, into_iter_items, into_iter_len, none_of}
-use Rattle.std.proofs.lemmas.Grind.{common_steps}
+use Rattle.xa_base.proofs.{All-cons, All-append, into_iter_items, into_iter_len, none_of, common_steps}
 use Rattle.xa_bank.specs.{Teller}
 use Rattle.xa_bank_days.specs.{Errands, habits_on}
-use Rattle.xa_bank_days.proofs.Turned.{all_taken, moved_map, one_fewer, pushed_map}
+use Rattle.xa_bank_days.proofs.Went.{all_taken, moved_map, one_fewer, pushed_map}
 use Rattle.xa_bank_days.proofs.errands.turn_all.Goals as goal
 
 one_less : (y e n : ℕ) (rest more : List Errands) (x : Errands) → y + length rest ≡ n → rest ≡ x ∷ more → e ≡ y + 1 → e + length more ≡ n

@@ -1,6 +1,6 @@
 use Rattle.xa_base.proofs.{sym, subst}
 use Rattle.xa_base.specs.{IsUpTo}
-use Rattle.xa_bank_days.proofs.Conserved.{conserved}
+use Rattle.xa_bank_days.proofs.Made.{conserved}
 use Rattle.xa_bank_days.proofs.law.applied_transfers_conserve_the_worth.Goals as goal
 
 pub returns : goal.returns

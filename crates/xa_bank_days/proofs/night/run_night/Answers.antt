@@ -1,6 +1,6 @@
-use Rattle.xa_base.proofs.{arith, rules, Err, Result, ◌≡◌, List, [], ◌∷◌, ◌++◌, subst, refl}
-use Rattle.std.specs.Prelude.{IfErr}
-use Rattle.xa_crew.specs.{AgainFault, Unsettled, WithScan, Ran, HasRunAgain, IfUnsettled, IsRunAgain}
+use Rattle.std.proofs.lemmas.Result.{IfErr-at_err}
+use Rattle.xa_base.proofs.{arith, rules, Err, ◌≡◌, List, [], ◌∷◌, ◌++◌, subst, refl}
+use Rattle.xa_crew.specs.{Unsettled, WithScan, Ran, HasRunAgain, IfUnsettled, IsRunAgain}
 use Rattle.xa_bank_days.specs.{Resolver, NoMemory, ResolvesBy}
 use Rattle.xa_bank_days.proofs.Nightly.{left_law, night_law, tellers_law, untouched_law}
 use Rattle.xa_bank_days.proofs.night.run_night.Goals as goal
@@ -27,11 +27,6 @@ returns-in-Some g c =
       unsettled = tt;
     }
 
--- what holds of a run that isn't settled
-of_unsettled : {A C : Type 0} (P : Ran (WithScan C) → Type 0) (r : Result A (AgainFault C)) (ran : Ran (WithScan C)) → r ≡ Err (Unsettled ran)
-    → IfErr r (IfUnsettled P) → P ran
-of_unsettled P r ran is h = subst (λ q. IfErr q (IfUnsettled P)) is h
-
 pub returns-in-Err-Unsettled-clause-unsettled : goal.returns-in-Err-Unsettled-clause-unsettled
 returns-in-Err-Unsettled-clause-unsettled g c =
     let r : Resolver g.row.L.Denot = record { alloc = c.args.alloc; tellers = c.args.tellers; resolved = Err NoMemory } in
@@ -39,4 +34,4 @@ returns-in-Err-Unsettled-clause-unsettled g c =
     HasRunAgain (ResolvesBy g.L.DecisionLog.state g.L.DecisionRecords.knows) c.args.settled c.args.again.now in
     let is : c.run_clients_again_in_turns.result ≡ Err (Unsettled c.in-Err-Unsettled.ran) = cc in
     let given : c.push_reserved.new.self.items ≡ r ∷ [] = search (arith, rules) in
-    (r, refl, subst (λ rs. P rs c.in-Err-Unsettled.ran) given (of_unsettled (P c.push_reserved.new.self.items) c.run_clients_again_in_turns.result c.in-Err-Unsettled.ran is c.run_clients_again_in_turns.ensures.unsettled))
+    (r, refl, subst (λ rs. P rs c.in-Err-Unsettled.ran) given (IfErr-at_err (IfUnsettled (P c.push_reserved.new.self.items)) is c.run_clients_again_in_turns.ensures.unsettled))

@@ -1,4 +1,4 @@
-use Rattle.xa_base.proofs.{◌≡◌, ℕ, ◌+◌, ◌-◌, Bool, if◌then◌else◌, List, [], ◌∷◌, Option, refl, ap, ◌∙◌, subst, arith}
+use Rattle.xa_base.proofs.{◌≡◌, ℕ, ◌+◌, ◌-◌, Bool, if◌then◌else◌, List, [], ◌∷◌, Option, refl, ap, ◌∙◌, subst, arith, Result, Ok, Err, OnErr}
 use Rattle.xa_words.specs.{TranName, tran_of, Death}
 use Rattle.xa_desk.specs.{DeskView, GoesOn, DeskSeat}
 use Rattle.xa_driver.specs.{Branch}
@@ -8,10 +8,13 @@ use Rattle.xa_work.specs.Units.IsRefused.{barred, unbegun, undone}
 use Rattle.xa_work.specs.Units.Transacts.{commits, refused}
 use Rattle.xa_bank.specs.{Habits, Transfer, death_if_at, shut_before, store_if_at, HasLegs, IsReadEither, Makes, MayShut, WantsMemory, changes_of, forgotten}
 use Rattle.xa_bank.specs.{leg_by, with_legs, without_legs}
-use Rattle.xa_bank.proofs.LostRecords.{if_both, if_so, lost_so}
-use Rattle.xa_bank.proofs.Results.{err_same}
+use Rattle.xa_bank.proofs.Named.{if_both, if_so, lost_so}
 use Rattle.xa_bank.proofs.teller.Teller.make.Goals as goal
 use Rattle.xa_bank.proofs.teller.Teller.make.Goals.{else-self, then-self}
+
+err_same : {A E : Type 0} (P : Type 0) (r : Result A E) → P → OnErr r P
+err_same P (Ok a) h = tt
+err_same P (Err e) h = h
 
 -- ---- where the log is known
 
@@ -73,16 +76,15 @@ returns-in_default-clause-makes g c = record {
 
 pub returns-in_err-outcome-clause-wants : goal.returns-in_err-outcome-clause-wants
 returns-in_err-outcome-clause-wants g c =
-    let habits = c.args.self.now.habits in
     let tr = c.args.transfer.now in
-    let number : ℕ = habits.first + c.args.place in
+    let number : ℕ = c.args.self.now.habits.first + c.args.place in
     let log : LogState = g.L.DecisionLog.state c.args.self.now.log in
     let legs =
     subst (λ t. HasLegs t number tr c.in-Some.legs.0.0 c.in-Some.legs.0.1 c.in-Some.legs.1.0 c.in-Some.legs.1.1) (own_thread c.thread.ensures.thread c.shut.ensures.goes_on) c.in-Some.ensures in
-    err_same (WantsMemory c.args.desk.now.thread number tr habits c.args.desk.now c.transact_until.new.desk log) c.from_residual.result
+    err_same (WantsMemory c.args.desk.now.thread number tr c.args.self.now.habits c.args.desk.now c.transact_until.new.desk log) c.from_residual.result
     (record {
       shut = c.shut.new.desk;
-      shuts = shuts_at habits c.args.place c.args.desk.now c.shut.new.desk c.shut.ensures.shuts;
+      shuts = shuts_at c.args.self.now.habits c.args.place c.args.desk.now c.shut.new.desk c.shut.ensures.shuts;
       one = leg_by c.in-Some.legs.0.0 c.in-Some.legs.0.1;
       two = leg_by c.in-Some.legs.1.0 c.in-Some.legs.1.1;
       legs = legs.legs;

@@ -1,28 +1,43 @@
 use Rattle.xa_base.proofs.{rules, ◌≡◌, ℕ, ◌+◌, ◌<◌, ◌≤◌, true, false, ◌||◌, List, [], ◌∷◌, ◌++◌, length, length-append, append-nil, None, take, drop}
 use Rattle.xa_base.proofs.{append_assoc, sym, refl, ap, ◌∙◌, subst, arith, list_any, slice_index_or, take_all, take-append-drop, list_any-append, one_more}
-use Rattle.std.proofs.Common.{length-take}
+use Rattle.xa_base.proofs.{length-take}
 use Rattle.xa_desk.specs.{DeskView, DeskSeat}
 use Rattle.xa_log.specs.{IsReadAs, LogState}
 use Rattle.xa_work.specs.{WorkOutcome, Undecided, IsOpenRm, LeavesKnown, has_died, is_last}
 use Rattle.xa_work.proofs.Sent.{have_none}
 use Rattle.xa_bank.specs.{Habits, Teller, Transfer, ended, lived, unknown, Makes, MakesEach, MakesNext}
-use Rattle.xa_bank.proofs.Named.{makes_more, makes_none}
-use Rattle.xa_bank.proofs.LostRecords.{each_any, refused_so}
+use Rattle.xa_bank.proofs.Named.{makes_more, makes_none, each_any, refused_so}
 use Rattle.xa_bank.proofs.teller.Teller.make_all.Goals as goal
 
--- a transfer more, where others may follow that aren't made
-one_made : (R : LogState → Type 0) (t place : ℕ) (habits : Habits) (trs : List Transfer) (tr : Transfer) (unmade : List Transfer) (more : List WorkOutcome) (o : WorkOutcome) (u : ℕ) (old mid new : DeskView) (log now later : LogState)
-    → place < length trs → length more ≡ place → u ≡ t
-    → MakesEach t habits habits.first (take place trs) more old mid log now R → MakesNext u (habits.first + place) tr habits o mid new now later R
-    → MakesEach t habits habits.first (take place trs ++ tr ∷ unmade) (more ++ o ∷ []) old new log later R
-one_made R t place habits trs tr unmade more o u old mid new log now later below many same makes made = search (arith, length-take, makes_more, habits.first)
+-- a transfer more
+module _ {L : Type 0} (state : L → LogState) (reads : L → LogState → Type 0) (was now later : L) (t u place : ℕ) (habits own : Habits) (trs : List Transfer)
+    (tr : Transfer) (more : List WorkOutcome) (o : WorkOutcome) (old mid new : DeskView)
+    (below : place < length trs) (many : length more ≡ place) (none : list_any is_last more ≡ false) (thread : u ≡ t) (same : own ≡ habits) (taken : take (place + 1) trs ≡ take place trs ++ tr ∷ [])
+    (makes : MakesEach t habits habits.first (take place trs) more old mid (state was) (state now) (reads now))
+    (next : MakesNext u (own.first + place) tr own o mid new (state now) (state later) (reads later)) where
+  abbrev Made : List Transfer → Type 0
+  Made l = MakesEach t habits habits.first l (more ++ o ∷ []) old new (state was) (state later) (reads later)
 
-still_none : (more : List WorkOutcome) (o : WorkOutcome) → list_any is_last more ≡ false → is_last o ≡ false
-    → list_any is_last (more ++ o ∷ []) ≡ false
+  -- where others may follow that aren't made
+  made_with : (unmade : List Transfer) → Made (take place trs ++ tr ∷ unmade)
+  made_with unmade =
+      let makes_next : MakesNext t (habits.first + place) tr habits o mid new (state now) (state later) (reads later) =
+      subst (λ (z : ℕ × Habits). MakesNext z.0 (z.1.first + place) tr z.1 o mid new (state now) (state later) (reads later)) (λ i. (thread i, same i)) next in
+      let so_far = each_any (reads now) (reads later) t habits habits.first (take place trs) more old mid (state was) (state now) none makes in
+      search (arith, length-take, makes_more, habits.first)
+
+  each_more : Made (take (place + 1) trs)
+  each_more = subst Made (sym taken) (made_with [])
+
+  all_more : Made trs
+  all_more =
+      let rest : List Transfer = drop (place + 1) trs in
+      subst Made (sym (append_assoc (take place trs) (tr ∷ []) rest) ∙ ap (λ l. l ++ rest) (sym taken) ∙ take-append-drop (place + 1) trs) (made_with rest)
+
+still_none : (more : List WorkOutcome) (o : WorkOutcome) → list_any is_last more ≡ false → is_last o ≡ false → list_any is_last (more ++ o ∷ []) ≡ false
 still_none more o none lives = list_any-append is_last more (o ∷ []) ∙ (λ i. none i || (lives i || false))
 
-grown : (xs more : List WorkOutcome) (o : WorkOutcome) (ys zs : List WorkOutcome) → ys ≡ zs ++ o ∷ [] → zs ≡ xs ++ more
-    → ys ≡ xs ++ (more ++ o ∷ [])
+grown : (xs more : List WorkOutcome) (o : WorkOutcome) (ys zs : List WorkOutcome) → ys ≡ zs ++ o ∷ [] → zs ≡ xs ++ more → ys ≡ xs ++ (more ++ o ∷ [])
 grown xs more o ys zs is told = is ∙ ap (λ l. l ++ o ∷ []) told ∙ append_assoc xs more (o ∷ [])
 
 -- after an outcome that isn't the last the log is known
@@ -63,25 +78,12 @@ loop-place-init g c = record {
 pub loop-place-preserved : goal.loop-place-preserved
 loop-place-preserved g c =
     let (more, told, many, none, makes) = c.loop-place.invariant.made in
-    let trs : List Transfer = c.args.self.now.transfers.items in
-    let place : ℕ = c.loop-place.place in
-    let tr : Transfer = c.index.result.now in
-    let below : place < length trs = (let size = c.len-place-end.ensures in let test = c.loop-place-test.true in omega (arith, size, test)) in
     let o : WorkOutcome = c.in_ok-outcome.outcome in
-    let first : DeskView = c.open_all.new.desk in
-    let t : ℕ = c.args.desk.now.thread in
-    let habits : Habits = c.args.self.now.habits in
-    let log : LogState = g.L.DecisionLog.state c.args.self.now.log in
-    let later : LogState = g.L.DecisionLog.state c.make.new.self.log in
-    let reads : LogState → Type 0 = IsReadAs g.L.DecisionLog.state g.L.DecisionRecords.knows g.L.DecisionLog.loses c.make.new.self.log in
-    let same : c.loop-place.desk.thread ≡ t = ap (λ (s : DeskSeat). s.thread) c.loop-place.invariant.goes_on.seat in
+    let trs : List Transfer = c.args.self.now.transfers.items in
+    let below : c.loop-place.place < length trs = (let size = c.len-place-end.ensures in let test = c.loop-place-test.true in omega (arith, size, test)) in
+    let taken : take (c.loop-place.place + 1) trs ≡ take c.loop-place.place trs ++ c.index.result.now ∷ [] =
+    search (arith, one_more, slice_index_or, c.loop-place.invariant.transfers) in
     let same_outcomes = ap (λ (u : Teller g.row.L.Denot). u.outcomes.items) c.make.ensures.same in
-    let makes_next : MakesNext c.loop-place.desk.thread (habits.first + place) tr habits o c.loop-place.desk c.make.new.desk (g.L.DecisionLog.state c.loop-place.self.log) later reads =
-    subst (λ (h : Habits). MakesNext c.loop-place.desk.thread (h.first + place) tr h o c.loop-place.desk c.make.new.desk (g.L.DecisionLog.state c.loop-place.self.log) later reads)
-    c.loop-place.invariant.habits c.in_ok-outcome.ensures.makes in
-    let all =
-    one_made reads t place habits trs tr [] more o c.loop-place.desk.thread first c.loop-place.desk c.make.new.desk log (g.L.DecisionLog.state c.loop-place.self.log) later below many same (each_any (IsReadAs g.L.DecisionLog.state g.L.DecisionRecords.knows g.L.DecisionLog.loses c.loop-place.self.log) reads t habits habits.first (take place trs) more first c.loop-place.desk log (g.L.DecisionLog.state c.loop-place.self.log) none makes) makes_next in
-    let taken : take (place + 1) trs ≡ take place trs ++ tr ∷ [] = search (arith, one_more, slice_index_or, c.loop-place.invariant.transfers) in
     let size : length (more ++ o ∷ []) ≡ length more + 1 = length-append more (o ∷ []) in
     let lives : is_last o ≡ false = sym c.is_last-last.ensures ∙ c.if-last.false in
     record {
@@ -97,45 +99,31 @@ loop-place-preserved g c =
         grown c.args.self.now.outcomes.items more o c.push.new.self.items c.make.new.self.outcomes.items c.in_ok-push.ensures.items (same_outcomes ∙ told),
         omega (arith, size, many),
         still_none more o none lives,
-        subst (λ (l : List Transfer). MakesEach t habits habits.first l (more ++ o ∷ []) first c.make.new.desk log later reads) (sym taken) all,
+        each_more g.L.DecisionLog.state (IsReadAs g.L.DecisionLog.state g.L.DecisionRecords.knows g.L.DecisionLog.loses) c.args.self.now.log c.loop-place.self.log c.make.new.self.log c.args.desk.now.thread c.loop-place.desk.thread c.loop-place.place c.args.self.now.habits c.loop-place.self.habits trs c.index.result.now more o c.open_all.new.desk c.loop-place.desk c.make.new.desk
+            below many none (ap (λ (s : DeskSeat). s.thread) c.loop-place.invariant.goes_on.seat) c.loop-place.invariant.habits taken makes c.in_ok-outcome.ensures.makes,
       );
     }
 
 pub returns-then-last-clause-made : goal.returns-then-last-clause-made
 returns-then-last-clause-made g c =
     let (more, told, many, none, makes) = c.loop-place.invariant.made in
-    let trs : List Transfer = c.args.self.now.transfers.items in
-    let place : ℕ = c.loop-place.place in
-    let tr : Transfer = c.index.result.now in
-    let below : place < length trs = (let size = c.len-place-end.ensures in let test = c.loop-place-test.true in omega (arith, size, test)) in
     let o : WorkOutcome = c.in_ok-outcome.outcome in
-    let first : DeskView = c.open_all.new.desk in
-    let t : ℕ = c.args.desk.now.thread in
-    let habits : Habits = c.args.self.now.habits in
-    let log : LogState = g.L.DecisionLog.state c.args.self.now.log in
-    let later : LogState = g.L.DecisionLog.state c.make.new.self.log in
-    let reads : LogState → Type 0 = IsReadAs g.L.DecisionLog.state g.L.DecisionRecords.knows g.L.DecisionLog.loses c.make.new.self.log in
-    let rest : List Transfer = drop (place + 1) trs in
-    let same : c.loop-place.desk.thread ≡ t = ap (λ (s : DeskSeat). s.thread) c.loop-place.invariant.goes_on.seat in
+    let trs : List Transfer = c.args.self.now.transfers.items in
+    let below : c.loop-place.place < length trs = (let size = c.len-place-end.ensures in let test = c.loop-place-test.true in omega (arith, size, test)) in
+    let taken : take (c.loop-place.place + 1) trs ≡ take c.loop-place.place trs ++ c.index.result.now ∷ [] =
+    search (arith, one_more, slice_index_or, c.loop-place.invariant.transfers) in
     let same_outcomes = ap (λ (u : Teller g.row.L.Denot). u.outcomes.items) c.make.ensures.same in
-    let makes_next : MakesNext c.loop-place.desk.thread (habits.first + place) tr habits o c.loop-place.desk c.make.new.desk (g.L.DecisionLog.state c.loop-place.self.log) later reads =
-    subst (λ (h : Habits). MakesNext c.loop-place.desk.thread (h.first + place) tr h o c.loop-place.desk c.make.new.desk (g.L.DecisionLog.state c.loop-place.self.log) later reads)
-    c.loop-place.invariant.habits c.in_ok-outcome.ensures.makes in
-    let all =
-    one_made reads t place habits trs tr rest more o c.loop-place.desk.thread first c.loop-place.desk c.make.new.desk log (g.L.DecisionLog.state c.loop-place.self.log) later below many same (each_any (IsReadAs g.L.DecisionLog.state g.L.DecisionRecords.knows g.L.DecisionLog.loses c.loop-place.self.log) reads t habits habits.first (take place trs) more first c.loop-place.desk log (g.L.DecisionLog.state c.loop-place.self.log) none makes) makes_next in
-    let taken : take (place + 1) trs ≡ take place trs ++ tr ∷ [] = search (arith, one_more, slice_index_or, c.loop-place.invariant.transfers) in
-    let parts : take place trs ++ tr ∷ rest ≡ trs =
-    sym (append_assoc (take place trs) (tr ∷ []) rest) ∙ ap (λ l. l ++ rest) (sym taken) ∙ take-append-drop (place + 1) trs in
-    let whole : more ++ o ∷ [] ≡ more ++ o ∷ [] = refl in
     record {
       more = more ++ o ∷ [];
       told = grown c.args.self.now.outcomes.items more o c.push.new.self.items c.make.new.self.outcomes.items c.in_ok-push.ensures.items (same_outcomes ∙ told);
       makes = record {
-        opened = first;
+        opened = c.open_all.new.desk;
         opens = c.open_all.ensures.sent;
-        makes = subst (λ (l : List Transfer). MakesEach t habits habits.first l (more ++ o ∷ []) first c.make.new.desk log later reads) parts all;
+        makes =
+            all_more g.L.DecisionLog.state (IsReadAs g.L.DecisionLog.state g.L.DecisionRecords.knows g.L.DecisionLog.loses) c.args.self.now.log c.loop-place.self.log c.make.new.self.log c.args.desk.now.thread c.loop-place.desk.thread c.loop-place.place c.args.self.now.habits c.loop-place.self.habits trs c.index.result.now more o c.open_all.new.desk c.loop-place.desk
+            c.make.new.desk below many none (ap (λ (s : DeskSeat). s.thread) c.loop-place.invariant.goes_on.seat) c.loop-place.invariant.habits taken makes c.in_ok-outcome.ensures.makes;
       };
-      comes = ended more o whole none (sym c.is_last-last.ensures ∙ c.if-last.true) c.in_ok-outcome.ensures.known;
+      comes = ended more o refl none (sym c.is_last-last.ensures ∙ c.if-last.true) c.in_ok-outcome.ensures.known;
     }
 
 -- a teller that isn't to die doesn't

@@ -1,5 +1,4 @@
-use Rattle.std.proofs.lemmas.Result.{IfOk-weaker, IfErr-weaker}
-use Rattle.xa_base.proofs.{◌≡◌, ℕ, ap, refl, sym, subst, arith, List, length, ◌∙◌}
+use Rattle.xa_base.proofs.{IfOk-weaker, IfErr-weaker, ◌≡◌, ℕ, ap, refl, sym, subst, arith, List, length, ◌∙◌}
 use Rattle.xa_switch.specs.{Again}
 use Rattle.xa_bank_days.specs.{Bank, Closed, Errands, next_numbers, HasPassed, IsNight, IsUnsettledNight}
 use Rattle.xa_bank_days.proofs.Moved.{is_day_of, same_length, worked_day}
@@ -12,8 +11,9 @@ pub work_day-requires-clause-room : goal.work_day-requires-clause-room
 work_day-requires-clause-room g c κs within = search (arith, same_length)
 
 -- the numbers of the day
-pub numbers_are : {many threads : ℕ} (first day : Again) → threads ≡ many → day ≡ next_numbers first threads → day ≡ next_numbers first many
-numbers_are first day e of_day = of_day ∙ ap (next_numbers first) e
+pub numbers_are : {threads : ℕ} {l es : List Errands} (first day : Again) → threads ≡ length l → l ≡ es → day ≡ next_numbers first threads
+    → day ≡ next_numbers first (length es)
+numbers_are first day e same of_day = of_day ∙ ap (next_numbers first) (e ∙ ap (λ (l : List Errands). length l) same)
 
 pub returns-in-Ok-pass_night : goal.returns-in-Ok-pass_night
 returns-in-Ok-pass_night g c =
@@ -21,8 +21,8 @@ returns-in-Ok-pass_night g c =
     let n = c.in-Ok-pass_night.night in
     let closed : Closed = record { outcomes = day.evening.outcomes; found = day.evening.found; resolved = n.resolved } in
     let after : Bank g.row.L.Denot = record { tellers = n.tellers; settled = n.settled; again = c.in-Ok-pass_night.again; next = c.in-Some.next } in
-    let many = c.in-Some.ensures.threads ∙ ap (λ (l : List Errands). length l) c.deref.ensures.value in
-    let numbers = numbers_are c.args.self.again c.next_numbers-again.result many c.next_numbers-again.ensures.numbers in
+    let numbers =
+    numbers_are c.args.self.again c.next_numbers-again.result c.in-Some.ensures.threads c.deref.ensures.value c.next_numbers-again.ensures.numbers in
     let at =
     subst (λ (q : Again). HasPassed g.L.DecisionLog.state g.L.DecisionRecords.knows day.settled q (next_numbers q 1) day.evening.tellers day.wanting c.in-Ok-pass_night.again n) numbers c.in-Ok-pass_night.ensures.passed in
     let worked =
@@ -47,8 +47,9 @@ returns-in-Ok-pass_night g c =
 pub returns-in-Err-pass_night-clause-stopped : goal.returns-in-Err-pass_night-clause-stopped
 returns-in-Err-pass_night-clause-stopped g c =
     let day = c.in-Ok-work_day.day in
-    let many = c.in-Some.ensures.threads ∙ ap (λ (l : List Errands). length l) c.deref.ensures.value in
-    let numbers = numbers_are c.args.self.again c.next_numbers-again.result many c.next_numbers-again.ensures.numbers in (
+    let numbers =
+    numbers_are c.args.self.again c.next_numbers-again.result c.in-Some.ensures.threads c.deref.ensures.value c.next_numbers-again.ensures.numbers in
+    (
       is_day_of g.L.DecisionLog.state g.L.DecisionRecords.knows g.L.DecisionLog.loses g.L.ReopenLog.reopens c.args.self _ c.args.errands.items _ c.turn_all-tellers.result.items day c.deref.ensures.value
           c.turn_all-tellers.ensures c.in-Some.ensures.few c.in-Ok-work_day.ensures.worked refl refl,
       subst (λ (q : Again). IsUnsettledNight g.L.DecisionLog.state g.L.DecisionRecords.knows day.evening.tellers day.settled (next_numbers q 1) c.in-Err-pass_night.ran) numbers c.in-Err-pass_night.ensures.unsettled,
