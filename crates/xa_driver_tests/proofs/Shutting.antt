@@ -1,7 +1,6 @@
 -- A desk that has sent only such requests, as Shuts, and sends one more.
 use Rattle.xa_base.proofs.{◌≡◌, ℕ, zero, suc, ◌-◌, Result, Ok, Err, IfOk, List, [], ◌∷◌, sym, ap, subst, arith, slice_index_or, slice_set, All, All-nil}
-use Rattle.xa_base.proofs.{All-push}
-use Rattle.std.proofs.Common.{OnErr}
+use Rattle.xa_base.proofs.{All-push, OnErr}
 use Rattle.xa_words.specs.{Code, Op, Shut}
 use Rattle.xa_desk.specs.{Refused, Operation, with_sent, with_collected, ledger, no_ledger, put_ledger, after_sent, after_collected, next_operation, submitted}
 use Rattle.xa_desk.specs.{after_fulls, Collects, LedgerView, DeskView}

@@ -1,6 +1,5 @@
 -- Records that are put, one after another.
-use Rattle.xa_base.proofs.{◌≡◌, List, [], ◌∷◌, ◌++◌, refl}
-use Rattle.std.specs.FinMap.{insert}
+use Rattle.xa_base.proofs.{◌≡◌, List, [], ◌∷◌, ◌++◌, refl, insert}
 use Rattle.xa_log.specs.{LogState, Records, with_record, with_records, CommitRecord}
 use Rattle.xa_log_worker_tests.specs.{put_records}
 

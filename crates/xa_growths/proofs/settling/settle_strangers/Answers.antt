@@ -2,7 +2,7 @@ use Rattle.std.proofs.Common.{◌≡◌, ◌≢◌, ℕ, List, ◌++◌, sym, �
 use Rattle.std.specs.List.{All}
 use Rattle.std.proofs.lemmas.List.Sorted.{IsPermutation-refl, IsPermutation-append_comm}
 use Rattle.xa_switch.specs.{desk_seats, worker_seats, openings_of}
-use Rattle.xa_switch.proofs.Mixing.{mixed_come, some_come}
+use Rattle.xa_switch.proofs.Dealing.{mixed_come, some_come}
 use Rattle.xa_growths.proofs.settling.settle_strangers.Goals as goal
 
 -- all numbers of the one are m, and all of the other n

@@ -4,7 +4,7 @@ use Rattle.std.specs.List.Sorted.{IsPermutation}
 use Rattle.std.proofs.lemmas.List.Sorted.{IsPermutation-refl}
 use Rattle.xa_worker.specs.{Served}
 use Rattle.xa_switch.specs.{ComeFromOpenings, desk_seats, worker_seats}
-use Rattle.xa_switch.proofs.Mixing.{some_come}
+use Rattle.xa_switch.proofs.Dealing.{some_come}
 use Rattle.xa_growths.proofs.settling.settle_without_workers.Goals as goal
 
 -- all desks, and no worker

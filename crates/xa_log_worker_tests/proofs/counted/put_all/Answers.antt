@@ -1,5 +1,4 @@
-use Rattle.xa_base.proofs.{◌≡◌, ◌+◌, ◌++◌, ◌∷◌, [], take, ap, sym, ◌∙◌, take_more}
-use Rattle.std.specs.FinMap.{insert}
+use Rattle.xa_base.proofs.{◌≡◌, ◌+◌, ◌++◌, ◌∷◌, [], take, ap, sym, ◌∙◌, take_more, insert}
 use Rattle.xa_log_worker.specs.{records_of}
 use Rattle.xa_log_worker_tests.specs.{put_records}
 use Rattle.xa_log_worker_tests.proofs.Puts.{put_one_more}

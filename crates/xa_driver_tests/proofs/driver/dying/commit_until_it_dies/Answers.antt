@@ -1,5 +1,4 @@
-use Rattle.xa_base.proofs.{List}
-use Rattle.std.proofs.lemmas.Result.{IfOk-weaker}
+use Rattle.xa_base.proofs.{List, IfOk-weaker}
 use Rattle.xa_words.specs.{TranName}
 use Rattle.xa_desk.specs.{LedgerView, DeskView, ledger}
 use Rattle.xa_driver.specs.{Branch, Done, Dies, PutsLedger, AsksLedger, IsTranOf}

@@ -1,6 +1,4 @@
-use Rattle.xa_base.proofs.{map, sym, subst}
-use Rattle.std.specs.List.Sorted.{IsPermutation}
-use Rattle.std.proofs.lemmas.List.Sorted.{IsPermutation-refl}
+use Rattle.xa_base.proofs.{map, sym, subst, IsPermutation, IsPermutation-refl}
 use Rattle.xa_switch.specs.{IsOf, seat_of_desk, seat_of_worker}
 use Rattle.xa_driver_tests.proofs.driver.openings.settle_all.Goals as goal
 

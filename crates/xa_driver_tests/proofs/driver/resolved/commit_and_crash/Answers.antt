@@ -1,7 +1,7 @@
 use Rattle.xa_base.proofs.{◌≡◌, ℕ, List, [], ◌∷◌, map, sym, ap, subst, ◌∙◌, All}
 use Rattle.xa_words.specs.{Shut}
 use Rattle.xa_desk.specs.{LedgerView, DeskView, ledger}
-use Rattle.xa_desk.proofs.Growth.{same_lists}
+use Rattle.xa_desk.proofs.Ledgers.{same_lists}
 use Rattle.xa_switch.specs.{thread_part, DeskSeat, Settling}
 use Rattle.xa_driver_tests.proofs.Senders.{grown_of_first, own_of_two}
 use Rattle.xa_driver_tests.proofs.Shutting.{none_shut}

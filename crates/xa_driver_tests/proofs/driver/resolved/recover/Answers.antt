@@ -1,6 +1,6 @@
 use Rattle.xa_base.proofs.{◌≡◌, List, [], ◌∷◌, map, refl, sym, ap, subst, ◌∙◌}
 use Rattle.xa_desk.specs.{DeskView, ledger}
-use Rattle.xa_desk.proofs.Growth.{same_lists}
+use Rattle.xa_desk.proofs.Ledgers.{same_lists}
 use Rattle.xa_switch.specs.{reopening, thread_part, DeskSeat, WorkerSeat, ComeFromOpenings, desk_seats, seat_of_desk, Settling}
 use Rattle.xa_driver_tests.proofs.Senders.{grown_of_first, nothing_sent, only_of_one}
 use Rattle.xa_driver_tests.proofs.driver.resolved.recover.Goals as goal
