@@ -5,8 +5,8 @@
 use Rattle.std.specs.FinMap as map
 use Rattle.xa_words.specs.declared.death.Death.TheVariants as death
 use Rattle.xa_base.proofs.{◌≡◌, ℕ, ◌-◌, ◌<◌, ◌≤◌, ⊎_elim, List, [], ◌∷◌, length, get_or, take, sym, refl, subst, arith, Option, All, cases_lt, All-head}
-use Rattle.xa_base.proofs.{All-tail, rules, is_some, ◌≢◌, zero, Bool, true, false, cond, None, Some, ◌++◌, append_assoc, ap, ◌∙◌, inl, inr, Contains, eq_by_cmp}
-use Rattle.xa_base.proofs.{is_eq, tied_itself, get-insert, or-true, and_parts, Contains-append_right, is_equal, get_or-take}
+use Rattle.xa_base.proofs.{All-tail, rules, is_some, ◌≢◌, zero, Bool, true, false, cond, None, Some, ◌++◌, append_assoc, ap, ◌∙◌, Contains, eq_by_cmp, is_eq}
+use Rattle.xa_base.proofs.{tied_itself, get-insert, or-true, and_parts, Contains-append_right, is_equal, get_or-take}
 use Rattle.std.proofs.lemmas.List.{length-take}
 use Rattle.std.proofs.lemmas.List.Sums.{sum_by-take-le}
 use Rattle.xa_base.specs.{MOST_MANAGERS, IsUpTo}
@@ -14,7 +14,7 @@ use Rattle.xa_words.specs.{Code, TranName, XidName, tran_of, RdOnly, Death, Op, 
 use Rattle.xa_desk.specs.{LedgerView, DeskView, ledger, no_ledger, HasGrown, HaveGrown, learnt_shut, with_collected, with_sent}
 use Rattle.xa_desk.proofs.Ledgers.{past_end}
 use Rattle.xa_driver.specs.{Branch, Ending, ending_of, EachBranch, HaveRoom, MayCommit, decision_of, Done as Made, AtBranch, CameTo, HaveAsked, HaveTold}
-use Rattle.xa_driver.specs.{IsDecidedBy, PutsLedger, decides_commit, has_yes, yes_of, AsksLedger, IsTranOf, Logs, appended, failed, unwanted}
+use Rattle.xa_driver.specs.{IsDecidedBy, PutsLedger, decides_commit, has_yes, yes_of, AsksLedger, IsTranOf, Logs}
 use Rattle.xa_log.specs.{LogState, IsEither, record_of, with_record, tran_cmp}
 use Rattle.xa_atomicity.specs.{CameSoFar, EachVote, IsAsked, IsCut, IsEnded, IsTold, asking, forgetting, telling, is_recorded}
 use Rattle.xa_words.proofs.Xids.{xid_self}
@@ -127,9 +127,7 @@ recorded log t managers =
 -- it is there exactly where the log took it
 logged_is : (t : TranName) (managers : List Bool) (votes : List Code) (logged : Bool) (log later : LogState) → record_of log t ≡ None
     → Logs t managers votes logged log later → is_recorded later t ≡ logged
-logged_is t managers votes logged log later absent (appended wants on is) = ap (λ (l : LogState). is_recorded l t) is ∙ recorded log t managers ∙ sym on
-logged_is t managers votes logged log later absent (failed wants off is) = ap (λ (l : LogState). is_recorded l t) is ∙ ap is_some absent ∙ sym off
-logged_is t managers votes logged log later absent (unwanted wants off is) = ap (λ (l : LogState). is_recorded l t) is ∙ ap is_some absent ∙ sym off
+logged_is t managers votes logged log later absent h = search (arith, recorded, is_some)
 
 -- those of other transactions stay
 unadded : (own t : TranName) (managers : List Bool) (log : LogState) → t ≢ own → record_of (with_record log own managers) t ≡ record_of log t
@@ -143,15 +141,12 @@ unadded own t managers log other =
 others_stay : (own t : TranName) (managers : List Bool) (votes : List Code) (logged : Bool) (log later : LogState) → t ≢ own
     → Logs own managers votes logged log later
     → record_of later t ≡ record_of log t
-others_stay own t managers votes logged log later other (appended wants on is) = search (arith, unadded)
-others_stay own t managers votes logged log later other (failed wants off is) = ap (λ (l : LogState). record_of l t) is
-others_stay own t managers votes logged log later other (unwanted wants off is) = ap (λ (l : LogState). record_of l t) is
+others_stay own t managers votes logged log later other h = search (arith, unadded)
 
 -- so they do where nobody knew whether this one was made
 either_others : (own t : TranName) (managers : List Bool) (log later : LogState) → t ≢ own → IsEither log later own managers
     → record_of later t ≡ record_of log t
-either_others own t managers log later other (inl same) = ap (λ (l : LogState). record_of l t) same
-either_others own t managers log later other (inr added) = ap (λ (l : LogState). record_of l t) added ∙ unadded own t managers log other
+either_others own t managers log later other h = search (arith, unadded)
 
 -- ---- the first vote
 
@@ -203,8 +198,7 @@ module _ (old new : List LedgerView) (b : Branch) (bs : List Branch) where
 
 -- where it isn't read only, and no vote is against, there is one to commit
 some_yes : (v : Code) (vs : List Code) → (v ≡ RdOnly → ⊥) → decides_commit (v ∷ vs) ≡ true → has_yes (v ∷ vs) ≡ true
-some_yes RdOnly vs reads decides = absurd (reads refl)
-some_yes v vs reads decides = search arith
+some_yes v vs reads decides = search (arith, reads)
 
 some_decided : (b : Branch) (vs : List Code) (a a' : LedgerView) → FirstVoted b vs a a' → (OnlyReads b a a' → ⊥) → decides_commit vs ≡ true → has_yes vs ≡ true
 some_decided b vs a a' z never decides =
@@ -216,9 +210,7 @@ some_decided b vs a a' z never decides =
 decided_so : (t : TranName) (managers : List Bool) (votes : List Code) (logged : Bool) (log later : LogState)
     → (decides_commit votes ≡ true → has_yes votes ≡ true)
     → Logs t managers votes logged log later → decision_of votes logged ≡ logged
-decided_so t managers votes logged log later some (appended wants on is) = search (arith, and_parts, or-true)
-decided_so t managers votes logged log later some (failed wants off is) = search (arith, and_parts)
-decided_so t managers votes logged log later some (unwanted wants off is) = search (arith, rules)
+decided_so t managers votes logged log later some h = search (arith, and_parts, or-true)
 
 -- ---- what it came to
 
@@ -260,9 +252,7 @@ module _ (tran : TranName) (bs : List Branch) (old new : ℕ → LedgerView) (lo
   decided_others t other decided = others_stay tran t (yes_of bs known.votes.items) known.votes.items known.logged log later other decided.logs
 
   came_others : (at : Death) (t : TranName) → t ≢ tran → CameTo AsksLedger PutsLedger at tran bs old new log later known → record_of later t ≡ record_of log t
-  came_others (death.Preparing k) t other far = ap (λ (l : LogState). record_of l t) far.unlogged
-  came_others death.Prepared t other far = ap (λ (l : LogState). record_of l t) far.unlogged
-  came_others at t other far = decided_others t other far.decided
+  came_others at t other far = search (arith, decided_others)
 
 -- what the log was read as, where nobody knew whether it has the record of these branches, and what was found
 pub record IsReadSo (bs : List Branch) (tran : TranName) (log later : LogState) (found : Bool) (votes : List Code) : Type 0 where

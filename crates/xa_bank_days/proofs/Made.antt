@@ -1,15 +1,14 @@
 -- What a transfer is to an account at a store, by its legs; what many are together; and that they leave what all accounts are worth.
-use Rattle.xa_base.proofs.{ℤ, pos, ◌+ℤ◌, if◌then◌else◌, ◌≡◌, ◌≢◌, ℕ, Bool, true, false, List, [], ◌∷◌, ◌++◌, sym, refl, ap, ◌∙◌, arith, eq-eqb}
+use Rattle.xa_base.proofs.{rules, ℤ, pos, ◌+ℤ◌, if◌then◌else◌, ◌≡◌, ◌≢◌, ℕ, Bool, true, false, List, [], ◌∷◌, ◌++◌, sym, refl, ap, ◌∙◌, arith, eq-eqb}
 use Rattle.xa_base.proofs.{+ℤ_idl as none_plus, +ℤ_idr as plus_none, ints, ne_eqb, subst, map, get_or, All, All-nil, All-cons, All-head, All-tail, All-append}
 use Rattle.xa_base.proofs.{All-weaker, by_bool, none_twice, ◌+◌, ◌^◌, ◌<◌, ◌≤◌, ◌⊎◌, ◌||◌, None, Some, inl, inr, list_any, cases_eq, Contains, neg_ℤ}
 use Rattle.xa_base.proofs.{AllByRecursion, unwrap_or, ◌&&◌, zero, suc, ◌-◌, ⊎_elim, not, ◌==◌, Option, length, range_with_len, get-from_entries, and_parts}
 use Rattle.xa_base.proofs.{eqb-true, not-true, or_parts, all_at, got, range_all, total_across, total_alike, total_both, total_nothing, total_same}
 use Rattle.std.specs.List.{IsDistinct}
 use Rattle.xa_base.specs.{total, IsUpTo}
-use Rattle.xa_words.specs.{key_eq, XidName, xid_eq, Decides-xid_eq, TranName, tran_of, Op, Start, Decides-key_eq, key_cmp_total}
+use Rattle.xa_words.specs.{key_eq, XidName, xid_eq, Decides-xid_eq, TranName, tran_of, Op, Decides-key_eq, key_cmp_total}
 use Rattle.xa_days.specs.{Leg, counted, ComesOutByTheLog, leg_of}
-use Rattle.xa_bank.specs.{Transfer, AreLegs, pays_first, paid_first, Habits, death_in, shut_before, Makes, MakesNext, branches_of, changes_of, tran_named}
-use Rattle.xa_bank.specs.{with_legs, without_legs}
+use Rattle.xa_bank.specs.{Transfer, AreLegs, Habits, death_in, shut_before, Makes, MakesNext, branches_of, changes_of, tran_named, with_legs, without_legs}
 use Rattle.xa_bank.proofs.Legs.{AnyLeg, leg_work}
 use Rattle.xa_bank_days.specs.{Balances, all_applied, applied, share, IsNamed, is_applied, balances_at, IsWithin}
 use Rattle.xa_words.proofs.Xids.{xid_self}
@@ -49,16 +48,13 @@ module _ (tr : Transfer) (m : ℕ) (k : List ℕ) where
 
   module _ (t n : ℕ) (one two : AnyLeg) where
     pub first_share : AreLegs t n tr one two → one.branch.m ≡ m → share tr m k ≡ Part one.delta
-    first_share (pays_first small rising pays paid) at = search (arith, share_pays, pays.store)
-    first_share (paid_first small rising paid pays) at = search (arith, share_paid, paid.store)
+    first_share h at = search (arith, share_pays, share_paid)
 
     pub second_share : AreLegs t n tr one two → two.branch.m ≡ m → share tr m k ≡ Part two.delta
-    second_share (pays_first small rising pays paid) at = search (arith, share_paid, paid.store)
-    second_share (paid_first small rising paid pays) at = search (arith, share_pays, pays.store)
+    second_share h at = search (arith, share_paid, share_pays)
 
     pub no_share : AreLegs t n tr one two → one.branch.m ≢ m → two.branch.m ≢ m → share tr m k ≡ pos 0
-    no_share (pays_first small rising pays paid) p q = share_none (λ e. q (paid.store ∙ e)) (λ e. p (pays.store ∙ e))
-    no_share (paid_first small rising paid pays) p q = share_none (λ e. p (paid.store ∙ e)) (λ e. q (pays.store ∙ e))
+    no_share h p q = search (arith, share_none)
 
 -- ---- many
 
@@ -152,7 +148,6 @@ both_named z y x e f = (Decides-xid_eq y x).1 (sym ((Decides-xid_eq z y).0 e) �
 
 -- it names one alone
 pub one_name : (y x : XidName) (op : Op) → names y op ≡ true → names x op ≡ true → xid_eq y x ≡ true
-one_name y x (Start z how) e f = both_named z y x e f
 one_name y x op e f = search (arith, both_named)
 
 abbrev pub is_leg : XidName → List Leg → Bool
@@ -172,8 +167,7 @@ pub noted_none : (records : Records) (legs : List Leg) (op : Op) → ((x : XidNa
 noted_none records legs op none x e = let z : true ≡ false = sym e ∙ none x in cc
 
 not_applied : (b : Bool) (v : ℤ) → v ≡ pos 0 → pos 0 ≡ (if b then v else pos 0)
-not_applied true v e = sym e
-not_applied false v e = refl
+not_applied b v e = search (arith, rules)
 
 -- ---- at one store
 

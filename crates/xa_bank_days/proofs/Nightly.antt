@@ -1,16 +1,15 @@
 -- A resolve in an opening to which nobody sent a Shut is answered by each manager with another code than XAER_RMFAIL.
 -- The one client of a night resolves what was left, and nothing else was done in its opening.
-use Rattle.xa_tables.specs.declared.state.HeuristicDecision.TheVariants as decision
-use Rattle.xa_base.proofs.{arith, not, ◌≡◌, ◌≢◌, ℕ, Bool, true, false, ◌==◌, Option, Some, List, [], ◌∷◌, filter, get_or, sym, refl, ap, ◌∙◌, subst, All}
+use Rattle.xa_base.proofs.{rules, arith, not, ◌≡◌, ◌≢◌, ℕ, Bool, true, false, ◌==◌, Option, Some, List, [], ◌∷◌, filter, get_or, sym, refl, ap, ◌∙◌, subst, All}
 use Rattle.xa_base.proofs.{All-nil, All-cons, All-head, All-tail, All-append, list_any-append, or-true, all_at, was_mapped, Ok, Err, Result, nat_lt, zero, suc}
 use Rattle.xa_base.proofs.{◌-◌, ◌<◌, ◌≤◌, length, slice_index_or, cases_lt, ne_eqb, or_from, at_false, length-map, IfOk, ◌+◌, ◌++◌, length-append, map}
 use Rattle.xa_base.proofs.{slice_get, inl, inr, append-nil, cases_eq, All-contains, same_Some as some_same, got_map, list_any_none, Contains, range_with_len}
 use Rattle.xa_base.proofs.{eqb-true, length-range_with_len, get_or-range_with_len, got, All-filter, Contains-get_or, IfErr, le-ltb, IfErr-weaker}
 use Rattle.xa_base.proofs.{IsPermutation-sym, Contains-permutation}
+use Rattle.xa_tables.specs.declared.state.HeuristicDecision.TheVariants as decision
 use Rattle.xa_base.specs.{Chain, none as no_step, more as one_step, IsUpTo, MOST_MANAGERS}
 use Rattle.xa_words.specs.{XidName, RmFail, Op, OpenRm, Commit, Rollback, Forget, Request, Code, TranName}
-use Rattle.xa_tables.specs.{State, is_S5, HeuristicallyCompleted, decision_in, Answer, next, coded, is_rolled_back, Tables, History, of_thread, tables_after}
-use Rattle.xa_tables.specs.{opening}
+use Rattle.xa_tables.specs.{State, is_S5, decision_in, Answer, next, coded, is_rolled_back, Tables, History, of_thread, tables_after, opening}
 use Rattle.xa_tables.proofs.Effects.{reason_rolls_back}
 use Rattle.xa_desk.specs.{LedgerView, is_rm_fail, learnt_shut, new_ledgers, no_ledger, room_at, DeskView, ledger, numbered}
 use Rattle.xa_worker.specs.{Entry, requests}
@@ -21,8 +20,7 @@ use Rattle.xa_switch.proofs.SettledOpenings.{follows, begun}
 use Rattle.xa_driver.specs.{Outcome, AskTrace, is_decided, AsksIf, AsksLedger, ResolvesBranch, outcome_op, Resolved, MayResolve, IsTraceOfResolve}
 use Rattle.xa_log.specs.{Records, LogState}
 use Rattle.xa_desk.proofs.Books.{fresh_sent}
-use Rattle.xa_bank_days.specs.{Unresolved, BadNumbers, NoRoom, Excuses, HasRoomToResolve, Resolver, IsResolvedBy, records_of, IsNight, IsUntouched, ResolvesBy}
-use Rattle.xa_bank_days.specs.{unused}
+use Rattle.xa_bank_days.specs.{Unresolved, Excuses, HasRoomToResolve, Resolver, IsResolvedBy, records_of, IsNight, IsUntouched, ResolvesBy, unused}
 use Rattle.xa_driver.proofs.Mapped.{Asks}
 use Rattle.xa_atomicity.specs.{IsBetween, OnlyResolves, ResolveCall, resolve_call, resolves, with_use}
 use Rattle.xa_atomicity.proofs.Sites.{all_earlier, own_all}
@@ -62,12 +60,10 @@ record StaysOpen (a : Answer) : Type 0 where
   open_ : a.0.shut ≡ false
 
 rolled_back : (c : Code) → is_rolled_back c ≡ true → is_rm_fail c ≡ false
-rolled_back RmFail e = cc
-rolled_back c e = refl
+rolled_back c e = search (arith, rules)
 
 decided : (o : Option State) → is_S5 o ≡ true → is_rm_fail (decision_in o) ≡ false
-decided (Some (HeuristicallyCompleted decision.Commit)) e = refl
-decided o e = refl
+decided o e = search (arith, rules)
 
 says : (T : Tables) (c : Code) → T.shut ≡ false → is_rm_fail c ≡ false → StaysOpen (T, c)
 says T c o e = record { code = e; open_ = o }
@@ -102,8 +98,7 @@ ask_open : (a a' : LedgerView) (op : Op) (c : Code) → AskTrace (Some op) (Some
 ask_open a a' op c tr open_ = search (arith, list_any-append, or-true, a.collected)
 
 if_open : (asks : Bool) (op : Op) (a a' : LedgerView) → AsksIf asks AsksLedger op a a' → learnt_shut a' ≡ false → learnt_shut a ≡ false
-if_open false op a a' same o = sym (ap learnt_shut same) ∙ o
-if_open true op a a' asked o = (ask_open a a' op asked.0 asked.1 o).0
+if_open asks op a a' asked o = search (arith, ask_open)
 
 abbrev pub IsReached : Outcome → Type 0
 IsReached o = o.code ≢ RmFail
@@ -135,10 +130,7 @@ none_left (l ∷ lists) (suc k) past = none_left lists k (omega (arith, past))
 -- why nothing was resolved, by what the caller knows
 pub left_on : {Room Fits : Type 0} (Known Good Same : Type 0) → (Fits → Room) → (r : Result Resolved Unresolved)
     → IfErr r (λ why. Same × Excuses ⊥ Known Room (Unit {0}) why) → IfErr r (Excuses ⊥ Known Fits Good)
-left_on Known Good Same so (Ok z) h = tt
-left_on Known Good Same so (Err NoRoom) h = λ fits. h.1 (so fits)
-left_on Known Good Same so (Err BadNumbers) h = absurd (h.1 tt)
-left_on Known Good Same so (Err why) h = h.1
+left_on Known Good Same so r h = search (arith, rules)
 
 pub never_none : (ops : List Op) → All Never ops → ops ≡ []
 never_none [] all = refl

@@ -1,9 +1,9 @@
 -- A leg of a transfer whose work was done, of which a commit was made or cut short: who names its branch, what it holds as it is
 -- asked to prepare, and that it isn't read only.
 -- A leg of a transfer that was committed, or whose commit was cut short, comes out by the log, once the night's resolve is made.
-use Rattle.xa_base.proofs.{pos, if◌then◌else◌, ◌≡◌, ◌≢◌, ℕ, suc, ◌+◌, ◌^◌, ◌<◌, ◌≤◌, true, false, List, [], ◌∷◌, ◌++◌, length, length-append, all_left}
+use Rattle.xa_base.proofs.{rules, pos, if◌then◌else◌, ◌≡◌, ◌≢◌, ℕ, ◌+◌, ◌^◌, ◌<◌, ◌≤◌, true, false, List, [], ◌∷◌, ◌++◌, length, length-append, all_left}
 use Rattle.xa_base.proofs.{append_assoc, get_or, slice_get, sym, refl, ap, ◌∙◌, subst, arith, Option, None, Some, option_map, All, Contains, cases_lt, All-nil}
-use Rattle.xa_base.proofs.{All-cons, All-head, All-tail, All-contains, begins_on, is_some, zero, Bool, All-weaker, Contains-append_left}
+use Rattle.xa_base.proofs.{All-cons, All-head, All-tail, All-contains, begins_on, is_some, Bool, All-weaker, Contains-append_left}
 use Rattle.xa_words.specs.{key_eq, RdOnly, Op, Prepare, Request, Code, TranName, tran_of, RmFail}
 use Rattle.xa_tables.specs.{Tables, next, of_thread, tables_after, coded, names, is_heur, DoesWork, held_by, History, state_of}
 use Rattle.xa_desk.specs.{LedgerView, ledger, HasGrown, numbered, DeskView, HaveGrown}
@@ -186,13 +186,11 @@ out_at accounts m T s k last g (unasked all counts) = unasked all counts
 
 -- a record that isn't there names no manager
 unnamed : (o : Option (List Bool)) (m : ℕ) → is_some o ≡ false → names_manager o m ≡ false
-unnamed None m e = refl
-unnamed (Some set) m e = cc
+unnamed o m e = search (arith, rules)
 
 -- one resolve alone
 pub only_one : (q r : ResolveCall) → Contains (resolves q ∷ []) (resolves r) → q ≡ r
-only_one q r (zero, below, is) = cc
-only_one q r (suc k, below, is) = absurd (omega (arith, below))
+only_one q r h = search (arith, rules)
 
 -- what xa_days has of the branches of a commit
 abbrev pub BranchesComeOut : Type 0

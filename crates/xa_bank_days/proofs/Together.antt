@@ -1,7 +1,7 @@
 -- What several logs have that are read as one.
 -- What the transfers of all tellers come to at one store, for one account.
-use Rattle.xa_base.proofs.{cases_eq, option_or, ◌≡◌, ◌≢◌, ℕ, zero, suc, Bool, Option, None, Some, List, [], ◌∷◌, length, map, slice_get, sym, refl, ap, ◌∙◌}
-use Rattle.xa_base.proofs.{arith, some_same, ◌+◌, ◌^◌, ◌<◌, ◌≤◌, ⊎_elim, true, false, ◌||◌, ◌++◌, subst, inl, inr, list_any, or-true, list_any-append, Vec}
+use Rattle.xa_base.proofs.{rules, cases_eq, option_or, ◌≡◌, ◌≢◌, ℕ, zero, suc, Bool, Option, None, Some, List, [], ◌∷◌, length, map, slice_get, sym, refl, ap}
+use Rattle.xa_base.proofs.{◌∙◌, arith, some_same, ◌+◌, ◌^◌, ◌<◌, ◌≤◌, ⊎_elim, true, false, ◌||◌, ◌++◌, subst, inl, inr, list_any, or-true, list_any-append, Vec}
 use Rattle.xa_base.proofs.{get_or, All, length-map, slice_get_within, Global, All-nil, All-weaker, got, got_map, is_missing, false_from_ne_true}
 use Rattle.xa_words.specs.{TranName, XidName, xid_eq, Op}
 use Rattle.xa_log.specs.{Records, all_records, record_in, LogState, record_of, IsReadAs}
@@ -26,8 +26,7 @@ use Rattle.xa_atomicity.proofs.Settled.{by_ledger}
 use Rattle.xa_bank.proofs.Days.{of_threads}
 
 or_none : (o : Option (List Bool)) → option_or o None ≡ o
-or_none None = refl
-or_none (Some v) = refl
+or_none o = search (arith, rules)
 
 -- what xa_log has of several logs: of none, and of one more
 abbrev pub NoLogs : Type 0

@@ -1,7 +1,7 @@
 -- The logs of all tellers: what they have after their transfers, of these and of others, and how a thread went whose log was read back.
-use Rattle.xa_base.proofs.{◌≡◌, ℕ, ◌+◌, List, [], ◌∷◌, ◌++◌, length, map, append_assoc, append-nil, sym, ap, ◌∙◌, arith, map-append, none_of, zero, suc, nat_lt}
-use Rattle.xa_base.proofs.{Bool, Some, slice_get, some_same, refl, subst, or-false, if◌then◌else◌, ◌^◌, ◌<◌, ◌≤◌, ◌⊎◌, ⊎_elim, true, false, inl, inr, cases_lt}
-use Rattle.xa_base.proofs.{cases_Bool, ◌||◌, All, list_any, or_parts, slice_get_within, all_at, got}
+use Rattle.xa_base.proofs.{rules, ◌≡◌, ℕ, ◌+◌, List, [], ◌∷◌, ◌++◌, length, map, append_assoc, append-nil, sym, ap, ◌∙◌, arith, map-append, none_of, zero, suc}
+use Rattle.xa_base.proofs.{nat_lt, Bool, Some, slice_get, some_same, refl, subst, or-false, if◌then◌else◌, ◌^◌, ◌<◌, ◌≤◌, ◌⊎◌, ⊎_elim, true, false, inl, inr}
+use Rattle.xa_base.proofs.{cases_lt, cases_Bool, ◌||◌, All, list_any, or_parts, slice_get_within, all_at, got}
 use Rattle.xa_words.specs.{TranName, tran_of, Code, key_eq, Decides-key_eq}
 use Rattle.xa_log.specs.{LogState, record_of, IsReadAs}
 use Rattle.xa_bank.specs.{Teller, ReadsBack, Habits, Transfer, is_undecided, death_in, Makes, MakesEach, branches_of, forgotten, gtrid_of, with_legs}
@@ -9,7 +9,7 @@ use Rattle.xa_bank.specs.{without_legs, Comes, HasMade, ended, lived, unknown, M
 use Rattle.xa_bank_days.specs.{AreReadBack, ForEach, IsReadBack, IsNamed, DayAndNight, IsToldAll, WorkedIn}
 use Rattle.xa_desk.specs.{DeskView}
 use Rattle.xa_atomicity.specs.{is_recorded, NothingWasSent}
-use Rattle.xa_work.specs.{WorkOutcome, IfLost, is_last, Undecided, HaveSent, IsOpenRm}
+use Rattle.xa_work.specs.{WorkOutcome, IfLost, is_last, HaveSent, IsOpenRm}
 use Rattle.xa_work.specs.Units.Transacts.{commits, refused}
 use Rattle.xa_bank.proofs.Named.{legs_are, none_made, one_transfer, Names, makes_none, IsAny, if_both, if_so, none_lost, refused_so}
 use Rattle.xa_bank_days.proofs.Come.{IsReadSo, has_come}
@@ -190,8 +190,7 @@ module _ (R : LogState → Type 0) (t : ℕ) (habits : Habits) (keeps : habits.f
 -- ---- of the last alone nobody may know whether its record was made
 
 undecided_last : (o : WorkOutcome) → is_last o ≡ false → is_undecided o ≡ false
-undecided_last (Undecided votes) e = cc
-undecided_last o e = refl
+undecided_last o e = search (arith, rules)
 
 lives_known : (os : List WorkOutcome) → list_any is_last os ≡ false → AreKnown os
 lives_known (o ∷ p ∷ os) e = let parts = or_parts (is_last o) (list_any is_last (p ∷ os)) e in (parts.0, lives_known (p ∷ os) parts.1)
@@ -229,8 +228,7 @@ next_read t n tr habits o old new log later read keeps un next =
     record { shut = next.shut; shuts = next.shuts; makes = makes_read t n tr habits o next.shut new log later read keeps un next.makes }
 
 the_others : (b c : Bool) → b ≡ false → (b || c) ≡ true → c ≡ true
-the_others true c e f = cc
-the_others false c e f = f
+the_others b c e f = search (arith, rules)
 
 each_read : (R : LogState → Type 0) (t : ℕ) (habits : Habits) (keeps : habits.forgets ≡ false) (n : ℕ) (trs : List Transfer) (os : List WorkOutcome) (old new : DeskView)
     (log later read : LogState) → AreKnown os → list_any is_undecided os ≡ true → MakesEach t habits n trs os old new log later R

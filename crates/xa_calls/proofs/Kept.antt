@@ -3,7 +3,7 @@ use Rattle.xa_base.proofs.{◌≡◌, ◌≢◌, ℕ, ◌+◌, ◌-◌, ◌<◌,
 use Rattle.xa_base.proofs.{length-append, slice_index_or, length-map, cases_eq, cases_Bool, eqb-false, or_parts, sum_by, sum_by-cons, rules, ℤ, ⊎_elim, zero}
 use Rattle.xa_base.proofs.{Bool, Option, Some, None, Result, Ok, Err, ap, ◌∙◌, nat_cmp, inserted_there, inserted_other, removed_other, not_both}
 use Rattle.std.proofs.lemmas.Map.Steps.{le-length_from_below}
-use Rattle.xa_words.specs.{Op, Code, Inval, Mode}
+use Rattle.xa_words.specs.{Op, Code, Mode}
 use Rattle.xa_desk.specs.{Operation, numbers, is_collected, with_sent, with_collected, IsKnown, IsOut, ledger, no_ledger, after_sent, after_collected}
 use Rattle.xa_desk.specs.{next_operation, outstanding, LedgerView, is_known, AllKept, HoldsNone, submitted, after_fulls, EndsQuiet, Collects, TakesKept}
 use Rattle.xa_desk.specs.{DeskView, GoesOn}
@@ -113,8 +113,7 @@ takes_keep old new k c is all = record {
 -- ---- putting
 
 some_refusal : (d : DeskView) (m : ℕ) (b : Bool) → is_known d.ledgers m ≡ false → put_refusal d m b ≡ None → ⊥
-some_refusal d m false missing e = let f : put_refusal d m false ≡ Some Inval = rw missing refl in cc
-some_refusal d m true missing e = let f : put_refusal d m true ≡ Some Inval = rw missing refl in cc
+some_refusal d m b missing e = search (arith, rules)
 
 pub known_here : (d : DeskView) (m : ℕ) (b : Bool) → put_refusal d m b ≡ None → IsKnown d.ledgers m
 known_here d m b e = search (arith, cases_Bool, known_is, some_refusal, d.ledgers)

@@ -1,9 +1,9 @@
 -- What a scan does to a desk, and what it writes.
-use Rattle.xa_base.proofs.{◌≡◌, ℕ, ℤ, zero, suc, Bool, true, false, Option, None, ◌+◌, ◌-◌, ◌<◌, Some, Result, Ok, Err, List, [], ◌∷◌, ◌++◌, length, take, drop}
-use Rattle.xa_base.proofs.{set, refl, sym, ap, subst, arith, length-append, append_assoc, is_some, option_map, slice_get, length-drop, take_all}
+use Rattle.xa_base.proofs.{rules, ◌≡◌, ℕ, ℤ, zero, suc, Bool, true, false, Option, None, ◌+◌, ◌-◌, ◌<◌, Some, Result, Ok, Err, List, [], ◌∷◌, ◌++◌, length}
+use Rattle.xa_base.proofs.{take, drop, set, refl, sym, ap, subst, arith, length-append, append_assoc, is_some, option_map, slice_get, length-drop, take_all}
 use Rattle.xa_words.specs.{XidName, Done, Nota, check_flags, Mode, Op, Listed, Code}
 use Rattle.xa_words.specs.declared.flags.Call.TheVariants as call
-use Rattle.xa_desk.specs.{Refused, NoSuchManager, Shut, TooMany, Spent, Full, call_refusal, is_known, AllKept, DeskView}
+use Rattle.xa_desk.specs.{Refused, is_known, AllKept, DeskView}
 use Rattle.xa_calls.specs.{code_of, put_refusal, Answers, Looks, begun, finds, passes, filled, ended, stopped, written, start_of, Recovers, unreached, told}
 use Rattle.xa_calls.specs.{IsInVain, RecoversFrom, RecoversBy, HasRecovered, AsksAndWaits, RecoversAndWaits}
 use Rattle.xa_calls.specs.Scans.{Asking, refused, answered, Scans}
@@ -17,18 +17,12 @@ asked_keep old new m op code (answered none n is) all = search (arith, answered_
 
 -- no refusal has the code XA_OK
 not_done : {A : Type 0} (i j : A) (why : Option Refused) (code : Code) → option_map code_of why ≡ Some code → code ≡ Done → i ≡ j
-not_done i j None code fails done = absurd (cc)
-not_done i j (Some NoSuchManager) code fails done = absurd (cc)
-not_done i j (Some Shut) code fails done = absurd (cc)
-not_done i j (Some TooMany) code fails done = absurd (cc)
-not_done i j (Some Spent) code fails done = absurd (cc)
-not_done i j (Some Full) code fails done = absurd (cc)
+not_done i j why code fails done = search (arith, rules)
 
 -- a manager that answered XA_OK wasn't refused, so what is said of a refusal holds
 pub done_refuses_none : {A : Type 0} (i j : A) (old new : DeskView) (m : ℕ) (op : Op) (code : Code) → Answers m old op new code → code ≡ Done
     → is_some (put_refusal old m false) ≡ true → i ≡ j
-done_refuses_none i j old new m op code (refused why same) done some = not_done i j (call_refusal old m) code why done
-done_refuses_none i j old new m op code (answered none n is) done some = let e = ap is_some none in absurd (cc)
+done_refuses_none i j old new m op code h done some = search (arith, not_done, is_some)
 
 -- ---- what is written
 

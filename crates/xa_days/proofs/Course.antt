@@ -1,16 +1,16 @@
 -- The laws of one branch: one that nothing commits moves nothing, and one that votes to commit moves what it held where it is committed.
-use Rattle.xa_base.proofs.{All-cons, All-head, All-tail, ◌≡◌, ◌≢◌, ℕ, ℤ, pos, ◌+ℤ◌, Bool, true, false, cond, not, ◌||◌, if◌then◌else◌, Option, None, Some}
-use Rattle.xa_base.proofs.{is_some, List, [], ◌∷◌, ◌++◌, unwrap_or, refl, All, cons_option, sym, ap, ◌∙◌, subst, arith, +ℤ_idl as none_plus}
+use Rattle.xa_base.proofs.{rules, All-cons, All-head, All-tail, ◌≡◌, ◌≢◌, ℕ, ℤ, pos, ◌+ℤ◌, Bool, true, false, cond, not, ◌||◌, if◌then◌else◌, Option, None}
+use Rattle.xa_base.proofs.{Some, is_some, List, [], ◌∷◌, ◌++◌, unwrap_or, refl, All, cons_option, sym, ap, ◌∙◌, subst, arith, +ℤ_idl as none_plus}
 use Rattle.xa_base.proofs.{+ℤ_idr as plus_none, total_same, by_if, at_true, at_false}
 use Rattle.xa_atomicity.proofs.Sites.{fates_both, last_both}
 use Rattle.xa_atomicity.proofs.Values.{moved_both, moved_without, unmoving}
 use Rattle.std.specs.FinMap as finmap
 use Rattle.xa_words.specs.{XidName, xid_eq, Decides-xid_eq, Done, Op, Prepare, Commit, Rollback, Request, Code}
 use Rattle.xa_tables.specs.declared.state.State.TheVariants.{Prepared as S3}
-use Rattle.xa_tables.specs.{Tables, state_of, exists, is_S3, is_S5, is_left_in, is_somebody_associated, Answer, next, Fate, Live, InDoubt, Committed}
-use Rattle.xa_tables.specs.{RolledBack, fate, fate_in, fates_in, fate_of, coded, ending_by, is_done, is_integrity, is_rolled_back, is_in_doubt, is_live}
-use Rattle.xa_tables.specs.{last_or, tables_after, IsOpening, reopened, reopened_fate, fate_left, HeuristicDecision, names, IsPrepared, state_when, fates_when}
-use Rattle.xa_tables.specs.{held_by, moved, moved_by, History}
+use Rattle.xa_tables.specs.{Tables, state_of, exists, is_S3, is_S5, is_left_in, is_somebody_associated, Answer, next, Fate, InDoubt, Committed, RolledBack}
+use Rattle.xa_tables.specs.{fate, fate_in, fates_in, fate_of, coded, ending_by, is_done, is_integrity, is_rolled_back, is_in_doubt, is_live, last_or}
+use Rattle.xa_tables.specs.{tables_after, IsOpening, reopened, reopened_fate, fate_left, HeuristicDecision, names, IsPrepared, state_when, fates_when, held_by}
+use Rattle.xa_tables.specs.{moved, moved_by, History}
 use Rattle.xa_tables.proofs.Effects.{Effect, Stays, Commits, Drops, Forgets, effect_of, named_none}
 use Rattle.xa_tables.proofs.Law.{Nowhere, AtWork, standing, voted_rests, nobody_rests, get_gone, sound_after, run_sound, opening_sound, late_leave_fates}
 use Rattle.xa_tables.proofs.ValueLaw.{unnamed_stays, unnamed_fate, tables_after-append}
@@ -144,8 +144,7 @@ data Meets (accounts : Accounts) (x : XidName) (sum : ℤ) (op : Op) (T : Tables
   Ends : (f : Fate) → is_outcome f ≡ true → fate_of x op a.1 ≡ Some f → IsGone x a.0 → moved_for accounts x op a.1 T ≡ due f sum → Meets accounts x sum op T a
 
 dropped_fate : (f : Fate) → ending_by f ≡ Some false → is_committed f ≡ false
-dropped_fate Committed e = cc
-dropped_fate f e = refl
+dropped_fate f e = search (arith, rules)
 
 -- what is told makes it committed or rolled back
 told_fate : (x : XidName) (op : Op) (c : Code) (f : Fate) → tells_outcome op ≡ true → fate_of x op c ≡ Some f → is_outcome f ≡ true
@@ -158,8 +157,7 @@ told_fate x (Rollback y) c f o e =
 told_fate x op c f o e = cc
 
 outcome_ends : (f : Fate) → is_outcome f ≡ true → is_live f ≡ false
-outcome_ends Live e = cc
-outcome_ends f e = refl
+outcome_ends f e = search (arith, rules)
 
 module _ (accounts : Accounts) (t : ℕ) (x : XidName) (sum : ℤ) (T : Tables) (waits : Waits accounts x sum T) where
   abbrev Meet : Op → Answer → Type 0
@@ -268,8 +266,7 @@ fate_from : (x : XidName) (f : Fate) (before : History) (r : Request) (after : H
 fate_from x f before r after T e = search (arith, fates_both, cons_option, last_both, r.thread, r.op)
 
 undecided : (d : Option HeuristicDecision) → [] ≡ fates_when d → state_when d ≡ S3
-undecided None e = refl
-undecided (Some d) e = cc
+undecided d e = search (arith, rules)
 
 voted_at : (accounts : Accounts) (x : XidName) (before : History) (t : ℕ) (op : Op) (T : Tables) → IsOpening T → op ≡ Prepare x
     → (next t op (tables_after before T)).1 ≡ Done

@@ -1,15 +1,15 @@
 -- The laws of a day: the branches' shares of what is moved, and what accounts are worth after it.
 -- The laws of a day over settled openings: their histories lead to their tables, and to what became of each branch.
-use Rattle.xa_tables.specs.declared.state.HeuristicDecision.TheVariants as decision
-use Rattle.xa_atomicity.proofs.Values.{unmoving}
-use Rattle.xa_base.proofs.{◌≡◌, ℤ, pos, ◌+ℤ◌, true, false, ◌||◌, if◌then◌else◌, List, [], ◌∷◌, map, refl, All, IsDistinct, list_any, sym, ap, ◌∙◌, arith}
+use Rattle.xa_base.proofs.{rules, ◌≡◌, ℤ, pos, ◌+ℤ◌, true, false, ◌||◌, if◌then◌else◌, List, [], ◌∷◌, map, refl, All, IsDistinct, list_any, sym, ap, ◌∙◌, arith}
 use Rattle.xa_base.proofs.{get_or, ints, All-head, All-tail, +ℤ_idl as none_plus, +ℤ_idr as plus_none, total_same, total_alike, total_both, total_nothing}
 use Rattle.xa_base.proofs.{by_if, at_true, ℕ, Bool, None, Some, cond, is_some, find, get-from_entries, total_across, subst, inl, inr, zero, suc, AllByRecursion}
 use Rattle.xa_base.proofs.{IsDistinct-head, IsDistinct-tail}
+use Rattle.xa_tables.specs.declared.state.HeuristicDecision.TheVariants as decision
+use Rattle.xa_atomicity.proofs.Values.{unmoving}
 use Rattle.xa_base.specs.{total}
 use Rattle.xa_words.specs.{XidName, xid_eq, Decides-xid_eq, Op, Commit, Heur, Request, Code, key_cmp_total}
 use Rattle.xa_tables.specs.{Tables, next, tables_after, IsOpening, reopened, left_by, names, worth, moved, moved_by, is_any, DeclareEach, History, are_accounts}
-use Rattle.xa_tables.specs.{opening, HeuristicDecision, state_of, Fate, Absent, Live, IsFateOf, decided_fate, reopened_fate, fate_left, told_by, worth_declared}
+use Rattle.xa_tables.specs.{opening, HeuristicDecision, state_of, Fate, Absent, IsFateOf, decided_fate, reopened_fate, fate_left, told_by, worth_declared}
 use Rattle.xa_tables.proofs.WorthLaw.{worth_from, declared_on, worth_law}
 use Rattle.xa_driver.specs.{is_commit, Ending}
 use Rattle.xa_days.specs.{moved_over, is_for, CommitsAmong, WorthIsOfBranches, WorthIsRecorded, IsDay, Leg, counted, ComesOut, Votes, OnlyTold, is_committed}
@@ -155,16 +155,14 @@ makes m x f o (p ∷ ps) T settled row first =
     (next_first m o p T (All-head Settles o (p ∷ ps) settled) first (row.0 m T first))
 
 undecided_stays : (f : Fate) → is_undecided f ≡ true → reopened_fate f ≡ f
-undecided_stays Live e = cc
-undecided_stays f e = refl
+undecided_stays f e = search (arith, rules)
 
 never_decided : (d : HeuristicDecision) → is_undecided (reopened_fate (decided_fate d)) ≡ false
 never_decided decision.Commit = refl
 never_decided decision.Rollback = refl
 
 committed_so : (commit : Bool) → is_committed (reopened_fate (ended_as commit)) ≡ commit
-committed_so true = refl
-committed_so false = refl
+committed_so commit = search (arith, rules)
 
 module _ (m : ℕ) (x : XidName) (o : Opening) (later : List Opening) (T : Tables) (settled : AllSettled (o ∷ later)) (row : AreInARow o later)
     (first : first_of o.settled m ≡ Some T) (votes : Votes x (history o.settled m) T) (told : All (OnlyTold x) (histories m later)) where

@@ -1,4 +1,7 @@
 -- The branches of a commit come out by the log.
+use Rattle.xa_base.proofs.{rules, both_ways, and_right, false_from_ne_true, list_any_none, ◌≡◌, ℕ, ◌≤◌, Bool, true, false, Some, List, [], ◌∷◌, length, get_or}
+use Rattle.xa_base.proofs.{slice_get, sym, refl, ap, subst, arith, ◌&&◌, All, Contains, All-cons, All-contains, all_after, and_parts, not-true, if◌then◌else◌}
+use Rattle.xa_base.proofs.{is_some, suc, Option, ◌∙◌, All-head, All-tail, pos, zero, ◌++◌, same_Some as some_same}
 use Rattle.xa_atomicity.proofs.Settled.{sent_between, sent_on, sent_stands, site_of}
 use Rattle.xa_atomicity.proofs.CutVotes.{CameAt, each_came, at_asking, at_forgetting, at_telling, HasVoted, IsVoteOf, prepare_there, vote_there, ended_voted}
 use Rattle.xa_atomicity.proofs.CutVotes.{prepare_sent, told_voted, named_so, named_tran}
@@ -6,11 +9,8 @@ use Rattle.xa_atomicity.proofs.Sites.{none_all, Site, request_of}
 use Rattle.xa_atomicity.proofs.Values.{taken}
 use Rattle.xa_atomicity.specs.{Tabled, IsCut, HasSentNone, is_commit_of, is_recorded, OnlyTheseOrDecisionsName, AskedAreLeft, VotedToCommit, CutCall, IsKept}
 use Rattle.xa_atomicity.specs.{IsUseIn, OnlyResolves, Opening, cuts, WasAsked, EndsByTheLog, IsResolvedAfter, known_of, EndsAs, ResolveCall, histories}
-use Rattle.xa_base.proofs.{both_ways, and_right, false_from_ne_true, not, list_any_none, ◌≡◌, ℕ, ◌≤◌, Bool, true, false, Some, List, [], ◌∷◌, length, get_or}
-use Rattle.xa_base.proofs.{slice_get, sym, refl, ap, subst, arith, ◌&&◌, All, Contains, All-cons, All-contains, all_after, and_parts, not-true, if◌then◌else◌}
-use Rattle.xa_base.proofs.{is_some, suc, Option, ◌∙◌, All-head, All-tail, pos, zero, ◌++◌, same_Some as some_same}
 use Rattle.xa_base.specs.{MOST_MANAGERS, IsUpTo}
-use Rattle.xa_words.specs.{XidName, Decides-xid_eq, TranName, tran_of, Done, Op, Prepare, Commit, Forget, Request, Code, RdOnly}
+use Rattle.xa_words.specs.{XidName, Decides-xid_eq, TranName, tran_of, Done, Op, Prepare, Forget, Request, Code, RdOnly}
 use Rattle.xa_tables.specs.{Tables, History, names, is_heur, tables_after, held_by}
 use Rattle.xa_desk.specs.{LedgerView, ledger, HasGrown, learnt_shut}
 use Rattle.xa_switch.specs.{IsOpenedWith, first_of, history as history_of, ledgers_of, IsSettled, Settling}
@@ -32,8 +32,7 @@ use Rattle.xa_days.specs.SettledDays.{voted, unasked}
 -- ---- what a commit and a resolve sent, as the histories have it: resolves
 
 told_either : (commit : Bool) (x : XidName) → tells_outcome (outcome_op commit x) ≡ true
-told_either true x = refl
-told_either false x = refl
+told_either commit x = search (arith, rules)
 
 pub resolves_tell : (m : ℕ) (x : XidName) (o : Opening) → IsUpTo MOST_MANAGERS m → IsKept o → OnlyResolves (tran_of x) o → OnlyTold x (history_of o.settled m)
 resolves_tell m x o up kept only =
@@ -44,8 +43,7 @@ resolves_tell m x o up kept only =
     λ k d lt n. all k d lt (named_tran x (get_or (history_of o.settled m) k d).op n) n
 
 pub outcome_named : (b : Bool) (y x : XidName) → names x (outcome_op b y) ≡ true → y ≡ x
-outcome_named true y x n = (Decides-xid_eq y x).0 n
-outcome_named false y x n = (Decides-xid_eq y x).0 n
+outcome_named b y x n = search (arith, Decides-xid_eq)
 
 pub resolves_commit_nothing : (m : ℕ) (x : XidName) (o : Opening) → IsUpTo MOST_MANAGERS m → IsKept o → OnlyResolves (tran_of x) o → IsMarkedNowhere m x o
     → CommitsNowhere x (history_of o.settled m)
@@ -78,8 +76,7 @@ module _ (bs : List Branch) (old new : List LedgerView) where
       voted_sent (decision_of votes logged) b v (ended_voted_so (decision_of votes logged) (Unit {0}) b v z (ledger old b.m) (ledger new b.m) (λ _. tt) h) first
 
 leads_tells : (commit : Bool) (op : Op) → Leads commit (Unit {0}) op → tells_outcome op ≡ true
-leads_tells commit (Commit y one_phase) z = ap not z.0
-leads_tells commit op z = search arith
+leads_tells commit op z = search (arith, rules)
 
 -- the manager of one of its branches has a number
 positive_at : (s : Settling) (k : CutCall) (b : Branch) → IsUseIn s (cuts k) → Contains k.branches b → 1 ≤ b.m
@@ -146,8 +143,7 @@ unrecorded_nowhere s k b t settled use_ there of_tran off within =
 
 -- it is one of two
 vote_so : (v : Code) → is_no v ≡ false → v ≡ (if is_yes v then Done else RdOnly)
-vote_so RdOnly for = refl
-vote_so v for = search arith
+vote_so v for = search (arith, rules)
 
 -- ---- what was sent after the vote of a branch that only read
 

@@ -103,8 +103,7 @@ sent_takes_one k r d d' known b = grind (arith, began_moved, sent_by, at_false, 
 
 pub end_takes_none : (k : Ask) (r : Option TicketView) (code : Option Code) (d d' : DeskView) → Ends k d d' r code
     → outstanding d'.ledgers ≤ outstanding d.ledgers
-end_takes_none k None code d d' e = let z = ap (λ (d : DeskView). outstanding d.ledgers) e.0 in omega (arith, z)
-end_takes_none k (Some t) code d d' e = let z = e.1.1.fewer in omega (arith, z)
+end_takes_none k r code d d' e = search (arith, rules)
 
 flight_manager : (k : Ask) (r : Option TicketView) (at : List LedgerView) (d : DeskView) → HasBegun k r at d → (t : TicketView) → r ≡ Some t
     → t.operation.manager ≡ k.manager

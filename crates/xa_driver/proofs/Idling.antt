@@ -15,17 +15,14 @@ use Rattle.xa_driver.proofs.Stepping.{first_one, place_is, place_within}
 use Rattle.xa_driver.proofs.Requests.{same_alike}
 
 none_asked : (o : Option Op) → is_none o ≡ true → o ≡ None
-none_asked None e = refl
-none_asked (Some op) e = cc
+none_asked o e = search (arith, rules)
 
 -- what is asked nothing sends nothing, without an idle
 begins_nothing : (k : Ask) (t : Option TicketView) (desk now : DeskView) → k.op ≡ None → BeginsAsk k desk now t → now ≡ desk
-begins_nothing k None desk now none b = b.0
-begins_nothing k (Some t) desk now none b = let e : None ≡ Some b.op = sym none ∙ b.wanted in cc
+begins_nothing k t desk now none b = search (arith, rules)
 
 idles_nothing : {I : Type 0} (by : ℕ → I → I → Type 0) (k : Ask) (desk now : DeskView) (x y : I) → k.op ≡ None → IdlesToSend by k desk now x y → y ≡ x
-idles_nothing by k desk now x y none (unsent same e) = e
-idles_nothing by k desk now x y none (sent op fulls is put idly) = let e : None ≡ Some op = sym none ∙ is in cc
+idles_nothing by k desk now x y none h = search (arith, rules)
 
 -- Those that came next were passed over, each by this step, since the round, its desk and the idler were as at first.
 pub record Passed {I : Type 0} (step : Ask → Round → Round → Type 0) (old new : Round) (desk now : DeskView) (x y : I) : Type 0 where
@@ -68,8 +65,7 @@ collected_place r d u t ts e =
 
 -- and so is what was asked nothing collected
 ends_nothing : (k : Ask) (t : Option TicketView) (from : List LedgerView) (now : DeskView) → k.op ≡ None → HasBegun k t from now → t ≡ None
-ends_nothing k None from now none h = refl
-ends_nothing k (Some t) from now none h = let e : None ≡ Some h.op = sym none ∙ h.wanted in cc
+ends_nothing k t from now none h = search (arith, rules)
 
 pub collect_passes : {I : Type 0} (by : ℕ → I → I → Type 0) {first desk now : DeskView} {old r new : Round} {w x : I} (y : I) (b : Bool)
     (l : List (Option TicketView)) → Passed (CollectsNothing first) old r first desk w x → r.tickets.items ≡ l → is_passed (asked_first l r) ≡ true

@@ -13,8 +13,7 @@ use Rattle.xa_file_log.proofs.Stands.{staged, stage_torn, logged, stands_shown, 
 use Rattle.std.specs.FinMap as finmap
 
 gate_cases : (bytes : List ℕ) → (take 1 bytes ≡ 0 ∷ []) ⊎ (take 1 bytes ≡ 0 ∷ [] → ⊥)
-gate_cases [] = inr (λ e. absurd (cc (e)))
-gate_cases (g ∷ bytes) = search (arith, cases_eq)
+gate_cases bytes = search (arith, cases_eq)
 
 -- what the file has of a slot
 record IsLeft (s : Slot) (bytes : List ℕ) (o : Option CommitRecord) : Type 0 where
@@ -93,8 +92,7 @@ abbrev pub MayBeShut : List Slot → List Slot → Type 0
 MayBeShut slots mid = (mid ≡ slots) ⊎ (mid ≡ map shut slots)
 
 pub same_records : {slots mid : List Slot} → MayBeShut slots mid → records_in mid ≡ records_in slots
-same_records (inl same) = ap records_in same
-same_records {slots} (inr is) = ap records_in is ∙ ap records_of (shut_counts slots)
+same_records {slots} h = search (arith, shut_counts)
 
 pub no_more : {slots mid : List Slot} → MayBeShut slots mid → ForgetsNoMore slots mid
 no_more (inl same) t = inr (ap (λ (l : List Slot). record_in (forgotten_in l) t) same)

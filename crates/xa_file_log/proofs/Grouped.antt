@@ -67,8 +67,7 @@ pub record IsOnTheWay (slots : List Slot) (rs : List CommitRecord) (n i : ℕ) :
 
 -- over a slot that isn't free
 over : (s : Slot) (slots : List Slot) (rs : List CommitRecord) → (s ≡ Free → ⊥) → drop 1 (placed (s ∷ slots) rs) ≡ placed slots rs
-over Free slots rs differs = absurd (differs refl)
-over s slots rs differs = refl
+over s slots rs differs = search (arith, rules)
 
 pub way_passes : {slots : List Slot} {rs : List CommitRecord} {n i : ℕ} → IsOnTheWay slots rs n i → n < length slots
     → (get_or slots n Free ≡ Free → ⊥) → IsOnTheWay slots rs (n + 1) i

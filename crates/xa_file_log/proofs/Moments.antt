@@ -133,6 +133,4 @@ writing_follows at (b ∷ []) ok after before c left = left
 writing_follows at (a ∷ b ∷ bytes) ok after before c left = search (arith, rules)
 
 pub writing_failed : (at : ℕ) (bytes : List ℕ) (ok : Bool) → failed (writing at bytes ok) ≡ cond ok 0 1
-writing_failed at [] ok = grind arith
-writing_failed at (b ∷ []) ok = grind arith
-writing_failed at (a ∷ b ∷ bytes) ok = grind arith
+writing_failed at bytes ok = search (arith, rules)

@@ -18,8 +18,7 @@ abbrev pub weight : Slot → ℕ
 weight s = cond (is_used s) 1 0
 
 pub weighs : (s : Slot) → (s ≡ Free → ⊥) → weight s ≡ 1
-weighs Free differs = absurd (differs refl)
-weighs s differs = refl
+weighs s differs = search (arith, rules)
 
 pub used_next : (slots : List Slot) (n : ℕ) → n < length slots → used (take (n + 1) slots) ≡ used (take n slots) + weight (get_or slots n Free)
 used_next slots n below = sum_by_more weight slots n Free below
@@ -136,12 +135,10 @@ pub ruleset mapping = (slot_indexed, none_mapped, one_mapped, all_mapped)
 
 -- FORGETTING
 pub not_taken : (s : Slot) → ((r : CommitRecord) → s ≡ Taken r → ⊥) → taken s ≡ None
-not_taken (Taken r) differs = absurd (differs r refl)
-not_taken s differs = refl
+not_taken s differs = search (arith, rules)
 
 stays : (t : TranName) (s : Slot) → ((r : CommitRecord) → s ≡ Taken r → name_of (on_file s) ≡ Some t → ⊥) → forgets (λ q. tran_eq t q) s ≡ s
-stays t (Taken r) differs = search (arith, Decides-tran_eq)
-stays t s differs = refl
+stays t s differs = search (arith, Decides-tran_eq)
 
 -- no record of the transaction counts
 pub none_forgets : (slots : List Slot) (t : TranName) → ((k : ℕ) (r : CommitRecord) → get_or slots k Free ≡ Taken r → name_at slots k ≡ Some t → ⊥)
@@ -159,12 +156,10 @@ one_forgets {slots = slots} index place r below is t named =
     search (arith, cases_eq k place, get_or-set_same, get_or-set_other, at_slot (forgets (λ q. tran_eq t q)) refl slots k, stays t, one_place index, Decides-tran_eq t))
 
 was_free : (s : Slot) → on_file s ≡ None → s ≡ Free
-was_free Free is = refl
-was_free s is = absurd (cc (is))
+was_free s is = search (arith, rules)
 
 kind : (s : Slot) → is_used s ≡ is_some (on_file s)
-kind Free = refl
-kind s = refl
+kind s = search (arith, rules)
 
 pub forgets_used : (test : TranName → Bool) (slots : List Slot) → used (map (forgets test) slots) ≡ used slots
 forgets_used test [] = refl

@@ -1,5 +1,5 @@
 -- How the bytes of a record are put together, and what they tell of it.
-use Rattle.xa_base.proofs.{◌≡◌, ℕ, ℤ, ◌-◌, ◌≤◌, Bool, true, false, cond, List, [], ◌∷◌, ◌++◌, length, get_or, map, take, drop, replicate, refl, sym, ◌∙◌, ap}
+use Rattle.xa_base.proofs.{rules, ◌≡◌, ℕ, ℤ, ◌-◌, ◌≤◌, Bool, true, cond, List, [], ◌∷◌, ◌++◌, length, get_or, map, take, drop, replicate, refl, sym, ◌∙◌, ap}
 use Rattle.xa_base.proofs.{arith, append_assoc, length-append, w32, to_z-of_z, length-replicate, Option, None, Some, Ok, eqb, FitsSigned, cast_unsigned}
 use Rattle.xa_base.proofs.{cast_signed, to_be_bytes, from_be_bytes, nat_tests, take_at, drop_at, take-replicate, drop-replicate, get_or-take}
 use Rattle.std.proofs.lemmas.Nat.{from_be_bytes-to_be_bytes_4}
@@ -28,8 +28,7 @@ eight (a ∷ b ∷ c ∷ d ∷ e ∷ f ∷ g ∷ h ∷ []) long = refl
 eight votes long = absurd (let no : ⊥ = omega (arith, long) in no)
 
 bit_again : (t : Bool) → eqb (cond t 1 0) 1 ≡ t
-bit_again true = refl
-bit_again false = refl
+bit_again t = search (arith, rules)
 
 -- the record that the bytes spell, if they spell one
 abbrev pub unspelled : List ℕ → CommitRecord
@@ -75,8 +74,7 @@ eight_bits (a ∷ b ∷ c ∷ d ∷ e ∷ f ∷ g ∷ h ∷ []) long = refl
 eight_bits bytes long = absurd (let no : ⊥ = omega (arith, long) in no)
 
 pub first_four : (l : List ℕ) → 4 ≤ length l → get_or l 0 0 ∷ get_or l 1 0 ∷ get_or l 2 0 ∷ get_or l 3 0 ∷ [] ≡ take 4 l
-first_four (a ∷ b ∷ c ∷ d ∷ l) long = refl
-first_four l long = absurd (let no : ⊥ = omega (arith, long) in no)
+first_four l long = search (arith, rules)
 
 -- what is read of a record's bytes
 pub read_name : (body : List ℕ) (r : CommitRecord) → IsValid r → body ≡ spelling r
@@ -92,8 +90,7 @@ gate_of o bytes has none = sym (get_or-take 1 bytes 0 0 (omega arith)) ∙ ap (�
 
 pub no_body : (o : Option CommitRecord) (bytes : List ℕ) → get_or bytes 0 0 ≡ 255 → ((r : CommitRecord) → IsValid r → drop 1 bytes ≡ spelling r → ⊥)
     → IsSlotOf o bytes → ⊥
-no_body None bytes gate none has = let shut = gate_of None bytes has refl in omega (arith, gate, shut)
-no_body (Some r) bytes gate none has = none r (has.valid r refl) (ap (λ (l : List ℕ). drop 1 l) (has.taken r refl))
+no_body o bytes gate none has = search (arith, gate_of)
 
 pub no_gate : (o : Option CommitRecord) (bytes : List ℕ) → (get_or bytes 0 0 ≡ 0 → ⊥) → (get_or bytes 0 0 ≡ 255 → ⊥) → IsSlotOf o bytes → ⊥
 no_gate None bytes shut wide has = shut (gate_of None bytes has refl)

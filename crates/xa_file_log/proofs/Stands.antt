@@ -49,8 +49,7 @@ gate_of : (k : ℕ) (file : List ℕ) → take 1 (slot k file) ≡ take 1 (drop 
 gate_of k file = take-take 1 94 (drop (18 + 94 * k) file) (omega arith)
 
 tail_of : (l : List ℕ) → drop 1 (take 94 l) ≡ take 93 (drop 1 l)
-tail_of [] = refl
-tail_of (b ∷ l) = refl
+tail_of l = search (arith, rules)
 
 -- a gate is written
 pub gate_written : {n : ℕ} {P Q : ℕ → List ℕ → Type 0} {file : List ℕ} (k b : ℕ) → HasSlots n P file → k < n → Q k (b ∷ drop 1 (slot k file))

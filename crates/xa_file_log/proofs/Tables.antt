@@ -101,8 +101,7 @@ forgotten_part = record { free = refl; within = within }
 
 -- what the file has counts, or is forgotten
 pub counts_or_forgotten : (s : Slot) (r : CommitRecord) → on_file s ≡ Some r → (taken s ≡ Some r) ⊎ (forgotten s ≡ Some r)
-counts_or_forgotten (Taken x) r is = inl is
-counts_or_forgotten s r is = inr is
+counts_or_forgotten s r is = search (arith, rules)
 
 pub at_slot : {X : Type 0} (f : Slot → X) {d : X} → f Free ≡ d → (slots : List Slot) (k : ℕ) → get_or (map f slots) k d ≡ f (get_or slots k Free)
 at_slot f free [] k = sym free
@@ -121,8 +120,7 @@ apart_names slots one j k t a b = search (arith, at_map, whole_part)
 
 -- a table that has no other records than the slots
 name_within : (o p : Option CommitRecord) (t : TranName) → ((r : CommitRecord) → o ≡ Some r → p ≡ Some r) → name_of o ≡ Some t → name_of p ≡ Some t
-name_within None p t within is = absurd (cc (is))
-name_within (Some r) p t within is = ap name_of (within r refl) ∙ is
+name_within o p t within is = search (arith, rules)
 
 pub apart_within : (table : Table) (slots : List Slot) → ((k : ℕ) (r : CommitRecord) → get_or table k None ≡ Some r → on_file (get_or slots k Free) ≡ Some r)
     → AreApart (table_of slots) → AreApart table
@@ -142,8 +140,7 @@ part_none {f} part slots q never = search (arith, at_map, none_or_at)
 
 -- a record that is forgotten leaves none that counts
 not_taken : (s : Slot) (r q : CommitRecord) → forgotten s ≡ Some r → taken s ≡ Some q → ⊥
-not_taken (Forgotten x) r q a b = absurd (cc (b))
-not_taken s r q a b = absurd (cc (a))
+not_taken s r q a b = search (arith, rules)
 
 pub one_part : (slots : List Slot) → AreApart (table_of slots) → (j k : ℕ) (q r : CommitRecord) → forgotten (get_or slots j Free) ≡ Some q
     → taken (get_or slots k Free) ≡ Some r → q.tran ≡ r.tran → ⊥
@@ -182,15 +179,13 @@ mapped_as f g h same [] = refl
 mapped_as f g h same (s ∷ slots) = λ i. same s i ∷ mapped_as f g h same slots i
 
 shut_whole : (s : Slot) → on_file (shut s) ≡ taken s
-shut_whole (Taken r) = refl
-shut_whole s = refl
+shut_whole s = search (arith, rules)
 
 pub shut_on_file : (slots : List Slot) → table_of (map shut slots) ≡ map taken slots
 shut_on_file = mapped_as shut on_file taken shut_whole
 
 none_forgotten : (s : Slot) → forgotten (shut s) ≡ None
-none_forgotten (Taken r) = refl
-none_forgotten s = refl
+none_forgotten s = search (arith, rules)
 
 -- where none is forgotten, each record of the file counts
 pub all_count : (slots : List Slot) → HasNoneForgotten slots → map taken slots ≡ table_of slots
@@ -216,16 +211,14 @@ pub none_named_shut : (slots : List Slot) → AreApart (table_of slots) → (t :
 none_named_shut slots apart t none k is = search (arith, named_record, at_slot, part_found, taken_part)
 
 pub shut_free : (s : Slot) → taken s ≡ None → shut s ≡ Free
-shut_free (Taken r) none = absurd (cc (none))
-shut_free s none = refl
+shut_free s none = search (arith, rules)
 
 pub full_shut : (slots : List Slot) → HasNoFree (map shut slots) (length (map shut slots)) → IsFull slots
 full_shut slots full k below none = full k (omega (arith, length-map slots shut)) (at_slot shut refl slots k ∙ shut_free (get_or slots k Free) none)
 
 -- FORGOTTEN
 pub same_on_file : (test : TranName → Bool) (s : Slot) → on_file (forgets test s) ≡ on_file s
-same_on_file test (Taken r) = by_if (λ s. on_file s ≡ Some r) (test r.tran) (Forgotten r) (Taken r) (λ yes. refl) (λ no. refl)
-same_on_file test s = refl
+same_on_file test s = search (arith, rules)
 
 pub forgets_on_file : (test : TranName → Bool) (slots : List Slot) → table_of (map (forgets test) slots) ≡ table_of slots
 forgets_on_file test = mapped_as (forgets test) on_file on_file (same_on_file test)

@@ -1,6 +1,6 @@
 -- The managers of a commit are numbers, one word after another.
-use Rattle.xa_base.proofs.{arith, ◌≡◌, ◌==◌, ℕ, Bool, true, false, ◌&&◌, ◌||◌, nat_lt, nat_le, if◌then◌else◌, List, [], ◌∷◌, Option, Some, None, Result, Ok}
-use Rattle.xa_base.proofs.{Err, refl, ap, and_parts, codes, bytes_eq}
+use Rattle.xa_base.proofs.{rules, arith, ◌≡◌, ◌==◌, ℕ, Bool, true, false, ◌&&◌, ◌||◌, nat_lt, nat_le, if◌then◌else◌, List, [], ◌∷◌, Option, Some, None, Result}
+use Rattle.xa_base.proofs.{Ok, Err, refl, and_parts, codes, bytes_eq}
 use Rattle.std.proofs.Math.Bool.{or_assoc}
 use Rattle.xa_words.specs.{Death, is_in, set_of, with_manager}
 use Rattle.xa_grammar.specs.{Reason, BadBranches, Named, Word, number_in, number_at, are_rising, is_named, death_at, managers_to_end, managers_at}
@@ -23,13 +23,11 @@ with_death f named = f named.0 >>= λ managers. Ok (managers, named.1)
 -- A number ahead of others.
 on_top : (r : Result Named_on Reason) (m : ℕ) (f : List ℕ → Result (List Bool) Reason)
     → ((r >>= λ rest. Ok (m ∷ rest.0, rest.1)) >>= with_death f) ≡ (r >>= with_death (λ ms. f (m ∷ ms)))
-on_top (Ok rest) m f = refl
-on_top (Err why) m f = refl
+on_top r m f = search (arith, rules)
 
 -- What goes on alike comes to the same.
 alike : (r : Result Named_on Reason) (f g : List ℕ → Result (List Bool) Reason) → ((ms : List ℕ) → f ms ≡ g ms) → (r >>= with_death f) ≡ (r >>= with_death g)
-alike (Ok rest) f g same = ap (λ r. r >>= λ managers. Ok (managers, rest.1)) (same rest.0)
-alike (Err why) f g same = refl
+alike r f g same = search (arith, rules)
 
 -- The first word is a number, and the others go on.
 pub first_number : (count : ℕ) (ws rest : List Word) (m : ℕ) (g : List ℕ → Result (List Bool) Reason) → number_at 0 4294967295 ws ≡ Ok (m, rest)

@@ -73,8 +73,7 @@ word_parts (b ∷ w) line parts h e = let none = none_parts is_space b w h in rw
 
 -- A word that a space or the end follows is the first word.
 pub first_word : (w line : List ℕ) → IsWord w → 0 < length w → starts_blank line ≡ true → words_of (w ++ line) ≡ w ∷ words_of line
-first_word [] line h lt blank = absurd (omega arith)
-first_word (b ∷ w) line h lt blank = search (arith, blank_parts, word_parts)
+first_word w line h lt blank = search (arith, blank_parts, word_parts)
 
 -- A byte ahead of parts stands in the first of them.
 pub onto_parts : (b : ℕ) (xss : List (List ℕ)) → (more : List ℕ) × (yss : List (List ℕ)) × (onto_first b xss ≡ (b ∷ more) ∷ yss)

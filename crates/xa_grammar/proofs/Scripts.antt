@@ -1,12 +1,12 @@
 -- A line that the grammar reads leaves a script: each manager can be opened with its keys, each step is of a thread or a manager that there is, and no task asks for more than 64 xids.
+use Rattle.xa_base.proofs.{rules, ◌≡◌, ℕ, zero, suc, ◌-◌, ◌<◌, ◌≤◌, Bool, true, false, not, cond, ◌&&◌, ◌||◌, ◌==◌, nat_le, nat_lt, if◌then◌else◌, List, []}
+use Rattle.xa_base.proofs.{◌∷◌, ◌++◌, length, map, Option, None, Some, unwrap_or, get_or, slice_set, IfSome, All, Result, Ok, Err, refl, sym, ap, ◌∙◌, subst}
+use Rattle.xa_base.proofs.{arith, list_all, list_any, slice_index_or, or-false, le-leb, eqb-true, and_parts, or_parts, false_from_ne_true, by_bool, map-append}
+use Rattle.xa_base.proofs.{err_from_is_err_and, append-nil, length-map, length-append, All-append, filter-append, All-cons, All-nil, list_any-append, leb-true}
+use Rattle.xa_base.proofs.{list_all-append}
 use Rattle.xa_grammar.specs.declared.step.Step.TheVariants as step
 use Rattle.xa_grammar.specs.declared.read.Head.TheVariants as head
 use Rattle.xa_grammar.specs.Items as item
-use Rattle.xa_base.proofs.{◌≡◌, ℕ, zero, suc, ◌-◌, ◌<◌, ◌≤◌, Bool, true, false, not, cond, ◌&&◌, ◌||◌, ◌==◌, nat_le, nat_lt, if◌then◌else◌, List, [], ◌∷◌, ◌++◌}
-use Rattle.xa_base.proofs.{length, map, Option, None, Some, unwrap_or, get_or, slice_set, IfSome, All, Result, Ok, Err, refl, sym, ap, ◌∙◌, subst, arith}
-use Rattle.xa_base.proofs.{list_all, list_any, slice_index_or, or-false, le-leb, eqb-true, and_parts, or_parts, false_from_ne_true, by_bool, map-append}
-use Rattle.xa_base.proofs.{err_from_is_err_and, append-nil, length-map, length-append, All-append, filter-append, All-cons, All-nil, list_any-append, leb-true}
-use Rattle.xa_base.proofs.{list_all-append}
 use Rattle.std.specs.Option.{ok_or}
 use Rattle.std.specs.Cmp.Derive.{both_true}
 use Rattle.std.proofs.lemmas.List.Sums.{length-filter}
@@ -41,12 +41,10 @@ made : {A : Type 0} (P : A → Type 0) (x : A) → P x → (y : A) → ◌≡◌
 made P x p y e = subst P (ok_is x y e) p
 
 not_then : {A : Type 0} (b : Bool) (why : Reason) (r : Result A Reason) (y : A) → (if b then Err why else r) ≡ Ok y → (b ≡ false) × (r ≡ Ok y)
-not_then true why r y e = let never : ⊥ = cc in absurd never
-not_then false why r y e = (refl, e)
+not_then b why r y e = search (arith, rules)
 
 if_then : {A : Type 0} (b : Bool) (why : Reason) (r : Result A Reason) (y : A) → (if b then r else Err why) ≡ Ok y → (b ≡ true) × (r ≡ Ok y)
-if_then true why r y e = (refl, e)
-if_then false why r y e = let never : ⊥ = cc in absurd never
+if_then b why r y e = search (arith, rules)
 
 -- ---- the keys of a manager
 
@@ -142,12 +140,10 @@ count_kept s Managers n none unset low high is = search (arith, more_managers, s
 count_kept s c n none unset low high is = assumption
 
 no_steps : (steps : List ScriptStep) (u : Unit {0}) → before_actions steps ≡ Ok u → steps ≡ []
-no_steps [] u e = refl
-no_steps (p ∷ steps) u e = let never : ⊥ = cc in absurd never
+no_steps steps u e = search (arith, rules)
 
 unset_yet : (c : Option ℕ) (u : Unit {0}) → not_set c ≡ Ok u → c ≡ None
-unset_yet None u e = refl
-unset_yet (Some n) u e = let never : ⊥ = cc in absurd never
+unset_yet c u e = search (arith, rules)
 
 -- ---- the grammar
 

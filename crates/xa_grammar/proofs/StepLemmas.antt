@@ -132,8 +132,7 @@ names_grown xs more ks steps all =
     subst (λ (l : List (List ℕ)). (steps_of (xs ++ more) l steps ≡ steps_of xs ks steps) × All (IsNamed (xs ++ more) l) steps) (append-nil ks) (steps_grown xs more ks [] steps all)
 
 reopens_same : (bytes : List ℕ) (keys : List (List ℕ)) (p : KeptStep) → is_kept_reopen p ≡ is_reopen (step_at bytes keys p)
-reopens_same bytes keys (kept.Reopen line) = refl
-reopens_same bytes keys p = refl
+reopens_same bytes keys p = search (arith, rules)
 
 pub any_reopens : (bytes : List ℕ) (keys : List (List ℕ)) (steps : List KeptStep)
     → list_any is_kept_reopen steps ≡ list_any is_reopen (steps_of bytes keys steps)
@@ -141,14 +140,11 @@ any_reopens bytes keys [] = refl
 any_reopens bytes keys (p ∷ steps) = λ i. reopens_same bytes keys p i || any_reopens bytes keys steps i
 
 own_cases : {A : Type 0} (b : Bool) (p : A) → b ≡ is_some (if b then Some p else None)
-own_cases true p = refl
-own_cases false p = refl
+own_cases b p = search (arith, rules)
 
 -- names don't tell whose a step is
 pub own_same : (t : ℕ) (bytes : List ℕ) (keys : List (List ℕ)) (p : KeptStep) → is_kept_of t p ≡ is_own t (step_at bytes keys p)
-own_same t bytes keys (kept.Turn line m) = refl
-own_same t bytes keys (kept.Reopen line) = refl
-own_same t bytes keys p = own_cases _ _
+own_same t bytes keys p = search (arith, own_cases)
 
 -- ---- the tasks of one thread
 

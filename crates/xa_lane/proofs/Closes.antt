@@ -1,6 +1,6 @@
 -- How many parcels a lane has, and what the lists that close a lane say together.
-use Rattle.xa_base.proofs.{◌≡◌, ℕ, zero, suc, ◌+◌, ◌<◌, ◌≤◌, cond, List, [], ◌∷◌, ◌++◌, length, sym, refl, ap, ◌∙◌, subst, ⊎_elim, append_assoc, eq-eqb, ne_eqb}
-use Rattle.xa_base.proofs.{arith, length-append, lt_of_not-le, ◌==◌, map, get_or, append-nil, Option, Some, None, All, eqb-true, Any-from_list_any}
+use Rattle.xa_base.proofs.{rules, ◌≡◌, ℕ, zero, suc, ◌+◌, ◌<◌, ◌≤◌, cond, List, [], ◌∷◌, ◌++◌, length, sym, refl, ap, ◌∙◌, subst, ⊎_elim, append_assoc, eq-eqb}
+use Rattle.xa_base.proofs.{ne_eqb, arith, length-append, lt_of_not-le, ◌==◌, map, get_or, append-nil, Option, All, eqb-true, Any-from_list_any}
 use Rattle.std.proofs.Math.Nat.{eq-or-lt_of_le}
 use Rattle.xa_lane.specs.{Parcel, Log, View, Receives, of_sender, after_get, Popped, receiver_learns, Tied, Within, items_in, Covers, made_in, taken_in}
 use Rattle.xa_lane.specs.{told_in, Sending, somes, kept, left_of, IsWhole, Conserves, EndsLast, LeavesNothing, AreKnown, told_of}
@@ -89,9 +89,7 @@ module _ {T : Type 0} where
   all_of_within n (x ∷ xs) w (suc k) d h = all_of_within n xs (within_tail n x xs w) k d (omega arith)
 
   kept_below : (n p : ℕ) (i : Option T) (xs : List (ℕ × T)) → p < n → All (λ x. x.0 < n) xs → All (λ x. x.0 < n) (kept p i xs)
-  kept_below n p (Some y) xs below all zero d h = below
-  kept_below n p (Some y) xs below all (suc k) d h = all k d (omega arith)
-  kept_below n p None xs below all k d h = all k d h
+  kept_below n p i xs below all k d h = search (arith, rules)
 
   items_below : (n : ℕ) (xs : List (Parcel T)) → Within n xs → All (λ x. x.0 < n) (items_in xs)
   items_below n [] w k d h = absurd (omega arith)

@@ -1,6 +1,6 @@
 -- Each step of a lane's queue keeps its rule.
-use Rattle.xa_base.proofs.{◌≡◌, ◌≢◌, ℕ, zero, suc, ◌+◌, ◌<◌, ◌≤◌, true, false, cond, ◌==◌, List, [], ◌∷◌, ◌++◌, length, set, sym, refl, ap, ◌∙◌, subst, ◌⊎◌}
-use Rattle.xa_base.proofs.{⊎_elim, inl, inr, append_assoc, append-nil, eq-eqb, ne_eqb, arith, length-append, Option, Some, None, map-append, lt_of_not-le}
+use Rattle.xa_base.proofs.{rules, ◌≡◌, ◌≢◌, ℕ, zero, suc, ◌+◌, ◌<◌, ◌≤◌, true, false, cond, ◌==◌, List, [], ◌∷◌, ◌++◌, length, set, sym, refl, ap, ◌∙◌, subst}
+use Rattle.xa_base.proofs.{◌⊎◌, ⊎_elim, inl, inr, append_assoc, append-nil, eq-eqb, ne_eqb, arith, length-append, Option, map-append, lt_of_not-le}
 use mathlib.Core.Option.{some, none, some-ne-none, some-injective}
 use mathlib.Core.Option as maybe
 use lib.ListN.{get_elem?}
@@ -36,12 +36,10 @@ module _ {T : Type 0} where
   of_same p got items x n = search (arith, of_sender-append, ne_eqb, append-nil)
 
   pub put_of_wrote : (l : Log T) (i : Option T) → l.ended ≡ false → put_of (wrote l i) ≡ put_of l ++ i ∷ []
-  put_of_wrote l (Some y) e = search (arith, append-nil, map-append, l.items)
-  put_of_wrote l None e = search (arith, append-nil)
+  put_of_wrote l i e = search (arith, append-nil, map-append)
 
   wrote_from : (l : Log T) (i : Option T) → (wrote l i).from ≡ l.from
-  wrote_from l (Some y) = refl
-  wrote_from l None = refl
+  wrote_from l i = search (arith, rules)
 
   abbrev All : (ℕ → View T → Type 0) → List (View T) → Type 0
   All F views = (port : ℕ) (v : View T) → get_elem? views port ≡ some v → F port v

@@ -1,6 +1,6 @@
 -- Lists of parcels, the items in them, and what several senders have sent.
-use Rattle.xa_base.proofs.{rules, ◌≡◌, ℕ, ◌+◌, ◌≤◌, true, false, cond, ◌==◌, List, [], ◌∷◌, ◌++◌, length, map, refl, ap, ◌∙◌, append-nil, arith, Option, Some}
-use Rattle.xa_base.proofs.{None, ◌≢◌, zero, suc, ◌<◌, ◌⊎◌, get_or, set, sym, inl, inr, slice_get}
+use Rattle.xa_base.proofs.{rules, ◌≡◌, ℕ, ◌+◌, ◌≤◌, true, cond, ◌==◌, List, [], ◌∷◌, ◌++◌, length, map, refl, ap, ◌∙◌, append-nil, arith, Option, Some, None}
+use Rattle.xa_base.proofs.{◌≢◌, zero, suc, ◌<◌, ◌⊎◌, get_or, set, sym, inl, inr, slice_get}
 use Rattle.xa_lane.specs.{Parcel, of_sender, marks, somes, has_mark, kept, items_in, left_of, Sending, at_place, with_item, with_full, but_full, sent_at}
 
 -- ---- lists of parcels, and the items in them
@@ -24,20 +24,17 @@ module _ {T : Type 0} where
 
   left_kept : (p q : ℕ) (i : Option T) (r : List (ℕ × T)) (ys : List (Option T)) → left_of p r ≡ somes ys
       → left_of p (kept q i r) ≡ somes (cond (q == p) (i ∷ ys) ys)
-  left_kept p q (Some y) r ys e = search (arith, rules)
-  left_kept p q None r ys e = elim (q == p) as (λ b. left_of p r ≡ somes (cond b (None ∷ ys) ys)) [ true ↦ e | false ↦ e ]
+  left_kept p q i r ys e = search (arith, rules)
 
   pub left_is : (p : ℕ) (held : List (Parcel T)) → left_of p (items_in held) ≡ somes (of_sender p held)
   left_is p [] = refl
   left_is p (x ∷ xs) = left_kept p x.from x.item (items_in xs) (of_sender p xs) (left_is p xs)
 
   kept-append : (p : ℕ) (i : Option T) (xs ys : List (ℕ × T)) → kept p i (xs ++ ys) ≡ kept p i xs ++ ys
-  kept-append p (Some y) xs ys = refl
-  kept-append p None xs ys = refl
+  kept-append p i xs ys = search (arith, rules)
 
   few_kept : (p : ℕ) (i : Option T) (xs : List (ℕ × T)) → length (kept p i xs) ≤ length xs + 1
-  few_kept p (Some y) xs = omega arith
-  few_kept p None xs = omega arith
+  few_kept p i xs = search (arith, rules)
 
   pub items_in-append : (xs ys : List (Parcel T)) → items_in (xs ++ ys) ≡ items_in xs ++ items_in ys
   items_in-append [] ys = refl

@@ -1,14 +1,14 @@
 -- Lines that don't name a branch put nothing into the journals that does.
 -- Where no other line names the branches of a commit, nobody else names them in the journals.
+use Rattle.xa_base.proofs.{rules, arith, ◌≡◌, ◌≢◌, ℕ, suc, inl, inr, Bool, true, false, ◌==◌, ◌&&◌, List, [], ◌∷◌, Option, Some, sym, refl, ap, ◌∙◌}
+use Rattle.xa_base.proofs.{if◌then◌else◌, All, Result, Ok, Err, eq-eqb, or_parts, list_any, slice_index_or, some_same, IfOk, subst, all_mid, all_left, All-map}
+use Rattle.xa_base.proofs.{All-cons, All-nil, All-head, All-tail, All-append, filter-append, ◌+◌, ◌<◌, cond, ◌++◌, length, map, get_or, filter, cases_eq}
+use Rattle.xa_base.proofs.{length-map, map-append, all_after, all_unmapped}
 use Rattle.xa_words.specs.declared.flags.Call.TheVariants as call
 use Rattle.xa_words.specs.declared.request.Op.TheVariants as op
 use Rattle.xa_words.specs.declared.request.RmOp.TheVariants as rm
 use Rattle.xa_grammar.specs.declared.step.Calling.TheVariants as calling
 use Rattle.xa_grammar.specs.declared.step.Action.TheVariants as action
-use Rattle.xa_base.proofs.{arith, ◌≡◌, ◌≢◌, ℕ, zero, suc, inl, inr, Bool, true, false, ◌==◌, ◌&&◌, List, [], ◌∷◌, Option, Some, None, sym, refl, ap, ◌∙◌}
-use Rattle.xa_base.proofs.{if◌then◌else◌, All, Result, Ok, Err, eq-eqb, or_parts, list_any, slice_index_or, some_same, IfOk, subst, all_mid, all_left, All-map}
-use Rattle.xa_base.proofs.{All-cons, All-nil, All-head, All-tail, All-append, filter-append, ◌+◌, ◌<◌, cond, ◌++◌, length, map, get_or, filter, cases_eq}
-use Rattle.xa_base.proofs.{length-map, map-append, all_after, all_unmapped}
 use Rattle.xa_atomicity.proofs.Sites.{none_all, all_later, request_of, sides}
 use Rattle.xa_base.specs.{Chain}
 use Rattle.xa_base.specs.Lists.Chain.{none as no_step, more as one_step}
@@ -16,20 +16,17 @@ use Rattle.xa_words.specs.{XidName, xid_eq, check_flags, Call, Mode, Op, RmOp, D
 use Rattle.xa_tables.specs.{names, History, of_thread}
 use Rattle.xa_worker.specs.{Entry, requests}
 use Rattle.xa_calls.specs.Asking.{◌>>=◌}
-use Rattle.xa_calls.specs.{Asked as WantedOp, op_by, asked_of, rm_op, start_of, Recovers, RecoversFrom, RecoversBy}
+use Rattle.xa_calls.specs.{Asked as WantedOp, op_by, asked_of, rm_op, Recovers, RecoversFrom, RecoversBy}
 use Rattle.xa_switch.specs.{Settling, journal, sent}
 use Rattle.xa_calls.specs.Scans.{Asking}
-use Rattle.xa_scan.specs.{ScanView, standing, left_at, place_at}
-use Rattle.xa_calls.specs.Scans.Recovers.{unreached, stopped, told as found_some}
+use Rattle.xa_scan.specs.{ScanView, standing, left_at}
 use Rattle.xa_driver.specs.{Branch}
 use Rattle.xa_grammar.specs.{ScriptCalling, ScriptCalled, ScriptAction, CommitAll, Content}
 use Rattle.xa_transcript.specs.{Answer}
-use Rattle.xa_telling.specs.{in_xa, outside_xa, wanted, wanted_by, Part, Asked, CallTakes, Line, Takes, TakesPart, entries_of, Beginning, Opening, TellsOf}
-use Rattle.xa_telling.specs.{part_at}
+use Rattle.xa_telling.specs.{in_xa, outside_xa, wanted, wanted_by, Part, CallTakes, Line, Takes, TakesPart, entries_of, Beginning, Opening, TellsOf, part_at}
 use Rattle.xa_telling.specs.Wants.Wanted.{code_of, handle_for}
 use Rattle.xa_shown.proofs.Adds.{Adds, TaskSo, adds_both, adds_none, op_in, takes_add}
 use Rattle.xa_atomicity.proofs.CutSends.{Unnamed, second_unnamed, outcome_unnamed, third_unnamed}
-use Rattle.xa_telling.specs.Parts.CallTakes.{answered, kept, refused, completes, lists}
 use Rattle.xa_telling.specs.Commits.CommitTakes.{refused as takes_none, decided, undecided, died}
 use Rattle.xa_telling.specs.Resolves.ResolveTakes.{refused as ends_none, resolved}
 use Rattle.xa_shown.specs.{branches_by, is_among, names_it, Place, AreNamedByNoOther, NamesNone, entered_so_far}
@@ -49,10 +46,7 @@ AddsUnnamed x = Adds (Unnamed x)
 -- the op of a call names no branch but the call's own
 op_names : (c : Call) (x : Option XidName) (y : XidName) (m : Mode) → ((z : XidName) → x ≡ Some z → xid_eq z y ≡ false)
     → IfOk (op_by c x m) (λ o. names y o ≡ false)
-op_names call.OpenRm x y m apart = refl
-op_names call.CloseRm x y m apart = refl
-op_names c None y m apart = tt
-op_names c (Some z) y m apart = search (arith, apart)
+op_names c x y m apart = search (arith, apart)
 
 -- what holds of an op that is wanted
 wanted_so : (P : Op → Type 0) (r : Result WantedOp Code) (o : Op) → IfOk r (λ a. P a.op)
@@ -86,42 +80,25 @@ apart b m x same none = sym (ap (λ q. q && xid_eq x b.xid) (eq-eqb m b.m same))
 
 by_call : (a : ScriptCalling) (m f : ℕ) (b : Branch) (o : Op) → op_in (wanted_by a f) ≡ Some o → m ≡ b.m → is_among b (branches_by m a) ≡ false
     → names b.xid o ≡ false
-by_call (calling.Xa c None) m f b o e same quiet = xa_names c None f b.xid o (λ z is. absurd (cc)) e
-by_call (calling.Xa c (Some x)) m f b o e same quiet =
-    xa_names c (Some x) f b.xid o (λ z is. ap (λ y. xid_eq y b.xid) (some_same z x (sym is)) ∙ apart b m x same (or_parts ((m == b.m) && xid_eq x b.xid) false quiet).0) e
-by_call (calling.Heur x commits) m f b o e same quiet = search (arith, op_native, apart, or_parts)
-by_call (calling.Add k d) m f b o e same quiet = ap (names b.xid) (sym (op_native (rm.Add k d) f o e))
-by_call calling.Shut m f b o e same quiet = ap (names b.xid) (sym (op_native rm.Shut f o e))
-by_call a m f b o e same quiet = absurd (cc)
+by_call a m f b o e same quiet = search (arith, xa_names, some_same, apart, or_parts, op_native)
 
 -- ---- what a thread's scans have as left
 
 stands_left : (z : ScanView) (m : ℕ) (place : Option ℕ) → (standing z m place).left ≡ z.left
-stands_left z zero place = refl
-stands_left z (suc k) place = refl
+stands_left z m place = search (arith, rules)
 
 module _ (asking : Asking Part) (m : ℕ) (old : Part) (z : ScanView) (xids : List XidName) (new : Part) (z' : ScanView) (xids' : List XidName) where
   recovers_leave : (mode : Mode) (place : ℕ) (r : Result ℕ Code) → Recovers asking m mode place old z xids new z' xids' r → z'.left ≡ z.left
-  recovers_leave mode place r (unreached why asked never same kept_so) = ap (λ (y : ScanView). y.left) same
-  recovers_leave mode place r (stopped mid found why asked scans same writes) = ap (λ (y : ScanView). y.left) same
-  recovers_leave mode place r (found_some mid found looked asked scans stands writes) = search (arith, stands_left)
+  recovers_leave mode place r h = search (arith, stands_left)
 
   from_leave : (start : Option ℕ) (mode : Mode) (r : Result ℕ Code) → RecoversFrom asking start m mode old z xids new z' xids' r → z'.left ≡ z.left
-  from_leave None mode r is = ap (λ (y : ScanView). y.left) is.scan
-  from_leave (Some place) mode r is = recovers_leave mode place r is
+  from_leave start mode r is = search (arith, recovers_leave)
 
   by_leave : (there : Bool) (mode : Result Mode Code) (r : Result ℕ Code) → RecoversBy asking there mode m old z xids new z' xids' r → z'.left ≡ z.left
-  by_leave there (Err why) r is = ap (λ (y : ScanView). y.left) is.scan
-  by_leave false (Ok mode) r is = ap (λ (y : ScanView). y.left) is.scan
-  by_leave true (Ok mode) r is = from_leave (start_of mode (place_at z m)) mode r is
+  by_leave there mode r is = search (arith, from_leave)
 
 call_leaves : (settled : Settling) (t : ℕ) (q : ScriptCalled) (a : Answer) (old new : Part) → CallTakes settled t q a old new → new.scan.left ≡ old.scan.left
-call_leaves settled t q a old new (answered o c asks told is) = ap (λ (x : Part). x.scan.left) is
-call_leaves settled t q a old new (kept o c k asks low told free is) = ap (λ (x : Part). x.scan.left) is
-call_leaves settled t q a old new (refused c is told same) = ap (λ (x : Part). x.scan.left) same
-call_leaves settled t q a old new (completes o k c asks there code told same) = ap (λ (x : Part). x.scan.left) same
-call_leaves settled t q a old new (lists n asks is) =
-    by_leave (Asked t q.manager) q.manager old old.scan is.before is.asked new.scan is.after is.there (check_flags call.Recover q.flags) is.result is.recovers
+call_leaves settled t q a old new h = search (arith, by_leave)
 
 takes_leaves : (settled : Settling) (x : ScriptAction) (t : ℕ) (a : Answer) (old new : Part) → Takes settled x t a old new → new.scan.left ≡ old.scan.left
 takes_leaves settled (action.Call q) t a old new is = call_leaves settled t q a old new is
@@ -155,13 +132,11 @@ module _ (settled : Settling) (b : Branch) where
   Same z p = p.scan.left ≡ z.left
 
   left_same : (m : ℕ) (y z : ScanView) → y.left ≡ z.left → left_at y m ≡ left_at z m
-  left_same zero y z e = refl
-  left_same (suc k) y z e = ap (λ l. slice_index_or l k []) e
+  left_same m y z e = search (arith, slice_index_or)
 
   -- what names it doesn't depend on where the scans stand
   names_same : (y z : ScanView) (x : ScriptAction) → y.left ≡ z.left → names_it z b x ≡ false → names_it y b x ≡ false
-  names_same y z action.Resolve same quiet = ap (list_any (λ x. xid_eq x b.xid)) (left_same b.m y z same) ∙ quiet
-  names_same y z x same quiet = quiet
+  names_same y z x same quiet = search (arith, list_any, left_same)
 
   takes_unnamed : (z : ScanView) (x : ScriptAction) (t : ℕ) (a : Answer) (old new : Part) → Takes settled x t a old new → Same z old → names_it z b x ≡ false
       → (AddsUnnamed b.xid) (old.entries b.m) (new.entries b.m)

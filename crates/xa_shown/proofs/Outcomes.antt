@@ -10,10 +10,10 @@ use Rattle.xa_atomicity.specs.Outcomes.{is_committed}
 use Rattle.xa_words.specs.{Code, TranName, Death, Op}
 use Rattle.xa_tables.specs.{Tables}
 use Rattle.xa_switch.specs.{Settling, IsSettled, journal, IsOpenedWith, history as history_of}
-use Rattle.xa_driver.specs.{Branch, Done as Outcome, Ending, Committed, Heuristic, is_no, ending_of, AtBranch, is_commit, CameTo, IsDecidedBy, Putting}
-use Rattle.xa_driver.specs.{VotesAndObeys, decides_commit, has_yes, EachBranch, decision_of}
+use Rattle.xa_driver.specs.{Branch, Done as Outcome, Ending, is_no, ending_of, AtBranch, is_commit, CameTo, IsDecidedBy, Putting, VotesAndObeys, decides_commit}
+use Rattle.xa_driver.specs.{has_yes, EachBranch, decision_of}
 use Rattle.xa_atomicity.proofs.Courses.{course_of}
-use Rattle.xa_atomicity.proofs.OneOutcome.{not_rolled_back, uncommitted, unvoted, IsNoCommit}
+use Rattle.xa_atomicity.proofs.OneOutcome.{not_rolled_back, uncommitted, IsNoCommit}
 use Rattle.xa_atomicity.proofs.Settled.{Both, Fated, InHistory, one_both, one_fated, outcome_map, each_outcome, site_of}
 use Rattle.xa_session.specs.{branches_of, named}
 use Rattle.xa_grammar.specs.{CommitAll, ScriptStep, ScriptAction}
@@ -74,13 +74,11 @@ out_so commit is b v e h = ap is_committed (h.1 ∙ ap (λ c. ending_of c v h.0)
 
 -- what is neither left nor rolled back
 rest_is : (e : Ending) → is_left e ≡ false → is_rolled_back e ≡ false → (is_committed e || (is_read_only e || (is_in_doubt e || is_heuristic e))) ≡ true
-rest_is (Heuristic c) l r = refl
-rest_is e l r = search arith
+rest_is e l r = search (arith, rules)
 
 certain_is : (e : Ending) → is_left e ≡ false → is_rolled_back e ≡ false → is_in_doubt e ≡ false → is_heuristic e ≡ false → is_read_only e ≡ false
     → is_committed e ≡ true
-certain_is Committed l r d h o = refl
-certain_is e l r d h o = absurd (cc)
+certain_is e l r d h o = search (arith, rules)
 
 -- by the line alone
 module _ (t : ℕ) (c : CommitAll TranName) (done : Outcome) (old new : Part) (is : Decides t c done old new) where
@@ -256,9 +254,7 @@ module _ (tran : TranName) (bs : List Branch) (log later : LogState) (known : Ou
   module _ {D : Type 0} (A : Asking D) (U : Putting D) (old new : ℕ → D) where
     -- nothing was decided, or it was by the votes
     far_so : (at : Death) → CameTo A U at tran bs old new log later known → ((known.commit ≡ false) × (later ≡ log)) ⊎ IsDecidedBy tran bs log later known
-    far_so (death.Preparing k) far = inl (far.undecided.commit, far.unlogged)
-    far_so death.Prepared far = inl (far.undecided.commit, far.unlogged)
-    far_so at far = inr far.decided
+    far_so at far = search (arith, rules)
 
     -- where there is none, it was decided to abort, or no branch voted to commit
     pub votes_fit : (at : Death) → CameTo A U at tran bs old new log later known → is_recorded later tran ≡ false
@@ -280,8 +276,7 @@ obeyed_ends A commit old new bs vs zs es h =
 
 -- a branch that isn't to be committed isn't shown as committed
 not_shown : (commit : Bool) (b : Branch) (v : Code) (e : Ending) → NotToCommit commit v × Ends commit b v e → is_committed e ≡ false
-not_shown commit b v e (inl aborts, ends) = out_so commit aborts b v e ends
-not_shown commit b v e (inr against, ends) = ap is_committed ends.1 ∙ unvoted commit v ends.0 against
+not_shown commit b v e h = search (arith, out_so)
 
 abbrev none_among : (Ending → Bool) → List Ending → Type 0
 none_among p es = list_any p es ≡ false

@@ -108,9 +108,7 @@ hold_found (a ∷ rest) h x k =
 
     others : (o : Option Hold) → same_key k a.key ≡ false
         → find touch_cmp (x, k) (with_hold a.key o (hold_entries rest)) ≡ find touch_cmp (x, k) (hold_entries rest)
-    others None t = refl
-    others (Some l) t =
-        ap (λ b. cond b (Some l.amount) (find touch_cmp (x, k) (hold_entries rest))) (touch_same x l.xid k a.key ∙ ap (λ b. xid_eq l.xid x && b) t ∙ and-false _)
+    others o t = search (arith, touch_same, and-false)
 
 sum_is : (accounts : List Account) → AreDistinct accounts → (x : XidName) (k : List ℕ)
     → sum_of (from_entries (hold_entries accounts)) x k ≡ unwrap_or (amount_held x (at_key k accounts)) (pos 0)

@@ -1,10 +1,10 @@
 -- Where the keys stand among the accounts, and scans of the places that branches hold in place of scans of all accounts.
-use Rattle.xa_base.proofs.{◌≡◌, ℕ, pos, zero, suc, ◌+◌, ◌<◌, ◌≤◌, All, Bool, true, false, cond, nat_le, List, [], ◌∷◌, ◌++◌, length, take_all, map, None, Some}
-use Rattle.xa_base.proofs.{is_some, refl, slice_index_or, sym, ap, ◌∙◌, arith, get_or, take, set, ints, or-false, not-true, and_parts, take_more, map-append}
-use Rattle.xa_base.proofs.{length-map, get_or_default, All-map, list_any, list_all, eq_by_cmp_equiv, FinMap, find, from_entries, get-insert, ◌&&◌, ◌||◌}
-use Rattle.xa_base.proofs.{false_from_ne_true, ℤ, nat_eq, drop, filter, Option, subst, IsDistinct, eqb-true, eq-eqb, drop_all, get_or-map, get_or-set_other}
-use Rattle.xa_base.proofs.{length-set, list_any-append, +ℤ_idr as plus_none, none_twice, length-take-le, leb-true, true_from_ne_false, list_any_at}
-use Rattle.xa_base.proofs.{AllByRecursion, get_or-set_at, drop_more, map-set, set-get_or, IsDistinct-head, IsDistinct-tail, IsDistinct-push}
+use Rattle.xa_base.proofs.{rules, ◌≡◌, ℕ, pos, zero, suc, ◌+◌, ◌<◌, ◌≤◌, All, Bool, true, false, cond, nat_le, List, [], ◌∷◌, ◌++◌, length, take_all, map, None}
+use Rattle.xa_base.proofs.{Some, is_some, refl, slice_index_or, sym, ap, ◌∙◌, arith, get_or, take, set, ints, or-false, not-true, and_parts, take_more}
+use Rattle.xa_base.proofs.{map-append, length-map, get_or_default, All-map, list_any, list_all, eq_by_cmp_equiv, FinMap, find, from_entries, get-insert, ◌&&◌}
+use Rattle.xa_base.proofs.{◌||◌, false_from_ne_true, ℤ, nat_eq, drop, filter, Option, subst, IsDistinct, eqb-true, eq-eqb, drop_all, get_or-map}
+use Rattle.xa_base.proofs.{get_or-set_other, length-set, list_any-append, +ℤ_idr as plus_none, none_twice, length-take-le, leb-true, true_from_ne_false}
+use Rattle.xa_base.proofs.{list_any_at, AllByRecursion, get_or-set_at, drop_more, map-set, set-get_or, IsDistinct-head, IsDistinct-tail, IsDistinct-push}
 use Rattle.xa_base.proofs.{length-le_from_distinct_below}
 use Rattle.std.proofs.lemmas.List.Folds.{list_all_at, map_fixed}
 use Rattle.xa_words.specs.{XidName, key_eq, key_cmp_total, Decides-key_eq, key_eq-by_cmp}
@@ -347,8 +347,7 @@ whole_more x accounts i a within e whole = search (arith, any_set, passes_none)
 -- ---- the places that stay
 
 where_held : (keep : XidName → Bool) (o : Option Hold) → is_some (hold_where keep o) ≡ true → is_some o ≡ true
-where_held keep None h = h
-where_held keep (Some l) h = refl
+where_held keep o h = search (arith, rules)
 
 kept_all : (P : ℕ → Type 0) (test : ℕ → Bool) (ps : List ℕ) → AllByRecursion P ps → AllByRecursion P (filter test ps)
 kept_all P test [] h = tt

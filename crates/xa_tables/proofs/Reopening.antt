@@ -13,7 +13,7 @@ use Rattle.xa_tables.specs.{committed, are_accounts, StaysWithin}
 use Rattle.xa_tables.proofs.AccountLemmas.{touch_cmp_total, touch_cmp-IsAntisymmetric, within_bounds}
 use Rattle.xa_tables.proofs.Law.{after_accepted, Tells, told_tells, run, opening_sound, Sound, get_put, associated_works, voted_rests, sound_after, standing}
 use Rattle.xa_tables.proofs.Law.{get_gone}
-use Rattle.xa_tables.proofs.ValueLaw.{Held, IsPending, due, plus_zero, Run, value_run, chained, Clean, touching, run_clean, opening_clean, get_without, get_add}
+use Rattle.xa_tables.proofs.ValueLaw.{Held, IsPending, due, plus_zero, Run, value_run, chained, Clean, run_clean, opening_clean, get_without, get_add}
 use Rattle.xa_tables.proofs.ValueLaw.{get_committed, no_other, get_added}
 use Rattle.xa_tables.specs.Next.{forgotten}
 use Rattle.xa_tables.proofs.Effects.{Effect, Adds, Prepares, Commits, Drops, CommitsByItself, RollsBackByItself, Forgets, effect_of}
@@ -158,8 +158,7 @@ from_start F h hs T x = commits_later (commits_over x (ended F h T x) hs (tables
 due_over : (k : List ℕ) (G : XidName → Fate) (g : History) (gs : List History) (T : Tables) (p : Held) → Clean T → Tell G T → IsPending k p T.sums
     → due p (λ x. commits_over x (G x) (g ∷ gs) T) ≡ due (left_held T p) (from_start (begun G) g gs (reopened T))
 unfolding left_held
-due_over k G g gs T None n s h = refl
-due_over k G g gs T (Some p) n s h = grind (arith, touching, or-false, due)
+due_over k G g gs T p n s h = search (arith, or-false)
 
 -- ---- openings one after another
 
@@ -230,9 +229,7 @@ unbroken_fits T x unbroken k s at =
 -- a value with what a branch adds to it, if anything
 value_fits : (o q : Option ℤ) (v : ℤ) → option_map (λ u. u +ℤ unwrap_or q (pos 0)) o ≡ Some v → ((u : ℤ) → o ≡ Some u → is_within u ≡ true)
     → ((u r : ℤ) → o ≡ Some u → q ≡ Some r → is_within (u +ℤ r) ≡ true) → is_within v ≡ true
-value_fits None q v at one both = cc
-value_fits (Some u) None v at one both = let w = one u refl in grind (arith, plus_none)
-value_fits (Some u) (Some r) v at one both = let w = both u r refl refl in grind arith
+value_fits o q v at one both = search (arith, plus_none)
 
 module _ (t : ℕ) (T : Tables) (s : Sound T) (w : Kept T) where
   -- the branch of a thread's association, which alone has touched the key, adds to it

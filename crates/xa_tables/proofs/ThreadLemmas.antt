@@ -9,7 +9,7 @@ use Rattle.xa_tables.specs.{with_entry, entries_from, Association, has_opened, h
 use Rattle.xa_tables.specs.{counted, free_threads, places_taken, Tables}
 use Rattle.xa_words.specs.{Op, RmFail}
 use Rattle.xa_tables.proofs.SoundLemmas.{by_nat, own_put, other_put, own_removed, other_removed}
-use Rattle.xa_tables.proofs.Effects.{Effect, Starts, Joins, Resumes, Suspends, at_rules}
+use Rattle.xa_tables.proofs.Effects.{Effect, at_rules}
 use Rattle.std.specs.FinMap as map
 use Rattle.std.specs.FinSet as finset
 
@@ -225,11 +225,7 @@ module _ (t : ℕ) (T : Tables) where
   -- t, which may ask for it, becomes associated only where it was free
   own_pays : {op : Op} {a : Answer} → (needs_opening op && not (has_opened T t)) ≡ false → Effect t T op a
       → counted (is_free a.0 t) + 2 * places_taken t T a.0 ≤ 1 + counted (is_free T t)
-  own_pays may (Starts y free) = grind (arith, own_put)
-  own_pays may (Joins y free there unprepared) = grind (arith, own_put)
-  own_pays may (Resumes y own) = grind (arith, own_put)
-  own_pays may (Suspends y own) = grind (arith, own_put)
-  own_pays may effect = grind (arith, own_removed)
+  own_pays may effect = search (arith, own_put, own_removed)
 
 -- a request frees at most one thread, and one that takes a place makes a free thread busy
 pub places_paid : (n t : ℕ) (op : Op) (T : Tables) → 0 < t → t ≤ n

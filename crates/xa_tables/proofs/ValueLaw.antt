@@ -1,7 +1,7 @@
 -- What a history moves of a key's value: the additions whose branches commit; which branches have touched a key; and what leaves a branch as it is.
-use Rattle.xa_base.proofs.{◌≡◌, ◌≢◌, ℕ, ℤ, pos, ◌+ℤ◌, option_map, Bool, true, false, cond, not, ◌&&◌, if◌then◌else◌, Option, None, Some, List, [], ◌∷◌, refl}
-use Rattle.xa_base.proofs.{sym, ap, ◌∙◌, subst, arith, get-insert, FinMap, not-false, +ℤ_idl as none_plus, ints, get-map_values, none_passes, is_some}
-use Rattle.xa_base.proofs.{and_parts, not-true, ◌||◌, ◌++◌, All-head, All-tail, at_false, get-retain_keys, true_from_ne_false}
+use Rattle.xa_base.proofs.{rules, ◌≡◌, ◌≢◌, ℕ, ℤ, pos, ◌+ℤ◌, option_map, Bool, true, false, cond, not, ◌&&◌, if◌then◌else◌, Option, None, Some, List, [], ◌∷◌}
+use Rattle.xa_base.proofs.{refl, sym, ap, ◌∙◌, subst, arith, get-insert, FinMap, not-false, +ℤ_idl as none_plus, ints, get-map_values, none_passes, is_some}
+use Rattle.xa_base.proofs.{◌||◌, ◌++◌, All-head, All-tail, at_false, get-retain_keys}
 use Rattle.xa_words.specs.{XidName, xid_eq, Decides-xid_eq, key_cmp_total, key_cmp-IsAntisymmetric, Decides-key_eq, Done, Op, Add, key_eq, Code, Request}
 use Rattle.xa_tables.specs.{Association, association_of, has_other_touched, Touch, touch_cmp, sum_of, sums_without, Answer, next, committed, coded, accepted}
 use Rattle.xa_tables.specs.{fate_of, tables_after, added_in, share_of, commits_later, ending, or_later, LateAddNothing, Tables, History, State, state_of, is_S3}
@@ -178,8 +178,7 @@ module _ (k : List ℕ) (p : Held) (T : Tables) (h : IsPending k p T.sums) where
 
 -- a value moved twice
 pub chained : (o : Option ℤ) (m n : ℤ) → option_map (λ v. v +ℤ n) (option_map (λ v. v +ℤ m) o) ≡ option_map (λ v. v +ℤ (m +ℤ n)) o
-chained None m n = refl
-chained (Some v) m n = ap (λ w. Some w) (omega (arith, ints))
+chained o m n = search (arith, rules)
 
 none_moved : (d : ℤ) → pos 0 +ℤ d ≡ d +ℤ pos 0
 none_moved d = omega (arith, ints)
@@ -247,11 +246,6 @@ run_clean (r ∷ h) T s w = run_clean h (next r.thread r.op T).0 (sound_after r.
 
 unfinished : (o : Option State) → (is_some o && not (is_S5 o)) ≡ false → standing o ≡ Nowhere
 unfinished o e = grind arith
-
--- a branch that has touched a key exists, and isn't heuristically completed
-pub touching : (T : Tables) → Clean T → (x : XidName) (k : List ℕ) (s : ℤ) → map.get T.sums (x, k) ≡ Some s
-    → (is_some (state_of T x) ≡ true) × (is_S5 (state_of T x) ≡ false)
-touching T n x k s at = grind (arith, and_parts, true_from_ne_false, unfinished, not-true)
 
 nowhere_unprepared : (o : Option State) → standing o ≡ Nowhere → is_S3 o ≡ false
 nowhere_unprepared o e = grind arith

@@ -3,7 +3,7 @@
 use Rattle.xa_words.specs.declared.death.Death.TheVariants as death
 use Rattle.xa_base.proofs.{arith, ◌≡◌, ℕ, inl, inr, zero, suc, Bool, false, ◌||◌, List, [], ◌∷◌, length, Option, Some, None, sym, refl, ap, ◌∙◌, subst, All}
 use Rattle.xa_base.proofs.{cases_eq, ne_eqb, All-cons, All-nil, All-head, All-tail, ◌≤◌, ◌⊎◌, ◌-◌, ◌<◌, true, ◌++◌, map, drop, length-append, nat_eq, or-false}
-use Rattle.xa_base.proofs.{All-map, list_any-append, list_any_none, by_if, ⊎_elim, take, cases_lt, min, take-nil}
+use Rattle.xa_base.proofs.{All-map, list_any-append, list_any_none, by_if, ⊎_elim, cases_lt, min, take-nil}
 use Rattle.xa_words.specs.{TranName, Death, Op, Prepare, Code, RmFail}
 use Rattle.xa_calls.specs.Scans.{Asking}
 use Rattle.xa_driver.specs.{Branch, Done, Ending, Putting, HaveAsked, HaveTold, Tells, VotesAndHears, VotesAndObeys, CameTo, CameToVotes, to_come, second_op}
@@ -240,8 +240,7 @@ module _ (settled : Settling) (is : IsSettled settled) (t : ℕ) where
   entries at m = upto (own m) (ledger at m)
 
   pub same_entries : (old new : List LedgerView) (m : ℕ) → (1 ≤ m → (ledger new m).sent ≡ (ledger old m).sent) → entries new m ≡ entries old m
-  same_entries old new zero same = search (arith, nobody, take-nil)
-  same_entries old new (suc m) same = ap (λ l. take (length l) (own (suc m))) (same (omega arith))
+  same_entries old new m same = search (arith, nobody, take-nil)
 
   -- one request to a manager
   module _ (m : ℕ) (low : 1 ≤ m) where

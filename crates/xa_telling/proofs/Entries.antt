@@ -1,9 +1,9 @@
 -- What a thread has sent to a manager and collected from it, as the manager's journal has it; and what its calls do to its desk.
+use Rattle.xa_base.proofs.{rules, ◌≡◌, ◌<◌, ◌≤◌, ℕ, Bool, List, [], ◌∷◌, length, None, Some, sym, ap, refl, subst, arith, length-append, All, nat_cmp, All-push}
+use Rattle.xa_base.proofs.{by_if, ◌+◌, ◌-◌, ⊎_elim, suc, true, false, cond, ◌==◌, ◌++◌, map, take, ◌∙◌, append_assoc, slice_get, if◌then◌else◌, Contains}
+use Rattle.xa_base.proofs.{cases_lt, length-map, All-contains, Contains-append_left, slice_get_within, slice_get-get_or, contains_at, got_map, one_more}
+use Rattle.xa_base.proofs.{was_mapped, by_bool, get_or-take, Contains-push, Any-from_list_any, get_or_from_slice_get, some_pair_parts}
 use Rattle.std.specs.FinMap as finmap
-use Rattle.xa_base.proofs.{◌≡◌, ◌<◌, ◌≤◌, ℕ, Bool, List, [], ◌∷◌, length, None, Some, sym, ap, refl, subst, arith, length-append, All, nat_cmp, All-push, by_if}
-use Rattle.xa_base.proofs.{◌+◌, ◌-◌, ⊎_elim, suc, true, false, cond, ◌==◌, ◌++◌, map, take, ◌∙◌, append_assoc, slice_get, if◌then◌else◌, Contains, cases_lt}
-use Rattle.xa_base.proofs.{length-map, All-contains, Contains-append_left, slice_get_within, slice_get-get_or, contains_at, got_map, one_more, was_mapped}
-use Rattle.xa_base.proofs.{by_bool, get_or-take, Contains-push, Any-from_list_any, get_or_from_slice_get, some_pair_parts}
 use Rattle.xa_words.specs.{Code, Op, RmFail, Request}
 use Rattle.xa_desk.specs.{Operation, HaveGrown, learnt_shut, with_sent, with_collected, IsKnown, IsOut, ledger, next_operation, after_sent, after_collected}
 use Rattle.xa_desk.specs.{submitted, after_fulls, Collects, TakesKept, LedgerView, DeskView, is_rm_fail, is_known, sent_to, collected_from, HasGrown, numbered}
@@ -114,8 +114,7 @@ has_redeemed old new k c is = search (arith, is.collects.looks.rest, is.operatio
 
 requests_step : (e : Entry) (rs : List Request) (es : List Entry) (b : Bool) → rs ≡ map (λ (e : Entry). e.0) es
     → cond b (e.0 ∷ rs) rs ≡ map (λ (e : Entry). e.0) (cond b (e ∷ es) es)
-requests_step e rs es true same = ap (λ l. e.0 ∷ l) same
-requests_step e rs es false same = same
+requests_step e rs es b same = search (arith, rules)
 
 pub requests_kept : (t : ℕ) (es : List Entry) → of_thread t (requests es) ≡ map (λ e. e.0) (entries_of t es)
 requests_kept t [] = refl
@@ -168,8 +167,7 @@ collected_there pre now all p is begins =
     subst (λ l. Contains l p) (sym begins.1) (Contains-append_left now begins.0 p (subst (λ l. Contains l p) (sym is) (Contains-push pre p)))
 
 pub is_rm_fail_so : (c : Code) → is_rm_fail c ≡ true → c ≡ RmFail
-is_rm_fail_so RmFail e = refl
-is_rm_fail_so c e = absurd (cc)
+is_rm_fail_so c e = search (arith, rules)
 
 abbrev pub upto : List Entry → LedgerView → List Entry
 upto es a = take (length a.sent) es

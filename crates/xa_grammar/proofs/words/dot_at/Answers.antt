@@ -1,12 +1,11 @@
-use Rattle.xa_base.proofs.{◌≡◌, ℕ, List, length, nat_eq, Bool, true, false, refl, sym, ◌∙◌, arith, Option, None, Some, unwrap_or}
+use Rattle.xa_base.proofs.{rules, ◌≡◌, ℕ, List, length, nat_eq, Bool, true, false, sym, ◌∙◌, arith, Option, None, Some, unwrap_or}
 use Rattle.std.specs.List.{position_or_len}
 use Rattle.std.proofs.lemmas.List.Sums.{position_or_len_is}
 use Rattle.memchr.specs.Find.{IsFirstByte, is_byte}
 use Rattle.xa_grammar.proofs.words.dot_at.Goals as goal
 
 is_false : (b : Bool) → ¬ (b ≡ true) → b ≡ false
-is_false true never = absurd (never refl)
-is_false false never = refl
+is_false b never = search (arith, rules)
 
 -- A search that ends at the first dot, or nowhere, tells its place.
 place : (word : List ℕ) (found : Option ℕ) → IsFirstByte (is_byte 46) word found → unwrap_or found (length word) ≡ position_or_len (λ b. nat_eq b 46) word

@@ -29,7 +29,7 @@ not_judged n why is = elim is [ inl usage ↦ cc | inr memory ↦ cc ]
 faulty : (fault : Fault) (words : List (Bor (List ℕ))) (bytes before after : Option (List ℕ)) → (IsJudged fault ⊎ AreWords words)
     → ((m : Mode) → IsMode words m → FailsBy fault m bytes before after) → status_of fault ≡ 1 → (m : Mode) × IsMode words m × IfSome bytes (IsFaulty m)
 faulty (Script (script.Line n why)) words bytes before after judged fails one =
-    elim judged [ | inl known ↦ absurd (not_judged n why known) | inr are ↦ let is = fails are.0 are.1 in (are.0, are.1, some_faulty bytes are.0 n why is.1) ]
+    elim judged [ inl known ↦ absurd (not_judged n why known) | inr are ↦ let is = fails are.0 are.1 in (are.0, are.1, some_faulty bytes are.0 n why is.1) ]
 faulty (Run run.NoMemory) words bytes before after judged fails one = absurd (omega (arith, one))
 faulty (Run run.Write) words bytes before after judged fails one = absurd (omega (arith, one))
 faulty _ words bytes before after judged fails one = absurd (omega (arith, one))

@@ -48,8 +48,7 @@ pub returns-in-Err-pass_night-clause-stopped : goal.returns-in-Err-pass_night-cl
 returns-in-Err-pass_night-clause-stopped g c =
     let day = c.in-Ok-work_day.day in
     let numbers =
-    numbers_are c.args.self.again c.next_numbers-again.result c.in-Some.ensures.threads c.deref.ensures.value c.next_numbers-again.ensures.numbers in
-    (
+    numbers_are c.args.self.again c.next_numbers-again.result c.in-Some.ensures.threads c.deref.ensures.value c.next_numbers-again.ensures.numbers in (
       is_day_of g.L.DecisionLog.state g.L.DecisionRecords.knows g.L.DecisionLog.loses g.L.ReopenLog.reopens c.args.self _ c.args.errands.items _ c.turn_all-tellers.result.items day c.deref.ensures.value
           c.turn_all-tellers.ensures c.in-Some.ensures.few c.in-Ok-work_day.ensures.worked refl refl,
       subst (λ (q : Again). IsUnsettledNight g.L.DecisionLog.state g.L.DecisionRecords.knows day.evening.tellers day.settled (next_numbers q 1) c.in-Err-pass_night.ran) numbers c.in-Err-pass_night.ensures.unsettled,

@@ -1,4 +1,4 @@
-use Rattle.xa_base.proofs.{◌≡◌, ℕ, ◌+◌, ◌<◌, ◌==◌, ◌||◌, Bool, true, false, cond, List, [], ◌∷◌, ◌++◌, length, get_or, slice_set, refl, sym, ◌∙◌, arith, at_ok}
+use Rattle.xa_base.proofs.{rules, ◌≡◌, ℕ, ◌+◌, ◌<◌, ◌==◌, ◌||◌, Bool, true, false, cond, List, [], ◌∷◌, ◌++◌, length, get_or, slice_set, sym, ◌∙◌, arith, at_ok}
 use Rattle.xa_base.proofs.{list_any, eqb-true, get_or-set_same, get_or-set_other, list_any-append, sum_by-cons}
 use Rattle.std.proofs.lemmas.List.Sums.{sum_by-append}
 use Rattle.xa_grammar.specs.{Declared, key_count, is_same, Finds}
@@ -10,10 +10,7 @@ still_found : (keys : List Declared) (found again : List (ℕ × List ℕ)) (cou
 still_found keys found again counts old same = record { has = λ m k. same (m, k) ∙ old.has m k; count = old.count }
 
 or_last : (b c : Bool) → cond b true c ≡ (c || (b || false))
-or_last true true = refl
-or_last true false = refl
-or_last false true = refl
-or_last false false = refl
+or_last b c = search (arith, rules)
 
 -- A manager has one key more where the last is its own.
 count_last : (m : ℕ) (keys : List Declared) (d : Declared) → key_count m (keys ++ d ∷ []) ≡ key_count m keys + cond (d.manager == m) 1 0

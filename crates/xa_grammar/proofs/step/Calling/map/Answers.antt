@@ -1,4 +1,4 @@
-use Rattle.xa_base.proofs.{Bor, ◌≡◌, Option, None, Some, refl, sym, ap, ◌∙◌, MatchOption, option_map}
+use Rattle.xa_base.proofs.{arith, rules, Bor, ◌≡◌, Option, None, refl, sym, ap, ◌∙◌, MatchOption, option_map}
 use Rattle.std.specs.Prelude.{IsSomeAnd, option_copied}
 use Rattle.xa_grammar.specs.declared.step.Calling.TheVariants as calling
 use Rattle.xa_grammar.specs.{call_with}
@@ -7,9 +7,7 @@ use Rattle.xa_grammar.proofs.step.Calling.map.Goals as goal
 -- what a call at what is there may answer is what the function gives
 mapped : {X Y : Type 0} (answers : Bor X → Y → Type 0) (f : X → Y) (lent : Option (Bor X)) (told : Option Y) → ((p : Bor X) (y : Y) → answers p y → y ≡ f p.now)
     → MatchOption lent (told ≡ None) (λ p. IsSomeAnd told (answers p)) → told ≡ option_map f (option_copied lent)
-mapped answers f None told same is = is
-mapped answers f (Some p) (Some y) same is = ap Some (same p y is)
-mapped answers f (Some p) None same is = absurd is
+mapped answers f lent told same is = search (arith, rules)
 
 pub returns-in-Xa : goal.returns-in-Xa
 returns-in-Xa g c = λ f k same same_key.

@@ -1,12 +1,11 @@
-use Rattle.xa_base.proofs.{◌≡◌, ◌<◌, ◌∷◌, take, drop, length, sym, ap, ◌∙◌, arith, true, false, take-append-drop, refl, List, ℕ, Bool}
+use Rattle.xa_base.proofs.{rules, ◌≡◌, ◌<◌, ◌∷◌, take, drop, length, sym, ap, ◌∙◌, arith, true, false, take-append-drop, List, ℕ, Bool}
 use Rattle.xa_grammar.specs.{words_of, starts_blank}
 use Rattle.xa_grammar.proofs.Lines.{first_word}
 use Rattle.xa_grammar.proofs.words.Words.next.Goals as goal
 
 -- Where only an empty line starts blank, a line that isn't empty doesn't.
 starts_full : (b : Bool) (line : List ℕ) → (b ≡ true → length line ≡ 0) → 0 < length line → b ≡ false
-starts_full false line h lt = refl
-starts_full true line h lt = absurd (omega (arith, h refl))
+starts_full b line h lt = search (arith, rules)
 
 pub returns : goal.returns
 returns c =
