@@ -51,7 +51,7 @@ module _ (P : Op → Type 0) where
   adds_none old new e = ([], e ∙ sym (append-nil old), All-nil (λ (e : Entry). P e.0.op))
 
   pub adds_both : (old mid new : List Entry) → Adds old mid → Adds mid new → Adds old new
-  adds_both old mid new a b = ( a.0 ++ b.0, b.1 ∙ ap (λ es. es ++ b.0) a.1 ∙ append_assoc old a.0 b.0, All-append (λ (e : Entry). P e.0.op) a.0 b.0 a.2 b.2, )
+  adds_both old mid new a b = (a.0 ++ b.0, b.1 ∙ ap (λ es. es ++ b.0) a.1 ∙ append_assoc old a.0 b.0, All-append (λ (e : Entry). P e.0.op) a.0 b.0 a.2 b.2)
 
   -- what is added at the branches, where nothing is without one
   adds_at : (bs : List Branch) (old new : Part) → new.entries 0 ≡ old.entries 0 → ((m : ℕ) → 1 ≤ m → has_branch_at bs m ≡ false → new.entries m ≡ old.entries m)

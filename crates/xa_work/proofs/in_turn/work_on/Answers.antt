@@ -27,9 +27,9 @@ loop-change-preserved g c =
                 (calls_more c.args.branch.now.m _ (Add x.key x.delta) c.loop-change.all one.result _ _ _ so_far.calls one.ensures.calls);
           }
       | else-change-branch w ↦ record {
-          leaves = rw (w.desk-is, w.idle-is) so_far.leaves;
-          calls = search (arith, begun_of, begun_elsewhere, c.args.branch.now.m, c.loop-change.all, c.change-item.is);
-        }
+        leaves = rw (w.desk-is, w.idle-is) so_far.leaves;
+        calls = search (arith, begun_of, begun_elsewhere, c.args.branch.now.m, c.loop-change.all, c.change-item.is);
+      }
     ]
 
 pub returns-clause-calls : goal.returns-clause-calls
