@@ -11,6 +11,7 @@ CRATES = ROOT / "crates"
 NAME = r"[^\W\d][^\s:.,;(){}]*"
 NAMED = re.compile(r"[^\s:.,;(){}\[\]]+")
 SIGNATURE = re.compile(rf" *(?:abbrev )?(?:pub )?({NAME})((?: [({{].*[)}}])?) : (.*)")
+DEFINED = re.compile(rf" *(?:abbrev (?:pub )?|(?:pub )?(?:record|data) )({NAME})[ :].*")
 MODULE = re.compile(r" *module _ (.*) where")
 IMPORT = re.compile(r"(?:pub )?use ([^{}\s]+?)(?:\.\{(.*)\}| as (\S+))?")
 GROUP = re.compile(r"([({])([^(){}:]+?) : ([^(){}]*)([)}])")
@@ -36,6 +37,11 @@ class Lemma:
         """Whether its statement is a goal's of a function, which the check of that function names."""
         return self.stated.startswith("goal.")
 
+    @property
+    def is_general(self):
+        """Whether its statement names nothing but what it binds and what xa_base and std have."""
+        return not self.answers_a_goal and not self.file.own_words & set(NAMED.findall(f"{self.given} {self.stated}"))
+
     @cached_property
     def states(self):
         """What it states, with numbers for the names that it binds, and with each of these bound by itself."""
@@ -51,6 +57,7 @@ class File:
 
     def __init__(self, path):
         self.path = path
+        self.crate = path.relative_to(CRATES).parts[0]
         self.module = ".".join(("Rattle", *path.relative_to(CRATES).with_suffix("").parts))
         # The root file above it, which may pass its lemmas on.
         self.root = self.module.rpartition(".")[0]
@@ -64,6 +71,16 @@ class File:
             elif not line.lstrip().startswith("--"):
                 for name in NAMED.findall(line):
                     self.named[name].add(number)
+
+    @cached_property
+    def own_words(self):
+        """The words that neither xa_base nor std has: what is defined here, and what is imported from other crates."""
+        words = {found[1] for found in map(DEFINED.fullmatch, self.lines) if found}
+        for module, names, alias in self.imports:
+            if not module.startswith(("Rattle.xa_base.", "Rattle.std.")):
+                whole = alias or module.rpartition(".")[2]
+                words |= {name.rpartition(" as ")[2] for name in names.split(", ")} if names else {whole}
+        return words
 
     def _lemmas(self):
         # How far in the lemmas of each module stand that is open here, and what the modules are given.
@@ -147,3 +164,19 @@ def twice(known):
             if not lemma.answers_a_goal and not lemma.is_definition:
                 stated[lemma.states].append(lemma)
     return [lemmas for lemmas in stated.values() if len(lemmas) > 1]
+
+
+def away(known):
+    """The general lemmas that stand in a crate, and that another one but those of tests uses: their home is xa_base."""
+    tests = {file.crate for file in known if file.crate.endswith("_tests")}
+    importing = defaultdict(list)
+    for file in known:
+        for module in {module for module, _, _ in file.imports}:
+            importing[module].append(file)
+    return [
+        lemma
+        for file in known
+        for lemma in file.lemmas
+        if file.crate != "xa_base" and not lemma.is_definition and lemma.is_general
+        if any(other.crate not in (file.crate, *tests) and other.names(lemma) for other in importing[file.module])
+    ]

@@ -106,10 +106,7 @@ module _ {K X : Type 0} {R : K → K → Ordering} (o : IsTotalOrder R) (same : 
   pub none_passes : (p : K → X → Bool) (m : FinMap R X) (k : K) (v : X) → any_entry p m ≡ false → get m k ≡ Some v → p k v ≡ false
   none_passes p m k v none found =
       let d = any_has p (entries m) (sorted_distinct (entries m) (entries_sorted m)) in
-      elim (p k v) as (λ b. p k v ≡ b → b ≡ false) [
-        | true ↦ λ t. let some = d.1 (k, (v, (sym (get-entries m k) ∙ found, t))) in cc
-        | false ↦ λ t. refl
-      ] refl
+      elim (p k v) as (λ b. p k v ≡ b → b ≡ false) [ true ↦ λ t. let some = d.1 (k, (v, (sym (get-entries m k) ∙ found, t))) in cc | false ↦ λ t. refl ] refl
 
   -- where no entry that is found passes, none does
   pub none_pass : (p : K → X → Bool) (m : FinMap R X) → ((k : K) (v : X) → get m k ≡ Some v → p k v ≡ false) → any_entry p m ≡ false

@@ -1,6 +1,6 @@
 -- The finite map that the entries of a hash map make.
-use Rattle.std.proofs.Common.{arith, sym, ap, ◌∙◌}
-use Rattle.std.specs.Prelude.{◌≡◌, Bool, false, cond, List, [], ◌∷◌, Option, None, Some, refl}
+use Rattle.std.proofs.Common.{arith, sym, ap, subst, ◌∙◌}
+use Rattle.std.specs.Prelude.{◌≡◌, Bool, true, false, cond, List, [], ◌∷◌, Option, None, Some, refl}
 use Rattle.std.specs.Ordering.{eq_by_cmp}
 use Rattle.std.specs.declared.cmp.Ordering.{Ordering}
 use Rattle.std.specs.Cmp.{IsTotalOrder, IsEquivalence, eq_by_cmp_equiv}
@@ -9,7 +9,7 @@ use Rattle.std.specs.FinMap.{IsAntisymmetric, find, from_entries, get-from_entri
 use Rattle.std.specs.Map.{lookup, keys_of}
 use Rattle.std.specs.Map.Calls.{RetainsPairs}
 use Rattle.std.specs.List.{IsDistinct, filter}
-use Rattle.std.proofs.lemmas.Map.Entries.{option_filter, lookup-filter-values}
+use Rattle.std.proofs.lemmas.Map.Entries.{option_filter, lookup-filter-keys, lookup-filter-values}
 use Rattle.xa_base.proofs.FinMaps.{put_one, remove_one, same_finds, retain_some}
 
 -- a value that passes a test, where there is one
@@ -24,6 +24,17 @@ pub retained : {F K X : Type 0} (T : F → K → X → Bool → X → F → Type
     → (f : F) (es kept : List (K × X)) → RetainsPairs T f es kept → kept ≡ filter (λ e. p e.1) es
 retained T p each f [] kept r = r
 retained T p each f (e ∷ es) kept r = search (arith, retained T p each r.2 es r.3 r.5, r.0, r.1, r.2, r.4, r.3, r.5)
+
+-- a closure that was called at each entry, kept those whose keys pass, and left the values and itself
+pub retained_keys : {F K X : Type 0} (T : F → K → X → Bool → X → F → Type 0) (p : K → Bool) (f : F)
+    → ((k : K) (v : X) (b : Bool) (w : X) (g : F) → T f k v b w g → (b ≡ p k) × (w ≡ v) × (g ≡ f))
+    → (es kept : List (K × X)) → RetainsPairs T f es kept → kept ≡ filter (λ e. p e.0) es
+retained_keys T p f each [] kept r = r
+retained_keys T p f each (e ∷ es) kept r =
+    let call = each e.0 e.1 r.0 r.1 r.2 r.4 in
+    let rest = rw call.2 at r.5 in
+    let later : r.3 ≡ filter (λ e. p e.0) es = retained_keys T p f each es r.3 rest in
+    r.6 ∙ (λ i. cond (call.0 i) ((e.0, call.1 i) ∷ later i) (later i))
 
 module _ {K X : Type 0} {R : K → K → Ordering} (eq : K → K → Bool) (o : IsTotalOrder R) (same : IsAntisymmetric R)
     (by_cmp : (x y : K) → eq x y ≡ eq_by_cmp R x y) where
@@ -61,3 +72,10 @@ module _ {K X : Type 0} {R : K → K → Ordering} (eq : K → K → Bool) (o : 
       retain_some o same es kept (λ k. holds (map.get (from_entries {R = R} es) k)) (λ q.
       find-lookup kept q ∙ ap (lookup (eq q)) is ∙ lookup-filter-values laws p q es distinct ∙ by_holds p holds none some (lookup (eq q) es)
       ∙ (λ i. cond (holds (sym (get-lookup es q) i)) (sym (find-lookup es q) i) None))
+
+  -- a table that keeps the entries whose keys pass a test
+  pub kept_by_key : ((p : K → Bool) (q k : K) → eq q k ≡ true → p k ≡ p q) → (p : K → Bool) (es kept : List (K × X)) → kept ≡ filter (λ e. p e.0) es
+      → from_entries {R = R} kept ≡ map.retain_keys (from_entries es) p
+  kept_by_key alike p es kept is =
+      retain_some o same es kept p (λ q.
+      find-lookup kept q ∙ ap (lookup (eq q)) is ∙ lookup-filter-keys (eq q) p (p q) (alike p q) es ∙ ap (λ v. cond (p q) v None) (sym (find-lookup es q)))

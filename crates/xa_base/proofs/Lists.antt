@@ -3,7 +3,7 @@ use Rattle.std.proofs.Common.{rules, append_assoc, append-nil, ◌≡◌, ◌≢
 use Rattle.std.proofs.Common.{[], ◌∷◌, ◌++◌, length, map, Some, None, sym, refl, ap, ◌∙◌, subst, inl, inr, arith, length-append, take}
 use Rattle.std.specs.Prelude.{slice_get, slice_set, option_map, All}
 use Rattle.std.specs.List.{AllPairs, Contains, IsDistinct, filter, flat_map, slice_index_or, range_with_len, list_any, find}
-use Rattle.std.proofs.lemmas.Bool.{cases_eq, eq-eqb, eqb-true, false_from_ne_true}
+use Rattle.std.proofs.lemmas.Bool.{cases_eq, cases_lt, eq-eqb, eqb-true, false_from_ne_true, or_parts}
 use Rattle.std.proofs.lemmas.List.{length-map, length-set, get_or-set_other, get_or-set_same, get_or_at}
 pub use Rattle.std.proofs.lemmas.Option.{same_Some as some_same}
 pub use Rattle.std.proofs.lemmas.List.Quantifiers.{all_pairs_push as pairs_push}
@@ -61,6 +61,9 @@ module _ {A B : Type 0} (P : A → B → Type 0) where
 pub one_more : {A : Type 0} (xs : List A) (i : ℕ) (x : A) → i < length xs → x ≡ slice_index_or xs i x → take (i + 1) xs ≡ take i xs ++ x ∷ []
 one_more xs i x below is = search (arith, take-suc)
 
+pub take_next : {A : Type 0} (xs : List A) (i : ℕ) (x : A) → slice_get xs i ≡ Some x → take (i + 1) xs ≡ take i xs ++ x ∷ []
+take_next xs i x at = search (arith, slice_get_within, one_more, some_same, slice_get-get_or)
+
 -- one more number
 pub range_suc : (a n : ℕ) → range_with_len a (suc n) ≡ range_with_len a n ++ (a + n) ∷ []
 range_suc a zero = let same : a ≡ a + 0 = omega arith in ap (λ x. x ∷ []) same
@@ -79,6 +82,18 @@ next_there {A} xs ys rest x e = ap (λ (l : List A). slice_get l (length ys)) (s
     behind : (ys : List A) → slice_get (ys ++ x ∷ rest) (length ys) ≡ Some x
     behind [] = refl
     behind (y ∷ ys) = behind ys
+
+-- what a list has in a place, one that goes on from it has there too
+pub got_on : {A : Type 0} (xs ys : List A) (n : ℕ) (y : A) → slice_get xs n ≡ Some y → slice_get (xs ++ ys) n ≡ Some y
+got_on [] ys n y e = absurd (cc)
+got_on (x ∷ xs) ys zero y e = e
+got_on (x ∷ xs) ys (suc n) y e = got_on xs ys n y e
+
+-- what follows the elements of a list
+pub after_seam : {A : Type 0} (xs more : List A) (y : A) → slice_get (xs ++ more) (length xs) ≡ Some y → (rest : List A) × (more ≡ y ∷ rest)
+after_seam [] [] y e = cc
+after_seam [] (z ∷ rest) y e = (rest, ap (λ w. w ∷ rest) (some_same z y e))
+after_seam (x ∷ xs) more y e = after_seam xs more y e
 
 -- of a list that is taken from its front: the elements so far and one more, and where that one stands
 pub taken_next : {A : Type 0} (ys left rest xs : List A) (x : A) → left ≡ x ∷ rest → ys ++ left ≡ xs → (ys ++ x ∷ []) ++ rest ≡ xs
@@ -185,7 +200,7 @@ all_unmapped f P (x ∷ xs) h = search (arith, all_unmapped f P xs (All-tail P (
 pub all_at : {A : Type 0} (P : A → Type 0) (xs : List A) (k : ℕ) (x : A) → All P xs → slice_get xs k ≡ Some x → P x
 all_at P xs k x all at =
     let within = slice_get_within xs k x at in
-    subst P (some_same _ x (sym (slice_get-get_or xs k x within) ∙ at)) (all k x within)
+    rw (some_same _ x (sym (slice_get-get_or xs k x within) ∙ at)) at (all k x within)
 
 -- what holds of what is made of the elements of the first list, or of the second
 pub side_of : {A B X : Type 0} (P : X → B → Type 0) (f : A → X) (xs : List A) (ys : List B) → Pairwise (λ x y. P (f x) y) xs ys → Pairwise P (map f xs) ys
@@ -221,6 +236,36 @@ snoc_parts (a ∷ xs) (b ∷ ys) x y e =
     let rest = snoc_parts xs ys x y tail in
     (λ i. head i ∷ rest.0 i, rest.1)
 
+-- ---- what passes a test, of a list, of what is made of one, and of one more element
+
+pub list_any-map : {X Y : Type 0} (p : Y → Bool) (f : X → Y) (xs : List X) → list_any p (map f xs) ≡ list_any (λ x. p (f x)) xs
+list_any-map p f [] = refl
+list_any-map p f (x ∷ xs) = ap (λ b. p (f x) || b) (list_any-map p f xs)
+
+pub filter-map : {X Y : Type 0} (p : Y → Bool) (f : X → Y) (xs : List X) → filter p (map f xs) ≡ map f (filter (λ x. p (f x)) xs)
+filter-map p f [] = refl
+filter-map p f (x ∷ xs) = grind (arith, filter-map p f xs)
+
+module _ {X : Type 0} (p : X → Bool) where
+  pub filter_push : (xs : List X) (x : X) → p x ≡ true → filter p (xs ++ x ∷ []) ≡ filter p xs ++ x ∷ []
+  filter_push xs x e = filter-append p xs (x ∷ []) ∙ ap (λ b. filter p xs ++ cond b (x ∷ []) []) e
+
+  pub filter_skip : (xs : List X) (x : X) → p x ≡ false → filter p (xs ++ x ∷ []) ≡ filter p xs
+  filter_skip xs x e = filter-append p xs (x ∷ []) ∙ ap (λ b. filter p xs ++ cond b (x ∷ []) []) e ∙ append-nil (filter p xs)
+
+  pub filter_all : (xs : List X) → All (λ x. p x ≡ true) xs → filter p xs ≡ xs
+  filter_all [] all = refl
+  filter_all (x ∷ xs) all = rw (All-head (λ x. p x ≡ true) x xs all) (ap (λ l. x ∷ l) (filter_all xs (All-tail (λ x. p x ≡ true) x xs all)))
+
+  pub filter_none : (xs : List X) → All (λ x. p x ≡ false) xs → filter p xs ≡ []
+  filter_none [] all = refl
+  filter_none (x ∷ xs) all = rw (All-head (λ x. p x ≡ false) x xs all) (filter_none xs (All-tail (λ x. p x ≡ false) x xs all))
+
+  -- a test that none passes is failed by each
+  pub none_all : (xs : List X) → list_any p xs ≡ false → All (λ x. p x ≡ false) xs
+  none_all [] none = All-nil (λ x. p x ≡ false)
+  none_all (x ∷ xs) none = let parts = or_parts (p x) (list_any p xs) none in All-cons (λ x. p x ≡ false) x xs parts.0 (none_all xs parts.1)
+
 -- ---- what passes a filter, of lists one after the other
 
 pub flat_none : {X A : Type 0} (p : A → Bool) (f : X → List A) (xs : List X) → ((k : ℕ) (x : X) → slice_get xs k ≡ Some x → filter p (f x) ≡ [])
@@ -251,3 +296,21 @@ flat_push f (y ∷ xs) x = ap (λ l. f y ++ l) (flat_push f xs x) ∙ sym (appen
 -- what holds of each number of a range holds in each place
 pub range_all : (P : ℕ → Type 0) (a n : ℕ) → ((m : ℕ) → a ≤ m → m < a + n → P m) → All P (range_with_len a n)
 range_all P a n h k d lt = search (arith, length-range_with_len, get_or-range_with_len)
+
+-- what holds of the first so many numbers from 1 on, and of the others, holds of each
+pub each_number : (P : ℕ → Type 0) (count : ℕ) → ((u : ℕ) → (u < 1) ⊎ (count < u) → P u) → ((k : ℕ) → k < count → P (k + 1)) → (u : ℕ) → P u
+each_number P count others each zero = others zero (inl (omega arith))
+each_number P count others each (suc k) =
+    ⊎_elim (λ (past : count < suc k). others (suc k) (inr past))
+    (λ (within : suc k ≤ count). let number : k + 1 ≡ suc k = omega arith in rw number at (each k (omega (arith, within)))) (cases_lt count (suc k))
+
+-- ---- what a change leaves of an element
+
+module _ {A B : Type 0} (f : A → A) (g : A → B) (left : (x : A) → g (f x) ≡ g x) where
+  pub map-changed : (xs : List A) → map g (map f xs) ≡ map g xs
+  map-changed [] = refl
+  map-changed (x ∷ xs) = λ i. left x i ∷ map-changed xs i
+
+  -- lists that are alike once each element is changed
+  pub map-alike : (xs ys : List A) → map f xs ≡ map f ys → map g xs ≡ map g ys
+  map-alike xs ys alike = sym (map-changed xs) ∙ ap (map g) alike ∙ map-changed ys

@@ -1,5 +1,6 @@
 -- Lemmas of values that may not be there, and of results.
 use Rattle.std.proofs.Common.{◌≡◌, true, false, Option, None, Some, Result, Ok, Err, is_some, IsOk, OnOk, refl, sym, ◌∙◌}
+use Rattle.std.specs.Prelude.{OnErr, option_map}
 use Rattle.std.proofs.lemmas.Option.{none-some}
 
 -- a value isn't both there and not there
@@ -19,3 +20,13 @@ is_missing (Some x) e = cc
 pub at_ok : {T E : Type 0} (r : Result T E) (P : Type 0) → IsOk r → OnOk r P → P
 at_ok (Ok x) P is p = p
 at_ok (Err e) P is p = cc
+
+-- what holds anyway holds where there is an error
+pub on_err : {T E : Type 0} (r : Result T E) (P : Type 0) → P → OnErr r P
+on_err (Ok x) P p = tt
+on_err (Err e) P p = p
+
+-- what is made of a value that is there
+pub mapped_some : {A B : Type 0} (f : A → B) (o : Option A) (y : B) → option_map f o ≡ Some y → (x : A) × (o ≡ Some x) × (f x ≡ y)
+mapped_some f None y e = cc
+mapped_some f (Some x) y e = (x, refl, cc)

@@ -1,7 +1,9 @@
 -- Lemmas on sums over lists.
-use Rattle.std.specs.Prelude.{◌≡◌, ℤ, pos, ◌+ℤ◌, suc, List, [], ◌∷◌, refl}
-use Rattle.std.specs.List.{All}
-use Rattle.std.proofs.Common.{sym, ap, ◌∙◌, arith}
+use Rattle.std.specs.Prelude.{◌≡◌, ℤ, pos, ◌+ℤ◌, zero, suc, List, [], ◌∷◌, refl, if◌then◌else◌}
+use Rattle.std.specs.List.{All, range_with_len}
+use Rattle.std.proofs.Common.{sym, ap, ◌∙◌, arith, ℕ, ◌+◌, ◌<◌, ◌≤◌, ◌==◌, ◌++◌, inl, inr}
+use Rattle.std.proofs.lemmas.Bool.{cases_eq, eq-eqb, ne_eqb}
+use Rattle.std.proofs.Math.IntN.{+ℤ_idl as none_plus, +ℤ_idr as plus_none}
 use Rattle.std.proofs.lemmas.Int.{ints}
 use Rattle.xa_base.specs.{total}
 
@@ -31,3 +33,23 @@ total_both f g (x ∷ xs) = regroup (f x) (g x) (total f xs) (total g xs) (total
 pub total_across : {A B : Type 0} (f : A → B → ℤ) (xs : List A) (ys : List B) → total (λ x. total (f x) ys) xs ≡ total (λ y. total (λ x. f x y) xs) ys
 total_across f [] ys = sym (total_nothing ys)
 total_across f (x ∷ xs) ys = ap (λ s. total (f x) ys +ℤ s) (total_across f xs ys) ∙ sym (total_both (f x) (λ y. total (λ z. f z y) xs) ys)
+
+-- of one list after the other
+brackets : (a b c u : ℤ) → u ≡ b +ℤ c → a +ℤ u ≡ (a +ℤ b) +ℤ c
+brackets a b c u h = omega (arith, ints)
+
+pub total_append : {A : Type 0} (f : A → ℤ) (xs ys : List A) → total f (xs ++ ys) ≡ total f xs +ℤ total f ys
+total_append f [] ys = sym (none_plus (total f ys))
+total_append f (x ∷ xs) ys = brackets (f x) (total f xs) (total f ys) (total f (xs ++ ys)) (total_append f xs ys)
+
+-- of numbers that follow each other one counts, where it is among them
+none_counted : (k : ℕ) (v : ℤ) (a n : ℕ) → k < a → total (λ t. if k == t then v else pos 0) (range_with_len a n) ≡ pos 0
+none_counted k v a zero lt = refl
+none_counted k v a (suc n) lt = search (arith, none_counted k v (a + 1) n (omega arith), ne_eqb)
+
+pub one_counted : (k : ℕ) (v : ℤ) (a n : ℕ) → a ≤ k → k < a + n → total (λ t. if k == t then v else pos 0) (range_with_len a n) ≡ v
+one_counted k v a zero from below = absurd (omega arith)
+one_counted k v a (suc n) from below = elim (cases_eq k a) [
+  | inl same ↦ rw (eq-eqb k a same) (ap (λ s. v +ℤ s) (none_counted k v (a + 1) n (omega (arith, same))) ∙ plus_none v)
+  | inr apart ↦ rw (ne_eqb k a apart) (none_plus _ ∙ one_counted k v (a + 1) n (omega (arith, apart)) (omega arith))
+]

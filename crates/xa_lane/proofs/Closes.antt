@@ -1,6 +1,6 @@
 -- How many parcels a lane has, and what the lists that close a lane say together.
-use Rattle.xa_base.proofs.{rules, ◌≡◌, ℕ, zero, suc, ◌+◌, ◌<◌, ◌≤◌, cond, List, [], ◌∷◌, ◌++◌, length, sym, refl, ap, ◌∙◌, subst, ⊎_elim, append_assoc, eq-eqb}
-use Rattle.xa_base.proofs.{ne_eqb, arith, length-append, lt_of_not-le, ◌==◌, map, get_or, append-nil, Option, All, eqb-true, Any-from_list_any}
+use Rattle.xa_base.proofs.{rules, ◌≡◌, ℕ, zero, suc, ◌+◌, ◌<◌, ◌≤◌, cond, List, [], ◌∷◌, ◌++◌, length, sym, refl, ap, ◌∙◌, ⊎_elim, append_assoc, eq-eqb, ne_eqb}
+use Rattle.xa_base.proofs.{arith, length-append, lt_of_not-le, ◌==◌, map, get_or, append-nil, Option, All, eqb-true, Any-from_list_any}
 use Rattle.std.proofs.Math.Nat.{eq-or-lt_of_le}
 use Rattle.xa_lane.specs.{Parcel, Log, View, Receives, of_sender, after_get, Popped, receiver_learns, Tied, Within, items_in, Covers, made_in, taken_in}
 use Rattle.xa_lane.specs.{told_in, Sending, somes, kept, left_of, IsWhole, Conserves, EndsLast, LeavesNothing, AreKnown, told_of}
@@ -60,7 +60,7 @@ module _ {T : Type 0} where
       → length xs ≡ length ys
   as_many n told xs ys covers tx ty wx wy =
       sym (total_all n xs wx)
-      ∙ total_same n xs ys (λ p e. let c = covers p e in subst (λ p. of_sender p xs ≡ of_sender p ys) c.3 (tx c.0 c.1 c.2 ∙ sym (ty c.0 c.1 c.2)))
+      ∙ total_same n xs ys (λ p e. let c = covers p e in rw c.3 at (tx c.0 c.1 c.2 ∙ sym (ty c.0 c.1 c.2)))
       ∙ total_all n ys wy
 
   -- the receiver's view after one more pop
@@ -73,9 +73,9 @@ module _ {T : Type 0} where
   pub room_for : (made : ℕ) (got held items : List (Parcel T)) (told : List (Log T)) (v₀ v w : View T) (x : Parcel T) → Covers made told
       → v₀ ≡ Receives made got told → receiver_learns v₀ items → v ≡ Receives made (got ++ held) told → Popped v x w → length (items_in held) < MOST_QUEUED
   room_for made got held items told v₀ v w x covers e₀ look e p =
-      let a = subst (λ v. receiver_learns v items) e₀ look in
+      let a = rw e₀ at look in
       let rest : List (Parcel T) = p.2.0 in
-      let b = subst (λ v. receiver_learns v (x ∷ rest)) e p.2.1 in
+      let b = rw e at p.2.1 in
       let same : length (got ++ items) ≡ length ((got ++ held) ++ x ∷ rest) =
       as_many made told (got ++ items) ((got ++ held) ++ x ∷ rest) covers a.0 b.0 a.1 b.1 in
       omega (arith, same, few_items held, a.2, length-append got items, length-append (got ++ held) (x ∷ rest), length-append got held)
@@ -98,7 +98,7 @@ module _ {T : Type 0} where
   pub are_known : (n : ℕ) (taken held : List (Parcel T)) (left : List (ℕ × T)) → left ≡ items_in held → Within n (taken ++ held) → AreKnown n taken left
   are_known n taken held left e w = (
     all_of_within n taken (λ p b. nil_left (of_sender p taken) (of_sender p held) (sym (of_sender-append p taken held) ∙ w p b)),
-    subst (λ l. All (λ x. x.0 < n) l) (sym e) (items_below n held (λ p b. nil_right (of_sender p taken) (of_sender p held) (sym (of_sender-append p taken held) ∙ w p b))),
+    rw e (items_below n held (λ p b. nil_right (of_sender p taken) (of_sender p held) (sym (of_sender-append p taken held) ∙ w p b))),
   )
 
   -- the queue was found empty, so all was taken
@@ -106,7 +106,7 @@ module _ {T : Type 0} where
       → receiver_learns v items
       → Tied told (got ++ held) × Within made (got ++ held)
   closed made got held [] told v e none look =
-      let r = subst (λ v. receiver_learns v []) e look in
+      let r = rw e at look in
       let all = append-nil (got ++ held) in
       ((λ k l at. ap (of_sender l.from) (sym all) ∙ r.0 k l at), (λ p b. ap (of_sender p) (sym all) ∙ r.1 p b))
   closed made got held (x ∷ xs) told v e none look = absurd (omega arith)
@@ -116,7 +116,7 @@ module _ {T : Type 0} where
       → left ≡ items_in held → Within (made_in v) (taken_in v ++ held) → AreKnown n taken left
   known_as n made got taken held told v left e m g l w =
       are_known n taken held left l
-      (subst (λ m. Within m (taken ++ held)) m (subst (λ g. Within made (g ++ held)) g (subst (λ v. Within (made_in v) (taken_in v ++ held)) e w)))
+      (rw (e, g, m) at w)
 
 module _ {T : Type 0} where
   -- what the end marks say gives what the items say
@@ -149,8 +149,7 @@ module _ {T : Type 0} where
   -- the same of the pass that took the senders in
   pub covers_as : (n made : ℕ) (got : List (Parcel T)) (ends : List (Sending T)) (v : View T) → v ≡ Receives made got (map told_of ends) → made ≡ n
       → IsWhole n ends → Covers (made_in v) (told_in v)
-  covers_as n made got ends v e m whole =
-      subst (λ v. Covers (made_in v) (told_in v)) (sym e) (subst (λ m. Covers m (map told_of ends)) (sym m) (covers n ends whole))
+  covers_as n made got ends v e m whole = rw (e, m) (covers n ends whole)
 
   pub marked_as : (made : ℕ) (got taken held : List (Parcel T)) (ends : List (Sending T)) (v : View T) (left : List (ℕ × T))
       → v ≡ Receives made got (map told_of ends) → got ≡ taken
@@ -160,7 +159,7 @@ module _ {T : Type 0} where
   -- what a pass knows, by its own parts
   pub knows_itself : (made : ℕ) (got : List (Parcel T)) (told : List (Log T)) (v : View T) → v ≡ Receives made got told
       → v ≡ Receives (made_in v) (taken_in v) (told_in v)
-  knows_itself made got told v e = subst (λ (v : View T). v ≡ Receives (made_in v) (taken_in v) (told_in v)) (sym e) refl
+  knows_itself made got told v e = rw e
 
   -- the same of one that took no sender in
   pub knows_no_end : (made : ℕ) (v : View T) → v ≡ Receives made (taken_in v) [] → v ≡ Receives (made_in v) (taken_in v) []

@@ -1,6 +1,6 @@
 -- Each step of a lane's queue keeps its rule.
-use Rattle.xa_base.proofs.{rules, ◌≡◌, ◌≢◌, ℕ, zero, suc, ◌+◌, ◌<◌, ◌≤◌, true, false, cond, ◌==◌, List, [], ◌∷◌, ◌++◌, length, set, sym, refl, ap, ◌∙◌, subst}
-use Rattle.xa_base.proofs.{◌⊎◌, ⊎_elim, inl, inr, append_assoc, append-nil, eq-eqb, ne_eqb, arith, length-append, Option, map-append, lt_of_not-le}
+use Rattle.xa_base.proofs.{rules, ◌≡◌, ◌≢◌, ℕ, zero, suc, ◌+◌, ◌<◌, ◌≤◌, true, false, cond, ◌==◌, List, [], ◌∷◌, ◌++◌, length, set, sym, refl, ap, ◌∙◌, ◌⊎◌}
+use Rattle.xa_base.proofs.{⊎_elim, inl, inr, append_assoc, append-nil, eq-eqb, ne_eqb, arith, length-append, Option, map-append, lt_of_not-le}
 use mathlib.Core.Option.{some, none, some-ne-none, some-injective}
 use mathlib.Core.Option as maybe
 use lib.ListN.{get_elem?}
@@ -88,7 +88,7 @@ module _ {T : Type 0} where
 
   pub puts : (n port : ℕ) (v : View T) (l : Log T) (x : Parcel T) → v ≡ Sends l → l.ended ≡ false → x.from ≡ l.from → n ≤ MOST_QUEUED
       → Pushes Delivers n port v x (λ w. w ≡ after_put v x)
-  puts n port v l x is live mine fit = subst (λ v. Pushes Delivers n port v x (λ w. w ≡ after_put v x)) (sym is) (puts_at n port l x live mine fit)
+  puts n port v l x is live mine fit = rw is (puts_at n port l x live mine fit)
 
   fits_taken : (receiver made : ℕ) (seat : Seats) (got items : List (Parcel T)) (x : Parcel T) (j : ℕ) → j ≢ receiver
       → (u : View T) → Fits receiver made seat got (got ++ x ∷ items) j u → Fits receiver made seat (got ++ x ∷ []) ((got ++ x ∷ []) ++ items) j u
@@ -106,7 +106,7 @@ module _ {T : Type 0} where
   receiver_learning port (Receives made got told) items views h at =
       let f = h.fits port (Receives made got told) at in
       let all : got ++ items ≡ h.got ++ items = ap (λ g. g ++ items) f.2 in
-      ((λ k l e. ap (of_sender l.from) all ∙ (f.3 k l e).2), (λ p e. ap (of_sender p) all ∙ (h.unmade p (subst (λ m. m ≤ p) f.1 e)).1), h.short)
+      ((λ k l e. ap (of_sender l.from) all ∙ (f.3 k l e).2), (λ p e. ap (of_sender p) all ∙ (h.unmade p (rw f.1 at e)).1), h.short)
   receiver_learning port Spent items views h at = tt
 
   not_nil : (xs ys : List (Option T)) (y : Option T) → xs ++ y ∷ ys ≡ [] → ⊥
@@ -134,11 +134,11 @@ module _ {T : Type 0} where
               (f.0, f.1, ap (λ g. g ++ x ∷ []) f.2, λ k l e. let r = f.3 k l e in (r.0, r.1, here l.from ∙ r.2))
               (λ j u other e. fits_taken h.receiver h.made h.seat h.got items x j (λ e'. other (e' ∙ sym f.0)) u (h.fits j u e));
         },
-        (refl, lt_of_not-le (λ e. not_nil (of_sender x.from h.got) (of_sender x.from items) x.item (sym (of_here x.from h.got items x refl) ∙ (h.unmade x.from (subst (λ m. m ≤ x.from) f.1 e)).1)), (items, receiver_learning port (Receives made got told) (x ∷ items) views h at)),
+        (refl, lt_of_not-le (λ e. not_nil (of_sender x.from h.got) (of_sender x.from items) x.item (sym (of_here x.from h.got items x refl) ∙ (h.unmade x.from (rw f.1 at e)).1)), (items, receiver_learning port (Receives made got told) (x ∷ items) views h at)),
       )
 
   pub gets : (port : ℕ) (v : View T) (made : ℕ) (got : List (Parcel T)) (told : List (Log T)) → v ≡ Receives made got told → Pops Delivers port v (Popped v)
-  gets port v made got told is = subst (λ v. Pops Delivers port v (Popped v)) (sym is) (gets_at port made got told)
+  gets port v made got told is = rw is (gets_at port made got told)
 
   pub begins : Delivers {T = T} [] (Receives 0 [] [] ∷ [])
   begins = record {
@@ -186,14 +186,13 @@ module _ {T : Type 0} where
         short = h.short;
         unmade = λ p e. let r = h.unmade p (omega arith) in (moved_else h.seat h.made p (some (length vs)) (λ e'. omega arith) ∙ r.0, r.1);
         fits = λ j u e. ⊎_elim (λ (x : get_elem? vs j ≡ some u). kept j u x)
-            (λ (x : (j ≡ length vs) × (right ≡ u)). subst (F j) x.1
-            (moved_here h.seat h.made made (some (length vs)) f.1 ∙ ap some (sym x.0), ap (λ m. of_sender m all) f.1 ∙ (h.unmade h.made (omega arith)).1))
+            (λ (x : (j ≡ length vs) × (right ≡ u)). rw (← x.1) (moved_here h.seat h.made made (some (length vs)) f.1 ∙ ap some (sym x.0), ap (λ m. of_sender m all) f.1 ∙ (h.unmade h.made (omega arith)).1))
             (at_push vs right u j e);
       }
 
   pub forks : (port : ℕ) (v : View T) (made : ℕ) (got : List (Parcel T)) (told : List (Log T)) → v ≡ Receives made got told
       → Forks Delivers port v (after_deal v) (dealt v)
-  forks port v made got told is = subst (λ v. Forks Delivers port v (after_deal v) (dealt v)) (sym is) (forks_at port made got told)
+  forks port v made got told is = rw is (forks_at port made got told)
 
   fits_joined : (receiver made : ℕ) (seat : Seats) (got all : List (Parcel T)) (j p other : ℕ) → seat p ≡ some other → j ≢ other → j ≢ receiver
       → (u : View T) → Fits receiver made seat got all j u → Fits receiver made (moved seat p none) got all j u
@@ -220,7 +219,7 @@ module _ {T : Type 0} where
         f.1,
         f.2,
         λ k m e. ⊎_elim (λ (old : get_elem? told k ≡ some m). let r = f.3 k m old in (r.0, still_none h.seat l.from m.from r.1, r.2))
-            (λ (new : l ≡ m). subst (λ (m : Log T). (m.from < h.made) × (seat m.from ≡ none) × (of_sender m.from all ≡ put_of m)) new (below, moved_here h.seat l.from l.from none refl, theirs.1))
+            (λ (new : l ≡ m). rw (← new) (below, moved_here h.seat l.from l.from none refl, theirs.1))
             (at_snoc told l m k e),
       ))
       (λ j u apart e. λ n. fits_joined h.receiver h.made h.seat h.got all j l.from other theirs.0 n (λ e'. apart (e' ∙ sym f.0)) u (h.fits j u e)) in

@@ -1,6 +1,6 @@
 -- Lists of parcels, the items in them, and what several senders have sent.
 use Rattle.xa_base.proofs.{rules, ◌≡◌, ℕ, ◌+◌, ◌≤◌, true, cond, ◌==◌, List, [], ◌∷◌, ◌++◌, length, map, refl, ap, ◌∙◌, append-nil, arith, Option, Some, None}
-use Rattle.xa_base.proofs.{◌≢◌, zero, suc, ◌<◌, ◌⊎◌, get_or, set, sym, inl, inr, slice_get}
+use Rattle.xa_base.proofs.{◌≢◌, zero, suc, ◌<◌, ◌⊎◌, get_or, set, inl, inr, slice_get}
 use Rattle.xa_lane.specs.{Parcel, of_sender, marks, somes, has_mark, kept, items_in, left_of, Sending, at_place, with_item, with_full, but_full, sent_at}
 
 -- ---- lists of parcels, and the items in them
@@ -100,14 +100,6 @@ module _ {A B : Type 0} (f : A → A) (g : A → B) (left : (x : A) → g (f x) 
   map-at_place k [] = refl
   map-at_place zero (x ∷ xs) = ap (λ y. y ∷ map g xs) (left x)
   map-at_place (suc k) (x ∷ xs) = ap (λ ys. g x ∷ ys) (map-at_place k xs)
-
-  map-changed : (xs : List A) → map g (map f xs) ≡ map g xs
-  map-changed [] = refl
-  map-changed (x ∷ xs) = λ i. left x i ∷ map-changed xs i
-
-  -- lists that are alike once each element is changed
-  pub map-alike : (xs ys : List A) → map f xs ≡ map f ys → map g xs ≡ map g ys
-  map-alike xs ys alike = sym (map-changed xs) ∙ ap (map g) alike ∙ map-changed ys
 
 module _ {T : Type 0} where
   pub sent_at-full : (j k : ℕ) (ss : List (Sending T)) → sent_at j (at_place k with_full ss) ≡ sent_at j ss

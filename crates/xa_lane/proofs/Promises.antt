@@ -1,5 +1,5 @@
 -- What the promises of joined threads say of the lanes of their results.
-use Rattle.xa_base.proofs.{◌≡◌, ℕ, zero, suc, ◌≤◌, List, [], ◌∷◌, ◌++◌, length, map, refl, sym, ap, subst, ◌∙◌, arith, All}
+use Rattle.xa_base.proofs.{◌≡◌, ℕ, zero, suc, ◌≤◌, List, [], ◌∷◌, ◌++◌, length, map, refl, ap, ◌∙◌, arith, All}
 use Rattle.std.specs.declared.thread.PromisedHandle.{PromisedHandle}
 use Rattle.std.specs.declared.thread.Promise as Promise
 use Rattle.std.specs.PromisedHandle.{KeepsEach}
@@ -43,4 +43,4 @@ module _ {T : Type 0} where
       → map (λ e. e.line) ends ≡ map (λ e. e.line) senders
       → All (λ e. e.line ≡ line) ends
   are_of_lane lane line capacity n senders ends is same =
-      all_of_lines line ends (subst (All (λ l. l ≡ line)) (sym (same ∙ ap (map (λ (e : Sending T). e.line)) is)) (new_lines [] lane line capacity n))
+      all_of_lines line ends (rw (same ∙ ap (map (λ (e : Sending T). e.line)) is) (new_lines [] lane line capacity n))

@@ -1,7 +1,7 @@
 -- The order of global transactions is total, and what several logs have that are read as one.
-use Rattle.xa_base.proofs.{◌≡◌, ℤ, ℕ, Bool, List, true, ap, subst, sym, nat_cmp, eq_by_cmp, is_eq, tied_itself, is_equal, int_cmp, Decides, IsTotalOrder}
-use Rattle.xa_base.proofs.{slice_cmp, IsAntisymmetric, then_total, on_total, same_from_decides, cond, is_some, false, [], ◌∷◌, ◌++◌, refl, ◌∙◌, Option, Some}
-use Rattle.xa_base.proofs.{None, find, get-from_entries, All, flat_map, option_or, All-head, All-tail}
+use Rattle.xa_base.proofs.{◌≡◌, ℤ, ℕ, Bool, List, true, ap, sym, nat_cmp, eq_by_cmp, is_eq, tied_itself, is_equal, int_cmp, Decides, IsTotalOrder, slice_cmp}
+use Rattle.xa_base.proofs.{IsAntisymmetric, then_total, on_total, same_from_decides, cond, is_some, false, [], ◌∷◌, ◌++◌, refl, ◌∙◌, Option, Some, None, find}
+use Rattle.xa_base.proofs.{get-from_entries, All, flat_map, option_or, All-head, All-tail}
 use Rattle.std.specs.Cmp.{int_cmp_total}
 use Rattle.std.specs.Cmp.Lexicographic.{nat_list_cmp_total}
 use Rattle.std.proofs.lemmas.Map.Lookups.{exact_pairs, exact_signed, exact_bytes}
@@ -24,8 +24,7 @@ tran_cmp-IsAntisymmetric x y e =
 
 -- the order ties two names exactly if they are one
 pub decides_by_cmp : (x y : TranName) → Decides (eq_by_cmp tran_cmp x y) (x ≡ y)
-decides_by_cmp x y =
-    (λ t. tran_cmp-IsAntisymmetric x y (is_equal (tran_cmp x y) t), λ e. subst (λ (z : TranName). eq_by_cmp tran_cmp x z ≡ true) e (ap is_eq (tied_itself tran_cmp_total x)))
+decides_by_cmp x y = (λ t. tran_cmp-IsAntisymmetric x y (is_equal (tran_cmp x y) t), λ e. rw (← e) (ap is_eq (tied_itself tran_cmp_total x)))
 
 pub tran_eq-by_cmp : (x y : TranName) → tran_eq x y ≡ eq_by_cmp tran_cmp x y
 tran_eq-by_cmp x y = same_from_decides _ _ (Decides-tran_eq x y) (decides_by_cmp x y)

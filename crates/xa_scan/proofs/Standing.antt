@@ -52,6 +52,6 @@ still_within z (suc i) o low fits is =
     stood zero k e = cc
     stood (suc j) k e = elim (cases_Bool (j == i)) [
       | inl same ↦
-          subst (λ n. k ≤ length (left_at z (suc n))) (sym (eqb-true j i same)) (there k (ap (λ n. slice_index_or (slice_set z.places i o) n None) (sym (eqb-true j i same)) ∙ e))
+          rw (eqb-true j i same) (there k (ap (λ n. slice_index_or (slice_set z.places i o) n None) (sym (eqb-true j i same)) ∙ e))
       | inr other ↦ is.within (suc j) k (sym (get_or-set_other z.places i j o None (eqb-false j i other)) ∙ e)
     ]

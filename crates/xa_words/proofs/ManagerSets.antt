@@ -1,6 +1,6 @@
 -- A set of managers by a test, and one with one more.
 use Rattle.xa_base.proofs.{◌≡◌, ℕ, zero, suc, ◌+◌, ◌-◌, ◌<◌, ◌≤◌, ◌==◌, ◌||◌, Bool, true, false, List, [], ◌∷◌, length, slice_set, get_or, refl, sym, ◌∙◌}
-use Rattle.xa_base.proofs.{subst, arith, or-false, or-true, eqb-true, get_or-set_same, get_or-set_other, length-set}
+use Rattle.xa_base.proofs.{arith, or-false, or-true, eqb-true, get_or-set_same, get_or-set_other, length-set}
 use Rattle.xa_base.specs.{MOST_MANAGERS, IsUpTo}
 use Rattle.xa_words.specs.{is_in, set_of, with_manager}
 
@@ -29,7 +29,7 @@ place_with set m k low within =
       | true ↦ λ t.
           let same : m ≡ k + 1 = eqb-true m (k + 1) t in
           let here : k ≡ m - 1 = omega (arith, same) in
-          subst (λ n. get_or (slice_set set n true) k false ≡ (get_or set k false || true)) here (get_or-set_same set k true false within ∙ sym (or-true (get_or set k false)))
+          rw (← here) (get_or-set_same set k true false within ∙ sym (or-true (get_or set k false)))
       | false ↦ λ f. get_or-set_other set (m - 1) k true false (λ same. let t : (m == (k + 1)) ≡ true = grind (arith, same, low) in let no : ⊥ = cc in no)
           ∙ sym (or-false (get_or set k false))
     ] refl

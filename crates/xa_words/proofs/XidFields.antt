@@ -1,5 +1,5 @@
 -- The lengths and the bytes of a branch name, read off the name.
-use Rattle.xa_base.proofs.{◌≡◌, ℕ, List, length, take, drop, sym, subst, ℤ}
+use Rattle.xa_base.proofs.{◌≡◌, ℕ, List, length, take, drop, sym, ℤ}
 use Rattle.xa_words.specs.{XidName, bytes_of, IsPaddedXid, length_first, length_second, bytes_again}
 
 -- the fields are what the name gives
@@ -12,8 +12,4 @@ pub record FieldsAre (g b : ℕ) (bs : List ℕ) (v : XidName) : Type 0 where
 pub fields_are : (f : ℤ) (g b : ℕ) (bs : List ℕ) (v : XidName) → IsPaddedXid g b bs
     → ◌≡◌ {A = XidName} (record { format = f; gtrid = take g bs; bqual = take b (drop g bs) }) v → FieldsAre g b bs v
 fields_are f g b bs v p e =
-    subst (FieldsAre g b bs) e (record {
-      gtrid_len = sym (length_first g b bs p);
-      bqual_len = sym (length_second g b bs p);
-      bytes = sym (bytes_again g b bs p);
-    })
+    rw (← e) (record { gtrid_len = sym (length_first g b bs p); bqual_len = sym (length_second g b bs p); bytes = sym (bytes_again g b bs p) })

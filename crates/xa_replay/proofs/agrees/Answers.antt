@@ -1,6 +1,4 @@
-use Rattle.xa_base.proofs.{subst}
 use Rattle.xa_tables.specs.{Tables}
-use Rattle.xa_worker.specs.{Follows}
 use Rattle.xa_replay.proofs.agrees.Goals as goal
 
 pub returns : goal.returns
@@ -8,7 +6,7 @@ returns c = λ shown.
     let last : Tables = c.replays.new.tables.tables in
     record {
       last = last;
-      follows = subst (λ (T : Tables). Follows T c.args.journal.now last) c.in-Ok.ensures.tables (c.replays.ensures.follows c.if-not-replays.false);
+      follows = rw c.in-Ok.ensures.tables at (c.replays.ensures.follows c.if-not-replays.false);
       threads = c.replays.ensures.threads c.if-not-replays.false;
       orders = c.are_in_order.ensures c.if-not-are_in_order.false;
       values_ = c.have_values.ensures shown;

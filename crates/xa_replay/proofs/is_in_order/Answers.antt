@@ -1,6 +1,5 @@
-use Rattle.xa_base.proofs.{◌≡◌, ◌+◌, [], ◌∷◌, ◌++◌, take, sym, subst, arith, range_with_len, eq-eqb, ne_eqb, one_more}
+use Rattle.xa_base.proofs.{◌≡◌, ◌+◌, [], ◌∷◌, ◌++◌, take, arith, eq-eqb, ne_eqb, one_more}
 use Rattle.xa_worker.specs.{Entry}
-use Rattle.xa_replay.specs.{numbers_of}
 use Rattle.xa_replay.proofs.Entries.{number_more, number_other}
 use Rattle.xa_replay.proofs.is_in_order.Goals as goal
 use Rattle.xa_replay.proofs.is_in_order.Goals.{then-entry-thread+else-entry-next, else-entry-thread}
@@ -16,12 +15,10 @@ loop-entry-preserved c =
     elim c.if-entry-thread.branch [
       | then-entry-thread+else-entry-next w ↦ record {
         few = omega (arith, few, w.next-is);
-        numbers = subst (λ k. numbers_of c.args.thread (take (n + 1) journal) ≡ range_with_len 0 k) (sym w.next-is)
-            (number_more c.args.thread c.loop-entry.next (take n journal) (take (n + 1) journal) e more (eq-eqb e.0.thread c.args.thread w.if-entry-thread.true) w.if-entry-next.false i.numbers);
+        numbers = rw w.next-is (number_more c.args.thread c.loop-entry.next (take n journal) (take (n + 1) journal) e more (eq-eqb e.0.thread c.args.thread w.if-entry-thread.true) w.if-entry-next.false i.numbers);
       }
       | else-entry-thread w ↦ record {
         few = omega (arith, few, w.next-is);
-        numbers = subst (λ k. numbers_of c.args.thread (take (n + 1) journal) ≡ range_with_len 0 k) (sym w.next-is)
-            (number_other c.args.thread c.loop-entry.next (take n journal) (take (n + 1) journal) e more (ne_eqb e.0.thread c.args.thread w.if-entry-thread.false) i.numbers);
+        numbers = rw w.next-is (number_other c.args.thread c.loop-entry.next (take n journal) (take (n + 1) journal) e more (ne_eqb e.0.thread c.args.thread w.if-entry-thread.false) i.numbers);
       }
     ]

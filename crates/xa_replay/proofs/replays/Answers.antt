@@ -1,6 +1,6 @@
 use denote.Enum.Bare.{differs_false}
 use Rattle.xa_words.specs.contracts.code.Code.{the_type}
-use Rattle.xa_base.proofs.{rules, ◌≡◌, ◌+◌, [], ◌∷◌, ◌++◌, take, sym, ◌∙◌, subst, arith, All, All-push, one_more}
+use Rattle.xa_base.proofs.{rules, ◌≡◌, ◌+◌, [], ◌∷◌, ◌++◌, take, sym, ◌∙◌, arith, All-push, one_more}
 use Rattle.xa_base.specs.{IsUpTo}
 use Rattle.xa_worker.specs.{Entry}
 use Rattle.xa_replay.proofs.Entries.{replay_more}
@@ -20,5 +20,5 @@ loop-entry-preserved c =
     record {
       threads = c.apply.ensures.threads ∙ i.threads;
       follows = replay_more c.args.tables.now.tables (take n journal) (take (n + 1) journal) e c.loop-entry.tables.tables c.apply.new.self.tables c.apply.result more c.apply.ensures.step same i.follows;
-      each = subst (All P) (sym more) (All-push P (take n journal) e i.each (omega (arith, low), omega (arith, high)));
+      each = rw more (All-push P (take n journal) e i.each (omega (arith, low), omega (arith, high)));
     }

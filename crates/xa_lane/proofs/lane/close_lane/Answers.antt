@@ -1,4 +1,4 @@
-use Rattle.xa_base.proofs.{arith, ◌≡◌, ap, ◌∙◌, subst, refl}
+use Rattle.xa_base.proofs.{arith, ◌≡◌, ap, ◌∙◌, refl}
 use Rattle.crossbeam_queue.specs.Passes.{view}
 use Rattle.xa_lane.specs.{made_in, taken_in, Receiving, IsWhole}
 use Rattle.xa_lane.proofs.Closes.{covers_as, marked_as, known_as, conserves_of_ends, leaves_nothing, knows_itself, knows_no_end}
@@ -32,7 +32,7 @@ drain-requires-clause-left g c = (c.receiver.invariant.3, c.receiver.invariant.4
 pub drain-requires-clause-whole : goal.drain-requires-clause-whole
 drain-requires-clause-whole g c =
     let senders = ap (λ (r : Receiving g.row.T.Denot). r.senders) c.receiver.view_is in
-    let whole : IsWhole c.args.receiver.senders c.args.ended.items = subst (λ n. IsWhole n c.args.ended.items) senders (c.if-not-are_whole.ensures.0 refl) in
+    let whole : IsWhole c.args.receiver.senders c.args.ended.items = rw senders at (c.if-not-are_whole.ensures.0 refl) in
     let made : made_in (view c.receiver.inside.pass) ≡ c.args.receiver.senders = ap made_in c.receiver.invariant.1 ∙ senders in
     covers_as _ _ _ _ _ c.take_in-pass.ensures.knows made whole
 

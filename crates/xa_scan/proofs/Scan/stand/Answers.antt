@@ -1,5 +1,4 @@
-use Rattle.xa_base.proofs.{◌≤◌, IfSome, length, subst, sym}
-use Rattle.xa_scan.specs.{scan_of, left_at}
+use Rattle.xa_scan.specs.{scan_of}
 use Rattle.xa_scan.proofs.Standing.{still_within}
 use Rattle.xa_scan.proofs.Scan.stand.Goals as goal
 
@@ -7,4 +6,4 @@ pub invariant_of-self : goal.invariant_of-self
 invariant_of-self c =
     let m = c.args.manager in
     let z = scan_of c.self.inside.left c.self.inside.places in
-    still_within z m c.args.place c.requires.manager.0 (subst (λ w. IfSome c.args.place (λ k. k ≤ length (left_at w m))) (sym c.self.view_is) c.requires.within) c.self.invariant
+    still_within z m c.args.place c.requires.manager.0 (rw c.self.view_is c.requires.within) c.self.invariant

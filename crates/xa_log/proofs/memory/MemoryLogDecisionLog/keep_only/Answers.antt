@@ -1,9 +1,9 @@
-use Rattle.xa_base.proofs.{ap, rules, ◌∙◌}
+use Rattle.xa_base.proofs.{kept_by_key, retained_keys, ap, rules, ◌∙◌}
 use Rattle.std.specs.FinMap as map
 use Rattle.xa_words.specs.{tran_eq}
 use Rattle.xa_log.specs.{is_among}
 use Rattle.xa_log.proofs.Transactions.{tran_cmp_total, tran_cmp-IsAntisymmetric, tran_eq-by_cmp, tran_alike}
-use Rattle.xa_log.proofs.Kept.{room_stays, kept_by_key, retained_keys}
+use Rattle.xa_log.proofs.Kept.{room_stays}
 use Rattle.xa_log.proofs.memory.MemoryLogDecisionLog.keep_only.Goals as goal
 
 pub returns-clause-kept : goal.returns-clause-kept
