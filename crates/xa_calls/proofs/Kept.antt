@@ -1,7 +1,7 @@
 -- What is outstanding stays kept under a number, as a desk calls and collects.
-use Rattle.xa_base.proofs.{◌≡◌, ◌≢◌, ℕ, ◌+◌, ◌-◌, ◌<◌, ◌≤◌, ◌⊎◌, suc, false, true, nat_eq, List, [], ◌∷◌, length, sym, refl, subst, inl, inr, arith}
-use Rattle.xa_base.proofs.{length-append, slice_index_or, length-map, cases_eq, cases_Bool, eqb-false, or_parts, sum_by, sum_by-cons, rules, ℤ, ⊎_elim, zero}
-use Rattle.xa_base.proofs.{Bool, Option, Some, None, Result, Ok, Err, ap, ◌∙◌, nat_cmp, inserted_there, inserted_other, removed_other, not_both}
+use Rattle.xa_base.proofs.{◌≡◌, ◌≢◌, ℕ, ◌+◌, ◌-◌, ◌<◌, ◌≤◌, ◌⊎◌, suc, false, true, nat_eq, List, [], ◌∷◌, length, sym, refl, inl, inr, arith, length-append}
+use Rattle.xa_base.proofs.{slice_index_or, length-map, cases_eq, cases_Bool, eqb-false, or_parts, sum_by, sum_by-cons, rules, ℤ, ⊎_elim, zero, Bool, Option}
+use Rattle.xa_base.proofs.{Some, None, Result, Ok, Err, ap, ◌∙◌, nat_cmp, inserted_there, inserted_other, removed_other, not_both}
 use Rattle.std.proofs.lemmas.Map.Steps.{le-length_from_below}
 use Rattle.xa_words.specs.{Op, Code, Mode}
 use Rattle.xa_desk.specs.{Operation, numbers, is_collected, with_sent, with_collected, IsKnown, IsOut, ledger, no_ledger, after_sent, after_collected}
@@ -62,8 +62,8 @@ none_outstanding at none = sum_none at (λ i below n within.
       | inl yes' ↦ yes'
       | inr no' ↦ absurd (none (record { manager = i + 1; number = n }) (record {
         known = record { positive = omega arith; within = omega (arith, below) };
-        sent = subst (λ j. n < length (slice_index_or at j no_ledger).sent) (sym back) within;
-        open_ = subst (λ j. is_collected (slice_index_or at j no_ledger) n ≡ false) (sym back) no';
+        sent = rw back within;
+        open_ = rw back no';
       }))
     ])
 
@@ -93,7 +93,7 @@ collects_keep mid new o c is rest = search (arith, out_collected, is.collected, 
 freed_kept : (m : Handles) (k : ℕ) (o : Operation) → finmap.get m k ≡ Some o → (p : Operation) → p ≢ o → (j : ℕ) × (finmap.get m j ≡ Some p)
     → (j : ℕ) × (finmap.get (finmap.remove m k) j ≡ Some p)
 freed_kept m k o at p differs j = elim (cases_eq j.0 k) [
-  | inl same ↦ absurd (differs (other_operation (finmap.get m k) o p at (subst (λ n. finmap.get m n ≡ Some p) same j.1)))
+  | inl same ↦ absurd (differs (other_operation (finmap.get m k) o p at (rw same at j.1)))
   | inr other ↦ (j.0, removed_other m k j.0 other ∙ j.1)
 ]
 
@@ -105,7 +105,7 @@ takes_keep : (old new : DeskView) (k : ℕ) (c : Code) → TakesKept old new k c
 takes_keep old new k c is all = record {
   each = λ p out.
       let ledgers = ap (λ (d : DeskView). d.ledgers) is.taken in
-      let parts = out_collected old.ledgers is.operation c is.out.known p (subst (λ (at : List LedgerView). IsOut at p) ledgers out) in
+      let parts = out_collected old.ledgers is.operation c is.out.known p (rw ledgers at out) in
       let j = freed_kept old.kept k is.operation is.kept p parts.1 (all.each p parts.0) in
       (j.0, ap (λ (d : DeskView). finmap.get d.kept j.0) is.taken ∙ j.1);
 }
@@ -136,7 +136,7 @@ inserted_keep old m op k known unkept all = record {
       (λ (e : p ≡ next). (k, inserted_there old.kept k next ∙ ap (λ (o : Operation). Some o) (sym e)))
       (λ (before : IsOut old.ledgers p).
       let j = all.each p before in
-      let differs : j.0 ≢ k = λ same. not_both (finmap.get old.kept k) p unkept (subst (λ n. finmap.get old.kept n ≡ Some p) same j.1) in
+      let differs : j.0 ≢ k = λ same. not_both (finmap.get old.kept k) p unkept (rw same at j.1) in
       (j.0, inserted_other old.kept k next j.0 differs ∙ j.1))
       (out_sent old.ledgers m op known p out);
 }
@@ -149,10 +149,10 @@ answered_keep old mid new m op c ledgers handles known is all =
     ⊎_elim
     (λ (e : p ≡ next_operation mid.ledgers m). absurd (differs (e ∙ ap (λ (at : List LedgerView). next_operation at m) ledgers)))
     (λ (before : IsOut mid.ledgers p). (same_kept old mid ledgers handles all).each p before)
-    (out_sent mid.ledgers m op (subst (λ (at : List LedgerView). IsKnown at m) (sym ledgers) known) p out))
+    (out_sent mid.ledgers m op (rw ledgers known) p out))
 
 puts_keep : (old : DeskView) (m : ℕ) (asked : _) (new : DeskView) (n : ℤ) → Puts old m asked new n → AllKept old → AllKept new
-puts_keep old m asked new n (refused c why told e) all = subst AllKept (sym e) all
+puts_keep old m asked new n (refused c why told e) all = rw e all
 puts_keep old m asked new n (full why async told e) all = same_kept old new (ap (λ (d : DeskView). d.ledgers) e) (ap (λ (d : DeskView). d.kept) e) all
 puts_keep old m asked new n (kept why async k told is e) all = search (arith, inserted_keep, known_here, asked.op, asked.asynchronous, is.free)
 puts_keep old m asked new n (answered why async times c told is) all =
@@ -160,34 +160,34 @@ puts_keep old m asked new n (answered why async times c told is) all =
 
 pub calls_keep : (asked : Result _ Code) (old : DeskView) (m : ℕ) (new : DeskView) (n : ℤ) → Calls asked old m new n → AllKept old → AllKept new
 calls_keep (Ok asked) old m new n is all = puts_keep old m asked new n is all
-calls_keep (Err c) old m new n is all = subst AllKept (sym is.1) all
+calls_keep (Err c) old m new n is all = rw is.1 all
 
 -- ---- collecting
 
 one_keep : (old : DeskView) (k : Option ℕ) (m : ℕ) (nowait : Bool) (new : DeskView) (r : Result (ℕ × Code) Code) → CompletesOne old k m nowait new r
     → AllKept old → AllKept new
-one_keep old k m nowait new r (unknown missing told e) all = subst AllKept (sym e) all
+one_keep old k m nowait new r (unknown missing told e) all = rw e all
 one_keep old k m nowait new r (retry_one j is there way told quiet unready) all = let same = quiet_same old new quiet in same_kept old new same.0 same.1 all
 one_keep old k m nowait new r (ready j c is there way told takes) all =
     takes_keep takes.before new j c takes.takes (same_kept old takes.before (ap (λ (d : DeskView). d.ledgers) takes.looks.rest) (ap (λ (d : DeskView). d.kept) takes.looks.rest) all)
 one_keep old k m nowait new r (waited j c is there way told takes) all = redeemed_keep old new j c takes all
 
 any_keep : (old : DeskView) (m : ℕ) (nowait : Bool) (new : DeskView) (r : Result (ℕ × Code) Code) → CompletesAny old m nowait new r → AllKept old → AllKept new
-any_keep old m nowait new r (nothing empty told e) all = subst AllKept (sym e) all
+any_keep old m nowait new r (nothing empty told e) all = rw e all
 any_keep old m nowait new r (retry_any j there way told quiet unready) all = let same = quiet_same old new quiet in same_kept old new same.0 same.1 all
 any_keep old m nowait new r (least j c told takes) all =
     let same = quiet_same old takes.before takes.quiet in takes_keep takes.before new j c takes.takes (same_kept old takes.before same.0 same.1 all)
 
 at_keep : (may multiple nowait : Bool) (old : DeskView) (k : Option ℕ) (m : ℕ) (new : DeskView) (r : Result (ℕ × Code) Code)
     → CompletesAt may multiple nowait old k m new r → AllKept old → AllKept new
-at_keep false multiple nowait old k m new r is all = subst AllKept (sym is.1) all
+at_keep false multiple nowait old k m new r is all = rw is.1 all
 at_keep true true nowait old k m new r is all = any_keep old m nowait new r is all
 at_keep true false nowait old k m new r is all = one_keep old k m nowait new r is all
 
 pub by_keep : (mode : Result Mode Code) (old : DeskView) (k : Option ℕ) (m : ℕ) (new : DeskView) (r : Result (ℕ × Code) Code) → CompletesBy mode old k m new r
     → AllKept old → AllKept new
 by_keep (Ok mode) old k m new r is all = at_keep (may_complete old m mode.multiple) mode.multiple mode.nowait old k m new r is all
-by_keep (Err c) old k m new r is all = subst AllKept (sym is.1) all
+by_keep (Err c) old k m new r is all = rw is.1 all
 
 -- ---- a desk that keeps nothing
 

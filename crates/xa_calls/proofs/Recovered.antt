@@ -1,6 +1,6 @@
 -- What a scan does to a desk, and what it writes.
 use Rattle.xa_base.proofs.{rules, ◌≡◌, ℕ, ℤ, zero, suc, Bool, true, false, Option, None, ◌+◌, ◌-◌, ◌<◌, Some, Result, Ok, Err, List, [], ◌∷◌, ◌++◌, length}
-use Rattle.xa_base.proofs.{take, drop, set, refl, sym, ap, subst, arith, length-append, append_assoc, is_some, option_map, slice_get, length-drop, take_all}
+use Rattle.xa_base.proofs.{take, drop, set, refl, ap, subst, arith, length-append, append_assoc, is_some, option_map, slice_get, length-drop, take_all}
 use Rattle.xa_words.specs.{XidName, Done, Nota, check_flags, Mode, Op, Listed, Code}
 use Rattle.xa_words.specs.declared.flags.Call.TheVariants as call
 use Rattle.xa_desk.specs.{Refused, is_known, AllKept, DeskView}
@@ -12,7 +12,7 @@ use Rattle.xa_calls.proofs.Kept.{answered_keep, fulls_kept, fulls_ledgers, known
 
 -- what was outstanding stays kept, as a manager is asked
 pub asked_keep : (old new : DeskView) (m : ℕ) (op : Op) (code : Code) → Answers m old op new code → AllKept old → AllKept new
-asked_keep old new m op code (refused why same) all = subst AllKept (sym same) all
+asked_keep old new m op code (refused why same) all = rw same all
 asked_keep old new m op code (answered none n is) all = search (arith, answered_keep, fulls_ledgers, fulls_kept, known_here)
 
 -- no refusal has the code XA_OK
@@ -48,14 +48,14 @@ pub finds_more : {D : Type 0} (asking : Asking D) (room : ℕ) (xids : List XidN
     → Looks asking room xids old k xs d → length xs < room → slice_get xids k ≡ Some x → asking d (Listed (Some x)) e code → code ≡ Done
     → Looks asking room xids old (k + 1) (xs ++ x ∷ []) e
 finds_more asking room xids old d e k xs x code looks short there asked is =
-    subst (λ n. Looks asking room xids old n (xs ++ x ∷ []) e) (let same : suc k ≡ k + 1 = omega arith in same) (finds k xs d e x looks short there (subst (λ c. asking d (Listed (Some x)) e c) is asked))
+    subst (λ n. Looks asking room xids old n (xs ++ x ∷ []) e) (let same : suc k ≡ k + 1 = omega arith in same) (finds k xs d e x looks short there (rw is at asked))
 
 -- it isn't left
 pub passes_more : {D : Type 0} (asking : Asking D) (room : ℕ) (xids : List XidName) (old d e : D) (k : ℕ) (xs : List XidName) (x : XidName) (code : Code)
     → Looks asking room xids old k xs d → length xs < room → slice_get xids k ≡ Some x → asking d (Listed (Some x)) e code → code ≡ Nota
     → Looks asking room xids old (k + 1) xs e
 passes_more asking room xids old d e k xs x code looks short there asked is =
-    subst (λ n. Looks asking room xids old n xs e) (let same : suc k ≡ k + 1 = omega arith in same) (passes k xs d e x looks short there (subst (λ c. asking d (Listed (Some x)) e c) is asked))
+    subst (λ n. Looks asking room xids old n xs e) (let same : suc k ≡ k + 1 = omega arith in same) (passes k xs d e x looks short there (rw is at asked))
 
 -- ---- from a place on
 

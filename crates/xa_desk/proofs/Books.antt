@@ -1,17 +1,20 @@
 -- Each step of a desk keeps its books; the map that a table of kept operations is; and a desk that has done nothing.
-use Rattle.xa_base.proofs.{◌≡◌, ◌≢◌, ℕ, suc, ◌+◌, ◌-◌, ◌<◌, ◌⊎◌, true, cond, nat_eq, is_some, List, [], ◌∷◌, ◌++◌, length, Option, Some, None, get_or, sym}
-use Rattle.xa_base.proofs.{refl, ap, ◌∙◌, subst, inl, inr, arith, length-append, get_or-set_same, get_or-set_other, cases_eq, cases_lt, cases_Bool, false≢true}
+use Rattle.xa_base.proofs.{get_or_read, ◌≡◌, ◌≢◌, ℕ, suc, ◌+◌, ◌-◌, ◌<◌, ◌⊎◌, true, cond, nat_eq, is_some, List, [], ◌∷◌, ◌++◌, length, Option, Some, None}
+use Rattle.xa_base.proofs.{get_or, sym, refl, ap, ◌∙◌, inl, inr, arith, length-append, get_or-set_same, get_or-set_other, cases_eq, cases_lt, false≢true}
 use Rattle.xa_base.proofs.{false_from_ne_true, option_or, and_parts, eqb-true, eq-eqb, zero, IfSome, set, nat_cmp, nat_cmp_total, eq_by_cmp, tied_true}
 use Rattle.xa_base.proofs.{tied_false, ◌*◌, Bool, replicate, get_or_past, sum_by-set, sum_by-cons, IsSome, get_or-replicate, length-replicate}
+use Rattle.slab.proofs.SlabLemmas.{ContainsKey-within, Updates-with_value}
+use Rattle.xa_desk.proofs.Ledgers.{cases_operation, same_operation, none_from, sum_by-changed, collected-le-sent, collected-lt-sent, orderly_sent}
+use Rattle.xa_desk.proofs.Ledgers.{orderly_collected, sent_now, ledger-sent_same, ledger-sent_other, sent_keeps_sent, sent_keeps_out, sent_now_out}
+use Rattle.xa_desk.proofs.Ledgers.{sent_out_cases, unsent, known_before, collected_known, collected_out, collected_keeps_out, collected_keeps_sent}
+use Rattle.xa_desk.proofs.Ledgers.{ledger-collected_same, ledger-collected_other}
+use Rattle.xa_base.specs.{Begins}
 use Rattle.std.proofs.lemmas.Bool.{and_from}
 use Rattle.slab.specs.Slab.{Slab, get, slab_len, with_value, Updates, entries_from}
 use Rattle.xa_words.specs.{Op, Completion, Code}
-use Rattle.xa_desk.specs.{Operation, Slot, with_sent, with_collected, IsKnown, IsSent, IsOut, ledger, no_ledger, after_sent, after_collected, outstanding}
-use Rattle.xa_desk.specs.{names, drained_code, operation_of, HasSlot, IsBooks, ready_weight, ready_count, collected_total, LedgerView, IsLeastFree, kept_of}
+use Rattle.xa_desk.specs.{Operation, Slot, with_sent, with_collected, IsKnown, IsOut, ledger, no_ledger, after_sent, after_collected, outstanding, names}
+use Rattle.xa_desk.specs.{drained_code, operation_of, HasSlot, IsBooks, ready_weight, ready_count, collected_total, LedgerView, IsLeastFree, kept_of}
 use Rattle.xa_desk.specs.{new_ledgers, IsOrderly, planned_total}
-use Rattle.xa_desk.proofs.Ledgers.{same_operation, none_from, sum_by-changed, collected-le-sent, collected-lt-sent, orderly_sent, orderly_collected, sent_now}
-use Rattle.xa_desk.proofs.Ledgers.{ledger-sent_same, ledger-sent_other, sent_keeps_sent, sent_keeps_out, sent_now_out, sent_out_cases, unsent, known_before}
-use Rattle.xa_desk.proofs.Ledgers.{collected_known, collected_out, collected_keeps_out, collected_keeps_sent, ledger-collected_same, ledger-collected_other}
 use Rattle.std.specs.List.{IsDistinct}
 use Rattle.std.specs.FinMap as map
 
@@ -53,36 +56,25 @@ module _ (at : List LedgerView) (m : ℕ) (op : Op) (known : IsKnown at m) (s t 
       | inr differs ↦ rw (ledger-sent_other at m op known n k'.positive differs) (b.orderly n k')
     ];
     slot_out = λ k y found. elim (found_cases s t key fresh u k y found) [
-      | inl new ↦ subst (λ (z : Slot). IsOut (after_sent at m op) z.operation) new.1 (sent_now_out at m op known (b.orderly m known))
+      | inl new ↦ rw (← new.1) (sent_now_out at m op known (b.orderly m known))
       | inr old ↦ sent_keeps_out at m op known y.operation (b.slot_out k y old.1)
     ];
     out_slot = λ o out. elim (sent_out_cases at m op known o out) [
       | inl new ↦ record { key = key; slot = fresh; found = u.changed; names = sym new }
       | inr old ↦ let h = b.out_slot o old in record { key = h.key; slot = h.slot; found = found_still s t key (Some fresh) u h.key h.slot (key_apart s key h.key h.slot none h.found) h.found; names = h.names }
     ];
-    one_slot = λ j k x y fx fy e. elim (found_cases s t key fresh u j x fx) [
-      | inl newx ↦ elim (found_cases s t key fresh u k y fy) [
-        | inl newy ↦ newx.0 ∙ sym newy.0
-        | inr oldy ↦ absurd (never k y oldy.1 (sym e ∙ ap (λ (z : Slot). z.operation) (sym newx.1)))
-      ]
-      | inr oldx ↦ elim (found_cases s t key fresh u k y fy) [
-        | inl newy ↦ absurd (never j x oldx.1 (e ∙ ap (λ (z : Slot). z.operation) (sym newy.1)))
-        | inr oldy ↦ b.one_slot j k x y oldx.1 oldy.1 e
-      ]
-    ];
+    one_slot = apart;
     count =
         let sums : outstanding (after_sent at m op) + (length (ledger at m).sent - length (ledger at m).collected) ≡ outstanding at + (length ((ledger at m).sent ++ op ∷ []) - length (ledger at m).collected) =
         sum_by-set (λ (a : LedgerView). length a.sent - length a.collected) at (m - 1) (with_sent (ledger at m) op) no_ledger (let h = known.within in let p = known.positive in omega arith) in
-        let le = collected-le-sent (ledger at m) (b.orderly m known) in
-        let c = b.count in
-        omega (arith, length-append (ledger at m).sent (op ∷ []));
+        omega (arith, collected-le-sent (ledger at m) (b.orderly m known), b.count, length-append (ledger at m).sent (op ∷ []));
     handled = λ k y n found e. elim (found_cases s t key fresh u k y found) [
       | inl new ↦ let h : 0 ≡ suc n = ap (λ (z : Slot). z.handle) new.1 ∙ e in absurd (omega arith)
       | inr old ↦ b.handled k y n old.1 e
     ];
     tabled = λ n o e. let h = b.tabled n o e in record { key = h.key; slot = h.slot; found = found_still s t key (Some fresh) u h.key h.slot (key_apart s key h.key h.slot none h.found) h.found; names = h.names; handle = h.handle };
     coded = λ k y found. elim (found_cases s t key fresh u k y found) [
-      | inl new ↦ subst (λ (z : Slot). z.code ≡ drained_code z.operation drained) new.1 (sym (none_from (drained_code (sent_now at m op known) drained) (λ code e. unsent at m op known (sent_now at m op known) (b.drained_sent (sent_now at m op known) code e) refl)))
+      | inl new ↦ rw (← new.1) (sym (none_from (drained_code (sent_now at m op known) drained) (λ code e. unsent at m op known (sent_now at m op known) (b.drained_sent (sent_now at m op known) code e) refl)))
       | inr old ↦ b.coded k y old.1
     ];
     drained_sent = λ o code e. sent_keeps_sent at m op known o (b.drained_sent o code e);
@@ -90,13 +82,14 @@ module _ (at : List LedgerView) (m : ℕ) (op : Op) (known : IsKnown at m) (s t 
         let sums : collected_total (after_sent at m op) + length (ledger at m).collected ≡ collected_total at + length (ledger at m).collected =
         sum_by-set (λ (a : LedgerView). length a.collected) at (m - 1) (with_sent (ledger at m) op) no_ledger (let h = known.within in let p = known.positive in omega arith) in
         let ready : ready_count t + ready_weight (get s key) ≡ ready_count s + 0 = ready_count-changed s t key (Some fresh) u in
-        let zeros : ready_weight (get s key) ≡ 0 = ap ready_weight none in
-        let c = b.drained_count in
-        omega arith;
+        omega (arith, ap ready_weight none, b.drained_count);
   }
     where
-      never : (k : ℕ) (y : Slot) → get s k ≡ Some y → y.operation ≡ sent_now at m op known → ⊥
+      never : (k : ℕ) (y : Slot) → get s k ≡ Some y → y.operation ≢ sent_now at m op known
       never k y found e = let o = b.slot_out k y found in unsent at m op known y.operation (record { known = o.known; sent = o.sent }) e
+
+      apart : (j k : ℕ) (x y : Slot) → get t j ≡ Some x → get t k ≡ Some y → x.operation ≡ y.operation → j ≡ k
+      apart j k x y fx fy e = grind (arith, found_cases, never, b.one_slot)
 
 pub same_slot : (s : Slab Slot) (key k : ℕ) (x y : Slot) → get s key ≡ Some x → get s k ≡ Some y → k ≡ key → y ≡ x
 same_slot s key k x y fx fy e = let both : Some y ≡ Some x = sym fy ∙ ap (get s) e ∙ fx in cc
@@ -104,42 +97,87 @@ same_slot s key k x y fx fy e = let both : Some y ≡ Some x = sym fy ∙ ap (ge
 -- draining
 
 module _ (o : Operation) where
-  drained_code-append : (cs : List Completion) (c : Completion) → drained_code o (cs ++ c ∷ []) ≡ option_or (drained_code o cs) (drained_code o (c ∷ []))
-  drained_code-append [] c = refl
-  drained_code-append (d ∷ cs) c = grind (arith, drained_code-append cs c, option_or)
-
-  names-true : (c : Completion) → names o c ≡ true → o ≡ operation_of c
-  names-true c e = grind (arith, nat_eq, and_parts, same_operation, eqb-true)
-
-  names-same : (c : Completion) → o ≡ operation_of c → names o c ≡ true
-  names-same c e = grind (arith, and_from, nat_eq, eq-eqb)
+  drained_code-append : (cs ds : List Completion) → drained_code o (cs ++ ds) ≡ option_or (drained_code o cs) (drained_code o ds)
+  drained_code-append [] ds = refl
+  drained_code-append (d ∷ cs) ds = grind (arith, drained_code-append cs ds, option_or)
 
   pub drained_code-push_other : (cs : List Completion) (c : Completion) → o ≢ operation_of c → drained_code o (cs ++ c ∷ []) ≡ drained_code o cs
-  drained_code-push_other cs c differs = grind (arith, false_from_ne_true, names-true, drained_code-append, option_or)
+  drained_code-push_other cs c differs = grind (arith, false_from_ne_true, drained_code-append, option_or, nat_eq, and_parts, same_operation, eqb-true)
 
   pub drained_code-push_first : (cs : List Completion) (c : Completion) → o ≡ operation_of c → drained_code o cs ≡ None
       → drained_code o (cs ++ c ∷ []) ≡ Some c.code
-  drained_code-push_first cs c same none = grind (arith, drained_code-append, option_or, names-same)
+  drained_code-push_first cs c same none = grind (arith, drained_code-append, option_or, and_from, nat_eq, eq-eqb)
 
-  pub drained_code-push_again : (cs : List Completion) (c : Completion) (code : Code) → drained_code o cs ≡ Some code
-      → drained_code o (cs ++ c ∷ []) ≡ Some code
-  drained_code-push_again cs c code some = drained_code-append cs c ∙ ap (λ x. option_or x (drained_code o (c ∷ []))) some
+-- what was drained stays so
+pub drained_on : (old new : List Completion) → Begins old new → (o : Operation) (code : Code) → drained_code o old ≡ Some code → drained_code o new ≡ Some code
+drained_on old new more o code some = ap (drained_code o) more.1 ∙ drained_code-append o old more.0 ∙ ap (λ x. option_or x (drained_code o more.0)) some
+
+-- keeping and freeing: a slot's handle goes from one number to another, and the table with it
+pub record Rehandles (old new : List (Option Operation)) (from to : ℕ) (o : Operation) : Type 0 where
+  pub vacant : (n : ℕ) → from ≢ suc n → to ≡ suc n → get_or old n None ≡ None
+  pub filled : (n : ℕ) → to ≡ suc n → get_or new n None ≡ Some o
+  pub freed : (n : ℕ) → from ≡ suc n → to ≢ suc n → get_or new n None ≡ None
+  pub rest : (n : ℕ) → from ≢ suc n → to ≢ suc n → get_or new n None ≡ get_or old n None
+
+-- draining: a slot's code goes from one to another, and what was drained with it
+pub record Redrains (old new : List Completion) (from to : Option Code) (o : Operation) : Type 0 where
+  pub own : to ≡ drained_code o new
+  pub rest : (p : Operation) → p ≢ o → drained_code p new ≡ drained_code p old
+  pub count : length new + cond (is_some from) 1 0 ≡ length old + cond (is_some to) 1 0
 
 -- the slot at a key changes its code or its handle, and keeps its operation
-module _ (at : List LedgerView) (s t : Slab Slot) (key : ℕ) (slot x : Slot) (table : List (Option Operation)) (drained : List Completion)
-    (b : IsBooks at s table drained) (there : get s key ≡ Some slot) (u : Updates s t key (Some x)) (keeps : slot.operation ≡ x.operation) where
-  pub changed_out : (k : ℕ) (y : Slot) → get t k ≡ Some y → IsOut at y.operation
+module _ (at : List LedgerView) (s t : Slab Slot) (key : ℕ) (slot x : Slot) (old new : List (Option Operation)) (drained drained' : List Completion)
+    (b : IsBooks at s old drained) (there : get s key ≡ Some slot) (u : Updates s t key (Some x)) (keeps : slot.operation ≡ x.operation) where
+  changed_out : (k : ℕ) (y : Slot) → get t k ≡ Some y → IsOut at y.operation
   changed_out k y found = search (arith, found_cases)
 
-  pub changed_has : (o : Operation) → IsOut at o → HasSlot t o
+  changed_has : (o : Operation) → IsOut at o → HasSlot t o
   changed_has o out = search (arith, cases_eq, same_slot, found_still)
 
-  pub changed_one : (j k : ℕ) (y z : Slot) → get t j ≡ Some y → get t k ≡ Some z → y.operation ≡ z.operation → j ≡ k
+  changed_one : (j k : ℕ) (y z : Slot) → get t j ≡ Some y → get t k ≡ Some z → y.operation ≡ z.operation → j ≡ k
   changed_one j k y z fy fz e = grind (arith, found_cases)
 
   -- another slot has another operation
-  pub changed_apart : (k : ℕ) (y : Slot) → k ≢ key → get s k ≡ Some y → y.operation ≢ slot.operation
+  changed_apart : (k : ℕ) (y : Slot) → k ≢ key → get s k ≡ Some y → y.operation ≢ slot.operation
   changed_apart k y differs found e = differs (b.one_slot k key y slot found there e)
+
+  pub books_changed : Rehandles old new slot.handle x.handle slot.operation → Redrains drained drained' slot.code x.code slot.operation
+      → slab_len t ≡ slab_len s → IsBooks at t new drained'
+  books_changed r d len = record {
+    orderly = b.orderly;
+    slot_out = changed_out;
+    out_slot = changed_has;
+    one_slot = changed_one;
+    count = len ∙ b.count;
+    handled = search (arith, found_cases, changed_apart);
+    tabled = λ n o e. elim (cases_eq x.handle (suc n)) [
+      | inl here ↦ let both : Some slot.operation ≡ Some o = sym (r.filled n here) ∙ e in record { key = key; slot = x; found = u.changed; names = cc; handle = here }
+      | inr away ↦ elim (cases_eq slot.handle (suc n)) [
+        | inl left ↦ let no_one : None ≡ Some o = sym (r.freed n left away) ∙ e in absurd cc
+        | inr apart ↦
+            let h = b.tabled n o (sym (r.rest n apart away) ∙ e) in
+            let differs : h.key ≢ key = λ same. apart (sym (ap (λ (z : Slot). z.handle) (same_slot s key h.key slot h.slot there h.found same)) ∙ h.handle) in
+            record { key = h.key; slot = h.slot; found = found_still s t key (Some x) u h.key h.slot differs h.found; names = h.names; handle = h.handle }
+      ]
+    ];
+    coded = λ k y found. elim (found_cases s t key x u k y found) [
+      | inl fresh ↦ ap (λ (z : Slot). z.code) (sym fresh.1) ∙ d.own ∙ ap (λ p. drained_code p drained') (keeps ∙ ap (λ (z : Slot). z.operation) fresh.1)
+      | inr was ↦ b.coded k y was.1 ∙ sym (d.rest y.operation (changed_apart k y was.0 was.1))
+    ];
+    drained_sent = λ o code e. elim (cases_operation o slot.operation) [
+      | inl same ↦ let out = b.slot_out key slot there in rw same (record { known = out.known; sent = out.sent })
+      | inr differs ↦ b.drained_sent o code (sym (d.rest o differs) ∙ e)
+    ];
+    drained_count =
+        let ready : ready_count t + ready_weight (get s key) ≡ ready_count s + cond (is_some x.code) 1 0 = ready_count-changed s t key (Some x) u in
+        omega (arith, ap ready_weight there, b.drained_count, d.count);
+  }
+
+-- the handle stays
+rehandles_none : (at : List LedgerView) (s : Slab Slot) (key : ℕ) (slot : Slot) (table : List (Option Operation)) (drained : List Completion)
+    → IsBooks at s table drained → get s key ≡ Some slot → Rehandles table table slot.handle slot.handle slot.operation
+rehandles_none at s key slot table drained b there =
+    record { vacant = λ n f e. absurd (f e); filled = λ n e. b.handled key slot n there e; freed = λ n e f. absurd (f e); rest = λ n e f. refl }
 
 module _ (at : List LedgerView) (s t : Slab Slot) (key : ℕ) (slot : Slot) (table : List (Option Operation)) (drained : List Completion) (c : Completion) where
   abbrev pub answered : Slot
@@ -147,42 +185,12 @@ module _ (at : List LedgerView) (s t : Slab Slot) (key : ℕ) (slot : Slot) (tab
 
   pub books_drained : IsBooks at s table drained → get s key ≡ Some slot → slot.code ≡ None → slot.operation ≡ operation_of c → Updates s t key (Some answered)
       → slab_len t ≡ slab_len s → IsBooks at t table (drained ++ c ∷ [])
-  books_drained b there waiting named u len = record {
-    orderly = b.orderly;
-    slot_out = changed_out at s t key slot answered table drained b there u refl;
-    out_slot = changed_has at s t key slot answered table drained b there u refl;
-    one_slot = changed_one at s t key slot answered table drained b there u refl;
-    count = len ∙ b.count;
-    handled = λ k y n found e. elim (found_cases s t key answered u k y found) [
-      | inl new ↦ b.handled key slot n there (ap (λ (z : Slot). z.handle) new.1 ∙ e) ∙ ap (λ (z : Slot). Some z.operation) new.1
-      | inr old ↦ b.handled k y n old.1 e
-    ];
-    tabled = λ n o e. let h = b.tabled n o e in elim (cases_eq h.key key) [
-      | inl same ↦ search (arith, same_slot)
-      | inr differs ↦ record { key = h.key; slot = h.slot; found = found_still s t key (Some answered) u h.key h.slot differs h.found; names = h.names; handle = h.handle }
-    ];
-    coded = λ k y found. elim (found_cases s t key answered u k y found) [
-      | inl new ↦ subst (λ (z : Slot). z.code ≡ drained_code z.operation (drained ++ c ∷ [])) new.1 (sym (drained_code-push_first slot.operation drained c named (sym (b.coded key slot there) ∙ waiting)))
-      | inr old ↦ b.coded k y old.1
-          ∙ sym (drained_code-push_other y.operation drained c (λ e. changed_apart at s t key slot answered table drained b there u refl k y old.0 old.1 (e ∙ sym named)))
-    ];
-    drained_sent = λ o code e. elim (cases_Bool (names o c)) [
-      | inl hit ↦ let out = b.slot_out key slot there in subst (λ p. IsSent at p) (named ∙ sym (names-true o c hit)) (record { known = out.known; sent = out.sent })
-      | inr miss ↦ b.drained_sent o code (sym (drained_code-push_other o drained c (λ e'. false≢true (sym miss ∙ names-same o c e'))) ∙ e)
-    ];
-    drained_count =
-        let ready : ready_count t + ready_weight (get s key) ≡ ready_count s + 1 = ready_count-changed s t key (Some answered) u in
-        let zeros : ready_weight (get s key) ≡ 0 = ap ready_weight there ∙ ap (λ (code : Option Code). cond (is_some code) 1 0) waiting in
-        let n = b.drained_count in
-        omega (arith, length-append drained (c ∷ []));
-  }
-
--- keeping and freeing: the slot's handle goes from one number to another, and the table with it
-pub record Rehandles (old new : List (Option Operation)) (from to : ℕ) (o : Operation) : Type 0 where
-  pub vacant : (n : ℕ) → to ≡ suc n → get_or old n None ≡ None
-  pub filled : (n : ℕ) → to ≡ suc n → get_or new n None ≡ Some o
-  pub freed : (n : ℕ) → from ≡ suc n → to ≢ suc n → get_or new n None ≡ None
-  pub rest : (n : ℕ) → from ≢ suc n → to ≢ suc n → get_or new n None ≡ get_or old n None
+  books_drained b there waiting named u =
+      books_changed at s t key slot answered table table drained (drained ++ c ∷ []) b there u refl (rehandles_none at s key slot table drained b there) (record {
+        own = sym (drained_code-push_first slot.operation drained c named (sym (b.coded key slot there) ∙ waiting));
+        rest = λ p differs. drained_code-push_other p drained c (λ e. differs (e ∙ sym named));
+        count = rw waiting (omega (arith, length-append drained (c ∷ [])));
+      })
 
 module _ (at : List LedgerView) (s t : Slab Slot) (key : ℕ) (slot : Slot) (handle : ℕ) (old new : List (Option Operation)) (drained : List Completion) where
   abbrev pub rehandled : Slot
@@ -190,43 +198,8 @@ module _ (at : List LedgerView) (s t : Slab Slot) (key : ℕ) (slot : Slot) (han
 
   pub books_rehandled : IsBooks at s old drained → get s key ≡ Some slot → Rehandles old new slot.handle handle slot.operation
       → Updates s t key (Some rehandled) → slab_len t ≡ slab_len s → IsBooks at t new drained
-  books_rehandled b there r u len = record {
-    orderly = b.orderly;
-    slot_out = changed_out at s t key slot rehandled old drained b there u refl;
-    out_slot = changed_has at s t key slot rehandled old drained b there u refl;
-    one_slot = changed_one at s t key slot rehandled old drained b there u refl;
-    count = len ∙ b.count;
-    handled = λ k y n found e. elim (found_cases s t key rehandled u k y found) [
-      | inl fresh ↦ r.filled n (ap (λ (z : Slot). z.handle) fresh.1 ∙ e) ∙ ap (λ (z : Slot). Some z.operation) fresh.1
-      | inr was ↦
-          let stood : get_or old n None ≡ Some y.operation = b.handled k y n was.1 e in
-          r.rest n
-          (λ f. let both : Some slot.operation ≡ Some y.operation = sym (b.handled key slot n there f) ∙ stood in
-          changed_apart at s t key slot rehandled old drained b there u refl k y was.0 was.1 (let e' : slot.operation ≡ y.operation = cc in sym e'))
-          (λ f. let no_one : None ≡ Some y.operation = sym (r.vacant n f) ∙ stood in absurd cc)
-          ∙ stood
-    ];
-    tabled = λ n o e. elim (cases_eq handle (suc n)) [
-      | inl here ↦ let both : Some slot.operation ≡ Some o = sym (r.filled n here) ∙ e in record { key = key; slot = rehandled; found = u.changed; names = cc; handle = here }
-      | inr away ↦ elim (cases_eq slot.handle (suc n)) [
-        | inl left ↦ let no_one : None ≡ Some o = sym (r.freed n left away) ∙ e in absurd cc
-        | inr apart ↦
-            let h = b.tabled n o (sym (r.rest n apart away) ∙ e) in
-            let differs : h.key ≢ key = λ same. apart (sym (ap (λ (z : Slot). z.handle) (same_slot s key h.key slot h.slot there h.found same)) ∙ h.handle) in
-            record { key = h.key; slot = h.slot; found = found_still s t key (Some rehandled) u h.key h.slot differs h.found; names = h.names; handle = h.handle }
-      ]
-    ];
-    coded = λ k y found. elim (found_cases s t key rehandled u k y found) [
-      | inl fresh ↦ subst (λ (z : Slot). z.code ≡ drained_code z.operation drained) fresh.1 (b.coded key slot there)
-      | inr was ↦ b.coded k y was.1
-    ];
-    drained_sent = b.drained_sent;
-    drained_count =
-        let ready : ready_count t + ready_weight (get s key) ≡ ready_count s + cond (is_some slot.code) 1 0 = ready_count-changed s t key (Some rehandled) u in
-        let same : ready_weight (get s key) ≡ cond (is_some slot.code) 1 0 = ap ready_weight there in
-        let n = b.drained_count in
-        omega arith;
-  }
+  books_rehandled b there r u =
+      books_changed at s t key slot rehandled old new drained drained b there u refl r (record { own = b.coded key slot there; rest = λ p differs. refl; count = refl })
 
 -- collecting
 
@@ -236,7 +209,6 @@ module _ (at : List LedgerView) (s t : Slab Slot) (key : ℕ) (slot : Slot) (cod
   books_collected b there ready_code loose u len =
       let out = b.slot_out key slot there in
       let o = slot.operation in
-      let fresh_code = out.open_ in
       let within : o.manager - 1 < length at = (let w = out.known.within in let p = out.known.positive in omega arith) in
       let fewer : length (ledger at o.manager).collected < length (ledger at o.manager).sent =
       collected-lt-sent (ledger at o.manager) o.number code (b.orderly o.manager out.known) out.sent out.open_ in
@@ -256,8 +228,7 @@ module _ (at : List LedgerView) (s t : Slab Slot) (key : ℕ) (slot : Slot) (cod
         count =
             let sums : outstanding (after_collected at o code) + (length (ledger at o.manager).sent - length (ledger at o.manager).collected) ≡ outstanding at + (length (ledger at o.manager).sent - length ((ledger at o.manager).collected ++ (o.number, code) ∷ [])) =
             sum_by-set (λ (a : LedgerView). length a.sent - length a.collected) at (o.manager - 1) (with_collected (ledger at o.manager) o.number code) no_ledger within in
-            let c = b.count in
-            omega (arith, length-append (ledger at o.manager).collected ((o.number, code) ∷ []));
+            omega (arith, b.count, length-append (ledger at o.manager).collected ((o.number, code) ∷ []));
         handled = λ k y n found e. b.handled k y n (found_before s t key u k y found).1 e;
         tabled = λ n q e.
             let h = b.tabled n q e in
@@ -272,8 +243,7 @@ module _ (at : List LedgerView) (s t : Slab Slot) (key : ℕ) (slot : Slot) (cod
             sum_by-set (λ (a : LedgerView). length a.collected) at (o.manager - 1) (with_collected (ledger at o.manager) o.number code) no_ledger within in
             let ready : ready_count t + ready_weight (get s key) ≡ ready_count s + 0 = ready_count-changed s t key None u in
             let one : ready_weight (get s key) ≡ 1 = ap ready_weight there ∙ ap (λ (x : Option Code). cond (is_some x) 1 0) ready_code in
-            let n = b.drained_count in
-            omega (arith, length-append (ledger at o.manager).collected ((o.number, code) ∷ []));
+            omega (arith, b.drained_count, length-append (ledger at o.manager).collected ((o.number, code) ∷ []));
       }
 
 -- a completion that is collected as it is taken: as if its code had been entered into the slot first
@@ -283,20 +253,15 @@ module _ (at : List LedgerView) (s t : Slab Slot) (key : ℕ) (slot : Slot) (tab
   books_taken b there waiting named loose u len =
       let coded : Slot = record slot { code = Some c.code } in
       let mid : Slab Slot = with_value s key coded in
-      let within : key < length s.slots = elim (cases_lt key (length s.slots)) [
-        | inl below ↦ below
-        | inr past ↦ let no : None ≡ Some slot = sym (get_or_past s.slots key None past) ∙ there in absurd cc
-      ] in
-      let now : get mid key ≡ Some coded = get_or-set_same s.slots key (Some coded) None within in
-      let others : (k : ℕ) → k ≢ key → get mid k ≡ get s k = λ k differs. get_or-set_other s.slots key k (Some coded) None differs in
+      let within : key < length s.slots = ContainsKey-within s key (rw there) in
+      let now = Updates-with_value s key coded (rw there) in
       let sums : slab_len mid + cond {A = ℕ} (is_some (get s key)) 1 0 ≡ slab_len s + 1 =
       sum_by-set (λ (x : Option Slot). cond {A = ℕ} (is_some x) 1 0) s.slots key (Some coded) None within in
       let one : cond {A = ℕ} (is_some (get s key)) 1 0 ≡ 1 = ap (λ (x : Option Slot). cond {A = ℕ} (is_some x) 1 0) there in
       let count : slab_len mid ≡ slab_len s = omega arith in
-      let drains = books_drained at s mid key slot table drained c b there waiting named (record { changed = now; others = others }) count in
-      books_collected at mid t key coded c.code table (drained ++ c ∷ []) drains now refl loose
-      (record { changed = u.changed; others = λ k differs. u.others k differs ∙ sym (others k differs) })
-      (len ∙ sym count)
+      let drains = books_drained at s mid key slot table drained c b there waiting named now count in
+      books_collected at mid t key coded c.code table (drained ++ c ∷ []) drains now.changed refl loose
+      (record { changed = u.changed; others = λ k differs. u.others k differs ∙ sym (now.others k differs) }) (len ∙ sym count)
 
 -- ---- the map that a table of kept operations is
 
@@ -327,15 +292,9 @@ module _ (table : List (Option Operation)) (j number : ℕ) (is : number ≡ suc
   kept_of-set x m changed = map.same_map nat_cmp_total map.nat_cmp-IsAntisymmetric _ _ at_each
     where
       at_each : (q : ℕ) → map.get (kept_of (set table j x)) q ≡ map.get m q
-      at_each zero =
-          get-kept_of_zero (set table j x)
-          ∙ sym (changed 0 ∙ ap (λ b. cond b x (map.get (kept_of table) 0)) (tied_false 0 number (λ e. absurd (omega arith))) ∙ get-kept_of_zero table)
-      at_each (suc q) = get-kept_of (set table j x) q (suc q) refl ∙ sym (changed (suc q) ∙ elim (cases_eq q j) [
-        | inl same ↦ ap (λ b. cond b x (map.get (kept_of table) (suc q))) (tied_true (suc q) number (omega arith))
-            ∙ sym (rw same (get_or-set_same table j x None within))
-        | inr differs ↦ ap (λ b. cond b x (map.get (kept_of table) (suc q))) (tied_false (suc q) number (λ e. differs (omega arith)))
-            ∙ get-kept_of table q (suc q) refl ∙ sym (get_or-set_other table j q x None differs)
-      ])
+      at_each zero = grind (arith, get-kept_of_zero, (changed 0), tied_false)
+      at_each (suc q) =
+          grind (arith, (get-kept_of (set table j x) q (suc q) refl), (get-kept_of table q (suc q) refl), (changed (suc q)), cases_eq, tied_true, tied_false, get_or-set_same, get_or-set_other)
 
   pub kept_of-insert : (o : Operation) → kept_of (set table j (Some o)) ≡ map.insert (kept_of table) number o
   kept_of-insert o = kept_of-set (Some o) (map.insert (kept_of table) number o) (map.get-insert nat_cmp_total (kept_of table) number o)
@@ -347,6 +306,9 @@ pub get-kept_of_past : (table : List (Option Operation)) (number : ℕ) → leng
 get-kept_of_past table number past =
     let is : number ≡ suc (number - 1) = omega arith in
     get-kept_of table (number - 1) number is ∙ get_or_past table (number - 1) None (omega arith)
+
+-- what is kept under a number
+pub ruleset kept_of_rules = (get_or_read, get-kept_of, get-kept_of_past)
 
 -- where the operation of a kept number stands
 pub record KeptPlace (table : List (Option Operation)) (number : ℕ) (o : Operation) : Type 0 where
@@ -456,7 +418,7 @@ books_new requests use_async s n empty = record {
   tabled = λ k o e. let no : None ≡ Some o = sym (no_operation n k) ∙ e in absurd cc;
   coded = λ key slot found. absurd (none key slot found);
   drained_sent = λ o code e. let no : None ≡ Some code = e in absurd cc;
-  drained_count = let c : collected_total (new_ledgers requests use_async) ≡ 0 = nothing_collected requests use_async in let r : ready_count s ≡ 0 = rw empty refl in omega arith;
+  drained_count = let c : collected_total (new_ledgers requests use_async) ≡ 0 = nothing_collected requests use_async in let r : ready_count s ≡ 0 = rw empty in omega arith;
 }
   where
     none : (key : ℕ) (slot : Slot) → get s key ≡ Some slot → ⊥

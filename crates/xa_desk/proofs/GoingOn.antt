@@ -1,32 +1,18 @@
 -- A desk goes on by its calls, and which tickets are still owned.
-use Rattle.xa_base.proofs.{◌≡◌, ◌≢◌, ℕ, zero, suc, ◌-◌, ◌^◌, ◌≤◌, List, [], ◌∷◌, ◌++◌, length, map, Option, Some, None, IfSome, sym, refl, ap, ◌∙◌, subst}
-use Rattle.xa_base.proofs.{arith, nat_cmp, same_begins, begins_on, cases_eq, inserted_there, inserted_other, map-set_same}
+use Rattle.xa_base.proofs.{map-alike, ◌≡◌, ◌≢◌, ℕ, zero, suc, ◌-◌, ◌≤◌, List, map, Option, Some, None, IfSome, sym, refl, ap, ◌∙◌, arith, nat_cmp, same_begins}
+use Rattle.xa_base.proofs.{begins_on, cases_eq, inserted_there, inserted_other, map-set_same}
+use Rattle.xa_desk.specs.{seat_of_desk, Operation, with_collected, ledger, no_ledger, put_ledger, completed, Event, EndedView, Ends, submitted, after_full}
+use Rattle.xa_desk.specs.{after_fulls, EndsQuiet, Collects, CollectsKept, CollectsLeast, TakesKept, GoesOut, plan_of, plans, HaveGrown, TicketView, Owns, IsOut}
+use Rattle.xa_desk.specs.{IsDesk, outstanding, drained_code, LedgerView, DeskView, GoesOn, IsKnown, next_operation, LeavesTickets, LeavesOthers}
+use Rattle.xa_desk.proofs.Looks.{looks_move, same_count, counts_on, looks_outstanding, looking_leaves, quiet_looks, freed_loose}
 use Rattle.std.proofs.Common.{IsNone}
-use Rattle.std.proofs.Math.Nat.{min-le_left, min-le_right, le-min}
-use Rattle.xa_words.specs.{Code, Op, Request, Completion}
-use Rattle.xa_lane.specs.{Taken, Item, EndOf, Empty, Sending, Receiving, parcel, at_most_counted, counted, end_seat}
-use Rattle.xa_lane.proofs.Parcels.{map-at_place, map-alike}
-use Rattle.xa_desk.specs.{Operation, with_collected, ledger, no_ledger, put_ledger, completed, Event, EndedView, Ends, submitted, after_full, after_fulls}
-use Rattle.xa_desk.specs.{Drains, first, other, Draws, Pops, start, drawn, EndsQuiet, Collects, CollectsKept, CollectsLeast, TakesKept, GoesOut, plan_of, plans}
-use Rattle.xa_desk.specs.{HaveGrown, TicketView, Owns, IsOut, IsDesk, outstanding, drained_code, LedgerView, DeskView, GoesOn, IsKnown, next_operation}
-use Rattle.xa_desk.specs.{LeavesTickets, LeavesOthers}
+use Rattle.xa_words.specs.{Code, Op, Request}
+use Rattle.xa_lane.specs.{Sending, end_seat}
+use Rattle.xa_lane.proofs.Parcels.{map-at_place}
 use Rattle.xa_desk.specs.Looks.{Looks}
-use Rattle.xa_base.specs.{Begins}
 use Rattle.xa_desk.proofs.Ledgers.{same_lists, growing_on, sending_grows, collecting_grows, collected_keeps_out, sent_keeps_out, unsent}
 use Rattle.xa_desk.proofs.Ties.{tied_looks, tied_collected, fulls_alike}
-use Rattle.xa_desk.proofs.Looks.{looks_outstanding, looking_leaves, quiet_looks, freed_loose}
 use Rattle.std.specs.FinMap as finmap
-
--- ---- counts of quiet moments
-
-same_count : (n : ℕ) → at_most_counted n ≤ n
-same_count n = min-le_left n (2 ^ 64 - 1)
-
-one_more : (n : ℕ) → at_most_counted n ≤ counted n
-one_more n = le-min (let l = min-le_left n (2 ^ 64 - 1) in omega (arith, l)) (min-le_right n (2 ^ 64 - 1))
-
-counts_on : (a b c : ℕ) → at_most_counted a ≤ b → at_most_counted b ≤ c → at_most_counted a ≤ c
-counts_on a b c p q = let l : at_most_counted a ≤ at_most_counted b = le-min p (min-le_right a (2 ^ 64 - 1)) in omega (arith, l, q)
 
 -- ---- any steps
 
@@ -38,9 +24,6 @@ goes_with d requests at events kept ends plan lists = search (arith, same_begins
 
 pub goes_same : (d : DeskView) → GoesOn d d
 goes_same d = goes_with d d.requests d.ledgers d.events d.kept refl refl (same_lists d.ledgers d.ledgers refl)
-
-pub goes_nowhere : (old new : DeskView) → new ≡ old → GoesOn old new
-goes_nowhere old new e = subst (GoesOn old) (sym e) (goes_same old)
 
 pub goes_further : (a b c : DeskView) → GoesOn a b → GoesOn b c → GoesOn a c
 goes_further a b c p q = record {
@@ -66,10 +49,10 @@ pub goes_full : (d : DeskView) (m : ℕ) → GoesOn d (after_full d m)
 goes_full d m = search (arith, goes_with, map-at_place, same_lists, d.kept)
 
 pub goes_submitted : (d d' : DeskView) (m : ℕ) (op : Op) → d' ≡ submitted d m op → GoesOn d d'
-goes_submitted d d' m op e = subst (GoesOn d) (sym e) (goes_sent d m op)
+goes_submitted d d' m op e = rw e (goes_sent d m op)
 
 pub goes_fuller : (d d' : DeskView) (m : ℕ) → d' ≡ after_full d m → GoesOn d d'
-goes_fuller d d' m e = subst (GoesOn d) (sym e) (goes_full d m)
+goes_fuller d d' m e = rw e (goes_full d m)
 
 pub goes_fulls : (n : ℕ) (d : DeskView) (m : ℕ) → GoesOn d (after_fulls n d m)
 goes_fulls zero d m = goes_same d
@@ -77,38 +60,16 @@ goes_fulls (suc n) d m = goes_further d (after_fulls n d m) (after_fulls (suc n)
 
 -- ---- looking
 
--- the lane of completions has moved on, and what was drained
-abbrev moved : DeskView → List Completion → ℕ → Receiving Completion → DeskView
-moved d drained then r = record d { drained = drained; drained_then = then; completions = r }
-
-goes_moved : (d : DeskView) (drained : List Completion) (then : ℕ) (r : Receiving Completion) → r.lane ≡ d.completions.lane → r.line ≡ d.completions.line
-    → Begins d.completions.taken r.taken → Begins d.drained drained
-    → at_most_counted d.completions.quiet ≤ r.quiet → GoesOn d (moved d drained then r)
-goes_moved d drained then r lane line taken more quiet = search (arith, same_lists)
-
--- a parcel was taken
-goes_taken : (d : DeskView) (drained : List Completion) (x : _) (r : Receiving Completion) → r ≡ record d.completions { taken = d.completions.taken ++ x ∷ [] }
-    → Begins d.drained drained → GoesOn d (moved d drained d.drained_then r)
-goes_taken d drained x r e more = subst (λ r. GoesOn d (moved d drained d.drained_then r)) (sym e)
-    (goes_moved d drained d.drained_then (record d.completions { taken = d.completions.taken ++ x ∷ [] }) refl refl (x ∷ [], refl) more (same_count d.completions.quiet))
-
-goes_drained : (old new : DeskView) (s : ℕ) (c : Completion) (r : Receiving Completion)
-    → r ≡ record old.completions { taken = old.completions.taken ++ parcel s (Some c) ∷ [] } → Drains (record old { completions = r }) c new → GoesOn old new
-goes_drained old new s c r e (first out none is) = subst (GoesOn old) (sym is) (goes_taken old (old.drained ++ c ∷ []) (parcel s (Some c)) r e (c ∷ [], refl))
-goes_drained old new s c r e (other never is) = subst (GoesOn old) (sym is) (goes_taken old old.drained (parcel s (Some c)) r e (same_begins old.drained))
-
-goes_drawn : (old new : DeskView) (a : Taken Completion) → Draws old a new → GoesOn old new
-goes_drawn old new (Item s c) d = goes_drained old new s c new.completions d.0.1 d.1
-goes_drawn old new (EndOf s) d = subst (GoesOn old) (sym d.1) (goes_taken old old.drained (parcel s None) new.completions d.0.1 (same_begins old.drained))
-goes_drawn old new Empty d = subst (GoesOn old) (sym d.1) (subst (λ r. GoesOn old (moved old old.drained (length old.drained) r)) (sym d.0)
-    (goes_moved old old.drained (length old.drained) (record old.completions { quiet = counted old.completions.quiet; taken_then = at_most_counted (length old.completions.taken) }) refl refl (same_begins old.completions.taken) (same_begins old.drained) (one_more old.completions.quiet)))
-
-goes_popped : (old new : DeskView) → Pops old new → GoesOn old new
-goes_popped old new (start _ e) = goes_nowhere old new e
-goes_popped old new (drawn now _ before a d) = goes_further old now new (goes_popped old now before) (goes_drawn now new a d)
-
 pub goes_looking : (old new : DeskView) → Looks old new → GoesOn old new
-goes_looking old new l = goes_popped old new l.pops
+goes_looking old new l = let m = looks_move old new l in record {
+  seat = ap seat_of_desk l.rest;
+  handles = ap (λ (d : DeskView). d.handles) l.rest;
+  plan = ap (λ (d : DeskView). plans d.ledgers) l.rest;
+  lists = same_lists old.ledgers new.ledgers (ap (λ (d : DeskView). d.ledgers) l.rest);
+  taken = m.taken;
+  drained = m.drained;
+  quiet = m.quiet;
+}
 
 pub goes_quiet : (old new : DeskView) → EndsQuiet old new → GoesOn old new
 goes_quiet old new q = goes_looking old new (quiet_looks old new q)
@@ -146,7 +107,7 @@ completed_stays : (d new : DeskView) (o : Operation) (code : Code) (kept : finma
     → IsOut d.ledgers o → drained_code o d.drained ≡ Some code → new ≡ record (completed d o code) { kept = kept }
     → outstanding new.ledgers ≤ outstanding d.ledgers
     → ((t : TicketView) → Owns d t → left t → (t.operation ≢ o) × ((k : ℕ) → finmap.get kept k ≢ Some t.operation)) → Stays d new left
-completed_stays d new o code kept left out drained is fewer each = subst (λ (x : DeskView). Stays d x left) (sym is) (record {
+completed_stays d new o code kept left out drained is fewer each = rw is (record {
   goes_on = goes_with d d.requests (completed d o code).ledgers (completed d o code).events kept refl
       (put_plans d.ledgers o.manager (with_collected (ledger d.ledgers o.manager) o.number code) refl) (collecting_grows d.ledgers o code);
   fewer = rw is at fewer;
@@ -161,16 +122,13 @@ completed_stays d new o code kept left out drained is fewer each = subst (λ (x 
 
 pub collects_stays : (old new : DeskView) (o : Operation) (code : Code) → Collects old new o code → Stays old new (not_of o)
 collects_stays old new o code x =
-    let same = looks_outstanding old x.before x.looks in
-    let fewer = x.fewer in
     stays_chain old x.before new (not_of o) (looks_stays old x.before any_one x.looks)
-    (completed_stays x.before new o code x.before.kept (not_of o) x.out x.drained x.collected (omega arith) (λ t owned differs. (differs, owned.loose)))
+    (completed_stays x.before new o code x.before.kept (not_of o) x.out x.drained x.collected (omega (arith, looks_outstanding old x.before x.looks, x.fewer)) (λ t owned differs. (differs, owned.loose)))
 
 -- an operation that was kept has no ticket
 takes_stays : (old new : DeskView) (number : ℕ) (code : Code) → TakesKept old new number code → Stays old new any_one
 takes_stays old new number code x =
-    let fewer = x.fewer in
-    completed_stays old new x.operation code (finmap.remove old.kept number) any_one x.out x.drained x.taken (omega arith)
+    completed_stays old new x.operation code (finmap.remove old.kept number) any_one x.out x.drained x.taken (omega (arith, x.fewer))
     (λ t owned _. (λ same. owned.loose number (x.kept ∙ ap Some (sym same)), freed_loose old number t.operation owned.loose))
 
 pub kept_stays : (old new : DeskView) (number : ℕ) (code : Code) → CollectsKept old new number code → Stays old new any_one
@@ -235,10 +193,10 @@ pub called_leaves : (n : ℕ) (old sent new : DeskView) (m : ℕ) (op : Op) (o :
 called_leaves n old sent new m op o code known e named x t owned =
     let full : DeskView = after_fulls n old m in
     let same : full.ledgers ≡ old.ledgers = (fulls_alike n old full m refl).ledgers in
-    let known_still : IsKnown full.ledgers m = subst (λ at. IsKnown at m) (sym same) known in
+    let known_still : IsKnown full.ledgers m = rw same known in
     let still : Owns full t = fulls_leave n old m t owned in
     let fresh : t.operation ≢ next_operation old.ledgers m = sent_fresh old m op known t owned in
-    let here : Owns sent t = subst (λ (d : DeskView). Owns d t) (sym e) (sent_leaves full m op known_still t still) in
+    let here : Owns sent t = rw e (sent_leaves full m op known_still t still) in
     (collects_stays sent new o code x).tickets t here (λ same. fresh (same ∙ named))
   where
     fulls_leave : (n : ℕ) (old : DeskView) (m : ℕ) → LeavesTickets old (after_fulls n old m)
@@ -246,19 +204,19 @@ called_leaves n old sent new m op o code known e named x t owned =
     fulls_leave (suc n) old m t owned = full_leaves (after_fulls n old m) m t (fulls_leave n old m t owned)
 
 pub kept_leaves_by : (old new : DeskView) (o : Operation) (number : ℕ) → new ≡ record old { kept = finmap.insert old.kept number o } → LeavesOthers old new o
-kept_leaves_by old new o number e t owned differs = subst (λ (d : DeskView). Owns d t) (sym e) (kept_leaves old o number t owned differs)
+kept_leaves_by old new o number e t owned differs = rw e (kept_leaves old o number t owned differs)
 
 pub released_leaves : (old new : DeskView) (number : ℕ) (r : Option Operation) (o : Operation) → r ≡ Some o
     → IfSome r (λ _. new ≡ record old { kept = finmap.remove old.kept number }) → LeavesTickets old new
 released_leaves old new number None o is e t owned = absurd (let no : None ≡ Some o = is in cc)
-released_leaves old new number (Some p) o is e t owned = subst (λ (d : DeskView). Owns d t) (sym e) (freed_leaves old number t owned)
+released_leaves old new number (Some p) o is e t owned = rw e (freed_leaves old number t owned)
 
 -- the same of a desk and an operation that are named otherwise
 pub leaves_seen : (a b new : DeskView) → a ≡ b → LeavesTickets a new → LeavesTickets b new
-leaves_seen a b new e h = subst (λ (d : DeskView). LeavesTickets d new) e h
+leaves_seen a b new e h = rw e at h
 
 pub others_seen : (a b new : DeskView) (p o : Operation) → a ≡ b → p ≡ o → LeavesOthers a new p → LeavesOthers b new o
-others_seen a b new p o e named h t owned differs = h t (subst (λ (d : DeskView). Owns d t) (sym e) owned) (λ same. differs (same ∙ named))
+others_seen a b new p o e named h t owned differs = h t (rw e owned) (λ same. differs (same ∙ named))
 
 -- what a sending leaves, and calls that may find nothing
 pub ruleset sent_rules = (sent_leaves, sent_fresh, full_leaves)

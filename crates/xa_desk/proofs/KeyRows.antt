@@ -33,9 +33,6 @@ module _ (rows : List KeysView) (m key : ℕ) where
   abbrev next : Operation
   next = record { manager = m; number = length (row_of rows m).keys }
 
-  told_same : m - 1 < length rows → key_at entered next ≡ Some key
-  told_same known = grind (arith, slice_get, get_or-set_same, slice_get-push_last)
-
   told_other : (o : Operation) → 1 ≤ m → m - 1 < length rows → 1 ≤ o.manager → o ≢ next → key_at entered o ≡ key_at rows o
   told_other o positive known is_positive differs = grind (arith, cases_eq, slice_get, get_or-set_same, slice_get-push_other, same_operation, get_or-set_other)
 
@@ -57,29 +54,11 @@ module _ (at : List LedgerView) (m : ℕ) (op : Op) (known : IsKnown at m) (rows
       → Updates s t key (Some slot) → AreKeys (after_sent at m op) (entered rows m key) t
   keys_sent r named out u = record {
     number = length-set rows (m - 1) with_next ∙ r.number ∙ sym (length-put_ledger at m (with_sent (ledger at m) op));
-    sent = λ q is. let was = known_before at m q (with_sent (ledger at m) op) is in elim (cases_eq q m) [
-      | inl same ↦
-          let more : length ((row_of rows m).keys ++ key ∷ []) ≡ length ((ledger at m).sent ++ op ∷ []) =
-          (let e = r.sent m known in omega (arith, length-append (row_of rows m).keys (key ∷ []), length-append (ledger at m).sent (op ∷ []))) in
-          ap (λ (x : KeysView). length x.keys) (row_same q same) ∙ more
-          ∙ sym (ap (λ (a : LedgerView). length a.sent) (ledger-sent_same at m op known q same) ∙ ap (λ k. length ((ledger at k).sent ++ op ∷ [])) same)
-      | inr differs ↦
-          ap (λ (x : KeysView). length x.keys) (row_other q was differs)
-          ∙ r.sent q was
-          ∙ sym (ap (λ (a : LedgerView). length a.sent) (ledger-sent_other at m op known q was.positive differs))
-    ];
+    sent = λ q is. each_sent q (known_before at m q (with_sent (ledger at m) op) is) (r.sent q (known_before at m q (with_sent (ledger at m) op) is)) (r.sent m known);
     planned =
         λ q is. rw (set_each (λ x y. y.capacity ≡ x.capacity) (λ _. refl) rows (m - 1) with_next (no_keys 0) refl (q - 1), put_same (λ a. a.plan) at m (with_sent (ledger at m) op) refl q)
         (r.planned q (known_before at m q (with_sent (ledger at m) op) is));
-    told = λ k y found. elim (found_cases s t key slot u k y found) [
-      | inl new ↦
-          let is : y.operation ≡ next rows m key = sym (ap (λ (z : Slot). z.operation) new.1) ∙ named ∙ sym is_next in
-          ap (key_at (entered rows m key)) is ∙ told_same rows m key within ∙ ap (λ j. Some j) (sym new.0)
-      | inr old ↦
-          let o = out k y old.1 in
-          told_other rows m key y.operation known.positive within o.known.positive (λ e. unsent at m op known y.operation (record { known = o.known; sent = o.sent }) (e ∙ is_next))
-          ∙ r.told k y old.1
-    ];
+    told = each_told;
   }
     where
       within : m - 1 < length rows
@@ -88,11 +67,19 @@ module _ (at : List LedgerView) (m : ℕ) (op : Op) (known : IsKnown at m) (rows
       is_next : next rows m key ≡ record { manager = m; number = n }
       is_next = same_operation (next rows m key) (record { manager = m; number = n }) refl (r.sent m known)
 
-      row_same : (q : ℕ) → q ≡ m → row_of (entered rows m key) q ≡ with_next
-      row_same q same = ap (row_of (entered rows m key)) same ∙ get_or-set_same rows (m - 1) with_next (no_keys 0) within
-
       row_other : (q : ℕ) → IsKnown at q → q ≢ m → row_of (entered rows m key) q ≡ row_of rows q
       row_other q was differs = grind (arith, get_or-set_other)
+
+      later : (k : ℕ) (y : Slot) → get s k ≡ Some y → (1 ≤ y.operation.manager) × (y.operation ≢ record { manager = m; number = n })
+      later k y found = let o = out k y found in (o.known.positive, unsent at m op known y.operation (record { known = o.known; sent = o.sent }))
+
+      each_told : (k : ℕ) (y : Slot) → get t k ≡ Some y → key_at (entered rows m key) y.operation ≡ Some k
+      each_told k y found = search (arith, found_cases, told_other, later, is_next, y.operation, slice_get, get_or-set_same, slice_get-push_last)
+
+      each_sent : (q : ℕ) → IsKnown at q → length (row_of rows q).keys ≡ length (ledger at q).sent → length (row_of rows m).keys ≡ length (ledger at m).sent
+          → length (row_of (entered rows m key) q).keys ≡ length (ledger (after_sent at m op) q).sent
+      each_sent q was before own =
+          grind (arith, cases_eq, (ledger-sent_same at m op known q), (ledger-sent_other at m op known q was.positive), (row_other q was), length-append, get_or-set_same)
 
 pub keys_kept : (at : List LedgerView) (rows : List KeysView) (s t : Slab Slot) (key : ℕ) (slot x : Slot) → AreKeys at rows s → get s key ≡ Some slot
     → slot.operation ≡ x.operation → Updates s t key (Some x) → AreKeys at rows t
@@ -125,10 +112,7 @@ keys_new plan use_async s empty = record {
 }
   where
     within : (m : ℕ) → IsKnown (new_ledgers plan use_async) m → m - 1 < length use_async
-    within m known =
-        let few = rw (length-map use_async (λ carries. new_ledger carries plan)) at known.within in
-        let positive = known.positive in
-        omega arith
+    within m known = omega (arith, known.positive, known.within, length-map use_async (λ carries. new_ledger carries plan))
 
     row_new : (m : ℕ) → IsKnown (new_ledgers plan use_async) m → row_of (replicate (length use_async) (no_keys plan)) m ≡ no_keys plan
     row_new m known = get_or-replicate (length use_async) (m - 1) (no_keys plan) (no_keys 0) (within m known)
@@ -182,10 +166,7 @@ marks_set f m n table j x within old here others k = grind (arith, cases_eq, get
 pub number_within : (at : List LedgerView) (s : Slab Slot) (table : List (Option Operation)) (drained : List Completion) (o : Operation) (number : ℕ)
     → IsBooks at s table drained → HasKept s o number → number ≤ length table
 number_within at s table drained o zero b h = omega arith
-number_within at s table drained o (suc n) b h = elim (cases_lt n (length table)) [
-  | inl below ↦ omega arith
-  | inr past ↦ let no : None ≡ Some h.slot.operation = sym (get_or_past table n None past) ∙ b.handled h.key h.slot n h.found h.handle in absurd cc
-]
+number_within at s table drained o (suc n) b h = grind (arith, (get_or_past table n None), (b.handled h.key h.slot n h.found h.handle))
 
 -- at a place that isn't the operation's, a drained completion changes nothing
 as_ready : (at : List LedgerView) (s : Slab Slot) (table : List (Option Operation)) (drained : List Completion) (c : Completion) (number : ℕ)
@@ -194,11 +175,7 @@ as_ready : (at : List LedgerView) (s : Slab Slot) (table : List (Option Operatio
 as_ready at s table drained c number b h k apart None e = refl
 as_ready at s table drained c number b h k apart (Some o) e =
     let p = b.tabled k o e in
-    let differs : o ≢ operation_of c = λ same.
-    let key : p.key ≡ h.key = b.one_slot p.key h.key p.slot h.slot p.found h.found (p.names ∙ same ∙ sym h.names) in
-    let slot : p.slot ≡ h.slot = same_slot s h.key p.key h.slot p.slot h.found p.found key in
-    apart (sym h.handle ∙ sym (ap (λ (z : Slot). z.handle) slot) ∙ p.handle) in
-    ap is_some (drained_code-push_other o drained c differs)
+    grind (arith, (b.one_slot p.key h.key p.slot h.slot p.found h.found), (same_slot s h.key p.key h.slot p.slot h.found p.found), (drained_code-push_other o drained c), p.names, h.names, p.handle, h.handle)
 
 -- the completion of an operation that had none is drained: its place is marked, where it has one
 pub ready_drained : (at : List LedgerView) (s : Slab Slot) (table : List (Option Operation)) (drained : List Completion) (c : Completion) (number : ℕ) (m n : Marks)

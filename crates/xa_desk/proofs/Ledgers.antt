@@ -2,11 +2,10 @@
 use Rattle.xa_base.proofs.{◌≡◌, ◌≢◌, ℕ, zero, suc, ◌+◌, ◌-◌, ◌<◌, ◌≤◌, ◌⊎◌, false, ◌||◌, nat_eq, List, [], ◌∷◌, ◌++◌, length, Option, Some, None, get_or, sym}
 use Rattle.xa_base.proofs.{refl, ap, ◌∙◌, inl, inr, arith, length-append, true, ◌&&◌, nat_le, map-append, length-set, get_or-set_same, set, get_or-set_other}
 use Rattle.xa_base.proofs.{length-map, list_any-append, cases_eq, false_from_ne_true, eqb-true, or_parts, or_from, ne_eqb, eqb-false, and_parts, le-leb}
-use Rattle.xa_base.proofs.{cases_lt, subst, same_begins, begins_on, cond, is_some, eq-eqb, is_there, cases_Bool, sum_by, eqb, IsSome, get_or_read, get_or_past}
-use Rattle.xa_base.proofs.{sum_by-set, sum_by-cons, IsDistinct-push, length-le_from_distinct_below, or_cases, leb-true, cases_order, lt-leb}
-use Rattle.std.proofs.Common.{leb}
+use Rattle.xa_base.proofs.{cases_lt, same_begins, begins_on, cond, is_some, is_there, cases_Bool, sum_by, IsSome, get_or_read, get_or_past, sum_by-set}
+use Rattle.xa_base.proofs.{sum_by-cons, IsDistinct-push, length-le_from_distinct_below, or_cases, leb-true}
 use Rattle.std.proofs.lemmas.List.{set_past}
-use Rattle.std.proofs.lemmas.List.Sums.{sum_by-le-sum_by, get_or-le-sum_by}
+use Rattle.std.proofs.lemmas.List.Sums.{sum_by-le-sum_by}
 use Rattle.xa_words.specs.{Op, Code, Completion}
 use Rattle.xa_desk.specs.{Operation, numbers, is_collected, with_sent, with_collected, IsKnown, IsSent, IsOut, ledger, put_ledger, no_ledger, after_sent}
 use Rattle.xa_desk.specs.{after_collected, is_known, sent_to, IsOrderly, planned_total, LedgerView, HasGrown, HaveGrown, Slot, IsBalanced, outstanding, IsBooks}
@@ -19,6 +18,12 @@ use Rattle.slab.proofs.SlabLemmas.{ContainsKey-within}
 -- an operation is its manager and its number
 pub same_operation : (a b : Operation) → a.manager ≡ b.manager → a.number ≡ b.number → a ≡ b
 same_operation a b e f = λ i. record { manager = e i; number = f i }
+
+pub cases_operation : (a b : Operation) → (a ≡ b) ⊎ (a ≢ b)
+cases_operation a b = elim (cases_eq a.manager b.manager) [
+  | inl e ↦ elim (cases_eq a.number b.number) [ inl f ↦ inl (same_operation a b e f) | inr differs ↦ inr (λ same. differs (ap (λ (o : Operation). o.number) same)) ]
+  | inr differs ↦ inr (λ same. differs (ap (λ (o : Operation). o.manager) same))
+]
 
 pub none_from : {A : Type 0} (x : Option A) → ((a : A) → x ≡ Some a → ⊥) → x ≡ None
 none_from x never = grind arith
@@ -41,11 +46,8 @@ module _ {A : Type 0} (f : Option A → ℕ) (zeros : f None ≡ 0) where
         | inr past ↦ rw (set_past zs key None past, get_or_past zs key None past) (omega arith)
       ]
 
-      emptied : (zs : List (Option A)) → get_or (set zs key None) key None ≡ None
-      emptied zs = grind (arith, cases_lt, get_or-set_same, set_past, get_or_past)
-
       alike : (k : ℕ) → get_or (set ys key None) k None ≡ get_or (set xs key None) k None
-      alike k = grind (arith, cases_eq, emptied, get_or-set_other)
+      alike k = grind (arith, cases_eq, get_or-set_other, cases_lt, get_or-set_same, set_past, get_or_past)
 
 -- ---- managers that are known
 
@@ -137,8 +139,7 @@ module _ (at : List LedgerView) (m : ℕ) (op : Op) (known : IsKnown at m) where
   sent_keeps_sent o was =
       let more : length (ledger at o.manager).sent ≤ length (ledger (after_sent at m op) o.manager).sent =
       put_each (λ a b. length a.sent ≤ length b.sent) (λ _. omega arith) at m (with_sent (ledger at m) op) (omega (arith, length-append (ledger at m).sent (op ∷ []))) o.manager in
-      let before = was.sent in
-      record { known = known_after at m o.manager (with_sent (ledger at m) op) was.known; sent = omega arith }
+      record { known = known_after at m o.manager (with_sent (ledger at m) op) was.known; sent = omega (arith, was.sent) }
 
   pub sent_keeps_out : (o : Operation) → IsOut at o → IsOut (after_sent at m op) o
   sent_keeps_out o was =
@@ -225,7 +226,7 @@ pub grown_on : (a b c : LedgerView) → HasGrown a b → HasGrown b c → HasGro
 grown_on a b c p q = search (arith, begins_on, p.sent, p.collected)
 
 pub same_lists : (at at' : List LedgerView) → at' ≡ at → HaveGrown at at'
-same_lists at at' e = subst (HaveGrown at) (sym e) (record { each = λ m p. as_it_was (ledger at m) })
+same_lists at at' e = rw e (record { each = λ m p. as_it_was (ledger at m) })
 
 pub growing_on : (a b c : List LedgerView) → HaveGrown a b → HaveGrown b c → HaveGrown a c
 growing_on a b c p q = record { each = λ m h. grown_on (ledger a m) (ledger b m) (ledger c m) (p.each m h) (q.each m h) }
@@ -246,85 +247,48 @@ sum_by-within : {A : Type 0} (f g h : A → ℕ) (d : A) (xs : List A) → ((i :
     → sum_by f xs + sum_by g xs ≤ sum_by h xs
 sum_by-within f g h d [] each = omega arith
 sum_by-within f g h d (x ∷ xs) each =
-    let first : f x + g x ≤ h x = each 0 (omega arith) in
-    let rest : sum_by f xs + sum_by g xs ≤ sum_by h xs = sum_by-within f g h d xs (λ i below. each (suc i) (omega arith)) in
-    omega (arith, sum_by-cons f x xs, sum_by-cons g x xs, sum_by-cons h x xs)
-
-abbrev code_weight : Option Code → ℕ
-code_weight x = cond (is_some x) 1 0
+    omega (arith, each 0 (omega arith), sum_by-within f g h d xs (λ i below. each (suc i) (omega arith)), sum_by-cons f x xs, sum_by-cons g x xs, sum_by-cons h x xs)
 
 abbrev there_weight : Option Slot → ℕ
 there_weight x = cond (is_some x) 1 0
 
-ready-le-there : (x : Option Slot) → ready_weight x ≤ there_weight x
-ready-le-there x = grind (arith, is_some)
+-- the slab once the slot at a key is gone
+abbrev without : Slab Slot → ℕ → Slab Slot
+without s key = record s { slots = set s.slots key None }
+
+fewer : (s : Slab Slot) (key : ℕ) (slot : Slot) → get s key ≡ Some slot → slab_len (without s key) + 1 ≡ slab_len s
+fewer s key slot there =
+    let sums : slab_len (without s key) + there_weight (get s key) ≡ slab_len s + 0 =
+    sum_by-set there_weight s.slots key None None (ContainsKey-within s key (rw there)) in
+    omega (arith, sums, ap there_weight there)
 
 -- a slot that waits leaves room in the list of drained completions
-pub drained-lt-planned : (at : List LedgerView) (s : Slab Slot) (table : List (Option Operation)) (drained : List Completion) (key : ℕ) (slot : Slot)
+pub drained-lt-planned : {at : List LedgerView} {s : Slab Slot} {table : List (Option Operation)} {drained : List Completion} (key : ℕ) (slot : Slot)
     → IsBooks at s table drained → get s key ≡ Some slot → slot.code ≡ None → length drained < planned_total at
-drained-lt-planned at s table drained key slot b there waiting =
-    let within : key < length s.slots = ContainsKey-within s key (rw there refl) in
-    let fewer_ready : ready_count (record s { slots = set s.slots key None }) + ready_weight (get s key) ≡ ready_count s + 0 =
-    sum_by-set ready_weight s.slots key None None within in
-    let not_ready : ready_weight (get s key) ≡ 0 = ap ready_weight there ∙ ap (λ (o : Option Code). code_weight o) waiting in
-    let fewer : slab_len (record s { slots = set s.slots key None }) + there_weight (get s key) ≡ slab_len s + 0 =
-    sum_by-set there_weight s.slots key None None within in
-    let one : there_weight (get s key) ≡ 1 = ap there_weight there in
-    let below : ready_count (record s { slots = set s.slots key None }) ≤ slab_len (record s { slots = set s.slots key None }) =
-    sum_by-le-sum_by ready_weight there_weight (set s.slots key None) ready-le-there in
+drained-lt-planned {at = at} {s = s} key slot b there waiting =
+    let not_ready : ready_weight (get s key) ≡ 0 = ap ready_weight there ∙ ap (λ (o : Option Code). cond (is_some o) 1 0) waiting in
+    let ready : ready_count (without s key) + ready_weight (get s key) ≡ ready_count s + 0 =
+    sum_by-set ready_weight s.slots key None None (ContainsKey-within s key (rw there)) in
+    let below : ready_count (without s key) ≤ slab_len (without s key) = search (arith, sum_by-le-sum_by, is_some) in
     let sums : collected_total at + outstanding at ≤ planned_total at = sum_by-within (λ (a : LedgerView). length a.collected) (λ (a : LedgerView). length a.sent - length a.collected) (λ (a : LedgerView). a.plan) no_ledger at (λ i below.
-    let known : IsKnown at (i + 1) = record { positive = omega arith; within = omega arith } in
     let back : i + 1 - 1 ≡ i = omega arith in
-    let o : IsOrderly (get_or at i no_ledger) = rw back at (b.orderly (i + 1) known) in
-    let le = collected-le-sent (get_or at i no_ledger) o in
-    let p = o.planned in
-    omega arith) in
-    let c = b.count in
-    let n = b.drained_count in
-    omega arith
+    let o : IsOrderly (get_or at i no_ledger) = rw back at (b.orderly (i + 1) (record { positive = omega arith; within = omega arith })) in
+    omega (arith, collected-le-sent (get_or at i no_ledger) o, o.planned)) in
+    omega (arith, fewer s key slot there, b.count, b.drained_count)
 
 -- slots kept under each number up to n, and one that isn't kept, are more than n
-module _ where
-  up_to : ℕ → Option Slot → ℕ
-  up_to n None = 0
-  up_to n (Some slot) = cond (leb slot.handle n) 1 0
-
-  just : ℕ → Option Slot → ℕ
-  just n None = 0
-  just n (Some slot) = cond (eqb slot.handle n) 1 0
-
-  one_more : (n : ℕ) (x : Option Slot) → up_to n x + just (suc n) x ≤ up_to (suc n) x
-  unfolding up_to just
-  one_more n x = grind (arith, cases_order, lt-leb, eq-eqb, le-leb, ne_eqb)
-
-  all_there : (n : ℕ) (x : Option Slot) → up_to n x ≤ cond (is_some x) 1 0
-  unfolding up_to
-  all_there n x = grind arith
-
-  found_one : (f : Option Slot → ℕ) (s : Slab Slot) (key : ℕ) (slot : Slot) → get s key ≡ Some slot → f (Some slot) ≡ 1 → 1 ≤ sum_by f s.slots
-  found_one f s key slot there one =
-      let le : f (get s key) ≤ sum_by f s.slots = get_or-le-sum_by f s.slots key None (ContainsKey-within s key (rw there refl)) in
-      let is : f (get s key) ≡ 1 = ap f there ∙ one in
-      omega arith
-
-  more_than : (s : Slab Slot) (key : ℕ) (slot : Slot) → get s key ≡ Some slot → slot.handle ≡ 0 → (n : ℕ)
-      → ((k : ℕ) → k < n → (o : Operation) × HasKept s o (suc k)) → suc n ≤ sum_by (up_to n) s.slots
-  unfolding up_to just
-  more_than s key slot there loose zero each = found_one (up_to 0) s key slot there (ap (λ b. cond b 1 0) (le-leb slot.handle 0 (omega arith)))
-  more_than s key slot there loose (suc n) each =
-      let before : suc n ≤ sum_by (up_to n) s.slots = more_than s key slot there loose n (λ k below. each k (omega arith)) in
-      let h = (each n (omega arith)).1 in
-      let one : 1 ≤ sum_by (just (suc n)) s.slots = search (arith, found_one, just, eq-eqb, h.key, h.slot, h.found, h.slot.handle) in
-      let step : sum_by (up_to n) s.slots + sum_by (just (suc n)) s.slots ≤ sum_by (up_to (suc n)) s.slots =
-      sum_by-within (up_to n) (just (suc n)) (up_to (suc n)) None s.slots (λ i _. one_more n (get s i)) in
-      omega arith
-
-pub numbers-lt-slots : (s : Slab Slot) (key : ℕ) (slot : Slot) → get s key ≡ Some slot → slot.handle ≡ 0 → (n : ℕ)
+pub numbers-lt-slots : (n : ℕ) (s : Slab Slot) (key : ℕ) (slot : Slot) → get s key ≡ Some slot → slot.handle ≡ 0
     → ((k : ℕ) → k < n → (o : Operation) × HasKept s o (suc k)) → n < slab_len s
-numbers-lt-slots s key slot there loose n each =
-    let most : suc n ≤ sum_by (up_to n) s.slots = more_than s key slot there loose n each in
-    let le : sum_by (up_to n) s.slots ≤ slab_len s = sum_by-le-sum_by (up_to n) (λ (x : Option Slot). cond (is_some x) 1 0) s.slots (all_there n) in
-    omega arith
+numbers-lt-slots zero s key slot there loose each = omega (arith, fewer s key slot there)
+numbers-lt-slots (suc n) s key slot there loose each =
+    let last = (each n (omega arith)).1 in
+    let still : (k : ℕ) (y : Slot) → get s k ≡ Some y → y.handle ≢ suc n → get (without s last.key) k ≡ Some y = λ k y found apart.
+    get_or-set_other s.slots last.key k None None (λ same. let one : Some y ≡ Some last.slot = sym found ∙ ap (get s) same ∙ last.found in apart (let e : y ≡ last.slot = cc in ap (λ (z : Slot). z.handle) e ∙ last.handle))
+    ∙ found in
+    let less = numbers-lt-slots n (without s last.key) key slot (still key slot there (λ e. omega arith)) loose (λ k below.
+    let h = (each k (omega arith)).1 in
+    ((each k (omega arith)).0, record { key = h.key; slot = h.slot; found = still h.key h.slot h.found (λ e. omega (arith, h.handle)); names = h.names; handle = h.handle })) in
+    omega (arith, less, fewer s last.key last.slot last.found)
 
 -- among as many numbers as there may be slots one is free, where an operation isn't kept
 pub free_place : (at : List LedgerView) (s : Slab Slot) (table : List (Option Operation)) (drained : List Completion) (key : ℕ) (slot : Slot)
@@ -332,7 +296,7 @@ pub free_place : (at : List LedgerView) (s : Slab Slot) (table : List (Option Op
     → ((k : ℕ) → k < n → IsSome (get_or table k None)) → n < length table
 free_place at s table drained key slot b there loose fits n within taken =
     let below : n < slab_len s =
-    numbers-lt-slots s key slot there loose n (λ k under. let o = is_there (get_or table k None) (taken k under) in (o.0, b.tabled k o.0 o.1)) in
+    numbers-lt-slots n s key slot there loose (λ k under. let o = is_there (get_or table k None) (taken k under) in (o.0, b.tabled k o.0 o.1)) in
     omega arith
 
 -- where nothing is outstanding, every request was collected
@@ -347,7 +311,6 @@ nothing_open at s table drained b none m known =
         | inl done ↦ done
         | inr open_is ↦
             let h = b.out_slot (record { manager = m; number = n }) (record { known = known; sent = sent; open_ = open_is }) in
-            let one : 1 ≤ slab_len s = found_one there_weight s h.key h.slot h.found refl in
-            absurd (omega arith)
+            absurd (omega (arith, fewer s h.key h.slot h.found))
       ];
     }

@@ -1,10 +1,15 @@
 -- What takes of the lane of completions leave as it was, and how waiting calls idle.
-use Rattle.xa_base.proofs.{rules, ◌≡◌, ℕ, zero, suc, ◌+◌, List, [], ◌∷◌, ◌++◌, length, refl, arith, ◌≢◌, Option, Some, None, IfSome, is_some, true, false, sym}
-use Rattle.xa_base.proofs.{◌∙◌, ap, subst, cases_eq, removed_there, removed_other, OnSome, IsSome}
+use Rattle.xa_base.proofs.{◌≤◌, ◌-◌, ◌^◌, same_begins, begins_on, append-nil, map-append, rules, ◌≡◌, ℕ, zero, suc, ◌+◌, List, [], ◌∷◌, ◌++◌, length, refl}
+use Rattle.xa_base.proofs.{arith, ◌≢◌, Option, Some, None, IfSome, is_some, true, false, sym, ◌∙◌, ap, subst, cases_eq, removed_there, removed_other, OnSome}
+use Rattle.xa_base.proofs.{IsSome}
+use Rattle.std.proofs.Math.Nat.{min-le_left, min-le_right, le-min}
+use Rattle.xa_lane.specs.{Parcel, parcel, at_most_counted, Sending, but_full, Taken, Item, EndOf, Empty, Receiving, Took}
+use Rattle.xa_lane.proofs.Parcels.{somes-append}
+use Rattle.xa_base.specs.{Begins}
+use Rattle.xa_desk.specs.{arrived, IsPartOf, with_last, without_last, MarksEnd, MarkEnds, found_full, Its, Operation, IsOut, IsLoose, ready_at, ready_with}
+use Rattle.xa_desk.specs.{completed, outstanding, drained_code, operation_of, LeavesTickets, Drains, first, other, Draws, Pops, start, drawn, EndsQuiet}
+use Rattle.xa_desk.specs.{Collects, CollectsLeast, DrawsFor, DeskView}
 use Rattle.xa_words.specs.{Request, Code, Completion}
-use Rattle.xa_lane.specs.{Sending, but_full, Taken, Item, EndOf, Empty, Receiving, Took}
-use Rattle.xa_desk.specs.{MarksEnd, MarkEnds, found_full, Its, Operation, IsOut, IsLoose, ready_at, ready_with, completed, outstanding, drained_code}
-use Rattle.xa_desk.specs.{operation_of, LeavesTickets, Drains, first, other, Draws, Pops, start, drawn, EndsQuiet, Collects, CollectsLeast, DrawsFor, DeskView}
 use Rattle.xa_desk.specs.Looks.{Looks}
 use Rattle.xa_desk.proofs.Books.{drained_code-push_other}
 use Rattle.std.specs.FinMap as finmap
@@ -31,55 +36,98 @@ pub still_missing : (old new : DeskView) (c : Completion) (o : Operation) → Dr
     → drained_code o new.drained ≡ None
 still_missing old new c o h differs missing = grind (arith, drained_code-push_other)
 
--- only what was drained and taken, and the quiet moments, may differ
+-- the lane of completions has moved on, and what was drained; only what was drained and taken, and the quiet moments, differ
+abbrev moved : DeskView → List Completion → ℕ → Receiving Completion → DeskView
+moved d drained then r = record d { drained = drained; drained_then = then; completions = r }
+
 abbrev IsSameBut : DeskView → DeskView → Type 0
 IsSameBut old new =
-    new ≡ record old { drained = new.drained; drained_then = new.drained_then; completions = record old.completions { taken = new.completions.taken; quiet = new.completions.quiet; taken_then = new.completions.taken_then } }
+    new ≡ moved old new.drained new.drained_then (record old.completions { taken = new.completions.taken; quiet = new.completions.quiet; taken_then = new.completions.taken_then })
 
--- a step changes the receiver first, and then what was drained
-abbrev IsSameFrom : DeskView → DeskView → Type 0
-IsSameFrom old new = new ≡ record old { drained = new.drained; drained_then = new.drained_then; completions = new.completions }
+-- what takes do: what was taken and drained goes on, what was drained is part of what was taken, and no quiet moment is lost
+pub record MovesOn (old new : DeskView) : Type 0 where
+  pub taken : Begins old.completions.taken new.completions.taken
+  pub drained : Begins old.drained new.drained
+  pub quiet : at_most_counted old.completions.quiet ≤ new.completions.quiet
+  pub part : IsPartOf old.drained (arrived old.completions.taken) → IsPartOf new.drained (arrived new.completions.taken)
+  pub rest : IsSameBut old new
 
-abbrev pub SameEnd : Receiving Completion → Receiving Completion → Type 0
-SameEnd r r' = r' ≡ record r { taken = r'.taken; quiet = r'.quiet; taken_then = r'.taken_then }
+pub same_count : (n : ℕ) → at_most_counted n ≤ n
+same_count n = min-le_left n (2 ^ 64 - 1)
 
-same_start : (old new : DeskView) → new ≡ old → IsSameBut old new
-same_start old new e = subst (IsSameBut old) (sym e) refl
+pub counts_on : (a b c : ℕ) → at_most_counted a ≤ b → at_most_counted b ≤ c → at_most_counted a ≤ c
+counts_on a b c p q = let l : at_most_counted a ≤ at_most_counted b = le-min p (min-le_right a (2 ^ 64 - 1)) in omega (arith, l, q)
 
-same_from : (old new : DeskView) → SameEnd old.completions new.completions → IsSameFrom old new → IsSameBut old new
-same_from old new r e = e ∙ ap (λ (x : Receiving Completion). record old { drained = new.drained; drained_then = new.drained_then; completions = x }) r
+moves_none : (old new : DeskView) → new ≡ old → MovesOn old new
+moves_none old new e =
+    rw e (record { taken = same_begins old.completions.taken; drained = same_begins old.drained; quiet = same_count old.completions.quiet; part = λ p. p; rest = refl })
 
-pub same_took : (a : Taken Completion) (r r' : Receiving Completion) → Took r a r' → SameEnd r r'
-same_took (Item s c) r r' t = subst (SameEnd r) (sym t.1) refl
-same_took (EndOf s) r r' t = subst (SameEnd r) (sym t.1) refl
-same_took Empty r r' t = subst (SameEnd r) (sym t) refl
+same_chain : (a b c : DeskView) → IsSameBut a b → IsSameBut b c → IsSameBut a c
+same_chain a b c p q = search (arith, rules)
 
-same_drains : (old new : DeskView) (r : Receiving Completion) (c : Completion) → Drains (record old { completions = r }) c new → IsSameFrom old new
-same_drains old new r c (first out none e) = subst (IsSameFrom old) (sym e) refl
-same_drains old new r c (other never e) = subst (IsSameFrom old) (sym e) refl
+moves_chain : (a b c : DeskView) → MovesOn a b → MovesOn b c → MovesOn a c
+moves_chain a b c p q = record {
+  taken = begins_on a.completions.taken b.completions.taken c.completions.taken p.taken q.taken;
+  drained = begins_on a.drained b.drained c.drained p.drained q.drained;
+  quiet = counts_on a.completions.quiet b.completions.quiet c.completions.quiet p.quiet q.quiet;
+  part = λ x. q.part (p.part x);
+  rest = same_chain a b c p.rest q.rest;
+}
+
+arrived-more : (taken : List (Parcel Completion)) (s : ℕ) (x : Option Completion)
+    → arrived (taken ++ parcel s x ∷ []) ≡ arrived taken ++ arrived (parcel s x ∷ [])
+arrived-more taken s x = grind (arith, map-append, somes-append)
+
+-- a desk that a take of this receiver left
+module _ (old : DeskView) (r : Receiving Completion) where
+  moves_to : (drained : List Completion) (then : ℕ) (r' : Receiving Completion) → r ≡ r' → MovesOn old (moved old drained then r')
+      → MovesOn old (moved old drained then r)
+  moves_to drained then r' e = subst (λ (x : Receiving Completion). MovesOn old (moved old drained then x)) (sym e)
+
+  -- and where it took a parcel
+  took : (x : Parcel Completion) (drained : List Completion) → Begins old.drained drained
+      → (IsPartOf old.drained (arrived old.completions.taken) → IsPartOf drained (arrived (old.completions.taken ++ x ∷ [])))
+      → r ≡ record old.completions { taken = old.completions.taken ++ x ∷ [] } → MovesOn old (moved old drained old.drained_then r)
+  took x drained more part e =
+      moves_to drained old.drained_then _ e (record { taken = (x ∷ [], refl); drained = more; quiet = same_count old.completions.quiet; part = part; rest = refl })
+
+  drains_move : (new : DeskView) (s : ℕ) (c : Completion) → r ≡ record old.completions { taken = old.completions.taken ++ parcel s (Some c) ∷ [] }
+      → Drains (record old { completions = r }) c new → MovesOn old new
+  drains_move new s c e (first out none is) =
+      rw is (took (parcel s (Some c)) (old.drained ++ c ∷ []) (c ∷ [], refl) (λ p. with_last _ _ _ c p (arrived-more old.completions.taken s (Some c))) e)
+  drains_move new s c e (other never is) =
+      rw is (took (parcel s (Some c)) old.drained (same_begins old.drained) (λ p. without_last _ _ _ c p (arrived-more old.completions.taken s (Some c))) e)
+
+draws_move : (old new : DeskView) (a : Taken Completion) → Draws old a new → MovesOn old new
+draws_move old new (Item s c) d = drains_move old new.completions new s c d.0.1 d.1
+draws_move old new (EndOf s) d =
+    let end = arrived-more old.completions.taken s None ∙ append-nil (arrived old.completions.taken) in
+    rw d.1 (took old new.completions (parcel s None) old.drained (same_begins old.drained) (λ p. rw end p) d.0.1)
+draws_move old new Empty d = rw d.1 (moves_to old new.completions old.drained (length old.drained) _ d.0 (record {
+  taken = same_begins old.completions.taken;
+  drained = same_begins old.drained;
+  quiet = le-min (omega (arith, same_count old.completions.quiet)) (min-le_right old.completions.quiet (2 ^ 64 - 1));
+  part = λ p. p;
+  rest = refl;
+}))
+
+pops_move : (old new : DeskView) → Pops old new → MovesOn old new
+pops_move old new (start _ e) = moves_none old new e
+pops_move old new (drawn now _ before a d) = moves_chain old now new (pops_move old now before) (draws_move now new a d)
+
+pub looks_move : (old new : DeskView) → Looks old new → MovesOn old new
+looks_move old new l = pops_move old new l.pops
 
 -- the completion that a take found was drained
 pub item_drawn : (old new : DeskView) (r : Receiving Completion) (s : ℕ) (c : Completion) → Took old.completions (Item s c) r
     → Drains (record old { completions = r }) c new → Draws old (Item s c) new × (new.completions.quiet ≡ old.completions.quiet)
 item_drawn old new r s c took drains = grind arith
 
-same_then : (old new : DeskView) (drained : List Completion) (then : ℕ)
-    → new ≡ record old { drained = drained; drained_then = then; completions = new.completions } → IsSameFrom old new
-same_then old new drained then e = search (arith, rules)
-
-same_draws : (old new : DeskView) (a : Taken Completion) → Draws old a new → IsSameBut old new
-same_draws old new (Item s c) d = same_from old new (same_took (Item s c) old.completions new.completions d.0) (same_drains old new new.completions c d.1)
-same_draws old new (EndOf s) d = search (arith, same_from, same_took, same_then)
-same_draws old new Empty d = same_from old new (same_took Empty old.completions new.completions d.0) (same_then old new old.drained (length old.drained) d.1)
-
-same_chain : (a b c : DeskView) → IsSameBut a b → IsSameBut b c → IsSameBut a c
-same_chain a b c p q = search (arith, rules)
-
 pub looks_start : (old new : DeskView) → new ≡ old → Looks old new
-looks_start old new e = record { pops = start new e; rest = same_start old new e }
+looks_start old new e = record { pops = start new e; rest = (moves_none old new e).rest }
 
 pub looks_drawn : (old now new : DeskView) (a : Taken Completion) → Looks old now → Draws now a new → Looks old new
-looks_drawn old now new a l d = record { pops = drawn now new l.pops a d; rest = same_chain old now new l.rest (same_draws now new a d) }
+looks_drawn old now new a l d = record { pops = drawn now new l.pops a d; rest = same_chain old now new l.rest (draws_move now new a d).rest }
 
 -- it has changed by looks alone, and met no quiet moment
 pub record LooksOn (old new : DeskView) : Type 0 where
@@ -95,7 +143,7 @@ pub looks_further : (old now new : DeskView) (a : Taken Completion) → LooksOn 
 looks_further old now new a l d came = record { looks = looks_drawn old now new a l.looks d; quiet = came ∙ l.quiet }
 
 pops_chain : (a b c : DeskView) → Pops a b → Pops b c → Pops a c
-pops_chain a b c l (start _ e) = subst (λ (x : DeskView). Pops a x) (sym e) l
+pops_chain a b c l (start _ e) = rw e l
 pops_chain a b c l (drawn now _ before taken d) = drawn now c (pops_chain a b now l before) taken d
 
 pub looks_chain : (a b c : DeskView) → Looks a b → Looks b c → Looks a c
@@ -105,7 +153,7 @@ pub quiet_looks : (a b : DeskView) → EndsQuiet a b → Looks a b
 quiet_looks a b q = looks_drawn a q.before b Empty q.looks q.quiet
 
 pub looks_out : (a b : DeskView) (o : Operation) → Looks a b → IsOut a.ledgers o → IsOut b.ledgers o
-looks_out a b o l out = subst (λ at. IsOut at o) (sym (ap (λ (x : DeskView). x.ledgers) l.rest)) out
+looks_out a b o l out = rw (ap (λ (x : DeskView). x.ledgers) l.rest) out
 
 pub looks_loose : (a b : DeskView) (o : Operation) → Looks a b → IsLoose a o → IsLoose b o
 looks_loose a b o l loose k e = loose k (ap (λ m. finmap.get m k) (sym (ap (λ (x : DeskView). x.kept) l.rest)) ∙ e)

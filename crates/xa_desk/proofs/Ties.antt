@@ -1,61 +1,30 @@
 -- A desk's ledgers go on saying what its ends of lanes do, and which calls it doesn't refuse.
-use Rattle.xa_base.proofs.{◌≡◌, ◌≢◌, ℕ, zero, suc, ◌+◌, ◌-◌, ◌<◌, List, [], ◌∷◌, ◌++◌, length, map, Option, Some, None, sym, refl, ap, ◌∙◌, subst, inl, inr}
-use Rattle.xa_base.proofs.{arith, append-nil, All, slice_get, map-append, length-map, All-append, All-cons, All-nil, cases_eq, ◌≤◌, Bool, false, cond}
-use Rattle.xa_base.proofs.{option_or, not-false, and_parts, leb-true, leb-false}
+use Rattle.xa_desk.specs.{after_sent, Operation, new_ledger, with_sent, with_collected, IsKnown, ledger, after_collected, drained_code, next_request, submitted}
+use Rattle.xa_desk.specs.{after_full, after_fulls, numbered, arrived, nothing, IsEndTo, AreEnds, WasDrained, IsTied, IsDesk, PartsView, AreNew, new_desk}
+use Rattle.xa_desk.specs.{LedgerView, DeskView, outstanding, reach_refusal, spent_refusal, room_refusal, call_refusal}
+use Rattle.xa_desk.proofs.Looks.{looks_move}
+use Rattle.xa_desk.proofs.Books.{drained_on, fresh_sent, fresh_collected}
+use Rattle.xa_base.proofs.{◌≡◌, ◌≢◌, ℕ, zero, suc, ◌+◌, ◌-◌, ◌<◌, List, [], ◌∷◌, ◌++◌, length, map, Option, Some, None, sym, refl, ap, ◌∙◌, inl, inr, arith}
+use Rattle.xa_base.proofs.{All, slice_get, length-map, All-append, All-cons, All-nil, cases_eq, ◌≤◌, Bool, false, cond, option_or, not-false, and_parts}
+use Rattle.xa_base.proofs.{leb-true, leb-false}
 use Rattle.xa_words.specs.{Op, Request, Completion, Code}
-use Rattle.xa_lane.specs.{Parcel, Taken, Item, EndOf, Empty, Sending, Receiving, parcel, Took, at_place, with_item, with_full, but_full, sent_at}
-use Rattle.xa_desk.specs.{Operation, new_ledger, with_sent, with_collected, IsKnown, ledger, after_collected, drained_code, next_request, submitted, after_full}
-use Rattle.xa_desk.specs.{after_fulls, numbered, arrived, IsPartOf, nothing, with_last, without_last, IsEndTo, AreEnds, WasDrained, IsTied, IsDesk, PartsView}
-use Rattle.xa_desk.specs.{AreNew, new_desk, Drains, first, other, Draws, Pops, start, drawn, LedgerView, DeskView, outstanding, reach_refusal, spent_refusal}
-use Rattle.xa_desk.specs.{room_refusal, call_refusal}
+use Rattle.xa_lane.specs.{Sending, Receiving, at_place, with_item, with_full, but_full, sent_at}
 use Rattle.xa_desk.specs.Looks.{Looks}
 use Rattle.xa_desk.proofs.Ledgers.{same_operation, ledger-sent_same, ledger-sent_other, ledger-collected_same, ledger-collected_other, known_before}
 use Rattle.xa_desk.proofs.Ledgers.{collected_known, collected_sends, length-put_ledger, put_same}
-use Rattle.xa_desk.proofs.Looks.{SameEnd, same_took}
-use Rattle.xa_lane.proofs.Parcels.{length-at_place, at_place_cases, sent_at-full, sent_at-item, sent_at-other, sent_at-but_full, nothing_sent, somes-append}
-use Rattle.xa_desk.proofs.Books.{drained_code-push_again, fresh_sent, fresh_collected}
+use Rattle.xa_lane.proofs.Parcels.{length-at_place, at_place_cases, sent_at-full, sent_at-item, sent_at-other, sent_at-but_full, nothing_sent}
 
 -- ---- what was taken
 
-arrived-item : (taken : List (Parcel Completion)) (s : ℕ) (c : Completion) → arrived (taken ++ parcel s (Some c) ∷ []) ≡ arrived taken ++ c ∷ []
-arrived-item taken s c = grind (arith, map-append, somes-append)
-
--- a take changes what was taken, and perhaps what was drained
-tied_on : (d : DeskView) (drained : List Completion) (r : Receiving Completion) → IsDesk d → SameEnd d.completions r → IsPartOf drained (arrived r.taken)
-    → ((o : Operation) (code : Code) → drained_code o d.drained ≡ Some code → drained_code o drained ≡ Some code)
-    → IsTied d.thread d.ledgers drained d.requests r
-tied_on d drained r b same part still = record {
-  ends = search (arith, d.thread);
-  sent = b.sent;
-  drained_ = part;
-  collected = λ m known k p below. still _ _ (b.collected m known k p below);
-}
-
-tied_drains : (old new : DeskView) (s : ℕ) (c : Completion) (r : Receiving Completion) → IsDesk old → Took old.completions (Item s c) r
-    → Drains (record old { completions = r }) c new → IsDesk new
-tied_drains old new s c r b took drains =
-    let same = same_took (Item s c) old.completions r took in
-    let more = ap (λ (x : Receiving Completion). arrived x.taken) took.1 ∙ arrived-item old.completions.taken s c in
-    by drains same more
-  where
-    by : Drains (record old { completions = r }) c new → SameEnd old.completions r → arrived r.taken ≡ arrived old.completions.taken ++ c ∷ [] → IsDesk new
-    by (first out none is) same more =
-        subst IsDesk (sym is) (tied_on old (old.drained ++ c ∷ []) r b same (with_last old.drained (arrived old.completions.taken) (arrived r.taken) c b.drained_ more) (λ o code. drained_code-push_again o old.drained c code))
-    by (other never is) same more =
-        subst IsDesk (sym is) (tied_on old old.drained r b same (without_last old.drained (arrived old.completions.taken) (arrived r.taken) c b.drained_ more) (λ o code some. some))
-
-pub tied_draws : (old new : DeskView) (a : Taken Completion) → Draws old a new → IsDesk old → IsDesk new
-tied_draws old new (Item s c) d b = tied_drains old new s c new.completions b d.0 d.1
-tied_draws old new (EndOf s) d b =
-    search (arith, tied_on, same_took, map-append, somes-append, append-nil, old.drained, new.completions, old.completions, old.completions.taken)
-tied_draws old new Empty d b = search (arith, tied_on, same_took, old.drained, new.completions, old.completions)
-
-tied_pops : (old new : DeskView) → Pops old new → IsDesk old → IsDesk new
-tied_pops old new (start _ e) b = subst IsDesk (sym e) b
-tied_pops old new (drawn now _ before a d) b = tied_draws now new a d (tied_pops old now before b)
-
 pub tied_looks : (old new : DeskView) → Looks old new → IsDesk old → IsDesk new
-tied_looks old new l b = tied_pops old new l.pops b
+tied_looks old new l b =
+    let m = looks_move old new l in
+    rw l.rest (record {
+      ends = record { number = b.ends.number; to = b.ends.to; lane = b.ends.lane; senders = b.ends.senders };
+      sent = b.sent;
+      drained_ = m.part b.drained_;
+      collected = λ k known p d below. drained_on old.drained new.drained m.drained _ _ (b.collected k known p d below);
+    })
 
 -- ---- what was collected
 
@@ -70,8 +39,8 @@ tied_collected d o code known was b = let at = d.ledgers in record {
         let more : All (WasDrained d.drained m) ((ledger at m).collected ++ (o.number, code) ∷ []) =
         All-append (WasDrained d.drained m) (ledger at m).collected ((o.number, code) ∷ []) (b.collected m before)
         (All-cons (WasDrained d.drained m) (o.number, code) [] (ap (λ p. drained_code p d.drained) (same_operation (record { manager = m; number = o.number }) o here refl) ∙ was) (All-nil (WasDrained d.drained m))) in
-        subst (λ (a : LedgerView). All (WasDrained d.drained m) a.collected) (sym (ledger-collected_same at o code known m here)) more
-    | inr apart ↦ subst (λ (a : LedgerView). All (WasDrained d.drained m) a.collected) (sym (ledger-collected_other at o code known m before.positive apart)) (b.collected m before)
+        rw (ledger-collected_same at o code known m here) more
+    | inr apart ↦ rw (ledger-collected_other at o code known m before.positive apart) (b.collected m before)
   ];
 }
   where
@@ -88,6 +57,10 @@ numbered-append t n [] op = ap (λ k. request_at t k op ∷ []) (let from : n �
 numbered-append t n (o ∷ ops) op =
     ap (λ l. request_at t n o ∷ l) (numbered-append t (suc n) ops op ∙ ap (λ k. numbered t (suc n) ops ++ request_at t k op ∷ []) (let from : suc n + length ops ≡ n + suc (length ops) = omega arith in from))
 
+-- the end of the lane to a manager is one of the ends
+pub lane_within : {at : List LedgerView} {m n : ℕ} → IsKnown at m → n ≡ length at → m - 1 < n
+lane_within known e = omega (arith, known.positive, known.within)
+
 pub ends_changed : (t n k : ℕ) (f : Sending Request → Sending Request) (requests : List (Sending Request)) (r : Receiving Completion)
     → ((opening m : ℕ) (s : Sending Request) → IsEndTo t opening m s → IsEndTo t opening m (f s)) → AreEnds t n requests r
     → AreEnds t n (at_place k f requests) r
@@ -101,31 +74,19 @@ full_keeps t opening m s e = record { sender = e.sender; opening_ = e.opening_; 
 
 pub tied_submitted : (d : DeskView) (m : ℕ) (op : Op) → IsKnown d.ledgers m → IsDesk d → IsDesk (submitted d m op)
 tied_submitted d m op known b = let at = d.ledgers in let x = next_request d m op in record {
-  ends = subst (λ n. AreEnds d.thread n (at_place (m - 1) (with_item x) d.requests) d.completions) (sym (length-put_ledger at m (with_sent (ledger at m) op))) (ends_changed d.thread (length at) (m - 1) (with_item x) d.requests d.completions (item_keeps d.thread x) b.ends);
-  sent = λ q is. let before = known_before at m q (with_sent (ledger at m) op) is in elim (cases_eq q m) [
-    | inl same ↦
-        let here : q - 1 ≡ m - 1 = ap (λ k. k - 1) same in
-        ap (λ k. sent_at k (at_place (m - 1) (with_item x) d.requests)) here
-        ∙ sent_at-item (m - 1) x d.requests within
-        ∙ ap (λ l. l ++ x ∷ []) (b.sent m known)
-        ∙ ap (λ k. numbered d.thread 0 (ledger at m).sent ++ request_at d.thread k op ∷ []) (let from : length (ledger at m).sent ≡ 0 + length (ledger at m).sent = omega arith in from)
-        ∙ sym (numbered-append d.thread 0 (ledger at m).sent op)
-        ∙ ap (numbered d.thread 0) (sym (ap (λ (a : LedgerView). a.sent) (ledger-sent_same at m op known q same) ∙ ap (λ k. (ledger at k).sent ++ op ∷ []) same))
-    | inr apart ↦
-        sent_at-other (q - 1) (m - 1) x d.requests (not_here q before apart)
-        ∙ b.sent q before
-        ∙ ap (numbered d.thread 0) (sym (ap (λ (a : LedgerView). a.sent) (ledger-sent_other at m op known q before.positive apart)))
-  ];
+  ends = rw (length-put_ledger at m (with_sent (ledger at m) op)) (ends_changed d.thread (length at) (m - 1) (with_item x) d.requests d.completions (item_keeps d.thread x) b.ends);
+  sent = λ q is. each_sent q (known_before at m q (with_sent (ledger at m) op) is);
   drained_ = b.drained_;
-  collected = λ q is. subst (All (WasDrained d.drained q)) (sym (put_same (λ a. a.collected) at m (with_sent (ledger at m) op) refl q))
-      (b.collected q (known_before at m q (with_sent (ledger at m) op) is));
+  collected = λ q is. rw (put_same (λ a. a.collected) at m (with_sent (ledger at m) op) refl q) (b.collected q (known_before at m q (with_sent (ledger at m) op) is));
 }
   where
-    within : m - 1 < length d.requests
-    within = let n = b.ends.number in let p = known.positive in let w = known.within in omega arith
-
     not_here : (q : ℕ) → IsKnown d.ledgers q → q ≢ m → q - 1 ≢ m - 1
     not_here q was differs e = let p = known.positive in let w = was.positive in differs (omega arith)
+
+    each_sent : (q : ℕ) → IsKnown d.ledgers q
+        → sent_at (q - 1) (at_place (m - 1) (with_item (next_request d m op)) d.requests) ≡ numbered d.thread 0 (ledger (after_sent d.ledgers m op) q).sent
+    each_sent q was =
+        grind (arith, cases_eq, (sent_at-item (m - 1) (next_request d m op) d.requests (lane_within known b.ends.number)), (sent_at-other (q - 1) (m - 1) (next_request d m op) d.requests), (not_here q was), (b.sent q was), (b.sent m known), (numbered-append d.thread 0 (ledger d.ledgers m).sent op), (ledger-sent_same d.ledgers m op known q), (ledger-sent_other d.ledgers m op known q was.positive))
 
 pub tied_full : (d : DeskView) (m : ℕ) → IsDesk d → IsDesk (after_full d m)
 tied_full d m b = search (arith, ends_changed, full_keeps, sent_at-full, d.completions, b.sent)
@@ -145,7 +106,7 @@ fulls_are_alike zero d m = record { ledgers = refl; handles = refl; requests = r
 fulls_are_alike (suc n) d m = search (arith, fulls_are_alike n d m, length-at_place)
 
 pub fulls_alike : (n : ℕ) (d d' : DeskView) (m : ℕ) → d' ≡ after_fulls n d m → AreAlike d d'
-fulls_alike n d d' m e = subst (AreAlike d) (sym e) (fulls_are_alike n d m)
+fulls_alike n d d' m e = rw e (fulls_are_alike n d m)
 
 -- ---- the end, and the beginning
 
@@ -183,10 +144,10 @@ tied_ended t at drained es ds r same b = record {
 pub tied_new : (p : PartsView) (requests : List (Sending Request)) (r : Receiving Completion) → AreEnds p.thread (length p.use_async) requests r
     → AreNew requests r → IsDesk (new_desk p requests r)
 tied_new p requests r ends new = record {
-  ends = subst (λ n. AreEnds p.thread n requests r) (sym (length-map p.use_async (λ carries. new_ledger carries p.plan))) ends;
+  ends = rw (length-map p.use_async (λ carries. new_ledger carries p.plan)) ends;
   sent = λ m known. nothing_sent (m - 1) requests new.sent ∙ ap (numbered p.thread 0) (sym (fresh_sent p.plan p.use_async (m - 1)));
-  drained_ = subst (IsPartOf []) (sym (ap arrived new.taken)) nothing;
-  collected = λ m known. subst (All (WasDrained [] m)) (sym (fresh_collected p.plan p.use_async (m - 1))) (All-nil (WasDrained [] m));
+  drained_ = rw (ap arrived new.taken) nothing;
+  collected = λ m known. rw (fresh_collected p.plan p.use_async (m - 1)) (All-nil (WasDrained [] m));
 }
 
 -- ---- which calls a desk doesn't refuse, and that a desk stays one
@@ -208,20 +169,19 @@ abbrev pub Fits : DeskView → Type 0
 Fits d = (outstanding d.ledgers ≤ d.handles) × IsDesk d
 
 pub full_desk : (d d' : DeskView) (m : ℕ) → d' ≡ after_full d m → Fits d → Fits d'
-full_desk d d' m e fits = subst Fits (sym e) (fits.0, tied_full d m fits.1)
+full_desk d d' m e fits = rw e (fits.0, tied_full d m fits.1)
 
 pub submitted_desk : (d d' : DeskView) (m : ℕ) (op : Op) → reach_refusal d m ≡ None → None ≡ room_refusal d m
     → outstanding d'.ledgers ≡ outstanding d.ledgers + 1 → d' ≡ submitted d m op → Fits d → Fits d'
 submitted_desk d d' m op reached allowed more e fits =
     let free : outstanding d.ledgers < d.handles = grind (arith, neither, leb-false, unless) in
-    let handles : d'.handles ≡ d.handles = ap (λ (x : DeskView). x.handles) e in
-    (omega arith, subst IsDesk (sym e) (tied_submitted d m op (reaches d m (sym reached)) fits.1))
+    (omega (arith, free, more, ap (λ (x : DeskView). x.handles) e), rw e (tied_submitted d m op (reaches d m (sym reached)) fits.1))
 
 -- the desk between a call's request and its completion
 pub called_desk : (d d' : DeskView) (n m : ℕ) (op : Op) → None ≡ call_refusal d m → d' ≡ submitted (after_fulls n d m) m op → IsDesk d
     → IsDesk d' × (d'.handles ≡ d.handles)
 called_desk d d' n m op allowed e tied =
     let alike = fulls_alike n d (after_fulls n d m) m refl in (
-      subst IsDesk (sym e) (tied_submitted (after_fulls n d m) m op (subst (λ at. IsKnown at m) (sym alike.ledgers) (call_known d m allowed)) (tied_fulls n d m tied)),
+      rw e (tied_submitted (after_fulls n d m) m op (rw alike.ledgers (call_known d m allowed)) (tied_fulls n d m tied)),
       ap (λ (x : DeskView). x.handles) e ∙ alike.handles,
     )

@@ -250,6 +250,7 @@ impl Book {
     }
 
     /// The operation that is kept under a number.
+    #[tactic(auto, using(crate::proofs::Books::kept_of_rules))]
     #[inline(always)]
     pub(crate) fn kept_at(&self, number: u32) -> Option<Operation>
         ensures kept { result ≡ map.get self.now.kept number }
@@ -286,6 +287,7 @@ impl Book {
     }
 
     /// How many handles there are. No greater number is kept.
+    #[tactic(auto, using(crate::proofs::Books::kept_of_rules))]
     #[inline(always)]
     pub(crate) fn handles(&self) -> u32
         ensures handles { result ≡ self.now.handles }

@@ -63,6 +63,7 @@ fn draw_until<R: Wait>(rt: &R, book: &mut Book, operation: Operation) -> Option<
 }
 
 /// Collects an operation that isn't kept, where its completion came.
+#[tactic(auto, using(crate::proofs::Looks::look_rules))]
 #[inline(always)]
 pub(crate) fn try_collect<R: Wait>(rt: &R, book: &mut Book, operation: Operation) -> Option<Code>
     requires out { IsOut book.old.ledgers operation }
@@ -78,6 +79,7 @@ pub(crate) fn try_collect<R: Wait>(rt: &R, book: &mut Book, operation: Operation
 }
 
 /// Collects an operation that isn't kept and whose completion wasn't drained yet, and waits for that.
+#[tactic(auto, using(crate::proofs::Looks::look_rules))]
 #[inline(always)]
 pub(crate) fn wait_until<R: Wait, I: Idle>(
     rt: &R,
@@ -102,6 +104,7 @@ pub(crate) fn wait_until<R: Wait, I: Idle>(
 }
 
 /// Collects an operation that isn't kept, and waits for its completion.
+#[tactic(auto, using(crate::proofs::Looks::look_rules))]
 #[inline(always)]
 pub(crate) fn wait_for<R: Wait, I: Idle>(
     rt: &R,

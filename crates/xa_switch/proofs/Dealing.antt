@@ -1,18 +1,18 @@
 -- Rows that are dealt into columns: ends of lanes by desk and by worker, as an opening makes them and as they are gathered again.
-use Rattle.xa_base.proofs.{◌≡◌, ℕ, zero, suc, ◌+◌, ◌<◌, ◌≤◌, List, [], ◌∷◌, ◌++◌, length, map, set, get_or, slice_get, drop, refl, sym, ap, subst, arith}
+use Rattle.xa_base.proofs.{contains_map, ◌≡◌, ℕ, zero, suc, ◌+◌, ◌<◌, ◌≤◌, List, [], ◌∷◌, ◌++◌, length, map, set, get_or, slice_get, drop, refl, sym, ap, arith}
 use Rattle.xa_base.proofs.{length-append, inl, inr, Some, All, get_or-map as get_or-map', length-map, option_map, into_iter_items, into_iter_len}
 use Rattle.xa_base.proofs.{slice_get_within, slice_get-map, slice_get-get_or, got_push, map-append, All-map, all_unmapped, ◌∙◌, replicate, vec_capacity}
-use Rattle.xa_base.proofs.{AllPairs, get_or-set_other, All-push, next_place, taken_next, ◌≢◌, cases_lt, cases_eq, All-append, all_left, all_right, map-set}
-use Rattle.xa_base.proofs.{length-replicate, get_or_append_left, All-permutation, Contains, Contains-append_left, Contains-push, ◌-◌, get_or-replicate}
-use Rattle.xa_base.proofs.{get_or_past}
+use Rattle.xa_base.proofs.{AllPairs, get_or-set_other, next_place, taken_next, ◌≢◌, All-append, all_left, map-set, length-replicate, get_or_append_left}
+use Rattle.xa_base.proofs.{All-permutation, Contains, Contains-append_left, Contains-append_right, get_or-replicate, flat_map, Option, None, All-nil, All-cons}
+use Rattle.xa_base.proofs.{append-nil, append_assoc, same_Some, Bool, ◌==◌, ◌&&◌, false, and_parts, eqb-true, eq-eqb, both_ways, false_from_ne_true, nat_tests}
+use Rattle.xa_base.proofs.{All-contains, Contains-get_or}
+use Rattle.std.specs.Option.{option_to_list}
 use Rattle.std.specs.declared.vec.IntoIter.{IntoIter}
-use Rattle.xa_switch.specs.{put_row, Each, AreLanes, lane_to, IsNewReceiver, IsNewPair, AreNewLanes, dealt, column, HasTaken, HasRoom, TakesIn, Gathered}
-use Rattle.xa_switch.specs.{DeskSeat, WorkerSeat, AreTogether, AreApartDesks, AreApartWorkers, ComeFromOpenings, AreSomeOf, openings_of}
+use Rattle.xa_switch.specs.{put_row, Each, lane_to, AreNewLanes, dealt, column, HasTaken, HasRoom, TakesIn, Gathered, DeskSeat, WorkerSeat, AreTogether}
+use Rattle.xa_switch.specs.{AreApartDesks, AreApartWorkers, ComeFromOpenings, AreSomeOf, openings_of}
 use Rattle.xa_lane.specs.{LaneName, QueueId, Sending, Receiving, new_sender, new_senders, new_receiver}
-use Rattle.std.specs.List.{swap}
-use Rattle.std.proofs.lemmas.List.Edits.{Swapped, swapped_from_swap, length-swap}
 use Rattle.std.proofs.lemmas.List.Kept.{AllPairs-cons}
-use Rattle.std.proofs.lemmas.List.Sorted.{IsPermutation-keeps}
+use Rattle.std.proofs.lemmas.Map.Keys.{IsDistinct-IsPermutation, IsDistinct-from_apart, apart_from_distinct}
 use Rattle.xa_tables.specs.{IsOpening}
 
 -- ---- rows that are dealt into columns
@@ -43,11 +43,6 @@ length_put (c ∷ cs) (y ∷ row) = ap suc (length_put cs row)
 pub each_push : {X : Type 0} (P : ℕ → X → Type 0) (xs : List X) (x : X) → Each P xs → P (length xs) x → Each P (xs ++ x ∷ [])
 each_push P xs x each last k y e = elim (got_push xs x k y e) [ inl before ↦ each k y before | inr here ↦ rw (here.0, here.1) last ]
 
--- one element more, of those that a function makes
-pub each_more : {A B : Type 0} (P : ℕ → B → Type 0) (f : A → B) (xs : List A) (x : A) → Each P (map f xs) → P (length xs) (f x) → Each P (map f (xs ++ x ∷ []))
-each_more P f xs x before here =
-    subst (Each P) (sym (map-append f xs (x ∷ []))) (each_push P (map f xs) (f x) before (subst (λ n. P n (f x)) (sym (length-map xs f)) here))
-
 -- what a column is after a row
 pub put_cases : {X : Type 0} (C : List (List X)) (row : List X) (k : ℕ) (c' : List X) → length row ≡ length C → slice_get (put_row C row) k ≡ Some c'
     → (c : List X) × (x : X) × (slice_get C k ≡ Some c) × (slice_get row k ≡ Some x) × (c' ≡ c ++ x ∷ [])
@@ -55,13 +50,6 @@ put_cases [] row k c' e at = cc
 put_cases (c ∷ cs) [] k c' e at = absurd (omega (arith, e))
 put_cases (c ∷ cs) (x ∷ row) zero c' e at = let f : (c ++ x ∷ []) ≡ c' = cc in (c, x, refl, refl, sym f)
 put_cases (c ∷ cs) (x ∷ row) (suc k) c' e at = put_cases cs row k c' (omega (arith, e)) at
-
-module _ {S R : Type 0} (IsReceiver : ℕ → R → Type 0) (IsSender : ℕ → ℕ → S → R → Type 0) (senders : ℕ) where
-  -- lanes with one more
-  pub more_lanes : (lanes : ℕ) (C : List (List S)) (rs : List R) (row : List S) (r : R) → AreLanes IsReceiver IsSender senders lanes C rs → length row ≡ senders
-      → IsReceiver lanes r → ((k : ℕ) (s : S) → slice_get row k ≡ Some s → IsSender k lanes s r)
-      → AreLanes IsReceiver IsSender senders (lanes + 1) (put_row C row) (rs ++ r ∷ [])
-  more_lanes lanes C rs row r is many fits each = search (arith, length-append, each_push, length_put, put_cases, got_push, slice_get, slice_get_within)
 
 -- ---- columns with room
 
@@ -75,7 +63,7 @@ module _ {X V : Type 0} (items : V → List X) (cap : V → ℕ) where
 
 -- columns whose capacities stay keep their room
 pub room_stays : {V : Type 0} (cap : V → ℕ) (C D : List V) (most : ℕ) → map cap D ≡ map cap C → All (λ c. most ≤ cap c) C → All (λ c. most ≤ cap c) D
-room_stays cap C D most same room = all_unmapped cap (λ n. most ≤ n) D (subst (All (λ n. most ≤ n)) (sym same) (All-map (λ n. most ≤ n) cap C room))
+room_stays cap C D most same room = all_unmapped cap (λ n. most ≤ n) D (rw same (All-map (λ n. most ≤ n) cap C room))
 
 -- ---- a list that is taken from its front
 
@@ -97,13 +85,11 @@ pub next_of : {X Y Z : Type 0} {xs : List X} {x : X} {ys : List Y} {it : IntoIte
     → (slice_get xs (length ys) ≡ Some x) × IsLeft xs (ys ++ y ∷ []) it'
 next_of {xs = xs} {x = x} {ys = ys} left y it' (next, fewer) = search (arith, next_left, into_iter_items, length-append, left.counted)
 
--- one piece more was made of what stands at its place
-pub one_more_made : {X Y : Type 0} (P : ℕ → X → Type 0) (made new : List X) (x : X) (ys : List Y) (y : Y) → length made ≡ length ys → new ≡ made ++ x ∷ []
-    → Each P made → P (length ys) x → (length new ≡ length (ys ++ y ∷ [])) × Each P new
-one_more_made P made new x ys y many are each last =
-    let longer = length-append made (x ∷ []) in
-    let size = ap length are in
-    (omega (arith, many, length-append ys (y ∷ []), longer, size), subst (Each P) (sym are) (each_push P made x each (subst (λ n. P n x) (sym many) last)))
+-- one more, and how many there are then
+pub push_more : {X : Type 0} (P : ℕ → X → Type 0) (xs new : List X) (x : X) (n m : ℕ) → length xs ≡ n → m ≡ n + 1 → new ≡ xs ++ x ∷ [] → Each P xs → P n x
+    → (length new ≡ m) × Each P new
+push_more P xs new x n m many next are each last =
+    (omega (arith, many, next, length-append xs (x ∷ []), ap length are), rw are (each_push P xs x each (rw many last)))
 
 -- ---- the ends of new lanes
 
@@ -126,12 +112,7 @@ module _ {T : Type 0} where
       → r ≡ new_receiver (lane_to opening kind (lanes + 1)) r.line room senders
       → AreNewLanes opening kind senders (lanes + 1) room (put_row C row) (rs ++ r ∷ [])
   one_more_lane opening kind senders lanes room C rs row r are is_row is_r =
-      more_lanes (IsNewReceiver opening kind senders room) (IsNewPair opening kind room) senders lanes C rs row r are
-      (ap length is_row ∙ length_senders T (lane_to opening kind (lanes + 1)) r.line room senders)
-      is_r
-      (λ k s at.
-      let new = sender_at (lane_to opening kind (lanes + 1)) r.line room senders k s (ap (λ l. slice_get l k) (sym is_row) ∙ at) in
-      (new ∙ ap (λ z. new_sender (lane_to opening kind (lanes + 1)) z room k) (sym (ap (λ z. z.line) new)), ap (λ z. z.line) new))
+      search (arith, length_senders, sender_at, slice_get, r.line, length-append, each_push, length_put, put_cases, got_push, slice_get_within)
 
 -- ---- ends of lanes that are dealt by row into the column of their lane
 
@@ -148,63 +129,61 @@ module _ {X : Type 0} where
   dealt_snoc C [] row = refl
   dealt_snoc C (r ∷ rows) row = dealt_snoc (put_row C r) rows row
 
-  put_keeps : (C : List (List X)) (row : List X) (k : ℕ) (x : X) → Contains (column C k) x → Contains (column (put_row C row) k) x
-  put_keeps [] row k x h = h
-  put_keeps (c ∷ cs) [] k x h = h
-  put_keeps (c ∷ cs) (y ∷ row) zero x h = Contains-append_left c (y ∷ []) x h
-  put_keeps (c ∷ cs) (y ∷ row) (suc k) x h = put_keeps cs row k x h
+  -- the elements at a place of the rows, of those that have it
+  abbrev pub at_place : ℕ → List (List X) → List X
+  at_place k rows = flat_map (λ row. option_to_list (slice_get row k)) rows
 
-  put_adds : (C : List (List X)) (row : List X) (k : ℕ) (x : X) → slice_get row k ≡ Some x → k < length C → Contains (column (put_row C row) k) x
-  put_adds [] row k x e h = absurd (omega arith)
-  put_adds (c ∷ cs) [] k x e h = cc
-  put_adds (c ∷ cs) (y ∷ row) zero x e h = let f : y ≡ x = cc in subst (λ z. Contains (c ++ z ∷ []) x) (sym f) (Contains-push c x)
-  put_adds (c ∷ cs) (y ∷ row) (suc k) x e h = put_adds cs row k x e (omega arith)
+  -- they are added to the column at that place
+  put_column : (C : List (List X)) (row : List X) (k : ℕ) (rest : List X) → k < length C
+      → column (put_row C row) k ++ rest ≡ column C k ++ (option_to_list (slice_get row k) ++ rest)
+  put_column [] row k rest below = absurd (omega (arith, below))
+  put_column (c ∷ cs) [] k rest below = refl
+  put_column (c ∷ cs) (y ∷ row) zero rest below = append_assoc c (y ∷ []) rest
+  put_column (c ∷ cs) (y ∷ row) (suc k) rest below = put_column cs row k rest (omega (arith, below))
 
-  dealt_keeps : (C rows : List (List X)) (k : ℕ) (x : X) → Contains (column C k) x → Contains (column (dealt C rows) k) x
-  dealt_keeps C [] k x h = h
-  dealt_keeps C (row ∷ rows) k x h = dealt_keeps (put_row C row) rows k x (put_keeps C row k x h)
+  dealt_column : (C rows : List (List X)) (k : ℕ) → k < length C → column (dealt C rows) k ≡ column C k ++ at_place k rows
+  dealt_column C [] k below = sym (append-nil (column C k))
+  dealt_column C (row ∷ rows) k below =
+      dealt_column (put_row C row) rows k (omega (arith, below, length_put C row)) ∙ put_column C row k (at_place k rows) below
 
-  -- each element of a row is in its column
-  pub dealt_adds : (C rows : List (List X)) (k i : ℕ) (row : List X) (x : X) → slice_get rows i ≡ Some row → slice_get row k ≡ Some x → k < length C
-      → Contains (column (dealt C rows) k) x
-  dealt_adds C [] k i row x e f h = cc
-  dealt_adds C (r ∷ rows) k zero row x e f h =
-      let g : r ≡ row = cc in
-      dealt_keeps (put_row C r) rows k x (put_adds C r k x (ap (λ l. slice_get l k) g ∙ f) h)
-  dealt_adds C (r ∷ rows) k (suc i) row x e f h = let l = length_put C r in dealt_adds (put_row C r) rows k i row x e f (omega (arith, l))
+  -- where all columns were empty
+  pub fresh_column : (n : ℕ) (rows : List (List X)) (k : ℕ) → k < n → column (dealt (replicate n []) rows) k ≡ at_place k rows
+  fresh_column n rows k below =
+      dealt_column (replicate n []) rows k (omega (arith, below, length-replicate {A = List X} n []))
+      ∙ ap (λ l. l ++ at_place k rows) (get_or-replicate n k [] [] below)
 
-  module _ (P : X → Type 0) where
-    put_all : (C : List (List X)) (row : List X) (k : ℕ) → All P (column C k) → ((x : X) → slice_get row k ≡ Some x → P x) → All P (column (put_row C row) k)
-    put_all [] row k h each = h
-    put_all (c ∷ cs) [] k h each = h
-    put_all (c ∷ cs) (y ∷ row) zero h each = All-push P c y h (each y refl)
-    put_all (c ∷ cs) (y ∷ row) (suc k) h each = put_all cs row k h each
+  -- each element of a row is at its place
+  pub placed : (rows : List (List X)) (k i : ℕ) (row : List X) (x : X) → slice_get rows i ≡ Some row → slice_get row k ≡ Some x → Contains (at_place k rows) x
+  placed [] k i row x e f = cc
+  placed (r ∷ rows) k zero row x e f =
+      let here : slice_get r k ≡ Some x = ap (λ l. slice_get l k) (same_Some r row e) ∙ f in
+      Contains-append_left (option_to_list (slice_get r k)) (at_place k rows) x (rw here (0, omega arith, refl))
+  placed (r ∷ rows) k (suc i) row x e f = Contains-append_right (option_to_list (slice_get r k)) (at_place k rows) x (placed rows k i row x e f)
 
-    -- what holds of each row's element holds in the column
-    pub dealt_all : (C rows : List (List X)) (k : ℕ) → All P (column C k)
-        → ((i : ℕ) (row : List X) (x : X) → slice_get rows i ≡ Some row → slice_get row k ≡ Some x → P x) → All P (column (dealt C rows) k)
-    dealt_all C [] k h each = h
-    dealt_all C (row ∷ rows) k h each = dealt_all (put_row C row) rows k (put_all C row k h (λ x e. each 0 row x refl e)) (λ i r x e f. each (suc i) r x e f)
+  -- what holds of each row's element holds of all
+  pub all_placed : (P : X → Type 0) (rows : List (List X)) (k : ℕ)
+      → ((i : ℕ) (row : List X) (x : X) → slice_get rows i ≡ Some row → slice_get row k ≡ Some x → P x) → All P (at_place k rows)
+  all_placed P [] k each = All-nil P
+  all_placed P (row ∷ rows) k each =
+      All-append P (option_to_list (slice_get row k)) (at_place k rows) (one (slice_get row k) (λ x e. each 0 row x refl e))
+      (all_placed P rows k (λ i r x e f. each (suc i) r x e f))
+    where
+      one : (o : Option X) → ((x : X) → o ≡ Some x → P x) → All P (option_to_list o)
+      one None so = All-nil P
+      one (Some y) so = All-cons P y [] (so y refl) (All-nil P)
 
-  pub column_none : (n k : ℕ) → column {X = X} (replicate n []) k ≡ []
-  column_none n k = grind (arith, cases_lt, get_or-replicate, get_or_past, length-replicate)
-
-  put_short : (C : List (List X)) (row : List X) (n k : ℕ) → length (column C k) ≤ n → length (column (put_row C row) k) ≤ n + 1
-  put_short [] row n k h = omega arith
-  put_short (c ∷ cs) [] n k h = omega arith
-  put_short (c ∷ cs) (y ∷ row) n k h = grind (arith, put_short cs row n (k - 1), length-append)
-
-  pub dealt_short : (C rows : List (List X)) (n k : ℕ) → length (column C k) ≤ n → length (column (dealt C rows) k) ≤ n + length rows
-  dealt_short C [] n k h = omega arith
-  dealt_short C (row ∷ rows) n k h = let r = dealt_short (put_row C row) rows (n + 1) k (put_short C row n k h) in omega (arith, r)
+  few_placed : (rows : List (List X)) (k : ℕ) → length (at_place k rows) ≤ length rows
+  few_placed [] k = omega arith
+  few_placed (row ∷ rows) k = grind (arith, few_placed rows k, length-append)
 
   -- columns with room for as many as there are rows have room for one row more
   pub room_for_row : {V : Type 0} (items : V → List X) (cap : V → ℕ) (C : List V) (rows : List (List X)) (m n : ℕ)
       → map items C ≡ dealt (replicate m []) rows → All (λ c. n ≤ cap c) C → length rows < n → All (λ c. length (items c) < cap c) C
   room_for_row items cap C rows m n dealt_is room few k d below =
-      let short = dealt_short (replicate m []) rows 0 k (subst (λ l. length l ≤ 0) (sym (column_none m k)) (omega arith)) in
-      let here : length (items (get_or C k d)) ≡ length (column (dealt (replicate m []) rows) k) = search (arith, get_or-map') in
-      omega (arith, short, here, room k d below, few)
+      let wide = ap length dealt_is ∙ length_dealt (replicate m []) rows in
+      let there : k < m = omega (arith, below, wide, length-map C items, length-replicate {A = List X} m []) in
+      let here = sym (get_or-map' items C k d [] below) ∙ ap (λ l. column l k) dealt_is ∙ fresh_column m rows k there in
+      omega (arith, ap length here, few_placed rows k, room k d below, few)
 
 module _ {V X : Type 0} (items : V → List X) where
   -- a list of which another was replaced
@@ -259,40 +238,25 @@ module _ {E R P X Z : Type 0} {f : X → List E} {g : X → ℕ × R} {h : X →
 
 -- ---- some of them, in any order
 
-pairs_front : {X : Type 0} (R : X → X → Type 0) (xs ys : List X) → AllPairs R (xs ++ ys) → AllPairs R xs
-pairs_front {X} R xs ys h i k d lt below = search (arith, get_or_append_left, length-append)
+-- elements of which no two have both numbers in common
+module _ {X : Type 0} (f g : X → ℕ) where
+  abbrev alike : X → X → Bool
+  alike x y = (f x == f y) && (g x == g y)
 
--- place p has what stood at place s, where a and b changed places
-abbrev Came : ℕ → ℕ → ℕ → ℕ → Type 0
-Came a b p s = (p ≡ a → s ≡ b) × (p ≡ b → s ≡ a) × ((p ≡ a → ⊥) → (p ≡ b → ⊥) → s ≡ p)
+  differ : (x y : X) → (f x ≡ f y → g x ≢ g y) → alike x y ≡ false
+  differ x y apart = false_from_ne_true (alike x y) (λ e.
+      let (first, second) = and_parts (f x == f y) (g x == g y) e in apart (eqb-true (f x) (f y) first) (eqb-true (g x) (g y) second))
 
-came : {X : Type 0} (f g : ℕ → X) (a b n : ℕ) → Swapped f g a b → a < n → b < n → (p : ℕ) → p < n → (s : ℕ) × (s < n) × (g p ≡ f s) × Came a b p s
-came f g a b n sw la lb p lp = elim (cases_eq p a) [
-  | inl ea ↦ (b, lb, ap g ea ∙ sw.0, ((λ _. refl), (λ eb. omega arith), (λ u v. absurd (u ea))))
-  | inr na ↦ elim (cases_eq p b) [
-    | inl eb ↦ (a, la, ap g eb ∙ sw.1, ((λ e. absurd (na e)), (λ _. refl), (λ u v. absurd (v eb))))
-    | inr nb ↦ (p, lp, sw.2 p na nb, ((λ e. absurd (na e)), (λ e. absurd (nb e)), (λ u v. refl)))
-  ]
-]
+  flips : (x y : X) → alike x y ≡ alike y x
+  flips x y = grind (arith, nat_tests)
 
--- two places have what stood at two places
-came_apart : (a b i k s t : ℕ) → (i ≡ k → ⊥) → Came a b i s → Came a b k t → s ≡ t → ⊥
-came_apart a b i k s t ne (p, q, r) (x, y, z) e = grind arith
-
-module _ {X : Type 0} (R : X → X → Type 0) (flips : (x y : X) → R x y → R y x) where
-  pairs_either : (xs : List X) (s t : ℕ) (d : X) → AllPairs R xs → (s ≡ t → ⊥) → s < length xs → t < length xs → R (get_or xs s d) (get_or xs t d)
-  pairs_either xs s t d h ne ls lt = search (arith, cases_lt)
-
-  pairs_swapped : (xs : List X) (a b : ℕ) → a < length xs → b < length xs → AllPairs R xs → AllPairs R (swap xs a b)
-  pairs_swapped xs a b la lb h i k d lt below =
-      let many = length-swap xs a b in
-      let sw = swapped_from_swap xs (swap xs a b) a b d la lb refl in
-      let u = came (λ j. get_or xs j d) (λ j. get_or (swap xs a b) j d) a b (length xs) sw la lb i (omega (arith, lt, below, many)) in
-      let v = came (λ j. get_or xs j d) (λ j. get_or (swap xs a b) j d) a b (length xs) sw la lb k (omega (arith, below, many)) in
-      subst (λ (p : X × X). R p.0 p.1) (λ j. (sym u.2 j, sym v.2 j)) (pairs_either xs u.0 v.0 d h (came_apart a b i k u.0 v.0 (λ e. omega (arith, e, lt)) u.3 v.3) u.1 v.1)
-
-  pairs_some : (xs ys : List X) → AreSomeOf xs ys → AllPairs R ys → AllPairs R xs
-  pairs_some xs ys s h = pairs_front R xs s.0 (IsPermutation-keeps ys (AllPairs R) h (λ l a b la lb. pairs_swapped l a b la lb) (xs ++ s.0) s.1)
+  pairs_some : (xs ys : List X) → AreSomeOf xs ys → AllPairs (λ x y. f x ≡ f y → g x ≢ g y) ys → AllPairs (λ x y. f x ≡ f y → g x ≢ g y) xs
+  pairs_some xs ys (rest, moved) h i k d lt below e e' =
+      let all =
+      IsDistinct-IsPermutation alike flips ys (xs ++ rest) moved (IsDistinct-from_apart alike ys (λ j l z first last. differ _ _ (h j l z first last))) in
+      let no = apart_from_distinct alike (xs ++ rest) i k d all lt (omega (arith, below, length-append xs rest)) in
+      let at = get_or_append_left xs rest d i (omega (arith, lt, below)) in
+      both_ways _ (rw (at, get_or_append_left xs rest d k below) at no) (λ j. eq-eqb _ _ e j && eq-eqb _ _ e' j)
 
 all_some : {X : Type 0} (P : X → Type 0) (xs ys : List X) → AreSomeOf xs ys → All P ys → All P xs
 all_some P xs ys s h = all_left P xs s.0 (All-permutation P ys (xs ++ s.0) s.1 h)
@@ -300,8 +264,8 @@ all_some P xs ys s h = all_left P xs s.0 (All-permutation P ys (xs ++ s.0) s.1 h
 pub some_come : (ds ds' : List DeskSeat) (ws ws' : List WorkerSeat) → AreSomeOf ds' ds → AreSomeOf ws' ws → ComeFromOpenings ds ws → ComeFromOpenings ds' ws'
 some_come ds ds' ws ws' some_ds some_ws h = record {
   together = all_some (λ d. All (AreTogether d) ws') ds' ds some_ds (λ k d below. all_some (AreTogether (get_or ds k d)) ws' ws some_ws (h.together k d below));
-  desks_apart = pairs_some AreApartDesks (λ a b h e same. h (sym e) (sym same)) ds' ds some_ds h.desks_apart;
-  workers_apart = pairs_some AreApartWorkers (λ a b h e same. h (sym e) (sym same)) ws' ws some_ws h.workers_apart;
+  desks_apart = pairs_some (λ d. d.lane.opening) (λ d. d.thread) ds' ds some_ds h.desks_apart;
+  workers_apart = pairs_some (λ w. w.lane.opening) (λ w. w.number) ws' ws some_ws h.workers_apart;
   opened = all_some (λ w. IsOpening w.first) ws' ws some_ws h.opened;
 }
 
@@ -313,35 +277,27 @@ pairs_append R (x ∷ xs) ys a b c =
     AllPairs-cons R x (xs ++ ys) (All-append (R x) xs ys (pairs_mid R [] x xs a) (c 0 x (omega arith)))
     (pairs_append R xs ys (λ i k d lt below. a (suc i) (suc k) d (omega (arith, lt)) (omega (arith, below))) b (λ k d below. c (suc k) d (omega (arith, below))))
 
-abbrev desk_number : DeskSeat → ℕ
-desk_number d = d.lane.opening
+-- the number of a piece is among those of its opening
+of_desk : (ds : List DeskSeat) (ws : List WorkerSeat) (k : ℕ) (d : DeskSeat) → k < length ds → Contains (openings_of ds ws) (get_or ds k d).lane.opening
+of_desk ds ws k d below =
+    Contains-append_left (map (λ d. d.lane.opening) ds) _ _ (contains_map (λ (d : DeskSeat). d.lane.opening) ds _ (Contains-get_or ds k d below))
 
-abbrev worker_number : WorkerSeat → ℕ
-worker_number w = w.lane.opening
+of_worker : (ds : List DeskSeat) (ws : List WorkerSeat) (k : ℕ) (w : WorkerSeat) → k < length ws → Contains (openings_of ds ws) (get_or ws k w).lane.opening
+of_worker ds ws k w below =
+    Contains-append_right (map (λ d. d.lane.opening) ds) _ _ (contains_map (λ (w : WorkerSeat). w.lane.opening) ws _ (Contains-get_or ws k w below))
 
 module _ (ds ds' : List DeskSeat) (ws ws' : List WorkerSeat) (own : All (λ a. All (λ b. a ≢ b) (openings_of ds' ws')) (openings_of ds ws)) where
-  abbrev Differs : ℕ → Type 0
-  Differs a = All (λ b. a ≢ b) (openings_of ds' ws')
-
-  from_desks : (a : ℕ) → Differs a → All (λ d. a ≢ desk_number d) ds'
-  from_desks a h = all_unmapped desk_number (λ b. a ≢ b) ds' (all_left (λ b. a ≢ b) (map desk_number ds') (map worker_number ws') h)
-
-  from_workers : (a : ℕ) → Differs a → All (λ w. a ≢ worker_number w) ws'
-  from_workers a h = all_unmapped worker_number (λ b. a ≢ b) ws' (all_right (λ b. a ≢ b) (map desk_number ds') (map worker_number ws') h)
-
-  desks_differ : All (λ d. Differs (desk_number d)) ds
-  desks_differ = all_unmapped desk_number Differs ds (all_left Differs (map desk_number ds) (map worker_number ws) own)
-
-  workers_differ : All (λ w. Differs (worker_number w)) ws
-  workers_differ = all_unmapped worker_number Differs ws (all_right Differs (map desk_number ds) (map worker_number ws) own)
+  differs : (a b : ℕ) → Contains (openings_of ds ws) a → Contains (openings_of ds' ws') b → a ≡ b → ⊥
+  differs a b here there =
+      All-contains (λ b. a ≢ b) (openings_of ds' ws') b (All-contains (λ a. All (λ b. a ≢ b) (openings_of ds' ws')) (openings_of ds ws) a own here) there
 
   pub mixed_come : ComeFromOpenings ds ws → ComeFromOpenings ds' ws' → ComeFromOpenings (ds ++ ds') (ws ++ ws')
   mixed_come h h' = record {
     together =
         All-append (λ d. All (AreTogether d) (ws ++ ws')) ds ds'
-        (λ k d below. All-append (AreTogether (get_or ds k d)) ws ws' (h.together k d below) (λ j w here e. absurd (from_workers (desk_number (get_or ds k d)) (desks_differ k d below) j w here e)))
-        (λ k d below. All-append (AreTogether (get_or ds' k d)) ws ws' (λ j w here e. absurd (from_desks (worker_number (get_or ws j w)) (workers_differ j w here) k d below (sym e))) (h'.together k d below));
-    desks_apart = pairs_append AreApartDesks ds ds' h.desks_apart h'.desks_apart (λ k d below j c here e. absurd (from_desks (desk_number (get_or ds k d)) (desks_differ k d below) j c here e));
-    workers_apart = pairs_append AreApartWorkers ws ws' h.workers_apart h'.workers_apart (λ k d below j c here e. absurd (from_workers (worker_number (get_or ws k d)) (workers_differ k d below) j c here e));
+        (λ k d below. All-append (AreTogether (get_or ds k d)) ws ws' (h.together k d below) (λ j w low e. absurd (differs _ _ (of_desk ds ws k d below) (of_worker ds' ws' j w low) e)))
+        (λ k d below. All-append (AreTogether (get_or ds' k d)) ws ws' (λ j w low e. absurd (differs _ _ (of_worker ds ws j w low) (of_desk ds' ws' k d below) (sym e))) (h'.together k d below));
+    desks_apart = pairs_append AreApartDesks ds ds' h.desks_apart h'.desks_apart (λ k d below j c low e. absurd (differs _ _ (of_desk ds ws k d below) (of_desk ds' ws' j c low) e));
+    workers_apart = pairs_append AreApartWorkers ws ws' h.workers_apart h'.workers_apart (λ k d below j c low e. absurd (differs _ _ (of_worker ds ws k d below) (of_worker ds' ws' j c low) e));
     opened = All-append (λ w. IsOpening w.first) ws ws' h.opened h'.opened;
   }

@@ -1,8 +1,7 @@
 -- Managers, desks and workers of one opening.
-use Rattle.xa_base.proofs.{◌≡◌, List, map, refl, sym, ap, ◌∙◌, subst, get_or, All, All-map, ℕ, ◌+◌, ◌-◌, [], length, slice_get, option_map, arith, Some}
-use Rattle.xa_base.proofs.{All-append, slice_get-map, slice_get-get_or, contains_at, All-contains, rules, length-map, slice_get_within, got, got_map, all_from}
-use Rattle.xa_base.proofs.{all_at}
-use Rattle.std.proofs.lemmas.Simd.{map-map as map_map}
+use Rattle.xa_base.proofs.{all_map, pairs_map, get_contained, ◌≡◌, List, map, refl, sym, ap, ◌∙◌, get_or, All, All-map, ℕ, ◌+◌, ◌-◌, [], length, slice_get}
+use Rattle.xa_base.proofs.{option_map, arith, Some, All-append, slice_get-map, slice_get-get_or, contains_at, All-contains, rules, length-map, slice_get_within}
+use Rattle.xa_base.proofs.{got, got_map, all_from, all_at, map-map as map-map}
 use Rattle.xa_tables.specs.{Managed, IsOpening, Tables}
 use Rattle.xa_switch.specs.{new_manager, Again, Setup, IsNewDesk, IsNewWorker, ShareNewLanes, AreOfOneOpening, DeskSeat, WorkerSeat, openings_of, end_seat}
 use Rattle.xa_switch.specs.{seat_of_desk, seat_of_worker, ShareLanes, AreTogether, AreApartDesks, AreApartWorkers, ComeFromOpenings, Each, AreLanes}
@@ -12,24 +11,19 @@ use Rattle.xa_lane.specs.{Sending, Receiving}
 use Rattle.xa_desk.specs.{DeskView, ledger, AllKept}
 use Rattle.xa_desk.proofs.Books.{fresh_sent}
 use Rattle.xa_worker.specs.{Answering, WorkerView}
-use Rattle.xa_switch.proofs.Lists.{all_map, pairs_map, get_contained}
 
 -- ---- managers that an opening begins with, each with its tables
 
 -- one is made of each of xs, with these numbers
 module _ {A : Type 0} (n : Again) (tables : A → Tables) (xs : List A) (ms : List Managed) (made : ms ≡ map (λ x. new_manager n (tables x)) xs) where
   pub all_new : All (λ m. m ≡ new_manager n m.tables) ms
-  all_new =
-      subst (All (λ (m : Managed). m ≡ new_manager n m.tables)) (sym made)
-      (All-map (λ (m : Managed). m ≡ new_manager n m.tables) (λ (x : A). new_manager n (tables x)) xs (λ k d lt. refl))
+  all_new = rw made (All-map (λ (m : Managed). m ≡ new_manager n m.tables) (λ (x : A). new_manager n (tables x)) xs (λ k d lt. refl))
 
   pub all_begin : ((x : A) → IsOpening (tables x)) → All (λ m. IsOpening m.tables) ms
-  all_begin opens =
-      subst (All (λ (m : Managed). IsOpening m.tables)) (sym made)
-      (All-map (λ (m : Managed). IsOpening m.tables) (λ (x : A). new_manager n (tables x)) xs (λ k d lt. opens (get_or xs k d)))
+  all_begin opens = rw made (All-map (λ (m : Managed). IsOpening m.tables) (λ (x : A). new_manager n (tables x)) xs (λ k d lt. opens (get_or xs k d)))
 
   pub tables_are : map (λ m. m.tables) ms ≡ map tables xs
-  tables_are = ap (map (λ (m : Managed). m.tables)) made ∙ map_map (λ (m : Managed). m.tables) (λ (x : A). new_manager n (tables x)) xs
+  tables_are = ap (map (λ (m : Managed). m.tables)) made ∙ map-map (λ (m : Managed). m.tables) (λ (x : A). new_manager n (tables x)) xs
 
 -- ---- an opening
 
@@ -65,7 +59,7 @@ module _ (p : Setup) (ds : List DeskView) (ws : List WorkerView) (h : AreOfOneOp
   opened_at : (k : ℕ) (w : WorkerView) → slice_get ws k ≡ Some w → IsOpening w.first
   opened_at k w at =
       let W : IsNewWorker p k w = h.workers k w at in
-      subst (λ (w : WorkerView). IsOpening w.first) (sym W.made) (All-contains IsOpening p.first W.first h.begins (contains_at p.first k W.first W.begins))
+      rw W.made (All-contains IsOpening p.first W.first h.begins (contains_at p.first k W.first W.begins))
 
   pub opened : ComeFromOpenings (map seat_of_desk ds) (map seat_of_worker ws)
   opened = record {
@@ -172,8 +166,7 @@ module _ (l : Layout) (xs : List Managed) (is : IsLaidOut l) (many : length xs �
 
   new_worker_is : (m : ℕ) (w : WorkerView) → IsWorkerOf l.worker_parts.items xs l.requests.receivers.items answers m w → IsNewWorker p m w
   new_worker_is m w of =
-      subst (λ x. IsNewWorker p m x) (sym of.made)
-      (record {
+      rw of.made (record {
         first = of.manager.tables;
         begins = got_map (λ (x : Managed). x.tables) xs m of.manager of.manager_at;
         made = search (arith, new_at, of.manager, of.requests, of.part);

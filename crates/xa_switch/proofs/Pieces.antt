@@ -1,8 +1,9 @@
 -- The pieces of an opening: what the two ends of a lane say of each other, and what is known of desks and workers that are all there.
-use Rattle.xa_base.proofs.{◌≡◌, ℕ, zero, suc, ◌+◌, ◌<◌, ◌≤◌, true, false, ◌==◌, ◌&&◌, cond, List, [], ◌∷◌, ◌++◌, map, slice_get, option_map, sym, refl, ap, ◌∙◌}
-use Rattle.xa_base.proofs.{subst, inl, inr, arith, eq-eqb, ne_eqb, Option, Some, None, All, Contains, filter, eqb-true, slice_get-map, All-contains, and_parts}
-use Rattle.xa_base.proofs.{same_Some, ◌≢◌, ◌-◌, length, replicate, get_or, AllPairs, list_any, All-nil, contains_at, was_mapped, slice_get_within}
-use Rattle.xa_base.proofs.{Any-from_list_any, list_any_at, Contains-get_or, Contains-append_left, Contains-push, Contains-push_cases}
+use Rattle.xa_base.proofs.{contains_after, in_map, all_map, pairs_map, pairs_at, get_contained, contains_map, ◌≡◌, ℕ, zero, suc, ◌+◌, ◌<◌, ◌≤◌, true, false}
+use Rattle.xa_base.proofs.{◌==◌, ◌&&◌, cond, List, [], ◌∷◌, ◌++◌, map, slice_get, option_map, sym, refl, ap, ◌∙◌, subst, inl, inr, arith, eq-eqb, ne_eqb}
+use Rattle.xa_base.proofs.{Option, Some, None, All, Contains, filter, eqb-true, slice_get-map, All-contains, and_parts, same_Some, ◌≢◌, ◌-◌, length, replicate}
+use Rattle.xa_base.proofs.{get_or, AllPairs, list_any, contains_at, was_mapped, slice_get_within, Any-from_list_any, list_any_at, Contains-get_or}
+use Rattle.xa_base.proofs.{Contains-append_left, Contains-push, Contains-push_cases}
 use Rattle.std.proofs.lemmas.Bool.{cond_both}
 use Rattle.xa_words.specs.{Code, Op, Request, Completion}
 use Rattle.xa_lane.specs.{Parcel, of_sender, Sending, Receiving, somes, received, has_ended, sent_at, IsWhole, left_of}
@@ -12,8 +13,7 @@ use Rattle.xa_worker.specs.{Entry, requests, completion_of, Answering, Served, I
 use Rattle.xa_switch.specs.{answers, IsClosed, dealt, column, IsClosable, Agree, EndSeat, WorkerSeat, end_seat, seat_of_ended, seat_of_done, ShareLanes}
 use Rattle.xa_switch.specs.{AreTogether, AreApartDesks, AreApartWorkers, ComeFromOpenings, desk_seats, worker_seats, desk_opening, worker_opening}
 use Rattle.xa_switch.specs.{first_opening, AreOfOne, HasDesks, HasWorkers, AreAll, desk_lane, worker_lane}
-use Rattle.xa_switch.proofs.Lists.{after, in_map, all_map, pairs_map, pairs_at, get_contained, contains_map}
-use Rattle.xa_switch.proofs.Dealing.{dealt_adds, dealt_all, column_none, length_dealt}
+use Rattle.xa_switch.proofs.Dealing.{all_placed, at_place, fresh_column, length_dealt, placed as placed_end}
 
 -- ---- what the closed lanes of a desk and a worker say of the two
 
@@ -30,8 +30,7 @@ module _ {T : Type 0} (r : Receiving T) (ends : List (Sending T)) (h : IsClosed 
   -- what was taken of an end was sent by it
   pub in_sent : (e : Sending T) → Contains ends e → (x : T) → Contains (received e.index r.taken) x → Contains e.sent x
   in_sent e c x i =
-      subst (λ l. Contains l x) (All-contains (λ (e : Sending T). received e.index r.taken ++ left_of e.index h.left ≡ e.sent) ends e h.conserves c)
-      (Contains-append_left (received e.index r.taken) (left_of e.index h.left) x i)
+      rw (All-contains (λ (e : Sending T). received e.index r.taken ++ left_of e.index h.left ≡ e.sent) ends e h.conserves c) at (Contains-append_left (received e.index r.taken) (left_of e.index h.left) x i)
 
   -- there is an end for each number of a sender
   pub end_of : (p : ℕ) → p < r.senders → (e : Sending T) × Contains ends e × (e.index ≡ p)
@@ -54,11 +53,10 @@ module _ {T : Type 0} where
       → (p : ℕ) × (p < n) × Contains (somes (cond (from == p) (i ∷ rest p) (rest p))) y
   in_received_step y None from zs rest n low f h =
       let r = f h in (r.0, r.1, elim (from == r.0) as (λ b. Contains (somes (cond b (None ∷ rest r.0) (rest r.0))) y) [ true ↦ r.2 | false ↦ r.2 ])
-  in_received_step y (Some z) from zs rest n low f (zero, lt, e) =
-      (from, low, subst (λ b. Contains (somes (cond b (Some z ∷ rest from) (rest from))) y) (sym (eq-eqb from from refl)) (0, omega arith, e))
+  in_received_step y (Some z) from zs rest n low f (zero, lt, e) = (from, low, rw (eq-eqb from from refl) (0, omega arith, e))
   in_received_step y (Some z) from zs rest n low f (suc k, lt, e) =
       let r = f (k, omega (arith, lt), e) in
-      (r.0, r.1, elim (from == r.0) as (λ b. Contains (somes (cond b (Some z ∷ rest r.0) (rest r.0))) y) [ true ↦ after z y (somes (rest r.0)) r.2 | false ↦ r.2 ])
+      (r.0, r.1, elim (from == r.0) as (λ b. Contains (somes (cond b (Some z ∷ rest r.0) (rest r.0))) y) [ true ↦ contains_after z y (somes (rest r.0)) r.2 | false ↦ r.2 ])
 
   -- what was taken was taken of some sender
   pub in_received : (y : T) (n : ℕ) (xs : List (Parcel T)) → All (λ x. x.from < n) xs → Contains (somes (map (λ x. x.item) xs)) y
@@ -78,16 +76,16 @@ in_drained m n code (c ∷ cs) at = cond_both ((m == c.manager) && (n == c.numbe
     (λ e is.
     let (its, own) = and_parts (m == c.manager) (n == c.number) e in
     (0, omega arith, λ i. record { manager = sym (eqb-true m c.manager its) i; number = sym (eqb-true n c.number own) i; code = same_Some c.code code is i }))
-    (λ e is. after c (record { manager = m; number = n; code = code }) cs (in_drained m n code cs is)) at
+    (λ e is. contains_after c (record { manager = m; number = n; code = code }) cs (in_drained m n code cs is)) at
 
 -- a part of a list has elements of it
 pub in_part : {A : Type 0} (c : A) (xs zs : List A) → IsPartOf xs zs → Contains xs c → Contains zs c
 in_part c _ _ nothing h = h
-in_part c _ _ (with_last xs ys zs y p e) h = subst (λ l. Contains l c) (sym e) (elim (Contains-push_cases xs y c h) [
+in_part c _ _ (with_last xs ys zs y p e) h = rw e (elim (Contains-push_cases xs y c h) [
   | inl before ↦ Contains-append_left ys (y ∷ []) c (in_part c xs ys p before)
-  | inr last ↦ subst (λ z. Contains (ys ++ z ∷ []) c) (sym last) (Contains-push ys c)
+  | inr last ↦ rw last (Contains-push ys c)
 ])
-in_part c _ _ (without_last xs ys zs y p e) h = subst (λ l. Contains l c) (sym e) (Contains-append_left ys (y ∷ []) c (in_part c xs ys p h))
+in_part c _ _ (without_last xs ys zs y p e) h = rw e (Contains-append_left ys (y ∷ []) c (in_part c xs ys p h))
 
 -- ---- what was answered
 
@@ -126,10 +124,10 @@ drawn_law r ends h each m e A c i s y of_m drawn =
     let f = end_of r ends h x.0 x.1 in
     let a : Answers f.0 = All-contains Answers ends f.0 each f.1 in
     let z =
-    in_map (completion_of (f.0.index + 1)) y a.0 (subst (λ l. Contains l y) a.1 (in_sent r ends h f.0 f.1 y (subst (λ p. Contains (received p r.taken) y) (sym f.2) x.2))) in
+    in_map (completion_of (f.0.index + 1)) y a.0 (rw a.1 at (in_sent r ends h f.0 f.1 y (rw f.2 x.2))) in
     let same : f.0.index + 1 ≡ m = ap (λ (v : Completion). v.manager) z.2 ∙ of_m in
     let here : x.0 ≡ e.index = omega (arith, same, i, f.2) in
-    in_map (completion_of m) y A (subst (λ l. Contains l y) s (in_sent r ends h e c y (subst (λ p. Contains (received p r.taken) y) here x.2)))
+    in_map (completion_of m) y A (rw s at (in_sent r ends h e c y (rw here at x.2)))
 
 -- ---- the lanes that the pieces of one side have ends of: the desks of the lanes of requests, the workers of those of completions
 
@@ -149,18 +147,21 @@ module _ {X Y T : Type 0} {rows : X → List (Sending T)} {number : X → ℕ} {
   abbrev ends : Y → List (Sending T)
   ends y = column (dealt (replicate 8 []) (map rows xs)) (place y)
 
+  ends_are : (y : Y) → Contains ys y → ends y ≡ at_place (place y) (map rows xs)
+  ends_are y cy = fresh_column 8 (map rows xs) (place y) (s.few y cy)
+
   -- what holds of each piece's end of the lane
-  pub each_end : (P : Sending T → Type 0) (y : Y) → ((x : X) (e : Sending T) → Contains xs x → slice_get (rows x) (place y) ≡ Some e → P e) → All P (ends y)
-  each_end P y so =
-      dealt_all P (replicate 8 []) (map rows xs) (place y) (subst (All P) (sym (column_none 8 (place y))) (All-nil P)) (λ i row e at_row at.
-      let x = was_mapped rows xs i row at_row in so x.0 e (contains_at xs i x.0 x.1) (ap (λ l. slice_get l (place y)) x.2 ∙ at))
+  pub each_end : (P : Sending T → Type 0) (y : Y) → Contains ys y → ((x : X) (e : Sending T) → Contains xs x → slice_get (rows x) (place y) ≡ Some e → P e)
+      → All P (ends y)
+  each_end P y cy so = rw (ends_are y cy) (all_placed P (map rows xs) (place y) (λ i row e at_row at.
+      let x = was_mapped rows xs i row at_row in so x.0 e (contains_at xs i x.0 x.1) (ap (λ l. slice_get l (place y)) x.2 ∙ at)))
 
   pub own_end : (x : X) (y : Y) (cx : Contains xs x) (cy : Contains ys y) (e : Sending T) → slice_get (rows x) (place y) ≡ Some e → e ≡ (s.sends x y cx cy).0
   own_end x y cx cy e at = let both : Some e ≡ Some (s.sends x y cx cy).0 = sym at ∙ (s.sends x y cx cy).1 in cc both
 
   pub end_in : (x : X) (y : Y) → Contains xs x → Contains ys y → (e : Sending T) → slice_get (rows x) (place y) ≡ Some e → Contains (ends y) e
-  end_in x y cx cy e at =
-      dealt_adds (replicate 8 []) (map rows xs) (place y) cx.0 (rows x) e (slice_get-map rows xs cx.0 ∙ ap (option_map rows) (get_contained xs x cx)) at (s.few y cy)
+  end_in x y cx cy e at = rw (ends_are y cy)
+      (placed_end (map rows xs) (place y) cx.0 (rows x) e (slice_get-map rows xs cx.0 ∙ ap (option_map rows) (get_contained xs x cx)) at)
 
   all_ends : (y : Y) → Contains ys y → IsWhole (lane y).senders (ends y)
   all_ends y cy p below =
@@ -174,8 +175,8 @@ module _ {X Y T : Type 0} {rows : X → List (Sending T)} {number : X → ℕ} {
 
   closable : (y : Y) → Contains ys y → IsClosable (lane y) (ends y)
   closable y cy =
-      let fits = each_end (λ e. (e.lane ≡ (lane y).lane) × (e.line ≡ (lane y).line)) y (λ x e cx at.
-      subst (λ (e : Sending T). (e.lane ≡ (lane y).lane) × (e.line ≡ (lane y).line)) (sym (own_end x y cx cy e at)) (s.sends x y cx cy).2) in
+      let fits = each_end (λ e. (e.lane ≡ (lane y).lane) × (e.line ≡ (lane y).line)) y cy (λ x e cx at.
+      rw (own_end x y cx cy e at) (s.sends x y cx cy).2) in
       record { lanes = λ k e below. (fits k e below).0; lines = λ k e below. (fits k e below).1; whole = all_ends y cy }
 
   -- what closing the lanes asks
@@ -341,7 +342,7 @@ module _ (ds : List EndedView) (ws : List Served) (j : Joint ds ws) where
       search (arith, sent_there, worker_known, w.ends)
 
   completion_answers : (d : EndedView) → Contains ds d → All Answers (column (completion_columns ws) (d.thread - 1))
-  completion_answers d cd = each_end completion_side Answers d (λ w e cw at.
+  completion_answers d cd = each_end completion_side Answers d cd (λ w e cw at.
       let index : e.index + 1 ≡ w.number = ap (λ (e : Answering). e.index + 1) (own_end completion_side w d cw cd e at) ∙ (completion_side.sends w d cw cd).3 in
       (entries_of d.thread w.journal, answered d w cd cw e at ∙ ap (λ m. map (completion_of m) (entries_of d.thread w.journal)) (sym index)))
 

@@ -94,6 +94,7 @@ fn refused(why: Why, desks: Vec<EndedDesk>, workers: Vec<DoneWorker>) -> Unsettl
 }
 
 // Closes all lanes of an opening whose desks and workers are all there.
+#[tactic(auto, using(crate::proofs::Pieces::workers_numbered, crate::proofs::Pieces::workers_opened))]
 fn close_all<R: Wait>(
     rt: &R,
     alloc: Global,

@@ -1,18 +1,18 @@
 -- The maps that the accounts make.
 use Rattle.xa_base.proofs.{◌≡◌, ◌≢◌, ℕ, ℤ, pos, ◌+ℤ◌, All, nat_eq, zero, suc, ◌+◌, ◌<◌, Bool, true, false, cond, not, ◌&&◌, ◌||◌, if◌then◌else◌, List, [], ◌∷◌}
-use Rattle.xa_base.proofs.{◌++◌, take, drop, length, map, Option, None, Some, unwrap_or, option_map, refl, sym, ap, ◌∙◌, subst, arith, get_or, set, list_any}
+use Rattle.xa_base.proofs.{◌++◌, take, drop, length, map, Option, None, Some, unwrap_or, option_map, refl, sym, ap, ◌∙◌, arith, get_or, set, list_any}
 use Rattle.xa_base.proofs.{eq_by_cmp, is_eq, tied_itself, FinMap, find, from_entries, get-from_entries, All-map, All-head, All-tail, length-map, get_or_default}
 use Rattle.xa_base.proofs.{get_or-set_other, length-set, take_all, drop_all, append-nil, and-false, eqb-true, eq-eqb, false_from_ne_true, not-false, and_parts}
-use Rattle.xa_base.proofs.{+ℤ_idr as plus_none, by_bool, is_equal, put_one, retain_some, map_some, any_entries, Distinct, ◌≤ℤ◌, ordering_then, IsTotalOrder}
-use Rattle.xa_base.proofs.{then_total, on_total, IsAntisymmetric, get_or-set_at, le_z_yes, list_any_at}
+use Rattle.xa_base.proofs.{+ℤ_idr as plus_none, is_equal, put_one, retain_some, map_some, any_entries, Distinct, ◌≤ℤ◌, ordering_then, IsTotalOrder, then_total}
+use Rattle.xa_base.proofs.{on_total, IsAntisymmetric, get_or-set_at, le_z_yes, list_any_at, or-false, map-set_same, eq_by_cmp_equiv}
 use Rattle.std.specs.declared.cmp.Ordering.{Ordering}
 use Rattle.std.specs.declared.cmp.Ordering.TheVariants.{Equal}
 use Rattle.xa_words.specs.{XidName, xid_cmp, xid_eq, IsDelta, key_eq, key_cmp_total, key_cmp-IsAntisymmetric, xid_cmp_total, xid_cmp-IsAntisymmetric}
-use Rattle.xa_words.specs.{xid_eq-by_cmp, Decides-xid_eq, Decides-key_eq}
+use Rattle.xa_words.specs.{xid_eq-by_cmp, Decides-xid_eq, key_eq-by_cmp}
 use Rattle.std.proofs.lemmas.Float.{T_from_true}
 use Rattle.xa_words.specs.Orders.{key_cmp}
 use Rattle.xa_tables.specs.{Account, Hold, Touch, touch_cmp, is_within, value_of, sum_of, has_touched, has_other_touched, is_broken, posted, IsSmall, IsGood}
-use Rattle.xa_tables.specs.{with_hold, hold_entries, value_entries, AreDistinct, AreDistinctEntries, hold_is_of, is_held_by, hold_is_other, hold_breaks}
+use Rattle.xa_tables.specs.{place_in, keys_of, with_hold, hold_entries, value_entries, AreDistinct, hold_is_of, is_held_by, hold_is_other, hold_breaks}
 use Rattle.xa_tables.specs.{is_broken_by, amount_in, added_to, hold_where, hold_without, kept_where, all_but, amount_of, posted_by}
 use Rattle.xa_tables.proofs.SoundLemmas.{swap_xid}
 use Rattle.std.specs.FinMap as finmap
@@ -56,9 +56,16 @@ touch_same x y k l = then_is (xid_cmp x y) (key_cmp k l) ∙ ap (λ b. b && same
 pub key_apart : (k l : List ℕ) → (k ≡ l → ⊥) → same_key k l ≡ false
 key_apart k l h = false_from_ne_true _ (λ t. h (key_from k l t))
 
--- a key that the accounts lack
-abbrev pub Lacks : List ℕ → List Account → Type 0
-Lacks k accounts = find key_cmp k (value_entries accounts) ≡ None
+pub swapped : (k l : List ℕ) → key_eq l k ≡ same_key k l
+swapped k l = key_eq-by_cmp l k ∙ (eq_by_cmp_equiv key_cmp_total).symm l k
+
+-- the keys stay where f leaves them, and where an account is replaced by one of its key
+pub keys_map : (f : Account → Account) → ((a : Account) → (f a).key ≡ a.key) → (accounts : List Account) → keys_of (map f accounts) ≡ keys_of accounts
+keys_map f keeps [] = refl
+keys_map f keeps (a ∷ rest) = λ i. keeps a i ∷ keys_map f keeps rest i
+
+pub keys_set : (accounts : List Account) (i : ℕ) (a b : Account) → a ≡ get_or accounts i a → b.key ≡ a.key → keys_of (set accounts i b) ≡ keys_of accounts
+keys_set accounts i a b e same = map-set_same (λ (w : Account). w.key) accounts i b a (same ∙ ap (λ (w : Account). w.key) e)
 
 -- the account of a key
 abbrev at_key : List ℕ → List Account → Option Account
@@ -70,8 +77,10 @@ pub value_found : (k : List ℕ) (accounts : List Account) → find key_cmp k (v
 value_found k [] = refl
 value_found k (a ∷ rest) = grind (arith, (value_found k rest), find, key_cmp)
 
-lacks_key : (k : List ℕ) (accounts : List Account) → Lacks k accounts → at_key k accounts ≡ None
-lacks_key k accounts h = grind (arith, value_found)
+-- none, where the key has no place
+lacks_key : (k : List ℕ) (accounts : List Account) → place_in k (keys_of accounts) ≡ None → at_key k accounts ≡ None
+lacks_key k [] h = refl
+lacks_key k (a ∷ rest) h = grind (arith, (lacks_key k rest), swapped)
 
 -- each account is that of its key
 pub at_own_key : (accounts : List Account) (i : ℕ) (a : Account) → AreDistinct accounts → i < length accounts → a ≡ get_or accounts i a
@@ -93,22 +102,7 @@ amount_held x (Some a) = hold_amount x a.hold
 hold_found : (accounts : List Account) → AreDistinct accounts → (x : XidName) (k : List ℕ)
     → find touch_cmp (x, k) (hold_entries accounts) ≡ amount_held x (at_key k accounts)
 hold_found [] h x k = refl
-hold_found (a ∷ rest) h x k =
-    let later = hold_found rest h.1 x k in
-    by_bool (λ b. same_key k a.key ≡ b → find touch_cmp (x, k) (with_hold a.key a.hold (hold_entries rest)) ≡ amount_held x (cond b (Some a) (at_key k rest))) (same_key k a.key)
-    (λ _ t. first a.hold t (later ∙ ap (amount_held x) (ap (λ q. at_key q rest) (key_from k a.key t) ∙ lacks_key a.key rest h.0)))
-    (λ _ t. others a.hold t ∙ later) refl
-  where
-    first : (o : Option Hold) → same_key k a.key ≡ true → find touch_cmp (x, k) (hold_entries rest) ≡ None
-        → find touch_cmp (x, k) (with_hold a.key o (hold_entries rest)) ≡ hold_amount x o
-    first None t none = none
-    first (Some l) t none =
-        (λ i. cond (touch_same x l.xid k a.key i) (Some l.amount) (none i)) ∙ ap (λ b. cond (xid_eq l.xid x && b) (Some l.amount) None) t
-        ∙ by_bool (λ b. cond (b && true) (Some l.amount) None ≡ (if b then Some l.amount else None)) (xid_eq l.xid x) (λ _. refl) (λ _. refl)
-
-    others : (o : Option Hold) → same_key k a.key ≡ false
-        → find touch_cmp (x, k) (with_hold a.key o (hold_entries rest)) ≡ find touch_cmp (x, k) (hold_entries rest)
-    others o t = search (arith, touch_same, and-false)
+hold_found (a ∷ rest) h x k = grind (arith, (hold_found rest h.1 x k), find, touch_same, (key_from k a.key), (lacks_key k rest), and-false)
 
 sum_is : (accounts : List Account) → AreDistinct accounts → (x : XidName) (k : List ℕ)
     → sum_of (from_entries (hold_entries accounts)) x k ≡ unwrap_or (amount_held x (at_key k accounts)) (pos 0)
@@ -130,9 +124,7 @@ any_hold : (p : Touch → ℤ → Bool) (q : Account → Bool) (accounts : List 
 any_hold p q [] is = refl
 any_hold p q (a ∷ rest) is =
     let Q : Account → Type 0 = λ c. q c ≡ elim (c.hold) [ None ↦ false | Some l ↦ p (l.xid, c.key) l.amount ] in
-    let later = any_hold p q rest (All-tail Q a rest is) in
-    let here = All-head Q a rest is in
-    grind arith
+    grind (arith, (any_hold p q rest (All-tail Q a rest is)), (All-head Q a rest is))
 
 hold_of_cases : (x : XidName) (a : Account) → is_held_by a x ≡ elim (a.hold) [ None ↦ false | Some l ↦ xid_eq l.xid x ]
 hold_of_cases x a = elim (a.hold) as (λ o. hold_is_of o x ≡ elim o [ None ↦ false | Some l ↦ xid_eq l.xid x ]) [ None ↦ refl | Some l ↦ refl ]
@@ -151,12 +143,22 @@ is_other a x k = key_eq a.key k && hold_is_other a.hold x
 other_cases : (x : XidName) (k : List ℕ) (a : Account) → is_other a x k ≡ elim (a.hold) [ None ↦ false | Some l ↦ key_eq a.key k && not (xid_eq l.xid x) ]
 other_cases x k a = grind (arith, and-false)
 
+abbrev pub is_held_by_another : XidName → Option Account → Bool
+is_held_by_another x None = false
+is_held_by_another x (Some a) = hold_is_other a.hold x
+
+other_at_key : (accounts : List Account) → AreDistinct accounts → (x : XidName) (k : List ℕ)
+    → list_any (λ a. is_other a x k) accounts ≡ is_held_by_another x (at_key k accounts)
+other_at_key [] h x k = refl
+other_at_key (a ∷ rest) h x k = grind (arith, (other_at_key rest h.1 x k), (swapped k a.key), (key_from k a.key), (lacks_key k rest), or-false)
+
 -- another branch has touched k if it holds k's account
 pub other_any : (accounts : List Account) (x : XidName) (k : List ℕ) → AreDistinct accounts
-    → has_other_touched (from_entries (hold_entries accounts)) x k ≡ list_any (λ a. is_other a x k) accounts
+    → has_other_touched (from_entries (hold_entries accounts)) x k ≡ is_held_by_another x (at_key k accounts)
 other_any accounts x k h =
     any_entries touch_cmp_total touch_cmp-IsAntisymmetric (λ p s. key_eq p.1 k && not (xid_eq p.0 x)) (hold_entries accounts) (distinct_holds accounts h)
     ∙ any_hold (λ p s. key_eq p.1 k && not (xid_eq p.0 x)) (λ a. is_other a x k) accounts (λ i d within. other_cases x k (get_or accounts i d))
+    ∙ other_at_key accounts h x k
 
 broken_cases : (values : FinMap key_cmp ℤ) (x : XidName) (a : Account) → value_of values a.key ≡ a.value
     → is_broken_by a x ≡ elim (a.hold) [ None ↦ false | Some l ↦ xid_eq l.xid x && not (is_within (value_of values a.key +ℤ l.amount)) ]
@@ -194,10 +196,9 @@ at_key_map f keys k [] = refl
 at_key_map f keys k (a ∷ rest) = grind (arith, (at_key_map f keys k rest))
 
 -- so the keys stay apart
-pub distinct_changed : (f : Account → Account) → ((a : Account) → (f a).key ≡ a.key) → (accounts : List Account) → AreDistinct accounts
+distinct_changed : (f : Account → Account) → ((a : Account) → (f a).key ≡ a.key) → (accounts : List Account) → AreDistinct accounts
     → AreDistinct (map f accounts)
-distinct_changed f keys [] h = tt
-distinct_changed f keys (a ∷ rest) h = grind (arith, (distinct_changed f keys rest h.1), value_found, option_map, at_key_map, lacks_key)
+distinct_changed f keys accounts h = rw (keys_map f keys accounts) h
 
 kept_amount : (keep : XidName → Bool) (f : Account → Account) → LetsGo keep f → (x : XidName) (o : Option Account)
     → amount_held x (option_map f o) ≡ cond (keep x) (amount_held x o) None
@@ -262,11 +263,10 @@ written_whole f n slice items after done is long = grind (arith, drop_all, appen
 -- ---- an addition
 
 -- an account that is replaced by one of the same key and value
-pub values_set : (accounts : List Account) (i : ℕ) (a b : Account) → i < length accounts → a ≡ get_or accounts i a → b.key ≡ a.key → b.value ≡ a.value
+pub values_set : (accounts : List Account) (i : ℕ) (a b : Account) → a ≡ get_or accounts i a → b.key ≡ a.key → b.value ≡ a.value
     → value_entries (set accounts i b) ≡ value_entries accounts
-values_set [] i a b h e k v = refl
-values_set (c ∷ rest) zero a b h e k v = λ i. ((k ∙ ap (λ (w : Account). w.key) e) i, (v ∙ ap (λ (w : Account). w.value) e) i) ∷ value_entries rest
-values_set (c ∷ rest) (suc i) a b h e k v = ap (λ es. (c.key, c.value) ∷ es) (values_set rest i a b (omega arith) e k v)
+values_set accounts i a b e k v =
+    map-set_same (λ (w : Account). (w.key, w.value)) accounts i b a (λ j. ((k ∙ ap (λ (w : Account). w.key) e) j, (v ∙ ap (λ (w : Account). w.value) e) j))
 
 -- nobody holds it, or x does
 abbrev pub IsFor : XidName → Option Hold → Type 0
@@ -288,25 +288,26 @@ for_other x y o h e = grind arith
 amount_for : (x : XidName) (o : Option Hold) → IsFor x o → unwrap_or (hold_amount x o) (pos 0) ≡ amount_in o
 amount_for x o h = grind (arith, Decides-xid_eq)
 
--- the sums once x has added d at one account
-pub sums_added : (accounts : List Account) (i : ℕ) (a : Account) (x : XidName) (d : ℤ) → AreDistinct accounts → i < length accounts → a ≡ get_or accounts i a
-    → IsFor x a.hold
-    → from_entries {R = touch_cmp} (hold_entries (set accounts i (added_to a x d))) ≡ finmap.insert (from_entries (hold_entries accounts)) (x, a.key) (sum_of (from_entries (hold_entries accounts)) x a.key +ℤ d)
-sums_added accounts i a x d dist h e for =
-    let b : Account = added_to a x d in
-    let v : ℤ = amount_in a.hold +ℤ d in
-    let at_a = at_own_key accounts i a dist h e in
-    let apart : AreDistinct (set accounts i b) = subst AreDistinctEntries (sym (values_set accounts i a b h e refl refl)) dist in
-    let own : b.key ≡ (get_or accounts i b).key = ap (λ (w : Account). w.key) (e ∙ sym (get_or_default accounts i b a h)) in
-    put_one touch_cmp_total touch_cmp-IsAntisymmetric _ _ (x, a.key) v (λ p.
-    hold_found (set accounts i b) apart p.0 p.1 ∙ ap (amount_held p.0) (at_key_set p.1 accounts i b dist h own)
-    ∙ by_bool (λ t. same_key p.1 a.key ≡ t → amount_held p.0 (cond t (Some b) (at_key p.1 accounts)) ≡ cond (xid_eq x p.0 && t) (Some v) (amount_held p.0 (at_key p.1 accounts))) (same_key p.1 a.key)
-    (λ _ t.
-    by_bool (λ u. xid_eq x p.0 ≡ u → (if u then Some v else None) ≡ cond (u && true) (Some v) (amount_held p.0 (at_key p.1 accounts))) (xid_eq x p.0) (λ _ _. refl)
-    (λ _ u. sym (ap (amount_held p.0) (ap (λ q. at_key q accounts) (key_from p.1 a.key t) ∙ at_a) ∙ for_other x p.0 a.hold for u)) refl)
-    (λ _ _. sym (ap (λ u. cond u (Some v) (amount_held p.0 (at_key p.1 accounts))) (and-false (xid_eq x p.0)))) refl
-    ∙ (λ j. cond (sym (touch_same p.0 x p.1 a.key) j) (Some v) (sym (hold_found accounts dist p.0 p.1) j)))
-    ∙ ap (λ s. finmap.insert (from_entries (hold_entries accounts)) (x, a.key) (s +ℤ d)) (sym (sum_is accounts dist x a.key ∙ ap (λ o. unwrap_or (amount_held x o) (pos 0)) at_a ∙ amount_for x a.hold for))
+-- the keys stay apart where x has added d at one account, and the sums are then these
+pub distinct_added : (accounts : List Account) (i : ℕ) (a : Account) (x : XidName) (d : ℤ) → AreDistinct accounts → a ≡ get_or accounts i a
+    → AreDistinct (set accounts i (added_to a x d))
+distinct_added accounts i a x d dist e = rw (keys_set accounts i a (added_to a x d) e refl) dist
+
+module _ (accounts : List Account) (i : ℕ) (a : Account) (x : XidName) (d : ℤ) (dist : AreDistinct accounts) (h : i < length accounts)
+    (e : a ≡ get_or accounts i a) (for : IsFor x a.hold) where
+  own_key : (added_to a x d).key ≡ (get_or accounts i (added_to a x d)).key
+  own_key = ap (λ (w : Account). w.key) (e ∙ sym (get_or_default accounts i (added_to a x d) a h))
+
+  found_added : (p : Touch) → find touch_cmp p (hold_entries (set accounts i (added_to a x d)))
+      ≡ cond (same_touch p (x, a.key)) (Some (amount_in a.hold +ℤ d)) (find touch_cmp p (hold_entries accounts))
+  found_added p =
+      grind (arith, (hold_found (set accounts i (added_to a x d)) (distinct_added accounts i a x d dist e) p.0 p.1), (hold_found accounts dist p.0 p.1), (at_key_set p.1 accounts i (added_to a x d) dist h own_key), (touch_same p.0 x p.1 a.key), (key_from p.1 a.key), (at_own_key accounts i a dist h e), for_other)
+
+  pub sums_added : from_entries {R = touch_cmp} (hold_entries (set accounts i (added_to a x d)))
+      ≡ finmap.insert (from_entries (hold_entries accounts)) (x, a.key) (sum_of (from_entries (hold_entries accounts)) x a.key +ℤ d)
+  sums_added =
+      put_one touch_cmp_total touch_cmp-IsAntisymmetric _ _ (x, a.key) (amount_in a.hold +ℤ d) found_added
+      ∙ ap (λ s. finmap.insert (from_entries (hold_entries accounts)) (x, a.key) (s +ℤ d)) (sym (sum_is accounts dist x a.key ∙ ap (λ o. unwrap_or (amount_held x o) (pos 0)) (at_own_key accounts i a dist h e) ∙ amount_for x a.hold for))
 
 pub passes_none : (p : Account → Bool) (accounts : List Account) (i : ℕ) (a : Account) → i < length accounts → a ≡ get_or accounts i a
     → list_any p accounts ≡ false → p a ≡ false
@@ -316,7 +317,7 @@ passes_none p accounts i a h e none = false_from_ne_true (p a) (λ t. let some =
 pub for_place : (accounts : List Account) (i : ℕ) (a : Account) (x : XidName) (k : List ℕ) → AreDistinct accounts → i < length accounts
     → a ≡ get_or accounts i a → a.key ≡ k
     → has_other_touched (from_entries (hold_entries accounts)) x k ≡ false → IsFor x a.hold
-for_place accounts i a x k dist h e same alone = grind (arith, passes_none, other_any, Decides-key_eq, Decides-xid_eq, not-false)
+for_place accounts i a x k dist h e same alone = grind (arith, other_any, at_own_key, Decides-xid_eq, not-false)
 
 pub any_set : (p : Account → Bool) (accounts : List Account) (i : ℕ) (a b : Account) → i < length accounts → a ≡ get_or accounts i a → p b ≡ p a
     → list_any p (set accounts i b) ≡ list_any p accounts
@@ -327,17 +328,12 @@ any_set p (c ∷ rest) (suc i) a b h e is = ap (λ t. p c || t) (any_set p rest 
 added_breaks : (x y : XidName) (v d : ℤ) (o : Option Hold) → y ≢ x → IsFor x o → hold_breaks v (Some (record { xid = x; amount = d })) y ≡ hold_breaks v o y
 added_breaks x y v d o apart h = grind (arith, false_from_ne_true, Decides-xid_eq)
 
--- the keys stay
-pub distinct_added : (accounts : List Account) (i : ℕ) (a : Account) (x : XidName) (d : ℤ) → AreDistinct accounts → i < length accounts
-    → a ≡ get_or accounts i a → AreDistinct (set accounts i (added_to a x d))
-distinct_added accounts i a x d dist h e = subst AreDistinctEntries (sym (values_set accounts i a (added_to a x d) h e refl refl)) dist
-
 -- another branch is broken as it was
 pub others_added : (accounts : List Account) (i : ℕ) (a : Account) (x : XidName) (d : ℤ) → AreDistinct accounts → i < length accounts → a ≡ get_or accounts i a
     → IsFor x a.hold → (y : XidName) → y ≢ x
     → is_broken (from_entries (value_entries (set accounts i (added_to a x d)))) (from_entries (hold_entries (set accounts i (added_to a x d)))) y ≡ is_broken (from_entries (value_entries accounts)) (from_entries (hold_entries accounts)) y
 others_added accounts i a x d dist h e for y apart =
-    broken_any (set accounts i (added_to a x d)) y (distinct_added accounts i a x d dist h e)
+    broken_any (set accounts i (added_to a x d)) y (distinct_added accounts i a x d dist e)
     ∙ any_set (λ b. is_broken_by b y) accounts i a (added_to a x d) h e (added_breaks x y a.value (amount_in a.hold +ℤ d) a.hold apart for)
     ∙ sym (broken_any accounts y dist)
 
@@ -370,13 +366,13 @@ all_kept n keep accounts g =
 pub all_posted : (n : ℕ) (x : XidName) (accounts : List Account) → All (IsGood n) accounts → list_any (λ a. is_broken_by a x) accounts ≡ false
     → All (IsGood n) (map (posted_by x) accounts)
 all_posted n x accounts g e =
-    All-map (IsGood n) (posted_by x) accounts (λ k d h.
-    good_posted n x (get_or accounts k d) (g k d h) (false_from_ne_true _ (λ t. let some = list_any_at (λ a. is_broken_by a x) accounts k d h t in cc)))
+    All-map (IsGood n) (posted_by x) accounts (λ k d h. let a = get_or accounts k d in
+    good_posted n x a (g k d h) (passes_none (λ b. is_broken_by b x) accounts k a h (get_or_default accounts k d a h) e))
 
 pub all_added : (n i : ℕ) (a : Account) (x : XidName) (d : ℤ) (accounts : List Account) → IsDelta d → i < length accounts → a ≡ get_or accounts i a
     → All (IsGood n) accounts → All (IsGood (n + 1)) (set accounts i (added_to a x d))
 all_added n i a x d accounts delta h e g k b j =
-    let here : IsGood n a = subst (IsGood n) (sym e) (g i a h) in
+    let here : IsGood n a = rw e (g i a h) in
     let new : IsGood (n + 1) (added_to a x d) = (here.0, here.1, small_added n x d a.hold delta here.2) in
     search (arith, nat_eq, get_or-set_at, eqb-true, length-set, get_or-set_other, eq-eqb, small_more)
 
@@ -388,11 +384,5 @@ small_prepared keep v o g unbroken = grind (arith, not-false, Decides-xid_eq, wi
 pub all_prepared : (n : ℕ) (keep : XidName → Bool) (accounts : List Account) → All (IsGood n) accounts
     → ((x : XidName) → keep x ≡ true → list_any (λ a. is_broken_by a x) accounts ≡ false) → All (IsGood 1) (map (kept_where keep) accounts)
 all_prepared n keep accounts g unbroken =
-    All-map (IsGood 1) (kept_where keep) accounts (λ k d h.
-    let a : Account = get_or accounts k d in
-    let good : IsGood n a = g k d h in (
-      good.0,
-      good.1,
-      small_prepared keep a.value a.hold (good.0, good.1) (λ x voted.
-          false_from_ne_true _ (λ t. let some = list_any_at (λ b. is_broken_by b x) accounts k d h t in let none = unbroken x voted in cc)),
-    ))
+    All-map (IsGood 1) (kept_where keep) accounts (λ k d h. let a = get_or accounts k d in let good : IsGood n a = g k d h in
+    (good.0, good.1, small_prepared keep a.value a.hold (good.0, good.1) (λ x voted. passes_none (λ b. is_broken_by b x) accounts k a h (get_or_default accounts k d a h) (unbroken x voted))))

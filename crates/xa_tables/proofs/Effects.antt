@@ -1,14 +1,14 @@
 -- What one request does to the tables. The rules are walked here alone: a law of all requests is one of their effects.
-use Rattle.xa_base.proofs.{◌≡◌, ℕ, ℤ, pos, Bool, true, false, not, ◌&&◌, ◌||◌, if◌then◌else◌, Option, None, Some, List, refl, arith, ap, ◌∙◌, ◌⊎◌, or-true}
-use Rattle.xa_base.proofs.{not-false, by_if, sym, subst}
+use Rattle.xa_base.proofs.{rules, ◌≡◌, ℕ, ℤ, pos, Bool, true, false, not, ◌&&◌, ◌||◌, if◌then◌else◌, Option, None, Some, List, refl, arith, ap, ◌∙◌, ◌⊎◌}
+use Rattle.xa_base.proofs.{or-true, not-false, by_if}
 use Rattle.xa_words.specs.{XidName, xid_eq, Done, RdOnly, RbRollback, RbIntegrity, RbTransient, Async, RmErr, Nota, Inval, Proto, RmFail, DupId, Outside, Op}
 use Rattle.xa_words.specs.{OpenRm, CloseRm, Start, Add, End, Prepare, Commit, Rollback, Forget, Heur, Listed, Shut, StartHow, Fresh, Join, Resume, EndHow}
 use Rattle.xa_words.specs.{Success, Suspend, Fail, Code}
-use Rattle.xa_tables.specs.{State, Active, Idle, RollbackOnly, Failed, Transient, Association, association_of, has_association, is_T1, branch_in, state_of}
-use Rattle.xa_tables.specs.{exists, is_S4, is_suspended, is_associated, is_prepared, is_rollback_only, is_completed, is_left, is_S5, reason_in, reason_of}
-use Rattle.xa_tables.specs.{decision_in, is_somebody_associated, is_declared, has_other_touched, is_broken, Answer, next, by_rules, open_rm, close_rm, start}
-use Rattle.xa_tables.specs.{add, end, prepare, commit_one, commit_two, rollback, heur, forget, listed, is_suspend, associated, suspended, dissociated, stated}
-use Rattle.xa_tables.specs.{added, gone, completed, committed, shut_down, Fate, ReadOnly, RolledBack, fate_of, if_named, commit_fate, rollback_fate, ending_by}
+use Rattle.xa_tables.specs.{State, Active, Idle, RollbackOnly, Failed, Transient, Association, association_of, has_association, state_of, exists, is_S4}
+use Rattle.xa_tables.specs.{is_suspended, is_associated, is_prepared, is_rollback_only, is_completed, is_left, is_S5, reason_in, reason_of, decision_in}
+use Rattle.xa_tables.specs.{is_somebody_associated, is_declared, has_other_touched, is_broken, Answer, next, by_rules, open_rm, close_rm, start, add, end}
+use Rattle.xa_tables.specs.{prepare, commit_one, commit_two, rollback, heur, forget, listed, is_suspend, associated, suspended, dissociated, stated, added}
+use Rattle.xa_tables.specs.{gone, completed, committed, shut_down, Fate, ReadOnly, RolledBack, fate_of, if_named, commit_fate, rollback_fate, ending_by}
 use Rattle.xa_tables.specs.{is_done, is_rolled_back, share_of, names, moved_by, held_by, Tables, sums_without, Live, InDoubt, Committed, HeurCommitted}
 use Rattle.xa_tables.specs.{HeurRolledBack, ending}
 use Rattle.xa_tables.specs.declared.state.State.TheVariants.{Prepared as S3}
@@ -48,12 +48,9 @@ is_error c = false
 pub named_none : (x y : XidName) → if_named x y None ≡ None
 named_none x y = elim (xid_eq y x) as (λ b. ◌≡◌ {A = Option Fate} (if b then None else None) None) [ true ↦ refl | false ↦ refl ]
 
-no_share : (b : Bool) (z : ℤ) → (if b && false then z else pos 0) ≡ pos 0
-no_share b z = grind arith
-
 -- an addition with another code than XA_OK tells nothing
 pub undone_adds : (own : List ℕ) (d : ℤ) (c : Code) → is_done c ≡ false → TellsNothing (Add own d) c
-undone_adds own d c e = grind (arith, no_share)
+undone_adds own d c e = grind (arith)
 
 -- an error tells nothing, whatever was requested
 pub error_tells : (op : Op) (c : Code) → is_error c ≡ true → TellsNothing op c
@@ -69,10 +66,6 @@ decision_commits_nothing o e = grind arith
 
 pub decision_rolls_nothing_back : (o : Option State) → is_S5 o ≡ true → rollback_fate (decision_in o) ≡ None
 decision_rolls_nothing_back o e = grind arith
-
--- nor does it move any worth
-undone_commit : (c : Code) → commit_fate c ≡ None → is_done c ≡ false
-undone_commit c e = grind arith
 
 not_done : (r : Code) → is_rolled_back r ≡ true → is_done r ≡ false
 not_done r e = grind arith
@@ -141,38 +134,25 @@ module _ (t : ℕ) (T : Tables) where
   at_start Join y = grind (arith, refuses, join_stays, Joins)
   at_start Resume y = grind (arith, refuses, Resumes)
 
-  -- the rule of an addition by a thread with this association
-  abbrev add_with : Option Association → List ℕ → ℤ → Answer
-  add_with o k d =
-      if not (is_T1 o) then (T, Proto)
-      else if not (is_declared T k) then (T, Inval)
-      else if is_rollback_only T (branch_in o) then (T, reason_of T (branch_in o))
-      else if has_other_touched T.sums (branch_in o) k then (stated (branch_in o) (RollbackOnly Transient) T, RbTransient)
-      else (added (branch_in o) k d T, Done)
+  doomed_add : (k : List ℕ) (d : ℤ) (y : XidName) → is_rollback_only T y ≡ true → Effect t T (Add k d) (T, reason_of T y)
+  doomed_add k d y doomed =
+      Stays (Add k d) (reason_of T y) (undone_adds k d (reason_of T y) (not_done (reason_of T y) (reason_rolls_back (state_of T y) doomed)))
 
   at_add : (k : List ℕ) (d : ℤ) → Effect t T (Add k d) (add t k d T)
-  at_add k d =
-      elim (association_of T t) as (λ o. association_of T t ≡ o → Effect t T (Add k d) (add_with o k d)) [
-        | None ↦ λ _. refuses refl
-        | Some l ↦ λ own.
-            at_if (not (is_T1 (Some l))) (λ _. refuses refl) (λ _.
-            at_if (not (is_declared T k)) (λ _. refuses refl) (λ known.
-            at_if (is_rollback_only T l.xid) (λ doomed. Stays (Add k d) (reason_of T l.xid) (undone_adds k d (reason_of T l.xid) (not_done (reason_of T l.xid) (reason_rolls_back (state_of T l.xid) doomed)))) (λ _.
-            at_if (has_other_touched T.sums l.xid k) (λ _. Dooms k d l own) (λ alone. Adds k d l own (not-false (is_declared T k) known) alone))))
-      ] refl
+  at_add k d = grind (arith, refuses, doomed_add, Dooms, Adds, not-false)
 
-  -- an xa_end, with what it does where t may end its work and y isn't doomed
+  -- an xa_end of a branch that can only be rolled back
+  doomed_end : (how : EndHow) (y : XidName) → is_associated T t y ≡ true → is_rollback_only T y ≡ true → Effect t T (End y how) (dissociated t T, reason_of T y)
+  doomed_end how y own doomed = Leaves y how (reason_of T y) own (ap (λ b. b || is_somebody_associated (dissociated t T).associations y) doomed)
+
+  -- and any, with what it does where t may end its work and y isn't doomed
   at_end_by : (how : EndHow) (y : XidName) (last : Answer) → (is_associated T t y ≡ true → Effect t T (End y how) last)
       → Effect t T (End y how) (if not (is_associated T t y) && not (exists T y) then (T, Nota)
       else if not (is_associated T t y) then (T, Proto)
       else if is_suspend how && is_suspended T t then (T, Proto)
       else if is_rollback_only T y then (dissociated t T, reason_of T y)
       else last)
-  at_end_by how y last ends =
-      at_if (not (is_associated T t y) && not (exists T y)) (λ _. refuses refl) (λ _.
-      at_if (not (is_associated T t y)) (λ _. refuses refl) (λ own.
-      at_if (is_suspend how && is_suspended T t) (λ _. refuses refl) (λ _.
-      at_if (is_rollback_only T y) (λ doomed. Leaves y how (reason_of T y) (not-false _ own) (ap (λ b. b || is_somebody_associated (dissociated t T).associations y) doomed)) (λ _. ends (not-false _ own)))))
+  at_end_by how y last ends = grind (arith, refuses, doomed_end, not-false, ends)
 
   at_end : (how : EndHow) (y : XidName) → Effect t T (End y how) (end how t y T)
   at_end Suspend y = at_end_by Suspend y (suspended t y T, Done) (Suspends y)
@@ -199,7 +179,7 @@ module _ (t : ℕ) (T : Tables) where
   commit_told y c none = Stays (Commit y false) c (record {
     fates = λ x. ap (if_named x y) none ∙ named_none x y;
     shares = λ k l later. refl;
-    moved = λ accounts U. ap (λ b. if b then held_by accounts y U else pos 0) (undone_commit c none);
+    moved = search (arith, rules);
   })
 
   at_commit : (one_phase : Bool) (y : XidName) → Effect t T (Commit y one_phase) (if one_phase then commit_one y T else commit_two y T)
@@ -282,8 +262,7 @@ module _ (t : ℕ) (T : Tables) where
   by_effect (Joins y free there unprepared) = Still _ _ _ refl refl (λ k l later. refl) (λ accounts. refl) (λ x. quiet_named x y None refl)
   by_effect (Resumes y own) = Still _ _ _ refl refl (λ k l later. refl) (λ accounts. refl) (λ x. quiet_named x y None refl)
   by_effect (Dooms own d l mine) = Still _ _ _ refl refl (undone_adds own d RbTransient refl).shares (λ accounts. refl) (λ x. refl)
-  by_effect (Adds own d l mine known alone) =
-      subst (λ (o : Option Association). Moves T o (Add own d) (added l.xid own d T, Done)) (sym mine) (Added own d l known alone)
+  by_effect (Adds own d l mine known alone) = rw mine (Added own d l known alone)
   by_effect (Prepares y nobody unbroken) = Still _ _ _ refl refl (λ k l later. refl) (λ accounts. refl) (λ x. quiet_named x y (Some InDoubt) refl)
   by_effect (Commits y one_phase nobody may) = Ended _ _ _ y true refl refl (λ k l later. refl) (λ accounts. refl) (λ x. named_ending x y (Some Committed))
   by_effect (Drops op y c nobody tells) =

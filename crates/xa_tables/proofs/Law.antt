@@ -1,18 +1,18 @@
 -- What comes after the first Shut, what the state of a branch tells of its fate, and that nobody is associated with a branch that isn't at work.
-use Rattle.xa_base.proofs.{◌≡◌, ℕ, true, false, if◌then◌else◌, [], ◌∷◌, refl, arith, sym, ap, ◌∙◌, subst, by_bool, ◌++◌, map, cons_option, ◌≢◌, cond, ◌||◌}
-use Rattle.xa_base.proofs.{Option, None, Some, is_some, unwrap_or, List, get-empty, get-insert, get-remove, nat_cmp, or_from, false_from_ne_true}
-use Rattle.xa_words.specs.{XidName, Done, RmFail, Op, Shut, Request, xid_eq, xid_cmp_total, Decides-xid_eq, xid_eq-by_cmp}
-use Rattle.xa_tables.specs.{Tables, Answer, next, if_opened, by_rules, shut_down, tables_after, is_shut, accepted, coded, fates_in, History, codes, first_shut}
-use Rattle.xa_tables.specs.{late, LateAreRefused, LateChangeNothing, Fate, fate, fate_in, fate_of, last_or, State, Active, Idle, RollbackOnly}
-use Rattle.xa_tables.specs.{HeuristicallyCompleted, HeuristicDecision, Association, association_of, state_of, is_S3, is_S5, Failed, Transient, Live, InDoubt}
-use Rattle.xa_tables.specs.{Committed, HeurCommitted, HeurRolledBack, if_named, is_associated, is_somebody_associated, gone, stated, ending_by, Absent}
-use Rattle.xa_tables.specs.{is_in_doubt, is_unfinished, decided_fate, IsOpening, told_by, AreAssociationsLive}
-use Rattle.xa_tables.proofs.Effects.{TellsNothing, error_tells, Effect, effect_of, Stays, Joins, Resumes, Fails, Idles, Dooms, Prepares, Commits, Drops}
-use Rattle.xa_tables.proofs.Effects.{CommitsByItself, Suspends, RollsBackByItself, Forgets, Starts, named_none}
+use Rattle.xa_tables.specs.{Failed, Transient, stated, Live, InDoubt, Committed, HeurCommitted, HeurRolledBack, if_named, Tables, Answer, next, if_opened}
+use Rattle.xa_tables.specs.{by_rules, shut_down, tables_after, is_shut, accepted, coded, fates_in, History, codes, LateAreRefused, LateChangeNothing, Fate}
+use Rattle.xa_tables.specs.{fate, fate_in, fate_of, last_or, State, Active, Idle, RollbackOnly, HeuristicallyCompleted, HeuristicDecision, Association}
+use Rattle.xa_tables.specs.{association_of, state_of, is_S3, is_S5, is_associated, is_somebody_associated, ending_by, Absent, is_in_doubt, is_unfinished}
+use Rattle.xa_tables.specs.{decided_fate, IsOpening, told_by, AreAssociationsLive}
+use Rattle.xa_words.specs.{xid_eq, XidName, Done, RmFail, Op, Shut, Request, Decides-xid_eq}
+use Rattle.xa_tables.proofs.Effects.{Starts, TellsNothing, error_tells, Effect, effect_of, Stays, Joins, Resumes, Fails, Idles, Dooms, Prepares, Commits, Drops}
+use Rattle.xa_tables.proofs.Effects.{CommitsByItself, Suspends, RollsBackByItself, Forgets, named_none}
+use Rattle.xa_base.proofs.{◌≡◌, ℕ, true, false, if◌then◌else◌, [], ◌∷◌, refl, arith, sym, ap, ◌∙◌, by_bool, map, cons_option, ◌≢◌, ◌||◌, Option, None, Some}
+use Rattle.xa_base.proofs.{is_some, unwrap_or, List, get-empty, nat_cmp, or_from, false_from_ne_true}
 use Rattle.xa_words.proofs.Xids.{xid_self}
 use Rattle.xa_tables.specs.declared.state.State.TheVariants.{Prepared as S3}
-pub use Rattle.xa_tables.proofs.SoundLemmas.{swap_xid}
-use Rattle.xa_tables.proofs.SoundLemmas.{apart_from, nobody_with, somebody_put, somebody_own}
+pub use Rattle.xa_tables.proofs.SoundLemmas.{swap_xid, get_put, get_gone}
+use Rattle.xa_tables.proofs.SoundLemmas.{state_rules, apart_from, nobody_with, somebody_put, somebody_own}
 use Rattle.std.specs.FinMap as map
 use Rattle.xa_tables.specs.declared.state.HeuristicDecision.TheVariants as decision
 
@@ -50,7 +50,7 @@ module _ {A : Type 0} (F : History → Tables → A)
       by_bool (λ b. is_shut r.op ≡ b → F (if b then [] else r ∷ accepted h) T ≡ F (r ∷ h) T) (is_shut r.op) (λ e _.
       let is = shut_op r.op e in
       by_bool (λ _. F [] T ≡ F (r ∷ h) T) (T.shut) (λ s. sym (all_quiet (r ∷ h) T s)) (λ s.
-      sym (quiet r h T (shut_down T, Done) (ap (λ (o : Op). next r.thread o T) is ∙ next-Shut r.thread T s) (subst (λ (o : Op). TellsNothing o Done) (sym is) shut_tells)
+      sym (quiet r h T (shut_down T, Done) (ap (λ (o : Op). next r.thread o T) is ∙ next-Shut r.thread T s) (rw is shut_tells)
       ∙ all_quiet h (shut_down T) refl ∙ end T))) (λ _ _. more r h T (accepted_read end more h (next r.thread r.op T).0)) refl
 
 -- a manager that is shut leaves its tables
@@ -85,12 +85,7 @@ from_shut t op h T is s = grind (arith, next-Shut, all_refused)
 
 pub late_are_refused : (h : History) (T : Tables) → T.shut ≡ false → LateAreRefused h T
 late_are_refused [] T s = refl
-late_are_refused (r ∷ h) T s =
-    elim (is_shut r.op) as (λ b. is_shut r.op ≡ b → (next r.thread r.op T).1 ∷ codes h (next r.thread r.op T).0
-    ≡ codes (if b then [] else r ∷ accepted h) T ++ (map (λ (q : Request). Done) (if b then r ∷ [] else first_shut h) ++ map (λ (q : Request). RmFail) (if b then h else late h))) [
-      | true ↦ λ e. from_shut r.thread r.op h T (shut_op r.op e) s
-      | false ↦ λ e. ap (λ cs. (next r.thread r.op T).1 ∷ cs) (late_are_refused h (next r.thread r.op T).0 (stays_open r.thread r.op T e ∙ s))
-    ] refl
+late_are_refused (r ∷ h) T s = grind (arith, (late_are_refused h (next r.thread r.op T).0), from_shut, shut_op, stays_open)
 
 pub late_change_nothing : (h : History) (T : Tables) → LateChangeNothing h T
 late_change_nothing h T = after_accepted shut_down (λ _. refl) h T
@@ -154,21 +149,12 @@ decided_ended d = grind (arith, none_tells)
 
 -- a decision that is forgotten was made
 forgotten_tells : (o : Option State) (f : Fate) → is_S5 o ≡ true → Tells o f → Tells None f
-forgotten_tells (Some (HeuristicallyCompleted d)) f e h = subst (Tells None) (sym (h.decided d refl)) (decided_ended d)
+forgotten_tells (Some (HeuristicallyCompleted d)) f e h = rw (h.decided d refl) (decided_ended d)
 forgotten_tells o f e h = cc
 
 -- so is a branch that ends without a commit
 dropped_tells : (f : Fate) → ending_by f ≡ Some false → Tells None f
 dropped_tells f e = grind (arith, none_tells)
-
--- ---- the state of x after a change of the branch y
-
--- the state of x after y was put into s, and after y is gone
-pub get_put : (T : Tables) (y x : XidName) (s : State) → state_of (stated y s T) x ≡ (if xid_eq y x then Some s else state_of T x)
-get_put T y x s = get-insert xid_cmp_total T.states y s x ∙ ap (λ b. cond b (Some s) (state_of T x)) (sym (xid_eq-by_cmp x y) ∙ swap_xid x y)
-
-pub get_gone : (T : Tables) (y x : XidName) → state_of (gone y T) x ≡ (if xid_eq y x then None else state_of T x)
-get_gone T y x = get-remove xid_cmp_total T.states y x ∙ ap (λ b. cond b None (state_of T x)) (sym (xid_eq-by_cmp x y) ∙ swap_xid x y)
 
 -- ---- what each request keeps
 
@@ -194,7 +180,7 @@ pub own_works : (T : Tables) → Sound T → (t : ℕ) (y : XidName) → is_asso
 own_works T s t y = grind (arith, Decides-xid_eq, associated_works)
 
 -- what the changes of a branch and of an association leave
-pub ruleset changes = (get_put, get_gone, somebody_put, somebody_own, Decides-xid_eq)
+pub ruleset changes = (state_rules, somebody_put, somebody_own)
 
 module _ (t : ℕ) (T : Tables) (s : Sound T) where
   sound_by : {op : Op} {a : Answer} → Effect t T op a → Sound a.0
@@ -216,7 +202,7 @@ module _ (t : ℕ) (T : Tables) (s : Sound T) where
   works_on : (x : XidName) (f : Fate) → Tells (state_of T x) f → (y : XidName) (o : State) → standing (state_of T y) ≡ AtWork → standing (Some o) ≡ AtWork
       → Tells (state_of (stated y o T) x) f
   works_on x f h y o was now =
-      alike x f h y (Some o) _ (get_put T y x o) (λ e. works_tells (state_of T x) (Some o) f (ap (λ z. standing (state_of T z)) (sym e) ∙ was) now h)
+      alike x f h y (Some o) _ (get_put T.states y x o) (λ e. works_tells (state_of T x) (Some o) f (ap (λ z. standing (state_of T z)) (sym e) ∙ was) now h)
 
   -- the state of x, once y has another and its request makes g of it
   changed : (x : XidName) (f : Fate) → Tells (state_of T x) f → (y : XidName) (o p : Option State) (g : Option Fate)
@@ -226,21 +212,23 @@ module _ (t : ℕ) (T : Tables) (s : Sound T) where
   -- the state of x tells what becomes of it
   tells_by : (x : XidName) (f : Fate) → Tells (state_of T x) f → {op : Op} {a : Answer} → Effect t T op a
       → Tells (state_of a.0 x) (unwrap_or (fate_of x op a.1) f)
-  tells_by x f h (Stays op c tells) = subst (λ g. Tells (state_of T x) (unwrap_or g f)) (sym (tells.fates x)) h
+  tells_by x f h (Stays op c tells) = rw (tells.fates x) h
   tells_by x f h (Joins y free there unprepared) = search (arith, named_none, works_on, works)
   tells_by x f h (Fails y own) = works_on x f h y (RollbackOnly Failed) (own_works T s t y own) refl
   tells_by x f h (Idles y own alone) = works_on x f h y Idle (own_works T s t y own) refl
   tells_by x f h (Dooms k d l own) = works_on x f h l.xid (RollbackOnly Transient) (associated_works T s t l own) refl
   tells_by x f h (Drops op y c nobody tells) = search (arith, changed, get_gone, dropped_tells, tells.fates)
-  tells_by x f h (Forgets y is) = alike x f h y None _ (get_gone T y x) (λ e. forgotten_tells (state_of T x) f (ap (λ z. is_S5 (state_of T z)) (sym e) ∙ is) h)
-  tells_by x f h (Starts y free) = changed x f h y (Some Active) _ (Some Live) (get_put T y x Active) (told_tells (Some Active))
-  tells_by x f h (Prepares y nobody unbroken) = changed x f h y (Some S3) _ (Some InDoubt) (get_put T y x S3) (told_tells (Some S3))
-  tells_by x f h (Commits y one_phase nobody may) = changed x f h y None _ (Some Committed) (get_gone T y x) (none_tells Committed refl refl)
+  tells_by x f h (Forgets y is) =
+      alike x f h y None _ (get_gone T.states y x) (λ e. forgotten_tells (state_of T x) f (ap (λ z. is_S5 (state_of T z)) (sym e) ∙ is) h)
+  tells_by x f h (Starts y free) = changed x f h y (Some Active) _ (Some Live) (get_put T.states y x Active) (told_tells (Some Active))
+  tells_by x f h (Prepares y nobody unbroken) = changed x f h y (Some S3) _ (Some InDoubt) (get_put T.states y x S3) (told_tells (Some S3))
+  tells_by x f h (Commits y one_phase nobody may) = changed x f h y None _ (Some Committed) (get_gone T.states y x) (none_tells Committed refl refl)
   tells_by x f h (CommitsByItself y voted) =
-      let s = HeuristicallyCompleted decision.Commit in changed x f h y (Some s) _ (Some HeurCommitted) (get_put T y x s) (decided_tells decision.Commit)
+      let s = HeuristicallyCompleted decision.Commit in changed x f h y (Some s) _ (Some HeurCommitted) (get_put T.states y x s) (decided_tells decision.Commit)
   tells_by x f h (RollsBackByItself y voted) =
-      let s = HeuristicallyCompleted decision.Rollback in changed x f h y (Some s) _ (Some HeurRolledBack) (get_put T y x s) (decided_tells decision.Rollback)
-  tells_by x f h (Resumes y own) = subst (λ g. Tells (state_of T x) (unwrap_or g f)) (sym (named_none x y)) h
+      let s = HeuristicallyCompleted decision.Rollback in
+      changed x f h y (Some s) _ (Some HeurRolledBack) (get_put T.states y x s) (decided_tells decision.Rollback)
+  tells_by x f h (Resumes y own) = rw (named_none x y) h
   -- the others change no state, and tell nothing
   tells_by x f h effect = h
 
@@ -256,8 +244,7 @@ run [] x f T s h = h
 run (r ∷ H) x f T s h =
     let T1 : Tables = (next r.thread r.op T).0 in
     let o : Option Fate = fate_of x r.op (next r.thread r.op T).1 in
-    subst (Tells (state_of (tables_after H T1) x)) (last_more f o (fates_in x (coded H T1)))
-    (run H x (unwrap_or o f) T1 (sound_after r.thread r.op T s) (tells_by r.thread T s x f h (effect_of r.thread r.op T)))
+    rw (last_more f o (fates_in x (coded H T1))) at (run H x (unwrap_or o f) T1 (sound_after r.thread r.op T s) (tells_by r.thread T s x f h (effect_of r.thread r.op T)))
 
 pub run_sound : (h : History) (T : Tables) → Sound T → Sound (tables_after h T)
 run_sound [] T s = s

@@ -1,14 +1,13 @@
 -- The laws of prepared branches: they stay prepared, and await the outcome; only a prepared branch is decided, and by a manager that isn't shut; only a
 -- completed one tells its decision; and what a Prepare and a Shut leave.
-use Rattle.xa_base.proofs.{◌≡◌, ℕ, true, false, not, ◌&&◌, ◌||◌, ◌==◌, [], ◌∷◌, sym, ap, ◌∙◌, or-true, false_from_ne_true, eq-eqb, All-head, All-tail, nat_cmp}
-use Rattle.xa_base.proofs.{eq_by_cmp, nat_cmp_total, All, nat_cmp-IsAntisymmetric, is_equal, Bool, if◌then◌else◌, Option, None, Some, refl, arith, subst}
-use Rattle.xa_base.proofs.{cons_option, not-false, by_if, at_true, List, ◌++◌, get_or, contains-insert, contains-remove}
-use Rattle.xa_words.specs.{Op, Request, XidName, xid_eq, Decides-xid_eq, Done, Commit, Rollback, Forget, Heur, Code, RbIntegrity, RmFail, Prepare}
-use Rattle.xa_tables.specs.{Tables, has_opened, Answer, next, tables_after, is_close, closes, History, State, HeuristicallyCompleted, HeuristicDecision}
-use Rattle.xa_tables.specs.{state_of, exists, is_S5, is_prepared, is_completed, decision_in, decision_of, decision_code, completed, committed, HeurCommitted}
-use Rattle.xa_tables.specs.{HeurRolledBack, fate_of, fates_in, coded, decided_fate, heur_fate, names, is_heur, is_forget, OnlyDecides, IsTold, is_S3}
-use Rattle.xa_tables.specs.{is_somebody_associated, is_shut, is_rolled_back, IsOpening, NamesNowhere, LeavesWaiting, has_shut, IsPrepared, StaysPrepared}
-use Rattle.xa_tables.specs.{AwaitsTheOutcome, AwaitsAfter}
+use Rattle.xa_base.proofs.{rules, if◌then◌else◌, by_if, ◌≡◌, ℕ, true, false, not, ◌&&◌, ◌||◌, ◌==◌, [], ◌∷◌, sym, ap, ◌∙◌, or-true, false_from_ne_true, eq-eqb}
+use Rattle.xa_base.proofs.{All-head, All-tail, nat_cmp, eq_by_cmp, nat_cmp_total, All, nat_cmp-IsAntisymmetric, is_equal, Bool, None, Some, refl, arith}
+use Rattle.xa_base.proofs.{cons_option, not-false, at_true, List, ◌++◌, contains-insert, contains-remove}
+use Rattle.xa_tables.specs.{committed, exists, completed, Tables, has_opened, Answer, next, tables_after, is_close, closes, History, HeuristicallyCompleted}
+use Rattle.xa_tables.specs.{HeuristicDecision, state_of, is_prepared, is_completed, decision_of, decision_code, fate_of, fates_in, coded, decided_fate, names}
+use Rattle.xa_tables.specs.{is_heur, is_forget, OnlyDecides, IsTold, is_S3, is_somebody_associated, is_rolled_back, IsOpening, NamesNowhere, LeavesWaiting}
+use Rattle.xa_tables.specs.{has_shut, IsPrepared, StaysPrepared, AwaitsTheOutcome, AwaitsAfter}
+use Rattle.xa_words.specs.{xid_eq, Op, Request, XidName, Decides-xid_eq, Done, Commit, Rollback, Forget, Heur, Code, RbIntegrity, RmFail, Prepare}
 use Rattle.xa_tables.proofs.Effects.{Effect, Opens, Closes, effect_of, Drops, named_none}
 use Rattle.xa_words.proofs.Xids.{xid_self}
 use Rattle.xa_tables.proofs.Law.{all_quiet, fates_quiet, next-Shut, shut_op, shut_stays, stays_open, get_put, get_gone, Sound, Nowhere, AtWork, standing}
@@ -25,23 +24,20 @@ pub data Decides (x : XidName) (op : Op) (T : Tables) (a : Answer) : Type 0 wher
   Completes : (d : HeuristicDecision) → is_prepared T x ≡ true → state_of a.0 x ≡ Some (HeuristicallyCompleted d) → a.0.opened ≡ T.opened
       → fate_of x op a.1 ≡ Some (decided_fate d) → Decides x op T a
 
-put_here : (T : Tables) (x : XidName) (s : State) → (if xid_eq x x then Some s else state_of T x) ≡ Some s
-put_here T x s = at_true (xid_eq x x) _ _ (xid_self x)
+by_itself : (x : XidName) (commits : Bool) (T : Tables) → is_prepared T x ≡ true
+    → Decides x (Heur x commits) T (if commits then (completed x decision.Commit (committed x T), Done) else (completed x decision.Rollback T, Done))
+by_itself x true T voted =
+    Completes decision.Commit voted (get_put T.states x x _ ∙ at_true (xid_eq x x) _ _ (xid_self x)) refl (at_true (xid_eq x x) _ None (xid_self x))
+by_itself x false T voted =
+    Completes decision.Rollback voted (get_put T.states x x _ ∙ at_true (xid_eq x x) _ _ (xid_self x)) refl (at_true (xid_eq x x) _ None (xid_self x))
 
 heur_step : (t : ℕ) (x : XidName) (commits : Bool) (T : Tables) → Decides x (Heur x commits) T (next t (Heur x commits) T)
 unfolding next
 heur_step t x commits T =
     let P : Answer → Type 0 = Decides x (Heur x commits) T in
-    let posted : Tables = record (committed x T) { sums = (completed x decision.Commit (committed x T)).sums } in
-    let dropped : Tables = record T { sums = (completed x decision.Rollback T).sums } in
-    let by_decision : (b : Bool) → commits ≡ b → fate_of x (Heur x commits) Done ≡ Some (if b then HeurCommitted else HeurRolledBack) = λ b e.
-    at_true (xid_eq x x) _ None (xid_self x) ∙ ap (λ c. heur_fate c Done) e in
     by_if P (T.shut) _ _ (λ _. Nothing refl (named_none x x)) (λ _.
     by_if P (not (exists T x)) _ _ (λ _. Nothing refl (named_none x x)) (λ _.
-    by_if P (not (is_prepared T x)) _ _ (λ _. Nothing refl (named_none x x)) (λ voted.
-    by_if P commits _ _
-    (λ e. Completes decision.Commit (not-false _ voted) (get_put posted x x (HeuristicallyCompleted decision.Commit) ∙ put_here posted x (HeuristicallyCompleted decision.Commit)) refl (by_decision true e))
-    (λ e. Completes decision.Rollback (not-false _ voted) (get_put dropped x x (HeuristicallyCompleted decision.Rollback) ∙ put_here dropped x (HeuristicallyCompleted decision.Rollback)) refl (by_decision false e)))))
+    by_if P (not (is_prepared T x)) _ _ (λ _. Nothing refl (named_none x x)) (λ voted. by_itself x commits T (not-false _ voted))))
 
 heur_op : (x : XidName) (op : Op) → names x op ≡ true → is_heur op ≡ true → (commits : Bool) × (op ≡ Heur x commits)
 heur_op x op n h = grind (arith, Decides-xid_eq)
@@ -49,7 +45,7 @@ heur_op x op n h = grind (arith, Decides-xid_eq)
 pub decides : (t : ℕ) (x : XidName) (op : Op) (T : Tables) → names x op ≡ true → is_heur op ≡ true → Decides x op T (next t op T)
 decides t x op T n h =
     let z = heur_op x op n h in
-    subst (λ (o : Op). Decides x o T (next t o T)) (sym z.1) (heur_step t x z.0 T)
+    rw z.1 (heur_step t x z.0 T)
 
 -- ---- a branch that isn't prepared
 
@@ -100,15 +96,12 @@ quiet_shut g x T s = all_quiet (λ h U. fates_in x (coded h U)) (fates_quiet x) 
 
 -- ---- who is told a decision
 
-completed_with : (o : Option State) (d : HeuristicDecision) → is_S5 o ≡ true → decision_in o ≡ decision_code d → o ≡ Some (HeuristicallyCompleted d)
-completed_with o d is e = grind arith
-
 module _ (t : ℕ) (x : XidName) (d : HeuristicDecision) (T : Tables) where
   abbrev Told : Answer → Type 0
   Told a = a.1 ≡ decision_code d → IsTold x d T a
 
   as_decided : is_completed T x ≡ true → Told (T, decision_of T x)
-  as_decided is e = record { state = completed_with (state_of T x) d is e; unchanged = refl }
+  as_decided is e = search (arith, rules)
 
   pub commit_tells : Told (next t (Commit x false) T)
   unfolding next
@@ -119,7 +112,6 @@ module _ (t : ℕ) (x : XidName) (d : HeuristicDecision) (T : Tables) where
   rollback_tells = grind (arith, as_decided)
 
 -- ---- a thread that has the manager open keeps it open until its own CloseRm
-
 another : (t u : ℕ) → (t == u) ≡ false → eq_by_cmp nat_cmp u t ≡ false
 another t u apart = false_from_ne_true _ (λ e. let same = eq-eqb t u (sym (nat_cmp-IsAntisymmetric u t (is_equal _ e))) in cc)
 
@@ -197,9 +189,6 @@ Waiting t x r = (names x r.op ≡ true → is_heur r.op ≡ true) × (closes t r
 opened_one : (r : Request) (t : ℕ) (T : Tables) → has_opened T t ≡ true → closes t r ≡ false → has_opened (next r.thread r.op T).0 t ≡ true
 opened_one r t T o n = leaves_open r.thread t T (effect_of r.thread r.op T) o n
 
-only_decides : (t : ℕ) (x : XidName) (g : History) → LeavesWaiting t x g → OnlyDecides x g
-only_decides t x g n k d lt named = ap (λ b. b || is_forget (get_or g k d).op) ((n k d lt).0 named)
-
 -- a completed branch stays completed with its decision
 completed_on : (g : History) (t : ℕ) (x : XidName) (d : HeuristicDecision) (T : Tables) → Sound T → state_of T x ≡ Some (HeuristicallyCompleted d)
     → has_opened T t ≡ true → LeavesWaiting t x g
@@ -228,7 +217,7 @@ waits_past r g t x T s still n on p (Nothing same none) =
     record { decision = later.decision; fates = ap (λ f. cons_option f (fates_in x (coded g (next r.thread r.op T).0))) none ∙ later.fates; awaits = later.awaits }
 waits_past r g t x T s still n on p (Completes d voted state opened fate) =
     let T1 : Tables = (next r.thread r.op T).0 in
-    let quiet : fates_in x (coded g T1) ≡ [] = unprepared_law g x T1 (ap is_S3 state) (only_decides t x g n) in
+    let quiet : fates_in x (coded g T1) ≡ [] = search (arith, unprepared_law) in
     record { decision = Some d; fates = λ i. cons_option (fate i) (quiet i); awaits = completed_on g t x d T1 (sound_after r.thread r.op T s) state still n }
 
 waits_on : (g : History) (t : ℕ) (x : XidName) (T : Tables) → Sound T → IsPrepared x T → has_opened T t ≡ true → LeavesWaiting t x g → AwaitsAfter t x g T
@@ -252,11 +241,7 @@ outcome_law h g t x T o e n = search (arith, run_sound, opening_sound, prepare_h
 
 shut_from : (h : History) (T : Tables) → T.shut ≡ false → (tables_after h T).shut ≡ has_shut h
 shut_from [] T s = s
-shut_from (r ∷ h) T s =
-    elim (is_shut r.op) as (λ b. is_shut r.op ≡ b → (tables_after h (next r.thread r.op T).0).shut ≡ (b || has_shut h)) [
-      | true ↦ search (arith, shut_op, next-Shut, shut_stays, r.thread, r.op)
-      | false ↦ λ e. shut_from h (next r.thread r.op T).0 (stays_open r.thread r.op T e ∙ s)
-    ] refl
+shut_from (r ∷ h) T s = grind (arith, (shut_from h (next r.thread r.op T).0), shut_op, next-Shut, shut_stays, stays_open)
 
 pub shut_law : (h : History) (T : Tables) → IsOpening T → (tables_after h T).shut ≡ has_shut h
 shut_law h T o = shut_from h T o.shut

@@ -1,22 +1,20 @@
 -- What a reopening leaves, and the laws over any openings: what became of a branch, a key's value, and its limits.
-use Rattle.xa_base.proofs.{rules, ◌≡◌, ℕ, ℤ, Bool, true, false, cond, not, ◌&&◌, ◌+ℤ◌, Option, None, Some, List, [], ◌∷◌, refl, arith, sym, ap, ◌∙◌, FinMap}
-use Rattle.xa_base.proofs.{get-empty, none_pass, none_passes, if◌then◌else◌, subst, pos, option_map, ◌++◌, or-false, ints, +ℤ_idl as none_plus, ◌≢◌, map}
-use Rattle.xa_base.proofs.{unwrap_or, nat_le, list_all, le-leb, find, get-from_entries, eq_by_cmp, and_parts, not-false, +ℤ_idr as plus_none, by_bool}
-use Rattle.xa_base.proofs.{get-retain_keys}
-use Rattle.xa_words.specs.{XidName, xid_cmp, xid_eq, xid_cmp-IsAntisymmetric, key_cmp_total, Decides-xid_eq, Decides-key_eq, Op, key_eq}
-use Rattle.xa_words.specs.Orders.{key_cmp}
-use Rattle.xa_tables.specs.{State, Touch, touch_cmp, state_of, is_S3, is_left_in, is_left, is_prepared, is_broken, is_within, value_of, ArePreparedSound}
-use Rattle.xa_tables.specs.{opening, tables_after, IsNew, IsOpening, AreLeft, reopened, left_by, Tables, History, HeuristicDecision, Fate, Absent, is_in_doubt}
-use Rattle.xa_tables.specs.{fate, accepted, IsFateOf, reopened_fate, fate_left, told_by, FatesAreTold, coded, commits_later, added_in, commits_over, added_over}
-use Rattle.xa_tables.specs.{value_over, ValueIsSum, Association, sum_of, association_of, has_other_touched, sums_without, Answer, next, added, gone, completed}
-use Rattle.xa_tables.specs.{committed, are_accounts, StaysWithin}
-use Rattle.xa_tables.proofs.AccountLemmas.{touch_cmp_total, touch_cmp-IsAntisymmetric, within_bounds}
-use Rattle.xa_tables.proofs.Law.{after_accepted, Tells, told_tells, run, opening_sound, Sound, get_put, associated_works, voted_rests, sound_after, standing}
+use Rattle.xa_base.proofs.{by_bool, rules, ◌≡◌, ℕ, ℤ, Bool, true, false, cond, not, ◌&&◌, ◌+ℤ◌, Option, None, Some, List, [], ◌∷◌, refl, arith, sym, ap, ◌∙◌}
+use Rattle.xa_base.proofs.{FinMap, get-empty, none_pass, none_passes, if◌then◌else◌, pos, option_map, ◌++◌, or-false, ints, +ℤ_idl as none_plus, ◌≢◌, map}
+use Rattle.xa_base.proofs.{unwrap_or, nat_le, list_all, le-leb, find, get-from_entries, and_parts, +ℤ_idr as plus_none, get-retain_keys}
+use Rattle.xa_words.specs.{key_eq, XidName, xid_cmp, xid_eq, xid_cmp-IsAntisymmetric, key_cmp_total, Decides-xid_eq, Decides-key_eq, Op}
+use Rattle.xa_tables.specs.{Association, sum_of, association_of, has_other_touched, added, State, Touch, touch_cmp, state_of, is_S3, is_left_in, is_left}
+use Rattle.xa_tables.specs.{is_prepared, is_broken, is_within, value_of, ArePreparedSound, opening, tables_after, IsNew, IsOpening, AreLeft, reopened, left_by}
+use Rattle.xa_tables.specs.{Tables, History, Fate, Absent, fate, accepted, IsFateOf, reopened_fate, fate_left, told_by, FatesAreTold, coded, commits_later}
+use Rattle.xa_tables.specs.{added_in, commits_over, added_over, value_over, ValueIsSum, sums_without, Answer, next, gone, committed, are_accounts, StaysWithin}
+use Rattle.xa_tables.proofs.Law.{standing, after_accepted, Tells, told_tells, run, opening_sound, Sound, get_put, associated_works, voted_rests, sound_after}
 use Rattle.xa_tables.proofs.Law.{get_gone}
-use Rattle.xa_tables.proofs.ValueLaw.{Held, IsPending, due, plus_zero, Run, value_run, chained, Clean, run_clean, opening_clean, get_without, get_add}
-use Rattle.xa_tables.proofs.ValueLaw.{get_committed, no_other, get_added}
-use Rattle.xa_tables.specs.Next.{forgotten}
-use Rattle.xa_tables.proofs.Effects.{Effect, Adds, Prepares, Commits, Drops, CommitsByItself, RollsBackByItself, Forgets, effect_of}
+use Rattle.xa_tables.proofs.ValueLaw.{get_added, Held, IsPending, due, plus_zero, Run, value_run, chained, Clean, run_clean, opening_clean, get_without}
+use Rattle.xa_tables.proofs.ValueLaw.{get_add, get_committed, no_other}
+use Rattle.xa_tables.proofs.SoundLemmas.{state_rules}
+use Rattle.xa_words.specs.Orders.{key_cmp}
+use Rattle.xa_tables.proofs.AccountLemmas.{touch_cmp_total, touch_cmp-IsAntisymmetric, within_bounds}
+use Rattle.xa_tables.proofs.Effects.{Effect, Adds, Prepares, Commits, CommitsByItself, effect_of}
 use Rattle.std.specs.FinMap as map
 use Rattle.xa_tables.specs.declared.state.HeuristicDecision.TheVariants as decision
 
@@ -29,15 +27,11 @@ pub sums_reopened : (T : Tables) (x : XidName) (k : List ℕ) → map.get (reope
 sums_reopened T x k =
     get-retain_keys T.sums (λ p. is_prepared T p.0) (x, k) (λ q e. ap (λ (r : Touch). is_prepared T r.0) (sym (touch_cmp-IsAntisymmetric (x, k) q e)))
 
--- a branch is as left as it was, and as prepared
-left_stays : (o : Option State) → is_left_in (cond (is_left_in o) o None) ≡ is_left_in o
-left_stays o = grind arith
-
 prepared_stays : (o : Option State) → is_S3 (cond (is_left_in o) o None) ≡ is_S3 o
 prepared_stays o = grind arith
 
 pub as_left : (T : Tables) (x : XidName) → is_left (reopened T) x ≡ is_left T x
-as_left T x = ap is_left_in (state_reopened T x) ∙ left_stays (state_of T x)
+as_left T x = search (arith, state_reopened)
 
 pub reopens : (T : Tables) → IsOpening (reopened T)
 reopens T = grind (arith, as_left, state_reopened, sums_reopened, prepared_stays)
@@ -63,25 +57,15 @@ pub same_left : (xs : List XidName) (T : Tables) → AreLeft xs T → AreLeft xs
 same_left xs T l = record { rising = l.rising; once = l.once; each = λ x. l.each x ∙ sym (as_left T x) }
 
 -- the prepared branches still keep the values within the limits
-pub sound_retained : (states states' : FinMap xid_cmp State) (sums sums' : FinMap touch_cmp ℤ) (values values' : FinMap key_cmp ℤ)
-    → states' ≡ map.retain_keys states (λ x. is_left_in (map.get states x))
-    → sums' ≡ map.retain_keys sums (λ p. is_S3 (map.get states p.0)) → values' ≡ values → ArePreparedSound states sums values
-    → ArePreparedSound states' sums' values'
-sound_retained states states' sums sums' values values' e f g sound x voted =
-    let before : is_S3 (map.get states x) ≡ true =
-    sym (prepared_stays (map.get states x))
-    ∙ sym (ap is_S3 (get-retain_keys states (λ y. is_left_in (map.get states y)) x (λ y t. ap (λ z. is_left_in (map.get states z)) (sym (xid_cmp-IsAntisymmetric x y t)))))
-    ∙ sym (ap (λ m. is_S3 (map.get m x)) e) ∙ voted in
-    let unbroken : is_broken values sums x ≡ false = sound x before in
-    (λ i. is_broken (g i) (f i) x)
-    ∙ none_pass touch_cmp_total touch_cmp-IsAntisymmetric (λ p s. xid_eq p.0 x && not (is_within (value_of values p.1 +ℤ s))) (map.retain_keys sums (λ p. is_S3 (map.get states p.0))) (λ p s found.
-    none_passes touch_cmp_total touch_cmp-IsAntisymmetric (λ p s. xid_eq p.0 x && not (is_within (value_of values p.1 +ℤ s))) sums p s unbroken
-    (from_kept (is_S3 (map.get states p.0)) (map.get sums p) s
-    (sym (get-retain_keys sums (λ q. is_S3 (map.get states q.0)) p (λ q t. ap (λ (r : Touch). is_S3 (map.get states r.0)) (sym (touch_cmp-IsAntisymmetric p q t)))) ∙ found)))
+pub sound_reopened : (T : Tables) → ArePreparedSound T.states T.sums T.values → ArePreparedSound (reopened T).states (reopened T).sums T.values
+sound_reopened T sound x voted =
+    let before : is_prepared T x ≡ true = sym (prepared_stays (state_of T x)) ∙ ap is_S3 (sym (state_reopened T x)) ∙ voted in
+    let breaks : Touch → ℤ → Bool = λ p s. xid_eq p.0 x && not (is_within (value_of T.values p.1 +ℤ s)) in
+    none_pass touch_cmp_total touch_cmp-IsAntisymmetric breaks (reopened T).sums (λ p s found.
+    none_passes touch_cmp_total touch_cmp-IsAntisymmetric breaks T.sums p s (sound x before) (from_kept (is_prepared T p.0) (map.get T.sums p) s (sym (sums_reopened T p.0 p.1) ∙ found)))
   where
     from_kept : (b : Bool) (o : Option ℤ) (s : ℤ) → cond b o None ≡ Some s → o ≡ Some s
-    from_kept true o s e = e
-    from_kept false o s e = cc
+    from_kept b o s e = grind arith
 
 -- ---- one opening
 
@@ -97,17 +81,12 @@ begin_law x T = tells_told x (told_by (state_of T x)) T (told_tells (state_of T 
 pub kept_law : (h : History) (x : XidName) (f : Fate) (T : Tables) → IsOpening T → IsFateOf x f T → IsFateOf x (fate x f h T) (tables_after h T)
 kept_law h x f T o w =
     tells_told x (fate x f h T) (tables_after h T)
-    (subst (λ (p : Option State). Tells p (fate x f h T)) (sym (after_accepted (λ (U : Tables). state_of U x) (λ _. refl) h T))
-    (run (accepted h) x f T (opening_sound T o) (state_tells x f T w)))
+    (rw (after_accepted (λ (U : Tables). state_of U x) (λ _. refl) h T) (run (accepted h) x f T (opening_sound T o) (state_tells x f T w)))
 
 -- ---- a reopening
 
--- a branch at work is gone_tells, and was rolled back
-gone_tells : (f : Fate) → is_in_doubt f ≡ false → Tells None (reopened_fate f)
-gone_tells f e = grind arith
-
 pub reopened_law : (x : XidName) (f : Fate) (T : Tables) → IsFateOf x f T → IsFateOf x (reopened_fate f) (reopened T)
-reopened_law x f T w = grind (arith, tells_told, state_reopened, gone_tells, state_tells)
+reopened_law x f T w = grind (arith, tells_told, state_reopened, state_tells)
 
 -- ---- any openings
 
@@ -119,7 +98,7 @@ left_told (h ∷ hs) x f T o w =
 
 -- each branch is absent at a first opening
 pub first_law : (x : XidName) (T : Tables) → IsNew T → IsFateOf x Absent T
-first_law x T n = subst (λ (o : Option State). IsFateOf x (told_by o) T) (ap (λ m. map.get m x) n.states ∙ get-empty xid_cmp x) (begin_law x T)
+first_law x T n = rw (ap (λ m. map.get m x) n.states ∙ get-empty xid_cmp x) at (begin_law x T)
 
 pub over_law : (before : List History) (h : History) (x : XidName) (T : Tables) → IsNew T → FatesAreTold x before h T
 over_law before h x T n = search (arith, new_opens, kept_law, left_opens, left_told, first_law)
@@ -161,7 +140,6 @@ unfolding left_held
 due_over k G g gs T p n s h = search (arith, or-false)
 
 -- ---- openings one after another
-
 sum_last : (m d e s : ℤ) → m +ℤ d ≡ e +ℤ s → d ≡ pos 0 → m ≡ e +ℤ (s +ℤ pos 0)
 sum_last m d e s h z = omega (arith, ints)
 
@@ -181,7 +159,7 @@ values_over h (g ∷ gs) k p F T o told pending =
     let G : XidName → Fate = ended F h T in
     let B : XidName → Bool = λ (x : XidName). commits_over x (G x) (g ∷ gs) U in
     let r : Run k p B (accepted h) T = value_run (accepted h) k p B T pending in
-    let here : IsPending k r.held U.sums = subst (IsPending k r.held) (sym (after_accepted (λ (W : Tables). W.sums) (λ _. refl) h T)) r.pending in
+    let here : IsPending k r.held U.sums = rw (← after_accepted (λ (W : Tables). W.sums) (λ _. refl) h T) at r.pending in
     let clean : Clean U = run_clean h T (opening_sound T o) (opening_clean T o) in
     let told_now : Tell G U = λ x. kept_law h x (F x) T o (told x) in
     let more : ℤ = added_over k (begun G) (g ∷ gs) (reopened U) in
@@ -222,9 +200,7 @@ pub record Kept (T : Tables) : Type 0 where
 -- a branch that breaks no limit fits
 unbroken_fits : (T : Tables) (x : XidName) → is_broken T.values T.sums x ≡ false → Fits T x
 unbroken_fits T x unbroken k s at =
-    let none =
-    none_passes touch_cmp_total touch_cmp-IsAntisymmetric (λ p r. xid_eq p.0 x && not (is_within (value_of T.values p.1 +ℤ r))) T.sums (x, k) s unbroken at in
-    not-false (is_within (value_of T.values k +ℤ s)) (ap (λ b. b && not (is_within (value_of T.values k +ℤ s))) (sym ((Decides-xid_eq x x).1 refl)) ∙ none)
+    grind (arith, (none_passes touch_cmp_total touch_cmp-IsAntisymmetric (λ p r. xid_eq p.0 x && not (is_within (value_of T.values p.1 +ℤ r))) T.sums (x, k) s unbroken at), Decides-xid_eq)
 
 -- a value with what a branch adds to it, if anything
 value_fits : (o q : Option ℤ) (v : ℤ) → option_map (λ u. u +ℤ unwrap_or q (pos 0)) o ≡ Some v → ((u : ℤ) → o ≡ Some u → is_within u ≡ true)
@@ -259,20 +235,6 @@ module _ (t : ℕ) (T : Tables) (s : Sound T) (w : Kept T) where
   abbrev Left : XidName → Option State → XidName → Type 0
   Left y o x = is_S3 o ≡ true → (is_S3 (state_of T x) ≡ true) × (x ≢ y)
 
-  still : (y x : XidName) → Left y (state_of (gone y T) x) x
-  still y x e = grind (arith, get_gone, Decides-xid_eq)
-
-  undecided : (y : XidName) (d : HeuristicDecision) (x : XidName) → Left y (state_of (completed y d T) x) x
-  undecided y d x e = grind (arith, get_put, Decides-xid_eq)
-
-  -- y is gone, and its sums stay
-  forgets : (y : XidName) → Kept (forgotten y T)
-  forgets y = record { values = w.values; alone = w.alone; prepared = λ x is. w.prepared x (still y x is).0 }
-
-  -- y has no sums, and isn't prepared any more
-  drops : (y : XidName) (m : FinMap xid_cmp State) → ((x : XidName) → Left y (map.get m x) x) → Kept (record (gone y T) { states = m })
-  drops y m others = grind (arith, left)
-
   -- once y, which fits, is added to the values, they are within the limits, and another prepared branch fits
   posted_within : (y : XidName) → Fits T y → (k : List ℕ) (v : ℤ) → map.get (committed y T).values k ≡ Some v → is_within v ≡ true
   posted_within y fits k v at =
@@ -289,18 +251,15 @@ module _ (t : ℕ) (T : Tables) (s : Sound T) (w : Kept T) where
   -- y, which fits, is committed
   commits : (y : XidName) (m : FinMap xid_cmp State) → ((x : XidName) → Left y (map.get m x) x) → Fits T y
       → Kept (record (gone y (committed y T)) { states = m })
-  commits y m others fits = search (arith, posted_within, drops, left, posted_beside, nobody_else)
+  commits y m others fits = search (arith, posted_within, left, posted_beside, nobody_else, w.alone)
 
   by_effect : {op : Op} {a : Answer} → Effect t T op a → Kept a.0
   by_effect (Adds k d l own known free) = adds k d l own free
-  by_effect (Prepares y nobody unbroken) = grind (arith, get_put, Decides-xid_eq, unbroken_fits)
-  by_effect (Commits y one_phase nobody may) = grind (arith, commits, still, unbroken_fits)
-  by_effect (Drops op y c nobody tells) = drops y _ (still y)
-  by_effect (CommitsByItself y voted) = commits y _ (undecided y decision.Commit) (w.prepared y voted)
-  by_effect (RollsBackByItself y voted) = drops y _ (undecided y decision.Rollback)
-  by_effect (Forgets y is) = forgets y
-  -- the others change no state, no sum and no value
-  by_effect effect = grind (arith, get_put, Decides-xid_eq)
+  by_effect (Prepares y nobody unbroken) = grind (arith, state_rules, unbroken_fits)
+  by_effect (Commits y one_phase nobody may) = grind (arith, commits, unbroken_fits, get_gone, Decides-xid_eq)
+  by_effect (CommitsByItself y voted) = search (arith, commits, get_put, Decides-xid_eq)
+  -- the others change no value, and sums at most of a branch that has none then
+  by_effect effect = grind (arith, state_rules, get_without)
 
 -- ---- after a history
 
@@ -314,10 +273,7 @@ declared_within : (accounts : List (List ℕ × ℕ)) → list_all (λ d. nat_le
 declared_within [] all k v at = cc
 declared_within (d ∷ ds) all k v at =
     let both : (nat_le d.1 1000000000000 ≡ true) × (list_all (λ e. nat_le e.1 1000000000000) ds ≡ true) = and_parts _ _ all in
-    let within : is_within (pos d.1) ≡ true = ap (λ b. b && nat_le d.1 1000000000000) (le-leb 0 d.1 (omega arith)) ∙ both.0 in
-    by_bool (λ b. cond b (Some (pos d.1)) (find key_cmp k (map (λ d. (d.0, pos d.1)) ds)) ≡ Some v → is_within v ≡ true) (eq_by_cmp key_cmp k d.0)
-    (λ _ e. let same : pos d.1 ≡ v = cc in subst (λ (z : ℤ). is_within z ≡ true) same within)
-    (λ _ e. declared_within ds both.1 k v e) at
+    grind (arith, (declared_within ds both.1 k v), le-leb, both.0, find, key_cmp)
 
 opening_kept : (accounts : List (List ℕ × ℕ)) → are_accounts accounts ≡ true → Kept (opening accounts)
 opening_kept accounts are = record {

@@ -1,6 +1,6 @@
 -- What a step keeps of the facts on branches in S3, and of who is associated.
-use Rattle.xa_base.proofs.{◌≡◌, ◌≢◌, ℕ, ℤ, Bool, true, false, cond, Option, None, Some, is_some, refl, arith, sym, ap, ◌∙◌, subst, nat_cmp, eq_by_cmp, is_eq}
-use Rattle.xa_base.proofs.{nat_cmp_total, tied_itself, FinMap, get-insert, get-remove, nat_cmp-IsAntisymmetric, is_equal, tied_true, tied_false, none_pass}
+use Rattle.xa_base.proofs.{if◌then◌else◌, inserted_there, inserted_other, removed_there, removed_other, ◌≡◌, ◌≢◌, ℕ, ℤ, Bool, true, false, cond, Option, None}
+use Rattle.xa_base.proofs.{Some, is_some, refl, arith, sym, ap, ◌∙◌, nat_cmp, nat_cmp_total, FinMap, get-insert, get-remove, nat_cmp-IsAntisymmetric, none_pass}
 use Rattle.xa_base.proofs.{none_passes, ◌||◌, or_from, or_parts, List, get-lookup, same_map, same_from_decides, lookup}
 use Rattle.xa_words.specs.{XidName, xid_cmp, xid_eq, xid_cmp_total, xid_cmp-IsAntisymmetric, Decides-xid_eq, xid_eq-by_cmp}
 use Rattle.xa_words.specs.Orders.{key_cmp}
@@ -20,47 +20,25 @@ Sums = FinMap touch_cmp ℤ
 abbrev Values : Type 0
 Values = FinMap key_cmp ℤ
 
-pub xid_tied : (x y : XidName) → x ≡ y → eq_by_cmp xid_cmp x y ≡ true
-xid_tied x y e = subst (λ (z : XidName). eq_by_cmp xid_cmp x z ≡ true) e (ap is_eq (tied_itself xid_cmp_total x))
-
 pub swap_xid : (x y : XidName) → xid_eq x y ≡ xid_eq y x
 swap_xid x y = same_from_decides _ _ (Decides-xid_eq x y) ((λ t. sym ((Decides-xid_eq y x).0 t)), (λ e. (Decides-xid_eq y x).1 (sym e)))
 
--- by whether two xids are one
-pub by_xid : (x y : XidName) (P : Bool → Type 0) → (x ≡ y → P true) → (x ≢ y → P false) → P (eq_by_cmp xid_cmp x y)
-by_xid x y P one two =
-    elim (eq_by_cmp xid_cmp x y) as (λ b. eq_by_cmp xid_cmp x y ≡ b → P b) [
-      | true ↦ λ t. one (xid_cmp-IsAntisymmetric x y (is_equal _ t))
-      | false ↦ λ t. two (λ e. let same = xid_tied x y e in cc)
-    ] refl
+-- the state of x after y was put into s, and after y is gone
+pub get_put : (m : States) (y x : XidName) (s : State) → map.get (map.insert m y s) x ≡ (if xid_eq y x then Some s else map.get m x)
+get_put m y x s = get-insert xid_cmp_total m y s x ∙ ap (λ b. cond b (Some s) (map.get m x)) (sym (xid_eq-by_cmp x y) ∙ swap_xid x y)
 
--- the state of another branch stays where one is put into a state or is gone
-pub others_put : (states : States) (x : XidName) (s : State) (y : XidName) → y ≢ x → map.get (map.insert states x s) y ≡ map.get states y
-others_put states x s y apart =
-    get-insert xid_cmp_total states x s y
-    ∙ by_xid y x (λ b. cond b (Some s) (map.get states y) ≡ map.get states y) (λ e. absurd (apart e)) (λ _. refl)
+pub get_gone : (m : States) (y x : XidName) → map.get (map.remove m y) x ≡ (if xid_eq y x then None else map.get m x)
+get_gone m y x = get-remove xid_cmp_total m y x ∙ ap (λ b. cond b None (map.get m x)) (sym (xid_eq-by_cmp x y) ∙ swap_xid x y)
 
-pub others_removed : (states : States) (x y : XidName) → y ≢ x → map.get (map.remove states x) y ≡ map.get states y
-others_removed states x y apart =
-    get-remove xid_cmp_total states x y
-    ∙ by_xid y x (λ b. cond b None (map.get states y) ≡ map.get states y) (λ e. absurd (apart e)) (λ _. refl)
+-- what a change of one branch makes of the states
+pub ruleset state_rules = (get_put, get_gone, Decides-xid_eq)
 
--- its own state is the one that it is put into, and none once it is gone
-pub put_here : (states : States) (x : XidName) (s : State) → map.get (map.insert states x s) x ≡ Some s
-put_here states x s = get-insert xid_cmp_total states x s x ∙ ap (λ b. cond b (Some s) (map.get states x)) (xid_tied x x refl)
-
-pub removed_here : (states : States) (x : XidName) → map.get (map.remove states x) x ≡ None
-removed_here states x = get-remove xid_cmp_total states x x ∙ ap (λ b. cond b None (map.get states x)) (xid_tied x x refl)
-
--- what becomes of the states where a branch is gone
-pub ruleset removals = (others_removed, removed_here)
+put_back : (states : States) (x y : XidName) (s : State) → map.get states x ≡ Some s → map.get (map.insert states x s) y ≡ map.get states y
+put_back states x y s is = grind (arith, state_rules)
 
 -- a branch that is put into the state that it has
 pub put_same : (states : States) (x : XidName) (s : State) → map.get states x ≡ Some s → map.insert states x s ≡ states
-put_same states x s is =
-    same_map xid_cmp_total xid_cmp-IsAntisymmetric _ _ (λ y.
-    get-insert xid_cmp_total states x s y
-    ∙ by_xid y x (λ b. cond b (Some s) (map.get states y) ≡ map.get states y) (λ same. sym (ap (map.get states) same ∙ is)) (λ _. refl))
+put_same states x s is = same_map xid_cmp_total xid_cmp-IsAntisymmetric _ _ (λ y. put_back states x y s is)
 
 -- ---- who is associated with a branch
 
@@ -73,23 +51,6 @@ apart_from x associations nobody t l found = none_passes nat_cmp_total nat_cmp-I
 pub nobody_with : (x : XidName) (associations : Associations)
     → ((t : ℕ) (l : Association) → map.get associations t ≡ Some l → xid_eq l.xid x ≡ false) → is_somebody_associated associations x ≡ false
 nobody_with x associations apart = none_pass nat_cmp_total nat_cmp-IsAntisymmetric (λ u k. xid_eq k.xid x) associations apart
-
--- by whether two numbers are one
-pub by_nat : {P : Type 0} (a b : ℕ) → (a ≡ b → P) → (a ≢ b → P) → P
-by_nat {P} a b one two = grind (arith, is_equal, tied_true)
-
--- an association that is put and one that goes, and those of the other threads
-pub own_put : (m : Associations) (t : ℕ) (l : Association) → map.get (map.insert m t l) t ≡ Some l
-own_put m t l = get-insert nat_cmp_total m t l t ∙ ap (λ b. cond b (Some l) (map.get m t)) (tied_true t t refl)
-
-pub other_put : (m : Associations) (t u : ℕ) (l : Association) → u ≢ t → map.get (map.insert m t l) u ≡ map.get m u
-other_put m t u l apart = get-insert nat_cmp_total m t l u ∙ ap (λ b. cond b (Some l) (map.get m u)) (tied_false u t apart)
-
-pub own_removed : (m : Associations) (t : ℕ) → map.get (map.remove m t) t ≡ None
-own_removed m t = get-remove nat_cmp_total m t t ∙ ap (λ b. cond b None (map.get m t)) (tied_true t t refl)
-
-pub other_removed : (m : Associations) (t u : ℕ) → u ≢ t → map.get (map.remove m t) u ≡ map.get m u
-other_removed m t u apart = get-remove nat_cmp_total m t u ∙ ap (λ b. cond b None (map.get m u)) (tied_false u t apart)
 
 -- only t's association changes, and isn't with x
 pub nobody_as : (x : XidName) (t : ℕ) (m n : Associations) → ((u : ℕ) → u ≢ t → map.get n u ≡ map.get m u)
@@ -115,13 +76,13 @@ somebody_but x t m n others none =
 pub somebody_put : (x : XidName) (m : Associations) (t : ℕ) (l : Association)
     → is_somebody_associated (map.insert m t l) x ≡ (xid_eq l.xid x || is_somebody_associated (map.remove m t) x)
 somebody_put x m t l =
-    somebody_but x t (map.insert m t l) (map.remove m t) (λ u apart. other_removed m t u apart ∙ sym (other_put m t u l apart)) (own_removed m t)
-    ∙ ap (λ o. is_association_with o x || is_somebody_associated (map.remove m t) x) (own_put m t l)
+    somebody_but x t (map.insert m t l) (map.remove m t) (λ u apart. removed_other m t u apart ∙ sym (inserted_other m t l u apart)) (removed_there m t)
+    ∙ ap (λ o. is_association_with o x || is_somebody_associated (map.remove m t) x) (inserted_there m t l)
 
 -- in a form in which tactics meet the associations without t's first
 pub somebody_own : (x : XidName) (m : Associations) (t : ℕ) → (is_somebody_associated (map.remove m t) x ≡ is_somebody_associated (map.remove m t) x)
     × (is_somebody_associated m x ≡ (is_association_with (map.get m t) x || is_somebody_associated (map.remove m t) x))
-somebody_own x m t = (refl, somebody_but x t m (map.remove m t) (other_removed m t) (own_removed m t))
+somebody_own x m t = (refl, somebody_but x t m (map.remove m t) (removed_other m t) (removed_there m t))
 
 -- a branch that is neither prepared nor completed isn't prepared
 pub unvoted : (o : Option State) → is_left_in o ≡ false → is_S3 o ≡ false
@@ -129,27 +90,18 @@ unvoted o e = grind arith
 
 -- a branch exists under each name that is equal to its own
 pub there_as : (states : States) (x y : XidName) → is_some (map.get states x) ≡ true → true ≡ xid_eq x y → is_some (map.get states y) ≡ true
-there_as states x y there same = subst (λ z. is_some (map.get states z) ≡ true) ((Decides-xid_eq x y).0 (sym same)) there
+there_as states x y there same = rw ((Decides-xid_eq x y).0 (sym same)) at there
 
--- only x changes, and where it is prepared it keeps the values within the limits
-sound_but : (states states' : States) (sums sums' : Sums) (values values' : Values) (x : XidName)
-    → ((y : XidName) → y ≢ x → map.get states' y ≡ map.get states y)
-    → ((y : XidName) → y ≢ x → is_broken values' sums' y ≡ is_broken values sums y)
-    → (is_S3 (map.get states' x) ≡ true → is_broken values' sums' x ≡ false) → ArePreparedSound states sums values → ArePreparedSound states' sums' values'
-sound_but states states' sums sums' values values' x kept others here sound y voted = grind arith
-
--- x is put into a state, and the other branches stand as they stood
-pub sound_put : (states states' : States) (sums sums' : Sums) (values values' : Values) (x : XidName) (s : State) → states' ≡ map.insert states x s
-    → (is_S3 (Some s) ≡ true → is_broken values' sums' x ≡ false)
-    → ((y : XidName) → y ≢ x → is_broken values' sums' y ≡ is_broken values sums y) → ArePreparedSound states sums values
-    → ArePreparedSound states' sums' values'
-sound_put states states' sums sums' values values' x s e here others = grind (arith, sound_but, others_put, put_here)
+-- x is put into a state that isn't S3
+pub sound_put : (states states' : States) (sums : Sums) (values : Values) (x : XidName) (s : State) → states' ≡ map.insert states x s → is_S3 (Some s) ≡ false
+    → ArePreparedSound states sums values → ArePreparedSound states' sums values
+sound_put states states' sums values x s e here sound y voted = grind (arith, state_rules)
 
 -- x isn't in S3, and stays in its state
 pub sound_others : (states : States) (sums sums' : Sums) (values values' : Values) (x : XidName) → is_S3 (map.get states x) ≡ false
     → ((y : XidName) → y ≢ x → is_broken values' sums' y ≡ is_broken values sums y) → ArePreparedSound states sums values
     → ArePreparedSound states sums' values'
-sound_others states sums sums' values values' x unvoted others = grind (arith, unvoted, sound_but)
+sound_others states sums sums' values values' x unvoted others = grind (arith, unvoted)
 
 -- ---- xids as keys of hash maps
 

@@ -1,14 +1,14 @@
 -- The maps and the sets that the threads make, and which threads are free.
-use Rattle.xa_base.proofs.{◌≡◌, ℕ, Bool, cond, not, ◌||◌, ◌&&◌, List, map, Option, None, Some, is_some, arith, sym, ap, ◌∙◌, nat_cmp, eq_by_cmp, nat_cmp_total}
-use Rattle.xa_base.proofs.{find, nat_cmp-IsAntisymmetric, ◌≢◌, zero, suc, ◌+◌, ◌-◌, ◌<◌, ◌≤◌, true, false, if◌then◌else◌, [], ◌∷◌, length, replicate, refl}
-use Rattle.xa_base.proofs.{get_or, set, list_any, is_eq, tied_itself, eq_by_cmp_equiv, FinMap, from_entries, get-from_entries, is_equal, put_one, remove_one}
-use Rattle.xa_base.proofs.{same_finds, Distinct, any_entries, ◌*◌, by_if, tied_false, FinSet, contains-insert, contains-remove, is_some-find}
+use Rattle.xa_base.proofs.{tied_true, tied_false, cases_eq, inserted_there, inserted_other, removed_there, removed_other, ◌≡◌, ℕ, Bool, cond, not, ◌||◌, ◌&&◌}
+use Rattle.xa_base.proofs.{List, map, Option, None, Some, is_some, arith, sym, ap, ◌∙◌, nat_cmp, eq_by_cmp, nat_cmp_total, find, nat_cmp-IsAntisymmetric, ◌≢◌}
+use Rattle.xa_base.proofs.{zero, suc, ◌+◌, ◌-◌, ◌<◌, ◌≤◌, true, false, if◌then◌else◌, [], ◌∷◌, length, replicate, refl, get_or, set, list_any, eq_by_cmp_equiv}
+use Rattle.xa_base.proofs.{FinMap, from_entries, get-from_entries, is_equal, put_one, remove_one, same_finds, Distinct, any_entries, ◌*◌, by_if, FinSet}
+use Rattle.xa_base.proofs.{contains-insert, contains-remove, is_some-find}
 use Rattle.std.specs.FinSet.{same_set, from_list, contains-from_list}
 use Rattle.xa_base.specs.{any_entry}
 use Rattle.xa_tables.specs.{with_entry, entries_from, Association, has_opened, has_association, Answer, next, needs_opening, TablesWithRoom, Keeps, is_free}
 use Rattle.xa_tables.specs.{counted, free_threads, places_taken, Tables}
 use Rattle.xa_words.specs.{Op, RmFail}
-use Rattle.xa_tables.proofs.SoundLemmas.{by_nat, own_put, other_put, own_removed, other_removed}
 use Rattle.xa_tables.proofs.Effects.{Effect, at_rules}
 use Rattle.std.specs.FinMap as map
 use Rattle.std.specs.FinSet as finset
@@ -26,27 +26,17 @@ marked es = from_list (map {B = ℕ} (λ (e : ℕ × Unit {0}). e.0) es)
 pub contains-marked : (es : Marks) (q : ℕ) → finset.contains (marked es) q ≡ is_some (find nat_cmp q es)
 contains-marked es q = contains-from_list nat_cmp_total _ q ∙ sym (is_some-find nat_cmp q es)
 
-some_or : (b : Bool) (x : Option (Unit {0})) → is_some (cond b (Some tt) x) ≡ (b || is_some x)
-some_or b x = grind arith
-
-none_or : (b : Bool) (x : Option (Unit {0})) → is_some (cond b None x) ≡ (not b && is_some x)
-none_or b x = grind arith
-
 -- one key more
 pub mark_put : (es fs : Marks) (k : ℕ) → ((q : ℕ) → find nat_cmp q fs ≡ cond (eq_by_cmp nat_cmp q k) (Some tt) (find nat_cmp q es))
     → marked fs ≡ finset.insert (marked es) k
-mark_put es fs k h =
-    same_set nat_cmp_total nat_cmp-IsAntisymmetric _ _ (λ q.
-    contains-marked fs q ∙ ap is_some (h q) ∙ some_or _ _ ∙ ap (λ b. eq_by_cmp nat_cmp q k || b) (sym (contains-marked es q))
-    ∙ sym (contains-insert nat_cmp_total (marked es) k q))
+mark_put es fs k h = same_set nat_cmp_total nat_cmp-IsAntisymmetric (marked fs) (finset.insert (marked es) k) (λ q.
+    grind (arith, (contains-marked fs q), (contains-marked es q), (h q), (contains-insert nat_cmp_total (marked es) k q)))
 
 -- one key less
 pub mark_removed : (es fs : Marks) (k : ℕ) → ((q : ℕ) → find nat_cmp q fs ≡ cond (eq_by_cmp nat_cmp q k) None (find nat_cmp q es))
     → marked fs ≡ finset.remove (marked es) k
-mark_removed es fs k h =
-    same_set nat_cmp_total nat_cmp-IsAntisymmetric _ _ (λ q.
-    contains-marked fs q ∙ ap is_some (h q) ∙ none_or _ _ ∙ ap (λ b. not (eq_by_cmp nat_cmp q k) && b) (sym (contains-marked es q))
-    ∙ sym (contains-remove nat_cmp_total (marked es) k q))
+mark_removed es fs k h = same_set nat_cmp_total nat_cmp-IsAntisymmetric (marked fs) (finset.remove (marked es) k) (λ q.
+    grind (arith, (contains-marked fs q), (contains-marked es q), (h q), (contains-remove nat_cmp_total (marked es) k q)))
 
 -- the same keys
 pub mark_same : (es fs : Marks) → ((q : ℕ) → find nat_cmp q fs ≡ find nat_cmp q es) → marked fs ≡ marked es
@@ -65,16 +55,10 @@ same_nat = eq_by_cmp nat_cmp
 same_nat-yes : (q k : ℕ) → same_nat q k ≡ true → q ≡ k
 same_nat-yes q k t = nat_cmp-IsAntisymmetric q k (is_equal _ t)
 
-same_nat-self : (q : ℕ) → same_nat q q ≡ true
-same_nat-self q = ap is_eq (tied_itself nat_cmp_total q)
-
-same_nat-apart : (q k : ℕ) → q ≢ k → same_nat q k ≡ false
-same_nat-apart q k h = elim (same_nat q k) as (λ b. same_nat q k ≡ b → b ≡ false) [ true ↦ λ t. absurd (h (same_nat-yes q k t)) | false ↦ λ t. refl ] refl
-
 module _ {S X : Type 0} (f : S → Option X) where
   absent : (q n : ℕ) (ss : List S) → q < n → find nat_cmp q (entries_from f n ss) ≡ None
   absent q n [] h = refl
-  absent q n (s ∷ ss) h = grind (arith, (absent q (suc n) ss (omega arith)), find, same_nat-apart)
+  absent q n (s ∷ ss) h = grind (arith, (absent q (suc n) ss (omega arith)), find, tied_false)
 
   -- what f reads of the place that has the number q
   look : ℕ → List S → ℕ → Option X
@@ -90,22 +74,18 @@ module _ {S X : Type 0} (f : S → Option X) where
   unfolding look
   look-set [] i n k q s e h = absurd (omega arith)
   look-set (x ∷ ss) zero n k q s e h = grind (arith, look)
-  look-set (x ∷ ss) (suc j) n k q s e h = grind (arith, (look-set ss j (suc n) k q s (omega arith) (omega arith)), look, set, same_nat-apart, same_nat-yes)
+  look-set (x ∷ ss) (suc j) n k q s e h = grind (arith, (look-set ss j (suc n) k q s (omega arith) (omega arith)), look, set, tied_false, same_nat-yes)
 
   look-at : (ss : List S) (i n k : ℕ) (d : S) → k ≡ n + i → i < length ss → look n ss k ≡ f (get_or ss i d)
   unfolding look
   look-at [] i n k d e h = absurd (omega arith)
-  look-at (x ∷ ss) zero n k d e h = let same : k ≡ n = omega arith in ap (λ b. cond b (f x) (look (suc n) ss k)) (ap (same_nat k) (sym same) ∙ same_nat-self k)
-  look-at (x ∷ ss) (suc j) n k d e h = grind (arith, (look-at ss j (suc n) k d (omega arith) (omega arith)), look, same_nat-apart)
+  look-at (x ∷ ss) zero n k d e h = ap (λ b. cond b (f x) (look (suc n) ss k)) (tied_true k n (omega arith))
+  look-at (x ∷ ss) (suc j) n k d e h = grind (arith, (look-at ss j (suc n) k d (omega arith) (omega arith)), look, tied_false)
 
-  found_set : (ss : List S) (t : ℕ) (s : S) → 0 < t → t ≤ length ss → (q : ℕ)
-      → find nat_cmp q (entries_from f 1 (set ss (t - 1) s)) ≡ cond (same_nat q t) (f s) (find nat_cmp q (entries_from f 1 ss))
-  found_set ss t s p h q = grind (arith, find-look, set, look-set)
-
-  -- the same where f reads o of what is written
+  -- what is found once what f reads as o is written
   written : (ss : List S) (t : ℕ) (s : S) (o : Option X) → 0 < t → t ≤ length ss → f s ≡ o
       → (q : ℕ) → find nat_cmp q (entries_from f 1 (set ss (t - 1) s)) ≡ cond (same_nat q t) o (find nat_cmp q (entries_from f 1 ss))
-  written ss t s o p h e q = found_set ss t s p h q ∙ ap (λ w. cond (same_nat q t) w (find nat_cmp q (entries_from f 1 ss))) e
+  written ss t s o p h e q = grind (arith, find-look, set, look-set)
 
   -- what the map tells of thread t is what f reads of its place
   pub get_thread : (ss : List S) (t : ℕ) (d : S) → 0 < t → t ≤ length ss
@@ -121,10 +101,7 @@ module _ {S X : Type 0} (f : S → Option X) where
 
   same_entries : (ss : List S) (t : ℕ) (s d : S) → 0 < t → t ≤ length ss → f s ≡ f (get_or ss (t - 1) d)
       → (q : ℕ) → find nat_cmp q (entries_from f 1 (set ss (t - 1) s)) ≡ find nat_cmp q (entries_from f 1 ss)
-  same_entries ss t s d p h e q = grind (arith, found_set, find, find-look, look-at, same_nat-yes)
-
-  find_thread : (ss : List S) (t : ℕ) (d : S) → 0 < t → t ≤ length ss → find nat_cmp t (entries_from f 1 ss) ≡ f (get_or ss (t - 1) d)
-  find_thread ss t d p h = find-look t 1 ss ∙ look-at ss (t - 1) 1 t d (omega arith) (omega arith)
+  same_entries ss t s d p h e q = grind (arith, (written ss t s (f s) p h refl q), find, find-look, look-at, same_nat-yes)
 
   -- threads of which f reads nothing make no entry
   pub none_from : (s : S) (k n : ℕ) → f s ≡ None → entries_from f n (replicate k s) ≡ []
@@ -171,7 +148,7 @@ module _ {S : Type 0} (f : S → Option (Unit {0})) where
 
   pub contains_thread : (ss : List S) (t : ℕ) (d : S) → 0 < t → t ≤ length ss
       → finset.contains (marked (entries_from f 1 ss)) t ≡ is_some (f (get_or ss (t - 1) d))
-  contains_thread ss t d p h = contains-marked _ t ∙ ap is_some (find_thread f ss t d p h)
+  contains_thread ss t d p h = search (arith, contains-marked, is_some, find-look, look-at)
 
 -- ---- a thread that begins a branch was free, and each request frees at most one thread
 
@@ -192,15 +169,7 @@ module _ (t : ℕ) (T U : Tables) (others : (u : ℕ) → u ≢ t → is_free U 
 
   one_changes : (n : ℕ) → 0 < t → t ≤ n → free_threads n U + counted (is_free T t) ≡ free_threads n T + counted (is_free U t)
   one_changes zero p h = absurd (omega arith)
-  one_changes (suc n) p h =
-      by_nat t (suc n) (λ same.
-      let before : counted (is_free T t) ≡ counted (is_free T (suc n)) = ap (λ u. counted (is_free T u)) same in
-      let after : counted (is_free U t) ≡ counted (is_free U (suc n)) = ap (λ u. counted (is_free U u)) same in
-      let rest : free_threads n U ≡ free_threads n T = same_below n (omega arith) in
-      omega arith) (λ apart.
-      let here : counted (is_free U (suc n)) ≡ counted (is_free T (suc n)) = ap counted (others (suc n) (λ e. apart (sym e))) in
-      let rest : free_threads n U + counted (is_free T t) ≡ free_threads n T + counted (is_free U t) = one_changes n p (omega arith) in
-      omega arith)
+  one_changes (suc n) p h = grind (arith, cases_eq, same_below, (one_changes n))
 
 -- so what a step of t takes of the places is paid, if it is by what becomes of t
 pays : (n t : ℕ) (T U : Tables) → 0 < t → t ≤ n → ((u : ℕ) → u ≢ t → is_free U u ≡ is_free T u)
@@ -209,7 +178,7 @@ pays n t T U first last others own = let counts = one_changes t T U others n fir
 
 -- t, which wasn't associated, takes a place
 pub takes_one : (t : ℕ) (T U : Tables) (l : Association) → has_association T t ≡ false → U.associations ≡ map.insert T.associations t l → places_taken t T U ≡ 1
-takes_one t T U l free e = λ i. counted (not (free i) && is_some ((ap (λ m. map.get m t) e ∙ own_put T.associations t l) i))
+takes_one t T U l free e = λ i. counted (not (free i) && is_some ((ap (λ m. map.get m t) e ∙ inserted_there T.associations t l) i))
 
 -- what is open to another thread than the one that opens or closes
 opened_other : (s : FinSet nat_cmp) (t u : ℕ) → u ≢ t → finset.contains (finset.insert s t) u ≡ finset.contains s u
@@ -220,12 +189,12 @@ closed_other s t u apart = contains-remove nat_cmp_total s t u ∙ ap (λ b. not
 
 module _ (t : ℕ) (T : Tables) where
   others_free : (u : ℕ) → u ≢ t → {op : Op} {a : Answer} → Effect t T op a → is_free a.0 u ≡ is_free T u
-  others_free u apart effect = grind (arith, other_put, other_removed, opened_other, closed_other)
+  others_free u apart effect = grind (arith, inserted_other, removed_other, opened_other, closed_other)
 
   -- t, which may ask for it, becomes associated only where it was free
   own_pays : {op : Op} {a : Answer} → (needs_opening op && not (has_opened T t)) ≡ false → Effect t T op a
       → counted (is_free a.0 t) + 2 * places_taken t T a.0 ≤ 1 + counted (is_free T t)
-  own_pays may effect = search (arith, own_put, own_removed)
+  own_pays may effect = search (arith, inserted_there, removed_there)
 
 -- a request frees at most one thread, and one that takes a place makes a free thread busy
 pub places_paid : (n t : ℕ) (op : Op) (T : Tables) → 0 < t → t ≤ n

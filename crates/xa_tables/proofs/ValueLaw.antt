@@ -1,7 +1,7 @@
 -- What a history moves of a key's value: the additions whose branches commit; which branches have touched a key; and what leaves a branch as it is.
 use Rattle.xa_base.proofs.{rules, ◌≡◌, ◌≢◌, ℕ, ℤ, pos, ◌+ℤ◌, option_map, Bool, true, false, cond, not, ◌&&◌, if◌then◌else◌, Option, None, Some, List, [], ◌∷◌}
-use Rattle.xa_base.proofs.{refl, sym, ap, ◌∙◌, subst, arith, get-insert, FinMap, not-false, +ℤ_idl as none_plus, ints, get-map_values, none_passes, is_some}
-use Rattle.xa_base.proofs.{◌||◌, ◌++◌, All-head, All-tail, at_false, get-retain_keys}
+use Rattle.xa_base.proofs.{refl, sym, ap, ◌∙◌, arith, get-insert, FinMap, +ℤ_idl as none_plus, ints, get-map_values, none_passes, is_some, ◌||◌, ◌++◌, All-head}
+use Rattle.xa_base.proofs.{All-tail, at_false, get-retain_keys}
 use Rattle.xa_words.specs.{XidName, xid_eq, Decides-xid_eq, key_cmp_total, key_cmp-IsAntisymmetric, Decides-key_eq, Done, Op, Add, key_eq, Code, Request}
 use Rattle.xa_tables.specs.{Association, association_of, has_other_touched, Touch, touch_cmp, sum_of, sums_without, Answer, next, committed, coded, accepted}
 use Rattle.xa_tables.specs.{fate_of, tables_after, added_in, share_of, commits_later, ending, or_later, LateAddNothing, Tables, History, State, state_of, is_S3}
@@ -11,8 +11,7 @@ use Rattle.xa_tables.proofs.Law.{accepted_read, swap_xid, Sound, Nowhere, standi
 use Rattle.xa_tables.proofs.Law.{opening_free}
 use Rattle.xa_tables.proofs.Effects.{Moves, Still, Ended, Added, moves_of, Effect, Adds, Forgets, effect_of, Starts, Joins, Resumes, Suspends, Leaves, Idles}
 use Rattle.xa_tables.proofs.Effects.{Fails, Prepares, Commits, Drops, CommitsByItself, RollsBackByItself, Dooms}
-use Rattle.xa_tables.proofs.AccountLemmas.{touch_cmp_total, touch_cmp-IsAntisymmetric, touch_same}
-use Rattle.xa_tables.proofs.PlaceLemmas.{swapped}
+use Rattle.xa_tables.proofs.AccountLemmas.{touch_cmp_total, touch_cmp-IsAntisymmetric, touch_same, swapped}
 pub use Rattle.xa_tables.proofs.SoundLemmas.{apart_from}
 use Rattle.std.specs.FinMap as map
 
@@ -47,9 +46,6 @@ plus_zero o = grind arith
 
 due_same : (p : Held) (C D : XidName → Bool) → ((x : XidName) → D x ≡ C x) → due p D ≡ due p C
 due_same p C D h = grind arith
-
-zero_plus : (d e s : ℤ) → e ≡ d → s ≡ pos 0 → pos 0 +ℤ d ≡ e +ℤ s
-zero_plus d e s h z = omega (arith, ints)
 
 pub get_without : (sums : FinMap touch_cmp ℤ) (y x : XidName) (k : List ℕ)
     → map.get (sums_without sums y) (x, k) ≡ (if xid_eq x y then None else map.get sums (x, k))
@@ -89,9 +85,6 @@ due_ended y b (Some p) op c later h =
         ≡ (if d then (if e then q.1 else pos 0) else pos 0) +ℤ due (if e then None else Some q) l
     due_one q e d l = grind arith
 
-add_zero : (d e m s : ℤ) → e ≡ m +ℤ d → s ≡ pos 0 → m +ℤ d ≡ e +ℤ s
-add_zero d e m s h z = omega (arith, ints)
-
 amount_is : (k : List ℕ) (p : Held) (y : XidName) (sums : FinMap touch_cmp ℤ) → IsPending k p sums → sum_of sums y k ≡ amount_of_held p y
 unfolding amount_of_held
 amount_is k p y sums h = grind (arith, Decides-xid_eq)
@@ -113,10 +106,7 @@ pending_other k p y own s sums apart h = grind (arith, get_added)
 
 pub no_other : (sums : FinMap touch_cmp ℤ) (y x : XidName) (k : List ℕ) (s : ℤ) → has_other_touched sums y k ≡ false → map.get sums (x, k) ≡ Some s → x ≡ y
 no_other sums y x k s none found =
-    let t : (key_eq k k && not (xid_eq x y)) ≡ false =
-    none_passes touch_cmp_total touch_cmp-IsAntisymmetric (λ (q : Touch) v. key_eq q.1 k && not (xid_eq q.0 y)) sums (x, k) s none found in
-    let self : key_eq k k ≡ true = (Decides-key_eq k k).1 refl in
-    (Decides-xid_eq x y).0 (not-false (xid_eq x y) (sym (ap (λ b. b && not (xid_eq x y)) self) ∙ t))
+    grind (arith, (none_passes touch_cmp_total touch_cmp-IsAntisymmetric (λ (q : Touch) v. key_eq q.1 k && not (xid_eq q.0 y)) sums (x, k) s none found), Decides-key_eq, Decides-xid_eq)
 
 pending_own : (k : List ℕ) (y : XidName) (s : ℤ) (sums : FinMap touch_cmp ℤ) → has_other_touched sums y k ≡ false
     → IsPending k (Some (y, s)) (map.insert sums (y, k) s)
@@ -138,14 +128,14 @@ gained k own d p l T held none =
         pending = pending_other k p l.xid own _ T.sums (λ e. let z = (Decides-key_eq own k).1 (sym e) in cc) held;
         moved = pos 0;
         values = plus_zero _;
-        owes = λ later. zero_plus _ _ _ refl (ap (λ b. if b && true then (if later l.xid then d else pos 0) else pos 0) t);
+        owes = λ later. omega (arith, ints, ap (λ b. if b && true then (if later l.xid then d else pos 0) else pos 0) t);
       }
       | true ↦ λ t.
           let same1 : own ≡ k = (Decides-key_eq own k).0 t in
           let none1 : has_other_touched T.sums l.xid k ≡ false = ap (λ w. has_other_touched T.sums l.xid w) (sym same1) ∙ none in
           record {
             held = Some (l.xid, sum_of T.sums l.xid k +ℤ d);
-            pending = subst (λ (w : List ℕ). IsPending k (Some (l.xid, sum_of T.sums l.xid k +ℤ d)) (map.insert T.sums (l.xid, w) (sum_of T.sums l.xid w +ℤ d))) (sym same1) (pending_own k l.xid (sum_of T.sums l.xid k +ℤ d) T.sums none1);
+            pending = rw same1 (pending_own k l.xid (sum_of T.sums l.xid k +ℤ d) T.sums none1);
             moved = pos 0;
             values = plus_zero _;
             owes = λ later. split_due (later l.xid) (sum_of T.sums l.xid k) d
@@ -157,17 +147,17 @@ module _ (k : List ℕ) (p : Held) (T : Tables) (h : IsPending k p T.sums) where
   by_move : {l : Option Association} {op : Op} {a : Answer} → Moves T l op a → ValueStep k p op l T a
   by_move (Still l op a sums values shares moved endings) = record {
     held = p;
-    pending = subst (IsPending k p) (sym sums) h;
+    pending = rw sums h;
     moved = pos 0;
     values = ap (λ m. map.get m k) values ∙ plus_zero _;
-    owes = λ later. zero_plus _ _ _ (due_same p later (before op a.1 later) (λ x. ap (λ o. or_later o (later x)) (endings x))) (shares k l later);
+    owes = λ later. omega (arith, ints, due_same p later (before op a.1 later) (λ x. ap (λ o. or_later o (later x)) (endings x)), shares k l later);
   }
   by_move (Ended l op a y commits sums values shares moved endings) = record {
     held = left_by p y;
-    pending = subst (IsPending k (left_by p y)) (sym sums) (due_left k y p T.sums h);
+    pending = rw sums (due_left k y p T.sums h);
     moved = if commits then amount_of_held p y else pos 0;
     values = ap (λ m. map.get m k) values ∙ paid commits;
-    owes = λ later. add_zero (due (left_by p y) later) _ _ _ (due_ended y commits p op a.1 later endings) (shares k l later);
+    owes = λ later. omega (arith, ints, due_ended y commits p op a.1 later endings, shares k l later);
   }
     where
       paid : (b : Bool)
@@ -180,12 +170,6 @@ module _ (k : List ℕ) (p : Held) (T : Tables) (h : IsPending k p T.sums) where
 pub chained : (o : Option ℤ) (m n : ℤ) → option_map (λ v. v +ℤ n) (option_map (λ v. v +ℤ m) o) ≡ option_map (λ v. v +ℤ (m +ℤ n)) o
 chained o m n = search (arith, rules)
 
-none_moved : (d : ℤ) → pos 0 +ℤ d ≡ d +ℤ pos 0
-none_moved d = omega (arith, ints)
-
-adds_up : (m n d e f s r : ℤ) → m +ℤ e ≡ f +ℤ s → n +ℤ d ≡ e +ℤ r → (m +ℤ n) +ℤ d ≡ f +ℤ (s +ℤ r)
-adds_up m n d e f s r one two = omega (arith, ints)
-
 -- what a history moves of the value of k, and what is due after it, where `after` tells who commits after it
 pub record Run (k : List ℕ) (p : Held) (after : XidName → Bool) (H : History) (T : Tables) : Type 0 where
   pub held : Held
@@ -195,7 +179,7 @@ pub record Run (k : List ℕ) (p : Held) (after : XidName → Bool) (H : History
   pub owes : moved +ℤ due held after ≡ due p (λ x. commits_later (after x) x (coded H T)) +ℤ added_in k after H T
 
 pub value_run : (H : History) (k : List ℕ) (p : Held) (after : XidName → Bool) (T : Tables) → IsPending k p T.sums → Run k p after H T
-value_run [] k p after T h = record { held = p; pending = h; moved = pos 0; values = plus_zero _; owes = none_moved (due p after) }
+value_run [] k p after T h = record { held = p; pending = h; moved = pos 0; values = plus_zero _; owes = omega (arith, ints) }
 value_run (r ∷ H) k p after T h =
     let T1 : Tables = (next r.thread r.op T).0 in
     let a : ValueStep k p r.op (association_of T r.thread) T (next r.thread r.op T) = by_move k p T h (moves_of r.thread r.op T) in
@@ -205,7 +189,7 @@ value_run (r ∷ H) k p after T h =
       pending = rest.pending;
       moved = a.moved +ℤ rest.moved;
       values = rest.values ∙ ap (option_map (λ v. v +ℤ rest.moved)) a.values ∙ chained (map.get T.values k) a.moved rest.moved;
-      owes = adds_up a.moved rest.moved (due rest.held after) _ _ _ _ (a.owes (λ x. commits_later (after x) x (coded H T1))) rest.owes;
+      owes = omega (arith, ints, a.owes (λ x. commits_later (after x) x (coded H T1)), rest.owes);
     }
 
 -- ---- late requests add nothing
@@ -325,4 +309,4 @@ tables_after-append (r ∷ h) g T = tables_after-append h g (next r.thread r.op 
 
 pub unnamed_law : (h g : History) (x : XidName) (T : Tables) → is_somebody_associated (tables_after h T).associations x ≡ false → NamesNowhere x g
     → StaysAsItWas x (tables_after h T) (tables_after (h ++ g) T)
-unnamed_law h g x T nobody n = subst (StaysAsItWas x (tables_after h T)) (sym (tables_after-append h g T)) (unnamed_on g x (tables_after h T) nobody n)
+unnamed_law h g x T nobody n = rw (tables_after-append h g T) (unnamed_on g x (tables_after h T) nobody n)

@@ -1,24 +1,24 @@
 -- The laws of what a branch has added: by one thread's work, and as it is worth over all accounts.
-use Rattle.xa_base.proofs.{rules, ◌≡◌, ◌≢◌, ℕ, ◌+◌, ◌==◌, ℤ, pos, ◌+ℤ◌, true, false, if◌then◌else◌, Option, Some, List, [], ◌∷◌, ◌++◌, refl, sym, ap, ◌∙◌}
-use Rattle.xa_base.proofs.{arith, ints, eqb-true, eqb-false, All-head, All-tail, +ℤ_idl as none_plus, +ℤ_idr as none_after, suc, Bool, cond, None, option_map}
-use Rattle.xa_base.proofs.{is_some, subst, get-insert, eq_by_cmp, none_passes, zero, not, ◌&&◌, ◌||◌, unwrap_or, ◌<◌, length, map, All, list_any, find}
-use Rattle.xa_base.proofs.{get-empty, get-from_entries, get_or, and_parts, not-true, or-true, total_same, total_alike, total_both, total_nothing, by_bool}
-use Rattle.xa_base.proofs.{length-map, get_or-map}
+use Rattle.xa_base.proofs.{cases_eq, inl, inr, inserted_there, inserted_other, removed_there, removed_other, rules, ◌≡◌, ◌≢◌, ℕ, ◌+◌, ℤ, pos, ◌+ℤ◌, true, false}
+use Rattle.xa_base.proofs.{if◌then◌else◌, Option, Some, List, [], ◌∷◌, ◌++◌, refl, sym, ap, ◌∙◌, arith, ints, eqb-false, All-head, All-tail}
+use Rattle.xa_base.proofs.{+ℤ_idl as none_plus, +ℤ_idr as none_after, suc, Bool, None, option_map, is_some, none_passes, zero, not, ◌&&◌, unwrap_or, ◌<◌}
+use Rattle.xa_base.proofs.{length, map, All, list_any, find, get-empty, get-from_entries, get_or, and_parts, not-true, or-true, total_same, total_alike}
+use Rattle.xa_base.proofs.{total_both, total_nothing, by_bool, length-map, get_or-map}
 use Rattle.xa_words.specs.{XidName, xid_eq, Decides-xid_eq, Done, Op, Start, Add, End, Fresh, Success, Request, Code, RdOnly, Prepare, Decides-key_eq, key_eq}
 use Rattle.xa_words.specs.{key_cmp_total}
 use Rattle.xa_tables.specs.{Association, Associated, association_of, is_association_with, is_associated, is_somebody_associated, Answer, next, association}
 use Rattle.xa_tables.specs.{of_thread, tables_after, fate_of, ending, is_done, added_by, IsOpening, names, NamesNowhere, gain, unless_ended, added_by_now}
-use Rattle.xa_tables.specs.{LeavesAtWork, DoesWork, Tables, History, touch_cmp, is_rollback_only, reason_of, state_of, branch_in, has_touched, sums_without}
-use Rattle.xa_tables.specs.{EndsNowhere, is_rolled_back, is_declared, value_of, sum_of, added, committed, are_accounts, are_apart, opening, share_of}
-use Rattle.xa_tables.specs.{worth_declared, worth, held_by, moved_by, moved, is_any, WorthIsMoved, HoldsItsAdditions, DeclareEach, WorthIsMovedFrom, Account}
+use Rattle.xa_tables.specs.{LeavesAtWork, DoesWork, Tables, History, touch_cmp, is_rollback_only, reason_of, state_of, has_touched, sums_without, EndsNowhere}
+use Rattle.xa_tables.specs.{is_rolled_back, is_declared, value_of, sum_of, added, committed, are_accounts, are_apart, opening, share_of, worth_declared, worth}
+use Rattle.xa_tables.specs.{held_by, moved_by, moved, WorthIsMoved, HoldsItsAdditions, DeclareEach, WorthIsMovedFrom, Account}
 use Rattle.xa_tables.proofs.Effects.{Effect, effect_of, Starts, quiet_named, reason_rolls_back, Moves, Still, Ended, Added, moves_of}
-use Rattle.xa_tables.proofs.SoundLemmas.{own_put, other_put, own_removed, other_removed}
+use Rattle.xa_words.proofs.Xids.{xid_self}
 use Rattle.xa_tables.proofs.Law.{opening_free, swap_xid}
 use Rattle.xa_tables.proofs.ValueLaw.{apart_from, unnamed_fate, unnamed_stays, unnamed_on, get_without, get_add, get_committed}
-use Rattle.xa_tables.proofs.AccountLemmas.{touch_cmp_total, touch_cmp-IsAntisymmetric, value_found, at_own_key}
+use Rattle.xa_tables.proofs.AccountLemmas.{swapped, touch_cmp_total, touch_cmp-IsAntisymmetric, value_found, at_own_key}
 use Rattle.xa_base.specs.{total}
 use Rattle.xa_words.specs.Orders.{key_cmp}
-use Rattle.xa_tables.proofs.PlaceLemmas.{swapped, account_of, declared_entries, distinct_apart}
+use Rattle.xa_tables.proofs.PlaceLemmas.{account_of, declared_entries, distinct_apart}
 use Rattle.xa_tables.proofs.PreparedLaw.{sums_kept}
 use Rattle.std.specs.FinMap as finmap
 
@@ -27,12 +27,12 @@ use Rattle.std.specs.FinMap as finmap
 module _ (t : ℕ) (T : Tables) where
   -- a request leaves the associations of the other threads
   pub others_by : (u : ℕ) → u ≢ t → {op : Op} {a : Answer} → Effect t T op a → association_of a.0 u ≡ association_of T u
-  others_by u apart effect = grind (arith, other_put, other_removed)
+  others_by u apart effect = grind (arith, inserted_other, removed_other)
 
   -- and its thread becomes associated with no branch that it doesn't name
   pub stays_apart : (x : XidName) {op : Op} {a : Answer} → Effect t T op a → names x op ≡ false → is_associated T t x ≡ false → is_associated a.0 t x ≡ false
-  stays_apart x (Starts y free) n h = grind (arith, own_put)
-  stays_apart x effect n h = grind (arith, own_put, own_removed)
+  stays_apart x (Starts y free) n h = grind (arith, inserted_there)
+  stays_apart x effect n h = grind (arith, inserted_there, removed_there)
 
 -- ---- what requests add that aren't the branch's
 
@@ -40,17 +40,10 @@ module _ (t : ℕ) (T : Tables) where
 abbrev pub OnlyOne : ℕ → XidName → Tables → Type 0
 OnlyOne t x T = (u : ℕ) → u ≢ t → is_associated T u x ≡ false
 
--- a thread that isn't associated with x adds nothing to it
-apart_gains : (x : XidName) (op : Op) (c : Code) (l : Option Association) → is_association_with l x ≡ false → gain x op c l ≡ pos 0
-apart_gains x op c l e = grind arith
-
-same_after : (v w : ℤ) → w ≡ pos 0 → v +ℤ w ≡ v
-same_after v w e = omega (arith, ints)
-
 -- a request that doesn't name it, of such a thread
 unmoved : (x : XidName) (v : ℤ) (r : Request) (T : Tables) → names x r.op ≡ false → is_associated T r.thread x ≡ false
     → unless_ended (ending (fate_of x r.op (next r.thread r.op T).1)) (v +ℤ gain x r.op (next r.thread r.op T).1 (association_of T r.thread)) ≡ v
-unmoved x v r T n apart = grind (arith, unnamed_fate, same_after, apart_gains)
+unmoved x v r T n apart = grind (arith, unnamed_fate)
 
 -- nobody is associated with x
 pub nobody_is : (x : XidName) (T : Tables) → is_somebody_associated T.associations x ≡ false → (u : ℕ) → is_associated T u x ≡ false
@@ -75,13 +68,10 @@ pub others_first : (t : ℕ) (r : Request) (h : History) → of_thread t (r ∷ 
 others_first t r h e = grind (arith, eqb-false)
 
 only_after : (t : ℕ) (x : XidName) (r : Request) (T : Tables) → r.thread ≢ t → names x r.op ≡ false → OnlyOne t x T → OnlyOne t x (next r.thread r.op T).0
-only_after t x r T apart n only u other =
-    elim (u == r.thread) as (λ b. (u == r.thread) ≡ b → is_associated (next r.thread r.op T).0 u x ≡ false) [
-      | true ↦ λ e.
-          let same : u ≡ r.thread = eqb-true u r.thread e in
-          ap (λ w. is_associated (next r.thread r.op T).0 w x) same ∙ stays_apart r.thread T x (effect_of r.thread r.op T) n (only r.thread apart)
-      | false ↦ λ e. ap (λ o. is_association_with o x) (others_by r.thread T u (eqb-false u r.thread e) (effect_of r.thread r.op T)) ∙ only u other
-    ] refl
+only_after t x r T apart n only u other = elim (cases_eq u r.thread) [
+  | inl same ↦ ap (λ w. is_associated (next r.thread r.op T).0 w x) same ∙ stays_apart r.thread T x (effect_of r.thread r.op T) n (only r.thread apart)
+  | inr differs ↦ ap (λ o. is_association_with o x) (others_by r.thread T u differs (effect_of r.thread r.op T)) ∙ only u other
+]
 
 left_at_work : (t : ℕ) (x : XidName) (v : ℤ) (h : History) (T : Tables) → OnlyOne t x T → LeavesAtWork t x h → LeftAtWork t x v h T
 left_at_work t x v [] T only leaves = record { added = refl; only = only; own = refl }
@@ -103,7 +93,7 @@ left_at_work t x v (r ∷ h) T only leaves =
 begun_with : (t : ℕ) (x : XidName) (T : Tables) → (next t (Start x Fresh) T).1 ≡ Done
     → association_of (next t (Start x Fresh) T).0 t ≡ Some (association x Associated)
 unfolding next
-begun_with t x T = grind (arith, own_put)
+begun_with t x T = grind (arith, inserted_there)
 
 -- what a history adds that is followed by another
 added_both : (x : XidName) (v : ℤ) (h g : History) (T : Tables) → added_by_now x v (h ++ g) T ≡ added_by_now x (added_by_now x v h T) g (tables_after h T)
@@ -143,23 +133,9 @@ work_law t n x k d h T opened w =
 abbrev HasAdded : XidName → List ℕ → Tables → Type 0
 HasAdded x k T = is_some (finmap.get T.sums (x, k)) ≡ true
 
-either : {A : Type 0} (b : Bool) (v : A) (o : Option A) → is_some o ≡ true → is_some (cond b (Some v) o) ≡ true
-either b v o e = grind arith
-
 -- a branch that has touched no key has none
 pub untouched : (x : XidName) (T : Tables) → has_touched T.sums x ≡ false → (k : List ℕ) → finmap.get T.sums (x, k) ≡ None
-untouched x T none k =
-    elim (finmap.get T.sums (x, k)) as (λ o. finmap.get T.sums (x, k) ≡ o → o ≡ None) [
-      | None ↦ λ e. refl
-      | Some v ↦ λ e.
-          let no : xid_eq x x ≡ false = none_passes touch_cmp_total touch_cmp-IsAntisymmetric (λ p s. xid_eq p.0 x) T.sums (x, k) v none e in
-          let yes : xid_eq x x ≡ true = (Decides-xid_eq x x).1 refl in
-          cc
-    ] refl
-
--- once y is gone, x has added what it had, unless it was y
-left_there : (x y : XidName) (k : List ℕ) (T : Tables) → xid_eq x y ≡ false → HasAdded x k T → is_some (finmap.get (sums_without T.sums y) (x, k)) ≡ true
-left_there x y k T other h = ap is_some (get_without T.sums y x k ∙ ap (λ b. if b then None else finmap.get T.sums (x, k)) other) ∙ h
+untouched x T none k = grind (arith, (none_passes touch_cmp_total touch_cmp-IsAntisymmetric (λ (p : XidName × List ℕ) s. xid_eq p.0 x) T.sums (x, k)), xid_self)
 
 -- a request that ends y doesn't end x, and so x isn't y
 pub not_ended : (x y : XidName) (b : Bool) → (if xid_eq y x then Some b else None) ≡ None → xid_eq x y ≡ false
@@ -168,11 +144,9 @@ not_ended x y b none = grind (arith, swap_xid)
 -- a request that doesn't end the branch leaves what it has added to
 stays : (x : XidName) (k : List ℕ) (T : Tables) {l : Option Association} {op : Op} {a : Answer} → Moves T l op a → HasAdded x k T
     → ending (fate_of x op a.1) ≡ None → HasAdded x k a.0
-stays x k T (Still l op a sums values shares moved endings) h n = ap (λ m. is_some (finmap.get m (x, k))) sums ∙ h
-stays x k T (Ended l op a y commits sums values shares moved endings) h n =
-    ap (λ m. is_some (finmap.get m (x, k))) sums ∙ left_there x y k T (not_ended x y commits (sym (endings x) ∙ n)) h
-stays x k T (Added own d l known alone) h n =
-    ap is_some (get-insert touch_cmp_total T.sums (l.xid, own) _ (x, k)) ∙ either (eq_by_cmp touch_cmp (x, k) (l.xid, own)) _ (finmap.get T.sums (x, k)) h
+stays x k T (Still l op a sums values shares moved endings) h n = grind arith
+stays x k T (Ended l op a y commits sums values shares moved endings) h n = grind (arith, get_without, not_ended)
+stays x k T (Added own d l known alone) h n = grind (arith, get_add)
 
 stays_on : (g : History) (x : XidName) (k : List ℕ) (T : Tables) → HasAdded x k T → EndsNowhere x g T → HasAdded x k (tables_after g T)
 stays_on [] x k T h n = h
@@ -180,17 +154,13 @@ stays_on (r ∷ g) x k T h n =
     stays_on g x k (next r.thread r.op T).0 (stays x k T (moves_of r.thread r.op T) h (n 0 (r, (next r.thread r.op T).1) (omega arith)))
     (λ i e lt. n (suc i) e (omega arith))
 
--- an addition that is answered XA_OK
-branch_is : (o : Option Association) (x : XidName) → option_map (λ (a : Association). a.xid) o ≡ Some x → branch_in o ≡ x
-branch_is o x e = grind arith
-
 pub reason_not_done : (T : Tables) (y : XidName) → is_rollback_only T y ≡ true → reason_of T y ≡ Done → ⊥
 reason_not_done T y back e = let z : is_rolled_back Done ≡ true = ap is_rolled_back (sym e) ∙ reason_rolls_back (state_of T y) back in cc
 
 has_added : (t : ℕ) (x : XidName) (k : List ℕ) (d : ℤ) (T : Tables) → option_map (λ (a : Association). a.xid) (association_of T t) ≡ Some x
     → (next t (Add k d) T).1 ≡ Done → HasAdded x k (next t (Add k d) T).0
 unfolding next
-has_added t x k d T own = grind (arith, get_add, reason_not_done, branch_is, Decides-xid_eq, Decides-key_eq)
+has_added t x k d T own = grind (arith, get_add, reason_not_done, Decides-xid_eq, Decides-key_eq)
 
 -- a Prepare that is answered XA_RDONLY is of a branch that touched no key
 pub reads_only : (t : ℕ) (x : XidName) (T : Tables) → (next t (Prepare x) T).1 ≡ RdOnly → has_touched T.sums x ≡ false
@@ -201,7 +171,7 @@ pub added_law : (t u : ℕ) (op : Op) (x : XidName) (k : List ℕ) (d : ℤ) (g 
     → option_map (λ (a : Association). a.xid) (association_of T u) ≡ Some x
     → (next u op T).1 ≡ Done → EndsNowhere x g (next u op T).0 → (next t (Prepare x) (tables_after g (next u op T).0)).1 ≢ RdOnly
 added_law t u op x k d g T is own =
-    subst (λ (o : Op). (next u o T).1 ≡ Done → EndsNowhere x g (next u o T).0 → (next t (Prepare x) (tables_after g (next u o T).0)).1 ≢ RdOnly) (sym is) (λ done unended reads.
+    rw is (λ done unended reads.
     let after : Tables = (next u (Add k d) T).0 in
     let there : HasAdded x k (tables_after g after) = stays_on g x k after (has_added u x k d T own done) unended in
     let none : finmap.get (tables_after g after).sums (x, k) ≡ None = untouched x (tables_after g after) (reads_only t x (tables_after g after) reads) k in
@@ -240,13 +210,10 @@ Declares accounts T = (k : List ℕ) → is_declared T k ≡ among accounts k
 opening_declares : (accounts : Accounts) → Declares accounts (opening accounts)
 opening_declares accounts k = ap is_some (get-from_entries key_cmp_total (map entry_of accounts) k) ∙ found_among accounts k
 
-among_first : (d : List ℕ × ℕ) (ds : Accounts) → among (d ∷ ds) d.0 ≡ true
-among_first d ds = ap (λ b. b || among ds d.0) ((Decides-key_eq d.0 d.0).1 refl)
-
 -- each of the accounts is among them
 each_among : (accounts : Accounts) → All (λ d. among accounts d.0 ≡ true) accounts
 each_among [] k d lt = absurd (omega arith)
-each_among (d ∷ ds) zero e lt = among_first d ds
+each_among (d ∷ ds) zero e lt = search (arith, Decides-key_eq)
 each_among (d ∷ ds) (suc k) e lt = grind (arith, (each_among ds k e (omega arith)), or-true)
 
 -- ---- sums over accounts with keys of their own
@@ -257,12 +224,7 @@ once : (accounts : Accounts) (k : List ℕ) (v : ℤ) → are_apart accounts ≡
 once [] k v apart = refl
 once (d ∷ ds) k v apart =
     let parts = and_parts (not (list_any (λ e. key_eq e.0 d.0) ds)) (are_apart ds) apart in
-    elim (key_eq d.0 k) as (λ b. key_eq d.0 k ≡ b → (if b then v else pos 0) +ℤ total (λ e. if key_eq e.0 k then v else pos 0) ds ≡ (if b || among ds k then v else pos 0)) [
-      | true ↦ λ t.
-          let gone : among ds k ≡ false = ap (λ q. among ds q) (sym ((Decides-key_eq d.0 k).0 t)) ∙ not-true _ parts.0 in
-          ap (λ s. v +ℤ s) (once ds k v parts.1 ∙ ap (λ b. if b then v else pos 0) gone) ∙ sym (plus_none v)
-      | false ↦ λ t. none_plus _ ∙ once ds k v parts.1
-    ] refl
+    grind (arith, (once ds k v parts.1), (not-true _ parts.0), Decides-key_eq, plus_none, none_plus)
 
 -- each account's value at the opening
 opening_value : (ds : Accounts) (i : ℕ) (d : List ℕ × ℕ) → are_apart ds ≡ true → i < length ds
@@ -285,7 +247,6 @@ opening_holds accounts x =
     ∙ total_nothing accounts
 
 -- ---- one request
-
 -- an addition counts for its branch, at its key
 get_sum : (x y : XidName) (own k : List ℕ) (d : ℤ) (T : Tables)
     → sum_of (added y own d T).sums x k ≡ sum_of T.sums x k +ℤ (if xid_eq y x then (if key_eq k own then d else pos 0) else pos 0)
@@ -363,9 +324,6 @@ module _ (accounts : Accounts) (apart : are_apart accounts ≡ true) (T : Tables
 
 -- ---- a history
 
-regroup : (w d m n v : ℤ) → w ≡ d +ℤ m → w +ℤ n ≡ v → v ≡ d +ℤ (m +ℤ n)
-regroup w d m n v e f = omega (arith, ints)
-
 step : (accounts : Accounts) (r : Request) (T : Tables) → WorthStep accounts r.op T (next r.thread r.op T)
 step accounts r T = worth_by_move accounts T (moves_of r.thread r.op T)
 
@@ -380,8 +338,7 @@ worth_from accounts (r ∷ h) T known =
     let T1 : Tables = (next r.thread r.op T).0 in
     let one = step accounts r T in
     let still : DeclareEach accounts T1 = λ k d lt. one.keys (get_or accounts k d).0 ∙ known k d lt in
-    regroup (worth accounts T1) (worth accounts T) (moved_by accounts r.op (next r.thread r.op T).1 T) (moved accounts is_any h T1) (worth accounts (tables_after h T1))
-    (one.worth_after known) (sym (worth_from accounts h T1 still))
+    omega (arith, ints, one.worth_after known, worth_from accounts h T1 still)
 
 module _ (accounts : Accounts) (apart : are_apart accounts ≡ true) where
   held_on : (x : XidName) (h : History) (T : Tables) → Declares accounts T → held_by accounts x (tables_after h T) ≡ added_by_now x (held_by accounts x T) h T

@@ -45,8 +45,7 @@ hold_entries (a ∷ rest) = with_hold a.key a.hold (hold_entries rest)
 
 -- for each account the key and the committed value
 abbrev pub value_entries : List Account → List (List ℕ × ℤ)
-value_entries [] = []
-value_entries (a ∷ rest) = (a.key, a.value) ∷ value_entries rest
+value_entries accounts = map (λ a. (a.key, a.value)) accounts
 
 -- the keys of the accounts
 abbrev pub keys_of : List Account → List (List ℕ)
@@ -127,15 +126,6 @@ amount_of (Some h) x = if xid_eq h.xid x then h.amount else pos 0
 abbrev pub posted_by : XidName → Account → Account
 posted_by x a = record { key = a.key; value = a.value +ℤ amount_of a.hold x; hold = hold_without a.hold x }
 
--- no two entries have one key
-abbrev pub AreDistinctEntries : List (List ℕ × ℤ) → Type 0
-AreDistinctEntries [] = Unit {0}
-AreDistinctEntries (e ∷ es) = (find key_cmp e.0 es ≡ None) × AreDistinctEntries es
-
--- no two accounts have one key
-abbrev pub AreDistinct : List Account → Type 0
-AreDistinct accounts = AreDistinctEntries (value_entries accounts)
-
 -- the sum of a hold is that of at most n additions
 abbrev pub IsSmall : ℕ → Option Hold → Type 0
 IsSmall n None = Unit {0}
@@ -165,11 +155,20 @@ abbrev pub later_place : Option ℕ → Bool → Option ℕ
 later_place (Some i) here = Some (suc i)
 later_place None here = if here then Some 0 else None
 
--- where the key stands; of several places the last
-abbrev pub place_in : List ℕ → List Account → Option ℕ
+-- where the key stands among these; of several places the last
+abbrev pub place_in : List ℕ → List (List ℕ) → Option ℕ
 place_in k [] = None
-place_in k (a ∷ rest) = later_place (place_in k rest) (key_eq a.key k)
+place_in k (own ∷ rest) = later_place (place_in k rest) (key_eq own k)
 
 -- each key has its place
 abbrev pub AreIndexed : FinMap key_cmp ℕ → List Account → Type 0
-AreIndexed places accounts = (k : List ℕ) → finmap.get places k ≡ place_in k accounts
+AreIndexed places accounts = (k : List ℕ) → finmap.get places k ≡ place_in k (keys_of accounts)
+
+-- none of the keys stands twice
+abbrev pub AreApart : List (List ℕ) → Type 0
+AreApart [] = Unit {0}
+AreApart (k ∷ ks) = (place_in k ks ≡ None) × AreApart ks
+
+-- no two accounts have one key
+abbrev pub AreDistinct : List Account → Type 0
+AreDistinct accounts = AreApart (keys_of accounts)

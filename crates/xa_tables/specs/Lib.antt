@@ -29,7 +29,7 @@ pub use Next.{completed, dissociated, end, forget, gone, heur, if_opened, is_fai
 pub use Next.{open_rm, prepare, rollback, shut_down, start, start_fresh, start_join, start_resume, stated, suspended}
 pub use Next.{unless_shut, with_association}
 unfoldable pub use Next.{next}
-pub use Accounts.{AreDistinct, AreDistinctEntries, AreIndexed, Holdings, IsGood, IsSmall, added_to, all_but, amount_in}
+pub use Accounts.{AreApart, AreDistinct, AreIndexed, Holdings, IsGood, IsSmall, added_to, all_but, amount_in}
 pub use Accounts.{amount_of, are_accounts, are_apart, declared_values, hold_breaks, hold_entries, hold_is_of}
 pub use Accounts.{hold_is_other, hold_where, hold_without, holdings_code, holdings_of, is_broken_by, is_held_by}
 pub use Accounts.{is_held_by_other, kept_where, key_at, keys_of, later_place, place_in, posted_by, prepared_in}

@@ -91,7 +91,7 @@ impl Accounts {
     }
 
     /// The committed value of a key, and `None` where it isn't declared.
-    #[tactic(auto, using(crate::proofs::PlaceLemmas::place_within))]
+    #[tactic(auto, using(crate::proofs::PlaceLemmas::place_within, crate::proofs::PlaceLemmas::keys_there))]
     pub(crate) fn value(&self, key: &Key) -> Option<u64>
         ensures value { option_map pos result ≡ finmap.get self.now.values key.now }
         ensures bounded { IfSome result (λ v. v ≤ MOST_VALUE) }

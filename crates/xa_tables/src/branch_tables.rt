@@ -130,6 +130,7 @@ impl BranchTables {
     }
 
     /// `xa_start` with no flag: the branch is new.
+    #[tactic(auto, using(crate::proofs::SoundLemmas::state_rules))]
     pub(crate) fn start_fresh(&mut self, t: usize, xid: &Xid) -> Code
         requires first { 0 < t }
         requires last { t ≤ self.old.threads }
@@ -149,6 +150,7 @@ impl BranchTables {
     }
 
     /// `xa_start` with TMJOIN.
+    #[tactic(auto, using(crate::proofs::SoundLemmas::state_rules))]
     pub(crate) fn start_join(&mut self, t: usize, xid: &Xid) -> Code
         requires first { 0 < t }
         requires last { t ≤ self.old.threads }
@@ -272,6 +274,7 @@ impl BranchTables {
     }
 
     /// `xa_prepare`.
+    #[tactic(auto, using(crate::proofs::SoundLemmas::state_rules))]
     pub(crate) fn prepare(&mut self, xid: &Xid) -> Code
         ensures step { (self.new.tables, result) ≡ prepare xid.now self.old.tables }
         ensures kept { Keeps 0 self.old self.new }
@@ -301,7 +304,7 @@ impl BranchTables {
     }
 
     /// `xa_commit` with no flag: two phases.
-    #[tactic(auto, using(crate::proofs::SoundLemmas::removals))]
+    #[tactic(auto, using(crate::proofs::SoundLemmas::state_rules))]
     pub(crate) fn commit_two(&mut self, xid: &Xid) -> Code
         ensures step { (self.new.tables, result) ≡ commit_two xid.now self.old.tables }
         ensures kept { Keeps 0 self.old self.new }
@@ -321,7 +324,7 @@ impl BranchTables {
     }
 
     /// `xa_commit` with TMONEPHASE.
-    #[tactic(auto, using(crate::proofs::SoundLemmas::removals))]
+    #[tactic(auto, using(crate::proofs::SoundLemmas::state_rules))]
     pub(crate) fn commit_one(&mut self, xid: &Xid) -> Code
         ensures step { (self.new.tables, result) ≡ commit_one xid.now self.old.tables }
         ensures kept { Keeps 0 self.old self.new }
@@ -363,6 +366,7 @@ impl BranchTables {
     }
 
     /// A heuristic decision on a prepared branch.
+    #[tactic(auto, using(crate::proofs::SoundLemmas::state_rules))]
     pub(crate) fn heur(&mut self, xid: &Xid, commits: bool) -> Code
         ensures step { (self.new.tables, result) ≡ heur xid.now commits self.old.tables }
         ensures kept { Keeps 0 self.old self.new }
@@ -384,7 +388,7 @@ impl BranchTables {
     }
 
     /// `xa_forget`.
-    #[tactic(auto, using(crate::proofs::SoundLemmas::removals))]
+    #[tactic(auto, using(crate::proofs::SoundLemmas::state_rules))]
     pub(crate) fn forget(&mut self, xid: &Xid) -> Code
         ensures step { (self.new.tables, result) ≡ forget xid.now self.old.tables }
         ensures kept { Keeps 0 self.old self.new }
@@ -447,7 +451,7 @@ impl BranchTables {
     }
 
     // The branch is gone, with its sums.
-    #[tactic(auto, using(crate::proofs::SoundLemmas::removals))]
+    #[tactic(auto, using(crate::proofs::SoundLemmas::state_rules))]
     fn remove(&mut self, xid: &Xid)
         ensures gone { self.new.tables ≡ gone xid.now self.old.tables }
         ensures kept { Keeps 0 self.old self.new }

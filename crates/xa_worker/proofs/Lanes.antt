@@ -1,10 +1,10 @@
 -- Lanes of completions, place by place, and what was taken of each sender.
-use Rattle.xa_base.proofs.{arith, ◌≡◌, ℕ, ◌<◌, ◌==◌, Bool, true, false, cond, List, [], ◌∷◌, ◌++◌, length, map, Option, Some, None, refl, sym, ap, ◌∙◌, eq-eqb}
-use Rattle.xa_base.proofs.{ne_eqb, append-nil, length-map, eqb_tells, ◌+◌}
+use Rattle.xa_base.proofs.{map-alike, arith, ◌≡◌, ℕ, ◌<◌, ◌==◌, Bool, true, false, cond, List, [], ◌∷◌, ◌++◌, length, map, Option, Some, None, refl, sym, ap}
+use Rattle.xa_base.proofs.{◌∙◌, eq-eqb, ne_eqb, append-nil, length-map, eqb_tells, ◌+◌}
 use Rattle.std.specs.Prelude.{MatchBool}
 use Rattle.xa_words.specs.{Completion, Request}
 use Rattle.xa_lane.specs.{at_place, with_item, with_full, but_full, bare, sent_at, left_of}
-use Rattle.xa_lane.proofs.Parcels.{map-at_place, map-alike, sent_at-item, sent_at-other, sent_at-full, left_is}
+use Rattle.xa_lane.proofs.Parcels.{map-at_place, sent_at-item, sent_at-other, sent_at-full, left_is}
 use Rattle.xa_worker.specs.{Answering, SameLanes, StillFull, Puts, waiting_at, put_to, flushed, Entry, requests, of_sender_thread, of_own_thread, Served}
 use Rattle.xa_worker.specs.{IsServed, IsOrdered}
 use Rattle.xa_worker.specs.Outgoing.{Outgoing}

@@ -1,14 +1,14 @@
 -- What each kind of step keeps of a worker: its journal, its lanes, its seat and its pace.
-use Rattle.xa_lane.proofs.Parcels.{sent_at-but_full, of_sender-append, items_in-append, map-alike, nothing_sent}
-use Rattle.xa_base.proofs.{arith, ◌≡◌, ℕ, ◌==◌, true, false, cond, List, [], ◌∷◌, ◌++◌, map, refl, sym, ap, ◌∙◌, map-append, filter-append, ◌+◌, ◌<◌, Bool}
-use Rattle.xa_base.proofs.{◌||◌, length, get_or, Option, Some, None, subst, set, or-false, or-true, append-nil, get_or-set_same, get_or-set_other, eqb_tells}
+use Rattle.xa_base.proofs.{map-alike, arith, ◌≡◌, ℕ, ◌==◌, true, false, cond, List, [], ◌∷◌, ◌++◌, map, refl, sym, ap, ◌∙◌, map-append, filter-append, ◌+◌, ◌<◌}
+use Rattle.xa_base.proofs.{Bool, ◌||◌, length, get_or, Option, Some, None, set, or-false, or-true, append-nil, get_or-set_same, get_or-set_other, eqb_tells}
 use Rattle.xa_base.proofs.{append_assoc, rules, ◌-◌, length-map}
+use Rattle.xa_lane.proofs.Parcels.{sent_at-but_full, of_sender-append, items_in-append, nothing_sent}
 use Rattle.xa_words.specs.{Request, Completion}
 use Rattle.xa_tables.specs.{Tables, next, codes, tables_after, History, Managed}
 use Rattle.xa_worker.specs.{Entry, entry_next, tables_next, Follows, completion_of, owed, asked, of_sender_thread, IsTied, working_of, IsWorker, Inside}
 use Rattle.xa_worker.specs.{Answering, WorkerView, SameWorker, Served, SameServed, seat_of_worker, seat_of_done, IsTold, Paces, applied, SameLanes, Puts}
-use Rattle.xa_worker.specs.{flushed, put_to, Asking, IsUnfit, IsHeldUnfit, IsFinished, Extends, of_own_thread, in_hand, new_worker, Step, Did, Late, EndSeen}
-use Rattle.xa_worker.specs.{Empty, Blocked, EntersOne, Stepped, step_of, served, IsServed}
+use Rattle.xa_worker.specs.{flushed, put_to, Asking, IsUnfit, IsFinished, Extends, of_own_thread, in_hand, new_worker, Step, Did, Late, EndSeen, Empty, Blocked}
+use Rattle.xa_worker.specs.{EntersOne, Stepped, step_of, served, IsServed}
 use Rattle.xa_lane.specs.{Parcel, Receiving, Took, taken_of, parcel, has_mark, has_ended, items_in, bare, Item, EndOf, Empty as Nothing, but_full}
 use Rattle.xa_worker.specs.Outgoing.{Outgoing}
 use Rattle.xa_worker.proofs.Lanes.{same_eqb, length-lanes, lanes-flushed, none-flushed, lanes-puts, put-puts}
@@ -38,7 +38,7 @@ owed-more m t journal e = search (arith, filter-append, map-append)
 module _ {T : Type 0} where
   -- what was taken of sender s, by what its parcel had
   pub took_as : (r r' : Receiving T) (s : ℕ) (item known : Option T) → item ≡ known → Took r (taken_of s item) r' → Took r (taken_of s known) r'
-  took_as r r' s item known is took = subst (λ i. Took r (taken_of s i) r') is took
+  took_as r r' s item known is took = rw is at took
 
   has_mark-append : (xs ys : List (Option T)) → has_mark (xs ++ ys) ≡ (has_mark xs || has_mark ys)
   has_mark-append [] ys = refl
@@ -83,7 +83,7 @@ module _ {P : Type 0} (by : Request → P → P → Type 0) where
 
   -- the requests of two stretches one after another
   told_on : (rs ss : History) (a b c : P) → IsTold by rs a b → IsTold by ss b c → IsTold by (rs ++ ss) a c
-  told_on [] ss a b c first then_ = subst (λ x. IsTold by ss x c) first then_
+  told_on [] ss a b c first then_ = rw first at then_
   told_on (r ∷ rs) ss a b c first then_ = (first.0, first.1, told_on rs ss first.0 b c first.2 then_)
 
   pub paces_on : (i j k : List Entry) (a b c : P) → Paces by i j a b → Paces by j k b c → Paces by i k a c
@@ -135,7 +135,7 @@ module _ (w : WorkerView) (o : Outgoing) (same : SameLanes w.out.senders o.sende
             sent = λ k. more k ∙ ap (λ xs. xs ++ cond ((r.thread - 1) == k) (c ∷ []) []) (put k ∙ t.sent k)
                 ∙ ap (λ b. owed w.number (k + 1) w.journal ++ cond b (c ∷ []) []) (same_eqb (r.thread - 1) k r.thread (k + 1) (λ q. omega (arith, thread)) (λ q. omega (arith, thread)))
                 ∙ sym (owed-more w.number (k + 1) w.journal e) ∙ ap (owed w.number (k + 1)) (sym entered);
-            held = subst (λ x. IsHeldUnfit x m.room) (sym none) tt;
+            held = rw none tt;
             senders = ap (λ (x : Asking). x.senders) took.1 ∙ t.senders ∙ sym threads;
             lanes = length-lanes o.senders p.senders lanes ∙ length-lanes w.out.senders o.senders same ∙ t.lanes ∙ sym threads;
           }

@@ -45,6 +45,7 @@ fn flags_again(alloc: Global, settled: &Settled) -> Result<Vec<bool>, AllocError
 }
 
 // Reserves the memory of the managers.
+#[tactic(auto, using(xa_base::proofs::take_all))]
 fn reserve_managers(managers: &mut Vec<Carried>, threads: u32, room: u32) -> Result<(), AllocError>
     requires threads { IsUpTo MOST_THREADS threads }
     requires room { IsUpTo MOST_JOURNALED room }

@@ -178,6 +178,7 @@ fn find_ready(managers: &[Carried], manager: u32) -> Option<&Carried>
 }
 
 /// What the manager's worker has left, if there is such a manager.
+#[tactic(auto, using(xa_base::proofs::option_map, crate::proofs::SettledOpenings::find_parts))]
 pub(crate) fn find_carried(managers: &[Carried], manager: u32) -> Option<&Carried>
     ensures { option_map (λ m. m.now.part) result ≡ find_manager manager (parts_of managers.now) }
 {

@@ -1,5 +1,4 @@
-use Rattle.xa_base.proofs.{arith, sym, subst, refl}
-use Rattle.xa_desk.specs.{DeskView, Collects}
+use Rattle.xa_base.proofs.{arith, sym, refl}
 use Rattle.xa_calls.specs.Completing.CompletesOne.{retry, ready, waited}
 use Rattle.xa_calls.proofs.Kept.{leaves_all}
 use Rattle.xa_calls.proofs.completing.complete_one.Goals as goal
@@ -34,7 +33,7 @@ returns-clause-completes g c =
     (record {
       operation = c.in-Some-redeem.ticket.operation;
       kept = c.in-Some-redeem.ensures.kept;
-      collects = subst (λ (d : DeskView). Collects d c.complete.new.self c.in-Some-redeem.ticket.operation c.complete.result) c.in-Some-redeem.ensures.freed c.complete.ensures.collected;
+      collects = rw c.in-Some-redeem.ensures.freed at c.complete.ensures.collected;
     })
 
 pub returns-clause-leaves : goal.returns-clause-leaves

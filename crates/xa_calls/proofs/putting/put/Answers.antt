@@ -1,5 +1,4 @@
-use Rattle.xa_base.proofs.{rules, ◌≡◌, ℕ, ℤ, true, Option, Some, None, Ok, sym, ap, ◌∙◌, subst, arith, refl, of_z, w32, pos, option_map, to_z-of_z, ints, to_z}
-use Rattle.xa_base.proofs.{to_z_pos}
+use Rattle.xa_base.proofs.{rules, ◌≡◌, ℕ, ℤ, true, Option, Some, None, Ok, ap, ◌∙◌, arith, refl, of_z, w32, pos, option_map, to_z-of_z, ints, to_z, to_z_pos}
 use Rattle.xa_words.specs.CodeNumbers.{number_of}
 use Rattle.xa_words.specs.{Code, Async}
 use Rattle.xa_desk.specs.{DeskView, call_refusal, after_full}
@@ -35,8 +34,7 @@ returns-in-Ok g c =
     let k = c.in-Ok.handle in
     let told : to_z w32 k ≡ pos k = to_z_pos w32 k (omega (arith, c.in-Ok.ensures.handle.limit)) in
     record {
-      puts = kept (subst (λ b. put_refusal c.args.desk.now c.args.manager b ≡ None)
-          (sym c.if-asked.true) c.in-Ok.ensures.put) c.if-asked.true k told c.in-Ok.ensures.kept.0 c.in-Ok.ensures.kept.1;
+      puts = kept (rw c.if-asked.true c.in-Ok.ensures.put) c.if-asked.true k told c.in-Ok.ensures.kept.0 c.in-Ok.ensures.kept.1;
       leaves = record { goes_on = c.put_later.ensures.goes_on; tickets = c.put_later.ensures.tickets; idled = g.met.I.Idle.leads_start _ };
       prompt = λ _. refl;
       waited = λ waits. absurd (later_never_waits c.args.asked.asynchronous _ c.if-asked.true waits);

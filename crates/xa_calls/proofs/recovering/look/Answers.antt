@@ -1,7 +1,7 @@
-use Rattle.xa_base.proofs.{◌≡◌, ◌<◌, Some, List, [], ◌∷◌, ◌++◌, length, length-append, set, refl, sym, ap, ◌∙◌, subst, arith, slice_get, length-set}
-use Rattle.xa_base.proofs.{slice_get-get_or, get_or_default}
+use Rattle.xa_base.proofs.{◌≡◌, ◌<◌, Some, List, [], ◌∷◌, ◌++◌, length, length-append, set, refl, sym, ap, ◌∙◌, arith, slice_get, length-set, slice_get-get_or}
+use Rattle.xa_base.proofs.{get_or_default}
 use Rattle.xa_words.specs.{XidName}
-use Rattle.xa_calls.specs.{AsksAndWaits, Looks, begun, filled, ended, stopped}
+use Rattle.xa_calls.specs.{AsksAndWaits, begun, filled, ended, stopped}
 use Rattle.xa_calls.proofs.Recovered.{finds_more, passes_more, written_more}
 use Rattle.xa_calls.proofs.Kept.{leaves_all, leaves_on}
 use Rattle.xa_calls.proofs.recovering.look.Goals as goal
@@ -89,8 +89,7 @@ returns-clause-scanned g c =
     let (found, looks, xids, many) = c.loop-looked.invariant.looks in
     let all : c.loop-looked.looked ≡ length c.args.left.now = omega arith in (
       found,
-      ended (subst (λ n. Looks (AsksAndWaits g.I.Idle.leads_by c.args.manager) c.args.room c.args.left.now (c.args.desk.now, c.args.idle.now) n found
-          (c.loop-looked.desk, c.loop-looked.idle)) all looks),
+      ended (rw all at looks),
       xids,
       many,
     )

@@ -1,5 +1,5 @@
-use Rattle.xa_base.proofs.{◌≡◌, ◌+◌, Ok, Err, refl, sym, ap, ◌∙◌, subst, arith, at_true, at_false}
-use Rattle.xa_calls.specs.{AsksAndWaits, Recovers, unreached, stopped, told, room_in, end_of}
+use Rattle.xa_base.proofs.{◌≡◌, ◌+◌, Ok, Err, refl, ap, ◌∙◌, arith, at_true, at_false}
+use Rattle.xa_calls.specs.{AsksAndWaits, unreached, stopped, told, room_in, end_of}
 use Rattle.xa_scan.specs.{left_at, standing}
 use Rattle.xa_calls.proofs.Kept.{leaves_on}
 use Rattle.xa_calls.proofs.Recovered.{scanned_from, done_refuses_none}
@@ -22,12 +22,7 @@ returns-after-mode g c =
     let (found, scans, written, many) = c.in-Ok.ensures.scanned in
     let end : c.if-mode.end ≡ end_of c.args.mode (c.args.place + c.in-Ok.looked) = search (arith, then-mode, at_true, else-mode, at_false) in
     record {
-      recovers = subst (λ n. Recovers asking m c.args.mode c.args.place (c.args.desk.now, c.args.idle.now) c.args.scan.now c.args.xids.now
-          (c.look.new.desk, c.look.new.idle) c.stand.new.self c.look.new.xids (Ok n)) (sym many)
-          (told (c.ask.new.desk, c.ask.new.idle) found c.in-Ok.looked c.in-Done.ensures.asks
-          (scanned_from asking (room_in c.args.xids.now) c.args.place c.left.result.now (left_at c.args.scan.now m) _ _ found (Ok c.in-Ok.looked)
-          c.room_in-room.result c.room_in-room.ensures.room c.left.ensures scans)
-          (c.stand.ensures ∙ ap (standing c.args.scan.now m) end) written);
+      recovers = rw many (told (c.ask.new.desk, c.ask.new.idle) found c.in-Ok.looked c.in-Done.ensures.asks (scanned_from asking (room_in c.args.xids.now) c.args.place c.left.result.now (left_at c.args.scan.now m) _ _ found (Ok c.in-Ok.looked) c.room_in-room.result c.room_in-room.ensures.room c.left.ensures scans) (c.stand.ensures ∙ ap (standing c.args.scan.now m) end) written);
       bound = omega (arith, c.in-Ok.ensures.bound, c.room_in-room.ensures.told);
       leaves = leaves_on c.desks_go_on.ensures.further g.met.I.Idle.leads_chain c.ask.ensures.leaves c.look.ensures.leaves;
       kept = λ all. c.look.ensures.kept (c.ask.ensures.kept all);

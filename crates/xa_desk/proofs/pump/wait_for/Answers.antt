@@ -1,4 +1,4 @@
-use Rattle.xa_base.proofs.{arith, refl, ap}
+use Rattle.xa_base.proofs.{refl, ap}
 use Rattle.xa_desk.specs.{DeskView}
 use Rattle.xa_desk.specs.Waits.Waits.{begins}
 use Rattle.xa_desk.proofs.Looks.{looks_start, collects_from}
@@ -12,6 +12,3 @@ pub returns-in-Some-clause-waited : goal.returns-in-Some-clause-waited
 returns-in-Some-clause-waited g c =
     let found = ap (λ (d : DeskView). d.completions.quiet) c.in-Some.ensures.ready in
     record { now = c.args.book.now; waits = begins _ _ refl refl; found = found; collects = returns-in-Some-clause-collected g c }
-
-pub wait_until-requires-clause-missing : goal.wait_until-requires-clause-missing
-wait_until-requires-clause-missing g c = grind arith

@@ -1,17 +1,11 @@
 use Rattle.xa_base.proofs.{refl}
 use Rattle.xa_desk.specs.Waits.Waits.{begins, idles}
-use Rattle.xa_desk.proofs.Looks.{looks_start, looks_out, looks_loose, looks_chain, quiet_looks, collects_chain}
+use Rattle.xa_desk.proofs.Looks.{looks_start, looks_chain, quiet_looks, collects_chain}
 use Rattle.xa_desk.proofs.pump.wait_until.Goals as goal
 
 pub loop-init : goal.loop-init
 loop-init g c =
     record { looks = looks_start _ _ refl; missing = c.requires.missing; idled = g.met.I.Idle.leads_start _; waits = begins _ _ refl refl }
-
-pub draw_until-requires-clause-out : goal.draw_until-requires-clause-out
-draw_until-requires-clause-out g c = looks_out _ _ c.args.operation c.loop.invariant.looks c.requires.out
-
-pub draw_until-requires-clause-loose : goal.draw_until-requires-clause-loose
-draw_until-requires-clause-loose g c = looks_loose _ _ c.args.operation c.loop.invariant.looks c.requires.loose
 
 pub returns-in-Some-draw_until-clause-collected : goal.returns-in-Some-draw_until-clause-collected
 returns-in-Some-draw_until-clause-collected g c = collects_chain _ _ _ c.args.operation _ c.loop.invariant.looks c.in-Some-draw_until.ensures.collected

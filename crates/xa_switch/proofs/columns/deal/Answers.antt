@@ -1,5 +1,5 @@
-use Rattle.xa_base.proofs.{◌≡◌, ◌<◌, get_or, get_or-set_other, set, map, ◌∷◌, [], ◌++◌, length, length-append, vec_capacity, rules, arith, refl, sym, subst, ap}
-use Rattle.xa_base.proofs.{◌∙◌, into_iter_items, taken_next, next_place, map-set_same}
+use Rattle.xa_base.proofs.{◌≡◌, get_or, get_or-set_other, set, map, ◌∷◌, [], ◌++◌, length, length-append, vec_capacity, rules, arith, refl, sym, ap, ◌∙◌}
+use Rattle.xa_base.proofs.{into_iter_items, taken_next, next_place, map-set_same}
 use Rattle.xa_switch.proofs.Dealing.{put_none, dealt_more}
 use Rattle.xa_switch.proofs.columns.deal.Goals as goal
 
@@ -13,7 +13,7 @@ push_reserved-requires g c =
     let next =
     next_place c.loop-x.yielded _ (into_iter_items c.next.new.self) _ c.in-Some.x c.in-Some.ensures.steps.0 (i.so_far ∙ c.into_iter-x-iterator.ensures.into_iter_gives.0) in
     let own = c.index_mut-column.ensures.value ∙ i.others c.loop-x.place v (omega arith) in
-    let room = subst (λ u. length u.items < vec_capacity u) (sym own) (c.requires.room c.loop-x.place v (omega (arith, next.0, c.requires.row, i.place))) in
+    let room = rw (← own) at (c.requires.room c.loop-x.place v (omega (arith, next.0, c.requires.row, i.place))) in
     omega (arith, room, v.ok)
 
 pub loop-x-preserved : goal.loop-x-preserved

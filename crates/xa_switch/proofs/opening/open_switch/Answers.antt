@@ -1,8 +1,7 @@
-use Rattle.xa_base.proofs.{arith, ◌≡◌, ℕ, List, map, rules, length, length-map, sym, ap, ◌∙◌, subst, All, err_from_is_err_and}
+use Rattle.xa_base.proofs.{arith, ◌≡◌, ℕ, List, map, rules, length, length-map, ap, ◌∙◌, subst, err_from_is_err_and}
 use Rattle.xa_tables.specs.{Managed, opening, Tables}
 use Rattle.xa_tables.proofs.Reopening.{new_opens, accounts_new}
-use Rattle.xa_switch.specs.{Setup, IsWithinLimits, IsSoundManager, Plan, ManagerPlan, numbers_of, use_async, AreOfOneOpening, manager_room, new_manager}
-use Rattle.xa_switch.specs.{opened_by, Again}
+use Rattle.xa_switch.specs.{Setup, IsWithinLimits, Plan, ManagerPlan, numbers_of, use_async, AreOfOneOpening, manager_room, new_manager, opened_by, Again}
 use Rattle.xa_switch.proofs.Meeting.{all_new, all_begin, tables_are}
 use Rattle.xa_switch.proofs.opening.open_switch.Goals as goal
 
@@ -12,7 +11,7 @@ returns-in_err-managers-clause-bad g c =
     let limits : IsWithinLimits (numbers_of c.args.plan.now) (length c.args.plan.now.managers.items) = search rules in
     let bad = c.in_err-managers.ensures.bad in
     let is = c.deref.ensures.value in
-    rw (p.1, p.2) (λ e sound. bad.0 e (subst (λ l. All IsSoundManager l) (sym is) sound.accounts), λ never. bad.1 (λ all. never (record { limits = limits; accounts = subst (λ l. All IsSoundManager l) is all })))
+    rw (p.1, p.2) (λ e sound. bad.0 e (rw is sound.accounts), λ never. bad.1 (λ all. never (record { limits = limits; accounts = rw is at all })))
 
 -- the tables that a manager begins with
 abbrev begun : ManagerPlan → Tables

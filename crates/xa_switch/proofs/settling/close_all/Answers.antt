@@ -1,17 +1,10 @@
 use Rattle.xa_base.proofs.{arith, ◌≡◌, map, sym, subst, length-map, rules}
 use Rattle.xa_desk.specs.{EndedView}
 use Rattle.xa_worker.specs.{Served}
-use Rattle.xa_switch.specs.{IsSettled, journal, ledgers_of, IsWhole, Settling}
-use Rattle.xa_switch.proofs.Pieces.{Joint, workers_numbered, workers_opened, request_lanes, completion_lanes, AreLanesOf}
-use Rattle.xa_switch.proofs.Agreeing.{settled, parts_ready, all_there}
-use Rattle.xa_switch.proofs.SettledOpenings.{all_settled_ledgers, all_settled_journals}
+use Rattle.xa_switch.specs.{journal, ledgers_of, Settling}
+use Rattle.xa_switch.proofs.Pieces.{Joint, request_lanes, completion_lanes, AreLanesOf}
+use Rattle.xa_switch.proofs.SettledOpenings.{settled, parts_ready, all_there, all_settled_ledgers, all_settled_journals}
 use Rattle.xa_switch.proofs.settling.close_all.Goals as goal
-
-pub take_workers-answered-requires-clause-numbered : goal.take_workers-answered-requires-clause-numbered
-take_workers-answered-requires-clause-numbered g c = grind (arith, workers_numbered)
-
-pub take_workers-answered-requires-clause-opened : goal.take_workers-answered-requires-clause-opened
-take_workers-answered-requires-clause-opened g c = grind (arith, workers_opened)
 
 pub close_lanes-requires : goal.close_lanes-requires
 close_lanes-requires g c =
@@ -37,8 +30,7 @@ invariant_of-result g c =
     let j : Joint ds ws = search rules in
     let sent = c.take_desks-sent.ensures.taken in
     let answered = c.take_workers-answered.ensures.taken in
-    subst (λ (s : Settling). IsSettled s × IsWhole s) (sym (returns-clause-parts g c))
-    (settled ds ws j (rw (answered.lanes, sent.columns) at c.close_lanes.ensures) (rw (sent.lanes, answered.columns) at c.close_lanes-2.ensures), all_there ds ws j)
+    rw (returns-clause-parts g c) (settled ds ws j (rw (answered.lanes, sent.columns) at c.close_lanes.ensures) (rw (sent.lanes, answered.columns) at c.close_lanes-2.ensures), all_there ds ws j)
 
 pub returns-clause-settled : goal.returns-clause-settled
 returns-clause-settled g c = (invariant_of-result g c).0

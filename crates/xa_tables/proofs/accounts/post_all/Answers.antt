@@ -1,5 +1,5 @@
-use Rattle.xa_base.proofs.{◌≡◌, ◌<◌, ◌∙◌, sym, ap, subst, arith, false, length, get_or, set, list_any}
-use Rattle.xa_tables.specs.{Account, is_broken_by, posted_by}
+use Rattle.xa_base.proofs.{◌≡◌, ◌<◌, ◌∙◌, sym, ap, arith, length, get_or}
+use Rattle.xa_tables.specs.{posted_by}
 use Rattle.xa_tables.proofs.PlaceLemmas.{changing_none, changing_at, changing_all, held_within, posted_untouched, posted_twice, whole_more}
 use Rattle.xa_tables.proofs.accounts.post_all.Goals as goal
 
@@ -17,8 +17,7 @@ loop-place-preserved c =
     let new : c.post_account.new.account ≡ f a = c.post_account.ensures ∙ ap f (sym c.index-accounts-place.is) in (
       changing_at f (posted_twice c.args.xid.now) c.args.held.now c.args.accounts.now now c.loop-place.place-index a c.post_account.new.account
           c.requires.held (omega (arith, c.loop-place.auto.accounts)) c.loop-place.invariant.0 c.loop-place-test.true c.index-accounts-place.is new,
-      subst (λ (b : Account). list_any (λ d. is_broken_by d c.args.xid.now) (set now place b) ≡ false) (sym new)
-          (whole_more c.args.xid.now now place a within c.index-accounts-place.is c.loop-place.invariant.1),
+      rw new (whole_more c.args.xid.now now place a within c.index-accounts-place.is c.loop-place.invariant.1),
     )
 
 pub returns : goal.returns

@@ -1,4 +1,4 @@
-use Rattle.xa_base.proofs.{◌≡◌, refl, subst, arith}
+use Rattle.xa_base.proofs.{◌≡◌, refl, arith}
 use Rattle.xa_desk.specs.{with_collected, IsOut, ledger, after_collected, logged, IsBooks}
 use Rattle.xa_desk.proofs.Ledgers.{ledger-read, room_collected, planned-put, length-put_ledger}
 use Rattle.xa_desk.proofs.Books.{books_collected, loose_handle}
@@ -30,7 +30,7 @@ books c =
     loose_handle at c.self.inside.slots c.in-Some.key slot c.self.inside.kept.items (logged c.self.inside.drained.items) i.books c.in-Some.ensures.found c.args.operation named (rw (← c.self.view_is) at c.requires.loose) in
     let after =
     books_collected at c.self.inside.slots c.remove.new.self c.in-Some.key slot code c.self.inside.kept.items (logged c.self.inside.drained.items) i.books c.in-Some.ensures.found c.in-Some-code.is handle c.remove.ensures.updates c.remove.ensures.len in
-    subst (λ p. IsBooks (after_collected at p code) c.remove.new.self c.self.inside.kept.items (logged c.self.inside.drained.items)) named after
+    rw named at after
 
 pub invariant_of-self : goal.invariant_of-self
 invariant_of-self c =
@@ -39,12 +39,10 @@ invariant_of-self c =
     let at = c.self.inside.ledgers.items in
     let o = c.args.operation in
     let code = c.in-Some-code.code in
-    let len = c.remove.ensures.len in
-    let used = i.slots_room.0 in
     rw (written d) (record {
       books = books d;
       keys = keys_collected at o code (out d).known c.self.inside.rows.items c.self.inside.slots c.remove.new.self c.in-Some.key i.keys c.remove.ensures.updates;
-      slots_room = (omega arith, rw c.remove.ensures.capacity i.slots_room.1, rw c.remove.ensures.capacity i.slots_room.2);
+      slots_room = (omega (arith, c.remove.ensures.len, i.slots_room.0), rw c.remove.ensures.capacity i.slots_room.1, rw c.remove.ensures.capacity i.slots_room.2);
       places = i.places;
       drained = i.drained;
       planned = rw (planned-put at o.manager (with_collected (ledger at o.manager) o.number code) (out d).known refl) i.planned;

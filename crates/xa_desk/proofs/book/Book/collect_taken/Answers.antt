@@ -1,4 +1,4 @@
-use Rattle.xa_base.proofs.{◌≡◌, ◌≢◌, ◌-◌, ◌+◌, ◌∷◌, ◌++◌, [], None, ap, ◌∙◌, sym, refl, subst, arith, length-append, false≢true, map-append}
+use Rattle.xa_base.proofs.{◌≡◌, ◌≢◌, ◌-◌, ◌+◌, ◌∷◌, ◌++◌, [], None, ap, ◌∙◌, sym, refl, arith, length-append, false≢true, map-append}
 use Rattle.slab.specs.Slab.{Slab, slab_len, Updates}
 use Rattle.xa_desk.specs.{Slot, with_collected, Operation, Collected, desk_of, IsOut, ledger, after_collected, operation_of, drained_code, first, AreReady}
 use Rattle.xa_desk.specs.{logged, HasKept, IsBooks}
@@ -41,13 +41,9 @@ loose c =
 
 pub overflow_add-self : goal.overflow_add-self
 overflow_add-self c =
-    let d = (goal.at.overflow_add-self c).In-Some in
-    let i = c.self.invariant in
     let below =
-    drained-lt-planned c.self.inside.ledgers.items c.self.inside.slots c.self.inside.kept.items (logged c.self.inside.drained.items) c.in-Some.key c.in-Some.field-0-1 i.books c.in-Some.ensures.found (waiting d) in
-    let counted = i.drained in
-    let planned = i.planned in
-    omega arith
+    drained-lt-planned c.in-Some.key c.in-Some.field-0-1 c.self.invariant.books c.in-Some.ensures.found (waiting ((goal.at.overflow_add-self c).In-Some)) in
+    omega (arith, below, c.self.invariant.drained, c.self.invariant.planned)
 
 pub push_collected-requires : goal.push_collected-requires
 push_collected-requires c =
@@ -66,9 +62,7 @@ books : (c : In-Some) (t : Slab Slot) → Updates c.self.inside.slots t c.in-Som
     → IsBooks (after_collected c.self.inside.ledgers.items c.args.operation c.args.completion.code) t c.self.inside.kept.items (logged c.self.inside.drained.items ++ c.args.completion ∷ [])
 books c t gone len =
     let at = c.self.inside.ledgers.items in
-    subst (λ (p : Operation). IsBooks (after_collected at p c.args.completion.code) t c.self.inside.kept.items (logged c.self.inside.drained.items ++ c.args.completion ∷ [])) c.in-Some.ensures.named
-    (books_taken at c.self.inside.slots t c.in-Some.key c.in-Some.field-0-1 c.self.inside.kept.items (logged c.self.inside.drained.items) c.args.completion c.self.invariant.books c.in-Some.ensures.found (waiting c)
-    (c.in-Some.ensures.named ∙ its c) (loose c) gone len)
+    rw c.in-Some.ensures.named at (books_taken at c.self.inside.slots t c.in-Some.key c.in-Some.field-0-1 c.self.inside.kept.items (logged c.self.inside.drained.items) c.args.completion c.self.invariant.books c.in-Some.ensures.found (waiting c) (c.in-Some.ensures.named ∙ its c) (loose c) gone len)
 
 -- it is kept nowhere, so no mark changes
 marks : (c : In-Some) → AreReady c.self.inside.ready_marks c.self.inside.kept.items (logged c.self.inside.drained.items ++ c.args.completion ∷ [])
@@ -89,16 +83,13 @@ invariant_of-self c =
     let o = c.args.operation in
     let code = c.args.completion.code in
     let known = (out b).known in
-    let len = c.remove.ensures.len in
-    let used = i.slots_room.0 in
-    let counted = i.drained in
     let more = drained d in
     rw (written d) (record {
       books = rw more (books b c.remove.new.self c.remove.ensures.updates c.remove.ensures.len);
       keys = keys_collected at o code known c.self.inside.rows.items c.self.inside.slots c.remove.new.self c.in-Some.key i.keys c.remove.ensures.updates;
-      slots_room = (omega arith, rw c.remove.ensures.capacity i.slots_room.1, rw c.remove.ensures.capacity i.slots_room.2);
+      slots_room = (omega (arith, c.remove.ensures.len, i.slots_room.0), rw c.remove.ensures.capacity i.slots_room.1, rw c.remove.ensures.capacity i.slots_room.2);
       places = i.places;
-      drained = rw more (omega (arith, length-append (logged c.self.inside.drained.items) (c.args.completion ∷ [])));
+      drained = rw more (omega (arith, i.drained, length-append (logged c.self.inside.drained.items) (c.args.completion ∷ [])));
       planned = rw (planned-put at o.manager (with_collected (ledger at o.manager) o.number code) known refl) i.planned;
       limits = rw (length-put_ledger at o.manager (with_collected (ledger at o.manager) o.number code)) i.limits;
       ends = i.ends;
@@ -115,7 +106,7 @@ returns c =
     let event = ap logged c.and-self-inside-2.ensures ∙ map-append (λ p. p.0) c.self.inside.events.items ((Collected c.args.operation, tt) ∷ []) in
     rw (← c.self.view_is) (record {
       mid = record (desk_of c.self.inside) { drained = old ++ c.args.completion ∷ [] };
-      drains = first (subst (λ (p : Operation). IsOut at p) (its b) (out b)) (ap (λ (p : Operation). drained_code p old) (sym (its b)) ∙ missing b) refl;
+      drains = first (rw (its b) at (out b)) (ap (λ (p : Operation). drained_code p old) (sym (its b)) ∙ missing b) refl;
       code_ = sym (drained_code-push_first c.args.operation old c.args.completion (its b) (missing b));
       rest = search (arith, written, drained, books, c.remove.new.self, c.remove.ensures.updates);
     })

@@ -31,9 +31,7 @@ few c = grind (arith, within)
 
 pub first_clear-place-requires : goal.first_clear-place-requires
 first_clear-place-requires c =
-    let places = c.self.invariant.places in
-    let most = c.self.invariant.limits.handles in
-    kept_past c.self.inside.kept_marks c.self.inside.kept.items 63 c.self.invariant.kept_marks (omega arith)
+    kept_past c.self.inside.kept_marks c.self.inside.kept.items 63 c.self.invariant.kept_marks (omega (arith, c.self.invariant.places, c.self.invariant.limits.handles.1))
 
 pub index_mut-requires : goal.index_mut-requires
 index_mut-requires c = search (arith, within, c.self.inside.kept.ok.0)

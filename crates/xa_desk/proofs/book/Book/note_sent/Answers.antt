@@ -16,13 +16,11 @@ enter-requires c =
     let is_known = rw (← c.self.view_is) at c.requires.known in
     let room = rw (← c.self.view_is) at c.requires.room in
     let k = c.self.invariant.keys in
-    let sent = k.sent m is_known in
-    let planned = k.planned m is_known in
     let read = row-read c.self.inside.ledgers.items c.self.inside.rows.items m c.index_mut-row.result.now k.number is_known c.index_mut-row.ensures.value in
-    let in_range = c.insert_reserved-key.ensures.key_in_range in
-    let same = c.insert_reserved-key.ensures.capacity in
-    let few = c.self.invariant.slots_room.2 in
-    record { room = rw read (omega arith); key = omega arith }
+    record {
+      room = rw read (omega (arith, room, k.sent m is_known, k.planned m is_known));
+      key = omega (arith, c.insert_reserved-key.ensures.key_in_range, c.insert_reserved-key.ensures.capacity, c.self.invariant.slots_room.2);
+    }
 
 known : (c : After-enter) → IsKnown c.self.inside.ledgers.items c.args.manager
 known c = rw (← c.self.view_is) at c.requires.known
@@ -66,12 +64,10 @@ invariant_of-self c =
     let m = c.args.manager in
     let i = c.self.invariant in
     let slot = rw (← c.self.view_is) at c.requires.slot in
-    let count = i.books.count in
-    let len = c.insert_reserved-key.ensures.len in
     rw (written d, entering d) (record {
       books = books d;
       keys = keys d;
-      slots_room = (omega arith, rw c.insert_reserved-key.ensures.capacity i.slots_room.1, rw c.insert_reserved-key.ensures.capacity i.slots_room.2);
+      slots_room = (omega (arith, slot, i.books.count, c.insert_reserved-key.ensures.len), rw c.insert_reserved-key.ensures.capacity i.slots_room.1, rw c.insert_reserved-key.ensures.capacity i.slots_room.2);
       places = i.places;
       drained = i.drained;
       planned = rw (planned-put at m (with_sent (ledger at m) c.args.op.now) (known d) refl) i.planned;

@@ -8,13 +8,8 @@ use Rattle.xa_desk.proofs.book.Book.note_taken.Goals.{After-and-self-inside}
 
 pub overflow_add-self : goal.overflow_add-self
 overflow_add-self c =
-    let i = c.self.invariant in
     let e = c.in-Some.ensures.entered in
-    let below =
-    drained-lt-planned c.self.inside.ledgers.items c.self.inside.slots c.self.inside.kept.items (logged c.self.inside.drained.items) e.key e.slot i.books e.found e.waiting in
-    let counted = i.drained in
-    let planned = i.planned in
-    omega arith
+    omega (arith, drained-lt-planned e.key e.slot c.self.invariant.books e.found e.waiting, c.self.invariant.drained, c.self.invariant.planned)
 
 one_more : (c : After-and-self-inside) → logged c.and-self-inside.result.items ≡ logged c.self.inside.drained.items ++ c.args.completion ∷ []
 one_more c = ap logged c.and-self-inside.ensures ∙ map-append (λ p. p.0) c.self.inside.drained.items ((c.args.completion, tt) ∷ [])
@@ -27,7 +22,6 @@ pub invariant_of-self : goal.invariant_of-self
 invariant_of-self c =
     let i = c.self.invariant in
     let e = c.in-Some.ensures.entered in
-    let counted = i.drained in
     let d = (goal.at.invariant_of-self c).After-and-self-inside in
     let more = one_more d in
     record {
@@ -35,7 +29,7 @@ invariant_of-self c =
       keys = keys_kept c.self.inside.ledgers.items c.self.inside.rows.items c.self.inside.slots c.enter_code.new.slots e.key e.slot _ i.keys e.found refl e.updates;
       slots_room = rw (e.len, e.capacity) i.slots_room;
       places = i.places;
-      drained = rw more (omega (arith, length-append (logged c.self.inside.drained.items) (c.args.completion ∷ [])));
+      drained = rw more (omega (arith, i.drained, length-append (logged c.self.inside.drained.items) (c.args.completion ∷ [])));
       planned = i.planned;
       limits = i.limits;
       ends = i.ends;

@@ -1,6 +1,6 @@
-use Rattle.xa_base.proofs.{arith, length, map, sym, ap, ◌∙◌, ◌++◌, into_iter_items, got_map, next_there, taken_next}
+use Rattle.xa_base.proofs.{arith, length, map, sym, ap, ◌∙◌, ◌++◌, ◌∷◌, [], into_iter_items, got_map, next_there, taken_next, length-append}
 use Rattle.xa_switch.specs.{IsDeskOf}
-use Rattle.xa_switch.proofs.Dealing.{next_of, one_more_made}
+use Rattle.xa_switch.proofs.Dealing.{next_of, push_more}
 use Rattle.xa_switch.proofs.opening.assemble.assemble_desks.Goals as goal
 
 pub assemble-requires : goal.assemble-requires
@@ -22,7 +22,7 @@ loop-part-preserved c =
     let requests = next_of i.requests c.in-Some.part c.next-in-loop-part.new.self c.in-Some-next.ensures.cases in
     let completions = next_of i.completions c.in-Some.part c.next-in-loop-part-2.new.self c.in-Some-next-2.ensures.cases in
     let Is = IsDeskOf c.args.parts.items (map (λ v. v.items) c.args.columns.items) c.args.receivers.items in
-    let made = one_more_made Is c.loop-part.desks.items _ c.assemble.result Y c.in-Some.part i.many c.push_reserved.ensures.items i.made (record {
+    let made = push_more Is c.loop-part.desks.items _ c.assemble.result (length Y) _ i.many (length-append Y (c.in-Some.part ∷ [])) c.push_reserved.ensures.items i.made (record {
       part = c.in-Some.part;
       requests = c.in-Some-next.requests.items;
       completions = c.in-Some-next-2.completions;

@@ -1,5 +1,4 @@
-use Rattle.xa_base.proofs.{◌+◌, map, vec_capacity, sym, subst, arith, length-map}
-use Rattle.xa_switch.specs.{put_row, AreNewLanes}
+use Rattle.xa_base.proofs.{map, vec_capacity, arith, length-map}
 use Rattle.xa_switch.proofs.Dealing.{room_more, room_stays, length_senders, one_more_lane}
 use Rattle.xa_switch.proofs.opening.lanes.open_lanes.Goals as goal
 
@@ -16,9 +15,7 @@ loop-before-preserved g c =
     let opened = c.in-Ok.ensures in
     record {
       lanes =
-          subst (λ C. AreNewLanes c.args.opening c.args.kind c.args.senders (c.loop-before.before + 1) c.args.room C c.push_reserved.new.self.items) (sym c.deal-columns.ensures.dealt)
-          (subst (λ rs. AreNewLanes c.args.opening c.args.kind c.args.senders (c.loop-before.before + 1) c.args.room (put_row (map (λ v. v.items) c.loop-before.columns.items) c.in-Ok.ends.items) rs) (sym c.push_reserved.ensures.items)
-          (one_more_lane c.args.opening c.args.kind c.args.senders c.loop-before.before c.args.room (map (λ v. v.items) c.loop-before.columns.items) c.loop-before.receivers.items c.in-Ok.ends.items c.in-Ok.receiver i.lanes opened.senders opened.receiver));
+          rw (c.deal-columns.ensures.dealt, c.push_reserved.ensures.items) (one_more_lane c.args.opening c.args.kind c.args.senders c.loop-before.before c.args.room (map (λ v. v.items) c.loop-before.columns.items) c.loop-before.receivers.items c.in-Ok.ends.items c.in-Ok.receiver i.lanes opened.senders opened.receiver);
       deep = room_stays (λ v. vec_capacity v) c.loop-before.columns.items c.deal-columns.result.items c.args.lanes c.deal-columns.ensures.capacity i.deep;
       room = let stays = c.push_reserved.ensures.capacity in let room = i.room in omega (arith, stays, room);
     }

@@ -1,4 +1,4 @@
-use Rattle.xa_base.proofs.{◌≡◌, true, false, ◌+◌, [], ◌∷◌, ◌++◌, cond, Result, take, sym, ap, ◌∙◌, subst, arith, All, take_all, both_ways, true_from_ne_false}
+use Rattle.xa_base.proofs.{◌≡◌, true, false, ◌+◌, [], ◌∷◌, ◌++◌, cond, Result, take, sym, ap, ◌∙◌, arith, All, take_all, both_ways, true_from_ne_false}
 use Rattle.xa_base.proofs.{All-more}
 use Rattle.std.proofs.Common.{is_ok, is_err}
 use Rattle.std.proofs.lemmas.List.{map_more}
@@ -13,7 +13,7 @@ pub loop-plan-preserved : goal.loop-plan-preserved
 loop-plan-preserved c = record {
   sound =
       let more : IsSoundManager c.plan-item.result → All IsSoundManager (take (c.loop-plan.plan-index + 1) c.args.managers.now) = λ here.
-      All-more IsSoundManager c.args.managers.now c.loop-plan.plan-index c.plan-item.result (omega arith) c.loop-plan.invariant.sound (subst IsSoundManager c.plan-item.is here) in
+      All-more IsSoundManager c.args.managers.now c.loop-plan.plan-index c.plan-item.result (omega arith) c.loop-plan.invariant.sound (rw c.plan-item.is at here) in
       elim c.match-open_manager.branch [
         | in-Ok+then-is_short w ↦ more w.in-Ok.ensures.sound
         | in-Ok+else-is_short w ↦ more w.in-Ok.ensures.sound
@@ -36,4 +36,4 @@ loop-plan-preserved c = record {
 pub returns-then-is_short-2-clause-bad : goal.returns-then-is_short-2-clause-bad
 returns-then-is_short-2-clause-bad c =
     let all : take c.loop-plan.plan-index c.args.managers.now ≡ c.args.managers.now = take_all c.loop-plan.plan-index c.args.managers.now (omega arith) in
-    (λ e. absurd (cc), λ no. absurd (no (subst (λ l. All IsSoundManager l) all c.loop-plan.invariant.sound)))
+    (λ e. absurd (cc), λ no. absurd (no (rw all at c.loop-plan.invariant.sound)))

@@ -1,25 +1,24 @@
-use Rattle.xa_base.proofs.{arith, ◌≡◌, ◌≤◌, map, sym, ap, ◌∙◌, subst, All, range_with_len, length-map-range_with_len}
+use Rattle.xa_base.proofs.{arith, ◌≡◌, ◌≤◌, map, sym, ap, ◌∙◌, subst, range_with_len, length-map-range_with_len, mapped_some}
 use Rattle.xa_tables.specs.{Managed}
-use Rattle.xa_switch.specs.{setup, new_manager, AreOfOneOpening, ReadyPart, find_manager, last_in, managers_in, parts_of, reopened_at, Settling}
-use Rattle.xa_switch.proofs.Agreeing.{find_parts}
-use Rattle.xa_switch.proofs.Lists.{some_of}
+use Rattle.xa_switch.specs.{setup, AreOfOneOpening, ReadyPart, find_manager, last_in, managers_in, parts_of, reopened_at, Settling}
+use Rattle.xa_switch.proofs.SettledOpenings.{find_parts}
 use Rattle.xa_switch.proofs.Meeting.{all_new, all_begin, tables_are}
 use Rattle.xa_switch.proofs.opening.reopening.reopen.Goals as goal
 
 pub reopen_managers-managers-requires-clause-there : goal.reopen_managers-managers-requires-clause-there
 reopen_managers-managers-requires-clause-there g c = λ m low high.
     let new = c.reserve_managers.new.managers.items in
-    let within : m ≤ managers_in c.args.settled = subst (λ n. m ≤ n) c.managers-many.ensures.managers high in
-    let there = c.settled.invariant.1.there m low (subst (λ (z : Settling). m ≤ managers_in z) (sym c.settled.view_is) within) in
-    some_of (λ (r : ReadyPart). r.part) _ there.0 (sym (find_parts m new) ∙ ap (find_manager m) c.reserve_managers.ensures.parts ∙ there.1)
+    let within : m ≤ managers_in c.args.settled = rw c.managers-many.ensures.managers at high in
+    let there = c.settled.invariant.1.there m low (rw (← c.settled.view_is) at within) in
+    let at = mapped_some (λ (r : ReadyPart). r.part) _ there.0 (sym (find_parts m new) ∙ ap (find_manager m) c.reserve_managers.ensures.parts ∙ there.1) in
+    (at.0, at.1)
 
 pub put_together-desks-requires-clause-many : goal.put_together-desks-requires-clause-many
 put_together-desks-requires-clause-many g c = grind (arith, length-map-range_with_len)
 
 pub put_together-desks-requires-clause-new : goal.put_together-desks-requires-clause-new
 put_together-desks-requires-clause-new g c =
-    subst (λ n. All (λ (m : Managed). m ≡ new_manager n m.tables) c.reopen_managers-managers.result.items) (sym c.in-Ok.ensures.numbers)
-    (all_new c.args.again.now (reopened_at (parts_of c.reserve_managers.new.managers.items)) _ _ c.reopen_managers-managers.ensures)
+    rw c.in-Ok.ensures.numbers (all_new c.args.again.now (reopened_at (parts_of c.reserve_managers.new.managers.items)) _ _ c.reopen_managers-managers.ensures)
 
 pub put_together-desks-requires-clause-begins : goal.put_together-desks-requires-clause-begins
 put_together-desks-requires-clause-begins g c =

@@ -1,7 +1,6 @@
-use Rattle.xa_base.proofs.{◌≡◌, ◌+◌, Some, option_map, ◌∙◌, arith, range_with_len, map-append, range_more, All-contains, length-map-range_with_len}
+use Rattle.xa_base.proofs.{found, ◌≡◌, ◌+◌, Some, option_map, ◌∙◌, arith, range_with_len, map-append, range_more, All-contains, length-map-range_with_len}
 use Rattle.xa_switch.specs.{ReadyPart, find_ready}
-use Rattle.xa_switch.proofs.Agreeing.{find_parts}
-use Rattle.xa_switch.proofs.Lists.{found}
+use Rattle.xa_switch.proofs.SettledOpenings.{find_parts}
 use Rattle.xa_switch.proofs.opening.reopening.reopen_managers.Goals as goal
 
 pub take_manager-manager-requires : goal.take_manager-manager-requires

@@ -1,4 +1,4 @@
-use Rattle.xa_base.proofs.{◌≡◌, Some, ◌∙◌, subst, sym, arith, take, All, length-set, take_all, All-push, map-set_same}
+use Rattle.xa_base.proofs.{◌≡◌, Some, ◌∙◌, arith, take, length-set, All-push, map-set_same}
 use Rattle.std.proofs.lemmas.List.{take_more_set}
 use Rattle.xa_switch.specs.{ReadyPart}
 use Rattle.xa_switch.proofs.opening.reopening.reserve_managers.Goals as goal
@@ -15,8 +15,5 @@ loop-place-preserved c =
     record {
       parts = search (arith, map-set_same, c.index_mut.result.now);
       many = length-set managers i after ∙ c.loop-place.invariant.many;
-      reserved = subst (All Has) (sym (take_more_set managers i after (omega arith))) (All-push Has (take i managers) after c.loop-place.invariant.reserved c.in_ok-reserve.ensures.reserved);
+      reserved = rw (take_more_set managers i after (omega arith)) (All-push Has (take i managers) after c.loop-place.invariant.reserved c.in_ok-reserve.ensures.reserved);
     }
-
-pub returns-clause-reserved : goal.returns-clause-reserved
-returns-clause-reserved c = grind (arith, take_all)

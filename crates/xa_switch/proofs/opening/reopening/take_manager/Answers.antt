@@ -1,6 +1,5 @@
-use Rattle.xa_base.proofs.{◌≡◌, ◌≢◌, Some, sym, ap, ◌∙◌, subst, arith, All, eq-eqb, ne_eqb, take_all, all_at, find_none, get_or_default, All-more}
-use Rattle.xa_switch.specs.{ReadyPart, find_ready}
-use Rattle.xa_switch.proofs.Lists.{found_at, found_without}
+use Rattle.xa_base.proofs.{found_at, found_without, ◌≢◌, sym, ap, ◌∙◌, arith, eq-eqb, ne_eqb, take_all, all_at, find_none, get_or_default, All-more}
+use Rattle.xa_switch.specs.{ReadyPart}
 use Rattle.xa_switch.proofs.opening.reopening.take_manager.Goals as goal
 
 pub returns-then-number : goal.returns-then-number
@@ -19,8 +18,8 @@ loop-place-preserved c =
 pub unreachable-requires : goal.unreachable-requires
 unreachable-requires c =
     let xs = c.loop-place.managers.items in
-    let there = subst (λ l. find_ready c.args.number l ≡ Some c.requires.0) (sym c.loop-place.invariant.same) c.requires.1 in
-    let none = subst (All (λ (r : ReadyPart). r.part.number ≢ c.args.number)) (take_all c.loop-place.place xs (omega arith)) c.loop-place.invariant.none in
+    let there = rw (← c.loop-place.invariant.same) at c.requires.1 in
+    let none = rw (take_all c.loop-place.place xs (omega arith)) at c.loop-place.invariant.none in
     let nowhere =
     find_none (λ (r : ReadyPart). r.part.number) c.args.number xs (λ k r at. all_at (λ (q : ReadyPart). q.part.number ≢ c.args.number) xs k r none at) in
     let no = sym nowhere ∙ there in

@@ -1,7 +1,7 @@
-use Rattle.xa_base.proofs.{◌≡◌, ◌+◌, Some, [], ◌∷◌, option_map, length, length-append, map, sym, ap, ◌∙◌, subst, arith}
-use Rattle.xa_tables.specs.{AreLeft, reopened}
-use Rattle.xa_switch.specs.{Each, find_manager, last_in, parts_of, reopened_at}
-use Rattle.xa_switch.proofs.Dealing.{each_more}
+use Rattle.xa_base.proofs.{◌≡◌, ◌+◌, Some, [], ◌∷◌, option_map, length, length-append, length-map, map, map-append, refl, sym, ap, ◌∙◌, arith}
+use Rattle.xa_tables.specs.{AreLeft}
+use Rattle.xa_switch.specs.{find_manager, parts_of, reopened_at}
+use Rattle.xa_switch.proofs.Dealing.{push_more}
 use Rattle.xa_switch.proofs.opening.scans.left_of.Goals as goal
 
 pub loop-before-preserved : goal.loop-before-preserved
@@ -16,11 +16,11 @@ loop-before-preserved c =
     ap (λ z. find_manager (k + 1) z.managers) (sym c.settled.view_is) ∙ ap (λ l. find_manager (k + 1) (parts_of l)) (sym c.deref.ensures.value)
     ∙ sym c.find_carried.ensures ∙ ap (option_map (λ m. m.now.part)) c.in-Some.is in
     let here : AreLeft xs.items (reopened_at s.managers (k + 1)) =
-    subst (λ o. AreLeft xs.items (reopened (last_in o))) (sym found) (c.openings_begin_with_what_was_left.ensures.left xs.items part.last c.in_ok-left-in-Some.ensures) in
+    rw found (c.openings_begin_with_what_was_left.ensures.left xs.items part.last c.in_ok-left-in-Some.ensures) in
     let grown = ap (λ l. length l) c.push_reserved.ensures.items in
     record {
       counted = omega (arith, i.counted, grown, length-append lists (xs ∷ []));
       room = c.push_reserved.ensures.capacity ∙ i.room;
-      each = subst (λ l. Each (λ j l. AreLeft l (reopened_at s.managers (j + 1))) (map (λ x. x.items) l)) (sym c.push_reserved.ensures.items)
-          (each_more (λ j l. AreLeft l (reopened_at s.managers (j + 1))) (λ x. x.items) lists xs i.each (subst (λ n. AreLeft xs.items (reopened_at s.managers (n + 1))) (sym i.counted) here));
+      each = (push_more (λ j l. AreLeft l (reopened_at s.managers (j + 1))) (map (λ x. x.items) lists) _ xs.items k (k + 1)
+          (length-map lists (λ x. x.items) ∙ i.counted) refl (ap (map (λ x. x.items)) c.push_reserved.ensures.items ∙ map-append (λ x. x.items) lists (xs ∷ [])) i.each here).1;
     }

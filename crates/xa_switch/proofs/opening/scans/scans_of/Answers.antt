@@ -1,4 +1,4 @@
-use Rattle.xa_base.proofs.{rules, [], ◌∷◌, length, length-append, sym, ap, ◌∙◌, subst, arith, All, All-push}
+use Rattle.xa_base.proofs.{rules, [], ◌∷◌, length, length-append, ap, ◌∙◌, arith, All-push}
 use Rattle.xa_switch.specs.{IsScanOf}
 use Rattle.xa_switch.proofs.opening.scans.scans_of.Goals as goal
 
@@ -11,5 +11,5 @@ loop-preserved c =
     record {
       counted = omega (arith, c.loop.invariant.counted, grown, length-append c.loop.scans.items (c.over.result ∷ []));
       room = c.push_reserved.ensures.capacity ∙ c.loop.invariant.room;
-      each = subst (All (IsScanOf s)) (sym c.push_reserved.ensures.items) (All-push (IsScanOf s) c.loop.scans.items c.over.result c.loop.invariant.each is);
+      each = rw c.push_reserved.ensures.items (All-push (IsScanOf s) c.loop.scans.items c.over.result c.loop.invariant.each is);
     }

@@ -1,10 +1,8 @@
-use Rattle.xa_base.proofs.{◌≡◌, ◌<◌, ℕ, length, ◌≤◌, refl, sym, ap, ◌∙◌, subst, arith, List, ◌+◌, vec_capacity, All, slice_index_or, [], ◌+ℤ◌, set, length-set}
-use Rattle.xa_base.proofs.{length-map, from_entries}
+use Rattle.xa_base.proofs.{◌≡◌, ◌<◌, length, refl, sym, ap, ◌∙◌, arith, ◌+◌, slice_index_or, [], ◌+ℤ◌, set, length-set, length-map, from_entries}
 use Rattle.std.specs.FinMap as finmap
-use Rattle.xa_tables.specs.{Account, touch_cmp, is_broken, has_other_touched, sum_of, AreDistinct, AreIndexed, IsGood, value_entries, hold_entries, added_to}
-use Rattle.xa_tables.specs.{key_at, keys_of, AreHeld}
-use Rattle.xa_tables.proofs.PlaceLemmas.{held_noted, note_room, key_there, indexed_set}
-use Rattle.xa_tables.proofs.AccountLemmas.{IsFor, for_place, values_set, sums_added, others_added, distinct_added, all_added}
+use Rattle.xa_tables.specs.{Account, touch_cmp, is_broken, has_other_touched, sum_of, value_entries, hold_entries, added_to, key_at, keys_of, place_in}
+use Rattle.xa_tables.proofs.PlaceLemmas.{held_noted, note_room, key_there}
+use Rattle.xa_tables.proofs.AccountLemmas.{keys_set, IsFor, for_place, values_set, sums_added, others_added, distinct_added, all_added}
 use Rattle.xa_tables.proofs.accounts.Accounts.add.Goals as goal
 use Rattle.xa_tables.proofs.accounts.Accounts.add.Goals.{After-index-account}
 
@@ -36,16 +34,7 @@ invariant_of-self c =
     let i = c.args.place in
     let a = c.index-account.result.now in
     let b : Account = added_to a c.args.xid.now c.args.delta in
-    subst (λ (as1 : List Account). AreDistinct as1 × All (IsGood (c.self.inside.adds + 1)) as1 × AreIndexed c.self.inside.places.places as1
-    × AreHeld c.note.new.held.items as1 × (length as1 ≤ vec_capacity c.note.new.held))
-    (sym (ap (set items i) c.with_added.ensures.added)) (
-      distinct_added items i a c.args.xid.now c.args.delta c.self.invariant.0 inside c.index-account.ensures,
-      all_added c.self.inside.adds i a c.args.xid.now c.args.delta items c.with_added.ensures.valid inside c.index-account.ensures c.self.invariant.1,
-      indexed_set c.self.inside.places.places items i a b inside c.index-account.ensures refl c.self.invariant.2,
-      subst (λ (ps : List ℕ). AreHeld ps (set items i b)) (sym c.note.ensures.places)
-          (held_noted c.self.inside.held.items items i a b c.self.invariant.3 inside c.index-account.ensures refl),
-      omega (arith, length-set items i b, c.note.ensures.room, c.self.invariant.4),
-    )
+    rw (ap (set items i) c.with_added.ensures.added) (distinct_added items i a c.args.xid.now c.args.delta c.self.invariant.0 c.index-account.ensures, all_added c.self.inside.adds i a c.args.xid.now c.args.delta items c.with_added.ensures.valid inside c.index-account.ensures c.self.invariant.1, λ k. c.self.invariant.2 k ∙ ap (place_in k) (sym (keys_set items i a b c.index-account.ensures refl)), rw c.note.ensures.places (held_noted c.self.inside.held.items items i a b c.self.invariant.3 inside c.index-account.ensures refl), omega (arith, length-set items i b, c.note.ensures.room, c.self.invariant.4))
 
 pub returns-clause-sums : goal.returns-clause-sums
 returns-clause-sums c =

@@ -1,6 +1,6 @@
-use Rattle.xa_base.proofs.{arith, ◌≡◌, ◌++◌, refl, ap, ◌∙◌, length, take, drop, filter, map, from_entries}
+use Rattle.xa_base.proofs.{arith, ◌≡◌, ◌++◌, refl, ap, ◌∙◌, length, take, drop, map, from_entries}
+use Rattle.xa_tables.specs.{touch_cmp, is_broken, sums_without, value_entries, hold_entries, all_but, kept_where}
 use Rattle.xa_words.specs.Orders.{key_cmp}
-use Rattle.xa_tables.specs.{touch_cmp, is_broken, sums_without, value_entries, hold_entries, kept_where, all_but, is_held_at}
 use Rattle.xa_tables.proofs.AccountLemmas.{written_whole, kept_goes, sums_go, values_kept, others_as_were, forgotten_breaks, all_kept}
 use Rattle.xa_tables.proofs.PlaceLemmas.{accounts_kept}
 use Rattle.xa_tables.proofs.accounts.Accounts.forget.Goals as goal
@@ -29,8 +29,6 @@ returns-clause-others c y apart =
 
 pub invariant_of-self : goal.invariant_of-self
 invariant_of-self c =
-    let items = c.self.inside.accounts.items in
     let keep = all_but c.args.xid.now in
-    accounts_kept keep (kept_where keep) (kept_goes keep) c.self.inside.adds c.self.inside.places.places c.self.inside.held.items items (all c)
-    (c.keep_held.ensures.places ∙ ap (λ as1. filter (is_held_at as1) c.self.inside.held.items) c.deref-2.ensures.value) c.keep_held.ensures.room
-    c.self.invariant.0 (all_kept c.self.inside.adds keep items c.self.invariant.1) c.self.invariant.2 c.self.invariant.3 c.self.invariant.4
+    accounts_kept keep (kept_where keep) (kept_goes keep) c.self.inside.adds c.self.inside.places.places (all c) (cc) c.keep_held.ensures.room
+    c.self.invariant.0 (all_kept c.self.inside.adds keep c.self.inside.accounts.items c.self.invariant.1) c.self.invariant.2 c.self.invariant.3 c.self.invariant.4

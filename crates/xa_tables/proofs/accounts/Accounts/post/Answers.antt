@@ -1,6 +1,6 @@
 use Rattle.xa_base.proofs.{arith, ◌≡◌, ◌++◌, refl, sym, ap, ◌∙◌, length, take, drop, list_any, filter, map, from_entries}
-use Rattle.xa_words.specs.Orders.{key_cmp}
 use Rattle.xa_tables.specs.{touch_cmp, is_broken, sums_without, value_entries, hold_entries, posted_by, is_broken_by, all_but, is_held_at}
+use Rattle.xa_words.specs.Orders.{key_cmp}
 use Rattle.xa_tables.proofs.AccountLemmas.{written_whole, posted_goes, sums_go, values_posted, others_as_were, settled_breaks, all_posted, broken_any}
 use Rattle.xa_tables.proofs.PlaceLemmas.{accounts_kept}
 use Rattle.xa_tables.proofs.accounts.Accounts.post.Goals as goal
@@ -38,6 +38,6 @@ invariant_of-self c =
     let items = c.self.inside.accounts.items in
     let x = c.args.xid.now in
     let whole = sym (broken_any items x c.self.invariant.0) ∙ ap (λ h. is_broken h.values h.sums x) c.self.view_is ∙ c.requires in
-    accounts_kept (all_but x) (posted_by x) (posted_goes x) c.self.inside.adds c.self.inside.places.places c.self.inside.held.items items (all c)
+    accounts_kept (all_but x) (posted_by x) (posted_goes x) c.self.inside.adds c.self.inside.places.places (all c)
     (c.keep_held.ensures.places ∙ ap (λ as1. filter (is_held_at as1) c.self.inside.held.items) c.deref-2.ensures.value) c.keep_held.ensures.room
     c.self.invariant.0 (all_posted c.self.inside.adds x items c.self.invariant.1 whole) c.self.invariant.2 c.self.invariant.3 c.self.invariant.4

@@ -1,7 +1,7 @@
-use Rattle.xa_base.proofs.{arith, ◌≡◌, ◌++◌, sym, ap, ◌∙◌, length, take, drop, filter, map, from_entries}
+use Rattle.xa_base.proofs.{arith, ◌≡◌, ◌++◌, sym, ap, ◌∙◌, length, take, drop, map, from_entries}
+use Rattle.xa_tables.specs.{touch_cmp, is_broken, hold_entries, kept_where, prepared_in}
 use Rattle.std.specs.FinMap as finmap
 use Rattle.xa_words.specs.Orders.{key_cmp}
-use Rattle.xa_tables.specs.{is_broken, touch_cmp, hold_entries, kept_where, prepared_in, is_held_at}
 use Rattle.xa_tables.proofs.AccountLemmas.{written_whole, kept_goes, sums_go, values_kept, all_prepared, broken_any}
 use Rattle.xa_tables.proofs.PlaceLemmas.{accounts_kept}
 use Rattle.xa_tables.proofs.accounts.Accounts.retain_prepared.Goals as goal
@@ -24,8 +24,7 @@ returns-clause-values c = grind (arith, from_entries, key_cmp, all, values_kept)
 pub invariant_of-self : goal.invariant_of-self
 invariant_of-self c =
     let keep = prepared_in c.args.branches.now.states in
-    accounts_kept keep (kept_where keep) (kept_goes keep) 1 c.self.inside.places.places c.self.inside.held.items c.self.inside.accounts.items (all c)
-    (c.keep_held.ensures.places ∙ ap (λ as1. filter (is_held_at as1) c.self.inside.held.items) c.deref-2.ensures.value) c.keep_held.ensures.room
+    accounts_kept keep (kept_where keep) (kept_goes keep) 1 c.self.inside.places.places (all c) (cc) c.keep_held.ensures.room
     c.self.invariant.0
     (all_prepared c.self.inside.adds keep c.self.inside.accounts.items c.self.invariant.1
     (λ x voted. sym (broken_any c.self.inside.accounts.items x c.self.invariant.0) ∙ ap (λ h. is_broken h.values h.sums x) c.self.view_is ∙ c.requires x voted))

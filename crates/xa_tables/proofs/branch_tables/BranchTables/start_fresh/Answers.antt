@@ -1,12 +1,8 @@
-use Rattle.xa_base.proofs.{rules, ◌≡◌, false, refl, ap, ◌∙◌, arith}
+use Rattle.xa_base.proofs.{rules, ◌≡◌, false, ap, ◌∙◌, arith}
 use Rattle.std.specs.FinMap as map
 use Rattle.xa_tables.specs.{Associated, has_association, tables_of, association}
-use Rattle.xa_tables.proofs.SoundLemmas.{sound_put}
 use Rattle.xa_tables.proofs.ThreadLemmas.{takes_one}
 use Rattle.xa_tables.proofs.branch_tables.BranchTables.start_fresh.Goals as goal
-
-pub invariant_of-self : goal.invariant_of-self
-invariant_of-self c = sound_put _ _ _ _ _ _ _ _ c.insert.ensures.state (λ e. cc) (λ y apart. refl) c.self.invariant
 
 pub returns-clause-kept : goal.returns-clause-kept
 returns-clause-kept c =

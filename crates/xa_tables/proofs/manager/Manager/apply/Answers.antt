@@ -1,5 +1,5 @@
-use Rattle.xa_base.proofs.{◌+◌, ◌*◌, ◌≤◌, rules, sym, ap, subst, arith}
-use Rattle.xa_tables.specs.{Tables, AreAssociationsLive, free_threads, places_taken, Answer}
+use Rattle.xa_base.proofs.{◌≤◌, rules, sym, ap, arith}
+use Rattle.xa_tables.specs.{Answer}
 use Rattle.xa_tables.proofs.Law.{live_after}
 use Rattle.xa_tables.proofs.ThreadLemmas.{places_paid}
 use Rattle.xa_tables.proofs.manager.Manager.apply.Goals as goal
@@ -12,10 +12,10 @@ invariant_of-self c =
     let T = c.self.inside.inner.tables in
     let stepped = sym (ap (λ (a : Answer). a.0) c.step-code.ensures.step) in
     let last : t ≤ n = omega (arith, ap (λ m. m.threads) c.self.view_is) in
-    let paid = subst (λ (U : Tables). free_threads n U + 2 * places_taken t T U ≤ free_threads n T + 1) stepped (places_paid n t op T (omega arith) last) in (
+    let paid = rw stepped at (places_paid n t op T (omega arith) last) in (
       search rules,
       omega (arith, paid, c.step-code.ensures.kept.spare, c.self.invariant.1, ap (λ m. m.room) c.self.view_is),
-      subst AreAssociationsLive stepped (live_after t op T c.self.invariant.2),
+      rw stepped at (live_after t op T c.self.invariant.2),
       search rules,
       tt,
     )

@@ -1,6 +1,6 @@
-use Rattle.xa_base.proofs.{rules, sym, ap, subst, ◌∙◌, arith, nat_cmp, contains-empty}
+use Rattle.xa_base.proofs.{rules, ap, ◌∙◌, arith, nat_cmp, contains-empty}
 use Rattle.std.specs.FinSet as set
-use Rattle.xa_tables.specs.{Tables, AreAssociationsLive}
+use Rattle.xa_tables.specs.{Tables}
 use Rattle.xa_tables.proofs.Law.{live_opening}
 use Rattle.xa_tables.proofs.ThreadLemmas.{none_free}
 use Rattle.xa_tables.proofs.Reopening.{new_opens, accounts_new}
@@ -12,7 +12,7 @@ invariant_of-result c =
     let none = none_free c.args.threads c.in_ok-inner.inner.tables (λ u. ap (λ (T : Tables). set.contains T.opened u) opens ∙ contains-empty nat_cmp u) in (
       search rules,
       omega (arith, c.branches_within.ensures, c.in_ok-inner.ensures.room),
-      subst AreAssociationsLive (sym c.in_ok-inner.ensures.tables) (live_opening _ (new_opens _ (accounts_new c.args.accounts.now))),
+      rw c.in_ok-inner.ensures.tables (live_opening _ (new_opens _ (accounts_new c.args.accounts.now))),
       search rules,
       tt,
     )

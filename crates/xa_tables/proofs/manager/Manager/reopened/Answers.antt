@@ -1,6 +1,6 @@
-use Rattle.xa_base.proofs.{◌≡◌, Some, rules, sym, ap, subst, ◌∙◌, arith, nat_cmp, contains-empty}
+use Rattle.xa_base.proofs.{◌≡◌, Some, rules, ap, ◌∙◌, arith, nat_cmp, contains-empty}
 use Rattle.std.specs.FinSet as set
-use Rattle.xa_tables.specs.{Tables, AreAssociationsLive}
+use Rattle.xa_tables.specs.{Tables}
 use Rattle.xa_tables.proofs.Law.{live_opening}
 use Rattle.xa_tables.proofs.ThreadLemmas.{none_free}
 use Rattle.xa_tables.proofs.Reopening.{reopens}
@@ -14,7 +14,7 @@ invariant_of-result c =
     let fits = rw reserved at c.self.invariant.4 in (
       search rules,
       omega (arith, none, fits.1, c.reopen.ensures.spare),
-      subst AreAssociationsLive (sym opens) (live_opening _ (reopens c.self.inside.inner.tables)),
+      rw opens (live_opening _ (reopens c.self.inside.inner.tables)),
       search rules,
       tt,
     )

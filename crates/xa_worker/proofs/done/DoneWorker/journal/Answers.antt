@@ -1,7 +1,5 @@
-use Rattle.xa_base.proofs.{subst}
-use Rattle.xa_worker.specs.{IsServed}
 use Rattle.xa_worker.proofs.Lanes.{ordered}
 use Rattle.xa_worker.proofs.done.DoneWorker.journal.Goals as goal
 
 pub returns-clause-ordered : goal.returns-clause-ordered
-returns-clause-ordered c = ordered _ (subst IsServed c.self.view_is c.self.invariant.served)
+returns-clause-ordered c = ordered _ (rw c.self.view_is at c.self.invariant.served)

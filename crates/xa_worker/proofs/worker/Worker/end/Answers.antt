@@ -1,13 +1,13 @@
-use Rattle.xa_base.proofs.{map, sym, ap, subst, ◌∙◌, refl, append-nil, []}
+use Rattle.xa_base.proofs.{map, sym, ap, ◌∙◌, refl, append-nil, []}
 use Rattle.xa_lane.specs.{but_full}
-use Rattle.xa_worker.specs.{IsFinished, working_of}
+use Rattle.xa_worker.specs.{working_of}
 use Rattle.xa_worker.proofs.Lanes.{lanes_alike}
 use Rattle.xa_worker.proofs.Ties.{served_keeps, served_by}
 use Rattle.xa_worker.proofs.worker.Worker.end.Goals as goal
 
 pub new-requires-clause-served : goal.new-requires-clause-served
 new-requires-clause-served g c =
-    let f = subst IsFinished (sym c.self.view_is) c.requires in
+    let f = rw (← c.self.view_is) at c.requires in
     served_by (working_of c.self.inside) _ c.self.invariant.tied f (c.end_all-ends.ensures ∙ ap (map but_full) c.into_senders.ensures)
 
 pub returns-clause-same : goal.returns-clause-same

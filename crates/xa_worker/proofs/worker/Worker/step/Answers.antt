@@ -1,7 +1,7 @@
-use Rattle.xa_base.proofs.{◌≡◌, inl, inr, ◌<◌, ◌-◌, ◌∙◌, sym, ap, refl, subst, arith, length, length-append, length-set, is_missing, is_there}
+use Rattle.xa_base.proofs.{◌≡◌, inl, inr, ◌<◌, ◌-◌, ◌∙◌, sym, ap, refl, arith, length, length-append, length-set, is_missing, is_there}
 use Rattle.xa_lane.specs.{has_ended}
 use Rattle.xa_tables.specs.{Managed}
-use Rattle.xa_worker.specs.{completion_of, entry_next, Puts, SameLanes, Asking, IsUnfit, working_of}
+use Rattle.xa_worker.specs.{SameLanes, Asking, IsUnfit, working_of}
 use Rattle.xa_worker.specs.Outgoing.{Outgoing}
 use Rattle.xa_worker.proofs.Ties.{unentered, marked_end, ended_item, took_as, stepped_keeps, tied_out, tied_nothing, tied_end, tied_hold, tied_carried, stepped}
 use Rattle.xa_worker.proofs.Lanes.{lanes_flush, lanes-puts, lanes-chain, length-lanes}
@@ -174,5 +174,5 @@ returns-else-room-eq0-clause-step g c =
     let none = is_missing c.self.inside.held (sym c.is_some.ensures ∙ c.if-is_some.false) in
     let room : 0 < c.self.inside.manager.room = omega (arith, c.room.ensures, c.if-room-eq0.false) in
     let out =
-    subst (λ (o : Outgoing). Puts o (c.in-Some-item.request.thread - 1) (completion_of c.self.inside.number (entry_next c.in-Some-item.request c.self.inside.manager.tables)) c.carry_out.new.out) c.if-not-flush.ensures.flushed d.out in
+    rw c.if-not-flush.ensures.flushed at d.out in
     rw (← c.self.view_is, d.late) (stepped (working_of c.self.inside) _ c.self.inside.manager.tables.shut refl (c.in-Some.parcel.from, c.in-Some-item.request, record { free = none; took = (took_as _ _ _ _ _ c.in-Some-item.is c.in-Some.ensures.took); thread = c.if-request-parcel.false; room = room; manager = d.manager; journal = d.journal; out = out; rest = refl }))
