@@ -1,6 +1,6 @@
 -- How workers go on as they take turns, and then run.
-use Rattle.xa_base.proofs.{◌≡◌, ℕ, ◌+◌, ◌-◌, ◌<◌, ◌≤◌, inl, inr, List, length, Some, sym, refl, ap, ◌∙◌, subst, arith, slice_get, slice_set, cases_eq}
-use Rattle.xa_base.proofs.{length-set, slice_get_within, some_same, got_set, set_there, map_alike, through}
+use Rattle.xa_base.proofs.{◌≡◌, ℕ, ◌+◌, ◌-◌, ◌<◌, ◌≤◌, inl, inr, List, length, Some, sym, refl, ap, ◌∙◌, arith, slice_get, slice_set, cases_eq, length-set}
+use Rattle.xa_base.proofs.{slice_get_within, some_same, got_set, set_there, map_alike, through}
 use Rattle.xa_worker.specs.{Step, seat_of_worker, WorkerView, SameWorker, IsTied, Served, Stepped}
 use Rattle.xa_worker.proofs.Ties.{extends-chain, stepped-extends}
 use Rattle.xa_base.specs.{Pairwise}
@@ -24,12 +24,12 @@ one_goes_on ws i x y at goes = all_of ws (slice_set ws i y) (record {
   each = λ k w w' at_w at_w'.
       elim (got_set ws i y k w' (slice_get_within ws i x at) at_w') [
         | inl h ↦ rw (some_same w x (sym at_w ∙ ap (slice_get ws) h.0 ∙ at), h.1) goes
-        | inr h ↦ subst (WorkerGoesOn w) (some_same w w' (sym at_w ∙ h)) (goes_nowhere w)
+        | inr h ↦ rw (← some_same w w' (sym at_w ∙ h)) (goes_nowhere w)
       ];
 })
 
 pub turn_goes : (m : ℕ) (s : Step) (old new : List WorkerView) → TakesTurn m s old new → AllGoOn old new
-turn_goes m s old new is = subst (AllGoOn old) (sym is.rest) (one_goes_on old (m - 1) is.before is.after is.at is.turn.goes)
+turn_goes m s old new is = rw is.rest (one_goes_on old (m - 1) is.before is.after is.at is.turn.goes)
 
 -- ---- all of them, one after the other
 

@@ -137,6 +137,7 @@ fn reserve<C: ClientAgain>(
 ///
 /// The faults are those of `reopen`, in their order: `BadPlan` exactly where it may not be opened again with these
 /// numbers, else `NoMemory`. With either the settled opening and the clients come back as they were.
+#[tactic(auto, using(xa_base::proofs::arith))]
 pub fn open_clients_again<R: Wait, C: ClientAgain>(
     rt: &R,
     alloc: Global,
@@ -185,6 +186,7 @@ pub fn open_clients_again<R: Wait, C: ClientAgain>(
 ///
 /// Each client comes back with its scan. The worker of manager m has the pace at place m - 1. The faults are those of
 /// `AgainFault`; neither the managers nor the clients are lost with any of them, but the paces are.
+#[tactic(auto, using(xa_base::proofs::arith))]
 pub fn run_clients_again<
     R: Threads + Wait + Copy + Send + 'static,
     C: ClientAgain + Send + 'static,
@@ -220,6 +222,7 @@ pub fn run_clients_again<
 
 /// The same in the one thread that calls it, as `run_clients_in_turns` does: one client after the other, by rising
 /// thread, each with its scan. No thread is started, so it isn't left unstarted.
+#[tactic(auto, using(xa_base::proofs::arith))]
 pub fn run_clients_again_in_turns<R: Wait, C: ClientAgain>(
     rt: &R,
     alloc: Global,

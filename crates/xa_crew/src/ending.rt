@@ -36,6 +36,7 @@ fn end_number<R: Wait, I: Idle>(
 }
 
 // The same for the number of each handle, in rising order.
+#[tactic(auto, using(xa_base::proofs::range_with_len, xa_base::proofs::cases_lt))]
 fn end_numbers<R: Wait, I: Idle>(rt: &R, desk: &mut Desk, idle: &mut I, told: &mut Vec<(u32, Code)>)
     requires { length told.old.items + MOST_HANDLES ≤ vec_capacity told.old }
     ensures ends { EndsNumbers (desk.old, told.old.items) (desk.new, told.new.items) }
@@ -76,6 +77,7 @@ pub fn end_desk<R: Wait, I: Idle>(
 }
 
 // Ends a desk that keeps nothing, at which so nothing is outstanding.
+#[tactic(auto, using(xa_base::proofs::arith))]
 fn finish<R: Wait, I: Idle>(rt: &R, desk: Desk, idle: &mut I) -> EndedDesk
     requires kept { AllKept desk }
     requires none { HoldsNone desk }

@@ -127,6 +127,7 @@ impl<J: Job<D> + Send + 'static, D: Drop + Send + 'static> Hands<J, D> {
     }
 
     // What became of each job, in their order, once all threads have ended.
+    #[tactic(auto, using(crate::proofs::Threads::handled_rules))]
     fn join<R: Threads>(self, rt: &R) -> Came<J, D>
         requires none { self.came.items ≡ [] }
         requires room { length self.hands.items + length self.others.items ≤ vec_capacity self.came }
@@ -155,6 +156,7 @@ impl<J: Job<D> + Send + 'static, D: Drop + Send + 'static> Hands<J, D> {
 impl<J: Job<D>, D: Drop> Came<J, D> {
     // What the jobs have come to, where the word is go. One that came back is done here; there is none, which the types
     // don't show.
+    #[tactic(auto, using(crate::proofs::Threads::handled_rules))]
     fn done<R: Wait>(self, rt: &R, go: &Go<'_>) -> Vec<D>
         requires room { HasRoomForAll self }
         requires ready { (jobs : List J) × All J.can_run jobs × Pairwise (Comes J.comes_to) jobs self.came.items }
@@ -177,6 +179,7 @@ impl<J: Job<D>, D: Drop> Came<J, D> {
 
     // The jobs, where the word is stop. None was done, since a word is given once, which the types don't show: one that
     // was would have it wait.
+    #[tactic(auto, using(crate::proofs::Threads::handled_rules))]
     fn back<R: Wait>(self, rt: &R) -> Vec<J>
         requires room { HasRoomForAll self }
         ensures { (jobs : List J) → Pairwise (Comes J.comes_to) jobs self.came.items → result.items ≡ jobs }

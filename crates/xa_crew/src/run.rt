@@ -45,6 +45,7 @@ pub struct Ran<C> {
 /// It returns once all threads have ended and the opening is settled; where a client never returns it
 /// doesn't. The faults are those of `CrewFault`: `BadPlan` exactly where the plan isn't sound, and `Unsettled` with
 /// what all threads have come to.
+#[tactic(auto, using(xa_base::proofs::arith))]
 pub fn run_clients<
     R: Threads + Wait + Copy + Send + 'static,
     C: Client + Send + 'static,
@@ -72,6 +73,7 @@ pub fn run_clients<
 }
 
 /// Settles what all threads of a run have come to. It fails only for want of memory, and then all of that comes back.
+#[tactic(auto, using(crate::proofs::Pieces::run_pieces))]
 pub fn settle_run<R: Wait, C: Client>(rt: &R, alloc: Global, ran: Ran<C>) -> Result<Run<C>, Ran<C>>
     requires { (p : Setup) × (cs : List C) × HasRunAll C.works p cs ran }
     ensures run { IfOk result (λ r. (p : Setup) → (cs : List C) → HasRunAll C.works p cs ran

@@ -58,6 +58,7 @@ impl Turns {
     }
 
     // Each worker does one thing, in rising order.
+    #[tactic(auto, using(crate::proofs::WorkersOn::none_turned, crate::proofs::WorkersOn::all_turned))]
     fn turn_all<R: Wait>(&mut self, rt: &R)
         ensures turns { Pairwise HadSomeTurn self.old self.new }
         ensures on { AllGoOn self.old self.new }
@@ -69,6 +70,7 @@ impl Turns {
 
     /// Runs each worker to the last end mark, by rising manager, where there is room for them. All desks of the opening
     /// have to have ended: where one of them hasn't, it never returns.
+    #[tactic(auto, using(crate::proofs::Threads::handled_rules))]
     pub fn run<R: Wait>(self, rt: &R, mut done: Vec<DoneWorker>) -> Vec<DoneWorker>
         requires none { done.items ≡ [] }
         requires room { length self ≤ vec_capacity done }
@@ -98,6 +100,7 @@ impl Idle for Turns {
 
     ghost leads_chain = { all_go_on };
 
+    #[tactic(auto, using(xa_base::proofs::arith))]
     fn idle<R: Wait>(&mut self, rt: &R, manager: u32) {
         if manager == 0 {
             self.turn_all(rt);

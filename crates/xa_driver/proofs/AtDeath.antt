@@ -7,27 +7,24 @@ use Rattle.xa_words.specs.{TranName, Death, Op, Prepare, Code}
 use Rattle.xa_words.specs.declared.death.Death.TheVariants as death
 use Rattle.xa_desk.specs.{Operation, plan_of, AllKept, TicketView, ledger, GoesOn, LedgerView, DeskView}
 use Rattle.xa_desk.proofs.GoingOn.{goes_same, goes_further}
-use Rattle.xa_driver.specs.{Branch, Done, Round, Prepared, Decided, Told, Ask, AskTrace, EachAsk, EachBegan, HasBegun, IsUnsent, KeepsTheRest, SameAsks}
-use Rattle.xa_driver.specs.{among_asks, CameToVotes, Dies, HaveAsked, HaveTold, IsDecidedBy, IsOfRound, LeavesDesk, LeavesHandles, PutsLedger, Tells}
-use Rattle.xa_driver.specs.{VotesAndObeys, is_decided_by, to_come, withheld, AsksLedger, code_of, ending_of_ask, first_ask, second_ask, HasDecided, HasPrepared}
-use Rattle.xa_driver.specs.{HasTold, IsUndecided, asked_in, EachBranch, Logs, decision_of, has_branch_at, IsAmong, IsSent, IsUnderWay, LeavesInFlight}
-use Rattle.xa_driver.specs.{IsSameAsk, VotesAndHears}
+use Rattle.xa_driver.specs.{Branch, Done, Round, Prepared, Decided, Told, Ask, AskTrace, EachAsk, EachBegan, HasBegun, KeepsTheRest, SameAsks, among_asks}
+use Rattle.xa_driver.specs.{CameToVotes, Dies, HaveAsked, HaveTold, IsDecidedBy, IsOfRound, LeavesDesk, LeavesHandles, PutsLedger, Tells, VotesAndObeys}
+use Rattle.xa_driver.specs.{is_decided_by, to_come, withheld, AsksLedger, code_of, ending_of_ask, first_ask, second_ask, HasDecided, HasPrepared, HasTold}
+use Rattle.xa_driver.specs.{IsUndecided, asked_in, EachBranch, Logs, decision_of, has_branch_at, IsAmong, IsSent, IsUnderWay, LeavesInFlight, IsSameAsk}
+use Rattle.xa_driver.specs.{VotesAndHears}
 use Rattle.xa_driver.specs.Deaths.{sent}
 use Rattle.xa_driver.proofs.Calls.{among_first, among_second, asks_long, first_trace, second_code, second_is, second_trace, seconds_are, for_log}
 use Rattle.xa_driver.proofs.Stepping.{as_many, so_far}
 use Rattle.xa_driver.proofs.Requests.{for_trace}
+use Rattle.xa_driver.proofs.Progress.{idles_same, idles_start}
 use Rattle.xa_log.specs.{LogState}
 
 -- ---- a request that is put
 
 put_so : (k : Ask) (t : Option TicketView) (at : List LedgerView) (d : DeskView) (op : Op) → k.op ≡ Some op → HasBegun k t at d
     → PutsLedger (ledger at k.manager) op (ledger d.ledgers k.manager)
-put_so k None at d op is began = withheld (subst (IsUnsent (ledger at k.manager)) is began.0) began.1
+put_so k None at d op is began = withheld (rw is at began.0) began.1
 put_so k (Some t) at d op is began = search (arith, some_same, began.op, began.open_)
-
-put_nothing : (k : Ask) (t : Option TicketView) (at : List LedgerView) (d : DeskView) → k.op ≡ None → HasBegun k t at d
-    → ledger d.ledgers k.manager ≡ ledger at k.manager
-put_nothing k t at d none began = grind arith
 
 -- ---- the first round
 
@@ -36,7 +33,7 @@ asked_far : (bs : List Branch) (done flying : List Ask) (ts : List (Option Ticke
     → HaveAsked AsksLedger PutsLedger bs (map code_of done) (ledger at) (ledger d.ledgers)
 asked_far [] [] [] ts at d s e f = tt
 asked_far (b ∷ bs) [] (k ∷ flying) (t ∷ ts) at d s e f =
-    (subst (λ (m : ℕ). PutsLedger (ledger at m) (Prepare b.xid) (ledger d.ledgers m)) s.0.manager (put_so k t at d (Prepare b.xid) s.0.op f.0), asked_far bs [] flying ts at d s.1 tt f.1)
+    (rw s.0.manager at (put_so k t at d (Prepare b.xid) s.0.op f.0), asked_far bs [] flying ts at d s.1 tt f.1)
 asked_far (b ∷ bs) (k ∷ done) flying ts at d s e f = (first_trace b k at d.ledgers s.0 e.0, asked_far bs done flying ts at d s.1 e.1 f)
 asked_far _ _ _ _ at d s e f = absurd (search rules)
 
@@ -81,7 +78,7 @@ told_far : (commit : Bool) (bs : List Branch) (ks done flying : List Ask) (ts : 
 told_far commit [] [] done flying ts n old mid now s r e f g count = tt
 told_far commit (b ∷ bs) (k ∷ ks) [] (j ∷ flying) (t ∷ ts) n old mid now (s, ss) (r, rs) (e, es) f (g, gs) count =
     let step =
-    put_step n (asked_in flying) j.op (ledger mid j.manager) (ledger now.ledgers j.manager) (λ none. put_nothing j t mid now none g) (λ o is. put_so j t mid now o is g) count in
+    put_step n (asked_in flying) j.op (ledger mid j.manager) (ledger now.ledgers j.manager) (λ none. grind arith) (λ o is. put_so j t mid now o is g) count in
     (heard commit b k j n old mid now.ledgers s r e step.0, told_far commit bs ks [] flying ts _ old mid now ss rs es tt gs (rw (second_is commit b k j s r) at step.1))
 told_far commit (b ∷ bs) (k ∷ ks) (j ∷ done) flying ts n old mid now (s, ss) (r, rs) (e, es) (f, fs) g count =
     let step = answered_step n (asked_in done) (asked_in (done ++ flying)) j.op j.code (ledger mid j.manager) (ledger now.ledgers j.manager) f count in
@@ -116,7 +113,7 @@ module _ (r : Round) (now : DeskView) (u : IsUnderWay r now) (whole : IsSent r) 
         → known.endings.items ≡ []
         → CameToVotes AsksLedger PutsLedger (min n (length bs)) bs (ledger desk.ledgers) (ledger new) log log known
     came_to_votes same desk new log known before new_is votes undecided none =
-        let apart : SameAsks (map first_ask bs) (u.done ++ u.flying) = subst (SameAsks (map first_ask bs)) parts_are same in
+        let apart : SameAsks (map first_ask bs) (u.done ++ u.flying) = rw parts_are at same in
         let votes_are : known.votes.items ≡ map code_of u.done = votes ∙ ap (map code_of) first_are in
         let both = firsts_asked bs u.done u.flying apart in
         let long : length (u.done ++ u.flying) ≡ length bs = sym (ap (λ l. length l) parts_are) ∙ asks_long bs r.asks.items same in
@@ -156,10 +153,6 @@ flight_of o (k ∷ ks) (Some t ∷ ts) at d began among =
     (λ (later : IsAmong o ts). flight_later k ks at d.ledgers o (flight_of o ks ts at d began.1 later)) among
 flight_of o _ _ at d began among = absurd (search rules)
 
--- what stands in the middle stands there
-among_middle : (xs ys zs : List Ask) (m : ℕ) → among_asks ys m ≡ true → among_asks (xs ++ (ys ++ zs)) m ≡ true
-among_middle xs ys zs m there = grind (arith, list_any-append, or-true)
-
 pub same_handles : (bs : List Branch) (old new : DeskView) → new.kept ≡ old.kept → LeavesHandles bs old new
 same_handles bs old new same = search (arith, rules)
 
@@ -171,9 +164,6 @@ grown_at old new on m positive =
 grown_long : (old new : DeskView) → GoesOn old new → (m : ℕ) → length (ledger old.ledgers m).sent ≤ length (ledger new.ledgers m).sent
 grown_long old new on zero = grown_at old new on 1 (omega arith)
 grown_long old new on (suc m) = grown_at old new on (suc m) (omega arith)
-
-pub later_handles : (bs : List Branch) (old mid new : DeskView) → GoesOn old mid → mid.kept ≡ old.kept → LeavesHandles bs mid new → LeavesHandles bs old new
-later_handles bs old mid new on same h = search (arith, grown_long, h.stays, mid.kept, mid.ledgers, new.ledgers, h.more)
 
 -- ---- what is left of the desk
 
@@ -198,7 +188,7 @@ desk_left r now u bs old new among before left on kept = record {
     of_round o flies =
         let f = flight_of o u.flying r.tickets.items r.before.value.ledgers now u.in_flight flies in
         record {
-          manager = sym (among o.manager) ∙ ap (λ l. among_asks l o.manager) u.parts ∙ among_middle u.done u.flying u.rest o.manager f.among;
+          manager = search (arith, o.manager, list_any-append, or-true);
           later = let n = f.number in let z = ap (λ (d : DeskView). length (ledger d.ledgers o.manager).sent) before in omega (arith, n, z);
           sent = rw left.lists f.there;
         }
@@ -210,10 +200,13 @@ pub desk_rest : (bs : List Branch) (old new : DeskView) → KeepsTheRest old new
 desk_rest bs old new rest = record { handles = same_handles bs old new rest.keeps.kept; goes_on = rest.keeps.goes_on; kept = rest.kept }
 
 pub desk_further : (bs : List Branch) (old mid new : DeskView) → KeepsTheRest old mid → LeavesDesk bs mid new → LeavesDesk bs old new
-desk_further bs old mid new rest later = search (arith, later_handles, goes_further, rest.keeps.goes_on, rest.keeps.kept, later.kept, rest.kept)
+desk_further bs old mid new rest later = search (arith, goes_further, rest.keeps.goes_on, rest.keeps.kept, later.kept, rest.kept, grown_long)
 
 pub as_many_managers : (old new : DeskView) → GoesOn old new → length new.ledgers ≡ length old.ledgers
 as_many_managers old new on = sym (length-map new.ledgers plan_of) ∙ ap (λ l. length l) on.plan ∙ length-map old.ledgers plan_of
+
+-- a desk at which nobody is told anything, and where it is idled else
+pub ruleset left_rules = (desk_same, idles_start, idles_same, among_second)
 
 -- ---- all have voted
 

@@ -1,17 +1,19 @@
 -- The three rounds make a call, and so do the stages of a commit.
-use Rattle.xa_base.proofs.{rules, ◌≡◌, ℕ, ◌+◌, ◌≤◌, Bool, ◌||◌, ◌&&◌, ◌==◌, Option, Some, unwrap_or, List, [], ◌∷◌, ◌++◌, length, map, refl, sym, ap, ◌∙◌}
-use Rattle.xa_base.proofs.{arith, suc, get_or, length-append, take, length-map, zero, ◌<◌, subst, set, None, vec_capacity, Vec, Global, take-append_seam}
-use Rattle.xa_words.specs.{TranName, tran_of, RmFail, Op, Prepare, Code}
+use Rattle.xa_base.proofs.{rules, ◌≡◌, ℕ, ◌+◌, ◌≤◌, Bool, ◌||◌, ◌&&◌, ◌==◌, Option, Some, List, [], ◌∷◌, ◌++◌, length, map, refl, sym, ap, ◌∙◌, arith, suc}
+use Rattle.xa_base.proofs.{get_or, length-append, take, length-map, ◌<◌, set, None, vec_capacity, Vec, Global, take-append_seam, drop, take_all, drop_all}
+use Rattle.xa_base.proofs.{append-nil, length-take, length-drop, get_or_default}
+use Rattle.std.proofs.lemmas.List.Edits.{map_over_more}
+use Rattle.xa_words.specs.{TranName, tran_of, Prepare, Code}
 use Rattle.xa_desk.specs.{LedgerView, ledger, DeskView}
 use Rattle.xa_desk.proofs.Ledgers.{known_by}
-use Rattle.xa_driver.specs.{Branch, Done, is_yes, voted_yes, yes_of, second_op, third_op, ending_of, Ask, asked, IsAnswered, AskTrace, EachAsk, among_asks}
-use Rattle.xa_driver.specs.{SameAsks, IsSameAsk, AreRising, AllCanAsk, first_ask, code_of, second_ask, third_ask, ending_of_ask, asked_yes, yes_asked, AtBranch}
+use Rattle.xa_driver.specs.{Branch, Done, is_yes, voted_yes, yes_of, second_op, third_op, ending_of, Ask, asked, AskTrace, EachAsk, among_asks, SameAsks}
+use Rattle.xa_driver.specs.{IsSameAsk, AreRising, AllCanAsk, first_ask, code_of, second_ask, third_ask, ending_of_ask, asked_yes, yes_asked, AtBranch}
 use Rattle.xa_driver.specs.{AsksLedger, EachBranch, has_branch_at, IsTranOf, AreBranchesRising, HaveRoom, Logs, decision_of, IsTraceOfCommit, Round}
 use Rattle.xa_driver.specs.{HasRoomForEndings, IsAtRest, MayAsk, Prepared, Decided, Told, KeepsTheRest, HasDecided, HasForgotten, HasPrepared, HasTold}
 use Rattle.xa_driver.specs.{MayForget, MayTell, MayCommit, CommitFault, IfUndecided}
 use Rattle.xa_log.specs.{LogState, record_of}
 use Rattle.xa_driver.specs.Asks.{Asks}
-use Rattle.xa_driver.proofs.Requests.{for_trace, asks_at, Alike, mapped_alike, same_alike, same_itself}
+use Rattle.xa_driver.proofs.Requests.{for_trace, asks_at, Alike, remade_alike, same_alike, same_itself}
 use Rattle.xa_driver.specs.declared.done.CommitFault.TheVariants as fault
 
 pub first_rising : (lo : ℕ) (bs : List Branch) → AreBranchesRising lo bs → AreRising lo (map first_ask bs)
@@ -20,69 +22,41 @@ first_rising lo (b ∷ bs) r = (r.0, first_rising b.m bs r.1)
 
 -- ---- room for more requests
 
--- a request adds at most one
-one_more : (a : LedgerView) (op : Option Op) (code : Option Code) → (length (asked a op code).sent ≤ length a.sent + 1) × ((asked a op code).plan ≡ a.plan)
-one_more a op code = grind (arith, length-append)
-
 -- so many requests more were sent to each manager, at most
 record Grew (n : ℕ) (at now : List LedgerView) : Type 0 where
   long : length now ≡ length at
-  sent : (m : ℕ) → 1 ≤ m → length (ledger now m).sent ≤ length (ledger at m).sent + n
-  plan : (m : ℕ) → 1 ≤ m → (ledger now m).plan ≡ (ledger at m).plan
+  each : (m : ℕ) → 1 ≤ m → (length (ledger now m).sent ≤ length (ledger at m).sent + n) × ((ledger now m).plan ≡ (ledger at m).plan)
 
 grew_on : (n : ℕ) (at mid now : List LedgerView) (ks : List Ask) → Grew n at mid → Asks ks mid now → Grew (suc n) at now
 grew_on n at mid now ks g is = record {
   long = is.managers ∙ g.long;
-  sent = λ m p. let one = asks_at (λ a a'. length a'.sent ≤ length a.sent + 1) (λ a op code. (one_more a op code).0) ks mid now m p is in
-      let before = g.sent m p in omega (arith, one, before);
-  plan = λ m p. asks_at (λ a a'. a'.plan ≡ a.plan) (λ a op code. (one_more a op code).1) ks mid now m p is ∙ g.plan m p;
+  each = λ m p.
+      let one = asks_at (λ a a'. (length a'.sent ≤ length a.sent + 1) × (a'.plan ≡ a.plan)) (λ a op code. grind (arith, length-append)) ks mid now m p is in
+      let before = g.each m p in (omega (arith, one.0, before.0), one.1 ∙ before.1);
 }
 
 not_grown : (at : List LedgerView) → Grew 0 at at
-not_grown at = record { long = refl; sent = λ m p. omega arith; plan = λ m p. refl }
+not_grown at = record { long = refl; each = λ m p. (omega arith, refl) }
 
 -- so each branch's manager can be asked once more
 room_can : (n : ℕ) (at now : List LedgerView) (bs : List Branch) (ks : List Ask) → n ≤ 2 → Grew n at now → SameAsks (map first_ask bs) ks → HaveRoom at bs
     → AllCanAsk ks now
 room_can n at now [] [] few g s h = tt
 room_can n at now (b ∷ bs) (k ∷ ks) few g s (here, h) =
-    let sent = g.sent b.m here.known.positive in
-    let plan = g.plan b.m here.known.positive in
-    let room = here.room in
-    (rw s.0.manager (record { known = known_by at now b.m g.long here.known; room = omega (arith, sent, plan, room, few) }), room_can n at now bs ks few g s.1 h)
+    let grew = g.each b.m here.known.positive in
+    (rw s.0.manager (record { known = known_by at now b.m g.long here.known; room = omega (arith, grew.0, grew.1, here.room, few) }), room_can n at now bs ks few g s.1 h)
 room_can n at now _ _ few g s h = absurd s
 
 pub first_can : (at : List LedgerView) (bs : List Branch) → HaveRoom at bs → AllCanAsk (map first_ask bs) at
 first_can at bs h = room_can 0 at at bs (map first_ask bs) (omega arith) (not_grown at) (same_itself (map first_ask bs)) h
 
-pub next_can : (old mid : List LedgerView) (bs : List Branch) (ks : List Ask) → SameAsks (map first_ask bs) ks → Asks ks old mid → HaveRoom old bs
-    → AllCanAsk ks mid
-next_can old mid bs ks s e h = room_can 1 old mid bs ks (omega arith) (grew_on 0 old old mid ks (not_grown old) e) s h
-
 pub asks_long : (bs : List Branch) (ks : List Ask) → SameAsks (map first_ask bs) ks → length ks ≡ length bs
 asks_long bs ks s = (same_alike (map first_ask bs) ks s).long ∙ length-map bs first_ask
-
--- the second round's requests are to the managers of the first
-pub second_alike : (commit : Bool) (ks js : List Ask) → SameAsks (map (second_ask commit) ks) js
-    → (length js ≡ length ks) × ((at : List LedgerView) → AllCanAsk ks at → AllCanAsk js at)
-second_alike commit ks js r =
-    let mapped = mapped_alike (second_ask commit) (λ k. refl) ks in
-    let same = same_alike (map (second_ask commit) ks) js r in
-    (same.long ∙ mapped.long, λ at can. same.can at (mapped.can at can))
-
-pub last_can : (commit : Bool) (old mid late : List LedgerView) (bs : List Branch) (ks js : List Ask) → SameAsks (map first_ask bs) ks
-    → SameAsks (map (second_ask commit) ks) js → Asks ks old mid → Asks js mid late → HaveRoom old bs → AllCanAsk js late
-last_can commit old mid late bs ks js s r e f h =
-    (second_alike commit ks js r).1 late (room_can 2 old late bs ks (omega arith) (grew_on 1 old mid late js (grew_on 0 old old mid ks (not_grown old) e) f) s h)
-
--- a Prepare is answered
-answered_some : (a : LedgerView) (op : Op) (code : Option Code) → IsAnswered a (Some op) code → code ≡ Some (unwrap_or code RmFail)
-answered_some a op code h = grind arith
 
 -- the Prepare of a branch
 pub first_trace : (b : Branch) (k : Ask) (old mid : List LedgerView) → IsSameAsk (first_ask b) k
     → AskTrace k.op k.code (ledger old k.manager) (ledger mid k.manager) → AskTrace (Some (Prepare b.xid)) (Some (code_of k)) (ledger old b.m) (ledger mid b.m)
-first_trace b k old mid s one = search (arith, answered_some, k.code)
+first_trace b k old mid s one = search (arith, k.code)
 
 -- its second request
 pub second_is : (commit : Bool) (b : Branch) (k j : Ask) → IsSameAsk (first_ask b) k → IsSameAsk (second_ask commit k) j
@@ -133,10 +107,10 @@ pub among_first : (bs : List Branch) (ks : List Ask) (m : ℕ) → SameAsks (map
 among_first bs ks m s = (same_alike (map first_ask bs) ks s).among m ∙ among_branches bs m
 
 pub among_second : (commit : Bool) (ks js : List Ask) (m : ℕ) → SameAsks (map (second_ask commit) ks) js → among_asks js m ≡ among_asks ks m
-among_second commit ks js m s = (same_alike (map (second_ask commit) ks) js s).among m ∙ (mapped_alike (second_ask commit) (λ k. refl) ks).among m
+among_second commit ks js m s = (remade_alike (second_ask commit) (λ k. refl) ks js s).among m
 
 pub among_third : (js ls : List Ask) (m : ℕ) → SameAsks (map third_ask js) ls → among_asks ls m ≡ among_asks js m
-among_third js ls m s = (same_alike (map third_ask js) ls s).among m ∙ (mapped_alike third_ask (λ k. refl) js).among m
+among_third js ls m s = (remade_alike third_ask (λ k. refl) js ls s).among m
 
 yes_at : (m : ℕ) (bs : List Branch) (ks : List Ask) → SameAsks (map first_ask bs) ks → asked_yes m ks ≡ voted_yes m bs (map code_of ks)
 yes_at m [] [] s = refl
@@ -169,10 +143,6 @@ call_by done bs ks js ls old mid late new log log' t s one r two q three votes e
       managers = three.managers ∙ two.managers ∙ one.managers;
     }
 
--- a list that a vector was lent out as
-pub seam : (n : ℕ) (xs ys : List Ask) → n ≡ length xs → take n (xs ++ ys) ≡ xs
-seam n xs ys e = ap (λ m. take m (xs ++ ys)) e ∙ take-append_seam xs ys
-
 -- the branches belong to one transaction
 pub one_tran : (bs : List Branch) (s t : TranName) → 1 ≤ length bs → IsTranOf bs s → IsTranOf bs t → s ≡ t
 one_tran [] s t some e f = absurd (omega arith)
@@ -180,40 +150,21 @@ one_tran (b ∷ bs) s t some e f = sym e.0 ∙ f.0
 
 -- ---- a round whose requests are remade in place, one after another
 
--- the first n were remade
-abbrev pub partly : (Ask → Ask) → ℕ → List Ask → List Ask
-partly f zero ks = ks
-partly f (suc n) [] = []
-partly f (suc n) (k ∷ ks) = f k ∷ partly f n ks
-
-partly_rest : (f : Ask → Ask) (n : ℕ) (ks : List Ask) (d : Ask) → get_or (partly f n ks) n d ≡ get_or ks n d
-partly_rest f zero ks d = refl
-partly_rest f (suc n) [] d = refl
-partly_rest f (suc n) (k ∷ ks) d = partly_rest f n ks d
-
-one_remade : (f : Ask → Ask) (n : ℕ) (ks : List Ask) (d : Ask) → n < length ks → set (partly f n ks) n (f (get_or ks n d)) ≡ partly f (suc n) ks
-one_remade f n [] d within = absurd (omega (arith, within))
-one_remade f zero (k ∷ ks) d within = refl
-one_remade f (suc n) (k ∷ ks) d within = ap (λ l. f k ∷ l) (one_remade f n ks d (omega (arith, within)))
-
 -- one more is remade
-pub one_more_remade : (f : Ask → Ask) (n : ℕ) (ks now : List Ask) (k d : Ask) → n < length ks → now ≡ partly f n ks → k ≡ f (get_or now n d)
-    → set now n k ≡ partly f (n + 1) ks
+pub one_more_remade : (f : Ask → Ask) (n : ℕ) (ks now : List Ask) (k d : Ask) → n < length ks → now ≡ map f (take n ks) ++ drop n ks → k ≡ f (get_or now n d)
+    → set now n k ≡ map f (take (n + 1) ks) ++ drop (n + 1) ks
 one_more_remade f n ks now k d within is made =
-    let one : suc n ≡ n + 1 = omega arith in
-    search (arith, partly_rest, one_remade)
+    let long = simp (length-append, length-map, length-take, length-drop) at (ap (λ l. length l) is) in
+    rw made (map_over_more f ks now n (get_or now n d) within is (get_or_default now n d (get_or now n d) (omega (arith, long, within))))
 
-pub all_remade : (f : Ask → Ask) (n : ℕ) (ks : List Ask) → length ks ≤ n → partly f n ks ≡ map f ks
-all_remade f zero [] all = refl
-all_remade f zero (k ∷ ks) all = absurd (omega (arith, all))
-all_remade f (suc n) [] all = refl
-all_remade f (suc n) (k ∷ ks) all = ap (λ l. f k ∷ l) (all_remade f n ks (omega (arith, all)))
+pub all_remade : (f : Ask → Ask) (n : ℕ) (ks : List Ask) → length ks ≤ n → map f (take n ks) ++ drop n ks ≡ map f ks
+all_remade f n ks all = (λ i. map f (take_all n ks all i) ++ drop_all n ks all i) ∙ append-nil (map f ks)
 
 -- ---- the next round, of requests that were remade for the same managers
 
 module _ (f : Ask → Ask) (same : (k : Ask) → (f k).manager ≡ k.manager) (r r' : Round) (is : r'.asks.items ≡ map f r.asks.items) where
   abbrev alike : Alike r.asks.items (map f r.asks.items)
-  alike = mapped_alike f same r.asks.items
+  alike = remade_alike f same r.asks.items (map f r.asks.items) (same_itself (map f r.asks.items))
 
   as_long : length r'.asks.items ≡ length r.asks.items
   as_long = ap (λ l. length l) is ∙ alike.long
@@ -236,7 +187,7 @@ pub lent : (f : Ask → Ask) → ((k : Ask) → (f k).manager ≡ k.manager) →
     → before ≡ asks → take n (after ++ rest) ≡ map f asks
 lent f same n asks before after rest long made value =
     let is : after ≡ map f asks = made ∙ ap (map f) value in
-    seam n after rest (long ∙ sym (ap (λ l. length l) is ∙ length-map asks f)) ∙ is
+    search (arith, length-map, take-append_seam)
 
 -- what the next round has of the one that was remade
 pub ruleset remade_rules = (same_itself, lent, remade_endings)
@@ -272,10 +223,11 @@ may_tell bs desk new start log later p d may first second rest =
     let same : p.round ≡ d.round = sym second.round in
     let long : length p.round.asks.items ≡ length bs = asks_long bs p.round.asks.items first.same in
     record {
-      rest = subst IsAtRest same first.rest;
+      rest = rw same at first.rest;
       endings = search (arith, vec_capacity, second.endings, first.endings.room);
-      may = subst (λ (r : Round). MayAsk r new) same (record {
-        can = next_can desk.ledgers new.ledgers bs p.round.asks.items first.same first.asked may.room;
+      may = rw (← same) (record {
+        can = room_can 1 desk.ledgers new.ledgers bs p.round.asks.items (omega arith)
+            (grew_on 0 desk.ledgers desk.ledgers new.ledgers p.round.asks.items (not_grown desk.ledgers) first.asked) first.same may.room;
         free = let handles = rest.keeps.goes_on.handles in let enough = may.free in let free = rest.free in omega (arith, long, handles, enough, free);
       });
     }
@@ -284,14 +236,15 @@ pub may_forget : (bs : List Branch) (desk mid new : DeskView) (start log later :
     → HasPrepared bs desk.ledgers mid.ledgers p → HasDecided p log later d → HasTold d mid.ledgers new.ledgers t
     → KeepsTheRest desk mid → KeepsTheRest mid new → MayForget t new
 may_forget bs desk mid new start log later p d t may first second third rest rest_on =
-    let s = seconds_are second third in
+    let alike = remade_alike (second_ask d.known.commit) (λ k. refl) p.round.asks.items t.round.asks.items (seconds_are second third) in
     record {
       rest = third.rest;
       may = record {
-        can = last_can d.known.commit desk.ledgers mid.ledgers new.ledgers bs p.round.asks.items t.round.asks.items first.same s first.asked third.asked may.room;
+        can =
+            let grew = grew_on 0 desk.ledgers desk.ledgers mid.ledgers p.round.asks.items (not_grown desk.ledgers) first.asked in
+            alike.can new.ledgers (room_can 2 desk.ledgers new.ledgers bs p.round.asks.items (omega arith) (grew_on 1 desk.ledgers mid.ledgers new.ledgers t.round.asks.items grew third.asked) first.same may.room);
         free =
-            let long : length t.round.asks.items ≡ length bs =
-            (second_alike d.known.commit _ t.round.asks.items s).0 ∙ asks_long bs p.round.asks.items first.same in
+            let long : length t.round.asks.items ≡ length bs = alike.long ∙ asks_long bs p.round.asks.items first.same in
             omega (arith, long, rest.keeps.goes_on.handles, rest_on.keeps.goes_on.handles, may.free, rest.free, rest_on.free);
       };
     }
@@ -305,4 +258,4 @@ may_still bs desk start log tran may of_tran absent = search (arith, rules)
 
 -- what is said of it is said of its votes
 pub of_votes : (P : List Code → Type 0) (f : CommitFault) (votes : Vec Code Global) → f ≡ fault.Undecided votes → IfUndecided P f → P votes.items
-of_votes P f votes is h = subst (IfUndecided P) is h
+of_votes P f votes is h = rw is at h

@@ -32,11 +32,6 @@ open_where_answered d m none = grind (arith, option_or)
 
 -- ---- what a request leaves
 
--- a request takes no more than one of those planned
-asked_room : (a : LedgerView) (op : Op) (code : Code)
-    → a.plan - length a.sent ≤ ((asked a (Some op) (Some code)).plan - length (asked a (Some op) (Some code)).sent) + 1
-asked_room a op code = grind (arith, length-append)
-
 module _ (m : ℕ) (op : Op) (code : Code) (old new : DeskView) (known : IsKnown old.ledgers m) where
   abbrev a : LedgerView
   a = ledger old.ledgers m
@@ -68,7 +63,7 @@ module _ (m : ℕ) (op : Op) (code : Code) (old new : DeskView) (known : IsKnown
 
   -- and the manager has room for one less
   pub moved_room : Moved m (asked a (Some op) (Some code)) old new → room_at old.ledgers m ≤ room_at new.ledgers m + 1
-  moved_room is = grind (arith, room_is, known_by, asked_room)
+  moved_room is = grind (arith, room_is, known_by, length-append)
 
 -- what a call does that was answered
 pub record Called (m : ℕ) (op : Op) (code : Code) (old new : DeskView) : Type 0 where

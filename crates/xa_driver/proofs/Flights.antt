@@ -1,14 +1,14 @@
 -- Requests in flight: what sending and collecting one leaves of the others, and a round that is left in the middle.
 use Rattle.xa_base.proofs.{rules, list_any-append, ◌≡◌, ◌≢◌, ℕ, ◌+◌, ◌<◌, ◌≤◌, false, ◌==◌, Option, None, Some, List, [], ◌∷◌, ◌++◌, length, refl, sym, ap, ◌∙◌}
-use Rattle.xa_base.proofs.{subst, arith, length-append, eqb-false, ne_eqb, or_parts, at_false, at_true, or_from, cases_eq, cases_Bool, ◌⊎◌, ◌||◌, inl, inr}
-use Rattle.xa_base.proofs.{⊎_elim, true, eqb-true, some_same, inserted_other, inserted_there}
+use Rattle.xa_base.proofs.{arith, length-append, eqb-false, ne_eqb, or_parts, at_false, at_true, or_from, cases_eq, cases_Bool, ◌⊎◌, ◌||◌, inl, inr, ⊎_elim}
+use Rattle.xa_base.proofs.{true, eqb-true, some_same, inserted_other, inserted_there}
 use Rattle.std.specs.FinMap as finmap
 use Rattle.xa_words.specs.{Code, Op}
-use Rattle.xa_desk.specs.{LedgerView, learnt_shut, with_sent, TicketView, IsKnown, Owns, ledger, outstanding, DeskView, Operation, AllKept, IsOut, LeavesOthers}
+use Rattle.xa_desk.specs.{LedgerView, learnt_shut, with_sent, TicketView, IsKnown, ledger, outstanding, DeskView, Operation, AllKept, LeavesOthers}
 use Rattle.xa_desk.proofs.Ledgers.{known_by}
-use Rattle.xa_driver.specs.{Ask, AskTrace, EachAsk, among_asks, AreRising, CanAsk, AllCanAsk, KeepsDesk, IsUnsent, unsent_code, BeginsAsk, Ends, HasBegun}
-use Rattle.xa_driver.specs.{EachBegan, Round, Keeps, LeavesOwned, Owning, AllKeptBut, AreApart, IsAmong, IsUnderWay, LeavesInFlight, LeavesKept}
-use Rattle.xa_driver.specs.{LeavesOtherTickets, OwnsAll}
+use Rattle.xa_driver.specs.{Ask, AskTrace, EachAsk, among_asks, AreRising, CanAsk, AllCanAsk, IsUnsent, unsent_code, BeginsAsk, Ends, HasBegun, EachBegan}
+use Rattle.xa_driver.specs.{Round, Keeps, LeavesOwned, Owning, AllKeptBut, AreApart, IsAmong, IsUnderWay, LeavesInFlight, LeavesKept, LeavesOtherTickets}
+use Rattle.xa_driver.specs.{OwnsAll}
 use Rattle.xa_driver.proofs.Requests.{open_count, sent_by, Moved, began_moved, ended_moved, collected_of, sent_is, asks_there, IsOpen, asked_opens, out_by}
 
 -- ---- which managers are among requests
@@ -47,14 +47,10 @@ can_at (a ∷ js) k bs at c = can_at js k bs at c.1
 
 -- ---- what moves one ledger leaves the requests to the others
 
-owns_stays : (t : TicketView) (d d' : DeskView) → ledger d'.ledgers t.operation.manager ≡ ledger d.ledgers t.operation.manager
-    → length d'.ledgers ≡ length d.ledgers → KeepsDesk d d' → Owns d t → Owns d' t
-owns_stays t d d' same managers keeps o = search (arith, known_by, d.ledgers, d'.ledgers, t.operation.manager, o.loose)
-
 module _ (at : List LedgerView) (d d' : DeskView) (m : ℕ) (a' : LedgerView) (moved : Moved m a' d d') where
   one_stays : (k : Ask) (r : Option TicketView) → 1 ≤ k.manager → k.manager ≢ m → HasBegun k r at d → HasBegun k r at d'
   one_stays k None p differs h = (h.0, moved.others k.manager p differs ∙ h.1)
-  one_stays k (Some t) p differs h = search (arith, owns_stays)
+  one_stays k (Some t) p differs h = search (arith, known_by)
 
   pub begun_stays : (lo : ℕ) (ks : List Ask) (rs : List (Option TicketView)) → AreRising lo ks → among_asks ks m ≡ false → EachBegan ks rs at d
       → EachBegan ks rs at d'
@@ -105,14 +101,10 @@ pub end_takes_none : (k : Ask) (r : Option TicketView) (code : Option Code) (d d
     → outstanding d'.ledgers ≤ outstanding d.ledgers
 end_takes_none k r code d d' e = search (arith, rules)
 
-flight_manager : (k : Ask) (r : Option TicketView) (at : List LedgerView) (d : DeskView) → HasBegun k r at d → (t : TicketView) → r ≡ Some t
-    → t.operation.manager ≡ k.manager
-flight_manager k r at d h t e = grind arith
-
 -- the ledger moves by what was collected
 pub end_moves : (k : Ask) (r : Option TicketView) (code : Option Code) (at : List LedgerView) (d d' : DeskView) → IsKnown d.ledgers k.manager
     → HasBegun k r at d → Ends k d d' r code → Moved k.manager (collected_of (ledger d.ledgers k.manager) r code) d d'
-end_moves k r code at d d' known h e = ended_moved k d d' r code (flight_manager k r at d h) known e
+end_moves k r code at d d' known h e = search (arith, ended_moved)
 
 unsent_trace : (k : Ask) (op : Option Op) (a a' : LedgerView) → IsUnsent a op → a' ≡ a → AskTrace op (unsent_code op) a a'
 unsent_trace k None a a' h e = record { answered = refl; trace = e }
@@ -140,7 +132,7 @@ first_owned d None rs owned = tt
 first_owned d (Some t) rs owned = owned.0
 
 pub rest_owned : (d d' : DeskView) (r : Option TicketView) (rs : List (Option TicketView)) → OwnsAll d (r ∷ rs) → LeavesOwned d d' r → OwnsAll d' rs
-rest_owned d d' None rs owned same = subst (λ (e : DeskView). OwnsAll e rs) (sym same) owned
+rest_owned d d' None rs owned same = rw same owned
 rest_owned d d' (Some t) rs owned leaves = others_owned d d' t.operation rs owned.1.0 leaves owned.1.1
 
 -- the tickets of a round are of different managers
@@ -165,21 +157,18 @@ begun_owned lo _ _ at d rising began = absurd began
 
 pub flights_owned : (r : Round) (now : DeskView) → IsUnderWay r now → OwnsAll now r.tickets.items
 flights_owned r now u =
-    let all = rising_parts 0 u.done (u.flying ++ u.rest) (subst (AreRising 0) u.parts u.rising) in
+    let all = rising_parts 0 u.done (u.flying ++ u.rest) (rw u.parts at u.rising) in
     let flying = rising_parts all.hi u.flying u.rest all.last in
     begun_owned all.hi u.flying r.tickets.items r.before.value.ledgers now flying.first u.in_flight
 
 -- ---- one more is kept
-
-lists_kept : (d d' : DeskView) (r : Option TicketView) → Keeps d d' r → d'.ledgers ≡ d.ledgers
-lists_kept d d' r h = grind arith
 
 events_kept : (d d' : DeskView) (r : Option TicketView) → Keeps d d' r → d'.events ≡ d.events
 events_kept d d' r h = grind arith
 
 pub kept_one_more : (d d' : DeskView) (r : Option TicketView) (rs : List (Option TicketView)) → AllKeptBut (r ∷ rs) d → Keeps d d' r → AllKeptBut rs d'
 kept_one_more d d' None rs but same o out = let all : AllKeptBut rs d' = rw same but in all o out
-kept_one_more d d' (Some t) rs but (n, (free, is)) o out = elim (but o (subst (λ (e : DeskView). IsOut e.ledgers o) is out)) [
+kept_one_more d d' (Some t) rs but (n, (free, is)) o out = elim (but o (rw is at out)) [
   | inl (k, kept) ↦ inl (k, ap (λ (e : DeskView). finmap.get e.kept k) is ∙ inserted_other d.kept n t.operation k (λ same. let no : None ≡ Some o = sym free ∙ ap (finmap.get d.kept) (sym same) ∙ kept in cc) ∙ kept)
   | inr (inl same) ↦ inl (n, ap (λ (e : DeskView). finmap.get e.kept n) is ∙ inserted_there d.kept n t.operation ∙ ap (λ q. Some q) same)
   | inr (inr later) ↦ inr later
@@ -205,19 +194,14 @@ kept_stays : (d d' : DeskView) (r : Option TicketView) → Keeps d d' r → Leav
 kept_stays d d' None same k o is = ap (λ (e : DeskView). finmap.get e.kept k) same ∙ is
 kept_stays d d' (Some t) (n, (free, made)) k o is = search (arith, inserted_other, d.kept, t.operation)
 
--- nothing else is
-kept_only : (d d' : DeskView) (r : Option TicketView) (rs : List (Option TicketView)) → Keeps d d' r → (k : ℕ) (o : Operation)
-    → finmap.get d'.kept k ≡ Some o → (finmap.get d.kept k ≡ Some o) ⊎ IsAmong o (r ∷ rs)
-kept_only d d' r rs h k o is = grind (arith, cases_eq, some_same, inserted_there, inserted_other)
-
 other_owned : (d d' : DeskView) (r : Option TicketView) (rs all : List (Option TicketView)) → IsLast (r ∷ rs) all → LeavesOwned d d' r
     → LeavesOtherTickets all d d'
-other_owned d d' None rs all last same t owned other = subst (λ (e : DeskView). Owns e t) (sym same) owned
+other_owned d d' None rs all last same t owned other = rw same owned
 other_owned d d' (Some q) rs all last leaves t owned other = leaves t owned (λ same. other (last t.operation (inl (sym same))))
 
 pub left_one_more : (all : List (Option TicketView)) (d0 d d' : DeskView) (r : Option TicketView) (rs : List (Option TicketView)) → IsLast (r ∷ rs) all
     → LeavesInFlight all d0 d → Keeps d d' r → LeavesOwned d d' r → LeavesInFlight all d0 d'
-left_one_more all d0 d d' r rs last left kept owned = search (arith, lists_kept, events_kept, kept_stays, kept_only, other_owned)
+left_one_more all d0 d d' r rs last left kept owned = search (arith, events_kept, kept_stays, other_owned, cases_eq, some_same, inserted_there, inserted_other)
 
 pub all_kept : (d : DeskView) → AllKeptBut [] d → AllKept d
 all_kept d but = record { each = λ o out. ⊎_elim (λ (k : (k : ℕ) × (finmap.get d.kept k ≡ Some o)). k) (λ (no : IsAmong o []). absurd no) (but o out) }
@@ -241,14 +225,14 @@ flying_open o (k ∷ ks) (t ∷ ts) at d h there open_ = elim (cases_Bool (k.man
 ]
   where
     here : (t : Option TicketView) → HasBegun k t at d → k.manager ≡ o.manager → IsOpen o.number (ledger at o.manager) ⊎ IsAmong o (t ∷ ts)
-    here None began same = inl (subst (IsOpen o.number) (ap (ledger d.ledgers) (sym same) ∙ began.1 ∙ ap (ledger at) same) open_)
+    here None began same = inl (rw (ap (ledger d.ledgers) (sym same) ∙ began.1 ∙ ap (ledger at) same) at open_)
     here (Some q) began same =
         let sent_is : ledger d.ledgers o.manager ≡ with_sent (ledger at o.manager) began.op =
         ap (ledger d.ledgers) (sym same) ∙ began.sent ∙ ap (λ m. with_sent (ledger at m) began.op) same in
         ⊎_elim (λ (p : IsOpen o.number (ledger at o.manager)). inl p)
         (λ (p : o.number ≡ length (ledger at o.manager).sent).
         inr (inl (began.operation ∙ (λ i. record { manager = same i; number = (ap (λ m. length (ledger at m).sent) same ∙ sym p) i }))))
-        (open_or_it (ledger at o.manager) began.op o.number (subst (IsOpen o.number) sent_is open_))
+        (open_or_it (ledger at o.manager) began.op o.number (rw sent_is at open_))
 
 -- was kept as the round began, or is in flight
 pub all_but_flights : (r : Round) (now : DeskView) → IsUnderWay r now → AllKept r.before.value → AllKeptBut r.tickets.items now
@@ -256,7 +240,7 @@ all_but_flights r now u kept o out = elim (cases_Bool (among_asks u.flying o.man
   | inl flies ↦ ⊎_elim was (λ (among : IsAmong o r.tickets.items). inr among) (flying_open o u.flying r.tickets.items at now u.in_flight flies open_)
   | inr lies ↦ elim (cases_Bool (among_asks u.done o.manager)) [
     | inl done ↦ was (asks_there (λ a a'. IsOpen o.number a' → IsOpen o.number a) (asked_opens o.number) u.done at now.ledgers o.manager u.answered done open_)
-    | inr none ↦ was (subst (IsOpen o.number) (u.others o.manager out.known.positive (list_any-append _ u.done u.flying ∙ or_from _ _ none lies)) open_)
+    | inr none ↦ was (rw (u.others o.manager out.known.positive (list_any-append _ u.done u.flying ∙ or_from _ _ none lies)) at open_)
   ]
 ]
   where

@@ -2,8 +2,7 @@ pub mod Requests
 pub mod Flights
 pub mod Stepping
 pub mod Calls
-pub mod Ordering
-pub mod Idling
+pub mod Progress
 pub mod Mapped
 pub mod EachLeft
 pub mod AtDeath

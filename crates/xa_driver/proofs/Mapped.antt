@@ -1,7 +1,6 @@
 -- What a commit and a resolve keep of the states that they ask over, and what they ask over one kind of states they ask
 -- over another, where each of their requests does.
-use Rattle.xa_base.proofs.{arith, ◌≡◌, ℕ, Bool, true, false, List, [], ◌∷◌, Option, Some, None, refl, sym, ap, subst, Contains, Contains-append_left}
-use Rattle.xa_base.proofs.{Contains-push}
+use Rattle.xa_base.proofs.{arith, ◌≡◌, ℕ, Bool, true, false, List, [], ◌∷◌, Option, Some, None, refl, ap, Contains, Contains-append_left, Contains-push}
 use Rattle.xa_base.specs.{Chain}
 use Rattle.xa_base.specs.Lists.Chain.{none, more}
 use Rattle.xa_words.specs.{XidName, Op, OpenRm, Prepare, Forget, Code}
@@ -38,7 +37,7 @@ anything records m o = record { ends = λ _ _. tt; forgets = λ _ _. tt }
 
 module _ {D : Type 0} (A : Asking D) (P : Op → Type 0) (Q : D → Type 0) (on : (d e : D) (op : Op) (c : Code) → P op → A d op e c → Q d → Q e) where
   pub for_by : (op : Option Op) (code : Option Code) (d e : D) → IsAskedFor P op → AsksFor A op code d e → Q d → Q e
-  for_by None code d e so nothing q = subst Q (sym nothing.1) q
+  for_by None code d e so nothing q = rw nothing.1 q
   for_by (Some op) None d e so nothing q = absurd nothing
   for_by (Some op) (Some c) d e so asked q = on d e op c so asked q
 
@@ -55,7 +54,7 @@ module _ {D : Type 0} (A : Asking D) (P : Op → Type 0) (Q : D → Type 0) (on 
 
   -- a resolve
   pub if_by : (asks : Bool) (op : Op) (d e : D) → (asks ≡ true → P op) → AsksIf asks A op d e → Q d → Q e
-  if_by false op d e so same q = subst Q (sym same) q
+  if_by false op d e so same q = rw same q
   if_by true op d e so asked q = on d e op asked.0 (so refl) asked.1 q
 
   pub outcome_by : (records : Records) (m : ℕ) (o : Outcome) (d e : D) → Asks P records m o → ResolvesBranch A records m o d e → Q d → Q e
@@ -63,13 +62,13 @@ module _ {D : Type 0} (A : Asking D) (P : Op → Type 0) (Q : D → Type 0) (on 
 
   pub outcomes_by : (records : Records) (m : ℕ) (d : D) (os : List Outcome) (e : D) → ((o : Outcome) → Contains os o → Asks P records m o)
       → Chain (ResolvesBranch A records m) d os e → Q d → Q e
-  outcomes_by records m d os e so (none xs last z same) q = subst Q (sym same) q
+  outcomes_by records m d os e so (none xs last z same) q = rw same q
   outcomes_by records m d os e so (more xs o now last before is) q =
       outcome_by records m o now last (so o (Contains-push xs o)) is (outcomes_by records m d xs now (λ p there. so p (Contains-append_left xs (o ∷ []) p there)) before q)
 
   pub resolves_by : (records : Records) (m : ℕ) (xs : List XidName) (os : List Outcome) (d e : D) → P OpenRm
       → ((o : Outcome) → Contains os o → Asks P records m o) → ResolvesAt A records m xs os d e → Q d → Q e
-  resolves_by records m [] os d e opens so is q = subst Q (sym is.1) q
+  resolves_by records m [] os d e opens so is q = rw is.1 q
   resolves_by records m (x ∷ xs) os d e opens so is q = outcomes_by records m is.opened os e so is.each (on d is.opened OpenRm is.code opens is.opens q)
 
 -- ---- from one kind of states to another
@@ -79,7 +78,7 @@ module _ {D E : Type 0} (A : Asking D) (B : Asking E) (f : D → E) (Q P : D →
     (on : (d e : D) (op : Op) (c : Code) → A d op e c → Q d → Q e) (back : (d e : D) (op : Op) (c : Code) → A d op e c → P e → P d)
     (step : (d e : D) (op : Op) (c : Code) → A d op e c → Q d → P e → B (f d) op (f e) c) where
   pub for_back : (op : Option Op) (code : Option Code) (d e : D) → AsksFor A op code d e → P e → P d
-  for_back None code d e nothing p = subst P nothing.1 p
+  for_back None code d e nothing p = rw nothing.1 at p
   for_back (Some op) None d e nothing p = absurd nothing
   for_back (Some op) (Some c) d e asked p = back d e op c asked p
 
@@ -107,43 +106,40 @@ module _ {D E : Type 0} (A : Asking D) (B : Asking E) (f : D → E) (Q P : D →
 
   -- a resolve
   module _ (records : Records) (m : ℕ) where
-    if_back : (asks : Bool) (op : Op) (d e : D) → AsksIf asks A op d e → P e → P d
-    if_back false op d e same p = subst P same p
-    if_back true op d e asked p = back d e op asked.0 asked.1 p
+    if_mapped : (asks : Bool) (op : Op) (d e : D) → AsksIf asks A op d e → Q d → P e → AsksIf asks B op (f d) (f e) × P d
+    if_mapped false op d e same q p = (ap f same, rw same at p)
+    if_mapped true op d e asked q p = ((asked.0, step d e op asked.0 asked.1 q p), back d e op asked.0 asked.1 p)
 
-    if_mapped : (asks : Bool) (op : Op) (d e : D) → AsksIf asks A op d e → Q d → P e → AsksIf asks B op (f d) (f e)
-    if_mapped false op d e same q p = ap f same
-    if_mapped true op d e asked q p = (asked.0, step d e op asked.0 asked.1 q p)
+    outcome_mapped : (o : Outcome) (d e : D) → ResolvesBranch A records m o d e → Q d → P e → ResolvesBranch B records m o (f d) (f e) × P d
+    outcome_mapped o d e is q p =
+        let (forgets, p1) = if_mapped (is_decided o.code) (Forget o.xid) is.decided e is.forgets (on d is.decided _ o.code is.obeys q) p in
+        let obeys = step d is.decided _ o.code is.obeys q p1 in
+        (record { manager = is.manager; decision = is.decision; decided = f is.decided; obeys = obeys; forgets = forgets }, back d is.decided _ o.code is.obeys p1)
 
-    outcome_back : (o : Outcome) (d e : D) → ResolvesBranch A records m o d e → P e → P d
-    outcome_back o d e is p = back d is.decided _ o.code is.obeys (if_back (is_decided o.code) (Forget o.xid) is.decided e is.forgets p)
-
-    outcome_mapped : (o : Outcome) (d e : D) → ResolvesBranch A records m o d e → Q d → P e → ResolvesBranch B records m o (f d) (f e)
-    outcome_mapped o d e is q p = search (arith, if_back, if_mapped, is.decided, o.code, is.obeys, is.forgets)
-
-    all_back : (d : D) (os : List Outcome) (e : D) → Chain (ResolvesBranch A records m) d os e → P e → P d
-    all_back d os e (none xs last z same) p = subst P same p
-    all_back d os e (more xs o now last before is) p = all_back d xs now before (outcome_back o now last is p)
-
-    all_mapped : (d : D) (os : List Outcome) (e : D) → Chain (ResolvesBranch A records m) d os e → Q d → P e → Chain (ResolvesBranch B records m) (f d) os (f e)
-    all_mapped d os e (none xs last z same) q p = none xs (f last) z (ap f same)
+    all_mapped : (d : D) (os : List Outcome) (e : D) → Chain (ResolvesBranch A records m) d os e → Q d → P e
+        → Chain (ResolvesBranch B records m) (f d) os (f e) × P d
+    all_mapped d os e (none xs last z same) q p = (none xs (f last) z (ap f same), rw same at p)
     all_mapped d os e (more xs o now last before is) q p =
-        more xs o (f now) (f last) (all_mapped d xs now before q (outcome_back o now last is p)) (outcome_mapped o now last is (outcomes_by A Any Q (λ d e op c _. on d e op c) records m d xs now (λ o _. anything records m o) before q) p)
+        let (one, p1) =
+        outcome_mapped o now last is (outcomes_by A Any Q (λ d e op c _. on d e op c) records m d xs now (λ o _. anything records m o) before q) p in
+        let (earlier, p0) = all_mapped d xs now before q p1 in
+        (more xs o (f now) (f last) earlier one, p0)
 
     pub resolves_mapped : (xids : List XidName) (os : List Outcome) (d e : D) → ResolvesAt A records m xids os d e → Q d → P e
         → ResolvesAt B records m xids os (f d) (f e)
     resolves_mapped [] os d e is q p = (is.0, ap f is.1)
-    resolves_mapped (x ∷ xs) os d e is q p = search (arith, all_back, all_mapped, is.opened, is.code, is.opens, is.each)
+    resolves_mapped (x ∷ xs) os d e is q p =
+        let (all, p1) = all_mapped is.opened os e is.each (on d is.opened OpenRm is.code is.opens q) p in
+        record { opened = f is.opened; code = is.code; opens = step d is.opened OpenRm is.code is.opens q p1; each = all; xids_are = is.xids_are }
 
 -- ---- what was resolved in turn was, whatever of each request is looked at
 
-module _ {D E : Type 0} (f : D → E) where
-  pub turns_by : (asking : ℕ → Asking D) (other : ℕ → Asking E)
-      → ((m : ℕ) (d : D) (op : Op) (e : D) (code : Code) → asking m d op e code → other m (f d) op (f e) code)
-      → (records : Records) (z : ScanView) (old : D) (n : ℕ) (os : List Outcome) (new : D)
-      → ResolvesInTurn asking records z old n os new → ResolvesInTurn other records z (f old) n os (f new)
-  turns_by asking other is records z old n os new (begun outcomes last nil same) = begun outcomes (f last) nil (ap f same)
-  turns_by asking other is records z old n os new (next k m xs ys all d e before here r grown) =
-      next k m xs ys all (f d) (f e) (turns_by asking other is records z old k xs d before) here
-      (resolves_mapped (asking m) (other m) f (λ _. Unit) (λ _. Unit) (λ d e op c a q. q) (λ d e op c a p. p) (λ d e op c a q p. is m d op e c a) records m (left_at z m) ys d e r tt tt)
-      grown
+pub turns_by : {D E : Type 0} (f : D → E) (asking : ℕ → Asking D) (other : ℕ → Asking E)
+    → ((m : ℕ) (d : D) (op : Op) (e : D) (code : Code) → asking m d op e code → other m (f d) op (f e) code)
+    → (records : Records) (z : ScanView) (old : D) (n : ℕ) (os : List Outcome) (new : D)
+    → ResolvesInTurn asking records z old n os new → ResolvesInTurn other records z (f old) n os (f new)
+turns_by f asking other is records z old n os new (begun outcomes last nil same) = begun outcomes (f last) nil (ap f same)
+turns_by f asking other is records z old n os new (next k m xs ys all d e before here r grown) =
+    next k m xs ys all (f d) (f e) (turns_by f asking other is records z old k xs d before) here
+    (resolves_mapped (asking m) (other m) f (λ _. Unit) (λ _. Unit) (λ d e op c a q. q) (λ d e op c a p. p) (λ d e op c a q p. is m d op e c a) records m (left_at z m) ys d e r tt tt)
+    grown

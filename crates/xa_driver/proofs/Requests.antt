@@ -1,14 +1,15 @@
 -- What requests to managers do to a desk, one by one and in a round.
-use Rattle.xa_base.proofs.{◌≡◌, ℕ, ◌+◌, ◌-◌, List, length, arith, suc, [], ◌∷◌, refl, ◌≢◌, ◌≤◌, if◌then◌else◌, Option, None, Some, sym, ap, ◌∙◌, subst}
-use Rattle.xa_base.proofs.{at_false, at_true, ◌<◌, true, false, ◌||◌, ◌==◌, map, get_or, set, zero, length-append, All, All-nil, All-cons, All-head, All-tail}
-use Rattle.xa_base.proofs.{eqb-true, ne_eqb, inl, inr, cases_Bool, Bool, nat_eq, eqb-false, or_parts, or_from, cases_eq, by_if, sum_by-set}
+use Rattle.xa_base.proofs.{◌≡◌, ℕ, ◌+◌, ◌-◌, List, length, arith, suc, [], ◌∷◌, refl, ◌≢◌, ◌≤◌, if◌then◌else◌, Option, None, Some, sym, ap, ◌∙◌, at_false}
+use Rattle.xa_base.proofs.{at_true, ◌<◌, true, false, ◌||◌, ◌==◌, map, get_or, set, zero, length-append, All, All-nil, All-cons, All-head, All-tail, eqb-true}
+use Rattle.xa_base.proofs.{ne_eqb, inl, inr, cases_Bool, Bool, nat_eq, eqb-false, or_parts, or_from, cases_eq, by_if, sum_by-set}
 use Rattle.xa_desk.specs.{LedgerView, IsKnown, ledger, no_ledger, put_ledger, outstanding, numbered, Operation, learnt_shut, with_sent, with_collected}
 use Rattle.xa_desk.specs.{TicketView, after_collected, Collects, DeskView, is_collected, IsOut, AllKept, LeavesTickets, HasGrown}
 use Rattle.xa_words.specs.{Op, Code, Prepare}
 use Rattle.xa_desk.proofs.GoingOn.{goes_same, goes_further, goes_collecting}
 use Rattle.xa_desk.proofs.Ledgers.{ledger-put_same, ledger-put_other, is_collected-push, known_by, length-put_ledger, as_it_was}
-use Rattle.xa_driver.specs.{Ask, KeepsDesk, IsUnsent, IsSending, BeginsAsk, Ends, asked, EachAsk, among_asks, SameAsks, IsSameAsk, AreRising, KeepsTheRest}
+use Rattle.xa_driver.specs.{Ask, KeepsDesk, IsSending, BeginsAsk, Ends, asked, EachAsk, among_asks, SameAsks, IsSameAsk, AreRising, KeepsTheRest}
 use Rattle.xa_driver.specs.{LeavesOutstanding, Branch, Ending, IsAnswered, AskTrace, AsksFor, AtBranch, second_op, third_op, AsksLedger, voted, AllCanAsk}
+use Rattle.std.proofs.lemmas.List.{map-id}
 use Rattle.std.specs.Prelude.{fold}
 use Rattle.xa_driver.specs.Asks.{Asks}
 use Rattle.std.specs.FinMap as finmap
@@ -16,10 +17,6 @@ use Rattle.std.specs.FinMap as finmap
 -- how many requests of a ledger are outstanding
 abbrev pub open_count : LedgerView → ℕ
 open_count a = length a.sent - length a.collected
-
-put_open : (at : List LedgerView) (m : ℕ) (a : LedgerView) → IsKnown at m
-    → outstanding (put_ledger at m a) + open_count (ledger at m) ≡ outstanding at + open_count a
-put_open at m a known = sum_by-set open_count at (m - 1) a no_ledger (let h = known.within in let p = known.positive in omega arith)
 
 pub numbered_length : (t n : ℕ) (xs : List Op) → length (numbered t n xs) ≡ length xs
 numbered_length t n [] = refl
@@ -48,32 +45,25 @@ unmoved m a' old new e h =
 -- one ledger was written, and nothing else that counts
 pub put_moved : (m : ℕ) (a' : LedgerView) (old new : DeskView) → IsKnown old.ledgers m → new.ledgers ≡ put_ledger old.ledgers m a' → KeepsDesk old new
     → Moved m a' old new
-put_moved m a' old new known e keeps = search (arith, ledger-put_same, ledger-put_other, length-put_ledger, open_count, put_open, old.ledgers, known.positive)
+put_moved m a' old new known e keeps = search (arith, ledger-put_same, ledger-put_other, length-put_ledger, open_count, old.ledgers, known.positive, sum_by-set)
 
 -- a request is sent where its manager isn't learnt to be shut
 abbrev pub sent_by : LedgerView → Option Op → LedgerView
 sent_by a None = a
 sent_by a (Some op) = if learnt_shut a then a else with_sent a op
 
-sent_none : (a : LedgerView) (op : Option Op) → IsUnsent a op → a ≡ sent_by a op
-sent_none a op h = grind (arith, at_true)
-
 pub began_moved : (k : Ask) (old new : DeskView) (r : Option TicketView) → IsKnown old.ledgers k.manager → BeginsAsk k old new r
     → Moved k.manager (sent_by (ledger old.ledgers k.manager) k.op) old new
-began_moved k old new None known b = unmoved k.manager _ old new b.0 (sent_none (ledger old.ledgers k.manager) k.op b.1)
+began_moved k old new None known b = search (arith, unmoved, k.manager, b.0, old.ledgers, k.op, at_true)
 began_moved k old new (Some t) known b =
     let a : LedgerView = ledger old.ledgers k.manager in
     let is : with_sent a b.op ≡ sent_by a k.op = sym (at_false (learnt_shut a) _ _ b.open_) ∙ ap (sent_by a) (sym b.wanted) in
-    subst (λ (x : LedgerView). Moved k.manager x old new) is (put_moved k.manager (with_sent a b.op) old new known b.sent b.keeps)
+    rw is at (put_moved k.manager (with_sent a b.op) old new known b.sent b.keeps)
 
 -- a request that was sent stands in its manager's ledger
 pub sent_is : (k : Ask) (t : TicketView) (d d' : DeskView) → IsKnown d.ledgers k.manager → (b : IsSending k d d' t)
     → ledger d'.ledgers k.manager ≡ with_sent (ledger d.ledgers k.manager) b.op
 sent_is k t d d' known b = ap (λ l. ledger l k.manager) b.sent ∙ ledger-put_same d.ledgers k.manager (with_sent (ledger d.ledgers k.manager) b.op) known
-
--- what collecting a completion leaves
-pub collected_ledgers : (old new : DeskView) (o : Operation) (c : Code) → Collects old new o c → new.ledgers ≡ after_collected old.ledgers o c
-collected_ledgers old new o c x = grind arith
 
 pub collected_keeps : (old new : DeskView) (o : Operation) (c : Code) → Collects old new o c → KeepsDesk old new
 collected_keeps old new o c x =
@@ -90,7 +80,8 @@ pub ended_moved : (k : Ask) (old new : DeskView) (r : Option TicketView) (code :
 unfolding collected_of
 ended_moved k old new None code at known e = unmoved k.manager (ledger old.ledgers k.manager) old new e.0 refl
 ended_moved k old new (Some t) code at known (c, (is, x)) =
-    rw is (put_moved k.manager (with_collected (ledger old.ledgers k.manager) t.operation.number c) old new known (rw (at t refl) at (collected_ledgers old new t.operation c x)) (collected_keeps old new t.operation c x))
+    let written : new.ledgers ≡ after_collected old.ledgers t.operation c = grind arith in
+    rw is (put_moved k.manager (with_collected (ledger old.ledgers k.manager) t.operation.number c) old new known (rw (at t refl) at written) (collected_keeps old new t.operation c x))
 
 -- ---- the same requests
 
@@ -98,12 +89,9 @@ pub same_itself : (ks : List Ask) → SameAsks ks ks
 same_itself [] = tt
 same_itself (k ∷ ks) = (record { manager = refl; xid = refl; vote = refl; op = refl }, same_itself ks)
 
-same_one : (j k l : Ask) → IsSameAsk j k → IsSameAsk k l → IsSameAsk j l
-same_one j k l a b = record { manager = b.manager ∙ a.manager; xid = b.xid ∙ a.xid; vote = b.vote ∙ a.vote; op = b.op ∙ a.op }
-
 pub same_set : (js ks : List Ask) (n : ℕ) (k k1 : Ask) → k ≡ get_or ks n k → IsSameAsk k k1 → SameAsks js ks → SameAsks js (set ks n k1)
 same_set [] [] n k k1 is one s = tt
-same_set (j ∷ js) (l ∷ ks) zero k k1 is one s = (same_one j l k1 s.0 (subst (λ (q : Ask). IsSameAsk q k1) is one), s.1)
+same_set (j ∷ js) (l ∷ ks) zero k k1 is one s = search (arith, s.0)
 same_set (j ∷ js) (l ∷ ks) (suc n) k k1 is one s = (s.0, same_set js ks n k k1 is one s.1)
 same_set _ _ _ k k1 is one s = absurd s
 
@@ -114,25 +102,22 @@ pub record Alike (js ks : List Ask) : Type 0 where
   pub rising : (lo : ℕ) → AreRising lo js → AreRising lo ks
   pub can : (at : List LedgerView) → AllCanAsk js at → AllCanAsk ks at
 
-alike_none : Alike [] []
-alike_none = record { long = refl; among = λ m. refl; rising = λ lo r. r; can = λ at c. c }
-
-alike_more : (j k : Ask) (js ks : List Ask) → k.manager ≡ j.manager → Alike js ks → Alike (j ∷ js) (k ∷ ks)
-alike_more j k js ks same rest = record {
-  long = let long = rest.long in omega arith;
-  among = λ m i. (same i == m) || rest.among m i;
-  rising = λ lo r. rw same (r.0, rest.rising j.manager r.1);
-  can = λ at c. rw same (c.0, rest.can at c.1);
-}
+-- of requests that were remade for the same managers
+pub remade_alike : (f : Ask → Ask) → ((k : Ask) → (f k).manager ≡ k.manager) → (ks js : List Ask) → SameAsks (map f ks) js → Alike ks js
+remade_alike f same [] [] s = record { long = refl; among = λ m. refl; rising = λ lo r. r; can = λ at c. c }
+remade_alike f same (k ∷ ks) (j ∷ js) s =
+    let rest = remade_alike f same ks js s.1 in
+    let here : j.manager ≡ k.manager = s.0.manager ∙ same k in
+    record {
+      long = ap suc rest.long;
+      among = λ m i. (here i == m) || rest.among m i;
+      rising = λ lo r. rw here (r.0, rest.rising k.manager r.1);
+      can = λ at c. rw here (c.0, rest.can at c.1);
+    }
+remade_alike f same _ _ s = absurd s
 
 pub same_alike : (js ks : List Ask) → SameAsks js ks → Alike js ks
-same_alike [] [] s = alike_none
-same_alike (j ∷ js) (k ∷ ks) s = alike_more j k js ks s.0.manager (same_alike js ks s.1)
-same_alike _ _ s = absurd s
-
-pub mapped_alike : (f : Ask → Ask) → ((k : Ask) → (f k).manager ≡ k.manager) → (ks : List Ask) → Alike ks (map f ks)
-mapped_alike f same [] = alike_none
-mapped_alike f same (k ∷ ks) = alike_more k (f k) ks (map f ks) (same k) (mapped_alike f same ks)
+same_alike js ks s = remade_alike (λ k. k) (λ k. refl) js ks (rw (map-id js) s)
 
 -- what holds of each that it is asked for holds of what is asked
 pub carried : {A : Type 0} (f : A → Ask) (P : A → Type 0) (Q : Ask → Type 0) → ((a : A) (k : Ask) → IsSameAsk (f a) k → P a → Q k)
@@ -155,7 +140,7 @@ module _ (R : LedgerView → LedgerView → Type 0) (one : (a : LedgerView) (op 
   pub asks_there : (ks : List Ask) (at at' : List LedgerView) (m : ℕ) → EachAsk ks at at' → among_asks ks m ≡ true → R (ledger at m) (ledger at' m)
   asks_there [] at at' m e there = absurd (cc)
   asks_there (k ∷ ks) at at' m e there = elim (cases_Bool (k.manager == m)) [
-    | inl here ↦ subst (λ n. R (ledger at n) (ledger at' n)) (eqb-true k.manager m here) (subst (R (ledger at k.manager)) (sym e.0.trace) (one (ledger at k.manager) k.op k.code))
+    | inl here ↦ rw (← e.0.trace, eqb-true k.manager m here) at (one (ledger at k.manager) k.op k.code)
     | inr other ↦ asks_there ks at at' m e.1 (ap (λ c. c || among_asks ks m) (sym other) ∙ there)
   ]
 
@@ -163,7 +148,7 @@ module _ (R : LedgerView → LedgerView → Type 0) (one : (a : LedgerView) (op 
   pub asks_at : (ks : List Ask) (at at' : List LedgerView) (m : ℕ) → 1 ≤ m → Asks ks at at' → R (ledger at m) (ledger at' m)
   asks_at ks at at' m p is = elim (cases_Bool (among_asks ks m)) [
     | inl there ↦ asks_there ks at at' m is.each there
-    | inr elsewhere ↦ subst (R (ledger at m)) (sym (is.others m p elsewhere)) (one (ledger at m) None None)
+    | inr elsewhere ↦ rw (is.others m p elsewhere) (one (ledger at m) None None)
   ]
 
 same_sum : (f : LedgerView → ℕ) (d : LedgerView) (a b : ℕ) (xs ys : List LedgerView) → a ≡ b → length ys ≡ length xs
@@ -178,7 +163,7 @@ same_sum f d a b (x ∷ xs) (y ∷ ys) e l h =
 pub as_many_open : (ks : List Ask) (at at' : List LedgerView) → Asks ks at at' → outstanding at' ≡ outstanding at
 as_many_open ks at at' h = same_sum open_count no_ledger 0 0 at at' refl h.managers (λ i lt.
     let back : i + 1 - 1 ≡ i = omega arith in
-    subst (λ (n : ℕ). open_count (get_or at' n no_ledger) ≡ open_count (get_or at n no_ledger)) back (asks_at (λ a a'. open_count a' ≡ open_count a) open_asked ks at at' (i + 1) (omega arith) h))
+    rw back at (asks_at (λ a a'. open_count a' ≡ open_count a) open_asked ks at at' (i + 1) (omega arith) h))
 
 -- ---- what is outstanding
 
@@ -193,13 +178,10 @@ asked_leaves n a None code h = h
 asked_leaves n a (Some op) None h = h
 asked_leaves n a (Some op) (Some c) h = search (arith, length-append, is_collected-push, or_from, ne_eqb, h.sent, a.sent, h.open_)
 
-answered_opens : (n : ℕ) (a : LedgerView) (op : Op) (code : Code) → IsOpen n (with_collected (with_sent a op) (length a.sent) code) → IsOpen n a
-answered_opens n a op code h = search (arith, or_parts, nat_eq, is_collected-push, eqb-false, length-append, a.sent)
-
 pub asked_opens : (n : ℕ) (a : LedgerView) (op : Option Op) (code : Option Code) → IsOpen n (asked a op code) → IsOpen n a
 asked_opens n a None code h = h
 asked_opens n a (Some op) None h = h
-asked_opens n a (Some op) (Some code) h = by_if (λ b. IsOpen n b → IsOpen n a) (learnt_shut a) _ _ (λ _ q. q) (λ _. answered_opens n a op code) h
+asked_opens n a (Some op) (Some code) h = search (arith, or_parts, nat_eq, is_collected-push, eqb-false, length-append)
 
 pub out_by : (at at' : List LedgerView) (o : Operation) → length at' ≡ length at
     → (IsOpen o.number (ledger at o.manager) → IsOpen o.number (ledger at' o.manager)) → IsOut at o → IsOut at' o

@@ -1,13 +1,13 @@
 -- One step of a round: a request is sent, or collected; and the end, once all are.
 use Rattle.xa_base.proofs.{list_any-append, none_of, MatchOption, ◌≡◌, ◌≢◌, ℕ, ◌+◌, ◌<◌, ◌≤◌, Option, None, Some, false, List, [], ◌∷◌, ◌++◌, length, refl, sym}
-use Rattle.xa_base.proofs.{ap, ◌∙◌, subst, arith, get_or, set, append_assoc, append-nil, length-append, slice_get-get_or, slice_get_within, All, slice_get}
-use Rattle.xa_base.proofs.{All-nil, All-cons, All-append, get_or-append_seam, set-append_seam, get_or_from_slice_get}
+use Rattle.xa_base.proofs.{ap, ◌∙◌, arith, get_or, set, append_assoc, append-nil, length-append, All, All-nil, All-cons, All-append, get_or-append_seam}
+use Rattle.xa_base.proofs.{set-append_seam, drop, drop_at, drop_more}
 use Rattle.std.specs.VecDeque.{deque_capacity}
 use Rattle.xa_words.specs.{Code}
 use Rattle.xa_desk.specs.{LedgerView, LeavesTickets, TicketView, IsKnown, ledger, outstanding, DeskView}
 use Rattle.xa_desk.proofs.Ledgers.{known_by, sent_keeps_out}
 use Rattle.xa_driver.specs.{Ask, Round, AllCanAsk, AreRising, BeginsAsk, CanAsk, EachAsk, EachBegan, Ends, HasBegun, HaveComeSoFar, IsBegun, Owning, among_asks}
-use Rattle.xa_driver.specs.{collected, in_flight, unasked, Begins, IsUnderWay, coded, sent_count, IsSameAsk, SameAsks}
+use Rattle.xa_driver.specs.{collected, in_flight, unasked, Begins, IsUnderWay, coded, sent_count, SameAsks}
 use Rattle.xa_driver.specs.Asks.{Asks}
 use Rattle.xa_driver.proofs.Requests.{tickets_stay, keeps_chain, keeps_start, began_moved, behind, same_alike, same_itself, same_set}
 use Rattle.xa_driver.proofs.Flights.{apart, asked_more, asked_stays, begins_flight, begun_more, begun_stays, can_at, end_answers, end_moves, sent_takes_one}
@@ -16,14 +16,7 @@ use Rattle.xa_driver.proofs.Flights.{among_parts, end_takes_none, rising_parts}
 -- ---- places in lists
 
 pub matched_some : {A : Type 0} (P : Type 0) (Q : A → Type 0) (o : Option A) (x : A) → o ≡ Some x → Q x → MatchOption o P Q
-matched_some P Q o x e q = subst (λ p. MatchOption p P Q) (sym e) q
-
--- what stands after the first part
-pub head_is : (xs ys : List Ask) (n : ℕ) (k : Ask) → n ≡ length xs → slice_get (xs ++ ys) n ≡ Some k → (zs : List Ask) × (ys ≡ k ∷ zs)
-head_is xs [] n k e g = let z = slice_get_within (xs ++ []) n k g in absurd (omega (arith, z, e, length-append xs []))
-head_is xs (y ∷ ys) n k e g =
-    let there : get_or (xs ++ y ∷ ys) (length xs) k ≡ k = ap (λ m. get_or (xs ++ y ∷ ys) m k) (sym e) ∙ get_or_from_slice_get (xs ++ y ∷ ys) n k k g in
-    (ys, ap (λ q. q ∷ ys) (sym (get_or-append_seam xs y ys k) ∙ there))
+matched_some P Q o x e q = rw e q
 
 pub as_many : (ks : List Ask) (rs : List (Option TicketView)) (at : List LedgerView) (d : DeskView) → EachBegan ks rs at d → length rs ≡ length ks
 as_many [] [] at d h = refl
@@ -80,39 +73,31 @@ module _ (r : Round) (now : DeskView) (u : IsUnderWay r now) where
   split : r.asks.items ≡ gone ++ u.rest
   split = u.parts ∙ sym (append_assoc u.done u.flying u.rest)
 
-  count_is : sent_count r ≡ length gone
-  count_is =
-      let a = u.counted in let b = as_many u.flying r.tickets.items at.ledgers now u.in_flight in omega (arith, a, b, length-append u.done u.flying)
-
   -- one of its requests: those before it aren't to its manager
   module _ (js : List Ask) (k : Ask) (ks : List Ask) (all : r.asks.items ≡ js ++ k ∷ ks) where
     up : AreRising 0 (js ++ k ∷ ks)
-    up = subst (AreRising 0) all u.rising
+    up = rw all at u.rising
 
     can_first : CanAsk at.ledgers k.manager
-    can_first = can_at js k ks at.ledgers (subst (λ (l : List Ask). AllCanAsk l at.ledgers) all u.can)
+    can_first = can_at js k ks at.ledgers (rw all at u.can)
 
     known_now : IsKnown now.ledgers k.manager
     known_now = known_by at.ledgers now.ledgers k.manager u.managers can_first.known
 
-    none_before : among_asks js k.manager ≡ false
-    none_before = let p = rising_parts 0 js (k ∷ ks) up in p.above k.manager p.last.0
-
   -- ---- one more is sent
 
   module _ (n : ℕ) (count : n ≡ sent_count r) (k : Ask) (within : n < length r.asks.items) (next : k ≡ get_or r.asks.items n k) where
-    tail_is : (zs : List Ask) × (u.rest ≡ k ∷ zs)
-    tail_is =
-        head_is gone u.rest n k (count ∙ count_is) (ap (λ l. slice_get l n) (sym split) ∙ slice_get-get_or r.asks.items n k within ∙ ap (λ q. Some q) (sym next))
-
     abbrev zs : List Ask
-    zs = tail_is.0
+    zs = drop (n + 1) r.asks.items
+
+    tail_is : u.rest ≡ k ∷ zs
+    tail_is = search (arith, drop_at, split, drop_more, as_many, length-append)
 
     all_is : r.asks.items ≡ gone ++ k ∷ zs
-    all_is = split ∙ ap (λ l. gone ++ l) tail_is.1
+    all_is = split ∙ ap (λ l. gone ++ l) tail_is
 
     none_gone : among_asks gone k.manager ≡ false
-    none_gone = none_before gone k zs all_is
+    none_gone = search (arith, all_is, rising_parts, up)
 
     same : ledger now.ledgers k.manager ≡ ledger at.ledgers k.manager
     same = let can = can_first gone k zs all_is in u.others k.manager can.known.positive none_gone
@@ -123,23 +108,20 @@ module _ (r : Round) (now : DeskView) (u : IsUnderWay r now) where
     pub free_now : outstanding now.ledgers < now.handles
     free_now = grind (arith, all_is, length-append)
 
-    parts_on : r.asks.items ≡ u.done ++ ((u.flying ++ k ∷ []) ++ zs)
-    parts_on = u.parts ∙ ap (λ l. u.done ++ (u.flying ++ l)) tail_is.1 ∙ ap (λ l. u.done ++ l) (sym (append_assoc u.flying (k ∷ []) zs))
-
     pub one_more_sent : (t : Option TicketView) (new : DeskView) → BeginsAsk k now new t → (r' : Round) → r' ≡ record r { tickets = r'.tickets }
         → r'.tickets.items ≡ r.tickets.items ++ t ∷ [] → deque_capacity r'.tickets ≡ deque_capacity r.tickets → IsUnderWay r' new
     one_more_sent t new began r' is tickets capacity =
         let moved = began_moved k now new t can_now.known began in
-        let first = rising_parts 0 u.done (u.flying ++ k ∷ zs) (subst (AreRising 0) (append_assoc u.done u.flying (k ∷ zs)) (up gone k zs all_is)) in
+        let first = rising_parts 0 u.done (u.flying ++ k ∷ zs) (rw (append_assoc u.done u.flying (k ∷ zs)) at (up gone k zs all_is)) in
         let later = rising_parts first.hi u.flying (k ∷ zs) first.last in
         let none = among_parts u.done u.flying k.manager none_gone in
         let one = sent_takes_one k t now new can_now.known began in
         let flying = begun_stays at.ledgers now new k.manager _ moved first.hi u.flying r.tickets.items later.first none.1 u.in_flight in
-        subst (λ (q : Round). IsUnderWay q new) (sym is) (record {
+        rw is (record {
           done = u.done;
           flying = u.flying ++ k ∷ [];
           rest = zs;
-          parts = parts_on;
+          parts = search (arith, tail_is, append_assoc);
           counted = u.counted;
           answered = asked_stays at.ledgers now new k.manager _ moved 0 u.done first.first none.0 u.answered;
           in_flight = rw tickets (begun_more u.flying r.tickets.items k t at.ledgers new flying (begins_flight k t at now new same can_now.known began));
@@ -164,7 +146,7 @@ module _ (r : Round) (now : DeskView) (u : IsUnderWay r now) where
 
   module _ (t : Option TicketView) (ts : List (Option TicketView)) (tickets : r.tickets.items ≡ t ∷ ts) where
     pub first_one : (k : Ask) × ((js : List Ask) × ((u.flying ≡ k ∷ js) × (HasBegun k t at.ledgers now × EachBegan js ts at.ledgers now)))
-    first_one = first_flies u.flying t ts at.ledgers now (subst (λ (l : List (Option TicketView)). EachBegan u.flying l at.ledgers now) tickets u.in_flight)
+    first_one = first_flies u.flying t ts at.ledgers now (rw tickets at u.in_flight)
 
     abbrev k : Ask
     k = first_one.0
@@ -191,13 +173,13 @@ module _ (r : Round) (now : DeskView) (u : IsUnderWay r now) where
         let moved = end_moves k t code at.ledgers now new (known_now u.done k (js ++ u.rest) all_of) begun e in
         let trace = end_answers k t code at.ledgers now new begun e moved.here in
         let same : SameAsks r.asks.items r'.asks.items =
-        rw asks (same_set r.asks.items r.asks.items r.collected k (coded k code) (sym (place_is k)) (same_coded code) (same_itself r.asks.items)) in
+        rw asks (same_set r.asks.items r.asks.items r.collected k (coded k code) (sym (place_is k)) (record { manager = refl; xid = refl; vote = refl; op = refl }) (same_itself r.asks.items)) in
         let alike = same_alike r.asks.items r'.asks.items same in
         let first = rising_parts 0 u.done (k ∷ (js ++ u.rest)) (up u.done k (js ++ u.rest) all_of) in
         let later = rising_parts k.manager js u.rest first.last.1 in
         let now_are : r'.asks.items ≡ u.done ++ coded k code ∷ (js ++ u.rest) = search (arith, all_of, set-append_seam) in
         let grown = length-append u.done (coded k code ∷ []) in
-        subst (λ (q : Round). IsUnderWay q new) (sym is) (record {
+        rw is (record {
           done = u.done ++ coded k code ∷ [];
           flying = js;
           rest = u.rest;
@@ -207,7 +189,7 @@ module _ (r : Round) (now : DeskView) (u : IsUnderWay r now) where
               (asked_stays at.ledgers now new k.manager _ moved 0 u.done first.first (first.above k.manager first.last.0) u.answered) trace;
           in_flight = rw left (begun_stays at.ledgers now new k.manager _ moved k.manager js ts later.first (behind k.manager k.manager js (omega arith) later.first) first_one.1.1.1.1);
           others = λ m p without.
-              let none : among_asks (u.done ++ k ∷ js) m ≡ false = same_managers code m u.done js ∙ without in
+              let none : among_asks (u.done ++ k ∷ js) m ≡ false = search (arith, list_any-append, without) in
               let differs : m ≢ k.manager = λ q. apart k js m (among_parts u.done (k ∷ js) m none).1 (sym q) in
               moved.others m p differs ∙ u.others m p (ap (λ l. among_asks (u.done ++ l) m) first_one.1.1.0 ∙ none);
           managers = moved.managers ∙ u.managers;
@@ -220,12 +202,6 @@ module _ (r : Round) (now : DeskView) (u : IsUnderWay r now) where
               let no_more = end_takes_none k t code now new e in omega (arith, grown, flew, fewer, no_more);
           room = let room = u.room in omega (arith, room, alike.long, capacity);
         })
-      where
-        same_coded : (code : Option Code) → IsSameAsk k (coded k code)
-        same_coded code = record { manager = refl; xid = refl; vote = refl; op = refl }
-
-        same_managers : (code : Option Code) (m : ℕ) (xs js : List Ask) → among_asks (xs ++ k ∷ js) m ≡ among_asks ((xs ++ coded k code ∷ []) ++ js) m
-        same_managers code m xs js = search (arith, list_any-append)
 
 -- ---- once all are collected
 
@@ -261,12 +237,10 @@ module _ (at : List LedgerView) (d : DeskView) where
 pub so_far : (r : Round) (now : DeskView) → IsUnderWay r now → HaveComeSoFar r.asks.items r.before.value.ledgers now.ledgers
 so_far r now u =
     let at : List LedgerView = r.before.value.ledgers in
-    let split_ : r.asks.items ≡ (u.done ++ u.flying) ++ u.rest = u.parts ∙ sym (append_assoc u.done u.flying u.rest) in
-    let last = rising_parts 0 (u.done ++ u.flying) u.rest (subst (AreRising 0) split_ u.rising) in
+    let last = rising_parts 0 (u.done ++ u.flying) u.rest (rw (split r now u) at u.rising) in
     let unasked_ = so_unasked at now last.hi u.rest last.last (λ m above. u.others m (omega (arith, above)) (last.above m above)) in
     record {
-      each = subst (All (Begun at now)) (sym u.parts)
-          (All-append (Begun at now) u.done (u.flying ++ u.rest) (so_answered at now u.done u.answered) (All-append (Begun at now) u.flying u.rest (so_flying at now u.flying r.tickets.items u.in_flight) unasked_));
-      others = λ m p none. u.others m p (among_parts (u.done ++ u.flying) u.rest m (ap (λ l. among_asks l m) (sym split_) ∙ none)).0;
+      each = rw u.parts (All-append (Begun at now) u.done (u.flying ++ u.rest) (so_answered at now u.done u.answered) (All-append (Begun at now) u.flying u.rest (so_flying at now u.flying r.tickets.items u.in_flight) unasked_));
+      others = λ m p none. u.others m p (among_parts (u.done ++ u.flying) u.rest m (ap (λ l. among_asks l m) (sym (split r now u)) ∙ none)).0;
       managers = u.managers;
     }

@@ -34,6 +34,7 @@ use xa_log::DecisionLog;
 use xa_words::Death;
 
 // Asks all branches to prepare, collects so many votes, and leaves the others in flight.
+#[tactic(auto, using(crate::proofs::Requests::same_itself, crate::proofs::Requests::same_alike))]
 fn die_preparing<R: Wait, I: Idle>(
     rt: &R,
     preparing: Preparing,
@@ -86,7 +87,7 @@ fn die_telling<R: Wait, I: Idle>(
 }
 
 // Goes on from the decision to the death of the coordinator.
-#[tactic(auto, using(crate::proofs::Idling::idles_same, crate::proofs::Calls::among_second))]
+#[tactic(auto, using(crate::proofs::AtDeath::left_rules))]
 fn die_decided<R: Wait, I: Idle>(
     rt: &R,
     decided: Decided,
@@ -129,7 +130,7 @@ fn die_decided<R: Wait, I: Idle>(
 ///
 /// It fails for want of memory, before anything is sent; and where the log has lost the record of the decision before
 /// the coordinator came to its death.
-#[tactic(auto, using(crate::proofs::Idling::first_idles, crate::proofs::AtDeath::desk_rest))]
+#[tactic(auto, using(crate::proofs::Progress::first_idles, crate::proofs::AtDeath::desk_rest))]
 pub fn commit_until<R: Wait, L: DecisionLog, I: Idle>(
     rt: &R,
     alloc: Global,

@@ -44,7 +44,7 @@ fn can_ask_all(desk: &Desk, asks: &[Ask]) -> bool
 }
 
 // Keeps the operations of all these tickets under handles, where they stay until somebody collects them.
-#[tactic(auto, using(crate::proofs::Flights::first_owned))]
+#[tactic(auto, using(crate::proofs::Flights::first_owned, xa_base::proofs::none_of, crate::proofs::Flights::all_kept))]
 fn keep_all(desk: &mut Desk, tickets: &mut VecDeque<Option<Ticket>>)
     requires { OwnsAll desk.old tickets.old.items }
     ensures left { LeavesInFlight tickets.old.items desk.old desk.new }
@@ -194,6 +194,7 @@ impl Round {
     }
 
     // Sends all that isn't sent.
+    #[tactic(auto, using(crate::proofs::Progress::idles_start, crate::proofs::Progress::sends_stay))]
     fn send_all<R: Wait, I: Idle>(&mut self, rt: &R, desk: &mut Desk, idle: &mut I)
         requires { IsUnderWay self.old desk.old }
         ensures under_way { IsUnderWay self.new desk.new }
@@ -212,6 +213,7 @@ impl Round {
     }
 
     // Collects all that is in flight.
+    #[tactic(auto, using(crate::proofs::Progress::idles_start, crate::proofs::Progress::collects_nothing))]
     fn collect_all<R: Wait, I: Idle>(&mut self, rt: &R, desk: &mut Desk, idle: &mut I)
         requires under_way { IsUnderWay self.old desk.old }
         requires all { IsSent self.old }
@@ -230,6 +232,7 @@ impl Round {
     }
 
     // Collects the answers to the first so many requests, or to all where there are fewer.
+    #[tactic(auto, using(crate::proofs::Progress::collects_nothing, crate::proofs::Progress::idles_start))]
     fn collect_first<R: Wait, I: Idle>(&mut self, rt: &R, desk: &mut Desk, count: u32, idle: &mut I)
         requires under_way { IsUnderWay self.old desk.old }
         requires all { IsSent self.old }

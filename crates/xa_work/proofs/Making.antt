@@ -1,8 +1,7 @@
 -- How the requests of a unit of work are made, one more after those before.
-use Rattle.xa_base.proofs.{◌≡◌, ◌≢◌, ℕ, suc, ◌+◌, ◌<◌, ◌≤◌, Bool, true, ◌&&◌, ◌==◌, cond, List, [], ◌∷◌, ◌++◌, length, map, take, drop, subst, append_assoc}
-use Rattle.xa_base.proofs.{length-append, arith, eq-eqb, sym, refl, ap, ◌∙◌, slice_index_or, list_all, range_with_len, ne_eqb, append-nil, length-map}
-use Rattle.xa_base.proofs.{map-append, take_all, take-append-drop, flat_push, one_more, range_more, All, All-head, all_left, all_right, drop-cons}
-use Rattle.xa_base.proofs.{list_all-append}
+use Rattle.xa_base.proofs.{chain_append, ◌≡◌, ◌≢◌, ℕ, suc, ◌+◌, ◌<◌, ◌≤◌, Bool, true, ◌&&◌, ◌==◌, cond, List, [], ◌∷◌, ◌++◌, length, map, take, drop}
+use Rattle.xa_base.proofs.{append_assoc, length-append, arith, eq-eqb, sym, refl, ap, ◌∙◌, slice_index_or, list_all, range_with_len, ne_eqb, append-nil}
+use Rattle.xa_base.proofs.{length-map, map-append, take_all, take-append-drop, flat_push, one_more, range_more, drop-cons, list_all-append}
 use Rattle.std.proofs.lemmas.List.Elements.{filter_more}
 use Rattle.xa_base.specs.{Chain}
 use Rattle.xa_base.specs.Lists.Chain.{none, more}
@@ -22,37 +21,10 @@ all_more p xs x ok is = (λ i. is i && and_true (p x) i) ∙ sym (list_all-appen
 
 -- ---- the first of a list
 
--- the first and one more, where one step more was made
-pub chain_more : {X A : Type 0} (R : X → A → A → Type 0) (xs : List X) (i : ℕ) (x : X) (first now last : A) → i < length xs → x ≡ slice_index_or xs i x
-    → Chain R first (take i xs) now → R x now last → Chain R first (take (i + 1) xs) last
-chain_more R xs i x first now last below is before step =
-    subst (λ l. Chain R first l last) (sym (one_more xs i x below is)) (more (take i xs) x now last before step)
-
--- the first are all
-pub chain_all : {X A : Type 0} (R : X → A → A → Type 0) (xs : List X) (i : ℕ) (first last : A) → length xs ≤ i → Chain R first (take i xs) last
-    → Chain R first xs last
-chain_all R xs i first last past before = subst (λ l. Chain R first l last) (take_all i xs past) before
-
 -- the first, one more, and the others
 pub parted : {X : Type 0} (xs : List X) (i : ℕ) (x : X) → i < length xs → x ≡ slice_index_or xs i x → xs ≡ take i xs ++ x ∷ drop (i + 1) xs
 parted xs i x below is =
     sym (take-append-drop (i + 1) xs) ∙ ap (λ l. l ++ drop (i + 1) xs) (one_more xs i x below is) ∙ append_assoc (take i xs) (x ∷ []) (drop (i + 1) xs)
-
--- the steps of one list, and then those of another
-pub chain_append : {X A : Type 0} (R : X → A → A → Type 0) (first : A) (xs : List X) (mid : A) (ys : List X) (last : A) → Chain R first xs mid
-    → Chain R mid ys last
-    → Chain R first (xs ++ ys) last
-chain_append R first xs mid ys last before (none zs z e f) = search (arith, append-nil)
-chain_append R first xs mid ys last before (more zs z now a rest step) =
-    subst (λ l. Chain R first l last) (append_assoc xs zs (z ∷ [])) (more (xs ++ zs) z now last (chain_append R first xs mid zs now before rest) step)
-
--- what holds at first, and after each step where it held before, holds at last
-pub chain_kept : {X : Type 0} (R : X → DeskView → DeskView → Type 0) (Q : X → Type 0) (P : List X → DeskView → Type 0) (old : DeskView) → P [] old
-    → ((xs : List X) (x : X) (d e : DeskView) → P xs d → Q x → R x d e → P (xs ++ x ∷ []) e) → (xs : List X) (new : DeskView) → Chain R old xs new → All Q xs
-    → P xs new
-chain_kept R Q P old start step xs new (none ys last nil same) each = rw (nil, same) start
-chain_kept R Q P old start step xs new (more ys y now last before is) each =
-    step ys y now last (chain_kept R Q P old start step ys now before (all_left Q ys (y ∷ []) each)) (All-head Q y [] (all_right Q ys (y ∷ []) each)) is
 
 -- what is left, and its first
 pub at_drop : {X : Type 0} (xs : List X) (i : ℕ) (x : X) → i < length xs → x ≡ slice_index_or xs i x → drop i xs ≡ x ∷ drop (i + 1) xs

@@ -1,5 +1,5 @@
 -- Which branches the requests of a unit of work name, one after the other.
-use Rattle.xa_base.proofs.{arith, ◌≡◌, ℕ, Bool, true, false, List, [], ◌∷◌, ◌++◌, map, Some, refl, sym, subst, slice_get, All, All-nil, All-cons, All-head}
+use Rattle.xa_base.proofs.{chain_kept, arith, ◌≡◌, ℕ, Bool, true, false, List, [], ◌∷◌, ◌++◌, map, Some, refl, slice_get, All, All-nil, All-cons, All-head}
 use Rattle.xa_base.proofs.{All-tail, All-append, All-map, all_at, all_from, all_left, all_right, all_unmapped, any_at, Option}
 use Rattle.xa_base.specs.{Chain}
 use Rattle.xa_base.specs.Lists.Chain.{more}
@@ -11,7 +11,6 @@ use Rattle.xa_driver.specs.{Branch, is_commit}
 use Rattle.xa_work.specs.{Change, CallsOp, CollectsOp, PutsAtLast, HaveSent, IsFor, Asks, Called, CallsBranch, CallsBranches, GivesUp, Got, HasWorked}
 use Rattle.xa_work.specs.{HaveWorked, Put, Tries, TriesInFlight, changes_at, in_flight, in_turn, ops_of, requests_of, WorkOutcome, NamesOnly, ComesOfCommit}
 use Rattle.xa_work.specs.Works.CallsBranches.{completed, stopped}
-use Rattle.xa_work.proofs.Making.{chain_kept}
 use Rattle.xa_work.proofs.Sent.{call_sent, collect_sent, have_none, have_on, put_sent, op_sent}
 use Rattle.xa_work.proofs.Voted.{SentAt, branches_sent, MayAsk, came_each, made_each, voted_sent}
 use Rattle.xa_log.specs.{LogState}
@@ -24,8 +23,8 @@ chain_sent : {X : Type 0} (P : Op → Type 0) (Q : X → Type 0) (R : X → Desk
     → ((x : X) (d e : DeskView) → Q x → R x d e → HaveSent P d.ledgers e.ledgers) → (old : DeskView) (xs : List X) (new : DeskView) → Chain R old xs new
     → All Q xs → HaveSent P old.ledgers new.ledgers
 chain_sent P Q R so old xs new =
-    chain_kept R Q (λ _ (e : DeskView). HaveSent P old.ledgers e.ledgers) old (have_none P old.ledgers old.ledgers refl)
-    (λ ys y d e before its is. have_on P old.ledgers d.ledgers e.ledgers before (so y d e its is)) xs new
+    chain_kept R Q (λ _ (e : DeskView). HaveSent P old.ledgers e.ledgers) old (have_none old.ledgers old.ledgers refl)
+    (λ ys y d e before its is. have_on old.ledgers d.ledgers e.ledgers before (so y d e its is)) xs new
 
 -- ---- the requests for these branches
 
@@ -55,28 +54,24 @@ requests_for cs bs (b ∷ left) each =
 module _ (cs : List Change) (bs : List Branch) (each : All (IsAmong bs) bs) where
   flown : (ok : Bool) (old new : DeskView) → TriesInFlight cs bs ok old new → HaveSent (IsFor bs) old.ledgers new.ledgers
   flown ok old new t =
-      have_on (IsFor bs) old.ledgers t.begun.ledgers new.ledgers
-      (chain_sent (IsFor bs) (λ (p : Put). IsFor bs p.op) (λ p d e. PutsAtLast p.flight.manager p.op p.flight.handle d e)
+      have_on old.ledgers t.begun.ledgers new.ledgers (chain_sent (IsFor bs) (λ (p : Put). IsFor bs p.op) (λ p d e. PutsAtLast p.flight.manager p.op p.flight.handle d e)
       (λ p d e so put. put_sent (IsFor bs) p.flight.manager p.op p.flight.handle d e so put.puts) old t.puts.puts t.begun t.puts.each
       (all_unmapped (λ (p : Put). (p.flight.manager, p.op)) (λ (r : ℕ × Op). IsFor bs r.1) t.puts.puts
-      (subst (All (λ (r : ℕ × Op). IsFor bs r.1)) (sym t.puts.wanted_are) (requests_for cs bs bs each))))
-      (chain_sent (IsFor bs) (λ (g : Got). Unit {0}) (λ g d e. CollectsOp g.flight.manager g.flight.handle g.ok d e)
+      (rw t.puts.wanted_are (requests_for cs bs bs each)))) (chain_sent (IsFor bs) (λ (g : Got). Unit {0}) (λ g d e. CollectsOp g.flight.manager g.flight.handle g.ok d e)
       (λ g d e _ got. collect_sent (IsFor bs) g.flight.manager g.flight.handle g.ok d e got) t.begun t.collects.gots new t.collects.each (λ k g below. tt))
 
   called_for : (b : Branch) (ok : Bool) (old new : DeskView) → IsAmong bs b → CallsBranch cs b ok old new → HaveSent (IsFor bs) old.ledgers new.ledgers
   called_for b ok old new among calls =
       chain_sent (IsFor bs) (λ (c : Called). IsFor bs c.op) (λ c d e. CallsOp b.m c.op c.ok d e)
       (λ c d e so is. op_sent (IsFor bs) b.m c.op c.ok d e so is) old calls.calls new calls.each
-      (all_unmapped (λ (c : Called). c.op) (IsFor bs) calls.calls (subst (All (IsFor bs)) (sym calls.ops_are) (ops_for cs bs b among)))
+      (all_unmapped (λ (c : Called). c.op) (IsFor bs) calls.calls (rw calls.ops_are (ops_for cs bs b among)))
 
   taken : (ok : Bool) (old new : DeskView) → CallsBranches cs bs ok old new → HaveSent (IsFor bs) old.ledgers new.ledgers
   taken ok old new (completed done calls) =
       chain_sent (IsFor bs) (IsAmong bs) (λ b d e. CallsBranch cs b true d e) (λ b d e among is. called_for b true d e among is) old bs new calls each
   taken ok old new (stopped before after b mid undone is calls last) =
-      let among : All (IsAmong bs) (before ++ b ∷ after) = subst (All (IsAmong bs)) is each in
-      have_on (IsFor bs) old.ledgers mid.ledgers new.ledgers
-      (chain_sent (IsFor bs) (IsAmong bs) (λ c d e. CallsBranch cs c true d e) (λ c d e in_it is. called_for c true d e in_it is) old before mid calls (all_left (IsAmong bs) before (b ∷ after) among))
-      (called_for b false mid new (All-head (IsAmong bs) b after (all_right (IsAmong bs) before (b ∷ after) among)) last)
+      let among : All (IsAmong bs) (before ++ b ∷ after) = rw (← is) each in
+      have_on old.ledgers mid.ledgers new.ledgers (chain_sent (IsFor bs) (IsAmong bs) (λ c d e. CallsBranch cs c true d e) (λ c d e in_it is. called_for c true d e in_it is) old before mid calls (all_left (IsAmong bs) before (b ∷ after) among)) (called_for b false mid new (All-head (IsAmong bs) b after (all_right (IsAmong bs) before (b ∷ after) among)) last)
 
   pub tries_sent : (ok : Bool) (old new : DeskView) → Tries cs bs ok old new → HaveSent (IsFor bs) old.ledgers new.ledgers
   tries_sent ok old new (in_flight can t) = flown ok old new t
@@ -85,10 +80,8 @@ module _ (cs : List Change) (bs : List Branch) (each : All (IsAmong bs) bs) wher
 module _ (bs : List Branch) (each : All (IsAmong bs) bs) where
   pub gives_up_sent : (old new : DeskView) → GivesUp bs old new → HaveSent (IsFor bs) old.ledgers new.ledgers
   gives_up_sent old new g =
-      have_on (IsFor bs) old.ledgers g.ended.ledgers new.ledgers
-      (chain_sent (IsFor bs) (IsAmong bs) (Asks call.End TMFAIL)
-      (λ b d e among asks. call_sent (IsFor bs) b.m (End b.xid Fail) asks.0 d e (is_for bs b (End b.xid Fail) among refl (λ y z. z)) asks.1) old bs g.ended g.ends each)
-      (chain_sent (IsFor bs) (IsAmong bs) (Asks call.Rollback 0)
+      have_on old.ledgers g.ended.ledgers new.ledgers (chain_sent (IsFor bs) (IsAmong bs) (Asks call.End TMFAIL)
+      (λ b d e among asks. call_sent (IsFor bs) b.m (End b.xid Fail) asks.0 d e (is_for bs b (End b.xid Fail) among refl (λ y z. z)) asks.1) old bs g.ended g.ends each) (chain_sent (IsFor bs) (IsAmong bs) (Asks call.Rollback 0)
       (λ b d e among asks. call_sent (IsFor bs) b.m (Rollback b.xid) asks.0 d e (is_for bs b (Rollback b.xid) among refl (λ y z. z)) asks.1) g.ended bs new g.rolls_back each)
 
 -- each of them is one of them

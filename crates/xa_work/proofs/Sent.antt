@@ -1,7 +1,7 @@
 -- Which requests were sent since, and what comes of a call and of collecting by a handle.
-use Rattle.xa_base.proofs.{arith, ◌≡◌, ℕ, suc, Bool, false, ℤ, pos, List, [], ◌∷◌, ◌++◌, append_assoc, sym, refl, ap, ◌∙◌, subst, Option, None, Some}
-use Rattle.xa_base.proofs.{append-nil, All-nil, All-cons, All-append, All-weaker, same_begins, begins_on, ◌≢◌, ◌<◌, true, option_map, if◌then◌else◌, Result}
-use Rattle.xa_base.proofs.{Err, IfOk, w32, of_z, ◌==◌, option_or, nat_cmp}
+use Rattle.xa_base.proofs.{arith, ◌≡◌, ℕ, suc, Bool, false, ℤ, pos, List, [], ◌∷◌, ◌++◌, append_assoc, sym, refl, ap, ◌∙◌, Option, None, Some, append-nil}
+use Rattle.xa_base.proofs.{All-nil, All-cons, All-append, All-weaker, same_begins, begins_on, ◌≢◌, ◌<◌, true, option_map, if◌then◌else◌, Result, Err, IfOk, w32}
+use Rattle.xa_base.proofs.{of_z, ◌==◌, option_or, nat_cmp}
 use Rattle.xa_words.specs.{Code, Op, Done, Async, Inval}
 use Rattle.xa_desk.specs.{Operation, with_sent, with_collected, ledger, after_sent, after_collected, next_operation, submitted, after_fulls, Collects}
 use Rattle.xa_desk.specs.{LedgerView, DeskView, Refused, NoSuchManager, IsHandle, reach_refusal, submit_refusal, call_refusal}
@@ -22,16 +22,16 @@ use Rattle.xa_calls.specs.Completing.CompletesOne.{unknown, retry, ready, waited
 pub none_sent : (P : Op → Type 0) (a : LedgerView) → HasSent P a a
 none_sent P a = record { more = []; sent = sym (append-nil a.sent); each = All-nil P; collected = same_begins a.collected }
 
-pub sent_on : (P : Op → Type 0) (a b c : LedgerView) → HasSent P a b → HasSent P b c → HasSent P a c
-sent_on P a b c p q = record {
+pub sent_on : {P : Op → Type 0} {a b c : LedgerView} → HasSent P a b → HasSent P b c → HasSent P a c
+sent_on {P} {a} {b} {c} p q = record {
   more = p.more ++ q.more;
   sent = q.sent ∙ ap (λ l. l ++ q.more) p.sent ∙ append_assoc a.sent p.more q.more;
   each = All-append P p.more q.more p.each q.each;
   collected = begins_on a.collected b.collected c.collected p.collected q.collected;
 }
 
-pub sent_as : (P Q : Op → Type 0) → ((op : Op) → P op → Q op) → (a a' : LedgerView) → HasSent P a a' → HasSent Q a a'
-sent_as P Q also a a' h = record { more = h.more; sent = h.sent; each = All-weaker P Q also h.more h.each; collected = h.collected }
+pub sent_as : {P Q : Op → Type 0} {a a' : LedgerView} → ((op : Op) → P op → Q op) → HasSent P a a' → HasSent Q a a'
+sent_as {P} {Q} also h = record { more = h.more; sent = h.sent; each = All-weaker P Q also h.more h.each; collected = h.collected }
 
 -- a request that was asked and answered, if there was one
 pub asked_sent : (P : Op → Type 0) (a : LedgerView) (op : Option Op) (code : Option Code) → ((o : Op) → op ≡ Some o → P o) → HasSent P a (asked a op code)
@@ -41,14 +41,14 @@ asked_sent P a (Some op) (Some code) so = search (arith, none_sent, All-cons, Al
 
 -- ---- all ledgers
 
-pub have_none : (P : Op → Type 0) (old new : List LedgerView) → new ≡ old → HaveSent P old new
-have_none P old new same = subst (HaveSent P old) (sym same) (λ m _. none_sent P (ledger old m))
+pub have_none : {P : Op → Type 0} (old new : List LedgerView) → new ≡ old → HaveSent P old new
+have_none {P} old new same = rw same (λ m _. none_sent P (ledger old m))
 
-pub have_on : (P : Op → Type 0) (old mid new : List LedgerView) → HaveSent P old mid → HaveSent P mid new → HaveSent P old new
-have_on P old mid new p q = λ m positive. sent_on P (ledger old m) (ledger mid m) (ledger new m) (p m positive) (q m positive)
+pub have_on : {P : Op → Type 0} (old mid new : List LedgerView) → HaveSent P old mid → HaveSent P mid new → HaveSent P old new
+have_on old mid new p q = λ m positive. sent_on (p m positive) (q m positive)
 
-pub have_as : (P Q : Op → Type 0) → ((op : Op) → P op → Q op) → (old new : List LedgerView) → HaveSent P old new → HaveSent Q old new
-have_as P Q also old new h = λ m positive. sent_as P Q also (ledger old m) (ledger new m) (h m positive)
+pub have_as : {P Q : Op → Type 0} → ((op : Op) → P op → Q op) → (old new : List LedgerView) → HaveSent P old new → HaveSent Q old new
+have_as also old new h = λ m positive. sent_as also (h m positive)
 
 pub one_sent : (P : Op → Type 0) (at : List LedgerView) (m : ℕ) (op : Op) → P op → HaveSent P at (after_sent at m op)
 one_sent P at m op so = λ n _.
@@ -63,14 +63,14 @@ one_collected P at o c = λ n _.
 -- ---- calls
 
 pub stayed : (P : Op → Type 0) (old new : DeskView) → StaysSo old new → HaveSent P old.ledgers new.ledgers
-stayed P old new s = have_none P old.ledgers new.ledgers s.ledgers
+stayed P old new s = have_none old.ledgers new.ledgers s.ledgers
 
 pub put_sent : (P : Op → Type 0) (m : ℕ) (op : Op) (z : ℤ) (old new : DeskView) → P op → PutsOp m op z old new → HaveSent P old.ledgers new.ledgers
-put_sent P m op (pos (suc k)) old new so p = subst (HaveSent P old.ledgers) (sym p.ledgers) (one_sent P old.ledgers m op so)
+put_sent P m op (pos (suc k)) old new so p = rw p.ledgers (one_sent P old.ledgers m op so)
 put_sent P m op z old new so away = stayed P old new away.stays
 
 pub got_sent : (P : Op → Type 0) (k : ℕ) (c : Code) (old new : DeskView) → IsCollected k c old new → HaveSent P old.ledgers new.ledgers
-got_sent P k c old new i = subst (HaveSent P old.ledgers) (sym i.ledgers) (one_collected P old.ledgers i.operation c)
+got_sent P k c old new i = rw i.ledgers (one_collected P old.ledgers i.operation c)
 
 pub collect_sent : (P : Op → Type 0) (m : ℕ) (handle : ℤ) (ok : Bool) (old new : DeskView) → CollectsOp m handle ok old new → HaveSent P old.ledgers new.ledgers
 collect_sent P m handle ok old new (done k is positive said i) = got_sent P k _ old new i
@@ -84,16 +84,15 @@ answered_ledgers m op n c old new collects = grind (arith, fulls_ledgers)
 
 pub call_adds : (P : Op → Type 0) (m : ℕ) (op : Op) (c : Code) (at : List LedgerView) → P op → HaveSent P at (after_called at m op c)
 call_adds P m op c at so =
-    have_on P at (after_sent at m op) (after_called at m op c) (one_sent P at m op so) (one_collected P (after_sent at m op) (next_operation at m) c)
+    have_on at (after_sent at m op) (after_called at m op c) (one_sent P at m op so) (one_collected P (after_sent at m op) (next_operation at m) c)
 
 -- a synchronous call
 pub call_sent : (P : Op → Type 0) (m : ℕ) (op : Op) (answer : ℤ) (old new : DeskView) → P op → Puts old m (record { op = op; asynchronous = false }) new answer
     → HaveSent P old.ledgers new.ledgers
-call_sent P m op answer old new so (refused c why is same) = have_none P old.ledgers new.ledgers (ap (λ (d : DeskView). d.ledgers) same)
+call_sent P m op answer old new so (refused c why is same) = have_none old.ledgers new.ledgers (ap (λ (d : DeskView). d.ledgers) same)
 call_sent P m op answer old new so (full none now is same) = cc
 call_sent P m op answer old new so (kept none now k is free same) = cc
-call_sent P m op answer old new so (answered none now n c is collects) =
-    subst (HaveSent P old.ledgers) (sym (answered_ledgers m op n c old new collects)) (call_adds P m op c old.ledgers so)
+call_sent P m op answer old new so (answered none now n c is collects) = rw (answered_ledgers m op n c old new collects) (call_adds P m op c old.ledgers so)
 
 -- ---- what comes of a call that its flags make asynchronous, and of collecting by its handle
 
@@ -114,7 +113,7 @@ reason_is why = λ m op old new same. same
 
 reason_of : (o : Option Refused) (c : Code) → option_map code_of o ≡ Some c → IsCode (number_of c)
 reason_of None c e = cc
-reason_of (Some why) c e = let same : code_of why ≡ c = cc in subst (λ d. IsCode (number_of d)) same (reason_is why)
+reason_of (Some why) c e = let same : code_of why ≡ c = cc in rw same at (reason_is why)
 
 either : (a b : Option Code) (c : Code) → (a ≡ Some c → IsCode (number_of c)) → (b ≡ Some c → IsCode (number_of c)) → option_or a b ≡ Some c
     → IsCode (number_of c)
@@ -128,13 +127,13 @@ refusal_is d m c =
   where
     takes_none : (b : Bool) → (if b then None else Some Async) ≡ Some c → IsCode (number_of c)
     takes_none true e = cc
-    takes_none false e = let same : Async ≡ c = cc in subst (λ q. IsCode (number_of q)) same (λ m op old new stay. stay)
+    takes_none false e = let same : Async ≡ c = cc in rw (← same) (λ m op old new stay. stay)
 
 no_handle : (m : ℕ) (op : Op) (answer : ℤ) (c : Code) (old new : DeskView) → answer ≡ number_of c → IsCode (number_of c) → StaysSo old new
     → Puts old m (record { op = op; asynchronous = true }) new answer → PutsOp m op answer old new
 no_handle m op answer c old new is none same answered_ =
     let away : IsTurnedAway m op answer old new = record { last = old; waited = same_stays old; answered = answered_; stays = same } in
-    subst (λ z. PutsOp m op z old new) (sym is) (none m op old new (subst (λ z. IsTurnedAway m op z old new) is away))
+    rw is (none m op old new (rw is at away))
 
 pub put_by : (m : ℕ) (op : Op) (answer : ℤ) (old new : DeskView) → Puts old m (record { op = op; asynchronous = true }) new answer → PutsOp m op answer old new
 put_by m op answer old new (refused c why is same) = no_handle m op answer c old new is (refusal_is old m c why) (stays old new same) (refused c why is same)
@@ -200,15 +199,14 @@ pub only_done : (c : Code) → (of_z w32 (number_of c) == 0) ≡ true → c ≡ 
 only_done c e = grind arith
 
 pub not_done : (c : Code) → (of_z w32 (number_of c) == 0) ≡ false → c ≢ Done
-not_done c e = λ same. let z : true ≡ false = subst (λ d. (of_z w32 (number_of d) == 0) ≡ false) same e in cc
+not_done c e = λ same. let z : true ≡ false = rw same at e in cc
 
 -- what was collected, by whether its code was 0
 pub by_code : (m : ℕ) (handle retval : ℤ) (k : ℕ) (c : Code) (old new : DeskView) → handle ≡ pos k → 0 < k → retval ≡ number_of c → IsCollected k c old new
     → CollectsOp m handle (of_z w32 retval == 0) old new
 by_code m handle retval k c old new is positive told got =
-    subst (λ z. CollectsOp m handle (of_z w32 z == 0) old new) (sym told)
-    (elim (of_z w32 (number_of c) == 0) as (λ b. (of_z w32 (number_of c) == 0) ≡ b → CollectsOp m handle b old new) [
-      | true ↦ λ e. done k is positive refl (subst (λ d. IsCollected k d old new) (only_done c e) got)
+    rw told (elim (of_z w32 (number_of c) == 0) as (λ b. (of_z w32 (number_of c) == 0) ≡ b → CollectsOp m handle b old new) [
+      | true ↦ λ e. done k is positive refl (rw (only_done c e) at got)
       | false ↦ λ e. undone k c (not_done c e) is refl got
     ] refl)
 
@@ -230,18 +228,17 @@ call_by m op answer old new (full none now is same) = cc
 call_by m op answer old new (kept none now k is free same) = cc
 call_by m op answer old new (answered none now n c is collects) =
     let ledgers : new.ledgers ≡ after_called old.ledgers m op c = answered_ledgers m op n c old new collects in
-    subst (λ z. CallsOp m op (of_z w32 z == 0) old new) (sym is)
-    (elim (of_z w32 (number_of c) == 0) as (λ b. (of_z w32 (number_of c) == 0) ≡ b → CallsOp m op b old new) [
-      | true ↦ λ e. called refl (subst (λ d. new.ledgers ≡ after_called old.ledgers m op d) (only_done c e) ledgers)
+    rw is (elim (of_z w32 (number_of c) == 0) as (λ b. (of_z w32 (number_of c) == 0) ≡ b → CallsOp m op b old new) [
+      | true ↦ λ e. called refl (rw (only_done c e) at ledgers)
       | false ↦ λ e. failed c (not_done c e) refl ledgers
     ] refl)
 
 -- ---- what was sent
 
 pub op_sent : (P : Op → Type 0) (m : ℕ) (op : Op) (ok : Bool) (old new : DeskView) → P op → CallsOp m op ok old new → HaveSent P old.ledgers new.ledgers
-op_sent P m op ok old new so (called said is) = subst (HaveSent P old.ledgers) (sym is) (call_adds P m op Done old.ledgers so)
-op_sent P m op ok old new so (failed c other unsaid is) = subst (HaveSent P old.ledgers) (sym is) (call_adds P m op c old.ledgers so)
-op_sent P m op ok old new so (uncalled c why unsaid is) = have_none P old.ledgers new.ledgers is
+op_sent P m op ok old new so (called said is) = rw is (call_adds P m op Done old.ledgers so)
+op_sent P m op ok old new so (failed c other unsaid is) = rw is (call_adds P m op c old.ledgers so)
+op_sent P m op ok old new so (uncalled c why unsaid is) = have_none old.ledgers new.ledgers is
 
 -- ---- a call that was answered XA_OK
 

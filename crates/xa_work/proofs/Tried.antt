@@ -1,8 +1,9 @@
 -- Where all of the work answered XA_OK, all of it was done.
-use Rattle.xa_base.proofs.{rules, ◌≡◌, ℕ, ◌+◌, ◌≤◌, Bool, true, false, cond, ◌==◌, List, [], ◌∷◌, ◌++◌, length, map, filter, length-append, append_assoc, sym}
-use Rattle.xa_base.proofs.{refl, ap, ◌∙◌, subst, arith, eq-eqb, All, list_any, range_with_len, eqb-true, or_parts, append-nil, map-append, All-head, All-tail}
-use Rattle.xa_base.proofs.{filter-append, list_any-append, all_left, all_right, range_suc, ◌≢◌, zero, suc, ◌<◌, ◌||◌, Some, slice_get, cases_lt, ne_eqb}
-use Rattle.xa_base.proofs.{All-nil, All-cons, All-append, All-map, all_at, all_from, all_unmapped, flat_one, some_same, AllPass-from_list_all}
+use Rattle.xa_base.proofs.{chain_kept, map-map, filter-map, list_any-map, filter_push, filter_skip, filter_none, none_all, rules, ◌≡◌, ℕ, ◌+◌, ◌≤◌, Bool, true}
+use Rattle.xa_base.proofs.{false, ◌==◌, List, [], ◌∷◌, ◌++◌, length, map, filter, length-append, append_assoc, sym, refl, ap, ◌∙◌, subst, arith, eq-eqb, All}
+use Rattle.xa_base.proofs.{list_any, range_with_len, eqb-true, or_parts, append-nil, map-append, All-head, All-tail, list_any-append, all_left, all_right}
+use Rattle.xa_base.proofs.{range_suc, ◌≢◌, zero, suc, ◌<◌, ◌||◌, Some, slice_get, cases_lt, ne_eqb, All-nil, All-cons, All-append, All-map, all_at, all_from}
+use Rattle.xa_base.proofs.{all_unmapped, flat_one, some_same, AllPass-from_list_all}
 use Rattle.xa_base.specs.{Chain}
 use Rattle.xa_words.specs.{Done, Op}
 use Rattle.xa_desk.specs.{Operation, with_sent, with_collected, IsKnown, ledger, next_operation, LedgerView, DeskView}
@@ -10,19 +11,10 @@ use Rattle.xa_work.specs.{PutsAtLast, PutsOp, Put, Flight, Change, Got, HasWorke
 use Rattle.xa_work.specs.{requests_of}
 use Rattle.xa_work.proofs.Worked.{AreCollected, AreKept, Block, Flights, IsKey, block_one, is_put, kept_push, key_of, known_on, AreTaken, all_collected}
 use Rattle.xa_work.proofs.Worked.{all_kept, branches_called, gots_taken}
-use Rattle.std.proofs.lemmas.Simd.{map-map as map_map}
 use Rattle.xa_driver.specs.{Branch, AreBranchesRising, HaveRoom, has_branch_at}
 use Rattle.xa_work.specs.Works.CallsBranches.{completed, stopped}
-use Rattle.xa_work.proofs.Making.{chain_kept}
 
 -- ---- lists
-
--- one more that passes the test, or doesn't
-pushed : {X : Type 0} (p : X → Bool) (xs : List X) (x : X) → p x ≡ true → filter p (xs ++ x ∷ []) ≡ filter p xs ++ x ∷ []
-pushed p xs x e = filter-append p xs (x ∷ []) ∙ ap (λ c. filter p xs ++ cond c (x ∷ []) []) e
-
-passed : {X : Type 0} (p : X → Bool) (xs : List X) (x : X) → p x ≡ false → filter p (xs ++ x ∷ []) ≡ filter p xs
-passed p xs x e = filter-append p xs (x ∷ []) ∙ ap (λ c. filter p xs ++ cond c (x ∷ []) []) e ∙ append-nil (filter p xs)
 
 -- ---- one manager's ledger
 
@@ -97,7 +89,7 @@ module _ (ps : List Put) (fs : Flights) (old mid new : DeskView) (w : Flown ps f
       (is_put p.flight.manager p.op p.flight.handle (key_of p.flight.handle) mid new key.is key.positive put).ledgers
 
   here_more : (m : ℕ) → IsKnown old.ledgers m → ledger new.ledgers m ≡ sent_all (ledger old.ledgers m) (ops_to m (ps ++ p ∷ []))
-  here_more m known_m = grind (arith, eqb-true, step, sent_push, map-append, pushed, eq-eqb, passed)
+  here_more m known_m = grind (arith, eqb-true, step, sent_push, map-append, filter_push, eq-eqb, filter_skip)
 
   others_more : (m : ℕ) → 1 ≤ m → list_any (λ (q : Put). q.flight.manager == m) (ps ++ p ∷ []) ≡ false → ledger new.ledgers m ≡ ledger old.ledgers m
   others_more m positive nowhere = grind (arith, or_parts, list_any, list_any-append, step, eq-eqb)
@@ -108,7 +100,7 @@ module _ (ps : List Put) (fs : Flights) (old mid new : DeskView) (w : Flown ps f
 
   numbered_more : (m : ℕ) → IsKnown old.ledgers m
       → numbers_at m (fs ++ flight ∷ []) ≡ range_with_len (length (ledger old.ledgers m).sent) (length (ops_to m (ps ++ p ∷ [])))
-  numbered_more m known_m = search (arith, range_with_len, eqb-true, sent_before, pushed, map-append, length-append, range_suc, passed)
+  numbered_more m known_m = search (arith, range_with_len, eqb-true, sent_before, filter_push, map-append, length-append, range_suc, filter_skip)
 
   pub one_flown : Flown (ps ++ p ∷ []) (fs ++ flight ∷ []) old new
   one_flown = search (arith, is_put, key_of, map-append, kept_push, step, here_more, others_more, numbered_more)
@@ -139,32 +131,18 @@ all_got (f ∷ fs) at at' known (mid, is, rest) m positive =
 
 -- ---- lists
 
-filter_mapped : {X Y : Type 0} (f : X → Y) (q : Y → Bool) (xs : List X) → filter q (map f xs) ≡ map f (filter (λ x. q (f x)) xs)
-filter_mapped f q [] = refl
-filter_mapped f q (x ∷ xs) = grind (arith, filter_mapped f q xs)
-
-any_mapped : {X Y : Type 0} (f : X → Y) (q : Y → Bool) (xs : List X) → list_any q (map f xs) ≡ list_any (λ x. q (f x)) xs
-any_mapped f q [] = refl
-any_mapped f q (x ∷ xs) = let rest = any_mapped f q xs in λ i. q (f x) || rest i
-
-none_filtered : {X : Type 0} (p : X → Bool) (xs : List X) → list_any p xs ≡ false → filter p xs ≡ []
-none_filtered p [] e = refl
-none_filtered p (x ∷ xs) e =
-    let z = or_parts (p x) (list_any p xs) e in
-    ap (λ c. cond c (x ∷ filter p xs) (filter p xs)) z.0 ∙ none_filtered p xs z.1
-
 -- ---- branches by rising manager
 
 rising_at : (low : ℕ) (bs : List Branch) (k : ℕ) (b : Branch) → AreBranchesRising low bs → slice_get bs k ≡ Some b → low < b.m
 rising_at low [] k b up at = cc
-rising_at low (c ∷ bs) zero b up at = subst (λ (x : Branch). low < x.m) (some_same c b at) up.0
+rising_at low (c ∷ bs) zero b up at = rw (some_same c b at) at up.0
 rising_at low (c ∷ bs) (suc k) b up at = let first = up.0 in let later = rising_at c.m bs k b up.1 at in omega (arith, first, later)
 
 rising_order : (low : ℕ) (bs : List Branch) (j k : ℕ) (c b : Branch) → AreBranchesRising low bs → j < k → slice_get bs j ≡ Some c → slice_get bs k ≡ Some b
     → c.m < b.m
 rising_order low [] j k c b up before at_c at_b = cc
 rising_order low (x ∷ bs) j zero c b up before at_c at_b = absurd (omega (arith, before))
-rising_order low (x ∷ bs) zero (suc k) c b up before at_c at_b = subst (λ (y : Branch). y.m < b.m) (some_same x c at_c) (rising_at x.m bs k b up.1 at_b)
+rising_order low (x ∷ bs) zero (suc k) c b up before at_c at_b = rw (some_same x c at_c) at (rising_at x.m bs k b up.1 at_b)
 rising_order low (x ∷ bs) (suc j) (suc k) c b up before at_c at_b = rising_order x.m bs j k c b up.1 (omega (arith, before)) at_c at_b
 
 -- two of them are at two managers
@@ -237,12 +215,12 @@ module _ (cs : List Change) (bs : List Branch) (old new : DeskView) (up : AreBra
   put_keys : All (λ (p : Put). IsKey p.flight.handle) puts
   put_keys =
       all_unmapped (λ (p : Put). p.flight) (λ (f : Flight). IsKey f.handle) puts
-      (subst (All (λ (f : Flight). IsKey f.handle)) (sym same_flights) (All-map (λ (f : Flight). IsKey f.handle) (λ (g : Got). g.flight) gots got_by_keys.1))
+      (rw same_flights (All-map (λ (f : Flight). IsKey f.handle) (λ (g : Got). g.flight) gots got_by_keys.1))
 
   put_known : All (λ (p : Put). IsKnown old.ledgers p.flight.manager) puts
   put_known =
       all_unmapped (λ (p : Put). (p.flight.manager, p.op)) (λ (r : ℕ × Op). IsKnown old.ledgers r.0) puts
-      (subst (All (λ (r : ℕ × Op). IsKnown old.ledgers r.0)) (sym t.puts.wanted_are) (requests_known cs old.ledgers bs known))
+      (rw t.puts.wanted_are (requests_known cs old.ledgers bs known))
 
   flown : (fs : Flights) × Flown puts fs old t.begun
   flown = all_flown old puts t.begun t.puts.each put_known put_keys
@@ -256,15 +234,14 @@ module _ (cs : List Change) (bs : List Branch) (old new : DeskView) (up : AreBra
   taken : AreTaken (map (λ (f : ℕ × Operation). f.0) fs) t.begun new
   taken =
       subst (λ ks. AreTaken ks t.begun new)
-      (sym (map_map (λ (f : Flight). key_of f.handle) (λ (g : Got). g.flight) gots) ∙ ap (map (λ (f : Flight). key_of f.handle)) (sym same_flights)
-      ∙ map_map (λ (f : Flight). key_of f.handle) (λ (p : Put). p.flight) puts ∙ sym w.keys_are)
+      (sym (map-map (λ (f : Flight). key_of f.handle) (λ (g : Got). g.flight) gots) ∙ ap (map (λ (f : Flight). key_of f.handle)) (sym same_flights)
+      ∙ map-map (λ (f : Flight). key_of f.handle) (λ (p : Put). p.flight) puts ∙ sym w.keys_are)
       got_by_keys.0
 
   fs_known : All (λ (f : ℕ × Operation). IsKnown t.begun.ledgers f.1.manager) fs
   fs_known =
       all_unmapped (λ (f : ℕ × Operation). f.1.manager) (IsKnown t.begun.ledgers) fs
-      (subst (All (IsKnown t.begun.ledgers)) (sym w.managers_are) (All-map (IsKnown t.begun.ledgers) (λ (p : Put). p.flight.manager) puts
-      (λ k p within. known_on _ old.ledgers t.begun.ledgers w.many (put_known k p within))))
+      (rw w.managers_are (All-map (IsKnown t.begun.ledgers) (λ (p : Put). p.flight.manager) puts (λ k p within. known_on _ old.ledgers t.begun.ledgers w.many (put_known k p within))))
 
   at_end : (m : ℕ) → 1 ≤ m → ledger new.ledgers m ≡ got_all (ledger t.begun.ledgers m) (numbers_at m flown.0)
   at_end m positive = grind (arith, all_kept, all_got, fs_known, all_collected, taken)
@@ -272,8 +249,8 @@ module _ (cs : List Change) (bs : List Branch) (old new : DeskView) (up : AreBra
   -- the branch's requests were put to its manager, and no others
   own_ops : (k : ℕ) (b : Branch) → slice_get bs k ≡ Some b → ops_to b.m puts ≡ ops_of cs b
   own_ops k b at =
-      sym (map_map (λ (r : ℕ × Op). r.1) (λ (p : Put). (p.flight.manager, p.op)) (to_manager b.m puts))
-      ∙ ap (map (λ (r : ℕ × Op). r.1)) (sym (filter_mapped (λ (p : Put). (p.flight.manager, p.op)) (ForManager b.m) puts) ∙ ap (filter (ForManager b.m)) t.puts.wanted_are ∙ requests_there cs bs k b up at)
+      sym (map-map (λ (r : ℕ × Op). r.1) (λ (p : Put). (p.flight.manager, p.op)) (to_manager b.m puts))
+      ∙ ap (map (λ (r : ℕ × Op). r.1)) (sym (filter-map (ForManager b.m) (λ (p : Put). (p.flight.manager, p.op)) puts) ∙ ap (filter (ForManager b.m)) t.puts.wanted_are ∙ requests_there cs bs k b up at)
       ∙ ops_back b.m (ops_of cs b)
 
   one_worked : (k : ℕ) (b : Branch) → slice_get bs k ≡ Some b → HasWorked cs b (ledger old.ledgers b.m) (ledger new.ledgers b.m)
@@ -287,24 +264,25 @@ module _ (cs : List Change) (bs : List Branch) (old new : DeskView) (up : AreBra
 
   no_puts : (m : ℕ) → has_branch_at bs m ≡ false → list_any (λ (p : Put). p.flight.manager == m) puts ≡ false
   no_puts m elsewhere =
-      sym (any_mapped (λ (p : Put). (p.flight.manager, p.op)) (ForManager m) puts) ∙ ap (list_any (ForManager m)) t.puts.wanted_are
+      sym (list_any-map (ForManager m) (λ (p : Put). (p.flight.manager, p.op)) puts) ∙ ap (list_any (ForManager m)) t.puts.wanted_are
       ∙ requests_elsewhere cs bs m elsewhere
 
   no_numbers : (m : ℕ) → has_branch_at bs m ≡ false → numbers_at m fs ≡ []
   no_numbers m elsewhere =
-      ap (map (λ (f : ℕ × Operation). f.1.number)) (none_filtered (λ (f : ℕ × Operation). f.1.manager == m) fs
-      (sym (any_mapped (λ (f : ℕ × Operation). f.1.manager) (λ n. n == m) fs) ∙ ap (list_any (λ n. n == m)) w.managers_are
-      ∙ any_mapped (λ (p : Put). p.flight.manager) (λ n. n == m) puts ∙ no_puts m elsewhere))
+      let none : list_any (λ (f : ℕ × Operation). f.1.manager == m) fs ≡ false =
+      sym (list_any-map (λ n. n == m) (λ (f : ℕ × Operation). f.1.manager) fs) ∙ ap (list_any (λ n. n == m)) w.managers_are
+      ∙ list_any-map (λ n. n == m) (λ (p : Put). p.flight.manager) puts ∙ no_puts m elsewhere in
+      ap (map (λ (f : ℕ × Operation). f.1.number)) (filter_none (λ (f : ℕ × Operation). f.1.manager == m) fs (none_all (λ (f : ℕ × Operation). f.1.manager == m) fs none))
 
   pub flown_works : HaveWorked cs bs old.ledgers new.ledgers
   flown_works = record {
     each = all_from (λ (b : Branch). HasWorked cs b (ledger old.ledgers b.m) (ledger new.ledgers b.m)) bs one_worked;
     others = λ m positive elsewhere.
-        subst (λ (a : LedgerView). ledger new.ledgers m ≡ a) (w.others m positive (no_puts m elsewhere)) (no_more m positive elsewhere);
+        rw (w.others m positive (no_puts m elsewhere)) at (no_more m positive elsewhere);
   }
     where
       no_more : (m : ℕ) → 1 ≤ m → has_branch_at bs m ≡ false → ledger new.ledgers m ≡ ledger t.begun.ledgers m
-      no_more m positive elsewhere = subst (λ ns. ledger new.ledgers m ≡ got_all (ledger t.begun.ledgers m) ns) (no_numbers m elsewhere) (at_end m positive)
+      no_more m positive elsewhere = rw (no_numbers m elsewhere) at (at_end m positive)
 
 -- ---- either way
 

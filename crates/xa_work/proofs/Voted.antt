@@ -1,6 +1,6 @@
 -- What a commit sent: one that was made, one that came to no decision, or one whose coordinator died.
-use Rattle.xa_base.proofs.{arith, ◌≡◌, ◌≤◌, ℕ, zero, suc, Bool, true, false, ◌||◌, ◌==◌, Option, Some, None, List, [], ◌∷◌, refl, sym, subst, All, eqb-true}
-use Rattle.xa_base.proofs.{All-nil, All-cons, All-head, All-tail, same_begins, some_same}
+use Rattle.xa_base.proofs.{arith, ◌≡◌, ◌≤◌, ℕ, zero, suc, Bool, true, false, ◌||◌, ◌==◌, Option, Some, None, List, [], ◌∷◌, refl, All, eqb-true, All-nil}
+use Rattle.xa_base.proofs.{All-cons, All-head, All-tail, same_begins, some_same}
 use Rattle.xa_words.specs.{XidName, TranName, Death, Op, Commit, Forget, Prepare, Rollback, Code}
 use Rattle.xa_words.specs.declared.death.Death.TheVariants as death
 use Rattle.xa_desk.specs.{LedgerView, ledger}
@@ -17,22 +17,22 @@ use Rattle.xa_work.proofs.Sent.{none_sent, sent_on, asked_sent}
 
 put_sent : (P : Op → Type 0) (op : Op) (a a' : LedgerView) → P op → PutsLedger a op a' → HasSent P a a'
 put_sent P op a a' so (sent open_ is) =
-    subst (HasSent P a) (sym is) (record { more = op ∷ []; sent = refl; each = All-cons P op [] so (All-nil P); collected = same_begins a.collected })
-put_sent P op a a' so (withheld shut is) = subst (HasSent P a) (sym is) (none_sent P a)
+    rw is (record { more = op ∷ []; sent = refl; each = All-cons P op [] so (All-nil P); collected = same_begins a.collected })
+put_sent P op a a' so (withheld shut is) = rw is (none_sent P a)
 
 answered_sent : (P : Op → Type 0) (op : Op) (code : Code) (a a' : LedgerView) → P op → AsksLedger a op a' code → HasSent P a a'
-answered_sent P op code a a' so tr = subst (HasSent P a) (sym tr.trace) (asked_sent P a (Some op) (Some code) (λ o is. subst P (some_same op o is) so))
+answered_sent P op code a a' so tr = rw tr.trace (asked_sent P a (Some op) (Some code) (λ o is. rw (some_same op o is) at so))
 
 obeyed_sent : (P : Op → Type 0) (op : Option Op) (code : Option Code) (a a' : LedgerView) → ((o : Op) → op ≡ Some o → P o) → AsksFor AsksLedger op code a a'
     → HasSent P a a'
-obeyed_sent P None code a a' so h = subst (HasSent P a) (sym h.1) (none_sent P a)
+obeyed_sent P None code a a' so h = rw h.1 (none_sent P a)
 obeyed_sent P (Some op) None a a' so h = absurd h
 obeyed_sent P (Some op) (Some code) a a' so h = answered_sent P op code a a' (so op refl) h
 
 told_sent : (P : Op → Type 0) (k : ℕ) (op : Option Op) (a a' : LedgerView) → ((o : Op) → op ≡ Some o → P o) → Tells AsksLedger PutsLedger k op a a'
     → HasSent P a a'
-told_sent P zero None a a' so h = subst (HasSent P a) (sym h) (none_sent P a)
-told_sent P (suc k) None a a' so h = subst (HasSent P a) (sym h) (none_sent P a)
+told_sent P zero None a a' so h = rw h (none_sent P a)
+told_sent P (suc k) None a a' so h = rw h (none_sent P a)
 told_sent P zero (Some op) a a' so h = put_sent P op a a' (so op refl) h
 told_sent P (suc k) (Some op) a a' so h = answered_sent P op h.0 a a' (so op refl) h.1
 
@@ -51,7 +51,7 @@ there_sent : (P : Op → Type 0) (bs : List Branch) (old new : List LedgerView) 
 there_sent P [] old new m each there = cc
 there_sent P (b ∷ bs) old new m each there =
     elim (b.m == m) as (λ c. (b.m == m) ≡ c → (c || has_branch_at bs m) ≡ true → HasSent P (ledger old m) (ledger new m)) [
-      | true ↦ λ here _. subst (λ n. HasSent P (ledger old n) (ledger new n)) (eqb-true b.m m here) (All-head (SentAt (λ c. P) old new) b bs each)
+      | true ↦ λ here _. rw (eqb-true b.m m here) at (All-head (SentAt (λ c. P) old new) b bs each)
       | false ↦ λ _ rest. there_sent P bs old new m (All-tail (SentAt (λ c. P) old new) b bs each) rest
     ] refl there
 
@@ -68,7 +68,7 @@ pub record VotedSo (P : Op → Type 0) (b : Branch) (vote : Code) (a a' : Ledger
   pub after : HasSent P prepared a'
 
 voted_all : (P : Op → Type 0) (b : Branch) (v : Code) (a a' : LedgerView) → P (Prepare b.xid) → VotedSo P b v a a' → HasSent P a a'
-voted_all P b v a a' so z = sent_on P a z.prepared a' (answered_sent P (Prepare b.xid) v a z.prepared so z.asks) z.after
+voted_all P b v a a' so z = sent_on (answered_sent P (Prepare b.xid) v a z.prepared so z.asks) z.after
 
 -- ---- what a branch may be asked for
 
@@ -99,8 +99,7 @@ module _ (P : Op → Type 0) (commit : Bool) (b : Branch) (v : Code) (a a' : Led
     prepared = h.prepared;
     asks = h.prepares;
     after =
-        sent_on P h.prepared h.decided a' (obeyed_sent P (second_op commit b.xid v) s h.prepared h.decided (second_so P b.xid may commit v) h.obeys)
-        (obeyed_sent P (third_op b.xid s) h.third h.decided a' (third_so P b.xid may s) h.forgets);
+        sent_on (obeyed_sent P (second_op commit b.xid v) s h.prepared h.decided (second_so P b.xid may commit v) h.obeys) (obeyed_sent P (third_op b.xid s) h.third h.decided a' (third_so P b.xid may s) h.forgets);
   }
 
 -- ---- which requests these are

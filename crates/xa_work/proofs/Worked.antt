@@ -1,6 +1,6 @@
 -- The work for branches that was all done: what it sent to each manager, and what was collected.
-use Rattle.xa_base.proofs.{rules, ◌≡◌, ◌≢◌, ℕ, zero, suc, ◌<◌, ◌≤◌, Bool, true, false, ◌||◌, ◌==◌, ℤ, pos, List, [], ◌∷◌, ◌++◌, length, map, length-append}
-use Rattle.xa_base.proofs.{append_assoc, sym, refl, ap, ◌∙◌, subst, arith, eq-eqb, Some, None, get_or, All, range_with_len, nat_cmp, ne_eqb, or_parts}
+use Rattle.xa_base.proofs.{chain_kept, rules, ◌≡◌, ◌≢◌, ℕ, zero, suc, ◌<◌, ◌≤◌, Bool, true, false, ◌||◌, ◌==◌, ℤ, pos, List, [], ◌∷◌, ◌++◌, length, map}
+use Rattle.xa_base.proofs.{length-append, append_assoc, sym, refl, ap, ◌∙◌, arith, eq-eqb, Some, None, get_or, All, range_with_len, nat_cmp, ne_eqb, or_parts}
 use Rattle.xa_base.proofs.{append-nil, length-set, map-append, All-nil, All-cons, All-head, All-push, All-tail, All-weaker, inserted_there, inserted_other}
 use Rattle.xa_base.proofs.{removed_other, not_both, negsuc, AllPass-from_list_all}
 use Rattle.std.specs.FinMap as finmap
@@ -12,7 +12,6 @@ use Rattle.xa_driver.specs.{Branch, AreBranchesRising, has_branch_at}
 use Rattle.xa_work.specs.{Change, IsPut, PutsOp, IsCollected, CallsOp, CollectsOp, after_called, done, nothing, Called, CallsBranch, Got, HasWorked, HaveWorked}
 use Rattle.xa_work.specs.{ops_of}
 use Rattle.xa_work.specs.Requests.{undone}
-use Rattle.xa_work.proofs.Making.{chain_kept}
 use Rattle.xa_work.proofs.Sent.{is_called}
 
 -- ---- one manager's ledger
@@ -72,7 +71,7 @@ block_called m b op at at' at'' known z is =
     let sent : Block m (with_sent b op) at (after_sent at' m op) = block_on m b (λ l. with_sent l op) at at' (after_sent at' m op) known z refl in
     let got : Block m (with_collected (with_sent b op) n Done) at at'' =
     block_on m (with_sent b op) (λ l. with_collected l n Done) at (after_sent at' m op) at'' known sent is in
-    subst (λ j. Block m (with_collected (with_sent b op) j Done) at at'') (ap (λ (l : LedgerView). length l.sent) z.here) got
+    rw (ap (λ (l : LedgerView). length l.sent) z.here) at got
 
 one_called : (m : ℕ) (old : DeskView) → IsKnown old.ledgers m → (cs : List Called) (c : Called) (d e : DeskView)
     → Block m (called_all (ledger old.ledgers m) (map (λ (c : Called). c.op) cs)) old.ledgers d.ledgers → c.ok ≡ true → CallsOp m c.op c.ok d e
@@ -88,8 +87,7 @@ calls_block m old calls new known =
 branch_block : (cs : List Change) (b : Branch) (old new : DeskView) → IsKnown old.ledgers b.m → CallsBranch cs b true old new
     → Block b.m (called_all (ledger old.ledgers b.m) (ops_of cs b)) old.ledgers new.ledgers
 branch_block cs b old new known c =
-    subst (λ (os : List Op). Block b.m (called_all (ledger old.ledgers b.m) os) old.ledgers new.ledgers) c.ops_are
-    (calls_block b.m old c.calls new known c.each (AllPass-from_list_all (λ (x : Called). x.ok) c.calls (sym c.all)))
+    rw c.ops_are at (calls_block b.m old c.calls new known c.each (AllPass-from_list_all (λ (x : Called). x.ok) c.calls (sym c.all)))
 
 -- ---- branches by rising manager
 
@@ -135,8 +133,8 @@ one_works cs bs b x at now at' positive below w its z =
           let y : Branch = get_or bs k c in
           let low = (below k c within).0 in
           let under = (below k c within).1 in
-          subst (λ (a : LedgerView). HasWorked cs y (ledger at y.m) a) (sym (z.others y.m (omega (arith, low)) (λ same. omega (arith, under, same)))) (w.each k c within))
-          (subst (λ (a : LedgerView). HasWorked cs b a (ledger at' b.m)) (w.others b.m positive none_there) its);
+          rw (z.others y.m (omega (arith, low)) (λ same. omega (arith, under, same))) (w.each k c within))
+          (rw (w.others b.m positive none_there) at its);
       others = λ m up elsewhere. let parts = nowhere bs b m elsewhere in z.others m up parts.1 ∙ w.others m up parts.0;
     }
 
@@ -193,7 +191,7 @@ kept_on : (fs : Flights) (old new : DeskView) → AreKept fs old new → (k : �
     → (finmap.get new.kept k ≡ Some o) × IsNone k fs
 kept_on [] old new same k o has = (ap (λ (m : Handles). finmap.get m k) same ∙ has, tt)
 kept_on (f ∷ fs) old new (mid, free, keeps, rest) k o has =
-    let apart : k ≢ f.0 = λ same. not_both (finmap.get old.kept f.0) o free (subst (λ n. finmap.get old.kept n ≡ Some o) same has) in
+    let apart : k ≢ f.0 = λ same. not_both (finmap.get old.kept f.0) o free (rw same at has) in
     let there : finmap.get mid.kept k ≡ Some o = ap (λ (m : Handles). finmap.get m k) keeps ∙ inserted_other old.kept f.0 f.1 k apart ∙ has in
     let z = kept_on fs mid new rest k o there in
     (z.0, ((λ same. apart (sym same)), z.1))
@@ -212,7 +210,7 @@ AreTaken [] old new = new ≡ old
 AreTaken (k ∷ ks) old new = (mid : DeskView) × IsCollected k Done old mid × AreTaken ks mid new
 
 taken_push : (ks : List ℕ) (k : ℕ) (old mid new : DeskView) → AreTaken ks old mid → IsCollected k Done mid new → AreTaken (ks ++ k ∷ []) old new
-taken_push [] k old mid new same got = (new, subst (λ (d : DeskView). IsCollected k Done d new) same got, refl)
+taken_push [] k old mid new same got = (new, rw same at got, refl)
 taken_push (j ∷ ks) k old mid new (first, its, rest) got = (first, its, taken_push ks k first mid new rest got)
 
 -- so these operations were
@@ -231,7 +229,7 @@ all_collected (f ∷ fs) old new keeps apart (mid, got, rest) =
     let was = got.was in
     let own = keeps.0 in
     let same : got.operation ≡ f.1 = cc in
-    let left : KeepsAll fs mid.kept = subst (KeepsAll fs) (sym got.kept) (still_kept fs f.0 old.kept apart.0 keeps.1) in
+    let left : KeepsAll fs mid.kept = rw got.kept (still_kept fs f.0 old.kept apart.0 keeps.1) in
     (mid.ledgers, got.ledgers ∙ ap (λ (o : Operation). after_collected old.ledgers o Done) same, all_collected fs mid new left apart.1 rest)
 
 -- ---- handles
@@ -239,7 +237,7 @@ all_collected (f ∷ fs) old new keeps apart (mid, got, rest) =
 -- a handle that is a positive number
 pub is_put : (m : ℕ) (op : Op) (z : ℤ) (k : ℕ) (old new : DeskView) → z ≡ pos k → 0 < k → PutsOp m op z old new → IsPut m op k old new
 is_put m op z zero old new is positive p = absurd (omega (arith, positive))
-is_put m op z (suc k) old new is positive p = subst (λ w. PutsOp m op w old new) is p
+is_put m op z (suc k) old new is positive p = rw is at p
 
 -- the number that a handle is
 abbrev pub key_of : ℤ → ℕ

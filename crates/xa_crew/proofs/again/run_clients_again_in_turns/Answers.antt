@@ -3,6 +3,3 @@ use Rattle.xa_crew.proofs.again.run_clients_again_in_turns.Goals as goal
 
 pub returns-in-Ok-run_in_turns-clause-ran : goal.returns-in-Ok-run_in_turns-clause-ran
 returns-in-Ok-run_in_turns-clause-ran g c = grind arith
-
-pub returns-in-Err-run_in_turns-clause-unsettled : goal.returns-in-Err-run_in_turns-clause-unsettled
-returns-in-Err-run_in_turns-clause-unsettled g c = grind arith

@@ -1,5 +1,5 @@
-use Rattle.xa_base.proofs.{◌≡◌, ◌++◌, ◌∷◌, [], length, map, sym, ap, ◌∙◌, subst, arith, append_assoc, All, List, into_iter_items, map-append, All-push, all_at}
-use Rattle.xa_base.proofs.{next_there, taken_next}
+use Rattle.xa_base.proofs.{◌≡◌, ◌++◌, ◌∷◌, [], length, map, sym, ap, ◌∙◌, arith, append_assoc, List, into_iter_items, map-append, All-push, all_at, next_there}
+use Rattle.xa_base.proofs.{taken_next}
 use Rattle.xa_desk.specs.{AllKept}
 use Rattle.xa_crew.specs.{ClientJob, CanTell, IsReady}
 use Rattle.xa_crew.proofs.client_job.client_jobs_of.Goals as goal
@@ -28,7 +28,7 @@ loop-client-preserved g c =
       clients = ap (λ l. map (λ a. a.client) l) pushed ∙ map-append (λ a. a.client) before (one ∷ []) ∙ ap (λ l. l ++ one.client ∷ []) i.clients;
       desks = read_more (λ a. a.desk) before after one (into_iter_items c.loop-client.desks) desks c.args.desks.items pushed desk.0 i.desks;
       rooms = read_more (λ a. a.outstanding) before after one (into_iter_items c.loop-client.rooms) rooms c.args.outstanding.items pushed room.0 i.rooms;
-      ready = subst (All IsReady) (sym pushed) (All-push IsReady before one i.ready (record {
+      ready = rw pushed (All-push IsReady before one i.ready (record {
         kept = all_at AllKept c.args.desks.items (length (map (λ a. a.desk) before)) one.desk c.requires.kept desk_at;
         tell = all_at CanTell c.args.outstanding.items (length (map (λ a. a.outstanding) before)) one.outstanding c.requires.rooms room_at;
       }));

@@ -1,8 +1,7 @@
-use Rattle.xa_base.proofs.{◌≡◌, ◌+◌, None, sym, refl, subst, arith, inl, inr, ◌∙◌, range_with_len, cases_eq, cases_lt, range_more}
+use Rattle.xa_base.proofs.{◌+◌, refl, arith, inl, inr, ◌∙◌, range_with_len, cases_eq, range_more}
 use Rattle.std.specs.FinMap as finmap
-use Rattle.xa_base.specs.{Chain}
 use Rattle.xa_base.specs.Lists.Chain.{none, more}
-use Rattle.xa_crew.specs.{Telling, EndsNumber}
+use Rattle.xa_crew.specs.{Telling}
 use Rattle.xa_crew.proofs.Pieces.{number_freed, number_leaves}
 use Rattle.xa_crew.proofs.ending.end_numbers.Goals as goal
 
@@ -16,9 +15,6 @@ loop-before-init g c = record {
   room = refl;
 }
 
-pub end_number-requires : goal.end_number-requires
-end_number-requires g c = let few = c.loop-before.invariant.few in let room = c.loop-before.invariant.room in omega (arith, few, room)
-
 pub loop-before-preserved : goal.loop-before-preserved
 loop-before-preserved g c =
     let i = c.loop-before.invariant in
@@ -27,9 +23,9 @@ loop-before-preserved g c =
     let new : Telling = (c.end_number.new.desk, c.end_number.new.told.items) in
     let one = c.end_number.ensures in
     record {
-      ends = subst (λ ks. Chain EndsNumber (c.args.desk.now, c.args.told.now.items) ks new) (sym (range_more n)) (more (range_with_len 1 n) (n + 1) old new i.ends one.ends);
+      ends = rw (range_more n) (more (range_with_len 1 n) (n + 1) old new i.ends one.ends);
       none = λ k which. elim (cases_eq k (n + 1)) [
-        | inl same ↦ subst (λ j. finmap.get c.end_number.new.desk.kept j ≡ None) (sym same) (number_freed (n + 1) old new one.ends)
+        | inl same ↦ rw same (number_freed (n + 1) old new one.ends)
         | inr differs ↦ number_leaves (n + 1) old new one.ends k (i.none k (elim which [
           | inl first ↦ inl (omega (arith, first, differs))
           | inr past ↦ inr past
@@ -40,9 +36,3 @@ loop-before-preserved g c =
       few = let few = i.few in let more_few = one.few in omega (arith, few, more_few);
       room = one.room ∙ i.room;
     }
-
-pub returns-clause-ends : goal.returns-clause-ends
-returns-clause-ends g c = grind (arith, range_with_len)
-
-pub returns-clause-none : goal.returns-clause-none
-returns-clause-none g c k = grind (arith, cases_lt)

@@ -2,16 +2,10 @@ use Rattle.xa_base.proofs.{◌∙◌, arith}
 use Rattle.xa_crew.proofs.Threads.{room_for_all}
 use Rattle.xa_crew.proofs.hands.do_all.Goals as goal
 
-pub done-requires-clause-ready : goal.done-requires-clause-ready
-done-requires-clause-ready g c = (c.args.jobs.items, c.requires.jobs, c.join-came.ensures.came c.args.jobs.items c.start-all.ensures.started)
-
 pub done-requires-in-Some-clause-room : goal.done-requires-in-Some-clause-room
 done-requires-in-Some-clause-room g c =
     room_for_all g.K.Job.comes_to c.in-Ok-Ok-Ok.ensures'' (omega (arith, c.len-2.ensures)) (c.join-others_came.ensures.done ∙ c.start-all_others.ensures.done)
     (c.join-others_came.ensures.back ∙ c.start-all_others.ensures.back) (c.join-others_came.ensures.came c.args.others.items c.start-all_others.ensures.started)
-
-pub returns-in-Some-clause-jobs : goal.returns-in-Some-clause-jobs
-returns-in-Some-clause-jobs g c = c.done.ensures c.args.jobs.items (c.join-came.ensures.came c.args.jobs.items c.start-all.ensures.started)
 
 pub back-requires-in-None : goal.back-requires-in-None
 back-requires-in-None g c =

@@ -18,6 +18,3 @@ returns-in-Ok-clause-run g c = λ p cs all. record {
   agrees = c.in-Ok.ensures.settled;
   of_setup = c.in-Ok.ensures.of p (run_pieces g.C.Client.works c.desks_go_on.ensures.further p cs c.args.ran all);
 }
-
-pub returns-in-Err-clause-back : goal.returns-in-Err-clause-back
-returns-in-Err-clause-back g c = λ p cs all. rw (c.in-Err.ensures.back.0, c.in-Err.ensures.back.1) all

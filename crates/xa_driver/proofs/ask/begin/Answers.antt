@@ -1,6 +1,6 @@
 use Rattle.xa_base.proofs.{ap, sym, ◌∙◌}
 use Rattle.xa_driver.specs.{Ask}
-use Rattle.xa_driver.proofs.Idling.{sends_so}
+use Rattle.xa_driver.proofs.Progress.{sends_so}
 use Rattle.xa_driver.proofs.ask.begin.Goals as goal
 
 pub returns-clause-waited : goal.returns-clause-waited

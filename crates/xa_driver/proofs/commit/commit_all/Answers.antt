@@ -1,8 +1,7 @@
 use Rattle.xa_base.proofs.{rules, arith, ◌≡◌, ap, sym, ◌∙◌, map, List}
 use Rattle.xa_driver.specs.{AppendsOnce, IsUnknown, Ask, first_ask, second_ask, third_ask, Done, Prepared}
-use Rattle.xa_driver.proofs.Idling.{all_idle}
+use Rattle.xa_driver.proofs.Progress.{all_idle, same_in_order}
 use Rattle.xa_driver.proofs.Calls.{one_tran, may_decide, may_forget, may_tell, stages_call, for_log}
-use Rattle.xa_driver.proofs.Ordering.{same_in_order}
 use Rattle.xa_driver.proofs.commit.commit_all.Goals as goal
 
 pub decide-requires-clause-new : goal.decide-requires-clause-new

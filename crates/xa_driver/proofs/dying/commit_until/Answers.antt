@@ -2,8 +2,7 @@ use Rattle.xa_base.proofs.{◌≡◌, ◌∙◌, true, false, ap, map, sym}
 use Rattle.xa_driver.specs.{Round, Prepared, among_asks, LeavesDesk, first_ask, AppendsOnce, IsUnknown}
 use Rattle.xa_driver.proofs.AtDeath.{as_many_managers, decided_later, desk_further, dies_prepared}
 use Rattle.xa_driver.proofs.Calls.{among_first, one_tran, for_log, may_decide, may_tell}
-use Rattle.xa_driver.proofs.Idling.{first_idles, idles_chain, idles_start}
-use Rattle.xa_driver.proofs.Ordering.{whole_in_order}
+use Rattle.xa_driver.proofs.Progress.{first_idles, idles_chain, idles_start, whole_in_order}
 use Rattle.xa_driver.proofs.dying.commit_until.Given as given
 use Rattle.xa_driver.proofs.dying.commit_until.Goals as goal
 

@@ -1,12 +1,8 @@
-use Rattle.xa_base.proofs.{◌≡◌, ◌∙◌, ap, arith, rules, map}
+use Rattle.xa_base.proofs.{◌≡◌, ◌∙◌, ap, rules, map}
 use Rattle.xa_driver.specs.{first_ask}
 use Rattle.xa_driver.proofs.AtDeath.{desk_left, others_stay, came_to_votes}
 use Rattle.xa_driver.proofs.Calls.{among_first}
-use Rattle.xa_driver.proofs.Requests.{same_itself, same_alike}
 use Rattle.xa_driver.proofs.dying.die_preparing.Goals as goal
-
-pub leave-requires-clause-votes : goal.leave-requires-clause-votes
-leave-requires-clause-votes g c = grind (arith, same_alike, same_itself)
 
 pub returns : goal.returns
 returns g c =

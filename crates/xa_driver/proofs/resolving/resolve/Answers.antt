@@ -1,9 +1,8 @@
-use Rattle.xa_base.proofs.{◌≡◌, ◌≤◌, ◌+◌, length, length-append, vec_capacity, refl, sym, ap, ◌∙◌, subst, arith}
+use Rattle.xa_base.proofs.{◌≡◌, ◌+◌, length, length-append, refl, ap, ◌∙◌, arith}
 use Rattle.xa_base.specs.{MOST_MANAGERS}
-use Rattle.xa_desk.specs.{ledger}
-use Rattle.xa_driver.specs.{ResolvesAt, AsksLedger, begun, next}
+use Rattle.xa_driver.specs.{begun, next}
 use Rattle.xa_calls.specs.{AsksAndWaits, Answers}
-use Rattle.xa_driver.proofs.EachLeft.{left_more, alone_rest, SoFar, none_so_far, one_more_so_far, left_within, room_same}
+use Rattle.xa_driver.proofs.EachLeft.{left_more, alone_rest, none_so_far, one_more_so_far, left_within}
 use Rattle.xa_driver.proofs.Requests.{rest_same, rest_chain}
 use Rattle.xa_driver.proofs.Mapped.{turns_by}
 use Rattle.xa_driver.proofs.resolving.resolve.Given as given
@@ -12,17 +11,14 @@ use Rattle.xa_driver.proofs.Stepping.{so_far}
 
 pub loop-before-init : goal.loop-before-init
 loop-before-init g c = record {
-  so_far = subst (SoFar c.args.scan.now _ 0 c.args.desk.now.ledgers c.args.desk.now.ledgers) (sym c.in_ok-outcomes.ensures.items) (none_so_far c.args.scan.now _ c.args.desk.now.ledgers);
+  so_far = rw c.in_ok-outcomes.ensures.items (none_so_far c.args.scan.now _ c.args.desk.now.ledgers);
   waits = begun c.in_ok-outcomes.outcomes.items (c.args.desk.now, c.args.idle.now) c.in_ok-outcomes.ensures.items refl;
   many = ap (λ l. length l) c.in_ok-outcomes.ensures.items;
-  space = subst (λ n. n ≤ vec_capacity c.in_ok-outcomes.outcomes) c.count_left.ensures c.in_ok-outcomes.ensures.capacity;
+  space = rw c.count_left.ensures at c.in_ok-outcomes.ensures.capacity;
   managers = refl;
   rest = rest_same c.args.desk.now c.args.desk.now refl;
   idled = g.met.I.Idle.leads_start _;
 }
-
-pub resolve_at-requires-clause-room : goal.resolve_at-requires-clause-room
-resolve_at-requires-clause-room g c = grind (arith, room_same)
 
 pub resolve_at-requires-clause-space : goal.resolve_at-requires-clause-space
 resolve_at-requires-clause-space g c =
@@ -40,10 +36,10 @@ loop-before-preserved g c =
     record {
       so_far =
           one_more_so_far z (g.L.DecisionRecords.records c.args.log.now) n c.args.desk.now.ledgers c.loop-before.desk.ledgers c.resolve_at.new.desk.ledgers c.loop-before.outcomes.items c.resolve_at.new.outcomes.items more i.so_far items
-          (subst (λ l. ResolvesAt AsksLedger (g.L.DecisionRecords.records c.args.log.now) (n + 1) l more (ledger c.loop-before.desk.ledgers (n + 1)) (ledger c.resolve_at.new.desk.ledgers (n + 1))) c.left.ensures resolves) alone.others;
+          (rw c.left.ensures at resolves) alone.others;
       waits =
           next n (n + 1) c.loop-before.outcomes.items more c.resolve_at.new.outcomes.items (c.loop-before.desk, c.loop-before.idle) (c.resolve_at.new.desk, c.resolve_at.new.idle) i.waits refl
-          (subst (λ l. ResolvesAt (AsksAndWaits g.I.Idle.leads_by (n + 1)) (g.L.DecisionRecords.records c.args.log.now) (n + 1) l more (c.loop-before.desk, c.loop-before.idle) (c.resolve_at.new.desk, c.resolve_at.new.idle)) c.left.ensures waits) items;
+          (rw c.left.ensures at waits) items;
       many = search (arith, length-append, left_more, c.loop-before.outcomes.items, c.left.ensures, i.many);
       space = let space = i.space in let same = c.resolve_at.ensures.space in omega (arith, space, same);
       managers = alone.managers ∙ i.managers;

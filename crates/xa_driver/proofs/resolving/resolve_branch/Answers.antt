@@ -12,7 +12,7 @@ returns-clause-resolves g c = record {
   obeys = rw c.outcome_op.ensures at c.ask-code.ensures.asked;
   forgets = elim c.if-is_decided.branch [
     | then-is_decided w ↦ rw (w.desk-is, (sym c.is_decided.ensures ∙ w.if-is_decided.true)) (w.ask.result, w.ask.ensures.asked)
-    | else-is_decided w ↦ rw (w.desk-is, (sym c.is_decided.ensures ∙ w.if-is_decided.false)) refl
+    | else-is_decided w ↦ rw (w.desk-is, (sym c.is_decided.ensures ∙ w.if-is_decided.false))
   ];
 }
 
@@ -30,6 +30,6 @@ returns-clause-waits g c = record {
   obeys = rw c.outcome_op.ensures at c.ask-code.ensures.waits;
   forgets = elim c.if-is_decided.branch [
     | then-is_decided w ↦ rw (w.desk-is, w.idle-is, (sym c.is_decided.ensures ∙ w.if-is_decided.true)) (w.ask.result, w.ask.ensures.waits)
-    | else-is_decided w ↦ rw (w.desk-is, w.idle-is, (sym c.is_decided.ensures ∙ w.if-is_decided.false)) refl
+    | else-is_decided w ↦ rw (w.desk-is, w.idle-is, (sym c.is_decided.ensures ∙ w.if-is_decided.false))
   ];
 }

@@ -1,7 +1,5 @@
-use Rattle.xa_base.proofs.{none_of, length, List, Option, ap, subst, arith}
-use Rattle.xa_desk.specs.{TicketView}
-use Rattle.xa_driver.specs.{AllKeptBut, OwnsAll}
-use Rattle.xa_driver.proofs.Flights.{left_one_more, IsLast, all_kept, kept_one_more, last_more, nothing_left, rest_owned}
+use Rattle.xa_base.proofs.{length, ap, arith}
+use Rattle.xa_driver.proofs.Flights.{left_one_more, kept_one_more, last_more, nothing_left, rest_owned}
 use Rattle.xa_driver.proofs.round.keep_all.Goals as goal
 
 pub loop-place-init : goal.loop-place-init
@@ -14,15 +12,12 @@ loop-place-preserved c =
     let t = c.in-Some.ticket in
     let ts = c.pop_front.new.self.items in
     let first = c.in-Some.ensures.items in
-    let last = subst (λ (rs : List (Option TicketView)). IsLast rs c.args.tickets.now.items) first c.loop-place.invariant.last in
+    let last = rw first at c.loop-place.invariant.last in
     record {
-      owned = rest_owned d d1 t ts (subst (λ (rs : List (Option TicketView)). OwnsAll d rs) first c.loop-place.invariant.owned) c.keep.ensures.others;
-      kept = λ but. kept_one_more d d1 t ts (subst (λ (rs : List (Option TicketView)). AllKeptBut rs d) first (c.loop-place.invariant.kept but)) c.keep.ensures.kept;
+      owned = rest_owned d d1 t ts (rw first at c.loop-place.invariant.owned) c.keep.ensures.others;
+      kept = λ but. kept_one_more d d1 t ts (rw first at (c.loop-place.invariant.kept but)) c.keep.ensures.kept;
       left = left_one_more c.args.tickets.now.items c.args.desk.now d d1 t ts last c.loop-place.invariant.left c.keep.ensures.kept c.keep.ensures.others;
       goes_on = c.desks_go_on.ensures.further c.args.desk.now d d1 c.loop-place.invariant.goes_on c.keep.ensures.goes_on;
       last = last_more t ts c.args.tickets.now.items last;
       counted = let a = ap (λ l. length l) first in let b = c.loop-place.invariant.counted in omega (arith, a, b);
     }
-
-pub returns-clause-kept : goal.returns-clause-kept
-returns-clause-kept c but = grind (arith, none_of, all_kept)

@@ -1,9 +1,9 @@
-use Rattle.xa_base.proofs.{arith, [], refl}
+use Rattle.xa_base.proofs.{chain_all, chain_more, arith, [], refl}
 use Rattle.xa_base.specs.Lists.Chain.{none}
 use Rattle.xa_words.specs.{TMFAIL}
 use Rattle.xa_words.specs.declared.flags.Call.TheVariants as call
 use Rattle.xa_work.specs.{Asks}
-use Rattle.xa_work.proofs.Making.{chain_all, chain_more, leaves_none, leaves_on}
+use Rattle.xa_work.proofs.Making.{leaves_none, leaves_on}
 use Rattle.xa_work.proofs.giving_up.give_up.Goals as goal
 
 pub loop-branch-init : goal.loop-branch-init

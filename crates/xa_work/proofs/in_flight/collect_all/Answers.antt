@@ -1,5 +1,5 @@
-use Rattle.xa_base.proofs.{arith, ◌≡◌, ◌<◌, ◌&&◌, ℕ, List, length, pos, sym, subst, ◌∙◌, slice_index_or, slice_get-get_or, one_more, some_same}
-use Rattle.xa_work.specs.{Flight, CollectsAll}
+use Rattle.xa_base.proofs.{arith, ◌≡◌, ◌<◌, ℕ, List, length, pos, sym, ◌∙◌, slice_index_or, slice_get-get_or, one_more, some_same}
+use Rattle.xa_work.specs.{Flight}
 use Rattle.xa_work.proofs.Making.{collects_more, collects_none, leaves_none, leaves_on}
 use Rattle.xa_work.proofs.in_flight.collect_all.Goals as goal
 
@@ -19,6 +19,5 @@ loop-flight-preserved g c =
     record {
       leaves = leaves_on c.idles_go_on.ensures.further c.loop-flight.invariant.leaves c.collect-all.ensures.goes_on c.collect-all.ensures.kept c.collect-all.ensures.idled;
       collects =
-          subst (λ l. CollectsAll l (c.loop-flight.all && c.collect-all.result) c.args.desk.now c.collect-all.new.desk) (sym (one_more fs i (slice_index_or fs i none) below (itself fs i none below)))
-          (collects_more _ (slice_index_or fs i none) c.loop-flight.all c.collect-all.result _ _ _ c.loop-flight.invariant.collects c.collect-all.ensures.collects);
+          rw (one_more fs i (slice_index_or fs i none) below (itself fs i none below)) (collects_more _ (slice_index_or fs i none) c.loop-flight.all c.collect-all.result _ _ _ c.loop-flight.invariant.collects c.collect-all.ensures.collects);
     }

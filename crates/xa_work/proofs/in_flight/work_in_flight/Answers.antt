@@ -1,5 +1,5 @@
-use Rattle.xa_base.proofs.{[], length, ap, arith, length-append, subst, sym, ◌∙◌, take_all}
-use Rattle.xa_work.specs.{CollectsAll, PutsRequests, requests_at}
+use Rattle.xa_base.proofs.{length, ap, arith, length-append, ◌∙◌, take_all}
+use Rattle.xa_work.specs.{requests_at}
 use Rattle.xa_work.proofs.Making.{first_requests, puts_append, puts_length, puts_none, requests_left, leaves_none, leaves_on}
 use Rattle.xa_work.proofs.in_flight.work_in_flight.Goals as goal
 
@@ -7,7 +7,7 @@ pub loop-branch-init : goal.loop-branch-init
 loop-branch-init g c =
     record {
       leaves = leaves_none c.idles_go_on.ensures.same _ _;
-      puts = subst (λ l. PutsRequests [] l c.args.desk.now c.args.desk.now) (sym c.requires.none) (puts_none c.args.desk.now);
+      puts = rw c.requires.none (puts_none c.args.desk.now);
       room = omega (arith, ap length c.requires.none, c.requires.room);
     }
 
@@ -35,5 +35,5 @@ returns-clause-tries g c =
       begun = c.loop-branch.desk;
       flights = c.loop-branch.flights.items;
       puts = search (arith, take_all, c.loop-branch.flights.items, c.args.desk.now, c.loop-branch.branch-index, c.args.branches.now);
-      collects = subst (λ l. CollectsAll l c.collect_all.result c.loop-branch.desk c.collect_all.new.desk) c.deref.ensures.value c.collect_all.ensures.collects;
+      collects = rw c.deref.ensures.value at c.collect_all.ensures.collects;
     }

@@ -1,8 +1,8 @@
-use Rattle.xa_base.proofs.{arith, ◌≡◌, ◌+◌, true, false, [], drop, refl, subst, take}
+use Rattle.xa_base.proofs.{chain_all, chain_more, arith, ◌≡◌, ◌+◌, true, false, [], drop, refl, take}
 use Rattle.xa_base.specs.Lists.Chain.{none}
 use Rattle.xa_work.specs.{CallsBranch}
 use Rattle.xa_work.specs.Works.CallsBranches.{stopped}
-use Rattle.xa_work.proofs.Making.{chain_all, chain_more, parted, leaves_none, leaves_on}
+use Rattle.xa_work.proofs.Making.{parted, leaves_none, leaves_on}
 use Rattle.xa_work.proofs.in_turn.work_in_turn.Goals as goal
 
 pub loop-branch-init : goal.loop-branch-init
@@ -16,7 +16,7 @@ loop-branch-preserved g c =
       leaves = leaves_on c.idles_go_on.ensures.further c.loop-branch.invariant.leaves c.work_on.ensures.goes_on c.work_on.ensures.kept c.work_on.ensures.idled;
       calls =
           chain_more (λ b d e. CallsBranch cs b true d e) c.args.branches.now _ c.branch-item.result _ _ _ c.loop-branch-test.true c.branch-item.is
-          c.loop-branch.invariant.calls (subst (λ ok. CallsBranch cs c.branch-item.result ok c.loop-branch.desk c.work_on.new.desk) all_ c.work_on.ensures.calls);
+          c.loop-branch.invariant.calls (rw all_ at c.work_on.ensures.calls);
     }
 
 pub returns-then-not-work_on-clause-calls : goal.returns-then-not-work_on-clause-calls
@@ -26,7 +26,7 @@ returns-then-not-work_on-clause-calls g c =
     let b = c.branch-item.result in
     let not_all : c.work_on.result ≡ false = cc in
     stopped (take i bs) (drop (i + 1) bs) b c.loop-branch.desk refl (parted bs i b c.loop-branch-test.true c.branch-item.is) c.loop-branch.invariant.calls
-    (subst (λ ok. CallsBranch c.args.changes.now b ok c.loop-branch.desk c.work_on.new.desk) not_all c.work_on.ensures.calls)
+    (rw not_all at c.work_on.ensures.calls)
 
 pub returns-clause-calls : goal.returns-clause-calls
 returns-clause-calls g c = grind (arith, chain_all)

@@ -1,6 +1,5 @@
-use Rattle.xa_base.proofs.{arith, ◌&&◌, true, subst}
+use Rattle.xa_base.proofs.{arith, true}
 use Rattle.xa_words.specs.{Add, End, Start, Success, Fresh}
-use Rattle.xa_work.specs.{CallsOps}
 use Rattle.xa_work.proofs.Making.{begun_all, begun_elsewhere, begun_here, begun_of, calls_more, calls_none, leaves_on}
 use Rattle.xa_work.proofs.in_turn.work_on.Goals as goal
 use Rattle.xa_work.proofs.in_turn.work_on.Goals.{then-change-branch, else-change-branch}
@@ -36,5 +35,4 @@ pub returns-clause-calls : goal.returns-clause-calls
 returns-clause-calls g c =
     let b = c.args.branch.now in
     let cs = c.args.changes.now in
-    subst (λ os. CallsOps b.m os (c.loop-change.all && c.ask-ended.result) c.args.desk.now c.ask-ended.new.desk) (begun_all cs _ b c.loop-change-test.false)
-    (calls_more b.m _ (End b.xid Success) c.loop-change.all c.ask-ended.result _ _ _ c.loop-change.invariant.calls c.ask-ended.ensures.calls)
+    rw (begun_all cs _ b c.loop-change-test.false) at (calls_more b.m _ (End b.xid Success) c.loop-change.all c.ask-ended.result _ _ _ c.loop-change.invariant.calls c.ask-ended.ensures.calls)

@@ -12,5 +12,5 @@ pub loop-before-preserved : goal.loop-before-preserved
 loop-before-preserved g c = record {
   leaves = leaves_on c.idles_go_on.ensures.further c.loop-before.invariant.leaves c.open_one-all.ensures.goes_on c.open_one-all.ensures.kept c.open_one-all.ensures.idled;
   opens = opens_more _ _ c.open_one-all.result _ _ _ c.loop-before.invariant.opens c.open_one-all.ensures.calls;
-  sent = have_on IsOpenRm _ _ _ c.loop-before.invariant.sent (op_sent IsOpenRm (c.loop-before.before + 1) OpenRm c.open_one-all.result _ _ refl c.open_one-all.ensures.calls);
+  sent = have_on _ _ _ c.loop-before.invariant.sent (op_sent IsOpenRm (c.loop-before.before + 1) OpenRm c.open_one-all.result _ _ refl c.open_one-all.ensures.calls);
 }

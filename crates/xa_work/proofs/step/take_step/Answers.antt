@@ -1,4 +1,4 @@
-use Rattle.xa_base.proofs.{◌≡◌, ℕ, ℤ, Bool, true, false, Some, arith, subst, sym, w32, to_z-of_z, ints}
+use Rattle.xa_base.proofs.{◌≡◌, ℕ, ℤ, Bool, true, false, Some, arith, w32, to_z-of_z, ints}
 use Rattle.std.proofs.Common.{bit_or}
 use Rattle.xa_words.specs.{TMASYNC, TMSUCCESS, XidName}
 use Rattle.xa_words.specs.declared.flags.Call.TheVariants as call
@@ -20,12 +20,12 @@ abbrev Takes : XidName → Step → Bool → ℕ → DeskView → DeskView → �
 Takes x s a m d e z = Puts d m (record { op = op_of x s; asynchronous = a }) e z
 
 by_flags : (P : ℕ → Type 0) (Q : Bool → Type 0) → (P TMASYNC → Q true) → (P 0 → Q false) → (a : Bool) (f : ℕ) → f ≡ flags_of a → P f → Q a
-by_flags P Q one two true f is p = one (subst P is p)
-by_flags P Q one two false f is p = two (subst P is p)
+by_flags P Q one two true f is p = one (rw is at p)
+by_flags P Q one two false f is p = two (rw is at p)
 
 -- so the step that was asked for, and the answer as it is returned
 taken : (x : XidName) (s t : Step) (a : Bool) (m : ℕ) (d e : DeskView) (z w : ℤ) → s ≡ t → w ≡ z → Takes x t a m d e z → Takes x s a m d e w
-taken x s t a m d e z w is same takes = subst (λ u. Takes x u a m d e w) (sym is) (subst (Takes x t a m d e) (sym same) takes)
+taken x s t a m d e z w is same takes = rw (is, same) takes
 
 pub returns-in-Start-clause-puts : goal.returns-in-Start-clause-puts
 returns-in-Start-clause-puts g c =

@@ -15,7 +15,7 @@ returns-in-Err-Undecided-clause-comes g c =
     let none : c.args.death ≡ None = cc in
     let same : at.field-0 ≡ fault.Undecided at.votes = cc in
     let unknown = of_votes _ at.field-0 at.votes same at.ensures.unknown c.requires.may.tran c.requires.may.one in
-    undecided at.votes (rw none refl) refl c.requires.may (of_votes _ at.field-0 at.votes same at.ensures.undecided) unknown.wanted
+    undecided at.votes (rw none) refl c.requires.may (of_votes _ at.field-0 at.votes same at.ensures.undecided) unknown.wanted
 
 pub returns-in-Ok-commit_until-clause-comes : goal.returns-in-Ok-commit_until-clause-comes
 returns-in-Ok-commit_until-clause-comes g c =
@@ -31,4 +31,4 @@ returns-in-Err-Undecided-commit_until-clause-comes g c =
     let same : at.field-0 ≡ fault.Undecided at.votes = cc in
     let decided = of_votes _ at.field-0 at.votes same at.ensures.later in
     let unknown = of_votes _ at.field-0 at.votes same at.ensures.unknown c.requires.may.tran c.requires.may.one in
-    undecided at.votes (rw some decided) (rw same refl) c.requires.may (of_votes _ at.field-0 at.votes same at.ensures.undecided) unknown.wanted
+    undecided at.votes (rw some decided) (rw same) c.requires.may (of_votes _ at.field-0 at.votes same at.ensures.undecided) unknown.wanted

@@ -1,6 +1,5 @@
-use Rattle.xa_base.proofs.{arith, ◌≡◌, true, false, refl, subst}
-use Rattle.xa_desk.specs.{DeskView}
-use Rattle.xa_work.specs.{IsFor, NamesOnly, IsRefused, GivesUp, Tries}
+use Rattle.xa_base.proofs.{arith, ◌≡◌, true, false, refl}
+use Rattle.xa_work.specs.{IsRefused}
 use Rattle.xa_work.specs.Units.IsRefused.{barred, undone}
 use Rattle.xa_work.specs.Units.Transacts.{commits, refused}
 use Rattle.xa_work.proofs.Named.{comes_named, all_among, gives_up_sent, tries_sent}
@@ -22,13 +21,13 @@ returns-then-not-worked-clause-transacts g c =
     let begins = c.may_begin.ensures.0 c.if-not-may_begin.false in
     let why : IsRefused bs cs _ old c.give_up.new.desk (g.L.DecisionLog.state c.args.log.now) (g.L.DecisionRecords.knows c.args.log.now) = elim c.then-not-worked.branch [
       | then-not-worked-via-then-not-worked w ↦
-          undone tried refl begins.0 begins.1 (subst (λ ok. Tries cs bs ok old tried) w.if-not-worked.true c.work-worked.ensures.tries) gives_up
+          undone tried refl begins.0 begins.1 (rw w.if-not-worked.true at c.work-worked.ensures.tries) gives_up
       | then-not-worked-via-else-not-worked+then-not-may_commit w ↦
-          barred tried refl begins.0 begins.1 (subst (λ ok. Tries cs bs ok old tried) w.if-not-worked.false c.work-worked.ensures.tries)
+          barred tried refl begins.0 begins.1 (rw w.if-not-worked.false at c.work-worked.ensures.tries)
           (λ may. let yes_ : w.may_commit.result ≡ true = w.may_commit.ensures.1 (may, begins.1) in let no_ : w.may_commit.result ≡ false = w.if-not-may_commit.true in cc) gives_up
     ] in
     refused refl why
-    (have_on (IsFor bs) _ _ _ (tries_sent cs bs (all_among bs) c.work-worked.result old tried c.work-worked.ensures.tries) (gives_up_sent bs (all_among bs) tried c.give_up.new.desk gives_up))
+    (have_on _ _ _ (tries_sent cs bs (all_among bs) c.work-worked.result old tried c.work-worked.ensures.tries) (gives_up_sent bs (all_among bs) tried c.give_up.new.desk gives_up))
 
 pub returns-clause-transacts : goal.returns-clause-transacts
 returns-clause-transacts g c =
@@ -37,16 +36,14 @@ returns-clause-transacts g c =
     let begins = c.may_begin.ensures.0 c.if-not-may_begin.false in
     let all_ : c.work-worked.result ≡ true = cc in
     commits c.work-worked.new.desk begins.0 begins.1
-    (tried_works cs bs c.args.desk.now c.work-worked.new.desk begins.0.commit.rising (room_known c.args.desk.now.ledgers bs begins.0.commit.room) (subst (λ ok. Tries cs bs ok c.args.desk.now c.work-worked.new.desk) all_ c.work-worked.ensures.tries))
+    (tried_works cs bs c.args.desk.now c.work-worked.new.desk begins.0.commit.rising (room_known c.args.desk.now.ledgers bs begins.0.commit.room) (rw all_ at c.work-worked.ensures.tries))
     c.in-Ok.ensures.comes
 
 pub returns-clause-named : goal.returns-clause-named
 returns-clause-named g c =
     let bs = c.args.branches.now in
     let tried = c.work-worked.new.desk in
-    have_on (NamesOnly bs) _ _ _
-    (have_as (IsFor bs) (NamesOnly bs) (λ o f. f.named) _ _ (tries_sent c.args.changes.now bs (all_among bs) c.work-worked.result c.args.desk.now tried c.work-worked.ensures.tries))
-    (comes_named bs c.args.death c.in-Ok.outcome tried _ _ _ c.in-Ok.ensures.comes)
+    have_on _ _ _ (have_as (λ o f. f.named) _ _ (tries_sent c.args.changes.now bs (all_among bs) c.work-worked.result c.args.desk.now tried c.work-worked.ensures.tries)) (comes_named bs c.args.death c.in-Ok.outcome tried _ _ _ c.in-Ok.ensures.comes)
 
 pub returns-in_default-clause-wants : goal.returns-in_default-clause-wants
 returns-in_default-clause-wants g c =
@@ -56,23 +53,19 @@ returns-in_default-clause-wants g c =
       begins = begins.0;
       tried = c.work-worked.new.desk;
       may = (c.may_commit.ensures.0 c.if-not-may_commit.false).0;
-      worked = subst (λ ok. Tries c.args.changes.now bs ok c.args.desk.now c.work-worked.new.desk) c.if-not-worked.false c.work-worked.ensures.tries;
-      gives_up = subst (λ (d : DeskView). GivesUp bs d c.give_up-in_default.new.desk) c.in_default.ensures.unsent c.give_up-in_default.ensures.gives_up;
+      worked = rw c.if-not-worked.false at c.work-worked.ensures.tries;
+      gives_up = rw c.in_default.ensures.unsent at c.give_up-in_default.ensures.gives_up;
     }
 
 pub returns-then-not-worked-clause-named : goal.returns-then-not-worked-clause-named
 returns-then-not-worked-clause-named g c =
     let bs = c.args.branches.now in
     let tried = c.work-worked.new.desk in
-    have_as (IsFor bs) (NamesOnly bs) (λ o f. f.named) _ _
-    (have_on (IsFor bs) _ _ _ (tries_sent c.args.changes.now bs (all_among bs) c.work-worked.result c.args.desk.now tried c.work-worked.ensures.tries)
-    (gives_up_sent bs (all_among bs) tried c.give_up.new.desk c.give_up.ensures.gives_up))
+    have_as (λ o f. f.named) _ _ (have_on _ _ _ (tries_sent c.args.changes.now bs (all_among bs) c.work-worked.result c.args.desk.now tried c.work-worked.ensures.tries) (gives_up_sent bs (all_among bs) tried c.give_up.new.desk c.give_up.ensures.gives_up))
 
 pub returns-in_default-clause-named : goal.returns-in_default-clause-named
 returns-in_default-clause-named g c =
     let bs = c.args.branches.now in
     let tried = c.work-worked.new.desk in
-    have_as (IsFor bs) (NamesOnly bs) (λ o f. f.named) _ _
-    (have_on (IsFor bs) _ _ _ (tries_sent c.args.changes.now bs (all_among bs) c.work-worked.result c.args.desk.now tried c.work-worked.ensures.tries)
-    (gives_up_sent bs (all_among bs) tried c.give_up-in_default.new.desk
-    (subst (λ (d : DeskView). GivesUp bs d c.give_up-in_default.new.desk) c.in_default.ensures.unsent c.give_up-in_default.ensures.gives_up)))
+    have_as (λ o f. f.named) _ _ (have_on _ _ _ (tries_sent c.args.changes.now bs (all_among bs) c.work-worked.result c.args.desk.now tried c.work-worked.ensures.tries) (gives_up_sent bs (all_among bs) tried c.give_up-in_default.new.desk
+    (rw c.in_default.ensures.unsent at c.give_up-in_default.ensures.gives_up)))

@@ -1,16 +1,10 @@
 use Rattle.xa_base.proofs.{◌≡◌, ◌++◌, length, vec_capacity, into_iter_items, into_iter_len}
-use Rattle.xa_base.specs.{Pairwise}
-use Rattle.xa_crew.proofs.Threads.{Brings}
+use Rattle.xa_crew.proofs.Threads.{Brings, Handled}
 use Rattle.xa_crew.proofs.hands.Hands.join.Given as goal
 
 -- the first threads have ended, each with what became of its job
 abbrev pub invariant-loop-hand : goal.invariant-loop-hand
-invariant-loop-hand g l = record {
-  so_far : l.yielded ++ into_iter_items l.hand-iterator ≡ l.fn.self.hands.items;
-  counted : into_iter_len l.hand-iterator ≡ length (into_iter_items l.hand-iterator);
-  brought : Pairwise (Brings g.J.Job.comes_to) l.yielded l.came.items;
-  room : vec_capacity l.came ≡ vec_capacity l.fn.self.came;
-}
+invariant-loop-hand g l = Handled (Brings g.J.Job.comes_to) l.fn.self.hands.items l.yielded l.hand-iterator l.came (vec_capacity l.fn.self.came)
 
 -- and what became of the first of the others stands after that
 abbrev pub invariant-loop-other : goal.invariant-loop-other

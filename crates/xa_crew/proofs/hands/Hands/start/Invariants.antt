@@ -1,4 +1,4 @@
-use Rattle.xa_base.proofs.{◌≡◌, ◌+◌, ◌++◌, [], true, vec_capacity, into_iter_items}
+use Rattle.xa_base.proofs.{◌≡◌, ◌++◌, [], true, vec_capacity, into_iter_items}
 use Rattle.xa_crew.specs.{AreAtFirst}
 use Rattle.xa_crew.proofs.hands.Hands.start.Given as goal
 

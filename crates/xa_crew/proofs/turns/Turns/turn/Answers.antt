@@ -1,6 +1,5 @@
-use Rattle.xa_base.proofs.{◌-◌, ◌<◌, length, List, Some, sym, ap, ◌∙◌, refl, subst, arith, slice_set, slice_get-get_or}
+use Rattle.xa_base.proofs.{◌-◌, ◌<◌, length, List, Some, sym, ap, ◌∙◌, refl, arith, slice_set, slice_get-get_or}
 use Rattle.xa_worker.specs.{WorkerView}
-use Rattle.xa_crew.specs.{TakesTurn}
 use Rattle.xa_crew.proofs.WorkersOn.{had_turn, turn_goes}
 use Rattle.xa_crew.proofs.turns.Turns.turn.Goals as goal
 
@@ -9,8 +8,7 @@ returns-clause-turn g c =
     let i = c.args.manager - 1 in
     let many = ap (λ (l : List WorkerView). length l) c.self.view_is in
     let inside : i < length c.self.inside.workers.items = let low = c.requires.0 in let high = c.requires.1 in omega (arith, many, low, high) in
-    subst (λ (l : List WorkerView). TakesTurn c.args.manager c.step.result l (slice_set c.self.inside.workers.items i c.step.new.self)) c.self.view_is
-    (record {
+    rw (← c.self.view_is) (record {
       before = c.index_mut.result.now;
       after = c.step.new.self;
       at = slice_get-get_or c.self.inside.workers.items i c.index_mut.result.now inside ∙ ap (λ (w : WorkerView). Some w) (sym c.index_mut.ensures.value);

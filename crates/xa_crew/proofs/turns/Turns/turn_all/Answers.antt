@@ -1,12 +1,8 @@
-use Rattle.xa_base.proofs.{◌≡◌, ◌<◌, length, List, slice_set, slice_get, Some, sym, ap, ◌∙◌, subst, arith, slice_get-get_or}
+use Rattle.xa_base.proofs.{◌≡◌, ◌<◌, length, slice_set, slice_get, Some, sym, ap, ◌∙◌, arith, slice_get-get_or}
 use Rattle.xa_worker.specs.{WorkerView}
-use Rattle.xa_base.specs.{Pairwise}
-use Rattle.xa_crew.specs.{AllGoOn, HadSomeTurn, all_stay, all_go_on}
-use Rattle.xa_crew.proofs.WorkersOn.{had_turn, one_goes_on, none_turned, one_more_turned, all_turned}
+use Rattle.xa_crew.specs.{all_go_on}
+use Rattle.xa_crew.proofs.WorkersOn.{had_turn, one_goes_on, one_more_turned, all_turned}
 use Rattle.xa_crew.proofs.turns.Turns.turn_all.Goals as goal
-
-pub loop-place-init : goal.loop-place-init
-loop-place-init g c = record { turned = none_turned c.self.inside.workers.items; on = all_stay c.self.inside.workers.items }
 
 pub loop-place-preserved : goal.loop-place-preserved
 loop-place-preserved g c =
@@ -24,9 +20,5 @@ loop-place-preserved g c =
 
 pub returns-clause-turns : goal.returns-clause-turns
 returns-clause-turns g c =
-    subst (λ (l : List WorkerView). Pairwise HadSomeTurn l c.loop-place.self-inside.workers.items) c.self.view_is
-    (all_turned c.loop-place.place c.self.inside.workers.items c.loop-place.self-inside.workers.items
+    rw c.self.view_is at (all_turned c.loop-place.place c.self.inside.workers.items c.loop-place.self-inside.workers.items
     (let z = c.loop-place-test.false in omega arith) c.loop-place.invariant.turned)
-
-pub returns-clause-on : goal.returns-clause-on
-returns-clause-on g c = subst (λ (l : List WorkerView). AllGoOn l c.loop-place.self-inside.workers.items) c.self.view_is c.loop-place.invariant.on

@@ -1,11 +1,8 @@
-use Rattle.xa_driver.proofs.Requests.{same_itself}
-use Rattle.xa_driver.proofs.Idling.{round_idles}
-use Rattle.xa_driver.proofs.Ordering.{far_in_order}
+use Rattle.xa_driver.proofs.Progress.{round_idles, far_in_order}
 use Rattle.xa_driver.proofs.round.Round.begin_to_collect.Goals as goal
 
 pub returns-clause-waited : goal.returns-clause-waited
-returns-clause-waited g c =
-    round_idles _ _ (c.send_all.ensures.same _ (same_itself c.args.self.now.asks.items)) c.send_all.ensures.waited c.collect_first.ensures.waited
+returns-clause-waited g c = round_idles c.send_all.ensures.same c.send_all.ensures.waited c.collect_first.ensures.waited
 
 pub returns-clause-ordered : goal.returns-clause-ordered
 returns-clause-ordered g c =

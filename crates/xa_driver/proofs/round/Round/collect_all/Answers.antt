@@ -1,11 +1,7 @@
 use Rattle.xa_base.proofs.{refl, ◌<◌, length, ◌∙◌, arith, rules}
 use Rattle.xa_driver.proofs.Requests.{same_itself}
-use Rattle.xa_driver.proofs.Idling.{idles_start, collect_on, collect_reaches}
-use Rattle.xa_driver.proofs.Ordering.{collects_nothing, collects_on, step_collects}
+use Rattle.xa_driver.proofs.Progress.{collect_on, collect_reaches, collects_on, step_collects}
 use Rattle.xa_driver.proofs.round.Round.collect_all.Goals as goal
-
-pub loop-place-init : goal.loop-place-init
-loop-place-init g c = grind (arith, idles_start, collects_nothing)
 
 pub loop-place-preserved : goal.loop-place-preserved
 loop-place-preserved g c =

@@ -1,13 +1,9 @@
 use Rattle.xa_base.proofs.{refl, if◌then◌else◌, ◌≡◌, ◌≢◌, ℕ, ◌+◌, ◌-◌, ◌<◌, Bool, false, inl, length, sym, true, ◌∙◌, arith, eqb-false}
 use Rattle.xa_driver.specs.{is_passed, next_collected}
-use Rattle.xa_driver.proofs.Ordering.{OneCollected, first_so_many, one_collected, collects_nothing, collects_on, step_collects}
+use Rattle.xa_driver.proofs.Progress.{OneCollected, first_so_many, one_collected, collects_on, step_collects, collect_on}
 use Rattle.xa_driver.proofs.Requests.{same_itself}
-use Rattle.xa_driver.proofs.Idling.{idles_start, collect_on}
 use Rattle.xa_driver.proofs.round.Round.collect_first.Goals as goal
 use Rattle.xa_driver.proofs.round.Round.collect_first.Goals.{then-not-is_unasked, else-not-is_unasked}
-
-pub answers-init : goal.answers-init
-answers-init g c = grind (arith, idles_start, collects_nothing)
 
 one_less : (b : Bool) (before now : ℕ) → b ≡ false → 0 < before → now ≡ before - 1 → (if b then 0 else 1) + now ≡ before
 one_less b before now e some is = grind arith

@@ -1,6 +1,6 @@
 use Rattle.xa_base.proofs.{refl, ◌∙◌, sym}
 use Rattle.xa_driver.specs.{CollectsNothing}
-use Rattle.xa_driver.proofs.Idling.{collect_passes, none_passed}
+use Rattle.xa_driver.proofs.Progress.{collect_passes, none_passed}
 use Rattle.xa_driver.proofs.round.Round.collect_next.Goals as goal
 
 pub passed-init : goal.passed-init

@@ -1,6 +1,6 @@
 use Rattle.xa_base.proofs.{length}
 use Rattle.xa_driver.specs.{CollectsNothing}
-use Rattle.xa_driver.proofs.Idling.{Passed}
+use Rattle.xa_driver.proofs.Progress.{Passed}
 use Rattle.xa_driver.proofs.round.Round.collect_next.Given as goal
 
 -- those so far were asked nothing, so nothing was collected

@@ -1,9 +1,6 @@
-use Rattle.xa_base.proofs.{subst, ap, ◌∙◌}
-use Rattle.xa_desk.specs.{DeskView}
-use Rattle.xa_driver.specs.{KeepsTheRest}
-use Rattle.xa_driver.proofs.Requests.{same_itself, rest_kept}
-use Rattle.xa_driver.proofs.Idling.{round_idles}
-use Rattle.xa_driver.proofs.Ordering.{finished_in_order}
+use Rattle.xa_base.proofs.{ap, ◌∙◌}
+use Rattle.xa_driver.proofs.Requests.{rest_kept}
+use Rattle.xa_driver.proofs.Progress.{round_idles, finished_in_order}
 use Rattle.xa_driver.proofs.Stepping.{all_answered}
 use Rattle.xa_driver.proofs.round.Round.finish.Goals as goal
 
@@ -11,12 +8,10 @@ pub returns-clause-keeps : goal.returns-clause-keeps
 returns-clause-keeps g c =
     let r = c.collect_all.new.self in
     let u = c.collect_all.ensures.under_way in
-    subst (λ (d : DeskView). KeepsTheRest d c.collect_all.new.desk) (ap (λ b. b.value) (c.collect_all.ensures.before ∙ c.send_all.ensures.before))
-    (rest_kept r.asks.items r.before.value c.collect_all.new.desk (all_answered r c.collect_all.new.desk u c.collect_all.ensures.all) u.keeps)
+    rw (ap (λ b. b.value) (c.collect_all.ensures.before ∙ c.send_all.ensures.before)) at (rest_kept r.asks.items r.before.value c.collect_all.new.desk (all_answered r c.collect_all.new.desk u c.collect_all.ensures.all) u.keeps)
 
 pub returns-clause-waited : goal.returns-clause-waited
-returns-clause-waited g c =
-    round_idles _ _ (c.send_all.ensures.same _ (same_itself c.args.self.now.asks.items)) c.send_all.ensures.waited c.collect_all.ensures.waited
+returns-clause-waited g c = round_idles c.send_all.ensures.same c.send_all.ensures.waited c.collect_all.ensures.waited
 
 pub returns-clause-ordered : goal.returns-clause-ordered
 returns-clause-ordered g c =

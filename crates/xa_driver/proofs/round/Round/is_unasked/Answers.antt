@@ -1,5 +1,5 @@
 use Rattle.xa_base.proofs.{refl, ◌≢◌, arith, length, eqb-false}
-use Rattle.xa_driver.proofs.Idling.{unasked_is}
+use Rattle.xa_driver.proofs.Progress.{unasked_is}
 use Rattle.xa_driver.proofs.round.Round.is_unasked.Goals as goal
 
 pub returns-then-not-is_empty : goal.returns-then-not-is_empty

@@ -1,11 +1,7 @@
 use Rattle.xa_base.proofs.{refl, ◌<◌, length, ◌∙◌, arith, rules}
 use Rattle.xa_driver.proofs.Requests.{same_itself}
-use Rattle.xa_driver.proofs.Idling.{idles_start, send_on, send_reaches}
-use Rattle.xa_driver.proofs.Ordering.{sends_on, step_sends, step_sends_keeps, sends_stay}
+use Rattle.xa_driver.proofs.Progress.{send_on, send_reaches, sends_on, step_sends, step_sends_keeps}
 use Rattle.xa_driver.proofs.round.Round.send_all.Goals as goal
-
-pub loop-place-init : goal.loop-place-init
-loop-place-init g c = grind (arith, idles_start, sends_stay)
 
 pub loop-place-preserved : goal.loop-place-preserved
 loop-place-preserved g c =

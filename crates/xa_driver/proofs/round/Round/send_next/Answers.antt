@@ -1,6 +1,6 @@
 use Rattle.xa_base.proofs.{refl, ◌∙◌, sym}
 use Rattle.xa_driver.specs.{SendsNothing}
-use Rattle.xa_driver.proofs.Idling.{send_passes, none_passed}
+use Rattle.xa_driver.proofs.Progress.{send_passes, none_passed}
 use Rattle.xa_driver.proofs.round.Round.send_next.Goals as goal
 
 pub passed-init : goal.passed-init

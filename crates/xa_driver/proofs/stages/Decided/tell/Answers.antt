@@ -1,6 +1,6 @@
 use Rattle.xa_base.proofs.{map}
 use Rattle.xa_driver.specs.{second_ask}
-use Rattle.xa_driver.proofs.Ordering.{whole_in_order}
+use Rattle.xa_driver.proofs.Progress.{whole_in_order}
 use Rattle.xa_driver.proofs.stages.Decided.tell.Goals as goal
 
 pub returns-clause-told : goal.returns-clause-told

@@ -1,6 +1,6 @@
 use Rattle.xa_base.proofs.{map}
 use Rattle.xa_driver.specs.{third_ask}
-use Rattle.xa_driver.proofs.Ordering.{whole_in_order}
+use Rattle.xa_driver.proofs.Progress.{whole_in_order}
 use Rattle.xa_driver.proofs.stages.Told.forget.Goals as goal
 
 pub returns-clause-forgot : goal.returns-clause-forgot
