@@ -1,19 +1,19 @@
 -- Several records in the free slots of a file, one after another.
-use Rattle.xa_base.proofs.{rules, ◌≡◌, ◌≢◌, ◌⊎◌, inl, inr, ⊎_elim, ℕ, zero, suc, ◌+◌, ◌-◌, ◌*◌, ◌<◌, ◌≤◌, List, [], ◌∷◌, ◌++◌, length, get_or, map, take, drop}
-use Rattle.xa_base.proofs.{refl, sym, ◌∙◌, ap, subst, arith, All, Contains, cases_lt, length-map, length-drop, drop_all, Bool, None, Some, set, length-set}
-use Rattle.xa_base.proofs.{get_or-set_same, get_or_default, got, All-contains, Option, get_or_past, drop-drop, drop_more, sum_by-cons, get_or_from_slice_get}
-use Rattle.std.proofs.lemmas.List.{get_or-drop}
+use Rattle.xa_base.proofs.{take_all, rules, ◌≡◌, ◌≢◌, ◌⊎◌, inl, inr, ⊎_elim, ℕ, zero, suc, ◌+◌, ◌-◌, ◌*◌, ◌<◌, ◌≤◌, List, [], ◌∷◌, ◌++◌, length, get_or, map}
+use Rattle.xa_base.proofs.{take, drop, refl, sym, ◌∙◌, ap, subst, arith, All, Contains, cases_lt, length-map, Bool, None, Some, set, length-set}
+use Rattle.xa_base.proofs.{get_or-set_same, get_or_default, got, All-contains, Option, get_or_past, drop_more, sum_by-cons, get_or_from_slice_get}
+use Rattle.std.proofs.lemmas.List.{length-take}
+use Rattle.std.proofs.lemmas.List.Sums.{count_by-le-length}
 use Rattle.xa_log.specs.{CommitRecord, LogState, Records, record_in, record_of, with_record, with_records, AreNew}
-use Rattle.xa_file_log.specs.{Slot, Free, Taken, Forgotten, Elapses, LeavesOnly, Only, Torn, spelling, IsValid, AreApart, IsSlotOf, StandsFor, on_file}
-use Rattle.xa_file_log.specs.{table_of, filled, placed, coming, used, HasBodies, HasNoFree, HasRoomFor, MayHave, MayShow, HasWithAnyOf, IsOneOf, ForgetsNoMore}
-use Rattle.xa_file_log.specs.{name_of, records_of, taken, records_in, forgotten_in, name_at, HasNoName, forgotten}
+use Rattle.xa_file_log.specs.{Slot, Free, Taken, Forgotten, Elapses, LeavesOnly, Only, Torn, spelling, IsValid, AreApart, StandsFor, on_file, table_of, filled}
+use Rattle.xa_file_log.specs.{placed, coming, used, is_used, HasBodies, HasNoFree, HasRoomFor, MayHave, MayShow, HasWithAnyOf, IsOneOf, ForgetsNoMore, name_of}
+use Rattle.xa_file_log.specs.{records_of, taken, records_in, forgotten_in, HasNoName, forgotten}
 use Rattle.xa_words.specs.{TranName}
 use Rattle.xa_file_log.proofs.Tables.{whole_part, forgotten_part, names_apart, apart_set, takes_record, name_set, at_map, none_or_at, part_found}
-use Rattle.xa_file_log.proofs.Places.{weight, weighs, used_left, put_at, used_set}
+use Rattle.xa_file_log.proofs.Places.{weight, weighs, used_next, none_free_used, put_at, used_set}
 use Rattle.xa_file_log.proofs.Stands.{HasSlots, Between, Has, slots_as, gate_torn, ends, slots_of, stands_of, shown_of, surely, open_slot, still_free}
-use Rattle.xa_file_log.proofs.Stands.{stands_shown, stage_torn}
+use Rattle.xa_file_log.proofs.Stands.{stands_shown, stage_torn, MayBeShut, same_records, no_more, shows_records}
 use Rattle.xa_file_log.proofs.Moments.{goes_on, weaker, joined, torn_is_overwritten}
-use Rattle.xa_file_log.proofs.Appending.{MayBeShut, same_records, no_more, shows_records}
 use Rattle.std.specs.FinMap as finmap
 
 -- PLACED
@@ -59,74 +59,61 @@ none_filled f (s ∷ slots) = ap (λ (l : List Slot). s ∷ l) (none_filled f sl
 pub coming_on_file : (slots : List Slot) (rs : List CommitRecord) → table_of (coming slots rs) ≡ table_of (placed slots rs)
 coming_on_file = filled_alike on_file Forgotten Taken (λ r. refl)
 
--- ON THE WAY: the slots before n are done, and have the first i records
+-- ON THE WAY
+-- a free slot gets the record after as many as there were free slots before it
+placed_new : (slots : List Slot) (rs : List CommitRecord) (n i : ℕ) (r : CommitRecord) → n < length slots → get_or slots n Free ≡ Free
+    → i + used (take n slots) ≡ n → i < length rs → r ≡ get_or rs i r → get_or (placed slots rs) n Free ≡ Taken r
+placed_new [] rs n i r below free gone more read = absurd (omega (arith, below))
+placed_new (Free ∷ slots) (x ∷ rs) zero i r below free gone more read = search (arith, rules)
+placed_new (Free ∷ slots) (x ∷ rs) (suc n) zero r below free gone more read = search (arith, sum_by-cons weight, count_by-le-length is_used, length-take)
+placed_new (Free ∷ slots) (x ∷ rs) (suc n) (suc i) r below free gone more read = search (arith, placed_new slots rs n i r, sum_by-cons weight)
+placed_new (s ∷ slots) rs zero i r below free gone more read = grind (arith, free, more)
+placed_new (s ∷ slots) rs (suc n) i r below free gone more read =
+    placed_new slots rs n i r (omega (arith, below)) free (omega (arith, gone, more, sum_by-cons weight s (take n slots))) more read
+
+-- once all records are placed the slots stay
+placed_past : (slots : List Slot) (rs : List CommitRecord) (n k : ℕ) → length rs + used (take n slots) ≤ n → n ≤ k
+    → get_or (placed slots rs) k Free ≡ get_or slots k Free
+placed_past slots [] n k all from = ap (λ (l : List Slot). get_or l k Free) (none_filled Taken slots)
+placed_past [] rs n k all from = refl
+placed_past (s ∷ slots) rs zero k all from = absurd (omega (arith, all))
+placed_past (s ∷ slots) rs (suc n) zero all from = absurd (omega (arith, from))
+placed_past (Free ∷ slots) (x ∷ rs) (suc n) (suc k) all from = search (arith, placed_past slots rs n k, sum_by-cons weight)
+placed_past (s ∷ slots) rs (suc n) (suc k) all from = placed_past slots rs n k (omega (arith, all, sum_by-cons weight s (take n slots))) (omega (arith, from))
+
+-- the slots before n are done, and have the first i records
 pub record IsOnTheWay (slots : List Slot) (rs : List CommitRecord) (n i : ℕ) : Type 0 where
   pub few : i ≤ length rs
-  pub room : used (drop n slots) + length (drop i rs) ≤ length (drop n slots)
-  pub rest : drop n (placed slots rs) ≡ placed (drop n slots) (drop i rs)
+  pub gone : i + used (take n slots) ≡ n
 
--- over a slot that isn't free
-over : (s : Slot) (slots : List Slot) (rs : List CommitRecord) → (s ≡ Free → ⊥) → drop 1 (placed (s ∷ slots) rs) ≡ placed slots rs
-over s slots rs differs = search (arith, rules)
+-- up to the first that is free
+pub way_from : (slots : List Slot) (rs : List CommitRecord) (n : ℕ) → n ≤ length slots → HasNoFree slots n → IsOnTheWay slots rs n 0
+way_from slots rs n few none = record { few = omega arith; gone = omega (arith, none_free_used slots n few none) }
 
-pub way_passes : {slots : List Slot} {rs : List CommitRecord} {n i : ℕ} → IsOnTheWay slots rs n i → n < length slots
-    → (get_or slots n Free ≡ Free → ⊥) → IsOnTheWay slots rs (n + 1) i
-way_passes {slots} {rs} {n} {i} way below differs =
-    let one = weighs (get_or slots n Free) differs in
-    record {
-      few = way.few;
-      room = omega (arith, way.room, used_left slots n below, one, length-drop n slots, length-drop (n + 1) slots);
-      rest = search (arith, drop-drop 1 n (placed slots rs), way.rest, drop_more slots n Free below, over (get_or slots n Free) (drop (n + 1) slots) (drop i rs) differs);
-    }
+module _ {slots : List Slot} {rs : List CommitRecord} {n i : ℕ} (way : IsOnTheWay slots rs n i) (below : n < length slots) where
+  -- over a slot that isn't free
+  pub way_passes : (get_or slots n Free ≡ Free → ⊥) → IsOnTheWay slots rs (n + 1) i
+  way_passes differs = record { few = way.few; gone = omega (arith, way.gone, used_next slots n below, weighs (get_or slots n Free) differs) }
+
+  -- into one that is
+  pub way_takes : get_or slots n Free ≡ Free → i ≢ length rs → (r : CommitRecord) → r ≡ get_or rs i r
+      → (get_or (placed slots rs) n Free ≡ Taken r) × IsOnTheWay slots rs (n + 1) (i + 1)
+  way_takes free left r read =
+      let more : i < length rs = omega (arith, way.few, left) in
+      (placed_new slots rs n i r below free way.gone more read, record { few = omega (arith, more); gone = omega (arith, way.gone, used_next slots n below, ap weight free) })
+
+  pub next_taken : get_or slots n Free ≡ Free → i ≢ length rs
+      → (r : CommitRecord) × (get_or (placed slots rs) n Free ≡ Taken r) × IsOnTheWay slots rs (n + 1) (i + 1)
+  next_taken free left =
+      let at = got rs i (omega (arith, way.few, left)) in
+      let new = way_takes free left at.0 (sym (get_or_from_slice_get rs i at.0 at.0 at.1)) in (at.0, new.0, new.1)
+
+-- at the end of the slots all are placed
+pub way_done : (slots : List Slot) (rs : List CommitRecord) {n : ℕ} → HasRoomFor slots (length rs) → length slots ≤ n → length rs + used (take n slots) ≤ n
+way_done slots rs {n} room past = omega (arith, room, past, ap used (take_all n slots past))
 
 pub records_left : (rs : List CommitRecord) (i : ℕ) (r : CommitRecord) → i < length rs → r ≡ get_or rs i r → drop i rs ≡ r ∷ drop (i + 1) rs
 records_left rs i r below is = drop_more rs i r below ∙ ap (λ (x : CommitRecord). x ∷ drop (i + 1) rs) (sym is)
-
-module _ {slots : List Slot} {rs : List CommitRecord} {n i : ℕ} (way : IsOnTheWay slots rs n i) (below : n < length slots)
-    (free : get_or slots n Free ≡ Free) (r : CommitRecord) (more : i < length rs) (read : r ≡ get_or rs i r) where
-  this_left : drop n (placed slots rs) ≡ Taken r ∷ placed (drop (n + 1) slots) (drop (i + 1) rs)
-  this_left = search (arith, drop_more, records_left)
-
-  -- into one that is
-  pub way_takes : IsOnTheWay slots rs (n + 1) (i + 1)
-  way_takes =
-      let none = ap weight free in
-      record {
-        few = omega (arith, more);
-        room = omega (arith, way.room, used_left slots n below, none, length-drop n slots, length-drop (n + 1) slots, length-drop i rs, length-drop (i + 1) rs);
-        rest = sym (drop-drop 1 n (placed slots rs)) ∙ ap (λ (l : List Slot). drop 1 l) this_left;
-      }
-
-  pub way_new : get_or (placed slots rs) n Free ≡ Taken r
-  way_new = search (arith, get_or-drop n (placed slots rs) 0 Free, this_left)
-
-pub next_taken : {slots : List Slot} {rs : List CommitRecord} {n i : ℕ} → IsOnTheWay slots rs n i → n < length slots → get_or slots n Free ≡ Free
-    → i ≢ length rs → (r : CommitRecord) × (get_or (placed slots rs) n Free ≡ Taken r) × IsOnTheWay slots rs (n + 1) (i + 1)
-next_taken {rs = rs} {i = i} way below free left =
-    let more : i < length rs = omega (arith, way.few, left) in
-    let at = got rs i more in
-    let read = sym (get_or_from_slice_get rs i at.0 at.0 at.1) in
-    (at.0, way_new way below free at.0 more read, way_takes way below free at.0 more read)
-
--- once all records are placed
-pub way_ends : {slots : List Slot} {rs : List CommitRecord} {n i : ℕ} → IsOnTheWay slots rs n i → drop i rs ≡ [] → (k : ℕ) → n ≤ k
-    → get_or (placed slots rs) k Free ≡ get_or slots k Free
-way_ends {slots} {rs} {n} way none k from =
-    let e : n + (k - n) ≡ k = omega arith in
-    search (arith, get_or-drop, none_filled)
-
--- at the end of the slots all are
-pub way_done : {slots : List Slot} {rs : List CommitRecord} {n i : ℕ} → IsOnTheWay slots rs n i → length slots ≤ n → drop i rs ≡ []
-way_done {slots} {rs} {n} {i} way past = search (arith, drop_all, length-drop)
-
--- up to the first that is free
-pub way_from : (slots : List Slot) (rs : List CommitRecord) (n : ℕ) → HasRoomFor slots (length rs) → n ≤ length slots → HasNoFree slots n
-    → IsOnTheWay slots rs n 0
-way_from slots rs zero room few none = search (arith, rules)
-way_from slots rs (suc n) room few none =
-    let e : n + 1 ≡ suc n = omega arith in
-    subst (λ (m : ℕ). IsOnTheWay slots rs m 0) e
-    (way_passes (way_from slots rs n room (omega arith) (λ k below. none k (omega arith))) (omega arith) (none n (omega arith)))
 
 -- the body of a record that is placed stands in its slot
 abbrev pub HasItsBody : List Slot → List CommitRecord → ℕ → List ℕ → Type 0
@@ -184,48 +171,41 @@ module _ {slots : List Slot} {rs : List CommitRecord} where
   body_put {r = r} {body = body} free this spells is = search (arith, still_free, is.free)
 
   -- all bodies are there
-  pub bodies_written : {n i : ℕ} {file : List ℕ} → AreApart (table_of slots) → IsOnTheWay slots rs n i → drop i rs ≡ []
-      → HasSlots (length slots) (Between (IsBodied slots rs) (Has on_file slots) n) file → StandsFor (table_of slots) file × HasBodies slots rs file
-  bodies_written apart way none so_far =
+  pub bodies_written : {n : ℕ} {file : List ℕ} → AreApart (table_of slots) → HasSlots (length slots) (Between (IsBodied slots rs) (Has on_file slots) n) file
+      → length rs + used (take n slots) ≤ n → StandsFor (table_of slots) file × HasBodies slots rs file
+  bodies_written {n} apart so_far all =
       let has =
-      ends so_far (λ k below from is. record { is = is; body = λ r free new. let same = way_ends way none k from ∙ free in absurd (cc (same, new)) }) in
+      ends so_far (λ k below from is. record { is = is; body = λ r free new. let same = placed_past slots rs n k all from ∙ free in absurd (cc (same, new)) }) in
       (stands_of whole_part slots (slots_as refl has (λ k below is. is.is)) apart, has_bodies has)
 
   -- OPENING
-  as_placed : {k : ℕ} {bytes : List ℕ} → get_or (placed slots rs) k Free ≡ get_or slots k Free → IsBodied slots rs k bytes
-      → Has on_file (placed slots rs) k bytes
-  as_placed {bytes = bytes} same was = subst (λ (s : Slot). IsSlotOf (on_file s) bytes) (sym same) was.is
-
   pub not_opened : {k : ℕ} {bytes : List ℕ} → (get_or slots k Free ≡ Free → ⊥) → IsBodied slots rs k bytes → Has on_file (placed slots rs) k bytes
-  not_opened {k} differs was = as_placed (stays slots rs k differs) was
+  not_opened {k} differs was = rw (stays slots rs k differs) was.is
 
   -- the gates before n are open
-  pub all_open : {n i : ℕ} {file : List ℕ} → AreApart (table_of (placed slots rs)) → IsOnTheWay slots rs n i → drop i rs ≡ []
-      → HasSlots (length slots) (Between (Has on_file (placed slots rs)) (IsBodied slots rs) n) file → StandsFor (table_of (placed slots rs)) file
-  all_open apart way none so_far =
+  pub all_open : {n : ℕ} {file : List ℕ} → AreApart (table_of (placed slots rs))
+      → HasSlots (length slots) (Between (Has on_file (placed slots rs)) (IsBodied slots rs) n) file → length rs + used (take n slots) ≤ n
+      → StandsFor (table_of (placed slots rs)) file
+  all_open {n} apart so_far all =
       stands_of whole_part (placed slots rs)
-      (slots_as (length-filled Taken slots rs) (ends so_far (λ k below from was. as_placed (way_ends way none k from) was)) (λ k below is. is)) apart
+      (slots_as (length-filled Taken slots rs) (ends so_far (λ k below from was. rw (placed_past slots rs n k all from) was.is)) (λ k below is. is)) apart
 
   pub comes : {k : ℕ} {bytes : List ℕ} → IsBodied slots rs k bytes → MayCome slots rs k bytes
   comes {k} was = record { may = still_shut slots rs k was.is; body = was.body }
 
   pub comes_shown : {file : List ℕ} → AreApart (table_of (placed slots rs)) → HasSlots (length slots) (MayCome slots rs) file → MayShow (coming slots rs) file
-  comes_shown apart has =
-      shown_of (slots_as (length-filled Forgotten slots rs) has (λ k below is. is.may)) (subst AreApart (sym (coming_on_file slots rs)) apart)
+  comes_shown apart has = shown_of (slots_as (length-filled Forgotten slots rs) has (λ k below is. is.may)) (rw (coming_on_file slots rs) apart)
 
   module _ (valid : All IsValid rs) {n : ℕ} {r : CommitRecord} (free : get_or slots n Free ≡ Free) (this : get_or (placed slots rs) n Free ≡ Taken r) where
     pub gate_opened : {bytes : List ℕ} → IsBodied slots rs n bytes → Has on_file (placed slots rs) n (255 ∷ drop 1 bytes)
     gate_opened {bytes} was = rw this (open_slot (was.body r free this) (is_new slots rs n r valid free this).1)
 
-    may_open : {bytes : List ℕ} → MayCome slots rs n bytes → MayCome slots rs n (255 ∷ drop 1 bytes)
-    may_open {bytes} was = record {
-      may = rw (is_new slots rs n r valid free this).0 (surely (open_slot (was.body r free this) (is_new slots rs n r valid free this).1));
-      body = was.body;
-    }
-
     pub opens_torn : {d c : List ℕ} → n < length slots → HasSlots (length slots) (MayCome slots rs) d → Torn (18 + 94 * n) (255 ∷ []) d c
         → HasSlots (length slots) (MayCome slots rs) c
-    opens_torn below has torn = gate_torn n 255 has below (may_open (has.each n below)) torn
+    opens_torn below has torn =
+        let new = is_new slots rs n r valid free this in
+        let was = (has.each n below).body in
+        gate_torn n 255 has below (record { may = rw new.0 (surely (open_slot (was r free this) new.1)); body = was }) torn
 
 -- while a body is written
 pub body_torn : (slots : List Slot) {n : ℕ} {body d c : List ℕ} → n < length slots → get_or slots n Free ≡ Free → length body ≡ 93
@@ -234,7 +214,7 @@ body_torn slots {n} {body} {d} {c} below free size stands torn =
     stage_torn slots n stands below free size (torn_is_overwritten (18 + 94 * n + 1) body d c (omega (arith, length-map slots on_file, stands.size)) torn)
 
 pub placed_shown : (slots : List Slot) (rs : List CommitRecord) (file : List ℕ) → StandsFor (table_of (placed slots rs)) file → MayShow (coming slots rs) file
-placed_shown slots rs file stands = stands_shown (coming slots rs) file (subst (λ t. StandsFor t file) (sym (coming_on_file slots rs)) stands)
+placed_shown slots rs file stands = stands_shown (coming slots rs) file (rw (coming_on_file slots rs) stands)
 
 -- GROUPED
 -- the first record goes into the first free slot
@@ -284,7 +264,7 @@ pub record IsGrouped (slots : List Slot) (log : LogState) (rs : List CommitRecor
 pub grouped : (rs : List CommitRecord) (slots : List Slot) (log : LogState) → HasRoomFor slots (length rs) → AreApart (table_of slots)
     → records_in slots ≡ log.records → AreNew log rs → All (λ r. HasNoName slots r.tran) rs → IsGrouped slots log rs
 grouped [] slots log room apart same new unnamed =
-    record { apart = subst (λ (l : List Slot). AreApart (table_of l)) (sym (none_filled Taken slots)) apart; records = ap records_in (none_filled Taken slots) ∙ same }
+    record { apart = rw (none_filled Taken slots) apart; records = ap records_in (none_filled Taken slots) ∙ same }
 grouped (r ∷ rs) slots log room apart same new unnamed =
     let at = first_placed slots r rs (omega arith) in
     let more : used (set slots at.0 (Taken r)) ≡ used slots + 1 = used_set slots at.0 r at.1 at.2 in
@@ -323,13 +303,13 @@ comes_with {slots} {mid} rs moved apart c shown =
 pub first_is_new : (slots : List Slot) (r : CommitRecord) (rs : List CommitRecord) (p : ℕ) → p < length slots → get_or slots p Free ≡ Free
     → HasNoFree slots p → AreApart (table_of (placed slots (r ∷ rs))) → HasNoName slots r.tran
 first_is_new slots r rs p below free none apart k named =
-    let here = stays slots (r ∷ rs) k (λ is. let nameless = ap (λ (s : Slot). name_of (on_file s)) is in absurd (cc (nameless, named))) in
+    let here : get_or (placed slots (r ∷ rs)) k Free ≡ get_or slots k Free = search (arith, stays) in
     let set_there = get_or-set_same slots p (Taken r) Free below in
-    let there = stays (set slots p (Taken r)) rs p (λ is. absurd (cc (is, set_there))) ∙ set_there in
-    let same : k ≡ p = names_apart (placed slots (r ∷ rs)) apart k p r.tran (ap (λ (s : Slot). name_of (on_file s)) here ∙ named)
-    (ap (λ (l : List Slot). name_at l p) (placed_first slots p r rs below free none) ∙ ap (λ (s : Slot). name_of (on_file s)) there) in
-    let nameless = ap (λ (j : ℕ). name_at slots j) same ∙ ap (λ (s : Slot). name_of (on_file s)) free in
-    absurd (cc (nameless, named))
+    let there : get_or (placed slots (r ∷ rs)) p Free ≡ Taken r =
+    rw (placed_first slots p r rs below free none) (stays (set slots p (Taken r)) rs p (λ is. absurd (cc (is, set_there))) ∙ set_there) in
+    let same =
+    names_apart (placed slots (r ∷ rs)) apart k p r.tran (ap (λ (s : Slot). name_of (on_file s)) here ∙ named) (ap (λ (s : Slot). name_of (on_file s)) there) in
+    search (arith, free)
 
 -- a crash before any of them
 pub before_group : (slots : List Slot) (rs : List CommitRecord) (c : List ℕ) → MayShow slots c → HasWithAnyOf (records_in slots) (forgotten_in slots) rs c
@@ -350,4 +330,4 @@ pub group_runs : {slots mid : List Slot} {rs : List CommitRecord} {D : Type 0} {
     → LeavesOnly moment left_since old new (HasWithAnyOf (records_in slots) (forgotten_in slots) rs)
 group_runs {slots} {mid} {rs} moved apart same first second =
     joined (weaker (before_group slots rs) first) (weaker (λ c may.
-    comes_with rs moved apart c (subst (λ (l : List Slot). MayShow (coming l rs) c) same may)) second)
+    comes_with rs moved apart c (rw same at may)) second)

@@ -1,11 +1,13 @@
--- What a crash leaves at each moment of a run of device calls: of writes, of their syncs, and of the calls that were made.
-use Rattle.xa_base.proofs.{inl, inr, ℕ, List, arith, ◌≡◌, ◌+◌, ◌-◌, ◌≤◌, ◌++◌, length, take, drop, refl, ◌∙◌, ap, subst, append_assoc, length-append}
-use Rattle.xa_base.proofs.{length-drop, take-append-drop, rules, Bool, cond, [], ◌∷◌, Vec, take_all, cases_lt, drop_at, drop-drop, take-append-le, take-take}
-use Rattle.xa_base.proofs.{drop-append-le, drop-take}
+-- What a crash leaves at each moment: of the calls of a device, of writes, and while a log is made.
+use Rattle.xa_base.proofs.{inl, inr, ℕ, List, arith, ◌≡◌, ◌+◌, ◌-◌, ◌≤◌, ◌++◌, length, take, drop, refl, ◌∙◌, ap, append_assoc, length-append, length-drop}
+use Rattle.xa_base.proofs.{take-append-drop, rules, Bool, [], ◌∷◌, Vec, take_all, cases_lt, drop_at, drop-drop, take-append-le, take-take, drop-append-le}
+use Rattle.xa_base.proofs.{drop-take, ◌≢◌, zero, suc, ◌*◌, ◌<◌, None, Some, get_or, replicate, sym, append-nil, drop_all, length-replicate, get_or-replicate}
+use Rattle.xa_base.proofs.{take-replicate, drop-replicate, take_at}
 use Rattle.std.proofs.lemmas.List.{length-take-le}
 use Rattle.std.specs.declared.alloc.Global.{Global}
 use Rattle.xa_file_log.specs.{Elapses, LeavesOnly, overwritten, IsOverwritten, Torn, Follows, Only, Past, left_after, left_by, leaves, writing, LeftSince}
-use Rattle.xa_file_log.specs.{failed, failures, Call}
+use Rattle.xa_file_log.specs.{failed, failures, Call, head, slot, name_of, AreApart, StandsFor, IsNoLog, IsNewLog, free_slots}
+use Rattle.xa_words.specs.{TranName}
 
 -- MOMENTS
 module _ {D : Type 0} {moment : D → ℕ} {left_since : D → ℕ → List ℕ → Type 0} where
@@ -107,7 +109,7 @@ left_by_push before (e ∷ past) call bytes c left = left_by_push (left_after e.
 -- what one call more leaves of what there was
 pub leaves_to : (past later : Past) (call : Call) (bytes : Vec ℕ Global) (c : List ℕ) → later ≡ past ++ (call, bytes) ∷ [] → leaves later c
     → left_after call bytes.items (leaves past) c
-leaves_to past later call bytes c is left = left_by_push (λ _. ⊥) past call bytes c (subst (λ (p : Past). leaves p c) is left)
+leaves_to past later call bytes c is left = left_by_push (λ _. ⊥) past call bytes c (rw is at left)
 
 failures_push : (past : Past) (call : Call) (bytes : Vec ℕ Global) → failures (past ++ (call, bytes) ∷ []) ≡ failed call + failures past
 failures_push [] call bytes = refl
@@ -116,14 +118,9 @@ failures_push (e ∷ past) call bytes = omega (arith, failures_push past call by
 pub failures_to : (past later : Past) (call : Call) (bytes : Vec ℕ Global) → later ≡ past ++ (call, bytes) ∷ [] → failures later ≡ failed call + failures past
 failures_to past later call bytes is = ap failures is ∙ failures_push past call bytes
 
-pub elapses_push : (past : Past) (call : Call) (bytes : Vec ℕ Global)
-    → Elapses (length past) (length (past ++ (call, bytes) ∷ [])) (LeftSince past) (LeftSince (past ++ (call, bytes) ∷ []))
-    (leaves (past ++ (call, bytes) ∷ []))
-elapses_push past call bytes = search (arith, length-append, take_all, take-append-le, cases_lt)
-
 pub elapses_to : (past later : Past) (call : Call) (bytes : Vec ℕ Global) → later ≡ past ++ (call, bytes) ∷ []
     → Elapses (length past) (length later) (LeftSince past) (LeftSince later) (leaves later)
-elapses_to past later call bytes is = search (arith, elapses_push)
+elapses_to past later call bytes is = search (arith, length-append, take_all, take-append-le, cases_lt)
 
 -- a write of these bytes tears as its call says
 pub writing_follows : (at : ℕ) (bytes : List ℕ) (ok : Bool) (after : List ℕ) (before : List ℕ → Type 0)
@@ -132,5 +129,81 @@ writing_follows at [] ok after before c left = (left.0, left.1, record { torn = 
 writing_follows at (b ∷ []) ok after before c left = left
 writing_follows at (a ∷ b ∷ bytes) ok after before c left = search (arith, rules)
 
-pub writing_failed : (at : ℕ) (bytes : List ℕ) (ok : Bool) → failed (writing at bytes ok) ≡ cond ok 0 1
-writing_failed at bytes ok = search (arith, rules)
+-- NEW LOGS
+pub short_file : (c : List ℕ) → length c ≤ 17 → IsNoLog c
+short_file c short = λ records there. absurd (omega (arith, there.stands.size))
+
+pub wrong_first : (g : ℕ) (c : List ℕ) → g ≢ 120 → IsNoLog (g ∷ c)
+unfolding head
+wrong_first g c other = λ records there. let h = there.stands.header in let first : g ≡ 120 = cc in other first
+
+-- while a byte is written into the empty file
+pub after_first : (c : List ℕ) → Torn 0 (0 ∷ []) [] c → IsNoLog c
+after_first c t = short_file c (omega (arith, t.torn.no_longer))
+
+-- while the rest is
+pub after_rest : (later c : List ℕ) → Torn 1 later (0 ∷ []) c → IsNoLog c
+after_rest later [] t = short_file [] (omega arith)
+after_rest later (g ∷ c) t = let b = t.torn.before in let first : g ≡ 0 = cc in wrong_first g c (omega arith)
+
+length-head : (n : ℕ) → length (head n) ≡ 18
+unfolding head
+length-head n = refl
+
+head_begins : (n : ℕ) → head n ≡ 120 ∷ drop 1 (head n)
+unfolding head
+head_begins n = refl
+
+-- slots of zeros have no record
+free_zeros : (n k : ℕ) → k < n → slot k (head n ++ replicate (94 * n) 0) ≡ replicate 94 0
+free_zeros n k below =
+    ap (λ (l : List ℕ). take 94 l) (sym (drop-drop (94 * k) 18 (head n ++ replicate (94 * n) 0))
+    ∙ ap (λ (l : List ℕ). drop (94 * k) l) (drop_at (head n) (replicate (94 * n) 0) 18 (length-head n))
+    ∙ drop-replicate (94 * k) (94 * n) 0)
+    ∙ take-replicate 94 (94 * n - 94 * k) 0 (omega arith)
+
+-- no free slot has a transaction
+nameless : (n k : ℕ) (t : TranName) → name_of (get_or (free_slots n) k None) ≡ Some t → ⊥
+nameless zero k t is = absurd (cc (is))
+nameless (suc n) zero t is = absurd (cc (is))
+nameless (suc n) (suc k) t is = nameless n k t is
+
+pub new_stands : (n : ℕ) (later : List ℕ) → n ≤ 65536 → later ≡ drop 1 (head n) ++ replicate (94 * n) 0 → StandsFor (free_slots n) (120 ∷ later)
+new_stands n later few is =
+    let whole : 120 ∷ later ≡ head n ++ replicate (94 * n) 0 = search (arith, head_begins) in
+    let many : length (free_slots n) ≡ n = length-replicate n None in
+    let apart : AreApart (free_slots n) = λ j k t named. absurd (nameless n j t named) in
+    let size : length (head n ++ replicate (94 * n) 0) ≡ 18 + 94 * n = search (arith, length-append, length-head, length-replicate) in
+    rw whole (search (arith, apart, size, many, take_at (head n) (replicate (94 * n) 0) 18, length-head n, get_or-replicate, free_zeros))
+
+-- while the first byte is
+pub after_last : (n : ℕ) (later c : List ℕ) → n ≤ 65536 → later ≡ drop 1 (head n) ++ replicate (94 * n) 0 → IsOverwritten (0 ∷ later) 0 (120 ∷ []) c
+    → IsNewLog n c
+after_last n later c few is torn = search (arith, wrong_first, new_stands, torn.whole.alone)
+
+pub zero_put : {was now : List ℕ} → was ≡ [] → now ≡ overwritten was 0 (0 ∷ []) → now ≡ 0 ∷ []
+zero_put empty is = is ∙ ap (λ (l : List ℕ). overwritten l 0 (0 ∷ [])) empty
+
+pub rest_put : {first synced all later : List ℕ} → first ≡ 0 ∷ [] → synced ≡ first → all ≡ overwritten synced 1 later → all ≡ 0 ∷ later
+rest_put {later = later} one seen is = is ∙ ap (λ (l : List ℕ). overwritten l 1 later) (seen ∙ one) ∙ search (arith, drop_all, append-nil)
+
+-- a zero is written into the empty file, synced, and the rest is written
+pub up_to_rest : {D : Type 0} {moment : D → ℕ} {left_since : D → ℕ → List ℕ → Type 0} (n : ℕ) {later : List ℕ} {empty rest : D} (zero_written zero_synced : D)
+    {at_first with_zero with_synced with_rest : List ℕ → Type 0} → Only [] at_first → ((c : List ℕ) → left_since empty (moment empty) c → at_first c)
+    → Follows (Torn 0 (0 ∷ [])) at_first with_zero → Elapses (moment empty) (moment zero_written) (left_since empty) (left_since zero_written) with_zero
+    → Only (0 ∷ []) with_synced → Elapses (moment zero_written) (moment zero_synced) (left_since zero_written) (left_since zero_synced) with_synced
+    → Follows (Torn 1 later) with_synced with_rest → Elapses (moment zero_synced) (moment rest) (left_since zero_synced) (left_since rest) with_rest
+    → LeavesOnly moment left_since empty rest (IsNewLog n) × ((c : List ℕ) → with_rest c → IsNewLog n c)
+up_to_rest n {later = later} zero_written zero_synced {with_rest = with_rest} none now tears goes one goes_to tears_rest goes_past =
+    let torn_rest : (c : List ℕ) → with_rest c → IsNewLog n c = λ c left.
+    let from = tears_rest c left in inl (after_rest later c (rw (one from.0 from.1) at from.2)) in
+    (search (arith, goes_on, short_file, after_first, torn_rest), torn_rest)
+
+-- the rest is synced, and the first byte of the head is put
+pub head_put : {D : Type 0} {moment : D → ℕ} {left_since : D → ℕ → List ℕ → Type 0} {n : ℕ} {later file : List ℕ} {empty rest synced new : D}
+    {with_all : List ℕ → Type 0} → LeavesOnly moment left_since empty rest (IsNewLog n) → n ≤ 65536 → later ≡ drop 1 (head n) ++ replicate (94 * n) 0
+    → Only (0 ∷ later) with_all → Elapses (moment rest) (moment synced) (left_since rest) (left_since synced) with_all → file ≡ 0 ∷ later
+    → LeavesOnly moment left_since synced new (IsOverwritten file 0 (120 ∷ [])) → LeavesOnly moment left_since empty new (IsNewLog n)
+head_put {n = n} {later = later} so_far few is all time seen last =
+    joined (goes_on so_far time (λ c left. inl (rw (all c left) (wrong_first 0 later (omega arith)))))
+    (weaker (λ c torn. after_last n later c few is (rw seen at torn)) last)

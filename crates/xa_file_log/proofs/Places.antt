@@ -1,9 +1,9 @@
 -- The slots in memory: how many are used, and where the record of a transaction is.
-use Rattle.xa_base.proofs.{◌≡◌, ℕ, zero, suc, ◌+◌, ◌<◌, ◌≤◌, cond, List, length, get_or, set, take, drop, refl, sym, ◌∙◌, ap, arith, length-set, length-drop}
-use Rattle.xa_base.proofs.{take_all, rules, ◌⊎◌, Bool, Option, None, Some, [], replicate, subst, IfSome, cases_eq, cases_lt, get_or-set_same, get_or-set_other}
-use Rattle.xa_base.proofs.{FinMap, get-insert, get-from_entries, map, length-map, get_or_default, ◌∷◌, is_some, get-lookup, length-replicate, sum_by-set}
-use Rattle.xa_base.proofs.{sum_by-cons, IfNone, lookup, get_or-replicate, get_or_past, ext_get_or, set-get_or, get_or-take}
-use Rattle.std.proofs.lemmas.List.Sums.{sum_by_more, sum_by-drop_more, sum_by-take-drop, count_by-le-length}
+use Rattle.xa_base.proofs.{◌≡◌, ℕ, zero, suc, ◌+◌, ◌<◌, ◌≤◌, cond, List, length, get_or, set, take, refl, sym, ◌∙◌, ap, arith, length-set, length-drop}
+use Rattle.xa_base.proofs.{take_all, rules, ◌⊎◌, Bool, Option, None, Some, [], replicate, IfSome, cases_eq, cases_lt, get_or-set_same, get_or-set_other, FinMap}
+use Rattle.xa_base.proofs.{get-insert, get-from_entries, map, length-map, get_or_default, ◌∷◌, is_some, get-lookup, length-replicate, sum_by-set, sum_by-cons}
+use Rattle.xa_base.proofs.{IfNone, lookup, get_or-replicate, get_or_past, ext_get_or, set-get_or, get_or-take}
+use Rattle.std.proofs.lemmas.List.Sums.{sum_by_more, sum_by-take-drop, count_by-le-length}
 use Rattle.std.proofs.lemmas.List.{length-take}
 use Rattle.xa_log.specs.{CommitRecord, tran_cmp}
 use Rattle.xa_file_log.specs.{Slot, Free, Taken, is_used, used, HasNoFree, HasRoomFor, name_of, AreApart, on_file, table_of, name_at, HasName, HasNoName}
@@ -22,9 +22,6 @@ weighs s differs = search (arith, rules)
 
 pub used_next : (slots : List Slot) (n : ℕ) → n < length slots → used (take (n + 1) slots) ≡ used (take n slots) + weight (get_or slots n Free)
 used_next slots n below = sum_by_more weight slots n Free below
-
-pub used_left : (slots : List Slot) (n : ℕ) → n < length slots → used (drop n slots) ≡ weight (get_or slots n Free) + used (drop (n + 1) slots)
-used_left slots n below = sum_by-drop_more weight slots n Free below
 
 pub used_set : (slots : List Slot) (k : ℕ) (r : CommitRecord) → k < length slots → get_or slots k Free ≡ Free → used (set slots k (Taken r)) ≡ used slots + 1
 used_set slots k r below free = search (arith, sum_by-set)
@@ -56,8 +53,7 @@ put_at places t k q = search (arith, tran_tells, get-insert tran_cmp_total place
 module _ {places : FinMap tran_cmp ℕ} {slots : List Slot} (index : IsIndexOf places slots) where
   -- each name has one place
   pub one_place : (j k : ℕ) (t : TranName) → name_at slots j ≡ Some t → name_at slots k ≡ Some t → j ≡ k
-  one_place j k t a b =
-      cc (index.there j t a, index.there k t b)
+  one_place j k t a b = cc (index.there j t a, index.there k t b)
 
   -- so no two slots have one name
   pub index_apart : AreApart (table_of slots)
@@ -158,14 +154,12 @@ one_forgets {slots = slots} index place r below is t named =
 was_free : (s : Slot) → on_file s ≡ None → s ≡ Free
 was_free s is = search (arith, rules)
 
-kind : (s : Slot) → is_used s ≡ is_some (on_file s)
-kind s = search (arith, rules)
+still_used : (test : TranName → Bool) (s : Slot) → is_used (forgets test s) ≡ is_used s
+still_used test s = search (arith, rules)
 
 pub forgets_used : (test : TranName → Bool) (slots : List Slot) → used (map (forgets test) slots) ≡ used slots
 forgets_used test [] = refl
-forgets_used test (s ∷ slots) =
-    let same : is_used (forgets test s) ≡ is_used s = kind (forgets test s) ∙ ap is_some (same_on_file test s) ∙ sym (kind s) in
-    sum_by-cons weight (forgets test s) (map (forgets test) slots) ∙ (λ i. cond (same i) 1 0 + forgets_used test slots i) ∙ sym (sum_by-cons weight s slots)
+forgets_used test (s ∷ slots) = search (arith, sum_by-cons weight, still_used test s, forgets_used test slots)
 
 -- what the file has of them stays, and their index
 same_at : (test : TranName → Bool) (slots : List Slot) (k : ℕ) → on_file (get_or (map (forgets test) slots) k Free) ≡ on_file (get_or slots k Free)
@@ -188,12 +182,7 @@ pub record IsAnew (n : ℕ) (old slots : List Slot) (places : FinMap tran_cmp �
 
 pub none_done : (old : List Slot) (es : List (TranName × ℕ)) (len room : ℕ) → es ≡ [] → length old ≤ room → len ≡ 0
     → IsAnew 0 old old (finmap.from_entries {R = tran_cmp} es) len room
-none_done old es len room none much zero_ = record {
-  mapped = none_mapped shut old;
-  indexed = new_index es [] 0 none refl;
-  room_left = omega (arith, much);
-  capacity = omega (arith, much);
-}
+none_done old es len room none much zero_ = search (arith, none_mapped shut old, new_index es [] 0 none refl)
 
 -- one slot more
 taken_others : (slots : List Slot) (n j : ℕ) → (j ≡ n → ⊥) → get_or (take (n + 1) slots) j Free ≡ get_or (take n slots) j Free
@@ -213,12 +202,7 @@ module _ {n : ℕ} {old slots : List Slot} {places : FinMap tran_cmp ℕ} {len r
   pub passed_over : {new : List Slot} → n < length old → taken (get_or old n Free) ≡ None → new ≡ set slots n (shut (get_or old n Free))
       → IsAnew (n + 1) old new places len room
   passed_over below none put =
-      record {
-        mapped = one_mapped so_far.mapped below put;
-        indexed = search (arith, index_same, cases_eq, shut_here, get_or_past, length-take, taken_others);
-        room_left = omega (arith, weight_here below, ap weight (shut_free (get_or old n Free) none), so_far.room_left);
-        capacity = so_far.capacity;
-      }
+      search (arith, one_mapped so_far.mapped below put, index_same, cases_eq, shut_here, get_or_past, length-take, taken_others, weight_here below, shut_free, so_far)
 
   -- the next one isn't in the index yet
   not_yet : {before : FinMap tran_cmp ℕ} → IsIndexOf before old → {t : TranName} → name_at old n ≡ Some t → HasNoName (take n (map shut old)) t
@@ -230,22 +214,14 @@ module _ {n : ℕ} {old slots : List Slot} {places : FinMap tran_cmp ℕ} {len r
       → (finmap.get places r.tran ≡ None → new_len ≡ len + 1) → room ≤ new_room + 1 → IsAnew (n + 1) old new more new_len new_room
   put_in {r = r} below is put index inserted longer less =
       let absent = not_indexed so_far.indexed (not_yet index (ap (λ (s : Slot). name_of (on_file s)) is)) in
-      record {
-        mapped = one_mapped so_far.mapped below put;
-        indexed =
-            index_more so_far.indexed n r.tran (ap (λ (s : Slot). name_of (on_file s)) (get_or_past (take n (map shut old)) n Free (omega (arith, length-take n (map shut old)))))
-            (ap (λ (s : Slot). name_of (on_file s)) (shut_here below ∙ ap shut is))
-            (λ j other. ap (λ (s : Slot). name_of (on_file s)) (taken_others (map shut old) n j other)) absent (inserted absent);
-        room_left = omega (arith, weight_here below, ap (λ (s : Slot). weight (shut s)) is, less, so_far.room_left);
-        capacity = omega (arith, longer absent, less, so_far.capacity);
-      }
+      let indexed =
+      index_more so_far.indexed n r.tran (ap (λ (s : Slot). name_of (on_file s)) (get_or_past (take n (map shut old)) n Free (omega (arith, length-take n (map shut old)))))
+      (ap (λ (s : Slot). name_of (on_file s)) (shut_here below ∙ ap shut is))
+      (λ j other. ap (λ (s : Slot). name_of (on_file s)) (taken_others (map shut old) n j other)) absent (inserted absent) in
+      search (arith, indexed, one_mapped so_far.mapped below put, weight_here below, ap (λ (s : Slot). weight (shut s)) is, longer absent, so_far.room_left, so_far.capacity)
 
   pub all_anew : length old ≤ n → (slots ≡ map shut old) × IsIndexOf places slots × (length slots ≤ used slots + room) × (length slots ≤ len + room)
   all_anew past =
       let is = all_mapped so_far.mapped refl past in
-      let whole : take n (map shut old) ≡ slots = take_all n (map shut old) (omega (arith, length-map old shut)) ∙ sym is in (
-        is,
-        subst (IsIndexOf places) whole so_far.indexed,
-        omega (arith, so_far.room_left, ap used whole, so_far.mapped.count),
-        omega (arith, so_far.capacity, so_far.mapped.count),
-      )
+      let whole : take n (map shut old) ≡ slots = take_all n (map shut old) (omega (arith, length-map old shut)) ∙ sym is in
+      search (arith, is, rw whole at so_far.indexed, ap used whole, so_far.room_left, so_far.capacity, so_far.mapped.count)

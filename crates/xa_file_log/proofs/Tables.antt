@@ -1,17 +1,111 @@
--- The records of a table, and how they change as slots are shut, forgotten and taken.
-use Rattle.xa_base.proofs.{◌≡◌, ℕ, zero, suc, ◌<◌, Bool, true, false, cond, Option, None, Some, [], ◌∷◌, length, get_or, set, refl, sym, ◌∙◌, ap, arith}
-use Rattle.xa_base.proofs.{eq_by_cmp, find, get-from_entries, put_one, List, map, subst, rules, take, ◌⊎◌, inl, inr, ⊎_elim, not, replicate, cases_eq}
-use Rattle.xa_base.proofs.{length-map, get_or-set_same, get_or-set_other, eq_by_cmp_equiv, remove_one, retain_some, cases_Bool, by_if, at_false, at_true}
-use Rattle.xa_base.proofs.{ext_get_or, map-set, set-get_or}
-use Rattle.std.proofs.lemmas.Bool.Decides.{not_from_Decides}
-use Rattle.xa_words.specs.{TranName, tran_eq}
+-- The bytes of a record and what they tell of it; the records of a table, and how they change as slots are shut, forgotten and taken.
+use Rattle.xa_base.proofs.{rules, ◌≡◌, ℕ, ℤ, ◌-◌, ◌≤◌, Bool, true, cond, List, [], ◌∷◌, ◌++◌, length, get_or, map, take, drop, replicate, refl, sym, ◌∙◌, ap}
+use Rattle.xa_base.proofs.{arith, append_assoc, length-append, w32, to_z-of_z, length-replicate, Option, None, Some, Ok, eqb, FitsSigned, cast_unsigned, of_z}
+use Rattle.xa_base.proofs.{to_z, ◌+◌, cast_signed, to_be_bytes, from_be_bytes, nat_tests, take_at, drop_at, take-replicate, drop-replicate, get_or-take, zero}
+use Rattle.xa_base.proofs.{suc, ◌<◌, false, set, eq_by_cmp, find, get-from_entries, put_one, ◌⊎◌, inl, inr, ⊎_elim, not, cases_eq, length-map, get_or-set_same}
+use Rattle.xa_base.proofs.{get_or-set_other, eq_by_cmp_equiv, remove_one, retain_some, cases_Bool, by_if, at_false, at_true, ext_get_or, map-set, set-get_or}
+use Rattle.xa_base.proofs.{map-map}
+use Rattle.std.proofs.lemmas.Nat.{from_be_bytes-to_be_bytes_4}
+use mir.ValLaws.{of_z_fits}
+use Rattle.xa_words.specs.{is_in, set_of, is_part, tran_bytes, new_tran, TranName, tran_eq}
 use Rattle.xa_log.specs.{CommitRecord, tran_cmp, Records, record_in, is_among}
+use Rattle.xa_file_log.specs.{fields, spelling, yes_bytes, IsValid, IsSlotOf, Table, entries, records_of, Slot, Free, Taken, Forgotten, name_of, AreApart}
+use Rattle.xa_file_log.specs.{on_file, taken, forgotten, table_of, name_at, StandsFor, HasRecords, records_in, forgotten_in, shut, forgets, HasNoName}
+use Rattle.xa_file_log.specs.{HasNoFree, HasNoneForgotten, IsFull}
+use Rattle.std.proofs.lemmas.Bool.Decides.{not_from_Decides}
+use Rattle.std.proofs.Math.ListN.{get_or-map}
 use Rattle.xa_log.proofs.Transactions.{tran_cmp_total, tran_cmp-IsAntisymmetric, decides_by_cmp, tran_eq-by_cmp}
-use Rattle.xa_file_log.specs.{Table, entries, records_of, Slot, Free, Taken, Forgotten, name_of, AreApart, on_file, taken, forgotten, table_of, name_at}
-use Rattle.xa_file_log.specs.{spelling, IsSlotOf, StandsFor, HasRecords, records_in, forgotten_in, shut, forgets, HasNoName, HasNoFree, HasNoneForgotten}
-use Rattle.xa_file_log.specs.{IsFull}
-use Rattle.xa_file_log.proofs.Spelled.{same_record}
 use Rattle.std.specs.FinMap as finmap
+
+-- BYTES
+pub part_few : (l : List ℕ) → is_part l ≡ true → length l ≤ 64
+part_few l valid = grind (arith, nat_tests)
+
+pub number : List ℕ → ℤ
+number bytes = cast_signed w32 (from_be_bytes w32 bytes)
+
+pub number_is : (bytes : List ℕ) → number bytes ≡ cast_signed w32 (from_be_bytes w32 bytes)
+unfolding number
+number_is bytes = refl
+
+number_again : (z : ℤ) → FitsSigned w32 z → number (to_be_bytes w32 (cast_unsigned w32 z)) ≡ z
+unfolding number
+number_again z f = ap (cast_signed w32) (from_be_bytes-to_be_bytes_4 (cast_unsigned w32 z) (of_z_fits w32 z f).fits) ∙ to_z-of_z w32 z f
+
+-- a list of eight is told by its places
+pub eight : (votes : List Bool) → length votes ≡ 8 → set_of (is_in votes) ≡ votes
+eight (a ∷ b ∷ c ∷ d ∷ e ∷ f ∷ g ∷ h ∷ []) long = refl
+eight votes long = absurd (let no : ⊥ = omega (arith, long) in no)
+
+bit_again : (t : Bool) → eqb (cond t 1 0) 1 ≡ t
+bit_again t = search (arith, rules)
+
+-- the record that the bytes spell, if they spell one
+abbrev pub unspelled : List ℕ → CommitRecord
+unspelled body = record {
+  tran = record { format = number (take 4 body); gtrid = take (get_or body 4 0) (drop 5 body) };
+  yes = map (λ b. eqb b 1) (take 8 (drop 69 body));
+}
+
+after_name : (p y m : List ℕ) → length p ≡ 64 → drop 64 ((p ++ y) ++ m) ≡ y ++ m
+after_name p y m size = ap (λ (l : List ℕ). drop 64 l) (append_assoc p y m) ∙ drop_at p (y ++ m) 64 size
+
+length-tran_bytes : (r : CommitRecord) → IsValid r → length (tran_bytes r.tran) ≡ 64
+length-tran_bytes r valid = search (arith, length-append, length-replicate, part_few, r.tran.gtrid)
+
+pub unspelled_again : (r : CommitRecord) → IsValid r → unspelled (spelling r) ≡ r
+unfolding spelling fields
+unspelled_again r valid = search (arith, number_again, after_name, length-tran_bytes, bit_again, eight, append_assoc, take_at)
+
+pub length_again : (r : CommitRecord) → get_or (spelling r) 4 0 ≡ length r.tran.gtrid
+unfolding spelling fields
+length_again r = refl
+
+-- a spelling is of one record
+pub same_record : (r s : CommitRecord) → IsValid r → IsValid s → spelling r ≡ spelling s → r ≡ s
+same_record r s vr vs e = sym (unspelled_again r vr) ∙ ap unspelled e ∙ unspelled_again s vs
+
+-- the zeros between the gtrid and the managers
+zeros_left : (g : ℕ) → g ≤ 64 → take (64 - g) (drop g (replicate {A = ℕ} 72 0)) ≡ replicate (64 - g) 0
+zeros_left g few = ap (λ (l : List ℕ). take (64 - g) l) (drop-replicate g 72 0) ∙ take-replicate (64 - g) (72 - g) 0 (omega arith)
+
+pub put_together : (r : CommitRecord) → length r.tran.gtrid ≤ 64
+    → to_be_bytes w32 (cast_unsigned w32 r.tran.format) ++ ((length r.tran.gtrid ∷ []) ++ (r.tran.gtrid
+    ++ (take (64 - length r.tran.gtrid) (drop (length r.tran.gtrid) (drop 1 (drop 4 (replicate 77 0)))) ++ yes_bytes r.yes)))
+    ≡ fields r
+unfolding fields
+put_together r few = let padding = zeros_left (length r.tran.gtrid) few in search (arith, append_assoc, r.tran.gtrid)
+
+pub eight_bits : (bytes : List ℕ) → length bytes ≡ 8
+    → eqb (get_or bytes 0 0) 1 ∷ eqb (get_or bytes 1 0) 1 ∷ eqb (get_or bytes 2 0) 1 ∷ eqb (get_or bytes 3 0) 1 ∷ eqb (get_or bytes 4 0) 1 ∷ eqb
+    (get_or bytes 5 0) 1 ∷ eqb (get_or bytes 6 0) 1 ∷ eqb (get_or bytes 7 0) 1 ∷ []
+    ≡ map (λ b. eqb b 1) bytes
+eight_bits (a ∷ b ∷ c ∷ d ∷ e ∷ f ∷ g ∷ h ∷ []) long = refl
+eight_bits bytes long = absurd (let no : ⊥ = omega (arith, long) in no)
+
+-- what is read of a record's bytes
+pub read_name : (body : List ℕ) (r : CommitRecord) (z : ℤ) → IsValid r → body ≡ spelling r → 4 ≤ length body → FitsSigned w32 z
+    → z ≡ cast_signed w32 (from_be_bytes w32 (get_or body 0 0 ∷ get_or body 1 0 ∷ get_or body 2 0 ∷ get_or body 3 0 ∷ []))
+    → new_tran (to_z w32 (of_z w32 z)) (take (5 + get_or body 4 0 - 5) (drop 5 body)) ≡ Ok r.tran
+read_name body r z valid is long fits format =
+    let first : to_z w32 (of_z w32 z) ≡ number (take 4 body) = search (arith, to_z-of_z, number_is) in
+    let len : 5 + get_or body 4 0 - 5 ≡ get_or body 4 0 = omega arith in
+    search (arith, unspelled_again r)
+
+pub read_votes : (body : List ℕ) (r : CommitRecord) → IsValid r → body ≡ spelling r → map (λ b. eqb b 1) (take 8 (drop 69 body)) ≡ r.yes
+read_votes body r valid is = search (arith, unspelled_again)
+
+-- which gates there are
+gate_of : (o : Option CommitRecord) (bytes : List ℕ) → IsSlotOf o bytes → o ≡ None → get_or bytes 0 0 ≡ 0
+gate_of o bytes has none = sym (get_or-take 1 bytes 0 0 (omega arith)) ∙ ap (λ (l : List ℕ). get_or l 0 0) (has.free none)
+
+pub no_body : (o : Option CommitRecord) (bytes : List ℕ) → get_or bytes 0 0 ≡ 255 → ((r : CommitRecord) → IsValid r → drop 1 bytes ≡ spelling r → ⊥)
+    → IsSlotOf o bytes → ⊥
+no_body o bytes gate none has = search (arith, gate_of)
+
+pub no_gate : (o : Option CommitRecord) (bytes : List ℕ) → (get_or bytes 0 0 ≡ 0 → ⊥) → (get_or bytes 0 0 ≡ 255 → ⊥) → IsSlotOf o bytes → ⊥
+no_gate None bytes shut wide has = shut (gate_of None bytes has refl)
+no_gate (Some r) bytes shut wide has = wide (ap (λ (l : List ℕ). get_or l 0 0) (has.taken r refl))
 
 -- two names are one, or they aren't
 pub tran_tells : (q t : TranName) → ((eq_by_cmp tran_cmp q t ≡ true) × (q ≡ t)) ⊎ ((eq_by_cmp tran_cmp q t ≡ false) × (q ≡ t → ⊥))
@@ -60,7 +154,7 @@ finds (Some r ∷ table) q = ⊎_elim
     (λ other. later (Some r) table q (at_false (eq_by_cmp tran_cmp q r.tran) (Some r.yes) _ other.0) (finds table q)) (tran_tells q r.tran)
 
 pub none_or_at : (table : Table) (q : TranName) → (record_in (records_of table) q ≡ None) ⊎ IsAt table q (record_in (records_of table) q)
-none_or_at table q = subst (λ (o : Option (List Bool)). (o ≡ None) ⊎ IsAt table q o) (sym (get_found table q)) (finds table q)
+none_or_at table q = rw (get_found table q) (finds table q)
 
 apart_later : (o : Option CommitRecord) (table : Table) → AreApart (o ∷ table) → AreApart table
 apart_later o table apart j k t a b = let e = apart (suc j) (suc k) t a b in omega (arith, e)
@@ -86,27 +180,17 @@ pub whole_part : IsPart on_file
 whole_part = record { free = refl; within = λ s r e. e }
 
 pub taken_part : IsPart taken
-taken_part = record { free = refl; within = within }
-  where
-    within : (s : Slot) (r : CommitRecord) → taken s ≡ Some r → on_file s ≡ Some r
-    within (Forgotten r) s e = absurd (cc (e))
-    within x s e = e
+taken_part = search (arith, rules)
 
 pub forgotten_part : IsPart forgotten
-forgotten_part = record { free = refl; within = within }
-  where
-    within : (s : Slot) (r : CommitRecord) → forgotten s ≡ Some r → on_file s ≡ Some r
-    within (Taken r) s e = absurd (cc (e))
-    within x s e = e
+forgotten_part = search (arith, rules)
 
 -- what the file has counts, or is forgotten
 pub counts_or_forgotten : (s : Slot) (r : CommitRecord) → on_file s ≡ Some r → (taken s ≡ Some r) ⊎ (forgotten s ≡ Some r)
 counts_or_forgotten s r is = search (arith, rules)
 
 pub at_slot : {X : Type 0} (f : Slot → X) {d : X} → f Free ≡ d → (slots : List Slot) (k : ℕ) → get_or (map f slots) k d ≡ f (get_or slots k Free)
-at_slot f free [] k = sym free
-at_slot f free (s ∷ slots) zero = refl
-at_slot f free (s ∷ slots) (suc k) = at_slot f free slots k
+at_slot f free slots k = rw (← free) (get_or-map f slots k Free)
 
 pub at_map : (f : Slot → Option CommitRecord) → IsPart f → (slots : List Slot) (k : ℕ) → get_or (map f slots) k None ≡ f (get_or slots k Free)
 at_map f part = at_slot f part.free
@@ -118,13 +202,9 @@ names_apart slots apart j k t a b = search (arith, at_map, whole_part, apart, t)
 pub apart_names : (slots : List Slot) → ((j k : ℕ) (t : TranName) → name_at slots j ≡ Some t → name_at slots k ≡ Some t → j ≡ k) → AreApart (table_of slots)
 apart_names slots one j k t a b = search (arith, at_map, whole_part)
 
--- a table that has no other records than the slots
-name_within : (o p : Option CommitRecord) (t : TranName) → ((r : CommitRecord) → o ≡ Some r → p ≡ Some r) → name_of o ≡ Some t → name_of p ≡ Some t
-name_within o p t within is = search (arith, rules)
-
 pub apart_within : (table : Table) (slots : List Slot) → ((k : ℕ) (r : CommitRecord) → get_or table k None ≡ Some r → on_file (get_or slots k Free) ≡ Some r)
     → AreApart (table_of slots) → AreApart table
-apart_within table slots within apart j k t a b = search (arith, names_apart, name_within)
+apart_within table slots within apart j k t a b = search (arith, names_apart)
 
 pub apart_part : (f : Slot → Option CommitRecord) → IsPart f → (slots : List Slot) → AreApart (table_of slots) → AreApart (map f slots)
 apart_part f part slots = apart_within (map f slots) slots (λ k r is. part.within (get_or slots k Free) r (sym (at_map f part slots k) ∙ is))
@@ -175,8 +255,7 @@ one_content table file stands records there = ap records_of (one_table table the
 
 -- SHUT
 pub mapped_as : {X : Type 0} (f : Slot → Slot) (g h : Slot → X) → ((s : Slot) → g (f s) ≡ h s) → (slots : List Slot) → map g (map f slots) ≡ map h slots
-mapped_as f g h same [] = refl
-mapped_as f g h same (s ∷ slots) = λ i. same s i ∷ mapped_as f g h same slots i
+mapped_as f g h same slots = map-map g f slots ∙ (λ i. map (λ s. same s i) slots)
 
 shut_whole : (s : Slot) → on_file (shut s) ≡ taken s
 shut_whole s = search (arith, rules)
@@ -264,10 +343,8 @@ name_set slots k r below j t named = search (arith, cases_eq, get_or-set_same, g
 
 pub apart_set : (slots : List Slot) (k : ℕ) (r : CommitRecord) → k < length slots → HasNoName slots r.tran → AreApart (table_of slots)
     → AreApart (table_of (set slots k (Taken r)))
-apart_set slots k r below new apart = apart_names (set slots k (Taken r)) (λ i j t a b. ⊎_elim
-    (λ p. ⊎_elim (λ q. p.0 ∙ sym q.0) (λ q. absurd (new j (q ∙ ap (λ (x : TranName). Some x) (sym p.1)))) (name_set slots k r below j t b))
-    (λ p. ⊎_elim (λ q. absurd (new i (p ∙ ap (λ (x : TranName). Some x) (sym q.1)))) (λ q. names_apart slots apart i j t p q) (name_set slots k r below j t b))
-    (name_set slots k r below i t a))
+apart_set slots k r below new apart = apart_names (set slots k (Taken r)) (λ i j t a b.
+    search (arith, names_apart slots apart i j t, name_set slots k r below i t a, name_set slots k r below j t b, new i, new j))
 
 pub new_table : (n : ℕ) → table_of (replicate n Free) ≡ replicate n None
 new_table zero = refl

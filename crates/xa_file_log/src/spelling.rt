@@ -52,7 +52,7 @@ fn yes_bytes(yes: &ManagerSet) -> [u8; MOST_MANAGERS]
 }
 
 // The set that these bytes tell of.
-#[tactic(auto, using(crate::proofs::Spelled::eight_bits))]
+#[tactic(auto, using(crate::proofs::Tables::eight_bits))]
 fn yes_of(bytes: &[u8]) -> ManagerSet
     requires { length bytes.now ≡ 8 }
     ensures { result ≡ map (λ b. b == 1) bytes.now }

@@ -1,6 +1,6 @@
 -- Deeds, one after another, and records that are new as requests come.
-use Rattle.xa_base.proofs.{arith, ◌≡◌, ℕ, Bool, true, false, List, [], ◌∷◌, ◌++◌, None, refl, sym, ap, ◌∙◌, subst, append_assoc, if◌then◌else◌, is_some}
-use Rattle.xa_base.proofs.{get-insert, get-remove, or_parts}
+use Rattle.xa_base.proofs.{arith, ◌≡◌, ℕ, Bool, true, false, List, [], ◌∷◌, ◌++◌, None, refl, sym, ap, ◌∙◌, append_assoc, if◌then◌else◌, is_some, get-insert}
+use Rattle.xa_base.proofs.{get-remove, or_parts}
 use Rattle.xa_log.specs.{LogState, record_of, with_record, with_failure, without_record, AreNew, CommitRecord}
 use Rattle.xa_log.proofs.Transactions.{tran_cmp_total, decides_by_cmp}
 use Rattle.xa_words.specs.{TranName, tran_eq, Decides-tran_eq}
@@ -36,7 +36,7 @@ does-chain true true false s t u ds es a b = record {
   done = ds ++ b.done;
   rest = b.rest;
   parts = ap (λ xs. ds ++ xs) b.parts ∙ sym (append_assoc ds b.done b.rest);
-  right = right-append s ds b.done a.0 (subst (λ x. AreRight x b.done) a.1 b.right);
+  right = right-append s ds b.done a.0 (rw a.1 at b.right);
   unknown = b.unknown;
 }
 does-chain true false true s t u ds es a b = absurd b

@@ -1,7 +1,6 @@
 -- What coordinators asked, how the records of a group are settled, and what is sent on the lanes of answers.
 use Rattle.xa_base.proofs.{arith, ◌≡◌, ℕ, ◌==◌, Bool, true, false, cond, List, [], ◌∷◌, ◌++◌, map, Some, None, Option, refl, sym, ap, ◌∙◌, append_assoc, ◌||◌}
-use Rattle.xa_base.proofs.{append-nil, ◌+◌, ◌<◌, length, get_or, drop, subst, map-append, length-map, ◌≢◌, zero, suc, set, or_parts, eqb_tells, drop-cons}
-use Rattle.xa_base.proofs.{add-one}
+use Rattle.xa_base.proofs.{append-nil, ◌+◌, ◌<◌, length, get_or, drop, map-append, length-map, ◌≢◌, zero, suc, set, or_parts, eqb_tells, drop-cons, add-one}
 use Rattle.std.proofs.Math.ListN.{get_or-map}
 use Rattle.xa_words.specs.{TranName, tran_eq}
 use Rattle.xa_lane.specs.{Parcel, of_sender, parcel, received, somes, Sending, sent_at, with_item, but_full}
@@ -10,7 +9,7 @@ use Rattle.xa_log_worker.specs.{Ask, Append, Answer, Deed, Waiting, answer_each,
 use Rattle.xa_log_worker.specs.{Answered, IsRefused, after, AreRight, AreUnknown, Does, Settles, answers_in, as_waiting, deeds_in, records_in, Works, Steps}
 use Rattle.xa_log_worker.specs.{SentBy, told_to}
 use Rattle.xa_log_worker.specs.declared.ask.Deed.TheVariants.{Answers}
-use Rattle.xa_log.specs.{LogState, record_of, with_record, with_records, with_failure, AreNew, CommitRecord}
+use Rattle.xa_log.specs.{LogState, with_record, with_records, with_failure, AreNew, CommitRecord}
 use Rattle.xa_log_worker.proofs.Deeds.{answers-append, does-chain, new_below, does_nothing, does_forget, new_without}
 use Rattle.xa_log_worker.specs.Moves.{Moves}
 
@@ -117,7 +116,7 @@ pub drop_more : (ws : List Waiting) (i : ℕ) (w : Waiting) → i < length ws �
 drop_more ws i w within is = drop-cons ws i w within ∙ (λ j. sym is j ∷ drop (sym (add-one i) j) ws)
 
 pub new_failed : (log now : LogState) (rs : List CommitRecord) → now ≡ with_failure log → AreNew log rs → AreNew now rs
-new_failed log now rs failed new = new_below now log rs (λ r none. subst (λ x. record_of x r.tran ≡ None) (sym failed) none) new
+new_failed log now rs failed new = new_below now log rs (λ r none. rw failed none) new
 
 -- each that is answered waited
 pub answered_places : (n : ℕ) (ws : List Waiting) (cs : List Answered) → map as_waiting cs ≡ ws
@@ -125,7 +124,7 @@ pub answered_places : (n : ℕ) (ws : List Waiting) (cs : List Answered) → map
 answered_places n ws cs each places k d within =
     let count : length ws ≡ length cs = ap length (sym each) ∙ length-map cs as_waiting in
     let same : get_or ws k (as_waiting d) ≡ as_waiting (get_or cs k d) = ap (λ xs. get_or xs k (as_waiting d)) (sym each) ∙ get_or-map as_waiting cs k d in
-    subst (λ (x : Waiting). x.from < n) same (places k (as_waiting d) (omega arith))
+    rw same at (places k (as_waiting d) (omega arith))
 
 abbrev Lanes : Type 0
 Lanes = List (Sending Answer)

@@ -2,8 +2,7 @@ use Rattle.xa_base.proofs.{rules, ◌≡◌, ℕ, List, [], sym, ◌∙◌, ap, 
 use Rattle.std.proofs.Common.{vec_len}
 use Rattle.std.proofs.lemmas.List.{nil_from_length}
 use Rattle.xa_file_log.specs.{StandsFor, IsSettled, IsNewLog, free_slots, table_of}
-use Rattle.xa_file_log.proofs.Moments.{started, goes_on, joined}
-use Rattle.xa_file_log.proofs.NewLogs.{short_file}
+use Rattle.xa_file_log.proofs.Moments.{started, goes_on, joined, short_file}
 use Rattle.xa_file_log.proofs.Stands.{settled_shown}
 use Rattle.xa_file_log.proofs.Tables.{new_table}
 use Rattle.xa_file_log.proofs.creating.create.Goals as goal

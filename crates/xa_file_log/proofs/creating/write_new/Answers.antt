@@ -1,7 +1,6 @@
 use Rattle.xa_base.proofs.{ℕ, List, [], ◌∷◌, ◌∙◌, ap}
 use Rattle.xa_file_log.specs.{overwritten}
-use Rattle.xa_file_log.proofs.Moments.{goes_on}
-use Rattle.xa_file_log.proofs.NewLogs.{zero_put, rest_put, up_to_rest, head_put, new_stands}
+use Rattle.xa_file_log.proofs.Moments.{goes_on, zero_put, rest_put, up_to_rest, head_put, new_stands}
 use Rattle.xa_file_log.proofs.creating.write_new.Goals as goal
 
 pub returns-in_err-write_at-2-clause-any_moment : goal.returns-in_err-write_at-2-clause-any_moment

@@ -1,4 +1,4 @@
-use Rattle.xa_base.proofs.{◌≡◌, ℕ, List, length, get_or, refl, ◌∙◌, arith, get_or_default, drop_all}
+use Rattle.xa_base.proofs.{◌≡◌, ℕ, List, length, get_or, refl, ◌∙◌, arith, get_or_default}
 use Rattle.xa_file_log.specs.{Free}
 use Rattle.xa_file_log.proofs.Moments.{started, goes_on}
 use Rattle.xa_file_log.proofs.Stands.{HasSlots, slots_as, starts, passes, gate_done}
@@ -12,16 +12,10 @@ loop-place-init g c =
     let has = bodied c.requires.settled.stands c.requires.bodies in
     let may : (f : List ℕ) → g.D.Device.may_leave c.args.device.now f → HasSlots (length c.args.slots.now) (MayCome c.args.slots.now c.args.decisions.now) f =
     λ f left. rw (c.requires.settled.durable f left) (slots_as refl has (λ k below was. comes was)) in
-    record {
-      way = way_from c.args.slots.now c.args.decisions.now c.args.first c.requires.room c.requires.first c.requires.none_before;
-      opening = starts has (λ k before was. not_opened (c.requires.none_before k before) was);
-      comes = may;
-      run = started (λ f left. comes_shown c.requires.new (may f (g.met.D.Device.only_now c.args.device.now f left)));
-      faults = omega arith;
-    }
+    search (arith, has, may, way_from, starts, not_opened, c.requires.none_before, started, comes_shown, c.requires.new, g.met.D.Device.only_now)
 
 pub returns-then-next-decisions-clause-stands : goal.returns-then-next-decisions-clause-stands
-returns-then-next-decisions-clause-stands g c = search (arith, all_open, drop_all)
+returns-then-next-decisions-clause-stands g c = search (arith, all_open, c.loop-place.invariant)
 
 pub returns-in_err-write_at-clause-now : goal.returns-in_err-write_at-clause-now
 returns-in_err-write_at-clause-now g c = λ f now.
@@ -42,14 +36,8 @@ loop-place-preserved g c = elim c.match-slots-place.branch [
       λ f now.
       let from = w.write_at.ensures.crash f now in
       opens_torn c.requires.valid is next.1 c.loop-place-test.true (c.loop-place.invariant.comes from.0 from.1) from.2 in
-      rw (w.next-is, w.device-is) (record {
-        way = next.2;
-        opening = rw w.in_ok-write_at.ensures.written
-            (gate_done 255 c.loop-place.invariant.opening c.loop-place-test.true (λ was. gate_opened c.requires.valid is next.1 was));
-        comes = may;
-        run = goes_on c.loop-place.invariant.run w.write_at.ensures.time (λ f now. comes_shown c.requires.new (may f now));
-        faults = omega (arith, c.loop-place.invariant.faults, w.write_at.ensures.cause.later);
-      })
+      rw (w.next-is, w.device-is)
+      (search (arith, next, may, gate_done, gate_opened, goes_on, comes_shown, w.in_ok-write_at.ensures.written, w.write_at.ensures, c.loop-place.invariant))
   | in_default w ↦
       let differs : get_or c.args.slots.now c.loop-place.place Free ≡ Free → ⊥ =
       λ e. w.in_default.not-Free (get_or_default c.args.slots.now c.loop-place.place _ Free c.loop-place-test.true ∙ e) in
@@ -57,4 +45,4 @@ loop-place-preserved g c = elim c.match-slots-place.branch [
 ]
 
 pub returns-clause-stands : goal.returns-clause-stands
-returns-clause-stands g c = search (arith, all_open, way_done, c.requires.new, c.loop-place.invariant.way)
+returns-clause-stands g c = search (arith, all_open, way_done, c.requires.new, c.requires.room, c.loop-place.invariant.opening)

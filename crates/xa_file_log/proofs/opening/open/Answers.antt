@@ -1,5 +1,5 @@
-use Rattle.xa_base.proofs.{arith, ◌∙◌, ap, subst, rules}
-use Rattle.xa_file_log.specs.{IsSettled, StandsFor, IsNoLog, records_of, table_of}
+use Rattle.xa_base.proofs.{arith, ◌∙◌, ap, rules}
+use Rattle.xa_file_log.specs.{IsSettled, StandsFor, records_of, table_of}
 use Rattle.xa_file_log.proofs.Tables.{one_content, all_count}
 use Rattle.xa_file_log.proofs.Stands.{settled_shown}
 use Rattle.xa_file_log.proofs.opening.open.Goals as goal
@@ -17,8 +17,8 @@ returns-in-Ok-read_table-clause-reads g c = λ records there.
 
 pub returns-clause-not_a_log : goal.returns-clause-not_a_log
 returns-clause-not_a_log g c = λ is.
-    subst IsNoLog (c.deref.ensures.value ∙ c.in-Ok.ensures.bytes) (c.in-Err-read_table.ensures.refused (λ memory. absurd (cc (is, memory))))
+    rw (c.deref.ensures.value ∙ c.in-Ok.ensures.bytes) at (c.in-Err-read_table.ensures.refused (λ memory. absurd (cc (is, memory))))
 
 pub returns-clause-damaged : goal.returns-clause-damaged
 returns-clause-damaged g c = λ is.
-    subst IsNoLog (c.deref.ensures.value ∙ c.in-Ok.ensures.bytes) (c.in-Err-read_table.ensures.refused (λ memory. absurd (cc (is, memory))))
+    rw (c.deref.ensures.value ∙ c.in-Ok.ensures.bytes) at (c.in-Err-read_table.ensures.refused (λ memory. absurd (cc (is, memory))))

@@ -1,5 +1,5 @@
 use Rattle.xa_base.proofs.{arith, length-drop, is_some, take_all, is_missing}
-use Rattle.xa_file_log.proofs.Spelled.{no_body, no_gate}
+use Rattle.xa_file_log.proofs.Tables.{no_body, no_gate}
 use Rattle.xa_file_log.proofs.opening.read_slot.Goals as goal
 
 pub returns-clause-damaged : goal.returns-clause-damaged

@@ -1,6 +1,6 @@
-use Rattle.xa_base.proofs.{arith, refl, sym, ◌∙◌, ap, is_there}
+use Rattle.xa_base.proofs.{set-get_or, arith, refl, sym, ◌∙◌, ap, is_there}
 use Rattle.xa_file_log.specs.{SlotTable, Taken}
-use Rattle.xa_file_log.proofs.Stands.{none_read, one_read, free_read, all_read, twice_named}
+use Rattle.xa_file_log.proofs.Stands.{none_read, one_read, all_read, twice_named}
 use Rattle.xa_file_log.proofs.opening.read_slots.Goals.{in-Some-found+else-is_some, in_default-found}
 use Rattle.xa_file_log.proofs.opening.read_slots.Goals as goal
 
@@ -19,7 +19,7 @@ loop-place-preserved c = elim c.match-found.branch [
       one_read (Taken w.in-Some-found.record) c.loop-place.invariant c.loop-place-test.true refl
       (rw (w.in-Some-found.is, c.slot_of.ensures.bytes) at c.in-Some.ensures.found)
       (ap (λ (t : SlotTable). t.slots.items) w.table-is ∙ w.take.ensures)
-  | in_default-found w ↦ search (arith, in_default-found, free_read)
+  | in_default-found w ↦ search (arith, in_default-found, one_read, set-get_or)
 ]
 
 pub returns-clause-stands : goal.returns-clause-stands

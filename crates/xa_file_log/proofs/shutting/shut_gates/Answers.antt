@@ -1,5 +1,6 @@
-use Rattle.xa_base.proofs.{ℕ, List, sym, ◌∙◌, arith, get_or, get_or_default}
-use Rattle.xa_file_log.specs.{Free, MayShow}
+use Rattle.xa_base.proofs.{true, false, ◌≡◌, ℕ, List, ◌∙◌, arith, get_or, get_or_default}
+use Rattle.xa_log.specs.{CommitRecord}
+use Rattle.xa_file_log.specs.{Free, Forgotten, MayShow}
 use Rattle.xa_file_log.proofs.Moments.{goes_on}
 use Rattle.xa_file_log.proofs.Stands.{none_shut, all_shut, counted, gate_done, passes, shut_done, torn_shown, below_shown, settled_shown}
 use Rattle.xa_file_log.proofs.shutting.shut_gates.Goals.{in-Forgotten+in_ok-write_at, in_default}
@@ -26,22 +27,12 @@ loop-place-preserved g c = elim c.match-slots-place.branch [
       λ f now.
       let from = w.write_at.ensures.crash f now in
       torn_shown c.args.slots.now c.loop-place-test.true is (c.loop-place.invariant.shown from.0 from.1) from.2 in
-      rw w.device-is (record {
-        shown = shown;
-        shutting = rw w.in_ok-write_at.ensures.written (gate_done 0 c.loop-place.invariant.shutting c.loop-place-test.true (λ was. shut_done is));
-        run = goes_on c.loop-place.invariant.run w.write_at.ensures.time shown;
-        clean = λ is. absurd (cc (is, w.is_clean-is));
-        faults = omega (arith, c.loop-place.invariant.faults, w.write_at.ensures.cause.later);
-      })
+      let dirty : false ≡ true → w.write_at.new.self ≡ c.args.device.now = λ is. absurd (cc (is)) in
+      rw (w.device-is, w.is_clean-is) (search (arith, dirty, shown, gate_done, shut_done, is, goes_on, w.in_ok-write_at.ensures.written, w.write_at.ensures, c.loop-place.invariant))
   | in_default w ↦
-      rw w.device-is (record {
-        shown = c.loop-place.invariant.shown;
-        shutting = passes c.loop-place.invariant.shutting c.loop-place-test.true (counted (get_or c.args.slots.now c.loop-place.place Free) (λ r e.
-            w.in_default.not-Forgotten r (get_or_default c.args.slots.now c.loop-place.place _ Free c.loop-place-test.true ∙ e)));
-        run = c.loop-place.invariant.run;
-        clean = λ is. c.loop-place.invariant.clean (sym w.is_clean-is ∙ is);
-        faults = c.loop-place.invariant.faults;
-      })
+      let differs : (r : CommitRecord) → get_or c.args.slots.now c.loop-place.place Free ≡ Forgotten r → ⊥ =
+      λ r e. w.in_default.not-Forgotten r (get_or_default c.args.slots.now c.loop-place.place _ Free c.loop-place-test.true ∙ e) in
+      rw (w.device-is, w.is_clean-is) (search (arith, passes, counted, differs, c.loop-place.invariant))
 ]
 
 pub returns-then-is_clean-clause-shut : goal.returns-then-is_clean-clause-shut
@@ -51,10 +42,8 @@ returns-then-is_clean-clause-shut g c = record {
 }
 
 pub returns-clause-shut : goal.returns-clause-shut
-returns-clause-shut g c = record {
-  stands = rw c.sync.ensures.seen (all_shut c.args.slots.now c.loop-place-test.false c.requires.settled.stands.apart c.loop-place.invariant.shutting);
-  durable = λ f now. c.in_ok-sync.ensures.durable f now ∙ sym c.sync.ensures.seen;
-}
+returns-clause-shut g c =
+    search (arith, all_shut, c.sync.ensures.seen, c.in_ok-sync.ensures.durable, c.requires.settled.stands, c.loop-place.invariant.shutting)
 
 pub returns-clause-now : goal.returns-clause-now
 returns-clause-now g c = search (arith, below_shown, c.in_ok-sync.ensures.durable, c.args.slots.now, c.requires.settled.stands.apart)

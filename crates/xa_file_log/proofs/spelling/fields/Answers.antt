@@ -1,5 +1,5 @@
 use Rattle.xa_base.proofs.{arith, ◌≡◌, ◌≤◌, length, w32, to_z-of_z, cast_unsigned, to_be_bytes}
-use Rattle.xa_file_log.proofs.Spelled.{part_few, put_together}
+use Rattle.xa_file_log.proofs.Tables.{part_few, put_together}
 use Rattle.xa_file_log.proofs.spelling.fields.Goals as goal
 
 pub returns : goal.returns

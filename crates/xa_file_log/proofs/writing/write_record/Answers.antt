@@ -1,5 +1,5 @@
-use Rattle.xa_file_log.proofs.Stands.{stage_torn, logged}
-use Rattle.xa_file_log.proofs.Appending.{first_step, both_steps}
+use Rattle.xa_base.proofs.{arith}
+use Rattle.xa_file_log.proofs.Stands.{stage_torn, logged, first_step, both_steps}
 use Rattle.xa_file_log.proofs.writing.write_record.Goals as goal
 
 pub returns-in_default-clause-refused : goal.returns-in_default-clause-refused
@@ -22,8 +22,5 @@ returns-clause-any_moment g c =
     c.put.ensures.any_moment c.requires.new c.requires.valid c.spelled-body.ensures.bytes c.in-Ok.ensures.written c.put-2.ensures.any_moment
 
 pub returns-clause-logged : goal.returns-clause-logged
-returns-clause-logged g c = record {
-  stands = rw c.in-Ok-put.ensures.written (logged c.args.slots.now c.args.place c.requires.settled.stands c.requires.place c.requires.free
-      c.spelled-body.ensures.size c.requires.new c.requires.valid c.spelled-body.ensures.bytes c.in-Ok.ensures.written);
-  durable = c.in-Ok-put.ensures.durable;
-}
+returns-clause-logged g c =
+    search (arith, logged, c.requires, c.requires.settled.stands, c.spelled-body.ensures, c.in-Ok.ensures.written, c.in-Ok-put.ensures.written, c.in-Ok-put.ensures.durable)

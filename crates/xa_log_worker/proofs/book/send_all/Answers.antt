@@ -1,5 +1,4 @@
-use Rattle.xa_base.proofs.{◌≡◌, ◌+◌, ◌<◌, ◌++◌, ◌∷◌, [], length, set, ap, sym, subst, take, length-set, arith, ◌∙◌, take_more}
-use Rattle.xa_log_worker.specs.{Answered, SentBy}
+use Rattle.xa_base.proofs.{◌≡◌, ◌+◌, ◌<◌, ◌++◌, ◌∷◌, [], length, set, ap, sym, take, length-set, arith, ◌∙◌, take_more}
 use Rattle.xa_log_worker.proofs.Moves.{lane_sent, sent_chain}
 use Rattle.xa_log_worker.proofs.book.send_all.Goals as goal
 
@@ -10,12 +9,10 @@ loop-one-preserved g c =
     let done = c.args.done.now in
     let lanes = c.loop-one.answers.items in
     let within : a.from < length lanes =
-    subst (λ (x : Answered). x.from < length lanes) (sym c.one-item.is) (omega (arith, c.requires i a c.loop-one-test.true, c.loop-one.invariant.len)) in
+    rw c.one-item.is (omega (arith, c.requires i a c.loop-one-test.true, c.loop-one.invariant.len)) in
     let more : take (i + 1) done ≡ take i done ++ a ∷ [] = take_more done i a c.loop-one-test.true ∙ ap (λ x. take i done ++ x ∷ []) (sym c.one-item.is) in
     record {
       len = length-set lanes a.from c.send.new.sender ∙ c.loop-one.invariant.len;
       sent =
-          subst (λ xs. SentBy xs c.args.answers.now.items (set lanes a.from c.send.new.sender)) (sym more)
-          (sent_chain (take i done) (a ∷ []) c.args.answers.now.items lanes (set lanes a.from c.send.new.sender) c.loop-one.invariant.sent
-          (lane_sent lanes c.index_mut.result.now c.send.new.sender a within c.index_mut.ensures.value c.send.ensures));
+          rw more (sent_chain (take i done) (a ∷ []) c.args.answers.now.items lanes (set lanes a.from c.send.new.sender) c.loop-one.invariant.sent (lane_sent lanes c.index_mut.result.now c.send.new.sender a within c.index_mut.ensures.value c.send.ensures));
     }

@@ -1,6 +1,5 @@
-use Rattle.xa_base.proofs.{arith, ◌≡◌, ◌+◌, ◌++◌, ◌∷◌, [], ap, sym, subst, take, true, ◌∙◌, take_more}
-use Rattle.xa_log.specs.{AreNew}
-use Rattle.xa_log_worker.specs.{answered_by, records_in}
+use Rattle.xa_base.proofs.{arith, ◌≡◌, ◌+◌, ◌++◌, ◌∷◌, [], ap, sym, take, true, ◌∙◌, take_more}
+use Rattle.xa_log_worker.specs.{answered_by}
 use Rattle.xa_log_worker.proofs.Deeds.{new_after}
 use Rattle.xa_log_worker.proofs.Moves.{settles_next, drop_more}
 use Rattle.xa_log_worker.proofs.group.append_each.Goals as goal
@@ -14,6 +13,5 @@ loop-one-preserved g c =
     let does = c.append_one-answer.ensures.does w.from in
     let more : take (i + 1) ws ≡ take i ws ++ w ∷ [] = take_more ws i w c.loop-one-test.true ∙ ap (λ x. take i ws ++ x ∷ []) (sym c.one-item.is) in
     let new =
-    λ (known : c.loop-one.is_known ≡ true). subst (λ xs. AreNew (g.L.DecisionLog.state c.loop-one.log) (records_in xs))
-    (drop_more ws i w c.loop-one-test.true c.one-item.is) (c.loop-one.invariant.new known) in
+    λ (known : c.loop-one.is_known ≡ true). rw (drop_more ws i w c.loop-one-test.true c.one-item.is) at (c.loop-one.invariant.new known) in
     search (arith, new_after, settles_next, c.loop-one.is_known)

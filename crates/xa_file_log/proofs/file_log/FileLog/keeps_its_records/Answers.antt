@@ -1,4 +1,4 @@
-use Rattle.xa_file_log.proofs.Appending.{shows_records}
+use Rattle.xa_file_log.proofs.Stands.{shows_records}
 use Rattle.xa_file_log.proofs.file_log.FileLog.keeps_its_records.Goals as goal
 
 pub returns : goal.returns

@@ -1,5 +1,5 @@
-use Rattle.xa_base.proofs.{◌≡◌, inl, inr, ⊎_elim, Some, List, length, refl, ap, subst, arith, length-map}
-use Rattle.xa_file_log.specs.{Slot, log_state, name_at, shut, used}
+use Rattle.xa_base.proofs.{inl, inr, ⊎_elim, length, refl, ap, arith, length-map}
+use Rattle.xa_file_log.specs.{log_state, shut, used}
 use Rattle.xa_file_log.proofs.Grouped.{new_none}
 use Rattle.xa_file_log.proofs.Places.{index_apart}
 use Rattle.xa_file_log.proofs.Tables.{none_named_shut}
@@ -11,12 +11,10 @@ returns-then-has_room_for-clause-any_moment g c = search (arith, c.args.self.now
 pub returns-clause-cause : goal.returns-clause-cause
 returns-clause-cause g c = λ no_.
     let is = (c.if-not-shut_forgotten.ensures.shut refl).1 in
-    ⊎_elim
-    (λ full. inr (inl (let many = ap length is in let as_many = ap used is in
-    omega (arith, full, many, as_many, length-map c.args.self.now.table.slots.items shut))))
+    ⊎_elim (λ full. inr (inl (omega (arith, full, ap length is, ap used is, length-map c.args.self.now.table.slots.items shut))))
     (λ at. absurd (none_named_shut c.args.self.now.table.slots.items
     (index_apart c.args.self.now.table.indexed) at.0.tran
     (new_none (log_state c.args.self.now.table.slots.items c.args.self.now.failures) c.args.decisions.now at.0 at.1.0.0 c.requires.new at.1.0.1 at.1.0.2)
     at.1.1.0
-    (subst (λ (l : List Slot). name_at l at.1.1.0 ≡ Some at.0.tran) is at.1.1.1.1)))
+    (rw is at at.1.1.1.1)))
     (c.has_room_for-2.ensures.none no_)

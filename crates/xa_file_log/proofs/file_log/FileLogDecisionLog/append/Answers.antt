@@ -1,8 +1,7 @@
 use Rattle.xa_base.proofs.{inl, inr, ◌<◌, ◌+◌, ◌%◌, ◌^◌, refl, ◌∙◌, ap, arith}
 use Rattle.xa_file_log.specs.{records_in}
-use Rattle.xa_file_log.proofs.Appending.{same_records, no_more, one_more, none_more, both_runs, shows_records}
+use Rattle.xa_file_log.proofs.Stands.{same_records, no_more, one_more, none_more, both_runs, shows_records, stands_shown, settled_shown}
 use Rattle.xa_file_log.proofs.Moments.{weaker}
-use Rattle.xa_file_log.proofs.Stands.{stands_shown, settled_shown}
 use Rattle.xa_file_log.proofs.file_log.FileLogDecisionLog.append.Goals as goal
 
 -- what is refused before the record is written

@@ -1,15 +1,11 @@
-use Rattle.xa_base.proofs.{arith, not}
-use Rattle.xa_log.specs.{is_among}
+use Rattle.xa_base.proofs.{arith}
 use Rattle.xa_file_log.proofs.Places.{index_apart}
 use Rattle.xa_file_log.proofs.Stands.{forgets_shown}
 use Rattle.xa_file_log.proofs.Tables.{records_only, forgets_on_file, forgets_its_own}
 use Rattle.xa_file_log.proofs.file_log.FileLogDecisionLog.keep_only.Goals as goal
 
 pub invariant_of-self : goal.invariant_of-self
-invariant_of-self g c = record {
-  ready = λ is. rw (c.keep_only.ensures, forgets_on_file (λ t. not (is_among c.args.trans.now t)) c.args.self.now.table.slots.items) (c.args.self.now.ready is);
-  known = λ is file left. rw c.keep_only.ensures (forgets_shown (λ t. not (is_among c.args.trans.now t)) c.args.self.now.table.slots.items file (c.args.self.now.known is file left));
-}
+invariant_of-self g c = rw c.keep_only.ensures (search (arith, forgets_on_file, forgets_shown, c.args.self.now.ready, c.args.self.now.known))
 
 pub returns-clause-kept : goal.returns-clause-kept
 returns-clause-kept g c = search (arith, records_only, c.args.self.now.table.slots.items, c.args.trans.now)

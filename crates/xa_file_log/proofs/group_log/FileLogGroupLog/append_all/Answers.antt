@@ -1,11 +1,10 @@
-use Rattle.xa_base.proofs.{◌≡◌, inl, inr, ⊎_elim, ◌<◌, ◌+◌, ◌%◌, ◌^◌, List, length, refl, sym, ◌∙◌, ap, subst, arith, none_of, Decides-eqb}
+use Rattle.xa_base.proofs.{◌≡◌, inl, inr, ⊎_elim, ◌<◌, ◌+◌, ◌%◌, ◌^◌, length, refl, sym, ◌∙◌, ap, arith, none_of, Decides-eqb}
 use Rattle.xa_log.specs.{with_records}
-use Rattle.xa_file_log.specs.{Slot, AreNewNames, log_state, records_in}
-use Rattle.xa_file_log.proofs.Appending.{same_records, no_more}
+use Rattle.xa_file_log.specs.{log_state, records_in}
+use Rattle.xa_file_log.proofs.Stands.{same_records, no_more, stands_shown, settled_shown}
 use Rattle.xa_file_log.proofs.Grouped.{before_group, failures_stay, none_more_forgotten, group_runs, grouped}
 use Rattle.xa_file_log.proofs.Places.{index_apart}
 use Rattle.xa_file_log.proofs.Moments.{started, weaker}
-use Rattle.xa_file_log.proofs.Stands.{stands_shown, settled_shown}
 use Rattle.xa_file_log.proofs.group_log.FileLogGroupLog.append_all.Goals as goal
 
 -- no record
@@ -45,7 +44,7 @@ write_records-requires-clause-new g c =
     let together = grouped c.args.decisions.now c.makes_room_for.new.self.table.slots.items (log_state c.args.self.now.table.slots.items c.args.self.now.failures)
     (c.makes_room_for.ensures.room c.if-not-makes_room_for.false) (index_apart c.makes_room_for.new.self.table.indexed)
     (same_records c.makes_room_for.ensures.slots) c.requires.new (c.makes_room_for.ensures.unnamed c.if-not-makes_room_for.false) in
-    subst (λ (l : List Slot). AreNewNames l c.args.decisions.now) (sym c.deref.ensures.value) together.apart
+    rw c.deref.ensures.value together.apart
 
 pub invariant_of-self-in-Ok : goal.invariant_of-self-in-Ok
 invariant_of-self-in-Ok g c =

@@ -1,6 +1,6 @@
 use Rattle.xa_base.proofs.{[], ◌∷◌, ◌++◌, ◌∙◌, ap, arith}
 use Rattle.xa_file_log.specs.{Call}
-use Rattle.xa_file_log.proofs.Moments.{leaves_to, elapses_to, failures_to, writing_follows, writing_failed}
+use Rattle.xa_file_log.proofs.Moments.{leaves_to, elapses_to, failures_to, writing_follows}
 use Rattle.xa_file_log.proofs.mirrored.MirroredDevice.write_at.Goals as goal
 
 pub returns-then-ok-clause-crash : goal.returns-then-ok-clause-crash
@@ -25,4 +25,4 @@ pub returns-else-ok-clause-time : goal.returns-else-ok-clause-time
 returns-else-ok-clause-time g c = elapses_to c.args.self.now.past.items c.and-self.result.items _ _ c.and-self.ensures
 
 pub returns-else-ok-clause-cause : goal.returns-else-ok-clause-cause
-returns-else-ok-clause-cause g c = grind (arith, failures_to, writing_failed)
+returns-else-ok-clause-cause g c = grind (arith, failures_to)

@@ -1,4 +1,4 @@
-use Rattle.xa_base.proofs.{arith, ◌≡◌, ℕ, get_or, ◌∙◌, subst, get_or_default, length-map}
+use Rattle.xa_base.proofs.{arith, ◌≡◌, ◌∙◌, get_or_default, length-map}
 use Rattle.xa_file_log.specs.{Free, Taken}
 use Rattle.xa_file_log.proofs.Places.{forgets_indexed, forgets_none_free, forgets_used, none_forgets, one_forgets, slot_indexed, one_place}
 use Rattle.xa_file_log.proofs.slot_table.SlotTable.forget.Goals as goal
@@ -22,7 +22,7 @@ returns-in_default-index c =
     none_forgets c.args.self.now.slots.items c.args.tran.now (λ k r here named.
     let same : k ≡ c.in-Some.place = one_place c.args.self.now.indexed k c.in-Some.place c.args.tran.now named at.1 in
     c.in_default-index.not-Taken r (c.index.ensures ∙ get_or_default c.args.self.now.slots.items c.in-Some.place c.index.result.now Free at.0
-    ∙ subst (λ (i : ℕ). get_or c.args.self.now.slots.items i Free ≡ Taken r) same here))
+    ∙ rw same at here))
 
 pub returns-in_default : goal.returns-in_default
 returns-in_default c = none_forgets c.args.self.now.slots.items c.args.tran.now (λ k r here. c.in_default.ensures.none k)

@@ -1,7 +1,7 @@
-use Rattle.xa_base.proofs.{ap, arith, length-set, at_ok, one_put, refl, cases_eq, get_or-set_same, get_or-set_other, hash_map_len}
+use Rattle.xa_base.proofs.{arith, length-set, at_ok, one_put, cases_eq, get_or-set_same, get_or-set_other, hash_map_len}
 use Rattle.xa_words.specs.{tran_eq}
 use Rattle.xa_log.proofs.Transactions.{tran_cmp_total, tran_cmp-IsAntisymmetric, tran_eq-by_cmp}
-use Rattle.xa_file_log.specs.{Free, Taken, Slot, name_of, on_file}
+use Rattle.xa_file_log.specs.{Taken}
 use Rattle.xa_file_log.proofs.Places.{longer_by_one, not_indexed, index_more, used_less, used_set}
 use Rattle.xa_file_log.proofs.slot_table.SlotTable.take.Goals as goal
 
@@ -19,13 +19,6 @@ invariant_of-self c =
     c.unwrap.result (rw c.unwrap.ensures at c.insert-put.ensures.old) absent (rw c.unwrap.ensures at c.insert-put.ensures.len) in
     let many = length-set c.args.self.now.slots.items c.args.place (Taken c.args.decision) in
     let more = used_set c.args.self.now.slots.items c.args.place c.args.decision c.requires.within c.requires.free in
-    record {
-      indexed = index_more c.args.self.now.indexed c.args.place c.args.decision.tran (ap (λ (s : Slot). name_of (on_file s)) c.requires.free)
-          (ap (λ (s : Slot). name_of (on_file s)) (get_or-set_same c.args.self.now.slots.items c.args.place (Taken c.args.decision) Free c.requires.within))
-          (λ j apart. ap (λ (s : Slot). name_of (on_file s)) (get_or-set_other c.args.self.now.slots.items c.args.place j (Taken c.args.decision) Free apart)) absent
-          (one_put tran_eq tran_cmp_total tran_cmp-IsAntisymmetric tran_eq-by_cmp c.args.self.now.places.entries c.insert-put.new.self.entries
-          c.args.decision.tran c.args.place updates.0);
-      none_before = search (arith, refl, cases_eq, get_or-set_same, get_or-set_other, c.args.self.now.none_before);
-      room = omega (arith, many, more, c.insert-put.ensures.spare, c.args.self.now.room);
-      capacity = omega (arith, many, longer, c.insert-put.ensures.spare, c.args.self.now.capacity);
-    }
+    let put = one_put tran_eq tran_cmp_total tran_cmp-IsAntisymmetric tran_eq-by_cmp c.args.self.now.places.entries c.insert-put.new.self.entries
+    c.args.decision.tran c.args.place updates.0 in
+    search (arith, index_more, get_or-set_same, get_or-set_other, cases_eq, absent, put, many, more, longer, c.requires.free, c.insert-put.ensures.spare, c.args.self.now)

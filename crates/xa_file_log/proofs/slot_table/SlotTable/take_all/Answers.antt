@@ -1,5 +1,5 @@
-use Rattle.xa_base.proofs.{◌+◌, List, length, set, drop, sym, ◌∙◌, ap, subst, arith, length-drop, length-set, drop_all}
-use Rattle.xa_file_log.specs.{Slot, Taken, AreApart, HasNoName, placed, table_of, used}
+use Rattle.xa_base.proofs.{◌+◌, List, length, set, drop, sym, ◌∙◌, ap, arith, length-drop, length-set, drop_all}
+use Rattle.xa_file_log.specs.{Slot, Taken, placed, used}
 use Rattle.xa_file_log.proofs.Grouped.{first_is_new, placed_first, records_left, none_filled}
 use Rattle.xa_file_log.proofs.Places.{used_set, all_used}
 use Rattle.xa_file_log.proofs.slot_table.SlotTable.take_all.Goals as goal
@@ -11,10 +11,7 @@ pub take-requires-clause-new : goal.take-requires-clause-new
 take-requires-clause-new c =
     let left = records_left c.args.decisions.now c.loop-decision.decision-index c.decision-item.result c.loop-decision-test.true c.decision-item.is in
     let same = ap (placed c.loop-decision.self.slots.items) (sym left) ∙ c.loop-decision.invariant.rest in
-    subst (λ (l : List Slot). HasNoName l c.decision-item.result.tran) (sym c.free_place.ensures.slots)
-    (first_is_new c.loop-decision.self.slots.items c.decision-item.result (drop (c.loop-decision.decision-index + 1) c.args.decisions.now) c.in-Some.place
-    c.in-Some.ensures.free.0 c.in-Some.ensures.free.1 c.in-Some.ensures.first
-    (subst (λ (l : List Slot). AreApart (table_of l)) (sym same) c.requires.new))
+    rw c.free_place.ensures.slots (first_is_new c.loop-decision.self.slots.items c.decision-item.result (drop (c.loop-decision.decision-index + 1) c.args.decisions.now) c.in-Some.place c.in-Some.ensures.free.0 c.in-Some.ensures.free.1 c.in-Some.ensures.first (rw same c.requires.new))
 
 pub loop-decision-preserved : goal.loop-decision-preserved
 loop-decision-preserved c =

@@ -21,4 +21,4 @@ returns-then-is_some-clause-asked g c =
 
 pub returns-else-is_some-clause-asked : goal.returns-else-is_some-clause-asked
 returns-else-is_some-clause-asked g c =
-    rw (ap is_some (there c.args.self.now.records.entries c.args.tran.now ∙ sym c.remove.ensures.value) ∙ sym c.is_some.ensures ∙ c.if-is_some.false) refl
+    rw (ap is_some (there c.args.self.now.records.entries c.args.tran.now ∙ sym c.remove.ensures.value) ∙ sym c.is_some.ensures ∙ c.if-is_some.false)
