@@ -2,8 +2,8 @@
 use Rattle.xa_grammar.specs.declared.fault.ScriptFault.TheVariants as faults
 use Rattle.xa_base.proofs.{◌≡◌, ◌≤◌, ◌+◌, ℕ, Bool, true, false, ◌&&◌, List, take, drop, list_all, refl, sym, ap, ◌∙◌, arith, take-append-drop, and_parts, ◌<◌}
 use Rattle.xa_base.proofs.{and-false, not-true, false_from_ne_true, none_of, not, length, get_or, [], ◌∷◌, ◌++◌, filter, nat_eq, ◌==◌, ◌-◌, zero, suc}
-use Rattle.xa_base.proofs.{append_assoc, length-append, append-nil, take_all, subst, nat_lt, Ok, Err, eqb-true, take-take, drop-take, drop_more}
-use Rattle.xa_base.proofs.{list_all-append, nat_tests, AllPass-from_list_all, onto_first, slice_index, add-one, length-take, drop-cons}
+use Rattle.xa_base.proofs.{append_assoc, length-append, append-nil, take_all, nat_lt, Ok, Err, eqb-true, take-take, drop-take, drop_more, list_all-append}
+use Rattle.xa_base.proofs.{nat_tests, AllPass-from_list_all, onto_first, slice_index, add-one, length-take, drop-cons}
 use Rattle.std.proofs.lemmas.List.Folds.{list_all_more}
 use Rattle.xa_grammar.specs.{is_script_byte, is_space, starts_blank, IsPlain, has_bytes, words_of, IsWord, are_comment, TooManyLines, LineTooLong, ScriptFault}
 use Rattle.xa_grammar.specs.{lines_of, without_return, HasNoEnd, line_of, after_line, script_from, Fails, FailsAt, Content}
@@ -198,4 +198,4 @@ cut_at bytes end lt is = search (arith, append_assoc, eqb-true, slice_index, add
 
 -- Bytes where no line feed stands have none.
 pub no_end : (bytes : List ℕ) → ((k : ℕ) → k < length bytes → ¬ ((slice_index bytes k == 10) ≡ true)) → HasNoEnd bytes
-no_end bytes none = subst HasNoEnd (take_all _ _ (le_refl (length bytes))) (no_end_before bytes (length bytes) (le_refl (length bytes)) none)
+no_end bytes none = rw (take_all _ _ (le_refl (length bytes))) at (no_end_before bytes (length bytes) (le_refl (length bytes)) none)

@@ -1,7 +1,7 @@
 -- A line that the grammar reads leaves a script: each manager can be opened with its keys, each step is of a thread or a manager that there is, and no task asks for more than 64 xids.
 use Rattle.xa_base.proofs.{rules, ◌≡◌, ℕ, zero, suc, ◌-◌, ◌<◌, ◌≤◌, Bool, true, false, not, cond, ◌&&◌, ◌||◌, ◌==◌, nat_le, nat_lt, if◌then◌else◌, List, []}
-use Rattle.xa_base.proofs.{◌∷◌, ◌++◌, length, map, Option, None, Some, unwrap_or, get_or, slice_set, IfSome, All, Result, Ok, Err, refl, sym, ap, ◌∙◌, subst}
-use Rattle.xa_base.proofs.{arith, list_all, list_any, slice_index_or, or-false, le-leb, eqb-true, and_parts, or_parts, false_from_ne_true, by_bool, map-append}
+use Rattle.xa_base.proofs.{◌∷◌, ◌++◌, length, map, Option, None, Some, unwrap_or, get_or, slice_set, IfSome, All, Result, Ok, Err, refl, sym, ap, ◌∙◌, arith}
+use Rattle.xa_base.proofs.{list_all, list_any, slice_index_or, or-false, le-leb, eqb-true, and_parts, or_parts, false_from_ne_true, by_bool, map-append}
 use Rattle.xa_base.proofs.{err_from_is_err_and, append-nil, length-map, length-append, All-append, filter-append, All-cons, All-nil, list_any-append, leb-true}
 use Rattle.xa_base.proofs.{list_all-append}
 use Rattle.xa_grammar.specs.declared.step.Step.TheVariants as step
@@ -38,7 +38,7 @@ after (Ok x) f holds y e = holds x refl y e
 after (Err why) f holds y e = let never : ⊥ = cc in absurd never
 
 made : {A : Type 0} (P : A → Type 0) (x : A) → P x → (y : A) → ◌≡◌ {A = Result A Reason} (Ok x) (Ok y) → P y
-made P x p y e = subst P (ok_is x y e) p
+made P x p y e = rw (ok_is x y e) at p
 
 not_then : {A : Type 0} (b : Bool) (why : Reason) (r : Result A Reason) (y : A) → (if b then Err why else r) ≡ Ok y → (b ≡ false) × (r ≡ Ok y)
 not_then b why r y e = search (arith, rules)
@@ -86,7 +86,7 @@ key_kept s d of new few small is =
     (λ t.
     let same : d.manager ≡ m = eqb-true d.manager m t in
     let size : length (accounts_of m s.keys) ≡ key_count m s.keys = search (arith, length-map, length-filter) in
-    let room : key_count m s.keys < 256 = subst (λ n. key_count n s.keys < 256) same few in
+    let room : key_count m s.keys < 256 = rw same at few in
     are_accounts-push (accounts_of m s.keys) (d.key, d.value) (is.accounts m) (omega arith) small (new_account m d.key s.keys (ap (λ n. has_key n d.key s.keys) (sym same) ∙ new)))
     (λ _. ap are_accounts (append-nil (accounts_of m s.keys)) ∙ is.accounts m) in
     assumption
@@ -113,7 +113,7 @@ log_set : {A : Type 0} (So : A → Type 0) (threads : ℕ) (xs : List (Option A)
     → IsToldOf So threads u (if nat_lt 0 u then get_or (slice_set xs (t - 1) (Some x)) (u - 1) None else None)
 log_set {A} So threads xs t u x of so old =
     by_bool (λ b. IsToldOf So threads u (if b then get_or xs (u - 1) None else None) → IsToldOf So threads u (if b then get_or (slice_set xs (t - 1) (Some x)) (u - 1) None else None))
-    (nat_lt 0 u) (λ lt was. after_set (IsToldOf So threads u) xs (t - 1) (u - 1) (Some x) was (λ e. (so, let first : 0 < u = grind (arith, lt) in let same : t ≡ u = omega (arith, of.0, e, first) in subst (IsUpTo threads) same of)))
+    (nat_lt 0 u) (λ lt was. after_set (IsToldOf So threads u) xs (t - 1) (u - 1) (Some x) was (λ e. (so, let first : 0 < u = grind (arith, lt) in let same : t ≡ u = omega (arith, of.0, e, first) in rw same at of)))
     (λ _ was. was) old
 
 failing_kept : (s : Content) (t k : ℕ) → IsUpTo (threads_of s) t → IsUpTo 1000000 k → IsScript s → IsScript (with_failing t k s)

@@ -1,26 +1,21 @@
 -- Steps: their names stay where they stand as more are appended, and the tasks of one thread among them.
-use Rattle.xa_grammar.specs.declared.step.Calling.TheVariants as calling
+use Rattle.xa_base.proofs.{take_next, ◌≡◌, ℕ, ◌+◌, ◌<◌, List, [], ◌∷◌, ◌++◌, length, take, Some, slice_get, sym, ◌∙◌, some_same, rules, pos, ◌≤◌, Bool, true}
+use Rattle.xa_base.proofs.{false, if◌then◌else◌, drop, All, None, is_some, list_any, ◌||◌, refl, ap, arith, append-nil, length-append, length-drop, All-nil}
+use Rattle.xa_base.proofs.{All-cons, All-head, All-tail, zero, suc, cond, Option, cons_option, get_or, filter-append, All-push, All-weaker, is_there, got}
+use Rattle.xa_base.proofs.{slice_get_within, drop-append_seam, get_or-append_seam, drop-append-le, take-append-le, slice_get_read, filter_map-append}
+use Rattle.xa_grammar.specs.declared.step.ManagerCall.TheVariants as calling
 use Rattle.xa_grammar.specs.declared.step.Action.TheVariants as action
 use Rattle.xa_grammar.specs.declared.step.Step.TheVariants as step
 use Rattle.xa_grammar.specs.declared.steps.Kept.TheVariants as kept
-use Rattle.xa_base.proofs.{◌≡◌, ℕ, ◌+◌, ◌<◌, List, [], ◌∷◌, ◌++◌, length, take, Some, slice_get, sym, ◌∙◌, slice_get-get_or, some_same, one_more, rules, pos}
-use Rattle.xa_base.proofs.{◌≤◌, Bool, true, false, if◌then◌else◌, drop, All, None, is_some, list_any, ◌||◌, refl, ap, subst, arith, append-nil, length-append}
-use Rattle.xa_base.proofs.{length-drop, All-nil, All-cons, All-head, All-tail, zero, suc, cond, Option, cons_option, get_or, filter-append, All-push}
-use Rattle.xa_base.proofs.{All-weaker, is_there, got, slice_get_within, drop-append_seam, get_or-append_seam, drop-append-le, take-append-le, slice_get_read}
-use Rattle.xa_base.proofs.{filter_map-append}
 use Rattle.std.specs.List.{filter_map}
 use Rattle.std.proofs.Math.ListN.{get_or-append}
 use Rattle.std.proofs.Math.Seq.{take-length}
 use Rattle.xa_words.specs.{XidName, TranName}
-use Rattle.xa_grammar.specs.{Calling, Place, KeyPlace, ScriptCalling, ScriptAction, ScriptStep, CallHas, ActionHas, call_with, is_reopen, is_own, SpellsName}
+use Rattle.xa_grammar.specs.{ManagerCall, Place, KeyPlace, ScriptCall, ScriptAction, ScriptStep, CallHas, ActionHas, call_with, is_reopen, is_own, SpellsName}
 use Rattle.xa_grammar.specs.{Spells, IsShortName, IsShortGtrid, IsShort, KeptStep, bytes_at, name_at, gtrid_at, IsName, IsGtrid, IsKey, IsNamed, task_step}
 use Rattle.xa_grammar.specs.{step_at, steps_of, is_kept_of, is_kept_reopen, keys_called, keys_given, keys_in, place_from, key_place_from, action_from}
 use Rattle.xa_grammar.specs.{kept_from, ScriptTask, tasks_of, IsTask, own_steps, tasks_in, steps_at}
 use Rattle.xa_grammar.specs.KeptSteps.{key_at}
-
--- the first steps, and one more
-pub take_next : {A : Type 0} (xs : List A) (i : ℕ) (x : A) → slice_get xs i ≡ Some x → take (i + 1) xs ≡ take i xs ++ x ∷ []
-take_next xs i x at = search (arith, slice_get_within, one_more, some_same, slice_get-get_or)
 
 -- ---- the bytes that were appended last
 
@@ -50,7 +45,7 @@ key_grown ks others p is = get_or-append ks others [] p.at is
 is_key_grown : (ks others : List (List ℕ)) (p : KeyPlace) → IsKey ks p → IsKey (ks ++ others) p
 is_key_grown ks others p is = let longer = length-append ks others in omega (arith, longer, is)
 
-call_grown : (xs more : List ℕ) (ks others : List (List ℕ)) (c : Calling Place KeyPlace) → CallHas (IsName xs) (IsKey ks) c
+call_grown : (xs more : List ℕ) (ks others : List (List ℕ)) (c : ManagerCall Place KeyPlace) → CallHas (IsName xs) (IsKey ks) c
     → (call_with (name_at (xs ++ more)) (key_at (ks ++ others)) c ≡ call_with (name_at xs) (key_at ks) c) × CallHas (IsName (xs ++ more)) (IsKey (ks ++ others)) c
 call_grown xs more ks others (calling.Xa c (Some p)) has = (ap (λ (x : XidName). calling.Xa c (Some x)) (name_grown xs more p has), is_name_grown xs more p has)
 call_grown xs more ks others (calling.Heur p commits) has = search (arith, name_grown, is_name_grown)
@@ -61,7 +56,7 @@ step_grown : (xs more : List ℕ) (ks others : List (List ℕ)) (p : KeptStep) �
     → (step_at (xs ++ more) (ks ++ others) p ≡ step_at xs ks p) × IsNamed (xs ++ more) (ks ++ others) p
 step_grown xs more ks others (kept.Call t line m flags c) is =
     let (same, still) = call_grown xs more ks others c is in
-    (ap (λ (q : ScriptCalling). task_step line t (action.Call (record { manager = m; flags = flags; call = q }))) same, still)
+    (ap (λ (q : ScriptCall). task_step line t (action.Call (record { manager = m; flags = flags; call = q }))) same, still)
 step_grown xs more ks others (kept.CommitAll t len at line managers death) is = search (arith, gtrid_grown, is_gtrid_grown)
 step_grown xs more ks others (kept.Resolve t line) is = (refl, tt)
 step_grown xs more ks others p is = (refl, tt)
@@ -88,7 +83,7 @@ gtrid_put xs w t (format, short) is = search (arith, length-append, last_at)
 key_put : (ks : List (List ℕ)) (k : List ℕ) → (key_at (ks ++ k ∷ []) (key_place_from (length ks) k) ≡ k) × IsKey (ks ++ k ∷ []) (key_place_from (length ks) k)
 key_put ks k = (get_or-append_seam ks k [] [], let longer = length-append ks (k ∷ []) in omega (arith, longer))
 
-call_put : (xs w : List ℕ) (ks : List (List ℕ)) (c : ScriptCalling) → CallHas IsShortName (λ k. Unit {0}) c → CallHas (SpellsName w) (λ k. Unit {0}) c
+call_put : (xs w : List ℕ) (ks : List (List ℕ)) (c : ScriptCall) → CallHas IsShortName (λ k. Unit {0}) c → CallHas (SpellsName w) (λ k. Unit {0}) c
     → let all = xs ++ w in let keys = ks ++ keys_called c in let k = call_with (place_from (length xs)) (key_place_from (length ks)) c in
     (call_with (name_at all) (key_at keys) k ≡ c) × CallHas (IsName all) (IsKey keys) k
 call_put xs w ks (calling.Xa c (Some x)) short spells = let put = name_put xs w x short spells in (ap (λ (y : XidName). calling.Xa c (Some y)) put.0, put.1)
@@ -103,7 +98,7 @@ action_put : (xs w : List ℕ) (ks : List (List ℕ)) (line t : ℕ) (a : Script
     (step_at all keys k ≡ task_step line t a) × IsNamed all keys k
 action_put xs w ks line t (action.Call c) short spells =
     let put = call_put xs w ks c.call short spells in
-    (ap (λ (q : ScriptCalling). task_step line t (action.Call (record { manager = c.manager; flags = c.flags; call = q }))) put.0, put.1)
+    (ap (λ (q : ScriptCall). task_step line t (action.Call (record { manager = c.manager; flags = c.flags; call = q }))) put.0, put.1)
 action_put xs w ks line t (action.CommitAll c) short spells =
     let put = gtrid_put xs w c.tran short spells in
     (ap (λ (g : TranName). task_step line t (action.CommitAll (record { tran = g; managers = c.managers; death = c.death }))) put.0, put.1)
@@ -128,8 +123,7 @@ steps_grown xs more ks others (p ∷ steps) all =
 -- where no key was appended
 pub names_grown : (xs more : List ℕ) (ks : List (List ℕ)) (steps : List KeptStep) → All (IsNamed xs ks) steps
     → (steps_of (xs ++ more) ks steps ≡ steps_of xs ks steps) × All (IsNamed (xs ++ more) ks) steps
-names_grown xs more ks steps all =
-    subst (λ (l : List (List ℕ)). (steps_of (xs ++ more) l steps ≡ steps_of xs ks steps) × All (IsNamed (xs ++ more) l) steps) (append-nil ks) (steps_grown xs more ks [] steps all)
+names_grown xs more ks steps all = rw (append-nil ks) at (steps_grown xs more ks [] steps all)
 
 reopens_same : (bytes : List ℕ) (keys : List (List ℕ)) (p : KeptStep) → is_kept_reopen p ≡ is_reopen (step_at bytes keys p)
 reopens_same bytes keys p = search (arith, rules)

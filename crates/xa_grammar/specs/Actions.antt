@@ -7,7 +7,7 @@ use Rattle.std.specs.Str.{bytes_eq}
 use Rattle.xa_words.specs.declared.flags.Call.TheVariants as call
 use Rattle.xa_grammar.specs.declared.fault.Reason.{Reason}
 use Rattle.xa_grammar.specs.declared.fault.Reason.TheVariants.{UnknownWord, TurnInThreadsMode, ReopenInThreadsMode}
-use Rattle.xa_grammar.specs.declared.step.Calling.TheVariants as calling
+use Rattle.xa_grammar.specs.declared.step.ManagerCall.TheVariants as calling
 use Rattle.xa_grammar.specs.declared.step.Action.TheVariants as action
 use Rattle.xa_grammar.specs.declared.step.Verb.{Verb}
 use Rattle.xa_grammar.specs.declared.step.Verb.TheVariants as verb
@@ -16,7 +16,7 @@ use Rattle.xa_grammar.specs.declared.commit.TheConstants.{MOST_MANAGER}
 use Rattle.xa_grammar.specs.Fields.{◌>>=◌, Word, word_at, end_of, number_in, number_at, key_at, xid_at, delta_at}
 use Rattle.xa_grammar.specs.Fields.{flags_onto}
 use Rattle.xa_grammar.specs.Contents.{Content, threads_of, managers_of}
-use Rattle.xa_grammar.specs.Steps.{ScriptCalling, ScriptCalled, ScriptAction, ScriptTask}
+use Rattle.xa_grammar.specs.Steps.{ScriptCall, ScriptCalled, ScriptAction, ScriptTask}
 use Rattle.xa_grammar.specs.Commits.{commit_of}
 
 -- The fourteen verbs.
@@ -43,7 +43,7 @@ abbrev pub verb_of : Word → Option Verb
 verb_of w = lookup (bytes_eq w) verbs
 
 -- The words between M and the flags: none, XID, KEY DELTA, HANDLE, or COUNT, which is at most 64.
-unfoldable pub calling_at : Verb → List Word → Result (ScriptCalling × List Word) Reason
+unfoldable pub calling_at : Verb → List Word → Result (ScriptCall × List Word) Reason
 calling_at (verb.Plain c) ws = Ok (calling.Xa c None, ws)
 calling_at (verb.OnBranch c) ws = do
   x ← xid_at ws

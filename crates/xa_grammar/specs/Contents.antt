@@ -16,8 +16,8 @@ use Rattle.xa_grammar.specs.declared.script.Count.TheVariants.{Threads, Managers
 use Rattle.xa_grammar.specs.declared.script.Settings.{Settings}
 use Rattle.xa_grammar.specs.declared.script.Declared.{Declared}
 use Rattle.xa_grammar.specs.declared.script.UnknownAppend.{UnknownAppend}
-use Rattle.xa_grammar.specs.declared.step.Calling.{Calling}
-use Rattle.xa_grammar.specs.declared.step.Calling.TheVariants as calling
+use Rattle.xa_grammar.specs.declared.step.ManagerCall.{ManagerCall}
+use Rattle.xa_grammar.specs.declared.step.ManagerCall.TheVariants as calling
 use Rattle.xa_grammar.specs.declared.step.Action.{Action}
 use Rattle.xa_grammar.specs.declared.step.Action.TheVariants as action
 use Rattle.xa_grammar.specs.declared.step.Task.{Task}
@@ -145,7 +145,7 @@ abbrev pub IsOfManager : Content → Declared → Type 0
 IsOfManager s d = (1 ≤ d.manager) × (d.manager ≤ managers_of s)
 
 -- A call asks for at most 64 xids.
-abbrev pub AsksForFew : {X K : Type 0} → Calling X K → Type 0
+abbrev pub AsksForFew : {X K : Type 0} → ManagerCall X K → Type 0
 AsksForFew (calling.Xa c x) = Unit {0}
 AsksForFew (calling.Heur x commits) = Unit {0}
 AsksForFew (calling.Add k d) = Unit {0}

@@ -4,14 +4,14 @@ use Rattle.std.specs.Prelude.{drop, get_or}
 use Rattle.xa_base.specs.Lists.{IsUpTo}
 use Rattle.xa_words.specs.Xid.{XidName}
 use Rattle.xa_words.specs.Tran.{TranName}
-use Rattle.xa_grammar.specs.declared.step.Calling.TheVariants as calling
+use Rattle.xa_grammar.specs.declared.step.ManagerCall.TheVariants as calling
 use Rattle.xa_grammar.specs.declared.step.Action.TheVariants as action
 use Rattle.xa_grammar.specs.declared.step.Step.TheVariants as step
 use Rattle.xa_grammar.specs.declared.steps.Place.{Place}
 use Rattle.xa_grammar.specs.declared.steps.KeyPlace.{KeyPlace}
 use Rattle.xa_grammar.specs.declared.steps.Kept.{Kept}
 use Rattle.xa_grammar.specs.declared.steps.Kept.TheVariants as kept
-use Rattle.xa_grammar.specs.Steps.{ScriptCalling, ScriptAction, ScriptStep, CallHas, call_with}
+use Rattle.xa_grammar.specs.Steps.{ScriptCall, ScriptAction, ScriptStep, CallHas, call_with}
 
 -- a step as it is kept
 abbrev pub KeptStep : Type 0
@@ -96,7 +96,7 @@ is_kept_reopen other = false
 -- ---- a step that comes
 
 -- the keys of the call: one where it is an addition
-abbrev pub keys_called : ScriptCalling → List (List ℕ)
+abbrev pub keys_called : ScriptCall → List (List ℕ)
 keys_called (calling.Add k d) = k ∷ []
 keys_called other = []
 

@@ -21,7 +21,7 @@ pub use Faults.{reason_text}
 pub use Fields.{Takes, Word, all_digits, decimal_value, delta_in, end_of, field, flag_of, flag_words, is_name}
 pub use Fields.{is_name_byte, number_in, number_of, signed_number_of, tran_named, xid_of}
 unfoldable pub use Fields.{delta_at, flags_onto, number_at, tran_at, xid_at}
-pub use Steps.{ActionHas, CallHas, Computes, ScriptAction, ScriptCalled, ScriptCalling, ScriptStep, ScriptTask, StepHas}
+pub use Steps.{ActionHas, CallHas, Computes, ScriptAction, ScriptCalled, ScriptCall, ScriptStep, ScriptTask, StepHas}
 pub use Steps.{action_with, call_with, step_with}
 pub use Spelling.{IsShort, IsShortGtrid, IsShortName, Spells, SpellsName}
 pub use Contents.{AreOfOne, AsksForFew, Content, Fits, HasFewXids, IsOfLog, IsOfManager, IsOfScript, IsOfUnknown}
@@ -54,7 +54,7 @@ pub use declared.named.Named.{Named}
 pub use declared.script.Count.TheVariants.{Managers, Threads}
 pub use declared.script.Declared.{Declared}
 pub use declared.script.UnknownAppend.{UnknownAppend}
-pub use declared.step.Calling.{Calling}
+pub use declared.step.ManagerCall.{ManagerCall}
 pub use declared.step.CommitAll.{CommitAll}
 pub use declared.steps.KeyPlace.{KeyPlace}
 pub use declared.steps.Place.{Place}

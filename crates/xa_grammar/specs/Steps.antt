@@ -2,8 +2,8 @@
 use Rattle.std.specs.Prelude.{◌≡◌, ℕ, List, IfSome, option_map}
 use Rattle.xa_words.specs.Xid.{XidName}
 use Rattle.xa_words.specs.Tran.{TranName}
-use Rattle.xa_grammar.specs.declared.step.Calling.{Calling}
-use Rattle.xa_grammar.specs.declared.step.Calling.TheVariants as calling
+use Rattle.xa_grammar.specs.declared.step.ManagerCall.{ManagerCall}
+use Rattle.xa_grammar.specs.declared.step.ManagerCall.TheVariants as calling
 use Rattle.xa_grammar.specs.declared.step.Called.{Called}
 use Rattle.xa_grammar.specs.declared.step.Action.{Action}
 use Rattle.xa_grammar.specs.declared.step.Action.TheVariants as action
@@ -12,8 +12,8 @@ use Rattle.xa_grammar.specs.declared.step.Step.{Step}
 use Rattle.xa_grammar.specs.declared.step.Step.TheVariants as step
 
 -- What a thread of a script calls, with the names of branches and of keys.
-abbrev pub ScriptCalling : Type 0
-ScriptCalling = Calling XidName (List ℕ)
+abbrev pub ScriptCall : Type 0
+ScriptCall = ManagerCall XidName (List ℕ)
 
 -- A call of a manager.
 abbrev pub ScriptCalled : Type 0
@@ -34,7 +34,7 @@ ScriptStep = Step XidName TranName (List ℕ)
 -- ---- the names in a step
 
 -- This holds of the branch that is called, where there is one, and that of the key that is changed.
-abbrev pub CallHas : {X K : Type 0} → (X → Type 0) → (K → Type 0) → Calling X K → Type 0
+abbrev pub CallHas : {X K : Type 0} → (X → Type 0) → (K → Type 0) → ManagerCall X K → Type 0
 CallHas P R (calling.Xa c x) = IfSome x P
 CallHas P R (calling.Heur x commits) = P x
 CallHas P R (calling.Add k d) = R k
@@ -58,7 +58,7 @@ abbrev pub Computes : {A B : Type 0} → (A → B → Type 0) → (A → B) → 
 Computes {A} {B} answers f = (x : A) (y : B) → answers x y → y ≡ f x
 
 -- What is called, with its branch and its key named otherwise.
-abbrev pub call_with : {X Y K J : Type 0} → (X → Y) → (K → J) → Calling X K → Calling Y J
+abbrev pub call_with : {X Y K J : Type 0} → (X → Y) → (K → J) → ManagerCall X K → ManagerCall Y J
 call_with name key (calling.Xa c x) = calling.Xa c (option_map name x)
 call_with name key (calling.Heur x commits) = calling.Heur (name x) commits
 call_with name key (calling.Add k d) = calling.Add (key k) d

@@ -23,5 +23,5 @@ pub use fault::{Reason, ScriptFault};
 pub use name::{Gtrid, Name};
 pub use read::read_script;
 pub use script::{Declared, Script, UnknownAppend};
-pub use step::{Action, Called, Calling, CommitAll, Step, Task};
+pub use step::{Action, Called, CommitAll, ManagerCall, Step, Task};
 pub use steps::Tasks;

@@ -22,7 +22,7 @@ use xa_words::{Call, Death, Delta, Key, ManagerSet};
 
 /// What a thread calls.
 #[derive(Clone, Copy, PartialEq, Eq)]
-pub enum Calling<X, K = Key> {
+pub enum ManagerCall<X, K = Key> {
     /// A call of XA but `xa_complete()` and `xa_recover()`, with its branch where it takes one.
     Xa(Call, Option<X>),
     /// A heuristic decision of a branch, to commit where true.
@@ -45,7 +45,7 @@ pub struct Called<X, K = Key> {
     /// The flags of `xa.h`, joined bit by bit. Nothing says that they suit the call.
     pub flags: u32,
     // It stands last, where no gap is left: a script keeps one of these for each line.
-    pub call: Calling<X, K>,
+    pub call: ManagerCall<X, K>,
 }
 
 /// A commit of a global transaction in two phases. Its branch at manager M is `G.M`.
@@ -97,25 +97,25 @@ pub enum Step<X, G, K = Key> {
     },
 }
 
-impl<X, K> Calling<X, K> {
+impl<X, K> ManagerCall<X, K> {
     // With its branch and its key named otherwise.
     #[inline(always)]
     pub(crate) fn map<Y, J, N: FnOnce(&X) -> Y, L: FnOnce(&K) -> J>(
         &self,
         name: N,
         key: L,
-    ) -> Calling<Y, J>
+    ) -> ManagerCall<Y, J>
         requires { CallHas (FnOnceTakesAt N.FnOnce name) (FnOnceTakesAt L.FnOnce key) self.now }
         ensures { (f : X → Y) (k : K → J) → Computes (FnOnceReturnsAt N.FnOnce name) f
             → Computes (FnOnceReturnsAt L.FnOnce key) k → result ≡ call_with f k self.now }
     {
         match self {
-            Calling::Xa(call, branch) => Calling::Xa(*call, branch.as_ref().map(name)),
-            Calling::Heur(branch, commits) => Calling::Heur(name(branch), *commits),
-            Calling::Add(added, delta) => Calling::Add(key(added), *delta),
-            Calling::Shut => Calling::Shut,
-            Calling::Complete(handle) => Calling::Complete(*handle),
-            Calling::Recover(room) => Calling::Recover(*room),
+            ManagerCall::Xa(call, branch) => ManagerCall::Xa(*call, branch.as_ref().map(name)),
+            ManagerCall::Heur(branch, commits) => ManagerCall::Heur(name(branch), *commits),
+            ManagerCall::Add(added, delta) => ManagerCall::Add(key(added), *delta),
+            ManagerCall::Shut => ManagerCall::Shut,
+            ManagerCall::Complete(handle) => ManagerCall::Complete(*handle),
+            ManagerCall::Recover(room) => ManagerCall::Recover(*room),
         }
     }
 }
@@ -246,22 +246,22 @@ fn verb_of(word: &[u8]) -> Option<Verb>
 
 // The words between the manager and the flags.
 #[tactic(auto, unfolding(crate::specs::Actions::calling_at))]
-fn calling_at<'a>(verb: Verb, words: &mut Words<'a>) -> Result<Calling<Name<'a>>, Reason>
+fn calling_at<'a>(verb: Verb, words: &mut Words<'a>) -> Result<ManagerCall<Name<'a>>, Reason>
     ensures takes { Takes result words.new (calling_at verb words.old) }
     ensures few { IfOk result AsksForFew }
 {
     match verb {
-        Verb::Plain(call) => Ok(Calling::Xa(call, None)),
-        Verb::OnBranch(call) => Ok(Calling::Xa(call, Some(words.xid()?))),
-        Verb::Heur(commits) => Ok(Calling::Heur(words.xid()?, commits)),
+        Verb::Plain(call) => Ok(ManagerCall::Xa(call, None)),
+        Verb::OnBranch(call) => Ok(ManagerCall::Xa(call, Some(words.xid()?))),
+        Verb::Heur(commits) => Ok(ManagerCall::Heur(words.xid()?, commits)),
         Verb::Add => {
             let key = words.key()?;
             let delta = words.delta()?;
-            Ok(Calling::Add(key, delta))
+            Ok(ManagerCall::Add(key, delta))
         }
-        Verb::Shut => Ok(Calling::Shut),
-        Verb::Complete => Ok(Calling::Complete(words.number(0, MOST_HANDLE)? as i32)),
-        Verb::Recover => Ok(Calling::Recover(words.number(0, MOST_COUNT)? as u32)),
+        Verb::Shut => Ok(ManagerCall::Shut),
+        Verb::Complete => Ok(ManagerCall::Complete(words.number(0, MOST_HANDLE)? as i32)),
+        Verb::Recover => Ok(ManagerCall::Recover(words.number(0, MOST_COUNT)? as u32)),
     }
 }
 

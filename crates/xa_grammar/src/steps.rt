@@ -11,7 +11,7 @@ ghost use Rattle.xa_grammar.specs.KeptSteps.{keys_in, kept_from, HasSmallThread,
 ghost use Rattle.std.specs.Arc.{arc_value};
 
 use crate::name::{Gtrid, Name};
-use crate::step::{Action, Called, Calling, CommitAll, Step, Task};
+use crate::step::{Action, Called, CommitAll, ManagerCall, Step, Task};
 use std::alloc::{AllocError, Global};
 use std::clone::Clone;
 use std::marker::Model;
@@ -41,7 +41,7 @@ pub(crate) enum Kept<X, K> {
         line: u32,
         manager: u32,
         flags: u32,
-        call: Calling<X, K>,
+        call: ManagerCall<X, K>,
     },
     CommitAll {
         thread: u8,
@@ -243,7 +243,7 @@ fn name_in<'a>(step: &Step<Name<'a>, Gtrid<'a>>) -> &'a [u8]
     };
     match &task.action {
         Action::Call(called) => match &called.call {
-            Calling::Xa(_, Some(name)) | Calling::Heur(name, _) => name.word(),
+            ManagerCall::Xa(_, Some(name)) | ManagerCall::Heur(name, _) => name.word(),
             _ => b"".as_slice(),
         },
         Action::CommitAll(commit) => commit.tran.bytes(),
@@ -262,7 +262,7 @@ fn add_key(keys: &mut Vec<Key>, step: &Step<Name, Gtrid>) -> Result<(), AllocErr
     };
     match &task.action {
         Action::Call(called) => match &called.call {
-            Calling::Add(key, _) => {
+            ManagerCall::Add(key, _) => {
                 keys.push(*key)?;
                 Ok(())
             }

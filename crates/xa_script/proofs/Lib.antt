@@ -1,3 +1,2 @@
-pub mod EachStep
 pub mod Runs
 pub mod Openings

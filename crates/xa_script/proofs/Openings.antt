@@ -7,14 +7,14 @@ use Rattle.xa_base.proofs.{slice_get_within, was_mapped, some_same}
 use Rattle.xa_base.specs.Lists.Chain.{none, more}
 use Rattle.xa_worker.specs.{WorkerView}
 use Rattle.xa_log.specs.{LosingLog, reopened as log_reopened}
-use Rattle.xa_switch.specs.{Settling, Again, AreOfOneOpening, IsSettled, settling, IsScanOf, AreScansOf, MayReopen, reopened_at, reopening}
+use Rattle.xa_switch.specs.{Settling, Again, AreOfOneOpening, settling, IsScanOf, AreScansOf, MayReopen, reopening}
 use Rattle.xa_grammar.specs.{ScriptStep, Fits, threads_of, managers_of, is_reopen, AreOfOne, Content, Declared}
 use Rattle.xa_transcript.specs.{Told, Reopened, opened_after, AreOfScript, AreValues}
 use Rattle.xa_session.specs.{Session, new_session, session_of, sessions_again}
-use Rattle.xa_telling.specs.{Beginning, Opening, Former, beginning, AreNumbersOf, IsSetupOf, BeginsAs, Leaves, TellsOf, Tells, settled_over}
+use Rattle.xa_telling.specs.{Beginning, Opening, Former, beginning, AreNumbersOf, BeginsAs, Leaves, TellsOf, Tells, settled_over}
 use Rattle.xa_telling.proofs.Opened.{opened_threads, opened_managers}
 use Rattle.xa_script.specs.{Steps, turns_at, Follows, IsOutcome, IsOpen, Goes, IsClosed, HasReached, HasCome}
-use Rattle.xa_script.proofs.EachStep.{run_goes, run_count}
+use Rattle.xa_script.proofs.Runs.{went, AllWent}
 use Rattle.xa_desk.specs.{DeskView}
 use Rattle.xa_scan.specs.{ScanView, no_scan}
 use Rattle.xa_telling.proofs.Told.{log_left, log_there, tells, again_setup, may_reopen, next_beginning, leaves, of_script_after}
@@ -54,12 +54,17 @@ module _ (s : Content) where
 
   module _ (lines : List ScriptStep) (opening : ℕ) (sessions : List Session) (workers : List WorkerView) (answers : List Told)
       (h : HasReached s lines opening sessions workers answers) where
+    reached : AllWent h.goes.first h.goes.first_workers h.own (turns_at sessions workers h.told)
+    reached =
+        let o = h.goes.is_open in
+        went s h.begins h.own h.goes.first h.goes.first_workers o.opened o.begins h.goes.fits (turns_at sessions workers h.told) h.goes.made
+
     -- it has the script's threads and managers
     pub reached_threads : length sessions ≡ threads_of s
-    reached_threads = search (arith, run_count, length-map, opened_threads)
+    reached_threads = reached.threads.as_many ∙ sym (length-map h.goes.first (λ (x : Session). x.desk)) ∙ opened_threads _ _ _ _ _ h.goes.is_open.opened
 
     pub reached_managers : length workers ≡ managers_of s
-    reached_managers = search (arith, run_goes, opened_managers)
+    reached_managers = reached.goes.each.as_many ∙ opened_managers _ _ _ _ _ h.goes.is_open.opened
 
     -- one more step of the opening
     pub stepped : (x : ScriptStep) (a : Told) (sessions' : List Session) (workers' : List WorkerView) → is_reopen x ≡ false
@@ -174,24 +179,20 @@ module _ (s : Content) (b : Beginning) (o : Opening) (left : List Session) (h : 
   is_closed = sym same ∙ h.settles
 
   -- it may be opened again
-  pub may : MayReopen settled again
-  may =
-      subst (λ (x : Settling). MayReopen x again) (sym is_closed)
-      (may_reopen s b o.steps o.answers h.sessions left h.workers h.ended h.done h.ran again numbers (ap (λ (x : Settling). x.opening) (sym h.settles) ∙ h.number))
+  may : MayReopen settled again
+  may = rw is_closed (may_reopen _ _ _ _ _ _ _ _ _ h.ran again numbers (ap (λ (x : Settling). x.opening) (sym h.settles) ∙ h.number))
 
   module _ (desks : List DeskView) (workers : List WorkerView) (zs : List ScanView) (logs : List LosingLog) (logs_are : logs ≡ map (λ x. x.log) left)
       (opened : AreOfOneOpening (reopening settled again) desks workers) (scans : AreScansOf settled again.threads zs) where
     abbrev next : Beginning
-    next = next_beginning s b o.steps o.answers h.sessions left h.workers h.ended h.done h.ran (scans_in zs)
+    next = next_beginning _ _ _ _ _ _ _ _ _ h.ran (scans_in zs)
 
     follows : (line : ℕ) → Follows mode.Turns s (record { opening = o; line = line }) b next
     follows line = record {
       left = left;
       comes = h;
       leaves =
-          subst (λ (x : Settling). Leaves s (record { opening = record { steps = o.steps; answers = o.answers; settled = x }; line = line }) b next) (sym h.settles)
-          (leaves s b o.steps o.answers h.sessions left h.workers h.ended h.done h.ran (subst IsSettled h.settles h.agree) line (scans_in zs)
-          (λ t low high. scans_are closed (threads_of s) zs (subst (λ (x : Settling). AreScansOf x (threads_of s) zs) is_closed (subst (λ n. AreScansOf settled n zs) numbers.threads scans)) t low high));
+          rw h.settles (leaves _ _ _ _ _ _ _ _ _ h.ran (rw h.settles at h.agree) line (scans_in zs) (scans_are closed (threads_of s) zs (rw (is_closed, numbers.threads) at scans)));
     }
 
     many_desks : length desks ≡ threads_of s
@@ -207,8 +208,8 @@ module _ (s : Content) (b : Beginning) (o : Opening) (left : List Session) (h : 
     open_again = record {
       opened = record {
         setup = reopening settled again;
-        said = subst (λ (x : Settling). IsSetupOf s (suc b.opening) (reopened_at closed.managers) (reopening x again)) (sym is_closed) (again_setup s b o.steps o.answers h.sessions left h.workers h.ended h.done h.ran again numbers (subst (λ (x : Settling). MayReopen x again) is_closed may));
-        opened = subst (λ (ds : List DeskView). AreOfOneOpening (reopening settled again) ds workers) (sym (desks_again desks logs zs many_logs many_scans)) opened;
+        said = rw is_closed (again_setup _ _ _ _ _ _ _ _ _ h.ran again numbers (rw is_closed at may));
+        opened = rw (desks_again desks logs zs many_logs many_scans) opened;
       };
       begins = search (arith, again_at, was_mapped, slice_get, log_there, log_left, scan_there);
     }
@@ -223,9 +224,7 @@ module _ (s : Content) (b : Beginning) (o : Opening) (left : List Session) (h : 
 module _ (m : Mode) (s : Content) where
   -- an opening that has come to what was settled
   come_tells : (b : Beginning) (o : Opening) (left : List Session) → HasCome m s b o left → TellsOf s b o
-  come_tells b o left h =
-      subst (λ (x : Settling). TellsOf s b (record { steps = o.steps; answers = o.answers; settled = x })) (sym h.settles)
-      (tells s b o.steps o.answers h.sessions left h.workers h.ended h.done h.ran (subst IsSettled h.settles h.agree))
+  come_tells b o left h = rw h.settles (tells _ _ _ _ _ _ _ _ _ h.ran (rw h.settles at h.agree))
 
   -- openings one after another
   all_leave : (first : Beginning) (before : List Former) (last : Beginning) → Chain (Follows m s) first before last → Chain (Leaves s) first before last

@@ -18,7 +18,7 @@ pub use entry::program;
 pub use in_threads::run_threads;
 pub use in_turns::run_turns;
 pub use xa_grammar::{
-    Action, Called, Calling, CommitAll, Declared, Gtrid, Name, Reason, Script, ScriptFault, Step,
-    Task, read_script,
+    Action, Called, CommitAll, Declared, Gtrid, ManagerCall, Name, Reason, Script, ScriptFault,
+    Step, Task, read_script,
 };
 pub use xa_transcript::{Answer, RunFault, Told};

@@ -1,5 +1,5 @@
 -- What a commit of a script's line comes to.
-use Rattle.xa_base.proofs.{◌≡◌, ℕ, true, false, List, [], ◌∷◌, Vec, Global, map, refl, sym, subst}
+use Rattle.xa_base.proofs.{◌≡◌, ℕ, true, false, List, [], ◌∷◌, Vec, Global, map, refl}
 use Rattle.xa_words.specs.{TranName, Code}
 use Rattle.xa_driver.specs.{Branch, KeepsTheRest, yes_of, GoesAsRound, first_ask, HasVoted, IsTranOf, IsUnknown}
 use Rattle.xa_log.specs.{LosesTo, LosingLog}
@@ -13,7 +13,7 @@ of_tran c [] = tt
 of_tran c (m ∷ ms) = (refl, of_tran c ms)
 
 pub all_of_tran : (c : CommitAll TranName) (bs : List Branch) → bs ≡ branches_of c → IsTranOf bs (named c)
-all_of_tran c bs is = subst (λ (l : List Branch). IsTranOf l (named c)) (sym is) (of_tran c _)
+all_of_tran c bs is = rw is (of_tran c _)
 
 -- where it isn't known whether the log has the record
 pub was_lost : (c : CommitAll TranName) (bs : List Branch) (old new : Session) (votes : Vec Code Global) → bs ≡ branches_of c

@@ -13,8 +13,8 @@ use Rattle.xa_words.specs.Xid.{XidName}
 use Rattle.xa_words.specs.declared.flags.Call.TheVariants as call
 use Rattle.xa_words.specs.declared.request.RmOp.TheVariants as rm
 use Rattle.xa_words.specs.declared.xid.Xid.{Xid}
-use Rattle.xa_grammar.specs.declared.step.Calling.TheVariants as calling
-use Rattle.xa_grammar.specs.Steps.{ScriptCalling, ScriptCalled}
+use Rattle.xa_grammar.specs.declared.step.ManagerCall.TheVariants as calling
+use Rattle.xa_grammar.specs.Steps.{ScriptCall, ScriptCalled}
 use Rattle.xa_transcript.specs.declared.answer.Answer.{Answer}
 use Rattle.xa_transcript.specs.declared.answer.Answer.TheVariants.{Called as shown, Completed, Recovered}
 
@@ -53,7 +53,7 @@ pub record HasListed (c : ScriptCalled) (n : ℕ) (old : DeskView) (z : ScanView
   pub shown : IsListed answer after a
 
 -- What a call does to its thread's desk and scan, and what it answers. Only an xa_recover moves the scan.
-abbrev pub Answers : ScriptCalling → ScriptCalled → DeskView → ScanView → DeskView → ScanView → Answer → Type 0
+abbrev pub Answers : ScriptCall → ScriptCalled → DeskView → ScanView → DeskView → ScanView → Answer → Type 0
 Answers (calling.Xa f x) c old z new z' a = HasAnswered (Calls (asked_of f x c.flags)) c old new a × (z' ≡ z)
 Answers (calling.Heur x commits) c old z new z' a =
     HasAnswered (Calls (native (rm.Heur x commits) c.flags)) c old new a × (z' ≡ z)
@@ -65,7 +65,7 @@ Answers (calling.Recover n) c old z new z' a = HasListed c n old z new z' a
 
 -- Whether a call may wait: a synchronous call that isn't refused may, an xa_complete without TMNOWAIT, and an
 -- xa_recover that asks its manager.
-abbrev pub calling_waits : ScriptCalling → ScriptCalled → DeskView → ScanView → Bool
+abbrev pub calling_waits : ScriptCall → ScriptCalled → DeskView → ScanView → Bool
 calling_waits (calling.Xa f x) c d z = call_waits d c.manager (asked_of f x c.flags)
 calling_waits (calling.Heur x commits) c d z = call_waits d c.manager (native (rm.Heur x commits) c.flags)
 calling_waits (calling.Add k delta) c d z = call_waits d c.manager (native (rm.Add k delta) c.flags)

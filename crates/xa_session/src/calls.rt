@@ -19,7 +19,7 @@ use std::alloc::{AllocError, Global};
 use std::sync::Wait;
 use xa_calls::{native, xa_call, xa_complete, xa_recover};
 use xa_desk::{Desk, Idle};
-use xa_grammar::{Action, Called, Calling, Gtrid, Name};
+use xa_grammar::{Action, Called, Gtrid, ManagerCall, Name};
 use xa_log::LosingLog;
 use xa_scan::Scan;
 use xa_transcript::Answer;
@@ -106,18 +106,18 @@ fn answer<R: Wait, I: Idle>(
     ensures prompt { calling_waits called.now.call called.now desk.old scan.old ≡ false → idle.new ≡ idle.old }
 {
     match &called.call {
-        Calling::Xa(call, branch) => Ok(xa_called(rt, desk, called, *call, branch, idle)),
-        Calling::Heur(branch, commits) => {
+        ManagerCall::Xa(call, branch) => Ok(xa_called(rt, desk, called, *call, branch, idle)),
+        ManagerCall::Heur(branch, commits) => {
             let op = RmOp::Heur(branch.xid(), *commits);
             Ok(native_called(rt, desk, called, op, idle))
         }
-        Calling::Add(key, delta) => {
+        ManagerCall::Add(key, delta) => {
             let op = RmOp::Add(*key, *delta);
             Ok(native_called(rt, desk, called, op, idle))
         }
-        Calling::Shut => Ok(native_called(rt, desk, called, RmOp::Shut, idle)),
-        Calling::Complete(handle) => Ok(completed(rt, desk, called, *handle, idle)),
-        Calling::Recover(room) => recovered(rt, alloc, desk, scan, called, *room, idle),
+        ManagerCall::Shut => Ok(native_called(rt, desk, called, RmOp::Shut, idle)),
+        ManagerCall::Complete(handle) => Ok(completed(rt, desk, called, *handle, idle)),
+        ManagerCall::Recover(room) => recovered(rt, alloc, desk, scan, called, *room, idle),
     }
 }
 

@@ -1,9 +1,9 @@
 -- What a commit did at its branches, also where its coordinator died: at each manager, and over states of another kind.
 -- What a commit and a resolve do to a thread's ledgers, they do to its entries in the journals of a settled opening.
 use Rattle.xa_words.specs.declared.death.Death.TheVariants as death
-use Rattle.xa_base.proofs.{arith, ◌≡◌, ℕ, inl, inr, zero, suc, Bool, false, ◌||◌, List, [], ◌∷◌, length, Option, Some, None, sym, refl, ap, ◌∙◌, subst, All}
-use Rattle.xa_base.proofs.{cases_eq, ne_eqb, All-cons, All-nil, All-head, All-tail, ◌≤◌, ◌⊎◌, ◌-◌, ◌<◌, true, ◌++◌, map, drop, length-append, nat_eq, or-false}
-use Rattle.xa_base.proofs.{All-map, list_any-append, list_any_none, by_if, ⊎_elim, cases_lt, min, take-nil}
+use Rattle.xa_base.proofs.{arith, ◌≡◌, ℕ, inl, inr, zero, suc, Bool, false, ◌||◌, List, [], ◌∷◌, length, Option, Some, None, refl, ap, ◌∙◌, All, cases_eq}
+use Rattle.xa_base.proofs.{ne_eqb, All-cons, All-nil, All-head, All-tail, ◌≤◌, ◌⊎◌, ◌-◌, ◌<◌, true, ◌++◌, map, drop, length-append, nat_eq, or-false, All-map}
+use Rattle.xa_base.proofs.{list_any-append, list_any_none, by_if, ⊎_elim, cases_lt, min, take-nil}
 use Rattle.xa_words.specs.{TranName, Death, Op, Prepare, Code, RmFail}
 use Rattle.xa_calls.specs.Scans.{Asking}
 use Rattle.xa_driver.specs.{Branch, Done, Ending, Putting, HaveAsked, HaveTold, Tells, VotesAndHears, VotesAndObeys, CameTo, CameToVotes, to_come, second_op}
@@ -25,7 +25,7 @@ use Rattle.xa_driver.proofs.Requests.{asked_grows}
 pub at_each : (P : ℕ → Type 0) (m : ℕ) (bs : List Branch) → All (λ b. b.m ≡ m → P b.m) bs → (has_branch_at bs m ≡ false → P m) → P m
 at_each P m [] all none = none refl
 at_each P m (b ∷ bs) all none = elim (cases_eq b.m m) [
-  | inl here ↦ subst P here (All-head (λ (b : Branch). b.m ≡ m → P b.m) b bs all here)
+  | inl here ↦ rw here at (All-head (λ (b : Branch). b.m ≡ m → P b.m) b bs all here)
   | inr differs ↦
       at_each P m bs (All-tail (λ (b : Branch). b.m ≡ m → P b.m) b bs all) (λ e. none (ap (λ c. c || has_branch_at bs m) (ne_eqb b.m m differs) ∙ e))
 ]
@@ -34,7 +34,7 @@ at_each P m (b ∷ bs) all none = elim (cases_eq b.m m) [
 module _ {D : Type 0} (A : Asking D) (U : Putting D) (P : Op → Type 0) (Q : D → Type 0)
     (on : (d e : D) (op : Op) (c : Code) → P op → A d op e c → Q d → Q e) (put_on : (d e : D) (op : Op) → P op → U d op e → Q d → Q e) where
   tells_by : (k : ℕ) (op : Option Op) (d e : D) → IsAskedFor P op → Tells A U k op d e → Q d → Q e
-  tells_by k None d e so same q = subst Q (sym same) q
+  tells_by k None d e so same q = rw same q
   tells_by zero (Some op) d e so is q = put_on d e op so is q
   tells_by (suc k) (Some op) d e so is q = on d e op is.0 so is.1 q
 
@@ -55,7 +55,7 @@ module _ {D E : Type 0} (A : Asking D) (U : Putting D) (B : Asking E) (V : Putti
     (step : (d e : D) (op : Op) (c : Code) → A d op e c → Q d → P e → B (f d) op (f e) c)
     (puts : (d e : D) (op : Op) → U d op e → Q d → P e → V (f d) op (f e)) where
   tells_back : (k : ℕ) (op : Option Op) (d e : D) → Tells A U k op d e → P e → P d
-  tells_back k None d e same p = subst P same p
+  tells_back k None d e same p = rw same at p
   tells_back zero (Some op) d e is p = put_back d e op is p
   tells_back (suc k) (Some op) d e is p = back d e op is.0 is.1 p
 
@@ -92,10 +92,7 @@ module _ {D E : Type 0} (A : Asking D) (U : Putting D) (B : Asking E) (V : Putti
   pub asked_so : (bs : List Branch) (vs : List Code) → All C bs → HaveAsked A U bs vs old new → HaveAsked B V bs vs old' new' × All R bs
   asked_so [] [] all h = (tt, All-nil R)
   asked_so [] (v ∷ vs) all h = absurd h
-  asked_so (b ∷ bs) [] all h =
-      let one = put_so b (All-head C b bs all) h.0 in
-      let rest = asked_so bs [] (All-tail C b bs all) h.1 in
-      ((one.0, rest.0), All-cons R b bs one.1 rest.1)
+  asked_so (b ∷ bs) [] all h = search (arith, asked_so bs [] (All-tail C b bs all) h.1, All-head, All-tail, All-cons, h.0, h.1)
   asked_so (b ∷ bs) (v ∷ vs) all h = search (arith, asked_so bs vs (All-tail C b bs all) h.1, All-head, All-tail, All-cons, h.0, h.1)
 
   module _ (W : Code → Type 0) (known : Done)
@@ -107,8 +104,8 @@ module _ {D E : Type 0} (A : Asking D) (U : Putting D) (B : Asking E) (V : Putti
         → HaveTold B V known.commit k bs vs old' new' × All R bs
     told_so k [] [] all votes h = (tt, All-nil R)
     told_so k (b ∷ bs) (v ∷ vs) all votes h =
-        let one = hears_so k b v (All-head C b bs all) (All-head W v vs votes) h.0 in
         let rest = told_so (to_come (second_op known.commit b.xid v) k) bs vs (All-tail C b bs all) (All-tail W v vs votes) h.1 in
+        let one = hears_so k b v (All-head C b bs all) (All-head W v vs votes) h.0 in
         ((one.0, rest.0), All-cons R b bs one.1 rest.1)
     told_so k bs vs all votes h = absurd h
 
@@ -119,12 +116,8 @@ module _ {D E : Type 0} (A : Asking D) (U : Putting D) (B : Asking E) (V : Putti
       pub came_so : (at : Death) → CameTo A U at tran bs old new log later known → CameTo B V at tran bs old' new' log later known × All R bs
       came_so (death.Preparing k) far = came_to_votes (min k (length bs)) far
       came_so death.Prepared far = came_to_votes (length bs) far
-      came_so death.Decided far =
-          let asked = asked_so bs known.votes.items all far.asked in
-          (record { asked = asked.0; counted = far.counted; decided = far.decided; endings = far.endings }, asked.1)
-      came_so (death.Telling k) far =
-          let told = told_so k bs known.votes.items all votes far.told in
-          (record { told = told.0; decided = far.decided; endings = far.endings }, told.1)
+      came_so death.Decided far = let asked = asked_so bs known.votes.items all far.asked in search (arith, asked.0, asked.1)
+      came_so (death.Telling k) far = let told = told_so k bs known.votes.items all votes far.told in search (arith, told.0, told.1)
       came_so death.Told far =
           let each =
           each_so C R W (λ b v s e. VotesAndObeys A known.commit b v s e (old b.m) (new b.m)) (λ b v s e. VotesAndObeys B known.commit b v s e (old' b.m) (new' b.m)) obeys_so
@@ -176,9 +169,7 @@ module _ (old new : List LedgerView) (managers : length new ≡ length old) (sou
       → All InFlight (drop (length vs) bs)
   asked_last [] [] rooms h = All-nil InFlight
   asked_last [] (v ∷ vs) rooms h = absurd h
-  asked_last (b ∷ bs) [] rooms h =
-      let room = All-head (Room old) b bs rooms in
-      All-cons InFlight b bs (put_last b (ledger old b.m) (Prepare b.xid) room (sound b.m room.known.positive) (λ shut. shut) h.0) (asked_last bs [] (All-tail (Room old) b bs rooms) h.1)
+  asked_last (b ∷ bs) [] rooms h = search (arith, asked_last bs [] (All-tail (Room old) b bs rooms) h.1, put_last, All-head, All-cons, h.0, b.m)
   asked_last (b ∷ bs) (v ∷ vs) rooms h = asked_last bs vs (All-tail (Room old) b bs rooms) h.1
 
   told_last : (k : ℕ) (bs : List Branch) (vs : List Code) → All (Room old) bs → HaveTold AsksLedger PutsLedger commit k bs vs (ledger old) (ledger new)
@@ -190,8 +181,7 @@ module _ (old new : List LedgerView) (managers : length new ≡ length old) (sou
       (told_last (to_come (second_op commit b.xid v) k) bs vs (All-tail (Room old) b bs rooms) h.1)
     where
       unasked : (commit : Bool) → second_op commit b.xid RmFail ≡ None
-      unasked true = refl
-      unasked false = refl
+      unasked commit = grind arith
 
       -- by a vote that tells that it is shut nothing is put to it
       told_open : (op : Op) → second_op commit b.xid v ≡ Some op → learnt_shut h.0.prepared ≡ true → learnt_shut (ledger old b.m) ≡ true
@@ -218,8 +208,8 @@ rooms at (b ∷ bs) room = All-cons (Room at) b bs room.0 (rooms at bs room.1)
 -- ---- a ledger only grows
 
 put_grows : (a a' : LedgerView) (op : Op) → PutsLedger a op a' → HasGrown a a'
-put_grows a a' op (PutsLedger.sent open_ is) = subst (HasGrown a) (sym is) (record { sent = (op ∷ [], refl); collected = (as_it_was a).collected })
-put_grows a a' op (PutsLedger.withheld shut same) = subst (HasGrown a) (sym same) (as_it_was a)
+put_grows a a' op (PutsLedger.sent open_ is) = rw is (record { sent = (op ∷ [], refl); collected = (as_it_was a).collected })
+put_grows a a' op (PutsLedger.withheld shut same) = rw same (as_it_was a)
 
 module _ (settled : Settling) (is : IsSettled settled) (t : ℕ) where
   -- the thread's ledgers at the end, and its entries in each journal
@@ -248,7 +238,7 @@ module _ (settled : Settling) (is : IsSettled settled) (t : ℕ) where
     Later a = HasGrown a (ledger last m)
 
     asked_before : (a a' : LedgerView) (op : Op) (c : Code) → AsksLedger a op a' c → Later a' → Later a
-    asked_before a a' op c asks later = grown_on a a' (ledger last m) (subst (HasGrown a) (sym asks.trace) (asked_grows a (Some op) (Some c))) later
+    asked_before a a' op c asks later = grown_on a a' (ledger last m) (rw asks.trace (asked_grows a (Some op) (Some c))) later
 
     put_before : (a a' : LedgerView) (op : Op) → PutsLedger a op a' → Later a' → Later a
     put_before a a' op puts later = grown_on a a' (ledger last m) (put_grows a a' op puts) later
@@ -256,19 +246,14 @@ module _ (settled : Settling) (is : IsSettled settled) (t : ℕ) where
     -- it is withheld, or sent and collected
     carries : (a a' : LedgerView) (op : Op) (c : Code) → AsksLedger a op a' c → Sound a → Later a' → CarriesOut t (upto (own m) a) op (upto (own m) a') c
     carries a a' op c asks sound later =
-        subst (λ (b : LedgerView). CarriesOut t (upto (own m) a) op (upto (own m) b) c) (sym asks.trace)
-        (by_if (λ (b : LedgerView). Later b → CarriesOut t (upto (own m) a) op (upto (own m) b) c) (learnt_shut a) a (with_collected (with_sent a op) (length a.sent) c)
-        (λ shut now. CarriesOut.withheld (asks.answered shut) (fails t (ledger last m) (own m) (fits m low) a sound now shut) refl)
-        (λ open_ now. CarriesOut.carried (enters_coded t (ledger last m) (own m) (fits m low) a (with_sent a op) op refl now.sent c
-        (collected_there a.collected (a.collected ++ (length a.sent, c) ∷ []) (ledger last m).collected (length a.sent, c) refl now.collected)))
-        (subst Later asks.trace later))
+        rw asks.trace (by_if (λ (b : LedgerView). Later b → CarriesOut t (upto (own m) a) op (upto (own m) b) c) (learnt_shut a) a (with_collected (with_sent a op) (length a.sent) c) (λ shut now. CarriesOut.withheld (asks.answered shut) (fails t (ledger last m) (own m) (fits m low) a sound now shut) refl) (λ open_ now. CarriesOut.carried (enters_coded t (ledger last m) (own m) (fits m low) a (with_sent a op) op refl now.sent c (collected_there a.collected (a.collected ++ (length a.sent, c) ∷ []) (ledger last m).collected (length a.sent, c) refl now.collected))) (rw asks.trace at later))
 
     -- or sent and not waited for
     carries_some : (a a' : LedgerView) (op : Op) → PutsLedger a op a' → Sound a → Later a' → CarriesOutSome t (upto (own m) a) op (upto (own m) a')
     carries_some a a' op (PutsLedger.sent open_ is) sound later =
         let e = enters t (ledger last m) (own m) (fits m low) a a' op (ap (λ (l : LedgerView). l.sent) is) later.sent in (e.0, CarriesOut.carried e.2)
     carries_some a a' op (PutsLedger.withheld shut same) sound later =
-        (RmFail, CarriesOut.withheld refl (fails t (ledger last m) (own m) (fits m low) a sound (subst Later same later) shut) (ap (upto (own m)) same))
+        (RmFail, CarriesOut.withheld refl (fails t (ledger last m) (own m) (fits m low) a sound (rw same at later) shut) (ap (upto (own m)) same))
 
   -- a commit, and a resolve
   module _ (old new : List LedgerView) (sound : AllSound old) (later : HaveGrown new last) where
@@ -284,19 +269,11 @@ module _ (settled : Settling) (is : IsSettled settled) (t : ℕ) where
 
     votes_so : (b : Branch) (v : Code) → Room old b → AsksLedger (ledger old b.m) (Prepare b.xid) (ledger new b.m) v
         → CarriesOut t (entries old b.m) (Prepare b.xid) (entries new b.m) v × SoundAt b
-    votes_so b v room asks =
-        let low = room.known.positive in (
-          carries b.m low (ledger old b.m) (ledger new b.m) (Prepare b.xid) v asks (sound b.m low) (later.each b.m low),
-          ask_sound (ledger old b.m) (ledger new b.m) (Prepare b.xid) v asks (sound b.m low),
-        )
+    votes_so b v room asks = search (arith, carries, ask_sound, room.known.positive, later.each)
 
     put_so : (b : Branch) → Room old b → PutsLedger (ledger old b.m) (Prepare b.xid) (ledger new b.m)
         → CarriesOutSome t (entries old b.m) (Prepare b.xid) (entries new b.m) × SoundAt b
-    put_so b room puts =
-        let low = room.known.positive in (
-          carries_some b.m low (ledger old b.m) (ledger new b.m) (Prepare b.xid) puts (sound b.m low) (later.each b.m low),
-          put_sound (ledger old b.m) (ledger new b.m) (Prepare b.xid) puts (sound b.m low),
-        )
+    put_so b room puts = search (arith, carries_some, put_sound, room.known.positive, later.each)
 
     pub decided_so : (commit : Bool) (bs : List Branch) (vs : List Code) (ss : List (Option Code)) (es : List Ending) → All (Room old) bs
         → EachBranch (λ b v s e. AtBranch AsksLedger commit b v s e (ledger old b.m) (ledger new b.m)) bs vs ss es
@@ -336,7 +313,7 @@ module _ (settled : Settling) (is : IsSettled settled) (t : ℕ) where
       others_so m low none = ap (upto (own m)) (others m low none)
 
       pub all_sound : All SoundAt bs → AllSound new
-      all_sound each m low = at_each (λ m. Sound (ledger new m)) m bs (λ k d lt here. each k d lt) (λ none. subst Sound (sym (others m low none)) (sound m low))
+      all_sound each m low = at_each (λ m. Sound (ledger new m)) m bs (λ k d lt here. each k d lt) (λ none. rw (others m low none) (sound m low))
 
     -- a resolve
     module _ (records : Records) (z : ScanView) (outcomes : List Outcome)
@@ -351,7 +328,7 @@ module _ (settled : Settling) (is : IsSettled settled) (t : ℕ) where
       }
 
       pub resolved_sound : AllSound new
-      resolved_sound m low = ⊎_elim (λ (past : MOST_MANAGERS < m). subst Sound (sym (course.others m past)) (sound m low))
+      resolved_sound m low = ⊎_elim (λ (past : MOST_MANAGERS < m). rw (course.others m past) (sound m low))
           (λ (high : m ≤ MOST_MANAGERS).
           resolves_by AsksLedger Any Sound ask_on records m (left_at z m) (course.at m) (ledger old m) (ledger new m) tt (λ o there. anything records m o) (course.each m (low, high)) (sound m low))
           (cases_lt MOST_MANAGERS m)

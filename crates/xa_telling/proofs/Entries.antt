@@ -1,8 +1,8 @@
 -- What a thread has sent to a manager and collected from it, as the manager's journal has it; and what its calls do to its desk.
-use Rattle.xa_base.proofs.{rules, ◌≡◌, ◌<◌, ◌≤◌, ℕ, Bool, List, [], ◌∷◌, length, None, Some, sym, ap, refl, subst, arith, length-append, All, nat_cmp, All-push}
-use Rattle.xa_base.proofs.{by_if, ◌+◌, ◌-◌, ⊎_elim, suc, true, false, cond, ◌==◌, ◌++◌, map, take, ◌∙◌, append_assoc, slice_get, if◌then◌else◌, Contains}
-use Rattle.xa_base.proofs.{cases_lt, length-map, All-contains, Contains-append_left, slice_get_within, slice_get-get_or, contains_at, got_map, one_more}
-use Rattle.xa_base.proofs.{was_mapped, by_bool, get_or-take, Contains-push, Any-from_list_any, get_or_from_slice_get, some_pair_parts}
+use Rattle.xa_base.proofs.{rules, ◌≡◌, ◌<◌, ◌≤◌, ℕ, Bool, List, [], ◌∷◌, length, None, Some, sym, ap, refl, arith, length-append, All, nat_cmp, All-push, by_if}
+use Rattle.xa_base.proofs.{◌+◌, ◌-◌, ⊎_elim, suc, true, false, cond, ◌==◌, ◌++◌, map, take, ◌∙◌, append_assoc, slice_get, if◌then◌else◌, Contains, cases_lt}
+use Rattle.xa_base.proofs.{length-map, All-contains, Contains-append_left, slice_get_within, slice_get-get_or, contains_at, got_map, one_more, was_mapped}
+use Rattle.xa_base.proofs.{by_bool, get_or-take, Contains-push, Any-from_list_any, get_or_from_slice_get, some_pair_parts}
 use Rattle.std.specs.FinMap as finmap
 use Rattle.xa_words.specs.{Code, Op, RmFail, Request}
 use Rattle.xa_desk.specs.{Operation, HaveGrown, learnt_shut, with_sent, with_collected, IsKnown, IsOut, ledger, next_operation, after_sent, after_collected}
@@ -36,12 +36,11 @@ collected_sound a n c sent all = All-push (λ (p : ℕ × Code). p.0 < length a.
 
 pub ask_sound : (a a' : LedgerView) (op : Op) (c : Code) → AsksLedger a op a' c → Sound a → Sound a'
 ask_sound a a' op c asks all =
-    subst Sound (sym asks.trace) (by_if Sound (learnt_shut a) a (with_collected (with_sent a op) (length a.sent) c) (λ _. all)
-    (λ _. collected_sound (with_sent a op) (length a.sent) c (omega (arith, length-append a.sent (op ∷ []))) (sent_sound a op all)))
+    rw asks.trace (by_if Sound (learnt_shut a) a (with_collected (with_sent a op) (length a.sent) c) (λ _. all) (λ _. collected_sound (with_sent a op) (length a.sent) c (omega (arith, length-append a.sent (op ∷ []))) (sent_sound a op all)))
 
 pub put_sound : (a a' : LedgerView) (op : Op) → PutsLedger a op a' → Sound a → Sound a'
-put_sound a a' op (PutsLedger.sent open_ is) all = subst Sound (sym is) (sent_sound a op all)
-put_sound a a' op (PutsLedger.withheld shut same) all = subst Sound (sym same) all
+put_sound a a' op (PutsLedger.sent open_ is) all = rw is (sent_sound a op all)
+put_sound a a' op (PutsLedger.withheld shut same) all = rw same all
 
 pub sending_sound : (at : List LedgerView) (m : ℕ) (op : Op) → AllSound at → AllSound (after_sent at m op)
 sending_sound at m op all n low =
@@ -89,13 +88,11 @@ pub asking_grows : (m : ℕ) (op : Op) (c : Code) (old new : DeskView) → HasAs
 asking_grows m op c old new is =
     let mid = after_sent old.ledgers m op in
     let o = next_operation old.ledgers m in
-    subst (HaveGrown old.ledgers) (sym is.ledgers)
-    (growing_on old.ledgers mid (after_collected mid o c) (sending_grows old.ledgers m op) (collecting_grows mid o c))
+    rw is.ledgers (growing_on old.ledgers mid (after_collected mid o c) (sending_grows old.ledgers m op) (collecting_grows mid o c))
 
 pub asking_sound : (m : ℕ) (op : Op) (c : Code) (old new : DeskView) → HasAsked m op c old new → AllSound old.ledgers → AllSound new.ledgers
 asking_sound m op c old new is all =
-    subst AllSound (sym is.ledgers)
-    (collecting_sound (after_sent old.ledgers m op) (next_operation old.ledgers m) c is.out (sending_sound old.ledgers m op all))
+    rw is.ledgers (collecting_sound (after_sent old.ledgers m op) (next_operation old.ledgers m) c is.out (sending_sound old.ledgers m op all))
 
 -- what was kept under a number was collected
 pub record HasTaken (o : Operation) (k : ℕ) (c : Code) (old new : DeskView) : Type 0 where
@@ -142,7 +139,7 @@ pub ledger_fits : (t m : ℕ) (at : List LedgerView) (es : List Entry) → 1 ≤
 ledger_fits t m at es low fits =
     let FitsBy : Bool → Type 0 = λ b. Fits t (if b then (ledger at m).sent else []) (if b then (ledger at m).collected else []) es in
     by_bool (λ b. FitsBy b → Fits t (ledger at m).sent (ledger at m).collected es) (is_known at m) (λ _ f. f)
-    (λ unknown f. subst (λ (a : LedgerView). Fits t a.sent a.collected es) (sym (past_end at (m - 1) (past unknown))) f) fits
+    (λ unknown f. rw (past_end at (m - 1) (past unknown)) f) fits
   where
     past : is_known at m ≡ false → length at ≤ m - 1
     past unknown =
@@ -163,8 +160,7 @@ numbered_at t n (p ∷ pre) o post = search (arith, numbered_at t (suc n) pre o 
 
 -- what was collected last is among all that was
 pub collected_there : (pre now all : List (ℕ × Code)) (p : ℕ × Code) → now ≡ pre ++ p ∷ [] → Begins now all → Contains all p
-collected_there pre now all p is begins =
-    subst (λ l. Contains l p) (sym begins.1) (Contains-append_left now begins.0 p (subst (λ l. Contains l p) (sym is) (Contains-push pre p)))
+collected_there pre now all p is begins = rw begins.1 (Contains-append_left now begins.0 p (rw is (Contains-push pre p)))
 
 pub is_rm_fail_so : (c : Code) → is_rm_fail c ≡ true → c ≡ RmFail
 is_rm_fail_so c e = search (arith, rules)
@@ -209,7 +205,7 @@ module _ (t : ℕ) (last : LedgerView) (es : List Entry) (fits : Fits t last.sen
       let (k, p, lt, at, failed) = Any-from_list_any (λ (p : ℕ × Code). is_rm_fail p.1) a.collected shut in
       let below : p.0 < length a.sent = All-contains (λ (q : ℕ × Code). q.0 < length a.sent) a.collected p sound (k, lt, at) in
       let got : Contains last.collected p =
-      subst (λ l. Contains l p) (sym grown.collected.1) (Contains-append_left a.collected grown.collected.0 p (k, lt, at)) in
+      rw grown.collected.1 (Contains-append_left a.collected grown.collected.0 p (k, lt, at)) in
       let e = was_mapped pair_of es p.0 p (All-contains (StandsAt es) last.collected p fits.coded got) in
       let among : slice_get (upto es a) p.0 ≡ Some e.0 =
       slice_get-get_or (upto es a) p.0 e.0 (omega (arith, below, many_upto a grown.sent))

@@ -1,7 +1,6 @@
 pub mod Calls
 pub mod Entries
 pub mod Branches
-pub mod Mapped
 pub mod Lines
 pub mod Opened
 pub mod Told

@@ -1,6 +1,6 @@
 -- A thread's lines put its entries into the journals, line by line.
 use Rattle.xa_base.proofs.{rules, ◌≡◌, ℕ, ◌-◌, ◌<◌, ◌≤◌, ⊎_elim, zero, suc, true, false, Bool, ◌==◌, List, [], ◌∷◌, ◌++◌, length, map, take, None, Some, inl}
-use Rattle.xa_base.proofs.{inr, sym, refl, ap, ◌∙◌, subst, arith, All, get_or, if◌then◌else◌, Contains, eqb-true, eqb-false, length-map, map-append, take_all}
+use Rattle.xa_base.proofs.{inr, sym, refl, ap, ◌∙◌, arith, All, get_or, if◌then◌else◌, Contains, eqb-true, eqb-false, length-map, map-append, take_all}
 use Rattle.xa_base.proofs.{All-contains, All-nil, all_left, all_mid, take-nil}
 use Rattle.std.specs.FinMap as finmap
 use Rattle.xa_base.specs.{Chain}
@@ -15,22 +15,21 @@ use Rattle.xa_calls.specs.{Answers as Reaches}
 use Rattle.xa_calls.specs.Scans.Answers.{refused as unreached, answered as reached}
 use Rattle.xa_switch.specs.{Settling, IsSettled}
 use Rattle.xa_log.specs.{LogState, record_of, AppendsBefore, LosingLog}
-use Rattle.xa_driver.specs.{Branch, Done, AppendsUntil, CameTo, HaveAsked, IsOfRound, LeavesHandles, PutsLedger, AsksLedger, code_of, AppendsOnce, HasRoom}
-use Rattle.xa_driver.specs.{IsTranOf, has_branch_at}
+use Rattle.xa_driver.specs.{Branch, Done, AppendsUntil, CameTo, IsOfRound, LeavesHandles, PutsLedger, AsksLedger, code_of, AppendsOnce, HasRoom, IsTranOf}
+use Rattle.xa_driver.specs.{has_branch_at}
 use Rattle.xa_driver.proofs.AtDeath.{asked_all}
 use Rattle.xa_driver.proofs.Calls.{among_first, asks_long}
 use Rattle.xa_grammar.specs.{CommitAll, ScriptCalled, ScriptAction, ScriptTask}
 use Rattle.xa_grammar.specs.declared.step.Action.TheVariants as action
 use Rattle.xa_transcript.specs.{Answer, Told}
-use Rattle.xa_session.specs.{Session, IsListed, HasListed, named, branch_at, branches_of, CommitsAll, ResolvesLeft, Executes, HasDone, told_of}
+use Rattle.xa_session.specs.{Session, HasListed, named, branch_at, branches_of, CommitsAll, ResolvesLeft, Executes, HasDone, told_of}
 use Rattle.xa_telling.specs.{CommitTakes, KeepsInFlight, in_flight_at, Line, Takes, TakesPart, Part, next_entry, new_part, Asked, Lists, CallTakes}
 use Rattle.xa_telling.specs.{ResolveTakes}
 use Rattle.xa_telling.proofs.Branches.{last, own, fits, nobody, same_entries, rooms, decided_so, voted_so, died_so, others_so, all_sound, resolved_so}
 use Rattle.xa_telling.proofs.Branches.{resolved_sound, at_each, all_in_flight}
-use Rattle.xa_telling.proofs.Calls.{CallDoes, plain, lists, Does, answered, kept, refused as call_refused, completes, answers_do, is_refusal}
+use Rattle.xa_telling.proofs.Calls.{CallDoes, plain, lists, Does, answered, kept, refused as call_refused, completes, answers_do, is_refusal, by_mapped}
 use Rattle.xa_telling.proofs.Entries.{StandsAt, collected_there, enters, enters_coded, fails, many_entries, many_upto, upto, AllSound, Handles, HasAsked}
 use Rattle.xa_telling.proofs.Entries.{has_asked, asking_grows, asking_sound, collecting_sends_none, collecting_sound, sending_sound}
-use Rattle.xa_telling.proofs.Mapped.{by_mapped}
 use Rattle.xa_telling.proofs.Opened.{AreOf}
 
 -- ---- the lines of a thread
@@ -142,11 +141,11 @@ module _ (settled : Settling) (is : IsSettled settled) (t : ℕ) where
         let number = many at m known.positive was in (
           CallTakes.kept o e.0 k asks low told free
               (part_is _ _ still (one_entered at new.desk.ledgers m o e.0 known sent e.2) (held ∙ ap (λ n. finmap.insert old.desk.kept k (record { manager = m; number = n })) (sym number))),
-          subst AllSound (sym ledgers) (sending_sound at m o sound),
+          rw ledgers (sending_sound at m o sound),
         )
     does_takes still (call_refused c why told stays) = (
       CallTakes.refused c why told (part_is _ _ still (λ m. ap (λ (l : List LedgerView). so_far l m) stays.0) stays.1),
-      subst AllSound (sym stays.0) sound,
+      rw stays.0 sound,
     )
     does_takes still (completes o k c asks told takes) =
         let m = o.manager in
@@ -159,7 +158,7 @@ module _ (settled : Settling) (is : IsSettled settled) (t : ℕ) where
         λ n. ap (λ (l : List LedgerView). (ledger l n).sent) takes.ledgers ∙ collecting_sends_none at o c n in (
           CallTakes.completes o k c asks takes.kept (All-contains (StandsAt (own settled is t m)) (ledger ended m).collected (o.number, c) (fits settled is t m low).coded got) told
               (part_is _ _ still (λ n. same_entries settled is t at new.desk.ledgers n (λ _. sent n)) takes.handles),
-          subst AllSound (sym takes.ledgers) (collecting_sound at o c takes.out sound),
+          rw takes.ledgers (collecting_sound at o c takes.out sound),
         )
 
     -- from this desk on what was collected is sound, and all is in the journals
@@ -169,8 +168,7 @@ module _ (settled : Settling) (is : IsSettled settled) (t : ℕ) where
     -- a request of an xa_recover
     request_takes : (m : ℕ) (d : DeskView) (op : Op) (e : DeskView) (c : Code) → Reaches m d op e c → GoesWell e
         → GoesWell d × Asked t m (part_at old.log old.scan d) op (part_at old.log old.scan e) c
-    request_takes m d op e c (unreached why same) well =
-        (subst GoesWell same well, Asked.refused (is_refusal d m false c why) (ap (part_at old.log old.scan) same))
+    request_takes m d op e c (unreached why same) well = (rw same at well, Asked.refused (is_refusal d m false c why) (ap (part_at old.log old.scan) same))
     request_takes m d op e c (reached admits times collects) well =
         let asked = has_asked times m false d op e c admits collects in (
           ((λ s. well.0 (asking_sound m op c d e asked s)), growing_on d.ledgers e.ledgers ended (asking_grows m op c d e asked) well.1),
@@ -198,7 +196,7 @@ module _ (settled : Settling) (is : IsSettled settled) (t : ℕ) where
             room = listed.room;
             recovers = mapped.1;
             stands = λ i. record { entries = so_far new.desk.ledgers; handles = new.desk.kept; log = (log i).found.state; is_lost = (log i).is_lost; scan = new.scan };
-            tells = subst (λ z. IsListed z listed.after a) listed.recovers.answered listed.shown;
+            tells = rw listed.recovers.answered at listed.shown;
           },
           mapped.0.0 sound,
         )
@@ -220,18 +218,11 @@ module _ (settled : Settling) (is : IsSettled settled) (t : ℕ) where
     nowhere = same_entries settled is t at at' 0 (λ low. absurd (omega (arith, low)))
 
     resolve_takes : ResolvesLeft old new a → ResolveTakes t a (part_of old) (part_of new) × AllSound at'
-    resolve_takes (ResolvesLeft.refused why told e) = (ResolveTakes.refused told (ap part_of e), subst (λ (x : Session). AllSound x.desk.ledgers) (sym e) sound)
+    resolve_takes (ResolvesLeft.refused why told e) = (ResolveTakes.refused told (ap part_of e), rw e sound)
     resolve_takes (ResolvesLeft.resolved outcomes can trace log still keeps as_many told in_turn) =
-        let records = old.log.found.state.records in (
-          ResolveTakes.resolved outcomes told (record {
-            course = resolved_so settled is t at at' sound later records old.scan outcomes.items trace.course;
-            nowhere = nowhere;
-            handles = keeps.kept;
-            log = ap (λ (l : LosingLog). l.found.state) log;
-            known = can.known;
-            still_known = ap (λ (l : LosingLog). l.is_lost) log ∙ can.known;
-            scan = still;
-          }),
+        let records = old.log.found.state.records in
+        let course = resolved_so settled is t at at' sound later records old.scan outcomes.items trace.course in (
+          ResolveTakes.resolved outcomes told (search (arith, course, nowhere, keeps.kept, can.known)),
           resolved_sound settled is t at at' sound later records old.scan outcomes.items trace.course,
         )
 
@@ -264,20 +255,14 @@ module _ (settled : Settling) (is : IsSettled settled) (t : ℕ) where
       }
 
       commit_takes : CommitsAll c old new a → CommitTakes t c a (part_of old) (part_of new) × AllSound at'
-      commit_takes (CommitsAll.refused why told e) = (CommitTakes.refused told (ap part_of e), subst (λ (x : Session). AllSound x.desk.ledgers) (sym e) sound)
+      commit_takes (CommitsAll.refused why told e) = (CommitTakes.refused told (ap part_of e), rw e sound)
       commit_takes (CommitsAll.decided done alive can trace still keeps as_many told rounds appends) =
           let may = can.may in
           let each =
-          decided_so settled is t at at' sound later done.commit bs done.votes.items trace.course.seconds done.endings.items (rooms at bs may.room) trace.course.each in (
-            CommitTakes.decided done alive told (record {
-              course = search (arith, others_so);
-              nowhere = nowhere;
-              unlogged = not_logged c (managers_in c.managers) old.log.found.state may.tran may.some may.one may.absent;
-              handles = keeps.kept;
-              scan = still;
-              known = can.known;
-              still_known = appended_known (named c) _ done.votes.items done.logged old.log new.log appends ∙ can.known;
-            }),
+          decided_so settled is t at at' sound later done.commit bs done.votes.items trace.course.seconds done.endings.items (rooms at bs may.room) trace.course.each in
+          let unlogged = not_logged c (managers_in c.managers) old.log.found.state may.tran may.some may.one may.absent in
+          let still_known = appended_known (named c) _ done.votes.items done.logged old.log new.log appends ∙ can.known in (
+            CommitTakes.decided done alive told (search (arith, others_so, nowhere, unlogged, keeps.kept, can.known, still_known)),
             all_sound settled is t at at' sound later bs trace.course.others each.1,
           )
       commit_takes (CommitsAll.undecided votes comes can voted still keeps as_many told round unknown) =
@@ -288,35 +273,20 @@ module _ (settled : Settling) (is : IsSettled settled) (t : ℕ) where
           let others : (m : ℕ) → 1 ≤ m → has_branch_at bs m ≡ false → ledger at' m ≡ ledger at m = search (arith, among_first, p.asked.others) in
           let each =
           voted_so settled is t at at' sound later bs votes.items (rooms at bs may.room)
-          (subst (λ vs. HaveAsked AsksLedger PutsLedger bs vs (ledger at) (ledger at')) (sym votes_are) (asked_all bs ks at at' p.same p.asked.each)) in (
-            CommitTakes.undecided votes comes told (record {
-              asked = each.0;
-              counted = ap (λ l. length l) votes_are ∙ length-map ks code_of ∙ asks_long bs ks p.same;
-              others = others_so settled is t at at' sound later bs others;
-              nowhere = nowhere;
-              unlogged = not_logged c (managers_in c.managers) old.log.found.state may.tran may.some may.one may.absent;
-              wanted = unknown.wanted;
-              log = unknown.lost.either;
-              handles = keeps.kept;
-              scan = still;
-              known = can.known;
-              lost = unknown.lost.lost;
-            }),
+          (rw votes_are (asked_all bs ks at at' p.same p.asked.each)) in
+          let counted = ap (λ l. length l) votes_are ∙ length-map ks code_of ∙ asks_long bs ks p.same in
+          let unlogged = not_logged c (managers_in c.managers) old.log.found.state may.tran may.some may.one may.absent in (
+            CommitTakes.undecided votes comes told (search (arith, each.0, counted, others_so, nowhere, unlogged, unknown.wanted, unknown.lost, keeps.kept, can.known)),
             all_sound settled is t at at' sound later bs others each.1,
           )
       commit_takes (CommitsAll.died at_ known dead can dies managers still handles told appends) =
           let may = can.may in
           let room = rooms at bs may.room in
-          let far = died_so settled is t at at' sound later at_ (named c) bs old.log.found.state new.log.found.state known room dies.far in (
-            CommitTakes.died at_ known dead told (record {
-              course = record { far = far.0; others = others_so settled is t at at' sound later bs dies.others };
-              nowhere = nowhere;
-              unlogged = not_logged c (managers_in c.managers) old.log.found.state may.tran may.some may.one may.absent;
-              handles = keeps_in_flight at_ known room managers dies.far handles;
-              scan = still;
-              known_log = can.known;
-              still_known = until_known at_ (named c) _ known.votes.items known.logged old.log new.log appends ∙ can.known;
-            }),
+          let far = died_so settled is t at at' sound later at_ (named c) bs old.log.found.state new.log.found.state known room dies.far in
+          let unlogged = not_logged c (managers_in c.managers) old.log.found.state may.tran may.some may.one may.absent in
+          let in_flight = keeps_in_flight at_ known room managers dies.far handles in
+          let still_known = until_known at_ (named c) _ known.votes.items known.logged old.log new.log appends ∙ can.known in (
+            CommitTakes.died at_ known dead told (search (arith, far.0, others_so, dies.others, nowhere, unlogged, in_flight, can.known, still_known)),
             all_sound settled is t at at' sound later bs dies.others far.1,
           )
 
@@ -334,8 +304,8 @@ module _ (settled : Settling) (is : IsSettled settled) (t : ℕ) where
       → Chain (TakesPart settled) (part_of first.0) (lines_in first tasks l runs) (part_of l.0) × AllSound l.0.desk.ledgers × AllKept l.0.desk
   carried_so_far first sound held tasks last (none xs l e f) own later = (
     none [] (part_of l.0) refl (ap (λ (s : State). part_of s.0) f),
-    subst (λ (s : State). AllSound s.0.desk.ledgers) (sym f) sound,
-    subst (λ (s : State). AllKept s.0.desk) (sym f) held,
+    rw f sound,
+    rw f held,
   )
   carried_so_far first sound held tasks last (more xs x now l before step) own later =
       let was = growing_on now.0.desk.ledgers l.0.desk.ledgers ended step.does.goes_on.lists later in
@@ -343,7 +313,7 @@ module _ (settled : Settling) (is : IsSettled settled) (t : ℕ) where
       let held_then = step.does.kept held_now in
       let takes = executes_takes step.answer now.0 l.0 sound_now was later x.action held_then step.does.executes in (
         more (lines_in first xs now before) (line x step.answer) (part_of now.0) (part_of l.0) chain
-            (subst (λ u. Takes settled x.action u step.answer (part_of now.0) (part_of l.0)) (sym (all_mid (λ (p : ScriptTask). p.thread ≡ t) xs [] x own)) takes.0),
+            (rw (all_mid (λ (p : ScriptTask). p.thread ≡ t) xs [] x own) takes.0),
         takes.1,
         held_then,
       )
@@ -356,17 +326,15 @@ module _ (settled : Settling) (is : IsSettled settled) (t : ℕ) where
       (record { entries = own settled is t; handles = l.0.desk.kept; log = l.0.log.found.state; is_lost = l.0.log.is_lost; scan = l.0.scan })
   carried_all first fresh uncollected unkept held known tasks l runs mine later sent =
       let sound : AllSound first.0.desk.ledgers =
-      λ m low. subst (All (λ (p : ℕ × Code). p.0 < length (ledger first.0.desk.ledgers m).sent)) (sym (uncollected m)) (All-nil (λ (p : ℕ × Code). p.0 < length (ledger first.0.desk.ledgers m).sent)) in
+      λ m low. rw (uncollected m) (All-nil (λ (p : ℕ × Code). p.0 < length (ledger first.0.desk.ledgers m).sent)) in
       let start : part_of first.0 ≡ new_part first.0.log.found.state first.0.scan =
       λ i. record { entries = λ m. take (length (fresh m i)) (own settled is t m); handles = unkept i; log = first.0.log.found.state; is_lost = known i; scan = first.0.scan } in
       let whole : (m : ℕ) → so_far l.0.desk.ledgers m ≡ own settled is t m = λ m. ap (λ ops. take (length ops) (own settled is t m)) (sent m) ∙ all_there m in
       let end : part_of l.0 ≡ record (part_of l.0) { entries = own settled is t } =
       λ i. record { entries = λ m. whole m i; handles = l.0.desk.kept; log = l.0.log.found.state; is_lost = l.0.log.is_lost; scan = l.0.scan } in
-      subst (λ (p : Part). Chain (TakesPart settled) p (lines_in first tasks l runs) (record (part_of l.0) { entries = own settled is t })) start
-      (subst (λ (p : Part). Chain (TakesPart settled) (part_of first.0) (lines_in first tasks l runs) p) end (carried_so_far first sound held tasks l runs mine later).0)
+      rw (end, start) at (carried_so_far first sound held tasks l runs mine later).0
     where
       all_there : (m : ℕ) → take (length (ledger ended m).sent) (own settled is t m) ≡ own settled is t m
-      all_there zero =
-          subst (λ (es : List Entry). take (length (ledger ended 0).sent) es ≡ es) (sym (nobody settled is t)) (take-nil (length (ledger ended 0).sent))
+      all_there zero = rw (nobody settled is t) (take-nil (length (ledger ended 0).sent))
       all_there (suc m) =
           take_all (length (ledger ended (suc m)).sent) (own settled is t (suc m)) (let size = many_entries t (ledger ended (suc m)) (own settled is t (suc m)) (fits settled is t (suc m) (omega arith)) in omega (arith, size))

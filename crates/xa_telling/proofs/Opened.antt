@@ -1,9 +1,8 @@
 -- What holds of the desks and the workers that a script has opened, and of its tasks.
+use Rattle.xa_base.proofs.{map-map, ◌≡◌, ℕ, ◌+◌, Bool, List, [], ◌∷◌, length, map, Some, sym, refl, ap, ◌∙◌, arith, slice_get, range_with_len, slice_index_or}
+use Rattle.xa_base.proofs.{length-map, slice_get_within, slice_get-get_or, some_same, ◌≢◌, ◌≤◌, ◌==◌, ◌++◌, None, All, if◌then◌else◌, eqb-true, ne_eqb}
+use Rattle.xa_base.proofs.{All-head, All-tail, All-cons, All-nil, by_bool, length-map-range_with_len, get_or-map-range_with_len, filter_map, filter_map-append}
 use Rattle.xa_grammar.specs.declared.step.Step.TheVariants as step
-use Rattle.xa_base.proofs.{◌≡◌, ℕ, ◌+◌, Bool, List, [], ◌∷◌, length, map, Some, sym, refl, ap, ◌∙◌, arith, slice_get, range_with_len, slice_index_or}
-use Rattle.xa_base.proofs.{length-map, slice_get_within, slice_get-get_or, some_same, ◌≢◌, ◌≤◌, ◌==◌, ◌++◌, None, subst, All, if◌then◌else◌, eqb-true, ne_eqb}
-use Rattle.xa_base.proofs.{All-head, All-tail, All-cons, All-nil, by_bool, all_left, all_mid, length-map-range_with_len, get_or-map-range_with_len, filter_map}
-use Rattle.xa_base.proofs.{filter_map-append}
 use Rattle.xa_desk.specs.{DeskView}
 use Rattle.xa_worker.specs.{WorkerView}
 use Rattle.xa_tables.specs.{Tables, opening}
@@ -11,8 +10,6 @@ use Rattle.xa_switch.specs.{Plan, Setup, IsSound, planned, IsNewDesk, IsNewWorke
 use Rattle.xa_grammar.specs.{Content, threads_of, managers_of, ScriptTask, ScriptStep, task_of, tasks_of, Fits}
 use Rattle.xa_telling.specs.{IsPlanOf, IsSetupOf, AreOpened, script_says, plan_says}
 use Rattle.xa_transcript.specs.{opened}
-use Rattle.xa_base.specs.{Chain}
-use Rattle.xa_base.specs.Lists.Chain.{none, more}
 
 -- ---- the desks
 
@@ -45,10 +42,6 @@ opened_first s n tables p is k w new = search (arith, over_managers, slice_get, 
 
 -- ---- the first opening
 
-pub map_map : {A B C : Type 0} (f : B → C) (g : A → B) (xs : List A) → map f (map g xs) ≡ map (λ x. f (g x)) xs
-map_map f g [] = refl
-map_map f g (x ∷ xs) = ap (λ l. f (g x) ∷ l) (map_map f g xs)
-
 -- what is made by the script's plan is what the script says
 pub planned_setup : (s : Content) (p : Plan) → IsPlanOf s p → IsSound p → IsSetupOf s 1 (opened s) (planned p)
 planned_setup s p is sound =
@@ -57,31 +50,15 @@ planned_setup s p is sound =
       numbers = is.numbers;
       managers = search (arith, length-map-range_with_len, length-map);
       use_async =
-          sym (map_map (λ (a : Bool × List (List ℕ × ℕ)). a.0) plan_says p.managers.items)
+          sym (map-map (λ (a : Bool × List (List ℕ × ℕ)). a.0) plan_says p.managers.items)
           ∙ ap (map (λ (a : Bool × List (List ℕ × ℕ)). a.0)) is.managers
-          ∙ map_map (λ (a : Bool × List (List ℕ × ℕ)). a.0) (script_says s) range;
+          ∙ map-map (λ (a : Bool × List (List ℕ × ℕ)). a.0) (script_says s) range;
       first =
-          sym (map_map (λ (a : Bool × List (List ℕ × ℕ)). opening a.1) plan_says p.managers.items)
+          sym (map-map (λ (a : Bool × List (List ℕ × ℕ)). opening a.1) plan_says p.managers.items)
           ∙ ap (map (λ (a : Bool × List (List ℕ × ℕ)). opening a.1)) is.managers
-          ∙ map_map (λ (a : Bool × List (List ℕ × ℕ)). opening a.1) (script_says s) range;
+          ∙ map-map (λ (a : Bool × List (List ℕ × ℕ)). opening a.1) (script_says s) range;
       limits = sound.limits;
     }
-
--- ---- what a chain hands on
-
--- what the first has, and each step hands on, the last has
-module _ {X A : Type 0} {leads : X → A → A → Type 0} where
-  pub along : (P : A → Type 0) (first : A) (xs : List X) (last : A) → Chain leads first xs last → ((x : X) (now next : A) → leads x now next → P now → P next)
-      → P first → P last
-  along P first xs last (none ys l e f) on has = subst P (sym f) has
-  along P first xs last (more ys y now l before is) on has = on y now l is (along P first ys now before on has)
-
-  -- where C holds of each
-  pub along_all : (C : X → Type 0) (P : A → Type 0) (first : A) (xs : List X) (last : A) → Chain leads first xs last → All C xs
-      → ((x : X) (now next : A) → C x → leads x now next → P now → P next) → P first → P last
-  along_all C P first xs last (none ys l e f) all on has = subst P (sym f) has
-  along_all C P first xs last (more ys y now l before is) all on has =
-      on y now l (all_mid C ys [] y all) is (along_all C P first ys now before (all_left C ys (y ∷ []) all) on has)
 
 -- ---- the tasks of one thread
 
@@ -92,9 +69,7 @@ AreOf t tasks = All (λ (q : ScriptTask). q.thread ≡ t) tasks
 pub tasks_are_of : (t : ℕ) (steps : List ScriptStep) → AreOf t (tasks_of t steps)
 tasks_are_of t [] = All-nil (λ (q : ScriptTask). q.thread ≡ t)
 tasks_are_of t (step.Task p ∷ steps) =
-    subst (AreOf t) (sym (filter_map-append (task_of t) (step.Task p ∷ []) steps))
-    (by_bool (λ b. AreOf t (filter_map (λ (q : ScriptTask). if b then Some q else None) (p ∷ []) ++ tasks_of t steps)) (p.thread == t)
-    (λ own. All-cons (λ (q : ScriptTask). q.thread ≡ t) p (tasks_of t steps) (eqb-true p.thread t own) (tasks_are_of t steps)) (λ _. tasks_are_of t steps))
+    rw (filter_map-append (task_of t) (step.Task p ∷ []) steps) (by_bool (λ b. AreOf t (filter_map (λ (q : ScriptTask). if b then Some q else None) (p ∷ []) ++ tasks_of t steps)) (p.thread == t) (λ own. All-cons (λ (q : ScriptTask). q.thread ≡ t) p (tasks_of t steps) (eqb-true p.thread t own) (tasks_are_of t steps)) (λ _. tasks_are_of t steps))
 tasks_are_of t (s ∷ steps) = tasks_are_of t steps
 
 -- a thread that there isn't has none
@@ -102,7 +77,7 @@ pub no_tasks : (t threads managers : ℕ) (steps : List ScriptStep) → All (Fit
 no_tasks t threads managers [] all apart = refl
 no_tasks t threads managers (step.Task p ∷ steps) all apart =
     let fits : Fits threads managers (step.Task p) = All-head (Fits threads managers) (step.Task p) steps all in
-    let differs : p.thread ≢ t = λ e. apart (subst (λ n. 1 ≤ n) e fits.0.0) (subst (λ n. n ≤ threads) e fits.0.1) in
+    let differs : p.thread ≢ t = λ e. apart (rw e at fits.0.0) (rw e at fits.0.1) in
     filter_map-append (task_of t) (step.Task p ∷ []) steps
     ∙ ap (λ b. filter_map (λ (q : ScriptTask). if b then Some q else None) (p ∷ []) ++ tasks_of t steps) (ne_eqb p.thread t differs)
     ∙ no_tasks t threads managers steps (All-tail (Fits threads managers) (step.Task p) steps all) apart

@@ -1,18 +1,18 @@
 -- What is left outstanding at a desk, by the numbers under which it is kept.
 -- What the threads and the managers of a run tell once they are settled, and what an opening leaves to the next one.
-use Rattle.std.specs.FinMap as finmap
-use Rattle.xa_base.proofs.{◌≡◌, ℕ, ◌+◌, ◌<◌, ◌≤◌, zero, suc, List, [], ◌∷◌, ◌++◌, length, map, Some, None, sym, refl, ap, ◌∙◌, subst, inl, inr, arith}
-use Rattle.xa_base.proofs.{length-append, All, AllPairs, Contains, range_with_len, cases_eq, map-append, All-nil, All-push, Contains-append_left, not_both}
-use Rattle.xa_base.proofs.{pairs_push, range_suc, same_begins, snoc_parts, removed_other, ◌≢◌, ◌-◌, ⊎_elim, option_map, Option, false, slice_get}
+use Rattle.xa_base.proofs.{map-map, along, ◌≡◌, ℕ, ◌+◌, ◌<◌, ◌≤◌, zero, suc, List, [], ◌∷◌, ◌++◌, length, map, Some, None, sym, refl, ap, ◌∙◌, subst, inl, inr}
+use Rattle.xa_base.proofs.{arith, length-append, All, AllPairs, Contains, range_with_len, cases_eq, map-append, All-nil, All-push, Contains-append_left}
+use Rattle.xa_base.proofs.{not_both, pairs_push, range_suc, same_begins, snoc_parts, removed_other, ◌≢◌, ◌-◌, ⊎_elim, option_map, Option, false, slice_get}
 use Rattle.xa_base.proofs.{slice_index_or, nat_cmp, cases_lt, length-map, All-contains, slice_get-map, slice_get_within, got, find_numbered, find_none}
 use Rattle.xa_base.proofs.{was_mapped, Bool, all_at, Contains-push, slice_get_past, slice_get_cases, length-map-range_with_len}
+use Rattle.std.specs.FinMap as finmap
 use Rattle.xa_base.specs.{Chain}
 use Rattle.xa_base.specs.Lists.Chain.{none, more}
 use Rattle.xa_words.specs.{Code}
 use Rattle.xa_desk.specs.{Operation, ledger, HaveGrown, DeskView, LedgerView, AllKept, sent_to, EndedView, new_ledgers, plans}
 use Rattle.xa_desk.proofs.Ledgers.{collecting_grows, ledger-collected_same, nobody_sent}
 use Rattle.xa_crew.specs.{Telling, EndsNumber, HasServed, EndsDesk}
-use Rattle.xa_telling.proofs.Entries.{collected_there, Fits as Agrees, StandsAt, agreed_fits, no_entries, HasTaken, collecting_sends_none, has_redeemed}
+use Rattle.xa_telling.proofs.Entries.{collected_there, StandsAt, agreed_fits, no_entries, HasTaken, collecting_sends_none, has_redeemed}
 use Rattle.xa_desk.proofs.Books.{fresh_sent, fresh_collected}
 use Rattle.xa_switch.specs.{ledgers_of, IsNewDesk, DeskSeat, seat_of_desk, ThreadPart, ManagerPart, IsSettled, find_thread, ledgers_in, sent, collected}
 use Rattle.xa_switch.specs.{journal, thread_part, manager_part, settling, Settling, Again, FollowsTables, journal_in, history, IsScanOf, first_ledgers}
@@ -24,7 +24,7 @@ use Rattle.xa_session.specs.{Session}
 use Rattle.xa_transcript.specs.{Told, AreOfScript, opened, opened_after, histories}
 use Rattle.xa_telling.specs.{Comes, Ran, Beginning, TellsOf, part_at, answers_to, entries_of, TakesPart, AreLeft, AreCarriedOut, Part, HasCode, new_part}
 use Rattle.xa_telling.specs.{AreNumbersOf, IsSetupOf, Former, Leaves, beginning}
-use Rattle.xa_telling.proofs.Opened.{opened_threads, opened_managers, opened_first, opened_thread, map_map, tasks_are_of, no_tasks, along}
+use Rattle.xa_telling.proofs.Opened.{opened_threads, opened_managers, opened_first, opened_thread, tasks_are_of, no_tasks}
 use Rattle.xa_telling.proofs.Branches.{fits, own as own_entries}
 use Rattle.xa_telling.proofs.Lines.{lines_in, tasks_in, answers_in, carried_all}
 use Rattle.xa_tables.proofs.Reopening.{left_on}
@@ -40,7 +40,7 @@ IsTold first now x =
 told_on : (first now next : DeskView) → HaveGrown now.ledgers next.ledgers → (x : ℕ × Code) → IsTold first now x → IsTold first next x
 told_on first now next grown x (o, at, low, there) =
     let more = (grown.each o.manager low).collected in
-    (o, at, low, subst (λ l. Contains l (o.number, x.1)) (sym more.1) (Contains-append_left (ledger now.ledgers o.manager).collected more.0 (o.number, x.1) there))
+    (o, at, low, rw more.1 (Contains-append_left (ledger now.ledgers o.manager).collected more.0 (o.number, x.1) there))
 
 -- the numbers from 1 to n were ended, and nothing was sent
 pub record HaveEnded (n : ℕ) (first now : DeskView) (told : List (ℕ × Code)) : Type 0 where
@@ -67,14 +67,14 @@ module _ (n : ℕ) (first now next : DeskView) (told : List (ℕ × Code)) (h : 
             (ap (λ (l : List LedgerView). (ledger l o.manager).collected) takes.ledgers
             ∙ ap (λ (a : LedgerView). a.collected) (ledger-collected_same now.ledgers o c takes.out.known o.manager refl)) (same_begins _),
       ) in
-      let grown : HaveGrown now.ledgers next.ledgers = subst (HaveGrown now.ledgers) (sym takes.ledgers) (collecting_grows now.ledgers o c) in
+      let grown : HaveGrown now.ledgers next.ledgers = rw takes.ledgers (collecting_grows now.ledgers o c) in
       record {
         others = search (arith, removed_other);
         coded = All-push (IsTold first next) told (n + 1, c) (λ k d below. told_on first now next grown _ (h.coded k d below)) this;
         within = All-push (λ x. (1 ≤ x.0) × (x.0 ≤ n + 1)) told (n + 1, c) (λ k d below. let w = h.within k d below in (w.0, let high = w.1 in omega (arith, high))) (omega arith, omega arith);
         all =
-            λ k p low high at. subst (λ (l : List ℕ). Contains l k) (sym (map-append (λ (x : ℕ × Code). x.0) told ((n + 1, c) ∷ []))) (elim (cases_eq k (n + 1)) [
-              | inl same ↦ subst (Contains (numbers ++ (n + 1) ∷ [])) (sym same) (Contains-push numbers (n + 1))
+            λ k p low high at. rw (map-append (λ (x : ℕ × Code). x.0) told ((n + 1, c) ∷ [])) (elim (cases_eq k (n + 1)) [
+              | inl same ↦ rw same (Contains-push numbers (n + 1))
               | inr differs ↦ Contains-append_left numbers ((n + 1) ∷ []) k (h.all k p low (omega (arith, high, differs)) at)
             ]);
         rising = pairs_push (λ x y. x.0 < y.0) told (n + 1, c) h.rising (λ k d below. let w = h.within k d below in let high = w.1 in omega (arith, high));
@@ -88,9 +88,8 @@ module _ (n : ℕ) (first now next : DeskView) (told : List (ℕ × Code)) (h : 
 one_ended : (n : ℕ) (first : DeskView) (now next : Telling) → HaveEnded n first now.0 now.1 → EndsNumber (n + 1) now next
     → HaveEnded (n + 1) first next.0 next.1
 one_ended n first now next h (EndsNumber.kept c takes pushed) =
-    subst (λ (l : List (ℕ × Code)). HaveEnded (n + 1) first next.0 l) (sym pushed) (ended_kept n first now.0 next.0 now.1 h takes.operation c (has_redeemed now.0 next.0 (n + 1) c takes))
-one_ended n first now next h (EndsNumber.free empty same) =
-    subst (λ (x : Telling). HaveEnded (n + 1) first x.0 x.1) (sym same) (ended_free n first now.0 now.0 now.1 h empty)
+    rw pushed (ended_kept n first now.0 next.0 now.1 h takes.operation c (has_redeemed now.0 next.0 (n + 1) c takes))
+one_ended n first now next h (EndsNumber.free empty same) = rw same (ended_free n first now.0 now.0 now.1 h empty)
 
 -- the numbers of a chain
 pub numbers_ended : (first : DeskView) (ks : List ℕ) (last : Telling) → Chain EndsNumber (first, []) ks last → (n : ℕ) → ks ≡ range_with_len 1 n
@@ -103,8 +102,7 @@ numbers_ended first ks last (more xs x now l before is) (suc n) same =
     let parts = snoc_parts xs (range_with_len 1 n) x (1 + n) (same ∙ range_suc 1 n) in
     let number : x ≡ n + 1 = let last_one = parts.1 in omega (arith, last_one) in
     let next_one : n + 1 ≡ suc n = omega arith in
-    subst (λ k. HaveEnded k first l.0 l.1) next_one
-    (one_ended n first now l (numbers_ended first xs now before n parts.0) (subst (λ k. EndsNumber k now l) number is))
+    rw (← next_one) (one_ended n first now l (numbers_ended first xs now before n parts.0) (rw (← number) is))
 
 -- where nothing was sent, nothing is outstanding, and so all of it is kept
 unsent_kept : (d : DeskView) → ((m : ℕ) → (ledger d.ledgers m).sent ≡ []) → AllKept d
@@ -132,7 +130,7 @@ are_left settled is t last e outstanding ends own =
               o,
               at,
               All-contains (StandsAt (own_entries settled is t o.manager)) (ledger (ledgers_of settled t) o.manager).collected (o.number, code) (fits settled is t o.manager low).coded
-                  (subst (λ (l : List LedgerView). Contains (ledger l o.manager).collected (o.number, code)) (sym ledgers) there),
+                  (rw ledgers there),
             );
         all = λ k o at. elim (cases_lt 0 k) [
           | inr none_low ↦ absurd (not_both (finmap.get ends.emptied.kept k) o (ends.none k) (h.others k (λ within. let low = within.0 in omega (arith, low, none_low)) ∙ at))
@@ -164,7 +162,7 @@ log_there b left k x at = sym (ap (log_in (b.logs (suc k))) at)
 
 -- a desk's flags are those of its plan
 flags_planned : (at : List LedgerView) → map (λ (p : Bool × ℕ). p.0) (plans at) ≡ map (λ (a : LedgerView). a.carries_async) at
-flags_planned at = map_map (λ (p : Bool × ℕ). p.0) _ at
+flags_planned at = map-map (λ (p : Bool × ℕ). p.0) _ at
 
 new_flags : (plan : ℕ) (flags : List Bool) → map (λ (a : LedgerView). a.carries_async) (new_ledgers plan flags) ≡ flags
 new_flags plan [] = refl
@@ -279,7 +277,7 @@ module _ (s : Content) (b : Beginning) (steps : List ScriptStep) (answers : List
         carried_all settled is x.desk.thread (x, []) fresh
         (λ m. ap (λ (l : List LedgerView). (ledger l m).collected) (made k x at) ∙ fresh_collected r.opened.setup.numbers.requests r.opened.setup.use_async (m - 1)) (ap (λ (d : DeskView). d.kept) new.made)
         (unsent_kept x.desk fresh) begins.known
-        tasks last c.runs (tasks_are_of x.desk.thread steps) (subst (HaveGrown y.0.desk.ledgers) (sym (ended_so ∙ c.ends.ends.ledgers)) c.ends.goes_on.lists) left_so.1 in
+        tasks last c.runs (tasks_are_of x.desk.thread steps) (rw (ended_so ∙ c.ends.ends.ledgers) c.ends.goes_on.lists) left_so.1 in
         subst (λ (u : ℕ). (c : AreCarriedOut steps answers settled u (part_at b (suc k))) × (c.log ≡ log_left b left (suc k))) t (
           record {
             lines = lines_in (x, []) tasks last c.runs;
@@ -317,7 +315,7 @@ module _ (s : Content) (b : Beginning) (steps : List ScriptStep) (answers : List
                 let nothing_there : (m : ℕ) → entries_of t (journal settled m) ≡ [] = λ m.
                 let nothing_sent : sent settled t m ≡ [] = ap (λ o. sent_to (ledgers_in o) m) (no_thread t none_there) ∙ nobody_sent m in
                 let fits = agreed_fits t (sent settled t m) (collected settled t m) (journal settled m) (is.agree t m) in
-                no_entries t (collected settled t m) (entries_of t (journal settled m)) (subst (λ ops. Agrees t ops (collected settled t m) (entries_of t (journal settled m))) nothing_sent fits) in
+                no_entries t (collected settled t m) (entries_of t (journal settled m)) (rw nothing_sent at fits) in
                 none [] (record { entries = λ m. entries_of t (journal settled m); handles = finmap.empty; log = b.logs t; is_lost = false; scan = b.scans t }) refl (λ i. record { entries = λ m. nothing_there m i; handles = finmap.empty; log = b.logs t; is_lost = false; scan = b.scans t });
             outstanding = [];
             are_left = record {

@@ -9,8 +9,8 @@ use Rattle.xa_words.specs.declared.request.Op.{Op}
 use Rattle.xa_words.specs.declared.request.RmOp.{RmOp}
 use Rattle.xa_words.specs.declared.request.RmOp.TheVariants as rm
 use Rattle.xa_calls.specs.Asking.{asked_of, native}
-use Rattle.xa_grammar.specs.declared.step.Calling.TheVariants as calling
-use Rattle.xa_grammar.specs.Steps.{ScriptCalling, ScriptCalled}
+use Rattle.xa_grammar.specs.declared.step.ManagerCall.TheVariants as calling
+use Rattle.xa_grammar.specs.Steps.{ScriptCall, ScriptCalled}
 
 -- What a call asks its manager for: the code of an op; with TMASYNC a handle for it; nothing, for this reason; in an
 -- xa_complete, what was asked for before; or, in an xa_recover, as many of the branches that are left there.
@@ -33,7 +33,7 @@ abbrev pub outside_xa : RmOp → ℕ → Wanted
 outside_xa o f = wanted (native o f) (λ asked. asked.op) (λ asked. asked.asynchronous)
 
 -- What a call with these flags asks for.
-abbrev pub wanted_by : ScriptCalling → ℕ → Wanted
+abbrev pub wanted_by : ScriptCall → ℕ → Wanted
 wanted_by (calling.Xa c x) f = in_xa c x f
 wanted_by (calling.Heur x commits) f = outside_xa (rm.Heur x commits) f
 wanted_by (calling.Add k d) f = outside_xa (rm.Add k d) f

@@ -37,7 +37,7 @@ faulty _ words bytes before after judged fails one = absurd (omega (arith, one))
 pub returns-in-Err-clause-nothing_shown : goal.returns-in-Err-clause-nothing_shown
 returns-in-Err-clause-nothing_shown g c positive low =
     let e = c.in-Err.ensures in
-    nothing_shown c.in-Err.fault c.args.words.now _ _ _ e.err_words e.unshown e.err (subst (λ (n : ℕ). n < 4) c.status_of.ensures.status low)
+    nothing_shown c.in-Err.fault c.args.words.now _ _ _ e.err_words e.unshown e.err (rw c.status_of.ensures.status at low)
 
 pub returns-in-Err-clause-faulty : goal.returns-in-Err-clause-faulty
 returns-in-Err-clause-faulty g c one =

@@ -13,7 +13,7 @@ keeps_appends (Some xs) (Some ys) text keeps = keeps ∙ sym (append-nil xs)
 -- a write takes some of the text, perhaps nothing
 writes_some : {E : Type 0} (old new : Option (List ℕ)) (r : Result ℕ E) (bytes text : List ℕ) → WriteAppends old new r bytes → bytes ≡ text
     → AppendsSome old new text
-writes_some old new (Ok n) bytes text is same = (n, subst (λ (l : List ℕ). Appends old new (take n l)) same is)
+writes_some old new (Ok n) bytes text is same = (n, rw same at is)
 writes_some old new (Err e) bytes text keeps same = (0, keeps_appends old new text keeps)
 
 -- five parts are one text

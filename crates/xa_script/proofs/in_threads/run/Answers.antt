@@ -1,19 +1,18 @@
-use Rattle.xa_base.proofs.{◌≡◌, ◌+◌, ◌<◌, ℕ, zero, suc, List, [], ◌∷◌, Some, length, map, false, refl, ap, ◌∙◌, sym, subst, arith, All, slice_get, flat_map}
-use Rattle.xa_base.proofs.{range_with_len, got_map, slice_get_within, slice_get-get_or, all_at, some_same, length-range_with_len, get_or-range_with_len}
-use Rattle.xa_base.proofs.{All-nil}
+use Rattle.xa_base.proofs.{map-map, ◌≡◌, ◌+◌, ◌<◌, ℕ, zero, suc, List, [], ◌∷◌, Some, length, map, false, refl, ap, ◌∙◌, sym, subst, arith, All, slice_get}
+use Rattle.xa_base.proofs.{flat_map, range_with_len, got_map, slice_get_within, slice_get-get_or, all_at, some_same, length-range_with_len}
+use Rattle.xa_base.proofs.{get_or-range_with_len, All-nil, none_side}
 use Rattle.std.proofs.lemmas.List.Folds.{flat_map-map}
 use Rattle.xa_base.specs.{Chain, Pairwise}
 use Rattle.xa_transcript.specs.{opened, Told}
-use Rattle.xa_worker.specs.{WorkerView}
 use Rattle.xa_grammar.specs.{tasks_of, threads_of, Content, Fits, managers_of, AreOfOne}
 use Rattle.xa_crew.specs.{Attended, Member, HasRun, IsRun}
 use Rattle.xa_session.specs.{ScriptThread, Session, session_of, log_of, HasDone, IsNew, Works, new_session}
 use Rattle.xa_telling.specs.{AreOpened, Former, beginning}
-use Rattle.xa_telling.proofs.Opened.{opened_thread, map_map, planned_setup}
+use Rattle.xa_telling.proofs.Opened.{opened_thread, planned_setup}
 use Rattle.xa_script.specs.{told_by, HasWorked}
 use Rattle.xa_base.specs.Lists.Chain.{none}
 use Rattle.xa_desk.specs.{DeskView, EndedView}
-use Rattle.xa_switch.specs.{planned}
+use Rattle.xa_switch.specs.{planned, Setup, Settling}
 use Rattle.xa_script.specs.InThreads.{InThreads}
 use Rattle.xa_script.proofs.Runs.{threads_ran}
 use Rattle.xa_script.proofs.Openings.{begin_so}
@@ -28,11 +27,6 @@ number_there n k below =
 -- as many threads as the script has
 as_many_new : (s : Content) (threads : List ScriptThread) → Pairwise (IsNew s) (range_with_len 1 (threads_of s)) threads → length threads ≡ threads_of s
 as_many_new s threads new = new.as_many ∙ length-range_with_len 1 (threads_of s)
-
--- the answers of all members
-members_tell : (ms : List (Member ScriptThread)) (clients : List (Attended ScriptThread)) → clients ≡ map (λ t. t.attended) ms
-    → flat_map told_by clients ≡ flat_map (λ t. told_by t.attended) ms
-members_tell ms clients are = ap (flat_map told_by) are ∙ flat_map-map told_by (λ (t : Member ScriptThread). t.attended) ms
 
 -- a member that was new and to which no memory was refused
 one_worked : (s : Content) (t : ℕ) (m : Member ScriptThread) → m.desk.thread ≡ t → IsNew s t m.client → HasRun Works m → m.attended.client.wants_memory ≡ false
@@ -50,33 +44,32 @@ one_worked s t m number new ran done =
 
 -- of each of several a choice
 chosen : {A B : Type 0} (P : A → B → Type 0) (xs : List A) → ((k : ℕ) (x : A) → slice_get xs k ≡ Some x → (y : B) × P x y) → (ys : List B) × Pairwise P xs ys
-chosen P [] each = ([], record { as_many = refl; each = λ k x y at. absurd (cc) })
+chosen P [] each = ([], none_side P [] [] refl refl)
 chosen {A} {B} P (x ∷ xs) each =
     let first = each 0 x refl in
     let rest = chosen P xs (λ k y at. each (suc k) y at) in
-    (first.0 ∷ rest.0, pairs_cons P x xs first.0 rest.0 first.1 rest.1)
+    (first.0 ∷ rest.0, record { as_many = ap suc rest.1.as_many; each = each_of first.0 rest.0 first.1 rest.1 })
   where
-    pairs_cons : (P : A → B → Type 0) (x : A) (xs : List A) (y : B) (ys : List B) → P x y → Pairwise P xs ys → Pairwise P (x ∷ xs) (y ∷ ys)
-    pairs_cons P x xs y ys one all = record { as_many = ap suc all.as_many; each = each_of }
-      where
-        each_of : (k : ℕ) (a : A) (b : B) → slice_get (x ∷ xs) k ≡ Some a → slice_get (y ∷ ys) k ≡ Some b → P a b
-        each_of zero a b at at' = subst (P a) (some_same y b at') (subst (λ (z : A). P z y) (some_same x a at) one)
-        each_of (suc k) a b at at' = all.each k a b at at'
+    each_of : (y : B) (ys : List B) → P x y → Pairwise P xs ys → (k : ℕ) (a : A) (b : B) → slice_get (x ∷ xs) k ≡ Some a → slice_get (y ∷ ys) k ≡ Some b → P a b
+    each_of y ys one all zero a b at at' = rw (some_same x a at, some_same y b at') at one
+    each_of y ys one all (suc k) a b at at' = all.each k a b at at'
 
--- all members
-members_worked : (s : Content) (ms : List (Member ScriptThread)) (workers : List WorkerView) → AreOpened s 1 (opened s) (map (λ t. t.desk) ms) workers
-    → (threads : List ScriptThread) → Pairwise (IsNew s) (range_with_len 1 (threads_of s)) threads → threads ≡ map (λ t. t.client) ms → All (HasRun Works) ms
-    → (clients : List (Attended ScriptThread)) → clients ≡ map (λ t. t.attended) ms → All (λ t. t.client.wants_memory ≡ false) clients
-    → (left : List Session) × Pairwise (HasWorked s s.steps) ms left
-members_worked s ms workers are_opened threads new are ran clients attended done =
-    chosen (HasWorked s s.steps) ms (λ k m at.
-    let client_at : slice_get threads k ≡ Some m.client = ap (λ l. slice_get l k) are ∙ got_map (λ (t : Member ScriptThread). t.client) ms k m at in
-    let attended_at : slice_get clients k ≡ Some m.attended = search (arith, slice_get, got_map) in
-    let desk_at = got_map (λ (t : Member ScriptThread). t.desk) ms k m at in
-    let within = slice_get_within threads k m.client client_at in
-    let below : k < threads_of s = omega (arith, within, as_many_new s threads new) in
-    one_worked s (k + 1) m (opened_thread s 1 (opened s) (map (λ (t : Member ScriptThread). t.desk) ms) workers are_opened k m.desk desk_at) (new.each k (k + 1) m.client (number_there (threads_of s) k below) client_at) (all_at (HasRun Works) ms k m ran at)
-    (all_at (λ (t : Attended ScriptThread). t.client.wants_memory ≡ false) clients k m.attended done attended_at))
+-- all members were new, and to none of them was memory refused
+members_worked : (s : Content) (p : Setup) (threads : List ScriptThread) (clients : List (Attended ScriptThread)) (settled : Settling)
+    (r : IsRun Works p threads clients settled) → AreOpened s 1 (opened s) (map (λ t. t.desk) r.members) r.workers
+    → Pairwise (IsNew s) (range_with_len 1 (threads_of s)) threads → All (λ t. t.client.wants_memory ≡ false) clients
+    → (left : List Session) × Pairwise (HasWorked s s.steps) r.members left
+members_worked s p threads clients settled r are_opened news done =
+    chosen (HasWorked s s.steps) r.members λ k m at.
+    let client_at : slice_get threads k ≡ Some m.client =
+    ap (λ l. slice_get l k) r.clients_are ∙ got_map (λ (t : Member ScriptThread). t.client) r.members k m at in
+    let attended_at : slice_get clients k ≡ Some m.attended =
+    ap (λ l. slice_get l k) r.attended_are ∙ got_map (λ (t : Member ScriptThread). t.attended) r.members k m at in
+    let number : m.desk.thread ≡ k + 1 =
+    opened_thread s 1 (opened s) _ r.workers are_opened k m.desk (got_map (λ (t : Member ScriptThread). t.desk) r.members k m at) in
+    let below : k < threads_of s = omega (arith, slice_get_within threads k m.client client_at, as_many_new s threads news) in
+    one_worked s (k + 1) m number (news.each k (k + 1) m.client (number_there (threads_of s) k below) client_at) (all_at (HasRun Works) r.members k m r.ran at)
+    (all_at (λ (t : Attended ScriptThread). t.client.wants_memory ≡ false) clients k m.attended done attended_at)
 
 pub run_clients-requires-clause-clients : goal.run_clients-requires-clause-clients
 run_clients-requires-clause-clients g c κs within = search (arith, as_many_new, c.args.script.now, c.in_ok-threads.threads.items)
@@ -94,17 +87,16 @@ returns-in-Ok g c =
     let ended : List EndedView = map (λ (t : Member ScriptThread). t.ended) r.members in
     let are_opened : AreOpened s 1 (opened s) desks r.workers =
     record { setup = planned c.in_ok-plan.plan; said = planned_setup s c.in_ok-plan.plan c.in_ok-plan.ensures.plan c.in_ok-plan.ensures.sound; opened = r.opened } in
-    let all_opened : AreOpened s 1 (opened s) (map (λ (x : Session). x.desk) sessions) r.workers = search (arith, map_map) in
+    let all_opened : AreOpened s 1 (opened s) (map (λ (x : Session). x.desk) sessions) r.workers = search (arith, map-map) in
     let fits : All (Fits (threads_of s) (managers_of s)) s.steps = c.steps_are_of_it.ensures in
-    let worked =
-    members_worked s r.members r.workers are_opened c.in_ok-threads.threads.items c.in_ok-threads.ensures r.clients_are r.ran c.in-Ok.run'.clients.items r.attended_are c.in_ok-lines_of-in-Ok.ensures.done in
+    let worked = members_worked s (planned c.in_ok-plan.plan) _ _ _ r are_opened c.in_ok-threads.ensures c.in_ok-lines_of-in-Ok.ensures.done in
     let runs : InThreads s s.steps sessions worked.0 r.workers ended r.done answers = record {
       threads = r.members;
       sessions_are = refl;
       worked = worked.1;
       ended_are = refl;
       served = r.served;
-      answered = members_tell r.members c.in-Ok.run'.clients.items r.attended_are;
+      answered = ap (flat_map told_by) r.attended_are ∙ flat_map-map told_by (λ (t : Member ScriptThread). t.attended) r.members;
     } in (
       answers,
       record { steps = s.steps; answers = answers; settled = c.in-Ok.run'.settled },

@@ -32,7 +32,7 @@ loop-session-preserved g c =
     let d = c.in-Some.session in
     let old = closing_of c.loop-session.ended.items c.loop-session.turns c.loop-session.transcript in
     let ended : HasEndedDesk d old (closing_of c.push_reserved.new.self.items c.end_session.new.turns c.end_session.new.transcript) =
-    subst (λ (l : List EndedView). HasEndedDesk d old (closing_of l c.end_session.new.turns c.end_session.new.transcript)) (sym c.push_reserved.ensures.items) (c.in_ok-end.ensures.ended c.loop-session.ended.items) in
+    rw c.push_reserved.ensures.items (c.in_ok-end.ensures.ended c.loop-session.ended.items) in
     let logs = c.push_reserved-in-loop-session.ensures.items ∙ ap (λ (x : LosingLog). c.loop-session.logs.items ++ x ∷ []) c.in_ok-end.ensures.log in
     let longer = ap length c.push_reserved.ensures.items in
     let many = i.many in

@@ -1,10 +1,7 @@
-use Rattle.xa_base.proofs.{◌≡◌, ◌+◌, List, [], ◌∷◌, ◌++◌, take, refl, sym, ap, ◌∙◌, subst, arith, take_all}
-use Rattle.xa_base.specs.{IsUpTo}
-use Rattle.xa_grammar.proofs.StepLemmas.{take_next}
+use Rattle.xa_base.proofs.{take_next, ◌≡◌, ◌+◌, [], ◌∷◌, ◌++◌, take, refl, ap, ◌∙◌, arith, take_all}
 use Rattle.xa_grammar.specs.declared.step.Step.TheVariants as step
-use Rattle.xa_grammar.specs.{Fits, IsOfScript, threads_of, managers_of, Content}
-use Rattle.xa_transcript.specs.{Told}
-use Rattle.xa_script.specs.{Runner, IsOutcome, HasReached}
+use Rattle.xa_grammar.specs.{Fits, threads_of, managers_of, Content}
+use Rattle.xa_script.specs.{Runner}
 use Rattle.xa_command.specs.declared.mode.Mode.TheVariants as mode
 use Rattle.xa_script.proofs.Openings.{begun, reached_threads, reached_managers, stepped, ended_so, reopened, outcome_so}
 use Rattle.xa_script.proofs.in_turns.run.Goals as goal
@@ -17,19 +14,15 @@ loop-place-init g c =
     let r = c.in_ok-runner.runner in
     let number = c.in_ok-runner.ensures.number in
     record {
-      reached = subst (λ (l : List Told). HasReached s [] r.opening r.sessions.items r.turns l) (sym c.in_ok-transcript.ensures) (begun s r.opening r.sessions.items r.turns number c.in_ok-runner.ensures.opened);
+      reached = rw c.in_ok-transcript.ensures (begun s r.opening r.sessions.items r.turns number c.in_ok-runner.ensures.opened);
       few = omega (arith, number);
     }
 
 pub call-requires : goal.call-requires
-call-requires g c =
-    let own = subst (IsOfScript c.args.script.now) c.in-Task.is c.step.ensures.of in
-    subst (λ n. IsUpTo n c.in-Task.task.thread) (sym (reached_threads _ _ _ _ _ _ c.loop-place.invariant.reached)) own.0
+call-requires g c = rw (reached_threads _ _ _ _ _ _ c.loop-place.invariant.reached) (rw c.in-Task.is at c.step.ensures.of).0
 
 pub turn-requires : goal.turn-requires
-turn-requires g c =
-    let own = subst (IsOfScript c.args.script.now) c.in-Turn.is c.step.ensures.of in
-    subst (λ n. IsUpTo n c.in-Turn.manager) (sym (reached_managers _ _ _ _ _ _ c.loop-place.invariant.reached)) own
+turn-requires g c = rw (reached_managers _ _ _ _ _ _ c.loop-place.invariant.reached) (rw c.in-Turn.is at c.step.ensures.of)
 
 pub reopen-requires-clause-closed : goal.reopen-requires-clause-closed
 reopen-requires-clause-closed g c =
@@ -55,14 +48,14 @@ loop-place-preserved g c =
           let new = w.call.new.self in
           record {
             reached = rw (longer, w.in-Task.is, w.runner-is, w.in_ok-call-in-Task.ensures.number, w.transcript-is, w.in_ok-tell-in-Task.ensures.told)
-                (stepped s lines r.opening r.sessions.items r.turns answers h (step.Task w.in-Task.task) w.in_ok-call-in-Task.field-0 new.sessions.items new.turns refl (subst (Fits (threads_of s) (managers_of s)) w.in-Task.is fits) w.in_ok-call-in-Task.ensures.calls);
+                (stepped s lines r.opening r.sessions.items r.turns answers h (step.Task w.in-Task.task) w.in_ok-call-in-Task.field-0 new.sessions.items new.turns refl (rw w.in-Task.is at fits) w.in_ok-call-in-Task.ensures.calls);
             few = let same = ap (λ (x : Runner). x.opening) w.runner-is in omega (arith, same, w.in_ok-call-in-Task.ensures.number, c.loop-place.invariant.few);
           }
       | in-Turn+in_ok-tell-in-Turn w ↦
           let new = w.turn.new.self in
           record {
             reached = rw (longer, w.in-Turn.is, w.runner-is, w.turn.ensures.number, w.transcript-is, w.in_ok-tell-in-Turn.ensures.told)
-                (stepped s lines r.opening r.sessions.items r.turns answers h (step.Turn w.in-Turn.line w.in-Turn.manager) w.turn.result new.sessions.items new.turns refl (subst (Fits (threads_of s) (managers_of s)) w.in-Turn.is fits) w.turn.ensures.turns);
+                (stepped s lines r.opening r.sessions.items r.turns answers h (step.Turn w.in-Turn.line w.in-Turn.manager) w.turn.result new.sessions.items new.turns refl (rw w.in-Turn.is at fits) w.turn.ensures.turns);
             few = let same = ap (λ (x : Runner). x.opening) w.runner-is in omega (arith, same, w.turn.ensures.number, c.loop-place.invariant.few);
           }
       | in-Reopen+in_ok-closed-in-Reopen+in_ok-tell-in-Reopen+in_ok-runner-in-Reopen w ↦
@@ -95,6 +88,6 @@ returns g c =
     let last = ended_so s (take k steps) r.opening r.sessions.items r.turns answers h x.0 closed.settled in (
       h.before,
       last,
-      subst (λ (l : List Told). IsOutcome mode.Turns s l h.before last) (sym x.1) (outcome_so s (take k steps) r.opening r.sessions.items r.turns answers h all x.0 closed.settled closed.logs.items x.2),
+      rw x.1 (outcome_so s (take k steps) r.opening r.sessions.items r.turns answers h all x.0 closed.settled closed.logs.items x.2),
       refl,
     )

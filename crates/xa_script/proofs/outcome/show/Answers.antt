@@ -26,6 +26,6 @@ returns-clause-ok g c =
       outcome = outcome;
       values = values;
       tells = run_tells m s answers values before last outcome shown;
-      written = subst (λ (l : List Declared). Appends old new (text answers l)) c.deref.ensures.value (subst (λ (l : List ℕ). Appends old new (l ++ values_text c.deref.result.now)) are written);
+      written = rw (are, c.deref.ensures.value) at written;
     })
     c.write_transcript.ensures.ok

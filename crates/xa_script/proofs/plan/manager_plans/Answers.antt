@@ -16,6 +16,6 @@ loop-before-preserved c =
           ∙ ap (λ l. l ++ plan_says one ∷ []) c.loop-before.invariant.planned_so_far
           ∙ ap (λ d. map says (range_with_len 1 c.loop-before.before) ++ d ∷ []) c.in_ok-manager_plan.ensures.planned
           ∙ sym (map-range_with_len_more says 1 c.loop-before.before (c.loop-before.before + 1) (omega arith));
-      sound = subst (All IsSoundManager) (sym pushed) (All-push IsSoundManager plans one c.loop-before.invariant.sound c.in_ok-manager_plan.ensures.sound);
+      sound = rw pushed (All-push IsSoundManager plans one c.loop-before.invariant.sound c.in_ok-manager_plan.ensures.sound);
       many = ap (λ l. length l) pushed ∙ length-append plans (one ∷ []) ∙ ap (λ k. k + 1) c.loop-before.invariant.many;
     }

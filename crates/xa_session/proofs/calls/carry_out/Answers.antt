@@ -1,16 +1,16 @@
-use Rattle.xa_base.proofs.{◌≡◌, Ok, Err, Result, IfOk, sym, subst, IfOk-weaker}
+use Rattle.xa_base.proofs.{◌≡◌, Ok, Err, Result, IfOk, IfOk-weaker}
 use Rattle.std.specs.declared.alloc.AllocError.{AllocError}
 use Rattle.xa_desk.specs.{GoesOn, AllKept}
 use Rattle.xa_grammar.specs.{ScriptAction}
 use Rattle.xa_transcript.specs.{Answer}
-use Rattle.xa_session.specs.{Session, session_of, Executes, Does, MayWait}
+use Rattle.xa_session.specs.{Session, session_of, Executes, Does}
 use Rattle.xa_session.proofs.calls.carry_out.Goals as goal
 
 -- what is done is the thread's action
 does_so : (x y : ScriptAction) (old new : Session) (r : Result Answer AllocError) → x ≡ y → IfOk r (Executes y old new) → GoesOn old.desk new.desk
     → (AllKept old.desk → AllKept new.desk) → IfOk r (Does x old new)
 does_so x y old new (Ok a) same does goes_on kept =
-    record { executes = subst (λ (x : ScriptAction). Executes x old new a) (sym same) does; goes_on = goes_on; kept = kept }
+    record { executes = rw same does; goes_on = goes_on; kept = kept }
 does_so x y old new (Err why) same does goes_on kept = tt
 
 pub returns-in-CommitAll-clause-does : goal.returns-in-CommitAll-clause-does
@@ -24,4 +24,4 @@ returns-in-Resolve-clause-does g c =
 
 pub returns-in-CommitAll-clause-prompt : goal.returns-in-CommitAll-clause-prompt
 returns-in-CommitAll-clause-prompt g c = λ not.
-    c.commit.ensures.prompt c.args.scan.now (λ can. not (subst (λ (x : ScriptAction). MayWait x (session_of c.args.desk.now c.args.log.now c.args.scan.now)) (sym c.in-CommitAll.is) can))
+    c.commit.ensures.prompt c.args.scan.now (λ can. not (rw c.in-CommitAll.is can))

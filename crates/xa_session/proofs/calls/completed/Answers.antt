@@ -1,4 +1,4 @@
-use Rattle.xa_base.proofs.{◌≡◌, ℕ, ℤ, pos, Result, Ok, Err, IfOk, sym, ap, ◌∙◌, subst, arith, w32, to_z-of_z, ints}
+use Rattle.xa_base.proofs.{◌≡◌, ℕ, ℤ, pos, Result, Ok, Err, IfOk, ap, ◌∙◌, arith, w32, to_z-of_z, ints}
 use Rattle.std.proofs.Common.{SFits}
 use Rattle.xa_words.specs.CodeNumbers.{number_of}
 use Rattle.xa_words.specs.{Code, Done}
@@ -17,8 +17,8 @@ handle_fits k is = let limit = is.limit in omega (arith, ints, limit)
 
 told_fit : (collected : Result (ℕ × Code) Code) (h v h' v' a : ℤ) → IfOk collected (λ r. IsHandle r.0) → Tells collected h v h' v' a → SFits w32 h
     → SFits w32 v → SFits w32 h' × SFits w32 v'
-told_fit (Ok r) h v h' v' a is t fits fits' = (subst (SFits w32) (sym t.0) (handle_fits r.0 is), subst (SFits w32) (sym t.1.0) (code_fits r.1))
-told_fit (Err c) h v h' v' a is t fits fits' = (subst (SFits w32) (sym t.0) fits, subst (SFits w32) (sym t.1.0) fits')
+told_fit (Ok r) h v h' v' a is t fits fits' = (rw t.0 (handle_fits r.0 is), rw t.1.0 (code_fits r.1))
+told_fit (Err c) h v h' v' a is t fits fits' = (rw t.0 fits, rw t.1.0 fits')
 
 -- the same answer from numbers that were cast
 told_same : (a : Answer) (h v n h' v' n' : ℤ) → h' ≡ h → v' ≡ v → n' ≡ n → a ≡ completed h' v' n' → a ≡ completed h v n

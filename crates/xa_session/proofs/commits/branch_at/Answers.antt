@@ -1,18 +1,16 @@
-use Rattle.xa_base.proofs.{◌≡◌, ◌≢◌, ◌≤◌, pos, true, Err, List, ℕ, length, sym, ap, ◌∙◌, arith, ◌&&◌, Bool, le-leb, decimal}
+use Rattle.xa_base.proofs.{◌≡◌, ◌≢◌, ◌≤◌, pos, true, Err, List, ℕ, length, sym, ap, ◌∙◌, arith, le-leb, decimal}
+use Rattle.std.specs.Cmp.Derive.{both_true}
 use Rattle.std.proofs.lemmas.Fmt.{decimal_nonempty}
 use Rattle.xa_words.specs.{XidFault, is_part, xid_of}
 use Rattle.xa_session.proofs.commits.branch_at.Goals as goal
 
-both : (a b : Bool) → a ≡ true → b ≡ true → (a && b) ≡ true
-both a b e f = cc
-
 -- 1 to 64 bytes are a part of a name
 part : (bytes : List ℕ) → 1 ≤ length bytes → length bytes ≤ 64 → is_part bytes ≡ true
-part bytes some few = both _ _ (le-leb 1 (length bytes) some) (le-leb (length bytes) 64 few)
+part bytes some few = both_true (le-leb 1 (length bytes) some) (le-leb (length bytes) 64 few)
 
 -- two parts make a name
 named : (gtrid bqual : List ℕ) (why : XidFault) → is_part gtrid ≡ true → is_part bqual ≡ true → xid_of (pos 1) gtrid bqual ≢ Err why
-named gtrid bqual why e f = rw e (rw f (λ wrong. cc))
+named gtrid bqual why e f = rw (e, f) (λ wrong. cc)
 
 pub unreachable-requires : goal.unreachable-requires
 unreachable-requires c =

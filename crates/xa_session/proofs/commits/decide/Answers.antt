@@ -21,7 +21,7 @@ returns-in-Err-Undecided-clause-commits g c = λ z.
     let same : why ≡ fault.Undecided votes = cc in
     let old = session_of c.args.desk.now c.args.log.now z in
     let can : CanCommit c.args.asked.now old = record { known = c.requires.known; may = rw c.requires.branches at c.requires.may } in
-    let comes : comes_to_decide c.args.asked.now.death ≡ true = rw c.requires.lives refl in
+    let comes : comes_to_decide c.args.asked.now.death ≡ true = rw c.requires.lives in
     was_lost c.args.asked.now c.args.branches.now old (session_of c.commit_all.new.desk c.commit_all.new.log z) votes c.requires.branches comes can
     (of_votes _ why votes same c.in-Err-Undecided.ensures.undecided) (of_votes _ why votes same c.in-Err-Undecided.ensures.unknown)
     (of_votes _ why votes same c.in-Err-Undecided.ensures.one_round) c.commit_all.ensures.keeps refl

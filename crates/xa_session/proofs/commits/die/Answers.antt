@@ -1,8 +1,7 @@
-use Rattle.xa_base.proofs.{◌≡◌, true, Vec, Global, refl, sym, subst}
+use Rattle.xa_base.proofs.{◌≡◌, true, refl}
 use Rattle.xa_driver.specs.declared.done.CommitFault.TheVariants as fault
 use Rattle.xa_driver.proofs.Calls.{of_votes}
 use Rattle.xa_session.specs.{session_of, CanCommit, CommitsAll, comes_to_decide, named}
-use Rattle.xa_words.specs.{Code}
 use Rattle.xa_transcript.specs.{Undecided}
 use Rattle.xa_session.proofs.Committed.{all_of_tran, was_lost}
 use Rattle.xa_session.proofs.commits.die.Goals as goal
@@ -26,6 +25,4 @@ returns-in-Err-Undecided-clause-commits g c = λ z.
     let new = session_of c.commit_until.new.desk c.commit_until.new.log z in
     let can : CanCommit asked old = record { known = c.requires.known; may = rw c.requires.branches at c.requires.may } in
     let comes : comes_to_decide asked.death ≡ true = rw c.requires.dies (of_votes _ why votes same c.in-Err-Undecided.ensures.later) in
-    subst (λ (v : Vec Code Global). CommitsAll asked old new (Undecided v)) (sym c.in-Err-Undecided.votes-is) (was_lost asked c.args.branches.now old new votes c.requires.branches comes can
-    (of_votes _ why votes same c.in-Err-Undecided.ensures.undecided) (of_votes _ why votes same c.in-Err-Undecided.ensures.unknown)
-    (of_votes _ why votes same c.in-Err-Undecided.ensures.one_round) c.in-Err-Undecided.ensures.keeps refl)
+    rw c.in-Err-Undecided.votes-is (was_lost asked c.args.branches.now old new votes c.requires.branches comes can (of_votes _ why votes same c.in-Err-Undecided.ensures.undecided) (of_votes _ why votes same c.in-Err-Undecided.ensures.unknown) (of_votes _ why votes same c.in-Err-Undecided.ensures.one_round) c.in-Err-Undecided.ensures.keeps refl)

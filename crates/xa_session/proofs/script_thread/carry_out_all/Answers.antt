@@ -1,9 +1,7 @@
-use Rattle.xa_base.proofs.{List, [], take, sym, subst, refl, arith, take_all}
-use Rattle.xa_base.specs.{Chain}
+use Rattle.xa_base.proofs.{take_next, List, [], take, refl, arith, take_all}
 use Rattle.xa_base.specs.Lists.Chain.{none, more}
-use Rattle.xa_grammar.proofs.StepLemmas.{take_next}
 use Rattle.xa_transcript.specs.{Told}
-use Rattle.xa_session.specs.{Session, session_of, HasDone}
+use Rattle.xa_session.specs.{Session, session_of}
 use Rattle.xa_session.proofs.script_thread.carry_out_all.Goals as goal
 
 pub loop-place-init : goal.loop-place-init
@@ -25,7 +23,7 @@ loop-place-preserved g c =
     let old : Session × List Told = (session_of c.loop-place.desk c.loop-place.log c.loop-place.scan, c.loop-place.told) in
     let new : Session × List Told = (session_of c.carry_out.new.desk c.carry_out.new.log c.carry_out.new.scan, c.tell.new.self) in
     record {
-      runs = subst (λ l. Chain HasDone first l new) (sym (take_next tasks n p c.get-task.ensures)) (more (take n tasks) p old new i.runs (record { answer = a; does = c.in_ok-answer.ensures.does; told = c.in_ok-tell.ensures.told }));
+      runs = rw (take_next tasks n p c.get-task.ensures) (more (take n tasks) p old new i.runs (record { answer = a; does = c.in_ok-answer.ensures.does; told = c.in_ok-tell.ensures.told }));
       goes_on = c.desks_go_on.ensures.further c.args.desk.now c.loop-place.desk c.carry_out.new.desk i.goes_on c.carry_out.ensures.goes_on;
       kept = λ all. c.carry_out.ensures.kept (i.kept all);
       idled = c.idles_go_on.ensures.further _ _ _ i.idled c.carry_out.ensures.idled;

@@ -1,5 +1,5 @@
-use Rattle.xa_base.proofs.{◌≡◌, ◌<◌, sym, ap, ◌∙◌, subst, ◌++◌, ◌∷◌, ◌+◌, [], length, map, take, option_map, pos, slice_index_or, arith, All, map-append}
-use Rattle.xa_base.proofs.{take_all, All-push, one_more, IsPermutation, IsPermutation-map, All-permutation}
+use Rattle.xa_base.proofs.{◌≡◌, ◌<◌, sym, ap, ◌∙◌, ◌++◌, ◌∷◌, ◌+◌, [], length, map, take, option_map, pos, slice_index_or, arith, map-append, take_all}
+use Rattle.xa_base.proofs.{All-push, one_more, IsPermutation-map, All-permutation}
 use Rattle.xa_tables.proofs.Reopening.{accounts_new}
 use Rattle.xa_switch.specs.{history, Settling}
 use Rattle.xa_grammar.specs.{Declared, IsOfManager, accounts_of}
@@ -14,8 +14,8 @@ unwrap-value-requires c =
     let i = c.loop-declared.declared-index in
     let d = c.declared-item.result in
     let there = c.declared-item.is ∙ ap (λ l. slice_index_or l i d) c.keys-keys.ensures.keys in
-    let below : i < length s.keys = subst (λ l. i < length l) c.keys-keys.ensures.keys c.loop-declared-test.true in
-    let of : IsOfManager s d = subst (IsOfManager s) (sym c.declared-item.is) (c.keys-keys.ensures.managers i d c.loop-declared-test.true) in
+    let below : i < length s.keys = rw c.keys-keys.ensures.keys at c.loop-declared-test.true in
+    let of : IsOfManager s d = rw c.declared-item.is (c.keys-keys.ensures.managers i d c.loop-declared-test.true) in
     let (before, are) = c.requires in
     let sum =
     c.value.ensures.sum (histories before d.manager) (opened s d.manager) (accounts_new (accounts_of d.manager s.keys)) (first_is s (opened_after s before) c.args.settled.now are d.manager of.0 of.1) in
@@ -30,7 +30,7 @@ loop-declared-preserved c =
     let keys = c.keys-keys.result.now in
     let values = c.loop-declared.values.items in
     let e : Declared = record { manager = d.manager; key = d.key; value = c.unwrap-value.result } in
-    let of : IsOfManager s d = subst (IsOfManager s) (sym c.declared-item.is) (c.keys-keys.ensures.managers i d c.loop-declared-test.true) in
+    let of : IsOfManager s d = rw c.declared-item.is (c.keys-keys.ensures.managers i d c.loop-declared-test.true) in
     let worth : WorthAfter s settled e = λ before are.
     ap (λ l. value_over d.key l (opened s d.manager)) (map-append (λ (o : Settling). history o d.manager) before (settled ∷ []))
     ∙ sym (c.value.ensures.sum (histories before d.manager) (opened s d.manager) (accounts_new (accounts_of d.manager s.keys)) (first_is s (opened_after s before) settled are d.manager of.0 of.1))
@@ -40,7 +40,7 @@ loop-declared-preserved c =
     ∙ ap (map name_of) (sym (one_more keys i d c.loop-declared-test.true c.declared-item.is)) in
     record {
       named = ap (map name_of) c.in_ok-push.ensures.items ∙ more;
-      worth = subst (All (WorthAfter s settled)) (sym c.in_ok-push.ensures.items) (All-push (WorthAfter s settled) values e c.loop-declared.invariant.worth worth);
+      worth = rw c.in_ok-push.ensures.items (All-push (WorthAfter s settled) values e c.loop-declared.invariant.worth worth);
     }
 
 pub returns : goal.returns
@@ -49,7 +49,7 @@ returns c =
     let values = c.loop-declared.values.items in
     let named = c.loop-declared.invariant.named ∙ ap (map name_of) (take_all c.loop-declared.declared-index keys (omega arith) ∙ c.keys-keys.ensures.keys) in
     λ before are. record {
-      all = subst (λ l. IsPermutation l (map name_of c.sort.new.self.items)) named (IsPermutation-map name_of values c.sort.new.self.items c.in_ok-sort.ensures.permutation);
+      all = rw named at (IsPermutation-map name_of values c.sort.new.self.items c.in_ok-sort.ensures.permutation);
       worth = λ k d below. All-permutation (WorthAfter c.args.script.now c.args.settled.now) values c.sort.new.self.items c.in_ok-sort.ensures.permutation c.loop-declared.invariant.worth k d below before are;
       rising = c.in_ok-sort.ensures.sorted;
     }

@@ -1,4 +1,4 @@
-use Rattle.xa_base.proofs.{◌≡◌, ◌<◌, ℕ, List, length, false, sym, subst, arith, ◌==◌, Ok, err_from_is_err_and}
+use Rattle.xa_base.proofs.{◌≡◌, ◌<◌, ℕ, List, length, false, sym, arith, ◌==◌, Ok, err_from_is_err_and}
 use Rattle.xa_grammar.specs.{after_line, FailsAt}
 use Rattle.xa_grammar.proofs.Scripts.{after_one}
 use Rattle.xa_grammar.proofs.Lines.{ends_empty, ends, ends_in_fault}
@@ -17,7 +17,7 @@ returns-in_err-read_line-clause-reads c =
     let r = c.args.self in
     let fault = c.in_err-read_line.field-0.0 in
     let fails : FailsAt r.number fault (after_line r.threads_mode r.script r.number r.line.items) =
-    subst (λ (l : List ℕ). FailsAt r.number fault (after_line r.threads_mode r.script r.number l)) c.deref.ensures.value c.in_err-read_line.ensures.err in
+    rw c.deref.ensures.value at c.in_err-read_line.ensures.err in
     rw (p.1, p.2) (ends_in_fault r.threads_mode fault r.script r.number r.line.items r.no_end (some_byte _ _ r.line.ok.0 (sym c.if-is_empty.ensures)) fails)
 
 pub returns-clause-reads : goal.returns-clause-reads

@@ -1,8 +1,7 @@
-use Rattle.xa_base.proofs.{◌≡◌, ◌+◌, ◌-◌, ◌<◌, ℕ, List, [], ◌∷◌, ◌++◌, length, take, drop, true, ap, sym, subst, ◌∙◌, arith, append_assoc, take_all}
-use Rattle.xa_base.proofs.{length-drop, ◌==◌, err_from_is_err_and, slice_index}
+use Rattle.xa_base.proofs.{◌≡◌, ◌+◌, ◌-◌, ◌<◌, ℕ, List, [], ◌∷◌, ◌++◌, length, take, drop, true, ap, sym, ◌∙◌, arith, append_assoc, take_all, length-drop, ◌==◌}
+use Rattle.xa_base.proofs.{err_from_is_err_and, slice_index}
 use Rattle.xa_grammar.specs.declared.read.Reading.{Reading}
 use Rattle.xa_grammar.specs.Reading.{goes_on}
-use Rattle.xa_grammar.specs.{Fails}
 use Rattle.xa_grammar.proofs.Lines.{no_end, no_end_before, cut_at}
 use Rattle.xa_grammar.proofs.read.Reading.take_chunk.Goals as goal
 
@@ -22,9 +21,7 @@ overflow_add-rest c = omega (arith, c.in-Some.ensures.0.high)
 pub returns-in_err-take_line-clause-err : goal.returns-in_err-take_line-clause-err
 returns-in_err-take_line-clause-err c =
     let p = err_from_is_err_and c.from_residual.result c.from_residual.ensures.1 in
-    rw (p.1, p.2) (λ bytes. subst (Fails c.in_err-take_line.field-0.0)
-    (sym (c.loop-end.invariant.goes bytes ∙ cut c.loop-end.self c.loop-end.rest.now c.in-Some.end bytes c.in-Some.ensures.0.high c.in-Some.ensures.1))
-    (c.in_err-take_line.ensures.err (drop (c.in-Some.end + 1) c.loop-end.rest.now ++ bytes)))
+    rw (p.1, p.2) (λ bytes. rw (c.loop-end.invariant.goes bytes ∙ cut c.loop-end.self c.loop-end.rest.now c.in-Some.end bytes c.in-Some.ensures.0.high c.in-Some.ensures.1) (c.in_err-take_line.ensures.err (drop (c.in-Some.end + 1) c.loop-end.rest.now ++ bytes)))
 
 pub loop-end-preserved : goal.loop-end-preserved
 loop-end-preserved c = search (arith, take_all, length-drop, cut, c.in-Some.ensures, c.in_ok-take_line.ensures, c.loop-end.rest.now, c.take_line.new.self)

@@ -1,5 +1,5 @@
-use Rattle.xa_base.proofs.{arith, ◌≡◌, ℕ, List, sym, ap, ◌∙◌, subst, All, arc_value}
-use Rattle.xa_grammar.specs.{ScriptStep, IsTask, own_steps, steps_at}
+use Rattle.xa_base.proofs.{arith, ◌≡◌, ℕ, List, sym, ap, ◌∙◌, arc_value}
+use Rattle.xa_grammar.specs.{ScriptStep, own_steps, steps_at}
 use Rattle.xa_grammar.proofs.StepLemmas.{own_are_tasks, own_tasks}
 use Rattle.xa_grammar.proofs.script.Script.tasks_of.Goals as goal
 
@@ -10,7 +10,7 @@ own_behind t shared lent steps places one other own = ap (λ (l : List ScriptSte
 
 pub new-requires-clause-tasks : goal.new-requires-clause-tasks
 new-requires-clause-tasks c =
-    subst (All IsTask) (sym (own_behind c.args.thread _ _ _ c.in_ok-places.places.items c.in_ok-try_clone.ensures c.deref.ensures c.in_ok-places.ensures.own)) (own_are_tasks c.args.thread (arc_value c.self.inside.steps))
+    rw (own_behind c.args.thread _ _ _ c.in_ok-places.places.items c.in_ok-try_clone.ensures c.deref.ensures c.in_ok-places.ensures.own) (own_are_tasks c.args.thread (arc_value c.self.inside.steps))
 
 pub returns : goal.returns
 returns c = search (arith, own_behind, own_tasks, arc_value, c.args.thread, c.in_ok-places.places.items, c.in_ok-try_clone.ensures, c.deref.ensures)

@@ -1,6 +1,5 @@
-use Rattle.xa_base.proofs.{◌≡◌, ◌<◌, ◌+◌, List, Some, length, slice_get, take, sym, ap, ◌∙◌, subst, arith, All, take_all, length-map, got_map, All-nil}
-use Rattle.xa_base.proofs.{slice_get_read}
-use Rattle.xa_grammar.specs.{ScriptStep, step_at, steps_of, own_steps, steps_at}
+use Rattle.xa_base.proofs.{◌≡◌, ◌+◌, Some, length, slice_get, take, sym, ap, ◌∙◌, arith, take_all, length-map, got_map, All-nil, slice_get_read}
+use Rattle.xa_grammar.specs.{step_at, steps_of, own_steps}
 use Rattle.xa_grammar.proofs.StepLemmas.{own_same, own_next}
 use Rattle.xa_grammar.proofs.steps.Steps.places_of.Goals as goal
 use Rattle.xa_grammar.proofs.steps.Steps.places_of.Goals.{then-is_of+in_ok-push, else-is_of}
@@ -29,7 +28,7 @@ returns-clause-own c =
     let steps = steps_of c.self.inside.names.items c.self.inside.keys.items c.self.inside.kept.items in
     let many : length steps ≡ length c.self.inside.kept.items = search (arith, length-map) in
     let all : take c.loop-place.place steps ≡ steps = search (arith, take_all, c.loop-place.place) in
-    subst (λ (l : List ScriptStep). steps_at l c.loop-place.places.items ≡ own_steps c.args.thread l) c.self.view_is (c.loop-place.invariant.0 ∙ ap (own_steps c.args.thread) all)
+    rw c.self.view_is at (c.loop-place.invariant.0 ∙ ap (own_steps c.args.thread) all)
 
 pub returns-clause-within : goal.returns-clause-within
-returns-clause-within c = subst (λ (l : List ScriptStep). All (λ k. k < length l) c.loop-place.places.items) c.self.view_is c.loop-place.invariant.1
+returns-clause-within c = rw c.self.view_is at c.loop-place.invariant.1

@@ -1,4 +1,4 @@
-use Rattle.xa_base.proofs.{◌≡◌, ◌++◌, ◌∷◌, [], List, ℕ, length, rules, sym, ap, ◌∙◌, subst, All, Result, Ok, Err, map-append, All-push, OnErr}
+use Rattle.xa_base.proofs.{on_err, ◌≡◌, ◌++◌, ◌∷◌, [], List, ℕ, length, rules, sym, ap, ◌∙◌, subst, All, map-append, All-push}
 use Rattle.xa_grammar.specs.{ScriptStep, Spells, IsShort, KeptStep, IsNamed, step_at, steps_of, keys_in, kept_from}
 use Rattle.xa_grammar.proofs.StepLemmas.{step_put, steps_grown, names_grown}
 use Rattle.xa_grammar.proofs.steps.Steps.push.Goals as goal
@@ -15,31 +15,16 @@ put p kept k old new w at ks ks' key short spells here place placed added keys n
     let (before, still) = rw (← added, ← keys) at grown in
     (map-append {B = ScriptStep} (step_at new ks') kept (k ∷ []) ∙ (λ i. before i ++ same i ∷ []), All-push (IsNamed new ks') kept k still last)
 
--- bytes of a step that isn't kept change nothing
-on_err : {A E : Type 0} (r : Result A E) (P : Type 0) → P → OnErr r P
-on_err (Ok x) P p = tt
-on_err (Err e) P p = p
-
 pub invariant_of-self-2 : goal.invariant_of-self-2
 invariant_of-self-2 c =
-    let names = c.self.inside.names.items in
-    let keys = c.self.inside.keys.items in
-    let here : c.in_ok-at.at ≡ length names = search rules in
-    let place : c.in_ok-key.key ≡ length keys = search rules in
-    let is = put c.args.step.now c.self.inside.kept.items c.kept_from-kept.result names _ c.name_in.result.now c.in_ok-at.at keys _ c.in_ok-key.key
-    c.name_in.ensures.short c.name_in.ensures.spells here place c.kept_from-kept.ensures c.in_ok-extend_from_slice.ensures.items
-    c.in_ok-add_key.ensures.added c.self.invariant in
+    let is =
+    put c.args.step.now c.self.inside.kept.items c.kept_from-kept.result c.self.inside.names.items _ c.name_in.result.now c.in_ok-at.at c.self.inside.keys.items _ c.in_ok-key.key c.name_in.ensures.short c.name_in.ensures.spells (search rules) (search rules) c.kept_from-kept.ensures c.in_ok-extend_from_slice.ensures.items c.in_ok-add_key.ensures.added c.self.invariant in
     rw c.in_ok-push.ensures.items is.1
 
 pub returns-clause-pushed : goal.returns-clause-pushed
 returns-clause-pushed c =
-    let names = c.self.inside.names.items in
-    let keys = c.self.inside.keys.items in
-    let here : c.in_ok-at.at ≡ length names = search rules in
-    let place : c.in_ok-key.key ≡ length keys = search rules in
-    let is = put c.args.step.now c.self.inside.kept.items c.kept_from-kept.result names _ c.name_in.result.now c.in_ok-at.at keys _ c.in_ok-key.key
-    c.name_in.ensures.short c.name_in.ensures.spells here place c.kept_from-kept.ensures c.in_ok-extend_from_slice.ensures.items
-    c.in_ok-add_key.ensures.added c.self.invariant in
+    let is =
+    put c.args.step.now c.self.inside.kept.items c.kept_from-kept.result c.self.inside.names.items _ c.name_in.result.now c.in_ok-at.at c.self.inside.keys.items _ c.in_ok-key.key c.name_in.ensures.short c.name_in.ensures.spells (search rules) (search rules) c.kept_from-kept.ensures c.in_ok-extend_from_slice.ensures.items c.in_ok-add_key.ensures.added c.self.invariant in
     ap (steps_of _ _) c.in_ok-push.ensures.items ∙ is.0 ∙ ap (λ l. l ++ c.args.step.now ∷ []) c.self.view_is
 
 pub returns-in_err-add_key-clause-same : goal.returns-in_err-add_key-clause-same

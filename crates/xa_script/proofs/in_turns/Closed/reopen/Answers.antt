@@ -1,9 +1,6 @@
-use Rattle.xa_base.proofs.{◌≡◌, suc, ◌+◌, List, sym, ◌∙◌, subst, arith}
-use Rattle.xa_worker.specs.{WorkerView}
+use Rattle.xa_base.proofs.{◌≡◌, suc, ◌+◌, sym, ◌∙◌, arith}
 use Rattle.xa_grammar.specs.{Content}
-use Rattle.xa_session.specs.{Session}
 use Rattle.xa_telling.specs.{AreNumbersOf}
-use Rattle.xa_script.specs.{IsOpen}
 use Rattle.xa_script.proofs.Openings.{goes_on}
 use Rattle.xa_script.proofs.in_turns.Closed.reopen.Goals as goal
 
@@ -17,11 +14,11 @@ returns-clause-opened g c = λ b o line closed same number.
     let zs = c.in-Ok.opened.2.items in
     let logs = c.args.self.logs.items in
     let next_number : c.args.self.opening + 1 ≡ suc b.opening = omega (arith, number) in
-    let numbers : AreNumbersOf s (suc b.opening) again = subst (λ n. AreNumbersOf s n again) next_number c.again_of-again.ensures in
+    let numbers : AreNumbersOf s (suc b.opening) again = rw next_number at c.again_of-again.ensures in
     let (b', follows, follow_number, is_open) =
     goes_on s b o closed.left closed.comes settled same again numbers desks workers zs logs closed.logs_are c.in-Ok.ensures.opened c.in-Ok.ensures.scans in (
       b',
       follows line,
       numbers.opening_ ∙ sym follow_number,
-      subst (λ (p : List Session × List WorkerView). IsOpen s b' p.0 p.1) (λ i. (sym c.in_ok-sessions.ensures i, sym c.new.ensures i)) is_open,
+      rw (c.in_ok-sessions.ensures, c.new.ensures) is_open,
     )

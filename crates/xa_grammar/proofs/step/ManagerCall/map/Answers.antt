@@ -1,8 +1,8 @@
 use Rattle.xa_base.proofs.{arith, rules, Bor, ◌≡◌, Option, None, refl, sym, ap, ◌∙◌, MatchOption, option_map}
 use Rattle.std.specs.Prelude.{IsSomeAnd, option_copied}
-use Rattle.xa_grammar.specs.declared.step.Calling.TheVariants as calling
+use Rattle.xa_grammar.specs.declared.step.ManagerCall.TheVariants as calling
 use Rattle.xa_grammar.specs.{call_with}
-use Rattle.xa_grammar.proofs.step.Calling.map.Goals as goal
+use Rattle.xa_grammar.proofs.step.ManagerCall.map.Goals as goal
 
 -- what a call at what is there may answer is what the function gives
 mapped : {X Y : Type 0} (answers : Bor X → Y → Type 0) (f : X → Y) (lent : Option (Bor X)) (told : Option Y) → ((p : Bor X) (y : Y) → answers p y → y ≡ f p.now)
