@@ -15,8 +15,8 @@ use Rattle.xa_atomicity.specs.{commits_after}
 use Rattle.xa_scan.specs.{left_at}
 use Rattle.xa_atomicity.specs.Worth.{is_committed}
 use Rattle.xa_tables.specs.Histories as history
-use Rattle.xa_atomicity.proofs.Later.{last_ended, Walk, stands_first, ends_with, walk, walk_after, walk_ends, walk_tells}
-use Rattle.xa_atomicity.proofs.Leading.{IsTowards, Stands, waits, unforgotten, over, as_decided, led_fates, IsOver}
+use Rattle.xa_atomicity.proofs.Later.{last_ended, Walk, stands_first, ends_with, walk, walk_decides, walk_ends}
+use Rattle.xa_atomicity.proofs.Leading.{IsTowards, Stands, waits, unforgotten, over, as_decided, led_after, IsOver}
 use Rattle.xa_atomicity.proofs.Sites.{fates, request_of}
 use Rattle.xa_atomicity.proofs.Guided.{Comes, ends, tells, leaves, once, AtEnd, unknown_so, decided_one, decision_so, is_decided_so, is_known_so, untold}
 use Rattle.xa_atomicity.proofs.Guided.{left_in_doubt}
@@ -74,7 +74,7 @@ module _ (law : Tabled) (first : (s : Settling) (m : ℕ) (T : Tables) → IsSet
     over_all h W = commits_later (commits_over x (fate x h H1 W) (histories m ps) (tables_after H1 W)) x (coded (accepted H1) W)
 
     rest_so : CountsThrough ps (last_or g fs) (tables_after H1 T1)
-    rest_so = subst (λ (h : Fate). CountsThrough ps h (tables_after H1 T1)) settled_is rest
+    rest_so = rw settled_is at rest
 
     waiting : f ≡ history.InDoubt → commits_over x f (histories m (p ∷ ps)) T ≡ is_committed (fate_through m x (settled_fate p.settled m x g) ps)
     waiting e =
@@ -94,8 +94,9 @@ module _ (law : Tabled) (first : (s : Settling) (m : ℕ) (T : Tables) → IsSet
       let H1 : History = history_of p.settled m in
       let with_T1 : IsOpenedWith p.settled m T1 = first p.settled m T1 w.0.kept.settled w.0.begins in
       let towards_accepted : All (λ (r : Request). IsTowards commit L x r.op) (accepted H1) =
-      all_left (λ (r : Request). IsTowards commit L x r.op) (accepted H1) (first_shut H1 ++ late H1) (subst (All (λ (r : Request). IsTowards commit L x r.op)) (parted H1) w.0.towards) in
-      let all : All (IsEnded commit) (fates x (accepted H1) T1) = search (arith, led_fates, stands_first) in
+      all_left (λ (r : Request). IsTowards commit L x r.op) (accepted H1) (first_shut H1 ++ late H1) (rw (parted H1) at w.0.towards) in
+      let all : All (IsEnded commit) (fates x (accepted H1) T1) =
+      (led_after commit true D L x (accepted H1) T1 g towards_accepted (stands_first law first commit D L m up x p T1 g w.0)).1 in
       let rest : CountsThrough ps (settled_fate p.settled m x g) (tables_after H1 T1) = walk_counts ps (tables_after H1 T1)
       (settled_fate p.settled m x g) w.1 in
       let done : IsEnded commit f → IsEnded commit (fate_through m x (settled_fate p.settled m x g) ps) = λ e.
@@ -168,8 +169,7 @@ module _ (law : Tabled) (first : (s : Settling) (m : ℕ) (T : Tables) → IsSet
     -- a decision that a resolve was told is its fate in the end, where it is a decision
     which : Walks → (d : HeuristicDecision) → later_fate ≡ decided_fate d → L → IsListed b d later
     which w d is l =
-        subst (λ k. IsListed b k later) (decided_one l.0 d (sym (walk_tells law first commit (F ≡ history.InDoubt) L m up b.xid l.0 later
-        (tables_after H T) F w l.1.resolve l.1.made l.1.outcome l.1.listed l.1.manager l.1.xid l.1.code) ∙ is)) l.1
+        rw (decided_one l.0 d (sym (walk_decides law first commit (F ≡ history.InDoubt) L m up b.xid l.0 later (tables_after H T) F w (inr (l.1.resolve, l.1.outcome, l.1.made, l.1.listed, l.1.manager, l.1.xid, l.1.code))) ∙ is)) at l.1
 
     last_walk : Walks → IsOver commit (F ≡ history.InDoubt) L later_fate × (is_prepared (tables_left (last_of o later) m) b.xid ≡ false)
     last_walk = walk_ends law first commit (F ≡ history.InDoubt) L m up b.xid o between last q (tables_after H T) F there scan reached
@@ -182,7 +182,7 @@ module _ (law : Tabled) (first : (s : Settling) (m : ℕ) (T : Tables) → IsSet
     at_last = if is_unknown F then later_fate else F
 
     known_ends : is_unknown F ≡ false → Ended F → Ended at_last
-    known_ends known end = subst Ended (sym (at_false (is_unknown F) later_fate F known)) end
+    known_ends known end = rw (at_false (is_unknown F) later_fate F known) end
 
     -- where it was left it is over in the end, and a decision that it had then stays
     left_ends : Walks → Stands commit true (F ≡ history.InDoubt) L (state_of (tables_after H T) b.xid) F
@@ -195,7 +195,7 @@ module _ (law : Tabled) (first : (s : Settling) (m : ℕ) (T : Tables) → IsSet
     left_ends w (unforgotten d state g l) left = known_ends (is_decided_so F d g) (inr (d, (g, inr (by_over (last_walk w).0))))
       where
         stays : later_fate ≡ decided_fate d
-        stays = walk_after law first commit (F ≡ history.InDoubt) L m up b.xid d later (tables_after H T) F w g
+        stays = walk_decides law first commit (F ≡ history.InDoubt) L m up b.xid d later (tables_after H T) F w (inl g)
 
         by_over : IsOver commit (F ≡ history.InDoubt) L later_fate → IsListed b d later
         by_over (inl z) = absurd (both_ways (is_unknown F) (is_decided_so F d g) (ap is_unknown z.0))
@@ -211,7 +211,7 @@ module _ (law : Tabled) (first : (s : Settling) (m : ℕ) (T : Tables) → IsSet
         by_comes (leaves why left st) = left_ends (walks why left st) st left
 
     ended_so : (before : Fate) → WasAtFirst s b before → Ended (became b before o later)
-    ended_so before was = subst (λ (f : Fate). Ended (if is_unknown f then fate_through m b.xid f later else f)) (sym (same_fate before was)) ended_last
+    ended_so before was = rw (same_fate before was) ended_last
 
     known_so : (f : Fate) → Ended f → is_unknown f ≡ false
     known_so f end = search (arith, is_known_so, is_decided_so)

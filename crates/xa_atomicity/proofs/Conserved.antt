@@ -1,9 +1,9 @@
 -- Transfers conserve what all accounts are worth together, but for what branches in doubt hold.
-use Rattle.xa_driver.specs.{Done, is_commit, Branch, Ending, is_no, IsCommit, AreBranchesRising, has_branch_at, HasSentNoCommit, NoCommitWasSent}
-use Rattle.xa_base.proofs.{slice_get_past, ne_eqb, or_from, cases_lt, eqb-true, le-leb, or_parts, ℤ, pos, ◌+ℤ◌, All, nat_le, ◌≡◌, ℕ, zero, suc, ◌+◌, ◌-◌, ◌<◌}
-use Rattle.xa_base.proofs.{◌≤◌, true, false, if◌then◌else◌, List, [], ◌∷◌, length, length-append, get_or, sym, refl, ap, ◌∙◌, subst, arith, list_any}
+use Rattle.xa_base.proofs.{none_all, [], slice_get_past, ne_eqb, or_from, cases_lt, eqb-true, le-leb, or_parts, ℤ, pos, ◌+ℤ◌, All, nat_le, ◌≡◌, ℕ, zero, suc}
+use Rattle.xa_base.proofs.{◌+◌, ◌-◌, ◌<◌, ◌≤◌, true, false, if◌then◌else◌, List, ◌∷◌, length, length-append, get_or, sym, refl, ap, ◌∙◌, arith, list_any}
 use Rattle.xa_base.proofs.{range_with_len, ints, +ℤ_idl as none_plus, +ℤ_idr as plus_none, contains_at, range_all, total_alike, total_both, total_nothing}
 use Rattle.xa_base.proofs.{All-contains, inl, inr, cases_eq}
+use Rattle.xa_driver.specs.{Done, is_commit, Branch, Ending, is_no, IsCommit, AreBranchesRising, has_branch_at, HasSentNoCommit, NoCommitWasSent}
 use Rattle.xa_base.specs.{total}
 use Rattle.xa_words.specs.{XidName, Request, Code}
 use Rattle.xa_tables.specs.{Tables, are_accounts, opening, tables_after, moved, held_by, is_of, HoldsItsAdditions, History}
@@ -16,7 +16,7 @@ use Rattle.xa_atomicity.specs.{is_in_doubt, EachOutcome, AreLeftAlone, has_commi
 use Rattle.xa_atomicity.specs.{taken_before, added_before, added_by_all, total_in_doubt, held_in_doubt, OnlyTransfers, opened, worked, committed, Tabled}
 use Rattle.xa_atomicity.specs.Outcomes.{is_committed}
 use Rattle.xa_atomicity.proofs.Values.{within_parts, is_within, moved_parted, moved_without, moved_alike, moved_nothing}
-use Rattle.xa_atomicity.proofs.Sites.{none_all, all_earlier}
+use Rattle.xa_atomicity.proofs.Sites.{all_earlier}
 use Rattle.xa_atomicity.proofs.Settled.{sent_between, Both, all_outcomes, growth_law, by_ledger, outcome_all}
 use Rattle.xa_atomicity.proofs.OneOutcome.{committed_law, positive_all}
 
@@ -38,7 +38,7 @@ over_branches g [] lo (suc n) r none beyond =
 over_branches g (b ∷ bs) lo (suc n) r none beyond =
     elim (cases_eq b.m (lo + 1)) [
       | inl same ↦
-          let later : AreBranchesRising (lo + 1) bs = subst (λ k. AreBranchesRising k bs) same r.1 in
+          let later : AreBranchesRising (lo + 1) bs = rw same at r.1 in
           let others : (m : ℕ) → lo + 1 < m → has_branch_at bs m ≡ false → g m ≡ pos 0 = search (arith, or_from, ne_eqb, b.m) in
           λ i. g (sym same i) +ℤ over_branches g bs (lo + 1) n later others (λ m lt. beyond m (omega (arith, lt))) i
       | inr apart ↦
@@ -167,8 +167,8 @@ module _ (law : Tabled) (opens : (s : Settling) (m : ℕ) → IsSettled s → (T
     call_moves : moved_for old new bs +ℤ held_in_doubt p s t old bs d ≡ pos 0
     call_moves =
         let each =
-        outcome_all (λ b. 1 ≤ b.m) (λ b v e. Both law opens s t b (count old b.m) (count new b.m) v e) (BranchMoves old new)
-        (branch_moves old new) bs d.votes.items d.endings.items (positive_all 0 bs made.may.rising)
+        outcome_all (λ b. 1 ≤ b.m) (λ v. Unit {0}) (λ e. Unit {0}) (λ b v e. Both law opens s t b (count old b.m) (count new b.m) v e) (BranchMoves old new)
+        (λ b v e positive _ _. branch_moves old new b v e positive) bs d.votes.items d.endings.items (positive_all 0 bs made.may.rising) (λ k d lt. tt) (λ k d lt. tt)
         (all_outcomes law opens s t bs desk new log later d settled made grown alone) in
         elim (has_committed d) as (λ c. has_committed d ≡ c → moved_for old new bs +ℤ (if c then total_in_doubt (added_before p s t old) bs d.endings.items else pos 0) ≡ pos 0) [
           | true ↦ λ some.

@@ -47,7 +47,7 @@ pub rest_forgets : {t : ℕ} {T : Tables} {H : History} (s : Site t T H) (x : Xi
     → All (λ q. q.thread ≡ t → q.number < last → is_forget q.op ≡ true) r.rest
 rest_forgets {t} {T} {H} s x n last vote op c z f r k d lt own less =
     all_after (λ (q : Request). q.thread ≡ t → suc n < q.number → q.number < last → is_forget q.op ≡ true) (f.before ++ request_of t n (Prepare x) ∷ r.mid) (request_of t (suc n) op) r.rest
-    (subst (All (λ (q : Request). q.thread ≡ t → suc n < q.number → q.number < last → is_forget q.op ≡ true)) r.place z.forgets) k d lt own
+    (rw r.place at z.forgets) k d lt own
     (omega (arith, r.later k d lt own)) less
 
 -- ---- what the thread sends of it
@@ -57,7 +57,7 @@ module _ {t : ℕ} {T : Tables} {H : History} (s : Site t T H) (x : XidName) (n 
   Own = All (λ r. r.thread ≡ t → n ≤ r.number → r.number < last → Q r.op) H
 
   first_so : StandsIn t n (Prepare x) vote T H → All (λ r. r.thread ≡ t → r.number ≡ n → Q r.op) H
-  first_so f k d lt own same = subst Q (sym (only_op s n (Prepare x) vote f k d lt own same)) prepares
+  first_so f k d lt own same = rw (only_op s n (Prepare x) vote f k d lt own same) prepares
 
   pub one_own : SendsOne s x n last vote → Own
   one_own z k d lt own up down = first_so z.first k d lt own (let limit = z.limit in omega (arith, limit, up, down))
@@ -66,7 +66,7 @@ module _ {t : ℕ} {T : Tables} {H : History} (s : Site t T H) (x : XidName) (n 
   two_own op c second forgets z k d lt own up down =
       ⊎_elim (λ (more : suc n < (get_or H k d).number). forgets (get_or H k d).op (z.forgets k d lt own more down))
       (λ (le : (get_or H k d).number ≤ suc n).
-      ⊎_elim (λ (more : n < (get_or H k d).number). subst Q (sym (only_op s (suc n) op c z.second k d lt own (omega (arith, le, more)))) second)
+      ⊎_elim (λ (more : n < (get_or H k d).number). rw (only_op s (suc n) op c z.second k d lt own (omega (arith, le, more))) second)
       (λ (same : (get_or H k d).number ≤ n). first_so z.first k d lt own (omega (arith, up, same))) (cases_lt n (get_or H k d).number))
       (cases_lt (suc n) (get_or H k d).number)
 
@@ -140,7 +140,7 @@ module _ {t : ℕ} {T : Tables} {H : History} (s : Site t T H) (x : XidName) (co
 
     -- one was: its manager wasn't heard to be shut, so it was sent, and then a Forget or nothing
     two : (op : Op) → second_op commit x vote ≡ Some op → is_out_of_reach vote ≡ false → (c : Code) × (second ≡ Some c) × Sends s x n last vote op c
-    two op e reach = by_second second (subst (λ (o : Option Op). AsksFor (AsksIn t T H) o second prepared decided) e obeys)
+    two op e reach = by_second second (rw e at obeys)
         (may_forget t T H x second decided new forgets)
       where
         open_still : prepared.shut ≡ true → ⊥
@@ -154,7 +154,7 @@ module _ {t : ℕ} {T : Tables} {H : History} (s : Site t T H) (x : XidName) (co
             let e = (ap (λ (z : Sent). z.number) to) ∙ ap suc number_is in
             let sends : Sends s x n last vote op c = record {
               first = first;
-              second = subst (λ k. StandsIn t k op c T H) number_is stands;
+              second = rw number_is at stands;
               more = elim f as (λ _. n + 1 < last) [ inl same ↦ let z = ap (λ (z : Sent). z.number) same in omega (arith, z, e) | inr g ↦ omega (arith, g.3, e) ];
               forgets = λ k d lt own up less. elim f as (λ _. is_forget (get_or H k d).op ≡ true) [
                 | inl same ↦ let z = ap (λ (z : Sent). z.number) same in absurd (omega (arith, up, less, z, e))
@@ -167,7 +167,7 @@ module _ {t : ℕ} {T : Tables} {H : History} (s : Site t T H) (x : XidName) (co
     sent_course =
         by_if Ends (is_yes vote) _ _ (λ y.
         let z = two (outcome_op commit x) (ap (second_op commit x) (yes_is vote y) ∙ yes_wanted commit x) (ap is_out_of_reach (yes_is vote y)) in
-        subst (λ o. Ends (yes_ending commit o)) (sym z.1) (Agrees z.0 y z.2)) (λ y.
+        rw z.1 (Agrees z.0 y z.2)) (λ y.
         by_if Ends (is_read vote) _ _ (λ r. Reads r (one (none_wanted x vote commit y (ap (λ q. q || (is_rolled_back vote || is_out_of_reach vote)) r)))) (λ r.
         by_if Ends (is_rolled_back vote) _ _ (λ k. Breaks k (one
         (none_wanted x vote commit y (ap (λ q. is_read vote || (q || is_out_of_reach vote)) k ∙ or-true (is_read vote))))) (λ k.
@@ -180,10 +180,10 @@ module _ {t : ℕ} {T : Tables} {H : History} (s : Site t T H) (x : XidName) (co
             → Ends (no_ending vote second)
         by_commit true e y r k o =
             let none : second_op commit x vote ≡ None = ap (λ b. second_op b x vote) e ∙ at_false (is_yes vote) _ None y in
-            subst (λ z. Ends (no_ending vote z)) (sym (unwanted none).0) (Stays vote y (one none))
+            rw (unwanted none).0 (Stays vote y (one none))
         by_commit false e y r k o =
             let z = two (Rollback x) (search (arith, at_false)) o in
-            subst (λ p. Ends (no_ending vote p)) (sym z.1) (Refuses z.0 y r z.2)
+            rw z.1 (Refuses z.0 y r z.2)
 
   course_by : AsksIn t T H old (Prepare x) prepared vote → Ends (ending_of commit vote second)
   course_by (asks stands hears to) = sent_course stands hears to

@@ -1,20 +1,19 @@
 -- What a branch stands at as the opening ends in which its commit was cut short.
-use Rattle.xa_base.proofs.{rules, false_from_ne_true, ◌≡◌, ℕ, inl, inr, Bool, true, false, if◌then◌else◌, List, [], ◌∷◌, ◌++◌, length, length-append}
-use Rattle.xa_base.proofs.{append_assoc, slice_get, get_or, sym, refl, ap, ◌∙◌, subst, arith, Option, Some, None, All, Contains, All-contains, All-head}
-use Rattle.xa_base.proofs.{some_same, all_after, at_true, all_left, ◌<◌, slice_get_within, both_ways, Contains-push}
+use Rattle.xa_base.proofs.{[], rules, false_from_ne_true, ◌≡◌, ℕ, inl, inr, Bool, true, false, if◌then◌else◌, List, ◌∷◌, ◌++◌, length, length-append}
+use Rattle.xa_base.proofs.{append_assoc, slice_get, get_or, sym, refl, ap, ◌∙◌, arith, Option, Some, None, All, Contains, All-contains, All-head, some_same}
+use Rattle.xa_base.proofs.{all_after, at_true, all_left, ◌<◌, slice_get_within, both_ways, Contains-push}
 use Rattle.xa_base.specs.{Begins}
 use Rattle.xa_words.specs.{XidName, Done, RmFail, Op, Prepare, Request, Code}
 use Rattle.xa_words.proofs.Xids.{xid_self}
 use Rattle.xa_tables.specs.{HeuristicDecision, State, is_left_in, decision_code, next, Fate, decided_fate, fate, last_or, tables_after, names, Tables, History}
 use Rattle.xa_desk.specs.{LedgerView, learnt_shut, with_sent, with_collected}
-use Rattle.xa_driver.specs.{Branch, Ending, IsAnswered, IsBegun, asked, collected, in_flight, unasked, is_decided, second_op, third_op, yes_ending, outcome_op}
+use Rattle.xa_driver.specs.{Branch, Ending, IsBegun, asked, collected, in_flight, unasked, is_decided, second_op, third_op, outcome_op}
 use Rattle.xa_atomicity.specs.{IsAsked, IsEnded, IsTold, IsBetween, OnlyTheseOrDecisionsName, told_fate}
 use Rattle.xa_driver.proofs.Mapped.{IsAskedFor, any_asked, Any}
 use Rattle.xa_tables.proofs.ValueLaw.{tables_after-append}
 use Rattle.xa_tables.specs.Histories as history
 use Rattle.xa_atomicity.proofs.CutVotes.{vote_there, HasVoted, ended_voted, first_is, forget_sends, other_sends, prepare_sent, told_voted}
-use Rattle.xa_atomicity.proofs.Guided.{ends, leaves, tells, AtEnd, Comes, once, told_decided, decision_so, IsGuided, at_last, fate_any, fates_from}
-use Rattle.xa_atomicity.proofs.Guided.{guided_after, stands_now, told_there}
+use Rattle.xa_atomicity.proofs.Guided.{ends, leaves, tells, AtEnd, Comes, once, IsGuided, at_last, fate_any, fates_from, guided_after, stands_now, told_there}
 use Rattle.xa_atomicity.proofs.Leading.{waits, unforgotten, over, IsTowards, Stands, ends_towards}
 use Rattle.xa_atomicity.proofs.Sites.{Site, StandsIn, above, at_place, below, later_place, fates, request_of, same_code, at_seam, IsFromTo, own_sent}
 use Rattle.xa_atomicity.proofs.OneOutcome.{is_told_decision, second_so, third_so}
@@ -53,7 +52,7 @@ asked_only commit L b a a' z first = begun z.asks
     rest = other_sends (IsTowards commit L b.xid) b.xid z.left a' (other_towards commit L b.xid) z.after
 
     unsent : z.left ≡ a → HasSentOnly commit L b.xid a a'
-    unsent e = absurd (unprepared commit L b.xid a a' (subst (λ (l : LedgerView). Sends (IsTowards commit L b.xid) l a') e rest) first)
+    unsent e = absurd (unprepared commit L b.xid a a' (rw e at rest) first)
 
     begun : IsBegun (Some (Prepare b.xid)) a z.left → HasSentOnly commit L b.xid a a'
     begun (unasked e) = unsent e
@@ -111,13 +110,12 @@ was_told commit b v c a a' z open_ agreed decided =
     let x : XidName = b.xid in
     let op : Op = outcome_op commit x in
     let wanted : second_op commit x v ≡ Some op = ap (second_op commit x) agreed ∙ yes_wanted commit x in
-    let refused : learnt_shut z.start ≡ true → c ≡ RmFail = subst (λ o. IsAnswered z.start o (Some c)) wanted z.seconded in
+    let refused : learnt_shut z.start ≡ true → c ≡ RmFail = rw wanted at z.seconded in
     let open_now : learnt_shut z.start ≡ false = search (arith, false_from_ne_true, both_ways) in
     let two : LedgerView = with_collected (with_sent z.start op) (length z.start.sent) c in
     let is_two : asked z.start (second_op commit x v) (Some c) ≡ two = search (arith, rules) in
     let last : Sends Any two a' =
-    subst (λ (l : LedgerView). Sends Any l a') is_two (forget_sends Any commit b v a a' (λ _ _. tt) (any_asked (second_op commit x v)) (Some c)
-    (any_asked (third_op x (Some c))) z) in
+    rw is_two at (forget_sends Any commit b v a a' (λ _ _. tt) (any_asked (second_op commit x v)) (Some c) (any_asked (third_op x (Some c))) z) in
     let first : z.start.sent ≡ a.sent ++ Prepare x ∷ z.between.more = search (arith, first_is, append_assoc, a.sent) in
     record {
       number = length z.start.sent;
@@ -126,12 +124,14 @@ was_told commit b v c a a' z open_ agreed decided =
       told = contains_on two.collected a'.collected (length z.start.sent, c) last.collected (Contains-push z.start.collected (length z.start.sent, c));
     }
 
--- where nothing that it was sent ends a decision, it ended as was decided, or it was left, in doubt or decided by itself
-comes_so : (commit : Bool) (L : Type 0) (s : Option State) (f : Fate) (e : Ending) → Stands commit true (Unit {0}) ⊥ s f → Comes commit (Unit {0}) L s f e
-comes_so commit L s f e (waits y o is g) = leaves tt (ap is_left_in is) (waits g refl is g)
-comes_so commit L s f e (unforgotten d is g l) = leaves tt (ap is_left_in is) (unforgotten d is g (inl refl))
-comes_so commit L s f e (over is (inl z)) = ends z.1
-comes_so commit L s f e (over is (inr z)) = absurd z.1.1
+-- It ended as was decided, or was left, in doubt or decided by itself; or a decision was ended, and then its ending tells it.
+comes_so : (commit : Bool) (K L : Type 0) (s : Option State) (f : Fate) (e : Ending)
+    → (L → (d : HeuristicDecision) × (f ≡ decided_fate d) × (told_fate e ≡ Some (decided_fate d))) → Stands commit true (Unit {0}) L s f
+    → Comes commit (Unit {0}) K s f e
+comes_so commit K L s f e told (waits y o is g) = leaves tt (ap is_left_in is) (waits g refl is g)
+comes_so commit K L s f e told (unforgotten d is g l) = leaves tt (ap is_left_in is) (unforgotten d is g (inl refl))
+comes_so commit K L s f e told (over is (inl z)) = ends z.1
+comes_so commit K L s f e told (over is (inr z)) = let t = told z.1.1 in tells t.0 t.1 t.2
 
 -- ---- in its manager's history
 
@@ -152,7 +152,7 @@ module _ {t : ℕ} {T : Tables} {H : History} (s : Site t T H) (x : XidName) (a 
         let up = above s n (Prepare x) f.before f.after f.place k d lt between.thread in
         let leading : All IsLeading H = own_sent t (IsTowards commit L x) H s.ops (a.sent ++ Prepare x ∷ []) a'.sent h.rest s.carried grown
         (h.sent ∙ sym (append_assoc a.sent (Prepare x ∷ []) h.rest)) h.all in
-        all_after IsLeading f.before (request_of t n (Prepare x)) f.after (subst (All IsLeading) f.place leading) k d lt between.thread
+        all_after IsLeading f.before (request_of t n (Prepare x)) f.after (rw f.place at leading) k d lt between.thread
         (omega (arith, up, length-append a.sent (Prepare x ∷ []))) between.below named
 
     -- whatever its fate was before
@@ -167,39 +167,32 @@ module _ {t : ℕ} {T : Tables} {H : History} (s : Site t T H) (x : XidName) (a 
         let there = at_place s n (Prepare x) Done f before after place in
         fates_from s.law commit (Unit {0}) L t n x T H s.opening before after place (sym there.code) (guide Done there) tt g
 
-  pub sent_end : HasSentOnly commit ⊥ x a a' → StandsIn t n (Prepare x) Done T H → (e : Ending) (L : Type 0) (g : Fate)
-      → AtEnd commit (Unit {0}) L x (fate x g H T) H T e
-  sent_end h f e L g = record {
-    comes = comes_so commit L _ _ e (at_last s.law commit (Unit {0}) ⊥ t n x T H s.opening f.before f.after f.place (sym f.code) (guide ⊥ h Done f) tt g).stands;
-    any = any_so ⊥ h f;
-  }
-
-  -- where its second request was told a decision, that is its fate, and its ending tells so
-  module _ (h : HasSentOnly commit (Unit {0}) x a a') (f : StandsIn t n (Prepare x) Done T H) (k : ℕ) (past : n < k) (c : Code)
-      (second : StandsIn t k (outcome_op commit x) c T H) where
-    told_fate_is : (d : HeuristicDecision) → c ≡ decision_code d → (g : Fate) → fate x g H T ≡ decided_fate d
-    told_fate_is d e g =
-        let Q : Request → Type 0 = λ r. IsGuided commit (Unit {0}) x r.op in
+    -- where its second request was told a decision, that is its fate
+    pub told_fate_is : StandsIn t n (Prepare x) Done T H → (k : ℕ) → n < k → (c : Code) → StandsIn t k (outcome_op commit x) c T H
+        → (d : HeuristicDecision) → c ≡ decision_code d → (g : Fate) → fate x g H T ≡ decided_fate d
+    told_fate_is f k past c second d e g =
+        let Q : Request → Type 0 = λ r. IsGuided commit L x r.op in
         let P1 : Request = request_of t n (Prepare x) in
         let S : Request = request_of t k (outcome_op commit x) in
-        let all = guide (Unit {0}) h Done f in
+        let all = guide Done f in
         let later = later_place t f.before second.before P1 S f.after second.after (sym f.place ∙ second.place) refl past
         (below s n (Prepare x) f.before f.after f.place) in
-        let parts = subst (All Q) later.after all in
+        let parts = rw later.after at all in
         let now : Tables = (next t (Prepare x) (tables_after f.before T)).0 in
         let code : (next t (outcome_op commit x) (tables_after later.mid now)).1 ≡ decision_code d =
         sym (second.code ∙ ap (λ (h : History). (next t (outcome_op commit x) (tables_after h T)).1) later.before ∙ ap
         (λ (U : Tables). (next t (outcome_op commit x) U).1) (tables_after-append f.before (P1 ∷ later.mid) T)) ∙ e in
-        s.law.leaves H x g T ∙ fate_any s.law commit (Unit {0}) (Unit {0}) t n x T H s.opening f.before f.after f.place (sym f.code) all g
-        ∙ told_there commit (Unit {0}) (Unit {0}) t k x now f.after later.mid second.after history.InDoubt later.after s.law
-        (guided_after commit (Unit {0}) (Unit {0}) x later.mid now history.InDoubt (all_left Q later.mid (S ∷ second.after) parts)
-        (stands_now s.law commit (Unit {0}) (Unit {0}) t n x T H s.opening f.before f.after f.place (sym f.code) all tt))
+        s.law.leaves H x g T ∙ fate_any s.law commit (Unit {0}) L t n x T H s.opening f.before f.after f.place (sym f.code) all g
+        ∙ told_there commit (Unit {0}) L t k x now f.after later.mid second.after history.InDoubt later.after s.law
+        (guided_after commit (Unit {0}) L x later.mid now history.InDoubt (all_left Q later.mid (S ∷ second.after) parts)
+        (stands_now s.law commit (Unit {0}) L t n x T H s.opening f.before f.after f.place (sym f.code) all tt))
         (all_after Q later.mid S second.after parts) d code
 
-    pub told_end : is_decided c ≡ true → (L : Type 0) (g : Fate) → AtEnd commit (Unit {0}) L x (fate x g H T) H T (yes_ending commit (Some c))
-    told_end decided L g =
-        let d = decision_so c decided in
-        record {
-          comes = tells d.0 (told_fate_is d.0 d.1 g) (ap (λ (q : Code). told_fate (yes_ending commit (Some q))) d.1 ∙ told_decided commit d.0);
-          any = any_so (Unit {0}) h f;
-        }
+    -- so where each decision that is ended is told by its ending
+    pub sent_end : StandsIn t n (Prepare x) Done T H → (e : Ending) (K : Type 0) (g : Fate)
+        → (L → (d : HeuristicDecision) × (fate x g H T ≡ decided_fate d) × (told_fate e ≡ Some (decided_fate d)))
+        → AtEnd commit (Unit {0}) K x (fate x g H T) H T e
+    sent_end f e K g told = record {
+      comes = comes_so commit K L _ _ e told (at_last s.law commit (Unit {0}) L t n x T H s.opening f.before f.after f.place (sym f.code) (guide Done f) tt g).stands;
+      any = any_so f;
+    }

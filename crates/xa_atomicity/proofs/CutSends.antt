@@ -1,7 +1,7 @@
 -- What a commit sent that was cut short: by the record no Commit, or no Rollback. And what leaves the branches of a commit:
 -- nothing, and requests of which none names them.
-use Rattle.xa_base.proofs.{arith, All-contains, ◌&&◌, is_some, ◌⊎◌, ◌≡◌, ℕ, ◌≤◌, Bool, true, false, ◌==◌, List, map, get_or, sym, refl, ap, ◌∙◌, subst, Some}
-use Rattle.xa_base.proofs.{None, All, eqb-true, list_any_none, all_unmapped, by_bool, ◌≢◌, ◌<◌, ◌++◌, length, ⊎_elim, Option, Contains, cases_lt}
+use Rattle.xa_base.proofs.{none_all, arith, All-contains, ◌&&◌, is_some, ◌⊎◌, ◌≡◌, ℕ, ◌≤◌, Bool, true, false, ◌==◌, List, map, get_or, sym, refl, ap, ◌∙◌}
+use Rattle.xa_base.proofs.{subst, Some, None, All, eqb-true, list_any_none, all_unmapped, by_bool, ◌≢◌, ◌<◌, ◌++◌, length, ⊎_elim, Option, Contains, cases_lt}
 use Rattle.xa_base.proofs.{false_from_ne_true, and_left, and_right, true_from_ne_false, both_ways, Contains-get_or, Any-from_list_any}
 use Rattle.xa_driver.specs.{Prepared, Done, AreBranchesRising, IsTranOf, Logs, decision_of, Branch, Ending, Round, Decided, Ask, HaveComeSoFar, IsBegun}
 use Rattle.xa_driver.specs.{SameAsks, among_asks, is_commit, is_yes, yes_of, second_op, code_of, second_ask, yes_asked, HasDecided, HasPrepared, Outcome, Told}
@@ -18,7 +18,6 @@ use Rattle.xa_driver.proofs.Calls.{one_tran}
 use Rattle.xa_base.specs.{MOST_MANAGERS}
 use Rattle.xa_atomicity.proofs.CutVotes.{CameAt, IsVoteOf, each_came, at_asking, at_forgetting, at_telling, begun_sends, ended_voted, other_sends, told_voted}
 use Rattle.xa_atomicity.proofs.CutVotes.{did_nothing, all_sent}
-use Rattle.xa_atomicity.proofs.Sites.{none_all}
 use Rattle.xa_atomicity.proofs.OneOutcome.{recorded_is, none_on_abort, second_so, third_so, every_manager, positive_all}
 use Rattle.xa_atomicity.proofs.Resolves.{Sends, on, stays, asks_on, resolve_sends}
 
@@ -119,8 +118,8 @@ sends_so_far P m positive ks at now good far =
     let begun : IsBegun j.op (ledger at j.manager) (ledger now j.manager) = All-contains
     (λ (j : Ask). IsBegun j.op (ledger at j.manager) (ledger now j.manager)) ks j far.each (k, below, at_k) in
     begun_sends P j.op (ledger at m) (ledger now m) (All-contains (λ (j : Ask). IsAskedFor P j.op) ks j good (k, below, at_k))
-    (subst (λ (n : ℕ). IsBegun j.op (ledger at n) (ledger now n)) (eqb-true j.manager m same) begun))
-    (λ other. subst (Sends P (ledger at m)) (sym (far.others m positive other)) (stays P (ledger at m)))
+    (rw (eqb-true j.manager m same) at begun))
+    (λ other. rw (far.others m positive other) (stays P (ledger at m)))
 
 -- the second round is of what the first asked
 pub seconds_are : {p : Prepared} {log later : LogState} {d : Decided} (js : List Ask) → HasDecided p log later d
@@ -133,7 +132,7 @@ pub second_round_sends : (bs : List Branch) (start mid : List LedgerView) (log l
 second_round_sends bs start mid log later p d js at now first absent second same far = record {
   unrecorded = λ off m positive.
       let z =
-      goes is_commit NotToCommit no_commit_so (subst (λ c. All (NotToCommit c) (map code_of p.round.asks.items)) (sym decision) (undecided_so p.tran log later absent (map code_of p.round.asks.items) d.known.logged (yes_asked p.round.asks.items) logs off)) m positive in
+      goes is_commit NotToCommit no_commit_so (rw decision (undecided_so p.tran log later absent (map code_of p.round.asks.items) d.known.logged (yes_asked p.round.asks.items) logs off)) m positive in
       record { more = z.more; sent = z.sent; none = list_any_none is_commit z.more z.all };
   recorded = λ on m positive.
       let z =
@@ -145,7 +144,7 @@ second_round_sends bs start mid log later p d js at now first absent second same
     decision = second.decision ∙ ap (λ vs. decision_of vs d.known.logged) first.votes
 
     logs : Logs p.tran (yes_asked p.round.asks.items) (map code_of p.round.asks.items) d.known.logged log later
-    logs = subst (λ (vs : List Code). Logs p.tran (yes_asked p.round.asks.items) vs d.known.logged log later) first.votes second.logs
+    logs = rw first.votes at second.logs
 
     -- it sends nothing bad, where no second request of such votes is bad
     goes : (bad : Op → Bool) (Ok : Bool → Code → Type 0)
@@ -154,7 +153,7 @@ second_round_sends bs start mid log later p d js at now first absent second same
     goes bad Ok good ok m positive =
         let P : Op → Type 0 = λ op. bad op ≡ false in
         let asked : All (λ j. IsAskedFor P j.op) js =
-        carried (second_ask d.known.commit) (λ k. Ok d.known.commit (code_of k)) (λ j. IsAskedFor P j.op) (λ k j s fine. subst (IsAskedFor P) (sym s.op) (good d.known.commit k.xid (code_of k) fine P (λ op e. e))) p.round.asks.items js (seconds_are js second same) (all_unmapped code_of (Ok d.known.commit) p.round.asks.items ok) in
+        carried (second_ask d.known.commit) (λ k. Ok d.known.commit (code_of k)) (λ j. IsAskedFor P j.op) (λ k j s fine. rw s.op (good d.known.commit k.xid (code_of k) fine P (λ op e. e))) p.round.asks.items js (seconds_are js second same) (all_unmapped code_of (Ok d.known.commit) p.round.asks.items ok) in
         sends_so_far P m positive js at now asked far
 
 -- ---- what doesn't name the branch
@@ -186,8 +185,8 @@ module _ (x y : XidName) (differs : y ≢ x) where
       → Sends (Unnamed x) a a'
   trace_sends commit c v s e a a' same is =
       branch_by AsksLedger (Unnamed x) (Sends (Unnamed x) a) (λ d z op code so asked q. asks_on (Unnamed x) a d z op code so asked q) commit c v s e a a' is
-      (subst (λ z. IsAskedFor (Unnamed x) (second_op commit z v)) (sym same) (second_unnamed commit v)) (subst (λ z. IsAskedFor (Unnamed x) (third_op z s)) (sym same) (third_unnamed s))
-      (subst (λ z. Unnamed x (Prepare z)) (sym same) apart) (stays (Unnamed x) a)
+      (rw same (second_unnamed commit v)) (rw same (third_unnamed s))
+      (rw same apart) (stays (Unnamed x) a)
 
 abbrev Others : XidName → List Branch → Type 0
 Others x cs = All (λ c. c.xid ≢ x) cs
@@ -200,15 +199,7 @@ module _ (x : XidName) where
 
   pub firsts_clear : (cs : List Branch) (ks : List Ask) → Others x cs → SameAsks (map first_ask cs) ks → All Clear ks
   firsts_clear cs ks o s =
-      carried first_ask (λ c. c.xid ≢ x) Clear (λ c k s differs. (λ e. differs (sym s.xid ∙ e), subst (IsAskedFor (Unnamed x)) (sym s.op) (apart x c.xid differs))) cs ks s o
-
-  seconds_clear : (commit : Bool) (ks js : List Ask) → All Clear ks → SameAsks (map (second_ask commit) ks) js → All Clear js
-  seconds_clear commit ks js all s =
-      carried (second_ask commit) Clear Clear (λ k j s clear. (λ e. clear.0 (sym s.xid ∙ e), subst (IsAskedFor (Unnamed x)) (sym s.op) (second_unnamed x k.xid clear.0 commit (code_of k)))) ks js s all
-
-  thirds_clear : (js ls : List Ask) → All Clear js → SameAsks (map third_ask js) ls → All Clear ls
-  thirds_clear js ls all s =
-      carried third_ask Clear Clear (λ j l s clear. (λ e. clear.0 (sym s.xid ∙ e), subst (IsAskedFor (Unnamed x)) (sym s.op) (third_unnamed x j.xid clear.0 j.code))) js ls s all
+      carried first_ask (λ c. c.xid ≢ x) Clear (λ c k s differs. (λ e. differs (sym s.xid ∙ e), rw s.op (apart x c.xid differs))) cs ks s o
 
 did_so_far : (x : XidName) (m : ℕ) → 1 ≤ m → (ks : List Ask) (at now : List LedgerView) → All (Clear x) ks → HaveComeSoFar ks at now
     → DidOther x (ledger at m) (ledger now m)
@@ -230,11 +221,14 @@ module _ (bs cs : List Branch) (rising : AreBranchesRising 0 bs) (others : AreOt
       (second : HasDecided p log later d) where
     pub told_clear : (js : List Ask) → SameAsks (map (second_ask d.known.commit) d.round.asks.items) js → (x : XidName) → Others x cs → All (Clear x) js
     told_clear js same x o =
-        seconds_clear x d.known.commit p.round.asks.items js (firsts_clear x cs p.round.asks.items o first.same) (seconds_are js second same)
+        carried (second_ask d.known.commit) (Clear x) (Clear x) (λ k j s clear. (λ e. clear.0 (sym s.xid ∙ e), rw s.op (second_unnamed x k.xid clear.0 d.known.commit (code_of k))))
+        p.round.asks.items js (seconds_are js second same) (firsts_clear x cs p.round.asks.items o first.same)
 
     pub forgot_clear : (told_at late : List LedgerView) (t : Told) → HasTold d told_at late t → (ls : List Ask) → SameAsks (map third_ask t.round.asks.items) ls
         → (x : XidName) → Others x cs → All (Clear x) ls
-    forgot_clear told_at late t third ls same x o = thirds_clear x t.round.asks.items ls (told_clear t.round.asks.items third.same x o) same
+    forgot_clear told_at late t third ls same x o =
+        carried third_ask (Clear x) (Clear x) (λ j l s clear. (λ e. clear.0 (sym s.xid ∙ e), rw s.op (third_unnamed x j.xid clear.0 j.code))) t.round.asks.items ls same
+        (told_clear t.round.asks.items third.same x o)
 
   -- a whole commit
   pub commit_leaves : (desk : DeskView) (new : List LedgerView) (log later : LogState) (done : Done) → IsCommit cs desk new log later done
@@ -269,7 +263,7 @@ resolve_leaves bs q rising made others =
   where
     one : (b : Branch) → 1 ≤ b.m → Contains bs b → DidOther b.xid (ledger q.old b.m) (ledger q.new b.m)
     one b positive among =
-        ⊎_elim (λ (past : MOST_MANAGERS < b.m). subst (DidOther b.xid (ledger q.old b.m)) (sym (made.course.others b.m past)) (did_nothing b.xid (ledger q.old b.m)))
+        ⊎_elim (λ (past : MOST_MANAGERS < b.m). rw (made.course.others b.m past) (did_nothing b.xid (ledger q.old b.m)))
         (λ (within : b.m ≤ MOST_MANAGERS).
         did_by b.xid (ledger q.old b.m) (ledger q.new b.m)
         (resolve_sends q.scan q.records q.old q.new q.outcomes made (Unnamed b.xid) b.m (positive, within) refl (λ o there.

@@ -1,7 +1,7 @@
 -- What names a transaction in an opening where only resolves do; and the votes that a commit got which was cut short, and
 -- what it leaves in the log.
 use Rattle.xa_base.proofs.{arith, ◌≡◌, ◌≢◌, ℕ, suc, ◌+◌, ◌≤◌, Bool, true, false, List, ◌∷◌, ◌++◌, length, append_assoc, refl, ap, ◌∙◌, Option, All, Contains}
-use Rattle.xa_base.proofs.{All-contains, ◌==◌, ◌||◌, zero, slice_get, ◌<◌, ◌&&◌, [], append-nil, get_or, sym, subst, Some, unwrap_or, or-true, eq-eqb, ne_eqb}
+use Rattle.xa_base.proofs.{All-contains, ◌==◌, ◌||◌, zero, slice_get, ◌<◌, ◌&&◌, [], append-nil, get_or, sym, Some, unwrap_or, or-true, eq-eqb, ne_eqb}
 use Rattle.xa_base.proofs.{false_from_ne_true, or_from, eqb-true, begins_on, all_mid, same_begins, Contains-append_right, All-nil, All-cons, at_false}
 use Rattle.xa_base.proofs.{both_ways, Contains-push}
 use Rattle.xa_base.specs.{MOST_MANAGERS, IsUpTo, Begins}
@@ -12,7 +12,7 @@ use Rattle.xa_switch.specs.{Settling, IsSettled, sent, ledgers_of, history as hi
 use Rattle.xa_driver.specs.{Done, Branch, Ending, Outcome, AsksLedger, outcome_op, AtBranch, has_yes, voted_yes, yes_of, is_yes, AreBranchesRising, Logs}
 use Rattle.xa_driver.specs.{decision_of, EachBranch, IsCommit, IsTranOf, voted, IsAnswered, IsBegun, asked, collected, in_flight, unasked, second_op, third_op}
 use Rattle.xa_driver.specs.{ending_of}
-use Rattle.xa_log.specs.{Records, LogState}
+use Rattle.xa_log.specs.{LogState}
 use Rattle.xa_atomicity.specs.{ResolveCall, Use, resolves, IsUseIn, NamesTran, HasSent, IsAsked, CameSoFar, known_at, DidOther, EachVote, IsCut, IsEnded}
 use Rattle.xa_atomicity.specs.{IsTold, asking, forgetting, telling, IsKept, OnlyResolves, Opening}
 use Rattle.xa_driver.proofs.Mapped.{Asks, Any, IsAskedFor, any_asked}
@@ -72,9 +72,6 @@ IsNoPrepare op = (y : XidName) → op ≢ Prepare y
 ends_no_prepare : (commit : Bool) (x : XidName) → IsNoPrepare (outcome_op commit x)
 ends_no_prepare commit x y e = grind arith
 
-pub no_prepare : (records : Records) (m : ℕ) (o : Outcome) → Asks IsNoPrepare records m o
-no_prepare records m o = record { ends = λ _ _. ends_no_prepare o.commit o.xid; forgets = λ _ _ y e. cc }
-
 -- ---- what was sent
 
 -- A vote was collected as the code of its Prepare, and what was sent after that is so.
@@ -87,10 +84,10 @@ module _ (P : Op → Type 0) where
   one_sent a a' op so sends begins = record { more = op ∷ []; sent = sends; all = All-cons P op [] so (All-nil P); collected = begins }
 
   pub begun_sends : (op : Option Op) (a a' : LedgerView) → IsAskedFor P op → IsBegun op a a' → Sends P a a'
-  begun_sends op a a' so (unasked e) = subst (Sends P a) (sym e) (stays P a)
+  begun_sends op a a' so (unasked e) = rw e (stays P a)
   begun_sends op a a' so (in_flight o is open_ e) =
-      subst (Sends P a) (sym e) (one_sent a (with_sent a o) o (subst (IsAskedFor P) is so) refl (same_begins a.collected))
-  begun_sends op a a' so (collected code tr) = subst (Sends P a) (sym tr.trace) (asked_sends P a op code so)
+      rw e (one_sent a (with_sent a o) o (rw is at so) refl (same_begins a.collected))
+  begun_sends op a a' so (collected code tr) = rw tr.trace (asked_sends P a op code so)
 
   pub other_sends : (x : XidName) (a a' : LedgerView) → ((op : Op) → names x op ≡ false → P op) → DidOther x a a' → Sends P a a'
   other_sends x a a' so z = record { more = z.more; sent = z.sent; all = λ k d lt. so (get_or z.more k d) (z.others k d lt); collected = z.collected }
@@ -98,26 +95,23 @@ module _ (P : Op → Type 0) where
   -- after the vote, by how far it came
   module _ (commit : Bool) (b : Branch) (v : Code) (a a' : LedgerView) (others : (op : Op) → names b.xid op ≡ false → P op)
       (second : IsAskedFor P (second_op commit b.xid v)) where
-    told_sends : IsTold commit b v a a' → Sends P (voted b v a) a'
-    told_sends z =
-        on P (voted b v a) z.start a' (other_sends b.xid (voted b v a) z.start others z.between) (begun_sends (second_op commit b.xid v) z.start a' second z.tells)
-
     pub forget_sends : (s : Option Code) → IsAskedFor P (third_op b.xid s) → (z : IsEnded commit b v s a a')
         → Sends P (asked z.start (second_op commit b.xid v) s) a'
     forget_sends s third z =
         let late : LedgerView = asked z.start (second_op commit b.xid v) s in
         on P late z.told a' (other_sends b.xid late z.told others z.after) (begun_sends (third_op b.xid s) z.told a' third z.forgets)
 
-    ended_sends : (s : Option Code) → IsAskedFor P (third_op b.xid s) → IsEnded commit b v s a a' → Sends P (voted b v a) a'
-    ended_sends s third z =
-        let late : LedgerView = asked z.start (second_op commit b.xid v) s in
-        on P (voted b v a) z.start a' (other_sends b.xid (voted b v a) z.start others z.between) (on P z.start late a' (asked_sends P z.start (second_op commit b.xid v) s second) (forget_sends s third z))
-
     pub told_voted : IsTold commit b v a a' → HasVoted P b v a a'
-    told_voted z = record { prepared = z.prepared; rest = told_sends z }
+    told_voted z = record {
+      prepared = z.prepared;
+      rest = on P (voted b v a) z.start a' (other_sends b.xid (voted b v a) z.start others z.between) (begun_sends (second_op commit b.xid v) z.start a' second z.tells);
+    }
 
     pub ended_voted : (s : Option Code) → IsAskedFor P (third_op b.xid s) → IsEnded commit b v s a a' → HasVoted P b v a a'
-    ended_voted s third z = record { prepared = z.prepared; rest = ended_sends s third z }
+    ended_voted s third z = record {
+      prepared = z.prepared;
+      rest = on P (voted b v a) z.start a' (other_sends b.xid (voted b v a) z.start others z.between) (on P z.start (asked z.start (second_op commit b.xid v) s) a' (asked_sends P z.start (second_op commit b.xid v) s second) (forget_sends s third z));
+    }
 
   -- its Prepare with the rest
   pub all_sent : (b : Branch) (v : Code) (a a' : LedgerView) → P (Prepare b.xid) → HasVoted P b v a a' → Sends P a a'
@@ -244,10 +238,7 @@ pub finished_law : (bs : List Branch) (desk : DeskView) (new : List LedgerView) 
 finished_law bs desk new log later d made = record {
   may = made.may;
   far = forgetting d.votes.items d.logged made.trace.course.seconds made.trace.course.logs
-      (subst (λ c. EachBranch (Ended c desk.ledgers new) bs d.votes.items made.trace.course.seconds d.endings.items) made.trace.course.decision
-      (branch_map (λ b. Unit {0}) (Traced d.commit desk.ledgers new) (Ended d.commit desk.ledgers new)
-      (λ b v s e _ h. (ended_so d.commit b v s e (ledger desk.ledgers b.m) (ledger new b.m) h, h.ends)) bs d.votes.items made.trace.course.seconds d.endings.items
-      (λ k e lt. tt) made.trace.course.each));
+      (rw made.trace.course.decision at (branch_map (λ b. Unit {0}) (Traced d.commit desk.ledgers new) (Ended d.commit desk.ledgers new) (λ b v s e _ h. (ended_so d.commit b v s e (ledger desk.ledgers b.m) (ledger new b.m) h, h.ends)) bs d.votes.items made.trace.course.seconds d.endings.items (λ k e lt. tt) made.trace.course.each));
   managers = made.trace.managers;
 }
 
@@ -262,17 +253,18 @@ none_of P t m against bs vs tran h = absurd h
 -- where nothing but resolves names the transaction
 module _ (o : Opening) (kept : IsKept o) (t : TranName) (only : OnlyResolves t o) (m : ℕ) (up : IsUpTo MOST_MANAGERS m) where
   no_prepares : All (λ r. NamesTran t r.op → IsNoPrepare r.op) (history_of o.settled m)
-  no_prepares = named_so o.settled kept.settled m up IsNoPrepare t o.uses (λ y e. cc) kept.uses (λ q _ p _. no_prepare q.records m p) (only m)
+  no_prepares =
+      named_so o.settled kept.settled m up IsNoPrepare t o.uses (λ y e. cc) kept.uses (λ q _ p _. record { ends = λ _ _. ends_no_prepare p.commit p.xid; forgets = λ _ _ y e. cc }) (only m)
 
   pub no_vote : (u : ℕ) (old new : List LedgerView) → HaveGrown new (ledgers_of o.settled u) → (b : Branch) (v : Code) → tran_of b.xid ≡ t → b.m ≡ m
       → Votes old new b v → is_yes v ≡ false
   no_vote u old new grown b v of_tran same h =
       false_from_ne_true (is_yes v) (λ y.
-      let mine : HasVoted Any b v (ledger old m) (ledger new m) = subst (λ k. HasVoted Any b v (ledger old k) (ledger new k)) same h in
+      let mine : HasVoted Any b v (ledger old m) (ledger new m) = rw (← same) h in
       let open_ : learnt_shut (ledger old m) ≡ false = shut_unless v (ledger old m) mine.prepared y in
       let at =
       prepare_part o.settled kept.settled m up.0 u b.xid (ledger old m) (ledger new m) (grown.each m up.0) mine.rest.more (prepare_sent Any b v (ledger old m) (ledger new m) open_ mine) in
-      all_mid (λ (r : Request). NamesTran t r.op → IsNoPrepare r.op) at.1.before at.1.after (request_of u (0 + length (ledger old m).sent) (Prepare b.xid)) (subst (All (λ (r : Request). NamesTran t r.op → IsNoPrepare r.op)) at.1.place no_prepares) of_tran b.xid refl)
+      all_mid (λ (r : Request). NamesTran t r.op → IsNoPrepare r.op) at.1.before at.1.after (request_of u (0 + length (ledger old m).sent) (Prepare b.xid)) (rw at.1.place at no_prepares) of_tran b.xid refl)
 
 -- a mark of the transaction stays, where its votes make none
 pub cut_keeps : (mark : Bool) (t : TranName) (m : ℕ) → IsUpTo MOST_MANAGERS m
@@ -287,9 +279,9 @@ cut_keeps mark t m up bs desk new log later es c quiet e = so_far c.far
         logs_keep mark t m up bs votes logged log later c.may.tran c.may.absent (λ same _.
         none_of (λ b v. IsTold (decision_of votes logged) b v (ledger desk.ledgers b.m) (ledger new b.m)) t m (λ b v of at h.
         quiet same b v of at (told_voted Any (decision_of votes logged) b v (ledger desk.ledgers b.m) (ledger new b.m) (λ _ _. tt)
-        (any_asked (second_op (decision_of votes logged) b.xid v)) h)) bs votes (subst (IsTranOf bs) same c.may.one) each) e logs
+        (any_asked (second_op (decision_of votes logged) b.xid v)) h)) bs votes (rw same at c.may.one) each) e logs
     so_far (forgetting votes logged seconds logs each) =
         logs_keep mark t m up bs votes logged log later c.may.tran c.may.absent (λ same _.
-        none_of (Votes desk.ledgers new) t m (quiet same) bs votes (subst (IsTranOf bs) same c.may.one)
+        none_of (Votes desk.ledgers new) t m (quiet same) bs votes (rw same at c.may.one)
         (branch_votes (Ended (decision_of votes logged) desk.ledgers new) (Votes desk.ledgers new) (λ b v s e z.
         any_voted (decision_of votes logged) b v s (ledger desk.ledgers b.m) (ledger new b.m) z.0) bs votes seconds es each)) e logs

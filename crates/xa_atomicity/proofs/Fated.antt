@@ -1,22 +1,22 @@
 -- What became of a branch that nobody else named, but for heuristic decisions, over the settled history of its manager.
-use Rattle.xa_base.proofs.{rules, all_mid, all_left, all_after, some_same, by_bool, by_if, at_true, ◌⊎◌, ◌≡◌, ◌≢◌, ℕ, suc, ◌+◌, ◌<◌, inl, inr, Bool, true}
-use Rattle.xa_base.proofs.{false, ◌||◌, if◌then◌else◌, List, [], ◌∷◌, ◌++◌, length, append-nil, append_assoc, get_or, sym, refl, ap, ◌∙◌, subst, arith, Option}
-use Rattle.xa_base.proofs.{Some, None, All, cons_option, both_ways, true_from_ne_false}
+use Rattle.xa_base.proofs.{and_right, ne_eqb, rules, all_mid, all_left, all_after, some_same, by_bool, by_if, at_true, ◌⊎◌, ◌≡◌, ◌≢◌, ℕ, suc, ◌+◌, ◌<◌, inl}
+use Rattle.xa_base.proofs.{inr, Bool, true, false, ◌||◌, if◌then◌else◌, List, [], ◌∷◌, ◌++◌, length, append-nil, append_assoc, get_or, sym, refl, ap, ◌∙◌}
+use Rattle.xa_base.proofs.{arith, Option, Some, None, All, cons_option, both_ways, true_from_ne_false}
 use Rattle.xa_atomicity.specs.{is_in_doubt, OnlyTheseName, IsBetween, OnlyTheseOrDecisionsName, IsAfterShut, IsDecidedAfter, told_fate, is_left, is_heuristic}
 use Rattle.xa_atomicity.specs.{ended_as}
 use Rattle.std.proofs.lemmas.Bool.{or_left}
-use Rattle.xa_driver.specs.{is_heuristic as is_heuristic_code, outcome_op, Ending, Committed, ReadOnly, RolledBack, Heuristic, Left, is_yes, is_read}
-use Rattle.xa_driver.specs.{yes_ending, no_ending}
+use Rattle.xa_driver.specs.{is_heuristic as is_heuristic_code, outcome_op, Ending, Committed, ReadOnly, RolledBack, Heuristic, Left, is_yes, yes_ending}
+use Rattle.xa_driver.specs.{no_ending}
 use Rattle.xa_words.specs.{XidName, xid_eq, Done, RbIntegrity, HeurRb, HeurCom, RmFail, Op, Prepare, Rollback, Request, Code}
 use Rattle.xa_words.proofs.Xids.{xid_self}
-use Rattle.xa_tables.specs.{is_rolled_back, IsTold, HeuristicDecision, is_S3, is_prepared, decision_code, next, Fate, fate, fate_in, fate_of, coded}
+use Rattle.xa_tables.specs.{is_close, is_rolled_back, IsTold, HeuristicDecision, is_S3, is_prepared, decision_code, next, Fate, fate, fate_in, fate_of, coded}
 use Rattle.xa_tables.specs.{tables_after, last_or, is_done, is_in_doubt as is_unknown, prepare_fate, decided_fate, IsFateOf, names, OnlyDecides, LeavesWaiting}
 use Rattle.xa_tables.specs.{AwaitsAfter, is_heur, is_forget, answer_when, fates_when, Tables, History}
 use Rattle.xa_tables.proofs.ValueLaw.{tables_after-append, unnamed_fate}
 use Rattle.xa_tables.specs.declared.state.HeuristicDecision.TheVariants as decision
 use Rattle.xa_tables.specs.Histories as history
 use Rattle.xa_atomicity.proofs.Courses.{Unreached, Reads, Breaks, Stays, Agrees, Refuses, yes_is, read_is, Sends, SendsOne, Course, rest_forgets}
-use Rattle.xa_atomicity.proofs.Sites.{request_of, fates, fates_both, fate_is, last_both, closes_other, Site, above, Second, second_of}
+use Rattle.xa_atomicity.proofs.Sites.{request_of, fates, fates_both, fate_is, last_both, Site, above, Second, second_of}
 use Rattle.xa_atomicity.proofs.Guided.{is_known_so, tells_so, told_decided}
 use Rattle.xa_atomicity.proofs.Leading.{ends_fate}
 
@@ -33,7 +33,7 @@ pub leaves_waiting : (t : ℕ) (x : XidName) (n last : ℕ) (mid : History) (S :
 leaves_waiting t x n last mid S rest allowed others k d lt =
     let differs = others k d lt in (
       λ named. true_from_ne_false (is_heur (get_or mid k d).op) (λ h. differs (all_left (IsAllowed t x n last) mid (S ∷ rest) allowed k d lt named h).thread),
-      closes_other t (get_or mid k d) differs,
+      and_right (is_close (get_or mid k d).op) _ (ne_eqb (get_or mid k d).thread t differs),
     )
 
 -- where what the thread itself still sends of it are Forgets, the rest only decides it
@@ -76,7 +76,7 @@ decided_in t n x T H before after place g h split heur d made =
     let named : names x p.request.op ≡ true = true_from_ne_false (names x p.request.op) (λ n.
     let none : None ≡ Some (decided_fate d) = sym (unnamed_fate x p.request.op _ n) ∙ p.fate_here in cc) in
     let Q : Request → Type 0 = λ q. names x q.op ≡ true → is_heur q.op ≡ true in
-    let by_itself = all_mid Q p.before p.after p.request (subst (All Q) p.place heur) named in
+    let by_itself = all_mid Q p.before p.after p.request (rw p.place at heur) named in
     search (arith, request_of, append_assoc, tables_after-append, p.before, p.request.thread, p.request.op)
 
 -- a request for the outcome that is told a decision makes nothing of the branch
@@ -162,7 +162,7 @@ module _ {t : ℕ} {T : Tables} {H : History} (site : Site t T H) (x : XidName) 
     all_before = f.before ++ request_of t n (Prepare x) ∷ s.mid
 
     allowed : All (IsAllowed t x n last) (s.mid ++ S ∷ s.rest)
-    allowed = subst (All (IsAllowed t x n last)) s.split (only f.before f.after (request_of t n (Prepare x)) f.place refl refl)
+    allowed = rw s.split at (only f.before f.after (request_of t n (Prepare x)) f.place refl refl)
 
     waiting : LeavesWaiting t x s.mid
     waiting = leaves_waiting t x n last s.mid S s.rest allowed s.others
@@ -218,15 +218,13 @@ module _ {t : ℕ} {T : Tables} {H : History} (site : Site t T H) (x : XidName) 
       outcome =
           elim (there.shut) as (λ l. there.shut ≡ l → c ≡ (if l then RmFail else answer_when w.decision) → Goal (yes_ending commit (Some c))) [
             | true ↦ λ closed is.
-                subst (λ (d : Code). Goal (yes_ending commit (Some d))) (sym is)
-                (record { reached = λ _. refl; shut = λ _ _. search (arith, rules); decided = λ _ h. cc; named = λ _ h. cc; told = λ h i. cc; doubt = λ _. in_doubt closed })
+                rw is (record { reached = λ _. refl; shut = λ _ _. search (arith, rules); decided = λ _ h. cc; named = λ _ h. cc; told = λ h i. cc; doubt = λ _. in_doubt closed })
             | false ↦ λ opened is. by_answer w.decision w.fates is
           ] refl (s.code ∙ (grind (arith, w.awaits.commits, w.awaits.rolls_back, w.awaits)))
         where
           by_answer : (o : Option HeuristicDecision) → fates x s.mid now ≡ fates_when o → c ≡ answer_when o → Goal (yes_ending commit (Some c))
           by_answer None made is =
-              subst (λ (d : Code). Goal (yes_ending commit (Some d))) (sym is)
-              (ended_goal commit (ended_by (ended_as commit) (ap (fate_of x op) is ∙ ends_fate commit x) (is_known_so (ended_as commit) commit refl)))
+              rw is (ended_goal commit (ended_by (ended_as commit) (ap (fate_of x op) is ∙ ends_fate commit x) (is_known_so (ended_as commit) commit refl)))
           by_answer (Some d) made is =
               let fate_is_so : fate x f0 H T ≡ decided_fate d =
               told_by d (ap (fate_of x op) is ∙ outcome_quiet commit x d) (tells_so site.law commit t x d (tables_after all_before T) (sym code_there ∙ is)) in
@@ -256,13 +254,10 @@ pub branch_told : {t : ℕ} {T : Tables} {H : History} (site : Site t T H) (x : 
     → Course site x n last vote commit ending → (f0 : Fate) → IsFateOf x f0 T → OnlyTheseOrDecisionsName x t n last H → Told t x f0 T H n vote ending
 branch_told {t} {T} {H} site x n last commit vote ending course f0 fits only = by_course ending course
   where
-    read_not : is_read vote ≡ true → is_yes vote ≡ false
-    read_not r = ap is_yes (read_is vote r)
-
     by_course : (e : Ending) → Course site x n last vote commit e → Told t x f0 T H n vote e
     by_course _ (Unreached same code) = no_vote site x f0 fits n last vote only (Left RmFail) (ap is_yes code) refl (λ f e. cc)
     by_course _ (Reads r z) =
-        voted_so site x f0 fits n last vote only z ReadOnly history.ReadOnly (read_not r) refl refl (ap prepare_fate (read_is vote r)) refl
+        voted_so site x f0 fits n last vote only z ReadOnly history.ReadOnly (ap is_yes (read_is vote r)) refl refl (ap prepare_fate (read_is vote r)) refl
     by_course _ (Breaks k z) =
         let code : vote ≡ RbIntegrity = z.first.code ∙ site.law.breaks t x (tables_after z.first.before T) (sym (ap is_rolled_back z.first.code) ∙ k) in
         voted_so site x f0 fits n last vote only z RolledBack history.RolledBack (ap is_yes code) refl refl (ap prepare_fate code) refl
@@ -282,4 +277,4 @@ none_decides {t} {T} {H} site x n last only plain d =
     all_mid (λ (q : Request). names x q.op ≡ true → IsBetween t n last q) d.between d.after d.decision (only d.before tail d.request d.place d.thread d.number) d.named in
     let up = all_mid (λ (q : Request). q.thread ≡ t → n < q.number) d.between d.after d.decision (above site n op d.before tail place) own.thread in
     both_ways (is_heur d.decision.op)
-    (all_mid Plain (d.before ++ d.request ∷ d.between) d.after d.decision (subst (All Plain) (d.place ∙ sym (append_assoc d.before (d.request ∷ d.between) (d.decision ∷ d.after))) plain) own.thread up own.below) d.decides
+    (all_mid Plain (d.before ++ d.request ∷ d.between) d.after d.decision (rw (d.place ∙ sym (append_assoc d.before (d.request ∷ d.between) (d.decision ∷ d.after))) at plain) own.thread up own.below) d.decides

@@ -1,11 +1,12 @@
 -- What a branch that voted to commit stands at as the opening of its commit ends, where requests that lead it and heuristic
 -- decisions name it; and how it ends, by its fate then and through the later openings.
-use Rattle.xa_base.proofs.{arith, ◌≡◌, ℕ, Bool, true, false, if◌then◌else◌, List, [], ◌∷◌, sym, refl, ap, ◌∙◌, subst, Option, Some, None, list_any}
-use Rattle.xa_base.proofs.{list_any-append, or-true, rules, at_true, unwrap_or, ◌⊎◌, inl, inr, ◌++◌, All, cons_option, All-head, All-tail, All-cons, both_ways}
+use Rattle.xa_base.proofs.{arith, ◌≡◌, ℕ, Bool, true, false, if◌then◌else◌, List, [], ◌∷◌, sym, refl, ap, ◌∙◌, Option, Some, None, list_any, list_any-append}
+use Rattle.xa_base.proofs.{or-true, rules, at_true, unwrap_or, inl, inr, ◌++◌, All, cons_option, All-head, All-tail, All-cons, both_ways}
 use Rattle.xa_base.specs.{Begins}
 use Rattle.xa_words.specs.{XidName, Done, Op, Code, xid_eq, Prepare, Request}
-use Rattle.xa_tables.specs.{IsTold, State, HeuristicDecision, state_of, is_left_in, decision_code, next, Fate, tables_after, last_or, is_in_doubt as is_unknown}
-use Rattle.xa_tables.specs.{decided_fate, Tables, History, HeuristicallyCompleted, Answer, fate, fate_of, IsOpening, names, is_heur, AwaitsAfter}
+use Rattle.xa_tables.specs.{is_S3, IsTold, State, HeuristicDecision, state_of, is_left_in, decision_code, next, Fate, tables_after, last_or}
+use Rattle.xa_tables.specs.{is_in_doubt as is_unknown, decided_fate, Tables, History, HeuristicallyCompleted, Answer, fate, fate_of, IsOpening, names, is_heur}
+use Rattle.xa_tables.specs.{AwaitsAfter}
 use Rattle.xa_desk.specs.{LedgerView, learnt_shut}
 use Rattle.xa_driver.specs.{Branch, Ending, is_yes, yes_ending, AsksLedger, outcome_op, voted, AtBranch, Committed, ReadOnly, RolledBack, InDoubt, Heuristic}
 use Rattle.xa_driver.specs.{Left, is_decided}
@@ -16,10 +17,10 @@ use Rattle.xa_tables.specs.declared.state.State.TheVariants.{Prepared}
 use Rattle.xa_tables.proofs.Law.{Sound, sound_after, run_sound, opening_sound, last_more}
 use Rattle.xa_tables.proofs.ValueLaw.{tables_after-append}
 use Rattle.xa_tables.proofs.PreparedLaw.{Decides, Nothing, Completes, decides}
-use Rattle.xa_tables.specs.declared.state.HeuristicDecision.TheVariants as decision
 use Rattle.xa_tables.specs.Histories as history
 use Rattle.xa_atomicity.proofs.Courses.{yes_is, yes_wanted}
-use Rattle.xa_atomicity.proofs.Leading.{Stands, waits, unforgotten, over, Leads, Led, Standing, step_led, IsTowards, ends_towards, led_after, ends_fate}
+use Rattle.xa_atomicity.proofs.Leading.{after_all, Goes, Stands, waits, unforgotten, Leads, Led, Standing, step_led, IsTowards, ends_towards, led_after}
+use Rattle.xa_atomicity.proofs.Leading.{ends_fate}
 use Rattle.xa_atomicity.proofs.Sites.{fates, request_of, fates_both, last_both}
 
 -- It ended as was decided, or its ending tells that it was decided heuristically, or it is left; and then W is known.
@@ -118,10 +119,9 @@ left_in_doubt commit W L f e comes unknown = search (arith, both_ways, is_known_
 abbrev pub IsGuided : Bool → Type 0 → XidName → Op → Type 0
 IsGuided commit L x op = names x op ≡ true → is_heur op ≡ false → Leads commit L op
 
--- what such a request leaves of it: it stands so, and nothing was made of it, or it is known what
-pub record IsGuidedTo (commit : Bool) (D L : Type 0) (x : XidName) (f : Fate) (op : Op) (a : Answer) : Type 0 where
-  pub stands : Stands commit true D L (state_of a.0 x) (unwrap_or (fate_of x op a.1) f)
-  pub makes : (fate_of x op a.1 ≡ None) ⊎ ((g : Fate) × ((fate_of x op a.1 ≡ Some g) × (is_unknown g ≡ false)))
+-- such a request makes nothing of it, or it is known what
+abbrev pub IsGuidedTo : Bool → Type 0 → Type 0 → XidName → Op → Fate → Answer → Type 0
+IsGuidedTo commit D L x op f a = Goes commit true D L (λ g. is_unknown g ≡ false) x op f a
 
 pub decided_known : (d : HeuristicDecision) → is_unknown (decided_fate d) ≡ false
 decided_known d = grind arith
@@ -132,67 +132,31 @@ by_guide : (P : Type 0) (commit : Bool) (L : Type 0) (x : XidName) (op : Op) →
 by_guide P commit L x op guide leads decides = search (arith, both_ways)
 
 module _ (commit : Bool) (D L : Type 0) (x : XidName) where
-  by_decision : (f : Fate) (T : Tables) (op : Op) (a : Answer) → Stands commit true D L (state_of T x) f → Decides x op T a → IsGuidedTo commit D L x f op a
+  doubt_so : (s : Option State) (f : Fate) → Stands commit true D L s f → is_S3 s ≡ true → is_unknown f ≡ true
+  doubt_so s f st voted = search (arith, rules)
+
+  by_decision : (f : Fate) (T : Tables) (op : Op) (a : Answer) → Stands commit true D L (state_of T x) f → Decides x op T a → IsGuidedTo commit D L x op f a
   by_decision f T op a st (Nothing same none) = search (arith, unwrap_or, a.0)
   by_decision f T op a st (Completes d voted state opened told) = record {
     stands = unforgotten d state (ap (λ (o : Option Fate). unwrap_or o f) told) (inl refl);
     makes = inr (decided_fate d, (told, decided_known d));
+    once = λ known. absurd (both_ways (is_unknown f) known (doubt_so (state_of T x) f st voted));
   }
 
   pub guided : (f : Fate) (T : Tables) → Stands commit true D L (state_of T x) f → Sound T → (t : ℕ) (op : Op) → IsGuided commit L x op
-      → IsGuidedTo commit D L x f op (next t op T)
+      → IsGuidedTo commit D L x op f (next t op T)
   guided f T st sound t op guide =
-      by_guide (IsGuidedTo commit D L x f op (next t op T)) commit L x op guide
+      by_guide (IsGuidedTo commit D L x op f (next t op T)) commit L x op guide
       (λ leads. let led = step_led commit true D L x f T st sound t op leads in search (arith, is_known_so))
       (λ named heur. by_decision f T op (next t op T) st (decides t x op T named heur))
 
   pub guided_after : (h : History) (T : Tables) (f : Fate) → All (λ r. IsGuided commit L x r.op) h → Standing commit true D L x T f
       → Standing commit true D L x (tables_after h T) (last_or f (fates x h T))
-  guided_after [] T f guide s = s
-  guided_after (r ∷ h) T f guide s =
-      let P : Request → Type 0 = λ q. IsGuided commit L x q.op in
-      let T1 : Tables = (next r.thread r.op T).0 in
-      let o : Option Fate = fate_of x r.op (next r.thread r.op T).1 in
-      let st = guided f T s.stands s.sound r.thread r.op (All-head P r h guide) in
-      subst (λ (g : Fate). Standing commit true D L x (tables_after h T1) g) (last_more f o (fates x h T1))
-      (guided_after h T1 (unwrap_or o f) (All-tail P r h guide) (record { stands = st.stands; sound = sound_after r.thread r.op T s.sound }))
+  guided_after h T f guide s = (after_all commit true D L (λ g. is_unknown g ≡ false) x (IsGuided commit L x) guided h T f guide s).0
 
--- ---- nothing is made of a branch that isn't prepared any more
-
--- it is gone, or was decided heuristically
-abbrev IsPast : Option State → Type 0
-IsPast s = (s ≡ None) ⊎ ((d : HeuristicDecision) × (s ≡ Some (HeuristicallyCompleted d)))
-
-past_so : (commit : Bool) (D L : Type 0) (s : Option State) (f : Fate) → is_unknown f ≡ false → Stands commit true D L s f → IsPast s
-past_so commit D L s f known st = search (arith, rules)
-
-module _ (x : XidName) (T : Tables) (sound : Sound T) (past : IsPast (state_of T x)) where
-  abbrev Quiet : Op → Answer → Type 0
-  Quiet op a = fate_of x op a.1 ≡ None
-
-  heur_quiet : (op : Op) (a : Answer) → Decides x op T a → Quiet op a
-  heur_quiet op a by = search (arith, rules)
-
-  -- it stands as one that was decided, and ends no more
-  stands_so : (commit : Bool) → (d : HeuristicDecision) × Stands commit true ⊥ (Unit {0}) (state_of T x) (decided_fate d)
-  stands_so commit = elim past [ inl e ↦ (decision.Commit, over e (inr (decision.Commit, (refl, tt)))) | inr e ↦ (e.0, unforgotten e.0 e.1 refl (inl refl)) ]
-
-  quiet : (commit : Bool) (L : Type 0) (t : ℕ) (op : Op) → IsGuided commit L x op → Quiet op (next t op T)
-  quiet commit L t op guide =
-      let st = stands_so commit in
-      by_guide (Quiet op (next t op T)) commit L x op guide
-      (λ leads. let led = step_led commit true ⊥ (Unit {0}) x (decided_fate st.0) T st.1 sound t op
-      (λ n. (search (arith, rules, leads n))) in search (arith, decided_apart, unwrap_or))
-      (λ named heur. heur_quiet op (next t op T) (decides t x op T named heur))
-
--- one that was in doubt gets at most one fate
-module _ (commit : Bool) (D L : Type 0) (x : XidName) where
+  -- one that was in doubt gets at most one fate
   abbrev Once : Fate → List Fate → Type 0
   Once f fs = (is_unknown f ≡ false → fs ≡ []) × (is_unknown f ≡ true → fs ≡ once (last_or f fs))
-
-  one_more : (f : Fate) (o : Option Fate) (fs : List Fate) → (is_unknown f ≡ false → o ≡ None)
-      → (o ≡ None) ⊎ ((g : Fate) × ((o ≡ Some g) × (is_unknown g ≡ false))) → Once (unwrap_or o f) fs → Once f (cons_option o fs)
-  one_more f o fs silent made rest = search (arith, unwrap_or, cons_option)
 
   pub fates_once : (h : History) (T : Tables) (f : Fate) → All (λ r. IsGuided commit L x r.op) h → Standing commit true D L x T f → Once f (fates x h T)
   fates_once [] T f guide s = (λ _. refl, λ unknown. sym (ap (λ b. if b then [] else f ∷ []) unknown))
@@ -201,9 +165,9 @@ module _ (commit : Bool) (D L : Type 0) (x : XidName) where
       let T1 : Tables = (next r.thread r.op T).0 in
       let o : Option Fate = fate_of x r.op (next r.thread r.op T).1 in
       let here : IsGuided commit L x r.op = All-head P r h guide in
-      let st = guided commit D L x f T s.stands s.sound r.thread r.op here in
+      let st = guided f T s.stands s.sound r.thread r.op here in
       let rest = fates_once h T1 (unwrap_or o f) (All-tail P r h guide) (record { stands = st.stands; sound = sound_after r.thread r.op T s.sound }) in
-      one_more f o (fates x h T1) (λ known. quiet x T s.sound (past_so commit D L (state_of T x) f known s.stands) commit L r.thread r.op here) st.makes rest
+      search (arith, st.makes, st.once, unwrap_or, cons_option)
 
 -- so nothing more is made of one whose fate is known, by what leads it
 pub known_stays : (commit : Bool) (D L : Type 0) (x : XidName) (h : History) (T : Tables) (f : Fate) → is_unknown f ≡ false
@@ -239,10 +203,7 @@ module _ (commit : Bool) (D L : Type 0) (t n : ℕ) (x : XidName) (T : Tables) (
       let made : Option Fate = fate_of x (outcome_op commit x) told.1 in
       let tables_are : tables_after H T ≡ tables_after after told.0 = ap (λ (h : History). tables_after h T) place
       ∙ tables_after-append before (own ∷ after) T in
-      subst (λ (g : Fate). Standing commit open_ D L x (tables_after H T) g) (last_more here made (fates x after told.0) ∙ sym after_it)
-      (subst (λ (V : Tables). Standing commit open_ D L x V (last_or (unwrap_or made here) (fates x after told.0))) (sym tables_are)
-      (led_after commit open_ D L x after told.0 (unwrap_or made here) towards
-      (record { stands = led.stands; sound = sound_after t (outcome_op commit x) (tables_after before T) sound })))
+      rw (last_more here made (fates x after told.0) ∙ sym after_it) at (rw (← tables_are) at (led_after commit open_ D L x after told.0 (unwrap_or made here) towards (record { stands = led.stands; sound = sound_after t (outcome_op commit x) (tables_after before T) sound })).0)
 
   module _ (law : Tabled) (st : Standing commit true D L x (tables_after before T) (last_or f (fates x before T)))
       (guide : All (λ r. IsGuided commit L x r.op) after) where
@@ -290,10 +251,7 @@ module _ (law : Tabled) (commit : Bool) (D L : Type 0) (t n : ℕ) (x : XidName)
 
   pub at_last : D → (f : Fate) → Standing commit true D L x (tables_after H T) (fate x f H T)
   at_last doubt f =
-      subst (λ (g : Fate). Standing commit true D L x (tables_after H T) g) (sym (law.leaves H x f T ∙ fate_any f))
-      (subst (λ (V : Tables). Standing commit true D L x V (last_or history.InDoubt (fates x after now)))
-      (sym (ap (λ (h : History). tables_after h T) place ∙ tables_after-append before (request_of t n (Prepare x) ∷ after) T))
-      (guided_after commit D L x after now history.InDoubt guide (stands_now doubt)))
+      rw (law.leaves H x f T ∙ fate_any f) (rw (ap (λ (h : History). tables_after h T) place ∙ tables_after-append before (request_of t n (Prepare x) ∷ after) T) (guided_after commit D L x after now history.InDoubt guide (stands_now doubt)))
 
   -- and so what the Prepare and what is after it make of it
   pub fates_from : D → (f : Fate) → fates x (request_of t n (Prepare x) ∷ after) U ≡ history.InDoubt ∷ once (fate x f H T)

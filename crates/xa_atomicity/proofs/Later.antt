@@ -1,9 +1,9 @@
 -- Where the request of a resolve that was answered stands in a history, and what it leaves; and what becomes of a branch
 -- that was left, through the openings up to one with a resolve that reached it.
-use Rattle.xa_base.proofs.{◌≡◌, ◌≢◌, ℕ, suc, ◌+◌, Bool, true, false, cond, ◌==◌, ◌||◌, List, [], ◌∷◌, ◌++◌, length, append_assoc, slice_get, get_or, sym, refl}
-use Rattle.xa_base.proofs.{ap, ◌∙◌, subst, arith, Option, Some, All, nat_cmp_total, eqb-true, false_from_ne_true, All-head, All-tail, tied_true, all_left}
-use Rattle.xa_base.proofs.{Contains, all_after, some_same, option_map, None, ⊎_elim, All-contains, Contains-append_left, Contains-append_right, rules}
-use Rattle.xa_base.proofs.{all_right, and_right, both_ways, Contains-append_cases, contains-insert}
+use Rattle.xa_base.proofs.{◌⊎◌, inl, inr, ◌≡◌, ◌≢◌, ℕ, suc, ◌+◌, Bool, true, false, cond, ◌==◌, ◌||◌, List, [], ◌∷◌, ◌++◌, length, append_assoc, slice_get}
+use Rattle.xa_base.proofs.{get_or, sym, refl, ap, ◌∙◌, subst, arith, Option, Some, All, nat_cmp_total, eqb-true, false_from_ne_true, All-head, All-tail}
+use Rattle.xa_base.proofs.{tied_true, all_left, Contains, all_after, some_same, option_map, None, All-contains, Contains-append_left, Contains-append_right}
+use Rattle.xa_base.proofs.{rules, all_right, and_right, both_ways, Contains-append_cases, contains-insert}
 use Rattle.xa_words.specs.{XidName, RmFail, Op, OpenRm, Request, Code, Done, xid_eq, Decides-xid_eq, tran_of}
 use Rattle.xa_tables.specs.{HeuristicDecision, has_opened, decision_code, Answer, next, open_rm, Fate, decided_fate, coded, of_thread, tables_after, last_or}
 use Rattle.xa_tables.specs.{closes, Tables, History, state_of, is_left_in, is_prepared, is_in_doubt as is_unknown, AreLeft, reopened, reopened_fate, names}
@@ -71,7 +71,7 @@ placed t T H op code a ops pairs carried answered i =
       rest = q.after;
       place = place;
       open_ = no_closes t q.before (own_all t IsNoClose q.before (suc n) i.mid q.earlier i.open_);
-      code_is = code_there t H T pairs m code answered (subst (λ k. Contains pairs (k, code)) more i.told)
+      code_is = code_there t H T pairs m code answered (rw more at i.told)
           (p.before ++ request_of t n OpenRm ∷ q.before) q.after op place (count_two t n OpenRm p.before q.before a.sent i.mid p.earlier q.earlier ∙ more);
     }
 
@@ -95,13 +95,13 @@ module _ (commit : Bool) (D L : Type 0) (t : ℕ) (x : XidName) (T : Tables) (H 
   U = tables_after before T
 
   all_here : All (λ r. IsTowards commit L x r.op) (before ++ ends ∷ z.rest)
-  all_here = subst (All (λ (r : Request). IsTowards commit L x r.op)) z.place towards
+  all_here = rw z.place at towards
 
   rest_here : All (λ r. IsTowards commit L x r.op) z.rest
   rest_here = all_after (λ (r : Request). IsTowards commit L x r.op) before ends z.rest all_here
 
   now : Standing commit true D L x U (last_or f (fates x before T))
-  now = led_after commit true D L x before T f (all_left (λ (r : Request). IsTowards commit L x r.op) before (ends ∷ z.rest) all_here) st
+  now = (led_after commit true D L x before T f (all_left (λ (r : Request). IsTowards commit L x r.op) before (ends ∷ z.rest) all_here) st).0
 
   open_now : U.shut ≡ false
   open_now = false_from_ne_true (U.shut) (λ shut. reached (z.code_is ∙ ap (λ (a : Answer). a.1) (next-shut t (outcome_op commit x) U shut)))
@@ -138,7 +138,7 @@ found_all : (P : ManagerPart → Type 0) (m : ℕ) (parts : List ManagerPart) (p
 found_all P m [] p all e = cc
 found_all P m (q ∷ parts) p all e =
     elim (q.number == m) as (λ b. cond b (Some q) (find_manager m parts) ≡ Some p → P p) [
-      | true ↦ λ e. let same : q ≡ p = cc in subst P same (All-head P q parts all)
+      | true ↦ λ e. let same : q ≡ p = cc in rw same at (All-head P q parts all)
       | false ↦ λ e. found_all P m parts p (All-tail P q parts all) e
     ] e
 
@@ -205,8 +205,7 @@ module _ (law : Tabled) (first : (s : Settling) (m : ℕ) (T : Tables) → IsSet
 
     -- it stands as it did
     step_stands : Stands commit true D L (state_of (tables_after H T) x) (settled_fate o.settled m x f)
-    step_stands = subst (λ (g : Fate). Stands commit true D L (state_of (tables_after H T) x) g) (sym (fate_so o T f with_T))
-        (led_after commit true D L x H T f w.towards stands_first).stands
+    step_stands = rw (fate_so o T f with_T) (led_after commit true D L x H T f w.towards stands_first).0.stands
 
     -- an outcome of the branch that was answered has its request in the history
     module _ (q : ResolveCall) (there : Contains o.uses (resolves q)) where
@@ -220,8 +219,7 @@ module _ (law : Tabled) (first : (s : Settling) (m : ℕ) (T : Tables) → IsSet
 
       answered : All (λ p. slice_get (answers t (coded H T)) p.0 ≡ Some p) (ledger (ledgers_of o.settled t) m).collected
       answered =
-          subst (All (λ (p : ℕ × Code). slice_get (answers t (coded H T)) p.0 ≡ Some p)) (by_ledger (ledgers_of o.settled t) m (λ (z : LedgerView). z.collected) up.0 refl)
-          (answered_of law o.settled w.kept.settled t m T with_T)
+          rw (by_ledger (ledgers_of o.settled t) m (λ (z : LedgerView). z.collected) up.0 refl) at (answered_of law o.settled w.kept.settled t m T with_T)
 
       pub answered_at : (r : Outcome) → Contains q.outcomes r → r.m ≡ m → r.xid ≡ x → r.code ≢ RmFail → Placed t T H (outcome_op commit x) r.code
       answered_at r among own same reached =
@@ -242,7 +240,7 @@ module _ (law : Tabled) (first : (s : Settling) (m : ℕ) (T : Tables) → IsSet
         by_standing : Stands commit true D L (state_of T x) f → Standing commit false D L x (tables_after H T) (last_or f (fates x H T))
         by_standing (waits y open_ e g) = left_ends (ap is_left_in e)
         by_standing (unforgotten d e g l) = left_ends (ap is_left_in e)
-        by_standing (over e g) = led_after commit false D L x H T f w.towards (record { stands = over e g; sound = stands_first.sound })
+        by_standing (over e g) = (led_after commit false D L x H T f w.towards (record { stands = over e g; sound = stands_first.sound })).0
 
         -- so it isn't prepared any more
         pub step_rests : is_prepared (tables_after H T) x ≡ false
@@ -250,7 +248,7 @@ module _ (law : Tabled) (first : (s : Settling) (m : ℕ) (T : Tables) → IsSet
 
         pub step_ends : IsOver commit D L (settled_fate o.settled m x f)
         step_ends =
-            subst (IsOver commit D L) (sym (fate_so o T f with_T)) (is_over commit D L (state_of (tables_after H T) x) (last_or f (fates x H T)) (by_standing w.stands).stands)
+            rw (fate_so o T f with_T) (is_over commit D L (state_of (tables_after H T) x) (last_or f (fates x H T)) (by_standing w.stands).stands)
 
   -- ---- one after another, after one that left these tables and this fate
 
@@ -291,7 +289,7 @@ module _ (law : Tabled) (first : (s : Settling) (m : ℕ) (T : Tables) → IsSet
   walk_ends o (p ∷ between) last q T f there scan reached w =
       walk_ends p between last q (tables_after (history_of p.settled m) (reopened T)) (settled_fate p.settled m x (reopened_fate f)) there scan reached w.1
 
-  -- ---- a decision that a resolve was told
+  -- ---- a decision
 
   -- the fate stays it
   step_after : (d : HeuristicDecision) (o : Opening) (T : Tables) (f : Fate) → IsStep o T f → f ≡ decided_fate d → settled_fate o.settled m x f ≡ decided_fate d
@@ -299,13 +297,12 @@ module _ (law : Tabled) (first : (s : Settling) (m : ℕ) (T : Tables) → IsSet
       fate_so o T f (first o.settled m T w.kept.settled w.begins)
       ∙ ap (last_or f) (known_stays commit D L x (history_of o.settled m) T f (ap is_unknown e ∙ decided_known d) w.towards (stands_first o T f w)) ∙ e
 
-  pub walk_after : (d : HeuristicDecision) (os : List Opening) (T : Tables) (f : Fate) → Walk os T f → f ≡ decided_fate d
-      → fate_through m x f os ≡ decided_fate d
-  walk_after d [] T f w e = e
-  walk_after d (o ∷ os) T f w e =
-      walk_after d os (tables_after (history_of o.settled m) (reopened T)) (settled_fate o.settled m x (reopened_fate f)) w.1 (step_after d o (reopened T) (reopened_fate f) w.0 (ap reopened_fate e ∙ by_itself d))
+  -- a resolve of these openings was told the decision
+  abbrev pub Told : HeuristicDecision → List Opening → Type 0
+  Told d os =
+      (q : ResolveCall) × (r : Outcome) × Contains (uses_of os) (resolves q) × Contains q.outcomes r × (r.m ≡ m) × (r.xid ≡ x) × (r.code ≡ decision_code d)
 
-  -- so from the resolve on
+  -- is the fate after the resolve
   step_tells : (d : HeuristicDecision) (o : Opening) (T : Tables) (f : Fate) → IsStep o T f → (q : ResolveCall) → Contains o.uses (resolves q) → (r : Outcome)
       → Contains q.outcomes r → r.m ≡ m → r.xid ≡ x → r.code ≡ decision_code d → settled_fate o.settled m x f ≡ decided_fate d
   step_tells d o T f w q there r among own same e =
@@ -313,12 +310,18 @@ module _ (law : Tabled) (first : (s : Settling) (m : ℕ) (T : Tables) → IsSet
       fate_so o T f (first o.settled m T w.kept.settled w.begins)
       ∙ placed_tells commit D L q.thread x T (history_of o.settled m) f r.code w.towards (stands_first o T f w) reached (λ k is. w.lists q there r among own same (decided_so r.code k is)) (answered_at o T f w q there r among own same reached) law d e
 
-  pub walk_tells : (d : HeuristicDecision) (os : List Opening) (T : Tables) (f : Fate) → Walk os T f → (q : ResolveCall) → Contains (uses_of os) (resolves q)
-      → (r : Outcome) → Contains q.outcomes r → r.m ≡ m → r.xid ≡ x → r.code ≡ decision_code d → fate_through m x f os ≡ decided_fate d
-  walk_tells d [] T f w q (k, lt, e) r among own same is = absurd (omega (arith, lt))
-  walk_tells d (o ∷ os) T f w q there r among own same is =
-      let T1 : Tables = tables_after (history_of o.settled m) (reopened T) in
-      let f1 : Fate = settled_fate o.settled m x (reopened_fate f) in
-      ⊎_elim (λ (here : Contains o.uses (resolves q)). walk_after d os T1 f1 w.1 (step_tells d o (reopened T) (reopened_fate f) w.0 q here r among own same is))
-      (λ (later : Contains (uses_of os) (resolves q)). walk_tells d os T1 f1 w.1 q later r among own same is)
-      (Contains-append_cases o.uses (uses_of os) (resolves q) there)
+  -- so it is in the end, as is one that was the fate already
+  pub walk_decides : (d : HeuristicDecision) (os : List Opening) (T : Tables) (f : Fate) → Walk os T f → (f ≡ decided_fate d) ⊎ Told d os
+      → fate_through m x f os ≡ decided_fate d
+  walk_decides d [] T f w (inl e) = e
+  walk_decides d [] T f w (inr z) = absurd (omega (arith, z.2.1))
+  walk_decides d (o ∷ os) T f w h =
+      let T0 : Tables = reopened T in
+      let f0 : Fate = reopened_fate f in
+      walk_decides d os (tables_after (history_of o.settled m) T0) (settled_fate o.settled m x f0) w.1 (elim h [
+        | inl e ↦ inl (step_after d o T0 f0 w.0 (ap reopened_fate e ∙ by_itself d))
+        | inr z ↦ elim (Contains-append_cases o.uses (uses_of os) (resolves z.0) z.2) [
+          | inl here ↦ inl (step_tells d o T0 f0 w.0 z.0 here z.1 z.3 z.4 z.5 z.6)
+          | inr later ↦ inr (z.0, z.1, later, z.3, z.4, z.5, z.6)
+        ]
+      ])

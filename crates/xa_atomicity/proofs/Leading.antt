@@ -1,12 +1,12 @@
 -- What a branch that voted to commit stands at, where nothing but resolves names it.
-use Rattle.xa_base.proofs.{rules, arith, ◌⊎◌, not, cond, is_some, unwrap_or, ◌≡◌, ◌≢◌, ℕ, inl, inr, Bool, true, false, ◌||◌, if◌then◌else◌, [], ◌∷◌, sym, refl}
-use Rattle.xa_base.proofs.{ap, ◌∙◌, subst, Option, Some, None, All, cons_option, not-false, or_from, All-nil, All-cons, All-head, All-tail, and-false, by_if}
-use Rattle.xa_base.proofs.{at_false, at_true, or-true, cases_Bool}
+use Rattle.xa_base.proofs.{both_ways, rules, arith, ◌⊎◌, not, cond, is_some, unwrap_or, ◌≡◌, ◌≢◌, ℕ, inl, inr, Bool, true, false, ◌||◌, if◌then◌else◌, [], ◌∷◌}
+use Rattle.xa_base.proofs.{sym, refl, ap, ◌∙◌, Option, Some, None, All, cons_option, not-false, or_from, All-nil, All-cons, All-head, All-tail, and-false}
+use Rattle.xa_base.proofs.{by_if, at_false, at_true, or-true, cases_Bool}
 use Rattle.xa_words.specs.{XidName, xid_eq, Decides-xid_eq, Done, Nota, Proto, RmFail, Op, Commit, Rollback, Forget, Request, Code}
 use Rattle.xa_words.proofs.Xids.{xid_self}
-use Rattle.xa_tables.specs.{decision_of, committed, State, HeuristicallyCompleted, HeuristicDecision, has_opened, state_of, exists, is_S5, is_left_in}
-use Rattle.xa_tables.specs.{is_prepared, is_completed, is_rollback_only, is_somebody_associated, reason_of, decision_code, Answer, next, by_rules, commit_two}
-use Rattle.xa_tables.specs.{rollback, gone, Fate, tables_after, fate_of, is_done, last_or, decided_fate, reopened, reopened_fate, names, Tables, History}
+use Rattle.xa_tables.specs.{decision_of, committed, State, HeuristicallyCompleted, HeuristicDecision, has_opened, state_of, exists, is_left_in, is_prepared}
+use Rattle.xa_tables.specs.{is_completed, is_rollback_only, is_somebody_associated, reason_of, decision_code, Answer, next, by_rules, commit_two, rollback}
+use Rattle.xa_tables.specs.{gone, Fate, tables_after, fate_of, is_done, last_or, decided_fate, reopened, reopened_fate, names, Tables, History}
 use Rattle.xa_tables.specs.declared.state.State.TheVariants.{Prepared}
 use Rattle.xa_tables.proofs.Law.{Sound, AtWork, standing, nobody_rests, get_gone, sound_after, last_more}
 use Rattle.xa_tables.proofs.Reopening.{state_reopened}
@@ -38,10 +38,14 @@ Leads commit L op = ⊥
 abbrev pub IsTowards : Bool → Type 0 → XidName → Op → Type 0
 IsTowards commit L x op = names x op ≡ true → Leads commit L op
 
--- what a request leaves of it
-pub record Led (commit open_ : Bool) (D L : Type 0) (x : XidName) (op : Op) (f : Fate) (a : Answer) : Type 0 where
+-- what a request leaves of it: it stands so, and nothing was made of it, or Q
+pub record Goes (commit open_ : Bool) (D L : Type 0) (Q : Fate → Type 0) (x : XidName) (op : Op) (f : Fate) (a : Answer) : Type 0 where
   pub stands : Stands commit open_ D L (state_of a.0 x) (unwrap_or (fate_of x op a.1) f)
-  pub makes : (fate_of x op a.1 ≡ None) ⊎ (fate_of x op a.1 ≡ Some (ended_as commit))
+  pub makes : (fate_of x op a.1 ≡ None) ⊎ ((g : Fate) × ((fate_of x op a.1 ≡ Some g) × Q g))
+  pub once : history.is_in_doubt f ≡ false → fate_of x op a.1 ≡ None
+
+abbrev pub Led : Bool → Bool → Type 0 → Type 0 → XidName → Op → Fate → Answer → Type 0
+Led commit open_ D L x op f a = Goes commit open_ D L (λ g. g ≡ ended_as commit) x op f a
 
 -- so after a history
 pub record Standing (commit open_ : Bool) (D L : Type 0) (x : XidName) (T : Tables) (f : Fate) : Type 0 where
@@ -52,27 +56,31 @@ named_self : (x : XidName) (o : Option Fate) → (if xid_eq x x then o else None
 named_self x o = at_true (xid_eq x x) o None (xid_self x)
 
 gone_state : (T : Tables) (x : XidName) → state_of (gone x T) x ≡ None
-gone_state T x = get_gone T x x ∙ at_true (xid_eq x x) None _ (xid_self x)
+gone_state T x = get_gone T.states x x ∙ at_true (xid_eq x x) None _ (xid_self x)
 
 -- a branch that stands so isn't at work, so nobody is associated with it
 rests : (commit open_ : Bool) (D L : Type 0) (s : Option State) (f : Fate) → Stands commit open_ D L s f → standing s ≢ AtWork
 rests commit open_ D L s f st w = search (arith, rules)
 
 -- it is gone, and ended as was decided
-gone_so : (commit open_ : Bool) (D L : Type 0) (x : XidName) (f : Fate) (op : Op) (c : Code) (T : Tables) → D → fate_of x op c ≡ Some (ended_as commit)
-    → Led commit open_ D L x op f (gone x T, c)
-gone_so commit open_ D L x f op c T y e = record { stands = over (gone_state T x) (inl (y, ap (λ o. unwrap_or o f) e)); makes = inr e }
+gone_so : (commit open_ : Bool) (D L : Type 0) (x : XidName) (f : Fate) (op : Op) (c : Code) (T : Tables) → D × (f ≡ history.InDoubt)
+    → fate_of x op c ≡ Some (ended_as commit) → Led commit open_ D L x op f (gone x T, c)
+gone_so commit open_ D L x f op c T y e = record {
+  stands = over (gone_state T x) (inl (y.0, ap (λ o. unwrap_or o f) e));
+  makes = inr (ended_as commit, (e, refl));
+  once = λ known. absurd (both_ways (history.is_in_doubt f) known (ap history.is_in_doubt y.1));
+}
 
 module _ (commit open_ : Bool) (D L : Type 0) (x : XidName) (f : Fate) (T : Tables) (st : Stands commit open_ D L (state_of T x) f) where
   -- nothing was done
   same : (op : Op) (c : Code) → fate_of x op c ≡ None → Led commit open_ D L x op f (T, c)
-  same op c e = record { stands = subst (λ (o : Option Fate). Stands commit open_ D L (state_of T x) (unwrap_or o f)) (sym e) st; makes = inl e }
+  same op c e = record { stands = rw e st; makes = inl e; once = λ _. e }
 
   refuses : (op : Op) → (fate_of x op Proto ≡ None) × (fate_of x op RmFail ≡ None)
   refuses op = ((error_tells op Proto refl).fates x, (error_tells op RmFail refl).fates x)
 
   -- one that is there and isn't completed awaits the outcome
-  undecided : not (exists T x) ≡ false → is_completed T x ≡ false → D
+  undecided : not (exists T x) ≡ false → is_completed T x ≡ false → D × (f ≡ history.InDoubt)
   undecided there open_now = search (arith, st)
 
   committing : commit ≡ true → Led commit open_ D L x (Commit x false) f (commit_two x T)
@@ -96,9 +104,6 @@ module _ (commit open_ : Bool) (D L : Type 0) (x : XidName) (f : Fate) (T : Tabl
       (is_done (reason_of T x) || true) (Some history.RolledBack) None (or-true (is_done (reason_of T x))) ∙ ends))
       (λ _. gone_so commit open_ D L x f (Rollback x) Done T (undecided there open_now) (named_self x (Some history.RolledBack) ∙ ends)))))
 
-  forgets : L → is_S5 (state_of T x) ≡ true → Stands commit open_ D L (state_of T x) f → Stands commit open_ D L None f
-  forgets l h st = search (arith, rules)
-
   unless_refused : (t : ℕ) (op : Op) → Led commit open_ D L x op f (by_rules t op T) → Led commit open_ D L x op f (next t op T)
   unfolding next
   unless_refused t op h =
@@ -108,13 +113,11 @@ module _ (commit open_ : Bool) (D L : Type 0) (x : XidName) (f : Fate) (T : Tabl
   -- a request of the three that name it and lead it
   named_led : (t : ℕ) (op : Op) → names x op ≡ true → Leads commit L op → Led commit open_ D L x op f (next t op T)
   named_led t (Commit y one_phase) n l =
-      subst (λ (b : Bool). Led commit open_ D L x (Commit y b) f (next t (Commit y b) T)) (sym l.0)
-      (subst (λ (z : XidName). Led commit open_ D L x (Commit z false) f (next t (Commit z false) T)) (sym ((Decides-xid_eq y x).0 n)) (unless_refused t (Commit x false) (committing l.1)))
+      rw l.0 (rw ((Decides-xid_eq y x).0 n) (unless_refused t (Commit x false) (committing l.1)))
   named_led t (Rollback y) n l =
-      subst (λ (z : XidName). Led commit open_ D L x (Rollback z) f (next t (Rollback z) T)) (sym ((Decides-xid_eq y x).0 n)) (unless_refused t (Rollback x) (rolling_back l))
+      rw ((Decides-xid_eq y x).0 n) (unless_refused t (Rollback x) (rolling_back l))
   named_led t (Forget y) n l =
-      subst (λ (z : XidName). Led commit open_ D L x (Forget z) f (next t (Forget z) T)) (sym ((Decides-xid_eq y x).0 n))
-      (unless_refused t (Forget x) (search (arith, same, gone_state, forgets, not-false)))
+      rw ((Decides-xid_eq y x).0 n) (unless_refused t (Forget x) (search (arith, same, gone_state, not-false)))
   named_led t op n l = absurd l
 
   -- a request that doesn't name it, or leads it
@@ -125,37 +128,32 @@ module _ (commit open_ : Bool) (D L : Type 0) (x : XidName) (f : Fate) (T : Tabl
         | false ↦ λ n.
             record {
               stands =
-                  subst (λ (o : Option State). Stands commit open_ D L o (unwrap_or (fate_of x op (next t op T).1) f)) (sym (unnamed_stays t op x T (nobody_rests T sound x (rests commit open_ D L (state_of T x) f st)) n).state)
-                  (subst (λ (o : Option Fate). Stands commit open_ D L (state_of T x) (unwrap_or o f)) (sym (unnamed_fate x op (next t op T).1 n)) st);
+                  rw (unnamed_stays t op x T (nobody_rests T sound x (rests commit open_ D L (state_of T x) f st)) n).state (rw (unnamed_fate x op (next t op T).1 n) st);
               makes = inl (unnamed_fate x op (next t op T).1 n);
+              once = λ _. unnamed_fate x op (next t op T).1 n;
             }
       ] refl
 
--- after a history of such requests
-pub led_after : (commit open_ : Bool) (D L : Type 0) (x : XidName) (h : History) (T : Tables) (f : Fate) → All (λ r. IsTowards commit L x r.op) h
-    → Standing commit open_ D L x T f → Standing commit open_ D L x (tables_after h T) (last_or f (fates x h T))
-led_after commit open_ D L x [] T f towards s = s
-led_after commit open_ D L x (r ∷ h) T f towards s =
-    let P : Request → Type 0 = λ q. IsTowards commit L x q.op in
+-- after a history of requests that each leave it so; and each fate that they make is so
+pub after_all : (commit open_ : Bool) (D L : Type 0) (Q : Fate → Type 0) (x : XidName) (A : Op → Type 0)
+    → ((f : Fate) (T : Tables) → Stands commit open_ D L (state_of T x) f → Sound T → (t : ℕ) (op : Op) → A op → Goes commit open_ D L Q x op f (next t op T))
+    → (h : History) (T : Tables) (f : Fate) → All (λ r. A r.op) h → Standing commit open_ D L x T f
+    → Standing commit open_ D L x (tables_after h T) (last_or f (fates x h T)) × All Q (fates x h T)
+after_all commit open_ D L Q x A step [] T f all s = (s, All-nil Q)
+after_all commit open_ D L Q x A step (r ∷ h) T f all s =
+    let P : Request → Type 0 = λ q. A q.op in
     let T1 : Tables = (next r.thread r.op T).0 in
     let o : Option Fate = fate_of x r.op (next r.thread r.op T).1 in
-    let led = step_led commit open_ D L x f T s.stands s.sound r.thread r.op (All-head P r h towards) in
-    subst (λ (g : Fate). Standing commit open_ D L x (tables_after h T1) g) (last_more f o (fates x h T1))
-    (led_after commit open_ D L x h T1 (unwrap_or o f) (All-tail P r h towards) (record { stands = led.stands; sound = sound_after r.thread r.op T s.sound }))
+    let goes = step f T s.stands s.sound r.thread r.op (All-head P r h all) in
+    let rest =
+    after_all commit open_ D L Q x A step h T1 (unwrap_or o f) (All-tail P r h all) (record { stands = goes.stands; sound = sound_after r.thread r.op T s.sound }) in
+    let made : All Q (fates x h T1) = rest.1 in
+    (rw (last_more f o (fates x h T1)) at rest.0, search (arith, cons_option, All-cons, goes.makes))
 
--- the fates that they make are that which was decided
-pub led_fates : (commit open_ : Bool) (D L : Type 0) (x : XidName) (h : History) (T : Tables) (f : Fate) → All (λ r. IsTowards commit L x r.op) h
-    → Standing commit open_ D L x T f → All (λ g. g ≡ ended_as commit) (fates x h T)
-led_fates commit open_ D L x [] T f towards s = All-nil (λ (g : Fate). g ≡ ended_as commit)
-led_fates commit open_ D L x (r ∷ h) T f towards s =
-    let P : Request → Type 0 = λ q. IsTowards commit L x q.op in
-    let Q : Fate → Type 0 = λ g. g ≡ ended_as commit in
-    let T1 : Tables = (next r.thread r.op T).0 in
-    let o : Option Fate = fate_of x r.op (next r.thread r.op T).1 in
-    let led = step_led commit open_ D L x f T s.stands s.sound r.thread r.op (All-head P r h towards) in
-    let rest : All Q (fates x h T1) =
-    led_fates commit open_ D L x h T1 (unwrap_or o f) (All-tail P r h towards) (record { stands = led.stands; sound = sound_after r.thread r.op T s.sound }) in
-    search (arith, cons_option, All-cons)
+-- so requests that lead it, whose fates are that which was decided
+pub led_after : (commit open_ : Bool) (D L : Type 0) (x : XidName) (h : History) (T : Tables) (f : Fate) → All (λ r. IsTowards commit L x r.op) h
+    → Standing commit open_ D L x T f → Standing commit open_ D L x (tables_after h T) (last_or f (fates x h T)) × All (λ g. g ≡ ended_as commit) (fates x h T)
+led_after commit open_ D L x = after_all commit open_ D L (λ g. g ≡ ended_as commit) x (IsTowards commit L x) (step_led commit open_ D L x)
 
 -- ---- the request that ends it
 
@@ -174,10 +172,9 @@ ends_towards commit L x y n = search (arith, cases_Bool)
 module _ (commit : Bool) (D L : Type 0) (x : XidName) (f : Fate) (T : Tables) (sound : Sound T) (t : ℕ) (open_ : T.shut ≡ false)
     (has : has_opened T t ≡ true) where
   -- one that awaits the outcome
-  prepared_ends : D → state_of T x ≡ Some Prepared → Led commit false D L x (outcome_op commit x) f (next t (outcome_op commit x) T)
+  prepared_ends : D × (f ≡ history.InDoubt) → state_of T x ≡ Some Prepared → Led commit false D L x (outcome_op commit x) f (next t (outcome_op commit x) T)
   prepared_ends y e =
-      subst (Led commit false D L x (outcome_op commit x) f) (sym (answer commit))
-      (gone_so commit false D L x f (outcome_op commit x) Done (if commit then committed x T else T) y (ends_fate commit x))
+      rw (answer commit) (gone_so commit false D L x f (outcome_op commit x) Done (if commit then committed x T else T) y (ends_fate commit x))
     where
       free : is_somebody_associated T.associations x ≡ false
       free = search (arith, nobody_rests)
@@ -192,7 +189,7 @@ module _ (commit : Bool) (D L : Type 0) (x : XidName) (f : Fate) (T : Tables) (s
   -- where what is told is listed, it is no longer open
   pub ends_it : Stands commit true D L (state_of T x) f → ((d : HeuristicDecision) → (next t (outcome_op commit x) T).1 ≡ decision_code d → L)
       → Led commit false D L x (outcome_op commit x) f (next t (outcome_op commit x) T)
-  ends_it (waits y o e g) told = prepared_ends y e
+  ends_it (waits y o e g) told = prepared_ends (y, g) e
   ends_it (unforgotten d e g l) told =
       step_led commit false D L x f T (unforgotten d e g (inr (told d (decided_tells d e commit)))) sound t (outcome_op commit x) (ends_towards commit L x x)
   ends_it (over e g) told = step_led commit false D L x f T (over e g) sound t (outcome_op commit x) (ends_towards commit L x x)
@@ -208,15 +205,12 @@ as_decided commit = grind arith
 pub by_itself : (d : HeuristicDecision) → reopened_fate (decided_fate d) ≡ decided_fate d
 by_itself d = grind arith
 
-over_reopened : (commit : Bool) (D L : Type 0) (f : Fate) → IsOver commit D L f → IsOver commit D L (reopened_fate f)
-over_reopened commit D L f z = search (arith, as_decided, by_itself)
-
 -- leaves the branch as it stands
 pub stands_reopened : (commit open_ : Bool) (D L : Type 0) (x : XidName) (T : Tables) (f : Fate) → Stands commit open_ D L (state_of T x) f
     → Stands commit open_ D L (state_of (reopened T) x) (reopened_fate f)
 stands_reopened commit open_ D L x T f (waits y o e g) = waits y o (left_as T x _ e) (ap reopened_fate g)
 stands_reopened commit open_ D L x T f (unforgotten d e g l) = unforgotten d (left_as T x _ e) (ap reopened_fate g ∙ by_itself d) l
-stands_reopened commit open_ D L x T f (over e g) = over (left_as T x _ e) (over_reopened commit D L f g)
+stands_reopened commit open_ D L x T f (over e g) = search (arith, left_as, as_decided, by_itself)
 
 -- a branch that is no longer open is over
 pub is_over : (commit : Bool) (D L : Type 0) (s : Option State) (f : Fate) → Stands commit false D L s f → IsOver commit D L f

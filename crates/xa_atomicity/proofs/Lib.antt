@@ -13,7 +13,6 @@ pub mod Guided
 pub mod CutBranch
 pub mod BranchEnds
 pub mod Presumed
-pub mod Resolution
 pub mod CutSends
 pub mod Staged
 pub mod NextOpening

@@ -1,52 +1,182 @@
--- A commit in an opening and resolves in the next one, with nothing else in either, where the scan of an opening has what was
--- left; what the outcomes of a resolve tell; and that a branch whose end was told isn't left to the next opening.
-use Rattle.xa_base.proofs.{◌≡◌, ℕ, zero, suc, ◌+◌, ◌-◌, ◌<◌, ◌≤◌, ◌==◌, List, length, map, slice_get, option_map, Option, Some, None, sym, refl, ap, ◌∙◌, subst}
-use Rattle.xa_base.proofs.{arith, Contains, range_with_len, eqb-true, length-range_with_len, get_or-range_with_len, same_Some, slice_get-map, slice_get-get_or}
-use Rattle.xa_base.proofs.{◌≢◌, [], ◌∷◌, ◌++◌, All, map-append, All-nil, All-cons, All-head, All-tail, All-map, Bool, true, false, list_all, get-empty}
-use Rattle.xa_base.proofs.{and_parts, All-contains, inl, get_or, Contains-get_or, IsPermutation-sym, Contains-permutation}
+-- One outcome for each global transaction, over openings one after another: a commit that came to its end is one that was cut short
+-- after it. And a commit in an opening and resolves in the next one, with nothing else in either, where the scan of an opening has
+-- what was left; what the outcomes of a resolve tell; and that a branch whose end was told isn't left to the next opening.
+use Rattle.xa_base.proofs.{found, contains_map, length-map-range_with_len, get_or-map-range_with_len, ◌≡◌, ℕ, zero, suc, ◌+◌, ◌-◌, ◌≤◌, ◌==◌, List, length, map}
+use Rattle.xa_base.proofs.{slice_get, option_map, Option, Some, None, sym, refl, ap, ◌∙◌, subst, arith, Contains, range_with_len, eqb-true, same_Some}
+use Rattle.xa_base.proofs.{slice_get-get_or, ◌≢◌, [], ◌∷◌, ◌++◌, All, map-append, All-nil, All-cons, All-head, All-tail, All-map, Bool, true, false, list_all}
+use Rattle.xa_base.proofs.{get-empty, and_parts, All-contains, inl, get_or, Contains-get_or, IsPermutation-sym, Contains-permutation, by_bool, mapped_some}
+use Rattle.xa_tables.specs.Histories as history
 use Rattle.xa_words.specs.{XidName, TranName, RmFail, xid_cmp, Code, tran_of}
 use Rattle.xa_tables.specs.{is_left, Tables, AreLeft, State, HeuristicallyCompleted, HeuristicDecision, opening, state_of, is_left_in, Fate, IsFateOf}
 use Rattle.xa_tables.specs.{decided_fate, fate, is_done, tables_after, reopened, told_by, History, is_S3}
 use Rattle.xa_switch.specs.{managers_in, reopened_at, reopening, Each, first_of, IsOf, ManagerPart, find_manager, Settling, Again, IsScanOf, IsSettled, last_in}
 use Rattle.xa_switch.specs.{IsOpenedWith, history as history_of, settled_fate, ledgers_of}
 use Rattle.xa_scan.specs.{ScanView, left_at}
-use Rattle.xa_switch.proofs.Lists.{found, contains_map}
 use Rattle.xa_base.specs.{MOST_MANAGERS, IsUpTo}
-use Rattle.xa_desk.specs.{DeskView, ledger}
-use Rattle.xa_driver.specs.{Done, Branch, IsTranOf, Ending, Committed, ReadOnly, Outcome, has_acknowledged, is_acknowledged}
+use Rattle.xa_desk.specs.{DeskView, ledger, LedgerView, learnt_shut}
+use Rattle.xa_driver.specs.{Done, Branch, IsTranOf, Ending, Committed, ReadOnly, Outcome, has_acknowledged, is_acknowledged, has_yes, is_yes, EachBranch}
 use Rattle.xa_log.specs.{LogState, Records, all_records, record_in, record_of}
 use Rattle.xa_atomicity.specs.{AskedAreLeft, IsOfAnother, IsResolvedAfter, CutCall, ResolveCall, Use, cuts, resolves, AreUses, Continues, HasLeft, AreOfAllLogs}
 use Rattle.xa_atomicity.specs.{IsFollowed, IsKept, Opening, IsOutcomeOf, IsUseIn, OnlyResolves, with_resolves, with_use, EachOutcome, TellsTheFate, WasAtFirst}
-use Rattle.xa_atomicity.specs.{told_fate, TellsTheOutcome, ended_as, outcome_fate, Tabled, TellsTheOutcomes, TellsTheFates}
+use Rattle.xa_atomicity.specs.{told_fate, TellsTheOutcome, ended_as, outcome_fate, Tabled, TellsTheOutcomes, TellsTheFates, IsCut, is_recorded, known_at}
+use Rattle.xa_atomicity.specs.{OnlyTheseOrDecisionsName, is_heuristic, VotedToCommit, known_of, CommitCall, as_cut, commits, EndsAs, EachEnds, IsAllOrNone, all}
+use Rattle.xa_atomicity.specs.{none, IsResolved, CountsOver, CountsAllOrNone, IsUnlisted, SharesOver}
 use Rattle.xa_tables.specs.declared.state.State.TheVariants.{Prepared}
 use Rattle.xa_tables.proofs.Reopening.{as_left}
 use Rattle.xa_tables.proofs.Law.{opening_sound}
-use Rattle.xa_tables.specs.Histories as history
-use Rattle.xa_atomicity.proofs.Resolves.{upto_so, outcome_asked, outcome_left, outcome_upto}
-use Rattle.xa_atomicity.proofs.Guided.{is_known_so, unknown_so, decided_apart, read_apart}
+use Rattle.xa_atomicity.proofs.Resolves.{upto_so, outcome_asked, outcome_at, outcome_left}
+use Rattle.xa_atomicity.proofs.Guided.{is_known_so, unknown_so, decided_apart, read_apart, doubted, Comes, learnt_in_doubt}
 use Rattle.xa_atomicity.proofs.Later.{ends_with, IsStep, answered_at, opening_towards, placed_so}
 use Rattle.xa_atomicity.proofs.Leading.{waits, unforgotten, IsTowards, Stands}
-use Rattle.xa_atomicity.proofs.OneOutcome.{FindsMark}
+use Rattle.xa_atomicity.proofs.OneOutcome.{FindsMark, unopposed, aborted, Traced, recorded_is}
+use Rattle.xa_driver.proofs.Mapped.{Any}
+use Rattle.xa_driver.proofs.Calls.{one_tran}
+use Rattle.xa_atomicity.specs.Worth.{is_committed}
+use Rattle.xa_atomicity.proofs.CutVotes.{known_each, prepare_there, vote_there, HasVoted, any_voted, ended_so, finished_law, shut_unless}
+use Rattle.xa_atomicity.proofs.BranchEnds.{Follows}
+use Rattle.xa_atomicity.proofs.Courses.{yes_is}
+use Rattle.xa_atomicity.proofs.Presumed.{Followed, among_so, follows, use_there, uses_after, quiet_after}
+use Rattle.xa_atomicity.proofs.Settled.{each_outcome, told_in}
+
+module _ (law : Tabled) (first : (s : Settling) (m : ℕ) (T : Tables) → IsSettled s → first_of s m ≡ Some T → IsOpenedWith s m T)
+    (o : Opening) (between : List Opening) (last : Opening) (c : CommitCall) (q : ResolveCall) (r : IsResolved o between last c q) where
+  abbrev later : List Opening
+  later = between ++ last ∷ []
+
+  open o use {settled as s}
+
+  kept_o : IsKept o
+  kept_o = All-head IsKept o later r.followed.kept
+
+  use_ : IsUseIn s (commits c)
+  use_ = use_there s o.uses r.followed.us r.followed.vs (commits c) r.followed.use_at kept_o.uses
+
+  open use_ use {made}
+  open made use {may.{tran}}
+
+  abbrev k : CutCall
+  k = as_cut c
+
+  abbrev cut : IsCut c.branches c.desk c.new c.log c.later c.done.endings.items
+  cut = finished_law c.branches c.desk c.new c.log c.later c.done made
+
+  abbrev before_of : Branch → LedgerView
+  before_of b = ledger c.desk.ledgers b.m
+
+  abbrev after_of : Branch → LedgerView
+  after_of b = ledger c.new b.m
+
+  -- ---- a branch that voted to commit
+
+  record Agreed (b : Branch) : Type 0 where
+    vote : Code
+    second : Option Code
+    ending : Ending
+    traced : Traced c.done.commit c.desk.ledgers c.new b vote second ending
+    agreed : is_yes vote ≡ true
+    known : known_of k b ≡ ending
+    voted : VotedToCommit k s b
+
+  voted_so : (b : Branch) → 1 ≤ b.m → (v : Code) (z : Option Code) (e : Ending) → Traced c.done.commit c.desk.ledgers c.new b v z e → is_yes v ≡ true
+      → VotedToCommit k s b
+  voted_so b positive v z e is y =
+      let a : LedgerView = before_of b in
+      let a' : LedgerView = after_of b in
+      let h : HasVoted Any b v a a' = any_voted c.done.commit b v z a a' (ended_so c.done.commit b v z e a a' is) in
+      let open_ : learnt_shut a ≡ false = shut_unless v a h.prepared y in
+      let pairs : List (ℕ × Code) = (ledger (ledgers_of s c.thread) b.m).collected in
+      record {
+        asked = prepare_there Any b v a a' open_ h;
+        agreed = rw (yes_is v y) at (vote_there Any b v a a' pairs open_ h (use_.grown.each b.m positive).collected);
+      }
+
+  -- it is left only where the desk has learnt that its manager is shut
+  abbrev Learnt : Branch → Type 0
+  Learnt b = learnt_shut (after_of b) ≡ true
+
+  module _ (L : Type 0) (b : Branch) (here : Agreed b) (up : IsUpTo MOST_MANAGERS b.m)
+      (only : OnlyTheseOrDecisionsName b.xid c.thread (length (before_of b).sent) (length (after_of b).sent) (history_of s b.m)) (T : Tables)
+      (with_T : IsOpenedWith s b.m T) (commit : Bool) where
+    abbrev ComesTo : Type 0 → Ending → Type 0
+    ComesTo W e = Comes commit W L (state_of (tables_after (history_of s b.m) T) b.xid) (fate b.xid (told_by (state_of T b.xid)) (history_of s b.m) T) e
+
+    doubt : ComesTo (Unit {0}) (known_of k b) → ComesTo (Learnt b) (known_of k b)
+    doubt comes =
+        let told =
+        told_in law s c.thread kept_o.settled b c.done.commit here.vote here.second here.ending (before_of b) (after_of b) up.0 (use_.grown.each b.m up.0) here.traced T with_T only in
+        rw here.known (doubted commit (Learnt b) L (fate b.xid (told_by (state_of T b.xid)) (history_of s b.m) T) here.ending told.told (told.reached here.agreed) (told.named here.agreed) (learnt_in_doubt b here.vote here.second here.ending c.done.commit (before_of b) (after_of b) here.traced here.agreed) (rw here.known at comes))
+
+  abbrev followed : Followed o between last (commits c) k q Agreed Learnt
+  followed = record {
+    use_ = r.followed;
+    made = cut;
+    grown = use_.grown;
+    own = λ j d lt _. r.own.each j d lt;
+    voted = λ b here. here.voted;
+    quiet = λ mark b up learnt.
+        quiet_after mark cut.may.tran b.m up c s r.followed.vs cut.may.one learnt (uses_after s o.uses r.followed.us r.followed.vs (commits c) r.followed.use_at kept_o.uses) r.its_thread;
+  }
+
+  -- ---- each branch
+
+  abbrev Known : Branch → Code → Option Code → Ending → Type 0
+  Known b v z e = Traced c.done.commit c.desk.ledgers c.new b v z e × (known_of k b ≡ e) × (is_yes v ≡ true → has_yes c.done.votes.items ≡ true)
+
+  known : EachBranch Known c.branches c.done.votes.items made.trace.course.seconds c.done.endings.items
+  known =
+      known_each (Traced c.done.commit c.desk.ledgers c.new) (has_yes c.done.votes.items ≡ true) (λ n. known_at n c.branches c.done.endings.items) 0 c.branches c.done.votes.items made.trace.course.seconds c.done.endings.items made.may.rising
+      (λ n above. refl) (λ y. y) made.trace.course.each
+
+  abbrev FollowsTo : Bool → Branch → Ending → Type 0
+  FollowsTo commit b e = Follows commit o later c.thread b (length (before_of b).sent) e
+
+  -- what follows of a branch, where it voted to commit
+  abbrev Goal : Branch → Type 0
+  Goal b = IsUpTo MOST_MANAGERS b.m × (Agreed b → FollowsTo (is_recorded c.later cut.may.tran) b (known_of k b))
+
+  follows_so : (b : Branch) (v : Code) (z : Option Code) (e : Ending) → Goal b → Known b v z e → is_yes v ≡ true → FollowsTo c.done.commit b e
+  follows_so b v z e goal is y =
+      subst (λ w. FollowsTo w b e) ((search (arith, one_tran, recorded_is, is.2 y)))
+      (rw is.1 at (goal.1 (record { vote = v; second = z; ending = e; traced = is.0; agreed = y; known = is.1; voted = voted_so b goal.0.0 v z e is.0 y })))
+
+  all_yes : (Q : Branch → Ending → Type 0) → ((b : Branch) (e : Ending) → FollowsTo c.done.commit b e → Q b e)
+      → EachOutcome (λ b v e. is_yes v ≡ true → Q b e) c.branches c.done.votes.items c.done.endings.items
+  all_yes Q so =
+      let among = among_so law first o between last (commits c) k q Agreed Learnt followed doubt in
+      let all = follows law first o between last (commits c) k q Agreed Learnt followed doubt in
+      each_outcome Goal Known (λ b v e. is_yes v ≡ true → Q b e) (λ b v z e goal is y. so b e (follows_so b v z e goal is y)) c.branches c.done.votes.items
+      made.trace.course.seconds c.done.endings.items (λ j d lt. ((among j d lt).0, all j d lt)) known
+
+  all_ends : EachEnds c o later
+  all_ends = all_yes (λ b e. EndsAs c.done.commit o later b e) (λ b e z. z.0)
+
+  pub counted_law : CountsOver c o later
+  counted_law = record { each = all_yes (λ b e. SharesOver o later c.thread b (length (before_of b).sent) is_committed) (λ b e z. z.1) }
+
+  pub whole_law : CountsAllOrNone c o later
+  whole_law =
+      record { each = all_yes (λ b e. is_heuristic e ≡ false → IsUnlisted b later → SharesOver o later c.thread b (length (before_of b).sent) (λ f. c.done.commit)) (λ b e z. z.2) }
+
+  -- the decision
+  pub resolved_law : IsAllOrNone c o later
+  resolved_law =
+      by_bool (λ _. IsAllOrNone c o later) (c.done.commit) (λ on. all on (unopposed tran c.branches c.desk c.new c.log c.later c.done made made.may.one on) all_ends)
+      (λ off. none off (aborted tran c.branches c.desk c.new c.log c.later c.done made made.may.one off).uncommitted all_ends)
 
 -- what holds of each list with its place holds of that of a manager
 pub left_each : (Q : ℕ → List XidName → Type 0) (z : ScanView) → Each Q z.left → (m : ℕ) → 1 ≤ m → m ≤ length z.left → Q (m - 1) (left_at z m)
 left_each Q z each zero low high = absurd (omega (arith, low))
 left_each Q z each (suc k) low high = search (arith, slice_get-get_or, z.left)
 
--- a manager with first tables is there
-part_of : (o : Option ManagerPart) (T : Tables) → option_map (λ (p : ManagerPart). p.first) o ≡ Some T → (p : ManagerPart) × (o ≡ Some p)
-part_of None T e = cc
-part_of (Some p) T e = (p, refl)
-
 -- a manager of an opening that was opened again is one of the managers that it had
 pub was_there : (s next : Settling) (again : Again) (m : ℕ) (T : _) → IsOf (reopening s again) next → first_of next m ≡ Some T → (1 ≤ m) × (m ≤ managers_in s)
 was_there s next again m T of first =
     let n : ℕ = managers_in s in
-    let there = part_of (find_manager m next.managers) T first in
+    let there = mapped_some (λ (p : ManagerPart). p.first) (find_manager m next.managers) T first in
     let is = found (λ (p : ManagerPart). p.number == m) next.managers there.0 there.1 in
     let number : there.0.number ≡ m = eqb-true there.0.number m is.1 in
     let numbers : List ℕ = map (λ (p : ManagerPart). p.number) next.managers in
-    let among : Contains numbers m = subst (Contains numbers) number (contains_map (λ (p : ManagerPart). p.number) next.managers there.0 is.0) in
+    let among : Contains numbers m = rw number at (contains_map (λ (p : ManagerPart). p.number) next.managers there.0 is.0) in
     let within : Contains (range_with_len 1 n) m = Contains-permutation numbers (range_with_len 1 n) m (IsPermutation-sym _ _ of.managers) among in
     upto_so n m within
 
@@ -54,16 +184,14 @@ was_there s next again m T of first =
 pub begins_with : (s next : Settling) (again : Again) (m : ℕ) (T : _) → IsOf (reopening s again) next → first_of next m ≡ Some T
     → T ≡ reopened_at s.managers (m - 1 + 1)
 begins_with s next again m T of first =
+    let f : ℕ → Tables = reopened_at s.managers in
     let n : ℕ = managers_in s in
     let within = was_there s next again m T of first in
     let same : m - 1 + 1 ≡ m = omega (arith, within.0) in
-    let below : m - 1 < length (range_with_len 1 n) = let size = length-range_with_len 1 n in omega (arith, within.0, within.1, size) in
-    let number : slice_get (range_with_len 1 n) (m - 1) ≡ Some (m - 1 + 1) =
-    slice_get-get_or (range_with_len 1 n) (m - 1) m below
-    ∙ ap (λ k. Some k) (let e = get_or-range_with_len 1 n (m - 1) m (omega (arith, within.0, within.1)) in omega (arith, e, within.0)) in
-    let given : slice_get (map (reopened_at s.managers) (range_with_len 1 n)) (m - 1) ≡ Some (reopened_at s.managers (m - 1 + 1)) =
-    slice_get-map (reopened_at s.managers) (range_with_len 1 n) (m - 1) ∙ ap (option_map (reopened_at s.managers)) number in
-    same_Some _ _ (sym first ∙ ap (first_of next) (sym same) ∙ of.opened (m - 1) (reopened_at s.managers (m - 1 + 1)) given)
+    let given : slice_get (map f (range_with_len 1 n)) (m - 1) ≡ Some (f (m - 1 + 1)) =
+    slice_get-get_or (map f (range_with_len 1 n)) (m - 1) T (omega (arith, within.0, within.1, length-map-range_with_len f 1 n))
+    ∙ ap Some (get_or-map-range_with_len f 1 n (m - 1) (m - 1 + 1) T (omega (arith, within.0, within.1)) (omega arith)) in
+    same_Some _ _ (sym first ∙ ap (first_of next) (sym same) ∙ of.opened (m - 1) (f (m - 1 + 1)) given)
 
 pub kept_with : (s : Settling) (u : Use) → IsSettled s → IsUseIn s u → IsKept (with_use s u)
 kept_with s u settled made = record { settled = settled; uses = All-cons (IsUseIn s) u [] made (All-nil (IsUseIn s)) }
@@ -194,13 +322,6 @@ module _ (law : Tabled) (first : (s : Settling) (m : ℕ) (T : Tables) → IsSet
   pub none_left : (t : ℕ) (from : ℕ → ℕ) (bs : List Branch) (done : Done) → TellsTheFates s t bs from done → is_acknowledged done ≡ true → HasLeft bs s → ⊥
   none_left t from bs done told is left = search (arith, All-contains, all_gone, left.branch, done.votes.items, done.endings.items, left.among, told.each)
 
-  -- ---- of an outcome that was answered XA_OK
-
-  gone_finished : (r : Outcome) → is_done r.code ≡ true → TellsTheOutcome s r → is_left (reopened_at s.managers r.m) r.xid ≡ false
-  gone_finished r is tells =
-      gone r.m r.xid (ended_as r.commit) (ended_is_over r.commit)
-      (λ T begins. tells T (told_by (state_of T r.xid)) (ended_as r.commit) begins (law.first r.xid T) (grind arith))
-
 -- what a branch that was left stands at
 left_stands : (commit : Bool) (x : XidName) (T : Tables) (f : Fate) → IsFateOf x f T → (s : Option State) → state_of T x ≡ s → is_left_in s ≡ true
     → Stands commit true (Unit {0}) (Unit {0}) (state_of T x) f
@@ -261,9 +382,12 @@ module _ (law : Tabled) (first : (s : Settling) (m : ℕ) (T : Tables) → IsSet
   outcomes_law only k d lt T before f begins fits tells =
       let r : Outcome = get_or q.outcomes k d in
       let among : Contains q.outcomes r = Contains-get_or q.outcomes k d lt in
-      outcome_so r among (outcome_upto q.scan q.records q.old q.new q.outcomes use_.made r among) (only r among) T begins before f fits tells
+      outcome_so r among (outcome_at q.scan q.records q.old q.new q.outcomes use_.made r among).0 (only r among) T begins before f fits tells
 
   -- and one that was answered XA_OK isn't left
-  pub finished_law : ((r : Outcome) → Contains q.outcomes r → OnlyResolves (tran_of r.xid) o) → (r : Outcome) → Contains q.outcomes r → is_done r.code ≡ true
+  pub finished_outcomes : ((r : Outcome) → Contains q.outcomes r → OnlyResolves (tran_of r.xid) o) → (r : Outcome) → Contains q.outcomes r
+      → is_done r.code ≡ true
       → is_left (reopened_at s.managers r.m) r.xid ≡ false
-  finished_law only r among finished = gone_finished law first s settled r finished (All-contains (TellsTheOutcome s) q.outcomes r (outcomes_law only) among)
+  finished_outcomes only r among finished =
+      gone law first s settled r.m r.xid (ended_as r.commit) (ended_is_over r.commit) (λ T begins.
+      All-contains (TellsTheOutcome s) q.outcomes r (outcomes_law only) among T (told_by (state_of T r.xid)) (ended_as r.commit) begins (law.first r.xid T) (grind arith))

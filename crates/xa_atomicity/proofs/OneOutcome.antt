@@ -1,9 +1,9 @@
 -- What the log has of a transaction stays what its commit left; what a commit does to a desk's ledger with each manager, and
 -- asks of a branch; and one outcome for all the branches of a call: on abort no Commit is sent.
-use Rattle.xa_base.proofs.{arith, and-false, cond, not, if◌then◌else◌, is_some, ◌≡◌, ℕ, Bool, true, false, ◌==◌, ◌&&◌, ◌||◌, List, [], ◌∷◌, sym, refl, ap, ◌∙◌}
-use Rattle.xa_base.proofs.{Some, None, All, get-insert, eq_by_cmp, is_eq, tied_itself, All-nil, All-cons, All-head, All-tail, and_parts, is_equal, at_false}
-use Rattle.xa_base.proofs.{at_true, by_if, rules, Option, ◌≤◌, subst, eqb-true, list_any_none, list_any, or_parts, or_from, not-true, false_from_ne_true}
-use Rattle.xa_base.proofs.{and_left, and_right, true_from_ne_false, both_ways}
+use Rattle.xa_base.proofs.{none_all, [], arith, and-false, cond, not, if◌then◌else◌, is_some, ◌≡◌, ℕ, Bool, true, false, ◌==◌, ◌&&◌, ◌||◌, List, ◌∷◌, sym, refl}
+use Rattle.xa_base.proofs.{ap, ◌∙◌, Some, None, All, get-insert, eq_by_cmp, is_eq, tied_itself, All-nil, All-cons, All-head, All-tail, and_parts, is_equal}
+use Rattle.xa_base.proofs.{at_false, at_true, by_if, rules, Option, ◌≤◌, eqb-true, list_any_none, list_any, or_from, not-true, false_from_ne_true, and_left}
+use Rattle.xa_base.proofs.{and_right, true_from_ne_false, both_ways}
 use Rattle.xa_atomicity.specs.{is_recorded, Use, commits, cuts, resolves, AreUses, OfCommit, is_rolled_back, has_committed, has_rolled_back, has_vote_against}
 use Rattle.xa_atomicity.specs.{was_refused, IsCommittedTransaction, IsAbortedTransaction}
 use Rattle.std.proofs.lemmas.Bool.{and_cases}
@@ -164,7 +164,7 @@ module _ (P : LedgerView → LedgerView → Type 0) (stays : (a : LedgerView) �
   at_branch m [] [] [] [] all h e = cc
   at_branch m (b ∷ bs) (v ∷ vs) (s ∷ ss) (x ∷ es) all h e =
       elim (b.m == m) as (λ c. (b.m == m) ≡ c → (c || has_branch_at bs m) ≡ true → P (ledger old m) (ledger new m)) [
-        | true ↦ λ here _. subst (λ (k : ℕ). P (ledger old k) (ledger new k)) (eqb-true b.m m here) (traced b (All-head C b bs all) v s x (ledger old b.m) (ledger new b.m) h.0)
+        | true ↦ λ here _. rw (eqb-true b.m m here) at (traced b (All-head C b bs all) v s x (ledger old b.m) (ledger new b.m) h.0)
         | false ↦ λ other e. at_branch m bs vs ss es (All-tail C b bs all) h.1 e
       ] refl e
   at_branch m bs vs ss es all h e = absurd h
@@ -174,7 +174,7 @@ module _ (P : LedgerView → LedgerView → Type 0) (stays : (a : LedgerView) �
   every_manager tran bs log later all call m positive =
       elim (has_branch_at bs m) as (λ b. has_branch_at bs m ≡ b → P (ledger old m) (ledger new m)) [
         | true ↦ λ e. at_branch m bs d.votes.items call.course.seconds d.endings.items all call.course.each e
-        | false ↦ λ e. subst (P (ledger old m)) (sym (call.course.others m positive e)) (stays (ledger old m))
+        | false ↦ λ e. rw (call.course.others m positive e) (stays (ledger old m))
       ] refl
 
 abbrev pub IsNoCommit : Op → Type 0
@@ -186,7 +186,7 @@ pub abort_sends_no_commit : (tran : TranName) (bs : List Branch) (old new : List
 abort_sends_no_commit tran bs old new log later done call off m positive =
     let z =
     every_manager (Sends IsNoCommit) (stays IsNoCommit) (λ b. Unit {0}) old new done
-    (λ b _ v s e a a' is. no_commit b v s e a a' (subst (λ c. AtBranch AsksLedger c b v s e a a') off is)) tran bs log later
+    (λ b _ v s e a a' is. no_commit b v s e a a' (rw off at is)) tran bs log later
     (λ k d lt. tt) call m positive in
     record { more = z.more; sent = z.sent; none = list_any_none is_commit z.more z.all }
   where
@@ -227,16 +227,16 @@ uncommitted v s = search (arith, at_true, after_yes, unvoted)
 pub not_rolled_back : (v : Code) (s : Option Code) → is_no v ≡ false → Falls is_rolled_back (ending_of true v s)
 not_rolled_back v s e = search (arith, after_yes, neither)
 
--- a test that no ending of a call passes
-module _ (Q : Branch → Code → Option Code → Ending → Type 0) (commit : Bool) (test : Ending → Bool) (bad : Code → Bool)
+-- a test that no ending of a call passes, where W holds of its votes
+module _ (Q : Branch → Code → Option Code → Ending → Type 0) (commit : Bool) (test : Ending → Bool) (W : Code → Type 0)
     (ends : (b : Branch) (v : Code) (s : Option Code) (e : Ending) → Q b v s e → e ≡ ending_of commit v s)
-    (falls : (v : Code) (s : Option Code) → bad v ≡ false → Falls test (ending_of commit v s)) where
-  none_end : (bs : List Branch) (vs : List Code) (ss : List (Option Code)) (es : List Ending) → EachBranch Q bs vs ss es → list_any bad vs ≡ false
+    (falls : (v : Code) (s : Option Code) → W v → Falls test (ending_of commit v s)) where
+  pub none_end : (bs : List Branch) (vs : List Code) (ss : List (Option Code)) (es : List Ending) → EachBranch Q bs vs ss es → All W vs
       → list_any test es ≡ false
-  none_end [] [] [] [] h n = refl
-  none_end (b ∷ bs) (v ∷ vs) (s ∷ ss) (e ∷ es) h n =
-      or_from _ _ (ap test (ends b v s e h.0) ∙ falls v s (or_parts _ _ n).0) (none_end bs vs ss es h.1 (or_parts _ _ n).1)
-  none_end bs vs ss es h n = absurd h
+  none_end [] [] [] [] h all = refl
+  none_end (b ∷ bs) (v ∷ vs) (s ∷ ss) (e ∷ es) h all =
+      or_from _ _ (ap test (ends b v s e h.0) ∙ falls v s (All-head W v vs all)) (none_end bs vs ss es h.1 (All-tail W v vs all))
+  none_end bs vs ss es h all = absurd h
 
 module _ (tran : TranName) (bs : List Branch) (desk : DeskView) (new : List LedgerView) (log later : LogState) (d : Done)
     (made : IsCommit bs desk new log later d) (of_tran : IsTranOf bs tran) where
@@ -246,7 +246,7 @@ module _ (tran : TranName) (bs : List Branch) (desk : DeskView) (new : List Ledg
   same_tran_here = one_tran bs may.tran tran may.some may.one of_tran
 
   call : IsTraceOfCommit tran bs desk.ledgers new log later d
-  call = subst (λ (t : TranName). IsTraceOfCommit t bs desk.ledgers new log later d) same_tran_here made.trace
+  call = rw same_tran_here at made.trace
 
   open d use {votes.{items as votes}}
 
@@ -259,9 +259,8 @@ module _ (tran : TranName) (bs : List Branch) (desk : DeskView) (new : List Ledg
   -- on abort
   pub aborted : d.commit ≡ false → IsAbortedTransaction tran desk.ledgers new later d
   aborted off = record {
-    uncommitted = none_end (Traced d.commit desk.ledgers new) d.commit is_committed (λ v. false) ends
-        (λ v s _. ap (λ c. is_committed (ending_of c v s)) off ∙ uncommitted v s) bs votes call.course.seconds d.endings.items call.course.each
-        (list_any_none (λ v. false) votes (λ k e lt. refl));
+    uncommitted = none_end (Traced d.commit desk.ledgers new) d.commit is_committed (λ v. Unit {0}) ends
+        (λ v s _. ap (λ c. is_committed (ending_of c v s)) off ∙ uncommitted v s) bs votes call.course.seconds d.endings.items call.course.each (λ k e lt. tt);
     unrecorded = none_on_abort tran (yes_of bs votes) votes d.logged log later absent call.course.logs (sym call.course.decision ∙ off);
     unsent = abort_sends_no_commit tran bs desk.ledgers new log later d call off;
   }
@@ -272,23 +271,20 @@ module _ (tran : TranName) (bs : List Branch) (desk : DeskView) (new : List Ledg
 
   kept : d.commit ≡ true → has_rolled_back d ≡ false
   kept on =
-      none_end (Traced d.commit desk.ledgers new) d.commit is_rolled_back is_no ends
+      none_end (Traced d.commit desk.ledgers new) d.commit is_rolled_back (λ v. is_no v ≡ false) ends
       (λ v s e. ap (λ c. is_rolled_back (ending_of c v s)) on ∙ not_rolled_back v s e) bs votes call.course.seconds d.endings.items call.course.each
-      (unopposed on)
+      (none_all is_no votes (unopposed on))
 
   pub committed_law : has_committed d ≡ true → IsCommittedTransaction tran bs later d
   committed_law some =
       let on : d.commit ≡ true = true_from_ne_false (d.commit) (λ off. both_ways (has_committed d) (aborted off).uncommitted some) in
       let some_yes : has_yes votes ≡ true = true_from_ne_false (has_yes votes) (λ e.
-      both_ways (has_committed d) (none_end (Traced d.commit desk.ledgers new) d.commit is_committed is_yes ends
-      (λ v s n. unvoted d.commit v s n) bs votes call.course.seconds d.endings.items call.course.each e) some) in
-      record {
-        unopposed = unopposed on;
-        recorded =
-            record_so tran (yes_of bs votes) votes d.logged log later absent call.course.logs some_yes
-            ∙ at_true (decision_of votes d.logged) _ _ (sym call.course.decision ∙ on);
-        kept = kept on;
-      }
+      both_ways (has_committed d) (none_end (Traced d.commit desk.ledgers new) d.commit is_committed (λ v. is_yes v ≡ false) ends
+      (unvoted d.commit) bs votes call.course.seconds d.endings.items call.course.each (none_all is_yes votes e)) some) in
+      let recorded =
+      record_so tran (yes_of bs votes) votes d.logged log later absent call.course.logs some_yes
+      ∙ at_true (decision_of votes d.logged) _ _ (sym call.course.decision ∙ on) in
+      search (arith, unopposed, recorded, kept)
 
   pub aborted_law : was_refused d ≡ true → IsAbortedTransaction tran desk.ledgers new later d
   aborted_law refused = search (arith, aborted, false_from_ne_true, both_ways, or_from, unopposed, kept, failed_append_aborts, call, and_parts, not-true)

@@ -1,32 +1,31 @@
 -- One outcome for each global transaction whose commit was cut short, over openings one after another: no later use of the
 -- log marks a manager of one that was decided to abort.
-use Rattle.xa_base.proofs.{arith, ◌≡◌, ℕ, Bool, true, List, [], ◌∷◌, get_or, subst, false, All, All-nil, All-append, All-head, All-tail, rules, option_map}
+use Rattle.xa_base.proofs.{[], slice_get, arith, ◌≡◌, ℕ, Bool, true, List, ◌∷◌, get_or, false, All, All-nil, All-append, All-head, All-tail, rules, option_map}
 use Rattle.xa_base.proofs.{is_some, zero, ◌+◌, ◌++◌, length, sym, refl, ap, ◌∙◌, Option, Some, None, Contains, All-cons, All-contains, Contains-append_right}
-use Rattle.xa_base.proofs.{all_after, all_mid, all_right, at_true}
+use Rattle.xa_base.proofs.{all_after, all_mid, all_right}
 use Rattle.xa_driver.specs.{voted_yes, IsTranOf, Branch, is_yes, yes_of, ending_of, is_decided, yes_ending, outcome_op, AreBranchesRising, HaveRoom, Logs}
-use Rattle.xa_driver.specs.{decision_of}
+use Rattle.xa_driver.specs.{decision_of, names}
 use Rattle.xa_words.specs.{Code, TranName, tran_of, Done, Op, Prepare, Request}
 use Rattle.xa_base.specs.{MOST_MANAGERS, IsUpTo, Begins}
 use Rattle.xa_desk.specs.{learnt_shut, ledger, LedgerView, HasGrown, HaveGrown}
 use Rattle.xa_switch.specs.{collected, Settling, reopened_at, IsOpenedWith, first_of, history as history_of, ledgers_of, ManagerPart, IsSettled, answers}
 use Rattle.xa_switch.specs.{find_manager, journal, journal_in, sent}
-use Rattle.xa_atomicity.specs.{IsOfAnother, CommitCall, CutCall, GoesOnAfter, OfCommit, Use, cuts, resolves, Opening, IsByItsThread, IsKept, IsUseIn}
-use Rattle.xa_atomicity.specs.{OnlyResolves, uses_of, IsCut, IsEnded, is_recorded, OnlyTheseOrDecisionsName, AskedAreLeft, CountsByTheLog, EndsByTheLog}
+use Rattle.xa_atomicity.specs.{IsAsked, told_fate, IsOfAnother, CommitCall, CutCall, GoesOnAfter, OfCommit, Use, cuts, resolves, Opening, IsByItsThread, IsKept}
+use Rattle.xa_atomicity.specs.{IsUseIn, OnlyResolves, uses_of, IsCut, is_recorded, OnlyTheseOrDecisionsName, AskedAreLeft, CountsByTheLog, EndsByTheLog}
 use Rattle.xa_atomicity.specs.{IsResolvedAfter, VotedToCommit, WasAsked, known_of, AreUses, IsFollowed, ResolveCall, Tabled}
-use Rattle.xa_tables.specs.{Tables, state_of, is_left_in, Fate, IsFateOf, fate, tables_after, told_by, History}
+use Rattle.xa_tables.specs.{HeuristicDecision, decided_fate, Tables, state_of, is_left_in, Fate, fate, tables_after, told_by, History}
 use Rattle.xa_tables.proofs.Reopening.{as_left}
 use Rattle.xa_worker.specs.{requests}
-use Rattle.xa_log.specs.{Records}
+use Rattle.xa_log.specs.{Records, LogState, record_of}
 use Rattle.xa_driver.proofs.Calls.{one_tran}
-use Rattle.xa_tables.specs.Histories as history
 use Rattle.xa_atomicity.proofs.CutVotes.{cut_keeps, finished_law, Votes, CameAt, each_came, at_asking, at_forgetting, at_telling, HasVoted, prepare_part}
 use Rattle.xa_atomicity.proofs.CutVotes.{no_vote}
-use Rattle.xa_atomicity.proofs.OneOutcome.{IsQuiet, is_marked, FindsMark, marks_stay, own_mark, some_yes, recorded_is}
-use Rattle.xa_atomicity.proofs.Guided.{learnt_on, AtEnd, Comes, once}
+use Rattle.xa_atomicity.proofs.OneOutcome.{is_told_decision, IsQuiet, is_marked, FindsMark, marks_stay, own_mark, some_yes, recorded_is}
+use Rattle.xa_atomicity.proofs.Guided.{decision_so, told_decided, learnt_on, Comes}
 use Rattle.xa_atomicity.proofs.Settled.{sent_stands, by_ledger, collected_on, sent_on, site_of}
-use Rattle.xa_atomicity.proofs.Sites.{Site, StandsIn, request_of, fates}
+use Rattle.xa_atomicity.proofs.Sites.{Site, StandsIn, request_of}
 use Rattle.xa_atomicity.proofs.BranchEnds.{Follows, IsMarked, branch_follows}
-use Rattle.xa_atomicity.proofs.CutBranch.{HasSentOnly, WasTold, asked_only, ended_voted_so, open_so, sent_end, sent_fates, told_end, told_voted_so, vote_is}
+use Rattle.xa_atomicity.proofs.CutBranch.{HasSentOnly, WasTold, asked_only, ended_voted_so, open_so, sent_end, sent_fates, told_fate_is, told_voted_so, vote_is}
 use Rattle.xa_atomicity.proofs.CutBranch.{voted_only, was_told}
 use Rattle.xa_atomicity.proofs.Leading.{IsTowards}
 use Rattle.xa_atomicity.proofs.Later.{ends_with}
@@ -47,33 +46,31 @@ module _ (mark : Bool) (t : TranName) (m : ℕ) (up : IsUpTo MOST_MANAGERS m) wh
   quiet_so : (s : Settling) (P : CutCall → Type 0)
       → ((k : CutCall) → IsUseIn s (cuts k) → P k → IsTranOf k.branches t → (b : Branch) (v : Code) → tran_of b.xid ≡ t → b.m ≡ m
       → Votes k.desk.ledgers k.new b v → is_yes v ≡ false)
-      → (u : Use) → IsUseIn s u → OfCommit P u → OfCommit Stays u
-  quiet_so s P against = of_commit s P Stays (λ k w p. cut_keeps mark t m up k.branches k.desk k.new k.log k.later k.endings w.made
-      (λ same. against k w p (subst (IsTranOf k.branches) same w.made.may.one)))
+      → (us : List Use) → All (IsUseIn s) us → All (OfCommit P) us → All (IsQuiet mark t m) us
+  quiet_so s P against us uses all j d lt =
+      of_commit s P Stays (λ k w p. cut_keeps mark t m up k.branches k.desk k.new k.log k.later k.endings w.made
+      (λ same. against k w p (rw same at w.made.may.one))) (get_or us j d) (uses j d lt) (all j d lt)
 
-  -- in an opening where nothing but resolves names the transaction
-  quiet_opening : (o : Opening) → IsKept o → OnlyResolves t o → All (IsQuiet mark t m) o.uses
-  quiet_opening o kept only j d lt =
-      quiet_so o.settled (λ k. Unit {0}) (λ k w _ tran. no_vote o kept t only m up k.thread k.desk.ledgers k.new w.grown) (get_or o.uses j d)
-      (kept.uses j d lt) (any_commit (get_or o.uses j d))
-
+  -- in openings where nothing but resolves names the transaction
   pub quiet_openings : (os : List Opening) → All IsKept os → All (OnlyResolves t) os → All (IsQuiet mark t m) (uses_of os)
   quiet_openings [] kept only = All-nil (IsQuiet mark t m)
   quiet_openings (o ∷ os) kept only =
-      All-append (IsQuiet mark t m) o.uses (uses_of os) (quiet_opening o (All-head IsKept o os kept) (All-head (OnlyResolves t) o os only)) (quiet_openings os (All-tail IsKept o os kept) (All-tail (OnlyResolves t) o os only))
+      let own : IsKept o = All-head IsKept o os kept in
+      All-append (IsQuiet mark t m) o.uses (uses_of os)
+      (quiet_so o.settled (λ k. Unit {0}) (λ k w _ tran. no_vote o own t (All-head (OnlyResolves t) o os only) m up k.thread k.desk.ledgers k.new w.grown) o.uses own.uses (λ j d lt. any_commit (get_or o.uses j d)))
+      (quiet_openings os (All-tail IsKept o os kept) (All-tail (OnlyResolves t) o os only))
 
   -- after a commit whose desk has learnt that the manager is shut, in its own opening
   pub quiet_after : (c : CommitCall) (s : Settling) (vs : List Use) → IsTranOf c.branches t → learnt_shut (ledger c.new m) ≡ true → All (IsUseIn s) vs
       → All (IsByItsThread c) vs → All (IsQuiet mark t m) vs
-  quiet_after c s vs of_tran learnt uses own j d lt =
+  quiet_after c s vs of_tran learnt =
       quiet_so s (λ k. (u : TranName) → IsTranOf c.branches u → IsTranOf k.branches u → GoesOnAfter c k.thread k.desk.ledgers) (λ k w own tran b v _ same h.
       ap is_yes (h.prepared (ap (λ n. learnt_shut (ledger k.desk.ledgers n)) same ∙ learnt_on (ledger c.new m) (ledger k.desk.ledgers m)
-      ((own t of_tran tran).grown.each m up.0).collected learnt)))
-      (get_or vs j d) (uses j d lt) (own j d lt)
+      ((own t of_tran tran).grown.each m up.0).collected learnt))) vs
 
   -- after one that nobody commits again in its opening
   pub quiet_alone : (s : Settling) (vs : List Use) → All (IsUseIn s) vs → All (IsOfAnother t) vs → All (IsQuiet mark t m) vs
-  quiet_alone s vs uses alone j d lt = search (arith, quiet_so)
+  quiet_alone s = quiet_so s (λ k. IsTranOf k.branches t → ⊥) (λ k w none tran b v _ _ _. absurd (none tran))
 
 -- ---- the manager of a branch
 
@@ -98,13 +95,13 @@ left_is_marked b tran up commit records vs later of_tran kept only quiet_now use
 
 module _ (s : Settling) (used us vs : List Use) (u : Use) (place : used ≡ us ++ u ∷ vs) (uses : All (IsUseIn s) used) where
   pub use_there : IsUseIn s u
-  use_there = all_mid (IsUseIn s) us vs u (subst (All (IsUseIn s)) place uses)
+  use_there = all_mid (IsUseIn s) us vs u (rw place at uses)
 
   pub uses_after : All (IsUseIn s) vs
-  uses_after = all_after (IsUseIn s) us u vs (subst (All (IsUseIn s)) place uses)
+  uses_after = all_after (IsUseIn s) us u vs (rw place at uses)
 
 pub is_used : (used us vs : List Use) (u : Use) → used ≡ us ++ u ∷ vs → Contains used u
-is_used used us vs u place = subst (λ (ws : List Use). Contains ws u) (sym place) (Contains-append_right us (u ∷ vs) u (zero, omega arith, refl))
+is_used used us vs u place = rw place (Contains-append_right us (u ∷ vs) u (zero, omega arith, refl))
 
 -- ---- a commit, cut short or not, and a resolve of a later opening
 
@@ -156,8 +153,9 @@ module _ (law : Tabled) (first : (s : Settling) (m : ℕ) (T : Tables) → IsSet
   abbrev Result : Branch → Type 0
   Result b = Follows commit o later t b (length (before_of b).sent) (known_of k b)
 
-  module _ (b : Branch) (among : Among b) (only : Only b) (here : V b)
-      (prepared : (more : List Op) × ((after_of b).sent ≡ (before_of b).sent ++ Prepare b.xid ∷ more))
+  -- L is known of one that was told a decision, which its coordinator knew
+  module _ (b : Branch) (among : Among b) (only : Only b) (here : V b) (L : Type 0) (h : HasSentOnly commit L b.xid (before_of b) (after_of b))
+      (told : L → (c : Code) × (is_decided c ≡ true) × (yes_ending commit (Some c) ≡ known_of k b) × WasTold commit b.xid c (before_of b) (after_of b))
       (mark : is_marked k.later.records tran b.m ≡ commit) where
     open b use {m}
 
@@ -175,7 +173,7 @@ module _ (law : Tabled) (first : (s : Settling) (m : ℕ) (T : Tables) → IsSet
 
     part_of : (p : ManagerPart) × (find_manager m s.managers ≡ Some p)
     part_of =
-        let at = prepare_part s kept_o.settled m up.0 t b.xid (before_of b) (after_of b) grown prepared.0 prepared.1 in
+        let at = prepare_part s kept_o.settled m up.0 t b.xid (before_of b) (after_of b) grown h.rest h.sent in
         part_there (find_manager m s.managers) at.1.before at.1.after (request_of t (0 + n) (Prepare b.xid)) at.1.place
 
     abbrev T : Tables
@@ -201,41 +199,35 @@ module _ (law : Tabled) (first : (s : Settling) (m : ℕ) (T : Tables) → IsSet
     abbrev G : Fate
     G = told_by (state_of T b.xid)
 
-    concludes : ((L : Type 0) → AtEnd commit (Unit {0}) L b.xid (fate b.xid G H T) H T (known_of k b))
-        → ((f : Fate) → IsFateOf b.xid f T → (before after : History) → H ≡ before ++ request_of t n (Prepare b.xid) ∷ after → fates b.xid (request_of t n (Prepare b.xid) ∷ after) (tables_after before T) ≡ history.InDoubt ∷ once (fate b.xid f H T))
-        → Result b
-    concludes at_end makes =
-        branch_follows law first o between last q r.use_.kept r.use_.in_a_row
-        (is_used last.uses r.use_.ps r.use_.qs (resolves q) r.use_.resolve_at) r.use_.scan commit (W b) b t n (known_of k b) up T begins
-        (λ L. record { comes = doubt L b here up only T with_T commit (at_end L).comes; any = (at_end L).any }) marked
-        (λ w there manager xid. search (arith, All-contains)) makes
-
-    abbrev Sent : Type 0 → Type 0
-    Sent L = HasSentOnly commit L b.xid (before_of b) (after_of b)
-
     sent_grows : Begins (after_of b).sent (sent s t m)
     sent_grows = sent_on s t m up.0 (after_of b) grown
 
+    stands : (number : ℕ) (op : Op) (c : Code) → slice_get (after_of b).sent number ≡ Some op → Contains (ledger (ledgers_of s t) m).collected (number, c)
+        → StandsIn t number op c T H
+    stands = sent_stands law s kept_o.settled t m T with_T up.0 (after_of b) grown
+
     prepared_at : StandsIn t n (Prepare b.xid) Done T H
-    prepared_at = sent_stands law s kept_o.settled t m T with_T up.0 (after_of b) grown n (Prepare b.xid) Done (r.voted b here).asked (r.voted b here).agreed
+    prepared_at = stands n (Prepare b.xid) Done (r.voted b here).asked (r.voted b here).agreed
 
-    -- it was told no decision of its own, whatever its coordinator knew of it
-    plain : Sent ⊥ → Result b
-    plain h =
-        concludes (λ L. sent_end site b.xid (before_of b) (after_of b) sent_grows commit only h prepared_at (known_of k b) L G)
-        (λ g fits. sent_fates site b.xid (before_of b) (after_of b) sent_grows commit only ⊥ h prepared_at g)
+    tells_it : L → (d : HeuristicDecision) × (fate b.xid G H T ≡ decided_fate d) × (told_fate (known_of k b) ≡ Some (decided_fate d))
+    tells_it l =
+        let (c, is, known, z) = told l in
+        let d = decision_so c is in
+        let second = stands z.number (outcome_op commit b.xid) c z.sent (contains_on (after_of b).collected _ (z.number, c) grown.collected z.told) in (
+          d.0,
+          told_fate_is site b.xid (before_of b) (after_of b) sent_grows commit only L h prepared_at z.number z.later c second d.0 d.1 G,
+          ap told_fate (sym known) ∙ ap (λ (q : Code). told_fate (yes_ending commit (Some q))) d.1 ∙ told_decided commit d.0,
+        )
 
-    -- it was told one
-    decided : (c : Code) → is_decided c ≡ true → yes_ending commit (Some c) ≡ known_of k b → Sent (Unit {0}) → WasTold commit b.xid c (before_of b) (after_of b)
-        → Result b
-    decided c is known h z =
-        let second =
-        sent_stands law s kept_o.settled t m T with_T up.0 (after_of b) grown z.number (outcome_op commit b.xid) c z.sent
-        (contains_on (after_of b).collected _ (z.number, c) grown.collected z.told) in
-        concludes
-        (λ L. subst (AtEnd commit (Unit {0}) L b.xid (fate b.xid G H T) H T) known
-        (told_end site b.xid (before_of b) (after_of b) sent_grows commit only h prepared_at z.number z.later c second is L G))
-        (λ g fits. sent_fates site b.xid (before_of b) (after_of b) sent_grows commit only (Unit {0}) h prepared_at g)
+    result : Result b
+    result =
+        branch_follows law first o between last q r.use_.kept r.use_.in_a_row
+        (is_used last.uses r.use_.ps r.use_.qs (resolves q) r.use_.resolve_at) r.use_.scan commit (W b) b t n (known_of k b) up T begins
+        (λ K.
+        let end = sent_end site b.xid (before_of b) (after_of b) sent_grows commit only L h prepared_at (known_of k b) K G tells_it in
+        record { comes = doubt K b here up only T with_T commit end.comes; any = end.any }) marked
+        (λ w there manager xid. search (arith, All-contains))
+        (λ g fits. sent_fates site b.xid (before_of b) (after_of b) sent_grows commit only L h prepared_at g)
 
   -- ---- all of them, by how far it came
 
@@ -255,68 +247,62 @@ module _ (law : Tabled) (first : (s : Settling) (m : ℕ) (T : Tables) → IsSet
 
     open b use {xid as x}
 
-    -- by what was sent, and where the record is the decision
-    sent_plainly : HasSentOnly commit ⊥ x (before_of b) (after_of b) → is_marked k.later.records tran b.m ≡ commit → Result b
-    sent_plainly h mark = plain b among (own voted.asked) here (h.rest, h.sent) mark h
+    -- nothing was decided
+    undecided_so : k.later ≡ k.log → IsAsked b (before_of b) (after_of b) → Result b
+    undecided_so same h =
+        let none : record_of k.later tran ≡ None = ap (λ (l : LogState). record_of l tran) same ∙ r.made.may.absent in
+        result b among (own voted.asked) here ⊥ (asked_only commit ⊥ b (before_of b) (after_of b) h voted.asked) (λ l. absurd l)
+        (ap (λ o. names o b.m) none ∙ sym (ap is_some none))
 
-    -- it was asking for votes
-    -- all had voted
+    -- all had voted, and its second code was z, if it was heard
     module _ (votes : List Code) (logged : Bool) (logs : Logs tran (yes_of k.branches votes) votes logged k.log k.later) (v : Code)
-        (yes_so : is_yes v ≡ true → voted_yes b.m k.branches votes ≡ true) where
+        (yes_so : is_yes v ≡ true → voted_yes b.m k.branches votes ≡ true) (z : Option Code) where
       abbrev decision : Bool
       decision = decision_of votes logged
 
-      abbrev Towards : Bool → Type 0 → Type 0
-      Towards c L = HasVoted (IsTowards c L x) b v (before_of b) (after_of b)
+      abbrev L : Type 0
+      L = is_told_decision z ≡ true
 
-      open_now : (L : Type 0) → Towards decision L → learnt_shut (before_of b) ≡ false
-      open_now L h = open_so decision L b v (before_of b) (after_of b) h voted.asked
+      abbrev Told : Code → Type 0
+      Told c = (yes_ending decision (Some c) ≡ known_of k b) × WasTold decision x c (before_of b) (after_of b)
 
-      -- the vote that was collected is the one that the settled opening has
-      agreed_now : (L : Type 0) → Towards decision L → v ≡ Done
-      agreed_now L h =
-          vote_is (IsTowards decision L x) b v Done (before_of b) (after_of b) (answers t (journal s b.m)) (collected s t b.m) h (open_now L h)
+      voted_so : HasVoted (IsTowards decision L x) b v (before_of b) (after_of b)
+          → ((c : Code) → z ≡ Some c → is_decided c ≡ true → learnt_shut (before_of b) ≡ false → v ≡ Done → Told c) → Result b
+      voted_so h told =
+          let open_ : learnt_shut (before_of b) ≡ false = open_so decision L b v (before_of b) (after_of b) h voted.asked in
+          -- the vote that was collected is the one that the settled opening has
+          let agreed : v ≡ Done =
+          vote_is (IsTowards decision L x) b v Done (before_of b) (after_of b) (answers t (journal s b.m)) (collected s t b.m) h open_
           (collected_on s t b.m among.0.0 (after_of b) (r.grown.each b.m among.0.0)) (kept_o.settled.agree t b.m).coded
-          (subst (λ (l : List (ℕ × Code)). Contains l (length (before_of b).sent, Done)) (sym (by_ledger (ledgers_of s t) b.m (λ (l : LedgerView). l.collected) among.0.0 refl)) voted.agreed)
-
-      marked_now : (L : Type 0) → Towards decision L → voted_yes b.m k.branches votes ≡ true
-      marked_now L h = yes_so (ap is_yes (agreed_now L h))
-
-      -- the record is the decision, and names its manager
-      decided_so : (L : Type 0) → Towards decision L → decision ≡ commit
-      decided_so L h = search (arith, recorded_is, some_yes, marked_now)
-
-      mark_so : (L : Type 0) → Towards decision L → is_marked k.later.records tran b.m ≡ commit
-      mark_so L h = own_mark k.branches k.log k.later votes logged tran b.m among.0 r.made.may.absent (marked_now L h) logs ∙ decided_so L h
-
-      -- it was told no decision of its own
-      voted_so : Towards decision ⊥ → Result b
-      voted_so h =
-          sent_plainly (subst (λ c. HasSentOnly c ⊥ x (before_of b) (after_of b)) (decided_so ⊥ h) (voted_only decision ⊥ b v (before_of b) (after_of b) h (open_now ⊥ h))) (mark_so ⊥ h)
-
-      told_so : (z : Option Code) → IsEnded decision b v z (before_of b) (after_of b) → known_of k b ≡ ending_of decision v z → Result b
-      told_so None h known = voted_so (ended_voted_so decision ⊥ b v None (before_of b) (after_of b) (λ e. cc) h)
-      told_so (Some c) h known =
-          elim (is_decided c) as (λ q. is_decided c ≡ q → Result b) [
-            | false ↦ λ off. voted_so (ended_voted_so decision ⊥ b v (Some c) (before_of b) (after_of b) (λ on. let z : true ≡ false = sym on ∙ off in cc) h)
-            | true ↦ λ on.
-                let L : Type 0 = Unit {0} in
-                let sends : Towards decision L = ended_voted_so decision L b v (Some c) (before_of b) (after_of b) (λ _. tt) h in
-                let agreed : v ≡ Done = agreed_now L sends in
-                let told : WasTold commit x c (before_of b) (after_of b) =
-                subst (λ d. WasTold d x c (before_of b) (after_of b)) (decided_so L sends) (was_told decision b v c (before_of b) (after_of b) h (open_now L sends) agreed on) in
-                let ending : yes_ending commit (Some c) ≡ known_of k b = search (arith, decided_so, at_true) in
-                let only : HasSentOnly commit L x (before_of b) (after_of b) =
-                subst (λ d. HasSentOnly d L x (before_of b) (after_of b)) (decided_so L sends)
-                (voted_only decision L b v (before_of b) (after_of b) sends (open_now L sends)) in
-                decided b among (own voted.asked) here (only.rest, only.sent) (mark_so L sends) c on ending only told
-          ] refl
+          (rw (by_ledger (ledgers_of s t) b.m (λ (l : LedgerView). l.collected) among.0.0 refl) voted.agreed) in
+          -- the record is the decision, and names its manager
+          let yes : voted_yes b.m k.branches votes ≡ true = yes_so (ap is_yes agreed) in
+          let is : decision ≡ commit =
+          recorded_is tran (yes_of k.branches votes) votes logged k.log k.later r.made.may.absent (some_yes b.m k.branches votes yes) logs in
+          let sends : HasSentOnly commit L x (before_of b) (after_of b) =
+          rw is at (voted_only decision L b v (before_of b) (after_of b) h open_) in
+          result b among (own voted.asked) here L sends
+          (told_so z is (λ c e on. told c e on open_ agreed))
+          (own_mark k.branches k.log k.later votes logged tran b.m among.0 r.made.may.absent yes logs ∙ is)
+        where
+          told_so : (y : Option Code) → decision ≡ commit → ((c : Code) → y ≡ Some c → is_decided c ≡ true → Told c) → is_told_decision y ≡ true
+              → (c : Code) × (is_decided c ≡ true) × (yes_ending commit (Some c) ≡ known_of k b) × WasTold commit x c (before_of b) (after_of b)
+          told_so None is told l = cc
+          told_so (Some c) is told l =
+              let w = told c refl l in
+              (c, l, ap (λ d. yes_ending d (Some c)) (sym is) ∙ w.0, rw is at w.1)
 
     by_came : CameAt tran k.branches k.desk.ledgers k.new k.log k.later k.endings b → Result b
-    by_came (at_asking same h) = search (arith, is_some, is_marked, sent_plainly, asked_only, voted)
+    by_came (at_asking same h) = undecided_so same h
     by_came (at_telling votes logged logs v vote h) =
-        voted_so votes logged logs v vote.marks (told_voted_so (decision_of votes logged) ⊥ b v (before_of b) (after_of b) h)
-    by_came (at_forgetting votes logged logs v vote z h known) = told_so votes logged logs v vote.marks z h known
+        voted_so votes logged logs v vote.marks None (told_voted_so (decision_of votes logged) (is_told_decision None ≡ true) b v (before_of b) (after_of b) h) (λ c e. cc)
+    by_came (at_forgetting votes logged logs v vote z h known) =
+        let decision : Bool = decision_of votes logged in
+        voted_so votes logged logs v vote.marks z (ended_voted_so decision (is_told_decision z ≡ true) b v z (before_of b) (after_of b) (λ l. l) h)
+        (λ c e on open_ agreed. (
+          sym (known ∙ (λ i. ending_of decision (agreed i) (e i))),
+          was_told decision b v c (before_of b) (after_of b) (rw e at h) open_ agreed on,
+        ))
 
   pub follows : All (λ b. V b → Result b) k.branches
   follows j d lt here = by_came (get_or k.branches j d) (among_so j d lt) (r.own j d lt) here (each_came r.made.may.rising r.made.far j d lt)
@@ -339,9 +325,7 @@ module _ (law : Tabled) (first : (s : Settling) (m : ℕ) (T : Tables) → IsSet
       → All (λ b. VotedToCommit k o.settled b → Follows (is_recorded k.later u) o (between ++ last ∷ []) k.thread b (length (ledger k.desk.ledgers b.m).sent)
       (known_of k b)) k.branches
   each_so u of_u =
-      subst (λ (w : TranName). All (λ b. VotedToCommit k o.settled b → Follows (is_recorded k.later w) o (between ++ last ∷ []) k.thread b
-      (length (ledger k.desk.ledgers b.m).sent) (known_of k b)) k.branches)
-      (one_tran k.branches cut_tran u cut_made.may.some cut_made.may.one of_u) (follows law first o between last (cuts k) k q (VotedToCommit k o.settled) (λ b. Unit {0}) followed (λ L b here up only T with_T commit comes. comes))
+      rw (one_tran k.branches cut_tran u cut_made.may.some cut_made.may.one of_u) at (follows law first o between last (cuts k) k q (VotedToCommit k o.settled) (λ b. Unit {0}) followed (λ L b here up only T with_T commit comes. comes))
 
   pub presumed_law : EndsByTheLog k o (between ++ last ∷ [])
   presumed_law = record { each = λ u of_u j d lt voted. (each_so u of_u j d lt voted).0 }

@@ -1,15 +1,14 @@
 -- What a resolve sent to a manager, and collected from it.
-use Rattle.xa_base.proofs.{length-append, Option, ◌≡◌, ◌≢◌, ℕ, zero, suc, ⊎_elim, ◌+◌, ◌-◌, ◌<◌, Bool, true, false, List, [], ◌∷◌, ◌++◌, length, append-nil}
-use Rattle.xa_base.proofs.{append_assoc, get_or, sym, refl, ap, ◌∙◌, subst, arith, Some, false_from_ne_true, map, All, Contains, flat_map, list_any}
-use Rattle.xa_base.proofs.{range_with_len, All-nil, All-cons, All-append, Contains-append_left, Contains-append_right, length-range_with_len}
-use Rattle.xa_base.proofs.{get_or-range_with_len, any_at, contains_at, same_begins, begins_on, was_mapped, at_false, both_ways, Contains-append_cases}
-use Rattle.xa_base.proofs.{Contains-push_cases, Contains-push}
+use Rattle.xa_base.proofs.{contains_map, get_contained, length-append, Option, ◌≡◌, ◌≢◌, ℕ, zero, suc, ⊎_elim, ◌+◌, ◌-◌, ◌<◌, Bool, true, false, List, [], ◌∷◌}
+use Rattle.xa_base.proofs.{◌++◌, length, append-nil, append_assoc, get_or, sym, refl, ap, ◌∙◌, subst, arith, Some, false_from_ne_true, map, All, Contains}
+use Rattle.xa_base.proofs.{flat_map, list_any, range_with_len, All-nil, All-cons, All-append, Contains-append_left, Contains-append_right}
+use Rattle.xa_base.proofs.{length-range_with_len, get_or-range_with_len, any_at, contains_at, same_begins, begins_on, was_mapped, at_false, both_ways}
+use Rattle.xa_base.proofs.{Contains-append_cases, Contains-push_cases, Contains-push}
 use Rattle.xa_words.proofs.Xids.{xid_self}
 use Rattle.xa_base.specs.{none, MOST_MANAGERS, Begins, Chain, IsUpTo, more}
 use Rattle.xa_words.specs.{XidName, xid_eq, Decides-xid_eq, RmFail, Op, OpenRm, CloseRm, Code, Forget}
 use Rattle.xa_desk.specs.{LedgerView, learnt_shut, with_sent, with_collected, ledger, HasGrown}
 use Rattle.xa_scan.specs.{ScanView, left_at}
-use Rattle.xa_switch.proofs.Lists.{contains_map, get_contained}
 use Rattle.xa_driver.specs.{Outcome, AskTrace, asked, AsksLedger, IsTraceOfResolve, ResolvesAt, ResolvesBranch, is_to_commit, outcome_op, is_decided}
 use Rattle.xa_log.specs.{Records}
 use Rattle.xa_driver.proofs.Mapped.{Any, Asks, IsAskedFor, anything, if_by, outcome_by, outcomes_by, resolves_by}
@@ -42,31 +41,24 @@ module _ (P : Op → Type 0) where
   asked_sends a op code so = search (arith, stays, All-cons, All-nil)
 
   asks_one : (a a' : LedgerView) (op : Op) (code : Code) → P op → AskTrace (Some op) (Some code) a a' → Sends P a a'
-  asks_one a a' op code so tr = subst (Sends P a) (sym tr.trace) (asked_sends a (Some op) (Some code) so)
+  asks_one a a' op code so tr = rw tr.trace (asked_sends a (Some op) (Some code) so)
 
   pub asks_on : (old a a' : LedgerView) (op : Op) (code : Code) → P op → AsksLedger a op a' code → Sends P old a → Sends P old a'
   asks_on old a a' op code so asked so_far = on old a a' so_far (asks_one a a' op code so asked)
-
-  module _ (records : Records) (m : ℕ) where
-    chain_sends : (a : LedgerView) (os : List Outcome) (a' : LedgerView) → ((o : Outcome) → Contains os o → Asks P records m o)
-        → Chain (ResolvesBranch AsksLedger records m) a os a' → Sends P a a'
-    chain_sends a os a' so chain = outcomes_by AsksLedger P (Sends P a) (asks_on a) records m a os a' so chain (stays a)
 
 -- ---- the outcomes of one manager are among all
 
 contains_flat : {A B : Type 0} (f : A → List B) (xs : List A) (x : A) (k : ℕ) → k < length xs → get_or xs k x ≡ x → (y : B) → Contains (f x) y
     → Contains (flat_map f xs) y
 contains_flat f [] x k lt e y c = absurd (omega (arith, lt))
-contains_flat {A} f (z ∷ xs) x zero lt e y c = Contains-append_left (f z) (flat_map f xs) y (subst (λ (w : A). Contains (f w) y) (sym e) c)
+contains_flat {A} f (z ∷ xs) x zero lt e y c = Contains-append_left (f z) (flat_map f xs) y (rw e c)
 contains_flat f (z ∷ xs) x (suc k) lt e y c = Contains-append_right (f z) (flat_map f xs) y (contains_flat f xs x k (omega (arith, lt)) e y c)
 
 module _ (z : ScanView) (records : Records) (old new : List LedgerView) (outcomes : List Outcome) (trace : IsTraceOfResolve z records old new outcomes) where
   pub of_all : (m : ℕ) → IsUpTo MOST_MANAGERS m → (o : Outcome) → Contains (trace.course.at m) o → Contains outcomes o
   of_all m up o c =
       let same : 1 + (m - 1) ≡ m = omega (arith, up.0) in
-      subst (λ os. Contains os o) (sym trace.course.outcomes_are)
-      (contains_flat trace.course.at (range_with_len 1 MOST_MANAGERS) m (m - 1) (omega (arith, up.0, up.1, length-range_with_len 1 MOST_MANAGERS))
-      (get_or-range_with_len 1 MOST_MANAGERS (m - 1) m (omega (arith, up.0, up.1)) ∙ same) o c)
+      rw trace.course.outcomes_are (contains_flat trace.course.at (range_with_len 1 MOST_MANAGERS) m (m - 1) (omega (arith, up.0, up.1, length-range_with_len 1 MOST_MANAGERS)) (get_or-range_with_len 1 MOST_MANAGERS (m - 1) m (omega (arith, up.0, up.1)) ∙ same) o c)
 
   -- what a resolve sends to a manager
   pub resolve_sends : (P : Op → Type 0) (m : ℕ) → IsUpTo MOST_MANAGERS m → P OpenRm → ((o : Outcome) → Contains outcomes o → Asks P records m o)
@@ -98,7 +90,7 @@ pub record IsAnsweredIn (op : Op) (code : Code) (a : LedgerView) (ops : List Op)
 
 -- what a list has one that has grown has too
 pub contains_on : {A : Type 0} (xs ys : List A) (x : A) → Begins xs ys → Contains xs x → Contains ys x
-contains_on {A} xs ys x b there = subst (λ (l : List A). Contains l x) (sym b.1) (Contains-append_left xs b.0 x there)
+contains_on {A} xs ys x b there = rw b.1 (Contains-append_left xs b.0 x there)
 
 -- what was asked and answered in time was sent
 sent_so : (a a' : LedgerView) (op : Op) (code : Code) → learnt_shut a ≡ false → AskTrace (Some op) (Some code) a a'
@@ -127,8 +119,7 @@ module _ (a opened now decided last : LedgerView) (op : Op) (first code : Code) 
         let number : length now.sent ≡ suc (length a.sent) + length before.more = ap length now_sent
         ∙ (let e = length-append a.sent (OpenRm ∷ before.more) in omega (arith, e)) in
         contains_on decided.collected last.collected (suc (length a.sent) + length before.more, code) grown.collected
-        (subst (λ k. Contains decided.collected (k, code)) number (subst (λ (l : LedgerView). Contains l.collected (length now.sent, code)) (sym decided_is)
-        (Contains-push now.collected (length now.sent, code))));
+        (rw number at (subst (λ (l : LedgerView). Contains l.collected (length now.sent, code)) (sym decided_is) (Contains-push now.collected (length now.sent, code))));
   }
 
 -- ---- the outcomes of one manager
@@ -157,20 +148,18 @@ module _ (records : Records) (m : ℕ) (a opened last : LedgerView) (first : Cod
   chain_asked : (os : List Outcome) (a' : LedgerView) → Chain (ResolvesBranch AsksLedger records m) opened os a' → HasGrown a' last → (o : Outcome)
       → Contains os o
       → IsAsked records m o a last
-  chain_asked _ _ (none xs z e f) grown o there = absurd (none_there o (subst (λ ws. Contains ws o) e there))
+  chain_asked _ _ (none xs z e f) grown o there = absurd (none_there o (rw e at there))
   chain_asked _ _ (more xs p now next chain leads) grown o there =
       ⊎_elim (λ (c : Contains xs o).
       chain_asked xs now chain (grows now next (outcome_by AsksLedger Any (Sends Any now) (asks_on Any now) records m p now next (anything records m p) leads
       (stays Any now)) grown) o c)
       (λ (same : p ≡ o).
-      subst (λ q. IsAsked records m q a last) same
-      (one_asked p now next
-      (chain_sends IsNoClose records m opened xs now (λ q _. record { ends = λ _ _. ends_open q.commit q.xid; forgets = λ _ _ e. cc }) chain) leads grown))
+      rw same at (one_asked p now next (outcomes_by AsksLedger IsNoClose (Sends IsNoClose opened) (asks_on IsNoClose opened) records m opened xs now (λ q _. record { ends = λ _ _. ends_open q.commit q.xid; forgets = λ _ _ e. cc }) chain (stays IsNoClose opened)) leads grown))
       (Contains-push_cases xs p o there)
 
 at_asked : (records : Records) (m : ℕ) (xs : List XidName) (os : List Outcome) (a a' last : LedgerView) → ResolvesAt AsksLedger records m xs os a a'
     → HasGrown a' last → (o : Outcome) → Contains os o → IsAsked records m o a last
-at_asked records m [] os a a' last h grown o there = absurd (none_there o (subst (λ ws. Contains ws o) h.0 there))
+at_asked records m [] os a a' last h grown o there = absurd (none_there o (rw h.0 at there))
 at_asked records m (x ∷ xs) os a a' last h grown o there = chain_asked records m a h.opened last h.code h.opens os a' h.each grown o there
 
 -- a branch that was left has one
@@ -179,15 +168,15 @@ has_outcome : (records : Records) (m : ℕ) (x : XidName) (xs : List XidName) (o
 has_outcome records m x [] os a a' h there = cc
 has_outcome records m x (y ∷ xs) os a a' h there =
     let c : Contains (map (λ (o : Outcome). o.xid) os) x =
-    subst (λ ys. Contains ys x) (sym h.xids_are) (Contains-from_any (λ p q. (Decides-xid_eq p q).0) x (y ∷ xs) there) in
+    rw h.xids_are (Contains-from_any (λ p q. (Decides-xid_eq p q).0) x (y ∷ xs) there) in
     let w = was_mapped (λ (o : Outcome). o.xid) os c.0 x (get_contained (map (λ (o : Outcome). o.xid) os) x c) in
     (w.0, (contains_at os c.0 w.0 w.1, w.2))
 
 at_left : (records : Records) (m : ℕ) (xs : List XidName) (os : List Outcome) (a a' : LedgerView) → ResolvesAt AsksLedger records m xs os a a' → (o : Outcome)
     → Contains os o → list_any (xid_eq o.xid) xs ≡ true
-at_left records m [] os a a' h o there = absurd (none_there o (subst (λ ws. Contains ws o) h.0 there))
+at_left records m [] os a a' h o there = absurd (none_there o (rw h.0 at there))
 at_left records m (x ∷ xs) os a a' h o there =
-    let c : Contains (x ∷ xs) o.xid = subst (λ ys. Contains ys o.xid) h.xids_are (contains_map (λ (w : Outcome). w.xid) os o there) in
+    let c : Contains (x ∷ xs) o.xid = rw h.xids_are at (contains_map (λ (w : Outcome). w.xid) os o there) in
     any_at (xid_eq o.xid) (x ∷ xs) c.0 o.xid (get_contained (x ∷ xs) o.xid c) (xid_self o.xid)
 
 -- an element of lists that are put together is in one of them
@@ -205,16 +194,12 @@ module _ (z : ScanView) (records : Records) (old new : List LedgerView) (outcome
     (o : Outcome) (there : Contains outcomes o) where
   pub outcome_at : IsUpTo MOST_MANAGERS o.m × Contains (trace.course.at o.m) o
   outcome_at =
-      let w = flat_contains trace.course.at (range_with_len 1 MOST_MANAGERS) o (subst (λ os. Contains os o) trace.course.outcomes_are there) in
+      let w = flat_contains trace.course.at (range_with_len 1 MOST_MANAGERS) o (rw trace.course.outcomes_are at there) in
       let among : IsUpTo MOST_MANAGERS w.0 = upto_so MOST_MANAGERS w.0 w.1.0 in
       let own : HasGrown (ledger new w.0) (ledger new w.0) = search (arith, same_begins) in
       let elsewhere =
       at_asked records w.0 (left_at z w.0) (trace.course.at w.0) (ledger old w.0) (ledger new w.0) (ledger new w.0) (trace.course.each w.0 among) own o w.1.1 in
       subst (λ k. IsUpTo MOST_MANAGERS k × Contains (trace.course.at k) o) (sym elsewhere.manager) (among, w.1.1)
-
-pub outcome_upto : (z : ScanView) (records : Records) (old new : List LedgerView) (outcomes : List Outcome) → IsTraceOfResolve z records old new outcomes
-    → (o : Outcome) → Contains outcomes o → IsUpTo MOST_MANAGERS o.m
-outcome_upto z records old new outcomes trace o there = (outcome_at z records old new outcomes trace o there).0
 
 module _ (z : ScanView) (records : Records) (old new : List LedgerView) (outcomes : List Outcome) (trace : IsTraceOfResolve z records old new outcomes) (m : ℕ)
     (up : IsUpTo MOST_MANAGERS m) (last : LedgerView) (grown : HasGrown (ledger new m) last) where
@@ -226,7 +211,7 @@ module _ (z : ScanView) (records : Records) (old new : List LedgerView) (outcome
       (w.0, (of_all z records old new outcomes trace m up w.0 w.1.0, (asked.manager, w.1.1)))
 
   at_own : (o : Outcome) → Contains outcomes o → o.m ≡ m → Contains (trace.course.at m) o
-  at_own o there own = subst (λ k. Contains (trace.course.at k) o) own (outcome_at z records old new outcomes trace o there).1
+  at_own o there own = rw (← own) (outcome_at z records old new outcomes trace o there).1
 
   -- what an outcome is of was left
   pub outcome_left : (o : Outcome) → Contains outcomes o → o.m ≡ m → list_any (xid_eq o.xid) (left_at z m) ≡ true

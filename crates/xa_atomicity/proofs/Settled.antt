@@ -1,8 +1,9 @@
 -- What the branches of a call came to in a settled opening, where what they were asked by a desk's ledgers stands in their
 -- managers' histories.
-use Rattle.xa_base.proofs.{inl, inr, ◌≡◌, ℕ, suc, Bool, true, false, ◌||◌, List, [], ◌∷◌, ◌++◌, length, length-append, append_assoc, slice_get, refl, ap, ◌∙◌}
-use Rattle.xa_base.proofs.{subst, arith, Option, Some, All, list_any-append, all_mid, begins_on, at_false, at_true, All-contains, All-head, All-tail, Contains}
-use Rattle.xa_base.proofs.{list_any, zero, ◌≤◌, if◌then◌else◌, sym, le-leb, cases_lt, or_parts, not-true, pos, or-true, false_from_ne_true, or-false}
+use Rattle.xa_base.proofs.{got_on, none_all, Contains-push, [], All-nil, All-cons, inl, inr, ◌≡◌, ℕ, Bool, true, false, List, ◌∷◌, ◌++◌, length, length-append}
+use Rattle.xa_base.proofs.{append_assoc, slice_get, refl, ap, ◌∙◌, arith, Option, Some, All, list_any-append, at_false, at_true, All-contains, All-head}
+use Rattle.xa_base.proofs.{All-tail, Contains, list_any, list_any_at, ◌≤◌, if◌then◌else◌, sym, le-leb, cases_lt, or_parts, not-true, pos, false_from_ne_true}
+use Rattle.xa_base.proofs.{or-false}
 use Rattle.xa_base.specs.{Begins}
 use Rattle.xa_words.specs.{Code, Op, TranName, XidName, Request}
 use Rattle.xa_tables.specs.{Tables, History, coded, HeuristicDecision, state_of, next, told_by, Fate, IsFateOf, decided_fate, tables_after}
@@ -23,40 +24,11 @@ use Rattle.xa_atomicity.proofs.Courses.{Course, course_of, own_plain}
 use Rattle.xa_atomicity.proofs.OneOutcome.{every_manager, branch_map, positive_all, committed_law}
 use Rattle.xa_atomicity.proofs.Values.{Counted, branch_counts}
 use Rattle.xa_atomicity.proofs.Fated.{Told, branch_told, none_decides}
+use Rattle.xa_atomicity.proofs.Resolves.{contains_on}
 
 -- how many requests a ledger has, and whether it has learnt that its manager is shut
 abbrev pub heard : LedgerView → Sent
 heard a = record { number = length a.sent; shut = learnt_shut a }
-
--- ---- in the history
-
-module _ {t : ℕ} {T : Tables} {H : History} (s : Site t T H) (pairs : List (ℕ × Code))
-    (answered : All (λ p. slice_get (answers t (coded H T)) p.0 ≡ Some p) pairs) where
-  -- what the thread has sent and collected of what the ledger has
-  record Has (a : LedgerView) : Type 0 where
-    sent : Begins a.sent s.ops
-    collected : Begins a.collected pairs
-
-  stands_in : (a : LedgerView) (op : Op) (c : Code) → Has (with_collected (with_sent a op) (length a.sent) c) → StandsIn t (length a.sent) op c T H
-  stands_in a op c has =
-      let n : ℕ = length a.sent in
-      let there : ℕ × Code → Type 0 = λ p. slice_get (answers t (coded H T)) p.0 ≡ Some p in
-      stands_by s n op c (ap (λ l. slice_get l n) (has.sent.1 ∙ append_assoc a.sent (op ∷ []) has.sent.0) ∙ at_seam a.sent op has.sent.0)
-      (all_mid there a.collected has.collected.0 (n, c) (subst (All there) (has.collected.1 ∙ append_assoc a.collected ((n, c) ∷ []) has.collected.0) answered))
-
-  has_before : (a a' : LedgerView) (op : Op) (c : Code) → AsksLedger a op a' c → Has a' → Has a
-  has_before a a' op c is has =
-      let grown = asked_grows a (Some op) (Some c) in
-      let now = subst Has is.trace has in
-      record { sent = begins_on a.sent _ s.ops grown.sent now.sent; collected = begins_on a.collected _ pairs grown.collected now.collected }
-
-  pub branch_in : (b : Branch) (commit : Bool) (vote : Code) (second : Option Code) (ending : Ending) (a a' : LedgerView)
-      → AtBranch AsksLedger commit b vote second ending a a' → Begins a'.sent s.ops → Begins a'.collected pairs
-      → AtBranch (AsksIn t T H) commit b vote second ending (heard a) (heard a')
-  branch_in b commit vote second ending a a' is sent collected =
-      branch_mapped AsksLedger (AsksIn t T H) heard (λ z. Unit {0}) Has (λ d e op c is q. tt) has_before
-      (λ d e op c is q has. search (arith, at_true, at_false, stands_in, is.answered, length-append, list_any-append, or-false)) commit b vote second ending a a' is tt
-      (record { sent = sent; collected = collected })
 
 -- what was sent to a manager, and collected from it, stands in the ledger with it
 pub by_ledger : {X : Type 0} (at : List LedgerView) (m : ℕ) (f : LedgerView → List X) → 1 ≤ m → f no_ledger ≡ []
@@ -64,7 +36,7 @@ pub by_ledger : {X : Type 0} (at : List LedgerView) (m : ℕ) (f : LedgerView �
 by_ledger at m f positive none = search (arith, past_end, le-leb, cases_lt)
 
 pub sent_on : (s : Settling) (t m : ℕ) → 1 ≤ m → (a : LedgerView) → HasGrown a (ledger (ledgers_of s t) m) → Begins a.sent (sent s t m)
-sent_on s t m positive a grown = subst (Begins a.sent) (sym (by_ledger (ledgers_of s t) m (λ (l : LedgerView). l.sent) positive refl)) grown.sent
+sent_on s t m positive a grown = rw (by_ledger (ledgers_of s t) m (λ (l : LedgerView). l.sent) positive refl) grown.sent
 
 -- what was sent between two of a desk's lists stands in the history with the numbers between them
 pub sent_between : (s : Settling) → IsSettled s → (t m : ℕ) → 1 ≤ m → (P : Op → Type 0) (a a' : LedgerView) (more : List Op) → a'.sent ≡ a.sent ++ more
@@ -75,12 +47,7 @@ sent_between s settled t m positive P a a' more is all grown =
 
 pub collected_on : (s : Settling) (t m : ℕ) → 1 ≤ m → (a : LedgerView) → HasGrown a (ledger (ledgers_of s t) m) → Begins a.collected (collected s t m)
 collected_on s t m positive a grown =
-    subst (Begins a.collected) (sym (by_ledger (ledgers_of s t) m (λ (l : LedgerView). l.collected) positive refl)) grown.collected
-
-got_on : {A : Type 0} (xs ys : List A) (n : ℕ) (y : A) → slice_get xs n ≡ Some y → slice_get (xs ++ ys) n ≡ Some y
-got_on [] ys n y e = absurd (cc)
-got_on (x ∷ xs) ys zero y e = e
-got_on (x ∷ xs) ys (suc n) y e = got_on xs ys n y e
+    rw (by_ledger (ledgers_of s t) m (λ (l : LedgerView). l.collected) positive refl) grown.collected
 
 -- a manager of a settled opening, and what the thread collected from it
 module _ (law : Tabled) (s : Settling) (settled : IsSettled s) (t m : ℕ) (T : Tables) (with_T : IsOpenedWith s m T) where
@@ -97,23 +64,56 @@ module _ (law : Tabled) (s : Settling) (settled : IsSettled s) (t m : ℕ) (T : 
       let more = sent_on s t m positive a grown in
       stands_by site_of n op c (ap (λ l. slice_get l n) more.1 ∙ got_on a.sent more.0 n op asked)
       (All-contains (λ (p : ℕ × Code). slice_get (answers t (coded (history_of s m) T)) p.0 ≡ Some p) (collected s t m) (n, c) answered_of
-      (subst (λ (l : List (ℕ × Code)). Contains l (n, c)) (sym (by_ledger (ledgers_of s t) m (λ (l : LedgerView). l.collected) positive refl)) agreed))
+      (rw (by_ledger (ledgers_of s t) m (λ (l : LedgerView). l.collected) positive refl) agreed))
+
+  -- so a branch that was asked by a ledger that the thread's has grown from
+  module _ (positive : 1 ≤ m) where
+    abbrev Later : LedgerView → Type 0
+    Later a = HasGrown a (ledger (ledgers_of s t) m)
+
+    stands_in : (a : LedgerView) (op : Op) (c : Code) → Later (with_collected (with_sent a op) (length a.sent) c)
+        → StandsIn t (length a.sent) op c T (history_of s m)
+    stands_in a op c later =
+        sent_stands positive (with_collected (with_sent a op) (length a.sent) c) later (length a.sent) op c (at_seam a.sent op [])
+        (contains_on (a.collected ++ (length a.sent, c) ∷ []) _ (length a.sent, c) later.collected (Contains-push a.collected (length a.sent, c)))
+
+    branch_in : (b : Branch) (commit : Bool) (vote : Code) (second : Option Code) (ending : Ending) (a a' : LedgerView)
+        → AtBranch AsksLedger commit b vote second ending a a' → Later a'
+        → AtBranch (AsksIn t T (history_of s m)) commit b vote second ending (heard a) (heard a')
+    branch_in b commit vote second ending a a' is later =
+        branch_mapped AsksLedger (AsksIn t T (history_of s m)) heard (λ z. Unit {0}) Later (λ d e op c is q. tt)
+        (λ d e op c is now. grown_on d e (ledger (ledgers_of s t) m) (rw is.trace (asked_grows d (Some op) (Some c))) now)
+        (λ d e op c is q now. search (arith, at_true, at_false, stands_in, is.answered, length-append, list_any-append, or-false)) commit b vote second ending a a' is tt later
 
 -- of a branch that didn't vote against a test fails that fails where it voted yes, and where it only read
 unless_against : (test : Ending → Bool) (commit : Bool) (vote : Code) (second : Option Code) → test ReadOnly ≡ false
     → (is_yes vote ≡ true → test (ending_of commit vote second) ≡ false) → is_no vote ≡ false → test (ending_of commit vote second) ≡ false
 unless_against test commit vote second reads fails n = grind arith
 
--- what is shown of each branch, of which C is known, follows for each
-pub outcome_all : (C : Branch → Type 0) (P Q : Branch → Code → Ending → Type 0) → ((b : Branch) (v : Code) (e : Ending) → C b → P b v e → Q b v e)
-    → (bs : List Branch) (vs : List Code) (es : List Ending) → All C bs → EachOutcome P bs vs es → EachOutcome Q bs vs es
-outcome_all C P Q f [] [] [] all h = tt
-outcome_all C P Q f (b ∷ bs) (v ∷ vs) (e ∷ es) all h = (f b v e (All-head C b bs all) h.0, outcome_all C P Q f bs vs es (All-tail C b bs all) h.1)
-outcome_all C P Q f bs vs es all h = absurd h
+-- what is shown of each branch follows for each, where C is known of the branches, V of the votes and E of the endings
+pub outcome_all : (C : Branch → Type 0) (V : Code → Type 0) (E : Ending → Type 0) (P Q : Branch → Code → Ending → Type 0)
+    → ((b : Branch) (v : Code) (e : Ending) → C b → V v → E e → P b v e → Q b v e)
+    → (bs : List Branch) (vs : List Code) (es : List Ending) → All C bs → All V vs → All E es → EachOutcome P bs vs es → EachOutcome Q bs vs es
+outcome_all C V E P Q f [] [] [] all votes ends h = tt
+outcome_all C V E P Q f (b ∷ bs) (v ∷ vs) (e ∷ es) all votes ends h = (
+  f b v e (All-head C b bs all) (All-head V v vs votes) (All-head E e es ends) h.0,
+  outcome_all C V E P Q f bs vs es (All-tail C b bs all) (All-tail V v vs votes) (All-tail E e es ends) h.1,
+)
+outcome_all C V E P Q f bs vs es all votes ends h = absurd h
 
 pub outcome_map : (P Q : Branch → Code → Ending → Type 0) → ((b : Branch) (v : Code) (e : Ending) → P b v e → Q b v e)
     → (bs : List Branch) (vs : List Code) (es : List Ending) → EachOutcome P bs vs es → EachOutcome Q bs vs es
-outcome_map P Q f bs vs es = outcome_all (λ b. Unit {0}) P Q (λ b v e _. f b v e) bs vs es (λ k d lt. tt)
+outcome_map P Q f bs vs es =
+    outcome_all (λ b. Unit {0}) (λ v. Unit {0}) (λ e. Unit {0}) P Q (λ b v e _ _ _. f b v e) bs vs es (λ k d lt. tt) (λ k d lt. tt) (λ k d lt. tt)
+
+-- and of each ending, where V holds of the votes
+pub outcome_ends : (V : Code → Type 0) (P : Branch → Code → Ending → Type 0) (E : Ending → Type 0)
+    → ((b : Branch) (v : Code) (e : Ending) → V v → P b v e → E e)
+    → (bs : List Branch) (vs : List Code) (es : List Ending) → All V vs → EachOutcome P bs vs es → All E es
+outcome_ends V P E so [] [] [] votes h = All-nil E
+outcome_ends V P E so (b ∷ bs) (v ∷ vs) (e ∷ es) votes h =
+    All-cons E e es (so b v e (All-head V v vs votes) h.0) (outcome_ends V P E so bs vs es (All-tail V v vs votes) h.1)
+outcome_ends V P E so bs vs es votes h = absurd h
 
 -- tables by which a history has the same codes give a request in it the same
 code_within : (before after : History) (r : Request) (T U : Tables) → coded (before ++ r ∷ after) T ≡ coded (before ++ r ∷ after) U
@@ -124,7 +124,7 @@ code_within (q ∷ before) after r T U e =
     code_within before after r (next q.thread q.op T).0 (next q.thread q.op U).0 tail
 
 -- so a decision that was carried out by the one was by the other
-decided_alike : (x : XidName) (t n : ℕ) (T U : Tables) (H : History) → coded H T ≡ coded H U → IsDecidedAfter x t n T H → IsDecidedAfter x t n U H
+pub decided_alike : (x : XidName) (t n : ℕ) (T U : Tables) (H : History) → coded H T ≡ coded H U → IsDecidedAfter x t n T H → IsDecidedAfter x t n U H
 decided_alike x t n T U H e z =
     let place : H ≡ (z.before ++ z.request ∷ z.between) ++ z.decision ∷ z.after = search (arith, append_assoc) in
     search (arith, code_within, z.after, z.decision)
@@ -145,7 +145,7 @@ module _ (law : Tabled) (s : Settling) (t : ℕ) (settled : IsSettled s) (b : Br
   its_course : Course (site_of law s settled t b.m T with_T) b.xid (length a.sent) (length a'.sent) v commit e
   its_course =
       course_of (site_of law s settled t b.m T with_T) b commit v z e (heard a) (heard a')
-      (branch_in (site_of law s settled t b.m T with_T) (collected s t b.m) (answered_of law s settled t b.m T with_T) b commit v z e a a' is (sent_on s t b.m positive a' grown) (collected_on s t b.m positive a' grown))
+      (branch_in law s settled t b.m T with_T positive b commit v z e a a' is grown)
 
   -- and what became of it
   pub told_in : OnlyTheseOrDecisionsName b.xid t (length a.sent) (length a'.sent) (history_of s b.m)
@@ -219,27 +219,24 @@ module _ (law : Tabled) (opened : (s : Settling) (m : ℕ) → IsSettled s → (
             undecided = λ no. ap is_heuristic ends ∙ unless_against is_heuristic commit vote second refl (λ y. sym (ap is_heuristic ends) ∙ plain y) no;
           }
 
-  -- an ending of a call that is decided, where one branch or none was committed
+  -- an ending that isn't in doubt, where one branch or none was committed
   ending_is : (whole : Bool) (e : Ending) → (whole ≡ true → is_rolled_back e ≡ false) → (whole ≡ true → is_heuristic e ≡ false)
-      → (is_committed e ≡ true → whole ≡ true) → is_in_doubt e ≡ false → is_left e ≡ false → is_read_only e ≡ false → is_committed e ≡ whole
-  ending_is whole e agree plain some doubt left reads = grind arith
+      → (whole ≡ true → is_left e ≡ false) → (is_committed e ≡ true → whole ≡ true) → is_in_doubt e ≡ false → is_read_only e ≡ false → is_committed e ≡ whole
+  ending_is whole e agree plain reached some doubt reads = grind arith
 
-  each_whole : (whole : Bool) (from upto : ℕ → ℕ) (bs : List Branch) (vs : List Code) (es : List Ending) → (whole ≡ true → list_any is_rolled_back es ≡ false)
-      → (whole ≡ true → list_any is_no vs ≡ false) → (list_any is_committed es ≡ true → whole ≡ true)
-      → list_any is_in_doubt es ≡ false → list_any is_left es ≡ false → EachOutcome (λ b v e. Both b (from b.m) (upto b.m) v e) bs vs es
+  -- then all additions count, or none
+  pub each_whole : (whole : Bool) (from upto : ℕ → ℕ) (bs : List Branch) (vs : List Code) (es : List Ending)
+      → (whole ≡ true → list_any is_rolled_back es ≡ false) → (whole ≡ true → list_any is_no vs ≡ false) → (list_any is_committed es ≡ true → whole ≡ true)
+      → list_any is_in_doubt es ≡ false → EachOutcome (λ b v e. Both b (from b.m) (upto b.m) v e) bs vs es
       → EachOutcome (λ b v e. Shares s t b (from b.m) whole) bs vs es
-  each_whole whole from upto [] [] [] agree unopposed some doubt left h = tt
-  each_whole whole from upto (b ∷ bs) (v ∷ vs) (e ∷ es) agree unopposed some doubt left h =
-      let here = or_parts (is_in_doubt e) (list_any is_in_doubt es) doubt in
-      let there = or_parts (is_left e) (list_any is_left es) left in (
-        λ T with_T k d add.
-            let same : is_committed e ≡ whole =
-            ending_is whole e (λ w. (or_parts (is_rolled_back e) (list_any is_rolled_back es) (agree w)).0) (λ w. h.0.undecided (or_parts (is_no v) (list_any is_no vs) (unopposed w)).0) (λ c. some (ap (λ q. q || list_any is_committed es) c)) here.0 there.0
-            ((h.0.counted T with_T).adders k d add) in
-            (h.0.counted T with_T).counted k d add ∙ ap (λ q. if q then d else pos 0) same,
-        each_whole whole from upto bs vs es (λ w. (or_parts (is_rolled_back e) (list_any is_rolled_back es) (agree w)).1) (λ w. (or_parts (is_no v) (list_any is_no vs) (unopposed w)).1) (λ c. some (ap (λ q. is_committed e || q) c ∙ or-true (is_committed e))) here.1 there.1 h.1,
-      )
-  each_whole whole from upto bs vs es agree unopposed some doubt left h = absurd h
+  each_whole whole from upto bs vs es agree unopposed some doubt =
+      outcome_all (λ b. Unit {0}) (λ v. whole ≡ true → is_no v ≡ false) (λ e. (whole ≡ true → is_rolled_back e ≡ false) × (is_committed e ≡ true → whole ≡ true) × (is_in_doubt e ≡ false))
+      (λ b v e. Both b (from b.m) (upto b.m) v e) (λ b v e. Shares s t b (from b.m) whole) (λ b v e _ votes ending h T with_T k d add.
+      let z = h.counted T with_T in
+      z.counted k d add ∙ ap (λ q. if q then d else pos 0)
+      (ending_is whole e ending.0 (λ w. h.undecided (votes w)) (λ w. h.fated.unless_no (votes w)) ending.1 ending.2 (z.adders k d add))) bs vs es (λ k d lt. tt)
+      (λ k d lt w. none_all is_no vs (unopposed w) k d lt)
+      (λ k d lt. (λ w. none_all is_rolled_back es (agree w) k d lt, λ c. some (list_any_at is_committed es k d lt c), none_all is_in_doubt es doubt k d lt))
 
   -- ---- by a desk's lists
 
@@ -285,14 +282,14 @@ module _ (law : Tabled) (opened : (s : Settling) (m : ℕ) → IsSettled s → (
           let none = or_parts _ _ (not-true _ sure) in
           let whole = committed_law made.may.tran bs desk new log later d made made.may.one in
           let each_so = each_whole (has_committed d) (sent_so_far at) (sent_so_far new) bs d.votes.items d.endings.items (λ some. (whole some).kept)
-          (λ some. (whole some).unopposed) (λ e. e) none.0 none.1 all_outcomes in
+          (λ some. (whole some).unopposed) (λ e. e) none.0 all_outcomes in
           record { each = each_so }
 
 -- a commit only makes the lists grow
 traced_grows : (commit : Bool) (b : Branch) (v : Code) (z : Option Code) (e : Ending) (a a' : LedgerView) → AtBranch AsksLedger commit b v z e a a'
     → HasGrown a a'
 traced_grows commit b v z e a a' is =
-    branch_by AsksLedger (λ op. Unit {0}) (HasGrown a) (λ d w op c so asked q. grown_on a d w q (subst (HasGrown d) (sym asked.trace) (asked_grows d (Some op) (Some c)))) commit b v z e a a' is
+    branch_by AsksLedger (λ op. Unit {0}) (HasGrown a) (λ d w op c so asked q. grown_on a d w q (rw asked.trace (asked_grows d (Some op) (Some c)))) commit b v z e a a' is
     (any_asked (second_op commit b.xid v)) (any_asked (third_op b.xid z)) tt (as_it_was a)
 
 pub growth_law : (tran : TranName) (bs : List Branch) (old new : List LedgerView) (log later : LogState) (d : Done)

@@ -1,14 +1,13 @@
 -- Where the requests of one thread stand in its manager's settled history, by their numbers, and what they were answered.
-use Rattle.xa_base.proofs.{map-append, ◌≡◌, ◌≢◌, ℕ, suc, ◌+◌, ◌<◌, true, false, ◌==◌, cond, List, [], ◌∷◌, ◌++◌, length, map, slice_get, get_or, sym, refl, ap}
-use Rattle.xa_base.proofs.{◌∙◌, arith, Option, Some, None, filter, cons_option, eq-eqb, filter-append, rules, Bool, ◌≤◌, length-append, subst, eqb-false}
-use Rattle.xa_base.proofs.{ne_eqb, list_any, All, All-nil, All-cons, slice_get_within, All-contains, Contains, ◌-◌, ◌||◌, some_same, all_left, all_after}
-use Rattle.xa_base.proofs.{false_from_ne_true, all_at, next_there, take-append-drop, take, drop, some_pair_parts, get_or_from_slice_get, and_right, both_ways}
-use Rattle.xa_base.proofs.{list_any_at, filter_map-append, get_or_append_left, drop-cons, append_assoc}
+use Rattle.xa_base.proofs.{length-map, map-append, ◌≡◌, ◌≢◌, ℕ, suc, ◌+◌, ◌<◌, true, false, ◌==◌, cond, List, [], ◌∷◌, ◌++◌, length, slice_get, get_or, sym}
+use Rattle.xa_base.proofs.{refl, ap, ◌∙◌, arith, Option, Some, None, filter, cons_option, eq-eqb, filter-append, rules, Bool, ◌≤◌, length-append, subst}
+use Rattle.xa_base.proofs.{eqb-false, All, All-nil, All-cons, slice_get_within, All-contains, Contains, ◌-◌, ◌||◌, some_same, all_left, all_after, all_at}
+use Rattle.xa_base.proofs.{next_there, take-append-drop, take, drop, some_pair_parts, get_or_from_slice_get, filter_map-append, get_or_append_left, drop-cons}
+use Rattle.xa_base.proofs.{append_assoc}
 use Rattle.xa_base.specs.{Begins}
 use Rattle.xa_words.specs.{XidName, Op, Request, Code, RmFail}
-use Rattle.xa_tables.specs.{Tables, next, Fate, of_thread, tables_after, coded, fate_of, fate_in, fates_in, last_or, History, closes, is_close, IsOpening}
+use Rattle.xa_tables.specs.{Tables, next, Fate, of_thread, tables_after, coded, fate_of, fate_in, fates_in, last_or, History, IsOpening}
 use Rattle.xa_desk.specs.{numbered, is_rm_fail}
-use Rattle.xa_worker.specs.{Entry}
 use Rattle.xa_switch.specs.{answers}
 use Rattle.xa_tables.proofs.ValueLaw.{tables_after-append}
 use Rattle.xa_atomicity.specs.{Tabled}
@@ -62,15 +61,7 @@ module _ (t : ℕ) where
 
   answers_length : (h : History) (T : Tables) → length (answers t (coded h T)) ≡ length (of_thread t h)
   answers_length [] T = refl
-  answers_length (r ∷ h) T =
-      let T1 : Tables = (next r.thread r.op T).0 in
-      let own : Entry = (r, (next r.thread r.op T).1) in
-      let told : List Entry → List (ℕ × Code) = λ es. map (λ (e : Entry). (e.0.number, e.1)) es in
-      elim (r.thread == t) as (λ b. length (told (cond b (own ∷ filter (λ (e : Entry). e.0.thread == t) (coded h T1)) (filter (λ (e : Entry). e.0.thread == t) (coded h T1))))
-      ≡ length (cond b (r ∷ of_thread t h) (of_thread t h))) [
-        | true ↦ let z = answers_length h T1 in omega (arith, z)
-        | false ↦ answers_length h T1
-      ]
+  answers_length (r ∷ h) T = search (arith, answers_length h (next r.thread r.op T).0, length-map, filter)
 
   pub coded_both : (h g : History) (T : Tables) → coded (h ++ g) T ≡ coded h T ++ coded g (tables_after h T)
   coded_both [] g T = refl
@@ -113,10 +104,6 @@ pub none_first : (x : XidName) (r : Request) (h : History) (T : Tables) → fate
     → fates x h (next r.thread r.op T).0 ≡ [] → fates x (r ∷ h) T ≡ []
 none_first x r h T e f = λ i. cons_option (e i) (f i)
 
--- a request of another thread doesn't close for this one
-pub closes_other : (t : ℕ) (r : Request) → r.thread ≢ t → closes t r ≡ false
-closes_other t r differs = and_right (is_close r.op) (r.thread == t) (ne_eqb r.thread t differs)
-
 -- what is known of each that was sent, and its number, is known of each of the thread's requests
 pub of_ops : (t : ℕ) (Q : ℕ → Op → Type 0) (h : History) (n : ℕ) (ops : List Op) → of_thread t h ≡ numbered t n ops
     → ((k : ℕ) (op : Op) → slice_get ops k ≡ Some op → Q (n + k) op) → All (λ r. r.thread ≡ t → Q r.number r.op) h
@@ -136,10 +123,6 @@ of_ops t Q (q ∷ h) n ops e known =
                 All-cons P q h (λ _. here) (of_ops t Q h (suc n) rest tail (λ k o at. subst (λ j. Q j o) (let z : n + suc k ≡ suc n + k = omega arith in z) (known (suc k) o at)))
           ] known
     ] refl e
-
--- a test that no element passes
-pub none_all : {A : Type 0} (p : A → Bool) (xs : List A) → list_any p xs ≡ false → All (λ x. p x ≡ false) xs
-none_all p xs none k d lt = false_from_ne_true (p (get_or xs k d)) (λ e. both_ways (list_any p xs) none (list_any_at p xs k d lt e))
 
 -- nothing of the thread
 pub all_others : (t : ℕ) (h : History) → of_thread t h ≡ [] → (k : ℕ) (d : Request) → k < length h → (get_or h k d).thread ≢ t
@@ -172,13 +155,12 @@ own_sent t P h ops old new more e begins is all =
     let is : get_or more (k - length old) op ≡ op =
     sym (get_or-append_right old (more ++ begins.0) (length old) k op refl past ∙ get_or_append_left more begins.0 op (k - length old) within)
     ∙ get_or_from_slice_get (old ++ (more ++ begins.0)) k op op there in
-    subst P is (all (k - length old) op within))
+    rw is at (all (k - length old) op within))
 
 pub own_between : (t : ℕ) (P : Op → Type 0) (h : History) (pre mid post : List Op) → of_thread t h ≡ numbered t 0 (pre ++ (mid ++ post)) → All P mid
     → All (λ r. r.thread ≡ t → IsFromTo P (length pre) (length pre + length mid) r.number r.op) h
 own_between t P h pre mid post e all =
-    subst (λ k. All (λ r. r.thread ≡ t → IsFromTo P (length pre) k r.number r.op) h) (length-append pre mid)
-    (own_sent t P h (pre ++ (mid ++ post)) pre (pre ++ mid) mid e (post, sym (append_assoc pre mid post)) refl all)
+    rw (length-append pre mid) at (own_sent t P h (pre ++ (mid ++ post)) pre (pre ++ mid) mid e (post, sym (append_assoc pre mid post)) refl all)
 
 -- it is the one that was collected
 pub code_there : (t : ℕ) (H : History) (T : Tables) (pairs : List (ℕ × Code)) (n : ℕ) (code : Code)
@@ -259,8 +241,7 @@ module _ {t : ℕ} {T : Tables} {H : History} (s : Site t T H) where
   -- it is answered so wherever it stands
   pub answered_here : (n : ℕ) (op : Op) (before after : History) → H ≡ before ++ request_of t n op ∷ after
       → slice_get (answers t (coded H T)) n ≡ Some (n, (next t op (tables_after before T)).1)
-  answered_here n op before after place =
-      search (arith, slice_get, answer_at, request_of, numbered_length, (sides_at n op before after place).many)
+  answered_here n op before after place = search (arith, slice_get, answer_at, request_of, numbered_length, (sides_at n op before after place).many)
 
   abbrev pub at_place : (n : ℕ) (op : Op) (c : Code) → StandsIn t n op c T H → (before after : History) → H ≡ before ++ request_of t n op ∷ after
       → StandsIn t n op c T H
@@ -323,18 +304,14 @@ later_place t (p ∷ b) (o ∷ c) r q a d e its more low =
     record { mid = z.mid; before = λ i. sym head i ∷ z.before i; after = z.after }
 
 module _ {t : ℕ} {T : Tables} {H : History} (s : Site t T H) where
-  -- the op that was sent with a number is that of the thread's request
-  pub op_of_number : All (λ r. r.thread ≡ t → slice_get s.ops r.number ≡ Some r.op) H
-  op_of_number = of_ops t (λ k op. slice_get s.ops k ≡ Some op) H 0 s.ops s.carried (λ k op e. ap (slice_get s.ops) (let z : 0 + k ≡ k = omega arith in z) ∙ e)
-
-  pub op_at : (n : ℕ) (op : Op) (c : Code) → StandsIn t n op c T H → slice_get s.ops n ≡ Some op
-  op_at n op c f =
-      let z = sides_at s n op f.before f.after f.place in
-      let many : n ≡ length z.pre = let e = z.many in omega (arith, e) in (λ i. slice_get (z.sent i) (many i)) ∙ at_seam z.pre op z.post
-
-  -- so there is no other request of that number
+  -- the op that was sent with a number is that of the thread's request, so there is no other of that number
   pub only_op : (n : ℕ) (op : Op) (c : Code) → StandsIn t n op c T H → All (λ r. r.thread ≡ t → r.number ≡ n → r.op ≡ op) H
-  only_op n op c f k d lt own number = some_same (get_or H k d).op op (sym (op_of_number k d lt own) ∙ ap (slice_get s.ops) number ∙ op_at n op c f)
+  only_op n op c f k d lt own number =
+      let z = sides_at s n op f.before f.after f.place in
+      let many : n ≡ length z.pre = let e = z.many in omega (arith, e) in
+      let sent =
+      of_ops t (λ j o. slice_get s.ops j ≡ Some o) H 0 s.ops s.carried (λ j o e. ap (slice_get s.ops) (let z : 0 + j ≡ j = omega arith in z) ∙ e) k d lt own in
+      some_same (get_or H k d).op op (sym sent ∙ ap (slice_get s.ops) number ∙ (λ i. slice_get (z.sent i) (many i)) ∙ at_seam z.pre op z.post)
 
   -- the thread's next request after one: what is between the two is of other threads
   pub record Second (n : ℕ) (op : Op) (c : Code) (f : StandsIn t n op c T H) (then_ : Op) (d : Code) : Type 0 where
@@ -354,9 +331,9 @@ module _ {t : ℕ} {T : Tables} {H : History} (s : Site t T H) where
       let there_is : tables_after (f.before ++ request_of t n op ∷ z.mid) T ≡ tables_after z.mid (next t op (tables_after f.before T)).0 =
       tables_after-append f.before (request_of t n op ∷ z.mid) T in
       let low : All (λ r. r.thread ≡ t → r.number < suc n) z.mid =
-      all_after (λ (r : Request). r.thread ≡ t → r.number < suc n) f.before (request_of t n op) z.mid (subst (All (λ (r : Request). r.thread ≡ t → r.number < suc n)) z.before (below s (suc n) then_ g.before g.after g.place)) in
+      all_after (λ (r : Request). r.thread ≡ t → r.number < suc n) f.before (request_of t n op) z.mid (rw z.before at (below s (suc n) then_ g.before g.after g.place)) in
       let high : All (λ r. r.thread ≡ t → n < r.number) z.mid =
-      all_left (λ (r : Request). r.thread ≡ t → n < r.number) z.mid (request_of t (suc n) then_ ∷ g.after) (subst (All (λ (r : Request). r.thread ≡ t → n < r.number)) z.after (above s n op f.before f.after f.place)) in
+      all_left (λ (r : Request). r.thread ≡ t → n < r.number) z.mid (request_of t (suc n) then_ ∷ g.after) (rw z.after at (above s n op f.before f.after f.place)) in
       record {
         mid = z.mid;
         rest = g.after;

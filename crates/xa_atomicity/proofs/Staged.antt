@@ -1,7 +1,7 @@
 -- Each stage of a commit is one that was cut short, whatever else was done between them; and so is a commit whose
 -- coordinator died.
-use Rattle.xa_base.proofs.{◌≡◌, ℕ, zero, suc, Bool, Option, Some, None, List, [], ◌∷◌, arith, length, refl, subst, All, All-nil, All-cons, true, map, inl, inr}
-use Rattle.xa_base.proofs.{get_or, sym, ap, ◌∙◌, All-head, All-tail, rules}
+use Rattle.xa_base.proofs.{◌≡◌, ℕ, zero, suc, Bool, Option, Some, None, List, [], ◌∷◌, arith, length, refl, All, All-nil, All-cons, true, map, inl, inr, get_or}
+use Rattle.xa_base.proofs.{sym, ap, ◌∙◌, All-head, All-tail, rules}
 use Rattle.xa_words.specs.{TranName, Death, Op, Code, Prepare}
 use Rattle.xa_desk.specs.{LedgerView, DeskView, ledger}
 use Rattle.xa_driver.specs.{Done, Prepared, Branch, Ending, IsBegun, collected, in_flight, unasked, Dies, HaveAsked, HaveTold, PutsLedger, Tells, VotesAndHears}
@@ -36,7 +36,7 @@ hears_told : (commit : Bool) (k : ℕ) (b : Branch) (v : Code) (a a' : LedgerVie
 hears_told commit k b v a a' h = record {
   prepared = h.prepares.answered;
   start = h.prepared;
-  between = subst (λ (x : LedgerView). DidOther b.xid x h.prepared) h.prepares.trace (did_nothing b.xid h.prepared);
+  between = rw (← h.prepares.trace) (did_nothing b.xid h.prepared);
   tells = tells_begun k (second_op commit b.xid v) h.prepared a' h.tells;
 }
 
@@ -47,10 +47,10 @@ obeys_ended commit b v s e a a' o =
     record {
       prepared = o.prepares.answered;
       start = o.prepared;
-      between = subst (λ (x : LedgerView). DidOther b.xid x o.prepared) o.prepares.trace (did_nothing b.xid o.prepared);
+      between = rw (← o.prepares.trace) (did_nothing b.xid o.prepared);
       seconded = second.answered;
       told = a';
-      after = subst (λ (x : LedgerView). DidOther b.xid x a') second.trace (did_nothing b.xid a');
+      after = rw (← second.trace) (did_nothing b.xid a');
       forgets = unasked refl;
     }
 
@@ -76,7 +76,7 @@ module _ (old new : List LedgerView) where
     record {
       prepared = h.0.answered;
       start = ledger new b.m;
-      between = subst (λ (x : LedgerView). DidOther b.xid x (ledger new b.m)) h.0.trace (did_nothing b.xid (ledger new b.m));
+      between = rw (← h.0.trace) (did_nothing b.xid (ledger new b.m));
       tells = unasked refl;
     },
     all_voted commit bs vs (omega (arith, long)) h.1,
@@ -98,22 +98,17 @@ came_so_far death.Decided tran bs old new log later known d =
     (all_voted old new (decision_of known.votes.items known.logged) bs known.votes.items d.far.counted d.far.asked)
 came_so_far (death.Telling k) tran bs old new log later known d =
     telling known.votes.items known.logged d.far.decided.logs d.far.endings
-    (subst (λ (c : Bool). EachVote (λ b v. IsTold c b v (ledger old b.m) (ledger new b.m)) bs known.votes.items) d.far.decided.decision
-    (died_told old new known.commit k bs known.votes.items d.far.told))
+    (rw d.far.decided.decision at (died_told old new known.commit k bs known.votes.items d.far.told))
 came_so_far death.Told tran bs old new log later known d =
     forgetting known.votes.items known.logged d.far.seconds d.far.decided.logs
-    (subst (λ (c : Bool). EachBranch (Ended c old new) bs known.votes.items d.far.seconds known.endings.items) d.far.decided.decision
-    (branch_map (λ b. Unit {0}) (λ b v s e. VotesAndObeys AsksLedger known.commit b v s e (ledger old b.m) (ledger new b.m)) (Ended known.commit old new)
-    (λ b v s e _ o. (obeys_ended known.commit b v s e (ledger old b.m) (ledger new b.m) o, o.ends)) bs known.votes.items d.far.seconds known.endings.items
-    (λ k d lt. tt) d.far.each))
+    (rw d.far.decided.decision at (branch_map (λ b. Unit {0}) (λ b v s e. VotesAndObeys AsksLedger known.commit b v s e (ledger old b.m) (ledger new b.m)) (Ended known.commit old new) (λ b v s e _ o. (obeys_ended known.commit b v s e (ledger old b.m) (ledger new b.m) o, o.ends)) bs known.votes.items d.far.seconds known.endings.items (λ k d lt. tt) d.far.each))
 
 pub died_is_cut : (at : Death) (tran : TranName) (bs : List Branch) (desk : DeskView) (new : List LedgerView) (log later : LogState) (known : Done)
     → MayCommit desk log bs → IsTranOf bs tran → Dies AsksLedger PutsLedger at tran bs (ledger desk.ledgers) (ledger new) log later known
     → length new ≡ length desk.ledgers → IsCut bs desk new log later known.endings.items
 died_is_cut at tran bs desk new log later known may of_tran dies managers = record {
   may = may;
-  far = subst (λ (t : TranName). CameSoFar t bs desk.ledgers new log later known.endings.items) (one_tran bs tran may.tran may.some of_tran may.one)
-      (came_so_far at tran bs desk.ledgers new log later known dies);
+  far = rw (one_tran bs tran may.tran may.some of_tran may.one) at (came_so_far at tran bs desk.ledgers new log later known dies);
   managers = managers;
 }
 
@@ -155,7 +150,7 @@ module _ (commit : Bool) (old mid tell now : List LedgerView) where
         record {
           prepared = x.answered;
           start = ledger tell b.m;
-          between = subst (λ (a : LedgerView). DidOther b.xid a (ledger tell b.m)) x.trace (All-head (Other mid tell) b bs f);
+          between = rw x.trace at (All-head (Other mid tell) b bs f);
           tells = begun_at j (second_op commit b.xid (code_of k)) b.m tell now (second_is commit b k j s.0 q.0) (q.0.manager ∙ s.0.manager) (All-head (Begun tell now) j js g);
         },
         all_told bs ks js s.1 q.1 e.1 (All-tail (Other mid tell) b bs f) (All-tail (Begun tell now) j js g),
@@ -175,10 +170,10 @@ module _ (commit : Bool) (old mid tell late start now : List LedgerView) where
           record {
             prepared = x.answered;
             start = ledger tell b.m;
-            between = subst (λ (a : LedgerView). DidOther b.xid a (ledger tell b.m)) x.trace (All-head (Other mid tell) b bs f);
+            between = rw x.trace at (All-head (Other mid tell) b bs f);
             seconded = y.answered;
             told = ledger start b.m;
-            after = subst (λ (a : LedgerView). DidOther b.xid a (ledger start b.m)) y.trace (All-head (Other late start) b bs h);
+            after = rw y.trace at (All-head (Other late start) b bs h);
             forgets = begun_at l (third_op b.xid j.code) b.m start now last (u.0.manager ∙ q.0.manager ∙ s.0.manager) (All-head (Begun start now) l ls w);
           },
           ap (λ v. ending_of commit v j.code) q.0.vote,
@@ -226,7 +221,7 @@ module _ (bs : List Branch) (desk : DeskView) (mid tell : List LedgerView) (log 
   telling_cut now js same far = record {
     may = may;
     far = telling votes d.known.logged logs_are refl
-        (subst (λ c. EachVote (λ b v. IsTold c b v (ledger desk.ledgers b.m) (ledger now b.m)) bs votes) decision_is (all_told commit desk.ledgers mid tell now bs asks js first.same same first.asked.each between.each far.each));
+        (rw decision_is at (all_told commit desk.ledgers mid tell now bs asks js first.same same first.asked.each between.each far.each));
     managers = far.managers ∙ between.managers ∙ first.asked.managers;
   }
 
@@ -236,9 +231,7 @@ module _ (bs : List Branch) (desk : DeskView) (mid tell : List LedgerView) (log 
     forgetting_cut now ls same far = record {
       may = may;
       far = forgetting votes d.known.logged (map second_code t.round.asks.items) logs_are
-          (subst (λ c. EachBranch (Ended c desk.ledgers now) bs votes (map second_code t.round.asks.items) t.known.endings.items) decision_is
-          (subst (λ (es : List Ending). EachBranch (Ended commit desk.ledgers now) bs votes (map second_code t.round.asks.items) es) (sym third.endings)
-          (all_ended commit desk.ledgers mid tell late start now bs asks t.round.asks.items ls first.same (seconds_are t.round.asks.items second third.same) same first.asked.each between.each third.asked.each after.each far.each)));
+          (rw decision_is at (rw (← third.endings) at (all_ended commit desk.ledgers mid tell late start now bs asks t.round.asks.items ls first.same (seconds_are t.round.asks.items second third.same) same first.asked.each between.each third.asked.each after.each far.each)));
       managers = far.managers ∙ after.managers ∙ third.asked.managers ∙ between.managers ∙ first.asked.managers;
     }
 
@@ -269,7 +262,7 @@ undecided_is_cut bs desk mid new log later votes tran may voted between of_tran 
     let tran_is : tran ≡ p.tran = one_tran bs tran p.tran may.some of_tran first.tran in
     let yes_are : yes_of bs votes ≡ yes_asked asks = ap (yes_of bs) (sym voted.votes_are ∙ first.votes) ∙ sym (yes_is bs asks first.same) in
     elim either [
-      | inl same ↦ subst (λ (l : LogState). IsCut bs desk new log l []) (sym same) (prepared_is_cut bs desk mid new log p may first between)
+      | inl same ↦ rw same (prepared_is_cut bs desk mid new log p may first between)
       | inr added ↦
           decided_is_cut bs desk mid new log later p (logged_stage p) may first between (record {
             round = refl;

@@ -2,8 +2,8 @@
 -- move there, the share that a value has of an addition, by the fates of its branch, and both for a branch of a call.
 use Rattle.xa_base.proofs.{by_if, false_from_ne_true, and_parts, eqb-true, le-leb, ℤ, pos, ◌+ℤ◌, nat_le, if◌then◌else◌, ◌≡◌, ℕ, suc, ◌<◌, ◌≤◌, Bool, true}
 use Rattle.xa_base.proofs.{false, ◌==◌, ◌&&◌, List, [], ◌∷◌, ◌++◌, length, get_or, sym, refl, ap, ◌∙◌, arith, eq-eqb, All, ints, and-false, +ℤ_idl as none_plus}
-use Rattle.xa_base.proofs.{+ℤ_idr as plus_none, append_assoc, Option, Some, None, cons_option, at_true, ◌≢◌, subst, all_left, all_after, All-cons, cases_Bool}
-use Rattle.xa_base.proofs.{by_bool, All-append, lt-leb, leb-true, leb-false, both_ways}
+use Rattle.xa_base.proofs.{+ℤ_idr as plus_none, append_assoc, Option, Some, None, cons_option, at_true, ◌≢◌, all_left, all_after, All-cons, cases_Bool, by_bool}
+use Rattle.xa_base.proofs.{All-append, lt-leb, leb-true, leb-false, both_ways}
 use Rattle.xa_tables.specs.{moved_by, Answer, next, tables_after, is_done, moved, held_by, Tables, History, Association, association_of, Fate, coded}
 use Rattle.xa_tables.specs.{commits_later, ending, ending_by, fate_of, or_later, share, EndsNowhere, names, NamesNowhere, is_forget, commit_fate}
 use Rattle.xa_words.specs.{Op, Commit, Request, Code, XidName, Decides-key_eq, Prepare, Done, RdOnly, RmFail, Rollback, xid_eq}
@@ -164,7 +164,7 @@ commits_none x (r ∷ h) T none =
         → commits_or false (cons_option (fate_of x op c) fs) ≡ false
     one op c fs none rest =
         by_bool (λ _. commits_or false (cons_option (fate_of x op c) fs) ≡ false) (names x op) (λ n. plain op c fs (none n) rest)
-        (λ n. subst (λ (o : Option Fate). commits_or false (cons_option o fs) ≡ false) (sym (unnamed_fate x op c n)) rest)
+        (λ n. rw (unnamed_fate x op c n) rest)
 
 -- what nowhere names it makes nothing of it
 unnamed : (x : XidName) (h : History) (T : Tables) → NamesNowhere x h → fates x h T ≡ []
@@ -223,7 +223,7 @@ module _ {t : ℕ} {T : Tables} {H : History} (site : Site t T H) (x : XidName) 
           All-cons (λ (r : Request). names x r.op ≡ true → is_commit r.op ≡ false) (request_of t n (Prepare x)) add.after (λ _. refl) (λ j r lt named.
           let own = only (add.before ++ add.adding ∷ add.between) add.after (request_of t n (Prepare x)) place refl refl j r lt named in
           all_after Plain (add.before ++ add.adding ∷ add.between) (request_of t n (Prepare x)) add.after
-          (subst (All Plain) place none) j r lt own.thread own.from own.below) in
+          (rw place at none) j r lt own.thread own.from own.below) in
           share_is x k d t n T H none_later add _ refl ∙ ap (λ q. if q then d else pos 0)
           (commits_none x (request_of t n (Prepare x) ∷ add.after) (tables_after (add.before ++ add.adding ∷ add.between) T) no_commit ∙ sym not);
       adders = adders;
@@ -334,8 +334,7 @@ branch_counts {t} {T} {H} site x n last commit vote ending course only = by_cour
         silent site x n vote last only (one_own site x n last vote (λ op. is_commit op ≡ false) refl z) ReadOnly refl
         (λ k d add. absurd (never_reads site x n vote f k d add code))
         (λ _ accounts.
-        subst (λ (h : History). held_by accounts x (tables_after h T) ≡ pos 0) (sym (taken site x n vote f))
-        (site.law.reads accounts t x (tables_after f.before T) (sym f.code ∙ code)))
+        rw (taken site x n vote f) (site.law.reads accounts t x (tables_after f.before T) (sym f.code ∙ code)))
     by_course _ (Breaks k z) = one RolledBack refl refl z
     by_course _ (Stays c y z) = one (Left c) refl refl z
     by_course _ (Agrees c y z) = agreed commit c y z

@@ -1,7 +1,7 @@
 -- The members of a run, and a day whose transfers end whole, which conserves what all accounts are worth together.
-use Rattle.xa_base.proofs.{cases_lt, inl, inr, ◌≤◌, ◌≡◌, ◌≢◌, ℕ, ◌+◌, ◌-◌, ◌<◌, ◌⊎◌, ⊎_elim, List, [], length, map, slice_get, sym, ap, ◌∙◌, subst, arith}
-use Rattle.xa_base.proofs.{Option, Some, None, length-map, slice_get_within, got_map, got, all_at, was_mapped, find_numbered, find_none, ℤ, pos, ◌+ℤ◌, All, ◌^◌}
-use Rattle.xa_base.proofs.{Bool, false, list_any, ints, all_right, total_nothing}
+use Rattle.xa_base.proofs.{refl, along, each_number, inl, inr, ◌≤◌, ◌≡◌, ◌≢◌, ℕ, ◌+◌, ◌-◌, ◌<◌, ◌⊎◌, List, [], length, map, slice_get, sym, ap, ◌∙◌, subst}
+use Rattle.xa_base.proofs.{arith, Option, Some, None, length-map, slice_get_within, got_map, got, all_at, was_mapped, find_numbered, find_none, ℤ, pos, ◌+ℤ◌}
+use Rattle.xa_base.proofs.{All, ◌^◌, Bool, false, list_any, ints, all_right, total_nothing}
 use Rattle.xa_base.specs.{Chain, total}
 use Rattle.xa_base.specs.Lists.Chain.{none, more}
 use Rattle.xa_words.specs.{Op, TranName, XidName}
@@ -33,12 +33,12 @@ Never op = ⊥
 
 number_sent : (k : ℕ) (old new : Telling) → EndsNumber k old new → HaveSent Never old.0.ledgers new.0.ledgers
 number_sent k old new (kept_there c takes told) = search (arith, one_collected, takes.collects, takes.collects.looks.rest, old.0.ledgers, takes.operation)
-number_sent k old new (free empty e) = have_none Never old.0.ledgers new.0.ledgers (ap (λ (q : Telling). q.0.ledgers) e)
+number_sent k old new (free empty e) = have_none old.0.ledgers new.0.ledgers (ap (λ (q : Telling). q.0.ledgers) e)
 
 numbers_sent : (old : Telling) (ks : List ℕ) (new : Telling) → Chain EndsNumber old ks new → HaveSent Never old.0.ledgers new.0.ledgers
-numbers_sent old ks new (none xs last e f) = have_none Never old.0.ledgers new.0.ledgers (ap (λ (q : Telling). q.0.ledgers) f)
-numbers_sent old ks new (more xs x now last before is) =
-    have_on Never old.0.ledgers now.0.ledgers new.0.ledgers (numbers_sent old xs now before) (number_sent x now new is)
+numbers_sent old ks new runs =
+    along (λ (q : Telling). HaveSent Never old.0.ledgers q.0.ledgers) old ks new runs
+    (λ k now next is sent. have_on old.0.ledgers now.0.ledgers next.0.ledgers sent (number_sent k now next is)) (have_none old.0.ledgers old.0.ledgers refl)
 
 -- ---- a desk that was opened
 
@@ -49,18 +49,6 @@ pub goes_thread : (old new : DeskView) → GoesOn old new → new.thread ≡ old
 goes_thread old new goes = ap (λ (q : DeskSeat). q.thread) goes.seat
 
 -- ---- all threads
-
--- what holds of every thread: of the first so many, and of the others
-pub of_threads : (P : ℕ → Type 0) (count : ℕ) → ((u : ℕ) → (u < 1) ⊎ (count < u) → P u) → ((k : ℕ) → k < count → P (k + 1)) → (u : ℕ) → P u
-of_threads P count others each u =
-    ⊎_elim (λ (none : u < 1). others u (inl none))
-    (λ (some : 1 ≤ u).
-    ⊎_elim (λ (past : count < u). others u (inr past))
-    (λ (within : u ≤ count).
-    let number : u - 1 + 1 ≡ u = omega (arith, some) in
-    subst P number (each (u - 1) (omega (arith, some, within))))
-    (cases_lt count u))
-    (cases_lt u 1)
 
 -- ---- the members
 
@@ -176,7 +164,7 @@ module _ {L : Type 0} (state : L → LogState) (knows : L → Type 0) (loses : T
       )
 
   told : (u : ℕ) → IsTold s u
-  told = of_threads (IsTold s) p.threads (λ u outside. inr (nobody_else (Works state knows loses) (planned p) tellers attended s r u outside)) told_at
+  told = each_number (IsTold s) p.threads (λ u outside. inr (nobody_else (Works state knows loses) (planned p) tellers attended s r u outside)) told_at
 
   only_at : (adds : (t n : ℕ) (x : XidName) (k : List ℕ) (d : ℤ) (h : History) (T : Tables) → IsOpening T → AddsAsItWorks t n x k d T h)
       (undoubted : (p : Plan) (s : Settling) (t : ℕ) (old : List LedgerView) (bs : List Branch) (d : Done) → list_any is_in_doubt d.endings.items ≡ false → held_in_doubt p s t old bs d ≡ pos 0)

@@ -1,7 +1,7 @@
 -- The work of a transfer's two legs: each has one addition, and a leg that worked has added its delta by the place of its branch's Prepare.
 use Rattle.xa_base.proofs.{◌≡◌, ◌≢◌, ℕ, ◌+◌, List, [], ◌∷◌, ◌++◌, length, arith, eq-eqb, range_with_len, ne_eqb, all_at, ℤ, pos, if◌then◌else◌, suc, true}
-use Rattle.xa_base.proofs.{false, ◌&&◌, ◌==◌, length-append, append_assoc, get_or, slice_get, sym, refl, ap, ◌∙◌, subst, Some, ◌≤◌, All, All-head, ◌<◌}
-use Rattle.xa_base.proofs.{eqb-true, and_parts, false_from_ne_true, append-nil, All-tail, filter-append, some_same, all_left, all_right}
+use Rattle.xa_base.proofs.{false, ◌&&◌, ◌==◌, length-append, append_assoc, get_or, slice_get, sym, refl, ap, ◌∙◌, Some, ◌≤◌, All, All-head, ◌<◌, eqb-true}
+use Rattle.xa_base.proofs.{and_parts, false_from_ne_true, append-nil, All-tail, filter-append, some_same, all_left, all_right}
 use Rattle.xa_words.specs.{Done as Ok_, Op, Start, Add, End, Fresh, Success, XidName, Done, Request, Code}
 use Rattle.xa_desk.specs.{LedgerView, ledger, numbered}
 use Rattle.xa_work.specs.{Change, HasWorked, HaveWorked, changes_at}
@@ -72,12 +72,12 @@ pub taken : (t : ℕ) (h : History) (n : ℕ) (ops more : List Op) (last : ℕ) 
     → Taken t n ops last h
 taken t h n ops [] last is e =
     let all : of_thread t h ≡ numbered t n ops = e ∙ ap (numbered t n) (append-nil ops) in
-    let whole = all_before t last h (subst (λ k. All (λ r. r.thread ≡ t → r.number < k) h) (sym is) (all_earlier t h n ops all)) in
+    let whole = all_before t last h (rw is (all_earlier t h n ops all)) in
     record { rest = []; place = sym (append-nil (taken_before t last h) ∙ whole); own = ap (of_thread t) whole ∙ all }
 taken t h n ops (op ∷ more) last is e =
     let p = part t h (numbered t n ops) (numbered t (suc (n + length ops)) more) (request_of t (n + length ops) op) (e ∙ numbered_both t n ops (op ∷ more)) in
     let before = taken_is t last p.before p.after (request_of t (n + length ops) op) refl (sym is)
-    (subst (λ k. All (λ r. r.thread ≡ t → r.number < k) p.before) (sym is) (all_earlier t p.before n ops p.earlier)) in
+    (rw is (all_earlier t p.before n ops p.earlier)) in
     let same : taken_before t last h ≡ p.before = ap (taken_before t last) p.place ∙ before in
     record {
       rest = request_of t (n + length ops) op ∷ p.after;
@@ -103,10 +103,7 @@ work_answered s settled t m positive leg account a0 a1 its since =
     let rest : List (ℕ × Code) = (n + 2, Done) ∷ since.0 in
     let all : All P ((n, Done) ∷ (n + 1, Done) ∷ rest) =
     all_right P a0.collected ((n, Done) ∷ (n + 1, Done) ∷ rest)
-    (subst (All P)
-    (by_ledger (ledgers_of s t) m (λ (a : LedgerView). a.collected) positive refl ∙ since.1 ∙ ap (λ l. l ++ since.0) its.collected
-    ∙ append_assoc a0.collected ((n, Done) ∷ (n + 1, Done) ∷ (n + 2, Done) ∷ []) since.0)
-    (settled.agree t m).coded) in
+    (rw (by_ledger (ledgers_of s t) m (λ (a : LedgerView). a.collected) positive refl ∙ since.1 ∙ ap (λ l. l ++ since.0) its.collected ∙ append_assoc a0.collected ((n, Done) ∷ (n + 1, Done) ∷ (n + 2, Done) ∷ []) since.0) at (settled.agree t m).coded) in
     (All-head P (n, Done) ((n + 1, Done) ∷ rest) all, All-head P (n + 1, Done) rest (All-tail P (n, Done) ((n + 1, Done) ∷ rest) all))
 
 -- ---- a leg's work
@@ -160,16 +157,16 @@ module _ (s : Settling) (settled : IsSettled s) (t m b : ℕ) (T : Tables) (with
   -- ---- who names the branch
 
   within : All R P
-  within = all_left R P all_taken.rest (subst (All R) all_taken.place named)
+  within = all_left R P all_taken.rest (rw all_taken.place at named)
 
   around : All R (first.before ++ r1 ∷ first.after)
-  around = subst (All R) first.place within
+  around = rw first.place at within
 
   around2 : All R (second.before ++ r2 ∷ second.after)
-  around2 = subst (All R) second.place (All-tail R r1 first.after (all_right R first.before (r1 ∷ first.after) around))
+  around2 = rw second.place at (All-tail R r1 first.after (all_right R first.before (r1 ∷ first.after) around))
 
   around3 : All R (third.before ++ r3 ∷ third.after)
-  around3 = subst (All R) third.place (All-tail R r2 second.after (all_right R second.before (r2 ∷ second.after) around2))
+  around3 = rw third.place at (All-tail R r2 second.after (all_right R second.before (r2 ∷ second.after) around2))
 
   unless_named : (q : Request) → (names x q.op ≡ true → ⊥) → names x q.op ≡ false
   unless_named q never = elim (names x q.op) as (λ v. names x q.op ≡ v → v ≡ false) [ true ↦ λ e. absurd (never e) | false ↦ λ e. refl ] refl

@@ -79,25 +79,21 @@ for_names t n one two legs op for_it = only_names t n one two legs op for_it.nam
 -- the work of its legs
 pub work_names : (t n : ℕ) (one two : Leg) (k : List ℕ) (old new : List LedgerView) → LegsOf t n one two
     → HaveWorked (changes_of one two k) (branches_of one two) old new → HaveSent (Names t (Is n)) old new
-work_names t n one two k old new legs work =
-    have_as (IsFor (branches_of one two)) (Names t (Is n)) (for_names t n one two legs) old new
-    (worked_for (changes_of one two k) (branches_of one two) old new work)
+work_names t n one two k old new legs work = have_as (for_names t n one two legs) old new (worked_for (changes_of one two k) (branches_of one two) old new work)
 
 -- what comes of its commit
 pub comes_names : (t n : ℕ) (one two : Leg) (death : Option Death) (o : WorkOutcome) (worked : DeskView) (new : List LedgerView) (log later : LogState)
     → LegsOf t n one two → ComesOfCommit (branches_of one two) death o worked new log later → HaveSent (Names t (Is n)) worked.ledgers new
 comes_names t n one two death o worked new log later legs comes =
-    have_as (NamesOnly (branches_of one two)) (Names t (Is n)) (only_names t n one two legs) worked.ledgers new
-    (comes_named (branches_of one two) death o worked new log later comes)
+    have_as (only_names t n one two legs) worked.ledgers new (comes_named (branches_of one two) death o worked new log later comes)
 
 pub transfer_names : {R : LogState → Type 0} (t n : ℕ) (tr : Transfer) (habits : Habits) (o : WorkOutcome) (old new : DeskView) (log later : LogState)
     → Makes t n tr habits o old new log later R → HaveSent (Names t (Is n)) old.ledgers new.ledgers
 transfer_names t n tr habits o old new log later (with_legs one two left legs (commits worked begins known work comes) kept read) =
     let of_it = legs_are t n tr one two legs in
-    have_on (Names t (Is n)) old.ledgers worked.ledgers new.ledgers (work_names t n one two tr.account old.ledgers worked.ledgers of_it work)
-    (comes_names t n one two (death_in habits n) o worked new.ledgers log left of_it comes)
+    have_on old.ledgers worked.ledgers new.ledgers (work_names t n one two tr.account old.ledgers worked.ledgers of_it work) (comes_names t n one two (death_in habits n) o worked new.ledgers log left of_it comes)
 transfer_names t n tr habits o old new log later (with_legs one two left legs (refused same why sent) kept read) =
-    have_as (IsFor (branches_of one two)) (Names t (Is n)) (for_names t n one two (legs_are t n tr one two legs)) old.ledgers new.ledgers sent
+    have_as (for_names t n one two (legs_are t n tr one two legs)) old.ledgers new.ledgers sent
 transfer_names t n tr habits o old new log later (without_legs is none same unlogged) = search (arith, have_none, old.ledgers, new.ledgers)
 
 -- ---- a store that is shut
@@ -106,7 +102,7 @@ abbrev pub IsShut : Op → Type 0
 IsShut op = op ≡ Shut
 
 pub shut_sent : (store : Option ℕ) (old new : DeskView) → MayShut store old new → HaveSent IsShut old.ledgers new.ledgers
-shut_sent None old new same = have_none IsShut old.ledgers new.ledgers (ap (λ (d : DeskView). d.ledgers) same)
+shut_sent None old new same = have_none old.ledgers new.ledgers (ap (λ (d : DeskView). d.ledgers) same)
 shut_sent (Some m) old new shuts = call_sent IsShut m Shut shuts.0 old new refl shuts.1
 
 -- a request that names no branch
@@ -122,9 +118,7 @@ opens_names t P op is = unnaming t P op (λ x. ap (names x) is)
 pub next_names : {R : LogState → Type 0} (t n : ℕ) (tr : Transfer) (habits : Habits) (o : WorkOutcome) (old new : DeskView) (log later : LogState)
     → MakesNext t n tr habits o old new log later R → HaveSent (Names t (Is n)) old.ledgers new.ledgers
 next_names t n tr habits o old new log later next =
-    have_on (Names t (Is n)) old.ledgers next.shut.ledgers new.ledgers
-    (have_as IsShut (Names t (Is n)) (shut_names t (Is n)) old.ledgers next.shut.ledgers (shut_sent (shut_before habits n) old next.shut next.shuts))
-    (transfer_names t n tr habits o next.shut new log later next.makes)
+    have_on old.ledgers next.shut.ledgers new.ledgers (have_as (shut_names t (Is n)) old.ledgers next.shut.ledgers (shut_sent (shut_before habits n) old next.shut next.shuts)) (transfer_names t n tr habits o next.shut new log later next.makes)
 
 -- from this number on
 abbrev pub IsFrom : ℕ → ℕ → Type 0
@@ -140,9 +134,7 @@ pub transfers_name : (R : LogState → Type 0) (t : ℕ) (habits : Habits) (n : 
     → MakesEach t habits n trs os old new log later R → HaveSent (Names t (IsFrom n)) old.ledgers new.ledgers
 transfers_name R t habits n trs [] old new log later h = search (arith, have_none, none_made, old.ledgers, new.ledgers)
 transfers_name R t habits n (tr ∷ trs) (o ∷ os) old new log later (mid, now, makes, rest) =
-    have_on (Names t (IsFrom n)) old.ledgers mid.ledgers new.ledgers
-    (have_as (Names t (Is n)) (Names t (IsFrom n)) (names_as t (Is n) (IsFrom n) (λ k e. omega (arith, e))) old.ledgers mid.ledgers (next_names t n tr habits o old mid log now makes))
-    (have_as (Names t (IsFrom (n + 1))) (Names t (IsFrom n)) (names_as t (IsFrom (n + 1)) (IsFrom n) (λ k le. omega (arith, le))) mid.ledgers new.ledgers (transfers_name R t habits (n + 1) trs os mid new now later rest))
+    have_on old.ledgers mid.ledgers new.ledgers (have_as (names_as t (Is n) (IsFrom n) (λ k e. omega (arith, e))) old.ledgers mid.ledgers (next_names t n tr habits o old mid log now makes)) (have_as (names_as t (IsFrom (n + 1)) (IsFrom n) (λ k le. omega (arith, le))) mid.ledgers new.ledgers (transfers_name R t habits (n + 1) trs os mid new now later rest))
 transfers_name R t habits n [] (o ∷ os) old new log later h = absurd h
 
 pub makes_none : (R : LogState → Type 0) (t : ℕ) (habits : Habits) (n : ℕ) (trs : List Transfer) (d : DeskView) (log : LogState)
@@ -157,7 +149,7 @@ pub makes_more : (R : LogState → Type 0) (t : ℕ) (habits : Habits) (n : ℕ)
 makes_more R t habits n [] [] tr unmade o old mid new log now later many (same, unlogged) makes =
     let here : MakesNext t n tr habits o mid new now later R =
     subst (λ k. MakesNext t k tr habits o mid new now later R) (let e : n + 0 ≡ n = omega arith in e) makes in
-    (new, later, subst (λ (d : DeskView). MakesNext t n tr habits o d new log later R) same (subst (λ (l : LogState). MakesNext t n tr habits o mid new l later R) unlogged here), makes_none R t habits (n + 1) unmade new later)
+    (new, later, rw same at (rw unlogged at here), makes_none R t habits (n + 1) unmade new later)
 makes_more R t habits n (r ∷ trs) (p ∷ os) tr unmade o old mid new log now later many (next, state, first, rest) makes = (
   next,
   state,
@@ -198,10 +190,7 @@ pub earlier_on : (t n k : ℕ) (Q : Op → Type 0) (old new : List LedgerView) �
     → HaveSent Q old new → Earlier t k new
 earlier_on t n k Q old new upto also before h m up =
     let z = h m up in
-    subst (All (Names t (IsBelow k))) (sym z.sent)
-    (All-append (Names t (IsBelow k)) (ledger old m).sent z.more
-    (All-weaker (Names t (IsBelow n)) (Names t (IsBelow k)) (names_as t (IsBelow n) (IsBelow k) (λ i lt. omega (arith, lt, upto))) (ledger old m).sent (before m up))
-    (All-weaker Q (Names t (IsBelow k)) also z.more z.each))
+    rw z.sent (All-append (Names t (IsBelow k)) (ledger old m).sent z.more (All-weaker (Names t (IsBelow n)) (Names t (IsBelow k)) (names_as t (IsBelow n) (IsBelow k) (λ i lt. omega (arith, lt, upto))) (ledger old m).sent (before m up)) (All-weaker Q (Names t (IsBelow k)) also z.more z.each))
 
 -- the thread names only branches of its transfers, or it is none, and sent nothing
 abbrev pub IsTold : Settling → ℕ → Type 0
@@ -222,13 +211,13 @@ module _ (s : Settling) (settled : IsSettled s) (told : (u : ℕ) → IsTold s u
       ⊎_elim
       (λ (is : (u < 2 ^ 32) × ((m : ℕ) → 1 ≤ m → All (Names u IsAny) (sent s u m))).
       All-weaker (Names u IsAny) Unnamed (λ op h named. let z = h.each x named in other (one_transfer t n u z.0 x low is.0 of_it z.1.1).0) (sent s u m) (is.1 m positive))
-      (λ (none : (m : ℕ) → sent s u m ≡ []). subst (All Unnamed) (sym (none m)) (All-nil Unnamed))
+      (λ (none : (m : ℕ) → sent s u m ≡ []). rw (none m) (All-nil Unnamed))
       (told u)
 
   -- nor does what names transfers of other numbers
   of_another : (P : ℕ → Type 0) → (P n → ⊥) → (ops : List Op) → All (Names t P) ops → All Unnamed ops
   of_another P never ops =
-      All-weaker (Names t P) Unnamed (λ op h named. let z = h.each x named in never (subst P (one_transfer t n t z.0 x low low of_it z.1.1).1 z.1.0)) ops
+      All-weaker (Names t P) Unnamed (λ op h named. let z = h.each x named in never (rw (one_transfer t n t z.0 x low low of_it z.1.1).1 at z.1.0)) ops
 
   module _ (pre mid post : List Op) (split : sent s t m ≡ pre ++ (mid ++ post)) (earlier : All (Names t (IsBelow n)) pre)
       (later : All (Names t (IsFrom (n + 1))) post) where
@@ -260,7 +249,7 @@ pub only_these : (s : Settling) (settled : IsSettled s) (t m a first last : ℕ)
     → OnlyTheseName x t first last (history s m)
 only_these s settled t m a first last x named before after r place own number =
     let all : All (λ q. names x q.op ≡ true → IsBetween t a last q) (before ++ r ∷ after) =
-    subst (All (λ q. names x q.op ≡ true → IsBetween t a last q)) place named in
+    rw place at named in
     let rest =
     All-tail (λ q. names x q.op ≡ true → IsBetween t a last q) r after (all_right (λ q. names x q.op ≡ true → IsBetween t a last q) before (r ∷ after) all) in
     λ k d lt is.

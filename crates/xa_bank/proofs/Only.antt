@@ -1,7 +1,7 @@
 -- A teller's thread makes only transfers, and a commit whose coordinator died once all branches were told was made.
 use Rattle.xa_base.proofs.{arith, ◌≡◌, Bool, true, false, ◌||◌, Option, Some, None, List, [], ◌∷◌, list_any, or_parts, at_true, at_false, rules, ℤ, pos, ◌+ℤ◌}
-use Rattle.xa_base.proofs.{ℕ, suc, ◌+◌, ◌^◌, ◌<◌, ◌≤◌, ◌++◌, length, length-append, append_assoc, sym, refl, ap, ◌∙◌, subst, All, ints, cases_lt, All-nil}
-use Rattle.xa_base.proofs.{All-cons, All-head, All-tail, All-weaker}
+use Rattle.xa_base.proofs.{ℕ, suc, ◌+◌, ◌^◌, ◌<◌, ◌≤◌, ◌++◌, length, length-append, append_assoc, refl, ap, ◌∙◌, subst, All, ints, cases_lt, All-nil, All-cons}
+use Rattle.xa_base.proofs.{All-head, All-tail, All-weaker}
 use Rattle.xa_words.specs.{XidName, Code, Death, Op}
 use Rattle.xa_tables.specs.{is_rolled_back, Tables, opening, IsOpening, AddsAsItWorks, History}
 use Rattle.xa_desk.specs.{LedgerView, DeskView, ledger, HaveGrown}
@@ -101,8 +101,7 @@ add_nothing a b e = omega (arith, ints, e)
 -- the work of two legs has none
 quiet_work : (account : List ℕ) (one two : Leg) (old new : List LedgerView) → HaveWorked (changes_of one two account) (branches_of one two) old new
     → HaveSent IsNone old new
-quiet_work account one two old new work =
-    have_as (IsFor (branches_of one two)) IsNone (λ op f. f.uncommitting) old new (worked_for (changes_of one two account) (branches_of one two) old new work)
+quiet_work account one two old new work = have_as (λ op f. f.uncommitting) old new (worked_for (changes_of one two account) (branches_of one two) old new work)
 
 -- ---- one thread
 
@@ -130,9 +129,7 @@ module _ (adds : (t n : ℕ) (x : XidName) (k : List ℕ) (d : ℤ) (h : History
 
     from_work : HaveSent (Names t IsAny) desk.ledgers final
     from_work =
-        have_on (Names t IsAny) desk.ledgers new final
-        (have_as (Names t (Is n)) (Names t IsAny) (names_as t (Is n) IsAny (λ k e. tt)) desk.ledgers new made_names)
-        (have_as (Names t (IsFrom (n + 1))) (Names t IsAny) (names_as t (IsFrom (n + 1)) IsAny (λ k e. tt)) new final after)
+        have_on desk.ledgers new final (have_as (names_as t (Is n) IsAny (λ k e. tt)) desk.ledgers new made_names) (have_as (names_as t (IsFrom (n + 1)) IsAny (λ k e. tt)) new final after)
 
     -- one of the legs
     module _ (leg : Leg) (of_it : IsOf t n leg.branch.xid) (positive : 1 ≤ leg.branch.m)
@@ -144,7 +141,7 @@ module _ (adds : (t n : ℕ) (x : XidName) (k : List ℕ) (d : ℤ) (h : History
       pre = (ledger old leg.branch.m).sent
 
       segment : HasSent (Names t (Is n)) (ledger old m) (ledger new m)
-      segment = have_on (Names t (Is n)) old desk.ledgers new worked_names made_names m positive
+      segment = have_on old desk.ledgers new worked_names made_names m positive
 
       rest : HasSent (Names t (IsFrom (n + 1))) (ledger new m) (ledger final m)
       rest = after m positive
@@ -209,7 +206,7 @@ module _ (adds : (t n : ℕ) (x : XidName) (k : List ℕ) (d : ℤ) (h : History
         worked old desk.ledgers (pos 0) only (grown_by IsNone old desk.ledgers worked_quietly) (no_commit old desk.ledgers worked_quietly) in
         let done : OnlyTransfers p s t new (pos 0 +ℤ held_in_doubt p s t desk.ledgers (branches_of one two) d) =
         committed (branches_of one two) desk new log later_log d (pos 0) at_work made both_alone zero_sum in
-        subst (λ v. OnlyTransfers p s t new (pos 0 +ℤ v)) (undoubted p s t desk.ledgers (branches_of one two) d none) done
+        rw (undoubted p s t desk.ledgers (branches_of one two) d none) at done
 
   only_quiet : (old new : List LedgerView) → HaveSent IsNone old new → OnlyTransfers p s t old (pos 0) → OnlyTransfers p s t new (pos 0)
   only_quiet old new h only = worked old new (pos 0) only (grown_by IsNone old new h) (no_commit old new h)
@@ -249,16 +246,16 @@ module _ (adds : (t n : ℕ) (x : XidName) (k : List ℕ) (d : ℤ) (h : History
 
   only_quiet_one : (one two : Leg) (old new : List LedgerView) → HaveSent (IsFor (branches_of one two)) old new → OnlyTransfers p s t old (pos 0)
       → OnlyTransfers p s t new (pos 0)
-  only_quiet_one one two old new h only = only_quiet old new (have_as (IsFor (branches_of one two)) IsNone (λ op f. f.uncommitting) old new h) only
+  only_quiet_one one two old new h only = only_quiet old new (have_as (λ op f. f.uncommitting) old new h) only
 
   only_commit : (n : ℕ) (account : List ℕ) (one two : Leg) (legs : LegsOf t n one two) (dies : Option Death) (o : WorkOutcome) (old : List LedgerView) (desk : DeskView) (new : List LedgerView) (log later : LogState)
       → HaveWorked (changes_of one two account) (branches_of one two) old desk.ledgers
       → ComesOfCommit (branches_of one two) dies o desk new log later → IsUndoubted o → Earlier t n old → Later (n + 1) new
       → OnlyTransfers p s t old (pos 0) → OnlyTransfers p s t new (pos 0)
   only_commit n account one two legs dies o old desk new log later work (in_full d none is made) fine before after only =
-      only_decided n account one two legs old desk new log later d work made before after (subst IsUndoubted is fine) only
+      only_decided n account one two legs old desk new log later d work made before after (rw is at fine) only
   only_commit n account one two legs dies o old desk new log later work (cut_short at known some is died) fine before after only =
-      only_died n account one two legs at old desk new log later known work died (subst IsUndoubted is fine) before after only
+      only_died n account one two legs at old desk new log later known work died (rw is at fine) before after only
   only_commit n account one two legs dies o old desk new log later work (undecided votes decides is may voted wanted) fine before after only =
       only_quiet desk.ledgers new
       (voted_sent IsNone IsAnyBranch (λ b _. refl) desk.ledgers new (branches_of one two) votes.items (λ k b lt. tt) voted)
@@ -283,7 +280,7 @@ module _ (adds : (t n : ℕ) (x : XidName) (k : List ℕ) (d : ℤ) (h : History
       only_one n tr habits o next.shut new log later next.makes fine
       (earlier_on t n n IsShut old.ledgers next.shut.ledgers (omega arith) (shut_names t (IsBelow n)) before shuts)
       after
-      (only_quiet old.ledgers next.shut.ledgers (have_as IsShut IsNone (λ op is. ap is_commit is) old.ledgers next.shut.ledgers shuts) only)
+      (only_quiet old.ledgers next.shut.ledgers (have_as (λ op is. ap is_commit is) old.ledgers next.shut.ledgers shuts) only)
 
   only_each : (R : LogState → Type 0) (habits : Habits) (n : ℕ) (trs : List Transfer) (os : List WorkOutcome) (old new : DeskView) (log later : LogState)
       → MakesEach t habits n trs os old new log later R → All IsUndoubted os → Earlier t n old.ledgers → Later (n + length trs) new.ledgers
@@ -292,8 +289,7 @@ module _ (adds : (t n : ℕ) (x : XidName) (k : List ℕ) (d : ℤ) (h : History
   only_each R habits n trs [] old new log later h fine before after only = search (arith, none_made)
   only_each R habits n (tr ∷ trs) (o ∷ os) old new log later (mid, now, makes, rest) fine before after only =
       let later_on : Later (n + 1) mid.ledgers =
-      have_on (Names t (IsFrom (n + 1))) mid.ledgers new.ledgers final (transfers_name R t habits (n + 1) trs os mid new now later rest)
-      (have_as (Names t (IsFrom (n + suc (length trs)))) (Names t (IsFrom (n + 1))) (names_as t (IsFrom (n + suc (length trs))) (IsFrom (n + 1)) (λ k le. omega (arith, le))) new.ledgers final after) in
+      have_on mid.ledgers new.ledgers final (transfers_name R t habits (n + 1) trs os mid new now later rest) (have_as (names_as t (IsFrom (n + suc (length trs))) (IsFrom (n + 1)) (λ k le. omega (arith, le))) new.ledgers final after) in
       only_each R habits (n + 1) trs os mid new now later rest (All-tail IsUndoubted o os fine) (earlier_on t n (n + 1) (Names t (Is n)) old.ledgers mid.ledgers (omega arith) (names_as t (Is n) (IsBelow (n + 1)) (λ k e. omega (arith, e))) before (next_names t n tr habits o old mid log now makes))
       (subst (λ k. Later k new.ledgers) (let e : n + suc (length trs) ≡ n + 1 + length trs = omega arith in e) after)
       (only_next n tr habits o old mid log now makes (All-head IsUndoubted o os fine) before later_on only)
@@ -310,9 +306,9 @@ module _ (adds : (t n : ℕ) (x : XidName) (k : List ℕ) (d : ℤ) (h : History
       let quiet : HaveSent IsNone begun.ledgers opening_.ledgers = search (arith, have_as, begun.ledgers, opening_.ledgers) in
       let before : Earlier t habits.first opening_.ledgers = λ m positive.
       let z = all.opens m positive in
-      subst (All (Names t (IsBelow habits.first))) (sym (z.sent ∙ ap (λ l. l ++ z.more) (nothing m positive))) (All-weaker IsOpenRm (Names t (IsBelow habits.first)) (opens_names t (IsBelow habits.first)) z.more z.each) in
-      only_quiet last.ledgers final (have_as (λ op. ⊥) IsNone (λ op never. absurd never) last.ledgers final end)
-      (only_each R habits habits.first trs os opening_ last log later makes fine before (have_as (λ op. ⊥) (Names t (IsFrom (habits.first + length trs))) (λ op never. absurd never) last.ledgers final end)
+      rw (z.sent ∙ ap (λ l. l ++ z.more) (nothing m positive)) (All-weaker IsOpenRm (Names t (IsBelow habits.first)) (opens_names t (IsBelow habits.first)) z.more z.each) in
+      only_quiet last.ledgers final (have_as (λ op never. absurd never) last.ledgers final end)
+      (only_each R habits habits.first trs os opening_ last log later makes fine before (have_as (λ op never. absurd never) last.ledgers final end)
       (only_quiet begun.ledgers opening_.ledgers quiet (opened begun.ledgers nothing)))
 
 -- ---- what such a thread names
@@ -324,8 +320,5 @@ all_told R s t trs habits os begun last log later thread nothing all end m posit
     let final : List LedgerView = ledgers_of s t in
     let makes : MakesEach t habits habits.first trs os all.opened last log later R = search (arith, habits.first, all.opened) in
     let z =
-    have_on (Names t IsAny) begun.ledgers last.ledgers final
-    (have_on (Names t IsAny) begun.ledgers all.opened.ledgers last.ledgers (have_as IsOpenRm (Names t IsAny) (opens_names t IsAny) begun.ledgers all.opened.ledgers all.opens)
-    (have_as (Names t (IsFrom habits.first)) (Names t IsAny) (names_as t (IsFrom habits.first) IsAny (λ k e. tt)) all.opened.ledgers last.ledgers (transfers_name R t habits habits.first trs os all.opened last log later makes)))
-    (have_as (λ op. ⊥) (Names t IsAny) (λ op never. absurd never) last.ledgers final end) m positive in
-    subst (All (Names t IsAny)) (sym (by_ledger final m (λ (a : LedgerView). a.sent) positive refl ∙ z.sent ∙ ap (λ l. l ++ z.more) (nothing m positive))) z.each
+    have_on begun.ledgers last.ledgers final (have_on begun.ledgers all.opened.ledgers last.ledgers (have_as (opens_names t IsAny) begun.ledgers all.opened.ledgers all.opens) (have_as (names_as t (IsFrom habits.first) IsAny (λ k e. tt)) all.opened.ledgers last.ledgers (transfers_name R t habits habits.first trs os all.opened last log later makes))) (have_as (λ op never. absurd never) last.ledgers final end) m positive in
+    rw (by_ledger final m (λ (a : LedgerView). a.sent) positive refl ∙ z.sent ∙ ap (λ l. l ++ z.more) (nothing m positive)) z.each

@@ -4,14 +4,14 @@
 -- first branch isn't read only.
 use Rattle.std.specs.FinMap as map
 use Rattle.xa_words.specs.declared.death.Death.TheVariants as death
-use Rattle.xa_base.proofs.{◌≡◌, ℕ, ◌-◌, ◌<◌, ◌≤◌, ⊎_elim, List, [], ◌∷◌, length, get_or, take, sym, refl, subst, arith, Option, All, cases_lt, All-head}
-use Rattle.xa_base.proofs.{All-tail, rules, is_some, ◌≢◌, zero, Bool, true, false, cond, None, Some, ◌++◌, append_assoc, ap, ◌∙◌, Contains, eq_by_cmp, is_eq}
-use Rattle.xa_base.proofs.{tied_itself, get-insert, or-true, and_parts, Contains-append_right, is_equal, get_or-take}
+use Rattle.xa_base.proofs.{inl, inr, ◌≡◌, ℕ, ◌-◌, ◌≤◌, List, [], ◌∷◌, length, get_or, take, sym, refl, arith, Option, All, cases_lt, All-head, All-tail, rules}
+use Rattle.xa_base.proofs.{is_some, ◌≢◌, zero, Bool, true, false, cond, None, Some, ◌++◌, append_assoc, ap, ◌∙◌, Contains, eq_by_cmp, is_eq, tied_itself}
+use Rattle.xa_base.proofs.{get-insert, or-true, and_parts, Contains-append_right, is_equal, get_or-take}
 use Rattle.std.proofs.lemmas.List.{length-take}
 use Rattle.std.proofs.lemmas.List.Sums.{sum_by-take-le}
 use Rattle.xa_base.specs.{MOST_MANAGERS, IsUpTo}
 use Rattle.xa_words.specs.{Code, TranName, XidName, tran_of, RdOnly, Death, Op, Prepare}
-use Rattle.xa_desk.specs.{LedgerView, DeskView, ledger, no_ledger, HasGrown, HaveGrown, learnt_shut, with_collected, with_sent}
+use Rattle.xa_desk.specs.{LedgerView, DeskView, ledger, no_ledger, HaveGrown, learnt_shut, with_collected, with_sent}
 use Rattle.xa_desk.proofs.Ledgers.{past_end}
 use Rattle.xa_driver.specs.{Branch, Ending, ending_of, EachBranch, HaveRoom, MayCommit, decision_of, Done as Made, AtBranch, CameTo, HaveAsked, HaveTold}
 use Rattle.xa_driver.specs.{IsDecidedBy, PutsLedger, decides_commit, has_yes, yes_of, AsksLedger, IsTranOf, Logs}
@@ -48,13 +48,12 @@ few_left at = let e = length-take MOST_MANAGERS at in omega (arith, e)
 -- what was sent and collected grows all the same
 pub fewer_grown : (at final : List LedgerView) → HaveGrown at final → HaveGrown (fewer at) final
 fewer_grown at final grown = record {
-  each = λ m positive.
-      ⊎_elim
-      (λ (above : MOST_MANAGERS < m).
-      let none : ledger (fewer at) m ≡ no_ledger = search (arith, past_end, few_left) in
-      subst (λ (a : LedgerView). HasGrown a (ledger final m)) (sym none) (record { sent = ((ledger final m).sent, refl); collected = ((ledger final m).collected, refl) }))
-      (λ (low : m ≤ MOST_MANAGERS). subst (λ (a : LedgerView). HasGrown a (ledger final m)) (sym (same_ledger at m (positive, low))) (grown.each m positive))
-      (cases_lt MOST_MANAGERS m);
+  each = λ m positive. elim (cases_lt MOST_MANAGERS m) [
+    | inl above ↦
+        let none : ledger (fewer at) m ≡ no_ledger = search (arith, past_end, few_left) in
+        rw none (record { sent = ((ledger final m).sent, refl); collected = ((ledger final m).collected, refl) })
+    | inr low ↦ rw (same_ledger at m (positive, low)) (grown.each m positive)
+  ];
 }
 
 -- ---- the cut
@@ -139,8 +138,7 @@ unadded own t managers log other =
     ] refl
 
 others_stay : (own t : TranName) (managers : List Bool) (votes : List Code) (logged : Bool) (log later : LogState) → t ≢ own
-    → Logs own managers votes logged log later
-    → record_of later t ≡ record_of log t
+    → Logs own managers votes logged log later → record_of later t ≡ record_of log t
 others_stay own t managers votes logged log later other h = search (arith, unadded)
 
 -- so they do where nobody knew whether this one was made
@@ -165,9 +163,7 @@ reads b a d a' asks after =
       more = after.more;
       sent = after.sent ∙ ap (λ (l : LedgerView). l.sent ++ after.more) first ∙ append_assoc a.sent (Prepare b.xid ∷ []) after.more;
       collected =
-          subst (λ l. Contains l (length a.sent, RdOnly))
-          (sym (took.1 ∙ ap (λ (l : LedgerView). l.collected ++ took.0) first ∙ append_assoc a.collected ((length a.sent, RdOnly) ∷ []) took.0))
-          (Contains-append_right a.collected ((length a.sent, RdOnly) ∷ took.0) (length a.sent, RdOnly) (zero, omega arith, refl));
+          rw (took.1 ∙ ap (λ (l : LedgerView). l.collected ++ took.0) first ∙ append_assoc a.collected ((length a.sent, RdOnly) ∷ []) took.0) (Contains-append_right a.collected ((length a.sent, RdOnly) ∷ took.0) (length a.sent, RdOnly) (zero, omega arith, refl));
     }
 
 -- the first of the branches voted so, and what it was told after that
@@ -203,13 +199,12 @@ some_yes v vs reads decides = search (arith, reads)
 some_decided : (b : Branch) (vs : List Code) (a a' : LedgerView) → FirstVoted b vs a a' → (OnlyReads b a a' → ⊥) → decides_commit vs ≡ true → has_yes vs ≡ true
 some_decided b vs a a' z never decides =
     let votes : z.vote ≡ RdOnly → ⊥ =
-    λ is. never (reads b a z.voted.prepared a' (subst (λ v. AsksLedger a (Prepare b.xid) z.voted.prepared v) is z.voted.asks) z.voted.after) in
-    subst (λ l. has_yes l ≡ true) (sym z.votes) (some_yes z.vote z.others votes (subst (λ l. decides_commit l ≡ true) z.votes decides))
+    λ is. never (reads b a z.voted.prepared a' (rw is at z.voted.asks) z.voted.after) in
+    rw z.votes (some_yes z.vote z.others votes (rw z.votes at decides))
 
 -- then it was decided to commit exactly where the log has the record
 decided_so : (t : TranName) (managers : List Bool) (votes : List Code) (logged : Bool) (log later : LogState)
-    → (decides_commit votes ≡ true → has_yes votes ≡ true)
-    → Logs t managers votes logged log later → decision_of votes logged ≡ logged
+    → (decides_commit votes ≡ true → has_yes votes ≡ true) → Logs t managers votes logged log later → decision_of votes logged ≡ logged
 decided_so t managers votes logged log later some h = search (arith, and_parts, or-true)
 
 -- ---- what it came to
@@ -275,13 +270,11 @@ has_come one two at found o desk new log later (in_full d none is made) read =
       elsewhere = made.trace.course.others;
       others = λ t other. others_stay made.may.tran t managers d.votes.items d.logged log later (λ e. other (e ∙ sym made.may.one.0)) made.trace.course.logs;
       applied = λ never.
-          ap (is_recorded later) made.may.one.0
-          ∙ by_votes one two desk new log later made.may.tran made.may.absent never d.votes.items d.logged d.commit
+          ap (is_recorded later) made.may.one.0 ∙ by_votes one two desk new log later made.may.tran made.may.absent never d.votes.items d.logged d.commit
           (voting_first desk.ledgers new one (two ∷ []) (λ b v s e. AtBranch AsksLedger d.commit b v s e (ledger desk.ledgers b.m) (ledger new b.m))
           (λ v s e. made_so (Obeys one.xid) d.commit one v (ledger desk.ledgers one.m) (ledger new one.m) (may_obey one) s e)
           d.votes.items made.trace.course.seconds d.endings.items made.trace.course.each)
-          made.trace.course.decision made.trace.course.logs
-          ∙ ap (is_applied found) (sym is);
+          made.trace.course.decision made.trace.course.logs ∙ ap (is_applied found) (sym is);
     }
 has_come one two at found o desk new log later (cut_short point known_ some is died) read =
     let first : tran_of one.xid ≡ died.may.tran = died.may.one.0 in
@@ -293,14 +286,13 @@ has_come one two at found o desk new log later (cut_short point known_ some is d
       others = λ t other.
           came_others died.may.tran (one ∷ two ∷ []) (ledger desk.ledgers) (ledger new) log later known_ point t (λ e. other (e ∙ sym first)) died.dies.far;
       applied = λ never.
-          ap (is_recorded later) first
-          ∙ came_commit one two desk new log later died.may.tran died.may.absent never known_ point died.dies.far
+          ap (is_recorded later) first ∙ came_commit one two desk new log later died.may.tran died.may.absent never known_ point died.dies.far
           ∙ ap (is_applied found) (sym is);
     }
 has_come one two at found o desk new log later (undecided votes decides is may voted wanted) read =
     let bs : List Branch = one ∷ two ∷ [] in
     let so : IsReadSo bs (tran_of one.xid) log later found votes.items =
-    subst (IfLost (IsReadSo bs (tran_of one.xid) log later found)) is read in
+    rw is at read in
     let managers : List Bool = yes_of bs votes.items in
     let either : IsEither log later may.tran managers = so.either may.tran may.one in
     record {

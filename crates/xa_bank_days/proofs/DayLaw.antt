@@ -2,11 +2,10 @@
 -- transfers alone.
 -- A day of the bank and its night apply the transfers of which the tellers were told that they were decided to commit, each whole,
 -- and the others not at all.
-use Rattle.xa_base.proofs.{is_some, ◌≡◌, ℕ, ◌+◌, ◌<◌, ◌≤◌, ⊎_elim, Bool, true, false, None, Some, List, [], ◌∷◌, length, get_or, slice_get, sym, refl, ap, ◌∙◌}
-use Rattle.xa_base.proofs.{subst, arith, All, Contains, All-nil, All-cons, All-contains, all_at, got_map, by_bool, ◌+ℤ◌, ◌^◌, ◌⊎◌, map, inl, list_any}
-use Rattle.xa_base.proofs.{+ℤ_idr as plus_none, length-map, All-head, All-tail, rules, get-empty, was_mapped, Any-from_list_any, list_any_at}
-use Rattle.xa_bank_days.proofs.Moved.{any_mapped}
-use Rattle.xa_base.specs.{MOST_MANAGERS, IsUpTo, total}
+use Rattle.xa_base.proofs.{ints, inr, list_any-map, is_some, ◌≡◌, ℕ, ◌+◌, ◌<◌, ◌≤◌, Bool, true, false, None, Some, List, [], ◌∷◌, length, get_or, slice_get}
+use Rattle.xa_base.proofs.{sym, ap, ◌∙◌, arith, All, Contains, All-nil, All-cons, All-contains, all_at, got_map, false_from_ne_true, ◌^◌, ◌⊎◌, map, inl}
+use Rattle.xa_base.proofs.{list_any, length-map, All-head, All-tail, rules, get-empty, was_mapped, Any-from_list_any, list_any_at}
+use Rattle.xa_base.specs.{MOST_MANAGERS, IsUpTo}
 use Rattle.xa_words.specs.{XidName, Decides-xid_eq, TranName, tran_of, Op, OpenRm, xid_eq, Commit, Heur, Request, xid_cmp}
 use Rattle.xa_tables.specs.{Tables, exists, is_left, state_of, is_done, AreLeft, IsOpening, NamesNowhere, names, is_declared, is_left_in, tables_after, History}
 use Rattle.xa_tables.specs.{opening, reopened}
@@ -16,7 +15,7 @@ use Rattle.xa_desk.specs.{ledger}
 use Rattle.xa_switch.specs.{Again, last_in, reopened_at, IsSettled, find_manager, first_of, history, ledgers_of, Settling, Plan, managers_in, accounts_of}
 use Rattle.xa_scan.specs.{left_at}
 use Rattle.xa_switch.proofs.SettledOpenings.{follows_first}
-use Rattle.xa_log.specs.{IsReadAs, LogState, Records, record_of, record_in}
+use Rattle.xa_log.specs.{IsReadAs, LogState, Records, record_in}
 use Rattle.xa_driver.specs.{Outcome, is_commit, is_to_commit, names as names_manager, outcome_op}
 use Rattle.xa_driver.proofs.Mapped.{Asks}
 use Rattle.xa_atomicity.specs.{is_recorded, IsUseIn, OnlyResolves, ResolveCall, resolves, with_use, Opening}
@@ -30,9 +29,9 @@ use Rattle.xa_bank_days.specs.{DayAndNight, IsDawn, IsNamed, IsResolvedBy, all_t
 use Rattle.xa_bank_days.specs.{IsReady}
 use Rattle.xa_tables.proofs.Law.{opening_free}
 use Rattle.xa_days.proofs.Legs.{outcome_named}
-use Rattle.xa_bank_days.proofs.Went.{IsNamedFrom, each_keeps, made_most, named_from, owner}
+use Rattle.xa_bank_days.proofs.Went.{each_keeps, owner}
 use Rattle.xa_bank_days.proofs.Out.{only_one, day, night}
-use Rattle.xa_days.specs.{Leg, counted, CommitsAmong, IsSettledDay}
+use Rattle.xa_days.specs.{Leg, CommitsAmong, IsSettledDay}
 use Rattle.xa_days.proofs.InARow.{settled_law}
 use Rattle.xa_words.proofs.Xids.{xid_self}
 use Rattle.xa_bank_days.proofs.Made.{Noted, all_applied_is}
@@ -68,7 +67,7 @@ module _ {records : Records} {s : Settling} {again : Again} {q : ResolveCall} {n
   named_in_night P x opens_ asks k r lt named =
       named_so next resolved.settled m low P (tran_of x) (resolves q ∷ []) opens_
       (All-cons (IsUseIn next) (resolves q) [] resolved.made (All-nil (IsUseIn next)))
-      (λ p there. subst (λ (u : ResolveCall). (o : Outcome) → Contains u.outcomes o → Asks P u.records m o) (only_one q p there) asks)
+      (λ p there. rw (only_one q p there) at asks)
       (resolved.only (tran_of x) m) k r lt (named_tran x (get_or (history next m) k r).op named)
 
 module _ (finished : FinishedAreGone) {records : Records} {s : Settling} {again : Again} {q : ResolveCall} {next : Settling}
@@ -84,20 +83,19 @@ module _ (finished : FinishedAreGone) {records : Records} {s : Settling} {again 
       let gone : is_left (reopened_at next.managers r.m) r.xid ≡ false =
       finished next q resolved.settled resolved.made (scan_of s next again q.scan resolved.of_setup resolved.scanned) (λ p _. resolved.only (tran_of p.xid)) r z.1.0
       (All-contains (λ (p : Outcome). is_done p.code ≡ true) q.outcomes r done z.1.0) in
-      subst (λ y. is_left (reopened_at next.managers m) y ≡ false) z.1.1.1 (subst (λ k. is_left (reopened_at next.managers k) r.xid ≡ false) z.1.1.0 gone)
+      rw (z.1.1.0, z.1.1.1) at gone
 
   -- what wasn't is named by nothing
   unleft_unnamed : is_left T x ≡ false → NamesNowhere x (history next m)
   unleft_unnamed off k d lt =
       let no : (o : Outcome) → Contains q.outcomes o → o.m ≡ m → o.xid ≡ x → ⊥ = λ o among own is.
       let z : true ≡ false = sym (outcome_was_left resolved m low T first o among own) ∙ ap (is_left T) is ∙ off in cc in
-      by_bool (λ b. b ≡ false) (names x (get_or (history next m) k d).op) (λ n.
-      absurd (named_in_night resolved m low T first (λ op. names x op ≡ true → ⊥) x (λ e. cc)
+      false_from_ne_true _ (λ n.
+      named_in_night resolved m low T first (λ op. names x op ≡ true → ⊥) x (λ e. cc)
       (λ o among. record {
         ends = λ own _ e. no o among own (outcome_named o.commit o.xid x e);
         forgets = λ own _ e. no o among own ((Decides-xid_eq o.xid x).0 e);
-      }) k d lt n n))
-      (λ _. refl)
+      }) k d lt n n)
 
   unleft_gone : is_left T x ≡ false → is_left (reopened_at next.managers m) x ≡ false
   unleft_gone off =
@@ -135,30 +133,22 @@ module _ (finished : FinishedAreGone) {L : Type 0} {state : L → LogState} {kno
       let read : LogState = state place.log in
       let R : LogState → Type 0 = IsReadAs state knows loses place.new.log in
       let os : List WorkOutcome = place.new.outcomes.items in
-      let made = made_most R (i + 1) old.habits z.keeps old.habits.first old.transfers.items os w.opened w.left (state old.log) read w.makes in
       let bound = all_at (λ (t : Teller L). t.habits.first + length t.transfers.items ≤ later) olds i old past place.old_at in
-      ⊎_elim
-      (λ (its : IsNamedFrom (i + 1) old.habits.first (length os) tran.gtrid).
-      (its.number, omega (arith, its.below, made, bound), its.named))
-      (λ (others : (k : ℕ) → old.habits.first ≤ k → k < old.habits.first + length os → IsNamed (i + 1) k tran.gtrid → ⊥).
-      let same : record_of read tran ≡ record_of (state old.log) tran =
-      each_keeps R (i + 1) old.habits z.keeps old.habits.first old.transfers.items os w.opened w.left (state old.log) read w.makes w.known w.may tran others in
-      let before : is_recorded (state old.log) tran ≡ true = ap is_some (sym same) ∙ ap (λ (l : L). is_recorded (state l) tran) log_is ∙ on in
-      let y = dawn.own i old.log tran (got_map (λ (t : Teller L). t.log) olds i old place.old_at) before in
-      (y.0, omega (arith, y.1, counts_on), y.2))
-      (named_from (i + 1) old.habits.first (length os) tran)
+      elim (each_keeps R (i + 1) old.habits z.keeps old.habits.first old.transfers.items os w.opened w.left (state old.log) read w.makes w.known w.may tran) [
+        | inr its ↦ (its.0, omega (arith, its.2, bound), its.3)
+        | inl same ↦
+            let before : is_recorded (state old.log) tran ≡ true = ap is_some (sym same) ∙ ap (λ (l : L). is_recorded (state l) tran) log_is ∙ on in
+            let y = dawn.own i old.log tran (got_map (λ (t : Teller L). t.log) olds i old place.old_at) before in
+            (y.0, omega (arith, y.1, counts_on), y.2)
+      ]
 
   pub dawn_law : IsDawn state stores later (reopened_at next.managers) logs
   dawn_law = search (arith, no_branch, own)
 
 -- a Commit, or a heuristic one, names a branch
-record NamesOne (op : Op) : Type 0 where
-  branch : XidName
-  named : names branch op ≡ true
-
-commits_one : (op : Op) → is_commit op ≡ true → NamesOne op
-commits_one (Commit x one_phase) e = record { branch = x; named = xid_self x }
-commits_one (Heur x commits) e = record { branch = x; named = xid_self x }
+commits_one : (op : Op) → is_commit op ≡ true → (x : XidName) × (names x op ≡ true)
+commits_one (Commit x one_phase) e = (x, xid_self x)
+commits_one (Heur x commits) e = (x, xid_self x)
 commits_one op e = cc
 
 -- so it is of one of these legs that has that branch
@@ -166,17 +156,14 @@ named_leg : (legs : List Leg) (x : XidName) (op : Op) → names x op ≡ true �
     → list_any (λ y. names y op) (map (λ g. g.xid) legs) ≡ true
 named_leg legs x op named e =
     let (k, g, below, at, same) = Any-from_list_any (λ (g : Leg). xid_eq g.xid x) legs e in
-    sym (any_mapped (λ y. names y op) (λ (g : Leg). g.xid) legs)
+    list_any-map (λ y. names y op) (λ (g : Leg). g.xid) legs
     ∙ list_any_at (λ (g : Leg). names g.xid op) legs k g below (ap (λ (f : Leg). names f.xid op) at ∙ ap (λ y. names y op) ((Decides-xid_eq g.xid x).0 same) ∙ named)
 
 noted_commit : (records : Records) (legs : List Leg) (op : Op) → Noted records legs op → is_commit op ≡ true
     → list_any (λ y. names y op) (map (λ g. g.xid) legs) ≡ true
 noted_commit records legs op noted commits =
     let z = commits_one op commits in
-    ⊎_elim
-    (λ (is : list_any (λ (g : Leg). xid_eq g.xid z.branch) legs ≡ true). named_leg legs z.branch op z.named is)
-    (λ (isnt : (is_commit op ≡ false) × (record_in records (tran_of z.branch) ≡ None)). absurd (let y : true ≡ false = sym commits ∙ isnt.0 in cc))
-    (noted z.branch z.named)
+    elim (noted z.0 z.1) [ inl is ↦ named_leg legs z.0 op z.1 is | inr isnt ↦ let y : true ≡ false = sym commits ∙ isnt.0 in cc ]
 
 -- ---- a branch at an opening
 
@@ -216,8 +203,7 @@ module _ (laws : Laws) {L : Type 0} {state : L → LogState} {knows : L → Type
       found_before laws d many m up j (tran_of x)
       (λ t k some within from named.
       let below = dawn.fresh m x up there t k some (let e = length-map olds (λ (t : Teller L). t.log) in omega (arith, within, e)) named in
-      omega (arith, below, from))
-      ∙ dawn.unrecorded m x up there
+      omega (arith, below, from)) ∙ dawn.unrecorded m x up there
 
   -- a branch that the day left, and that has a record, is that of a leg of the day
   pub left_leg : (x : XidName) → is_left (reopened_at s.managers m) x ≡ true → (record_in q.records (tran_of x) ≡ None → ⊥)
@@ -244,8 +230,8 @@ module _ (laws : Laws) {L : Type 0} {state : L → LogState} {knows : L → Type
   night_among : CommitsAmong (map (λ g. g.xid) all.legs) (history next m)
   night_among k r lt commits =
       let z = commits_one (get_or (history next m) k r).op commits in
-      named_in_night resolved m low (reopened_at s.managers m) next_first IsAmong z.branch (λ e. cc)
-      (λ o among. record { ends = λ own is. outcome_among o among own o.commit is; forgets = λ own is commits. cc }) k r lt z.named commits
+      named_in_night resolved m low (reopened_at s.managers m) next_first IsAmong z.0 (λ e. cc)
+      (λ o among. record { ends = λ own is. outcome_among o among own o.commit is; forgets = λ own is commits. cc }) k r lt z.1 commits
 
   settled_day : IsSettledDay ((j, 0) ∷ []) m (tables m) (day s) (night next q ∷ []) all.legs
   settled_day = record {
@@ -263,8 +249,7 @@ module _ (laws : Laws) {L : Type 0} {state : L → LogState} {knows : L → Type
       settled_law ((j, 0) ∷ []) m (tables m) (day s) (night next q ∷ []) all.legs
       (All-cons P (day s) (night next q ∷ []) is_day.settled (All-cons P (night next q) [] resolved.settled (All-nil P))) (resolved.continues, tt) (begins.there m up)
       (All-cons (λ (d : List ℕ × ℕ). is_declared (tables m) d.0 ≡ true) (j, 0) [] declared (All-nil (λ (d : List ℕ × ℕ). is_declared (tables m) d.0 ≡ true))) settled_day in
-      sym (plus_none (balances_at next m j)) ∙ worth_is ∙ ap (λ v. v +ℤ total counted all.legs) (plus_none (balances_of tables m j))
-      ∙ ap (λ v. balances_of tables m j +ℤ v) all.sum ∙ sym (all_applied_is (all_told founds news) (balances_of tables) m j)
+      omega (arith, ints, worth_is, all.sum, all_applied_is (all_told founds news) (balances_of tables) m j)
 
 -- a bank that was opened with a plan is ready for its first day
 module _ {L : Type 0} (state : L → LogState) (p : Plan) (tellers : List (Teller L)) (b : Bank L) (opened : IsOpenedBank p tellers b)

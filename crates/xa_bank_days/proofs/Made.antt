@@ -1,9 +1,9 @@
 -- What a transfer is to an account at a store, by its legs; what many are together; and that they leave what all accounts are worth.
-use Rattle.xa_base.proofs.{rules, ℤ, pos, ◌+ℤ◌, if◌then◌else◌, ◌≡◌, ◌≢◌, ℕ, Bool, true, false, List, [], ◌∷◌, ◌++◌, sym, refl, ap, ◌∙◌, arith, eq-eqb}
-use Rattle.xa_base.proofs.{+ℤ_idl as none_plus, +ℤ_idr as plus_none, ints, ne_eqb, subst, map, get_or, All, All-nil, All-cons, All-head, All-tail, All-append}
-use Rattle.xa_base.proofs.{All-weaker, by_bool, none_twice, ◌+◌, ◌^◌, ◌<◌, ◌≤◌, ◌⊎◌, ◌||◌, None, Some, inl, inr, list_any, cases_eq, Contains, neg_ℤ}
-use Rattle.xa_base.proofs.{AllByRecursion, unwrap_or, ◌&&◌, zero, suc, ◌-◌, ⊎_elim, not, ◌==◌, Option, length, range_with_len, get-from_entries, and_parts}
-use Rattle.xa_base.proofs.{eqb-true, not-true, or_parts, all_at, got, range_all, total_across, total_alike, total_both, total_nothing, total_same}
+use Rattle.xa_base.proofs.{subst, false_from_ne_true, one_counted, total_append, ℤ, pos, ◌+ℤ◌, if◌then◌else◌, ◌≡◌, ◌≢◌, ℕ, Bool, true, false, List, [], ◌∷◌}
+use Rattle.xa_base.proofs.{◌++◌, sym, refl, ap, ◌∙◌, arith, eq-eqb, +ℤ_idl as none_plus, +ℤ_idr as plus_none, ints, ne_eqb, map, get_or, All, All-nil, All-cons}
+use Rattle.xa_base.proofs.{All-head, All-tail, All-append, All-weaker, by_bool, none_twice, ◌+◌, ◌^◌, ◌<◌, ◌≤◌, ◌⊎◌, ◌||◌, None, Some, inl, inr, list_any}
+use Rattle.xa_base.proofs.{cases_eq, Contains, neg_ℤ, AllByRecursion, unwrap_or, ◌&&◌, ◌-◌, not, ◌==◌, Option, length, get-from_entries, and_parts, eqb-true}
+use Rattle.xa_base.proofs.{not-true, all_at, got, range_all, total_across, total_alike, total_both, total_nothing, total_same}
 use Rattle.std.specs.List.{IsDistinct}
 use Rattle.xa_base.specs.{total, IsUpTo}
 use Rattle.xa_words.specs.{key_eq, XidName, xid_eq, Decides-xid_eq, TranName, tran_of, Op, Decides-key_eq, key_cmp_total}
@@ -24,9 +24,9 @@ use Rattle.xa_work.specs.{Change, GivenUp, WorkOutcome, Refused, HasSent, HaveSe
 use Rattle.xa_work.specs.Units.IsRefused.{unbegun, undone, barred}
 use Rattle.xa_work.specs.Units.Transacts.{commits, refused}
 use Rattle.xa_work.proofs.Sent.{none_sent, sent_on, sent_as, have_on}
-use Rattle.xa_bank.proofs.Named.{IsOf, Is, IsFrom, IsShut, LegsOf, Names, comes_names, either_named, legs_are, shut_names, shut_sent, work_names, Earlier}
-use Rattle.xa_bank.proofs.Named.{IsBelow, earlier_on, if_both}
-use Rattle.xa_bank_days.proofs.Come.{IsReadSo, Obeys, has_come}
+use Rattle.xa_bank.proofs.Named.{IsOf, IsFrom, IsShut, LegsOf, Names, comes_names, either_named, legs_are, shut_names, shut_sent, work_names, Earlier, IsBelow}
+use Rattle.xa_bank.proofs.Named.{earlier_on, if_both}
+use Rattle.xa_bank_days.proofs.Come.{IsReadSo, has_come}
 use Rattle.xa_bank_days.proofs.Went.{left_is}
 use Rattle.xa_bank_days.proofs.Out.{Committed, IsScene, ItsLeg, call, day, first_leg, night, out_of, second_leg}
 use Rattle.xa_days.proofs.InARow.{opens_with}
@@ -62,17 +62,11 @@ module _ (tr : Transfer) (m : ℕ) (k : List ℕ) where
 abbrev pub counts_for : ℕ → List ℕ → Transfer × Bool → ℤ
 counts_for m k e = if e.1 then share e.0 m k else pos 0
 
-brackets : (a b c : ℤ) → (a +ℤ b) +ℤ c ≡ a +ℤ (b +ℤ c)
-brackets a b c = omega (arith, ints)
-
 -- all of them together are added
 pub all_applied_is : (es : List (Transfer × Bool)) (B : Balances) (m : ℕ) (k : List ℕ) → all_applied es B m k ≡ B m k +ℤ total (counts_for m k) es
 all_applied_is [] B m k = sym (plus_none (B m k))
-all_applied_is (e ∷ es) B m k = search (arith, all_applied_is es (applied e.0 e.1 B) m k, plus_none, brackets, e.0, e.1)
-
-pub total_append : {A : Type 0} (f : A → ℤ) (xs ys : List A) → total f (xs ++ ys) ≡ total f xs +ℤ total f ys
-total_append f [] ys = sym (none_plus (total f ys))
-total_append f (x ∷ xs) ys = ap (λ v. f x +ℤ v) (total_append f xs ys) ∙ sym (brackets (f x) (total f xs) (total f ys))
+all_applied_is ((tr, true) ∷ es) B m k = omega (arith, ints, all_applied_is es (applied tr true B) m k)
+all_applied_is ((tr, false) ∷ es) B m k = omega (arith, ints, all_applied_is es (applied tr false B) m k)
 
 -- ---- legs that count for them
 
@@ -127,13 +121,11 @@ both_legs {Out = Out} {O = O} {P = P} {Q = Q} a b here there never notes = recor
   own =
       All-append (λ (g : Leg). Q g.xid) a.legs b.legs (All-weaker (λ (g : Leg). O g.xid) (λ g. Q g.xid) (λ g. here g.xid) a.legs a.own)
       (All-weaker (λ (g : Leg). P g.xid) (λ g. Q g.xid) (λ g. there g.xid) b.legs b.own);
-  once = both_once a.legs b.legs a.once b.once (λ i f lt k g below. differ (get_or a.legs i f).xid (get_or b.legs k g).xid (a.own i f lt) (b.own k g below));
+  once = both_once a.legs b.legs a.once b.once (λ i f lt k g below. false_from_ne_true _ (λ same.
+      never _ (subst O ((Decides-xid_eq _ _).0 same) (a.own i f lt)) (b.own k g below)));
   sum = total_append counted a.legs b.legs ∙ (λ i. a.sum i +ℤ b.sum i);
   notes = notes a.notes b.notes;
 }
-  where
-    differ : (x y : XidName) → O x → P y → xid_eq x y ≡ false
-    differ x y one two = by_bool (λ b. b ≡ false) (xid_eq x y) (λ same. absurd (never y (subst O ((Decides-xid_eq x y).0 same) one) two)) (λ _. refl)
 
 -- The log was read so after thread t's transfer of number n, of which nobody knew whether its record was made, and this was
 -- found.
@@ -165,9 +157,6 @@ noted_leg records g op e x f = inl (ap (λ b. b || false) (one_name g.xid x op e
 
 pub noted_none : (records : Records) (legs : List Leg) (op : Op) → ((x : XidName) → names x op ≡ false) → Noted records legs op
 noted_none records legs op none x e = let z : true ≡ false = sym e ∙ none x in cc
-
-not_applied : (b : Bool) (v : ℤ) → v ≡ pos 0 → pos 0 ≡ (if b then v else pos 0)
-not_applied b v e = search (arith, rules)
 
 -- ---- at one store
 
@@ -204,29 +193,26 @@ module _ {s : Settling} {again : Again} {q : ResolveCall} {next : Settling} (sce
     at_leg leg its among shares at =
         let z = out_of scene c leg its among T (ap (first_of s) at ∙ store.first) (fresh leg.branch.xid its.of_it) j in
         let g : Leg = leg_of ((j, 0) ∷ []) (call scene c) (tran_of one.branch.xid) s T leg.branch in
-        let P : Op → Type 0 = Noted q.records (g ∷ []) in
         let x : XidName = leg.branch.xid in
         let itself : xid_eq x x ≡ true = xid_self x in
         subst (λ k. LegsSo (CameOut s q next k T j) (IsOf t n) (if was then share tr m j else pos 0) (NotedSent q (ledger old k) (ledger new k))) at
         (one_leg g z.out its.of_it (ap (λ b. if b then g.sum else pos 0) z.recorded ∙ ap (λ v. if was then v else pos 0) (z.sum ∙ sym shares))
-        (sent_on P (ledger old leg.branch.m) (ledger c.desk.ledgers leg.branch.m) (ledger new leg.branch.m)
-        (record {
+        (sent_on (record {
           more = leg_work leg tr.account;
           sent = its.its.sent;
           each = search (arith, All-cons, noted_leg, noted_none, All-nil);
           collected = (_, its.its.collected);
-        })
-        (sent_as (Obeys x) P (λ op h. noted_leg q.records g op h.0) (ledger c.desk.ledgers leg.branch.m) (ledger new leg.branch.m) its.obeyed)))
+        }) (sent_as (λ op h. noted_leg q.records g op h.0) its.obeyed)))
 
     committed_at : TransferAt n tr was (ledger old m) (ledger new m)
-    committed_at = elim (cases_eq one.branch.m m) as (λ _. TransferAt n tr was (ledger old m) (ledger new m)) [
+    committed_at = elim (cases_eq one.branch.m m) [
       | inl at ↦ at_leg one (first_leg scene c) (0, omega arith, refl) (first_share tr m j t n one two legs at) at
-      | inr p ↦ elim (cases_eq two.branch.m m) as (λ _. TransferAt n tr was (ledger old m) (ledger new m)) [
+      | inr p ↦ elim (cases_eq two.branch.m m) [
         | inl at ↦ at_leg two (second_leg scene c) (1, omega arith, refl) (second_share tr m j t n one two legs at) at
         | inr r ↦
             let off : has_branch_at (branches_of one two) m ≡ false = search (arith, ne_eqb) in
-            nothing_at n tr was old new (not_applied was (share tr m j) (no_share tr m j t n one two legs p r))
-            (c.come.elsewhere m store.positive off ∙ c.work.others m store.positive off)
+            let none : pos 0 ≡ (if was then share tr m j else pos 0) = grind (arith, no_share tr m j t n one two legs p r) in
+            nothing_at n tr was old new none (c.come.elsewhere m store.positive off ∙ c.work.others m store.positive off)
       ]
     ]
 
@@ -249,17 +235,13 @@ module _ {s : Settling} {again : Again} {q : ResolveCall} {next : Settling} (sce
     unapplied : (why : Refusal) → o ≡ Refused why → pos 0 ≡ (if is_applied found_so o then share tr m j else pos 0)
     unapplied why is = ap (λ (p : WorkOutcome). if is_applied found_so p then share tr m j else pos 0) (sym is)
 
-    sent_for : MayCommit old log (branches_of one two) → (why : Refusal) → o ≡ Refused why → HaveSent (IsFor (branches_of one two)) old.ledgers new.ledgers
-        → TransferAt n tr (is_applied found_so o) (ledger old.ledgers m) (ledger new.ledgers m)
-    sent_for may why is sent =
-        no_legs (unapplied why is) (sent_as (IsFor (branches_of one two)) (Noted q.records []) (noted_for may) (ledger old.ledgers m) (ledger new.ledgers m) (sent m store.positive))
-
     refused_at : (cs : List Change) (Known : Type 0) → IsRefused (branches_of one two) cs o old new log Known
-        → HaveSent (IsFor (branches_of one two)) old.ledgers new.ledgers
-        → TransferAt n tr (is_applied found_so o) (ledger old.ledgers m) (ledger new.ledgers m)
+        → HaveSent (IsFor (branches_of one two)) old.ledgers new.ledgers → TransferAt n tr (is_applied found_so o) (ledger old.ledgers m) (ledger new.ledgers m)
     refused_at cs Known (unbegun is why same) sent = search (arith, nothing_at, unapplied)
-    refused_at cs Known (undone tried is begins known tries gives_up) sent = sent_for begins.commit GivenUp is sent
-    refused_at cs Known (barred tried is begins known tries may gives_up) sent = sent_for begins.commit GivenUp is sent
+    refused_at cs Known (undone tried is begins known tries gives_up) sent =
+        no_legs (unapplied GivenUp is) (sent_as (noted_for begins.commit) (sent m store.positive))
+    refused_at cs Known (barred tried is begins known tries may gives_up) sent =
+        no_legs (unapplied GivenUp is) (sent_as (noted_for begins.commit) (sent m store.positive))
 
   -- whichever it was
   module _ (n : ℕ) (tr : Transfer) (habits : Habits) (o : WorkOutcome) (keeps : habits.forgets ≡ false) (R : LogState → Type 0) (is_found : Bool)
@@ -276,7 +258,7 @@ module _ {s : Settling} {again : Again} {q : ResolveCall} {next : Settling} (sce
         let is_so : IfLost (IsReadSo (branches_of one two) tran log left is_found) o =
         if_both _ (λ votes. IsFoundSo R t n is_found later) (IsReadSo (branches_of one two) tran log left is_found) o
         (λ votes either z. record {
-          either = λ u is. either u left is (subst R same z.may);
+          either = λ u is. either u left is (rw same at z.may);
           found_ = ap (λ (l : LogState). is_recorded l tran) (sym same) ∙ ap (is_recorded later) of_legs.tran ∙ sym (z.found_ of_legs.first.small);
         }) read so in
         committed_at n tr (is_applied is_found o) one two legs fresh old.ledgers new.ledgers (record {
@@ -288,8 +270,7 @@ module _ {s : Settling} {again : Again} {q : ResolveCall} {next : Settling} (sce
           work = work;
           come = has_come one.branch two.branch (death_in habits n) is_found o worked new.ledgers log left comes is_so;
           segment =
-              have_on (Names t (Is n)) old.ledgers worked.ledgers new.ledgers (work_names t n one two tr.account old.ledgers worked.ledgers of_legs work)
-              (comes_names t n one two (death_in habits n) o worked new.ledgers log left of_legs comes);
+              have_on old.ledgers worked.ledgers new.ledgers (work_names t n one two tr.account old.ledgers worked.ledgers of_legs work) (comes_names t n one two (death_in habits n) o worked new.ledgers log left of_legs comes);
           after = after;
           earlier = earlier;
           found = λ u is.
@@ -310,55 +291,24 @@ module _ {s : Settling} {again : Again} {q : ResolveCall} {next : Settling} (sce
         let shuts : HaveSent IsShut old.ledgers makes.shut.ledgers = shut_sent (shut_before habits n) old makes.shut makes.shuts in
         let z =
         makes_at makes.shut log makes.makes (earlier_on t n n IsShut old.ledgers makes.shut.ledgers (omega arith) (shut_names t (IsBelow n)) earlier shuts) in
-        let P : Op → Type 0 = Noted q.records z.legs in
         legs_as z (λ x its. its) (λ noted.
-        sent_on P (ledger old.ledgers m) (ledger makes.shut.ledgers m) (ledger new.ledgers m)
-        (sent_as IsShut P (λ op is. noted_none q.records z.legs op (λ x. ap (names x) is)) (ledger old.ledgers m) (ledger makes.shut.ledgers m) (shuts m store.positive))
-        noted)
+        sent_on (sent_as (λ op is. noted_none q.records z.legs op (λ x. ap (names x) is)) (shuts m store.positive)) noted)
 
 -- ---- sums that have one part
 
 abbrev Accounts : Type 0
 Accounts = List (List ℕ × ℕ)
 
-none_among : (ds : Accounts) (k : List ℕ) (v : ℤ) → list_any (λ d. key_eq d.0 k) ds ≡ false → total (λ d. if key_eq d.0 k then v else pos 0) ds ≡ pos 0
-none_among [] k v none = refl
-none_among (d ∷ ds) k v none =
-    let parts = or_parts (key_eq d.0 k) (list_any (λ (e : List ℕ × ℕ). key_eq e.0 k) ds) none in
-    ap (λ b. (if b then v else pos 0) +ℤ total (λ (e : List ℕ × ℕ). if key_eq e.0 k then v else pos 0) ds) parts.0 ∙ none_plus _ ∙ none_among ds k v parts.1
-
-once_among : (ds : Accounts) (k : List ℕ) (v : ℤ) → are_apart ds ≡ true → list_any (λ d. key_eq d.0 k) ds ≡ true
-    → total (λ d. if key_eq d.0 k then v else pos 0) ds ≡ v
-once_among [] k v apart there = cc
-once_among (d ∷ ds) k v apart there =
-    let parts = and_parts (not (list_any (λ (e : List ℕ × ℕ). key_eq e.0 d.0) ds)) (are_apart ds) apart in
-    let f : List ℕ × ℕ → ℤ = λ e. if key_eq e.0 k then v else pos 0 in
-    elim (key_eq d.0 k) as (λ b. key_eq d.0 k ≡ b → (b || list_any (λ (e : List ℕ × ℕ). key_eq e.0 k) ds) ≡ true → (if b then v else pos 0) +ℤ total f ds ≡ v) [
-      | true ↦ λ here _.
-          let same : d.0 ≡ k = (Decides-key_eq d.0 k).0 here in
-          ap (λ w. v +ℤ w) (none_among ds k v (subst (λ q. list_any (λ (e : List ℕ × ℕ). key_eq e.0 q) ds ≡ false) same (not-true _ parts.0))) ∙ plus_none v
-      | false ↦ λ _ rest. none_plus (total f ds) ∙ once_among ds k v parts.1 rest
-    ] refl there
-
-none_in_range : (a n t : ℕ) (v : ℤ) → t < a → total (λ m. if t == m then v else pos 0) (range_with_len a n) ≡ pos 0
-none_in_range a zero t v below = refl
-none_in_range a (suc n) t v below =
-    let off : (t == a) ≡ false = ne_eqb t a (λ e. omega (arith, e, below)) in
-    ap (λ b. (if b then v else pos 0) +ℤ total (λ m. if t == m then v else pos 0) (range_with_len (a + 1) n)) off ∙ none_plus _
-    ∙ none_in_range (a + 1) n t v (omega (arith, below))
-
-once_in_range : (a n t : ℕ) (v : ℤ) → a ≤ t → t < a + n → total (λ m. if t == m then v else pos 0) (range_with_len a n) ≡ v
-once_in_range a zero t v from below = absurd (omega (arith, from, below))
-once_in_range a (suc n) t v from below =
-    ⊎_elim
-    (λ (same : t ≡ a).
-    let on : (t == a) ≡ true = eq-eqb t a same in
-    ap (λ b. (if b then v else pos 0) +ℤ total (λ m. if t == m then v else pos 0) (range_with_len (a + 1) n)) on
-    ∙ ap (λ w. v +ℤ w) (none_in_range (a + 1) n t v (omega (arith, same))) ∙ plus_none v)
-    (λ (other : t ≢ a).
-    ap (λ b. (if b then v else pos 0) +ℤ total (λ m. if t == m then v else pos 0) (range_with_len (a + 1) n)) (ne_eqb t a other) ∙ none_plus _
-    ∙ once_in_range (a + 1) n t v (omega (arith, from, other)) (omega (arith, below)))
-    (cases_eq t a)
+-- of accounts that are apart, one counts where it is among them
+once_among : (ds : Accounts) (k : List ℕ) (v : ℤ) → are_apart ds ≡ true
+    → total (λ d. if key_eq d.0 k then v else pos 0) ds ≡ (if list_any (λ d. key_eq d.0 k) ds then v else pos 0)
+once_among [] k v apart = refl
+once_among (d ∷ ds) k v apart =
+    let has : List ℕ → Bool = λ q. list_any (λ (e : List ℕ × ℕ). key_eq e.0 q) ds in
+    let parts = and_parts (not (has d.0)) (are_apart ds) apart in
+    by_bool (λ b. (if b then v else pos 0) +ℤ total (λ (e : List ℕ × ℕ). if key_eq e.0 k then v else pos 0) ds ≡ (if b || has k then v else pos 0)) (key_eq d.0 k)
+    (λ here. ap (λ w. v +ℤ w) (once_among ds k v parts.1 ∙ ap (λ b. if b then v else pos 0) (ap has (sym ((Decides-key_eq d.0 k).0 here)) ∙ not-true _ parts.0)) ∙ plus_none v)
+    (λ _. none_plus _ ∙ once_among ds k v parts.1)
 
 -- the plan
 module _ (p : Plan) (sound : IsSound p) where
@@ -375,20 +325,15 @@ module _ (p : Plan) (sound : IsSound p) where
       → total (λ m. total (λ d. if (t == m) && key_eq d.0 k then v else pos 0) (accounts_of p m)) (managers_of p) ≡ v
   once_at t k v up there =
       total_same (λ m. total (λ d. if (t == m) && key_eq d.0 k then v else pos 0) (accounts_of p m)) (λ m. if t == m then v else pos 0) (managers_of p) at_store
-      ∙ once_in_range 1 (length p.managers.items) t v up.0 (let high = up.1 in omega (arith, high))
+      ∙ one_counted t v 1 (length p.managers.items) up.0 (let high = up.1 in omega (arith, high))
     where
       at_store : (m : ℕ) → total (λ d. if (t == m) && key_eq d.0 k then v else pos 0) (accounts_of p m) ≡ (if t == m then v else pos 0)
       at_store m =
-          elim (t == m) as (λ b. (t == m) ≡ b → total (λ d. if b && key_eq d.0 k then v else pos 0) (accounts_of p m) ≡ (if b then v else pos 0)) [
-            | true ↦ λ same.
-                let is : t ≡ m = eqb-true t m same in
-                once_among (accounts_of p m) k v (subst (λ j. are_apart (accounts_of p j) ≡ true) is (apart_at t up))
-                (subst (λ j. list_any (λ (d : List ℕ × ℕ). key_eq d.0 k) (accounts_of p j) ≡ true) is there)
-            | false ↦ λ _. total_nothing (accounts_of p m)
-          ] refl
-
-  opposite : (v : ℤ) → v +ℤ neg_ℤ v ≡ pos 0
-  opposite v = omega (arith, ints)
+          by_bool (λ b. total (λ d. if b && key_eq d.0 k then v else pos 0) (accounts_of p m) ≡ (if b then v else pos 0)) (t == m)
+          (λ same.
+          let is : t ≡ m = eqb-true t m same in
+          once_among (accounts_of p m) k v (rw is at (apart_at t up)) ∙ ap (λ b. if b then v else pos 0) (rw is at there))
+          (λ _. total_nothing (accounts_of p m))
 
   -- a transfer adds nothing to all of them together
   one_even : (e : Transfer × Bool) → IsWithin p e.0 → total (λ m. total (λ d. counts_for m d.0 e) (accounts_of p m)) (managers_of p) ≡ pos 0
@@ -401,7 +346,7 @@ module _ (p : Plan) (sound : IsSound p) where
       (λ m. total_both (paid m) (pays m) (accounts_of p m))
       ∙ total_both (λ m. total (paid m) (accounts_of p m)) (λ m. total (pays m) (accounts_of p m)) (managers_of p)
       ∙ (λ i. once_at tr.to tr.account (pos tr.amount) z.to z.is_paid i +ℤ once_at tr.from tr.account (neg_ℤ (pos tr.amount)) z.from z.pays i)
-      ∙ opposite (pos tr.amount)
+      ∙ omega (arith, ints)
 
   pub all_even : (es : List (Transfer × Bool)) → All (λ e. IsWithin p e.0) es
       → total (λ m. total (λ d. total (counts_for m d.0) es) (accounts_of p m)) (managers_of p) ≡ pos 0
@@ -423,7 +368,7 @@ module _ (p : Plan) (sound : IsSound p) (es : List (Transfer × Bool)) (within :
     (moves : (m : ℕ) (k : List ℕ) → IsUpTo (length p.managers.items) m → is_declared (last_in (find_manager m s.managers)) k ≡ true
     → balances_at s' m k ≡ all_applied es (balances_at s) m k) where
   declared : (m : ℕ) → IsUpTo (length p.managers.items) m → DeclareEach (accounts_of p m) (last_in (find_manager m s.managers))
-  declared m up = subst (DeclareEach (accounts_of p m)) (sym (opens m up)) (opens_with (accounts_of p m))
+  declared m up = rw (opens m up) (opens_with (accounts_of p m))
 
   -- at one store
   at_store : (m : ℕ) → IsUpTo (length p.managers.items) m

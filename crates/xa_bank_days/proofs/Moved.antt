@@ -1,8 +1,8 @@
 -- What tellers come to over stores that are opened again.
 -- What days do to the balances, by the law of a day and its night.
-use Rattle.xa_base.proofs.{option_map, ◌≡◌, ℕ, ◌+◌, ◌^◌, ◌<◌, ◌≤◌, ⊎_elim, Bool, true, if◌then◌else◌, ◌||◌, List, [], ◌∷◌, length, map, slice_get, Some, inl}
-use Rattle.xa_base.proofs.{inr, sym, refl, ap, ◌∙◌, subst, arith, All, list_any, length-map, same_Some as some_same, slice_get_within, got_map, Vec, ◌++◌, IfOk}
-use Rattle.xa_base.proofs.{Result, Ok, Err, Global, all_mid, is_some, ◌+ℤ◌, ℤ, suc, false, Option, all_at, all_from, was_mapped, All-map, all_unmapped}
+use Rattle.xa_base.proofs.{ints, map_alike, total_append, none_all, option_map, ◌≡◌, ℕ, ◌+◌, ◌^◌, ◌<◌, ◌≤◌, ⊎_elim, Bool, true, List, [], ◌∷◌, length, map}
+use Rattle.xa_base.proofs.{slice_get, Some, inl, inr, sym, refl, ap, ◌∙◌, subst, arith, All, length-map, same_Some as some_same, slice_get_within, got_map, Vec}
+use Rattle.xa_base.proofs.{◌++◌, IfOk, Result, Ok, Err, Global, all_mid, is_some, false, Option, all_at, all_from, was_mapped, All-map, all_unmapped}
 use Rattle.xa_base.specs.{IsUpTo}
 use Rattle.xa_words.specs.{TranName}
 use Rattle.xa_tables.specs.{Tables, is_done, is_declared}
@@ -13,33 +13,23 @@ use Rattle.xa_atomicity.proofs.NextOpening.{was_there}
 use Rattle.xa_crew.specs.{WithScan, Attended, AgainWorks, IsRunAgain, WorksWithScan}
 use Rattle.xa_bank.specs.{Teller, Works, WorksOn, Habits, Transfer}
 use Rattle.xa_bank.proofs.Days.{MemberAt, member_at, nobody_else}
-use Rattle.xa_bank_days.specs.{DayAndNight, Bank, BeginsWith, IsDayOf, WorkedIn, Closed, Errands, Worked, AreTurned, HasWorked, IsDay, IsWorkedDay, day_numbers}
-use Rattle.xa_bank_days.specs.{night_numbers, Unresolved, AreClosed, AreOver, HasEnded, early as one_not, whole as all_over, IsClosed, IsClosedDay, IsOver}
-use Rattle.xa_bank_days.specs.{AreToldAll, IsDawn, all_told, balances_at, balances_of, told, IsMovedBy, IsReady, habits_on, has_account, told_on, told_over}
-use Rattle.xa_bank_days.specs.{Balances, all_applied, applied, share}
+use Rattle.xa_bank_days.specs.{DayAndNight, Bank, BeginsWith, IsDayOf, WorkedIn, Closed, Errands, Unresolved, AreClosed, AreOver, HasEnded, early as one_not}
+use Rattle.xa_bank_days.specs.{whole as all_over, IsClosed, IsClosedDay, IsOver, AreToldAll, IsDawn, all_told, balances_at, balances_of, told, IsMovedBy}
+use Rattle.xa_bank_days.specs.{IsReady, habits_on, has_account, told_on, told_over, Balances, all_applied}
+use Rattle.xa_bank_days.proofs.Made.{all_applied_is, counts_for}
 use Rattle.std.specs.Prelude.{MatchResult}
 use Rattle.xa_driver.specs.{Resolved, Outcome}
 use Rattle.xa_tables.proofs.WorthLaw.{declared_on}
 use Rattle.xa_bank_days.proofs.Went.{are_read_back}
-use Rattle.xa_atomicity.proofs.Sites.{none_all}
 
 -- lists that are mapped to one list are as long
 pub same_length : {A B C : Type 0} (f : A → C) (g : B → C) (xs : List A) (ys : List B) → map f xs ≡ map g ys → length xs ≡ length ys
 same_length f g xs ys e = sym (length-map xs f) ∙ ap (λ l. length l) e ∙ length-map ys g
 
-pub mapped_twice : {A B C : Type 0} (f : B → C) (g : A → B) (xs : List A) → map (λ x. f (g x)) xs ≡ map f (map g xs)
-mapped_twice f g [] = refl
-mapped_twice f g (x ∷ xs) = ap (λ l. f (g x) ∷ l) (mapped_twice f g xs)
-
 -- as many have worked as there are threads
 pub many_attended : {C : Type 0} (works : AgainWorks C) (s : Settling) (again : Again) (clients : List C) (attended : List (Attended (WithScan C))) (next : Settling)
     → IsRunAgain works s again clients attended next → length attended ≡ again.threads
 many_attended {C} works s again clients attended next z = search (arith, length-map, z.run.members)
-
--- one of those that are mapped
-pub any_mapped : {A B : Type 0} (f : B → Bool) (g : A → B) (xs : List A) → list_any (λ x. f (g x)) xs ≡ list_any f (map g xs)
-any_mapped f g [] = refl
-any_mapped f g (x ∷ xs) = ap (λ b. f (g x) || b) (any_mapped f g xs)
 
 -- the stores
 module _ (goes_on : (s next : Settling) (again : Again) (m : ℕ) (T : Tables) → IsWhole s → IsOf (reopening s again) next → first_of s m ≡ Some T → first_of next m ≡ Some (reopened_at s.managers m))
@@ -95,35 +85,6 @@ module _ {L : Type 0} (state : L → LogState) (knows : L → Type 0) (loses : T
         (⊎_elim (λ (low : t < 1). inl low) (λ (high : length olds < t). inr (omega (arith, high, many))) outside) m;
   }
 
--- ---- the night's numbers
-
--- the day
-module _ {L : Type 0} (state : L → LogState) (knows : L → Type 0) (loses : TranName → List Bool → L → L → Type 0) (reopens : L → L → Type 0) (b : Bank L)
-    (given errands : List Errands) (c : Closed) (turned : List (Teller L)) (day : Worked L) (same : given ≡ errands) (are_turned : AreTurned b.next b.tellers.items errands turned)
-    (many : length given < 2 ^ 32) (works : HasWorked state knows loses reopens b.settled turned day) (told : c.outcomes ≡ day.evening.outcomes) (found : c.found ≡ day.evening.found) where
-  abbrev pub is_day_of : IsDay state knows loses reopens b errands c
-  is_day_of = record {
-    turned = turned;
-    are_turned = are_turned;
-    many = let e = ap (λ (l : List Errands). length l) same in omega (arith, e, many);
-    day = day;
-    works = works;
-    told_ = told;
-    found_ = found;
-  }
-
-  abbrev pub worked_day : (b' : Bank L) → (day.wanting ≡ true → b'.settled ≡ day.settled)
-      → b'.again ≡ (if day.wanting then day_numbers b errands else night_numbers b errands) → b'.tellers ≡ day.evening.tellers → b.next ≤ b'.next
-      → All (λ e. b.next + length e.transfers.items ≤ b'.next) given → IsWorkedDay state knows loses reopens b errands c b'
-  worked_day b' stays numbers tellers later next = record {
-    is_day = is_day_of;
-    stays = stays;
-    numbers = numbers;
-    tellers = tellers;
-    later = later;
-    next = subst (All (λ (e : Errands). b.next + length e.transfers.items ≤ b'.next)) same next;
-  }
-
 -- ---- days one after the other
 
 module _ {L : Type 0} (state : L → LogState) (knows : L → Type 0) (loses : TranName → List Bool → L → L → Type 0) (reopens : L → L → Type 0) where
@@ -142,27 +103,23 @@ module _ {L : Type 0} (state : L → LogState) (knows : L → Type 0) (loses : T
   pub one_day_more : (b : Bank L) (ds : List (Vec Errands Global)) (cs : List Closed) (mid : Bank L) (d : Vec Errands Global) (c : Closed) (last : Bank L)
       → AreClosed state knows loses reopens b ds cs mid → IsClosedDay state knows loses reopens mid d.items c last
       → AreClosed state knows loses reopens b (ds ++ d ∷ []) (cs ++ c ∷ []) last
-  one_day_more b [] [] mid d c last same one = (last, subst (λ (q : Bank L). IsClosedDay state knows loses reopens q d.items c last) same one, refl)
+  one_day_more b [] [] mid d c last same one = (last, rw same at one, refl)
   one_day_more b (x ∷ ds) (y ∷ cs) mid d c last all one = (all.0, all.1, one_day_more all.0 ds cs mid d c last all.2 one)
   one_day_more b ds cs mid d c last wrong one = absurd wrong
 
   -- days that are all over were closed
   pub ended_closed : (b : Bank L) (ds : List (Vec Errands Global)) (cs : List Closed) (b' : Bank L) → HasEnded state knows loses reopens b ds cs b'
-      → AreOver ds cs
-      → AreClosed state knows loses reopens b ds cs b'
+      → AreOver ds cs → AreClosed state knows loses reopens b ds cs b'
   ended_closed b ds cs b' (all_over all) over = all
   ended_closed b ds cs b' (one_not before d rest earlier c mid parts closed up_to worked open_) over = search (arith, all_mid)
 
 -- ---- the abstract machine
 
--- what is applied to an account goes by what it had
-applied_same : (es : List (Transfer × Bool)) (B C : Balances) (m : ℕ) (k : List ℕ) → B m k ≡ C m k → all_applied es B m k ≡ all_applied es C m k
-applied_same [] B C m k e = e
-applied_same (x ∷ es) B C m k e = applied_same es (applied x.0 x.1 B) (applied x.0 x.1 C) m k (ap (λ (v : ℤ). if x.1 then v +ℤ share x.0 m k else v) e)
-
-applied_both : (es more : List (Transfer × Bool)) (B : Balances) (m : ℕ) (k : List ℕ) → all_applied (es ++ more) B m k ≡ all_applied more (all_applied es B) m k
-applied_both [] more B m k = refl
-applied_both (x ∷ es) more B m k = applied_both es more (applied x.0 x.1 B) m k
+-- more is applied to what an account has after others
+applied_more : (es more : List (Transfer × Bool)) (B C : Balances) (m : ℕ) (k : List ℕ) → C m k ≡ all_applied es B m k
+    → all_applied more C m k ≡ all_applied (es ++ more) B m k
+applied_more es more B C m k e =
+    omega (arith, ints, all_applied_is more C m k, all_applied_is es B m k, all_applied_is (es ++ more) B m k, total_append (counts_for m k) es more)
 
 -- ---- the stores
 
@@ -174,14 +131,6 @@ last_declares s m T k settled first =
     ∙ ap is_some (sym (ap (value_in k) p.1) ∙ (follows_first s m T settled first).values k) ∙ declared_on (history s m) k T
 
 -- ---- lists of tellers
-
--- what is so of each at the same place is so of the lists
-same_map : {A B : Type 0} (f : A → B) (xs ys : List A) → length ys ≡ length xs
-    → ((k : ℕ) (x y : A) → slice_get xs k ≡ Some x → slice_get ys k ≡ Some y → f y ≡ f x)
-    → map f ys ≡ map f xs
-same_map f (x ∷ xs) (y ∷ ys) e same = (λ i. same 0 x y refl refl i ∷ same_map f xs ys (omega (arith, e)) (λ k u v at there. same (suc k) u v at there) i)
-same_map f [] [] e same = refl
-same_map f xs ys e same = absurd (omega (arith, e))
 
 told_is : {L : Type 0} (founds : List Bool) (news : List (Teller L)) (errands : List Errands)
     → map (λ (t : Teller L). t.transfers) news ≡ map (λ (e : Errands). e.transfers) errands
@@ -223,7 +172,8 @@ module _ {L : Type 0} (state : L → LogState) (knows : L → Type 0) (loses : T
 
     transfers_are : map (λ (t : Teller L). t.transfers) z.works.worked ≡ map (λ (e : Errands). e.transfers) errands
     transfers_are =
-        same_map (λ (t : Teller L). t.transfers) z.turned z.works.worked z.works.is_day.many (λ k old new old_at new_at. (z.works.is_day.each k old new old_at new_at).worked.transfers)
+        map_alike (λ (old new : Teller L). new.transfers ≡ old.transfers) (λ t. t.transfers) (λ t. t.transfers) (λ old new same. same) z.turned z.works.worked
+        (record { as_many = z.works.is_day.many; each = λ k old new old_at new_at. (z.works.is_day.each k old new old_at new_at).worked.transfers })
         ∙ z.are_turned.transfers
 
     told_so : all_told z.day.evening.found.items z.works.worked ≡ told_on errands c.outcomes.items c.found.items
@@ -233,7 +183,7 @@ module _ {L : Type 0} (state : L → LogState) (knows : L → Type 0) (loses : T
     ends_at =
         let P : Vec Transfer Global → Type 0 = λ trs. b.next + length trs.items ≤ b'.next in
         let each =
-        all_unmapped (λ (t : Teller L). t.transfers) P z.turned (subst (All P) (sym z.are_turned.transfers) (All-map P (λ (e : Errands). e.transfers) errands z.next)) in
+        all_unmapped (λ (t : Teller L). t.transfers) P z.turned (rw z.are_turned.transfers (All-map P (λ (e : Errands). e.transfers) errands z.next)) in
         all_from (λ (t : Teller L). t.habits.first + length t.transfers.items ≤ b'.next) z.turned (λ k t at.
         let bound = all_at (λ (u : Teller L). b.next + length u.transfers.items ≤ b'.next) z.turned k t each at in
         omega (arith, (turned_at k t at).0, bound))
@@ -256,7 +206,7 @@ module _ {L : Type 0} (state : L → LogState) (knows : L → Type 0) (loses : T
       told_all = told_all;
       back = are_read_back state knows loses reopens 1 z.works.worked (map (λ (t : Teller L). t.log) z.day.evening.tellers.items) z.day.evening.found.items z.works.logs;
       known = All-map knows (λ (t : Teller L). t.log) z.day.evening.tellers.items z.night.known;
-      dawn = subst (IsDawn state (managers_in b.settled) b.next (reopened_at b.settled.managers)) (sym z.are_turned.logs) ready;
+      dawn = rw z.are_turned.logs ready;
       resolved = z.night.resolves;
     }
 
@@ -265,7 +215,7 @@ module _ {L : Type 0} (state : L → LogState) (knows : L → Type 0) (loses : T
     day_moves ready ended =
         let stores : managers_in b'.settled ≡ managers_in b.settled = z.stores ∙ z.works.stores in
         let next_dawn : IsDawn state (managers_in b.settled) b'.next (reopened_at b'.settled.managers) (map (λ (t : Teller L). t.log) z.day.evening.tellers.items) =
-        dawns (both ready) b'.next (subst (All (λ (o : Outcome). is_done o.code ≡ true)) (sym z.night.listed) ended) z.later ends_at in
+        dawns (both ready) b'.next (rw z.night.listed ended) z.later ends_at in
         let few : length z.turned < 2 ^ 32 = search (arith, same_length) in
         record {
           stores = stores;
@@ -280,13 +230,12 @@ module _ {L : Type 0} (state : L → LogState) (knows : L → Type 0) (loses : T
 
   -- many days
   pub days_move : (b : Bank L) (ds : List (Vec Errands Global)) (cs : List Closed) (b' : Bank L) → AreClosed state knows loses reopens b ds cs b'
-      → IsReady state b
-      → IsMovedBy state (told_over ds cs) b b'
+      → IsReady state b → IsMovedBy state (told_over ds cs) b b'
   days_move b [] [] b' same ready = search arith
   days_move b (d ∷ ds) (c ∷ cs) b' all ready =
       let one = day_moves b d.items c all.1.outcomes all.0 all.1.closed ready all.1.ended in
       let rest = days_move all.0 ds cs b' all.2 one.ready in
       let es : List (Transfer × Bool) = told_on d.items c.outcomes.items c.found.items in
       let up_there = λ (m : ℕ) (up : IsUpTo (managers_in b.settled) m). subst (λ (j : ℕ). IsUpTo j m) (sym one.stores) up in
-      search (arith, rest.stores, one.stores, applied_same, applied_both, rest.accounts, one.accounts, rest.balances, one.balances)
+      search (arith, rest.stores, one.stores, applied_more, rest.accounts, one.accounts, rest.balances, one.balances)
   days_move b ds cs b' wrong ready = absurd wrong

@@ -1,39 +1,35 @@
 -- A resolve in an opening to which nobody sent a Shut is answered by each manager with another code than XAER_RMFAIL.
 -- The one client of a night resolves what was left, and nothing else was done in its opening.
-use Rattle.xa_base.proofs.{rules, arith, not, ◌≡◌, ◌≢◌, ℕ, Bool, true, false, ◌==◌, Option, Some, List, [], ◌∷◌, filter, get_or, sym, refl, ap, ◌∙◌, subst, All}
-use Rattle.xa_base.proofs.{All-nil, All-cons, All-head, All-tail, All-append, list_any-append, or-true, all_at, was_mapped, Ok, Err, Result, nat_lt, zero, suc}
-use Rattle.xa_base.proofs.{◌-◌, ◌<◌, ◌≤◌, length, slice_index_or, cases_lt, ne_eqb, or_from, at_false, length-map, IfOk, ◌+◌, ◌++◌, length-append, map}
-use Rattle.xa_base.proofs.{slice_get, inl, inr, append-nil, cases_eq, All-contains, same_Some as some_same, got_map, list_any_none, Contains, range_with_len}
-use Rattle.xa_base.proofs.{eqb-true, length-range_with_len, get_or-range_with_len, got, All-filter, Contains-get_or, IfErr, le-ltb, IfErr-weaker}
-use Rattle.xa_base.proofs.{IsPermutation-sym, Contains-permutation}
-use Rattle.xa_tables.specs.declared.state.HeuristicDecision.TheVariants as decision
-use Rattle.xa_base.specs.{Chain, none as no_step, more as one_step, IsUpTo, MOST_MANAGERS}
+use Rattle.xa_base.proofs.{Ok, Err, subst, All-map, All-weaker, chain_kept, get_or_past, contains_map, found, each_number, rules, arith, not, ◌≡◌, ◌≢◌, ℕ, Bool}
+use Rattle.xa_base.proofs.{true, false, ◌==◌, Option, Some, List, [], ◌∷◌, get_or, sym, refl, ap, ◌∙◌, All, All-nil, All-cons, All-head, All-tail, All-append}
+use Rattle.xa_base.proofs.{list_any-append, or-true, all_at, Result, nat_lt, zero, suc, ◌-◌, ◌<◌, ◌≤◌, length, slice_index_or, cases_lt, ne_eqb, or_from}
+use Rattle.xa_base.proofs.{at_false, length-map, IfOk, ◌+◌, ◌++◌, length-append, map, slice_get, inl, inr, append-nil, cases_eq, All-contains}
+use Rattle.xa_base.proofs.{same_Some as some_same, got_map, list_any_none, Contains, range_with_len, eqb-true, length-range_with_len, get_or-range_with_len}
+use Rattle.xa_base.proofs.{got, All-filter, Contains-get_or, IfErr, le-ltb, IfErr-weaker, IsPermutation-sym, Contains-permutation}
+use Rattle.xa_base.specs.{Chain, IsUpTo, MOST_MANAGERS}
 use Rattle.xa_words.specs.{XidName, RmFail, Op, OpenRm, Commit, Rollback, Forget, Request, Code, TranName}
 use Rattle.xa_tables.specs.{State, is_S5, decision_in, Answer, next, coded, is_rolled_back, Tables, History, of_thread, tables_after, opening}
 use Rattle.xa_tables.proofs.Effects.{reason_rolls_back}
 use Rattle.xa_desk.specs.{LedgerView, is_rm_fail, learnt_shut, new_ledgers, no_ledger, room_at, DeskView, ledger, numbered}
 use Rattle.xa_worker.specs.{Entry, requests}
-use Rattle.xa_switch.specs.{history, IsSettled, collected, journal, Settling, Again, reopening, IsScanOf, IsWhole, MayReopen, reopened_at, first_of, ledgers_of}
-use Rattle.xa_switch.specs.{IsOf, sent, Plan, ManagerPlan, last_in, managers_in, planned, ManagerPart, FollowsTables, find_manager, journal_in, accounts_in}
-use Rattle.xa_switch.specs.{accounts_of}
+use Rattle.xa_switch.specs.{answers, history, IsSettled, collected, journal, Settling, Again, reopening, IsScanOf, IsWhole, MayReopen, reopened_at, first_of}
+use Rattle.xa_switch.specs.{ledgers_of, IsOf, sent, Plan, ManagerPlan, last_in, managers_in, planned, ManagerPart, FollowsTables, find_manager, journal_in}
+use Rattle.xa_switch.specs.{accounts_in, accounts_of}
 use Rattle.xa_switch.proofs.SettledOpenings.{follows, begun}
-use Rattle.xa_driver.specs.{Outcome, AskTrace, is_decided, AsksIf, AsksLedger, ResolvesBranch, outcome_op, Resolved, MayResolve, IsTraceOfResolve}
+use Rattle.xa_driver.specs.{MayResolve, Outcome, AskTrace, is_decided, AsksIf, AsksLedger, ResolvesBranch, outcome_op, Resolved, IsTraceOfResolve}
 use Rattle.xa_log.specs.{Records, LogState}
 use Rattle.xa_desk.proofs.Books.{fresh_sent}
-use Rattle.xa_bank_days.specs.{Unresolved, Excuses, HasRoomToResolve, Resolver, IsResolvedBy, records_of, IsNight, IsUntouched, ResolvesBy, unused}
-use Rattle.xa_driver.proofs.Mapped.{Asks}
+use Rattle.xa_bank_days.specs.{records_of, Unresolved, Excuses, HasRoomToResolve, Resolver, IsResolvedBy, IsNight, IsUntouched, ResolvesBy, unused}
 use Rattle.xa_atomicity.specs.{IsBetween, OnlyResolves, ResolveCall, resolve_call, resolves, with_use}
 use Rattle.xa_atomicity.proofs.Sites.{all_earlier, own_all}
 use Rattle.xa_atomicity.proofs.Resolves.{outcome_at, resolve_sends}
 use Rattle.xa_atomicity.proofs.Settled.{by_ledger}
 use Rattle.xa_atomicity.proofs.Guided.{learnt_on}
 use Rattle.xa_crew.specs.{WithScan, Attended, IsRunAgain, WorksWithScan, IsRun}
-use Rattle.xa_work.specs.{HasSent}
 use Rattle.xa_bank.specs.{Teller}
-use Rattle.xa_bank.proofs.Days.{MemberAt, Never, member_at, nobody_else, of_threads}
+use Rattle.xa_bank.proofs.Days.{MemberAt, Never, member_at, nobody_else}
 use Rattle.xa_bank_days.proofs.Moved.{many_attended}
 use Rattle.xa_tables.proofs.WorthLaw.{others_first}
-use Rattle.xa_switch.proofs.Lists.{contains_map, found}
 
 -- ---- what a resolve asks for
 
@@ -83,13 +79,11 @@ codes_open (r ∷ h) T all o =
 pub answered_open : (s : Settling) (m t : ℕ) → IsSettled s → All (λ r. InNight r.op) (history s m) → All (λ p. is_rm_fail p.1 ≡ false) (collected s t m)
 answered_open s m t settled all =
     let P : Entry → Type 0 = λ e. is_rm_fail e.1 ≡ false in
+    let Q : ℕ × Code → Type 0 = λ p. is_rm_fail p.1 ≡ false in
     let f = follows s m settled in
-    let codes : All P (journal s m) = subst (All P) (sym f.1.codes) (codes_open (history s m) f.0 all f.1.opened.shut) in
-    λ k d below.
-    let p : ℕ × Code = get_or (collected s t m) k d in
-    let e = was_mapped (λ (e : Entry). (e.0.number, e.1)) (filter (λ e. e.0.thread == t) (journal s m)) p.0 p ((settled.agree t m).coded k d below) in
-    sym (ap (λ (q : ℕ × Code). is_rm_fail q.1) e.2)
-    ∙ all_at P (filter (λ e. e.0.thread == t) (journal s m)) p.0 e.0 (All-filter (λ (e : Entry). e.0.thread == t) P (journal s m) codes) e.1
+    let codes : All P (journal s m) = rw f.1.codes (codes_open (history s m) f.0 all f.1.opened.shut) in
+    let given = All-map Q (λ (e : Entry). (e.0.number, e.1)) _ (All-filter (λ (e : Entry). e.0.thread == t) P (journal s m) codes) in
+    All-weaker _ Q (λ p at. all_at Q (answers t (journal s m)) p.0 p given at) (collected s t m) (settled.agree t m).coded
 
 -- ---- what is learnt of a resolve
 
@@ -105,10 +99,11 @@ IsReached o = o.code ≢ RmFail
 
 each_reached : (records : Records) (m : ℕ) (a : LedgerView) (os : List Outcome) (a' : LedgerView) → Chain (ResolvesBranch AsksLedger records m) a os a'
     → learnt_shut a' ≡ false → All IsReached os
-each_reached records m a _ _ (no_step xs last e f) o = subst (All IsReached) (sym e) (All-nil IsReached)
-each_reached records m a _ _ (one_step xs x now last before is) o =
-    let ends = ask_open now is.decided (outcome_op x.commit x.xid) x.code is.obeys (if_open (is_decided x.code) (Forget x.xid) is.decided last is.forgets o) in
-    All-append IsReached xs (x ∷ []) (each_reached records m a xs now before ends.0) (All-cons IsReached x [] ends.1 (All-nil IsReached))
+each_reached records m a os a' runs =
+    chain_kept _ (λ _. Unit {0}) (λ xs b. learnt_shut b ≡ false → All IsReached xs) a (λ _. All-nil IsReached) (λ xs x now next before _ is open_.
+    let ends =
+    ask_open now is.decided (outcome_op x.commit x.xid) x.code is.obeys (if_open (is_decided x.code) (Forget x.xid) is.decided next is.forgets open_) in
+    All-append IsReached xs (x ∷ []) (before ends.0) (All-cons IsReached x [] ends.1 (All-nil IsReached))) os a' runs (λ _ _ _. tt)
 
 -- ---- the room of a night's desk for what it takes to resolve, and why nothing was resolved
 
@@ -121,11 +116,6 @@ fresh_plan n (b ∷ flags) (suc i) low = fresh_plan n flags i (omega (arith, low
 fresh_room : (n : ℕ) (flags : List Bool) (m : ℕ) → IsUpTo (length flags) m → room_at (new_ledgers n flags) m ≡ n
 fresh_room n flags zero up = let low = up.0 in absurd (omega (arith, low))
 fresh_room n flags (suc i) up = search (arith, length-map, fresh_plan, fresh_sent, at_false, nat_lt, or_from, ne_eqb, le-ltb, up.1)
-
-none_left : (lists : List (List XidName)) (k : ℕ) → length lists ≤ k → slice_index_or lists k [] ≡ []
-none_left [] k past = refl
-none_left (l ∷ lists) zero past = absurd (omega (arith, past))
-none_left (l ∷ lists) (suc k) past = none_left lists k (omega (arith, past))
 
 -- why nothing was resolved, by what the caller knows
 pub left_on : {Room Fits : Type 0} (Known Good Same : Type 0) → (Fits → Room) → (r : Result Resolved Unresolved)
@@ -161,13 +151,10 @@ module _ {L : Type 0} (state : L → LogState) (knows : L → Type 0) (s : Settl
 
   -- ---- what was sent
 
-  final : (m : ℕ) → 1 ≤ m → HasSent Never (ledger new m) (ledger (ledgers_of next 1) m)
-  final m positive = at.end m positive
-
   sent_own : (m : ℕ) → 1 ≤ m → sent next 1 m ≡ (ledger new m).sent
   sent_own m positive =
-      by_ledger (ledgers_of next 1) m (λ (a : LedgerView). a.sent) positive refl ∙ (final m positive).sent
-      ∙ ap (λ (l : List Op). (ledger new m).sent ++ l) (never_none (final m positive).more (final m positive).each) ∙ append-nil (ledger new m).sent
+      by_ledger (ledgers_of next 1) m (λ (a : LedgerView). a.sent) positive refl ∙ (at.end m positive).sent
+      ∙ ap (λ (l : List Op). (ledger new m).sent ++ l) (never_none (at.end m positive).more (at.end m positive).each) ∙ append-nil (ledger new m).sent
 
   nobody : (u : ℕ) → u ≢ 1 → (m : ℕ) → sent next u m ≡ []
   nobody u other = nobody_else (WorksWithScan (ResolvesBy state knows)) (reopening s again) z.given attended next z.run u (search (arith, cases_lt))
@@ -196,18 +183,15 @@ module _ {L : Type 0} (state : L → LogState) (knows : L → Type 0) (s : Settl
               absurd (omega (arith, up, none))
         ]
 
-    asks : (m : ℕ) (o : Outcome) → Asks InNight records m o
-    asks m o = record { ends = λ _ _. ends_in_night o.commit o.xid; forgets = λ _ _. refl }
-
     module _ (m : ℕ) (up : IsUpTo MOST_MANAGERS m) where
       of_night : (u : ℕ) → All InNight (sent next u m)
       of_night u =
           elim (cases_eq u 1) [
             | inl same ↦
-                let all = resolve_sends scan records old new outcomes trace InNight m up refl (λ o there. asks m o) in
-                subst (All InNight)
-                (sym (ap (λ v. sent next v m) same ∙ sent_own m up.0 ∙ all.sent ∙ ap (λ (l : List Op). l ++ all.more) (at.nothing m up.0))) all.all
-            | inr other ↦ subst (All InNight) (sym (nobody u other m)) (All-nil InNight)
+                let all =
+                resolve_sends scan records old new outcomes trace InNight m up refl (λ o _. record { ends = λ _ _. ends_in_night o.commit o.xid; forgets = λ _ _. refl }) in
+                rw (ap (λ v. sent next v m) same ∙ sent_own m up.0 ∙ all.sent ∙ ap (λ (l : List Op). l ++ all.more) (at.nothing m up.0)) all.all
+            | inr other ↦ rw (nobody u other m) (All-nil InNight)
           ]
 
       taken : All (λ p. InNight p.op) (history next m)
@@ -218,10 +202,10 @@ module _ {L : Type 0} (state : L → LogState) (knows : L → Type 0) (s : Settl
       last_open : learnt_shut (ledger (ledgers_of next 1) m) ≡ false
       last_open =
           list_any_none (λ (p : ℕ × Code). is_rm_fail p.1) (ledger (ledgers_of next 1) m).collected
-          (subst (All (λ (p : ℕ × Code). is_rm_fail p.1 ≡ false)) (by_ledger (ledgers_of next 1) m (λ (a : LedgerView). a.collected) up.0 refl) (answered_open next m 1 z.run.agrees taken))
+          (rw (by_ledger (ledgers_of next 1) m (λ (a : LedgerView). a.collected) up.0 refl) at (answered_open next m 1 z.run.agrees taken))
 
       new_open : learnt_shut (ledger new m) ≡ false
-      new_open = search (arith, learnt_on, final, last_open)
+      new_open = search (arith, learnt_on, at.end, last_open)
 
     reached : All IsReached outcomes
     reached k d below =
@@ -240,7 +224,7 @@ module _ {L : Type 0} (state : L → LogState) (knows : L → Type 0) (s : Settl
       of_setup = z.run.of_setup;
       made = record {
         made = trace;
-        grown = record { each = λ m positive. record { sent = ((final m positive).more, (final m positive).sent); collected = (final m positive).collected } };
+        grown = record { each = λ m positive. record { sent = ((at.end m positive).more, (at.end m positive).sent); collected = (at.end m positive).collected } };
       };
       by_ = refl;
       scanned = scanned;
@@ -275,7 +259,7 @@ module _ {L : Type 0} (state : L → LogState) (knows : L → Type 0) (s : Settl
 
       -- nothing was resolved for a reason of which the caller knows
       pub left_law : IfErr a.client.client.resolved (Excuses ⊥ (All (λ (t : Teller L). knows t.log) r.tellers.items) (HasRoomToResolve s again) (MayReopen s again))
-      left_law = search (arith, left_on, at, none_left, fresh_room, cases_lt, scanned, client, it)
+      left_law = search (arith, left_on, at, get_or_past, fresh_room, cases_lt, scanned, client, it)
 
       -- no thread sent anything where nothing was resolved
       nothing : at.left ≡ at.member.desk → (t m : ℕ) → 1 ≤ m → sent next t m ≡ []
@@ -313,7 +297,7 @@ module _ {C : Type 0} (p : Plan) (clients : List C) (attended : List (Attended C
 
   nobody_sent : (t m : ℕ) → 1 ≤ m → sent s t m ≡ []
   nobody_sent t m positive =
-      of_threads (λ u. sent s u m ≡ []) p.threads (λ u outside. nobody_else Idles (planned p) clients attended s r u outside m)
+      each_number (λ u. sent s u m ≡ []) p.threads (λ u outside. nobody_else Idles (planned p) clients attended s r u outside m)
       (λ k below. nothing_at k m below positive) t
 
   untouched : (m : ℕ) → 1 ≤ m → history s m ≡ []
@@ -345,7 +329,7 @@ module _ {C : Type 0} (p : Plan) (clients : List C) (attended : List (Attended C
       let is = found (λ (c : ManagerPart). c.number == m) s.managers q at in
       let numbers : List ℕ = map (λ (c : ManagerPart). c.number) s.managers in
       let among : Contains numbers m =
-      subst (Contains numbers) (eqb-true q.number m is.1) (contains_map (λ (c : ManagerPart). c.number) s.managers q is.0) in
+      rw (eqb-true q.number m is.1) at (contains_map (λ (c : ManagerPart). c.number) s.managers q is.0) in
       in_range stores m (Contains-permutation numbers (range_with_len 1 stores) m (IsPermutation-sym _ _ r.of_setup.managers) among)
 
   pub all_stores : managers_in s ≡ stores

@@ -1,13 +1,13 @@
 -- A leg of a transfer whose work was done, of which a commit was made or cut short: who names its branch, what it holds as it is
 -- asked to prepare, and that it isn't read only.
 -- A leg of a transfer that was committed, or whose commit was cut short, comes out by the log, once the night's resolve is made.
-use Rattle.xa_base.proofs.{rules, pos, if◌then◌else◌, ◌≡◌, ◌≢◌, ℕ, ◌+◌, ◌^◌, ◌<◌, ◌≤◌, true, false, List, [], ◌∷◌, ◌++◌, length, length-append, all_left}
-use Rattle.xa_base.proofs.{append_assoc, get_or, slice_get, sym, refl, ap, ◌∙◌, subst, arith, Option, None, Some, option_map, All, Contains, cases_lt, All-nil}
-use Rattle.xa_base.proofs.{All-cons, All-head, All-tail, All-contains, begins_on, is_some, Bool, All-weaker, Contains-append_left}
+use Rattle.xa_base.proofs.{after_seam, rules, pos, if◌then◌else◌, ◌≡◌, ◌≢◌, ℕ, ◌+◌, ◌^◌, ◌<◌, ◌≤◌, true, false, List, [], ◌∷◌, ◌++◌, length, length-append}
+use Rattle.xa_base.proofs.{all_left, append_assoc, get_or, slice_get, sym, refl, ap, ◌∙◌, arith, Option, None, Some, option_map, All, Contains, cases_lt}
+use Rattle.xa_base.proofs.{All-nil, All-cons, All-head, All-tail, All-contains, begins_on, is_some, Bool, All-weaker, Contains-append_left}
 use Rattle.xa_words.specs.{key_eq, RdOnly, Op, Prepare, Request, Code, TranName, tran_of, RmFail}
 use Rattle.xa_tables.specs.{Tables, next, of_thread, tables_after, coded, names, is_heur, DoesWork, held_by, History, state_of}
 use Rattle.xa_desk.specs.{LedgerView, ledger, HasGrown, numbered, DeskView, HaveGrown}
-use Rattle.xa_worker.specs.{Entry, requests}
+use Rattle.xa_worker.specs.{requests}
 use Rattle.xa_switch.specs.{Settling, IsSettled, ManagerPart, find_manager, sent, journal, journal_in, answers, IsOpenedWith, first_of, history, ledgers_of}
 use Rattle.xa_switch.specs.{Again}
 use Rattle.xa_switch.proofs.SettledOpenings.{follows_first}
@@ -28,7 +28,7 @@ use Rattle.xa_bank_days.proofs.Come.{Obeys, HasCome, ObeysAt, OnlyReads, IsLow, 
 use Rattle.xa_base.specs.{MOST_MANAGERS, IsUpTo}
 use Rattle.xa_log.specs.{LogState, Records, record_in, record_of}
 use Rattle.xa_atomicity.proofs.NextOpening.{next_resolved_after, one_of}
-use Rattle.xa_days.proofs.Legs.{after_seam, tran_each}
+use Rattle.xa_days.proofs.Legs.{tran_each}
 use Rattle.xa_days.specs.SettledDays.{voted, unasked}
 use Rattle.xa_bank.specs.{branches_of, changes_of}
 use Rattle.xa_bank_days.specs.{IsResolvedBy}
@@ -117,7 +117,7 @@ module _ {s : Settling} (settled : IsSettled s) (told : (u : ℕ) → IsTold s u
       let P : Request → Type 0 = λ r. names x r.op ≡ true → (r.thread ≡ t) × (r.number < length a1.sent → is_commit r.op ≡ false) in
       let all : All P H = λ j e within_ named_. ((named j e within_ named_).thread, λ early. ((by_place j e within_ named_).0 early).0) in
       let z = taken t H 0 a1.sent (obeyed.more ++ rest.more) (length a1.sent) (omega arith) ((settled.agree t m).carried ∙ ap (numbered t 0) after_commit) in
-      let w = all_left P (taken_before t (length a1.sent) H) z.rest (subst (All P) z.place all) k d lt is in
+      let w = all_left P (taken_before t (length a1.sent) H) z.rest (rw z.place at all) k d lt is in
       let early = all_earlier t (taken_before t (length a1.sent) H) 0 a1.sent z.own k d lt w.0 in
       w.1 (omega (arith, early))
 
@@ -140,7 +140,7 @@ module _ {s : Settling} (settled : IsSettled s) (told : (u : ℕ) → IsTold s u
     IsAnswer q = slice_get (answers t (journal s m)) q.0 ≡ Some q
 
     all_answered : All IsAnswer final.collected
-    all_answered = subst (All IsAnswer) (by_ledger (ledgers_of s t) m (λ (a : LedgerView). a.collected) positive refl) (settled.agree t m).coded
+    all_answered = rw (by_ledger (ledgers_of s t) m (λ (a : LedgerView). a.collected) positive refl) at (settled.agree t m).coded
 
     does : DoesWork t (length a0.sent) x account leg.delta T (taken_before t (length a1.sent) H)
     does =
@@ -165,7 +165,7 @@ module _ {s : Settling} (settled : IsSettled s) (told : (u : ℕ) → IsTold s u
         let up = all_earlier t first_part 0 a1.sent at.1.earlier j d lt mine in omega (arith, up) in
         let taken : taken_before t k H ≡ first_part = search (arith, taken_is, request_of) in
         let got : slice_get (answers t (coded H T)) k ≡ Some (k, RdOnly) =
-        subst (λ (J : List Entry). slice_get (answers t J) k ≡ Some (k, RdOnly)) with_T.codes (All-contains IsAnswer final.collected (k, RdOnly) all_answered reads) in
+        rw with_T.codes at (All-contains IsAnswer final.collected (k, RdOnly) all_answered reads) in
         let code : (next t (Prepare x) (tables_after first_part T)).1 ≡ RdOnly = search (arith, same_code, slice_get, answer_at, request_of, numbered_length) in
         work_never_reads t (length a0.sent) t x account leg.delta (taken_before t k H) T does with_T.opened
         (ap (λ (g : History). (next t (Prepare x) (tables_after g T)).1) taken ∙ code)
@@ -261,8 +261,7 @@ module _ {s : Settling} {again : Again} {q : ResolveCall} {next : Settling} (sce
       let rest = first_leg.rest.collected in
       let z = there scene.settled scene.told low first_leg in
       votes scene.settled scene.told low first_leg z.0 z.1 reads.more reads.sent
-      (subst (λ l. Contains l (length (ledger desk.ledgers one.branch.m).sent, RdOnly)) (sym rest.1)
-      (Contains-append_left (ledger new one.branch.m).collected rest.0 (length (ledger desk.ledgers one.branch.m).sent, RdOnly) reads.collected))
+      (rw rest.1 (Contains-append_left (ledger new one.branch.m).collected rest.0 (length (ledger desk.ledgers one.branch.m).sent, RdOnly) reads.collected))
 
   -- ---- the call
 

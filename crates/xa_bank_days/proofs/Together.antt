@@ -1,9 +1,9 @@
 -- What several logs have that are read as one.
 -- What the transfers of all tellers come to at one store, for one account.
-use Rattle.xa_base.proofs.{rules, cases_eq, option_or, ◌≡◌, ◌≢◌, ℕ, zero, suc, Bool, Option, None, Some, List, [], ◌∷◌, length, map, slice_get, sym, refl, ap}
-use Rattle.xa_base.proofs.{◌∙◌, arith, some_same, ◌+◌, ◌^◌, ◌<◌, ◌≤◌, ⊎_elim, true, false, ◌||◌, ◌++◌, subst, inl, inr, list_any, or-true, list_any-append, Vec}
-use Rattle.xa_base.proofs.{get_or, All, length-map, slice_get_within, Global, All-nil, All-weaker, got, got_map, is_missing, false_from_ne_true}
-use Rattle.xa_words.specs.{TranName, XidName, xid_eq, Op}
+use Rattle.xa_base.proofs.{each_number, total_append, rules, cases_eq, option_or, ◌≡◌, ◌≢◌, ℕ, zero, suc, Bool, Option, None, Some, List, [], ◌∷◌, length, map}
+use Rattle.xa_base.proofs.{slice_get, sym, refl, ap, ◌∙◌, arith, some_same, ◌+◌, ◌^◌, ◌<◌, ◌≤◌, true, false, ◌||◌, ◌++◌, subst, inl, inr, list_any, or-true}
+use Rattle.xa_base.proofs.{list_any-append, get_or, All, length-map, slice_get_within, All-nil, All-weaker, got, got_map, is_missing, false_from_ne_true}
+use Rattle.xa_words.specs.{TranName, XidName, Op}
 use Rattle.xa_log.specs.{Records, all_records, record_in, LogState, record_of, IsReadAs}
 use Rattle.xa_base.specs.{total, MOST_MANAGERS, IsUpTo}
 use Rattle.xa_tables.specs.{Tables, state_of, names}
@@ -11,19 +11,17 @@ use Rattle.xa_desk.specs.{LedgerView, DeskView, ledger}
 use Rattle.xa_switch.specs.{Again, Settling, ledgers_of, sent, first_of, history}
 use Rattle.xa_atomicity.specs.{is_recorded, ResolveCall}
 use Rattle.xa_days.specs.{Leg}
-use Rattle.xa_work.specs.{WorkOutcome, HasSent, HaveSent, IfLost, IsOpenRm}
+use Rattle.xa_work.specs.{WorkOutcome, HasSent, HaveSent, IfLost}
 use Rattle.xa_work.proofs.Sent.{none_sent, sent_on, sent_as, have_on, have_as}
 use Rattle.xa_bank.specs.{Habits, Transfer, is_undecided, MakesEach, tran_named, Teller}
-use Rattle.xa_bank.proofs.Named.{IsOf, Is, IsFrom, Names, names_as, next_names, none_made, one_transfer, transfers_name, opens_names, Earlier, IsBelow}
-use Rattle.xa_bank.proofs.Named.{earlier_on, IsTold}
+use Rattle.xa_bank.proofs.Named.{IsOf, Is, IsFrom, Names, names_as, next_names, one_transfer, transfers_name, opens_names, Earlier, IsBelow, earlier_on, IsTold}
 use Rattle.xa_bank_days.specs.{IsNamed, is_applied, told as told_of, DayAndNight, all_told, records_of}
 use Rattle.xa_bank_days.proofs.Went.{AreKnown, each_keeps, lost_last, named_once, rest_known, AtPlace, as_many, at_place, owner}
-use Rattle.xa_bank_days.proofs.Made.{CameOut, HasNoCommit, IsFoundSo, is_leg, IsStore, Noted, NotedSent, TransferAt, next_at, noted_none, LegsSo, both_legs}
-use Rattle.xa_bank_days.proofs.Made.{counts_for, no_legs, legs_as, total_append}
+use Rattle.xa_bank_days.proofs.Made.{CameOut, IsFoundSo, IsStore, Noted, NotedSent, TransferAt, next_at, noted_none, LegsSo, both_legs, counts_for, no_legs}
+use Rattle.xa_bank_days.proofs.Made.{legs_as}
 use Rattle.xa_bank_days.proofs.Out.{IsScene, BranchesComeOut}
 use Rattle.xa_atomicity.proofs.Sites.{own_all}
 use Rattle.xa_atomicity.proofs.Settled.{by_ledger}
-use Rattle.xa_bank.proofs.Days.{of_threads}
 
 or_none : (o : Option (List Bool)) → option_or o None ≡ o
 or_none o = search (arith, rules)
@@ -72,23 +70,15 @@ module _ (none : NoLogs) (more : OneLogMore) (tran : TranName) {L : Type 0} (f :
 
 -- ---- what all transfers of one teller come to at one store, for one account: notes
 
-noted_among : (records : Records) (legs among : List Leg) (op : Op) → ((x : XidName) → is_leg x legs ≡ true → is_leg x among ≡ true) → Noted records legs op
-    → Noted records among op
-noted_among records legs among op also h x e = ⊎_elim (λ (is : is_leg x legs ≡ true). inl (also x is)) (λ (none : HasNoCommit records x op). inr none) (h x e)
-
 pub noted_more : (records : Records) (legs more : List Leg) (op : Op) → Noted records legs op → Noted records (legs ++ more) op
-noted_more records legs more op =
-    noted_among records legs (legs ++ more) op (λ x is. list_any-append (λ (g : Leg). xid_eq g.xid x) legs more ∙ ap (λ b. b || is_leg x more) is)
+noted_more records legs more op h x e = search (arith, list_any-append, or-true, h x e)
 
 pub noted_after : (records : Records) (legs more : List Leg) (op : Op) → Noted records more op → Noted records (legs ++ more) op
-noted_after records legs more op =
-    noted_among records more (legs ++ more) op (λ x is. list_any-append (λ (g : Leg). xid_eq g.xid x) legs more ∙ ap (λ b. is_leg x legs || b) is ∙ or-true (is_leg x legs))
+noted_after records legs more op h x e = search (arith, list_any-append, or-true, h x e)
 
 pub noted_both : (records : Records) (legs more : List Leg) (a b c : LedgerView) → HasSent (Noted records legs) a b → HasSent (Noted records more) b c
     → HasSent (Noted records (legs ++ more)) a c
-noted_both records legs more a b c h k =
-    sent_on (Noted records (legs ++ more)) a b c (sent_as (Noted records legs) (Noted records (legs ++ more)) (noted_more records legs more) a b h)
-    (sent_as (Noted records more) (Noted records (legs ++ more)) (noted_after records legs more) b c k)
+noted_both records legs more a b c h k = sent_on (sent_as (noted_more records legs more) h) (sent_as (noted_after records legs more) k)
 
 module _ {s : Settling} {again : Again} {q : ResolveCall} {next : Settling} (scene : IsScene s again q next) {m : ℕ} {T : Tables} (store : IsStore s m T)
     (j : List ℕ) (t : ℕ) (low : t < 2 ^ 32) (habits : Habits) (keeps : habits.forgets ≡ false) (R : LogState → Type 0) (is_found : Bool) where
@@ -100,10 +90,6 @@ module _ {s : Settling} {again : Again} {q : ResolveCall} {next : Settling} (sce
   abbrev pub TransfersAt : ℕ → List Transfer → List WorkOutcome → LedgerView → LedgerView → Type 0
   TransfersAt n trs os a a' = LegsSo (CameOut s q next m T j) (IsOneOf n (length os)) (total (counts_for m j) (told_of is_found trs os)) (NotedSent q a a')
 
-  none_told : (trs : List Transfer) → told_of is_found trs [] ≡ []
-  none_told [] = refl
-  none_told (tr ∷ trs) = refl
-
   -- what was found is what the log has, as it was read, of the last of these transfers, where nobody knew whether its record
   -- was made
   abbrev pub IsFoundAt : ℕ → List WorkOutcome → LogState → Type 0
@@ -112,28 +98,27 @@ module _ {s : Settling} {again : Again} {q : ResolveCall} {next : Settling} (sce
   pub each_at : (n : ℕ) (trs : List Transfer) (os : List WorkOutcome) (old new : DeskView) (log later : LogState)
       → MakesEach t habits n trs os old new log later R
       → AreKnown os → R later → IsFoundAt n os later → ((k : ℕ) (x : XidName) → n ≤ k → IsOf t k x → state_of T x ≡ None)
-      → HaveSent (λ op. ⊥) new.ledgers (ledgers_of s t)
-      → Earlier t n old.ledgers
+      → HaveSent (λ op. ⊥) new.ledgers (ledgers_of s t) → Earlier t n old.ledgers
       → ((k : ℕ) (tran : TranName) → n ≤ k → IsNamed t k tran.gtrid → record_in q.records tran ≡ record_of later tran)
       → TransfersAt n trs os (ledger old.ledgers m) (ledger new.ledgers m)
-  each_at n trs [] old new log later h known may so fresh ended before found =
-      no_legs (sym (ap (total (counts_for m j)) (none_told trs)))
-      (subst (λ (d : DeskView). HasSent (Noted q.records []) (ledger old.ledgers m) (ledger d.ledgers m)) (sym (none_made R t habits n trs old new log later h).0)
-      (none_sent (Noted q.records []) (ledger old.ledgers m)))
+  each_at n [] [] old new log later h known may so fresh ended before found = no_legs refl (rw h.0 (none_sent _ (ledger old.ledgers m)))
+  each_at n (tr ∷ trs) [] old new log later h known may so fresh ended before found = no_legs refl (rw h.0 (none_sent _ (ledger old.ledgers m)))
   each_at n (tr ∷ trs) (o ∷ os) old new log later (mid, now, makes, rest) known may so fresh ended before found =
       let after_it : AreKnown os = rest_known o os known in
       let here : IfLost (λ votes. IsFoundSo R t n is_found now) o =
       lost_last R t habits keeps (λ votes. IsFoundSo R t n is_found now) (n + 1) trs o os mid new now later rest known (λ last same un votes. record {
-        may = subst R same may;
+        may = rw same at may;
         found_ = search (arith, list_any);
       }) in
       let rest_so : IsFoundAt (n + 1) os later =
       λ k last lost small. so k (omega (arith, last)) (ap (λ b. is_undecided o || b) lost ∙ or-true (is_undecided o)) small in
       let after : HaveSent (Names t (IsFrom (n + 1))) mid.ledgers (ledgers_of s t) =
-      have_on (Names t (IsFrom (n + 1))) mid.ledgers new.ledgers (ledgers_of s t) (transfers_name R t habits (n + 1) trs os mid new now later rest)
-      (have_as (λ op. ⊥) (Names t (IsFrom (n + 1))) (λ op never. absurd never) new.ledgers (ledgers_of s t) ended) in
+      have_on mid.ledgers new.ledgers (ledgers_of s t) (transfers_name R t habits (n + 1) trs os mid new now later rest) (have_as (λ op never. absurd never) new.ledgers (ledgers_of s t) ended) in
       let kept : (tran : TranName) → IsNamed t n tran.gtrid → record_of later tran ≡ record_of now tran = λ tran is.
-      each_keeps R t habits keeps (n + 1) trs os mid new now later rest after_it may tran (λ k from below is_k. let same = (named_once t t n k tran.gtrid low low is is_k).1 in omega (arith, same, from)) in
+      elim (each_keeps R t habits keeps (n + 1) trs os mid new now later rest after_it may tran) [
+        | inl same ↦ same
+        | inr z ↦ let same = (named_once t t n z.0 tran.gtrid low low is z.3).1 in absurd (omega (arith, same, z.1))
+      ] in
       let head : TransferAt scene store j t low n tr (is_applied is_found o) (ledger old.ledgers m) (ledger mid.ledgers m) =
       next_at scene store j t low n tr habits o keeps R is_found (λ x. fresh n x (omega arith)) mid now here after
       (λ tran is. found n tran (omega arith) is ∙ kept tran is) old log makes before in
@@ -148,7 +133,7 @@ module _ {s : Settling} {again : Again} {q : ResolveCall} {next : Settling} (sce
 
 -- what was sent to a manager to which nothing had been
 all_sent : (P : Op → Type 0) (a a' : LedgerView) → a.sent ≡ [] → HasSent P a a' → All P a'.sent
-all_sent P a a' none h = subst (All P) (sym (h.sent ∙ ap (λ l. l ++ h.more) none)) h.each
+all_sent P a a' none h = rw (h.sent ∙ ap (λ l. l ++ h.more) none) h.each
 
 -- what xa_days has of the branches of a commit, and xa_log of several logs
 pub record Laws : Type 0 where
@@ -168,7 +153,7 @@ module _ (laws : Laws) {L : Type 0} {state : L → LogState} {knows : L → Type
 
   pub told : (u : ℕ) → IsTold s u
   told =
-      of_threads (IsTold s) (length olds) (λ u outside. inr (is_day.others u outside)) (λ k below.
+      each_number (IsTold s) (length olds) (λ u outside. inr (is_day.others u outside)) (λ k below.
       let old = got olds k below in
       inl (omega (arith, below, many), (at_place d k old.0 old.1).went.names))
 
@@ -185,8 +170,10 @@ module _ (laws : Laws) {L : Type 0} {state : L → LogState} {knows : L → Type
       → ((k : ℕ) → n ≤ k → IsNamed (i + 1) k tran.gtrid → ⊥) → record_of (state z.log) tran ≡ record_of (state old.log) tran
   log_keeps i old z tran others =
       let w = z.went in
-      each_keeps (IsReadAs state knows loses z.new.log) (i + 1) old.habits z.all.keeps old.habits.first old.transfers.items z.new.outcomes.items w.opened w.left (state old.log) (state z.log)
-      w.makes w.known w.may tran (λ k above _. others k (omega (arith, above, z.all.counts)))
+      elim (each_keeps (IsReadAs state knows loses z.new.log) (i + 1) old.habits z.all.keeps old.habits.first old.transfers.items z.new.outcomes.items w.opened w.left (state old.log) (state z.log) w.makes w.known w.may tran) [
+        | inl same ↦ same
+        | inr its ↦ absurd (others its.0 (omega (arith, its.1, z.all.counts)) its.3)
+      ]
 
   -- what a thread's log had before the day is of its own earlier transfers
   old_none : (i : ℕ) (old : Teller L) (tran : TranName) → slice_get olds i ≡ Some old → ((k : ℕ) → k < n → IsNamed (i + 1) k tran.gtrid → ⊥)
@@ -201,14 +188,12 @@ module _ (laws : Laws) {L : Type 0} {state : L → LogState} {knows : L → Type
   found_at : (i : ℕ) (old : Teller L) (z : AtPlace d i old) (k : ℕ) (tran : TranName)
       → IsNamed (i + 1) k tran.gtrid → record_in q.records tran ≡ record_of (state z.log) tran
   found_at i old z k tran named =
-      ap (λ (r : Records). record_in r tran) resolved.by_
-      ∙ one_in_all laws.none laws.more tran records_in logs i z.log z.log_at (λ u log apart there.
+      ap (λ (r : Records). record_in r tran) resolved.by_ ∙ one_in_all laws.none laws.more tran records_in logs i z.log z.log_at (λ u log apart there.
       let (old', place, log_is) = owner d u log there in
       let other : (e : ℕ) → IsNamed (u + 1) e tran.gtrid → ⊥ = λ e its.
       let same = (named_once (i + 1) (u + 1) k e tran.gtrid (low_at i old z.old_at) (low_at u old' place.old_at) named its).0 in
       apart (omega (arith, same)) in
-      ap (λ (l : L). record_of (state l) tran) (sym log_is) ∙ log_keeps u old' place tran (λ e _. other e)
-      ∙ old_none u old' tran place.old_at (λ e _. other e))
+      ap (λ (l : L). record_of (state l) tran) (sym log_is) ∙ log_keeps u old' place tran (λ e _. other e) ∙ old_none u old' tran place.old_at (λ e _. other e))
 
   -- a transaction that isn't of any transfer of that day
   pub found_before : (tran : TranName) → ((t k : ℕ) → 1 ≤ t → t ≤ length olds → n ≤ k → IsNamed t k tran.gtrid → ⊥)
@@ -221,8 +206,7 @@ module _ (laws : Laws) {L : Type 0} {state : L → LogState} {knows : L → Type
       let was : old.log ≡ old_log = some_same old.log old_log (sym (got_map (λ (t : Teller L). t.log) olds k old place.old_at) ∙ at') in
       let within = slice_get_within olds k old place.old_at in
       ap (λ (l : L). record_of (state l) tran) (sym log_is)
-      ∙ log_keeps k old place tran (λ e from is. others (k + 1) e (omega arith) (omega (arith, within)) from is)
-      ∙ ap (λ (l : L). record_of (state l) tran) was)
+      ∙ log_keeps k old place tran (λ e from is. others (k + 1) e (omega arith) (omega (arith, within)) from is) ∙ ap (λ (l : L). record_of (state l) tran) was)
 
   -- ---- one thread
 
@@ -252,21 +236,15 @@ module _ (laws : Laws) {L : Type 0} {state : L → LogState} {knows : L → Type
       let before : (k : ℕ) → 1 ≤ k → All (Names t (IsBelow old.habits.first)) (ledger w.opened.ledgers k).sent = λ k low.
       let y = w.opens k low in
       all_sent (Names t (IsBelow old.habits.first)) (ledger w.desk.ledgers k) (ledger w.opened.ledgers k) (w.nothing k low)
-      (sent_as IsOpenRm (Names t (IsBelow old.habits.first)) (opens_names t (IsBelow old.habits.first)) (ledger w.desk.ledgers k) (ledger w.opened.ledgers k) y) in
+      (sent_as (opens_names t (IsBelow old.habits.first)) y) in
       let a : TransfersAt scene store j t (low_at i old at) old.habits z.keeps R place.found old.habits.first old.transfers.items new.outcomes.items (ledger w.opened.ledgers m) (ledger w.left.ledgers m) =
       each_at scene store j t (low_at i old at) old.habits z.keeps R place.found old.habits.first old.transfers.items new.outcomes.items w.opened w.left
-      (state old.log) (state place.log) w.makes w.known w.may w.found_ fresh w.ended_ before
+      (state old.log) (state place.log) w.makes w.known w.may w.found_ fresh w.ended before
       (λ k tran _ named. found_at i old place k tran named) in
       let P : Op → Type 0 = Noted q.records a.legs in
       let all : HasSent P (ledger w.desk.ledgers m) (ledger (ledgers_of s t) m) =
-      sent_on P (ledger w.desk.ledgers m) (ledger w.opened.ledgers m) (ledger (ledgers_of s t) m)
-      (sent_as IsOpenRm P (λ op is. noted_none q.records a.legs op (λ x. ap (names x) is)) (ledger w.desk.ledgers m) (ledger w.opened.ledgers m) (w.opens m up.0))
-      (sent_on P (ledger w.opened.ledgers m) (ledger w.left.ledgers m) (ledger (ledgers_of s t) m) a.notes
-      (sent_as (λ op. ⊥) P (λ op never. absurd never) (ledger w.left.ledgers m) (ledger (ledgers_of s t) m) (w.ended_ m up.0))) in
-      subst (λ (v : Vec Transfer Global). LegsSo Out (λ x. (k : ℕ) × IsOf t k x) (total (counts_for m j) (told_of place.found v.items new.outcomes.items)) (λ legs. All (Noted q.records legs) (sent s t m)))
-      (sym w.transfers)
-      (legs_as a (λ x (k, above, below, its). (k, its)) (λ _.
-      subst (All P) (sym (by_ledger (ledgers_of s t) m (λ (l : LedgerView). l.sent) up.0 refl)) (all_sent P (ledger w.desk.ledgers m) (ledger (ledgers_of s t) m) (w.nothing m up.0) all)))
+      sent_on (sent_as (λ op is. noted_none q.records a.legs op (λ x. ap (names x) is)) (w.opens m up.0)) (sent_on a.notes (sent_as (λ op never. absurd never) (w.ended m up.0))) in
+      rw w.worked.transfers (legs_as a (λ x (k, above, below, its). (k, its)) (λ _. rw (by_ledger (ledgers_of s t) m (λ (l : LedgerView). l.sent) up.0 refl) (all_sent P (ledger w.desk.ledgers m) (ledger (ledgers_of s t) m) (w.nothing m up.0) all)))
 
   -- ---- all of them
 
@@ -290,23 +268,13 @@ module _ (laws : Laws) {L : Type 0} {state : L → LogState} {knows : L → Type
       let head : ThreadAt (i + 1) found new = each 0 (i + 1) found new refl refl (omega arith) in
       let tail : DayAt (i + 1) fs ns =
       day_at (i + 1) fs ns (omega (arith, high)) (omega (arith, sizes)) (λ k u f z f_at at is. each (suc k) u f z f_at at (omega (arith, is))) in
-      subst (λ v. LegsSo Out (IsOfSome i (suc (length ns))) v (λ legs. (u : ℕ) → i < u → u ≤ i + suc (length ns) → All (Noted q.records legs) (sent s u m)))
-      (sym (total_append (counts_for m j) (told_of found new.transfers.items new.outcomes.items) (all_told fs ns)))
-      (both_legs head tail (λ x its. (i + 1, omega arith, omega arith, its)) (λ x (u, above, upto, its). (u, omega (arith, above), omega (arith, upto), its))
+      rw (total_append (counts_for m j) (told_of found new.transfers.items new.outcomes.items) (all_told fs ns)) (both_legs head tail (λ x its. (i + 1, omega arith, omega arith, its)) (λ x (u, above, upto, its). (u, omega (arith, above), omega (arith, upto), its))
       (λ x (k, its) (u, above, upto, (e, others)).
       let same = (one_transfer (i + 1) k u e x (omega (arith, high)) (omega (arith, high, upto)) its others).0 in omega (arith, same, above))
-      (λ one more u above upto. noted_at head.legs tail.legs one more u above upto))
-    where
-      noted_at : (xs ys : List Leg) → All (Noted q.records xs) (sent s (i + 1) m)
-          → ((u : ℕ) → i + 1 < u → u ≤ i + 1 + length ns → All (Noted q.records ys) (sent s u m))
-          → (u : ℕ) → i < u → u ≤ i + suc (length ns) → All (Noted q.records (xs ++ ys)) (sent s u m)
-      noted_at xs ys one more u above upto = elim (cases_eq u (i + 1)) [
-        | inl same ↦
-            subst (λ t. All (Noted q.records (xs ++ ys)) (sent s t m)) (sym same)
-            (All-weaker (Noted q.records xs) (Noted q.records (xs ++ ys)) (noted_more q.records xs ys) (sent s (i + 1) m) one)
-        | inr other ↦
-            All-weaker (Noted q.records ys) (Noted q.records (xs ++ ys)) (noted_after q.records xs ys) (sent s u m) (more u (omega (arith, above, other)) (omega (arith, upto)))
-      ]
+      (λ one more u above upto. elim (cases_eq u (i + 1)) [
+        | inl same ↦ rw same (All-weaker _ _ (noted_more q.records head.legs tail.legs) _ one)
+        | inr other ↦ All-weaker _ _ (noted_after q.records head.legs tail.legs) _ (more u (omega (arith, above, other)) (omega (arith, upto)))
+      ]))
 
   pub whole : DayAt 0 founds news
   whole =
@@ -324,7 +292,7 @@ module _ (laws : Laws) {L : Type 0} {state : L → LogState} {knows : L → Type
   all_noted k r lt =
       let P : Op → Type 0 = Noted q.records whole.legs in
       let own =
-      of_threads (λ u. All P (sent s u m)) (length olds) (λ u outside. subst (All P) (sym (is_day.others u outside m)) (All-nil P))
+      each_number (λ u. All P (sent s u m)) (length olds) (λ u outside. rw (is_day.others u outside m) (All-nil P))
       (λ i below. whole.notes (i + 1) (omega arith) (omega (arith, below, (as_many d).0))) in
       let u : ℕ = (get_or (history s m) k r).thread in
       own_all u P (history s m) 0 (sent s u m) (is_day.settled.agree u m).carried (own u) k r lt refl

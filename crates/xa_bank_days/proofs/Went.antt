@@ -1,19 +1,19 @@
 -- The logs of all tellers: what they have after their transfers, of these and of others, and how a thread went whose log was read back.
-use Rattle.xa_base.proofs.{rules, ◌≡◌, ℕ, ◌+◌, List, [], ◌∷◌, ◌++◌, length, map, append_assoc, append-nil, sym, ap, ◌∙◌, arith, map-append, none_of, zero, suc}
-use Rattle.xa_base.proofs.{nat_lt, Bool, Some, slice_get, some_same, refl, subst, or-false, if◌then◌else◌, ◌^◌, ◌<◌, ◌≤◌, ◌⊎◌, ⊎_elim, true, false, inl, inr}
-use Rattle.xa_base.proofs.{cases_lt, cases_Bool, ◌||◌, All, list_any, or_parts, slice_get_within, all_at, got}
+use Rattle.xa_base.proofs.{map, append_assoc, map-append, rules, ◌≡◌, ℕ, ◌+◌, List, [], ◌∷◌, ◌++◌, length, append-nil, sym, ap, ◌∙◌, arith, none_of, zero, suc}
+use Rattle.xa_base.proofs.{nat_lt, Bool, Some, slice_get, some_same, refl, subst, or-false, if◌then◌else◌, ◌^◌, ◌<◌, ◌≤◌, ◌⊎◌, true, false, inl, inr, cases_lt}
+use Rattle.xa_base.proofs.{cases_Bool, ◌||◌, All, list_any, or_parts, slice_get_within, all_at, got}
 use Rattle.xa_words.specs.{TranName, tran_of, Code, key_eq, Decides-key_eq}
 use Rattle.xa_log.specs.{LogState, record_of, IsReadAs}
 use Rattle.xa_bank.specs.{Teller, ReadsBack, Habits, Transfer, is_undecided, death_in, Makes, MakesEach, branches_of, forgotten, gtrid_of, with_legs}
-use Rattle.xa_bank.specs.{without_legs, Comes, HasMade, ended, lived, unknown, MakesNext, tran_named}
+use Rattle.xa_bank.specs.{without_legs, Comes, HasMade, ended, lived, unknown, tran_named}
 use Rattle.xa_bank_days.specs.{AreReadBack, ForEach, IsReadBack, IsNamed, DayAndNight, IsToldAll, WorkedIn}
 use Rattle.xa_desk.specs.{DeskView}
-use Rattle.xa_atomicity.specs.{is_recorded, NothingWasSent}
+use Rattle.xa_atomicity.specs.{is_recorded}
 use Rattle.xa_work.specs.{WorkOutcome, IfLost, is_last, HaveSent, IsOpenRm}
 use Rattle.xa_work.specs.Units.Transacts.{commits, refused}
 use Rattle.xa_bank.proofs.Named.{legs_are, none_made, one_transfer, Names, makes_none, IsAny, if_both, if_so, none_lost, refused_so}
 use Rattle.xa_bank_days.proofs.Come.{IsReadSo, has_come}
-use Rattle.xa_switch.specs.{Settling, sent, ledgers_of}
+use Rattle.xa_switch.specs.{Settling, sent}
 use Rattle.xa_work.specs.Units.ComesOfCommit.{cut_short, in_full, undecided}
 use Rattle.xa_bank.proofs.Only.{all_told}
 
@@ -55,7 +55,7 @@ module _ {L : Type 0} (P : ℕ → Teller L → L → Bool → Type 0) where
   back_at t (suc k) (x ∷ tellers) (l ∷ logs) (f ∷ founds) h teller at =
       let (log, found, log_at, found_at, back) = back_at (t + 1) k tellers logs founds h.1 teller at in
       let number : t + 1 + k ≡ t + suc k = omega arith in
-      (log, found, log_at, found_at, subst (λ u. P u teller log found) number back)
+      (log, found, log_at, found_at, rw number at back)
   back_at t k tellers logs founds h teller at = absurd h
 
   -- one more
@@ -81,8 +81,7 @@ module _ {L : Type 0} (state : L → LogState) (knows : L → Type 0) (loses : T
 
   -- so they were read back
   pub are_read_back : (t : ℕ) (tellers : List (Teller L)) (logs : List L) (founds : List Bool)
-      → ForEach (ReadsBack state knows loses reopens) t tellers logs founds
-      → AreReadBack state knows loses t tellers logs founds
+      → ForEach (ReadsBack state knows loses reopens) t tellers logs founds → AreReadBack state knows loses t tellers logs founds
   are_read_back = all_so (ReadsBack state knows loses reopens) (IsReadBack state knows loses) is_read_back
 
 -- ---- numbers
@@ -102,29 +101,8 @@ named_or_not t n tran = elim (cases_lt n (2 ^ 32)) [
 ]
 
 -- or of one of so many
-pub record IsNamedFrom (t n count : ℕ) (gtrid : List ℕ) : Type 0 where
-  pub number : ℕ
-  pub from : n ≤ number
-  pub below : number < n + count
-  pub named : IsNamed t number gtrid
-
-pub named_from : (t n count : ℕ) (tran : TranName) → IsNamedFrom t n count tran.gtrid ⊎ ((k : ℕ) → n ≤ k → k < n + count → IsNamed t k tran.gtrid → ⊥)
-named_from t n zero tran = inr (λ k above below z. omega (arith, above, below))
-named_from t n (suc count) tran =
-    ⊎_elim
-    (λ (here : IsNamed t n tran.gtrid). inl (record { number = n; from = omega arith; below = omega arith; named = here }))
-    (λ (not_here : IsNamed t n tran.gtrid → ⊥).
-    ⊎_elim
-    (λ (z : IsNamedFrom t (n + 1) count tran.gtrid).
-    let above = z.from in
-    inl (record { number = z.number; from = omega (arith, above); below = omega (arith, z.below); named = z.named }))
-    (λ (none : (k : ℕ) → n + 1 ≤ k → k < n + 1 + count → IsNamed t k tran.gtrid → ⊥).
-    inr (λ k above below z.
-    ⊎_elim (λ (same : k < n + 1). not_here (subst (λ i. IsNamed t i tran.gtrid) (let e : k ≡ n = omega (arith, same, above) in e) z))
-    (λ (past : n + 1 ≤ k). none k past (omega (arith, below)) z)
-    (cases_lt k (n + 1))))
-    (named_from t (n + 1) count tran))
-    (named_or_not t n tran)
+abbrev pub IsNamedFrom : ℕ → ℕ → ℕ → List ℕ → Type 0
+IsNamedFrom t n count gtrid = (k : ℕ) × (n ≤ k) × (k < n + count) × IsNamed t k gtrid
 
 -- ---- the log
 
@@ -143,7 +121,7 @@ module _ (R : LogState → Type 0) (t n : ℕ) (tr : Transfer) (habits : Habits)
       ap (λ (l : LogState). record_of l tran) same
       ∙ (has_come one.branch two.branch (death_in habits n) (is_recorded left (tran_of one.branch.xid)) o worked new.ledgers log left comes
       (if_both _ (λ votes. R later) (IsReadSo (branches_of one two) (tran_of one.branch.xid) log left (is_recorded left (tran_of one.branch.xid))) o
-      (λ votes either may_. record { either = λ u is. either u left is (subst R same may_); found_ = refl }) read may)).others tran
+      (λ votes either may_. record { either = λ u is. either u left is (rw same at may_); found_ = refl }) read may)).others tran
       (λ is. other (record { small = of_one.small; gtrid_ = ap (λ (u : TranName). u.gtrid) is ∙ of_one.gtrid }))
   makes_keeps old new log later (with_legs one two left legs (refused same why sent) kept read) may tran other =
       ap (λ (l : LogState). record_of l tran) (left_is habits o keeps (tran_of one.branch.xid) left later kept ∙ same)
@@ -167,25 +145,21 @@ module _ (R : LogState → Type 0) (t : ℕ) (habits : Habits) (keeps : habits.f
   lost_last P n trs o [] mid new now later h known so = if_so P o (so refl (none_made R t habits n trs mid new now later h).1)
   lost_last P n trs o (p ∷ os) mid new now later h known so = none_lost P o known.0
 
-  -- the records of other transactions than these transfers' stay
+  -- the record of a transaction stays, or it is of one of these transfers
   pub each_keeps : (n : ℕ) (trs : List Transfer) (os : List WorkOutcome) (old new : DeskView) (log later : LogState)
-      → MakesEach t habits n trs os old new log later R
-      → AreKnown os → R later → (tran : TranName) → ((k : ℕ) → n ≤ k → k < n + length os → IsNamed t k tran.gtrid → ⊥)
-      → record_of later tran ≡ record_of log tran
-  each_keeps n trs [] old new log later h known may tran others = search (arith, none_made)
-  each_keeps n (tr ∷ trs) (o ∷ os) old new log later (mid, now, makes, rest) known may tran others =
-      each_keeps (n + 1) trs os mid new now later rest (rest_known o os known) may tran (λ k from below. others k (omega (arith, from)) (omega (arith, below)))
-      ∙ makes_keeps R t n tr habits o keeps
-      makes.shut mid log now makes.makes (lost_last (λ votes. R now) (n + 1) trs o os mid new now later rest known (λ _ unlogged _ votes. subst R unlogged may)) tran (others n (omega arith) (omega arith))
-  each_keeps n [] (o ∷ os) old new log later h known may tran others = absurd h
-
-  -- no more were made than there are
-  pub made_most : (n : ℕ) (trs : List Transfer) (os : List WorkOutcome) (old new : DeskView) (log later : LogState)
-      → MakesEach t habits n trs os old new log later R
-      → length os ≤ length trs
-  made_most n trs [] old new log later h = omega arith
-  made_most n (tr ∷ trs) (o ∷ os) old new log later (mid, now, makes, rest) = let z = made_most (n + 1) trs os mid new now later rest in omega (arith, z)
-  made_most n [] (o ∷ os) old new log later h = absurd h
+      → MakesEach t habits n trs os old new log later R → AreKnown os → R later → (tran : TranName)
+      → (record_of later tran ≡ record_of log tran) ⊎ IsNamedFrom t n (length trs) tran.gtrid
+  each_keeps n trs [] old new log later h known may tran = inl (search (arith, none_made))
+  each_keeps n (tr ∷ trs) (o ∷ os) old new log later (mid, now, makes, rest) known may tran = elim (named_or_not t n tran) [
+    | inl here ↦ inr (n, omega arith, omega arith, here)
+    | inr other ↦ elim (each_keeps (n + 1) trs os mid new now later rest (rest_known o os known) may tran) [
+      | inl same ↦
+          let so = lost_last (λ votes. R now) (n + 1) trs o os mid new now later rest known (λ _ unlogged _ votes. rw unlogged at may) in
+          inl (same ∙ makes_keeps R t n tr habits o keeps makes.shut mid log now makes.makes so tran other)
+      | inr z ↦ inr (z.0, omega (arith, z.1), omega (arith, z.2), z.3)
+    ]
+  ]
+  each_keeps n [] (o ∷ os) old new log later h known may tran = absurd h
 
 -- ---- of the last alone nobody may know whether its record was made
 
@@ -204,46 +178,39 @@ ends_known (p ∷ q ∷ before) o e =
 
 come_known : (Known K : Type 0) (trs : List Transfer) (os : List WorkOutcome) → Comes Known K trs os → AreKnown os
 come_known Known K trs os (lived none many knows) = lives_known os none
-come_known Known K trs os (ended before o is none last leaves) = subst AreKnown (sym is) (ends_known before o none)
-come_known Known K trs os (unknown never none) = subst AreKnown (sym none) tt
+come_known Known K trs os (ended before o is none last leaves) = rw is (ends_known before o none)
+come_known Known K trs os (unknown never none) = rw none tt
 
 -- ---- the log as it is read
 
 -- where nobody knows whether its record was made, a transfer leaves the log as it is read
-makes_read : {R : LogState → Type 0} (t n : ℕ) (tr : Transfer) (habits : Habits) (o : WorkOutcome) (old new : DeskView) (log later read : LogState)
-    → habits.forgets ≡ false → is_undecided o ≡ true → Makes t n tr habits o old new log later R → Makes t n tr habits o old new log read R
-makes_read t n tr habits o old new log later read keeps un (with_legs one two left legs (commits worked begins known work (in_full done none is made)) kept so) =
-    let z : false ≡ true = sym (ap is_undecided is) ∙ un in cc
-makes_read t n tr habits o old new log later read keeps un (with_legs one two left legs (commits worked begins known work (cut_short at k some is dies)) kept so) =
-    let z : false ≡ true = sym (ap is_undecided is) ∙ un in cc
-makes_read t n tr habits o old new log later read keeps un (with_legs one two left legs (commits worked begins known work (undecided votes decides is may voted wanted)) kept so) =
-    with_legs one two read legs (commits worked begins known work (undecided votes decides is may voted wanted))
-    (sym (ap (λ b. if b then forgotten (tran_of one.branch.xid) o read else read) keeps)) so
-makes_read t n tr habits o old new log later read keeps un (with_legs one two left legs (refused same why sent_) kept so) = search (arith, refused_so)
-makes_read t n tr habits o old new log later read keeps un (without_legs is none same unlogged) = let z : false ≡ true = sym (ap is_undecided is) ∙ un in cc
+module _ (R : LogState → Type 0) (t : ℕ) (habits : Habits) (keeps : habits.forgets ≡ false) (read : LogState) where
+  makes_read : (n : ℕ) (tr : Transfer) (o : WorkOutcome) (old new : DeskView) (log later : LogState) → is_undecided o ≡ true
+      → Makes t n tr habits o old new log later R → Makes t n tr habits o old new log read R
+  makes_read n tr o old new log later un (with_legs one two left legs (commits worked begins known work (in_full done none is made)) kept so) =
+      cc (ap is_undecided is)
+  makes_read n tr o old new log later un (with_legs one two left legs (commits worked begins known work (cut_short at k some is dies)) kept so) =
+      cc (ap is_undecided is)
+  makes_read n tr o old new log later un (with_legs one two left legs (commits worked begins known work (undecided votes decides is may voted wanted)) kept so) =
+      with_legs one two read legs (commits worked begins known work (undecided votes decides is may voted wanted)) (rw keeps) so
+  makes_read n tr o old new log later un (with_legs one two left legs (refused same why sent_) kept so) = search (arith, refused_so)
+  makes_read n tr o old new log later un (without_legs is none same unlogged) = cc (ap is_undecided is)
 
-next_read : {R : LogState → Type 0} (t n : ℕ) (tr : Transfer) (habits : Habits) (o : WorkOutcome) (old new : DeskView) (log later read : LogState)
-    → habits.forgets ≡ false → is_undecided o ≡ true → MakesNext t n tr habits o old new log later R → MakesNext t n tr habits o old new log read R
-next_read t n tr habits o old new log later read keeps un next =
-    record { shut = next.shut; shuts = next.shuts; makes = makes_read t n tr habits o next.shut new log later read keeps un next.makes }
+  the_others : (b c : Bool) → b ≡ false → (b || c) ≡ true → c ≡ true
+  the_others b c e f = search (arith, rules)
 
-the_others : (b c : Bool) → b ≡ false → (b || c) ≡ true → c ≡ true
-the_others b c e f = search (arith, rules)
-
-each_read : (R : LogState → Type 0) (t : ℕ) (habits : Habits) (keeps : habits.forgets ≡ false) (n : ℕ) (trs : List Transfer) (os : List WorkOutcome) (old new : DeskView)
-    (log later read : LogState) → AreKnown os → list_any is_undecided os ≡ true → MakesEach t habits n trs os old new log later R
-    → MakesEach t habits n trs os old new log read R
-each_read R t habits keeps n trs [] old new log later read known un h = cc
-each_read R t habits keeps n (tr ∷ trs) (o ∷ []) old new log later read known un (mid, now, makes, rest) =
-    let same = (none_made R t habits (n + 1) trs mid new now later rest).0 in (
-      mid,
-      read,
-      next_read t n tr habits o old mid log now read keeps (sym (or-false (is_undecided o)) ∙ un) makes,
-      subst (λ (d : DeskView). MakesEach t habits (n + 1) trs [] mid d read read R) (sym same) (makes_none R t habits (n + 1) trs mid read),
-    )
-each_read R t habits keeps n (tr ∷ trs) (o ∷ p ∷ os) old new log later read known un (mid, now, makes, rest) =
-    search (arith, each_read R t habits keeps (n + 1) trs (p ∷ os) mid new now later read known.1, the_others, list_any, undecided_last)
-each_read R t habits keeps n [] (o ∷ os) old new log later read known un h = absurd h
+  each_read : (n : ℕ) (trs : List Transfer) (os : List WorkOutcome) (old new : DeskView) (log later : LogState) → AreKnown os
+      → list_any is_undecided os ≡ true → MakesEach t habits n trs os old new log later R → MakesEach t habits n trs os old new log read R
+  each_read n trs [] old new log later known un h = cc
+  each_read n (tr ∷ trs) (o ∷ []) old new log later known un (mid, now, makes, rest) = (
+    mid,
+    read,
+    record { shut = makes.shut; shuts = makes.shuts; makes = makes_read n tr o makes.shut mid log now (sym (or-false (is_undecided o)) ∙ un) makes.makes },
+    rw ((none_made R t habits (n + 1) trs mid new now later rest).0) (makes_none R t habits (n + 1) trs mid read),
+  )
+  each_read n (tr ∷ trs) (o ∷ p ∷ os) old new log later known un (mid, now, makes, rest) =
+      search (arith, each_read (n + 1) trs (p ∷ os) mid new now later known.1, the_others, list_any, undecided_last)
+  each_read n [] (o ∷ os) old new log later known un h = absurd h
 
 -- the thread
 module _ {L : Type 0} (state : L → LogState) (knows : L → Type 0) (loses : TranName → List Bool → L → L → Type 0) (s : Settling) (n t : ℕ)
@@ -252,19 +219,16 @@ module _ {L : Type 0} (state : L → LogState) (knows : L → Type 0) (loses : T
   ReadsAs = IsReadAs state knows loses new.log
 
   pub record WentSo : Type 0 where
-    pub desk : DeskView
+    pub its : WorkedIn state knows loses s t old new
+    pub open its use *
     pub opened : DeskView
-    pub left : DeskView
-    pub nothing : NothingWasSent desk.ledgers
     pub opens : HaveSent IsOpenRm desk.ledgers opened.ledgers
     pub makes : MakesEach t old.habits old.habits.first old.transfers.items new.outcomes.items opened left (state old.log) (state log) ReadsAs
     pub known : AreKnown new.outcomes.items
     pub may : ReadsAs (state log)
     pub found_ : (k : ℕ) → k + 1 ≡ old.habits.first + length new.outcomes.items → list_any is_undecided new.outcomes.items ≡ true → k < 2 ^ 32
         → found ≡ is_recorded (state log) (tran_named t k)
-    pub ended_ : HaveSent (λ op. ⊥) left.ledgers (ledgers_of s t)
     pub names : (m : ℕ) → 1 ≤ m → All (Names t IsAny) (sent s t m)
-    pub transfers : new.transfers ≡ old.transfers
 
   pub went : WorkedIn state knows loses s t old new → IsToldAll n old new → IsReadBack state knows loses t new log found → knows log → WentSo
   went w z back known =
@@ -272,22 +236,18 @@ module _ {L : Type 0} (state : L → LogState) (knows : L → Type 0) (loses : T
       w.worked.made z.memory in
       let same : new.outcomes.items ≡ made.more = made.told ∙ ap (λ l. l ++ made.more) z.begins in
       let all_known : AreKnown new.outcomes.items =
-      subst AreKnown (sym same) (come_known (knows old.log) (knows new.log) old.transfers.items made.more made.comes) in
+      rw same (come_known (knows old.log) (knows new.log) old.transfers.items made.more made.comes) in
       let each : MakesEach t old.habits old.habits.first old.transfers.items new.outcomes.items made.makes.opened w.left (state old.log) (state new.log) ReadsAs =
       search (arith, made.makes.opened, w.left, made.more, w.thread) in
       record {
-        desk = w.desk;
+        its = w;
         opened = made.makes.opened;
-        left = w.left;
-        nothing = w.nothing;
         opens = made.makes.opens;
         makes = search (arith, each_read, made.makes.opened, w.left, z.keeps, back.same);
         known = all_known;
         may = back.read known;
         found_ = search (arith, w.worked.habits, back.finds);
-        ended_ = w.ended;
         names = all_told ReadsAs s t old.transfers.items old.habits made.more w.desk w.left (state old.log) (state new.log) w.thread w.nothing made.makes w.ended;
-        transfers = w.worked.transfers;
       }
 
 -- a day and its night
@@ -326,7 +286,7 @@ module _ {L : Type 0} {state : L → LogState} {knows : L → Type 0} {loses : T
         all = told_so;
         went =
             went state knows loses s n (i + 1) old new.0 log found (is_day.each i old new.0 at new.1) told_so
-            (subst (λ u. IsReadBack state knows loses u new.0 log found) number read) (all_at knows logs i log known log_at);
+            (rw number at read) (all_at knows logs i log known log_at);
       }
 
   -- whose log this is

@@ -1,7 +1,7 @@
 -- The law: a branch whose work one thread did holds of each account what that thread added to it.
 use Rattle.xa_base.proofs.{arith, ◌≡◌, ◌≢◌, ℕ, ◌+◌, ◌==◌, ℤ, pos, ◌+ℤ◌, true, false, cond, if◌then◌else◌, Option, None, Some, is_some, unwrap_or, List, [], ◌∷◌}
 use Rattle.xa_base.proofs.{◌++◌, refl, sym, ap, ◌∙◌, option_map, All, eqb-true, eqb-false, get-insert, All-nil, All-cons, All-head, All-tail, All-append}
-use Rattle.xa_base.proofs.{All-weaker, is_missing, +ℤ_idl as none_plus, +ℤ_idr as plus_none, at_false}
+use Rattle.xa_base.proofs.{All-weaker, is_missing, +ℤ_idl as none_plus, +ℤ_idr as plus_none, at_false, inserted_there}
 use Rattle.std.specs.FinMap as map
 use Rattle.xa_words.specs.{XidName, xid_eq, key_eq, Decides-xid_eq, Decides-key_eq, Done, RdOnly, Op, Start, Add, End, Prepare, Fresh, Success, Request, Code}
 use Rattle.xa_tables.specs.{Association, Associated, association_of, exists, is_S3, is_prepared, is_association_with, is_associated, branch_in, branch_of}
@@ -11,7 +11,6 @@ use Rattle.xa_tables.proofs.AccountLemmas.{touch_cmp_total, touch_self}
 use Rattle.xa_tables.proofs.WorthLaw.{added_law, not_ended, reason_not_done as not_done, OnlyOne, nobody_is, others_by, others_first, own_request, stays_apart}
 use Rattle.xa_tables.proofs.Effects.{effect_of, Moves, Still, Ended, Added, moves_of, quiet_named}
 use Rattle.xa_tables.proofs.Law.{opening_free}
-use Rattle.xa_tables.proofs.SoundLemmas.{own_put}
 use Rattle.xa_tables.proofs.ValueLaw.{unnamed_fate, unnamed_on, tables_after-append, get_without, get_added}
 
 -- ---- sums
@@ -70,7 +69,7 @@ record HasBegun (t : ℕ) (x : XidName) (T T' : Tables) : Type 0 where
 
 begun_with : (t : ℕ) (x : XidName) (T : Tables) → (next t (Start x Fresh) T).1 ≡ Done → HasBegun t x T (next t (Start x Fresh) T).0
 unfolding next
-begun_with t x T = search (arith, own_put)
+begun_with t x T = search (arith, inserted_there)
 
 -- what it holds of each account once d is added to one of them, where it held nothing
 put_alone : (x : XidName) (k : List ℕ) (d : ℤ) (T : Tables) → ((j : List ℕ) → map.get T.sums (x, j) ≡ None) → (j : List ℕ)

@@ -170,12 +170,12 @@ module _ (accounts : Accounts) (t : ℕ) (x : XidName) (sum : ℤ) (T : Tables) 
   by_effect (Stays op c tells) n o =
       StillWaits waits (tells.fates x) (ap (λ v. if names x op then v else pos 0) (tells.moved accounts T) ∙ if_same (names x op))
   by_effect (Commits y one_phase free may) n o =
-      Ends Committed refl (at_true (xid_eq y x) _ None n) (record { state = get_gone T y x ∙ gone_state T y n; apart = waits.apart })
+      Ends Committed refl (at_true (xid_eq y x) _ None n) (record { state = get_gone T.states y x ∙ gone_state T y n; apart = waits.apart })
       (at_true (xid_eq y x) _ (pos 0) n ∙ ap (λ z. held_by accounts z T) ((Decides-xid_eq y x).0 n) ∙ waits.holds)
   by_effect (Drops op y c free tells) n o =
       let named : xid_eq y x ≡ true = sym (tells.named x) ∙ n in
       Ends tells.fate (told_fate x op c tells.fate o (tells.fates x ∙ at_true (xid_eq y x) _ None named)) (tells.fates x ∙ at_true (xid_eq y x) _ None named)
-      (record { state = get_gone T y x ∙ gone_state T y named; apart = waits.apart })
+      (record { state = get_gone T.states y x ∙ gone_state T y named; apart = waits.apart })
       (ap (λ v. if names x op then v else pos 0) (tells.moved accounts T) ∙ if_same (names x op) ∙ ap (λ b. if b then sum else pos 0) (sym (dropped_fate tells.fate tells.uncommitted)))
   by_effect (Forgets y is) n o =
       let other : is_S5 (state_of T y) ≡ false = ap (λ z. is_S5 (state_of T z)) ((Decides-xid_eq y x).0 n) ∙ ap is_S5 waits.prepared in
@@ -273,7 +273,7 @@ voted_at : (accounts : Accounts) (x : XidName) (before : History) (t : ℕ) (op 
     → Waits accounts x (held_by accounts x (tables_after before T)) (next t op (tables_after before T)).0
 voted_at accounts x before t op T o asks =
     let B : Tables = tables_after before T in
-    subst (λ (p : Op). (next t p B).1 ≡ Done → Waits accounts x (held_by accounts x B) (next t p B).0) (sym asks) (λ agrees.
+    rw asks (λ agrees.
     let U : Tables = (next t (Prepare x) B).0 in
     let waits = outcome_law before [] t x T o agrees (λ k d lt. absurd (omega arith)) in
     let prepared : IsPrepared x U = waits.awaits.state ∙ ap Some (undecided waits.decision waits.fates) in

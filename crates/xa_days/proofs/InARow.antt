@@ -2,14 +2,14 @@
 -- The laws of a day over settled openings: their histories lead to their tables, and to what became of each branch.
 use Rattle.xa_base.proofs.{rules, ◌≡◌, ℤ, pos, ◌+ℤ◌, true, false, ◌||◌, if◌then◌else◌, List, [], ◌∷◌, map, refl, All, IsDistinct, list_any, sym, ap, ◌∙◌, arith}
 use Rattle.xa_base.proofs.{get_or, ints, All-head, All-tail, +ℤ_idl as none_plus, +ℤ_idr as plus_none, total_same, total_alike, total_both, total_nothing}
-use Rattle.xa_base.proofs.{by_if, at_true, ℕ, Bool, None, Some, cond, is_some, find, get-from_entries, total_across, subst, inl, inr, zero, suc, AllByRecursion}
+use Rattle.xa_base.proofs.{by_if, at_true, ℕ, Bool, None, Some, cond, is_some, find, get-from_entries, total_across, inl, inr, zero, suc, AllByRecursion}
 use Rattle.xa_base.proofs.{IsDistinct-head, IsDistinct-tail}
 use Rattle.xa_tables.specs.declared.state.HeuristicDecision.TheVariants as decision
 use Rattle.xa_atomicity.proofs.Values.{unmoving}
 use Rattle.xa_base.specs.{total}
 use Rattle.xa_words.specs.{XidName, xid_eq, Decides-xid_eq, Op, Commit, Heur, Request, Code, key_cmp_total}
 use Rattle.xa_tables.specs.{Tables, next, tables_after, IsOpening, reopened, left_by, names, worth, moved, moved_by, is_any, DeclareEach, History, are_accounts}
-use Rattle.xa_tables.specs.{opening, HeuristicDecision, state_of, Fate, Absent, IsFateOf, decided_fate, reopened_fate, fate_left, told_by, worth_declared}
+use Rattle.xa_tables.specs.{opening, HeuristicDecision, state_of, Fate, Absent, IsFateOf, decided_fate, reopened_fate, fate_left, worth_declared}
 use Rattle.xa_tables.proofs.WorthLaw.{worth_from, declared_on, worth_law}
 use Rattle.xa_driver.specs.{is_commit, Ending}
 use Rattle.xa_days.specs.{moved_over, is_for, CommitsAmong, WorthIsOfBranches, WorthIsRecorded, IsDay, Leg, counted, ComesOut, Votes, OnlyTold, is_committed}
@@ -178,7 +178,7 @@ module _ (m : ℕ) (x : XidName) (o : Opening) (later : List Opening) (T : Table
 
   ends_by : (recorded : Bool) (known : Ending) → state_of T x ≡ None → EndsAs recorded o later (branch_at m x) known → is_committed end ≡ recorded
   ends_by recorded known fresh ends =
-      let fits : IsFateOf x Absent T = subst (λ s. IsFateOf x (told_by s) T) fresh (begin_law x T) in
+      let fits : IsFateOf x Absent T = rw fresh at (begin_law x T) in
       elim (ends.ends Absent (record { first = T; opened = opened; fits = fits })) as (λ _. is_committed end ≡ recorded) [
         | inl e ↦ ap is_committed (became_end ∙ ap reopened_fate e) ∙ committed_so recorded
         | inr z ↦

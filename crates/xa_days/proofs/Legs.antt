@@ -1,11 +1,11 @@
 -- The branches of a commit come out by the log.
-use Rattle.xa_base.proofs.{rules, both_ways, and_right, false_from_ne_true, list_any_none, ◌≡◌, ℕ, ◌≤◌, Bool, true, false, Some, List, [], ◌∷◌, length, get_or}
-use Rattle.xa_base.proofs.{slice_get, sym, refl, ap, subst, arith, ◌&&◌, All, Contains, All-cons, All-contains, all_after, and_parts, not-true, if◌then◌else◌}
-use Rattle.xa_base.proofs.{is_some, suc, Option, ◌∙◌, All-head, All-tail, pos, zero, ◌++◌, same_Some as some_same}
+use Rattle.xa_base.proofs.{none_all, rules, both_ways, and_right, false_from_ne_true, list_any_none, ◌≡◌, ℕ, ◌≤◌, Bool, true, false, Some, List, [], ◌∷◌}
+use Rattle.xa_base.proofs.{length, get_or, slice_get, sym, refl, ap, arith, ◌&&◌, All, Contains, All-cons, All-contains, all_after, and_parts, not-true}
+use Rattle.xa_base.proofs.{if◌then◌else◌, is_some, suc, Option, ◌∙◌, All-head, All-tail, pos, zero, ◌++◌}
 use Rattle.xa_atomicity.proofs.Settled.{sent_between, sent_on, sent_stands, site_of}
 use Rattle.xa_atomicity.proofs.CutVotes.{CameAt, each_came, at_asking, at_forgetting, at_telling, HasVoted, IsVoteOf, prepare_there, vote_there, ended_voted}
 use Rattle.xa_atomicity.proofs.CutVotes.{prepare_sent, told_voted, named_so, named_tran}
-use Rattle.xa_atomicity.proofs.Sites.{none_all, Site, request_of}
+use Rattle.xa_atomicity.proofs.Sites.{Site, request_of}
 use Rattle.xa_atomicity.proofs.Values.{taken}
 use Rattle.xa_atomicity.specs.{Tabled, IsCut, HasSentNone, is_commit_of, is_recorded, OnlyTheseOrDecisionsName, AskedAreLeft, VotedToCommit, CutCall, IsKept}
 use Rattle.xa_atomicity.specs.{IsUseIn, OnlyResolves, Opening, cuts, WasAsked, EndsByTheLog, IsResolvedAfter, known_of, EndsAs, ResolveCall, histories}
@@ -101,7 +101,7 @@ voted_in_call law s k b T settled use_ there vote own first plain quiet =
     let site : Site t T (history_of s b.m) = site_of law s settled t b.m T opened in
     let f = sent_stands law s settled t b.m T opened positive a' grown n (Prepare x) Done vote.asked vote.agreed in
     let P : Request → Type 0 = λ r. names x r.op ≡ true → is_heur r.op ≡ false in
-    let plain_after : All P f.after = all_after P f.before (request_of t n (Prepare x)) f.after (subst (All P) f.place plain) in
+    let plain_after : All P f.after = all_after P f.before (request_of t n (Prepare x)) f.after (rw f.place at plain) in
     record {
       votes = record {
         before = f.before;
@@ -110,7 +110,7 @@ voted_in_call law s k b T settled use_ there vote own first plain quiet =
         parts = f.place;
         asks = refl;
         agrees = sym f.code;
-        uncommitted = subst (CommitsNowhere x) (taken site x n Done f) quiet;
+        uncommitted = rw (taken site x n Done f) at quiet;
         told = λ j d lt named.
             leads_tells sends.0 (get_or f.after j d).op (guide site x (ledger k.desk.ledgers b.m) a' (sent_on s t b.m positive a' grown) sends.0 only (Unit {0}) sends.1 Done f j d lt named (plain_after j d lt named));
       };
@@ -189,14 +189,10 @@ module _ (s : Settling) (k : CutCall) (use_ : IsUseIn s (cuts k)) (b : Branch) (
   by_vote v for h quiet =
       let z = collected_so Any v for h in
       elim (is_yes v) as (λ c. is_yes v ≡ c → AgreedOrRead k s b) [
-        | true ↦ λ y. agreed (record { asked = z.asked; agreed = subst (λ w. Contains (ledger (ledgers_of s k.thread) b.m).collected (length a.sent, w)) (vote_so v for ∙ ap (λ c. if c then Done else RdOnly) y) z.heard })
+        | true ↦ λ y. agreed (record { asked = z.asked; agreed = rw (vote_so v for ∙ ap (λ c. if c then Done else RdOnly) y) at z.heard })
         | false ↦ λ n.
             let is : v ≡ RdOnly = vote_so v for ∙ ap (λ c. if c then Done else RdOnly) n in
-            read (record {
-              asked = z.asked;
-              agreed = subst (λ w. Contains (ledger (ledgers_of s k.thread) b.m).collected (length a.sent, w)) is z.heard;
-              untold = none_sent v z.open_ (quiet is);
-            })
+            read (record { asked = z.asked; agreed = rw is at z.heard; untold = none_sent v z.open_ (quiet is) })
       ] refl
 
 -- all of them
@@ -215,24 +211,18 @@ module _ (s : Settling) (k : CutCall) (use_ : IsUseIn s (cuts k)) (t : TranName)
       let c : Bool = decision_of votes logged in
       by_vote s k use_ b positive v (for_so votes logged logs b v vote)
       (told_voted Any c b v (ledger k.desk.ledgers b.m) (ledger k.new b.m) (λ op _. tt) (any_asked (second_op c b.xid v)) h)
-      (λ is. told_voted (NoCommit b.xid) c b v (ledger k.desk.ledgers b.m) (ledger k.new b.m) (unnamed_none b.xid) (subst (λ w. IsAskedFor (NoCommit b.xid) (second_op c b.xid w)) (sym is) (untold c b.xid)) h)
+      (λ is. told_voted (NoCommit b.xid) c b v (ledger k.desk.ledgers b.m) (ledger k.new b.m) (unnamed_none b.xid) (rw is (untold c b.xid)) h)
   at_branch b positive (at_forgetting votes logged logs v vote z h known) =
       let c : Bool = decision_of votes logged in
       by_vote s k use_ b positive v (for_so votes logged logs b v vote)
       (ended_voted Any c b v (ledger k.desk.ledgers b.m) (ledger k.new b.m) (λ op _. tt) (any_asked (second_op c b.xid v)) z (any_asked (third_op b.xid z)) h)
-      (λ is. ended_voted (NoCommit b.xid) c b v (ledger k.desk.ledgers b.m) (ledger k.new b.m) (unnamed_none b.xid) (subst (λ w. IsAskedFor (NoCommit b.xid) (second_op c b.xid w)) (sym is) (untold c b.xid)) z (forgets_none b.xid z) h)
+      (λ is. ended_voted (NoCommit b.xid) c b v (ledger k.desk.ledgers b.m) (ledger k.new b.m) (unnamed_none b.xid) (rw is (untold c b.xid)) z (forgets_none b.xid z) h)
 
   pub recorded_law : All (AgreedOrRead k s) k.branches
   recorded_law j d lt =
       at_branch (get_or k.branches j d) (positive_all 0 k.branches use_.made.may.rising j d lt) (each_came use_.made.may.rising use_.made.far j d lt)
 
 -- ---- the branches of a commit come out by the log
-
--- what follows the requests of a list
-pub after_seam : {A : Type 0} (xs more : List A) (y : A) → slice_get (xs ++ more) (length xs) ≡ Some y → (rest : List A) × (more ≡ y ∷ rest)
-after_seam [] [] y e = cc
-after_seam [] (z ∷ rest) y e = (rest, ap (λ w. w ∷ rest) (some_same z y e))
-after_seam (x ∷ xs) more y e = after_seam xs more y e
 
 -- a branch that only read held nothing
 read_nothing : (law : Tabled) (accounts : List (List ℕ × ℕ)) (s : Settling) (k : CutCall) (b : Branch) (T : Tables) → IsSettled s → IsUseIn s (cuts k) → 1 ≤ b.m
@@ -264,7 +254,7 @@ module _ (law : Tabled) (accounts : List (List ℕ × ℕ)) (o : Opening) (later
   up = (positive, few)
 
   only : (p : Opening) → OnlyResolves t p → OnlyResolves (tran_of b.xid) p
-  only p z = subst (λ u. OnlyResolves u p) (sym named) z
+  only p z = rw named z
 
   told : All (OnlyTold b.xid) (histories b.m later)
   told =

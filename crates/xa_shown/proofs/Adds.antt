@@ -1,10 +1,11 @@
 -- What a thread's lines add to its entries of a manager's journal, the place of each among them, and what the journals add up to.
+use Rattle.xa_base.proofs.{mapped_some, list_any, list_any_none, ◌≡◌, ℕ, ⊎_elim, zero, suc, ◌<◌, ◌≤◌, Bool, false, ◌==◌, List, [], ◌∷◌, ◌++◌, Option, Some}
+use Rattle.xa_base.proofs.{None, sym, refl, ap, ◌∙◌, subst, arith, append_assoc, append-nil, if◌then◌else◌, All, map, Contains, cases_lt, eqb-true, All-append}
+use Rattle.xa_base.proofs.{All-cons, All-contains, All-nil, by_if, ◌⊎◌, inl, inr, length, length-append, snoc_parts, get_or, pos, ◌+ℤ◌, all_unmapped, All-map}
+use Rattle.xa_base.proofs.{All-permutation}
 use Rattle.xa_words.specs.declared.flags.Call.TheVariants as call
 use Rattle.xa_grammar.specs.declared.step.Action.TheVariants as action
 use Rattle.std.specs.FinMap as finmap
-use Rattle.xa_base.proofs.{◌≡◌, ℕ, ⊎_elim, zero, suc, ◌<◌, ◌≤◌, Bool, false, ◌==◌, List, [], ◌∷◌, ◌++◌, Option, Some, None, sym, refl, ap, ◌∙◌, subst, arith}
-use Rattle.xa_base.proofs.{append_assoc, append-nil, if◌then◌else◌, All, map, Contains, cases_lt, eqb-true, All-append, All-cons, All-contains, All-nil, by_if}
-use Rattle.xa_base.proofs.{◌⊎◌, inl, inr, length, length-append, snoc_parts, option_map, get_or, pos, ◌+ℤ◌, all_unmapped, some_same, All-map, All-permutation}
 use Rattle.xa_base.specs.{MOST_MANAGERS, Chain}
 use Rattle.xa_words.specs.{check_flags, TranName, XidName, Death, Op, OpenRm, Prepare, Forget, Listed, Code}
 use Rattle.xa_worker.specs.{Entry}
@@ -24,7 +25,7 @@ use Rattle.xa_telling.specs.Parts.CallTakes.{answered, kept, refused, completes,
 use Rattle.xa_telling.specs.Commits.CarriesOut.{carried, withheld}
 use Rattle.xa_telling.specs.Commits.CommitTakes.{refused as takes_none, decided, undecided, died}
 use Rattle.xa_telling.specs.Resolves.ResolveTakes.{refused as ends_none, resolved}
-use Rattle.xa_telling.proofs.Mapped.{by_mapped}
+use Rattle.xa_telling.proofs.Calls.{by_mapped}
 use Rattle.xa_telling.proofs.Branches.{asked_so, at_each, came_so, each_so, hears_by, obeys_by}
 use Rattle.xa_base.specs.Lists.Chain.{none as no_step, more as one_step}
 use Rattle.xa_shown.specs.{Place, IsSumOfShares}
@@ -149,8 +150,7 @@ module _ (P : Op → Type 0) where
   EndsSo x = ((commit : Bool) → P (outcome_op commit x)) × P (Forget x)
 
   outcome_so : (xs : List XidName) (os : List Outcome) → map (λ o. o.xid) os ≡ xs → All EndsSo xs → (o : Outcome) → Contains os o → EndsSo o.xid
-  outcome_so xs os same all o there =
-      All-contains (λ (w : Outcome). EndsSo w.xid) os o (all_unmapped (λ (w : Outcome). w.xid) EndsSo os (subst (All EndsSo) (sym same) all)) there
+  outcome_so xs os same all o there = All-contains (λ (w : Outcome). EndsSo w.xid) os o (all_unmapped (λ (w : Outcome). w.xid) EndsSo os (rw same all)) there
 
   at_adds : (t : ℕ) (records : Records) (m : ℕ) (xs : List XidName) (os : List Outcome) (old new : List Entry) → P OpenRm → All EndsSo xs
       → ResolvesAt (CarriesOut t) records m xs os old new → Adds old new
@@ -175,16 +175,12 @@ module _ (P : Op → Type 0) where
         by_if (Adds old) (m == n) (old ++ next_entry t old op c ∷ []) old (λ e. adds_one t old (old ++ next_entry t old op c ∷ []) op c (so (sym (eqb-true m n e))) refl) (λ _. adds_none old old refl)
 
     asked_adds : (t n : ℕ) (old : Part) (o : Op) (new : Part) (c : Code) → P o → Asked t n old o new c → Adds (old.entries m) (new.entries m)
-    asked_adds t n old o new c so (asked_answered is) =
-        subst (λ (x : Part). Adds (old.entries m) (x.entries m)) (sym is) (either_adds t n o c (old.entries m) (λ _. so))
+    asked_adds t n old o new c so (asked_answered is) = rw is (either_adds t n o c (old.entries m) (λ _. so))
     asked_adds t n old o new c so (asked_refused why same) = adds_none (old.entries m) (new.entries m) (ap (λ (x : Part). x.entries m) same)
 
     listing_adds : (t : ℕ) (q : ScriptCalled) (n : ℕ) (a : Answer) (old new : Part) → Lists t q n a old new → Adds (old.entries m) (new.entries m)
     listing_adds t q n a old new is =
-        subst (λ (x : Part). Adds (old.entries m) (x.entries m)) (sym is.stands)
-        (by_mapped (Asked t q.manager) (λ d o e c. Unit {0}) (λ x. x) (λ (x : Part). Adds (x.entries m) (is.asked.entries m))
-        (λ d e x c asked adding. (adds_both (d.entries m) (e.entries m) (is.asked.entries m) (asked_adds t q.manager d (Listed x) e c (listed x) asked) adding, tt))
-        old old.scan is.before is.asked new.scan is.after is.there (check_flags call.Recover q.flags) q.manager is.result is.recovers (adds_none (is.asked.entries m) (is.asked.entries m) refl)).0
+        rw is.stands (by_mapped (Asked t q.manager) (λ d o e c. Unit {0}) (λ x. x) (λ (x : Part). Adds (x.entries m) (is.asked.entries m)) (λ d e x c asked adding. (adds_both (d.entries m) (e.entries m) (is.asked.entries m) (asked_adds t q.manager d (Listed x) e c (listed x) asked) adding, tt)) old old.scan is.before is.asked new.scan is.after is.there (check_flags call.Recover q.flags) q.manager is.result is.recovers (adds_none (is.asked.entries m) (is.asked.entries m) refl)).0
 
     -- what a call asks its manager for is so
     abbrev pub AsksSo : ScriptCalled → Type 0
@@ -192,10 +188,9 @@ module _ (P : Op → Type 0) where
 
     call_adds : (settled : Settling) (t : ℕ) (q : ScriptCalled) (a : Answer) (old new : Part) → AsksSo q → CallTakes settled t q a old new
         → Adds (old.entries m) (new.entries m)
-    call_adds settled t q a old new so (answered o c asks told is) =
-        subst (λ (x : Part). Adds (old.entries m) (x.entries m)) (sym is) (either_adds t q.manager o c (old.entries m) (λ here. so here o (ap op_in asks)))
+    call_adds settled t q a old new so (answered o c asks told is) = rw is (either_adds t q.manager o c (old.entries m) (λ here. so here o (ap op_in asks)))
     call_adds settled t q a old new so (kept o c k asks low told free is) =
-        subst (λ (x : Part). Adds (old.entries m) (x.entries m)) (sym is) (either_adds t q.manager o c (old.entries m) (λ here. so here o (ap op_in asks)))
+        rw is (either_adds t q.manager o c (old.entries m) (λ here. so here o (ap op_in asks)))
     call_adds settled t q a old new so (refused c is told same) = adds_none (old.entries m) (new.entries m) (ap (λ (x : Part). x.entries m) same)
     call_adds settled t q a old new so (lists n asks is) = listing_adds t q n a old new is
     call_adds settled t q a old new so (completes r k c asks there code told same) = search (arith, adds_none, old.entries, new.entries)
@@ -219,6 +214,11 @@ module _ (P : Op → Type 0) where
         stops_adds (λ v. Unit {0}) m t c at known old new (λ k d lt. record { prepares = (so known.commit k d lt).prepares; obeys = λ here v w. (so known.commit k d lt).obeys here v }) (λ k d lt. tt) is
     takes_add settled action.Resolve t a old new so (ends_none told same) = adds_none (old.entries m) (new.entries m) (ap (λ (x : Part). x.entries m) same)
     takes_add settled action.Resolve t a old new so (resolved outcomes told is) = ends_adds m t outcomes.items old new so.0 so.1 is
+
+-- where no op that is added passes a test
+pub adds_no : (p : Op → Bool) (old new : List Entry) → Adds (λ op. p op ≡ false) old new
+    → (more : List Entry) × (new ≡ old ++ more) × (list_any (λ e. p e.0.op) more ≡ false)
+adds_no p old new adds = (adds.0, adds.1, list_any_none (λ (e : Entry). p e.0.op) adds.0 adds.2)
 
 -- anything may be asked
 pub any_task : (m : ℕ) (z : ScanView) (x : ScriptAction) → TaskSo Any (λ x. tt) m z x
@@ -250,11 +250,11 @@ module _ {X A : Type 0} (leads : X → A → A → Type 0) (first : A) where
       ⊎_elim
       (λ (e : ys ≡ []).
       let parts = snoc_parts ws xs w y (is ∙ ap (λ (l : List X). xs ++ y ∷ l) e) in
-      (now, end, subst (λ (l : List X). Chain leads first l now) parts.0 before, subst (λ (x : X). leads x now end) parts.1 step, no_step ys end e refl))
+      (now, end, rw parts.0 at before, rw parts.1 at step, no_step ys end e refl))
       (λ (h : (zs : List X) × (z : X) × (ys ≡ zs ++ z ∷ [])).
       let parts = snoc_parts ws (xs ++ y ∷ h.0) w h.1 (is ∙ ap (λ (l : List X). xs ++ y ∷ l) h.2 ∙ sym (append_assoc xs (y ∷ h.0) (h.1 ∷ []))) in
       let (old, new, earlier, its, later) = part ws now before xs y h.0 parts.0 in
-      let all = one_step h.0 h.1 now end later (subst (λ (x : X). leads x now end) parts.1 step) in
+      let all = one_step h.0 h.1 now end later (rw parts.1 at step) in
       (old, new, earlier, its, subst (λ (l : List X). Chain leads new l end) (sym h.2) all))
       (ends ys)
 
@@ -279,11 +279,6 @@ place_adds {settled = settled} {after = after} {new = new} place m = chain_adds 
 
 -- ---- what is shown of a key is its value at the first opening and what the journals have added to it
 
--- what a mapped option has
-was_some : {A B : Type 0} (f : A → B) (o : Option A) (y : B) → option_map f o ≡ Some y → (x : A) × (o ≡ Some x) × (f x ≡ y)
-was_some f None y e = absurd (cc)
-was_some f (Some x) y e = (x, refl, some_same (f x) y e)
-
 module _ (opens : (s : Settling) (m : ℕ) (T : Tables) → IsSettled s → first_of s m ≡ Some T → IsOpenedWith s m T) where
   -- an opening that follows these
   opened_so : (s : Content) (before : List Former) (b : Beginning) (o : Opening) → Chain (Leaves s) (beginning s) before b → TellsOf s b o → (m : ℕ) → 1 ≤ m
@@ -297,7 +292,7 @@ module _ (opens : (s : Settling) (m : ℕ) (T : Tables) → IsSettled s → firs
       let d : Declared = get_or values j e in
       let T : Tables = opened s d.manager in
       let hs : List History = histories (settled_over before last) d.manager in
-      let worth = was_some (λ v. v +ℤ added_over d.key (λ x. Absent) hs T) (finmap.get T.values d.key) (pos d.value) (tells.shown.worth j e below) in
+      let worth = mapped_some (λ v. v +ℤ added_over d.key (λ x. Absent) hs T) (finmap.get T.values d.key) (pos d.value) (tells.shown.worth j e below) in
       let There : ℕ × List ℕ → Type 0 = λ n. (1 ≤ n.0) × (n.0 ≤ managers_of s) in
       let (low, high) =
       all_unmapped name_of There values (All-permutation There (map name_of s.keys) (map name_of values) tells.shown.all (All-map There name_of s.keys is.of_managers)) j e below in

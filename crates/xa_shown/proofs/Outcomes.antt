@@ -1,240 +1,332 @@
--- All branches of a commit: what the line shows of them became of them.
+-- What a line shows stands in the journals. And all branches of a commit: what the line shows of them became of them.
+use Rattle.xa_base.proofs.{none_all, both_ways, true_from_ne_false, arith, rules, ◌≡◌, ℕ, Bool, true, false, ◌||◌, List, [], Option, sym, refl, ap, ◌∙◌}
+use Rattle.xa_base.proofs.{slice_index_or, All, list_any, ◌&&◌, None, get_or, Global, Vec, ◌⊎◌, is_some, not, or-true, and_parts, drop, drop-cons, take}
+use Rattle.xa_base.proofs.{take-append-drop, at_true, not-true, eq-eqb, pos, ◌∷◌, ◌++◌, length, Some, zero, suc, ◌<◌, slice_get, Contains, filter}
+use Rattle.xa_base.proofs.{Contains-append_left, All-contains, all_at, some_same, Contains-push, All-filter}
 use Rattle.xa_words.specs.declared.death.Death.TheVariants as death
 use Rattle.xa_transcript.specs.declared.answer.Answer.TheVariants as answer
-use Rattle.xa_base.proofs.{arith, rules, ◌≡◌, ℕ, inl, inr, Bool, true, false, ◌||◌, List, [], ◌∷◌, length, Option, sym, refl, ap, ◌∙◌, slice_index_or, pos}
-use Rattle.xa_base.proofs.{if◌then◌else◌, All, list_any, cases_Bool, or_parts, All-head, All-tail, All-cons, All-nil, All-append, list_any_none, ◌&&◌, None}
-use Rattle.xa_base.proofs.{get_or, subst, Global, Vec, ◌⊎◌, is_some, not, or-true, and_parts}
+use Rattle.xa_grammar.specs.declared.step.Action.TheVariants as action
 use Rattle.xa_atomicity.specs.{OnlyTheseName, OnlyTheseOrDecisionsName, AreLeftAlone, AreLeftOrDecided, EachOutcome, is_rolled_back, is_in_doubt, is_heuristic}
-use Rattle.xa_atomicity.specs.{is_left, is_read_only, Shares, Tabled, is_recorded, is_rollback}
+use Rattle.xa_atomicity.specs.{is_left, is_read_only, Tabled, is_recorded, is_rollback}
 use Rattle.xa_atomicity.specs.Outcomes.{is_committed}
-use Rattle.xa_words.specs.{Code, TranName, Death, Op}
-use Rattle.xa_tables.specs.{Tables}
+use Rattle.xa_words.specs.{Code, TranName, Death, Op, Done, Prepare, Commit}
+use Rattle.xa_tables.specs.{Tables, is_done}
 use Rattle.xa_switch.specs.{Settling, IsSettled, journal, IsOpenedWith, history as history_of}
 use Rattle.xa_driver.specs.{Branch, Done as Outcome, Ending, is_no, ending_of, AtBranch, is_commit, CameTo, IsDecidedBy, Putting, VotesAndObeys, decides_commit}
-use Rattle.xa_driver.specs.{has_yes, EachBranch, decision_of}
+use Rattle.xa_driver.specs.{has_yes, EachBranch, decision_of, second_op, third_op, yes_ending, Committed, is_yes}
 use Rattle.xa_atomicity.proofs.Courses.{course_of}
-use Rattle.xa_atomicity.proofs.OneOutcome.{not_rolled_back, uncommitted, IsNoCommit}
-use Rattle.xa_atomicity.proofs.Settled.{Both, Fated, InHistory, one_both, one_fated, outcome_map, each_outcome, site_of}
+use Rattle.xa_atomicity.proofs.OneOutcome.{none_end, unvoted, not_rolled_back, uncommitted, IsNoCommit, second_so, third_so}
+use Rattle.xa_atomicity.proofs.Settled.{outcome_ends, each_whole, Both, Fated, InHistory, one_both, one_fated, outcome_map, each_outcome, site_of}
 use Rattle.xa_session.specs.{branches_of, named}
-use Rattle.xa_grammar.specs.{CommitAll, ScriptStep, ScriptAction}
-use Rattle.xa_transcript.specs.{Told, Answer}
-use Rattle.xa_telling.specs.{Part, CarriesOut, Decides, Line, TakesPart, AreCarriedOut, entries_of, CarriesOutSome, CommitTakes, LosesSight, StopsAt, Takes}
-use Rattle.xa_base.specs.{Chain}
-use Rattle.xa_base.specs.Lists.Chain.{none, more}
+use Rattle.xa_grammar.specs.{CommitAll, ScriptStep, ScriptCalled}
+use Rattle.xa_transcript.specs.{Told, Answer, Called as shown}
+use Rattle.xa_telling.specs.{Part, CarriesOut, Decides, Line, TakesPart, AreCarriedOut, entries_of, CarriesOutSome, LosesSight, StopsAt, wanted_in, refusals}
+use Rattle.xa_telling.specs.{next_entry, CallTakes, CommitTakes, IsInJournal, IsCarriedOut, ShowsCommit, AreCommitted, ArePrepared, AddsNoCommit}
 use Rattle.xa_shown.specs.{IsOneOutcome, ShowsOneOutcome, IsAsShown, CountsAsShown, entered_so_far, GoesByTheRecord, ShowsDeath, ShowsUndecided}
-use Rattle.xa_shown.proofs.Shown.{decided_so, none_against}
-use Rattle.xa_atomicity.proofs.Sites.{none_all}
-use Rattle.xa_shown.proofs.Adds.{Adds, loses_adds, stops_adds}
+use Rattle.xa_shown.proofs.Adds.{adds_no, Adds, loses_adds, stops_adds, place_adds, places, adds_none, carries_on, decides_adds}
 use Rattle.xa_shown.proofs.Became.{entered, branch_entered}
-use Rattle.xa_driver.proofs.Mapped.{Any}
-use Rattle.xa_worker.specs.{Entry}
+use Rattle.xa_driver.proofs.Mapped.{Any, any_asked, for_by, rest_by}
 use Rattle.xa_calls.specs.Scans.{Asking}
 use Rattle.xa_log.specs.{LogState, record_of}
 use Rattle.xa_atomicity.proofs.CutSends.{NotToCommit, decided_so as logged_so, no_commit_so, no_rollback_so, undecided_so}
-use Rattle.xa_telling.specs.Commits.CommitTakes.{refused as takes_none, decided, undecided, died}
+use Rattle.std.proofs.lemmas.List.Elements.{All-contains_itself}
+use Rattle.xa_words.specs.CodeNumbers.{number_of}
+use Rattle.xa_desk.specs.{is_rm_fail}
+use Rattle.xa_worker.specs.{Entry, entry}
+use Rattle.xa_telling.specs.Wants.Wanted.{code_of, handle_for, completion, listing}
+use Rattle.xa_telling.specs.Parts.CallTakes.{answered, kept, refused, completes, lists}
+use Rattle.xa_telling.specs.Commits.CarriesOut.{carried, withheld}
+use Rattle.xa_telling.specs.Commits.CommitTakes.{decided}
 
--- ---- lists of outcomes
+-- ---- codes
 
--- each with what holds of its vote, and of its ending
-pub voted_with : (W : Code → Type 0) (P : Branch → Code → Ending → Type 0) (bs : List Branch) (vs : List Code) (es : List Ending) → All W vs
-    → EachOutcome P bs vs es → EachOutcome (λ b v e. W v × P b v e) bs vs es
-voted_with W P [] [] [] all h = tt
-voted_with W P (b ∷ bs) (v ∷ vs) (e ∷ es) all h = ((All-head W v vs all, h.0), voted_with W P bs vs es (All-tail W v vs all) h.1)
-voted_with W P bs vs es all h = absurd h
+done_is : (c : Code) → number_of c ≡ pos 0 → c ≡ Done
+done_is c e = grind arith
 
-with_endings : (P : Branch → Code → Ending → Type 0) (p : Ending → Bool) (bs : List Branch) (vs : List Code) (es : List Ending) → list_any p es ≡ false
-    → EachOutcome P bs vs es → EachOutcome (λ b v e. (p e ≡ false) × P b v e) bs vs es
-with_endings P p [] [] [] never h = tt
-with_endings P p (b ∷ bs) (v ∷ vs) (e ∷ es) never h =
-    let parts = or_parts (p e) (list_any p es) never in ((parts.0, h.0), with_endings P p bs vs es parts.1 h.1)
-with_endings P p bs vs es never h = absurd h
+no_refusal : (c : Code) → Contains (refusals false) c → c ≡ Done → ⊥
+no_refusal c among e =
+    both_ways (is_done c) (All-contains (λ d. is_done d ≡ false) (refusals false) c (none_all is_done (refusals false) refl) among) (ap is_done e)
 
-all_endings : (P : Branch → Code → Ending → Type 0) (Q : Ending → Type 0) → ((b : Branch) (v : Code) (e : Ending) → P b v e → Q e)
-    → (bs : List Branch) (vs : List Code) (es : List Ending) → EachOutcome P bs vs es → All Q es
-all_endings P Q so [] [] [] h = All-nil Q
-all_endings P Q so (b ∷ bs) (v ∷ vs) (e ∷ es) h = All-cons Q e es (so b v e h.0) (all_endings P Q so bs vs es h.1)
-all_endings P Q so bs vs es h = absurd h
+-- ---- entries
 
-pub no_ending_is : (P : Branch → Code → Ending → Type 0) (p : Ending → Bool) → ((b : Branch) (v : Code) (e : Ending) → P b v e → p e ≡ false)
-    → (bs : List Branch) (vs : List Code) (es : List Ending) → EachOutcome P bs vs es → list_any p es ≡ false
-no_ending_is P p so bs vs es h = list_any_none p es (all_endings P (λ e. p e ≡ false) so bs vs es h)
+-- an entry of thread t with this op and this code
+abbrev HasEntry : ℕ → Op → Code → List Entry → Type 0
+HasEntry t o c es = (n : ℕ) × Contains es (entry (record { thread = t; number = n; op = o }) c)
 
--- ---- endings
+put_there : (t : ℕ) (o : Op) (c : Code) (old new : List Entry) → new ≡ old ++ next_entry t old o c ∷ [] → HasEntry t o c new
+put_there t o c old new is = (length old, rw is (Contains-push old (next_entry t old o c)))
 
--- by its vote and some second code
-abbrev pub Ends : Bool → Branch → Code → Ending → Type 0
-Ends commit b v e = (z : Option Code) × (e ≡ ending_of commit v z)
+still_has : (t : ℕ) (o : Op) (c : Code) (old new : List Entry) → Adds Any old new → HasEntry t o c old → HasEntry t o c new
+still_has t o c old new a has = (has.0, rw a.1 (Contains-append_left old a.0 (entry (record { thread = t; number = has.0; op = o }) c) has.1))
 
--- nothing is rolled back where it commits and no vote is against, and nothing committed where it aborts
-pub kept_so : (commit : Bool) → commit ≡ true → (b : Branch) (v : Code) (e : Ending) → (is_no v ≡ false) × Ends commit b v e → is_rolled_back e ≡ false
-kept_so commit is b v e h = ap is_rolled_back (h.1.1 ∙ ap (λ c. ending_of c v h.1.0) is) ∙ not_rolled_back v h.1.0 h.0
+-- ---- a call
 
-pub out_so : (commit : Bool) → commit ≡ false → (b : Branch) (v : Code) (e : Ending) → Ends commit b v e → is_committed e ≡ false
-out_so commit is b v e h = ap is_committed (h.1 ∙ ap (λ c. ending_of c v h.0) is) ∙ uncommitted v h.0
+-- the entries of a call's own manager, once it has answered XA_OK
+one_entered : (settled : Settling) (t : ℕ) (q : ScriptCalled) (a : Answer) (old new : Part) → CallTakes settled t q a old new → (o : Op)
+    → wanted_in q ≡ code_of o → a ≡ shown (pos 0) → HasEntry t o Done (new.entries q.manager)
+one_entered settled t q a old new (answered r c asks told is) o asked ok =
+    let own : code_of r ≡ code_of o = sym asks ∙ asked in
+    let same : r ≡ o = cc in
+    let code : c ≡ Done = done_is c (let e : shown (number_of c) ≡ shown (pos 0) = sym told ∙ ok in cc) in
+    let m = q.manager in
+    let here : new.entries m ≡ old.entries m ++ next_entry t (old.entries m) r c ∷ [] = search (arith, at_true, eq-eqb, old.entries) in
+    rw (same, code) at (put_there t r c (old.entries m) (new.entries m) here)
+one_entered settled t q a old new (refused c is told same) o asked ok = search (arith, no_refusal, done_is)
+one_entered settled t q a old new (kept r c k asks low told free is) o asked ok = absurd (let e : handle_for r ≡ code_of o = sym asks ∙ asked in cc)
+one_entered settled t q a old new (lists n asks is) o asked ok = absurd (let e : listing n ≡ code_of o = sym asks ∙ asked in cc)
+one_entered settled t q a old new (completes r k c asks there code told same) o asked ok = absurd (let e : completion ≡ code_of o = sym asks ∙ asked in cc)
+
+-- ---- a branch
+
+-- what was asked and answered another code than XAER_RMFAIL was carried out
+carried_out : (t : ℕ) (o : Op) (c : Code) (old new : List Entry) → CarriesOut t old o new c → is_rm_fail c ≡ false → HasEntry t o c new
+carried_out t o c old new (carried is) other = put_there t o c old new is
+carried_out t o c old new (withheld fails shut same) other = absurd (let z : true ≡ false = sym (ap is_rm_fail fails) ∙ other in cc)
+
+-- and what a branch has stays, whatever else it is asked
+stays_there : (t u : ℕ) (p : Op) (d : Code) (old new : List Entry) (o : Op) (c : Code) → Any o → CarriesOut u old o new c → HasEntry t p d old
+    → HasEntry t p d new
+stays_there t u p d old new o c so is has = still_has t p d old new (carries_on Any u old old new o c tt is (adds_none Any old old refl)) has
+
+-- ---- a branch that ends as committed
+
+done_so : (c : Code) → is_done c ≡ true → c ≡ Done
+done_so c e = grind arith
+
+-- its second request, to commit, was answered XA_OK
+committed_done : (s : Option Code) → yes_ending true s ≡ Committed → s ≡ Some Done
+committed_done None e = absurd (cc)
+committed_done (Some c) e = search (arith, done_so)
+
+branch_commits : (t : ℕ) (commit : Bool) (b : Branch) (v : Code) (s : Option Code) (e : Ending) (old new : List Entry)
+    → AtBranch (CarriesOut t) commit b v s e old new → e ≡ Committed → HasEntry t (Commit b.xid false) Done new
+branch_commits t commit b v s e old new is told =
+    let shown : is_committed (ending_of commit v s) ≡ true = ap is_committed (sym is.ends ∙ told) in
+    let voted : is_yes v ≡ true = search (arith, true_from_ne_false, both_ways) in
+    let commits : commit ≡ true = search (arith, true_from_ne_false, both_ways) in
+    let heard : s ≡ Some Done = committed_done s (sym (at_true (is_yes v) _ _ voted) ∙ ap (λ c. ending_of c v s) (sym commits) ∙ sym is.ends ∙ told) in
+    let op : second_op commit b.xid v ≡ Some (Commit b.xid false) = ap (λ c. second_op c b.xid v) commits ∙ at_true (is_yes v) _ None voted in
+    let obeyed : CarriesOut t is.prepared (Commit b.xid false) is.decided Done = search (arith, is.prepared, b.xid) in
+    for_by (CarriesOut t) Any (HasEntry t (Commit b.xid false) Done) (stays_there t t (Commit b.xid false) Done) (third_op b.xid s) is.third is.decided new (any_asked (third_op b.xid s)) is.forgets
+    (carried_out t (Commit b.xid false) Done is.prepared is.decided obeyed refl)
+
+-- ---- a branch that didn't vote against
+
+not_shut : (v : Code) → is_no v ≡ false → is_rm_fail v ≡ false
+not_shut v e = grind arith
+
+branch_prepared : (t : ℕ) (commit : Bool) (b : Branch) (v : Code) (s : Option Code) (e : Ending) (old new : List Entry)
+    → AtBranch (CarriesOut t) commit b v s e old new → is_no v ≡ false → HasEntry t (Prepare b.xid) v new
+branch_prepared t commit b v s e old new is vote =
+    rest_by (CarriesOut t) Any (HasEntry t (Prepare b.xid) v) (stays_there t t (Prepare b.xid) v) commit b v s e old new is (any_asked (second_op commit b.xid v)) (any_asked (third_op b.xid s))
+    (carried_out t (Prepare b.xid) v old is.prepared is.prepares (not_shut v vote))
+
+pub none_against : (votes : List Code) (logged : Bool) → decision_of votes logged ≡ true → list_any is_no votes ≡ false
+none_against votes logged e = not-true _ (and_parts (decides_commit votes) (not (has_yes votes) || logged) e).0
+
+-- ---- the k-th branch of a commit
+
+each_at : (P : Branch → Code → Option Code → Ending → Type 0) (bs : List Branch) (vs : List Code) (ss : List (Option Code)) (es : List Ending)
+    → EachBranch P bs vs ss es → (k : ℕ) (b : Branch) → slice_get bs k ≡ Some b
+    → (v : Code) × (s : Option Code) × (e : Ending) × (slice_get vs k ≡ Some v) × (slice_get es k ≡ Some e) × P b v s e
+each_at P [] [] [] [] each k b at = absurd (cc)
+each_at P (c ∷ bs) (v ∷ vs) (s ∷ ss) (e ∷ es) each zero b at = (v, s, e, refl, refl, rw (some_same c b at) at each.0)
+each_at P (c ∷ bs) (v ∷ vs) (s ∷ ss) (e ∷ es) each (suc k) b at = each_at P bs vs ss es each.1 k b at
+each_at P bs vs ss es each k b at = absurd each
+
+-- what a commit shows of it
+module _ (t : ℕ) (c : CommitAll TranName) (done : Outcome) (old new : Part) (is : Decides t c done old new) where
+  abbrev At : Branch → Code → Option Code → Ending → Type 0
+  At b v s e = AtBranch (CarriesOut t) done.commit b v s e (old.entries b.m) (new.entries b.m)
+
+  commit_shows : (k : ℕ) (b : Branch) → slice_get (branches_of c) k ≡ Some b → slice_get done.endings.items k ≡ Some Committed
+      → HasEntry t (Commit b.xid false) Done (new.entries b.m)
+  commit_shows k b at told =
+      let x = each_at At (branches_of c) done.votes.items is.course.seconds done.endings.items is.course.each k b at in
+      branch_commits t done.commit b x.0 x.1 x.2 (old.entries b.m) (new.entries b.m) x.5 (some_same x.2 Committed (sym x.4 ∙ told))
+
+  commit_prepared : done.commit ≡ true → (k : ℕ) (b : Branch) → slice_get (branches_of c) k ≡ Some b
+      → (vote : Code) × (is_no vote ≡ false) × HasEntry t (Prepare b.xid) vote (new.entries b.m)
+  commit_prepared commit k b at =
+      let x = each_at At (branches_of c) done.votes.items is.course.seconds done.endings.items is.course.each k b at in
+      let vote =
+      all_at (λ v. is_no v ≡ false) done.votes.items k x.0 (none_all is_no done.votes.items (none_against done.votes.items done.logged (sym is.course.decision ∙ commit))) x.3 in
+      (x.0, vote, branch_prepared t done.commit b x.0 x.1 x.2 (old.entries b.m) (new.entries b.m) x.5 vote)
+
+-- ---- line by line
+
+-- what a thread has in a journal is in the journal
+in_filter : {A : Type 0} (p : A → Bool) (xs : List A) (x : A) → Contains (filter p xs) x → Contains xs x
+in_filter p xs x there = All-contains (Contains xs) (filter p xs) x (All-filter p (Contains xs) xs (All-contains_itself xs)) there
+
+in_journal : (settled : Settling) (t m u : ℕ) (o : Op) (c : Code) → HasEntry u o c (entries_of t (journal settled m)) → IsInJournal settled m u o c
+in_journal settled t m u o c has = search (arith, in_filter)
+
+-- what a commit did that answered this
+abbrev pub Shows : ℕ → CommitAll TranName → Answer → Part → Part → Type 0
+Shows t c (answer.Decided done) old new = Decides t c done old new
+Shows t c (answer.Undecided votes) old new = LosesSight t c votes.items old new
+Shows t c (answer.Died at known) old new = StopsAt t c at known old new
+Shows t c a old new = Unit {0}
+
+shown_by : (t : ℕ) (c : CommitAll TranName) (a : Answer) (old new : Part) → CommitTakes t c a old new → Shows t c a old new
+shown_by t c a old new is = search (arith, rules)
+
+pub shown_so : (settled : Settling) (l : Line) (c : CommitAll TranName) (a : Answer) (old new : Part) → l.task.action ≡ action.CommitAll c → l.answer ≡ a
+    → TakesPart settled l old new → Shows l.task.thread c a old new
+shown_so settled l c a old new asks tells takes = shown_by l.task.thread c a old new (rw (asks, tells) at takes)
+
+pub decided_so : (settled : Settling) (l : Line) (c : CommitAll TranName) (done : Outcome) (old new : Part) → ShowsCommit l c done → TakesPart settled l old new
+    → Decides l.task.thread c done old new
+decided_so settled l c done old new shows takes = shown_so settled l c (answer.Decided done) old new shows.asks shows.tells takes
+
+module _ (steps : List ScriptStep) (answers : List Told) (settled : Settling) (t : ℕ) (first : Part) (told : AreCarriedOut steps answers settled t first) where
+  -- a line does what it does, and what it puts into a journal is there after the last line
+  pub placed : (k : ℕ) (d : Line) → k < length told.lines
+      → (old : Part) × (new : Part) × TakesPart settled (slice_index_or told.lines k d) old new × ((m : ℕ) → Adds Any (new.entries m) (entries_of t (journal settled m)))
+  placed k d below =
+      let (old, new, place) =
+      places steps answers settled t first told (take k told.lines) (slice_index_or told.lines k d) (drop (suc k) told.lines) (sym (take-append-drop k told.lines) ∙ ap (λ ls. take k told.lines ++ ls) (drop-cons told.lines k d below)) in
+      (old, new, place.takes, place_adds place)
+
+  -- an entry that a line has put into a journal
+  stays_in : (old new : Part) → ((m : ℕ) → Adds Any (new.entries m) (entries_of t (journal settled m))) → (u m : ℕ) (o : Op) (c : Code)
+      → HasEntry u o c (new.entries m) → IsInJournal settled m u o c
+  stays_in old new adds u m o c has = in_journal settled t m u o c (still_has u o c (new.entries m) (entries_of t (journal settled m)) (adds m) has)
+
+  pub all_carried_out : All (IsCarriedOut settled) told.lines
+  all_carried_out k d below q o is asked ok =
+      let l : Line = slice_index_or told.lines k d in
+      let (old, new, takes, adds) = placed k d below in
+      stays_in old new adds l.task.thread q.manager o Done (one_entered settled l.task.thread q l.answer old new (rw is at takes) o asked ok)
+
+  pub all_committed : All (AreCommitted settled) told.lines
+  all_committed k d below c done shows j b at ends =
+      let l : Line = slice_index_or told.lines k d in
+      let (old, new, takes, adds) = placed k d below in
+      stays_in old new adds l.task.thread b.m (Commit b.xid false) Done (commit_shows l.task.thread c done old new (decided_so settled l c done old new shows takes) j b at ends)
+
+  pub all_prepared : All (ArePrepared settled) told.lines
+  all_prepared k d below c done shows commit j b at =
+      let l : Line = slice_index_or told.lines k d in
+      let (old, new, takes, adds) = placed k d below in
+      let has = commit_prepared l.task.thread c done old new (decided_so settled l c done old new shows takes) commit j b at in
+      (has.0, has.1, stays_in old new adds l.task.thread b.m (Prepare b.xid) has.0 has.2)
+
+-- a commit that aborts
+pub aborts_commit_none : (t : ℕ) (c : CommitAll TranName) (done : Outcome) (old new : Part) → Decides t c done old new → done.commit ≡ false → (m : ℕ)
+    → AddsNoCommit (old.entries m) (new.entries m)
+aborts_commit_none t c done old new is aborts m =
+    adds_no is_commit (old.entries m) (new.entries m) (decides_adds IsNoCommit m t c done old new (λ k d lt. record {
+      prepares = λ here. refl;
+      obeys = λ here v. rw aborts (second_so IsNoCommit false (get_or (branches_of c) k d).xid v refl);
+      forgets = λ here s. third_so IsNoCommit (get_or (branches_of c) k d).xid s (λ _. refl);
+    }) is)
+
+-- ---- a commit whose branches have all answered, as P says
 
 -- what is neither left nor rolled back
 rest_is : (e : Ending) → is_left e ≡ false → is_rolled_back e ≡ false → (is_committed e || (is_read_only e || (is_in_doubt e || is_heuristic e))) ≡ true
 rest_is e l r = search (arith, rules)
 
-certain_is : (e : Ending) → is_left e ≡ false → is_rolled_back e ≡ false → is_in_doubt e ≡ false → is_heuristic e ≡ false → is_read_only e ≡ false
-    → is_committed e ≡ true
-certain_is e l r d h o = search (arith, rules)
+module _ (P : Branch → Code → Option Code → Ending → Type 0) (bs : List Branch) (zs : List (Option Code)) (done : Outcome)
+    (ends : (b : Branch) (v : Code) (z : Option Code) (e : Ending) → P b v z e → e ≡ ending_of done.commit v z)
+    (each : EachBranch P bs done.votes.items zs done.endings.items) (decision : done.commit ≡ decision_of done.votes.items done.logged) where
+  unopposed : done.commit ≡ true → list_any is_no done.votes.items ≡ false
+  unopposed commit = none_against done.votes.items done.logged (sym decision ∙ commit)
 
--- by the line alone
-module _ (t : ℕ) (c : CommitAll TranName) (done : Outcome) (old new : Part) (is : Decides t c done old new) where
-  abbrev own : List Branch
-  own = branches_of c
-
-  -- each branch has its ending
-  pub ends_all : EachOutcome (Ends done.commit) own done.votes.items done.endings.items
-  ends_all =
-      each_outcome (λ b. Unit {0}) (λ b v z e. AtBranch (CarriesOut t) done.commit b v z e (old.entries b.m) (new.entries b.m)) (Ends done.commit) (λ b v z e _ h. (z, h.ends)) own
-      done.votes.items is.course.seconds done.endings.items (λ k d lt. tt) is.course.each
-
-  pub unopposed : done.commit ≡ true → list_any is_no done.votes.items ≡ false
-  unopposed commit = none_against done.votes.items done.logged (sym is.course.decision ∙ commit)
-
+  -- by the line alone
   pub one_outcome : IsOneOutcome done
   one_outcome = record {
-    kept = λ commit.
-        no_ending_is (λ b v e. (is_no v ≡ false) × Ends done.commit b v e) is_rolled_back (kept_so done.commit commit) own done.votes.items done.endings.items
-        (voted_with (λ v. is_no v ≡ false) (Ends done.commit) own done.votes.items done.endings.items (none_all is_no done.votes.items (unopposed commit)) ends_all);
-    uncommitted = λ aborts. no_ending_is (Ends done.commit) is_committed (out_so done.commit aborts) own done.votes.items done.endings.items ends_all;
+    kept = λ on.
+        none_end P done.commit is_rolled_back (λ v. is_no v ≡ false) ends (λ v z n. ap (λ c. is_rolled_back (ending_of c v z)) on ∙ not_rolled_back v z n) bs
+        done.votes.items zs done.endings.items each (none_all is_no done.votes.items (unopposed on));
+    uncommitted = λ off.
+        none_end P done.commit is_committed (λ v. Unit {0}) ends (λ v z _. ap (λ c. is_committed (ending_of c v z)) off ∙ uncommitted v z) bs
+        done.votes.items zs done.endings.items each (λ k d lt. tt);
   }
 
--- one branch
-module _ (law : Tabled) (opens : (s : Settling) (m : ℕ) → IsSettled s → (T : Tables) × IsOpenedWith s m T) (s : Settling) (t : ℕ) (old : Part) where
-  -- what became of it
-  abbrev pub FatedSo : Bool → Branch → Code → Ending → Type 0
-  FatedSo commit b v e = Fated law opens s t b (length (old.entries b.m)) v e × Ends commit b v e
+  -- by what each went through in its manager's history
+  module _ (law : Tabled) (opens : (s : Settling) (m : ℕ) → IsSettled s → (T : Tables) × IsOpenedWith s m T) (s : Settling) (settled : IsSettled s) (t : ℕ)
+      (old new : Part)
+      (went : (b : Branch) (v : Code) (z : Option Code) (e : Ending) → P b v z e → InHistory law opens s t settled done.commit (entered_so_far old) (entered_so_far new) b v z e) where
+    -- what became of them
+    pub as_shown : AreLeftOrDecided s t bs (entered_so_far old) (entered_so_far new) → IsAsShown s t bs old done
+    as_shown alone =
+        let F : Branch → Code → Ending → Type 0 = λ b v e. Fated law opens s t b (entered_so_far old b.m) v e in
+        let all : EachOutcome F bs done.votes.items done.endings.items =
+        each_outcome (λ b. OnlyTheseOrDecisionsName b.xid t (entered_so_far old b.m) (entered_so_far new b.m) (history_of s b.m)) P F (λ b v z e only is.
+        one_fated law opens s t settled done.commit (entered_so_far old) (entered_so_far new) b v z e (went b v z e is) only) bs done.votes.items zs done.endings.items
+        alone.each each in
+        record {
+          committed = λ on.
+              let reached = outcome_ends (λ v. is_no v ≡ false) F (λ e. is_left e ≡ false) (λ b v e n h. h.unless_no n) bs done.votes.items done.endings.items
+              (none_all is_no done.votes.items (unopposed on)) all in
+              λ k d lt. rest_is (get_or done.endings.items k d) (reached k d lt) (none_all is_rolled_back done.endings.items (one_outcome.kept on) k d lt);
+          aborted = one_outcome.uncommitted;
+          votes = record { each = search (arith, outcome_map) };
+          fates = record { each = search (arith, outcome_map) };
+        }
 
-  -- and what it counts for
-  abbrev pub CountedSo : Part → Bool → Branch → Code → Ending → Type 0
-  CountedSo new commit b v e = Both law opens s t b (length (old.entries b.m)) (length (new.entries b.m)) v e × Ends commit b v e
-
--- all of them, by each
-module _ (law : Tabled) (opens : (s : Settling) (m : ℕ) → IsSettled s → (T : Tables) × IsOpenedWith s m T) (s : Settling) (t : ℕ) (bs : List Branch)
-    (old new : Part) (done : Outcome) (unopposed_so : done.commit ≡ true → list_any is_no done.votes.items ≡ false) where
-  abbrev each : (Branch → Code → Ending → Type 0) → Type 0
-  each P = EachOutcome P bs done.votes.items done.endings.items
-
-  abbrev FatedHere : Branch → Code → Ending → Type 0
-  FatedHere = FatedSo law opens s t old done.commit
-
-  abbrev CountedHere : Branch → Code → Ending → Type 0
-  CountedHere = CountedSo law opens s t old new done.commit
-
-  pub as_shown_by : each FatedHere → IsAsShown s t bs old done
-  as_shown_by all = record {
-    committed = λ commit.
-        all_endings (λ b v e. (is_no v ≡ false) × FatedHere b v e) (λ e. (is_committed e || (is_read_only e || (is_in_doubt e || is_heuristic e))) ≡ true)
-        (λ b v e h. rest_is e (h.1.0.unless_no h.0) (kept_so done.commit commit b v e (h.0, h.1.1))) bs done.votes.items done.endings.items
-        (voted_with (λ v. is_no v ≡ false) FatedHere bs done.votes.items done.endings.items (none_all is_no done.votes.items (unopposed_so commit)) all);
-    aborted = λ aborts. no_ending_is FatedHere is_committed (λ b v e h. out_so done.commit aborts b v e h.1) bs done.votes.items done.endings.items all;
-    votes = record { each = search (arith, outcome_map) };
-    fates = record { each = search (arith, outcome_map) };
-  }
-
-  all_count : each CountedHere → done.commit ≡ true → list_any is_in_doubt done.endings.items ≡ false
-      → each (λ b v e. Shares s t b (length (old.entries b.m)) done.commit)
-  all_count all commit certain =
-      outcome_map (λ b v e. (is_in_doubt e ≡ false) × ((is_no v ≡ false) × CountedHere b v e)) (λ b v e. Shares s t b (length (old.entries b.m)) done.commit)
-      (λ b v e h T with_T k d add.
-      let own = h.1.1.0 in
-      let same : is_committed e ≡ done.commit =
-      certain_is e (own.fated.unless_no h.1.0) (kept_so done.commit commit b v e (h.1.0, h.1.1.1)) h.0 (own.undecided h.1.0) ((own.counted T with_T).adders k d add)
-      ∙ sym commit in
-      (own.counted T with_T).counted k d add ∙ ap (λ q. if q then d else pos 0) same)
-      bs done.votes.items done.endings.items
-      (with_endings (λ b v e. (is_no v ≡ false) × CountedHere b v e) is_in_doubt bs done.votes.items done.endings.items certain
-      (voted_with (λ v. is_no v ≡ false) CountedHere bs done.votes.items done.endings.items (none_all is_no done.votes.items (unopposed_so commit)) all))
-
-  none_counts : each CountedHere → done.commit ≡ false → each (λ b v e. Shares s t b (length (old.entries b.m)) done.commit)
-  none_counts all aborts =
-      outcome_map CountedHere (λ b v e. Shares s t b (length (old.entries b.m)) done.commit)
-      (λ b v e own T with_T k d add. (own.0.counted T with_T).counted k d add ∙ ap (λ q. if q then d else pos 0) (out_so done.commit aborts b v e own.1 ∙ sym aborts)) bs done.votes.items done.endings.items all
-
-  pub counts_by : each CountedHere → CountsAsShown s t bs old done
-  counts_by all = record {
-    counts = record { each = search (arith, outcome_map) };
-    whole = λ certain. elim (cases_Bool (done.commit)) [ inl commit ↦ all_count all commit certain | inr aborts ↦ none_counts all aborts ];
-  }
+    -- what they count for
+    pub counts_as_shown : AreLeftAlone s t bs (entered_so_far old) (entered_so_far new) → CountsAsShown s t bs old done
+    counts_as_shown alone =
+        let G : Branch → Code → Ending → Type 0 = λ b v e. Both law opens s t b (entered_so_far old b.m) (entered_so_far new b.m) v e in
+        let all : EachOutcome G bs done.votes.items done.endings.items =
+        each_outcome (λ b. OnlyTheseName b.xid t (entered_so_far old b.m) (entered_so_far new b.m) (history_of s b.m)) P G (λ b v z e only is.
+        one_both law opens s t settled done.commit (entered_so_far old) (entered_so_far new) b v z e (went b v z e is) only) bs done.votes.items zs done.endings.items
+        alone.each each in
+        record {
+          counts = record { each = search (arith, outcome_map) };
+          whole = λ certain.
+              each_whole law opens s t done.commit (entered_so_far old) (entered_so_far new) bs done.votes.items done.endings.items one_outcome.kept unopposed
+              (λ some. true_from_ne_false (done.commit) (λ off. both_ways _ (one_outcome.uncommitted off) some)) certain all;
+        }
 
 -- of a commit that came to its end
-module _ (law : Tabled) (opens : (s : Settling) (m : ℕ) → IsSettled s → (T : Tables) × IsOpenedWith s m T) (s : Settling) (settled : IsSettled s) (t : ℕ)
-    (c : CommitAll TranName) (done : Outcome) (old new : Part) (is : Decides t c done old new)
-    (grown : (m : ℕ) → Adds Any (new.entries m) (entries_of t (journal s m))) where
-  abbrev bs : List Branch
-  bs = branches_of c
+module _ (t : ℕ) (c : CommitAll TranName) (done : Outcome) (old new : Part) (is : Decides t c done old new) where
+  abbrev EndedAt : Branch → Code → Option Code → Ending → Type 0
+  EndedAt b v z e = AtBranch (CarriesOut t) done.commit b v z e (old.entries b.m) (new.entries b.m)
 
-  -- how many requests the thread had sent each manager, by its entries
-  in_history : (b : Branch) (v : Code) (z : Option Code) (e : Ending) → AtBranch (CarriesOut t) done.commit b v z e (old.entries b.m) (new.entries b.m)
-      → InHistory law opens s t settled done.commit (entered_so_far old) (entered_so_far new) b v z e
-  in_history b v z e at T with_T =
-      let asked =
-      branch_entered law s settled t b.m T with_T done.commit b v z e (old.entries b.m) (new.entries b.m) at ((grown b.m).0, (grown b.m).1) in
-      (course_of (site_of law s settled t b.m T with_T) b done.commit v z e (entered (old.entries b.m)) (entered (new.entries b.m)) asked, at.ends)
+  one_outcome_is : IsOneOutcome done
+  one_outcome_is = one_outcome EndedAt (branches_of c) is.course.seconds done (λ b v z e at. at.ends) is.course.each is.course.decision
 
-  -- what became of them
-  pub as_shown : AreLeftOrDecided s t (branches_of c) (entered_so_far old) (entered_so_far new) → IsAsShown s t (branches_of c) old done
-  as_shown alone =
-      as_shown_by law opens s t bs old new done (unopposed t c done old new is)
-      (each_outcome (λ b. OnlyTheseOrDecisionsName b.xid t (length (old.entries b.m)) (length (new.entries b.m)) (history_of s b.m)) (λ b v z e. AtBranch (CarriesOut t) done.commit b v z e (old.entries b.m) (new.entries b.m)) (FatedSo law opens s t old done.commit)
-      (λ b v z e only at. (one_fated law opens s t settled done.commit (entered_so_far old) (entered_so_far new) b v z e (in_history b v z e at) only, (z, at.ends))) bs done.votes.items is.course.seconds done.endings.items alone.each is.course.each)
+  module _ (law : Tabled) (opens : (s : Settling) (m : ℕ) → IsSettled s → (T : Tables) × IsOpenedWith s m T) (s : Settling) (settled : IsSettled s)
+      (grown : (m : ℕ) → Adds Any (new.entries m) (entries_of t (journal s m))) where
+    went_so : (b : Branch) (v : Code) (z : Option Code) (e : Ending) → EndedAt b v z e
+        → InHistory law opens s t settled done.commit (entered_so_far old) (entered_so_far new) b v z e
+    went_so b v z e at T with_T =
+        let asked =
+        branch_entered law s settled t b.m T with_T done.commit b v z e (old.entries b.m) (new.entries b.m) at ((grown b.m).0, (grown b.m).1) in
+        (course_of (site_of law s settled t b.m T with_T) b done.commit v z e (entered (old.entries b.m)) (entered (new.entries b.m)) asked, at.ends)
 
-  -- what they count for
-  module _ (alone : AreLeftAlone s t (branches_of c) (entered_so_far old) (entered_so_far new)) where
-    pub counts_as_shown : IsAsShown s t (branches_of c) old done × CountsAsShown s t (branches_of c) old done
-    counts_as_shown = (
-      as_shown (search (arith, rules)),
-      counts_by law opens s t bs old new done (unopposed t c done old new is)
-          (each_outcome (λ b. OnlyTheseName b.xid t (length (old.entries b.m)) (length (new.entries b.m)) (history_of s b.m)) (λ b v z e. AtBranch (CarriesOut t) done.commit b v z e (old.entries b.m) (new.entries b.m)) (CountedSo law opens s t old new done.commit)
-          (λ b v z e only at. (one_both law opens s t settled done.commit (entered_so_far old) (entered_so_far new) b v z e (in_history b v z e at) only, (z, at.ends))) bs done.votes.items is.course.seconds done.endings.items alone.each is.course.each),
+    pub decided_as_shown : AreLeftOrDecided s t (branches_of c) (entered_so_far old) (entered_so_far new) → IsAsShown s t (branches_of c) old done
+    decided_as_shown =
+        as_shown EndedAt (branches_of c) is.course.seconds done (λ b v z e at. at.ends) is.course.each is.course.decision law opens s settled t old new went_so
+
+    pub decided_counts : AreLeftAlone s t (branches_of c) (entered_so_far old) (entered_so_far new)
+        → IsAsShown s t (branches_of c) old done × CountsAsShown s t (branches_of c) old done
+    decided_counts alone = (
+      decided_as_shown (search (arith, rules)),
+      counts_as_shown EndedAt (branches_of c) is.course.seconds done (λ b v z e at. at.ends) is.course.each is.course.decision law opens s settled t old new went_so alone,
     )
 
--- ---- line by line
-
-chain_steps : (settled : Settling) (first : Part) (ls : List Line) (last : Part) → Chain (TakesPart settled) first ls last
-    → All (λ l. (old : Part) × (new : Part) × TakesPart settled l old new) ls
-chain_steps settled first ls last (none xs end e f) = search (arith, All-nil)
-chain_steps settled first ls last (more xs x now end before step) = search (arith, chain_steps settled first xs now before, All-append, All-cons, All-nil)
-
+-- line by line
 pub all_one_outcome : (steps : List ScriptStep) (answers : List Told) (settled : Settling) (t : ℕ) (first : Part) (told : AreCarriedOut steps answers settled t first)
     → All ShowsOneOutcome told.lines
 all_one_outcome steps answers settled t first told k d below c done shows =
-    let step = chain_steps settled first told.lines _ told.carried k d below in
-    one_outcome (slice_index_or told.lines k d).task.thread c done step.0 step.1 (decided_so settled (slice_index_or told.lines k d) c done step.0 step.1 shows step.2)
+    let (old, new, takes, adds) = placed steps answers settled t first told k d below in
+    one_outcome_is (slice_index_or told.lines k d).task.thread c done old new (decided_so settled (slice_index_or told.lines k d) c done old new shows takes)
 
--- ---- what a commit that came to no end left, by the line that shows it: it goes by the record: what such a line does
-
-taken : (settled : Settling) (l : Line) (c : CommitAll TranName) (a : Answer) (old new : Part) → l.answer ≡ a → TakesPart settled l old new
-    → (x : ScriptAction) → l.task.action ≡ x → Takes settled x l.task.thread a old new
-taken settled l c a old new tells takes x asks = search (arith, l.task.thread, l.answer)
+-- ---- what a commit that came to no end left, by the line that shows it: it goes by the record
 
 pub stopped_so : (settled : Settling) (l : Line) (c : CommitAll TranName) (at : Death) (known : Outcome) (old new : Part) → ShowsDeath l c at known
     → TakesPart settled l old new → StopsAt l.task.thread c at known old new
-stopped_so settled l c at known old new shows takes = of_answer (taken settled l c (answer.Died at known) old new shows.tells takes _ shows.asks)
-  where
-    of_answer : CommitTakes l.task.thread c (answer.Died at known) old new → StopsAt l.task.thread c at known old new
-    of_answer (died at' d dead told is) =
-        let death : at' ≡ at = cc in
-        let outcome : d ≡ known = cc in
-        subst (λ (x : Outcome). StopsAt l.task.thread c at x old new) outcome (subst (λ (x : Death). StopsAt l.task.thread c x d old new) death is)
-    of_answer (takes_none told e) = absurd (cc)
-    of_answer (undecided votes comes told is) = absurd (cc)
-    of_answer (decided d alive told is) = absurd (cc)
+stopped_so settled l c at known old new shows takes = shown_so settled l c (answer.Died at known) old new shows.asks shows.tells takes
 
 pub lost_so : (settled : Settling) (l : Line) (c : CommitAll TranName) (votes : Vec Code Global) (old new : Part) → ShowsUndecided l c votes
     → TakesPart settled l old new → LosesSight l.task.thread c votes.items old new
-lost_so settled l c votes old new shows takes = of_answer (taken settled l c (answer.Undecided votes) old new shows.tells takes _ shows.asks)
-  where
-    of_answer : CommitTakes l.task.thread c (answer.Undecided votes) old new → LosesSight l.task.thread c votes.items old new
-    of_answer (undecided v comes told is) = let same : v ≡ votes = cc in subst (λ (x : Vec Code Global). LosesSight l.task.thread c x.items old new) same is
-    of_answer (takes_none told e) = absurd (cc)
-    of_answer (decided d alive told is) = absurd (cc)
-    of_answer (died at d dead told is) = absurd (cc)
-
--- ---- by the record
+lost_so settled l c votes old new shows takes = shown_so settled l c (answer.Undecided votes) old new shows.asks shows.tells takes
 
 abbrev IsNoRollback : Op → Type 0
 IsNoRollback op = is_rollback op ≡ false
@@ -245,8 +337,7 @@ unrecorded tran log later absent same on = search (arith, is_some)
 
 module _ (tran : TranName) (bs : List Branch) (log later : LogState) (known : Outcome) (absent : record_of log tran ≡ None) where
   votes_by : IsDecidedBy tran bs log later known → is_recorded later tran ≡ false → All (NotToCommit known.commit) known.votes.items
-  votes_by is off =
-      subst (λ c. All (NotToCommit c) known.votes.items) (sym is.decision) (undecided_so tran log later absent known.votes.items known.logged _ is.logs off)
+  votes_by is off = rw is.decision (undecided_so tran log later absent known.votes.items known.logged _ is.logs off)
 
   commits_by : IsDecidedBy tran bs log later known → is_recorded later tran ≡ true → decision_of known.votes.items known.logged ≡ true
   commits_by is on = logged_so tran log later absent known.votes.items known.logged _ is.logs on
@@ -268,37 +359,32 @@ module _ (tran : TranName) (bs : List Branch) (log later : LogState) (known : Ou
 
 -- ---- endings
 
--- each has its ending
-pub obeyed_ends : {D : Type 0} (A : Asking D) (commit : Bool) (old new : ℕ → D) (bs : List Branch) (vs : List Code) (zs : List (Option Code)) (es : List Ending)
-    → EachBranch (λ b v z e. VotesAndObeys A commit b v z e (old b.m) (new b.m)) bs vs zs es → EachOutcome (Ends commit) bs vs es
-obeyed_ends A commit old new bs vs zs es h =
-    each_outcome (λ b. Unit {0}) (λ b v z e. VotesAndObeys A commit b v z e (old b.m) (new b.m)) (Ends commit) (λ b v z e _ is. (z, is.ends)) bs vs zs es (λ k d lt. tt) h
-
 -- a branch that isn't to be committed isn't shown as committed
-not_shown : (commit : Bool) (b : Branch) (v : Code) (e : Ending) → NotToCommit commit v × Ends commit b v e → is_committed e ≡ false
-not_shown commit b v e h = search (arith, out_so)
-
-abbrev none_among : (Ending → Bool) → List Ending → Type 0
-none_among p es = list_any p es ≡ false
+not_shown : (commit : Bool) (v : Code) (z : Option Code) → NotToCommit commit v → is_committed (ending_of commit v z) ≡ false
+not_shown commit v z h = search (arith, unvoted, uncommitted)
 
 module _ {D : Type 0} (A : Asking D) (U : Putting D) (tran : TranName) (bs : List Branch) (old new : ℕ → D) (log later : LogState) (known : Outcome)
     (absent : record_of log tran ≡ None) where
+  abbrev Obeys : Branch → Code → Option Code → Ending → Type 0
+  Obeys b v z e = VotesAndObeys A known.commit b v z e (old b.m) (new b.m)
+
   -- no ending is known before all were told
-  unless_told : (p : Ending → Bool) → (CameTo A U death.Told tran bs old new log later known → none_among p known.endings.items)
-      → (at : Death) → CameTo A U at tran bs old new log later known → none_among p known.endings.items
+  unless_told : (p : Ending → Bool) → (CameTo A U death.Told tran bs old new log later known → list_any p known.endings.items ≡ false)
+      → (at : Death) → CameTo A U at tran bs old new log later known → list_any p known.endings.items ≡ false
   unless_told p told death.Told far = told far
   unless_told p told at far = ap (list_any p) far.endings
 
-  endings_out : (at : Death) → CameTo A U at tran bs old new log later known → is_recorded later tran ≡ false → none_among is_committed known.endings.items
+  endings_out : (at : Death) → CameTo A U at tran bs old new log later known → is_recorded later tran ≡ false
+      → list_any is_committed known.endings.items ≡ false
   endings_out at far off = unless_told is_committed (λ far.
-      no_ending_is (λ b v e. NotToCommit known.commit v × Ends known.commit b v e) is_committed (not_shown known.commit) bs known.votes.items known.endings.items
-      (voted_with (NotToCommit known.commit) (Ends known.commit) bs known.votes.items known.endings.items (votes_by tran bs log later known absent far.decided off) (obeyed_ends A known.commit old new bs known.votes.items far.seconds known.endings.items far.each))) at far
+      none_end Obeys known.commit is_committed (NotToCommit known.commit) (λ b v z e is. is.ends) (not_shown known.commit) bs known.votes.items far.seconds
+      known.endings.items far.each (votes_by tran bs log later known absent far.decided off)) at far
 
-  endings_kept : (at : Death) → CameTo A U at tran bs old new log later known → is_recorded later tran ≡ true → none_among is_rolled_back known.endings.items
+  endings_kept : (at : Death) → CameTo A U at tran bs old new log later known → is_recorded later tran ≡ true
+      → list_any is_rolled_back known.endings.items ≡ false
   endings_kept at far on = unless_told is_rolled_back (λ far.
-      let decides = commits_by tran bs log later known absent far.decided on in
-      no_ending_is (λ b v e. (is_no v ≡ false) × Ends known.commit b v e) is_rolled_back (kept_so known.commit (far.decided.decision ∙ decides)) bs known.votes.items known.endings.items
-      (voted_with (λ v. is_no v ≡ false) (Ends known.commit) bs known.votes.items known.endings.items (none_all is_no known.votes.items (none_against known.votes.items known.logged decides)) (obeyed_ends A known.commit old new bs known.votes.items far.seconds known.endings.items far.each))) at far
+      (one_outcome Obeys bs far.seconds known (λ b v z e is. is.ends) far.each far.decided.decision).kept
+      (far.decided.decision ∙ commits_by tran bs log later known absent far.decided on)) at far
 
 -- ---- the laws
 
@@ -311,35 +397,28 @@ death_by_record t c at known old new is =
     let log = old.log in
     let later = new.log in
     record {
-      unsent = λ off m.
-          let adds = stops_adds IsNoCommit (NotToCommit known.commit) m t c at known old new (λ k d lt. record {
+      unsent =
+          λ off m. adds_no is_commit (old.entries m) (new.entries m) (stops_adds IsNoCommit (NotToCommit known.commit) m t c at known old new (λ k d lt. record {
             prepares = λ here. refl;
             obeys = λ here v w. no_commit_so known.commit (get_or bs k d).xid v w IsNoCommit (λ op e. e);
-          }) (votes_fit (named c) bs log later known is.unlogged A U old.entries new.entries at is.course.far off) is in
-          (adds.0, adds.1, list_any_none (λ (e : Entry). is_commit e.0.op) adds.0 adds.2);
+          }) (votes_fit (named c) bs log later known is.unlogged A U old.entries new.entries at is.course.far off) is);
       uncommitted = λ off. endings_out A U (named c) bs old.entries new.entries log later known is.unlogged at is.course.far off;
       unopposed = λ on.
           none_against known.votes.items known.logged (decision_so (named c) bs log later known is.unlogged A U old.entries new.entries at is.course.far on).1;
-      kept = λ on m.
-          let adds = stops_adds IsNoRollback (λ v. Unit {0}) m t c at known old new (λ k d lt. record {
-            prepares = λ here. refl;
-            obeys = λ here v w. no_rollback_so known.commit (get_or bs k d).xid v (decision_so (named c) bs log later known is.unlogged A U old.entries new.entries at is.course.far on).0 IsNoRollback (λ op e. e);
-          }) (λ k d lt. tt) is in
-          (adds.0, adds.1, list_any_none (λ (e : Entry). is_rollback e.0.op) adds.0 adds.2);
+      kept = λ on m. adds_no is_rollback (old.entries m) (new.entries m) (stops_adds IsNoRollback (λ v. Unit {0}) m t c at known old new (λ k d lt. record {
+        prepares = λ here. refl;
+        obeys = λ here v w. no_rollback_so known.commit (get_or bs k d).xid v (decision_so (named c) bs log later known is.unlogged A U old.entries new.entries at is.course.far on).0 IsNoRollback (λ op e. e);
+      }) (λ k d lt. tt) is);
       committed = λ on. endings_kept A U (named c) bs old.entries new.entries log later known is.unlogged at is.course.far on;
     }
 
 pub undecided_by_record : (t : ℕ) (c : CommitAll TranName) (votes : List Code) (old new : Part) → LosesSight t c votes old new
     → GoesByTheRecord (named c) votes [] old new
 undecided_by_record t c votes old new is = record {
-  unsent = λ off m.
-      let adds = loses_adds IsNoCommit m t c votes old new (λ k d lt here. refl) is in
-      (adds.0, adds.1, list_any_none (λ (e : Entry). is_commit e.0.op) adds.0 adds.2);
+  unsent = λ off m. adds_no is_commit (old.entries m) (new.entries m) (loses_adds IsNoCommit m t c votes old new (λ k d lt here. refl) is);
   uncommitted = λ off. refl;
   unopposed = λ on. none_against votes true ((λ i. (and_parts (decides_commit votes) (has_yes votes) is.wanted).0 i && or-true (not (has_yes votes)) i));
-  kept = λ on m.
-      let adds = loses_adds IsNoRollback m t c votes old new (λ k d lt here. refl) is in
-      (adds.0, adds.1, list_any_none (λ (e : Entry). is_rollback e.0.op) adds.0 adds.2);
+  kept = λ on m. adds_no is_rollback (old.entries m) (new.entries m) (loses_adds IsNoRollback m t c votes old new (λ k d lt here. refl) is);
   committed = λ on. refl;
 }
 

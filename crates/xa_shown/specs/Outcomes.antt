@@ -17,10 +17,10 @@ use Rattle.xa_atomicity.specs.Outcomes.{has_rolled_back}
 use Rattle.xa_atomicity.specs.Outcomes.{EachOutcome, KeepsTheVotes, TellsTheFates}
 use Rattle.xa_atomicity.specs.Additions.{CountsTheCommitted, Shares}
 use Rattle.xa_words.specs.Tran.{TranName}
-use Rattle.xa_grammar.specs.declared.step.Calling.TheVariants as calling
+use Rattle.xa_grammar.specs.declared.step.ManagerCall.TheVariants as calling
 use Rattle.xa_grammar.specs.declared.step.CommitAll.{CommitAll}
 use Rattle.xa_grammar.specs.declared.step.Action.TheVariants as action
-use Rattle.xa_grammar.specs.Steps.{ScriptCalling, ScriptAction, ScriptTask, ScriptStep}
+use Rattle.xa_grammar.specs.Steps.{ScriptCall, ScriptAction, ScriptTask, ScriptStep}
 use Rattle.xa_grammar.specs.declared.script.Declared.{Declared}
 use Rattle.xa_grammar.specs.Contents.{Content, tasks_of}
 use Rattle.xa_transcript.specs.declared.answer.Told.{Told}
@@ -65,7 +65,7 @@ abbrev pub entered_so_far : Part → ℕ → ℕ
 entered_so_far p m = length (p.entries m)
 
 -- The branches that a call names: that of its manager with its xid; and so does a heuristic decision.
-abbrev pub branches_by : ℕ → ScriptCalling → List Branch
+abbrev pub branches_by : ℕ → ScriptCall → List Branch
 branches_by m (calling.Xa c (Some x)) = record { m = m; xid = x } ∷ []
 branches_by m (calling.Heur x commits) = record { m = m; xid = x } ∷ []
 branches_by m other = []

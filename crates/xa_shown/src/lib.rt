@@ -35,7 +35,7 @@ use xa_atomicity::tables_keep_to_their_laws;
 use xa_switch::laws::settled_journals_follow_the_tables;
 
 /// Each call without `TMASYNC` that answers XA_OK has its request in its manager's journal, with XA_OK.
-#[tactic(auto, using(crate::proofs::Shown::all_carried_out))]
+#[tactic(auto, using(crate::proofs::Outcomes::all_carried_out))]
 pub fn what_answers_ok_is_carried_out()
     ensures { (steps : List ScriptStep) (answers : List Told) (settled : Settling) (t : ℕ) (first : Part)
         (told : AreCarriedOut steps answers settled t first) → All (IsCarriedOut settled) told.lines }

@@ -1,4 +1,4 @@
-use Rattle.xa_shown.proofs.Shown.{aborts_commit_none}
+use Rattle.xa_shown.proofs.Outcomes.{aborts_commit_none}
 use Rattle.xa_shown.proofs.what_aborts_adds_no_commit.Goals as goal
 
 pub returns : goal.returns

@@ -1,4 +1,4 @@
-use Rattle.xa_shown.proofs.Shown.{all_prepared}
+use Rattle.xa_shown.proofs.Outcomes.{all_prepared}
 use Rattle.xa_shown.proofs.what_commits_was_prepared.Goals as goal
 
 pub returns : goal.returns

@@ -1,5 +1,5 @@
 use Rattle.xa_base.proofs.{arith}
-use Rattle.xa_atomicity.proofs.Resolution.{counted_law, whole_law}
+use Rattle.xa_atomicity.proofs.NextOpening.{counted_law, whole_law}
 use Rattle.xa_atomicity.proofs.resolved.resolved_transactions_count_where_committed.Goals as goal
 
 pub returns : goal.returns

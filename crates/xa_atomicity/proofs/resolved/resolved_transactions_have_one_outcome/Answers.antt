@@ -1,4 +1,4 @@
-use Rattle.xa_atomicity.proofs.Resolution.{resolved_law}
+use Rattle.xa_atomicity.proofs.NextOpening.{resolved_law}
 use Rattle.xa_atomicity.proofs.resolved.resolved_transactions_have_one_outcome.Goals as goal
 
 pub returns : goal.returns

@@ -1,5 +1,5 @@
-use Rattle.xa_base.proofs.{rules, ◌≡◌, ℕ, ◌+◌, Bool, List, [], ◌∷◌, ◌++◌, length, length-append, map, append_assoc, sym, ap, ◌∙◌, subst, arith, length-map}
-use Rattle.xa_base.proofs.{map-append, into_iter_items, into_iter_len}
+use Rattle.xa_base.proofs.{rules, ◌≡◌, ℕ, ◌+◌, Bool, List, [], ◌∷◌, ◌++◌, length, length-append, map, append_assoc, sym, ap, ◌∙◌, arith, length-map, map-append}
+use Rattle.xa_base.proofs.{into_iter_items, into_iter_len}
 use Rattle.xa_crew.specs.{WithScan, Attended}
 use Rattle.xa_bank.specs.{Teller, ReadsBack}
 use Rattle.xa_bank_days.proofs.Went.{one_back_more, all_taken, one_fewer}
@@ -18,7 +18,7 @@ loop-attended-preserved g c =
     let number : c.loop-attended.thread + 1 ≡ 1 + length (map teller_of ys) = search (arith, length-map, i.counted) in
     let one_more : length (ys ++ c.in-Some.attended ∷ []) ≡ length ys + 1 = length-append ys (c.in-Some.attended ∷ []) in
     let outcomes_are : c.replace-outcomes.result ≡ own.outcomes = search (arith, rules) in
-    let its : Back (1 + length (map teller_of ys)) own log has = subst (λ t. Back t own log has) number c.read_back-teller.ensures.reads_back in
+    let its : Back (1 + length (map teller_of ys)) own log has = rw number at c.read_back-teller.ensures.reads_back in
     let logs_are : map (λ (t : Teller g.row.L.Denot). t.log) c.push_reserved-in-loop-attended-2.new.self.items ≡ map (λ (t : Teller g.row.L.Denot). t.log) c.loop-attended.evening.tellers.items ++ log ∷ [] =
     ap (map (λ (t : Teller g.row.L.Denot). t.log)) c.push_reserved-in-loop-attended-2.ensures.items
     ∙ map-append (λ (t : Teller g.row.L.Denot). t.log) c.loop-attended.evening.tellers.items _ in

@@ -1,7 +1,7 @@
-use Rattle.xa_base.proofs.{IfOk-weaker, arith, Err, Ok, Result, ◌≡◌, Bool, true, false, if◌then◌else◌, sym, ap, ◌∙◌, subst, All, IfErr}
-use Rattle.xa_switch.specs.{Again, MayReopen}
+use Rattle.xa_base.proofs.{subst, IfOk-weaker, arith, Err, Ok, Result, ◌≡◌, Bool, true, false, if◌then◌else◌, sym, ap, ◌∙◌, All, IfErr}
+use Rattle.xa_bank_days.specs.{IsUntouched, Unresolved, BadNumbers, TellerWantsMemory, next_numbers, Excuses, HasRoomToResolve}
+use Rattle.xa_switch.specs.{Again}
 use Rattle.xa_driver.specs.{Resolved}
-use Rattle.xa_bank_days.specs.{Unresolved, BadNumbers, TellerWantsMemory, next_numbers, Excuses, HasRoomToResolve, IsNight, IsUntouched}
 use Rattle.xa_bank_days.proofs.Moved.{same_stores}
 use Rattle.xa_bank_days.proofs.day.pass_night.Goals as goal
 
@@ -35,13 +35,11 @@ returns-clause-passed g c =
           (λ z is_night. (
             c.if-wanting.false,
             numbers,
-            subst (λ (q : Again). IsNight g.L.DecisionLog.state g.L.DecisionRecords.knows c.args.tellers.items s q z.outcomes.items n.settled) numbers is_night,
+            rw numbers at is_night,
             same_stores c.reopened_openings_go_on_from_what_was_left.ensures s n.settled c.next_numbers-again.result c.settled_openings_are_whole.ensures is_night.resolves.of_setup c.settled_openings_are_whole-2.ensures,
           )) c.in_ok-night.ensures.night;
       left =
           subst (λ (q : Again). IfErr n.resolved (λ why. Excuses (c.args.wanting ≡ true) Known (HasRoomToResolve s q) (Unit {0}) why × IsUntouched s q n.settled)) numbers
-          (err_each n.resolved (λ why excuse untouched. (
-            day_excuse (c.args.wanting ≡ true) Known (HasRoomToResolve s c.next_numbers-again.result) (subst (MayReopen s) (sym numbers) c.requires) why excuse,
-            untouched,
-          )) c.in_ok-night.ensures.unresolved c.in_ok-night.ensures.untouched);
+          (err_each n.resolved (λ why excuse untouched. (day_excuse (c.args.wanting ≡ true) Known (HasRoomToResolve s c.next_numbers-again.result) (rw numbers c.requires) why excuse, untouched))
+          c.in_ok-night.ensures.unresolved c.in_ok-night.ensures.untouched);
     }

@@ -1,7 +1,7 @@
 use Rattle.std.specs.Prelude.{IsTrue}
-use Rattle.xa_base.proofs.{◌≡◌, true, false, List, Vec, [], ◌∷◌, ◌++◌, append_assoc, sym, ap, ◌∙◌, subst, rules, arith, refl, Global, into_iter_items}
-use Rattle.xa_base.proofs.{into_iter_len, common_steps}
-use Rattle.xa_bank_days.specs.{Closed, Errands, early, whole, at_day, at_once, AreClosed}
+use Rattle.xa_base.proofs.{◌≡◌, true, false, List, Vec, ◌++◌, append_assoc, sym, ap, ◌∙◌, rules, arith, refl, Global, into_iter_items, into_iter_len}
+use Rattle.xa_base.proofs.{common_steps}
+use Rattle.xa_bank_days.specs.{Errands, early, whole, at_day, at_once}
 use Rattle.xa_bank_days.proofs.Moved.{closed_day, one_day_more}
 use Rattle.xa_bank_days.proofs.Went.{all_taken, one_fewer}
 use Rattle.xa_bank_days.proofs.days.close_days.Goals as goal
@@ -19,9 +19,7 @@ loop-errands-preserved g c =
     record {
       so_far = search (arith, append_assoc, c.loop-errands.yielded);
       closed =
-          subst (λ (l : List Closed). AreClosed state knows loses reopens c.args.bank (c.loop-errands.yielded ++ c.in-Some.errands ∷ []) l c.in-Ok-close_day.after) (sym c.push_reserved.ensures.items)
-          (one_day_more state knows loses reopens c.args.bank c.loop-errands.yielded c.loop-errands.closed.items c.loop-errands.bank c.in-Some.errands c.in-Ok-close_day.day c.in-Ok-close_day.after i.closed
-          (closed_day state knows loses reopens c.loop-errands.bank c.in-Some.errands.items c.in-Ok-close_day.day c.in-Ok-close_day.after closed over));
+          rw c.push_reserved.ensures.items (one_day_more state knows loses reopens c.args.bank c.loop-errands.yielded c.loop-errands.closed.items c.loop-errands.bank c.in-Some.errands c.in-Ok-close_day.day c.in-Ok-close_day.after i.closed (closed_day state knows loses reopens c.loop-errands.bank c.in-Some.errands.items c.in-Ok-close_day.day c.in-Ok-close_day.after closed over));
       as_many = grind (arith, common_steps);
       all_counted = one_fewer (into_iter_len c.loop-errands.errands-iterator) _ _ _ c.in-Some.errands c.in-Some.ensures.steps.0 c.in-Some.ensures.steps.1 i.all_counted;
       room = search rules;
@@ -47,7 +45,7 @@ returns-clause-ended g c =
     let all =
     all_taken c.loop-errands.yielded (into_iter_items c.loop-errands.errands-iterator) c.args.days.items (into_iter_len c.loop-errands.errands-iterator) i.so_far i.all_counted
     c.in-None.ensures.steps.0 in
-    whole (subst (λ (l : List (Vec Errands Global)). AreClosed g.L.DecisionLog.state g.L.DecisionRecords.knows g.L.DecisionLog.loses g.L.ReopenLog.reopens c.args.bank l c.loop-errands.closed.items c.loop-errands.bank) all i.closed)
+    whole (rw all at i.closed)
 
 pub returns-in_default-clause-stopped : goal.returns-in_default-clause-stopped
 returns-in_default-clause-stopped g c = at_once c.new-closed.ensures.items refl

@@ -1,8 +1,6 @@
-use Rattle.xa_base.proofs.{sym, subst}
-use Rattle.xa_base.specs.{IsUpTo}
 use Rattle.xa_bank_days.proofs.Made.{conserved}
 use Rattle.xa_bank_days.proofs.law.applied_transfers_conserve_the_worth.Goals as goal
 
 pub returns : goal.returns
 returns g c p tellers es b b' sound opened moved within =
-    conserved p sound es within b.settled b'.settled opened.tables (λ m k up there. moved.balances m k (subst (λ n. IsUpTo n m) (sym opened.stores) up) there)
+    conserved p sound es within b.settled b'.settled opened.tables (λ m k up there. moved.balances m k (rw opened.stores up) there)

@@ -1,6 +1,6 @@
 use Rattle.std.proofs.lemmas.Result.{IfErr-at_err}
-use Rattle.xa_base.proofs.{arith, rules, Err, ◌≡◌, List, [], ◌∷◌, ◌++◌, subst, refl}
-use Rattle.xa_crew.specs.{Unsettled, WithScan, Ran, HasRunAgain, IfUnsettled, IsRunAgain}
+use Rattle.xa_base.proofs.{arith, rules, Err, ◌≡◌, List, [], ◌∷◌, ◌++◌, refl}
+use Rattle.xa_crew.specs.{Unsettled, WithScan, Ran, HasRunAgain, IfUnsettled}
 use Rattle.xa_bank_days.specs.{Resolver, NoMemory, ResolvesBy}
 use Rattle.xa_bank_days.proofs.Nightly.{left_law, night_law, tellers_law, untouched_law}
 use Rattle.xa_bank_days.proofs.night.run_night.Goals as goal
@@ -15,7 +15,7 @@ returns-in-Some g c =
     let run = c.in-Ok-run_clients_again_in_turns.run' in
     let given : c.push_reserved.new.self.items ≡ r ∷ [] = search (arith, rules) in
     let ran =
-    subst (λ (rs : List (Resolver g.row.L.Denot)). IsRunAgain (ResolvesBy state knows) s again rs run.clients.items run.settled) given c.in-Ok-run_clients_again_in_turns.ensures.ran in
+    rw given at c.in-Ok-run_clients_again_in_turns.ensures.ran in
     let is : run.clients.items ≡ c.pop.new.self.items ++ c.in-Some.attended ∷ [] = c.in-Some.ensures.items in
     let whole = c.settled_openings_are_whole.ensures in
     let goes_on = c.reopened_openings_go_on_from_what_was_left.ensures in
@@ -34,4 +34,4 @@ returns-in-Err-Unsettled-clause-unsettled g c =
     HasRunAgain (ResolvesBy g.L.DecisionLog.state g.L.DecisionRecords.knows) c.args.settled c.args.again.now in
     let is : c.run_clients_again_in_turns.result ≡ Err (Unsettled c.in-Err-Unsettled.ran) = cc in
     let given : c.push_reserved.new.self.items ≡ r ∷ [] = search (arith, rules) in
-    (r, refl, subst (λ rs. P rs c.in-Err-Unsettled.ran) given (IfErr-at_err (IfUnsettled (P c.push_reserved.new.self.items)) is c.run_clients_again_in_turns.ensures.unsettled))
+    (r, refl, rw given at (IfErr-at_err (IfUnsettled (P c.push_reserved.new.self.items)) is c.run_clients_again_in_turns.ensures.unsettled))

@@ -1,4 +1,4 @@
-use Rattle.xa_base.proofs.{◌≡◌, ℕ, ◌+◌, ◌-◌, Bool, if◌then◌else◌, List, [], ◌∷◌, Option, refl, ap, ◌∙◌, subst, arith, Result, Ok, Err, OnErr}
+use Rattle.xa_base.proofs.{on_err, ◌≡◌, ℕ, ◌+◌, ◌-◌, Bool, if◌then◌else◌, List, [], ◌∷◌, Option, refl, ap, ◌∙◌, subst, arith}
 use Rattle.xa_words.specs.{TranName, tran_of, Death}
 use Rattle.xa_desk.specs.{DeskView, GoesOn, DeskSeat}
 use Rattle.xa_driver.specs.{Branch}
@@ -11,10 +11,6 @@ use Rattle.xa_bank.specs.{leg_by, with_legs, without_legs}
 use Rattle.xa_bank.proofs.Named.{if_both, if_so, lost_so}
 use Rattle.xa_bank.proofs.teller.Teller.make.Goals as goal
 use Rattle.xa_bank.proofs.teller.Teller.make.Goals.{else-self, then-self}
-
-err_same : {A E : Type 0} (P : Type 0) (r : Result A E) → P → OnErr r P
-err_same P (Ok a) h = tt
-err_same P (Err e) h = h
 
 -- ---- where the log is known
 
@@ -80,8 +76,8 @@ returns-in_err-outcome-clause-wants g c =
     let number : ℕ = c.args.self.now.habits.first + c.args.place in
     let log : LogState = g.L.DecisionLog.state c.args.self.now.log in
     let legs =
-    subst (λ t. HasLegs t number tr c.in-Some.legs.0.0 c.in-Some.legs.0.1 c.in-Some.legs.1.0 c.in-Some.legs.1.1) (own_thread c.thread.ensures.thread c.shut.ensures.goes_on) c.in-Some.ensures in
-    err_same (WantsMemory c.args.desk.now.thread number tr c.args.self.now.habits c.args.desk.now c.transact_until.new.desk log) c.from_residual.result
+    rw (own_thread c.thread.ensures.thread c.shut.ensures.goes_on) at c.in-Some.ensures in
+    on_err c.from_residual.result (WantsMemory c.args.desk.now.thread number tr c.args.self.now.habits c.args.desk.now c.transact_until.new.desk log)
     (record {
       shut = c.shut.new.desk;
       shuts = shuts_at c.args.self.now.habits c.args.place c.args.desk.now c.shut.new.desk c.shut.ensures.shuts;
@@ -102,7 +98,7 @@ returns-clause-makes g c =
     let b = c.in-Some.legs.0.0 in
     let state = g.L.DecisionLog.state in
     let legs =
-    subst (λ t. HasLegs t number tr b c.in-Some.legs.0.1 c.in-Some.legs.1.0 c.in-Some.legs.1.1) (own_thread c.thread.ensures.thread c.shut.ensures.goes_on) c.in-Some.ensures in
+    rw (own_thread c.thread.ensures.thread c.shut.ensures.goes_on) at c.in-Some.ensures in
     let is : state kept ≡ (if habits.forgets then forgotten (tran_of b.xid) o (state left) else state left) = search (arith, then-self, else-self) in
     let same : IfLost (λ votes. kept ≡ left) o = search (arith, then-self, else-self, if_so, c.if-self.branch) in
     record {
@@ -111,6 +107,6 @@ returns-clause-makes g c =
       makes =
           made state g.L.DecisionRecords.knows g.L.DecisionLog.loses c.args.desk.now.thread c.args.place tr habits b c.in-Some.legs.0.1 c.in-Some.legs.1.0 c.in-Some.legs.1.1 legs c.shut.new.desk
           c.transact_until.new.desk c.args.self.now.log left c.requires.known o
-          (subst (λ (d : Option Death). Transacts (b ∷ c.in-Some.legs.1.0 ∷ []) (c.in-Some.legs.0.1 ∷ c.in-Some.legs.1.1 ∷ []) d o c.shut.new.desk c.transact_until.new.desk (state c.args.self.now.log) (g.L.DecisionRecords.knows c.args.self.now.log) (state left)) c.death_at-at.ensures c.in_ok-outcome.ensures.transacts)
+          (rw c.death_at-at.ensures at c.in_ok-outcome.ensures.transacts)
           c.in_ok-outcome.ensures.known c.in_ok-outcome.ensures.lost kept is same;
     }

@@ -3,7 +3,7 @@ use Rattle.xa_base.proofs.{append_assoc, sym, refl, ap, ◌∙◌, subst, arith,
 use Rattle.xa_base.proofs.{length-take}
 use Rattle.xa_desk.specs.{DeskView, DeskSeat}
 use Rattle.xa_log.specs.{IsReadAs, LogState}
-use Rattle.xa_work.specs.{WorkOutcome, Undecided, IsOpenRm, LeavesKnown, has_died, is_last}
+use Rattle.xa_work.specs.{WorkOutcome, Undecided, LeavesKnown, has_died, is_last}
 use Rattle.xa_work.proofs.Sent.{have_none}
 use Rattle.xa_bank.specs.{Habits, Teller, Transfer, ended, lived, unknown, Makes, MakesEach, MakesNext}
 use Rattle.xa_bank.proofs.Named.{makes_more, makes_none, each_any, refused_so}
@@ -27,7 +27,7 @@ module _ {L : Type 0} (state : L → LogState) (reads : L → LogState → Type 
       search (arith, length-take, makes_more, habits.first)
 
   each_more : Made (take (place + 1) trs)
-  each_more = subst Made (sym taken) (made_with [])
+  each_more = rw taken (made_with [])
 
   all_more : Made trs
   all_more =
@@ -51,7 +51,7 @@ returns-then-not-is_known-clause-made g c = record {
   told = sym (append-nil c.args.self.now.outcomes.items);
   makes = record {
     opened = c.args.desk.now;
-    opens = have_none IsOpenRm c.args.desk.now.ledgers c.args.desk.now.ledgers refl;
+    opens = have_none c.args.desk.now.ledgers c.args.desk.now.ledgers refl;
     makes = makes_none (IsReadAs g.L.DecisionLog.state g.L.DecisionRecords.knows g.L.DecisionLog.loses c.args.self.now.log) c.args.desk.now.thread c.args.self.now.habits c.args.self.now.habits.first c.args.self.now.transfers.items c.args.desk.now (g.L.DecisionLog.state c.args.self.now.log);
   };
   comes = unknown (λ known. let yes_ : c.is_known.result ≡ true = c.is_known.ensures.1 known in let no : c.is_known.result ≡ false = c.if-not-is_known.true in cc) refl;
@@ -149,7 +149,7 @@ returns-clause-made g c =
       makes = record {
         opened = c.open_all.new.desk;
         opens = c.open_all.ensures.sent;
-        makes = subst (λ (l : List Transfer). MakesEach c.args.desk.now.thread c.args.self.now.habits c.args.self.now.habits.first l more c.open_all.new.desk c.loop-place.desk (g.L.DecisionLog.state c.args.self.now.log) (g.L.DecisionLog.state c.loop-place.self.log) (IsReadAs g.L.DecisionLog.state g.L.DecisionRecords.knows g.L.DecisionLog.loses c.loop-place.self.log)) (take_all c.loop-place.place trs (omega (arith, past))) makes;
+        makes = rw (take_all c.loop-place.place trs (omega (arith, past))) at makes;
       };
       comes = lived none (let low = c.loop-place.invariant.each in omega (arith, past, many)) c.loop-place.invariant.knows;
     }

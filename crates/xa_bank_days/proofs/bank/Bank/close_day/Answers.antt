@@ -1,7 +1,7 @@
-use Rattle.xa_base.proofs.{IfOk-weaker, IfErr-weaker, ◌≡◌, ℕ, ap, refl, sym, subst, arith, List, length, ◌∙◌}
+use Rattle.xa_base.proofs.{IfOk-weaker, IfErr-weaker, ◌≡◌, ℕ, ap, refl, arith, List, length, ◌∙◌}
 use Rattle.xa_switch.specs.{Again}
-use Rattle.xa_bank_days.specs.{Bank, Closed, Errands, next_numbers, HasPassed, IsNight, IsUnsettledNight}
-use Rattle.xa_bank_days.proofs.Moved.{is_day_of, same_length, worked_day}
+use Rattle.xa_bank_days.specs.{Bank, Closed, Errands, next_numbers, IsWorkedDay}
+use Rattle.xa_bank_days.proofs.Moved.{same_length}
 use Rattle.xa_bank_days.proofs.bank.Bank.close_day.Goals as goal
 
 pub work_day-requires-clause-tellers : goal.work_day-requires-clause-tellers
@@ -24,16 +24,29 @@ returns-in-Ok-pass_night g c =
     let numbers =
     numbers_are c.args.self.again c.next_numbers-again.result c.in-Some.ensures.threads c.deref.ensures.value c.next_numbers-again.ensures.numbers in
     let at =
-    subst (λ (q : Again). HasPassed g.L.DecisionLog.state g.L.DecisionRecords.knows day.settled q (next_numbers q 1) day.evening.tellers day.wanting c.in-Ok-pass_night.again n) numbers c.in-Ok-pass_night.ensures.passed in
-    let worked =
-    worked_day g.L.DecisionLog.state g.L.DecisionRecords.knows g.L.DecisionLog.loses g.L.ReopenLog.reopens c.args.self _ c.args.errands.items closed c.turn_all-tellers.result.items day c.deref.ensures.value
-    c.turn_all-tellers.ensures c.in-Some.ensures.few c.in-Ok-work_day.ensures.worked refl refl after at.stays at.numbers at.tellers_ c.in-Some.ensures.later c.in-Some.ensures.next in
+    rw numbers at c.in-Ok-pass_night.ensures.passed in
+    let worked : IsWorkedDay g.L.DecisionLog.state g.L.DecisionRecords.knows g.L.DecisionLog.loses g.L.ReopenLog.reopens c.args.self c.args.errands.items closed after = record {
+      is_day = record {
+        turned = c.turn_all-tellers.result.items;
+        are_turned = c.turn_all-tellers.ensures;
+        many = rw c.deref.ensures.value at c.in-Some.ensures.few;
+        day = day;
+        works = c.in-Ok-work_day.ensures.worked;
+        told_ = refl;
+        found_ = refl;
+      };
+      stays = at.stays;
+      numbers = at.numbers;
+      tellers = at.tellers_;
+      later = c.in-Some.ensures.later;
+      next = rw c.deref.ensures.value at c.in-Some.ensures.next;
+    } in
     record {
       worked = worked;
       closed = IfOk-weaker n.resolved _ _ (λ z (wants, numbers_, is_night, stores). record {
         is_worked = worked;
         wants = wants;
-        night = subst (λ (q : Again). IsNight g.L.DecisionLog.state g.L.DecisionRecords.knows day.evening.tellers.items day.settled q z.outcomes.items n.settled) (sym numbers_) is_night;
+        night = rw numbers_ is_night;
         stores = stores;
       }) at.closed;
       unresolved = IfErr-weaker n.resolved _ _ (λ why (excuse, untouched). record {
@@ -49,7 +62,14 @@ returns-in-Err-pass_night-clause-stopped g c =
     let day = c.in-Ok-work_day.day in
     let numbers =
     numbers_are c.args.self.again c.next_numbers-again.result c.in-Some.ensures.threads c.deref.ensures.value c.next_numbers-again.ensures.numbers in (
-      is_day_of g.L.DecisionLog.state g.L.DecisionRecords.knows g.L.DecisionLog.loses g.L.ReopenLog.reopens c.args.self _ c.args.errands.items _ c.turn_all-tellers.result.items day c.deref.ensures.value
-          c.turn_all-tellers.ensures c.in-Some.ensures.few c.in-Ok-work_day.ensures.worked refl refl,
-      subst (λ (q : Again). IsUnsettledNight g.L.DecisionLog.state g.L.DecisionRecords.knows day.evening.tellers day.settled (next_numbers q 1) c.in-Err-pass_night.ran) numbers c.in-Err-pass_night.ensures.unsettled,
+      record {
+        turned = c.turn_all-tellers.result.items;
+        are_turned = c.turn_all-tellers.ensures;
+        many = rw c.deref.ensures.value at c.in-Some.ensures.few;
+        day = day;
+        works = c.in-Ok-work_day.ensures.worked;
+        told_ = refl;
+        found_ = refl;
+      },
+      rw numbers at c.in-Err-pass_night.ensures.unsettled,
     )
