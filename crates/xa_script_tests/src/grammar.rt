@@ -5,14 +5,14 @@ mod tasks;
 
 use std::test::Fail;
 use xa_grammar::{
-    Action, Called, Calling, Declared, Reason, Script, ScriptFault, Step, Task, read_script,
+    Action, Called, Declared, ManagerCall, Reason, Script, ScriptFault, Step, Task, read_script,
 };
 use xa_words::{Call, Delta, Key, Tran, Xid};
 
 // A step with names of its own.
 type OwnStep = Step<Xid, Tran>;
 
-fn call(line: u32, thread: u32, manager: u32, call: Calling<Xid>, flags: u32) -> OwnStep {
+fn call(line: u32, thread: u32, manager: u32, call: ManagerCall<Xid>, flags: u32) -> OwnStep {
     Step::Task(Task {
         line,
         thread,
@@ -93,21 +93,27 @@ fn a_script_is_read_into_settings_keys_and_steps(rt: HostRuntime) -> Result<(), 
         .as_slice()
     );
     let want = [
-        call(5, 1, 1, Calling::Xa(Call::OpenRm, None), 0),
-        call(6, 1, 1, Calling::Xa(Call::Start, Some(xid)), 0),
-        call(7, 2, 1, Calling::Add(key, delta), 0),
-        call(8, 1, 1, Calling::Xa(Call::End, Some(xid)), 0x2200_0000),
-        call(9, 1, 1, Calling::Xa(Call::Prepare, Some(xid)), 0),
-        call(10, 3, 1, Calling::Xa(Call::Commit, Some(xid)), 0x4000_0000),
+        call(5, 1, 1, ManagerCall::Xa(Call::OpenRm, None), 0),
+        call(6, 1, 1, ManagerCall::Xa(Call::Start, Some(xid)), 0),
+        call(7, 2, 1, ManagerCall::Add(key, delta), 0),
+        call(8, 1, 1, ManagerCall::Xa(Call::End, Some(xid)), 0x2200_0000),
+        call(9, 1, 1, ManagerCall::Xa(Call::Prepare, Some(xid)), 0),
+        call(
+            10,
+            3,
+            1,
+            ManagerCall::Xa(Call::Commit, Some(xid)),
+            0x4000_0000,
+        ),
         call(
             12,
             1,
             4,
-            Calling::Xa(Call::Rollback, Some(xid)),
+            ManagerCall::Xa(Call::Rollback, Some(xid)),
             0x0020_0000,
         ),
-        call(13, 1, 2, Calling::Xa(Call::CloseRm, None), 0),
-        call(14, 2, 1, Calling::Shut, 0x8000_0000),
+        call(13, 1, 2, ManagerCall::Xa(Call::CloseRm, None), 0),
+        call(14, 2, 1, ManagerCall::Shut, 0x8000_0000),
     ];
     assert!(rt; has_steps(&script, &want));
     Ok(())

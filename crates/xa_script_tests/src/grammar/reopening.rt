@@ -1,7 +1,7 @@
 //! Lines that reopen, that recover and that resolve, and the faults in them.
 use super::{call, has_steps};
 use std::test::Fail;
-use xa_grammar::{Action, Calling, Reason, ScriptFault, Step, Task, read_script};
+use xa_grammar::{Action, ManagerCall, Reason, ScriptFault, Step, Task, read_script};
 use xa_words::{Call, TMASYNC, TMENDRSCAN, TMSTARTRSCAN};
 
 #[test]
@@ -12,12 +12,18 @@ fn lines_that_reopen_recover_and_resolve_are_read(rt: HostRuntime) -> Result<(),
         .as_slice();
     let script = read_script(rt.alloc(), &mut text, false)?;
     let want = [
-        call(3, 1, 2, Calling::Recover(64), TMSTARTRSCAN | TMENDRSCAN),
+        call(3, 1, 2, ManagerCall::Recover(64), TMSTARTRSCAN | TMENDRSCAN),
         Step::Reopen { line: 4 },
-        call(5, 2, 9, Calling::Recover(7), 0),
+        call(5, 2, 9, ManagerCall::Recover(7), 0),
         Step::Reopen { line: 6 },
-        call(7, 1, 1, Calling::Xa(Call::OpenRm, None), 0x0100_0000),
-        call(8, 1, u32::MAX, Calling::Recover(0), TMASYNC | 0x0080_0000),
+        call(7, 1, 1, ManagerCall::Xa(Call::OpenRm, None), 0x0100_0000),
+        call(
+            8,
+            1,
+            u32::MAX,
+            ManagerCall::Recover(0),
+            TMASYNC | 0x0080_0000,
+        ),
         Step::Task(Task {
             line: 9,
             thread: 2,
@@ -32,7 +38,7 @@ fn lines_that_reopen_recover_and_resolve_are_read(rt: HostRuntime) -> Result<(),
 fn threads_that_run_side_by_side_may_recover(rt: HostRuntime) -> Result<(), Fail> {
     let mut text = b"1 recover 1 1".as_slice();
     let script = read_script(rt.alloc(), &mut text, true)?;
-    let want = [call(1, 1, 1, Calling::Recover(1), 0)];
+    let want = [call(1, 1, 1, ManagerCall::Recover(1), 0)];
     assert!(rt; has_steps(&script, &want));
     Ok(())
 }

@@ -1,7 +1,7 @@
 //! Commits of several branches, and logs that fail.
 use super::{OwnStep, call, has_steps};
 use std::test::Fail;
-use xa_grammar::{Action, Calling, CommitAll, Step, Task, read_script};
+use xa_grammar::{Action, CommitAll, ManagerCall, Step, Task, read_script};
 use xa_words::{Call, Death, ManagerSet, TMASYNC, Tran};
 
 pub(super) fn commit(
@@ -46,7 +46,7 @@ fn tasks_are_read_in_the_order_of_the_lines(rt: HostRuntime) -> Result<(), Fail>
     let script = read_script(rt.alloc(), &mut text, false)?;
     let want = [
         commit(3, 2, b"t", &[1, 3, 8])?,
-        call(4, 1, 9, Calling::Xa(Call::OpenRm, None), TMASYNC),
+        call(4, 1, 9, ManagerCall::Xa(Call::OpenRm, None), TMASYNC),
         Step::Turn {
             line: 5,
             manager: 5,

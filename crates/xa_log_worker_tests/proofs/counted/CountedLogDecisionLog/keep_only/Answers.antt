@@ -1,8 +1,7 @@
-use Rattle.xa_base.proofs.{rules}
+use Rattle.xa_base.proofs.{kept_by_key, retained_keys, rules}
 use Rattle.xa_words.specs.{tran_eq}
 use Rattle.xa_log.specs.{is_among}
 use Rattle.xa_log.proofs.Transactions.{tran_cmp_total, tran_cmp-IsAntisymmetric, tran_eq-by_cmp, tran_alike}
-use Rattle.xa_log.proofs.Kept.{kept_by_key, retained_keys}
 use Rattle.xa_log_worker_tests.proofs.counted.CountedLogDecisionLog.keep_only.Goals as goal
 
 pub returns-clause-kept : goal.returns-clause-kept
