@@ -1,11 +1,13 @@
 -- Elements of lists: where they stand, what maps and searches make of them, and what is taken out.
-use Rattle.std.proofs.Common.{◌≡◌, ℕ, zero, suc, ◌<◌, ◌⊎◌, inr, Bool, true, false, cond, List, [], ◌∷◌, length, map, take, remove, Option, Some, None, sym}
-use Rattle.std.proofs.Common.{refl, ap, ◌∙◌, subst, arith, get_or}
+use Rattle.std.proofs.Common.{◌≡◌, ℕ, zero, suc, ◌<◌, ◌⊎◌, ⊎_elim, inr, Bool, true, false, cond, List, [], ◌∷◌, length, map, take, remove, Option, Some, None}
+use Rattle.std.proofs.Common.{sym, refl, ap, ◌∙◌, subst, arith, get_or}
 use Rattle.std.specs.Prelude.{slice_get, option_map}
-use Rattle.std.specs.List.{All, AllPairs, Contains, find, list_any}
+use Rattle.std.specs.List.{All, AllPairs, Contains, find, flat_map, list_any}
 use Rattle.std.proofs.lemmas.List.{length-map, get_or-map}
-use Rattle.std.proofs.lemmas.List.Elements.{All-contains, All-head, All-map, All-tail, Contains-get_or}
+use Rattle.std.proofs.lemmas.List.Elements.{All-contains, All-head, All-map, All-tail, Contains-get_or, Contains-append_cases, Contains-append_left}
+use Rattle.std.proofs.lemmas.List.Elements.{Contains-append_right}
 use Rattle.std.proofs.lemmas.Option.{slice_get-get_or, slice_get-map}
+use Rattle.xa_base.specs.{Begins}
 use Rattle.xa_base.proofs.Lists.{contains_at, none_all, was_mapped}
 
 pub get_contained : {X : Type 0} (xs : List X) (x : X) (c : Contains xs x) → slice_get xs c.0 ≡ Some x
@@ -73,3 +75,23 @@ pub found_without : {A : Type 0} (p : A → Bool) (xs : List A) (i : ℕ) (d : A
 found_without p [] i d low here = absurd (omega (arith, low))
 found_without p (x ∷ xs) zero d low here = sym (ap (λ b. cond b (Some x) (find p xs)) here)
 found_without p (x ∷ xs) (suc i) d low here = ap (cond (p x) (Some x)) (found_without p xs i d (omega (arith, low)) here)
+
+pub contains_flat : {A B : Type 0} (f : A → List B) (xs : List A) (x : A) (k : ℕ) → k < length xs → get_or xs k x ≡ x → (y : B) → Contains (f x) y
+    → Contains (flat_map f xs) y
+contains_flat f [] x k lt e y c = absurd (omega (arith, lt))
+contains_flat {A} f (z ∷ xs) x zero lt e y c = Contains-append_left (f z) (flat_map f xs) y (rw e c)
+contains_flat f (z ∷ xs) x (suc k) lt e y c = Contains-append_right (f z) (flat_map f xs) y (contains_flat f xs x k (omega (arith, lt)) e y c)
+
+-- an element of lists that are put together is in one of them
+pub flat_contains : {A B : Type 0} (f : A → List B) (xs : List A) (y : B) → Contains (flat_map f xs) y → (x : A) × (Contains xs x × Contains (f x) y)
+flat_contains f [] y (k, lt, e) = absurd (omega (arith, lt))
+flat_contains f (x ∷ xs) y c =
+    ⊎_elim (λ (here : Contains (f x) y). (x, ((zero, omega arith, refl), here))) (λ (later : Contains (flat_map f xs) y). let z = flat_contains f xs y later in (z.0, (Contains-append_right (x ∷ []) xs z.0 z.1.0, z.1.1)))
+    (Contains-append_cases (f x) (flat_map f xs) y c)
+
+-- what a list has one that has grown has too
+pub contains_on : {A : Type 0} (xs ys : List A) (x : A) → Begins xs ys → Contains xs x → Contains ys x
+contains_on {A} xs ys x b there = rw b.1 (Contains-append_left xs b.0 x there)
+
+pub none_there : {A : Type 0} (x : A) → Contains [] x → ⊥
+none_there x (k, lt, e) = absurd (omega (arith, lt))

@@ -65,18 +65,18 @@ pub use Rattle.std.specs.Ordering.{eq_by_cmp, int_cmp, is_eq, nat_cmp, ordering_
 pub use Rattle.std.specs.Prelude.{IfErr, IfNone, MatchOption, OnErr, OnSome, codes, filter_map, is_none, min, neg_ℤ, unwrap_or, ◌+ℤ◌, ◌↔◌, ◌≤ℤ◌}
 pub use Rattle.std.specs.Str.{bytes_eq}
 pub use Rattle.std.specs.Vec.Iter.{into_iter_items, into_iter_len}
-pub use Lists.{after_seam, each_number, got_on, map-alike, map-changed, take_next, list_any-map, filter-map, filter_push, filter_skip, filter_all, filter_none}
-pub use Lists.{none_all}
-pub use Lists.{all_after, all_at, all_from, all_left, all_mid, all_right, all_unmapped, any_at, begins_on, begins_same, contains_at, find_none, find_numbered}
-pub use Lists.{flat_none, flat_one, flat_push, got, got_map, got_push, got_set, map_alike, next_place, next_there, none_of, none_side, none_twice, one_more}
-pub use Lists.{pairs_push, push_side, range_all, range_more, range_suc, same_begins, set_there, side_of, side_to, snoc_parts, some_same, tail_side, taken_next}
-pub use Lists.{through, was_mapped}
+pub use Lists.{after_seam, all_after, all_at, all_from, all_left, all_mid, all_right, all_unmapped, any_alike, any_at, at_drop, begins_on, begins_same}
+pub use Lists.{contains_at, each_number, filter-map, filter_all, filter_none, filter_push, filter_skip, find_none, find_numbered, flat_none, flat_one}
+pub use Lists.{flat_push, got, got_map, got_on, got_push, got_set, has_number, list_any-map, map-alike, map-changed, map_alike, next_left, next_place}
+pub use Lists.{next_there, none_all, none_of, none_side, none_twice, one_more, pairs_append, pairs_mid, pairs_push, parted_at, partner, push_side, pushed_all}
+pub use Lists.{range_all, range_more, range_suc, same_begins, set_there, side_of, side_to, slice_get-push_last, slice_get-push_other, snoc_parts, some_same}
+pub use Lists.{tail_side, take_next, taken_next, through, was_mapped}
 pub use Chains.{along, along_all, chain_all, chain_append, chain_kept, chain_more}
-pub use Contained.{SearchedAs, all_map, contains_after, contains_map, fails_each, found, found_at, found_without, get_contained, in_map, pairs_at, pairs_map}
-pub use Contained.{searched}
+pub use Contained.{SearchedAs, all_map, contains_after, contains_flat, contains_map, contains_on, fails_each, flat_contains, found, found_at, found_without}
+pub use Contained.{get_contained, in_map, none_there, pairs_at, pairs_map, searched}
 pub use Truth.{at_false, at_true, by_bool, by_if, is_equal, tied_false, tied_true}
 pub use Maps.{inserted_other, inserted_there, removed_none, removed_other, removed_there}
-pub use Options.{at_ok, is_missing, is_there, mapped_some, not_both, on_err}
+pub use Options.{IfSome_from, at_ok, is_missing, is_some-map, is_there, mapped_some, none_from, not_both, on_err, or_none}
 pub use Sums.{one_counted, total_across, total_alike, total_append, total_both, total_nothing, total_same}
 pub use FinMaps.{Distinct, any_entries, get-map_values, map_some, none_pass, none_passes, put_one, remove_one, retain_some, same_finds}
 pub use HashMaps.{get-lookup, kept_by_key, kept_by_value, one_put, one_removed, reordered, retained, retained_keys}

@@ -1,15 +1,15 @@
 -- Lemmas of lists: what is in their places, lists side by side, and numbers that follow each other.
-use Rattle.std.proofs.Common.{rules, append_assoc, append-nil, ◌≡◌, ◌≢◌, ℕ, ◌+◌, ◌<◌, ◌≤◌, ◌⊎◌, ⊎_elim, zero, suc, Bool, true, false, cond, ◌==◌, ◌||◌, List}
-use Rattle.std.proofs.Common.{[], ◌∷◌, ◌++◌, length, map, Some, None, sym, refl, ap, ◌∙◌, subst, inl, inr, arith, length-append, take}
+use Rattle.std.proofs.Common.{append_assoc, append-nil, ◌≡◌, ◌≢◌, ℕ, ◌+◌, ◌-◌, ◌<◌, ◌≤◌, ◌⊎◌, ⊎_elim, zero, suc, Bool, true, false, cond, ◌==◌, ◌||◌, List, []}
+use Rattle.std.proofs.Common.{◌∷◌, ◌++◌, length, map, Some, None, sym, refl, ap, ◌∙◌, inl, inr, arith, length-append, take, drop, drop-cons}
 use Rattle.std.specs.Prelude.{slice_get, slice_set, option_map, All}
 use Rattle.std.specs.List.{AllPairs, Contains, IsDistinct, filter, flat_map, slice_index_or, range_with_len, list_any, find}
 use Rattle.std.proofs.lemmas.Bool.{cases_eq, cases_lt, eq-eqb, eqb-true, false_from_ne_true, or_parts}
-use Rattle.std.proofs.lemmas.List.{length-map, length-set, get_or-set_other, get_or-set_same, get_or_at}
+use Rattle.std.proofs.lemmas.List.{length-map, length-set, get_or-set_other, get_or-set_same, get_or_at, take-append-drop}
 pub use Rattle.std.proofs.lemmas.Option.{same_Some as some_same}
 pub use Rattle.std.proofs.lemmas.List.Quantifiers.{all_pairs_push as pairs_push}
 use Rattle.std.proofs.lemmas.Option.{slice_get_within, slice_get-map, slice_get-get_or, slice_get_cases, get_or_from_slice_get}
 use Rattle.std.proofs.Math.Seq.{take-suc}
-use Rattle.std.proofs.lemmas.List.Elements.{All-nil, All-cons, All-head, All-tail, All-push, filter-append}
+use Rattle.std.proofs.lemmas.List.Elements.{All-append, All-nil, All-cons, All-head, All-tail, All-push, filter-append}
 use Rattle.std.proofs.lemmas.List.FromFn.{length-range_with_len, get_or-range_with_len}
 use Rattle.std.proofs.lemmas.List.Kept.{AllPairs-cons}
 use Rattle.xa_base.specs.{Begins, Pairwise}
@@ -314,3 +314,59 @@ module _ {A B : Type 0} (f : A → A) (g : A → B) (left : (x : A) → g (f x) 
   -- lists that are alike once each element is changed
   pub map-alike : (xs ys : List A) → map f xs ≡ map f ys → map g xs ≡ map g ys
   map-alike xs ys alike = sym (map-changed xs) ∙ ap (map g) alike ∙ map-changed ys
+
+-- what stands at the same place of the first list
+pub partner : {A B : Type 0} (P : A → B → Type 0) (xs : List A) (ys : List B) → Pairwise P xs ys → (k : ℕ) (y : B) → slice_get ys k ≡ Some y
+    → (x : A) × (slice_get xs k ≡ Some x) × P x y
+partner P xs ys all k y at =
+    let (x, there) = got xs k (omega (arith, slice_get_within ys k y at, all.as_many)) in
+    (x, there, all.each k x y there at)
+
+-- of pieces with rising numbers each is there
+pub has_number : {A : Type 0} (number : A → ℕ) (xs : List A) → ((k : ℕ) (x : A) → slice_get xs k ≡ Some x → number x ≡ k + 1)
+    → (n : ℕ) → 1 ≤ n → n ≤ length xs → list_any (λ x. number x == n) xs ≡ true
+has_number number xs numbers n low high =
+    let (x, at) = got xs (n - 1) (omega (arith, low, high)) in
+    any_at (λ y. number y == n) xs (n - 1) x at (eq-eqb (number x) n (omega (arith, numbers (n - 1) x at, low)))
+
+pub slice_get-push_last : {A : Type 0} (xs : List A) (x : A) → slice_get (xs ++ x ∷ []) (length xs) ≡ Some x
+slice_get-push_last [] x = refl
+slice_get-push_last (y ∷ ys) x = slice_get-push_last ys x
+
+pub slice_get-push_other : {A : Type 0} (xs : List A) (x : A) (j : ℕ) → j ≢ length xs → slice_get (xs ++ x ∷ []) j ≡ slice_get xs j
+slice_get-push_other [] x j differs = grind arith
+slice_get-push_other (y ∷ ys) x j differs = grind (arith, slice_get-push_other ys x (j - 1))
+
+pub pairs_mid : {X : Type 0} (R : X → X → Type 0) (xs : List X) (x : X) (ys : List X) → AllPairs R (xs ++ x ∷ ys) → All (R x) ys
+pairs_mid R [] x ys h = λ k d below. h 0 (suc k) d (omega arith) (omega arith)
+pairs_mid R (y ∷ xs) x ys h = pairs_mid R xs x ys (λ i j d lt below. h (suc i) (suc j) d (omega arith) (omega arith))
+
+pub pairs_append : {X : Type 0} (R : X → X → Type 0) (xs ys : List X) → AllPairs R xs → AllPairs R ys → All (λ x. All (R x) ys) xs → AllPairs R (xs ++ ys)
+pairs_append R [] ys a b c = b
+pairs_append R (x ∷ xs) ys a b c =
+    AllPairs-cons R x (xs ++ ys) (All-append (R x) xs ys (pairs_mid R [] x xs a) (c 0 x (omega arith)))
+    (pairs_append R xs ys (λ i k d lt below. a (suc i) (suc k) d (omega (arith, lt)) (omega (arith, below))) b (λ k d below. c (suc k) d (omega (arith, below))))
+
+-- what is left after k elements begins with element k
+pub next_left : {X : Type 0} (xs ys : List X) (k : ℕ) (x : X) → drop k xs ≡ x ∷ ys → (slice_get xs k ≡ Some x) × (drop (k + 1) xs ≡ ys)
+next_left [] ys zero x e = cc
+next_left [] ys (suc k) x e = cc
+next_left (z ∷ zs) ys zero x e = let f : z ≡ x = cc in let g : zs ≡ ys = cc in (ap Some f, g)
+next_left (z ∷ zs) ys (suc k) x e = search (arith, next_left zs ys k x e)
+
+-- the first, one more, and the others
+pub parted_at : {X : Type 0} (xs : List X) (i : ℕ) (x : X) → i < length xs → x ≡ slice_index_or xs i x → xs ≡ take i xs ++ x ∷ drop (i + 1) xs
+parted_at xs i x below is =
+    sym (take-append-drop (i + 1) xs) ∙ ap (λ l. l ++ drop (i + 1) xs) (one_more xs i x below is) ∙ append_assoc (take i xs) (x ∷ []) (drop (i + 1) xs)
+
+-- what is left, and its first
+pub at_drop : {X : Type 0} (xs : List X) (i : ℕ) (x : X) → i < length xs → x ≡ slice_index_or xs i x → drop i xs ≡ x ∷ drop (i + 1) xs
+at_drop xs i x below is = grind (arith, drop-cons)
+
+pub any_alike : {A : Type 0} (p q : A → Bool) → ((x : A) → p x ≡ q x) → (xs : List A) → list_any p xs ≡ list_any q xs
+any_alike p q alike [] = refl
+any_alike p q alike (x ∷ xs) = λ i. alike x i || any_alike p q alike xs i
+
+-- what holds of all and of one more
+pub pushed_all : {X : Type 0} (P : X → Type 0) (xs ys : List X) (x : X) → ys ≡ xs ++ x ∷ [] → All P xs → P x → All P ys
+pushed_all P xs ys x is all one = rw is (All-push P xs x all one)

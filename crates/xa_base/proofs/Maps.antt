@@ -1,5 +1,5 @@
 -- Lemmas of maps by numbers: what is there after an insertion and a removal.
-use Rattle.std.proofs.Common.{arith, ◌≡◌, ◌≢◌, ℕ, cond, Some, None, sym, refl, ap, ◌∙◌, subst, inl, inr}
+use Rattle.std.proofs.Common.{arith, ◌≡◌, ◌≢◌, ℕ, cond, Some, None, refl, ap, ◌∙◌}
 use Rattle.std.proofs.lemmas.Bool.{cases_eq}
 use Rattle.std.specs.Ordering.{nat_cmp}
 use Rattle.std.specs.Cmp.{nat_cmp_total}

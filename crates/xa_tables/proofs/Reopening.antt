@@ -1,22 +1,22 @@
--- What a reopening leaves, and the laws over any openings: what became of a branch, a key's value, and its limits.
+-- Over any openings of a manager its tables tell what became of a branch, and a key's value is what was added to it and stays within its limits.
 use Rattle.xa_base.proofs.{by_bool, rules, ◌≡◌, ℕ, ℤ, Bool, true, false, cond, not, ◌&&◌, ◌+ℤ◌, Option, None, Some, List, [], ◌∷◌, refl, arith, sym, ap, ◌∙◌}
-use Rattle.xa_base.proofs.{FinMap, get-empty, none_pass, none_passes, if◌then◌else◌, pos, option_map, ◌++◌, or-false, ints, +ℤ_idl as none_plus, ◌≢◌, map}
-use Rattle.xa_base.proofs.{unwrap_or, nat_le, list_all, le-leb, find, get-from_entries, and_parts, +ℤ_idr as plus_none, get-retain_keys}
+use Rattle.xa_base.proofs.{FinMap, get-empty, none_pass, none_passes, if◌then◌else◌, pos, option_map, ◌++◌, or-false, ints, ◌≢◌, map, is_some, unwrap_or}
+use Rattle.xa_base.proofs.{nat_le, list_all, le-leb, find, get-from_entries, and_parts, +ℤ_idr as plus_none, get-retain_keys}
 use Rattle.xa_words.specs.{key_eq, XidName, xid_cmp, xid_eq, xid_cmp-IsAntisymmetric, key_cmp_total, Decides-xid_eq, Decides-key_eq, Op}
 use Rattle.xa_tables.specs.{Association, sum_of, association_of, has_other_touched, added, State, Touch, touch_cmp, state_of, is_S3, is_left_in, is_left}
 use Rattle.xa_tables.specs.{is_prepared, is_broken, is_within, value_of, ArePreparedSound, opening, tables_after, IsNew, IsOpening, AreLeft, reopened, left_by}
 use Rattle.xa_tables.specs.{Tables, History, Fate, Absent, fate, accepted, IsFateOf, reopened_fate, fate_left, told_by, FatesAreTold, coded, commits_later}
-use Rattle.xa_tables.specs.{added_in, commits_over, added_over, value_over, ValueIsSum, sums_without, Answer, next, gone, committed, are_accounts, StaysWithin}
+use Rattle.xa_tables.specs.{is_declared, commits_over, added_over, value_over, ValueIsSum, sums_without, Answer, next, gone, committed, are_accounts}
+use Rattle.xa_tables.specs.{StaysWithin}
 use Rattle.xa_tables.proofs.Law.{standing, after_accepted, Tells, told_tells, run, opening_sound, Sound, get_put, associated_works, voted_rests, sound_after}
 use Rattle.xa_tables.proofs.Law.{get_gone}
-use Rattle.xa_tables.proofs.ValueLaw.{get_added, Held, IsPending, due, plus_zero, Run, value_run, chained, Clean, run_clean, opening_clean, get_without}
+use Rattle.xa_tables.proofs.ValueLaw.{get_added, Held, IsPending, due, value_moved, declared_on, value_run, Clean, run_clean, opening_clean, get_without}
 use Rattle.xa_tables.proofs.ValueLaw.{get_add, get_committed, no_other}
 use Rattle.xa_tables.proofs.SoundLemmas.{state_rules}
 use Rattle.xa_words.specs.Orders.{key_cmp}
 use Rattle.xa_tables.proofs.AccountLemmas.{touch_cmp_total, touch_cmp-IsAntisymmetric, within_bounds}
 use Rattle.xa_tables.proofs.Effects.{Effect, Adds, Prepares, Commits, CommitsByItself, effect_of}
 use Rattle.std.specs.FinMap as map
-use Rattle.xa_tables.specs.declared.state.HeuristicDecision.TheVariants as decision
 
 -- ---- what a reopening leaves, and what the next opening begins with; and the law: the tables tell what became of each branch, over any openings
 
@@ -140,47 +140,46 @@ unfolding left_held
 due_over k G g gs T p n s h = search (arith, or-false)
 
 -- ---- openings one after another
-sum_last : (m d e s : ℤ) → m +ℤ d ≡ e +ℤ s → d ≡ pos 0 → m ≡ e +ℤ (s +ℤ pos 0)
-sum_last m d e s h z = omega (arith, ints)
 
-sum_more : (m d d1 e s r : ℤ) → m +ℤ d ≡ e +ℤ s → d ≡ d1 → m +ℤ (d1 +ℤ r) ≡ e +ℤ (s +ℤ r)
-sum_more m d d1 e s r h z = omega (arith, ints)
+-- they leave declared what was
+declared_over : (hs : List History) (k : List ℕ) (T : Tables) → is_declared (left_by hs T) k ≡ is_declared T k
+declared_over [] k T = refl
+declared_over (h ∷ hs) k T = declared_over hs k (reopened (tables_after h T)) ∙ declared_on h k T
 
--- the values after openings, with what is due to the branch that has touched the key as the first of them begins
-values_over : (h : History) (hs : List History) (k : List ℕ) (p : Held) (F : XidName → Fate) (T : Tables) → IsOpening T → Tell F T → IsPending k p T.sums
-    → map.get (left_by (h ∷ hs) T).values k ≡ option_map (λ v. v +ℤ (due p (from_start F h hs T) +ℤ added_over k F (h ∷ hs) T)) (map.get T.values k)
-values_over h [] k p F T o told pending =
-    let B : XidName → Bool = λ (x : XidName). commits_over x (ended F h T x) [] (tables_after h T) in
-    let r : Run k p B (accepted h) T = value_run (accepted h) k p B T pending in
-    after_accepted (λ (U : Tables). map.get U.values k) (λ _. refl) h T ∙ r.values
-    ∙ ap (λ m. option_map (λ v. v +ℤ m) (map.get T.values k)) (sum_last r.moved (due r.held B) (due p (from_start F h [] T)) (added_in k B (accepted h) T) r.owes (none_due r.held))
-values_over h (g ∷ gs) k p F T o told pending =
+-- the value after openings, with what is due to the branch that has touched the key as the first of them begins
+value_left : (h : History) (hs : List History) (k : List ℕ) (p : Held) (F : XidName → Fate) (T : Tables) → IsOpening T → Tell F T → IsPending k p T.sums
+    → is_declared T k ≡ true
+    → value_of (left_by (h ∷ hs) T).values k ≡ value_of T.values k +ℤ (due p (from_start F h hs T) +ℤ added_over k F (h ∷ hs) T)
+value_left h [] k p F T o told pending known =
+    let r = value_run (accepted h) k p (λ x. commits_over x (ended F h T x) [] (tables_after h T)) T pending in
+    omega (arith, ints, after_accepted (λ (U : Tables). value_of U.values k) (λ _. refl) h T, value_moved (accepted h) k T known, r.owes, none_due r.held)
+value_left h (g ∷ gs) k p F T o told pending known =
     let U : Tables = tables_after h T in
     let G : XidName → Fate = ended F h T in
-    let B : XidName → Bool = λ (x : XidName). commits_over x (G x) (g ∷ gs) U in
-    let r : Run k p B (accepted h) T = value_run (accepted h) k p B T pending in
+    let r = value_run (accepted h) k p (λ x. commits_over x (G x) (g ∷ gs) U) T pending in
     let here : IsPending k r.held U.sums = rw (← after_accepted (λ (W : Tables). W.sums) (λ _. refl) h T) at r.pending in
     let clean : Clean U = run_clean h T (opening_sound T o) (opening_clean T o) in
     let told_now : Tell G U = λ x. kept_law h x (F x) T o (told x) in
-    let more : ℤ = added_over k (begun G) (g ∷ gs) (reopened U) in
     let rest =
-    values_over g gs k (left_held U r.held) (begun G) (reopened U) (reopens U) (λ x. reopened_law x (G x) U (told_now x)) (pending_left k r.held U here) in
-    rest
-    ∙ ap (option_map (λ v. v +ℤ (due (left_held U r.held) (from_start (begun G) g gs (reopened U)) +ℤ more))) (after_accepted (λ (W : Tables). map.get W.values k) (λ _. refl) h T ∙ r.values)
-    ∙ chained (map.get T.values k) r.moved (due (left_held U r.held) (from_start (begun G) g gs (reopened U)) +ℤ more)
-    ∙ ap (λ m. option_map (λ v. v +ℤ m) (map.get T.values k))
-    (sum_more r.moved (due r.held B) (due (left_held U r.held) (from_start (begun G) g gs (reopened U))) (due p (from_start F h (g ∷ gs) T)) (added_in k B (accepted h) T) more r.owes (due_over k G g gs U r.held clean told_now here))
+    value_left g gs k (left_held U r.held) (begun G) (reopened U) (reopens U) (λ x. reopened_law x (G x) U (told_now x)) (pending_left k r.held U here) (declared_on h k T ∙ known) in
+    omega (arith, ints, rest, after_accepted (λ (W : Tables). value_of W.values k) (λ _. refl) h T, value_moved (accepted h) k T known, r.owes, due_over k G g gs U r.held clean told_now here)
 
 -- what an opening leaves after the ones before it
 pub left_on : (before : List History) (h : History) (T : Tables) → left_by (before ++ h ∷ []) T ≡ reopened (tables_after h (left_by before T))
 left_on [] h T = refl
 left_on (g ∷ gs) h T = left_on gs h (reopened (tables_after g T))
 
+as_moved : (old new : Option ℤ) (m : ℤ) → is_some new ≡ is_some old → (is_some old ≡ true → unwrap_or new (pos 0) ≡ unwrap_or old (pos 0) +ℤ m)
+    → new ≡ option_map (λ v. v +ℤ m) old
+as_moved old new m keys values = grind (arith, plus_none)
+
 from_first : (hs : List History) (k : List ℕ) (T : Tables) → IsNew T → map.get (left_by hs T).values k ≡ value_over k hs T
-from_first [] k T o = plus_zero (map.get T.values k)
+from_first [] k T o = search (arith, rules)
 from_first (h ∷ hs) k T n =
-    values_over h hs k None (λ x. Absent) T (new_opens T n) (λ x. first_law x T n) (λ x. ap (λ m. map.get m (x, k)) n.sums ∙ get-empty touch_cmp (x, k))
-    ∙ ap (λ d. option_map d (map.get T.values k)) (λ i v. v +ℤ none_plus (added_over k (λ x. Absent) (h ∷ hs) T) i)
+    as_moved (map.get T.values k) (map.get (left_by (h ∷ hs) T).values k) (added_over k (λ x. Absent) (h ∷ hs) T) (declared_over (h ∷ hs) k T) (λ known.
+    let z =
+    value_left h hs k None (λ x. Absent) T (new_opens T n) (λ x. first_law x T n) (λ x. ap (λ m. map.get m (x, k)) n.sums ∙ get-empty touch_cmp (x, k)) known in
+    omega (arith, ints, z))
 
 pub sum_law : (before : List History) (h : History) (k : List ℕ) (T : Tables) → IsNew T → ValueIsSum k before h T
 sum_law before h k T n = sym (ap (λ (U : Tables). map.get U.values k) (left_on before h T)) ∙ from_first (before ++ h ∷ []) k T n

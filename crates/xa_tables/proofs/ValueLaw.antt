@@ -1,12 +1,12 @@
--- What a history moves of a key's value: the additions whose branches commit; which branches have touched a key; and what leaves a branch as it is.
-use Rattle.xa_base.proofs.{rules, ◌≡◌, ◌≢◌, ℕ, ℤ, pos, ◌+ℤ◌, option_map, Bool, true, false, cond, not, ◌&&◌, if◌then◌else◌, Option, None, Some, List, [], ◌∷◌}
-use Rattle.xa_base.proofs.{refl, sym, ap, ◌∙◌, arith, get-insert, FinMap, +ℤ_idl as none_plus, ints, get-map_values, none_passes, is_some, ◌||◌, ◌++◌, All-head}
-use Rattle.xa_base.proofs.{All-tail, at_false, get-retain_keys}
+-- A history moves what accounts are worth by what the branches that it commits hold, and a key's value so; a branch that it doesn't name stays as it is.
+use Rattle.xa_base.proofs.{◌≡◌, ◌≢◌, ℕ, ℤ, pos, ◌+ℤ◌, option_map, Bool, true, false, cond, not, ◌&&◌, if◌then◌else◌, Option, None, Some, List, [], ◌∷◌, refl}
+use Rattle.xa_base.proofs.{sym, ap, ◌∙◌, arith, get-insert, FinMap, +ℤ_idl as none_plus, ints, get-map_values, none_passes, is_some, ◌||◌, ◌++◌, All-head}
+use Rattle.xa_base.proofs.{All-tail, at_false, get-retain_keys, total_alike, total_both, get_or, All-cons, All-nil, +ℤ_idr as plus_none}
 use Rattle.xa_words.specs.{XidName, xid_eq, Decides-xid_eq, key_cmp_total, key_cmp-IsAntisymmetric, Decides-key_eq, Done, Op, Add, key_eq, Code, Request}
 use Rattle.xa_tables.specs.{Association, association_of, has_other_touched, Touch, touch_cmp, sum_of, sums_without, Answer, next, committed, coded, accepted}
 use Rattle.xa_tables.specs.{fate_of, tables_after, added_in, share_of, commits_later, ending, or_later, LateAddNothing, Tables, History, State, state_of, is_S3}
 use Rattle.xa_tables.specs.{is_S5, OnlyUnfinishedTouch, IsOpening, is_S1, is_S4, is_somebody_associated, ActiveWhileAssociated, names, NamesNowhere}
-use Rattle.xa_tables.specs.{StaysAsItWas}
+use Rattle.xa_tables.specs.{StaysAsItWas, value_of, is_declared, DeclareEach, worth, moved_by, held_by, moved, WorthIsMovedFrom, is_any}
 use Rattle.xa_tables.proofs.Law.{accepted_read, swap_xid, Sound, Nowhere, standing, associated_works, sound_after, get_put, get_gone, opening_sound, changes}
 use Rattle.xa_tables.proofs.Law.{opening_free}
 use Rattle.xa_tables.proofs.Effects.{Moves, Still, Ended, Added, moves_of, Effect, Adds, Forgets, effect_of, Starts, Joins, Resumes, Suspends, Leaves, Idles}
@@ -15,7 +15,78 @@ use Rattle.xa_tables.proofs.AccountLemmas.{touch_cmp_total, touch_cmp-IsAntisymm
 pub use Rattle.xa_tables.proofs.SoundLemmas.{apart_from}
 use Rattle.std.specs.FinMap as map
 
--- ---- what a history moves of a key's value: the additions whose branches commit
+-- ---- what a history moves of the worth of accounts: what the branches that it commits hold
+
+abbrev pub Accounts : Type 0
+Accounts = List (List ℕ × ℕ)
+
+-- the sums once y is gone
+pub get_without : (sums : FinMap touch_cmp ℤ) (y x : XidName) (k : List ℕ)
+    → map.get (sums_without sums y) (x, k) ≡ (if xid_eq x y then None else map.get sums (x, k))
+get_without sums y x k =
+    get-retain_keys sums (λ p. not (xid_eq p.0 y)) (x, k) (λ q e. ap (λ (r : Touch). not (xid_eq r.0 y)) (sym (touch_cmp-IsAntisymmetric (x, k) q e)))
+    ∙ elim (xid_eq x y) as (λ b. cond (not b) (map.get sums (x, k)) None ≡ (if b then None else map.get sums (x, k))) [ true ↦ refl | false ↦ refl ]
+
+-- and the values once it is committed
+pub get_committed : (y : XidName) (T : Tables) (k : List ℕ) → map.get (committed y T).values k ≡ option_map (λ v. v +ℤ sum_of T.sums y k) (map.get T.values k)
+get_committed y T k = get-map_values key_cmp_total key_cmp-IsAntisymmetric (λ q v. v +ℤ sum_of T.sums y q) T.values k
+
+-- what a request that is so answered does to the worth of accounts
+record WorthStep (accounts : Accounts) (op : Op) (T : Tables) (a : Answer) : Type 0 where
+  keys : (k : List ℕ) → is_declared a.0 k ≡ is_declared T k
+  worth_after : DeclareEach accounts T → worth accounts a.0 ≡ worth accounts T +ℤ moved_by accounts op a.1 T
+
+module _ (accounts : Accounts) (T : Tables) where
+  -- the values once y is committed
+  paid_value : (y : XidName) (d : List ℕ × ℕ) → is_declared T d.0 ≡ true → value_of (committed y T).values d.0 ≡ value_of T.values d.0 +ℤ sum_of T.sums y d.0
+  paid_value y d known = grind (arith, get_committed)
+
+  -- the keys and the worth once y has ended
+  ended_keys : (y : XidName) (commits : Bool) (k : List ℕ) → is_declared (if commits then committed y T else T) k ≡ is_declared T k
+  ended_keys y commits k = grind (arith, get_committed)
+
+  ended_worth : (y : XidName) (commits : Bool) → DeclareEach accounts T
+      → worth accounts (if commits then committed y T else T) ≡ worth accounts T +ℤ (if commits then held_by accounts y T else pos 0)
+  ended_worth y true known =
+      total_alike (λ d. value_of (committed y T).values d.0) (λ d. value_of T.values d.0 +ℤ sum_of T.sums y d.0) accounts
+      (λ k d lt. paid_value y (get_or accounts k d) (known k d lt))
+      ∙ total_both (λ d. value_of T.values d.0) (λ d. sum_of T.sums y d.0) accounts
+  ended_worth y false known = sym (plus_none _)
+
+  worth_by_move : {l : Option Association} {op : Op} {a : Answer} → Moves T l op a → WorthStep accounts op T a
+  worth_by_move (Still l op a sums values shares moved endings) = grind (arith, plus_none)
+  worth_by_move (Ended l op a y commits sums values shares moved endings) = grind (arith, ended_keys, ended_worth)
+  worth_by_move (Added own d l there alone) = record { keys = λ k. refl; worth_after = λ known. sym (plus_none _) }
+
+step : (accounts : Accounts) (r : Request) (T : Tables) → WorthStep accounts r.op T (next r.thread r.op T)
+step accounts r T = worth_by_move accounts T (moves_of r.thread r.op T)
+
+-- what is declared stays so
+pub declared_on : (h : History) (k : List ℕ) (T : Tables) → is_declared (tables_after h T) k ≡ is_declared T k
+declared_on [] k T = refl
+declared_on (r ∷ h) k T = declared_on h k (next r.thread r.op T).0 ∙ (step [] r T).keys k
+
+pub worth_from : (accounts : Accounts) (h : History) (T : Tables) → DeclareEach accounts T → WorthIsMovedFrom accounts h T
+worth_from accounts [] T known = sym (plus_none _)
+worth_from accounts (r ∷ h) T known =
+    let T1 : Tables = (next r.thread r.op T).0 in
+    let one = step accounts r T in
+    let still : DeclareEach accounts T1 = λ k d lt. one.keys (get_or accounts k d).0 ∙ known k d lt in
+    omega (arith, ints, one.worth_after known, worth_from accounts h T1 still)
+
+-- the value of a key is what that key alone is worth
+abbrev pub only_key : List ℕ → Accounts
+only_key k = (k, 0) ∷ []
+
+abbrev pub moved_of : List ℕ → History → Tables → ℤ
+moved_of k h T = moved (only_key k) is_any h T
+
+pub value_moved : (h : History) (k : List ℕ) (T : Tables) → is_declared T k ≡ true
+    → value_of (tables_after h T).values k ≡ value_of T.values k +ℤ moved_of k h T
+value_moved h k T known =
+    omega (arith, ints, worth_from (only_key k) h T (All-cons (λ (d : List ℕ × ℕ). is_declared T d.0 ≡ true) (k, 0) [] known (All-nil (λ (d : List ℕ × ℕ). is_declared T d.0 ≡ true))))
+
+-- ---- what a history moves of a key's value is due to the additions whose branches commit
 
 -- the branch that has touched the key, and its sum
 abbrev pub Held : Type 0
@@ -33,61 +104,43 @@ due (Some p) later = if later p.0 then p.1 else pos 0
 abbrev before : Op → Code → (XidName → Bool) → XidName → Bool
 before op c later x = or_later (ending (fate_of x op c)) (later x)
 
--- what a request moves of the value of k, and what is due after it
-record ValueStep (k : List ℕ) (p : Held) (op : Op) (l : Option Association) (T : Tables) (a : Answer) : Type 0 where
+-- who has touched k after a request, and what is due after it
+record DueStep (k : List ℕ) (p : Held) (op : Op) (l : Option Association) (T : Tables) (a : Answer) : Type 0 where
   held : Held
   pending : IsPending k held a.0.sums
-  moved : ℤ
-  values : map.get a.0.values k ≡ option_map (λ v. v +ℤ moved) (map.get T.values k)
-  owes : (later : XidName → Bool) → moved +ℤ due held later ≡ due p (before op a.1 later) +ℤ share_of k op a.1 l later
-
-pub plus_zero : (o : Option ℤ) → o ≡ option_map (λ v. v +ℤ pos 0) o
-plus_zero o = grind arith
+  owes : (later : XidName → Bool) → moved_by (only_key k) op a.1 T +ℤ due held later ≡ due p (before op a.1 later) +ℤ share_of k op a.1 l later
 
 due_same : (p : Held) (C D : XidName → Bool) → ((x : XidName) → D x ≡ C x) → due p D ≡ due p C
 due_same p C D h = grind arith
-
-pub get_without : (sums : FinMap touch_cmp ℤ) (y x : XidName) (k : List ℕ)
-    → map.get (sums_without sums y) (x, k) ≡ (if xid_eq x y then None else map.get sums (x, k))
-get_without sums y x k =
-    get-retain_keys sums (λ p. not (xid_eq p.0 y)) (x, k) (λ q e. ap (λ (r : Touch). not (xid_eq r.0 y)) (sym (touch_cmp-IsAntisymmetric (x, k) q e)))
-    ∙ elim (xid_eq x y) as (λ b. cond (not b) (map.get sums (x, k)) None ≡ (if b then None else map.get sums (x, k))) [ true ↦ refl | false ↦ refl ]
-
--- and the values once y is committed
-pub get_committed : (y : XidName) (T : Tables) (k : List ℕ) → map.get (committed y T).values k ≡ option_map (λ v. v +ℤ sum_of T.sums y k) (map.get T.values k)
-get_committed y T k = get-map_values key_cmp_total key_cmp-IsAntisymmetric (λ q v. v +ℤ sum_of T.sums y q) T.values k
 
 -- who has touched the key once y is gone
 left_by : Held → XidName → Held
 left_by None y = None
 left_by (Some p) y = if xid_eq p.0 y then None else Some p
 
-amount_of_held : Held → XidName → ℤ
-amount_of_held None y = pos 0
-amount_of_held (Some p) y = if xid_eq p.0 y then p.1 else pos 0
-
 due_left : (k : List ℕ) (y : XidName) (p : Held) (sums : FinMap touch_cmp ℤ) → IsPending k p sums → IsPending k (left_by p y) (sums_without sums y)
 unfolding left_by
 due_left k y None sums h = grind (arith, get_without)
 due_left k y (Some p) sums h = grind (arith, get_without)
 
--- what is due before an entry that ends y: y's sum if it commits, and else nothing
-due_ended : (y : XidName) (b : Bool) (p : Held) (op : Op) (c : Code) (later : XidName → Bool)
-    → ((x : XidName) → ending (fate_of x op c) ≡ (if xid_eq y x then Some b else None))
-    → due p (before op c later) ≡ (if b then amount_of_held p y else pos 0) +ℤ due (left_by p y) later
-unfolding left_by amount_of_held
-due_ended y b None op c later h = elim b as (λ d. pos 0 ≡ (if d then pos 0 else pos 0) +ℤ pos 0) [ true ↦ refl | false ↦ refl ]
-due_ended y b (Some p) op c later h =
-    ap (λ o. if or_later o (later p.0) then p.1 else pos 0) (h p.0 ∙ ap (λ e. if e then Some b else None) (swap_xid y p.0))
-    ∙ due_one p (xid_eq p.0 y) b later
-  where
-    due_one : (q : XidName × ℤ) (e d : Bool) (l : XidName → Bool) → (if or_later (if e then Some d else None) (l q.0) then q.1 else pos 0)
-        ≡ (if d then (if e then q.1 else pos 0) else pos 0) +ℤ due (if e then None else Some q) l
-    due_one q e d l = grind arith
-
-amount_is : (k : List ℕ) (p : Held) (y : XidName) (sums : FinMap touch_cmp ℤ) → IsPending k p sums → sum_of sums y k ≡ amount_of_held p y
-unfolding amount_of_held
+-- what y has added to it
+amount_is : (k : List ℕ) (p : XidName × ℤ) (y : XidName) (sums : FinMap touch_cmp ℤ) → IsPending k (Some p) sums
+    → sum_of sums y k ≡ (if xid_eq p.0 y then p.1 else pos 0)
 amount_is k p y sums h = grind (arith, Decides-xid_eq)
+
+-- what is due before an entry that ends y: y's sum if it commits, and else nothing
+due_ended : (k : List ℕ) (y : XidName) (b : Bool) (p : Held) (sums : FinMap touch_cmp ℤ) (op : Op) (c : Code) (later : XidName → Bool) → IsPending k p sums
+    → ((x : XidName) → ending (fate_of x op c) ≡ (if xid_eq y x then Some b else None))
+    → due p (before op c later) ≡ (if b then sum_of sums y k else pos 0) +ℤ due (left_by p y) later
+unfolding left_by
+due_ended k y b None sums op c later held h = grind (arith, (held y))
+due_ended k y b (Some p) sums op c later held h =
+    ap (λ o. if or_later o (later p.0) then p.1 else pos 0) (h p.0 ∙ ap (λ e. if e then Some b else None) (swap_xid y p.0))
+    ∙ due_one p (xid_eq p.0 y) b later (sum_of sums y k) (amount_is k p y sums held)
+  where
+    due_one : (q : XidName × ℤ) (e d : Bool) (l : XidName → Bool) (m : ℤ) → m ≡ (if e then q.1 else pos 0)
+        → (if or_later (if e then Some d else None) (l q.0) then q.1 else pos 0) ≡ (if d then m else pos 0) +ℤ due (if e then None else Some q) l
+    due_one q e d l m is = grind arith
 
 -- and once y has added to a key
 pub get_add : (sums : FinMap touch_cmp ℤ) (y x : XidName) (own k : List ℕ) (s : ℤ)
@@ -120,14 +173,12 @@ split_due : (b : Bool) (u d : ℤ) → pos 0 +ℤ (if b then u +ℤ d else pos 0
 split_due b u d = grind arith
 
 gained : (k own : List ℕ) (d : ℤ) (p : Held) (l : Association) (T : Tables) → IsPending k p T.sums → has_other_touched T.sums l.xid own ≡ false
-    → ValueStep k p (Add own d) (Some l) T (record T { sums = map.insert T.sums (l.xid, own) (sum_of T.sums l.xid own +ℤ d) }, Done)
+    → DueStep k p (Add own d) (Some l) T (record T { sums = map.insert T.sums (l.xid, own) (sum_of T.sums l.xid own +ℤ d) }, Done)
 gained k own d p l T held none =
-    elim (key_eq own k) as (λ b. key_eq own k ≡ b → ValueStep k p (Add own d) (Some l) T (record T { sums = map.insert T.sums (l.xid, own) (sum_of T.sums l.xid own +ℤ d) }, Done)) [
+    elim (key_eq own k) as (λ b. key_eq own k ≡ b → DueStep k p (Add own d) (Some l) T (record T { sums = map.insert T.sums (l.xid, own) (sum_of T.sums l.xid own +ℤ d) }, Done)) [
       | false ↦ λ t. record {
         held = p;
         pending = pending_other k p l.xid own _ T.sums (λ e. let z = (Decides-key_eq own k).1 (sym e) in cc) held;
-        moved = pos 0;
-        values = plus_zero _;
         owes = λ later. omega (arith, ints, ap (λ b. if b && true then (if later l.xid then d else pos 0) else pos 0) t);
       }
       | true ↦ λ t.
@@ -136,59 +187,40 @@ gained k own d p l T held none =
           record {
             held = Some (l.xid, sum_of T.sums l.xid k +ℤ d);
             pending = rw same1 (pending_own k l.xid (sum_of T.sums l.xid k +ℤ d) T.sums none1);
-            moved = pos 0;
-            values = plus_zero _;
             owes = λ later. split_due (later l.xid) (sum_of T.sums l.xid k) d
                 ∙ (λ i. (sym (due_own k p l.xid T.sums later held none1) i) +ℤ (if sym t i && true then (if later l.xid then d else pos 0) else pos 0));
           }
     ] refl
 
 module _ (k : List ℕ) (p : Held) (T : Tables) (h : IsPending k p T.sums) where
-  by_move : {l : Option Association} {op : Op} {a : Answer} → Moves T l op a → ValueStep k p op l T a
+  by_move : {l : Option Association} {op : Op} {a : Answer} → Moves T l op a → DueStep k p op l T a
   by_move (Still l op a sums values shares moved endings) = record {
     held = p;
     pending = rw sums h;
-    moved = pos 0;
-    values = ap (λ m. map.get m k) values ∙ plus_zero _;
-    owes = λ later. omega (arith, ints, due_same p later (before op a.1 later) (λ x. ap (λ o. or_later o (later x)) (endings x)), shares k l later);
+    owes = λ later. omega (arith, ints, moved (only_key k), due_same p later (before op a.1 later) (λ x. ap (λ o. or_later o (later x)) (endings x)), shares k l later);
   }
   by_move (Ended l op a y commits sums values shares moved endings) = record {
     held = left_by p y;
     pending = rw sums (due_left k y p T.sums h);
-    moved = if commits then amount_of_held p y else pos 0;
-    values = ap (λ m. map.get m k) values ∙ paid commits;
-    owes = λ later. omega (arith, ints, due_ended y commits p op a.1 later endings, shares k l later);
+    owes = λ later. omega (arith, ints, moved (only_key k) ∙ ap (λ v. if commits then v else pos 0) (plus_none (sum_of T.sums y k)), due_ended k y commits p T.sums op a.1 later h endings, shares k l later);
   }
-    where
-      paid : (b : Bool)
-          → map.get (if b then committed y T else T).values k ≡ option_map (λ v. v +ℤ (if b then amount_of_held p y else pos 0)) (map.get T.values k)
-      paid true = get_committed y T k ∙ ap (λ m. option_map (λ v. v +ℤ m) (map.get T.values k)) (amount_is k p y T.sums h)
-      paid false = plus_zero _
   by_move (Added own d l known alone) = gained k own d p l T h alone
 
--- a value moved twice
-pub chained : (o : Option ℤ) (m n : ℤ) → option_map (λ v. v +ℤ n) (option_map (λ v. v +ℤ m) o) ≡ option_map (λ v. v +ℤ (m +ℤ n)) o
-chained o m n = search (arith, rules)
-
--- what a history moves of the value of k, and what is due after it, where `after` tells who commits after it
+-- who has touched k after a history, and what is due after it, where `after` tells who commits after it
 pub record Run (k : List ℕ) (p : Held) (after : XidName → Bool) (H : History) (T : Tables) : Type 0 where
   pub held : Held
   pub pending : IsPending k held (tables_after H T).sums
-  pub moved : ℤ
-  pub values : map.get (tables_after H T).values k ≡ option_map (λ v. v +ℤ moved) (map.get T.values k)
-  pub owes : moved +ℤ due held after ≡ due p (λ x. commits_later (after x) x (coded H T)) +ℤ added_in k after H T
+  pub owes : moved_of k H T +ℤ due held after ≡ due p (λ x. commits_later (after x) x (coded H T)) +ℤ added_in k after H T
 
 pub value_run : (H : History) (k : List ℕ) (p : Held) (after : XidName → Bool) (T : Tables) → IsPending k p T.sums → Run k p after H T
-value_run [] k p after T h = record { held = p; pending = h; moved = pos 0; values = plus_zero _; owes = omega (arith, ints) }
+value_run [] k p after T h = record { held = p; pending = h; owes = omega (arith, ints) }
 value_run (r ∷ H) k p after T h =
     let T1 : Tables = (next r.thread r.op T).0 in
-    let a : ValueStep k p r.op (association_of T r.thread) T (next r.thread r.op T) = by_move k p T h (moves_of r.thread r.op T) in
+    let a : DueStep k p r.op (association_of T r.thread) T (next r.thread r.op T) = by_move k p T h (moves_of r.thread r.op T) in
     let rest : Run k a.held after H T1 = value_run H k a.held after T1 a.pending in
     record {
       held = rest.held;
       pending = rest.pending;
-      moved = a.moved +ℤ rest.moved;
-      values = rest.values ∙ ap (option_map (λ v. v +ℤ rest.moved)) a.values ∙ chained (map.get T.values k) a.moved rest.moved;
       owes = omega (arith, ints, a.owes (λ x. commits_later (after x) x (coded H T1)), rest.owes);
     }
 

@@ -1,20 +1,21 @@
--- The laws of what a branch has added: by one thread's work, and as it is worth over all accounts.
+-- A branch holds what it has added to accounts, which it alone did where one thread worked for it, and doesn't vote that it only read.
 use Rattle.xa_base.proofs.{cases_eq, inl, inr, inserted_there, inserted_other, removed_there, removed_other, rules, ◌≡◌, ◌≢◌, ℕ, ◌+◌, ℤ, pos, ◌+ℤ◌, true, false}
-use Rattle.xa_base.proofs.{if◌then◌else◌, Option, Some, List, [], ◌∷◌, ◌++◌, refl, sym, ap, ◌∙◌, arith, ints, eqb-false, All-head, All-tail}
-use Rattle.xa_base.proofs.{+ℤ_idl as none_plus, +ℤ_idr as none_after, suc, Bool, None, option_map, is_some, none_passes, zero, not, ◌&&◌, unwrap_or, ◌<◌}
-use Rattle.xa_base.proofs.{length, map, All, list_any, find, get-empty, get-from_entries, get_or, and_parts, not-true, or-true, total_same, total_alike}
-use Rattle.xa_base.proofs.{total_both, total_nothing, by_bool, length-map, get_or-map}
+use Rattle.xa_base.proofs.{if◌then◌else◌, Option, Some, List, [], ◌∷◌, ◌++◌, refl, sym, ap, ◌∙◌, arith, eqb-false, All-head, All-tail, +ℤ_idl as none_plus}
+use Rattle.xa_base.proofs.{+ℤ_idr as plus_none, suc, Bool, None, option_map, is_some, none_passes, zero, not, ◌&&◌, unwrap_or, ◌<◌, length, map, All, list_any}
+use Rattle.xa_base.proofs.{find, get-empty, get-from_entries, get_or, and_parts, not-true, or-true, total_same, total_alike, total_both, total_nothing, by_bool}
+use Rattle.xa_base.proofs.{length-map, get_or-map}
 use Rattle.xa_words.specs.{XidName, xid_eq, Decides-xid_eq, Done, Op, Start, Add, End, Fresh, Success, Request, Code, RdOnly, Prepare, Decides-key_eq, key_eq}
 use Rattle.xa_words.specs.{key_cmp_total}
 use Rattle.xa_tables.specs.{Association, Associated, association_of, is_association_with, is_associated, is_somebody_associated, Answer, next, association}
 use Rattle.xa_tables.specs.{of_thread, tables_after, fate_of, ending, is_done, added_by, IsOpening, names, NamesNowhere, gain, unless_ended, added_by_now}
 use Rattle.xa_tables.specs.{LeavesAtWork, DoesWork, Tables, History, touch_cmp, is_rollback_only, reason_of, state_of, has_touched, sums_without, EndsNowhere}
-use Rattle.xa_tables.specs.{is_rolled_back, is_declared, value_of, sum_of, added, committed, are_accounts, are_apart, opening, share_of, worth_declared, worth}
-use Rattle.xa_tables.specs.{held_by, moved_by, moved, WorthIsMoved, HoldsItsAdditions, DeclareEach, WorthIsMovedFrom, Account}
+use Rattle.xa_tables.specs.{is_rolled_back, is_declared, value_of, sum_of, added, are_accounts, are_apart, opening, share_of, worth_declared, worth, held_by}
+use Rattle.xa_tables.specs.{moved, WorthIsMoved, HoldsItsAdditions, Account}
 use Rattle.xa_tables.proofs.Effects.{Effect, effect_of, Starts, quiet_named, reason_rolls_back, Moves, Still, Ended, Added, moves_of}
 use Rattle.xa_words.proofs.Xids.{xid_self}
 use Rattle.xa_tables.proofs.Law.{opening_free, swap_xid}
-use Rattle.xa_tables.proofs.ValueLaw.{apart_from, unnamed_fate, unnamed_stays, unnamed_on, get_without, get_add, get_committed}
+use Rattle.xa_tables.proofs.ValueLaw.{apart_from, unnamed_fate, unnamed_stays, unnamed_on, get_without, get_add, Accounts}
+pub use Rattle.xa_tables.proofs.ValueLaw.{declared_on, worth_from}
 use Rattle.xa_tables.proofs.AccountLemmas.{swapped, touch_cmp_total, touch_cmp-IsAntisymmetric, value_found, at_own_key}
 use Rattle.xa_base.specs.{total}
 use Rattle.xa_words.specs.Orders.{key_cmp}
@@ -124,7 +125,7 @@ work_law t n x k d h T opened w =
     let gained : gain x (Add k d) (next t (Add k d) T3).1 (association_of T3 t) ≡ d = search (arith, rules) in
     let ending_work = left_at_work t x d w.added T4 (own_request t x (Add k d) T3 at_work.only) w.ending in
     let done = left_at_work t x d w.after T6 (own_request t x (End x Success) T5 ending_work.only) w.ended in
-    search (arith, added_both, none_plus, none_after, w.before, w.begun, w.added, w.after)
+    search (arith, added_both, none_plus, plus_none, w.before, w.begun, w.added, w.after)
 
 -- The laws: a branch that has added to a key doesn't vote read-only, unless it was ended in between; commits alone, heuristic ones included, move what
 -- the accounts are worth together, by what their branches hold; and a branch holds what it has added.
@@ -177,14 +178,6 @@ added_law t u op x k d g T is own =
     let none : finmap.get (tables_after g after).sums (x, k) ≡ None = untouched x (tables_after g after) (reads_only t x (tables_after g after) reads) k in
     let z : false ≡ true = sym (ap is_some none) ∙ there in
     cc)
-
--- ---- what accounts are worth
-
-abbrev Accounts : Type 0
-Accounts = List (List ℕ × ℕ)
-
-plus_none : (v : ℤ) → v ≡ v +ℤ pos 0
-plus_none v = omega (arith, ints)
 
 -- ---- which accounts there are
 
@@ -252,11 +245,6 @@ get_sum : (x y : XidName) (own k : List ℕ) (d : ℤ) (T : Tables)
     → sum_of (added y own d T).sums x k ≡ sum_of T.sums x k +ℤ (if xid_eq y x then (if key_eq k own then d else pos 0) else pos 0)
 get_sum x y own k d T = grind (arith, get_add, Decides-xid_eq, Decides-key_eq, plus_none)
 
--- what a request that is so answered does to the worth of accounts, and to what branches hold
-record WorthStep (accounts : Accounts) (op : Op) (T : Tables) (a : Answer) : Type 0 where
-  keys : (k : List ℕ) → is_declared a.0 k ≡ is_declared T k
-  worth_after : DeclareEach accounts T → worth accounts a.0 ≡ worth accounts T +ℤ moved_by accounts op a.1 T
-
 abbrev HeldStep : Accounts → Op → Option Association → Tables → Answer → Type 0
 HeldStep accounts op l T a = (x : XidName) → held_by accounts x a.0 ≡ unless_ended (ending (fate_of x op a.1)) (held_by accounts x T +ℤ gain x op a.1 l)
 
@@ -267,39 +255,19 @@ no_gain x (Add k d) c l shares =
     ap (λ b. if b && is_done c then added_by l d (λ y. xid_eq y x) else pos 0) (sym ((Decides-key_eq k k).1 refl)) ∙ shares k l (λ y. xid_eq y x)
 no_gain x op c l shares = refl
 
-ended_either : (b : Bool) (c : Bool) (u v : ℤ) → v ≡ (if b then pos 0 else u) → v ≡ unless_ended (if b then Some c else None) (u +ℤ pos 0)
-ended_either b c u v e = grind (arith, plus_none)
+ended_either : (b c : Bool) (u v g : ℤ) (o : Option Bool) → v ≡ (if b then pos 0 else u) → g ≡ pos 0 → o ≡ (if b then Some c else None)
+    → v ≡ unless_ended o (u +ℤ g)
+ended_either b c u v g o held none ends = grind (arith, plus_none)
 
-module _ (accounts : Accounts) (T : Tables) where
-  -- what branches hold once y is gone
-  without : (y x : XidName) → total (λ d. sum_of (sums_without T.sums y) x d.0) accounts ≡ (if xid_eq y x then pos 0 else held_by accounts x T)
-  without y x =
-      total_same (λ d. sum_of (sums_without T.sums y) x d.0) (λ d. unwrap_or (if xid_eq x y then None else finmap.get T.sums (x, d.0)) (pos 0)) accounts (λ d.
-      ap (λ o. unwrap_or o (pos 0)) (get_without T.sums y x d.0))
-      ∙ by_bool (λ b. total (λ d. unwrap_or (if b then None else finmap.get T.sums (x, d.0)) (pos 0)) accounts ≡ (if b then pos 0 else held_by accounts x T)) (xid_eq x y)
-      (λ _. total_nothing accounts) (λ _. refl)
-      ∙ ap (λ b. if b then pos 0 else held_by accounts x T) (swap_xid x y)
-
-  -- the values once y is committed
-  paid_value : (y : XidName) (d : List ℕ × ℕ) → is_declared T d.0 ≡ true → value_of (committed y T).values d.0 ≡ value_of T.values d.0 +ℤ sum_of T.sums y d.0
-  paid_value y d known = grind (arith, get_committed)
-
-  -- the keys and the worth once y has ended
-  ended_keys : (y : XidName) (commits : Bool) (k : List ℕ) → is_declared (if commits then committed y T else T) k ≡ is_declared T k
-  ended_keys y commits k = grind (arith, get_committed)
-
-  ended_worth : (y : XidName) (commits : Bool) → DeclareEach accounts T
-      → worth accounts (if commits then committed y T else T) ≡ worth accounts T +ℤ (if commits then held_by accounts y T else pos 0)
-  ended_worth y true known =
-      total_alike (λ d. value_of (committed y T).values d.0) (λ d. value_of T.values d.0 +ℤ sum_of T.sums y d.0) accounts
-      (λ k d lt. paid_value y (get_or accounts k d) (known k d lt))
-      ∙ total_both (λ d. value_of T.values d.0) (λ d. sum_of T.sums y d.0) accounts
-  ended_worth y false known = plus_none _
-
-  worth_by_move : {l : Option Association} {op : Op} {a : Answer} → Moves T l op a → WorthStep accounts op T a
-  worth_by_move (Still l op a sums values shares moved endings) = grind (arith, plus_none)
-  worth_by_move (Ended l op a y commits sums values shares moved endings) = grind (arith, ended_keys, ended_worth)
-  worth_by_move (Added own d l there alone) = record { keys = λ k. refl; worth_after = λ known. plus_none _ }
+-- what branches hold once y is gone
+without : (accounts : Accounts) (T : Tables) (y x : XidName)
+    → total (λ d. sum_of (sums_without T.sums y) x d.0) accounts ≡ (if xid_eq y x then pos 0 else held_by accounts x T)
+without accounts T y x =
+    total_same (λ d. sum_of (sums_without T.sums y) x d.0) (λ d. unwrap_or (if xid_eq x y then None else finmap.get T.sums (x, d.0)) (pos 0)) accounts (λ d.
+    ap (λ o. unwrap_or o (pos 0)) (get_without T.sums y x d.0))
+    ∙ by_bool (λ b. total (λ d. unwrap_or (if b then None else finmap.get T.sums (x, d.0)) (pos 0)) accounts ≡ (if b then pos 0 else held_by accounts x T)) (xid_eq x y)
+    (λ _. total_nothing accounts) (λ _. refl)
+    ∙ ap (λ b. if b then pos 0 else held_by accounts x T) (swap_xid x y)
 
 module _ (accounts : Accounts) (apart : are_apart accounts ≡ true) (T : Tables) (known : Declares accounts T) where
   -- what a branch holds once y has added d to a declared key
@@ -314,38 +282,17 @@ module _ (accounts : Accounts) (apart : are_apart accounts ≡ true) (T : Tables
 
   held_by_move : {l : Option Association} {op : Op} {a : Answer} → Moves T l op a → HeldStep accounts op l T a
   held_by_move (Still l op a sums values shares moved endings) x =
-      ap (λ m. total (λ d. sum_of m x d.0) accounts) sums ∙ plus_none _
-      ∙ (λ i. unless_ended (sym (endings x) i) (held_by accounts x T +ℤ sym (no_gain x op a.1 l shares) i))
+      grind (arith, (ap (λ m. total (λ d. sum_of m x d.0) accounts) sums), (endings x), (no_gain x op a.1 l shares), plus_none)
   held_by_move (Ended l op a y commits sums values shares moved endings) x =
-      ap (λ m. total (λ d. sum_of m x d.0) accounts) sums
-      ∙ ended_either (xid_eq y x) commits (held_by accounts x T) _ (without accounts T y x)
-      ∙ (λ i. unless_ended (sym (endings x) i) (held_by accounts x T +ℤ sym (no_gain x op a.1 l shares) i))
+      ended_either (xid_eq y x) commits (held_by accounts x T) _ _ _ (ap (λ m. total (λ d. sum_of m x d.0) accounts) sums ∙ without accounts T y x) (no_gain x op a.1 l shares) (endings x)
   held_by_move (Added own d l there alone) x = gained own d l there x
-
--- ---- a history
-
-step : (accounts : Accounts) (r : Request) (T : Tables) → WorthStep accounts r.op T (next r.thread r.op T)
-step accounts r T = worth_by_move accounts T (moves_of r.thread r.op T)
-
--- what is declared stays so
-pub declared_on : (h : History) (k : List ℕ) (T : Tables) → is_declared (tables_after h T) k ≡ is_declared T k
-declared_on [] k T = refl
-declared_on (r ∷ h) k T = declared_on h k (next r.thread r.op T).0 ∙ (step [] r T).keys k
-
-pub worth_from : (accounts : Accounts) (h : History) (T : Tables) → DeclareEach accounts T → WorthIsMovedFrom accounts h T
-worth_from accounts [] T known = plus_none _
-worth_from accounts (r ∷ h) T known =
-    let T1 : Tables = (next r.thread r.op T).0 in
-    let one = step accounts r T in
-    let still : DeclareEach accounts T1 = λ k d lt. one.keys (get_or accounts k d).0 ∙ known k d lt in
-    omega (arith, ints, one.worth_after known, worth_from accounts h T1 still)
 
 module _ (accounts : Accounts) (apart : are_apart accounts ≡ true) where
   held_on : (x : XidName) (h : History) (T : Tables) → Declares accounts T → held_by accounts x (tables_after h T) ≡ added_by_now x (held_by accounts x T) h T
   held_on x [] T known = refl
   held_on x (r ∷ h) T known =
       let T1 : Tables = (next r.thread r.op T).0 in
-      held_on x h T1 (λ k. (step accounts r T).keys k ∙ known k)
+      held_on x h T1 (λ k. declared_on (r ∷ []) k T ∙ known k)
       ∙ ap (λ v. added_by_now x v h T1) (held_by_move accounts apart T known (moves_of r.thread r.op T) x)
 
 apart_of : (accounts : Accounts) → are_accounts accounts ≡ true → are_apart accounts ≡ true

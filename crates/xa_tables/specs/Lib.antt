@@ -66,4 +66,4 @@ pub use declared.state.RollbackReason.{RollbackReason}
 pub use declared.state.RollbackReason.TheVariants.{Failed, Transient}
 pub use declared.state.State.{State}
 pub use declared.state.State.TheVariants.{Active, HeuristicallyCompleted, Idle, RollbackOnly}
-pub use declared.threads.Thread.{Thread}
+pub use declared.threads.ThreadState.{ThreadState}

@@ -8,7 +8,7 @@ use Rattle.std.specs.FinMap as finmap
 use Rattle.xa_words.specs.Orders.{key_cmp}
 use Rattle.xa_words.specs.Xid.{XidName, xid_cmp}
 use Rattle.xa_tables.specs.declared.state.State.{State}
-use Rattle.xa_tables.specs.declared.threads.Thread.{Thread}
+use Rattle.xa_tables.specs.declared.threads.ThreadState.{ThreadState}
 use Rattle.xa_tables.specs.declared.state.Association.{Association}
 use Rattle.xa_tables.specs.ManagerTables.{is_association_with, states_code, set_code, associations_code}
 
@@ -60,15 +60,15 @@ entries_from f n [] = []
 entries_from f n (s ∷ ss) = with_entry n (f s) (entries_from f (suc n) ss)
 
 -- a mark where the thread has it open
-abbrev pub open_mark : Thread → Option (Unit {0})
+abbrev pub open_mark : ThreadState → Option (Unit {0})
 open_mark s = if s.is_open then Some tt else None
 
 -- the thread's association
-abbrev pub association_in : Thread → Option Association
+abbrev pub association_in : ThreadState → Option Association
 association_in s = s.association
 
 -- what contracts see of a list of threads, the first of which is thread 1, in so many seats
-abbrev pub thread_table_of : List Thread → ℕ → ThreadTable
+abbrev pub thread_table_of : List ThreadState → ℕ → ThreadTable
 thread_table_of threads seats = record {
   opened = from_list (map (λ e. e.0) (entries_from open_mark 1 threads));
   associations = from_entries (entries_from association_in 1 threads);
@@ -77,5 +77,5 @@ thread_table_of threads seats = record {
 }
 
 -- the thread is associated with x
-abbrev pub is_thread_with : Thread → XidName → Bool
+abbrev pub is_thread_with : ThreadState → XidName → Bool
 is_thread_with s x = is_association_with s.association x

@@ -214,14 +214,7 @@ fn needs_opening(op: &Op) -> bool
 {
     match op {
         Op::Shut | Op::OpenRm | Op::CloseRm | Op::Heur(..) => false,
-        Op::Start(..)
-        | Op::Add(..)
-        | Op::End(..)
-        | Op::Prepare(_)
-        | Op::Commit(..)
-        | Op::Rollback(_)
-        | Op::Forget(_)
-        | Op::Listed(_) => true,
+        _ => true,
     }
 }
 

@@ -14,13 +14,13 @@ use xa_words::Xid;
 
 /// Whether a thread has the manager open, and the branch that it is associated with.
 #[derive(Clone, Copy)]
-pub(crate) struct Thread {
+pub(crate) struct ThreadState {
     is_open: bool,
     association: Option<Association>,
 }
 
 // A thread that hasn't opened and isn't associated.
-const FREE: Thread = Thread {
+const FREE: ThreadState = ThreadState {
     is_open: false,
     association: None,
 };
@@ -28,7 +28,7 @@ const FREE: Thread = Thread {
 /// The threads of control, which are numbered from 1.
 #[derive(Drop)]
 pub(crate) struct Threads {
-    threads: Vec<Thread>,
+    threads: Vec<ThreadState>,
 }
 
 impl Model for Threads {
@@ -150,14 +150,14 @@ impl Threads {
 }
 
 #[inline(always)]
-fn any_with(threads: &[Thread], xid: &Xid) -> bool
+fn any_with(threads: &[ThreadState], xid: &Xid) -> bool
     ensures { result ≡ list_any (λ t. is_thread_with t xid.now) threads.now }
 {
     threads.iter().any(|thread| is_with(thread, xid))
 }
 
 #[inline(always)]
-fn is_with(thread: &Thread, xid: &Xid) -> bool
+fn is_with(thread: &ThreadState, xid: &Xid) -> bool
     ensures { result ≡ is_thread_with thread.now xid.now }
 {
     match &thread.association {

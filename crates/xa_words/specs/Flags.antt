@@ -52,16 +52,12 @@ has flags flag = not (bit_and flags flag == 0)
 
 -- the flags that may stand at a call
 abbrev pub bits_of : Call → ℕ
-bits_of call.OpenRm = TMASYNC
-bits_of call.CloseRm = TMASYNC
 bits_of call.Start = TMASYNC + TMJOIN + TMRESUME
 bits_of call.End = TMASYNC + TMSUCCESS + TMSUSPEND + TMFAIL
-bits_of call.Prepare = TMASYNC
 bits_of call.Commit = TMASYNC + TMONEPHASE
-bits_of call.Rollback = TMASYNC
-bits_of call.Forget = TMASYNC
 bits_of call.Recover = TMSTARTRSCAN + TMENDRSCAN
 bits_of call.Complete = TMMULTIPLE + TMNOWAIT
+bits_of c = TMASYNC
 
 -- exactly one of three
 abbrev pub just_one : Bool → Bool → Bool → Bool
@@ -71,16 +67,9 @@ just_one false false c = c
 
 -- Start has at most one of TMJOIN and TMRESUME, and End exactly one of TMSUCCESS, TMSUSPEND and TMFAIL
 abbrev pub go_together : Call → ℕ → Bool
-go_together call.OpenRm f = true
-go_together call.CloseRm f = true
 go_together call.Start f = not (has f TMJOIN && has f TMRESUME)
 go_together call.End f = just_one (has f TMSUCCESS) (has f TMSUSPEND) (has f TMFAIL)
-go_together call.Prepare f = true
-go_together call.Commit f = true
-go_together call.Rollback f = true
-go_together call.Forget f = true
-go_together call.Recover f = true
-go_together call.Complete f = true
+go_together c f = true
 
 -- no other flag stands than these
 abbrev pub has_only : ℕ → ℕ → Bool

@@ -1,10 +1,10 @@
 use Rattle.xa_base.proofs.{◌≡◌, ap, sym, refl, ◌∙◌, length, ◌≤◌, true, false, arith, is_some}
 use Rattle.std.specs.FinSet as set
-use Rattle.xa_tables.specs.{Thread, open_mark}
+use Rattle.xa_tables.specs.{ThreadState, open_mark}
 use Rattle.xa_tables.proofs.ThreadLemmas.{contains_thread}
 use Rattle.xa_tables.proofs.threads.Threads.has_opened.Goals as goal
 
-marked : (s : Thread) → s.is_open ≡ is_some (open_mark s)
+marked : (s : ThreadState) → s.is_open ≡ is_some (open_mark s)
 marked s = elim (s.is_open) as (λ b. b ≡ is_some (open_mark (record s { is_open = b }))) [ true ↦ refl | false ↦ refl ]
 
 pub returns : goal.returns
