@@ -1,20 +1,20 @@
 -- Each step of a desk keeps its books; the map that a table of kept operations is; and a desk that has done nothing.
-use Rattle.xa_base.proofs.{get_or_read, ◌≡◌, ◌≢◌, ℕ, suc, ◌+◌, ◌-◌, ◌<◌, ◌⊎◌, true, cond, nat_eq, is_some, List, [], ◌∷◌, ◌++◌, length, Option, Some, None}
+use Rattle.xa_base.proofs.{none_from, get_or_read, ◌≡◌, ◌≢◌, ℕ, suc, ◌+◌, ◌-◌, ◌<◌, ◌⊎◌, cond, nat_eq, is_some, List, [], ◌∷◌, ◌++◌, length, Option, Some, None}
 use Rattle.xa_base.proofs.{get_or, sym, refl, ap, ◌∙◌, inl, inr, arith, length-append, get_or-set_same, get_or-set_other, cases_eq, cases_lt, false≢true}
-use Rattle.xa_base.proofs.{false_from_ne_true, option_or, and_parts, eqb-true, eq-eqb, zero, IfSome, set, nat_cmp, nat_cmp_total, eq_by_cmp, tied_true}
-use Rattle.xa_base.proofs.{tied_false, ◌*◌, Bool, replicate, get_or_past, sum_by-set, sum_by-cons, IsSome, get_or-replicate, length-replicate}
+use Rattle.xa_base.proofs.{false_from_ne_true, option_or, and_parts, eqb-true, eq-eqb, zero, set, nat_cmp, nat_cmp_total, eq_by_cmp, tied_true, tied_false, ◌*◌}
+use Rattle.xa_base.proofs.{Bool, replicate, get_or_past, sum_by-set, sum_by-cons, IsSome, get_or-replicate, length-replicate}
 use Rattle.slab.proofs.SlabLemmas.{ContainsKey-within, Updates-with_value}
-use Rattle.xa_desk.proofs.Ledgers.{cases_operation, same_operation, none_from, sum_by-changed, collected-le-sent, collected-lt-sent, orderly_sent}
-use Rattle.xa_desk.proofs.Ledgers.{orderly_collected, sent_now, ledger-sent_same, ledger-sent_other, sent_keeps_sent, sent_keeps_out, sent_now_out}
-use Rattle.xa_desk.proofs.Ledgers.{sent_out_cases, unsent, known_before, collected_known, collected_out, collected_keeps_out, collected_keeps_sent}
-use Rattle.xa_desk.proofs.Ledgers.{ledger-collected_same, ledger-collected_other}
+use Rattle.xa_desk.proofs.Ledgers.{cases_operation, same_operation, sum_by-changed, collected-le-sent, collected-lt-sent, orderly_sent, orderly_collected}
+use Rattle.xa_desk.proofs.Ledgers.{sent_now, ledger-sent_same, ledger-sent_other, sent_keeps_sent, sent_keeps_out, sent_now_out, sent_out_cases, unsent}
+use Rattle.xa_desk.proofs.Ledgers.{known_before, collected_known, collected_out, collected_keeps_out, collected_keeps_sent, ledger-collected_same}
+use Rattle.xa_desk.proofs.Ledgers.{ledger-collected_other}
 use Rattle.xa_base.specs.{Begins}
 use Rattle.std.proofs.lemmas.Bool.{and_from}
 use Rattle.slab.specs.Slab.{Slab, get, slab_len, with_value, Updates, entries_from}
 use Rattle.xa_words.specs.{Op, Completion, Code}
-use Rattle.xa_desk.specs.{Operation, Slot, with_sent, with_collected, IsKnown, IsOut, ledger, no_ledger, after_sent, after_collected, outstanding, names}
-use Rattle.xa_desk.specs.{drained_code, operation_of, HasSlot, IsBooks, ready_weight, ready_count, collected_total, LedgerView, IsLeastFree, kept_of}
-use Rattle.xa_desk.specs.{new_ledgers, IsOrderly, planned_total}
+use Rattle.xa_desk.specs.{Operation, Slot, with_sent, with_collected, IsKnown, IsOut, ledger, no_ledger, after_sent, after_collected, outstanding, drained_code}
+use Rattle.xa_desk.specs.{operation_of, HasSlot, IsBooks, ready_weight, ready_count, collected_total, LedgerView, IsLeastFree, kept_of, new_ledgers, IsOrderly}
+use Rattle.xa_desk.specs.{planned_total}
 use Rattle.std.specs.List.{IsDistinct}
 use Rattle.std.specs.FinMap as map
 
@@ -359,10 +359,6 @@ least_free table j free taken = record {
   free = get-kept_of table j (j + 1) (omega arith) ∙ free;
   least = λ k positive below. rw (get-kept_of table (k - 1) k (omega arith)) (taken (k - 1) (omega arith));
 }
-
-pub IfSome_from : {A : Type 0} (x : Option A) (P : A → Type 0) → ((a : A) → x ≡ Some a → P a) → IfSome x P
-IfSome_from None P each = tt
-IfSome_from (Some a) P each = each a refl
 
 -- ---- a desk that has done nothing keeps its books
 

@@ -1,7 +1,8 @@
 -- The rows tell the key of each slot, as slots come and go, and the marks of what is kept and of what is ready.
-use Rattle.xa_base.proofs.{◌≡◌, ◌≢◌, ℕ, zero, suc, ◌-◌, ◌<◌, ◌≤◌, Bool, List, [], ◌∷◌, ◌++◌, length, length-append, Some, None, get_or, set, replicate, sym}
-use Rattle.xa_base.proofs.{refl, ap, ◌∙◌, inl, inr, arith, slice_get, get_or-set_same, get_or-set_other, length-set, length-replicate, length-map, cases_eq}
-use Rattle.xa_base.proofs.{◌*◌, Option, ◌+◌, true, false, IfSome, is_some, cases_lt, get_or-replicate, get_or_read, get_or_past, IfNone}
+use Rattle.xa_base.proofs.{slice_get-push_last, slice_get-push_other, ◌≡◌, ◌≢◌, ℕ, zero, suc, ◌-◌, ◌<◌, ◌≤◌, Bool, List, [], ◌∷◌, ◌++◌, length, length-append}
+use Rattle.xa_base.proofs.{Some, None, get_or, set, replicate, sym, refl, ap, ◌∙◌, inl, inr, arith, slice_get, get_or-set_same, get_or-set_other, length-set}
+use Rattle.xa_base.proofs.{length-replicate, length-map, cases_eq, ◌*◌, Option, ◌+◌, true, false, IfSome, is_some, cases_lt, get_or-replicate, get_or_read}
+use Rattle.xa_base.proofs.{get_or_past, IfNone}
 use Rattle.slab.specs.Slab.{Slab, get, Updates}
 use Rattle.xa_words.specs.{Op, Code, Request, Completion}
 use Rattle.xa_desk.specs.{Operation, Slot, new_ledger, with_sent, with_collected, IsKnown, IsOut, no_ledger, ledger, after_sent, after_collected, new_ledgers}
@@ -16,14 +17,6 @@ use Rattle.xa_desk.specs.declared.marks.Marks.{Marks}
 use Rattle.std.specs.FinMap as map
 
 -- ---- the rows tell the key of each slot, as slots come and go
-
-slice_get-push_last : {A : Type 0} (xs : List A) (x : A) → slice_get (xs ++ x ∷ []) (length xs) ≡ Some x
-slice_get-push_last [] x = refl
-slice_get-push_last (y ∷ ys) x = slice_get-push_last ys x
-
-slice_get-push_other : {A : Type 0} (xs : List A) (x : A) (j : ℕ) → j ≢ length xs → slice_get (xs ++ x ∷ []) j ≡ slice_get xs j
-slice_get-push_other [] x j differs = grind arith
-slice_get-push_other (y ∷ ys) x j differs = grind (arith, slice_get-push_other ys x (j - 1))
 
 -- the key of the next request is entered for manager m
 module _ (rows : List KeysView) (m key : ℕ) where

@@ -25,9 +25,6 @@ cases_operation a b = elim (cases_eq a.manager b.manager) [
   | inr differs ↦ inr (λ same. differs (ap (λ (o : Operation). o.manager) same))
 ]
 
-pub none_from : {A : Type 0} (x : Option A) → ((a : A) → x ≡ Some a → ⊥) → x ≡ None
-none_from x never = grind arith
-
 module _ {A : Type 0} (f : Option A → ℕ) (zeros : f None ≡ 0) where
   pub sum_by-same : (xs ys : List (Option A)) → ((k : ℕ) → get_or ys k None ≡ get_or xs k None) → sum_by f ys ≡ sum_by f xs
   sum_by-same [] [] same = refl

@@ -147,13 +147,13 @@ pub record Owns (d : DeskView) (t : TicketView) : Type 0 where
 
 -- ---- what was drained
 
-abbrev pub names : Operation → Completion → Bool
-names o c = (o.manager == c.manager) && (o.number == c.number)
+abbrev pub is_completed_by : Operation → Completion → Bool
+is_completed_by o c = (o.manager == c.manager) && (o.number == c.number)
 
 -- the code of the completion that was drained for the operation
 abbrev pub drained_code : Operation → List Completion → Option Code
 drained_code o [] = None
-drained_code o (c ∷ cs) = if names o c then Some c.code else drained_code o cs
+drained_code o (c ∷ cs) = if is_completed_by o c then Some c.code else drained_code o cs
 
 -- ---- what is kept, and under which numbers
 

@@ -4,7 +4,7 @@ use Rattle.xa_lane.specs.Ends.{at_most_counted}
 use Rattle.xa_desk.specs.LedgerViews.{LedgerView}
 use Rattle.xa_desk.specs.DeskViews.{DeskView}
 use Rattle.xa_desk.specs.Ended.{EndedView}
-use Rattle.xa_desk.specs.Seats.{seat_of_desk, seat_of_ended}
+use Rattle.xa_desk.specs.DeskSeats.{seat_of_desk, seat_of_ended}
 use Rattle.xa_base.specs.Lists.{Begins}
 use Rattle.xa_desk.specs.Growth.{HaveGrown}
 

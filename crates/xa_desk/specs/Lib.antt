@@ -11,7 +11,7 @@ pub mod Lanes
 pub mod Ended
 pub mod Parts
 pub mod EndedParts
-pub mod Seats
+pub mod DeskSeats
 pub mod Growth
 pub mod GoingOn
 pub mod Waits
@@ -20,7 +20,8 @@ pub use LedgerViews.{IsBalanced, LedgerView, is_collected, is_rm_fail, learnt_sh
 pub use LedgerViews.{with_sent}
 pub use DeskViews.{DeskView, IsHandle, IsKnown, IsLeast, IsLeastFree, IsLoose, IsOut, IsSent, Owns, TicketView}
 pub use DeskViews.{after_collected, after_sent, asked_at, call_refusal, collected_from, completed, drained_code}
-pub use DeskViews.{handle_refusal, is_asked, is_known, keeps_at, kept_code, ledger, names, next_operation, no_ledger}
+pub use DeskViews.{handle_refusal, is_asked, is_known, keeps_at, kept_code, ledger, is_completed_by, next_operation}
+pub use DeskViews.{no_ledger}
 pub use DeskViews.{opening_of, operation_code, operation_of, outstanding, put_ledger, reach_refusal, ready_at}
 pub use DeskViews.{ready_with, room_at, room_refusal, sent_to, spent_refusal, submit_refusal, ticket_code, ticket_of}
 pub use Kept.{AllKept, HoldsNone}
@@ -39,7 +40,7 @@ pub use Lanes.{without_last}
 pub use Ended.{AreBalanced, EndedView, Ends, IsEnded}
 pub use Parts.{AreParts, carried, parts_of}
 pub use EndedParts.{AreEndedParts, ended_of}
-pub use Seats.{DeskSeat, desk_seat, seat_of_desk, seat_of_ended}
+pub use DeskSeats.{DeskSeat, desk_seat, seat_of_desk, seat_of_ended}
 pub use Growth.{HasGrown, HaveGrown}
 pub use GoingOn.{GoesOn, GoesOut, plan_of, plans}
 pub use Waits.{Idles, IsMissing, MarkEnds, MarksEnd, NothingIsReady, SendsAndWaits, WaitsFor, WaitsForAny, begins}

@@ -18,7 +18,7 @@ use crate::event::Event;
 use crate::found::Found;
 use crate::ledger::Ledger;
 use crate::marks::Marks;
-use crate::operation::{Keys, Operation, Slot, enter_code, enter_handle, find_slot};
+use crate::operation::{Operation, Slot, SlotKeys, enter_code, enter_handle, find_slot};
 use crate::parts::DeskParts;
 use http_server::Log;
 use slab::Slab;
@@ -40,7 +40,7 @@ pub(crate) struct Book {
     // What was sent and collected. It has no bytes: only proofs read it.
     pub(crate) events: Log<Event, ()>,
     pub(crate) slots: Slab<Slot>,
-    pub(crate) rows: Vec<Keys>,
+    pub(crate) rows: Vec<SlotKeys>,
     pub(crate) kept: Vec<Option<Operation>>,
     pub(crate) kept_marks: Marks,
     pub(crate) ready_marks: Marks,

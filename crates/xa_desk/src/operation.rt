@@ -115,11 +115,11 @@ pub(crate) const MOST_SLOTS: usize = 256;
 /// The keys of the slots of one manager's operations. A request's number is the count of those sent before
 /// it, so its key stands at that place.
 #[derive(Drop)]
-pub(crate) struct Keys {
+pub(crate) struct SlotKeys {
     keys: Vec<u8>,
 }
 
-impl Model for Keys {
+impl Model for SlotKeys {
     ghost use Rattle.std.specs.Prelude.{vec_capacity};
     ghost use Rattle.xa_desk.specs.Slots.{KeysView};
 
@@ -128,13 +128,13 @@ impl Model for Keys {
     ghost view = { λ k. record { keys = k.keys.items; capacity = vec_capacity k.keys } };
 }
 
-impl Keys {
+impl SlotKeys {
     /// No key, and room for that of each planned request.
-    pub(crate) fn reserve(alloc: Global, plan: u32) -> Result<Keys, AllocError>
+    pub(crate) fn reserve(alloc: Global, plan: u32) -> Result<SlotKeys, AllocError>
         ensures { IfOk result (λ k. k ≡ no_keys plan) }
     {
         let keys = Vec::with_capacity(alloc, plan as usize)?;
-        Ok(Keys { keys })
+        Ok(SlotKeys { keys })
     }
 
     #[inline(always)]
@@ -161,19 +161,19 @@ pub(crate) fn reserve_keys(
     alloc: Global,
     managers: usize,
     plan: u32,
-) -> Result<Vec<Keys>, AllocError>
+) -> Result<Vec<SlotKeys>, AllocError>
     ensures { IfOk result (λ v. v.items ≡ replicate managers (no_keys plan)) }
 {
     let mut rows = Vec::with_capacity(alloc, managers)?;
     for _manager in 0..managers {
-        rows.push(Keys::reserve(alloc, plan)?)?;
+        rows.push(SlotKeys::reserve(alloc, plan)?)?;
     }
     Ok(rows)
 }
 
 /// The key of the slot that the operation has if it is outstanding.
 #[inline(always)]
-pub(crate) fn key_of(rows: &Vec<Keys>, operation: Operation) -> Option<usize>
+pub(crate) fn key_of(rows: &Vec<SlotKeys>, operation: Operation) -> Option<usize>
     ensures { result ≡ key_at rows.now.items operation }
 {
     let row = rows.get((operation.manager as usize).saturating_sub(1))?;
@@ -194,7 +194,7 @@ pub(crate) struct Slot {
 /// The slot of an operation, with its key.
 #[inline(always)]
 pub(crate) fn find_slot(
-    rows: &Vec<Keys>,
+    rows: &Vec<SlotKeys>,
     slots: &Slab<Slot>,
     wanted: Operation,
 ) -> Option<(usize, Slot)>
@@ -219,7 +219,7 @@ pub(crate) fn find_slot(
 /// under, or 0. `None`, and nothing entered, where the operation has no slot, or one with a code.
 #[inline(always)]
 pub(crate) fn enter_code(
-    rows: &Vec<Keys>,
+    rows: &Vec<SlotKeys>,
     slots: &mut Slab<Slot>,
     wanted: Operation,
     code: Code,
@@ -247,7 +247,7 @@ pub(crate) fn enter_code(
 /// Writes the number that an operation is kept under, or 0, into its slot, and answers whether it has a code.
 #[inline(always)]
 pub(crate) fn enter_handle(
-    rows: &Vec<Keys>,
+    rows: &Vec<SlotKeys>,
     slots: &mut Slab<Slot>,
     wanted: Operation,
     handle: u32,

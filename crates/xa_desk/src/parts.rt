@@ -2,7 +2,7 @@
 ghost use Rattle.std.specs.Prelude.{◌≡◌, ◌+◌, ◌≤◌, [], length, IfOk};
 
 use crate::ledger::{Ledger, open_ledgers};
-use crate::operation::{Keys, MOST_SLOTS, Operation, Slot, reserve_keys};
+use crate::operation::{MOST_SLOTS, Operation, Slot, SlotKeys, reserve_keys};
 use crate::places::empty_places;
 use slab::Slab;
 use std::alloc::{AllocError, Global};
@@ -19,7 +19,7 @@ pub struct DeskParts {
     pub(crate) plan: u32,
     pub(crate) ledgers: Vec<Ledger>,
     pub(crate) slots: Slab<Slot>,
-    pub(crate) rows: Vec<Keys>,
+    pub(crate) rows: Vec<SlotKeys>,
     pub(crate) kept: Vec<Option<Operation>>,
     pub(crate) ends: Vec<Ended<Request>>,
 }

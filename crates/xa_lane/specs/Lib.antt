@@ -2,7 +2,7 @@ pub mod Order
 pub mod Ends
 pub mod Closing
 pub mod Senders
-pub mod Seats
+pub mod EndSeats
 -- The words of this crate, by its name.
 pub use Order.{Delivers, Fits, IsMade, Popped, Tied, Within, after_deal, after_get, after_join, after_put, dealt, log}
 pub use Order.{made_in, marks, of_sender, put_of, receiver_learns, sender_learns, sent_in, taken_in, told_in, wrote}
@@ -12,7 +12,7 @@ pub use Ends.{taken_of}
 pub use Closing.{AreKnown, Conserves, Covers, EndsLast, IsWhole, IsWhy, LeavesNothing, has_end, items_in, kept, left_of}
 pub use Closing.{told_of}
 pub use Senders.{at_place, bare, but_full, sent_at, with_full, with_item}
-pub use Seats.{EndSeat, end_seat}
+pub use EndSeats.{EndSeat, end_seat}
 pub use declared.name.LaneName.{LaneName}
 pub use declared.order.Log.{Log}
 pub use declared.order.View.{View}

@@ -10,7 +10,7 @@ ghost use Rattle.xa_lane.specs.Closing.{IsWhole, told_of, items_in, Covers, has_
 
 use crate::ended::Ended;
 use crate::name::LaneName;
-use crate::order::{Gets, Line, TakesIn, View};
+use crate::order::{Gets, ParcelQueue, TakesIn, View};
 use crate::parcel::Parcel;
 use crossbeam_queue::Pass;
 use std::sync::Wait;
@@ -47,7 +47,7 @@ pub(crate) fn are_whole<T: Copy>(ended: &Vec<Ended<T>>, senders: usize) -> bool
 
 // The receiver's pass takes the senders in, one after another.
 pub(crate) fn take_in<T: Copy>(
-    line: &Line<T>,
+    line: &ParcelQueue<T>,
     mut pass: Pass<Parcel<T>, View<T>>,
     ended: Vec<Ended<T>>,
 ) -> Pass<Parcel<T>, View<T>>
@@ -65,7 +65,7 @@ pub(crate) fn take_in<T: Copy>(
 // Pops until the queue is found empty. With all senders taken in, nothing can be put any more.
 pub(crate) fn drain<T: Copy, R: Wait>(
     rt: &R,
-    line: &Line<T>,
+    line: &ParcelQueue<T>,
     mut pass: Pass<Parcel<T>, View<T>>,
     mut left: Vec<(usize, T)>,
 ) -> Vec<(usize, T)>

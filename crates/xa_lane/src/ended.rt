@@ -5,7 +5,7 @@ ghost use Rattle.xa_lane.specs.declared.order.View.TheVariants.{Sends};
 ghost use Rattle.xa_lane.specs.Closing.{told_of};
 
 use crate::name::LaneName;
-use crate::order::{Line, View};
+use crate::order::{ParcelQueue, View};
 use crate::parcel::Parcel;
 use crossbeam_queue::Pass;
 use std::alloc::Global;
@@ -15,7 +15,7 @@ use std::sync::Arc;
 /// A sender that has put its end mark, after all that it sent.
 #[derive(Drop)]
 pub struct Ended<T: Copy> {
-    pub(crate) line: Arc<Line<T>, Global>,
+    pub(crate) line: Arc<ParcelQueue<T>, Global>,
     pub(crate) pass: Pass<Parcel<T>, View<T>>,
     pub(crate) name: LaneName,
     pub(crate) index: usize,

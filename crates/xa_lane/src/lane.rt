@@ -6,7 +6,7 @@ ghost use Rattle.xa_lane.specs.Closing.{IsWhole, Conserves, EndsLast, LeavesNoth
 use crate::closing::{are_of, are_whole, drain, take_in};
 use crate::ended::Ended;
 use crate::name::LaneName;
-use crate::order::{Deals, Line};
+use crate::order::{Deals, ParcelQueue};
 use crate::receiver::Receiver;
 use crate::sender::Sender;
 use std::alloc::{AllocError, Global};
@@ -83,7 +83,7 @@ fn new_lane<T: Copy>(
 {
     let left = Vec::with_capacity(alloc, MOST_QUEUED)?;
     let mut ends = Vec::with_capacity(alloc, senders)?;
-    let (queue, mut pass) = Line::ruled(alloc, capacity)?;
+    let (queue, mut pass) = ParcelQueue::ruled(alloc, capacity)?;
     let line = Arc::new(alloc, queue)?;
     for index in 0..senders {
         let mine = line.another::<Deals>(&mut pass);

@@ -91,4 +91,4 @@ impl<T> Lesson<Parcel<T>, View<T>> for Gets {
     ghost fact = { receiver_learns };
 }
 
-pub type Line<T> = RuledArrayQueue<Parcel<T>, View<T>, InOrder>;
+pub type ParcelQueue<T> = RuledArrayQueue<Parcel<T>, View<T>, InOrder>;

@@ -3,7 +3,7 @@ ghost use Rattle.std.specs.Prelude.{◌≡◌};
 ghost use Rattle.xa_lane.specs.Ends.{Took, SameReceiver, answer_of};
 
 use crate::name::LaneName;
-use crate::order::{Gets, Line, View};
+use crate::order::{Gets, ParcelQueue, View};
 use crate::parcel::{Parcel, Taken};
 use crossbeam_queue::Pass;
 use std::alloc::Global;
@@ -13,7 +13,7 @@ use std::sync::{Arc, Wait};
 /// The receiver of a lane.
 #[derive(Drop)]
 pub struct Receiver<T: Copy> {
-    pub(crate) line: Arc<Line<T>, Global>,
+    pub(crate) line: Arc<ParcelQueue<T>, Global>,
     pub(crate) pass: Pass<Parcel<T>, View<T>>,
     pub(crate) name: LaneName,
     pub(crate) senders: usize,

@@ -4,7 +4,7 @@ ghost use Rattle.xa_lane.specs.Ends.{counted, SameSender};
 
 use crate::ended::Ended;
 use crate::name::LaneName;
-use crate::order::{Line, Puts, View};
+use crate::order::{ParcelQueue, Puts, View};
 use crate::parcel::{Full, Parcel};
 use crossbeam_queue::Pass;
 use std::alloc::Global;
@@ -14,7 +14,7 @@ use std::sync::{Arc, Wait};
 /// A sender of a lane.
 #[derive(Drop)]
 pub struct Sender<T: Copy> {
-    pub(crate) line: Arc<Line<T>, Global>,
+    pub(crate) line: Arc<ParcelQueue<T>, Global>,
     pub(crate) pass: Pass<Parcel<T>, View<T>>,
     pub(crate) name: LaneName,
     pub(crate) index: usize,

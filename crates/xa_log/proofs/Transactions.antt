@@ -1,7 +1,7 @@
 -- The order of global transactions is total, and what several logs have that are read as one.
-use Rattle.xa_base.proofs.{◌≡◌, ℤ, ℕ, Bool, List, true, ap, sym, nat_cmp, eq_by_cmp, is_eq, tied_itself, is_equal, int_cmp, Decides, IsTotalOrder, slice_cmp}
-use Rattle.xa_base.proofs.{IsAntisymmetric, then_total, on_total, same_from_decides, cond, is_some, false, [], ◌∷◌, ◌++◌, refl, ◌∙◌, Option, Some, None, find}
-use Rattle.xa_base.proofs.{get-from_entries, All, flat_map, option_or, All-head, All-tail}
+use Rattle.xa_base.proofs.{or_none, ◌≡◌, ℤ, ℕ, Bool, List, true, ap, sym, nat_cmp, eq_by_cmp, is_eq, tied_itself, is_equal, int_cmp, Decides, IsTotalOrder}
+use Rattle.xa_base.proofs.{slice_cmp, IsAntisymmetric, then_total, on_total, same_from_decides, cond, is_some, false, [], ◌∷◌, ◌++◌, refl, ◌∙◌, Option, Some}
+use Rattle.xa_base.proofs.{None, find, get-from_entries, All, flat_map, option_or, All-head, All-tail}
 use Rattle.std.specs.Cmp.{int_cmp_total}
 use Rattle.std.specs.Cmp.Lexicographic.{nat_list_cmp_total}
 use Rattle.std.proofs.lemmas.Map.Lookups.{exact_pairs, exact_signed, exact_bytes}
@@ -51,10 +51,6 @@ pub more_logs : (r : Records) (rs : List Records) (t : TranName) → record_in (
 more_logs r rs t =
     get-from_entries tran_cmp_total (map.entries r ++ flat_map map.entries rs) t ∙ find_both t (map.entries r) (flat_map map.entries rs)
     ∙ (λ i. option_or (sym (get-entries r t) i) (sym (get-from_entries tran_cmp_total (flat_map map.entries rs) t) i))
-
-or_none : (a b : Option (List Bool)) → b ≡ None → option_or a b ≡ a
-or_none None b e = e
-or_none (Some x) b e = refl
 
 none_of : (rs : List Records) (t : TranName) → All (λ r. record_in r t ≡ None) rs → record_in (all_records rs) t ≡ None
 none_of [] t none = no_log t

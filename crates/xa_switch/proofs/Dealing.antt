@@ -1,17 +1,16 @@
 -- Rows that are dealt into columns: ends of lanes by desk and by worker, as an opening makes them and as they are gathered again.
-use Rattle.xa_base.proofs.{contains_map, ◌≡◌, ℕ, zero, suc, ◌+◌, ◌<◌, ◌≤◌, List, [], ◌∷◌, ◌++◌, length, map, set, get_or, slice_get, drop, refl, sym, ap, arith}
-use Rattle.xa_base.proofs.{length-append, inl, inr, Some, All, get_or-map as get_or-map', length-map, option_map, into_iter_items, into_iter_len}
-use Rattle.xa_base.proofs.{slice_get_within, slice_get-map, slice_get-get_or, got_push, map-append, All-map, all_unmapped, ◌∙◌, replicate, vec_capacity}
-use Rattle.xa_base.proofs.{AllPairs, get_or-set_other, next_place, taken_next, ◌≢◌, All-append, all_left, map-set, length-replicate, get_or_append_left}
-use Rattle.xa_base.proofs.{All-permutation, Contains, Contains-append_left, Contains-append_right, get_or-replicate, flat_map, Option, None, All-nil, All-cons}
-use Rattle.xa_base.proofs.{append-nil, append_assoc, same_Some, Bool, ◌==◌, ◌&&◌, false, and_parts, eqb-true, eq-eqb, both_ways, false_from_ne_true, nat_tests}
-use Rattle.xa_base.proofs.{All-contains, Contains-get_or}
+use Rattle.xa_base.proofs.{pairs_append, next_left, contains_map, ◌≡◌, ℕ, zero, suc, ◌+◌, ◌<◌, ◌≤◌, List, [], ◌∷◌, ◌++◌, length, map, set, get_or, slice_get}
+use Rattle.xa_base.proofs.{drop, refl, sym, ap, arith, length-append, inl, inr, Some, All, get_or-map as get_or-map', length-map, option_map, into_iter_items}
+use Rattle.xa_base.proofs.{into_iter_len, slice_get_within, slice_get-map, slice_get-get_or, got_push, map-append, All-map, all_unmapped, ◌∙◌, replicate}
+use Rattle.xa_base.proofs.{vec_capacity, AllPairs, get_or-set_other, next_place, taken_next, ◌≢◌, All-append, all_left, map-set, length-replicate}
+use Rattle.xa_base.proofs.{get_or_append_left, All-permutation, Contains, Contains-append_left, Contains-append_right, get_or-replicate, flat_map, Option, None}
+use Rattle.xa_base.proofs.{All-nil, All-cons, append-nil, append_assoc, same_Some, Bool, ◌==◌, ◌&&◌, false, and_parts, eqb-true, eq-eqb, both_ways}
+use Rattle.xa_base.proofs.{false_from_ne_true, nat_tests, All-contains, Contains-get_or}
 use Rattle.std.specs.Option.{option_to_list}
 use Rattle.std.specs.declared.vec.IntoIter.{IntoIter}
 use Rattle.xa_switch.specs.{put_row, Each, lane_to, AreNewLanes, dealt, column, HasTaken, HasRoom, TakesIn, Gathered, DeskSeat, WorkerSeat, AreTogether}
 use Rattle.xa_switch.specs.{AreApartDesks, AreApartWorkers, ComeFromOpenings, AreSomeOf, openings_of}
 use Rattle.xa_lane.specs.{LaneName, QueueId, Sending, Receiving, new_sender, new_senders, new_receiver}
-use Rattle.std.proofs.lemmas.List.Kept.{AllPairs-cons}
 use Rattle.std.proofs.lemmas.Map.Keys.{IsDistinct-IsPermutation, IsDistinct-from_apart, apart_from_distinct}
 use Rattle.xa_tables.specs.{IsOpening}
 
@@ -67,13 +66,6 @@ room_stays cap C D most same room = all_unmapped cap (λ n. most ≤ n) D (rw sa
 
 -- ---- a list that is taken from its front
 
--- what is left behind k elements begins with element k
-pub next_left : {X : Type 0} (xs ys : List X) (k : ℕ) (x : X) → drop k xs ≡ x ∷ ys → (slice_get xs k ≡ Some x) × (drop (k + 1) xs ≡ ys)
-next_left [] ys zero x e = cc
-next_left [] ys (suc k) x e = cc
-next_left (z ∷ zs) ys zero x e = let f : z ≡ x = cc in let g : zs ≡ ys = cc in (ap Some f, g)
-next_left (z ∷ zs) ys (suc k) x e = search (arith, next_left zs ys k x e)
-
 -- what is still to come of xs is what is left behind as many as were yielded of another list
 pub record IsLeft {X Y Z : Type 0} (xs : List X) (yielded : List Y) (it : IntoIter X Z) : Type 0 where
   pub items : into_iter_items it ≡ drop (length yielded) xs
@@ -115,10 +107,6 @@ module _ {T : Type 0} where
       search (arith, length_senders, sender_at, slice_get, r.line, length-append, each_push, length_put, put_cases, got_push, slice_get_within)
 
 -- ---- ends of lanes that are dealt by row into the column of their lane
-
-pub pairs_mid : {X : Type 0} (R : X → X → Type 0) (xs : List X) (x : X) (ys : List X) → AllPairs R (xs ++ x ∷ ys) → All (R x) ys
-pairs_mid R [] x ys h = λ k d below. h 0 (suc k) d (omega arith) (omega arith)
-pairs_mid R (y ∷ xs) x ys h = pairs_mid R xs x ys (λ i j d lt below. h (suc i) (suc j) d (omega arith) (omega arith))
 
 module _ {X : Type 0} where
   pub length_dealt : (C rows : List (List X)) → length (dealt C rows) ≡ length C
@@ -270,12 +258,6 @@ some_come ds ds' ws ws' some_ds some_ws h = record {
 }
 
 -- ---- several openings
-
-pairs_append : {X : Type 0} (R : X → X → Type 0) (xs ys : List X) → AllPairs R xs → AllPairs R ys → All (λ x. All (R x) ys) xs → AllPairs R (xs ++ ys)
-pairs_append R [] ys a b c = b
-pairs_append R (x ∷ xs) ys a b c =
-    AllPairs-cons R x (xs ++ ys) (All-append (R x) xs ys (pairs_mid R [] x xs a) (c 0 x (omega arith)))
-    (pairs_append R xs ys (λ i k d lt below. a (suc i) (suc k) d (omega (arith, lt)) (omega (arith, below))) b (λ k d below. c (suc k) d (omega (arith, below))))
 
 -- the number of a piece is among those of its opening
 of_desk : (ds : List DeskSeat) (ws : List WorkerSeat) (k : ℕ) (d : DeskSeat) → k < length ds → Contains (openings_of ds ws) (get_or ds k d).lane.opening

@@ -7,7 +7,7 @@ use Rattle.xa_base.proofs.{was_mapped, rules, ℤ, pos, ◌+ℤ◌, unwrap_or, B
 use Rattle.xa_base.proofs.{get_or-range_with_len, total_same, total_alike, total_both, total_nothing, total_across, range_all, got_map, cases_order}
 use Rattle.xa_base.proofs.{IsPermutation, IsPermutation-sym, IsPermutation-map, Contains-permutation, All-permutation, map-map as map-map}
 use Rattle.xa_desk.specs.{LedgerView, EndedView, is_known, sent_to, collected_from, DeskView, numbered}
-use Rattle.xa_worker.specs.{Served, Entry, requests, Asking, asked, of_sender_thread, of_own_thread, IsServed, IsOrdered, codes_in, WorkerView}
+use Rattle.xa_worker.specs.{Served, Entry, requests, RequestLane, asked, of_sender_thread, of_own_thread, IsServed, IsOrdered, codes_in, WorkerView}
 use Rattle.xa_switch.specs.{has_worker, ManagerPart, ReadyPart, find_manager, settling, manager_part, ready_part, IsWhole, managers_in, parts_of, find_ready}
 use Rattle.xa_switch.specs.{has_desk, FollowsTables, Agree, IsSettled, ledgers_in, journal_in, ThreadPart, column, IsClosed, desk_lane, worker_lane}
 use Rattle.xa_switch.specs.{thread_part, taken_by, IsOpenedWith, IsSumOver, first_of, history, Settling, AreApartDesks, AreApartWorkers, ComeFromOpenings}
@@ -103,7 +103,7 @@ module _ (ds : List EndedView) (ws : List Served) (j : Joint ds ws) (rs : All (�
     (cs : All (λ r. IsClosed r.1 (column (completion_columns ws) r.0)) (map desk_lane ds)) where
   requests_closed : (w : Served) → Contains ws w → IsClosed w.receiver (column (request_columns ds) (w.number - 1))
   requests_closed w cw =
-      All-contains (λ (r : ℕ × Asking). IsClosed r.1 (column (request_columns ds) r.0)) (map worker_lane ws) (worker_lane w) rs (contains_map worker_lane ws w cw)
+      All-contains (λ (r : ℕ × RequestLane). IsClosed r.1 (column (request_columns ds) r.0)) (map worker_lane ws) (worker_lane w) rs (contains_map worker_lane ws w cw)
 
   completions_closed : (d : EndedView) → Contains ds d → IsClosed d.completions (column (completion_columns ws) (d.thread - 1))
   completions_closed d cd =

@@ -6,9 +6,9 @@ use Rattle.std.specs.List.Sorted.{IsPermutation}
 use Rattle.xa_tables.specs.Openings.{IsOpening}
 use Rattle.xa_desk.specs.Ended.{EndedView}
 use Rattle.xa_worker.specs.Done.{Served}
-pub use Rattle.xa_lane.specs.Seats.{EndSeat, end_seat}
-pub use Rattle.xa_desk.specs.Seats.{DeskSeat, desk_seat, seat_of_desk, seat_of_ended}
-pub use Rattle.xa_worker.specs.Seats.{WorkerSeat, worker_seat, seat_of_worker, seat_of_done}
+pub use Rattle.xa_lane.specs.EndSeats.{EndSeat, end_seat}
+pub use Rattle.xa_desk.specs.DeskSeats.{DeskSeat, desk_seat, seat_of_desk, seat_of_ended}
+pub use Rattle.xa_worker.specs.WorkerSeats.{WorkerSeat, worker_seat, seat_of_worker, seat_of_done}
 use Rattle.xa_switch.specs.declared.settling.Why.{Why}
 use Rattle.xa_switch.specs.declared.settling.Why.TheVariants.{NoMemory, Stranger, Missing}
 

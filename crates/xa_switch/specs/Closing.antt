@@ -8,7 +8,7 @@ use Rattle.xa_lane.specs.Ends.{Sending, Receiving}
 use Rattle.xa_lane.specs.Closing.{IsWhole, Conserves, LeavesNothing, AreKnown, items_in}
 use Rattle.xa_tables.specs.Histories.{History}
 use Rattle.xa_desk.specs.Ended.{EndedView}
-use Rattle.xa_worker.specs.Workers.{Asking}
+use Rattle.xa_worker.specs.Workers.{RequestLane}
 use Rattle.xa_worker.specs.Done.{Served}
 use Rattle.xa_switch.specs.Columns.{put_row}
 use Rattle.xa_switch.specs.Settled.{ThreadPart, ManagerPart, ReadyPart, Settling}
@@ -42,7 +42,7 @@ pub record IsClosed {T : Type 0} (r : Receiving T) (ends : List (Sending T)) : T
 abbrev pub desk_lane : EndedView → ℕ × Receiving Completion
 desk_lane d = (d.thread - 1, d.completions)
 
-abbrev pub worker_lane : Served → ℕ × Asking
+abbrev pub worker_lane : Served → ℕ × RequestLane
 worker_lane w = (w.number - 1, w.receiver)
 
 -- what becomes part of a settled opening

@@ -8,7 +8,7 @@ use Rattle.xa_lane.specs.Ends.{Sending, Receiving}
 use Rattle.xa_desk.specs.DeskViews.{DeskView}
 use Rattle.xa_desk.specs.Lanes.{PartsView, AreEnds, AreNew, new_desk}
 use Rattle.xa_worker.specs.Outgoing.{Answering}
-use Rattle.xa_worker.specs.Workers.{Reserved, Asking, WorkerView, new_worker}
+use Rattle.xa_worker.specs.Workers.{Reserved, RequestLane, WorkerView, new_worker}
 use Rattle.xa_tables.specs.ManagerTables.{Tables}
 use Rattle.xa_tables.specs.Openings.{IsOpening}
 use Rattle.xa_tables.specs.Managers.{Managed}
@@ -50,11 +50,12 @@ DesksFit parts columns receivers = (k : ℕ) (p : PartsView) (c : List (Sending 
 
 -- manager k has the room of part k and a lane for each of its at most 8 threads in receiver k and in column k, and
 -- nothing was taken from them and sent on them
-pub record WorkersFit (parts : List Reserved) (managers : List Managed) (receivers : List Asking)
+pub record WorkersFit (parts : List Reserved) (managers : List Managed) (receivers : List RequestLane)
     (columns : List (List Answering)) : Type 0 where
   pub memory : (k : ℕ) (p : Reserved) (m : Managed) → slice_get parts k ≡ Some p → slice_get managers k ≡ Some m
       → (m.room ≡ p.room) × (m.threads ≤ MOST_THREADS)
-  pub requests : (k : ℕ) (m : Managed) (r : Asking) → slice_get managers k ≡ Some m → slice_get receivers k ≡ Some r
+  pub requests : (k : ℕ) (m : Managed) (r : RequestLane) → slice_get managers k ≡ Some m
+      → slice_get receivers k ≡ Some r
       → (r.senders ≡ m.threads) × (r.taken ≡ [])
   pub completions : (k : ℕ) (m : Managed) (c : List Answering) → slice_get managers k ≡ Some m
       → slice_get columns k ≡ Some c → (length c ≡ m.threads) × All (λ s. s.sent ≡ []) c
@@ -71,11 +72,11 @@ pub record IsDeskOf (parts : List PartsView) (columns : List (List (Sending Requ
   pub made : d ≡ new_desk part requests completions
 
 -- worker k is made of part k, manager k, receiver k and column k
-pub record IsWorkerOf (parts : List Reserved) (managers : List Managed) (receivers : List Asking)
+pub record IsWorkerOf (parts : List Reserved) (managers : List Managed) (receivers : List RequestLane)
     (columns : List (List Answering)) (k : ℕ) (w : WorkerView) : Type 0 where
   pub part : Reserved
   pub manager : Managed
-  pub requests : Asking
+  pub requests : RequestLane
   pub senders : List Answering
   pub part_at : slice_get parts k ≡ Some part
   pub manager_at : slice_get managers k ≡ Some manager

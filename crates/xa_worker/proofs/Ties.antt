@@ -7,8 +7,8 @@ use Rattle.xa_words.specs.{Request, Completion}
 use Rattle.xa_tables.specs.{Tables, next, codes, tables_after, History, Managed}
 use Rattle.xa_worker.specs.{Entry, entry_next, tables_next, Follows, completion_of, owed, asked, of_sender_thread, IsTied, working_of, IsWorker, Inside}
 use Rattle.xa_worker.specs.{Answering, WorkerView, SameWorker, Served, SameServed, seat_of_worker, seat_of_done, IsTold, Paces, applied, SameLanes, Puts}
-use Rattle.xa_worker.specs.{flushed, put_to, Asking, IsUnfit, IsFinished, Extends, of_own_thread, in_hand, new_worker, Step, Did, Late, EndSeen, Empty, Blocked}
-use Rattle.xa_worker.specs.{EntersOne, Stepped, step_of, served, IsServed}
+use Rattle.xa_worker.specs.{flushed, put_to, RequestLane, IsUnfit, IsFinished, Extends, of_own_thread, in_hand, new_worker, Step, Did, Late, EndSeen, Empty}
+use Rattle.xa_worker.specs.{Blocked, EntersOne, Stepped, step_of, served, IsServed}
 use Rattle.xa_lane.specs.{Parcel, Receiving, Took, taken_of, parcel, has_mark, has_ended, items_in, bare, Item, EndOf, Empty as Nothing, but_full}
 use Rattle.xa_worker.specs.Outgoing.{Outgoing}
 use Rattle.xa_worker.proofs.Lanes.{same_eqb, length-lanes, lanes-flushed, none-flushed, lanes-puts, put-puts}
@@ -91,7 +91,7 @@ module _ {P : Type 0} (by : Request → P → P → Type 0) where
 
 -- ---- what each kind of step keeps of a worker
 
-pub tied_new : (number : ℕ) (manager : Managed) (receiver : Asking) (senders : List Answering) → receiver.senders ≡ manager.threads
+pub tied_new : (number : ℕ) (manager : Managed) (receiver : RequestLane) (senders : List Answering) → receiver.senders ≡ manager.threads
     → length senders ≡ manager.threads → receiver.taken ≡ []
     → ((i : ℕ) (d : Answering) → i < length senders → (get_or senders i d).sent ≡ []) → IsTied (new_worker number manager receiver senders)
 tied_new number manager receiver senders threads lanes taken none = search (arith, append-nil, nothing_sent)
@@ -101,7 +101,7 @@ module _ (w : WorkerView) (o : Outgoing) (same : SameLanes w.out.senders o.sende
   pub tied_out : IsTied (record w { out = o })
   tied_out = search (arith, length-lanes)
 
-  module _ (r' : Asking) where
+  module _ (r' : RequestLane) where
     pub tied_nothing : Took w.receiver Nothing r' → IsTied (record w { receiver = r'; out = o })
     tied_nothing took = search (arith, length-lanes)
 
@@ -113,7 +113,7 @@ module _ (w : WorkerView) (o : Outgoing) (same : SameLanes w.out.senders o.sende
       before = t.taken ∙ ap (λ h. map of_own_thread w.journal ++ in_hand h) none ∙ append-nil (map of_own_thread w.journal)
 
       after : asked r'.taken ≡ map of_own_thread w.journal ++ (s + 1, r) ∷ []
-      after = ap (λ (x : Asking). asked x.taken) took.1 ∙ asked_item w.receiver.taken s r ∙ ap (λ xs. xs ++ (s + 1, r) ∷ []) before
+      after = ap (λ (x : RequestLane). asked x.taken) took.1 ∙ asked_item w.receiver.taken s r ∙ ap (λ xs. xs ++ (s + 1, r) ∷ []) before
 
       pub tied_hold : IsUnfit s r w.manager.room → IsTied (record w { receiver = r'; out = o; held = Some (s, r) })
       tied_hold unfit = search (arith, after, length-lanes)
@@ -136,12 +136,12 @@ module _ (w : WorkerView) (o : Outgoing) (same : SameLanes w.out.senders o.sende
                 ∙ ap (λ b. owed w.number (k + 1) w.journal ++ cond b (c ∷ []) []) (same_eqb (r.thread - 1) k r.thread (k + 1) (λ q. omega (arith, thread)) (λ q. omega (arith, thread)))
                 ∙ sym (owed-more w.number (k + 1) w.journal e) ∙ ap (owed w.number (k + 1)) (sym entered);
             held = rw none tt;
-            senders = ap (λ (x : Asking). x.senders) took.1 ∙ t.senders ∙ sym threads;
+            senders = ap (λ (x : RequestLane). x.senders) took.1 ∙ t.senders ∙ sym threads;
             lanes = length-lanes o.senders p.senders lanes ∙ length-lanes w.out.senders o.senders same ∙ t.lanes ∙ sym threads;
           }
 
 -- the completion that waited was sent, and then a request was taken and carried out
-pub tied_carried : (w : WorkerView) (o : Outgoing) (r' : Asking) (s : ℕ) (r : Request) (m : Managed) (p : Outgoing) (journal : List Entry) → IsTied w
+pub tied_carried : (w : WorkerView) (o : Outgoing) (r' : RequestLane) (s : ℕ) (r : Request) (m : Managed) (p : Outgoing) (journal : List Entry) → IsTied w
     → o ≡ flushed w.out → ((k : ℕ) → put_to k o ≡ put_to k w.out) → w.held ≡ None
     → Took w.receiver (Item s r) r' → r.thread ≡ s + 1 → m ≡ applied r w.manager → journal ≡ w.journal ++ entry_next r w.manager.tables ∷ []
     → Puts o (r.thread - 1) (completion_of w.number (entry_next r w.manager.tables)) p

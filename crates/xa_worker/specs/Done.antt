@@ -7,7 +7,7 @@ use Rattle.xa_lane.specs.Ends.{SameReceiver, received, has_ended}
 use Rattle.xa_lane.specs.Senders.{sent_at}
 use Rattle.xa_worker.specs.Journal.{Entry, Follows, requests, owed}
 use Rattle.xa_worker.specs.Outgoing.{Answering, SameLanes}
-use Rattle.xa_worker.specs.Workers.{WorkerView, Asking, Extends, asked, of_own_thread}
+use Rattle.xa_worker.specs.Workers.{WorkerView, RequestLane, Extends, asked, of_own_thread}
 
 -- a worker that has run: its manager's number, the tables that the manager was given with, the manager, the lane of
 -- requests, the ends of the lanes of completions, and the journal
@@ -15,12 +15,12 @@ pub record Served : Type 0 where
   pub number : ℕ
   pub first : Tables
   pub manager : Managed
-  pub receiver : Asking
+  pub receiver : RequestLane
   pub ends : List Answering
   pub journal : List Entry
 
 -- the same by its parts
-abbrev pub served : ℕ → Tables → Managed → Asking → List Answering → List Entry → Served
+abbrev pub served : ℕ → Tables → Managed → RequestLane → List Answering → List Entry → Served
 served number first manager receiver ends journal =
     record { number = number; first = first; manager = manager; receiver = receiver; ends = ends; journal = journal }
 

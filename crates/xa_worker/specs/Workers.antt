@@ -20,8 +20,8 @@ first_tables [] = opening []
 first_tables (p ∷ rest) = p.1.tables
 
 -- the lane that a worker takes requests from
-abbrev pub Asking : Type 0
-Asking = Receiving Request
+abbrev pub RequestLane : Type 0
+RequestLane = Receiving Request
 
 -- a worker: its manager's number, the tables that the manager was given with, the manager, the lane of requests, the
 -- lanes of completions, the journal, and a request that was taken and can't be carried out, with its sender's number
@@ -29,7 +29,7 @@ pub record WorkerView : Type 0 where
   pub number : ℕ
   pub first : Tables
   pub manager : Managed
-  pub receiver : Asking
+  pub receiver : RequestLane
   pub out : Outgoing
   pub journal : List Entry
   pub held : Option (ℕ × Request)
@@ -94,7 +94,7 @@ pub record IsFinished (w : WorkerView) : Type 0 where
   pub ended : (s : ℕ) → s < w.manager.threads → has_ended s w.receiver.taken ≡ true
 
 -- a worker that has taken and sent nothing
-abbrev pub new_worker : ℕ → Managed → Asking → List Answering → WorkerView
+abbrev pub new_worker : ℕ → Managed → RequestLane → List Answering → WorkerView
 new_worker number manager receiver senders =
     record {
       number = number;

@@ -3,7 +3,7 @@ ghost use Rattle.std.specs.Prelude.{◌≡◌, ◌<◌, ◌≤◌, ◌++◌, ◌
 ghost use Rattle.xa_words.specs.declared.code.Code as Code;
 ghost use Rattle.xa_worker.specs.Journal.{entry_next, applied, completion_of};
 ghost use Rattle.xa_worker.specs.Outgoing.{Puts};
-ghost use Rattle.xa_worker.specs.Steps.{step_of};
+ghost use Rattle.xa_worker.specs.WorkerSteps.{step_of};
 
 use crate::outbox::Outbox;
 use crate::step::Step;

@@ -1,9 +1,9 @@
 //! One manager's worker.
 ghost use Rattle.std.specs.Prelude.{◌≡◌, ◌↔◌, ◌≤◌, [], length, All, IsTrue};
 ghost use Rattle.xa_worker.specs.Workers.{IsTied, IsFinished, SameWorker, new_worker};
-ghost use Rattle.xa_worker.specs.Steps.{Stepped, Paces};
+ghost use Rattle.xa_worker.specs.WorkerSteps.{Stepped, Paces};
 ghost use Rattle.xa_worker.specs.Done.{IsServed, SameServed};
-ghost use Rattle.xa_worker.specs.Seats.{seat_of_worker, seat_of_done};
+ghost use Rattle.xa_worker.specs.WorkerSeats.{seat_of_worker, seat_of_done};
 ghost use Rattle.xa_worker.specs.Inner.{AreSet};
 
 use crate::carry::carry_out;

@@ -8,7 +8,7 @@ ghost use Rattle.xa_switch.specs.Closing.{desk_lane, worker_lane, thread_part, r
 ghost use Rattle.xa_switch.specs.Closing.{HasTaken, TakesIn};
 
 use crate::columns::{deal, reserve_columns};
-use crate::settling::settled::{Carried, Thread};
+use crate::settling::settled::{Carried, EndedThread};
 use std::alloc::{AllocError, Global};
 use std::snapshot::Snapshot;
 use xa_base::MOST_SENDERS;
@@ -26,7 +26,7 @@ pub(crate) struct Gathered<E: Drop, R: Drop, P: Drop> {
     pub(crate) parts: Vec<P>,
 }
 
-pub(crate) type GatheredDesks = Gathered<Ended<Request>, Receiver<Completion>, Thread>;
+pub(crate) type GatheredDesks = Gathered<Ended<Request>, Receiver<Completion>, EndedThread>;
 
 pub(crate) type GatheredWorkers = Gathered<Ended<Completion>, Receiver<Request>, Carried>;
 
@@ -85,7 +85,7 @@ pub(crate) fn take_desks(desks: Vec<EndedDesk>, mut room: GatheredDesks) -> Gath
             ledgers,
         } = desk.apart();
         let lane = (number as usize - 1, completions);
-        room = room.take_in(requests, lane, Thread { number, ledgers });
+        room = room.take_in(requests, lane, EndedThread { number, ledgers });
     }
     room
 }

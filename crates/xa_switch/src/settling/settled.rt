@@ -23,12 +23,12 @@ use xa_worker::DoneWorker;
 
 /// What a thread's desk leaves.
 #[derive(Drop)]
-pub(crate) struct Thread {
+pub(crate) struct EndedThread {
     pub(crate) number: u32,
     pub(crate) ledgers: Vec<Ledger>,
 }
 
-impl Model for Thread {
+impl Model for EndedThread {
     ghost use Rattle.xa_switch.specs.Settled.{ThreadPart};
 
     ghost Value = { ThreadPart };
@@ -36,7 +36,7 @@ impl Model for Thread {
     ghost view = { λ t. record { thread = t.number; ledgers = t.ledgers.items } };
 }
 
-impl Thread {
+impl EndedThread {
     fn number(&self) -> u32
         ensures { result ≡ self.now.thread }
     {
@@ -133,7 +133,7 @@ impl Carried {
 #[derive(Drop)]
 pub struct Settled {
     pub(crate) opening: u64,
-    pub(crate) threads: Vec<Thread>,
+    pub(crate) threads: Vec<EndedThread>,
     pub(crate) managers: Vec<Carried>,
 }
 
@@ -165,7 +165,7 @@ impl Model for Settled {
     }) };
 }
 
-fn find_thread_part(threads: &[Thread], thread: u32) -> Option<&Thread>
+fn find_thread_part(threads: &[EndedThread], thread: u32) -> Option<&EndedThread>
     ensures { option_map (λ t. t.now) result ≡ find_thread thread threads.now }
 {
     threads.iter().find(|part| part.number() == thread)
@@ -185,7 +185,7 @@ pub(crate) fn find_carried(managers: &[Carried], manager: u32) -> Option<&Carrie
     find_ready(managers, manager)
 }
 
-fn ledgers(threads: &[Thread], thread: u32) -> &[Ledger]
+fn ledgers(threads: &[EndedThread], thread: u32) -> &[Ledger]
     ensures { result.now ≡ ledgers_in (find_thread thread threads.now) }
 {
     match find_thread_part(threads, thread) {

@@ -1,6 +1,5 @@
 use Rattle.xa_base.proofs.{◌≡◌, ◌<◌, ℕ, suc, ◌+◌, false, Some, None, is_some, get_or, set, sym, ◌∙◌, refl, ap, arith, length, or-false, nat_cmp, length-set}
 use Rattle.xa_base.proofs.{is_missing, IsSome}
-use Rattle.std.specs.FinMap as map
 use Rattle.slab.specs.Slab.{get}
 use Rattle.xa_desk.specs.{Slot, ready_with, is_marked, HasSlot, logged}
 use Rattle.xa_desk.proofs.Books.{books_rehandled, Rehandles, loose_handle, rehandles_keep, kept_of-insert, least_free}

@@ -1,6 +1,6 @@
-use Rattle.xa_base.proofs.{◌-◌, None, sym, ◌∙◌, arith, get_or_read}
+use Rattle.xa_base.proofs.{IfSome_from, ◌-◌, None, sym, ◌∙◌, arith, get_or_read}
 use Rattle.xa_desk.specs.{IsOut}
-use Rattle.xa_desk.proofs.Books.{IfSome_from, get-kept_of_zero}
+use Rattle.xa_desk.proofs.Books.{get-kept_of_zero}
 use Rattle.xa_desk.proofs.book.Book.kept_at.Goals as goal
 
 pub returns-then-number-eq0-clause-kept : goal.returns-then-number-eq0-clause-kept

@@ -1,5 +1,4 @@
 use Rattle.xa_base.proofs.{◌-◌, None, is_some, set, ◌∙◌, refl, arith, nat_cmp, length-set}
-use Rattle.std.specs.FinMap as map
 use Rattle.xa_desk.specs.{logged, IsBooks, ready_with}
 use Rattle.xa_desk.proofs.Books.{books_rehandled, Rehandles, kept_place, KeptPlace, kept_handle, rehandles_release, kept_of-remove, loose_from_handle}
 use Rattle.xa_desk.proofs.KeyRows.{keys_kept, marks_set}

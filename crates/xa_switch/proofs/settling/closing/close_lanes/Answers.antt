@@ -1,7 +1,7 @@
-use Rattle.xa_base.proofs.{get_or-map as get_or-map', ◌≡◌, ◌≢◌, ◌<◌, ℕ, suc, List, get_or, ◌∷◌, ◌++◌, length, map, arith, sym, ap, ◌∙◌, All, into_iter_items}
-use Rattle.xa_base.proofs.{length-set, All-push, all_mid, taken_next}
+use Rattle.xa_base.proofs.{pairs_mid, get_or-map as get_or-map', ◌≡◌, ◌≢◌, ◌<◌, ℕ, suc, List, get_or, ◌∷◌, ◌++◌, length, map, arith, sym, ap, ◌∙◌, All}
+use Rattle.xa_base.proofs.{into_iter_items, length-set, All-push, all_mid, taken_next}
 use Rattle.xa_switch.specs.{column, IsClosable, IsClosed}
-use Rattle.xa_switch.proofs.Dealing.{pairs_mid, column_kept}
+use Rattle.xa_switch.proofs.Dealing.{column_kept}
 use Rattle.xa_switch.proofs.settling.closing.close_lanes.Goals as goal
 
 -- the next receiver's column is there, and as it was

@@ -1,7 +1,7 @@
 use Rattle.xa_base.proofs.{◌≡◌, inl, inr, ◌<◌, ◌-◌, ◌∙◌, sym, ap, refl, arith, length, length-append, length-set, is_missing, is_there}
 use Rattle.xa_lane.specs.{has_ended}
 use Rattle.xa_tables.specs.{Managed}
-use Rattle.xa_worker.specs.{SameLanes, Asking, IsUnfit, working_of}
+use Rattle.xa_worker.specs.{SameLanes, RequestLane, IsUnfit, working_of}
 use Rattle.xa_worker.specs.Outgoing.{Outgoing}
 use Rattle.xa_worker.proofs.Ties.{unentered, marked_end, ended_item, took_as, stepped_keeps, tied_out, tied_nothing, tied_end, tied_hold, tied_carried, stepped}
 use Rattle.xa_worker.proofs.Lanes.{lanes_flush, lanes-puts, lanes-chain, length-lanes}
@@ -56,7 +56,7 @@ invariant_of-self-in-None g c =
     let e = c.flush.ensures in
     let i = c.self.invariant in
     let took = c.in-None.ensures.took in
-    unentered _ _ i refl refl refl refl (λ s. ap (λ (r : Asking). has_ended s r.taken) took) (tied_nothing (working_of c.self.inside) c.flush.new.self (lanes_flush c.flush.result c.self.inside.out c.flush.new.self e.flushed) e.put i.tied c.take_parcel.new.self took)
+    unentered _ _ i refl refl refl refl (λ s. ap (λ (r : RequestLane). has_ended s r.taken) took) (tied_nothing (working_of c.self.inside) c.flush.new.self (lanes_flush c.flush.result c.self.inside.out c.flush.new.self e.flushed) e.put i.tied c.take_parcel.new.self took)
 
 pub returns-in-None-clause-same : goal.returns-in-None-clause-same
 returns-in-None-clause-same g c = search (arith, lanes_flush, c.flush.result, c.self.inside.out, c.flush.new.self)
@@ -112,7 +112,7 @@ invariant_of-self-then-request-parcel g c =
     let none = is_missing c.self.inside.held (sym c.is_some.ensures ∙ c.if-is_some.false) in
     let unfit : IsUnfit c.in-Some.parcel.from c.in-Some-item.request c.self.inside.manager.room =
     elim c.then-request-parcel.branch [ then-request-parcel-via-then-request-parcel w ↦ inl w.if-request-parcel.true | then-request-parcel-via-else-request-parcel+then-room-eq0 w ↦ inr (sym w.room.ensures ∙ w.if-room-eq0.true) ] in
-    unentered _ _ i refl refl refl refl (λ s. ap (λ (r : Asking). has_ended s r.taken) took.1 ∙ ended_item s c.in-Some.parcel.from c.self.inside.receiver.taken c.in-Some-item.request) (tied_hold (working_of c.self.inside) c.flush.new.self (lanes_flush c.flush.result c.self.inside.out c.flush.new.self e.flushed) e.put i.tied c.take_parcel.new.self c.in-Some.parcel.from c.in-Some-item.request none took unfit)
+    unentered _ _ i refl refl refl refl (λ s. ap (λ (r : RequestLane). has_ended s r.taken) took.1 ∙ ended_item s c.in-Some.parcel.from c.self.inside.receiver.taken c.in-Some-item.request) (tied_hold (working_of c.self.inside) c.flush.new.self (lanes_flush c.flush.result c.self.inside.out c.flush.new.self e.flushed) e.put i.tied c.take_parcel.new.self c.in-Some.parcel.from c.in-Some-item.request none took unfit)
 
 pub returns-then-request-parcel-clause-same : goal.returns-then-request-parcel-clause-same
 returns-then-request-parcel-clause-same g c = search (arith, lanes_flush, c.flush.result, c.self.inside.out, c.flush.new.self)

@@ -4,7 +4,7 @@ use Rattle.xa_words.specs.declared.request.Request.{Request}
 use Rattle.xa_words.specs.declared.request.Completion.{Completion}
 use Rattle.xa_lane.specs.declared.name.LaneName.{LaneName}
 use Rattle.xa_lane.specs.Ends.{QueueId, Sending, Receiving}
-use Rattle.xa_lane.specs.Seats.{EndSeat, end_seat}
+use Rattle.xa_lane.specs.EndSeats.{EndSeat, end_seat}
 use Rattle.xa_desk.specs.DeskViews.{DeskView}
 use Rattle.xa_desk.specs.Ended.{EndedView}
 

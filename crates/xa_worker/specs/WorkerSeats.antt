@@ -3,9 +3,9 @@ use Rattle.std.specs.Prelude.{ℕ, List, map}
 use Rattle.xa_tables.specs.ManagerTables.{Tables}
 use Rattle.xa_lane.specs.declared.name.LaneName.{LaneName}
 use Rattle.xa_lane.specs.Ends.{QueueId}
-use Rattle.xa_lane.specs.Seats.{EndSeat, end_seat}
+use Rattle.xa_lane.specs.EndSeats.{EndSeat, end_seat}
 use Rattle.xa_worker.specs.Outgoing.{Answering}
-use Rattle.xa_worker.specs.Workers.{Asking, WorkerView}
+use Rattle.xa_worker.specs.Workers.{RequestLane, WorkerView}
 use Rattle.xa_worker.specs.Done.{Served}
 
 -- of a worker: its manager, the tables that the manager was opened with, its ends of the lanes to the threads, by
@@ -18,7 +18,7 @@ pub record WorkerSeat : Type 0 where
   pub line : QueueId
 
 -- the seat of a worker by what it holds
-abbrev pub worker_seat : ℕ → Tables → List Answering → Asking → WorkerSeat
+abbrev pub worker_seat : ℕ → Tables → List Answering → RequestLane → WorkerSeat
 worker_seat m first senders receiver =
     record { number = m; first = first; ends = map end_seat senders; lane = receiver.lane; line = receiver.line }
 
