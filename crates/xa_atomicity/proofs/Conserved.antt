@@ -3,7 +3,7 @@ use Rattle.xa_base.proofs.{none_all, [], slice_get_past, ne_eqb, or_from, cases_
 use Rattle.xa_base.proofs.{◌+◌, ◌-◌, ◌<◌, ◌≤◌, true, false, if◌then◌else◌, List, ◌∷◌, length, length-append, get_or, sym, refl, ap, ◌∙◌, arith, list_any}
 use Rattle.xa_base.proofs.{range_with_len, ints, +ℤ_idl as none_plus, +ℤ_idr as plus_none, contains_at, range_all, total_alike, total_both, total_nothing}
 use Rattle.xa_base.proofs.{All-contains, inl, inr, cases_eq}
-use Rattle.xa_driver.specs.{Done, is_commit, Branch, Ending, is_no, IsCommit, AreBranchesRising, has_branch_at, HasSentNoCommit, NoCommitWasSent}
+use Rattle.xa_driver.specs.{Done, is_commit, Branch, Ending, is_no, IsCommit, AreBranchesRising, has_branch_at, HasSentNone, NoCommitWasSent, sent_so_far}
 use Rattle.xa_base.specs.{total}
 use Rattle.xa_words.specs.{XidName, Request, Code}
 use Rattle.xa_tables.specs.{Tables, are_accounts, opening, tables_after, moved, held_by, is_of, HoldsItsAdditions, History}
@@ -12,8 +12,8 @@ use Rattle.xa_desk.proofs.Ledgers.{growing_on, same_lists}
 use Rattle.xa_switch.specs.{Plan, IsSoundManager, IsSettled, sent, IsOpenedWith, ledgers_of, history, threads_of, managers_of, accounts_in, accounts_of}
 use Rattle.xa_switch.specs.{plan_worth, settled_worth, WorthIsOfThreads, Settling, moved_by}
 use Rattle.xa_log.specs.{LogState}
-use Rattle.xa_atomicity.specs.{is_in_doubt, EachOutcome, AreLeftAlone, has_committed, is_rolled_back, is_heuristic, is_left, is_read_only, sent_so_far}
-use Rattle.xa_atomicity.specs.{taken_before, added_before, added_by_all, total_in_doubt, held_in_doubt, OnlyTransfers, opened, worked, committed, Tabled}
+use Rattle.xa_atomicity.specs.{is_in_doubt, EachOutcome, AreLeftAlone, has_committed, is_rolled_back, is_heuristic, is_left, is_read_only, taken_before}
+use Rattle.xa_atomicity.specs.{added_before, added_by_all, total_in_doubt, held_in_doubt, OnlyTransfers, opened, worked, committed, Tabled}
 use Rattle.xa_atomicity.specs.Outcomes.{is_committed}
 use Rattle.xa_atomicity.proofs.Values.{within_parts, is_within, moved_parted, moved_without, moved_alike, moved_nothing}
 use Rattle.xa_atomicity.proofs.Sites.{all_earlier}
@@ -84,7 +84,7 @@ module _ (law : Tabled) (opens : (s : Settling) (m : ℕ) → IsSettled s → (T
   quiet_between : (at later : List LedgerView) → HaveGrown later (ledgers_of s t) → NoCommitWasSent at later → (m : ℕ) → 1 ≤ m
       → moved_in m (count at m) (count later m) ≡ pos 0
   quiet_between at later grown none m positive =
-      let since : HasSentNoCommit (ledger at m) (ledger later m) = none m positive in
+      let since : HasSentNone is_commit (ledger at m) (ledger later m) = none m positive in
       moved_without (accounts_of p m) (is_within t (count at m) (count later m)) (history s m) (opening (accounts_of p m)) (λ k d lt here.
       let w = within_parts t (count at m) (count later m) (get_or (history s m) k d) here in
       sent_between s settled t m positive (λ op. is_commit op ≡ false) (ledger at m) (ledger later m) since.more since.sent (none_all is_commit since.more since.none) (grown.each m positive) k d lt w.0 w.1 w.2)

@@ -1,24 +1,24 @@
 -- What a branch stands at as the opening ends in which its commit was cut short.
-use Rattle.xa_base.proofs.{[], rules, false_from_ne_true, ◌≡◌, ℕ, inl, inr, Bool, true, false, if◌then◌else◌, List, ◌∷◌, ◌++◌, length, length-append}
+use Rattle.xa_base.proofs.{contains_on, [], rules, false_from_ne_true, ◌≡◌, ℕ, inl, inr, Bool, true, false, List, ◌∷◌, ◌++◌, length, length-append}
 use Rattle.xa_base.proofs.{append_assoc, slice_get, get_or, sym, refl, ap, ◌∙◌, arith, Option, Some, None, All, Contains, All-contains, All-head, some_same}
-use Rattle.xa_base.proofs.{all_after, at_true, all_left, ◌<◌, slice_get_within, both_ways, Contains-push}
+use Rattle.xa_base.proofs.{all_after, at_true, all_left, ◌<◌, slice_get_within, both_ways, Contains-push, ◌⊎◌, ⊎_elim}
 use Rattle.xa_base.specs.{Begins}
 use Rattle.xa_words.specs.{XidName, Done, RmFail, Op, Prepare, Request, Code}
 use Rattle.xa_words.proofs.Xids.{xid_self}
 use Rattle.xa_tables.specs.{HeuristicDecision, State, is_left_in, decision_code, next, Fate, decided_fate, fate, last_or, tables_after, names, Tables, History}
 use Rattle.xa_desk.specs.{LedgerView, learnt_shut, with_sent, with_collected}
-use Rattle.xa_driver.specs.{Branch, Ending, IsBegun, asked, collected, in_flight, unasked, is_decided, second_op, third_op, outcome_op}
-use Rattle.xa_atomicity.specs.{IsAsked, IsEnded, IsTold, IsBetween, OnlyTheseOrDecisionsName, told_fate}
+use Rattle.xa_driver.specs.{Branch, Ending, IsBegun, asked, collected, in_flight, unasked, is_decided, second_op, third_op, outcome_op, voted}
+use Rattle.xa_atomicity.specs.{DidOther, IsAsked, IsEnded, IsTold, IsBetween, DidOnly, OnlyTheseOrDecisionsName, told_fate}
 use Rattle.xa_driver.proofs.Mapped.{IsAskedFor, any_asked, Any}
 use Rattle.xa_tables.proofs.ValueLaw.{tables_after-append}
 use Rattle.xa_tables.specs.Histories as history
-use Rattle.xa_atomicity.proofs.CutVotes.{vote_there, HasVoted, ended_voted, first_is, forget_sends, other_sends, prepare_sent, told_voted}
+use Rattle.xa_atomicity.proofs.CutVotes.{vote_there, HasVoted, ended_voted, first_is, forget_sends, prepare_sent, told_voted}
 use Rattle.xa_atomicity.proofs.Guided.{ends, leaves, tells, AtEnd, Comes, once, IsGuided, at_last, fate_any, fates_from, guided_after, stands_now, told_there}
 use Rattle.xa_atomicity.proofs.Leading.{waits, unforgotten, over, IsTowards, Stands, ends_towards}
 use Rattle.xa_atomicity.proofs.Sites.{Site, StandsIn, above, at_place, below, later_place, fates, request_of, same_code, at_seam, IsFromTo, own_sent}
 use Rattle.xa_atomicity.proofs.OneOutcome.{is_told_decision, second_so, third_so}
 use Rattle.xa_atomicity.proofs.Courses.{yes_wanted}
-use Rattle.xa_atomicity.proofs.Resolves.{Sends, contains_on}
+use Rattle.xa_atomicity.proofs.Resolves.{sends_for}
 
 -- ---- what was sent
 
@@ -37,33 +37,26 @@ module _ (commit : Bool) (L : Type 0) (x : XidName) where
   not_first sent [] all e = absurd (omega (arith, slice_get_within (sent ++ []) (length sent) (Prepare x) e, length-append sent []))
   not_first sent (op ∷ more) all e = search (arith, some_same, at_seam, All-head, xid_self)
 
-  unprepared : (a a' : LedgerView) → Sends (IsTowards commit L x) a a' → slice_get a'.sent (length a.sent) ≡ Some (Prepare x) → ⊥
+  unprepared : (a a' : LedgerView) → DidOnly (IsTowards commit L x) a a' → slice_get a'.sent (length a.sent) ≡ Some (Prepare x) → ⊥
   unprepared a a' z first = not_first a.sent z.more z.all (ap (λ l. slice_get l (length a.sent)) (sym z.sent) ∙ first)
 
-  after_prepare : (a left a' : LedgerView) → left.sent ≡ a.sent ++ Prepare x ∷ [] → Sends (IsTowards commit L x) left a' → HasSentOnly commit L x a a'
-  after_prepare a left a' is z = record { rest = z.more; sent = z.sent ∙ ap (λ l. l ++ z.more) is ∙ append_assoc a.sent (Prepare x ∷ []) z.more; all = z.all }
+-- a request that was begun was sent, or nothing was done
+begun_sent : (op : Op) (a a' : LedgerView) → IsBegun (Some op) a a' → (a' ≡ a) ⊎ (a'.sent ≡ a.sent ++ op ∷ [])
+begun_sent op a a' (unasked e) = inl e
+begun_sent op a a' (in_flight o is open_ e) = search (arith, some_same)
+begun_sent op a a' (collected None tr) = absurd tr.answered
+begun_sent op a a' (collected (Some c) tr) = search (arith, tr.trace)
 
 -- where it was asked to prepare
 pub asked_only : (commit : Bool) (L : Type 0) (b : Branch) (a a' : LedgerView) → IsAsked b a a' → slice_get a'.sent (length a.sent) ≡ Some (Prepare b.xid)
     → HasSentOnly commit L b.xid a a'
-asked_only commit L b a a' z first = begun z.asks
-  where
-    rest : Sends (IsTowards commit L b.xid) z.left a'
-    rest = other_sends (IsTowards commit L b.xid) b.xid z.left a' (other_towards commit L b.xid) z.after
-
-    unsent : z.left ≡ a → HasSentOnly commit L b.xid a a'
-    unsent e = absurd (unprepared commit L b.xid a a' (rw e at rest) first)
-
-    begun : IsBegun (Some (Prepare b.xid)) a z.left → HasSentOnly commit L b.xid a a'
-    begun (unasked e) = unsent e
-    begun (in_flight o is open_ e) =
-        after_prepare commit L b.xid a z.left a' (ap (λ (l : LedgerView). l.sent) e ∙ ap (λ (p : Op). a.sent ++ p ∷ []) (sym (some_same (Prepare b.xid) o is))) rest
-    begun (collected None tr) = absurd tr.answered
-    begun (collected (Some c) tr) =
-        elim (learnt_shut a) as (λ q. z.left ≡ (if q then a else with_collected (with_sent a (Prepare b.xid)) (length a.sent) c) → HasSentOnly commit L b.xid a a') [
-          | true ↦ unsent
-          | false ↦ λ e. after_prepare commit L b.xid a z.left a' (ap (λ (l : LedgerView). l.sent) e) rest
-        ] tr.trace
+asked_only commit L b a a' z first =
+    let P : Op → Type 0 = IsTowards commit L b.xid in
+    let rest : DidOnly P z.left a' = sends_for (λ op. names b.xid op ≡ false) P (other_towards commit L b.xid) z.left a' z.after in
+    ⊎_elim (λ (same : z.left ≡ a). absurd (unprepared commit L b.xid a a' (rw same at rest) first))
+    (λ (is : z.left.sent ≡ a.sent ++ Prepare b.xid ∷ []).
+    record { rest = rest.more; sent = rest.sent ∙ ap (λ l. l ++ rest.more) is ∙ append_assoc a.sent (Prepare b.xid ∷ []) rest.more; all = rest.all })
+    (begun_sent (Prepare b.xid) a z.left z.asks)
 
 -- ---- a vote that was collected
 
@@ -93,8 +86,8 @@ pub told_voted_so : (commit : Bool) (L : Type 0) (b : Branch) (v : Code) (a a' :
     → HasVoted (IsTowards commit L b.xid) b v a a'
 told_voted_so commit L b v a a' = told_voted (IsTowards commit L b.xid) commit b v a a' (other_towards commit L b.xid) (second_towards commit L b.xid v)
 
-pub ended_voted_so : (commit : Bool) (L : Type 0) (b : Branch) (v : Code) (s : Option Code) (a a' : LedgerView) → (is_told_decision s ≡ true → L)
-    → IsEnded commit b v s a a' → HasVoted (IsTowards commit L b.xid) b v a a'
+pub ended_voted_so : (commit : Bool) (L : Type 0) (b : Branch) (v : Code) (s : Option Code) {e : Ending} (a a' : LedgerView) → (is_told_decision s ≡ true → L)
+    → IsEnded commit b v s e a a' → HasVoted (IsTowards commit L b.xid) b v a a'
 ended_voted_so commit L b v s a a' may = search (arith, ended_voted, other_towards, second_towards, third_so, b.xid)
 
 -- The second request of a branch was sent after its Prepare, and was told a code.
@@ -104,24 +97,28 @@ pub record WasTold (commit : Bool) (x : XidName) (c : Code) (a a' : LedgerView) 
   pub sent : slice_get a'.sent number ≡ Some (outcome_op commit x)
   pub told : Contains a'.collected (number, c)
 
-pub was_told : (commit : Bool) (b : Branch) (v c : Code) (a a' : LedgerView) → IsEnded commit b v (Some c) a a' → learnt_shut a ≡ false → v ≡ Done
+pub was_told : (commit : Bool) (b : Branch) (v c : Code) {e : Ending} (a a' : LedgerView) → IsEnded commit b v (Some c) e a a' → learnt_shut a ≡ false
+    → v ≡ Done
     → is_decided c ≡ true → WasTold commit b.xid c a a'
 was_told commit b v c a a' z open_ agreed decided =
     let x : XidName = b.xid in
     let op : Op = outcome_op commit x in
     let wanted : second_op commit x v ≡ Some op = ap (second_op commit x) agreed ∙ yes_wanted commit x in
-    let refused : learnt_shut z.start ≡ true → c ≡ RmFail = rw wanted at z.seconded in
-    let open_now : learnt_shut z.start ≡ false = search (arith, false_from_ne_true, both_ways) in
-    let two : LedgerView = with_collected (with_sent z.start op) (length z.start.sent) c in
-    let is_two : asked z.start (second_op commit x v) (Some c) ≡ two = search (arith, rules) in
-    let last : Sends Any two a' =
-    rw is_two at (forget_sends Any commit b v a a' (λ _ _. tt) (any_asked (second_op commit x v)) (Some c) (any_asked (third_op x (Some c))) z) in
-    let first : z.start.sent ≡ a.sent ++ Prepare x ∷ z.between.more = search (arith, first_is, append_assoc, a.sent) in
+    let start : LedgerView = z.obeyed.tells.start in
+    let second = z.obeyed.tells.last in
+    let between : DidOther x (voted b v a) start = rw z.obeyed.prepares.trace at z.obeyed.tells.between in
+    let refused : learnt_shut start ≡ true → c ≡ RmFail = rw wanted at second.answered in
+    let open_now : learnt_shut start ≡ false = search (arith, false_from_ne_true, both_ways) in
+    let two : LedgerView = with_collected (with_sent start op) (length start.sent) c in
+    let is_two : asked start (second_op commit x v) (Some c) ≡ two = search (arith, rules) in
+    let last : DidOnly Any two a' =
+    rw (second.trace, is_two) at (forget_sends Any commit b v a a' (λ _ _. tt) (any_asked (second_op commit x v)) (Some c) (any_asked (third_op x (Some c))) z) in
+    let first : start.sent ≡ a.sent ++ Prepare x ∷ between.more = search (arith, first_is, append_assoc, a.sent) in
     record {
-      number = length z.start.sent;
-      later = let e = ap length first in omega (arith, e, length-append a.sent (Prepare x ∷ z.between.more));
-      sent = ap (λ l. slice_get l (length z.start.sent)) (last.sent ∙ append_assoc z.start.sent (op ∷ []) last.more) ∙ at_seam z.start.sent op last.more;
-      told = contains_on two.collected a'.collected (length z.start.sent, c) last.collected (Contains-push z.start.collected (length z.start.sent, c));
+      number = length start.sent;
+      later = let e = ap length first in omega (arith, e, length-append a.sent (Prepare x ∷ between.more));
+      sent = ap (λ l. slice_get l (length start.sent)) (last.sent ∙ append_assoc start.sent (op ∷ []) last.more) ∙ at_seam start.sent op last.more;
+      told = contains_on two.collected a'.collected (length start.sent, c) last.collected (Contains-push start.collected (length start.sent, c));
     }
 
 -- It ended as was decided, or was left, in doubt or decided by itself; or a decision was ended, and then its ending tells it.
@@ -157,15 +154,13 @@ module _ {t : ℕ} {T : Tables} {H : History} (s : Site t T H) (x : XidName) (a 
 
     -- whatever its fate was before
     any_so : StandsIn t n (Prepare x) Done T H → (g k : Fate) → last_or g (fates x H T) ≡ last_or k (fates x H T)
-    any_so f g k =
-        fate_any s.law commit (Unit {0}) L t n x T H s.opening f.before f.after f.place (sym f.code) (guide Done f) g
-        ∙ sym (fate_any s.law commit (Unit {0}) L t n x T H s.opening f.before f.after f.place (sym f.code) (guide Done f) k)
+    any_so f g k = fate_any s commit (Unit {0}) L f (guide Done f) g ∙ sym (fate_any s commit (Unit {0}) L f (guide Done f) k)
 
     pub sent_fates : StandsIn t n (Prepare x) Done T H → (g : Fate) (before after : History) → H ≡ before ++ request_of t n (Prepare x) ∷ after
         → fates x (request_of t n (Prepare x) ∷ after) (tables_after before T) ≡ history.InDoubt ∷ once (fate x g H T)
     sent_fates f g before after place =
         let there = at_place s n (Prepare x) Done f before after place in
-        fates_from s.law commit (Unit {0}) L t n x T H s.opening before after place (sym there.code) (guide Done there) tt g
+        fates_from s commit (Unit {0}) L there (guide Done there) tt g
 
     -- where its second request was told a decision, that is its fate
     pub told_fate_is : StandsIn t n (Prepare x) Done T H → (k : ℕ) → n < k → (c : Code) → StandsIn t k (outcome_op commit x) c T H
@@ -182,10 +177,10 @@ module _ {t : ℕ} {T : Tables} {H : History} (s : Site t T H) (x : XidName) (a 
         let code : (next t (outcome_op commit x) (tables_after later.mid now)).1 ≡ decision_code d =
         sym (second.code ∙ ap (λ (h : History). (next t (outcome_op commit x) (tables_after h T)).1) later.before ∙ ap
         (λ (U : Tables). (next t (outcome_op commit x) U).1) (tables_after-append f.before (P1 ∷ later.mid) T)) ∙ e in
-        s.law.leaves H x g T ∙ fate_any s.law commit (Unit {0}) L t n x T H s.opening f.before f.after f.place (sym f.code) all g
+        s.law.leaves H x g T ∙ fate_any s commit (Unit {0}) L f all g
         ∙ told_there commit (Unit {0}) L t k x now f.after later.mid second.after history.InDoubt later.after s.law
         (guided_after commit (Unit {0}) L x later.mid now history.InDoubt (all_left Q later.mid (S ∷ second.after) parts)
-        (stands_now s.law commit (Unit {0}) L t n x T H s.opening f.before f.after f.place (sym f.code) all tt))
+        (stands_now s commit (Unit {0}) L f all tt))
         (all_after Q later.mid S second.after parts) d code
 
     -- so where each decision that is ended is told by its ending
@@ -193,6 +188,6 @@ module _ {t : ℕ} {T : Tables} {H : History} (s : Site t T H) (x : XidName) (a 
         → (L → (d : HeuristicDecision) × (fate x g H T ≡ decided_fate d) × (told_fate e ≡ Some (decided_fate d)))
         → AtEnd commit (Unit {0}) K x (fate x g H T) H T e
     sent_end f e K g told = record {
-      comes = comes_so commit K L _ _ e told (at_last s.law commit (Unit {0}) L t n x T H s.opening f.before f.after f.place (sym f.code) (guide Done f) tt g).stands;
+      comes = comes_so commit K L _ _ e told (at_last s commit (Unit {0}) L f (guide Done f) tt g).stands;
       any = any_so f;
     }

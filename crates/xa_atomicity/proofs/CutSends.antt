@@ -1,25 +1,27 @@
--- What a commit sent that was cut short: by the record no Commit, or no Rollback. And what leaves the branches of a commit:
--- nothing, and requests of which none names them.
-use Rattle.xa_base.proofs.{none_all, arith, All-contains, ◌&&◌, is_some, ◌⊎◌, ◌≡◌, ℕ, ◌≤◌, Bool, true, false, ◌==◌, List, map, get_or, sym, refl, ap, ◌∙◌}
-use Rattle.xa_base.proofs.{subst, Some, None, All, eqb-true, list_any_none, all_unmapped, by_bool, ◌≢◌, ◌<◌, ◌++◌, length, ⊎_elim, Option, Contains, cases_lt}
-use Rattle.xa_base.proofs.{false_from_ne_true, and_left, and_right, true_from_ne_false, both_ways, Contains-get_or, Any-from_list_any}
-use Rattle.xa_driver.specs.{Prepared, Done, AreBranchesRising, IsTranOf, Logs, decision_of, Branch, Ending, Round, Decided, Ask, HaveComeSoFar, IsBegun}
-use Rattle.xa_driver.specs.{SameAsks, among_asks, is_commit, is_yes, yes_of, second_op, code_of, second_ask, yes_asked, HasDecided, HasPrepared, Outcome, Told}
-use Rattle.xa_driver.specs.{third_op, outcome_op, AsksLedger, first_ask, third_ask, HasTold, AtBranch, IsCommit}
+-- What a commit sent that was cut short goes by the record: no Commit without one, and no Rollback with one.
+use Rattle.xa_base.proofs.{none_all, arith, All-contains, ◌&&◌, is_some, ◌⊎◌, ◌≡◌, ℕ, ◌≤◌, Bool, true, false, ◌==◌, List, map, get_or, sym, refl, ap, ◌∙◌, Some}
+use Rattle.xa_base.proofs.{None, All, eqb-true, all_unmapped, by_bool, ◌≢◌, ◌<◌, ◌++◌, length, ⊎_elim, Option, Contains, cases_lt, false_from_ne_true, and_left}
+use Rattle.xa_base.proofs.{and_right, true_from_ne_false, both_ways, Contains-get_or, Any-from_list_any}
+use Rattle.xa_driver.specs.{Prepared, Done, AreBranchesRising, IsTranOf, Logs, decision_of, Branch, Ending, Decided, Ask, HaveComeSoFar, IsBegun, SameAsks}
+use Rattle.xa_driver.specs.{among_asks, is_commit, is_yes, yes_of, second_op, code_of, second_ask, yes_asked, HasSentNone, HasDecided, HasPrepared, Outcome}
+use Rattle.xa_driver.specs.{Told, third_op, outcome_op, AsksLedger, first_ask, third_ask, HasTold, AtBranch, IsCommit}
 use Rattle.xa_words.specs.{XidName, TranName, Op, Prepare, Forget, Code, xid_eq, Decides-xid_eq}
 use Rattle.xa_tables.specs.{names}
 use Rattle.xa_desk.specs.{LedgerView, DeskView, ledger, HaveGrown}
-use Rattle.xa_atomicity.specs.{CameSoFar, GoesByTheRecord, HasSentNone, IsCut, NoneWasToldToCommit, NoneWasToldToRollBack, is_recorded, is_rollback, AreOthers}
-use Rattle.xa_atomicity.specs.{DidOther, LeavesBranches, IsDone, IsOutcomeOf, ResolveCall, resolves}
+use Rattle.xa_atomicity.specs.{CameSoFar, GoesByTheRecord, IsCut, NoneWasToldToCommit, NoneWasToldToRollBack, is_recorded, is_rollback, AreOthers, DidOther}
+use Rattle.xa_atomicity.specs.{DidOnly, LeavesBranches, IsDone, IsOutcomeOf, ResolveCall, resolves}
 use Rattle.xa_log.specs.{LogState, record_of}
 use Rattle.xa_driver.proofs.Requests.{carried}
-use Rattle.xa_driver.proofs.Mapped.{IsAskedFor, branch_by}
-use Rattle.xa_driver.proofs.Calls.{one_tran}
+use Rattle.xa_driver.proofs.Mapped.{IsAskedFor, branch_mapped}
+use Rattle.xa_driver.proofs.Calls.{one_tran, seconds_are}
 use Rattle.xa_base.specs.{MOST_MANAGERS}
-use Rattle.xa_atomicity.proofs.CutVotes.{CameAt, IsVoteOf, each_came, at_asking, at_forgetting, at_telling, begun_sends, ended_voted, other_sends, told_voted}
-use Rattle.xa_atomicity.proofs.CutVotes.{did_nothing, all_sent}
+use Rattle.xa_atomicity.proofs.CutVotes.{CameAt, IsVoteOf, each_came, at_asking, at_forgetting, at_telling, begun_sends, ended_voted, told_voted, did_nothing}
+use Rattle.xa_atomicity.proofs.CutVotes.{all_sent}
 use Rattle.xa_atomicity.proofs.OneOutcome.{recorded_is, none_on_abort, second_so, third_so, every_manager, positive_all}
-use Rattle.xa_atomicity.proofs.Resolves.{Sends, on, stays, asks_on, resolve_sends}
+use Rattle.xa_atomicity.proofs.Resolves.{on, stays, sends_on, resolve_sends, sends_for, sent_none}
+
+abbrev pub Unnamed : XidName → Op → Type 0
+Unnamed x op = names x op ≡ false
 
 -- ---- what isn't among what was sent
 
@@ -40,8 +42,8 @@ module _ (bad : Op → Bool) (prepares : (x : XidName) → bad (Prepare x) ≡ f
   other_good : (x : XidName) (op : Op) → names x op ≡ false → Good x op
   other_good x op = and_left (names x op) (bad op)
 
-  none_sent : (b : Branch) → Sends (Good b.xid) (ledger old b.m) (ledger new b.m) → None_ b
-  none_sent b z = record { more = z.more; sent = z.sent; none = list_any_none (λ op. names b.xid op && bad op) z.more z.all }
+  none_sent : (b : Branch) → DidOnly (Good b.xid) (ledger old b.m) (ledger new b.m) → None_ b
+  none_sent b = sent_none (λ op. names b.xid op && bad op) (ledger old b.m) (ledger new b.m)
 
   none_bad : {tran : TranName} {bs : List Branch} {log later : LogState} {es : List Ending} → AreBranchesRising 0 bs → CameSoFar tran bs old new log later es
       → ((votes : List Code) (logged : Bool) → Logs tran (yes_of bs votes) votes logged log later → All (Ok (decision_of votes logged)) votes) → All None_ bs
@@ -56,11 +58,11 @@ module _ (bad : Op → Bool) (prepares : (x : XidName) → bad (Prepare x) ≡ f
       at_branch b (at_asking same h) =
           none_sent b (on (Good b.xid) (ledger old b.m) h.left (ledger new b.m)
           (begun_sends (Good b.xid) (Some (Prepare b.xid)) (ledger old b.m) h.left (good_so b.xid (Prepare b.xid) (prepares b.xid)) h.asks)
-          (other_sends (Good b.xid) b.xid h.left (ledger new b.m) (other_good b.xid) h.after))
+          (sends_for (Unnamed b.xid) (Good b.xid) (other_good b.xid) h.left (ledger new b.m) h.after))
       at_branch b (at_telling votes logged logs v vote h) =
           none_sent b (all_sent (Good b.xid) b v (ledger old b.m) (ledger new b.m) (good_so b.xid (Prepare b.xid) (prepares b.xid))
           (told_voted (Good b.xid) (decision_of votes logged) b v (ledger old b.m) (ledger new b.m) (other_good b.xid) (second votes logged logs b v vote) h))
-      at_branch b (at_forgetting votes logged logs v vote z h known) =
+      at_branch b (at_forgetting votes logged logs v vote z h) =
           none_sent b (all_sent (Good b.xid) b v (ledger old b.m) (ledger new b.m) (good_so b.xid (Prepare b.xid) (prepares b.xid))
           (ended_voted (Good b.xid) (decision_of votes logged) b v (ledger old b.m) (ledger new b.m) (other_good b.xid) (second votes logged logs b v vote) z
           (third_so (Good b.xid) b.xid z (λ _. good_so b.xid (Forget b.xid) (forgets b.xid))) h))
@@ -110,9 +112,9 @@ module _ (bs : List Branch) (desk : DeskView) (new : List LedgerView) (log later
 
 -- what a round sent that asks for nothing else
 pub sends_so_far : (P : Op → Type 0) (m : ℕ) → 1 ≤ m → (ks : List Ask) (at now : List LedgerView) → All (λ k. IsAskedFor P k.op) ks → HaveComeSoFar ks at now
-    → Sends P (ledger at m) (ledger now m)
+    → DidOnly P (ledger at m) (ledger now m)
 sends_so_far P m positive ks at now good far =
-    by_bool (λ _. Sends P (ledger at m) (ledger now m)) (among_asks ks m)
+    by_bool (λ _. DidOnly P (ledger at m) (ledger now m)) (among_asks ks m)
     (λ here.
     let (k, j, below, at_k, same) = Any-from_list_any (λ (j : Ask). j.manager == m) ks here in
     let begun : IsBegun j.op (ledger at j.manager) (ledger now j.manager) = All-contains
@@ -121,23 +123,14 @@ sends_so_far P m positive ks at now good far =
     (rw (eqb-true j.manager m same) at begun))
     (λ other. rw (far.others m positive other) (stays P (ledger at m)))
 
--- the second round is of what the first asked
-pub seconds_are : {p : Prepared} {log later : LogState} {d : Decided} (js : List Ask) → HasDecided p log later d
-    → SameAsks (map (second_ask d.known.commit) d.round.asks.items) js → SameAsks (map (second_ask d.known.commit) p.round.asks.items) js
-seconds_are {p} {log} {later} {d} js second = subst (λ (r : Round). SameAsks (map (second_ask d.known.commit) r.asks.items) js) second.round
-
 pub second_round_sends : (bs : List Branch) (start mid : List LedgerView) (log later : LogState) (p : Prepared) (d : Decided) (js : List Ask) (at now : List LedgerView)
     → HasPrepared bs start mid p → record_of log p.tran ≡ None → HasDecided p log later d
     → SameAsks (map (second_ask d.known.commit) d.round.asks.items) js → HaveComeSoFar js at now → GoesByTheRecord (is_recorded later p.tran) at now
 second_round_sends bs start mid log later p d js at now first absent second same far = record {
   unrecorded = λ off m positive.
-      let z =
-      goes is_commit NotToCommit no_commit_so (rw decision (undecided_so p.tran log later absent (map code_of p.round.asks.items) d.known.logged (yes_asked p.round.asks.items) logs off)) m positive in
-      record { more = z.more; sent = z.sent; none = list_any_none is_commit z.more z.all };
+      sent_none is_commit (ledger at m) (ledger now m) (goes is_commit NotToCommit no_commit_so (rw decision (undecided_so p.tran log later absent (map code_of p.round.asks.items) d.known.logged (yes_asked p.round.asks.items) logs off)) m positive);
   recorded = λ on m positive.
-      let z =
-      goes is_rollback (λ commit v. commit ≡ true) no_rollback_so (λ k e lt. decision ∙ decided_so p.tran log later absent (map code_of p.round.asks.items) d.known.logged (yes_asked p.round.asks.items) logs on) m positive in
-      record { more = z.more; sent = z.sent; none = list_any_none is_rollback z.more z.all };
+      sent_none is_rollback (ledger at m) (ledger now m) (goes is_rollback (λ commit v. commit ≡ true) no_rollback_so (λ k e lt. decision ∙ decided_so p.tran log later absent (map code_of p.round.asks.items) d.known.logged (yes_asked p.round.asks.items) logs on) m positive);
 }
   where
     decision : d.known.commit ≡ decision_of (map code_of p.round.asks.items) d.known.logged
@@ -149,7 +142,7 @@ second_round_sends bs start mid log later p d js at now first absent second same
     -- it sends nothing bad, where no second request of such votes is bad
     goes : (bad : Op → Bool) (Ok : Bool → Code → Type 0)
         → ((commit : Bool) (x : XidName) (v : Code) → Ok commit v → (P : Op → Type 0) → ((op : Op) → bad op ≡ false → P op) → IsAskedFor P (second_op commit x v))
-        → All (Ok d.known.commit) (map code_of p.round.asks.items) → (m : ℕ) → 1 ≤ m → Sends (λ op. bad op ≡ false) (ledger at m) (ledger now m)
+        → All (Ok d.known.commit) (map code_of p.round.asks.items) → (m : ℕ) → 1 ≤ m → DidOnly (λ op. bad op ≡ false) (ledger at m) (ledger now m)
     goes bad Ok good ok m positive =
         let P : Op → Type 0 = λ op. bad op ≡ false in
         let asked : All (λ j. IsAskedFor P j.op) js =
@@ -157,15 +150,6 @@ second_round_sends bs start mid log later p d js at now first absent second same
         sends_so_far P m positive js at now asked far
 
 -- ---- what doesn't name the branch
-
-abbrev pub Unnamed : XidName → Op → Type 0
-Unnamed x op = names x op ≡ false
-
-did_by : (x : XidName) (a a' : LedgerView) → Sends (Unnamed x) a a' → DidOther x a a'
-did_by x a a' z = record { more = z.more; sent = z.sent; others = z.all; collected = z.collected }
-
-did_on : (x : XidName) (a b c : LedgerView) → DidOther x a b → DidOther x b c → DidOther x a c
-did_on x a b c p q = did_by x a c (on (Unnamed x) a b c (other_sends (Unnamed x) x a b (λ op e. e) p) (other_sends (Unnamed x) x b c (λ op e. e) q))
 
 -- what a commit asks of another branch
 module _ (x y : XidName) (differs : y ≢ x) where
@@ -182,11 +166,10 @@ module _ (x y : XidName) (differs : y ≢ x) where
   third_unnamed s = third_so (Unnamed x) y s (λ _. apart)
 
   trace_sends : (commit : Bool) (c : Branch) (v : Code) (s : Option Code) (e : Ending) (a a' : LedgerView) → c.xid ≡ y → AtBranch AsksLedger commit c v s e a a'
-      → Sends (Unnamed x) a a'
+      → DidOnly (Unnamed x) a a'
   trace_sends commit c v s e a a' same is =
-      branch_by AsksLedger (Unnamed x) (Sends (Unnamed x) a) (λ d z op code so asked q. asks_on (Unnamed x) a d z op code so asked q) commit c v s e a a' is
-      (rw same (second_unnamed commit v)) (rw same (third_unnamed s))
-      (rw same apart) (stays (Unnamed x) a)
+      (branch_mapped (sends_on (Unnamed x) a) commit c v s e a a' is (rw same (second_unnamed commit v))
+      (rw same (third_unnamed s)) (rw same apart)).on (stays (Unnamed x) a)
 
 abbrev Others : XidName → List Branch → Type 0
 Others x cs = All (λ c. c.xid ≢ x) cs
@@ -204,7 +187,7 @@ module _ (x : XidName) where
 did_so_far : (x : XidName) (m : ℕ) → 1 ≤ m → (ks : List Ask) (at now : List LedgerView) → All (Clear x) ks → HaveComeSoFar ks at now
     → DidOther x (ledger at m) (ledger now m)
 did_so_far x m positive ks at now clear far =
-    did_by x (ledger at m) (ledger now m) (sends_so_far (Unnamed x) m positive ks at now (λ k d lt. (clear k d lt).1) far)
+    sends_so_far (Unnamed x) m positive ks at now (λ k d lt. (clear k d lt).1) far
 
 -- ---- all branches
 
@@ -236,14 +219,14 @@ module _ (bs cs : List Branch) (rising : AreBranchesRising 0 bs) (others : AreOt
   commit_leaves desk new log later done made = record {
     each = each_so desk.ledgers new (λ b positive o.
         every_manager (DidOther b.xid) (did_nothing b.xid) (λ c. c.xid ≢ b.xid) desk.ledgers new done
-        (λ c differs v s e a a' is. did_by b.xid a a' (trace_sends b.xid c.xid differs done.commit c v s e a a' refl is)) made.may.tran cs log later o made.trace b.m positive);
+        (λ c differs v s e a a' is. trace_sends b.xid c.xid differs done.commit c v s e a a' refl is) made.may.tran cs log later o made.trace b.m positive);
     managers = made.trace.managers;
   }
 
 -- ---- nothing, one after another, and whatever its caller knows
 
 pub leaves_on : (bs : List Branch) (old mid new : List LedgerView) → LeavesBranches bs old mid → LeavesBranches bs mid new → LeavesBranches bs old new
-leaves_on bs old mid new p q = record { each = λ k d lt. did_on _ _ _ _ (p.each k d lt) (q.each k d lt); managers = q.managers ∙ p.managers }
+leaves_on bs old mid new p q = record { each = λ k d lt. on _ _ _ _ (p.each k d lt) (q.each k d lt); managers = q.managers ∙ p.managers }
 
 pub unnamed_leaves : (bs : List Branch) (old new : List LedgerView) → AreBranchesRising 0 bs → HaveGrown old new → length new ≡ length old
     → All (λ b. (more : List Op) → (ledger new b.m).sent ≡ (ledger old b.m).sent ++ more → All (λ op. names b.xid op ≡ false) more) bs
@@ -251,7 +234,7 @@ pub unnamed_leaves : (bs : List Branch) (old new : List LedgerView) → AreBranc
 unnamed_leaves bs old new rising grown managers unnamed = record {
   each = λ k d lt.
       let g = grown.each (get_or bs k d).m (positive_all 0 bs rising k d lt) in
-      record { more = g.sent.0; sent = g.sent.1; others = unnamed k d lt g.sent.0 g.sent.1; collected = g.collected };
+      record { more = g.sent.0; sent = g.sent.1; all = unnamed k d lt g.sent.0 g.sent.1; collected = g.collected };
   managers = managers;
 }
 
@@ -265,9 +248,8 @@ resolve_leaves bs q rising made others =
     one b positive among =
         ⊎_elim (λ (past : MOST_MANAGERS < b.m). rw (made.course.others b.m past) (did_nothing b.xid (ledger q.old b.m)))
         (λ (within : b.m ≤ MOST_MANAGERS).
-        did_by b.xid (ledger q.old b.m) (ledger q.new b.m)
-        (resolve_sends q.scan q.records q.old q.new q.outcomes made (Unnamed b.xid) b.m (positive, within) refl (λ o there.
+        resolve_sends q.scan q.records q.old q.new q.outcomes made (Unnamed b.xid) b.m (positive, within) refl (λ o there.
         let differs : o.m ≡ b.m → o.xid ≢ b.xid =
         λ at same. All-contains (λ (r : Outcome). IsOutcomeOf bs r → ⊥) q.outcomes o others there (record { branch = b; among = among; manager = at; xid = same }) in
-        record { ends = λ at _. outcome_unnamed b.xid o.xid (differs at) o.commit; forgets = λ at _. apart b.xid o.xid (differs at) })))
+        record { ends = λ at _. outcome_unnamed b.xid o.xid (differs at) o.commit; forgets = λ at _. apart b.xid o.xid (differs at) }))
         (cases_lt MOST_MANAGERS b.m)

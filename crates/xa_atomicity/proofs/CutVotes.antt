@@ -1,7 +1,6 @@
--- What names a transaction in an opening where only resolves do; and the votes that a commit got which was cut short, and
--- what it leaves in the log.
-use Rattle.xa_base.proofs.{arith, ◌≡◌, ◌≢◌, ℕ, suc, ◌+◌, ◌≤◌, Bool, true, false, List, ◌∷◌, ◌++◌, length, append_assoc, refl, ap, ◌∙◌, Option, All, Contains}
-use Rattle.xa_base.proofs.{All-contains, ◌==◌, ◌||◌, zero, slice_get, ◌<◌, ◌&&◌, [], append-nil, get_or, sym, Some, unwrap_or, or-true, eq-eqb, ne_eqb}
+-- The votes that a commit got which was cut short, and what is left of them where only resolves name its transaction.
+use Rattle.xa_base.proofs.{contains_on, arith, ◌≡◌, ◌≢◌, ℕ, suc, ◌+◌, ◌≤◌, Bool, true, false, List, ◌∷◌, ◌++◌, length, append_assoc, refl, ap, ◌∙◌, Option, All}
+use Rattle.xa_base.proofs.{Contains, All-contains, ◌==◌, ◌||◌, zero, slice_get, ◌<◌, ◌&&◌, [], get_or, Some, unwrap_or, or-true, eq-eqb, ne_eqb}
 use Rattle.xa_base.proofs.{false_from_ne_true, or_from, eqb-true, begins_on, all_mid, same_begins, Contains-append_right, All-nil, All-cons, at_false}
 use Rattle.xa_base.proofs.{both_ways, Contains-push}
 use Rattle.xa_base.specs.{MOST_MANAGERS, IsUpTo, Begins}
@@ -10,16 +9,16 @@ use Rattle.xa_tables.specs.{History, of_thread, names}
 use Rattle.xa_desk.specs.{LedgerView, ledger, HasGrown, numbered, learnt_shut, with_sent, with_collected, HaveGrown, DeskView}
 use Rattle.xa_switch.specs.{Settling, IsSettled, sent, ledgers_of, history as history_of}
 use Rattle.xa_driver.specs.{Done, Branch, Ending, Outcome, AsksLedger, outcome_op, AtBranch, has_yes, voted_yes, yes_of, is_yes, AreBranchesRising, Logs}
-use Rattle.xa_driver.specs.{decision_of, EachBranch, IsCommit, IsTranOf, voted, IsAnswered, IsBegun, asked, collected, in_flight, unasked, second_op, third_op}
-use Rattle.xa_driver.specs.{ending_of}
+use Rattle.xa_driver.specs.{decision_of, EachBranch, IsCommit, IsTranOf, voted, IsAnswered, IsBegun, AskTrace, VotesAndObeys, collected, in_flight, unasked}
+use Rattle.xa_driver.specs.{second_op, third_op}
 use Rattle.xa_log.specs.{LogState}
 use Rattle.xa_atomicity.specs.{ResolveCall, Use, resolves, IsUseIn, NamesTran, HasSent, IsAsked, CameSoFar, known_at, DidOther, EachVote, IsCut, IsEnded}
-use Rattle.xa_atomicity.specs.{IsTold, asking, forgetting, telling, IsKept, OnlyResolves, Opening}
+use Rattle.xa_atomicity.specs.{IsTold, asking, forgetting, telling, IsKept, OnlyResolves, Opening, DidOnly, AfterOther}
 use Rattle.xa_driver.proofs.Mapped.{Asks, Any, IsAskedFor, any_asked}
-use Rattle.xa_driver.proofs.Requests.{trace_of}
+use Rattle.xa_driver.proofs.Requests.{trace_for}
 use Rattle.xa_atomicity.proofs.Settled.{sent_between, by_ledger}
 use Rattle.xa_atomicity.proofs.Sites.{Parted, request_of, part, numbered_both, at_seam}
-use Rattle.xa_atomicity.proofs.Resolves.{Sends, resolve_sends, asked_sends, stays, on, contains_on}
+use Rattle.xa_atomicity.proofs.Resolves.{resolve_sends, asked_sends, stays, on, sends_for}
 use Rattle.xa_atomicity.proofs.OneOutcome.{is_marked, logs_keep, branch_map, Traced}
 
 -- what a thread sent to a manager
@@ -39,7 +38,7 @@ module _ (s : Settling) (settled : IsSettled s) (m : ℕ) (up : IsUpTo MOST_MANA
   use_passes : (P : Op → Type 0) → P OpenRm → (u : Use) → IsUseIn s u
       → ((q : ResolveCall) → u ≡ resolves q → (o : Outcome) → Contains q.outcomes o → Asks P q.records m o) → Passes P u
   use_passes P opens (resolves q) use_ asks = λ k d lt has.
-      let z : Sends P (ledger q.old m) (ledger q.new m) = resolve_sends q.scan q.records q.old q.new q.outcomes use_.made P m up opens (asks q refl) in
+      let z : DidOnly P (ledger q.old m) (ledger q.new m) = resolve_sends q.scan q.records q.old q.new q.outcomes use_.made P m up opens (asks q refl) in
       sent_between s settled q.thread m up.0 P (ledger q.old m) (ledger q.new m) z.more z.sent z.all
       (use_.grown.each m up.0) k d lt has.thread has.from has.below
   use_passes P opens u use_ asks = λ k d lt has. absurd has
@@ -77,44 +76,43 @@ ends_no_prepare commit x y e = grind arith
 -- A vote was collected as the code of its Prepare, and what was sent after that is so.
 pub record HasVoted (P : Op → Type 0) (b : Branch) (v : Code) (a a' : LedgerView) : Type 0 where
   pub prepared : IsAnswered a (Some (Prepare b.xid)) (Some v)
-  pub rest : Sends P (voted b v a) a'
+  pub rest : DidOnly P (voted b v a) a'
 
 module _ (P : Op → Type 0) where
-  one_sent : (a a' : LedgerView) (op : Op) → P op → a'.sent ≡ a.sent ++ op ∷ [] → Begins a.collected a'.collected → Sends P a a'
+  one_sent : (a a' : LedgerView) (op : Op) → P op → a'.sent ≡ a.sent ++ op ∷ [] → Begins a.collected a'.collected → DidOnly P a a'
   one_sent a a' op so sends begins = record { more = op ∷ []; sent = sends; all = All-cons P op [] so (All-nil P); collected = begins }
 
-  pub begun_sends : (op : Option Op) (a a' : LedgerView) → IsAskedFor P op → IsBegun op a a' → Sends P a a'
+  pub begun_sends : (op : Option Op) (a a' : LedgerView) → IsAskedFor P op → IsBegun op a a' → DidOnly P a a'
   begun_sends op a a' so (unasked e) = rw e (stays P a)
   begun_sends op a a' so (in_flight o is open_ e) =
       rw e (one_sent a (with_sent a o) o (rw is at so) refl (same_begins a.collected))
   begun_sends op a a' so (collected code tr) = rw tr.trace (asked_sends P a op code so)
 
-  pub other_sends : (x : XidName) (a a' : LedgerView) → ((op : Op) → names x op ≡ false → P op) → DidOther x a a' → Sends P a a'
-  other_sends x a a' so z = record { more = z.more; sent = z.sent; all = λ k d lt. so (get_or z.more k d) (z.others k d lt); collected = z.collected }
-
   -- after the vote, by how far it came
   module _ (commit : Bool) (b : Branch) (v : Code) (a a' : LedgerView) (others : (op : Op) → names b.xid op ≡ false → P op)
       (second : IsAskedFor P (second_op commit b.xid v)) where
-    pub forget_sends : (s : Option Code) → IsAskedFor P (third_op b.xid s) → (z : IsEnded commit b v s a a')
-        → Sends P (asked z.start (second_op commit b.xid v) s) a'
+    after_other : (R : LedgerView → LedgerView → Type 0) (d e : LedgerView) → ((c : LedgerView) → R c e → DidOnly P c e) → AfterOther b.xid R d e
+        → DidOnly P d e
+    after_other R d e sends z = on P d z.start e (sends_for (λ op. names b.xid op ≡ false) P others d z.start z.between) (sends z.start z.last)
+
+    pub forget_sends : (s : Option Code) {e : Ending} → IsAskedFor P (third_op b.xid s) → (z : IsEnded commit b v s e a a') → DidOnly P z.decided a'
     forget_sends s third z =
-        let late : LedgerView = asked z.start (second_op commit b.xid v) s in
-        on P late z.told a' (other_sends b.xid late z.told others z.after) (begun_sends (third_op b.xid s) z.told a' third z.forgets)
+        after_other (IsBegun (third_op b.xid s)) z.decided a' (λ c. begun_sends (third_op b.xid s) c a' third) z.forgets
 
     pub told_voted : IsTold commit b v a a' → HasVoted P b v a a'
     told_voted z = record {
-      prepared = z.prepared;
-      rest = on P (voted b v a) z.start a' (other_sends b.xid (voted b v a) z.start others z.between) (begun_sends (second_op commit b.xid v) z.start a' second z.tells);
+      prepared = z.prepares.answered;
+      rest = rw z.prepares.trace at (after_other (IsBegun (second_op commit b.xid v)) z.prepared a' (λ c. begun_sends (second_op commit b.xid v) c a' second) z.tells);
     }
 
-    pub ended_voted : (s : Option Code) → IsAskedFor P (third_op b.xid s) → IsEnded commit b v s a a' → HasVoted P b v a a'
+    pub ended_voted : (s : Option Code) {e : Ending} → IsAskedFor P (third_op b.xid s) → IsEnded commit b v s e a a' → HasVoted P b v a a'
     ended_voted s third z = record {
-      prepared = z.prepared;
-      rest = on P (voted b v a) z.start a' (other_sends b.xid (voted b v a) z.start others z.between) (on P z.start (asked z.start (second_op commit b.xid v) s) a' (asked_sends P z.start (second_op commit b.xid v) s second) (forget_sends s third z));
+      prepared = z.obeyed.prepares.answered;
+      rest = rw z.obeyed.prepares.trace at (on P z.obeyed.prepared z.decided a' (after_other (AskTrace (second_op commit b.xid v) s) z.obeyed.prepared z.decided (λ c tr. begun_sends (second_op commit b.xid v) c z.decided second (collected s tr)) z.obeyed.tells) (forget_sends s third z));
     }
 
   -- its Prepare with the rest
-  pub all_sent : (b : Branch) (v : Code) (a a' : LedgerView) → P (Prepare b.xid) → HasVoted P b v a a' → Sends P a a'
+  pub all_sent : (b : Branch) (v : Code) (a a' : LedgerView) → P (Prepare b.xid) → HasVoted P b v a a' → DidOnly P a a'
   all_sent b v a a' so h = on P a (voted b v a) a' (asked_sends P a (Some (Prepare b.xid)) (Some v) so) h.rest
 
 -- ---- a vote that was collected
@@ -156,7 +154,7 @@ abbrev pub Votes : List LedgerView → List LedgerView → Branch → Code → T
 Votes old new b v = HasVoted Any b v (ledger old b.m) (ledger new b.m)
 
 abbrev pub Ended : Bool → List LedgerView → List LedgerView → Branch → Code → Option Code → Ending → Type 0
-Ended commit old new b v s e = IsEnded commit b v s (ledger old b.m) (ledger new b.m) × (e ≡ ending_of commit v s)
+Ended commit old new b v s e = IsEnded commit b v s e (ledger old b.m) (ledger new b.m)
 
 -- what its coordinator knew of each branch is its ending
 pub known_each : (P : Branch → Code → Option Code → Ending → Type 0) (A : Type 0) (known : ℕ → Ending) (lo : ℕ) (bs : List Branch) (vs : List Code) (zs : List (Option Code)) (es : List Ending)
@@ -189,9 +187,7 @@ pub data CameAt (tran : TranName) (bs : List Branch) (old new : List LedgerView)
   at_telling : (votes : List Code) (logged : Bool) → Logs tran (yes_of bs votes) votes logged log later → (v : Code) → IsVoteOf bs votes b v
       → IsTold (decision_of votes logged) b v (ledger old b.m) (ledger new b.m) → CameAt tran bs old new log later es b
   at_forgetting : (votes : List Code) (logged : Bool) → Logs tran (yes_of bs votes) votes logged log later → (v : Code) → IsVoteOf bs votes b v
-      → (z : Option Code)
-      → IsEnded (decision_of votes logged) b v z (ledger old b.m) (ledger new b.m) → known_at b.m bs es ≡ ending_of (decision_of votes logged) v z
-      → CameAt tran bs old new log later es b
+      → (z : Option Code) → Ended (decision_of votes logged) old new b v z (known_at b.m bs es) → CameAt tran bs old new log later es b
 
 pub each_came : {tran : TranName} {bs : List Branch} {old new : List LedgerView} {log later : LogState} {es : List Ending} → AreBranchesRising 0 bs
     → CameSoFar tran bs old new log later es → All (CameAt tran bs old new log later es) bs
@@ -202,35 +198,35 @@ each_came {bs = bs} {old = old} {new = new} rising (telling votes logged logs un
 each_came {bs = bs} {old = old} {new = new} {es = es} rising (forgetting votes logged seconds logs each) j d lt =
     let End : Branch → Code → Option Code → Ending → Type 0 = Ended (decision_of votes logged) old new in
     let Known : Branch → Code → Option Code → Ending → Type 0 = λ b v z e. End b v z e × (known_at b.m bs es ≡ e) × (is_yes v ≡ true → Unit {0}) in
-    let Q : Branch → Code → Type 0 = λ b v. (z : Option Code) × ((e : Ending) × Known b v z e) in
+    let Q : Branch → Code → Type 0 = λ b v. (z : Option Code) × End b v z (known_at b.m bs es) in
     let known = known_each End (Unit {0}) (λ n. known_at n bs es) 0 bs votes seconds es rising (λ n above. refl) (λ _. tt) each in
-    let w = voters Q bs votes (branch_votes Known Q (λ b v z e h. (z, (e, h))) bs votes seconds es known) j d lt in
-    let h = w.1.0.1.1 in
-    at_forgetting votes logged logs w.0 w.1.1 w.1.0.0 h.0.0 (h.1 ∙ h.0.1)
+    let w = voters Q bs votes (branch_votes Known Q (λ b v z e h. (z, rw (← h.1) at h.0)) bs votes seconds es known) j d lt in
+    at_forgetting votes logged logs w.0 w.1.1 w.1.0.0 w.1.0.1
 
-pub any_voted : (commit : Bool) (b : Branch) (v : Code) (s : Option Code) (a a' : LedgerView) → IsEnded commit b v s a a' → HasVoted Any b v a a'
+pub any_voted : (commit : Bool) (b : Branch) (v : Code) (s : Option Code) {e : Ending} (a a' : LedgerView) → IsEnded commit b v s e a a' → HasVoted Any b v a a'
 any_voted commit b v s a a' = ended_voted Any commit b v a a' (λ op _. tt) (any_asked (second_op commit b.xid v)) s (any_asked (third_op b.xid s))
 
 -- ---- a commit that came to its end
 
 pub did_nothing : (x : XidName) (a : LedgerView) → DidOther x a a
-did_nothing x a = record { more = []; sent = sym (append-nil a.sent); others = All-nil (λ (op : Op). names x op ≡ false); collected = same_begins a.collected }
+did_nothing x = stays (λ op. names x op ≡ false)
 
--- what was asked at a branch of it
+-- with nothing before it
+pub at_once : (x : XidName) (R : LedgerView → LedgerView → Type 0) (a a' : LedgerView) → R a a' → AfterOther x R a a'
+at_once x R a a' is = record { start = a; between = did_nothing x a; last = is }
+
+-- where it obeyed, it ended, by what was done of its Forget
+pub ended_by : (commit : Bool) (b : Branch) (v : Code) (s : Option Code) (e : Ending) (a d a' : LedgerView) → VotesAndObeys AsksLedger commit b v s e a d
+    → IsBegun (third_op b.xid s) d a' → IsEnded commit b v s e a a'
+ended_by commit b v s e a d a' o third =
+    let second = at_once b.xid (AskTrace (second_op commit b.xid v) s) o.prepared d (trace_for (second_op commit b.xid v) s o.prepared d o.obeys) in
+    let forgets = at_once b.xid (IsBegun (third_op b.xid s)) d a' third in
+    record { decided = d; obeyed = record { prepared = o.prepared; prepares = o.prepares; tells = second }; forgets = forgets; ends = o.ends }
+
 pub ended_so : (commit : Bool) (b : Branch) (v : Code) (s : Option Code) (e : Ending) (a a' : LedgerView) → AtBranch AsksLedger commit b v s e a a'
-    → IsEnded commit b v s a a'
+    → IsEnded commit b v s e a a'
 ended_so commit b v s e a a' is =
-    let tr = trace_of commit b v s e a a' is in
-    let late : LedgerView = asked (voted b v a) (second_op commit b.xid v) s in
-    record {
-      prepared = tr.prepared;
-      start = voted b v a;
-      between = did_nothing b.xid (voted b v a);
-      seconded = tr.seconded;
-      told = late;
-      after = did_nothing b.xid late;
-      forgets = collected tr.third tr.forgotten;
-    }
+    ended_by commit b v s e a is.decided a' is.obeyed (collected is.third (trace_for (third_op b.xid s) is.third is.decided a' is.forgets))
 
 -- it is one that was cut short after it
 pub finished_law : (bs : List Branch) (desk : DeskView) (new : List LedgerView) (log later : LogState) (d : Done) → IsCommit bs desk new log later d
@@ -238,7 +234,7 @@ pub finished_law : (bs : List Branch) (desk : DeskView) (new : List LedgerView) 
 finished_law bs desk new log later d made = record {
   may = made.may;
   far = forgetting d.votes.items d.logged made.trace.course.seconds made.trace.course.logs
-      (rw made.trace.course.decision at (branch_map (λ b. Unit {0}) (Traced d.commit desk.ledgers new) (Ended d.commit desk.ledgers new) (λ b v s e _ h. (ended_so d.commit b v s e (ledger desk.ledgers b.m) (ledger new b.m) h, h.ends)) bs d.votes.items made.trace.course.seconds d.endings.items (λ k e lt. tt) made.trace.course.each));
+      (rw made.trace.course.decision at (branch_map (λ b. Unit {0}) (Traced d.commit desk.ledgers new) (Ended d.commit desk.ledgers new) (λ b v s e _ h. ended_so d.commit b v s e (ledger desk.ledgers b.m) (ledger new b.m) h) bs d.votes.items made.trace.course.seconds d.endings.items (λ k e lt. tt) made.trace.course.each));
   managers = made.trace.managers;
 }
 
@@ -284,4 +280,4 @@ cut_keeps mark t m up bs desk new log later es c quiet e = so_far c.far
         logs_keep mark t m up bs votes logged log later c.may.tran c.may.absent (λ same _.
         none_of (Votes desk.ledgers new) t m (quiet same) bs votes (rw same at c.may.one)
         (branch_votes (Ended (decision_of votes logged) desk.ledgers new) (Votes desk.ledgers new) (λ b v s e z.
-        any_voted (decision_of votes logged) b v s (ledger desk.ledgers b.m) (ledger new b.m) z.0) bs votes seconds es each)) e logs
+        any_voted (decision_of votes logged) b v s (ledger desk.ledgers b.m) (ledger new b.m) z) bs votes seconds es each)) e logs

@@ -1,13 +1,13 @@
 -- What became of a branch that nobody else named, but for heuristic decisions, over the settled history of its manager.
-use Rattle.xa_base.proofs.{and_right, ne_eqb, rules, all_mid, all_left, all_after, some_same, by_bool, by_if, at_true, ◌⊎◌, ◌≡◌, ◌≢◌, ℕ, suc, ◌+◌, ◌<◌, inl}
-use Rattle.xa_base.proofs.{inr, Bool, true, false, ◌||◌, if◌then◌else◌, List, [], ◌∷◌, ◌++◌, length, append-nil, append_assoc, get_or, sym, refl, ap, ◌∙◌}
-use Rattle.xa_base.proofs.{arith, Option, Some, None, All, cons_option, both_ways, true_from_ne_false}
+use Rattle.xa_base.proofs.{and_right, ne_eqb, rules, all_mid, all_left, all_after, some_same, by_bool, by_if, at_true, ◌⊎◌, ◌≡◌, ℕ, suc, ◌+◌, ◌<◌, inl, inr}
+use Rattle.xa_base.proofs.{Bool, true, false, ◌||◌, if◌then◌else◌, List, [], ◌∷◌, ◌++◌, append-nil, append_assoc, get_or, sym, refl, ap, ◌∙◌, arith, Option}
+use Rattle.xa_base.proofs.{Some, None, All, cons_option, both_ways, true_from_ne_false}
 use Rattle.xa_atomicity.specs.{is_in_doubt, OnlyTheseName, IsBetween, OnlyTheseOrDecisionsName, IsAfterShut, IsDecidedAfter, told_fate, is_left, is_heuristic}
 use Rattle.xa_atomicity.specs.{ended_as}
 use Rattle.std.proofs.lemmas.Bool.{or_left}
 use Rattle.xa_driver.specs.{is_heuristic as is_heuristic_code, outcome_op, Ending, Committed, ReadOnly, RolledBack, Heuristic, Left, is_yes, yes_ending}
 use Rattle.xa_driver.specs.{no_ending}
-use Rattle.xa_words.specs.{XidName, xid_eq, Done, RbIntegrity, HeurRb, HeurCom, RmFail, Op, Prepare, Rollback, Request, Code}
+use Rattle.xa_words.specs.{XidName, xid_eq, Done, RbIntegrity, RmFail, Op, Prepare, Rollback, Request, Code}
 use Rattle.xa_words.proofs.Xids.{xid_self}
 use Rattle.xa_tables.specs.{is_close, is_rolled_back, IsTold, HeuristicDecision, is_S3, is_prepared, decision_code, next, Fate, fate, fate_in, fate_of, coded}
 use Rattle.xa_tables.specs.{tables_after, last_or, is_done, is_in_doubt as is_unknown, prepare_fate, decided_fate, IsFateOf, names, OnlyDecides, LeavesWaiting}
@@ -15,34 +15,10 @@ use Rattle.xa_tables.specs.{AwaitsAfter, is_heur, is_forget, answer_when, fates_
 use Rattle.xa_tables.proofs.ValueLaw.{tables_after-append, unnamed_fate}
 use Rattle.xa_tables.specs.declared.state.HeuristicDecision.TheVariants as decision
 use Rattle.xa_tables.specs.Histories as history
-use Rattle.xa_atomicity.proofs.Courses.{Unreached, Reads, Breaks, Stays, Agrees, Refuses, yes_is, read_is, Sends, SendsOne, Course, rest_forgets}
-use Rattle.xa_atomicity.proofs.Sites.{request_of, fates, fates_both, fate_is, last_both, Site, above, Second, second_of}
+use Rattle.xa_atomicity.proofs.Courses.{Reads, Breaks, Stays, Agrees, Refuses, Asked, Sends, SendsOne, Course, rest_forgets}
+use Rattle.xa_atomicity.proofs.Sites.{StandsIn, request_of, fates, fates_both, fate_is, last_both, Site, above, Second, second_of}
 use Rattle.xa_atomicity.proofs.Guided.{is_known_so, tells_so, told_decided}
 use Rattle.xa_atomicity.proofs.Leading.{ends_fate}
-
--- ---- who may name the branch
-
--- A request after thread t's number n, which may be a heuristic decision; else it names the branch only as one of t's own, up
--- to before number `last`.
-abbrev pub IsAllowed : ℕ → XidName → ℕ → ℕ → Request → Type 0
-IsAllowed t x n last q = names x q.op ≡ true → is_heur q.op ≡ false → IsBetween t n last q
-
--- others name it only in heuristic decisions, and close nothing for the thread
-pub leaves_waiting : (t : ℕ) (x : XidName) (n last : ℕ) (mid : History) (S : Request) (rest : History) → All (IsAllowed t x n last) (mid ++ S ∷ rest)
-    → ((k : ℕ) (d : Request) → k < length mid → (get_or mid k d).thread ≢ t) → LeavesWaiting t x mid
-leaves_waiting t x n last mid S rest allowed others k d lt =
-    let differs = others k d lt in (
-      λ named. true_from_ne_false (is_heur (get_or mid k d).op) (λ h. differs (all_left (IsAllowed t x n last) mid (S ∷ rest) allowed k d lt named h).thread),
-      and_right (is_close (get_or mid k d).op) _ (ne_eqb (get_or mid k d).thread t differs),
-    )
-
--- where what the thread itself still sends of it are Forgets, the rest only decides it
-pub only_decides : (t : ℕ) (x : XidName) (n last : ℕ) (mid : History) (S : Request) (rest : History) → All (IsAllowed t x n last) (mid ++ S ∷ rest)
-    → ((k : ℕ) (d : Request) → k < length rest → (get_or rest k d).thread ≡ t → (get_or rest k d).number < last → is_forget (get_or rest k d).op ≡ true)
-    → OnlyDecides x rest
-only_decides t x n last mid S rest allowed forgets k d lt named =
-    by_bool (λ b. (b || is_forget (get_or rest k d).op) ≡ true) (is_heur (get_or rest k d).op) (λ _. refl)
-    (λ h. let between = all_after (IsAllowed t x n last) mid S rest allowed k d lt named h in forgets k d lt between.thread between.below)
 
 -- ---- decisions that were carried out
 
@@ -68,20 +44,24 @@ found x f (r ∷ g) T e =
     ] refl e
 
 -- a decision that was carried out after a Prepare, before what is after it
-pub decided_in : (t n : ℕ) (x : XidName) (T : Tables) (H before after : History) → H ≡ before ++ request_of t n (Prepare x) ∷ after → (g h : History)
-    → after ≡ g ++ h → All (λ q. names x q.op ≡ true → is_heur q.op ≡ true) g → (d : HeuristicDecision)
-    → fates x g (next t (Prepare x) (tables_after before T)).0 ≡ decided_fate d ∷ [] → IsDecidedAfter x t n T H
-decided_in t n x T H before after place g h split heur d made =
-    let p = found x (decided_fate d) g (next t (Prepare x) (tables_after before T)).0 made in
+pub decided_in : {t n : ℕ} {x : XidName} {T : Tables} {H : History} {c : Code} (f : StandsIn t n (Prepare x) c T H) (g h : History) → f.after ≡ g ++ h
+    → All (λ q. names x q.op ≡ true → is_heur q.op ≡ true) g → (d : HeuristicDecision)
+    → fates x g (next t (Prepare x) (tables_after f.before T)).0 ≡ decided_fate d ∷ [] → IsDecidedAfter x t n T H
+decided_in {t} {n} {x} {T} {H} f g h split heur d made =
+    let p = found x (decided_fate d) g (next t (Prepare x) (tables_after f.before T)).0 made in
     let named : names x p.request.op ≡ true = true_from_ne_false (names x p.request.op) (λ n.
     let none : None ≡ Some (decided_fate d) = sym (unnamed_fate x p.request.op _ n) ∙ p.fate_here in cc) in
     let Q : Request → Type 0 = λ q. names x q.op ≡ true → is_heur q.op ≡ true in
     let by_itself = all_mid Q p.before p.after p.request (rw p.place at heur) named in
-    search (arith, request_of, append_assoc, tables_after-append, p.before, p.request.thread, p.request.op)
+    search (arith, request_of, append_assoc, tables_after-append, f.place, p.before, p.request.thread, p.request.op)
 
 -- a request for the outcome that is told a decision makes nothing of the branch
 pub outcome_quiet : (commit : Bool) (x : XidName) (d : HeuristicDecision) → fate_of x (outcome_op commit x) (decision_code d) ≡ None
 outcome_quiet commit x d = grind (arith, at_true, xid_self)
+
+-- a heuristic ending that tells a fate tells a decision
+told_decision : (c : Code) (g : Fate) → told_fate (Heuristic c) ≡ Some g → (d : HeuristicDecision) × (c ≡ decision_code d) × (g ≡ decided_fate d)
+told_decision c g is = grind arith
 
 -- ---- what became of a branch
 
@@ -95,8 +75,10 @@ pub record Told (t : ℕ) (x : XidName) (f0 : Fate) (T : Tables) (H : History) (
   pub doubt : is_in_doubt e ≡ true
       → (fate x f0 H T ≡ history.InDoubt) ⊎ ((d : HeuristicDecision) × ((fate x f0 H T ≡ decided_fate d) × IsDecidedAfter x t n T H))
 
-module _ {t : ℕ} {T : Tables} {H : History} (site : Site t T H) (x : XidName) (f0 : Fate) (fits : IsFateOf x f0 T) (n last : ℕ) (vote : Code)
-    (only : OnlyTheseOrDecisionsName x t n last H) where
+module _ {t : ℕ} {T : Tables} {H : History} (a : Asked t T H) (f0 : Fate) (fits : IsFateOf a.xid f0 T)
+    (only : OnlyTheseOrDecisionsName a.xid t a.number a.last H) where
+  open a use {site, xid as x, number as n, last, vote}
+
   abbrev Goal : Ending → Type 0
   Goal e = Told t x f0 T H n vote e
 
@@ -120,7 +102,7 @@ module _ {t : ℕ} {T : Tables} {H : History} (site : Site t T H) (x : XidName) 
 
   -- ---- the Prepare alone was sent
 
-  module _ (z : SendsOne site x n last vote) where
+  module _ (z : SendsOne a) where
     open z use {first as alone}
 
     decides_after : OnlyDecides x alone.after
@@ -140,7 +122,7 @@ module _ {t : ℕ} {T : Tables} {H : History} (site : Site t T H) (x : XidName) 
 
   -- ---- a second request was sent
 
-  module _ (commit : Bool) (c : Code) (z : Sends site x n last vote (outcome_op commit x) c) where
+  module _ (commit : Bool) (c : Code) (z : Sends a (outcome_op commit x) c) where
     abbrev op : Op
     op = outcome_op commit x
 
@@ -161,14 +143,26 @@ module _ {t : ℕ} {T : Tables} {H : History} (site : Site t T H) (x : XidName) 
     abbrev all_before : History
     all_before = f.before ++ request_of t n (Prepare x) ∷ s.mid
 
-    allowed : All (IsAllowed t x n last) (s.mid ++ S ∷ s.rest)
+    -- a request after its Prepare, which may be a heuristic decision; else it names the branch only as one of the thread's own
+    abbrev Allowed : Request → Type 0
+    Allowed q = names x q.op ≡ true → is_heur q.op ≡ false → IsBetween t n last q
+
+    allowed : All Allowed (s.mid ++ S ∷ s.rest)
     allowed = rw s.split at (only f.before f.after (request_of t n (Prepare x)) f.place refl refl)
 
+    -- others name it only in heuristic decisions, and close nothing for the thread
     waiting : LeavesWaiting t x s.mid
-    waiting = leaves_waiting t x n last s.mid S s.rest allowed s.others
+    waiting k d lt =
+        let differs = s.others k d lt in (
+          λ named. true_from_ne_false (is_heur (get_or s.mid k d).op) (λ h. differs (all_left Allowed s.mid (S ∷ s.rest) allowed k d lt named h).thread),
+          and_right (is_close (get_or s.mid k d).op) _ (ne_eqb (get_or s.mid k d).thread t differs),
+        )
 
+    -- and what the thread itself still sends of it are Forgets
     decides_rest : OnlyDecides x s.rest
-    decides_rest = only_decides t x n last s.mid S s.rest allowed (rest_forgets site x n last vote op c z f s)
+    decides_rest k d lt named =
+        by_bool (λ b. (b || is_forget (get_or s.rest k d).op) ≡ true) (is_heur (get_or s.rest k d).op) (λ _. refl)
+        (λ h. let between = all_after Allowed s.mid S s.rest allowed k d lt named h in rest_forgets a op c z f s k d lt between.thread between.below)
 
     code_there : c ≡ (next t op (tables_after all_before T)).1
     code_there = s.code ∙ ap (λ (U : Tables). (next t op U).1) (sym s.there_is)
@@ -184,7 +178,8 @@ module _ {t : ℕ} {T : Tables} {H : History} (site : Site t T H) (x : XidName) 
         let U : Tables = tables_after all_before T in
         let unprepared : is_prepared (next t op U).0 x ≡ false = ap (λ (V : Tables). is_prepared V x) is.unchanged ∙ ap is_S3 is.state in
         let quiet : fates x (S ∷ s.rest) U ≡ [] = search (arith, cons_option, code_there, decides_rest) in
-        search (arith, fates_both, append-nil)
+        let told : fate x f0 all_before T ≡ decided_fate d = (site.law.kept all_before x f0 T site.opening fits).decided d is.state in
+        search (arith, fates_both, append-nil, site.law.leaves, s.place)
 
     -- ---- after a yes vote
 
@@ -194,7 +189,7 @@ module _ {t : ℕ} {T : Tables} {H : History} (site : Site t T H) (x : XidName) 
 
       -- a decision of it was carried out between the two
       decided_between : (d : HeuristicDecision) → fates x s.mid now ≡ decided_fate d ∷ [] → IsDecidedAfter x t n T H
-      decided_between d made = decided_in t n x T H f.before f.after f.place s.mid (S ∷ s.rest) s.split (λ k d lt. (waiting k d lt).0) d made
+      decided_between d made = decided_in f s.mid (S ∷ s.rest) s.split (λ k d lt. (waiting k d lt).0) d made
 
       -- the manager is shut at its second request, and what became of it since its Prepare is all
       at_shut : there.shut ≡ true → fates x f.after now ≡ fates_when w.decision
@@ -232,7 +227,7 @@ module _ {t : ℕ} {T : Tables} {H : History} (site : Site t T H) (x : XidName) 
 
   -- ---- after a vote against
 
-  refused : (c : Code) → is_yes vote ≡ false → Sends site x n last vote (Rollback x) c → Goal (no_ending vote (Some c))
+  refused : (c : Code) → is_yes vote ≡ false → Sends a (Rollback x) c → Goal (no_ending vote (Some c))
   refused c y z =
       by_if Goal (is_done c || is_rolled_back c) RolledBack _ (λ back.
       no_vote RolledBack y refl (λ g is. ended_by false c z history.RolledBack
@@ -240,30 +235,25 @@ module _ {t : ℕ} {T : Tables} {H : History} (site : Site t T H) (x : XidName) 
       ∙ (let q : Some history.RolledBack ≡ Some g = is in cc))) (λ _.
       by_if Goal (is_heuristic_code c) (Heuristic c) (Left c) (λ _. no_vote (Heuristic c) y refl (heuristic_told c z)) (λ _. no_vote (Left c) y refl (λ g is. cc)))
     where
-      told_with : (d : HeuristicDecision) (c : Code) → c ≡ decision_code d → Sends site x n last vote (Rollback x) c → fate x f0 H T ≡ decided_fate d
-      told_with d c is z =
-          told_by false c z d (ap (fate_of x (Rollback x)) is ∙ outcome_quiet false x d) (site.law.rollback_tells t x d _ (sym (code_there false c z) ∙ is))
+      heuristic_told : (c : Code) → Sends a (Rollback x) c → (g : Fate) → told_fate (Heuristic c) ≡ Some g → fate x f0 H T ≡ g
+      heuristic_told c z g is =
+          let d = told_decision c g is in
+          told_by false c z d.0 (ap (fate_of x (Rollback x)) d.1 ∙ outcome_quiet false x d.0) (tells_so site.law false t x d.0 _ (sym (code_there false c z) ∙ d.1))
+          ∙ sym d.2
 
-      heuristic_told : (c : Code) → Sends site x n last vote (Rollback x) c → (g : Fate) → told_fate (Heuristic c) ≡ Some g → fate x f0 H T ≡ g
-      heuristic_told HeurCom z g is = told_with decision.Commit HeurCom refl z ∙ (let q : Some history.HeurCommitted ≡ Some g = is in cc)
-      heuristic_told HeurRb z g is = told_with decision.Rollback HeurRb refl z ∙ (let q : Some history.HeurRolledBack ≡ Some g = is in cc)
-      heuristic_told c z g is = cc
+  by_course : {commit : Bool} {e : Ending} → Course a commit e → Goal e
+  by_course (Stays c y own) = no_vote (Left c) y refl (λ f e. cc)
+  by_course (Reads r z) = voted_so z ReadOnly history.ReadOnly (ap is_yes r) refl refl (ap prepare_fate r) refl
+  by_course (Breaks y k z) =
+      let code : vote ≡ RbIntegrity = z.first.code ∙ site.law.breaks t x (tables_after z.first.before T) (sym (ap is_rolled_back z.first.code) ∙ k) in
+      voted_so z RolledBack history.RolledBack y refl refl (ap prepare_fate code) refl
+  by_course {commit = commit} (Agrees c y z) = outcome commit c z y
+  by_course (Refuses c y z) = refused c y z
 
 -- what became of a branch of a commit that nobody else named, but for heuristic decisions
-pub branch_told : {t : ℕ} {T : Tables} {H : History} (site : Site t T H) (x : XidName) (n last : ℕ) (commit : Bool) (vote : Code) (ending : Ending)
-    → Course site x n last vote commit ending → (f0 : Fate) → IsFateOf x f0 T → OnlyTheseOrDecisionsName x t n last H → Told t x f0 T H n vote ending
-branch_told {t} {T} {H} site x n last commit vote ending course f0 fits only = by_course ending course
-  where
-    by_course : (e : Ending) → Course site x n last vote commit e → Told t x f0 T H n vote e
-    by_course _ (Unreached same code) = no_vote site x f0 fits n last vote only (Left RmFail) (ap is_yes code) refl (λ f e. cc)
-    by_course _ (Reads r z) =
-        voted_so site x f0 fits n last vote only z ReadOnly history.ReadOnly (ap is_yes (read_is vote r)) refl refl (ap prepare_fate (read_is vote r)) refl
-    by_course _ (Breaks k z) =
-        let code : vote ≡ RbIntegrity = z.first.code ∙ site.law.breaks t x (tables_after z.first.before T) (sym (ap is_rolled_back z.first.code) ∙ k) in
-        voted_so site x f0 fits n last vote only z RolledBack history.RolledBack (ap is_yes code) refl refl (ap prepare_fate code) refl
-    by_course _ (Stays c y z) = no_vote site x f0 fits n last vote only (Left c) y refl (λ f e. cc)
-    by_course _ (Agrees c y z) = outcome site x f0 fits n last vote only commit c z (yes_is vote y)
-    by_course _ (Refuses c y r z) = refused site x f0 fits n last vote only c y z
+pub branch_told : {t : ℕ} {T : Tables} {H : History} {a : Asked t T H} {commit : Bool} {ending : Ending} → Course a commit ending → (f0 : Fate)
+    → IsFateOf a.xid f0 T → OnlyTheseOrDecisionsName a.xid t a.number a.last H → Told t a.xid f0 T H a.number a.vote ending
+branch_told {a = a} course f0 fits only = by_course a f0 fits only course
 
 -- where nobody else names it, and its thread decides nothing, no decision of it was carried out
 pub none_decides : {t : ℕ} {T : Tables} {H : History} (site : Site t T H) (x : XidName) (n last : ℕ) → OnlyTheseName x t n last H

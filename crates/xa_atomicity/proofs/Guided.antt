@@ -5,7 +5,7 @@ use Rattle.xa_base.proofs.{or-true, rules, at_true, unwrap_or, inl, inr, ◌++�
 use Rattle.xa_base.specs.{Begins}
 use Rattle.xa_words.specs.{XidName, Done, Op, Code, xid_eq, Prepare, Request}
 use Rattle.xa_tables.specs.{is_S3, IsTold, State, HeuristicDecision, state_of, is_left_in, decision_code, next, Fate, tables_after, last_or}
-use Rattle.xa_tables.specs.{is_in_doubt as is_unknown, decided_fate, Tables, History, HeuristicallyCompleted, Answer, fate, fate_of, IsOpening, names, is_heur}
+use Rattle.xa_tables.specs.{is_in_doubt as is_unknown, decided_fate, Tables, History, HeuristicallyCompleted, Answer, fate, fate_of, names, is_heur}
 use Rattle.xa_tables.specs.{AwaitsAfter}
 use Rattle.xa_desk.specs.{LedgerView, learnt_shut}
 use Rattle.xa_driver.specs.{Branch, Ending, is_yes, yes_ending, AsksLedger, outcome_op, voted, AtBranch, Committed, ReadOnly, RolledBack, InDoubt, Heuristic}
@@ -21,7 +21,7 @@ use Rattle.xa_tables.specs.Histories as history
 use Rattle.xa_atomicity.proofs.Courses.{yes_is, yes_wanted}
 use Rattle.xa_atomicity.proofs.Leading.{after_all, Goes, Stands, waits, unforgotten, Leads, Led, Standing, step_led, IsTowards, ends_towards, led_after}
 use Rattle.xa_atomicity.proofs.Leading.{ends_fate}
-use Rattle.xa_atomicity.proofs.Sites.{fates, request_of, fates_both, last_both}
+use Rattle.xa_atomicity.proofs.Sites.{Site, StandsIn, fates, request_of, fates_both, last_both}
 
 -- It ended as was decided, or its ending tells that it was decided heuristically, or it is left; and then W is known.
 pub data Comes (commit : Bool) (W L : Type 0) (s : Option State) (f : Fate) (e : Ending) : Type 0 where
@@ -226,9 +226,11 @@ module _ (commit : Bool) (D L : Type 0) (t n : ℕ) (x : XidName) (T : Tables) (
 
 -- ---- from the Prepare on
 
-module _ (law : Tabled) (commit : Bool) (D L : Type 0) (t n : ℕ) (x : XidName) (T : Tables) (H : History) (opening : IsOpening T) (before after : History)
-    (place : H ≡ before ++ request_of t n (Prepare x) ∷ after)
-    (agreed : (next t (Prepare x) (tables_after before T)).1 ≡ Done) (guide : All (λ r. IsGuided commit L x r.op) after) where
+module _ {t n : ℕ} {x : XidName} {T : Tables} {H : History} (s : Site t T H) (commit : Bool) (D L : Type 0) (f : StandsIn t n (Prepare x) Done T H)
+    (guide : All (λ r. IsGuided commit L x r.op) f.after) where
+  open s use {law, opening}
+  open f use {before, after, place}
+
   abbrev U : Tables
   U = tables_after before T
 
@@ -237,25 +239,25 @@ module _ (law : Tabled) (commit : Bool) (D L : Type 0) (t n : ℕ) (x : XidName)
 
   prepared : state_of now x ≡ Some Prepared
   prepared =
-      let w : AwaitsAfter t x [] now = law.awaits before [] t x T opening agreed (λ k d lt. absurd (omega (arith, lt))) in
+      let w : AwaitsAfter t x [] now = law.awaits before [] t x T opening (sym f.code) (λ k d lt. absurd (omega (arith, lt))) in
       search (arith, w.decision, w.fates)
 
   pub voted_now : fate_of x (Prepare x) (next t (Prepare x) U).1 ≡ Some history.InDoubt
-  voted_now = ap (fate_of x (Prepare x)) agreed ∙ at_true (xid_eq x x) _ None (xid_self x)
+  voted_now = ap (fate_of x (Prepare x)) (sym f.code) ∙ at_true (xid_eq x x) _ None (xid_self x)
 
-  pub fate_any : (f : Fate) → last_or f (fates x H T) ≡ last_or history.InDoubt (fates x after now)
-  fate_any f = search (arith, last_both, fates_both, request_of, cons_option, voted_now)
+  pub fate_any : (g : Fate) → last_or g (fates x H T) ≡ last_or history.InDoubt (fates x after now)
+  fate_any g = search (arith, last_both, fates_both, request_of, cons_option, voted_now, place)
 
   pub stands_now : D → Standing commit true D L x now history.InDoubt
   stands_now doubt = record { stands = waits doubt refl prepared refl; sound = sound_after t (Prepare x) U (run_sound before T (opening_sound T opening)) }
 
-  pub at_last : D → (f : Fate) → Standing commit true D L x (tables_after H T) (fate x f H T)
-  at_last doubt f =
-      rw (law.leaves H x f T ∙ fate_any f) (rw (ap (λ (h : History). tables_after h T) place ∙ tables_after-append before (request_of t n (Prepare x) ∷ after) T) (guided_after commit D L x after now history.InDoubt guide (stands_now doubt)))
+  pub at_last : D → (g : Fate) → Standing commit true D L x (tables_after H T) (fate x g H T)
+  at_last doubt g =
+      rw (law.leaves H x g T ∙ fate_any g) (rw (ap (λ (h : History). tables_after h T) place ∙ tables_after-append before (request_of t n (Prepare x) ∷ after) T) (guided_after commit D L x after now history.InDoubt guide (stands_now doubt)))
 
   -- and so what the Prepare and what is after it make of it
-  pub fates_from : D → (f : Fate) → fates x (request_of t n (Prepare x) ∷ after) U ≡ history.InDoubt ∷ once (fate x f H T)
-  fates_from doubt f =
+  pub fates_from : D → (g : Fate) → fates x (request_of t n (Prepare x) ∷ after) U ≡ history.InDoubt ∷ once (fate x g H T)
+  fates_from doubt g =
       ap (λ o. cons_option o (fates x after now)) voted_now
       ∙ ap (λ l. history.InDoubt ∷ l) ((fates_once commit D L x after now history.InDoubt guide (stands_now doubt)).1 refl
-      ∙ ap once (sym (law.leaves H x f T ∙ fate_any f)))
+      ∙ ap once (sym (law.leaves H x g T ∙ fate_any g)))

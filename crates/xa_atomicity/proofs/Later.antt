@@ -1,5 +1,4 @@
--- Where the request of a resolve that was answered stands in a history, and what it leaves; and what becomes of a branch
--- that was left, through the openings up to one with a resolve that reached it.
+-- What becomes of a branch that was left, through the openings up to the one with a resolve that reached it.
 use Rattle.xa_base.proofs.{◌⊎◌, inl, inr, ◌≡◌, ◌≢◌, ℕ, suc, ◌+◌, Bool, true, false, cond, ◌==◌, ◌||◌, List, [], ◌∷◌, ◌++◌, length, append_assoc, slice_get}
 use Rattle.xa_base.proofs.{get_or, sym, refl, ap, ◌∙◌, subst, arith, Option, Some, All, nat_cmp_total, eqb-true, false_from_ne_true, All-head, All-tail}
 use Rattle.xa_base.proofs.{tied_true, all_left, Contains, all_after, some_same, option_map, None, All-contains, Contains-append_left, Contains-append_right}

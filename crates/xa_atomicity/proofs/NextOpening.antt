@@ -1,6 +1,4 @@
--- One outcome for each global transaction, over openings one after another: a commit that came to its end is one that was cut short
--- after it. And a commit in an opening and resolves in the next one, with nothing else in either, where the scan of an opening has
--- what was left; what the outcomes of a resolve tell; and that a branch whose end was told isn't left to the next opening.
+-- What the laws of a commit and of the resolve after it say where the resolve is in the very next opening.
 use Rattle.xa_base.proofs.{found, contains_map, length-map-range_with_len, get_or-map-range_with_len, ◌≡◌, ℕ, zero, suc, ◌+◌, ◌-◌, ◌≤◌, ◌==◌, List, length, map}
 use Rattle.xa_base.proofs.{slice_get, option_map, Option, Some, None, sym, refl, ap, ◌∙◌, subst, arith, Contains, range_with_len, eqb-true, same_Some}
 use Rattle.xa_base.proofs.{slice_get-get_or, ◌≢◌, [], ◌∷◌, ◌++◌, All, map-append, All-nil, All-cons, All-head, All-tail, All-map, Bool, true, false, list_all}

@@ -1,20 +1,19 @@
--- What the log has of a transaction stays what its commit left; what a commit does to a desk's ledger with each manager, and
--- asks of a branch; and one outcome for all the branches of a call: on abort no Commit is sent.
+-- One outcome for all branches of a commit, by what it asks of each and what the log has of its transaction from then on.
 use Rattle.xa_base.proofs.{none_all, [], arith, and-false, cond, not, if◌then◌else◌, is_some, ◌≡◌, ℕ, Bool, true, false, ◌==◌, ◌&&◌, ◌||◌, List, ◌∷◌, sym, refl}
 use Rattle.xa_base.proofs.{ap, ◌∙◌, Some, None, All, get-insert, eq_by_cmp, is_eq, tied_itself, All-nil, All-cons, All-head, All-tail, and_parts, is_equal}
-use Rattle.xa_base.proofs.{at_false, at_true, by_if, rules, Option, ◌≤◌, eqb-true, list_any_none, list_any, or_from, not-true, false_from_ne_true, and_left}
-use Rattle.xa_base.proofs.{and_right, true_from_ne_false, both_ways}
+use Rattle.xa_base.proofs.{at_false, at_true, by_if, rules, Option, ◌≤◌, eqb-true, list_any, or_from, not-true, false_from_ne_true, and_left, and_right}
+use Rattle.xa_base.proofs.{true_from_ne_false, both_ways}
 use Rattle.xa_atomicity.specs.{is_recorded, Use, commits, cuts, resolves, AreUses, OfCommit, is_rolled_back, has_committed, has_rolled_back, has_vote_against}
-use Rattle.xa_atomicity.specs.{was_refused, IsCommittedTransaction, IsAbortedTransaction}
+use Rattle.xa_atomicity.specs.{was_refused, IsCommittedTransaction, IsAbortedTransaction, DidOnly}
 use Rattle.std.proofs.lemmas.Bool.{and_cases}
 use Rattle.xa_base.specs.{MOST_MANAGERS, IsUpTo}
 use Rattle.xa_words.specs.{TranName, Code, XidName, Op, Forget}
-use Rattle.xa_driver.specs.{names, Done, Branch, is_yes, decides_commit, has_yes, voted_yes, yes_of, Logs, appended, failed, unwanted, decision_of, is_decided}
-use Rattle.xa_driver.specs.{second_op, third_op, outcome_op, Ending, AtBranch, AsksLedger, EachBranch, IsTraceOfCommit, has_branch_at, AreBranchesRising}
-use Rattle.xa_driver.specs.{wants_record, NoCommitWasSent, is_commit, Heuristic, InDoubt, Left, RolledBack, Committed, is_read, is_no, ending_of, yes_ending}
-use Rattle.xa_driver.specs.{no_ending, IsCommit, IsTranOf}
+use Rattle.xa_driver.specs.{is_recorded_at, Done, Branch, is_yes, decides_commit, has_yes, voted_yes, yes_of, Logs, appended, failed, unwanted, decision_of}
+use Rattle.xa_driver.specs.{is_decided, second_op, third_op, outcome_op, Ending, AtBranch, AsksLedger, EachBranch, IsTraceOfCommit, has_branch_at}
+use Rattle.xa_driver.specs.{AreBranchesRising, wants_record, NoCommitWasSent, is_commit, Heuristic, InDoubt, Left, RolledBack, Committed, is_read, is_no}
+use Rattle.xa_driver.specs.{ending_of, yes_ending, no_ending, IsCommit, IsTranOf}
 use Rattle.xa_log.specs.{LogState, Records, record_of, tran_cmp}
-use Rattle.xa_driver.proofs.Mapped.{IsAskedFor, branch_by}
+use Rattle.xa_driver.proofs.Mapped.{IsAskedFor, branch_mapped}
 use Rattle.xa_desk.specs.{LedgerView, ledger, DeskView}
 use Rattle.xa_atomicity.specs.Outcomes.{is_committed}
 use Rattle.xa_driver.proofs.Calls.{one_tran}
@@ -22,16 +21,16 @@ use Rattle.std.proofs.Math.Bool.{and-true}
 use Rattle.xa_words.proofs.ManagerSets.{in_set_of}
 use Rattle.xa_log.proofs.Transactions.{tran_cmp_total, tran_cmp-IsAntisymmetric}
 use Rattle.std.specs.FinMap as map
-use Rattle.xa_atomicity.proofs.Resolves.{Sends, asks_on, stays}
+use Rattle.xa_atomicity.proofs.Resolves.{sends_on, stays, sent_none}
 
 -- the record of the transaction names the manager
 abbrev pub is_marked : Records → TranName → ℕ → Bool
-is_marked records t m = names (map.get records t) m
+is_marked records t m = is_recorded_at (map.get records t) m
 
 -- ---- a record that is made
 
 -- it names the managers that voted to commit
-mark_is : (m : ℕ) (bs : List Branch) (vs : List Code) → IsUpTo MOST_MANAGERS m → names (Some (yes_of bs vs)) m ≡ voted_yes m bs vs
+mark_is : (m : ℕ) (bs : List Branch) (vs : List Code) → IsUpTo MOST_MANAGERS m → is_recorded_at (Some (yes_of bs vs)) m ≡ voted_yes m bs vs
 mark_is m bs vs up = in_set_of (λ k. voted_yes k bs vs) m up
 
 -- where a branch voted to commit some vote is
@@ -77,8 +76,8 @@ pub own_mark : (bs : List Branch) (log later : LogState) (votes : List Code) (lo
     → record_of log t ≡ None → voted_yes m bs votes ≡ true → Logs t (yes_of bs votes) votes logged log later
     → is_marked later.records t m ≡ decision_of votes logged
 own_mark bs log later votes logged t m up absent here logs =
-    ap (λ o. names o m) (record_so t (yes_of bs votes) votes logged log later absent logs (some_yes m bs votes here))
-    ∙ by_if (λ o. names o m ≡ decision_of votes logged) (decision_of votes logged) (Some (yes_of bs votes)) None (λ on. mark_is m bs votes up ∙ here ∙ sym on) (λ off. sym off)
+    ap (λ o. is_recorded_at o m) (record_so t (yes_of bs votes) votes logged log later absent logs (some_yes m bs votes here))
+    ∙ by_if (λ o. is_recorded_at o m ≡ decision_of votes logged) (decision_of votes logged) (Some (yes_of bs votes)) None (λ on. mark_is m bs votes up ∙ here ∙ sym on) (λ off. sym off)
 
 -- ---- it stays
 
@@ -98,13 +97,13 @@ module _ (mark : Bool) (t : TranName) (m : ℕ) (up : IsUpTo MOST_MANAGERS m) wh
       → is_marked (map.insert log.records own (yes_of bs vs)) t m ≡ mark
   inserted bs vs log own absent quiet e =
       elim (eq_by_cmp tran_cmp t own) as (λ c. eq_by_cmp tran_cmp t own ≡ c → is_marked (map.insert log.records own (yes_of bs vs)) t m ≡ mark) [
-        | false ↦ λ other. ap (λ o. names o m) (get-insert tran_cmp_total log.records own (yes_of bs vs) t ∙ ap (λ c. cond c (Some (yes_of bs vs)) (map.get log.records t)) other)
+        | false ↦ λ other. ap (λ o. is_recorded_at o m) (get-insert tran_cmp_total log.records own (yes_of bs vs) t ∙ ap (λ c. cond c (Some (yes_of bs vs)) (map.get log.records t)) other)
             ∙ e
         | true ↦ λ same.
             let is : own ≡ t = sym (tran_cmp-IsAntisymmetric t own (is_equal _ same)) in
-            let unmarked : mark ≡ false = sym e ∙ ap (λ o. names o m) (ap (map.get log.records) (sym is) ∙ absent) in
+            let unmarked : mark ≡ false = sym e ∙ ap (λ o. is_recorded_at o m) (ap (map.get log.records) (sym is) ∙ absent) in
             ap (λ (k : TranName). is_marked (map.insert log.records own (yes_of bs vs)) k m) (sym is)
-            ∙ ap (λ o. names o m) (get-insert tran_cmp_total log.records own (yes_of bs vs) own ∙ ap
+            ∙ ap (λ o. is_recorded_at o m) (get-insert tran_cmp_total log.records own (yes_of bs vs) own ∙ ap
             (λ c. cond c (Some (yes_of bs vs)) (map.get log.records own)) (ap is_eq (tied_itself tran_cmp_total own)))
             ∙ mark_is m bs vs up ∙ quiet is unmarked ∙ sym unmarked
       ] refl
@@ -120,12 +119,12 @@ module _ (mark : Bool) (t : TranName) (m : ℕ) (up : IsUpTo MOST_MANAGERS m) wh
   marks_stay [] records h e quiet = All-nil (FindsMark mark t m)
   marks_stay (commits d ∷ us) records h e quiet =
       All-cons (FindsMark mark t m) (commits d) us tt
-      (marks_stay us d.later.records h.1 (All-head (IsQuiet mark t m) (commits d) us quiet (ap (λ o. names o m) h.0 ∙ e)) (All-tail (IsQuiet mark t m) (commits d) us quiet))
+      (marks_stay us d.later.records h.1 (All-head (IsQuiet mark t m) (commits d) us quiet (ap (λ o. is_recorded_at o m) h.0 ∙ e)) (All-tail (IsQuiet mark t m) (commits d) us quiet))
   marks_stay (cuts k ∷ us) records h e quiet =
       All-cons (FindsMark mark t m) (cuts k) us tt
-      (marks_stay us k.later.records h.1 (All-head (IsQuiet mark t m) (cuts k) us quiet (ap (λ o. names o m) h.0 ∙ e)) (All-tail (IsQuiet mark t m) (cuts k) us quiet))
+      (marks_stay us k.later.records h.1 (All-head (IsQuiet mark t m) (cuts k) us quiet (ap (λ o. is_recorded_at o m) h.0 ∙ e)) (All-tail (IsQuiet mark t m) (cuts k) us quiet))
   marks_stay (resolves q ∷ us) records h e quiet =
-      All-cons (FindsMark mark t m) (resolves q) us (ap (λ o. names o m) h.0 ∙ e) (marks_stay us records h.1 e (All-tail (IsQuiet mark t m) (resolves q) us quiet))
+      All-cons (FindsMark mark t m) (resolves q) us (ap (λ o. is_recorded_at o m) h.0 ∙ e) (marks_stay us records h.1 e (All-tail (IsQuiet mark t m) (resolves q) us quiet))
 
 pub second_so : (P : Op → Type 0) (commit : Bool) (x : XidName) (v : Code) → P (outcome_op commit x) → IsAskedFor P (second_op commit x v)
 second_so P commit x v so = search (arith, rules)
@@ -184,15 +183,13 @@ IsNoCommit op = is_commit op ≡ false
 pub abort_sends_no_commit : (tran : TranName) (bs : List Branch) (old new : List LedgerView) (log later : LogState) (done : Done)
     → IsTraceOfCommit tran bs old new log later done → done.commit ≡ false → NoCommitWasSent old new
 abort_sends_no_commit tran bs old new log later done call off m positive =
-    let z =
-    every_manager (Sends IsNoCommit) (stays IsNoCommit) (λ b. Unit {0}) old new done
+    sent_none is_commit (ledger old m) (ledger new m) (every_manager (DidOnly IsNoCommit) (stays IsNoCommit) (λ b. Unit {0}) old new done
     (λ b _ v s e a a' is. no_commit b v s e a a' (rw off at is)) tran bs log later
-    (λ k d lt. tt) call m positive in
-    record { more = z.more; sent = z.sent; none = list_any_none is_commit z.more z.all }
+    (λ k d lt. tt) call m positive)
   where
-    no_commit : (b : Branch) (v : Code) (s : Option Code) (e : Ending) (a a' : LedgerView) → AtBranch AsksLedger false b v s e a a' → Sends IsNoCommit a a'
+    no_commit : (b : Branch) (v : Code) (s : Option Code) (e : Ending) (a a' : LedgerView) → AtBranch AsksLedger false b v s e a a' → DidOnly IsNoCommit a a'
     no_commit b v s e a a' is =
-        branch_by AsksLedger IsNoCommit (Sends IsNoCommit a) (λ d z op c so asked q. asks_on IsNoCommit a d z op c so asked q) false b v s e a a' is (second_so IsNoCommit false b.xid v refl) (third_so IsNoCommit b.xid s (λ _. refl)) refl (stays IsNoCommit a)
+        (branch_mapped (sends_on IsNoCommit a) false b v s e a a' is (second_so IsNoCommit false b.xid v refl) (third_so IsNoCommit b.xid s (λ _. refl)) refl).on (stays IsNoCommit a)
 
 -- where the log didn't take the record, the decision is to abort
 pub failed_append_aborts : (tran : TranName) (bs : List Branch) (old new : List LedgerView) (log later : LogState) (done : Done)
@@ -234,8 +231,7 @@ module _ (Q : Branch → Code → Option Code → Ending → Type 0) (commit : B
   pub none_end : (bs : List Branch) (vs : List Code) (ss : List (Option Code)) (es : List Ending) → EachBranch Q bs vs ss es → All W vs
       → list_any test es ≡ false
   none_end [] [] [] [] h all = refl
-  none_end (b ∷ bs) (v ∷ vs) (s ∷ ss) (e ∷ es) h all =
-      or_from _ _ (ap test (ends b v s e h.0) ∙ falls v s (All-head W v vs all)) (none_end bs vs ss es h.1 (All-tail W v vs all))
+  none_end (b ∷ bs) (v ∷ vs) (s ∷ ss) (e ∷ es) h all = search (arith, none_end bs vs ss es h.1 (All-tail W v vs all), or_from, ends, All-head)
   none_end bs vs ss es h all = absurd h
 
 module _ (tran : TranName) (bs : List Branch) (desk : DeskView) (new : List LedgerView) (log later : LogState) (d : Done)

@@ -1,10 +1,10 @@
 -- One outcome for each global transaction whose commit was cut short, over openings one after another: no later use of the
 -- log marks a manager of one that was decided to abort.
-use Rattle.xa_base.proofs.{[], slice_get, arith, ◌≡◌, ℕ, Bool, true, List, ◌∷◌, get_or, false, All, All-nil, All-append, All-head, All-tail, rules, option_map}
-use Rattle.xa_base.proofs.{is_some, zero, ◌+◌, ◌++◌, length, sym, refl, ap, ◌∙◌, Option, Some, None, Contains, All-cons, All-contains, Contains-append_right}
-use Rattle.xa_base.proofs.{all_after, all_mid, all_right}
+use Rattle.xa_base.proofs.{contains_on, [], slice_get, arith, ◌≡◌, ℕ, Bool, true, List, ◌∷◌, get_or, false, All, All-nil, All-append, All-head, All-tail, rules}
+use Rattle.xa_base.proofs.{option_map, is_some, zero, ◌+◌, ◌++◌, length, sym, refl, ap, ◌∙◌, Option, Some, None, Contains, All-cons, All-contains}
+use Rattle.xa_base.proofs.{Contains-append_right, all_after, all_mid, all_right}
 use Rattle.xa_driver.specs.{voted_yes, IsTranOf, Branch, is_yes, yes_of, ending_of, is_decided, yes_ending, outcome_op, AreBranchesRising, HaveRoom, Logs}
-use Rattle.xa_driver.specs.{decision_of, names}
+use Rattle.xa_driver.specs.{decision_of, is_recorded_at}
 use Rattle.xa_words.specs.{Code, TranName, tran_of, Done, Op, Prepare, Request}
 use Rattle.xa_base.specs.{MOST_MANAGERS, IsUpTo, Begins}
 use Rattle.xa_desk.specs.{learnt_shut, ledger, LedgerView, HasGrown, HaveGrown}
@@ -29,7 +29,6 @@ use Rattle.xa_atomicity.proofs.CutBranch.{HasSentOnly, WasTold, asked_only, ende
 use Rattle.xa_atomicity.proofs.CutBranch.{voted_only, was_told}
 use Rattle.xa_atomicity.proofs.Leading.{IsTowards}
 use Rattle.xa_atomicity.proofs.Later.{ends_with}
-use Rattle.xa_atomicity.proofs.Resolves.{contains_on}
 
 -- what is shown of a commit that was cut short is shown of any
 of_commit : (s : Settling) (P Q : CutCall → Type 0) → ((k : CutCall) → IsUseIn s (cuts k) → P k → Q k) → (u : Use) → IsUseIn s u → OfCommit P u → OfCommit Q u
@@ -252,7 +251,7 @@ module _ (law : Tabled) (first : (s : Settling) (m : ℕ) (T : Tables) → IsSet
     undecided_so same h =
         let none : record_of k.later tran ≡ None = ap (λ (l : LogState). record_of l tran) same ∙ r.made.may.absent in
         result b among (own voted.asked) here ⊥ (asked_only commit ⊥ b (before_of b) (after_of b) h voted.asked) (λ l. absurd l)
-        (ap (λ o. names o b.m) none ∙ sym (ap is_some none))
+        (ap (λ o. is_recorded_at o b.m) none ∙ sym (ap is_some none))
 
     -- all had voted, and its second code was z, if it was heard
     module _ (votes : List Code) (logged : Bool) (logs : Logs tran (yes_of k.branches votes) votes logged k.log k.later) (v : Code)
@@ -296,11 +295,11 @@ module _ (law : Tabled) (first : (s : Settling) (m : ℕ) (T : Tables) → IsSet
     by_came (at_asking same h) = undecided_so same h
     by_came (at_telling votes logged logs v vote h) =
         voted_so votes logged logs v vote.marks None (told_voted_so (decision_of votes logged) (is_told_decision None ≡ true) b v (before_of b) (after_of b) h) (λ c e. cc)
-    by_came (at_forgetting votes logged logs v vote z h known) =
+    by_came (at_forgetting votes logged logs v vote z h) =
         let decision : Bool = decision_of votes logged in
         voted_so votes logged logs v vote.marks z (ended_voted_so decision (is_told_decision z ≡ true) b v z (before_of b) (after_of b) (λ l. l) h)
         (λ c e on open_ agreed. (
-          sym (known ∙ (λ i. ending_of decision (agreed i) (e i))),
+          sym (h.ends ∙ (λ i. ending_of decision (agreed i) (e i))),
           was_told decision b v c (before_of b) (after_of b) (rw e at h) open_ agreed on,
         ))
 

@@ -1,35 +1,33 @@
 -- What a resolve sent to a manager, and collected from it.
-use Rattle.xa_base.proofs.{contains_map, get_contained, length-append, Option, ◌≡◌, ◌≢◌, ℕ, zero, suc, ⊎_elim, ◌+◌, ◌-◌, ◌<◌, Bool, true, false, List, [], ◌∷◌}
-use Rattle.xa_base.proofs.{◌++◌, length, append-nil, append_assoc, get_or, sym, refl, ap, ◌∙◌, subst, arith, Some, false_from_ne_true, map, All, Contains}
-use Rattle.xa_base.proofs.{flat_map, list_any, range_with_len, All-nil, All-cons, All-append, Contains-append_left, Contains-append_right}
-use Rattle.xa_base.proofs.{length-range_with_len, get_or-range_with_len, any_at, contains_at, same_begins, begins_on, was_mapped, at_false, both_ways}
-use Rattle.xa_base.proofs.{Contains-append_cases, Contains-push_cases, Contains-push}
+use Rattle.xa_base.proofs.{contains_flat, flat_contains, contains_on, none_there, contains_map, get_contained, length-append, Option, ◌≡◌, ◌≢◌, ℕ, suc, ⊎_elim}
+use Rattle.xa_base.proofs.{◌+◌, ◌-◌, Bool, true, false, List, [], ◌∷◌, ◌++◌, length, append-nil, append_assoc, get_or, sym, ap, ◌∙◌, subst, arith, Some}
+use Rattle.xa_base.proofs.{false_from_ne_true, map, All, Contains, list_any, range_with_len, All-nil, All-cons, All-append, length-range_with_len}
+use Rattle.xa_base.proofs.{get_or-range_with_len, any_at, contains_at, same_begins, begins_on, was_mapped, at_false, both_ways, Contains-push_cases}
+use Rattle.xa_base.proofs.{Contains-push, list_any_none}
 use Rattle.xa_words.proofs.Xids.{xid_self}
-use Rattle.xa_base.specs.{none, MOST_MANAGERS, Begins, Chain, IsUpTo, more}
+use Rattle.xa_base.specs.{none, MOST_MANAGERS, Chain, IsUpTo, more}
 use Rattle.xa_words.specs.{XidName, xid_eq, Decides-xid_eq, RmFail, Op, OpenRm, CloseRm, Code, Forget}
 use Rattle.xa_desk.specs.{LedgerView, learnt_shut, with_sent, with_collected, ledger, HasGrown}
 use Rattle.xa_scan.specs.{ScanView, left_at}
 use Rattle.xa_driver.specs.{Outcome, AskTrace, asked, AsksLedger, IsTraceOfResolve, ResolvesAt, ResolvesBranch, is_to_commit, outcome_op, is_decided}
+use Rattle.xa_driver.specs.{HasSentNone}
 use Rattle.xa_log.specs.{Records}
-use Rattle.xa_driver.proofs.Mapped.{Any, Asks, IsAskedFor, anything, if_by, outcome_by, outcomes_by, resolves_by}
+use Rattle.xa_atomicity.specs.{DidOnly}
+use Rattle.xa_driver.proofs.Mapped.{Keeps, keeps, Any, Asks, IsAskedFor, anything, if_mapped, outcome_mapped, outcomes_mapped, resolves_mapped}
 use Rattle.xa_desk.proofs.Ledgers.{grown_on}
 use Rattle.std.proofs.lemmas.Map.Views.{Contains-from_any}
 use Rattle.xa_atomicity.proofs.Guided.{learnt_on}
 
 -- ---- what is sent
 
--- requests were sent, each of which is so, and no other; and what was collected stays
-pub record Sends (P : Op → Type 0) (a a' : LedgerView) : Type 0 where
-  pub more : List Op
-  pub sent : a'.sent ≡ a.sent ++ more
-  pub all : All P more
-  pub collected : Begins a.collected a'.collected
+pub sends_for : (P Q : Op → Type 0) → ((op : Op) → P op → Q op) → (a a' : LedgerView) → DidOnly P a a' → DidOnly Q a a'
+sends_for P Q so a a' z = record { more = z.more; sent = z.sent; all = λ k d lt. so (get_or z.more k d) (z.all k d lt); collected = z.collected }
 
 module _ (P : Op → Type 0) where
-  pub stays : (a : LedgerView) → Sends P a a
+  pub stays : (a : LedgerView) → DidOnly P a a
   stays a = record { more = []; sent = sym (append-nil a.sent); all = All-nil P; collected = same_begins a.collected }
 
-  pub on : (a b c : LedgerView) → Sends P a b → Sends P b c → Sends P a c
+  pub on : (a b c : LedgerView) → DidOnly P a b → DidOnly P b c → DidOnly P a c
   on a b c p q = record {
     more = p.more ++ q.more;
     sent = q.sent ∙ ap (λ l. l ++ q.more) p.sent ∙ append_assoc a.sent p.more q.more;
@@ -37,22 +35,23 @@ module _ (P : Op → Type 0) where
     collected = begins_on a.collected b.collected c.collected p.collected q.collected;
   }
 
-  pub asked_sends : (a : LedgerView) (op : Option Op) (code : Option Code) → IsAskedFor P op → Sends P a (asked a op code)
+  pub asked_sends : (a : LedgerView) (op : Option Op) (code : Option Code) → IsAskedFor P op → DidOnly P a (asked a op code)
   asked_sends a op code so = search (arith, stays, All-cons, All-nil)
 
-  asks_one : (a a' : LedgerView) (op : Op) (code : Code) → P op → AskTrace (Some op) (Some code) a a' → Sends P a a'
+  asks_one : (a a' : LedgerView) (op : Op) (code : Code) → P op → AskTrace (Some op) (Some code) a a' → DidOnly P a a'
   asks_one a a' op code so tr = rw tr.trace (asked_sends a (Some op) (Some code) so)
 
-  pub asks_on : (old a a' : LedgerView) (op : Op) (code : Code) → P op → AsksLedger a op a' code → Sends P old a → Sends P old a'
+  pub asks_on : (old a a' : LedgerView) (op : Op) (code : Code) → P op → AsksLedger a op a' code → DidOnly P old a → DidOnly P old a'
   asks_on old a a' op code so asked so_far = on old a a' so_far (asks_one a a' op code so asked)
 
--- ---- the outcomes of one manager are among all
+  pub sends_on : (old : LedgerView) → Keeps P AsksLedger (DidOnly P old)
+  sends_on old = keeps AsksLedger P (DidOnly P old) (asks_on old)
 
-contains_flat : {A B : Type 0} (f : A → List B) (xs : List A) (x : A) (k : ℕ) → k < length xs → get_or xs k x ≡ x → (y : B) → Contains (f x) y
-    → Contains (flat_map f xs) y
-contains_flat f [] x k lt e y c = absurd (omega (arith, lt))
-contains_flat {A} f (z ∷ xs) x zero lt e y c = Contains-append_left (f z) (flat_map f xs) y (rw e c)
-contains_flat f (z ∷ xs) x (suc k) lt e y c = Contains-append_right (f z) (flat_map f xs) y (contains_flat f xs x k (omega (arith, lt)) e y c)
+-- none of what isn't so was sent
+pub sent_none : (is : Op → Bool) (a a' : LedgerView) → DidOnly (λ op. is op ≡ false) a a' → HasSentNone is a a'
+sent_none is a a' z = record { more = z.more; sent = z.sent; none = list_any_none is z.more z.all }
+
+-- ---- the outcomes of one manager are among all
 
 module _ (z : ScanView) (records : Records) (old new : List LedgerView) (outcomes : List Outcome) (trace : IsTraceOfResolve z records old new outcomes) where
   pub of_all : (m : ℕ) → IsUpTo MOST_MANAGERS m → (o : Outcome) → Contains (trace.course.at m) o → Contains outcomes o
@@ -62,10 +61,10 @@ module _ (z : ScanView) (records : Records) (old new : List LedgerView) (outcome
 
   -- what a resolve sends to a manager
   pub resolve_sends : (P : Op → Type 0) (m : ℕ) → IsUpTo MOST_MANAGERS m → P OpenRm → ((o : Outcome) → Contains outcomes o → Asks P records m o)
-      → Sends P (ledger old m) (ledger new m)
+      → DidOnly P (ledger old m) (ledger new m)
   resolve_sends P m up opens so =
-      resolves_by AsksLedger P (Sends P (ledger old m)) (asks_on P (ledger old m)) records m (left_at z m) (trace.course.at m) (ledger old m)
-      (ledger new m) opens (λ o c. so o (of_all m up o c)) (trace.course.each m up) (stays P (ledger old m))
+      (resolves_mapped (sends_on P (ledger old m)) records m (left_at z m) (trace.course.at m) (ledger old m) (ledger new m) opens (λ o c. so o (of_all m up o c))
+      (trace.course.each m up)).on (stays P (ledger old m))
 
 -- ---- the request of one branch
 
@@ -74,9 +73,6 @@ IsNoClose op = op ≢ CloseRm
 
 ends_open : (commit : Bool) (x : XidName) → IsNoClose (outcome_op commit x)
 ends_open commit x e = grind arith
-
-none_there : {A : Type 0} (x : A) → Contains [] x → ⊥
-none_there x (k, lt, e) = absurd (omega (arith, lt))
 
 -- ---- the lists of one that was asked, and answered
 
@@ -88,17 +84,13 @@ pub record IsAnsweredIn (op : Op) (code : Code) (a : LedgerView) (ops : List Op)
   pub open_ : All IsNoClose mid
   pub told : Contains pairs (suc (length a.sent) + length mid, code)
 
--- what a list has one that has grown has too
-pub contains_on : {A : Type 0} (xs ys : List A) (x : A) → Begins xs ys → Contains xs x → Contains ys x
-contains_on {A} xs ys x b there = rw b.1 (Contains-append_left xs b.0 x there)
-
 -- what was asked and answered in time was sent
 sent_so : (a a' : LedgerView) (op : Op) (code : Code) → learnt_shut a ≡ false → AskTrace (Some op) (Some code) a a'
     → a' ≡ with_collected (with_sent a op) (length a.sent) code
 sent_so a a' op code open_ tr = tr.trace ∙ at_false (learnt_shut a) _ _ open_
 
 module _ (a opened now decided last : LedgerView) (op : Op) (first code : Code) (opens : AskTrace (Some OpenRm) (Some first) a opened)
-    (before : Sends IsNoClose opened now) (obeys : AskTrace (Some op) (Some code) now decided)
+    (before : DidOnly IsNoClose opened now) (obeys : AskTrace (Some op) (Some code) now decided)
     (grown : HasGrown decided last) (reached : code ≢ RmFail) where
   open_now : learnt_shut now ≡ false
   open_now = false_from_ne_true (learnt_shut now) (λ shut. reached (obeys.answered shut))
@@ -131,18 +123,18 @@ pub record IsAsked (records : Records) (m : ℕ) (o : Outcome) (a last : LedgerV
   pub answered : o.code ≢ RmFail → IsAnsweredIn (outcome_op o.commit o.xid) o.code a last.sent last.collected
 
 module _ (records : Records) (m : ℕ) (a opened last : LedgerView) (first : Code) (opens : AskTrace (Some OpenRm) (Some first) a opened) where
-  grows : (c d : LedgerView) → Sends Any c d → HasGrown d last → HasGrown c last
+  grows : (c d : LedgerView) → DidOnly Any c d → HasGrown d last → HasGrown c last
   grows c d z = grown_on c d last (record { sent = (z.more, z.sent); collected = z.collected })
 
-  one_asked : (p : Outcome) (now next : LedgerView) → Sends IsNoClose opened now → ResolvesBranch AsksLedger records m p now next → HasGrown next last
+  one_asked : (p : Outcome) (now next : LedgerView) → DidOnly IsNoClose opened now → ResolvesBranch AsksLedger records m p now next → HasGrown next last
       → IsAsked records m p a last
   one_asked p now next before leads grown = record {
     manager = leads.manager;
     decision = leads.decision;
     answered =
         answered_in a opened now leads.decided last (outcome_op p.commit p.xid) first p.code opens before leads.obeys
-        (grows leads.decided next (if_by AsksLedger Any (Sends Any leads.decided) (asks_on Any leads.decided) (is_decided p.code)
-        (Forget p.xid) leads.decided next (λ _. tt) leads.forgets (stays Any leads.decided)) grown);
+        (grows leads.decided next ((if_mapped (sends_on Any leads.decided) (is_decided p.code) (Forget p.xid) leads.decided next (λ _. tt) leads.forgets).on
+        (stays Any leads.decided)) grown);
   }
 
   chain_asked : (os : List Outcome) (a' : LedgerView) → Chain (ResolvesBranch AsksLedger records m) opened os a' → HasGrown a' last → (o : Outcome)
@@ -151,10 +143,10 @@ module _ (records : Records) (m : ℕ) (a opened last : LedgerView) (first : Cod
   chain_asked _ _ (none xs z e f) grown o there = absurd (none_there o (rw e at there))
   chain_asked _ _ (more xs p now next chain leads) grown o there =
       ⊎_elim (λ (c : Contains xs o).
-      chain_asked xs now chain (grows now next (outcome_by AsksLedger Any (Sends Any now) (asks_on Any now) records m p now next (anything records m p) leads
+      chain_asked xs now chain (grows now next ((outcome_mapped (sends_on Any now) records m p now next (anything records m p) leads).on
       (stays Any now)) grown) o c)
       (λ (same : p ≡ o).
-      rw same at (one_asked p now next (outcomes_by AsksLedger IsNoClose (Sends IsNoClose opened) (asks_on IsNoClose opened) records m opened xs now (λ q _. record { ends = λ _ _. ends_open q.commit q.xid; forgets = λ _ _ e. cc }) chain (stays IsNoClose opened)) leads grown))
+      rw same at (one_asked p now next ((outcomes_mapped (sends_on IsNoClose opened) records m opened xs now (λ q _. record { ends = λ _ _. ends_open q.commit q.xid; forgets = λ _ _ e. cc }) chain).on (stays IsNoClose opened)) leads grown))
       (Contains-push_cases xs p o there)
 
 at_asked : (records : Records) (m : ℕ) (xs : List XidName) (os : List Outcome) (a a' last : LedgerView) → ResolvesAt AsksLedger records m xs os a a'
@@ -178,13 +170,6 @@ at_left records m [] os a a' h o there = absurd (none_there o (rw h.0 at there))
 at_left records m (x ∷ xs) os a a' h o there =
     let c : Contains (x ∷ xs) o.xid = rw h.xids_are at (contains_map (λ (w : Outcome). w.xid) os o there) in
     any_at (xid_eq o.xid) (x ∷ xs) c.0 o.xid (get_contained (x ∷ xs) o.xid c) (xid_self o.xid)
-
--- an element of lists that are put together is in one of them
-flat_contains : {A B : Type 0} (f : A → List B) (xs : List A) (y : B) → Contains (flat_map f xs) y → (x : A) × (Contains xs x × Contains (f x) y)
-flat_contains f [] y (k, lt, e) = absurd (omega (arith, lt))
-flat_contains f (x ∷ xs) y c =
-    ⊎_elim (λ (here : Contains (f x) y). (x, ((zero, omega arith, refl), here))) (λ (later : Contains (flat_map f xs) y). let z = flat_contains f xs y later in (z.0, (Contains-append_right (x ∷ []) xs z.0 z.1.0, z.1.1)))
-    (Contains-append_cases (f x) (flat_map f xs) y c)
 
 pub upto_so : (most m : ℕ) → Contains (range_with_len 1 most) m → IsUpTo most m
 upto_so most m (k, lt, e) = search (arith, length-range_with_len, get_or-range_with_len)

@@ -1,30 +1,29 @@
 -- What the branches of a call came to in a settled opening, where what they were asked by a desk's ledgers stands in their
 -- managers' histories.
-use Rattle.xa_base.proofs.{got_on, none_all, Contains-push, [], All-nil, All-cons, inl, inr, ◌≡◌, ℕ, Bool, true, false, List, ◌∷◌, ◌++◌, length, length-append}
-use Rattle.xa_base.proofs.{append_assoc, slice_get, refl, ap, ◌∙◌, arith, Option, Some, All, list_any-append, at_false, at_true, All-contains, All-head}
-use Rattle.xa_base.proofs.{All-tail, Contains, list_any, list_any_at, ◌≤◌, if◌then◌else◌, sym, le-leb, cases_lt, or_parts, not-true, pos, false_from_ne_true}
-use Rattle.xa_base.proofs.{or-false}
+use Rattle.xa_base.proofs.{contains_on, got_on, none_all, Contains-push, [], All-nil, All-cons, inl, inr, ◌≡◌, ℕ, Bool, true, false, List, ◌∷◌, ◌++◌, length}
+use Rattle.xa_base.proofs.{length-append, append_assoc, slice_get, refl, ap, ◌∙◌, arith, Option, Some, All, list_any-append, at_false, at_true, All-contains}
+use Rattle.xa_base.proofs.{All-head, All-tail, Contains, list_any, list_any_at, ◌≤◌, if◌then◌else◌, sym, le-leb, cases_lt, or_parts, not-true, pos}
+use Rattle.xa_base.proofs.{false_from_ne_true, or-false}
 use Rattle.xa_base.specs.{Begins}
 use Rattle.xa_words.specs.{Code, Op, TranName, XidName, Request}
 use Rattle.xa_tables.specs.{Tables, History, coded, HeuristicDecision, state_of, next, told_by, Fate, IsFateOf, decided_fate, tables_after}
 use Rattle.xa_desk.specs.{LedgerView, learnt_shut, with_sent, with_collected, ledger, no_ledger, is_known, HasGrown, HaveGrown, DeskView}
 use Rattle.xa_switch.specs.{collected, answers, Settling, IsSettled, sent, IsOpenedWith, ledgers_of, history as history_of}
 use Rattle.xa_driver.specs.{Done, Branch, Ending, AtBranch, AsksLedger, is_yes, is_no, ending_of, second_op, third_op, EachBranch, IsCommit, IsTraceOfCommit}
-use Rattle.xa_driver.specs.{ReadOnly}
-use Rattle.xa_driver.proofs.Mapped.{branch_mapped, any_asked, branch_by}
+use Rattle.xa_driver.specs.{ReadOnly, sent_so_far}
+use Rattle.xa_driver.proofs.Mapped.{Morphism, keeps, Any, any_asked, branch_mapped}
 use Rattle.xa_driver.proofs.Requests.{asked_grows}
 use Rattle.xa_desk.proofs.Ledgers.{as_it_was, grown_on, past_end}
 use Rattle.xa_log.specs.{LogState}
 use Rattle.xa_atomicity.specs.{is_in_doubt, is_decided, AreLeftAlone, AreLeftOrDecided, OnlyTheseName, OnlyTheseOrDecisionsName, IsDecidedAfter, KeepsItsVote}
 use Rattle.xa_atomicity.specs.{TellsTheFate, undecided, decided, told_fate, EachOutcome, KeepsTheVotes, TellsTheFates, has_committed, is_rolled_back}
-use Rattle.xa_atomicity.specs.{is_heuristic, is_left, is_read_only, sent_so_far, Shares, CountsTheCommitted, HasAllOrNothing, Tabled}
+use Rattle.xa_atomicity.specs.{is_heuristic, is_left, is_read_only, Shares, CountsTheCommitted, HasAllOrNothing, Tabled}
 use Rattle.xa_atomicity.specs.Outcomes.{is_committed}
 use Rattle.xa_atomicity.proofs.Sites.{Site, StandsIn, Sent, AsksIn, stands_by, at_seam, IsFromTo, own_sent}
-use Rattle.xa_atomicity.proofs.Courses.{Course, course_of, own_plain}
+use Rattle.xa_atomicity.proofs.Courses.{Course, asked_at, course_of, own_plain}
 use Rattle.xa_atomicity.proofs.OneOutcome.{every_manager, branch_map, positive_all, committed_law}
 use Rattle.xa_atomicity.proofs.Values.{Counted, branch_counts}
 use Rattle.xa_atomicity.proofs.Fated.{Told, branch_told, none_decides}
-use Rattle.xa_atomicity.proofs.Resolves.{contains_on}
 
 -- how many requests a ledger has, and whether it has learnt that its manager is shut
 abbrev pub heard : LedgerView → Sent
@@ -77,13 +76,20 @@ module _ (law : Tabled) (s : Settling) (settled : IsSettled s) (t m : ℕ) (T : 
         sent_stands positive (with_collected (with_sent a op) (length a.sent) c) later (length a.sent) op c (at_seam a.sent op [])
         (contains_on (a.collected ++ (length a.sent, c) ∷ []) _ (length a.sent, c) later.collected (Contains-push a.collected (length a.sent, c)))
 
+    heard_in : Morphism Any AsksLedger (AsksIn t T (history_of s m)) heard (λ z. Unit {0}) Later
+    heard_in = record {
+      each = λ d e op c _ is. record {
+        on = λ q. q;
+        back = grown_on d e (ledger (ledgers_of s t) m) (rw is.trace (asked_grows d (Some op) (Some c)));
+        over = λ _ now. search (arith, at_true, at_false, stands_in, is.answered, length-append, list_any-append, or-false);
+      };
+    }
+
     branch_in : (b : Branch) (commit : Bool) (vote : Code) (second : Option Code) (ending : Ending) (a a' : LedgerView)
         → AtBranch AsksLedger commit b vote second ending a a' → Later a'
         → AtBranch (AsksIn t T (history_of s m)) commit b vote second ending (heard a) (heard a')
     branch_in b commit vote second ending a a' is later =
-        branch_mapped AsksLedger (AsksIn t T (history_of s m)) heard (λ z. Unit {0}) Later (λ d e op c is q. tt)
-        (λ d e op c is now. grown_on d e (ledger (ledgers_of s t) m) (rw is.trace (asked_grows d (Some op) (Some c))) now)
-        (λ d e op c is q now. search (arith, at_true, at_false, stands_in, is.answered, length-append, list_any-append, or-false)) commit b vote second ending a a' is tt later
+        (branch_mapped heard_in commit b vote second ending a a' is (any_asked (second_op commit b.xid vote)) (any_asked (third_op b.xid second)) tt).over tt later
 
 -- of a branch that didn't vote against a test fails that fails where it voted yes, and where it only read
 unless_against : (test : Ending → Bool) (commit : Bool) (vote : Code) (second : Option Code) → test ReadOnly ≡ false
@@ -142,7 +148,7 @@ each_outcome C P Q so bs vs zs es all h = absurd h
 module _ (law : Tabled) (s : Settling) (t : ℕ) (settled : IsSettled s) (b : Branch) (commit : Bool) (v : Code) (z : Option Code) (e : Ending)
     (a a' : LedgerView) (positive : 1 ≤ b.m) (grown : HasGrown a' (ledger (ledgers_of s t) b.m)) (is : AtBranch AsksLedger commit b v z e a a')
     (T : Tables) (with_T : IsOpenedWith s b.m T) where
-  its_course : Course (site_of law s settled t b.m T with_T) b.xid (length a.sent) (length a'.sent) v commit e
+  its_course : Course (asked_at (site_of law s settled t b.m T with_T) b.xid (length a.sent) (length a'.sent) v) commit e
   its_course =
       course_of (site_of law s settled t b.m T with_T) b commit v z e (heard a) (heard a')
       (branch_in law s settled t b.m T with_T positive b commit v z e a a' is grown)
@@ -150,7 +156,7 @@ module _ (law : Tabled) (s : Settling) (t : ℕ) (settled : IsSettled s) (b : Br
   -- and what became of it
   pub told_in : OnlyTheseOrDecisionsName b.xid t (length a.sent) (length a'.sent) (history_of s b.m)
       → Told t b.xid (told_by (state_of T b.xid)) T (history_of s b.m) (length a.sent) v e
-  told_in only = search (arith, branch_told, its_course)
+  told_in only = branch_told its_course (told_by (state_of T b.xid)) (law.first b.xid T) only
 
 -- in a settled opening, by the histories of its managers
 module _ (law : Tabled) (opened : (s : Settling) (m : ℕ) → IsSettled s → (T : Tables) × IsOpenedWith s m T) (s : Settling) (t : ℕ) where
@@ -173,13 +179,12 @@ module _ (law : Tabled) (opened : (s : Settling) (m : ℕ) → IsSettled s → (
     -- what a branch went through, in its manager's history
     abbrev pub InHistory : Branch → Code → Option Code → Ending → Type 0
     InHistory b v z e = (T : Tables) (with_T : IsOpenedWith s b.m T)
-        → Course (site_of law s settled t b.m T with_T) b.xid (old b.m) (new b.m) v commit e × (e ≡ ending_of commit v z)
+        → Course (asked_at (site_of law s settled t b.m T with_T) b.xid (old b.m) (new b.m) v) commit e × (e ≡ ending_of commit v z)
 
     module _ (b : Branch) (vote : Code) (second : Option Code) (ending : Ending) (is : InHistory b vote second ending) where
       one_told : OnlyTheseOrDecisionsName b.xid t (old b.m) (new b.m) (history_of s b.m) → (before : Fate) (T : Tables) → IsOpenedWith s b.m T
           → IsFateOf b.xid before T → Told t b.xid before T (history_of s b.m) (old b.m) vote ending
-      one_told only before T with_T fits =
-          branch_told (site_of law s settled t b.m T with_T) b.xid (old b.m) (new b.m) commit vote ending (is T with_T).0 before fits only
+      one_told only before T with_T fits = branch_told (is T with_T).0 before fits only
 
       one_voted : OnlyTheseOrDecisionsName b.xid t (old b.m) (new b.m) (history_of s b.m) → (T : Tables) → IsOpenedWith s b.m T
           → Told t b.xid (told_by (state_of T b.xid)) T (history_of s b.m) (old b.m) vote ending
@@ -211,11 +216,11 @@ module _ (law : Tabled) (opened : (s : Settling) (m : ℕ) → IsSettled s → (
           let site = site_of law s settled t b.m open_.0 open_.1 in
           let ends = (is open_.0 open_.1).1 in
           let plain : is_yes vote ≡ true → is_heuristic ending ≡ false = λ y. false_from_ne_true (is_heuristic ending) (λ h.
-          none_decides site b.xid (old b.m) (new b.m) only (own_plain site b.xid (old b.m) (new b.m) vote commit ending (is open_.0 open_.1).0)
+          none_decides site b.xid (old b.m) (new b.m) only (own_plain (is open_.0 open_.1).0)
           ((one_voted weak open_.0 open_.1).decided y h)) in
           record {
             fated = one_fated weak;
-            counted = λ U with_U. branch_counts (site_of law s settled t b.m U with_U) b.xid (old b.m) (new b.m) commit vote ending (is U with_U).0 only;
+            counted = λ U with_U. branch_counts (is U with_U).0 only;
             undecided = λ no. ap is_heuristic ends ∙ unless_against is_heuristic commit vote second refl (λ y. sym (ap is_heuristic ends) ∙ plain y) no;
           }
 
@@ -289,8 +294,7 @@ module _ (law : Tabled) (opened : (s : Settling) (m : ℕ) → IsSettled s → (
 traced_grows : (commit : Bool) (b : Branch) (v : Code) (z : Option Code) (e : Ending) (a a' : LedgerView) → AtBranch AsksLedger commit b v z e a a'
     → HasGrown a a'
 traced_grows commit b v z e a a' is =
-    branch_by AsksLedger (λ op. Unit {0}) (HasGrown a) (λ d w op c so asked q. grown_on a d w q (rw asked.trace (asked_grows d (Some op) (Some c)))) commit b v z e a a' is
-    (any_asked (second_op commit b.xid v)) (any_asked (third_op b.xid z)) tt (as_it_was a)
+    (branch_mapped (keeps AsksLedger Any (HasGrown a) (λ d w op c _ asked q. grown_on a d w q (rw asked.trace (asked_grows d (Some op) (Some c))))) commit b v z e a a' is (any_asked (second_op commit b.xid v)) (any_asked (third_op b.xid z)) tt).on (as_it_was a)
 
 pub growth_law : (tran : TranName) (bs : List Branch) (old new : List LedgerView) (log later : LogState) (d : Done)
     → IsTraceOfCommit tran bs old new log later d → HaveGrown old new

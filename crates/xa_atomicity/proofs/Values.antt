@@ -2,21 +2,20 @@
 -- move there, the share that a value has of an addition, by the fates of its branch, and both for a branch of a call.
 use Rattle.xa_base.proofs.{by_if, false_from_ne_true, and_parts, eqb-true, le-leb, ℤ, pos, ◌+ℤ◌, nat_le, if◌then◌else◌, ◌≡◌, ℕ, suc, ◌<◌, ◌≤◌, Bool, true}
 use Rattle.xa_base.proofs.{false, ◌==◌, ◌&&◌, List, [], ◌∷◌, ◌++◌, length, get_or, sym, refl, ap, ◌∙◌, arith, eq-eqb, All, ints, and-false, +ℤ_idl as none_plus}
-use Rattle.xa_base.proofs.{+ℤ_idr as plus_none, append_assoc, Option, Some, None, cons_option, at_true, ◌≢◌, all_left, all_after, All-cons, cases_Bool, by_bool}
-use Rattle.xa_base.proofs.{All-append, lt-leb, leb-true, leb-false, both_ways}
+use Rattle.xa_base.proofs.{+ℤ_idr as plus_none, append_assoc, Option, Some, None, cons_option, at_true, ◌≢◌, all_left, all_after, All-cons, cases_Bool, lt-leb}
+use Rattle.xa_base.proofs.{leb-true, leb-false, both_ways}
 use Rattle.xa_tables.specs.{moved_by, Answer, next, tables_after, is_done, moved, held_by, Tables, History, Association, association_of, Fate, coded}
 use Rattle.xa_tables.specs.{commits_later, ending, ending_by, fate_of, or_later, share, EndsNowhere, names, NamesNowhere, is_forget, commit_fate}
-use Rattle.xa_words.specs.{Op, Commit, Request, Code, XidName, Decides-key_eq, Prepare, Done, RdOnly, RmFail, Rollback, xid_eq}
+use Rattle.xa_words.specs.{Op, Commit, Request, Code, XidName, Decides-key_eq, Prepare, Done, RdOnly, xid_eq}
 use Rattle.xa_driver.specs.{is_commit, Ending, ReadOnly, RolledBack, Left, is_yes, yes_ending, no_ending, outcome_op}
 use Rattle.xa_atomicity.specs.{taken_before, IsAddition, prepare_of, IsBetween, OnlyTheseName, is_read_only as is_read_only_ending, none_later}
 use Rattle.xa_tables.proofs.ValueLaw.{tables_after-append, unnamed_fate}
 use Rattle.xa_words.proofs.Xids.{xid_self}
 use Rattle.xa_atomicity.specs.Outcomes.{is_committed}
 use Rattle.xa_tables.specs.Histories as history
-use Rattle.xa_atomicity.proofs.Sites.{request_of, fates, fates_both, none_first, Site, StandsIn, below, at_place, Second, second_of}
-use Rattle.xa_atomicity.proofs.Courses.{Unreached, Reads, Breaks, Stays, Agrees, Refuses, yes_is, read_is, Sends, SendsOne, Course, rest_forgets, one_own}
-use Rattle.xa_atomicity.proofs.Courses.{two_own}
-use Rattle.xa_atomicity.proofs.OneOutcome.{Falls, after_no, after_yes, uncommitted}
+use Rattle.xa_atomicity.proofs.Sites.{request_of, fates, fates_both, none_first, Site, StandsIn, only_op, below, at_place, Second, second_of}
+use Rattle.xa_atomicity.proofs.Courses.{Reads, Breaks, Stays, Agrees, Refuses, Asked, Voted, Sends, Course, rest_forgets, each_sent}
+use Rattle.xa_atomicity.proofs.OneOutcome.{after_no, after_yes, uncommitted}
 
 -- a request of thread t with a number from `first` to below `last`
 abbrev pub is_within : ℕ → ℕ → ℕ → Request → Bool
@@ -149,22 +148,15 @@ pub add_place : (x : XidName) (k : List ℕ) (d : ℤ) (t n : ℕ) (T : Tables) 
 add_place x k d t n T H add = add.place ∙ sym (append_assoc add.before (add.adding ∷ add.between) (request_of t n (Prepare x) ∷ add.after))
 
 -- where no Commit names the branch none commits it
+none_more : (x : XidName) (op : Op) (c : Code) (fs : List Fate) → (names x op ≡ true → is_commit op ≡ false) → commits_or false fs ≡ false
+    → commits_or false (cons_option (fate_of x op c) fs) ≡ false
+none_more x (Commit y one_phase) c fs none rest = grind (arith, commits_or, cons_option)
+none_more x op c fs none rest = grind (arith, commits_or, cons_option)
+
 commits_none : (x : XidName) (h : History) (T : Tables) → All (λ r. names x r.op ≡ true → is_commit r.op ≡ false) h → commits_or false (fates x h T) ≡ false
 commits_none x [] T none = refl
 commits_none x (r ∷ h) T none =
-    let rest = commits_none x h (next r.thread r.op T).0 (λ k d lt. none (suc k) d (omega (arith, lt))) in
-    one r.op (next r.thread r.op T).1 (fates x h (next r.thread r.op T).0) (none 0 r (omega arith)) rest
-  where
-    plain : (op : Op) (c : Code) (fs : List Fate) → is_commit op ≡ false → commits_or false fs ≡ false
-        → commits_or false (cons_option (fate_of x op c) fs) ≡ false
-    plain (Prepare y) c fs e rest = search (arith, commits_or, cons_option)
-    plain op c fs e rest = search (arith, commits_or, cons_option)
-
-    one : (op : Op) (c : Code) (fs : List Fate) → (names x op ≡ true → is_commit op ≡ false) → commits_or false fs ≡ false
-        → commits_or false (cons_option (fate_of x op c) fs) ≡ false
-    one op c fs none rest =
-        by_bool (λ _. commits_or false (cons_option (fate_of x op c) fs) ≡ false) (names x op) (λ n. plain op c fs (none n) rest)
-        (λ n. rw (unnamed_fate x op c n) rest)
+    none_more x r.op _ _ (none 0 r (omega arith)) (commits_none x h (next r.thread r.op T).0 (λ k d lt. none (suc k) d (omega (arith, lt))))
 
 -- what nowhere names it makes nothing of it
 unnamed : (x : XidName) (h : History) (T : Tables) → NamesNowhere x h → fates x h T ≡ []
@@ -187,157 +179,136 @@ pub record Counted (t : ℕ) (x : XidName) (T : Tables) (H : History) (n last : 
       → moved accounts (is_within t n last) H T ≡ (if is_committed e then held_by accounts x (tables_after (taken_before t n H) T) else pos 0)
   pub reads : is_read_only_ending e ≡ true → (accounts : List (List ℕ × ℕ)) → held_by accounts x (tables_after (taken_before t n H) T) ≡ pos 0
 
-module _ {t : ℕ} {T : Tables} {H : History} (site : Site t T H) (x : XidName) (n : ℕ) (vote : Code) where
-  abbrev Voted : Type 0
-  Voted = StandsIn t n (Prepare x) vote T H
+-- what was taken before a branch's Prepare, and that no request there has its number or a later one
+pub taken : {t : ℕ} {T : Tables} {H : History} (site : Site t T H) (x : XidName) (n : ℕ) (vote : Code) (f : StandsIn t n (Prepare x) vote T H)
+    → taken_before t n H ≡ f.before
+taken {t} site x n vote f =
+    ap (taken_before t n) f.place ∙ taken_is t n f.before f.after (request_of t n (Prepare x)) refl refl (below site n (Prepare x) f.before f.after f.place)
 
-  -- what was taken before it, and that no request there has its number or a later one
-  pub taken : (f : Voted) → taken_before t n H ≡ f.before
-  taken f = ap (taken_before t n) f.place ∙ taken_is t n f.before f.after (request_of t n (Prepare x)) refl refl
-      (below site n (Prepare x) f.before f.after f.place)
+module _ {t : ℕ} {T : Tables} {H : History} (a : Asked t T H) (only : OnlyTheseName a.xid t a.number a.last H) where
+  open a use {site, xid as x, number as n, last, vote}
+
+  abbrev Goal : Ending → Type 0
+  Goal e = Counted t x T H n last e
+
+  -- what the branch holds at its Prepare
+  abbrev held : List (List ℕ × ℕ) → ℤ
+  held accounts = held_by accounts x (tables_after (taken_before t n H) T)
+
+  abbrev Plain : Request → Type 0
+  Plain r = r.thread ≡ t → n ≤ r.number → r.number < last → is_commit r.op ≡ false
 
   -- the vote on an addition isn't that of a branch that only read
-  never_reads : Voted → (k : List ℕ) (d : ℤ) → IsAddition x k d t n T H → vote ≢ RdOnly
+  never_reads : Voted a → (k : List ℕ) (d : ℤ) → IsAddition x k d t n T H → vote ≢ RdOnly
   never_reads first k d add reads =
-      let f : Voted = at_place site n (Prepare x) vote first (add.before ++ add.adding ∷ add.between) add.after (add_place x k d t n T H add) in
+      let f : Voted a = at_place site n (Prepare x) vote first (add.before ++ add.adding ∷ add.between) add.after (add_place x k d t n T H add) in
       search (arith, tables_after-append, add.adding.thread, add.adding.op, add.between, add.before, add.adds, add.branch, add.answered)
 
-  module _ (last : ℕ) (only : OnlyTheseName x t n last H) where
-    abbrev Goal : Ending → Type 0
-    Goal e = Counted t x T H n last e
+  -- where the call sent no Commit of it, and it only read where it voted so
+  silent : All Plain H → (e : Ending) → is_committed e ≡ false → (is_read_only_ending e ≡ true → Voted a × (vote ≡ RdOnly)) → Goal e
+  silent none e not only_read = record {
+    counted = λ k d add.
+        let place = add_place x k d t n T H add in
+        let no_commit : All (λ r. names x r.op ≡ true → is_commit r.op ≡ false) (request_of t n (Prepare x) ∷ add.after) =
+        All-cons (λ (r : Request). names x r.op ≡ true → is_commit r.op ≡ false) (request_of t n (Prepare x)) add.after (λ _. refl) (λ j r lt named.
+        let own = only (add.before ++ add.adding ∷ add.between) add.after (request_of t n (Prepare x)) place refl refl j r lt named in
+        all_after Plain (add.before ++ add.adding ∷ add.between) (request_of t n (Prepare x)) add.after
+        (rw place at none) j r lt own.thread own.from own.below) in
+        share_is x k d t n T H none_later add _ refl ∙ ap (λ q. if q then d else pos 0)
+        (commits_none x (request_of t n (Prepare x) ∷ add.after) (tables_after (add.before ++ add.adding ∷ add.between) T) no_commit ∙ sym not);
+    adders = λ k d add. false_from_ne_true (is_read_only_ending e) (λ r. never_reads (only_read r).0 k d add (only_read r).1);
+    moves = λ accounts.
+        moved_without accounts (is_within t n last) H T (λ k d lt passes. let w = within_parts t n last (get_or H k d) passes in none k d lt w.0 w.1 w.2)
+        ∙ ap (λ q. if q then held accounts else pos 0) (sym not);
+    reads = λ r accounts.
+        let f = (only_read r).0 in
+        rw (taken site x n vote f) (site.law.reads accounts t x (tables_after f.before T) (sym f.code ∙ (only_read r).1));
+  }
 
-    -- what the branch holds at its Prepare
-    abbrev held : List (List ℕ × ℕ) → ℤ
-    held accounts = held_by accounts x (tables_after (taken_before t n H) T)
+  unread : All Plain H → (e : Ending) → is_committed e ≡ false → is_read_only_ending e ≡ false → Goal e
+  unread none e not writes = silent none e not (λ r. absurd (both_ways (is_read_only_ending e) writes r))
 
-    abbrev Plain : Request → Type 0
-    Plain r = r.thread ≡ t → n ≤ r.number → r.number < last → is_commit r.op ≡ false
+  -- ---- its Commit
 
-    -- where the call sent no Commit of it
-    silent : All Plain H → (e : Ending) → is_committed e ≡ false → ((k : List ℕ) (d : ℤ) → IsAddition x k d t n T H → is_read_only_ending e ≡ false)
-        → (is_read_only_ending e ≡ true → (accounts : List (List ℕ × ℕ)) → held accounts ≡ pos 0) → Goal e
-    silent none e not adders reads = record {
-      counted = λ k d add.
-          let place = add_place x k d t n T H add in
-          let no_commit : All (λ r. names x r.op ≡ true → is_commit r.op ≡ false) (request_of t n (Prepare x) ∷ add.after) =
-          All-cons (λ (r : Request). names x r.op ≡ true → is_commit r.op ≡ false) (request_of t n (Prepare x)) add.after (λ _. refl) (λ j r lt named.
-          let own = only (add.before ++ add.adding ∷ add.between) add.after (request_of t n (Prepare x)) place refl refl j r lt named in
-          all_after Plain (add.before ++ add.adding ∷ add.between) (request_of t n (Prepare x)) add.after
-          (rw place at none) j r lt own.thread own.from own.below) in
-          share_is x k d t n T H none_later add _ refl ∙ ap (λ q. if q then d else pos 0)
-          (commits_none x (request_of t n (Prepare x) ∷ add.after) (tables_after (add.before ++ add.adding ∷ add.between) T) no_commit ∙ sym not);
-      adders = adders;
-      moves = λ accounts.
-          moved_without accounts (is_within t n last) H T (λ k d lt passes. let w = within_parts t n last (get_or H k d) passes in none k d lt w.0 w.1 w.2)
-          ∙ ap (λ q. if q then held accounts else pos 0) (sym not);
-      reads = reads;
-    }
+  module _ (agreed : vote ≡ Done) (c : Code) (z : Sends a (Commit x false) c) where
+    module _ (f : Voted a) where
+      abbrev s : Second site n (Prepare x) vote f (Commit x false) c
+      s = second_of site n (Prepare x) vote f (Commit x false) c z.second
 
-    unread : All Plain H → (e : Ending) → is_committed e ≡ false → is_read_only_ending e ≡ false → Goal e
-    unread none e not writes = silent none e not (λ k d add. writes) (λ r. absurd (both_ways (is_read_only_ending e) writes r))
+      abbrev now : Tables
+      now = (next t (Prepare x) (tables_after f.before T)).0
 
-    -- ---- its Commit
+      only_parts : All (λ q. names x q.op ≡ true → IsBetween t n last q) (s.mid ++ request_of t (suc n) (Commit x false) ∷ s.rest)
+      only_parts = search (arith, request_of)
 
-    module _ (agreed : vote ≡ Done) (c : Code) (z : Sends site x n last vote (Commit x false) c) where
-      module _ (f : Voted) where
-        abbrev s : Second site n (Prepare x) vote f (Commit x false) c
-        s = second_of site n (Prepare x) vote f (Commit x false) c z.second
+      quiet_mid : NamesNowhere x s.mid
+      quiet_mid k d lt = false_from_ne_true (names x (get_or s.mid k d).op) (λ named.
+          s.others k d lt (all_left (λ (q : Request). names x q.op ≡ true → IsBetween t n last q) s.mid
+          (request_of t (suc n) (Commit x false) ∷ s.rest) only_parts k d lt named).thread)
 
-        abbrev now : Tables
-        now = (next t (Prepare x) (tables_after f.before T)).0
+      -- what is sent after it is no Commit
+      rest_plain : All (λ q. q.thread ≡ t → q.number < last → is_commit q.op ≡ false) s.rest
+      rest_plain k d lt own low = forget_plain (get_or s.rest k d).op (rest_forgets a (Commit x false) c z f s k d lt own low)
 
-        only_parts : All (λ q. names x q.op ≡ true → IsBetween t n last q) (s.mid ++ request_of t (suc n) (Commit x false) ∷ s.rest)
-        only_parts = search (arith, request_of)
+      counts : commits_or false (fates x (request_of t n (Prepare x) ∷ f.after) (tables_after f.before T)) ≡ is_committed (yes_ending true (Some c))
+      counts =
+          let there : Tables = tables_after s.mid now in
+          let left : Tables = (next t (Commit x false) there).0 in
+          let rest_none : commits_or false (fates x s.rest left) ≡ false = commits_none x s.rest left (λ k d lt named.
+          let own = all_after (λ (q : Request). names x q.op ≡ true → IsBetween t n last q) s.mid
+          (request_of t (suc n) (Commit x false)) s.rest only_parts k d lt named in
+          rest_plain k d lt own.thread own.below) in
+          let voted : fate_of x (Prepare x) (next t (Prepare x) (tables_after f.before T)).1 ≡ Some history.InDoubt = ap (fate_of x (Prepare x))
+          (sym f.code ∙ agreed) ∙ at_true (xid_eq x x) _ None (xid_self x) in
+          let made : fate_of x (Commit x false) (next t (Commit x false) there).1 ≡ commit_fate c = at_true (xid_eq x x) _ None (xid_self x)
+          ∙ ap commit_fate (sym s.code) in
+          let after : fates x f.after now ≡ cons_option (commit_fate c) (fates x s.rest left) =
+          ap (λ (h : History). fates x h now) s.split ∙ fates_both x s.mid (request_of t (suc n) (Commit x false) ∷ s.rest) now
+          ∙ (λ i. unnamed x s.mid now quiet_mid i ++ cons_option (made i) (fates x s.rest left)) in
+          (λ i. commits_or false (cons_option (voted i) (after i))) ∙ (grind (arith, commits_or, cons_option))
 
-        quiet_mid : NamesNowhere x s.mid
-        quiet_mid k d lt = false_from_ne_true (names x (get_or s.mid k d).op) (λ named.
-            s.others k d lt (all_left (λ (q : Request). names x q.op ≡ true → IsBetween t n last q) s.mid
-            (request_of t (suc n) (Commit x false) ∷ s.rest) only_parts k d lt named).thread)
+      -- the call's requests move what it moves, and the branch holds there what it held at its Prepare
+      moves_it : (accounts : List (List ℕ × ℕ)) → moved accounts (is_within t n last) H T ≡ (if is_done c then held accounts else pos 0)
+      moves_it accounts =
+          let there : Tables = tables_after s.mid now in
+          let before : History = f.before ++ request_of t n (Prepare x) ∷ s.mid in
+          let keeps : held_by accounts x there ≡ held accounts =
+          site.law.keeps accounts t x f.before s.mid T site.opening (sym f.code ∙ agreed) quiet_mid
+          ∙ ap (λ (h : History). held_by accounts x (tables_after h T)) (sym (taken site x n vote f)) in
+          ap (λ (h : History). moved accounts (is_within t n last) h T) s.place
+          ∙ moved_at accounts (is_within t n last) before s.rest (request_of t (suc n) (Commit x false)) T (λ k d lt passes.
+          let w = within_parts t n last (get_or before k d) passes in
+          let low = below site (suc n) (Commit x false) before s.rest s.place k d lt w.0 in
+          ap is_commit (all_left (λ (q : Request). q.thread ≡ t → q.number ≡ n → q.op ≡ Prepare x) before (request_of t (suc n) (Commit x false) ∷ s.rest)
+          (rw s.place at (only_op site n (Prepare x) vote f)) k d lt w.0 (omega (arith, low, w.1))))
+          (inside t n last (request_of t (suc n) (Commit x false)) refl (omega arith) (let more = z.more in omega (arith, more)))
+          (λ k d lt passes. let w = within_parts t n last (get_or s.rest k d) passes in rest_plain k d lt w.0 w.2)
+          ∙ ap (λ (V : Tables). moved_by accounts (Commit x false) (next t (Commit x false) V).1 V) s.there_is ∙ ap
+          (λ d. moved_by accounts (Commit x false) d there) (sym s.code) ∙ ap (λ v. if is_done c then v else pos 0) keeps
 
-        -- what is sent after it is no Commit
-        rest_plain : All (λ q. q.thread ≡ t → q.number < last → is_commit q.op ≡ false) s.rest
-        rest_plain k d lt own low = forget_plain (get_or s.rest k d).op (rest_forgets site x n last vote (Commit x false) c z f s k d lt own low)
+    committing : Goal (yes_ending true (Some c))
+    committing =
+        let writes = yes_writes true c in
+        record {
+          counted = λ k d add.
+              share_is x k d t n T H none_later add _ refl
+              ∙ ap (λ q. if q then d else pos 0) (counts (at_place site n (Prepare x) vote z.first (add.before ++ add.adding ∷ add.between) add.after
+              (add_place x k d t n T H add)));
+          adders = λ k d add. writes;
+          moves = search (arith, moves_it);
+          reads = λ r. absurd (both_ways (is_read_only_ending (yes_ending true (Some c))) writes r);
+        }
 
-        counts : commits_or false (fates x (request_of t n (Prepare x) ∷ f.after) (tables_after f.before T)) ≡ is_committed (yes_ending true (Some c))
-        counts =
-            let there : Tables = tables_after s.mid now in
-            let left : Tables = (next t (Commit x false) there).0 in
-            let rest_none : commits_or false (fates x s.rest left) ≡ false = commits_none x s.rest left (λ k d lt named.
-            let own = all_after (λ (q : Request). names x q.op ≡ true → IsBetween t n last q) s.mid
-            (request_of t (suc n) (Commit x false)) s.rest only_parts k d lt named in
-            rest_plain k d lt own.thread own.below) in
-            let voted : fate_of x (Prepare x) (next t (Prepare x) (tables_after f.before T)).1 ≡ Some history.InDoubt = ap (fate_of x (Prepare x))
-            (sym f.code ∙ agreed) ∙ at_true (xid_eq x x) _ None (xid_self x) in
-            let made : fate_of x (Commit x false) (next t (Commit x false) there).1 ≡ commit_fate c = at_true (xid_eq x x) _ None (xid_self x)
-            ∙ ap commit_fate (sym s.code) in
-            let after : fates x f.after now ≡ cons_option (commit_fate c) (fates x s.rest left) =
-            ap (λ (h : History). fates x h now) s.split ∙ fates_both x s.mid (request_of t (suc n) (Commit x false) ∷ s.rest) now
-            ∙ (λ i. unnamed x s.mid now quiet_mid i ++ cons_option (made i) (fates x s.rest left)) in
-            (λ i. commits_or false (cons_option (voted i) (after i))) ∙ (grind (arith, commits_or, cons_option))
-
-        -- the call's requests move what it moves, and the branch holds there what it held at its Prepare
-        moves_it : (accounts : List (List ℕ × ℕ)) → moved accounts (is_within t n last) H T ≡ (if is_done c then held accounts else pos 0)
-        moves_it accounts =
-            let there : Tables = tables_after s.mid now in
-            let before : History = f.before ++ request_of t n (Prepare x) ∷ s.mid in
-            let keeps : held_by accounts x there ≡ held accounts =
-            site.law.keeps accounts t x f.before s.mid T site.opening (sym f.code ∙ agreed) quiet_mid
-            ∙ ap (λ (h : History). held_by accounts x (tables_after h T)) (sym (taken f)) in
-            ap (λ (h : History). moved accounts (is_within t n last) h T) s.place
-            ∙ moved_at accounts (is_within t n last) before s.rest (request_of t (suc n) (Commit x false)) T
-            (All-append (λ (q : Request). is_within t n last q ≡ true → is_commit q.op ≡ false) f.before (request_of t n (Prepare x) ∷ s.mid) (λ k d lt passes.
-            let w = within_parts t n last (get_or f.before k d) passes in
-            absurd (omega (arith, below site n (Prepare x) f.before f.after f.place k d lt w.0, w.1)))
-            (All-cons (λ (q : Request). is_within t n last q ≡ true → is_commit q.op ≡ false) (request_of t n (Prepare x)) s.mid (λ _. refl) (λ k d lt passes.
-            absurd (s.others k d lt (within_parts t n last (get_or s.mid k d) passes).0))))
-            (inside t n last (request_of t (suc n) (Commit x false)) refl (omega arith) (let more = z.more in omega (arith, more)))
-            (λ k d lt passes. let w = within_parts t n last (get_or s.rest k d) passes in rest_plain k d lt w.0 w.2)
-            ∙ ap (λ (V : Tables). moved_by accounts (Commit x false) (next t (Commit x false) V).1 V) s.there_is ∙ ap
-            (λ d. moved_by accounts (Commit x false) d there) (sym s.code) ∙ ap (λ v. if is_done c then v else pos 0) keeps
-
-      committing : Goal (yes_ending true (Some c))
-      committing =
-          let writes = yes_writes true c in
-          record {
-            counted = λ k d add.
-                share_is x k d t n T H none_later add _ refl
-                ∙ ap (λ q. if q then d else pos 0) (counts (at_place site n (Prepare x) vote z.first (add.before ++ add.adding ∷ add.between) add.after
-                (add_place x k d t n T H add)));
-            adders = λ k d add. writes;
-            moves = search (arith, moves_it);
-            reads = λ r. absurd (both_ways (is_read_only_ending (yes_ending true (Some c))) writes r);
-          }
+  by_course : {commit : Bool} {e : Ending} → Course a commit e → ((is_yes vote ≡ true → is_commit (outcome_op commit x) ≡ false) → All Plain H) → Goal e
+  by_course (Stays c y own) none = unread (none (λ d. cc)) (Left c) refl refl
+  by_course (Reads r z) none = silent (none (λ d. absurd (both_ways (is_yes vote) (ap is_yes r) d))) ReadOnly refl (λ _. (z.first, r))
+  by_course (Breaks y k z) none = unread (none (λ d. cc)) RolledBack refl refl
+  by_course {commit = true} (Agrees c y z) none = committing y c z
+  by_course {commit = false} (Agrees c y z) none = unread (none (λ _. refl)) (yes_ending false (Some c)) (uncommitted Done (Some c)) (yes_writes false c)
+  by_course (Refuses c y z) none = unread (none (λ d. cc)) (no_ending vote (Some c)) (search (arith, after_no)) (search (arith, after_no))
 
 -- what a branch of a commit that nobody else named counts for
-pub branch_counts : {t : ℕ} {T : Tables} {H : History} (site : Site t T H) (x : XidName) (n last : ℕ) (commit : Bool) (vote : Code) (ending : Ending)
-    → Course site x n last vote commit ending → OnlyTheseName x t n last H → Counted t x T H n last ending
-branch_counts {t} {T} {H} site x n last commit vote ending course only = by_course ending course
-  where
-    one : (e : Ending) → is_committed e ≡ false → is_read_only_ending e ≡ false → SendsOne site x n last vote → Counted t x T H n last e
-    one e not writes z = unread site x n vote last only (one_own site x n last vote (λ op. is_commit op ≡ false) refl z) e not writes
-
-    rolls : (c : Code) (e : Ending) → is_committed e ≡ false → is_read_only_ending e ≡ false → Sends site x n last vote (Rollback x) c
-        → Counted t x T H n last e
-    rolls c e not writes z =
-        unread site x n vote last only (two_own site x n last vote (λ op. is_commit op ≡ false) refl (Rollback x) c refl forget_plain z) e not writes
-
-    agreed : (commit : Bool) (c : Code) → is_yes vote ≡ true → Sends site x n last vote (outcome_op commit x) c
-        → Counted t x T H n last (yes_ending commit (Some c))
-    agreed true c y z = committing site x n vote last only (yes_is vote y) c z
-    agreed false c y z = rolls c (yes_ending false (Some c)) (uncommitted Done (Some c)) (yes_writes false c) z
-
-    by_course : (e : Ending) → Course site x n last vote commit e → Counted t x T H n last e
-    by_course _ (Unreached same code) = unread site x n vote last only (λ k d lt own from low. absurd (omega (arith, same, from, low))) (Left RmFail) refl refl
-    by_course _ (Reads r z) =
-        let f = z.first in
-        let code : vote ≡ RdOnly = read_is vote r in
-        silent site x n vote last only (one_own site x n last vote (λ op. is_commit op ≡ false) refl z) ReadOnly refl
-        (λ k d add. absurd (never_reads site x n vote f k d add code))
-        (λ _ accounts.
-        rw (taken site x n vote f) (site.law.reads accounts t x (tables_after f.before T) (sym f.code ∙ code)))
-    by_course _ (Breaks k z) = one RolledBack refl refl z
-    by_course _ (Stays c y z) = one (Left c) refl refl z
-    by_course _ (Agrees c y z) = agreed commit c y z
-    by_course _ (Refuses c y r z) =
-        rolls c (no_ending vote (Some c)) (after_no (Falls is_committed) vote (Some c) refl (λ _. refl) (λ _. refl))
-        (after_no (Falls is_read_only_ending) vote (Some c) refl (λ _. refl) (λ _. refl)) z
+pub branch_counts : {t : ℕ} {T : Tables} {H : History} {a : Asked t T H} {commit : Bool} {ending : Ending} → Course a commit ending
+    → OnlyTheseName a.xid t a.number a.last H → Counted t a.xid T H a.number a.last ending
+branch_counts {a = a} {commit = commit} course only =
+    by_course a only course (λ agrees. each_sent a commit (λ op. is_commit op ≡ false) refl refl forget_plain agrees course)

@@ -17,7 +17,8 @@ use Rattle.xa_driver.specs.declared.done.Ending.{Ending}
 use Rattle.xa_log.specs.Log.{LogState}
 use Rattle.xa_driver.specs.Trace.{IsCommit}
 use Rattle.xa_driver.specs.Commits.{NoCommitWasSent}
-use Rattle.xa_atomicity.specs.Outcomes.{AreLeftAlone, has_committed, is_in_doubt, sent_so_far}
+use Rattle.xa_atomicity.specs.Outcomes.{AreLeftAlone, has_committed, is_in_doubt}
+use Rattle.xa_driver.specs.Deaths.{sent_so_far}
 
 -- the requests of a history before thread t's of number n
 abbrev pub taken_before : ℕ → ℕ → History → History

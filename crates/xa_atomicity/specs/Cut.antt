@@ -1,7 +1,7 @@
 -- What a commit left that was cut short: its coordinator died at some point of it, or let it go.
 use Rattle.std.specs.Prelude.{◌≡◌, ◌≢◌, ℕ, ◌≤◌, Bool, true, false, ◌&&◌, ◌==◌, if◌then◌else◌, Option, None, Some}
 use Rattle.std.specs.Prelude.{is_some, unwrap_or, List, [], ◌∷◌, ◌++◌, length}
-use Rattle.std.specs.List.{All, list_any}
+use Rattle.std.specs.List.{All}
 use Rattle.xa_base.specs.Lists.{Begins}
 use Rattle.xa_words.specs.Xid.{XidName}
 use Rattle.xa_words.specs.Tran.{TranName}
@@ -14,22 +14,35 @@ use Rattle.xa_desk.specs.DeskViews.{DeskView, ledger}
 use Rattle.xa_driver.specs.declared.branch.Branch.{Branch}
 use Rattle.xa_driver.specs.declared.done.Ending.{Ending}
 use Rattle.xa_driver.specs.declared.done.Ending.TheVariants.{InDoubt}
-use Rattle.xa_driver.specs.Commits.{NoCommitWasSent, is_commit}
+use Rattle.xa_driver.specs.Commits.{HasSentNone, NoCommitWasSent, is_commit}
 use Rattle.xa_driver.specs.Decision.{yes_of}
-use Rattle.xa_driver.specs.Endings.{second_op, third_op, ending_of}
+use Rattle.xa_driver.specs.Course.{VotesThen}
+use Rattle.xa_driver.specs.Endings.{third_op, ending_of}
+use Rattle.xa_driver.specs.Resolving.{AsksLedger}
 use Rattle.xa_log.specs.Log.{LogState, record_of}
-use Rattle.xa_driver.specs.Asks.{IsAnswered, IsBegun, asked}
-use Rattle.xa_driver.specs.Trace.{EachBranch, Logs, MayCommit, decision_of, voted}
+use Rattle.xa_driver.specs.Asks.{AskTrace, IsBegun}
+use Rattle.xa_driver.specs.Trace.{EachBranch, Logs, MayCommit, decision_of}
 
 -- ---- between the requests of one branch
 
--- What else its thread did at the branch's manager: it sent more, of which nothing names the branch, and collected
--- more.
-pub record DidOther (x : XidName) (a a' : LedgerView) : Type 0 where
+-- It sent more, all of which is so, and collected more.
+pub record DidOnly (P : Op → Type 0) (a a' : LedgerView) : Type 0 where
   pub more : List Op
   pub sent : a'.sent ≡ a.sent ++ more
-  pub others : All (λ op. names x op ≡ false) more
+  pub all : All P more
   pub collected : Begins a.collected a'.collected
+
+-- What else its thread did at the branch's manager: it sent more, of which nothing names the branch, and collected
+-- more.
+abbrev pub DidOther : XidName → LedgerView → LedgerView → Type 0
+DidOther x = DidOnly (λ op. names x op ≡ false)
+
+-- Other things were done, and then this.
+pub record AfterOther (x : XidName) (this : LedgerView → LedgerView → Type 0) (a a' : LedgerView) : Type 0 where
+  -- as its list was between the two
+  pub start : LedgerView
+  pub between : DidOther x a start
+  pub last : this start a'
 
 -- ---- one branch: a prefix of its requests
 
@@ -40,25 +53,17 @@ pub record IsAsked (b : Branch) (a a' : LedgerView) : Type 0 where
   pub after : DidOther b.xid left a'
 
 -- Its vote was collected, and it was told the decision, or not, after other things.
-pub record IsTold (commit : Bool) (b : Branch) (vote : Code) (a a' : LedgerView) : Type 0 where
-  pub prepared : IsAnswered a (Some (Prepare b.xid)) (Some vote)
-  -- as its list was when the decision was told
-  pub start : LedgerView
-  pub between : DidOther b.xid (voted b vote a) start
-  pub tells : IsBegun (second_op commit b.xid vote) start a'
+abbrev pub IsTold : Bool → Branch → Code → LedgerView → LedgerView → Type 0
+IsTold commit b = VotesThen AsksLedger (λ op. AfterOther b.xid (IsBegun op)) commit b
 
--- Its vote and its second code were collected, and it was told to forget a decision of its own, or not; there were
--- other things before each of the two.
-pub record IsEnded (commit : Bool) (b : Branch) (vote : Code) (second : Option Code) (a a' : LedgerView) : Type 0 where
-  pub prepared : IsAnswered a (Some (Prepare b.xid)) (Some vote)
-  -- as its list was when the decision was told
-  pub start : LedgerView
-  pub between : DidOther b.xid (voted b vote a) start
-  pub seconded : IsAnswered start (second_op commit b.xid vote) second
-  -- as it was when it was told to forget
-  pub told : LedgerView
-  pub after : DidOther b.xid (asked start (second_op commit b.xid vote) second) told
-  pub forgets : IsBegun (third_op b.xid second) told a'
+-- Its vote and its second code were collected, by both of which it ends, and it was told to forget a decision of its
+-- own, or not; there were other things before each of the two.
+pub record IsEnded (commit : Bool) (b : Branch) (vote : Code) (second : Option Code) (ending : Ending)
+    (a a' : LedgerView) : Type 0 where
+  pub decided : LedgerView
+  pub obeyed : VotesThen AsksLedger (λ op. AfterOther b.xid (AskTrace op second)) commit b vote a decided
+  pub forgets : AfterOther b.xid (IsBegun (third_op b.xid second)) decided a'
+  pub ends : ending ≡ ending_of commit vote second
 
 -- branch by branch, with its vote
 abbrev pub EachVote : (Branch → Code → Type 0) → List Branch → List Code → Type 0
@@ -80,10 +85,8 @@ pub data CameSoFar (tran : TranName) (bs : List Branch) (old new : List LedgerVi
       → CameSoFar tran bs old new log later endings
   forgetting : (votes : List Code) (logged : Bool) (seconds : List (Option Code))
       → Logs tran (yes_of bs votes) votes logged log later
-      → EachBranch
-      (λ b v s e. IsEnded (decision_of votes logged) b v s (ledger old b.m) (ledger new b.m)
-      × (e ≡ ending_of (decision_of votes logged) v s))
-      bs votes seconds endings
+      → EachBranch (λ b v s e. IsEnded (decision_of votes logged) b v s e (ledger old b.m) (ledger new b.m)) bs votes
+      seconds endings
       → CameSoFar tran bs old new log later endings
 
 -- A commit of the branches was begun, and cut short: it might be made, and the branches' managers and the log have what
@@ -136,12 +139,6 @@ is_commit_of x op = names x op && is_commit op
 -- a Rollback of the branch
 abbrev pub is_rollback_of : XidName → Op → Bool
 is_rollback_of x op = names x op && is_rollback op
-
--- what was sent to the manager since, and no such request among it
-pub record HasSentNone (is : Op → Bool) (a a' : LedgerView) : Type 0 where
-  pub more : List Op
-  pub sent : a'.sent ≡ a.sent ++ more
-  pub none : list_any is more ≡ false
 
 -- to no branch's manager a Commit of the branch was sent
 abbrev pub NoneWasToldToCommit : List Branch → List LedgerView → List LedgerView → Type 0

@@ -7,14 +7,14 @@ pub mod Resolution
 pub mod Worth
 pub mod Presumed
 -- The words of this crate, by its name.
-pub use Cut.{AreOthers, CameSoFar, DidOther, EachVote, GoesByTheRecord, HasSentNone, IsAsked, IsCut, IsEnded, IsTold}
-pub use Cut.{LeavesBranches, NoneWasToldToCommit, NoneWasToldToRollBack, asking, ending_at, forgetting, is_commit_of}
-pub use Cut.{is_recorded, is_rollback, is_rollback_of, known_at, telling}
+pub use Cut.{AfterOther, AreOthers, CameSoFar, DidOnly, DidOther, EachVote, GoesByTheRecord, IsAsked, IsCut, IsEnded}
+pub use Cut.{IsTold, LeavesBranches, NoneWasToldToCommit, NoneWasToldToRollBack, asking, ending_at, forgetting}
+pub use Cut.{is_commit_of, is_recorded, is_rollback, is_rollback_of, known_at, telling}
 pub use Outcomes.{AreLeftAlone, AreLeftOrDecided, EachOutcome, IsAbortedTransaction, IsAfterShut, IsBetween}
 pub use Outcomes.{IsCommittedTransaction, IsDecidedAfter, IsInDoubtUnlessDecided, KeepsItsVote, KeepsTheVotes}
 pub use Outcomes.{OnlyTheseName, OnlyTheseOrDecisionsName, TellsTheFate, TellsTheFates, WasAtFirst, WasDecidedAfter}
 pub use Outcomes.{append_failed, decided, has_committed, has_rolled_back, has_vote_against, heuristic_fate}
-pub use Outcomes.{is_heuristic, is_in_doubt, is_left, is_read_only, is_rolled_back, sent_so_far, told_fate, undecided}
+pub use Outcomes.{is_heuristic, is_in_doubt, is_left, is_read_only, is_rolled_back, told_fate, undecided}
 pub use Outcomes.{was_refused}
 pub use Additions.{CountsTheCommitted, HasAllOrNothing, IsAddition, Shares, is_decided, none_later, prepare_of}
 pub use Conservation.{NothingWasSent, OnlyTransfers, added_before, added_by_all, committed, held_in_doubt, opened}

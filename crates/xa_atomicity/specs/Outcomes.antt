@@ -1,6 +1,6 @@
 -- What becomes of the branches of a global transaction: presumed abort.
 use Rattle.std.specs.Prelude.{◌≡◌, ℕ, ◌+◌, ◌≤◌, ◌<◌, Bool, true, false, not, ◌&&◌, ◌||◌, Option, None, Some, List, []}
-use Rattle.std.specs.Prelude.{◌∷◌, ◌++◌, length}
+use Rattle.std.specs.Prelude.{◌∷◌, ◌++◌}
 use Rattle.std.specs.List.{All, list_any}
 use Rattle.xa_words.specs.Xid.{XidName}
 use Rattle.xa_words.specs.Tran.{TranName}
@@ -14,7 +14,6 @@ use Rattle.xa_tables.specs.Histories as history
 use Rattle.xa_tables.specs.Histories.{History, Fate, IsFateOf, tables_after, decided_fate}
 use Rattle.xa_tables.specs.Prepared.{names, is_heur, has_shut}
 use Rattle.xa_desk.specs.LedgerViews.{LedgerView}
-use Rattle.xa_desk.specs.DeskViews.{ledger}
 use Rattle.xa_switch.specs.Settled.{Settling}
 use Rattle.xa_switch.specs.Fates.{IsOpenedWith, history as history_of, settled_fate}
 use Rattle.xa_driver.specs.declared.branch.Branch.{Branch}
@@ -112,10 +111,6 @@ abbrev pub OnlyTheseOrDecisionsName : XidName → ℕ → ℕ → ℕ → Histor
 OnlyTheseOrDecisionsName x t first last h =
     (before after : History) (r : Request) → h ≡ before ++ r ∷ after → r.thread ≡ t → r.number ≡ first
     → All (λ q. names x q.op ≡ true → is_heur q.op ≡ false → IsBetween t first last q) after
-
--- how many requests these lists have, manager by manager
-abbrev pub sent_so_far : List LedgerView → ℕ → ℕ
-sent_so_far at m = length (ledger at m).sent
 
 -- Thread t had sent each manager `from` requests before a commit, and `upto` after it: in each branch's history nobody
 -- but the commit names the branch from its Prepare on.

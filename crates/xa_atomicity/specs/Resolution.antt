@@ -34,7 +34,7 @@ use Rattle.xa_driver.specs.Decision.{is_yes}
 use Rattle.xa_log.specs.Log.{LogState, Records, all_records, record_in, record_of}
 use Rattle.xa_driver.specs.Trace.{IsCommit, IsTranOf}
 use Rattle.xa_atomicity.specs.Outcomes.{AreLeftOrDecided, EachOutcome, IsBetween, WasAtFirst, has_committed}
-use Rattle.xa_atomicity.specs.Outcomes.{sent_so_far}
+use Rattle.xa_driver.specs.Deaths.{sent_so_far}
 use Rattle.xa_atomicity.specs.Outcomes.{has_vote_against, told_fate}
 use Rattle.xa_driver.specs.Resolving.{IsTraceOfResolve}
 

@@ -12,7 +12,7 @@ ghost use Rattle.xa_driver.specs.declared.done.Done.{Done};
 ghost use Rattle.xa_log.specs.Log.{record_in, record_of};
 ghost use Rattle.xa_driver.specs.Trace.{IsCommit, IsTranOf};
 ghost use Rattle.xa_atomicity.specs.Outcomes.{AreLeftOrDecided};
-ghost use Rattle.xa_atomicity.specs.Outcomes.{sent_so_far};
+ghost use Rattle.xa_driver.specs.Deaths.{sent_so_far};
 ghost use Rattle.xa_atomicity.specs.Presumed.{AskedAreLeft, CountsByTheLog, EndsByTheLog, IsResolvedAfter};
 ghost use Rattle.xa_atomicity.specs.Resolution.{CommitCall, CutCall, ResolveCall, Opening, IsResolved, IsAllOrNone};
 ghost use Rattle.xa_atomicity.specs.Resolution.{IsUseIn, IsOutcomeOf, OnlyResolves, Continues, HasLeft, AreOfAllLogs};

@@ -3,15 +3,12 @@ use Rattle.xa_base.proofs.{◌≡◌, ◌≢◌, ℕ, ◌+◌, ◌-◌, ◌<◌,
 use Rattle.xa_base.proofs.{slice_index_or, length-map, cases_eq, cases_Bool, eqb-false, or_parts, sum_by, sum_by-cons, rules, ℤ, ⊎_elim, zero, Bool, Option}
 use Rattle.xa_base.proofs.{Some, None, Result, Ok, Err, ap, ◌∙◌, nat_cmp, inserted_there, inserted_other, removed_other, not_both}
 use Rattle.std.proofs.lemmas.Map.Steps.{le-length_from_below}
-use Rattle.xa_words.specs.{Op, Code, Mode}
+use Rattle.xa_words.specs.{Op, Code}
 use Rattle.xa_desk.specs.{Operation, numbers, is_collected, with_sent, with_collected, IsKnown, IsOut, ledger, no_ledger, after_sent, after_collected}
-use Rattle.xa_desk.specs.{next_operation, outstanding, LedgerView, is_known, AllKept, HoldsNone, submitted, after_fulls, EndsQuiet, Collects, TakesKept}
-use Rattle.xa_desk.specs.{DeskView, GoesOn}
+use Rattle.xa_desk.specs.{next_operation, outstanding, LedgerView, is_known, AllKept, HoldsNone, submitted, after_fulls, EndsQuiet, Collects, DeskView, GoesOn}
 use Rattle.xa_desk.proofs.Ledgers.{same_operation, is_collected-push, ledger-put_same, ledger-put_other, known_before, known_is}
-use Rattle.xa_calls.specs.{put_refusal, Puts, Calls, CompletesOne, CompletesAny, CompletesAt, CompletesBy, CollectsRedeemed, may_complete, CallLeaves}
+use Rattle.xa_calls.specs.{put_refusal, Puts, Calls, CallLeaves}
 use Rattle.xa_calls.specs.Putting.Puts.{refused, full, kept, answered}
-use Rattle.xa_calls.specs.Completing.CompletesOne.{unknown, retry as retry_one, ready, waited}
-use Rattle.xa_calls.specs.Completing.CompletesAny.{nothing, retry as retry_any, least}
 use Rattle.std.specs.FinMap as finmap
 
 -- ---- what is outstanding as operations are sent and collected
@@ -69,7 +66,7 @@ none_outstanding at none = sum_none at (λ i below n within.
 
 -- ---- what is kept under which number
 
-abbrev Handles : Type 0
+abbrev pub Handles : Type 0
 Handles = finmap.FinMap nat_cmp Operation
 
 other_operation : (o : Option Operation) (p q : Operation) → o ≡ Some p → o ≡ Some q → q ≡ p
@@ -78,7 +75,7 @@ other_operation o p q e f = cc
 -- ---- one desk
 
 -- where the ledgers and what is kept stay
-same_kept : (old new : DeskView) → new.ledgers ≡ old.ledgers → new.kept ≡ old.kept → AllKept old → AllKept new
+pub same_kept : (old new : DeskView) → new.ledgers ≡ old.ledgers → new.kept ≡ old.kept → AllKept old → AllKept new
 same_kept old new ledgers handles all = search (arith, all.each)
 
 pub quiet_same : (old new : DeskView) → EndsQuiet old new → (new.ledgers ≡ old.ledgers) × (new.kept ≡ old.kept)
@@ -90,25 +87,12 @@ collects_keep : (mid new : DeskView) (o : Operation) (c : Code) → Collects mid
 collects_keep mid new o c is rest = search (arith, out_collected, is.collected, is.before.ledgers, is.out.known)
 
 -- an operation that is kept under the number is collected, and the number is free
-freed_kept : (m : Handles) (k : ℕ) (o : Operation) → finmap.get m k ≡ Some o → (p : Operation) → p ≢ o → (j : ℕ) × (finmap.get m j ≡ Some p)
+pub freed_kept : (m : Handles) (k : ℕ) (o : Operation) → finmap.get m k ≡ Some o → (p : Operation) → p ≢ o → (j : ℕ) × (finmap.get m j ≡ Some p)
     → (j : ℕ) × (finmap.get (finmap.remove m k) j ≡ Some p)
 freed_kept m k o at p differs j = elim (cases_eq j.0 k) [
   | inl same ↦ absurd (differs (other_operation (finmap.get m k) o p at (rw same at j.1)))
   | inr other ↦ (j.0, removed_other m k j.0 other ∙ j.1)
 ]
-
-pub redeemed_keep : (old new : DeskView) (k : ℕ) (c : Code) → CollectsRedeemed old new k c → AllKept old → AllKept new
-redeemed_keep old new k c is all =
-    collects_keep (record old { kept = finmap.remove old.kept k }) new is.operation c is.collects (λ p out differs. freed_kept old.kept k is.operation is.kept p differs (all.each p out))
-
-takes_keep : (old new : DeskView) (k : ℕ) (c : Code) → TakesKept old new k c → AllKept old → AllKept new
-takes_keep old new k c is all = record {
-  each = λ p out.
-      let ledgers = ap (λ (d : DeskView). d.ledgers) is.taken in
-      let parts = out_collected old.ledgers is.operation c is.out.known p (rw ledgers at out) in
-      let j = freed_kept old.kept k is.operation is.kept p parts.1 (all.each p parts.0) in
-      (j.0, ap (λ (d : DeskView). finmap.get d.kept j.0) is.taken ∙ j.1);
-}
 
 -- ---- putting
 
@@ -161,33 +145,6 @@ puts_keep old m asked new n (answered why async times c told is) all =
 pub calls_keep : (asked : Result _ Code) (old : DeskView) (m : ℕ) (new : DeskView) (n : ℤ) → Calls asked old m new n → AllKept old → AllKept new
 calls_keep (Ok asked) old m new n is all = puts_keep old m asked new n is all
 calls_keep (Err c) old m new n is all = rw is.1 all
-
--- ---- collecting
-
-one_keep : (old : DeskView) (k : Option ℕ) (m : ℕ) (nowait : Bool) (new : DeskView) (r : Result (ℕ × Code) Code) → CompletesOne old k m nowait new r
-    → AllKept old → AllKept new
-one_keep old k m nowait new r (unknown missing told e) all = rw e all
-one_keep old k m nowait new r (retry_one j is there way told quiet unready) all = let same = quiet_same old new quiet in same_kept old new same.0 same.1 all
-one_keep old k m nowait new r (ready j c is there way told takes) all =
-    takes_keep takes.before new j c takes.takes (same_kept old takes.before (ap (λ (d : DeskView). d.ledgers) takes.looks.rest) (ap (λ (d : DeskView). d.kept) takes.looks.rest) all)
-one_keep old k m nowait new r (waited j c is there way told takes) all = redeemed_keep old new j c takes all
-
-any_keep : (old : DeskView) (m : ℕ) (nowait : Bool) (new : DeskView) (r : Result (ℕ × Code) Code) → CompletesAny old m nowait new r → AllKept old → AllKept new
-any_keep old m nowait new r (nothing empty told e) all = rw e all
-any_keep old m nowait new r (retry_any j there way told quiet unready) all = let same = quiet_same old new quiet in same_kept old new same.0 same.1 all
-any_keep old m nowait new r (least j c told takes) all =
-    let same = quiet_same old takes.before takes.quiet in takes_keep takes.before new j c takes.takes (same_kept old takes.before same.0 same.1 all)
-
-at_keep : (may multiple nowait : Bool) (old : DeskView) (k : Option ℕ) (m : ℕ) (new : DeskView) (r : Result (ℕ × Code) Code)
-    → CompletesAt may multiple nowait old k m new r → AllKept old → AllKept new
-at_keep false multiple nowait old k m new r is all = rw is.1 all
-at_keep true true nowait old k m new r is all = any_keep old m nowait new r is all
-at_keep true false nowait old k m new r is all = one_keep old k m nowait new r is all
-
-pub by_keep : (mode : Result Mode Code) (old : DeskView) (k : Option ℕ) (m : ℕ) (new : DeskView) (r : Result (ℕ × Code) Code) → CompletesBy mode old k m new r
-    → AllKept old → AllKept new
-by_keep (Ok mode) old k m new r is all = at_keep (may_complete old m mode.multiple) mode.multiple mode.nowait old k m new r is all
-by_keep (Err c) old k m new r is all = rw is.1 all
 
 -- ---- a desk that keeps nothing
 

@@ -1,14 +1,14 @@
 -- What a scan does to a desk, and what it writes.
-use Rattle.xa_base.proofs.{rules, ◌≡◌, ℕ, ℤ, zero, suc, Bool, true, false, Option, None, ◌+◌, ◌-◌, ◌<◌, Some, Result, Ok, Err, List, [], ◌∷◌, ◌++◌, length}
-use Rattle.xa_base.proofs.{take, drop, set, refl, ap, subst, arith, length-append, append_assoc, is_some, option_map, slice_get, length-drop, take_all}
-use Rattle.xa_words.specs.{XidName, Done, Nota, check_flags, Mode, Op, Listed, Code}
+use Rattle.xa_base.proofs.{rules, ◌≡◌, ℕ, ℤ, zero, suc, true, false, Option, ◌+◌, ◌-◌, ◌<◌, Some, Result, List, [], ◌∷◌, ◌++◌, length, take, drop, set, refl}
+use Rattle.xa_base.proofs.{ap, subst, arith, length-append, append_assoc, is_some, option_map, slice_get, length-drop, take_all}
+use Rattle.xa_words.specs.{XidName, Done, Nota, check_flags, Op, Listed, Code}
 use Rattle.xa_words.specs.declared.flags.Call.TheVariants as call
 use Rattle.xa_desk.specs.{Refused, is_known, AllKept, DeskView}
-use Rattle.xa_calls.specs.{code_of, put_refusal, Answers, Looks, begun, finds, passes, filled, ended, stopped, written, start_of, Recovers, unreached, told}
-use Rattle.xa_calls.specs.{IsInVain, RecoversFrom, RecoversBy, HasRecovered, AsksAndWaits, RecoversAndWaits}
+use Rattle.xa_calls.specs.{code_of, put_refusal, Answers, Looks, finds, passes, written, HasRecovered, AsksAndWaits, RecoversAndWaits}
 use Rattle.xa_calls.specs.Scans.{Asking, refused, answered, Scans}
-use Rattle.xa_scan.specs.{ScanView, place_at}
+use Rattle.xa_scan.specs.{ScanView}
 use Rattle.xa_calls.proofs.Kept.{answered_keep, fulls_kept, fulls_ledgers, known_here}
+use Rattle.xa_calls.proofs.Morphisms.{by_mapped, plain}
 
 -- what was outstanding stays kept, as a manager is asked
 pub asked_keep : (old new : DeskView) (m : ℕ) (op : Op) (code : Code) → Answers m old op new code → AllKept old → AllKept new
@@ -68,45 +68,7 @@ pub scanned_from : {D : Type 0} (asking : Asking D) (room place : ℕ) (left all
     → n ≡ room → left ≡ all → Scans asking n (take (length left - place) (drop place left)) mid new found r → Scans asking room (drop place all) mid new found r
 scanned_from asking room place left all mid new found r n rooms lists scans = search (arith, rest_of)
 
--- ---- over a part of what was asked
-
--- where a part of each state was asked as well, what holds of the asking holds of the part's
-module _ {D E : Type 0} (part : D → E) (asking : Asking D) (other : Asking E)
-    (is : (d : D) (op : Op) (e : D) (code : Code) → asking d op e code → other (part d) op (part e) code) where
-  looks_by : {room : ℕ} {xids : List XidName} {old : D} {k : ℕ} {xs : List XidName} {d : D} → Looks asking room xids old k xs d
-      → Looks other room xids (part old) k xs (part d)
-  looks_by begun = begun
-  looks_by (finds k xs d e x looks short there asked) = finds k xs (part d) (part e) x (looks_by looks) short there (is d (Listed (Some x)) e Done asked)
-  looks_by (passes k xs d e x looks short there asked) = passes k xs (part d) (part e) x (looks_by looks) short there (is d (Listed (Some x)) e Nota asked)
-
-  scans_by : {room : ℕ} {xids : List XidName} {old new : D} {found : List XidName} {r : Result ℕ Code} → Scans asking room xids old new found r
-      → Scans other room xids (part old) (part new) found r
-  scans_by (filled looked looks full) = filled looked (looks_by looks) full
-  scans_by (ended looks) = ended (looks_by looks)
-  scans_by {new = new} (stopped k d x why looks short there asked done nota) = stopped k (part d) x why (looks_by looks) short there
-      (is d (Listed (Some x)) new why asked) done nota
-
-  module _ (m : ℕ) (mode : Mode) (old : D) (z : ScanView) (xids : List XidName) (new : D) (z' : ScanView) (xids' : List XidName) where
-    scanned_by : {place : ℕ} {r : Result ℕ Code} → Recovers asking m mode place old z xids new z' xids' r
-        → Recovers other m mode place (part old) z xids (part new) z' xids' r
-    scanned_by (unreached why asked done scan slice) = unreached why (is old (Listed None) new why asked) done scan slice
-    scanned_by (stopped mid found why asked scans scan slice) = stopped (part mid) found why (is old (Listed None) mid Done asked) (scans_by scans) scan slice
-    scanned_by (told mid found looked asked scans scan slice) = told (part mid) found looked (is old (Listed None) mid Done asked) (scans_by scans) scan slice
-
-    vain_by : {why : Code} {r : Result ℕ Code} → IsInVain why old z xids new z' xids' r → IsInVain why (part old) z xids (part new) z' xids' r
-    vain_by v = record { answer = v.answer; state = ap part v.state; scan = v.scan; written = v.written }
-
-    from_by : (start : Option ℕ) (r : Result ℕ Code) → RecoversFrom asking start m mode old z xids new z' xids' r
-        → RecoversFrom other start m mode (part old) z xids (part new) z' xids' r
-    from_by None r is = vain_by is
-    from_by (Some place) r is = scanned_by is
-
-  pub recovers_by : (there : Bool) (mode : Result Mode Code) (m : ℕ) (old : D) (z : ScanView) (xids : List XidName) (new : D) (z' : ScanView)
-      (xids' : List XidName) (r : Result ℕ Code)
-      → RecoversBy asking there mode m old z xids new z' xids' r → RecoversBy other there mode m (part old) z xids (part new) z' xids' r
-  recovers_by there (Err why) m old z xids new z' xids' r h = record { answer = h.answer; state = ap part h.state; scan = h.scan; written = h.written }
-  recovers_by false (Ok mode) m old z xids new z' xids' r h = vain_by m mode old z xids new z' xids' h
-  recovers_by true (Ok mode) m old z xids new z' xids' r h = from_by m mode old z xids new z' xids' (start_of mode (place_at z m)) r h
+-- ---- how it waited
 
 -- a recover each request of which was waited for
 pub recovered_so : {I : Type 0} {by : ℕ → I → I → Type 0} {m flags : ℕ} {old : DeskView × I} {z : ScanView} {xids : List XidName}
@@ -115,7 +77,7 @@ pub recovered_so : {I : Type 0} {by : ℕ → I → I → Type 0} {m flags : ℕ
 recovered_so {by = by} {m = m} {flags = flags} {old = old} {z = z} {xids = xids} {new = new} {z' = z'} {xids' = xids'} r = record {
   result = r.result;
   recovers =
-      recovers_by (λ s. s.0) (AsksAndWaits by m) (Answers m) (λ d op e code a. a.answers) (is_known old.0.ledgers m)
-      (check_flags call.Recover flags) m old z xids new z' xids' r.result r.recovers;
+      (by_mapped (plain (AsksAndWaits by m) (Answers m) (λ s. s.0) (λ d op e code a. a.answers)) (λ x. tt) old z xids new z' xids' (is_known old.0.ledgers m)
+      (check_flags call.Recover flags) m r.result r.recovers).over tt tt;
   answered = r.answered;
 }

@@ -4,7 +4,6 @@ use Rattle.xa_base.proofs.{Some, is_some, List, [], ◌∷◌, ◌++◌, unwrap_
 use Rattle.xa_base.proofs.{+ℤ_idr as plus_none, total_same, by_if, at_true, at_false}
 use Rattle.xa_atomicity.proofs.Sites.{fates_both, last_both}
 use Rattle.xa_atomicity.proofs.Values.{moved_both, moved_without, unmoving}
-use Rattle.std.specs.FinMap as finmap
 use Rattle.xa_words.specs.{XidName, xid_eq, Decides-xid_eq, Done, Op, Prepare, Commit, Rollback, Request, Code}
 use Rattle.xa_tables.specs.declared.state.State.TheVariants.{Prepared as S3}
 use Rattle.xa_tables.specs.{Tables, state_of, exists, is_S3, is_S5, is_left_in, is_somebody_associated, Answer, next, Fate, InDoubt, Committed, RolledBack}

@@ -1,5 +1,4 @@
--- The laws of a day: the branches' shares of what is moved, and what accounts are worth after it.
--- The laws of a day over settled openings: their histories lead to their tables, and to what became of each branch.
+-- What accounts are worth after openings one after another, by the records of the commits in them.
 use Rattle.xa_base.proofs.{rules, ◌≡◌, ℤ, pos, ◌+ℤ◌, true, false, ◌||◌, if◌then◌else◌, List, [], ◌∷◌, map, refl, All, IsDistinct, list_any, sym, ap, ◌∙◌, arith}
 use Rattle.xa_base.proofs.{get_or, ints, All-head, All-tail, +ℤ_idl as none_plus, +ℤ_idr as plus_none, total_same, total_alike, total_both, total_nothing}
 use Rattle.xa_base.proofs.{by_if, at_true, ℕ, Bool, None, Some, cond, is_some, find, get-from_entries, total_across, inl, inr, zero, suc, AllByRecursion}

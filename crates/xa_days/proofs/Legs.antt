@@ -7,8 +7,8 @@ use Rattle.xa_atomicity.proofs.CutVotes.{CameAt, each_came, at_asking, at_forget
 use Rattle.xa_atomicity.proofs.CutVotes.{prepare_sent, told_voted, named_so, named_tran}
 use Rattle.xa_atomicity.proofs.Sites.{Site, request_of}
 use Rattle.xa_atomicity.proofs.Values.{taken}
-use Rattle.xa_atomicity.specs.{Tabled, IsCut, HasSentNone, is_commit_of, is_recorded, OnlyTheseOrDecisionsName, AskedAreLeft, VotedToCommit, CutCall, IsKept}
-use Rattle.xa_atomicity.specs.{IsUseIn, OnlyResolves, Opening, cuts, WasAsked, EndsByTheLog, IsResolvedAfter, known_of, EndsAs, ResolveCall, histories}
+use Rattle.xa_atomicity.specs.{Tabled, IsCut, is_commit_of, is_recorded, OnlyTheseOrDecisionsName, AskedAreLeft, VotedToCommit, CutCall, IsKept, IsUseIn}
+use Rattle.xa_atomicity.specs.{OnlyResolves, Opening, cuts, WasAsked, EndsByTheLog, IsResolvedAfter, known_of, EndsAs, ResolveCall, histories}
 use Rattle.xa_base.specs.{MOST_MANAGERS, IsUpTo}
 use Rattle.xa_words.specs.{XidName, Decides-xid_eq, TranName, tran_of, Done, Op, Prepare, Forget, Request, Code, RdOnly}
 use Rattle.xa_tables.specs.{Tables, History, names, is_heur, tables_after, held_by}
@@ -16,7 +16,7 @@ use Rattle.xa_desk.specs.{LedgerView, ledger, HasGrown, learnt_shut}
 use Rattle.xa_switch.specs.{IsOpenedWith, first_of, history as history_of, ledgers_of, IsSettled, Settling}
 use Rattle.xa_switch.proofs.SettledOpenings.{follows_first}
 use Rattle.xa_log.specs.{LogState, record_of}
-use Rattle.xa_driver.specs.{Branch, Ending, is_commit, outcome_op, decision_of, IsTranOf, yes_of, is_no, is_yes, second_op, third_op, Logs}
+use Rattle.xa_driver.specs.{Branch, Ending, is_commit, outcome_op, decision_of, IsTranOf, yes_of, is_no, is_yes, second_op, third_op, Logs, HasSentNone}
 use Rattle.xa_atomicity.proofs.CutBranch.{HasSentOnly, asked_only, ended_voted_so, guide, open_so, told_voted_so, voted_only}
 use Rattle.xa_atomicity.proofs.CutSends.{unrecorded_law, decided_so}
 use Rattle.xa_atomicity.proofs.Leading.{IsTowards, Leads}
@@ -72,7 +72,7 @@ module _ (bs : List Branch) (old new : List LedgerView) where
   sent_at b (at_asking same h) first = (false, asked_only false (Unit {0}) b (ledger old b.m) (ledger new b.m) h first)
   sent_at b (at_telling votes logged logs v vote h) first =
       voted_sent (decision_of votes logged) b v (told_voted_so (decision_of votes logged) (Unit {0}) b v (ledger old b.m) (ledger new b.m) h) first
-  sent_at b (at_forgetting votes logged logs v vote z h known) first =
+  sent_at b (at_forgetting votes logged logs v vote z h) first =
       voted_sent (decision_of votes logged) b v (ended_voted_so (decision_of votes logged) (Unit {0}) b v z (ledger old b.m) (ledger new b.m) (λ _. tt) h) first
 
 leads_tells : (commit : Bool) (op : Op) → Leads commit (Unit {0}) op → tells_outcome op ≡ true
@@ -212,7 +212,7 @@ module _ (s : Settling) (k : CutCall) (use_ : IsUseIn s (cuts k)) (t : TranName)
       by_vote s k use_ b positive v (for_so votes logged logs b v vote)
       (told_voted Any c b v (ledger k.desk.ledgers b.m) (ledger k.new b.m) (λ op _. tt) (any_asked (second_op c b.xid v)) h)
       (λ is. told_voted (NoCommit b.xid) c b v (ledger k.desk.ledgers b.m) (ledger k.new b.m) (unnamed_none b.xid) (rw is (untold c b.xid)) h)
-  at_branch b positive (at_forgetting votes logged logs v vote z h known) =
+  at_branch b positive (at_forgetting votes logged logs v vote z h) =
       let c : Bool = decision_of votes logged in
       by_vote s k use_ b positive v (for_so votes logged logs b v vote)
       (ended_voted Any c b v (ledger k.desk.ledgers b.m) (ledger k.new b.m) (λ op _. tt) (any_asked (second_op c b.xid v)) z (any_asked (third_op b.xid z)) h)

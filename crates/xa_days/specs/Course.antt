@@ -12,7 +12,7 @@ use Rattle.xa_tables.specs.Histories.{History, Fate, Committed, RolledBack, is_i
 use Rattle.xa_tables.specs.Openings.{fate_left}
 use Rattle.xa_tables.specs.Prepared.{names}
 use Rattle.xa_tables.specs.Worth.{held_by}
-use Rattle.xa_days.specs.Openings.{moved_over, is_for, CommitsNowhere}
+use Rattle.xa_days.specs.MovedOver.{moved_over, is_for, CommitsNowhere}
 
 -- what tells a branch its outcome, or has it forgotten: a Commit in two phases, a Rollback, a Forget
 abbrev pub tells_outcome : Op → Bool

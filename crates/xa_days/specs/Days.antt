@@ -7,7 +7,7 @@ use Rattle.xa_tables.specs.ManagerTables.{Tables}
 use Rattle.xa_tables.specs.Histories.{History, Absent}
 use Rattle.xa_tables.specs.Openings.{left_by, fate_left}
 use Rattle.xa_tables.specs.Worth.{worth}
-use Rattle.xa_days.specs.Openings.{moved_over, is_for, CommitsNowhere, CommitsAmong}
+use Rattle.xa_days.specs.MovedOver.{moved_over, is_for, CommitsNowhere, CommitsAmong}
 use Rattle.xa_days.specs.Course.{Votes, voted_sum, OnlyTold, is_committed}
 
 -- the worth after the openings is what it was before them and what the Commits of each branch have moved

@@ -12,7 +12,7 @@ use Rattle.xa_atomicity.specs.Cut.{is_recorded}
 use Rattle.xa_atomicity.specs.Resolution.{CutCall, OnlyResolves, Opening}
 use Rattle.xa_days.specs.Calls.{CommitsInCall, DecidesNowhere, IsMarkedNowhere, taken_till_asked}
 use Rattle.xa_days.specs.Days.{Leg}
-use Rattle.xa_days.specs.Openings.{CommitsNowhere}
+use Rattle.xa_days.specs.MovedOver.{CommitsNowhere}
 use Rattle.xa_days.specs.Recorded.{OnlyRead}
 
 -- what the branch held as the call asked it to prepare, where its manager began with the tables T

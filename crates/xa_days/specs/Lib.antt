@@ -1,4 +1,4 @@
-pub mod Openings
+pub mod MovedOver
 pub mod Course
 pub mod Days
 pub mod SettledDays
@@ -6,7 +6,7 @@ pub mod Calls
 pub mod Recorded
 pub mod Legs
 -- The words of this crate, by its name.
-pub use Openings.{CommitsAmong, CommitsNowhere, is_for, moved_over}
+pub use MovedOver.{CommitsAmong, CommitsNowhere, is_for, moved_over}
 pub use Course.{MovesWhereCommitted, OnlyTold, Votes, is_committed, is_outcome, is_undecided, tells_outcome, voted_sum}
 pub use Days.{ComesOut, IsDay, Leg, WorthIsOfBranches, WorthIsRecorded, counted}
 pub use SettledDays.{ComesOutByTheLog, IsSettledDay, SettledWorthIsRecorded, branch_at}

@@ -6,7 +6,8 @@ use Rattle.xa_desk.specs.DeskViews.{ledger}
 use Rattle.xa_switch.specs.Fates.{ledgers_of}
 use Rattle.xa_switch.specs.Settled.{Settling}
 use Rattle.xa_driver.specs.declared.branch.Branch.{Branch}
-use Rattle.xa_atomicity.specs.Cut.{HasSentNone, is_commit_of}
+use Rattle.xa_driver.specs.Commits.{HasSentNone}
+use Rattle.xa_atomicity.specs.Cut.{is_commit_of}
 use Rattle.xa_atomicity.specs.Presumed.{VotedToCommit, WasAsked}
 use Rattle.xa_atomicity.specs.Resolution.{CutCall}
 

@@ -11,7 +11,7 @@ use Rattle.xa_driver.specs.declared.branch.Branch.{Branch}
 use Rattle.xa_driver.specs.declared.done.Ending.{Ending}
 use Rattle.xa_atomicity.specs.Resolution.{Opening, EndsAs, last_of, tables_left}
 use Rattle.xa_atomicity.specs.Worth.{histories}
-use Rattle.xa_days.specs.Openings.{CommitsNowhere, CommitsAmong}
+use Rattle.xa_days.specs.MovedOver.{CommitsNowhere, CommitsAmong}
 use Rattle.xa_days.specs.Course.{Votes, voted_sum, OnlyTold}
 use Rattle.xa_days.specs.Days.{Leg, counted}
 

@@ -7,7 +7,7 @@ ghost use Rattle.xa_tables.specs.Histories.{History, Fate, InDoubt, fate, is_in_
 ghost use Rattle.xa_tables.specs.Openings.{IsOpening, fate_left};
 ghost use Rattle.xa_tables.specs.Prepared.{IsPrepared};
 ghost use Rattle.xa_tables.specs.Worth.{DeclareEach, held_by};
-ghost use Rattle.xa_days.specs.Openings.{moved_over, is_for, CommitsNowhere, CommitsAmong};
+ghost use Rattle.xa_days.specs.MovedOver.{moved_over, is_for, CommitsNowhere, CommitsAmong};
 ghost use Rattle.xa_days.specs.Course.{Votes, is_undecided, OnlyTold, MovesWhereCommitted, voted_sum};
 ghost use Rattle.xa_days.specs.Days.{WorthIsOfBranches, WorthIsRecorded, IsDay, Leg};
 

@@ -8,14 +8,14 @@ use Rattle.xa_words.specs.declared.death.Death.TheVariants as death
 use Rattle.xa_desk.specs.{Operation, plan_of, AllKept, TicketView, ledger, GoesOn, LedgerView, DeskView}
 use Rattle.xa_desk.proofs.GoingOn.{goes_same, goes_further}
 use Rattle.xa_driver.specs.{Branch, Done, Round, Prepared, Decided, Told, Ask, AskTrace, EachAsk, EachBegan, HasBegun, KeepsTheRest, SameAsks, among_asks}
-use Rattle.xa_driver.specs.{CameToVotes, Dies, HaveAsked, HaveTold, IsDecidedBy, IsOfRound, LeavesDesk, LeavesHandles, PutsLedger, Tells, VotesAndObeys}
-use Rattle.xa_driver.specs.{is_decided_by, to_come, withheld, AsksLedger, code_of, ending_of_ask, first_ask, second_ask, HasDecided, HasPrepared, HasTold}
-use Rattle.xa_driver.specs.{IsUndecided, asked_in, EachBranch, Logs, decision_of, has_branch_at, IsAmong, IsSent, IsUnderWay, LeavesInFlight, IsSameAsk}
-use Rattle.xa_driver.specs.{VotesAndHears}
+use Rattle.xa_driver.specs.{CameToVotes, Dies, HaveAsked, HaveTold, IsDecidedBy, IsOfRound, sent_so_far, LeavesDesk, LeavesHandles, PutsLedger, Tells}
+use Rattle.xa_driver.specs.{VotesAndObeys, is_decided_by, to_come, withheld, AsksLedger, code_of, ending_of_ask, first_ask, second_ask, HasDecided, HasPrepared}
+use Rattle.xa_driver.specs.{HasTold, IsUndecided, asked_in, Logs, decision_of, has_branch_at, IsAmong, IsSent, IsUnderWay, LeavesInFlight, IsSameAsk}
+use Rattle.xa_driver.specs.{VotesAndHears, third_ask}
 use Rattle.xa_driver.specs.Deaths.{sent}
-use Rattle.xa_driver.proofs.Calls.{among_first, among_second, asks_long, first_trace, second_code, second_is, second_trace, seconds_are, for_log}
+use Rattle.xa_driver.proofs.Calls.{among_first, among_second, asks_long, first_trace, second_code, second_is, seconds_are, for_log, both_traced, each_asked}
 use Rattle.xa_driver.proofs.Stepping.{as_many, so_far}
-use Rattle.xa_driver.proofs.Requests.{for_trace}
+use Rattle.xa_driver.proofs.Requests.{same_itself}
 use Rattle.xa_driver.proofs.Progress.{idles_same, idles_start}
 use Rattle.xa_log.specs.{LogState}
 
@@ -84,15 +84,6 @@ told_far commit (b ∷ bs) (k ∷ ks) (j ∷ done) flying ts n old mid now (s, s
     let step = answered_step n (asked_in done) (asked_in (done ++ flying)) j.op j.code (ledger mid j.manager) (ledger now.ledgers j.manager) f count in
     (heard commit b k j n old mid now.ledgers s r e step.0, told_far commit bs ks done flying ts _ old mid now ss rs es fs g (rw (second_is commit b k j s r) at step.1))
 told_far commit _ _ _ _ _ n old mid now s r e f g count = absurd (search rules)
-
--- all of it
-pub each_obeys : (commit : Bool) (bs : List Branch) (ks js : List Ask) (old mid late : List LedgerView) → SameAsks (map first_ask bs) ks
-    → SameAsks (map (second_ask commit) ks) js → EachAsk ks old mid → EachAsk js mid late
-    → EachBranch (λ b v s e. VotesAndObeys AsksLedger commit b v s e (ledger old b.m) (ledger late b.m)) bs (map code_of ks) (map second_code js) (map (ending_of_ask commit) js)
-each_obeys commit [] [] [] old mid late s r e f = tt
-each_obeys commit (b ∷ bs) (k ∷ ks) (j ∷ js) old mid late s r e f =
-    search (arith, each_obeys commit bs ks js old mid late s.1 r.1 e.1 f.1, first_trace, for_trace, second_trace, s.0, b.xid, j.code, r.0, s.1, r.1, e.1)
-each_obeys commit _ _ _ old mid late s r e f = absurd (search rules)
 
 -- ---- a round that was sent
 
@@ -184,7 +175,7 @@ desk_left r now u bs old new among before left on kept = record {
     kept_is : now.kept ≡ old.kept
     kept_is = u.keeps.kept ∙ ap (λ (d : DeskView). d.kept) before
 
-    of_round : (o : Operation) → IsAmong o r.tickets.items → IsOfRound bs old.ledgers new.ledgers o
+    of_round : (o : Operation) → IsAmong o r.tickets.items → IsOfRound bs (sent_so_far old.ledgers) (sent_so_far new.ledgers) o
     of_round o flies =
         let f = flight_of o u.flying r.tickets.items r.before.value.ledgers now u.in_flight flies in
         record {
@@ -253,14 +244,14 @@ module _ (bs : List Branch) (old mid : List LedgerView) (log later : LogState) (
       → Dies AsksLedger PutsLedger death.Told p.tran bs (ledger old) (ledger new) log later known
   dies_told new t third known same =
       let seconds : List Ask = t.round.asks.items in
-      let again : SameAsks (map (second_ask d.known.commit) firsts) seconds = seconds_are second third in
+      let again : SameAsks (map (second_ask d.known.commit) firsts) seconds = seconds_are seconds second third.same in
       let commit_is : known.commit ≡ d.known.commit = ap (λ k. k.commit) same ∙ third.commit in
       let votes : known.votes.items ≡ d.known.votes.items = ap (λ k. k.votes.items) same ∙ ap (λ v. v.items) third.votes in
       let endings : known.endings.items ≡ map (ending_of_ask d.known.commit) seconds = ap (λ k. k.endings.items) same ∙ third.endings in
       record {
         far = record {
           seconds = map second_code seconds;
-          each = rw (commit_is, (votes ∙ votes_are), endings) (each_obeys d.known.commit bs firsts seconds old mid new first.same again first.asked.each third.asked.each);
+          each = rw (commit_is, (votes ∙ votes_are), endings) (each_asked d.known.commit old mid mid new (λ b. Unit {0}) (λ op m. Unit {0}) (λ b v z e. VotesAndObeys AsksLedger d.known.commit b v z e (ledger old b.m) (ledger new b.m)) (λ b v z _ one two _. both_traced d.known.commit b v z (ledger old b.m) (ledger mid b.m) (ledger new b.m) one two) bs firsts seconds (map third_ask seconds) first.same again (same_itself (map third_ask seconds)) (λ k d lt. tt) first.asked.each third.asked.each (λ k d lt. tt));
           decided = decided_by known commit_is (ap (λ k. k.logged) same ∙ third.logged) votes;
         };
         others = search (arith, among_second, among_first, third.asked.others);
@@ -272,7 +263,7 @@ module _ (bs : List Branch) (old mid : List LedgerView) (log later : LogState) (
       → (new : List LedgerView) → r.before.value.ledgers ≡ mid → new ≡ now.ledgers → (known : Done) → known ≡ d.known
       → Dies AsksLedger PutsLedger (death.Telling n) p.tran bs (ledger old) (ledger new) log later known
   dies_telling r now u whole n count same new before new_is known is =
-      let again : SameAsks (map (second_ask d.known.commit) firsts) r.asks.items = rw second.round at same in
+      let again : SameAsks (map (second_ask d.known.commit) firsts) r.asks.items = seconds_are r.asks.items second same in
       let among : (m : ℕ) → among_asks r.asks.items m ≡ has_branch_at bs m =
       λ m. among_second d.known.commit firsts r.asks.items m again ∙ among_first bs firsts m first.same in
       let told : HaveTold AsksLedger PutsLedger d.known.commit n bs (map code_of firsts) (ledger old) (ledger new) = search (arith, came_to_answers) in

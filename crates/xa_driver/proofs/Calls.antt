@@ -1,19 +1,19 @@
 -- The three rounds make a call, and so do the stages of a commit.
 use Rattle.xa_base.proofs.{rules, ◌≡◌, ℕ, ◌+◌, ◌≤◌, Bool, ◌||◌, ◌&&◌, ◌==◌, Option, Some, List, [], ◌∷◌, ◌++◌, length, map, refl, sym, ap, ◌∙◌, arith, suc}
 use Rattle.xa_base.proofs.{get_or, length-append, take, length-map, ◌<◌, set, None, vec_capacity, Vec, Global, take-append_seam, drop, take_all, drop_all}
-use Rattle.xa_base.proofs.{append-nil, length-take, length-drop, get_or_default}
+use Rattle.xa_base.proofs.{append-nil, length-take, length-drop, get_or_default, All, All-head, All-tail}
 use Rattle.std.proofs.lemmas.List.Edits.{map_over_more}
-use Rattle.xa_words.specs.{TranName, tran_of, Prepare, Code}
+use Rattle.xa_words.specs.{TranName, tran_of, Op, Prepare, Code}
 use Rattle.xa_desk.specs.{LedgerView, ledger, DeskView}
 use Rattle.xa_desk.proofs.Ledgers.{known_by}
 use Rattle.xa_driver.specs.{Branch, Done, is_yes, voted_yes, yes_of, second_op, third_op, ending_of, Ask, asked, AskTrace, EachAsk, among_asks, SameAsks}
 use Rattle.xa_driver.specs.{IsSameAsk, AreRising, AllCanAsk, first_ask, code_of, second_ask, third_ask, ending_of_ask, asked_yes, yes_asked, AtBranch}
 use Rattle.xa_driver.specs.{AsksLedger, EachBranch, has_branch_at, IsTranOf, AreBranchesRising, HaveRoom, Logs, decision_of, IsTraceOfCommit, Round}
 use Rattle.xa_driver.specs.{HasRoomForEndings, IsAtRest, MayAsk, Prepared, Decided, Told, KeepsTheRest, HasDecided, HasForgotten, HasPrepared, HasTold}
-use Rattle.xa_driver.specs.{MayForget, MayTell, MayCommit, CommitFault, IfUndecided}
+use Rattle.xa_driver.specs.{MayForget, MayTell, MayCommit, CommitFault, IfUndecided, Ending, VotesAndObeys}
 use Rattle.xa_log.specs.{LogState, record_of}
 use Rattle.xa_driver.specs.Asks.{Asks}
-use Rattle.xa_driver.proofs.Requests.{for_trace, asks_at, Alike, remade_alike, same_alike, same_itself}
+use Rattle.xa_driver.proofs.Requests.{for_trace, asks_at, Alike, remade_alike, same_alike, same_itself, WasAsked, all_asked}
 use Rattle.xa_driver.specs.declared.done.CommitFault.TheVariants as fault
 
 pub first_rising : (lo : ℕ) (bs : List Branch) → AreBranchesRising lo bs → AreRising lo (map first_ask bs)
@@ -68,36 +68,31 @@ pub second_trace : (commit : Bool) (b : Branch) (k j : Ask) (tell late : List Le
     → AskTrace (second_op commit b.xid (code_of k)) j.code (ledger tell b.m) (ledger late b.m)
 second_trace commit b k j tell late s r two = rw (second_is commit b k j s r, (r.manager ∙ s.manager)) at two
 
--- a branch's manager was asked in each of the three rounds
-branch_trace : (commit : Bool) (b : Branch) (k j l : Ask) (old mid late new : List LedgerView) → IsSameAsk (first_ask b) k → IsSameAsk (second_ask commit k) j
-    → IsSameAsk (third_ask j) l
-    → AskTrace k.op k.code (ledger old k.manager) (ledger mid k.manager) → AskTrace j.op j.code (ledger mid j.manager) (ledger late j.manager)
-    → AskTrace l.op l.code (ledger late l.manager) (ledger new l.manager)
-    → AtBranch AsksLedger commit b (code_of k) j.code (ending_of_ask commit j) (ledger old b.m) (ledger new b.m)
-branch_trace commit b k j l old mid late new s r q one two three =
-    let last : l.op ≡ third_op b.xid j.code = q.op ∙ ap (λ x. third_op x j.code) (r.xid ∙ s.xid) in
-    let z = rw (last, (q.manager ∙ r.manager ∙ s.manager)) at three in
-    record {
-      prepared = ledger mid b.m;
-      decided = ledger late b.m;
-      third = l.code;
-      prepares = first_trace b k old mid s one;
-      obeys = for_trace (second_op commit b.xid (code_of k)) j.code (ledger mid b.m) (ledger late b.m) (second_trace commit b k j mid late s r two);
-      forgets = for_trace (third_op b.xid j.code) l.code (ledger late b.m) (ledger new b.m) z;
-      ends = ap (λ v. ending_of commit v j.code) r.vote;
-    }
+-- by both codes it ends
+pub both_traced : (commit : Bool) (b : Branch) (v : Code) (z : Option Code) (a d a' : LedgerView) → AskTrace (Some (Prepare b.xid)) (Some v) a d
+    → AskTrace (second_op commit b.xid v) z d a' → VotesAndObeys AsksLedger commit b v z (ending_of commit v z) a a'
+both_traced commit b v z a d a' one two = record { prepared = d; prepares = one; obeys = for_trace (second_op commit b.xid v) z d a' two; ends = refl }
 
 abbrev pub second_code : Ask → Option Code
 second_code k = k.code
 
-each_branch : (commit : Bool) (bs : List Branch) (ks js ls : List Ask) (old mid late new : List LedgerView) → SameAsks (map first_ask bs) ks
-    → SameAsks (map (second_ask commit) ks) js → SameAsks (map third_ask js) ls
-    → EachAsk ks old mid → EachAsk js mid late → EachAsk ls late new
-    → EachBranch (λ b v s e. AtBranch AsksLedger commit b v s e (ledger old b.m) (ledger new b.m)) bs (map code_of ks) (map second_code js) (map (ending_of_ask commit) js)
-each_branch commit [] [] [] [] old mid late new s r q e f g = tt
-each_branch commit (b ∷ bs) (k ∷ ks) (j ∷ js) (l ∷ ls) old mid late new s r q e f g =
-    (branch_trace commit b k j l old mid late new s.0 r.0 q.0 e.0 f.0 g.0, each_branch commit bs ks js ls old mid late new s.1 r.1 q.1 e.1 f.1 g.1)
-each_branch commit _ _ _ _ old mid late new s r q e f g = absurd (search rules)
+-- what follows of each branch whose manager was asked in two rounds, where T is so of what it is asked in the third
+pub each_asked : (commit : Bool) (old mid tell late : List LedgerView) (C : Branch → Type 0) (T : Option Op → ℕ → Type 0)
+    (P : Branch → Code → Option Code → Ending → Type 0)
+    → ((b : Branch) (v : Code) (z : Option Code) → C b → AskTrace (Some (Prepare b.xid)) (Some v) (ledger old b.m) (ledger mid b.m)
+    → AskTrace (second_op commit b.xid v) z (ledger tell b.m) (ledger late b.m) → T (third_op b.xid z) b.m → P b v z (ending_of commit v z))
+    → (bs : List Branch) (ks js ls : List Ask) → SameAsks (map first_ask bs) ks → SameAsks (map (second_ask commit) ks) js → SameAsks (map third_ask js) ls
+    → All C bs → EachAsk ks old mid → EachAsk js tell late → All (λ l. T l.op l.manager) ls
+    → EachBranch P bs (map code_of ks) (map second_code js) (map (ending_of_ask commit) js)
+each_asked commit old mid tell late C T P so [] [] [] [] s r q c e f g = tt
+each_asked commit old mid tell late C T P so (b ∷ bs) (k ∷ ks) (j ∷ js) (l ∷ ls) s r q c e f g =
+    let Third : Ask → Type 0 = λ l. T l.op l.manager in
+    let last : l.op ≡ third_op b.xid j.code = q.0.op ∙ ap (λ x. third_op x j.code) (r.0.xid ∙ s.0.xid) in
+    let three : T (third_op b.xid j.code) b.m = rw (last, (q.0.manager ∙ r.0.manager ∙ s.0.manager)) at (All-head Third l ls g) in (
+      rw r.0.vote (so b (code_of k) j.code (All-head C b bs c) (first_trace b k old mid s.0 e.0) (second_trace commit b k j tell late s.0 r.0 f.0) three),
+      each_asked commit old mid tell late C T P so bs ks js ls s.1 r.1 q.1 (All-tail C b bs c) e.1 f.1 (All-tail Third l ls g),
+    )
+each_asked commit old mid tell late C T P so _ _ _ _ s r q c e f g = absurd (search rules)
 
 among_branches : (bs : List Branch) (m : ℕ) → among_asks (map first_ask bs) m ≡ has_branch_at bs m
 among_branches [] m = refl
@@ -135,10 +130,15 @@ call_by done bs ks js ls old mid late new log log' t s one r two q three votes e
     record {
       course = record {
         seconds = map second_code js;
-        each = rw (votes, endings) (each_branch done.commit bs ks js ls old mid late new s r q one.each two.each three.each);
+        each =
+            rw (votes, endings) (each_asked done.commit old mid mid late (λ b. Unit {0}) (WasAsked late new) (λ b v z e. AtBranch AsksLedger done.commit b v z e (ledger old b.m) (ledger new b.m)) (λ b v z _ first second third. record {
+              decided = ledger late b.m;
+              third = third.0;
+              obeyed = both_traced done.commit b v z (ledger old b.m) (ledger mid b.m) (ledger late b.m) first second;
+              forgets = for_trace (third_op b.xid z) third.0 (ledger late b.m) (ledger new b.m) third.1;
+            }) bs ks js ls s r q (λ k d lt. tt) one.each two.each (all_asked ls late new three.each));
         others = search (arith, among_third, among_second, among_first, three.others, done.commit, two.others, one.others);
-        decision = decision ∙ ap (λ vs. decision_of vs done.logged) (sym votes);
-        logs = rw (votes, ← yes_is bs ks s) logs;
+        decided = record { decision = decision ∙ ap (λ vs. decision_of vs done.logged) (sym votes); logs = rw (votes, ← yes_is bs ks s) logs };
       };
       managers = three.managers ∙ two.managers ∙ one.managers;
     }
@@ -194,15 +194,16 @@ pub ruleset remade_rules = (same_itself, lent, remade_endings)
 
 -- ---- the stages of a commit make a call
 
-pub seconds_are : {mid late : List LedgerView} {log later : LogState} {p : Prepared} {d : Decided} {t : Told} → HasDecided p log later d → HasTold d mid late t
-    → SameAsks (map (second_ask d.known.commit) p.round.asks.items) t.round.asks.items
-seconds_are second third = rw second.round at third.same
+-- the second round is of what the first asked
+pub seconds_are : {p : Prepared} {log later : LogState} {d : Decided} (js : List Ask) → HasDecided p log later d
+    → SameAsks (map (second_ask d.known.commit) d.round.asks.items) js → SameAsks (map (second_ask d.known.commit) p.round.asks.items) js
+seconds_are js second same = rw second.round at same
 
 pub stages_call : {bs : List Branch} {old mid late new : List LedgerView} {log later : LogState} {p : Prepared} {d : Decided} {t : Told} {done : Done}
     → HasPrepared bs old mid p → HasDecided p log later d → HasTold d mid late t → HasForgotten t late new done
     → IsTraceOfCommit p.tran bs old new log later done
 stages_call {p = p} {d = d} {t = t} first second third last =
-    let seconds : SameAsks (map (second_ask d.known.commit) p.round.asks.items) t.round.asks.items = seconds_are second third in
+    let seconds : SameAsks (map (second_ask d.known.commit) p.round.asks.items) t.round.asks.items = seconds_are t.round.asks.items second third.same in
     search (arith, call_by, seconds, last.thirds, last.same)
 
 -- what the log is asked by the votes of the first stage, it is asked by those of the commit
@@ -236,7 +237,7 @@ pub may_forget : (bs : List Branch) (desk mid new : DeskView) (start log later :
     → HasPrepared bs desk.ledgers mid.ledgers p → HasDecided p log later d → HasTold d mid.ledgers new.ledgers t
     → KeepsTheRest desk mid → KeepsTheRest mid new → MayForget t new
 may_forget bs desk mid new start log later p d t may first second third rest rest_on =
-    let alike = remade_alike (second_ask d.known.commit) (λ k. refl) p.round.asks.items t.round.asks.items (seconds_are second third) in
+    let alike = remade_alike (second_ask d.known.commit) (λ k. refl) p.round.asks.items t.round.asks.items (seconds_are t.round.asks.items second third.same) in
     record {
       rest = third.rest;
       may = record {

@@ -6,7 +6,7 @@ use Rattle.std.specs.FinMap as finmap
 use Rattle.xa_words.specs.{Code, Op}
 use Rattle.xa_desk.specs.{LedgerView, learnt_shut, with_sent, TicketView, IsKnown, ledger, outstanding, DeskView, Operation, AllKept, LeavesOthers}
 use Rattle.xa_desk.proofs.Ledgers.{known_by}
-use Rattle.xa_driver.specs.{Ask, AskTrace, EachAsk, among_asks, AreRising, CanAsk, AllCanAsk, IsUnsent, unsent_code, BeginsAsk, Ends, HasBegun, EachBegan}
+use Rattle.xa_driver.specs.{Ask, AskTrace, EachAsk, among_asks, AreRising, CanAsk, AllCanAsk, IsUnsent, unsent_code, BeginsAsk, EndsAsk, HasBegun, EachBegan}
 use Rattle.xa_driver.specs.{Round, Keeps, LeavesOwned, Owning, AllKeptBut, AreApart, IsAmong, IsUnderWay, LeavesInFlight, LeavesKept, LeavesOtherTickets}
 use Rattle.xa_driver.specs.{OwnsAll}
 use Rattle.xa_driver.proofs.Requests.{open_count, sent_by, Moved, began_moved, ended_moved, collected_of, sent_is, asks_there, IsOpen, asked_opens, out_by}
@@ -97,13 +97,13 @@ sent_takes_one k r d d' known b = grind (arith, began_moved, sent_by, at_false, 
 
 -- ---- one is collected
 
-pub end_takes_none : (k : Ask) (r : Option TicketView) (code : Option Code) (d d' : DeskView) → Ends k d d' r code
+pub end_takes_none : (k : Ask) (r : Option TicketView) (code : Option Code) (d d' : DeskView) → EndsAsk k d d' r code
     → outstanding d'.ledgers ≤ outstanding d.ledgers
 end_takes_none k r code d d' e = search (arith, rules)
 
 -- the ledger moves by what was collected
 pub end_moves : (k : Ask) (r : Option TicketView) (code : Option Code) (at : List LedgerView) (d d' : DeskView) → IsKnown d.ledgers k.manager
-    → HasBegun k r at d → Ends k d d' r code → Moved k.manager (collected_of (ledger d.ledgers k.manager) r code) d d'
+    → HasBegun k r at d → EndsAsk k d d' r code → Moved k.manager (collected_of (ledger d.ledgers k.manager) r code) d d'
 end_moves k r code at d d' known h e = search (arith, ended_moved)
 
 unsent_trace : (k : Ask) (op : Option Op) (a a' : LedgerView) → IsUnsent a op → a' ≡ a → AskTrace op (unsent_code op) a a'
@@ -111,7 +111,7 @@ unsent_trace k None a a' h e = record { answered = refl; trace = e }
 unsent_trace k (Some op) a a' h e = record { answered = λ shut. refl; trace = e ∙ sym (at_true (learnt_shut a) _ _ h) }
 
 -- the manager was asked, and answered
-pub end_answers : (k : Ask) (r : Option TicketView) (code : Option Code) (at : List LedgerView) (d d' : DeskView) → HasBegun k r at d → Ends k d d' r code
+pub end_answers : (k : Ask) (r : Option TicketView) (code : Option Code) (at : List LedgerView) (d d' : DeskView) → HasBegun k r at d → EndsAsk k d d' r code
     → ledger d'.ledgers k.manager ≡ collected_of (ledger d.ledgers k.manager) r code
     → AskTrace k.op code (ledger at k.manager) (ledger d'.ledgers k.manager)
 unfolding collected_of

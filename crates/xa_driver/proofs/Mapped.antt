@@ -1,13 +1,18 @@
--- What a commit and a resolve keep of the states that they ask over, and what they ask over one kind of states they ask
--- over another, where each of their requests does.
-use Rattle.xa_base.proofs.{arith, ◌≡◌, ℕ, Bool, true, false, List, [], ◌∷◌, Option, Some, None, refl, ap, Contains, Contains-append_left, Contains-push}
+-- What a commit and a resolve ask over one kind of states, they ask over another, where each of their requests is asked there too; and
+-- what each of their requests keeps, they keep.
+use Rattle.xa_words.specs.declared.death.Death.TheVariants as death
+use Rattle.xa_base.proofs.{◌≡◌, ℕ, zero, suc, Bool, true, false, List, [], ◌∷◌, length, min, Option, Some, None, refl, ap, arith, Contains}
+use Rattle.xa_base.proofs.{Contains-append_left, Contains-push, All, All-cons, All-nil, All-head, All-tail}
 use Rattle.xa_base.specs.{Chain}
 use Rattle.xa_base.specs.Lists.Chain.{none, more}
-use Rattle.xa_words.specs.{XidName, Op, OpenRm, Prepare, Forget, Code}
+use Rattle.xa_words.specs.{TranName, XidName, Death, Op, OpenRm, Prepare, Forget, Code}
 use Rattle.xa_calls.specs.Scans.{Asking}
-use Rattle.xa_driver.specs.{Branch, Ending, Outcome, AsksFor, AtBranch, second_op, third_op, is_decided, AsksIf, ResolvesBranch, ResolvesAt, is_to_commit}
-use Rattle.xa_driver.specs.{outcome_op, ResolvesInTurn, begun, next}
-use Rattle.xa_log.specs.{Records}
+pub use Rattle.xa_calls.proofs.Morphisms.{Keeps, Morphism, keeps}
+use Rattle.xa_calls.proofs.Morphisms.{Carries, and_so, and_then, plain, stays}
+use Rattle.xa_driver.specs.{Branch, Done, Ending, Outcome, AsksFor, AtBranch, second_op, third_op, is_decided, AsksIf, ResolvesBranch, ResolvesAt, is_to_commit}
+use Rattle.xa_driver.specs.{outcome_op, ResolvesInTurn, begun, next, EachBranch, Putting, HaveAsked, HaveTold, Tells, VotesAndHears, VotesAndObeys, CameTo}
+use Rattle.xa_driver.specs.{CameToVotes, to_come}
+use Rattle.xa_log.specs.{LogState, Records}
 use Rattle.xa_scan.specs.{ScanView, left_at}
 
 -- ---- what is asked
@@ -33,107 +38,62 @@ pub record Asks (P : Op → Type 0) (records : Records) (m : ℕ) (o : Outcome) 
 pub anything : (records : Records) (m : ℕ) (o : Outcome) → Asks Any records m o
 anything records m o = record { ends = λ _ _. tt; forgets = λ _ _. tt }
 
--- ---- what each request keeps that is so, all of them keep
+-- ---- a branch, and a manager
 
-module _ {D : Type 0} (A : Asking D) (P : Op → Type 0) (Q : D → Type 0) (on : (d e : D) (op : Op) (c : Code) → P op → A d op e c → Q d → Q e) where
-  pub for_by : (op : Option Op) (code : Option Code) (d e : D) → IsAskedFor P op → AsksFor A op code d e → Q d → Q e
-  for_by None code d e so nothing q = rw nothing.1 q
-  for_by (Some op) None d e so nothing q = absurd nothing
-  for_by (Some op) (Some c) d e so asked q = on d e op c so asked q
+module _ {D E : Type 0} {So : Op → Type 0} {A : Asking D} {B : Asking E} {f : D → E} {Q P : D → Type 0} (carried : Morphism So A B f Q P) where
+  pub for_mapped : (op : Option Op) (code : Option Code) (d e : D) → IsAskedFor So op → AsksFor A op code d e
+      → Carries Q P d e (AsksFor B op code (f d) (f e))
+  for_mapped None code d e so nothing = stays nothing.1 (nothing.0, ap f nothing.1)
+  for_mapped (Some op) None d e so nothing = absurd nothing
+  for_mapped (Some op) (Some c) d e so asked = carried.each d e op c so asked
+
+  -- a branch that votes, and is told
+  pub obeys_mapped : (commit : Bool) (b : Branch) (v : Code) (s : Option Code) (end : Ending) (d e : D) → So (Prepare b.xid)
+      → IsAskedFor So (second_op commit b.xid v) → VotesAndObeys A commit b v s end d e → Carries Q P d e (VotesAndObeys B commit b v s end (f d) (f e))
+  obeys_mapped commit b v s end d e asks told is =
+      and_then (carried.each d is.prepared (Prepare b.xid) v asks is.prepares) (for_mapped (second_op commit b.xid v) s is.prepared e told is.obeys) (λ x y. record { prepared = f is.prepared; prepares = x; obeys = y; ends = is.ends })
 
   -- a commit at a branch
   module _ (commit : Bool) (b : Branch) (vote : Code) (second : Option Code) (ending : Ending) (old new : D)
       (is : AtBranch A commit b vote second ending old new)
-      (told : IsAskedFor P (second_op commit b.xid vote)) (forgot : IsAskedFor P (third_op b.xid second)) where
+      (told : IsAskedFor So (second_op commit b.xid vote)) (forgot : IsAskedFor So (third_op b.xid second)) where
     -- from its vote on
-    pub rest_by : Q is.prepared → Q new
-    rest_by q = search (arith, for_by)
+    pub rest_mapped : Carries Q P is.prepared new (AsksFor B (second_op commit b.xid vote) second (f is.prepared) (f is.decided) × AsksFor B (third_op b.xid second) is.third (f is.decided) (f new))
+    rest_mapped =
+        and_then (for_mapped (second_op commit b.xid vote) second is.prepared is.decided told is.obeys)
+        (for_mapped (third_op b.xid second) is.third is.decided new forgot is.forgets) (λ x y. (x, y))
 
-    pub branch_by : P (Prepare b.xid) → Q old → Q new
-    branch_by asks q = rest_by (on old is.prepared (Prepare b.xid) vote asks is.prepares q)
-
-  -- a resolve
-  pub if_by : (asks : Bool) (op : Op) (d e : D) → (asks ≡ true → P op) → AsksIf asks A op d e → Q d → Q e
-  if_by false op d e so same q = rw same q
-  if_by true op d e so asked q = on d e op asked.0 (so refl) asked.1 q
-
-  pub outcome_by : (records : Records) (m : ℕ) (o : Outcome) (d e : D) → Asks P records m o → ResolvesBranch A records m o d e → Q d → Q e
-  outcome_by records m o d e so is q = search (arith, if_by, is.decided, so.forgets, is.forgets, o.commit, o.code, so.ends, is.manager, is.obeys)
-
-  pub outcomes_by : (records : Records) (m : ℕ) (d : D) (os : List Outcome) (e : D) → ((o : Outcome) → Contains os o → Asks P records m o)
-      → Chain (ResolvesBranch A records m) d os e → Q d → Q e
-  outcomes_by records m d os e so (none xs last z same) q = rw same q
-  outcomes_by records m d os e so (more xs o now last before is) q =
-      outcome_by records m o now last (so o (Contains-push xs o)) is (outcomes_by records m d xs now (λ p there. so p (Contains-append_left xs (o ∷ []) p there)) before q)
-
-  pub resolves_by : (records : Records) (m : ℕ) (xs : List XidName) (os : List Outcome) (d e : D) → P OpenRm
-      → ((o : Outcome) → Contains os o → Asks P records m o) → ResolvesAt A records m xs os d e → Q d → Q e
-  resolves_by records m [] os d e opens so is q = rw is.1 q
-  resolves_by records m (x ∷ xs) os d e opens so is q = outcomes_by records m is.opened os e so is.each (on d is.opened OpenRm is.code opens is.opens q)
-
--- ---- from one kind of states to another
-
--- What is asked over states D is asked over E, where Q held before and P holds afterwards; Q is kept, and P held before.
-module _ {D E : Type 0} (A : Asking D) (B : Asking E) (f : D → E) (Q P : D → Type 0)
-    (on : (d e : D) (op : Op) (c : Code) → A d op e c → Q d → Q e) (back : (d e : D) (op : Op) (c : Code) → A d op e c → P e → P d)
-    (step : (d e : D) (op : Op) (c : Code) → A d op e c → Q d → P e → B (f d) op (f e) c) where
-  pub for_back : (op : Option Op) (code : Option Code) (d e : D) → AsksFor A op code d e → P e → P d
-  for_back None code d e nothing p = rw nothing.1 at p
-  for_back (Some op) None d e nothing p = absurd nothing
-  for_back (Some op) (Some c) d e asked p = back d e op c asked p
-
-  pub for_mapped : (op : Option Op) (code : Option Code) (d e : D) → AsksFor A op code d e → Q d → P e → AsksFor B op code (f d) (f e)
-  for_mapped None code d e nothing q p = (nothing.0, ap f nothing.1)
-  for_mapped (Some op) None d e nothing q p = absurd nothing
-  for_mapped (Some op) (Some c) d e asked q p = step d e op c asked q p
-
-  -- a commit at a branch
-  module _ (commit : Bool) (b : Branch) (vote : Code) (second : Option Code) (ending : Ending) (old new : D)
-      (is : AtBranch A commit b vote second ending old new) where
-    pub branch_mapped : Q old → P new → AtBranch B commit b vote second ending (f old) (f new)
-    branch_mapped q p =
-        let q1 : Q is.prepared = on old is.prepared (Prepare b.xid) vote is.prepares q in
-        let p2 : P is.decided = for_back (third_op b.xid second) is.third is.decided new is.forgets p in
-        record {
-          prepared = f is.prepared;
-          decided = f is.decided;
-          third = is.third;
-          prepares = step old is.prepared (Prepare b.xid) vote is.prepares q (for_back (second_op commit b.xid vote) second is.prepared is.decided is.obeys p2);
-          obeys = for_mapped (second_op commit b.xid vote) second is.prepared is.decided is.obeys q1 p2;
-          forgets = for_mapped (third_op b.xid second) is.third is.decided new is.forgets (for_by A Any Q (λ d e op c _. on d e op c) (second_op commit b.xid vote) second is.prepared is.decided (any_asked _) is.obeys q1) p;
-          ends = is.ends;
-        }
+    pub branch_mapped : So (Prepare b.xid) → Carries Q P old new (AtBranch B commit b vote second ending (f old) (f new))
+    branch_mapped asks =
+        and_then (obeys_mapped commit b vote second ending old is.decided asks told is.obeyed) (for_mapped (third_op b.xid second) is.third is.decided new forgot is.forgets)
+        (λ x y. record { decided = f is.decided; third = is.third; obeyed = x; forgets = y })
 
   -- a resolve
+  pub if_mapped : (asks : Bool) (op : Op) (d e : D) → (asks ≡ true → So op) → AsksIf asks A op d e → Carries Q P d e (AsksIf asks B op (f d) (f e))
+  if_mapped false op d e so same = stays same (ap f same)
+  if_mapped true op d e so asked = and_so (carried.each d e op asked.0 (so refl) asked.1) (λ x. (asked.0, x))
+
   module _ (records : Records) (m : ℕ) where
-    if_mapped : (asks : Bool) (op : Op) (d e : D) → AsksIf asks A op d e → Q d → P e → AsksIf asks B op (f d) (f e) × P d
-    if_mapped false op d e same q p = (ap f same, rw same at p)
-    if_mapped true op d e asked q p = ((asked.0, step d e op asked.0 asked.1 q p), back d e op asked.0 asked.1 p)
+    pub outcome_mapped : (o : Outcome) (d e : D) → Asks So records m o → ResolvesBranch A records m o d e
+        → Carries Q P d e (ResolvesBranch B records m o (f d) (f e))
+    outcome_mapped o d e so is =
+        and_then (carried.each d is.decided (outcome_op o.commit o.xid) o.code (so.ends is.manager is.decision) is.obeys)
+        (if_mapped (is_decided o.code) (Forget o.xid) is.decided e (so.forgets is.manager) is.forgets)
+        (λ x y. record { manager = is.manager; decision = is.decision; decided = f is.decided; obeys = x; forgets = y })
 
-    outcome_mapped : (o : Outcome) (d e : D) → ResolvesBranch A records m o d e → Q d → P e → ResolvesBranch B records m o (f d) (f e) × P d
-    outcome_mapped o d e is q p =
-        let (forgets, p1) = if_mapped (is_decided o.code) (Forget o.xid) is.decided e is.forgets (on d is.decided _ o.code is.obeys q) p in
-        let obeys = step d is.decided _ o.code is.obeys q p1 in
-        (record { manager = is.manager; decision = is.decision; decided = f is.decided; obeys = obeys; forgets = forgets }, back d is.decided _ o.code is.obeys p1)
+    pub outcomes_mapped : (d : D) (os : List Outcome) (e : D) → ((o : Outcome) → Contains os o → Asks So records m o)
+        → Chain (ResolvesBranch A records m) d os e → Carries Q P d e (Chain (ResolvesBranch B records m) (f d) os (f e))
+    outcomes_mapped d os e so (none xs last z same) = stays same (none xs (f last) z (ap f same))
+    outcomes_mapped d os e so (more xs o now last before is) =
+        and_then (outcomes_mapped d xs now (λ p there. so p (Contains-append_left xs (o ∷ []) p there)) before) (outcome_mapped o now last (so o (Contains-push xs o)) is) (λ c r. more xs o (f now) (f last) c r)
 
-    all_mapped : (d : D) (os : List Outcome) (e : D) → Chain (ResolvesBranch A records m) d os e → Q d → P e
-        → Chain (ResolvesBranch B records m) (f d) os (f e) × P d
-    all_mapped d os e (none xs last z same) q p = (none xs (f last) z (ap f same), rw same at p)
-    all_mapped d os e (more xs o now last before is) q p =
-        let (one, p1) =
-        outcome_mapped o now last is (outcomes_by A Any Q (λ d e op c _. on d e op c) records m d xs now (λ o _. anything records m o) before q) p in
-        let (earlier, p0) = all_mapped d xs now before q p1 in
-        (more xs o (f now) (f last) earlier one, p0)
+    pub resolves_mapped : (xs : List XidName) (os : List Outcome) (d e : D) → So OpenRm → ((o : Outcome) → Contains os o → Asks So records m o)
+        → ResolvesAt A records m xs os d e → Carries Q P d e (ResolvesAt B records m xs os (f d) (f e))
+    resolves_mapped [] os d e opens so is = stays is.1 (is.0, ap f is.1)
+    resolves_mapped (x ∷ xs) os d e opens so is =
+        and_then (carried.each d is.opened OpenRm is.code opens is.opens) (outcomes_mapped is.opened os e so is.each) (λ o c. record { opened = f is.opened; code = is.code; opens = o; each = c; xids_are = is.xids_are })
 
-    pub resolves_mapped : (xids : List XidName) (os : List Outcome) (d e : D) → ResolvesAt A records m xids os d e → Q d → P e
-        → ResolvesAt B records m xids os (f d) (f e)
-    resolves_mapped [] os d e is q p = (is.0, ap f is.1)
-    resolves_mapped (x ∷ xs) os d e is q p =
-        let (all, p1) = all_mapped is.opened os e is.each (on d is.opened OpenRm is.code is.opens q) p in
-        record { opened = f is.opened; code = is.code; opens = step d is.opened OpenRm is.code is.opens q p1; each = all; xids_are = is.xids_are }
-
--- ---- what was resolved in turn was, whatever of each request is looked at
-
+-- what was resolved in turn was, whatever of each request is looked at
 pub turns_by : {D E : Type 0} (f : D → E) (asking : ℕ → Asking D) (other : ℕ → Asking E)
     → ((m : ℕ) (d : D) (op : Op) (e : D) (code : Code) → asking m d op e code → other m (f d) op (f e) code)
     → (records : Records) (z : ScanView) (old : D) (n : ℕ) (os : List Outcome) (new : D)
@@ -141,5 +101,109 @@ pub turns_by : {D E : Type 0} (f : D → E) (asking : ℕ → Asking D) (other :
 turns_by f asking other is records z old n os new (begun outcomes last nil same) = begun outcomes (f last) nil (ap f same)
 turns_by f asking other is records z old n os new (next k m xs ys all d e before here r grown) =
     next k m xs ys all (f d) (f e) (turns_by f asking other is records z old k xs d before) here
-    (resolves_mapped (asking m) (other m) f (λ _. Unit) (λ _. Unit) (λ d e op c a q. q) (λ d e op c a p. p) (λ d e op c a q p. is m d op e c a) records m (left_at z m) ys d e r tt tt)
-    grown
+    ((resolves_mapped (plain (asking m) (other m) f (is m)) records m (left_at z m) ys d e tt (λ o there. anything records m o) r).over tt tt) grown
+
+-- ---- a branch of a commit that was cut short
+
+-- So is what is put, and isn't waited for.
+pub record PutMorphism {D E : Type 0} (So : Op → Type 0) (U : Putting D) (V : Putting E) (f : D → E) (Q P : D → Type 0) : Type 0 where
+  pub each : (d e : D) (op : Op) → So op → U d op e → Carries Q P d e (V (f d) op (f e))
+
+-- What is put is what is asked, with some code.
+pub puts_some : {D E : Type 0} {So : Op → Type 0} {A : Asking D} {B : Asking E} {f : D → E} {Q P : D → Type 0} → Morphism So A B f Q P
+    → PutMorphism So (λ d op e. (c : Code) × A d op e c) (λ d op e. (c : Code) × B d op e c) f Q P
+puts_some carried = record { each = λ d e op so asked. and_so (carried.each d e op asked.0 so asked.1) (λ x. (asked.0, x)) }
+
+module _ {D E : Type 0} {So : Op → Type 0} {A : Asking D} {B : Asking E} {U : Putting D} {V : Putting E} {f : D → E} {Q P : D → Type 0}
+    (carried : Morphism So A B f Q P) (put : PutMorphism So U V f Q P) where
+  tells_mapped : (k : ℕ) (op : Option Op) (d e : D) → IsAskedFor So op → Tells A U k op d e → Carries Q P d e (Tells B V k op (f d) (f e))
+  tells_mapped k None d e so same = stays same (ap f same)
+  tells_mapped zero (Some op) d e so is = put.each d e op so is
+  tells_mapped (suc k) (Some op) d e so is = and_so (carried.each d e op is.0 so is.1) (λ x. (is.0, x))
+
+  pub hears_mapped : (commit : Bool) (k : ℕ) (b : Branch) (v : Code) (d e : D) → So (Prepare b.xid) → IsAskedFor So (second_op commit b.xid v)
+      → VotesAndHears A U commit k b v d e → Carries Q P d e (VotesAndHears B V commit k b v (f d) (f e))
+  hears_mapped commit k b v d e asks told is =
+      and_then (carried.each d is.prepared (Prepare b.xid) v asks is.prepares) (tells_mapped k (second_op commit b.xid v) is.prepared e told is.tells) (λ x y. record { prepared = f is.prepared; prepares = x; tells = y })
+
+-- ---- all branches
+
+-- at each branch where C holds, with a vote of which W holds, what P says is what Q says, and R holds
+pub each_so : (C R : Branch → Type 0) (W : Code → Type 0) (P Q : Branch → Code → Option Code → Ending → Type 0)
+    → ((b : Branch) (v : Code) (s : Option Code) (e : Ending) → C b → W v → P b v s e → Q b v s e × R b)
+    → (bs : List Branch) (vs : List Code) (ss : List (Option Code)) (es : List Ending) → All C bs → All W vs → EachBranch P bs vs ss es
+    → EachBranch Q bs vs ss es × All R bs
+each_so C R W P Q so [] [] [] [] all votes h = (tt, All-nil R)
+each_so C R W P Q so (b ∷ bs) (v ∷ vs) (s ∷ ss) (e ∷ es) all votes h =
+    search (arith, each_so C R W P Q so bs vs ss es (All-tail C b bs all) (All-tail W v vs votes) h.1, All-head, All-tail, All-cons, h.0, h.1)
+each_so C R W P Q so bs vs ss es all votes h = absurd h
+
+-- What is asked of each manager, over its states. At a branch where C holds its first request is so, Q held of its manager's state
+-- before the commit, and P holds of the one after it.
+module _ {D E : Type 0} {So : ℕ → Op → Type 0} {A : Asking D} {B : Asking E} {f : ℕ → D → E} {Q P : ℕ → D → Type 0}
+    (carried : (m : ℕ) → Morphism (So m) A B (f m) (Q m) (P m)) (old new : ℕ → D) (C : Branch → Type 0)
+    (starts : (b : Branch) → C b → So b.m (Prepare b.xid) × Q b.m (old b.m) × P b.m (new b.m)) where
+  abbrev Kept : Branch → Type 0
+  Kept b = Q b.m (new b.m)
+
+  abbrev before : ℕ → E
+  before m = f m (old m)
+
+  abbrev after : ℕ → E
+  after m = f m (new m)
+
+  -- what a branch carries over is so, and Q is kept
+  met : (b : Branch) (X : Type 0) → C b → Carries (Q b.m) (P b.m) (old b.m) (new b.m) X → X × Kept b
+  met b X c is = let at = starts b c in (is.over at.1 at.2, is.on at.1)
+
+  -- so of the first of some branches, with the rest
+  joined : {X Y : Type 0} (b : Branch) (bs : List Branch) → All C (b ∷ bs) → (C b → Carries (Q b.m) (P b.m) (old b.m) (new b.m) X) → Y × All Kept bs
+      → (X × Y) × All Kept (b ∷ bs)
+  joined {X} {Y} b bs all is rest =
+      let c = All-head C b bs all in let one = met b X c (is c) in ((one.0, rest.0), All-cons Kept b bs one.1 rest.1)
+
+  -- a commit that came to its end
+  pub decided_mapped : (commit : Bool)
+      → ((b : Branch) → C b → (v : Code) (s : Option Code) → IsAskedFor (So b.m) (second_op commit b.xid v) × IsAskedFor (So b.m) (third_op b.xid s))
+      → (bs : List Branch) (vs : List Code) (ss : List (Option Code)) (es : List Ending) → All C bs
+      → EachBranch (λ b v s e. AtBranch A commit b v s e (old b.m) (new b.m)) bs vs ss es
+      → EachBranch (λ b v s e. AtBranch B commit b v s e (before b.m) (after b.m)) bs vs ss es × All Kept bs
+  decided_mapped commit told bs vs ss es all each =
+      each_so C Kept (λ v. Unit {0}) (λ b v s e. AtBranch A commit b v s e (old b.m) (new b.m)) (λ b v s e. AtBranch B commit b v s e (before b.m) (after b.m))
+      (λ b v s e c _ is. met b _ c (branch_mapped (carried b.m) commit b v s e (old b.m) (new b.m) is (told b c v s).0 (told b c v s).1 (starts b c).0))
+      bs vs ss es all (λ k d lt. tt) each
+
+  -- as far as a commit came that was cut short
+  module _ {U : Putting D} {V : Putting E} (put : (m : ℕ) → PutMorphism (So m) U V (f m) (Q m) (P m)) where
+    pub asked_mapped : (bs : List Branch) (vs : List Code) → All C bs → HaveAsked A U bs vs old new → HaveAsked B V bs vs before after × All Kept bs
+    asked_mapped [] [] all h = (tt, All-nil Kept)
+    asked_mapped [] (v ∷ vs) all h = absurd h
+    asked_mapped (b ∷ bs) [] all h =
+        joined b bs all (λ c. (put b.m).each (old b.m) (new b.m) (Prepare b.xid) (starts b c).0 h.0) (asked_mapped bs [] (All-tail C b bs all) h.1)
+    asked_mapped (b ∷ bs) (v ∷ vs) all h =
+        joined b bs all (λ c. (carried b.m).each (old b.m) (new b.m) (Prepare b.xid) v (starts b c).0 h.0) (asked_mapped bs vs (All-tail C b bs all) h.1)
+
+    module _ (W : Code → Type 0) (known : Done) (told : (b : Branch) → C b → (v : Code) → W v → IsAskedFor (So b.m) (second_op known.commit b.xid v)) where
+      told_mapped : (k : ℕ) (bs : List Branch) (vs : List Code) → All C bs → All W vs → HaveTold A U known.commit k bs vs old new
+          → HaveTold B V known.commit k bs vs before after × All Kept bs
+      told_mapped k [] [] all votes h = (tt, All-nil Kept)
+      told_mapped k (b ∷ bs) (v ∷ vs) all votes h =
+          joined b bs all (λ c. hears_mapped (carried b.m) (put b.m) known.commit k b v (old b.m) (new b.m) (starts b c).0 (told b c v (All-head W v vs votes)) h.0)
+          (told_mapped (to_come (second_op known.commit b.xid v) k) bs vs (All-tail C b bs all) (All-tail W v vs votes) h.1)
+      told_mapped k bs vs all votes h = absurd h
+
+      module _ (tran : TranName) (bs : List Branch) (log later : LogState) (all : All C bs) (votes : All W known.votes.items) where
+        came_to_votes : (count : ℕ) → CameToVotes A U count bs old new log later known → CameToVotes B V count bs before after log later known × All Kept bs
+        came_to_votes count far = search (arith, asked_mapped, far.asked)
+
+        pub came_mapped : (at : Death) → CameTo A U at tran bs old new log later known → CameTo B V at tran bs before after log later known × All Kept bs
+        came_mapped (death.Preparing k) far = came_to_votes (min k (length bs)) far
+        came_mapped death.Prepared far = came_to_votes (length bs) far
+        came_mapped death.Decided far = let asked = asked_mapped bs known.votes.items all far.asked in search (arith, asked.0, asked.1)
+        came_mapped (death.Telling k) far = let told = told_mapped k bs known.votes.items all votes far.told in search (arith, told.0, told.1)
+        came_mapped death.Told far =
+            let each =
+            each_so C Kept W (λ b v s e. VotesAndObeys A known.commit b v s e (old b.m) (new b.m)) (λ b v s e. VotesAndObeys B known.commit b v s e (before b.m) (after b.m))
+            (λ b v s e c w is. met b _ c (obeys_mapped (carried b.m) known.commit b v s e (old b.m) (new b.m) (starts b c).0 (told b c v w) is))
+            bs known.votes.items far.seconds known.endings.items all votes far.each in
+            (record { seconds = far.seconds; each = each.0; decided = far.decided }, each.1)

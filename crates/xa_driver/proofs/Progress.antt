@@ -6,7 +6,7 @@ use Rattle.xa_base.proofs.{slice_get-get_or, ◌==◌, map, eq-eqb, ◌-◌, IfN
 use Rattle.std.proofs.lemmas.List.{take_more_set}
 use Rattle.xa_words.specs.{Op, Code}
 use Rattle.xa_desk.specs.{Sent, Collected, Operation, TicketView, ledger, LedgerView, DeskView, submitted, after_fulls, Idles, begins, idles}
-use Rattle.xa_driver.specs.{Round, Ask, BeginsAsk, EachBegan, Ends, IsUnsent, SameAsks, Collects, IsSent, IsUnderWay, Sends, Stays, sent_count, round_of}
+use Rattle.xa_driver.specs.{Round, Ask, BeginsAsk, EachBegan, EndsAsk, IsUnsent, SameAsks, Collects, IsSent, IsUnderWay, Sends, Stays, sent_count, round_of}
 use Rattle.xa_driver.specs.{goes_out, sent_of, operations_of, SendsMore, CollectsFirst, SendsThenCollects, GoesAsFar, GoesAsRound, asked_first, asked_in}
 use Rattle.xa_driver.specs.{is_passed, next_collected, coded, HasBegun, IdlesToCollect, IdlesToSend, unsent, CollectsNothing, Passes, SendsNothing, passes}
 use Rattle.xa_driver.specs.{starts, next_ask, among_asks, IdlesAt, again, never, first_ask, HasDecided, HasPrepared, HasTold, has_branch_at, Branch, Prepared}
@@ -58,7 +58,7 @@ sends_on ts us vs a b c first later = search (arith, append_assoc, map-append, a
 
 -- ---- one more collected
 
-collects_ticket : (k : Ask) (ts ts' : List (Option TicketView)) (old new : DeskView) (r : Option TicketView) (code : Option Code) → Ends k old new r code
+collects_ticket : (k : Ask) (ts ts' : List (Option TicketView)) (old new : DeskView) (r : Option TicketView) (code : Option Code) → EndsAsk k old new r code
     → ts ≡ r ∷ ts' → CollectsFirst ts ts' old new
 collects_ticket k ts ts' old new None code ended is = search (arith, append-nil)
 collects_ticket k ts ts' old new (Some t) code (c, (coded, one)) is =

@@ -4,15 +4,14 @@ use Rattle.xa_base.proofs.{at_true, ◌<◌, true, false, ◌||◌, ◌==◌, ma
 use Rattle.xa_base.proofs.{ne_eqb, inl, inr, cases_Bool, Bool, nat_eq, eqb-false, or_parts, or_from, cases_eq, by_if, sum_by-set}
 use Rattle.xa_desk.specs.{LedgerView, IsKnown, ledger, no_ledger, put_ledger, outstanding, numbered, Operation, learnt_shut, with_sent, with_collected}
 use Rattle.xa_desk.specs.{TicketView, after_collected, Collects, DeskView, is_collected, IsOut, AllKept, LeavesTickets, HasGrown}
-use Rattle.xa_words.specs.{Op, Code, Prepare}
+use Rattle.xa_words.specs.{Op, Code}
 use Rattle.xa_desk.proofs.GoingOn.{goes_same, goes_further, goes_collecting}
 use Rattle.xa_desk.proofs.Ledgers.{ledger-put_same, ledger-put_other, is_collected-push, known_by, length-put_ledger, as_it_was}
-use Rattle.xa_driver.specs.{Ask, KeepsDesk, IsSending, BeginsAsk, Ends, asked, EachAsk, among_asks, SameAsks, IsSameAsk, AreRising, KeepsTheRest}
-use Rattle.xa_driver.specs.{LeavesOutstanding, Branch, Ending, IsAnswered, AskTrace, AsksFor, AtBranch, second_op, third_op, AsksLedger, voted, AllCanAsk}
+use Rattle.xa_driver.specs.{Ask, KeepsDesk, IsSending, BeginsAsk, EndsAsk, asked, EachAsk, among_asks, SameAsks, IsSameAsk, AreRising, KeepsTheRest}
+use Rattle.xa_driver.specs.{LeavesOutstanding, Branch, Ending, AskTrace, AsksFor, AtBranch, second_op, third_op, AsksLedger, AllCanAsk}
 use Rattle.std.proofs.lemmas.List.{map-id}
 use Rattle.std.specs.Prelude.{fold}
 use Rattle.xa_driver.specs.Asks.{Asks}
-use Rattle.std.specs.FinMap as finmap
 
 -- how many requests of a ledger are outstanding
 abbrev pub open_count : LedgerView → ℕ
@@ -75,7 +74,7 @@ collected_of a (Some t) None = a
 collected_of a (Some t) (Some c) = with_collected a t.operation.number c
 
 pub ended_moved : (k : Ask) (old new : DeskView) (r : Option TicketView) (code : Option Code)
-    → ((t : TicketView) → r ≡ Some t → t.operation.manager ≡ k.manager) → IsKnown old.ledgers k.manager → Ends k old new r code
+    → ((t : TicketView) → r ≡ Some t → t.operation.manager ≡ k.manager) → IsKnown old.ledgers k.manager → EndsAsk k old new r code
     → Moved k.manager (collected_of (ledger old.ledgers k.manager) r code) old new
 unfolding collected_of
 ended_moved k old new None code at known e = unmoved k.manager (ledger old.ledgers k.manager) old new e.0 refl
@@ -224,6 +223,14 @@ rest_same old new same =
 pub rest_chain : (a b c : DeskView) → KeepsTheRest a b → KeepsTheRest b c → KeepsTheRest a c
 rest_chain a b c p q = search (arith, keeps_chain, outstanding_chain, p.keeps, q.kept, p.kept, a.ledgers, b.ledgers, c.ledgers, p.left, q.tickets, p.tickets)
 
+-- a request was asked, whatever it answered
+abbrev pub WasAsked : List LedgerView → List LedgerView → Option Op → ℕ → Type 0
+WasAsked at now op m = (z : Option Code) × AskTrace op z (ledger at m) (ledger now m)
+
+pub all_asked : (ks : List Ask) (at now : List LedgerView) → EachAsk ks at now → All (λ k. WasAsked at now k.op k.manager) ks
+all_asked [] at now e = All-nil (λ (k : Ask). WasAsked at now k.op k.manager)
+all_asked (k ∷ ks) at now e = All-cons (λ (k : Ask). WasAsked at now k.op k.manager) k ks (k.code, e.0) (all_asked ks at now e.1)
+
 -- ---- what was asked of a manager, by a desk's ledger with it
 
 pub for_trace : (op : Option Op) (code : Option Code) (a a' : LedgerView) → AskTrace op code a a' → AsksFor AsksLedger op code a a'
@@ -246,12 +253,10 @@ asked_grows a (Some op) (Some code) =
 
 -- ---- the requests of a branch, one after another
 
-pub record Trace (commit : Bool) (b : Branch) (vote : Code) (second : Option Code) (a a' : LedgerView) : Type 0 where
-  pub prepared : IsAnswered a (Some (Prepare b.xid)) (Some vote)
-  pub seconded : IsAnswered (voted b vote a) (second_op commit b.xid vote) second
-  pub third : Option Code
-  pub forgotten : AskTrace (third_op b.xid second) third (asked (voted b vote a) (second_op commit b.xid vote) second) a'
-
 pub trace_of : (commit : Bool) (b : Branch) (vote : Code) (second : Option Code) (ending : Ending) (a a' : LedgerView)
-    → AtBranch AsksLedger commit b vote second ending a a' → Trace commit b vote second a a'
-trace_of commit b vote second ending a a' is = search (arith, trace_for, b.xid, is.prepared, is.decided, is.obeys, is.third, is.forgets, is.prepares.trace)
+    → (is : AtBranch AsksLedger commit b vote second ending a a')
+    → AskTrace (second_op commit b.xid vote) second is.prepared is.decided × AskTrace (third_op b.xid second) is.third is.decided a'
+trace_of commit b vote second ending a a' is = (
+  trace_for (second_op commit b.xid vote) second is.prepared is.decided is.obeys,
+  trace_for (third_op b.xid second) is.third is.decided a' is.forgets,
+)

@@ -6,10 +6,10 @@ use Rattle.std.specs.VecDeque.{deque_capacity}
 use Rattle.xa_words.specs.{Code}
 use Rattle.xa_desk.specs.{LedgerView, LeavesTickets, TicketView, IsKnown, ledger, outstanding, DeskView}
 use Rattle.xa_desk.proofs.Ledgers.{known_by, sent_keeps_out}
-use Rattle.xa_driver.specs.{Ask, Round, AllCanAsk, AreRising, BeginsAsk, CanAsk, EachAsk, EachBegan, Ends, HasBegun, HaveComeSoFar, IsBegun, Owning, among_asks}
-use Rattle.xa_driver.specs.{collected, in_flight, unasked, Begins, IsUnderWay, coded, sent_count, SameAsks}
+use Rattle.xa_driver.specs.{Ask, Round, AllCanAsk, AreRising, BeginsAsk, CanAsk, EachAsk, EachBegan, EndsAsk, HasBegun, HaveComeSoFar, IsBegun, Owning}
+use Rattle.xa_driver.specs.{among_asks, collected, in_flight, unasked, Begins, IsUnderWay, coded, sent_count, SameAsks}
 use Rattle.xa_driver.specs.Asks.{Asks}
-use Rattle.xa_driver.proofs.Requests.{tickets_stay, keeps_chain, keeps_start, began_moved, behind, same_alike, same_itself, same_set}
+use Rattle.xa_driver.proofs.Requests.{tickets_stay, keeps_chain, keeps_start, began_moved, behind, same_alike, same_itself, same_set, all_asked}
 use Rattle.xa_driver.proofs.Flights.{apart, asked_more, asked_stays, begins_flight, begun_more, begun_stays, can_at, end_answers, end_moves, sent_takes_one}
 use Rattle.xa_driver.proofs.Flights.{among_parts, end_takes_none, rising_parts}
 
@@ -166,7 +166,7 @@ module _ (r : Round) (now : DeskView) (u : IsUnderWay r now) where
     pub place_is : (d : Ask) → get_or r.asks.items r.collected d ≡ k
     place_is d = (λ i. get_or (all_of i) (sym u.counted i) d) ∙ get_or-append_seam u.done k (js ++ u.rest) d
 
-    pub one_more_collected : (code : Option Code) (new : DeskView) → Ends k now new t code → (r' : Round)
+    pub one_more_collected : (code : Option Code) (new : DeskView) → EndsAsk k now new t code → (r' : Round)
         → r' ≡ record r { asks = r'.asks; collected = r.collected + 1; tickets = r'.tickets } → r'.asks.items ≡ set r.asks.items r.collected (coded k code)
         → r'.tickets.items ≡ ts → deque_capacity r'.tickets ≡ deque_capacity r.tickets → IsUnderWay r' new
     one_more_collected code new e r' is asks left capacity =
@@ -216,23 +216,23 @@ begun_so : (k : Ask) (t : Option TicketView) (at : List LedgerView) (d : DeskVie
 begun_so k None from d h = unasked h.1
 begun_so k (Some t) from d h = in_flight h.op h.wanted h.open_ h.sent
 
+-- what was done of a request
+abbrev pub Begun : List LedgerView → List LedgerView → Ask → Type 0
+Begun at now k = IsBegun k.op (ledger at k.manager) (ledger now k.manager)
+
+pub so_answered : (at now : List LedgerView) (ks : List Ask) → EachAsk ks at now → All (Begun at now) ks
+so_answered at now ks e k d lt = let z = all_asked ks at now e k d lt in collected z.0 z.1
+
 module _ (at : List LedgerView) (d : DeskView) where
-  abbrev Begun : Ask → Type 0
-  Begun k = IsBegun k.op (ledger at k.manager) (ledger d.ledgers k.manager)
-
-  so_answered : (ks : List Ask) → EachAsk ks at d.ledgers → All Begun ks
-  so_answered [] e = All-nil Begun
-  so_answered (k ∷ ks) e = All-cons Begun k ks (collected k.code e.0) (so_answered ks e.1)
-
-  so_flying : (ks : List Ask) (ts : List (Option TicketView)) → EachBegan ks ts at d → All Begun ks
-  so_flying [] [] e = All-nil Begun
-  so_flying (k ∷ ks) (t ∷ ts) e = All-cons Begun k ks (begun_so k t at d e.0) (so_flying ks ts e.1)
+  so_flying : (ks : List Ask) (ts : List (Option TicketView)) → EachBegan ks ts at d → All (Begun at d.ledgers) ks
+  so_flying [] [] e = All-nil (Begun at d.ledgers)
+  so_flying (k ∷ ks) (t ∷ ts) e = All-cons (Begun at d.ledgers) k ks (begun_so k t at d e.0) (so_flying ks ts e.1)
   so_flying _ _ e = absurd e
 
-  so_unasked : (hi : ℕ) (ks : List Ask) → AreRising hi ks → ((m : ℕ) → hi < m → ledger d.ledgers m ≡ ledger at m) → All Begun ks
-  so_unasked hi [] up others = All-nil Begun
+  so_unasked : (hi : ℕ) (ks : List Ask) → AreRising hi ks → ((m : ℕ) → hi < m → ledger d.ledgers m ≡ ledger at m) → All (Begun at d.ledgers) ks
+  so_unasked hi [] up others = All-nil (Begun at d.ledgers)
   so_unasked hi (k ∷ ks) (low, up) others =
-      All-cons Begun k ks (unasked (others k.manager low)) (so_unasked k.manager ks up (λ m above. others m (omega (arith, low, above))))
+      All-cons (Begun at d.ledgers) k ks (unasked (others k.manager low)) (so_unasked k.manager ks up (λ m above. others m (omega (arith, low, above))))
 
 pub so_far : (r : Round) (now : DeskView) → IsUnderWay r now → HaveComeSoFar r.asks.items r.before.value.ledgers now.ledgers
 so_far r now u =
@@ -240,7 +240,7 @@ so_far r now u =
     let last = rising_parts 0 (u.done ++ u.flying) u.rest (rw (split r now u) at u.rising) in
     let unasked_ = so_unasked at now last.hi u.rest last.last (λ m above. u.others m (omega (arith, above)) (last.above m above)) in
     record {
-      each = rw u.parts (All-append (Begun at now) u.done (u.flying ++ u.rest) (so_answered at now u.done u.answered) (All-append (Begun at now) u.flying u.rest (so_flying at now u.flying r.tickets.items u.in_flight) unasked_));
+      each = rw u.parts (All-append (Begun at now.ledgers) u.done (u.flying ++ u.rest) (so_answered at now.ledgers u.done u.answered) (All-append (Begun at now.ledgers) u.flying u.rest (so_flying at now u.flying r.tickets.items u.in_flight) unasked_));
       others = λ m p none. u.others m p (among_parts (u.done ++ u.flying) u.rest m (ap (λ l. among_asks l m) (sym (split r now u)) ∙ none)).0;
       managers = u.managers;
     }

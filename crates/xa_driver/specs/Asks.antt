@@ -134,9 +134,9 @@ BeginsAsk k old new None = (new ≡ old) × IsUnsent (ledger old.ledgers k.manag
 BeginsAsk k old new (Some t) = IsSending k old new t
 
 -- what collecting it does: its code is the one collected, or the one that counts where nothing was sent
-abbrev pub Ends : Ask → DeskView → DeskView → Option TicketView → Option Code → Type 0
-Ends k old new None code = (new ≡ old) × (code ≡ unsent_code k.op)
-Ends k old new (Some t) code = (c : Code) × ((code ≡ Some c) × Collects old new t.operation c)
+abbrev pub EndsAsk : Ask → DeskView → DeskView → Option TicketView → Option Code → Type 0
+EndsAsk k old new None code = (new ≡ old) × (code ≡ unsent_code k.op)
+EndsAsk k old new (Some t) code = (c : Code) × ((code ≡ Some c) × Collects old new t.operation c)
 
 -- the desk owns the ticket, if there is one
 abbrev pub Owning : DeskView → Option TicketView → Type 0

@@ -12,12 +12,12 @@ is_commit (Commit x one_phase) = true
 is_commit (Heur x commits) = commits
 is_commit op = false
 
--- what was sent to the manager since, and none among it
-pub record HasSentNoCommit (a a' : LedgerView) : Type 0 where
+-- what was sent to the manager since, and no such request among it
+pub record HasSentNone (is : Op → Bool) (a a' : LedgerView) : Type 0 where
   pub more : List Op
   pub sent : a'.sent ≡ a.sent ++ more
-  pub none : list_any is_commit more ≡ false
+  pub none : list_any is more ≡ false
 
--- so for every manager
+-- to no manager a Commit was sent
 abbrev pub NoCommitWasSent : List LedgerView → List LedgerView → Type 0
-NoCommitWasSent old new = (m : ℕ) → 1 ≤ m → HasSentNoCommit (ledger old m) (ledger new m)
+NoCommitWasSent old new = (m : ℕ) → 1 ≤ m → HasSentNone is_commit (ledger old m) (ledger new m)

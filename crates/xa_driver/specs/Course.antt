@@ -15,15 +15,28 @@ AsksFor asking None code old new = (code ≡ None) × (new ≡ old)
 AsksFor asking (Some op) None old new = ⊥
 AsksFor asking (Some op) (Some code) old new = asking old op new code
 
--- What is done at a branch: its Prepare, whose code is its vote; then its Commit or its Rollback, as was decided and as
--- it voted, or nothing; then a Forget, where its second code tells a decision that the manager keeps. By the first two
--- codes it ends.
+-- A branch votes, which is the code of its Prepare; then it is told to commit or to roll back, as was decided and as it
+-- voted, or nothing, and `told` says what is done of that.
+pub record VotesThen {D : Type 0} (asking : Asking D) (told : Option Op → D → D → Type 0) (commit : Bool) (b : Branch)
+    (vote : Code) (old new : D) : Type 0 where
+  pub prepared : D
+  pub prepares : asking old (Prepare b.xid) prepared vote
+  pub tells : told (second_op commit b.xid vote) prepared new
+
+-- It votes, is told the decision where it wants it, and answers. By both codes it ends.
+pub record VotesAndObeys {D : Type 0} (asking : Asking D) (commit : Bool) (b : Branch) (vote : Code)
+    (second : Option Code) (ending : Ending) (old new : D) : Type 0 where
+  pub prepared : D
+  pub prepares : asking old (Prepare b.xid) prepared vote
+  pub obeys : AsksFor asking (second_op commit b.xid vote) second prepared new
+  pub ends : ending ≡ ending_of commit vote second
+
+-- What is done at a branch: it votes and obeys; then it is told to forget, where its second code tells a decision that
+-- the manager keeps.
 pub record AtBranch {D : Type 0} (asking : Asking D) (commit : Bool) (b : Branch) (vote : Code) (second : Option Code)
     (ending : Ending) (old new : D) : Type 0 where
-  pub prepared : D
   pub decided : D
   pub third : Option Code
-  pub prepares : asking old (Prepare b.xid) prepared vote
-  pub obeys : AsksFor asking (second_op commit b.xid vote) second prepared decided
+  pub obeyed : VotesAndObeys asking commit b vote second ending old decided
+  pub open obeyed use *
   pub forgets : AsksFor asking (third_op b.xid second) third decided new
-  pub ends : ending ≡ ending_of commit vote second

@@ -16,12 +16,10 @@ use Rattle.xa_desk.specs.Kept.{AllKept}
 use Rattle.xa_calls.specs.Scans.{Asking}
 use Rattle.xa_driver.specs.declared.branch.Branch.{Branch}
 use Rattle.xa_driver.specs.declared.done.Done.{Done}
-use Rattle.xa_driver.specs.declared.done.Ending.{Ending}
-use Rattle.xa_driver.specs.Course.{AsksFor}
-use Rattle.xa_driver.specs.Decision.{yes_of}
-use Rattle.xa_driver.specs.Endings.{second_op, ending_of}
+use Rattle.xa_driver.specs.Course.{VotesAndObeys, VotesThen}
+use Rattle.xa_driver.specs.Endings.{second_op}
 use Rattle.xa_driver.specs.Stages.{IsUndecided}
-use Rattle.xa_driver.specs.Trace.{AppendsOnce, EachBranch, Logs, decision_of, has_branch_at}
+use Rattle.xa_driver.specs.Trace.{AppendsOnce, EachBranch, IsDecidedBy, has_branch_at}
 use Rattle.xa_driver.specs.UnderWay.{LeavesKept}
 use Rattle.xa_log.specs.Log.{LogState}
 
@@ -64,11 +62,8 @@ to_come (Some op) zero = zero
 to_come (Some op) (suc k) = k
 
 -- A branch has voted, and was told the decision where it wants it.
-pub record VotesAndHears {D : Type 0} (asking : Asking D) (putting : Putting D) (commit : Bool) (k : ℕ) (b : Branch)
-    (vote : Code) (old new : D) : Type 0 where
-  pub prepared : D
-  pub prepares : asking old (Prepare b.xid) prepared vote
-  pub tells : Tells asking putting k (second_op commit b.xid vote) prepared new
+abbrev pub VotesAndHears : {D : Type 0} → Asking D → Putting D → Bool → ℕ → Branch → Code → D → D → Type 0
+VotesAndHears asking putting commit k = VotesThen asking (Tells asking putting k) commit
 
 -- Each branch has voted, and was told the decision where it wants it; so many of those that want it have answered.
 abbrev pub HaveTold : {D : Type 0} → Asking D → Putting D → Bool → ℕ → List Branch → List Code → (ℕ → D) → (ℕ → D)
@@ -80,14 +75,6 @@ HaveTold asking putting commit k (b ∷ bs) (v ∷ vs) old new =
     VotesAndHears asking putting commit k b v (old b.m) (new b.m)
     × HaveTold asking putting commit (to_come (second_op commit b.xid v) k) bs vs old new
 
--- A branch has voted, and was told the decision where it wants it, and has answered; by both codes it ended so.
-pub record VotesAndObeys {D : Type 0} (asking : Asking D) (commit : Bool) (b : Branch) (vote : Code)
-    (second : Option Code) (ending : Ending) (old new : D) : Type 0 where
-  pub prepared : D
-  pub prepares : asking old (Prepare b.xid) prepared vote
-  pub obeys : AsksFor asking (second_op commit b.xid vote) second prepared new
-  pub ends : ending ≡ ending_of commit vote second
-
 -- ---- how far it came
 
 -- So many branches have voted, and nothing was decided.
@@ -98,11 +85,6 @@ pub record CameToVotes {D : Type 0} (asking : Asking D) (putting : Putting D) (c
   pub undecided : IsUndecided known
   pub unlogged : later ≡ log
   pub endings : known.endings.items ≡ []
-
--- It was decided by the votes, and a record was logged where they want one and the log took it.
-pub record IsDecidedBy (tran : TranName) (bs : List Branch) (log later : LogState) (known : Done) : Type 0 where
-  pub decision : known.commit ≡ decision_of known.votes.items known.logged
-  pub logs : Logs tran (yes_of bs known.votes.items) known.votes.items known.logged log later
 
 -- All have voted, and it was decided; no branch was told.
 pub record CameToDecision {D : Type 0} (asking : Asking D) (putting : Putting D) (tran : TranName) (bs : List Branch)
@@ -154,9 +136,7 @@ pub record Dies {D : Type 0} (asking : Asking D) (putting : Putting D) (at : Dea
 abbrev pub is_decided_by : Death → Bool
 is_decided_by (death.Preparing k) = false
 is_decided_by death.Prepared = false
-is_decided_by death.Decided = true
-is_decided_by (death.Telling k) = true
-is_decided_by death.Told = true
+is_decided_by other = true
 
 -- What it does to the log itself: what the decision does, if it came to one, and else nothing.
 pub record AppendsUntil {L : Type 0} (appends : TranName → List Bool → Bool → L → L → Type 0) (at : Death)
@@ -164,17 +144,21 @@ pub record AppendsUntil {L : Type 0} (appends : TranName → List Bool → Bool 
   pub decided : is_decided_by at ≡ true → AppendsOnce appends tran yes votes logged old new
   pub undecided : is_decided_by at ≡ false → new ≡ old
 
--- It is a request that was put to the manager of a branch since.
-pub record IsOfRound (bs : List Branch) (old new : List LedgerView) (o : Operation) : Type 0 where
+-- how many requests these lists have, manager by manager
+abbrev pub sent_so_far : List LedgerView → ℕ → ℕ
+sent_so_far at m = length (ledger at m).sent
+
+-- It is a request that was put to the manager of a branch since each had been put so many.
+pub record IsOfRound (bs : List Branch) (old new : ℕ → ℕ) (o : Operation) : Type 0 where
   pub manager : has_branch_at bs o.manager ≡ true
-  pub later : length (ledger old o.manager).sent ≤ o.number
-  pub sent : o.number < length (ledger new o.manager).sent
+  pub later : old o.manager ≤ o.number
+  pub sent : o.number < new o.manager
 
 -- The handles that it leaves: what was kept stays, and whatever else is kept is a request of its own.
 pub record LeavesHandles (bs : List Branch) (old new : DeskView) : Type 0 where
   pub stays : LeavesKept old new
   pub more : (k : ℕ) (o : Operation) → map.get new.kept k ≡ Some o
-      → (map.get old.kept k ≡ Some o) ⊎ IsOfRound bs old.ledgers new.ledgers o
+      → (map.get old.kept k ≡ Some o) ⊎ IsOfRound bs (sent_so_far old.ledgers) (sent_so_far new.ledgers) o
 
 -- And the desk goes on, and where all that was outstanding was kept under a handle, it still is.
 pub record LeavesDesk (bs : List Branch) (old new : DeskView) : Type 0 where

@@ -24,13 +24,13 @@ use Rattle.xa_driver.specs.Endings.{is_decided}
 -- ---- what is recorded
 
 -- these managers voted yes, and this one is among them; where there is no record, it isn't
-abbrev pub names : Option (List Bool) → ℕ → Bool
-names None m = false
-names (Some set) m = is_in set m
+abbrev pub is_recorded_at : Option (List Bool) → ℕ → Bool
+is_recorded_at None m = false
+is_recorded_at (Some set) m = is_in set m
 
 -- the record of the branch's transaction names the manager: so the branch is to be committed
 abbrev pub is_to_commit : Records → ℕ → XidName → Bool
-is_to_commit records m x = names (record_in records (tran_of x)) m
+is_to_commit records m x = is_recorded_at (record_in records (tran_of x)) m
 
 -- ---- one branch after the other, by states of its manager
 

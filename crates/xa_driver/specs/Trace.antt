@@ -95,17 +95,21 @@ pub record IsUnknown {L : Type 0} (knows : L → Type 0) (loses : TranName → L
 abbrev pub decision_of : List Code → Bool → Bool
 decision_of votes logged = decides_commit votes && (not (has_yes votes) || logged)
 
+-- It was decided by the votes, and a record was logged where they want one and the log took it.
+pub record IsDecidedBy (tran : TranName) (bs : List Branch) (log later : LogState) (known : Done) : Type 0 where
+  pub decision : known.commit ≡ decision_of known.votes.items known.logged
+  pub logs : Logs tran (yes_of bs known.votes.items) known.votes.items known.logged log later
+
 -- What a commit of the branches did, over states of each manager: at each branch what that branch wants, and at no
--- other manager anything. It was decided by the votes and the log, and a record was logged where the votes want one and
--- the log took it.
+-- other manager anything.
 pub record Commits {D : Type 0} (asking : Asking D) (tran : TranName) (bs : List Branch) (old new : ℕ → D)
     (log log' : LogState) (d : Done) : Type 0 where
   pub seconds : List (Option Code)
   pub each : EachBranch (λ b v s e. AtBranch asking d.commit b v s e (old b.m) (new b.m)) bs d.votes.items seconds
       d.endings.items
   pub others : (m : ℕ) → 1 ≤ m → has_branch_at bs m ≡ false → new m ≡ old m
-  pub decision : d.commit ≡ decision_of d.votes.items d.logged
-  pub logs : Logs tran (yes_of bs d.votes.items) d.votes.items d.logged log log'
+  pub decided : IsDecidedBy tran bs log log' d
+  pub open decided use *
 
 -- What a commit_all of the branches left is its trace: its course over the desk's ledgers, one for each manager.
 pub record IsTraceOfCommit (tran : TranName) (bs : List Branch) (old new : List LedgerView) (log log' : LogState)

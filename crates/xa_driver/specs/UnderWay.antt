@@ -9,7 +9,8 @@ use Rattle.xa_desk.specs.declared.operation.Operation.{Operation}
 use Rattle.xa_desk.specs.DeskViews.{DeskView, TicketView, IsOut, Owns, ledger, outstanding}
 use Rattle.xa_desk.specs.Tickets.{LeavesTickets}
 use Rattle.xa_driver.specs.declared.round.Round.{Round}
-use Rattle.xa_driver.specs.Asks.{Ask, AllCanAsk, AreRising, BeginsAsk, EachAsk, EachBegan, Ends, KeepsDesk, LeavesOwned}
+use Rattle.xa_driver.specs.Asks.{Ask, AllCanAsk, AreRising, BeginsAsk, EachAsk, EachBegan, EndsAsk, KeepsDesk}
+use Rattle.xa_driver.specs.Asks.{LeavesOwned}
 use Rattle.xa_driver.specs.Asks.{among_asks}
 
 -- ---- where it stands
@@ -86,7 +87,7 @@ pub record Collects (ticket : Option TicketView) (old new : Round) (desk now : D
   pub ask : Ask
   pub place : slice_get old.asks.items old.collected ≡ Some ask
   pub code : Option Code
-  pub ended : Ends ask desk now ticket code
+  pub ended : EndsAsk ask desk now ticket code
   pub asks : new.asks.items ≡ slice_set old.asks.items old.collected (coded ask code)
   pub tickets : old.tickets.items ≡ ticket ∷ new.tickets.items
   pub left : LeavesOwned desk now ticket

@@ -7,7 +7,7 @@ ghost use Rattle.xa_desk.specs.DeskViews.{Owns, ledger, after_sent, next_operati
 ghost use Rattle.xa_desk.specs.GoingOn.{GoesOn};
 ghost use Rattle.xa_desk.specs.Lanes.{submitted, after_fulls};
 ghost use Rattle.xa_desk.specs.Waits.{Idles};
-ghost use Rattle.xa_driver.specs.Asks.{BeginsAsk, CanAsk, Ends, KeepsDesk, Keeps, LeavesOwned, Owning};
+ghost use Rattle.xa_driver.specs.Asks.{BeginsAsk, CanAsk, EndsAsk, KeepsDesk, Keeps, LeavesOwned, Owning};
 ghost use Rattle.xa_driver.specs.Idling.{IdlesToCollect, IdlesToSend};
 ghost use Rattle.xa_driver.specs.UnderWay.{coded};
 
@@ -153,7 +153,7 @@ pub(crate) fn end<R: Wait, I: Idle>(
     idle: &mut I,
 ) -> Option<Code>
     requires { Owning desk.old ticket }
-    ensures ended { Ends ask.now desk.old desk.new ticket result }
+    ensures ended { EndsAsk ask.now desk.old desk.new ticket result }
     ensures others { LeavesOwned desk.old desk.new ticket }
     ensures waited { IdlesToCollect I.leads_by ticket desk.old desk.new idle.old idle.new }
     ensures idled { I.leads idle.old idle.new }

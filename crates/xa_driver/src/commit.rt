@@ -7,7 +7,7 @@ ghost use Rattle.xa_driver.specs.Asks.{KeepsTheRest};
 ghost use Rattle.xa_driver.specs.Idling.{IdlesAt};
 ghost use Rattle.xa_driver.specs.Decision.{yes_of};
 ghost use Rattle.xa_driver.specs.declared.done.CommitFault.TheVariants.{NoMemory};
-ghost use Rattle.xa_driver.specs.Order.{GoesAsRound, IsThreeRounds};
+ghost use Rattle.xa_driver.specs.RoundOrder.{GoesAsRound, IsThreeRounds};
 ghost use Rattle.xa_driver.specs.Rounds.{first_ask};
 ghost use Rattle.xa_driver.specs.Stages.{HasVoted, IfUndecided};
 ghost use Rattle.xa_driver.specs.Trace.{AppendsOnce, IsCommit, IsTraceOfCommit, IsTranOf, IsUnknown, MayCommit};

@@ -14,7 +14,7 @@ ghost use Rattle.xa_driver.specs.Asks.{KeepsTheRest, among_asks};
 ghost use Rattle.xa_driver.specs.Deaths.{AppendsUntil, Dies, LeavesDesk, LeavesHandles, PutsLedger, is_decided_by};
 ghost use Rattle.xa_driver.specs.Decision.{yes_of};
 ghost use Rattle.xa_driver.specs.Idling.{IdlesAt};
-ghost use Rattle.xa_driver.specs.Order.{GoesAsFar, GoesAsRound};
+ghost use Rattle.xa_driver.specs.RoundOrder.{GoesAsFar, GoesAsRound};
 ghost use Rattle.xa_driver.specs.Resolving.{AsksLedger};
 ghost use Rattle.xa_driver.specs.Rounds.{first_ask};
 ghost use Rattle.xa_driver.specs.Stages.{HasDecided, HasPrepared, HasRoomForVotes, HasVoted, IfUndecided, IsPreparing};

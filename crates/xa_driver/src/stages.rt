@@ -12,7 +12,7 @@ ghost use Rattle.xa_driver.specs.declared.branch.Branch.{Branch};
 ghost use Rattle.xa_driver.specs.Asks.{KeepsTheRest, among_asks};
 ghost use Rattle.xa_driver.specs.Idling.{IdlesAt};
 ghost use Rattle.xa_log.specs.Log.{record_of};
-ghost use Rattle.xa_driver.specs.Order.{GoesAsRound, SendsThenCollects};
+ghost use Rattle.xa_driver.specs.RoundOrder.{GoesAsRound, SendsThenCollects};
 ghost use Rattle.xa_driver.specs.Rounds.{first_ask, second_ask, third_ask};
 ghost use Rattle.xa_driver.specs.Stages.{HasDecided, HasForgotten, HasPrepared, HasRoomForEndings, HasRoomForVotes};
 ghost use Rattle.xa_driver.specs.Stages.{HasTold, IsForgetting, IsPreparing, IsTelling, KnowsVotesSoFar, MayForget};

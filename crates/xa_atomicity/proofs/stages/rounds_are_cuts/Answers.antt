@@ -1,5 +1,5 @@
 use Rattle.xa_driver.proofs.Stepping.{so_far}
-use Rattle.xa_atomicity.proofs.CutSends.{seconds_are}
+use Rattle.xa_driver.proofs.Calls.{seconds_are}
 use Rattle.xa_atomicity.proofs.Staged.{asking_cut, forgetting_cut, nothing_between, telling_cut}
 use Rattle.xa_atomicity.proofs.stages.rounds_are_cuts.Goals as goal
 
