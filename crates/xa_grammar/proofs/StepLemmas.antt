@@ -3,7 +3,7 @@ use Rattle.xa_base.proofs.{take_next, ◌≡◌, ℕ, ◌+◌, ◌<◌, List, []
 use Rattle.xa_base.proofs.{false, if◌then◌else◌, drop, All, None, is_some, list_any, ◌||◌, refl, ap, arith, append-nil, length-append, length-drop, All-nil}
 use Rattle.xa_base.proofs.{All-cons, All-head, All-tail, zero, suc, cond, Option, cons_option, get_or, filter-append, All-push, All-weaker, is_there, got}
 use Rattle.xa_base.proofs.{slice_get_within, drop-append_seam, get_or-append_seam, drop-append-le, take-append-le, slice_get_read, filter_map-append}
-use Rattle.xa_grammar.specs.declared.step.ManagerCall.TheVariants as calling
+use Rattle.xa_grammar.specs.declared.step.ManagerCall.TheVariants as manager_call
 use Rattle.xa_grammar.specs.declared.step.Action.TheVariants as action
 use Rattle.xa_grammar.specs.declared.step.Step.TheVariants as step
 use Rattle.xa_grammar.specs.declared.steps.Kept.TheVariants as kept
@@ -11,10 +11,10 @@ use Rattle.std.specs.List.{filter_map}
 use Rattle.std.proofs.Math.ListN.{get_or-append}
 use Rattle.std.proofs.Math.Seq.{take-length}
 use Rattle.xa_words.specs.{XidName, TranName}
-use Rattle.xa_grammar.specs.{ManagerCall, Place, KeyPlace, ScriptCall, ScriptAction, ScriptStep, CallHas, ActionHas, call_with, is_reopen, is_own, SpellsName}
-use Rattle.xa_grammar.specs.{Spells, IsShortName, IsShortGtrid, IsShort, KeptStep, bytes_at, name_at, gtrid_at, IsName, IsGtrid, IsKey, IsNamed, task_step}
-use Rattle.xa_grammar.specs.{step_at, steps_of, is_kept_of, is_kept_reopen, keys_called, keys_given, keys_in, place_from, key_place_from, action_from}
-use Rattle.xa_grammar.specs.{kept_from, ScriptTask, tasks_of, IsTask, own_steps, tasks_in, steps_at}
+use Rattle.xa_grammar.specs.{ManagerCall, NamePlace, KeyPlace, ScriptCall, ScriptAction, ScriptStep, CallHas, ActionHas, call_with, is_reopen, is_own}
+use Rattle.xa_grammar.specs.{SpellsName, Spells, IsShortName, IsShortGtrid, IsShort, KeptStep, bytes_at, name_at, gtrid_at, IsName, IsGtrid, IsKey, IsNamed}
+use Rattle.xa_grammar.specs.{task_step, step_at, steps_of, is_kept_of, is_kept_reopen, keys_called, keys_given, keys_in, place_from, key_place_from}
+use Rattle.xa_grammar.specs.{action_from, kept_from, ScriptTask, tasks_of, IsTask, own_steps, tasks_in, steps_at}
 use Rattle.xa_grammar.specs.KeptSteps.{key_at}
 
 -- ---- the bytes that were appended last
@@ -27,10 +27,10 @@ last_at xs w = ap (take (length w)) (drop-append_seam xs w) ∙ take-length w
 bytes_grown : (xs more : List ℕ) (at n : ℕ) → at + n ≤ length xs → bytes_at (xs ++ more) at n ≡ bytes_at xs at n
 bytes_grown xs more at n within = search (arith, length-drop, drop-append-le, take-append-le)
 
-name_grown : (xs more : List ℕ) (p : Place) → IsName xs p → name_at (xs ++ more) p ≡ name_at xs p
+name_grown : (xs more : List ℕ) (p : NamePlace) → IsName xs p → name_at (xs ++ more) p ≡ name_at xs p
 name_grown xs more p is = search (arith, bytes_grown, p.at, is.within, p.gtrid)
 
-is_name_grown : (xs more : List ℕ) (p : Place) → IsName xs p → IsName (xs ++ more) p
+is_name_grown : (xs more : List ℕ) (p : NamePlace) → IsName xs p → IsName (xs ++ more) p
 is_name_grown xs more p is = search (arith, length-append, is.within)
 
 gtrid_grown : (xs more : List ℕ) (at len : ℕ) → IsGtrid xs at len → gtrid_at (xs ++ more) at len ≡ gtrid_at xs at len
@@ -45,11 +45,12 @@ key_grown ks others p is = get_or-append ks others [] p.at is
 is_key_grown : (ks others : List (List ℕ)) (p : KeyPlace) → IsKey ks p → IsKey (ks ++ others) p
 is_key_grown ks others p is = let longer = length-append ks others in omega (arith, longer, is)
 
-call_grown : (xs more : List ℕ) (ks others : List (List ℕ)) (c : ManagerCall Place KeyPlace) → CallHas (IsName xs) (IsKey ks) c
+call_grown : (xs more : List ℕ) (ks others : List (List ℕ)) (c : ManagerCall NamePlace KeyPlace) → CallHas (IsName xs) (IsKey ks) c
     → (call_with (name_at (xs ++ more)) (key_at (ks ++ others)) c ≡ call_with (name_at xs) (key_at ks) c) × CallHas (IsName (xs ++ more)) (IsKey (ks ++ others)) c
-call_grown xs more ks others (calling.Xa c (Some p)) has = (ap (λ (x : XidName). calling.Xa c (Some x)) (name_grown xs more p has), is_name_grown xs more p has)
-call_grown xs more ks others (calling.Heur p commits) has = search (arith, name_grown, is_name_grown)
-call_grown xs more ks others (calling.Add k d) has = (ap (λ (q : List ℕ). calling.Add q d) (key_grown ks others k has), is_key_grown ks others k has)
+call_grown xs more ks others (manager_call.Xa c (Some p)) has =
+    (ap (λ (x : XidName). manager_call.Xa c (Some x)) (name_grown xs more p has), is_name_grown xs more p has)
+call_grown xs more ks others (manager_call.Heur p commits) has = search (arith, name_grown, is_name_grown)
+call_grown xs more ks others (manager_call.Add k d) has = (ap (λ (q : List ℕ). manager_call.Add q d) (key_grown ks others k has), is_key_grown ks others k has)
 call_grown xs more ks others c has = (refl, tt)
 
 step_grown : (xs more : List ℕ) (ks others : List (List ℕ)) (p : KeptStep) → IsNamed xs ks p
@@ -86,9 +87,11 @@ key_put ks k = (get_or-append_seam ks k [] [], let longer = length-append ks (k 
 call_put : (xs w : List ℕ) (ks : List (List ℕ)) (c : ScriptCall) → CallHas IsShortName (λ k. Unit {0}) c → CallHas (SpellsName w) (λ k. Unit {0}) c
     → let all = xs ++ w in let keys = ks ++ keys_called c in let k = call_with (place_from (length xs)) (key_place_from (length ks)) c in
     (call_with (name_at all) (key_at keys) k ≡ c) × CallHas (IsName all) (IsKey keys) k
-call_put xs w ks (calling.Xa c (Some x)) short spells = let put = name_put xs w x short spells in (ap (λ (y : XidName). calling.Xa c (Some y)) put.0, put.1)
-call_put xs w ks (calling.Heur x commits) short spells = let put = name_put xs w x short spells in (ap (λ (y : XidName). calling.Heur y commits) put.0, put.1)
-call_put xs w ks (calling.Add k d) short spells = let put = key_put ks k in (ap (λ (q : List ℕ). calling.Add q d) put.0, put.1)
+call_put xs w ks (manager_call.Xa c (Some x)) short spells =
+    let put = name_put xs w x short spells in (ap (λ (y : XidName). manager_call.Xa c (Some y)) put.0, put.1)
+call_put xs w ks (manager_call.Heur x commits) short spells =
+    let put = name_put xs w x short spells in (ap (λ (y : XidName). manager_call.Heur y commits) put.0, put.1)
+call_put xs w ks (manager_call.Add k d) short spells = let put = key_put ks k in (ap (λ (q : List ℕ). manager_call.Add q d) put.0, put.1)
 call_put xs w ks c short spells = (refl, tt)
 
 -- so do those of the action

@@ -7,7 +7,7 @@ use Rattle.std.specs.Str.{bytes_eq}
 use Rattle.xa_words.specs.declared.flags.Call.TheVariants as call
 use Rattle.xa_grammar.specs.declared.fault.Reason.{Reason}
 use Rattle.xa_grammar.specs.declared.fault.Reason.TheVariants.{UnknownWord, TurnInThreadsMode, ReopenInThreadsMode}
-use Rattle.xa_grammar.specs.declared.step.ManagerCall.TheVariants as calling
+use Rattle.xa_grammar.specs.declared.step.ManagerCall.TheVariants as manager_call
 use Rattle.xa_grammar.specs.declared.step.Action.TheVariants as action
 use Rattle.xa_grammar.specs.declared.step.Verb.{Verb}
 use Rattle.xa_grammar.specs.declared.step.Verb.TheVariants as verb
@@ -43,32 +43,32 @@ abbrev pub verb_of : Word → Option Verb
 verb_of w = lookup (bytes_eq w) verbs
 
 -- The words between M and the flags: none, XID, KEY DELTA, HANDLE, or COUNT, which is at most 64.
-unfoldable pub calling_at : Verb → List Word → Result (ScriptCall × List Word) Reason
-calling_at (verb.Plain c) ws = Ok (calling.Xa c None, ws)
-calling_at (verb.OnBranch c) ws = do
+unfoldable pub call_at : Verb → List Word → Result (ScriptCall × List Word) Reason
+call_at (verb.Plain c) ws = Ok (manager_call.Xa c None, ws)
+call_at (verb.OnBranch c) ws = do
   x ← xid_at ws
-  Ok (calling.Xa c (Some x.0), x.1)
-calling_at (verb.Heur commits) ws = do
+  Ok (manager_call.Xa c (Some x.0), x.1)
+call_at (verb.Heur commits) ws = do
   x ← xid_at ws
-  Ok (calling.Heur x.0 commits, x.1)
-calling_at verb.Add ws = do
+  Ok (manager_call.Heur x.0 commits, x.1)
+call_at verb.Add ws = do
   k ← key_at ws
   d ← delta_at k.1
-  Ok (calling.Add k.0 d.0, d.1)
-calling_at verb.Shut ws = Ok (calling.Shut, ws)
-calling_at verb.Complete ws = do
+  Ok (manager_call.Add k.0 d.0, d.1)
+call_at verb.Shut ws = Ok (manager_call.Shut, ws)
+call_at verb.Complete ws = do
   h ← number_at 0 MOST_HANDLE ws
-  Ok (calling.Complete (pos h.0), h.1)
-calling_at verb.Recover ws = do
+  Ok (manager_call.Complete (pos h.0), h.1)
+call_at verb.Recover ws = do
   c ← number_at 0 MOST_COUNT ws
-  Ok (calling.Recover c.0, c.1)
+  Ok (manager_call.Recover c.0, c.1)
 
 -- The words after any other verb: M .. flags; M is any number up to 4,294,967,295.
 unfoldable pub call_of : Word → List Word → Result ScriptCalled Reason
 call_of w ws = do
   v ← ok_or (verb_of w) UnknownWord
   m ← number_at 0 MOST_MANAGER ws
-  c ← calling_at v m.1
+  c ← call_at v m.1
   f ← flags_onto 0 c.1
   Ok (record { manager = m.0; call = c.0; flags = f })
 

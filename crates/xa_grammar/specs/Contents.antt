@@ -17,7 +17,7 @@ use Rattle.xa_grammar.specs.declared.script.Settings.{Settings}
 use Rattle.xa_grammar.specs.declared.script.Declared.{Declared}
 use Rattle.xa_grammar.specs.declared.script.UnknownAppend.{UnknownAppend}
 use Rattle.xa_grammar.specs.declared.step.ManagerCall.{ManagerCall}
-use Rattle.xa_grammar.specs.declared.step.ManagerCall.TheVariants as calling
+use Rattle.xa_grammar.specs.declared.step.ManagerCall.TheVariants as manager_call
 use Rattle.xa_grammar.specs.declared.step.Action.{Action}
 use Rattle.xa_grammar.specs.declared.step.Action.TheVariants as action
 use Rattle.xa_grammar.specs.declared.step.Task.{Task}
@@ -146,12 +146,8 @@ IsOfManager s d = (1 ≤ d.manager) × (d.manager ≤ managers_of s)
 
 -- A call asks for at most 64 xids.
 abbrev pub AsksForFew : {X K : Type 0} → ManagerCall X K → Type 0
-AsksForFew (calling.Xa c x) = Unit {0}
-AsksForFew (calling.Heur x commits) = Unit {0}
-AsksForFew (calling.Add k d) = Unit {0}
-AsksForFew calling.Shut = Unit {0}
-AsksForFew (calling.Complete h) = Unit {0}
-AsksForFew (calling.Recover n) = n ≤ MOST_COUNT
+AsksForFew (manager_call.Recover n) = n ≤ MOST_COUNT
+AsksForFew other = Unit {0}
 
 -- So does whatever a thread does.
 abbrev pub HasFewXids : {X G K : Type 0} → Action X G K → Type 0

@@ -118,33 +118,33 @@ after_line mode s n line = do
 -- ---- the script
 
 -- What lines come to: a script, or the number of the first faulty line and its fault.
-abbrev pub Outcome : Type 0
-Outcome = Result Content (ℕ × Reason)
+abbrev pub Verdict : Type 0
+Verdict = Result Content (ℕ × Reason)
 
 -- A fault has the number of its line, and the first faulty line decides.
-abbrev pub then_on : ℕ → Result Content Reason → (Content → Outcome) → Outcome
+abbrev pub then_on : ℕ → Result Content Reason → (Content → Verdict) → Verdict
 then_on n (Ok s) rest = rest s
 then_on n (Err why) rest = Err (n, why)
 
 -- The script with these lines, the first of which has number n.
-unfoldable pub script_from : Bool → ℕ → Content → List (List ℕ) → Outcome
+unfoldable pub script_from : Bool → ℕ → Content → List (List ℕ) → Verdict
 script_from mode n s [] = Ok s
 script_from mode n s (line ∷ lines) = then_on n (after_line mode s n line) (λ t. script_from mode (n + 1) t lines)
 
 -- The script that the bytes are, or the first faulty line and its fault. Lines count from 1.
-abbrev pub script_of : Bool → List ℕ → Outcome
+abbrev pub script_of : Bool → List ℕ → Verdict
 script_of mode bytes = script_from mode 1 nothing (lines_of bytes)
 
 -- ---- what was read
 
 -- A fault of a line is the one that the grammar finds.
-abbrev pub Fails : ScriptFault → Outcome → Type 0
+abbrev pub Fails : ScriptFault → Verdict → Type 0
 Fails (faults.Line n why) read = read ≡ Err (n, why)
 Fails faults.Read read = Unit {0}
 Fails faults.NoMemory read = Unit {0}
 
 -- The script is the one that the grammar reads, unless reading failed or memory ran out.
-abbrev pub Reads : Result Content ScriptFault → Outcome → Type 0
+abbrev pub Reads : Result Content ScriptFault → Verdict → Type 0
 Reads (Ok s) read = read ≡ Ok s
 Reads (Err fault) read = Fails fault read
 

@@ -4,10 +4,10 @@ use Rattle.std.specs.Prelude.{drop, get_or}
 use Rattle.xa_base.specs.Lists.{IsUpTo}
 use Rattle.xa_words.specs.Xid.{XidName}
 use Rattle.xa_words.specs.Tran.{TranName}
-use Rattle.xa_grammar.specs.declared.step.ManagerCall.TheVariants as calling
+use Rattle.xa_grammar.specs.declared.step.ManagerCall.TheVariants as manager_call
 use Rattle.xa_grammar.specs.declared.step.Action.TheVariants as action
 use Rattle.xa_grammar.specs.declared.step.Step.TheVariants as step
-use Rattle.xa_grammar.specs.declared.steps.Place.{Place}
+use Rattle.xa_grammar.specs.declared.steps.NamePlace.{NamePlace}
 use Rattle.xa_grammar.specs.declared.steps.KeyPlace.{KeyPlace}
 use Rattle.xa_grammar.specs.declared.steps.Kept.{Kept}
 use Rattle.xa_grammar.specs.declared.steps.Kept.TheVariants as kept
@@ -15,18 +15,18 @@ use Rattle.xa_grammar.specs.Steps.{ScriptCall, ScriptAction, ScriptStep, CallHas
 
 -- a step as it is kept
 abbrev pub KeptStep : Type 0
-KeptStep = Kept Place KeyPlace
+KeptStep = Kept NamePlace KeyPlace
 
 -- so many bytes from a place on
 abbrev pub bytes_at : List ℕ → ℕ → ℕ → List ℕ
 bytes_at bytes at n = take n (drop at bytes)
 
 -- the name of a branch as a line has it: its gtrid, a dot and its bqual
-abbrev pub word_at : List ℕ → Place → List ℕ
+abbrev pub word_at : List ℕ → NamePlace → List ℕ
 word_at bytes p = bytes_at bytes p.at (p.gtrid + 1 + p.bqual)
 
 -- the name of a branch that stands at a place
-abbrev pub name_at : List ℕ → Place → XidName
+abbrev pub name_at : List ℕ → NamePlace → XidName
 name_at bytes p = record {
   format = pos 1;
   gtrid = take p.gtrid (word_at bytes p);
@@ -42,7 +42,7 @@ abbrev pub key_at : List (List ℕ) → KeyPlace → List ℕ
 key_at keys p = get_or keys p.at []
 
 -- a branch's name stands there: both parts have 1 to 64 bytes
-pub record IsName (bytes : List ℕ) (p : Place) : Type 0 where
+pub record IsName (bytes : List ℕ) (p : NamePlace) : Type 0 where
   pub within : p.at + (p.gtrid + 1 + p.bqual) ≤ length bytes
   pub gtrid : IsUpTo 64 p.gtrid
   pub bqual : IsUpTo 64 p.bqual
@@ -60,9 +60,7 @@ IsKey keys p = p.at < length keys
 abbrev pub IsNamed : List ℕ → List (List ℕ) → KeptStep → Type 0
 IsNamed bytes keys (kept.Call t line m flags c) = CallHas (IsName bytes) (IsKey keys) c
 IsNamed bytes keys (kept.CommitAll t len at line managers death) = IsGtrid bytes at len
-IsNamed bytes keys (kept.Resolve t line) = Unit {0}
-IsNamed bytes keys (kept.Turn line m) = Unit {0}
-IsNamed bytes keys (kept.Reopen line) = Unit {0}
+IsNamed bytes keys other = Unit {0}
 
 -- the step that a thread's action is
 abbrev pub task_step : ℕ → ℕ → ScriptAction → ScriptStep
@@ -85,8 +83,7 @@ abbrev pub is_kept_of : {X K : Type 0} → ℕ → Kept X K → Bool
 is_kept_of t (kept.Call u line m flags c) = u == t
 is_kept_of t (kept.CommitAll u len at line managers death) = u == t
 is_kept_of t (kept.Resolve u line) = u == t
-is_kept_of t (kept.Turn line m) = false
-is_kept_of t (kept.Reopen line) = false
+is_kept_of t other = false
 
 -- it opens the managers again
 abbrev pub is_kept_reopen : {X K : Type 0} → Kept X K → Bool
@@ -97,7 +94,7 @@ is_kept_reopen other = false
 
 -- the keys of the call: one where it is an addition
 abbrev pub keys_called : ScriptCall → List (List ℕ)
-keys_called (calling.Add k d) = k ∷ []
+keys_called (manager_call.Add k d) = k ∷ []
 keys_called other = []
 
 -- those that a thread gives, and those of the step
@@ -110,7 +107,7 @@ keys_in (step.Task p) = keys_given p.action
 keys_in other = []
 
 -- where a name stands whose bytes come from a place on
-abbrev pub place_from : ℕ → XidName → Place
+abbrev pub place_from : ℕ → XidName → NamePlace
 place_from at x = record { at = at; gtrid = length x.gtrid; bqual = length x.bqual }
 
 -- where a key stands that comes at a place

@@ -34,9 +34,9 @@ pub use Found.{Finds, is_same}
 pub use Commits.{are_rising, is_named, once_prepared, once_told, point_of, rising_branches}
 unfoldable pub use Commits.{answers_of, branches_at, commit_of, death_at, managers_at, managers_to_end}
 pub use Actions.{action_of, verb_of, verbs}
-unfoldable pub use Actions.{call_of, calling_at, reopen_of, task_on, turn_of}
+unfoldable pub use Actions.{call_of, call_at, reopen_of, task_on, turn_of}
 pub use Items.{Item}
-pub use Grammar.{Fails, FailsAt, Outcome, Reads, are_comment, head_of, heads, is_comment, item_of, script_of, then_on}
+pub use Grammar.{Fails, FailsAt, Verdict, Reads, are_comment, head_of, heads, is_comment, item_of, script_of, then_on}
 pub use Grammar.{with_item}
 unfoldable pub use Grammar.{after_line, item_by, line_of, script_from}
 pub use Taking.{Gives, as_task, task_item, with_item_in}
@@ -57,4 +57,4 @@ pub use declared.script.UnknownAppend.{UnknownAppend}
 pub use declared.step.ManagerCall.{ManagerCall}
 pub use declared.step.CommitAll.{CommitAll}
 pub use declared.steps.KeyPlace.{KeyPlace}
-pub use declared.steps.Place.{Place}
+pub use declared.steps.NamePlace.{NamePlace}

@@ -4,10 +4,10 @@ use Rattle.xa_grammar.specs.declared.fault.ScriptFault.{ScriptFault}
 use Rattle.xa_grammar.specs.declared.read.Reading.{Reading}
 use Rattle.xa_grammar.specs.Contents.{AreOfOne}
 use Rattle.xa_grammar.specs.Text.{lines_of}
-use Rattle.xa_grammar.specs.Grammar.{Outcome, script_from, script_of, Fails}
+use Rattle.xa_grammar.specs.Grammar.{Verdict, script_from, script_of, Fails}
 
 -- The whole lines so far are read, and the bytes go on with the next line.
-abbrev pub goes_on : Reading → List ℕ → Outcome
+abbrev pub goes_on : Reading → List ℕ → Verdict
 goes_on r bytes = script_from r.threads_mode r.number r.script (lines_of (r.line.items ++ bytes))
 
 -- Nothing is read yet: the bytes that come are the script.

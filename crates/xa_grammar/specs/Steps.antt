@@ -3,7 +3,7 @@ use Rattle.std.specs.Prelude.{◌≡◌, ℕ, List, IfSome, option_map}
 use Rattle.xa_words.specs.Xid.{XidName}
 use Rattle.xa_words.specs.Tran.{TranName}
 use Rattle.xa_grammar.specs.declared.step.ManagerCall.{ManagerCall}
-use Rattle.xa_grammar.specs.declared.step.ManagerCall.TheVariants as calling
+use Rattle.xa_grammar.specs.declared.step.ManagerCall.TheVariants as manager_call
 use Rattle.xa_grammar.specs.declared.step.Called.{Called}
 use Rattle.xa_grammar.specs.declared.step.Action.{Action}
 use Rattle.xa_grammar.specs.declared.step.Action.TheVariants as action
@@ -35,12 +35,10 @@ ScriptStep = Step XidName TranName (List ℕ)
 
 -- This holds of the branch that is called, where there is one, and that of the key that is changed.
 abbrev pub CallHas : {X K : Type 0} → (X → Type 0) → (K → Type 0) → ManagerCall X K → Type 0
-CallHas P R (calling.Xa c x) = IfSome x P
-CallHas P R (calling.Heur x commits) = P x
-CallHas P R (calling.Add k d) = R k
-CallHas P R calling.Shut = Unit {0}
-CallHas P R (calling.Complete h) = Unit {0}
-CallHas P R (calling.Recover n) = Unit {0}
+CallHas P R (manager_call.Xa c x) = IfSome x P
+CallHas P R (manager_call.Heur x commits) = P x
+CallHas P R (manager_call.Add k d) = R k
+CallHas P R other = Unit {0}
 
 -- This holds of the branch that the step names, that of its global transaction, and the last of its key.
 abbrev pub ActionHas : {X G K : Type 0} → (X → Type 0) → (G → Type 0) → (K → Type 0) → Action X G K → Type 0
@@ -59,12 +57,12 @@ Computes {A} {B} answers f = (x : A) (y : B) → answers x y → y ≡ f x
 
 -- What is called, with its branch and its key named otherwise.
 abbrev pub call_with : {X Y K J : Type 0} → (X → Y) → (K → J) → ManagerCall X K → ManagerCall Y J
-call_with name key (calling.Xa c x) = calling.Xa c (option_map name x)
-call_with name key (calling.Heur x commits) = calling.Heur (name x) commits
-call_with name key (calling.Add k d) = calling.Add (key k) d
-call_with name key calling.Shut = calling.Shut
-call_with name key (calling.Complete h) = calling.Complete h
-call_with name key (calling.Recover n) = calling.Recover n
+call_with name key (manager_call.Xa c x) = manager_call.Xa c (option_map name x)
+call_with name key (manager_call.Heur x commits) = manager_call.Heur (name x) commits
+call_with name key (manager_call.Add k d) = manager_call.Add (key k) d
+call_with name key manager_call.Shut = manager_call.Shut
+call_with name key (manager_call.Complete h) = manager_call.Complete h
+call_with name key (manager_call.Recover n) = manager_call.Recover n
 
 -- The step with its branch, its global transaction and its key named otherwise.
 abbrev pub action_with : {X Y G H K J : Type 0} → (X → Y) → (G → H) → (K → J) → Action X G K → Action Y H J

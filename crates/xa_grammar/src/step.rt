@@ -10,7 +10,7 @@ ghost use Rattle.xa_grammar.specs.OwnTasks.{is_own};
 ghost use Rattle.xa_grammar.specs.Steps.{CallHas, ActionHas, StepHas, Computes, call_with, action_with, step_with};
 ghost use Rattle.xa_base.specs.Lists.{IsUpTo};
 ghost use Rattle.xa_grammar.specs.Fields.{Takes};
-ghost use Rattle.xa_grammar.specs.Actions.{verb_of, calling_at, call_of, action_of, task_on, turn_of, reopen_of};
+ghost use Rattle.xa_grammar.specs.Actions.{verb_of, call_at, call_of, action_of, task_on, turn_of, reopen_of};
 ghost use Rattle.xa_grammar.specs.Taking.{Gives, with_item_in, task_item, as_task};
 
 use crate::commit::{MOST_MANAGER, commit_of};
@@ -245,9 +245,9 @@ fn verb_of(word: &[u8]) -> Option<Verb>
 }
 
 // The words between the manager and the flags.
-#[tactic(auto, unfolding(crate::specs::Actions::calling_at))]
-fn calling_at<'a>(verb: Verb, words: &mut Words<'a>) -> Result<ManagerCall<Name<'a>>, Reason>
-    ensures takes { Takes result words.new (calling_at verb words.old) }
+#[tactic(auto, unfolding(crate::specs::Actions::call_at))]
+fn call_at<'a>(verb: Verb, words: &mut Words<'a>) -> Result<ManagerCall<Name<'a>>, Reason>
+    ensures takes { Takes result words.new (call_at verb words.old) }
     ensures few { IfOk result AsksForFew }
 {
     match verb {
@@ -273,7 +273,7 @@ fn call_of<'a>(verb: &[u8], words: &mut Words<'a>) -> Result<Called<Name<'a>>, R
 {
     let verb = verb_of(verb).ok_or(Reason::UnknownWord)?;
     let manager = words.number(0, MOST_MANAGER)? as u32;
-    let call = calling_at(verb, words)?;
+    let call = call_at(verb, words)?;
     let flags = words.flags()?;
     Ok(Called {
         manager,

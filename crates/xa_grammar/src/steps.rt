@@ -20,7 +20,7 @@ use xa_words::{Death, Key, ManagerSet};
 
 // Where the bytes of a branch's name stand: those of the gtrid, a dot, and those of the bqual.
 #[derive(Clone, Copy)]
-pub(crate) struct Place {
+pub(crate) struct NamePlace {
     at: u32,
     gtrid: u8,
     bqual: u8,
@@ -66,11 +66,11 @@ pub(crate) enum Kept<X, K> {
 }
 
 // A step as it is kept.
-type KeptStep = Kept<Place, KeyPlace>;
+type KeptStep = Kept<NamePlace, KeyPlace>;
 
 // The branch's name that stands at a place.
 #[inline(always)]
-fn name_at<'a>(names: &'a [u8], place: Place) -> Name<'a>
+fn name_at<'a>(names: &'a [u8], place: NamePlace) -> Name<'a>
     requires { IsName names.now place }
     ensures { result ≡ name_at names.now place }
 {
@@ -112,7 +112,7 @@ fn kept_from(step: &Step<Name, Gtrid>, at: u32, key: u32) -> KeptStep
                 manager: called.manager,
                 flags: called.flags,
                 call: called.call.map(
-                    |name| Place {
+                    |name| NamePlace {
                         at,
                         gtrid: name.gtrid().len() as u8,
                         bqual: name.bqual().len() as u8,

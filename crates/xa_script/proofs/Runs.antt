@@ -1,10 +1,9 @@
 -- What a run of an opening has come to, in turns and in threads: its threads by their lines, its workers, and its desks that end.
 use Rattle.xa_base.proofs.{along, along_all, chain_kept, filter_push, filter_skip, filter_all, filter_none, filter, ◌≡◌, ◌≢◌, ◌-◌, ◌==◌, ℕ, ◌+◌, Bool, List}
-use Rattle.xa_base.proofs.{length, ap, ◌∙◌, subst, sym, length-set, All, all_at, all_from, true, false, if◌then◌else◌, [], ◌∷◌, ◌++◌, Some, refl, inl, inr}
-use Rattle.xa_base.proofs.{arith, append-nil, append_assoc, map, slice_get, slice_set, flat_map, cases_eq, eq-eqb, ne_eqb, All-push, All-nil, All-map}
-use Rattle.xa_base.proofs.{All-weaker, map-append, filter-append, slice_get_within, set_there, got, got_set, got_map, was_mapped, flat_push, flat_one}
-use Rattle.xa_base.proofs.{flat_none, none_side, push_side, some_same, filter_map-append, length-map, length-append}
-use Rattle.xa_command.specs.declared.mode.Mode.TheVariants as mode
+use Rattle.xa_base.proofs.{length, ap, ◌∙◌, sym, length-set, All, all_at, all_from, true, false, if◌then◌else◌, [], ◌∷◌, ◌++◌, Some, refl, inl, inr, arith}
+use Rattle.xa_base.proofs.{append-nil, append_assoc, map, slice_get, slice_set, flat_map, cases_eq, eq-eqb, ne_eqb, All-push, All-nil, All-map, All-weaker}
+use Rattle.xa_base.proofs.{map-append, filter-append, slice_get_within, set_there, got, got_set, got_map, was_mapped, flat_push, flat_one, flat_none, none_side}
+use Rattle.xa_base.proofs.{push_side, some_same, filter_map-append, length-map, length-append}
 use Rattle.xa_base.specs.{Chain, Pairwise}
 use Rattle.xa_base.specs.Lists.Chain.{none, more}
 use Rattle.xa_words.specs.{Code}
@@ -12,7 +11,7 @@ use Rattle.xa_desk.specs.{AllKept, DeskView, EndedView, GoesOn, DeskSeat}
 use Rattle.xa_worker.specs.{WorkerView, Served}
 use Rattle.xa_grammar.specs.declared.step.Step.TheVariants as step
 use Rattle.xa_grammar.specs.{ScriptStep, ScriptTask, task_of, tasks_of, Content, Fits, threads_of, managers_of}
-use Rattle.xa_crew.specs.{AllGoOn, all_stay, all_go_on, EndsDesk, Member, HasServed, ArePiecesOf, HasGone}
+use Rattle.xa_crew.specs.{AllGoOn, all_stay, all_go_on, EndsDesk, Member, HasServed, ArePiecesOf}
 use Rattle.xa_crew.proofs.WorkersOn.{turn_goes, all_served}
 use Rattle.xa_transcript.specs.{Told, all_ended, ended}
 use Rattle.xa_session.specs.{Session, HasDone, ScriptThread, new_session, told_of}

@@ -15,7 +15,7 @@ use Rattle.xa_transcript.specs.declared.answer.Told.{Told}
 use Rattle.xa_session.specs.declared.script_thread.ScriptThread.{ScriptThread}
 use Rattle.xa_session.specs.declared.session.Session.{Session}
 use Rattle.xa_session.specs.Sessions.{new_session, HasDone}
-use Rattle.xa_transcript.specs.Ended.{all_ended}
+use Rattle.xa_transcript.specs.ThreadEnds.{all_ended}
 
 -- What a thread tells: what its tasks answered, and what was outstanding after them.
 abbrev pub told_by : Attended ScriptThread → List Told

@@ -15,7 +15,7 @@ use Rattle.xa_transcript.specs.declared.answer.Told.{Told}
 use Rattle.xa_transcript.specs.declared.answer.Told.TheVariants as told
 use Rattle.xa_session.specs.declared.session.Session.{Session}
 use Rattle.xa_session.specs.Sessions.{Does, MayWait, told_of}
-use Rattle.xa_transcript.specs.Ended.{all_ended}
+use Rattle.xa_transcript.specs.ThreadEnds.{all_ended}
 use Rattle.xa_crew.specs.Turns.{AllGoOn, TakesTurn}
 
 -- ---- the steps of a script

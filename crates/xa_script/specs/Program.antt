@@ -63,11 +63,7 @@ IsFaulty m bytes = (fault : ℕ × Reason) × (script_of (has_threads m) bytes �
 
 -- On a fault nothing is shown, but where a write failed; and a faulty line is the one that the mode's grammar finds.
 abbrev pub FailsBy : Fault → Mode → Option (List ℕ) → Option (List ℕ) → Option (List ℕ) → Type 0
-FailsBy Usage m bytes before after = after ≡ before
-FailsBy NoMemory m bytes before after = after ≡ before
+FailsBy (Run run.Write) m bytes before after = Unit {0}
 FailsBy (Script (script.Line n why)) m bytes before after =
     (after ≡ before) × IfSome bytes (λ b. script_of (has_threads m) b ≡ Err (n, why))
-FailsBy (Script script.Read) m bytes before after = after ≡ before
-FailsBy (Script script.NoMemory) m bytes before after = after ≡ before
-FailsBy (Run run.NoMemory) m bytes before after = after ≡ before
-FailsBy (Run run.Write) m bytes before after = Unit {0}
+FailsBy fault m bytes before after = after ≡ before

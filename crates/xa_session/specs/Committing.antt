@@ -15,7 +15,7 @@ use Rattle.xa_driver.specs.Resolving.{AsksLedger}
 use Rattle.xa_driver.specs.Rounds.{first_ask}
 use Rattle.xa_driver.specs.Stages.{HasVoted}
 use Rattle.xa_log.specs.Losing.{AppendsBefore, LosesTo}
-use Rattle.xa_driver.specs.Order.{GoesAsRound, IsThreeRounds}
+use Rattle.xa_driver.specs.RoundOrder.{GoesAsRound, IsThreeRounds}
 use Rattle.xa_driver.specs.Trace.{MayCommit, AppendsOnce, IsTraceOfCommit, IsUnknown}
 use Rattle.xa_grammar.specs.declared.step.CommitAll.{CommitAll}
 use Rattle.xa_transcript.specs.declared.answer.Answer.{Answer}

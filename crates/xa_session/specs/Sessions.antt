@@ -15,7 +15,7 @@ use Rattle.xa_transcript.specs.declared.answer.Answer.{Answer}
 use Rattle.xa_transcript.specs.declared.answer.Told.{Told}
 use Rattle.xa_transcript.specs.declared.answer.Told.TheVariants.{Answered}
 use Rattle.xa_session.specs.declared.session.Session.{Session}
-use Rattle.xa_session.specs.Calling.{Answers, calling_waits}
+use Rattle.xa_session.specs.ManagerCalls.{Answers, manager_call_waits}
 use Rattle.xa_session.specs.Committing.{CanCommit, CommitsAll}
 use Rattle.xa_session.specs.Resolving.{CanResolve, ResolvesLeft}
 
@@ -64,7 +64,7 @@ Executes Resolve old new a = ResolvesLeft old new a
 
 -- A task that asks for this may wait: a call that may, a commit that may be made, and a resolve that may.
 abbrev pub MayWait : ScriptAction → Session → Type 0
-MayWait (Call c) old = IsTrue (calling_waits c.call c old.desk old.scan)
+MayWait (Call c) old = IsTrue (manager_call_waits c.call c old.desk old.scan)
 MayWait (CommitAll c) old = CanCommit c old
 MayWait Resolve old = CanResolve old
 

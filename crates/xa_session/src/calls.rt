@@ -9,8 +9,8 @@ ghost use Rattle.xa_calls.specs.Scans.{asks};
 ghost use Rattle.xa_words.specs.Flags.{check_flags};
 ghost use Rattle.xa_words.specs.Xid.{XidName};
 ghost use Rattle.xa_words.specs.declared.flags.Call.TheVariants as call;
-ghost use Rattle.xa_session.specs.Calling.{completed, HasAnswered, HasCollected, HasListed, IsListed, Answers};
-ghost use Rattle.xa_session.specs.Calling.{calling_waits};
+ghost use Rattle.xa_session.specs.ManagerCalls.{completed, HasAnswered, HasCollected, HasListed, IsListed, Answers};
+ghost use Rattle.xa_session.specs.ManagerCalls.{manager_call_waits};
 ghost use Rattle.xa_session.specs.Sessions.{session_of, Does, MayWait};
 
 use crate::commits::commit;
@@ -103,7 +103,7 @@ fn answer<R: Wait, I: Idle>(
     ensures unsent { OnErr result (desk.new ≡ desk.old) }
     ensures unscanned { OnErr result (scan.new ≡ scan.old) }
     ensures idled { I.leads idle.old idle.new }
-    ensures prompt { calling_waits called.now.call called.now desk.old scan.old ≡ false → idle.new ≡ idle.old }
+    ensures prompt { manager_call_waits called.now.call called.now desk.old scan.old ≡ false → idle.new ≡ idle.old }
 {
     match &called.call {
         ManagerCall::Xa(call, branch) => Ok(xa_called(rt, desk, called, *call, branch, idle)),

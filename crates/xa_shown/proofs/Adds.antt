@@ -2,7 +2,7 @@
 use Rattle.xa_base.proofs.{mapped_some, list_any, list_any_none, ◌≡◌, ℕ, ⊎_elim, zero, suc, ◌<◌, ◌≤◌, Bool, false, ◌==◌, List, [], ◌∷◌, ◌++◌, Option, Some}
 use Rattle.xa_base.proofs.{None, sym, refl, ap, ◌∙◌, subst, arith, append_assoc, append-nil, if◌then◌else◌, All, map, Contains, cases_lt, eqb-true, All-append}
 use Rattle.xa_base.proofs.{All-cons, All-contains, All-nil, by_if, ◌⊎◌, inl, inr, length, length-append, snoc_parts, get_or, pos, ◌+ℤ◌, all_unmapped, All-map}
-use Rattle.xa_base.proofs.{All-permutation}
+use Rattle.xa_base.proofs.{All-permutation, along}
 use Rattle.xa_words.specs.declared.flags.Call.TheVariants as call
 use Rattle.xa_grammar.specs.declared.step.Action.TheVariants as action
 use Rattle.std.specs.FinMap as finmap
@@ -11,24 +11,24 @@ use Rattle.xa_words.specs.{check_flags, TranName, XidName, Death, Op, OpenRm, Pr
 use Rattle.xa_worker.specs.{Entry}
 use Rattle.xa_scan.specs.{ScanView, left_at}
 use Rattle.xa_switch.specs.{journal, Settling, IsSettled, IsOpenedWith, first_of}
-use Rattle.xa_driver.specs.{Branch, Done as Outcomes, Ending, Outcome, AtBranch, second_op, third_op, ResolvesAt, outcome_op, has_branch_at}
+use Rattle.xa_driver.specs.{Branch, Done as Outcomes, Outcome, second_op, third_op, ResolvesAt, outcome_op, has_branch_at}
 use Rattle.xa_log.specs.{Records}
-use Rattle.xa_driver.proofs.Mapped.{Any, IsAskedFor, any_asked, branch_by, resolves_by}
+use Rattle.xa_calls.proofs.Morphisms.{Keeps, by_mapped, keeps}
+use Rattle.xa_driver.proofs.Mapped.{Any, IsAskedFor, any_asked, puts_some, decided_mapped, asked_mapped, came_mapped, resolves_mapped}
 use Rattle.xa_grammar.specs.{CommitAll, ScriptCalled, ScriptAction, ScriptStep, Declared, IsScript, managers_of, Content}
 use Rattle.xa_transcript.specs.{Answer, Told, opened, opened_after, histories, name_of}
 use Rattle.xa_session.specs.{branches_of, named}
-use Rattle.xa_telling.specs.{entries_of, Wanted, wanted_in, Part, next_entry, Asked, Lists, CallTakes, CarriesOut, CarriesOutSome, Decides, LosesSight, StopsAt}
-use Rattle.xa_telling.specs.{EndsLeft, Takes, Line, TakesPart, AreCarriedOut, Beginning, Opening, Former, TellsOf, Leaves, Tells, beginning, settled_over}
-use Rattle.xa_telling.specs.Wants.Wanted.{code_of, handle_for, in_vain, completion, listing}
+use Rattle.xa_telling.specs.{entries_of, Wanted, wanted_in, Part, next_entry, Asked, Lists, CallTakes, CarriesOut, Decides, LosesSight, StopsAt, EndsLeft}
+use Rattle.xa_telling.specs.{Takes, Line, TakesPart, AreCarriedOut, Beginning, Opening, Former, TellsOf, Leaves, Tells, beginning, settled_over}
+use Rattle.xa_telling.specs.Wants.Wanted.{code_of, handle_for}
 use Rattle.xa_telling.specs.Parts.Asked.{answered as asked_answered, refused as asked_refused}
 use Rattle.xa_telling.specs.Parts.CallTakes.{answered, kept, refused, completes, lists}
 use Rattle.xa_telling.specs.Commits.CarriesOut.{carried, withheld}
 use Rattle.xa_telling.specs.Commits.CommitTakes.{refused as takes_none, decided, undecided, died}
 use Rattle.xa_telling.specs.Resolves.ResolveTakes.{refused as ends_none, resolved}
-use Rattle.xa_telling.proofs.Calls.{by_mapped}
-use Rattle.xa_telling.proofs.Branches.{asked_so, at_each, came_so, each_so, hears_by, obeys_by}
+use Rattle.xa_telling.proofs.Branches.{at_each}
 use Rattle.xa_base.specs.Lists.Chain.{none as no_step, more as one_step}
-use Rattle.xa_shown.specs.{Place, IsSumOfShares}
+use Rattle.xa_shown.specs.{LinePlace, IsSumOfShares}
 use Rattle.xa_tables.specs.{Tables, History, Absent, added_over}
 use Rattle.xa_transcript.proofs.Worth.{first_is}
 use Rattle.xa_telling.proofs.Told.{begins_after}
@@ -39,9 +39,7 @@ use Rattle.xa_telling.proofs.Told.{begins_after}
 abbrev pub op_in : Wanted → Option Op
 op_in (code_of o) = Some o
 op_in (handle_for o) = Some o
-op_in (in_vain why) = None
-op_in completion = None
-op_in (listing n) = None
+op_in other = None
 
 module _ (P : Op → Type 0) where
   -- entries are added, and the op of each is so
@@ -68,80 +66,60 @@ module _ (P : Op → Type 0) where
   adds_one t old new op c so is = search (arith, All-cons, All-nil)
 
   -- what is asked, one request after another
-  carries_adds : (t : ℕ) (old new : List Entry) (op : Op) (c : Code) → P op → CarriesOut t old op new c → Adds old new
+  pub carries_adds : (t : ℕ) (old new : List Entry) (op : Op) (c : Code) → P op → CarriesOut t old op new c → Adds old new
   carries_adds t old new op c so (carried is) = adds_one t old new op c so is
   carries_adds t old new op c so (withheld fails shut same) = adds_none old new same
 
-  pub carries_on : (t : ℕ) (old d e : List Entry) (op : Op) (c : Code) → P op → CarriesOut t d op e c → Adds old d → Adds old e
-  carries_on t old d e op c so is so_far = adds_both old d e so_far (carries_adds t d e op c so is)
-
   -- ---- a commit
 
-  -- what a commit asks at a branch of manager m is so
-  pub record AsksAt (m : ℕ) (commit : Bool) (b : Branch) : Type 0 where
-    pub prepares : b.m ≡ m → P (Prepare b.xid)
-    pub obeys : b.m ≡ m → (v : Code) → IsAskedFor P (second_op commit b.xid v)
-    pub forgets : b.m ≡ m → (s : Option Code) → IsAskedFor P (third_op b.xid s)
-
-  pub decides_adds : (m t : ℕ) (c : CommitAll TranName) (done : Outcomes) (old new : Part) → All (AsksAt m done.commit) (branches_of c)
-      → Decides t c done old new → Adds (old.entries m) (new.entries m)
-  decides_adds m t c done old new so is =
-      let At : Branch → Code → Option Code → Ending → Type 0 = λ b v s e. AtBranch (CarriesOut t) done.commit b v s e (old.entries b.m) (new.entries b.m) in
-      adds_at (branches_of c) old new is.nowhere is.course.others m
-      (each_so (AsksAt m done.commit) (λ b. b.m ≡ m → Adds (old.entries b.m) (new.entries b.m)) (λ v. Unit {0}) At At
-      (λ b v s e asks _ h. (
-        h,
-        λ here. branch_by (CarriesOut t) P (Adds (old.entries b.m)) (carries_on t (old.entries b.m)) done.commit b v s e (old.entries b.m) (new.entries b.m) h
-            (asks.obeys here v) (asks.forgets here s) (asks.prepares here) (adds_none (old.entries b.m) (old.entries b.m) refl),
-      ))
-      (branches_of c) done.votes.items is.course.seconds done.endings.items so (λ k d lt. tt) is.course.each).1
-
-  -- ---- a commit that came to no end
-
-  puts_on : (t : ℕ) (old d e : List Entry) (op : Op) → P op → CarriesOutSome t d op e → Adds old d → Adds old e
-  puts_on t old d e op so is so_far = carries_on t old d e op is.0 so is.1 so_far
-
-  -- what it asks at a branch of manager m is so, where W holds of its vote
-  pub record AsksFirst (W : Code → Type 0) (m : ℕ) (commit : Bool) (b : Branch) : Type 0 where
+  -- what a commit asks at a branch of manager m is so, where W holds of its vote
+  pub record AsksAt (W : Code → Type 0) (m : ℕ) (commit : Bool) (b : Branch) : Type 0 where
     pub prepares : b.m ≡ m → P (Prepare b.xid)
     pub obeys : b.m ≡ m → (v : Code) → W v → IsAskedFor P (second_op commit b.xid v)
+    pub forgets : b.m ≡ m → (s : Option Code) → IsAskedFor P (third_op b.xid s)
 
-  module _ (W : Code → Type 0) (m t : ℕ) (commit : Bool) (old new : Part) where
-    abbrev AddsAt : Branch → Type 0
-    AddsAt b = b.m ≡ m → Adds (old.entries b.m) (new.entries b.m)
+  -- over the thread's entries of any manager
+  module _ (m t : ℕ) (old : Part) where
+    abbrev SoAt : ℕ → Op → Type 0
+    SoAt k op = k ≡ m → P op
 
-    votes_add : (b : Branch) (v : Code) → AsksFirst W m commit b → CarriesOut t (old.entries b.m) (Prepare b.xid) (new.entries b.m) v
-        → CarriesOut t (old.entries b.m) (Prepare b.xid) (new.entries b.m) v × AddsAt b
-    votes_add b v asks is = (is, λ here. carries_adds t (old.entries b.m) (new.entries b.m) (Prepare b.xid) v (asks.prepares here) is)
+    abbrev AddsAt : ℕ → List Entry → Type 0
+    AddsAt k es = k ≡ m → Adds (old.entries k) es
 
-    put_adds : (b : Branch) → AsksFirst W m commit b → CarriesOutSome t (old.entries b.m) (Prepare b.xid) (new.entries b.m)
-        → CarriesOutSome t (old.entries b.m) (Prepare b.xid) (new.entries b.m) × AddsAt b
-    put_adds b asks is = (is, λ here. carries_adds t (old.entries b.m) (new.entries b.m) (Prepare b.xid) is.0 (asks.prepares here) is.1)
+    adds_over : (k : ℕ) → Keeps (SoAt k) (CarriesOut t) (AddsAt k)
+    adds_over k =
+        keeps (CarriesOut t) (SoAt k) (AddsAt k) (λ d e op c so is so_far here. adds_both (old.entries k) d e (so_far here) (carries_adds t d e op c (so here) is))
 
+    -- a branch starts with nothing added
+    starts : (b : Branch) → SoAt b.m (Prepare b.xid) → SoAt b.m (Prepare b.xid) × AddsAt b.m (old.entries b.m) × Unit {0}
+    starts b so = (so, (λ here. adds_none (old.entries b.m) (old.entries b.m) refl), tt)
+
+    -- what is wanted of it after that is so
+    so_at : (k : ℕ) (op : Option Op) → (k ≡ m → IsAskedFor P op) → IsAskedFor (SoAt k) op
+    so_at k None so = tt
+    so_at k (Some op) so = so
+
+  pub decides_adds : (m t : ℕ) (c : CommitAll TranName) (done : Outcomes) (old new : Part) → All (AsksAt (λ v. Unit {0}) m done.commit) (branches_of c)
+      → Decides t c done old new → Adds (old.entries m) (new.entries m)
+  decides_adds m t c done old new so is =
+      adds_at (branches_of c) old new is.nowhere is.course.others m
+      (decided_mapped (adds_over m t old) old.entries new.entries (AsksAt (λ v. Unit {0}) m done.commit) (λ b asks. starts m t old b asks.prepares) done.commit
+      (λ b asks v s. (so_at m t old b.m _ (λ here. asks.obeys here v tt), so_at m t old b.m _ (λ here. asks.forgets here s)))
+      (branches_of c) done.votes.items is.course.seconds done.endings.items so is.course.each).1
+
+  -- a commit that came to no end
   pub stops_adds : (W : Code → Type 0) (m t : ℕ) (c : CommitAll TranName) (at : Death) (known : Outcomes) (old new : Part)
-      → All (AsksFirst W m known.commit) (branches_of c) → All W known.votes.items → StopsAt t c at known old new → Adds (old.entries m) (new.entries m)
+      → All (AsksAt W m known.commit) (branches_of c) → All W known.votes.items → StopsAt t c at known old new → Adds (old.entries m) (new.entries m)
   stops_adds W m t c at known old new so votes_so is =
       adds_at (branches_of c) old new is.nowhere is.course.others m
-      (came_so (CarriesOut t) (CarriesOutSome t) (CarriesOut t) (CarriesOutSome t) (AsksFirst W m known.commit) (AddsAt W m t known.commit old new) old.entries new.entries old.entries new.entries
-      (votes_add W m t known.commit old new) (put_adds W m t known.commit old new) W known
-      (λ k b v asks w h. (
-        h,
-        λ here. hears_by (CarriesOut t) (CarriesOutSome t) P (Adds (old.entries b.m)) (carries_on t (old.entries b.m)) (puts_on t (old.entries b.m)) known.commit b v (old.entries b.m) (new.entries b.m)
-            (asks.prepares here) (asks.obeys here v w) k h (adds_none (old.entries b.m) (old.entries b.m) refl),
-      ))
-      (λ b v s e asks w h. (
-        h,
-        λ here. obeys_by (CarriesOut t) (CarriesOutSome t) P (Adds (old.entries b.m)) (carries_on t (old.entries b.m)) (puts_on t (old.entries b.m)) known.commit b v (old.entries b.m) (new.entries b.m)
-            (asks.prepares here) (asks.obeys here v w) s e h (adds_none (old.entries b.m) (old.entries b.m) refl),
-      ))
-      (named c) (branches_of c) old.log new.log so votes_so at is.course.far).1
+      (came_mapped (adds_over m t old) old.entries new.entries (AsksAt W m known.commit) (λ b asks. starts m t old b asks.prepares) (λ k. puts_some (adds_over m t old k)) W known
+      (λ b asks v w. so_at m t old b.m _ (λ here. asks.obeys here v w)) (named c) (branches_of c) old.log new.log so votes_so at is.course.far).1
 
   pub loses_adds : (m t : ℕ) (c : CommitAll TranName) (votes : List Code) (old new : Part) → All (λ b. b.m ≡ m → P (Prepare b.xid)) (branches_of c)
       → LosesSight t c votes old new → Adds (old.entries m) (new.entries m)
   loses_adds m t c votes old new so is =
       adds_at (branches_of c) old new is.nowhere is.others m
-      (asked_so (CarriesOut t) (CarriesOutSome t) (CarriesOut t) (CarriesOutSome t) (AsksFirst (λ v. ⊥) m false) (AddsAt (λ v. ⊥) m t false old new) old.entries new.entries old.entries new.entries
-      (votes_add (λ v. ⊥) m t false old new) (put_adds (λ v. ⊥) m t false old new) (branches_of c) votes (λ k d lt. record { prepares = so k d lt; obeys = λ here v none. absurd none }) is.asked).1
+      (asked_mapped (adds_over m t old) old.entries new.entries (λ b. b.m ≡ m → P (Prepare b.xid)) (starts m t old) (λ k. puts_some (adds_over m t old k)) (branches_of c) votes so is.asked).1
 
   -- ---- a resolve
 
@@ -156,8 +134,8 @@ module _ (P : Op → Type 0) where
       → ResolvesAt (CarriesOut t) records m xs os old new → Adds old new
   at_adds t records m [] os old new opens so is = adds_none old new is.1
   at_adds t records m (x ∷ xs) os old new opens so is =
-      resolves_by (CarriesOut t) P (Adds old) (carries_on t old) records m (x ∷ xs) os old new opens
-      (λ o there. let each = outcome_so (x ∷ xs) os is.xids_are so o there in record { ends = λ _ _. each.0 o.commit; forgets = λ _ _. each.1 }) is (adds_none old old refl)
+      (resolves_mapped (keeps (CarriesOut t) P (Adds old) (λ d e op c so is so_far. adds_both old d e so_far (carries_adds t d e op c so is))) records m (x ∷ xs) os old new opens
+      (λ o there. let each = outcome_so (x ∷ xs) os is.xids_are so o there in record { ends = λ _ _. each.0 o.commit; forgets = λ _ _. each.1 }) is).on (adds_none old old refl)
 
   ends_adds : (m t : ℕ) (outcomes : List Outcome) (old new : Part) → P OpenRm → All EndsSo (left_at old.scan m) → EndsLeft t outcomes old new
       → Adds (old.entries m) (new.entries m)
@@ -180,7 +158,10 @@ module _ (P : Op → Type 0) where
 
     listing_adds : (t : ℕ) (q : ScriptCalled) (n : ℕ) (a : Answer) (old new : Part) → Lists t q n a old new → Adds (old.entries m) (new.entries m)
     listing_adds t q n a old new is =
-        rw is.stands (by_mapped (Asked t q.manager) (λ d o e c. Unit {0}) (λ x. x) (λ (x : Part). Adds (x.entries m) (is.asked.entries m)) (λ d e x c asked adding. (adds_both (d.entries m) (e.entries m) (is.asked.entries m) (asked_adds t q.manager d (Listed x) e c (listed x) asked) adding, tt)) old old.scan is.before is.asked new.scan is.after is.there (check_flags call.Recover q.flags) q.manager is.result is.recovers (adds_none (is.asked.entries m) (is.asked.entries m) refl)).0
+        let adds =
+        by_mapped (keeps (Asked t q.manager) P (λ (x : Part). Adds (old.entries m) (x.entries m)) (λ d e o c so asked so_far. adds_both (old.entries m) (d.entries m) (e.entries m) so_far (asked_adds t q.manager d o e c so asked)))
+        listed old old.scan is.before is.asked new.scan is.after is.there (check_flags call.Recover q.flags) q.manager is.result is.recovers in
+        rw is.stands (adds.on (adds_none (old.entries m) (old.entries m) refl))
 
     -- what a call asks its manager for is so
     abbrev pub AsksSo : ScriptCalled → Type 0
@@ -200,7 +181,7 @@ module _ (P : Op → Type 0) where
     -- what is done asks manager m only what is so, where its thread's scans are z
     abbrev pub TaskSo : ScanView → ScriptAction → Type 0
     TaskSo z (action.Call q) = AsksSo q
-    TaskSo z (action.CommitAll c) = (commit : Bool) → All (AsksAt m commit) (branches_of c)
+    TaskSo z (action.CommitAll c) = (commit : Bool) → All (AsksAt (λ v. Unit {0}) m commit) (branches_of c)
     TaskSo z action.Resolve = P OpenRm × All EndsSo (left_at z m)
 
     pub takes_add : (settled : Settling) (x : ScriptAction) (t : ℕ) (a : Answer) (old new : Part) → TaskSo old.scan x → Takes settled x t a old new
@@ -211,7 +192,7 @@ module _ (P : Op → Type 0) where
     takes_add settled (action.CommitAll c) t a old new so (undecided votes comes told is) =
         loses_adds m t c votes.items old new (λ k d lt. (so false k d lt).prepares) is
     takes_add settled (action.CommitAll c) t a old new so (died at known dead told is) =
-        stops_adds (λ v. Unit {0}) m t c at known old new (λ k d lt. record { prepares = (so known.commit k d lt).prepares; obeys = λ here v w. (so known.commit k d lt).obeys here v }) (λ k d lt. tt) is
+        stops_adds (λ v. Unit {0}) m t c at known old new (so known.commit) (λ k d lt. tt) is
     takes_add settled action.Resolve t a old new so (ends_none told same) = adds_none (old.entries m) (new.entries m) (ap (λ (x : Part). x.entries m) same)
     takes_add settled action.Resolve t a old new so (resolved outcomes told is) = ends_adds m t outcomes.items old new so.0 so.1 is
 
@@ -259,7 +240,7 @@ module _ {X A : Type 0} (leads : X → A → A → Type 0) (first : A) where
       (ends ys)
 
 pub places : (steps : List ScriptStep) (answers : List Told) (settled : Settling) (t : ℕ) (first : Part) (told : AreCarriedOut steps answers settled t first) (before : List Line) (l : Line) (after : List Line)
-    → told.lines ≡ before ++ l ∷ after → (old : Part) × (new : Part) × Place told before l after old new
+    → told.lines ≡ before ++ l ∷ after → (old : Part) × (new : Part) × LinePlace told before l after old new
 places steps answers settled t first told before l after is =
     let (old, new, earlier, takes, later) = part (TakesPart settled) first told.lines _ told.carried before l after is in
     (old, new, record { lines = is; earlier = earlier; takes = takes; later = later })
@@ -267,13 +248,14 @@ places steps answers settled t first told before l after is =
 -- what lines put into the journals is only added
 pub chain_adds : (settled : Settling) (first : Part) (ls : List Line) (last : Part) → Chain (TakesPart settled) first ls last → (m : ℕ)
     → Adds Any (first.entries m) (last.entries m)
-chain_adds settled first ls last (no_step xs end e f) m = adds_none Any (first.entries m) (end.entries m) (ap (λ (p : Part). p.entries m) f)
-chain_adds settled first ls last (one_step xs x now end before step) m =
-    adds_both Any (first.entries m) (now.entries m) (end.entries m) (chain_adds settled first xs now before m) (takes_adds settled x.task.action x.task.thread x.answer now end step m)
+chain_adds settled first ls last runs m =
+    along (λ (p : Part). Adds Any (first.entries m) (p.entries m)) first ls last runs
+    (λ x now next step so_far. adds_both Any (first.entries m) (now.entries m) (next.entries m) so_far (takes_adds settled x.task.action x.task.thread x.answer now next step m))
+    (adds_none Any (first.entries m) (first.entries m) refl)
 
 -- so what comes after a line
 pub place_adds : {steps : List ScriptStep} {answers : List Told} {settled : Settling} {t : ℕ} {first : Part} {told : AreCarriedOut steps answers settled t first}
-    {before : List Line} {l : Line} {after : List Line} {old new : Part} → Place told before l after old new → (m : ℕ)
+    {before : List Line} {l : Line} {after : List Line} {old new : Part} → LinePlace told before l after old new → (m : ℕ)
     → Adds Any (new.entries m) (entries_of t (journal settled m))
 place_adds {settled = settled} {after = after} {new = new} place m = chain_adds settled new after _ place.later m
 

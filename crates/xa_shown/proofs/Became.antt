@@ -1,12 +1,10 @@
--- A manager answers XAER_RMFAIL only where it is shut, and then to all that comes after. What a thread's entries in a journal have of a
--- commit's branch, as its requests stand in the manager's history. And where no other line names the branches of a commit, nobody else
--- names them in the journals: lines that don't name a branch put nothing into them that does.
+-- Where no other line names a commit's branches, nobody else names them in the journals, so its own entries tell what became of them.
 use Rattle.xa_base.proofs.{none_all, got_on, map-map, ◌+◌, both_ways, slice_get_within, slice_get-get_or, was_mapped, if◌then◌else◌, ◌≡◌, ℕ, ◌⊎◌, inl, inr}
 use Rattle.xa_base.proofs.{zero, suc, ◌<◌, Bool, true, false, List, [], ◌∷◌, ◌++◌, length, length-append, Option, Some, None, sym, refl, ap, ◌∙◌, subst, arith}
 use Rattle.xa_base.proofs.{All, slice_get, option_map, ◌||◌, map, append_assoc, list_any, map-append, list_any-append, or-false, slice_get-map, begins_on}
 use Rattle.xa_base.proofs.{begins_same, next_there, ◌≤◌, get_or, append-nil, cons_option, Any-from_list_any, true_from_ne_false, same_begins, cases_lt, rules}
-use Rattle.xa_base.proofs.{◌≢◌, ◌==◌, ◌&&◌, Result, Ok, Err, eq-eqb, or_parts, slice_index_or, some_same, IfOk, all_mid, all_left, All-map, filter-append, cond}
-use Rattle.xa_base.proofs.{cases_eq, length-map, all_after, all_unmapped}
+use Rattle.xa_base.proofs.{◌≢◌, ◌==◌, ◌&&◌, Result, Ok, Err, eq-eqb, or_parts, slice_index_or, some_same, IfOk, All-map, filter-append, cond, cases_eq}
+use Rattle.xa_base.proofs.{length-map, all_after, all_unmapped, along, along_all}
 use Rattle.xa_tables.specs.Histories as history
 use Rattle.xa_grammar.specs.declared.step.Action.TheVariants as action
 use Rattle.xa_words.specs.{Code, RmFail, Op, Start, Prepare, Listed, Fresh, Request, XidName, Done, xid_eq, check_flags, Call, Mode, RmOp, Decides-xid_eq}
@@ -19,22 +17,22 @@ use Rattle.xa_worker.specs.{Entry, codes_in, requests}
 use Rattle.std.proofs.lemmas.List.Folds.{list_any-from_Any}
 use Rattle.xa_base.specs.{Begins, Chain}
 use Rattle.xa_switch.specs.{Settling, IsSettled, IsOpenedWith, answers, collected, history as history_of, journal, sent}
-use Rattle.xa_driver.specs.{Branch, Ending, AtBranch, VotesAndObeys}
+use Rattle.xa_driver.specs.{Branch, Ending, AtBranch, VotesAndObeys, second_op, third_op}
 use Rattle.xa_atomicity.specs.{Tabled, IsDecidedAfter, OnlyTheseOrDecisionsName, OnlyTheseName, AreLeftAlone}
-use Rattle.xa_driver.proofs.Mapped.{branch_mapped}
+use Rattle.xa_calls.proofs.Morphisms.{Morphism}
+use Rattle.xa_driver.proofs.Mapped.{Any, any_asked, branch_mapped, obeys_mapped}
 use Rattle.xa_atomicity.proofs.Sites.{asks, later_place, below, StandsIn, Sent, AsksIn, withholds, stands_by, Site, above, request_of, fates, all_earlier}
 use Rattle.xa_atomicity.proofs.Sites.{own_sent, all_later, sides}
 use Rattle.xa_atomicity.proofs.Settled.{site_of}
-use Rattle.xa_telling.specs.{next_entry, entries_of, CarriesOut, CarriesOutSome, in_xa, outside_xa, wanted, wanted_by, Part, CallTakes, Line, Takes, TakesPart}
-use Rattle.xa_telling.specs.{Beginning, Opening, TellsOf, part_at}
+use Rattle.xa_telling.specs.{next_entry, entries_of, CarriesOut, in_xa, outside_xa, wanted, wanted_by, Part, CallTakes, Line, Takes, TakesPart, Beginning}
+use Rattle.xa_telling.specs.{Opening, TellsOf, part_at, entered_so_far}
 use Rattle.xa_telling.specs.Commits.CarriesOut.{carried, withheld}
 use Rattle.xa_telling.proofs.Entries.{requests_kept, Fits, agreed_fits, is_rm_fail_so, pair_of}
-use Rattle.xa_telling.proofs.Branches.{obeys_mapped}
 use Rattle.xa_atomicity.proofs.Fated.{decided_in}
 use Rattle.xa_atomicity.proofs.Guided.{IsGuided, at_last, decided_known, fates_from, voted_now, once}
 use Rattle.xa_atomicity.proofs.Leading.{Stands, over, unforgotten, waits}
 use Rattle.xa_tables.proofs.ValueLaw.{tables_after-append}
-use Rattle.xa_base.specs.Lists.Chain.{none as no_step, more as one_step}
+use Rattle.xa_base.specs.Lists.Chain.{more as one_step}
 use Rattle.xa_calls.specs.Asking.{◌>>=◌}
 use Rattle.xa_calls.specs.{Asked as WantedOp, op_by, asked_of, rm_op, Recovers, RecoversBy}
 use Rattle.xa_calls.specs.Scans.{Asking}
@@ -44,7 +42,7 @@ use Rattle.xa_transcript.specs.{Answer as Answered}
 use Rattle.xa_telling.specs.Wants.Wanted.{code_of, handle_for}
 use Rattle.xa_shown.proofs.Adds.{Adds, TaskSo, adds_both, adds_none, op_in, takes_add}
 use Rattle.xa_atomicity.proofs.CutSends.{Unnamed, second_unnamed, outcome_unnamed, third_unnamed}
-use Rattle.xa_shown.specs.{branches_by, is_among, names_it, Place, AreNamedByNoOther, NamesNone, entered_so_far}
+use Rattle.xa_shown.specs.{branches_by, is_among, names_it, LinePlace, AreNamedByNoOther, NamesNone}
 use Rattle.xa_session.specs.{branches_of}
 
 -- the code isn't XAER_RMFAIL
@@ -148,29 +146,34 @@ module _ (law : Tabled) (s : Settling) (settled : IsSettled s) (t m : ℕ) (T : 
       (rw (w.2 ∙ is_rm_fail_so c fails) at (entry_at k w.0 there))
       (entry_at (length old) e (next_there es old rest e (sym place)))
 
-  asked_so : (old new : List Entry) (op : Op) (c : Code) → CarriesOut t old op new c → Unit {0} → Begins new es
+  asked_so : (old new : List Entry) (op : Op) (c : Code) → CarriesOut t old op new c → Begins new es
       → AsksIn t T (history_of s m) (entered old) op (entered new) c
-  asked_so old new op c (carried is) q grown =
+  asked_so old new op c (carried is) grown =
       let e : Entry = next_entry t old op c in
       let place : es ≡ old ++ e ∷ grown.0 = grown.1 ∙ ap (λ l. l ++ grown.0) is ∙ append_assoc old (e ∷ []) grown.0 in
       asks (entry_at (length old) e (next_there es old grown.0 e (sym place))) (fails_then old grown.0 e place) (ap entered is ∙ entered_more old e)
-  asked_so old new op c (withheld fails shut same) q grown =
+  asked_so old new op c (withheld fails shut same) grown =
       withholds (list_any-from_Any is_rm_fail (codes_in old) (shut.0, RmFail, shut.1, shut.2, refl)) fails (ap entered same)
 
-  began : (old new : List Entry) (op : Op) (c : Code) → CarriesOut t old op new c → Begins new es → Begins old es
-  began old new op c is grown = begins_on old new es (carry_begins t old new op c is) grown
+  entered_over : Morphism Any (CarriesOut t) (AsksIn t T (history_of s m)) entered (λ l. Unit {0}) (λ l. Begins l es)
+  entered_over = record {
+    each = λ old new op c _ is. record {
+      on = λ q. q;
+      back = begins_on old new es (carry_begins t old new op c is);
+      over = λ _ grown. asked_so old new op c is grown;
+    };
+  }
 
   pub branch_entered : (commit : Bool) (b : Branch) (v : Code) (z : Option Code) (e : Ending) (old new : List Entry)
       → AtBranch (CarriesOut t) commit b v z e old new → Begins new es → AtBranch (AsksIn t T (history_of s m)) commit b v z e (entered old) (entered new)
   branch_entered commit b v z e old new is grown =
-      branch_mapped (CarriesOut t) (AsksIn t T (history_of s m)) entered (λ l. Unit {0}) (λ l. Begins l es) (λ d z op c asked q. tt) began asked_so commit b v z e old new is tt grown
+      (branch_mapped entered_over commit b v z e old new is (any_asked (second_op commit b.xid v)) (any_asked (third_op b.xid z)) tt).over tt grown
 
   pub obeys_entered : (commit : Bool) (b : Branch) (v : Code) (z : Option Code) (e : Ending) (old new : List Entry)
       → VotesAndObeys (CarriesOut t) commit b v z e old new → Begins new es
       → VotesAndObeys (AsksIn t T (history_of s m)) commit b v z e (entered old) (entered new)
   obeys_entered commit b v z e old new is grown =
-      obeys_mapped (CarriesOut t) (CarriesOutSome t) (AsksIn t T (history_of s m)) (λ d op z. (c : Code) × AsksIn t T (history_of s m) d op z c) entered (λ l. Unit {0}) (λ l. Begins l es) (λ d z op c asked q. tt) began
-      (λ d z op puts p. began d z op puts.0 puts.1 p) asked_so (λ d z op puts q p. (puts.0, asked_so d z op puts.0 puts.1 q p)) commit b v z e old new is tt grown
+      (obeys_mapped entered_over commit b v z e old new tt (any_asked (second_op commit b.xid v)) is).over tt grown
 
 -- what became of a branch that nobody but its commit named, unless in heuristic decisions
 module _ {t : ℕ} {T : Tables} {H : History} (site : Site t T H) (x : XidName) (n last : ℕ) (only : OnlyTheseOrDecisionsName x t n last H)
@@ -188,17 +191,17 @@ module _ {t : ℕ} {T : Tables} {H : History} (site : Site t T H) (x : XidName) 
   StandsAs commit f0 = Stands commit true (Unit {0}) ⊥ (state_of (tables_after H T) x) (fate x f0 H T)
 
   stands_as : (commit : Bool) (f0 : Fate) → StandsAs commit f0
-  stands_as commit f0 = (at_last site.law commit (Unit {0}) ⊥ t n x T H site.opening f.before f.after f.place (sym f.code) (guide commit) tt f0).stands
+  stands_as commit f0 = (at_last site commit (Unit {0}) ⊥ f (guide commit) tt f0).stands
 
   by_fate : (f0 : Fate) (d : HeuristicDecision) → fate x f0 H T ≡ decided_fate d → IsDecidedAfter x t n T H
   by_fate f0 d is =
       let now : Tables = (next t (Prepare x) (tables_after f.before T)).0 in
       let all : history.InDoubt ∷ fates x f.after now ≡ history.InDoubt ∷ once (fate x f0 H T) =
-      ap (λ o. cons_option o (fates x f.after now)) (sym (voted_now site.law true (Unit {0}) ⊥ t n x T H site.opening f.before f.after f.place (sym f.code) (guide true)))
-      ∙ fates_from site.law true (Unit {0}) ⊥ t n x T H site.opening f.before f.after f.place (sym f.code) (guide true) tt f0 in
+      ap (λ o. cons_option o (fates x f.after now)) (sym (voted_now site true (Unit {0}) ⊥ f (guide true)))
+      ∙ fates_from site true (Unit {0}) ⊥ f (guide true) tt f0 in
       let tail : fates x f.after now ≡ once (fate x f0 H T) = cc in
       let one : once (fate x f0 H T) ≡ decided_fate d ∷ [] = ap once is ∙ ap (λ b. if b then [] else decided_fate d ∷ []) (decided_known d) in
-      decided_in t n x T H f.before f.after f.place f.after [] (sym (append-nil f.after)) heuristics_after d (tail ∙ one)
+      decided_in f f.after [] (sym (append-nil f.after)) heuristics_after d (tail ∙ one)
 
   -- it is in doubt, or such a decision is its fate
   abbrev pub Became : Fate → Type 0
@@ -283,9 +286,9 @@ takes_leaves settled action.Resolve t a old new is = search (arith, rules)
 -- line by line
 pub lines_leave : (settled : Settling) (first : Part) (ls : List Line) (last : Part) → Chain (TakesPart settled) first ls last
     → last.scan.left ≡ first.scan.left
-lines_leave settled first ls last (no_step xs end e f) = ap (λ (p : Part). p.scan.left) f
-lines_leave settled first ls last (one_step xs x now end before step) =
-    takes_leaves settled x.task.action x.task.thread x.answer now end step ∙ lines_leave settled first xs now before
+lines_leave settled first ls last runs =
+    along (λ (p : Part). p.scan.left ≡ first.scan.left) first ls last runs
+    (λ x now next step same. takes_leaves settled x.task.action x.task.thread x.answer now next step ∙ same) refl
 
 -- another xid
 differs_so : (x y : XidName) → xid_eq y x ≡ false → y ≢ x
@@ -312,12 +315,13 @@ module _ (settled : Settling) (b : Branch) where
   -- so lines that don't name it
   pub lines_unnamed : (z : ScanView) (first : Part) (ls : List Line) (last : Part) → Chain (TakesPart settled) first ls last → Same z first
       → All (λ l. names_it z b l.task.action ≡ false) ls → (AddsUnnamed b.xid) (first.entries b.m) (last.entries b.m)
-  lines_unnamed z first ls last (no_step xs end e f) same quiet = search (arith, adds_none, first.entries, end.entries)
-  lines_unnamed z first ls last (one_step xs x now end before step) same quiet =
-      adds_both (Unnamed b.xid) (first.entries b.m) (now.entries b.m) (end.entries b.m)
-      (lines_unnamed z first xs now before same (all_left (λ (l : Line). names_it z b l.task.action ≡ false) xs (x ∷ []) quiet))
-      (takes_add (Unnamed b.xid) (λ x. refl) b.m settled x.task.action x.task.thread x.answer now end
-      (task_unnamed now.scan x.task.action (names_same now.scan z x.task.action (lines_leave settled first xs now before ∙ same) (all_mid (λ (l : Line). names_it z b l.task.action ≡ false) xs [] x quiet))) step)
+  lines_unnamed z first ls last runs same quiet =
+      (along_all (λ (l : Line). names_it z b l.task.action ≡ false) (λ p. Same z p × AddsUnnamed b.xid (first.entries b.m) (p.entries b.m)) first ls last runs quiet
+      (λ x now next still step so_far. (
+        takes_leaves settled x.task.action x.task.thread x.answer now next step ∙ so_far.0,
+        adds_both (Unnamed b.xid) (first.entries b.m) (now.entries b.m) (next.entries b.m) so_far.1
+            (takes_add (Unnamed b.xid) (λ x. refl) b.m settled x.task.action x.task.thread x.answer now next (task_unnamed now.scan x.task.action (names_same now.scan z x.task.action so_far.0 still)) step),
+      )) (same, adds_none (Unnamed b.xid) (first.entries b.m) (first.entries b.m) refl)).1
 
 -- ---- one manager
 
@@ -367,7 +371,7 @@ module _ (s : Settling) (settled : IsSettled s) (m : ℕ) where
 -- ---- all branches
 
 pub left_alone : (s : Content) (beg : Beginning) (o : Opening) (tells : TellsOf s beg o) (c : CommitAll TranName) (before : List Line) (l : Line) (after : List Line) (old new : Part)
-    → Place (tells.carried l.task.thread) before l after old new → AreNamedByNoOther o.steps beg.scans l.task.thread (branches_of c) after
+    → LinePlace (tells.carried l.task.thread) before l after old new → AreNamedByNoOther o.steps beg.scans l.task.thread (branches_of c) after
     → AreLeftAlone o.settled l.task.thread (branches_of c) (entered_so_far old) (entered_so_far new)
 left_alone s beg o tells c before l after old new place named =
     let t : ℕ = l.task.thread in

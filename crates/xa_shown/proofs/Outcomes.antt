@@ -1,4 +1,4 @@
--- What a line shows stands in the journals. And all branches of a commit: what the line shows of them became of them.
+-- What a line of a commit shows of its branches became of them, and stands in the journals.
 use Rattle.xa_base.proofs.{none_all, both_ways, true_from_ne_false, arith, rules, ◌≡◌, ℕ, Bool, true, false, ◌||◌, List, [], Option, sym, refl, ap, ◌∙◌}
 use Rattle.xa_base.proofs.{slice_index_or, All, list_any, ◌&&◌, None, get_or, Global, Vec, ◌⊎◌, is_some, not, or-true, and_parts, drop, drop-cons, take}
 use Rattle.xa_base.proofs.{take-append-drop, at_true, not-true, eq-eqb, pos, ◌∷◌, ◌++◌, length, Some, zero, suc, ◌<◌, slice_get, Contains, filter}
@@ -21,11 +21,12 @@ use Rattle.xa_session.specs.{branches_of, named}
 use Rattle.xa_grammar.specs.{CommitAll, ScriptStep, ScriptCalled}
 use Rattle.xa_transcript.specs.{Told, Answer, Called as shown}
 use Rattle.xa_telling.specs.{Part, CarriesOut, Decides, Line, TakesPart, AreCarriedOut, entries_of, CarriesOutSome, LosesSight, StopsAt, wanted_in, refusals}
-use Rattle.xa_telling.specs.{next_entry, CallTakes, CommitTakes, IsInJournal, IsCarriedOut, ShowsCommit, AreCommitted, ArePrepared, AddsNoCommit}
-use Rattle.xa_shown.specs.{IsOneOutcome, ShowsOneOutcome, IsAsShown, CountsAsShown, entered_so_far, GoesByTheRecord, ShowsDeath, ShowsUndecided}
-use Rattle.xa_shown.proofs.Adds.{adds_no, Adds, loses_adds, stops_adds, place_adds, places, adds_none, carries_on, decides_adds}
+use Rattle.xa_telling.specs.{next_entry, CallTakes, CommitTakes, IsInJournal, IsCarriedOut, ShowsCommit, AreCommitted, ArePrepared, AddsNone, entered_so_far}
+use Rattle.xa_shown.specs.{IsOneOutcome, ShowsOneOutcome, IsAsShown, CountsAsShown, GoesByTheRecord, ShowsDeath, ShowsUndecided}
+use Rattle.xa_shown.proofs.Adds.{adds_no, Adds, loses_adds, stops_adds, place_adds, places, carries_adds, decides_adds}
 use Rattle.xa_shown.proofs.Became.{entered, branch_entered}
-use Rattle.xa_driver.proofs.Mapped.{Any, any_asked, for_by, rest_by}
+use Rattle.xa_calls.proofs.Morphisms.{Keeps, keeps}
+use Rattle.xa_driver.proofs.Mapped.{Any, any_asked, for_mapped, rest_mapped}
 use Rattle.xa_calls.specs.Scans.{Asking}
 use Rattle.xa_log.specs.{LogState, record_of}
 use Rattle.xa_atomicity.proofs.CutSends.{NotToCommit, decided_so as logged_so, no_commit_so, no_rollback_so, undecided_so}
@@ -84,9 +85,8 @@ carried_out t o c old new (carried is) other = put_there t o c old new is
 carried_out t o c old new (withheld fails shut same) other = absurd (let z : true ≡ false = sym (ap is_rm_fail fails) ∙ other in cc)
 
 -- and what a branch has stays, whatever else it is asked
-stays_there : (t u : ℕ) (p : Op) (d : Code) (old new : List Entry) (o : Op) (c : Code) → Any o → CarriesOut u old o new c → HasEntry t p d old
-    → HasEntry t p d new
-stays_there t u p d old new o c so is has = still_has t p d old new (carries_on Any u old old new o c tt is (adds_none Any old old refl)) has
+entry_stays : (t : ℕ) (p : Op) (d : Code) → Keeps Any (CarriesOut t) (HasEntry t p d)
+entry_stays t p d = keeps (CarriesOut t) Any (HasEntry t p d) (λ old new o c so is. still_has t p d old new (carries_adds Any t old new o c so is))
 
 -- ---- a branch that ends as committed
 
@@ -107,7 +107,7 @@ branch_commits t commit b v s e old new is told =
     let heard : s ≡ Some Done = committed_done s (sym (at_true (is_yes v) _ _ voted) ∙ ap (λ c. ending_of c v s) (sym commits) ∙ sym is.ends ∙ told) in
     let op : second_op commit b.xid v ≡ Some (Commit b.xid false) = ap (λ c. second_op c b.xid v) commits ∙ at_true (is_yes v) _ None voted in
     let obeyed : CarriesOut t is.prepared (Commit b.xid false) is.decided Done = search (arith, is.prepared, b.xid) in
-    for_by (CarriesOut t) Any (HasEntry t (Commit b.xid false) Done) (stays_there t t (Commit b.xid false) Done) (third_op b.xid s) is.third is.decided new (any_asked (third_op b.xid s)) is.forgets
+    (for_mapped (entry_stays t (Commit b.xid false) Done) (third_op b.xid s) is.third is.decided new (any_asked (third_op b.xid s)) is.forgets).on
     (carried_out t (Commit b.xid false) Done is.prepared is.decided obeyed refl)
 
 -- ---- a branch that didn't vote against
@@ -118,7 +118,7 @@ not_shut v e = grind arith
 branch_prepared : (t : ℕ) (commit : Bool) (b : Branch) (v : Code) (s : Option Code) (e : Ending) (old new : List Entry)
     → AtBranch (CarriesOut t) commit b v s e old new → is_no v ≡ false → HasEntry t (Prepare b.xid) v new
 branch_prepared t commit b v s e old new is vote =
-    rest_by (CarriesOut t) Any (HasEntry t (Prepare b.xid) v) (stays_there t t (Prepare b.xid) v) commit b v s e old new is (any_asked (second_op commit b.xid v)) (any_asked (third_op b.xid s))
+    (rest_mapped (entry_stays t (Prepare b.xid) v) commit b v s e old new is (any_asked (second_op commit b.xid v)) (any_asked (third_op b.xid s))).on
     (carried_out t (Prepare b.xid) v old is.prepared is.prepares (not_shut v vote))
 
 pub none_against : (votes : List Code) (logged : Bool) → decision_of votes logged ≡ true → list_any is_no votes ≡ false
@@ -215,11 +215,11 @@ module _ (steps : List ScriptStep) (answers : List Told) (settled : Settling) (t
 
 -- a commit that aborts
 pub aborts_commit_none : (t : ℕ) (c : CommitAll TranName) (done : Outcome) (old new : Part) → Decides t c done old new → done.commit ≡ false → (m : ℕ)
-    → AddsNoCommit (old.entries m) (new.entries m)
+    → AddsNone is_commit (old.entries m) (new.entries m)
 aborts_commit_none t c done old new is aborts m =
     adds_no is_commit (old.entries m) (new.entries m) (decides_adds IsNoCommit m t c done old new (λ k d lt. record {
       prepares = λ here. refl;
-      obeys = λ here v. rw aborts (second_so IsNoCommit false (get_or (branches_of c) k d).xid v refl);
+      obeys = λ here v w. rw aborts (second_so IsNoCommit false (get_or (branches_of c) k d).xid v refl);
       forgets = λ here s. third_so IsNoCommit (get_or (branches_of c) k d).xid s (λ _. refl);
     }) is)
 
@@ -401,6 +401,7 @@ death_by_record t c at known old new is =
           λ off m. adds_no is_commit (old.entries m) (new.entries m) (stops_adds IsNoCommit (NotToCommit known.commit) m t c at known old new (λ k d lt. record {
             prepares = λ here. refl;
             obeys = λ here v w. no_commit_so known.commit (get_or bs k d).xid v w IsNoCommit (λ op e. e);
+            forgets = λ here s. third_so IsNoCommit (get_or bs k d).xid s (λ _. refl);
           }) (votes_fit (named c) bs log later known is.unlogged A U old.entries new.entries at is.course.far off) is);
       uncommitted = λ off. endings_out A U (named c) bs old.entries new.entries log later known is.unlogged at is.course.far off;
       unopposed = λ on.
@@ -408,6 +409,7 @@ death_by_record t c at known old new is =
       kept = λ on m. adds_no is_rollback (old.entries m) (new.entries m) (stops_adds IsNoRollback (λ v. Unit {0}) m t c at known old new (λ k d lt. record {
         prepares = λ here. refl;
         obeys = λ here v w. no_rollback_so known.commit (get_or bs k d).xid v (decision_so (named c) bs log later known is.unlogged A U old.entries new.entries at is.course.far on).0 IsNoRollback (λ op e. e);
+        forgets = λ here s. third_so IsNoRollback (get_or bs k d).xid s (λ _. refl);
       }) (λ k d lt. tt) is);
       committed = λ on. endings_kept A U (named c) bs old.entries new.entries log later known is.unlogged at is.course.far on;
     }

@@ -11,7 +11,8 @@ use Rattle.xa_switch.specs.{Settling, IsSettled, journal, IsOpenedWith, history 
 use Rattle.xa_calls.specs.Scans.{Asking}
 use Rattle.xa_driver.specs.{Branch, Done as Outcome, Ending, Committed, RolledBack, AsksFor, CameTo, HaveAsked, HaveTold, IsDecidedBy, Tells, VotesAndObeys}
 use Rattle.xa_driver.specs.{to_come, is_yes, ending_of, second_op}
-use Rattle.xa_driver.proofs.Mapped.{any_asked, for_by, Any}
+use Rattle.xa_calls.proofs.Morphisms.{keeps}
+use Rattle.xa_driver.proofs.Mapped.{any_asked, each_so, for_mapped, Any}
 use Rattle.xa_log.specs.{LogState, record_of}
 use Rattle.xa_atomicity.specs.{is_recorded, AreLeftAlone, AreLeftOrDecided, OnlyTheseName, OnlyTheseOrDecisionsName, WasAtFirst, is_heuristic, is_in_doubt}
 use Rattle.xa_atomicity.specs.{is_left, told_fate, ended_as, Tabled}
@@ -23,11 +24,9 @@ use Rattle.xa_atomicity.proofs.Settled.{decided_alike, Fated, InHistory, one_fat
 use Rattle.xa_atomicity.proofs.Sites.{StandsIn}
 use Rattle.xa_grammar.specs.{CommitAll}
 use Rattle.xa_session.specs.{branches_of, named}
-use Rattle.xa_telling.specs.{Part, next_entry, CarriesOut, CarriesOutSome, LosesSight, StopsAt, entries_of}
+use Rattle.xa_telling.specs.{Part, next_entry, CarriesOut, CarriesOutSome, LosesSight, StopsAt, entries_of, entered_so_far}
 use Rattle.xa_telling.specs.Commits.CarriesOut.{carried, withheld}
-use Rattle.xa_telling.proofs.Branches.{asked_so, each_so}
-use Rattle.xa_shown.specs.{entered_so_far, EndByTheRecord, EndsByTheRecord, EndSoOrAreDecided, EndsSoOrIsDecided, HasAgreed, IsAsFarAsShown}
-use Rattle.xa_shown.specs.{IsAsFarUnlessDecided, are_told_by}
+use Rattle.xa_shown.specs.{EndByTheRecord, EndsByTheRecord, EndSoOrAreDecided, EndsSoOrIsDecided, HasAgreed, IsAsFarAsShown, IsAsFarUnlessDecided, are_told_by}
 use Rattle.xa_shown.specs.Unfinished.EndsByTheRecord.{ends, doubts}
 use Rattle.xa_shown.specs.Unfinished.EndsSoOrIsDecided.{decided, ends_so}
 use Rattle.xa_shown.proofs.Adds.{Adds}
@@ -44,8 +43,9 @@ module _ (t : ℕ) (old new : ℕ → List Entry) where
   IsPut b = (v : Code) × CarriesOut t (old b.m) (Prepare b.xid) (new b.m) v
 
   pub asked_each : (bs : List Branch) (vs : List Code) → HaveAsked A (CarriesOutSome t) bs vs old new → All IsPut bs
-  asked_each bs vs h =
-      (asked_so A (CarriesOutSome t) A (CarriesOutSome t) (λ b. Unit {0}) IsPut old new old new (λ b v _ is. (is, (v, is))) (λ b _ is. (is, is)) bs vs (λ k d lt. tt) h).1
+  asked_each [] vs h = All-nil IsPut
+  asked_each (b ∷ bs) [] h = All-cons IsPut b bs h.0 (asked_each bs [] h.1)
+  asked_each (b ∷ bs) (v ∷ vs) h = All-cons IsPut b bs (v, h.0) (asked_each bs vs h.1)
 
   -- A branch was told the decision, whoever learnt its answer; W holds of its vote.
   pub record Heard (W : Code → Type 0) (commit : Bool) (b : Branch) : Type 0 where
@@ -157,8 +157,8 @@ module _ (law : Tabled) (opens : (s : Settling) (m : ℕ) → IsSettled s → (T
 
         done : v ≡ Done
         done =
-            by_vote is.prepares (for_by (CarriesOut t) Any (Begins is.prepared) (λ d e op c _ asks more. begins_on is.prepared d e more (carry_begins t d e op c asks))
-            (second_op commit b.xid v) z is.prepared (new.entries b.m) (any_asked (second_op commit b.xid v)) is.obeys (same_begins is.prepared))
+            by_vote is.prepares ((for_mapped (keeps (CarriesOut t) Any (Begins is.prepared) (λ d e op c _ asks more. begins_on is.prepared d e more (carry_begins t d e op c asks)))
+            (second_op commit b.xid v) z is.prepared (new.entries b.m) (any_asked (second_op commit b.xid v)) is.obeys).on (same_begins is.prepared))
           where
             none_added : new.entries b.m ≡ old.entries b.m → ⊥
             none_added same = search (arith, slice_get, slice_get_past)
@@ -196,7 +196,7 @@ module _ (law : Tabled) (opens : (s : Settling) (m : ℕ) → IsSettled s → (T
     heard_plain : (commit recorded : Bool) → Heard t old.entries new.entries (ByRecord commit recorded) commit b → IsPlain
     heard_plain commit recorded h =
         let open_ = opens s b.m settled in
-        own_plain (site_of law s settled t b.m open_.0 open_.1) b.xid n last h.vote commit h.ending (went commit h.vote h.second h.ending h.obeys open_.0 open_.1).0
+        own_plain (went commit h.vote h.second h.ending h.obeys open_.0 open_.1).0
 
     -- so where nobody else names it, no decision of it was carried out
     undecided_so : OnlyTheseName b.xid t n last H → IsPlain → (recorded told : Bool) (before : Fate) → EndsSoOrIsDecided s t b n recorded told before

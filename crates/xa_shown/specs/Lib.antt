@@ -1,8 +1,8 @@
-pub mod Outcomes
+pub mod Shown
 pub mod Unfinished
 -- The words of this crate, by its name.
-pub use Outcomes.{AreNamedByNoOther, CountsAsShown, IsAsShown, IsOneOutcome, IsSumOfShares, NamesNone, Place}
-pub use Outcomes.{ShowsOneOutcome, branches_by, entered_so_far, is_among, names_it}
-pub use Unfinished.{AddsNoRollback, EndByTheRecord, EndSoOrAreDecided, EndsByTheRecord, EndsSoOrIsDecided}
+pub use Shown.{AreNamedByNoOther, CountsAsShown, IsAsShown, IsOneOutcome, IsSumOfShares, NamesNone, LinePlace}
+pub use Shown.{ShowsOneOutcome, branches_by, is_among, names_it}
+pub use Unfinished.{EndByTheRecord, EndSoOrAreDecided, EndsByTheRecord, EndsSoOrIsDecided}
 pub use Unfinished.{GoesByTheRecord, HasAgreed, IsAsFarAsShown, IsAsFarUnlessDecided, ShowsDeath, ShowsUndecided}
 pub use Unfinished.{are_told_by}

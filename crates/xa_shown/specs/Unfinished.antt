@@ -1,23 +1,23 @@
 -- What became of the branches of a commit that came to no end, by the line that shows it: its coordinator died, or an
 -- append of its record had an unknown end.
-use Rattle.std.specs.Prelude.{◌≡◌, ℕ, ◌+◌, Bool, true, false, Some, All, List, Vec, ◌++◌, length, slice_get}
+use Rattle.std.specs.Prelude.{◌≡◌, ℕ, ◌+◌, Bool, true, false, Some, All, List, Vec, length, slice_get}
 use Rattle.std.specs.Global.{Global}
 use Rattle.std.specs.List.{list_any}
 use Rattle.xa_words.specs.Tran.{TranName}
 use Rattle.xa_words.specs.declared.code.Code.{Code}
 use Rattle.xa_words.specs.declared.code.Code.TheVariants.{Done as OK}
 use Rattle.xa_words.specs.declared.death.Death.{Death}
-use Rattle.xa_words.specs.declared.death.Death.TheVariants.{Preparing, Prepared, Decided, Telling, Told}
+use Rattle.xa_words.specs.declared.death.Death.TheVariants.{Telling, Told}
 use Rattle.xa_words.specs.declared.request.Op.TheVariants.{Prepare}
 use Rattle.xa_tables.specs.Histories as history
 use Rattle.xa_tables.specs.declared.state.HeuristicDecision.{HeuristicDecision}
 use Rattle.xa_tables.specs.Histories.{Fate, decided_fate}
-use Rattle.xa_worker.specs.Journal.{Entry}
 use Rattle.xa_switch.specs.Settled.{Settling}
 use Rattle.xa_switch.specs.Fates.{history as history_of, settled_fate}
 use Rattle.xa_driver.specs.declared.branch.Branch.{Branch}
 use Rattle.xa_driver.specs.declared.done.Done.{Done}
 use Rattle.xa_driver.specs.declared.done.Ending.{Ending}
+use Rattle.xa_driver.specs.Commits.{is_commit}
 use Rattle.xa_driver.specs.Decision.{is_no}
 use Rattle.xa_atomicity.specs.Cut.{is_recorded, is_rollback}
 use Rattle.xa_atomicity.specs.Outcomes.{IsAfterShut, WasAtFirst, WasDecidedAfter, is_committed, is_rolled_back}
@@ -27,8 +27,8 @@ use Rattle.xa_grammar.specs.declared.step.Action.TheVariants as action
 use Rattle.xa_transcript.specs.declared.answer.Answer.TheVariants as answer
 use Rattle.xa_session.specs.Committing.{branches_of, named}
 use Rattle.xa_telling.specs.Parts.{Part, next_entry}
-use Rattle.xa_telling.specs.Journals.{Line, AddsNoCommit}
-use Rattle.xa_shown.specs.Outcomes.{CountsAsShown, IsAsShown}
+use Rattle.xa_telling.specs.Journals.{AddsNone, Line}
+use Rattle.xa_shown.specs.Shown.{CountsAsShown, IsAsShown}
 
 -- ---- what the line shows
 
@@ -44,31 +44,25 @@ pub record ShowsUndecided (l : Line) (c : CommitAll TranName) (votes : Vec Code 
 
 -- ---- by the line alone
 
--- Something was added, and no Rollback among it.
-abbrev pub AddsNoRollback : List Entry → List Entry → Type 0
-AddsNoRollback old new = (more : List Entry) × (new ≡ old ++ more) × (list_any (λ e. is_rollback e.0.op) more ≡ false)
-
 -- A commit that shows these votes and these endings goes by the record that its thread's log has, or turns out to have,
 -- after the line.
 pub record GoesByTheRecord (tran : TranName) (votes : List Code) (endings : List Ending) (old new : Part)
     : Type 0 where
   -- without one, it added no Commit to any journal, and shows no branch as committed
-  pub unsent : is_recorded new.log tran ≡ false → (m : ℕ) → AddsNoCommit (old.entries m) (new.entries m)
+  pub unsent : is_recorded new.log tran ≡ false → (m : ℕ) → AddsNone is_commit (old.entries m) (new.entries m)
   pub uncommitted : is_recorded new.log tran ≡ false → list_any is_committed endings ≡ false
   -- with one, no vote was against, it added no Rollback, and shows no branch as rolled back
   pub unopposed : is_recorded new.log tran ≡ true → list_any is_no votes ≡ false
-  pub kept : is_recorded new.log tran ≡ true → (m : ℕ) → AddsNoRollback (old.entries m) (new.entries m)
+  pub kept : is_recorded new.log tran ≡ true → (m : ℕ) → AddsNone is_rollback (old.entries m) (new.entries m)
   pub committed : is_recorded new.log tran ≡ true → list_any is_rolled_back endings ≡ false
 
 -- ---- what became of its branches
 
 -- The branches were told the decision before their coordinator died at this point.
 abbrev pub are_told_by : Death → Bool
-are_told_by (Preparing k) = false
-are_told_by Prepared = false
-are_told_by Decided = false
 are_told_by (Telling k) = true
 are_told_by Told = true
+are_told_by other = false
 
 -- The branch voted to commit: what the line added first to thread t's entries in the journal of its manager is its
 -- Prepare, with XA_OK.

@@ -8,6 +8,7 @@
 ghost use Rattle.std.specs.Prelude.{◌≡◌, ℕ, List, All, Vec, false, [], ◌++◌, ◌∷◌};
 ghost use Rattle.std.specs.Global.{Global};
 ghost use Rattle.xa_switch.specs.Settled.{Settling};
+ghost use Rattle.xa_driver.specs.Commits.{is_commit};
 ghost use Rattle.xa_driver.specs.declared.done.Done.{Done};
 ghost use Rattle.xa_words.specs.declared.code.Code.{Code};
 ghost use Rattle.xa_words.specs.declared.death.Death.{Death};
@@ -21,13 +22,14 @@ ghost use Rattle.xa_telling.specs.Parts.{Part};
 ghost use Rattle.xa_telling.specs.Commits.{Decides};
 ghost use Rattle.xa_telling.specs.Journals.{TakesPart};
 ghost use Rattle.xa_telling.specs.Journals.{Line, AreCarriedOut, IsCarriedOut, ShowsCommit, AreCommitted};
-ghost use Rattle.xa_telling.specs.Journals.{ArePrepared, AddsNoCommit};
+ghost use Rattle.xa_telling.specs.Journals.{AddsNone, ArePrepared};
 ghost use Rattle.xa_telling.specs.ToldOpenings.{Beginning, Opening, Former, TellsOf, Tells};
 ghost use Rattle.xa_grammar.specs.Steps.{ScriptStep};
 ghost use Rattle.xa_atomicity.specs.Cut.{is_recorded};
 ghost use Rattle.xa_atomicity.specs.Outcomes.{AreLeftAlone, AreLeftOrDecided};
-ghost use Rattle.xa_shown.specs.Outcomes.{Place, entered_so_far, AreNamedByNoOther};
-ghost use Rattle.xa_shown.specs.Outcomes.{ShowsOneOutcome, IsAsShown, CountsAsShown, IsSumOfShares};
+ghost use Rattle.xa_shown.specs.Shown.{LinePlace, AreNamedByNoOther};
+ghost use Rattle.xa_telling.specs.Parts.{entered_so_far};
+ghost use Rattle.xa_shown.specs.Shown.{ShowsOneOutcome, IsAsShown, CountsAsShown, IsSumOfShares};
 ghost use Rattle.xa_shown.specs.Unfinished.{EndByTheRecord, EndSoOrAreDecided, GoesByTheRecord, IsAsFarAsShown};
 ghost use Rattle.xa_shown.specs.Unfinished.{IsAsFarUnlessDecided, ShowsDeath, ShowsUndecided};
 
@@ -57,7 +59,7 @@ pub fn what_commits_was_prepared()
 /// A line that shows that a transaction aborts adds no Commit to any journal.
 pub fn what_aborts_adds_no_commit()
     ensures { (t : ℕ) (c : CommitAll TranName) (done : Done) (old new : Part) → Decides t c done old new
-        → done.commit ≡ false → (m : ℕ) → AddsNoCommit (old.entries m) (new.entries m) }
+        → done.commit ≡ false → (m : ℕ) → AddsNone is_commit (old.entries m) (new.entries m) }
 {}
 
 /// Where a line shows `commit` none of its branches is shown as rolled back, and where it shows `abort` none
@@ -71,7 +73,7 @@ pub fn one_outcome_is_shown()
 pub fn lines_have_their_places()
     ensures { (steps : List ScriptStep) (answers : List Told) (settled : Settling) (t : ℕ) (first : Part)
         (told : AreCarriedOut steps answers settled t first) (before : List Line) (l : Line) (after : List Line)
-        → told.lines ≡ before ++ l ∷ after → (old : Part) × (new : Part) × Place told before l after old new }
+        → told.lines ≡ before ++ l ∷ after → (old : Part) × (new : Part) × LinePlace told before l after old new }
 {}
 
 /// All of a transaction or nothing, by what a transcript tells: where no line but that of its commit names a
@@ -81,12 +83,12 @@ pub fn lines_have_their_places()
 pub fn branches_are_as_shown()
     ensures decisions { (s : Content) (b : Beginning) (o : Opening) (tells : TellsOf s b o) (c : CommitAll TranName)
         (done : Done) (before : List Line) (l : Line) (after : List Line) (old new : Part)
-        → Place (tells.carried l.task.thread) before l after old new → ShowsCommit l c done
+        → LinePlace (tells.carried l.task.thread) before l after old new → ShowsCommit l c done
         → AreLeftOrDecided o.settled l.task.thread (branches_of c) (entered_so_far old) (entered_so_far new)
         → IsAsShown o.settled l.task.thread (branches_of c) old done }
     ensures journals { (s : Content) (b : Beginning) (o : Opening) (tells : TellsOf s b o) (c : CommitAll TranName)
         (done : Done) (before : List Line) (l : Line) (after : List Line) (old new : Part)
-        → Place (tells.carried l.task.thread) before l after old new → ShowsCommit l c done
+        → LinePlace (tells.carried l.task.thread) before l after old new → ShowsCommit l c done
         → AreLeftAlone o.settled l.task.thread (branches_of c) (entered_so_far old) (entered_so_far new)
         → IsAsShown o.settled l.task.thread (branches_of c) old done
         × CountsAsShown o.settled l.task.thread (branches_of c) old done }
@@ -94,7 +96,7 @@ pub fn branches_are_as_shown()
         (done : Done) (before : List Line) (l : Line) (after : List Line)
         → (tells.carried l.task.thread).lines ≡ before ++ l ∷ after
         → ShowsCommit l c done → AreNamedByNoOther o.steps b.scans l.task.thread (branches_of c) after
-        → (old : Part) × (new : Part) × Place (tells.carried l.task.thread) before l after old new
+        → (old : Part) × (new : Part) × LinePlace (tells.carried l.task.thread) before l after old new
         × IsAsShown o.settled l.task.thread (branches_of c) old done
         × CountsAsShown o.settled l.task.thread (branches_of c) old done }
 {
@@ -123,35 +125,35 @@ pub fn unfinished_commits_go_by_the_record()
 pub fn branches_end_by_the_record()
     ensures decisions { (s : Content) (b : Beginning) (o : Opening) (tells : TellsOf s b o) (c : CommitAll TranName)
         (at : Death) (known : Done) (before : List Line) (l : Line) (after : List Line) (old new : Part)
-        → Place (tells.carried l.task.thread) before l after old new → ShowsDeath l c at known
+        → LinePlace (tells.carried l.task.thread) before l after old new → ShowsDeath l c at known
         → AreLeftOrDecided o.settled l.task.thread (branches_of c) (entered_so_far old) (entered_so_far new)
         → IsAsFarUnlessDecided o.settled l.task.thread c at known old new }
     ensures undecided_decisions { (s : Content) (b : Beginning) (o : Opening) (tells : TellsOf s b o)
         (c : CommitAll TranName) (votes : Vec Code Global) (before : List Line) (l : Line) (after : List Line)
-        (old new : Part) → Place (tells.carried l.task.thread) before l after old new → ShowsUndecided l c votes
+        (old new : Part) → LinePlace (tells.carried l.task.thread) before l after old new → ShowsUndecided l c votes
         → AreLeftOrDecided o.settled l.task.thread (branches_of c) (entered_so_far old) (entered_so_far new)
         → EndSoOrAreDecided o.settled l.task.thread (branches_of c) (is_recorded new.log (named c)) false old new }
     ensures journals { (s : Content) (b : Beginning) (o : Opening) (tells : TellsOf s b o) (c : CommitAll TranName)
         (at : Death) (known : Done) (before : List Line) (l : Line) (after : List Line) (old new : Part)
-        → Place (tells.carried l.task.thread) before l after old new → ShowsDeath l c at known
+        → LinePlace (tells.carried l.task.thread) before l after old new → ShowsDeath l c at known
         → AreLeftAlone o.settled l.task.thread (branches_of c) (entered_so_far old) (entered_so_far new)
         → IsAsFarAsShown o.settled l.task.thread c at known old new }
     ensures lines { (s : Content) (b : Beginning) (o : Opening) (tells : TellsOf s b o) (c : CommitAll TranName)
         (at : Death) (known : Done) (before : List Line) (l : Line) (after : List Line)
         → (tells.carried l.task.thread).lines ≡ before ++ l ∷ after
         → ShowsDeath l c at known → AreNamedByNoOther o.steps b.scans l.task.thread (branches_of c) after
-        → (old : Part) × (new : Part) × Place (tells.carried l.task.thread) before l after old new
+        → (old : Part) × (new : Part) × LinePlace (tells.carried l.task.thread) before l after old new
         × IsAsFarAsShown o.settled l.task.thread c at known old new }
     ensures undecided_journals { (s : Content) (b : Beginning) (o : Opening) (tells : TellsOf s b o)
         (c : CommitAll TranName) (votes : Vec Code Global) (before : List Line) (l : Line) (after : List Line)
-        (old new : Part) → Place (tells.carried l.task.thread) before l after old new → ShowsUndecided l c votes
+        (old new : Part) → LinePlace (tells.carried l.task.thread) before l after old new → ShowsUndecided l c votes
         → AreLeftAlone o.settled l.task.thread (branches_of c) (entered_so_far old) (entered_so_far new)
         → EndByTheRecord o.settled l.task.thread (branches_of c) (is_recorded new.log (named c)) false old new }
     ensures undecided_lines { (s : Content) (b : Beginning) (o : Opening) (tells : TellsOf s b o)
         (c : CommitAll TranName) (votes : Vec Code Global) (before : List Line) (l : Line) (after : List Line)
         → (tells.carried l.task.thread).lines ≡ before ++ l ∷ after
         → ShowsUndecided l c votes → AreNamedByNoOther o.steps b.scans l.task.thread (branches_of c) after
-        → (old : Part) × (new : Part) × Place (tells.carried l.task.thread) before l after old new
+        → (old : Part) × (new : Part) × LinePlace (tells.carried l.task.thread) before l after old new
         × EndByTheRecord o.settled l.task.thread (branches_of c) (is_recorded new.log (named c)) false old new }
 {
     tables_keep_to_their_laws();

@@ -1,15 +1,13 @@
 -- What a thread has sent to a manager and collected from it, as the manager's journal has it; and what its calls do to its desk.
-use Rattle.xa_base.proofs.{rules, ◌≡◌, ◌<◌, ◌≤◌, ℕ, Bool, List, [], ◌∷◌, length, None, Some, sym, ap, refl, arith, length-append, All, nat_cmp, All-push, by_if}
-use Rattle.xa_base.proofs.{◌+◌, ◌-◌, ⊎_elim, suc, true, false, cond, ◌==◌, ◌++◌, map, take, ◌∙◌, append_assoc, slice_get, if◌then◌else◌, Contains, cases_lt}
-use Rattle.xa_base.proofs.{length-map, All-contains, Contains-append_left, slice_get_within, slice_get-get_or, contains_at, got_map, one_more, was_mapped}
-use Rattle.xa_base.proofs.{by_bool, get_or-take, Contains-push, Any-from_list_any, get_or_from_slice_get, some_pair_parts}
-use Rattle.std.specs.FinMap as finmap
+use Rattle.xa_base.proofs.{rules, ◌≡◌, ◌<◌, ◌≤◌, ℕ, Bool, List, [], ◌∷◌, length, Some, sym, ap, refl, arith, length-append, All, All-push, by_if, ◌+◌, ◌-◌}
+use Rattle.xa_base.proofs.{⊎_elim, suc, true, false, cond, ◌==◌, ◌++◌, map, take, ◌∙◌, append_assoc, slice_get, if◌then◌else◌, Contains, cases_lt, length-map}
+use Rattle.xa_base.proofs.{All-contains, Contains-append_left, slice_get_within, slice_get-get_or, contains_at, got_map, one_more, was_mapped, by_bool}
+use Rattle.xa_base.proofs.{get_or-take, Contains-push, Any-from_list_any, get_or_from_slice_get, some_pair_parts}
 use Rattle.xa_words.specs.{Code, Op, RmFail, Request}
 use Rattle.xa_desk.specs.{Operation, HaveGrown, learnt_shut, with_sent, with_collected, IsKnown, IsOut, ledger, next_operation, after_sent, after_collected}
-use Rattle.xa_desk.specs.{submitted, after_fulls, Collects, TakesKept, LedgerView, DeskView, is_rm_fail, is_known, sent_to, collected_from, HasGrown, numbered}
-use Rattle.xa_desk.proofs.Ledgers.{growing_on, sending_grows, collecting_grows, put_each, known_true, past_end}
-use Rattle.xa_calls.specs.{CollectsRedeemed, put_refusal}
-use Rattle.xa_calls.proofs.Kept.{known_here, fulls_ledgers, fulls_kept}
+use Rattle.xa_desk.specs.{LedgerView, DeskView, is_rm_fail, is_known, sent_to, collected_from, HasGrown, numbered}
+use Rattle.xa_desk.proofs.Ledgers.{growing_on, sending_grows, collecting_grows, put_each, known_true, past_end, ledger-collected_same}
+use Rattle.xa_calls.proofs.Effects.{HasAsked}
 use Rattle.xa_driver.specs.{PutsLedger, AsksLedger}
 use Rattle.std.proofs.lemmas.List.{length-take-le}
 use Rattle.xa_base.specs.{Begins}
@@ -52,37 +50,22 @@ collecting_sound at o c out all n low =
     (collected_sound (ledger at o.manager) o.number c out.sent) n (all n low)
 
 -- what is collected sends nothing
-pub collecting_sends_none : (at : List LedgerView) (o : Operation) (c : Code) (m : ℕ) → (ledger (after_collected at o c) m).sent ≡ (ledger at m).sent
-collecting_sends_none at o c m = put_each (λ a b. b.sent ≡ a.sent) (λ a. refl) at o.manager (with_collected (ledger at o.manager) o.number c) refl m
+pub collecting_sends_none : (at new : List LedgerView) (o : Operation) (c : Code) → new ≡ after_collected at o c → (m : ℕ)
+    → (ledger new m).sent ≡ (ledger at m).sent
+collecting_sends_none at new o c is m =
+    rw is (put_each (λ a b. b.sent ≡ a.sent) (λ a. refl) at o.manager (with_collected (ledger at o.manager) o.number c) refl m)
 
--- ---- what is done at a desk
+-- what was collected last is among all that was
+pub collected_there : (pre now all : List (ℕ × Code)) (p : ℕ × Code) → now ≡ pre ++ p ∷ [] → Begins now all → Contains all p
+collected_there pre now all p is begins = rw begins.1 (Contains-append_left now begins.0 p (rw is (Contains-push pre p)))
 
-abbrev pub Handles : Type 0
-Handles = finmap.FinMap nat_cmp Operation
+pub collected_at : (at new last : List LedgerView) (o : Operation) (c : Code) → IsKnown at o.manager → new ≡ after_collected at o c
+    → Begins (ledger new o.manager).collected (ledger last o.manager).collected → Contains (ledger last o.manager).collected (o.number, c)
+collected_at at new last o c known is begins =
+    collected_there (ledger at o.manager).collected (ledger new o.manager).collected (ledger last o.manager).collected (o.number, c)
+    (ap (λ (l : List LedgerView). (ledger l o.manager).collected) is ∙ ap (λ (a : LedgerView). a.collected) (ledger-collected_same at o c known o.manager refl)) begins
 
-abbrev pub ledgers_at : DeskView → List LedgerView
-ledgers_at d = d.ledgers
-
-abbrev pub kept_at : DeskView → Handles
-kept_at d = d.kept
-
--- the ledgers and the handles stay
-abbrev pub Stays : DeskView → DeskView → Type 0
-Stays old new = (new.ledgers ≡ old.ledgers) × (new.kept ≡ old.kept)
-
-pub stays_same : (old new : DeskView) → new ≡ old → Stays old new
-stays_same old new e = (ap ledgers_at e, ap kept_at e)
-
--- manager m was asked: the request was sent and collected
-pub record HasAsked (m : ℕ) (op : Op) (c : Code) (old new : DeskView) : Type 0 where
-  pub known : IsKnown old.ledgers m
-  pub out : IsOut (after_sent old.ledgers m op) (next_operation old.ledgers m)
-  pub ledgers : new.ledgers ≡ after_collected (after_sent old.ledgers m op) (next_operation old.ledgers m) c
-  pub kept : new.kept ≡ old.kept
-
-pub has_asked : (times m : ℕ) (b : Bool) (old : DeskView) (op : Op) (new : DeskView) (c : Code) → put_refusal old m b ≡ None
-    → Collects (submitted (after_fulls times old m) m op) new (next_operation old.ledgers m) c → HasAsked m op c old new
-has_asked times m b old op new c admits is = search (arith, fulls_ledgers, known_here, fulls_kept, old.ledgers)
+-- ---- what is asked at a desk
 
 pub asking_grows : (m : ℕ) (op : Op) (c : Code) (old new : DeskView) → HasAsked m op c old new → HaveGrown old.ledgers new.ledgers
 asking_grows m op c old new is =
@@ -93,19 +76,6 @@ asking_grows m op c old new is =
 pub asking_sound : (m : ℕ) (op : Op) (c : Code) (old new : DeskView) → HasAsked m op c old new → AllSound old.ledgers → AllSound new.ledgers
 asking_sound m op c old new is all =
     rw is.ledgers (collecting_sound (after_sent old.ledgers m op) (next_operation old.ledgers m) c is.out (sending_sound old.ledgers m op all))
-
--- what was kept under a number was collected
-pub record HasTaken (o : Operation) (k : ℕ) (c : Code) (old new : DeskView) : Type 0 where
-  pub kept : finmap.get old.kept k ≡ Some o
-  pub out : IsOut old.ledgers o
-  pub ledgers : new.ledgers ≡ after_collected old.ledgers o c
-  pub handles : new.kept ≡ finmap.remove old.kept k
-
-pub has_taken : (old before new : DeskView) (k : ℕ) (c : Code) → Stays old before → (is : TakesKept before new k c) → HasTaken is.operation k c old new
-has_taken old before new k c (ledgers, handles) is = search (arith, is.operation)
-
-pub has_redeemed : (old new : DeskView) (k : ℕ) (c : Code) → (is : CollectsRedeemed old new k c) → HasTaken is.operation k c old new
-has_redeemed old new k c is = search (arith, is.collects.looks.rest, is.operation)
 
 -- ---- what a thread has sent to a manager and collected from it, as the manager's journal has it: the entries of a thread
 
@@ -157,10 +127,6 @@ numbered_at : (t n : ℕ) (pre : List Op) (o : Op) (post : List Op)
     → slice_get (numbered t n (pre ++ o ∷ post)) (length pre) ≡ Some (record { thread = t; number = n + length pre; op = o })
 numbered_at t n [] o post = let same : n ≡ n + 0 = omega arith in ap (λ k. Some (record { thread = t; number = k; op = o })) same
 numbered_at t n (p ∷ pre) o post = search (arith, numbered_at t (suc n) pre o post)
-
--- what was collected last is among all that was
-pub collected_there : (pre now all : List (ℕ × Code)) (p : ℕ × Code) → now ≡ pre ++ p ∷ [] → Begins now all → Contains all p
-collected_there pre now all p is begins = rw begins.1 (Contains-append_left now begins.0 p (rw is (Contains-push pre p)))
 
 pub is_rm_fail_so : (c : Code) → is_rm_fail c ≡ true → c ≡ RmFail
 is_rm_fail_so c e = search (arith, rules)

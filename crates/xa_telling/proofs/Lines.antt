@@ -1,22 +1,22 @@
 -- A thread's lines put its entries into the journals, line by line.
 use Rattle.xa_base.proofs.{rules, ◌≡◌, ℕ, ◌-◌, ◌<◌, ◌≤◌, ⊎_elim, zero, suc, true, false, Bool, ◌==◌, List, [], ◌∷◌, ◌++◌, length, map, take, None, Some, inl}
-use Rattle.xa_base.proofs.{inr, sym, refl, ap, ◌∙◌, arith, All, get_or, if◌then◌else◌, Contains, eqb-true, eqb-false, length-map, map-append, take_all}
-use Rattle.xa_base.proofs.{All-contains, All-nil, all_left, all_mid, take-nil}
+use Rattle.xa_base.proofs.{inr, sym, refl, ap, ◌∙◌, arith, All, get_or, if◌then◌else◌, eqb-true, eqb-false, length-map, map-append, take_all, All-contains}
+use Rattle.xa_base.proofs.{All-nil, all_left, all_mid, take-nil}
 use Rattle.std.specs.FinMap as finmap
 use Rattle.xa_base.specs.{Chain}
 use Rattle.xa_base.specs.Lists.Chain.{none, more}
-use Rattle.xa_words.specs.{check_flags, managers_in, TranName, Death, Op, Listed, Code}
+use Rattle.xa_words.specs.{check_flags, managers_in, TranName, Death, Op, Code}
 use Rattle.xa_words.specs.declared.flags.Call.TheVariants as call
 use Rattle.xa_desk.specs.{DeskView, IsKnown, IsOut, is_known, ledger, next_operation, after_sent, HaveGrown, AllKept, learnt_shut, LedgerView}
-use Rattle.xa_desk.proofs.Ledgers.{growing_on, ledger-collected_same, ledger-sent_other, ledger-sent_same}
+use Rattle.xa_desk.proofs.Ledgers.{growing_on, ledger-sent_other, ledger-sent_same}
 use Rattle.xa_worker.specs.{Entry}
 use Rattle.xa_scan.specs.{ScanView}
 use Rattle.xa_calls.specs.{Answers as Reaches}
 use Rattle.xa_calls.specs.Scans.Answers.{refused as unreached, answered as reached}
 use Rattle.xa_switch.specs.{Settling, IsSettled}
 use Rattle.xa_log.specs.{LogState, record_of, AppendsBefore, LosingLog}
-use Rattle.xa_driver.specs.{Branch, Done, AppendsUntil, CameTo, IsOfRound, LeavesHandles, PutsLedger, AsksLedger, code_of, AppendsOnce, HasRoom, IsTranOf}
-use Rattle.xa_driver.specs.{has_branch_at}
+use Rattle.xa_driver.specs.{Branch, Done, AppendsUntil, CameTo, IsOfRound, sent_so_far, LeavesHandles, PutsLedger, AsksLedger, code_of, AppendsOnce, HasRoom}
+use Rattle.xa_driver.specs.{IsTranOf, has_branch_at}
 use Rattle.xa_driver.proofs.AtDeath.{asked_all}
 use Rattle.xa_driver.proofs.Calls.{among_first, asks_long}
 use Rattle.xa_grammar.specs.{CommitAll, ScriptCalled, ScriptAction, ScriptTask}
@@ -27,9 +27,13 @@ use Rattle.xa_telling.specs.{CommitTakes, KeepsInFlight, in_flight_at, Line, Tak
 use Rattle.xa_telling.specs.{ResolveTakes}
 use Rattle.xa_telling.proofs.Branches.{last, own, fits, nobody, same_entries, rooms, decided_so, voted_so, died_so, others_so, all_sound, resolved_so}
 use Rattle.xa_telling.proofs.Branches.{resolved_sound, at_each, all_in_flight}
-use Rattle.xa_telling.proofs.Calls.{CallDoes, plain, lists, Does, answered, kept, refused as call_refused, completes, answers_do, is_refusal, by_mapped}
-use Rattle.xa_telling.proofs.Entries.{StandsAt, collected_there, enters, enters_coded, fails, many_entries, many_upto, upto, AllSound, Handles, HasAsked}
-use Rattle.xa_telling.proofs.Entries.{has_asked, asking_grows, asking_sound, collecting_sends_none, collecting_sound, sending_sound}
+use Rattle.xa_telling.proofs.Calls.{CallDoes, plain, lists, Does, answered, kept, refused as call_refused, completes, answers_do, is_refusal}
+use Rattle.xa_calls.proofs.Morphisms.{Carries, Morphism, by_mapped, stays}
+use Rattle.xa_driver.proofs.Mapped.{Any}
+use Rattle.xa_telling.proofs.Entries.{StandsAt, collected_at, enters, enters_coded, fails, many_entries, many_upto, upto, AllSound, asking_grows, asking_sound}
+use Rattle.xa_telling.proofs.Entries.{collecting_sends_none, collecting_sound, sending_sound}
+use Rattle.xa_calls.proofs.Kept.{Handles}
+use Rattle.xa_calls.proofs.Effects.{HasAsked, has_asked}
 use Rattle.xa_telling.proofs.Opened.{AreOf}
 
 -- ---- the lines of a thread
@@ -108,12 +112,8 @@ module _ (settled : Settling) (is : IsSettled settled) (t : ℕ) where
       let low = asked.known.positive in
       let mid = after_sent old.ledgers m op in
       let o = next_operation old.ledgers m in
-      let sent : (n : ℕ) → (ledger new.ledgers n).sent ≡ (ledger mid n).sent =
-      λ n. ap (λ (l : List LedgerView). (ledger l n).sent) asked.ledgers ∙ collecting_sends_none mid o c n in
-      let got : Contains (ledger ended m).collected (length (ledger old.ledgers m).sent, c) =
-      collected_there (ledger mid m).collected (ledger new.ledgers m).collected (ledger ended m).collected (length (ledger old.ledgers m).sent, c)
-      (ap (λ (l : List LedgerView). (ledger l m).collected) asked.ledgers ∙ ap (λ (a : LedgerView). a.collected) (ledger-collected_same mid o c asked.out.known m refl))
-      (later.each m low).collected in
+      let sent = collecting_sends_none mid new.ledgers o c asked.ledgers in
+      let got = collected_at mid new.ledgers ended o c asked.out.known asked.ledgers (later.each m low).collected in
       one_entered old.ledgers new.ledgers m op c asked.known sent
       (enters_coded t (ledger ended m) (own settled is t m) (fits settled is t m low) (ledger old.ledgers m) (ledger new.ledgers m) op (sent_now old.ledgers new.ledgers m op asked.known sent) (later.each m low).sent c got)
 
@@ -151,42 +151,43 @@ module _ (settled : Settling) (is : IsSettled settled) (t : ℕ) where
         let m = o.manager in
         let at = old.desk.ledgers in
         let low = takes.out.known.positive in
-        let got : Contains (ledger ended m).collected (o.number, c) =
-        collected_there (ledger at m).collected (ledger new.desk.ledgers m).collected (ledger ended m).collected (o.number, c)
-        (ap (λ (l : List LedgerView). (ledger l m).collected) takes.ledgers ∙ ap (λ (a : LedgerView). a.collected) (ledger-collected_same at o c takes.out.known m refl)) (later.each m low).collected in
-        let sent : (n : ℕ) → (ledger new.desk.ledgers n).sent ≡ (ledger at n).sent =
-        λ n. ap (λ (l : List LedgerView). (ledger l n).sent) takes.ledgers ∙ collecting_sends_none at o c n in (
+        let got = collected_at at new.desk.ledgers ended o c takes.out.known takes.ledgers (later.each m low).collected in
+        let sent = collecting_sends_none at new.desk.ledgers o c takes.ledgers in (
           CallTakes.completes o k c asks takes.kept (All-contains (StandsAt (own settled is t m)) (ledger ended m).collected (o.number, c) (fits settled is t m low).coded got) told
               (part_is _ _ still (λ n. same_entries settled is t at new.desk.ledgers n (λ _. sent n)) takes.handles),
           rw takes.ledgers (collecting_sound at o c takes.out sound),
         )
 
-    -- from this desk on what was collected is sound, and all is in the journals
-    abbrev GoesWell : DeskView → Type 0
-    GoesWell d = (AllSound d.ledgers → AllSound new.desk.ledgers) × HaveGrown d.ledgers ended
-
     -- a request of an xa_recover
-    request_takes : (m : ℕ) (d : DeskView) (op : Op) (e : DeskView) (c : Code) → Reaches m d op e c → GoesWell e
-        → GoesWell d × Asked t m (part_at old.log old.scan d) op (part_at old.log old.scan e) c
-    request_takes m d op e c (unreached why same) well = (rw same at well, Asked.refused (is_refusal d m false c why) (ap (part_at old.log old.scan) same))
-    request_takes m d op e c (reached admits times collects) well =
-        let asked = has_asked times m false d op e c admits collects in (
-          ((λ s. well.0 (asking_sound m op c d e asked s)), growing_on d.ledgers e.ledgers ended (asking_grows m op c d e asked) well.1),
-          Asked.answered (λ i. record {
-            entries = λ n. asked_entered m op c d e asked well.1 n i;
-            handles = asked.kept i;
-            log = old.log.found.state;
-            is_lost = old.log.is_lost;
-            scan = old.scan;
-          }),
-        )
+    abbrev Grows : DeskView → Type 0
+    Grows d = HaveGrown d.ledgers ended
+
+    asked_takes : (m : ℕ) → Morphism Any (Reaches m) (Asked t m) (part_at old.log old.scan) (λ d. AllSound d.ledgers) Grows
+    asked_takes m = record { each = λ d e op c _ is. request_takes d e op c is }
+      where
+        request_takes : (d e : DeskView) (op : Op) (c : Code) → Reaches m d op e c
+            → Carries (λ d. AllSound d.ledgers) Grows d e (Asked t m (part_at old.log old.scan d) op (part_at old.log old.scan e) c)
+        request_takes d e op c (unreached why same) = stays same (Asked.refused (is_refusal d m false c why) (ap (part_at old.log old.scan) same))
+        request_takes d e op c (reached admits times collects) =
+            let asked = has_asked times m false d op e c admits collects in
+            record {
+              on = asking_sound m op c d e asked;
+              back = growing_on d.ledgers e.ledgers ended (asking_grows m op c d e asked);
+              over = λ _ grown. Asked.answered (λ i. record {
+                entries = λ n. asked_entered m op c d e asked grown n i;
+                handles = asked.kept i;
+                log = old.log.found.state;
+                is_lost = old.log.is_lost;
+                scan = old.scan;
+              });
+            }
 
     listed_takes : (n : ℕ) → HasListed q n old.desk old.scan new.desk new.scan a → Lists t q n a (part_of old) (part_of new) × AllSound new.desk.ledgers
     listed_takes n listed =
         let m = q.manager in
         let mapped =
-        by_mapped (Reaches m) (Asked t m) (part_at old.log old.scan) GoesWell (λ d e x c asked well. request_takes m d (Listed x) e c asked well) old.desk old.scan listed.before
-        new.desk new.scan listed.after (is_known old.desk.ledgers m) (check_flags call.Recover q.flags) m listed.recovers.result listed.recovers.recovers ((λ s. s), later) in (
+        by_mapped (asked_takes m) (λ x. tt) old.desk old.scan listed.before new.desk new.scan listed.after (is_known old.desk.ledgers m) (check_flags call.Recover q.flags) m
+        listed.recovers.result listed.recovers.recovers in (
           record {
             there = is_known old.desk.ledgers m;
             asked = part_at old.log old.scan new.desk;
@@ -194,11 +195,11 @@ module _ (settled : Settling) (is : IsSettled settled) (t : ℕ) where
             after = listed.after;
             result = listed.recovers.result;
             room = listed.room;
-            recovers = mapped.1;
+            recovers = mapped.over sound later;
             stands = λ i. record { entries = so_far new.desk.ledgers; handles = new.desk.kept; log = (log i).found.state; is_lost = (log i).is_lost; scan = new.scan };
             tells = rw listed.recovers.answered at listed.shown;
           },
-          mapped.0.0 sound,
+          mapped.on sound,
         )
 
     call_takes_so : CallDoes q a old.desk old.scan new.desk new.scan → CallTakes settled t q a (part_of old) (part_of new) × AllSound new.desk.ledgers
@@ -246,11 +247,11 @@ module _ (settled : Settling) (is : IsSettled settled) (t : ℕ) where
             inr (fails t (ledger ended b.m) (own settled is t b.m) (fits settled is t b.m shut.0) (ledger at b.m) (sound b.m shut.0) (was.each b.m shut.0) shut.1))
             (all_in_flight at at' managers sound at_ (named c) bs old.log.found.state new.log.found.state known room far k d lt);
         more = λ k o kept_. ⊎_elim (λ (h : finmap.get old.desk.kept k ≡ Some o). inl h)
-            (λ (h : IsOfRound bs at at' o).
+            (λ (h : IsOfRound bs (sent_so_far at) (sent_so_far at') o).
             let m = o.manager in
             let low =
             (at_each (HasRoom at) m bs (λ k d lt here. room k d lt) (λ none. absurd (let z : true ≡ false = sym h.manager ∙ none in cc))).known.positive in
-            inr (record { manager = h.manager; later = omega (arith, h.later, many at m low was); entered = omega (arith, h.sent, many at' m low later) }))
+            inr (record { manager = h.manager; later = omega (arith, h.later, many at m low was); sent = omega (arith, h.sent, many at' m low later) }))
             (leaves.more k o kept_);
       }
 

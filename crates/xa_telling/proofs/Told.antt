@@ -1,4 +1,3 @@
--- What is left outstanding at a desk, by the numbers under which it is kept.
 -- What the threads and the managers of a run tell once they are settled, and what an opening leaves to the next one.
 use Rattle.xa_base.proofs.{map-map, along, ◌≡◌, ℕ, ◌+◌, ◌<◌, ◌≤◌, zero, suc, List, [], ◌∷◌, ◌++◌, length, map, Some, None, sym, refl, ap, ◌∙◌, subst, inl, inr}
 use Rattle.xa_base.proofs.{arith, length-append, All, AllPairs, Contains, range_with_len, cases_eq, map-append, All-nil, All-push, Contains-append_left}
@@ -10,9 +9,10 @@ use Rattle.xa_base.specs.{Chain}
 use Rattle.xa_base.specs.Lists.Chain.{none, more}
 use Rattle.xa_words.specs.{Code}
 use Rattle.xa_desk.specs.{Operation, ledger, HaveGrown, DeskView, LedgerView, AllKept, sent_to, EndedView, new_ledgers, plans}
-use Rattle.xa_desk.proofs.Ledgers.{collecting_grows, ledger-collected_same, nobody_sent}
+use Rattle.xa_desk.proofs.Ledgers.{collecting_grows, nobody_sent}
 use Rattle.xa_crew.specs.{Telling, EndsNumber, HasServed, EndsDesk}
-use Rattle.xa_telling.proofs.Entries.{collected_there, StandsAt, agreed_fits, no_entries, HasTaken, collecting_sends_none, has_redeemed}
+use Rattle.xa_telling.proofs.Entries.{collected_at, StandsAt, agreed_fits, no_entries, collecting_sends_none}
+use Rattle.xa_calls.proofs.Effects.{HasTaken, has_redeemed}
 use Rattle.xa_desk.proofs.Books.{fresh_sent, fresh_collected}
 use Rattle.xa_switch.specs.{ledgers_of, IsNewDesk, DeskSeat, seat_of_desk, ThreadPart, ManagerPart, IsSettled, find_thread, ledgers_in, sent, collected}
 use Rattle.xa_switch.specs.{journal, thread_part, manager_part, settling, Settling, Again, FollowsTables, journal_in, history, IsScanOf, first_ledgers}
@@ -63,9 +63,7 @@ module _ (n : ℕ) (first now next : DeskView) (told : List (ℕ × Code)) (h : 
         o,
         sym (h.others (n + 1) fresh) ∙ takes.kept,
         takes.out.known.positive,
-        collected_there (ledger now.ledgers o.manager).collected (ledger next.ledgers o.manager).collected (ledger next.ledgers o.manager).collected (o.number, c)
-            (ap (λ (l : List LedgerView). (ledger l o.manager).collected) takes.ledgers
-            ∙ ap (λ (a : LedgerView). a.collected) (ledger-collected_same now.ledgers o c takes.out.known o.manager refl)) (same_begins _),
+        collected_at now.ledgers next.ledgers next.ledgers o c takes.out.known takes.ledgers (same_begins _),
       ) in
       let grown : HaveGrown now.ledgers next.ledgers = rw takes.ledgers (collecting_grows now.ledgers o c) in
       record {
@@ -78,7 +76,7 @@ module _ (n : ℕ) (first now next : DeskView) (told : List (ℕ × Code)) (h : 
               | inr differs ↦ Contains-append_left numbers ((n + 1) ∷ []) k (h.all k p low (omega (arith, high, differs)) at)
             ]);
         rising = pairs_push (λ x y. x.0 < y.0) told (n + 1, c) h.rising (λ k d below. let w = h.within k d below in let high = w.1 in omega (arith, high));
-        sent = λ m. ap (λ (l : List LedgerView). (ledger l m).sent) takes.ledgers ∙ collecting_sends_none now.ledgers o c m ∙ h.sent m;
+        sent = λ m. collecting_sends_none now.ledgers next.ledgers o c takes.ledgers m ∙ h.sent m;
       }
 
   -- and one that kept nothing

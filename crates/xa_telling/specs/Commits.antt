@@ -1,5 +1,5 @@
 -- What a commit of several branches does to its thread's part.
-use Rattle.std.specs.Prelude.{◌≡◌, ◌⊎◌, ℕ, zero, suc, ◌-◌, ◌≤◌, ◌<◌, Bool, true, false, Option, Some, None, All, List}
+use Rattle.std.specs.Prelude.{◌≡◌, ◌⊎◌, ℕ, zero, suc, ◌-◌, ◌≤◌, Bool, true, false, Option, Some, None, All, List}
 use Rattle.std.specs.Prelude.{Vec, [], ◌∷◌, ◌++◌, drop, length}
 use Rattle.std.specs.Global.{Global}
 use Rattle.std.specs.List.{Contains}
@@ -14,7 +14,7 @@ use Rattle.xa_worker.specs.Journal.{Entry, codes_in}
 use Rattle.xa_driver.specs.declared.branch.Branch.{Branch}
 use Rattle.xa_driver.specs.declared.done.Done.{Done as Outcome}
 use Rattle.xa_driver.specs.Decision.{yes_of}
-use Rattle.xa_driver.specs.Deaths.{Dies, HaveAsked, to_come}
+use Rattle.xa_driver.specs.Deaths.{IsOfRound, Dies, HaveAsked, to_come}
 use Rattle.xa_driver.specs.Endings.{second_op}
 use Rattle.xa_driver.specs.Trace.{Commits, has_branch_at, wants_record}
 use Rattle.xa_log.specs.Log.{IsEither, record_of}
@@ -23,7 +23,7 @@ use Rattle.xa_grammar.specs.declared.step.CommitAll.{CommitAll}
 use Rattle.xa_transcript.specs.declared.answer.Answer.{Answer}
 use Rattle.xa_transcript.specs.declared.answer.Answer.TheVariants as answer
 use Rattle.xa_session.specs.Committing.{named, branches_of, comes_to_decide}
-use Rattle.xa_telling.specs.Parts.{Part, next_entry}
+use Rattle.xa_telling.specs.Parts.{Part, next_entry, entered_so_far}
 
 -- ---- what is asked of a manager
 
@@ -72,12 +72,6 @@ pub record LosesSight (t : ℕ) (c : CommitAll TranName) (votes : List Code) (ol
 
 -- ---- a commit whose coordinator died
 
--- A request that was put to the manager of a branch since: its entry stands after those that there were.
-pub record IsPutSince (bs : List Branch) (old new : Part) (o : Operation) : Type 0 where
-  pub manager : has_branch_at bs o.manager ≡ true
-  pub later : length (old.entries o.manager) ≤ o.number
-  pub entered : o.number < length (new.entries o.manager)
-
 -- These branches, and this one before them if what is wanted of it comes after the k-th that is.
 abbrev pub and_if_after : Option Op → ℕ → Branch → List Branch → List Branch
 and_if_after None k b bs = bs
@@ -112,7 +106,7 @@ pub record KeepsInFlight (at : Death) (bs : List Branch) (known : Outcome) (old 
   pub stays : (k : ℕ) (o : Operation) → finmap.get old.handles k ≡ Some o → finmap.get new.handles k ≡ Some o
   pub all : All (IsKeptUnlessShut old new) (in_flight_at at known.commit bs known.votes.items)
   pub more : (k : ℕ) (o : Operation) → finmap.get new.handles k ≡ Some o
-      → (finmap.get old.handles k ≡ Some o) ⊎ IsPutSince bs old new o
+      → (finmap.get old.handles k ≡ Some o) ⊎ IsOfRound bs (entered_so_far old) (entered_so_far new) o
 
 -- What a commit does to thread t's part whose coordinator dies at this point: its course over the thread's entries, as
 -- far as it came, of a transaction that isn't logged yet. What was in flight is among them, and is kept under handles.

@@ -15,7 +15,6 @@ use Rattle.xa_scan.specs.Left.{ScanView}
 use Rattle.xa_driver.specs.declared.branch.Branch.{Branch}
 use Rattle.xa_driver.specs.declared.done.Done.{Done as Outcome}
 use Rattle.xa_driver.specs.declared.done.Ending.TheVariants.{Committed}
-use Rattle.xa_driver.specs.Commits.{is_commit}
 use Rattle.xa_driver.specs.Decision.{is_no}
 use Rattle.xa_log.specs.Log.{LogState}
 use Rattle.xa_words.specs.Tran.{TranName}
@@ -31,7 +30,7 @@ use Rattle.xa_session.specs.Sessions.{told_of}
 use Rattle.xa_session.specs.Committing.{branches_of}
 use Rattle.xa_telling.specs.Wants.{wanted_in}
 use Rattle.xa_telling.specs.Wants.Wanted.{code_of}
-use Rattle.xa_transcript.specs.Ended.{all_ended}
+use Rattle.xa_transcript.specs.ThreadEnds.{all_ended}
 use Rattle.xa_telling.specs.Parts.{Part, CallTakes, HasCode}
 use Rattle.xa_telling.specs.Commits.{CommitTakes}
 use Rattle.xa_telling.specs.Resolves.{ResolveTakes}
@@ -138,6 +137,6 @@ ArePrepared settled l = (c : CommitAll TranName) (done : Outcome) → ShowsCommi
     → (k : ℕ) (b : Branch) → slice_get (branches_of c) k ≡ Some b
     → (vote : Code) × (is_no vote ≡ false) × IsInJournal settled b.m l.task.thread (Prepare b.xid) vote
 
--- Something was added, and no Commit among it.
-abbrev pub AddsNoCommit : List Entry → List Entry → Type 0
-AddsNoCommit old new = (more : List Entry) × (new ≡ old ++ more) × (list_any (λ e. is_commit e.0.op) more ≡ false)
+-- Something was added, and no such request among it.
+abbrev pub AddsNone : (Op → Bool) → List Entry → List Entry → Type 0
+AddsNone is old new = (more : List Entry) × (new ≡ old ++ more) × (list_any (λ e. is e.0.op) more ≡ false)

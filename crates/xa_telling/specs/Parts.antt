@@ -19,7 +19,7 @@ use Rattle.xa_scan.specs.Left.{ScanView}
 use Rattle.xa_log.specs.Log.{LogState}
 use Rattle.xa_transcript.specs.declared.answer.Answer.{Answer}
 use Rattle.xa_transcript.specs.declared.answer.Answer.TheVariants.{Called as shown, Completed}
-use Rattle.xa_session.specs.Calling.{IsListed}
+use Rattle.xa_session.specs.ManagerCalls.{IsListed}
 use Rattle.xa_telling.specs.Wants.{wanted_in, refusals, IsRefusal}
 use Rattle.xa_telling.specs.Wants.Wanted.{code_of, handle_for, completion, listing}
 use Rattle.xa_grammar.specs.Steps.{ScriptCalled}
@@ -51,6 +51,10 @@ with_entry t m o c p =
 -- The thread's next request to a manager.
 abbrev pub next_request : Part → ℕ → Operation
 next_request p m = record { manager = m; number = length (p.entries m) }
+
+-- How many entries a thread's part has, manager by manager: its next request to a manager has that number.
+abbrev pub entered_so_far : Part → ℕ → ℕ
+entered_so_far p m = length (p.entries m)
 
 -- The part with a handle that stands for a request, and without one.
 abbrev pub with_handle : ℕ → Operation → Part → Part

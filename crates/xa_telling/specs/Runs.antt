@@ -12,7 +12,7 @@ use Rattle.xa_crew.specs.Pieces.{HasServed}
 use Rattle.xa_transcript.specs.declared.answer.Told.{Told}
 use Rattle.xa_session.specs.declared.session.Session.{Session}
 use Rattle.xa_session.specs.Sessions.{HasDone}
-use Rattle.xa_transcript.specs.Ended.{all_ended}
+use Rattle.xa_transcript.specs.ThreadEnds.{all_ended}
 use Rattle.xa_telling.specs.Planning.{AreOpened}
 use Rattle.xa_telling.specs.Journals.{answers_to, ends_of}
 use Rattle.xa_telling.specs.ToldOpenings.{Beginning}

@@ -9,7 +9,7 @@ use Rattle.xa_words.specs.declared.request.Op.{Op}
 use Rattle.xa_words.specs.declared.request.RmOp.{RmOp}
 use Rattle.xa_words.specs.declared.request.RmOp.TheVariants as rm
 use Rattle.xa_calls.specs.Asking.{asked_of, native}
-use Rattle.xa_grammar.specs.declared.step.ManagerCall.TheVariants as calling
+use Rattle.xa_grammar.specs.declared.step.ManagerCall.TheVariants as manager_call
 use Rattle.xa_grammar.specs.Steps.{ScriptCall, ScriptCalled}
 
 -- What a call asks its manager for: the code of an op; with TMASYNC a handle for it; nothing, for this reason; in an
@@ -34,12 +34,12 @@ outside_xa o f = wanted (native o f) (λ asked. asked.op) (λ asked. asked.async
 
 -- What a call with these flags asks for.
 abbrev pub wanted_by : ScriptCall → ℕ → Wanted
-wanted_by (calling.Xa c x) f = in_xa c x f
-wanted_by (calling.Heur x commits) f = outside_xa (rm.Heur x commits) f
-wanted_by (calling.Add k d) f = outside_xa (rm.Add k d) f
-wanted_by calling.Shut f = outside_xa rm.Shut f
-wanted_by (calling.Complete h) f = completion
-wanted_by (calling.Recover n) f = listing n
+wanted_by (manager_call.Xa c x) f = in_xa c x f
+wanted_by (manager_call.Heur x commits) f = outside_xa (rm.Heur x commits) f
+wanted_by (manager_call.Add k d) f = outside_xa (rm.Add k d) f
+wanted_by manager_call.Shut f = outside_xa rm.Shut f
+wanted_by (manager_call.Complete h) f = completion
+wanted_by (manager_call.Recover n) f = listing n
 
 abbrev pub wanted_in : ScriptCalled → Wanted
 wanted_in q = wanted_by q.call q.flags

@@ -1,7 +1,7 @@
 -- Each declared key has a value, whatever its manager has carried out.
-use Rattle.xa_base.proofs.{◌≡◌, ℕ, ℤ, ◌+ℤ◌, ◌+◌, ◌-◌, ◌≤◌, zero, suc, pos, ◌<◌, ◌==◌, Bool, true, false, cond, ◌||◌, Option, None, Some, is_some, option_map}
-use Rattle.xa_base.proofs.{List, [], ◌∷◌, ◌++◌, length, map, filter, slice_get, refl, sym, ap, ◌∙◌, arith, list_any, slice_index_or, get-from_entries}
-use Rattle.xa_base.proofs.{eq_by_cmp, or-true, eq-eqb, got, find_numbered, is_some-find}
+use Rattle.xa_base.proofs.{any_alike, is_some-map, ◌≡◌, ℕ, ℤ, ◌+ℤ◌, ◌+◌, ◌-◌, ◌≤◌, zero, suc, pos, ◌<◌, ◌==◌, Bool, true, false, cond, ◌||◌, Option, Some}
+use Rattle.xa_base.proofs.{is_some, option_map, List, [], ◌∷◌, ◌++◌, length, map, filter, slice_get, sym, ap, ◌∙◌, arith, list_any, slice_index_or}
+use Rattle.xa_base.proofs.{get-from_entries, eq_by_cmp, or-true, eq-eqb, got, find_numbered, is_some-find}
 use Rattle.std.specs.FinMap as finmap
 use Rattle.xa_words.specs.Key.{key_cmp}
 use Rattle.xa_words.specs.{key_eq, key_cmp_total, key_eq-by_cmp, Decides-key_eq}
@@ -11,8 +11,8 @@ use Rattle.xa_switch.specs.{ManagerPart, find_manager, first_of, Settling}
 use Rattle.xa_transcript.specs.{opened, opened_after, AreOfScript, IsWorth}
 
 -- the keys that a manager is opened with
-abbrev names : ℕ → List Declared → List (List ℕ)
-names m keys = map (λ (e : List ℕ × ℤ). e.0) (map (λ (d : List ℕ × ℕ). (d.0, pos d.1)) (accounts_of m keys))
+abbrev keys_at : ℕ → List Declared → List (List ℕ)
+keys_at m keys = map (λ (e : List ℕ × ℤ). e.0) (map (λ (d : List ℕ × ℕ). (d.0, pos d.1)) (accounts_of m keys))
 
 abbrev is_listed : Bool → Declared → Declared → List Declared → Bool
 is_listed b d e keys =
@@ -21,23 +21,15 @@ is_listed b d e keys =
 
 -- a key that is declared is among them
 is_among : (keys : List Declared) (i : ℕ) (d : Declared) → i < length keys → d ≡ slice_index_or keys i d
-    → list_any (λ k. key_eq d.key k) (names d.manager keys) ≡ true
+    → list_any (λ k. key_eq d.key k) (keys_at d.manager keys) ≡ true
 is_among [] i d below is = absurd (omega (arith, below))
 is_among (e ∷ keys) zero d below is =
     let same : (e.manager == d.manager) ≡ true = eq-eqb e.manager d.manager (ap (λ (x : Declared). x.manager) (sym is)) in
     let own : key_eq d.key e.key ≡ true = (Decides-key_eq d.key e.key).1 (ap (λ (x : Declared). x.key) is) in
-    ap (λ b. is_listed b d e keys) same ∙ ap (λ b. b || list_any (λ k. key_eq d.key k) (names d.manager keys)) own
+    ap (λ b. is_listed b d e keys) same ∙ ap (λ b. b || list_any (λ k. key_eq d.key k) (keys_at d.manager keys)) own
 is_among (e ∷ keys) (suc i) d below is =
-    let rest : list_any (λ k. key_eq d.key k) (names d.manager keys) ≡ true = is_among keys i d (omega (arith, below)) is in
+    let rest : list_any (λ k. key_eq d.key k) (keys_at d.manager keys) ≡ true = is_among keys i d (omega (arith, below)) is in
     elim (e.manager == d.manager) as (λ b. is_listed b d e keys ≡ true) [ true ↦ ap (λ b. key_eq d.key e.key || b) rest ∙ or-true (key_eq d.key e.key) | false ↦ rest ]
-
-is_some-map : {A B : Type 0} (f : A → B) (o : Option A) → is_some (option_map f o) ≡ is_some o
-is_some-map f None = refl
-is_some-map f (Some x) = refl
-
-any_alike : {A : Type 0} (p q : A → Bool) → ((x : A) → p x ≡ q x) → (xs : List A) → list_any p xs ≡ list_any q xs
-any_alike p q alike [] = refl
-any_alike p q alike (x ∷ xs) = λ i. alike x i || any_alike p q alike xs i
 
 -- so it has a value at the opening
 has_value : (s : Content) (i : ℕ) (d : Declared) → i < length s.keys → d ≡ slice_index_or s.keys i d
@@ -45,7 +37,7 @@ has_value : (s : Content) (i : ℕ) (d : Declared) → i < length s.keys → d �
 has_value s i d below is =
     let entries = map (λ (e : List ℕ × ℕ). (e.0, pos e.1)) (accounts_of d.manager s.keys) in
     ap is_some (get-from_entries key_cmp_total entries d.key) ∙ is_some-find key_cmp d.key entries
-    ∙ sym (any_alike (λ k. key_eq d.key k) (eq_by_cmp key_cmp d.key) (key_eq-by_cmp d.key) (names d.manager s.keys)) ∙ is_among s.keys i d below is
+    ∙ sym (any_alike (λ k. key_eq d.key k) (eq_by_cmp key_cmp d.key) (key_eq-by_cmp d.key) (keys_at d.manager s.keys)) ∙ is_among s.keys i d below is
 
 -- so it has one after the histories of any openings
 pub told : (s : Content) (hs : List History) (i : ℕ) (d : Declared) (value : Option ℕ) → i < length s.keys → d ≡ slice_index_or s.keys i d

@@ -1,10 +1,10 @@
-pub mod Ended
+pub mod ThreadEnds
 pub mod Lines
 pub mod Text
 pub mod Transcript
 pub mod Values
 -- The words of this crate, by its name.
-pub use Ended.{all_ended, ended}
+pub use ThreadEnds.{all_ended, ended}
 pub use Lines.{LinesView}
 pub use Text.{answer_text, decided_text, decision_text, done_text, ending_text, endings_text, handle_text, known_text}
 pub use Text.{line_text, lines_text, listed_text, outcome_text, outcomes_text, record_text, resolution_text, told_text}

@@ -1,6 +1,6 @@
 //! The lines of what was outstanding after a thread's last line.
 ghost use Rattle.std.specs.Prelude.{◌≡◌, ◌++◌, OnOk};
-ghost use Rattle.xa_transcript.specs.Ended.{ended, all_ended};
+ghost use Rattle.xa_transcript.specs.ThreadEnds.{ended, all_ended};
 
 use crate::answer::Told;
 use crate::transcript::Transcript;

@@ -1,6 +1,6 @@
 use Rattle.xa_grammar.specs.declared.fault.ScriptFault.TheVariants as script
 use Rattle.xa_transcript.specs.declared.writing.RunFault.TheVariants as run
-use Rattle.xa_base.proofs.{◌≡◌, ◌⊎◌, inl, inr, ◌<◌, ℕ, List, Option, Some, None, Err, arith, IfSome, sym, ◌∙◌, subst}
+use Rattle.xa_base.proofs.{◌≡◌, ◌⊎◌, inl, inr, ◌<◌, ℕ, List, Option, Some, None, Err, arith, IfSome, sym, ◌∙◌}
 use Rattle.std.specs.Borrow.{Bor}
 use Rattle.xa_grammar.specs.{Reason, script_of}
 use Rattle.xa_command.specs.{Mode, AreWords, IsMode}

@@ -1,4 +1,4 @@
-use Rattle.xa_base.proofs.{arith, ◌≡◌, ℕ, List, [], ◌∷◌, ◌++◌, take, Option, None, Some, Result, Ok, Err, sym, ◌∙◌, subst, append-nil, Appends}
+use Rattle.xa_base.proofs.{arith, ◌≡◌, ℕ, List, [], ◌∷◌, ◌++◌, take, Option, None, Some, Result, Ok, Err, sym, ◌∙◌, append-nil, Appends}
 use Rattle.std.specs.Io.KnownBytes.{Keeps, WriteAppends}
 use Rattle.std.specs.Io.Slices.{io_slice_bytes, io_slices_bytes}
 use Rattle.std.specs.declared.io.slices.IoSlice.{IoSlice}

@@ -1,6 +1,6 @@
-use Rattle.xa_base.proofs.{map-map, ◌≡◌, ◌+◌, ◌<◌, ℕ, zero, suc, List, [], ◌∷◌, Some, length, map, false, refl, ap, ◌∙◌, sym, subst, arith, All, slice_get}
-use Rattle.xa_base.proofs.{flat_map, range_with_len, got_map, slice_get_within, slice_get-get_or, all_at, some_same, length-range_with_len}
-use Rattle.xa_base.proofs.{get_or-range_with_len, All-nil, none_side}
+use Rattle.xa_base.proofs.{map-map, ◌≡◌, ◌+◌, ◌<◌, ℕ, zero, suc, List, [], ◌∷◌, Some, length, map, false, refl, ap, ◌∙◌, sym, arith, All, slice_get, flat_map}
+use Rattle.xa_base.proofs.{range_with_len, got_map, slice_get_within, slice_get-get_or, all_at, some_same, length-range_with_len, get_or-range_with_len}
+use Rattle.xa_base.proofs.{All-nil, none_side}
 use Rattle.std.proofs.lemmas.List.Folds.{flat_map-map}
 use Rattle.xa_base.specs.{Chain, Pairwise}
 use Rattle.xa_transcript.specs.{opened, Told}
@@ -15,7 +15,7 @@ use Rattle.xa_desk.specs.{DeskView, EndedView}
 use Rattle.xa_switch.specs.{planned, Setup, Settling}
 use Rattle.xa_script.specs.InThreads.{InThreads}
 use Rattle.xa_script.proofs.Runs.{threads_ran}
-use Rattle.xa_script.proofs.Openings.{begin_so}
+use Rattle.xa_script.proofs.TurnsSoFar.{begin_so}
 use Rattle.xa_script.proofs.in_threads.run.Goals as goal
 
 -- the numbers from 1 on

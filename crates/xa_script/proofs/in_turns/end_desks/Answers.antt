@@ -1,4 +1,4 @@
-use Rattle.xa_base.proofs.{◌++◌, ◌∷◌, [], List, length, length-append, sym, ap, ◌∙◌, subst, refl, arith, rules, into_iter_items, next_there, all_at, taken_next}
+use Rattle.xa_base.proofs.{◌++◌, ◌∷◌, [], List, length, length-append, sym, ap, ◌∙◌, refl, arith, rules, into_iter_items, next_there, all_at, taken_next}
 use Rattle.xa_base.proofs.{map-append}
 use Rattle.xa_desk.specs.{EndedView, AllKept}
 use Rattle.xa_base.specs.Lists.Chain.{none, more}

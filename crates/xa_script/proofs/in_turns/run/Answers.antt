@@ -2,8 +2,7 @@ use Rattle.xa_base.proofs.{take_next, ◌≡◌, ◌+◌, [], ◌∷◌, ◌++�
 use Rattle.xa_grammar.specs.declared.step.Step.TheVariants as step
 use Rattle.xa_grammar.specs.{Fits, threads_of, managers_of, Content}
 use Rattle.xa_script.specs.{Runner}
-use Rattle.xa_command.specs.declared.mode.Mode.TheVariants as mode
-use Rattle.xa_script.proofs.Openings.{begun, reached_threads, reached_managers, stepped, ended_so, reopened, outcome_so}
+use Rattle.xa_script.proofs.TurnsSoFar.{begun, reached_threads, reached_managers, stepped, ended_so, reopened, outcome_so}
 use Rattle.xa_script.proofs.in_turns.run.Goals as goal
 use Rattle.xa_script.proofs.in_turns.run.Goals.{in-Task+in_ok-call-in-Task+in_ok-tell-in-Task, in-Turn+in_ok-tell-in-Turn}
 use Rattle.xa_script.proofs.in_turns.run.Goals.{in-Reopen+in_ok-closed-in-Reopen+in_ok-tell-in-Reopen+in_ok-runner-in-Reopen}

@@ -1,8 +1,8 @@
-use Rattle.xa_base.proofs.{ℕ, List, ◌++◌, map, subst, Appends, on_ok_weaker}
+use Rattle.xa_base.proofs.{List, map, on_ok_weaker}
 use Rattle.xa_grammar.specs.{Declared, Content}
-use Rattle.xa_transcript.specs.{text, values_text, AreValues}
+use Rattle.xa_transcript.specs.{AreValues}
 use Rattle.xa_telling.specs.{Former, settled_over}
-use Rattle.xa_script.proofs.Openings.{managers_so, run_tells}
+use Rattle.xa_script.proofs.TurnsSoFar.{managers_so, run_tells}
 use Rattle.xa_script.proofs.outcome.show.Goals as goal
 
 pub values_of-requires : goal.values_of-requires

@@ -1,10 +1,10 @@
 use Rattle.xa_base.proofs.{◌≡◌, ℕ, List, Option, Some, None}
-use Rattle.xa_grammar.specs.{Outcome, StaysOne}
+use Rattle.xa_grammar.specs.{Verdict, StaysOne}
 use Rattle.xa_grammar.specs.Reading.{goes_on}
 use Rattle.xa_grammar.proofs.read.Reading.take_all.Given as goal
 
 -- Where the bytes are known, what f says of all of them is what g says of those that are left.
-abbrev Leads : Option (List ℕ) → Option (List ℕ) → (List ℕ → Outcome) → (List ℕ → Outcome) → Type 0
+abbrev Leads : Option (List ℕ) → Option (List ℕ) → (List ℕ → Verdict) → (List ℕ → Verdict) → Type 0
 Leads None left f g = Unit {0}
 Leads (Some all) None f g = ⊥
 Leads (Some all) (Some left) f g = f all ≡ g left

@@ -1,6 +1,6 @@
 use Rattle.xa_base.proofs.{arith, rules, Bor, ◌≡◌, Option, None, refl, sym, ap, ◌∙◌, MatchOption, option_map}
 use Rattle.std.specs.Prelude.{IsSomeAnd, option_copied}
-use Rattle.xa_grammar.specs.declared.step.ManagerCall.TheVariants as calling
+use Rattle.xa_grammar.specs.declared.step.ManagerCall.TheVariants as manager_call
 use Rattle.xa_grammar.specs.{call_with}
 use Rattle.xa_grammar.proofs.step.ManagerCall.map.Goals as goal
 
@@ -11,13 +11,13 @@ mapped answers f lent told same is = search (arith, rules)
 
 pub returns-in-Xa : goal.returns-in-Xa
 returns-in-Xa g c = λ f k same same_key.
-    ap (λ y. calling.Xa c.in-Xa.call y) (mapped (λ p y. g.N.FnOnce.post c.args.name (p, tt) y) f c.as_ref.result c.map.result (λ p y answers. same p.now y (p, answers, refl)) c.map.ensures.cases ∙ ap (option_map f) c.as_ref.ensures.value)
+    ap (λ y. manager_call.Xa c.in-Xa.call y) (mapped (λ p y. g.N.FnOnce.post c.args.name (p, tt) y) f c.as_ref.result c.map.result (λ p y answers. same p.now y (p, answers, refl)) c.map.ensures.cases ∙ ap (option_map f) c.as_ref.ensures.value)
     ∙ ap (call_with f k) (sym c.in-Xa.is)
 
 pub returns-in-Heur : goal.returns-in-Heur
 returns-in-Heur g c = λ f k same same_key.
-    ap (λ y. calling.Heur y c.in-Heur.commits) (same c.in-Heur.branch c.name.result (_, c.name.ensures, refl)) ∙ ap (call_with f k) (sym c.in-Heur.is)
+    ap (λ y. manager_call.Heur y c.in-Heur.commits) (same c.in-Heur.branch c.name.result (_, c.name.ensures, refl)) ∙ ap (call_with f k) (sym c.in-Heur.is)
 
 pub returns-in-Add : goal.returns-in-Add
 returns-in-Add g c = λ f k same same_key.
-    ap (λ y. calling.Add y c.in-Add.delta) (same_key c.in-Add.added c.key.result (_, c.key.ensures, refl)) ∙ ap (call_with f k) (sym c.in-Add.is)
+    ap (λ y. manager_call.Add y c.in-Add.delta) (same_key c.in-Add.added c.key.result (_, c.key.ensures, refl)) ∙ ap (call_with f k) (sym c.in-Add.is)

@@ -6,7 +6,7 @@ use Rattle.xa_switch.specs.{planned}
 use Rattle.xa_grammar.specs.{Content}
 use Rattle.xa_session.specs.{Session, new_session}
 use Rattle.xa_telling.proofs.Opened.{planned_setup}
-use Rattle.xa_script.proofs.Openings.{begin_so}
+use Rattle.xa_script.proofs.TurnsSoFar.{begin_so}
 use Rattle.xa_script.proofs.in_turns.Runner.open.Goals as goal
 
 pub returns-clause-opened : goal.returns-clause-opened

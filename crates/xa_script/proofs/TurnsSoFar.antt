@@ -2,7 +2,7 @@
 use Rattle.xa_grammar.specs.declared.step.Step.TheVariants as step
 use Rattle.xa_command.specs.declared.mode.Mode.TheVariants as mode
 use Rattle.xa_base.proofs.{◌≡◌, ℕ, false, ◌||◌, List, [], ◌∷◌, ◌++◌, length, map, sym, refl, ap, ◌∙◌, append-nil, append_assoc, flat_map, length-map, All-nil}
-use Rattle.xa_base.proofs.{All-push, list_any-append, flat_push, ◌+◌, ◌≤◌, zero, suc, Some, subst, arith, slice_get, slice_index_or, slice_get-get_or}
+use Rattle.xa_base.proofs.{All-push, list_any-append, flat_push, ◌+◌, ◌≤◌, zero, suc, Some, arith, slice_get, slice_index_or, slice_get-get_or}
 use Rattle.xa_base.proofs.{slice_get_within, was_mapped, some_same}
 use Rattle.xa_base.specs.Lists.Chain.{none, more}
 use Rattle.xa_worker.specs.{WorkerView}

@@ -13,7 +13,7 @@ use Rattle.xa_words.specs.Xid.{XidName}
 use Rattle.xa_words.specs.declared.flags.Call.TheVariants as call
 use Rattle.xa_words.specs.declared.request.RmOp.TheVariants as rm
 use Rattle.xa_words.specs.declared.xid.Xid.{Xid}
-use Rattle.xa_grammar.specs.declared.step.ManagerCall.TheVariants as calling
+use Rattle.xa_grammar.specs.declared.step.ManagerCall.TheVariants as manager_call
 use Rattle.xa_grammar.specs.Steps.{ScriptCall, ScriptCalled}
 use Rattle.xa_transcript.specs.declared.answer.Answer.{Answer}
 use Rattle.xa_transcript.specs.declared.answer.Answer.TheVariants.{Called as shown, Completed, Recovered}
@@ -54,21 +54,21 @@ pub record HasListed (c : ScriptCalled) (n : ℕ) (old : DeskView) (z : ScanView
 
 -- What a call does to its thread's desk and scan, and what it answers. Only an xa_recover moves the scan.
 abbrev pub Answers : ScriptCall → ScriptCalled → DeskView → ScanView → DeskView → ScanView → Answer → Type 0
-Answers (calling.Xa f x) c old z new z' a = HasAnswered (Calls (asked_of f x c.flags)) c old new a × (z' ≡ z)
-Answers (calling.Heur x commits) c old z new z' a =
+Answers (manager_call.Xa f x) c old z new z' a = HasAnswered (Calls (asked_of f x c.flags)) c old new a × (z' ≡ z)
+Answers (manager_call.Heur x commits) c old z new z' a =
     HasAnswered (Calls (native (rm.Heur x commits) c.flags)) c old new a × (z' ≡ z)
-Answers (calling.Add k d) c old z new z' a =
+Answers (manager_call.Add k d) c old z new z' a =
     HasAnswered (Calls (native (rm.Add k d) c.flags)) c old new a × (z' ≡ z)
-Answers calling.Shut c old z new z' a = HasAnswered (Calls (native rm.Shut c.flags)) c old new a × (z' ≡ z)
-Answers (calling.Complete h) c old z new z' a = HasCollected c old h new a × (z' ≡ z)
-Answers (calling.Recover n) c old z new z' a = HasListed c n old z new z' a
+Answers manager_call.Shut c old z new z' a = HasAnswered (Calls (native rm.Shut c.flags)) c old new a × (z' ≡ z)
+Answers (manager_call.Complete h) c old z new z' a = HasCollected c old h new a × (z' ≡ z)
+Answers (manager_call.Recover n) c old z new z' a = HasListed c n old z new z' a
 
 -- Whether a call may wait: a synchronous call that isn't refused may, an xa_complete without TMNOWAIT, and an
 -- xa_recover that asks its manager.
-abbrev pub calling_waits : ScriptCall → ScriptCalled → DeskView → ScanView → Bool
-calling_waits (calling.Xa f x) c d z = call_waits d c.manager (asked_of f x c.flags)
-calling_waits (calling.Heur x commits) c d z = call_waits d c.manager (native (rm.Heur x commits) c.flags)
-calling_waits (calling.Add k delta) c d z = call_waits d c.manager (native (rm.Add k delta) c.flags)
-calling_waits calling.Shut c d z = call_waits d c.manager (native rm.Shut c.flags)
-calling_waits (calling.Complete h) c d z = completion_waits (check_flags call.Complete c.flags)
-calling_waits (calling.Recover n) c d z = asks d z c.manager (check_flags call.Recover c.flags)
+abbrev pub manager_call_waits : ScriptCall → ScriptCalled → DeskView → ScanView → Bool
+manager_call_waits (manager_call.Xa f x) c d z = call_waits d c.manager (asked_of f x c.flags)
+manager_call_waits (manager_call.Heur x commits) c d z = call_waits d c.manager (native (rm.Heur x commits) c.flags)
+manager_call_waits (manager_call.Add k delta) c d z = call_waits d c.manager (native (rm.Add k delta) c.flags)
+manager_call_waits manager_call.Shut c d z = call_waits d c.manager (native rm.Shut c.flags)
+manager_call_waits (manager_call.Complete h) c d z = completion_waits (check_flags call.Complete c.flags)
+manager_call_waits (manager_call.Recover n) c d z = asks d z c.manager (check_flags call.Recover c.flags)

@@ -17,7 +17,7 @@ use Rattle.xa_atomicity.specs.Outcomes.{has_rolled_back}
 use Rattle.xa_atomicity.specs.Outcomes.{EachOutcome, KeepsTheVotes, TellsTheFates}
 use Rattle.xa_atomicity.specs.Additions.{CountsTheCommitted, Shares}
 use Rattle.xa_words.specs.Tran.{TranName}
-use Rattle.xa_grammar.specs.declared.step.ManagerCall.TheVariants as calling
+use Rattle.xa_grammar.specs.declared.step.ManagerCall.TheVariants as manager_call
 use Rattle.xa_grammar.specs.declared.step.CommitAll.{CommitAll}
 use Rattle.xa_grammar.specs.declared.step.Action.TheVariants as action
 use Rattle.xa_grammar.specs.Steps.{ScriptCall, ScriptAction, ScriptTask, ScriptStep}
@@ -25,7 +25,7 @@ use Rattle.xa_grammar.specs.declared.script.Declared.{Declared}
 use Rattle.xa_grammar.specs.Contents.{Content, tasks_of}
 use Rattle.xa_transcript.specs.declared.answer.Told.{Told}
 use Rattle.xa_session.specs.Committing.{branches_of}
-use Rattle.xa_telling.specs.Parts.{Part}
+use Rattle.xa_telling.specs.Parts.{Part, entered_so_far}
 use Rattle.xa_telling.specs.Journals.{Line, TakesPart, AreCarriedOut, ShowsCommit, entries_of}
 use Rattle.xa_telling.specs.ToldOpenings.{Opening, Former, settled_over}
 use Rattle.xa_transcript.specs.Values.{opened, histories, opened_after}
@@ -45,7 +45,7 @@ ShowsOneOutcome l = (c : CommitAll TranName) (done : Done) → ShowsCommit l c d
 
 -- A line's place among those of its thread: the lines before it have made `old` of the thread's part, it makes `new` of
 -- that, and those after it all that is left in the end.
-pub record Place {steps : List ScriptStep} {answers : List Told} {settled : Settling} {t : ℕ} {first : Part}
+pub record LinePlace {steps : List ScriptStep} {answers : List Told} {settled : Settling} {t : ℕ} {first : Part}
     (told : AreCarriedOut steps answers settled t first) (before : List Line) (l : Line) (after : List Line)
     (old new : Part) : Type 0 where
   pub lines : told.lines ≡ before ++ l ∷ after
@@ -60,14 +60,10 @@ pub record Place {steps : List ScriptStep} {answers : List Told} {settled : Sett
         scan = told.scan;
       })
 
--- How many entries a thread's part has, manager by manager: its next request to a manager has that number.
-abbrev pub entered_so_far : Part → ℕ → ℕ
-entered_so_far p m = length (p.entries m)
-
 -- The branches that a call names: that of its manager with its xid; and so does a heuristic decision.
 abbrev pub branches_by : ℕ → ScriptCall → List Branch
-branches_by m (calling.Xa c (Some x)) = record { m = m; xid = x } ∷ []
-branches_by m (calling.Heur x commits) = record { m = m; xid = x } ∷ []
+branches_by m (manager_call.Xa c (Some x)) = record { m = m; xid = x } ∷ []
+branches_by m (manager_call.Heur x commits) = record { m = m; xid = x } ∷ []
 branches_by m other = []
 
 -- The branch is among them, by its manager and its xid.
