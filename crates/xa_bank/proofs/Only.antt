@@ -7,9 +7,10 @@ use Rattle.xa_tables.specs.{is_rolled_back, Tables, opening, IsOpening, AddsAsIt
 use Rattle.xa_desk.specs.{LedgerView, DeskView, ledger, HaveGrown}
 use Rattle.xa_driver.specs.{Branch, Done, Ending, Heuristic, AsksFor, AtBranch, VotesAndObeys, is_read, is_yes, second_op, third_op, ending_of, yes_ending}
 use Rattle.xa_driver.specs.{no_ending, is_decided, is_out_of_reach, AsksLedger, EachBranch, IsCommit, is_commit, NoCommitWasSent, HaveAsked, PutsLedger}
+use Rattle.xa_driver.specs.{sent_so_far}
 use Rattle.xa_log.specs.{LogState}
-use Rattle.xa_atomicity.specs.{is_heuristic, AreLeftAlone, OnlyTheseName, is_in_doubt, sent_so_far, added_before, added_by_all, held_in_doubt, NothingWasSent}
-use Rattle.xa_atomicity.specs.{OnlyTransfers, opened, worked, committed}
+use Rattle.xa_atomicity.specs.{is_heuristic, AreLeftAlone, OnlyTheseName, is_in_doubt, added_before, added_by_all, held_in_doubt, NothingWasSent, OnlyTransfers}
+use Rattle.xa_atomicity.specs.{opened, worked, committed}
 use Rattle.xa_work.specs.{IsDeath, WorkOutcome, Decided, HasSent, HaveSent, IsFor, IsOpenRm, ComesOfCommit, HaveWorked}
 use Rattle.xa_desk.proofs.Ledgers.{past_end}
 use Rattle.xa_switch.specs.{Plan, IsSettled, sent, IsOpenedWith, history, ledgers_of, accounts_of, Settling}

@@ -1,7 +1,4 @@
--- A commit that was cut short, seen over the first managers of its desk alone, of which there are no more than a record has
--- places for.
--- What a commit came to that was made, or whose coordinator died: whether its log has the record is what was told, where the
--- first branch isn't read only.
+-- Whether a commit's log has its record is what was told of the commit, also where its coordinator died.
 use Rattle.std.specs.FinMap as map
 use Rattle.xa_words.specs.declared.death.Death.TheVariants as death
 use Rattle.xa_base.proofs.{inl, inr, ◌≡◌, ℕ, ◌-◌, ◌≤◌, List, [], ◌∷◌, length, get_or, take, sym, refl, arith, Option, All, cases_lt, All-head, All-tail, rules}
@@ -13,8 +10,8 @@ use Rattle.xa_base.specs.{MOST_MANAGERS, IsUpTo}
 use Rattle.xa_words.specs.{Code, TranName, XidName, tran_of, RdOnly, Death, Op, Prepare}
 use Rattle.xa_desk.specs.{LedgerView, DeskView, ledger, no_ledger, HaveGrown, learnt_shut, with_collected, with_sent}
 use Rattle.xa_desk.proofs.Ledgers.{past_end}
-use Rattle.xa_driver.specs.{Branch, Ending, ending_of, EachBranch, HaveRoom, MayCommit, decision_of, Done as Made, AtBranch, CameTo, HaveAsked, HaveTold}
-use Rattle.xa_driver.specs.{IsDecidedBy, PutsLedger, decides_commit, has_yes, yes_of, AsksLedger, IsTranOf, Logs}
+use Rattle.xa_driver.specs.{Branch, Ending, EachBranch, HaveRoom, MayCommit, decision_of, Done as Made, AtBranch, CameTo, HaveAsked, HaveTold, IsDecidedBy}
+use Rattle.xa_driver.specs.{PutsLedger, decides_commit, has_yes, yes_of, AsksLedger, IsTranOf, Logs}
 use Rattle.xa_log.specs.{LogState, IsEither, record_of, with_record, tran_cmp}
 use Rattle.xa_atomicity.specs.{CameSoFar, EachVote, IsAsked, IsCut, IsEnded, IsTold, asking, forgetting, telling, is_recorded}
 use Rattle.xa_words.proofs.Xids.{xid_self}
@@ -93,8 +90,8 @@ module _ (old new : List LedgerView) where
       telling votes logged logs unknown (at_votes (λ b v a a'. IsTold (decision_of votes logged) b v a a') bs votes low each)
   fewer_far tran bs log later endings low (forgetting votes logged seconds logs each) =
       forgetting votes logged seconds logs
-      (branch_map IsLow (λ b v s e. IsEnded (decision_of votes logged) b v s (ledger old b.m) (ledger new b.m) × (e ≡ ending_of (decision_of votes logged) v s)) _
-      (λ b v s e up h. at_branch (λ a a'. IsEnded (decision_of votes logged) b v s a a' × (e ≡ ending_of (decision_of votes logged) v s)) b up h) bs votes seconds endings low each)
+      (branch_map IsLow (λ b v s e. IsEnded (decision_of votes logged) b v s e (ledger old b.m) (ledger new b.m)) _
+      (λ b v s e up h. at_branch (IsEnded (decision_of votes logged) b v s e) b up h) bs votes seconds endings low each)
 
 pub fewer_cut : (bs : List Branch) (desk : DeskView) (new : List LedgerView) (log later : LogState) (endings : List Ending) → All IsLow bs
     → IsCut bs desk new log later endings → IsCut bs (fewer_at desk) (fewer new) log later endings

@@ -1,7 +1,4 @@
--- After a night that told of each branch XA_OK the next day may begin: no store has a branch, and the logs have records of earlier
--- transfers alone.
--- A day of the bank and its night apply the transfers of which the tellers were told that they were decided to commit, each whole,
--- and the others not at all.
+-- A day of the bank and its night apply the transfers that were decided to commit, each whole and no other, and the next day may begin.
 use Rattle.xa_base.proofs.{ints, inr, list_any-map, is_some, ◌≡◌, ℕ, ◌+◌, ◌<◌, ◌≤◌, Bool, true, false, None, Some, List, [], ◌∷◌, length, get_or, slice_get}
 use Rattle.xa_base.proofs.{sym, ap, ◌∙◌, arith, All, Contains, All-nil, All-cons, All-contains, all_at, got_map, false_from_ne_true, ◌^◌, ◌⊎◌, map, inl}
 use Rattle.xa_base.proofs.{list_any, length-map, All-head, All-tail, rules, get-empty, was_mapped, Any-from_list_any, list_any_at}
@@ -16,7 +13,7 @@ use Rattle.xa_switch.specs.{Again, last_in, reopened_at, IsSettled, find_manager
 use Rattle.xa_scan.specs.{left_at}
 use Rattle.xa_switch.proofs.SettledOpenings.{follows_first}
 use Rattle.xa_log.specs.{IsReadAs, LogState, Records, record_in}
-use Rattle.xa_driver.specs.{Outcome, is_commit, is_to_commit, names as names_manager, outcome_op}
+use Rattle.xa_driver.specs.{Outcome, is_commit, is_to_commit, is_recorded_at as names_manager, outcome_op}
 use Rattle.xa_driver.proofs.Mapped.{Asks}
 use Rattle.xa_atomicity.specs.{is_recorded, IsUseIn, OnlyResolves, ResolveCall, resolves, with_use, Opening}
 use Rattle.xa_atomicity.proofs.Later.{ends_with}

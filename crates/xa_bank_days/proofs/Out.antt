@@ -1,6 +1,4 @@
--- A leg of a transfer whose work was done, of which a commit was made or cut short: who names its branch, what it holds as it is
--- asked to prepare, and that it isn't read only.
--- A leg of a transfer that was committed, or whose commit was cut short, comes out by the log, once the night's resolve is made.
+-- A leg of a transfer whose commit was made or cut short comes out by the log, once the night's resolve is made.
 use Rattle.xa_base.proofs.{after_seam, rules, pos, if◌then◌else◌, ◌≡◌, ◌≢◌, ℕ, ◌+◌, ◌^◌, ◌<◌, ◌≤◌, true, false, List, [], ◌∷◌, ◌++◌, length, length-append}
 use Rattle.xa_base.proofs.{all_left, append_assoc, get_or, slice_get, sym, refl, ap, ◌∙◌, arith, Option, None, Some, option_map, All, Contains, cases_lt}
 use Rattle.xa_base.proofs.{All-nil, All-cons, All-head, All-tail, All-contains, begins_on, is_some, Bool, All-weaker, Contains-append_left}
@@ -11,7 +9,7 @@ use Rattle.xa_worker.specs.{requests}
 use Rattle.xa_switch.specs.{Settling, IsSettled, ManagerPart, find_manager, sent, journal, journal_in, answers, IsOpenedWith, first_of, history, ledgers_of}
 use Rattle.xa_switch.specs.{Again}
 use Rattle.xa_switch.proofs.SettledOpenings.{follows_first}
-use Rattle.xa_driver.specs.{is_commit, Branch, Outcome, is_to_commit as is_marked, names as names_manager, IsTranOf}
+use Rattle.xa_driver.specs.{is_commit, Branch, Outcome, is_to_commit as is_marked, is_recorded_at as names_manager, IsTranOf}
 use Rattle.xa_driver.proofs.Requests.{numbered_length}
 use Rattle.xa_atomicity.specs.{taken_before, IsBetween, is_recorded, OnlyTheseOrDecisionsName, AskedAreLeft, IsResolvedAfter, WasAsked, CutCall, IsOutcomeOf}
 use Rattle.xa_atomicity.specs.{IsUseIn, OnlyResolves, Opening, ResolveCall, cut_call, cuts, resolves, with_use}

@@ -1,8 +1,9 @@
 -- What several logs have that are read as one.
 -- What the transfers of all tellers come to at one store, for one account.
-use Rattle.xa_base.proofs.{each_number, total_append, rules, cases_eq, option_or, ◌≡◌, ◌≢◌, ℕ, zero, suc, Bool, Option, None, Some, List, [], ◌∷◌, length, map}
-use Rattle.xa_base.proofs.{slice_get, sym, refl, ap, ◌∙◌, arith, some_same, ◌+◌, ◌^◌, ◌<◌, ◌≤◌, true, false, ◌||◌, ◌++◌, subst, inl, inr, list_any, or-true}
-use Rattle.xa_base.proofs.{list_any-append, get_or, All, length-map, slice_get_within, All-nil, All-weaker, got, got_map, is_missing, false_from_ne_true}
+use Rattle.xa_base.proofs.{or_none, each_number, total_append, cases_eq, option_or, ◌≡◌, ◌≢◌, ℕ, zero, suc, Bool, Option, None, Some, List, [], ◌∷◌, length}
+use Rattle.xa_base.proofs.{map, slice_get, sym, refl, ap, ◌∙◌, arith, some_same, ◌+◌, ◌^◌, ◌<◌, ◌≤◌, true, false, ◌||◌, ◌++◌, subst, inl, inr, list_any}
+use Rattle.xa_base.proofs.{or-true, list_any-append, get_or, All, length-map, slice_get_within, All-nil, All-weaker, got, got_map, is_missing}
+use Rattle.xa_base.proofs.{false_from_ne_true}
 use Rattle.xa_words.specs.{TranName, XidName, Op}
 use Rattle.xa_log.specs.{Records, all_records, record_in, LogState, record_of, IsReadAs}
 use Rattle.xa_base.specs.{total, MOST_MANAGERS, IsUpTo}
@@ -22,9 +23,6 @@ use Rattle.xa_bank_days.proofs.Made.{legs_as}
 use Rattle.xa_bank_days.proofs.Out.{IsScene, BranchesComeOut}
 use Rattle.xa_atomicity.proofs.Sites.{own_all}
 use Rattle.xa_atomicity.proofs.Settled.{by_ledger}
-
-or_none : (o : Option (List Bool)) → option_or o None ≡ o
-or_none o = search (arith, rules)
 
 -- what xa_log has of several logs: of none, and of one more
 abbrev pub NoLogs : Type 0
@@ -53,7 +51,7 @@ module _ (none : NoLogs) (more : OneLogMore) (tran : TranName) {L : Type 0} (f :
   one_in_all [] i l at others = cc
   one_in_all (p ∷ ls) zero l at others =
       more (f p) (map f ls) tran ∙ ap (λ o. option_or (own p) o) (none_in_all ls (λ k q there. others (suc k) q (λ e. omega (arith, e)) there))
-      ∙ or_none (own p) ∙ ap own (some_same p l at)
+      ∙ or_none (own p) None refl ∙ ap own (some_same p l at)
   one_in_all (p ∷ ls) (suc i) l at others =
       more (f p) (map f ls) tran ∙ ap (λ o. option_or o (in_all ls)) (others 0 p (λ e. omega (arith, e)) refl)
       ∙ one_in_all ls i l at (λ k q apart there. others (suc k) q (λ e. apart (omega (arith, e))) there)

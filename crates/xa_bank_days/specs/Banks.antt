@@ -36,7 +36,7 @@ use Rattle.xa_bank_days.specs.declared.day.Stop.TheVariants.{BadDay, Day, Night,
 use Rattle.xa_bank_days.specs.declared.day.Worked.{Worked}
 use Rattle.xa_bank_days.specs.declared.night.Unresolved.{Unresolved}
 use Rattle.xa_bank_days.specs.Days.{BeginsWith, ForEach, IsDawn, IsDayOf, balances_at, told}
-use Rattle.xa_bank_days.specs.Ledger.{all_applied}
+use Rattle.xa_bank_days.specs.AbstractBank.{all_applied}
 use Rattle.xa_bank_days.specs.Nights.{Excuses, HasRoomToResolve, IsNight, IsUnsettledNight, IsUntouched}
 
 -- ---- a day

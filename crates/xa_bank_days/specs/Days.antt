@@ -28,7 +28,7 @@ use Rattle.xa_bank.specs.declared.teller.Teller.{Teller}
 use Rattle.xa_bank.specs.declared.teller.Transfer.{Transfer}
 use Rattle.xa_bank.specs.Tellers.{Works, has_undecided, last_number}
 use Rattle.xa_bank.specs.Transfers.{gtrid_of, tran_named}
-use Rattle.xa_bank_days.specs.Ledger.{Balances}
+use Rattle.xa_bank_days.specs.AbstractBank.{Balances}
 
 -- ---- what the tellers were told
 

@@ -1,9 +1,9 @@
-pub mod Ledger
+pub mod AbstractBank
 pub mod Days
 pub mod Nights
 pub mod Banks
 -- The words of this crate, by its name.
-pub use Ledger.{Balances, all_applied, applied, share}
+pub use AbstractBank.{Balances, all_applied, applied, share}
 pub use Days.{AreReadBack, AreToldAll, BeginsWith, DayAndNight, ForEach, IsDawn, IsDayOf, IsNamed, IsReadBack}
 pub use Days.{IsResolvedBy, IsToldAll, WorkedIn, all_told, balances_at, balances_of, is_applied, records_of, told}
 pub use Nights.{Excuses, HasPassed, HasRoomToResolve, IsNight, IsUnsettledNight, IsUntouched, ResolvesBy, unopened}

@@ -13,7 +13,7 @@ ghost use Rattle.xa_bank.specs.declared.teller.Transfer.{Transfer};
 ghost use Rattle.xa_bank_days.specs.declared.bank.Bank.{Bank};
 ghost use Rattle.xa_bank_days.specs.Days.{DayAndNight, IsDawn, all_told, balances_at, balances_of};
 ghost use Rattle.xa_bank_days.specs.Banks.{HaveNoRecord, IsMovedBy, IsOpenedBank, IsReady, IsWithin};
-ghost use Rattle.xa_bank_days.specs.Ledger.{all_applied};
+ghost use Rattle.xa_bank_days.specs.AbstractBank.{all_applied};
 
 use xa_atomicity::finished_outcomes_leave_no_branch;
 use xa_days::branches_come_out_by_the_log;

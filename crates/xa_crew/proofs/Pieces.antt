@@ -1,7 +1,7 @@
 -- The pieces of an opening are all there, and come from it; what the members of a crew came to; what is kept as a desk ends.
-use Rattle.xa_base.proofs.{along, ◌≡◌, ℕ, ◌+◌, ◌-◌, ◌<◌, ◌≤◌, true, ◌==◌, List, [], ◌∷◌, length, map, Some, sym, refl, ap, ◌∙◌, arith, slice_get, eq-eqb}
-use Rattle.xa_base.proofs.{length-map, slice_get_within, got, all_from, any_at, map_alike, list_any, zero, suc, All, some_same, all_at, tail_side, side_of}
-use Rattle.xa_base.proofs.{rules, side_to, None, nat_cmp, removed_there, removed_none, IsPermutation, IsPermutation-refl}
+use Rattle.xa_base.proofs.{partner, has_number, along, ◌≡◌, ℕ, ◌+◌, ◌-◌, ◌<◌, List, [], ◌∷◌, length, map, Some, sym, refl, ap, ◌∙◌, arith, slice_get}
+use Rattle.xa_base.proofs.{length-map, all_from, map_alike, zero, suc, All, some_same, all_at, tail_side, side_of, rules, side_to, None, nat_cmp, removed_there}
+use Rattle.xa_base.proofs.{removed_none, IsPermutation, IsPermutation-refl}
 use Rattle.std.specs.FinMap as finmap
 use Rattle.xa_base.specs.{Pairwise, Chain}
 use Rattle.xa_desk.specs.{DeskView, EndedView, Ends, GoesOut, GoesOn, Operation, AllKept}
@@ -17,20 +17,6 @@ use Rattle.xa_calls.specs.{CollectsRedeemed}
 -- desks that end have their seats and their ledgers
 abbrev pub GoOut : Type 0
 GoOut = (d : DeskView) (e : EndedView) → Ends d e → GoesOut d e
-
--- what stands at the same place of the first list
-partner : {A B : Type 0} (P : A → B → Type 0) (xs : List A) (ys : List B) → Pairwise P xs ys → (k : ℕ) (y : B) → slice_get ys k ≡ Some y
-    → (x : A) × (slice_get xs k ≡ Some x) × P x y
-partner P xs ys all k y at =
-    let (x, there) = got xs k (omega (arith, slice_get_within ys k y at, all.as_many)) in
-    (x, there, all.each k x y there at)
-
--- of pieces with rising numbers each is there
-has_number : {A : Type 0} (number : A → ℕ) (xs : List A) → ((k : ℕ) (x : A) → slice_get xs k ≡ Some x → number x ≡ k + 1)
-    → (n : ℕ) → 1 ≤ n → n ≤ length xs → list_any (λ x. number x == n) xs ≡ true
-has_number number xs numbers n low high =
-    let (x, at) = got xs (n - 1) (omega (arith, low, high)) in
-    any_at (λ y. number y == n) xs (n - 1) x at (eq-eqb (number x) n (omega (arith, numbers (n - 1) x at, low)))
 
 module _ (out : GoOut) where
   gone_seat : (d : DeskView) (e : EndedView) → HasGone d e → seat_of_ended e ≡ seat_of_desk d

@@ -6,8 +6,8 @@ use Rattle.xa_switch.specs.OpenedPieces.{AreOfOneOpening}
 use Rattle.xa_switch.specs.Plans.{Setup, IsWithinLimits}
 use Rattle.xa_crew.specs.declared.opened.Opened.{Opened}
 use Rattle.xa_crew.specs.declared.opened.Room.{Room}
-use Rattle.xa_crew.specs.declared.opened.RunFault.{RunFault}
-use Rattle.xa_crew.specs.declared.opened.RunFault.TheVariants.{Unsettled, Unstarted}
+use Rattle.xa_crew.specs.declared.opened.OpenedFault.{OpenedFault}
+use Rattle.xa_crew.specs.declared.opened.OpenedFault.TheVariants.{Unsettled, Unstarted}
 use Rattle.xa_crew.specs.declared.opened.Space.{Space}
 use Rattle.xa_crew.specs.declared.run.Ran.{Ran}
 use Rattle.xa_crew.specs.Run.{CanTell, IsReady}
@@ -44,11 +44,11 @@ pub record IsOpened {C : Type 0} (p : Setup) (o : Opened C) : Type 0 where
   pub room : HasRoomFor (length o.jobs.items) o.room
 
 -- what comes back of a run that wasn't started is this
-abbrev pub IfNotStarted : {C : Type 0} → (Opened C → Type 0) → RunFault C → Type 0
+abbrev pub IfNotStarted : {C : Type 0} → (Opened C → Type 0) → OpenedFault C → Type 0
 IfNotStarted P (Unstarted opened) = P opened
 IfNotStarted P (Unsettled ran) = Unit {0}
 
 -- what comes back of a run that isn't settled is this
-abbrev pub IfNotSettled : {C : Type 0} → (Ran C → Type 0) → RunFault C → Type 0
+abbrev pub IfNotSettled : {C : Type 0} → (Ran C → Type 0) → OpenedFault C → Type 0
 IfNotSettled P (Unstarted opened) = Unit {0}
 IfNotSettled P (Unsettled ran) = P ran

@@ -1,9 +1,9 @@
 -- Workers that take turns: how they go on.
 use Rattle.std.specs.Prelude.{◌≡◌, ℕ, ◌-◌, ◌<◌, ◌≤◌, Some, List, length, map, slice_get, slice_set}
 use Rattle.xa_worker.specs.declared.step.Step.{Step}
-use Rattle.xa_worker.specs.Seats.{seat_of_worker}
+use Rattle.xa_worker.specs.WorkerSeats.{seat_of_worker}
 use Rattle.xa_worker.specs.Workers.{WorkerView, SameWorker, Extends, IsTied}
-use Rattle.xa_worker.specs.Steps.{Stepped}
+use Rattle.xa_worker.specs.WorkerSteps.{Stepped}
 use Rattle.xa_base.specs.Lists.{Pairwise}
 
 -- The worker is the same one in its seat, and its journal has only grown; its codes are still those of the tables, and

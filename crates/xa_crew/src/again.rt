@@ -9,7 +9,7 @@ ghost use Rattle.xa_crew.specs.Again.{AreGiven, HasRunAgain, IfUnopened, IfUnsta
 ghost use Rattle.xa_crew.specs.Opened.{HasSpaceFor, IsOpened, clients_of};
 
 use crate::client::Client;
-use crate::opened::{Opened, RunFault, Space};
+use crate::opened::{Opened, OpenedFault, Space};
 use crate::run::{Ran, Run};
 use std::alloc::{AllocError, Global};
 use std::fmt;
@@ -213,8 +213,8 @@ pub fn run_clients_again<
     match open_clients_again(rt, alloc, settled, again, clients) {
         Ok(opened) => match opened.run(rt, alloc, paces) {
             Ok(run) => Ok(run),
-            Err(RunFault::Unstarted(opened)) => Err(AgainFault::Unstarted(opened)),
-            Err(RunFault::Unsettled(ran)) => Err(AgainFault::Unsettled(ran)),
+            Err(OpenedFault::Unstarted(opened)) => Err(AgainFault::Unstarted(opened)),
+            Err(OpenedFault::Unsettled(ran)) => Err(AgainFault::Unsettled(ran)),
         },
         Err(unopened) => Err(AgainFault::Unopened(unopened)),
     }

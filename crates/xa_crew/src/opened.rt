@@ -49,7 +49,7 @@ pub struct Opened<C> {
 
 /// Why no settled opening comes of one whose clients were to be run.
 #[derive(Drop)]
-pub enum RunFault<C> {
+pub enum OpenedFault<C> {
     /// Memory was refused, or a thread, before all threads were started. Nothing was run and nothing sent: it is as it
     /// was opened.
     Unstarted(Opened<C>),
@@ -59,11 +59,11 @@ pub enum RunFault<C> {
 }
 
 // What comes back isn't shown: clients needn't be `Debug`.
-impl<C> fmt::Debug for RunFault<C> {
+impl<C> fmt::Debug for OpenedFault<C> {
     fn fmt<W: fmt::Write>(&self, f: &mut fmt::Formatter<W>) -> fmt::Result {
         match self {
-            RunFault::Unstarted(_) => write!(f, "Unstarted(..)"),
-            RunFault::Unsettled(_) => write!(f, "Unsettled(..)"),
+            OpenedFault::Unstarted(_) => write!(f, "Unstarted(..)"),
+            OpenedFault::Unsettled(_) => write!(f, "Unsettled(..)"),
         }
     }
 }
@@ -162,7 +162,7 @@ impl<C: Client + Send + 'static> Opened<C> {
         rt: &R,
         alloc: Global,
         paces: Vec<P>,
-    ) -> Result<Run<C>, RunFault<C>>
+    ) -> Result<Run<C>, OpenedFault<C>>
         requires opened { (p : Setup) × IsOpened p self }
         requires paces { length self.workers.items ≤ length paces.items }
         ensures ran { IfOk result (λ r. (p : Setup) → IsOpened p self
@@ -178,7 +178,7 @@ impl<C: Client + Send + 'static> Opened<C> {
             room,
         } = self;
         let Ok((worker_jobs, spare)) = reserve_workers(alloc, workers.len()) else {
-            return Err(RunFault::Unstarted(Opened {
+            return Err(OpenedFault::Unstarted(Opened {
                 jobs,
                 workers,
                 room,
@@ -204,10 +204,10 @@ impl<C: Client + Send + 'static> Opened<C> {
                     },
                 ) {
                     Ok(run) => Ok(run),
-                    Err(ran) => Err(RunFault::Unsettled(ran)),
+                    Err(ran) => Err(OpenedFault::Unsettled(ran)),
                 }
             }
-            Err((jobs, worker_jobs)) => Err(RunFault::Unstarted(Opened {
+            Err((jobs, worker_jobs)) => Err(OpenedFault::Unstarted(Opened {
                 jobs,
                 workers: workers_of(worker_jobs, spare),
                 room,

@@ -6,7 +6,7 @@ ghost use Rattle.xa_crew.specs.Run.{HasRunAll, IsRun, PutsBack};
 use crate::client::Client;
 use crate::client_job::{Attended, Worked};
 use crate::fault::CrewFault;
-use crate::opened::{RunFault, open_clients};
+use crate::opened::{OpenedFault, open_clients};
 use crate::settling::settle_pieces;
 use std::alloc::Global;
 use std::sync::Wait;
@@ -67,8 +67,8 @@ pub fn run_clients<
     let opened = open_clients(rt, alloc, plan, clients)?;
     match opened.run(rt, alloc, paces) {
         Ok(run) => Ok(run),
-        Err(RunFault::Unstarted(_)) => Err(CrewFault::NoMemory),
-        Err(RunFault::Unsettled(ran)) => Err(CrewFault::Unsettled(ran)),
+        Err(OpenedFault::Unstarted(_)) => Err(CrewFault::NoMemory),
+        Err(OpenedFault::Unsettled(ran)) => Err(CrewFault::Unsettled(ran)),
     }
 }
 

@@ -4,7 +4,7 @@ use Rattle.xa_base.proofs.{drop, refl, sym, ◌∙◌, ap, arith, length-set, le
 use Rattle.xa_base.proofs.{get_or-set_other, Bool, replicate, FinMap, length-replicate, take-take, take_at, drop-drop, ◌⊎◌, suc, zero, get_or_past}
 use Rattle.std.proofs.lemmas.List.{length-take-le}
 use Rattle.xa_log.specs.{CommitRecord, tran_cmp, Records, record_in}
-use Rattle.xa_file_log.specs.{Slot, Free, Taken, overwritten, IsOverwritten, Torn, spelling, head, IsValid, slot, AreApart, IsSlotOf, StandsFor, IsSettled}
+use Rattle.xa_file_log.specs.{Slot, Free, Taken, overwritten, IsOverwritten, Torn, spelling, head, IsValid, slot, AreApart, IsSlotOf, StandsFor, IsDurable}
 use Rattle.xa_file_log.specs.{on_file, table_of, HasBody, HasNoName, MayHave, MayShow, Forgotten, taken, forgotten, forgets, name_of, IsNoLog, HasName}
 use Rattle.xa_file_log.specs.{HasNoneForgotten, IsIndexOf, Table, records_of, records_in, forgotten_in, HasRecordsAndPerhaps, LeavesOnly, HasWithOrWithout}
 use Rattle.xa_file_log.specs.{ForgetsNoMore, shut}
@@ -136,7 +136,7 @@ stands_shown slots file stands = shown_of (slots_as refl (slots_of whole_part sl
 
 -- and so does what a crash leaves once it is synced
 pub settled_shown : {D : Type 0} {seen : D → List ℕ} {may_leave : D → List ℕ → Type 0} (slots : List Slot) {device : D}
-    → IsSettled seen may_leave (table_of slots) device → (c : List ℕ) → may_leave device c → MayShow slots c
+    → IsDurable seen may_leave (table_of slots) device → (c : List ℕ) → may_leave device c → MayShow slots c
 settled_shown slots settled c left = stands_shown slots c (rw (settled.durable c left) settled.stands)
 
 -- what has a shut gate, and what has an open one before a record

@@ -9,7 +9,7 @@ use Rattle.xa_file_log.specs.declared.condition.Condition.{Condition}
 use Rattle.xa_file_log.specs.declared.condition.Condition.TheVariants.{Ready}
 use Rattle.xa_file_log.specs.declared.slot.Slot.{Slot}
 use Rattle.xa_file_log.specs.Device.{LeavesOnly}
-use Rattle.xa_file_log.specs.Spelling.{IsValid}
+use Rattle.xa_file_log.specs.RecordBytes.{IsValid}
 use Rattle.xa_file_log.specs.Slots.{HasRecords}
 use Rattle.xa_file_log.specs.Memory.{HasRecordsAndPerhaps, IsFull, records_in, forgotten_in, shut, used}
 

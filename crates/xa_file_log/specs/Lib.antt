@@ -1,15 +1,15 @@
 pub mod Device
-pub mod Spelling
+pub mod RecordBytes
 pub mod Slots
 pub mod Memory
 pub mod Appends
-pub mod Histories
+pub mod DeviceHistories
 pub mod HistoryLaws
 -- The words of this crate, by its name.
 pub use Device.{Elapses, Follows, HasCause, IsOverwritten, IsTorn, IsWhole, LeavesOnly, Only, Torn, overwritten}
-pub use Spelling.{IsValid, yes_bytes}
-unfoldable pub use Spelling.{fields, head, spelling}
-pub use Slots.{AreApart, HasEither, HasRecords, IsNewLog, IsNoLog, IsSettled, IsSlotOf, Keeps, StandsFor, Table}
+pub use RecordBytes.{IsValid, yes_bytes}
+unfoldable pub use RecordBytes.{fields, head, spelling}
+pub use Slots.{AreApart, HasEither, HasRecords, IsNewLog, IsNoLog, IsDurable, IsSlotOf, Keeps, StandsFor, Table}
 pub use Slots.{entries, free_slots, name_of, records_of, slot}
 pub use Memory.{AreNewNames, HasBodies, HasBody, HasName, HasNoFree, HasNoName, HasNoneForgotten, HasRecordsAndPerhaps}
 pub use Memory.{HasRoomFor, IsFull, IsIndexOf, LeavesShown, MayHave, MayShow, Shows, coming, forgets, forgotten}
@@ -17,7 +17,7 @@ pub use Memory.{filled, forgotten_in, is_used, log_state, name_at, on_file, plac
 pub use Memory.{used}
 pub use Appends.{Disk, ForgetsNoMore, HasWithAnyOf, HasWithOrWithout, IsAppend, IsForgetting, IsGroupAppend}
 pub use Appends.{IsGroupLoss, IsLoss, IsOneOf, LogAt}
-pub use Histories.{LeftSince, Past, failed, failures, leaves, left_after, left_by, writing}
+pub use DeviceHistories.{LeftSince, Past, failed, failures, leaves, left_after, left_by, writing}
 pub use HistoryLaws.{now_is_since, only_the_last}
 pub use declared.mirrored.Call.{Call}
 pub use declared.mirrored.Call.TheVariants.{Synced}

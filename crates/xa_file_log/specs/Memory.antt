@@ -10,8 +10,8 @@ use Rattle.xa_log.specs.Log.{Records, LogState, record_in}
 use Rattle.xa_log.specs.Transactions.{tran_cmp}
 use Rattle.xa_file_log.specs.declared.slot.Slot.{Slot}
 use Rattle.xa_file_log.specs.declared.slot.Slot.TheVariants.{Free, Taken, Forgotten}
-use Rattle.xa_file_log.specs.Spelling.{spelling, head}
-use Rattle.xa_file_log.specs.Slots.{Table, slot, name_of, AreApart, IsSettled, IsSlotOf, HasRecords, records_of}
+use Rattle.xa_file_log.specs.RecordBytes.{spelling, head}
+use Rattle.xa_file_log.specs.Slots.{Table, slot, name_of, AreApart, IsDurable, IsSlotOf, HasRecords, records_of}
 
 -- what the file has of a slot
 abbrev pub on_file : Slot → Option CommitRecord
@@ -143,7 +143,7 @@ pub record MayShow (slots : List Slot) (file : List ℕ) : Type 0 where
 
 -- what a read returns has these slots, and a crash leaves it
 abbrev pub Shows : {D : Type 0} → (D → List ℕ) → (D → List ℕ → Type 0) → List Slot → D → Type 0
-Shows seen may_leave slots device = IsSettled seen may_leave (table_of slots) device
+Shows seen may_leave slots device = IsDurable seen may_leave (table_of slots) device
 
 -- whatever a crash leaves may have these slots
 abbrev pub LeavesShown : {D : Type 0} → (D → List ℕ → Type 0) → List Slot → D → Type 0

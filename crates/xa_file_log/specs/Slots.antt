@@ -6,7 +6,7 @@ use Rattle.xa_words.specs.Tran.{TranName}
 use Rattle.xa_log.specs.declared.log.CommitRecord.{CommitRecord}
 use Rattle.xa_log.specs.Log.{Records}
 use Rattle.xa_file_log.specs.Device.{Only}
-use Rattle.xa_file_log.specs.Spelling.{spelling, head, IsValid}
+use Rattle.xa_file_log.specs.RecordBytes.{spelling, head, IsValid}
 
 -- the record of each slot, where it has one
 abbrev pub Table : Type 0
@@ -60,7 +60,7 @@ abbrev pub HasEither : Records → Records → List ℕ → Type 0
 HasEither before after file = HasRecords before file ⊎ HasRecords after file
 
 -- what a read returns stands for the table, and a crash leaves it
-pub record IsSettled {D : Type 0} (seen : D → List ℕ) (may_leave : D → List ℕ → Type 0) (table : Table)
+pub record IsDurable {D : Type 0} (seen : D → List ℕ) (may_leave : D → List ℕ → Type 0) (table : Table)
     (device : D) : Type 0 where
   pub stands : StandsFor table (seen device)
   pub durable : Only (seen device) (may_leave device)

@@ -5,7 +5,7 @@ ghost use Rattle.xa_file_log.specs.declared.slot.Slot.TheVariants.{Free};
 ghost use Rattle.xa_file_log.specs.declared.condition.Condition.TheVariants.{Ready};
 ghost use Rattle.xa_file_log.specs.declared.creating.CreateFault.TheVariants.{NotEmpty, Memory, Failed};
 ghost use Rattle.xa_file_log.specs.Device.{Only, LeavesOnly};
-ghost use Rattle.xa_file_log.specs.Spelling.{head};
+ghost use Rattle.xa_file_log.specs.RecordBytes.{head};
 ghost use Rattle.xa_file_log.specs.Slots.{StandsFor, IsNewLog, free_slots};
 
 use crate::condition::Condition;

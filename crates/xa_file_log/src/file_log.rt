@@ -7,7 +7,7 @@ ghost use Rattle.xa_file_log.specs.declared.condition.Condition.TheVariants.{Rea
 ghost use Rattle.xa_log.specs.Log.{record_in};
 ghost use Rattle.xa_file_log.specs.Appends.{IsAppend, IsLoss, IsForgetting};
 ghost use Rattle.xa_file_log.specs.Device.{LeavesOnly};
-ghost use Rattle.xa_file_log.specs.Spelling.{IsValid};
+ghost use Rattle.xa_file_log.specs.RecordBytes.{IsValid};
 ghost use Rattle.xa_file_log.specs.Memory.{HasNoName, IsFull, LeavesShown, MayShow, HasRecordsAndPerhaps, Shows};
 ghost use Rattle.xa_file_log.specs.Memory.{table_of, taken, records_in, forgotten_in, log_state, shut};
 

@@ -3,8 +3,8 @@ ghost use Rattle.std.specs.Prelude.{◌≡◌, ◌<◌, ◌≤◌, ◌+◌, List
 ghost use Rattle.std.specs.List.{All};
 ghost use Rattle.xa_log.specs.declared.log.LogFault.TheVariants.{Refused};
 ghost use Rattle.xa_file_log.specs.Device.{LeavesOnly, Only, HasCause};
-ghost use Rattle.xa_file_log.specs.Spelling.{IsValid};
-ghost use Rattle.xa_file_log.specs.Slots.{Keeps, StandsFor, IsSettled};
+ghost use Rattle.xa_file_log.specs.RecordBytes.{IsValid};
+ghost use Rattle.xa_file_log.specs.Slots.{Keeps, StandsFor, IsDurable};
 ghost use Rattle.xa_file_log.specs.Memory.{MayShow, HasBodies, HasNoFree, HasRoomFor, AreNewNames};
 ghost use Rattle.xa_file_log.specs.Memory.{table_of, placed, coming};
 
@@ -52,7 +52,7 @@ fn open_gates<D: Device>(
     first: usize,
     decisions: &[CommitRecord],
 ) -> Result<(), DeviceFault>
-    requires settled { IsSettled D.seen D.may_leave (table_of slots.now) device.old }
+    requires settled { IsDurable D.seen D.may_leave (table_of slots.now) device.old }
     requires bodies { HasBodies slots.now decisions.now (D.seen device.old) }
     requires none_before { HasNoFree slots.now first }
     requires first { first ≤ length slots.now }
@@ -88,14 +88,14 @@ pub(crate) fn write_records<D: Device>(
     first: usize,
     decisions: &[CommitRecord],
 ) -> Result<(), LogFault>
-    requires settled { IsSettled D.seen D.may_leave (table_of slots.now) device.old }
+    requires settled { IsDurable D.seen D.may_leave (table_of slots.now) device.old }
     requires none_before { HasNoFree slots.now first }
     requires first { first ≤ length slots.now }
     requires room { HasRoomFor slots.now (length decisions.now) }
     requires valid { All IsValid decisions.now }
     requires new { AreNewNames slots.now decisions.now }
     ensures logged { OnOk result
-        (IsSettled D.seen D.may_leave (table_of (placed slots.now decisions.now)) device.new) }
+        (IsDurable D.seen D.may_leave (table_of (placed slots.now decisions.now)) device.new) }
     ensures refused { IsErrOf result Refused → Keeps D.may_leave (table_of slots.now) device.new }
 
     // A crash at any moment leaves the records from before the call, and any of the new ones.

@@ -5,7 +5,7 @@ ghost use Rattle.xa_log.specs.Log.{AreNew};
 ghost use Rattle.xa_file_log.specs.declared.condition.Condition.TheVariants.{Ready, Lost};
 ghost use Rattle.xa_file_log.specs.Appends.{IsGroupAppend, IsGroupLoss};
 ghost use Rattle.xa_file_log.specs.Device.{LeavesOnly};
-ghost use Rattle.xa_file_log.specs.Spelling.{IsValid};
+ghost use Rattle.xa_file_log.specs.RecordBytes.{IsValid};
 ghost use Rattle.xa_file_log.specs.Memory.{HasNoName, HasRoomFor, MayShow, log_state, shut, used};
 
 use crate::condition::Condition;

@@ -1,7 +1,7 @@
 //! A device over any file: its model is what was written, and the calls that were made.
 ghost use Rattle.std.specs.Prelude.{◌≡◌, ◌≤◌, true, length, IfOk, OnOk};
 ghost use Rattle.xa_file_log.specs.Device.{Only, overwritten};
-ghost use Rattle.xa_file_log.specs.Histories.{leaves, writing, LeftSince, failures};
+ghost use Rattle.xa_file_log.specs.DeviceHistories.{leaves, writing, LeftSince, failures};
 ghost use Rattle.xa_file_log.specs.HistoryLaws.{now_is_since, only_the_last};
 
 use crate::device::{Device, DeviceFault, ReadFault};

@@ -6,7 +6,7 @@ ghost use Rattle.xa_log.specs.Log.{Records};
 ghost use Rattle.xa_file_log.specs.declared.condition.Condition.TheVariants.{Ready};
 ghost use Rattle.xa_file_log.specs.declared.opening.OpenFault.TheVariants.{Memory, Failed, NotALog, Damaged};
 ghost use Rattle.xa_file_log.specs.Device.{Only, LeavesOnly};
-ghost use Rattle.xa_file_log.specs.Spelling.{head};
+ghost use Rattle.xa_file_log.specs.RecordBytes.{head};
 ghost use Rattle.xa_file_log.specs.declared.slot.Slot.TheVariants.{Free};
 ghost use Rattle.xa_file_log.specs.Slots.{slot, IsSlotOf, StandsFor, HasRecords, IsNoLog};
 ghost use Rattle.xa_file_log.specs.Memory.{HasNoneForgotten, table_of, records_in};

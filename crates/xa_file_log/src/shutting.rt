@@ -1,7 +1,7 @@
 //! The gates of forgotten records are shut.
 ghost use Rattle.std.specs.Prelude.{◌≡◌, List, ℕ, map, OnOk};
 ghost use Rattle.xa_file_log.specs.Device.{LeavesOnly, HasCause};
-ghost use Rattle.xa_file_log.specs.Slots.{IsSettled};
+ghost use Rattle.xa_file_log.specs.Slots.{IsDurable};
 ghost use Rattle.xa_file_log.specs.Memory.{MayShow, table_of, taken};
 
 use crate::device::{Device, DeviceFault};
@@ -11,8 +11,8 @@ use crate::slot::Slot;
 /// Shuts the gates of all forgotten records, and syncs where there are any. Whatever it answers, a crash at any moment
 /// leaves the taken records, and perhaps forgotten ones.
 pub(crate) fn shut_gates<D: Device>(device: &mut D, slots: &[Slot]) -> Result<(), DeviceFault>
-    requires settled { IsSettled D.seen D.may_leave (table_of slots.now) device.old }
-    ensures shut { OnOk result (IsSettled D.seen D.may_leave (map taken slots.now) device.new) }
+    requires settled { IsDurable D.seen D.may_leave (table_of slots.now) device.old }
+    ensures shut { OnOk result (IsDurable D.seen D.may_leave (map taken slots.now) device.new) }
     ensures now { (c : List ℕ) → D.may_leave device.new c → MayShow slots.now c }
     ensures any_moment { LeavesOnly D.moment D.left_since device.old device.new (MayShow slots.now) }
     ensures cause { HasCause (D.faults device.old) (D.faults device.new) result }

@@ -2,7 +2,7 @@
 ghost use Rattle.std.specs.Prelude.{◌≡◌, ◌==◌, ◌↔◌, length, map, IfSome, IsTrue, None, Some};
 ghost use Rattle.xa_words.specs.ManagerSet.{is_in, set_of};
 ghost use Rattle.xa_log.specs.declared.log.CommitRecord.{CommitRecord};
-ghost use Rattle.xa_file_log.specs.Spelling.{fields, spelling, yes_bytes, IsValid};
+ghost use Rattle.xa_file_log.specs.RecordBytes.{fields, spelling, yes_bytes, IsValid};
 
 use md5::{Digest, Md5};
 use xa_base::MOST_MANAGERS;

@@ -3,9 +3,9 @@ ghost use Rattle.std.specs.Prelude.{◌≡◌, ◌⊎◌, ◌<◌, length, slice
 ghost use Rattle.std.specs.Prelude.{OnOk, IsErr, IsErrOf};
 ghost use Rattle.xa_log.specs.declared.log.LogFault.TheVariants.{Refused};
 ghost use Rattle.xa_file_log.specs.Device.{LeavesOnly};
-ghost use Rattle.xa_file_log.specs.Spelling.{IsValid};
+ghost use Rattle.xa_file_log.specs.RecordBytes.{IsValid};
 ghost use Rattle.xa_file_log.specs.declared.slot.Slot.TheVariants.{Free, Taken};
-ghost use Rattle.xa_file_log.specs.Slots.{Keeps, StandsFor, IsSettled};
+ghost use Rattle.xa_file_log.specs.Slots.{Keeps, StandsFor, IsDurable};
 ghost use Rattle.xa_file_log.specs.Memory.{HasNoName, table_of};
 
 use crate::device::Device;
@@ -25,13 +25,13 @@ pub(crate) fn write_record<D: Device>(
     place: usize,
     decision: &CommitRecord,
 ) -> Result<(), LogFault>
-    requires settled { IsSettled D.seen D.may_leave (table_of slots.now) device.old }
+    requires settled { IsDurable D.seen D.may_leave (table_of slots.now) device.old }
     requires place { place < length slots.now }
     requires free { slice_index_or slots.now place Free ≡ Free }
     requires new { HasNoName slots.now decision.now.tran }
     requires valid { IsValid decision.now }
     ensures logged { OnOk result
-        (IsSettled D.seen D.may_leave (table_of (slice_set slots.now place (Taken decision.now))) device.new) }
+        (IsDurable D.seen D.may_leave (table_of (slice_set slots.now place (Taken decision.now))) device.new) }
     ensures refused { IsErrOf result Refused → Keeps D.may_leave (table_of slots.now) device.new }
 
     // A crash at any moment leaves the records from before the call, with the new one or without.

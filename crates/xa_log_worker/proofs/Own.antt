@@ -1,6 +1,6 @@
 -- The records that a coordinator keeps, and the senders of a new lane.
 use Rattle.xa_base.proofs.{◌≡◌, cond, List, [], ◌∷◌, ◌++◌, map, Bool, None, refl, sym, ap, ◌∙◌, append_assoc, map-append, get-insert, get-remove, is_equal, ℕ}
-use Rattle.xa_base.proofs.{zero, suc, length, arith, length-append, All, All-push, from_entries, get-lookup, one_removed, insert, same_map, lookup}
+use Rattle.xa_base.proofs.{zero, suc, length, arith, length-append, from_entries, get-lookup, one_removed, insert, same_map, lookup}
 use Rattle.std.specs.FinMap.{get, remove}
 use Rattle.xa_words.specs.{TranName, tran_eq}
 use Rattle.xa_log.specs.{Records, record_in, tran_cmp}
@@ -40,7 +40,3 @@ as_many T lane line capacity zero senders is = ap length is
 as_many T lane line capacity (suc n) senders is =
     let fewer : List (Sending T) = new_senders lane line capacity n in
     search (arith, as_many T lane line capacity n fewer refl, length-append fewer)
-
--- what holds of all and of one more
-pub pushed_all : {X : Type 0} (P : X → Type 0) (xs ys : List X) (x : X) → ys ≡ xs ++ x ∷ [] → All P xs → P x → All P ys
-pushed_all P xs ys x is all one = rw is (All-push P xs x all one)

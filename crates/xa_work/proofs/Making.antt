@@ -1,7 +1,7 @@
 -- How the requests of a unit of work are made, one more after those before.
-use Rattle.xa_base.proofs.{chain_append, ◌≡◌, ◌≢◌, ℕ, suc, ◌+◌, ◌<◌, ◌≤◌, Bool, true, ◌&&◌, ◌==◌, cond, List, [], ◌∷◌, ◌++◌, length, map, take, drop}
+use Rattle.xa_base.proofs.{at_drop, chain_append, ◌≡◌, ◌≢◌, ℕ, suc, ◌+◌, ◌<◌, ◌≤◌, Bool, true, ◌&&◌, ◌==◌, cond, List, [], ◌∷◌, ◌++◌, length, map, take, drop}
 use Rattle.xa_base.proofs.{append_assoc, length-append, arith, eq-eqb, sym, refl, ap, ◌∙◌, slice_index_or, list_all, range_with_len, ne_eqb, append-nil}
-use Rattle.xa_base.proofs.{length-map, map-append, take_all, take-append-drop, flat_push, one_more, range_more, drop-cons, list_all-append}
+use Rattle.xa_base.proofs.{length-map, map-append, take_all, flat_push, one_more, range_more, list_all-append}
 use Rattle.std.proofs.lemmas.List.Elements.{filter_more}
 use Rattle.xa_base.specs.{Chain}
 use Rattle.xa_base.specs.Lists.Chain.{none, more}
@@ -20,15 +20,6 @@ all_more : {X : Type 0} (p : X → Bool) (xs : List X) (x : X) (ok : Bool) → o
 all_more p xs x ok is = (λ i. is i && and_true (p x) i) ∙ sym (list_all-append p xs (x ∷ []))
 
 -- ---- the first of a list
-
--- the first, one more, and the others
-pub parted : {X : Type 0} (xs : List X) (i : ℕ) (x : X) → i < length xs → x ≡ slice_index_or xs i x → xs ≡ take i xs ++ x ∷ drop (i + 1) xs
-parted xs i x below is =
-    sym (take-append-drop (i + 1) xs) ∙ ap (λ l. l ++ drop (i + 1) xs) (one_more xs i x below is) ∙ append_assoc (take i xs) (x ∷ []) (drop (i + 1) xs)
-
--- what is left, and its first
-pub at_drop : {X : Type 0} (xs : List X) (i : ℕ) (x : X) → i < length xs → x ≡ slice_index_or xs i x → drop i xs ≡ x ∷ drop (i + 1) xs
-at_drop xs i x below is = grind (arith, drop-cons)
 
 -- ---- what the work so far leaves
 

@@ -13,7 +13,6 @@ use Rattle.xa_driver.specs.{asked}
 use Rattle.xa_work.specs.{StaysSo, PutsOp, IsCollected, CollectsOp, done, nothing, after_called, HasSent, HaveSent, IsTurnedAway, IsNoHandle, CallsOp, called}
 use Rattle.xa_work.specs.{failed, uncalled}
 use Rattle.xa_work.specs.Requests.{undone}
-use Rattle.std.specs.FinMap as map
 use Rattle.xa_words.specs.CodeNumbers.{number_of}
 use Rattle.xa_calls.specs.Completing.CompletesOne.{unknown, retry, ready, waited}
 

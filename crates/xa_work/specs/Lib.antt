@@ -12,8 +12,8 @@ pub use Works.{in_flight, in_turn, ops_of, requests_at, requests_of, steps_in}
 pub use Units.{AreFew, ComesOfCommit, HaveRoomToWork, IfLost, IsDeath, IsGivenUp, IsRefused, LeavesKnown, Loses}
 pub use Units.{MayBegin, Transacts, comes_to_decide, cut_short, has_died, in_full, is_last, is_to_commit, undecided}
 pub use declared.in_flight.Flight.{Flight}
-pub use declared.step.Step.{Step}
-pub use declared.step.Step.TheVariants.{Add, End, Start}
+pub use declared.step.WorkStep.{WorkStep}
+pub use declared.step.WorkStep.TheVariants.{Add, End, Start}
 pub use declared.unit.Change.{Change}
 pub use declared.unit.Refusal.TheVariants.{GivenUp, NotBegun}
 pub use declared.unit.TheConstants.{AFTERWARDS}

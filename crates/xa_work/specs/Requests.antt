@@ -17,11 +17,11 @@ use Rattle.xa_desk.specs.DeskViews.{DeskView, after_sent, after_collected, is_kn
 use Rattle.xa_desk.specs.DeskViews.{outstanding}
 use Rattle.xa_calls.specs.Completing.{keeps_by, may_complete, number_in}
 use Rattle.xa_calls.specs.Putting.{Puts, put_refusal}
-use Rattle.xa_work.specs.declared.step.Step.{Step}
-use Rattle.xa_work.specs.declared.step.Step.TheVariants.{Start, Add, End}
+use Rattle.xa_work.specs.declared.step.WorkStep.{WorkStep}
+use Rattle.xa_work.specs.declared.step.WorkStep.TheVariants.{Start, Add, End}
 
 -- what a step of a branch's work asks its manager for
-abbrev pub op_of : XidName → Step → Op
+abbrev pub op_of : XidName → WorkStep → Op
 op_of x Start = ops.Start x Fresh
 op_of x (Add k d) = ops.Add k d
 op_of x End = ops.End x Success

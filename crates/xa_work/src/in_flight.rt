@@ -7,7 +7,7 @@ ghost use Rattle.xa_work.specs.Units.{AreFew};
 ghost use Rattle.xa_work.specs.Works.{CollectsAll, PutsRequests, TriesInFlight, ops_of, requests_at, requests_of};
 ghost use Rattle.xa_work.specs.Works.{steps_in};
 
-use crate::step::{Step, take_step};
+use crate::step::{WorkStep, take_step};
 use crate::unit::Change;
 use std::sync::Wait;
 use xa_base::MOST_REQUESTS;
@@ -38,7 +38,7 @@ fn put<R: Wait, I: Idle>(
     rt: &R,
     desk: &mut Desk,
     branch: &Branch,
-    step: &Step,
+    step: &WorkStep,
     idle: &mut I,
 ) -> Flight
     ensures goes_on { GoesOn desk.old desk.new }
@@ -79,14 +79,14 @@ fn put_branch<R: Wait, I: Idle>(
 {
     desks_go_on();
     idles_go_on::<I>();
-    flights.push_reserved(put(rt, desk, branch, &Step::Start, idle));
+    flights.push_reserved(put(rt, desk, branch, &WorkStep::Start, idle));
     for change in changes {
         if change.m == branch.m {
-            let step = Step::Add(change.key, change.delta);
+            let step = WorkStep::Add(change.key, change.delta);
             flights.push_reserved(put(rt, desk, branch, &step, idle));
         }
     }
-    flights.push_reserved(put(rt, desk, branch, &Step::End, idle));
+    flights.push_reserved(put(rt, desk, branch, &WorkStep::End, idle));
 }
 
 // Collects what the handle stands for: whether it is one, and XA_OK was answered.

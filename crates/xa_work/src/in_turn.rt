@@ -5,7 +5,7 @@ ghost use Rattle.xa_desk.specs.Kept.{AllKept};
 ghost use Rattle.xa_work.specs.Requests.{CallsOp, op_of};
 ghost use Rattle.xa_work.specs.Works.{CallsBranch, CallsBranches};
 
-use crate::step::{Step, take_step};
+use crate::step::{WorkStep, take_step};
 use crate::unit::Change;
 use std::sync::Wait;
 use xa_crew::laws::idles_go_on;
@@ -18,7 +18,7 @@ fn ask<R: Wait, I: Idle>(
     rt: &R,
     desk: &mut Desk,
     branch: &Branch,
-    step: &Step,
+    step: &WorkStep,
     idle: &mut I,
 ) -> bool
     ensures goes_on { GoesOn desk.old desk.new }
@@ -44,14 +44,14 @@ fn work_on<R: Wait, I: Idle>(
 {
     desks_go_on();
     idles_go_on::<I>();
-    let mut all = ask(rt, desk, branch, &Step::Start, idle);
+    let mut all = ask(rt, desk, branch, &WorkStep::Start, idle);
     for change in changes {
         if change.m == branch.m {
-            let step = Step::Add(change.key, change.delta);
+            let step = WorkStep::Add(change.key, change.delta);
             all &= ask(rt, desk, branch, &step, idle);
         }
     }
-    let ended = ask(rt, desk, branch, &Step::End, idle);
+    let ended = ask(rt, desk, branch, &WorkStep::End, idle);
     all & ended
 }
 

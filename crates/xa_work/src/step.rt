@@ -13,7 +13,7 @@ use xa_words::{Call, Delta, Key, RmOp, TMASYNC, TMNOFLAGS, TMSUCCESS};
 
 /// A step of a branch's work.
 #[derive(Clone, Copy)]
-pub(crate) enum Step {
+pub(crate) enum WorkStep {
     /// The thread starts it.
     Start,
     /// A change of a key's value is made in it.
@@ -27,7 +27,7 @@ pub(crate) fn take_step<R: Wait, I: Idle>(
     rt: &R,
     desk: &mut Desk,
     branch: &Branch,
-    step: &Step,
+    step: &WorkStep,
     asynchronous: bool,
     idle: &mut I,
 ) -> i32
@@ -42,8 +42,8 @@ pub(crate) fn take_step<R: Wait, I: Idle>(
     let flags = if asynchronous { TMASYNC } else { TMNOFLAGS };
     let Branch { m, xid } = *branch;
     match *step {
-        Step::Start => xa_call(rt, desk, Call::Start, Some(xid), m, flags, idle),
-        Step::Add(key, delta) => native(rt, desk, RmOp::Add(key, delta), m, flags, idle),
-        Step::End => xa_call(rt, desk, Call::End, Some(xid), m, flags | TMSUCCESS, idle),
+        WorkStep::Start => xa_call(rt, desk, Call::Start, Some(xid), m, flags, idle),
+        WorkStep::Add(key, delta) => native(rt, desk, RmOp::Add(key, delta), m, flags, idle),
+        WorkStep::End => xa_call(rt, desk, Call::End, Some(xid), m, flags | TMSUCCESS, idle),
     }
 }

@@ -1,5 +1,4 @@
 use Rattle.xa_base.proofs.{◌+◌, refl, arith, inl, inr, ◌∙◌, range_with_len, cases_eq, range_more}
-use Rattle.std.specs.FinMap as finmap
 use Rattle.xa_base.specs.Lists.Chain.{none, more}
 use Rattle.xa_crew.specs.{Telling}
 use Rattle.xa_crew.proofs.Pieces.{number_freed, number_leaves}

@@ -1,7 +1,7 @@
 use Rattle.xa_base.proofs.{rules, ◌≡◌, ℕ, List, [], sym, ◌∙◌, ap, arith, Decides-eqb}
 use Rattle.std.proofs.Common.{vec_len}
 use Rattle.std.proofs.lemmas.List.{nil_from_length}
-use Rattle.xa_file_log.specs.{StandsFor, IsSettled, IsNewLog, free_slots, table_of}
+use Rattle.xa_file_log.specs.{StandsFor, IsDurable, IsNewLog, free_slots, table_of}
 use Rattle.xa_file_log.proofs.Moments.{started, goes_on, joined, short_file}
 use Rattle.xa_file_log.proofs.Stands.{settled_shown}
 use Rattle.xa_file_log.proofs.Tables.{new_table}
@@ -12,7 +12,7 @@ invariant_of-result g c =
     let free = rw c.in-Ok-Ok.is-0 at c.new-table.ensures in
     let same : table_of c.in-Ok-Ok.table.slots.items ≡ free_slots c.args.slots = ap table_of free ∙ new_table c.args.slots in
     let stands : StandsFor (table_of c.in-Ok-Ok.table.slots.items) (g.D.Device.seen c.write_new.new.device) = search (arith, g.D.Device.seen) in
-    let settled : IsSettled g.D.Device.seen g.D.Device.may_leave (table_of c.in-Ok-Ok.table.slots.items) c.write_new.new.device = search (arith, rules) in
+    let settled : IsDurable g.D.Device.seen g.D.Device.may_leave (table_of c.in-Ok-Ok.table.slots.items) c.write_new.new.device = search (arith, rules) in
     record { ready = λ is. settled; known = λ known. settled_shown c.in-Ok-Ok.table.slots.items settled }
 
 pub returns-clause-any_moment : goal.returns-clause-any_moment

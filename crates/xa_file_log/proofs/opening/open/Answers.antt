@@ -1,12 +1,12 @@
 use Rattle.xa_base.proofs.{arith, ◌∙◌, ap, rules}
-use Rattle.xa_file_log.specs.{IsSettled, StandsFor, records_of, table_of}
+use Rattle.xa_file_log.specs.{IsDurable, StandsFor, records_of, table_of}
 use Rattle.xa_file_log.proofs.Tables.{one_content, all_count}
 use Rattle.xa_file_log.proofs.Stands.{settled_shown}
 use Rattle.xa_file_log.proofs.opening.open.Goals as goal
 
 pub invariant_of-result : goal.invariant_of-result
 invariant_of-result g c =
-    let settled : IsSettled g.D.Device.seen g.D.Device.may_leave (table_of c.in-Ok-read_table.table.slots.items) c.read.new.self = search (arith, rules) in
+    let settled : IsDurable g.D.Device.seen g.D.Device.may_leave (table_of c.in-Ok-read_table.table.slots.items) c.read.new.self = search (arith, rules) in
     record { ready = λ is. settled; known = λ known. settled_shown c.in-Ok-read_table.table.slots.items settled }
 
 pub returns-in-Ok-read_table-clause-reads : goal.returns-in-Ok-read_table-clause-reads

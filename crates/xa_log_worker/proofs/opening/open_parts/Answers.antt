@@ -1,8 +1,8 @@
-use Rattle.xa_base.proofs.{◌≡◌, ◌≤◌, [], true, ap, arith, ◌∙◌, spare, common_steps}
+use Rattle.xa_base.proofs.{pushed_all, ◌≡◌, ◌≤◌, [], true, ap, arith, ◌∙◌, spare, common_steps}
 use Rattle.xa_log.specs.{no_records}
 use Rattle.xa_log_worker.specs.Asking.{Answers}
 use Rattle.xa_log_worker.specs.{records_of}
-use Rattle.xa_log_worker.proofs.Own.{as_many, pushed_all}
+use Rattle.xa_log_worker.proofs.Own.{as_many}
 use Rattle.xa_log_worker.proofs.opening.open_parts.Goals as goal
 
 pub loop-sender-init : goal.loop-sender-init

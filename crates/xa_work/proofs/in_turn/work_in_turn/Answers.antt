@@ -1,8 +1,8 @@
-use Rattle.xa_base.proofs.{chain_all, chain_more, arith, ◌≡◌, ◌+◌, true, false, [], drop, refl, take}
+use Rattle.xa_base.proofs.{parted_at, chain_all, chain_more, arith, ◌≡◌, ◌+◌, true, false, [], drop, refl, take}
 use Rattle.xa_base.specs.Lists.Chain.{none}
 use Rattle.xa_work.specs.{CallsBranch}
 use Rattle.xa_work.specs.Works.CallsBranches.{stopped}
-use Rattle.xa_work.proofs.Making.{parted, leaves_none, leaves_on}
+use Rattle.xa_work.proofs.Making.{leaves_none, leaves_on}
 use Rattle.xa_work.proofs.in_turn.work_in_turn.Goals as goal
 
 pub loop-branch-init : goal.loop-branch-init
@@ -25,7 +25,7 @@ returns-then-not-work_on-clause-calls g c =
     let i = c.loop-branch.branch-index in
     let b = c.branch-item.result in
     let not_all : c.work_on.result ≡ false = cc in
-    stopped (take i bs) (drop (i + 1) bs) b c.loop-branch.desk refl (parted bs i b c.loop-branch-test.true c.branch-item.is) c.loop-branch.invariant.calls
+    stopped (take i bs) (drop (i + 1) bs) b c.loop-branch.desk refl (parted_at bs i b c.loop-branch-test.true c.branch-item.is) c.loop-branch.invariant.calls
     (rw not_all at c.work_on.ensures.calls)
 
 pub returns-clause-calls : goal.returns-clause-calls

@@ -7,7 +7,7 @@ use Rattle.xa_words.specs.declared.key.Key.{Key}
 use Rattle.xa_words.specs.declared.request.Delta.{Delta}
 use Rattle.xa_desk.specs.{DeskView}
 use Rattle.xa_calls.specs.{asked_of, native, Calls, Puts}
-use Rattle.xa_work.specs.{Step, Start, Add, End, op_of}
+use Rattle.xa_work.specs.{WorkStep, Start, Add, End, op_of}
 use Rattle.xa_work.proofs.step.take_step.Goals as goal
 use Rattle.xa_work.proofs.step.take_step.Goals.{then-asynchronous, else-asynchronous}
 
@@ -16,7 +16,7 @@ flags_of true = TMASYNC
 flags_of false = 0
 
 -- what a step puts to the manager
-abbrev Takes : XidName → Step → Bool → ℕ → DeskView → DeskView → ℤ → Type 0
+abbrev Takes : XidName → WorkStep → Bool → ℕ → DeskView → DeskView → ℤ → Type 0
 Takes x s a m d e z = Puts d m (record { op = op_of x s; asynchronous = a }) e z
 
 by_flags : (P : ℕ → Type 0) (Q : Bool → Type 0) → (P TMASYNC → Q true) → (P 0 → Q false) → (a : Bool) (f : ℕ) → f ≡ flags_of a → P f → Q a
@@ -24,7 +24,7 @@ by_flags P Q one two true f is p = one (rw is at p)
 by_flags P Q one two false f is p = two (rw is at p)
 
 -- so the step that was asked for, and the answer as it is returned
-taken : (x : XidName) (s t : Step) (a : Bool) (m : ℕ) (d e : DeskView) (z w : ℤ) → s ≡ t → w ≡ z → Takes x t a m d e z → Takes x s a m d e w
+taken : (x : XidName) (s t : WorkStep) (a : Bool) (m : ℕ) (d e : DeskView) (z w : ℤ) → s ≡ t → w ≡ z → Takes x t a m d e z → Takes x s a m d e w
 taken x s t a m d e z w is same takes = rw (is, same) takes
 
 pub returns-in-Start-clause-puts : goal.returns-in-Start-clause-puts

@@ -1,6 +1,9 @@
-use Rattle.xa_base.proofs.{IfOk-weaker, IfErr-weaker, ◌≡◌, ℕ, ap, refl, arith, List, length, ◌∙◌}
+use Rattle.xa_base.proofs.{IfOk-weaker, IfErr-weaker, ◌≡◌, ◌<◌, ◌^◌, ℕ, Bool, ap, refl, arith, List, length, ◌∙◌}
+use Rattle.xa_words.specs.{TranName}
 use Rattle.xa_switch.specs.{Again}
-use Rattle.xa_bank_days.specs.{Bank, Closed, Errands, next_numbers, IsWorkedDay}
+use Rattle.xa_log.specs.{LogState}
+use Rattle.xa_bank.specs.{Teller}
+use Rattle.xa_bank_days.specs.{AreTurned, Bank, Closed, Errands, HasWorked, next_numbers, IsDay, IsWorkedDay, Worked}
 use Rattle.xa_bank_days.proofs.Moved.{same_length}
 use Rattle.xa_bank_days.proofs.bank.Bank.close_day.Goals as goal
 
@@ -15,6 +18,14 @@ pub numbers_are : {threads : ℕ} {l es : List Errands} (first day : Again) → 
     → day ≡ next_numbers first (length es)
 numbers_are first day e same of_day = of_day ∙ ap (next_numbers first) (e ∙ ap (λ (l : List Errands). length l) same)
 
+-- the day, by what both answers have of it
+abbrev pub is_day_of : {L : Type 0} {state : L → LogState} {knows : L → Type 0} {loses : TranName → List Bool → L → L → Type 0} {reopens : L → L → Type 0}
+    {b : Bank L} {errands items : List Errands} {c : Closed} (turned : List (Teller L)) (day : Worked L) → items ≡ errands → length items < 2 ^ 32
+    → AreTurned b.next b.tellers.items errands turned → HasWorked state knows loses reopens b.settled turned day → c.outcomes ≡ day.evening.outcomes
+    → c.found ≡ day.evening.found → IsDay state knows loses reopens b errands c
+is_day_of turned day same few are_turned works told found =
+    record { turned = turned; are_turned = are_turned; many = rw same at few; day = day; works = works; told_ = told; found_ = found }
+
 pub returns-in-Ok-pass_night : goal.returns-in-Ok-pass_night
 returns-in-Ok-pass_night g c =
     let day = c.in-Ok-work_day.day in
@@ -26,15 +37,7 @@ returns-in-Ok-pass_night g c =
     let at =
     rw numbers at c.in-Ok-pass_night.ensures.passed in
     let worked : IsWorkedDay g.L.DecisionLog.state g.L.DecisionRecords.knows g.L.DecisionLog.loses g.L.ReopenLog.reopens c.args.self c.args.errands.items closed after = record {
-      is_day = record {
-        turned = c.turn_all-tellers.result.items;
-        are_turned = c.turn_all-tellers.ensures;
-        many = rw c.deref.ensures.value at c.in-Some.ensures.few;
-        day = day;
-        works = c.in-Ok-work_day.ensures.worked;
-        told_ = refl;
-        found_ = refl;
-      };
+      is_day = is_day_of c.turn_all-tellers.result.items day c.deref.ensures.value c.in-Some.ensures.few c.turn_all-tellers.ensures c.in-Ok-work_day.ensures.worked refl refl;
       stays = at.stays;
       numbers = at.numbers;
       tellers = at.tellers_;
@@ -62,14 +65,6 @@ returns-in-Err-pass_night-clause-stopped g c =
     let day = c.in-Ok-work_day.day in
     let numbers =
     numbers_are c.args.self.again c.next_numbers-again.result c.in-Some.ensures.threads c.deref.ensures.value c.next_numbers-again.ensures.numbers in (
-      record {
-        turned = c.turn_all-tellers.result.items;
-        are_turned = c.turn_all-tellers.ensures;
-        many = rw c.deref.ensures.value at c.in-Some.ensures.few;
-        day = day;
-        works = c.in-Ok-work_day.ensures.worked;
-        told_ = refl;
-        found_ = refl;
-      },
+      is_day_of c.turn_all-tellers.result.items day c.deref.ensures.value c.in-Some.ensures.few c.turn_all-tellers.ensures c.in-Ok-work_day.ensures.worked refl refl,
       rw numbers at c.in-Err-pass_night.ensures.unsettled,
     )
