@@ -4,10 +4,10 @@ use Rattle.xa_words.specs.{TranName, RmFail}
 use Rattle.xa_desk.specs.{LedgerView}
 use Rattle.xa_switch.specs.{reopening, IsOf, IsScanOf, IsSettled, Settling, Again}
 use Rattle.xa_scan.specs.{ScanView}
-use Rattle.xa_driver.specs.{Outcome}
+use Rattle.xa_driver.specs.{Outcome, sent_so_far}
 use Rattle.xa_log.specs.{Records, record_in}
-use Rattle.xa_atomicity.specs.{AreLeftOrDecided, sent_so_far, CommitCall, ResolveCall, Opening, commits, resolve_call, resolves, with_use, Continues}
-use Rattle.xa_atomicity.specs.{IsByItsThread, IsKept, IsResolved, IsUseIn, OnlyResolves}
+use Rattle.xa_atomicity.specs.{AreLeftOrDecided, CommitCall, ResolveCall, Opening, commits, resolve_call, resolves, with_use, Continues, IsByItsThread, IsKept}
+use Rattle.xa_atomicity.specs.{IsResolved, IsUseIn, OnlyResolves}
 use Rattle.xa_atomicity.proofs.NextOpening.{kept_with, scan_of}
 
 -- an opening in which nobody uses the log

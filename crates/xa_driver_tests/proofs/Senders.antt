@@ -8,8 +8,8 @@ use Rattle.xa_desk.specs.{LedgerView, new_ledger, ledger, no_ledger, sent_to, is
 use Rattle.xa_worker.specs.{WorkerView}
 use Rattle.xa_switch.specs.{thread_part, history as history_of, ledgers_of, AreOfOneOpening, Setup, ThreadPart, IsSettled, sent, find_thread, ledgers_in}
 use Rattle.xa_switch.specs.{Settling}
-use Rattle.xa_driver.specs.{Branch}
-use Rattle.xa_atomicity.specs.{AreLeftOrDecided, OnlyTheseOrDecisionsName, sent_so_far, ResolveCall, resolves, OnlyResolves}
+use Rattle.xa_driver.specs.{Branch, sent_so_far}
+use Rattle.xa_atomicity.specs.{AreLeftOrDecided, OnlyTheseOrDecisionsName, ResolveCall, resolves, OnlyResolves}
 use Rattle.xa_atomicity.proofs.Sites.{request_of, of_ops, own_all}
 
 -- ---- what threads sent

@@ -6,12 +6,12 @@ use crate::openings::{open, plan_of};
 use crate::thing::Came;
 use std::alloc::Global;
 use std::sync::Wait;
-use xa_calls::{RmOp, native, xa_call};
+use xa_calls::{RmOp, xa_call};
 use xa_crew::Turns;
 use xa_desk::Desk;
 use xa_driver::{Branch, Done, Ending, commit_all, may_commit};
 use xa_log::{CommitRecord, DecisionLog, DecisionRecords, MemoryLog};
-use xa_words::{Call, Delta, Key, ManagerSet, TMNOFLAGS, TMSUCCESS, Xid};
+use xa_words::{Call, Delta, Key, ManagerSet, Xid};
 
 /// A desk that has worked for two branches of one transaction, and its log.
 #[derive(Drop)]
@@ -55,11 +55,7 @@ pub(crate) fn work<R: Wait>(
     ensures seat { seat_of_desk desk.new ≡ seat_of_desk desk.old }
     ensures idled { map seat_of_worker idle.new ≡ map seat_of_worker idle.old }
 {
-    let opened = xa_call(rt, desk, Call::OpenRm, None, branch.m, TMNOFLAGS, idle);
-    let started = ask(rt, desk, Call::Start, branch, TMNOFLAGS, idle);
-    let added = native(rt, desk, addition, branch.m, TMNOFLAGS, idle);
-    let ended = ask(rt, desk, Call::End, branch, TMSUCCESS, idle);
-    opened == 0 && started == 0 && added == 0 && ended == 0
+    xa_testing::work(rt, desk, branch.m, branch.xid, addition, idle)
 }
 
 impl Committer {

@@ -13,7 +13,7 @@ use std::process::Abort;
 use std::sync::atomic::{AtomicBool, Ordering};
 use std::sync::{Arc, Wait};
 use std::thread::Threads;
-use xa_calls::{RmOp, native, xa_call};
+use xa_calls::{RmOp, native};
 use xa_crew::laws::idles_go_on;
 use xa_crew::{Attended, Client, Run, run_clients};
 use xa_desk::laws::desks_go_on;
@@ -21,8 +21,8 @@ use xa_desk::{Desk, Idle};
 use xa_driver::{Branch, Done, Ending, Outcome, commit_all, may_commit};
 use xa_log::{CommitRecord, DecisionLog, DecisionRecords, LogFault, MemoryLog};
 use xa_switch::{Again, Plan, Settled};
-use xa_testing::comes;
-use xa_words::{Call, Code, Delta, Key, ManagerSet, TMNOFLAGS, TMSUCCESS, Tran, Xid};
+use xa_testing::{comes, work};
+use xa_words::{Code, Delta, Key, ManagerSet, TMNOFLAGS, Tran, Xid};
 use xa_worker::Free;
 
 // What the two threads tell each other.
@@ -109,44 +109,6 @@ fn leg(m: u32, bqual: &[u8], change: i64) -> Option<(Branch, RmOp)> {
     Some((Branch { m, xid }, addition))
 }
 
-// A call for the branch.
-fn ask<R: Wait, I: Idle>(
-    rt: &R,
-    desk: &mut Desk,
-    call: Call,
-    branch: &Branch,
-    flags: u32,
-    idle: &mut I,
-) -> i32
-    ensures goes_on { GoesOn desk.old desk.new }
-    ensures kept { AllKept desk.old → AllKept desk.new }
-    ensures idled { I.leads idle.old idle.new }
-{
-    let xid = Some(branch.xid);
-    xa_call(rt, desk, call, xid, branch.m, flags, idle)
-}
-
-// Whether this was added for the branch, at a manager that the thread opened first.
-fn work<R: Wait, I: Idle>(
-    rt: &R,
-    desk: &mut Desk,
-    branch: &Branch,
-    addition: RmOp,
-    idle: &mut I,
-) -> bool
-    ensures goes_on { GoesOn desk.old desk.new }
-    ensures kept { AllKept desk.old → AllKept desk.new }
-    ensures idled { I.leads idle.old idle.new }
-{
-    desks_go_on();
-    idles_go_on::<I>();
-    let opened = ask(rt, desk, Call::OpenRm, branch, TMNOFLAGS, idle);
-    let started = ask(rt, desk, Call::Start, branch, TMNOFLAGS, idle);
-    let added = native(rt, desk, addition, branch.m, TMNOFLAGS, idle);
-    let ended = ask(rt, desk, Call::End, branch, TMSUCCESS, idle);
-    opened == 0 && started == 0 && added == 0 && ended == 0
-}
-
 // Works for three branches, whose additions sum to 0, and commits them where that may be done.
 fn commit<R: Wait, I: Idle>(
     rt: &R,
@@ -164,9 +126,9 @@ fn commit<R: Wait, I: Idle>(
     let (first, less) = leg(1, b"1", -2)?;
     let (second, more) = leg(2, b"2", 1)?;
     let (third, as_much) = leg(3, b"3", 1)?;
-    let at_first = work(rt, desk, &first, less, idle);
-    let at_second = work(rt, desk, &second, more, idle);
-    let at_third = work(rt, desk, &third, as_much, idle);
+    let at_first = work(rt, desk, first.m, first.xid, less, idle);
+    let at_second = work(rt, desk, second.m, second.xid, more, idle);
+    let at_third = work(rt, desk, third.m, third.xid, as_much, idle);
     let branches = [first, second, third];
     if !(at_first && at_second && at_third && may_commit(desk, log, branches.as_slice())) {
         return None;

@@ -8,12 +8,11 @@ use std::alloc::Global;
 use std::process::Abort;
 use std::snapshot::Snapshot;
 use std::sync::Wait;
-use xa_calls::{RmOp, native, xa_call};
+use xa_calls::RmOp;
 use xa_crew::Turns;
 use xa_desk::{Desk, EndedDesk, Idle};
 use xa_driver::{Branch, Done, commit_all, may_commit};
 use xa_log::MemoryLog;
-use xa_words::{Call, TMNOFLAGS, TMSUCCESS};
 use xa_worker::DoneWorker;
 
 // Work for a branch, at a manager that the thread opens first.
@@ -21,13 +20,9 @@ pub(super) fn work<R: Wait + Abort>(rt: &R, desk: &mut Desk, branch: &Branch, id
     ensures seat { seat_of_desk desk.new ≡ seat_of_desk desk.old }
     ensures idled { map seat_of_worker idle.new ≡ map seat_of_worker idle.old }
 {
-    let (m, xid) = (branch.m, Some(branch.xid));
     let add = RmOp::Add(key(rt), delta(rt, 1));
-    let opened = xa_call(rt, desk, Call::OpenRm, None, m, TMNOFLAGS, idle);
-    let started = xa_call(rt, desk, Call::Start, xid, m, TMNOFLAGS, idle);
-    let added = native(rt, desk, add, m, TMNOFLAGS, idle);
-    let ended = xa_call(rt, desk, Call::End, xid, m, TMSUCCESS, idle);
-    assert!(rt; opened == 0 && started == 0 && added == 0 && ended == 0);
+    let worked = xa_testing::work(rt, desk, branch.m, branch.xid, add, idle);
+    assert!(rt; worked);
 }
 
 // A commit that a desk made: the desk and its log before it and after it, and what it told.

@@ -5,13 +5,13 @@ use std::process::Abort;
 use std::sync::Wait;
 use std::sync::atomic::{AtomicBool, Ordering};
 use std::thread::{Threads, join};
-use xa_calls::{RmOp, native, xa_call};
+use xa_calls::RmOp;
 use xa_desk::{Desk, EndedDesk, Spin};
 use xa_driver::{Branch, Done, Ending, commit_all, may_commit};
 use xa_log::{DecisionLog, MemoryLog};
 use xa_switch::{Plan, open_switch};
 use xa_testing::{comes, end, one, two};
-use xa_words::{Call, Op, Request, TMNOFLAGS, TMSUCCESS};
+use xa_words::{Op, Request};
 use xa_worker::{DoneWorker, Pace, Worker};
 
 // Tells that a worker came to its Prepare, and holds it until the other one came to its own.
@@ -38,14 +38,9 @@ impl Pace for Meeting<'_> {
 
 // Work on a branch that changes the manager's key.
 fn work<R: Wait + Abort>(rt: &R, desk: &mut Desk, branch: &Branch) {
-    let mut spin = Spin::new();
     let add = RmOp::Add(super::key(rt), super::delta(rt, 1));
-    let (m, xid) = (branch.m, Some(branch.xid));
-    let opened = xa_call(rt, desk, Call::OpenRm, None, m, TMNOFLAGS, &mut spin);
-    let started = xa_call(rt, desk, Call::Start, xid, m, TMNOFLAGS, &mut spin);
-    let added = native(rt, desk, add, m, TMNOFLAGS, &mut spin);
-    let ended = xa_call(rt, desk, Call::End, xid, m, TMSUCCESS, &mut spin);
-    assert!(rt; opened == 0 && started == 0 && added == 0 && ended == 0);
+    let worked = xa_testing::work(rt, desk, branch.m, branch.xid, add, &mut Spin::new());
+    assert!(rt; worked);
 }
 
 // Commits branches at managers 1 and 2, for which the thread has worked.

@@ -6,7 +6,8 @@ ghost use Rattle.xa_switch.specs.Belonging.{ComeFromOpenings, desk_seats, worker
 ghost use Rattle.xa_switch.specs.Belonging.{seat_of_worker, seat_of_done};
 ghost use Rattle.xa_desk.specs.Growth.{HaveGrown};
 ghost use Rattle.xa_driver.specs.Trace.{IsCommit};
-ghost use Rattle.xa_atomicity.specs.Outcomes.{AreLeftOrDecided, KeepsTheVotes, TellsTheFates, sent_so_far};
+ghost use Rattle.xa_atomicity.specs.Outcomes.{AreLeftOrDecided, KeepsTheVotes, TellsTheFates};
+ghost use Rattle.xa_driver.specs.Deaths.{sent_so_far};
 
 use super::pieces::{Made, commit, end, run_all, work};
 use super::{branch, key, plan_of};

@@ -13,13 +13,13 @@ use std::process::Abort;
 use std::snapshot::Snapshot;
 use std::sync::Wait;
 use xa_atomicity::{others_leave_the_branches, stages_are_cuts, stages_follow};
-use xa_calls::{RmOp, native, xa_call};
+use xa_calls::RmOp;
 use xa_crew::Turns;
 use xa_desk::Desk;
 use xa_driver::{Branch, Done, Ending, commit_all, may_commit, prepare_all};
 use xa_log::{DecisionRecords, MemoryLog};
 use xa_switch::{Plan, Settled};
-use xa_words::{Call, Key, TMNOFLAGS, TMSUCCESS, Xid};
+use xa_words::{Key, Xid};
 
 // The two are different branches.
 fn differ(branch: &Branch, other: &Branch) -> bool
@@ -119,13 +119,9 @@ fn work<R: Wait + Abort>(rt: &R, desk: &mut Desk, branch: &Branch, key: Key, idl
     ensures seat { seat_of_desk desk.new ≡ seat_of_desk desk.old }
     ensures idled { map seat_of_worker idle.new ≡ map seat_of_worker idle.old }
 {
-    let (m, xid) = (branch.m, Some(branch.xid));
     let add = RmOp::Add(key, delta(rt, 1));
-    let opened = xa_call(rt, desk, Call::OpenRm, None, m, TMNOFLAGS, idle);
-    let started = xa_call(rt, desk, Call::Start, xid, m, TMNOFLAGS, idle);
-    let added = native(rt, desk, add, m, TMNOFLAGS, idle);
-    let ended = xa_call(rt, desk, Call::End, xid, m, TMSUCCESS, idle);
-    assert!(rt; opened == 0 && started == 0 && added == 0 && ended == 0);
+    let worked = xa_testing::work(rt, desk, branch.m, branch.xid, add, idle);
+    assert!(rt; worked);
 }
 
 // Two managers, each with the keys `a` and `b` of value 5.
