@@ -85,16 +85,16 @@ fn opened<R: Abort>(rt: &R, alloc: Global, room: usize, upsets: Upsets) -> Count
 fn each_append_of_each_coordinator_is_taken(rt: HostRuntime) {
     for coordinators in [1, 4, 8] {
         let log = opened(&rt, rt.alloc(), 4000, Upsets::default());
-        let (counts, log) = share(rt, rt.alloc(), log, coordinators, 300, 300);
+        let (counts, log) = share(rt, rt.alloc(), log, coordinators, 100, 100);
         let all = Counts {
-            taken: 300,
+            taken: 100,
             ..Counts::default()
         };
         assert!(rt; counts.iter().all(|count| *count == all));
         assert_eq!(rt; counts.len(), coordinators);
-        assert_eq!(rt; log.len(), 300 * coordinators);
+        assert_eq!(rt; log.len(), 100 * coordinators);
         let calls = log.groups.wrapping_add(log.singles);
-        let appends = 300 * coordinators as u64;
+        let appends = 100 * coordinators as u64;
         assert!(rt;
             if coordinators == 1 {
                 calls == appends
