@@ -1,6 +1,5 @@
 pub mod Ending
 pub mod Pieces
-pub mod Hands
 pub mod Run
 pub mod Opened
 pub mod Again
@@ -9,7 +8,6 @@ pub mod Turning
 -- The words of this crate, by its name.
 pub use Ending.{EndsDesk, EndsNumber, EndsNumbers, Telling, Told}
 pub use Pieces.{ArePiecesOf, HasGone, HasServed}
-pub use Hands.{AreAtFirst, Comes, HasRoom, HasRoomForAll, IsAt}
 pub use Run.{CanTell, HasRun, HasRunAll, HasWorked, HaveRun, IsReady, IsRun, Member, PutsBack, fault_of, member_of}
 pub use Opened.{HasRoomFor, HasSpaceFor, IfNotSettled, IfNotStarted, IsOpened, clients_of}
 pub use Again.{AgainWorks, AreGiven, HasRunAgain, IfUnopened, IfUnsettled, IfUnstarted, IsBad, IsRunAgain}
@@ -22,6 +20,4 @@ pub use declared.again.WithScan.{WithScan}
 pub use declared.client_job.Attended.{Attended}
 pub use declared.client_job.ClientJob.{ClientJob}
 pub use declared.client_job.Worked.{Worked}
-pub use declared.hands.Came.{Came}
-pub use declared.hands.DoneOf.{DoneOf}
 pub use declared.run.Ran.{Ran}

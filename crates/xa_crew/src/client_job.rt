@@ -6,11 +6,10 @@ ghost use Rattle.xa_crew.specs.Run.{CanTell, HasWorked, IsReady};
 
 use crate::client::Client;
 use crate::ending::end_desk;
-use crate::job::Job;
 use crate::laws::idles_go_on;
-use crate::word::Go;
 use std::sync::Wait;
 use xa_desk::{Desk, EndedDesk, Idle, Spin};
+use xa_jobs::{Go, Job};
 use xa_words::Code;
 
 /// A client that has worked.

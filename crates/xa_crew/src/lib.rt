@@ -18,15 +18,12 @@ mod client;
 mod client_job;
 mod ending;
 mod fault;
-mod hands;
 mod in_turns;
-mod job;
 pub mod laws;
 mod opened;
 mod run;
 mod settling;
 mod turns;
-mod word;
 mod worker_job;
 
 pub use again::{

@@ -7,7 +7,6 @@ ghost use Rattle.xa_crew.specs.Run.{HasRunAll, IsRun};
 
 use crate::client::Client;
 use crate::client_job::{Attended, ClientJob, Worked, attend_all, client_jobs_of};
-use crate::hands::do_all;
 use crate::run::{Ran, Run, apart, settle_run};
 use crate::turns::Turns;
 use crate::worker_job::{WorkerJob, worker_jobs_of, workers_of};
@@ -17,6 +16,7 @@ use std::sync::Wait;
 use std::thread::Threads;
 use xa_base::{MOST_HANDLES, MOST_MANAGERS};
 use xa_desk::{Desk, EndedDesk};
+use xa_jobs::do_all;
 use xa_switch::laws::opened_desks_keep_what_is_outstanding;
 use xa_switch::{OpenFault, Plan, open_switch};
 use xa_words::Code;

@@ -1,9 +1,8 @@
 //! A worker's thread.
 ghost use Rattle.std.specs.Prelude.{◌≡◌, ◌≤◌, [], length, map, vec_capacity};
 
-use crate::job::Job;
-use crate::word::Go;
 use std::sync::Wait;
+use xa_jobs::{Go, Job};
 use xa_worker::{DoneWorker, Pace, Worker};
 
 /// A worker, and what happens before each of its requests.

@@ -14,10 +14,11 @@ use Rattle.xa_grammar.specs.{ScriptStep, ScriptTask, task_of, tasks_of, Content,
 use Rattle.xa_crew.specs.{AllGoOn, all_stay, all_go_on, EndsDesk, Member, HasServed, ArePiecesOf}
 use Rattle.xa_crew.proofs.WorkersOn.{turn_goes, all_served}
 use Rattle.xa_transcript.specs.{Told, all_ended, ended}
-use Rattle.xa_session.specs.{Session, HasDone, ScriptThread, new_session, told_of}
+use Rattle.xa_session.specs.{Session, HasDone, new_session, told_of}
 use Rattle.xa_telling.specs.{Beginning, is_to, answers_to, is_end_of, ends_of, Comes, Ran, AreOpened, BeginsAs}
 use Rattle.xa_telling.proofs.Opened.{AreOf, opened_thread, tasks_are_of}
 use Rattle.xa_script.specs.{TurnsAt, HasStepped, HasMadeSteps, Closing, HasEndedDesk, HaveEnded, HasCalled, HasWorked, turns_at, closing_of, told_by, Goes}
+use Rattle.xa_script.specs.{ScriptThread}
 use Rattle.xa_script.specs.InThreads.{InThreads}
 use Rattle.xa_script.specs.InTurns.{InTurns}
 

@@ -12,7 +12,7 @@ use Rattle.xa_crew.specs.Ending.{EndsDesk}
 use Rattle.xa_crew.specs.Pieces.{HasServed}
 use Rattle.xa_crew.specs.Run.{Member}
 use Rattle.xa_transcript.specs.declared.answer.Told.{Told}
-use Rattle.xa_session.specs.declared.script_thread.ScriptThread.{ScriptThread}
+use Rattle.xa_script.specs.declared.script_thread.ScriptThread.{ScriptThread}
 use Rattle.xa_session.specs.declared.session.Session.{Session}
 use Rattle.xa_session.specs.Sessions.{new_session, HasDone}
 use Rattle.xa_transcript.specs.ThreadEnds.{all_ended}

@@ -1,4 +1,5 @@
 pub mod InTurns
+pub mod ScriptThreads
 pub mod InThreads
 pub mod Outcome
 pub mod TurnsSoFar
@@ -6,6 +7,7 @@ pub mod Program
 -- The words of this crate, by its name.
 pub use InTurns.{Closing, HasCalled, HasEndedDesk, HasMadeSteps, HasStepped, HasTurned, HaveEnded, Stage, Steps}
 pub use InTurns.{TurnsAt, closing_of, stage_of, turns_at}
+pub use ScriptThreads.{IsNew, Works}
 pub use InThreads.{HasWorked, told_by}
 pub use Outcome.{Follows, HasCome, IsOutcome, IsRun, Runs, Writes}
 pub use TurnsSoFar.{Goes, HasReached, IsClosed, IsOpen}
@@ -13,3 +15,4 @@ pub use Program.{AppendsSome, FailsBy, IsFaulty, IsJudged, ShowsRun, has_threads
 pub use declared.entry.Fault.{Fault}
 pub use declared.entry.Fault.TheVariants.{NoMemory, Run, Script, Usage}
 pub use declared.in_turns.Runner.{Runner}
+pub use declared.script_thread.ScriptThread.{ScriptThread}

@@ -13,6 +13,7 @@ mod in_threads;
 mod in_turns;
 mod outcome;
 mod plan;
+mod script_thread;
 
 pub use entry::program;
 pub use in_threads::run_threads;

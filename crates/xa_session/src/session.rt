@@ -18,7 +18,7 @@ pub struct Session {
 
 /// The log of a thread that has committed nothing. Of its appends, counted from 1, those that the script names fail or
 /// have an unknown end.
-pub(crate) fn log_of(alloc: Global, script: &Script, thread: u32) -> LosingLog
+pub fn log_of(alloc: Global, script: &Script, thread: u32) -> LosingLog
     ensures { result ≡ log_of script.now thread }
 {
     let log = match script.failing_append(thread) {

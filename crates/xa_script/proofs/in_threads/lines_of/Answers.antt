@@ -1,7 +1,7 @@
 use Rattle.xa_base.proofs.{arith, ◌≡◌, false, flat_map, flat_push, into_iter_items, All-push, taken_next}
 use Rattle.std.proofs.lemmas.List.Concat.{flat_map-append}
 use Rattle.xa_crew.specs.{Attended}
-use Rattle.xa_session.specs.{ScriptThread}
+use Rattle.xa_script.specs.{ScriptThread}
 use Rattle.xa_script.proofs.in_threads.lines_of.Goals as goal
 
 -- no memory was refused to the thread

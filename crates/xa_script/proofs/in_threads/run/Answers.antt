@@ -6,10 +6,10 @@ use Rattle.xa_base.specs.{Chain, Pairwise}
 use Rattle.xa_transcript.specs.{opened, Told}
 use Rattle.xa_grammar.specs.{tasks_of, threads_of, Content, Fits, managers_of, AreOfOne}
 use Rattle.xa_crew.specs.{Attended, Member, HasRun, IsRun}
-use Rattle.xa_session.specs.{ScriptThread, Session, session_of, log_of, HasDone, IsNew, Works, new_session}
+use Rattle.xa_session.specs.{Session, session_of, log_of, HasDone, new_session}
 use Rattle.xa_telling.specs.{AreOpened, Former, beginning}
 use Rattle.xa_telling.proofs.Opened.{opened_thread, planned_setup}
-use Rattle.xa_script.specs.{told_by, HasWorked}
+use Rattle.xa_script.specs.{told_by, HasWorked, ScriptThread, IsNew, Works}
 use Rattle.xa_base.specs.Lists.Chain.{none}
 use Rattle.xa_desk.specs.{DeskView, EndedView}
 use Rattle.xa_switch.specs.{planned, Setup, Settling}

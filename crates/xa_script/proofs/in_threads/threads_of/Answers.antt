@@ -1,5 +1,5 @@
 use Rattle.xa_base.proofs.{◌+◌, refl, arith, range_with_len, none_side, push_side, range_more}
-use Rattle.xa_session.specs.{IsNew}
+use Rattle.xa_script.specs.{IsNew}
 use Rattle.xa_script.proofs.in_threads.threads_of.Goals as goal
 
 pub loop-before-init : goal.loop-before-init

@@ -1,6 +1,6 @@
 use Rattle.xa_base.proofs.{range_with_len}
 use Rattle.xa_base.specs.{Pairwise}
-use Rattle.xa_session.specs.{IsNew}
+use Rattle.xa_script.specs.{IsNew}
 use Rattle.xa_script.proofs.in_threads.threads_of.Given as goal
 
 -- the first threads are there

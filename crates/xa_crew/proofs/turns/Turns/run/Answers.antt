@@ -1,7 +1,7 @@
 use Rattle.xa_base.proofs.{map_alike}
 use Rattle.xa_worker.specs.{seat_of_worker, seat_of_done}
 use Rattle.xa_crew.specs.{HasServed}
-use Rattle.xa_crew.proofs.Threads.{all_handled, next_handled}
+use Rattle.xa_jobs.proofs.Threads.{all_handled, next_handled}
 use Rattle.xa_crew.proofs.turns.Turns.run.Goals as goal
 
 pub loop-worker-preserved : goal.loop-worker-preserved

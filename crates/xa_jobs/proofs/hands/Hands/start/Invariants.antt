@@ -1,6 +1,6 @@
 use Rattle.xa_base.proofs.{◌≡◌, ◌++◌, [], true, vec_capacity, into_iter_items}
-use Rattle.xa_crew.specs.{AreAtFirst}
-use Rattle.xa_crew.proofs.hands.Hands.start.Given as goal
+use Rattle.xa_jobs.specs.{AreAtFirst}
+use Rattle.xa_jobs.proofs.hands.Hands.start.Given as goal
 
 -- the first jobs have a thread, or came to something without one
 abbrev pub invariant-loop-job : goal.invariant-loop-job

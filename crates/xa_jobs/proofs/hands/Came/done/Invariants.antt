@@ -1,6 +1,6 @@
 use Rattle.xa_base.proofs.{vec_capacity}
-use Rattle.xa_crew.proofs.Threads.{Handled, IsDoneAs}
-use Rattle.xa_crew.proofs.hands.Came.done.Given as goal
+use Rattle.xa_jobs.proofs.Threads.{Handled, IsDoneAs}
+use Rattle.xa_jobs.proofs.hands.Came.done.Given as goal
 
 -- the first are done
 abbrev pub invariant-loop-one : goal.invariant-loop-one

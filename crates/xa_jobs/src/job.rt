@@ -3,7 +3,7 @@ use crate::word::Go;
 use std::sync::Wait;
 
 /// What a thread does once, and comes to a `D` by.
-pub(crate) trait Job<D>: Drop {
+pub trait Job<D>: Drop {
     /// Where it can be done.
     ghost can_run: { Self → Type 0 };
 

@@ -1,6 +1,6 @@
 //! A thread for each job, and all jobs are done or none is: the threads wait for one word.
 ghost use Rattle.std.specs.Prelude.{◌≡◌, ◌≤◌, ◌+◌, [], List, All, length, IfOk, IfErr, IsTrue, vec_capacity};
-ghost use Rattle.xa_crew.specs.Hands.{AreAtFirst, Comes, HasRoom, HasRoomForAll, IsAt};
+ghost use Rattle.xa_jobs.specs.Hands.{AreAtFirst, Comes, HasRoom, HasRoomForAll, IsAt};
 ghost use Rattle.xa_base.specs.Lists.{Pairwise};
 
 use crate::job::Job;
@@ -16,7 +16,7 @@ use std::thread::{Promise, PromisedHandle, SpawnError, Threads};
 struct DoneOf<J: Drop>(Snapshot<J>);
 
 impl<J: Job<D>, D: Drop> Promise<Result<D, J>> for DoneOf<J> {
-    ghost use Rattle.xa_crew.specs.Hands.{Comes};
+    ghost use Rattle.xa_jobs.specs.Hands.{Comes};
 
     ghost kept_by = { λ p r. Comes J.comes_to p.0.value r };
 }
@@ -206,7 +206,7 @@ impl<J: Job<D>, D: Drop> Came<J, D> {
 /// any job begins. Where memory is refused, or a thread, no job is done, all threads have ended, and the jobs come back
 /// as they were.
 #[tactic(auto, using(crate::proofs::Threads::room_for_all))]
-pub(crate) fn do_all<
+pub fn do_all<
     R: Threads + Wait + Copy + Send + 'static,
     J: Job<D> + Send + 'static,
     D: Drop + Send + 'static,

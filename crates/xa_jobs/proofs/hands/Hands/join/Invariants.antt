@@ -1,6 +1,6 @@
 use Rattle.xa_base.proofs.{◌≡◌, ◌++◌, length, vec_capacity, into_iter_items, into_iter_len}
-use Rattle.xa_crew.proofs.Threads.{Brings, Handled}
-use Rattle.xa_crew.proofs.hands.Hands.join.Given as goal
+use Rattle.xa_jobs.proofs.Threads.{Brings, Handled}
+use Rattle.xa_jobs.proofs.hands.Hands.join.Given as goal
 
 -- the first threads have ended, each with what became of its job
 abbrev pub invariant-loop-hand : goal.invariant-loop-hand

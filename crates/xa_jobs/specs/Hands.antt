@@ -2,9 +2,9 @@
 use Rattle.std.specs.Prelude.{◌≡◌, ℕ, ◌≤◌, List, [], ◌++◌, length, vec_capacity, Result, Ok, Err}
 use Rattle.std.specs.declared.thread.PromisedHandle.{PromisedHandle}
 use Rattle.xa_base.specs.Lists.{Pairwise}
-use Rattle.xa_crew.specs.declared.hands.Came.{Came}
-use Rattle.xa_crew.specs.declared.hands.DoneOf.{DoneOf}
-use Rattle.xa_crew.specs.declared.hands.Hands.{Hands}
+use Rattle.xa_jobs.specs.declared.hands.Came.{Came}
+use Rattle.xa_jobs.specs.declared.hands.DoneOf.{DoneOf}
+use Rattle.xa_jobs.specs.declared.hands.Hands.{Hands}
 
 -- the thread is at this job
 abbrev pub IsAt : {J D : Type 0} → J → PromisedHandle (Result D J) (DoneOf J) → Type 0

@@ -5,10 +5,8 @@ ghost use Rattle.xa_desk.specs.GoingOn.{GoesOn};
 ghost use Rattle.xa_desk.specs.Kept.{AllKept};
 ghost use Rattle.xa_base.specs.Lists.{Chain};
 ghost use Rattle.xa_session.specs.Sessions.{log_of, session_of, HasDone};
-ghost use Rattle.xa_session.specs.ScriptThreads.{IsNew};
+ghost use Rattle.xa_script.specs.ScriptThreads.{IsNew};
 
-use crate::calls::carry_out;
-use crate::session::log_of;
 use std::alloc::{AllocError, Global};
 use std::sync::Wait;
 use xa_crew::Client;
@@ -18,21 +16,22 @@ use xa_desk::{Desk, Idle};
 use xa_grammar::{Script, Tasks};
 use xa_log::LosingLog;
 use xa_scan::Scan;
+use xa_session::{carry_out, log_of};
 use xa_transcript::{Told, Transcript};
 
 /// A thread of a script: its own tasks, its decision log, and what it told so far.
 #[derive(Drop)]
-pub struct ScriptThread {
+pub(crate) struct ScriptThread {
     /// Its number, from 1.
-    pub thread: u32,
+    pub(crate) thread: u32,
     alloc: Global,
     log: LosingLog,
     scan: Scan,
     tasks: Tasks,
     /// What its tasks answered, in their order.
-    pub told: Transcript,
+    pub(crate) told: Transcript,
     /// Whether memory was refused, after which no task was done.
-    pub wants_memory: bool,
+    pub(crate) wants_memory: bool,
 }
 
 // Carries out the tasks, until memory is refused.
@@ -68,7 +67,11 @@ fn carry_out_all<R: Wait, I: Idle>(
 
 impl ScriptThread {
     /// The thread of this number before it does anything, with room for what it tells.
-    pub fn new(alloc: Global, script: &Script, thread: u32) -> Result<ScriptThread, AllocError>
+    pub(crate) fn new(
+        alloc: Global,
+        script: &Script,
+        thread: u32,
+    ) -> Result<ScriptThread, AllocError>
         ensures { IfOk result (IsNew script.now thread) }
     {
         let tasks = script.tasks_of(alloc, thread)?;
@@ -86,7 +89,7 @@ impl ScriptThread {
 }
 
 impl Client for ScriptThread {
-    ghost use Rattle.xa_session.specs.ScriptThreads.{Works};
+    ghost use Rattle.xa_script.specs.ScriptThreads.{Works};
 
     ghost works = { Works };
 

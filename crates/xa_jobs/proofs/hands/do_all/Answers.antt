@@ -1,6 +1,6 @@
 use Rattle.xa_base.proofs.{◌∙◌, arith}
-use Rattle.xa_crew.proofs.Threads.{room_for_all}
-use Rattle.xa_crew.proofs.hands.do_all.Goals as goal
+use Rattle.xa_jobs.proofs.Threads.{room_for_all}
+use Rattle.xa_jobs.proofs.hands.do_all.Goals as goal
 
 pub done-requires-in-Some-clause-room : goal.done-requires-in-Some-clause-room
 done-requires-in-Some-clause-room g c =

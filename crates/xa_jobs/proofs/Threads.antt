@@ -6,8 +6,8 @@ use Rattle.std.specs.declared.vec.IntoIter.{IntoIter}
 use Rattle.std.proofs.lemmas.List.{map-id}
 use Rattle.std.specs.declared.thread.PromisedHandle.{PromisedHandle}
 use Rattle.xa_base.specs.{Pairwise}
-use Rattle.xa_crew.specs.{DoneOf, Came, AreAtFirst, Comes, HasRoom, HasRoomForAll, IsAt}
-use Rattle.xa_crew.specs.declared.hands.Hands.{Hands}
+use Rattle.xa_jobs.specs.{DoneOf, Came, AreAtFirst, Comes, HasRoom, HasRoomForAll, IsAt}
+use Rattle.xa_jobs.specs.declared.hands.Hands.{Hands}
 
 -- ---- lists that are gone through, with what is made of each element
 

@@ -1,6 +1,6 @@
 use Rattle.xa_base.proofs.{◌++◌, length, sym, ap, ◌∙◌, Some, into_iter_items, next_there}
-use Rattle.xa_crew.proofs.Threads.{all_done, all_handled, can_run, next_handled}
-use Rattle.xa_crew.proofs.hands.Came.done.Goals as goal
+use Rattle.xa_jobs.proofs.Threads.{all_done, all_handled, can_run, next_handled}
+use Rattle.xa_jobs.proofs.hands.Came.done.Goals as goal
 
 pub loop-one-preserved-in-Ok : goal.loop-one-preserved-in-Ok
 loop-one-preserved-in-Ok g c =

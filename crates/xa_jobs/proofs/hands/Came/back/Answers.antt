@@ -1,5 +1,5 @@
-use Rattle.xa_crew.proofs.Threads.{all_back, all_handled, next_handled}
-use Rattle.xa_crew.proofs.hands.Came.back.Goals as goal
+use Rattle.xa_jobs.proofs.Threads.{all_back, all_handled, next_handled}
+use Rattle.xa_jobs.proofs.hands.Came.back.Goals as goal
 
 pub loop-one-preserved : goal.loop-one-preserved
 loop-one-preserved g c =

@@ -1,6 +1,6 @@
 use Rattle.xa_base.proofs.{vec_capacity}
-use Rattle.xa_crew.proofs.Threads.{Handled, IsBackAs}
-use Rattle.xa_crew.proofs.hands.Came.back.Given as goal
+use Rattle.xa_jobs.proofs.Threads.{Handled, IsBackAs}
+use Rattle.xa_jobs.proofs.hands.Came.back.Given as goal
 
 -- it waits
 abbrev pub invariant-loop : goal.invariant-loop

@@ -1,6 +1,6 @@
 use Rattle.xa_base.proofs.{◌++◌, append-nil, ap, ◌∙◌, none_of, sym}
-use Rattle.xa_crew.proofs.Threads.{all_came, all_handled, next_handled}
-use Rattle.xa_crew.proofs.hands.Hands.join.Goals as goal
+use Rattle.xa_jobs.proofs.Threads.{all_came, all_handled, next_handled}
+use Rattle.xa_jobs.proofs.hands.Hands.join.Goals as goal
 
 pub loop-hand-preserved : goal.loop-hand-preserved
 loop-hand-preserved g c =

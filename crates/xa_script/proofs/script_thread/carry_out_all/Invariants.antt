@@ -2,7 +2,7 @@ use Rattle.xa_base.proofs.{take}
 use Rattle.xa_base.specs.{Chain}
 use Rattle.xa_desk.specs.{GoesOn, AllKept}
 use Rattle.xa_session.specs.{session_of, HasDone}
-use Rattle.xa_session.proofs.script_thread.carry_out_all.Given as goal
+use Rattle.xa_script.proofs.script_thread.carry_out_all.Given as goal
 
 -- the first tasks were done
 abbrev pub invariant-loop-place : goal.invariant-loop-place

@@ -7,7 +7,7 @@ use std::sync::{Arc, OnceLock, OnceToken, Wait};
 
 /// What shows that a word is go. A word is given once, so there is none of a word that is stop.
 #[derive(Drop)]
-pub(crate) struct Go<'a> {
+pub struct Go<'a> {
     token: OnceToken<'a, bool>,
     ghost go: { IsTrue token.value },
 }
