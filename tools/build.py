@@ -48,6 +48,12 @@ class Plan:
         free = (it for it in self.below if it not in begun and done.issuperset(self.below[it]))
         return sorted(free, key=self.chain, reverse=True)
 
+    def processes(self, crate, done, running):
+        """How many processes the check of this crate has: two, or all that there is room for where no other crate can be
+        proved meanwhile. With four for every crate all took as long, in a seventh more of the processors' time."""
+        alone = not running and not self.ready(done, done | {crate})
+        return ("--jobs", str(jobs() if alone else min(jobs(), 2)))
+
     def rest(self, done, ran):
         """How long it takes from when these are done, and others have run for so many seconds."""
         done, left, time = set(done), {it: max(self.seconds[it] - took, 0) for it, took in ran.items()}, 0
@@ -78,26 +84,25 @@ def run_in(folder, *words):
         raise Unbuilt(f"{' '.join(words)} in {folder.name} ended with status {ran.returncode}:\n{ran.stdout}")
 
 
-def prove_library(crate, at_once):
+def prove_library(crate, processes):
     """Proves a library in a copy of the repository up to it, since rt locks each crate that it stands on, and so would
     wait for another. rt takes what was made there for its own, as it is made of the same files."""
     with tempfile.TemporaryDirectory() as place:
         folder = scratch.copy(Path(place), [crate])[crate]
-        run_in(folder, "rt", "lib", *at_once)
+        run_in(folder, "rt", "lib", *processes)
         scratch.move(folder / "out", ROOT / "crates" / crate / "out")
 
 
-def prove_program(name, level, at_once):
+def prove_program(name, level, processes):
     folder = ROOT / "crates" / name
     arguments = folder / "args"
     processor = () if level == "default" else ("--cpu", level)
     words = arguments.read_text().split() if arguments.exists() else ()
-    run_in(folder, "rt", "run", *processor, *at_once, "--", *words)
+    run_in(folder, "rt", "run", *processor, *processes, "--", *words)
 
 
 def prove_and_build(name, level):
     plan, made_of, start = Plan(crates_below(name)), stamp(name, level), time.monotonic()
-    at_once = ("--jobs", str(jobs()))
     expected = plan.rest((), {})
     say(name, f"it and what it stands on, {len(plan.below)} crates, are proved before it is built, which takes about"
         f" {minutes(expected)} here; later runs only run it")
@@ -106,7 +111,8 @@ def prove_and_build(name, level):
         while len(done) < len(plan.below):
             for crate in plan.ready(done, done | running.keys())[: plan.at_once - len(running)]:
                 given = (prove_program, name, level) if crate == name else (prove_library, crate)
-                running[crate] = time.monotonic(), pool.submit(*given, at_once)
+                processes = plan.processes(crate, done, running)
+                running[crate] = time.monotonic(), pool.submit(*given, processes)
             wait([future for _, future in running.values()], return_when=FIRST_COMPLETED)
             now = time.monotonic()
             for crate in [it for it, (_, future) in running.items() if future.done()]:
