@@ -27,7 +27,7 @@ class Unbuilt(Exception):
 
 
 class Plan:
-    """In which order crates are proved, two at a time where there is room, and how long that takes."""
+    """In which order crates are proved, three at a time where there is room, and how long that takes."""
 
     def __init__(self, crates):
         known = dict(line.split() for line in (ROOT / "tools" / "seconds").read_text().splitlines())
@@ -36,7 +36,7 @@ class Plan:
         scale = 0.7 + 1.2 / min(processors(), 4)
         self.seconds = {crate: scale * float(known.get(crate, 60)) for crate in crates}
         self.below = {crate: [it for it in crates_below(crate) if it != crate] for crate in crates}
-        self.at_once = min(jobs(), 2)
+        self.at_once = min(jobs(), 3)
 
     def chain(self, crate):
         """How long it takes from this crate up to the last that stands on it, with any number at a time."""
@@ -48,11 +48,14 @@ class Plan:
         free = (it for it in self.below if it not in begun and done.issuperset(self.below[it]))
         return sorted(free, key=self.chain, reverse=True)
 
-    def processes(self, crate, done, running):
-        """How many processes the check of this crate has: two, or all that there is room for where no other crate can be
-        proved meanwhile. With four for every crate all took as long, in a seventh more of the processors' time."""
+    def beside(self, crate, done, running):
+        """How this crate's check is begun beside those that run: the words before rt's, by which it gives way to crates
+        on which a longer chain stands, and how many processes it has. These are two, or all that there is room for where
+        no other crate can be proved meanwhile. With four for every crate all took as long, in a seventh more of the
+        processors' time."""
+        before = sum(self.chain(it) > self.chain(crate) for it in running)
         alone = not running and not self.ready(done, done | {crate})
-        return ("--jobs", str(jobs() if alone else min(jobs(), 2)))
+        return ("nice", "-n", str(5 * before)), ("--jobs", str(jobs() if alone else min(jobs(), 2)))
 
     def rest(self, done, ran):
         """How long it takes from when these are done, and others have run for so many seconds."""
@@ -77,28 +80,28 @@ def say(name, text):
 
 
 def run_in(folder, *words):
-    """Runs rt there, with nothing on its standard input."""
+    """Runs this there, with nothing on its standard input."""
     piped = {"stdin": subprocess.DEVNULL, "stdout": subprocess.PIPE, "stderr": subprocess.STDOUT}
     ran = subprocess.run(words, cwd=folder, text=True, errors="replace", **piped)
     if ran.returncode:
         raise Unbuilt(f"{' '.join(words)} in {folder.name} ended with status {ran.returncode}:\n{ran.stdout}")
 
 
-def prove_library(crate, processes):
+def prove_library(crate, before, processes):
     """Proves a library in a copy of the repository up to it, since rt locks each crate that it stands on, and so would
     wait for another. rt takes what was made there for its own, as it is made of the same files."""
     with tempfile.TemporaryDirectory() as place:
         folder = scratch.copy(Path(place), [crate])[crate]
-        run_in(folder, "rt", "lib", *processes)
+        run_in(folder, *before, "rt", "lib", *processes)
         scratch.move(folder / "out", ROOT / "crates" / crate / "out")
 
 
-def prove_program(name, level, processes):
+def prove_program(name, level, before, processes):
     folder = ROOT / "crates" / name
     arguments = folder / "args"
     processor = () if level == "default" else ("--cpu", level)
     words = arguments.read_text().split() if arguments.exists() else ()
-    run_in(folder, "rt", "run", *processor, *processes, "--", *words)
+    run_in(folder, *before, "rt", "run", *processor, *processes, "--", *words)
 
 
 def prove_and_build(name, level):
@@ -111,8 +114,8 @@ def prove_and_build(name, level):
         while len(done) < len(plan.below):
             for crate in plan.ready(done, done | running.keys())[: plan.at_once - len(running)]:
                 given = (prove_program, name, level) if crate == name else (prove_library, crate)
-                processes = plan.processes(crate, done, running)
-                running[crate] = time.monotonic(), pool.submit(*given, processes)
+                how = plan.beside(crate, done, running)
+                running[crate] = time.monotonic(), pool.submit(*given, *how)
             wait([future for _, future in running.values()], return_when=FIRST_COMPLETED)
             now = time.monotonic()
             for crate in [it for it, (_, future) in running.items() if future.done()]:
