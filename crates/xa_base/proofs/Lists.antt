@@ -4,7 +4,7 @@ use Rattle.std.proofs.Common.{◌∷◌, ◌++◌, length, map, Some, None, sym,
 use Rattle.std.specs.Prelude.{slice_get, slice_set, option_map, All}
 use Rattle.std.specs.List.{AllPairs, Contains, IsDistinct, filter, flat_map, slice_index_or, range_with_len, list_any, find}
 use Rattle.std.proofs.lemmas.Bool.{cases_eq, cases_lt, eq-eqb, eqb-true, false_from_ne_true, or_parts}
-use Rattle.std.proofs.lemmas.List.{length-map, length-set, get_or-set_other, get_or-set_same, get_or_at, take-append-drop}
+use Rattle.std.proofs.lemmas.List.{length-map, map-id, length-set, get_or-set_other, get_or-set_same, get_or_at, take-append-drop}
 pub use Rattle.std.proofs.lemmas.Option.{same_Some as some_same}
 pub use Rattle.std.proofs.lemmas.List.Quantifiers.{all_pairs_push as pairs_push}
 use Rattle.std.proofs.lemmas.Option.{slice_get_within, slice_get-map, slice_get-get_or, slice_get_cases, get_or_from_slice_get}
@@ -147,6 +147,24 @@ map_alike P f g alike [] [] all = refl
 map_alike P f g alike [] (y ∷ ys) all = absurd (let many = all.as_many in omega (arith, many))
 map_alike P f g alike (x ∷ xs) [] all = absurd (let many = all.as_many in omega (arith, many))
 map_alike P f g alike (x ∷ xs) (y ∷ ys) all = λ i. alike x y (all.each 0 x y refl refl) i ∷ map_alike P f g alike xs ys (tail_side P x xs y ys all) i
+
+module _ {A B : Type 0} (P : A → B → Type 0) where
+  each_after : (x : A) (xs : List A) (y : B) (ys : List B) → P x y → Pairwise P xs ys → (k : ℕ) (u : A) (v : B) → slice_get (x ∷ xs) k ≡ Some u
+      → slice_get (y ∷ ys) k ≡ Some v → P u v
+  each_after x xs y ys here rest zero u v at at' = rw (some_same x u at, some_same y v at') at here
+  each_after x xs y ys here rest (suc k) u v at at' = rest.each k u v at at'
+
+  pub both_sides : (xs us : List A) (ys vs : List B) → Pairwise P xs ys → Pairwise P us vs → Pairwise P (xs ++ us) (ys ++ vs)
+  both_sides [] us [] vs all more = more
+  both_sides [] us (y ∷ ys) vs all more = absurd (let many = all.as_many in omega (arith, many))
+  both_sides (x ∷ xs) us [] vs all more = absurd (let many = all.as_many in omega (arith, many))
+  both_sides (x ∷ xs) us (y ∷ ys) vs all more =
+      let rest = both_sides xs us ys vs (tail_side P x xs y ys all) more in
+      record { as_many = ap suc rest.as_many; each = each_after x (xs ++ us) y (ys ++ vs) (all.each 0 x y refl refl) rest }
+
+-- what is the same on both sides
+pub same_side : {A : Type 0} (xs ys : List A) → Pairwise (λ x y. y ≡ x) xs ys → ys ≡ xs
+same_side {A} xs ys all = sym (map-id ys) ∙ map_alike (λ (x y : A). y ≡ x) (λ x. x) (λ x. x) (λ x y e. e) xs ys all ∙ map-id xs
 
 -- the element with its number, where they are numbered by rising place
 pub find_numbered : {A : Type 0} (n : A → ℕ) (base : ℕ) (xs : List A) → ((k : ℕ) (x : A) → slice_get xs k ≡ Some x → n x ≡ base + k + 1) → (k : ℕ) (x : A)

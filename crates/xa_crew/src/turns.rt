@@ -70,7 +70,6 @@ impl Turns {
 
     /// Runs each worker to the last end mark, by rising manager, where there is room for them. All desks of the opening
     /// have to have ended: where one of them hasn't, it never returns.
-    #[tactic(auto, using(xa_jobs::proofs::Threads::handled_rules))]
     pub fn run<R: Wait>(self, rt: &R, mut done: Vec<DoneWorker>) -> Vec<DoneWorker>
         requires none { done.items ≡ [] }
         requires room { length self ≤ vec_capacity done }

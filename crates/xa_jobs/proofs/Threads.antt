@@ -1,64 +1,10 @@
 -- Jobs, the threads at the first of them, and what became of all.
-use Rattle.xa_base.proofs.{◌≡◌, ℕ, zero, suc, List, [], ◌∷◌, ◌++◌, length, refl, sym, ap, ◌∙◌, subst, arith, append-nil, append_assoc, Some, Result, Err}
-use Rattle.xa_base.proofs.{slice_get, All, vec_capacity, slice_get_within, all_at, got, none_of, none_side, push_side, some_same, tail_side, map_alike}
-use Rattle.xa_base.proofs.{taken_next, through, ◌+◌, Vec, Global, into_iter_items, into_iter_len}
-use Rattle.std.specs.declared.vec.IntoIter.{IntoIter}
-use Rattle.std.proofs.lemmas.List.{map-id}
+use Rattle.xa_base.proofs.{◌≡◌, ℕ, List, [], ◌∷◌, ◌++◌, length, refl, sym, ap, ◌∙◌, arith, append-nil, append_assoc, Some, Result, Err, both_sides, same_side}
+use Rattle.xa_base.proofs.{slice_get, All, vec_capacity, slice_get_within, all_at, got, none_of, none_side, push_side, taken_next, through}
 use Rattle.std.specs.declared.thread.PromisedHandle.{PromisedHandle}
 use Rattle.xa_base.specs.{Pairwise}
 use Rattle.xa_jobs.specs.{DoneOf, Came, AreAtFirst, Comes, HasRoom, HasRoomForAll, IsAt}
 use Rattle.xa_jobs.specs.declared.hands.Hands.{Hands}
-
--- ---- lists that are gone through, with what is made of each element
-
--- the first of these were gone through, each with what was made of it, and the others are still to come
-pub record Handled {A B Z : Type 0} (P : A → B → Type 0) (all first : List A) (it : IntoIter A Z) (made : Vec B Global) (room : ℕ) : Type 0 where
-  pub so_far : first ++ into_iter_items it ≡ all
-  pub counted : into_iter_len it ≡ length (into_iter_items it)
-  pub sides : Pairwise P first made.items
-  pub capacity : vec_capacity made ≡ room
-
-pub none_handled : {A B Z : Type 0} (P : A → B → Type 0) (all : List A) (it : IntoIter A Z) (made : Vec B Global) (room : ℕ) → into_iter_items it ≡ all
-    → into_iter_len it ≡ length all → made.items ≡ [] → vec_capacity made ≡ room → Handled P all [] it made room
-none_handled P all it made room is long none capacity =
-    record { so_far = is; counted = long ∙ ap length (sym is); sides = none_side P [] made.items refl none; capacity = capacity }
-
-module _ {A B Z : Type 0} {P : A → B → Type 0} {all first : List A} {it : IntoIter A Z} {made : Vec B Global} {room : ℕ}
-    (h : Handled P all first it made room) where
-  pub next_handled : (x : A) (y : B) (it' : IntoIter A Z) (made' : Vec B Global)
-      → (into_iter_items it ≡ x ∷ into_iter_items it') × (into_iter_len it' + 1 ≡ into_iter_len it) → made'.items ≡ made.items ++ y ∷ []
-      → vec_capacity made' ≡ vec_capacity made → P x y → Handled P all (first ++ x ∷ []) it' made' room
-  next_handled x y it' made' (next, fewer) pushed stays here = record {
-    so_far = taken_next first _ (into_iter_items it') _ x next h.so_far;
-    counted = omega (arith, h.counted, ap length next, fewer);
-    sides = rw pushed (push_side P first made.items x y h.sides here);
-    capacity = stays ∙ h.capacity;
-  }
-
-  pub all_handled : into_iter_len it ≡ 0 → Pairwise P all made.items
-  all_handled none =
-      let left : into_iter_items it ≡ [] = none_of (into_iter_items it) (sym h.counted ∙ none) in
-      subst (λ l. Pairwise P l made.items) (sym (append-nil first) ∙ ap (λ l. first ++ l) (sym left) ∙ h.so_far) h.sides
-
--- ---- lists side by side, and others after them
-
-module _ {A B : Type 0} (P : A → B → Type 0) where
-  each_after : (x : A) (xs : List A) (y : B) (ys : List B) → P x y → Pairwise P xs ys → (k : ℕ) (u : A) (v : B) → slice_get (x ∷ xs) k ≡ Some u
-      → slice_get (y ∷ ys) k ≡ Some v → P u v
-  each_after x xs y ys here rest zero u v at at' = rw (some_same x u at, some_same y v at') at here
-  each_after x xs y ys here rest (suc k) u v at at' = rest.each k u v at at'
-
-  both_sides : (xs us : List A) (ys vs : List B) → Pairwise P xs ys → Pairwise P us vs → Pairwise P (xs ++ us) (ys ++ vs)
-  both_sides [] us [] vs all more = more
-  both_sides [] us (y ∷ ys) vs all more = absurd (let many = all.as_many in omega (arith, many))
-  both_sides (x ∷ xs) us [] vs all more = absurd (let many = all.as_many in omega (arith, many))
-  both_sides (x ∷ xs) us (y ∷ ys) vs all more =
-      let rest = both_sides xs us ys vs (tail_side P x xs y ys all) more in
-      record { as_many = ap suc rest.as_many; each = each_after x (xs ++ us) y (ys ++ vs) (all.each 0 x y refl refl) rest }
-
--- what is the same on both sides
-pub same_side : {A : Type 0} (xs ys : List A) → Pairwise (λ x y. y ≡ x) xs ys → ys ≡ xs
-same_side {A} xs ys all = sym (map-id ys) ∙ map_alike (λ (x y : A). y ≡ x) (λ x. x) (λ x. x) (λ x y e. e) xs ys all ∙ map-id xs
 
 module _ {J D : Type 0} (comes_to : J → D → Type 0) where
   abbrev Hand : Type 0
@@ -138,9 +84,6 @@ module _ {J D : Type 0} (comes_to : J → D → Type 0) where
 pub room_for_all : {J D : Type 0} (comes_to : J → D → Type 0) {jobs : List J} {many : ℕ} {h : Hands J D} {c : Came J D} → HasRoom many h → many ≡ length jobs
     → c.done ≡ h.done → c.back ≡ h.back → Pairwise (Comes comes_to) jobs c.came.items → HasRoomForAll c
 room_for_all {J} {D} comes_to room counted done back comes = search (arith, vec_capacity, room.done, room.back, comes.as_many)
-
--- how a list is gone through
-pub ruleset handled_rules = (none_handled, next_handled)
 
 -- how jobs get their threads
 pub ruleset start_rules = (none_at, one_more_at, one_more_other, taken_next)

@@ -127,7 +127,6 @@ impl<J: Job<D> + Send + 'static, D: Drop + Send + 'static> Hands<J, D> {
     }
 
     // What became of each job, in their order, once all threads have ended.
-    #[tactic(auto, using(crate::proofs::Threads::handled_rules))]
     fn join<R: Threads>(self, rt: &R) -> Came<J, D>
         requires none { self.came.items ≡ [] }
         requires room { length self.hands.items + length self.others.items ≤ vec_capacity self.came }
@@ -156,7 +155,6 @@ impl<J: Job<D> + Send + 'static, D: Drop + Send + 'static> Hands<J, D> {
 impl<J: Job<D>, D: Drop> Came<J, D> {
     // What the jobs have come to, where the word is go. One that came back is done here; there is none, which the types
     // don't show.
-    #[tactic(auto, using(crate::proofs::Threads::handled_rules))]
     fn done<R: Wait>(self, rt: &R, go: &Go<'_>) -> Vec<D>
         requires room { HasRoomForAll self }
         requires ready { (jobs : List J) × All J.can_run jobs × Pairwise (Comes J.comes_to) jobs self.came.items }
@@ -179,7 +177,6 @@ impl<J: Job<D>, D: Drop> Came<J, D> {
 
     // The jobs, where the word is stop. None was done, since a word is given once, which the types don't show: one that
     // was would have it wait.
-    #[tactic(auto, using(crate::proofs::Threads::handled_rules))]
     fn back<R: Wait>(self, rt: &R) -> Vec<J>
         requires room { HasRoomForAll self }
         ensures { (jobs : List J) → Pairwise (Comes J.comes_to) jobs self.came.items → result.items ≡ jobs }
@@ -202,10 +199,26 @@ impl<J: Job<D>, D: Drop> Came<J, D> {
     }
 }
 
+// A word, and room for so many threads of either kind.
+fn reserve_all<
+    J: Job<D> + Send + 'static,
+    D: Drop + Send + 'static,
+    K: Job<E> + Send + 'static,
+    E: Drop + Send + 'static,
+>(alloc: Global, jobs: usize, others: usize) -> Result<(Word, Hands<J, D>, Hands<K, E>), AllocError>
+    ensures jobs { IfOk result (λ r. HasRoom jobs r.1) }
+    ensures others { IfOk result (λ r. HasRoom others r.2) }
+{
+    Ok((
+        Word::new(alloc)?,
+        Hands::reserve(alloc, jobs)?,
+        Hands::reserve(alloc, others)?,
+    ))
+}
+
 /// Does all jobs of two kinds, each in a thread of its own, or none of them: all threads are started before
 /// any job begins. Where memory is refused, or a thread, no job is done, all threads have ended, and the jobs come back
 /// as they were.
-#[tactic(auto, using(crate::proofs::Threads::room_for_all))]
 pub fn do_all<
     R: Threads + Wait + Copy + Send + 'static,
     J: Job<D> + Send + 'static,
@@ -219,11 +232,7 @@ pub fn do_all<
     ensures others { IfOk result (λ r. Pairwise K.comes_to others.items r.1.items) }
     ensures back { IfErr result (λ r. (r.0.items ≡ jobs.items) × (r.1.items ≡ others.items)) }
 {
-    let (Ok(word), Ok(mut hands), Ok(mut other_hands)) = (
-        Word::new(alloc),
-        Hands::reserve(alloc, jobs.len()),
-        Hands::reserve(alloc, others.len()),
-    ) else {
+    let Ok((word, mut hands, mut other_hands)) = reserve_all(alloc, jobs.len(), others.len()) else {
         return Err((jobs, others));
     };
     let all = hands.start(rt, &word, jobs);

@@ -1,8 +1,11 @@
-use Rattle.xa_base.proofs.{map_alike}
+use Rattle.xa_base.proofs.{arith, map_alike, all_handled, fits_next, next_handled}
 use Rattle.xa_worker.specs.{seat_of_worker, seat_of_done}
 use Rattle.xa_crew.specs.{HasServed}
-use Rattle.xa_jobs.proofs.Threads.{all_handled, next_handled}
 use Rattle.xa_crew.proofs.turns.Turns.run.Goals as goal
+
+pub push_reserved-requires : goal.push_reserved-requires
+push_reserved-requires g c =
+    omega (arith, fits_next c.loop-worker.invariant c.in-Some.worker c.next.new.self c.in-Some.ensures.steps.0 (omega (arith, c.requires.room)))
 
 pub loop-worker-preserved : goal.loop-worker-preserved
 loop-worker-preserved g c =

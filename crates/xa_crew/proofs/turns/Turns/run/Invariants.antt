@@ -1,6 +1,5 @@
-use Rattle.xa_base.proofs.{vec_capacity}
+use Rattle.xa_base.proofs.{vec_capacity, Handled}
 use Rattle.xa_crew.specs.{HasServed}
-use Rattle.xa_jobs.proofs.Threads.{Handled}
 use Rattle.xa_crew.proofs.turns.Turns.run.Given as goal
 
 -- the first workers have run

@@ -1,5 +1,5 @@
-use Rattle.xa_base.proofs.{vec_capacity}
-use Rattle.xa_jobs.proofs.Threads.{Handled, IsBackAs}
+use Rattle.xa_base.proofs.{vec_capacity, Handled}
+use Rattle.xa_jobs.proofs.Threads.{IsBackAs}
 use Rattle.xa_jobs.proofs.hands.Came.back.Given as goal
 
 -- it waits

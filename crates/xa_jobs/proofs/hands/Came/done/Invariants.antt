@@ -1,5 +1,5 @@
-use Rattle.xa_base.proofs.{vec_capacity}
-use Rattle.xa_jobs.proofs.Threads.{Handled, IsDoneAs}
+use Rattle.xa_base.proofs.{vec_capacity, Handled}
+use Rattle.xa_jobs.proofs.Threads.{IsDoneAs}
 use Rattle.xa_jobs.proofs.hands.Came.done.Given as goal
 
 -- the first are done

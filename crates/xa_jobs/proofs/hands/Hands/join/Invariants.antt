@@ -1,5 +1,5 @@
-use Rattle.xa_base.proofs.{◌≡◌, ◌++◌, length, vec_capacity, into_iter_items, into_iter_len}
-use Rattle.xa_jobs.proofs.Threads.{Brings, Handled}
+use Rattle.xa_base.proofs.{◌≡◌, ◌++◌, length, vec_capacity, into_iter_items, into_iter_len, Handled}
+use Rattle.xa_jobs.proofs.Threads.{Brings}
 use Rattle.xa_jobs.proofs.hands.Hands.join.Given as goal
 
 -- the first threads have ended, each with what became of its job
