@@ -10,7 +10,8 @@ use Rattle.xa_switch.specs.{Again, IsWhole, managers_in, reopened_at, reopening,
 use Rattle.xa_switch.proofs.SettledOpenings.{begun, follows_first}
 use Rattle.xa_log.specs.{LogState}
 use Rattle.xa_atomicity.proofs.NextOpening.{was_there}
-use Rattle.xa_crew.specs.{WithScan, Attended, AgainWorks, IsRunAgain, WorksWithScan}
+use Rattle.xa_crew.specs.{Attended}
+use Rattle.xa_crew_again.specs.{WithScan, AgainWorks, IsRunAgain, WorksWithScan}
 use Rattle.xa_bank.specs.{Teller, Works, WorksOn, Habits, Transfer}
 use Rattle.xa_bank.proofs.Days.{MemberAt, member_at, nobody_else}
 use Rattle.xa_bank_days.specs.{DayAndNight, Bank, BeginsWith, IsDayOf, WorkedIn, Closed, Errands, Unresolved, AreClosed, AreOver, HasEnded, early as one_not}

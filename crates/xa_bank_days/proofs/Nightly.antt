@@ -25,7 +25,8 @@ use Rattle.xa_atomicity.proofs.Sites.{all_earlier, own_all}
 use Rattle.xa_atomicity.proofs.Resolves.{outcome_at, resolve_sends}
 use Rattle.xa_atomicity.proofs.Settled.{by_ledger}
 use Rattle.xa_atomicity.proofs.Guided.{learnt_on}
-use Rattle.xa_crew.specs.{WithScan, Attended, IsRunAgain, WorksWithScan, IsRun}
+use Rattle.xa_crew.specs.{Attended, IsRun}
+use Rattle.xa_crew_again.specs.{WithScan, IsRunAgain, WorksWithScan}
 use Rattle.xa_bank.specs.{Teller}
 use Rattle.xa_bank.proofs.Days.{MemberAt, Never, member_at, nobody_else}
 use Rattle.xa_bank_days.proofs.Moved.{many_attended}

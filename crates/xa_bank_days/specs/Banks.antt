@@ -18,8 +18,8 @@ use Rattle.xa_switch.specs.Settled.{Settling, find_manager}
 use Rattle.xa_switch.specs.Worth.{accounts_of}
 use Rattle.xa_log.specs.Log.{LogState}
 use Rattle.xa_driver.specs.declared.resolved.Outcome.{Outcome}
-use Rattle.xa_crew.specs.declared.again.AgainFault.{AgainFault}
-use Rattle.xa_crew.specs.Again.{AreGiven, HasRunAgain, IfUnopened, IfUnsettled, IfUnstarted}
+use Rattle.xa_crew_again.specs.declared.again.AgainFault.{AgainFault}
+use Rattle.xa_crew_again.specs.Again.{AreGiven, HasRunAgain, IfUnopened, IfUnsettled, IfUnstarted}
 use Rattle.xa_crew.specs.Opened.{IsOpened, clients_of}
 use Rattle.xa_work.specs.declared.unit.WorkOutcome.{WorkOutcome}
 use Rattle.xa_atomicity.specs.Cut.{is_recorded}

@@ -14,9 +14,9 @@ use Rattle.xa_log.specs.Log.{LogState}
 use Rattle.xa_driver.specs.declared.resolved.Outcome.{Outcome}
 use Rattle.xa_driver.specs.Resolving.{IsTraceOfResolve, MayResolve, requests_for}
 use Rattle.xa_atomicity.specs.Resolution.{Continues, ResolveCall}
-use Rattle.xa_crew.specs.declared.again.WithScan.{WithScan}
+use Rattle.xa_crew_again.specs.declared.again.WithScan.{WithScan}
 use Rattle.xa_crew.specs.declared.run.Ran.{Ran}
-use Rattle.xa_crew.specs.Again.{HasRunAgain}
+use Rattle.xa_crew_again.specs.Again.{HasRunAgain}
 use Rattle.xa_bank.specs.declared.teller.Teller.{Teller}
 use Rattle.xa_bank_days.specs.Days.{IsResolvedBy, records_of}
 use Rattle.xa_bank_days.specs.declared.night.Night.{Night}

@@ -2,7 +2,6 @@ pub mod Ending
 pub mod Pieces
 pub mod Run
 pub mod Opened
-pub mod Again
 pub mod Turns
 pub mod Turning
 -- The words of this crate, by its name.
@@ -10,13 +9,8 @@ pub use Ending.{EndsDesk, EndsNumber, EndsNumbers, Telling, Told}
 pub use Pieces.{ArePiecesOf, HasGone, HasServed}
 pub use Run.{CanTell, HasRun, HasRunAll, HasWorked, HaveRun, IsReady, IsRun, Member, PutsBack, fault_of, member_of}
 pub use Opened.{HasRoomFor, HasSpaceFor, IfNotSettled, IfNotStarted, IsOpened, clients_of}
-pub use Again.{AgainWorks, AreGiven, HasRunAgain, IfUnopened, IfUnsettled, IfUnstarted, IsBad, IsRunAgain}
-pub use Again.{WorksWithScan}
 pub use Turns.{AllGoOn, GivesTurns, HadSomeTurn, HadTurn, TakesTurn, TurnsFor, WorkerGoesOn}
 pub use Turning.{all_go_on, all_stay, goes_both, goes_nowhere}
-pub use declared.again.AgainFault.{AgainFault}
-pub use declared.again.AgainFault.TheVariants.{Unsettled}
-pub use declared.again.WithScan.{WithScan}
 pub use declared.client_job.Attended.{Attended}
 pub use declared.client_job.ClientJob.{ClientJob}
 pub use declared.client_job.Worked.{Worked}

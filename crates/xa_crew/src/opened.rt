@@ -31,9 +31,10 @@ struct Room<C> {
     done: Vec<DoneWorker>,
 }
 
-/// All memory that clients and their desks take before they are settled, when no thread is started for them.
+/// All memory that clients and their desks take before they are settled, when no thread is started for them. Whoever
+/// opens again reserves it first, so that what was settled comes back as it was where there is none.
 #[derive(Drop)]
-pub(crate) struct Space<C> {
+pub struct Space<C> {
     jobs: Vec<ClientJob<C>>,
     outstanding: Vec<Vec<(u32, Code)>>,
     room: Room<C>,
@@ -69,8 +70,8 @@ impl<C> fmt::Debug for OpenedFault<C> {
 }
 
 impl<C: Client> Space<C> {
-    /// That of so many clients.
-    pub(crate) fn reserve(alloc: Global, clients: usize) -> Result<Space<C>, AllocError>
+    /// Reserves that of so many clients. It fails only for want of memory.
+    pub fn reserve(alloc: Global, clients: usize) -> Result<Space<C>, AllocError>
         ensures { IfOk result (HasSpaceFor clients) }
     {
         let mut outstanding = Vec::with_capacity(alloc, clients)?;
@@ -89,8 +90,9 @@ impl<C: Client> Space<C> {
         })
     }
 
-    /// Clients with the desks of one opening, each with the one at its place, and its workers.
-    pub(crate) fn hold(self, clients: Vec<C>, desks: Vec<Desk>, workers: Vec<Worker>) -> Opened<C>
+    /// Holds clients with the desks of one opening, each with the one at its place, and its workers. Nothing is done
+    /// yet.
+    pub fn hold(self, clients: Vec<C>, desks: Vec<Desk>, workers: Vec<Worker>) -> Opened<C>
         requires space { HasSpaceFor (length clients.items) self }
         requires as_many { length desks.items ≡ length clients.items }
         requires opened { (p : Setup) × IsWithinLimits p.numbers p.managers

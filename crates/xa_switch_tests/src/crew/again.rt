@@ -9,9 +9,10 @@ use std::sync::Wait;
 use std::thread::Threads;
 use xa_calls::{RmOp, native, xa_call, xa_recover};
 use xa_crew::laws::idles_go_on;
-use xa_crew::{
-    AgainFault, Client, ClientAgain, Run, UnopenedClients, WithScan, run_clients,
-    run_clients_again, run_clients_again_in_turns,
+use xa_crew::{Client, Run, run_clients};
+use xa_crew_again::{
+    AgainFault, ClientAgain, UnopenedClients, WithScan, run_clients_again,
+    run_clients_again_in_turns,
 };
 use xa_desk::laws::desks_go_on;
 use xa_desk::{Desk, Idle};

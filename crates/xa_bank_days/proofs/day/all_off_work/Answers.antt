@@ -1,6 +1,7 @@
 use Rattle.xa_base.proofs.{rules, ◌≡◌, ℕ, ◌+◌, Bool, List, [], ◌∷◌, ◌++◌, length, length-append, map, append_assoc, sym, ap, ◌∙◌, arith, length-map, map-append}
 use Rattle.xa_base.proofs.{into_iter_items, into_iter_len}
-use Rattle.xa_crew.specs.{WithScan, Attended}
+use Rattle.xa_crew.specs.{Attended}
+use Rattle.xa_crew_again.specs.{WithScan}
 use Rattle.xa_bank.specs.{Teller, ReadsBack}
 use Rattle.xa_bank_days.proofs.Went.{one_back_more, all_taken, one_fewer}
 use Rattle.xa_bank_days.proofs.day.all_off_work.Goals as goal

@@ -1,6 +1,7 @@
 use Rattle.std.proofs.lemmas.Result.{IfErr-at_err}
 use Rattle.xa_base.proofs.{arith, rules, Err, ◌≡◌, List, [], ◌∷◌, ◌++◌, refl}
-use Rattle.xa_crew.specs.{Unsettled, WithScan, Ran, HasRunAgain, IfUnsettled}
+use Rattle.xa_crew.specs.{Ran}
+use Rattle.xa_crew_again.specs.{Unsettled, WithScan, HasRunAgain, IfUnsettled}
 use Rattle.xa_bank_days.specs.{Resolver, NoMemory, ResolvesBy}
 use Rattle.xa_bank_days.proofs.Nightly.{left_law, night_law, tellers_law, untouched_law}
 use Rattle.xa_bank_days.proofs.night.run_night.Goals as goal

@@ -1,5 +1,5 @@
 use Rattle.xa_switch.specs.{reopening}
-use Rattle.xa_crew.proofs.again.open_clients_again.Goals as goal
+use Rattle.xa_crew_again.proofs.again.open_clients_again.Goals as goal
 
 pub returns-in-Ok-reopen-clause-opened : goal.returns-in-Ok-reopen-clause-opened
 returns-in-Ok-reopen-clause-opened g c =

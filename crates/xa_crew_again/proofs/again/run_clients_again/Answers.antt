@@ -1,6 +1,6 @@
 use Rattle.xa_base.proofs.{arith}
 use Rattle.xa_switch.specs.{reopening}
-use Rattle.xa_crew.proofs.again.run_clients_again.Goals as goal
+use Rattle.xa_crew_again.proofs.again.run_clients_again.Goals as goal
 
 pub returns-in-Ok-run-clause-ran : goal.returns-in-Ok-run-clause-ran
 returns-in-Ok-run-clause-ran g c = grind arith

@@ -1,5 +1,5 @@
 use Rattle.xa_base.proofs.{◌≡◌, ◌++◌, map, length, vec_capacity, into_iter_items, into_iter_len}
-use Rattle.xa_crew.proofs.again.with_scans.Given as goal
+use Rattle.xa_crew_again.proofs.again.with_scans.Given as goal
 
 -- the first clients have the first scans
 abbrev pub invariant-loop-client : goal.invariant-loop-client

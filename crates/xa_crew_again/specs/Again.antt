@@ -7,10 +7,10 @@ use Rattle.xa_switch.specs.Reopening.{reopening}
 use Rattle.xa_switch.specs.Recovery.{AreScansOf}
 use Rattle.xa_scan.specs.Left.{ScanView}
 use Rattle.xa_switch.specs.Settled.{Settling}
-use Rattle.xa_crew.specs.declared.again.AgainFault.{AgainFault}
-use Rattle.xa_crew.specs.declared.again.AgainFault.TheVariants.{Unopened, Unsettled, Unstarted}
-use Rattle.xa_crew.specs.declared.again.UnopenedClients.{UnopenedClients}
-use Rattle.xa_crew.specs.declared.again.WithScan.{WithScan}
+use Rattle.xa_crew_again.specs.declared.again.AgainFault.{AgainFault}
+use Rattle.xa_crew_again.specs.declared.again.AgainFault.TheVariants.{Unopened, Unsettled, Unstarted}
+use Rattle.xa_crew_again.specs.declared.again.UnopenedClients.{UnopenedClients}
+use Rattle.xa_crew_again.specs.declared.again.WithScan.{WithScan}
 use Rattle.xa_crew.specs.declared.client_job.Attended.{Attended}
 use Rattle.xa_crew.specs.declared.opened.Opened.{Opened}
 use Rattle.xa_crew.specs.declared.run.Ran.{Ran}

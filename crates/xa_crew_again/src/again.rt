@@ -5,16 +5,15 @@ ghost use Rattle.xa_desk.specs.GoingOn.{GoesOn};
 ghost use Rattle.xa_desk.specs.Kept.{AllKept};
 ghost use Rattle.xa_switch.specs.Reopening.{MayReopen, managers_in, reopening};
 ghost use Rattle.xa_scan.specs.Left.{ScanView};
-ghost use Rattle.xa_crew.specs.Again.{AreGiven, HasRunAgain, IfUnopened, IfUnstarted, IfUnsettled, IsBad, IsRunAgain};
+ghost use Rattle.xa_crew_again.specs.Again.{AreGiven, HasRunAgain, IfUnopened, IfUnstarted, IfUnsettled, IsBad};
+ghost use Rattle.xa_crew_again.specs.Again.{IsRunAgain};
 ghost use Rattle.xa_crew.specs.Opened.{HasSpaceFor, IsOpened, clients_of};
 
-use crate::client::Client;
-use crate::opened::{Opened, OpenedFault, Space};
-use crate::run::{Ran, Run};
 use std::alloc::{AllocError, Global};
 use std::fmt;
 use std::sync::Wait;
 use std::thread::Threads;
+use xa_crew::{Client, Opened, OpenedFault, Ran, Run, Space};
 use xa_desk::{Desk, Idle};
 use xa_scan::Scan;
 use xa_switch::{Again, OpenFault, Settled, may_reopen, reopen};
@@ -53,7 +52,7 @@ pub struct WithScan<C> {
 }
 
 impl<C: ClientAgain> Client for WithScan<C> {
-    ghost use Rattle.xa_crew.specs.Again.{WorksWithScan};
+    ghost use Rattle.xa_crew_again.specs.Again.{WorksWithScan};
 
     ghost works = { WorksWithScan C.works_again };
 
