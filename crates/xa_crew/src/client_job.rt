@@ -73,7 +73,6 @@ fn attend<R: Wait, C: Client, I: Idle>(rt: &R, job: ClientJob<C>, idle: &mut I) 
 }
 
 /// All clients work so, one after the other, where there is room for what they come to.
-#[tactic(auto, using(xa_base::proofs::none_side, xa_base::proofs::all_at, xa_base::proofs::next_there))]
 pub(crate) fn attend_all<R: Wait, C: Client, I: Idle>(
     rt: &R,
     jobs: Vec<ClientJob<C>>,

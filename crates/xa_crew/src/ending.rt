@@ -57,7 +57,6 @@ fn end_numbers<R: Wait, I: Idle>(rt: &R, desk: &mut Desk, idle: &mut I, told: &m
 ///
 /// It waits for each completion, and where a manager's lane is full for its end mark, by `idle`. The caller
 /// has the memory for what is told.
-#[tactic(auto, using(crate::proofs::Pieces::numbers_keep))]
 pub fn end_desk<R: Wait, I: Idle>(
     rt: &R,
     mut desk: Desk,

@@ -18,7 +18,6 @@ use xa_switch::Plan;
 /// before the next client begins; once all desks have ended, each worker runs to the last end mark. A client that
 /// waits for what a later one is to do waits for ever. The faults are those of `CrewFault`, as of `run_clients`:
 /// `BadPlan` exactly where the plan isn't sound, and `Unsettled` with what all clients have come to.
-#[tactic(auto, using(xa_base::proofs::arith))]
 pub fn run_clients_in_turns<R: Wait, C: Client>(
     rt: &R,
     alloc: Global,

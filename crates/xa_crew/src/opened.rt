@@ -158,7 +158,6 @@ impl<C: Client + Send + 'static> Opened<C> {
 
     /// Runs each client in a thread of its own, and each worker, and settles what they come to: as `run_clients` does.
     /// Where memory is refused, or a thread, before all threads are started, it comes back as it was.
-    #[tactic(auto, using(crate::proofs::Pieces::still_opened))]
     pub fn run<R: Threads + Wait + Copy + Send + 'static, P: Pace + Drop + Send + 'static>(
         self,
         rt: &R,

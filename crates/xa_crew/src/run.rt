@@ -45,7 +45,6 @@ pub struct Ran<C> {
 /// It returns once all threads have ended and the opening is settled; where a client never returns it
 /// doesn't. The faults are those of `CrewFault`: `BadPlan` exactly where the plan isn't sound, and `Unsettled` with
 /// what all threads have come to.
-#[tactic(auto, using(xa_base::proofs::arith))]
 pub fn run_clients<
     R: Threads + Wait + Copy + Send + 'static,
     C: Client + Send + 'static,

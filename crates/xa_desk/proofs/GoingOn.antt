@@ -218,9 +218,5 @@ leaves_seen a b new e h = rw e at h
 pub others_seen : (a b new : DeskView) (p o : Operation) → a ≡ b → p ≡ o → LeavesOthers a new p → LeavesOthers b new o
 others_seen a b new p o e named h t owned differs = h t (rw e owned) (λ same. differs (same ∙ named))
 
--- what a sending leaves, and calls that may find nothing
+-- what a sending leaves
 pub ruleset sent_rules = (sent_leaves, sent_fresh, full_leaves)
-
-pub ruleset tried_rules = (desk_stays, tried_stays, others_seen)
-
-pub ruleset tried_kept_rules = (desk_stays, tried_kept_stays, leaves_seen)

@@ -277,7 +277,6 @@ impl Desk {
     /// `XA_RETRY` of `xa_complete()` with `TMNOWAIT` (C193, chapter 5).
     ///
     /// It comes back only after a quiet moment at which the completion wasn't drained.
-    #[tactic(auto, using(crate::proofs::GoingOn::tried_rules))]
     pub fn try_complete<R: Wait>(&mut self, rt: &R, ticket: Ticket) -> Result<Code, Ticket>
         requires { Owns self.old ticket }
         ensures collected { IfOk result (Collects self.old self.new ticket.operation) }
@@ -350,7 +349,6 @@ impl Desk {
     ///
     /// `None` comes only after a quiet moment at which the completion wasn't drained; the operation stays
     /// kept under its number.
-    #[tactic(auto, using(crate::proofs::GoingOn::tried_kept_rules))]
     pub fn try_kept<R: Wait>(&mut self, rt: &R, number: u32) -> Option<Code>
         requires { IsSome (map.get self.old.kept number) }
         ensures collected { IfSome result (CollectsKept self.old self.new number) }

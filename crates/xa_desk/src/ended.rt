@@ -154,7 +154,6 @@ pub(crate) fn end<R: Wait, I: Idle>(rt: &R, book: Book, idle: &mut I) -> EndedDe
 }
 
 // Puts the end mark of each lane to a manager.
-#[tactic(auto, using(std::proofs::lemmas::Grind::common_steps, crate::proofs::Looks::marks_push))]
 fn end_all<R: Wait, I: Idle>(
     rt: &R,
     requests: Vec<Sender<Request>>,

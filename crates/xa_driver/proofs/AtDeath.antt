@@ -12,11 +12,9 @@ use Rattle.xa_driver.specs.{CameToVotes, Dies, HaveAsked, HaveTold, IsDecidedBy,
 use Rattle.xa_driver.specs.{VotesAndObeys, is_decided_by, to_come, withheld, AsksLedger, code_of, ending_of_ask, first_ask, second_ask, HasDecided, HasPrepared}
 use Rattle.xa_driver.specs.{HasTold, IsUndecided, asked_in, Logs, decision_of, has_branch_at, IsAmong, IsSent, IsUnderWay, LeavesInFlight, IsSameAsk}
 use Rattle.xa_driver.specs.{VotesAndHears, third_ask}
-use Rattle.xa_driver.specs.Deaths.{sent}
 use Rattle.xa_driver.proofs.Calls.{among_first, among_second, asks_long, first_trace, second_code, second_is, seconds_are, for_log, both_traced, each_asked}
 use Rattle.xa_driver.proofs.Stepping.{as_many, so_far}
 use Rattle.xa_driver.proofs.Requests.{same_itself}
-use Rattle.xa_driver.proofs.Progress.{idles_same, idles_start}
 use Rattle.xa_log.specs.{LogState}
 
 -- ---- a request that is put
@@ -195,9 +193,6 @@ desk_further bs old mid new rest later = search (arith, goes_further, rest.keeps
 
 pub as_many_managers : (old new : DeskView) → GoesOn old new → length new.ledgers ≡ length old.ledgers
 as_many_managers old new on = sym (length-map new.ledgers plan_of) ∙ ap (λ l. length l) on.plan ∙ length-map old.ledgers plan_of
-
--- a desk at which nobody is told anything, and where it is idled else
-pub ruleset left_rules = (desk_same, idles_start, idles_same, among_second)
 
 -- ---- all have voted
 

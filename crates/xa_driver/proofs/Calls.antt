@@ -6,11 +6,11 @@ use Rattle.std.proofs.lemmas.List.Edits.{map_over_more}
 use Rattle.xa_words.specs.{TranName, tran_of, Op, Prepare, Code}
 use Rattle.xa_desk.specs.{LedgerView, ledger, DeskView}
 use Rattle.xa_desk.proofs.Ledgers.{known_by}
-use Rattle.xa_driver.specs.{Branch, Done, is_yes, voted_yes, yes_of, second_op, third_op, ending_of, Ask, asked, AskTrace, EachAsk, among_asks, SameAsks}
-use Rattle.xa_driver.specs.{IsSameAsk, AreRising, AllCanAsk, first_ask, code_of, second_ask, third_ask, ending_of_ask, asked_yes, yes_asked, AtBranch}
-use Rattle.xa_driver.specs.{AsksLedger, EachBranch, has_branch_at, IsTranOf, AreBranchesRising, HaveRoom, Logs, decision_of, IsTraceOfCommit, Round}
-use Rattle.xa_driver.specs.{HasRoomForEndings, IsAtRest, MayAsk, Prepared, Decided, Told, KeepsTheRest, HasDecided, HasForgotten, HasPrepared, HasTold}
-use Rattle.xa_driver.specs.{MayForget, MayTell, MayCommit, CommitFault, IfUndecided, Ending, VotesAndObeys}
+use Rattle.xa_driver.specs.{Branch, Done, is_yes, voted_yes, yes_of, second_op, third_op, ending_of, Ask, AskTrace, EachAsk, among_asks, SameAsks, IsSameAsk}
+use Rattle.xa_driver.specs.{AreRising, AllCanAsk, first_ask, code_of, second_ask, third_ask, ending_of_ask, asked_yes, yes_asked, AtBranch, AsksLedger}
+use Rattle.xa_driver.specs.{EachBranch, has_branch_at, IsTranOf, AreBranchesRising, HaveRoom, Logs, decision_of, IsTraceOfCommit, Round, HasRoomForEndings}
+use Rattle.xa_driver.specs.{IsAtRest, MayAsk, Prepared, Decided, Told, KeepsTheRest, HasDecided, HasForgotten, HasPrepared, HasTold, MayForget, MayTell}
+use Rattle.xa_driver.specs.{MayCommit, CommitFault, IfUndecided, Ending, VotesAndObeys}
 use Rattle.xa_log.specs.{LogState, record_of}
 use Rattle.xa_driver.specs.Asks.{Asks}
 use Rattle.xa_driver.proofs.Requests.{for_trace, asks_at, Alike, remade_alike, same_alike, same_itself, WasAsked, all_asked}

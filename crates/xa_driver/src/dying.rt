@@ -87,7 +87,6 @@ fn die_telling<R: Wait, I: Idle>(
 }
 
 // Goes on from the decision to the death of the coordinator.
-#[tactic(auto, using(crate::proofs::AtDeath::left_rules))]
 fn die_decided<R: Wait, I: Idle>(
     rt: &R,
     decided: Decided,
@@ -130,7 +129,6 @@ fn die_decided<R: Wait, I: Idle>(
 ///
 /// It fails for want of memory, before anything is sent; and where the log has lost the record of the decision before
 /// the coordinator came to its death.
-#[tactic(auto, using(crate::proofs::Progress::first_idles, crate::proofs::AtDeath::desk_rest))]
 pub fn commit_until<R: Wait, L: DecisionLog, I: Idle>(
     rt: &R,
     alloc: Global,

@@ -185,7 +185,6 @@ impl Preparing {
 /// Asks all branches of a global transaction to prepare, and collects their votes: the first phase.
 ///
 /// It takes all memory that the commit needs, and want of it comes before anything is sent.
-#[tactic(auto, using(crate::proofs::Progress::first_idles, crate::proofs::Progress::idles_start))]
 pub fn prepare_all<R: Wait, L: DecisionLog, I: Idle>(
     rt: &R,
     alloc: Global,
@@ -295,7 +294,6 @@ impl Decided {
     }
 
     /// Tells all branches the decision, and collects what they answer: the second phase.
-    #[tactic(auto, using(crate::proofs::Progress::idles_same, crate::proofs::Calls::among_second))]
     pub fn tell<R: Wait, I: Idle>(self, rt: &R, desk: &mut Desk, idle: &mut I) -> Told
         requires { MayTell self desk.old }
         ensures told { HasTold self desk.old.ledgers desk.new.ledgers result }
@@ -387,7 +385,6 @@ impl Told {
     }
 
     /// Tells each branch that was decided heuristically to forget it: the end.
-    #[tactic(auto, using(crate::proofs::Progress::idles_same, crate::proofs::Calls::among_third))]
     pub fn forget<R: Wait, I: Idle>(self, rt: &R, desk: &mut Desk, idle: &mut I) -> Done
         requires { MayForget self desk.old }
         ensures forgot { HasForgotten self desk.old.ledgers desk.new.ledgers result }

@@ -193,9 +193,6 @@ pub line_words : (mode : Bool) (s : Content) (n : ℕ) (line : List ℕ) (i : It
 unfolding line_of
 line_words mode s n line i e = search (arith, not_then, nat_lt, list_all)
 
--- what lines keep
-pub ruleset kept_rules = (logfail_kept, logunknown_kept, declared_kept, step_kept)
-
 -- ---- no line that is read for threads opens the managers again
 
 -- what a line adds

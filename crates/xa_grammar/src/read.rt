@@ -69,7 +69,7 @@ fn head_of(word: &[u8]) -> Option<Head>
 }
 
 // Takes the words of the line of this number.
-#[tactic(auto, using(crate::proofs::Scripts::kept_rules), unfolding(crate::specs::Grammar::item_by))]
+#[tactic(auto, unfolding(crate::specs::Grammar::item_by))]
 fn take_words(
     script: &mut Script,
     threads_mode: bool,

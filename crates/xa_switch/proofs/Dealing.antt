@@ -1,8 +1,8 @@
 -- Rows that are dealt into columns: ends of lanes by desk and by worker, as an opening makes them and as they are gathered again.
-use Rattle.xa_base.proofs.{pairs_append, next_left, contains_map, ◌≡◌, ℕ, zero, suc, ◌+◌, ◌<◌, ◌≤◌, List, [], ◌∷◌, ◌++◌, length, map, set, get_or, slice_get}
-use Rattle.xa_base.proofs.{drop, refl, sym, ap, arith, length-append, inl, inr, Some, All, get_or-map as get_or-map', length-map, option_map, into_iter_items}
-use Rattle.xa_base.proofs.{into_iter_len, slice_get_within, slice_get-map, slice_get-get_or, got_push, map-append, All-map, all_unmapped, ◌∙◌, replicate}
-use Rattle.xa_base.proofs.{vec_capacity, AllPairs, get_or-set_other, next_place, taken_next, ◌≢◌, All-append, all_left, map-set, length-replicate}
+use Rattle.xa_base.proofs.{pairs_append, length-drop, next_left, contains_map, ◌≡◌, ℕ, zero, suc, ◌+◌, ◌<◌, ◌≤◌, List, [], ◌∷◌, ◌++◌, length, map, set, get_or}
+use Rattle.xa_base.proofs.{slice_get, drop, refl, sym, ap, arith, length-append, inl, inr, Some, All, get_or-map as get_or-map', length-map, option_map}
+use Rattle.xa_base.proofs.{into_iter_items, into_iter_len, slice_get_within, slice_get-map, slice_get-get_or, got_push, map-append, All-map, all_unmapped, ◌∙◌}
+use Rattle.xa_base.proofs.{replicate, vec_capacity, AllPairs, get_or-set_other, next_place, taken_next, ◌≢◌, All-append, all_left, map-set, length-replicate}
 use Rattle.xa_base.proofs.{get_or_append_left, All-permutation, Contains, Contains-append_left, Contains-append_right, get_or-replicate, flat_map, Option, None}
 use Rattle.xa_base.proofs.{All-nil, All-cons, append-nil, append_assoc, same_Some, Bool, ◌==◌, ◌&&◌, false, and_parts, eqb-true, eq-eqb, both_ways}
 use Rattle.xa_base.proofs.{false_from_ne_true, nat_tests, All-contains, Contains-get_or}
@@ -77,6 +77,12 @@ pub next_of : {X Y Z : Type 0} {xs : List X} {x : X} {ys : List Y} {it : IntoIte
     → (slice_get xs (length ys) ≡ Some x) × IsLeft xs (ys ++ y ∷ []) it'
 next_of {xs = xs} {x = x} {ys = ys} left y it' (next, fewer) = search (arith, next_left, into_iter_items, length-append, left.counted)
 
+-- it isn't at its end while another list, of as many elements, has one more
+pub not_ended : {X Y Z : Type 0} {xs : List X} {ys : List Y} {it : IntoIter X Z} → IsLeft xs ys it → (zs rest : List Y) (y : Y) → ys ++ y ∷ rest ≡ zs
+    → length xs ≡ length zs → into_iter_len it ≡ 0 → ⊥
+not_ended {xs = xs} {ys = ys} left zs rest y so_far many ended =
+    omega (arith, ap length left.items, length-drop (length ys) xs, ap length so_far, length-append ys (y ∷ rest), many, left.counted, ended)
+
 -- one more, and how many there are then
 pub push_more : {X : Type 0} (P : ℕ → X → Type 0) (xs new : List X) (x : X) (n m : ℕ) → length xs ≡ n → m ≡ n + 1 → new ≡ xs ++ x ∷ [] → Each P xs → P n x
     → (length new ≡ m) × Each P new
@@ -97,6 +103,21 @@ module _ {T : Type 0} where
     | inl before ↦ sender_at lane line capacity n k s before
     | inr last ↦ last.1 ∙ ap (λ i. new_sender lane line capacity i) (sym (last.0 ∙ length_senders T lane line capacity n))
   ]
+
+  no_columns : (n k : ℕ) (c : List (Sending T)) → slice_get (replicate n []) k ≡ Some c → length c ≡ 0
+  no_columns zero k c e = cc
+  no_columns (suc n) zero c e = ap length (sym (same_Some [] c e))
+  no_columns (suc n) (suc k) c e = no_columns n k c e
+
+  -- before the first lane
+  pub no_lanes : (opening kind senders room : ℕ) → AreNewLanes {T = T} opening kind senders 0 room (replicate senders []) []
+  no_lanes opening kind senders room = record {
+    many = refl;
+    receivers = λ k r e. cc;
+    wide = length-replicate senders [];
+    deep = no_columns senders;
+    dealt = λ k j c s r at here there. cc;
+  }
 
   -- lanes with one more
   pub one_more_lane : (opening kind senders lanes room : ℕ) (C : List (List (Sending T))) (rs : List (Receiving T)) (row : List (Sending T)) (r : Receiving T)

@@ -1,5 +1,6 @@
-use Rattle.xa_base.proofs.{arith, sym, refl}
-use Rattle.xa_calls.specs.Completing.CompletesOne.{retry, ready, waited}
+use Rattle.xa_base.proofs.{◌≡◌, true, arith, sym, refl, eqb-true}
+use Rattle.xa_calls.specs.{keeps_for}
+use Rattle.xa_calls.specs.Completing.CompletesOne.{unknown, retry, ready, waited}
 use Rattle.xa_calls.proofs.Kept.{leaves_all}
 use Rattle.xa_calls.proofs.completing.complete_one.Goals as goal
 
@@ -39,3 +40,29 @@ returns-clause-completes g c =
 pub returns-clause-leaves : goal.returns-clause-leaves
 returns-clause-leaves g c =
     search (arith, c.desks_go_on.ensures.further, c.redeem.ensures.goes_on, c.complete.ensures.others, c.redeem.ensures.tickets, c.in-Some-redeem.ensures.fresh)
+
+pub returns-in_default-clause-completes : goal.returns-in_default-clause-completes
+returns-in_default-clause-completes g c = unknown (rw c.in_default.is refl) refl refl
+
+pub returns-then-not-keeps-clause-completes : goal.returns-then-not-keeps-clause-completes
+returns-then-not-keeps-clause-completes g c = unknown (rw c.in-Some.is (sym c.if-not-keeps.ensures.keeps)) refl refl
+
+pub returns-in-Some-try_kept-clause-handle : goal.returns-in-Some-try_kept-clause-handle
+returns-in-Some-try_kept-clause-handle g c = c.if-not-keeps.ensures.handle refl
+
+pub returns-clause-handle : goal.returns-clause-handle
+returns-clause-handle g c = c.if-not-keeps.ensures.handle refl
+
+pub returns-clause-waited : goal.returns-clause-waited
+returns-clause-waited g c = λ _.
+    let redeemed = c.in-Some-redeem in
+    let kept : keeps_for c.args.desk.now c.in-Some.number c.args.manager ≡ true = sym c.if-not-keeps.ensures.keeps in
+    let mine : redeemed.ticket.operation.manager ≡ c.args.manager = eqb-true _ _ (rw redeemed.ensures.kept at kept) in (
+      c.in-Some.is,
+      record {
+        operation = redeemed.ticket.operation;
+        kept = redeemed.ensures.kept;
+        manager = mine;
+        waits = rw (← mine) (rw redeemed.ensures.freed at c.complete.ensures.waited);
+      },
+    )

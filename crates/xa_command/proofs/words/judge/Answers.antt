@@ -1,10 +1,28 @@
-use Rattle.std.proofs.Common.{rules, ◌≡◌, ◌==◌, ap, ap₂, sym, ◌∙◌, ℕ, true, false, List, [], ◌∷◌, refl, slice_index, slice_index_or, arith}
+use Rattle.std.proofs.Common.{rules, codes, length, ◌≡◌, ◌==◌, ap, ap₂, sym, ◌∙◌, ℕ, true, false, List, [], ◌∷◌, refl, slice_index, slice_index_or, arith}
+use Rattle.std.proofs.lemmas.Bool.{false≢true}
+use Rattle.std.proofs.lemmas.List.{length-map}
 use Rattle.clap.specs.Words.{app_of, with_rule, takes, fault_of, is_simple_and_free}
 use Rattle.clap.specs.ValueTests.{accepts}
 use Rattle.clap.specs.declared.error.kind.ErrorKind.TheVariants.{OutOfMemory}
 use Rattle.xa_command.proofs.CommandLemmas.{command, free, takes_mode, is_either, either_mode, only_either, mode_is, top_is, accepts_two, one_word}
-use Rattle.xa_command.specs.{word_of}
+use Rattle.xa_command.specs.{Mode, word_of}
+use Rattle.xa_command.specs.declared.mode.Mode.TheVariants as modes
 use Rattle.xa_command.proofs.words.judge.Goals as goal
+use Rattle.xa_command.proofs.words.judge.Goals.{then-words-ne1-via-then-words-ne1, then-words-ne1-via-else-words-ne1+then-starts_with}
+
+-- no mode's word has a minus before it
+unminused : (m : Mode) (v : List ℕ) → v ∷ [] ≡ word_of m ∷ [] → (slice_index v 0 == 45) ≡ true → ⊥
+unminused modes.Turns v are e = let same : v ≡ codes "turns" = cc in false≢true (sym (ap (λ (l : List ℕ). slice_index l 0 == 45) same) ∙ e)
+unminused modes.Threads v are e = let same : v ≡ codes "threads" = cc in false≢true (sym (ap (λ (l : List ℕ). slice_index l 0 == 45) same) ∙ e)
+
+pub returns-then-words-ne1-clause-usage : goal.returns-then-words-ne1-clause-usage
+returns-then-words-ne1-clause-usage c usage are =
+    elim c.then-words-ne1.branch [
+      | then-words-ne1-via-then-words-ne1 w ↦ w.if-words-ne1.true (sym (length-map c.args.words.now _) ∙ ap (λ (l : List (List ℕ)). length l) are.1)
+      | then-words-ne1-via-else-words-ne1+then-starts_with w ↦
+          let texts = one_word c.args.words.now (record { ref_ptr = (0, 0); now = [] }) w.if-words-ne1.false in
+          unminused are.0 _ (sym texts ∙ are.1) (sym (w.starts_with.ensures.byte (omega arith) (omega arith) (λ w o h. h)) ∙ w.if-starts_with.true)
+    ]
 
 pub returns-in-Ok-clause-ok : goal.returns-in-Ok-clause-ok
 returns-in-Ok-clause-ok c =

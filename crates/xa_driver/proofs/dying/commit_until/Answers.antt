@@ -20,6 +20,9 @@ returns-in-Preparing-clause-dies g c t of_tran =
 pub returns-in-Preparing-clause-managers : goal.returns-in-Preparing-clause-managers
 returns-in-Preparing-clause-managers g c = as_many_managers _ _ (c.die_preparing.ensures.leaves c.args.branches.now c.in_ok-preparing.ensures.preparing).goes_on
 
+pub returns-in-Preparing-clause-waited : goal.returns-in-Preparing-clause-waited
+returns-in-Preparing-clause-waited g c = first_idles _ _ _ _ c.in_ok-preparing.ensures.preparing.same c.die_preparing.ensures.waited
+
 -- ---- once all have voted
 
 pub let_go-requires : goal.let_go-requires
@@ -29,6 +32,13 @@ pub returns-in-Prepared-clause-dies : goal.returns-in-Prepared-clause-dies
 returns-in-Prepared-clause-dies g c t of_tran =
     rw c.in-Prepared.is (dies_prepared c.args.branches.now c.args.desk.now.ledgers c.finish-prepared.new.desk.ledgers (g.L.DecisionLog.state c.args.log.now) t c.finish-prepared.result
     (c.finish-prepared.ensures.prepared c.args.branches.now c.args.desk.now c.in_ok-preparing.ensures.preparing) c.let_go.result c.let_go.ensures)
+
+pub returns-in-Prepared-clause-waited : goal.returns-in-Prepared-clause-waited
+returns-in-Prepared-clause-waited g c = first_idles _ _ _ _ c.in_ok-preparing.ensures.preparing.same c.finish-prepared.ensures.waited
+
+pub returns-in-Prepared-clause-managers : goal.returns-in-Prepared-clause-managers
+returns-in-Prepared-clause-managers g c =
+    as_many_managers _ _ (rw c.in_ok-preparing.ensures.preparing.before at c.finish-prepared.ensures.keeps).keeps.goes_on
 
 -- ---- once it was decided
 
@@ -90,6 +100,9 @@ returns-in-Ok-clause-waited g c =
     idles_chain (first_idles c.args.branches.now _ _ _ c.in_ok-preparing.ensures.preparing.same c.finish-prepared.ensures.waited)
     (first_idles c.args.branches.now _ _ _ first.same (rw c.in-Ok.ensures.decided.round at c.die_decided.ensures.waited))
 
+pub returns-in-Ok-clause-idled : goal.returns-in-Ok-clause-idled
+returns-in-Ok-clause-idled g c = g.met.I.Idle.leads_chain _ _ _ c.finish-prepared.ensures.idled c.die_decided.ensures.idled
+
 -- ---- where nobody knows whether the log has the record
 
 pub let_go-requires-in-Err : goal.let_go-requires-in-Err
@@ -115,3 +128,10 @@ pub returns-in-Err-clause-one_round : goal.returns-in-Err-clause-one_round
 returns-in-Err-clause-one_round g c =
     whole_in_order c.in_ok-preparing.preparing.round (map first_ask c.args.branches.now) c.args.desk.now c.finish-prepared.new.desk
     c.finish-prepared.ensures.ordered c.in_ok-preparing.ensures.none c.in_ok-preparing.ensures.preparing.before c.in_ok-preparing.ensures.preparing.same
+
+pub returns-in-Err-clause-waited : goal.returns-in-Err-clause-waited
+returns-in-Err-clause-waited g c = first_idles _ _ _ _ c.in_ok-preparing.ensures.preparing.same c.finish-prepared.ensures.waited
+
+pub returns-in-Err-clause-managers : goal.returns-in-Err-clause-managers
+returns-in-Err-clause-managers g c =
+    as_many_managers _ _ (rw c.in_ok-preparing.ensures.preparing.before at c.finish-prepared.ensures.keeps).keeps.goes_on

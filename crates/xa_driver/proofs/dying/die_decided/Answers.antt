@@ -1,6 +1,7 @@
 use Rattle.xa_base.proofs.{◌∙◌}
-use Rattle.xa_driver.proofs.AtDeath.{decided_here, dies_decided, dies_told}
+use Rattle.xa_driver.proofs.AtDeath.{decided_here, desk_rest, desk_same, dies_decided, dies_told}
 use Rattle.xa_driver.proofs.Calls.{among_second}
+use Rattle.xa_driver.proofs.Progress.{idles_same, idles_start}
 use Rattle.xa_driver.proofs.dying.die_decided.Goals as goal
 
 pub returns-in-Telling-clause-dies : goal.returns-in-Telling-clause-dies
@@ -22,3 +23,18 @@ pub returns-in_default-clause-dies : goal.returns-in_default-clause-dies
 returns-in_default-clause-dies g c bs old log later p first second =
     rw (decided_here c.args.death c.requires.later c.in_default.not-Telling c.in_default.not-Told)
     (dies_decided bs old c.args.desk.now.ledgers log later p c.args.decided first second c.let_go-in_default.result c.let_go-in_default.ensures)
+
+pub returns-in-Telling-clause-waited : goal.returns-in-Telling-clause-waited
+returns-in-Telling-clause-waited g c =
+    let d = c.args.decided in
+    let t = c.begin_telling-telling in
+    idles_same c.die_telling.ensures.waited (λ m. among_second d.known.commit d.round.asks.items t.result.round.asks.items m t.ensures.telling.same)
+
+pub returns-in-Told-clause-leaves : goal.returns-in-Told-clause-leaves
+returns-in-Told-clause-leaves g c bs among = desk_rest bs _ _ c.tell.ensures.keeps
+
+pub returns-in_default-clause-leaves : goal.returns-in_default-clause-leaves
+returns-in_default-clause-leaves g c bs among = desk_same bs _
+
+pub returns-in_default-clause-waited : goal.returns-in_default-clause-waited
+returns-in_default-clause-waited g c = idles_start _ _

@@ -7,7 +7,6 @@ use Rattle.xa_driver.proofs.Requests.{rest_same, rest_chain}
 use Rattle.xa_driver.proofs.Mapped.{turns_by}
 use Rattle.xa_driver.proofs.resolving.resolve.Given as given
 use Rattle.xa_driver.proofs.resolving.resolve.Goals as goal
-use Rattle.xa_driver.proofs.Stepping.{so_far}
 
 pub loop-before-init : goal.loop-before-init
 loop-before-init g c = record {

@@ -1,5 +1,5 @@
-use Rattle.xa_base.proofs.{◌++◌, ◌∷◌, [], List, length, length-append, sym, ap, ◌∙◌, refl, arith, rules, into_iter_items, next_there, all_at, taken_next}
-use Rattle.xa_base.proofs.{map-append}
+use Rattle.xa_base.proofs.{◌++◌, ◌∷◌, [], List, length, append-nil, length-append, map, sym, ap, ◌∙◌, refl, arith, rules, into_iter_items, next_there}
+use Rattle.xa_base.proofs.{next_place, none_of, all_at, taken_next, length-map, map-append}
 use Rattle.xa_desk.specs.{EndedView, AllKept}
 use Rattle.xa_base.specs.Lists.Chain.{none, more}
 use Rattle.xa_log.specs.{LosingLog}
@@ -24,7 +24,22 @@ end_session-requires g c =
     (next_there c.args.sessions.items c.loop-session.yielded (into_iter_items c.next.new.self) c.in-Some.session (ap (λ l. c.loop-session.yielded ++ l) (sym c.in-Some.ensures.steps.0) ∙ c.loop-session.invariant.so_far))
 
 pub push_reserved-requires : goal.push_reserved-requires
-push_reserved-requires g c = search (arith, length-append, into_iter_items)
+push_reserved-requires g c =
+    let i = c.loop-session.invariant in
+    let here =
+    (next_place c.loop-session.yielded _ (into_iter_items c.next.new.self) c.args.sessions.items c.in-Some.session c.in-Some.ensures.steps.0 i.so_far).0 in
+    let many = i.many in
+    let room = i.room in
+    omega (arith, here, many, room, c.loop-session.ended.ok)
+
+pub push_reserved-requires-in-loop-session : goal.push_reserved-requires-in-loop-session
+push_reserved-requires-in-loop-session g c =
+    let i = c.loop-session.invariant in
+    let here =
+    (next_place c.loop-session.yielded _ (into_iter_items c.next.new.self) c.args.sessions.items c.in-Some.session c.in-Some.ensures.steps.0 i.so_far).0 in
+    let many = ap length i.logs_are ∙ length-map c.loop-session.yielded (λ (x : Session). x.log) in
+    let room = i.room_for_logs in
+    omega (arith, here, many, room, c.loop-session.logs.ok)
 
 pub loop-session-preserved : goal.loop-session-preserved
 loop-session-preserved g c =
@@ -44,3 +59,20 @@ loop-session-preserved g c =
       room = rw c.push_reserved.ensures.capacity i.room;
       room_for_logs = rw c.push_reserved-in-loop-session.ensures.capacity i.room_for_logs;
     }
+
+-- once none is left, those whose desks have ended are all
+pub returns-clause-ended : goal.returns-clause-ended
+returns-clause-ended g c =
+    let i = c.loop-session.invariant in
+    let rest = c.loop-session.session-iterator.rest in
+    let left = none_of rest.items (omega (arith, rest.ok, c.in-None.ensures.steps.0)) in
+    let all = rw (left, append-nil c.loop-session.yielded) at i.so_far in
+    rw all at i.ends
+
+pub returns-clause-logs : goal.returns-clause-logs
+returns-clause-logs g c =
+    let i = c.loop-session.invariant in
+    let rest = c.loop-session.session-iterator.rest in
+    let left = none_of rest.items (omega (arith, rest.ok, c.in-None.ensures.steps.0)) in
+    let all = rw (left, append-nil c.loop-session.yielded) at i.so_far in
+    i.logs_are ∙ ap (map _) all

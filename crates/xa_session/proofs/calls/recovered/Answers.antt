@@ -1,4 +1,4 @@
-use Rattle.xa_base.proofs.{◌≡◌, ℕ, List, ◌++◌, length, take, drop, sym, ◌∙◌, arith, append-nil, w32, to_z-of_z, ints, take_all, drop_all}
+use Rattle.xa_base.proofs.{◌≡◌, ℕ, List, ◌++◌, length, take, drop, sym, ◌∙◌, arith, append-nil, w32, to_z-of_z, ints, on_err, refl, take_all, drop_all}
 use Rattle.xa_words.specs.{XidName}
 use Rattle.xa_session.proofs.calls.recovered.Goals as goal
 
@@ -20,3 +20,12 @@ returns-clause-answers g c =
       recovers = rw c.deref_mut.ensures.value at c.xa_recover-answer.ensures.recovered;
       shown = rw (to_z-of_z w32 n (omega (arith, ints)), written_back xids.len new xids.items size (sym xids.ok.0)) at c.listed.ensures;
     }
+
+pub returns-clause-prompt : goal.returns-clause-prompt
+returns-clause-prompt g c = c.xa_recover-answer.ensures.prompt
+
+pub returns-in_err-xids-clause-unsent : goal.returns-in_err-xids-clause-unsent
+returns-in_err-xids-clause-unsent g c = on_err _ _ refl
+
+pub returns-in_err-xids-clause-unscanned : goal.returns-in_err-xids-clause-unscanned
+returns-in_err-xids-clause-unscanned g c = on_err _ _ refl

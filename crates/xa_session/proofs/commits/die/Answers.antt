@@ -2,7 +2,6 @@ use Rattle.xa_base.proofs.{◌≡◌, true, refl}
 use Rattle.xa_driver.specs.declared.done.CommitFault.TheVariants as fault
 use Rattle.xa_driver.proofs.Calls.{of_votes}
 use Rattle.xa_session.specs.{session_of, CanCommit, CommitsAll, comes_to_decide, named}
-use Rattle.xa_transcript.specs.{Undecided}
 use Rattle.xa_session.proofs.Committed.{all_of_tran, was_lost}
 use Rattle.xa_session.proofs.commits.die.Goals as goal
 

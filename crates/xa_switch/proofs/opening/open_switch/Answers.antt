@@ -1,4 +1,4 @@
-use Rattle.xa_base.proofs.{arith, ◌≡◌, ℕ, List, map, rules, length, length-map, ap, ◌∙◌, subst, err_from_is_err_and}
+use Rattle.xa_base.proofs.{arith, ◌≡◌, ℕ, List, map, rules, length, length-map, ap, sym, ◌∙◌, subst, err_from_is_err_and}
 use Rattle.xa_tables.specs.{Managed, opening, Tables}
 use Rattle.xa_tables.proofs.Reopening.{new_opens, accounts_new}
 use Rattle.xa_switch.specs.{Setup, IsWithinLimits, Plan, ManagerPlan, numbers_of, use_async, AreOfOneOpening, manager_room, new_manager, opened_by, Again}
@@ -43,3 +43,16 @@ returns-clause-opened g c =
     subst (λ (s : Setup). AreOfOneOpening s c.put_together.result.0.items c.put_together.result.1.items)
     (λ i. record { numbers = numbers i; managers = (ap length flags ∙ length-map plans (λ (m : ManagerPlan). m.use_async)) i; use_async = flags i; first = first i })
     c.put_together.ensures
+
+pub lay_out-requires : goal.lay_out-requires
+lay_out-requires g c =
+    let limits : IsWithinLimits c.numbers-numbers.result (length c.args.plan.now.managers.items) = search rules in
+    record { limits = rw (ap length c.in_ok-use_async.ensures ∙ length-map c.deref-2.result.now (λ (m : ManagerPlan). m.use_async) ∙ ap length c.deref-2.ensures.value) limits }
+
+pub put_together-requires-clause-many : goal.put_together-requires-clause-many
+put_together-requires-clause-many g c =
+    let managers = ap length c.in_ok-managers.ensures.opened ∙ length-map c.deref.result.now (opened_by _ _) ∙ ap length c.deref.ensures.value in
+    let flags =
+    ap length (c.in_ok-layout.ensures.flags ∙ c.in_ok-use_async.ensures) ∙ length-map c.deref-2.result.now (λ (m : ManagerPlan). m.use_async)
+    ∙ ap length c.deref-2.ensures.value in
+    managers ∙ sym flags

@@ -1,6 +1,6 @@
-use Rattle.xa_base.proofs.{sym, side_of}
+use Rattle.xa_base.proofs.{map, refl, ap, ◌∙◌, sym, side_of}
 use Rattle.xa_crew.specs.{clients_of, HasServed}
-use Rattle.xa_crew.proofs.Pieces.{all_have_run}
+use Rattle.xa_crew.proofs.Pieces.{all_have_run, still_opened}
 use Rattle.xa_crew.proofs.opened.Opened.run.Goals as goal
 
 pub settle_run-requires : goal.settle_run-requires
@@ -21,3 +21,9 @@ pub returns-in-Ok-do_all-clause-unsettled : goal.returns-in-Ok-do_all-clause-uns
 returns-in-Ok-do_all-clause-unsettled g c p is =
     c.in-Err-settle_run.ensures.back p (clients_of c.args.self) (all_have_run g.C.Client.works c.args.self is c.in-Ok-do_all.ensures.jobs c.apart-clients.ensures.clients c.apart-clients.ensures.desks
     (rw (sym c.worker_jobs_of-worker_jobs.ensures) (side_of HasServed (λ s. s.worker) _ _ c.in-Ok-do_all.ensures.others)))
+
+pub returns-clause-unstarted : goal.returns-clause-unstarted
+returns-clause-unstarted g c =
+    let jobs = c.in-Err.ensures.back.0 in
+    let workers = c.workers_of.ensures ∙ ap (map _) c.in-Err.ensures.back.1 ∙ c.worker_jobs_of-worker_jobs.ensures in
+    (ap (map _) jobs, λ p is. still_opened p c.args.self _ jobs workers refl is)

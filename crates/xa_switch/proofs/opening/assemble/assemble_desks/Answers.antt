@@ -1,4 +1,4 @@
-use Rattle.xa_base.proofs.{arith, length, map, sym, ap, ◌∙◌, ◌++◌, ◌∷◌, [], into_iter_items, got_map, next_there, taken_next, length-append}
+use Rattle.xa_base.proofs.{length, map, sym, ap, ◌∙◌, ◌++◌, ◌∷◌, [], into_iter_items, got_map, next_there, taken_next, length-append}
 use Rattle.xa_switch.specs.{IsDeskOf}
 use Rattle.xa_switch.proofs.Dealing.{next_of, push_more}
 use Rattle.xa_switch.proofs.opening.assemble.assemble_desks.Goals as goal
@@ -31,4 +31,11 @@ loop-part-preserved c =
       completions_at = completions.0;
       made = c.assemble.ensures.made;
     }) in
-    search (arith, taken_next, into_iter_items, c.in-Some.part, c.in-Some.ensures.steps.0)
+    record {
+      so_far = taken_next Y _ (into_iter_items c.next.new.self) _ c.in-Some.part c.in-Some.ensures.steps.0 i.so_far;
+      many = made.0;
+      room = c.push_reserved.ensures.capacity ∙ i.room;
+      requests = requests.1;
+      completions = completions.1;
+      made = made.1;
+    }

@@ -1,6 +1,6 @@
 use Rattle.xa_base.proofs.{arith, length, map, sym, ap, ◌∙◌, ◌++◌, ◌∷◌, [], into_iter_items, got_map, next_there, taken_next, length-append}
 use Rattle.xa_switch.specs.{IsWorkerOf}
-use Rattle.xa_switch.proofs.Dealing.{next_of, push_more}
+use Rattle.xa_switch.proofs.Dealing.{next_of, not_ended, push_more}
 use Rattle.xa_switch.proofs.opening.assemble.assemble_workers.Goals as goal
 
 pub assemble-requires : goal.assemble-requires
@@ -37,4 +37,36 @@ loop-part-preserved c =
       senders_at = got_map (λ v. v.items) c.args.columns.items _ _ senders.0;
       made = c.assemble.ensures.new;
     }) in
-    search (arith, taken_next, into_iter_items, c.in-Some.part, c.in-Some.ensures.steps.0)
+    record {
+      so_far = taken_next Y _ (into_iter_items c.next.new.self) _ c.in-Some.part c.in-Some.ensures.steps.0 i.so_far;
+      many = made.0;
+      room = c.push_reserved.ensures.capacity ∙ i.room;
+      given = manager.1;
+      requests = requests.1;
+      senders = senders.1;
+      made = made.1;
+    }
+
+pub unreachable-requires : goal.unreachable-requires
+unreachable-requires c =
+    not_ended c.loop-part.invariant.given c.args.parts.items (into_iter_items c.next.new.self) c.in-Some.part (ap (λ l. c.loop-part.yielded ++ l) (sym c.in-Some.ensures.steps.0) ∙ c.loop-part.invariant.so_far) c.requires.managers c.in_default.ensures.cases.0
+
+pub unreachable-requires-in_default-next : goal.unreachable-requires-in_default-next
+unreachable-requires-in_default-next c =
+    not_ended c.loop-part.invariant.requests c.args.parts.items (into_iter_items c.next.new.self) c.in-Some.part (ap (λ l. c.loop-part.yielded ++ l) (sym c.in-Some.ensures.steps.0) ∙ c.loop-part.invariant.so_far) c.requires.receivers c.in_default-next.ensures.cases.0
+
+pub unreachable-requires-in_default-next-2 : goal.unreachable-requires-in_default-next-2
+unreachable-requires-in_default-next-2 c =
+    not_ended c.loop-part.invariant.senders c.args.parts.items (into_iter_items c.next.new.self) c.in-Some.part (ap (λ l. c.loop-part.yielded ++ l) (sym c.in-Some.ensures.steps.0) ∙ c.loop-part.invariant.so_far) c.requires.columns c.in_default-next-2.ensures.cases.0
+
+pub push_reserved-requires : goal.push_reserved-requires
+push_reserved-requires c =
+    let Y = c.loop-part.yielded in
+    let i = c.loop-part.invariant in
+    let all = ap length (ap (λ l. c.loop-part.yielded ++ l) (sym c.in-Some.ensures.steps.0) ∙ c.loop-part.invariant.so_far) in
+    omega (arith, c.requires.room, c.loop-part.workers.ok.0, i.many, i.room, all, length-append Y (c.in-Some.part ∷ into_iter_items c.next.new.self))
+
+pub returns-clause-many : goal.returns-clause-many
+returns-clause-many c =
+    let i = c.loop-part.invariant in
+    omega (arith, i.many, ap length i.so_far, length-append c.loop-part.yielded (into_iter_items c.loop-part.part-iterator), c.loop-part.part-iterator.rest.ok, c.in-None.ensures.steps.0)

@@ -37,3 +37,13 @@ pub returns-then-is_short-2-clause-bad : goal.returns-then-is_short-2-clause-bad
 returns-then-is_short-2-clause-bad c =
     let all : take c.loop-plan.plan-index c.args.managers.now ≡ c.args.managers.now = take_all c.loop-plan.plan-index c.args.managers.now (omega arith) in
     (λ e. absurd (cc), λ no. absurd (no (rw all at c.loop-plan.invariant.sound)))
+
+pub returns-clause-sound : goal.returns-clause-sound
+returns-clause-sound c =
+    let all : take c.loop-plan.plan-index c.args.managers.now ≡ c.args.managers.now = take_all c.loop-plan.plan-index c.args.managers.now (omega arith) in
+    rw all at c.loop-plan.invariant.sound
+
+pub returns-clause-opened : goal.returns-clause-opened
+returns-clause-opened c =
+    let all : take c.loop-plan.plan-index c.args.managers.now ≡ c.args.managers.now = take_all c.loop-plan.plan-index c.args.managers.now (omega arith) in
+    rw all at c.loop-plan.invariant.opened c.if-is_short-2.false

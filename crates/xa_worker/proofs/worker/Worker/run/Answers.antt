@@ -1,4 +1,4 @@
-use Rattle.xa_base.proofs.{◌∙◌}
+use Rattle.xa_base.proofs.{◌∙◌, refl, sym, [], append-nil}
 use Rattle.xa_worker.proofs.Ties.{unpaced, paces_on, stepped_keeps, same-chain, extends-chain, stepped-extends}
 use Rattle.xa_worker.proofs.worker.Worker.run.Goals as goal
 
@@ -21,3 +21,23 @@ returns-clause-paced g c = paces_on g.P.Pace.told _ _ _ _ _ _ c.loop.invariant.p
 
 pub returns-clause-seat : goal.returns-clause-seat
 returns-clause-seat g c = c.end.ensures.seat ∙ stepped_keeps _ _ c.loop.invariant.same
+
+pub loop-init : goal.loop-init
+loop-init g c = record {
+  same = record { number = refl; first = refl; threads = refl; receiver = (refl, refl, refl, refl); lanes = refl };
+  journal = ([], sym (append-nil c.args.self.journal));
+  paced = unpaced g.P.Pace.told _ _ _ refl;
+}
+
+pub returns-clause-same : goal.returns-clause-same
+returns-clause-same g c =
+    let a = c.loop.invariant.same in
+    let b = c.end.ensures.same in
+    record {
+      number = b.number ∙ a.number;
+      first = b.first ∙ a.first;
+      threads = b.threads ∙ a.threads;
+      receiver = (b.receiver.0 ∙ a.receiver.0, b.receiver.1 ∙ a.receiver.1, b.receiver.2 ∙ a.receiver.2, b.receiver.3 ∙ a.receiver.3);
+      lanes = b.lanes ∙ a.lanes;
+      journal = extends-chain c.args.self.journal c.loop.worker.journal c.end.result.journal c.loop.invariant.journal b.journal;
+    }

@@ -1,10 +1,11 @@
-use Rattle.xa_base.proofs.{◌≡◌, inl, inr, ◌<◌, ◌-◌, ◌∙◌, sym, ap, refl, arith, length, length-append, length-set, is_missing, is_there}
+use Rattle.xa_base.proofs.{◌≡◌, Some, inl, inr, ◌<◌, ◌∙◌, sym, ap, refl, arith, length, length-append, length-set, is_missing, is_there}
 use Rattle.xa_lane.specs.{has_ended}
 use Rattle.xa_tables.specs.{Managed}
-use Rattle.xa_worker.specs.{SameLanes, RequestLane, IsUnfit, working_of}
+use Rattle.xa_worker.specs.{SameLanes, WorkerView, RequestLane, IsUnfit, working_of}
 use Rattle.xa_worker.specs.Outgoing.{Outgoing}
-use Rattle.xa_worker.proofs.Ties.{unentered, marked_end, ended_item, took_as, stepped_keeps, tied_out, tied_nothing, tied_end, tied_hold, tied_carried, stepped}
-use Rattle.xa_worker.proofs.Lanes.{lanes_flush, lanes-puts, lanes-chain, length-lanes}
+use Rattle.xa_worker.proofs.Ties.{unentered, unpaced, marked_end, ended_item, took_as, stepped_keeps, tied_out, tied_nothing, tied_end, tied_hold, tied_carried}
+use Rattle.xa_worker.proofs.Ties.{stepped}
+use Rattle.xa_worker.proofs.Lanes.{lanes_flush, none-flushed, lanes-puts, lanes-chain, length-lanes}
 use Rattle.xa_worker.proofs.worker.Worker.step.Goals as goal
 use Rattle.xa_worker.proofs.worker.Worker.step.Goals.{then-request-parcel-via-then-request-parcel, then-request-parcel-via-else-request-parcel+then-room-eq0}
 
@@ -17,7 +18,8 @@ invariant_of-self g c =
     unentered _ _ i refl refl refl refl (λ s. refl) (tied_out (working_of c.self.inside) c.flush.new.self (lanes_flush c.flush.result c.self.inside.out c.flush.new.self e.flushed) e.put i.tied)
 
 pub returns-then-not-flush-clause-same : goal.returns-then-not-flush-clause-same
-returns-then-not-flush-clause-same g c = search (arith, lanes_flush, c.flush.result, c.self.inside.out, c.flush.new.self)
+returns-then-not-flush-clause-same g c =
+    rw (← c.self.view_is) (record { number = refl; first = refl; threads = refl; receiver = (refl, refl, refl, refl); lanes = lanes_flush c.flush.result c.self.inside.out c.flush.new.self c.flush.ensures.flushed })
 
 pub returns-then-not-flush-clause-seat : goal.returns-then-not-flush-clause-seat
 returns-then-not-flush-clause-seat g c = stepped_keeps _ _ (returns-then-not-flush-clause-same g c)
@@ -40,7 +42,8 @@ returns-then-is_some-clause-step g c =
     rw (← c.self.view_is) (inr (inl (some.0.0, some.0.1, some.1, ap (λ (o : Outgoing). record (working_of c.self.inside) { out = o }) c.if-not-flush.ensures.flushed)))
 
 pub returns-then-is_some-clause-same : goal.returns-then-is_some-clause-same
-returns-then-is_some-clause-same g c = search (arith, lanes_flush, c.flush.result, c.self.inside.out, c.flush.new.self)
+returns-then-is_some-clause-same g c =
+    rw (← c.self.view_is) (record { number = refl; first = refl; threads = refl; receiver = (refl, refl, refl, refl); lanes = lanes_flush c.flush.result c.self.inside.out c.flush.new.self c.flush.ensures.flushed })
 
 pub returns-then-is_some-clause-seat : goal.returns-then-is_some-clause-seat
 returns-then-is_some-clause-seat g c = stepped_keeps _ _ (returns-then-is_some-clause-same g c)
@@ -59,7 +62,8 @@ invariant_of-self-in-None g c =
     unentered _ _ i refl refl refl refl (λ s. ap (λ (r : RequestLane). has_ended s r.taken) took) (tied_nothing (working_of c.self.inside) c.flush.new.self (lanes_flush c.flush.result c.self.inside.out c.flush.new.self e.flushed) e.put i.tied c.take_parcel.new.self took)
 
 pub returns-in-None-clause-same : goal.returns-in-None-clause-same
-returns-in-None-clause-same g c = search (arith, lanes_flush, c.flush.result, c.self.inside.out, c.flush.new.self)
+returns-in-None-clause-same g c =
+    rw (← c.self.view_is) (record { number = refl; first = refl; threads = refl; receiver = c.take_parcel.ensures.same; lanes = lanes_flush c.flush.result c.self.inside.out c.flush.new.self c.flush.ensures.flushed })
 
 pub returns-in-None-clause-seat : goal.returns-in-None-clause-seat
 returns-in-None-clause-seat g c = stepped_keeps _ _ (returns-in-None-clause-same g c)
@@ -80,7 +84,9 @@ invariant_of-self-in-None-item g c =
       tied = tied_end (working_of c.self.inside) c.flush.new.self (lanes_flush c.flush.result c.self.inside.out c.flush.new.self e.flushed) e.put i.tied c.take_parcel.new.self c.in-Some.parcel.from took;
       room = i.room;
       marks = simp length-set i.marks;
-      ended = search (arith, marked_end, c.self.inside.ended, c.self.inside.receiver.taken, c.in-Some.parcel.from, i.marks, i.ended);
+      ended = λ s low.
+          marked_end c.self.inside.ended c.self.inside.receiver.taken c.in-Some.parcel.from i.marks below i.ended s low
+          ∙ sym (ap (λ (r : RequestLane). has_ended s r.taken) took.1);
       few = i.few;
       none = i.none;
       enough = i.enough;
@@ -93,7 +99,8 @@ returns-in-None-item-clause-step g c =
     rw (← c.self.view_is) (c.in-Some.parcel.from, none, took_as _ _ _ _ _ c.in-None-item.is c.in-Some.ensures.took, ap (λ (o : Outgoing). record (working_of c.self.inside) { receiver = c.take_parcel.new.self; out = o }) out)
 
 pub returns-in-None-item-clause-same : goal.returns-in-None-item-clause-same
-returns-in-None-item-clause-same g c = search (arith, lanes_flush, c.flush.result, c.self.inside.out, c.flush.new.self)
+returns-in-None-item-clause-same g c =
+    rw (← c.self.view_is) (record { number = refl; first = refl; threads = refl; receiver = c.take_parcel.ensures.same; lanes = lanes_flush c.flush.result c.self.inside.out c.flush.new.self c.flush.ensures.flushed })
 
 pub returns-in-None-item-clause-seat : goal.returns-in-None-item-clause-seat
 returns-in-None-item-clause-seat g c = stepped_keeps _ _ (returns-in-None-item-clause-same g c)
@@ -115,7 +122,8 @@ invariant_of-self-then-request-parcel g c =
     unentered _ _ i refl refl refl refl (λ s. ap (λ (r : RequestLane). has_ended s r.taken) took.1 ∙ ended_item s c.in-Some.parcel.from c.self.inside.receiver.taken c.in-Some-item.request) (tied_hold (working_of c.self.inside) c.flush.new.self (lanes_flush c.flush.result c.self.inside.out c.flush.new.self e.flushed) e.put i.tied c.take_parcel.new.self c.in-Some.parcel.from c.in-Some-item.request none took unfit)
 
 pub returns-then-request-parcel-clause-same : goal.returns-then-request-parcel-clause-same
-returns-then-request-parcel-clause-same g c = search (arith, lanes_flush, c.flush.result, c.self.inside.out, c.flush.new.self)
+returns-then-request-parcel-clause-same g c =
+    rw (← c.self.view_is) (record { number = refl; first = refl; threads = refl; receiver = c.take_parcel.ensures.same; lanes = lanes_flush c.flush.result c.self.inside.out c.flush.new.self c.flush.ensures.flushed })
 
 pub returns-then-request-parcel-clause-seat : goal.returns-then-request-parcel-clause-seat
 returns-then-request-parcel-clause-seat g c = stepped_keeps _ _ (returns-then-request-parcel-clause-same g c)
@@ -144,11 +152,14 @@ invariant_of-self-in-Some-item g c =
     let more = simp length-append at (ap length d.journal) in
     let room = ap (λ (x : Managed). x.room) d.manager in
     let threads = ap (λ (x : Managed). x.threads) d.manager in
+    let took = took_as _ _ _ _ _ c.in-Some-item.is c.in-Some.ensures.took in
     record {
       tied = tied_carried (working_of c.self.inside) c.flush.new.self c.take_parcel.new.self c.in-Some.parcel.from c.in-Some-item.request c.carry_out.new.manager c.carry_out.new.out c.carry_out.new.journal.items c.self.invariant.tied c.if-not-flush.ensures.flushed c.flush.ensures.put none (took_as _ _ _ _ _ c.in-Some-item.is c.in-Some.ensures.took) c.if-request-parcel.false d.manager d.journal d.out;
       room = omega (arith, more, room, d.space, i.room);
       marks = i.marks;
-      ended = search (arith, took_as, ended_item, i.ended, c.in-Some-item.is, c.in-Some.parcel.from, c.self.inside.receiver.taken);
+      ended = λ s low.
+          i.ended s low
+          ∙ sym (ap (λ (r : RequestLane). has_ended s r.taken) took.1 ∙ ended_item s c.in-Some.parcel.from c.self.inside.receiver.taken c.in-Some-item.request);
       few = omega (arith, threads, i.few);
       none = i.none;
       enough = i.enough;
@@ -176,3 +187,47 @@ returns-else-room-eq0-clause-step g c =
     let out =
     rw c.if-not-flush.ensures.flushed at d.out in
     rw (← c.self.view_is, d.late) (stepped (working_of c.self.inside) _ c.self.inside.manager.tables.shut refl (c.in-Some.parcel.from, c.in-Some-item.request, record { free = none; took = (took_as _ _ _ _ _ c.in-Some-item.is c.in-Some.ensures.took); thread = c.if-request-parcel.false; room = room; manager = d.manager; journal = d.journal; out = out; rest = refl }))
+
+pub carry_out-requires-clause-first : goal.carry_out-requires-clause-first
+carry_out-requires-clause-first g c = omega (arith, c.if-request-parcel.false)
+
+pub carry_out-requires-clause-last : goal.carry_out-requires-clause-last
+carry_out-requires-clause-last g c =
+    let took = took_as _ _ _ _ _ c.in-Some-item.is c.in-Some.ensures.took in
+    omega (arith, took.0, c.self.invariant.tied.senders, c.if-request-parcel.false)
+
+pub carry_out-requires-clause-space : goal.carry_out-requires-clause-space
+carry_out-requires-clause-space g c = omega (arith, c.self.invariant.room, c.room.ensures, c.if-room-eq0.false, c.self.inside.journal.ok.0)
+
+pub carry_out-requires-clause-nothing : goal.carry_out-requires-clause-nothing
+carry_out-requires-clause-nothing g c = ap (λ (o : Outgoing). o.waiting) c.if-not-flush.ensures.flushed ∙ none-flushed c.self.inside.out
+
+pub returns-then-not-flush-clause-paced : goal.returns-then-not-flush-clause-paced
+returns-then-not-flush-clause-paced g c = unpaced g.P.Pace.told _ _ _ (ap (λ (w : WorkerView). w.journal) c.self.view_is)
+
+pub returns-then-is_some-clause-paced : goal.returns-then-is_some-clause-paced
+returns-then-is_some-clause-paced g c = unpaced g.P.Pace.told _ _ _ (ap (λ (w : WorkerView). w.journal) c.self.view_is)
+
+pub returns-in-None-clause-paced : goal.returns-in-None-clause-paced
+returns-in-None-clause-paced g c = unpaced g.P.Pace.told _ _ _ (ap (λ (w : WorkerView). w.journal) c.self.view_is)
+
+pub returns-in-None-item-clause-paced : goal.returns-in-None-item-clause-paced
+returns-in-None-item-clause-paced g c = unpaced g.P.Pace.told _ _ _ (ap (λ (w : WorkerView). w.journal) c.self.view_is)
+
+pub returns-then-request-parcel-clause-paced : goal.returns-then-request-parcel-clause-paced
+returns-then-request-parcel-clause-paced g c = unpaced g.P.Pace.told _ _ _ (ap (λ (w : WorkerView). w.journal) c.self.view_is)
+
+pub returns-then-not-flush-clause-step : goal.returns-then-not-flush-clause-step
+returns-then-not-flush-clause-step g c = rw (← c.self.view_is) (inl (c.if-not-flush.ensures.flushed, refl))
+
+pub returns-in-None-clause-step : goal.returns-in-None-clause-step
+returns-in-None-clause-step g c =
+    let none = is_missing c.self.inside.held (sym c.is_some.ensures ∙ c.if-is_some.false) in
+    rw (← c.self.view_is) (none, c.in-None.ensures.took, ap (λ (o : Outgoing). record (working_of c.self.inside) { receiver = c.take_parcel.new.self; out = o }) c.if-not-flush.ensures.flushed)
+
+pub returns-then-request-parcel-clause-step : goal.returns-then-request-parcel-clause-step
+returns-then-request-parcel-clause-step g c =
+    let none = is_missing c.self.inside.held (sym c.is_some.ensures ∙ c.if-is_some.false) in
+    let unfit : IsUnfit c.in-Some.parcel.from c.in-Some-item.request c.self.inside.manager.room =
+    elim c.then-request-parcel.branch [ then-request-parcel-via-then-request-parcel w ↦ inl w.if-request-parcel.true | then-request-parcel-via-else-request-parcel+then-room-eq0 w ↦ inr (sym w.room.ensures ∙ w.if-room-eq0.true) ] in
+    rw (← c.self.view_is) (inr (inr (c.in-Some.parcel.from, c.in-Some-item.request, none, took_as _ _ _ _ _ c.in-Some-item.is c.in-Some.ensures.took, unfit, ap (λ (o : Outgoing). record (working_of c.self.inside) { receiver = c.take_parcel.new.self; out = o; held = Some (c.in-Some.parcel.from, c.in-Some-item.request) }) c.if-not-flush.ensures.flushed)))
