@@ -162,9 +162,15 @@ module _ {A B : Type 0} (P : A → B → Type 0) where
       let rest = both_sides xs us ys vs (tail_side P x xs y ys all) more in
       record { as_many = ap suc rest.as_many; each = each_after x (xs ++ us) y (ys ++ vs) (all.each 0 x y refl refl) rest }
 
--- what is the same on both sides
+-- what is made of each on one side, what each has a part of, and what is the same on both sides
+pub each_made : {A B : Type 0} (f : A → B) (xs : List A) (ys : List B) → Pairwise (λ x y. y ≡ f x) xs ys → ys ≡ map f xs
+each_made {A} {B} f xs ys all = sym (map-id ys) ∙ map_alike (λ (x : A) (y : B). y ≡ f x) f (λ y. y) (λ x y e. e) xs ys all
+
+pub each_part : {A B : Type 0} (f : B → A) (xs : List A) (ys : List B) → Pairwise (λ x y. f y ≡ x) xs ys → map f ys ≡ xs
+each_part {A} {B} f xs ys all = map_alike (λ (x : A) (y : B). f y ≡ x) (λ x. x) f (λ x y e. e) xs ys all ∙ map-id xs
+
 pub same_side : {A : Type 0} (xs ys : List A) → Pairwise (λ x y. y ≡ x) xs ys → ys ≡ xs
-same_side {A} xs ys all = sym (map-id ys) ∙ map_alike (λ (x y : A). y ≡ x) (λ x. x) (λ x. x) (λ x y e. e) xs ys all ∙ map-id xs
+same_side xs ys all = sym (map-id ys) ∙ each_part (λ y. y) xs ys all
 
 -- the element with its number, where they are numbered by rising place
 pub find_numbered : {A : Type 0} (n : A → ℕ) (base : ℕ) (xs : List A) → ((k : ℕ) (x : A) → slice_get xs k ≡ Some x → n x ≡ base + k + 1) → (k : ℕ) (x : A)

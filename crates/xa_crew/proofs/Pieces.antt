@@ -1,7 +1,7 @@
 -- The pieces of an opening are all there, and come from it; what the members of a crew came to; what is kept as a desk ends.
 use Rattle.xa_base.proofs.{partner, has_number, along, ◌≡◌, ℕ, ◌+◌, ◌-◌, ◌<◌, List, [], ◌∷◌, length, map, Some, sym, refl, ap, ◌∙◌, arith, slice_get}
 use Rattle.xa_base.proofs.{length-map, all_from, map_alike, zero, suc, All, some_same, all_at, tail_side, side_of, rules, side_to, None, nat_cmp, removed_there}
-use Rattle.xa_base.proofs.{removed_none, IsPermutation, IsPermutation-refl, ◌++◌, append-nil, none_of}
+use Rattle.xa_base.proofs.{removed_none, IsPermutation, IsPermutation-refl}
 use Rattle.std.specs.FinMap as finmap
 use Rattle.xa_base.specs.{Pairwise, Chain}
 use Rattle.xa_desk.specs.{DeskView, EndedView, Ends, GoesOut, GoesOn, Operation, AllKept}
@@ -180,9 +180,3 @@ module _ (redeemed_keep : (old new : DeskView) (k : ℕ) (c : Code) → Collects
 
   pub numbers_keep : (old : Telling) (ks : List ℕ) (new : Telling) → Chain EndsNumber old ks new → AllKept old.0 → AllKept new.0
   numbers_keep old ks new runs = along (λ (q : Telling). AllKept q.0) old ks new runs number_keeps
-
--- ---- What is taken from the front of a list
-
--- once nothing is left, all were taken
-pub all_taken : {A : Type 0} (done left all : List A) → length left ≡ 0 → done ++ left ≡ all → done ≡ all
-all_taken done left all no_more so_far = sym (append-nil done) ∙ ap (λ l. done ++ l) (sym (none_of left no_more)) ∙ so_far

@@ -8,7 +8,7 @@ pub mod Turning
 pub use Ending.{EndsDesk, EndsNumber, EndsNumbers, Telling, Told}
 pub use Pieces.{ArePiecesOf, HasGone, HasServed}
 pub use Run.{CanTell, HasRun, HasRunAll, HasWorked, HaveRun, IsReady, IsRun, Member, PutsBack, fault_of, member_of}
-pub use Opened.{HasRoomFor, HasSpaceFor, IfNotSettled, IfNotStarted, IsOpened, clients_of}
+pub use Opened.{HasMemoryFor, HasRoomFor, IfNotSettled, IfNotStarted, IsOpened, clients_of}
 pub use Turns.{AllGoOn, GivesTurns, HadSomeTurn, HadTurn, TakesTurn, TurnsFor, WorkerGoesOn}
 pub use Turning.{all_go_on, all_stay, goes_both, goes_nowhere}
 pub use declared.client_job.Attended.{Attended}

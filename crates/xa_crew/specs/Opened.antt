@@ -8,7 +8,7 @@ use Rattle.xa_crew.specs.declared.opened.Opened.{Opened}
 use Rattle.xa_crew.specs.declared.opened.Room.{Room}
 use Rattle.xa_crew.specs.declared.opened.OpenedFault.{OpenedFault}
 use Rattle.xa_crew.specs.declared.opened.OpenedFault.TheVariants.{Unsettled, Unstarted}
-use Rattle.xa_crew.specs.declared.opened.Space.{Space}
+use Rattle.xa_crew.specs.declared.opened.CrewMemory.{CrewMemory}
 use Rattle.xa_crew.specs.declared.run.Ran.{Ran}
 use Rattle.xa_crew.specs.Run.{CanTell, IsReady}
 
@@ -28,12 +28,12 @@ pub record HasRoomFor {C : Type 0} (n : ℕ) (r : Room C) : Type 0 where
   pub done : MOST_MANAGERS ≤ vec_capacity r.done
 
 -- there is room for so many clients with their desks, and for what they come to
-pub record HasSpaceFor {C : Type 0} (n : ℕ) (s : Space C) : Type 0 where
-  pub none : s.jobs.items ≡ []
-  pub jobs : n ≤ vec_capacity s.jobs
-  pub as_many : length s.outstanding.items ≡ n
-  pub tell : All CanTell s.outstanding.items
-  pub room : HasRoomFor n s.room
+pub record HasMemoryFor {C : Type 0} (n : ℕ) (m : CrewMemory C) : Type 0 where
+  pub none : m.jobs.items ≡ []
+  pub jobs : n ≤ vec_capacity m.jobs
+  pub as_many : length m.outstanding.items ≡ n
+  pub tell : All CanTell m.outstanding.items
+  pub room : HasRoomFor n m.room
 
 -- It was opened with this, and nothing is done: its clients have the desks of the opening, and its workers are those of
 -- the opening.

@@ -112,7 +112,10 @@ pub(crate) fn client_jobs_of<C: Client>(
     let mut desks = desks.into_iter();
     let mut rooms = outstanding.into_iter();
     for client in clients {
-        let (Some(desk), Some(outstanding)) = (desks.next(), rooms.next()) else {
+        let Some(desk) = desks.next() else {
+            unreachable!()
+        };
+        let Some(outstanding) = rooms.next() else {
             unreachable!()
         };
         jobs.push_reserved(ClientJob {

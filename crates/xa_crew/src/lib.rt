@@ -29,7 +29,7 @@ pub use client_job::Attended;
 pub use ending::end_desk;
 pub use fault::CrewFault;
 pub use in_turns::run_clients_in_turns;
-pub use opened::{Opened, OpenedFault, Space, open_clients};
+pub use opened::{CrewMemory, Opened, OpenedFault, open_clients};
 pub use run::{Ran, Run, run_clients, settle_run};
 pub use settling::settle_all;
 pub use turns::Turns;

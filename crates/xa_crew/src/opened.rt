@@ -2,7 +2,7 @@
 ghost use Rattle.std.specs.Prelude.{◌≡◌, ◌≤◌, ◌↔◌, [], length, vec_capacity, IfOk, IfErr, OnOk};
 ghost use Rattle.xa_switch.specs.OpenedPieces.{AreOfOneOpening};
 ghost use Rattle.xa_switch.specs.Plans.{IsSound, IsWithinLimits, Setup, planned};
-ghost use Rattle.xa_crew.specs.Opened.{HasSpaceFor, IfNotSettled, IfNotStarted, IsOpened, clients_of};
+ghost use Rattle.xa_crew.specs.Opened.{HasMemoryFor, IfNotSettled, IfNotStarted, IsOpened, clients_of};
 ghost use Rattle.xa_crew.specs.Run.{HasRunAll, IsRun};
 
 use crate::client::Client;
@@ -34,7 +34,7 @@ struct Room<C> {
 /// All memory that clients and their desks take before they are settled, when no thread is started for them. Whoever
 /// opens again reserves it first, so that what was settled comes back as it was where there is none.
 #[derive(Drop)]
-pub struct Space<C> {
+pub struct CrewMemory<C> {
     jobs: Vec<ClientJob<C>>,
     outstanding: Vec<Vec<(u32, Code)>>,
     room: Room<C>,
@@ -69,16 +69,16 @@ impl<C> fmt::Debug for OpenedFault<C> {
     }
 }
 
-impl<C: Client> Space<C> {
+impl<C: Client> CrewMemory<C> {
     /// Reserves that of so many clients. It fails only for want of memory.
-    pub fn reserve(alloc: Global, clients: usize) -> Result<Space<C>, AllocError>
-        ensures { IfOk result (HasSpaceFor clients) }
+    pub fn reserve(alloc: Global, clients: usize) -> Result<CrewMemory<C>, AllocError>
+        ensures { IfOk result (HasMemoryFor clients) }
     {
         let mut outstanding = Vec::with_capacity(alloc, clients)?;
         for _ in 0..clients {
             outstanding.push(Vec::with_capacity(alloc, MOST_HANDLES)?)?;
         }
-        Ok(Space {
+        Ok(CrewMemory {
             jobs: Vec::with_capacity(alloc, clients)?,
             outstanding,
             room: Room {
@@ -93,7 +93,7 @@ impl<C: Client> Space<C> {
     /// Holds clients with the desks of one opening, each with the one at its place, and its workers. Nothing is done
     /// yet.
     pub fn hold(self, clients: Vec<C>, desks: Vec<Desk>, workers: Vec<Worker>) -> Opened<C>
-        requires space { HasSpaceFor (length clients.items) self }
+        requires memory { HasMemoryFor (length clients.items) self }
         requires as_many { length desks.items ≡ length clients.items }
         requires opened { (p : Setup) × IsWithinLimits p.numbers p.managers
             × AreOfOneOpening p desks.items workers.items }
@@ -102,7 +102,7 @@ impl<C: Client> Space<C> {
         ensures clients { clients_of result ≡ clients.items }
     {
         opened_desks_keep_what_is_outstanding();
-        let Space {
+        let CrewMemory {
             jobs,
             outstanding,
             room,
@@ -130,8 +130,8 @@ pub fn open_clients<R: Wait, C: Client>(
     ensures sound { OnOk result (IsSound plan.now) }
 {
     let (desks, workers) = open_switch(rt, alloc, plan)?;
-    let space = Space::reserve(alloc, clients.len())?;
-    Ok(space.hold(clients, desks, workers))
+    let memory = CrewMemory::reserve(alloc, clients.len())?;
+    Ok(memory.hold(clients, desks, workers))
 }
 
 // Room for the workers' jobs, and for the workers where their jobs come back.

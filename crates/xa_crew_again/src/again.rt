@@ -7,13 +7,13 @@ ghost use Rattle.xa_switch.specs.Reopening.{MayReopen, managers_in, reopening};
 ghost use Rattle.xa_scan.specs.Left.{ScanView};
 ghost use Rattle.xa_crew_again.specs.Again.{AreGiven, HasRunAgain, IfUnopened, IfUnstarted, IfUnsettled, IsBad};
 ghost use Rattle.xa_crew_again.specs.Again.{IsRunAgain};
-ghost use Rattle.xa_crew.specs.Opened.{HasSpaceFor, IsOpened, clients_of};
+ghost use Rattle.xa_crew.specs.Opened.{HasMemoryFor, IsOpened, clients_of};
 
 use std::alloc::{AllocError, Global};
 use std::fmt;
 use std::sync::Wait;
 use std::thread::Threads;
-use xa_crew::{Client, Opened, OpenedFault, Ran, Run, Space};
+use xa_crew::{Client, CrewMemory, Opened, OpenedFault, Ran, Run};
 use xa_desk::{Desk, Idle};
 use xa_scan::Scan;
 use xa_switch::{Again, OpenFault, Settled, may_reopen, reopen};
@@ -120,13 +120,13 @@ fn with_scans<C: Drop>(
 fn reserve<C: ClientAgain>(
     alloc: Global,
     clients: usize,
-) -> Result<(Space<WithScan<C>>, Vec<WithScan<C>>), AllocError>
-    ensures space { IfOk result (λ r. HasSpaceFor clients r.0) }
+) -> Result<(CrewMemory<WithScan<C>>, Vec<WithScan<C>>), AllocError>
+    ensures memory { IfOk result (λ r. HasMemoryFor clients r.0) }
     ensures none { IfOk result (λ r. r.1.items ≡ []) }
     ensures room { IfOk result (λ r. clients ≤ vec_capacity r.1) }
 {
     Ok((
-        Space::reserve(alloc, clients)?,
+        CrewMemory::reserve(alloc, clients)?,
         Vec::with_capacity(alloc, clients)?,
     ))
 }
@@ -160,7 +160,7 @@ pub fn open_clients_again<R: Wait, C: ClientAgain>(
             clients,
         });
     }
-    let Ok((space, given)) = reserve(alloc, clients.len()) else {
+    let Ok((memory, given)) = reserve(alloc, clients.len()) else {
         let why = OpenFault::NoMemory;
         return Err(UnopenedClients {
             why,
@@ -170,7 +170,7 @@ pub fn open_clients_again<R: Wait, C: ClientAgain>(
     };
     match reopen(rt, alloc, settled, again) {
         Ok((desks, workers, scans)) => {
-            Ok(space.hold(with_scans(clients, scans, given), desks, workers))
+            Ok(memory.hold(with_scans(clients, scans, given), desks, workers))
         }
         Err(unopened) => Err(UnopenedClients {
             why: unopened.why,

@@ -66,22 +66,35 @@ room_stays cap C D most same room = all_unmapped cap (λ n. most ≤ n) D (rw sa
 
 -- ---- a list that is taken from its front
 
--- what is still to come of xs is what is left behind as many as were yielded of another list
+-- of xs as many were taken as were yielded of another list, and what is left is still to come
 pub record IsLeft {X Y Z : Type 0} (xs : List X) (yielded : List Y) (it : IntoIter X Z) : Type 0 where
+  pub within : length yielded ≤ length xs
   pub items : into_iter_items it ≡ drop (length yielded) xs
   pub counted : into_iter_len it ≡ length (into_iter_items it)
 
--- the next of both, and what is left then
-pub next_of : {X Y Z : Type 0} {xs : List X} {x : X} {ys : List Y} {it : IntoIter X Z} → IsLeft xs ys it → (y : Y) (it' : IntoIter X Z)
-    → (into_iter_items it ≡ x ∷ into_iter_items it') × (into_iter_len it' + 1 ≡ into_iter_len it)
-    → (slice_get xs (length ys) ≡ Some x) × IsLeft xs (ys ++ y ∷ []) it'
-next_of {xs = xs} {x = x} {ys = ys} left y it' (next, fewer) = search (arith, next_left, into_iter_items, length-append, left.counted)
+module _ {X Y Z : Type 0} {xs : List X} {ys : List Y} {it : IntoIter X Z} (left : IsLeft xs ys it) where
+  -- the next of both, and what is left then
+  pub next_of : {x : X} (y : Y) (it' : IntoIter X Z) → (into_iter_items it ≡ x ∷ into_iter_items it') × (into_iter_len it' + 1 ≡ into_iter_len it)
+      → (slice_get xs (length ys) ≡ Some x) × IsLeft xs (ys ++ y ∷ []) it'
+  next_of {x = x} y it' (next, fewer) =
+      let here = next_left xs (into_iter_items it') (length ys) x (sym left.items ∙ next) in
+      let more = length-append ys (y ∷ []) in (
+        here.0,
+        record {
+          within = (let inside = slice_get_within xs (length ys) x here.0 in omega (arith, inside, more));
+          items = sym here.1 ∙ ap (λ n. drop n xs) (omega (arith, more));
+          counted = omega (arith, left.counted, ap length next, fewer);
+        },
+      )
 
--- it isn't at its end while another list, of as many elements, has one more
-pub not_ended : {X Y Z : Type 0} {xs : List X} {ys : List Y} {it : IntoIter X Z} → IsLeft xs ys it → (zs rest : List Y) (y : Y) → ys ++ y ∷ rest ≡ zs
-    → length xs ≡ length zs → into_iter_len it ≡ 0 → ⊥
-not_ended {xs = xs} {ys = ys} left zs rest y so_far many ended =
-    omega (arith, ap length left.items, length-drop (length ys) xs, ap length so_far, length-append ys (y ∷ rest), many, left.counted, ended)
+  -- it isn't at its end while another list, of as many elements, has one more, and at its end as many were yielded
+  pub ends_so : into_iter_len it ≡ 0 → length ys ≡ length xs
+  ends_so ended = omega (arith, left.within, ap length left.items, length-drop (length ys) xs, left.counted, ended)
+
+  pub not_ended : {Z' : Type 0} {zs : List Y} {jt : IntoIter Y Z'} → IsLeft zs ys jt → length xs ≡ length zs → (n : ℕ) → n + 1 ≡ into_iter_len jt
+      → into_iter_len it ≡ 0 → ⊥
+  not_ended {zs = zs} {jt = jt} other many n more ended =
+      omega (arith, ends_so ended, many, ap length other.items, length-drop (length ys) zs, other.counted, more)
 
 -- one more, and how many there are then
 pub push_more : {X : Type 0} (P : ℕ → X → Type 0) (xs new : List X) (x : X) (n m : ℕ) → length xs ≡ n → m ≡ n + 1 → new ≡ xs ++ x ∷ [] → Each P xs → P n x
@@ -103,21 +116,6 @@ module _ {T : Type 0} where
     | inl before ↦ sender_at lane line capacity n k s before
     | inr last ↦ last.1 ∙ ap (λ i. new_sender lane line capacity i) (sym (last.0 ∙ length_senders T lane line capacity n))
   ]
-
-  no_columns : (n k : ℕ) (c : List (Sending T)) → slice_get (replicate n []) k ≡ Some c → length c ≡ 0
-  no_columns zero k c e = cc
-  no_columns (suc n) zero c e = ap length (sym (same_Some [] c e))
-  no_columns (suc n) (suc k) c e = no_columns n k c e
-
-  -- before the first lane
-  pub no_lanes : (opening kind senders room : ℕ) → AreNewLanes {T = T} opening kind senders 0 room (replicate senders []) []
-  no_lanes opening kind senders room = record {
-    many = refl;
-    receivers = λ k r e. cc;
-    wide = length-replicate senders [];
-    deep = no_columns senders;
-    dealt = λ k j c s r at here there. cc;
-  }
 
   -- lanes with one more
   pub one_more_lane : (opening kind senders lanes room : ℕ) (C : List (List (Sending T))) (rs : List (Receiving T)) (row : List (Sending T)) (r : Receiving T)

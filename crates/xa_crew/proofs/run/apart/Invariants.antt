@@ -1,12 +1,9 @@
-use Rattle.xa_base.proofs.{◌≡◌, ◌++◌, map, vec_capacity, into_iter_items}
+use Rattle.xa_base.proofs.{◌≡◌, vec_capacity, Handled}
 use Rattle.xa_crew.proofs.run.apart.Given as goal
 
 -- the clients and the desks of the first threads
 abbrev pub invariant-loop-worked : goal.invariant-loop-worked
 invariant-loop-worked g l = record {
-  so_far : l.yielded ++ into_iter_items l.worked-iterator ≡ l.fn.threads.items;
-  clients : l.clients.items ≡ map (λ w. w.attended) l.yielded;
-  desks : l.desks.items ≡ map (λ w. w.desk) l.yielded;
-  room : vec_capacity l.clients ≡ vec_capacity l.fn.clients;
-  desk_room : vec_capacity l.desks ≡ vec_capacity l.fn.desks;
+  clients : Handled (λ w a. a ≡ w.attended) l.fn.threads.items l.yielded l.worked-iterator l.clients (vec_capacity l.fn.clients);
+  desks : Handled (λ w d. d ≡ w.desk) l.fn.threads.items l.yielded l.worked-iterator l.desks (vec_capacity l.fn.desks);
 }

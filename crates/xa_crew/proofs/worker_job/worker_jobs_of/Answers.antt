@@ -1,31 +1,27 @@
-use Rattle.xa_base.proofs.{◌∷◌, [], ◌++◌, length, length-append, length-map, map, map-append, sym, ap, ◌∙◌, arith, into_iter_items, next_place, taken_next}
-use Rattle.xa_crew.proofs.Pieces.{all_taken}
+use Rattle.xa_base.proofs.{arith, refl, all_handled, each_part, fewer_made, fits_next, next_beside, next_handled, some_beside}
+use Rattle.xa_crew.specs.declared.worker_job.WorkerJob.{WorkerJob}
 use Rattle.xa_crew.proofs.worker_job.worker_jobs_of.Goals as goal
 
 pub push_reserved-requires : goal.push_reserved-requires
-push_reserved-requires g c =
-    let i = c.loop-worker.invariant in
-    let here =
-    (next_place c.loop-worker.yielded _ (into_iter_items c.next.new.self) c.args.workers.items c.in-Some.worker c.in-Some.ensures.steps.0 i.so_far).0 in
-    let many = sym (length-map c.loop-worker.worker_jobs.items _) ∙ ap length i.served in
-    let room = i.room in
-    omega (arith, here, many, room, c.requires.room, c.loop-worker.worker_jobs.ok)
+push_reserved-requires g c = omega (arith, fits_next c.loop-worker.invariant.workers c.in-Some.worker c.next.new.self c.in-Some.ensures.steps.0 c.requires.room)
 
 pub loop-worker-preserved : goal.loop-worker-preserved
 loop-worker-preserved g c =
     let i = c.loop-worker.invariant in
-    let one = c.in-Some.worker in
-    let pace = c.in-Some-next.ensures.cases in
+    let job : WorkerJob g.row.P.Denot = record { worker = c.in-Some.worker; pace = c.in-Some-next.pace } in
     record {
-      so_far = taken_next c.loop-worker.yielded _ (into_iter_items c.next.new.self) _ one c.in-Some.ensures.steps.0 i.so_far;
-      served = ap (map _) c.push_reserved.ensures.items ∙ map-append _ c.loop-worker.worker_jobs.items _ ∙ ap (λ l. l ++ one ∷ []) i.served;
-      paced = (let paced = i.paced in let size = ap length pace.0 in omega (arith, paced, size, length-append c.loop-worker.yielded (one ∷ [])));
-      counted = (let before = i.counted in let size = ap length pace.0 in let len = pace.1 in omega (arith, before, size, len));
-      room = c.push_reserved.ensures.capacity ∙ i.room;
+      workers =
+          next_handled i.workers job.worker job c.next.new.self c.push_reserved.new.self c.in-Some.ensures.steps
+          c.push_reserved.ensures.items c.push_reserved.ensures.capacity refl;
+      paces =
+          next_beside i.paces job c.push_reserved.new.self.items c.next-in-loop-worker.new.self c.in-Some-next.ensures.cases c.push_reserved.ensures.items;
     }
 
+-- a worker is left, so a pace is
+pub unreachable-requires : goal.unreachable-requires
+unreachable-requires g c =
+    let fewer = fewer_made c.loop-worker.invariant.workers c.in-Some.worker c.next.new.self c.in-Some.ensures.steps.0 in
+    some_beside c.loop-worker.invariant.paces (omega (arith, fewer, c.requires.paces)) c.in_default.ensures.cases.0
+
 pub returns : goal.returns
-returns g c =
-    let i = c.loop-worker.invariant in
-    let it = c.loop-worker.worker-iterator.rest in
-    i.served ∙ all_taken c.loop-worker.yielded it.items c.args.workers.items (omega (arith, it.ok, c.in-None.ensures.steps.0)) i.so_far
+returns g c = each_part (λ s. s.worker) _ _ (all_handled c.loop-worker.invariant.workers c.in-None.ensures.steps.0)

@@ -1,4 +1,4 @@
-use Rattle.xa_base.proofs.{◌≡◌, ◌≤◌, ◌++◌, map, length, vec_capacity, into_iter_items, into_iter_len}
+use Rattle.xa_base.proofs.{◌≡◌, length, vec_capacity, Handled}
 use Rattle.xa_lane.specs.{but_full}
 use Rattle.xa_desk.specs.{MarkEnds}
 use Rattle.xa_desk.proofs.ended.end_all.Given as goal
@@ -6,12 +6,8 @@ use Rattle.xa_desk.proofs.ended.end_all.Given as goal
 -- the senders so far have ended, and the idle has changed by idling alone
 abbrev pub invariant-loop-sender : goal.invariant-loop-sender
 invariant-loop-sender g l = record {
-  so_far : l.yielded ++ into_iter_items l.sender-iterator ≡ into_iter_items l.initial.sender-iterator;
-  ended : map but_full l.ends.items ≡ map but_full l.yielded;
-  counted : into_iter_len l.sender-iterator ≡ length (into_iter_items l.sender-iterator);
-  room : length (into_iter_items l.initial.sender-iterator) ≤ vec_capacity l.ends;
-  few : length (into_iter_items l.initial.sender-iterator) ≤ 8;
+  ended : Handled (λ s e. but_full e ≡ but_full s) l.fn.requests.items l.yielded l.sender-iterator l.ends (vec_capacity l.fn.ends);
   named : l.manager ≡ length l.yielded;
-  marked : MarkEnds g.I.Idle.leads_by 0 l.yielded l.ends.items l.initial.idle l.idle;
-  idled : g.I.Idle.leads l.initial.idle l.idle;
+  marked : MarkEnds g.I.Idle.leads_by 0 l.yielded l.ends.items l.fn.idle l.idle;
+  idled : g.I.Idle.leads l.fn.idle l.idle;
 }

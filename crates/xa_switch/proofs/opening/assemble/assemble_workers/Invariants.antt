@@ -1,4 +1,4 @@
-use Rattle.xa_base.proofs.{◌≡◌, ◌++◌, length, map, vec_capacity, into_iter_items}
+use Rattle.xa_base.proofs.{◌≡◌, length, map, vec_capacity}
 use Rattle.xa_switch.specs.{Each, IsWorkerOf}
 use Rattle.xa_switch.proofs.Dealing.{IsLeft}
 use Rattle.xa_switch.proofs.opening.assemble.assemble_workers.Given as goal
@@ -6,11 +6,11 @@ use Rattle.xa_switch.proofs.opening.assemble.assemble_workers.Given as goal
 -- the workers so far, and what is left of each list
 abbrev pub invariant-loop-part : goal.invariant-loop-part
 invariant-loop-part l = record {
-  so_far : l.yielded ++ into_iter_items l.part-iterator ≡ l.fn.parts.items;
-  many : length l.workers.items ≡ length l.yielded;
-  room : vec_capacity l.workers ≡ vec_capacity l.fn.workers;
+  parts : IsLeft l.fn.parts.items l.yielded l.part-iterator;
   given : IsLeft l.fn.managers.items l.yielded l.managers;
   requests : IsLeft l.fn.receivers.items l.yielded l.receivers;
   senders : IsLeft l.fn.columns.items l.yielded l.columns;
-  made : Each (IsWorkerOf l.fn.parts.items l.fn.managers.items l.fn.receivers.items (map (λ v. v.items) l.fn.columns.items)) l.workers.items;
+  made : (length l.workers.items ≡ length l.yielded)
+      × Each (IsWorkerOf l.fn.parts.items l.fn.managers.items l.fn.receivers.items (map (λ v. v.items) l.fn.columns.items)) l.workers.items;
+  room : vec_capacity l.workers ≡ vec_capacity l.fn.workers;
 }

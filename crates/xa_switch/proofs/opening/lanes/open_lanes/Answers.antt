@@ -1,5 +1,5 @@
 use Rattle.xa_base.proofs.{map, vec_capacity, arith, length-map}
-use Rattle.xa_switch.proofs.Dealing.{room_more, room_stays, length_senders, no_lanes, one_more_lane}
+use Rattle.xa_switch.proofs.Dealing.{room_more, room_stays, length_senders, one_more_lane}
 use Rattle.xa_switch.proofs.opening.lanes.open_lanes.Goals as goal
 
 pub deal-columns-requires-clause-row : goal.deal-columns-requires-clause-row
@@ -19,15 +19,3 @@ loop-before-preserved g c =
       deep = room_stays (λ v. vec_capacity v) c.loop-before.columns.items c.deal-columns.result.items c.args.lanes c.deal-columns.ensures.capacity i.deep;
       room = let stays = c.push_reserved.ensures.capacity in let room = i.room in omega (arith, stays, room);
     }
-
-pub loop-before-init : goal.loop-before-init
-loop-before-init g c = record {
-  lanes = rw (c.in_ok-columns.ensures.empty, c.in_ok-receivers.ensures.items) (no_lanes _ _ _ _);
-  deep = c.in_ok-columns.ensures.room;
-  room = omega (arith, c.in_ok-receivers.ensures.capacity);
-}
-
-pub push_reserved-requires : goal.push_reserved-requires
-push_reserved-requires g c =
-    let i = c.loop-before.invariant in
-    omega (arith, i.lanes.many, i.room, c.loop-before.receivers.ok.0)

@@ -1,6 +1,4 @@
-use Rattle.xa_base.proofs.{Result, Ok, Err, false, arith, ◌≡◌, ◌≤◌, map, sym, ap, ◌∙◌, subst, range_with_len, length-map-range_with_len, mapped_some}
-use Rattle.std.proofs.Common.{is_err}
-use Rattle.std.specs.Prelude.{OnOk}
+use Rattle.xa_base.proofs.{arith, ◌≡◌, ◌≤◌, map, sym, ap, ◌∙◌, subst, range_with_len, length-map-range_with_len, mapped_some}
 use Rattle.xa_tables.specs.{Managed}
 use Rattle.xa_switch.specs.{setup, AreOfOneOpening, ReadyPart, find_manager, last_in, managers_in, parts_of, reopened_at, Settling}
 use Rattle.xa_switch.proofs.SettledOpenings.{find_parts}
@@ -37,13 +35,3 @@ returns-clause-opened g c =
     tables_are c.args.again.now (reopened_at parts) _ _ c.reopen_managers-managers.ensures
     ∙ (λ i. map (reopened_at (same i)) (range_with_len 1 (c.managers-many.ensures.managers i))) in
     subst (λ p. AreOfOneOpening p c.put_together-desks.result.0.items c.put_together-desks.result.1.items) (λ i. setup (c.in-Ok.ensures.numbers i) (c.in-Ok.ensures.flags i) (first i)) c.put_together-desks.ensures
-
-done : {E P : Type 0} (r : Result (Unit {0}) E) → is_err r ≡ false → OnOk r P → P
-done (Ok u) e h = h
-done (Err f) e h = absurd (cc)
-
-pub reopen_managers-managers-requires-clause-reserved : goal.reopen_managers-managers-requires-clause-reserved
-reopen_managers-managers-requires-clause-reserved g c = done c.reserve_managers.result (sym c.if-is_err.ensures.value) c.reserve_managers.ensures.reserved
-
-pub reopen_managers-managers-requires-clause-space : goal.reopen_managers-managers-requires-clause-space
-reopen_managers-managers-requires-clause-space g c = omega (arith, c.managers-many.ensures.managers, c.in-Ok.ensures.space)

@@ -1,6 +1,6 @@
 use Rattle.xa_base.proofs.{◌≡◌, length, All}
 use Rattle.xa_crew.specs.{CanTell}
-use Rattle.xa_crew.proofs.opened.Space.reserve.Given as goal
+use Rattle.xa_crew.proofs.opened.CrewMemory.reserve.Given as goal
 
 -- there is room to tell of so many desks
 abbrev pub invariant-loop : goal.invariant-loop

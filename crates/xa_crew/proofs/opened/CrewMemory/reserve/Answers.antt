@@ -1,6 +1,6 @@
 use Rattle.xa_base.proofs.{[], ◌∷◌, length, length-append, ap, arith, All-push}
 use Rattle.xa_crew.specs.{CanTell}
-use Rattle.xa_crew.proofs.opened.Space.reserve.Goals as goal
+use Rattle.xa_crew.proofs.opened.CrewMemory.reserve.Goals as goal
 
 pub loop-preserved : goal.loop-preserved
 loop-preserved g c =
