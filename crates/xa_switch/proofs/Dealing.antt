@@ -87,7 +87,7 @@ module _ {X Y Z : Type 0} {xs : List X} {ys : List Y} {it : IntoIter X Z} (left 
         },
       )
 
-  -- it isn't at its end while another list, of as many elements, has one more, and at its end as many were yielded
+  -- at its end as many were yielded as it has, so it isn't there while another list, of as many elements, has one more
   pub ends_so : into_iter_len it ≡ 0 → length ys ≡ length xs
   ends_so ended = omega (arith, left.within, ap length left.items, length-drop (length ys) xs, left.counted, ended)
 
