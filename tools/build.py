@@ -87,21 +87,25 @@ def run_in(folder, *words):
         raise Unbuilt(f"{' '.join(words)} in {folder.name} ended with status {ran.returncode}:\n{ran.stdout}")
 
 
-def prove_library(crate, nice, processes):
-    """Proves a library in a copy of the repository up to it, since rt locks each crate that it stands on, and so would
-    wait for another. rt takes what was made there for its own, as it is made of the same files."""
+def prove(crate, nice, *words):
+    """Proves a crate by these words of rt, in a copy of the repository up to it: rt locks each crate that it stands on,
+    so that another would wait, and a program may leave files where it is run. rt takes what was made there for its own,
+    as it is made of the same files."""
     with tempfile.TemporaryDirectory() as place:
         folder = scratch.copy(Path(place), [crate])[crate]
-        run_in(folder, *nice, "rt", "lib", *processes)
+        run_in(folder, *nice, "rt", *words)
         scratch.move(folder / "out", ROOT / "crates" / crate / "out")
 
 
+def prove_library(crate, nice, processes):
+    prove(crate, nice, "lib", *processes)
+
+
 def prove_program(name, level, nice, processes):
-    folder = ROOT / "crates" / name
-    arguments = folder / "args"
+    arguments = ROOT / "crates" / name / "args"
     processor = () if level == "default" else ("--cpu", level)
     words = arguments.read_text().split() if arguments.exists() else ()
-    run_in(folder, *nice, "rt", "run", *processor, *processes, "--", *words)
+    prove(name, nice, "run", *processor, *processes, "--", *words)
 
 
 def prove_and_build(name, level):
