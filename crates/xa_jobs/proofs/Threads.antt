@@ -1,19 +1,24 @@
 -- Jobs, the threads at the first of them, and what became of all.
-use Rattle.xa_base.proofs.{◌≡◌, ℕ, List, [], ◌∷◌, ◌++◌, length, refl, sym, ap, ◌∙◌, arith, append-nil, append_assoc, Some, Result, Err, both_sides, same_side}
-use Rattle.xa_base.proofs.{slice_get, All, vec_capacity, slice_get_within, all_at, got, none_of, none_side, push_side, taken_next, through}
+use Rattle.xa_base.proofs.{◌≡◌, ℕ, List, [], ◌∷◌, ◌++◌, length, length-append, ◌<◌, ◌≤◌, ◌+◌, refl, sym, ap, ◌∙◌, arith, append-nil, append_assoc, Some, Result}
+use Rattle.xa_base.proofs.{Err, both_sides, same_side, slice_get, All, vec_capacity, slice_get_within, all_at, got, none_of, none_side, push_side, through}
+use Rattle.xa_base.proofs.{into_iter_items, into_iter_len}
+use Rattle.std.specs.declared.vec.IntoIter.{IntoIter}
 use Rattle.std.specs.declared.thread.PromisedHandle.{PromisedHandle}
 use Rattle.xa_base.specs.{Pairwise}
 use Rattle.xa_jobs.specs.{DoneOf, Came, AreAtFirst, Comes, HasRoom, HasRoomForAll, IsAt}
 use Rattle.xa_jobs.specs.declared.hands.Hands.{Hands}
+
+-- a list that was gone through to its end
+pub all_gone_through : {A Z : Type 0} (it : IntoIter A Z) (first : List A) {all : List A} → first ++ into_iter_items it ≡ all → into_iter_len it ≡ 0
+    → first ≡ all
+all_gone_through it first so_far none =
+    sym (append-nil first) ∙ ap (λ l. first ++ l) (sym (none_of (into_iter_items it) (sym it.rest.ok.0 ∙ none))) ∙ so_far
 
 module _ {J D : Type 0} (comes_to : J → D → Type 0) where
   abbrev Hand : Type 0
   Hand = PromisedHandle (Result D J) (DoneOf J)
 
   -- ---- starting
-
-  pub none_at : (hands : List Hand) (others : List (Result D J)) → hands ≡ [] → others ≡ [] → AreAtFirst comes_to [] hands others
-  none_at hands others e f = search (arith, none_side)
 
   -- one more thread, where no job came to something without one
   pub one_more_at : (jobs : List J) (hands : List Hand) (others : List (Result D J)) (job : J) (hand : Hand) → others ≡ []
@@ -41,6 +46,15 @@ module _ {J D : Type 0} (comes_to : J → D → Type 0) where
     at = so_far.at;
     came = push_side (Comes comes_to) so_far.rest others job other so_far.came comes;
   }
+
+  -- where one more is to come of so many jobs, fewer have threads, and fewer came to something without one
+  pub fits_one_more : {jobs items rest all : List J} {hands : List Hand} {others : List (Result D J)} {job : J} → AreAtFirst comes_to jobs hands others
+      → items ≡ job ∷ rest → jobs ++ items ≡ all → (length hands < length all) × (length others < length all)
+  fits_one_more {jobs} {items} so_far next e =
+      let many = ap (λ l. length l) so_far.all ∙ length-append so_far.first so_far.rest in
+      let more = ap (λ l. length l) next in
+      let all = sym (length-append jobs items) ∙ ap (λ l. length l) e in
+      (omega (arith, so_far.at.as_many, many, more, all), omega (arith, so_far.came.as_many, many, more, all))
 
   -- ---- joining
 
@@ -85,5 +99,12 @@ pub room_for_all : {J D : Type 0} (comes_to : J → D → Type 0) {jobs : List J
     → c.done ≡ h.done → c.back ≡ h.back → Pairwise (Comes comes_to) jobs c.came.items → HasRoomForAll c
 room_for_all {J} {D} comes_to room counted done back comes = search (arith, vec_capacity, room.done, room.back, comes.as_many)
 
--- how jobs get their threads
-pub ruleset start_rules = (none_at, one_more_at, one_more_other, taken_next)
+-- and for these to come, once the threads are started
+pub room_to_join : {J D : Type 0} (comes_to : J → D → Type 0) {jobs : List J} {many : ℕ} {before : Hands J D} (now : Hands J D) → HasRoom many before
+    → many ≡ length jobs
+    → now.came ≡ before.came → AreAtFirst comes_to jobs now.hands.items now.others.items
+    → length now.hands.items + length now.others.items ≤ vec_capacity now.came
+room_to_join comes_to now room counted came at =
+    let all = ap (λ l. length l) at.all ∙ length-append at.first at.rest in
+    let same = ap (λ c. vec_capacity c) came in
+    omega (arith, room.came, counted, same, all, at.at.as_many, at.came.as_many)

@@ -94,7 +94,6 @@ impl<J: Job<D> + Send + 'static, D: Drop + Send + 'static> Hands<J, D> {
 
     // Starts a thread for each job, in which it waits for the word, until one can't be started; and says whether all
     // were.
-    #[tactic(auto, using(crate::proofs::Threads::start_rules))]
     fn start<R: Threads + Wait + Copy + Send + 'static>(
         &mut self,
         rt: &R,

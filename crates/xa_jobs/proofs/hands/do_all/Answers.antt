@@ -1,6 +1,29 @@
-use Rattle.xa_base.proofs.{◌∙◌, arith}
-use Rattle.xa_jobs.proofs.Threads.{room_for_all}
+use Rattle.xa_base.proofs.{◌∙◌, ap, arith, subst}
+use Rattle.xa_jobs.specs.{HasRoom}
+use Rattle.xa_jobs.proofs.Threads.{room_for_all, room_to_join}
 use Rattle.xa_jobs.proofs.hands.do_all.Goals as goal
+
+-- ---- the threads
+
+pub start-all-requires-clause-room : goal.start-all-requires-clause-room
+start-all-requires-clause-room g c _ _ = subst (λ n. HasRoom n c.in-Ok.hands) (omega (arith, c.len.ensures)) c.in-Ok.ensures.jobs
+
+pub start-all_others-requires-clause-room : goal.start-all_others-requires-clause-room
+start-all_others-requires-clause-room g c _ _ = subst (λ n. HasRoom n c.in-Ok.other_hands) (omega (arith, c.len-2.ensures)) c.in-Ok.ensures.others
+
+pub join-came-requires-clause-none : goal.join-came-requires-clause-none
+join-came-requires-clause-none g c _ _ = ap (λ came. came.items) c.start-all.ensures.came ∙ c.in-Ok.ensures.jobs.none_came
+
+pub join-came-requires-clause-room : goal.join-came-requires-clause-room
+join-came-requires-clause-room g c _ _ =
+    room_to_join g.J.Job.comes_to c.start-all.new.self c.in-Ok.ensures.jobs (omega (arith, c.len.ensures)) c.start-all.ensures.came c.start-all.ensures.started
+
+pub join-others_came-requires-clause-none : goal.join-others_came-requires-clause-none
+join-others_came-requires-clause-none g c _ _ = ap (λ came. came.items) c.start-all_others.ensures.came ∙ c.in-Ok.ensures.others.none_came
+
+pub join-others_came-requires-clause-room : goal.join-others_came-requires-clause-room
+join-others_came-requires-clause-room g c _ _ =
+    room_to_join g.K.Job.comes_to c.start-all_others.new.self c.in-Ok.ensures.others (omega (arith, c.len-2.ensures)) c.start-all_others.ensures.came c.start-all_others.ensures.started
 
 -- ---- the first kind
 

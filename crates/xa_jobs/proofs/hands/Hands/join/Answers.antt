@@ -1,6 +1,6 @@
-use Rattle.xa_base.proofs.{◌++◌, append-nil, append_assoc, ap, arith, ◌∙◌, ◌∷◌, [], into_iter_items, length, length-append, none_of, rules, sym, taken_next}
-use Rattle.xa_base.proofs.{all_handled, fits_next, next_handled}
-use Rattle.xa_jobs.proofs.Threads.{all_came}
+use Rattle.xa_base.proofs.{◌++◌, append_assoc, ap, arith, ◌∙◌, ◌∷◌, [], into_iter_items, length, length-append, rules, taken_next, all_handled, fits_next}
+use Rattle.xa_base.proofs.{next_handled}
+use Rattle.xa_jobs.proofs.Threads.{all_came, all_gone_through}
 use Rattle.xa_jobs.proofs.hands.Hands.join.Goals as goal
 
 pub loop-hand-init : goal.loop-hand-init
@@ -32,18 +32,13 @@ loop-other-preserved g c =
     let i = c.loop-other.invariant in
     record {
       so_far = taken_next c.loop-other.yielded _ _ _ c.in-Some-other.other c.in-Some-other.ensures.steps.0 i.so_far;
-      counted = search (arith, c.in-Some-other.ensures.steps);
-      came = c.push_reserved-in-loop-other.ensures.items ∙ ap (λ l. l ++ c.in-Some-other.other ∷ []) i.came
-          ∙ append_assoc c.loop-hand.came.items c.loop-other.yielded (c.in-Some-other.other ∷ []);
-      room = c.push_reserved-in-loop-other.ensures.capacity ∙ i.room;
+      came = rw (c.push_reserved-in-loop-other.ensures.items, i.came) (append_assoc c.loop-hand.came.items c.loop-other.yielded (c.in-Some-other.other ∷ []));
+      room = omega (arith, c.push_reserved-in-loop-other.ensures.capacity, i.room);
     }
 
 pub returns-clause-came : goal.returns-clause-came
 returns-clause-came g c jobs at =
     let j = c.loop-other.invariant in
     let brought = c.loop-hand.came.items in
-    let others =
-    sym (append-nil c.loop-other.yielded) ∙ ap (λ l. c.loop-other.yielded ++ l) (sym (none_of _ (sym j.counted ∙ c.in-None-other.ensures.steps.0)))
-    ∙ j.so_far in
     all_came g.J.Job.comes_to jobs c.args.self.hands.items c.args.self.others.items brought c.loop-other.came.items at
-    (all_handled c.loop-hand.invariant c.in-None.ensures.steps.0) (j.came ∙ ap (λ l. brought ++ l) others)
+    (all_handled c.loop-hand.invariant c.in-None.ensures.steps.0) (j.came ∙ ap (λ l. brought ++ l) (all_gone_through c.loop-other.other-iterator c.loop-other.yielded j.so_far c.in-None-other.ensures.steps.0))

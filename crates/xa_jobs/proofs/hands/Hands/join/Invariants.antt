@@ -1,4 +1,4 @@
-use Rattle.xa_base.proofs.{◌≡◌, ◌++◌, length, vec_capacity, into_iter_items, into_iter_len, Handled}
+use Rattle.xa_base.proofs.{◌≡◌, ◌++◌, vec_capacity, into_iter_items, Handled}
 use Rattle.xa_jobs.proofs.Threads.{Brings}
 use Rattle.xa_jobs.proofs.hands.Hands.join.Given as goal
 
@@ -10,7 +10,6 @@ invariant-loop-hand g l = Handled (Brings g.J.Job.comes_to) l.fn.self.hands.item
 abbrev pub invariant-loop-other : goal.invariant-loop-other
 invariant-loop-other g l = record {
   so_far : l.yielded ++ into_iter_items l.other-iterator ≡ l.fn.self.others.items;
-  counted : into_iter_len l.other-iterator ≡ length (into_iter_items l.other-iterator);
   came : l.came.items ≡ l.initial.came.items ++ l.yielded;
   room : vec_capacity l.came ≡ vec_capacity l.fn.self.came;
 }
