@@ -1,6 +1,6 @@
 -- How what is left is resolved: one request alone, branches one after another, and managers one after another.
 use Rattle.xa_base.proofs.{◌≡◌, ℕ, ◌+◌, ◌-◌, ◌≤◌, true, false, Some, None, List, length, refl, sym, ap, ◌∙◌, arith, length-append, nat_lt, option_or, eqb-false}
-use Rattle.xa_base.proofs.{ne_eqb, or_parts, or_from, at_false, ◌≢◌, zero, suc, ◌*◌, ◌==◌, ◌||◌, if◌then◌else◌, [], ◌∷◌, ◌++◌, append-nil, inl, inr, flat_map}
+use Rattle.xa_base.proofs.{ne_eqb, or_parts, or_from, at_false, ◌≢◌, zero, suc, ◌*◌, ◌==◌, if◌then◌else◌, [], ◌∷◌, ◌++◌, append-nil, inl, inr, flat_map}
 use Rattle.xa_base.proofs.{range_with_len, cases_eq, eq-eqb, range_more, at_true, ltb-false, le-ltb, flat_map-append}
 use Rattle.xa_words.specs.{Code, Op, XidName}
 use Rattle.xa_desk.specs.{learnt_shut, with_sent, with_collected, IsKnown, ledger, put_ledger, next_operation, room_at, call_refusal, AllKept, submitted}
@@ -124,10 +124,6 @@ left_within z n (suc most) low = elim (cases_eq n (suc most)) [
       let before = left_within z n most (omega (arith, low, less)) in
       let one : suc most ≡ most + 1 = omega arith in let more = ap (left_in z) one ∙ left_more z most in omega (arith, before, more)
 ]
-
--- the room for a manager goes by its ledger
-pub room_same : (at at' : List LedgerView) (m : ℕ) → length at' ≡ length at → ledger at' m ≡ ledger at m → room_at at' m ≡ room_at at m
-room_same at at' m many same = λ i. if (m == 0) || nat_lt (many i) m then 0 else ((same i).plan - length (same i).sent)
 
 lists_more : (f : ℕ → List Outcome) (n : ℕ) → flat_map f (range_with_len 1 (n + 1)) ≡ flat_map f (range_with_len 1 n) ++ f (n + 1)
 lists_more f n = grind (arith, flat_map, range_more, flat_map-append, range_with_len, append-nil)

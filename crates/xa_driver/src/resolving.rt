@@ -178,7 +178,6 @@ pub fn may_resolve<L: DecisionRecords>(desk: &Desk, scan: &Scan, log: &L) -> boo
 ///
 /// What several coordinators left is resolved by the records of all: a slice of their logs is read as one. Want of
 /// memory comes before anything is sent.
-#[tactic(auto, using(crate::proofs::EachLeft::room_same))]
 pub fn resolve<R: Wait, L: DecisionRecords, I: Idle>(
     rt: &R,
     alloc: Global,

@@ -232,7 +232,6 @@ impl Round {
     }
 
     // Collects the answers to the first so many requests, or to all where there are fewer.
-    #[tactic(auto, using(crate::proofs::Progress::collects_nothing, crate::proofs::Progress::idles_start))]
     fn collect_first<R: Wait, I: Idle>(&mut self, rt: &R, desk: &mut Desk, count: u32, idle: &mut I)
         requires under_way { IsUnderWay self.old desk.old }
         requires all { IsSent self.old }

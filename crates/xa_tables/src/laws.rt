@@ -80,7 +80,6 @@ pub fn value_is_sum()
 
 /// A branch that has added to a key isn't read only: its Prepare isn't answered XA_RDONLY, unless it was
 /// ended in between.
-#[tactic(auto, using(crate::proofs::WorthLaw::added_law))]
 pub fn adders_never_vote_read_only()
     ensures { (t u : ℕ) (op : Op) (x : XidName) (k : List ℕ) (d : ℤ) (g : History) (T : Tables) → op ≡ Add k d
         → option_map (λ a. a.xid) (association_of T u) ≡ Some x → (next u op T).1 ≡ Done

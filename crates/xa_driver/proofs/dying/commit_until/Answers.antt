@@ -1,6 +1,7 @@
-use Rattle.xa_base.proofs.{◌≡◌, ◌∙◌, true, false, ap, map, sym}
+use Rattle.xa_base.proofs.{◌≡◌, ◌∙◌, true, false, false≢true, refl, ap, map, sym}
 use Rattle.xa_driver.specs.{Round, Prepared, among_asks, LeavesDesk, first_ask, AppendsOnce, IsUnknown}
-use Rattle.xa_driver.proofs.AtDeath.{as_many_managers, decided_later, desk_further, dies_prepared}
+use Rattle.xa_driver.proofs.AtDeath.{as_many_managers, decided_later, desk_further, desk_rest, dies_prepared}
+use Rattle.xa_desk.proofs.GoingOn.{goes_same}
 use Rattle.xa_driver.proofs.Calls.{among_first, one_tran, for_log, may_decide, may_tell}
 use Rattle.xa_driver.proofs.Progress.{first_idles, idles_chain, idles_start, whole_in_order}
 use Rattle.xa_driver.proofs.dying.commit_until.Given as given
@@ -11,7 +12,16 @@ use Rattle.xa_driver.proofs.dying.commit_until.Goals as goal
 pub returns-in_err-preparing-clause-waited : goal.returns-in_err-preparing-clause-waited
 returns-in_err-preparing-clause-waited g c = idles_start _ _
 
+pub returns-in_err-preparing-clause-goes_on : goal.returns-in_err-preparing-clause-goes_on
+returns-in_err-preparing-clause-goes_on g c = goes_same _
+
 -- ---- while it asks for votes
+
+pub die_preparing-requires-clause-begins : goal.die_preparing-requires-clause-begins
+die_preparing-requires-clause-begins g c = c.in_ok-preparing.ensures.preparing.before
+
+pub die_preparing-requires-clause-none : goal.die_preparing-requires-clause-none
+die_preparing-requires-clause-none g c = c.in_ok-preparing.ensures.none
 
 pub returns-in-Preparing-clause-dies : goal.returns-in-Preparing-clause-dies
 returns-in-Preparing-clause-dies g c t of_tran =
@@ -20,10 +30,25 @@ returns-in-Preparing-clause-dies g c t of_tran =
 pub returns-in-Preparing-clause-managers : goal.returns-in-Preparing-clause-managers
 returns-in-Preparing-clause-managers g c = as_many_managers _ _ (c.die_preparing.ensures.leaves c.args.branches.now c.in_ok-preparing.ensures.preparing).goes_on
 
+pub returns-in-Preparing-clause-handles : goal.returns-in-Preparing-clause-handles
+returns-in-Preparing-clause-handles g c = (c.die_preparing.ensures.leaves c.args.branches.now c.in_ok-preparing.ensures.preparing).handles
+
+pub returns-in-Preparing-clause-goes_on : goal.returns-in-Preparing-clause-goes_on
+returns-in-Preparing-clause-goes_on g c = (c.die_preparing.ensures.leaves c.args.branches.now c.in_ok-preparing.ensures.preparing).goes_on
+
+pub returns-in-Preparing-clause-kept : goal.returns-in-Preparing-clause-kept
+returns-in-Preparing-clause-kept g c = (c.die_preparing.ensures.leaves c.args.branches.now c.in_ok-preparing.ensures.preparing).kept
+
+pub returns-in-Preparing-clause-appends : goal.returns-in-Preparing-clause-appends
+returns-in-Preparing-clause-appends g c t of_tran = rw c.in-Preparing.is (record { decided = λ no. absurd (false≢true no); undecided = λ _. refl })
+
 pub returns-in-Preparing-clause-waited : goal.returns-in-Preparing-clause-waited
 returns-in-Preparing-clause-waited g c = first_idles _ _ _ _ c.in_ok-preparing.ensures.preparing.same c.die_preparing.ensures.waited
 
 -- ---- once all have voted
+
+pub finish-prepared-requires : goal.finish-prepared-requires
+finish-prepared-requires g c = record { under_way = c.in_ok-preparing.ensures.under_way; votes = c.in_ok-preparing.ensures.preparing.votes }
 
 pub let_go-requires : goal.let_go-requires
 let_go-requires g c = (c.finish-prepared.ensures.prepared c.args.branches.now c.args.desk.now c.in_ok-preparing.ensures.preparing).rest
@@ -39,6 +64,19 @@ returns-in-Prepared-clause-waited g c = first_idles _ _ _ _ c.in_ok-preparing.en
 pub returns-in-Prepared-clause-managers : goal.returns-in-Prepared-clause-managers
 returns-in-Prepared-clause-managers g c =
     as_many_managers _ _ (rw c.in_ok-preparing.ensures.preparing.before at c.finish-prepared.ensures.keeps).keeps.goes_on
+
+pub returns-in-Prepared-clause-handles : goal.returns-in-Prepared-clause-handles
+returns-in-Prepared-clause-handles g c =
+    (desk_rest c.args.branches.now _ _ (rw c.in_ok-preparing.ensures.preparing.before at c.finish-prepared.ensures.keeps)).handles
+
+pub returns-in-Prepared-clause-goes_on : goal.returns-in-Prepared-clause-goes_on
+returns-in-Prepared-clause-goes_on g c = (rw c.in_ok-preparing.ensures.preparing.before at c.finish-prepared.ensures.keeps).keeps.goes_on
+
+pub returns-in-Prepared-clause-kept : goal.returns-in-Prepared-clause-kept
+returns-in-Prepared-clause-kept g c = (rw c.in_ok-preparing.ensures.preparing.before at c.finish-prepared.ensures.keeps).kept
+
+pub returns-in-Prepared-clause-appends : goal.returns-in-Prepared-clause-appends
+returns-in-Prepared-clause-appends g c t of_tran = rw c.in-Prepared.is (record { decided = λ no. absurd (false≢true no); undecided = λ _. refl })
 
 -- ---- once it was decided
 
@@ -135,3 +173,19 @@ returns-in-Err-clause-waited g c = first_idles _ _ _ _ c.in_ok-preparing.ensures
 pub returns-in-Err-clause-managers : goal.returns-in-Err-clause-managers
 returns-in-Err-clause-managers g c =
     as_many_managers _ _ (rw c.in_ok-preparing.ensures.preparing.before at c.finish-prepared.ensures.keeps).keeps.goes_on
+
+pub returns-in-Err-clause-keeps : goal.returns-in-Err-clause-keeps
+returns-in-Err-clause-keeps g c = rw c.in_ok-preparing.ensures.preparing.before at c.finish-prepared.ensures.keeps
+
+pub returns-in-Err-clause-handles : goal.returns-in-Err-clause-handles
+returns-in-Err-clause-handles g c =
+    (desk_rest c.args.branches.now _ _ (rw c.in_ok-preparing.ensures.preparing.before at c.finish-prepared.ensures.keeps)).handles
+
+pub returns-in-Err-clause-goes_on : goal.returns-in-Err-clause-goes_on
+returns-in-Err-clause-goes_on g c = (rw c.in_ok-preparing.ensures.preparing.before at c.finish-prepared.ensures.keeps).keeps.goes_on
+
+pub returns-in-Err-clause-kept : goal.returns-in-Err-clause-kept
+returns-in-Err-clause-kept g c = (rw c.in_ok-preparing.ensures.preparing.before at c.finish-prepared.ensures.keeps).kept
+
+pub returns-in-Err-clause-later : goal.returns-in-Err-clause-later
+returns-in-Err-clause-later g c = decided_later c.args.death c.in_default.not-Preparing c.in_default-death.not-Prepared

@@ -1,5 +1,6 @@
 use Rattle.xa_base.proofs.{◌≡◌, ◌+◌, length, length-append, refl, ap, ◌∙◌, arith}
 use Rattle.xa_base.specs.{MOST_MANAGERS}
+use Rattle.xa_desk.proofs.GoingOn.{goes_same}
 use Rattle.xa_driver.specs.{begun, next}
 use Rattle.xa_calls.specs.{AsksAndWaits, Answers}
 use Rattle.xa_driver.proofs.EachLeft.{left_more, alone_rest, none_so_far, one_more_so_far, left_within}
@@ -7,6 +8,12 @@ use Rattle.xa_driver.proofs.Requests.{rest_same, rest_chain}
 use Rattle.xa_driver.proofs.Mapped.{turns_by}
 use Rattle.xa_driver.proofs.resolving.resolve.Given as given
 use Rattle.xa_driver.proofs.resolving.resolve.Goals as goal
+
+pub returns-in_err-outcomes-clause-goes_on : goal.returns-in_err-outcomes-clause-goes_on
+returns-in_err-outcomes-clause-goes_on g c = goes_same _
+
+pub returns-in_err-outcomes-clause-keeps : goal.returns-in_err-outcomes-clause-keeps
+returns-in_err-outcomes-clause-keeps g c = rest_same _ _ refl
 
 pub loop-before-init : goal.loop-before-init
 loop-before-init g c = record {
@@ -48,6 +55,9 @@ loop-before-preserved g c =
 
 all_before : (g : given.Over) (c : goal.After-loop-before g) → c.loop-before.before ≡ MOST_MANAGERS
 all_before g c = let done = c.loop-before-test.false in let stop = c.loop-before.auto.before-end in omega (arith, done, stop)
+
+pub returns-clause-trace : goal.returns-clause-trace
+returns-clause-trace g c = record { course = rw (all_before g c) at c.loop-before.invariant.so_far; managers = c.loop-before.invariant.managers }
 
 pub returns-clause-waited : goal.returns-clause-waited
 returns-clause-waited g c = rw (all_before g c) at c.loop-before.invariant.waits

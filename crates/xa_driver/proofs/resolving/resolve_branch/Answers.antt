@@ -33,3 +33,9 @@ returns-clause-waits g c = record {
     | else-is_decided w ↦ rw (w.desk-is, w.idle-is, (sym c.is_decided.ensures ∙ w.if-is_decided.false))
   ];
 }
+
+pub returns-clause-idled : goal.returns-clause-idled
+returns-clause-idled g c = elim c.if-is_decided.branch [
+  | then-is_decided w ↦ rw w.idle-is (g.met.I.Idle.leads_chain _ _ _ c.ask-code.ensures.idled w.ask.ensures.idled)
+  | else-is_decided w ↦ rw w.idle-is c.ask-code.ensures.idled
+]

@@ -1,6 +1,6 @@
-use Rattle.xa_base.proofs.{refl, if◌then◌else◌, ◌≡◌, ◌≢◌, ℕ, ◌+◌, ◌-◌, ◌<◌, Bool, false, inl, length, sym, true, ◌∙◌, arith, eqb-false}
+use Rattle.xa_base.proofs.{refl, if◌then◌else◌, ◌≡◌, ◌≢◌, ℕ, ◌+◌, ◌-◌, ◌<◌, Bool, false, inl, inr, length, sym, true, ◌∙◌, arith, eqb-false, eqb-true}
 use Rattle.xa_driver.specs.{is_passed, next_collected}
-use Rattle.xa_driver.proofs.Progress.{OneCollected, first_so_many, one_collected, collects_on, step_collects, collect_on}
+use Rattle.xa_driver.proofs.Progress.{OneCollected, first_so_many, collects_nothing, idles_start, one_collected, collects_on, step_collects, collect_on}
 use Rattle.xa_driver.proofs.Requests.{same_itself}
 use Rattle.xa_driver.proofs.round.Round.collect_first.Goals as goal
 use Rattle.xa_driver.proofs.round.Round.collect_first.Goals.{then-not-is_unasked, else-not-is_unasked}
@@ -10,6 +10,18 @@ one_less b before now e some is = grind arith
 
 as_many : (b : Bool) (before now : ℕ) → b ≡ true → now ≡ before → (if b then 0 else 1) + now ≡ before
 as_many b before now e is = grind arith
+
+pub answers-init : goal.answers-init
+answers-init g c = record {
+  under_way = c.requires.under_way;
+  all = c.requires.all;
+  counted = rw c.requires.none (omega arith);
+  before = refl;
+  same = λ js s. s;
+  waited = idles_start _ _;
+  ordered = collects_nothing _ _;
+  idled = g.met.I.Idle.leads_start _;
+}
 
 pub answers-preserved : goal.answers-preserved
 answers-preserved g c =
@@ -39,3 +51,8 @@ answers-preserved g c =
 pub returns-after-answers-clause-first : goal.returns-after-answers-clause-first
 returns-after-answers-clause-first g c =
     first_so_many c.answers.self c.args.count c.answers.left c.answers.invariant.all c.answers.invariant.counted (inl (omega (arith, c.answers-test.false)))
+
+pub returns-else-not-is_empty-clause-first : goal.returns-else-not-is_empty-clause-first
+returns-else-not-is_empty-clause-first g c =
+    first_so_many c.answers.self c.args.count c.answers.left c.answers.invariant.all c.answers.invariant.counted
+    (inr (search (arith, eqb-true, c.answers.self.tickets.ok.0)))

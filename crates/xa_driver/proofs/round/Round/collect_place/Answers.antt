@@ -4,6 +4,18 @@ use Rattle.xa_driver.proofs.Requests.{same_set}
 use Rattle.xa_driver.proofs.Stepping.{flight_owned, matched_some, first_one, one_more_collected, place_is, place_within}
 use Rattle.xa_driver.proofs.round.Round.collect_place.Goals as goal
 
+pub index-requires : goal.index-requires
+index-requires g c = omega (arith, place_within c.args.self.now c.args.desk.now c.requires c.in-Some.ticket c.pop_front.new.self.items c.in-Some.ensures.items)
+
+pub index_mut-requires : goal.index_mut-requires
+index_mut-requires g c =
+    omega (arith, place_within c.args.self.now c.args.desk.now c.requires c.in-Some.ticket c.pop_front.new.self.items c.in-Some.ensures.items)
+
+pub overflow_add-self : goal.overflow_add-self
+overflow_add-self g c =
+    let within = place_within c.args.self.now c.args.desk.now c.requires c.in-Some.ticket c.pop_front.new.self.items c.in-Some.ensures.items in
+    omega (arith, within, c.args.self.now.asks.ok.0)
+
 pub end-code-requires : goal.end-code-requires
 end-code-requires g c =
     let one = first_one c.args.self.now c.args.desk.now c.requires c.in-Some.ticket c.pop_front.new.self.items c.in-Some.ensures.items in

@@ -21,7 +21,10 @@ all_left : (c : goal.After-sort_unstable) → c.loop-xid.left.items ≡ keys_of 
 all_left c = search (arith, append-nil)
 
 pub returns-clause-once : goal.returns-clause-once
-returns-clause-once c = search (arith, IsDistinct-IsPermutation, swap_xid, all_left, IsDistinct-keys_filter)
+returns-clause-once c =
+    let es = c.self.inside.states.entries in
+    IsDistinct-IsPermutation xid_eq swap_xid _ _ c.sort_unstable.ensures.permutation
+    (rw (all_left c) (IsDistinct-keys_filter xid_eq (λ e. is_kept e.1) es c.iter-xid-items.ensures.unique))
 
 pub returns-clause-each : goal.returns-clause-each
 returns-clause-each c x =
