@@ -1,9 +1,9 @@
 //! Clients of one opening with its desks and its workers, before anything is done.
-ghost use Rattle.std.specs.Prelude.{◌≡◌, ◌≤◌, ◌↔◌, [], length, vec_capacity, IfOk, IfErr, OnOk};
+ghost use Rattle.std.specs.Prelude.{◌≡◌, ◌≤◌, ◌↔◌, [], length, vec_capacity, All, IfOk, IfErr, OnOk};
 ghost use Rattle.xa_switch.specs.OpenedPieces.{AreOfOneOpening};
 ghost use Rattle.xa_switch.specs.Plans.{IsSound, IsWithinLimits, Setup, planned};
-ghost use Rattle.xa_crew.specs.Opened.{HasMemoryFor, IfNotSettled, IfNotStarted, IsOpened, clients_of};
-ghost use Rattle.xa_crew.specs.Run.{HasRunAll, IsRun};
+ghost use Rattle.xa_crew.specs.Opened.{HasMemoryFor, HasRoomFor, IfNotSettled, IfNotStarted, IsOpened, clients_of};
+ghost use Rattle.xa_crew.specs.Run.{CanTell, HasRunAll, IsRun};
 
 use crate::client::Client;
 use crate::client_job::{Attended, ClientJob, Worked, attend_all, client_jobs_of};
@@ -69,24 +69,41 @@ impl<C> fmt::Debug for OpenedFault<C> {
     }
 }
 
+impl<C: Client> Room<C> {
+    // Reserves that for so many clients. It fails only for want of memory.
+    fn reserve(alloc: Global, clients: usize) -> Result<Room<C>, AllocError>
+        ensures { IfOk result (HasRoomFor clients) }
+    {
+        Ok(Room {
+            attended: Vec::with_capacity(alloc, clients)?,
+            ended: Vec::with_capacity(alloc, clients)?,
+            worked: Vec::with_capacity(alloc, clients)?,
+            done: Vec::with_capacity(alloc, MOST_MANAGERS)?,
+        })
+    }
+}
+
+// Reserves what is needed to tell what is outstanding at so many desks.
+fn reserve_outstanding(alloc: Global, desks: usize) -> Result<Vec<Vec<(u32, Code)>>, AllocError>
+    ensures many { IfOk result (λ v. length v.items ≡ desks) }
+    ensures tell { IfOk result (λ v. All CanTell v.items) }
+{
+    let mut outstanding = Vec::with_capacity(alloc, desks)?;
+    for _ in 0..desks {
+        outstanding.push(Vec::with_capacity(alloc, MOST_HANDLES)?)?;
+    }
+    Ok(outstanding)
+}
+
 impl<C: Client> CrewMemory<C> {
     /// Reserves that of so many clients. It fails only for want of memory.
     pub fn reserve(alloc: Global, clients: usize) -> Result<CrewMemory<C>, AllocError>
         ensures { IfOk result (HasMemoryFor clients) }
     {
-        let mut outstanding = Vec::with_capacity(alloc, clients)?;
-        for _ in 0..clients {
-            outstanding.push(Vec::with_capacity(alloc, MOST_HANDLES)?)?;
-        }
         Ok(CrewMemory {
             jobs: Vec::with_capacity(alloc, clients)?,
-            outstanding,
-            room: Room {
-                attended: Vec::with_capacity(alloc, clients)?,
-                ended: Vec::with_capacity(alloc, clients)?,
-                worked: Vec::with_capacity(alloc, clients)?,
-                done: Vec::with_capacity(alloc, MOST_MANAGERS)?,
-            },
+            outstanding: reserve_outstanding(alloc, clients)?,
+            room: Room::reserve(alloc, clients)?,
         })
     }
 

@@ -39,9 +39,15 @@ use xa_words::{Code, Completion, Op, Request};
 /// return, and its promise holds if it does. What a call's contract doesn't name of the desk stays. `tied`
 /// says that the ledgers and what was drained say what the ends of the lanes do, `goes_on` what each call
 /// keeps of a desk, and `tickets` or `others` which of the tickets that were owned still are.
-#[derive(Drop)]
 pub struct Desk {
     book: Book,
+}
+
+// It is dropped by one call, wherever that is, and not part by part there.
+impl Drop for Desk {
+    fn drop(self) {
+        let Desk { book: _ } = self;
+    }
 }
 
 impl Model for Desk {
@@ -441,7 +447,8 @@ impl Desk {
         if self.book.is_outstanding() {
             return Err(self);
         }
-        Ok(end(rt, self.book, idle))
+        let Desk { book } = self;
+        Ok(end(rt, book, idle))
     }
 }
 

@@ -18,7 +18,6 @@ use xa_words::{Code, Completion, Op, Request};
 
 /// A desk that has ended: nothing is outstanding, nothing more is sent or collected, and each manager's
 /// lane has its end mark.
-#[derive(Drop)]
 pub struct EndedDesk {
     thread: u32,
     ledgers: Vec<Ledger>,
@@ -26,6 +25,19 @@ pub struct EndedDesk {
     drained: Log<Completion, ()>,
     requests: Vec<Ended<Request>>,
     completions: Receiver<Completion>,
+}
+
+// It is dropped by one call, wherever that is, and not part by part there.
+impl Drop for EndedDesk {
+    fn drop(self) {
+        let EndedDesk {
+            thread: _,
+            ledgers: _,
+            drained: _,
+            requests: _,
+            completions: _,
+        } = self;
+    }
 }
 
 impl Model for EndedDesk {

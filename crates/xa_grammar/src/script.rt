@@ -57,7 +57,6 @@ pub struct UnknownAppend {
 }
 
 /// A whole script: its settings, and its keys and its steps, each in the order of the lines.
-#[derive(Drop)]
 pub struct Script {
     settings: Settings,
     keys: DeclaredKeys,
@@ -69,6 +68,20 @@ pub struct Script {
     unknown: [Option<UnknownAppend>; 8],
     // The threads that run them share them.
     steps: Arc<Steps, Global>,
+}
+
+// It is dropped by one call, wherever that is, and not part by part there.
+impl Drop for Script {
+    fn drop(self) {
+        let Script {
+            settings: _,
+            keys: _,
+            syncs: _,
+            failing: _,
+            unknown: _,
+            steps: _,
+        } = self;
+    }
 }
 
 impl Model for Script {

@@ -3,7 +3,7 @@
 //! `X` names a branch, `G` a global transaction and `K` a key. A script keeps places of them, in lists of its own
 //! (steps.rt). What was read, and what is lent to be run, has names whose bytes stand elsewhere: in the line, and in
 //! the script (name.rt).
-ghost use Rattle.std.specs.Prelude.{◌≡◌, ◌≤◌, IfOk};
+ghost use Rattle.std.specs.Prelude.{◌≡◌, ◌≤◌, IfOk, ⊤};
 ghost use Rattle.std.specs.Fn.{FnOnceReturnsAt, FnOnceTakesAt};
 ghost use Rattle.xa_grammar.specs.Contents.{is_reopen, AsksForFew, threads_of};
 ghost use Rattle.xa_grammar.specs.OwnTasks.{is_own};
@@ -18,10 +18,12 @@ use crate::fault::{LineFault, Reason};
 use crate::name::Name;
 use crate::script::Script;
 use crate::words::{Words, meaning_in, number_in};
+use std::alloc::AllocError;
+use std::clone::Clone;
 use xa_words::{Call, Death, Delta, Key, ManagerSet};
 
 /// What a thread calls.
-#[derive(Clone, Copy, PartialEq, Eq)]
+#[derive(PartialEq, Eq)]
 pub enum ManagerCall<X, K = Key> {
     /// A call of XA but `xa_complete()` and `xa_recover()`, with its branch where it takes one.
     Xa(Call, Option<X>),
@@ -37,8 +39,21 @@ pub enum ManagerCall<X, K = Key> {
     Recover(u32),
 }
 
+// It is copied whole. A derived clone goes by its variants.
+impl<X: Copy, K: Copy> Clone for ManagerCall<X, K> {
+    ghost is_clone = { λ a b. b ≡ a };
+
+    ghost is_infallible = { λ _. ⊤ };
+
+    fn clone(&self) -> Result<ManagerCall<X, K>, AllocError> {
+        Ok(*self)
+    }
+}
+
+impl<X: Copy, K: Copy> Copy for ManagerCall<X, K> {}
+
 /// A call of a manager.
-#[derive(Clone, Copy, PartialEq, Eq)]
+#[derive(Drop, PartialEq, Eq)]
 pub struct Called<X, K = Key> {
     /// The number that the line gives, which need not be that of a manager.
     pub manager: u32,
@@ -49,7 +64,7 @@ pub struct Called<X, K = Key> {
 }
 
 /// A commit of a global transaction in two phases. Its branch at manager M is `G.M`.
-#[derive(Clone, Copy, PartialEq, Eq)]
+#[derive(Drop, PartialEq, Eq)]
 pub struct CommitAll<G> {
     /// The global transaction, of format 1.
     pub tran: G,
@@ -60,7 +75,7 @@ pub struct CommitAll<G> {
 }
 
 /// What a thread does.
-#[derive(Clone, Copy, PartialEq, Eq)]
+#[derive(Drop, PartialEq, Eq)]
 pub enum Action<X, G, K = Key> {
     Call(Called<X, K>),
     CommitAll(CommitAll<G>),
@@ -69,7 +84,7 @@ pub enum Action<X, G, K = Key> {
 }
 
 /// What a thread does on a line of its own.
-#[derive(Clone, Copy, PartialEq, Eq)]
+#[derive(Drop, PartialEq, Eq)]
 pub struct Task<X, G, K = Key> {
     /// The number of its line, from 1.
     pub line: u32,
@@ -79,7 +94,7 @@ pub struct Task<X, G, K = Key> {
 }
 
 /// What is to be done next.
-#[derive(Clone, Copy, PartialEq, Eq)]
+#[derive(Drop, PartialEq, Eq)]
 pub enum Step<X, G, K = Key> {
     /// A thread does something.
     Task(Task<X, G, K>),

@@ -1,7 +1,7 @@
 //! Steps in a small form: the bytes of their names stand one after the other, and so do the keys of additions. Each
 //! step says where.
 ghost use Rattle.std.specs.Prelude.{◌≡◌, ◌<◌, ◌^◌, ◌++◌, ◌∷◌, [], ℕ, List, Some, length, slice_get, All, IfOk, OnOk};
-ghost use Rattle.std.specs.Prelude.{OnErr, nat_eq};
+ghost use Rattle.std.specs.Prelude.{OnErr, nat_eq, ⊤};
 ghost use Rattle.std.specs.List.{list_any};
 ghost use Rattle.xa_grammar.specs.Contents.{is_reopen};
 ghost use Rattle.xa_grammar.specs.OwnTasks.{own_steps, steps_at, tasks_in, IsTask};
@@ -34,7 +34,6 @@ pub(crate) struct KeyPlace {
 
 // A step with places for its name and its key. The fields of each kind stand in an order that leaves few gaps, since
 // there is a step for each line.
-#[derive(Clone, Copy)]
 pub(crate) enum Kept<X, K> {
     Call {
         thread: u8,
@@ -64,6 +63,19 @@ pub(crate) enum Kept<X, K> {
         line: u32,
     },
 }
+
+// It is copied whole. A derived clone goes by its variants.
+impl<X: Copy, K: Copy> Clone for Kept<X, K> {
+    ghost is_clone = { λ a b. b ≡ a };
+
+    ghost is_infallible = { λ _. ⊤ };
+
+    fn clone(&self) -> Result<Kept<X, K>, AllocError> {
+        Ok(*self)
+    }
+}
+
+impl<X: Copy, K: Copy> Copy for Kept<X, K> {}
 
 // A step as it is kept.
 type KeptStep = Kept<NamePlace, KeyPlace>;

@@ -14,11 +14,17 @@ use xa_words::Xid;
 
 /// What a reopening found left at each manager, and where a thread's scans of it stand: the state that `xa_recover`
 /// goes by.
-#[derive(Drop)]
 pub struct Scan {
     // None at a first opening. All threads of an opening share it.
     left: Option<Arc<Vec<Vec<Xid>>, Global>>,
     places: [Option<usize>; MOST_MANAGERS],
+}
+
+// It is dropped by one call, wherever that is, and not part by part there.
+impl Drop for Scan {
+    fn drop(self) {
+        let Scan { left: _, places: _ } = self;
+    }
 }
 
 impl Model for Scan {

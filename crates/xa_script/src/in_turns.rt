@@ -28,11 +28,21 @@ use xa_switch::{OpenFault, Settled, open_switch, reopen};
 use xa_transcript::{RunFault, Told, Transcript, tell_ended};
 
 // What runs an opening of a script: its number, its threads of control, and the workers, which take turns.
-#[derive(Drop)]
 struct Runner {
     opening: u64,
     sessions: Vec<Session>,
     turns: Turns,
+}
+
+// It is dropped by one call, wherever that is, and not part by part there.
+impl Drop for Runner {
+    fn drop(self) {
+        let Runner {
+            opening: _,
+            sessions: _,
+            turns: _,
+        } = self;
+    }
 }
 
 // What an opening has come to: its number, the logs of its threads, and how it was settled.

@@ -20,7 +20,6 @@ use xa_session::{carry_out, log_of};
 use xa_transcript::{Told, Transcript};
 
 /// A thread of a script: its own tasks, its decision log, and what it told so far.
-#[derive(Drop)]
 pub(crate) struct ScriptThread {
     /// Its number, from 1.
     pub(crate) thread: u32,
@@ -32,6 +31,21 @@ pub(crate) struct ScriptThread {
     pub(crate) told: Transcript,
     /// Whether memory was refused, after which no task was done.
     pub(crate) wants_memory: bool,
+}
+
+// It is dropped by one call, wherever that is, and not part by part there.
+impl Drop for ScriptThread {
+    fn drop(self) {
+        let ScriptThread {
+            thread: _,
+            alloc: _,
+            log: _,
+            scan: _,
+            tasks: _,
+            told: _,
+            wants_memory: _,
+        } = self;
+    }
 }
 
 // Carries out the tasks, until memory is refused.

@@ -34,7 +34,6 @@ impl From<AllocError> for TableFault {
 }
 
 /// One resource manager: its sequential tables and its store.
-#[derive(Drop)]
 pub struct Manager {
     inner: BranchTables,
     threads: u32,
@@ -42,6 +41,18 @@ pub struct Manager {
     spare: u32,
     // For how many threads and requests there is room at the next opening.
     reserved: Option<(u32, u32)>,
+}
+
+// It is dropped by one call, wherever that is, and not part by part there.
+impl Drop for Manager {
+    fn drop(self) {
+        let Manager {
+            inner: _,
+            threads: _,
+            spare: _,
+            reserved: _,
+        } = self;
+    }
 }
 
 impl Model for Manager {
@@ -144,7 +155,12 @@ impl Manager {
         ensures room { result.room ≡ room }
         ensures reserved { result.reserved ≡ None }
     {
-        let Manager { mut inner, .. } = self;
+        let Manager {
+            mut inner,
+            threads: _,
+            spare: _,
+            reserved: _,
+        } = self;
         inner.reopen(threads as usize);
         Manager {
             inner,

@@ -13,11 +13,17 @@ use std::marker::Model;
 pub const LINE: usize = 16;
 
 /// What was told so far. Only its text is kept; contracts see the lines.
-#[derive(Drop)]
 pub struct Transcript {
     text: Lines,
     // What the lines tell. They have no bytes: only proofs read them.
     told: Log<Told, ()>,
+}
+
+// It is dropped by one call, wherever that is, and not part by part there.
+impl Drop for Transcript {
+    fn drop(self) {
+        let Transcript { text: _, told: _ } = self;
+    }
 }
 
 impl Model for Transcript {
@@ -48,13 +54,14 @@ impl Transcript {
         ensures told { OnOk result (self.new ≡ self.old ++ told ∷ []) }
         ensures same { OnErr result (self.new ≡ self.old) }
     {
-        if put_line(&mut self.text, &told).is_err() {
+        let put = put_line(&mut self.text, &told);
+        if put.is_ok() {
+            self.text.end_line();
+            self.told = self.told.and(&told, &());
+        } else {
             self.text.drop_line();
-            return Err(AllocError);
         }
-        self.text.end_line();
-        self.told = self.told.and(&told, &());
-        Ok(())
+        put
     }
 
     /// The lines' bytes.

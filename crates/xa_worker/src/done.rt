@@ -11,12 +11,22 @@ use xa_tables::Manager;
 use xa_words::{Code, Completion, Request};
 
 /// A worker that has run: each thread's end mark was taken, nothing is held, and its senders are ended.
-#[derive(Drop)]
 pub struct DoneWorker {
     number: u32,
     // The manager as it was given, with its number. It has no bytes: only proofs read it.
     given: Log<u32, Manager>,
     parts: WorkerEnds,
+}
+
+// It is dropped by one call, wherever that is, and not part by part there.
+impl Drop for DoneWorker {
+    fn drop(self) {
+        let DoneWorker {
+            number: _,
+            given: _,
+            parts: _,
+        } = self;
+    }
 }
 
 impl Model for DoneWorker {
@@ -102,8 +112,8 @@ impl DoneWorker {
         let DoneWorker {
             number: _,
             given: _,
-            parts,
+            parts: ends,
         } = self;
-        parts
+        ends
     }
 }

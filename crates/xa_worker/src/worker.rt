@@ -24,7 +24,6 @@ use xa_words::{Code, Completion, Request};
 /// Carries out the requests of one manager's lane, one after another.
 ///
 /// It takes no memory. What a call's contract doesn't name of the worker stays.
-#[derive(Drop)]
 pub struct Worker {
     number: u32,
     // The manager as it was given, with its number. It has no bytes: only proofs read it.
@@ -39,6 +38,23 @@ pub struct Worker {
     held: Option<(usize, Request)>,
     // Reserved for the ends of the lanes of completions.
     ends: Vec<Ended<Completion>>,
+}
+
+// It is dropped by one call, wherever that is, and not part by part there.
+impl Drop for Worker {
+    fn drop(self) {
+        let Worker {
+            number: _,
+            given: _,
+            manager: _,
+            receiver: _,
+            out: _,
+            journal: _,
+            ended: _,
+            held: _,
+            ends: _,
+        } = self;
+    }
 }
 
 impl Model for Worker {

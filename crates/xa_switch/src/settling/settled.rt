@@ -45,7 +45,6 @@ impl EndedThread {
 }
 
 /// What a manager's worker leaves.
-#[derive(Drop)]
 pub(crate) struct Carried {
     pub(crate) number: u32,
     // Of what is settled: the tables that the manager was opened with, and what was taken. It has no bytes:
@@ -53,6 +52,18 @@ pub(crate) struct Carried {
     pub(crate) done: Snapshot<DoneWorker>,
     pub(crate) manager: Manager,
     pub(crate) journal: Vec<(Request, Code)>,
+}
+
+// It is dropped by one call, wherever that is, and not part by part there.
+impl Drop for Carried {
+    fn drop(self) {
+        let Carried {
+            number: _,
+            done: _,
+            manager: _,
+            journal: _,
+        } = self;
+    }
 }
 
 impl Model for Carried {
@@ -124,7 +135,13 @@ impl Carried {
           reserved = None;
         } }
     {
-        self.manager.reopened(threads, room)
+        let Carried {
+            number: _,
+            done: _,
+            manager,
+            journal: _,
+        } = self;
+        manager.reopened(threads, room)
     }
 }
 

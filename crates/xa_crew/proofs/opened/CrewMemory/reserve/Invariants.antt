@@ -1,7 +1,0 @@
-use Rattle.xa_base.proofs.{◌≡◌, length, All}
-use Rattle.xa_crew.specs.{CanTell}
-use Rattle.xa_crew.proofs.opened.CrewMemory.reserve.Given as goal
-
--- there is room to tell of so many desks
-abbrev pub invariant-loop : goal.invariant-loop
-invariant-loop g l = record { many : length l.outstanding.items ≡ l.counter; tell : All CanTell l.outstanding.items }
