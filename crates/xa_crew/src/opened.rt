@@ -70,7 +70,7 @@ impl<C> fmt::Debug for OpenedFault<C> {
 }
 
 impl<C: Client> Room<C> {
-    // Reserves that for so many clients. It fails only for want of memory.
+    // Room for so many clients. It fails only for want of memory.
     fn reserve(alloc: Global, clients: usize) -> Result<Room<C>, AllocError>
         ensures { IfOk result (HasRoomFor clients) }
     {
