@@ -55,6 +55,8 @@ class Run:
         }
         self.queues = {m: collections.deque() for m in self.numbers}
         self.threads = {t: Thread() for t in range(1, script.threads + 1)}
+        # The votes of each commit that was decided, by its line.
+        self.votes = {}
 
     def tell(self, thread, *words):
         self.lines.append((thread, " ".join(map(str, words))))
@@ -131,7 +133,7 @@ class Run:
         elif verb == "reopen":
             self.reopen(line)
         elif verb == "commitall":
-            self.tell(t, line, t, *self.commit_all(t, *told))
+            self.tell(t, line, t, *self.commit_all(line, t, *told))
         elif verb == "resolve":
             self.tell(t, line, t, *self.resolve(t))
         elif not takes(verb, flags):
@@ -198,7 +200,7 @@ class Run:
                 self.keep(t, request)
         return codes
 
-    def commit_all(self, t, gtrid, managers, death):
+    def commit_all(self, line, t, gtrid, managers, death):
         thread = self.threads[t]
         free = self.script.handles - len(thread.kept)
         if any(self.room(t, m) < 3 for m in managers) or free < len(managers) or gtrid in thread.log:
@@ -212,6 +214,7 @@ class Run:
         told = [f"vote:{vote}" for vote in votes.values()]
         if dies == "prepared":
             return "died", *told
+        self.votes[line] = votes
         commits, logged = all(vote in (OK, READ_ONLY) for vote in votes.values()), False
         if commits and OK in votes.values():
             commits = logged = self.append(t, gtrid, {m for m in managers if votes[m] == OK})

@@ -136,11 +136,17 @@ def prove_and_build(name, level):
         raise Unbuilt("files were changed meanwhile")
 
 
+def refuse(why):
+    """Ends with the status of words that aren't known."""
+    print(f"build: {why}", file=sys.stderr)
+    sys.exit(2)
+
+
 def main(name, level):
     if name not in programs():
-        sys.exit(f"build: {name} is no program; these are: {' '.join(programs())}")
+        refuse(f"{name} is no program; these are: {' '.join(programs())}")
     if level not in LEVELS:
-        sys.exit(f"build: {level} is no level; these are: {' '.join(LEVELS)}")
+        refuse(f"{level} is no level; these are: {' '.join(LEVELS)}")
     if not shutil.which("rt"):
         sys.exit(f"{name}: not built: the Rattle kit is needed, and its command rt isn't there")
     (ROOT / "out").mkdir(exist_ok=True)

@@ -51,6 +51,9 @@ class Fate:
             self.go("it wasn't left", self.kind == "unknown" and self.is_old)
         elif sign.kind == "absent":
             self.be_absent(sign)
+        elif sign.kind == self.kind == "rollback-only":
+            # It is so from the first line that says so.
+            return
         elif sign.kind != "noted" or self.kind != "decided":
             self.kind = self.kind if sign.kind == "noted" else sign.kind
             self.words, self.line = sign.words, sign.line

@@ -34,7 +34,8 @@ def words():
     parser.add_argument("--transcript", type=Path, metavar="FILE", help="explain this transcript, and run nothing")
     parser.add_argument("--try", dest="is_try", action="store_true", help="run ./try, which proves nothing, and not "
                         "./xaswitch")
-    parser.add_argument("--html", type=Path, metavar="FILE", help="write a page there, and print nothing")
+    parser.add_argument("--html", metavar="FILE", help="write a page there, and print nothing else; - is standard "
+                        "output")
     return parser.parse_args()
 
 
@@ -53,7 +54,8 @@ def faulty(text, fault):
     line, why = fault.args
     lines = reading.lines_of(text)
     told = lines[line - 1].decode("ascii", "replace") if line <= len(lines) else ""
-    return f"explain: nothing is run of a script that has a fault\nline {line}: {why}\n{line:>4}  {told[:200]}"
+    more = f" ({fault.hint})" if fault.hint else ""
+    return f"explain: nothing is run of a script that has a fault\nline {line}: {why}{more}\n{line:>4}  {told[:200]}"
 
 
 def is_coloured():
@@ -67,8 +69,10 @@ def explain(told):
     reading.read(text, mode == "threads")
     shown = told.transcript.read_text("ascii") if told.transcript else run(text, mode, told.is_try)
     explanation = Explanation(text, shown, mode)
-    if told.html:
-        told.html.write_text(page(explanation, told.script.name))
+    if told.html == "-":
+        print(page(explanation, told.script.name), end="")
+    elif told.html:
+        Path(told.html).write_text(page(explanation, told.script.name))
     else:
         print("\n".join(plain(explanation, is_coloured())))
 
@@ -85,4 +89,6 @@ def main():
     except (Unread, OSError, UnicodeDecodeError) as why:
         print(f"explain: {why}", file=sys.stderr)
         return 2
+    except KeyboardInterrupt:
+        return 130
     return 0

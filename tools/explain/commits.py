@@ -30,6 +30,11 @@ class Commit:
     def xid(self, manager):
         return self.gtrid, str(manager)
 
+    def votes(self):
+        """The votes that the answer shows, by manager, where it shows votes."""
+        shown = {m: code for m, (word, code) in self.shown.items() if word == "vote"}
+        return shown if len(shown) == len(self.managers) else {}
+
     def untold(self):
         """What the coordinator asked of branches before it died, and tells no answer to: the managers, of which those
         that the thread knew to be shut were asked nothing, and a verb."""

@@ -7,12 +7,18 @@ from .lanes import Lanes
 from .rows import named
 
 STYLE = Path(__file__).resolve().parent / "page.css"
-# What the bars and the dots beside the lanes stand for.
+# What is drawn in the lanes, and what it stands for.
 LEGEND = [
     ("bar begun", "a branch at work"), ("bar prepared", "prepared"), ("bar rollback-only", "rollback-only"),
     ("bar decided", "decided by its manager"), ("bar unknown", "not shown"), ("dot-of committed", "committed"),
     ("dot-of back", "rolled back"), ("dot-of read", "only read"), ("bar handle", "a handle that is kept"),
+    ("arrow", "a call, and its answer"), ("arrow later", "an asynchronous call, or its answer"),
+    ("square", "a turn of a manager, or a line that asks no manager"), ("square empty", "nothing had come"),
+    ("cross", "refused: it reached no manager"),
 ]
+# What a screen reader reads of a mark that has no title.
+READ = {"begin now": "calls", "begin later": "calls asynchronously", "head now": "is called",
+        "head later": "is called asynchronously", "tail later": "collects"}
 ORDER = {
     "turns": "Run in turns: one thread did all, line by line. A bar changes its colour at the line that asked for "
              "that, and a manager carries it out when it comes to it.",
@@ -22,7 +28,8 @@ ORDER = {
 
 
 def element(tag, inner, **attributes):
-    said = "".join(f' {name.rstrip("_")}="{escape(str(value))}"' for name, value in attributes.items() if value != "")
+    said = "".join(f' {name.rstrip("_").replace("_", "-")}="{escape(str(value))}"'
+                   for name, value in attributes.items() if value != "")
     return f"<{tag}{said}>{inner}</{tag}>"
 
 
@@ -34,25 +41,36 @@ def linked(text):
 def drawn(mark):
     text = element("b", escape(mark.text)) if mark.text else ""
     slot = f"--slot:{mark.slot}" if mark.slot else ""
-    return element("i", text, class_=mark.kind, style=slot, title=mark.title)
+    return element("i", text, class_=mark.kind, style=slot, title=mark.title, aria_hidden="true")
+
+
+def read_out(marks):
+    """What a screen reader reads of a cell: of a bar where it begins or changes, and not on each row that it passes."""
+    said = [mark.title or READ.get(mark.kind, "") for mark in marks if not mark.kind.endswith(" whole")]
+    words = "; ".join(dict.fromkeys(filter(None, said)))
+    return element("span", escape(words), class_="read-out") if words else ""
 
 
 def lane_cells(lanes, cells):
     for place, marks in enumerate(cells):
-        yield element("td", "".join(map(drawn, marks)), class_=lanes.kind(place))
+        yield element("td", "".join(map(drawn, marks)) + read_out(marks), class_=lanes.kind(place))
 
 
 def table_row(row, lanes, cells):
     line = "" if row.line is None else row.line
     means = "<br>".join(map(linked, [row.means, *row.more]))
     kind = f"{row.tone}{' reopened' if row.name == 'reopened' else ''}{' end' if row.line is None else ''}"
+    # On a narrow screen the answer stands under its line, and not in columns of its own.
+    answer = [element("span", row.number, class_="number"), element("span", escape(row.name), class_="name"),
+              element("span", means, class_="means")]
+    under = element("div", " ".join(answer), class_="under") if row.name else ""
     inner = [
-        element("td", line and f'<a href="#line{line}">{line}</a>', class_="line"),
-        element("td", escape(row.text), class_="script"),
+        element("th", line and f'<a href="#line{line}">{line}</a>', class_="line", scope="row"),
+        element("td", escape(row.text) + under, class_="script"),
+        element("td", row.number, class_="answer number"),
+        element("td", escape(row.name), class_="answer name"),
+        element("td", means, class_="answer means"),
         *lane_cells(lanes, cells),
-        element("td", row.number, class_="number"),
-        element("td", escape(row.name), class_="name"),
-        element("td", means, class_="means"),
     ]
     return element("tr", "".join(inner), id=f"line{line}" if line else "", class_=kind)
 
@@ -60,20 +78,26 @@ def table_row(row, lanes, cells):
 def run_table(explanation):
     rows = explanation.in_order_of_lines()
     lanes = Lanes(explanation.story, rows, explanation.fates)
-    heads = [element("th", head, class_=lanes.kind(place), style=f"min-width:{lanes.width(place)}px")
+    heads = [element("th", head, class_=lanes.kind(place), scope="col", style=f"min-width:{lanes.width(place)}px")
              for place, head in enumerate(lanes.heads)]
-    head = "<th></th><th>script</th>" + "".join(heads) + "<th></th><th>answer</th><th></th>"
+    fixed = [element("th", head, class_=kind, scope="col") for head, kind in (
+        ("line", "line"), ("script", "script"), ("code", "answer number"), ("name", "answer name"),
+        ("meaning", "answer means"))]
+    head = "".join(fixed + heads)
     body = "\n".join(table_row(row, lanes, cells) for row, cells in zip(rows, lanes.cells))
-    return f'<table class="run">\n<thead><tr>{head}</tr></thead>\n<tbody>\n{body}\n</tbody>\n</table>'
+    caption = "<caption>Each line of the script, what it was answered, and what it did in each thread and manager</caption>"
+    table = f'<table class="run">\n{caption}\n<thead><tr>{head}</tr></thead>\n<tbody>\n{body}\n</tbody>\n</table>'
+    return element("div", table, class_="lanes", tabindex="0", role="region", aria_label="the run, line by line")
 
 
 def small_table(title, heads, rows):
     """A table with a title, nothing where it has no rows."""
     if not rows:
         return ""
-    head = element("tr", "".join(element("th", it) for it in heads))
-    body = "\n".join(element("tr", "".join(element("td", it) for it in row)) for row in rows)
-    return f"<h2>{title}</h2>\n<table>\n{head}\n{body}\n</table>"
+    head = element("tr", "".join(element("th", it, scope="col") for it in heads))
+    body = "\n".join(element("tr", element("th", row[0], scope="row") + "".join(element("td", it) for it in row[1:]))
+                     for row in rows)
+    return f'<table class="small">\n<caption>{title}</caption>\n{head}\n{body}\n</table>'
 
 
 def page(explanation, name):

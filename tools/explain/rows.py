@@ -2,7 +2,7 @@
 import dataclasses
 
 from reading import Step
-from tables import OK
+from tables import OK, READ_ONLY
 
 from .codes import ASKED, called, meaning, name
 from .commits import outcomes
@@ -121,9 +121,9 @@ class Explained:
         more += [self.flying(it) for it in told.left]
         name_of = commit.decision if commit.kind == "done" else commit.kind
         tone_of = "good" if name_of == "commit" else "bad" if commit.kind == "refused" else "other"
-        return Row(step.line, "", name=name_of, means=self.came_to(commit, desk), more=more, tone=tone_of)
+        return Row(step.line, "", name=name_of, means=self.came_to(step, commit, desk), more=more, tone=tone_of)
 
-    def came_to(self, commit, desk):
+    def came_to(self, step, commit, desk):
         """What a commit came to as a whole."""
         if commit.kind == "refused":
             return self.refused(commit, desk)
@@ -131,8 +131,22 @@ class Explained:
             return "the log can't tell of its record"
         if commit.decision is None:
             return f"nothing decided, {len(commit.shown)} of {len(commit.managers)} votes known"
-        record = "the log has its record" if commit.logged else "needs no record"
-        return record if commit.kind == "done" else f"after its decision: {commit.decision}, {record}"
+        why = self.why_aborted(step, commit) if commit.decision == "abort" else None
+        why = why or ("the log has its record" if commit.logged else "all only read: needs no record")
+        return why if commit.kind == "done" else f"after its decision: {commit.decision}, {why}"
+
+    def why_aborted(self, step, commit):
+        """Why a commit aborts: the branches that voted against, or that the log refused its record."""
+        votes = commit.votes() or self.story.votes.get(step.line, {})
+        against = [f"{named(commit.xid(m))} voted {called(code)}" for m, code in votes.items()
+                   if code not in (OK, READ_ONLY)]
+        if against:
+            return ", ".join(against)
+        refuses = step.thread in self.script.failing
+        if votes:
+            return "all voted for it, and the log refused its record"
+        whose = named(commit.xid(commit.managers[0])) if len(commit.managers) == 1 else "a branch"
+        return f"{whose} voted against{', or the log refused its record' if refuses else ''}"
 
     def flying(self, request):
         """A request that was in flight as a coordinator died."""

@@ -2,6 +2,7 @@
 the line that got it and what collected it."""
 import dataclasses
 
+from running import Run
 from tables import INVALID, SHUT
 
 from .commits import Commit, outcomes
@@ -75,6 +76,14 @@ class Hands:
             self.perhaps_shut.discard(manager)
 
 
+def votes_in_turns(script):
+    """The votes of each commit of a script that is run in turns, by its line and its managers."""
+    it = Run(script)
+    for step in script.steps:
+        it.carry_out(step)
+    return it.votes
+
+
 class Story:
     """A script and its transcript, side by side: `told` in the order of the transcript."""
 
@@ -84,6 +93,8 @@ class Story:
         self.hands = {thread: Hands() for thread in range(1, script.threads + 1)}
         # What was collected as the present opening ended.
         self.ended = []
+        # The votes of each commit by its line, where the order of lines tells them.
+        self.votes = {} if in_threads else votes_in_turns(script)
         for line in lines:
             self.take(line)
         self.want_all()

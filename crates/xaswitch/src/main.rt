@@ -1,6 +1,9 @@
 //! Runs a script of XA calls: `xaswitch turns` or `xaswitch threads`.
 #![tactic(auto)]
 
+mod help;
+
+use crate::help::{is_help, show_help};
 use std::alloc::AllocError;
 use std::env;
 use std::io::{self, ErrorKind, Read, Write};
@@ -39,6 +42,7 @@ fn main(rt: HostRuntime) -> ExitCode {
     let mut out = rt.stdout();
     let mut err = rt.stderr();
     let answer = match words(&rt) {
+        Ok(words) if is_help(&words) => Ok(show_help(&mut out, &mut err)),
         Ok(words) => status(&rt, &words, &mut reader, &mut out, &mut err),
         // A word that is no text names nothing, as no word does.
         Err(error) if error.kind() == ErrorKind::InvalidData => {
