@@ -85,7 +85,7 @@ def run_table(explanation):
         ("meaning", "answer means"))]
     head = "".join(fixed + heads)
     body = "\n".join(table_row(row, lanes, cells) for row, cells in zip(rows, lanes.cells))
-    caption = "<caption>Each line of the script, what it was answered, and what it did in each thread and manager</caption>"
+    caption = "<caption>Each line of the script, its answer, and what it did</caption>"
     table = f'<table class="run">\n{caption}\n<thead><tr>{head}</tr></thead>\n<tbody>\n{body}\n</tbody>\n</table>'
     return element("div", table, class_="lanes", tabindex="0", role="region", aria_label="the run, line by line")
 

@@ -1,4 +1,4 @@
-//! A commit, a crash, and a resolve by the file that it left.
+//! A commit, the death of its coordinator and of its log, and a resolve by the file that it left.
 ghost use Rattle.std.specs.List.{All};
 ghost use Rattle.std.specs.Prelude.{◌≡◌, ◌≢◌, ◌⊎◌, ◌≤◌, true, ℕ, None, List, [], ◌∷◌, length};
 ghost use Rattle.xa_base.specs.declared.limits.TheConstants.{MOST_MANAGERS};
@@ -37,7 +37,7 @@ pub fn files_have_one_log()
     a_file_has_one_table();
 }
 
-/// A crash in an append: all branches have voted, and the file that it left has the records from before, with the new
+/// A death in an append: all branches have voted, and the file that it left has the records from before, with the new
 /// one or without, and perhaps some that the log had forgotten, which are of other transactions. It is a commit that
 /// was cut short, whichever it is, and the log has of the transaction what the file has.
 pub fn crashed_appends_are_cuts()
@@ -53,9 +53,9 @@ pub fn crashed_appends_are_cuts()
     stages_are_cuts();
 }
 
-/// A commit that a crash cut short anywhere, and a resolve in the next opening by what is read of the file that the
-/// crash left: each branch that voted to commit ended committed where the log had the record, and rolled back where it
-/// hadn't, or it was decided heuristically; and its additions count so.
+/// A commit that was cut short anywhere, as its coordinator and its log died, and a resolve in the next opening by what
+/// is read of the file that they left: each branch that voted to commit ended committed where the log had the record,
+/// and rolled back where it hadn't, or it was decided heuristically; and its additions count so.
 ///
 /// Of the log it is asked only that the file is the one that was left, with the records that the log had and perhaps
 /// some that it had forgotten; and that, if a branch of the transaction was left, it still had its record, and hadn't
