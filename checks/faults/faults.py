@@ -7,6 +7,7 @@ read: the one that stands there has a fault.
 """
 import concurrent.futures
 import os
+import pathlib
 import subprocess
 import sys
 
@@ -14,6 +15,8 @@ sys.path.insert(0, os.path.dirname(os.path.dirname(os.path.abspath(__file__))))
 sys.dont_write_bytecode = True
 
 import transcript
+
+HELP = pathlib.Path(__file__).resolve().parent.parent.parent / "tools" / "xaswitch.help"
 
 
 def keys(count):
@@ -326,7 +329,7 @@ TAKEN_IN_TURNS = [
     "1 open 1\n" * 99_999 + "turn 1\n",
 ]
 
-WORDS = ["", "turns turns", "turns -h", "-- turns", "threads turns", "turn", "turnss", "TURNS", "help", "-h", "--help"]
+WORDS = ["", "turns turns", "turns -h", "-- turns", "threads turns", "turn", "turnss", "TURNS", "help", "-h", "--help turns"]
 WORDS = [it.split() for it in [*WORDS, "--turns", "-", "--"]] + [[""], ["turns "], ["turns", ""], [b"turns\xff"]]
 
 
@@ -355,6 +358,15 @@ def gives_usage(program, words):
     return False
 
 
+def helps(program):
+    """`--help` alone shows what ./xaswitch shows of it."""
+    came = runs(program, ["--help"], "fly")
+    if came == (0, HELP.read_bytes(), b""):
+        return True
+    print(f"faults: {came}, at --help")
+    return False
+
+
 def rows():
     """Each script with a mode and what is expected of it."""
     for mode, faulty, taken in [("turns", FAULTY_IN_TURNS, TAKEN_IN_TURNS), ("threads", FAULTY_IN_THREADS, [])]:
@@ -366,6 +378,7 @@ def main(program):
     with concurrent.futures.ProcessPoolExecutor(os.cpu_count()) as pool:
         waiting = [pool.submit(is_right, program, *row) for row in rows()]
         waiting += [pool.submit(gives_usage, program, words) for words in WORDS]
+        waiting.append(pool.submit(helps, program))
         failed = sum(not it.result() for it in waiting)
     faulty, taken = len(FAULTY + FAULTY_IN_TURNS + FAULTY_IN_THREADS), len(TAKEN + TAKEN_IN_TURNS)
     counts = f"{faulty} scripts with a fault and {taken} without, {len(WORDS)} wrong words"
