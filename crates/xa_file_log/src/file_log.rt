@@ -33,8 +33,12 @@ pub struct FileLog<D: Device> {
 }
 
 impl<D: Device> FileLog<D> {
-    // Shuts the gates of all forgotten records, so that their slots are free.
-    pub(crate) fn shut_forgotten(&mut self) -> bool
+    /// Shuts the gates of all forgotten records on the disk, and syncs where there are any. Whether it is done: if not,
+    /// the device has failed, the log takes no more records, and the same ones are forgotten as before.
+    ///
+    /// Forgetting is of the memory alone, so the next opening finds forgotten records again. Who ends cleanly calls
+    /// this last, so that it finds none. It may be asked of a log whose `condition` is `Ready`.
+    pub fn shut_forgotten(&mut self) -> bool
         requires { self.old.condition ≡ Ready }
         ensures shut { result ≡ true → (self.new.condition ≡ Ready)
             × (self.new.table.slots.items ≡ map shut self.old.table.slots.items) }
@@ -184,6 +188,13 @@ impl<D: Device> FileLog<D> {
         ensures { (c : List ℕ) → D.may_leave self.now.device c → HasRecordsAndPerhaps
             (records_in self.now.table.slots.items) (forgotten_in self.now.table.slots.items) c }
     {}
+
+    /// What may be asked of the log: whether it takes records, and whether it knows those that it has.
+    pub fn condition(&self) -> Condition
+        ensures { result ≡ self.now.condition }
+    {
+        self.condition
+    }
 
     /// How many slots there are, each for one record.
     pub fn slots(&self) -> usize
