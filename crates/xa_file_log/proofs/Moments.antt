@@ -1,6 +1,6 @@
 -- What a crash leaves at each moment: of the calls of a device, of writes, and while a log is made.
 use Rattle.xa_base.proofs.{inl, inr, ℕ, List, arith, ◌≡◌, ◌+◌, ◌-◌, ◌≤◌, ◌++◌, length, take, drop, refl, ◌∙◌, ap, append_assoc, length-append, length-drop}
-use Rattle.xa_base.proofs.{take-append-drop, rules, Bool, [], ◌∷◌, Vec, take_all, cases_lt, drop_at, drop-drop, take-append-le, take-take, drop-append-le}
+use Rattle.xa_base.proofs.{take-append-drop, rules, Bool, true, [], ◌∷◌, Vec, take_all, cases_lt, drop_at, drop-drop, take-append-le, take-take, drop-append-le}
 use Rattle.xa_base.proofs.{drop-take, ◌≢◌, zero, suc, ◌*◌, ◌<◌, None, Some, get_or, replicate, sym, append-nil, drop_all, length-replicate, get_or-replicate}
 use Rattle.xa_base.proofs.{take-replicate, drop-replicate, take_at}
 use Rattle.std.proofs.lemmas.List.{length-take-le}
@@ -207,3 +207,9 @@ pub head_put : {D : Type 0} {moment : D → ℕ} {left_since : D → ℕ → Lis
 head_put {n = n} {later = later} so_far few is all time seen last =
     joined (goes_on so_far time (λ c left. inl (rw (all c left) (wrong_first 0 later (omega arith)))))
     (weaker (λ c torn. after_last n later c few is (rw seen at torn)) last)
+
+-- a write that succeeded didn't fail
+pub failed_writing : (at : ℕ) (bytes : List ℕ) → failed (writing at bytes true) ≡ 0
+failed_writing at [] = refl
+failed_writing at (b ∷ []) = refl
+failed_writing at (a ∷ b ∷ bytes) = refl

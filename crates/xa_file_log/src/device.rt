@@ -67,12 +67,14 @@ pub trait Device {
             (may_leave self.new) }
         ensures cause { HasCause (faults self.old) (faults self.new) result };
 
-    /// After it, a crash leaves what a read returns. A real file can't promise that once a sync has failed: the kernel
-    /// may have dropped what was written, so every later one has to fail.
+    /// After it, a crash leaves what a read returns. A real file can't promise that once a write or a sync has failed:
+    /// the kernel may have dropped what was written. So after an `Err` of `write_at` or `sync` no later sync is `Ok`:
+    /// only a new handle, which reads from the disk, tells what is there.
     fn sync(&mut self) -> Result<(), DeviceFault>
         ensures durable { OnOk result (Only (seen self.old) (may_leave self.new)) }
         ensures seen { seen self.new ≡ seen self.old }
         ensures crash { OnErr result ((c : List ℕ) → may_leave self.new c → may_leave self.old c) }
+        ensures usable { OnOk result (faults self.old ≡ 0) }
         ensures time { Elapses (moment self.old) (moment self.new) (left_since self.old) (left_since self.new)
             (may_leave self.new) }
         ensures cause { HasCause (faults self.old) (faults self.new) result };

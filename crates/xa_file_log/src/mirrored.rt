@@ -2,6 +2,7 @@
 ghost use Rattle.std.specs.Prelude.{◌≡◌, ◌≤◌, true, length, IfOk, OnOk};
 ghost use Rattle.xa_file_log.specs.Device.{Only, overwritten};
 ghost use Rattle.xa_file_log.specs.DeviceHistories.{leaves, writing, LeftSince, failures};
+ghost use Rattle.std.proofs.Props.{props};
 ghost use Rattle.xa_file_log.specs.HistoryLaws.{now_is_since, only_the_last};
 
 use crate::device::{Device, DeviceFault, ReadFault};
@@ -38,10 +39,11 @@ pub enum Call {
 pub struct Mirrored<F: Backing> {
     file: F,
     bytes: Vec<u8>,
-    // No sync has failed. After one has, what was written may be lost with no further error.
+    // No write or sync has failed. After one has, what was written may be lost with no further error.
     is_usable: bool,
     // Each call with the bytes after it: only proofs read it.
     past: Log<Call, Vec<u8>>,
+    ghost usable: { is_usable ≡ true → failures past.items ≡ 0 } by { Prim.hlevel props },
 }
 
 // Puts the bytes in the place of those that are there, and past the end.
@@ -76,13 +78,16 @@ fn write_both<F: Backing>(
     bytes: &[u8],
 ) -> bool
     requires { at ≤ length copy.old.items }
-    ensures { result ≡ true → copy.new.items ≡ overwritten copy.old.items at bytes.now }
+    ensures written { result ≡ true → copy.new.items ≡ overwritten copy.old.items at bytes.now }
+    ensures usable { result ≡ true → is_usable ≡ true }
 {
     is_usable && overwrite(copy, at, bytes).is_ok() && file.write_all_at(at, bytes).is_ok()
 }
 
 // Whether all that was written is on the disk.
-fn sync_file<F: Backing>(file: &mut F, is_usable: bool) -> bool {
+fn sync_file<F: Backing>(file: &mut F, is_usable: bool) -> bool
+    ensures { result ≡ true → is_usable ≡ true }
+{
     is_usable && file.sync_all().is_ok()
 }
 
@@ -144,6 +149,7 @@ impl<F: Backing> Device for Mirrored<F> {
 
     fn write_at(&mut self, at: usize, bytes: &[u8]) -> Result<(), DeviceFault> {
         let ok = write_both(&mut self.file, &mut self.bytes, self.is_usable, at, bytes);
+        self.is_usable = ok;
         self.past = self.past.and(&call_of(at, bytes, ok), &self.bytes);
         if ok { Ok(()) } else { Err(DeviceFault) }
     }

@@ -18,4 +18,6 @@ mod making;
 #[cfg(test)]
 mod memory;
 #[cfg(test)]
+mod reopened;
+#[cfg(test)]
 mod tape;

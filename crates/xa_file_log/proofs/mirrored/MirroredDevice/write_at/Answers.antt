@@ -1,6 +1,7 @@
-use Rattle.xa_base.proofs.{[], ◌∷◌, ◌++◌, ◌∙◌, ap, arith}
+use Rattle.xa_base.proofs.{[], ◌∷◌, ◌++◌, ◌≡◌, ◌+◌, Bool, true, ◌∙◌, ap, arith}
+use Rattle.xa_file_log.specs.DeviceHistories.{failures, failed, writing}
 use Rattle.xa_file_log.specs.{Call}
-use Rattle.xa_file_log.proofs.Moments.{leaves_to, elapses_to, failures_to, writing_follows}
+use Rattle.xa_file_log.proofs.Moments.{leaves_to, elapses_to, failures_to, writing_follows, failed_writing}
 use Rattle.xa_file_log.proofs.mirrored.MirroredDevice.write_at.Goals as goal
 
 pub returns-then-ok-clause-crash : goal.returns-then-ok-clause-crash
@@ -26,3 +27,17 @@ returns-else-ok-clause-time g c = elapses_to c.args.self.now.past.items c.and-se
 
 pub returns-else-ok-clause-cause : goal.returns-else-ok-clause-cause
 returns-else-ok-clause-cause g c = grind (arith, failures_to)
+
+pub invariant_of-self : goal.invariant_of-self
+invariant_of-self g c =
+    let past = c.args.self.now.past.items in
+    record {
+      usable = λ ok.
+          let before : failures past ≡ 0 = c.args.self.now.usable (c.write_both-ok.ensures.usable ok) in
+          let made : failures c.and-self.result.items ≡ failed c.call_of.result + failures past =
+              failures_to past c.and-self.result.items c.call_of.result c.write_both-ok.new.copy c.and-self.ensures in
+          let none : failed c.call_of.result ≡ 0 =
+              ap failed c.call_of.ensures ∙ ap (λ (b : Bool). failed (writing c.args.at c.args.bytes.now b)) ok
+              ∙ failed_writing c.args.at c.args.bytes.now in
+          omega (arith, made, none, before);
+    }
