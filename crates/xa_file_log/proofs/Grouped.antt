@@ -1,5 +1,5 @@
 -- Several records in the free slots of a file, one after another.
-use Rattle.xa_base.proofs.{take_all, rules, ◌≡◌, ◌≢◌, ◌⊎◌, inl, inr, ⊎_elim, ℕ, zero, suc, ◌+◌, ◌-◌, ◌*◌, ◌<◌, ◌≤◌, List, [], ◌∷◌, ◌++◌, length, get_or, map}
+use Rattle.xa_base.proofs.{take_all, rules, ◌≡◌, ◌≢◌, ◌⊎◌, inl, inr, ⊎_elim, ℕ, zero, suc, ◌+◌, ◌*◌, ◌<◌, ◌≤◌, List, [], ◌∷◌, ◌++◌, length, get_or, map}
 use Rattle.xa_base.proofs.{take, drop, refl, sym, ◌∙◌, ap, subst, arith, All, Contains, cases_lt, length-map, Bool, None, Some, set, length-set}
 use Rattle.xa_base.proofs.{get_or-set_same, get_or_default, got, All-contains, Option, get_or_past, drop_more, sum_by-cons, get_or_from_slice_get}
 use Rattle.std.proofs.lemmas.List.{length-take}

@@ -3,3 +3,4 @@ pub mod Tables
 pub mod Places
 pub mod Stands
 pub mod Grouped
+pub mod Noted

@@ -50,3 +50,17 @@ failed (Synced false) = 1
 abbrev pub failures : Past → ℕ
 failures [] = 0
 failures (e ∷ past) = failed e.0 + failures past
+
+-- the bytes at the last sync that succeeded
+abbrev pub synced_after : List ℕ → Call → List ℕ → List ℕ
+synced_after before (Wrote at n ok) bytes = before
+synced_after before (WroteByte at b ok) bytes = before
+synced_after before (Synced true) bytes = bytes
+synced_after before (Synced false) bytes = before
+
+abbrev pub synced_from : List ℕ → Past → List ℕ
+synced_from before [] = before
+synced_from before (e ∷ past) = synced_from (synced_after before e.0 e.1.items) past
+
+abbrev pub last_synced : Past → List ℕ
+last_synced past = synced_from [] past

@@ -59,6 +59,20 @@ pub record HasRecords (records : Records) (file : List ℕ) : Type 0 where
 abbrev pub HasEither : Records → Records → List ℕ → Type 0
 HasEither before after file = HasRecords before file ⊎ HasRecords after file
 
+-- The file begins as one of so many slots: its size and its head are those.
+pub record IsHeaded (slots : ℕ) (file : List ℕ) : Type 0 where
+  pub few : slots ≤ 65536
+  pub size : length file ≡ 18 + 94 * slots
+  pub header : take 18 file ≡ head slots
+
+-- it is empty, or begins as a log
+abbrev pub MayBeLog : List ℕ → Type 0
+MayBeLog file = (file ≡ []) ⊎ ((slots : ℕ) × IsHeaded slots file)
+
+-- no log has this size
+abbrev pub IsNoLogSize : ℕ → Type 0
+IsNoLogSize size = (slots : ℕ) → slots ≤ 65536 → size ≡ 18 + 94 * slots → ⊥
+
 -- what a read returns stands for the table, and a crash leaves it
 pub record IsDurable {D : Type 0} (seen : D → List ℕ) (may_leave : D → List ℕ → Type 0) (table : Table)
     (device : D) : Type 0 where

@@ -16,3 +16,6 @@ pub(crate) const OPEN: u8 = 255;
 
 /// The most slots of a file.
 pub(crate) const MOST: usize = 65536;
+
+/// The most bytes of a file.
+pub(crate) const LARGEST: usize = HEAD + SLOT * MOST;

@@ -1,6 +1,6 @@
 //! Opening a file that a crash may have left.
 ghost use Rattle.std.specs.Prelude.{◌≡◌, ◌≢◌, ◌⊎◌, ◌+◌, ◌*◌, ◌<◌, ◌≤◌, length, Option};
-ghost use Rattle.std.specs.Prelude.{IfOk, IfErr, IfSome, None, Some, take};
+ghost use Rattle.std.specs.Prelude.{IfOk, IfErr, IfNone, IfSome, None, Some, take, true, false};
 ghost use Rattle.xa_log.specs.declared.log.CommitRecord.{CommitRecord};
 ghost use Rattle.xa_log.specs.Log.{Records};
 ghost use Rattle.xa_file_log.specs.declared.condition.Condition.TheVariants.{Ready};
@@ -8,11 +8,11 @@ ghost use Rattle.xa_file_log.specs.declared.opening.OpenFault.TheVariants.{Memor
 ghost use Rattle.xa_file_log.specs.Device.{Only, LeavesOnly};
 ghost use Rattle.xa_file_log.specs.RecordBytes.{head};
 ghost use Rattle.xa_file_log.specs.declared.slot.Slot.TheVariants.{Free};
-ghost use Rattle.xa_file_log.specs.Slots.{slot, IsSlotOf, StandsFor, HasRecords, IsNoLog};
+ghost use Rattle.xa_file_log.specs.Slots.{slot, IsHeaded, IsSlotOf, StandsFor, HasRecords, IsNoLog, MayBeLog};
 ghost use Rattle.xa_file_log.specs.Memory.{HasNoneForgotten, table_of, records_in};
 
 use crate::condition::Condition;
-use crate::device::{Device, ReadFault};
+use crate::device::{Device, DeviceFault, ReadFault};
 use crate::file_log::FileLog;
 use crate::layout::{HEAD, MOST, OPEN, SHUT, SLOT};
 use crate::slot_table::SlotTable;
@@ -49,12 +49,22 @@ impl<T: Drop> From<AllocFailed<T>> for OpenFault {
     }
 }
 
-fn fault_of(fault: ReadFault) -> OpenFault
-    ensures { (result ≡ Memory) ⊎ (result ≡ Failed) }
-{
-    match fault {
-        ReadFault::Memory => OpenFault::Memory,
-        ReadFault::Failed => OpenFault::Failed,
+impl From<ReadFault> for OpenFault {
+    ghost from_gives = { λ _ e. (e ≡ Memory) ⊎ (e ≡ Failed) };
+
+    fn from(fault: ReadFault) -> Self {
+        match fault {
+            ReadFault::Memory => OpenFault::Memory,
+            ReadFault::Failed => OpenFault::Failed,
+        }
+    }
+}
+
+impl From<DeviceFault> for OpenFault {
+    ghost from_gives = { λ _ e. e ≡ Failed };
+
+    fn from(_: DeviceFault) -> Self {
+        OpenFault::Failed
     }
 }
 
@@ -121,22 +131,44 @@ fn read_slots(alloc: Global, bytes: &[u8], count: usize) -> Result<SlotTable, Op
     Ok(table)
 }
 
+// How many slots a file has, where its size and its head are those of a log.
+fn count_of(bytes: &[u8]) -> Option<usize>
+    ensures headed { IfSome result (λ count. IsHeaded count bytes.now) }
+    ensures none { IfNone result (IsNoLog bytes.now) }
+{
+    if bytes.len() < HEAD {
+        return None;
+    }
+    let count = (bytes.len() - HEAD) / SLOT;
+    if count > MOST || bytes.len() != HEAD + SLOT * count {
+        return None;
+    }
+    let (front, _) = bytes.split_at(HEAD);
+    if front != head_of(count as u32).as_slice() {
+        return None;
+    }
+    Some(count)
+}
+
+/// Whether a file with these bytes is empty or begins as a log; another is none.
+pub(crate) fn may_be_log(bytes: &[u8]) -> bool
+    ensures so { result ≡ true → MayBeLog bytes.now }
+    ensures not { result ≡ false → IsNoLog bytes.now }
+{
+    match count_of(bytes) {
+        Some(_) => true,
+        None => bytes.is_empty(),
+    }
+}
+
 fn read_table(alloc: Global, bytes: &[u8]) -> Result<SlotTable, OpenFault>
     ensures stands { IfOk result (λ table. StandsFor (table_of table.slots.items) bytes.now) }
     ensures none_forgotten { IfOk result (λ table. HasNoneForgotten table.slots.items) }
     ensures refused { IfErr result (λ fault. fault ≢ Memory → IsNoLog bytes.now) }
 {
-    if bytes.len() < HEAD {
+    let Some(count) = count_of(bytes) else {
         return Err(OpenFault::NotALog);
-    }
-    let count = (bytes.len() - HEAD) / SLOT;
-    if count > MOST || bytes.len() != HEAD + SLOT * count {
-        return Err(OpenFault::NotALog);
-    }
-    let (front, _) = bytes.split_at(HEAD);
-    if front != head_of(count as u32).as_slice() {
-        return Err(OpenFault::NotALog);
-    }
+    };
     read_slots(alloc, bytes, count)
 }
 
@@ -166,7 +198,7 @@ pub fn open<D: Device>(alloc: Global, device: D) -> Result<FileLog<D>, (OpenFaul
     let mut device = device;
     let bytes = match device.read(alloc) {
         Ok(bytes) => bytes,
-        Err(fault) => return Err((fault_of(fault), device)),
+        Err(fault) => return Err((OpenFault::from(fault), device)),
     };
     match read_table(alloc, &bytes) {
         Ok(table) => Ok(FileLog {

@@ -1,6 +1,7 @@
 //! Files that are no logs, or damaged ones.
 
-use crate::memory::{SLOT, durable_of, empty, fault_of, opened, record, takes};
+use crate::memory::{SLOT, durable_of, empty, fault_of, open_tape, opened, record, takes};
+use crate::tape::Tape;
 use std::alloc::Global;
 use std::process::Abort;
 use xa_file_log::OpenFault;
@@ -51,6 +52,39 @@ fn other_bytes_are_no_log(rt: HostRuntime) {
     let fewer = bytes.get(..18 + SLOT).expect(&rt, "a slot");
     assert!(rt; is_no_log(&rt, alloc, fewer));
     no_gate_is_ajar(&rt, alloc);
+}
+
+// The file, which isn't opened since it is no log.
+fn refused(rt: &impl Abort, alloc: Global, bytes: &[u8]) -> Tape {
+    match open_tape(alloc, Tape::of(rt, alloc, bytes, 0)) {
+        Ok(_) => panic!(rt; "a log"),
+        Err((fault, tape)) => {
+            assert!(rt; fault == OpenFault::NotALog);
+            tape
+        }
+    }
+}
+
+#[test]
+fn a_file_of_another_size_is_not_touched(rt: HostRuntime) {
+    let alloc = rt.alloc();
+    let mut bytes = empty(&rt, alloc);
+    bytes.push(0).expect(&rt, "memory");
+    assert!(rt; !refused(&rt, alloc, &bytes).is_touched());
+    assert!(rt; !refused(&rt, alloc, &[0; 17]).is_touched());
+    // A head, and one slot more than the most.
+    bytes.resize(18 + SLOT * 65_537, 0).expect(&rt, "memory");
+    assert!(rt; !refused(&rt, alloc, &bytes).is_touched());
+}
+
+#[test]
+fn a_file_of_another_head_is_not_written(rt: HostRuntime) {
+    let alloc = rt.alloc();
+    for place in 0..18 {
+        let mut bytes = empty(&rt, alloc);
+        *bytes.get_mut(place).expect(&rt, "a byte") ^= 1;
+        assert!(rt; !refused(&rt, alloc, &bytes).is_written());
+    }
 }
 
 #[test]

@@ -20,4 +20,6 @@ mod memory;
 #[cfg(test)]
 mod reopened;
 #[cfg(test)]
+mod rewriting;
+#[cfg(test)]
 mod tape;

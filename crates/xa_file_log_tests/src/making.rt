@@ -4,7 +4,7 @@ use crate::memory::{SLOTS, create_over, empty, fault_of, file_of};
 use crate::tape::Tape;
 use std::alloc::Global;
 use std::process::Abort;
-use xa_file_log::{CreateFault, OpenFault};
+use xa_file_log::{CreateFault, Mirrored, OpenFault};
 
 // The file of a log whose making fails at the k-th call; the ninth would be one more than there are.
 fn made(rt: &impl Abort, alloc: Global, k: u32) -> Tape {
@@ -39,10 +39,22 @@ fn a_failed_create_leaves_no_log_or_an_empty_one(rt: HostRuntime) {
 }
 
 #[test]
-fn no_log_is_made_over_bytes(rt: HostRuntime) {
-    let Err((fault, tape)) = create_over(&rt, rt.alloc(), b"other", 0, SLOTS) else {
+fn no_log_is_made_over_another(rt: HostRuntime) {
+    let alloc = rt.alloc();
+    let bytes = empty(&rt, alloc);
+    let Err((fault, tape)) = create_over(&rt, alloc, &bytes, 0, SLOTS) else {
         panic!(rt; "made");
     };
     assert!(rt; fault == CreateFault::NotEmpty);
-    assert!(rt; tape.now.as_slice() == b"other".as_slice());
+    assert!(rt; tape.now.as_slice() == bytes.as_slice());
+}
+
+#[test]
+fn no_log_is_made_over_bytes(rt: HostRuntime) {
+    let alloc = rt.alloc();
+    let Err((fault, tape)) = Mirrored::new(alloc, Tape::of(&rt, alloc, b"other", 0)) else {
+        panic!(rt; "a device");
+    };
+    assert!(rt; fault == OpenFault::NotALog);
+    assert!(rt; !tape.is_touched());
 }

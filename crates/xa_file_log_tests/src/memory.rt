@@ -48,20 +48,18 @@ pub(crate) fn numbered(rt: &impl Abort, number: u32) -> CommitRecord {
 
 // ---- logs
 
-// A log over these bytes, whose k-th call fails, or why it isn't opened.
-fn open_over(rt: &impl Abort, alloc: Global, bytes: &[u8], fails: u32) -> Result<Log, OpenFault> {
-    let Ok(device) = Mirrored::new(alloc, Tape::of(rt, alloc, bytes, fails)) else {
-        panic!(rt; "no device");
-    };
+/// A log over the file, or why it isn't opened, and the file.
+pub(crate) fn open_tape(alloc: Global, tape: Tape) -> Result<Log, (OpenFault, Tape)> {
+    let device = Mirrored::new(alloc, tape)?;
     match open(alloc, device) {
         Ok(log) => Ok(log),
-        Err((fault, _)) => Err(fault),
+        Err((fault, device)) => Err((fault, device.into_file())),
     }
 }
 
 /// A log over these bytes, whose k-th call fails. The first two calls are those of the opening.
 pub(crate) fn opened(rt: &impl Abort, alloc: Global, bytes: &[u8], fails: u32) -> Log {
-    match open_over(rt, alloc, bytes, fails) {
+    match open_tape(alloc, Tape::of(rt, alloc, bytes, fails)) {
         Ok(log) => log,
         Err(_) => panic!(rt; "no log"),
     }
@@ -69,9 +67,9 @@ pub(crate) fn opened(rt: &impl Abort, alloc: Global, bytes: &[u8], fails: u32) -
 
 /// Why these bytes aren't opened.
 pub(crate) fn fault_of(rt: &impl Abort, alloc: Global, bytes: &[u8]) -> Option<OpenFault> {
-    match open_over(rt, alloc, bytes, 0) {
+    match open_tape(alloc, Tape::of(rt, alloc, bytes, 0)) {
         Ok(_) => None,
-        Err(fault) => Some(fault),
+        Err((fault, _)) => Some(fault),
     }
 }
 

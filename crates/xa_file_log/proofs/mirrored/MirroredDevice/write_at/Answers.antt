@@ -1,7 +1,8 @@
-use Rattle.xa_base.proofs.{[], ◌∷◌, ◌++◌, ◌≡◌, ◌+◌, Bool, true, ◌∙◌, ap, arith}
-use Rattle.xa_file_log.specs.DeviceHistories.{failures, failed, writing}
+use Rattle.xa_base.proofs.{[], ◌∷◌, ◌++◌, ◌≡◌, ◌+◌, Bool, ◌∙◌, ap, sym, arith}
+use Rattle.xa_file_log.specs.{failures, failed, last_synced, synced_after, writing}
 use Rattle.xa_file_log.specs.{Call}
 use Rattle.xa_file_log.proofs.Moments.{leaves_to, elapses_to, failures_to, writing_follows, failed_writing}
+use Rattle.xa_file_log.proofs.Noted.{synced_to, synced_writing}
 use Rattle.xa_file_log.proofs.mirrored.MirroredDevice.write_at.Goals as goal
 
 pub returns-then-ok-clause-crash : goal.returns-then-ok-clause-crash
@@ -32,12 +33,19 @@ pub invariant_of-self : goal.invariant_of-self
 invariant_of-self g c =
     let past = c.args.self.now.past.items in
     record {
+      given = c.write_both-ok.ensures.given;
+      kept = λ ok.
+          let same : last_synced c.and-self.result.items ≡ last_synced past =
+          synced_to past c.and-self.result.items c.call_of.result c.write_both-ok.new.copy c.and-self.ensures
+          ∙ ap (λ (e : Call). synced_after (last_synced past) e c.write_both-ok.new.copy.items) c.call_of.ensures
+          ∙ synced_writing c.args.at c.args.bytes.now c.write_both-ok.result (last_synced past) c.write_both-ok.new.copy.items in
+          c.write_both-ok.ensures.kept ok ∙ c.args.self.now.kept (c.write_both-ok.ensures.usable ok) ∙ sym same;
       usable = λ ok.
           let before : failures past ≡ 0 = c.args.self.now.usable (c.write_both-ok.ensures.usable ok) in
           let made : failures c.and-self.result.items ≡ failed c.call_of.result + failures past =
-              failures_to past c.and-self.result.items c.call_of.result c.write_both-ok.new.copy c.and-self.ensures in
+          failures_to past c.and-self.result.items c.call_of.result c.write_both-ok.new.copy c.and-self.ensures in
           let none : failed c.call_of.result ≡ 0 =
-              ap failed c.call_of.ensures ∙ ap (λ (b : Bool). failed (writing c.args.at c.args.bytes.now b)) ok
-              ∙ failed_writing c.args.at c.args.bytes.now in
+          ap failed c.call_of.ensures ∙ ap (λ (b : Bool). failed (writing c.args.at c.args.bytes.now b)) ok
+          ∙ failed_writing c.args.at c.args.bytes.now in
           omega (arith, made, none, before);
     }

@@ -1,0 +1,75 @@
+-- What the notes of a file say after one call more, and which bytes were synced last.
+use Rattle.xa_base.proofs.{ℕ, List, [], ◌∷◌, ◌++◌, ◌≡◌, ◌+◌, ◌≤◌, Bool, Vec, length, take, drop, refl, ap, ◌∙◌, sym, append_assoc, take_at, drop_at}
+use Rattle.std.specs.declared.alloc.Global.{Global}
+use Rattle.std.proofs.lemmas.List.{length-take-le}
+use Rattle.http_server.specs.declared.log.Log.{Log}
+use Rattle.xa_file_log.specs.{Past, Call, FileCall, FileCalls, FileSyncs, found_after, found_by, found_from, given_after, given_by, given_from, kept_by, kept_from, FileSizes, told_by, told_from}
+use Rattle.xa_file_log.specs.{last_synced, overwritten, part, synced_after, synced_from, writing}
+
+-- NOTES
+found_push : (before : List ℕ) (calls : FileCalls) (call : FileCall) (bytes : Vec ℕ Global)
+    → found_from before (calls ++ (call, bytes) ∷ []) ≡ found_after (found_from before calls) call bytes.items
+found_push before [] call bytes = refl
+found_push before (e ∷ calls) call bytes = found_push (found_after before e.0 e.1.items) calls call bytes
+
+pub found_to : (calls later : FileCalls) (call : FileCall) (bytes : Vec ℕ Global) → later ≡ calls ++ (call, bytes) ∷ []
+    → found_by later ≡ found_after (found_by calls) call bytes.items
+found_to calls later call bytes is = ap found_by is ∙ found_push [] calls call bytes
+
+given_push : (before : List ℕ) (calls : FileCalls) (call : FileCall) (bytes : Vec ℕ Global)
+    → given_from before (calls ++ (call, bytes) ∷ []) ≡ given_after (given_from before calls) call bytes.items
+given_push before [] call bytes = refl
+given_push before (e ∷ calls) call bytes = given_push (given_after before e.0 e.1.items) calls call bytes
+
+pub given_to : (calls later : FileCalls) (call : FileCall) (bytes : Vec ℕ Global) → later ≡ calls ++ (call, bytes) ∷ []
+    → given_by later ≡ given_after (given_by calls) call bytes.items
+given_to calls later call bytes is = ap given_by is ∙ given_push [] calls call bytes
+
+kept_push : (before : List ℕ) (syncs : FileSyncs) (u : Unit) (calls : Log FileCall (Vec ℕ Global))
+    → kept_from before (syncs ++ (u, calls) ∷ []) ≡ given_by calls.items
+kept_push before [] u calls = refl
+kept_push before (e ∷ syncs) u calls = kept_push (given_by e.1.items) syncs u calls
+
+pub kept_to : (syncs later : FileSyncs) (u : Unit) (calls : Log FileCall (Vec ℕ Global)) → later ≡ syncs ++ (u, calls) ∷ []
+    → kept_by later ≡ given_by calls.items
+kept_to syncs later u calls is = ap kept_by is ∙ kept_push [] syncs u calls
+
+told_push : (before : ℕ) (sizes : FileSizes) (u : Unit) (size : ℕ) → told_from before (sizes ++ (u, size) ∷ []) ≡ size
+told_push before [] u size = refl
+told_push before (e ∷ sizes) u size = told_push e.1 sizes u size
+
+pub told_to : (sizes later : FileSizes) (u : Unit) (size : ℕ) → later ≡ sizes ++ (u, size) ∷ [] → told_by later ≡ size
+told_to sizes later u size is = ap told_by is ∙ told_push 0 sizes u size
+
+-- SYNCS
+synced_push : (before : List ℕ) (past : Past) (call : Call) (bytes : Vec ℕ Global)
+    → synced_from before (past ++ (call, bytes) ∷ []) ≡ synced_after (synced_from before past) call bytes.items
+synced_push before [] call bytes = refl
+synced_push before (e ∷ past) call bytes = synced_push (synced_after before e.0 e.1.items) past call bytes
+
+pub synced_to : (past later : Past) (call : Call) (bytes : Vec ℕ Global) → later ≡ past ++ (call, bytes) ∷ []
+    → last_synced later ≡ synced_after (last_synced past) call bytes.items
+synced_to past later call bytes is = ap last_synced is ∙ synced_push [] past call bytes
+
+-- a write syncs nothing
+pub synced_writing : (at : ℕ) (bytes : List ℕ) (ok : Bool) (before after : List ℕ) → synced_after before (writing at bytes ok) after ≡ before
+synced_writing at [] ok before after = refl
+synced_writing at (b ∷ []) ok before after = refl
+synced_writing at (a ∷ b ∷ bytes) ok before after = refl
+
+-- PARTS
+-- the part of a copy that was written over is what was written
+pub part_written : (f : List ℕ) (at : ℕ) (bytes : List ℕ) → at ≤ length f → part at (length bytes) (overwritten f at bytes) ≡ bytes
+part_written f at bytes le =
+    let rest = drop (at + length bytes) f in
+    ap (λ (l : List ℕ). take (length bytes) (drop at l)) (append_assoc (take at f) bytes rest)
+    ∙ ap (λ (l : List ℕ). take (length bytes) l) (drop_at (take at f) (bytes ++ rest) at (length-take-le at f le))
+    ∙ take_at bytes rest (length bytes) refl
+
+-- so a file that is given this part has the copy's bytes
+pub part_given : (was now f copy : List ℕ) (at : ℕ) (bytes : List ℕ) → at ≤ length f → was ≡ f → copy ≡ overwritten f at bytes
+    → now ≡ overwritten was at (part at (length bytes) copy) → now ≡ copy
+part_given was now f copy at bytes le same written given =
+    given ∙ ap (λ (l : List ℕ). overwritten l at (part at (length bytes) copy)) same
+    ∙ ap (λ (l : List ℕ). overwritten f at (part at (length bytes) l)) written
+    ∙ ap (λ (l : List ℕ). overwritten f at l) (part_written f at bytes le) ∙ sym written
