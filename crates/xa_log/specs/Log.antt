@@ -87,10 +87,10 @@ pub record LogView : Type 0 where
   pub failing : ℕ
   pub room : ℕ
 
--- the room that a map with these entries has by its spare places; of a map without entries none is known
-abbrev pub room_in : {E : Type 0} → List E → ℕ → ℕ
-room_in [] spare = 0
-room_in (e ∷ es) spare = spare
+-- the room that a map has by its spare places; of one that was never reserved none is known
+abbrev pub room_in : Bool → ℕ → ℕ
+room_in true spare = spare
+room_in false spare = 0
 
 -- What an append to a log in memory does, and whether that takes the record. The append that is to fail does, and
 -- nothing else changes; another one fails only where the log has no room.
@@ -102,12 +102,11 @@ pub record AppendsTo (tran : TranName) (yes : List Bool) (taken : Bool) (old new
   pub fits : 0 < old.room → counted old.appends ≢ old.failing → taken ≡ true
   pub room : taken ≡ true → old.room ≤ new.room + 1
 
--- What forgetting does to a log in memory beside its records: while it has one there is room for as many more as
--- before.
+-- What forgetting does to a log in memory beside its records: there is room for as many more as before.
 pub record ForgetsFrom (old new : LogView) : Type 0 where
   pub appends : new.appends ≡ old.appends
   pub failing : new.failing ≡ old.failing
-  pub room : (old.room ≤ new.room) ⊎ (new.state.records ≡ map.empty)
+  pub room : old.room ≤ new.room
 
 -- a log in memory as data
 abbrev pub log_code : Coded LogView

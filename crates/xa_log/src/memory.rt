@@ -1,10 +1,10 @@
 //! A decision log in memory.
-ghost use Rattle.std.specs.Prelude.{◌≡◌, ◌+◌, ◌<◌, ◌≤◌, OnOk, IsErr, IsErrOf, true, false, refl};
+ghost use Rattle.std.specs.Prelude.{◌≡◌, ◌+◌, ◌<◌, ◌≤◌, IfOk, OnOk, IsErr, IsErrOf, true, false, refl};
 ghost use Rattle.xa_log.specs.declared.log.LogFault.TheVariants.{Refused, Unknown};
 ghost use Rattle.xa_log.specs.Log.{no_records, with_record, with_failure, counted, AppendsTo, ForgetsFrom, IsEither};
 
 use crate::log::{CommitRecord, DecisionLog, DecisionRecords, LogFault, ReopenLog};
-use std::alloc::Global;
+use std::alloc::{AllocError, Global};
 use std::collections::HashMap;
 use std::marker::Model;
 use xa_words::{ManagerSet, Tran};
@@ -13,6 +13,8 @@ use xa_words::{ManagerSet, Tran};
 #[derive(Drop)]
 pub struct MemoryLog {
     records: HashMap<Tran, ManagerSet>,
+    // Whether memory for records was taken: then there is room in the spare places.
+    is_reserved: bool,
     appends: u64,
     failing: u32,
     failures: u64,
@@ -31,7 +33,7 @@ impl Model for MemoryLog {
       state = record { records = from_entries l.records.entries; failures = l.failures };
       appends = l.appends;
       failing = l.failing;
-      room = room_in l.records.entries (spare l.records);
+      room = room_in l.is_reserved (spare l.records);
     } };
 }
 
@@ -42,6 +44,7 @@ impl MemoryLog {
     {
         MemoryLog {
             records: HashMap::new(alloc),
+            is_reserved: false,
             appends: 0,
             failing: 0,
             failures: 0,
@@ -54,10 +57,27 @@ impl MemoryLog {
     {
         MemoryLog {
             records: HashMap::new(alloc),
+            is_reserved: false,
             appends: 0,
             failing: k,
             failures: 0,
         }
+    }
+
+    /// A log with no record that has taken memory for so many: none of its first appends is refused.
+    pub fn with_room(alloc: Global, records: usize) -> Result<MemoryLog, AllocError>
+        ensures state { IfOk result (λ log. log.state ≡ no_records) }
+        ensures appends { IfOk result (λ log. log.appends ≡ 0) }
+        ensures failing { IfOk result (λ log. log.failing ≡ 0) }
+        ensures room { IfOk result (λ log. records ≤ log.room) }
+    {
+        Ok(MemoryLog {
+            records: HashMap::with_capacity(alloc, records)?,
+            is_reserved: true,
+            appends: 0,
+            failing: 0,
+            failures: 0,
+        })
     }
 
     fn count_failure(&mut self)
@@ -113,7 +133,11 @@ impl MemoryLog {
         ensures fits { 0 < self.old.room → result ≡ true }
         ensures room { result ≡ true → self.old.room ≤ self.new.room + 1 }
     {
-        self.records.insert(tran, yes).is_ok()
+        if self.records.insert(tran, yes).is_err() {
+            return false;
+        }
+        self.is_reserved = true;
+        true
     }
 }
 

@@ -16,5 +16,5 @@ pub returns-clause-forgets : goal.returns-clause-forgets
 returns-clause-forgets c = record {
   appends = ap (λ b. b.appends) c.self.view_is;
   failing = ap (λ b. b.failing) c.self.view_is;
-  room = room_stays c.self.inside.records.entries c.remove.new.self.entries _ _ _ c.remove.ensures.spare (ap (λ b. b.room) c.self.view_is);
+  room = room_stays c.self.inside.is_reserved _ _ _ c.remove.ensures.spare (ap (λ b. b.room) c.self.view_is);
 }

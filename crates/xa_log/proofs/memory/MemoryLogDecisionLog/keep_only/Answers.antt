@@ -19,5 +19,5 @@ pub returns-clause-forgets : goal.returns-clause-forgets
 returns-clause-forgets c = record {
   appends = ap (λ b. b.appends) c.self.view_is;
   failing = ap (λ b. b.failing) c.self.view_is;
-  room = room_stays c.self.inside.records.entries c.retain.new.self.entries _ _ _ c.retain.ensures.spare (ap (λ b. b.room) c.self.view_is);
+  room = room_stays c.self.inside.is_reserved _ _ _ c.retain.ensures.spare (ap (λ b. b.room) c.self.view_is);
 }
