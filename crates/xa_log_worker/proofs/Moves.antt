@@ -1,13 +1,15 @@
 -- What coordinators asked, how the records of a group are settled, and what is sent on the lanes of answers.
 use Rattle.xa_base.proofs.{arith, ◌≡◌, ℕ, ◌==◌, Bool, true, false, cond, List, [], ◌∷◌, ◌++◌, map, Some, None, Option, refl, sym, ap, ◌∙◌, append_assoc, ◌||◌}
+use Rattle.xa_base.proofs.{or-false, or-true, get_or-set_at, get_or-set_other, eq-eqb, eqb-true, false≢true}
+use Rattle.xa_base.specs.declared.limits.TheConstants.{MOST_SENDERS}
 use Rattle.xa_base.proofs.{append-nil, ◌+◌, ◌<◌, length, get_or, drop, map-append, length-map, ◌≢◌, zero, suc, set, or_parts, eqb_tells, drop-cons, add-one}
 use Rattle.std.proofs.Math.ListN.{get_or-map}
 use Rattle.xa_words.specs.{TranName, tran_eq}
-use Rattle.xa_lane.specs.{Parcel, of_sender, parcel, received, somes, Sending, sent_at, with_item, but_full}
+use Rattle.xa_lane.specs.{Parcel, has_ended, has_mark, of_sender, parcel, received, somes, Sending, sent_at, with_item, but_full}
 use Rattle.xa_lane.proofs.Parcels.{of_sender-append, sent_at-but_full}
 use Rattle.xa_log_worker.specs.{Ask, Append, Answer, Deed, Waiting, answer_each, asked_if, asked_by, asked_in, asked_of, waits_of, is_clash, Taken, Unknown}
 use Rattle.xa_log_worker.specs.{Answered, IsRefused, after, AreRight, AreUnknown, Does, Settles, answers_in, as_waiting, deeds_in, records_in, Works, Steps}
-use Rattle.xa_log_worker.specs.{SentBy, told_to}
+use Rattle.xa_log_worker.specs.{HasNoted, SentBy, told_to}
 use Rattle.xa_log_worker.specs.declared.ask.Deed.TheVariants.{Answers}
 use Rattle.xa_log.specs.{LogState, with_record, with_records, with_failure, AreNew, CommitRecord}
 use Rattle.xa_log_worker.proofs.Deeds.{answers-append, does-chain, new_below, does_nothing, does_forget, new_without}
@@ -59,6 +61,38 @@ received_item taken from ask k = search (arith, received-append)
 
 pub received_end : (taken : List (Parcel Ask)) (from k : ℕ) → received k (taken ++ parcel from None ∷ []) ≡ received k taken
 received_end taken from k = search (arith, received-append, append-nil)
+
+has_mark-append : (xs ys : List (Option Ask)) → has_mark (xs ++ ys) ≡ (has_mark xs || has_mark ys)
+has_mark-append [] ys = refl
+has_mark-append (Some x ∷ xs) ys = has_mark-append xs ys
+has_mark-append (None ∷ xs) ys = refl
+
+-- a parcel more
+ended_more : (taken : List (Parcel Ask)) (p : Parcel Ask) (k : ℕ) → has_ended k (taken ++ p ∷ []) ≡ (has_ended k taken || has_ended k (p ∷ []))
+ended_more taken p k = ap has_mark (of_sender-append k taken (p ∷ [])) ∙ has_mark-append (of_sender k taken) (of_sender k (p ∷ []))
+
+no_mark : (from : ℕ) (ask : Ask) (k : ℕ) → has_ended k (parcel from (Some ask) ∷ []) ≡ false
+no_mark from ask k = elim (from == k) as (λ b. has_mark {T = Ask} (cond b (Some ask ∷ []) []) ≡ false) [ true ↦ refl | false ↦ refl ]
+
+-- an item is no end mark
+pub noted_item : (ended : List Bool) (taken taken' : List (Parcel Ask)) (from : ℕ) (ask : Ask) → taken' ≡ taken ++ parcel from (Some ask) ∷ []
+    → HasNoted ended taken → HasNoted ended taken'
+noted_item ended taken taken' from ask is noted k below =
+    noted k below ∙ sym (ap (has_ended k) is ∙ ended_more taken (parcel from (Some ask)) k ∙ ap (λ b. has_ended k taken || b) (no_mark from ask k)
+    ∙ or-false (has_ended k taken))
+
+-- the end mark of a coordinator is noted for it, and for no other
+pub noted_end : (ended : List Bool) (taken taken' : List (Parcel Ask)) (from : ℕ) → taken' ≡ taken ++ parcel from None ∷ [] → length ended ≡ MOST_SENDERS
+    → HasNoted ended taken → HasNoted (set ended from true) taken'
+noted_end ended taken taken' from is size noted k below =
+    elim (from == k) as (λ b. (from == k) ≡ b → get_or (set ended from true) k false ≡ (has_ended k taken || has_mark {T = Ask} (cond b (None ∷ []) []))) [
+      | true ↦ λ e.
+          let same : k ≡ from = sym (eqb-true from k e) in
+          get_or-set_at ended from k true false same (omega (arith, same, size, below)) ∙ sym (or-true (has_ended k taken))
+      | false ↦ λ e.
+          get_or-set_other ended from k true false (λ same. false≢true (sym e ∙ eq-eqb from k (sym same))) ∙ noted k below ∙ sym (or-false (has_ended k taken))
+    ] refl
+    ∙ sym (ap (has_ended k) is ∙ ended_more taken (parcel from None) k)
 
 abbrev Items : Type 0
 Items = List (Deed × Unit {0})

@@ -1,9 +1,12 @@
 -- What a coordinator asks of the worker of its log, and what it is told.
-use Rattle.std.specs.Prelude.{◌≡◌, ◌⊎◌, ◌≤◌, ℕ, Bool, true, false, List, [], ◌∷◌, ◌++◌, map, Some, None}
+use Rattle.std.specs.Prelude.{◌≡◌, ◌⊎◌, ◌≤◌, ℕ, Bool, true, false, not, ◌&&◌, List, [], ◌∷◌, ◌++◌, map, Some, None}
+use Rattle.std.specs.Prelude.{is_some, is_none}
+use Rattle.std.specs.List.{filter}
+use Rattle.std.specs.Map.{keys_of}
 use Rattle.std.specs.FinMap.{from_entries}
 use Rattle.std.specs.HashMap.{HashMap, hash_map_len, spare}
 use Rattle.xa_words.specs.Tran.{TranName}
-use Rattle.xa_log.specs.Log.{LogState, Records}
+use Rattle.xa_log.specs.Log.{LogState, Records, is_among, record_in}
 use Rattle.xa_log.specs.declared.log.CommitRecord.{CommitRecord}
 use Rattle.xa_lane.specs.Ends.{Sending, Receiving, SameReceiver, parcel}
 use Rattle.xa_lane.specs.Senders.{with_item, but_full}
@@ -69,14 +72,24 @@ Appended r true full to to' from from' = AsksFor r Taken to to' from from'
 Appended r false full to to' from from' =
     AsksFor r Refused to to' from from' ⊎ (full × (to' ≡ to) × (from' ≡ from))
 
--- the coordinator asked that some be forgotten, and nothing else
-abbrev pub AsksToForgetAll : Asks → Asks → Type 0
-AsksToForgetAll to to' =
-    (trans : List TranName) × (but_full to' ≡ but_full (record to { sent = to.sent ++ map Forget trans }))
+-- the transactions of these entries that aren't among those
+abbrev pub others : {X : Type 0} → List TranName → List (TranName × X) → List TranName
+others trans entries = filter (λ t. not (is_among trans t)) (keys_of entries)
 
--- the same, and it took nothing
-abbrev pub Forgets : Asks → Asks → Answers → Answers → Type 0
-Forgets to to' from from' = AsksToForgetAll to to' × (from' ≡ from)
+-- the coordinator asked that these be forgotten, and nothing else
+abbrev pub AsksToForgetAll : List TranName → Asks → Asks → Type 0
+AsksToForgetAll trans to to' = but_full to' ≡ but_full (record to { sent = to.sent ++ map Forget trans })
+
+-- they are the transactions that had a record and have none any more
+abbrev pub AreDropped : Records → Records → List TranName → Type 0
+AreDropped old left trans =
+    (t : TranName) → is_among trans t ≡ (is_some (record_in old t) && is_none (record_in left t))
+
+-- The coordinator asked that just those of its records be forgotten which it has no more, each of them, and it took
+-- nothing.
+abbrev pub Forgets : Records → Records → Asks → Asks → Answers → Answers → Type 0
+Forgets old left to to' from from' =
+    ((trans : List TranName) × AreDropped old left trans × AsksToForgetAll trans to to') × (from' ≡ from)
 
 -- the coordinator asked that this one be forgotten, or asked nothing
 abbrev pub AsksToForget : Bool → TranName → Asks → Asks → Type 0

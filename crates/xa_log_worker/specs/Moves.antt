@@ -1,8 +1,9 @@
 -- What a worker's calls do: their deeds, and what they send.
-use Rattle.std.specs.Prelude.{◌≡◌, ℕ, ◌==◌, Bool, cond, List, [], ◌∷◌, ◌++◌}
+use Rattle.std.specs.Prelude.{◌≡◌, ℕ, ◌==◌, ◌<◌, Bool, false, cond, List, [], ◌∷◌, ◌++◌, get_or}
+use Rattle.xa_base.specs.declared.limits.TheConstants.{MOST_SENDERS}
 use Rattle.xa_log.specs.Log.{LogState}
 use Rattle.xa_lane.specs.declared.parcel.Parcel.{Parcel}
-use Rattle.xa_lane.specs.Ends.{Sending, received}
+use Rattle.xa_lane.specs.Ends.{Sending, has_ended, received}
 use Rattle.xa_lane.specs.Senders.{sent_at}
 use Rattle.xa_log_worker.specs.declared.ask.Answer.{Answer}
 use Rattle.xa_log_worker.specs.declared.ask.Answered.{Answered}
@@ -47,3 +48,7 @@ pub record Steps (old new : List (Deed × Unit {0})) (knew : Bool) (before : Log
   pub asked : (k : ℕ) → received k taken' ≡ received k taken ++ asked_in k deeds
   pub does : Does knew before deeds knows now
   pub sent : SentBy (answers_in deeds) lanes lanes'
+
+-- the coordinators that are noted as ended are those whose end marks were taken
+abbrev pub HasNoted : List Bool → List (Parcel Ask) → Type 0
+HasNoted ended taken = (k : ℕ) → k < MOST_SENDERS → get_or ended k false ≡ has_ended k taken

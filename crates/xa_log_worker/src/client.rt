@@ -4,7 +4,7 @@ ghost use Rattle.std.specs.FinMap.{insert};
 ghost use Rattle.xa_lane.specs.Senders.{but_full};
 ghost use Rattle.xa_log.specs.Log.{record_in, without_record};
 ghost use Rattle.xa_log_worker.specs.Asking.{Appended, AsksFor, IsAnswered, IsFull, Forgets};
-ghost use Rattle.xa_log_worker.specs.Asking.{AsksToForget, AsksToForgetAll, client_state, decision, records_of};
+ghost use Rattle.xa_log_worker.specs.Asking.{AsksToForget, AsksToForgetAll, client_state, decision, others, records_of};
 ghost use Rattle.xa_log_worker.specs.declared.ask.Answer.TheVariants.{Unknown};
 
 use crate::ask::{Answer, Ask};
@@ -84,7 +84,7 @@ fn forget_others<R: Wait>(
     records: &HashMap<Tran, ManagerSet>,
     trans: &[Tran],
 )
-    ensures { AsksToForgetAll asks.old asks.new }
+    ensures { AsksToForgetAll (others trans.now records.now.entries) asks.old asks.new }
 {
     for (tran, _yes) in records.iter() {
         if !trans.contains(tran) {
@@ -138,7 +138,8 @@ impl<R: Wait + Copy> DecisionLog for LogClient<R> {
 
     ghost loses = { λ tran yes old new. AsksFor (decision tran yes) Unknown old.asks new.asks old.answers new.answers };
 
-    ghost forgets = { λ old new. Forgets old.asks new.asks old.answers new.answers };
+    ghost forgets = { λ old new. Forgets (records_of old.records) (records_of new.records) old.asks new.asks
+        old.answers new.answers };
 
     ghost records_are = { λ l. refl };
 
@@ -166,7 +167,8 @@ impl<R: Wait + Copy> DecisionLog for LogClient<R> {
         ensures forgotten { client_state self.new.records self.new.failures
             ≡ without_record (client_state self.old.records self.old.failures) tran.now }
         ensures known { self.new.is_known ≡ true }
-        ensures forgets { Forgets self.old.asks self.new.asks self.old.answers self.new.answers }
+        ensures forgets { Forgets (records_of self.old.records) (records_of self.new.records) self.old.asks
+            self.new.asks self.old.answers self.new.answers }
 
         // The worker is asked where there is a record, and only then.
         ensures asked { AsksToForget (is_some (record_in (records_of self.old.records) tran.now)) tran.now self.old.asks

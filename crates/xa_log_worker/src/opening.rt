@@ -1,6 +1,7 @@
 //! How a worker and its coordinators are opened.
-ghost use Rattle.std.specs.Prelude.{◌≡◌, ◌≤◌, [], All, length, true, IfOk, IfErr, vec_len, vec_capacity};
+ghost use Rattle.std.specs.Prelude.{◌≡◌, ◌≤◌, [], All, map, length, true, IfOk, IfErr, vec_len, vec_capacity};
 ghost use Rattle.std.specs.HashMap.{spare};
+ghost use Rattle.xa_lane.specs.Ends.{new_senders};
 ghost use Rattle.xa_log.specs.Log.{no_records};
 ghost use Rattle.xa_log_worker.specs.Asking.{records_of};
 ghost use Rattle.xa_log_worker.specs.Deeds.{IsToldBy};
@@ -61,6 +62,7 @@ fn open_answers<R: Wait>(
 ) -> Result<(Sender<Answer>, Receiver<Answer>), LogWorkerFault>
     ensures sent { IfOk result (λ r. r.0.sent ≡ []) }
     ensures taken { IfOk result (λ r. r.1.taken ≡ []) }
+    ensures line { IfOk result (λ r. r.1.line ≡ r.0.line) }
 {
     let name = LaneName {
         opening: 0,
@@ -122,6 +124,9 @@ fn open_parts<R: Wait + Copy>(
     ensures count { IfOk result (λ r. length r.1.items ≡ coordinators) }
     ensures clients { IfOk result (λ r. All (λ c. (records_of c.records ≡ no_records.records) × (c.is_known ≡ true)
         × (c.room ≡ room) × (room ≤ spare c.records) × (c.answers.taken ≡ [])) r.1.items) }
+    ensures asks { IfOk result (λ r. map (λ c. c.asks) r.1.items
+        ≡ new_senders r.0.asks.lane r.0.asks.line r.0.asks.capacity coordinators) }
+    ensures answers { IfOk result (λ r. map (λ c. c.answers.line) r.1.items ≡ map (λ s. s.line) r.0.answers.items) }
     ensures empty { IfOk result (λ r. (vec_len r.0.waiting ≡ 0) × (vec_len r.0.group ≡ 0) × (vec_len r.0.done ≡ 0)
         × (vec_len r.0.ends ≡ 0)) }
     ensures room { IfOk result (λ r. (MOST_SENDERS ≤ vec_capacity r.0.waiting) × (MOST_SENDERS ≤ vec_capacity r.0.group)
@@ -169,6 +174,12 @@ pub fn open_log_worker<L: GroupLog, R: Wait + Copy>(
     ensures count { IfOk result (λ r. length r.1.items ≡ coordinators) }
     ensures clients { IfOk result (λ r. All (λ c. (records_of c.records ≡ no_records.records) × (c.is_known ≡ true)
         × (c.room ≡ room) × (room ≤ spare c.records) × (c.answers.taken ≡ [])) r.1.items) }
+
+    // The k-th coordinator is the k-th sender of the worker's lane, and is answered on the k-th lane of answers.
+    ensures asks { IfOk result (λ r. map (λ c. c.asks) r.1.items
+        ≡ new_senders r.0.asks.lane r.0.asks.line r.0.asks.capacity coordinators) }
+    ensures answers { IfOk result (λ r. map (λ c. c.answers.line) r.1.items
+        ≡ map (λ s. s.line) r.0.book.answers.items) }
     ensures back { IfErr result (λ e. e.1 ≡ log) }
 {
     let (parts, clients) = match open_parts(rt, alloc, coordinators, room) {

@@ -1,9 +1,10 @@
 //! The worker.
-ghost use Rattle.std.specs.Prelude.{◌≡◌, ◌≤◌, true, map, vec_len, vec_capacity};
+ghost use Rattle.std.specs.Prelude.{◌≡◌, ◌≤◌, ◌<◌, ℕ, true, false, map, get_or, vec_len, vec_capacity};
+ghost use Rattle.xa_lane.specs.Ends.{has_ended};
 ghost use Rattle.xa_lane.specs.Senders.{but_full};
 ghost use Rattle.xa_log.specs.Log.{AreNew};
 ghost use Rattle.xa_log_worker.specs.Deeds.{IsToldBy, records_in};
-ghost use Rattle.xa_log_worker.specs.Moves.{Works, Steps};
+ghost use Rattle.xa_log_worker.specs.Moves.{HasNoted, Works, Steps};
 ghost use Rattle.xa_base.specs.declared.limits.TheConstants.{MOST_SENDERS};
 
 use crate::ask::{Answer, Ask};
@@ -40,6 +41,7 @@ pub struct LogWorker<L: GroupLog> {
     // Reserved for the ends of the lanes of answers.
     pub(crate) ends: Vec<Ended<Answer>>,
     ghost closed: { vec_len book.waiting ≡ 0 },
+    ghost noted: { HasNoted ended asks.taken },
     ghost lanes: { asks.senders ≡ vec_len book.answers },
     ghost few: { vec_len book.answers ≤ MOST_SENDERS },
     ghost none: { vec_len ends ≡ 0 },
@@ -56,8 +58,10 @@ fn take_one<L: GroupLog, R: Wait>(
 ) -> bool
     requires lanes { asks.old.senders ≡ vec_len book.old.answers }
     requires few { vec_len book.old.answers ≤ MOST_SENDERS }
+    requires noted { HasNoted ended.old asks.old.taken }
     requires new { book.old.is_known ≡ true → AreNew (L.state book.old.log) (records_in book.old.waiting.items) }
     ensures new { book.new.is_known ≡ true → AreNew (L.state book.new.log) (records_in book.new.waiting.items) }
+    ensures noted { HasNoted ended.new asks.new.taken }
     ensures lanes { asks.new.senders ≡ asks.old.senders }
     ensures len { vec_len book.new.answers ≡ vec_len book.old.answers }
     ensures works { Works book.old.deeds.items book.new.deeds.items book.old.is_known (L.state book.old.log)
@@ -87,8 +91,10 @@ fn gather<L: GroupLog, R: Wait>(
 ) -> Step
     requires lanes { asks.old.senders ≡ vec_len book.old.answers }
     requires few { vec_len book.old.answers ≤ MOST_SENDERS }
+    requires noted { HasNoted ended.old asks.old.taken }
     requires new { book.old.is_known ≡ true → AreNew (L.state book.old.log) (records_in book.old.waiting.items) }
     ensures new { book.new.is_known ≡ true → AreNew (L.state book.new.log) (records_in book.new.waiting.items) }
+    ensures noted { HasNoted ended.new asks.new.taken }
     ensures lanes { asks.new.senders ≡ asks.old.senders }
     ensures len { vec_len book.new.answers ≡ vec_len book.old.answers }
     ensures works { Works book.old.deeds.items book.new.deeds.items book.old.is_known (L.state book.old.log)
@@ -115,13 +121,17 @@ impl<L: GroupLog> LogWorker<L> {
             (L.state self.old.book.log) self.new.book.is_known (L.state self.new.book.log)
             self.old.book.answers.items self.new.book.answers.items self.old.asks.taken self.new.asks.taken }
         ensures told { IsToldBy self.new.book.is_known (L.knows self.new.book.log) }
+        ensures lanes { self.new.asks.senders ≡ self.old.asks.senders }
     {
         let step = gather(rt, &mut self.book, &mut self.asks, &mut self.ended);
         self.book.close_group(rt);
         step
     }
 
-    fn is_finished(&self) -> bool {
+    // Whether each coordinator's end mark was taken.
+    fn is_finished(&self) -> bool
+        ensures { result ≡ true → (k : ℕ) → k < vec_len self.now.book.answers → get_or self.now.ended k false ≡ true }
+    {
         for place in 0..self.book.answers.len() {
             if !self.ended[place] {
                 return false;
@@ -153,6 +163,9 @@ impl<L: GroupLog> LogWorker<L> {
             result.is_known (L.state result.log) self.book.answers.items result.answers.items self.asks.taken
             result.asks.taken }
         ensures told { IsToldBy result.is_known (L.knows result.log) }
+
+        // It doesn't end before each coordinator has.
+        ensures ended { (k : ℕ) → k < self.asks.senders → has_ended k result.asks.taken ≡ true }
     {
         let mut worker = self;
         for _ in rt.forever() {

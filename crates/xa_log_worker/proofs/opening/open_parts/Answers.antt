@@ -1,4 +1,4 @@
-use Rattle.xa_base.proofs.{pushed_all, ◌≡◌, ◌≤◌, [], true, ap, arith, ◌∙◌, spare, common_steps}
+use Rattle.xa_base.proofs.{pushed_all, ◌≡◌, ◌≤◌, [], true, ap, arith, ◌∙◌, spare, common_steps, map-append}
 use Rattle.xa_log.specs.{no_records}
 use Rattle.xa_log_worker.specs.Asking.{Answers}
 use Rattle.xa_log_worker.specs.{records_of}
@@ -14,6 +14,8 @@ loop-sender-preserved g c = record {
   counted = grind (arith, common_steps);
   count = grind (arith, common_steps);
   clients = grind (arith, common_steps);
+  asks = grind (arith, common_steps, map-append, c.in_ok-new_client.ensures.lanes, c.loop-sender.invariant.asks);
+  lines = grind (arith, common_steps, map-append, c.in_ok-new_client.ensures.lanes, c.loop-sender.invariant.lines);
   all = c.loop-sender.invariant.all;
   sent = pushed_all (λ s. s.sent ≡ []) c.loop-sender.answers.items c.push.new.self.items c.in_ok-to.to c.in_ok-push.ensures.items
       c.loop-sender.invariant.sent c.in_ok-to.ensures.sent;

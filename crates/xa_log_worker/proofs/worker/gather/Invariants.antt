@@ -1,10 +1,11 @@
 use Rattle.xa_base.proofs.{◌≡◌, true, length}
 use Rattle.xa_log.specs.{AreNew}
-use Rattle.xa_log_worker.specs.{records_in, Works}
+use Rattle.xa_log_worker.specs.{HasNoted, records_in, Works}
 use Rattle.xa_log_worker.proofs.worker.gather.Given as goal
 
 abbrev pub invariant-loop : goal.invariant-loop
 invariant-loop g l = record {
+  noted : HasNoted l.ended l.asks.taken;
   lanes : l.asks.senders ≡ l.initial.asks.senders;
   len : length l.book.answers.items ≡ length l.initial.book.answers.items;
   new : l.book.is_known ≡ true → AreNew (g.L.DecisionLog.state l.book.log) (records_in l.book.waiting.items);
