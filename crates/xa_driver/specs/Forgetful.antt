@@ -1,5 +1,5 @@
 -- Which records of a log nobody will ask for any more.
-use Rattle.std.specs.Prelude.{Bool, true, false, if◌then◌else◌, List, [], ◌∷◌}
+use Rattle.std.specs.Prelude.{Bool, true, false, not, ◌&&◌, ◌==◌, if◌then◌else◌, List, [], ◌∷◌, length}
 use Rattle.std.specs.List.{list_all}
 use Rattle.xa_words.specs.Tran.{TranName, tran_of}
 use Rattle.xa_tables.specs.Histories.{is_done}
@@ -14,9 +14,13 @@ has_acknowledged Committed = true
 has_acknowledged ReadOnly = true
 has_acknowledged e = false
 
--- so for each branch
+-- There is an ending for each vote, and at least one. A commit that was cut short has no vote, or fewer endings.
+abbrev pub has_endings : Done → Bool
+has_endings done = not (length done.votes.items == 0) && (length done.endings.items == length done.votes.items)
+
+-- each branch ended so
 abbrev pub is_acknowledged : Done → Bool
-is_acknowledged done = list_all has_acknowledged done.endings.items
+is_acknowledged done = has_endings done && list_all has_acknowledged done.endings.items
 
 -- the transactions of the outcomes that weren't answered XA_OK
 abbrev pub unfinished : List Outcome → List TranName

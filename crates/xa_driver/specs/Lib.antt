@@ -16,7 +16,7 @@ pub mod Deaths
 -- The words of this crate, by its name.
 pub use Decision.{decides_commit, has_yes, is_no, is_read, is_yes, voted_yes, yes_of}
 pub use Endings.{ending_of, is_decided, is_heuristic, is_out_of_reach, no_ending, second_op, third_op, yes_ending}
-pub use Forgetful.{has_acknowledged, is_acknowledged, unfinished}
+pub use Forgetful.{has_acknowledged, has_endings, is_acknowledged, unfinished}
 pub use Course.{AsksFor, AtBranch, VotesAndObeys, VotesThen}
 pub use Asks.{AllCanAsk, AreRising, Ask, AskTrace, BeginsAsk, CanAsk, EachAsk, EachBegan, EndsAsk, HasBegun}
 pub use Asks.{HaveComeSoFar}

@@ -3,9 +3,10 @@
 //!
 //! A coordinator that never calls these keeps every record, as `commit_all` and `resolve` leave them.
 ghost use Rattle.std.specs.Prelude.{◌≡◌, ◌++◌, ◌+◌, ◌≤◌, true, false, IfOk, OnErr, OnOk, length, vec_capacity};
+ghost use Rattle.std.specs.List.{list_all};
 ghost use Rattle.xa_words.specs.Tran.{tran_of};
 ghost use Rattle.xa_log.specs.Log.{with_only, without_record};
-ghost use Rattle.xa_driver.specs.Forgetful.{has_acknowledged, is_acknowledged, unfinished};
+ghost use Rattle.xa_driver.specs.Forgetful.{has_acknowledged, has_endings, is_acknowledged, unfinished};
 
 use crate::done::{Done, Ending};
 use crate::resolved::{Outcome, Resolved};
@@ -20,17 +21,31 @@ fn has_acknowledged(ending: Ending) -> bool
 }
 
 impl Done {
-    /// Whether every branch was committed, or only read: no manager has anything of it, so nobody will ask for the
-    /// record.
-    pub fn is_acknowledged(&self) -> bool
-        ensures { result ≡ is_acknowledged self.now }
+    // Whether an ending is known for each vote, and there is one.
+    fn has_endings(&self) -> bool
+        ensures { result ≡ has_endings self.now }
+    {
+        !self.votes.is_empty() && self.endings.len() == self.votes.len()
+    }
+
+    // Whether each ending that is known is an acknowledgement.
+    fn have_acknowledged(&self) -> bool
+        ensures { result ≡ list_all has_acknowledged self.now.endings.items }
     {
         self.endings.iter().all(|ending| has_acknowledged(*ending))
     }
+
+    /// Whether every branch was committed, or only read: no manager has anything of it, so nobody will ask for the
+    /// record. It is false of a commit whose coordinator died before the endings were known.
+    pub fn is_acknowledged(&self) -> bool
+        ensures { result ≡ is_acknowledged self.now }
+    {
+        self.has_endings() && self.have_acknowledged()
+    }
 }
 
-/// Forgets the record of a commit that every branch has acknowledged. Where one is in doubt, was left or was decided
-/// heuristically, the record stays.
+/// Forgets the record of a commit that every branch has acknowledged. Where one is in doubt, was left, was decided
+/// heuristically or has no ending yet, the record stays.
 pub fn forget_acknowledged<L: DecisionLog>(log: &mut L, tran: &Tran, done: &Done)
     requires { L.knows log.old }
     ensures forgotten { is_acknowledged done.now ≡ true

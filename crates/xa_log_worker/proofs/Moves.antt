@@ -1,8 +1,8 @@
 -- What coordinators asked, how the records of a group are settled, and what is sent on the lanes of answers.
 use Rattle.xa_base.proofs.{arith, ◌≡◌, ℕ, ◌==◌, Bool, true, false, cond, List, [], ◌∷◌, ◌++◌, map, Some, None, Option, refl, sym, ap, ◌∙◌, append_assoc, ◌||◌}
-use Rattle.xa_base.proofs.{or-false, or-true, get_or-set_at, get_or-set_other, eq-eqb, eqb-true, false≢true}
+use Rattle.xa_base.proofs.{or-false, or-true, get_or-set_at, get_or-set_other, eq-eqb, eqb-true, false≢true, append-nil, ◌+◌, ◌<◌, length, get_or, drop}
+use Rattle.xa_base.proofs.{map-append, length-map, ◌≢◌, zero, suc, set, or_parts, eqb_tells, drop-cons, add-one}
 use Rattle.xa_base.specs.declared.limits.TheConstants.{MOST_SENDERS}
-use Rattle.xa_base.proofs.{append-nil, ◌+◌, ◌<◌, length, get_or, drop, map-append, length-map, ◌≢◌, zero, suc, set, or_parts, eqb_tells, drop-cons, add-one}
 use Rattle.std.proofs.Math.ListN.{get_or-map}
 use Rattle.xa_words.specs.{TranName, tran_eq}
 use Rattle.xa_lane.specs.{Parcel, has_ended, has_mark, of_sender, parcel, received, somes, Sending, sent_at, with_item, but_full}

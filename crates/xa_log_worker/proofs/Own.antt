@@ -1,6 +1,7 @@
 -- The records that a coordinator keeps, and the senders of a new lane.
-use Rattle.xa_base.proofs.{◌≡◌, cond, List, [], ◌∷◌, ◌++◌, map, Bool, true, false, not, ◌&&◌, ◌||◌, Option, None, Some, refl, sym, ap, ◌∙◌, append_assoc, append-nil, map-append, get-insert, get-remove, is_equal, ℕ}
-use Rattle.xa_base.proofs.{is_some, is_none, filter, list_any, keys_of, get-retain_keys, zero, suc, length, arith, length-append, from_entries, get-lookup, one_removed, insert, same_map, lookup}
+use Rattle.xa_base.proofs.{◌≡◌, cond, List, [], ◌∷◌, ◌++◌, map, Bool, true, false, not, ◌&&◌, ◌||◌, Option, None, Some, refl, sym, ap, ◌∙◌, append_assoc}
+use Rattle.xa_base.proofs.{append-nil, map-append, get-insert, get-remove, is_equal, ℕ, is_some, is_none, filter, list_any, keys_of, get-retain_keys, zero, suc}
+use Rattle.xa_base.proofs.{length, arith, length-append, from_entries, get-lookup, one_removed, insert, same_map, lookup}
 use Rattle.std.specs.FinMap.{get, remove, retain_keys}
 use Rattle.xa_words.specs.{TranName, tran_eq, Decides-tran_eq}
 use Rattle.xa_log.specs.{Records, record_in, is_among, tran_cmp}
