@@ -81,8 +81,10 @@ names_it z b action.Resolve = list_any (λ x. xid_eq x b.xid) (left_at z b.m)
 abbrev pub NamesNone : ScanView → List Branch → ScriptTask → Type 0
 NamesNone z bs p = All (λ b. names_it z b p.action ≡ false) bs
 
--- From a line of thread t on no other names these branches, in an opening that began with these scans: no line of
--- another thread does, and none of those after it.
+-- No line names these branches but this one of thread t and those of its thread before it, in an opening that began
+-- with these scans. No line of another thread does so anywhere in the opening, since a transcript tells no order of two
+-- threads' lines. So no commit of a branch is meant for which another thread has worked: what holds of that is said of
+-- the journals, by who names it after its Prepare.
 pub record AreNamedByNoOther (steps : List ScriptStep) (scans : ℕ → ScanView) (t : ℕ) (bs : List Branch)
     (after : List Line) : Type 0 where
   pub threads : (u : ℕ) → u ≢ t → All (NamesNone (scans u) bs) (tasks_of u steps)

@@ -76,10 +76,11 @@ pub fn lines_have_their_places()
         → told.lines ≡ before ++ l ∷ after → (old : Part) × (new : Part) × LinePlace told before l after old new }
 {}
 
-/// All of a transaction or nothing, by what a transcript tells: where no line but that of its commit names a
-/// branch of it from that line on, each branch is shown as what became of it, and the values count what is shown
-/// as committed (clause `lines`). For that it is enough that in the journals nobody else names a branch after its
-/// Prepare; each is shown as what became of it also where heuristic decisions do (`journals`, `decisions`).
+/// All of a transaction or nothing, by what a transcript tells: where no line of another thread names a branch of it
+/// in the opening, and none of its own thread behind that of the commit, each branch is shown as what became of it, and
+/// the values count what is shown as committed (clause `lines`). Where another thread has worked for a branch, too, it
+/// is enough that in the journals nobody else names a branch after its Prepare (`journals`); each is shown as what
+/// became of it also where heuristic decisions do (`decisions`).
 pub fn branches_are_as_shown()
     ensures decisions { (s : Content) (b : Beginning) (o : Opening) (tells : TellsOf s b o) (c : CommitAll TranName)
         (done : Done) (before : List Line) (l : Line) (after : List Line) (old new : Part)
@@ -116,12 +117,12 @@ pub fn unfinished_commits_go_by_the_record()
         → GoesByTheRecord (named c) votes.items [] old new }
 {}
 
-/// What becomes of the branches of a commit that came to no end, where no other line names one of them from that line
-/// on (clauses `lines`, `undecided_lines`): each that voted to commit ended by the record, or is in doubt; and where
-/// the coordinator died once all had answered, each branch is shown as what became of it. For that it is enough that
-/// in the journals nobody else names a branch after its Prepare (`journals`, `undecided_journals`). Where heuristic
-/// decisions do, a branch that voted to commit may have one of them for its fate instead (`decisions`,
-/// `undecided_decisions`).
+/// What becomes of the branches of a commit that came to no end, where no line of another thread names one of them in
+/// the opening, and none of its own thread behind that of the commit (clauses `lines`, `undecided_lines`): each that
+/// voted to commit ended by the record, or is in doubt; and where the coordinator died once all had answered, each
+/// branch is shown as what became of it. Where another thread has worked for a branch, too, it is enough that in the
+/// journals nobody else names a branch after its Prepare (`journals`, `undecided_journals`). Where heuristic decisions
+/// do, a branch that voted to commit may have one of them for its fate instead (`decisions`, `undecided_decisions`).
 pub fn branches_end_by_the_record()
     ensures decisions { (s : Content) (b : Beginning) (o : Opening) (tells : TellsOf s b o) (c : CommitAll TranName)
         (at : Death) (known : Done) (before : List Line) (l : Line) (after : List Line) (old new : Part)
