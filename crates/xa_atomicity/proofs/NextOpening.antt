@@ -318,7 +318,9 @@ module _ (law : Tabled) (first : (s : Settling) (m : ℕ) (T : Tables) → IsSet
   all_gone t from bs vs es h is = absurd h
 
   pub none_left : (t : ℕ) (from : ℕ → ℕ) (bs : List Branch) (done : Done) → TellsTheFates s t bs from done → is_acknowledged done ≡ true → HasLeft bs s → ⊥
-  none_left t from bs done told is left = search (arith, All-contains, all_gone, left.branch, done.votes.items, done.endings.items, left.among, told.each)
+  none_left t from bs done told is left =
+      let is_all = (and_parts _ (list_all has_acknowledged done.endings.items) is).1 in
+      search (arith, All-contains, all_gone, left.branch, done.votes.items, done.endings.items, left.among, told.each)
 
 -- what a branch that was left stands at
 left_stands : (commit : Bool) (x : XidName) (T : Tables) (f : Fate) → IsFateOf x f T → (s : Option State) → state_of T x ≡ s → is_left_in s ≡ true
