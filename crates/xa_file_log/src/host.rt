@@ -1,4 +1,5 @@
 //! A file of the operating system.
+ghost use Rattle.std.specs.Prelude.{◌≡◌};
 ghost use Rattle.xa_file_log.specs.FileNotes.{found_by, given_by, kept_by, told_by};
 
 use crate::device::{DeviceFault, ReadFault};
@@ -7,42 +8,64 @@ use crate::notes::Notes;
 use std::alloc::Global;
 use std::fs::OpenOptions;
 use std::os::unix::fs::FileExt;
+use std::os::unix::io::AsRawFd;
 use std::{fs, io};
 
 /// An open file, which no other handle has open as a log, of this process or another.
 #[derive(Drop)]
 pub struct HostFile {
     file: fs::File,
+    failure: Option<io::ErrorKind>,
     // What succeeded: that each call is noted as it was is trusted.
     notes: Notes,
 }
 
+/// The handle, where it isn't that of standard input, output or error: where one of these is closed, the next file to
+/// be opened takes its place, and what the program prints goes into that file.
+pub(crate) fn beside_streams(file: fs::File) -> io::Result<fs::File> {
+    if file.as_raw_fd() <= 2 {
+        return Err(io::ErrorKind::NotConnected.into());
+    }
+    Ok(file)
+}
+
 impl HostFile {
-    /// Opens the file at the path, which has to be there. One that is open as a log already is `WouldBlock`.
+    /// Opens the file at the path, which has to be there. One that is open as a log already is `WouldBlock`. Where
+    /// standard input, output or error is closed, it is `NotConnected`.
     pub fn open(rt: &HostRuntime, path: &str) -> io::Result<HostFile> {
         let file = OpenOptions::new().read(true).write(true).open(rt, path)?;
-        HostFile::locked(file)
+        HostFile::locked(beside_streams(file)?)
     }
 
     /// Makes the file at the path, where none may be, and has its folder keep its name: the folder is that of the path.
+    /// Where standard input, output or error is closed, it is `NotConnected`, and nothing is made.
     pub fn create(rt: &HostRuntime, path: &str, folder: &str) -> io::Result<HostFile> {
-        let file = OpenOptions::new()
-            .read(true)
-            .write(true)
-            .create_new(true)
-            .open(rt, path)?;
-        fs::File::open(rt, folder)?.sync_all()?;
+        let folder = beside_streams(fs::File::open(rt, folder)?)?;
+        let file = fs::File::create_new(rt, path)?;
+        folder.sync_all()?;
         HostFile::locked(file)
     }
 
     fn locked(file: fs::File) -> io::Result<HostFile> {
-        if file.try_lock().is_err() {
-            return Err(io::ErrorKind::WouldBlock.into());
-        }
+        file.try_lock()?;
         Ok(HostFile {
             file,
+            failure: None,
             notes: Notes::new(),
         })
+    }
+
+    /// Why the last call that failed did.
+    pub fn failure(&self) -> Option<io::ErrorKind> {
+        self.failure
+    }
+
+    // Remembers why a call failed.
+    fn failed(&mut self, error: &io::Error) -> DeviceFault
+        ensures same { self.new ≡ record self.old { failure = self.new.failure } }
+    {
+        self.failure = Some(error.kind());
+        DeviceFault
     }
 }
 
@@ -56,8 +79,9 @@ impl Backing for HostFile {
     ghost kept = { λ f. kept_by f.notes.syncs.items };
 
     fn size(&mut self) -> Result<u64, DeviceFault> {
-        let Ok(found) = self.file.metadata() else {
-            return Err(DeviceFault);
+        let found = match self.file.metadata() {
+            Ok(found) => found,
+            Err(error) => return Err(self.failed(&error)),
         };
         let size = found.len();
         self.notes.add_size(size);
@@ -66,7 +90,8 @@ impl Backing for HostFile {
 
     fn read_all(&mut self, alloc: Global, len: usize) -> Result<Vec<u8>, ReadFault> {
         let mut bytes = vec![in alloc; 0; len]?;
-        if self.file.read_exact_at(&mut bytes, 0).is_err() {
+        if let Err(error) = self.file.read_exact_at(&mut bytes, 0) {
+            self.failed(&error);
             return Err(ReadFault::Failed);
         }
         self.notes.add_read(&bytes);
@@ -74,8 +99,8 @@ impl Backing for HostFile {
     }
 
     fn rewrite(&mut self, bytes: &Vec<u8>) -> Result<(), DeviceFault> {
-        if self.file.write_all_at(bytes, 0).is_err() {
-            return Err(DeviceFault);
+        if let Err(error) = self.file.write_all_at(bytes, 0) {
+            return Err(self.failed(&error));
         }
         self.notes.add_rewrite(bytes);
         Ok(())
@@ -83,16 +108,16 @@ impl Backing for HostFile {
 
     fn write_part(&mut self, copy: &Vec<u8>, at: usize, len: usize) -> Result<(), DeviceFault> {
         let part = &copy[at..at + len];
-        if self.file.write_all_at(part, at as u64).is_err() {
-            return Err(DeviceFault);
+        if let Err(error) = self.file.write_all_at(part, at as u64) {
+            return Err(self.failed(&error));
         }
         self.notes.add_write(copy, at, len);
         Ok(())
     }
 
     fn sync_all(&mut self) -> Result<(), DeviceFault> {
-        if self.file.sync_data().is_err() {
-            return Err(DeviceFault);
+        if let Err(error) = self.file.sync_data() {
+            return Err(self.failed(&error));
         }
         self.notes.add_sync();
         Ok(())
