@@ -1,7 +1,7 @@
 -- Several records in the free slots of a file, one after another.
-use Rattle.xa_base.proofs.{take_all, rules, ◌≡◌, ◌≢◌, ◌⊎◌, inl, inr, ⊎_elim, ℕ, zero, suc, ◌+◌, ◌*◌, ◌<◌, ◌≤◌, List, [], ◌∷◌, ◌++◌, length, get_or, map}
-use Rattle.xa_base.proofs.{take, drop, refl, sym, ◌∙◌, ap, subst, arith, All, Contains, cases_lt, length-map, Bool, None, Some, set, length-set}
-use Rattle.xa_base.proofs.{get_or-set_same, get_or_default, got, All-contains, Option, get_or_past, drop_more, sum_by-cons, get_or_from_slice_get}
+use Rattle.xa_base.proofs.{take_all, rules, ◌≡◌, ◌≢◌, ◌⊎◌, inl, inr, ⊎_elim, ℕ, zero, suc, ◌+◌, ◌*◌, ◌<◌, ◌≤◌, List, [], ◌∷◌, ◌++◌, length, get_or, map, take}
+use Rattle.xa_base.proofs.{drop, refl, sym, ◌∙◌, ap, subst, arith, All, Contains, cases_lt, length-map, Bool, None, Some, set, length-set, get_or-set_same}
+use Rattle.xa_base.proofs.{get_or_default, got, All-contains, Option, get_or_past, drop_more, sum_by-cons, get_or_from_slice_get}
 use Rattle.std.proofs.lemmas.List.{length-take}
 use Rattle.std.proofs.lemmas.List.Sums.{count_by-le-length}
 use Rattle.xa_log.specs.{CommitRecord, LogState, Records, record_in, record_of, with_record, with_records, AreNew}

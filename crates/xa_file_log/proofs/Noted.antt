@@ -1,10 +1,9 @@
 -- What the notes of a file say after one call more, and which bytes were synced last.
-use Rattle.xa_base.proofs.{ℕ, List, [], ◌∷◌, ◌++◌, ◌≡◌, ◌+◌, ◌≤◌, Bool, Vec, length, take, drop, refl, ap, ◌∙◌, sym, append_assoc, take_at, drop_at}
+use Rattle.xa_base.proofs.{ℕ, List, [], ◌∷◌, ◌++◌, ◌≡◌, Bool, Vec, refl, ap, ◌∙◌}
 use Rattle.std.specs.declared.alloc.Global.{Global}
-use Rattle.std.proofs.lemmas.List.{length-take-le}
 use Rattle.http_server.specs.declared.log.Log.{Log}
-use Rattle.xa_file_log.specs.{Past, Call, FileCall, FileCalls, FileSyncs, found_after, found_by, found_from, given_after, given_by, given_from, kept_by, kept_from, FileSizes, told_by, told_from}
-use Rattle.xa_file_log.specs.{last_synced, overwritten, part, synced_after, synced_from, writing}
+use Rattle.xa_file_log.specs.{Past, Call, FileCall, FileCalls, FileSyncs, found_after, found_by, found_from, given_after, given_by, given_from, kept_by}
+use Rattle.xa_file_log.specs.{kept_from, FileSizes, told_by, told_from, last_synced, synced_after, synced_from, writing}
 
 -- NOTES
 found_push : (before : List ℕ) (calls : FileCalls) (call : FileCall) (bytes : Vec ℕ Global)
@@ -56,20 +55,3 @@ pub synced_writing : (at : ℕ) (bytes : List ℕ) (ok : Bool) (before after : L
 synced_writing at [] ok before after = refl
 synced_writing at (b ∷ []) ok before after = refl
 synced_writing at (a ∷ b ∷ bytes) ok before after = refl
-
--- PARTS
--- the part of a copy that was written over is what was written
-pub part_written : (f : List ℕ) (at : ℕ) (bytes : List ℕ) → at ≤ length f → part at (length bytes) (overwritten f at bytes) ≡ bytes
-part_written f at bytes le =
-    let rest = drop (at + length bytes) f in
-    ap (λ (l : List ℕ). take (length bytes) (drop at l)) (append_assoc (take at f) bytes rest)
-    ∙ ap (λ (l : List ℕ). take (length bytes) l) (drop_at (take at f) (bytes ++ rest) at (length-take-le at f le))
-    ∙ take_at bytes rest (length bytes) refl
-
--- so a file that is given this part has the copy's bytes
-pub part_given : (was now f copy : List ℕ) (at : ℕ) (bytes : List ℕ) → at ≤ length f → was ≡ f → copy ≡ overwritten f at bytes
-    → now ≡ overwritten was at (part at (length bytes) copy) → now ≡ copy
-part_given was now f copy at bytes le same written given =
-    given ∙ ap (λ (l : List ℕ). overwritten l at (part at (length bytes) copy)) same
-    ∙ ap (λ (l : List ℕ). overwritten f at (part at (length bytes) l)) written
-    ∙ ap (λ (l : List ℕ). overwritten f at l) (part_written f at bytes le) ∙ sym written

@@ -72,6 +72,5 @@ pub use file_log::FileLog;
 pub use folder::{DiskLog, FolderFault, LogFolder};
 pub use host::HostFile;
 pub use mirrored::{Backing, Call, Mirrored};
-pub use notes::{FileCall, Notes};
 pub use opening::{OpenFault, open};
 pub use slot::Slot;

@@ -7,7 +7,7 @@ use http_server::Log;
 
 /// A call of a file that succeeded.
 #[derive(Clone, Copy, Debug)]
-pub enum FileCall {
+pub(crate) enum FileCall {
     /// All the bytes.
     Read,
     /// All the bytes that were read.
@@ -18,7 +18,7 @@ pub enum FileCall {
 
 /// The calls of a file that succeeded, which take no memory.
 #[derive(Drop)]
-pub struct Notes {
+pub(crate) struct Notes {
     // Each call, with the bytes that were read, or the copy that was written from.
     pub(crate) calls: Log<FileCall, Vec<u8>>,
     // Each size that was told.
@@ -28,7 +28,8 @@ pub struct Notes {
 }
 
 impl Notes {
-    pub fn new() -> Notes {
+    /// Nothing was told, read, written or synced yet.
+    pub(crate) fn new() -> Notes {
         Notes {
             calls: Log::new(),
             sizes: Log::new(),
@@ -37,7 +38,7 @@ impl Notes {
     }
 
     /// The file has so many bytes.
-    pub fn add_size(&mut self, size: u64)
+    pub(crate) fn add_size(&mut self, size: u64)
         ensures told { told_by self.new.sizes.items ≡ size }
         ensures calls { self.new.calls ≡ self.old.calls }
         ensures syncs { self.new.syncs ≡ self.old.syncs }
@@ -46,7 +47,7 @@ impl Notes {
     }
 
     /// A read, which returned these bytes.
-    pub fn add_read(&mut self, bytes: &Vec<u8>)
+    pub(crate) fn add_read(&mut self, bytes: &Vec<u8>)
         ensures found { found_by self.new.calls.items ≡ bytes.now.items }
         ensures given { given_by self.new.calls.items ≡ given_by self.old.calls.items }
         ensures sizes { self.new.sizes ≡ self.old.sizes }
@@ -55,7 +56,7 @@ impl Notes {
     }
 
     /// These bytes were written once more.
-    pub fn add_rewrite(&mut self, bytes: &Vec<u8>)
+    pub(crate) fn add_rewrite(&mut self, bytes: &Vec<u8>)
         ensures given { given_by self.new.calls.items ≡ bytes.now.items }
         ensures kept { kept_by self.new.syncs.items ≡ kept_by self.old.syncs.items }
     {
@@ -63,7 +64,7 @@ impl Notes {
     }
 
     /// The part of the copy at this offset, of so many bytes, was written at its place.
-    pub fn add_write(&mut self, copy: &Vec<u8>, at: usize, len: usize)
+    pub(crate) fn add_write(&mut self, copy: &Vec<u8>, at: usize, len: usize)
         ensures given { given_by self.new.calls.items
             ≡ overwritten (given_by self.old.calls.items) at (part at len copy.now.items) }
         ensures kept { kept_by self.new.syncs.items ≡ kept_by self.old.syncs.items }
@@ -72,7 +73,7 @@ impl Notes {
     }
 
     /// The disk keeps all that was written.
-    pub fn add_sync(&mut self)
+    pub(crate) fn add_sync(&mut self)
         ensures given { given_by self.new.calls.items ≡ given_by self.old.calls.items }
         ensures kept { kept_by self.new.syncs.items ≡ given_by self.old.calls.items }
     {

@@ -15,7 +15,7 @@ fn with_one(rt: &impl Abort, alloc: Global) -> Vec<u8> {
     durable_of(log)
 }
 
-// What a process leaves whose k-th call fails as it appends a second record: what the disk has, and what a read returns.
+// The file of a process whose k-th call fails as it appends a second record.
 fn left_by(rt: &impl Abort, alloc: Global, fails: u32) -> Tape {
     let mut log = opened(rt, alloc, &with_one(rt, alloc), fails);
     assert!(rt; added(&mut log, &record(rt, b"g2")).is_err());

@@ -97,6 +97,8 @@ fn overwrite(file: &mut Vec<u8>, at: usize, bytes: &[u8]) -> Result<(), AllocErr
 }
 
 impl Backing for Tape {
+    ghost told = { λ t. length t.now.items };
+
     ghost found = { λ t. t.now.items };
 
     ghost given = { λ t. t.now.items };

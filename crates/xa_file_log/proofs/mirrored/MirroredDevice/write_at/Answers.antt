@@ -1,6 +1,5 @@
 use Rattle.xa_base.proofs.{[], ◌∷◌, ◌++◌, ◌≡◌, ◌+◌, Bool, ◌∙◌, ap, sym, arith}
-use Rattle.xa_file_log.specs.{failures, failed, last_synced, synced_after, writing}
-use Rattle.xa_file_log.specs.{Call}
+use Rattle.xa_file_log.specs.{failures, failed, last_synced, synced_after, writing, Call}
 use Rattle.xa_file_log.proofs.Moments.{leaves_to, elapses_to, failures_to, writing_follows, failed_writing}
 use Rattle.xa_file_log.proofs.Noted.{synced_to, synced_writing}
 use Rattle.xa_file_log.proofs.mirrored.MirroredDevice.write_at.Goals as goal
