@@ -16,7 +16,7 @@ use xa_crew::laws::idles_go_on;
 use xa_desk::laws::desks_go_on;
 use xa_desk::{Desk, Idle};
 use xa_log::DecisionLog;
-use xa_words::{Key, Tran};
+use xa_words::{Code, Key, Tran};
 use xa_work::WorkOutcome;
 
 /// A teller that tells of each of its transfers on standard output, or wherever it is to.
@@ -61,6 +61,11 @@ fn forgets(place: u32) -> bool {
     place % 2 == 1
 }
 
+// Whether each of these votes is for a commit.
+fn have_all_agreed(votes: &[Code]) -> bool {
+    votes.iter().all(|vote| *vote == Code::Done)
+}
+
 impl<L: DecisionLog + Drop, W: Write + Drop> Clerk<L, W> {
     /// A teller for a day, with its log, the number of its first transfer and the account whose money it moves.
     pub fn new(
@@ -95,7 +100,8 @@ impl<L: DecisionLog + Drop, W: Write + Drop> Clerk<L, W> {
         (teller.into_log(), recorded, fault)
     }
 
-    // Adds what became of the transaction to these lines, and remembers whether its record is there.
+    // Adds what became of the transaction to these lines, and remembers whether its record is there. Where all stores
+    // voted for a commit and it isn't one, the log took no record of it.
     fn add(
         &mut self,
         lines: &mut String,
@@ -103,33 +109,37 @@ impl<L: DecisionLog + Drop, W: Write + Drop> Clerk<L, W> {
         tran: Tran,
         forgets: bool,
     ) -> Result<(), Fault> {
-        for outcome in &self.teller.outcomes {
-            match outcome {
-                WorkOutcome::Decided(done) if done.commit && done.logged => {
-                    add_event(self.alloc, lines, Event::Committed, thread, &tran)?;
-                    if forgets && done.is_acknowledged() {
-                        add_event(self.alloc, lines, Event::Forgotten, thread, &tran)?;
-                    } else {
-                        self.recorded.push(tran)?;
-                    }
+        match self.teller.outcomes.first() {
+            Some(WorkOutcome::Decided(done)) if done.commit && done.logged => {
+                add_event(self.alloc, lines, Event::Committed, thread, &tran)?;
+                if forgets && done.is_acknowledged() {
+                    add_event(self.alloc, lines, Event::Forgotten, thread, &tran)?;
+                } else {
+                    self.recorded.push(tran)?;
                 }
-                WorkOutcome::Undecided(_) => {
-                    add_event(self.alloc, lines, Event::Undecided, thread, &tran)?;
-                }
-                _ => {}
+                Ok(())
             }
+            Some(WorkOutcome::Decided(done)) if have_all_agreed(&done.votes) => {
+                Err(Fault::Unrecorded)
+            }
+            Some(WorkOutcome::Undecided(_)) => {
+                add_event(self.alloc, lines, Event::Undecided, thread, &tran)?;
+                Err(Fault::Unrecorded)
+            }
+            // It makes none where its log isn't known.
+            None => Err(Fault::Unrecorded),
+            Some(_) => Err(Fault::Stores),
         }
-        Ok(())
     }
 
     // Tells what became of the transaction, in one write.
     fn tell(&mut self, thread: u32, tran: Tran, forgets: bool) -> Result<(), Fault> {
         let mut lines = String::new(self.alloc);
-        self.add(&mut lines, thread, tran, forgets)?;
+        let added = self.add(&mut lines, thread, tran, forgets);
         if !lines.is_empty() {
             write_lines(&mut self.out, &lines)?;
         }
-        Ok(())
+        added
     }
 
     // Makes the transfer at this place of the day, and tells of it.

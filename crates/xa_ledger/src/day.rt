@@ -1,9 +1,11 @@
 //! The days of the program.
-ghost use Rattle.std.specs.Prelude.{◌≡◌, ◌^◌, ◌<◌, IfOk, length};
+ghost use Rattle.std.specs.Prelude.{◌≡◌, ◌^◌, ◌<◌, All, IfOk, OnOk, length, map};
+ghost use Rattle.xa_file_log.specs.declared.condition.Condition.TheVariants.{Ready};
+ghost use Rattle.xa_file_log.specs.Memory.{shut};
 
 use crate::clerk::Clerk;
 use crate::fault::Fault;
-use crate::files::{TellerLog, log_of, new_day};
+use crate::files::{logs_of, new_day, open_folder};
 use crate::lines::{Event, add_event, write_lines};
 use crate::listing::tell_records;
 use crate::numbers::{STORES, TELLERS, first_of};
@@ -12,7 +14,8 @@ use std::io::Write;
 use std::sync::Wait;
 use std::thread::Threads;
 use xa_crew::{Attended, CrewFault, Run, run_clients};
-use xa_log::{DecisionLog, DecisionRecords};
+use xa_file_log::{Condition, Device, DiskLog, FileLog, LogFolder};
+use xa_log::DecisionLog;
 use xa_switch::{ManagerPlan, Plan};
 use xa_words::{Key, Tran};
 use xa_worker::Free;
@@ -81,17 +84,29 @@ fn clerks_of<L: DecisionLog + Drop, W: Write + Copy + Drop>(
     Ok(clerks)
 }
 
-// Forgets what the log still has at the end of a day, and says so before.
-fn forget_all<L: DecisionLog, W: Write>(
+// Whether the log takes records; if not, why.
+fn takes_records<D: Device>(log: &FileLog<D>, teller: u32) -> Result<(), Fault>
+    ensures { OnOk result (log.now.condition ≡ Ready) }
+{
+    match log.condition() {
+        Condition::Ready => Ok(()),
+        Condition::Halted => Err(Fault::Halted(teller)),
+        Condition::Lost => Err(Fault::Undecided(teller)),
+    }
+}
+
+// Forgets what the log still has at the end of a day, and says so before. A log that takes no more records ends the
+// program instead.
+fn forget_all<D: Device, W: Write>(
     alloc: Global,
     out: &mut W,
     teller: u32,
-    log: &mut L,
+    log: &mut FileLog<D>,
     recorded: &[Tran],
-) -> Result<(), Fault> {
-    if !log.is_known() {
-        return Err(Fault::Undecided);
-    }
+) -> Result<(), Fault>
+    ensures ready { OnOk result (log.new.condition ≡ Ready) }
+{
+    takes_records(log, teller)?;
     let mut lines = String::new(alloc);
     for tran in recorded {
         add_event(alloc, &mut lines, Event::Forgotten, teller, tran)?;
@@ -101,37 +116,56 @@ fn forget_all<L: DecisionLog, W: Write>(
     Ok(())
 }
 
-// The logs as the day left them, without the records of the day: its stores are gone.
-fn close<L: DecisionLog + Drop, W: Write + Copy + Drop>(
+// The log of a teller whose day is over, without the records of the day: its stores are gone.
+fn close_day<D: Device + Drop, W: Write + Drop>(
+    alloc: Global,
+    out: &mut W,
+    teller: u32,
+    clerk: Clerk<FileLog<D>, W>,
+) -> Result<FileLog<D>, Fault>
+    ensures ready { IfOk result (λ log. log.condition ≡ Ready) }
+{
+    let (mut log, recorded, fault) = clerk.into_parts();
+    match fault {
+        Some(Fault::Unrecorded) => {
+            takes_records(&log, teller)?;
+            return Err(Fault::Full(teller));
+        }
+        Some(fault) => return Err(fault),
+        None => {}
+    }
+    forget_all(alloc, out, teller, &mut log, &recorded)?;
+    Ok(log)
+}
+
+// The logs as the day left them. Each takes records: where one doesn't, the program ends.
+fn close<D: Device + Drop, W: Write + Copy + Drop>(
     alloc: Global,
     mut out: W,
-    clients: Vec<Attended<Clerk<L, W>>>,
-) -> Result<Vec<L>, Fault>
-    ensures { IfOk result (λ logs. length logs.items ≡ length clients.items) }
+    clients: Vec<Attended<Clerk<FileLog<D>, W>>>,
+) -> Result<Vec<FileLog<D>>, Fault>
+    ensures each { IfOk result (λ logs. length logs.items ≡ length clients.items) }
+    ensures ready { IfOk result (λ logs. All (λ log. log.condition ≡ Ready) logs.items) }
 {
     let mut logs = Vec::new(alloc);
     let mut teller: u32 = 0;
     for attended in clients {
         teller = teller.wrapping_add(1);
-        let (mut log, recorded, fault) = attended.client.into_parts();
-        if let Some(fault) = fault {
-            return Err(fault);
-        }
-        forget_all(alloc, &mut out, teller, &mut log, &recorded)?;
-        logs.push(log)?;
+        logs.push(close_day(alloc, &mut out, teller, attended.client)?)?;
     }
     Ok(logs)
 }
 
-// A day: each teller in a thread of its own, and each store. It gives the four logs back.
+// A day: each teller in a thread of its own, and each store. It gives the four logs back, which take records.
 fn run_day<
     R: Threads + Wait + Copy + Send + 'static,
-    L: DecisionLog + Drop + Send + 'static,
+    D: Device + Drop + Send + 'static,
     W: Write + Copy + Drop + Send + 'static,
->(rt: &R, alloc: Global, out: W, day: u32, logs: Vec<L>) -> Result<Vec<L>, Fault>
+>(rt: &R, alloc: Global, out: W, day: u32, logs: Vec<FileLog<D>>) -> Result<Vec<FileLog<D>>, Fault>
     requires day { day < 2 ^ 26 }
     requires logs { length logs.items ≡ 4 }
-    ensures { IfOk result (λ logs. length logs.items ≡ 4) }
+    ensures each { IfOk result (λ logs. length logs.items ≡ 4) }
+    ensures ready { IfOk result (λ logs. All (λ log. log.condition ≡ Ready) logs.items) }
 {
     let plan = plan_of(alloc, day)?;
     let clerks = clerks_of(alloc, logs, out, day)?;
@@ -143,43 +177,69 @@ fn run_day<
                 settled: _,
             },
         ) => close(alloc, out, clients),
-        Err(CrewFault::BadPlan) => Err(Fault::Plan),
+        Err(CrewFault::BadPlan) => Err(Fault::Stores),
         Err(CrewFault::NoMemory | CrewFault::Unsettled(_)) => Err(Fault::NoMemory),
     }
 }
 
 // The log of each teller, after what it had is told and forgotten.
-fn open_logs<W: Write>(rt: &HostRuntime, folder: &str, out: &mut W) -> Result<Vec<TellerLog>, Fault>
+fn open_logs<W: Write>(
+    rt: &HostRuntime,
+    folder: &LogFolder,
+    out: &mut W,
+) -> Result<Vec<DiskLog>, Fault>
     ensures { IfOk result (λ logs. length logs.items ≡ 4) }
 {
     let alloc = rt.alloc();
-    let mut logs = Vec::new(alloc);
-    for place in 0..TELLERS {
-        let teller = place + 1;
-        let mut log = log_of(rt, folder, teller)?;
+    let mut told = Vec::new(alloc);
+    let mut teller: u32 = 0;
+    for mut log in logs_of(rt, folder)? {
+        teller = teller.wrapping_add(1);
         tell_records(alloc, out, teller, &log)?;
         log.keep_only(&[]);
-        logs.push(log)?;
+        told.push(log)?;
     }
-    Ok(logs)
+    Ok(told)
 }
 
-/// Opens the logs, and keeps so many days; without a number, for ever.
+// Has the disk forget what the teller's log has forgotten, so that no later run finds it.
+fn close_log<D: Device>(log: &mut FileLog<D>, teller: u32) -> Result<(), Fault>
+    ensures { OnOk result (log.new.table.slots.items ≡ map shut log.old.table.slots.items) }
+{
+    takes_records(log, teller)?;
+    if !log.shut_forgotten() {
+        return Err(Fault::Halted(teller));
+    }
+    Ok(())
+}
+
+// Has the disk forget what the logs have forgotten.
+fn close_logs<D: Device + Drop>(logs: Vec<FileLog<D>>) -> Result<(), Fault> {
+    let mut teller: u32 = 0;
+    for mut log in logs {
+        teller = teller.wrapping_add(1);
+        close_log(&mut log, teller)?;
+    }
+    Ok(())
+}
+
+/// Opens the folder, and keeps so many days; without a number, for ever. After the last the logs have no record.
 pub fn keep_the_days<H: Threads + Wait + Copy + Send + 'static>(
     files: &HostRuntime,
     rt: &H,
-    folder: &str,
+    path: &str,
     days: Option<u32>,
 ) -> Result<(), Fault> {
     let alloc = files.alloc();
     let mut out = files.stdout();
-    let mut logs = open_logs(files, folder, &mut out)?;
+    let folder = open_folder(files, path)?;
+    let mut logs = open_logs(files, &folder, &mut out)?;
     let mut kept: u32 = 0;
     for _ in rt.forever() {
         if days == Some(kept) {
-            return Ok(());
+            return close_logs(logs);
         }
-        let day = new_day(files, folder)?;
+        let day = new_day(files, &folder)?;
         logs = run_day(rt, alloc, out, day, logs)?;
         kept = kept.wrapping_add(1);
     }

@@ -1,140 +1,136 @@
 //! The files of the folder: a decision log for each teller, and the number of the next day.
 //!
-//! A log is made under another name and then renamed, so that a file with a log's name is whole. So is the number of
-//! the next day.
+//! The folder is locked before any of them is touched. `next-day` is made once all logs are there, so a folder that has
+//! it has had each log: one that is missing is lost, and isn't made anew. Where it isn't there the folder is new, or
+//! the program was ended as it made the logs.
+ghost use Rattle.std.specs.Prelude.{◌≡◌, ◌^◌, ◌<◌, IfOk, length};
+ghost use Rattle.xa_file_log.specs.declared.condition.Condition.TheVariants.{Ready};
 
-ghost use Rattle.std.specs.Prelude.{◌^◌, ◌<◌, IfOk};
-
-use crate::fault::Fault;
-use crate::numbers::DAYS;
-use std::alloc::Global;
+use crate::fault::{Fault, Place};
+use crate::numbers::{DAYS, TELLERS};
 use std::fs;
 use std::io::{ErrorKind, Write};
-use xa_file_log::{CreateFault, FileLog, HostFile, Mirrored, OpenFault, create, open};
-
-/// A teller's log.
-pub type TellerLog = FileLog<Mirrored<HostFile>>;
+use xa_file_log::{Device, DiskLog, FileLog, FolderFault, LogFolder};
 
 // How many records a log has room for.
 const SLOTS: u32 = 1024;
 
-// Where a teller's log is.
-fn path_of(alloc: Global, folder: &str, teller: u32) -> Result<String, Fault> {
-    Ok(format!(in alloc; "{folder}/teller-{teller}.log")?)
+/// Opens the folder, which no other program has open then.
+pub fn open_folder(rt: &HostRuntime, path: &str) -> Result<LogFolder, Fault> {
+    LogFolder::open(rt, path).map_err(|fault| Fault::File(Place::Folder, fault))
 }
 
-// The folder's names are on the disk.
-fn keep_names(rt: &HostRuntime, folder: &str) -> Result<(), Fault> {
-    let Ok(folder) = fs::File::open(rt, folder) else {
-        return Err(Fault::Folder);
-    };
-    if folder.sync_all().is_err() {
-        return Err(Fault::Folder);
+// The teller's log. One that isn't there is made in a new folder alone.
+fn log_of(
+    rt: &HostRuntime,
+    folder: &LogFolder,
+    teller: u32,
+    is_new: bool,
+) -> Result<DiskLog, FolderFault>
+    ensures ready { IfOk result (λ log. log.condition ≡ Ready) }
+{
+    let name = format!(in rt.alloc(); "teller-{teller}.log")?;
+    if is_new && !folder.has(rt, &name)? {
+        return folder.create_log(rt, &name, SLOTS);
     }
-    Ok(())
+    folder.open_log(rt, &name)
 }
 
-// Gives a file its name, in place of another that may have it.
-fn rename(rt: &HostRuntime, folder: &str, from: &str, to: &str) -> Result<(), Fault> {
-    if fs::rename(rt, from, to).is_err() {
-        return Err(Fault::Folder);
-    }
-    keep_names(rt, folder)
-}
-
-// Removes a file that an earlier run may have left unfinished.
-fn remove(rt: &HostRuntime, path: &str) -> Result<(), Fault> {
-    match fs::remove_file(rt, path) {
-        Ok(()) => Ok(()),
-        Err(error) if error.kind() == ErrorKind::NotFound => Ok(()),
-        Err(_) => Err(Fault::Folder),
-    }
-}
-
-// Makes the log at the path.
-fn made(rt: &HostRuntime, folder: &str, path: &str) -> Result<TellerLog, Fault> {
-    let alloc = rt.alloc();
-    let unfinished = format!(in alloc; "{path}.new")?;
-    remove(rt, &unfinished)?;
-    let Ok(file) = HostFile::create(rt, &unfinished, folder) else {
-        return Err(Fault::Folder);
-    };
-    let Ok(device) = Mirrored::new(alloc, file) else {
-        return Err(Fault::Folder);
-    };
-    match create(alloc, device, SLOTS) {
-        Ok(log) => {
-            rename(rt, folder, &unfinished, path)?;
-            Ok(log)
+// Whether the log has a record.
+fn has_records<D: Device>(log: &FileLog<D>) -> bool {
+    for place in 0..log.slots() {
+        if log.record_at(place).is_some() {
+            return true;
         }
-        Err((CreateFault::Memory, _)) => Err(Fault::NoMemory),
-        Err((CreateFault::Failed | CreateFault::NotEmpty, _)) => Err(Fault::Folder),
     }
+    false
 }
 
-// Opens the log at the path.
-fn opened(rt: &HostRuntime, path: &str) -> Result<TellerLog, Fault> {
+/// The log of each teller. They are made in a new folder, which then has a first day.
+pub fn logs_of(rt: &HostRuntime, folder: &LogFolder) -> Result<Vec<DiskLog>, Fault>
+    ensures { IfOk result (λ logs. length logs.items ≡ 4) }
+{
     let alloc = rt.alloc();
-    let Ok(file) = HostFile::open(rt, path) else {
-        return Err(Fault::Folder);
-    };
-    let Ok(device) = Mirrored::new(alloc, file) else {
-        return Err(Fault::Folder);
-    };
-    match open(alloc, device) {
-        Ok(log) => Ok(log),
-        Err((OpenFault::Memory, _)) => Err(Fault::NoMemory),
-        Err((OpenFault::Failed, _)) => Err(Fault::Folder),
-        Err((OpenFault::NotALog | OpenFault::Damaged, _)) => Err(Fault::Damaged),
+    let is_new = next_day(rt, folder)?.is_none();
+    let mut logs = Vec::new(alloc);
+    for place in 0..TELLERS {
+        let teller = place + 1;
+        let log = log_of(rt, folder, teller, is_new);
+        logs.push(log.map_err(|fault| Fault::File(Place::Log(teller), fault))?)?;
     }
+    if is_new {
+        if logs.iter().any(|log| has_records(log)) {
+            return Err(of_next_day(FolderFault::Missing));
+        }
+        put_next_day(rt, folder, 0)?;
+    }
+    Ok(logs)
 }
 
-/// The teller's log, which is made where there is none.
-pub fn log_of(rt: &HostRuntime, folder: &str, teller: u32) -> Result<TellerLog, Fault> {
-    let path = path_of(rt.alloc(), folder, teller)?;
-    match fs::exists(rt, &path) {
-        Ok(true) => opened(rt, &path),
-        Ok(false) => made(rt, folder, &path),
-        Err(_) => Err(Fault::Folder),
-    }
+fn of_next_day(fault: FolderFault) -> Fault {
+    Fault::File(Place::NextDay, fault)
 }
 
-// The number in the file, or 0 where there is no file.
-fn number_in(rt: &HostRuntime, path: &str) -> Result<u32, Fault> {
+// The number in the file, or nothing where there is no file.
+fn number_in(rt: &HostRuntime, path: &str) -> Result<Option<u32>, FolderFault> {
     let bytes = match fs::read(rt, path) {
         Ok(bytes) => bytes,
-        Err(error) if error.kind() == ErrorKind::NotFound => return Ok(0),
-        Err(_) => return Err(Fault::Folder),
+        Err(error) if error.kind() == ErrorKind::NotFound => return Ok(None),
+        Err(error) => return Err(FolderFault::from(error)),
     };
     let Ok(bytes) = <[u8; 4]>::try_from(bytes.as_slice()) else {
-        return Err(Fault::Folder);
+        return Err(FolderFault::Damaged);
     };
-    Ok(u32::from_be_bytes(bytes))
+    Ok(Some(u32::from_be_bytes(bytes)))
 }
 
-// Has the disk keep the number, under another name.
-fn put_number(rt: &HostRuntime, path: &str, number: u32) -> Result<(), Fault> {
-    let Ok(mut file) = fs::File::create(rt, path) else {
-        return Err(Fault::Folder);
-    };
-    if file.write_all(&number.to_be_bytes()).is_err() || file.sync_all().is_err() {
-        return Err(Fault::Folder);
+// The number of the next day, or nothing in a new folder.
+fn next_day(rt: &HostRuntime, folder: &LogFolder) -> Result<Option<u32>, Fault> {
+    let path = folder.path();
+    let path = format!(in rt.alloc(); "{path}/next-day")?;
+    number_in(rt, &path).map_err(of_next_day)
+}
+
+// Has the disk keep the number in a new file at the path, in place of one that an earlier run left unfinished. A
+// symbolic link there isn't followed.
+fn put_number(rt: &HostRuntime, path: &str, number: u32) -> Result<(), FolderFault> {
+    match fs::remove_file(rt, path) {
+        Ok(()) => {}
+        Err(error) if error.kind() == ErrorKind::NotFound => {}
+        Err(error) => return Err(FolderFault::from(error)),
     }
+    let mut file = fs::File::create_new(rt, path)?;
+    file.write_all(&number.to_be_bytes())?;
+    file.sync_all()?;
     Ok(())
+}
+
+// Has the disk keep the number, first under another name.
+fn keep_number(rt: &HostRuntime, folder: &LogFolder, number: u32) -> Result<(), FolderFault> {
+    let alloc = rt.alloc();
+    let path = folder.path();
+    let path = format!(in alloc; "{path}/next-day")?;
+    let unfinished = format!(in alloc; "{path}.new")?;
+    put_number(rt, &unfinished, number)?;
+    fs::rename(rt, &unfinished, &path)?;
+    folder.keep_names()
+}
+
+// Has the disk keep the number of the next day.
+fn put_next_day(rt: &HostRuntime, folder: &LogFolder, number: u32) -> Result<(), Fault> {
+    keep_number(rt, folder, number).map_err(of_next_day)
 }
 
 /// The number of a day that the folder hasn't had, whatever became of the program on the days before.
-pub fn new_day(rt: &HostRuntime, folder: &str) -> Result<u32, Fault>
+pub fn new_day(rt: &HostRuntime, folder: &LogFolder) -> Result<u32, Fault>
     ensures { IfOk result (λ day. day < 2 ^ 26) }
 {
-    let alloc = rt.alloc();
-    let path = format!(in alloc; "{folder}/next-day")?;
-    let unfinished = format!(in alloc; "{path}.new")?;
-    let day = number_in(rt, &path)?;
+    let Some(day) = next_day(rt, folder)? else {
+        return Err(of_next_day(FolderFault::Missing));
+    };
     if day >= DAYS {
         return Err(Fault::Worn);
     }
-    put_number(rt, &unfinished, day + 1)?;
-    rename(rt, folder, &unfinished, &path)?;
+    put_next_day(rt, folder, day + 1)?;
     Ok(day)
 }

@@ -50,7 +50,7 @@ pub fn tell_records<W: Write, D: Device>(
     ensures { OnOk result (log.now.condition ≢ Lost) }
 {
     if !log.is_known() {
-        return Err(Fault::Undecided);
+        return Err(Fault::Undecided(teller));
     }
     let mut records = String::new(alloc);
     let mut count: u32 = 0;

@@ -1,4 +1,4 @@
-//! A bank whose decision logs outlive it: `xa_ledger FOLDER [DAYS]`.
+//! A bank whose decision logs outlive it: `xa_ledger FOLDER [DAYS]`. `xa_ledger --help` says what its statuses mean.
 //!
 //! Four tellers, each in a thread of its own, move money between three stores in memory, and each decides by a log in
 //! a file of the folder (files.rt). At the start the program tells what the logs have: what was decided when the last
@@ -17,7 +17,8 @@ mod words;
 
 use crate::day::keep_the_days;
 use crate::fault::Fault;
-use crate::words::{Order, WordsFault, order_of};
+use crate::lines::write_lines;
+use crate::words::{Order, WordsFault, help, order_of};
 use std::env;
 use std::io::{self, Write};
 use std::process::ExitCode;
@@ -45,22 +46,33 @@ fn obey<H: Threads + Wait + Copy + Send + 'static>(
         texts.push(word.as_str())?;
     }
     match order_of(alloc, &texts) {
-        Ok(Order { folder, days }) => keep_the_days(files, rt, folder, days),
+        Ok(Order::Keep { folder, days }) => keep_the_days(files, rt, folder, days),
+        Ok(Order::Help) => write_lines(&mut files.stdout(), &help(alloc)?),
         Err(WordsFault::Usage) => Err(Fault::Usage),
         Err(WordsFault::NoMemory) => Err(Fault::NoMemory),
     }
 }
 
-fn main(rt: HostRuntime) -> ExitCode {
-    let done = match given_words(&rt) {
-        Ok(words) => obey(&rt, &rt, &words),
-        // A word that is no text is none of the program's.
-        Err(_) => Err(Fault::Usage),
+// Tells of a fault on standard error. The first word is the folder.
+fn tell(rt: &HostRuntime, words: &[String], fault: Fault) {
+    let folder = words.first().map_or("", |word| word.as_str());
+    let mut out = rt.stderr();
+    let _ = match fault.line(rt.alloc(), folder) {
+        Ok(line) => out.write_all(line.as_bytes()),
+        Err(_) => out.write_all(b"xa_ledger: out of memory\n"),
     };
-    match done {
+}
+
+fn main(rt: HostRuntime) -> ExitCode {
+    // A word that is no text is none of the program's.
+    let Ok(words) = given_words(&rt) else {
+        tell(&rt, &[], Fault::Usage);
+        return ExitCode::from(Fault::Usage.status());
+    };
+    match obey(&rt, &rt, &words) {
         Ok(()) => ExitCode::SUCCESS,
         Err(fault) => {
-            let _ = rt.stderr().write_all(fault.text().as_bytes());
+            tell(&rt, &words, fault);
             ExitCode::from(fault.status())
         }
     }

@@ -1,6 +1,7 @@
-use Rattle.std.proofs.Common.{◌≡◌, length}
+use Rattle.std.proofs.Common.{◌≡◌, ◌+◌, length}
+use Rattle.std.specs.Vec.Iter.{into_iter_items}
 use Rattle.xa_ledger.proofs.day.open_logs.Given as goal
 
--- there is a log of each teller that is past
-abbrev pub invariant-loop-place : goal.invariant-loop-place
-invariant-loop-place g l = record { counted : length l.logs.items ≡ l.place }
+-- each log is told or to come
+abbrev pub invariant-loop-log : goal.invariant-loop-log
+invariant-loop-log g l = record { counted : length l.told.items + length (into_iter_items l.log-iterator) ≡ 4 }
