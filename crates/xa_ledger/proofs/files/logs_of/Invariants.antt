@@ -3,4 +3,4 @@ use Rattle.xa_ledger.proofs.files.logs_of.Given as goal
 
 -- there is a log of each teller that is past
 abbrev pub invariant-loop-place : goal.invariant-loop-place
-invariant-loop-place g l = record { counted : length l.logs.items ≡ l.place }
+invariant-loop-place l = record { counted : length l.logs.items ≡ l.place }
