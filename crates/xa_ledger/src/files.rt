@@ -11,6 +11,7 @@ use crate::numbers::{DAYS, TELLERS};
 use std::fs;
 use std::io::{ErrorKind, Write};
 use xa_file_log::{Device, DiskLog, FileLog, FolderFault, LogFolder};
+use xa_log::DecisionRecords;
 
 // How many records a log has room for.
 const SLOTS: u32 = 1024;
@@ -36,8 +37,11 @@ fn log_of(
     folder.open_log(rt, &name)
 }
 
-// Whether the log has a record.
+// Whether the log has a record, or nobody knows which it has.
 fn has_records<D: Device>(log: &FileLog<D>) -> bool {
+    if !log.is_known() {
+        return true;
+    }
     for place in 0..log.slots() {
         if log.record_at(place).is_some() {
             return true;
