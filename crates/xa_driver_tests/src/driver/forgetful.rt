@@ -11,10 +11,14 @@ use super::{Opened, branch, plan_of};
 use std::alloc::Global;
 use std::process::Abort;
 use std::sync::Wait;
-use xa_driver::{Outcome, Resolved, forget_acknowledged, forget_resolved};
+use xa_crew::Turns;
+use xa_desk::Desk;
+use xa_driver::{
+    Branch, Done, Outcome, Resolved, commit_until, forget_acknowledged, forget_resolved, may_commit,
+};
 use xa_log::{CommitRecord, DecisionLog, DecisionRecords, MemoryLog};
 use xa_switch::Plan;
-use xa_words::{Code, ManagerSet, Tran, Xid};
+use xa_words::{Code, Death, ManagerSet, Tran, Xid};
 
 // An opening of two threads and two managers.
 fn opened<R: Wait + Abort>(rt: &R, alloc: Global) -> Opened
@@ -67,6 +71,59 @@ fn a_record_stays_while_a_branch_is_in_doubt(rt: HostRuntime) {
     assert!(&rt; recovered.ended.told.outcomes.len() == 1);
     assert!(&rt; forget_resolved(alloc, &mut log, &recovered.ended.told).is_ok());
     assert!(&rt; log.has(&tran).is_none());
+}
+
+// Commits the branches up to the death of the coordinator, and tells what it knew then.
+fn commit_and_die<R: Wait + Abort>(
+    rt: &R,
+    alloc: Global,
+    desk: &mut Desk,
+    log: &mut MemoryLog,
+    branches: &[Branch],
+    death: Death,
+    idle: &mut Turns,
+) -> Done {
+    if !may_commit(desk, log, branches) {
+        panic!(rt; "these branches are refused");
+    }
+    let Ok(known) = commit_until(rt, alloc, desk, log, branches, death, idle) else {
+        panic!(rt; "memory");
+    };
+    known
+}
+
+// The first thread works for two branches and dies as it commits them, with the record in the log: no branch is known
+// to have ended, so the record stays.
+fn dies_and_keeps_its_record<R: Wait + Abort>(rt: &R, alloc: Global, opened: Opened, death: Death)
+{
+    let branches = [branch(rt, 1), branch(rt, 2)];
+    let tran = branches[0].xid.tran();
+    let Opened {
+        mut first,
+        second: _,
+        mut workers,
+    } = opened;
+    work(rt, &mut first, &branches[0], &mut workers);
+    work(rt, &mut first, &branches[1], &mut workers);
+    let mut log = MemoryLog::new(alloc);
+    let known = commit_and_die(rt, alloc, &mut first, &mut log, &branches, death, &mut workers);
+    assert!(rt; known.logged && !known.is_acknowledged());
+    forget_acknowledged(&mut log, &tran, &known);
+    assert!(rt; log.has(&tran).is_some());
+}
+
+#[test]
+fn a_record_stays_where_the_coordinator_died_with_its_decision(rt: HostRuntime) {
+    let alloc = rt.alloc();
+    let opened = opened(&rt, alloc);
+    dies_and_keeps_its_record(&rt, alloc, opened, Death::Decided);
+}
+
+#[test]
+fn a_record_stays_where_the_coordinator_died_as_it_told_its_decision(rt: HostRuntime) {
+    let alloc = rt.alloc();
+    let opened = opened(&rt, alloc);
+    dies_and_keeps_its_record(&rt, alloc, opened, Death::Telling(1));
 }
 
 // The transaction of this gtrid.

@@ -82,7 +82,8 @@ fn comes_to<R: Wait + Abort>(rt: &R, alloc: Global, keeps: bool, value: u64) {
     } = open(rt, alloc, &plan);
     work(rt, &mut first, &branches[0], &mut workers);
     work(rt, &mut first, &branches[1], &mut workers);
-    let mut log = LosingLog::losing_at(MemoryLog::new(alloc), 1, keeps);
+    let found = MemoryLog::with_room(alloc, 1).expect(rt, "memory");
+    let mut log = LosingLog::losing_at(found, 1, keeps);
     is_undecided(rt, alloc, &mut first, &mut log, &branches, &mut workers);
     let settled = end_both(rt, alloc, first, second, workers);
     let recovered = recover(rt, alloc, settled, &again(8), &log.reopened());
