@@ -14,6 +14,7 @@ use Rattle.xa_atomicity.specs.Outcomes.{is_heuristic, is_in_doubt}
 use Rattle.xa_work.specs.declared.unit.WorkOutcome.{WorkOutcome}
 use Rattle.xa_work.specs.declared.unit.WorkOutcome.TheVariants.{Decided, Died, Refused, Undecided}
 use Rattle.xa_work.specs.Units.{LeavesKnown, is_last}
+use Rattle.xa_work.specs.Works.{OpensAll}
 use Rattle.xa_bank.specs.declared.habits.Habits.{Habits}
 use Rattle.xa_bank.specs.declared.teller.Teller.{Teller}
 use Rattle.xa_bank.specs.declared.teller.Transfer.{Transfer}
@@ -31,14 +32,15 @@ pub data Comes (Known Knows : Type 0) (trs : List Transfer) (os : List WorkOutco
       → list_any is_last before ≡ false → is_last o ≡ true → LeavesKnown Knows o → Comes Known Knows trs os
   unknown : (Known → ⊥) → os ≡ [] → Comes Known Knows trs os
 
--- these transfers were made, up to the last that the teller makes, and what became of each was told after the outcomes
--- before it
+-- These transfers were made, up to the last that the teller makes, and what became of each was told after the outcomes
+-- before it. Where its log was known at first, each store was opened for its thread before them.
 pub record HasMade (trs : List Transfer) (habits : Habits) (before : List WorkOutcome) (old : DeskView)
     (log : LogState) (Known : Type 0) (after : List WorkOutcome) (new : DeskView) (later : LogState)
     (Knows : Type 0) (MayRead : LogState → Type 0) : Type 0 where
   pub more : List WorkOutcome
   pub told : after ≡ before ++ more
   pub makes : MakesAll trs habits more old new log later MayRead
+  pub opens : Known → (ok : Bool) × OpensAll ok old makes.opened
   pub comes : Comes Known Knows trs more
 
 -- Its transfers and its habits stay. Unless memory was refused, there is an outcome more for each of its transfers,

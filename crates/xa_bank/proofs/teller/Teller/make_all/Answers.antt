@@ -54,6 +54,7 @@ returns-then-not-is_known-clause-made g c = record {
     opens = have_none c.args.desk.now.ledgers c.args.desk.now.ledgers refl;
     makes = makes_none (IsReadAs g.L.DecisionLog.state g.L.DecisionRecords.knows g.L.DecisionLog.loses c.args.self.now.log) c.args.desk.now.thread c.args.self.now.habits c.args.self.now.habits.first c.args.self.now.transfers.items c.args.desk.now (g.L.DecisionLog.state c.args.self.now.log);
   };
+  opens = λ known. absurd (let yes_ : c.is_known.result ≡ true = c.is_known.ensures.1 known in let no : c.is_known.result ≡ false = c.if-not-is_known.true in cc);
   comes = unknown (λ known. let yes_ : c.is_known.result ≡ true = c.is_known.ensures.1 known in let no : c.is_known.result ≡ false = c.if-not-is_known.true in cc) refl;
 }
 
@@ -123,6 +124,7 @@ returns-then-last-clause-made g c =
             all_more g.L.DecisionLog.state (IsReadAs g.L.DecisionLog.state g.L.DecisionRecords.knows g.L.DecisionLog.loses) c.args.self.now.log c.loop-place.self.log c.make.new.self.log c.args.desk.now.thread c.loop-place.desk.thread c.loop-place.place c.args.self.now.habits c.loop-place.self.habits trs c.index.result.now more o c.open_all.new.desk c.loop-place.desk
             c.make.new.desk below many none (ap (λ (s : DeskSeat). s.thread) c.loop-place.invariant.goes_on.seat) c.loop-place.invariant.habits taken makes c.in_ok-outcome.ensures.makes;
       };
+      opens = λ known. (c.open_all.result, c.open_all.ensures.opens);
       comes = ended more o refl none (sym c.is_last-last.ensures ∙ c.if-last.true) c.in_ok-outcome.ensures.known;
     }
 
@@ -151,5 +153,6 @@ returns-clause-made g c =
         opens = c.open_all.ensures.sent;
         makes = rw (take_all c.loop-place.place trs (omega (arith, past))) at makes;
       };
+      opens = λ known. (c.open_all.result, c.open_all.ensures.opens);
       comes = lived none (let low = c.loop-place.invariant.each in omega (arith, past, many)) c.loop-place.invariant.knows;
     }
