@@ -94,8 +94,7 @@ fn commit_and_die<R: Wait + Abort>(
 
 // The first thread works for two branches and dies as it commits them, with the record in the log: no branch is known
 // to have ended, so the record stays.
-fn dies_and_keeps_its_record<R: Wait + Abort>(rt: &R, alloc: Global, opened: Opened, death: Death)
-{
+fn dies_and_keeps_its_record<R: Wait + Abort>(rt: &R, alloc: Global, opened: Opened, death: Death) {
     let branches = [branch(rt, 1), branch(rt, 2)];
     let tran = branches[0].xid.tran();
     let Opened {
@@ -106,7 +105,15 @@ fn dies_and_keeps_its_record<R: Wait + Abort>(rt: &R, alloc: Global, opened: Ope
     work(rt, &mut first, &branches[0], &mut workers);
     work(rt, &mut first, &branches[1], &mut workers);
     let mut log = MemoryLog::new(alloc);
-    let known = commit_and_die(rt, alloc, &mut first, &mut log, &branches, death, &mut workers);
+    let known = commit_and_die(
+        rt,
+        alloc,
+        &mut first,
+        &mut log,
+        &branches,
+        death,
+        &mut workers,
+    );
     assert!(rt; known.logged && !known.is_acknowledged());
     forget_acknowledged(&mut log, &tran, &known);
     assert!(rt; log.has(&tran).is_some());
