@@ -53,7 +53,11 @@ impl Tape {
         self.calls > 0
     }
 
-    fn is_failing(&mut self) -> bool {
+    // Counts a call, which is to fail or not.
+    fn is_failing(&mut self) -> bool
+        ensures now { self.new.now ≡ self.old.now }
+        ensures durable { self.new.durable ≡ self.old.durable }
+    {
         self.calls = self.calls.saturating_add(1);
         self.calls == self.fails
     }
