@@ -1,15 +1,17 @@
 #!/usr/bin/env -S python3 -B
-"""What ./test runs in a copy of the repository: every proof from nothing, the edits that must fail, the tests, the
-program's stored run as two compilers build it, each script of examples/ and of tests/ against the transcript beside it,
-and the checks of checks/. The last line counts. rt sets aside what is kept in the crates' out/: it isn't run here."""
+"""What ./test runs in a copy of the repository: every proof from nothing, the tests, the program's stored run as two
+compilers build it, the edits that must fail, each script of examples/ and of tests/ against the transcript beside it,
+and the checks of checks/. The last line counts. It changes the folder that it stands in: it isn't run here."""
 
+import contextlib
 import os
 import re
 import subprocess
 import sys
 import time
 
-from repository import ROOT, jobs, keep, programs, stamp
+import rattle
+from repository import ROOT, Sums, jobs, keep, lines, programs
 
 
 def counted(*command):
@@ -30,17 +32,42 @@ def counted(*command):
     return passed, failed
 
 
+@contextlib.contextmanager
+def without_edits():
+    """Meanwhile the edits stand elsewhere, so that rt doesn't try them: it tries each in a check of its own, over a
+    second proof of its crate."""
+    aside = ROOT / "out" / "must-fail"
+    aside.mkdir(parents=True)
+    folders = [folder for crate in lines() if (folder := ROOT / "crates" / crate / "must-fail").is_dir()]
+    for folder in folders:
+        folder.rename(aside / folder.parent.name)
+    yield
+    for folder in folders:
+        (aside / folder.parent.name).rename(folder)
+
+
+def keep_what_is_built(sums):
+    """Keeps the programs and the libraries that rt ci has just proved and built, so that they aren't built again."""
+    for name in programs():
+        keep(name, "default", sums.of(name))
+    for name in lines():
+        built = ROOT / "crates" / name / "out" / "rlib" / f"{name}.rlib"
+        if built.is_dir():
+            rattle.keep_library(name, sums.of(name), built)
+
+
 def main():
-    # By rt's own estimate of memory the largest crate, whose edits take longest, would be held back till last.
+    # By rt's own estimate of memory the largest crate would be held back till last.
     os.environ["RT_JOBS"] = str(jobs())
     # rt ci builds for any processor, and what it has built is what is tested.
     os.environ["XA_LEVEL"] = "default"
-    made_of = {name: stamp(name, "default") for name in programs()}
-    results = [counted("rt", "ci")]
+    sums = Sums()
+    with without_edits() if rattle.is_known() else contextlib.nullcontext():
+        results = [counted("rt", "ci")]
     if results[0][1] == 0:
-        # What rt ci has just proved and built isn't built again.
-        for name, made in made_of.items():
-            keep(name, "default", made)
+        keep_what_is_built(sums)
+        # With another kit rt has tried the edits.
+        results += [counted("tools/edits.py", "--proved")] if rattle.is_known() else []
         results += [counted("tests/run"), counted("checks/run")]
     passed, failed = map(sum, zip(*results))
     print(f"{passed} passed, {failed} failed")

@@ -1,6 +1,8 @@
 """What the scripts of this repository know of it and of the machine: which crates stand on which, what the programs are
 made of, and how many checks may run at once."""
 
+import functools
+import hashlib
 import os
 import re
 import shutil
@@ -46,39 +48,73 @@ def level():
     return subprocess.run([ROOT / "tools" / "level"], check=True, stdout=subprocess.PIPE, text=True).stdout.strip()
 
 
+@functools.cache
+def kit():
+    """The folder of the kit whose rt is at hand."""
+    return Path(shutil.which("rt")).resolve().parent.parent
+
+
+def text_sum(crate):
+    """The sum of a crate's own text: its line of crates.txt, and the files that its check reads."""
+    found = hashlib.sha256(lines()[crate].encode())
+    for part in PARTS:
+        for file in sorted((ROOT / "crates" / crate / part).rglob("*")):
+            if file.is_file():
+                text = file.read_bytes()
+                found.update(f"\n{file.relative_to(ROOT)} {len(text)}\n".encode())
+                found.update(text)
+    return found.hexdigest()
+
+
+class Sums:
+    """What crates are made of, as it was when this was first asked for: the text of each is read once."""
+
+    def __init__(self):
+        self.texts = {}
+
+    def text(self, crate):
+        if crate not in self.texts:
+            self.texts[crate] = text_sum(crate)
+        return self.texts[crate]
+
+    def of(self, crate):
+        """The sum of all that is proved with a crate: the kit, its own text, and that of what it stands on."""
+        below = "".join(f"{it} {self.text(it)}\n" for it in sorted(crates_below(crate)))
+        return hashlib.sha256(((kit() / "KIT-ID").read_text() + below).encode()).hexdigest()
+
+    def is_now(self, crate):
+        """Whether the crate's own text is still the same."""
+        return self.text(crate) == text_sum(crate)
+
+
 def program(name, level):
     """Where the program of this crate is, as it is built for this level. One of another level stands apart."""
     return ROOT / "out" / level / name
 
 
-def stamp(name, level):
-    """What the program of this crate is made of today, what is built of it for this level, and the level, each as one
-    word."""
-    words = [ROOT / "tools" / "stamp", name, level]
-    return subprocess.run(words, check=True, stdout=subprocess.PIPE, text=True).stdout
+def stamp(made_of, built):
+    """What is written beside a program that is built of this: that, and the program's own sum."""
+    return f"{made_of} {hashlib.sha256(built.read_bytes()).hexdigest()}\n"
 
 
-def keep(name, level, made_of):
-    """Keeps the program that rt has just built for this level, if it did, but only if what it was made of is there now.
-    Returns whether it is kept."""
-    built, kept = ROOT / "crates" / name / "out" / name, program(name, level)
+def keep(name, level, made_of, built=None):
+    """Keeps a program that was built of this for this level, by rt where no file is named, if it was built."""
+    built, kept = built or ROOT / "crates" / name / "out" / name, program(name, level)
     if not built.is_file():
-        return False
+        return
     kept.parent.mkdir(parents=True, exist_ok=True)
     new = kept.with_name(f"{name}.new")
     shutil.copy2(built, new)
+    kept.with_name(f"{name}.made").unlink(missing_ok=True)
     new.replace(kept)
-    now = stamp(name, level)
-    if now.split()[0] == made_of.split()[0]:
-        kept.with_name(f"{name}.made").write_text(now)
-        return True
-    return False
+    kept.with_name(f"{name}.made").write_text(stamp(made_of, kept))
 
 
-def is_fresh(name, level):
+def is_fresh(name, level, sums=None):
     """Whether the program was built for this level of what is there now."""
+    kept = program(name, level)
     try:
-        return program(name, level).with_name(f"{name}.made").read_text() == stamp(name, level)
+        return kept.with_name(f"{name}.made").read_text() == stamp((sums or Sums()).of(name), kept)
     except FileNotFoundError:
         return False
 

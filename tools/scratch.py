@@ -1,16 +1,14 @@
 """Small repositories with copies of crates of this one."""
 
-import os
 import shutil
-import subprocess
-import sys
 
-from repository import PARTS, ROOT, crates_below
+import rattle
+from build import prove_libraries
+from repository import PARTS, ROOT, Sums, crates_below
 
 
 def copy(place, crates):
-    """Makes such a repository in this folder, with these crates of ours and all that they stand on. What is built of
-    these is used again: rt writes it anew and never changes it, so it is linked. Returns the folders of all."""
+    """Makes such a repository in this folder, with these crates of ours and all that they stand on."""
     below = crates_below(*crates)
     for crate in below:
         for part in PARTS:
@@ -18,29 +16,8 @@ def copy(place, crates):
             shutil.rmtree(other, ignore_errors=True)
             if folder.is_dir():
                 shutil.copytree(folder, other)
-        built, other = ROOT / "crates" / crate / "out" / "rlib", place / "crates" / crate / "out" / "rlib"
-        shutil.rmtree(other, ignore_errors=True)
-        if built.is_dir():
-            shutil.copytree(built, other, copy_function=link)
     shutil.copy(ROOT / "HANDLES", place)
     (place / "crates.txt").write_text("".join(f"{line}\n" for line in below.values()))
-    return {crate: place / "crates" / crate for crate in below}
-
-
-def link(old, new):
-    """Another name of a file, or a copy where there can be none."""
-    try:
-        os.link(old, new)
-    except OSError:
-        shutil.copy2(old, new)
-
-
-def move(folder, to):
-    """Puts what is in a folder in the place of what another has under the same names."""
-    to.mkdir(exist_ok=True)
-    for part in folder.iterdir():
-        shutil.rmtree(to / part.name, ignore_errors=True)
-        shutil.move(part, to / part.name)
 
 
 def make(place, name, source, crates):
@@ -60,16 +37,19 @@ def make(place, name, source, crates):
 
 
 def build(name, crates, words):
-    """The program of the benchmark bench/NAME, whose source is main.rt.in, over these crates. It is built where there is
-    none or an older one, and run once with these words; the first build proves what isn't proved, which takes
-    minutes."""
-    source, place = ROOT / "bench" / name / "main.rt.in", ROOT / "bench" / "out" / name
-    program = place / "crates" / name / "out" / name
-    parts = [source]
-    for lower in crates_below(*crates):
-        parts += (ROOT / "crates" / lower / "src").rglob("*.rt")
-    if not program.exists() or any(part.stat().st_mtime > program.stat().st_mtime for part in parts):
-        crate = make(place, name, source, crates)
-        how = {"stdin": subprocess.DEVNULL, "stdout": sys.stderr}
-        subprocess.run(["rt", "run", "--", *words], cwd=crate, check=True, **how)
+    """The program of the benchmark bench/NAME, whose source is main.rt.in, over these crates. It is built where there
+    is none or one of other files; the first build proves what isn't proved, which takes minutes. With a kit whose
+    compiler is asked by rt alone, it is also run, with these words."""
+    source, place, sums = ROOT / "bench" / name / "main.rt.in", ROOT / "bench" / "out" / name, Sums()
+    folder = make(place, name, source, crates)
+    program = folder / "out" / name
+    made, made_of = program.with_suffix(".made"), " ".join([*map(sums.of, crates), source.read_text()])
+    if not made.is_file() or made.read_text() != made_of:
+        with rattle.Processes() as run:
+            if rattle.is_known():
+                prove_libraries(name, crates, run, sums)
+                run.build_program(folder, f"{name}: {' '.join(crates)}", crates_below(*crates), program)
+            else:
+                run.must(folder, "rt", "run", "--", *words)
+        made.write_text(made_of)
     return program
