@@ -69,14 +69,14 @@ class Progress:
 
 def prove(run, plan, kept, sums, progress):
     """Proves the plan's crates that aren't kept, each as soon as all below it are proved, and keeps their libraries.
-    Each that begins has its share of the processors, which is one where there are crates enough: several processes do
-    some of the work several times."""
+    Each is one process, or two where there are processors enough for all that can be proved: two take three quarters of
+    the time, and a fifth more of the processors', and four hardly less time than two."""
     lines, done, running = crates_below(*plan.below), set(kept), {}
     with run.threads(plan.room) as pool:
         while len(done) < len(plan.below):
             ready = plan.ready(done, done | {*running.values()})[: plan.room - len(running)]
-            share = max(1, plan.room // max(1, len(running) + len(ready)))
-            running |= {pool.submit(run.build_library, crate, lines, sums, share): crate for crate in ready}
+            count = 2 if plan.room >= 2 * (len(running) + len(ready)) else 1
+            running |= {pool.submit(run.build_library, crate, lines, sums, count): crate for crate in ready}
             for task in wait(running, return_when=FIRST_COMPLETED).done:
                 task.result()
                 done.add(running[task])
@@ -101,7 +101,7 @@ def prove_program(name, level, run, sums):
     progress = Progress(name, len(below), len(kept))
     progress.begin()
     prove(run, plan, kept, sums, progress)
-    run.build_program(folder, below[name], below, built, level, plan.room)
+    run.build_program(folder, below[name], below, built, level, min(2, plan.room))
     if not all(sums.is_now(crate) for crate in below):
         raise Refused("files were changed meanwhile")
     keep(name, level, sums.of(name), built)

@@ -33,15 +33,19 @@ LIMIT = re.compile(r"could not tell|ran out of|outgrew the memory limit|stopped 
 
 @dataclass(frozen=True)
 class Function:
-    """A function of a crate: the file that it stands in, and the prover's name for it below the crate."""
+    """A function of a crate: the file that it stands in, and the end of its name as the prover has it, which is that of
+    its type, as `Key::new`, since a type may have functions in several files; or, without one, of its module."""
 
     file: str
     name: str
+    has_type: bool
 
     def is_named(self, name):
-        """Whether this name is the function's, or that of a closure in it: `a::fn::f::any` is one in `a::f`."""
-        plain, is_closure, within = name.partition("fn::")
-        return name == self.name or is_closure and f"{plain}{within}::".startswith(f"{self.name}::")
+        """Whether this name of the prover's is the function's, or that of a closure in it, as `a::fn::f::any` in `f`."""
+        path = f"::{name.replace('fn::', '')}::"
+        own = f"::{self.name}::"
+        is_own = path.endswith(own) if self.has_type else path == own
+        return is_own or "fn::" in name and (own in path if self.has_type else path.startswith(own))
 
 
 def module(file):
@@ -52,28 +56,46 @@ def module(file):
 
 def functions(file, text):
     """The functions of a file of sources: each with where it begins, where its body begins, and where it ends."""
-    owners = [(0, "")]
-    for found in re.finditer(r"(?m)^(?:unsafe )?(?:pub(?:\([\w:]+\))? )?(impl|trait)\b(<.*?>+)? ?(.*)$|^\}", text):
-        owners.append((found.start(), owner(found[1], found[3]) if found[1] else ""))
+    types = [(0, "")]
+    for found in re.finditer(r"(?m)^(?:pub(?:\([\w:]+\))? )?(?:impl\b(.*)|trait (\w+).*)$|^\}", text):
+        types.append((found.start(), found[2] or (of_impl(found[1]) if found[1] else "")))
     for found in re.finditer(r"(?m)^( *)(?:pub(?:\([\w:]+\))? )?(?:const )?(?:unsafe )?fn (\w+)", text):
         indent = found[1]
         end = re.compile(rf"(?m)^{indent}\}}$").search(text, found.end())
         body = end and re.compile(rf"(?m)^{indent}\{{$| \{{$").search(text, found.end(), end.end())
         if body:
-            own = [name for start, name in owners if start <= found.start()][-1]
-            name = "::".join(it for it in (module(file), own, found[2]) if it)
-            yield Function(file, name), found.start(), body.end(), end.end()
+            type = [name for start, name in types if start <= found.start()][-1]
+            name = "::".join(it for it in (type or module(file), found[2]) if it)
+            yield Function(file, name, bool(type)), found.start(), body.end(), end.end()
 
 
-def owner(kind, head):
-    """The prover's name for what the functions of an impl or of a trait belong to."""
-    plain = re.sub(r"'\w+,? ?|\bmut |&", "", head.partition(" where")[0].removesuffix("{").strip())
-    of_trait, is_of_type, type = plain.partition(" for ")
-    base = lambda path: re.sub(r"<.*", "", path).rpartition("::")[2]
-    if kind == "trait" or not is_of_type:
-        return base(plain.partition(":")[0])
-    arguments = "".join(base(it.strip()) for it in re.findall(r"<(.*)>", of_trait) for it in it.split(","))
-    return base(type) + base(of_trait) + arguments
+def of_impl(head):
+    """The prover's name for what the functions of an impl belong to: the type, and after it the trait, if there is one,
+    as KeyPartialEq."""
+    # The impl's own parameters stand first, and may have angle brackets inside.
+    depth = at = 0
+    for at, letter in enumerate(head.replace("->", "--")):
+        depth += {"<": 1, ">": -1}.get(letter, 0)
+        if depth == 0:
+            break
+    parameters, rest = head[: at + 1], re.sub(r"'\w+,? ?", "", head[at + 1 :].partition(" where")[0].removesuffix(" {"))
+    own = re.findall(r"[<,]\s*(?:const )?(\w+)", parameters)
+    of_trait, _, type = rest.strip().rpartition(" for ")
+    arguments = [it for of in re.findall(r"<(.*)>", of_trait) for it in of.split(",")]
+    # A drop is named by its type alone.
+    named = (type, *arguments) if of_trait == "Drop" else (type, of_trait, *arguments)
+    return "".join(spelled(it, own) for it in named)
+
+
+def spelled(type, own):
+    """How a type or a trait is spelled in such a name, without its arguments and without parameters of the impl."""
+    type = type.strip()
+    if type.startswith("&"):
+        return "Ref" + spelled(type[1:].removeprefix("mut "), own)
+    if type.startswith("["):
+        return "Slice" + spelled(type[1:-1], own)
+    name = type.partition("<")[0].rpartition("::")[2]
+    return "" if name in own else name
 
 
 @dataclass(frozen=True)
@@ -150,7 +172,7 @@ class Said:
         for line in self.lines if told else ():
             at = re.match(r"(?:note: )?(?:\./)?(\S+?):(\d+):\d+: (.*)", line)
             is_in_it = at and at[1] == function.file and first <= int(at[2]) <= last
-            is_of_it = at and at[1].startswith(f"proofs/{function.name.replace('::', '/')}/")
+            is_of_it = at and at[1].startswith("proofs/") and f"/{function.name.replace('::', '/')}/" in at[1]
             if is_in_it and "it is not proved that" in at[3] or is_of_it and not CITED.search(at[3]):
                 return line
         return next((said for said in told if "did not prove" in said or LIMIT.search(said)), None)
