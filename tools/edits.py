@@ -27,8 +27,12 @@ from repository import PARTS, ROOT, Sums, crates_below, jobs, kit, lines
 
 # What the prover says of a proof that cites what isn't there, or isn't proved: it has refused no goal.
 CITED = re.compile(r"has no field|is not in scope|has no `|was not admitted")
-# What it says where it met a limit of its own.
-LIMIT = re.compile(r"could not tell|ran out of|outgrew the memory limit|stopped at the step limit")
+
+
+def is_error(said):
+    """Whether what is said of a place in a proof refuses something there. It says much else of places: hints, and which
+    terms are large."""
+    return said.startswith("error") and not CITED.search(said)
 
 
 @dataclass(frozen=True)
@@ -173,13 +177,14 @@ class Said:
             at = re.match(r"(?:note: )?(?:\./)?(\S+?):(\d+):\d+: (.*)", line)
             is_in_it = at and at[1] == function.file and first <= int(at[2]) <= last
             is_of_it = at and at[1].startswith("proofs/") and f"/{function.name.replace('::', '/')}/" in at[1]
-            if is_in_it and "it is not proved that" in at[3] or is_of_it and not CITED.search(at[3]):
+            if is_in_it and "it is not proved that" in at[3] or is_of_it and is_error(at[3]):
                 return line
-        return next((said for said in told if "did not prove" in said or LIMIT.search(said)), None)
+        return next((said for said in told if "did not prove" in said), None)
 
     def any_refusal(self):
         """How something was refused, or None where nothing was, or only since something that is cited isn't there."""
-        told = [it for it in self.lines if re.match(r"(note: )?\S+:\d+:\d+: ", it) and not CITED.search(it)]
+        places = (re.match(r"(?:note: )?\S+?:\d+:\d+: (.*)", line) for line in self.lines)
+        told = [at[0] for at in places if at and ("it is not proved that" in at[1] or is_error(at[1]))]
         is_refused = self.status == 1 and re.match("logic=not-proved|only=", self.lines[-1])
         return told[0] if is_refused and told else None
 
