@@ -5,8 +5,8 @@ use Rattle.xa_base.proofs.{range_with_len, ints, +ℤ_idl as none_plus, +ℤ_idr
 use Rattle.xa_base.proofs.{All-contains, inl, inr, cases_eq}
 use Rattle.xa_driver.specs.{Done, is_commit, Branch, Ending, is_no, IsCommit, AreBranchesRising, has_branch_at, HasSentNone, NoCommitWasSent, sent_so_far}
 use Rattle.xa_base.specs.{total}
-use Rattle.xa_words.specs.{XidName, Request, Code}
-use Rattle.xa_tables.specs.{Tables, are_accounts, opening, tables_after, moved, held_by, is_of, HoldsItsAdditions, History}
+use Rattle.xa_words.specs.{XidName, Request, Code, are_accounts}
+use Rattle.xa_tables.specs.{Tables, opening, tables_after, moved, held_by, is_of, HoldsItsAdditions, History}
 use Rattle.xa_desk.specs.{LedgerView, DeskView, ledger, HaveGrown}
 use Rattle.xa_desk.proofs.Ledgers.{growing_on, same_lists}
 use Rattle.xa_switch.specs.{Plan, IsSoundManager, IsSettled, sent, IsOpenedWith, ledgers_of, history, threads_of, managers_of, accounts_in, accounts_of}

@@ -3,8 +3,8 @@ use Rattle.xa_base.proofs.{cases_lt, cases_Bool, ◌≤◌, get_or, ◌≡◌, �
 use Rattle.xa_base.proofs.{subst, arith, Option, Some, None, inl, inr, ◌⊎◌, All, or-true, all_after, by_if, by_bool, at_false, at_true, ◌≢◌}
 use Rattle.xa_driver.specs.{VotesAndObeys, outcome_op, Branch, Ending, ReadOnly, RolledBack, Left, AsksFor, AtBranch, is_yes, is_read, second_op, third_op}
 use Rattle.xa_driver.specs.{ending_of, yes_ending, no_ending, is_out_of_reach, is_decided}
-use Rattle.xa_words.specs.{XidName, Done, RdOnly, RmFail, Op, Prepare, Rollback, Forget, Request, Code}
-use Rattle.xa_tables.specs.{is_rolled_back, Tables, History, is_forget, is_heur}
+use Rattle.xa_words.specs.{XidName, Done, RdOnly, RmFail, Op, Prepare, Rollback, Forget, Request, Code, is_rolled_back}
+use Rattle.xa_tables.specs.{Tables, History, is_forget, is_heur}
 use Rattle.xa_desk.specs.{is_rm_fail}
 use Rattle.xa_atomicity.proofs.Sites.{asks, withholds, Site, StandsIn, Sent, AsksIn, only_op, Second, request_of}
 

@@ -7,11 +7,11 @@ use Rattle.xa_atomicity.specs.{ended_as}
 use Rattle.std.proofs.lemmas.Bool.{or_left}
 use Rattle.xa_driver.specs.{is_heuristic as is_heuristic_code, outcome_op, Ending, Committed, ReadOnly, RolledBack, Heuristic, Left, is_yes, yes_ending}
 use Rattle.xa_driver.specs.{no_ending}
-use Rattle.xa_words.specs.{XidName, xid_eq, Done, RbIntegrity, RmFail, Op, Prepare, Rollback, Request, Code}
+use Rattle.xa_words.specs.{XidName, xid_eq, Done, RbIntegrity, RmFail, Op, Prepare, Rollback, Request, Code, is_rolled_back, is_done}
 use Rattle.xa_words.proofs.Xids.{xid_self}
-use Rattle.xa_tables.specs.{is_close, is_rolled_back, IsTold, HeuristicDecision, is_S3, is_prepared, decision_code, next, Fate, fate, fate_in, fate_of, coded}
-use Rattle.xa_tables.specs.{tables_after, last_or, is_done, is_in_doubt as is_unknown, prepare_fate, decided_fate, IsFateOf, names, OnlyDecides, LeavesWaiting}
-use Rattle.xa_tables.specs.{AwaitsAfter, is_heur, is_forget, answer_when, fates_when, Tables, History}
+use Rattle.xa_tables.specs.{is_close, IsTold, HeuristicDecision, is_S3, is_prepared, decision_code, next, Fate, fate, fate_in, fate_of, coded, tables_after}
+use Rattle.xa_tables.specs.{last_or, is_in_doubt as is_unknown, prepare_fate, decided_fate, IsFateOf, names, OnlyDecides, LeavesWaiting, AwaitsAfter, is_heur}
+use Rattle.xa_tables.specs.{is_forget, answer_when, fates_when, Tables, History}
 use Rattle.xa_tables.proofs.ValueLaw.{tables_after-append, unnamed_fate}
 use Rattle.xa_tables.specs.declared.state.HeuristicDecision.TheVariants as decision
 use Rattle.xa_tables.specs.Histories as history

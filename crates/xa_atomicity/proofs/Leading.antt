@@ -2,11 +2,11 @@
 use Rattle.xa_base.proofs.{both_ways, rules, arith, ◌⊎◌, not, cond, is_some, unwrap_or, ◌≡◌, ◌≢◌, ℕ, inl, inr, Bool, true, false, ◌||◌, if◌then◌else◌, [], ◌∷◌}
 use Rattle.xa_base.proofs.{sym, refl, ap, ◌∙◌, Option, Some, None, All, cons_option, not-false, or_from, All-nil, All-cons, All-head, All-tail, and-false}
 use Rattle.xa_base.proofs.{by_if, at_false, at_true, or-true, cases_Bool}
-use Rattle.xa_words.specs.{XidName, xid_eq, Decides-xid_eq, Done, Nota, Proto, RmFail, Op, Commit, Rollback, Forget, Request, Code}
+use Rattle.xa_words.specs.{XidName, xid_eq, Decides-xid_eq, Done, Nota, Proto, RmFail, Op, Commit, Rollback, Forget, Request, Code, is_done}
 use Rattle.xa_words.proofs.Xids.{xid_self}
 use Rattle.xa_tables.specs.{decision_of, committed, State, HeuristicallyCompleted, HeuristicDecision, has_opened, state_of, exists, is_left_in, is_prepared}
 use Rattle.xa_tables.specs.{is_completed, is_rollback_only, is_somebody_associated, reason_of, decision_code, Answer, next, by_rules, commit_two, rollback}
-use Rattle.xa_tables.specs.{gone, Fate, tables_after, fate_of, is_done, last_or, decided_fate, reopened, reopened_fate, names, Tables, History}
+use Rattle.xa_tables.specs.{gone, Fate, tables_after, fate_of, last_or, decided_fate, reopened, reopened_fate, names, Tables, History}
 use Rattle.xa_tables.specs.declared.state.State.TheVariants.{Prepared}
 use Rattle.xa_tables.proofs.Law.{Sound, AtWork, standing, nobody_rests, get_gone, sound_after, last_more}
 use Rattle.xa_tables.proofs.Reopening.{state_reopened}

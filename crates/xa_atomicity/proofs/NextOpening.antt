@@ -4,9 +4,9 @@ use Rattle.xa_base.proofs.{slice_get, option_map, Option, Some, None, sym, refl,
 use Rattle.xa_base.proofs.{slice_get-get_or, ◌≢◌, [], ◌∷◌, ◌++◌, All, map-append, All-nil, All-cons, All-head, All-tail, All-map, Bool, true, false, list_all}
 use Rattle.xa_base.proofs.{get-empty, and_parts, All-contains, inl, get_or, Contains-get_or, IsPermutation-sym, Contains-permutation, by_bool, mapped_some}
 use Rattle.xa_tables.specs.Histories as history
-use Rattle.xa_words.specs.{XidName, TranName, RmFail, xid_cmp, Code, tran_of}
+use Rattle.xa_words.specs.{XidName, TranName, RmFail, xid_cmp, Code, tran_of, is_done}
 use Rattle.xa_tables.specs.{is_left, Tables, AreLeft, State, HeuristicallyCompleted, HeuristicDecision, opening, state_of, is_left_in, Fate, IsFateOf}
-use Rattle.xa_tables.specs.{decided_fate, fate, is_done, tables_after, reopened, told_by, History, is_S3}
+use Rattle.xa_tables.specs.{decided_fate, fate, tables_after, reopened, told_by, History, is_S3}
 use Rattle.xa_switch.specs.{managers_in, reopened_at, reopening, Each, first_of, IsOf, ManagerPart, find_manager, Settling, Again, IsScanOf, IsSettled, last_in}
 use Rattle.xa_switch.specs.{IsOpenedWith, history as history_of, settled_fate, ledgers_of}
 use Rattle.xa_scan.specs.{ScanView, left_at}

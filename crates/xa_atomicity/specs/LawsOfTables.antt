@@ -9,7 +9,8 @@ use Rattle.xa_tables.specs.declared.state.HeuristicDecision.{HeuristicDecision}
 use Rattle.xa_tables.specs.ManagerTables.{Tables, association_of, state_of, is_prepared}
 use Rattle.xa_tables.specs.Reasons.{decision_code}
 use Rattle.xa_tables.specs.Next.{next}
-use Rattle.xa_tables.specs.Histories.{History, Fate, fate, fate_in, fates_in, coded, tables_after, is_rolled_back}
+use Rattle.xa_tables.specs.Histories.{History, Fate, fate, fate_in, fates_in, coded, tables_after}
+use Rattle.xa_words.specs.Codes.{is_rolled_back}
 use Rattle.xa_tables.specs.Histories.{EndsNowhere, IsFateOf}
 use Rattle.xa_tables.specs.Openings.{IsOpening, told_by}
 use Rattle.xa_tables.specs.Worth.{held_by}

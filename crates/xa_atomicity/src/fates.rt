@@ -28,7 +28,7 @@ ghost use Rattle.xa_atomicity.specs.Resolution.{ResolveCall};
 ghost use Rattle.xa_atomicity.specs.Resolution.{HasLeft, IsUseIn, OnlyResolves, TellsTheOutcomes};
 ghost use Rattle.xa_atomicity.specs.Resolution.{resolves, with_use};
 ghost use Rattle.xa_driver.specs.declared.resolved.Outcome.{Outcome};
-ghost use Rattle.xa_tables.specs.Histories.{is_done};
+ghost use Rattle.xa_words.specs.Codes.{is_done};
 ghost use Rattle.xa_tables.specs.ManagerTables.{Tables, is_left};
 ghost use Rattle.xa_tables.specs.Openings.{AreLeft};
 ghost use Rattle.xa_scan.specs.Left.{left_at};

@@ -2,8 +2,8 @@
 use Rattle.xa_base.proofs.{arith, ◌≡◌, Bool, true, false, ◌||◌, Option, Some, None, List, [], ◌∷◌, list_any, or_parts, at_true, at_false, rules, ℤ, pos, ◌+ℤ◌}
 use Rattle.xa_base.proofs.{ℕ, suc, ◌+◌, ◌^◌, ◌<◌, ◌≤◌, ◌++◌, length, length-append, append_assoc, refl, ap, ◌∙◌, subst, All, ints, cases_lt, All-nil, All-cons}
 use Rattle.xa_base.proofs.{All-head, All-tail, All-weaker}
-use Rattle.xa_words.specs.{XidName, Code, Death, Op}
-use Rattle.xa_tables.specs.{is_rolled_back, Tables, opening, IsOpening, AddsAsItWorks, History}
+use Rattle.xa_words.specs.{XidName, Code, Death, Op, is_rolled_back}
+use Rattle.xa_tables.specs.{Tables, opening, IsOpening, AddsAsItWorks, History}
 use Rattle.xa_desk.specs.{LedgerView, DeskView, ledger, HaveGrown}
 use Rattle.xa_driver.specs.{Branch, Done, Ending, Heuristic, AsksFor, AtBranch, VotesAndObeys, is_read, is_yes, second_op, third_op, ending_of, yes_ending}
 use Rattle.xa_driver.specs.{no_ending, is_decided, is_out_of_reach, AsksLedger, EachBranch, IsCommit, is_commit, NoCommitWasSent, HaveAsked, PutsLedger}

@@ -3,9 +3,9 @@ use Rattle.xa_base.proofs.{ints, inr, list_any-map, is_some, ◌≡◌, ℕ, ◌
 use Rattle.xa_base.proofs.{sym, ap, ◌∙◌, arith, All, Contains, All-nil, All-cons, All-contains, all_at, got_map, false_from_ne_true, ◌^◌, ◌⊎◌, map, inl}
 use Rattle.xa_base.proofs.{list_any, length-map, All-head, All-tail, rules, get-empty, was_mapped, Any-from_list_any, list_any_at}
 use Rattle.xa_base.specs.{MOST_MANAGERS, IsUpTo}
-use Rattle.xa_words.specs.{XidName, Decides-xid_eq, TranName, tran_of, Op, OpenRm, xid_eq, Commit, Heur, Request, xid_cmp}
-use Rattle.xa_tables.specs.{Tables, exists, is_left, state_of, is_done, AreLeft, IsOpening, NamesNowhere, names, is_declared, is_left_in, tables_after, History}
-use Rattle.xa_tables.specs.{opening, reopened}
+use Rattle.xa_words.specs.{XidName, Decides-xid_eq, TranName, tran_of, Op, OpenRm, xid_eq, Commit, Heur, Request, xid_cmp, is_done}
+use Rattle.xa_tables.specs.{Tables, exists, is_left, state_of, AreLeft, IsOpening, NamesNowhere, names, is_declared, is_left_in, tables_after, History, opening}
+use Rattle.xa_tables.specs.{reopened}
 use Rattle.xa_tables.proofs.Reopening.{as_left, reopens}
 use Rattle.xa_tables.proofs.ValueLaw.{unnamed_on}
 use Rattle.xa_desk.specs.{ledger}

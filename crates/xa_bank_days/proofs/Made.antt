@@ -6,13 +6,13 @@ use Rattle.xa_base.proofs.{cases_eq, Contains, neg_ℤ, AllByRecursion, unwrap_o
 use Rattle.xa_base.proofs.{not-true, all_at, got, range_all, total_across, total_alike, total_both, total_nothing, total_same}
 use Rattle.std.specs.List.{IsDistinct}
 use Rattle.xa_base.specs.{total, IsUpTo}
-use Rattle.xa_words.specs.{key_eq, XidName, xid_eq, Decides-xid_eq, TranName, tran_of, Op, Decides-key_eq, key_cmp_total}
+use Rattle.xa_words.specs.{key_eq, XidName, xid_eq, Decides-xid_eq, TranName, tran_of, Op, Decides-key_eq, key_cmp_total, are_accounts, are_apart}
 use Rattle.xa_days.specs.{Leg, counted, ComesOutByTheLog, leg_of}
 use Rattle.xa_bank.specs.{Transfer, AreLegs, Habits, death_in, shut_before, Makes, MakesNext, branches_of, changes_of, tran_named, with_legs, without_legs}
 use Rattle.xa_bank.proofs.Legs.{AnyLeg, leg_work}
 use Rattle.xa_bank_days.specs.{Balances, all_applied, applied, share, IsNamed, is_applied, balances_at, IsWithin}
 use Rattle.xa_words.proofs.Xids.{xid_self}
-use Rattle.xa_tables.specs.{Tables, state_of, names, DeclareEach, are_accounts, are_apart, opening, is_declared, value_of, worth, worth_declared}
+use Rattle.xa_tables.specs.{Tables, state_of, names, DeclareEach, opening, is_declared, value_of, worth, worth_declared}
 use Rattle.xa_desk.specs.{LedgerView, DeskView, ledger}
 use Rattle.xa_switch.specs.{Again, Settling, first_of, ledgers_of, ManagerPlan, Plan, last_in, IsSound, IsSoundManager, ManagerPart, find_manager, value}
 use Rattle.xa_switch.specs.{value_in, accounts_in, accounts_of, managers_of, plan_worth, settled_worth}

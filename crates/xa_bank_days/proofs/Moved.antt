@@ -4,8 +4,8 @@ use Rattle.xa_base.proofs.{ints, map_alike, total_append, none_all, option_map, 
 use Rattle.xa_base.proofs.{slice_get, Some, inl, inr, sym, refl, ap, ◌∙◌, subst, arith, All, length-map, same_Some as some_same, slice_get_within, got_map, Vec}
 use Rattle.xa_base.proofs.{◌++◌, IfOk, Result, Ok, Err, Global, all_mid, is_some, false, Option, all_at, all_from, was_mapped, All-map, all_unmapped}
 use Rattle.xa_base.specs.{IsUpTo}
-use Rattle.xa_words.specs.{TranName}
-use Rattle.xa_tables.specs.{Tables, is_done, is_declared}
+use Rattle.xa_words.specs.{TranName, is_done}
+use Rattle.xa_tables.specs.{Tables, is_declared}
 use Rattle.xa_switch.specs.{Again, IsWhole, managers_in, reopened_at, reopening, first_of, IsOf, ManagerPart, Settling, last_in, history, IsSettled, value_in}
 use Rattle.xa_switch.proofs.SettledOpenings.{begun, follows_first}
 use Rattle.xa_log.specs.{LogState}

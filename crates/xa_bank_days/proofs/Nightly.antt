@@ -7,8 +7,8 @@ use Rattle.xa_base.proofs.{at_false, length-map, IfOk, ◌+◌, ◌++◌, length
 use Rattle.xa_base.proofs.{same_Some as some_same, got_map, list_any_none, Contains, range_with_len, eqb-true, length-range_with_len, get_or-range_with_len}
 use Rattle.xa_base.proofs.{got, All-filter, Contains-get_or, IfErr, le-ltb, IfErr-weaker, IsPermutation-sym, Contains-permutation}
 use Rattle.xa_base.specs.{Chain, IsUpTo, MOST_MANAGERS}
-use Rattle.xa_words.specs.{XidName, RmFail, Op, OpenRm, Commit, Rollback, Forget, Request, Code, TranName}
-use Rattle.xa_tables.specs.{State, is_S5, decision_in, Answer, next, coded, is_rolled_back, Tables, History, of_thread, tables_after, opening}
+use Rattle.xa_words.specs.{XidName, RmFail, Op, OpenRm, Commit, Rollback, Forget, Request, Code, TranName, is_rolled_back}
+use Rattle.xa_tables.specs.{State, is_S5, decision_in, Answer, next, coded, Tables, History, of_thread, tables_after, opening}
 use Rattle.xa_tables.proofs.Effects.{reason_rolls_back}
 use Rattle.xa_desk.specs.{LedgerView, is_rm_fail, learnt_shut, new_ledgers, no_ledger, room_at, DeskView, ledger, numbered}
 use Rattle.xa_worker.specs.{Entry, requests}

@@ -9,7 +9,7 @@ use Rattle.xa_words.specs.Key.{key_eq}
 use Rattle.xa_words.specs.Tran.{TranName}
 use Rattle.xa_tables.specs.ManagerTables.{is_declared}
 use Rattle.xa_tables.specs.Managers.{opening}
-use Rattle.xa_tables.specs.Histories.{is_done}
+use Rattle.xa_words.specs.Codes.{is_done}
 use Rattle.xa_switch.specs.declared.plan.Again.{Again}
 use Rattle.xa_switch.specs.declared.plan.Plan.{Plan}
 use Rattle.xa_switch.specs.Reopening.{last_in, managers_in, reopened_at, reopening}

@@ -3,7 +3,7 @@ ghost use Rattle.std.specs.Prelude.{◌≡◌, ℕ, ◌+◌, ◌^◌, ◌<◌, �
 ghost use Rattle.std.specs.List.{All};
 ghost use Rattle.xa_base.specs.Lists.{IsUpTo};
 ghost use Rattle.xa_tables.specs.ManagerTables.{is_declared};
-ghost use Rattle.xa_tables.specs.Histories.{is_done};
+ghost use Rattle.xa_words.specs.Codes.{is_done};
 ghost use Rattle.xa_switch.specs.declared.plan.Plan.{Plan};
 ghost use Rattle.xa_switch.specs.Reopening.{reopened_at};
 ghost use Rattle.xa_switch.specs.Plans.{IsSound};

@@ -4,12 +4,11 @@ use Rattle.xa_base.proofs.{Some, is_some, List, [], ◌∷◌, ◌++◌, unwrap_
 use Rattle.xa_base.proofs.{+ℤ_idr as plus_none, total_same, by_if, at_true, at_false}
 use Rattle.xa_atomicity.proofs.Sites.{fates_both, last_both}
 use Rattle.xa_atomicity.proofs.Values.{moved_both, moved_without, unmoving}
-use Rattle.xa_words.specs.{XidName, xid_eq, Decides-xid_eq, Done, Op, Prepare, Commit, Rollback, Request, Code}
+use Rattle.xa_words.specs.{XidName, xid_eq, Decides-xid_eq, Done, Op, Prepare, Commit, Rollback, Request, Code, is_done, is_integrity, is_rolled_back}
 use Rattle.xa_tables.specs.declared.state.State.TheVariants.{Prepared as S3}
 use Rattle.xa_tables.specs.{Tables, state_of, exists, is_S3, is_S5, is_left_in, is_somebody_associated, Answer, next, Fate, InDoubt, Committed, RolledBack}
-use Rattle.xa_tables.specs.{fate, fate_in, fates_in, fate_of, coded, ending_by, is_done, is_integrity, is_rolled_back, is_in_doubt, is_live, last_or}
-use Rattle.xa_tables.specs.{tables_after, IsOpening, reopened, reopened_fate, fate_left, HeuristicDecision, names, IsPrepared, state_when, fates_when, held_by}
-use Rattle.xa_tables.specs.{moved, moved_by, History}
+use Rattle.xa_tables.specs.{fate, fate_in, fates_in, fate_of, coded, ending_by, is_in_doubt, is_live, last_or, tables_after, IsOpening, reopened, reopened_fate}
+use Rattle.xa_tables.specs.{fate_left, HeuristicDecision, names, IsPrepared, state_when, fates_when, held_by, moved, moved_by, History}
 use Rattle.xa_tables.proofs.Effects.{Effect, Stays, Commits, Drops, Forgets, effect_of, named_none}
 use Rattle.xa_tables.proofs.Law.{Nowhere, AtWork, standing, voted_rests, nobody_rests, get_gone, sound_after, run_sound, opening_sound, late_leave_fates}
 use Rattle.xa_tables.proofs.ValueLaw.{unnamed_stays, unnamed_fate, tables_after-append}

@@ -6,9 +6,9 @@ use Rattle.xa_base.proofs.{IsDistinct-head, IsDistinct-tail}
 use Rattle.xa_tables.specs.declared.state.HeuristicDecision.TheVariants as decision
 use Rattle.xa_atomicity.proofs.Values.{unmoving}
 use Rattle.xa_base.specs.{total}
-use Rattle.xa_words.specs.{XidName, xid_eq, Decides-xid_eq, Op, Commit, Heur, Request, Code, key_cmp_total}
-use Rattle.xa_tables.specs.{Tables, next, tables_after, IsOpening, reopened, left_by, names, worth, moved, moved_by, is_any, DeclareEach, History, are_accounts}
-use Rattle.xa_tables.specs.{opening, HeuristicDecision, state_of, Fate, Absent, IsFateOf, decided_fate, reopened_fate, fate_left, worth_declared}
+use Rattle.xa_words.specs.{XidName, xid_eq, Decides-xid_eq, Op, Commit, Heur, Request, Code, key_cmp_total, are_accounts}
+use Rattle.xa_tables.specs.{Tables, next, tables_after, IsOpening, reopened, left_by, names, worth, moved, moved_by, is_any, DeclareEach, History, opening}
+use Rattle.xa_tables.specs.{HeuristicDecision, state_of, Fate, Absent, IsFateOf, decided_fate, reopened_fate, fate_left, worth_declared}
 use Rattle.xa_tables.proofs.WorthLaw.{worth_from, declared_on, worth_law}
 use Rattle.xa_driver.specs.{is_commit, Ending}
 use Rattle.xa_days.specs.{moved_over, is_for, CommitsAmong, WorthIsOfBranches, WorthIsRecorded, IsDay, Leg, counted, ComesOut, Votes, OnlyTold, is_committed}

@@ -5,7 +5,7 @@ ghost use Rattle.xa_base.specs.declared.limits.TheConstants.{MOST_MANAGERS};
 ghost use Rattle.xa_base.specs.Sums.{total};
 ghost use Rattle.xa_words.specs.Tran.{TranName};
 ghost use Rattle.xa_tables.specs.ManagerTables.{Tables};
-ghost use Rattle.xa_tables.specs.Accounts.{are_accounts};
+ghost use Rattle.xa_words.specs.Accounts.{are_accounts};
 ghost use Rattle.xa_tables.specs.Managers.{opening};
 ghost use Rattle.xa_tables.specs.Worth.{DeclareEach, worth, worth_declared};
 ghost use Rattle.xa_switch.specs.Settled.{IsSettled};

@@ -3,7 +3,7 @@ use Rattle.std.specs.Prelude.{Bool, false, not, ◌||◌, ◌&&◌, ◌==◌, �
 use Rattle.std.specs.List.{list_any}
 use Rattle.xa_words.specs.ManagerSet.{set_of}
 use Rattle.xa_words.specs.declared.code.Code.{Code}
-use Rattle.xa_tables.specs.Histories.{is_done, is_read_only}
+use Rattle.xa_words.specs.Codes.{is_done, is_read_only}
 use Rattle.xa_driver.specs.declared.branch.Branch.{Branch}
 
 -- the code of a Prepare is a vote to commit: XA_OK

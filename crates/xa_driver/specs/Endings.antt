@@ -5,7 +5,7 @@ use Rattle.xa_words.specs.declared.code.Code.{Code}
 use Rattle.xa_words.specs.declared.code.Code.TheVariants.{Nota, RmFail, HeurMix, HeurRb, HeurCom, HeurHaz}
 use Rattle.xa_words.specs.declared.request.Op.{Op}
 use Rattle.xa_words.specs.declared.request.Op.TheVariants.{Commit, Rollback, Forget}
-use Rattle.xa_tables.specs.Histories.{is_done, is_rolled_back}
+use Rattle.xa_words.specs.Codes.{is_done, is_rolled_back}
 use Rattle.xa_desk.specs.LedgerViews.{is_rm_fail}
 use Rattle.xa_driver.specs.declared.done.Ending.{Ending}
 use Rattle.xa_driver.specs.declared.done.Ending.TheVariants.{Committed, ReadOnly, RolledBack, InDoubt, Heuristic, Left}

@@ -8,7 +8,7 @@ ghost use Rattle.xa_driver.specs.Decision.{is_yes, is_read, is_no};
 ghost use Rattle.xa_driver.specs.Endings.{second_op, third_op, ending_of, is_out_of_reach, is_heuristic, is_decided};
 ghost use Rattle.xa_driver.specs.Rounds.{first_ask, code_of, second_ask, third_ask, ending_of_ask, asked_yes};
 ghost use Rattle.xa_driver.specs.Rounds.{yes_asked};
-ghost use Rattle.xa_tables.specs.Histories.{is_rolled_back};
+ghost use Rattle.xa_words.specs.Codes.{is_rolled_back};
 
 use crate::ask::{Ask, Wanted};
 use crate::branch::Branch;

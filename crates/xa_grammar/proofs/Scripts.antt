@@ -10,8 +10,7 @@ use Rattle.xa_grammar.specs.Items as item
 use Rattle.std.specs.Option.{ok_or}
 use Rattle.std.specs.Cmp.Derive.{both_true}
 use Rattle.std.proofs.lemmas.List.Sums.{length-filter}
-use Rattle.xa_words.specs.{key_eq, Decides-key_eq}
-use Rattle.xa_tables.specs.{are_accounts, are_apart}
+use Rattle.xa_words.specs.{key_eq, Decides-key_eq, are_accounts, are_apart}
 use Rattle.xa_grammar.specs.{Reason, KeyTwice, TooManyKeys, UnknownWord, Declared, UnknownAppend, Threads, Managers, Item, words_of, Word, end_of, number_in}
 use Rattle.xa_grammar.specs.{number_at, ScriptStep, IsScript, IsOfManager, IsOfUnknown, IsOfScript, threads_of, managers_of, accounts_of, with_count, with_key}
 use Rattle.xa_grammar.specs.{with_failing, with_unknown, with_step, before_actions, count_of, not_set, limit_of, setting_of, logfail_of, is_kept, logunknown_of}

@@ -10,7 +10,7 @@ use Rattle.xa_base.specs.declared.limits.TheConstants.{MOST_THREADS}
 use Rattle.xa_grammar.specs.declared.setting.TheConstants.{MOST_APPENDS}
 use Rattle.xa_grammar.specs.declared.step.TheConstants.{MOST_COUNT}
 use Rattle.xa_base.specs.Lists.{IsUpTo}
-use Rattle.xa_tables.specs.Accounts.{are_accounts}
+use Rattle.xa_words.specs.Accounts.{are_accounts}
 use Rattle.xa_grammar.specs.declared.script.Count.{Count}
 use Rattle.xa_grammar.specs.declared.script.Count.TheVariants.{Threads, Managers, Handles, Queue, Requests}
 use Rattle.xa_grammar.specs.declared.script.Settings.{Settings}

@@ -110,7 +110,7 @@ impl Model for Script {
 }
 
 impl Script {
-    ghost use Rattle.xa_tables.specs.Accounts.{are_accounts};
+    ghost use Rattle.xa_words.specs.Accounts.{are_accounts};
     ghost use Rattle.std.specs.List.{list_any};
     ghost use Rattle.xa_grammar.specs.Contents.{is_reopen, tasks_of, accounts_of, IsOfManager, IsOfScript, IsScript};
     ghost use Rattle.xa_grammar.specs.Contents.{threads_of, managers_of, handles_of, queue_of, requests_of};

@@ -9,8 +9,8 @@ use Rattle.xa_grammar.specs.declared.step.Action.TheVariants as action
 use Rattle.xa_atomicity.specs.{OnlyTheseName, OnlyTheseOrDecisionsName, AreLeftAlone, AreLeftOrDecided, EachOutcome, is_rolled_back, is_in_doubt, is_heuristic}
 use Rattle.xa_atomicity.specs.{is_left, is_read_only, Tabled, is_recorded, is_rollback}
 use Rattle.xa_atomicity.specs.Outcomes.{is_committed}
-use Rattle.xa_words.specs.{Code, TranName, Death, Op, Done, Prepare, Commit}
-use Rattle.xa_tables.specs.{Tables, is_done}
+use Rattle.xa_words.specs.{Code, TranName, Death, Op, Done, Prepare, Commit, is_done}
+use Rattle.xa_tables.specs.{Tables}
 use Rattle.xa_switch.specs.{Settling, IsSettled, journal, IsOpenedWith, history as history_of}
 use Rattle.xa_driver.specs.{Branch, Done as Outcome, Ending, is_no, ending_of, AtBranch, is_commit, CameTo, IsDecidedBy, Putting, VotesAndObeys, decides_commit}
 use Rattle.xa_driver.specs.{has_yes, EachBranch, decision_of, second_op, third_op, yes_ending, Committed, is_yes}

@@ -16,10 +16,10 @@ use Rattle.xa_switch.specs.{IsNewWorker, DeskSeat, WorkerSeat, seat_of_desk, sea
 use Rattle.xa_switch.specs.{find_thread, value, threads_of, managers_of, accounts_in, accounts_of, plan_worth, moved_at, WorthIsOfThreads}
 use Rattle.xa_switch.proofs.Pieces.{Joint, a_worker, known_at, none_of, workers_opened, request_columns, completion_columns, pair_agrees}
 use Rattle.xa_base.specs.{IsUpTo, total}
-use Rattle.xa_words.specs.{Request, Completion}
+use Rattle.xa_words.specs.{Request, Completion, are_accounts}
 use Rattle.xa_lane.specs.{Receiving, items_in, received}
 use Rattle.xa_tables.specs.{of_thread, accepted, parted, IsOpening, Tables, next, coded, codes, opening, IsNew, ValueIsSum, left_by, History, value_of}
-use Rattle.xa_tables.specs.{are_accounts, tables_after, worth_declared, moved, moved_by as moved_by_request, is_any, is_of, WorthIsMoved}
+use Rattle.xa_tables.specs.{tables_after, worth_declared, moved, moved_by as moved_by_request, is_any, is_of, WorthIsMoved}
 use Rattle.xa_desk.proofs.Ledgers.{known_is, known_true}
 use Rattle.xa_words.specs.Orders.{key_cmp}
 use Rattle.xa_tables.proofs.Reopening.{new_opens, accounts_new}

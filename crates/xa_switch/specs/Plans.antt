@@ -4,7 +4,7 @@ use Rattle.std.specs.List.{All}
 use Rattle.xa_base.specs.declared.limits.TheConstants.{MOST_HANDLES, MOST_MANAGERS, MOST_QUEUED, MOST_REQUESTS}
 use Rattle.xa_base.specs.declared.limits.TheConstants.{MOST_THREADS}
 use Rattle.xa_base.specs.Lists.{IsUpTo}
-use Rattle.xa_tables.specs.Accounts.{are_accounts}
+use Rattle.xa_words.specs.Accounts.{are_accounts}
 use Rattle.xa_tables.specs.ManagerTables.{Tables}
 use Rattle.xa_tables.specs.Managers.{Managed, opening}
 use Rattle.xa_switch.specs.declared.plan.Plan.{Plan}

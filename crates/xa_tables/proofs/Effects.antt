@@ -3,14 +3,13 @@ use Rattle.xa_base.proofs.{rules, ◌≡◌, ℕ, ℤ, pos, Bool, true, false, n
 use Rattle.xa_base.proofs.{or-true, not-false, by_if}
 use Rattle.xa_words.specs.{XidName, xid_eq, Done, RdOnly, RbRollback, RbIntegrity, RbTransient, Async, RmErr, Nota, Inval, Proto, RmFail, DupId, Outside, Op}
 use Rattle.xa_words.specs.{OpenRm, CloseRm, Start, Add, End, Prepare, Commit, Rollback, Forget, Heur, Listed, Shut, StartHow, Fresh, Join, Resume, EndHow}
-use Rattle.xa_words.specs.{Success, Suspend, Fail, Code}
+use Rattle.xa_words.specs.{Success, Suspend, Fail, Code, is_done, is_rolled_back}
 use Rattle.xa_tables.specs.{State, Active, Idle, RollbackOnly, Failed, Transient, Association, association_of, has_association, state_of, exists, is_S4}
 use Rattle.xa_tables.specs.{is_suspended, is_associated, is_prepared, is_rollback_only, is_completed, is_left, is_S5, reason_in, reason_of, decision_in}
 use Rattle.xa_tables.specs.{is_somebody_associated, is_declared, has_other_touched, is_broken, Answer, next, by_rules, open_rm, close_rm, start, add, end}
 use Rattle.xa_tables.specs.{prepare, commit_one, commit_two, rollback, heur, forget, listed, is_suspend, associated, suspended, dissociated, stated, added}
 use Rattle.xa_tables.specs.{gone, completed, committed, shut_down, Fate, ReadOnly, RolledBack, fate_of, if_named, commit_fate, rollback_fate, ending_by}
-use Rattle.xa_tables.specs.{is_done, is_rolled_back, share_of, names, moved_by, held_by, Tables, sums_without, Live, InDoubt, Committed, HeurCommitted}
-use Rattle.xa_tables.specs.{HeurRolledBack, ending}
+use Rattle.xa_tables.specs.{share_of, names, moved_by, held_by, Tables, sums_without, Live, InDoubt, Committed, HeurCommitted, HeurRolledBack, ending}
 use Rattle.xa_tables.specs.declared.state.State.TheVariants.{Prepared as S3}
 use Rattle.xa_tables.specs.Next.{forgotten}
 use Rattle.std.specs.FinSet as set

@@ -6,11 +6,10 @@ use Rattle.xa_base.proofs.{Option, IsDistinct, eqb-true, eq-eqb, drop_all, get_o
 use Rattle.xa_base.proofs.{none_twice, length-take-le, leb-true, true_from_ne_false, list_any_at, AllByRecursion, get_or-set_at, drop_more, map-set, set-get_or}
 use Rattle.xa_base.proofs.{IsDistinct-head, IsDistinct-tail, IsDistinct-push, length-le_from_distinct_below, is_missing}
 use Rattle.std.proofs.lemmas.List.Folds.{list_all_at, map_fixed}
-use Rattle.xa_words.specs.{XidName, key_eq, key_cmp_total, Decides-key_eq}
+use Rattle.xa_words.specs.{XidName, key_eq, key_cmp_total, Decides-key_eq, are_apart, are_accounts}
 use Rattle.xa_words.specs.Orders.{key_cmp}
-use Rattle.xa_tables.specs.{Account, AreDistinct, AreIndexed, IsGood, value_entries, hold_entries, place_in, are_apart, are_accounts, declared_values, keys_of}
-use Rattle.xa_tables.specs.{Hold, hold_is_of, is_held_by, hold_breaks, is_broken_by, hold_where, kept_where, added_to, posted_by, passes_at, is_held}
-use Rattle.xa_tables.specs.{is_held_at, AreHeld, noted}
+use Rattle.xa_tables.specs.{Account, AreDistinct, AreIndexed, IsGood, value_entries, hold_entries, place_in, declared_values, keys_of, Hold, hold_is_of}
+use Rattle.xa_tables.specs.{is_held_by, hold_breaks, is_broken_by, hold_where, kept_where, added_to, posted_by, passes_at, is_held, is_held_at, AreHeld, noted}
 use Rattle.xa_tables.proofs.AccountLemmas.{swapped, keys_map, same_key, value_found, at_own_key, LetsGo, passes_none, any_set, touched_any}
 use Rattle.std.specs.Cmp.{nat_eq_equiv}
 use Rattle.std.proofs.lemmas.List.{length_push}

@@ -5,9 +5,10 @@ use Rattle.xa_base.proofs.{All-head, All-tail, nat_cmp, eq_by_cmp, nat_cmp_total
 use Rattle.xa_base.proofs.{cons_option, not-false, at_true, List, ◌++◌, contains-insert, contains-remove}
 use Rattle.xa_tables.specs.{committed, exists, completed, Tables, has_opened, Answer, next, tables_after, is_close, closes, History, HeuristicallyCompleted}
 use Rattle.xa_tables.specs.{HeuristicDecision, state_of, is_prepared, is_completed, decision_of, decision_code, fate_of, fates_in, coded, decided_fate, names}
-use Rattle.xa_tables.specs.{is_heur, is_forget, OnlyDecides, IsTold, is_S3, is_somebody_associated, is_rolled_back, IsOpening, NamesNowhere, LeavesWaiting}
-use Rattle.xa_tables.specs.{has_shut, IsPrepared, StaysPrepared, AwaitsTheOutcome, AwaitsAfter}
-use Rattle.xa_words.specs.{xid_eq, Op, Request, XidName, Decides-xid_eq, Done, Commit, Rollback, Forget, Heur, Code, RbIntegrity, RmFail, Prepare}
+use Rattle.xa_tables.specs.{is_heur, is_forget, OnlyDecides, IsTold, is_S3, is_somebody_associated, IsOpening, NamesNowhere, LeavesWaiting, has_shut}
+use Rattle.xa_tables.specs.{IsPrepared, StaysPrepared, AwaitsTheOutcome, AwaitsAfter}
+use Rattle.xa_words.specs.{is_rolled_back, xid_eq, Op, Request, XidName, Decides-xid_eq, Done, Commit, Rollback, Forget, Heur, Code, RbIntegrity, RmFail}
+use Rattle.xa_words.specs.{Prepare}
 use Rattle.xa_tables.proofs.Effects.{Effect, Opens, Closes, effect_of, Drops, named_none}
 use Rattle.xa_words.proofs.Xids.{xid_self}
 use Rattle.xa_tables.proofs.Law.{all_quiet, fates_quiet, next-Shut, shut_op, shut_stays, stays_open, get_put, get_gone, Sound, Nowhere, AtWork, standing}

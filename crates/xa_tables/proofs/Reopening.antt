@@ -2,12 +2,11 @@
 use Rattle.xa_base.proofs.{by_bool, rules, ◌≡◌, ℕ, ℤ, Bool, true, false, cond, not, ◌&&◌, ◌+ℤ◌, Option, None, Some, List, [], ◌∷◌, refl, arith, sym, ap, ◌∙◌}
 use Rattle.xa_base.proofs.{FinMap, get-empty, none_pass, none_passes, if◌then◌else◌, pos, option_map, ◌++◌, or-false, ints, ◌≢◌, map, is_some, unwrap_or}
 use Rattle.xa_base.proofs.{nat_le, list_all, le-leb, find, get-from_entries, and_parts, +ℤ_idr as plus_none, get-retain_keys}
-use Rattle.xa_words.specs.{key_eq, XidName, xid_cmp, xid_eq, xid_cmp-IsAntisymmetric, key_cmp_total, Decides-xid_eq, Decides-key_eq, Op}
+use Rattle.xa_words.specs.{key_eq, XidName, xid_cmp, xid_eq, xid_cmp-IsAntisymmetric, key_cmp_total, Decides-xid_eq, Decides-key_eq, Op, are_accounts}
 use Rattle.xa_tables.specs.{Association, sum_of, association_of, has_other_touched, added, State, Touch, touch_cmp, state_of, is_S3, is_left_in, is_left}
 use Rattle.xa_tables.specs.{is_prepared, is_broken, is_within, value_of, ArePreparedSound, opening, tables_after, IsNew, IsOpening, AreLeft, reopened, left_by}
 use Rattle.xa_tables.specs.{Tables, History, Fate, Absent, fate, accepted, IsFateOf, reopened_fate, fate_left, told_by, FatesAreTold, coded, commits_later}
-use Rattle.xa_tables.specs.{is_declared, commits_over, added_over, value_over, ValueIsSum, sums_without, Answer, next, gone, committed, are_accounts}
-use Rattle.xa_tables.specs.{StaysWithin}
+use Rattle.xa_tables.specs.{is_declared, commits_over, added_over, value_over, ValueIsSum, sums_without, Answer, next, gone, committed, StaysWithin}
 use Rattle.xa_tables.proofs.Law.{standing, after_accepted, Tells, told_tells, run, opening_sound, Sound, get_put, associated_works, voted_rests, sound_after}
 use Rattle.xa_tables.proofs.Law.{get_gone}
 use Rattle.xa_tables.proofs.ValueLaw.{get_added, Held, IsPending, due, value_moved, declared_on, value_run, Clean, run_clean, opening_clean, get_without}

@@ -5,12 +5,11 @@ use Rattle.xa_base.proofs.{+ℤ_idr as plus_none, suc, Bool, None, option_map, i
 use Rattle.xa_base.proofs.{find, get-empty, get-from_entries, get_or, and_parts, not-true, or-true, total_same, total_alike, total_both, total_nothing, by_bool}
 use Rattle.xa_base.proofs.{length-map, get_or-map}
 use Rattle.xa_words.specs.{XidName, xid_eq, Decides-xid_eq, Done, Op, Start, Add, End, Fresh, Success, Request, Code, RdOnly, Prepare, Decides-key_eq, key_eq}
-use Rattle.xa_words.specs.{key_cmp_total}
+use Rattle.xa_words.specs.{key_cmp_total, is_done, is_rolled_back, are_accounts, are_apart}
 use Rattle.xa_tables.specs.{Association, Associated, association_of, is_association_with, is_associated, is_somebody_associated, Answer, next, association}
-use Rattle.xa_tables.specs.{of_thread, tables_after, fate_of, ending, is_done, added_by, IsOpening, names, NamesNowhere, gain, unless_ended, added_by_now}
-use Rattle.xa_tables.specs.{LeavesAtWork, DoesWork, Tables, History, touch_cmp, is_rollback_only, reason_of, state_of, has_touched, sums_without, EndsNowhere}
-use Rattle.xa_tables.specs.{is_rolled_back, is_declared, value_of, sum_of, added, are_accounts, are_apart, opening, share_of, worth_declared, worth, held_by}
-use Rattle.xa_tables.specs.{moved, WorthIsMoved, HoldsItsAdditions, Account}
+use Rattle.xa_tables.specs.{of_thread, tables_after, fate_of, ending, added_by, IsOpening, names, NamesNowhere, gain, unless_ended, added_by_now, LeavesAtWork}
+use Rattle.xa_tables.specs.{DoesWork, Tables, History, touch_cmp, is_rollback_only, reason_of, state_of, has_touched, sums_without, EndsNowhere, is_declared}
+use Rattle.xa_tables.specs.{value_of, sum_of, added, opening, share_of, worth_declared, worth, held_by, moved, WorthIsMoved, HoldsItsAdditions, Account}
 use Rattle.xa_tables.proofs.Effects.{Effect, effect_of, Starts, quiet_named, reason_rolls_back, Moves, Still, Ended, Added, moves_of}
 use Rattle.xa_words.proofs.Xids.{xid_self}
 use Rattle.xa_tables.proofs.Law.{opening_free, swap_xid}

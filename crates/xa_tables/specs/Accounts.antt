@@ -1,11 +1,10 @@
 -- What contracts see of the accounts.
-use Rattle.std.specs.Prelude.{◌≡◌, ℕ, suc, nat_le, ℤ, pos, neg_ℤ, ◌+ℤ◌, ◌≤ℤ◌, ◌*◌, Bool, true, false, not, ◌&&◌, length}
+use Rattle.std.specs.Prelude.{◌≡◌, ℕ, suc, ℤ, pos, neg_ℤ, ◌+ℤ◌, ◌≤ℤ◌, ◌*◌, Bool, false, not, ◌&&◌}
 use Rattle.std.specs.Prelude.{if◌then◌else◌, Option, None, Some, List, [], ◌∷◌, map, refl, slice_index_or}
-use Rattle.std.specs.List.{list_any, list_all}
 use Rattle.std.specs.FinMap as finmap
 use Rattle.std.specs.FinMap.{FinMap, from_entries}
 use Rattle.std.specs.Coded.{Coded, code_by, coded×, coded_ℕ, coded_list}
-use Rattle.xa_base.specs.declared.limits.TheConstants.{MOST_KEYS, MOST_VALUE}
+use Rattle.xa_base.specs.declared.limits.TheConstants.{MOST_VALUE}
 use Rattle.xa_words.specs.Xid.{XidName, xid_cmp, xid_eq}
 use Rattle.xa_words.specs.Orders.{key_cmp}
 use Rattle.xa_words.specs.Key.{key_eq}
@@ -136,15 +135,6 @@ abbrev pub IsGood : ℕ → Account → Type 0
 IsGood n a = (pos 0 ≤ℤ a.value) × (a.value ≤ℤ pos MOST_VALUE) × IsSmall n a.hold
 
 -- ---- what was declared
-
--- no key stands twice
-abbrev pub are_apart : List (List ℕ × ℕ) → Bool
-are_apart [] = true
-are_apart (d ∷ ds) = not (list_any (λ e. key_eq e.0 d.0) ds) && are_apart ds
-
--- at most 256 keys, none twice, each value within the limit
-abbrev pub are_accounts : List (List ℕ × ℕ) → Bool
-are_accounts ds = nat_le (length ds) MOST_KEYS && (list_all (λ d. nat_le d.1 MOST_VALUE) ds && are_apart ds)
 
 -- the values at the opening
 abbrev pub declared_values : List (List ℕ × ℕ) → FinMap key_cmp ℤ

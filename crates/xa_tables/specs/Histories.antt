@@ -4,11 +4,12 @@ use Rattle.std.specs.Prelude.{Option, None, Some, List, [], ◌∷◌, ◌++◌,
 use Rattle.std.specs.List.{All, filter_map}
 use Rattle.std.specs.FinMap as finmap
 use Rattle.xa_base.specs.declared.limits.TheConstants.{MOST_VALUE}
+use Rattle.xa_words.specs.Codes.{is_done, is_read_only, is_integrity, is_rolled_back}
 use Rattle.xa_words.specs.Xid.{XidName, xid_eq}
 use Rattle.xa_words.specs.Key.{key_eq}
 use Rattle.xa_words.specs.declared.code.Code.{Code}
-use Rattle.xa_words.specs.declared.code.Code.TheVariants.{Done, RdOnly, RbRollback, RbCommFail, RbDeadlock, RbIntegrity}
-use Rattle.xa_words.specs.declared.code.Code.TheVariants.{RbOther, RbProto, RbTimeout, RbTransient, RmFail}
+use Rattle.xa_words.specs.declared.code.Code.TheVariants.{Done}
+use Rattle.xa_words.specs.declared.code.Code.TheVariants.{RmFail}
 use Rattle.xa_words.specs.declared.request.Op.{Op}
 use Rattle.xa_words.specs.declared.request.Op.TheVariants.{Start, Add, Prepare, Commit, Rollback}
 use Rattle.xa_words.specs.declared.request.Op.TheVariants.{Heur, Shut}
@@ -94,33 +95,6 @@ pub data Fate : Type 0 where
   RolledBack : Fate
   HeurCommitted : Fate
   HeurRolledBack : Fate
-
--- XA_OK
-abbrev pub is_done : Code → Bool
-is_done Done = true
-is_done c = false
-
--- XA_RDONLY
-abbrev pub is_read_only : Code → Bool
-is_read_only RdOnly = true
-is_read_only c = false
-
--- XA_RBINTEGRITY
-abbrev pub is_integrity : Code → Bool
-is_integrity RbIntegrity = true
-is_integrity c = false
-
--- XA_RB*: 100 to 107
-abbrev pub is_rolled_back : Code → Bool
-is_rolled_back RbRollback = true
-is_rolled_back RbCommFail = true
-is_rolled_back RbDeadlock = true
-is_rolled_back RbIntegrity = true
-is_rolled_back RbOther = true
-is_rolled_back RbProto = true
-is_rolled_back RbTimeout = true
-is_rolled_back RbTransient = true
-is_rolled_back c = false
 
 -- the table of fates: what a request with this code makes of its branch, if anything
 abbrev pub start_fate : StartHow → Code → Option Fate

@@ -30,7 +30,7 @@ pub use Next.{open_rm, prepare, rollback, shut_down, start, start_fresh, start_j
 pub use Next.{unless_shut, with_association}
 unfoldable pub use Next.{next}
 pub use Accounts.{AreApart, AreDistinct, AreIndexed, Holdings, IsGood, IsSmall, added_to, all_but, amount_in}
-pub use Accounts.{amount_of, are_accounts, are_apart, declared_values, hold_breaks, hold_entries, hold_is_of}
+pub use Accounts.{amount_of, declared_values, hold_breaks, hold_entries, hold_is_of}
 pub use Accounts.{hold_is_other, hold_where, hold_without, holdings_code, holdings_of, is_broken_by, is_held_by}
 pub use Accounts.{is_held_by_other, kept_where, key_at, keys_of, later_place, place_in, posted_by, prepared_in}
 pub use Accounts.{value_entries, with_hold}
@@ -41,8 +41,8 @@ pub use Histories.{Absent, ActiveWhileAssociated, Committed, EndsNowhere, Fate, 
 pub use Histories.{InDoubt, IsFateOf, LateAddNothing, LateAreRefused, LateChangeNothing, Live, OnlyUnfinishedTouch}
 pub use Histories.{ReadOnly, RolledBack, StaysWithin, accepted, added_by, added_in, carried_out, coded, codes}
 pub use Histories.{commit_fate, commits_later, decided_fate, ending, ending_by, fate, fate_in, fate_of, fates_in}
-pub use Histories.{first_shut, heur_fate, if_named, is_done, is_in_doubt, is_integrity, is_live, is_read_only}
-pub use Histories.{is_rolled_back, is_shut, is_unfinished, last_or, late, of_thread, or_later, parted, prepare_fate}
+pub use Histories.{first_shut, heur_fate, if_named, is_in_doubt, is_live}
+pub use Histories.{is_shut, is_unfinished, last_or, late, of_thread, or_later, parted, prepare_fate}
 pub use Histories.{rollback_fate, share, share_of, start_fate, tables_after}
 pub use Openings.{AreLeft, FatesAreTold, IsNew, IsOpening, ValueIsSum, added_over, commits_over, fate_left, fate_over}
 pub use Openings.{left_by, reopened, reopened_fate, told_by, value_over}

@@ -13,7 +13,8 @@ use Rattle.xa_tables.specs.declared.state.Association.{Association}
 use Rattle.xa_tables.specs.ManagerTables.{Tables, association_of, is_declared, value_of, sum_of}
 use Rattle.xa_tables.specs.Next.{next}
 use Rattle.xa_tables.specs.Managers.{opening}
-use Rattle.xa_tables.specs.Histories.{History, tables_after, added_by, ending, fate_of, is_done}
+use Rattle.xa_tables.specs.Histories.{History, tables_after, added_by, ending, fate_of}
+use Rattle.xa_words.specs.Codes.{is_done}
 
 -- what accounts were declared with, all together
 abbrev pub worth_declared : List (List ℕ × ℕ) → ℤ

@@ -5,7 +5,7 @@ ghost use Rattle.xa_tables.specs.Next.{shut_down, open_rm, close_rm, start_fresh
 ghost use Rattle.xa_tables.specs.Next.{start_resume, add, end, prepare, commit_one, commit_two, rollback, heur, forget};
 ghost use Rattle.xa_tables.specs.Next.{listed, gone};
 ghost use Rattle.xa_tables.specs.ManagerTables.{has_opened};
-ghost use Rattle.xa_tables.specs.Accounts.{are_accounts};
+ghost use Rattle.xa_words.specs.Accounts.{are_accounts};
 ghost use Rattle.xa_tables.specs.Managers.{AreAssociationsLive, Keeps, opening, places_taken};
 ghost use Rattle.xa_tables.specs.Openings.{AreLeft, reopened};
 

@@ -2,7 +2,7 @@
 ghost use Rattle.std.specs.Prelude.{◌≡◌, ◌↔◌, ◌≤◌, ◌<◌, ◌+◌, ◌*◌, ◌^◌, IfOk, IfSome, OnOk, OnErr, IsErrOf, None};
 ghost use Rattle.std.specs.Prelude.{Some, true, false, option_map, pos};
 ghost use Rattle.std.specs.FinMap as finmap;
-ghost use Rattle.xa_tables.specs.Accounts.{are_accounts};
+ghost use Rattle.xa_words.specs.Accounts.{are_accounts};
 ghost use Rattle.xa_tables.specs.Managers.{AreAssociationsLive, Keeps, opening, places_taken};
 ghost use Rattle.xa_tables.specs.Openings.{AreLeft, reopened};
 ghost use Rattle.xa_tables.specs.Next.{next, needs_opening, by_rules, start};

@@ -12,6 +12,8 @@ pub mod Flags
 pub mod Orders
 pub mod TranOrders
 pub mod ManagerSet
+pub mod Codes
+pub mod Accounts
 -- The words of this crate, by its name.
 pub use Xid.{XidName, bytes_of, xid_cmp, xid_code, xid_eq}
 pub use XidInverse.{IsPaddedXid, bytes_again, length_first, length_second}
@@ -29,6 +31,8 @@ pub use Orders.{Decides-key_eq, Decides-xid_eq, key_cmp-IsAntisymmetric, key_cmp
 pub use Orders.{xid_cmp-IsAntisymmetric, xid_cmp_total, xid_eq-by_cmp}
 pub use TranOrders.{Decides-tran_eq}
 pub use ManagerSet.{is_in, managers_in, set_of, with_manager}
+pub use Codes.{is_done, is_integrity, is_read_only, is_rolled_back}
+pub use Accounts.{are_accounts, are_apart}
 pub use declared.code.Code.{Code}
 pub use declared.code.Code.TheVariants.{Async, Done, DupId, HeurCom, HeurHaz, HeurMix, HeurRb, Inval, Nota, Outside}
 pub use declared.code.Code.TheVariants.{Proto, RbCommFail, RbDeadlock, RbIntegrity, RbOther, RbProto, RbRollback}

@@ -1,5 +1,5 @@
 use Rattle.xa_base.proofs.{◌≡◌, length}
-use Rattle.xa_tables.specs.{are_apart}
+use Rattle.xa_words.specs.{are_apart}
 use Rattle.xa_tables.proofs.accounts.are_apart.Given as goal
 
 abbrev pub invariant-loop-key : goal.invariant-loop-key
