@@ -1,17 +1,20 @@
 #!/usr/bin/env -S python3 -B
-"""What ./test runs in a copy of the repository: every proof from nothing, the tests, the program's stored run as two
-compilers build it, the edits that must fail, each script of examples/ and of tests/ against the transcript beside it,
-and the checks of checks/. The last line counts. It changes the folder that it stands in: it isn't run here."""
+"""What ./test runs in a copy of the repository: every proof of the library and the programs from nothing, the program's
+stored run as two compilers build it, the edits that must fail, the tests, each script of examples/ and of tests/ against
+the transcript beside it, and the checks of checks/. The last line counts. It changes the folder that it stands in: it
+isn't run here."""
 
 import contextlib
 import os
 import re
 import subprocess
 import sys
+import tempfile
 import time
+from pathlib import Path
 
 import rattle
-from repository import ROOT, Sums, jobs, keep, lines, programs
+from repository import ROOT, Sums, crates_run_unproved, jobs, keep, lines, programs
 
 
 def counted(*command):
@@ -33,17 +36,22 @@ def counted(*command):
 
 
 @contextlib.contextmanager
-def without_edits():
-    """Meanwhile the edits stand elsewhere, so that rt doesn't try them: it tries each in a check of its own, over a
-    second proof of its crate."""
-    aside = ROOT / "out" / "must-fail"
-    aside.mkdir(parents=True)
-    folders = [folder for crate in lines() if (folder := ROOT / "crates" / crate / "must-fail").is_dir()]
-    for folder in folders:
-        folder.rename(aside / folder.parent.name)
-    yield
-    for folder in folders:
-        (aside / folder.parent.name).rename(folder)
+def set_aside():
+    """Meanwhile edits and most crates of tests stand elsewhere, so that rt doesn't take them: it tries each edit in a
+    check of its own, over a second proof of its crate, and proves tests before it runs them."""
+    listed, tests = ROOT / "crates.txt", crates_run_unproved()
+    text = listed.read_text()
+    folders = [*(f"{it}/must-fail" for it in lines() if (ROOT / "crates" / it / "must-fail").is_dir()), *tests]
+    # (outside of the copy, where rt would find files that no check reads)
+    with tempfile.TemporaryDirectory(prefix="aside-", dir=ROOT.parent) as aside:
+        for folder in folders:
+            (Path(aside) / folder).parent.mkdir(parents=True, exist_ok=True)
+            (ROOT / "crates" / folder).rename(Path(aside) / folder)
+        listed.write_text("".join(line for line in text.splitlines(True) if re.split("[ :]", line)[0] not in tests))
+        yield
+        listed.write_text(text)
+        for folder in folders:
+            (Path(aside) / folder).rename(ROOT / "crates" / folder)
 
 
 def keep_what_is_built(sums):
@@ -62,12 +70,13 @@ def main():
     # rt ci builds for any processor, and what it has built is what is tested.
     os.environ["XA_LEVEL"] = "default"
     sums = Sums()
-    with without_edits() if rattle.is_known() else contextlib.nullcontext():
+    with set_aside() if rattle.is_known() else contextlib.nullcontext():
         results = [counted("rt", "ci")]
     if results[0][1] == 0:
         keep_what_is_built(sums)
-        # With another kit rt has tried the edits.
-        results += [counted("tools/edits.py", "--proved")] if rattle.is_known() else []
+        # With another kit rt has tried the edits and run the tests.
+        if rattle.is_known():
+            results += [counted("tools/edits.py", "--proved"), counted("tools/tests.py")]
         results += [counted("tests/run"), counted("checks/run")]
     passed, failed = map(sum, zip(*results))
     print(f"{passed} passed, {failed} failed")

@@ -13,6 +13,8 @@ ROOT = Path(__file__).resolve().parent.parent
 # What programs are built for: any processor, as rt does where it is told nothing, and those with AVX2 and what goes with
 # it.
 LEVELS = ("default", "x86-64-v3")
+# The crates of tests that take no less time when they are only run, with checks.
+PROVED_TESTS = ("xa_work_tests", "xa_bank_days_tests", "xa_file_log_tests")
 # The folders of a crate that its check reads.
 PARTS = ("src", "specs", "proofs")
 
@@ -41,6 +43,17 @@ def crates_below(*names):
 def programs():
     """The names of the crates that are programs."""
     return [name for name in lines() if (ROOT / "crates" / name / "src" / "main.rt").is_file()]
+
+
+def crates_of_tests():
+    """The names of the crates that have tests and nothing else."""
+    return [name for name in lines() if name.endswith("_tests")]
+
+
+def crates_run_unproved():
+    """The crates of tests whose tests ./test runs without a proof: to prove them takes twice to seven times as long. Of the
+    others rt proves the tests, and runs them."""
+    return [name for name in crates_of_tests() if name not in PROVED_TESTS]
 
 
 def level():
