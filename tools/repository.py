@@ -13,7 +13,7 @@ ROOT = Path(__file__).resolve().parent.parent
 # What programs are built for: any processor, as rt does where it is told nothing, and those with AVX2 and what goes with
 # it.
 LEVELS = ("default", "x86-64-v3")
-# The crates of tests that take no less time when they are only run, with checks.
+# The crates of tests that it hardly pays to run unproved: with checks their tests take longer.
 PROVED_TESTS = ("xa_work_tests", "xa_bank_days_tests", "xa_file_log_tests")
 # The folders of a crate that its check reads.
 PARTS = ("src", "specs", "proofs")
