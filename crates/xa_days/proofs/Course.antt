@@ -170,7 +170,7 @@ module _ (accounts : Accounts) (t : ℕ) (x : XidName) (sum : ℤ) (T : Tables) 
   by_effect (Commits y one_phase free may) n o =
       Ends Committed refl (at_true (xid_eq y x) _ None n) (record { state = get_gone T.states y x ∙ gone_state T y n; apart = waits.apart })
       (at_true (xid_eq y x) _ (pos 0) n ∙ ap (λ z. held_by accounts z T) ((Decides-xid_eq y x).0 n) ∙ waits.holds)
-  by_effect (Drops op y c free tells) n o =
+  by_effect (Drops op y c free left tells) n o =
       let named : xid_eq y x ≡ true = sym (tells.named x) ∙ n in
       Ends tells.fate (told_fate x op c tells.fate o (tells.fates x ∙ at_true (xid_eq y x) _ None named)) (tells.fates x ∙ at_true (xid_eq y x) _ None named)
       (record { state = get_gone T.states y x ∙ gone_state T y named; apart = waits.apart })

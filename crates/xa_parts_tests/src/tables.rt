@@ -7,6 +7,8 @@ use std::process::Abort;
 use xa_tables::{Manager, TableFault};
 use xa_words::{Delta, EndHow, Key, Op, StartHow, Xid};
 
+mod restored;
+
 const LIMIT: u64 = 1_000_000_000_000;
 
 fn key(rt: &impl Abort, name: &[u8]) -> Key {

@@ -1,19 +1,19 @@
 -- The maps that the accounts make.
-use Rattle.xa_base.proofs.{◌≡◌, ◌≢◌, ℕ, ℤ, pos, ◌+ℤ◌, All, nat_eq, zero, suc, ◌+◌, ◌<◌, Bool, true, false, cond, not, ◌&&◌, ◌||◌, if◌then◌else◌, List, [], ◌∷◌}
-use Rattle.xa_base.proofs.{◌++◌, take, drop, length, map, Option, None, Some, unwrap_or, option_map, refl, sym, ap, ◌∙◌, arith, get_or, set, list_any}
-use Rattle.xa_base.proofs.{eq_by_cmp, is_eq, tied_itself, FinMap, find, from_entries, get-from_entries, All-map, All-head, All-tail, length-map, get_or_default}
-use Rattle.xa_base.proofs.{get_or-set_other, length-set, take_all, drop_all, append-nil, and-false, eqb-true, eq-eqb, false_from_ne_true, not-false, and_parts}
+use Rattle.xa_base.proofs.{◌≡◌, ◌≢◌, ℕ, ℤ, pos, ◌+ℤ◌, All, nat_eq, zero, suc, ◌+◌, ◌<◌, Bool, true, false, cond, not, ◌&&◌, ◌||◌, List, [], ◌∷◌, ◌++◌, take}
+use Rattle.xa_base.proofs.{drop, length, map, Option, None, Some, unwrap_or, option_map, refl, sym, ap, ◌∙◌, arith, get_or, set, list_any, eq_by_cmp, is_eq}
+use Rattle.xa_base.proofs.{tied_itself, FinMap, find, from_entries, get-from_entries, All-map, All-head, All-tail, length-map, get_or_default, get_or-set_other}
+use Rattle.xa_base.proofs.{length-set, take_all, drop_all, append-nil, and-false, eqb-true, eq-eqb, false_from_ne_true, not-false, and_parts}
 use Rattle.xa_base.proofs.{+ℤ_idr as plus_none, is_equal, put_one, retain_some, map_some, any_entries, Distinct, ◌≤ℤ◌, ordering_then, IsTotalOrder, then_total}
-use Rattle.xa_base.proofs.{on_total, IsAntisymmetric, get_or-set_at, le_z_yes, list_any_at, or-false, map-set_same, eq_by_cmp_equiv}
+use Rattle.xa_base.proofs.{on_total, IsAntisymmetric, get_or-set_at, le_z_yes, list_any_at, or-false, map-set_same, eq_by_cmp_equiv, is_some, ◌≤◌}
 use Rattle.std.specs.declared.cmp.Ordering.{Ordering}
 use Rattle.std.specs.declared.cmp.Ordering.TheVariants.{Equal}
 use Rattle.xa_words.specs.{XidName, xid_cmp, xid_eq, IsDelta, key_eq, key_cmp_total, key_cmp-IsAntisymmetric, xid_cmp_total, xid_cmp-IsAntisymmetric}
 use Rattle.xa_words.specs.{xid_eq-by_cmp, Decides-xid_eq, key_eq-by_cmp}
 use Rattle.std.proofs.lemmas.Float.{T_from_true}
 use Rattle.xa_words.specs.Orders.{key_cmp}
-use Rattle.xa_tables.specs.{Account, Hold, Touch, touch_cmp, is_within, value_of, sum_of, has_touched, has_other_touched, is_broken, posted, IsSmall, IsGood}
-use Rattle.xa_tables.specs.{place_in, keys_of, with_hold, hold_entries, value_entries, AreDistinct, hold_is_of, is_held_by, hold_is_other, hold_breaks}
-use Rattle.xa_tables.specs.{is_broken_by, amount_in, added_to, hold_where, hold_without, kept_where, all_but, amount_of, posted_by}
+use Rattle.xa_tables.specs.{Account, Hold, Touch, touch_cmp, is_within, value_of, sum_of, has_touched, has_other_touched, is_touched, is_broken, posted}
+use Rattle.xa_tables.specs.{IsSmall, IsGood, place_in, keys_of, with_hold, hold_entries, value_entries, AreDistinct, hold_is_of, is_held_by, hold_is_other}
+use Rattle.xa_tables.specs.{hold_breaks, hold_amount, is_broken_by, amount_in, added_to, hold_where, hold_without, kept_where, all_but, amount_of, posted_by}
 use Rattle.xa_tables.proofs.SoundLemmas.{swap_xid}
 use Rattle.std.specs.FinMap as finmap
 
@@ -34,11 +34,14 @@ touch_cmp-IsAntisymmetric p q e =
 abbrev pub same_key : List ℕ → List ℕ → Bool
 same_key = eq_by_cmp key_cmp
 
-abbrev same_touch : Touch → Touch → Bool
+abbrev pub same_touch : Touch → Touch → Bool
 same_touch = eq_by_cmp touch_cmp
 
 key_from : (k l : List ℕ) → same_key k l ≡ true → k ≡ l
 key_from k l t = key_cmp-IsAntisymmetric k l (is_equal _ t)
+
+pub touch_from : (p q : Touch) → same_touch p q ≡ true → p ≡ q
+touch_from p q t = touch_cmp-IsAntisymmetric p q (is_equal _ t)
 
 pub key_self : (k : List ℕ) → same_key k k ≡ true
 key_self k = ap is_eq (tied_itself key_cmp_total k)
@@ -68,7 +71,7 @@ pub keys_set : (accounts : List Account) (i : ℕ) (a b : Account) → a ≡ get
 keys_set accounts i a b e same = map-set_same (λ (w : Account). w.key) accounts i b a (same ∙ ap (λ (w : Account). w.key) e)
 
 -- the account of a key
-abbrev at_key : List ℕ → List Account → Option Account
+abbrev pub at_key : List ℕ → List Account → Option Account
 at_key k [] = None
 at_key k (a ∷ rest) = cond (same_key k a.key) (Some a) (at_key k rest)
 
@@ -78,7 +81,7 @@ value_found k [] = refl
 value_found k (a ∷ rest) = grind (arith, (value_found k rest), find, key_cmp)
 
 -- none, where the key has no place
-lacks_key : (k : List ℕ) (accounts : List Account) → place_in k (keys_of accounts) ≡ None → at_key k accounts ≡ None
+pub lacks_key : (k : List ℕ) (accounts : List Account) → place_in k (keys_of accounts) ≡ None → at_key k accounts ≡ None
 lacks_key k [] h = refl
 lacks_key k (a ∷ rest) h = grind (arith, (lacks_key k rest), swapped)
 
@@ -90,16 +93,12 @@ at_own_key (c ∷ rest) zero a dist h e = grind (arith, key_self)
 at_own_key (c ∷ rest) (suc i) a dist h e = grind (arith, (at_own_key rest i a dist.1 (omega arith) e), key_apart, lacks_key)
 
 -- what x holds by an account
-abbrev hold_amount : XidName → Option Hold → Option ℤ
-hold_amount x None = None
-hold_amount x (Some l) = if xid_eq l.xid x then Some l.amount else None
-
-abbrev amount_held : XidName → Option Account → Option ℤ
+abbrev pub amount_held : XidName → Option Account → Option ℤ
 amount_held x None = None
 amount_held x (Some a) = hold_amount x a.hold
 
 -- what x holds of a key is what it holds by the key's account
-hold_found : (accounts : List Account) → AreDistinct accounts → (x : XidName) (k : List ℕ)
+pub hold_found : (accounts : List Account) → AreDistinct accounts → (x : XidName) (k : List ℕ)
     → find touch_cmp (x, k) (hold_entries accounts) ≡ amount_held x (at_key k accounts)
 hold_found [] h x k = refl
 hold_found (a ∷ rest) h x k = grind (arith, (hold_found rest h.1 x k), find, touch_same, (key_from k a.key), (lacks_key k rest), and-false)
@@ -160,6 +159,35 @@ other_any accounts x k h =
     ∙ any_hold (λ p s. key_eq p.1 k && not (xid_eq p.0 x)) (λ a. is_other a x k) accounts (λ i d within. other_cases x k (get_or accounts i d))
     ∙ other_at_key accounts h x k
 
+-- some branch has touched the key k here
+abbrev is_key_held : Account → List ℕ → Bool
+is_key_held a k = key_eq a.key k && is_some a.hold
+
+key_cases : (k : List ℕ) (a : Account) → is_key_held a k ≡ elim (a.hold) [ None ↦ false | Some l ↦ key_eq a.key k ]
+key_cases k a = grind (arith, and-false)
+
+abbrev pub is_held_in : Option Account → Bool
+is_held_in None = false
+is_held_in (Some a) = is_some a.hold
+
+held_at_key : (accounts : List Account) → AreDistinct accounts → (k : List ℕ) → list_any (λ a. is_key_held a k) accounts ≡ is_held_in (at_key k accounts)
+held_at_key [] h k = refl
+held_at_key (a ∷ rest) h k = grind (arith, (held_at_key rest h.1 k), (swapped k a.key), (key_from k a.key), (lacks_key k rest), or-false)
+
+-- some branch has touched k if it holds k's account
+pub held_any : (accounts : List Account) (k : List ℕ) → AreDistinct accounts
+    → is_touched (from_entries (hold_entries accounts)) k ≡ is_held_in (at_key k accounts)
+held_any accounts k h =
+    any_entries touch_cmp_total touch_cmp-IsAntisymmetric (λ p s. key_eq p.1 k) (hold_entries accounts) (distinct_holds accounts h)
+    ∙ any_hold (λ p s. key_eq p.1 k) (λ a. is_key_held a k) accounts (λ i d within. key_cases k (get_or accounts i d)) ∙ held_at_key accounts h k
+
+-- a key's value is that of its account
+pub value_there : (accounts : List Account) (i : ℕ) (a : Account) → AreDistinct accounts → i < length accounts → a ≡ get_or accounts i a
+    → value_of (from_entries (value_entries accounts)) a.key ≡ a.value
+value_there accounts i a h within e =
+    ap (λ o. unwrap_or o (pos 0)) (get-from_entries key_cmp_total (value_entries accounts) a.key ∙ value_found a.key accounts
+    ∙ ap (option_map (λ (c : Account). c.value)) (at_own_key accounts i a h within e))
+
 broken_cases : (values : FinMap key_cmp ℤ) (x : XidName) (a : Account) → value_of values a.key ≡ a.value
     → is_broken_by a x ≡ elim (a.hold) [ None ↦ false | Some l ↦ xid_eq l.xid x && not (is_within (value_of values a.key +ℤ l.amount)) ]
 broken_cases values x a is = grind arith
@@ -173,8 +201,7 @@ broken_any accounts x h =
     any_entries touch_cmp_total touch_cmp-IsAntisymmetric p (hold_entries accounts) (distinct_holds accounts h)
     ∙ any_hold p (λ a. is_broken_by a x) accounts (λ i d within.
     let a : Account = get_or accounts i d in
-    broken_cases values x a (ap (λ o. unwrap_or o (pos 0)) (get-from_entries key_cmp_total (value_entries accounts) a.key ∙ value_found a.key accounts
-    ∙ ap (option_map (λ (c : Account). c.value)) (at_own_key accounts i a h within (get_or_default accounts i d a within)))))
+    broken_cases values x a (value_there accounts i a h within (get_or_default accounts i d a within)))
 
 -- ---- some branches let go of their keys
 
@@ -375,6 +402,18 @@ all_added n i a x d accounts delta h e g k b j =
     let here : IsGood n a = rw e (g i a h) in
     let new : IsGood (n + 1) (added_to a x d) = (here.0, here.1, small_added n x d a.hold delta here.2) in
     search (arith, nat_eq, get_or-set_at, eqb-true, length-set, get_or-set_other, eq-eqb, small_more)
+
+-- and where one that nobody held is held by x alone
+small_one : (n : ℕ) (o : Option Hold) → n ≤ 1 → IsSmall n o → IsSmall 1 o
+small_one n o few s = grind arith
+
+pub all_held : (n i : ℕ) (a : Account) (x : XidName) (d : ℤ) (accounts : List Account) → IsDelta d → n ≤ 1 → a.hold ≡ None → i < length accounts
+    → a ≡ get_or accounts i a → All (IsGood n) accounts → All (IsGood 1) (set accounts i (added_to a x d))
+all_held n i a x d accounts delta few none h e g k b j =
+    let here : IsGood n a = rw e (g i a h) in
+    let small : IsSmall 0 a.hold = rw none tt in
+    let new : IsGood 1 (added_to a x d) = (here.0, here.1, small_added 0 x d a.hold delta small) in
+    search (arith, nat_eq, get_or-set_at, eqb-true, length-set, get_or-set_other, eq-eqb, small_one)
 
 -- a prepared branch keeps the value within the limits, so its sum is that of one addition
 small_prepared : (keep : XidName → Bool) (v : ℤ) (o : Option Hold) → (pos 0 ≤ℤ v) × (v ≤ℤ pos 1000000000000)

@@ -4,12 +4,13 @@ use Rattle.xa_base.proofs.{or-true, not-false, by_if}
 use Rattle.xa_words.specs.{XidName, xid_eq, Done, RdOnly, RbRollback, RbIntegrity, RbTransient, Async, RmErr, Nota, Inval, Proto, RmFail, DupId, Outside, Op}
 use Rattle.xa_words.specs.{OpenRm, CloseRm, Start, Add, End, Prepare, Commit, Rollback, Forget, Heur, Listed, Shut, StartHow, Fresh, Join, Resume, EndHow}
 use Rattle.xa_words.specs.{Success, Suspend, Fail, Code, is_done, is_rolled_back}
-use Rattle.xa_tables.specs.{State, Active, Idle, RollbackOnly, Failed, Transient, Association, association_of, has_association, state_of, exists, is_S4}
-use Rattle.xa_tables.specs.{is_suspended, is_associated, is_prepared, is_rollback_only, is_completed, is_left, is_S5, reason_in, reason_of, decision_in}
-use Rattle.xa_tables.specs.{is_somebody_associated, is_declared, has_other_touched, is_broken, Answer, next, by_rules, open_rm, close_rm, start, add, end}
-use Rattle.xa_tables.specs.{prepare, commit_one, commit_two, rollback, heur, forget, listed, is_suspend, associated, suspended, dissociated, stated, added}
-use Rattle.xa_tables.specs.{gone, completed, committed, shut_down, Fate, ReadOnly, RolledBack, fate_of, if_named, commit_fate, rollback_fate, ending_by}
-use Rattle.xa_tables.specs.{share_of, names, moved_by, held_by, Tables, sums_without, Live, InDoubt, Committed, HeurCommitted, HeurRolledBack, ending}
+use Rattle.xa_tables.specs.{State, Active, Idle, RollbackOnly, Failed, Transient, Association, association_of, has_association, state_of, exists, is_S2, is_S4}
+use Rattle.xa_tables.specs.{is_suspended, is_associated, is_idle, is_prepared, is_rollback_only, is_completed, is_left, is_left_in, is_S5, reason_in, reason_of}
+use Rattle.xa_tables.specs.{decision_in, is_somebody_associated, is_declared, has_other_touched, is_broken, Answer, next, by_rules, open_rm, close_rm, start}
+use Rattle.xa_tables.specs.{add, end, prepare, commit_one, commit_two, rollback, heur, forget, listed, is_suspend, associated, suspended, dissociated, stated}
+use Rattle.xa_tables.specs.{added, gone, completed, committed, shut_down, Fate, ReadOnly, RolledBack, fate_of, if_named, commit_fate, rollback_fate, ending_by}
+use Rattle.xa_tables.specs.{is_settling, share_of, names, moved_by, held_by, Tables, sums_without, Live, InDoubt, Committed, HeurCommitted, HeurRolledBack}
+use Rattle.xa_tables.specs.{ending}
 use Rattle.xa_tables.specs.declared.state.State.TheVariants.{Prepared as S3}
 use Rattle.xa_tables.specs.Next.{forgotten}
 use Rattle.std.specs.FinSet as set
@@ -31,6 +32,7 @@ pub record TellsDropped (op : Op) (y : XidName) (c : Code) : Type 0 where
   pub shares : (k : List ℕ) (l : Option Association) (later : XidName → Bool) → share_of k op c l later ≡ pos 0
   pub moved : (accounts : List (List ℕ × ℕ)) (T : Tables) → moved_by accounts op c T ≡ pos 0
   pub named : (x : XidName) → names x op ≡ xid_eq y x
+  pub settling : is_settling op ≡ true
 
 -- XAER_*
 abbrev is_error : Code → Bool
@@ -81,7 +83,7 @@ pub data Effect (t : ℕ) (T : Tables) : Op → Answer → Type 0 where
   Opens : Effect t T OpenRm (open_rm t T)
   Closes : Effect t T CloseRm (record T { opened = set.remove T.opened t }, Done)
   -- t begins a branch, joins one that is at work, and goes on with its own
-  Starts : (y : XidName) → has_association T t ≡ false → Effect t T (Start y Fresh) (associated t y (stated y Active T), Done)
+  Starts : (y : XidName) → has_association T t ≡ false → exists T y ≡ false → Effect t T (Start y Fresh) (associated t y (stated y Active T), Done)
   Joins : (y : XidName) → has_association T t ≡ false → exists T y ≡ true → is_left T y ≡ false
       → Effect t T (Start y Join) (associated t y (stated y Active T), Done)
   Resumes : (y : XidName) → is_associated T t y ≡ true → Effect t T (Start y Resume) (associated t y T, Done)
@@ -101,7 +103,8 @@ pub data Effect (t : ℕ) (T : Tables) : Op → Answer → Type 0 where
       → Effect t T (Prepare y) (stated y S3 T, Done)
   Commits : (y : XidName) (one_phase : Bool) → is_somebody_associated T.associations y ≡ false
       → (is_prepared T y ≡ true) ⊎ (is_broken T.values T.sums y ≡ false) → Effect t T (Commit y one_phase) (gone y (committed y T), Done)
-  Drops : (op : Op) (y : XidName) (c : Code) → is_somebody_associated T.associations y ≡ false → TellsDropped op y c → Effect t T op (gone y T, c)
+  Drops : (op : Op) (y : XidName) (c : Code) → is_somebody_associated T.associations y ≡ false → (is_done c || not (is_left T y)) ≡ true
+      → TellsDropped op y c → Effect t T op (gone y T, c)
   -- a prepared branch is committed or rolled back by a heuristic decision, and such a decision is forgotten
   CommitsByItself : (y : XidName) → is_prepared T y ≡ true → Effect t T (Heur y true) (completed y decision.Commit (committed y T), Done)
   RollsBackByItself : (y : XidName) → is_prepared T y ≡ true → Effect t T (Heur y false) (completed y decision.Rollback T, Done)
@@ -159,20 +162,29 @@ module _ (t : ℕ) (T : Tables) where
   at_end Success y =
       at_end_by Success y (if is_somebody_associated (dissociated t T).associations y then (dissociated t T, Done) else (stated y Idle (dissociated t T), Done)) (λ own. at_if (is_somebody_associated (dissociated t T).associations y) (λ left. Leaves y Success Done own (ap (λ b. is_rollback_only T y || b) left ∙ or-true (is_rollback_only T y))) (λ alone. Idles y own alone))
 
-  reads : (y : XidName) → is_somebody_associated T.associations y ≡ false → Effect t T (Prepare y) (gone y T, RdOnly)
-  reads y nobody =
-      Drops (Prepare y) y RdOnly nobody (record { fate = ReadOnly; uncommitted = refl; fates = λ x. refl; shares = λ k l later. refl; moved = λ accounts U. refl; named = λ x. refl })
+  -- where y is neither prepared nor heuristically completed
+  not_left : (y : XidName) → is_left T y ≡ false → not (is_left T y) ≡ true
+  not_left y e = ap not e
 
-  breaks : (y : XidName) → is_somebody_associated T.associations y ≡ false → Effect t T (Prepare y) (gone y T, RbIntegrity)
-  breaks y nobody =
-      Drops (Prepare y) y RbIntegrity nobody (record { fate = RolledBack; uncommitted = refl; fates = λ x. refl; shares = λ k l later. refl; moved = λ accounts U. refl; named = λ x. refl })
+  reads : (y : XidName) → is_somebody_associated T.associations y ≡ false → is_left T y ≡ false → Effect t T (Prepare y) (gone y T, RdOnly)
+  reads y nobody left =
+      Drops (Prepare y) y RdOnly nobody (not_left y left) (record { fate = ReadOnly; uncommitted = refl; fates = λ x. refl; shares = λ k l later. refl; moved = λ accounts U. refl; named = λ x. refl; settling = refl })
+
+  breaks : (y : XidName) → is_somebody_associated T.associations y ≡ false → is_left T y ≡ false
+      → Effect t T (Prepare y) (gone y T, RbIntegrity)
+  breaks y nobody left =
+      Drops (Prepare y) y RbIntegrity nobody (not_left y left) (record { fate = RolledBack; uncommitted = refl; fates = λ x. refl; shares = λ k l later. refl; moved = λ accounts U. refl; named = λ x. refl; settling = refl })
 
   at_prepare : (y : XidName) → Effect t T (Prepare y) (prepare y T)
   at_prepare y = grind (arith, refuses, reads, breaks, Prepares)
 
-  commit_breaks : (y : XidName) → is_somebody_associated T.associations y ≡ false → Effect t T (Commit y true) (gone y T, RbIntegrity)
-  commit_breaks y nobody =
-      Drops (Commit y true) y RbIntegrity nobody (record { fate = RolledBack; uncommitted = refl; fates = λ x. refl; shares = λ k l later. refl; moved = λ accounts U. refl; named = λ x. refl })
+  idle_not_left : (o : Option State) → is_S2 o ≡ true → is_left_in o ≡ false
+  idle_not_left o e = grind arith
+
+  commit_breaks : (y : XidName) → is_somebody_associated T.associations y ≡ false → is_idle T y ≡ true
+      → Effect t T (Commit y true) (gone y T, RbIntegrity)
+  commit_breaks y nobody idle =
+      Drops (Commit y true) y RbIntegrity nobody (not_left y (idle_not_left (state_of T y) idle)) (record { fate = RolledBack; uncommitted = refl; fates = λ x. refl; shares = λ k l later. refl; moved = λ accounts U. refl; named = λ x. refl; settling = refl })
 
   commit_told : (y : XidName) (c : Code) → commit_fate c ≡ None → Effect t T (Commit y false) (T, c)
   commit_told y c none = Stays (Commit y false) c (record {
@@ -189,13 +201,16 @@ module _ (t : ℕ) (T : Tables) where
   rollback_told y c none =
       Stays (Rollback y) c (record { fates = λ x. ap (if_named x y) none ∙ named_none x y; shares = λ k l later. refl; moved = λ accounts U. refl })
 
-  rollback_drops : (y : XidName) (c : Code) → is_somebody_associated T.associations y ≡ false → (is_done c || is_rolled_back c) ≡ true
-      → Effect t T (Rollback y) (gone y T, c)
-  rollback_drops y c nobody e =
-      Drops (Rollback y) y c nobody (record { fate = RolledBack; uncommitted = refl; fates = λ x. ap (λ b. if_named x y (if b then Some RolledBack else None)) e; shares = λ k l later. refl; moved = λ accounts U. refl; named = λ x. refl })
+  doomed_not_left : (o : Option State) (c : Code) → is_S4 o ≡ true → (is_done c || not (is_left_in o)) ≡ true
+  doomed_not_left o c e = grind arith
+
+  rollback_drops : (y : XidName) (c : Code) → is_somebody_associated T.associations y ≡ false → (is_done c || not (is_left T y)) ≡ true
+      → (is_done c || is_rolled_back c) ≡ true → Effect t T (Rollback y) (gone y T, c)
+  rollback_drops y c nobody left e =
+      Drops (Rollback y) y c nobody left (record { fate = RolledBack; uncommitted = refl; fates = λ x. ap (λ b. if_named x y (if b then Some RolledBack else None)) e; shares = λ k l later. refl; moved = λ accounts U. refl; named = λ x. refl; settling = refl })
 
   at_rollback : (y : XidName) → Effect t T (Rollback y) (rollback y T)
-  at_rollback y = grind (arith, refuses, rollback_told, decision_rolls_nothing_back, rollback_drops, reason_rolls_back)
+  at_rollback y = grind (arith, refuses, rollback_told, decision_rolls_nothing_back, rollback_drops, doomed_not_left, reason_rolls_back)
 
   at_heur : (commits : Bool) (y : XidName) → Effect t T (Heur y commits) (heur y commits T)
   at_heur commits y = grind (arith, refuses, CommitsByItself, RollsBackByItself)
@@ -257,14 +272,14 @@ module _ (t : ℕ) (T : Tables) where
 
   by_effect : {op : Op} {a : Answer} → Effect t T op a → Moving op a
   by_effect (Stays op c tells) = Still _ _ _ refl refl tells.shares (λ accounts. tells.moved accounts T) (λ x. ap ending (tells.fates x))
-  by_effect (Starts y free) = Still _ _ _ refl refl (λ k l later. refl) (λ accounts. refl) (λ x. quiet_named x y (Some Live) refl)
+  by_effect (Starts y free fresh) = Still _ _ _ refl refl (λ k l later. refl) (λ accounts. refl) (λ x. quiet_named x y (Some Live) refl)
   by_effect (Joins y free there unprepared) = Still _ _ _ refl refl (λ k l later. refl) (λ accounts. refl) (λ x. quiet_named x y None refl)
   by_effect (Resumes y own) = Still _ _ _ refl refl (λ k l later. refl) (λ accounts. refl) (λ x. quiet_named x y None refl)
   by_effect (Dooms own d l mine) = Still _ _ _ refl refl (undone_adds own d RbTransient refl).shares (λ accounts. refl) (λ x. refl)
   by_effect (Adds own d l mine known alone) = rw mine (Added own d l known alone)
   by_effect (Prepares y nobody unbroken) = Still _ _ _ refl refl (λ k l later. refl) (λ accounts. refl) (λ x. quiet_named x y (Some InDoubt) refl)
   by_effect (Commits y one_phase nobody may) = Ended _ _ _ y true refl refl (λ k l later. refl) (λ accounts. refl) (λ x. named_ending x y (Some Committed))
-  by_effect (Drops op y c nobody tells) =
+  by_effect (Drops op y c nobody left tells) =
       Ended _ _ _ y false refl refl tells.shares (λ accounts. tells.moved accounts T)
       (λ x. ap ending (tells.fates x) ∙ named_ending x y (Some tells.fate) ∙ ap (λ e. if xid_eq y x then e else None) tells.uncommitted)
   by_effect (CommitsByItself y voted) = Ended _ _ _ y true refl refl (λ k l later. refl) (λ accounts. refl) (λ x. named_ending x y (Some HeurCommitted))

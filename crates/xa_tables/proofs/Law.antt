@@ -188,7 +188,7 @@ module _ (t : ℕ) (T : Tables) (s : Sound T) where
   sound_by (Suspends y own) = grind (arith, changes, own_works)
   sound_by (Prepares y nobody unbroken) = grind (arith, changes)
   sound_by (Commits y one_phase nobody may) = grind (arith, changes)
-  sound_by (Drops op y c nobody tells) = grind (arith, changes)
+  sound_by (Drops op y c nobody left tells) = grind (arith, changes)
   sound_by (CommitsByItself y voted) = grind (arith, changes, voted_rests)
   sound_by (RollsBackByItself y voted) = grind (arith, changes, voted_rests)
   sound_by (Forgets y is) = grind (arith, changes)
@@ -217,10 +217,10 @@ module _ (t : ℕ) (T : Tables) (s : Sound T) where
   tells_by x f h (Fails y own) = works_on x f h y (RollbackOnly Failed) (own_works T s t y own) refl
   tells_by x f h (Idles y own alone) = works_on x f h y Idle (own_works T s t y own) refl
   tells_by x f h (Dooms k d l own) = works_on x f h l.xid (RollbackOnly Transient) (associated_works T s t l own) refl
-  tells_by x f h (Drops op y c nobody tells) = search (arith, changed, get_gone, dropped_tells, tells.fates)
+  tells_by x f h (Drops op y c nobody left tells) = search (arith, changed, get_gone, dropped_tells, tells.fates)
   tells_by x f h (Forgets y is) =
       alike x f h y None _ (get_gone T.states y x) (λ e. forgotten_tells (state_of T x) f (ap (λ z. is_S5 (state_of T z)) (sym e) ∙ is) h)
-  tells_by x f h (Starts y free) = changed x f h y (Some Active) _ (Some Live) (get_put T.states y x Active) (told_tells (Some Active))
+  tells_by x f h (Starts y free fresh) = changed x f h y (Some Active) _ (Some Live) (get_put T.states y x Active) (told_tells (Some Active))
   tells_by x f h (Prepares y nobody unbroken) = changed x f h y (Some S3) _ (Some InDoubt) (get_put T.states y x S3) (told_tells (Some S3))
   tells_by x f h (Commits y one_phase nobody may) = changed x f h y None _ (Some Committed) (get_gone T.states y x) (none_tells Committed refl refl)
   tells_by x f h (CommitsByItself y voted) =

@@ -8,3 +8,7 @@ pub mod ValueLaw
 pub mod WorthLaw
 pub mod PreparedLaw
 pub mod Reopening
+pub mod DurableLaw
+pub mod HeldSums
+pub mod Restoring
+pub mod Storing

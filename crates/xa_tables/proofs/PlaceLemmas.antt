@@ -87,6 +87,10 @@ distinct_apart (d ∷ ds) h = (lacks_declared d.0 ds (not-true _ (and_parts _ _ 
 pub distinct_declared : (ds : List (List ℕ × ℕ)) → are_accounts ds ≡ true → AreDistinct (map account_of ds)
 distinct_declared ds h = distinct_apart ds (and_parts _ _ (and_parts _ _ h).1).1
 
+-- and these are few
+pub few_declared : (ds : List (List ℕ × ℕ)) → are_accounts ds ≡ true → length ds ≤ 256
+few_declared ds h = leb-true (length ds) 256 (and_parts _ _ h).0
+
 -- each declared value is within the limit
 pub limit_declared : (ds : List (List ℕ × ℕ)) (i : ℕ) (d : List ℕ × ℕ) → are_accounts ds ≡ true → i < length ds → d.1 ≡ (get_or ds i d).1 → d.1 ≤ 1000000000000
 limit_declared ds i d h within is = search (arith, and_parts, leb-true, true_from_ne_false, list_all_at)
@@ -110,7 +114,7 @@ pub ruleset keys_there = (length-map)
 
 -- ---- the account at a place
 
-passes_within : (test : Account → Bool) (accounts : List Account) (i : ℕ) → passes_at test accounts i ≡ true → i < length accounts
+pub passes_within : (test : Account → Bool) (accounts : List Account) (i : ℕ) → passes_at test accounts i ≡ true → i < length accounts
 passes_within test [] i h = let never : ⊥ = cc in absurd never
 passes_within test (a ∷ rest) zero h = omega arith
 passes_within test (a ∷ rest) (suc i) h = let later = passes_within test rest i h in omega arith
@@ -285,11 +289,11 @@ held_kept f only held accounts h = record {
 pub accounts_kept : (keep : XidName → Bool) (f : Account → Account) → LetsGo keep f
     → (n : ℕ) (places : FinMap key_cmp ℕ) {held : List ℕ} {old now : List Account} {left : List ℕ} {room cap : ℕ}
     → now ≡ map f old → left ≡ filter (is_held_at now) held → room ≡ cap
-    → AreDistinct old → All (IsGood n) (map f old) → AreIndexed places old → AreHeld held old → length old ≤ cap
-    → AreDistinct now × All (IsGood n) now × AreIndexed places now × AreHeld left now × (length now ≤ room)
-accounts_kept keep f g n places {held = held} {old = old} {now = now} {left = left} {room = room} {cap = cap} all kept same apart good indexed h fits =
+    → AreDistinct old → All (IsGood n) (map f old) → AreIndexed places old → AreHeld held old → length old ≤ cap → length old ≤ 256
+    → AreDistinct now × All (IsGood n) now × AreIndexed places now × AreHeld left now × (length now ≤ room) × (length now ≤ 256)
+accounts_kept keep f g n places {held = held} {old = old} {now = now} {left = left} {room = room} {cap = cap} all kept same apart good indexed h fits few =
     let places_left : left ≡ filter (is_held_at (map f old)) held = kept ∙ ap (λ as1. filter (is_held_at as1) held) all in
-    rw all (rw (keys_map f g.key old) apart, good, λ k. indexed k ∙ ap (place_in k) (sym (keys_map f g.key old)), rw places_left (held_kept f (λ a is. where_held keep a.hold (sym (ap is_some (g.hold a)) ∙ is)) held old h), omega (arith, length-map old f))
+    rw all (rw (keys_map f g.key old) apart, good, λ k. indexed k ∙ ap (place_in k) (sym (keys_map f g.key old)), rw places_left (held_kept f (λ a is. where_held keep a.hold (sym (ap is_some (g.hold a)) ∙ is)) held old h), omega (arith, length-map old f), omega (arith, length-map old f))
 
 -- once a branch has added at a place
 pub held_noted : (held : List ℕ) (accounts : List Account) (i : ℕ) (a b : Account) → AreHeld held accounts → i < length accounts → a ≡ get_or accounts i a

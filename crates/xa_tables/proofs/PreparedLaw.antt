@@ -53,7 +53,7 @@ decides t x op T n h =
 module _ (t : ℕ) (x : XidName) (T : Tables) (u : is_prepared T x ≡ false) where
   -- other requests than those that name it leave it so
   by_effect : {op : Op} {a : Answer} → Effect t T op a → names x op ≡ false → is_prepared a.0 x ≡ false
-  by_effect (Drops op y c free tells) n = grind (arith, get_gone)
+  by_effect (Drops op y c free left tells) n = grind (arith, get_gone)
   by_effect effect n = grind (arith, get_put, get_gone)
 
   forget_step : is_prepared (next t (Forget x) T).0 x ≡ false

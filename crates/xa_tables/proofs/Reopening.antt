@@ -186,14 +186,14 @@ sum_law before h k T n = sym (ap (λ (U : Tables). map.get U.values k) (left_on 
 -- ---- the law: the value of a declared key stays within the limits, whatever is requested, over any openings
 
 -- each sum of x and its key's value are together within the limits
-abbrev Fits : Tables → XidName → Type 0
+abbrev pub Fits : Tables → XidName → Type 0
 Fits T x = (k : List ℕ) (s : ℤ) → map.get T.sums (x, k) ≡ Some s → is_within (value_of T.values k +ℤ s) ≡ true
 
 -- each value is within the limits, no two branches have touched one key, and a prepared branch fits
 pub record Kept (T : Tables) : Type 0 where
-  values : (k : List ℕ) (v : ℤ) → map.get T.values k ≡ Some v → is_within v ≡ true
-  alone : (x y : XidName) (k : List ℕ) (s r : ℤ) → map.get T.sums (x, k) ≡ Some s → map.get T.sums (y, k) ≡ Some r → x ≡ y
-  prepared : (x : XidName) → is_S3 (state_of T x) ≡ true → Fits T x
+  pub values : (k : List ℕ) (v : ℤ) → map.get T.values k ≡ Some v → is_within v ≡ true
+  pub alone : (x y : XidName) (k : List ℕ) (s r : ℤ) → map.get T.sums (x, k) ≡ Some s → map.get T.sums (y, k) ≡ Some r → x ≡ y
+  pub prepared : (x : XidName) → is_S3 (state_of T x) ≡ true → Fits T x
 
 -- a branch that breaks no limit fits
 unbroken_fits : (T : Tables) (x : XidName) → is_broken T.values T.sums x ≡ false → Fits T x
@@ -288,9 +288,14 @@ kept_by [] T o w = w
 kept_by (h ∷ hs) T o w =
     grind (arith, (kept_by hs (reopened (tables_after h T)) (reopens (tables_after h T)) (kept_over (tables_after h T) (run_kept h T (opening_sound T o) w))), reopens, kept_over, run_kept, opening_sound)
 
-pub within_law : (accounts : List (List ℕ × ℕ)) (before : List History) (h : History) (k : List ℕ) → are_accounts accounts ≡ true
-    → StaysWithin k h (left_by before (opening accounts))
-within_law accounts before h k are v at =
+-- each value and each prepared branch, whatever is requested, over any openings
+pub kept_always : (accounts : List (List ℕ × ℕ)) (before : List History) (h : History) → are_accounts accounts ≡ true
+    → Kept (tables_after h (left_by before (opening accounts)))
+kept_always accounts before h are =
     let new = new_opens (opening accounts) (accounts_new accounts) in
     let T : Tables = left_by before (opening accounts) in
-    within_bounds v ((run_kept h T (opening_sound T (left_opens before (opening accounts) new)) (kept_by before (opening accounts) new (opening_kept accounts are))).values k v at)
+    run_kept h T (opening_sound T (left_opens before (opening accounts) new)) (kept_by before (opening accounts) new (opening_kept accounts are))
+
+pub within_law : (accounts : List (List ℕ × ℕ)) (before : List History) (h : History) (k : List ℕ) → are_accounts accounts ≡ true
+    → StaysWithin k h (left_by before (opening accounts))
+within_law accounts before h k are v at = within_bounds v ((kept_always accounts before h are).values k v at)

@@ -58,7 +58,7 @@ pub nobody_as : (x : XidName) (t : ℕ) (m n : Associations) → ((u : ℕ) → 
 nobody_as x t m n others own nobody = grind (arith, nobody_with, apart_from)
 
 -- somebody is associated with x: t, by its association in m, or another thread, by one of n, in which t has none
-same_false : (b c : Bool) → (b ≡ false → c ≡ false) → (c ≡ false → b ≡ false) → b ≡ c
+pub same_false : (b c : Bool) → (b ≡ false → c ≡ false) → (c ≡ false → b ≡ false) → b ≡ c
 same_false b c f g = grind arith
 
 somebody_but : (x : XidName) (t : ℕ) (m n : Associations) → ((u : ℕ) → u ≢ t → map.get n u ≡ map.get m u) → map.get n t ≡ None

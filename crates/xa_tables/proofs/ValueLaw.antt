@@ -3,10 +3,10 @@ use Rattle.xa_base.proofs.{◌≡◌, ◌≢◌, ℕ, ℤ, pos, ◌+ℤ◌, opti
 use Rattle.xa_base.proofs.{sym, ap, ◌∙◌, arith, get-insert, FinMap, +ℤ_idl as none_plus, ints, get-map_values, none_passes, is_some, ◌||◌, ◌++◌, All-head}
 use Rattle.xa_base.proofs.{All-tail, at_false, get-retain_keys, total_alike, total_both, get_or, All-cons, All-nil, +ℤ_idr as plus_none}
 use Rattle.xa_words.specs.{XidName, xid_eq, Decides-xid_eq, key_cmp_total, key_cmp-IsAntisymmetric, Decides-key_eq, Done, Op, Add, key_eq, Code, Request}
-use Rattle.xa_tables.specs.{Association, association_of, has_other_touched, Touch, touch_cmp, sum_of, sums_without, Answer, next, committed, coded, accepted}
-use Rattle.xa_tables.specs.{fate_of, tables_after, added_in, share_of, commits_later, ending, or_later, LateAddNothing, Tables, History, State, state_of, is_S3}
-use Rattle.xa_tables.specs.{is_S5, OnlyUnfinishedTouch, IsOpening, is_S1, is_S4, is_somebody_associated, ActiveWhileAssociated, names, NamesNowhere}
-use Rattle.xa_tables.specs.{StaysAsItWas, value_of, is_declared, DeclareEach, worth, moved_by, held_by, moved, WorthIsMovedFrom, is_any}
+use Rattle.xa_tables.specs.{gone, Association, association_of, has_other_touched, Touch, touch_cmp, sum_of, sums_without, Answer, next, committed, coded}
+use Rattle.xa_tables.specs.{accepted, fate_of, tables_after, added_in, share_of, commits_later, ending, or_later, LateAddNothing, Tables, History, State}
+use Rattle.xa_tables.specs.{state_of, is_S3, is_S5, OnlyUnfinishedTouch, IsOpening, is_S1, is_S4, is_somebody_associated, ActiveWhileAssociated, names}
+use Rattle.xa_tables.specs.{NamesNowhere, StaysAsItWas, value_of, is_declared, DeclareEach, worth, moved_by, held_by, moved, WorthIsMovedFrom, is_any}
 use Rattle.xa_tables.proofs.Law.{accepted_read, swap_xid, Sound, Nowhere, standing, associated_works, sound_after, get_put, get_gone, opening_sound, changes}
 use Rattle.xa_tables.proofs.Law.{opening_free}
 use Rattle.xa_tables.proofs.Effects.{Moves, Still, Ended, Added, moves_of, Effect, Adds, Forgets, effect_of, Starts, Joins, Resumes, Suspends, Leaves, Idles}
@@ -278,8 +278,11 @@ touch_law h x T o e k = (run_clean h T (opening_sound T o) (opening_clean T o)).
 record WorksWhile (T : Tables) : Type 0 where
   active : (x : XidName) → is_S4 (state_of T x) ≡ false → is_S1 (state_of T x) ≡ is_somebody_associated T.associations x
 
+works_without : (T : Tables) (y : XidName) → WorksWhile T → is_somebody_associated T.associations y ≡ false → WorksWhile (gone y T)
+works_without T y w nobody = grind (arith, changes)
+
 works_by : (t : ℕ) (T : Tables) {op : Op} {a : Answer} → WorksWhile T → Effect t T op a → WorksWhile a.0
-works_by t T w (Starts y free) = grind (arith, changes)
+works_by t T w (Starts y free fresh) = grind (arith, changes)
 works_by t T w (Joins y free there unprepared) = grind (arith, changes)
 works_by t T w (Resumes y own) = grind (arith, changes)
 works_by t T w (Suspends y own) = grind (arith, changes)
@@ -288,7 +291,7 @@ works_by t T w (Idles y own alone) = grind (arith, changes)
 works_by t T w (Fails y own) = grind (arith, changes)
 works_by t T w (Prepares y nobody unbroken) = grind (arith, changes)
 works_by t T w (Commits y one_phase nobody may) = grind (arith, changes)
-works_by t T w (Drops op y c nobody tells) = grind (arith, changes)
+works_by t T w (Drops op y c nobody left tells) = works_without T y w nobody
 works_by t T w (CommitsByItself y voted) = grind (arith, changes)
 works_by t T w (RollsBackByItself y voted) = grind (arith, changes)
 works_by t T w (Forgets y is) = grind (arith, changes)
@@ -317,7 +320,7 @@ module _ (t : ℕ) (x : XidName) (T : Tables) (nobody : is_somebody_associated T
   by_effect : {op : Op} {a : Answer} → Effect t T op a → names x op ≡ false → StaysAsItWas x T a.0
   by_effect (Dooms k d l own) n = grind (arith, changes, apart_from)
   by_effect (Adds k d l own known alone) n = grind (arith, get_add, apart_from)
-  by_effect (Drops op y c free tells) n = grind (arith, changes, get_without, swap_xid)
+  by_effect (Drops op y c free left tells) n = grind (arith, changes, get_without, swap_xid)
   by_effect effect n = grind (arith, changes, get_without, swap_xid)
 
 pub unnamed_stays : (t : ℕ) (op : Op) (x : XidName) (T : Tables) → is_somebody_associated T.associations x ≡ false → names x op ≡ false

@@ -1,5 +1,5 @@
 -- A branch holds what it has added to accounts, which it alone did where one thread worked for it, and doesn't vote that it only read.
-use Rattle.xa_base.proofs.{cases_eq, inl, inr, inserted_there, inserted_other, removed_there, removed_other, rules, ◌≡◌, ◌≢◌, ℕ, ◌+◌, ℤ, pos, ◌+ℤ◌, true, false}
+use Rattle.xa_base.proofs.{cases_eq, inl, inr, inserted_there, inserted_other, removed_there, removed_other, rules, ◌≡◌, ◌≢◌, ℕ, ℤ, pos, ◌+ℤ◌, true, false}
 use Rattle.xa_base.proofs.{if◌then◌else◌, Option, Some, List, [], ◌∷◌, ◌++◌, refl, sym, ap, ◌∙◌, arith, eqb-false, All-head, All-tail, +ℤ_idl as none_plus}
 use Rattle.xa_base.proofs.{+ℤ_idr as plus_none, suc, Bool, None, option_map, is_some, none_passes, zero, not, ◌&&◌, unwrap_or, ◌<◌, length, map, All, list_any}
 use Rattle.xa_base.proofs.{find, get-empty, get-from_entries, get_or, and_parts, not-true, or-true, total_same, total_alike, total_both, total_nothing, by_bool}
@@ -31,7 +31,7 @@ module _ (t : ℕ) (T : Tables) where
 
   -- and its thread becomes associated with no branch that it doesn't name
   pub stays_apart : (x : XidName) {op : Op} {a : Answer} → Effect t T op a → names x op ≡ false → is_associated T t x ≡ false → is_associated a.0 t x ≡ false
-  stays_apart x (Starts y free) n h = grind (arith, inserted_there)
+  stays_apart x (Starts y free fresh) n h = grind (arith, inserted_there)
   stays_apart x effect n h = grind (arith, inserted_there, removed_there)
 
 -- ---- what requests add that aren't the branch's

@@ -91,6 +91,11 @@ abbrev pub amount_in : Option Hold → ℤ
 amount_in None = pos 0
 amount_in (Some h) = h.amount
 
+-- what x has added by a hold, if the hold is its own
+abbrev pub hold_amount : XidName → Option Hold → Option ℤ
+hold_amount x None = None
+hold_amount x (Some h) = if xid_eq h.xid x then Some h.amount else None
+
 -- the account once x has added d
 abbrev pub added_to : Account → XidName → ℤ → Account
 added_to a x d = record a { hold = Some (record { xid = x; amount = amount_in a.hold +ℤ d }) }

@@ -12,13 +12,16 @@ pub mod Worked
 pub mod Prepared
 pub mod Worth
 pub mod Work
+pub mod Durable
+pub mod Restored
 -- The words of this crate, by its name.
 pub use Reasons.{decision_code, reason_code}
 pub use ManagerTables.{Tables, Touch, association_of, associations_code, branch_in, branch_of, decision_in, decision_of}
 pub use ManagerTables.{exists, has_association, has_opened, has_other_touched, has_touched, is_S1, is_S2, is_S3, is_S4}
 pub use ManagerTables.{is_S5, is_T1, is_T2, is_active, is_associated, is_association_with, is_at_work, is_broken}
 pub use ManagerTables.{is_completed, is_declared, is_idle, is_left, is_left_in, is_prepared, is_rollback_only}
-pub use ManagerTables.{is_somebody_associated, is_suspended, is_suspended_state, is_within, no_xid, posted, reason_in}
+pub use ManagerTables.{is_somebody_associated, is_suspended, is_suspended_state, is_touched, is_within, no_xid, posted}
+pub use ManagerTables.{reason_in}
 pub use ManagerTables.{reason_of, set_code, state_of, states_code, sum_of, sums_code, sums_without, touch_cmp, value_of}
 pub use ManagerTables.{values_code}
 pub use Views.{BranchTable, PlaceTable, ThreadTable, association_in, branch_table_code, entries_from, is_thread_with}
@@ -30,11 +33,11 @@ pub use Next.{open_rm, prepare, rollback, shut_down, start, start_fresh, start_j
 pub use Next.{unless_shut, with_association}
 unfoldable pub use Next.{next}
 pub use Accounts.{AreApart, AreDistinct, AreIndexed, Holdings, IsGood, IsSmall, added_to, all_but, amount_in}
-pub use Accounts.{amount_of, declared_values, hold_breaks, hold_entries, hold_is_of}
+pub use Accounts.{amount_of, declared_values, hold_amount, hold_breaks, hold_entries, hold_is_of}
 pub use Accounts.{hold_is_other, hold_where, hold_without, holdings_code, holdings_of, is_broken_by, is_held_by}
 pub use Accounts.{is_held_by_other, kept_where, key_at, keys_of, later_place, place_in, posted_by, prepared_in}
 pub use Accounts.{value_entries, with_hold}
-pub use Held.{AreHeld, is_held, is_held_at, noted, passes_at}
+pub use Held.{AreHeld, is_held, is_held_at, noted, own_sum, passes_at, sum_at}
 pub use Managers.{AreAssociationsLive, ArePreparedSound, Keeps, Managed, TablesWithRoom, counted, free_threads, is_free}
 pub use Managers.{managed_code, opening, places_taken, tables_code, tables_of, tables_with_room_code}
 pub use Histories.{Absent, ActiveWhileAssociated, Committed, EndsNowhere, Fate, HeurCommitted, HeurRolledBack, History}
@@ -48,13 +51,16 @@ pub use Openings.{AreLeft, FatesAreTold, IsNew, IsOpening, ValueIsSum, added_ove
 pub use Openings.{left_by, reopened, reopened_fate, told_by, value_over}
 pub use Worked.{begun_again, branch, commits_after, committed_later, decided, decided_then, ended_then, entry, failed}
 pub use Worked.{fate_after, forgotten_later, gone_later, overdrawn, rolled_back_later, transferred, unchanged, undone}
-pub use Worked.{value_after, voted, voted_then, worked}
+pub use Worked.{adding, another, one_completed, taking, two_keys, two_prepared, value_after, voted, voted_then, worked}
 pub use Prepared.{AwaitsAfter, AwaitsTheOutcome, IsPrepared, IsTold, LeavesWaiting, NamesNowhere, OnlyDecides}
 pub use Prepared.{StaysAsItWas, StaysPrepared, answer_when, closes, fates_when, has_shut, is_close, is_forget, is_heur}
 pub use Prepared.{names, state_when}
 pub use Worth.{DeclareEach, HoldsItsAdditions, WorthIsMoved, WorthIsMovedFrom, added_by_now, gain, held_by, is_any}
 pub use Worth.{is_of, moved, moved_by, unless_ended, worth, worth_declared}
 pub use Work.{AddsAsItWorks, DoesWork, LeavesAtWork, request}
+pub use Durable.{FindsAlike, is_durable_at, is_settling, moves_values}
+pub use Restored.{HasEachOnce, IsStoreOf, Stored, amount_fault, branch_fault, fault_beside, fault_of, first_fault}
+pub use Restored.{restored, stored, stored_state, stored_value, sum_entries, sum_fault, sums_fault}
 pub use declared.accounts.Account.{Account}
 pub use declared.accounts.Hold.{Hold}
 pub use declared.state.Association.{Association}
@@ -66,4 +72,8 @@ pub use declared.state.RollbackReason.{RollbackReason}
 pub use declared.state.RollbackReason.TheVariants.{Failed, Transient}
 pub use declared.state.State.{State}
 pub use declared.state.State.TheVariants.{Active, HeuristicallyCompleted, Idle, RollbackOnly}
+pub use declared.restored.RestoreFault.{RestoreFault}
+pub use declared.restored.RestoreFault.TheVariants.{BadAccounts, BranchTwice, KeyTwice, NoMemory, NotLeft, NotPrepared}
+pub use declared.restored.RestoreFault.TheVariants.{OutOfLimits, UnknownKey}
+pub use declared.restored.Sum.{Sum}
 pub use declared.threads.ThreadState.{ThreadState}

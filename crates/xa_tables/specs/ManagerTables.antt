@@ -223,6 +223,10 @@ has_touched sums x = any_entry (λ p s. xid_eq p.0 x) sums
 abbrev pub has_other_touched : FinMap touch_cmp ℤ → XidName → List ℕ → Bool
 has_other_touched sums x k = any_entry (λ p s. key_eq p.1 k && not (xid_eq p.0 x)) sums
 
+-- some branch has touched the key
+abbrev pub is_touched : FinMap touch_cmp ℤ → List ℕ → Bool
+is_touched sums k = any_entry (λ p s. key_eq p.1 k) sums
+
 -- 0 to 10^12
 abbrev pub is_within : ℤ → Bool
 is_within v = le_z (pos 0) v && le_z v (pos MOST_VALUE)

@@ -1,5 +1,7 @@
--- Worked histories of one branch, in one opening and in two, with the codes that its requests got.
-use Rattle.std.specs.Prelude.{ℤ, pos, neg_ℤ, ◌+ℤ◌, Bool, true, false, if◌then◌else◌, List, [], ◌∷◌, ◌++◌, Some, codes}
+-- Worked histories of one branch, in one opening and in two, with the codes that its requests got; and what a store
+-- has.
+use Rattle.std.specs.Prelude.{ℕ, ℤ, pos, neg_ℤ, ◌+ℤ◌, Bool, true, false, if◌then◌else◌, List, [], ◌∷◌, ◌++◌, Some}
+use Rattle.std.specs.Prelude.{codes}
 use Rattle.xa_words.specs.Xid.{XidName}
 use Rattle.xa_words.specs.declared.code.Code.{Code}
 use Rattle.xa_words.specs.declared.code.Code.TheVariants.{Done, RdOnly, RbRollback, RbIntegrity, Nota, HeurCom}
@@ -9,6 +11,10 @@ use Rattle.xa_words.specs.declared.request.StartHow.TheVariants.{Fresh}
 use Rattle.xa_words.specs.declared.request.EndHow.TheVariants.{Success, Fail}
 use Rattle.xa_words.specs.declared.request.Request.{Request}
 use Rattle.xa_tables.specs.declared.state.AssociationState.TheVariants.{Associated}
+use Rattle.xa_tables.specs.declared.state.State.{State}
+use Rattle.xa_tables.specs.declared.state.State.TheVariants.{Prepared, HeuristicallyCompleted}
+use Rattle.xa_tables.specs.declared.state.HeuristicDecision.TheVariants as decision
+use Rattle.xa_tables.specs.declared.restored.Sum.{Sum}
 use Rattle.xa_tables.specs.Histories.{Fate, fate_in, is_live, commits_later, share_of, Absent, Live}
 use Rattle.xa_tables.specs.Next.{association}
 use Rattle.xa_tables.specs.Openings.{reopened_fate}
@@ -109,3 +115,28 @@ abbrev pub value_after : List (Request × Code) → List (Request × Code) → �
 value_after rest second =
     pos 100 +ℤ share_of (codes "a") (Add (codes "a") (neg_ℤ (pos 30))) Done (Some (association branch Associated))
     (commits_after rest second)
+
+-- ---- what a store has of a manager
+
+-- two keys, with 100 and 5
+abbrev pub two_keys : List (List ℕ × ℕ)
+two_keys = (codes "a", 100) ∷ (codes "b", 5) ∷ []
+
+-- the branch of another transaction
+abbrev pub another : XidName
+another = record { format = pos 1; gtrid = codes "h"; bqual = codes "1" }
+
+-- both branches are prepared
+abbrev pub two_prepared : List (XidName × State)
+two_prepared = (branch, Prepared) ∷ (another, Prepared) ∷ []
+
+-- one is prepared and the other completed
+abbrev pub one_completed : List (XidName × State)
+one_completed = (branch, Prepared) ∷ (another, HeuristicallyCompleted decision.Rollback) ∷ []
+
+-- a branch takes this much from a key, or adds it to it
+abbrev pub taking : XidName → List ℕ → ℕ → Sum
+taking x k n = record { xid = x; key = k; delta = neg_ℤ (pos n) }
+
+abbrev pub adding : XidName → List ℕ → ℕ → Sum
+adding x k n = record { xid = x; key = k; delta = pos n }

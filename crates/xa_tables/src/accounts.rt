@@ -1,7 +1,9 @@
 //! The declared keys: their committed values, and what branches have added.
-ghost use Rattle.std.specs.Prelude.{◌≡◌, ◌≢◌, ◌+◌, ◌<◌, ◌≤◌, ◌^◌, ◌+ℤ◌, ◌≤ℤ◌, Bool, IfOk, IfSome, is_some, true, false};
-ghost use Rattle.std.specs.Prelude.{option_map, map, filter, length, nat_le, pos, vec_len, vec_capacity};
-ghost use Rattle.std.specs.List.{list_any, list_all};
+ghost use Rattle.std.specs.Prelude.{◌≡◌, ◌≢◌, ◌+◌, ◌<◌, ◌≤◌, ◌^◌, ◌+ℤ◌, ◌≤ℤ◌, ◌++◌, ℕ, Bool, List, [], IfOk, IfSome};
+ghost use Rattle.std.specs.Prelude.{is_some, true, false};
+ghost use Rattle.std.specs.Prelude.{option_map, map, filter, filter_map, length, nat_le, pos, vec_len, vec_capacity};
+ghost use Rattle.std.specs.List.{IsDistinct, cons_option, list_any, list_all};
+ghost use Rattle.std.specs.Map.{keys_of, lookup};
 ghost use Rattle.std.specs.Fn.{FnReturnsAt};
 ghost use Rattle.std.specs.FinMap as finmap;
 ghost use Rattle.xa_words.specs.Delta.{IsDelta};
@@ -10,9 +12,9 @@ ghost use Rattle.xa_words.specs.Xid.{XidName};
 ghost use Rattle.xa_tables.specs.Accounts.{declared_values, is_held_by, is_held_by_other};
 ghost use Rattle.xa_words.specs.Accounts.{are_accounts, are_apart};
 ghost use Rattle.xa_tables.specs.Accounts.{is_broken_by, IsGood, added_to, posted_by, kept_where, key_at};
-ghost use Rattle.xa_tables.specs.Held.{AreHeld, is_held, is_held_at, noted};
-ghost use Rattle.xa_tables.specs.ManagerTables.{is_within, sum_of, has_touched, has_other_touched, is_broken, posted};
-ghost use Rattle.xa_tables.specs.ManagerTables.{sums_without, is_S3};
+ghost use Rattle.xa_tables.specs.Held.{AreHeld, is_held, is_held_at, noted, own_sum, sum_at};
+ghost use Rattle.xa_tables.specs.ManagerTables.{is_within, sum_of, value_of, has_touched, has_other_touched};
+ghost use Rattle.xa_tables.specs.ManagerTables.{is_touched, is_broken, posted, sums_without, is_S3};
 
 use crate::branches::Branches;
 use crate::places::Places;
@@ -49,6 +51,7 @@ pub(crate) struct Accounts {
 
 impl Model for Accounts {
     ghost use Rattle.std.specs.Prelude.{All, length, vec_capacity, ◌≤◌};
+    ghost use Rattle.xa_base.specs.declared.limits.TheConstants.{MOST_KEYS};
     ghost use Rattle.xa_tables.specs.Accounts.{Holdings, holdings_code, holdings_of, AreDistinct, IsGood, AreIndexed};
     ghost use Rattle.xa_tables.specs.Held.{AreHeld};
 
@@ -60,7 +63,7 @@ impl Model for Accounts {
 
     ghost invariant = { λ a. AreDistinct a.accounts.items × All (IsGood a.adds) a.accounts.items
         × AreIndexed a.places.places a.accounts.items × AreHeld a.held.items a.accounts.items
-        × (length a.accounts.items ≤ vec_capacity a.held) };
+        × (length a.accounts.items ≤ vec_capacity a.held) × (length a.accounts.items ≤ MOST_KEYS) };
 }
 
 impl Accounts {
@@ -111,6 +114,18 @@ impl Accounts {
         self.places.get(key)
     }
 
+    /// Fills `sums` with the keys that the branch has touched, in no order, each with what it has added.
+    #[tactic(auto, using(crate::proofs::PlaceLemmas::held_alike))]
+    pub(crate) fn sums_of(&self, xid: &Xid, sums: &mut Vec<(Key, i64)>)
+        requires { MOST_KEYS ≤ vec_capacity sums.old }
+        ensures each { (k : List ℕ) → lookup (key_eq k) sums.new.items ≡ finmap.get self.now.sums (xid.now, k) }
+        ensures once { IsDistinct key_eq (keys_of sums.new.items) }
+        ensures room { vec_capacity sums.new ≡ vec_capacity sums.old }
+    {
+        sums.clear();
+        put_sums(&self.accounts, &self.held, xid, sums);
+    }
+
     /// Whether the branch has touched a key.
     #[tactic(auto, using(crate::proofs::PlaceLemmas::touching))]
     pub(crate) fn has_touched(&self, xid: &Xid) -> bool
@@ -129,6 +144,24 @@ impl Accounts {
         ensures { result ≡ has_other_touched self.now.sums xid.now (key_at self.now place) }
     {
         is_held_by_other(&self.accounts[place], xid)
+    }
+
+    /// Whether a branch has touched the key at a place.
+    #[tactic(auto, using(crate::proofs::PlaceLemmas::keys_there))]
+    pub(crate) fn is_touched(&self, place: usize) -> bool
+        requires { place < length self.now.keys }
+        ensures { result ≡ is_touched self.now.sums (key_at self.now place) }
+    {
+        self.accounts[place].hold.is_some()
+    }
+
+    /// Whether the value of the key at a place stays within the limits with this added to it.
+    #[tactic(auto, using(crate::proofs::PlaceLemmas::keys_there))]
+    pub(crate) fn fits(&self, place: usize, delta: Delta) -> bool
+        requires { place < length self.now.keys }
+        ensures { result ≡ is_within (value_of self.now.values (key_at self.now place) +ℤ delta) }
+    {
+        stays_within(&self.accounts[place], delta)
     }
 
     /// Whether the branch would take a value out of the limits.
@@ -159,6 +192,22 @@ impl Accounts {
         note(&mut self.held, account, place);
         self.accounts[place] = with_added(account, self.adds, xid, delta);
         self.adds += 1;
+    }
+
+    /// What a prepared branch has added to the key at a place, as a store has it: all sums are so from the opening on.
+    #[tactic(auto, using(crate::proofs::PlaceLemmas::keys_there))]
+    pub(crate) fn hold(&mut self, xid: &Xid, place: usize, delta: Delta)
+        requires within { place < length self.old.keys }
+        requires free { is_touched self.old.sums (key_at self.old place) ≡ false }
+        requires few { self.old.adds ≤ 1 }
+        ensures sums { self.new.sums ≡ finmap.insert self.old.sums (xid.now, key_at self.old place) delta }
+        ensures values { self.new.values ≡ self.old.values }
+        ensures adds { self.new.adds ≡ 1 }
+    {
+        let account = &self.accounts[place];
+        note(&mut self.held, account, place);
+        self.accounts[place] = with_added(account, self.adds, xid, delta);
+        self.adds = 1;
     }
 
     /// Adds the branch's sums to the values; the branch has touched no key any more.
@@ -302,6 +351,34 @@ fn any_at<F: Fn(&Account) -> bool>(accounts: &[Account], held: &[usize], test: F
     false
 }
 
+// Puts there what the branch has added to the keys at these places.
+#[tactic(auto, using(crate::proofs::PlaceLemmas::held_within))]
+fn put_sums(accounts: &[Account], held: &[usize], xid: &Xid, sums: &mut Vec<(Key, i64)>)
+    requires held { AreHeld held.now accounts.now }
+    requires empty { sums.old.items ≡ [] }
+    requires room { length held.now ≤ vec_capacity sums.old }
+    ensures sums { sums.new.items ≡ filter_map (sum_at xid.now accounts.now) held.now }
+    ensures room { vec_capacity sums.new ≡ vec_capacity sums.old }
+{
+    for place in held {
+        put_own(&accounts[*place], xid, sums);
+    }
+}
+
+// Puts there what the branch has added to this key, if it has touched it.
+fn put_own(account: &Account, xid: &Xid, sums: &mut Vec<(Key, i64)>)
+    requires { vec_len sums.old < vec_capacity sums.old }
+    ensures sums { sums.new.items ≡ sums.old.items ++ cons_option (own_sum xid.now account.now) [] }
+    ensures len { vec_len sums.new ≤ vec_len sums.old + 1 }
+    ensures room { vec_capacity sums.new ≡ vec_capacity sums.old }
+{
+    if let Some(hold) = &account.hold {
+        if hold.xid == *xid {
+            sums.push_reserved((account.key, hold.amount));
+        }
+    }
+}
+
 // Whether the branch has touched this key.
 fn is_held_by(account: &Account, xid: &Xid) -> bool
     ensures { result ≡ is_held_by account.now xid.now }
@@ -330,6 +407,13 @@ fn is_broken_by(account: &Account, xid: &Xid) -> bool
         Some(hold) => hold.xid == *xid && !is_within_with(account.value, hold.amount),
         None => false,
     }
+}
+
+// Whether the value stays within the limits with this added to it.
+fn stays_within(account: &Account, delta: Delta) -> bool
+    ensures { result ≡ is_within (account.now.value +ℤ delta) }
+{
+    is_within_with(account.value, delta.amount())
 }
 
 fn is_within_with(value: i64, amount: i64) -> bool

@@ -1,12 +1,17 @@
 //! The tables of a manager, a group of rules at a time.
-ghost use Rattle.std.specs.Prelude.{◌≡◌, ◌≤◌, ◌<◌, ◌^◌, IfOk, OnOk, IfSome, true, option_map, pos};
+ghost use Rattle.std.specs.Prelude.{◌≡◌, ◌≤◌, ◌<◌, ◌^◌, ℕ, List, IfOk, OnOk, IfSome, true, false, option_map, pos};
+ghost use Rattle.std.specs.Prelude.{vec_capacity};
+ghost use Rattle.std.specs.List.{IsDistinct};
+ghost use Rattle.std.specs.Map.{keys_of, lookup};
 ghost use Rattle.std.specs.FinMap as finmap;
 ghost use Rattle.xa_tables.specs.Next.{shut_down, open_rm, close_rm, start_fresh, start_join};
 ghost use Rattle.xa_tables.specs.Next.{start_resume, add, end, prepare, commit_one, commit_two, rollback, heur, forget};
 ghost use Rattle.xa_tables.specs.Next.{listed, gone};
-ghost use Rattle.xa_tables.specs.ManagerTables.{has_opened};
+ghost use Rattle.xa_tables.specs.ManagerTables.{has_opened, state_of};
 ghost use Rattle.xa_words.specs.Accounts.{are_accounts};
-ghost use Rattle.xa_tables.specs.Managers.{AreAssociationsLive, Keeps, opening, places_taken};
+ghost use Rattle.xa_words.specs.Key.{key_eq};
+ghost use Rattle.xa_tables.specs.Managers.{AreAssociationsLive, ArePreparedSound, Keeps, opening, places_taken};
+ghost use Rattle.xa_tables.specs.Managers.{tables_of};
 ghost use Rattle.xa_tables.specs.Openings.{AreLeft, reopened};
 
 use crate::accounts::Accounts;
@@ -15,7 +20,7 @@ use crate::state::{AssociationState, HeuristicDecision, RollbackReason, State};
 use crate::threads::Threads;
 use std::alloc::{AllocError, Global};
 use std::marker::Model;
-use xa_base::MOST_VALUE;
+use xa_base::{MOST_KEYS, MOST_VALUE};
 use xa_words::{Code, Delta, EndHow, Key, Xid};
 
 /// What one manager's rules speak of: threads, branches, keys, and whether it is shut.
@@ -67,6 +72,39 @@ impl BranchTables {
             accounts: Accounts::new(alloc, accounts)?,
             is_shut: false,
         })
+    }
+
+    /// The tables of these threads, branches and accounts; the manager isn't shut.
+    pub(crate) fn of_parts(threads: Threads, branches: Branches, accounts: Accounts) -> BranchTables
+        requires { ArePreparedSound branches.states accounts.sums accounts.values }
+        ensures tables { result.tables ≡ tables_of threads branches accounts false }
+        ensures threads { result.threads ≡ threads.threads }
+        ensures spare { result.spare ≡ branches.spare }
+        ensures adds { result.adds ≡ accounts.adds }
+    {
+        BranchTables {
+            threads,
+            branches,
+            accounts,
+            is_shut: false,
+        }
+    }
+
+    /// The state of a branch, and `None` where it doesn't exist.
+    pub(crate) fn state(&self, xid: &Xid) -> Option<State>
+        ensures { result ≡ state_of self.now.tables xid.now }
+    {
+        self.branches.get(xid)
+    }
+
+    /// Fills `sums` with the keys that the branch has touched, in no order, each with what it has added.
+    pub(crate) fn sums_of(&self, xid: &Xid, sums: &mut Vec<(Key, i64)>)
+        requires { MOST_KEYS ≤ vec_capacity sums.old }
+        ensures each { (k : List ℕ) → lookup (key_eq k) sums.new.items ≡ finmap.get self.now.tables.sums (xid.now, k) }
+        ensures once { IsDistinct key_eq (keys_of sums.new.items) }
+        ensures room { vec_capacity sums.new ≡ vec_capacity sums.old }
+    {
+        self.accounts.sums_of(xid, sums);
     }
 
     /// The committed value of a key.

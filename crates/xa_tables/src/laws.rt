@@ -1,5 +1,6 @@
 //! Laws of the definitions, for any history.
-ghost use Rattle.std.specs.Prelude.{◌≡◌, ◌≢◌, ◌++◌, ℕ, ℤ, pos, Bool, List, [], Some, option_map, true, false};
+ghost use Rattle.std.specs.Prelude.{◌≡◌, ◌≢◌, ◌++◌, ◌∷◌, ℕ, ℤ, pos, Bool, List, [], None, Some, option_map, true};
+ghost use Rattle.std.specs.Prelude.{codes, false};
 ghost use Rattle.xa_words.specs.Xid.{XidName};
 ghost use Rattle.xa_words.specs.declared.code.Code.TheVariants.{Done, RbIntegrity, RdOnly};
 ghost use Rattle.xa_words.specs.declared.request.Op.{Op};
@@ -17,7 +18,8 @@ ghost use Rattle.xa_tables.specs.Histories.{ReadOnly, RolledBack, HeurCommitted,
 ghost use Rattle.xa_tables.specs.Openings.{IsNew, IsOpening, AreLeft, FatesAreTold, ValueIsSum, reopened};
 ghost use Rattle.xa_tables.specs.Openings.{reopened_fate, told_by, left_by};
 ghost use Rattle.xa_words.specs.Accounts.{are_accounts};
-ghost use Rattle.xa_tables.specs.Managers.{opening};
+ghost use Rattle.xa_tables.specs.Managers.{opening, AreAssociationsLive};
+ghost use Rattle.xa_tables.specs.Durable.{FindsAlike, is_durable_at, moves_values};
 ghost use Rattle.xa_tables.specs.Next.{next};
 ghost use Rattle.xa_tables.specs.Prepared.{NamesNowhere, OnlyDecides, LeavesWaiting, StaysAsItWas, IsPrepared};
 ghost use Rattle.xa_tables.specs.Prepared.{StaysPrepared, AwaitsAfter, IsTold, has_shut};
@@ -25,6 +27,12 @@ ghost use Rattle.xa_tables.specs.Work.{AddsAsItWorks};
 ghost use Rattle.xa_tables.specs.Worth.{WorthIsMoved, WorthIsMovedFrom, DeclareEach, HoldsItsAdditions, held_by};
 ghost use Rattle.xa_tables.specs.Worked.{branch, worked, voted, transferred, undone, overdrawn, unchanged, failed};
 ghost use Rattle.xa_tables.specs.Worked.{begun_again, decided, forgotten};
+ghost use Rattle.xa_tables.specs.declared.state.State.TheVariants.{Idle};
+ghost use Rattle.xa_tables.specs.declared.restored.RestoreFault.TheVariants.{BadAccounts, BranchTwice, NotLeft};
+ghost use Rattle.xa_tables.specs.declared.restored.RestoreFault.TheVariants.{UnknownKey, NotPrepared, KeyTwice};
+ghost use Rattle.xa_tables.specs.declared.restored.RestoreFault.TheVariants.{OutOfLimits};
+ghost use Rattle.xa_tables.specs.Restored.{Stored, HasEachOnce, IsStoreOf, stored, restored, fault_of};
+ghost use Rattle.xa_tables.specs.Worked.{two_keys, two_prepared, one_completed, another, adding, taking};
 ghost use Rattle.xa_tables.specs.Worked.{fate_after, committed_later, rolled_back_later, gone_later};
 ghost use Rattle.xa_tables.specs.Worked.{forgotten_later, value_after, ended_then, voted_then, decided_then};
 
@@ -247,4 +255,39 @@ pub fn worked_values_over_openings()
     ensures rolled_back { value_after voted_then rolled_back_later ≡ pos 100 }
     ensures at_work { value_after ended_then gone_later ≡ pos 100 }
     ensures decided { value_after decided_then forgotten_later ≡ pos 70 }
+{}
+
+/// What a store has, and the first reason why no manager is restored from it.
+pub fn worked_restorings()
+    ensures whole { fault_of (stored two_keys one_completed
+        (taking branch (codes "a") 100 ∷ adding branch (codes "b") 1 ∷ [])) ≡ None }
+    ensures bad_accounts { fault_of (stored (two_keys ++ two_keys) [] []) ≡ Some BadAccounts }
+    ensures twice { fault_of (stored two_keys (two_prepared ++ one_completed) []) ≡ Some BranchTwice }
+    ensures not_left { fault_of (stored two_keys ((branch, Idle) ∷ two_prepared) []) ≡ Some NotLeft }
+    ensures unknown { fault_of (stored two_keys [] (adding branch (codes "c") 1 ∷ [])) ≡ Some UnknownKey }
+    ensures not_prepared { fault_of (stored two_keys one_completed (adding another (codes "a") 1 ∷ []))
+        ≡ Some NotPrepared }
+    ensures key_twice { fault_of (stored two_keys two_prepared
+        (adding branch (codes "a") 1 ∷ taking another (codes "a") 1 ∷ [])) ≡ Some KeyTwice }
+    ensures too_little { fault_of (stored two_keys two_prepared (taking branch (codes "b") 6 ∷ [])) ≡ Some OutOfLimits }
+    ensures too_much { fault_of (stored two_keys two_prepared (adding branch (codes "b") 999999999996 ∷ []))
+        ≡ Some OutOfLimits }
+{}
+
+/// A store that has what a reopening of the tables finds restores just that. Whatever was requested, over any openings,
+/// it isn't refused where it has each branch and each key once.
+pub fn stores_of_the_tables_restore_them()
+    ensures restored { (s : Stored) (T : Tables) → IsStoreOf s T → restored s ≡ reopened T }
+    ensures faultless { (accounts : List (List ℕ × ℕ)) (before : List History) (h : History) (s : Stored)
+        → are_accounts accounts ≡ true → IsStoreOf s (tables_after h (left_by before (opening accounts)))
+        → HasEachOnce s → fault_of s ≡ None }
+{}
+
+/// What a reopening finds of a branch is changed by a Prepare, Commit, Rollback, Forget or Heur alone that names it and
+/// answers XA_OK, and values by a Commit or a Heur.
+pub fn few_requests_change_what_is_durable()
+    ensures branches { (t : ℕ) (op : Op) (x : XidName) (T : Tables) → AreAssociationsLive T
+        → is_durable_at x op (next t op T).1 ≡ false → FindsAlike x T (next t op T).0 }
+    ensures values { (t : ℕ) (op : Op) (T : Tables) → moves_values op (next t op T).1 ≡ false
+        → (next t op T).0.values ≡ T.values }
 {}

@@ -1,17 +1,25 @@
 //! One manager.
-ghost use Rattle.std.specs.Prelude.{◌≡◌, ◌↔◌, ◌≤◌, ◌<◌, ◌+◌, ◌*◌, ◌^◌, IfOk, IfSome, OnOk, OnErr, IsErrOf, None};
-ghost use Rattle.std.specs.Prelude.{Some, true, false, option_map, pos};
+ghost use Rattle.std.specs.Prelude.{◌≡◌, ◌≢◌, ◌↔◌, ◌≤◌, ◌<◌, ◌+◌, ◌*◌, ◌^◌, ℕ, List, IfOk, IfErr, IfSome, OnOk, OnErr};
+ghost use Rattle.std.specs.Prelude.{IsErrOf, None, Some, true, false, option_map, pos, vec_capacity};
+ghost use Rattle.std.specs.List.{IsDistinct};
+ghost use Rattle.std.specs.Map.{keys_of, lookup};
 ghost use Rattle.std.specs.FinMap as finmap;
 ghost use Rattle.xa_words.specs.Accounts.{are_accounts};
+ghost use Rattle.xa_words.specs.Key.{key_eq};
+ghost use Rattle.xa_tables.specs.declared.restored.RestoreFault.TheVariants as restore_fault;
+ghost use Rattle.xa_tables.specs.ManagerTables.{state_of};
 ghost use Rattle.xa_tables.specs.Managers.{AreAssociationsLive, Keeps, opening, places_taken};
-ghost use Rattle.xa_tables.specs.Openings.{AreLeft, reopened};
+ghost use Rattle.xa_tables.specs.Openings.{AreLeft, IsOpening, reopened};
+ghost use Rattle.xa_tables.specs.Restored.{stored, restored, fault_of};
 ghost use Rattle.xa_tables.specs.Next.{next, needs_opening, by_rules, start};
 
 use crate::accounts::are_accounts;
 use crate::branch_tables::BranchTables;
+use crate::restored::{RestoreFault, Sum, restored_tables};
+use crate::state::State;
 use std::alloc::{AllocError, Global};
 use std::marker::Model;
-use xa_base::{MOST_JOURNALED, MOST_THREADS, MOST_VALUE};
+use xa_base::{MOST_JOURNALED, MOST_KEYS, MOST_THREADS, MOST_VALUE};
 use xa_words::{Code, Key, Op, StartHow, Xid};
 
 /// Why a manager can't be opened: the first reason that holds.
@@ -108,12 +116,47 @@ impl Manager {
         })
     }
 
+    /// A manager that begins with what its store has: the accounts with their values, the branches that were left, and
+    /// what the prepared ones of them have added. No thread has it open. It is refused for the first fault of these.
+    ///
+    /// It carries out `room` requests of threads 1 to `threads`, in memory that is reserved here beside that of the
+    /// branches that were left.
+    pub fn restored(
+        alloc: Global,
+        accounts: &[(Key, u64)],
+        branches: &[(Xid, State)],
+        sums: &[Sum],
+        threads: u32,
+        room: u32,
+    ) -> Result<Manager, RestoreFault>
+        requires threads { (1 ≤ threads) × (threads ≤ MOST_THREADS) }
+        requires room { (1 ≤ room) × (room ≤ MOST_JOURNALED) }
+        ensures tables { IfOk result (λ m. m.tables ≡ restored (stored accounts.now branches.now sums.now)) }
+        ensures opening { IfOk result (λ m. IsOpening m.tables) }
+        ensures threads { IfOk result (λ m. m.threads ≡ threads) }
+        ensures room { IfOk result (λ m. m.room ≡ room) }
+        ensures reserved { IfOk result (λ m. m.reserved ≡ None) }
+        ensures faultless { OnOk result (fault_of (stored accounts.now branches.now sums.now) ≡ None) }
+        ensures fault { IfErr result (λ f. f ≢ restore_fault.NoMemory
+            → fault_of (stored accounts.now branches.now sums.now) ≡ Some f) }
+    {
+        let (seats, most) = (threads as usize, branches_within(room));
+        let inner = restored_tables(alloc, accounts, branches, sums, seats, most)?;
+        Ok(Manager {
+            inner,
+            threads,
+            spare: room,
+            reserved: None,
+        })
+    }
+
     /// Carries out one request of a thread, and answers its code. It takes no memory.
     #[inline(always)]
     pub fn apply(&mut self, thread: u32, op: &Op) -> Code
         requires thread { (1 ≤ thread) × (thread ≤ self.old.threads) }
         requires room { 0 < self.old.room }
         ensures step { (self.new.tables, result) ≡ next thread op.now self.old.tables }
+        ensures live { AreAssociationsLive self.old.tables }
         ensures room { self.new.room + 1 ≡ self.old.room }
         ensures threads { self.new.threads ≡ self.old.threads }
         ensures reserved { self.new.reserved ≡ None }
@@ -178,6 +221,25 @@ impl Manager {
         self.inner.value(key)
     }
 
+    /// The state of a branch, and `None` where it doesn't exist.
+    pub fn state(&self, xid: &Xid) -> Option<State>
+        ensures { result ≡ state_of self.now.tables xid.now }
+    {
+        self.inner.state(xid)
+    }
+
+    /// Fills `sums` with the keys that the branch has touched, in no order, each with what it has added.
+    ///
+    /// What stood in `sums` is gone. It takes no memory: there has to be room for as many keys as a manager may have.
+    pub fn sums_of(&self, xid: &Xid, sums: &mut Vec<(Key, i64)>)
+        requires { MOST_KEYS ≤ vec_capacity sums.old }
+        ensures each { (k : List ℕ) → lookup (key_eq k) sums.new.items ≡ finmap.get self.now.tables.sums (xid.now, k) }
+        ensures once { IsDistinct key_eq (keys_of sums.new.items) }
+        ensures room { vec_capacity sums.new ≡ vec_capacity sums.old }
+    {
+        self.inner.sums_of(xid, sums);
+    }
+
     /// Whether a Shut was carried out; from then on every request answers XAER_RMFAIL.
     #[inline(always)]
     pub fn is_shut(&self) -> bool
@@ -197,7 +259,7 @@ impl Manager {
 
 // The most branches that so many requests can begin: before each xa_start, an xa_open or xa_end makes its thread free.
 fn branches_within(requests: u32) -> usize
-    ensures { requests ≤ 2 * result }
+    ensures { (requests ≤ 2 * result) × (result < 2 ^ 32) }
 {
     requests.div_ceil(2) as usize
 }

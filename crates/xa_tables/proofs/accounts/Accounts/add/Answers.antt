@@ -1,4 +1,4 @@
-use Rattle.xa_base.proofs.{◌≡◌, ◌<◌, length, refl, sym, ap, ◌∙◌, arith, ◌+◌, slice_index_or, [], ◌+ℤ◌, set, length-set, length-map, from_entries}
+use Rattle.xa_base.proofs.{◌≡◌, ◌<◌, length, refl, sym, ap, ◌∙◌, arith, slice_index_or, [], ◌+ℤ◌, set, length-set, length-map, from_entries}
 use Rattle.std.specs.FinMap as finmap
 use Rattle.xa_tables.specs.{Account, touch_cmp, is_broken, has_other_touched, sum_of, value_entries, hold_entries, added_to, key_at, keys_of, place_in}
 use Rattle.xa_tables.proofs.PlaceLemmas.{held_noted, note_room, key_there}
@@ -34,7 +34,7 @@ invariant_of-self c =
     let i = c.args.place in
     let a = c.index-account.result.now in
     let b : Account = added_to a c.args.xid.now c.args.delta in
-    rw (ap (set items i) c.with_added.ensures.added) (distinct_added items i a c.args.xid.now c.args.delta c.self.invariant.0 c.index-account.ensures, all_added c.self.inside.adds i a c.args.xid.now c.args.delta items c.with_added.ensures.valid inside c.index-account.ensures c.self.invariant.1, λ k. c.self.invariant.2 k ∙ ap (place_in k) (sym (keys_set items i a b c.index-account.ensures refl)), rw c.note.ensures.places (held_noted c.self.inside.held.items items i a b c.self.invariant.3 inside c.index-account.ensures refl), omega (arith, length-set items i b, c.note.ensures.room, c.self.invariant.4))
+    rw (ap (set items i) c.with_added.ensures.added) (distinct_added items i a c.args.xid.now c.args.delta c.self.invariant.0 c.index-account.ensures, all_added c.self.inside.adds i a c.args.xid.now c.args.delta items c.with_added.ensures.valid inside c.index-account.ensures c.self.invariant.1, λ k. c.self.invariant.2 k ∙ ap (place_in k) (sym (keys_set items i a b c.index-account.ensures refl)), rw c.note.ensures.places (held_noted c.self.inside.held.items items i a b c.self.invariant.3 inside c.index-account.ensures refl), omega (arith, length-set items i b, c.note.ensures.room, c.self.invariant.4), omega (arith, length-set items i b, c.self.invariant.5))
 
 pub returns-clause-sums : goal.returns-clause-sums
 returns-clause-sums c =

@@ -31,4 +31,4 @@ pub invariant_of-self : goal.invariant_of-self
 invariant_of-self c =
     let keep = all_but c.args.xid.now in
     accounts_kept keep (kept_where keep) (kept_goes keep) c.self.inside.adds c.self.inside.places.places (all c) (cc) c.keep_held.ensures.room
-    c.self.invariant.0 (all_kept c.self.inside.adds keep c.self.inside.accounts.items c.self.invariant.1) c.self.invariant.2 c.self.invariant.3 c.self.invariant.4
+    c.self.invariant.0 (all_kept c.self.inside.adds keep c.self.inside.accounts.items c.self.invariant.1) c.self.invariant.2 c.self.invariant.3 c.self.invariant.4 c.self.invariant.5

@@ -3,7 +3,7 @@ use Rattle.std.proofs.lemmas.List.{map_more}
 use Rattle.std.specs.FinMap as finmap
 use Rattle.xa_words.specs.Orders.{key_cmp}
 use Rattle.xa_tables.specs.{Account}
-use Rattle.xa_tables.proofs.PlaceLemmas.{held_declared, account_of, indexed_push, distinct_declared, good_declared, length_declared}
+use Rattle.xa_tables.proofs.PlaceLemmas.{held_declared, few_declared, account_of, indexed_push, distinct_declared, good_declared, length_declared}
 use Rattle.xa_tables.proofs.accounts.Accounts.new.Goals as goal
 
 pub loop-place-init : goal.loop-place-init
@@ -37,4 +37,5 @@ invariant_of-result c =
       c.loop-place.invariant.2,
       rw (c.in_ok-held.ensures.items, all) (held_declared ds),
       omega (arith, ap length all, length-map ds account_of, c.in_ok-held.ensures.capacity),
+      omega (arith, ap length all, length-map ds account_of, few_declared ds c.requires),
     )

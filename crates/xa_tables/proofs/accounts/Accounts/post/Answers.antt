@@ -40,4 +40,4 @@ invariant_of-self c =
     let whole = sym (broken_any items x c.self.invariant.0) ∙ ap (λ h. is_broken h.values h.sums x) c.self.view_is ∙ c.requires in
     accounts_kept (all_but x) (posted_by x) (posted_goes x) c.self.inside.adds c.self.inside.places.places (all c)
     (c.keep_held.ensures.places ∙ ap (λ as1. filter (is_held_at as1) c.self.inside.held.items) c.deref-2.ensures.value) c.keep_held.ensures.room
-    c.self.invariant.0 (all_posted c.self.inside.adds x items c.self.invariant.1 whole) c.self.invariant.2 c.self.invariant.3 c.self.invariant.4
+    c.self.invariant.0 (all_posted c.self.inside.adds x items c.self.invariant.1 whole) c.self.invariant.2 c.self.invariant.3 c.self.invariant.4 c.self.invariant.5

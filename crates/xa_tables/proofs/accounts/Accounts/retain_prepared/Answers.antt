@@ -28,4 +28,4 @@ invariant_of-self c =
     c.self.invariant.0
     (all_prepared c.self.inside.adds keep c.self.inside.accounts.items c.self.invariant.1
     (λ x voted. sym (broken_any c.self.inside.accounts.items x c.self.invariant.0) ∙ ap (λ h. is_broken h.values h.sums x) c.self.view_is ∙ c.requires x voted))
-    c.self.invariant.2 c.self.invariant.3 c.self.invariant.4
+    c.self.invariant.2 c.self.invariant.3 c.self.invariant.4 c.self.invariant.5

@@ -19,3 +19,6 @@ invariant_of-self c =
       search rules,
       tt,
     )
+
+pub returns-clause-live : goal.returns-clause-live
+returns-clause-live c = rw (← c.self.view_is) c.self.invariant.2

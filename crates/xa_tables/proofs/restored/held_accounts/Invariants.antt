@@ -1,0 +1,11 @@
+use Rattle.xa_base.proofs.{◌≡◌, ◌≤◌, take, from_entries}
+use Rattle.std.specs.FinMap as finmap
+use Rattle.xa_tables.specs.{declared_values, sum_entries, sum_fault}
+use Rattle.xa_tables.proofs.Restoring.{IsFineBefore}
+use Rattle.xa_tables.proofs.restored.held_accounts.Given as goal
+
+-- the sums so far, none of which has a fault
+abbrev pub invariant-loop-sum : goal.invariant-loop-sum
+invariant-loop-sum l =
+    (l.accounts.sums ≡ from_entries (sum_entries (take l.sum-index l.sums))) × (l.accounts.values ≡ declared_values l.declared) × (l.accounts.adds ≤ 1)
+    × IsFineBefore (sum_fault (λ k. finmap.get (declared_values l.declared) k) (λ x. finmap.get l.branches.states x)) l.sums l.sum-index
