@@ -1,6 +1,6 @@
 -- How workers go on as they take turns, and then run.
-use Rattle.xa_base.proofs.{◌≡◌, ℕ, ◌+◌, ◌-◌, ◌<◌, ◌≤◌, inl, inr, List, length, Some, sym, refl, ap, ◌∙◌, arith, slice_get, slice_set, cases_eq, length-set}
-use Rattle.xa_base.proofs.{slice_get_within, some_same, got_set, set_there, map_alike, through}
+use Rattle.xa_base.proofs.{◌≡◌, ℕ, ◌+◌, ◌-◌, ◌<◌, ◌≤◌, false, inl, inr, List, length, Some, sym, refl, ap, ◌∙◌, arith, slice_get, slice_set, cases_eq}
+use Rattle.xa_base.proofs.{length-set, slice_get_within, some_same, got_set, set_there, map_alike, through}
 use Rattle.xa_worker.specs.{Step, seat_of_worker, WorkerView, SameWorker, IsTied, Served, Stepped}
 use Rattle.xa_worker.proofs.Ties.{extends-chain, stepped-extends}
 use Rattle.xa_base.specs.{Pairwise}
@@ -9,7 +9,7 @@ use Rattle.xa_crew.specs.{HasServed, WorkerGoesOn, AllGoOn, HadTurn, HadSomeTurn
 -- ---- one step
 
 pub had_turn : (w : WorkerView) (s : Step) (w' : WorkerView)
-    → Stepped w s w' → SameWorker w w' → seat_of_worker w' ≡ seat_of_worker w → IsTied w' → HadTurn s w w'
+    → Stepped false false w s w' → SameWorker w w' → seat_of_worker w' ≡ seat_of_worker w → IsTied w' → HadTurn s w w'
 had_turn w s w' is same seat tied = search (arith, stepped-extends)
 
 -- ---- one worker of all

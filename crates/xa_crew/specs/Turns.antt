@@ -1,5 +1,5 @@
 -- Workers that take turns: how they go on.
-use Rattle.std.specs.Prelude.{◌≡◌, ℕ, ◌-◌, ◌<◌, ◌≤◌, Some, List, length, map, slice_get, slice_set}
+use Rattle.std.specs.Prelude.{◌≡◌, ℕ, ◌-◌, ◌<◌, ◌≤◌, false, Some, List, length, map, slice_get, slice_set}
 use Rattle.xa_worker.specs.declared.step.Step.{Step}
 use Rattle.xa_worker.specs.WorkerSeats.{seat_of_worker}
 use Rattle.xa_worker.specs.Workers.{WorkerView, SameWorker, Extends, IsTied}
@@ -21,7 +21,7 @@ pub record AllGoOn (old new : List WorkerView) : Type 0 where
 
 -- The worker did this step in its turn, and has gone on by it.
 pub record HadTurn (did : Step) (old new : WorkerView) : Type 0 where
-  pub stepped : Stepped old did new
+  pub stepped : Stepped false false old did new
   pub goes : WorkerGoesOn old new
 
 -- The worker did some step in its turn.

@@ -7,6 +7,7 @@ ghost use Rattle.xa_crew.specs.Pieces.{HasServed};
 use std::marker::Model;
 use std::sync::Wait;
 use xa_desk::Idle;
+use xa_store::NoStore;
 use xa_worker::{DoneWorker, Free, Step, Worker};
 
 /// All workers of an opening by rising manager, which take turns in the one thread that runs it.
@@ -54,7 +55,7 @@ impl Turns {
         ensures turn { TakesTurn manager result self.old self.new }
         ensures on { AllGoOn self.old self.new }
     {
-        self.workers[manager as usize - 1].step(rt, &mut Free)
+        self.workers[manager as usize - 1].step(rt, &mut Free, &mut NoStore)
     }
 
     // Each worker does one thing, in rising order.
@@ -64,7 +65,7 @@ impl Turns {
         ensures on { AllGoOn self.old self.new }
     {
         for place in 0..self.workers.len() {
-            self.workers[place].step(rt, &mut Free);
+            self.workers[place].step(rt, &mut Free, &mut NoStore);
         }
     }
 
@@ -78,7 +79,7 @@ impl Turns {
     {
         let Turns { workers } = self;
         for worker in workers {
-            done.push_reserved(worker.run(rt, &mut Free));
+            done.push_reserved(worker.run(rt, &mut Free, &mut NoStore));
         }
         done
     }

@@ -3,6 +3,7 @@ ghost use Rattle.std.specs.Prelude.{◌≡◌, ◌≤◌, [], length, map, vec_c
 
 use std::sync::Wait;
 use xa_jobs::{Go, Job};
+use xa_store::NoStore;
 use xa_worker::{DoneWorker, Pace, Worker};
 
 /// A worker, and what happens before each of its requests.
@@ -21,7 +22,7 @@ impl<P: Pace + Drop> Job<DoneWorker> for WorkerJob<P> {
 
     fn run<R: Wait>(self, rt: &R, _go: &Go<'_>) -> DoneWorker {
         let WorkerJob { worker, mut pace } = self;
-        worker.run(rt, &mut pace)
+        worker.run(rt, &mut pace, &mut NoStore)
     }
 }
 

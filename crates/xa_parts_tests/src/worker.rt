@@ -2,6 +2,7 @@
 ghost use Rattle.std.specs.Prelude.{◌≤◌};
 
 mod opened;
+mod stored;
 
 use opened::opened;
 use std::alloc::Global;
@@ -9,6 +10,7 @@ use std::process::Abort;
 use std::sync::Wait;
 use xa_base::MOST_JOURNALED;
 use xa_lane::{Receiver, Sender, Taken};
+use xa_store::NoStore;
 use xa_words::{Code, Completion, Op, Request};
 use xa_worker::{Pace, Step, Worker};
 
@@ -43,7 +45,7 @@ fn ask<R: Wait + Abort>(rt: &R, sender: &mut Sender<Request>, thread: u32, ops: 
 // The next steps of the worker are these.
 fn step_by<R: Wait + Abort>(rt: &R, worker: &mut Worker, pace: &mut Counting, steps: &[Step]) {
     for (i, step) in steps.iter().enumerate() {
-        assert!(rt; worker.step(rt, pace) == *step, "step {i}");
+        assert!(rt; worker.step(rt, pace, &mut NoStore) == *step, "step {i}");
     }
 }
 
@@ -123,7 +125,7 @@ fn each_answer_of_a_step(rt: HostRuntime) {
     assert!(rt; sender.finish(&rt).is_ok());
     steps_while_full(&rt, &mut worker, &mut pace, &mut answers);
     collect(&rt, &mut answers, 3, Code::RmFail);
-    let done = worker.run(&rt, &mut pace);
+    let done = worker.run(&rt, &mut pace, &mut NoStore);
     assert!(rt; done.journal().len() == 4 && pace.requests == 4);
     assert!(rt; matches!(answers.take(&rt), Taken::EndOf(0)));
 }
@@ -183,7 +185,7 @@ fn a_worker_without_requests_ends_with_the_last_mark(rt: HostRuntime) {
     assert!(rt; second.finish(&rt).is_ok());
     step_by(&rt, &mut worker, &mut pace, &[Step::EndSeen, Step::Empty]);
     assert!(rt; first.finish(&rt).is_ok());
-    let done = worker.run(&rt, &mut pace);
+    let done = worker.run(&rt, &mut pace, &mut NoStore);
     assert!(rt; done.journal().is_empty());
     for lane in &mut answers {
         assert!(rt; matches!(lane.take(&rt), Taken::EndOf(0)));

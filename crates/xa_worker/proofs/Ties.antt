@@ -1,17 +1,17 @@
 -- What each kind of step keeps of a worker: its journal, its lanes, its seat and its pace.
 use Rattle.xa_base.proofs.{map-alike, arith, ◌≡◌, ℕ, ◌==◌, true, false, cond, List, [], ◌∷◌, ◌++◌, map, refl, sym, ap, ◌∙◌, map-append, filter-append, ◌+◌, ◌<◌}
 use Rattle.xa_base.proofs.{Bool, ◌||◌, length, get_or, Option, Some, None, set, or-false, or-true, append-nil, get_or-set_same, get_or-set_other, eqb_tells}
-use Rattle.xa_base.proofs.{append_assoc, rules, ◌-◌, length-map}
+use Rattle.xa_base.proofs.{append_assoc, rules, ◌-◌, length-map, inl, inr}
 use Rattle.xa_lane.proofs.Parcels.{sent_at-but_full, of_sender-append, items_in-append, nothing_sent}
 use Rattle.xa_words.specs.{Request, Completion}
 use Rattle.xa_tables.specs.{Tables, next, codes, tables_after, History, Managed}
 use Rattle.xa_worker.specs.{Entry, entry_next, tables_next, Follows, completion_of, owed, asked, of_sender_thread, IsTied, working_of, IsWorker, Inside}
-use Rattle.xa_worker.specs.{Answering, WorkerView, SameWorker, Served, SameServed, seat_of_worker, seat_of_done, IsTold, Paces, applied, SameLanes, Puts}
-use Rattle.xa_worker.specs.{flushed, put_to, RequestLane, IsUnfit, IsFinished, Extends, of_own_thread, in_hand, new_worker, Step, Did, Late, EndSeen, Empty}
+use Rattle.xa_worker.specs.{Answering, WorkerView, SameWorker, Served, SameServed, seat_of_worker, seat_of_done, IsTold, Paces, applied, SameLanes, Answers}
+use Rattle.xa_worker.specs.{Takes, put_to, RequestLane, IsUnfit, IsFinished, Extends, of_own_thread, in_hand, new_worker, Step, Did, Late, EndSeen, Empty}
 use Rattle.xa_worker.specs.{Blocked, EntersOne, Stepped, step_of, served, IsServed}
-use Rattle.xa_lane.specs.{Parcel, Receiving, Took, taken_of, parcel, has_mark, has_ended, items_in, bare, Item, EndOf, Empty as Nothing, but_full}
+use Rattle.xa_lane.specs.{Parcel, Receiving, Took, taken_of, parcel, has_mark, has_ended, items_in, Item, EndOf, Empty as Nothing, but_full}
 use Rattle.xa_worker.specs.Outgoing.{Outgoing}
-use Rattle.xa_worker.proofs.Lanes.{same_eqb, length-lanes, lanes-flushed, none-flushed, lanes-puts, put-puts}
+use Rattle.xa_worker.proofs.Lanes.{same_eqb, length-lanes, lanes-answers, put-answers}
 
 -- ---- journals that grow by an entry
 
@@ -140,18 +140,14 @@ module _ (w : WorkerView) (o : Outgoing) (same : SameLanes w.out.senders o.sende
             lanes = length-lanes o.senders p.senders lanes ∙ length-lanes w.out.senders o.senders same ∙ t.lanes ∙ sym threads;
           }
 
--- the completion that waited was sent, and then a request was taken and carried out
-pub tied_carried : (w : WorkerView) (o : Outgoing) (r' : RequestLane) (s : ℕ) (r : Request) (m : Managed) (p : Outgoing) (journal : List Entry) → IsTied w
-    → o ≡ flushed w.out → ((k : ℕ) → put_to k o ≡ put_to k w.out) → w.held ≡ None
-    → Took w.receiver (Item s r) r' → r.thread ≡ s + 1 → m ≡ applied r w.manager → journal ≡ w.journal ++ entry_next r w.manager.tables ∷ []
-    → Puts o (r.thread - 1) (completion_of w.number (entry_next r w.manager.tables)) p
+-- a request was taken and carried out
+pub tied_carried : (b : Bool) (w : WorkerView) (r' : RequestLane) (s : ℕ) (r : Request) (m : Managed) (p : Outgoing) (journal : List Entry) → IsTied w
+    → w.held ≡ None → Took w.receiver (Item s r) r' → r.thread ≡ s + 1 → m ≡ applied r w.manager → journal ≡ w.journal ++ entry_next r w.manager.tables ∷ []
+    → Answers b w.out (r.thread - 1) (completion_of w.number (entry_next r w.manager.tables)) p
     → IsTied (record w { manager = m; receiver = r'; out = p; journal = journal })
-tied_carried w o r' s r m p journal t sent put none took thread carried entered puts =
-    let lanes : SameLanes w.out.senders o.senders = ap (λ (x : Outgoing). map bare x.senders) sent ∙ lanes-flushed w.out in
-    let count : length o.senders ≡ length w.out.senders = length-lanes w.out.senders o.senders lanes in
-    let idle : o.waiting ≡ None = ap (λ (x : Outgoing). x.waiting) sent ∙ none-flushed w.out in
-    let place : r.thread - 1 < length o.senders = omega (arith, count, t.lanes, t.senders, took.0, thread) in
-    tied_enter w o lanes put t r' s r none took m p journal thread carried entered (lanes-puts o _ _ p puts) (put-puts o _ _ p place idle puts)
+tied_carried b w r' s r m p journal t none took thread carried entered answers =
+    let place : r.thread - 1 < length w.out.senders = omega (arith, t.lanes, t.senders, took.0, thread) in
+    tied_enter w w.out refl (λ k. refl) t r' s r none took m p journal thread carried entered (lanes-answers b _ _ _ p answers) (put-answers b _ _ _ p place answers)
 
 -- a worker that has finished, and has put its end marks
 pub served_by : (w : WorkerView) (ends : List Answering) → IsTied w → IsFinished w → map but_full ends ≡ map but_full w.out.senders
@@ -159,9 +155,9 @@ pub served_by : (w : WorkerView) (ends : List Answering) → IsTied w → IsFini
 served_by w ends t f e = search (arith, append-nil, sent_at-but_full, length-map, w.out.senders, t.sent)
 
 -- a request is late where the manager was shut before it
-pub stepped : (w w' : WorkerView) (b : Bool) → w.manager.tables.shut ≡ b → EntersOne w w' → Stepped w (step_of b) w'
-stepped w w' true e n = (n, e)
-stepped w w' false e n = (n, e)
+pub takes_one : (owing : Bool) (w w' : WorkerView) (b : Bool) → w.manager.tables.shut ≡ b → EntersOne owing w w' → Takes owing w (step_of b) w'
+takes_one owing w w' true e n = (n, e)
+takes_one owing w w' false e n = (n, e)
 
 -- steps follow one another
 pub same-chain : (u v w : WorkerView) → SameWorker u v → SameWorker v w → SameWorker u w
@@ -174,9 +170,13 @@ stays : (w w' : WorkerView) → w'.journal ≡ w.journal → Extends w.journal w
 stays w w' e = ([], e ∙ sym (append-nil w.journal))
 
 -- each step leaves the journal or adds to it
-pub stepped-extends : (w : WorkerView) (s : Step) (w' : WorkerView) → Stepped w s w' → Extends w.journal w'.journal
-stepped-extends w Did w' h = (entry_next h.0.1 w.manager.tables ∷ [], h.0.2.journal)
-stepped-extends w Late w' h = (entry_next h.0.1 w.manager.tables ∷ [], h.0.2.journal)
-stepped-extends w EndSeen w' h = stays w w' (ap (λ (x : WorkerView). x.journal) h.3)
-stepped-extends w Empty w' h = stays w w' (ap (λ (x : WorkerView). x.journal) h.2)
-stepped-extends w Blocked w' h = search (arith, stays)
+pub takes-extends : (owing : Bool) (w : WorkerView) (s : Step) (w' : WorkerView) → Takes owing w s w' → Extends w.journal w'.journal
+takes-extends owing w Did w' h = (entry_next h.0.1 w.manager.tables ∷ [], h.0.2.journal)
+takes-extends owing w Late w' h = (entry_next h.0.1 w.manager.tables ∷ [], h.0.2.journal)
+takes-extends owing w EndSeen w' h = stays w w' (ap (λ (x : WorkerView). x.journal) h.3)
+takes-extends owing w Empty w' h = stays w w' (ap (λ (x : WorkerView). x.journal) h.3)
+takes-extends owing w Blocked w' h = stays w w' (ap (λ (x : WorkerView). x.journal) h.5)
+
+pub stepped-extends : (owed_before owing : Bool) (w : WorkerView) (s : Step) (w' : WorkerView) → Stepped owed_before owing w s w' → Extends w.journal w'.journal
+stepped-extends owed_before owing w s w' (inl (blocked, i)) = stays w w' (ap (λ (x : WorkerView). x.journal) i.rest)
+stepped-extends owed_before owing w s w' (inr (o, offers, takes)) = takes-extends owing (record w { out = o }) s w' takes

@@ -2,18 +2,21 @@ pub mod Journal
 pub mod Outgoing
 pub mod Workers
 pub mod WorkerSteps
+pub mod Stored
 pub mod Done
 pub mod WorkerSeats
 pub mod Inner
 pub mod Finished
 -- The words of this crate, by its name.
 pub use Journal.{Entry, Follows, applied, codes_in, completion_of, entry, entry_next, owed, requests, tables_next}
-pub use Outgoing.{Answering, Puts, SameLanes, StillFull, flushed, flushed_by, put_to, waiting_at}
+pub use Outgoing.{Addressed, Answering, Answers, FindsFull, Flushes, Offers, Puts, SameLanes, SendsFirst, found_full}
+pub use Outgoing.{put_to, sent_each, waiting_at, with_waiting}
 pub use Workers.{RequestLane, Extends, IsFinished, IsHeldUnfit, IsTied, IsUnfit, Reserved, SameWorker, WorkerView}
 pub use Workers.{asked}
 pub use Workers.{first_tables, in_hand, new_worker, of_own_thread, of_sender_thread}
-pub use WorkerSteps.{Enters, EntersOne, FindsNothing, Holds, IsTold, Paces, SeesEnd, Stepped, StillHolds, Waits}
+pub use WorkerSteps.{Enters, EntersOne, FindsNothing, HasWay, Holds, IsBlocked, IsTold, Paces, SeesEnd, Stepped, Takes}
 pub use WorkerSteps.{step_of}
+pub use Stored.{IsStored, LeavesABeginning}
 pub use Done.{IsOrdered, IsServed, SameServed, Served, served}
 pub use WorkerSeats.{WorkerSeat, seat_of_done, seat_of_worker, worker_seat}
 pub use Inner.{AreSet, IsWorker, working_of}

@@ -67,7 +67,7 @@ pub record IsTied (w : WorkerView) : Type 0 where
   -- the journal's requests, then one that is held, are what was taken, in that order, and each in the journal is of its
   -- sender's thread
   pub taken : asked w.receiver.taken ≡ map of_own_thread w.journal ++ in_hand w.held
-  -- what was sent to thread k + 1, then a completion that waits for its lane, is what the journal owes it
+  -- what was sent to thread k + 1, then what waits to be sent to it, is what the journal owes it
   pub sent : (k : ℕ) → put_to k w.out ≡ owed w.number (k + 1) w.journal
   -- a request that is held can't be carried out
   pub held : IsHeldUnfit w.held w.manager.room
@@ -90,7 +90,7 @@ Extends journal journal' = (more : List Entry) × (journal' ≡ journal ++ more)
 -- each thread's end was taken, and nothing is held
 pub record IsFinished (w : WorkerView) : Type 0 where
   pub held : w.held ≡ None
-  pub waiting : w.out.waiting ≡ None
+  pub waiting : w.out.waiting ≡ []
   pub ended : (s : ℕ) → s < w.manager.threads → has_ended s w.receiver.taken ≡ true
 
 -- a worker that has taken and sent nothing
@@ -101,7 +101,7 @@ new_worker number manager receiver senders =
       first = manager.tables;
       manager = manager;
       receiver = receiver;
-      out = record { senders = senders; waiting = None };
+      out = record { senders = senders; waiting = [] };
       journal = [];
       held = None;
     }

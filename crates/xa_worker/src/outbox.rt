@@ -1,21 +1,27 @@
 //! Where a worker puts completions.
-ghost use Rattle.std.specs.Prelude.{◌≡◌, ◌↔◌, ◌<◌, ◌≤◌, ℕ, [], length, map, None, IsTrue, IsSome, MatchBool};
+ghost use Rattle.std.specs.Prelude.{◌≡◌, ◌↔◌, ◌<◌, ◌≤◌, ℕ, [], length, map, false, IsTrue, MatchBool};
 ghost use Rattle.std.specs.Prelude.{vec_capacity};
+ghost use Rattle.std.specs.VecDeque.{deque_capacity};
 ghost use Rattle.xa_lane.specs.Senders.{at_place, with_item, with_full, but_full};
-ghost use Rattle.xa_worker.specs.Outgoing.{StillFull, Puts, flushed, put_to};
+ghost use Rattle.xa_worker.specs.Outgoing.{Answers, FindsFull, Flushes, SendsFirst, put_to};
 
 use crossbeam_utils::Backoff;
+use std::collections::VecDeque;
 use std::marker::Model;
 use std::sync::Wait;
 use xa_lane::{Ended, Sender};
 use xa_words::Completion;
 
-/// The lanes on which the threads get their completions, by rising thread, and a completion that found
-/// its lane full.
+/// The most completions that wait at once: so many requests at most are settled together.
+pub(crate) const MOST_WAITING: usize = 64;
+
+/// The lanes on which the threads get their completions, by rising thread, and the completions that wait: for the
+/// store of their manager, or for the first of them to find room in its lane.
 #[derive(Drop)]
 pub(crate) struct Outbox {
     senders: Vec<Sender<Completion>>,
-    waiting: Option<(usize, Completion)>,
+    // Each with the place of its lane, oldest first.
+    waiting: VecDeque<(usize, Completion)>,
 }
 
 impl Model for Outbox {
@@ -23,11 +29,14 @@ impl Model for Outbox {
 
     ghost Value = { Outgoing };
 
-    ghost use Rattle.std.specs.Prelude.{◌<◌, length, IfSome};
+    ghost use Rattle.std.specs.Prelude.{All, ◌<◌, ◌≤◌, length};
+    ghost use Rattle.std.specs.VecDeque.{deque_capacity};
+    ghost use Rattle.xa_worker.specs.declared.outbox.TheConstants.{MOST_WAITING};
 
-    ghost view = { λ o. record { senders = o.senders.items; waiting = o.waiting } };
+    ghost view = { λ o. record { senders = o.senders.items; waiting = o.waiting.items } };
 
-    ghost invariant = { λ o. IfSome o.waiting (λ p. p.0 < length o.senders.items) };
+    ghost invariant = { λ o. All (λ p. p.0 < length o.senders.items) o.waiting.items
+        × (MOST_WAITING ≤ deque_capacity o.waiting) };
 }
 
 // Offers a completion to the lane at a place: whether it was sent.
@@ -50,13 +59,16 @@ fn offer_at<R: Wait>(
 }
 
 impl Outbox {
-    pub(crate) fn new(senders: Vec<Sender<Completion>>) -> Outbox
-        ensures { result ≡ record { senders = senders.items; waiting = None } }
+    /// Lanes on which nothing waits to be sent, and reserved memory for what will.
+    pub(crate) fn new(
+        senders: Vec<Sender<Completion>>,
+        waiting: VecDeque<(usize, Completion)>,
+    ) -> Outbox
+        requires none { waiting.items ≡ [] }
+        requires room { MOST_WAITING ≤ deque_capacity waiting }
+        ensures { result ≡ record { senders = senders.items; waiting = [] } }
     {
-        Outbox {
-            senders,
-            waiting: None,
-        }
+        Outbox { senders, waiting }
     }
 
     /// How many lanes there are.
@@ -66,39 +78,78 @@ impl Outbox {
         self.senders.len()
     }
 
-    /// Whether a completion waits for its lane.
+    /// Whether a completion waits.
+    #[inline(always)]
     pub(crate) fn is_waiting(&self) -> bool
-        ensures { IsTrue result ↔ IsSome self.now.waiting }
+        ensures { (result ≡ false) ↔ (self.now.waiting ≡ []) }
     {
-        self.waiting.is_some()
+        !self.waiting.is_empty()
     }
 
-    /// Sends a completion, or keeps it where its lane is full.
+    /// Whether one more completion may wait.
     #[inline(always)]
-    pub(crate) fn put<R: Wait>(&mut self, rt: &R, place: usize, completion: Completion)
-        requires place { place < length self.old.senders }
-        requires nothing { self.old.waiting ≡ None }
-        ensures { Puts self.old place completion self.new }
+    pub(crate) fn has_room(&self) -> bool
+        ensures { IsTrue result ↔ (length self.now.waiting < MOST_WAITING) }
     {
-        if !offer_at(rt, &mut self.senders, place, completion) {
-            self.waiting = Some((place, completion));
+        self.waiting.len() < MOST_WAITING
+    }
+
+    /// Sends a completion. It waits, behind those that do, where the store owes something, others wait, or its lane is
+    /// full.
+    #[inline(always)]
+    pub(crate) fn answer<R: Wait>(
+        &mut self,
+        rt: &R,
+        owing: bool,
+        place: usize,
+        completion: Completion,
+    )
+        requires place { place < length self.old.senders }
+        requires room { length self.old.waiting < MOST_WAITING }
+        ensures { Answers owing self.old place completion self.new }
+    {
+        if owing || self.is_waiting() || !offer_at(rt, &mut self.senders, place, completion) {
+            self.waiting.push_back_reserved((place, completion));
         }
     }
 
-    /// Offers the completion that waits once more. False where its lane is still full.
+    /// Sends the completions that wait, oldest first, as far as the first whose lane is full. Whether all were sent.
     #[inline(always)]
     pub(crate) fn flush<R: Wait>(&mut self, rt: &R) -> bool
-        ensures flushed { MatchBool result (self.new ≡ flushed self.old) (StillFull self.old self.new) }
+        ensures flushed { Flushes self.old self.new }
+        ensures all { IsTrue result ↔ (self.new.waiting ≡ []) }
         ensures put { (k : ℕ) → put_to k self.new ≡ put_to k self.old }
     {
-        let Some((place, completion)) = self.waiting else {
-            return true;
-        };
-        if offer_at(rt, &mut self.senders, place, completion) {
-            self.waiting = None;
-            return true;
+        for _place in 0..self.count() {
+            if !self.send_first(rt) {
+                return false;
+            }
         }
-        false
+        true
+    }
+
+    // How many completions wait.
+    #[inline(always)]
+    fn count(&self) -> usize
+        ensures { result ≡ length self.now.waiting }
+    {
+        self.waiting.len()
+    }
+
+    // Offers the completion that waits first to its lane: whether it was sent.
+    fn send_first<R: Wait>(&mut self, rt: &R) -> bool
+        requires { 0 < length self.old.waiting }
+        ensures first { MatchBool result (SendsFirst self.old self.new) (FindsFull self.old self.new) }
+        ensures put { (k : ℕ) → put_to k self.new ≡ put_to k self.old }
+    {
+        let Some((place, completion)) = self.waiting.front() else {
+            unreachable!()
+        };
+        if !offer_at(rt, &mut self.senders, *place, *completion) {
+            return false;
+        }
+        let _ = self.waiting.pop_front();
+        true
     }
 
     pub(crate) fn into_senders(self) -> Vec<Sender<Completion>>

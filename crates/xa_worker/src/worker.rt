@@ -1,12 +1,15 @@
 //! One manager's worker.
-ghost use Rattle.std.specs.Prelude.{◌≡◌, ◌↔◌, ◌≤◌, [], length, All, IsTrue};
+ghost use Rattle.std.specs.Prelude.{◌≡◌, ◌↔◌, ◌≤◌, [], length, false, All, IsTrue};
 ghost use Rattle.xa_worker.specs.Workers.{IsTied, IsFinished, SameWorker, new_worker};
-ghost use Rattle.xa_worker.specs.WorkerSteps.{Stepped, Paces};
+ghost use Rattle.xa_worker.specs.WorkerSteps.{HasWay, IsBlocked, Paces, Stepped, Takes};
+ghost use Rattle.xa_worker.specs.Outgoing.{Offers};
+ghost use Rattle.xa_worker.specs.Stored.{IsStored};
+ghost use Rattle.xa_store.specs.Stores.{AreDurable};
 ghost use Rattle.xa_worker.specs.Done.{IsServed, SameServed};
 ghost use Rattle.xa_worker.specs.WorkerSeats.{seat_of_worker, seat_of_done};
 ghost use Rattle.xa_worker.specs.Inner.{AreSet};
 
-use crate::carry::carry_out;
+use crate::carry::{carry_out, send_settled, settle_owed};
 use crate::done::{DoneWorker, WorkerEnds};
 use crate::outbox::{Outbox, end_all};
 use crate::pace::Pace;
@@ -18,6 +21,7 @@ use std::sync::Wait;
 use std::thread;
 use xa_base::MOST_THREADS;
 use xa_lane::{Ended, Receiver, Sender};
+use xa_store::Store;
 use xa_tables::Manager;
 use xa_words::{Code, Completion, Request};
 
@@ -111,6 +115,7 @@ impl Worker {
             number,
             room: _,
             journal,
+            waiting,
             ends,
         } = parts;
         Worker {
@@ -118,7 +123,7 @@ impl Worker {
             given: Log::new().and(&number, &manager),
             manager,
             receiver,
-            out: Outbox::new(senders),
+            out: Outbox::new(senders, waiting),
             journal,
             ended: [false; MOST_THREADS],
             held: None,
@@ -133,28 +138,65 @@ impl Worker {
         self.number
     }
 
-    /// Does one thing. First a completion that waits for its lane is offered once more; where it was sent
-    /// or none waits, and no request is held, one thing is taken from the lane of requests.
+    /// Does one thing. First the completions that wait are offered to their lanes; where all were sent, and no request
+    /// is held, one thing is taken from the lane of requests.
     ///
     /// A request is entered in the journal with its code before its completion is sent. A Shut is carried
-    /// out as any request; after it each is late. `Empty` is answered only where a take of this call was
-    /// answered `Empty`, and `Blocked` only where an offer of this call was answered `Full` or a request is
-    /// held.
-    pub fn step<R: Wait, P: Pace>(&mut self, rt: &R, pace: &mut P) -> Step
-        ensures step { Stepped self.old result self.new }
+    /// out as any request; after it each is late. While the store owes something, completions wait: the store settles
+    /// once for all of them, where nothing is there to be taken, or 64 wait, or it can be told of no more. `Empty` is
+    /// answered only where a take of this call was answered `Empty`, and `Blocked` only where an offer of this call was
+    /// answered `Full` or a request is held. Where the store fails it never returns.
+    pub fn step<R: Wait, P: Pace, S: Store>(&mut self, rt: &R, pace: &mut P, store: &mut S) -> Step
+        ensures step { Stepped (S.owing store.old) (S.owing store.new) self.old result self.new }
         ensures same { SameWorker self.old self.new }
         ensures tied { IsTied self.new }
         ensures seat { seat_of_worker self.new ≡ seat_of_worker self.old }
         ensures paced { Paces P.told self.old.journal self.new.journal pace.old pace.new }
+        ensures stored { IsStored (S.knows store.old) (S.may_leave store.old) self.old
+            → IsStored (S.knows store.new) (S.may_leave store.new) self.new }
     {
-        if !self.out.flush(rt) {
+        if !self.make_way(rt, store) {
             return Step::Blocked;
         }
-        if self.held.is_some() {
-            return Step::Blocked;
+        self.take_one(rt, pace, store)
+    }
+
+    // Offers the completions that wait, or has them wait for a store that owes something. Whether a thing may be taken.
+    #[inline(always)]
+    fn make_way<R: Wait, S: Store>(&mut self, rt: &R, store: &mut S) -> bool
+        ensures offers { Offers (S.owing store.old) self.old.out self.new.out }
+        ensures rest { self.new ≡ record self.old { out = self.new.out } }
+        ensures may { IsTrue result → HasWay (S.owing store.new) self.new }
+        ensures blocked { result ≡ false → IsBlocked self.old self.new }
+        ensures same { SameWorker self.old self.new }
+        ensures tied { IsTied self.new }
+        ensures stored { IsStored (S.knows store.old) (S.may_leave store.old) self.old
+            → IsStored (S.knows store.new) (S.may_leave store.new) self.new }
+    {
+        if store.owes() && self.held.is_none() && self.out.has_room() && !store.is_full() {
+            return true;
         }
+        send_settled(rt, &self.manager, store, &mut self.out) && self.held.is_none()
+    }
+
+    // Takes one thing from the lane of requests, if one is there.
+    #[inline(always)]
+    fn take_one<R: Wait, P: Pace, S: Store>(&mut self, rt: &R, pace: &mut P, store: &mut S) -> Step
+        requires { HasWay (S.owing store.old) self.old }
+        ensures takes { Takes (S.owing store.new) self.old result self.new }
+        ensures same { SameWorker self.old self.new }
+        ensures tied { IsTied self.new }
+        ensures paced { Paces P.told self.old.journal self.new.journal pace.old pace.new }
+        ensures stored { IsStored (S.knows store.old) (S.may_leave store.old) self.old
+            → IsStored (S.knows store.new) (S.may_leave store.new) self.new }
+    {
         match self.receiver.take_parcel(rt) {
-            None => Step::Empty,
+            None => {
+                if store.owes() {
+                    send_settled(rt, &self.manager, store, &mut self.out);
+                }
+                Step::Empty
+            }
             Some(parcel) => match &parcel.item {
                 None => {
                     self.ended[parcel.from] = true;
@@ -172,6 +214,7 @@ impl Worker {
                         number,
                         &mut self.manager,
                         &mut self.journal,
+                        store,
                         &mut self.out,
                         *request,
                     )
@@ -186,26 +229,32 @@ impl Worker {
         self.held.is_none() && !self.out.is_waiting() && are_all(&self.ended, self.out.len())
     }
 
-    /// Steps until each thread's end mark was taken and nothing is held, and then ends its own senders.
+    /// Steps until each thread's end mark was taken and nothing is held, has the store settle what it owes, and then
+    /// ends its own senders.
     ///
-    /// It yields its processor while there is nothing to be done. With a request that can't be carried out it never
-    /// returns.
-    pub fn run<R: Wait, P: Pace>(self, rt: &R, pace: &mut P) -> DoneWorker
+    /// It yields its processor while there is nothing to be done. With a request that can't be carried out, or where
+    /// the store fails, it never returns.
+    pub fn run<R: Wait, P: Pace, S: Store>(self, rt: &R, pace: &mut P, store: &mut S) -> DoneWorker
         ensures same { SameServed self result }
         ensures served { IsServed result }
         ensures seat { seat_of_done result ≡ seat_of_worker self }
         ensures paced { Paces P.told self.journal result.journal pace.old pace.new }
+        ensures known { IsStored (S.knows store.old) (S.may_leave store.old) self
+            → S.knows store.new result.manager.tables }
+        ensures settled { IsStored (S.knows store.old) (S.may_leave store.old) self
+            → AreDurable (S.may_leave store.new) result.manager.tables }
     {
         let mut worker = self;
         for _ in rt.forever() {
             if worker.is_finished() {
                 break;
             }
-            match worker.step(rt, pace) {
+            match worker.step(rt, pace, store) {
                 Step::Empty | Step::Blocked => thread::yield_now(),
                 Step::Did | Step::Late | Step::EndSeen => {}
             }
         }
+        settle_owed(rt, &worker.manager, store);
         worker.end(rt)
     }
 
@@ -213,6 +262,7 @@ impl Worker {
     fn end<R: Wait>(self, rt: &R) -> DoneWorker
         requires { IsFinished self }
         ensures same { SameServed self result }
+        ensures manager { result.manager ≡ self.manager }
         ensures journal { result.journal ≡ self.journal }
         ensures served { IsServed result }
         ensures seat { seat_of_done result ≡ seat_of_worker self }

@@ -12,6 +12,7 @@ use std::thread::{Threads, join};
 use xa_desk::Desk;
 use xa_driver::Done;
 use xa_log::{CommitRecord, DecisionLog, DecisionRecords, LogFault, MemoryLog};
+use xa_store::NoStore;
 use xa_words::{ManagerSet, Op, Request, Tran};
 use xa_worker::{Pace, Worker};
 
@@ -124,8 +125,8 @@ fn commit_watched<R: Wait + Abort>(
 fn run_both<R: Threads + Wait + Sync>(rt: &R, asked: &Asked, first: Worker, second: Worker) {
     join(
         rt,
-        || first.run(rt, &mut Counting { asked }),
-        || second.run(rt, &mut Counting { asked }),
+        || first.run(rt, &mut Counting { asked }, &mut NoStore),
+        || second.run(rt, &mut Counting { asked }, &mut NoStore),
     );
 }
 

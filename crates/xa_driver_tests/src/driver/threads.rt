@@ -9,6 +9,7 @@ use xa_calls::RmOp;
 use xa_desk::{Desk, EndedDesk, Spin};
 use xa_driver::{Branch, Done, Ending, commit_all, may_commit};
 use xa_log::{DecisionLog, MemoryLog};
+use xa_store::NoStore;
 use xa_switch::{Plan, open_switch};
 use xa_testing::{comes, end, one, two};
 use xa_words::{Op, Request};
@@ -116,8 +117,8 @@ fn run_both<R: Threads + Wait + Sync>(
     };
     join(
         rt,
-        || first.run(rt, &mut pace),
-        || second.run(rt, &mut other),
+        || first.run(rt, &mut pace, &mut NoStore),
+        || second.run(rt, &mut other, &mut NoStore),
     )
 }
 

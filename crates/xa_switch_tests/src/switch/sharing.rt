@@ -6,6 +6,7 @@ use std::thread;
 use std::thread::{Threads, join};
 use xa_calls::{xa_call, xa_complete};
 use xa_desk::{Desk, EndedDesk, Spin};
+use xa_store::NoStore;
 use xa_switch::Plan;
 use xa_testing::{end, one, two};
 use xa_words::{Call, Code, Request, TMASYNC, TMMULTIPLE, TMNOWAIT};
@@ -89,7 +90,11 @@ fn run_all<R: Threads + Wait + Abort + Sync>(
     join(
         rt,
         || ask(rt, first),
-        || join(rt, || ask(rt, second), || worker.run(rt, &mut Free)),
+        || join(
+            rt,
+            || ask(rt, second),
+            || worker.run(rt, &mut Free, &mut NoStore),
+        ),
     )
 }
 

@@ -10,6 +10,7 @@ use std::sync::atomic::{AtomicBool, Ordering};
 use std::thread::{Threads, join};
 use xa_calls::{xa_call, xa_complete};
 use xa_desk::{Desk, EndedDesk, Spin, Ticket};
+use xa_store::NoStore;
 use xa_testing::{comes, end, one, two};
 use xa_words::{Call, Code, Op, Request, TMASYNC, TMNOFLAGS, TMNOWAIT};
 use xa_worker::{DoneWorker, Free, Pace, Worker};
@@ -85,8 +86,8 @@ fn run_both<R: Threads + Wait + Sync>(
 ) -> (DoneWorker, DoneWorker) {
     join(
         rt,
-        || first.run(rt, &mut Held { gate }),
-        || second.run(rt, &mut Free),
+        || first.run(rt, &mut Held { gate }, &mut NoStore),
+        || second.run(rt, &mut Free, &mut NoStore),
     )
 }
 
@@ -152,7 +153,7 @@ fn handles_of_a_held_manager_are_not_ready(rt: HostRuntime) {
     let (ended, done) = join(
         &rt,
         || complete_both(&rt, desk, &gate),
-        || worker.run(&rt, &mut Held { gate: &gate }),
+        || worker.run(&rt, &mut Held { gate: &gate }, &mut NoStore),
     );
     assert!(rt;
         !gate.was_left.load(Ordering::SeqCst),

@@ -1,5 +1,6 @@
-use Rattle.xa_base.proofs.{rules, ◌≡◌, arith, [], ◌∷◌, ◌++◌, ◌∙◌, length, set, get_or-append_seam, set-append_seam}
+use Rattle.xa_base.proofs.{rules, ◌≡◌, ap, arith, [], ◌∷◌, ◌++◌, ◌∙◌, length, set, get_or-append_seam, set-append_seam}
 use Rattle.xa_words.specs.{Done}
+use Rattle.xa_tables.specs.{Answer}
 use Rattle.xa_worker.specs.{Entry, entry_next}
 use Rattle.xa_worker.proofs.carry.carry_out.Goals as goal
 
@@ -15,3 +16,11 @@ returns-clause-journal g c =
     let placed : set c.enter.new.journal.items c.len-place.result (e.0, c.apply-code.result) ≡ set (items ++ (r, Done) ∷ []) (length items) (entry_next r T) =
     λ i. set (c.enter.ensures.entry i) (at i) (next i) in
     placed ∙ set-append_seam items (r, Done) [] (entry_next r T)
+
+pub returns-clause-known : goal.returns-clause-known
+returns-clause-known g c known =
+    let step = c.apply-code.ensures.step in
+    rw (ap (λ (a : Answer). a.0) step) (c.tell.ensures.told c.args.manager.now.tables c.apply-code.ensures.live known (ap (λ (a : Answer). a.1) step))
+
+pub returns-clause-settled : goal.returns-clause-settled
+returns-clause-settled g c known free = c.owes.ensures.durable free c.apply-code.new.self.tables (returns-clause-known g c known)

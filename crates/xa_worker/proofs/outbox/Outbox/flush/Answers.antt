@@ -1,13 +1,12 @@
-use Rattle.xa_base.proofs.{eqb_tells, append-nil, arith}
-use Rattle.xa_lane.proofs.Parcels.{sent_at-other, sent_at-item}
-use Rattle.xa_worker.proofs.Lanes.{put-full}
+use Rattle.xa_base.proofs.{◌∙◌, ap, arith, length}
+use Rattle.xa_worker.proofs.Lanes.{sent_more}
 use Rattle.xa_worker.proofs.outbox.Outbox.flush.Goals as goal
 
-pub returns-then-offer_at-clause-put : goal.returns-then-offer_at-clause-put
-returns-then-offer_at-clause-put g c = search (arith, append-nil, sent_at-item, sent_at-other, eqb_tells, c.in-Some.is, c.self.invariant)
-
-pub invariant_of-self-else-offer_at : goal.invariant_of-self-else-offer_at
-invariant_of-self-else-offer_at g c = rw c.offer_at.ensures.len c.self.invariant
-
-pub returns-clause-put : goal.returns-clause-put
-returns-clause-put g c = rw (← c.self.view_is) (put-full _ _ _ _ c.if-offer_at.ensures.offered)
+pub loop-place-preserved : goal.loop-place-preserved
+loop-place-preserved g c =
+    let first = c.if-not-send_first.ensures.first in
+    record {
+      sent = sent_more c.args.self.now c.loop-place.self c.send_first.new.self c.loop-place.invariant.sent first;
+      put = λ k. c.send_first.ensures.put k ∙ c.loop-place.invariant.put k;
+      left = let fewer = ap length first.waits in let left = c.loop-place.invariant.left in omega (arith, fewer, left);
+    }
