@@ -5,12 +5,12 @@ use Rattle.xa_base.proofs.{all_after, at_true, all_left, ◌<◌, slice_get_with
 use Rattle.xa_base.specs.{Begins}
 use Rattle.xa_words.specs.{XidName, Done, RmFail, Op, Prepare, Request, Code}
 use Rattle.xa_words.proofs.Xids.{xid_self}
+use Rattle.xa_table_laws.proofs.UnnamedLaw.{tables_after-append}
 use Rattle.xa_tables.specs.{HeuristicDecision, State, is_left_in, decision_code, next, Fate, decided_fate, fate, last_or, tables_after, names, Tables, History}
 use Rattle.xa_desk.specs.{LedgerView, learnt_shut, with_sent, with_collected}
 use Rattle.xa_driver.specs.{Branch, Ending, IsBegun, asked, collected, in_flight, unasked, is_decided, second_op, third_op, outcome_op, voted}
 use Rattle.xa_atomicity.specs.{DidOther, IsAsked, IsEnded, IsTold, IsBetween, DidOnly, OnlyTheseOrDecisionsName, told_fate}
 use Rattle.xa_driver.proofs.Mapped.{IsAskedFor, any_asked, Any}
-use Rattle.xa_tables.proofs.ValueLaw.{tables_after-append}
 use Rattle.xa_tables.specs.Histories as history
 use Rattle.xa_atomicity.proofs.CutVotes.{vote_there, HasVoted, ended_voted, first_is, forget_sends, prepare_sent, told_voted}
 use Rattle.xa_atomicity.proofs.Guided.{ends, leaves, tells, AtEnd, Comes, once, IsGuided, at_last, fate_any, fates_from, guided_after, stands_now, told_there}

@@ -9,10 +9,10 @@ use Rattle.xa_driver.specs.{is_heuristic as is_heuristic_code, outcome_op, Endin
 use Rattle.xa_driver.specs.{no_ending}
 use Rattle.xa_words.specs.{XidName, xid_eq, Done, RbIntegrity, RmFail, Op, Prepare, Rollback, Request, Code, is_rolled_back, is_done}
 use Rattle.xa_words.proofs.Xids.{xid_self}
+use Rattle.xa_table_laws.proofs.UnnamedLaw.{tables_after-append, unnamed_fate}
 use Rattle.xa_tables.specs.{is_close, IsTold, HeuristicDecision, is_S3, is_prepared, decision_code, next, Fate, fate, fate_in, fate_of, coded, tables_after}
 use Rattle.xa_tables.specs.{last_or, is_in_doubt as is_unknown, prepare_fate, decided_fate, IsFateOf, names, OnlyDecides, LeavesWaiting, AwaitsAfter, is_heur}
 use Rattle.xa_tables.specs.{is_forget, answer_when, fates_when, Tables, History}
-use Rattle.xa_tables.proofs.ValueLaw.{tables_after-append, unnamed_fate}
 use Rattle.xa_tables.specs.declared.state.HeuristicDecision.TheVariants as decision
 use Rattle.xa_tables.specs.Histories as history
 use Rattle.xa_atomicity.proofs.Courses.{Reads, Breaks, Stays, Agrees, Refuses, Asked, Sends, SendsOne, Course, rest_forgets}

@@ -4,6 +4,10 @@ use Rattle.xa_base.proofs.{arith, ◌≡◌, ℕ, Bool, true, false, if◌then�
 use Rattle.xa_base.proofs.{or-true, rules, at_true, unwrap_or, inl, inr, ◌++◌, All, cons_option, All-head, All-tail, All-cons, both_ways}
 use Rattle.xa_base.specs.{Begins}
 use Rattle.xa_words.specs.{XidName, Done, Op, Code, xid_eq, Prepare, Request}
+use Rattle.xa_tables.proofs.Soundness.{Sound, sound_after, opening_sound}
+use Rattle.xa_fates.proofs.FateLaw.{run_sound, last_more}
+use Rattle.xa_table_laws.proofs.UnnamedLaw.{tables_after-append}
+use Rattle.xa_table_laws.proofs.PreparedLaw.{Decides, Nothing, Completes, decides}
 use Rattle.xa_tables.specs.{is_S3, IsTold, State, HeuristicDecision, state_of, is_left_in, decision_code, next, Fate, tables_after, last_or}
 use Rattle.xa_tables.specs.{is_in_doubt as is_unknown, decided_fate, Tables, History, HeuristicallyCompleted, Answer, fate, fate_of, names, is_heur}
 use Rattle.xa_tables.specs.{AwaitsAfter}
@@ -14,9 +18,6 @@ use Rattle.xa_atomicity.specs.{is_in_doubt, told_fate, ended_as, Tabled, is_heur
 use Rattle.xa_driver.proofs.Requests.{trace_of, asked_grows}
 use Rattle.xa_words.proofs.Xids.{xid_self}
 use Rattle.xa_tables.specs.declared.state.State.TheVariants.{Prepared}
-use Rattle.xa_tables.proofs.Law.{Sound, sound_after, run_sound, opening_sound, last_more}
-use Rattle.xa_tables.proofs.ValueLaw.{tables_after-append}
-use Rattle.xa_tables.proofs.PreparedLaw.{Decides, Nothing, Completes, decides}
 use Rattle.xa_tables.specs.Histories as history
 use Rattle.xa_atomicity.proofs.Courses.{yes_is, yes_wanted}
 use Rattle.xa_atomicity.proofs.Leading.{after_all, Goes, Stands, waits, unforgotten, Leads, Led, Standing, step_led, IsTowards, ends_towards, led_after}

@@ -4,9 +4,12 @@ use Rattle.xa_base.proofs.{get_or, sym, refl, ap, ◌∙◌, subst, arith, Optio
 use Rattle.xa_base.proofs.{tied_true, all_left, Contains, all_after, some_same, option_map, None, All-contains, Contains-append_left, Contains-append_right}
 use Rattle.xa_base.proofs.{rules, all_right, and_right, both_ways, Contains-append_cases, contains-insert}
 use Rattle.xa_words.specs.{XidName, RmFail, Op, OpenRm, Request, Code, Done, xid_eq, Decides-xid_eq, tran_of}
+use Rattle.xa_table_laws.proofs.UnnamedLaw.{tables_after-append}
+use Rattle.xa_tables.proofs.Soundness.{opening_sound}
+use Rattle.xa_fates.proofs.ShutLaw.{next-shut, shut_stays}
+use Rattle.xa_table_laws.proofs.PreparedLaw.{opened_on}
 use Rattle.xa_tables.specs.{HeuristicDecision, has_opened, decision_code, Answer, next, open_rm, Fate, decided_fate, coded, of_thread, tables_after, last_or}
 use Rattle.xa_tables.specs.{closes, Tables, History, state_of, is_left_in, is_prepared, is_in_doubt as is_unknown, AreLeft, reopened, reopened_fate, names}
-use Rattle.xa_tables.proofs.ValueLaw.{tables_after-append}
 use Rattle.xa_desk.specs.{LedgerView, numbered, ledger}
 use Rattle.xa_switch.specs.{answers, last_in, IsOpenedWith, first_of, history as history_of, ledgers_of, settled_fate, ManagerPart, IsSettled, FollowsTables}
 use Rattle.xa_switch.specs.{find_manager, journal_in, Settling}
@@ -14,10 +17,8 @@ use Rattle.xa_atomicity.specs.{ended_as, Tabled, outcome_fate, ResolveCall, reso
 use Rattle.xa_atomicity.specs.{last_of, tables_left}
 use Rattle.xa_driver.specs.{outcome_op, Outcome, is_decided, is_to_commit}
 use Rattle.xa_base.specs.{MOST_MANAGERS, IsUpTo}
-use Rattle.xa_tables.proofs.Law.{opening_sound, next-shut, shut_stays}
 use Rattle.xa_worker.specs.{requests}
 use Rattle.xa_scan.specs.{left_at}
-use Rattle.xa_tables.proofs.PreparedLaw.{opened_on}
 use Rattle.xa_tables.specs.declared.state.HeuristicDecision.TheVariants as decision
 use Rattle.xa_atomicity.proofs.Leading.{IsTowards, Standing, led_after, ends_it, waits, unforgotten, over, IsOver, Stands, by_itself, ends_towards}
 use Rattle.xa_atomicity.proofs.Leading.{stands_reopened, is_over}

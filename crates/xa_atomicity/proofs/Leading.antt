@@ -4,13 +4,15 @@ use Rattle.xa_base.proofs.{sym, refl, ap, ◌∙◌, Option, Some, None, All, co
 use Rattle.xa_base.proofs.{by_if, at_false, at_true, or-true, cases_Bool}
 use Rattle.xa_words.specs.{XidName, xid_eq, Decides-xid_eq, Done, Nota, Proto, RmFail, Op, Commit, Rollback, Forget, Request, Code, is_done}
 use Rattle.xa_words.proofs.Xids.{xid_self}
+use Rattle.xa_tables.proofs.Soundness.{Sound, AtWork, standing, sound_after}
+use Rattle.xa_fates.proofs.FateLaw.{nobody_rests, last_more}
+use Rattle.xa_tables.proofs.SoundLemmas.{get_gone}
+use Rattle.xa_table_laws.proofs.UnnamedLaw.{unnamed_fate, unnamed_stays}
 use Rattle.xa_tables.specs.{decision_of, committed, State, HeuristicallyCompleted, HeuristicDecision, has_opened, state_of, exists, is_left_in, is_prepared}
 use Rattle.xa_tables.specs.{is_completed, is_rollback_only, is_somebody_associated, reason_of, decision_code, Answer, next, by_rules, commit_two, rollback}
 use Rattle.xa_tables.specs.{gone, Fate, tables_after, fate_of, last_or, decided_fate, reopened, reopened_fate, names, Tables, History}
 use Rattle.xa_tables.specs.declared.state.State.TheVariants.{Prepared}
-use Rattle.xa_tables.proofs.Law.{Sound, AtWork, standing, nobody_rests, get_gone, sound_after, last_more}
 use Rattle.xa_tables.proofs.Reopening.{state_reopened}
-use Rattle.xa_tables.proofs.ValueLaw.{unnamed_fate, unnamed_stays}
 use Rattle.xa_atomicity.specs.{ended_as}
 use Rattle.xa_driver.specs.{outcome_op}
 use Rattle.xa_tables.proofs.Effects.{error_tells, reason_rolls_back, decision_commits_nothing, decision_rolls_nothing_back}

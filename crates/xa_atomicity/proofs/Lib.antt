@@ -1,3 +1,4 @@
+pub mod Worth
 pub mod Sites
 pub mod Courses
 pub mod Values

@@ -5,6 +5,7 @@ use Rattle.xa_base.proofs.{slice_get-get_or, ◌≢◌, [], ◌∷◌, ◌++◌,
 use Rattle.xa_base.proofs.{get-empty, and_parts, All-contains, inl, get_or, Contains-get_or, IsPermutation-sym, Contains-permutation, by_bool, mapped_some}
 use Rattle.xa_tables.specs.Histories as history
 use Rattle.xa_words.specs.{XidName, TranName, RmFail, xid_cmp, Code, tran_of, is_done}
+use Rattle.xa_tables.proofs.Soundness.{opening_sound}
 use Rattle.xa_tables.specs.{is_left, Tables, AreLeft, State, HeuristicallyCompleted, HeuristicDecision, opening, state_of, is_left_in, Fate, IsFateOf}
 use Rattle.xa_tables.specs.{decided_fate, fate, tables_after, reopened, told_by, History, is_S3}
 use Rattle.xa_switch.specs.{managers_in, reopened_at, reopening, Each, first_of, IsOf, ManagerPart, find_manager, Settling, Again, IsScanOf, IsSettled, last_in}
@@ -21,7 +22,6 @@ use Rattle.xa_atomicity.specs.{OnlyTheseOrDecisionsName, is_heuristic, VotedToCo
 use Rattle.xa_atomicity.specs.{none, IsResolved, CountsOver, CountsAllOrNone, IsUnlisted, SharesOver}
 use Rattle.xa_tables.specs.declared.state.State.TheVariants.{Prepared}
 use Rattle.xa_tables.proofs.Reopening.{as_left}
-use Rattle.xa_tables.proofs.Law.{opening_sound}
 use Rattle.xa_atomicity.proofs.Resolves.{upto_so, outcome_asked, outcome_at, outcome_left}
 use Rattle.xa_atomicity.proofs.Guided.{is_known_so, unknown_so, decided_apart, read_apart, doubted, Comes, learnt_in_doubt}
 use Rattle.xa_atomicity.proofs.Later.{ends_with, IsStep, answered_at, opening_towards, placed_so}

@@ -6,10 +6,10 @@ use Rattle.xa_base.proofs.{next_there, take-append-drop, take, drop, some_pair_p
 use Rattle.xa_base.proofs.{append_assoc}
 use Rattle.xa_base.specs.{Begins}
 use Rattle.xa_words.specs.{XidName, Op, Request, Code, RmFail}
+use Rattle.xa_table_laws.proofs.UnnamedLaw.{tables_after-append}
 use Rattle.xa_tables.specs.{Tables, next, Fate, of_thread, tables_after, coded, fate_of, fate_in, fates_in, last_or, History, IsOpening}
 use Rattle.xa_desk.specs.{numbered, is_rm_fail}
 use Rattle.xa_switch.specs.{answers}
-use Rattle.xa_tables.proofs.ValueLaw.{tables_after-append}
 use Rattle.xa_atomicity.specs.{Tabled}
 use Rattle.xa_driver.proofs.Requests.{numbered_length}
 use Rattle.std.proofs.lemmas.List.{get_or-append_right, length-take-le}

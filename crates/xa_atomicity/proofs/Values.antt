@@ -4,12 +4,12 @@ use Rattle.xa_base.proofs.{by_if, false_from_ne_true, and_parts, eqb-true, le-le
 use Rattle.xa_base.proofs.{false, ◌==◌, ◌&&◌, List, [], ◌∷◌, ◌++◌, length, get_or, sym, refl, ap, ◌∙◌, arith, eq-eqb, All, ints, and-false, +ℤ_idl as none_plus}
 use Rattle.xa_base.proofs.{+ℤ_idr as plus_none, append_assoc, Option, Some, None, cons_option, at_true, ◌≢◌, all_left, all_after, All-cons, cases_Bool, lt-leb}
 use Rattle.xa_base.proofs.{leb-true, leb-false, both_ways}
+use Rattle.xa_table_laws.proofs.UnnamedLaw.{tables_after-append, unnamed_fate}
 use Rattle.xa_tables.specs.{moved_by, Answer, next, tables_after, moved, held_by, Tables, History, Association, association_of, Fate, coded, commits_later}
 use Rattle.xa_tables.specs.{ending, ending_by, fate_of, or_later, share, EndsNowhere, names, NamesNowhere, is_forget, commit_fate}
 use Rattle.xa_words.specs.{is_done, Op, Commit, Request, Code, XidName, Decides-key_eq, Prepare, Done, RdOnly, xid_eq}
 use Rattle.xa_driver.specs.{is_commit, Ending, ReadOnly, RolledBack, Left, is_yes, yes_ending, no_ending, outcome_op}
 use Rattle.xa_atomicity.specs.{taken_before, IsAddition, prepare_of, IsBetween, OnlyTheseName, is_read_only as is_read_only_ending, none_later}
-use Rattle.xa_tables.proofs.ValueLaw.{tables_after-append, unnamed_fate}
 use Rattle.xa_words.proofs.Xids.{xid_self}
 use Rattle.xa_atomicity.specs.Outcomes.{is_committed}
 use Rattle.xa_tables.specs.Histories as history

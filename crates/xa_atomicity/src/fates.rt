@@ -1,6 +1,6 @@
 //! Of a settled opening: what a call told is what became of each branch, and what the values have of it.
 ghost use Rattle.std.specs.List.{All, Contains, list_any};
-ghost use Rattle.std.specs.Prelude.{◌≡◌, ℕ, ◌≤◌, ℤ, pos, ◌+ℤ◌, true, false, Some, List};
+ghost use Rattle.std.specs.Prelude.{◌≡◌, ℕ, ◌≤◌, ℤ, pos, ◌+ℤ◌, true, false, Some, List, length};
 ghost use Rattle.xa_base.specs.Sums.{total};
 ghost use Rattle.xa_words.specs.Tran.{TranName, tran_of};
 ghost use Rattle.xa_tables.specs.Prepared.{names};
@@ -9,9 +9,9 @@ ghost use Rattle.xa_desk.specs.DeskViews.{DeskView};
 ghost use Rattle.xa_switch.specs.Settled.{Settling, IsSettled};
 ghost use Rattle.xa_desk.specs.Growth.{HaveGrown};
 ghost use Rattle.xa_switch.specs.Reopening.{reopened_at};
-ghost use Rattle.xa_switch.specs.Fates.{first_of, ledgers_of};
+ghost use Rattle.xa_switch.specs.Fates.{IsOpenedWith, first_of, ledgers_of};
 ghost use Rattle.xa_switch.specs.Plans.{IsSoundManager};
-ghost use Rattle.xa_switch.specs.Worth.{threads_of, plan_worth, settled_worth};
+ghost use Rattle.xa_switch.specs.Worth.{WorthIsOfThreads, accounts_of, threads_of, plan_worth, settled_worth};
 ghost use Rattle.xa_switch.specs.declared.plan.Plan.{Plan};
 ghost use Rattle.xa_driver.specs.declared.branch.Branch.{Branch};
 ghost use Rattle.xa_driver.specs.declared.done.Done.{Done};
@@ -24,12 +24,12 @@ ghost use Rattle.xa_atomicity.specs.Outcomes.{is_in_doubt, was_refused};
 ghost use Rattle.xa_driver.specs.Deaths.{sent_so_far};
 ghost use Rattle.xa_atomicity.specs.Conservation.{OnlyTransfers, held_in_doubt};
 ghost use Rattle.xa_atomicity.specs.Additions.{CountsTheCommitted, HasAllOrNothing, is_decided};
-ghost use Rattle.xa_atomicity.specs.Resolution.{ResolveCall};
-ghost use Rattle.xa_atomicity.specs.Resolution.{HasLeft, IsUseIn, OnlyResolves, TellsTheOutcomes};
+ghost use Rattle.xa_atomicity.specs.Resolution.{ResolveCall, HasLeft, IsUseIn, OnlyResolves, TellsTheOutcomes};
 ghost use Rattle.xa_atomicity.specs.Resolution.{resolves, with_use};
 ghost use Rattle.xa_driver.specs.declared.resolved.Outcome.{Outcome};
 ghost use Rattle.xa_words.specs.Codes.{is_done};
 ghost use Rattle.xa_tables.specs.ManagerTables.{Tables, is_left};
+ghost use Rattle.xa_tables.specs.Managers.{opening};
 ghost use Rattle.xa_tables.specs.Openings.{AreLeft};
 ghost use Rattle.xa_scan.specs.Left.{left_at};
 ghost use Rattle.xa_switch.specs.OfPlans.{IsOfPlan};
@@ -41,10 +41,8 @@ use xa_desk::Desk;
 use xa_driver::{Branch, Done};
 use xa_log::DecisionLog;
 use xa_switch::Settled;
-use xa_switch::laws::{
-    managers_open_with_their_accounts, settled_journals_follow_the_tables, threads_move_the_worth,
-};
-use xa_tables::laws::branches_hold_their_additions;
+use xa_switch::laws::settled_journals_follow_the_tables;
+use xa_table_laws::{branches_hold_their_additions, commits_alone_move_the_worth};
 
 /// In a settled opening, where nobody but the call named a branch after its Prepare, but for heuristic decisions: a
 /// branch that voted to commit isn't left, is in doubt only where its manager was shut before the place of its second
@@ -167,4 +165,20 @@ pub fn commit_in_a_settled_opening<L: DecisionLog>(
     one_outcome();
     endings_are_fates();
     let _settled = settled.journal(1);
+}
+
+/// In a settled opening of a plan the tables that a manager began with are those of the plan's accounts.
+pub fn managers_open_with_their_accounts()
+    ensures { (p : Plan) (s : Settling) (m : ℕ) → IsSettled s → IsOfPlan p s → 1 ≤ m → m ≤ length p.managers.items
+        → IsOpenedWith s m (opening (accounts_of p m)) }
+{}
+
+/// What all accounts are worth together after the journals is what was declared and what each thread's
+/// Commits have moved.
+#[tactic(auto, using(crate::proofs::Worth::worth_law))]
+pub fn threads_move_the_worth()
+    ensures { (p : Plan) (s : Settling) → IsSettled s → IsOfPlan p s → All IsSoundManager p.managers.items
+        → WorthIsOfThreads p s }
+{
+    commits_alone_move_the_worth();
 }

@@ -18,7 +18,8 @@ mod stages;
 pub use crate::commits::{commits_grow_the_lists, failed_append, one_outcome};
 pub use crate::fates::{
     acknowledged_commits_leave_no_branch, commit_in_a_settled_opening, endings_are_fates,
-    finished_outcomes_leave_no_branch, outcomes_are_fates, transfers_conserve_the_worth,
+    finished_outcomes_leave_no_branch, managers_open_with_their_accounts, outcomes_are_fates,
+    threads_move_the_worth, transfers_conserve_the_worth,
 };
 pub use crate::resolved::{
     commit_resolved_in_the_next_opening, next_openings_resolve, next_openings_resolve_by_all_logs,
@@ -30,12 +31,12 @@ pub use crate::stages::{
     others_leave_the_branches, rounds_are_cuts, second_rounds_go_by_the_record, stages_are_cuts,
     stages_follow,
 };
-use xa_tables::laws::{
-    adders_never_vote_read_only, late_requests_leave_fates, only_a_shut_shuts,
-    only_completed_branches_tell_a_decision, only_prepared_branches_are_decided,
-    prepared_branches_await_the_outcome, prepared_branches_keep_what_they_hold,
-    read_only_branches_hold_nothing, refused_prepares_tell_integrity, shut_managers_decide_nothing,
-    tables_tell_the_fates,
+use xa_fates::{late_requests_leave_fates, tables_tell_the_fates};
+use xa_table_laws::{
+    adders_never_vote_read_only, only_a_shut_shuts, only_completed_branches_tell_a_decision,
+    only_prepared_branches_are_decided, prepared_branches_await_the_outcome,
+    prepared_branches_keep_what_they_hold, read_only_branches_hold_nothing,
+    refused_prepares_tell_integrity, shut_managers_decide_nothing,
 };
 
 /// What the laws of the tables say of one branch, together: the laws below rest on it.

@@ -16,7 +16,8 @@ use Rattle.xa_crew.specs.{Attended, Telling, EndsNumber, Member, HasRun, IsRun}
 use Rattle.xa_crew.specs.Ending.EndsNumber.{kept as kept_there, free}
 use Rattle.xa_work.specs.{HaveSent}
 use Rattle.xa_work.proofs.Sent.{have_none, have_on, one_collected}
-use Rattle.xa_tables.specs.{Tables, opening, IsOpening, AddsAsItWorks, History}
+use Rattle.xa_table_laws.specs.{AddsAsItWorks}
+use Rattle.xa_tables.specs.{Tables, opening, IsOpening, History}
 use Rattle.xa_driver.specs.{Branch, Done}
 use Rattle.xa_log.specs.{IsReadAs, LogState}
 use Rattle.xa_bank.specs.{Teller, EndsWhole, HasMade, IsUndoubted, Works}

@@ -6,9 +6,9 @@ use Rattle.xa_words.specs.{Done as Ok_, Op, Start, Add, End, Fresh, Success, Xid
 use Rattle.xa_desk.specs.{LedgerView, ledger, numbered}
 use Rattle.xa_work.specs.{Change, HasWorked, HaveWorked, changes_at}
 use Rattle.xa_bank.specs.{Leg, branches_of, change_of, changes_of}
-use Rattle.xa_tables.specs.{Tables, next, of_thread, tables_after, coded, IsOpening, names, NamesNowhere, request, LeavesAtWork, DoesWork, AddsAsItWorks}
-use Rattle.xa_tables.specs.{added_by_now, History}
-use Rattle.xa_tables.proofs.ValueLaw.{tables_after-append}
+use Rattle.xa_table_laws.specs.{request, LeavesAtWork, DoesWork, AddsAsItWorks}
+use Rattle.xa_table_laws.proofs.UnnamedLaw.{tables_after-append}
+use Rattle.xa_tables.specs.{Tables, next, of_thread, tables_after, coded, IsOpening, names, NamesNowhere, added_by_now, History}
 use Rattle.xa_base.specs.{Begins}
 use Rattle.xa_worker.specs.{Entry}
 use Rattle.xa_switch.specs.{Settling, IsSettled, sent, journal, answers, IsOpenedWith, history, ledgers_of}

@@ -3,7 +3,8 @@ use Rattle.xa_base.proofs.{arith, ◌≡◌, Bool, true, false, ◌||◌, Option
 use Rattle.xa_base.proofs.{ℕ, suc, ◌+◌, ◌^◌, ◌<◌, ◌≤◌, ◌++◌, length, length-append, append_assoc, refl, ap, ◌∙◌, subst, All, ints, cases_lt, All-nil, All-cons}
 use Rattle.xa_base.proofs.{All-head, All-tail, All-weaker}
 use Rattle.xa_words.specs.{XidName, Code, Death, Op, is_rolled_back}
-use Rattle.xa_tables.specs.{Tables, opening, IsOpening, AddsAsItWorks, History}
+use Rattle.xa_table_laws.specs.{AddsAsItWorks}
+use Rattle.xa_tables.specs.{Tables, opening, IsOpening, History}
 use Rattle.xa_desk.specs.{LedgerView, DeskView, ledger, HaveGrown}
 use Rattle.xa_driver.specs.{Branch, Done, Ending, Heuristic, AsksFor, AtBranch, VotesAndObeys, is_read, is_yes, second_op, third_op, ending_of, yes_ending}
 use Rattle.xa_driver.specs.{no_ending, is_decided, is_out_of_reach, AsksLedger, EachBranch, IsCommit, is_commit, NoCommitWasSent, HaveAsked, PutsLedger}

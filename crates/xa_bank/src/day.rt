@@ -9,12 +9,11 @@ use crate::teller::Teller;
 use std::alloc::Global;
 use std::sync::Wait;
 use std::thread::Threads;
-use xa_atomicity::transfers_conserve_the_worth;
+use xa_atomicity::{managers_open_with_their_accounts, transfers_conserve_the_worth};
 use xa_crew::{CrewFault, Run, run_clients};
 use xa_log::DecisionLog;
 use xa_switch::Plan;
-use xa_switch::laws::managers_open_with_their_accounts;
-use xa_tables::laws::a_thread_adds_as_it_works;
+use xa_table_laws::a_thread_adds_as_it_works;
 use xa_worker::Free;
 
 /// What a day came to: each teller with what became of its transfers, and the settled opening.

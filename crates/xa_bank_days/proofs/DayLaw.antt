@@ -4,10 +4,11 @@ use Rattle.xa_base.proofs.{sym, ap, ◌∙◌, arith, All, Contains, All-nil, Al
 use Rattle.xa_base.proofs.{list_any, length-map, All-head, All-tail, rules, get-empty, was_mapped, Any-from_list_any, list_any_at}
 use Rattle.xa_base.specs.{MOST_MANAGERS, IsUpTo}
 use Rattle.xa_words.specs.{XidName, Decides-xid_eq, TranName, tran_of, Op, OpenRm, xid_eq, Commit, Heur, Request, xid_cmp, is_done}
+use Rattle.xa_table_laws.proofs.UnnamedLaw.{unnamed_on}
+use Rattle.xa_tables.proofs.Soundness.{opening_free}
 use Rattle.xa_tables.specs.{Tables, exists, is_left, state_of, AreLeft, IsOpening, NamesNowhere, names, is_declared, is_left_in, tables_after, History, opening}
 use Rattle.xa_tables.specs.{reopened}
 use Rattle.xa_tables.proofs.Reopening.{as_left, reopens}
-use Rattle.xa_tables.proofs.ValueLaw.{unnamed_on}
 use Rattle.xa_desk.specs.{ledger}
 use Rattle.xa_switch.specs.{Again, last_in, reopened_at, IsSettled, find_manager, first_of, history, ledgers_of, Settling, Plan, managers_in, accounts_of}
 use Rattle.xa_scan.specs.{left_at}
@@ -24,7 +25,6 @@ use Rattle.xa_work.specs.{WorkOutcome}
 use Rattle.xa_bank.specs.{Teller}
 use Rattle.xa_bank_days.specs.{DayAndNight, IsDawn, IsNamed, IsResolvedBy, all_told, balances_at, balances_of, all_applied, Bank, HaveNoRecord, IsOpenedBank}
 use Rattle.xa_bank_days.specs.{IsReady}
-use Rattle.xa_tables.proofs.Law.{opening_free}
 use Rattle.xa_days.proofs.Legs.{outcome_named}
 use Rattle.xa_bank_days.proofs.Went.{each_keeps, owner}
 use Rattle.xa_bank_days.proofs.Out.{only_one, day, night}

@@ -12,6 +12,7 @@ use Rattle.xa_bank.specs.{Transfer, AreLegs, Habits, death_in, shut_before, Make
 use Rattle.xa_bank.proofs.Legs.{AnyLeg, leg_work}
 use Rattle.xa_bank_days.specs.{Balances, all_applied, applied, share, IsNamed, is_applied, balances_at, IsWithin}
 use Rattle.xa_words.proofs.Xids.{xid_self}
+use Rattle.xa_table_laws.proofs.WorthLaw.{worth_law}
 use Rattle.xa_tables.specs.{Tables, state_of, names, DeclareEach, opening, is_declared, value_of, worth, worth_declared}
 use Rattle.xa_desk.specs.{LedgerView, DeskView, ledger}
 use Rattle.xa_switch.specs.{Again, Settling, first_of, ledgers_of, ManagerPlan, Plan, last_in, IsSound, IsSoundManager, ManagerPart, find_manager, value}
@@ -30,7 +31,6 @@ use Rattle.xa_bank_days.proofs.Come.{IsReadSo, has_come}
 use Rattle.xa_bank_days.proofs.Went.{left_is}
 use Rattle.xa_bank_days.proofs.Out.{Committed, IsScene, ItsLeg, call, day, first_leg, night, out_of, second_leg}
 use Rattle.xa_days.proofs.InARow.{opens_with}
-use Rattle.xa_tables.proofs.WorthLaw.{worth_law}
 
 -- one
 module _ (tr : Transfer) (m : ℕ) (k : List ℕ) where

@@ -5,6 +5,7 @@ use Rattle.xa_base.proofs.{slice_get, Some, inl, inr, sym, refl, ap, ◌∙◌, 
 use Rattle.xa_base.proofs.{◌++◌, IfOk, Result, Ok, Err, Global, all_mid, is_some, false, Option, all_at, all_from, was_mapped, All-map, all_unmapped}
 use Rattle.xa_base.specs.{IsUpTo}
 use Rattle.xa_words.specs.{TranName, is_done}
+use Rattle.xa_fates.proofs.ValueLaw.{declared_on}
 use Rattle.xa_tables.specs.{Tables, is_declared}
 use Rattle.xa_switch.specs.{Again, IsWhole, managers_in, reopened_at, reopening, first_of, IsOf, ManagerPart, Settling, last_in, history, IsSettled, value_in}
 use Rattle.xa_switch.proofs.SettledOpenings.{begun, follows_first}
@@ -20,7 +21,6 @@ use Rattle.xa_bank_days.specs.{IsReady, habits_on, has_account, told_on, told_ov
 use Rattle.xa_bank_days.proofs.Made.{all_applied_is, counts_for}
 use Rattle.std.specs.Prelude.{MatchResult}
 use Rattle.xa_driver.specs.{Resolved, Outcome}
-use Rattle.xa_tables.proofs.WorthLaw.{declared_on}
 use Rattle.xa_bank_days.proofs.Went.{are_read_back}
 
 -- lists that are mapped to one list are as long

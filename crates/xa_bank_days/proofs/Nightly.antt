@@ -8,6 +8,7 @@ use Rattle.xa_base.proofs.{same_Some as some_same, got_map, list_any_none, Conta
 use Rattle.xa_base.proofs.{got, All-filter, Contains-get_or, IfErr, le-ltb, IfErr-weaker, IsPermutation-sym, Contains-permutation}
 use Rattle.xa_base.specs.{Chain, IsUpTo, MOST_MANAGERS}
 use Rattle.xa_words.specs.{XidName, RmFail, Op, OpenRm, Commit, Rollback, Forget, Request, Code, TranName, is_rolled_back}
+use Rattle.xa_table_laws.proofs.WorthLaw.{others_first}
 use Rattle.xa_tables.specs.{State, is_S5, decision_in, Answer, next, coded, Tables, History, of_thread, tables_after, opening}
 use Rattle.xa_tables.proofs.Effects.{reason_rolls_back}
 use Rattle.xa_desk.specs.{LedgerView, is_rm_fail, learnt_shut, new_ledgers, no_ledger, room_at, DeskView, ledger, numbered}
@@ -30,7 +31,6 @@ use Rattle.xa_crew_again.specs.{WithScan, IsRunAgain, WorksWithScan}
 use Rattle.xa_bank.specs.{Teller}
 use Rattle.xa_bank.proofs.Days.{MemberAt, Never, member_at, nobody_else}
 use Rattle.xa_bank_days.proofs.Moved.{many_attended}
-use Rattle.xa_tables.proofs.WorthLaw.{others_first}
 
 -- ---- what a resolve asks for
 

@@ -3,7 +3,8 @@ use Rattle.xa_base.proofs.{after_seam, rules, pos, if◌then◌else◌, ◌≡�
 use Rattle.xa_base.proofs.{all_left, append_assoc, get_or, slice_get, sym, refl, ap, ◌∙◌, arith, Option, None, Some, option_map, All, Contains, cases_lt}
 use Rattle.xa_base.proofs.{All-nil, All-cons, All-head, All-tail, All-contains, begins_on, is_some, Bool, All-weaker, Contains-append_left}
 use Rattle.xa_words.specs.{key_eq, RdOnly, Op, Prepare, Request, Code, TranName, tran_of, RmFail}
-use Rattle.xa_tables.specs.{Tables, next, of_thread, tables_after, coded, names, is_heur, DoesWork, held_by, History, state_of}
+use Rattle.xa_table_laws.specs.{DoesWork}
+use Rattle.xa_tables.specs.{Tables, next, of_thread, tables_after, coded, names, is_heur, held_by, History, state_of}
 use Rattle.xa_desk.specs.{LedgerView, ledger, HasGrown, numbered, DeskView, HaveGrown}
 use Rattle.xa_worker.specs.{requests}
 use Rattle.xa_switch.specs.{Settling, IsSettled, ManagerPart, find_manager, sent, journal, journal_in, answers, IsOpenedWith, first_of, history, ledgers_of}

@@ -4,14 +4,18 @@ use Rattle.xa_base.proofs.{◌++◌, refl, sym, ap, ◌∙◌, option_map, All, 
 use Rattle.xa_base.proofs.{All-weaker, is_missing, +ℤ_idl as none_plus, +ℤ_idr as plus_none, at_false, inserted_there}
 use Rattle.std.specs.FinMap as map
 use Rattle.xa_words.specs.{XidName, xid_eq, key_eq, Decides-xid_eq, Decides-key_eq, Done, RdOnly, Op, Start, Add, End, Prepare, Fresh, Success, Request, Code}
+use Rattle.xa_table_laws.specs.{request, LeavesAtWork, DoesWork}
+use Rattle.xa_table_laws.proofs.WorthLaw.{added_law, not_ended, reason_not_done as not_done, OnlyOne, nobody_is, others_by, others_first, own_request}
+use Rattle.xa_table_laws.proofs.WorthLaw.{stays_apart}
+use Rattle.xa_fates.proofs.Moves.{Moves, Still, Ended, Added, moves_of, quiet_named}
+use Rattle.xa_tables.proofs.Soundness.{opening_free}
+use Rattle.xa_table_laws.proofs.UnnamedLaw.{unnamed_fate, unnamed_on, tables_after-append}
+use Rattle.xa_fates.proofs.ValueLaw.{get_without, get_added}
 use Rattle.xa_tables.specs.{Association, Associated, association_of, exists, is_S3, is_prepared, is_association_with, is_associated, branch_in, branch_of}
 use Rattle.xa_tables.specs.{state_of, sum_of, Answer, next, association, added, EndsNowhere, coded, tables_after, fate_of, ending, IsOpening, names, held_by}
-use Rattle.xa_tables.specs.{request, LeavesAtWork, DoesWork, Tables, History}
+use Rattle.xa_tables.specs.{Tables, History}
 use Rattle.xa_tables.proofs.AccountLemmas.{touch_cmp_total, touch_self}
-use Rattle.xa_tables.proofs.WorthLaw.{added_law, not_ended, reason_not_done as not_done, OnlyOne, nobody_is, others_by, others_first, own_request, stays_apart}
-use Rattle.xa_tables.proofs.Effects.{effect_of, Moves, Still, Ended, Added, moves_of, quiet_named}
-use Rattle.xa_tables.proofs.Law.{opening_free}
-use Rattle.xa_tables.proofs.ValueLaw.{unnamed_fate, unnamed_on, tables_after-append, get_without, get_added}
+use Rattle.xa_tables.proofs.Effects.{effect_of}
 
 -- ---- sums
 

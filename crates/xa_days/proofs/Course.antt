@@ -6,15 +6,18 @@ use Rattle.xa_atomicity.proofs.Sites.{fates_both, last_both}
 use Rattle.xa_atomicity.proofs.Values.{moved_both, moved_without, unmoving}
 use Rattle.xa_words.specs.{XidName, xid_eq, Decides-xid_eq, Done, Op, Prepare, Commit, Rollback, Request, Code, is_done, is_integrity, is_rolled_back}
 use Rattle.xa_tables.specs.declared.state.State.TheVariants.{Prepared as S3}
+use Rattle.xa_tables.proofs.Soundness.{Nowhere, AtWork, standing, voted_rests, sound_after, opening_sound}
+use Rattle.xa_fates.proofs.FateLaw.{nobody_rests, run_sound}
+use Rattle.xa_tables.proofs.SoundLemmas.{get_gone}
+use Rattle.xa_fates.proofs.ShutLaw.{late_leave_fates}
+use Rattle.xa_table_laws.proofs.UnnamedLaw.{unnamed_stays, unnamed_fate, tables_after-append}
+use Rattle.xa_table_laws.proofs.PreparedLaw.{outcome_law}
+use Rattle.xa_table_laws.proofs.WorthLaw.{kept_law}
 use Rattle.xa_tables.specs.{Tables, state_of, exists, is_S3, is_S5, is_left_in, is_somebody_associated, Answer, next, Fate, InDoubt, Committed, RolledBack}
 use Rattle.xa_tables.specs.{fate, fate_in, fates_in, fate_of, coded, ending_by, is_in_doubt, is_live, last_or, tables_after, IsOpening, reopened, reopened_fate}
 use Rattle.xa_tables.specs.{fate_left, HeuristicDecision, names, IsPrepared, state_when, fates_when, held_by, moved, moved_by, History}
 use Rattle.xa_tables.proofs.Effects.{Effect, Stays, Commits, Drops, Forgets, effect_of, named_none}
-use Rattle.xa_tables.proofs.Law.{Nowhere, AtWork, standing, voted_rests, nobody_rests, get_gone, sound_after, run_sound, opening_sound, late_leave_fates}
-use Rattle.xa_tables.proofs.ValueLaw.{unnamed_stays, unnamed_fate, tables_after-append}
 use Rattle.xa_tables.proofs.Reopening.{reopens, state_reopened, sums_reopened}
-use Rattle.xa_tables.proofs.PreparedLaw.{outcome_law}
-use Rattle.xa_tables.proofs.WorthLaw.{kept_law}
 use Rattle.xa_driver.specs.{is_commit}
 use Rattle.xa_days.specs.{moved_over, is_for, CommitsNowhere, tells_outcome, OnlyTold, is_committed, is_outcome, is_undecided, Votes, voted_sum}
 use Rattle.xa_days.specs.{MovesWhereCommitted}

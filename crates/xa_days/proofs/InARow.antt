@@ -7,9 +7,11 @@ use Rattle.xa_tables.specs.declared.state.HeuristicDecision.TheVariants as decis
 use Rattle.xa_atomicity.proofs.Values.{unmoving}
 use Rattle.xa_base.specs.{total}
 use Rattle.xa_words.specs.{XidName, xid_eq, Decides-xid_eq, Op, Commit, Heur, Request, Code, key_cmp_total, are_accounts}
+use Rattle.xa_fates.proofs.ValueLaw.{worth_from, declared_on}
+use Rattle.xa_table_laws.proofs.WorthLaw.{worth_law}
+use Rattle.xa_fates.proofs.FateLaw.{begin_law}
 use Rattle.xa_tables.specs.{Tables, next, tables_after, IsOpening, reopened, left_by, names, worth, moved, moved_by, is_any, DeclareEach, History, opening}
 use Rattle.xa_tables.specs.{HeuristicDecision, state_of, Fate, Absent, IsFateOf, decided_fate, reopened_fate, fate_left, worth_declared}
-use Rattle.xa_tables.proofs.WorthLaw.{worth_from, declared_on, worth_law}
 use Rattle.xa_driver.specs.{is_commit, Ending}
 use Rattle.xa_days.specs.{moved_over, is_for, CommitsAmong, WorthIsOfBranches, WorthIsRecorded, IsDay, Leg, counted, ComesOut, Votes, OnlyTold, is_committed}
 use Rattle.xa_days.specs.{is_undecided, branch_at, ComesOutByTheLog, IsSettledDay, SettledWorthIsRecorded}
@@ -17,7 +19,6 @@ use Rattle.xa_days.specs.Days.{voted as voted_leg, unasked as unasked_leg}
 use Rattle.xa_days.proofs.Course.{Accounts, moved_for, still_over, voted_law, ended_law, undecided_law}
 use Rattle.xa_words.specs.Orders.{key_cmp}
 use Rattle.xa_tables.proofs.AccountLemmas.{key_self, same_key}
-use Rattle.xa_tables.proofs.Reopening.{begin_law}
 use Rattle.xa_switch.specs.{IsSettled, IsOpenedWith, first_of, history, settled_fate}
 use Rattle.xa_switch.proofs.SettledOpenings.{follows_first}
 use Rattle.xa_atomicity.specs.{CutCall, Opening, AreInARow, EndsAs, became, ended_as, fate_through, last_of, tables_left, histories}

@@ -11,6 +11,7 @@ use Rattle.xa_atomicity.specs.{Tabled, IsCut, is_commit_of, is_recorded, OnlyThe
 use Rattle.xa_atomicity.specs.{OnlyResolves, Opening, cuts, WasAsked, EndsByTheLog, IsResolvedAfter, known_of, EndsAs, ResolveCall, histories}
 use Rattle.xa_base.specs.{MOST_MANAGERS, IsUpTo}
 use Rattle.xa_words.specs.{XidName, Decides-xid_eq, TranName, tran_of, Done, Op, Prepare, Forget, Request, Code, RdOnly}
+use Rattle.xa_table_laws.proofs.WorthLaw.{read_law}
 use Rattle.xa_tables.specs.{Tables, History, names, is_heur, tables_after, held_by}
 use Rattle.xa_desk.specs.{LedgerView, ledger, HasGrown, learnt_shut}
 use Rattle.xa_switch.specs.{IsOpenedWith, first_of, history as history_of, ledgers_of, IsSettled, Settling}
@@ -25,7 +26,6 @@ use Rattle.xa_days.specs.{agreed, read, IsItsOwn, asked_sum, leg_of, OnlyRead, C
 use Rattle.xa_atomicity.proofs.OneOutcome.{third_so, positive_all}
 use Rattle.xa_driver.proofs.Calls.{one_tran}
 use Rattle.xa_driver.proofs.Mapped.{Any, IsAskedFor, any_asked}
-use Rattle.xa_tables.proofs.WorthLaw.{read_law}
 use Rattle.xa_atomicity.proofs.Presumed.{use_there}
 use Rattle.xa_days.specs.SettledDays.{voted, unasked}
 

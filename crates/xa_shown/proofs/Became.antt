@@ -9,9 +9,10 @@ use Rattle.xa_tables.specs.Histories as history
 use Rattle.xa_grammar.specs.declared.step.Action.TheVariants as action
 use Rattle.xa_words.specs.{Code, RmFail, Op, Start, Prepare, Listed, Fresh, Request, XidName, Done, xid_eq, check_flags, Call, Mode, RmOp, Decides-xid_eq}
 use Rattle.xa_words.specs.{TranName}
+use Rattle.xa_fates.proofs.ShutLaw.{shut_stays, next-shut}
+use Rattle.xa_table_laws.proofs.UnnamedLaw.{tables_after-append}
 use Rattle.xa_tables.specs.{State, reason_in, decision_in, Answer, next, by_rules, Tables, History, HeuristicDecision, state_of, Fate, decided_fate, fate}
 use Rattle.xa_tables.specs.{tables_after, is_heur, names, of_thread}
-use Rattle.xa_tables.proofs.Law.{shut_stays, next-shut}
 use Rattle.xa_desk.specs.{is_rm_fail, numbered}
 use Rattle.xa_worker.specs.{Entry, codes_in, requests}
 use Rattle.std.proofs.lemmas.List.Folds.{list_any-from_Any}
@@ -31,7 +32,6 @@ use Rattle.xa_telling.proofs.Entries.{requests_kept, Fits, agreed_fits, is_rm_fa
 use Rattle.xa_atomicity.proofs.Fated.{decided_in}
 use Rattle.xa_atomicity.proofs.Guided.{IsGuided, at_last, decided_known, fates_from, voted_now, once}
 use Rattle.xa_atomicity.proofs.Leading.{Stands, over, unforgotten, waits}
-use Rattle.xa_tables.proofs.ValueLaw.{tables_after-append}
 use Rattle.xa_base.specs.Lists.Chain.{more as one_step}
 use Rattle.xa_calls.specs.Asking.{◌>>=◌}
 use Rattle.xa_calls.specs.{Asked as WantedOp, op_by, asked_of, rm_op, Recovers, RecoversBy}

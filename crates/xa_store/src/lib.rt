@@ -7,8 +7,6 @@
 //! crash before the settle, or in the middle of it, leaves that or what the settle before has left.
 #![tactic(auto)]
 
-mod laws;
 mod store;
 
-pub use laws::a_crash_is_a_shut;
 pub use store::{NoStore, Store, StoreFault, settle_or_stop};

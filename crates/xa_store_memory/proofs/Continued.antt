@@ -1,8 +1,8 @@
 -- Histories that go on.
 use Rattle.xa_base.proofs.{◌≡◌, [], ◌∷◌, ◌++◌, sym, ap, ◌∙◌}
 use Rattle.xa_words.specs.{Code, Request}
+use Rattle.xa_table_laws.proofs.UnnamedLaw.{tables_after-append}
 use Rattle.xa_tables.specs.{Answer, History, Tables, next, tables_after}
-use Rattle.xa_tables.proofs.ValueLaw.{tables_after-append}
 
 -- the tables after one more request are those that it makes of the tables before it
 pub one_later : (before after : History) (r : Request) (first T : Tables) → after ≡ before ++ r ∷ [] → T ≡ tables_after before first

@@ -4,7 +4,7 @@
 //! The pieces of an opening come from it. A desk keeps its seat at every call and as it ends, a worker at
 //! every step and as it runs, which each of them says itself; so the seats of what is left at the end are
 //! those of the opening.
-ghost use Rattle.std.specs.Prelude.{◌≡◌, ◌≢◌, ℕ, ◌≤◌, List, ◌++◌, length, map, Some};
+ghost use Rattle.std.specs.Prelude.{◌≡◌, ◌≢◌, ℕ, List, ◌++◌, map, Some};
 ghost use Rattle.std.specs.List.{All};
 ghost use Rattle.std.specs.List.Sorted.{IsPermutation};
 ghost use Rattle.xa_tables.specs.Managers.{opening};
@@ -16,21 +16,19 @@ ghost use Rattle.xa_desk.specs.Kept.{AllKept};
 ghost use Rattle.xa_desk.specs.Ended.{EndedView};
 ghost use Rattle.xa_worker.specs.Done.{Served};
 ghost use Rattle.xa_worker.specs.Workers.{WorkerView};
-ghost use Rattle.xa_switch.specs.declared.plan.Plan.{Plan};
 ghost use Rattle.xa_switch.specs.declared.plan.Again.{Again};
 ghost use Rattle.xa_switch.specs.Reopening.{IsWhole, reopening, reopened_at};
 ghost use Rattle.xa_switch.specs.Closing.{settling};
-ghost use Rattle.xa_switch.specs.OfPlans.{IsOf, IsOfPlan};
-ghost use Rattle.xa_switch.specs.Plans.{Setup, IsSoundManager};
+ghost use Rattle.xa_switch.specs.OfPlans.{IsOf};
+ghost use Rattle.xa_switch.specs.Plans.{Setup};
 ghost use Rattle.xa_switch.specs.OpenedPieces.{AreOfOneOpening};
 ghost use Rattle.xa_switch.specs.Settled.{Settling, IsSettled};
 ghost use Rattle.xa_switch.specs.Fates.{IsOpenedWith, IsSumOver, first_of};
-ghost use Rattle.xa_switch.specs.Worth.{WorthIsOfThreads, accounts_of};
 ghost use Rattle.xa_switch.specs.Belonging.{DeskSeat, WorkerSeat, ComeFromOpenings, AreSomeOf, AreAll, desk_seats};
 ghost use Rattle.xa_switch.specs.Belonging.{worker_seats, openings_of, seat_of_desk, seat_of_worker};
 
 use crate::settling::settled::Settled;
-use xa_tables::laws::{commits_alone_move_the_worth, value_is_sum};
+use xa_fates::value_is_sum;
 
 /// The desks and workers that an opening gives come from it.
 #[tactic(auto, using(crate::proofs::Meeting::opened))]
@@ -87,12 +85,6 @@ pub fn settled_journals_follow_the_tables()
     ensures first { (s : Settling) (m : ℕ) (T : Tables) → IsSettled s → first_of s m ≡ Some T → IsOpenedWith s m T }
 {}
 
-/// In a settled opening of a plan the tables that a manager began with are those of the plan's accounts.
-pub fn managers_open_with_their_accounts()
-    ensures { (p : Plan) (s : Settling) (m : ℕ) → IsSettled s → IsOfPlan p s → 1 ≤ m → m ≤ length p.managers.items
-        → IsOpenedWith s m (opening (accounts_of p m)) }
-{}
-
 /// In a settled opening the values are those that the first opening had, and each accepted addition whose branch
 /// commits later, in its own opening or in another, whichever openings left what its managers began with.
 #[tactic(auto, using(crate::proofs::SettledOpenings::sums))]
@@ -101,16 +93,6 @@ pub fn settled_values_are_sums()
         → first_of s m ≡ Some (left_by before T) → IsSumOver s m before T }
 {
     value_is_sum();
-}
-
-/// What all accounts are worth together after the journals is what was declared and what each thread's
-/// Commits have moved.
-#[tactic(auto, using(crate::proofs::SettledOpenings::worth_law))]
-pub fn threads_move_the_worth()
-    ensures { (p : Plan) (s : Settling) → IsSettled s → IsOfPlan p s → All IsSoundManager p.managers.items
-        → WorthIsOfThreads p s }
-{
-    commits_alone_move_the_worth();
 }
 
 /// At the desks of an opening nothing is outstanding that isn't kept.

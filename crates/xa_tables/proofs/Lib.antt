@@ -3,12 +3,7 @@ pub mod SoundLemmas
 pub mod AccountLemmas
 pub mod PlaceLemmas
 pub mod Effects
-pub mod Law
-pub mod ValueLaw
-pub mod WorthLaw
-pub mod PreparedLaw
+pub mod Soundness
 pub mod Reopening
-pub mod DurableLaw
 pub mod HeldSums
 pub mod Restoring
-pub mod Storing

@@ -8,10 +8,8 @@ pub mod Held
 pub mod Managers
 pub mod Histories
 pub mod Openings
-pub mod Worked
 pub mod Prepared
 pub mod Worth
-pub mod Work
 pub mod Durable
 pub mod Restored
 -- The words of this crate, by its name.
@@ -49,15 +47,11 @@ pub use Histories.{is_shut, is_unfinished, last_or, late, of_thread, or_later, p
 pub use Histories.{rollback_fate, share, share_of, start_fate, tables_after}
 pub use Openings.{AreLeft, FatesAreTold, IsNew, IsOpening, ValueIsSum, added_over, commits_over, fate_left, fate_over}
 pub use Openings.{left_by, reopened, reopened_fate, told_by, value_over}
-pub use Worked.{begun_again, branch, commits_after, committed_later, decided, decided_then, ended_then, entry, failed}
-pub use Worked.{fate_after, forgotten_later, gone_later, overdrawn, rolled_back_later, transferred, unchanged, undone}
-pub use Worked.{adding, another, one_completed, taking, two_keys, two_prepared, value_after, voted, voted_then, worked}
 pub use Prepared.{AwaitsAfter, AwaitsTheOutcome, IsPrepared, IsTold, LeavesWaiting, NamesNowhere, OnlyDecides}
 pub use Prepared.{StaysAsItWas, StaysPrepared, answer_when, closes, fates_when, has_shut, is_close, is_forget, is_heur}
 pub use Prepared.{names, state_when}
 pub use Worth.{DeclareEach, HoldsItsAdditions, WorthIsMoved, WorthIsMovedFrom, added_by_now, gain, held_by, is_any}
 pub use Worth.{is_of, moved, moved_by, unless_ended, worth, worth_declared}
-pub use Work.{AddsAsItWorks, DoesWork, LeavesAtWork, request}
 pub use Durable.{FindsAlike, is_durable_at, is_settling, moves_values}
 pub use Restored.{HasEachOnce, IsStoreOf, Stored, amount_fault, branch_fault, fault_beside, fault_of, first_fault}
 pub use Restored.{restored, stored, stored_state, stored_value, sum_entries, sum_fault, sums_fault}

@@ -5,9 +5,8 @@ use Rattle.std.proofs.lemmas.Map.Keys.{IsDistinct-IsPermutation}
 use Rattle.std.proofs.lemmas.Map.Made.{IsDistinct-keys_filter, is_some-lookup}
 use Rattle.std.proofs.lemmas.Map.Entries.{option_filter, lookup-filter-values}
 use Rattle.xa_words.specs.{xid_eq, xid_cmp_total, xid_cmp-IsAntisymmetric, xid_eq-by_cmp}
+use Rattle.xa_tables.proofs.SoundLemmas.{swap_xid, xid_eq_laws}
 use Rattle.xa_tables.specs.{State, is_left_in}
-use Rattle.xa_tables.proofs.Law.{swap_xid}
-use Rattle.xa_tables.proofs.SoundLemmas.{xid_eq_laws}
 use Rattle.xa_tables.proofs.branches.Branches.left.Goals as goal
 
 abbrev is_kept : State → Bool

@@ -1,6 +1,6 @@
 use Rattle.xa_base.proofs.{◌≤◌, rules, sym, ap, arith}
+use Rattle.xa_tables.proofs.Soundness.{live_after}
 use Rattle.xa_tables.specs.{Answer}
-use Rattle.xa_tables.proofs.Law.{live_after}
 use Rattle.xa_tables.proofs.ThreadLemmas.{places_paid}
 use Rattle.xa_tables.proofs.manager.Manager.apply.Goals as goal
 

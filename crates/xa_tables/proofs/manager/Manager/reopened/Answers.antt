@@ -1,7 +1,7 @@
 use Rattle.xa_base.proofs.{◌≡◌, Some, rules, ap, ◌∙◌, arith, nat_cmp, contains-empty}
 use Rattle.std.specs.FinSet as set
+use Rattle.xa_tables.proofs.Soundness.{live_opening}
 use Rattle.xa_tables.specs.{Tables}
-use Rattle.xa_tables.proofs.Law.{live_opening}
 use Rattle.xa_tables.proofs.ThreadLemmas.{none_free}
 use Rattle.xa_tables.proofs.Reopening.{reopens}
 use Rattle.xa_tables.proofs.manager.Manager.reopened.Goals as goal

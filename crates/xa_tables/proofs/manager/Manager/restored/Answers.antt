@@ -1,7 +1,7 @@
 use Rattle.xa_base.proofs.{rules, ap, ◌∙◌, arith, nat_cmp, contains-empty}
 use Rattle.std.specs.FinSet as set
+use Rattle.xa_tables.proofs.Soundness.{live_opening}
 use Rattle.xa_tables.specs.{Tables, stored}
-use Rattle.xa_tables.proofs.Law.{live_opening}
 use Rattle.xa_tables.proofs.ThreadLemmas.{none_free}
 use Rattle.xa_tables.proofs.Restoring.{restored_opens}
 use Rattle.xa_tables.proofs.manager.Manager.restored.Goals as goal

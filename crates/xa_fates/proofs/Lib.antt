@@ -1,0 +1,5 @@
+pub mod ShutLaw
+pub mod Moves
+pub mod FateLaw
+pub mod ValueLaw
+pub mod SumLaw
