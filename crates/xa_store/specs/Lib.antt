@@ -1,3 +1,3 @@
 pub mod Stores
 -- The words of this crate, by its name.
-pub use Stores.{AreDurable, shut_at, shut_by}
+pub use Stores.{AreDurable, Keeps}

@@ -5,6 +5,8 @@
 //! [`Store`] is told of each request that the manager has carried out, and settles what it was told before any answer
 //! of it is sent. After a settle a crash leaves what a reopening keeps of the manager's tables, and nothing else. A
 //! crash before the settle, or in the middle of it, leaves that or what the settle before has left.
+//!
+//! A manager that is opened again in one process has its store reopened with it.
 #![tactic(auto)]
 
 mod store;

@@ -1,5 +1,6 @@
 //! What every store keeps to, and a store that keeps nothing.
-ghost use Rattle.std.specs.Prelude.{◌≡◌, ◌⊎◌, Bool, OnOk, IsOk, false};
+ghost use Rattle.std.specs.Prelude.{◌≡◌, ◌⊎◌, ◌≤◌, Bool, IfErr, IfOk, IsOk, OnOk, false};
+ghost use Rattle.xa_base.specs.declared.limits.TheConstants.{MOST_JOURNALED, MOST_THREADS};
 ghost use Rattle.xa_tables.specs.ManagerTables.{Tables};
 ghost use Rattle.xa_tables.specs.Managers.{AreAssociationsLive};
 ghost use Rattle.xa_tables.specs.Next.{next};
@@ -8,6 +9,7 @@ ghost use Rattle.xa_store.specs.Stores.{AreDurable};
 
 use std::sync::Wait;
 use std::thread;
+use xa_base::{MOST_JOURNALED, MOST_THREADS};
 use xa_tables::Manager;
 use xa_words::{Code, Request};
 
@@ -65,6 +67,18 @@ pub trait Store {
             → OnOk result (AreDurable (may_leave self.new) manager.now.tables) }
         ensures crash { knows self.old manager.now.tables → (K : Tables) → may_leave self.new K
             → (K ≡ reopened manager.now.tables) ⊎ may_leave self.old K };
+
+    /// The store of the same manager at its next opening in this process, which carries out `room` requests of threads
+    /// 1 to `threads`: it knows what the reopening makes of the tables that are settled. What a crash leaves stays.
+    ///
+    /// It fails only for want of memory, and comes back as it was.
+    fn reopened(self, threads: u32, room: u32) -> Result<Self, Self>
+        requires threads { (1 ≤ threads) × (threads ≤ MOST_THREADS) }
+        requires room { (1 ≤ room) × (room ≤ MOST_JOURNALED) }
+        ensures known { (T : Tables) → knows self T → AreDurable (may_leave self) T
+            → IfOk result (λ s. knows s (reopened T)) }
+        ensures crash { IfOk result (λ s. (K : Tables) → may_leave s K → may_leave self K) }
+        ensures refused { IfErr result (λ s. s ≡ self) };
 }
 
 /// Settles, or never returns: no answer may go out that a crash would take back.
@@ -113,5 +127,12 @@ impl Store for NoStore {
         ensures { IsOk result }
     {
         Ok(())
+    }
+
+    #[inline(always)]
+    fn reopened(self, _threads: u32, _room: u32) -> Result<NoStore, NoStore>
+        ensures { IsOk result }
+    {
+        Ok(self)
     }
 }

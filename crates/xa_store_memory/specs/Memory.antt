@@ -93,3 +93,8 @@ after_settle s =
     if not (can_write s) then failed s
     else if is_due s.failing then failed (if s.keeps then written s else s)
     else written (counted_down s)
+
+-- its twin is reopened, for so many threads and requests, and what isn't settled is gone
+abbrev pub reopened_for : ℕ → ℕ → StoreView → StoreView
+reopened_for threads room s =
+    record s { settled = reopened s.settled; told = []; threads = threads; spare = room }

@@ -1,6 +1,6 @@
 //! A store in memory, which may be made to fail.
 ghost use Rattle.std.specs.Prelude.{◌≡◌, ◌⊎◌, ◌≤◌, ◌+◌, ◌++◌, ◌∷◌, ◌<◌, [], false, true, length, None, Some};
-ghost use Rattle.std.specs.Prelude.{IfOk, OnOk, is_ok, vec_len, vec_capacity, nat_lt, not};
+ghost use Rattle.std.specs.Prelude.{IfErr, IfOk, OnOk, is_ok, vec_len, vec_capacity, nat_lt, not};
 ghost use Rattle.std.specs.List.{All};
 ghost use Rattle.xa_base.specs.Lists.{IsUpTo};
 ghost use Rattle.xa_tables.specs.ManagerTables.{Tables};
@@ -10,13 +10,14 @@ ghost use Rattle.xa_tables.specs.Histories.{tables_after};
 ghost use Rattle.xa_tables.specs.Openings.{reopened};
 ghost use Rattle.xa_store.specs.Stores.{AreDurable};
 ghost use Rattle.xa_store_memory.specs.Memory.{Knows, MayLeave, after_settle, after_tell, can_write};
-ghost use Rattle.xa_store_memory.specs.Memory.{counted_down, failed};
+ghost use Rattle.xa_store_memory.specs.Memory.{counted_down, failed, reopened_for};
 ghost use Rattle.xa_store_memory.specs.Memory.{fits, is_due, owes, settles, store_of, written};
 
 use std::alloc::{AllocError, Global};
 use std::marker::Model;
 use xa_base::{MOST_JOURNALED, MOST_THREADS};
 use xa_store::{Store, StoreFault};
+use xa_table_laws::a_second_reopening_changes_nothing;
 use xa_tables::Manager;
 use xa_words::{Code, Op, Request, RmOp, Xid};
 
@@ -250,5 +251,44 @@ impl Store for MemoryStore {
         self.count_down();
         self.write();
         Ok(())
+    }
+
+    fn reopened(self, threads: u32, room: u32) -> Result<MemoryStore, MemoryStore>
+        requires threads { (1 ≤ threads) × (threads ≤ MOST_THREADS) }
+        requires room { (1 ≤ room) × (room ≤ MOST_JOURNALED) }
+        ensures known { (T : Tables) → Knows self T → AreDurable (MayLeave self) T
+            → IfOk result (λ s. Knows s (reopened T)) }
+        ensures crash { IfOk result (λ s. (K : Tables) → MayLeave s K → MayLeave self K) }
+        ensures refused { IfErr result (λ s. s ≡ self) }
+        ensures after { IfOk result (λ s. s ≡ reopened_for threads room self) }
+    {
+        a_second_reopening_changes_nothing();
+        let MemoryStore {
+            mut manager,
+            threads: before,
+            mut told,
+            failing,
+            keeps,
+            is_failed,
+        } = self;
+        if manager.reserve_reopen(threads, room).is_err() {
+            return Err(MemoryStore {
+                manager,
+                threads: before,
+                told,
+                failing,
+                keeps,
+                is_failed,
+            });
+        }
+        told.clear();
+        Ok(MemoryStore {
+            manager: manager.reopened(threads, room),
+            threads,
+            told,
+            failing,
+            keeps,
+            is_failed,
+        })
     }
 }

@@ -6,3 +6,4 @@ pub mod WorthLaw
 pub mod PreparedLaw
 pub mod DurableLaw
 pub mod Storing
+pub mod TwiceReopened

@@ -28,3 +28,10 @@ pub fn stores_of_the_tables_restore_them()
         → are_accounts accounts ≡ true → IsStoreOf s (tables_after h (left_by before (opening accounts)))
         → HasEachOnce s → fault_of s ≡ None }
 {}
+
+/// What a reopening has made of the tables is reopened as it is: openings one after another, in which nothing is done,
+/// change nothing that is durable.
+#[tactic(auto, using(crate::proofs::TwiceReopened::again_the_same))]
+pub fn a_second_reopening_changes_nothing()
+    ensures { (T : Tables) → reopened (reopened T) ≡ reopened T }
+{}
