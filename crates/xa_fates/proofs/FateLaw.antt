@@ -6,7 +6,7 @@ use Rattle.xa_tables.proofs.Reopening.{left_opens, new_opens, reopens, state_reo
 use Rattle.xa_tables.specs.{Failed, Transient, stated, Live, InDoubt, Committed, HeurCommitted, HeurRolledBack, if_named, Tables, Answer, next, tables_after}
 use Rattle.xa_tables.specs.{accepted, coded, fates_in, History, Fate, fate, fate_of, last_or, State, Active, Idle, RollbackOnly, HeuristicallyCompleted}
 use Rattle.xa_tables.specs.{HeuristicDecision, state_of, is_S3, is_S5, is_somebody_associated, ending_by, Absent, is_in_doubt, is_unfinished, decided_fate}
-use Rattle.xa_tables.specs.{IsOpening, told_by, opening, IsNew, reopened, left_by, IsFateOf, reopened_fate, fate_left, FatesAreTold}
+use Rattle.xa_tables.specs.{IsOpening, told_by, IsNew, reopened, left_by, IsFateOf, reopened_fate, fate_left, FatesAreTold}
 use Rattle.xa_words.specs.{xid_eq, XidName, Op, Decides-xid_eq, xid_cmp}
 use Rattle.xa_tables.proofs.Effects.{Starts, Effect, effect_of, Stays, Joins, Resumes, Fails, Idles, Dooms, Prepares, Commits, Drops, CommitsByItself}
 use Rattle.xa_tables.proofs.Effects.{RollsBackByItself, Forgets, named_none}

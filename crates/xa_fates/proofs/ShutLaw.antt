@@ -1,5 +1,4 @@
 -- What comes after the first Shut is refused, changes nothing and makes nothing of any branch.
-use Rattle.xa_tables.proofs.Soundness.{changes}
 use Rattle.xa_tables.specs.{Tables, Answer, next, if_opened, by_rules, shut_down, tables_after, is_shut, accepted, coded, fates_in, History, codes}
 use Rattle.xa_tables.specs.{LateAreRefused, LateChangeNothing, Fate, fate, fate_in, fate_of, last_or}
 use Rattle.xa_words.specs.{XidName, Done, RmFail, Op, Shut, Request}

@@ -3,7 +3,7 @@ use Rattle.xa_base.proofs.{◌≡◌, List, ℕ, None, Option, Bool, true, false
 use Rattle.std.specs.FinSet as set
 use Rattle.std.specs.FinMap as map
 use Rattle.xa_words.specs.{XidName, xid_cmp_total, xid_cmp-IsAntisymmetric}
-use Rattle.xa_tables.specs.{State, Tables, is_left, is_S3, is_left_in, is_prepared, reopened, state_of}
+use Rattle.xa_tables.specs.{Tables, is_left, is_prepared, reopened, state_of}
 use Rattle.xa_tables.proofs.AccountLemmas.{touch_cmp_total, touch_cmp-IsAntisymmetric}
 use Rattle.xa_tables.proofs.Reopening.{as_left, state_reopened, sums_reopened}
 
@@ -12,11 +12,8 @@ kept_twice : {X : Type 0} (b : Bool) (o : Option X) → cond b (cond b o None) N
 kept_twice true o = refl
 kept_twice false o = refl
 
-still_prepared : (o : Option State) → is_S3 (cond (is_left_in o) o None) ≡ is_S3 o
-still_prepared o = grind arith
-
 as_prepared : (T : Tables) (x : XidName) → is_prepared (reopened T) x ≡ is_prepared T x
-as_prepared T x = ap is_S3 (state_reopened T x) ∙ still_prepared (state_of T x)
+as_prepared T x = grind (arith, state_reopened)
 
 same_states : (T : Tables) (x : XidName) → state_of (reopened (reopened T)) x ≡ state_of (reopened T) x
 same_states T x =

@@ -3,7 +3,7 @@ use Rattle.xa_base.proofs.{◌≡◌, ℕ, ℤ, Bool, true, cond, not, ◌&&◌,
 use Rattle.xa_base.proofs.{none_passes, ◌++◌, map, get-retain_keys}
 use Rattle.xa_words.specs.{XidName, xid_cmp, xid_eq, xid_cmp-IsAntisymmetric}
 use Rattle.xa_tables.specs.{State, Touch, touch_cmp, state_of, is_S3, is_left_in, is_left, is_prepared, is_within, value_of, ArePreparedSound, opening}
-use Rattle.xa_tables.specs.{tables_after, IsNew, IsOpening, AreLeft, reopened, left_by, Tables, History, next}
+use Rattle.xa_tables.specs.{tables_after, IsNew, IsOpening, AreLeft, reopened, left_by, Tables, History}
 use Rattle.xa_tables.proofs.AccountLemmas.{touch_cmp_total, touch_cmp-IsAntisymmetric}
 use Rattle.std.specs.FinMap as map
 
