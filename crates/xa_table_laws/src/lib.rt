@@ -15,7 +15,10 @@ pub use branches::{
     only_prepared_branches_are_decided, prepared_branches_await_the_outcome,
     prepared_branches_stay_prepared, refused_prepares_tell_integrity, unnamed_branches_stay,
 };
-pub use durable::{few_requests_change_what_is_durable, stores_of_the_tables_restore_them};
+pub use durable::{
+    a_second_reopening_changes_nothing, few_requests_change_what_is_durable,
+    stores_of_the_tables_restore_them,
+};
 pub use shutting::{a_crash_is_a_shut, only_a_shut_shuts, shut_managers_decide_nothing};
 pub use values::{
     a_thread_adds_as_it_works, adders_never_vote_read_only, branches_hold_their_additions,
