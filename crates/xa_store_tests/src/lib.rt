@@ -7,3 +7,5 @@ mod crashes;
 mod histories;
 #[cfg(test)]
 mod limits;
+#[cfg(test)]
+mod watched;

@@ -1,0 +1,14 @@
+-- What becomes of a run.
+use Rattle.std.specs.Prelude.{◌≡◌, Result, Ok, Err}
+use Rattle.xa_watch.specs.declared.run.Stopped.{Stopped}
+use Rattle.xa_watch.specs.declared.run.Stopped.TheVariants.{Failed, NotBegun}
+
+-- it was done, or it came back as it was
+abbrev pub Comes : {W D : Type 0} → (W → D → Type 0) → W → Result D W → Type 0
+Comes comes_to run (Ok done) = comes_to run done
+Comes comes_to run (Err back) = back ≡ run
+
+-- where nothing was done it came back as it was
+abbrev pub IsBack : {W : Type 0} → W → Stopped W → Type 0
+IsBack run (NotBegun back) = back ≡ run
+IsBack run (Failed store) = Unit {0}
