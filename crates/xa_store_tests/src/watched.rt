@@ -4,7 +4,6 @@ use crate::histories::{Served, history};
 use std::alloc::Global;
 use std::process::Abort;
 use std::sync::Wait;
-use std::thread::Threads;
 use xa_store::{Store, settle_or_stop};
 use xa_store_memory::MemoryStore;
 use xa_watch::{Run, Stopped, Watch, Watched, run_watched};
@@ -17,12 +16,12 @@ struct Settles {
     times: u32,
 }
 
-impl Run<MemoryStore> for Settles {
+impl<R: Wait> Run<R, MemoryStore> for Settles {
     ghost can_run = { λ _. Unit {0} };
 
     ghost comes_to = { λ _ _. Unit {0} };
 
-    fn run<R: Threads + Wait + Copy + Send + 'static>(self, rt: &R) -> MemoryStore {
+    fn run(self, rt: &R) -> MemoryStore {
         let Settles {
             mut store,
             served,

@@ -1,7 +1,13 @@
 -- What becomes of a run.
 use Rattle.std.specs.Prelude.{◌≡◌, Result, Ok, Err}
+use Rattle.std.specs.declared.thread.PromisedHandle.{PromisedHandle}
+use Rattle.xa_watch.specs.declared.run.DoneOf.{DoneOf}
 use Rattle.xa_watch.specs.declared.run.Stopped.{Stopped}
 use Rattle.xa_watch.specs.declared.run.Stopped.TheVariants.{Failed, NotBegun}
+
+-- the thread is at this run
+abbrev pub IsAt : {R W D : Type 0} → W → PromisedHandle (Result D W) (DoneOf R W) → Type 0
+IsAt run hand = hand.promise.0.value ≡ run
 
 -- it was done, or it came back as it was
 abbrev pub Comes : {W D : Type 0} → (W → D → Type 0) → W → Result D W → Type 0
