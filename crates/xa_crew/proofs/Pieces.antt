@@ -1,5 +1,5 @@
 -- The pieces of an opening are all there, and come from it; what the members of a crew came to; what is kept as a desk ends.
-use Rattle.xa_base.proofs.{partner, has_number, along, ◌≡◌, ℕ, ◌+◌, ◌-◌, ◌<◌, List, [], ◌∷◌, length, map, Some, sym, refl, ap, ◌∙◌, arith, slice_get}
+use Rattle.xa_base.proofs.{partner, has_number, along, ◌≡◌, ℕ, ◌+◌, ◌<◌, List, [], ◌∷◌, length, map, Some, sym, refl, ap, ◌∙◌, arith, slice_get}
 use Rattle.xa_base.proofs.{length-map, all_from, map_alike, zero, suc, All, some_same, all_at, tail_side, side_of, rules, side_to, None, nat_cmp, removed_there}
 use Rattle.xa_base.proofs.{removed_none, IsPermutation, IsPermutation-refl}
 use Rattle.std.specs.FinMap as finmap
@@ -40,14 +40,15 @@ module _ (out : GoOut) (p : Setup) (ended : List EndedView) (done : List Served)
   from_opening come = search (arith, same_desks, same_workers)
 
   -- what is known of a desk that has ended, and of a worker that has run
-  ended_is : (k : ℕ) (e : EndedView) → slice_get ended k ≡ Some e → (e.thread ≡ k + 1) × (desk_opening e ≡ p.numbers.opening) × (length e.ledgers ≡ p.managers)
+  pub ended_is : (k : ℕ) (e : EndedView) → slice_get ended k ≡ Some e
+      → (e.thread ≡ k + 1) × (desk_opening e ≡ p.numbers.opening) × (length e.ledgers ≡ p.managers)
   ended_is k e at =
       let (d, there, gone) = partner HasGone r.desks ended r.gone k e at in
       let new : IsNewDesk p k d = r.opened.desks k d there in
       let thread = ap (λ (x : DeskSeat). x.thread) (gone_seat out d e gone) ∙ ap (λ (x : DeskView). x.thread) new.made in
       (thread, search (arith, gone_seat), search (arith, length-map))
 
-  done_is : (k : ℕ) (d : Served) → slice_get done k ≡ Some d
+  pub done_is : (k : ℕ) (d : Served) → slice_get done k ≡ Some d
       → (d.number ≡ k + 1) × (worker_opening d ≡ p.numbers.opening) × (d.manager.threads ≡ p.numbers.threads)
   done_is k d at =
       let (w, there, served) = partner HasServed r.workers done r.served k d at in
@@ -55,13 +56,13 @@ module _ (out : GoOut) (p : Setup) (ended : List EndedView) (done : List Served)
       let threads = served.same.threads ∙ ap (λ (x : WorkerView). x.manager.threads) new.made in
       (served.same.number ∙ ap (λ (x : WorkerView). x.number) new.made, search (arith, rules), threads)
 
-  many_ended : length ended ≡ p.numbers.threads
+  pub many_ended : length ended ≡ p.numbers.threads
   many_ended = r.gone.as_many ∙ r.opened.threads
 
-  many_done : length done ≡ p.managers
+  pub many_done : length done ≡ p.managers
   many_done = r.served.as_many ∙ r.opened.managers
 
-  some_ended : 0 < length ended
+  pub some_ended : 0 < length ended
   some_ended = let low = r.limits.threads.0 in let many = many_ended in omega (arith, low, many)
 
   -- all of one opening

@@ -1,15 +1,18 @@
 //! Clients of one opening with its desks and its workers, before anything is done.
-ghost use Rattle.std.specs.Prelude.{◌≡◌, ◌≤◌, ◌↔◌, [], length, vec_capacity, All, IfOk, IfErr, OnOk};
+ghost use Rattle.std.specs.Prelude.{◌≡◌, ◌≤◌, ◌↔◌, [], List, length, map, vec_capacity, All, IfOk, IfErr, OnOk};
 ghost use Rattle.xa_switch.specs.OpenedPieces.{AreOfOneOpening};
 ghost use Rattle.xa_switch.specs.Plans.{IsSound, IsWithinLimits, Setup, planned};
 ghost use Rattle.xa_crew.specs.Opened.{HasMemoryFor, HasRoomFor, IfNotSettled, IfNotStarted, IsOpened, clients_of};
 ghost use Rattle.xa_crew.specs.Run.{CanTell, HasRunAll, IsRun};
+ghost use Rattle.xa_crew.specs.Stores.{AreKept, HasManagers, HaveAllRun, KeepLast, tables_of};
 
 use crate::client::Client;
 use crate::client_job::{Attended, ClientJob, Worked, attend_all, client_jobs_of};
 use crate::run::{Ran, Run, apart, settle_run};
 use crate::turns::Turns;
-use crate::worker_job::{WorkerJob, worker_jobs_of, workers_of};
+use crate::worker_job::{
+    StoredWorker, WorkerJob, no_stores, stores_apart, worker_jobs_of, workers_of,
+};
 use std::alloc::{AllocError, Global};
 use std::fmt;
 use std::sync::Wait;
@@ -17,6 +20,7 @@ use std::thread::Threads;
 use xa_base::{MOST_HANDLES, MOST_MANAGERS};
 use xa_desk::{Desk, EndedDesk};
 use xa_jobs::do_all;
+use xa_store::Store;
 use xa_switch::laws::opened_desks_keep_what_is_outstanding;
 use xa_switch::{OpenFault, Plan, open_switch};
 use xa_words::Code;
@@ -151,15 +155,17 @@ pub fn open_clients<R: Wait, C: Client>(
     Ok(memory.hold(clients, desks, workers))
 }
 
-// Room for the workers' jobs, and for the workers where their jobs come back.
-fn reserve_workers<P: Drop>(
+// Room for the workers' jobs, and for the workers and the stores once their jobs are done or come back.
+fn reserve_workers<P: Drop, S: Drop>(
     alloc: Global,
     workers: usize,
-) -> Result<(Vec<WorkerJob<P>>, Vec<Worker>), AllocError>
+) -> Result<(Vec<WorkerJob<P, S>>, Vec<Worker>, Vec<S>), AllocError>
     ensures jobs { IfOk result (λ r. (r.0.items ≡ []) × (workers ≤ vec_capacity r.0)) }
     ensures workers { IfOk result (λ r. (r.1.items ≡ []) × (workers ≤ vec_capacity r.1)) }
+    ensures stores { IfOk result (λ r. (r.2.items ≡ []) × (workers ≤ vec_capacity r.2)) }
 {
     Ok((
+        Vec::with_capacity(alloc, workers)?,
         Vec::with_capacity(alloc, workers)?,
         Vec::with_capacity(alloc, workers)?,
     ))
@@ -190,48 +196,114 @@ impl<C: Client + Send + 'static> Opened<C> {
         ensures unsettled { IfErr result (IfNotSettled (λ ran. (p : Setup) → IsOpened p self
             → HasRunAll C.works p (clients_of self) ran)) }
     {
+        let Ok(stores) = no_stores(alloc, self.managers()) else {
+            return Err(OpenedFault::Unstarted(self));
+        };
+        let (ran, _) = self.run_stored(rt, alloc, paces, stores);
+        ran
+    }
+
+    /// Runs all as `run` does, each manager with its store: the manager m has the store at place m - 1, which keeps the
+    /// tables that the manager begins with.
+    ///
+    /// No completion is sent that a crash would take back. The stores come back, at a fault too: as they were where
+    /// nothing was run, and else each keeps the tables that its manager has at the end. Where a store fails it never
+    /// returns.
+    pub fn run_stored<
+        R: Threads + Wait + Copy + Send + 'static,
+        P: Pace + Drop + Send + 'static,
+        S: Store + Drop + Send + 'static,
+    >(
+        self,
+        rt: &R,
+        alloc: Global,
+        paces: Vec<P>,
+        stores: Vec<S>,
+    ) -> (Result<Run<C>, OpenedFault<C>>, Vec<S>)
+        requires opened { (p : Setup) × IsOpened p self × AreKept S.knows S.may_leave p.first stores.items }
+        requires paces { length self.workers.items ≤ length paces.items }
+        ensures ran { IfOk result.0 (λ r. (p : Setup) → IsOpened p self
+            → IsRun C.works p (clients_of self) r.clients.items r.settled) }
+        ensures kept { IfOk result.0 (λ r. KeepLast S.knows S.may_leave r.settled result.1.items) }
+        ensures unstarted { IfErr result.0 (IfNotStarted (λ o. (clients_of o ≡ clients_of self)
+            × ((p : Setup) → IsOpened p self → IsOpened p o))) }
+        ensures back { IfErr result.0 (IfNotStarted (λ o. result.1.items ≡ stores.items)) }
+        ensures unsettled { IfErr result.0 (IfNotSettled (λ ran. (p : Setup) → IsOpened p self
+            → HasRunAll C.works p (clients_of self) ran)) }
+        ensures kept_so { IfErr result.0 (IfNotSettled (λ ran.
+            AreKept S.knows S.may_leave (tables_of ran.workers.items) result.1.items)) }
+    {
         let Opened {
             jobs,
             workers,
             room,
         } = self;
-        let Ok((worker_jobs, spare)) = reserve_workers(alloc, workers.len()) else {
-            return Err(OpenedFault::Unstarted(Opened {
+        let Ok((worker_jobs, spare, kept)) = reserve_workers(alloc, workers.len()) else {
+            let opened = Opened {
                 jobs,
                 workers,
                 room,
-            }));
+            };
+            return (Err(OpenedFault::Unstarted(opened)), stores);
         };
-        let worker_jobs = worker_jobs_of(workers, paces, worker_jobs);
+        let worker_jobs = worker_jobs_of(workers, paces, stores, worker_jobs);
         match do_all(rt, alloc, jobs, worker_jobs) {
-            Ok((worked, workers)) => {
-                let Room {
-                    attended,
-                    ended,
-                    worked: _,
-                    done: _,
-                } = room;
-                let (clients, desks) = apart(worked, attended, ended);
-                match settle_run(
-                    rt,
-                    alloc,
-                    Ran {
-                        clients,
-                        desks,
-                        workers,
-                    },
-                ) {
-                    Ok(run) => Ok(run),
-                    Err(ran) => Err(OpenedFault::Unsettled(ran)),
+            Ok((worked, stored)) => {
+                let (ran, stores) = settle_stored(rt, alloc, worked, stored, room, kept);
+                match ran {
+                    Ok(run) => (Ok(run), stores),
+                    Err(ran) => (Err(OpenedFault::Unsettled(ran)), stores),
                 }
             }
-            Err((jobs, worker_jobs)) => Err(OpenedFault::Unstarted(Opened {
-                jobs,
-                workers: workers_of(worker_jobs, spare),
-                room,
-            })),
+            Err((jobs, worker_jobs)) => {
+                let (workers, stores) = workers_of(worker_jobs, spare, kept);
+                let opened = Opened {
+                    jobs,
+                    workers,
+                    room,
+                };
+                (Err(OpenedFault::Unstarted(opened)), stores)
+            }
         }
     }
+}
+
+// Settles what clients and workers have come to, where there is room for them, and gives the stores.
+fn settle_stored<R: Wait, C: Client, S: Store + Drop>(
+    rt: &R,
+    alloc: Global,
+    worked: Vec<Worked<C>>,
+    stored: Vec<StoredWorker<S>>,
+    room: Room<C>,
+    kept: Vec<S>,
+) -> (Result<Run<C>, Ran<C>>, Vec<S>)
+    requires ran { (p : Setup) × (cs : List C) × HaveAllRun C.works p cs worked.items stored.items }
+    requires room { HasRoomFor (length worked.items) room }
+    requires workers { length stored.items ≤ MOST_MANAGERS }
+    requires none { kept.items ≡ [] }
+    requires stores { length stored.items ≤ vec_capacity kept }
+    ensures ran { IfOk result.0 (λ r. (p : Setup) → (cs : List C)
+        → HaveAllRun C.works p cs worked.items stored.items → IsRun C.works p cs r.clients.items r.settled) }
+    ensures managers { IfOk result.0 (λ r. HasManagers r.settled (map (λ d. d.done) stored.items)) }
+    ensures unsettled { IfErr result.0 (λ r. (p : Setup) → (cs : List C)
+        → HaveAllRun C.works p cs worked.items stored.items → HasRunAll C.works p cs r) }
+    ensures workers { IfErr result.0 (λ r. r.workers.items ≡ map (λ d. d.done) stored.items) }
+    ensures stores { result.1.items ≡ map (λ d. d.store) stored.items }
+{
+    let Room {
+        attended,
+        ended,
+        worked: _,
+        done,
+    } = room;
+    let (clients, desks) = apart(worked, attended, ended);
+    let (workers, stores) = stores_apart(stored, done, kept);
+    let ran = Ran {
+        clients,
+        desks,
+        workers,
+    };
+    (settle_run(rt, alloc, ran), stores)
 }
 
 impl<C: Client> Opened<C> {

@@ -2,6 +2,7 @@
 ghost use Rattle.std.specs.Prelude.{◌≡◌, ◌≤◌, ◌↔◌, [], List, length, map, vec_capacity, IfOk, IfErr, OnOk};
 ghost use Rattle.xa_switch.specs.Plans.{IsSound, Setup, planned};
 ghost use Rattle.xa_crew.specs.Run.{HasRunAll, IsRun, PutsBack};
+ghost use Rattle.xa_crew.specs.Stores.{HasManagers};
 
 use crate::client::Client;
 use crate::client_job::{Attended, Worked};
@@ -12,7 +13,7 @@ use std::alloc::Global;
 use std::sync::Wait;
 use std::thread::Threads;
 use xa_desk::EndedDesk;
-use xa_desk::laws::desks_go_on;
+use xa_desk::laws::{desks_go_on, desks_go_out};
 use xa_switch::{Plan, Settled};
 use xa_worker::{DoneWorker, Pace};
 
@@ -79,9 +80,12 @@ pub fn settle_run<R: Wait, C: Client>(rt: &R, alloc: Global, ran: Ran<C>) -> Res
         → IsRun C.works p cs r.clients.items r.settled) }
     ensures back { IfErr result (λ r. (p : Setup) → (cs : List C) → HasRunAll C.works p cs ran
         → HasRunAll C.works p cs r) }
+    ensures managers { IfOk result (λ r. HasManagers r.settled ran.workers.items) }
     ensures clients { IfErr result (λ r. r.clients ≡ ran.clients) }
+    ensures workers { IfErr result (λ r. r.workers.items ≡ ran.workers.items) }
 {
     desks_go_on();
+    desks_go_out();
     let Ran {
         clients,
         desks,
