@@ -2,6 +2,7 @@
 mod again;
 mod runs;
 mod shut;
+mod stored;
 
 use std::alloc::Global;
 use std::process::Abort;

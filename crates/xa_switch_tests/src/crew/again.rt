@@ -23,9 +23,9 @@ use xa_worker::Free;
 
 // A thread that leaves a branch prepared at manager 1, and rolls back what an earlier opening left there.
 #[derive(Drop)]
-struct Leaver {
+pub(super) struct Leaver {
     // What its Prepare answered.
-    prepared: i32,
+    pub(super) prepared: i32,
     // How many branches were listed in a later opening, and what the last rollback answered.
     found: i32,
     rolled_back: i32,
@@ -110,7 +110,7 @@ impl ClientAgain for Leaver {
 }
 
 // The numbers of a later opening, with one thread.
-fn again(opening: u64) -> Again
+pub(super) fn again(opening: u64) -> Again
     ensures { result.threads ≡ 1 }
 {
     Again {
@@ -122,14 +122,14 @@ fn again(opening: u64) -> Again
     }
 }
 
-fn one_leaver(rt: &impl Abort, alloc: Global) -> Vec<Leaver>
+pub(super) fn one_leaver(rt: &impl Abort, alloc: Global) -> Vec<Leaver>
     ensures { length result.items ≡ 1 }
 {
     Vec::from_array(alloc, [Leaver::new()]).expect(rt, "memory")
 }
 
 // A plan of one thread and two managers, each with the key `a` of value 5.
-fn first_plan(rt: &impl Abort, alloc: Global) -> Plan {
+pub(super) fn first_plan(rt: &impl Abort, alloc: Global) -> Plan {
     let accounts = [(Key::new(b"a").expect(rt, "a key"), 5)];
     Plan {
         opening: 7,
@@ -155,7 +155,7 @@ fn settled_with_one_left<R: Threads + Wait + Abort + Copy + Send + 'static>(
 }
 
 // The one client of the run.
-fn only<'a>(rt: &impl Abort, run: &'a Run<Leaver>) -> &'a Leaver {
+pub(super) fn only<'a>(rt: &impl Abort, run: &'a Run<Leaver>) -> &'a Leaver {
     match run.clients.as_slice() {
         [attended] => &attended.client,
         _ => panic!(rt; "one client"),
@@ -163,7 +163,10 @@ fn only<'a>(rt: &impl Abort, run: &'a Run<Leaver>) -> &'a Leaver {
 }
 
 // The one client of a run over an opening that was opened again, and its scan.
-fn only_again<'a>(rt: &impl Abort, run: &'a Run<WithScan<Leaver>>) -> &'a WithScan<Leaver> {
+pub(super) fn only_again<'a>(
+    rt: &impl Abort,
+    run: &'a Run<WithScan<Leaver>>,
+) -> &'a WithScan<Leaver> {
     match run.clients.as_slice() {
         [attended] => &attended.client,
         _ => panic!(rt; "one client"),
@@ -171,7 +174,7 @@ fn only_again<'a>(rt: &impl Abort, run: &'a Run<WithScan<Leaver>>) -> &'a WithSc
 }
 
 // The client listed the one that was left, and rolled it back.
-fn rolled_one_back(rt: &impl Abort, run: &Run<WithScan<Leaver>>) {
+pub(super) fn rolled_one_back(rt: &impl Abort, run: &Run<WithScan<Leaver>>) {
     let WithScan { client, scan } = only_again(rt, run);
     assert!(rt; client.found == 1 && client.rolled_back == 0);
     assert!(rt; scan.left(1).len() == 1 && scan.left(2).is_empty());
