@@ -1,72 +1,55 @@
 //! A file of the operating system.
-ghost use Rattle.std.specs.Prelude.{◌≡◌};
-ghost use Rattle.xa_disk.specs.{found_by, given_by, kept_by, told_by};
+ghost use Rattle.std.specs.Prelude.{◌≡◌, IsTrue, OnOk};
+ghost use Rattle.xa_disk.specs.{device_fault, found_by, given_by, kept_by, kind_fault, of_disk, of_opening, told_by};
+ghost use Rattle.xa_disk.specs.declared.backing.ReadFault.TheVariants as read;
 
 use crate::backing::{Backing, DeviceFault, ReadFault};
 use crate::notes::Notes;
 use crate::write_through::OpenFault;
-use os::RangeLock;
-use std::alloc::{AllocError, AllocFailed, Global};
-use std::fs::OpenOptions;
-use std::os::fd::AsRawFd;
-use std::os::unix::fs::{FileExt, MetadataExt, OpenOptionsExt};
-use std::{fs, io};
+use sqlite_disk::{Disk, is_no_room};
+use sqlite_std_file::{File, OpenError};
+use std::alloc::Global;
+use std::io;
 
-/// Why a file isn't opened.
+/// Why the files of a database aren't opened.
 #[derive(Clone, Copy, Debug, PartialEq, Eq)]
 pub enum FileFault {
-    /// Another program has it open, or another handle of this one.
+    /// Another program has one of them open, or another handle of this one.
     InUse,
-    /// Its folder isn't there.
+    /// Their folder isn't there.
     NoFolder,
-    /// The program may not open or make it.
+    /// The program may not open or make one of them.
     NoPermission,
     /// The disk has no room, or the user's part of it.
     NoRoom,
-    /// It is no file, or one with several names.
+    /// One of them is a folder or a device, or has several names, or the log's name is that of a link.
     NotAFile,
-    /// SQLite left a rollback journal beside it, which only SQLite can play back.
+    /// SQLite left a rollback journal beside them, which only SQLite can play back, or its name is that of no file.
     HotJournal,
-    /// It has more bytes than may be read.
+    /// One of them has more bytes than may be read.
     TooLarge,
     /// Memory was refused.
     Memory,
-    /// Standard input, output or error is closed. A file would take its place, and what is printed would go there.
-    NoStream,
-    /// It can't be opened, read, written or synced for another reason: perhaps the disk has failed.
+    /// One of them can't be opened, locked, read, written or synced for another reason: perhaps the disk has failed.
     Failed,
 }
 
-impl From<AllocError> for FileFault {
-    fn from(_: AllocError) -> FileFault {
-        FileFault::Memory
-    }
-}
+impl From<OpenError> for FileFault {
+    ghost from_gives = { λ error fault. fault ≡ of_opening error };
 
-impl<T: Drop> From<AllocFailed<T>> for FileFault {
-    fn from(_: AllocFailed<T>) -> FileFault {
-        FileFault::Memory
-    }
-}
-
-impl From<io::Error> for FileFault {
-    fn from(error: io::Error) -> FileFault {
-        match error.kind() {
-            io::ErrorKind::WouldBlock => FileFault::InUse,
-            io::ErrorKind::NotFound | io::ErrorKind::NotADirectory => FileFault::NoFolder,
-            io::ErrorKind::PermissionDenied | io::ErrorKind::ReadOnlyFilesystem => {
-                FileFault::NoPermission
-            }
-            io::ErrorKind::StorageFull | io::ErrorKind::QuotaExceeded => FileFault::NoRoom,
-            io::ErrorKind::IsADirectory | io::ErrorKind::Unsupported => FileFault::NotAFile,
-            io::ErrorKind::OutOfMemory => FileFault::Memory,
-            io::ErrorKind::NotConnected => FileFault::NoStream,
-            _ => FileFault::Failed,
+    fn from(error: OpenError) -> FileFault {
+        match error {
+            OpenError::Io(error) => of_kind(error.kind()),
+            OpenError::OutOfMemory => FileFault::Memory,
+            OpenError::Busy => FileFault::InUse,
+            OpenError::HotJournal => FileFault::HotJournal,
         }
     }
 }
 
 impl From<OpenFault> for FileFault {
+    ghost from_gives = { λ of_file fault. fault ≡ of_disk of_file };
+
     fn from(fault: OpenFault) -> FileFault {
         match fault {
             OpenFault::Memory => FileFault::Memory,
@@ -77,84 +60,75 @@ impl From<OpenFault> for FileFault {
     }
 }
 
-/// An open file, which no other handle has open, of this process or another: it holds the lock that SQLite asks for, so
-/// that sqlite3 finds the database locked.
+// Why the files aren't opened, where a call of the system failed so.
+fn of_kind(kind: io::ErrorKind) -> FileFault
+    ensures { result ≡ kind_fault kind }
+{
+    match kind {
+        io::ErrorKind::NotFound | io::ErrorKind::NotADirectory => FileFault::NoFolder,
+        io::ErrorKind::PermissionDenied | io::ErrorKind::ReadOnlyFilesystem => {
+            FileFault::NoPermission
+        }
+        io::ErrorKind::StorageFull | io::ErrorKind::QuotaExceeded => FileFault::NoRoom,
+        io::ErrorKind::IsADirectory | io::ErrorKind::Unsupported => FileFault::NotAFile,
+        io::ErrorKind::OutOfMemory => FileFault::Memory,
+        _ => FileFault::Failed,
+    }
+}
+
+impl From<io::Error> for DeviceFault {
+    ghost from_gives = { λ error fault. fault ≡ device_fault error };
+
+    fn from(error: io::Error) -> DeviceFault {
+        if is_no_room(&error) {
+            return DeviceFault::NoRoom;
+        }
+        DeviceFault::Failed
+    }
+}
+
+impl From<io::Error> for ReadFault {
+    ghost from_gives = { λ _ fault. fault ≡ read.Failed };
+
+    fn from(_: io::Error) -> ReadFault {
+        ReadFault::Failed
+    }
+}
+
+impl From<DeviceFault> for ReadFault {
+    ghost from_gives = { λ _ fault. fault ≡ read.Failed };
+
+    fn from(_: DeviceFault) -> ReadFault {
+        ReadFault::Failed
+    }
+}
+
+/// An open file of a database, which no other handle has open, of this process or another: it holds the lock that
+/// SQLite asks for, so that sqlite3 finds the database locked.
 #[derive(Drop)]
 pub struct HostFile {
-    file: fs::File,
+    file: File,
     // What succeeded: that each call is noted as it was is trusted.
     notes: Notes,
 }
 
-// The handle, where it isn't that of standard input, output or error: where one of these is closed, the next file to
-// be opened takes its place, and what the program prints goes into that file.
-fn beside_streams(file: fs::File) -> io::Result<fs::File> {
-    if file.as_raw_fd() <= 2 {
-        return Err(io::ErrorKind::NotConnected.into());
-    }
-    Ok(file)
-}
-
-// The file at the path, which is made with these permissions where there is none. What stands there has to be a file,
-// and no link.
-fn opened_or_made(rt: &HostRuntime, path: &str, mode: u32) -> io::Result<fs::File> {
-    let made = OpenOptions::new()
-        .read(true)
-        .write(true)
-        .create_new(true)
-        .mode(mode)
-        .open(rt, path);
-    match made {
-        Err(error) if error.kind() == io::ErrorKind::AlreadyExists => {}
-        other => return beside_streams(other?),
-    }
-    if !fs::symlink_metadata(rt, path)?.is_file() {
-        return Err(io::ErrorKind::Unsupported.into());
-    }
-    beside_streams(OpenOptions::new().read(true).write(true).open(rt, path)?)
-}
-
-// Whether the file is what stands at the path, under that name alone.
-fn has_this_name(rt: &HostRuntime, file: &fs::File, path: &str) -> io::Result<bool> {
-    let (found, named) = (file.metadata()?, fs::symlink_metadata(rt, path)?);
-    let is_same = found.dev() == named.dev() && found.ino() == named.ino();
-    Ok(is_same && found.is_file() && found.nlink() == 1)
-}
-
-// Takes SQLite's locks of a file: pending, reserved and shared.
-fn lock(file: &fs::File) -> io::Result<()> {
-    if os::try_lock_range(file.as_raw_fd(), RangeLock::Exclusive, 1 << 30, 512) == 0 {
-        return Ok(());
-    }
-    Err(io::Error::from_raw_os_error(os::errno()))
-}
-
-// A failure of a call.
-fn fault_of(error: &io::Error) -> DeviceFault {
-    match error.kind() {
-        io::ErrorKind::StorageFull | io::ErrorKind::QuotaExceeded => DeviceFault::NoRoom,
-        _ => DeviceFault::Failed,
-    }
-}
-
 impl HostFile {
-    /// Opens the file at the path, or makes it with these permissions: its folder is to be synced then, for its name
-    /// may be new. One that is open already is `InUse`, and a link, or a file with several names, is `NotAFile`.
-    pub(crate) fn open(rt: &HostRuntime, path: &str, mode: u32) -> Result<HostFile, FileFault> {
-        let file = opened_or_made(rt, path, mode)?;
-        if !has_this_name(rt, &file, path)? {
-            return Err(FileFault::NotAFile);
-        }
-        lock(&file)?;
-        Ok(HostFile {
+    /// The file, of which nothing was asked yet.
+    pub(crate) fn over(alloc: Global, file: File) -> HostFile {
+        HostFile {
             file,
-            notes: Notes::new(rt.alloc()),
-        })
+            notes: Notes::new(alloc),
+        }
     }
 
-    /// Its permissions.
-    pub(crate) fn mode(&self) -> io::Result<u32> {
-        Ok(self.file.metadata()?.mode() & 0o777)
+    // Fails once a sync has failed: nothing more is asked of the file then.
+    fn test(&self) -> Result<(), DeviceFault>
+        ensures { OnOk result (IsTrue (⟦<File as Disk>⟧.is_usable self.now.file)) }
+    {
+        if !self.file.may_be_used() {
+            return Err(DeviceFault::Failed);
+        }
+        Ok(())
     }
 }
 
@@ -168,52 +142,44 @@ impl Backing for HostFile {
     ghost kept = { λ f. kept_by f.notes.syncs.items };
 
     fn size(&mut self) -> Result<u64, DeviceFault> {
-        let size = match self.file.metadata() {
-            Ok(found) => found.len(),
-            Err(error) => return Err(fault_of(&error)),
-        };
+        self.test()?;
+        let size = self.file.len()? as u64;
         self.notes.add_size(size);
         Ok(size)
     }
 
     fn read_all(&mut self, alloc: Global, len: usize) -> Result<Vec<u8>, ReadFault> {
         let mut bytes = vec![in alloc; 0; len]?;
-        if self.file.read_exact_at(&mut bytes, 0).is_err() {
-            return Err(ReadFault::Failed);
-        }
+        self.test()?;
+        self.file.read_at(0, &mut bytes)?;
         self.notes.add_read(&bytes);
         Ok(bytes)
     }
 
     fn rewrite(&mut self, bytes: &Vec<u8>) -> Result<(), DeviceFault> {
-        if let Err(error) = self.file.write_all_at(bytes, 0) {
-            return Err(fault_of(&error));
-        }
+        self.test()?;
+        self.file.write_at(0, bytes)?;
         self.notes.add_rewrite(bytes);
         Ok(())
     }
 
     fn write_part(&mut self, copy: &Vec<u8>, at: usize, len: usize) -> Result<(), DeviceFault> {
-        let part = &copy[at..at + len];
-        if let Err(error) = self.file.write_all_at(part, at as u64) {
-            return Err(fault_of(&error));
-        }
+        self.test()?;
+        self.file.write_at(at, &copy[at..at + len])?;
         self.notes.add_write(copy, at, len);
         Ok(())
     }
 
     fn resize(&mut self, len: usize) -> Result<(), DeviceFault> {
-        if let Err(error) = self.file.set_len(len as u64) {
-            return Err(fault_of(&error));
-        }
+        self.test()?;
+        self.file.set_len(len)?;
         self.notes.add_resize(len);
         Ok(())
     }
 
     fn sync_all(&mut self) -> Result<(), DeviceFault> {
-        if let Err(error) = self.file.sync_data() {
-            return Err(fault_of(&error));
-        }
+        self.test()?;
+        self.file.sync()?;
         self.notes.add_sync();
         Ok(())
     }

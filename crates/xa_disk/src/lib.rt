@@ -4,7 +4,8 @@
 //! that are opened under that type share it; several stores in one list have one type, so that two files which held
 //! different bytes can't both agree with it. Here what a file held is what was read of it as it was opened, and it is
 //! read no more. So no answer of the file can be false: `WriteThrough` meets the kit's `Disk`, is always clean, and
-//! nothing is said under a premise, for any number of files.
+//! nothing is said under a premise, for any number of files. A `HostFile` reads and writes by the kit's disk, and no
+//! clause on its values is used.
 //!
 //! That the file is given the bytes of its disk, and is asked to keep them at each sync, is proved (`Backing`). Once a
 //! write, a change of the length or a sync has failed, nobody knows what the file has, and each later one fails.
@@ -16,7 +17,8 @@
 //! * that a crash leaves the bytes beside a write that it tore, as `sqlite_disk::Disk` says;
 //! * that bytes which are written once more, as a file is opened, stay through a crash where they are on the disk, and
 //!   that a sync then keeps all that was read (`Backing::rewrite`);
-//! * that a sync of the folder keeps the names of its files;
+//! * that the kit opens the files at the path's names, the log for the log, and syncs their folder, and that such a
+//!   sync keeps the names;
 //! * that the lock is held against each other process: it is SQLite's, and advisory, so only one that asks is refused.
 #![tactic(auto)]
 

@@ -243,6 +243,7 @@ impl<S: Store> SlotTables<S> {
         fill(&mut slots, count)?;
         Ok(slots)
     }
+
     /// Where nothing was written since the last commit, as in a store that was just opened, an open finds these slots
     /// whenever a crash comes. It does nothing.
     pub fn are_committed(&self)
