@@ -1,7 +1,8 @@
 //! The two files of a database.
-ghost use Rattle.std.specs.Prelude.{IfOk, IsTrue};
+ghost use Rattle.std.specs.Prelude.{◌≡◌, IfOk, IsTrue};
 ghost use Rattle.sqlite_disk.specs.Disk.{Only};
 
+use crate::backing::Backing;
 use crate::host::{FileFault, HostFile};
 use crate::write_through::WriteThrough;
 use sqlite_disk::{Disk, Files, Unknown};
@@ -19,6 +20,9 @@ fn disk_over(
     ensures durable { IfOk result (λ disk. Only (⟦<WriteThrough<HostFile> as Disk>⟧.seen disk)
         (⟦<WriteThrough<HostFile> as Disk>⟧.may_leave disk)) }
     ensures usable { IfOk result (λ disk. IsTrue (⟦<WriteThrough<HostFile> as Disk>⟧.is_usable disk)) }
+    ensures found { IfOk result (λ disk. ⟦<WriteThrough<HostFile> as Disk>⟧.seen disk
+        ≡ ⟦<HostFile as Backing>⟧.found disk.file) }
+    ensures faults { IfOk result (λ disk. ⟦<WriteThrough<HostFile> as Disk>⟧.faults disk ≡ 0) }
 {
     match WriteThrough::new(alloc, file, most) {
         Ok(disk) => Ok(disk),
@@ -37,6 +41,12 @@ pub fn open_files(rt: &HostRuntime, path: &str, most: usize) -> Result<DiskFiles
         (⟦<WriteThrough<HostFile> as Disk>⟧.may_leave files.log)) }
     ensures db { IfOk result (λ files. Only (⟦<WriteThrough<HostFile> as Disk>⟧.seen files.db)
         (⟦<WriteThrough<HostFile> as Disk>⟧.may_leave files.db)) }
+    ensures log_found { IfOk result (λ files. ⟦<WriteThrough<HostFile> as Disk>⟧.seen files.log
+        ≡ ⟦<HostFile as Backing>⟧.found files.log.file) }
+    ensures db_found { IfOk result (λ files. ⟦<WriteThrough<HostFile> as Disk>⟧.seen files.db
+        ≡ ⟦<HostFile as Backing>⟧.found files.db.file) }
+    ensures log_faults { IfOk result (λ files. ⟦<WriteThrough<HostFile> as Disk>⟧.faults files.log ≡ 0) }
+    ensures db_faults { IfOk result (λ files. ⟦<WriteThrough<HostFile> as Disk>⟧.faults files.db ≡ 0) }
 {
     let alloc = rt.alloc();
     let Files { log, db } = sqlite_std_file::open(rt, path, Unknown)?;
