@@ -48,7 +48,8 @@ pub trait Backing {
     /// How many bytes it has.
     fn size(&mut self) -> Result<u64, DeviceFault>
         ensures told { IfOk result (λ n. n ≡ told self.new) }
-        ensures given { given self.new ≡ given self.old };
+        ensures given { given self.new ≡ given self.old }
+        ensures kept { kept self.new ≡ kept self.old };
 
     /// All the bytes, which are so many.
     fn read_all(&mut self, alloc: Global, len: usize) -> Result<Vec<u8>, ReadFault>
@@ -56,6 +57,7 @@ pub trait Backing {
         ensures found { IfOk result (λ v. v.items ≡ found self.new) }
         ensures len { IfOk result (λ v. length v.items ≡ len) }
         ensures given { given self.new ≡ given self.old }
+        ensures kept { kept self.new ≡ kept self.old }
         ensures told { told self.new ≡ told self.old };
 
     /// Writes the bytes that were read once more, each with the value that it has.
@@ -66,6 +68,7 @@ pub trait Backing {
     fn rewrite(&mut self, bytes: &Vec<u8>) -> Result<(), DeviceFault>
         requires { bytes.now.items ≡ found self.old }
         ensures given { OnOk result (given self.new ≡ bytes.now.items) }
+        ensures kept { OnOk result (kept self.new ≡ kept self.old) }
         ensures found { OnOk result (found self.new ≡ found self.old) };
 
     /// Writes the part of the copy at this offset, of so many bytes, at its place in the file.

@@ -58,6 +58,7 @@ impl Notes {
         ensures found { found_by self.new.calls.items ≡ bytes.now.items }
         ensures given { given_by self.new.calls.items ≡ given_by self.old.calls.items }
         ensures sizes { self.new.sizes ≡ self.old.sizes }
+        ensures syncs { self.new.syncs ≡ self.old.syncs }
     {
         self.calls = self.calls.and(&FileCall::Read, bytes);
     }
@@ -67,6 +68,7 @@ impl Notes {
     pub(crate) fn add_rewrite(&mut self, bytes: &Vec<u8>)
         ensures given { given_by self.new.calls.items ≡ bytes.now.items }
         ensures found { found_by self.new.calls.items ≡ found_by self.old.calls.items }
+        ensures syncs { self.new.syncs ≡ self.old.syncs }
     {
         self.calls = self.calls.and(&FileCall::Rewrote, bytes);
     }

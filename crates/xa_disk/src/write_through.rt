@@ -72,6 +72,7 @@ pub struct WriteThrough<B: Backing> {
     steps: Log<Option<usize>, usize>,
     ghost given: { has_failed ≡ false → B.given file ≡ bytes.items } by { Prim.hlevel props },
     ghost kept: { has_failed ≡ false → B.kept file ≡ remembered synced.items } by { Prim.hlevel props },
+    ghost counted: { failures.all ≡ 0 → has_failed ≡ false } by { Prim.hlevel props },
 }
 
 // ---- what only proofs read
@@ -226,6 +227,8 @@ impl<B: Backing> WriteThrough<B> {
             (⟦<WriteThrough<B> as Disk>⟧.may_leave disk)) }
         ensures usable { IfOk result (λ disk. IsTrue (⟦<WriteThrough<B> as Disk>⟧.is_usable disk)) }
         ensures found { IfOk result (λ disk. ⟦<WriteThrough<B> as Disk>⟧.seen disk ≡ B.found disk.file) }
+        ensures given { IfOk result (λ disk. B.given disk.file ≡ ⟦<WriteThrough<B> as Disk>⟧.seen disk) }
+        ensures kept { IfOk result (λ disk. B.kept disk.file ≡ ⟦<WriteThrough<B> as Disk>⟧.seen disk) }
         ensures faults { IfOk result (λ disk. ⟦<WriteThrough<B> as Disk>⟧.faults disk ≡ 0) }
         ensures too_large { IfErr result (λ e. e.0 ≡ TooLarge → most < B.told e.1) }
         ensures untouched { IfErr result (λ e. e.0 ≡ TooLarge → B.given e.1 ≡ B.given file) }
@@ -247,9 +250,10 @@ impl<B: Backing> WriteThrough<B> {
         }
     }
 
-    /// Whether a write, a change of the length or a sync has failed. Until then the file was given the bytes that a
-    /// read returns, and the disk was asked to keep those of the last sync.
+    /// Whether a write, a change of the length or a sync has failed, which it hasn't while no failure is counted. Until
+    /// then the file was given the bytes that a read returns, and the disk was asked to keep those of the last sync.
     pub fn has_failed(&self) -> bool
+        ensures counted { ⟦<WriteThrough<B> as Disk>⟧.faults self.now ≡ 0 → result ≡ false }
         ensures given { result ≡ false → B.given self.now.file ≡ ⟦<WriteThrough<B> as Disk>⟧.seen self.now }
         ensures kept { result ≡ false → B.kept self.now.file ≡ remembered self.now.synced.items }
     {
