@@ -47,7 +47,9 @@ fn after_a_failed_write_no_sync_succeeds(rt: HostRuntime) {
 fn after_a_failed_write_no_write_succeeds(rt: HostRuntime) {
     let alloc = rt.alloc();
     let mut disk = disk(&rt, alloc, b"abcd", 3);
+    assert!(rt; !disk.has_failed());
     assert!(rt; disk.set_len(2).is_err());
+    assert!(rt; disk.has_failed());
     assert!(rt; disk.write_at(0, b"w").is_err());
     assert!(rt; disk.set_len(4).is_err());
     assert!(rt; disk.may_be_used());

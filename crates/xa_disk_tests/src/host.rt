@@ -45,26 +45,40 @@ fn real_files_keep_their_slots(rt: HostRuntime) {
     assert!(rt; state_of(&mut again, alloc) == Some(state_after(20)));
 }
 
-const FOLDER: &str = "xa_disk_test";
-
-const OTHER: &str = "xa_disk_test/a.db";
+// Makes a folder with nothing in it. Whether it could be made.
+fn make_folder(rt: &HostRuntime, folder: &str) -> bool {
+    let _ = fs::remove_dir_all(rt, folder);
+    fs::create_dir(rt, folder).is_ok()
+}
 
 #[test]
 fn other_files_are_refused(rt: HostRuntime) {
-    let _ = fs::remove_dir_all(&rt, FOLDER);
-    assert!(rt; fs::create_dir(&rt, FOLDER).is_ok());
-    let journal = "xa_disk_test/a.db-journal";
+    assert!(rt; make_folder(&rt, "xa_disk_others"));
+    let (path, log) = ("xa_disk_others/a.db", "xa_disk_others/a.db-wal");
+    let journal = "xa_disk_others/a.db-journal";
     assert!(rt; fs::write(&rt, journal, b"\xd9".as_slice()).is_ok());
-    assert!(rt; fault_of(&rt, OTHER, MOST) == Some(FileFault::HotJournal));
+    assert!(rt; fault_of(&rt, path, MOST) == Some(FileFault::HotJournal));
     assert!(rt; fs::write(&rt, journal, b"\0".as_slice()).is_ok());
-    assert!(rt; fault_of(&rt, OTHER, MOST).is_none());
-    let second = "xa_disk_test/b.db";
-    assert!(rt; fs::hard_link(&rt, OTHER, second).is_ok());
-    assert!(rt; fault_of(&rt, OTHER, MOST) == Some(FileFault::NotAFile));
+    assert!(rt; fault_of(&rt, path, MOST).is_none());
+    let second = "xa_disk_others/b.db";
+    assert!(rt; fs::hard_link(&rt, path, second).is_ok());
+    assert!(rt; fault_of(&rt, path, MOST) == Some(FileFault::NotAFile));
     assert!(rt; fs::remove_file(&rt, second).is_ok());
-    let log = "xa_disk_test/a.db-wal";
     assert!(rt; fs::remove_file(&rt, log).is_ok());
     assert!(rt; symlink(&rt, "other", log).is_ok());
-    assert!(rt; fault_of(&rt, OTHER, MOST) == Some(FileFault::NotAFile));
-    assert!(rt; fs::remove_dir_all(&rt, FOLDER).is_ok());
+    assert!(rt; fault_of(&rt, path, MOST) == Some(FileFault::NotAFile));
+}
+
+#[test]
+fn a_link_is_followed(rt: HostRuntime) {
+    assert!(rt; make_folder(&rt, "xa_disk_links"));
+    let (path, link) = ("xa_disk_links/a.db", "xa_disk_links/link.db");
+    assert!(rt; symlink(&rt, "a.db", link).is_ok());
+    // Nothing is made where it leads.
+    assert!(rt; fault_of(&rt, link, MOST) == Some(FileFault::NotAFile));
+    assert!(rt; fs::write(&rt, path, b"".as_slice()).is_ok());
+    let files = open_files(&rt, link, MOST);
+    assert!(rt; files.is_ok());
+    assert!(rt; fault_of(&rt, path, MOST) == Some(FileFault::InUse));
+    assert!(rt; fs::metadata(&rt, "xa_disk_links/a.db-wal").is_ok());
 }
