@@ -76,14 +76,21 @@ fn of_kind(kind: io::ErrorKind) -> FileFault
     }
 }
 
+// Why a call of a file failed.
+fn fault_of(error: &io::Error) -> DeviceFault
+    ensures { result ≡ device_fault error.now }
+{
+    if is_no_room(error) {
+        return DeviceFault::NoRoom;
+    }
+    DeviceFault::Failed
+}
+
 impl From<io::Error> for DeviceFault {
     ghost from_gives = { λ error fault. fault ≡ device_fault error };
 
     fn from(error: io::Error) -> DeviceFault {
-        if is_no_room(&error) {
-            return DeviceFault::NoRoom;
-        }
-        DeviceFault::Failed
+        fault_of(&error)
     }
 }
 
