@@ -1,6 +1,6 @@
 -- The pieces of an opening are all there, and come from it; what the members of a crew came to; what is kept as a desk ends.
-use Rattle.xa_base.proofs.{partner, has_number, along, ◌≡◌, ℕ, ◌+◌, ◌<◌, List, [], ◌∷◌, length, map, Some, sym, refl, ap, ◌∙◌, arith, slice_get}
-use Rattle.xa_base.proofs.{length-map, all_from, map_alike, zero, suc, All, some_same, all_at, tail_side, side_of, rules, side_to, None, nat_cmp, removed_there}
+use Rattle.xa_base.proofs.{partner, has_number, along, ◌≡◌, ℕ, ◌+◌, ◌<◌, List, [], ◌∷◌, length, map, Some, sym, refl, ap, ◌∙◌, arith, slice_get, length-map}
+use Rattle.xa_base.proofs.{all_from, map_alike, zero, suc, All, some_same, all_at, tail_side, side_of, rules, side_to, None, nat_cmp, removed_there}
 use Rattle.xa_base.proofs.{removed_none, IsPermutation, IsPermutation-refl}
 use Rattle.std.specs.FinMap as finmap
 use Rattle.xa_base.specs.{Pairwise, Chain}

@@ -1,6 +1,6 @@
 -- Stores keep the tables of their managers, before a run and after it.
-use Rattle.xa_base.proofs.{◌≡◌, ℕ, ◌+◌, ◌<◌, Some, length, map, refl, sym, ap, ◌∙◌, arith, slice_get, some_same, partner, side_of, side_to}
-use Rattle.xa_base.proofs.{find_numbered, get_or, got_map, length-map, map-map, option_map, slice_get-get_or, slice_get-map, subst, was_mapped, List, [], ◌∷◌}
+use Rattle.xa_base.proofs.{◌≡◌, ℕ, ◌+◌, ◌<◌, Some, length, map, refl, sym, ap, ◌∙◌, arith, slice_get, some_same, partner, side_of, side_to, find_numbered}
+use Rattle.xa_base.proofs.{get_or, got_map, length-map, map-map, option_map, slice_get-get_or, slice_get-map, subst, was_mapped, List, [], ◌∷◌}
 use Rattle.xa_base.specs.{Pairwise}
 use Rattle.xa_lane.specs.{Sending, sent_at}
 use Rattle.xa_lane.proofs.Parcels.{nothing_sent}

@@ -1,6 +1,6 @@
 -- Stores that are reopened, one by one and all.
-use Rattle.xa_base.proofs.{◌≡◌, ℕ, ◌+◌, ◌<◌, List, Some, inl, inr, length, map, sym, ap, ◌∙◌, arith, slice_get, range_with_len, some_same, partner}
-use Rattle.xa_base.proofs.{get_or, get_or-range_with_len, got_map, length-map, length-range_with_len, slice_get-get_or, slice_get_within}
+use Rattle.xa_base.proofs.{◌≡◌, ℕ, ◌+◌, ◌<◌, List, Some, inl, inr, length, map, sym, ap, ◌∙◌, arith, slice_get, range_with_len, some_same, partner, get_or}
+use Rattle.xa_base.proofs.{get_or-range_with_len, got_map, length-map, length-range_with_len, slice_get-get_or, slice_get_within}
 use Rattle.xa_base.specs.{Pairwise}
 use Rattle.xa_store.specs.{AreDurable}
 use Rattle.xa_tables.specs.{Tables, reopened}

@@ -15,8 +15,9 @@ use std::sync::Wait;
 use std::thread::Threads;
 use xa_base::{MOST_JOURNALED, MOST_THREADS};
 use xa_crew::{OpenedFault, Run};
-use xa_store::{Store, a_second_reopening_changes_nothing};
+use xa_store::Store;
 use xa_switch::{Again, OpenFault, Settled, may_reopen};
+use xa_table_laws::a_second_reopening_changes_nothing;
 use xa_worker::Pace;
 
 // Reopens a store, and clears the flag where it can't: the store is as it was then.

@@ -7,8 +7,8 @@ use Rattle.xa_fates.proofs.ShutLaw.{after_accepted}
 use Rattle.xa_fates.proofs.FateLaw.{first_law, kept_law, reopened_law}
 use Rattle.xa_fates.proofs.ValueLaw.{Held, IsPending, due, value_moved, declared_on, value_run, Clean, run_clean, opening_clean}
 use Rattle.xa_tables.proofs.Reopening.{left_on, new_opens, reopens, sums_reopened}
-use Rattle.xa_tables.specs.{touch_cmp, is_prepared, value_of, tables_after, IsNew, IsOpening, reopened, left_by, Tables, History, Fate, Absent}
-use Rattle.xa_tables.specs.{fate, accepted, IsFateOf, reopened_fate, coded, commits_later, is_declared, commits_over, added_over, value_over, ValueIsSum}
+use Rattle.xa_tables.specs.{touch_cmp, is_prepared, value_of, tables_after, IsNew, IsOpening, reopened, left_by, Tables, History, Fate, Absent, fate, accepted}
+use Rattle.xa_tables.specs.{IsFateOf, reopened_fate, coded, commits_later, is_declared, commits_over, added_over, value_over, ValueIsSum}
 use Rattle.std.specs.FinMap as map
 
 -- ---- a reopening

@@ -7,10 +7,10 @@ use Rattle.xa_fates.proofs.ShutLaw.{accepted_read}
 use Rattle.xa_tables.proofs.SoundLemmas.{swap_xid, get_put, get_gone}
 use Rattle.xa_tables.proofs.Soundness.{Sound, Nowhere, standing, associated_works, sound_after, opening_sound}
 use Rattle.xa_fates.proofs.Moves.{Moves, Still, Ended, Added, moves_of}
-use Rattle.xa_tables.specs.{Association, association_of, has_other_touched, Touch, touch_cmp, sum_of, sums_without, Answer, next, committed, coded}
-use Rattle.xa_tables.specs.{accepted, fate_of, tables_after, added_in, share_of, commits_later, ending, or_later, LateAddNothing, Tables, History, State}
-use Rattle.xa_tables.specs.{state_of, is_S3, is_S5, OnlyUnfinishedTouch, IsOpening, value_of, is_declared, DeclareEach, worth, moved_by, held_by, moved}
-use Rattle.xa_tables.specs.{WorthIsMovedFrom, is_any}
+use Rattle.xa_tables.specs.{Association, association_of, has_other_touched, Touch, touch_cmp, sum_of, sums_without, Answer, next, committed, coded, accepted}
+use Rattle.xa_tables.specs.{fate_of, tables_after, added_in, share_of, commits_later, ending, or_later, LateAddNothing, Tables, History, State, state_of, is_S3}
+use Rattle.xa_tables.specs.{is_S5, OnlyUnfinishedTouch, IsOpening, value_of, is_declared, DeclareEach, worth, moved_by, held_by, moved, WorthIsMovedFrom}
+use Rattle.xa_tables.specs.{is_any}
 use Rattle.xa_tables.proofs.Effects.{Effect, Adds, Forgets, effect_of}
 use Rattle.xa_tables.proofs.AccountLemmas.{touch_cmp_total, touch_cmp-IsAntisymmetric, touch_same, swapped}
 use Rattle.std.specs.FinMap as map

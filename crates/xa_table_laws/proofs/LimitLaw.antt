@@ -1,7 +1,7 @@
 -- The value of a declared key stays within the limits, whatever is requested, over any openings.
 use Rattle.xa_base.proofs.{by_bool, rules, ◌≡◌, ℕ, ℤ, true, false, not, ◌&&◌, ◌+ℤ◌, Option, None, Some, List, [], ◌∷◌, refl, arith, sym, ap, ◌∙◌, FinMap}
-use Rattle.xa_base.proofs.{get-empty, none_passes, pos, option_map, ◌≢◌, map, unwrap_or, nat_le, list_all, le-leb, find, get-from_entries}
-use Rattle.xa_base.proofs.{and_parts, +ℤ_idr as plus_none}
+use Rattle.xa_base.proofs.{get-empty, none_passes, pos, option_map, ◌≢◌, map, unwrap_or, nat_le, list_all, le-leb, find, get-from_entries, and_parts}
+use Rattle.xa_base.proofs.{+ℤ_idr as plus_none}
 use Rattle.xa_words.specs.{key_eq, XidName, xid_cmp, xid_eq, key_cmp_total, Decides-xid_eq, Decides-key_eq, Op, are_accounts}
 use Rattle.xa_tables.proofs.Soundness.{standing, opening_sound, Sound, associated_works, voted_rests, sound_after}
 use Rattle.xa_tables.proofs.SoundLemmas.{get_put, get_gone, state_rules}
