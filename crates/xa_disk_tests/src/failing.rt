@@ -1,4 +1,5 @@
 //! What a disk answers once a call of its file has failed.
+ghost use Rattle.std.specs.Prelude.{IsTrue};
 
 use sqlite_disk::Disk;
 use std::alloc::Global;
@@ -6,7 +7,9 @@ use std::process::Abort;
 use xa_disk::{Backing, DeviceFault, OpenFault, Tape, Tear, WriteThrough};
 
 // A disk over a file of these bytes, whose k-th call fails. The first two calls are those of the opening.
-fn disk(rt: &impl Abort, alloc: Global, bytes: &[u8], k: u32) -> WriteThrough<Tape> {
+fn disk(rt: &impl Abort, alloc: Global, bytes: &[u8], k: u32) -> WriteThrough<Tape>
+    ensures { IsTrue (⟦<WriteThrough<Tape> as Disk>⟧.is_usable result) }
+{
     let tape = Tape::of(alloc, bytes, k, Tear::Beginning).expect(rt, "memory");
     match WriteThrough::new(alloc, tape, 100) {
         Ok(disk) => disk,
@@ -56,13 +59,13 @@ fn after_a_failed_write_no_write_succeeds(rt: HostRuntime) {
 }
 
 #[test]
-fn after_a_failed_sync_no_sync_succeeds(rt: HostRuntime) {
+fn after_a_failed_sync_it_may_not_be_used(rt: HostRuntime) {
     let alloc = rt.alloc();
     let mut disk = disk(&rt, alloc, b"abcd", 4);
     assert!(rt; disk.write_at(0, b"w").is_ok());
+    assert!(rt; disk.may_be_used() && !disk.has_failed());
     assert!(rt; disk.sync().is_err());
-    assert!(rt; !disk.may_be_used());
-    assert!(rt; disk.sync().is_err());
+    assert!(rt; !disk.may_be_used() && disk.has_failed());
 }
 
 #[test]

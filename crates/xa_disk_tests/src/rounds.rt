@@ -42,7 +42,7 @@ fn write<S: Store>(tables: &mut SlotTables<S>, write: Write) -> Result<(), Store
     let (table, slot, value) = write;
     match value {
         Some(value) => {
-            let filler = [value as u8; 300];
+            let filler = [(value & 0xff) as u8; 300];
             let cells = [ValueRef::Int(i64::from(value)), ValueRef::Blob(&filler)];
             tables.set(table, slot, &cells)
         }
