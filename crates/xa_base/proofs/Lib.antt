@@ -67,7 +67,7 @@ pub use Rattle.std.specs.Prelude.{IfErr, IfNone, MatchOption, OnErr, OnSome, cod
 pub use Rattle.std.specs.Str.{bytes_eq}
 pub use Rattle.std.specs.Vec.Iter.{into_iter_items, into_iter_len}
 pub use Lists.{after_seam, all_after, all_at, all_from, all_left, all_mid, all_right, all_unmapped, any_alike, any_at, at_drop, begins_on, begins_same}
-pub use Lists.{both_sides, each_made, each_part, same_side}
+pub use Lists.{at_mid, both_sides, each_made, each_part, same_side}
 pub use Lists.{contains_at, each_number, filter-map, filter_all, filter_none, filter_push, filter_skip, find_none, find_numbered, flat_none, flat_one}
 pub use Lists.{flat_push, got, got_map, got_on, got_push, got_set, has_number, list_any-map, map-alike, map-changed, map_alike, next_left, next_place}
 pub use Lists.{next_there, none_all, none_of, none_side, none_twice, one_more, pairs_append, pairs_mid, pairs_push, parted_at, partner, push_side, pushed_all}

@@ -2,7 +2,7 @@
 use Rattle.std.proofs.Common.{append_assoc, append-nil, ◌≡◌, ◌≢◌, ℕ, ◌+◌, ◌-◌, ◌<◌, ◌≤◌, ◌⊎◌, ⊎_elim, zero, suc, Bool, true, false, cond, ◌==◌, ◌||◌, List, []}
 use Rattle.std.proofs.Common.{◌∷◌, ◌++◌, length, map, Some, None, sym, refl, ap, ◌∙◌, inl, inr, arith, length-append, take, drop, drop-cons}
 use Rattle.std.specs.Prelude.{slice_get, slice_set, option_map, All}
-use Rattle.std.specs.List.{AllPairs, Contains, IsDistinct, filter, flat_map, slice_index_or, range_with_len, list_any, find}
+use Rattle.std.specs.List.{AllByRecursion, AllPairs, Contains, IsDistinct, filter, flat_map, slice_index_or, range_with_len, list_any, find}
 use Rattle.std.proofs.lemmas.Bool.{cases_eq, cases_lt, eq-eqb, eqb-true, false_from_ne_true, or_parts}
 use Rattle.std.proofs.lemmas.List.{length-map, map-id, length-set, get_or-set_other, get_or-set_same, get_or_at, take-append-drop}
 pub use Rattle.std.proofs.lemmas.Option.{same_Some as some_same}
@@ -212,6 +212,10 @@ all_right P (x ∷ xs) ys h = all_right P xs ys (All-tail P x (xs ++ ys) h)
 
 pub all_mid : {A : Type 0} (P : A → Type 0) (xs ys : List A) (x : A) → All P (xs ++ x ∷ ys) → P x
 all_mid P xs ys x h = All-head P x ys (all_right P xs (x ∷ ys) h)
+
+pub at_mid : {A : Type 0} (P : A → Type 0) (xs : List A) (x : A) (ys : List A) → AllByRecursion P (xs ++ x ∷ ys) → P x
+at_mid P [] x ys h = h.0
+at_mid P (z ∷ xs) x ys h = at_mid P xs x ys h.1
 
 pub all_after : {A : Type 0} (P : A → Type 0) (xs : List A) (x : A) (ys : List A) → All P (xs ++ x ∷ ys) → All P ys
 all_after P xs x ys h = All-tail P x ys (all_right P xs (x ∷ ys) h)

@@ -1,7 +1,7 @@
 -- A store that has what a manager left, each branch and each key once, has no fault.
 use Rattle.xa_base.proofs.{arith, ◌≡◌, ℕ, ℤ, pos, ◌+ℤ◌, Bool, true, false, not, ◌&&◌, if◌then◌else◌, Option, None, Some, is_some, unwrap_or, List, [], ◌∷◌}
 use Rattle.xa_base.proofs.{◌++◌, map, list_any, lookup, keys_of, refl, sym, ap, ap₂, ◌∙◌, cond, option_or, append-nil, append_assoc, AllByRecursion, IsDistinct}
-use Rattle.xa_base.proofs.{IsDistinct-head, IsDistinct-tail, or_from, or_parts, and-false, find, from_entries, get-empty, get-from_entries}
+use Rattle.xa_base.proofs.{IsDistinct-head, IsDistinct-tail, or_from, or_parts, and-false, at_mid, find, from_entries, get-empty, get-from_entries}
 use Rattle.std.specs.FinMap as finmap
 use Rattle.xa_words.specs.{XidName, xid_eq, Decides-xid_eq, key_eq, Decides-key_eq, Op, are_accounts}
 use Rattle.xa_fates.proofs.ValueLaw.{get_without, get_committed, get_add}
@@ -49,11 +49,6 @@ none_fault fault before [] each = refl
 none_fault fault before (x ∷ xs) each =
     ap₂ option_or (ap (λ bs. fault bs x) (sym (append-nil before)) ∙ each [] x xs refl)
     (none_fault fault (before ++ x ∷ []) xs (λ ys y zs is. ap (λ bs. fault bs y) (append_assoc before (x ∷ []) ys) ∙ each (x ∷ ys) y zs (ap (λ l. x ∷ l) is)))
-
--- what holds of each holds of the one in the middle
-at_mid : {A : Type 0} (P : A → Type 0) (ys : List A) (x : A) (zs : List A) → AllByRecursion P (ys ++ x ∷ zs) → P x
-at_mid P [] x zs h = h.0
-at_mid P (y ∷ ys) x zs h = at_mid P ys x zs h.1
 
 -- ---- the branches
 

@@ -40,7 +40,7 @@ module _ {A : Type 0} (fault : List A → A → Option RestoreFault) (xs : List 
   fine_here d fine within none =
       fine ∙ first_more d within ∙ ap (λ o. option_or o (first_fault fault (take (i + 1) xs) (drop (i + 1) xs))) none
 
-both_none : (a b : Option RestoreFault) → option_or a b ≡ None → (a ≡ None) × (b ≡ None)
+pub both_none : (a b : Option RestoreFault) → option_or a b ≡ None → (a ≡ None) × (b ≡ None)
 both_none None b e = (refl, e)
 both_none (Some f) b e = let z : Some f ≡ None = e in cc
 
@@ -169,7 +169,7 @@ all_fine value state before (s ∷ ss) none p v found =
 -- ---- the tables
 
 -- a declared value, as a store says it
-declared_found : (ds : List (List ℕ × ℕ)) (k : List ℕ) → finmap.get (declared_values ds) k ≡ stored_value ds k
+pub declared_found : (ds : List (List ℕ × ℕ)) (k : List ℕ) → finmap.get (declared_values ds) k ≡ stored_value ds k
 declared_found ds k =
     get-lookup key_eq key_cmp_total key_cmp-IsAntisymmetric key_eq-by_cmp (map (λ d. (d.0, pos d.1)) ds) k ∙ lookup-map_values (λ v. pos v) (key_eq k) ds
 
