@@ -1,0 +1,89 @@
+-- Whose tables a manager begins with, as its two files are opened.
+use Rattle.xa_base.proofs.{◌≡◌, ℕ, zero, suc, ℤ, List, [], ◌∷◌, Option, None, replicate, refl, ap, subst, sym, ◌∙◌, arith, inl, inr, ◌⊎◌, ◌≢◌, true}
+use Rattle.std.proofs.lemmas.Grind.{not_there}
+use Rattle.xa_tables.specs.{opening, restored, stored, Tables}
+use Rattle.sqlite_value.specs.Order.{Row}
+use Rattle.sqlite_pages.specs.PageMap.{PageMap}
+use Rattle.sqlite_pool.specs.File.{in_use}
+use Rattle.sqlite_store.specs.Db.{roots_of, rows_at}
+use Rattle.sqlite_store.specs.Listing.{IsOurs}
+use Rattle.sqlite_trees.specs.Tree.{Trees}
+use Rattle.sqlite_trees.specs.declared.store.Shape.TheVariants.{Table}
+use Rattle.xa_store_sqlite.specs.{Branch, Change, Image, left_of, stored_of, sums_of, tables_of}
+use Rattle.xa_store_sqlite.specs.Files.{AreNew, AreOfAccounts, AreOfFiles, AreOfRows, AreOpened, AreVacant, Bytes, HasEmptyTrees, HasNoRow, HasTrees, HoldsNone}
+use Rattle.xa_store_sqlite.specs.Files.{HoldsNothing, page_bytes, store_schema}
+use Rattle.xa_store_sqlite.proofs.Opened.{always, no_row_of_empty, nothing_in}
+
+no_left : (n : ℕ) → left_of (replicate n None) ≡ []
+no_left zero = refl
+no_left (suc n) = no_left n
+
+no_sums : (branches : List (Option Branch)) (accounts : List (List ℕ × ℕ)) (n : ℕ) → sums_of branches accounts (replicate n None) ≡ []
+no_sums branches [] n = refl
+no_sums branches (a ∷ accounts) zero = refl
+no_sums branches (a ∷ accounts) (suc n) = no_sums branches accounts n
+
+-- a file with accounts alone stands for the tables of an opening with these
+pub of_accounts : (image : Image) (accounts : List (List ℕ × ℕ)) (m n : ℕ) → image.accounts ≡ accounts → image.branches ≡ replicate m None
+    → image.changes ≡ replicate n None → tables_of image ≡ opening accounts
+of_accounts image accounts m n same branches changes = ap restored (left ∙ sums ∙ ap (λ (l : List (List ℕ × ℕ)). stored l [] []) same)
+  where
+    left : stored_of image ≡ stored image.accounts [] (sums_of image.branches image.accounts image.changes)
+    left =
+        ap (λ l. stored image.accounts l (sums_of image.branches image.accounts image.changes))
+        (ap (λ (l : List (Option Branch)). left_of l) branches ∙ no_left m)
+
+    sums : stored image.accounts [] (sums_of image.branches image.accounts image.changes) ≡ stored image.accounts [] []
+    sums =
+        ap (λ l. stored image.accounts [] l)
+        (ap (λ (l : List (Option Change)). sums_of image.branches image.accounts l) changes ∙ no_sums image.branches image.accounts n)
+
+filled : (row : Row) (rows : List Row) → row ∷ rows ≡ [] → ⊥
+filled row rows e = let z : row ∷ rows ≡ [] = e in cc
+
+-- a number that is passed on is the same
+pub renumbered : {m n : ℤ} {accounts : List (List ℕ × ℕ)} {trees : Trees} {T : Tables} → m ≡ n → AreOfRows m trees T ⊎ AreOfAccounts accounts trees T
+    → AreOfRows n trees T ⊎ AreOfAccounts accounts trees T
+renumbered {accounts = accounts} {trees = trees} {T = T} same from = subst (λ (k : ℤ). AreOfRows k trees T ⊎ AreOfAccounts accounts trees T) same from
+
+-- what was read of the trees is what the files have
+pub of_files : (files : Bytes) (number : ℤ) (accounts : List (List ℕ × ℕ)) (trees : Trees) (T : Tables) → AreOpened files trees
+    → AreOfRows number trees T ⊎ AreOfAccounts accounts trees T → AreOfFiles files number T ⊎ AreNew files accounts T
+of_files files number accounts trees T (inl read) (inl rows) = inl (record { trees = trees; read = read; rows = rows })
+of_files files number accounts trees T (inl read) (inr new) = inr (record { none = no_row_of_empty files trees read new.empty; are = new.are })
+of_files files number accounts trees T (inr none) (inr new) = inr (record { none = none.0; are = new.are })
+of_files files number accounts trees T (inr none) (inl rows) =
+    let one = sym (rows.has 3 (omega arith)) ∙ none.1 3 (omega arith) in
+    absurd (filled _ _ one)
+
+pub nothing_else : (files : Bytes) (number : ℤ) (accounts : List (List ℕ × ℕ)) (trees : Trees) (T : Tables) → HasTrees files trees ⊎ HoldsNone files
+    → AreOfRows number trees T ⊎ AreOfAccounts accounts trees T → AreOfFiles files number T ⊎ HoldsNothing files
+nothing_else files number accounts trees T (inl read) (inl rows) = inl (record { trees = trees; read = read; rows = rows })
+nothing_else files number accounts trees T (inl read) (inr new) = inr (nothing_in files trees read new.empty)
+nothing_else files number accounts trees T (inr none) from = inr (λ pages found. inl (none pages found))
+
+pub vacant_or_empty : (files : Bytes) (number : ℤ) (accounts : List (List ℕ × ℕ)) (trees : Trees) (T : Tables) → HasTrees files trees ⊎ AreVacant files
+    → AreOfRows number trees T ⊎ AreOfAccounts accounts trees T → AreOfFiles files number T ⊎ (HasEmptyTrees files ⊎ AreVacant files)
+vacant_or_empty files number accounts trees T (inl read) (inl rows) = inl (record { trees = trees; read = read; rows = rows })
+vacant_or_empty files number accounts trees T (inl read) (inr new) = inr (inl (trees, read, new.empty))
+vacant_or_empty files number accounts trees T (inr vacant) from = inr (inr vacant)
+
+-- ---- files with a row
+
+pub row_found : (files : Bytes) (trees : Trees) → HasTrees files trees → trees 3 ≢ [] → ¬ (HasNoRow files)
+row_found files trees has some none = some (none trees has 3 (omega arith))
+
+listed : (pages : PageMap) → IsOurs page_bytes true store_schema pages → ¬ (rows_at page_bytes (in_use page_bytes pages) Table 1 ≡ [])
+unfolding roots_of
+listed pages ours empty = filled _ _ (sym (ours.numbered always).listed ∙ empty)
+
+pub something_found : (files : Bytes) (trees : Trees) → HasTrees files trees → trees 3 ≢ [] → ¬ (HoldsNothing files)
+something_found files trees has some nothing =
+    elim (nothing has.pages has.found) [
+      | inl (inl none) ↦ not_there has.ours (λ ours. none store_schema ours.file)
+      | inl (inr empty) ↦ not_there has.ours (λ ours. listed has.pages ours empty)
+      | inr same ↦ some (ap (λ (all : Trees). all 3) has.are ∙ same.1 3 (omega arith))
+    ]
+
+pub one_found : (files : Bytes) (number : ℤ) (accounts : List (List ℕ × ℕ)) (T U : Tables) → AreOfFiles files number T → ¬ (AreNew files accounts U)
+one_found files number accounts T U old new = row_found files old.trees old.read (λ empty. filled _ _ (sym (old.rows.has 3 (omega arith)) ∙ empty)) new.none

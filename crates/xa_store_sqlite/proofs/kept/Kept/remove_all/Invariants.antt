@@ -1,0 +1,22 @@
+use Rattle.std.specs.Map.Iter.{deref}
+use Rattle.xa_base.proofs.{◌≡◌, ◌++◌, map}
+use Rattle.sqlite_trees.specs.View.{IsQuiet}
+use Rattle.xa_store_sqlite.specs.{IsInOrder, IsSeen, RemovesAll, image_of}
+use Rattle.xa_store_sqlite.proofs.kept.Kept.remove_all.Given as goal
+
+-- the first of them are removed
+abbrev pub invariant-loop-xid : goal.invariant-loop-xid
+invariant-loop-xid g l =
+    let view = g.S.Store.view in
+    let recovers = g.S.Store.recovers in
+    let old = l.fn.self in
+    let new = l.self in
+    record {
+      so_far : map deref l.yielded ++ l.xid-iterator ≡ l.xids.keys;
+      seen : IsSeen (view old.tables.trees) (recovers old.tables.trees) old.is_written (image_of old.mirror)
+          → IsSeen (view new.tables.trees) (recovers new.tables.trees) new.is_written (image_of new.mirror);
+      order : IsInOrder old.slots.entries old.places.entries (image_of old.mirror) → IsInOrder new.slots.entries new.places.entries (image_of new.mirror);
+      removed : IsInOrder old.slots.entries old.places.entries (image_of old.mirror)
+          → RemovesAll (map deref l.yielded) (image_of old.mirror) (image_of new.mirror);
+      quiet : IsQuiet view g.S.Store.faults recovers g.S.Store.is_shielded old.tables.trees new.tables.trees;
+    }
