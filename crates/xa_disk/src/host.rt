@@ -10,27 +10,37 @@ use sqlite_disk::{Disk, is_no_room};
 use sqlite_std_file::{File, OpenError};
 use std::alloc::Global;
 use std::io;
+use thiserror::Error;
 
 /// Why the files of a database aren't opened.
-#[derive(Clone, Copy, Debug, PartialEq, Eq)]
+#[derive(Clone, Copy, Debug, PartialEq, Eq, Error)]
 pub enum FileFault {
     /// Another program has one of them open, or another handle of this one.
+    #[error("another program has it open")]
     InUse,
     /// Their folder isn't there.
+    #[error("there is no such folder")]
     NoFolder,
     /// The program may not open or make one of them.
+    #[error("permission denied")]
     NoPermission,
     /// The disk has no room, or the user's part of it.
+    #[error("the disk has no room")]
     NoRoom,
     /// One of them is a folder or a device, or has several names, or the log's name is that of a link.
+    #[error("it is a folder, a device or a link, or has several names")]
     NotAFile,
     /// SQLite left a rollback journal beside them, which only SQLite can play back, or its name is that of no file.
+    #[error("SQLite left a rollback journal beside it, which sqlite3 plays back")]
     HotJournal,
     /// One of them has more bytes than may be read.
+    #[error("it has too many bytes")]
     TooLarge,
     /// Memory was refused.
+    #[error("out of memory")]
     Memory,
     /// One of them can't be opened, locked, read, written or synced for another reason: perhaps the disk has failed.
+    #[error("it can't be opened, locked, read, written or synced")]
     Failed,
 }
 

@@ -18,6 +18,8 @@ mod lent;
 #[cfg(test)]
 mod making;
 #[cfg(test)]
+mod mixed;
+#[cfg(test)]
 mod opening;
 #[cfg(test)]
 mod owing;
