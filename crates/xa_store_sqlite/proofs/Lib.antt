@@ -15,6 +15,8 @@ pub mod Values
 pub mod Founding
 pub mod ReadRows
 pub mod Laid
+pub mod Buildable
+pub mod Decided
 pub mod Opened
 pub mod OfFiles
 pub mod LeftOver
@@ -24,3 +26,5 @@ pub mod Fresh
 pub mod Refused
 pub mod Whole
 pub mod Alike
+pub mod Device
+pub mod Started

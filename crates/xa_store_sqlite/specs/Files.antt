@@ -4,16 +4,13 @@ use Rattle.std.specs.Prelude.{codes, IsTrue}
 use Rattle.sqlite_value.specs.declared.value.Value.TheVariants.{Text}
 use Rattle.sqlite_disk.specs.Disk.{Only}
 use Rattle.sqlite_disk.specs.declared.Disk.{Ghosts}
-use Rattle.sqlite_wal.specs.Files.{outcomes, seen_image}
 use Rattle.sqlite_wal.specs.Recovery as wal
 use Rattle.sqlite_pages.specs.PageMap.{PageMap}
-use Rattle.sqlite_pool.specs.File.{in_use}
 use Rattle.sqlite_pool.specs.Opening.{IsBlankFile}
-use Rattle.sqlite_pool.specs.Stored.{IsUnreadable, Recovers, RecoversAs, used_size}
+use Rattle.sqlite_pool.specs.Stored.{Recovers, used_size}
 use Rattle.sqlite_trees.specs.Tree.{Trees}
 use Rattle.sqlite_trees.specs.View.{View, IsClean}
 use Rattle.sqlite_trees.specs.declared.store.Shape.TheVariants.{Table}
-use Rattle.sqlite_store.specs.Db.{IsFile, rows_at}
 use Rattle.sqlite_store.specs.Listing.{IsOurs, file_trees}
 use Rattle.sqlite_store.specs.Opening.{IsEmptyFile}
 use Rattle.sqlite_store.specs.declared.catalog.Wanted.{Wanted}
@@ -77,60 +74,19 @@ pub record HasTrees (files : Bytes) (trees : Trees) : Type 0 where
 abbrev pub AreEmpty : Trees → Type 0
 AreEmpty trees = (t : ℕ) → t < 4 → trees t ≡ []
 
--- there is no store's database, or one whose tables have no row
-abbrev pub HasNoRow : Bytes → Type 0
-HasNoRow files = (trees : Trees) → HasTrees files trees → AreEmpty trees
-
--- the pages are no database, or one that lists no table
-abbrev pub AreUnused : PageMap → Type 0
-AreUnused pages =
-    ((schema : List Wanted) → ¬ (IsFile page_bytes schema pages))
-    ⊎ (rows_at page_bytes (in_use page_bytes pages) Table 1 ≡ [])
-
--- whatever the files recover to is no database, or one that lists no table
-abbrev pub HoldsNone : Bytes → Type 0
-HoldsNone files = (pages : PageMap) → Recovers page_bytes files pages → AreUnused pages
-
--- the same, or it is a store's database whose tables have no row
-abbrev pub HoldsNothing : Bytes → Type 0
-HoldsNothing files =
-    (pages : PageMap) → Recovers page_bytes files pages
-    → AreUnused pages
-    ⊎ (∥ IsOurs page_bytes true store_schema pages ∥₁ × AreEmpty (file_trees page_bytes store_schema pages))
-
 -- a crash leaves the two files as they are read, which it does when they were just opened
 abbrev pub AreSynced : {D : Type 0} → Ghosts D → D → D → Type 0
 AreSynced g log db = Only (g.seen log) (g.may_leave log) × Only (g.seen db) (g.may_leave db)
 
--- no database was made yet, or one whose schema lists no table
+-- no database was made yet, the making of one didn't end, or there is one whose schema lists no table
 abbrev pub IsUnstarted : Bytes → Type 0
 IsUnstarted files =
     IsBlankFile page_bytes files
     ⊎ ((pages : PageMap) × Recovers page_bytes files pages × IsEmptyFile page_bytes pages)
 
--- That is so of bytes that recover to all that these files recover to: of the files themselves, where they recover to
--- no whole pages.
-pub record AreVacant (files : Bytes) : Type 0 where
-  pub left : Bytes
-  pub covers : RecoversAs page_bytes files left
-  pub same : IsUnreadable page_bytes files → left ≡ files
-  pub unstarted : ∥ IsUnstarted left ∥₁
-
--- a store's database, whose tables have no row
-abbrev pub HasEmptyTrees : Bytes → Type 0
-HasEmptyTrees files = (trees : Trees) × HasTrees files trees × AreEmpty trees
-
--- a crash leaves these bytes of the files, or they recover to all that the files recover to; the first, where that is
--- no whole pages
-pub record AreLeft {D : Type 0} (g : Ghosts D) (log db : D) (left : Bytes) : Type 0 where
-  pub before : outcomes g log db left ⊎ RecoversAs page_bytes (seen_image g log db) left
-  pub unread : IsUnreadable page_bytes (seen_image g log db) → outcomes g log db left
-
--- no database was made yet in such bytes, or one whose schema lists no table
-pub record LeavesUnstarted {D : Type 0} (g : Ghosts D) (log db : D) : Type 0 where
-  pub left : Bytes
-  pub are_left : AreLeft g log db left
-  pub unstarted : ∥ IsUnstarted left ∥₁
+-- that is so, or the files have a store's database whose tables have no row
+abbrev pub HasNoRow : Bytes → Type 0
+HasNoRow files = ∥ IsUnstarted files ∥₁ ⊎ ((trees : Trees) × HasTrees files trees × AreEmpty trees)
 
 -- ---- the manager's tables, and the files
 
@@ -152,14 +108,14 @@ pub record AreOfFiles (files : Bytes) (number : ℤ) (T : manager.Tables) : Type
   pub read : HasTrees files trees
   pub rows : AreOfRows number trees T
 
--- the files have no row of a store, and the manager's tables are those of an opening with these accounts
+-- the files have no row, and the manager's tables are those of an opening with these accounts
 pub record AreNew (files : Bytes) (accounts : List (List ℕ × ℕ)) (T : manager.Tables) : Type 0 where
   pub none : HasNoRow files
   pub are : T ≡ opening accounts
 
--- the files are read as these trees, or have no row of a store and are made with empty trees
+-- the files are read as these trees, or are made with empty ones
 abbrev pub AreOpened : Bytes → Trees → Type 0
-AreOpened files trees = HasTrees files trees ⊎ (HasNoRow files × AreEmpty trees)
+AreOpened files trees = HasTrees files trees ⊎ (∥ IsUnstarted files ∥₁ × AreEmpty trees)
 
 -- ---- a new file
 

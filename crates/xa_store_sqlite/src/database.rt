@@ -1,12 +1,13 @@
 //! The database of a store.
-ghost use Rattle.std.specs.Prelude.{◌≡◌, ◌⊎◌, IfOk, map};
+ghost use Rattle.std.specs.Prelude.{◌≡◌, IfErr, IfOk, map, true};
 ghost use Rattle.sqlite_store.specs.Catalog.{wanted_of};
 ghost use Rattle.sqlite_store.specs.FileStore.{IsReady, view};
 ghost use Rattle.sqlite_store.specs.Unopened.{AreUsable, files_of, state_of, wanted_by};
+ghost use Rattle.sqlite_trees.specs.Tree.{Trees};
 ghost use Rattle.sqlite_wal.specs.Files.{seen_image};
-ghost use Rattle.xa_store_sqlite.specs.Files.{AreEmpty, AreOpened, AreSynced, AreVacant, HasTrees};
-ghost use Rattle.xa_store_sqlite.specs.Files.{HoldsNone, IsUnstarted, LeavesUnstarted, page_bytes, store_schema};
+ghost use Rattle.xa_store_sqlite.specs.Files.{AreOpened, AreSynced, HasTrees, IsUnstarted, page_bytes, store_schema};
 ghost use Rattle.xa_store_sqlite.specs.Files.{table_by};
+ghost use Rattle.xa_store_sqlite.specs.Refusals.{is_of_device};
 ghost use Rattle.xa_store_sqlite.specs.Writes.{IsLaid};
 
 use crate::fault::{OpenFault, unopened};
@@ -81,6 +82,7 @@ fn over<B: Backing + Drop>(
     ensures files { IfOk result (λ it. files_of it ≡ (files.log, files.db)) }
     ensures size { IfOk result (λ it. (state_of it).page_size ≡ page_bytes) }
     ensures schema { IfOk result (λ it. wanted_by it ≡ store_schema) }
+    ensures device { IfErr result (λ fault. is_of_device fault ≡ true) }
 {
     if !files.may_be_used() {
         return Err(OpenFault::Failed);
@@ -126,8 +128,11 @@ fn are_of_a_store(rows: &[Row]) -> bool {
     true
 }
 
-// Why files aren't opened that hold a database whose list of tables can be read.
+// Why files aren't opened that hold a database with this list of tables.
 fn fault_of(rows: &[Row]) -> OpenFault {
+    if rows.is_empty() {
+        return OpenFault::NotADatabase;
+    }
     if are_of_a_store(rows) {
         OpenFault::Damaged
     } else {
@@ -135,66 +140,61 @@ fn fault_of(rows: &[Row]) -> OpenFault {
     }
 }
 
-// A database with empty tables, in files that hold none.
-fn made<B: Backing + Drop>(
-    alloc: Global,
-    files: Files<WriteThrough<B>>,
-) -> Result<SlotTables<TreesIn<B>>, OpenFault>
-    ensures ready { IfOk result (λ t. IsReady t.trees) }
-    ensures laid { IfOk result (λ t. IsLaid (view t.trees)) }
-    ensures empty { IfOk result (λ t. AreEmpty (view t.trees).trees) }
-    ensures unstarted { IfOk result (λ _.
-        ∥ IsUnstarted (seen_image ⟦<WriteThrough<B> as Disk>⟧ files.log files.db) ∥₁) }
-{
-    match over(alloc, files)?.create() {
-        Ok(trees) => Ok(SlotTables::over(alloc, trees)),
-        Err((error, _)) => Err(unopened(error, OpenFault::NotADatabase)),
-    }
-}
-
-// Why files aren't opened, or a database with empty tables, where they hold none.
-fn made_or_refused<B: Backing + Drop>(
-    alloc: Global,
-    files: Files<WriteThrough<B>>,
-) -> Result<SlotTables<TreesIn<B>>, OpenFault>
-    ensures ready { IfOk result (λ t. IsReady t.trees) }
-    ensures laid { IfOk result (λ t. IsLaid (view t.trees)) }
-    ensures empty { IfOk result (λ t. AreEmpty (view t.trees).trees) }
-    ensures none { IfOk result (λ _. HoldsNone (seen_image ⟦<WriteThrough<B> as Disk>⟧ files.log files.db)) }
-    ensures unstarted { IfOk result (λ _. LeavesUnstarted ⟦<WriteThrough<B> as Disk>⟧ files.log files.db) }
-{
-    let mut found = over(alloc, files)?;
+// Why these files aren't opened. Nothing is made in them.
+fn fault_in<B: Backing + Drop>(alloc: Global, files: Files<WriteThrough<B>>) -> OpenFault {
+    let mut found = match over(alloc, files) {
+        Ok(found) => found,
+        Err(fault) => return fault,
+    };
     match found.read_catalog() {
-        Ok(rows) => {
-            if !rows.is_empty() {
-                return Err(fault_of(&rows));
-            }
-            made(alloc, found.close())
-        }
-        Err(OpenError::Refused) => made(alloc, found.close()),
-        Err(error) => Err(unopened(error, OpenFault::Failed)),
+        Ok(rows) => fault_of(&rows),
+        Err(error) => unopened(error, OpenFault::NotADatabase),
     }
 }
 
-/// The tables of the database in these files. It is made with empty ones where there is none.
+// The tables of the store's database that is in these files.
+fn found<B: Backing + Drop>(
+    alloc: Global,
+    files: Files<WriteThrough<B>>,
+) -> Result<SlotTables<TreesIn<B>>, OpenFault>
+    ensures ready { IfOk result (λ t. IsReady t.trees) }
+    ensures laid { IfOk result (λ t. IsLaid (view t.trees)) }
+    ensures has { IfOk result (λ t. HasTrees (seen_image ⟦<WriteThrough<B> as Disk>⟧ files.log files.db)
+        (view t.trees).trees) }
+    ensures device { (trees : Trees) → HasTrees (seen_image ⟦<WriteThrough<B> as Disk>⟧ files.log files.db) trees
+        → IfErr result (λ fault. is_of_device fault ≡ true) }
+{
+    match over(alloc, files)?.open_numbered() {
+        Ok(trees) => Ok(SlotTables::over(alloc, trees)),
+        Err((OpenError::Refused, refused)) => Err(fault_in(alloc, refused.close())),
+        Err((error, _)) => Err(unopened(error, OpenFault::Failed)),
+    }
+}
+
+/// The tables of the database in these files. It is made with empty ones where there is none, or where the making of
+/// one didn't end. That is tried first, as each opening of what is there begins the log anew, by which such a making
+/// is known.
 pub(crate) fn tables_in<B: Backing + Drop>(
     alloc: Global,
     files: Files<WriteThrough<B>>,
 ) -> Result<SlotTables<TreesIn<B>>, OpenFault>
     ensures ready { IfOk result (λ t. IsReady t.trees) }
     ensures laid { IfOk result (λ t. IsLaid (view t.trees)) }
-    ensures opened { IfOk result (λ t. AreOpened (seen_image ⟦<WriteThrough<B> as Disk>⟧ files.log files.db)
-        (view t.trees).trees) }
-    ensures none { AreSynced ⟦<WriteThrough<B> as Disk>⟧ files.log files.db → IfOk result (λ t.
-        HasTrees (seen_image ⟦<WriteThrough<B> as Disk>⟧ files.log files.db) (view t.trees).trees
-        ⊎ HoldsNone (seen_image ⟦<WriteThrough<B> as Disk>⟧ files.log files.db)) }
-    ensures vacant { AreSynced ⟦<WriteThrough<B> as Disk>⟧ files.log files.db → IfOk result (λ t.
-        HasTrees (seen_image ⟦<WriteThrough<B> as Disk>⟧ files.log files.db) (view t.trees).trees
-        ⊎ AreVacant (seen_image ⟦<WriteThrough<B> as Disk>⟧ files.log files.db)) }
+    ensures opened { AreSynced ⟦<WriteThrough<B> as Disk>⟧ files.log files.db → IfOk result (λ t.
+        AreOpened (seen_image ⟦<WriteThrough<B> as Disk>⟧ files.log files.db) (view t.trees).trees) }
+
+    // Files that hold a store's database are refused for want of memory, of room or of a disk alone.
+    ensures device { AreSynced ⟦<WriteThrough<B> as Disk>⟧ files.log files.db → (trees : Trees)
+        → HasTrees (seen_image ⟦<WriteThrough<B> as Disk>⟧ files.log files.db) trees
+        → IfErr result (λ fault. is_of_device fault ≡ true) }
+
+    // So are files in which no database was made yet, or the making of one didn't end.
+    ensures made { ∥ IsUnstarted (seen_image ⟦<WriteThrough<B> as Disk>⟧ files.log files.db) ∥₁
+        → IfErr result (λ fault. is_of_device fault ≡ true) }
 {
-    match over(alloc, files)?.open_numbered() {
+    match over(alloc, files)?.create() {
         Ok(trees) => Ok(SlotTables::over(alloc, trees)),
-        Err((OpenError::Refused, refused)) => made_or_refused(alloc, refused.close()),
+        Err((OpenError::Refused, refused)) => found(alloc, refused.close()),
         Err((error, _)) => Err(unopened(error, OpenFault::Failed)),
     }
 }

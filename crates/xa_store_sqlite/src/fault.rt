@@ -108,8 +108,8 @@ pub enum OpenFault {
     /// The disk has no room for the rows of a new file, or the file has met a limit of its format.
     #[error("the disk has no room")]
     NoRoom,
-    /// It is no SQLite database, or one whose pages haven't the checksums of a store: it is damaged, or sqlite3 has
-    /// written to it, or a first start was ended as it made the file. That one has no row, and may be removed.
+    /// It is no SQLite database and no beginning of one, or its pages haven't the checksums of a store: it is damaged,
+    /// or sqlite3 has written to it.
     #[error("it is no SQLite database, or it is damaged, or sqlite3 has written to it")]
     NotADatabase,
     /// It is a database whose tables aren't those of a store, byte for byte as they were created.

@@ -1,8 +1,9 @@
 //! What a file has, and writing to it.
-ghost use Rattle.std.specs.Prelude.{◌≡◌, ◌≤◌, ◌<◌, ◌⊎◌, IfOk, OnOk, Some, None, true, false, length, is_some};
+ghost use Rattle.std.specs.Prelude.{◌≡◌, ◌≤◌, ◌<◌, ◌⊎◌, IfErr, IfOk, OnOk, Some, None, true, false, length, is_some};
 ghost use Rattle.std.specs.Prelude.{List, if◌then◌else◌, ℕ, take, vec_capacity, ◌+◌, IsTrue};
 ghost use Rattle.std.specs.List.{IsDistinct};
 ghost use Rattle.std.specs.Map.{keys_of, lookup};
+ghost use Rattle.xa_words.specs.Accounts.{are_accounts};
 ghost use Rattle.xa_words.specs.Key.{key_eq};
 ghost use Rattle.xa_words.specs.Xid.{XidName, xid_eq};
 ghost use Rattle.std.proofs.Props.{props};
@@ -16,6 +17,7 @@ ghost use Rattle.xa_store_sqlite.specs.Writes.{PutsAll, PutsBranch, PutsSum, Put
 ghost use Rattle.xa_store_sqlite.specs.Writes.{is_of_branch, is_of_slot, item_at, place_from, unless_of, with_account};
 ghost use Rattle.xa_store_sqlite.specs.Writes.{with_branch, with_change, without_changes};
 ghost use Rattle.xa_store_sqlite.specs.Files.{HasAccountsAlone, IsBare, accounts_to};
+ghost use Rattle.xa_store_sqlite.specs.Refusals.{is_of_device};
 
 use crate::fault::OpenFault;
 use crate::mirror::{ACCOUNTS, BRANCHES, Branch, CHANGES, Change, Left, Mirror, STORE};
@@ -563,7 +565,8 @@ impl<S: Trees> Kept<S> {
 
     // How many accounts there are.
     fn account_count(&self) -> Result<u32, WriteFault>
-        ensures { IfOk result (λ count. count ≡ length self.now.mirror.accounts.items) }
+        ensures count { IfOk result (λ count. count ≡ length self.now.mirror.accounts.items) }
+        ensures few { IfErr result (λ _. MOST_KEYS < length self.now.mirror.accounts.items) }
     {
         match u32::try_from(self.mirror.accounts.len()) {
             Ok(count) => Ok(count),
@@ -628,6 +631,8 @@ impl<S: Trees> Kept<S> {
         ensures filled { Knows 4 (S.view self.old.tables.trees) (accounts_to place (image_of self.old.mirror))
             → OnOk result (Knows 4 (S.view self.new.tables.trees) (accounts_to (place + 1)
             (image_of self.old.mirror))) }
+        ensures device { are_accounts self.old.mirror.accounts.items ≡ true
+            → place < length self.old.mirror.accounts.items → IfErr result (λ fault. is_of_device fault ≡ true) }
         ensures mirror { self.new.mirror ≡ self.old.mirror }
         ensures slots { self.new.slots ≡ self.old.slots }
         ensures places { self.new.places ≡ self.old.places }
@@ -649,6 +654,8 @@ impl<S: Trees> Kept<S> {
         ensures filled { IsBare (S.view self.old.tables.trees)
             → OnOk result (Knows 4 (S.view self.new.tables.trees)
             (accounts_to (length self.old.mirror.accounts.items) (image_of self.old.mirror))) }
+        ensures device { are_accounts self.old.mirror.accounts.items ≡ true
+            → IfErr result (λ fault. is_of_device fault ≡ true) }
         ensures mirror { self.new.mirror ≡ self.old.mirror }
         ensures slots { self.new.slots ≡ self.old.slots }
         ensures places { self.new.places ≡ self.old.places }
@@ -668,6 +675,7 @@ impl<S: Trees> Kept<S> {
             → Knows 4 (S.view self.old.tables.trees) (accounts_to (length self.old.mirror.accounts.items)
             (image_of self.old.mirror))
             → OnOk result (Knows 4 (S.view self.new.tables.trees) (slots_of (image_of self.old.mirror))) }
+        ensures device { IfErr result (λ fault. is_of_device fault ≡ true) }
         ensures mirror { self.new.mirror ≡ self.old.mirror }
         ensures slots { self.new.slots ≡ self.old.slots }
         ensures places { self.new.places ≡ self.old.places }
@@ -682,6 +690,7 @@ impl<S: Trees> Kept<S> {
         ensures settled { Knows 4 (S.view self.old.tables.trees) (slots_of (image_of self.old.mirror))
             → OnOk result (IsSettled (S.view self.new.tables.trees) (S.recovers self.new.tables.trees)
             (image_of self.old.mirror)) }
+        ensures device { IfErr result (λ fault. is_of_device fault ≡ true) }
         ensures mirror { self.new.mirror ≡ self.old.mirror }
         ensures slots { self.new.slots ≡ self.old.slots }
         ensures places { self.new.places ≡ self.old.places }
@@ -696,6 +705,8 @@ impl<S: Trees> Kept<S> {
         ensures settled { HasAccountsAlone (image_of self.old.mirror) → IsBare (S.view self.old.tables.trees)
             → OnOk result (IsSettled (S.view self.new.tables.trees) (S.recovers self.new.tables.trees)
             (image_of self.old.mirror)) }
+        ensures device { are_accounts self.old.mirror.accounts.items ≡ true
+            → IfErr result (λ fault. is_of_device fault ≡ true) }
         ensures mirror { self.new.mirror ≡ self.old.mirror }
         ensures slots { self.new.slots ≡ self.old.slots }
         ensures places { self.new.places ≡ self.old.places }

@@ -1,18 +1,21 @@
 //! Opening a store.
-ghost use Rattle.std.specs.Prelude.{◌≡◌, ◌⊎◌, ◌≤◌, ◌*◌, ◌++◌, ◌∷◌, [], IfOk, OnOk, None, false, slice_get};
+ghost use Rattle.std.specs.Prelude.{◌≡◌, ◌⊎◌, ◌≤◌, ◌+◌, ◌*◌, ◌/◌, ◌++◌, ◌∷◌, [], IfErr, IfOk, OnOk, None, false, true};
+ghost use Rattle.std.specs.Prelude.{slice_get};
 ghost use Rattle.sqlite_store.specs.FileStore.{view};
+ghost use Rattle.sqlite_trees.specs.Tree.{Trees};
 ghost use Rattle.sqlite_trees.specs.View.{IsClean};
 ghost use Rattle.sqlite_wal.specs.Files.{seen_image};
 ghost use Rattle.xa_slots.specs.{Knows};
 ghost use Rattle.xa_store.specs.Stores.{AreDurable};
+ghost use Rattle.xa_words.specs.Accounts.{are_accounts};
 ghost use Rattle.xa_tables.specs.ManagerTables.{Tables};
 ghost use Rattle.xa_tables.specs.Openings.{IsOpening, reopened};
 ghost use Rattle.xa_tables.specs.Restored.{fault_of};
-ghost use Rattle.xa_store_sqlite.specs.Images.{HasAllBut, left_of, name_at, slots_of, stored_of, sums_of};
-ghost use Rattle.xa_store_sqlite.specs.Images.{tables_of};
-ghost use Rattle.xa_store_sqlite.specs.Files.{AreNew, AreOfAccounts, AreOfFiles, AreOfRows, AreSynced};
-ghost use Rattle.xa_store_sqlite.specs.Files.{AreVacant, HasAccountsAlone, HasEmptyTrees, HoldsNothing, IsBare};
-ghost use Rattle.xa_store_sqlite.specs.Files.{IsFresh, sum_at};
+ghost use Rattle.xa_store_sqlite.specs.Images.{HasAllBut, HasImage, Image, left_of, name_at, slots_of, stored_of};
+ghost use Rattle.xa_store_sqlite.specs.Images.{sums_of, tables_of};
+ghost use Rattle.xa_store_sqlite.specs.Files.{AreEmpty, AreNew, AreOfAccounts, AreOfFiles, AreOfRows};
+ghost use Rattle.xa_store_sqlite.specs.Files.{AreSynced, HasAccountsAlone, HasNoRow, HasTrees, IsBare, IsFresh, sum_at};
+ghost use Rattle.xa_store_sqlite.specs.Refusals.{IsWhole, is_of_device};
 ghost use Rattle.xa_store_sqlite.specs.Writes.{AreOwned, IsInOrder, IsLaid};
 ghost use Rattle.xa_store_sqlite.specs.Writes.{KnowsAllBut, image_of};
 
@@ -34,7 +37,8 @@ use xa_words::{Key, Xid};
 
 // The most branches that so many requests can prepare.
 fn branches_within(requests: u32) -> usize
-    ensures { requests ≤ 2 * result }
+    ensures enough { requests ≤ 2 * result }
+    ensures is { result ≡ (requests + 1) / 2 }
 {
     requests.div_ceil(2) as usize
 }
@@ -121,6 +125,8 @@ fn manager_of(alloc: Global, mirror: &Mirror, threads: u32, room: u32) -> Result
     ensures room { IfOk result (λ m. m.room ≡ room) }
     ensures reserved { IfOk result (λ m. m.reserved ≡ None) }
     ensures faultless { OnOk result (fault_of (stored_of (image_of mirror.now)) ≡ None) }
+    ensures device { fault_of (stored_of (image_of mirror.now)) ≡ None
+        → IfErr result (λ fault. is_of_device fault ≡ true) }
 {
     let left = left_of(alloc, &mirror.branches)?;
     let sums = sums_of(alloc, mirror)?;
@@ -148,6 +154,8 @@ fn manager_with<S: Trees + Drop>(
     ensures has { IfOk result (λ p. HasAllBut [] false (image_of mirror) p.0.tables) }
     ensures order { AreOwned (image_of mirror)
         → IfOk result (λ p. IsInOrder p.1.slots.entries p.1.places.entries (image_of mirror)) }
+    ensures device { fault_of (stored_of (image_of mirror)) ≡ None
+        → IfErr result (λ fault. is_of_device fault ≡ true) }
 {
     let manager = manager_of(alloc, &mirror, threads, room)?;
     let kept = Kept::new(alloc, tables, mirror)?;
@@ -173,6 +181,8 @@ fn found<S: Trees + Drop>(
     ensures knows { IsFresh (S.view tables.trees) → Knows 4 (S.view tables.trees) (slots_of (image_of mirror))
         → AreOwned (image_of mirror) → IfOk result (λ p. KnowsAllBut [] false (S.view p.1.tables.trees)
         (S.recovers p.1.tables.trees) (image_of p.1.mirror) p.1.slots.entries p.1.places.entries p.0.tables) }
+    ensures device { fault_of (stored_of (image_of mirror)) ≡ None
+        → IfErr result (λ fault. is_of_device fault ≡ true) }
 {
     tables.are_committed();
     let found = manager_with(alloc, tables, mirror, threads, room)?;
@@ -198,6 +208,8 @@ fn founded<S: Trees + Drop>(
     ensures knows { IsBare (S.view tables.trees) → HasAccountsAlone (image_of mirror) → AreOwned (image_of mirror)
         → IfOk result (λ p. KnowsAllBut [] false (S.view p.1.tables.trees) (S.recovers p.1.tables.trees)
         (image_of p.1.mirror) p.1.slots.entries p.1.places.entries p.0.tables) }
+    ensures device { are_accounts mirror.accounts.items ≡ true → fault_of (stored_of (image_of mirror)) ≡ None
+        → IfErr result (λ fault. is_of_device fault ≡ true) }
 {
     let made = manager_with(alloc, tables, mirror, threads, room)?;
     let (manager, mut kept) = made;
@@ -227,6 +239,11 @@ fn restored<S: Trees + Drop>(
     ensures from { ((s : S) → IsClean (S.view s)) → IfOk result (λ p.
         AreOfRows number (S.view tables.trees).trees p.0.tables
         ⊎ AreOfAccounts accounts.now (S.view tables.trees).trees p.0.tables) }
+    ensures whole { ((s : S) → IsClean (S.view s)) → (image : Image) → HasImage image (S.view tables.trees).trees
+        → IsWhole number ((room + 1) / 2) image → fault_of (stored_of image) ≡ None
+        → IfErr result (λ fault. is_of_device fault ≡ true) }
+    ensures new { ((s : S) → IsClean (S.view s)) → AreEmpty (S.view tables.trees).trees
+        → are_accounts accounts.now ≡ true → IfErr result (λ fault. is_of_device fault ≡ true) }
 {
     let free = branches_within(room);
     match mirror_of(&mut tables, alloc, number, free)? {
@@ -259,7 +276,8 @@ fn store_of<S: Trees + Drop>(alloc: Global, kept: Kept<S>) -> Result<SlotStore<S
 
 /// Opens the store in these files, and restores its manager. Where the files, as they are read, are a store's with
 /// rows, the manager is that of these rows, and the accounts that are given here aren't looked at. Where they hold no
-/// database, or one whose tables have no row, they get these accounts, and the manager has them, and no branch.
+/// database, what a making that was ended has left of one, or one that has no row, they get these accounts, and the
+/// manager has them, and no branch.
 ///
 /// The number says which file it is, as one drawn at random for a set of files. A file that has another is refused, and
 /// a new one gets it.
@@ -281,20 +299,11 @@ pub fn open<B: Backing + Drop>(
     ensures room { IfOk result (λ p. p.0.room ≡ room) }
     ensures reserved { IfOk result (λ p. p.0.reserved ≡ None) }
 
-    // The manager is that of the rows that the files have, as they are read. Where they have none, it is that of these
-    // accounts.
-    ensures from { IfOk result (λ p.
+    // Where a crash would leave the files as they are read, the manager is that of the rows that they have. Where they
+    // have none, it is that of these accounts.
+    ensures from { AreSynced ⟦<WriteThrough<B> as Disk>⟧ files.log files.db → IfOk result (λ p.
         AreOfFiles (seen_image ⟦<WriteThrough<B> as Disk>⟧ files.log files.db) number p.0.tables
         ⊎ AreNew (seen_image ⟦<WriteThrough<B> as Disk>⟧ files.log files.db) accounts.now p.0.tables) }
-
-    // Then they hold no other database either, where a crash would leave them as they are read.
-    ensures nothing { AreSynced ⟦<WriteThrough<B> as Disk>⟧ files.log files.db → IfOk result (λ p.
-        AreOfFiles (seen_image ⟦<WriteThrough<B> as Disk>⟧ files.log files.db) number p.0.tables
-        ⊎ HoldsNothing (seen_image ⟦<WriteThrough<B> as Disk>⟧ files.log files.db)) }
-    ensures vacant { AreSynced ⟦<WriteThrough<B> as Disk>⟧ files.log files.db → IfOk result (λ p.
-        AreOfFiles (seen_image ⟦<WriteThrough<B> as Disk>⟧ files.log files.db) number p.0.tables
-        ⊎ (HasEmptyTrees (seen_image ⟦<WriteThrough<B> as Disk>⟧ files.log files.db)
-        ⊎ AreVacant (seen_image ⟦<WriteThrough<B> as Disk>⟧ files.log files.db))) }
 
     // The manager has what the file has: the store was told of all that led to it, owes nothing, and a crash leaves it,
     // as far as the disk has returned what was written.
@@ -303,6 +312,19 @@ pub fn open<B: Backing + Drop>(
     ensures durable { IfOk result (λ p. AreDurable (⟦<SqliteStore<B> as Store>⟧.may_leave p.1) p.0.tables) }
     ensures left { IfOk result (λ p. IsClean (view p.1.kept.tables.trees)
         → ⟦<SqliteStore<B> as Store>⟧.may_leave p.1 (reopened p.0.tables)) }
+
+    // Then files that a store wrote, with room for the branches of so many requests, are refused for want of memory, of
+    // room or of a disk alone.
+    ensures whole { AreSynced ⟦<WriteThrough<B> as Disk>⟧ files.log files.db → (trees : Trees) (image : Image)
+        → HasTrees (seen_image ⟦<WriteThrough<B> as Disk>⟧ files.log files.db) trees → HasImage image trees
+        → IsWhole number ((room + 1) / 2) image → fault_of (stored_of image) ≡ None
+        → IfErr result (λ fault. is_of_device fault ≡ true) }
+
+    // So are files that have no row, where a manager may be declared with these accounts: a first start that was ended
+    // before it had made the file can be started again.
+    ensures new { AreSynced ⟦<WriteThrough<B> as Disk>⟧ files.log files.db
+        → HasNoRow (seen_image ⟦<WriteThrough<B> as Disk>⟧ files.log files.db) → are_accounts accounts.now ≡ true
+        → IfErr result (λ fault. is_of_device fault ≡ true) }
 {
     let tables = tables_in(alloc, files)?;
     let made = restored(alloc, tables, number, accounts, threads, room)?;

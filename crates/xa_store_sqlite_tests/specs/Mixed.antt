@@ -5,7 +5,8 @@ use Rattle.xa_store_sqlite_tests.specs.declared.mixed.Either.{Either}
 use Rattle.xa_store_sqlite_tests.specs.declared.mixed.Either.TheVariants.{First, Second}
 
 -- what is said of the tables of a store of either kind, and of the store alone
-abbrev pub tables_of_either : {A B : Type 0} → (A → Tables → Type 0) → (B → Tables → Type 0) → Either A B → Tables → Type 0
+abbrev pub tables_of_either : {A B : Type 0}
+    → (A → Tables → Type 0) → (B → Tables → Type 0) → Either A B → Tables → Type 0
 tables_of_either of_first of_second (First store) = of_first store
 tables_of_either of_first of_second (Second store) = of_second store
 

@@ -275,8 +275,8 @@ fn copies_left(rt: &impl Abort, alloc: Global, base: &Bytes, of_db: u32, tear: T
     2
 }
 
-// A settle writes to the log alone, which is copied to the database file once it has 1,000 frames. Of 10 calls three
-// are of the opening. Each other one fails twice, torn in two ways, and two images of it are opened: 28 in all.
+// A settle writes to the log alone, which is copied to the database file once it has 1,000 frames. Of 12 calls five are
+// of the opening. Each other one fails twice, torn in two ways, and two images of it are opened: 28 in all.
 #[test]
 fn each_failure_of_the_database_file_leaves_all_settles(rt: HostRuntime) {
     let alloc = rt.alloc();
@@ -293,7 +293,7 @@ fn each_failure_of_the_database_file_leaves_all_settles(rt: HostRuntime) {
         }
     }
     assert!(rt;
-        images == 4 * (calls - 3) && images > 20,
+        images == 4 * (calls - 5) && images > 20,
         "{images} of {calls} calls"
     );
 }

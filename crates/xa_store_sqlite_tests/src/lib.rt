@@ -27,3 +27,5 @@ mod owing;
 mod refused;
 #[cfg(test)]
 mod served;
+#[cfg(test)]
+mod texts;

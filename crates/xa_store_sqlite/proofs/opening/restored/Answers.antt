@@ -1,11 +1,18 @@
-use Rattle.xa_base.proofs.{◌≡◌, ◌∙◌, IfOk-weaker, IfSome, Option, arith, inl, inr, ints, length, of_z, subst, to_z, to_z-of_z, w64, ◌⊎◌}
+use Rattle.xa_base.proofs.{◌≡◌, ◌∙◌, IfOk-weaker, IfSome, Option, ap, arith, err_from_is_err_and, inl, inr, ints, length, of_z, subst, sym, to_z, to_z-of_z}
+use Rattle.xa_base.proofs.{w64, ◌⊎◌, ◌+◌, ◌≤◌, List, true, ℕ, ℤ}
+use Rattle.std.specs.Prelude.{◌/◌, IsSomeAnd}
+use Rattle.sqlite_disk.specs.Disk.{MoreFaults}
 use Rattle.sqlite_trees.specs.View.{IsClean}
-use Rattle.xa_store_sqlite.specs.{AreOwned, HasImage, Mirror, image_of, tables_of}
+use Rattle.xa_tables.specs.{fault_of}
+use Rattle.xa_words.specs.{are_accounts}
+use Rattle.xa_store_sqlite.specs.{AreOwned, HasImage, IsWhole, Mirror, image_of, stored_of, tables_of}
+use Rattle.xa_store_sqlite.specs.declared.mirror.TheConstants.{MOST_BRANCHES}
 use Rattle.xa_store_sqlite.specs.Files.{AreOfAccounts, AreOfRows}
 use Rattle.xa_store_sqlite.proofs.Changes.{clean_before}
 use Rattle.xa_store_sqlite.proofs.Filling.{accounts_alone, owned_alone}
 use Rattle.xa_store_sqlite.proofs.FromFile.{bare_on, fresh_on, seen_on}
-use Rattle.xa_store_sqlite.proofs.OfFiles.{of_accounts}
+use Rattle.xa_store_sqlite.proofs.OfFiles.{filled, of_accounts, stored_alone}
+use Rattle.xa_store_sqlite.proofs.Started.{bare_device, faultless_alone}
 use Rattle.xa_store_sqlite.proofs.opening.restored.Goals as goal
 
 pub returns-in-Some-clause-knows : goal.returns-in-Some-clause-knows
@@ -57,3 +64,49 @@ returns-in_ok-mirror-in-None-clause-from g c = λ clean.
     IfOk-weaker c.founded.result (λ p. p.0.tables ≡ tables_of (image_of m))
     (λ p. AreOfRows c.args.number trees p.0.tables ⊎ AreOfAccounts c.args.accounts.now trees p.0.tables)
     (λ p are. inr (record { empty = bare; are = are ∙ first })) c.founded.ensures.are
+
+pub returns-in-Some-clause-whole : goal.returns-in-Some-clause-whole
+returns-in-Some-clause-whole g c = λ clean image has whole none.
+    let alike = subst (λ (o : Option Mirror). IsSomeAnd o (λ m. stored_of (image_of m) ≡ stored_of image)) c.in-Some.is
+    (c.in_ok-mirror.ensures.alike image has (clean c.mirror_of.new.tables.trees)) in
+    c.found.ensures.device (ap fault_of alike ∙ none)
+
+pub returns-in_ok-mirror-in-None-clause-whole : goal.returns-in_ok-mirror-in-None-clause-whole
+returns-in_ok-mirror-in-None-clause-whole g c = λ clean image has whole none.
+    absurd (subst (λ (o : Option Mirror). IsSomeAnd o (λ m. stored_of (image_of m) ≡ stored_of image)) c.in-None.is
+    (c.in_ok-mirror.ensures.alike image has (clean c.mirror_of.new.tables.trees)))
+
+pub returns-in_err-mirror-clause-whole : goal.returns-in_err-mirror-clause-whole
+returns-in_err-mirror-clause-whole g c = λ clean image has whole none.
+    let told : c.args.number ≡ to_z w64 (of_z w64 c.args.number) = sym (to_z-of_z w64 c.args.number (omega (arith, ints))) in
+    let numbered = subst (λ (n : ℤ). IsWhole n ((c.args.room + 1) / 2) image) told whole in
+    let roomy = subst (λ (n : ℕ). IsWhole (to_z w64 (of_z w64 c.args.number)) n image) (sym c.branches_within-free.ensures.is) numbered in
+    let p = err_from_is_err_and c.from_residual.result c.from_residual.ensures.1 in
+    rw (p.1, p.2) (c.in_err-mirror.ensures.whole image roomy has (clean c.mirror_of.new.tables.trees))
+
+pub returns-in-Some-clause-new : goal.returns-in-Some-clause-new
+returns-in-Some-clause-new g c = λ clean empty are.
+    let trees = (g.S.Store.view c.args.tables.trees).trees in
+    let new = c.mirror_of.new.tables.trees in
+    let has =
+    subst (λ (o : Option Mirror). IfSome o (λ m. IsClean (g.S.Store.view new) → HasImage (image_of m) trees)) c.in-Some.is c.in_ok-mirror.ensures.image (clean new) in
+    absurd (filled _ _ (sym (has 3 (omega arith)) ∙ empty 3 (omega arith)))
+
+pub returns-in_ok-mirror-in-None-clause-new : goal.returns-in_ok-mirror-in-None-clause-new
+returns-in_ok-mirror-in-None-clause-new g c = λ clean empty are.
+    let m = c.in_ok-mirror-in-None.mirror in
+    let made = c.in_ok-mirror-in-None.ensures in
+    let alone =
+    stored_alone (image_of m) c.args.accounts.now c.branches_within-free.result (length c.args.accounts.now) made.accounts made.branches made.changes in
+    c.founded.ensures.device (subst (λ (a : List (List ℕ × ℕ)). are_accounts a ≡ true) (sym made.accounts) are)
+    (ap fault_of alone ∙ faultless_alone c.args.accounts.now are)
+
+pub returns-in_err-mirror-clause-new : goal.returns-in_err-mirror-clause-new
+returns-in_err-mirror-clause-new g c = λ clean empty are.
+    let view = g.S.Store.view in
+    let old = c.args.tables.trees in
+    let new = c.mirror_of.new.tables.trees in
+    let roomy : c.branches_within-free.result ≤ MOST_BRANCHES = omega (arith, c.branches_within-free.ensures.is, c.requires.room.1) in
+    let p = err_from_is_err_and c.from_residual.result c.from_residual.ensures.1 in
+    rw (p.1, p.2) (bare_device (to_z w64 (of_z w64 c.args.number)) c.branches_within-free.result (view old).trees empty roomy (view old).is_broken
+    (MoreFaults (g.S.Store.faults old) (g.S.Store.faults new)) c.in_err-mirror.field-0.0 (c.in_err-mirror.ensures.refused (clean new)))

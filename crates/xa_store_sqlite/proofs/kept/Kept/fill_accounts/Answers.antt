@@ -31,4 +31,4 @@ pub returns-clause-filled : goal.returns-clause-filled
 returns-clause-filled g c = λ bare.
     let i = c.loop-place.invariant in
     let last : c.loop-place.place ≡ c.in-Ok.count = omega (arith, c.loop-place-test.false, c.loop-place.auto.place-end) in
-    subst (λ n. Knows 4 (g.S.Store.view c.loop-place.self.tables.trees) (accounts_to n (image_of c.args.self.now.mirror))) (last ∙ c.in-Ok.ensures) (i.filled bare)
+    subst (λ n. Knows 4 (g.S.Store.view c.loop-place.self.tables.trees) (accounts_to n (image_of c.args.self.now.mirror))) (last ∙ c.in-Ok.ensures.count) (i.filled bare)

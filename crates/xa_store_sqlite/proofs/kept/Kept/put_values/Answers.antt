@@ -17,4 +17,4 @@ returns-clause-values g c =
     let first = c.args.self.now in
     let last : c.loop-place.place ≡ c.in_ok-place-end.place-end = omega (arith, c.loop-place-test.false, c.loop-place.auto.place-end) in
     has_values c.args.manager.now.tables (image_of first.mirror) (image_of c.loop-place.self.mirror) c.loop-place.place i.branches i.changes i.keys i.values
-    (last ∙ c.in_ok-place-end.ensures ∙ sym (same_count c.loop-place.self.mirror.accounts.items first.mirror.accounts.items i.keys))
+    (last ∙ c.in_ok-place-end.ensures.count ∙ sym (same_count c.loop-place.self.mirror.accounts.items first.mirror.accounts.items i.keys))
