@@ -224,7 +224,7 @@ fn one_settle_takes_all_batches(rt: HostRuntime) {
 }
 
 // Of 36 calls four are of the opening, which is refused where one of them fails. Three images of each other one are
-// opened, 96 in all. An opening takes a quarter of a second with checks, so 10,000 would take over an hour.
+// opened, 96 in all. An opening takes a quarter of a second with checks; checks/images opens thousands without.
 #[test]
 fn each_failure_of_the_log_leaves_a_settle(rt: HostRuntime) {
     let alloc = rt.alloc();
