@@ -1,4 +1,4 @@
-"""What xa_ledger prints, and what its logs have to have by it."""
+"""What demo_accounts prints, and what its logs have to have by it."""
 import re
 
 TELLERS = 4

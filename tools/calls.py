@@ -10,7 +10,7 @@ from repository import ROOT, crates_below
 PAGE = ROOT / "docs" / "EMBEDDING.md"
 BEGIN, END = "<!-- The table of calls: written by tools/calls.py. -->\n", "<!-- The end of the table of calls. -->\n"
 # The crates that a caller of the library names or stands on, and the logs that it may have.
-TOPS = ("xa_work", "xa_crew_again", "xa_file_log", "xa_log_worker", "xa_watch", "xa_store_sqlite")
+TOPS = ("xa_work", "xa_crew_again", "xa_log_file", "xa_log_shared", "xa_watch", "xa_store_sqlite")
 
 
 def sentence(lines):

@@ -14,7 +14,7 @@ ROOT = Path(__file__).resolve().parent.parent
 # it.
 LEVELS = ("default", "x86-64-v3")
 # The crates of tests that it hardly pays to run unproved: with checks their tests take longer.
-PROVED_TESTS = ("xa_work_tests", "xa_bank_days_tests", "xa_file_log_tests")
+PROVED_TESTS = ("test_work", "test_bank_days", "test_log_file")
 # The folders of a crate that its check reads.
 PARTS = ("src", "specs", "proofs")
 

@@ -87,7 +87,7 @@ class Machine:
         return ran == usual and len(seen) == len(refusals)
 
 
-def main(top, xaswitch, xa_growths, refuse, scratch):
+def main(top, xaswitch, test_growths, refuse, scratch):
     machine = Machine(refuse, scratch)
 
     def stored(path):
@@ -110,14 +110,14 @@ def main(top, xaswitch, xa_growths, refuse, scratch):
             if thing == "commit":
                 refusals.append((0, b"now\naborted\n", b""))
             usual = (0, b"now\n" + line + b"\n", b"")
-            yield machine.sweep(thing, [xa_growths, thing], b"", usual, refusals, BETWEEN_LINES=1)
+            yield machine.sweep(thing, [test_growths, thing], b"", usual, refusals, BETWEEN_LINES=1)
         # All threads of a script and its managers' workers, two and eight.
         for limit, count in ((1, 2), (8, 16)):
             script = f"threads {limit}\nmanagers {limit}\n".encode()
             name = f"{count} threads"
             yield machine.sweep(name, [xaswitch, "threads"], script, (0, b"", b""), [OUT_OF_MEMORY], "REFUSED_THREAD")
         for thing, line in MEMORYLESS.items():
-            ran, growths, threads = machine.run([xa_growths, thing], BETWEEN_LINES=1)
+            ran, growths, threads = machine.run([test_growths, thing], BETWEEN_LINES=1)
             print(f"growths: {thing}: {growths}")
             yield (ran, growths, threads) == ((0, b"now\n" + line + b"\n", b""), 0, 0)
 

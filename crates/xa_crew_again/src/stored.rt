@@ -17,7 +17,7 @@ use xa_base::{MOST_JOURNALED, MOST_THREADS};
 use xa_crew::{OpenedFault, Run};
 use xa_store::Store;
 use xa_switch::{Again, OpenFault, Settled, may_reopen};
-use xa_table_laws::a_second_reopening_changes_nothing;
+use laws_tables::a_second_reopening_changes_nothing;
 use xa_worker::Pace;
 
 // Reopens a store, and clears the flag where it can't: the store is as it was then.

@@ -9,14 +9,14 @@ use Rattle.xa_base.specs.Lists.Chain.{none, more}
 use Rattle.xa_words.specs.{Code}
 use Rattle.xa_desk.specs.{AllKept, DeskView, EndedView, GoesOn, DeskSeat}
 use Rattle.xa_worker.specs.{WorkerView, Served}
-use Rattle.xa_grammar.specs.declared.step.Step.TheVariants as step
-use Rattle.xa_grammar.specs.{ScriptStep, ScriptTask, task_of, tasks_of, Content, Fits, threads_of, managers_of}
+use Rattle.script_grammar.specs.declared.step.Step.TheVariants as step
+use Rattle.script_grammar.specs.{ScriptStep, ScriptTask, task_of, tasks_of, Content, Fits, threads_of, managers_of}
 use Rattle.xa_crew.specs.{AllGoOn, all_stay, all_go_on, EndsDesk, Member, HasServed, ArePiecesOf}
 use Rattle.xa_crew.proofs.WorkersOn.{turn_goes, all_served}
-use Rattle.xa_transcript.specs.{Told, all_ended, ended}
-use Rattle.xa_session.specs.{Session, HasDone, new_session, told_of}
-use Rattle.xa_telling.specs.{Beginning, is_to, answers_to, is_end_of, ends_of, Comes, Ran, AreOpened, BeginsAs}
-use Rattle.xa_telling.proofs.Opened.{AreOf, opened_thread, tasks_are_of}
+use Rattle.script_transcript.specs.{Told, all_ended, ended}
+use Rattle.script_session.specs.{Session, HasDone, new_session, told_of}
+use Rattle.laws_transcript.specs.{Beginning, is_to, answers_to, is_end_of, ends_of, Comes, Ran, AreOpened, BeginsAs}
+use Rattle.laws_transcript.proofs.Opened.{AreOf, opened_thread, tasks_are_of}
 use Rattle.xa_script.specs.{TurnsAt, HasStepped, HasMadeSteps, Closing, HasEndedDesk, HaveEnded, HasCalled, HasWorked, turns_at, closing_of, told_by, Goes}
 use Rattle.xa_script.specs.{ScriptThread}
 use Rattle.xa_script.specs.InThreads.{InThreads}

@@ -1,6 +1,6 @@
 -- How far a script in turns has come, line by line.
-use Rattle.xa_grammar.specs.declared.step.Step.TheVariants as step
-use Rattle.xa_command.specs.declared.mode.Mode.TheVariants as mode
+use Rattle.script_grammar.specs.declared.step.Step.TheVariants as step
+use Rattle.script_command.specs.declared.mode.Mode.TheVariants as mode
 use Rattle.xa_base.proofs.{◌≡◌, ℕ, false, ◌||◌, List, [], ◌∷◌, ◌++◌, length, map, sym, refl, ap, ◌∙◌, append-nil, append_assoc, flat_map, length-map, All-nil}
 use Rattle.xa_base.proofs.{All-push, list_any-append, flat_push, ◌+◌, ◌≤◌, zero, suc, Some, arith, slice_get, slice_index_or, slice_get-get_or}
 use Rattle.xa_base.proofs.{slice_get_within, was_mapped, some_same}
@@ -8,18 +8,18 @@ use Rattle.xa_base.specs.Lists.Chain.{none, more}
 use Rattle.xa_worker.specs.{WorkerView}
 use Rattle.xa_log.specs.{LosingLog, reopened as log_reopened}
 use Rattle.xa_switch.specs.{Settling, Again, AreOfOneOpening, settling, IsScanOf, AreScansOf, MayReopen, reopening}
-use Rattle.xa_grammar.specs.{ScriptStep, Fits, threads_of, managers_of, is_reopen, AreOfOne, Content, Declared}
-use Rattle.xa_transcript.specs.{Told, Reopened, opened_after, AreOfScript, AreValues}
-use Rattle.xa_session.specs.{Session, new_session, session_of, sessions_again}
-use Rattle.xa_telling.specs.{Beginning, Opening, Former, beginning, AreNumbersOf, BeginsAs, Leaves, TellsOf, Tells, settled_over}
-use Rattle.xa_telling.proofs.Opened.{opened_threads, opened_managers}
+use Rattle.script_grammar.specs.{ScriptStep, Fits, threads_of, managers_of, is_reopen, AreOfOne, Content, Declared}
+use Rattle.script_transcript.specs.{Told, Reopened, opened_after, AreOfScript, AreValues}
+use Rattle.script_session.specs.{Session, new_session, session_of, sessions_again}
+use Rattle.laws_transcript.specs.{Beginning, Opening, Former, beginning, AreNumbersOf, BeginsAs, Leaves, TellsOf, Tells, settled_over}
+use Rattle.laws_transcript.proofs.Opened.{opened_threads, opened_managers}
 use Rattle.xa_script.specs.{Steps, turns_at, Follows, IsOutcome, IsOpen, Goes, IsClosed, HasReached, HasCome}
 use Rattle.xa_script.proofs.Runs.{went, AllWent}
 use Rattle.xa_desk.specs.{DeskView}
 use Rattle.xa_scan.specs.{ScanView, no_scan}
-use Rattle.xa_telling.proofs.Told.{log_left, log_there, tells, again_setup, may_reopen, next_beginning, leaves, of_script_after}
+use Rattle.laws_transcript.proofs.Told.{log_left, log_there, tells, again_setup, may_reopen, next_beginning, leaves, of_script_after}
 use Rattle.xa_base.specs.{Chain}
-use Rattle.xa_command.specs.{Mode}
+use Rattle.script_command.specs.{Mode}
 
 abbrev lines_of_former : Former → List ScriptStep
 lines_of_former f = f.opening.steps ++ step.Reopen f.line ∷ []

@@ -4,18 +4,18 @@ use Rattle.std.specs.List.{flat_map}
 use Rattle.xa_desk.specs.Ended.{EndedView}
 use Rattle.xa_worker.specs.Workers.{WorkerView}
 use Rattle.xa_worker.specs.Done.{Served}
-use Rattle.xa_grammar.specs.Steps.{ScriptStep}
-use Rattle.xa_grammar.specs.Contents.{Content, tasks_of}
+use Rattle.script_grammar.specs.Steps.{ScriptStep}
+use Rattle.script_grammar.specs.Contents.{Content, tasks_of}
 use Rattle.xa_base.specs.Lists.{Chain, Pairwise}
 use Rattle.xa_crew.specs.declared.client_job.Attended.{Attended}
 use Rattle.xa_crew.specs.Ending.{EndsDesk}
 use Rattle.xa_crew.specs.Pieces.{HasServed}
 use Rattle.xa_crew.specs.Run.{Member}
-use Rattle.xa_transcript.specs.declared.answer.Told.{Told}
+use Rattle.script_transcript.specs.declared.answer.Told.{Told}
 use Rattle.xa_script.specs.declared.script_thread.ScriptThread.{ScriptThread}
-use Rattle.xa_session.specs.declared.session.Session.{Session}
-use Rattle.xa_session.specs.Sessions.{new_session, HasDone}
-use Rattle.xa_transcript.specs.ThreadEnds.{all_ended}
+use Rattle.script_session.specs.declared.session.Session.{Session}
+use Rattle.script_session.specs.Sessions.{new_session, HasDone}
+use Rattle.script_transcript.specs.ThreadEnds.{all_ended}
 
 -- What a thread tells: what its tasks answered, and what was outstanding after them.
 abbrev pub told_by : Attended ScriptThread → List Told

@@ -5,17 +5,17 @@ use Rattle.xa_desk.specs.Ended.{EndedView}
 use Rattle.xa_worker.specs.declared.step.Step.{Step as Did}
 use Rattle.xa_worker.specs.Workers.{WorkerView}
 use Rattle.xa_worker.specs.Done.{Served}
-use Rattle.xa_grammar.specs.declared.step.Step.TheVariants as step
-use Rattle.xa_grammar.specs.Steps.{ScriptTask, ScriptStep}
+use Rattle.script_grammar.specs.declared.step.Step.TheVariants as step
+use Rattle.script_grammar.specs.Steps.{ScriptTask, ScriptStep}
 use Rattle.xa_base.specs.Lists.{Chain, Pairwise}
 use Rattle.xa_crew.specs.Ending.{EndsDesk}
 use Rattle.xa_crew.specs.Pieces.{HasServed}
-use Rattle.xa_transcript.specs.declared.answer.Answer.{Answer}
-use Rattle.xa_transcript.specs.declared.answer.Told.{Told}
-use Rattle.xa_transcript.specs.declared.answer.Told.TheVariants as told
-use Rattle.xa_session.specs.declared.session.Session.{Session}
-use Rattle.xa_session.specs.Sessions.{Does, MayWait, told_of}
-use Rattle.xa_transcript.specs.ThreadEnds.{all_ended}
+use Rattle.script_transcript.specs.declared.answer.Answer.{Answer}
+use Rattle.script_transcript.specs.declared.answer.Told.{Told}
+use Rattle.script_transcript.specs.declared.answer.Told.TheVariants as told
+use Rattle.script_session.specs.declared.session.Session.{Session}
+use Rattle.script_session.specs.Sessions.{Does, MayWait, told_of}
+use Rattle.script_transcript.specs.ThreadEnds.{all_ended}
 use Rattle.xa_crew.specs.Turns.{AllGoOn, TakesTurn}
 
 -- ---- the steps of a script

@@ -7,17 +7,17 @@ use Rattle.xa_worker.specs.Workers.{WorkerView}
 use Rattle.xa_worker.specs.Done.{Served}
 use Rattle.xa_switch.specs.Settled.{Settling, IsSettled}
 use Rattle.xa_switch.specs.Closing.{settling}
-use Rattle.xa_grammar.specs.declared.script.Declared.{Declared}
-use Rattle.xa_grammar.specs.Steps.{ScriptStep}
-use Rattle.xa_grammar.specs.Contents.{Content, AreOfOne}
-use Rattle.xa_transcript.specs.declared.answer.Told.{Told}
-use Rattle.xa_session.specs.declared.session.Session.{Session}
-use Rattle.xa_telling.specs.ToldOpenings.{Beginning, Opening, Former, Leaves, Tells, beginning}
-use Rattle.xa_telling.specs.ToldOpenings.{steps_over, answers_over}
-use Rattle.xa_telling.specs.Runs.{Ran}
-use Rattle.xa_transcript.specs.Transcript.{text}
-use Rattle.xa_command.specs.declared.mode.Mode.{Mode}
-use Rattle.xa_command.specs.declared.mode.Mode.TheVariants.{Turns, Threads}
+use Rattle.script_grammar.specs.declared.script.Declared.{Declared}
+use Rattle.script_grammar.specs.Steps.{ScriptStep}
+use Rattle.script_grammar.specs.Contents.{Content, AreOfOne}
+use Rattle.script_transcript.specs.declared.answer.Told.{Told}
+use Rattle.script_session.specs.declared.session.Session.{Session}
+use Rattle.laws_transcript.specs.ToldOpenings.{Beginning, Opening, Former, Leaves, Tells, beginning}
+use Rattle.laws_transcript.specs.ToldOpenings.{steps_over, answers_over}
+use Rattle.laws_transcript.specs.Runs.{Ran}
+use Rattle.script_transcript.specs.Transcript.{text}
+use Rattle.script_command.specs.declared.mode.Mode.{Mode}
+use Rattle.script_command.specs.declared.mode.Mode.TheVariants.{Turns, Threads}
 use Rattle.xa_script.specs.InTurns.{InTurns}
 use Rattle.xa_script.specs.InThreads.{InThreads}
 

@@ -2,14 +2,14 @@
 use Rattle.std.specs.Prelude.{◌≡◌, Bool, true, false, ◌⊎◌, ℕ, List, ◌++◌, Option, IfSome, Ok, Err, take}
 use Rattle.std.specs.Prelude.{codes, decimal}
 use Rattle.std.specs.Io.KnownBytes.{Appends}
-use Rattle.xa_grammar.specs.declared.fault.Reason.{Reason}
-use Rattle.xa_grammar.specs.declared.fault.ScriptFault.TheVariants as script
-use Rattle.xa_grammar.specs.Contents.{Content}
-use Rattle.xa_grammar.specs.Faults.{reason_text}
-use Rattle.xa_grammar.specs.Grammar.{script_of}
-use Rattle.xa_transcript.specs.declared.writing.RunFault.TheVariants as run
-use Rattle.xa_command.specs.declared.mode.Mode.{Mode}
-use Rattle.xa_command.specs.declared.mode.Mode.TheVariants as mode
+use Rattle.script_grammar.specs.declared.fault.Reason.{Reason}
+use Rattle.script_grammar.specs.declared.fault.ScriptFault.TheVariants as script
+use Rattle.script_grammar.specs.Contents.{Content}
+use Rattle.script_grammar.specs.Faults.{reason_text}
+use Rattle.script_grammar.specs.Grammar.{script_of}
+use Rattle.script_transcript.specs.declared.writing.RunFault.TheVariants as run
+use Rattle.script_command.specs.declared.mode.Mode.{Mode}
+use Rattle.script_command.specs.declared.mode.Mode.TheVariants as mode
 use Rattle.xa_script.specs.declared.entry.Fault.{Fault}
 use Rattle.xa_script.specs.declared.entry.Fault.TheVariants.{Usage, NoMemory, Script, Run}
 use Rattle.xa_script.specs.Outcome.{Writes}

@@ -2,10 +2,10 @@
 use Rattle.std.specs.Prelude.{◌≡◌, ℕ, false, []}
 use Rattle.xa_desk.specs.DeskViews.{DeskView}
 use Rattle.xa_scan.specs.Left.{no_scan}
-use Rattle.xa_grammar.specs.Contents.{Content, tasks_of}
+use Rattle.script_grammar.specs.Contents.{Content, tasks_of}
 use Rattle.xa_base.specs.Lists.{Chain}
 use Rattle.xa_script.specs.declared.script_thread.ScriptThread.{ScriptThread}
-use Rattle.xa_session.specs.Sessions.{log_of, session_of, HasDone}
+use Rattle.script_session.specs.Sessions.{log_of, session_of, HasDone}
 
 -- Thread t of the script before it does anything: its own tasks, no answer, a log without a record, and nothing left to
 -- scan.

@@ -4,16 +4,16 @@ use Rattle.std.specs.List.{flat_map}
 use Rattle.xa_base.specs.Lists.{Chain}
 use Rattle.xa_worker.specs.Workers.{WorkerView}
 use Rattle.xa_log.specs.declared.losing.LosingLog.{LosingLog}
-use Rattle.xa_grammar.specs.declared.step.Step.TheVariants as step
-use Rattle.xa_grammar.specs.Steps.{ScriptStep}
-use Rattle.xa_grammar.specs.Contents.{Content, Fits, threads_of, managers_of, AreOfOne}
-use Rattle.xa_transcript.specs.declared.answer.Told.{Told}
-use Rattle.xa_transcript.specs.declared.answer.Told.TheVariants.{Reopened}
-use Rattle.xa_session.specs.declared.session.Session.{Session}
-use Rattle.xa_telling.specs.Planning.{AreOpened}
-use Rattle.xa_telling.specs.ToldOpenings.{Beginning, Opening, Former, beginning}
-use Rattle.xa_telling.specs.Runs.{BeginsAs}
-use Rattle.xa_command.specs.declared.mode.Mode.TheVariants as mode
+use Rattle.script_grammar.specs.declared.step.Step.TheVariants as step
+use Rattle.script_grammar.specs.Steps.{ScriptStep}
+use Rattle.script_grammar.specs.Contents.{Content, Fits, threads_of, managers_of, AreOfOne}
+use Rattle.script_transcript.specs.declared.answer.Told.{Told}
+use Rattle.script_transcript.specs.declared.answer.Told.TheVariants.{Reopened}
+use Rattle.script_session.specs.declared.session.Session.{Session}
+use Rattle.laws_transcript.specs.Planning.{AreOpened}
+use Rattle.laws_transcript.specs.ToldOpenings.{Beginning, Opening, Former, beginning}
+use Rattle.laws_transcript.specs.Runs.{BeginsAs}
+use Rattle.script_command.specs.declared.mode.Mode.TheVariants as mode
 use Rattle.xa_script.specs.InTurns.{HasMadeSteps, turns_at}
 use Rattle.xa_script.specs.Outcome.{HasCome, Follows}
 

@@ -1,9 +1,9 @@
 //! The program, over any reader and writers.
 ghost use Rattle.std.specs.Prelude.{◌≡◌, ◌≢◌, ◌⊎◌, ◌<◌, ◌≤◌, length, Err, OnOk, IfErr, IsErrOf, IfSome};
-ghost use Rattle.xa_command.specs.declared.mode.Mode.{Mode};
-ghost use Rattle.xa_grammar.specs.Contents.{AreOfOne};
+ghost use Rattle.script_command.specs.declared.mode.Mode.{Mode};
+ghost use Rattle.script_grammar.specs.Contents.{AreOfOne};
 ghost use Rattle.xa_script.specs.declared.entry.Fault.{Fault};
-ghost use Rattle.xa_command.specs.Words.{AreWords, IsMode};
+ghost use Rattle.script_command.specs.Words.{AreWords, IsMode};
 ghost use Rattle.xa_script.specs.Outcome.{Writes};
 ghost use Rattle.xa_script.specs.Program.{status_of, line_text, text_of, IsJudged, ShowsRun, AppendsSome, IsFaulty};
 ghost use Rattle.xa_script.specs.Program.{FailsBy, has_threads};
@@ -15,9 +15,9 @@ use std::alloc::Global;
 use std::io::{IoSlice, Read, Write};
 use std::sync::Wait;
 use std::thread::Threads;
-use xa_command::{Mode, WordsFault, mode_of};
-use xa_grammar::{Reason, Script, ScriptFault, read_script};
-use xa_transcript::RunFault;
+use script_command::{Mode, WordsFault, mode_of};
+use script_grammar::{Reason, Script, ScriptFault, read_script};
+use script_transcript::RunFault;
 use xa_worker::Free;
 
 // What is told of want of memory, which takes none.

@@ -2,12 +2,12 @@
 ghost use Rattle.std.specs.Prelude.{◌≡◌, ◌++◌, List, [], length, All, IfOk, OnOk, IsErrOf, false};
 ghost use Rattle.std.specs.List.{flat_map, range_with_len};
 ghost use Rattle.xa_base.specs.Lists.{Pairwise};
-ghost use Rattle.xa_grammar.specs.Contents.{threads_of, AreOfOne};
-ghost use Rattle.xa_telling.specs.ToldOpenings.{Opening};
-ghost use Rattle.xa_transcript.specs.declared.answer.Told.{Told};
+ghost use Rattle.script_grammar.specs.Contents.{threads_of, AreOfOne};
+ghost use Rattle.laws_transcript.specs.ToldOpenings.{Opening};
+ghost use Rattle.script_transcript.specs.declared.answer.Told.{Told};
 ghost use Rattle.xa_script.specs.ScriptThreads.{IsNew};
-ghost use Rattle.xa_transcript.specs.Text.{lines_text};
-ghost use Rattle.xa_command.specs.declared.mode.Mode.TheVariants as mode;
+ghost use Rattle.script_transcript.specs.Text.{lines_text};
+ghost use Rattle.script_command.specs.declared.mode.Mode.TheVariants as mode;
 ghost use Rattle.xa_script.specs.InThreads.{told_by};
 ghost use Rattle.xa_script.specs.Outcome.{IsOutcome, Writes};
 
@@ -19,9 +19,9 @@ use std::io::Write;
 use std::sync::Wait;
 use std::thread::Threads;
 use xa_crew::{Attended, CrewFault, run_clients};
-use xa_grammar::Script;
+use script_grammar::Script;
 use xa_switch::Settled;
-use xa_transcript::{LINE, RunFault, tell_ended};
+use script_transcript::{LINE, RunFault, tell_ended};
 use xa_worker::Pace;
 
 // The threads of the script by rising number, before they do anything.

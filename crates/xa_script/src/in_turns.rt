@@ -2,10 +2,10 @@
 ghost use Rattle.std.specs.Prelude.{◌≡◌, ◌+◌, ◌<◌, ◌++◌, ◌∷◌, ℕ, List, [], length, map, All, IfOk, OnOk, IsErrOf};
 ghost use Rattle.xa_base.specs.Lists.{IsUpTo};
 ghost use Rattle.xa_desk.specs.Kept.{AllKept};
-ghost use Rattle.xa_grammar.specs.Steps.{ScriptStep};
-ghost use Rattle.xa_grammar.specs.Contents.{Content};
-ghost use Rattle.xa_telling.specs.ToldOpenings.{Beginning, Opening, Former, beginning};
-ghost use Rattle.xa_command.specs.declared.mode.Mode.TheVariants as mode;
+ghost use Rattle.script_grammar.specs.Steps.{ScriptStep};
+ghost use Rattle.script_grammar.specs.Contents.{Content};
+ghost use Rattle.laws_transcript.specs.ToldOpenings.{Beginning, Opening, Former, beginning};
+ghost use Rattle.script_command.specs.declared.mode.Mode.TheVariants as mode;
 ghost use Rattle.xa_script.specs.InTurns.{stage_of, closing_of, HasCalled, HasEndedDesk, HasTurned, HaveEnded};
 ghost use Rattle.xa_desk.specs.Ended.{EndedView};
 ghost use Rattle.xa_script.specs.TurnsSoFar.{IsOpen, Goes, IsClosed};
@@ -20,12 +20,12 @@ use xa_base::MOST_HANDLES;
 use xa_crew::{Turns, end_desk, settle_all};
 use xa_desk::EndedDesk;
 use xa_desk::laws::desks_go_on;
-use xa_grammar::{Gtrid, Name, Script, Step, Task};
+use script_grammar::{Gtrid, Name, Script, Step, Task};
 use xa_log::LosingLog;
-use xa_session::{Session, carry_out, sessions_again, sessions_of};
+use script_session::{Session, carry_out, sessions_again, sessions_of};
 use xa_switch::laws::opened_desks_keep_what_is_outstanding;
 use xa_switch::{OpenFault, Settled, open_switch, reopen};
-use xa_transcript::{RunFault, Told, Transcript, tell_ended};
+use script_transcript::{RunFault, Told, Transcript, tell_ended};
 
 // What runs an opening of a script: its number, its threads of control, and the workers, which take turns.
 struct Runner {

@@ -1,16 +1,16 @@
 //! What a run shows once it is settled.
 ghost use Rattle.std.specs.Prelude.{◌≡◌, List, OnOk, IsErrOf};
-ghost use Rattle.xa_transcript.specs.declared.answer.Told.{Told};
-ghost use Rattle.xa_transcript.specs.Text.{lines_text};
-ghost use Rattle.xa_telling.specs.ToldOpenings.{Former, Opening};
-ghost use Rattle.xa_command.specs.declared.mode.Mode.{Mode};
+ghost use Rattle.script_transcript.specs.declared.answer.Told.{Told};
+ghost use Rattle.script_transcript.specs.Text.{lines_text};
+ghost use Rattle.laws_transcript.specs.ToldOpenings.{Former, Opening};
+ghost use Rattle.script_command.specs.declared.mode.Mode.{Mode};
 ghost use Rattle.xa_script.specs.Outcome.{IsRun, IsOutcome, Writes};
 
 use std::alloc::Global;
 use std::io::Write;
-use xa_grammar::Script;
+use script_grammar::Script;
 use xa_switch::Settled;
-use xa_transcript::{RunFault, values_of, write_transcript};
+use script_transcript::{RunFault, values_of, write_transcript};
 
 /// Writes the transcript of a run whose answers have these lines, and that was settled so at last.
 ///

@@ -3,12 +3,12 @@ ghost use Rattle.std.specs.Prelude.{◌≡◌, ◌≤◌, All, IfOk, length, map
 ghost use Rattle.std.specs.List.{range_with_len};
 ghost use Rattle.xa_base.specs.Lists.{IsUpTo};
 ghost use Rattle.xa_switch.specs.Plans.{IsSoundManager, IsSound};
-ghost use Rattle.xa_grammar.specs.Contents.{accounts_of, managers_of};
-ghost use Rattle.xa_telling.specs.Planning.{plan_says, script_says, IsPlanOf, AreNumbersOf};
+ghost use Rattle.script_grammar.specs.Contents.{accounts_of, managers_of};
+ghost use Rattle.laws_transcript.specs.Planning.{plan_says, script_says, IsPlanOf, AreNumbersOf};
 
 use std::alloc::{AllocError, Global};
 use xa_base::MOST_MANAGERS;
-use xa_grammar::{Declared, Script};
+use script_grammar::{Declared, Script};
 use xa_switch::{Again, ManagerPlan, Plan};
 use xa_words::Key;
 

@@ -4,7 +4,7 @@ ghost use Rattle.std.specs.Prelude.{vec_capacity};
 ghost use Rattle.xa_desk.specs.GoingOn.{GoesOn};
 ghost use Rattle.xa_desk.specs.Kept.{AllKept};
 ghost use Rattle.xa_base.specs.Lists.{Chain};
-ghost use Rattle.xa_session.specs.Sessions.{log_of, session_of, HasDone};
+ghost use Rattle.script_session.specs.Sessions.{log_of, session_of, HasDone};
 ghost use Rattle.xa_script.specs.ScriptThreads.{IsNew};
 
 use std::alloc::{AllocError, Global};
@@ -13,11 +13,11 @@ use xa_crew::Client;
 use xa_crew::laws::idles_go_on;
 use xa_desk::laws::desks_go_on;
 use xa_desk::{Desk, Idle};
-use xa_grammar::{Script, Tasks};
+use script_grammar::{Script, Tasks};
 use xa_log::LosingLog;
 use xa_scan::Scan;
-use xa_session::{carry_out, log_of};
-use xa_transcript::{Told, Transcript};
+use script_session::{carry_out, log_of};
+use script_transcript::{Told, Transcript};
 
 /// A thread of a script: its own tasks, its decision log, and what it told so far.
 pub(crate) struct ScriptThread {

@@ -1,7 +1,7 @@
 -- Histories that go on.
 use Rattle.xa_base.proofs.{◌≡◌, [], ◌∷◌, ◌++◌, sym, ap, ◌∙◌}
 use Rattle.xa_words.specs.{Code, Request}
-use Rattle.xa_table_laws.proofs.UnnamedLaw.{tables_after-append}
+use Rattle.laws_tables.proofs.UnnamedLaw.{tables_after-append}
 use Rattle.xa_tables.specs.{Answer, History, Tables, next, tables_after}
 
 -- the tables after one more request are those that it makes of the tables before it

@@ -17,7 +17,7 @@ use std::alloc::{AllocError, Global};
 use std::marker::Model;
 use xa_base::{MOST_JOURNALED, MOST_THREADS};
 use xa_store::{Store, StoreFault};
-use xa_table_laws::a_second_reopening_changes_nothing;
+use laws_tables::a_second_reopening_changes_nothing;
 use xa_tables::Manager;
 use xa_words::{Code, Op, Request, RmOp, Xid};
 

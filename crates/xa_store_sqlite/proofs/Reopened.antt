@@ -3,7 +3,7 @@ use Rattle.xa_base.proofs.{List, Bool, sym, ap, ◌∙◌}
 use Rattle.std.specs.FinMap as finmap
 use Rattle.xa_words.specs.{XidName}
 use Rattle.xa_tables.specs.{Tables, reopened, state_of}
-use Rattle.xa_table_laws.proofs.TwiceReopened.{again_the_same}
+use Rattle.laws_tables.proofs.TwiceReopened.{again_the_same}
 use Rattle.xa_store_sqlite.specs.{HasAllBut, Image}
 
 pub has_reopened : (told : List XidName) (are_moved : Bool) (image : Image) (T : Tables) → HasAllBut told are_moved image T

@@ -8,8 +8,8 @@ use Rattle.xa_tables.specs.{moves_values, names}
 use Rattle.xa_tables.proofs.Effects.{Effect, effect_of, Stays, Commits, Drops, Forgets}
 use Rattle.xa_tables.proofs.SoundLemmas.{get_gone, unvoted}
 use Rattle.xa_tables.proofs.Reopening.{state_reopened, sums_reopened}
-use Rattle.xa_table_laws.proofs.DurableLaw.{branches_law, values_law}
-use Rattle.xa_fates.proofs.ValueLaw.{declared_on}
+use Rattle.laws_tables.proofs.DurableLaw.{branches_law, values_law}
+use Rattle.laws_fates.proofs.ValueLaw.{declared_on}
 use Rattle.xa_store_sqlite.proofs.Writing.{both_off}
 use Rattle.xa_store_sqlite.specs.{HasAllBut, HasOf, Image, is_removing, state_in}
 

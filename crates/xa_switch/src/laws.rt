@@ -28,7 +28,7 @@ ghost use Rattle.xa_switch.specs.Belonging.{DeskSeat, WorkerSeat, ComeFromOpenin
 ghost use Rattle.xa_switch.specs.Belonging.{worker_seats, openings_of, seat_of_desk, seat_of_worker};
 
 use crate::settling::settled::Settled;
-use xa_fates::value_is_sum;
+use laws_fates::value_is_sum;
 
 /// The desks and workers that an opening gives come from it.
 #[tactic(auto, using(crate::proofs::Meeting::opened))]

@@ -1,9 +1,9 @@
-use Rattle.xa_grammar.specs.declared.fault.ScriptFault.TheVariants as script
-use Rattle.xa_transcript.specs.declared.writing.RunFault.TheVariants as run
+use Rattle.script_grammar.specs.declared.fault.ScriptFault.TheVariants as script
+use Rattle.script_transcript.specs.declared.writing.RunFault.TheVariants as run
 use Rattle.xa_base.proofs.{◌≡◌, ◌⊎◌, inl, inr, ◌<◌, ℕ, List, Option, Some, None, Err, arith, IfSome, sym, ◌∙◌}
 use Rattle.std.specs.Borrow.{Bor}
-use Rattle.xa_grammar.specs.{Reason, script_of}
-use Rattle.xa_command.specs.{Mode, AreWords, IsMode}
+use Rattle.script_grammar.specs.{Reason, script_of}
+use Rattle.script_command.specs.{Mode, AreWords, IsMode}
 use Rattle.xa_script.specs.{Fault, NoMemory, Script, Run, status_of, has_threads, IsJudged, IsFaulty, FailsBy}
 use Rattle.xa_script.proofs.entry.program.Goals as goal
 

@@ -1,5 +1,5 @@
 use Rattle.xa_base.proofs.{◌≡◌, ◌++◌, false, All, flat_map, into_iter_items}
-use Rattle.xa_transcript.specs.{lines_text}
+use Rattle.script_transcript.specs.{lines_text}
 use Rattle.xa_script.specs.{told_by}
 use Rattle.xa_script.proofs.in_threads.lines_of.Given as goal
 

@@ -3,12 +3,12 @@ use Rattle.xa_base.proofs.{range_with_len, got_map, slice_get_within, slice_get-
 use Rattle.xa_base.proofs.{All-nil, none_side}
 use Rattle.std.proofs.lemmas.List.Folds.{flat_map-map}
 use Rattle.xa_base.specs.{Chain, Pairwise}
-use Rattle.xa_transcript.specs.{opened, Told}
-use Rattle.xa_grammar.specs.{tasks_of, threads_of, Content, Fits, managers_of, AreOfOne}
+use Rattle.script_transcript.specs.{opened, Told}
+use Rattle.script_grammar.specs.{tasks_of, threads_of, Content, Fits, managers_of, AreOfOne}
 use Rattle.xa_crew.specs.{Attended, Member, HasRun, IsRun}
-use Rattle.xa_session.specs.{Session, session_of, log_of, HasDone, new_session}
-use Rattle.xa_telling.specs.{AreOpened, Former, beginning}
-use Rattle.xa_telling.proofs.Opened.{opened_thread, planned_setup}
+use Rattle.script_session.specs.{Session, session_of, log_of, HasDone, new_session}
+use Rattle.laws_transcript.specs.{AreOpened, Former, beginning}
+use Rattle.laws_transcript.proofs.Opened.{opened_thread, planned_setup}
 use Rattle.xa_script.specs.{told_by, HasWorked, ScriptThread, IsNew, Works}
 use Rattle.xa_base.specs.Lists.Chain.{none}
 use Rattle.xa_desk.specs.{DeskView, EndedView}

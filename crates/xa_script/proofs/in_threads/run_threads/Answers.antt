@@ -1,5 +1,5 @@
 use Rattle.xa_base.proofs.{arith, [], ◌∙◌, on_ok_weaker}
-use Rattle.xa_command.specs.declared.mode.Mode.TheVariants as mode
+use Rattle.script_command.specs.declared.mode.Mode.TheVariants as mode
 use Rattle.xa_script.proofs.in_threads.run_threads.Goals as goal
 
 pub show-requires : goal.show-requires

@@ -3,7 +3,7 @@ use Rattle.xa_base.proofs.{next_place, none_of, all_at, taken_next, length-map, 
 use Rattle.xa_desk.specs.{EndedView, AllKept}
 use Rattle.xa_base.specs.Lists.Chain.{none, more}
 use Rattle.xa_log.specs.{LosingLog}
-use Rattle.xa_session.specs.{Session}
+use Rattle.script_session.specs.{Session}
 use Rattle.xa_script.specs.{HasEndedDesk, closing_of}
 use Rattle.xa_script.proofs.in_turns.end_desks.Goals as goal
 

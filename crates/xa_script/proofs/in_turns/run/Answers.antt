@@ -1,6 +1,6 @@
 use Rattle.xa_base.proofs.{take_next, ◌≡◌, ◌+◌, [], ◌∷◌, ◌++◌, take, refl, ap, ◌∙◌, arith, take_all}
-use Rattle.xa_grammar.specs.declared.step.Step.TheVariants as step
-use Rattle.xa_grammar.specs.{Fits, threads_of, managers_of, Content}
+use Rattle.script_grammar.specs.declared.step.Step.TheVariants as step
+use Rattle.script_grammar.specs.{Fits, threads_of, managers_of, Content}
 use Rattle.xa_script.specs.{Runner}
 use Rattle.xa_script.proofs.TurnsSoFar.{begun, reached_threads, reached_managers, stepped, ended_so, reopened, outcome_so}
 use Rattle.xa_script.proofs.in_turns.run.Goals as goal

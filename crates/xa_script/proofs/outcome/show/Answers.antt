@@ -1,7 +1,7 @@
 use Rattle.xa_base.proofs.{List, map, on_ok_weaker}
-use Rattle.xa_grammar.specs.{Declared, Content}
-use Rattle.xa_transcript.specs.{AreValues}
-use Rattle.xa_telling.specs.{Former, settled_over}
+use Rattle.script_grammar.specs.{Declared, Content}
+use Rattle.script_transcript.specs.{AreValues}
+use Rattle.laws_transcript.specs.{Former, settled_over}
 use Rattle.xa_script.proofs.TurnsSoFar.{managers_so, run_tells}
 use Rattle.xa_script.proofs.outcome.show.Goals as goal
 

@@ -1,7 +1,7 @@
 use Rattle.xa_base.proofs.{◌+◌, sym, ap, ◌∙◌, ◌++◌, ◌∷◌, [], map, length, arith, range_with_len, map-append, length-append, All-push}
 use Rattle.std.proofs.lemmas.List.FromFn.{map-range_with_len_more}
 use Rattle.xa_switch.specs.{IsSoundManager}
-use Rattle.xa_telling.specs.{script_says, plan_says}
+use Rattle.laws_transcript.specs.{script_says, plan_says}
 use Rattle.xa_script.proofs.plan.manager_plans.Goals as goal
 
 pub loop-before-preserved : goal.loop-before-preserved

@@ -1,6 +1,6 @@
 use Rattle.xa_base.proofs.{◌≡◌, length, map, All, range_with_len}
 use Rattle.xa_switch.specs.{IsSoundManager}
-use Rattle.xa_telling.specs.{script_says, plan_says}
+use Rattle.laws_transcript.specs.{script_says, plan_says}
 use Rattle.xa_script.proofs.plan.manager_plans.Given as goal
 
 -- the first managers have their plans

@@ -1,7 +1,7 @@
 use Rattle.xa_base.proofs.{take_next, List, [], take, refl, arith, take_all}
 use Rattle.xa_base.specs.Lists.Chain.{none, more}
-use Rattle.xa_transcript.specs.{Told}
-use Rattle.xa_session.specs.{Session, session_of}
+use Rattle.script_transcript.specs.{Told}
+use Rattle.script_session.specs.{Session, session_of}
 use Rattle.xa_script.proofs.script_thread.carry_out_all.Goals as goal
 
 pub loop-place-init : goal.loop-place-init

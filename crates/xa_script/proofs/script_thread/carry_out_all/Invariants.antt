@@ -1,7 +1,7 @@
 use Rattle.xa_base.proofs.{take}
 use Rattle.xa_base.specs.{Chain}
 use Rattle.xa_desk.specs.{GoesOn, AllKept}
-use Rattle.xa_session.specs.{session_of, HasDone}
+use Rattle.script_session.specs.{session_of, HasDone}
 use Rattle.xa_script.proofs.script_thread.carry_out_all.Given as goal
 
 -- the first tasks were done

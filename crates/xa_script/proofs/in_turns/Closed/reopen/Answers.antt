@@ -1,6 +1,6 @@
 use Rattle.xa_base.proofs.{◌≡◌, suc, ◌+◌, sym, ◌∙◌, arith}
-use Rattle.xa_grammar.specs.{Content}
-use Rattle.xa_telling.specs.{AreNumbersOf}
+use Rattle.script_grammar.specs.{Content}
+use Rattle.laws_transcript.specs.{AreNumbersOf}
 use Rattle.xa_script.proofs.TurnsSoFar.{goes_on}
 use Rattle.xa_script.proofs.in_turns.Closed.reopen.Goals as goal
 

@@ -1,5 +1,5 @@
 use Rattle.xa_base.proofs.{◌≡◌, ◌-◌, ◌<◌, length, Some, sym, ap, ◌∙◌, refl, arith, slice_index_or, slice_get-get_or}
-use Rattle.xa_session.specs.{Session, session_of}
+use Rattle.script_session.specs.{Session, session_of}
 use Rattle.xa_script.proofs.in_turns.Runner.call.Goals as goal
 
 pub returns-clause-calls : goal.returns-clause-calls

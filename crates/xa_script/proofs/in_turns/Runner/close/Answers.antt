@@ -1,6 +1,6 @@
 use Rattle.xa_base.proofs.{◌∙◌, all_unmapped}
 use Rattle.xa_desk.specs.{AllKept}
-use Rattle.xa_session.specs.{Session}
+use Rattle.script_session.specs.{Session}
 use Rattle.xa_script.specs.{turns_at}
 use Rattle.xa_script.proofs.Runs.{closed_so, kept, pieces_of}
 use Rattle.xa_script.proofs.in_turns.Runner.close.Goals as goal

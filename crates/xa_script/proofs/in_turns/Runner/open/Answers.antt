@@ -3,9 +3,9 @@ use Rattle.std.proofs.lemmas.List.{map-id}
 use Rattle.xa_desk.specs.{DeskView}
 use Rattle.xa_worker.specs.{WorkerView}
 use Rattle.xa_switch.specs.{planned}
-use Rattle.xa_grammar.specs.{Content}
-use Rattle.xa_session.specs.{Session, new_session}
-use Rattle.xa_telling.proofs.Opened.{planned_setup}
+use Rattle.script_grammar.specs.{Content}
+use Rattle.script_session.specs.{Session, new_session}
+use Rattle.laws_transcript.proofs.Opened.{planned_setup}
 use Rattle.xa_script.proofs.TurnsSoFar.{begin_so}
 use Rattle.xa_script.proofs.in_turns.Runner.open.Goals as goal
 

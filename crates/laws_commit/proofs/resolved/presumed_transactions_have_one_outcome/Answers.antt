@@ -1,0 +1,5 @@
+use Rattle.laws_commit.proofs.Presumed.{presumed_law}
+use Rattle.laws_commit.proofs.resolved.presumed_transactions_have_one_outcome.Goals as goal
+
+pub returns : goal.returns
+returns c = presumed_law c.tables_keep_to_their_laws.ensures c.settled_journals_follow_the_tables.ensures.first

@@ -1,0 +1,15 @@
+use Rattle.xa_base.proofs.{map}
+use Rattle.xa_driver.proofs.Requests.{same_itself}
+use Rattle.xa_driver.specs.{third_ask}
+use Rattle.laws_commit.proofs.Staged.{decided_is_cut, forgetting_cut, none_so_far, prepared_is_cut, undecided_is_cut}
+use Rattle.laws_commit.proofs.stages.stages_are_cuts.Goals as goal
+
+pub returns : goal.returns
+returns c = record {
+  prepared = prepared_is_cut;
+  decided = decided_is_cut;
+  undecided = undecided_is_cut;
+  told = λ bs desk mid tell late new log later p d t may first between second third after.
+      forgetting_cut bs desk mid tell log later p d may first between second late new t third after new (map third_ask t.round.asks.items)
+      (same_itself (map third_ask t.round.asks.items)) (none_so_far (map third_ask t.round.asks.items) new);
+}

@@ -1,0 +1,71 @@
+//! A thread of a script: its desk with its decision log.
+ghost use Rattle.std.specs.Prelude.{◌≡◌, IfOk};
+ghost use Rattle.script_session.specs.Sessions.{log_of, new_session, new_sessions, sessions_again};
+
+use std::alloc::{AllocError, Global};
+use xa_desk::Desk;
+use script_grammar::Script;
+use xa_log::{LosingLog, MemoryLog};
+use xa_scan::Scan;
+
+/// A thread of control with its decision log, and its scans of what a reopening found left.
+#[derive(Drop)]
+pub struct Session {
+    pub desk: Desk,
+    pub log: LosingLog,
+    pub scan: Scan,
+}
+
+/// The log of a thread that has committed nothing. Of its appends, counted from 1, those that the script names fail or
+/// have an unknown end.
+pub fn log_of(alloc: Global, script: &Script, thread: u32) -> LosingLog
+    ensures { result ≡ log_of script.now thread }
+{
+    let log = match script.failing_append(thread) {
+        Some(k) => MemoryLog::failing_at(alloc, k),
+        None => MemoryLog::new(alloc),
+    };
+    match script.unknown_append(thread) {
+        Some(end) => LosingLog::losing_at(log, end.append, end.kept),
+        None => LosingLog::new(log),
+    }
+}
+
+/// The threads of these desks at the first opening, with logs as the script says.
+pub fn sessions_of(
+    alloc: Global,
+    script: &Script,
+    desks: Vec<Desk>,
+) -> Result<Vec<Session>, AllocError>
+    ensures { IfOk result (λ v. v.items ≡ new_sessions script.now desks.items) }
+{
+    let mut sessions = Vec::with_capacity(alloc, desks.len())?;
+    for desk in desks {
+        let log = log_of(alloc, script, desk.thread());
+        let scan = Scan::none();
+        sessions.push(Session { desk, log, scan })?;
+    }
+    Ok(sessions)
+}
+
+/// The threads of these desks at a later opening, each with the log that it had, opened again, and with the
+/// scans that it got.
+pub fn sessions_again(
+    alloc: Global,
+    desks: Vec<Desk>,
+    logs: Vec<LosingLog>,
+    scans: Vec<Scan>,
+) -> Result<Vec<Session>, AllocError>
+    ensures { IfOk result (λ v. v.items ≡ sessions_again desks.items logs.items scans.items) }
+{
+    desks
+        .into_iter()
+        .zip(logs)
+        .zip(scans)
+        .map(|((desk, log), scan)| Session {
+            desk,
+            log: log.reopened(),
+            scan,
+        })
+        .collect(alloc)
+}

@@ -1,5 +1,0 @@
-use Rattle.xa_atomicity.proofs.Worth.{opened_with}
-use Rattle.xa_atomicity.proofs.fates.managers_open_with_their_accounts.Goals as goal
-
-pub returns : goal.returns
-returns c = λ p s m settled of_plan positive below. opened_with p s settled of_plan m positive below

@@ -1,6 +1,0 @@
-use Rattle.xa_base.proofs.{arith}
-use Rattle.xa_atomicity.proofs.NextOpening.{counted_law, whole_law}
-use Rattle.xa_atomicity.proofs.resolved.resolved_transactions_count_where_committed.Goals as goal
-
-pub returns : goal.returns
-returns c = search (arith, counted_law, whole_law, c.tables_keep_to_their_laws.ensures)

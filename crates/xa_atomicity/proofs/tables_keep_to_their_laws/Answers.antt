@@ -1,5 +1,0 @@
-use Rattle.xa_base.proofs.{arith, rules}
-use Rattle.xa_atomicity.proofs.tables_keep_to_their_laws.Goals as goal
-
-pub returns : goal.returns
-returns c = search (arith, rules)

@@ -1,5 +1,0 @@
-use Rattle.xa_days.proofs.Legs.{comes_out_law}
-use Rattle.xa_days.proofs.settled.branches_come_out_by_the_log.Goals as goal
-
-pub returns : goal.returns
-returns c = comes_out_law c.tables_keep_to_their_laws.ensures c.presumed_transactions_have_one_outcome.ensures

@@ -1,5 +1,0 @@
-use Rattle.xa_driver_tests.proofs.Shutting.{after_call}
-use Rattle.xa_driver_tests.proofs.driver.resolved.shut.Goals as goal
-
-pub returns-clause-shuts : goal.returns-clause-shuts
-returns-clause-shuts g c = after_call _ _ 2 _ c.call.ensures.collected c.call.ensures.unchanged

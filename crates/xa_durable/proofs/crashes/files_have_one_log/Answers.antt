@@ -1,6 +1,0 @@
-use Rattle.xa_base.proofs.{sym, ap, ◌∙◌}
-use Rattle.xa_file_log.specs.{records_of}
-use Rattle.xa_durable.proofs.crashes.files_have_one_log.Goals as goal
-
-pub returns : goal.returns
-returns c one other file has also = sym has.same ∙ ap records_of (c.a_file_has_one_table.ensures has.table also.table file has.stands also.stands) ∙ also.same

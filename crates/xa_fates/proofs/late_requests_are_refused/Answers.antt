@@ -1,5 +1,0 @@
-use Rattle.xa_tables.specs.{parted}
-use Rattle.xa_fates.proofs.late_requests_are_refused.Goals as goal
-
-pub returns-clause-parted : goal.returns-clause-parted
-returns-clause-parted c h = parted h

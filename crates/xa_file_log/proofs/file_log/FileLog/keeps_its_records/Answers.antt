@@ -1,5 +1,0 @@
-use Rattle.xa_file_log.proofs.Stands.{shows_records}
-use Rattle.xa_file_log.proofs.file_log.FileLog.keeps_its_records.Goals as goal
-
-pub returns : goal.returns
-returns g c = λ f left. shows_records c.args.self.now.table.slots.items f (c.args.self.now.known c.requires f left)

@@ -1,6 +1,0 @@
-use Rattle.xa_file_log.specs.{Rewrote}
-use Rattle.xa_file_log.proofs.Noted.{given_to}
-use Rattle.xa_file_log.proofs.notes.Notes.add_rewrite.Goals as goal
-
-pub returns-clause-given : goal.returns-clause-given
-returns-clause-given c = given_to c.args.self.now.calls.items c.and-self.result.items Rewrote c.args.bytes.now c.and-self.ensures

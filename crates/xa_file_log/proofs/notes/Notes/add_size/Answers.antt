@@ -1,5 +1,0 @@
-use Rattle.xa_file_log.proofs.Noted.{told_to}
-use Rattle.xa_file_log.proofs.notes.Notes.add_size.Goals as goal
-
-pub returns-clause-told : goal.returns-clause-told
-returns-clause-told c = told_to c.args.self.now.sizes.items c.and-self.result.items tt c.args.size c.and-self.ensures

@@ -1,6 +1,0 @@
-use Rattle.xa_base.proofs.{◌≡◌}
-use Rattle.xa_file_log.specs.{HasNoFree}
-use Rattle.xa_file_log.proofs.slot_table.SlotTable.free_place.Given as goal
-
-abbrev pub invariant-loop-place : goal.invariant-loop-place
-invariant-loop-place l = record { same : l.self.slots.items ≡ l.fn.self.slots.items; none : HasNoFree l.self.slots.items l.place }

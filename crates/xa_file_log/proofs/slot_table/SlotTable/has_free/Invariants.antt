@@ -1,6 +1,0 @@
-use Rattle.xa_base.proofs.{◌≡◌, ◌+◌, ◌≤◌, take}
-use Rattle.xa_file_log.specs.{used}
-use Rattle.xa_file_log.proofs.slot_table.SlotTable.has_free.Given as goal
-
-abbrev pub invariant-loop-place : goal.invariant-loop-place
-invariant-loop-place l = record { few : l.left ≤ l.count; sum : l.place + l.left ≡ used (take l.place l.self.slots.items) + l.count }

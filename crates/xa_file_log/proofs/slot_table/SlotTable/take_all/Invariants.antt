@@ -1,9 +1,0 @@
-use Rattle.xa_base.proofs.{◌≡◌, length, drop}
-use Rattle.xa_file_log.specs.{placed, HasRoomFor}
-use Rattle.xa_file_log.proofs.slot_table.SlotTable.take_all.Given as goal
-
-abbrev pub invariant-loop-decision : goal.invariant-loop-decision
-invariant-loop-decision l = record {
-  rest : placed l.self.slots.items (drop l.decision-index l.decisions) ≡ placed l.fn.self.slots.items l.decisions;
-  room : HasRoomFor l.self.slots.items (length (drop l.decision-index l.decisions));
-}

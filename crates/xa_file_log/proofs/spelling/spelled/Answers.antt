@@ -1,7 +1,0 @@
-use Rattle.xa_base.proofs.{arith}
-use Rattle.xa_file_log.specs.{spelling}
-use Rattle.xa_file_log.proofs.spelling.spelled.Goals as goal
-
-pub returns-clause-bytes : goal.returns-clause-bytes
-unfolding spelling
-returns-clause-bytes c = search (arith, c.copy_from_slice.ensures.after)

@@ -1,6 +1,0 @@
-use Rattle.xa_base.proofs.{◌≡◌, take, list_all}
-use Rattle.xa_grammar.specs.{is_script_byte}
-use Rattle.xa_grammar.proofs.read.are_script_bytes.Given as goal
-
-abbrev pub invariant-loop-b : goal.invariant-loop-b
-invariant-loop-b l = l.good ≡ list_all is_script_byte (take l.b-index l.block)

@@ -1,6 +1,0 @@
-use Rattle.xa_grammar.specs.{steps_of}
-use Rattle.xa_grammar.proofs.StepLemmas.{OwnUpTo}
-use Rattle.xa_grammar.proofs.steps.Steps.places_of.Given as goal
-
-abbrev pub invariant-loop-place : goal.invariant-loop-place
-invariant-loop-place l = OwnUpTo l.fn.thread (steps_of l.self-inside.names.items l.self-inside.keys.items l.self-inside.kept.items) l.place l.places.items

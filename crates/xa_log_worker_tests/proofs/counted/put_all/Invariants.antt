@@ -1,7 +1,0 @@
-use Rattle.xa_base.proofs.{◌≡◌, take}
-use Rattle.xa_log_worker.specs.{records_of}
-use Rattle.xa_log_worker_tests.specs.{put_records}
-use Rattle.xa_log_worker_tests.proofs.counted.put_all.Given as goal
-
-abbrev pub invariant-loop-decision : goal.invariant-loop-decision
-invariant-loop-decision l = records_of l.records ≡ put_records (records_of l.initial.records) (take l.decision-index l.decisions)

@@ -1,5 +1,0 @@
-use Rattle.xa_lane.specs.{SameReceiver}
-use Rattle.xa_parts_tests.proofs.lane.threads.receive_all.Given as goal
-
-abbrev pub invariant-loop : goal.invariant-loop
-invariant-loop g l = SameReceiver l.fn.receiver l.receiver

@@ -1,6 +1,0 @@
-use Rattle.xa_base.proofs.{◌≡◌}
-use Rattle.xa_parts_tests.proofs.tables.carry_out.Given as goal
-
--- the manager's threads stay
-abbrev pub invariant-loop-op : goal.invariant-loop-op
-invariant-loop-op g l = l.manager.threads ≡ l.initial.manager.threads

@@ -1,5 +1,0 @@
-use Rattle.xa_shown.proofs.Outcomes.{all_one_outcome}
-use Rattle.xa_shown.proofs.one_outcome_is_shown.Goals as goal
-
-pub returns : goal.returns
-returns c = all_one_outcome

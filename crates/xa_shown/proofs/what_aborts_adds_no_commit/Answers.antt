@@ -1,5 +1,0 @@
-use Rattle.xa_shown.proofs.Outcomes.{aborts_commit_none}
-use Rattle.xa_shown.proofs.what_aborts_adds_no_commit.Goals as goal
-
-pub returns : goal.returns
-returns c = aborts_commit_none

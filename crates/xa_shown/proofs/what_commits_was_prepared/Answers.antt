@@ -1,5 +1,0 @@
-use Rattle.xa_shown.proofs.Outcomes.{all_prepared}
-use Rattle.xa_shown.proofs.what_commits_was_prepared.Goals as goal
-
-pub returns : goal.returns
-returns c = all_prepared

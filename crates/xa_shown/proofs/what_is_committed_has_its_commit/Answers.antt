@@ -1,5 +1,0 @@
-use Rattle.xa_shown.proofs.Outcomes.{all_committed}
-use Rattle.xa_shown.proofs.what_is_committed_has_its_commit.Goals as goal
-
-pub returns : goal.returns
-returns c = all_committed

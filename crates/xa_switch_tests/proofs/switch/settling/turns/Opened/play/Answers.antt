@@ -1,9 +1,0 @@
-use Rattle.std.proofs.Common.{ap, ◌∙◌}
-use Rattle.std.proofs.Math.Seq.{map-set_same}
-use Rattle.xa_switch.specs.{seat_of_desk}
-use Rattle.xa_switch_tests.proofs.switch.settling.turns.Opened.play.Goals as goal
-
-pub returns-clause-desks : goal.returns-clause-desks
-returns-clause-desks g c =
-    map-set_same seat_of_desk c.args.self.now.desks.items c.args.before c.play.new.desk c.index_mut.result.now
-    (c.play.ensures.seat ∙ ap seat_of_desk c.index_mut.ensures.value)

@@ -1,5 +1,0 @@
-use Rattle.xa_table_laws.proofs.PreparedLaw.{prepared_law}
-use Rattle.xa_table_laws.proofs.branches.prepared_branches_stay_prepared.Goals as goal
-
-pub returns : goal.returns
-returns c h g x T o p n = prepared_law h g x T o p n

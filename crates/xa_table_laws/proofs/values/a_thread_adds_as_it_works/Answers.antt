@@ -1,5 +1,0 @@
-use Rattle.xa_table_laws.proofs.WorthLaw.{work_law}
-use Rattle.xa_table_laws.proofs.values.a_thread_adds_as_it_works.Goals as goal
-
-pub returns : goal.returns
-returns c = λ t n x k d h T opened work. work_law t n x k d h T opened work

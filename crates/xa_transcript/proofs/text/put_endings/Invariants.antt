@@ -1,7 +1,0 @@
-use Rattle.xa_base.proofs.{◌≡◌, ◌++◌, take}
-use Rattle.xa_transcript.specs.{endings_text}
-use Rattle.xa_transcript.proofs.text.put_endings.Given as goal
-
--- the first endings are told
-abbrev pub invariant-loop-ending : goal.invariant-loop-ending
-invariant-loop-ending l = record { line : l.out.line ≡ l.fn.out.line ++ endings_text (take l.ending-index l.endings); whole : l.out.whole ≡ l.fn.out.whole }
